@@ -1,0 +1,2 @@
+pub mod BitVectors
+pub mod Examples

@@ -1,0 +1,188 @@
+-- Carried values have the sort of their type.
+use Rattle.std.proofs.Common.{◌≡◌, ℕ, suc, ◌+◌, ◌-◌, ◌^◌, ◌<◌, ◌≤◌, Bool, true, false, cond, ◌||◌, length, List, [], ◌∷◌, map, refl, sym, ap, ◌∙◌, subst, arith}
+use Rattle.std.specs.Prelude.{codes, bytes_eq, nat_le, nat_lt, ◌==◌, ℤ, pos, negsuc, Option, Some, None}
+use Rattle.std.specs.Str.{chars}
+use Rattle.std.specs.List.{AllByRecursion, list_all, list_any}
+use Rattle.std.specs.Cmp.{Equal-is}
+use Rattle.std.proofs.lemmas.Bool.{leb-false, ltb-false, eq-eqb, and_from}
+use Rattle.smt_term.specs.Plain.{ExtensionKind, IpAddrKind, DecimalKind, DatetimeKind, DurationKind, PlainType, OptionType, BitVecType, BoolType, EntityType, ExtensionType, StringType, RecordType, SetType, AttributeTypes, no_attributes, attribute, PlainExtension, DecimalOf, Ipv4Of, Ipv6Of, DatetimeOf, DurationOf}
+use Rattle.smt_term.specs.Values.{Value, BoolValue, BitVecValue, StringValue, EntityValue, ExtensionValue, NoneValue, SomeValue, RecordValue, SetValue, Values, no_values, one_value, FieldValues, no_field_values, one_field_value}
+use Rattle.smt_semantics.specs.ScriptValues.{ScriptValue, BitsOf, TextOf, ConstructorOf, ScriptValues, no_script_values, one_script_value}
+use Rattle.smt_term.specs.TypeValues as terms
+use Rattle.smt_term.specs.TypeValues.{IsValue, AreFieldValues, IsExtension, IsId, IsLong, IsPrefix, AreCodePoints}
+use Rattle.smt_term.specs.ValueOrder.{list_of_values, text_eq}
+use Rattle.smt_term.proofs.ValueOrder.{text_same}
+use Rattle.smt_semantics.specs.Arithmetic.{is_width, are_bits}
+use Rattle.smt_sexpr.specs.Lexicon.{Name}
+use Rattle.smt_semantics.specs.Order as script
+use Rattle.smt_sexpr.specs.Reading.{Expression, Leaf, Node, Expressions, Nil, Cons}
+use Rattle.smt_semantics.specs.Script.{name, ◌>>=◌}
+use Rattle.smt_semantics.specs.Sorts.{Entries, string_sort, bit_sort, same_sort, paired, instance, instances, fields_at, constructor_fields, has_sort_in, have_sorts_in, all_have_sort_in}
+use Rattle.smt_lines.specs.Lines.{Enums, Tables, members_of, place_of, member_name}
+use Rattle.smt_lines.specs.Naming.{type_name}
+use Rattle.smt_carrying.specs.Carry.{alone, signed_bits, carry_prefix, carry_extension, carry_entity, carry, carry_values, carry_fields}
+use Rattle.smt_carrying.specs.Order.{AreEnums}
+use Rattle.smt_carrying.specs.Sorts.{option_sort, script_sort, field_sorts, Constructors, member_constructors, entity_constructors, kind_constructors, option_constructors, at_place, IsDatatype, StandsAlways, IsNamed, IsDeclared, AreDeclared}
+use Rattle.smt_carrying.proofs.Members.{members_same}
+use Rattle.smt_carrying.proofs.Ordered.{stays_sorted}
+use Rattle.smt_carrying.proofs.Selectors.{bytes_itself}
+
+-- ---- tests from facts
+
+pub leb_from : (a b : ℕ) → a ≤ b → nat_le a b ≡ true
+leb_from a b h = by (nat_le a b) refl
+  where
+    by : (t : Bool) → nat_le a b ≡ t → t ≡ true
+    by true e = refl
+    by false e = let l : b < a = leb-false a b e in absurd (omega arith)
+
+pub ltb_from : (a b : ℕ) → a < b → nat_lt a b ≡ true
+ltb_from a b h = by (nat_lt a b) refl
+  where
+    by : (t : Bool) → nat_lt a b ≡ t → t ≡ true
+    by true e = refl
+    by false e = let l : b ≤ a = ltb-false a b e in absurd (omega arith)
+
+pub bits_from : (width a : ℕ) → 1 ≤ width → width ≤ 128 → a < 2 ^ width → are_bits width a ≡ true
+bits_from width a h k l = and_from (is_width width) (nat_lt a (2 ^ width)) (and_from (nat_le 1 width) (nat_le width 128) (leb_from 1 width h) (leb_from width 128 k)) (ltb_from a (2 ^ width) l)
+
+-- ---- sorts without parameters stay
+
+mutual
+  pub instance_itself : (e : Expression) → instance [] e ≡ e
+  instance_itself (Leaf (Name n)) = refl
+  instance_itself (Leaf a) = refl
+  instance_itself (Node es) = ap Node (instances_themselves es)
+
+  instances_themselves : (es : Expressions) → instances [] es ≡ es
+  instances_themselves Nil = refl
+  instances_themselves (Cons e es) = λ i. Cons (instance_itself e i) (instances_themselves es i)
+
+pub fields_themselves : (es : List Expression) → map (instance []) es ≡ es
+fields_themselves [] = refl
+fields_themselves (e ∷ es) = λ i. instance_itself e i ∷ fields_themselves es i
+
+pub fields_named : (n : List ℕ) (fields : List Expression) → fields_at n [] fields (name n) ≡ Some fields
+fields_named n fields =
+    ap (λ b. cond b (Some []) None >>= λ (es : List Expression). cond (length es == 0) (Some (map (instance (paired [] es)) fields)) None) (bytes_itself n) ∙ ap (λ x. Some x) (fields_themselves fields)
+
+module _ (here : Entries) where
+  -- a value of a constructor that stands in the declaration
+  pub built : (d : List ℕ) (ps : List (List ℕ)) (cs : Constructors) (place : ℕ) (c : List ℕ) (fields sorts : List Expression) (sort : Expression) (vs : ScriptValues)
+      → IsDatatype here d ps cs → at_place cs place ≡ Some (c, fields) → fields_at d ps fields sort ≡ Some sorts → have_sorts_in here sorts vs ≡ true
+      → has_sort_in here sort (ConstructorOf place c vs) ≡ true
+  built d ps cs place c fields sorts sort vs x e f h =
+      ap (λ y. from (constructor_fields y place sort)) (x.builds place c fields e)
+      ∙ (ap (λ b. from (cond b (fields_at d ps fields sort) None)) (eq-eqb place place refl)
+      ∙ (ap from f ∙ h))
+    where
+      from : Option (List Expression) → Bool
+      from o = elim o [ Some fs ↦ have_sorts_in here fs vs | None ↦ false ]
+
+  pub built_named : (n : List ℕ) (cs : Constructors) (place : ℕ) (c : List ℕ) (fields : List Expression) (vs : ScriptValues)
+      → IsNamed here n cs → at_place cs place ≡ Some (c, fields) → have_sorts_in here fields vs ≡ true → has_sort_in here (name n) (ConstructorOf place c vs) ≡ true
+  built_named n cs place c fields vs x e h = built n [] cs place c fields fields (name n) vs x.datatype e (fields_named n fields) h
+
+  code_points : (s : List ℕ) → AreCodePoints s → list_all (λ c. nat_le c 196607) s ≡ true
+  code_points [] h = refl
+  code_points (c ∷ s) h = and_from (nat_le c 196607) (list_all (λ c. nat_le c 196607) s) (leb_from c 196607 h.0) (code_points s h.1)
+
+  -- ---- members
+
+  member_at : (n : List ℕ) (from : ℕ) (ms : List (List ℕ)) (i : List ℕ) → list_any (λ m. text_eq (chars m) i) ms ≡ true
+      → at_place (member_constructors n from ms) (place_of i (map chars ms)) ≡ Some (member_name n (from + place_of i (map chars ms)), [])
+  member_at n from [] i h = cc
+  member_at n from (m ∷ ms) i h = by (bytes_eq i (chars m)) refl (λ e. member_at n (suc from) ms i e)
+    where
+      by : (b : Bool) → bytes_eq i (chars m) ≡ b
+          → (list_any (λ x. text_eq (chars x) i) ms ≡ true → at_place (member_constructors n (suc from) ms) (place_of i (map chars ms)) ≡ Some (member_name n (suc from + place_of i (map chars ms)), []))
+          → at_place (member_constructors n from (m ∷ ms)) (cond b 0 (suc (place_of i (map chars ms)))) ≡ Some (member_name n (from + cond b 0 (suc (place_of i (map chars ms)))), [])
+      by true e again = ap (λ k. Some (member_name n k, [])) (let p : from ≡ from + 0 = omega arith in p)
+      by false e again = again (later (text_eq (chars m) i) refl) ∙ ap (λ k. Some (member_name n k, [])) (let p : suc from + place_of i (map chars ms) ≡ from + suc (place_of i (map chars ms)) = omega arith in p)
+        where
+          later : (t : Bool) → text_eq (chars m) i ≡ t → list_any (λ x. text_eq (chars x) i) ms ≡ true
+          later false f = sym (ap (λ b. b || list_any (λ x. text_eq (chars x) i) ms) f) ∙ h
+          later true f = absurd (let g : chars m ≡ i = text_same (chars m) i ((Equal-is _).0 f) in let k : bytes_eq i (chars m) ≡ true = ap (λ x. bytes_eq i x) g ∙ bytes_itself i in let z : true ≡ false = sym k ∙ e in cc)
+
+  entity_sorted : (members : Option (List (List ℕ))) (n i : List ℕ) → IsNamed here n (entity_constructors members n) → IsId members i → has_sort_in here (name n) (carry_entity members n i) ≡ true
+  entity_sorted None n i x h = built_named n (entity_constructors None n) 0 n (string_sort ∷ []) (alone (TextOf i)) x refl (and_from (list_all (λ c. nat_le c 196607) i) true (code_points i h) refl)
+  entity_sorted (Some members) n i x h =
+      built_named n (entity_constructors (Some members) n) (place_of i (map chars members)) (member_name n (place_of i (map chars members))) [] no_script_values x
+      (member_at n 0 members i h ∙ ap (λ k. Some (member_name n k, [])) (let p : 0 + place_of i (map chars members) ≡ place_of i (map chars members) = omega arith in p)) refl
+
+  module _ (always : StandsAlways here) where
+    pub none_sorted : (sort : Expression) → has_sort_in here (option_sort sort) (ConstructorOf 0 (codes "none") no_script_values) ≡ true
+    none_sorted sort = built (codes "Option") (codes "X" ∷ []) option_constructors 0 (codes "none") [] [] (option_sort sort) no_script_values always.options refl refl refl
+
+    pub some_sorted : (sort : Expression) (x : ScriptValue) → has_sort_in here sort x ≡ true → has_sort_in here (option_sort sort) (ConstructorOf 1 (codes "some") (alone x)) ≡ true
+    some_sorted sort x h =
+        built (codes "Option") (codes "X" ∷ []) option_constructors 1 (codes "some") (name (codes "X") ∷ []) (sort ∷ []) (option_sort sort) (alone x) always.options refl refl (and_from (has_sort_in here sort x) true h refl)
+
+    width_itself : (width a : ℕ) → are_bits width a ≡ true → has_sort_in here (bit_sort width) (BitsOf width a) ≡ true
+    width_itself width a h = and_from (same_sort (bit_sort width) (bit_sort width)) (are_bits width a) (and_from (width == width) true (eq-eqb width width refl) refl) h
+
+    prefix_sorted : (width : ℕ) (p : Option ℕ) → 1 ≤ width → width ≤ 128 → IsPrefix width p → has_sort_in here (option_sort (bit_sort width)) (carry_prefix width p) ≡ true
+    prefix_sorted width None h k l = none_sorted (bit_sort width)
+    prefix_sorted width (Some p) h k l = some_sorted (bit_sort width) (BitsOf width p) (width_itself width p (bits_from width p h k l))
+
+    signed_sorted : (z : ℤ) → IsLong z → has_sort_in here (bit_sort 64) (signed_bits z) ≡ true
+    signed_sorted (pos a) h = width_itself 64 a (bits_from 64 a (omega arith) (omega arith) (omega arith))
+    signed_sorted (negsuc a) h = width_itself 64 (2 ^ 64 - suc a) (bits_from 64 (2 ^ 64 - suc a) (omega arith) (omega arith) (omega arith))
+
+    signed_alone : (z : ℤ) → IsLong z → have_sorts_in here (bit_sort 64 ∷ []) (alone (signed_bits z)) ≡ true
+    signed_alone z h = and_from (has_sort_in here (bit_sort 64) (signed_bits z)) true (signed_sorted z h) refl
+
+    address_sorted : (width bits a : ℕ) (p : Option ℕ) → 1 ≤ width → width ≤ 128 → 1 ≤ bits → bits ≤ 128 → a < 2 ^ width → IsPrefix bits p
+        → have_sorts_in here (bit_sort width ∷ option_sort (bit_sort bits) ∷ []) (one_script_value (BitsOf width a) (alone (carry_prefix bits p))) ≡ true
+    address_sorted width bits a p w w' b b' h k =
+        and_from (has_sort_in here (bit_sort width) (BitsOf width a)) (have_sorts_in here (option_sort (bit_sort bits) ∷ []) (alone (carry_prefix bits p))) (width_itself width a (bits_from width a w w' h))
+        (and_from (has_sort_in here (option_sort (bit_sort bits)) (carry_prefix bits p)) true (prefix_sorted bits p b b' k) refl)
+
+    extension_sorted : (kind : ExtensionKind) (n : List ℕ) (x : PlainExtension) → IsNamed here n (kind_constructors kind) → IsExtension kind x → has_sort_in here (name n) (carry_extension x) ≡ true
+    extension_sorted DecimalKind n (DecimalOf z) d h = built_named n (kind_constructors DecimalKind) 0 (codes "Decimal") (bit_sort 64 ∷ []) (alone (signed_bits z)) d refl (signed_alone z h)
+    extension_sorted DatetimeKind n (DatetimeOf z) d h = built_named n (kind_constructors DatetimeKind) 0 (codes "Datetime") (bit_sort 64 ∷ []) (alone (signed_bits z)) d refl (signed_alone z h)
+    extension_sorted DurationKind n (DurationOf z) d h = built_named n (kind_constructors DurationKind) 0 (codes "Duration") (bit_sort 64 ∷ []) (alone (signed_bits z)) d refl (signed_alone z h)
+    extension_sorted IpAddrKind n (Ipv4Of a p) d h =
+        built_named n (kind_constructors IpAddrKind) 0 (codes "V4") (bit_sort 32 ∷ option_sort (bit_sort 5) ∷ []) (one_script_value (BitsOf 32 a) (alone (carry_prefix 5 p))) d refl
+        (address_sorted 32 5 a p (omega arith) (omega arith) (omega arith) (omega arith) h.0 h.1)
+    extension_sorted IpAddrKind n (Ipv6Of a p) d h =
+        built_named n (kind_constructors IpAddrKind) 1 (codes "V6") (bit_sort 128 ∷ option_sort (bit_sort 7) ∷ []) (one_script_value (BitsOf 128 a) (alone (carry_prefix 7 p))) d refl
+        (address_sorted 128 7 a p (omega arith) (omega arith) (omega arith) (omega arith) h.0 h.1)
+    extension_sorted kind n x d h = absurd h
+
+    module _ (enums : Enums) (s : Tables) (good : AreEnums enums) where
+      id_of : (e i : List ℕ) → IsId (terms.members_of enums e) i → IsId (members_of enums e) i
+      id_of e i h = subst (λ m. IsId m i) (sym (members_same enums e)) h
+
+      mutual
+        pub sorted_value : (ty : PlainType) (v : Value) → IsDeclared enums s here ty → IsValue enums ty v → has_sort_in here (script_sort s ty) (carry enums s ty v) ≡ true
+        sorted_value BoolType (BoolValue b) d h = refl
+        sorted_value BoolType v d h = absurd h
+        sorted_value (BitVecType n) (BitVecValue m a) d h = subst (λ x. has_sort_in here (bit_sort n) (BitsOf x a) ≡ true) (sym h.0) (width_itself n a (bits_from n a d.0 d.1 h.1))
+        sorted_value (BitVecType n) v d h = absurd h
+        sorted_value StringType (StringValue t) d h = code_points t h
+        sorted_value StringType v d h = absurd h
+        sorted_value (EntityType e) (EntityValue f i) d h =
+            subst (λ x. has_sort_in here (name (type_name s (EntityType e))) (carry_entity (members_of enums x) (type_name s (EntityType x)) i) ≡ true) (sym h.0)
+            (entity_sorted (members_of enums e) (type_name s (EntityType e)) i d (id_of e i h.1))
+        sorted_value (EntityType e) v d h = absurd h
+        sorted_value (ExtensionType kind) (ExtensionValue x) d h = extension_sorted kind (type_name s (ExtensionType kind)) x d h
+        sorted_value (ExtensionType kind) v d h = absurd h
+        sorted_value (OptionType t) NoneValue d h = none_sorted (script_sort s t)
+        sorted_value (OptionType t) (SomeValue v) d h = some_sorted (script_sort s t) (carry enums s t v) (sorted_value t v d h)
+        sorted_value (OptionType t) v d h = absurd h
+        sorted_value (RecordType x) (RecordValue fs) d h =
+            built_named (type_name s (RecordType x)) ((type_name s (RecordType x), field_sorts s x) ∷ []) 0 (type_name s (RecordType x)) (field_sorts s x) (carry_fields enums s x fs) d.0 refl (sorted_fields x fs d.1 h)
+        sorted_value (RecordType x) v d h = absurd h
+        sorted_value (SetType t) (SetValue vs) d h = and_from (all_have_sort_in here (script_sort s t) (carry_values enums s t vs)) (script.ascends (carry_values enums s t vs)) (sorted_each t vs d h.1) (stays_sorted enums s good t vs h.0 h.1)
+        sorted_value (SetType t) v d h = absurd h
+
+        sorted_each : (t : PlainType) (vs : Values) → IsDeclared enums s here t → AllByRecursion (λ v. IsValue enums t v) (list_of_values vs) → all_have_sort_in here (script_sort s t) (carry_values enums s t vs) ≡ true
+        sorted_each t no_values d h = refl
+        sorted_each t (one_value v vs) d h = and_from (has_sort_in here (script_sort s t) (carry enums s t v)) (all_have_sort_in here (script_sort s t) (carry_values enums s t vs)) (sorted_value t v d h.0) (sorted_each t vs d h.1)
+
+        sorted_fields : (x : AttributeTypes) (fs : FieldValues) → AreDeclared enums s here x → AreFieldValues enums x fs → have_sorts_in here (field_sorts s x) (carry_fields enums s x fs) ≡ true
+        sorted_fields no_attributes no_field_values d h = refl
+        sorted_fields no_attributes fs d h = absurd h
+        sorted_fields (attribute a t x) (one_field_value b v fs) d h = and_from (has_sort_in here (script_sort s t) (carry enums s t v)) (have_sorts_in here (field_sorts s x) (carry_fields enums s x fs)) (sorted_value t v d.0 h.1) (sorted_fields x fs d.1 h.2)
+        sorted_fields (attribute a t x) fs d h = absurd h

@@ -1,0 +1,133 @@
+-- Values of terms carried to values of a script, and back.
+use Rattle.std.specs.Prelude.{◌≡◌, ◌⊎◌, ℕ, zero, suc, ◌-◌, ◌^◌, ℤ, pos, negsuc, false, if◌then◌else◌, nat_lt, bytes_eq, codes, chars, map, List, [], ◌∷◌, Option, Some, None}
+use Rattle.smt_term.specs.Plain.{ExtensionKind, IpAddrKind, DecimalKind, DatetimeKind, DurationKind, PlainType, OptionType, BitVecType, BoolType, EntityType, ExtensionType, StringType, RecordType, SetType, AttributeTypes, attribute, PlainFunction, PlainExtension, DecimalOf, Ipv4Of, Ipv6Of, DatetimeOf, DurationOf, PlainTerm, VariableTerm}
+use Rattle.smt_term.specs.Values.{Value, BoolValue, BitVecValue, StringValue, EntityValue, ExtensionValue, NoneValue, SomeValue, RecordValue, SetValue, Values, no_values, one_value, FieldValues, no_field_values, one_field_value}
+use Rattle.smt_semantics.specs.ScriptValues.{ScriptValue, TruthOf, BitsOf, TextOf, ConstructorOf, SetOf, ScriptValues, no_script_values, one_script_value}
+use Rattle.smt_lines.specs.Lines.{Enums, members_of, Tables, member_name, place_of}
+use Rattle.smt_lines.specs.Naming.{type_name}
+
+-- the key of an entry with this name
+abbrev pub key_of : {K : Type 0} → List (K × List ℕ) → List ℕ → Option K
+key_of [] n = None
+key_of (e ∷ es) n = if bytes_eq e.1 n then Some e.0 else key_of es n
+
+-- ---- values
+
+-- what stands for a value that is none of its type
+abbrev pub nothing_carried : ScriptValue
+nothing_carried = TruthOf false
+
+abbrev pub nothing_back : Value
+nothing_back = BoolValue false
+
+abbrev pub alone : ScriptValue → ScriptValues
+alone v = one_script_value v no_script_values
+
+abbrev pub none_carried : ScriptValue
+none_carried = ConstructorOf 0 (codes "none") no_script_values
+
+abbrev pub some_carried : ScriptValue → ScriptValue
+some_carried v = ConstructorOf 1 (codes "some") (alone v)
+
+abbrev pub signed_bits : ℤ → ScriptValue
+signed_bits (pos n) = BitsOf 64 n
+signed_bits (negsuc n) = BitsOf 64 (2 ^ 64 - suc n)
+
+abbrev pub carry_prefix : (width : ℕ) → Option ℕ → ScriptValue
+carry_prefix width None = none_carried
+carry_prefix width (Some p) = some_carried (BitsOf width p)
+
+abbrev pub carry_extension : PlainExtension → ScriptValue
+carry_extension (DecimalOf x) = ConstructorOf 0 (codes "Decimal") (alone (signed_bits x))
+carry_extension (Ipv4Of a p) = ConstructorOf 0 (codes "V4") (one_script_value (BitsOf 32 a) (alone (carry_prefix 5 p)))
+carry_extension (Ipv6Of a p) = ConstructorOf 1 (codes "V6") (one_script_value (BitsOf 128 a) (alone (carry_prefix 7 p)))
+carry_extension (DatetimeOf x) = ConstructorOf 0 (codes "Datetime") (alone (signed_bits x))
+carry_extension (DurationOf x) = ConstructorOf 0 (codes "Duration") (alone (signed_bits x))
+
+-- an entity, whose id is a list of characters
+abbrev pub carry_entity : (members : Option (List (List ℕ))) → (sort id : List ℕ) → ScriptValue
+carry_entity None sort id = ConstructorOf 0 sort (alone (TextOf id))
+carry_entity (Some members) sort id =
+    ConstructorOf (place_of id (map chars members)) (member_name sort (place_of id (map chars members))) no_script_values
+
+abbrev mutual
+  pub carry : Enums → Tables → PlainType → Value → ScriptValue
+  carry enums s BoolType (BoolValue b) = TruthOf b
+  carry enums s (BitVecType n) (BitVecValue width number) = BitsOf width number
+  carry enums s StringType (StringValue text) = TextOf text
+  carry enums s (EntityType t) (EntityValue type id) = carry_entity (members_of enums type) (type_name s (EntityType type)) id
+  carry enums s (ExtensionType kind) (ExtensionValue x) = carry_extension x
+  carry enums s (OptionType t) NoneValue = none_carried
+  carry enums s (OptionType t) (SomeValue v) = some_carried (carry enums s t v)
+  carry enums s (RecordType attributes) (RecordValue fields) =
+      ConstructorOf 0 (type_name s (RecordType attributes)) (carry_fields enums s attributes fields)
+  carry enums s (SetType t) (SetValue vs) = SetOf (carry_values enums s t vs)
+  carry enums s t v = nothing_carried
+
+  pub carry_values : Enums → Tables → PlainType → Values → ScriptValues
+  carry_values enums s t no_values = no_script_values
+  carry_values enums s t (one_value v vs) = one_script_value (carry enums s t v) (carry_values enums s t vs)
+
+  pub carry_fields : Enums → Tables → AttributeTypes → FieldValues → ScriptValues
+  carry_fields enums s (attribute a t attributes) (one_field_value b v fields) =
+      one_script_value (carry enums s t v) (carry_fields enums s attributes fields)
+  carry_fields enums s x fields = no_script_values
+
+-- ---- the way back
+
+abbrev pub signed_of : (number : ℕ) → ℤ
+signed_of n = if nat_lt n (2 ^ 63) then pos n else negsuc (2 ^ 64 - suc n)
+
+abbrev pub back_prefix : ScriptValue → Option ℕ
+back_prefix (ConstructorOf place n (one_script_value (BitsOf width number) vs)) = Some number
+back_prefix v = None
+
+abbrev pub back_address : (place address : ℕ) → Option ℕ → PlainExtension
+back_address zero a p = Ipv4Of a p
+back_address (suc place) a p = Ipv6Of a p
+
+abbrev pub back_extension : ExtensionKind → (place : ℕ) → ScriptValues → PlainExtension
+back_extension IpAddrKind place (one_script_value (BitsOf width a) (one_script_value v vs)) = back_address place a (back_prefix v)
+back_extension DecimalKind place (one_script_value (BitsOf width n) vs) = DecimalOf (signed_of n)
+back_extension DatetimeKind place (one_script_value (BitsOf width n) vs) = DatetimeOf (signed_of n)
+back_extension DurationKind place (one_script_value (BitsOf width n) vs) = DurationOf (signed_of n)
+back_extension kind place vs = DecimalOf (pos 0)
+
+-- the text at a place
+abbrev pub text_at : List (List ℕ) → ℕ → List ℕ
+text_at [] place = []
+text_at (x ∷ xs) zero = x
+text_at (x ∷ xs) (suc place) = text_at xs place
+
+abbrev pub first_text : ScriptValues → List ℕ
+first_text (one_script_value (TextOf text) vs) = text
+first_text vs = []
+
+abbrev pub back_entity : (members : Option (List (List ℕ))) → (type : List ℕ) → (place : ℕ) → ScriptValues → Value
+back_entity None type place vs = EntityValue type (first_text vs)
+back_entity (Some members) type place vs = EntityValue type (chars (text_at members place))
+
+-- By the script's value, along the type.
+abbrev mutual
+  pub back : Enums → PlainType → ScriptValue → Value
+  back enums BoolType (TruthOf b) = BoolValue b
+  back enums (BitVecType n) (BitsOf width number) = BitVecValue width number
+  back enums StringType (TextOf text) = StringValue text
+  back enums (EntityType type) (ConstructorOf place n vs) = back_entity (members_of enums type) type place vs
+  back enums (ExtensionType kind) (ConstructorOf place n vs) = ExtensionValue (back_extension kind place vs)
+  back enums (OptionType t) (ConstructorOf place n vs) = back_option enums t vs
+  back enums (RecordType attributes) (ConstructorOf place n vs) = RecordValue (back_fields enums attributes vs)
+  back enums (SetType t) (SetOf vs) = SetValue (back_values enums t vs)
+  back enums t v = nothing_back
+
+  pub back_option : Enums → PlainType → ScriptValues → Value
+  back_option enums t no_script_values = NoneValue
+  back_option enums t (one_script_value v vs) = SomeValue (back enums t v)
+
+  pub back_values : Enums → PlainType → ScriptValues → Values
+  back_values enums t no_script_values = no_values
+  back_values enums t (one_script_value v vs) = one_value (back enums t v) (back_values enums t vs)
+
+  pub back_fields : Enums → AttributeTypes → ScriptValues → FieldValues
+  back_fields enums (attribute a t attributes) (one_script_value v vs) = one_field_value a (back enums t v) (back_fields enums attributes vs)
+  back_fields enums x vs = no_field_values

@@ -1,0 +1,49 @@
+-- Values and interpretations that are carried.
+use Rattle.std.specs.Prelude.{◌≡◌, ℕ, codes, true, false, Some, List, [], ◌∷◌}
+use Rattle.smt_term.specs.Plain.{PlainType, BoolType, EntityType, RecordType, OptionType, SetType, no_attributes, attribute}
+use Rattle.smt_term.specs.Tables.{Table, Interpretation}
+use Rattle.smt_term.specs.Values.{Value, BoolValue, EntityValue, RecordValue, one_field_value, no_field_values}
+use Rattle.smt_semantics.specs.ScriptValues.{TruthOf, ConstructorOf, no_script_values, one_script_value}
+use Rattle.smt_lines.specs.Naming.{sort_of}
+use Rattle.smt_lines.specs.Text.{names}
+use Rattle.smt_lines.specs.Rows.{not_b, record_term, color_term, colors, split_attribute}
+use Rattle.smt_carrying.specs.Carry.{carry, back}
+use Rattle.smt_carrying.specs.Interpretations.{carry_interpretation, back_interpretation, type_of_sort}
+
+abbrev pub no_entries : Table
+no_entries = record { entries = []; elsewhere = BoolValue false }
+
+abbrev pub with_variables : (List ℕ → PlainType → Value) → Interpretation
+with_variables variable = record { variable = variable; function = λ f. no_entries; inside_none = λ t. BoolValue false; other_family = λ o. no_entries }
+
+abbrev pub NegationCarries : Type 0
+NegationCarries = (carry_interpretation [] (names [] (not_b ∷ [])) (with_variables (λ id type. BoolValue true))).constants (codes "t0") ≡ TruthOf true
+
+abbrev pub NegationComesBack : Type 0
+NegationComesBack =
+    (back_interpretation [] (names [] (not_b ∷ [])) (carry_interpretation [] (names [] (not_b ∷ [])) (with_variables (λ id type. BoolValue true)))).variable (codes "b") BoolType ≡ BoolValue true
+
+abbrev pub record_of_one : PlainType
+record_of_one = RecordType (attribute split_attribute BoolType no_attributes)
+
+abbrev pub RecordCarries : Type 0
+RecordCarries =
+    (carry_interpretation [] (names [] (record_term ∷ [])) (with_variables (λ id type. RecordValue (one_field_value split_attribute (BoolValue true) no_field_values)))).constants (codes "t0")
+    ≡ ConstructorOf 0 (codes "R0") (one_script_value (TruthOf true) no_script_values)
+
+abbrev pub RecordComesBack : Type 0
+RecordComesBack = back [] record_of_one (ConstructorOf 0 (codes "R0") (one_script_value (TruthOf true) no_script_values))
+    ≡ RecordValue (one_field_value split_attribute (BoolValue true) no_field_values)
+
+abbrev pub MemberCarries : Type 0
+MemberCarries = carry colors (names colors (color_term ∷ [])) (EntityType (codes "Color")) (EntityValue (codes "Color") (codes "b"))
+    ≡ ConstructorOf 1 (codes "E0_m1") no_script_values
+
+abbrev pub MemberComesBack : Type 0
+MemberComesBack = back colors (EntityType (codes "Color")) (ConstructorOf 1 (codes "E0_m1") no_script_values) ≡ EntityValue (codes "Color") (codes "b")
+
+abbrev pub set_of_options : PlainType
+set_of_options = SetType (OptionType (EntityType (codes "Color")))
+
+abbrev pub SortsComeBack : Type 0
+SortsComeBack = type_of_sort (names colors (color_term ∷ [])) (sort_of (names colors (color_term ∷ [])) set_of_options) ≡ Some set_of_options

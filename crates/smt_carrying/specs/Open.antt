@@ -1,0 +1,81 @@
+-- A script whose free names are the names of what the terms reach: its interpretations are those that give each of these
+-- names a value or a table of its sort.
+use Rattle.std.specs.Prelude.{◌≡◌, ◌⊎◌, ℕ, codes, List, [], ◌∷◌, IsTrue, ⊤}
+use Rattle.std.specs.List.{AllByRecursion}
+use Rattle.smt_term.specs.Plain.{PlainType, PlainFunction, ExtensionOp, ExtOp, OptionGetOp, UufOp, PlainTerm, PlainTerms, Application, VariableTerm}
+use Rattle.smt_term.specs.Reached.{reached_terms}
+use Rattle.smt_term.specs.Types.{extension_signature}
+use Rattle.smt_sexpr.specs.Reading.{Expression}
+use Rattle.smt_semantics.specs.Script.{Entry, Constant, Function, Selects, State, name, names_of}
+use Rattle.smt_semantics.specs.Sorts.{entries}
+use Rattle.smt_semantics.specs.Value as script
+use Rattle.smt_semantics.specs.Value.{IsScriptInterpretation, AgreeFor, applied_selectors}
+use Rattle.smt_lines.specs.Lines.{Tables}
+use Rattle.smt_carrying.specs.Operators.{selector_name, selector_constructor}
+use Rattle.smt_carrying.specs.Sorts.{option_sort, script_sort}
+use Rattle.smt_carrying.specs.Interpretations.{ip_type, is_range_selector, variable_name, function_name, GivesReachedNames, AgreeOnNames}
+
+abbrev pub Occurs : PlainTerm → List PlainTerm → Type 0
+Occurs t [] = ⊥
+Occurs t (u ∷ us) = (u ≡ t) ⊎ Occurs t us
+
+pub record IsVariable (s : Tables) (us : List PlainTerm) (n : List ℕ) (sort : Expression) : Type 0 where
+  pub id : List ℕ
+  pub type : PlainType
+  pub reached : Occurs (VariableTerm id type) us
+  pub named : n ≡ variable_name s id type
+  pub sorted : sort ≡ script_sort s type
+
+pub record IsFunction (s : Tables) (us : List PlainTerm) (n : List ℕ) (argument sort : Expression) : Type 0 where
+  pub function : PlainFunction
+  pub arguments : PlainTerms
+  pub type : PlainType
+  pub reached : Occurs (Application (UufOp function) arguments type) us
+  pub named : n ≡ function_name s function
+  pub argument_sorted : argument ≡ script_sort s function.argument
+  pub sorted : sort ≡ script_sort s function.output
+
+pub record IsRange (s : Tables) (us : List PlainTerm) (n c : List ℕ) (sort field : Expression) : Type 0 where
+  pub selector : ExtensionOp
+  pub arguments : PlainTerms
+  pub type : PlainType
+  pub reached : Occurs (Application (ExtOp selector) arguments type) us
+  pub ranges : IsTrue (is_range_selector selector)
+  pub named : n ≡ selector_name selector
+  pub constructs : c ≡ selector_constructor selector
+  pub argument_sorted : sort ≡ script_sort s ip_type
+  pub sorted : field ≡ script_sort s (extension_signature selector).1
+
+pub record IsOption (s : Tables) (us : List PlainTerm) (d : List ℕ) (ps : List (List ℕ)) (sort field : Expression) : Type 0 where
+  pub arguments : PlainTerms
+  pub type : PlainType
+  pub reached : Occurs (Application OptionGetOp arguments type) us
+  pub argument_sorted : sort ≡ option_sort (script_sort s type)
+  pub datatype : d ≡ codes "Option"
+  pub parameters : ps ≡ codes "X" ∷ []
+  pub sorted : field ≡ name (codes "X")
+
+-- what is declared and left open is a variable's or a function's name
+abbrev pub IsOpenEntry : Tables → List PlainTerm → List ℕ → Entry → Type 0
+IsOpenEntry s us n (Constant sort) = IsVariable s us n sort
+IsOpenEntry s us n (Function argument sort) = IsFunction s us n argument sort
+IsOpenEntry s us n x = ⊤
+
+-- a selector that is applied and left open is `val` or one of the four of IP ranges
+abbrev pub IsOpenSelection : Tables → List PlainTerm → List ℕ → Expression → Entry → Type 0
+IsOpenSelection s us n sort (Selects d [] c place field) = IsRange s us n c sort field
+IsOpenSelection s us n sort (Selects d (p ∷ ps) c place field) = IsOption s us d (p ∷ ps) sort field
+IsOpenSelection s us n sort x = ⊤
+
+pub record LeavesOpen (s : Tables) (ts : List PlainTerm) (state : State) : Type 0 where
+  pub names : AllByRecursion (λ p. IsOpenEntry s (reached_terms ts) p.0 p.1) (names_of state)
+  pub selectors : AllByRecursion (λ p. IsOpenSelection s (reached_terms ts) p.selector p.sort p.entry) (applied_selectors state)
+
+-- What gives the reached names values of their sorts is an interpretation of the script.
+abbrev pub GivenNamesInterpret : Type 0
+GivenNamesInterpret = (s : Tables) (ts : List PlainTerm) (state : State) (J : script.ScriptInterpretation) → LeavesOpen s ts state
+    → GivesReachedNames s (entries state) ts J → IsScriptInterpretation J state
+
+-- Interpretations that agree on the reached names agree for the script.
+abbrev pub NamesAgree : Type 0
+NamesAgree = (s : Tables) (ts : List PlainTerm) (state : State) (J K : script.ScriptInterpretation) → LeavesOpen s ts state → AgreeOnNames s ts J K → AgreeFor J K state

@@ -1,0 +1,62 @@
+-- That what carrying asks of a script can be met, and is met by what its declarations leave.
+use Rattle.std.specs.Prelude.{◌≡◌, ℕ, true, codes, map, length, List, [], ◌∷◌, Some, unwrap_or, ⊤}
+use Rattle.std.specs.List.{AllByRecursion}
+use Rattle.smt_term.specs.Plain.{PlainType, OptionType, EntityType}
+use Rattle.smt_sexpr.specs.Reading.{Expression}
+use Rattle.smt_semantics.specs.Script.{Constructor, DeclareDatatype, Entry, Builds, State, start, run, name, look_up, names_of, with_sort}
+use Rattle.smt_semantics.specs.Meanings.{constructors_named, with_names, names_in, are_new}
+use Rattle.smt_semantics.specs.Sorts.{entries}
+use Rattle.smt_semantics.specs.Growth.{Declares}
+use Rattle.smt_lines.specs.Lines.{Enums, Tables}
+use Rattle.smt_lines.specs.Naming.{sort_of}
+use Rattle.smt_carrying.specs.Order.{AreEnums}
+use Rattle.smt_carrying.specs.Sorts.{Constructors, script_sort, at_place, IsDatatype, StandsAlways, IsDeclared}
+
+-- The sort that is written for a type is the sort that its values have.
+abbrev pub SortsAgree : Type 0
+SortsAgree = (s : Tables) (t : PlainType) → sort_of s t ≡ script_sort s t
+
+-- ---- datatypes from declarations
+
+abbrev pub shown : List Constructor → Constructors
+shown cs = map (λ c. (c.name, map (λ x. x.1) c.selectors)) cs
+
+-- an entry builds values of the datatype as its declaration says, or not at all
+abbrev pub BuildsRightly : List ℕ → List (List ℕ) → Constructors → List ℕ → Entry → Type 0
+BuildsRightly d ps cs c (Builds e qs place fields) = e ≡ d → (qs ≡ ps) × (at_place cs place ≡ Some (c, fields))
+BuildsRightly d ps cs c x = ⊤
+
+-- Where the constructors are declared, and nothing else builds values of the datatype, the datatype stands.
+abbrev pub DatatypesStand : Type 0
+DatatypesStand = (d : List ℕ) (ps : List (List ℕ)) (cs : List Constructor) (names : List (List ℕ × Entry)) → Declares (λ c. look_up c names) d ps 0 cs
+    → AllByRecursion (λ p. BuildsRightly d ps (shown cs) p.0 p.1) names → IsDatatype (λ c. look_up c names) d ps (shown cs)
+
+-- no entry builds values of the datatype
+abbrev pub BuildsOther : List ℕ → Entry → Type 0
+BuildsOther d (Builds e qs place fields) = e ≡ d → ⊥
+BuildsOther d x = ⊤
+
+-- A datatype that is declared, where nothing built its values before, stands.
+abbrev pub NewDatatypesStand : Type 0
+NewDatatypesStand = (d : List ℕ) (ps : List (List ℕ)) (cs : List Constructor) (s : State) → are_new s (names_in cs) ≡ true
+    → AllByRecursion (λ p. BuildsOther d p.1) (names_of s) → IsDatatype (entries (with_sort d (length ps) (with_names (constructors_named d ps 0 cs s.last.names) s))) d ps (shown cs)
+
+-- ---- an example: options and an enum type
+
+abbrev pub colors : Enums
+colors = (codes "Color", codes "a" ∷ codes "b" ∷ []) ∷ []
+
+abbrev pub color_tables : Tables
+color_tables = record { terms = []; types = (EntityType (codes "Color"), codes "E0") ∷ []; functions = [] }
+
+abbrev pub option_declared : List Constructor
+option_declared = record { name = codes "none"; selectors = [] } ∷ record { name = codes "some"; selectors = (codes "val", name (codes "X")) ∷ [] } ∷ []
+
+abbrev pub color_declared : List Constructor
+color_declared = record { name = codes "E0_m0"; selectors = [] } ∷ record { name = codes "E0_m1"; selectors = [] } ∷ []
+
+abbrev pub color_state : State
+color_state = unwrap_or (run (DeclareDatatype (codes "Option") (codes "X" ∷ []) option_declared ∷ DeclareDatatype (codes "E0") [] color_declared ∷ []) start) start
+
+abbrev pub ColorsStand : Type 0
+ColorsStand = AreEnums colors × StandsAlways (entries color_state) × IsDeclared colors color_tables (entries color_state) (OptionType (EntityType (codes "Color")))

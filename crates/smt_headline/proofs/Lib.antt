@@ -1,0 +1,11 @@
+pub mod Agree
+pub mod Distinct
+pub mod FineTerms
+pub mod Free
+pub mod Given
+pub mod Named
+pub mod Open
+pub mod Origins
+pub mod Runs
+pub mod Selected
+pub mod Types

@@ -1,0 +1,133 @@
+-- What terms reach has names.
+use Rattle.std.proofs.Common.{◌≡◌, ◌⊎◌, ℕ, List, [], ◌∷◌, ◌++◌, refl, ap, subst, inl, inr, Option, Some, None}
+use Rattle.std.specs.Prelude.{IsSome, is_some}
+use Rattle.std.specs.List.{AllByRecursion}
+use Rattle.std.proofs.lemmas.Bool.{false≢true}
+use Rattle.smt_term.specs.Plain.{PlainType, OptionType, BitVecType, BoolType, EntityType, ExtensionType, StringType, RecordType, SetType, IpAddrV4Op, IpAddrV6Op, IpPrefixV4Op, IpPrefixV6Op, PlainOp, ExtOp, OptionGetOp, UufOp, BitVecLiteral, BoolLiteral, EntityLiteral, ExtensionLiteral, StringLiteral, PlainTerm, Application, NoneTerm, LiteralTerm, RecordTerm, SetTerm, SomeTerm, VariableTerm, PlainTerms, no_terms, one_term, PlainFields, no_fields, one_field, terms}
+use Rattle.smt_term.specs.Reached.{subterms, subterms_of_all, subterms_of_fields, reached_terms}
+use Rattle.smt_sexpr.specs.Reading.{Expression}
+use Rattle.smt_semantics.specs.Script.{State}
+use Rattle.smt_semantics.specs.Sorts.{entries}
+use Rattle.smt_lines.specs.Lines.{Enums, Tables, no_names, name_of_term, name_of_function, text_of_name, encode_terms}
+use Rattle.smt_lines.specs.Types.{type_of, first_type}
+use Rattle.smt_lines.specs.Fits.{HasSort, HaveTexts, HaveFieldTexts, HasFunction, text_of, named_text}
+use Rattle.smt_lines.specs.Fine.{IsFineType, IsFine, AreFine, AreFineFields, IsFineOp}
+use Rattle.smt_lines.specs.Fit.{Fit, PartsStand}
+use Rattle.smt_lines.proofs.Known.{TextsAre}
+use Rattle.smt_lines.proofs.Declared.{terms_are_declared, functions_are_declared}
+use Rattle.smt_lines.proofs.OfTerms.{texts_are}
+use Rattle.smt_carrying.specs.Interpretations.{HasNames, IsOpNamed, IsTermNamed, ip_type}
+use Rattle.smt_carrying.specs.Sorts.{IsDeclared}
+use Rattle.smt_headline.specs.Standing.{TermsAreNamed, NamesStand}
+use Rattle.smt_headline.proofs.Types.{always_stands, there, type_stands}
+
+all_append : {A : Type 0} (P : A → Type 0) (xs ys : List A) → AllByRecursion P xs → AllByRecursion P ys → AllByRecursion P (xs ++ ys)
+all_append P [] ys h k = k
+all_append P (x ∷ xs) ys h k = (h.0, all_append P xs ys h.1 k)
+
+named_there : (o : Option (List ℕ)) → IsSome (named_text o) → o ≡ Some (text_of_name o)
+named_there (Some n) h = refl
+named_there None h = absurd (false≢true h)
+
+some_there : (o : Option (List ℕ)) → IsSome o → o ≡ Some (text_of_name o)
+some_there (Some n) h = refl
+some_there None h = absurd (false≢true h)
+
+module _ (enums : Enums) (s : Tables) (state : State) (fit : Fit enums s state) where
+  abbrev Named : List PlainTerm → Type 0
+  Named us = AllByRecursion (IsTermNamed enums s (entries state)) us
+
+  -- an entry's parts have names
+  own : (t : PlainTerm) → IsSome (named_text (name_of_term s t)) → PartsStand s t × HasSort s (type_of t)
+  own t h = let d = terms_are_declared enums s state t (text_of_name (name_of_term s t)) fit (named_there (name_of_term s t) h) in (d.1, d.2)
+
+  text_sort : (t : PlainTerm) → IsSome (text_of s t) → HasSort s (type_of t)
+  text_sort (LiteralTerm (BitVecLiteral w n)) h = tt
+  text_sort (LiteralTerm (BoolLiteral b)) h = tt
+  text_sort (LiteralTerm (StringLiteral x)) h = tt
+  text_sort (LiteralTerm (EntityLiteral type id)) h = (own (LiteralTerm (EntityLiteral type id)) h).1
+  text_sort (LiteralTerm (ExtensionLiteral x)) h = (own (LiteralTerm (ExtensionLiteral x)) h).1
+  text_sort (Application op ts type) h = (own (Application op ts type) h).1
+  text_sort (NoneTerm type) h = (own (NoneTerm type) h).1
+  text_sort (RecordTerm x) h = (own (RecordTerm x) h).1
+  text_sort (SetTerm t ts) h = (own (SetTerm t ts) h).1
+  text_sort (SomeTerm t) h = (own (SomeTerm t) h).1
+  text_sort (VariableTerm id type) h = (own (VariableTerm id type) h).1
+
+  first_sort : (ts : PlainTerms) → HaveTexts s ts → HasSort s (first_type ts)
+  first_sort no_terms h = tt
+  first_sort (one_term t ts) h = text_sort t h.0
+
+  names_there : (t : PlainType) → HasSort s t → HasNames s t
+  names_there (OptionType t) h = names_there t h
+  names_there (BitVecType w) h = tt
+  names_there BoolType h = tt
+  names_there (EntityType type) h = there enums s state fit (EntityType type) _ refl h
+  names_there (ExtensionType kind) h = there enums s state fit (ExtensionType kind) _ refl h
+  names_there StringType h = tt
+  names_there (RecordType x) h = there enums s state fit (RecordType x) _ refl h
+  names_there (SetType t) h = names_there t h
+
+  range_named : (ts : PlainTerms) (type : PlainType) → HaveTexts s ts → HasSort s type → (first_type ts ≡ ip_type) ⊎ (type ≡ ip_type) → IsDeclared enums s (entries state) ip_type
+  range_named ts type h k (inl e) = type_stands enums s state fit ip_type tt (subst (HasSort s) e (first_sort ts h))
+  range_named ts type h k (inr e) = type_stands enums s state fit ip_type tt (subst (HasSort s) e k)
+
+  op_named : (op : PlainOp) (ts : PlainTerms) (type : PlainType) → IsFineType type → IsFineOp op ts type → HaveTexts s ts → HasFunction s op → HasSort s type → IsOpNamed enums s (entries state) op type
+  op_named (UufOp f) ts type g o h k sort =
+      let e = some_there (name_of_function s f) k in
+      let d = functions_are_declared enums s state f (text_of_name (name_of_function s f)) fit e in
+      (e, type_stands enums s state fit f.argument o.0 d.1, type_stands enums s state fit f.output o.1 d.2)
+  op_named OptionGetOp ts type g o h k sort = (type_stands enums s state fit type g sort, names_there type sort)
+  op_named (ExtOp IpAddrV4Op) ts type g o h k sort = range_named ts type h sort o
+  op_named (ExtOp IpAddrV6Op) ts type g o h k sort = range_named ts type h sort o
+  op_named (ExtOp IpPrefixV4Op) ts type g o h k sort = range_named ts type h sort o
+  op_named (ExtOp IpPrefixV6Op) ts type g o h k sort = range_named ts type h sort o
+  op_named op ts type g o h k sort = tt
+
+  mutual
+    term_named : (t : PlainTerm) → IsFine enums t → IsSome (text_of s t) → Named (subterms t)
+    term_named (Application op ts type) f h =
+        let p = own (Application op ts type) h in
+        all_append (IsTermNamed enums s (entries state)) (subterms_of_all ts) (Application op ts type ∷ []) (terms_named ts f.1 p.0.0.0) (op_named op ts type f.0 f.2 p.0.0.0 p.0.0.1 p.1, tt)
+    term_named (NoneTerm type) f h = (tt, tt)
+    term_named (LiteralTerm l) f h = (tt, tt)
+    term_named (RecordTerm x) f h =
+        let p = own (RecordTerm x) h in
+        all_append (IsTermNamed enums s (entries state)) (subterms_of_fields x) (RecordTerm x ∷ []) (fields_named x f.1 p.0.0) (tt, tt)
+    term_named (SetTerm t ts) f h =
+        let p = own (SetTerm t ts) h in
+        all_append (IsTermNamed enums s (entries state)) (subterms_of_all ts) (SetTerm t ts ∷ []) (terms_named ts f.1 p.0.0) (tt, tt)
+    term_named (SomeTerm t) f h =
+        let p = own (SomeTerm t) h in
+        all_append (IsTermNamed enums s (entries state)) (subterms t) (SomeTerm t ∷ []) (term_named t f.1 p.0.0) (tt, tt)
+    term_named (VariableTerm id type) f h =
+        ((named_there (name_of_term s (VariableTerm id type)) h, type_stands enums s state fit type f (own (VariableTerm id type) h).1), tt)
+
+    terms_named : (ts : PlainTerms) → AreFine enums ts → HaveTexts s ts → Named (subterms_of_all ts)
+    terms_named no_terms f h = tt
+    terms_named (one_term t ts) f h = all_append (IsTermNamed enums s (entries state)) (subterms t) (subterms_of_all ts) (term_named t f.0 h.0) (terms_named ts f.1 h.1)
+
+    fields_named : (x : PlainFields) → AreFineFields enums x → HaveFieldTexts s x → Named (subterms_of_fields x)
+    fields_named no_fields f h = tt
+    fields_named (one_field a t x) f h = all_append (IsTermNamed enums s (entries state)) (subterms t) (subterms_of_fields x) (term_named t f.0 h.0) (fields_named x f.1 h.1)
+
+pub terms_are_named : TermsAreNamed
+terms_are_named enums s state [] fit f h = tt
+terms_are_named enums s state (t ∷ ts) fit f h =
+    all_append (IsTermNamed enums s (entries state)) (subterms t) (reached_terms ts) (term_named enums s state fit t f.0 h.0) (terms_are_named enums s state ts fit f.1 h.1)
+
+texts_there : (s : Tables) (ts : List PlainTerm) (es : List Expression) → TextsAre s (terms ts) es → AllByRecursion (λ t. IsSome (text_of s t)) ts
+texts_there s [] es h = tt
+texts_there s (t ∷ ts) [] h = absurd h
+texts_there s (t ∷ ts) (e ∷ es) h = (ap is_some h.0, texts_there s ts es h.1)
+
+pub names_stand : NamesStand
+names_stand enums ts state fit f e o =
+    let made = encode_terms enums (terms ts) no_names in
+    let u : Tables = made.tables in
+    record {
+      enum_types = e;
+      always = always_stands enums u state fit;
+      one_to_one = o;
+      named = terms_are_named enums u state ts fit f (texts_there u ts made.made (texts_are enums (terms ts) no_names));
+    }

@@ -1,0 +1,5 @@
+//! Laws.
+#![tactic(auto)]
+
+pub mod conditions;
+pub mod fitting;

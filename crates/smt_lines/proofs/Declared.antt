@@ -1,0 +1,117 @@
+-- What a state that fits declares.
+use Rattle.std.proofs.Common.{◌≡◌, ℕ, List, [], ◌∷◌, ◌++◌, refl, sym, ap, ◌∙◌, subst, Option, Some, None}
+use Rattle.std.specs.Prelude.{codes, IsSome, is_some, ◌-◌, ◌^◌}
+use Rattle.std.proofs.lemmas.Bool.{false≢true}
+use Rattle.smt_term.specs.Plain.{PlainType, OptionType, EntityType, RecordType, SetType, AttributeTypes, no_attributes, attribute, PlainOp, RecordGetOp, UufOp, BitVecLiteral, BoolLiteral, EntityLiteral, ExtensionLiteral, StringLiteral, PlainTerm, Application, NoneTerm, LiteralTerm, RecordTerm, SetTerm, SomeTerm, VariableTerm, PlainTerms, no_terms, one_term, PlainFields, no_fields, one_field}
+use Rattle.smt_sexpr.specs.Reading.{Expression}
+use Rattle.smt_semantics.specs.Script.{name, group}
+use Rattle.smt_lines.specs.Line.{Comment, DeclareConst, DeclareFun, DefineFun}
+use Rattle.smt_lines.specs.Lines.{Enums, members_of, Tables, name_of_type, name_of_function, text_of_name, attribute_name, attribute_place, bits, extension_body, operands, Manner, AsItStands, AsLeast, AsFalse, manner, none_body, set_body, record_body, record_lines, quoted_id}
+use Rattle.smt_lines.specs.Same.{same_type, same_term, same_function}
+use Rattle.smt_lines.specs.Types.{type_of, first_type, attribute_names}
+use Rattle.smt_lines.specs.Naming.{sort_of}
+use Rattle.smt_lines.specs.Fits.{HasSort, HaveSorts, HaveTexts, HaveFieldTexts, HasFunction, TypePartsStand, text_of, given, texts_of, texts_of_fields, sorts_of, head_of, term_lines, type_lines, function_lines, application_lines, entity_literal_lines}
+use Rattle.smt_lines.specs.Growth.{Keeps}
+use Rattle.smt_lines.proofs.Sound.{same_types, same_functions, same_terms_are_one}
+use Rattle.smt_lines.proofs.Stays.{texts_stay, sorts_stay}
+use Rattle.smt_lines.specs.Fit.{EachLine, LineStands, HasRecord, PartsStand, TypeEntry, FunctionEntry, TermEntry}
+use Rattle.smt_lines.specs.Scripts.{TermsAreDeclared, TypesAreDeclared, FunctionsAreDeclared}
+use Rattle.smt_lines.proofs.Known.{each_found}
+use Rattle.smt_lines.proofs.Enter.{has_stays}
+
+kept_name : (o p : Option (List ℕ)) → ((n : List ℕ) → o ≡ Some n → p ≡ Some n) → IsSome o → (o ≡ p) × IsSome p
+kept_name (Some n) p k h = (sym (k n refl), ap is_some (k n refl))
+kept_name None p k h = absurd (false≢true h)
+
+kept_text : (r s : Tables) → Keeps r s → (t : PlainTerm) (o : Option Expression) → text_of r t ≡ o → IsSome o → (text_of r t ≡ text_of s t) × IsSome (text_of s t)
+kept_text r s k t (Some e) q h = let p = texts_stay r s t e k q in (q ∙ sym p, ap is_some p)
+kept_text r s k t None q h = absurd (false≢true h)
+
+kept_texts : (r s : Tables) → Keeps r s → (ts : PlainTerms) → HaveTexts r ts → (texts_of r ts ≡ texts_of s ts) × HaveTexts s ts
+kept_texts r s k no_terms h = (refl, tt)
+kept_texts r s k (one_term t ts) h =
+    let x = kept_text r s k t (text_of r t) refl h.0 in let a = x.0 in
+    let y = kept_texts r s k ts h.1 in let b = y.0 in
+    (λ i. given (a i) ∷ b i, (x.1, y.1))
+
+kept_fields : (r s : Tables) → Keeps r s → (x : PlainFields) → HaveFieldTexts r x → (texts_of_fields r x ≡ texts_of_fields s x) × HaveFieldTexts s x
+kept_fields r s k no_fields h = (refl, tt)
+kept_fields r s k (one_field c t x) h =
+    let y = kept_text r s k t (text_of r t) refl h.0 in let a = y.0 in
+    let z = kept_fields r s k x h.1 in let b = z.0 in
+    (λ i. given (a i) ∷ b i, (y.1, z.1))
+
+kept_sorts : (r s : Tables) → Keeps r s → (x : AttributeTypes) → HaveSorts r x → (sorts_of r x ≡ sorts_of s x) × HaveSorts s x
+kept_sorts r s k no_attributes h = (refl, tt)
+kept_sorts r s k (attribute c t x) h =
+    let a = sorts_stay r s t k h.0 in
+    let z = kept_sorts r s k x h.1 in let b = z.0 in
+    (λ i. sym a i ∷ b i, (has_stays r s k.types t h.0, z.1))
+
+kept_head : (enums : Enums) (r s : Tables) → Keeps r s → (op : PlainOp) (ts : PlainTerms) → HasFunction r op → HasRecord r op ts → (head_of enums r op ts ≡ head_of enums s op ts) × HasFunction s op × HasRecord s op ts
+kept_head enums r s k (UufOp f) ts h g =
+    let x = kept_name (name_of_function r f) (name_of_function s f) (k.functions f) h in (ap (λ o. name (text_of_name o)) x.0, x.1, tt)
+kept_head enums r s k (RecordGetOp a) ts h g =
+    let x = kept_name (name_of_type r (first_type ts)) (name_of_type s (first_type ts)) (k.types (first_type ts)) g in
+    (ap (λ o. name (attribute_name (text_of_name o) (attribute_place a (first_type ts)))) x.0, tt, x.1)
+kept_head enums r s k op ts h g = (refl, tt, tt)
+
+kept_application : (enums : Enums) (r s : Tables) (m : Manner) (op : PlainOp) (ts : PlainTerms) (type : PlainType) (n : List ℕ) → sort_of r type ≡ sort_of s type → texts_of r ts ≡ texts_of s ts → head_of enums r op ts ≡ head_of enums s op ts
+    → application_lines enums r m op ts type n ≡ application_lines enums s m op ts type n
+kept_application enums r s AsItStands op ts type n p q h = λ i. DefineFun n (p i) (group (h i ∷ operands op (q i))) ∷ []
+kept_application enums r s (AsLeast width) op ts type n p q h = λ i. DefineFun n (p i) (group (name (codes "=") ∷ (q i ++ bits width (2 ^ (width - 1)) ∷ []))) ∷ []
+kept_application enums r s AsFalse op ts type n p q h = refl
+
+kept_entity : (o : Option (List (List ℕ))) (a b id n : List ℕ) → a ≡ b → entity_literal_lines o a id n ≡ entity_literal_lines o b id n
+kept_entity o a b id n e = ap (λ c. entity_literal_lines o c id n) e
+
+kept_lines : (enums : Enums) (r s : Tables) → Keeps r s → (t : PlainTerm) (n : List ℕ) → PartsStand r t → HasSort r (type_of t) → (term_lines enums r t n ≡ term_lines enums s t n) × PartsStand s t
+kept_lines enums r s k (Application op ts type) n p h =
+    let x = kept_texts r s k ts p.0.0 in
+    let y = kept_head enums r s k op ts p.0.1 p.1 in
+    (kept_application enums r s (manner op ts type) op ts type n (sym (sorts_stay r s type k h)) x.0 y.0, ((x.1, y.1), y.2))
+kept_lines enums r s k (NoneTerm type) n p h = (ap (λ (e : Expression). DefineFun n e (none_body e) ∷ []) (sym (sorts_stay r s (OptionType type) k h)), (tt, tt))
+kept_lines enums r s k (LiteralTerm (BitVecLiteral w m)) n p h = (refl, (tt, tt))
+kept_lines enums r s k (LiteralTerm (BoolLiteral b)) n p h = (refl, (tt, tt))
+kept_lines enums r s k (LiteralTerm (StringLiteral x)) n p h = (refl, (tt, tt))
+kept_lines enums r s k (LiteralTerm (EntityLiteral type id)) n p h =
+    let x = kept_name (name_of_type r (EntityType type)) (name_of_type s (EntityType type)) (k.types (EntityType type)) h in
+    (kept_entity (members_of enums type) _ _ id n (ap text_of_name x.0), (tt, tt))
+kept_lines enums r s k (LiteralTerm (ExtensionLiteral x)) n p h = (ap (λ (e : Expression). DefineFun n e (extension_body x) ∷ []) (sym (sorts_stay r s (type_of (LiteralTerm (ExtensionLiteral x))) k h)), (tt, tt))
+kept_lines enums r s k (RecordTerm x) n p h =
+    let a = sym (sorts_stay r s (type_of (RecordTerm x)) k h) in
+    let y = kept_fields r s k x p.0 in let b = y.0 in
+    (λ i. DefineFun n (a i) (record_body (a i) (b i)) ∷ [], (y.1, tt))
+kept_lines enums r s k (SetTerm element ts) n p h =
+    let a = sym (sorts_stay r s (SetType element) k h) in
+    let y = kept_texts r s k ts p.0 in let b = y.0 in
+    (λ i. DefineFun n (a i) (set_body (a i) (b i)) ∷ [], (y.1, tt))
+kept_lines enums r s k (SomeTerm t) n p h =
+    let a = sym (sorts_stay r s (type_of (SomeTerm t)) k h) in
+    let y = kept_text r s k t (text_of r t) refl p.0 in let b = y.0 in
+    (λ i. DefineFun n (a i) (group (name (codes "some") ∷ given (b i) ∷ [])) ∷ [], (y.1, tt))
+kept_lines enums r s k (VariableTerm id type) n p h = (ap (λ (e : Expression). Comment (quoted_id id) ∷ DeclareConst n e ∷ []) (sym (sorts_stay r s type k h)), (tt, tt))
+
+pub terms_are_declared : TermsAreDeclared
+terms_are_declared enums s state t n fit h =
+    let e = each_found (TermEntry enums s state) (same_term t) t (λ l q. (same_terms_are_one t l).0 q) s.terms n h fit.term_entries in
+    let x = kept_lines enums e.tables s e.keeps t n e.parts.0 e.parts.1 in
+    (subst (λ ls. EachLine (LineStands state) ls) x.0 e.lines, x.1, has_stays e.tables s e.keeps.types (type_of t) e.parts.1)
+
+kept_type : (enums : Enums) (r s : Tables) → Keeps r s → (t : PlainType) (n : List ℕ) → TypePartsStand r t → (type_lines enums r t n ≡ type_lines enums s t n) × TypePartsStand s t
+kept_type enums r s k (RecordType x) n p = let y = kept_sorts r s k x p in (ap (λ (ss : List Expression). record_lines (attribute_names x) n ss) y.0, y.1)
+kept_type enums r s k t n p = (refl, tt)
+
+pub types_are_declared : TypesAreDeclared
+types_are_declared enums s state t n fit h =
+    let e = each_found (TypeEntry enums s state) (same_type t) t (λ l q. (same_types t l).0 q) s.types n h fit.type_entries in
+    let x = kept_type enums e.tables s e.keeps t n e.parts in
+    (subst (λ ls. EachLine (LineStands state) ls) x.0 e.lines, x.1)
+
+pub functions_are_declared : FunctionsAreDeclared
+functions_are_declared enums s state f n fit h =
+    let e = each_found (FunctionEntry s state) (same_function f) f (λ l q. (same_functions f l).0 q) s.functions n h fit.function_entries in
+    let a = sym (sorts_stay e.tables s f.argument e.keeps e.parts.0) in
+    let b = sym (sorts_stay e.tables s f.output e.keeps e.parts.1) in
+    let x : function_lines e.tables f n ≡ function_lines s f n = λ i. Comment f.id ∷ DeclareFun n (a i) (b i) ∷ [] in
+    (subst (λ ls. EachLine (LineStands state) ls) x e.lines, has_stays e.tables s e.keeps.types f.argument e.parts.0, has_stays e.tables s e.keeps.types f.output e.parts.1)

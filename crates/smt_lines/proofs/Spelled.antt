@@ -1,0 +1,246 @@
+-- What is spelled is read as it was.
+use Rattle.std.proofs.Common.{◌≡◌, ℕ, zero, suc, ◌/◌, ◌%◌, Bool, true, false, not, ◌&&◌, cond, eqb, List, [], ◌∷◌, ◌++◌, map, refl, sym, ap, ◌∙◌, subst, append_assoc, arith}
+use Rattle.std.specs.Prelude.{codes, nat_eq, nat_le, ◌==◌}
+use Rattle.std.specs.List.{list_all, flat_map}
+use Rattle.std.specs.Fmt.{digits, digits_onto, digit_glyph}
+use Rattle.std.proofs.lemmas.Bool.{and_parts, and_from, agree_below_at, eqb-true, false≢true}
+use Rattle.std.proofs.lemmas.Grind.{flat_map-append}
+use Rattle.smt_sexpr.specs.Lexicon.{Bits, Number, Text, Name, quote_twice, is_line_end}
+use Rattle.smt_sexpr.specs.Reading.{Expression, Leaf, Node, Expressions, Nil, Cons}
+use Rattle.smt_semantics.specs.Script as script
+use Rattle.smt_semantics.specs.Script.{Command, Holds, IsWhole, name, group, exprs, constructor}
+use Rattle.smt_semantics.specs.Written.{Writes, IsLine, is_name}
+use Rattle.smt_semantics.specs.Texts.{Part, AreWritten, spaced, ConstructorPart, AreConstructors, constructor_lines, below_each}
+use Rattle.smt_semantics.specs.Quoting as quoting
+use Rattle.smt_semantics.specs.Quoting.{is_point}
+use Rattle.smt_semantics.proofs.Append.{holds_append, whole_append}
+use Rattle.smt_semantics.proofs.Lines.{names_write, numerals_write, brackets_write, comments_are_lines}
+use Rattle.smt_semantics.proofs.First.{assert_line, declare_const_line, define_fun_line, applied_text}
+use Rattle.smt_semantics.proofs.Laid.{groups_write, selectors_write, datatype_line, declare_fun_line, plain_lines}
+use Rattle.smt_semantics.proofs.Quotes.{texts_write}
+use Rattle.smt_lines.specs.Spelling.{numeral, escaped, quoted_character, quoted, spelled, spelled_others}
+use Rattle.smt_lines.specs.Line.{Constructor, Bare, Fielded, Comment, DeclareDatatype, DeclareConst, DeclareFun, DefineFun, Assert, Push, Pop, in_comment, spelled_selector, spelled_constructor, spelled_constructors, spelled_line, spelled_lines}
+use Rattle.smt_lines.specs.Command.{built, all_built, commands_of, commands, is_written, are_written, is_written_constructor, is_written_line}
+use Rattle.smt_lines.specs.Scripts.{LinesAreLines, LinesHold}
+use Rattle.smt_lines.proofs.Basic.{numeral_digits, numeral_number}
+
+-- ---- strings
+
+abbrev unquoted : ℕ → Bool
+unquoted b = not (b == 34)
+
+hex_digits : (k n : ℕ) (ds : List ℕ) → list_all unquoted ds ≡ true → list_all unquoted (digits_onto k 16 false n ds) ≡ true
+hex_digits zero n ds h = h
+hex_digits (suc k) n ds h = go (nat_eq (n / 16) 0) more (hex_digits k (n / 16) (digit_glyph false (n % 16) ∷ ds) more)
+  where
+    more : list_all unquoted (digit_glyph false (n % 16) ∷ ds) ≡ true
+    more = and_from (unquoted (digit_glyph false (n % 16))) (list_all unquoted ds) (agree_below_at (λ m. unquoted (digit_glyph false m)) (λ m. true) 16 (n % 16) refl (omega arith)) h
+
+    go : (b : Bool) → list_all unquoted (digit_glyph false (n % 16) ∷ ds) ≡ true → list_all unquoted (digits_onto k 16 false (n / 16) (digit_glyph false (n % 16) ∷ ds)) ≡ true
+        → list_all unquoted (cond b (digit_glyph false (n % 16) ∷ ds) (digits_onto k 16 false (n / 16) (digit_glyph false (n % 16) ∷ ds))) ≡ true
+    go true m again = m
+    go false m again = again
+
+no_quotes : (xs : List ℕ) → list_all unquoted xs ≡ true → flat_map quote_twice xs ≡ xs
+no_quotes [] h = refl
+no_quotes (x ∷ xs) h =
+    let q = and_parts (unquoted x) (list_all unquoted xs) h in
+    let e = not_true (x == 34) q.0 in
+    rw e (ap (λ (t : List ℕ). x ∷ t) (no_quotes xs q.1))
+  where
+    not_true : (b : Bool) → not b ≡ true → b ≡ false
+    not_true true h = absurd (false≢true h)
+    not_true false h = refl
+
+digits_unquoted : (c : ℕ) → list_all unquoted (digits 16 false c) ≡ true
+unfolding digits
+digits_unquoted c = hex_digits 64 c [] refl
+
+all_joined : (xs ys : List ℕ) → list_all unquoted xs ≡ true → list_all unquoted ys ≡ true → list_all unquoted (xs ++ ys) ≡ true
+all_joined [] ys h k = k
+all_joined (x ∷ xs) ys h k = let q = and_parts (unquoted x) (list_all unquoted xs) h in and_from (unquoted x) _ q.0 (all_joined xs ys q.1 k)
+
+escaped_stays : (c : ℕ) → flat_map quote_twice (escaped c) ≡ escaped c
+escaped_stays c = no_quotes (escaped c) (all_joined (digits 16 false c) (codes "}") (digits_unquoted c) refl)
+
+backslash : escaped 92 ≡ codes "\\u{5c}"
+unfolding digits
+backslash = refl
+
+character_is : (c : ℕ) → quoted_character c ≡ flat_map quote_twice (quoting.escaped c)
+character_is c = go (eqb c 34) refl
+  where
+    other : eqb c 34 ≡ false → eqb c 92 ≡ false → (b : Bool) → (nat_le 32 c && nat_le c 126) ≡ b
+        → cond b (c ∷ []) (escaped c) ≡ flat_map quote_twice (cond (b && true) (c ∷ []) (escaped c))
+    other e f true g = rw e refl
+    other e f false g = sym (escaped_stays c)
+
+    next : eqb c 34 ≡ false → (b : Bool) → eqb c 92 ≡ b → quoted_character c ≡ flat_map quote_twice (quoting.escaped c)
+    next e true f = let x = eqb-true c 92 f in rw x (sym (ap (flat_map quote_twice) backslash))
+    next e false f = rw (e, f) (other e f (nat_le 32 c && nat_le c 126) refl)
+
+    go : (b : Bool) → eqb c 34 ≡ b → quoted_character c ≡ flat_map quote_twice (quoting.escaped c)
+    go true e = let x = eqb-true c 34 e in rw x refl
+    go false e = next e (eqb c 92) refl
+
+characters_are : (cs : List ℕ) → flat_map quoted_character cs ≡ flat_map quote_twice (flat_map quoting.escaped cs)
+characters_are [] = refl
+characters_are (c ∷ cs) =
+    let a = character_is c in let b = characters_are cs in
+    (λ i. a i ++ b i) ∙ sym (flat_map-append quote_twice (quoting.escaped c) (flat_map quoting.escaped cs))
+
+strings : (cs : List ℕ) → list_all is_point cs ≡ true → Writes (quoted cs) (Leaf (Text cs))
+strings cs h = subst (λ (t : List ℕ). Writes (codes "\"" ++ (t ++ codes "\"")) (Leaf (Text cs))) (sym (characters_are cs)) (texts_write cs h)
+
+-- ---- expressions
+
+abbrev parts : Expressions → List Part
+parts Nil = []
+parts (Cons e es) = record { text = spelled e; expr = e } ∷ parts es
+
+others_are : (es : Expressions) (end : List ℕ) → spelled_others es ++ end ≡ spaced (parts es) end
+others_are Nil end = refl
+others_are (Cons e es) end = ap (λ (t : List ℕ). codes " " ++ t) (append_assoc (spelled e) (spelled_others es) end ∙ ap (λ (t : List ℕ). spelled e ++ t) (others_are es end))
+
+parts_are : (es : Expressions) → exprs (map (λ p. p.expr) (parts es)) ≡ es
+parts_are Nil = refl
+parts_are (Cons e es) = ap (Cons e) (parts_are es)
+
+node : (e : Expression) (es : Expressions) → Writes (spelled e) e → AreWritten (parts es) → Writes (spelled (Node (Cons e es))) (Node (Cons e es))
+node e Nil w v = subst (λ (t : List ℕ). Writes (codes "(" ++ t) (Node (Cons e Nil))) (sym (append_assoc (spelled e) (codes " ") (codes ")"))) (groups_write (spelled e) e [] (codes " ") w tt refl)
+node e (Cons f es) w v =
+    let texts : spaced (parts (Cons f es)) (codes ")") ≡ codes " " ++ (spelled f ++ spelled_others es) ++ codes ")" =
+    ap (λ (t : List ℕ). codes " " ++ t) (sym (append_assoc (spelled f) (spelled_others es) (codes ")") ∙ ap (λ (t : List ℕ). spelled f ++ t) (others_are es (codes ")")))) in
+    subst (λ (t : List ℕ). Writes (codes "(" ++ t) (Node (Cons e (Cons f es)))) (ap (λ (t : List ℕ). spelled e ++ t) texts ∙ sym (append_assoc (spelled e) (codes " " ++ (spelled f ++ spelled_others es)) (codes ")")))
+    (subst (λ (x : Expressions). Writes (codes "(" ++ (spelled e ++ spaced (parts (Cons f es)) (codes ")"))) (Node (Cons e x))) (parts_are (Cons f es))
+    (groups_write (spelled e) e (parts (Cons f es)) [] w v refl))
+
+mutual
+  pub expressions_write : (e : Expression) → is_written e ≡ true → Writes (spelled e) e
+  expressions_write (Leaf (Bits width n)) h = absurd (false≢true h)
+  expressions_write (Leaf (Number n)) h = subst (λ m. Writes (numeral n) (Leaf (Number m))) (numeral_number n) (numerals_write (numeral n) (numeral_digits n))
+  expressions_write (Leaf (Text cs)) h = strings cs h
+  expressions_write (Leaf (Name n)) h = names_write n h
+  expressions_write (Node Nil) h = brackets_write [] [] tt refl
+  expressions_write (Node (Cons e es)) h = let q = and_parts (is_written e) (are_written es) h in node e es (expressions_write e q.0) (all_write es q.1)
+
+  all_write : (es : Expressions) → are_written es ≡ true → AreWritten (parts es)
+  all_write Nil h = tt
+  all_write (Cons e es) h = let q = and_parts (is_written e) (are_written es) h in (expressions_write e q.0, all_write es q.1)
+
+-- ---- constructors
+
+selector_writes : (x : List ℕ × Expression) → (is_name x.0 && is_written x.1) ≡ true → Writes (spelled_selector x) (group (name x.0 ∷ x.1 ∷ []))
+selector_writes x h = let q = and_parts (is_name x.0) (is_written x.1) h in
+    let texts : codes "(" ++ x.0 ++ codes " " ++ spelled x.1 ++ codes ")" ≡ spelled_selector x = simp append_assoc in
+    subst (λ (t : List ℕ). Writes t (group (name x.0 ∷ x.1 ∷ []))) texts (applied_text x.0 (spelled x.1) x.1 q.0 (expressions_write x.1 q.1))
+
+abbrev selector_parts : List (List ℕ × Expression) → List Part
+selector_parts [] = []
+selector_parts (x ∷ xs) = record { text = spelled_selector x; expr = group (name x.0 ∷ x.1 ∷ []) } ∷ selector_parts xs
+
+selector_parts_are : (xs : List (List ℕ × Expression)) → map (λ p. p.expr) (selector_parts xs) ≡ map (λ s. group (name s.0 ∷ s.1 ∷ [])) xs
+selector_parts_are [] = refl
+selector_parts_are (x ∷ xs) = ap (λ (t : List Expression). group (name x.0 ∷ x.1 ∷ []) ∷ t) (selector_parts_are xs)
+
+selectors_written : (xs : List (List ℕ × Expression)) → list_all (λ x. is_name x.0 && is_written x.1) xs ≡ true → AreWritten (selector_parts xs)
+selectors_written [] h = tt
+selectors_written (x ∷ xs) h = let q = and_parts (is_name x.0 && is_written x.1) _ h in (selector_writes x q.0, selectors_written xs q.1)
+
+spaced_selectors : (xs : List (List ℕ × Expression)) (end : List ℕ) → flat_map (λ y. codes " " ++ spelled_selector y) xs ++ end ≡ spaced (selector_parts xs) end
+spaced_selectors [] end = refl
+spaced_selectors (x ∷ xs) end =
+    let rest = flat_map (λ y. codes " " ++ spelled_selector y) xs in
+    ap (λ (t : List ℕ). codes " " ++ t) (append_assoc (spelled_selector x) rest end ∙ ap (λ (t : List ℕ). spelled_selector x ++ t) (spaced_selectors xs end))
+
+constructor_writes : (c : Constructor) → is_written_constructor c ≡ true → Writes (spelled_constructor c) (constructor (built c))
+constructor_writes (Bare n) h = selectors_write (record { name = n; selectors = [] }) [] [] h tt refl refl
+constructor_writes (Fielded n []) h = selectors_write (record { name = n; selectors = [] }) [] (codes " ") (and_parts (is_name n) true h).0 tt refl refl
+constructor_writes (Fielded n (x ∷ xs)) h =
+    let q = and_parts (is_name n) (list_all (λ x. is_name x.0 && is_written x.1) (x ∷ xs)) h in
+    let rest = flat_map (λ y. codes " " ++ spelled_selector y) xs in
+    subst (λ (t : List ℕ). Writes (codes "(" ++ (n ++ (codes " " ++ t))) (constructor (built (Fielded n (x ∷ xs)))))
+    (ap (λ (t : List ℕ). spelled_selector x ++ t) (sym (spaced_selectors xs (codes ")"))) ∙ sym (append_assoc (spelled_selector x) rest (codes ")")))
+    (selectors_write (record { name = n; selectors = x ∷ xs }) (selector_parts (x ∷ xs)) [] q.0 (selectors_written (x ∷ xs) q.1) refl (selector_parts_are (x ∷ xs)))
+
+abbrev constructor_parts : List Constructor → List ConstructorPart
+constructor_parts [] = []
+constructor_parts (c ∷ cs) = record { text = spelled_constructor c; built = built c } ∷ constructor_parts cs
+
+constructor_parts_are : (cs : List Constructor) → map (λ c. c.built) (constructor_parts cs) ≡ all_built cs
+constructor_parts_are [] = refl
+constructor_parts_are (c ∷ cs) = ap (λ (t : List script.Constructor). built c ∷ t) (constructor_parts_are cs)
+
+constructors_written : (cs : List Constructor) → list_all is_written_constructor cs ≡ true → AreConstructors (constructor_parts cs)
+constructors_written [] h = tt
+constructors_written (c ∷ cs) h = let q = and_parts (is_written_constructor c) _ h in (constructor_writes c q.0, constructors_written cs q.1)
+
+below_are : (cs : List Constructor) (end : List ℕ) → flat_map (λ y. codes "\n  " ++ spelled_constructor y) cs ++ end ≡ below_each (constructor_parts cs) end
+below_are [] end = refl
+below_are (c ∷ cs) end =
+    let rest = flat_map (λ y. codes "\n  " ++ spelled_constructor y) cs in
+    ap (λ (t : List ℕ). codes "\n  " ++ t) (append_assoc (spelled_constructor c) rest end ∙ ap (λ (t : List ℕ). spelled_constructor c ++ t) (below_are cs end))
+
+constructors_are : (cs : List Constructor) (end : List ℕ) → spelled_constructors cs ++ end ≡ constructor_lines (constructor_parts cs) end
+constructors_are [] end = refl
+constructors_are (c ∷ cs) end = below_are (c ∷ cs) end
+
+-- ---- lines
+
+datatype_is_line : (n : List ℕ) (cs : List Constructor) → is_name n ≡ true → list_all is_written_constructor cs ≡ true → IsLine (spelled_line (DeclareDatatype n [] cs)) (script.DeclareDatatype n [] (all_built cs) ∷ [])
+datatype_is_line n cs h k =
+    let inner = spelled_constructors cs in
+    let texts : constructor_lines (constructor_parts cs) (codes "))\n") ≡ (inner ++ codes ")") ++ codes ")\n" =
+    sym (constructors_are cs (codes "))\n")) ∙ sym (append_assoc inner (codes ")") (codes ")\n")) in
+    subst (λ (t : List ℕ). IsLine (codes "(declare-datatype " ++ (n ++ (codes " (" ++ t))) (script.DeclareDatatype n [] (all_built cs) ∷ [])) texts
+    (subst (λ (t : List script.Constructor). IsLine (codes "(declare-datatype " ++ (n ++ (codes " (" ++ constructor_lines (constructor_parts cs) (codes "))\n")))) (script.DeclareDatatype n [] t ∷ [])) (constructor_parts_are cs)
+    (datatype_line n (constructor_parts cs) h (constructors_written cs k)))
+
+no_line_ends : (text : List ℕ) → list_all (λ b. not (is_line_end b)) (map in_comment text) ≡ true
+no_line_ends [] = refl
+no_line_ends (b ∷ bs) = and_from (not (is_line_end (in_comment b))) _ (one b) (no_line_ends bs)
+  where
+    one : (b : ℕ) → not (is_line_end (in_comment b)) ≡ true
+    one b = go (is_line_end b) refl
+      where
+        go : (x : Bool) → is_line_end b ≡ x → not (is_line_end (cond x 32 b)) ≡ true
+        go true e = refl
+        go false e = rw e refl
+
+pub lines_are_lines : LinesAreLines
+lines_are_lines (Comment text) h = comments_are_lines (codes " " ++ map in_comment text) (no_line_ends text)
+lines_are_lines (DeclareDatatype n [] cs) h = let q = and_parts (is_name n) (list_all is_written_constructor cs) h in datatype_is_line n cs q.0 q.1
+lines_are_lines (DeclareDatatype n (p ∷ ps) cs) h = absurd (false≢true h)
+lines_are_lines (DeclareConst n sort) h = let q = and_parts (is_name n) (is_written sort) h in
+    let texts : codes "(declare-const " ++ n ++ codes " " ++ spelled sort ++ codes ")\n" ≡ spelled_line (DeclareConst n sort) = simp append_assoc in
+    subst (λ (t : List ℕ). IsLine t (script.DeclareConst n sort ∷ [])) texts (declare_const_line n (spelled sort) sort q.0 (expressions_write sort q.1))
+lines_are_lines (DeclareFun n argument sort) h =
+    let q = and_parts (is_name n && is_written argument) (is_written sort) h in
+    let r = and_parts (is_name n) (is_written argument) q.0 in
+    declare_fun_line n (spelled argument) (spelled sort) argument sort r.0 (expressions_write argument r.1) (expressions_write sort q.1)
+lines_are_lines (DefineFun n sort body) h =
+    let q = and_parts (is_name n && is_written sort) (is_written body) h in
+    let r = and_parts (is_name n) (is_written sort) q.0 in
+    let texts : codes "(define-fun " ++ n ++ codes " () " ++ spelled sort ++ codes " " ++ spelled body ++ codes ")\n" ≡ spelled_line (DefineFun n sort body) = simp append_assoc in
+    subst (λ (t : List ℕ). IsLine t (script.DefineFun n sort body ∷ [])) texts (define_fun_line n (spelled sort) (spelled body) sort body r.0 (expressions_write sort r.1) (expressions_write body q.1))
+lines_are_lines (Assert e) h =
+    let texts : codes "(assert " ++ spelled e ++ codes ")\n" ≡ spelled_line (Assert e) = simp append_assoc in
+    subst (λ (t : List ℕ). IsLine t (script.Assert e ∷ [])) texts (assert_line (spelled e) e (expressions_write e h))
+lines_are_lines Push h = plain_lines.4
+lines_are_lines Pop h = plain_lines.5
+
+whole_line : (line : List ℕ) (cs : List Command) → IsLine line cs → IsWhole line
+whole_line line cs h = subst IsWhole (sym h.ends.1) (whole h.ends.0)
+  where
+    whole : (front : List ℕ) → IsWhole (front ++ codes "\n")
+    whole [] = ([], refl)
+    whole (b ∷ front) = (b ∷ front, refl)
+
+pub one_holds : (line rest : List ℕ) (cs ds : List Command) → IsLine line cs → Holds rest ds × IsWhole rest → Holds (line ++ rest) (cs ++ ds) × IsWhole (line ++ rest)
+one_holds line rest cs ds l r = let w = whole_line line cs l in (holds_append line rest cs ds w l.holds r.0, whole_append line rest w r.1)
+
+pub lines_hold : LinesHold
+lines_hold [] h = (record { reads = record { pieces = []; cut = record { spelled = refl; longest = refl }; tokens_are = refl }; plain = refl }, tt)
+lines_hold (l ∷ ls) h =
+    let q = and_parts (is_written_line l) (list_all is_written_line ls) h in
+    one_holds (spelled_line l) (spelled_lines ls) (commands_of l) (commands ls) (lines_are_lines l q.0) (lines_hold ls q.1)

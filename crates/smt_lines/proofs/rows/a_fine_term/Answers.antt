@@ -1,0 +1,21 @@
+use Rattle.std.proofs.Common.{refl}
+use Rattle.smt_term.specs.Plain.{IpAddrKind, DatetimeKind, ExtensionType, StringType, attribute, no_attributes}
+use Rattle.std.specs.Prelude.{codes}
+use Rattle.smt_lines.proofs.rows.a_fine_term.Goals as goal
+
+pub returns : goal.returns
+returns c = (
+  (
+    tt,
+    (
+      (
+        tt,
+        (((tt, (tt, (tt, tt))), (tt, tt), (tt, (tt, (tt, (tt, tt))))), tt),
+        (attribute (codes "dept") StringType (attribute (codes "joined") (ExtensionType DatetimeKind) (attribute (codes "src") (ExtensionType IpAddrKind) no_attributes)), refl, refl),
+      ),
+      tt,
+    ),
+    (tt, refl),
+  ),
+  tt,
+)

@@ -1,0 +1,203 @@
+-- When tables and the state of a script belong together, as far as the next line needs it: what entries name is declared,
+-- and nothing is declared that a later entry is named.
+use Rattle.std.specs.Prelude.{◌≡◌, ℕ, zero, suc, ◌+◌, ◌-◌, ◌*◌, Bool, true, false, ◌&&◌, ◌||◌, if◌then◌else◌, ◌==◌, nat_lt, bytes_eq, is_some, IsSome, codes, length, map, List, [], ◌∷◌, Option, Some, None}
+use Rattle.std.specs.List.{list_all}
+use Rattle.smt_term.specs.Plain.{ExtensionKind, IpAddrKind, DecimalKind, DatetimeKind, DurationKind, PlainType, EntityType, ExtensionType, RecordType, PlainFunction, PlainOp, RecordGetOp, PlainTerm, Application, PlainTerms}
+use Rattle.smt_sexpr.specs.Lexicon.{is_digit}
+use Rattle.smt_sexpr.specs.Reading.{Expression}
+use Rattle.smt_semantics.specs.Script.{Constructor, Entry, Constant, Function, Defined, Builds, State, is_in, names_of, sorts_of, has_name, has_sort, run}
+use Rattle.smt_semantics.specs.Meanings.{names_in}
+use Rattle.smt_semantics.specs.Written.{is_name}
+use Rattle.smt_lines.specs.Line.{Line, DeclareDatatype, DeclareConst, DeclareFun, DefineFun}
+use Rattle.smt_semantics.specs.Sorts.{Entries, entries}
+use Rattle.smt_semantics.specs.Growth.{Declares}
+use Rattle.smt_lines.specs.Lines.{Enums, members_of, Tables, Written, name_of_type, member_name, attribute_name, id_name, kind_name, kind_constructors, option_line}
+use Rattle.smt_lines.specs.Types.{first_type, type_of, attribute_names}
+use Rattle.smt_lines.specs.Fits.{EachEntry, HasSort, type_lines, function_lines, term_lines, TypePartsStand, TermPartsStand}
+use Rattle.smt_lines.specs.Growth.{Keeps}
+use Rattle.smt_lines.specs.Command.{all_built, commands, is_written_line}
+
+-- ---- the names that a type's entry declares
+
+-- names that are made of places, so many from one on
+abbrev pub placed : (ℕ → List ℕ) → (place count : ℕ) → List (List ℕ)
+placed f place zero = []
+placed f place (suc count) = f place ∷ placed f (suc place) count
+
+abbrev pub names_of_entity : Option (List (List ℕ)) → List ℕ → List (List ℕ)
+names_of_entity None n = n ∷ id_name n ∷ []
+names_of_entity (Some members) n = placed (member_name n) 0 (length members)
+
+abbrev pub kind_names : ExtensionKind → List (List ℕ)
+kind_names kind = names_in (all_built (kind_constructors kind))
+
+abbrev pub names_of_type : Enums → PlainType → List ℕ → List (List ℕ)
+names_of_type enums (EntityType type) n = names_of_entity (members_of enums type) n
+names_of_type enums (ExtensionType kind) n = kind_names kind
+names_of_type enums (RecordType attributes) n = n ∷ placed (attribute_name n) 0 (length (attribute_names attributes))
+names_of_type enums t n = []
+
+-- ---- names of entries that are there: drawn before the next, or those of a kind that has an entry
+
+abbrev pub first : List ℕ → ℕ
+first [] = 0
+first (c ∷ cs) = c
+
+abbrev pub behind_first : List ℕ → List ℕ
+behind_first [] = []
+behind_first (c ∷ cs) = cs
+
+-- the number that digits at the front stand for
+abbrev pub leading : ℕ → List ℕ → ℕ
+leading n [] = n
+leading n (d ∷ ds) = if is_digit d then leading (n * 10 + (d - 48)) ds else n
+
+abbrev pub number_of : List ℕ → ℕ
+number_of n = leading 0 (behind_first n)
+
+abbrev pub has_kind : Tables → ExtensionKind → Bool
+has_kind s kind = is_some (name_of_type s (ExtensionType kind))
+
+abbrev pub option_names : List (List ℕ)
+option_names = codes "none" ∷ codes "some" ∷ codes "val" ∷ []
+
+-- a kind that passes a test has an entry
+abbrev pub of_kinds : (test kinds : ExtensionKind → Bool) → Bool
+of_kinds test kinds =
+    (test IpAddrKind && kinds IpAddrKind) || ((test DecimalKind && kinds DecimalKind) || ((test DatetimeKind && kinds DatetimeKind) || (test DurationKind && kinds DurationKind)))
+
+abbrev pub is_old : (terms functions types : ℕ) → (ExtensionKind → Bool) → List ℕ → Bool
+is_old terms functions types kinds n =
+    if first n == 116 then nat_lt (number_of n) terms
+    else (if first n == 102 then nat_lt (number_of n) functions
+    else (if (first n == 69) || (first n == 82) then nat_lt (number_of n) types
+    else (is_in n option_names || of_kinds (λ k. is_in n (kind_names k)) kinds)))
+
+abbrev pub is_old_sort : (types : ℕ) → (ExtensionKind → Bool) → List ℕ → Bool
+is_old_sort types kinds n =
+    if (first n == 69) || (first n == 82) then nat_lt (number_of n) types
+    else (bytes_eq n (codes "Option") || of_kinds (λ k. bytes_eq n (kind_name k)) kinds)
+
+abbrev pub is_old_name_in : Tables → List ℕ → Bool
+is_old_name_in s n = is_old (length s.terms) (length s.functions) (length s.types) (has_kind s) n
+
+abbrev pub is_old_sort_in : Tables → List ℕ → Bool
+is_old_sort_in s n = is_old_sort (length s.types) (has_kind s) n
+
+-- ---- the facts
+
+abbrev pub declares : State → List ℕ → Bool
+declares state n = is_in n (map (λ p. p.0) (names_of state))
+
+pub record TypeStands (enums : Enums) (state : State) (t : PlainType) (n : List ℕ) : Type 0 where
+  pub sort : has_sort state n 0 ≡ true
+  pub name : is_name n ≡ true
+  pub declared : list_all (declares state) (names_of_type enums t n) ≡ true
+  pub names : list_all is_name (names_of_type enums t n) ≡ true
+
+pub record FunctionStands (state : State) (f : PlainFunction) (n : List ℕ) : Type 0 where
+  pub declared : declares state n ≡ true
+  pub name : is_name n ≡ true
+
+pub record TermStands (s : Tables) (state : State) (t : PlainTerm) (n : List ℕ) : Type 0 where
+  pub declared : has_name state n ≡ true
+  pub name : is_name n ≡ true
+  pub sort : HasSort s (type_of t)
+
+abbrev pub declares_sort : State → List ℕ → Bool
+declares_sort state d = is_in d (map (λ p. p.0) (sorts_of state))
+
+-- the constructor at a place, with the sorts of its fields
+abbrev pub constructor_at : List Constructor → ℕ → Option (List ℕ × List Expression)
+constructor_at [] place = None
+constructor_at (c ∷ cs) zero = Some (c.name, map (λ x. x.1) c.selectors)
+constructor_at (c ∷ cs) (suc place) = constructor_at cs place
+
+-- What builds values of a datatype is one of these constructors, at its place.
+abbrev pub BuildsOnly : Entries → List ℕ → List (List ℕ) → List Constructor → Type 0
+BuildsOnly here d ps cs = (place : ℕ) (c : List ℕ) (fields : List Expression) (qs : List (List ℕ)) → here c ≡ Some (Builds d qs place fields) → (qs ≡ ps) × (constructor_at cs place ≡ Some (c, fields))
+
+-- What builds values builds them of a datatype that is declared.
+abbrev pub IsRooted : State → Type 0
+IsRooted state = (d c : List ℕ) (qs : List (List ℕ)) (place : ℕ) (fields : List Expression) → entries state c ≡ Some (Builds d qs place fields) → declares_sort state d ≡ true
+
+-- What a line declares is there, with all that the line says of it; and of a datatype nothing else.
+abbrev pub LineStands : State → Line → Type 0
+LineStands state (DeclareDatatype n ps cs) = (has_sort state n (length ps) ≡ true) × Declares (entries state) n ps 0 (all_built cs) × (declares_sort state n ≡ true) × BuildsOnly (entries state) n ps (all_built cs)
+LineStands state (DeclareConst n sort) = entries state n ≡ Some (Constant sort)
+LineStands state (DeclareFun n argument sort) = entries state n ≡ Some (Function argument sort)
+LineStands state (DefineFun n sort body) = entries state n ≡ Some (Defined sort body)
+LineStands state l = Unit {0}
+
+abbrev pub EachLine : (Line → Type 0) → List Line → Type 0
+EachLine P [] = Unit {0}
+EachLine P (l ∷ ls) = P l × EachLine P ls
+
+-- What an entry's own lines declare is there, as these lines were when the entry was made, and the names of its parts are the same since.
+pub record EntryOf (lines_of : Tables → List Line) (Parts : Tables → Type 0) (s : Tables) (state : State) : Type 0 where
+  pub tables : Tables
+  pub keeps : Keeps tables s
+  pub parts : Parts tables
+  pub lines : EachLine (LineStands state) (lines_of tables)
+
+abbrev pub TypeEntry : Enums → Tables → State → PlainType → List ℕ → Type 0
+TypeEntry enums s state t n = EntryOf (λ r. type_lines enums r t n) (λ r. TypePartsStand r t) s state
+
+abbrev pub FunctionEntry : Tables → State → PlainFunction → List ℕ → Type 0
+FunctionEntry s state f n = EntryOf (λ r. function_lines r f n) (λ r. HasSort r f.argument × HasSort r f.output) s state
+
+-- the record type whose selector an application is written with
+abbrev pub HasRecord : Tables → PlainOp → PlainTerms → Type 0
+HasRecord s (RecordGetOp a) ts = IsSome (name_of_type s (first_type ts))
+HasRecord s op ts = Unit {0}
+
+abbrev pub RecordStands : Tables → PlainTerm → Type 0
+RecordStands s (Application op ts type) = HasRecord s op ts
+RecordStands s t = Unit {0}
+
+-- the parts of a term have names, and so has its type
+abbrev pub PartsStand : Tables → PlainTerm → Type 0
+PartsStand s t = TermPartsStand s t × RecordStands s t
+
+abbrev pub TermEntry : Enums → Tables → State → PlainTerm → List ℕ → Type 0
+TermEntry enums s state t n = EntryOf (λ r. term_lines enums r t n) (λ r. PartsStand r t × HasSort r (type_of t)) s state
+
+pub record Fit (enums : Enums) (s : Tables) (state : State) : Type 0 where
+  pub running : state.ended ≡ false
+  pub option : has_sort state (codes "Option") 1 ≡ true
+  pub builds : list_all (declares state) option_names ≡ true
+  pub types : EachEntry (TypeStands enums state) s.types
+  pub functions : EachEntry (FunctionStands state) s.functions
+  pub terms : EachEntry (TermStands s state) s.terms
+  pub type_entries : EachEntry (TypeEntry enums s state) s.types
+  pub function_entries : EachEntry (FunctionEntry s state) s.functions
+  pub term_entries : EachEntry (TermEntry enums s state) s.terms
+  pub option_stands : LineStands state option_line
+  pub rooted : IsRooted state
+  pub old : list_all (λ p. is_old_name_in s p.0) (names_of state) ≡ true
+  pub old_sorts : list_all (λ p. is_old_sort_in s p.0) (sorts_of state) ≡ true
+
+-- What is declared stays, and of a datatype that is declared nothing more is built.
+pub record Kept (state after : State) : Type 0 where
+  pub entry : (n : List ℕ) (x : Entry) → entries state n ≡ Some x → entries after n ≡ Some x
+  pub sort : (n : List ℕ) (k : ℕ) → has_sort state n k ≡ true → has_sort after n k ≡ true
+  pub declared : (d : List ℕ) → declares_sort state d ≡ true → declares_sort after d ≡ true
+  pub built : (d c : List ℕ) (qs : List (List ℕ)) (place : ℕ) (fields : List Expression) → declares_sort state d ≡ true → entries after c ≡ Some (Builds d qs place fields) → entries state c ≡ Some (Builds d qs place fields)
+
+-- What lines leave: a state that fits the tables then, and the assertions that were there.
+pub record Reach (enums : Enums) (state : State) (ls : List Line) (u : Tables) : Type 0 where
+  pub after : State
+  pub runs : run (commands ls) state ≡ Some after
+  pub fits : Fit enums u after
+  pub written : list_all is_written_line ls ≡ true
+  pub kept : Kept state after
+  pub stand : EachLine (LineStands after) ls
+  pub same_below : after.below ≡ state.below
+  pub same_assertions : after.last.assertions ≡ state.last.assertions
+
+-- Lines that were written from tables s, and left the tables u, can be obeyed wherever s fits.
+abbrev pub Steps : Enums → Tables → List Line → Tables → Type 0
+Steps enums s ls u = (state : State) → Fit enums s state → Reach enums state ls u
+
+abbrev pub StepsOf : {A : Type 0} → Enums → Tables → Written A → Type 0
+StepsOf {A} enums s w = Steps enums s w.lines w.tables

@@ -1,0 +1,32 @@
+-- What was made for a type or a term is what the tables give for it afterwards.
+use Rattle.std.specs.Prelude.{◌≡◌, Some}
+use Rattle.smt_term.specs.Plain.{PlainType, PlainFunction, PlainTerm, PlainTerms}
+use Rattle.smt_sexpr.specs.Reading.{Expression}
+use Rattle.smt_lines.specs.Lines.{Enums, Tables, name_of_function, encode_type, encode_function, encode_term, encode_terms}
+use Rattle.smt_lines.specs.Naming.{sort_of}
+use Rattle.smt_lines.specs.Fits.{text_of, texts_of, named_text, HasSort}
+use Rattle.smt_lines.specs.Growth.{Keeps}
+
+abbrev pub TypesAreMade : Type 0
+TypesAreMade = (enums : Enums) (t : PlainType) (s : Tables) → sort_of (encode_type enums t s).tables t ≡ (encode_type enums t s).made
+
+abbrev pub FunctionsAreMade : Type 0
+FunctionsAreMade = (enums : Enums) (f : PlainFunction) (s : Tables)
+    → named_text (name_of_function (encode_function enums f s).tables f) ≡ Some (encode_function enums f s).made
+
+abbrev pub TermsAreMade : Type 0
+TermsAreMade = (enums : Enums) (t : PlainTerm) (s : Tables) → text_of (encode_term enums t s).tables t ≡ Some (encode_term enums t s).made
+
+abbrev pub TermListsAreMade : Type 0
+TermListsAreMade = (enums : Enums) (ts : PlainTerms) (s : Tables) → texts_of (encode_terms enums ts s).tables ts ≡ (encode_terms enums ts s).made
+
+-- Where names stay, texts and sorts stay.
+abbrev pub TextsStay : Type 0
+TextsStay = (s u : Tables) (t : PlainTerm) (e : Expression) → Keeps s u → text_of s t ≡ Some e → text_of u t ≡ Some e
+
+abbrev pub SortsStay : Type 0
+SortsStay = (s u : Tables) (t : PlainType) → Keeps s u → HasSort s t → sort_of u t ≡ sort_of s t
+
+-- each type that was written has its sort
+abbrev pub SortsStand : Type 0
+SortsStand = (enums : Enums) (t : PlainType) (s : Tables) → HasSort (encode_type enums t s).tables t

@@ -1,0 +1,49 @@
+-- Expressions, as scripts have them, and their bytes.
+use Rattle.std.specs.Prelude.{ℕ, false, ◌&&◌, if◌then◌else◌, ◌==◌, nat_le, codes, ◌+◌, ◌/◌, ◌^◌, List, [], ◌∷◌, ◌++◌}
+use Rattle.std.specs.List.{flat_map}
+use Rattle.std.specs.Fmt.{digits, digits_onto}
+use Rattle.smt_sexpr.specs.Lexicon.{Atom, Bits, Name, Number, Text}
+use Rattle.smt_sexpr.specs.Reading.{Expression, Leaf, Node, Expressions, Nil, Cons}
+
+-- a number in decimal, however many digits it has
+abbrev pub numeral : ℕ → List ℕ
+numeral n = digits_onto (64 + n / 10 ^ 64) 10 false n []
+
+-- `\u{..}`, in lower-case hexadecimal without leading zeros
+abbrev pub escaped : ℕ → List ℕ
+escaped c = codes "\\u{" ++ (digits 16 false c ++ codes "}")
+
+-- a character between the quotes of a string
+abbrev pub quoted_character : ℕ → List ℕ
+quoted_character c =
+    if c == 34 then codes "\"\""
+    else (if c == 92 then codes "\\u{5c}"
+    else (if nat_le 32 c && nat_le c 126 then c ∷ [] else escaped c))
+
+abbrev pub quoted : List ℕ → List ℕ
+quoted characters = codes "\"" ++ (flat_map quoted_character characters ++ codes "\"")
+
+abbrev pub spelled_atom : Atom → List ℕ
+-- no line has one
+spelled_atom (Bits width n) = []
+spelled_atom (Name text) = text
+spelled_atom (Number n) = numeral n
+spelled_atom (Text characters) = quoted characters
+
+-- One space stands between parts, and behind a head that stands alone.
+abbrev mutual
+  pub spelled : Expression → List ℕ
+  spelled (Leaf a) = spelled_atom a
+  spelled (Node es) = codes "(" ++ (spelled_inside es ++ codes ")")
+
+  pub spelled_inside : Expressions → List ℕ
+  spelled_inside Nil = []
+  spelled_inside (Cons e es) = spelled e ++ spelled_operands es
+
+  pub spelled_operands : Expressions → List ℕ
+  spelled_operands Nil = codes " "
+  spelled_operands (Cons e es) = codes " " ++ (spelled e ++ spelled_others es)
+
+  pub spelled_others : Expressions → List ℕ
+  spelled_others Nil = []
+  spelled_others (Cons e es) = codes " " ++ (spelled e ++ spelled_others es)

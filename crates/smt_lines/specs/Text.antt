@@ -1,0 +1,17 @@
+-- The bytes and the names that calls of an encoder come to.
+use Rattle.std.specs.Prelude.{ℕ, List, [], ◌∷◌}
+use Rattle.smt_term.specs.Plain.{PlainTerm}
+use Rattle.smt_lines.specs.Line.{spelled_lines}
+use Rattle.smt_lines.specs.Lines.{Enums, Tables, Call, EncodeCall, fresh, lines_of_calls, after_calls}
+
+abbrev pub text_of_calls : Enums → List Call → List ℕ
+text_of_calls enums cs = spelled_lines (lines_of_calls enums cs fresh)
+
+abbrev pub names_of_calls : Enums → List Call → Tables
+names_of_calls enums cs = (after_calls enums cs fresh).tables
+
+abbrev pub text : Enums → List PlainTerm → List ℕ
+text enums ts = text_of_calls enums (EncodeCall ts ∷ [])
+
+abbrev pub names : Enums → List PlainTerm → Tables
+names enums ts = names_of_calls enums (EncodeCall ts ∷ [])

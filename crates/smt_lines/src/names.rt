@@ -1,0 +1,27 @@
+ghost use Rattle.smt_lines.specs.Growth.{FunctionNamesDiffer, FunctionsGrow, NamesStay, NumeralsArePrinted, NumeralsDiffer, TermListsGrow, TermNamesDiffer, TermsGrow, TypeNamesDiffer, TypesGrow};
+ghost use Rattle.smt_lines.specs.Joins.{SameFunctionsAreOne, SameTermsAreOne, SameTypesAreOne};
+
+/// Writing adds entries behind those that are there, each with the name of its place, and takes no name back.
+pub fn tables_grow()
+    ensures types { TypesGrow }
+    ensures functions { FunctionsGrow }
+    ensures terms { TermsGrow }
+    ensures lists { TermListsGrow }
+    ensures names { NamesStay }
+{}
+
+/// Entries have different names.
+pub fn names_differ_by_number()
+    ensures numerals { NumeralsDiffer }
+    ensures printed { NumeralsArePrinted }
+    ensures functions { FunctionNamesDiffer }
+    ensures types { TypeNamesDiffer }
+    ensures terms { TermNamesDiffer }
+{}
+
+/// The tests by which names are looked up are equality.
+pub fn same_is_equal()
+    ensures types { SameTypesAreOne }
+    ensures functions { SameFunctionsAreOne }
+    ensures terms { SameTermsAreOne }
+{}

@@ -1,0 +1,31 @@
+ghost use Rattle.smt_lines.specs.Scripts.{CallsAreScripts, ExpressionsWrite, FunctionsAreDeclared, LinesAreLines, LinesHold, TermsAreDeclared, TermsStep, TextsAreScripts, TypesAreDeclared, TypesStep};
+
+/// What is spelled is read as it was.
+pub fn what_is_spelled_is_read()
+    ensures expressions { ExpressionsWrite }
+    ensures lines { LinesAreLines }
+    ensures all { LinesHold }
+{}
+
+/// The lines of a type, and of a term, can be obeyed wherever tables and state fit, and they fit then.
+pub fn lines_can_be_obeyed()
+    ensures types { TypesStep }
+    ensures terms { TermsStep }
+{}
+
+/// The stated text is a script, whose assertions are the texts of the terms.
+pub fn stated_text()
+    ensures { TextsAreScripts }
+{}
+
+/// The same for a list of calls, with levels.
+pub fn stated_calls()
+    ensures { CallsAreScripts }
+{}
+
+/// A state that fits declares what the entries of the tables say.
+pub fn declared_entries()
+    ensures terms { TermsAreDeclared }
+    ensures types { TypesAreDeclared }
+    ensures functions { FunctionsAreDeclared }
+{}

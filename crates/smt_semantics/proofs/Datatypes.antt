@@ -1,0 +1,130 @@
+-- What a datatype leaves, and what a level.
+use Rattle.std.proofs.Common.{◌≡◌, ℕ, suc, Bool, true, false, not, ◌&&◌, ◌||◌, eqb, cond, List, [], ◌∷◌, ◌++◌, map, length, refl, sym, ap, ◌∙◌, inl, inr, Option, Some, None}
+use Rattle.std.specs.Prelude.{bytes_eq}
+use Rattle.std.specs.List.{list_all, list_any}
+use Rattle.std.proofs.lemmas.Bool.{not-true, and_parts, and_from, cond-true, cond-false, or_parts, cases_Bool, false≢true}
+use Rattle.std.proofs.lemmas.Slice.Eq.{bytes_eq-Decides}
+use Rattle.smt_sexpr.specs.Reading.{Expression}
+use Rattle.smt_semantics.specs.Script.{Command, DeclareDatatype, DeclareConst, DefineFun, Assert, DeclareFun, Reset, Exit, Push, Pop, Constructor, Entry, Constant, Function, Defined, Builds, Selects, State, built_in_names, is_in, is_reserved, has_name, is_taken, is_taken_sort, is_sort, has_sort, names_of, declare, declare_selectors, declare_constructors, with_name, with_sort, with_assertion, obey, knows, ◌>>=◌}
+use Rattle.smt_semantics.specs.Meanings.{selectors_named, constructors_named, with_names, names_in, are_new, are_fields, DatatypesLeave, StepsKeepLevels, PopsGiveBack}
+
+not_both : (m n : List ℕ) → bytes_eq m n ≡ false → bytes_eq n m ≡ false
+not_both m n h = elim (cases_Bool (bytes_eq n m)) [
+  | inl e ↦ absurd (false≢true (sym h ∙ (bytes_eq-Decides m n).1 (sym ((bytes_eq-Decides n m).0 e))))
+  | inr e ↦ e
+]
+
+all_false : (a b : Bool) → a ≡ false → b ≡ false → (a || b) ≡ false
+all_false a b e f = rw (e, f) refl
+
+-- a name that is not taken stays so where another one is declared
+still_free : (n m : List ℕ) (x : Entry) (s : State) → is_taken s m ≡ false → bytes_eq m n ≡ false → is_taken (with_name n x s) m ≡ false
+still_free n m x s h k =
+    let p = or_parts (has_name s m) (is_reserved m) h in
+    let q = or_parts (is_in m built_in_names) (is_in m (map (λ d. d.0) (names_of s))) p.0 in
+    all_false (has_name (with_name n x s) m) (is_reserved m) (all_false (is_in m built_in_names) (bytes_eq m n || is_in m (map (λ d. d.0) (names_of s))) q.0 (all_false (bytes_eq m n) (is_in m (map (λ d. d.0) (names_of s))) k q.1)) p.1
+
+still_new : (n : List ℕ) (x : Entry) (s : State) (ns : List (List ℕ)) → is_in n ns ≡ false → are_new s ns ≡ true → are_new (with_name n x s) ns ≡ true
+still_new n x s [] h k = refl
+still_new n x s (m ∷ ns) h k =
+    let p = and_parts (not (is_taken s m)) (not (is_in m ns) && are_new s ns) k in
+    let q = and_parts (not (is_in m ns)) (are_new s ns) p.1 in
+    let r = or_parts (bytes_eq n m) (is_in n ns) h in
+    and_from (not (is_taken (with_name n x s) m)) (not (is_in m ns) && are_new (with_name n x s) ns) (ap not (still_free n m x s (not-true (is_taken s m) p.0) (not_both n m r.0)))
+    (and_from (not (is_in m ns)) (are_new (with_name n x s) ns) q.0 (still_new n x s ns r.1 q.1))
+
+-- the first of new names can be declared, and the others then still
+declared : (n : List ℕ) (x : Entry) (s : State) (ns : List (List ℕ)) → are_new s (n ∷ ns) ≡ true → (declare n x s ≡ Some (with_name n x s)) × (are_new (with_name n x s) ns ≡ true)
+declared n x s ns h =
+    let p = and_parts (not (is_taken s n)) (not (is_in n ns) && are_new s ns) h in
+    let q = and_parts (not (is_in n ns)) (are_new s ns) p.1 in
+    (cond-false (is_taken s n) None (Some (with_name n x s)) (not-true (is_taken s n) p.0), still_new n x s ns (not-true (is_in n ns) q.0) q.1)
+
+selectors_leave : (d : List ℕ) (ps : List (List ℕ)) (c : List ℕ) (place : ℕ) (xs : List (List ℕ × Expression)) (ns : List (List ℕ)) (s : State)
+    → are_new s (map (λ x. x.0) xs ++ ns) ≡ true → are_fields s ps xs ≡ true
+    → (declare_selectors d ps c place xs s ≡ Some (with_names (selectors_named d ps c place xs s.last.names) s)) × (are_new (with_names (selectors_named d ps c place xs s.last.names) s) ns ≡ true)
+selectors_leave d ps c place [] ns s h k = (refl, h)
+selectors_leave d ps c place (x ∷ xs) ns s h k =
+    let e = Selects d ps c place x.1 in
+    let known : List ℕ → ℕ → Bool = λ n i. has_sort s n i || (is_in n ps && eqb i 0) in
+    let p = declared x.0 e s (map (λ y. y.0) xs ++ ns) h in
+    let q = and_parts (is_sort known x.1) (are_fields s ps xs) k in
+    let r = selectors_leave d ps c (suc place) xs ns (with_name x.0 e s) p.1 q.1 in
+    (cond-true (is_sort known x.1) (declare x.0 e s >>= declare_selectors d ps c (suc place) xs) None q.0 ∙ ap (λ (o : Option State). o >>= declare_selectors d ps c (suc place) xs) p.0 ∙ r.0, r.1)
+
+constructors_leave : (d : List ℕ) (ps : List (List ℕ)) (place : ℕ) (cs : List Constructor) (s : State)
+    → are_new s (names_in cs) ≡ true → list_all (λ c. are_fields s ps c.selectors) cs ≡ true
+    → declare_constructors d ps place cs s ≡ Some (with_names (constructors_named d ps place cs s.last.names) s)
+constructors_leave d ps place [] s h k = refl
+constructors_leave d ps place (c ∷ cs) s h k =
+    let x = Builds d ps place (map (λ y. y.1) c.selectors) in
+    let p = declared c.name x s (map (λ y. y.0) c.selectors ++ names_in cs) h in
+    let q = and_parts (are_fields s ps c.selectors) (list_all (λ b. are_fields s ps b.selectors) cs) k in
+    let r = selectors_leave d ps c.name 0 c.selectors (names_in cs) (with_name c.name x s) p.1 q.0 in
+    let t = with_names (selectors_named d ps c.name 0 c.selectors ((c.name, x) ∷ s.last.names)) s in
+    ap (λ (o : Option State). o >>= λ u. declare_selectors d ps c.name 0 c.selectors u >>= declare_constructors d ps (suc place) cs) p.0
+    ∙ ap (λ (o : Option State). o >>= declare_constructors d ps (suc place) cs) r.0
+    ∙ constructors_leave d ps (suc place) cs t r.1 q.1
+
+pub datatypes_leave : DatatypesLeave
+datatypes_leave d ps cs s h k l =
+    cond-false (is_taken_sort s d || list_any (is_taken_sort s) ps) None (declare_constructors d ps 0 cs s >>= λ t. Some (with_sort d (length ps) t)) h
+    ∙ ap (λ (o : Option State). o >>= λ t. Some (with_sort d (length ps) t)) (constructors_leave d ps 0 cs s k l)
+
+pub pops_give_back : PopsGiveBack
+pops_give_back s t h k = rw (h, k) refl
+
+-- ---- levels
+
+bind_gives : (o : Option State) (f : State → Option State) (u : State) → (o >>= f) ≡ Some u → (t : State) × (o ≡ Some t) × (f t ≡ Some u)
+bind_gives (Some t) f u h = (t, refl, h)
+bind_gives None f u h = absurd cc
+
+some_is : (s t : State) → Some s ≡ Some t → s ≡ t
+some_is s t h = cc
+
+if_so : (b : Bool) (o : Option State) (t : State) → cond b o None ≡ Some t → o ≡ Some t
+if_so true o t h = h
+if_so false o t h = absurd cc
+
+if_not : (b : Bool) (o : Option State) (t : State) → cond b None o ≡ Some t → o ≡ Some t
+if_not true o t h = absurd cc
+if_not false o t h = h
+
+declare_below : (n : List ℕ) (x : Entry) (s t : State) → declare n x s ≡ Some t → t.below ≡ s.below
+declare_below n x s t h = ap (λ (u : State). u.below) (sym (some_is (with_name n x s) t (if_not (is_taken s n) (Some (with_name n x s)) t h)))
+
+selectors_below : (d : List ℕ) (ps : List (List ℕ)) (c : List ℕ) (place : ℕ) (xs : List (List ℕ × Expression)) (s t : State) → declare_selectors d ps c place xs s ≡ Some t → t.below ≡ s.below
+selectors_below d ps c place [] s t h = ap (λ (u : State). u.below) (sym (some_is s t h))
+selectors_below d ps c place (x ∷ xs) s t h =
+    let e = Selects d ps c place x.1 in
+    let p = bind_gives (declare x.0 e s) (declare_selectors d ps c (suc place) xs) t (if_so (is_sort (λ n i. has_sort s n i || (is_in n ps && eqb i 0)) x.1) (declare x.0 e s >>= declare_selectors d ps c (suc place) xs) t h) in
+    selectors_below d ps c (suc place) xs p.0 t p.2 ∙ declare_below x.0 e s p.0 p.1
+
+constructors_below : (d : List ℕ) (ps : List (List ℕ)) (place : ℕ) (cs : List Constructor) (s t : State) → declare_constructors d ps place cs s ≡ Some t → t.below ≡ s.below
+constructors_below d ps place [] s t h = ap (λ (u : State). u.below) (sym (some_is s t h))
+constructors_below d ps place (c ∷ cs) s t h =
+    let x = Builds d ps place (map (λ y. y.1) c.selectors) in
+    let p = bind_gives (declare c.name x s) (λ u. declare_selectors d ps c.name 0 c.selectors u >>= declare_constructors d ps (suc place) cs) t h in
+    let q = bind_gives (declare_selectors d ps c.name 0 c.selectors p.0) (declare_constructors d ps (suc place) cs) t p.2 in
+    constructors_below d ps (suc place) cs q.0 t q.2 ∙ selectors_below d ps c.name 0 c.selectors p.0 q.0 q.1 ∙ declare_below c.name x s p.0 p.1
+
+obey_below : (c : Command) (s t : State) → (c ≡ Reset → ⊥) → (c ≡ Push → ⊥) → (c ≡ Pop → ⊥) → obey c s ≡ Some t → t.below ≡ s.below
+obey_below (DeclareDatatype d ps cs) s t r v w h =
+    let p = bind_gives (declare_constructors d ps 0 cs s) (λ u. Some (with_sort d (length ps) u)) t (if_not (is_taken_sort s d || list_any (is_taken_sort s) ps) (declare_constructors d ps 0 cs s >>= λ u. Some (with_sort d (length ps) u)) t h) in
+    ap (λ (u : State). u.below) (sym (some_is (with_sort d (length ps) p.0) t p.2)) ∙ constructors_below d ps 0 cs s p.0 p.1
+obey_below (DeclareConst n sort) s t r v w h = declare_below n (Constant sort) s t (if_so (is_sort (has_sort s) sort) (declare n (Constant sort) s) t h)
+obey_below (DefineFun n sort body) s t r v w h = declare_below n (Defined sort body) s t (if_so (is_sort (has_sort s) sort && knows s body) (declare n (Defined sort body) s) t h)
+obey_below (Assert e) s t r v w h = ap (λ (u : State). u.below) (sym (some_is (with_assertion e s) t (if_so (knows s e) (Some (with_assertion e s)) t h)))
+obey_below (DeclareFun f a sort) s t r v w h = declare_below f (Function a sort) s t (if_so (is_sort (has_sort s) a && is_sort (has_sort s) sort) (declare f (Function a sort) s) t h)
+obey_below Reset s t r v w h = absurd (r refl)
+obey_below Push s t r v w h = absurd (v refl)
+obey_below Pop s t r v w h = absurd (w refl)
+obey_below Exit s t r v w h = ap (λ (u : State). u.below) (sym (some_is (record s { ended = true }) t h))
+obey_below c s t r v w h = ap (λ (u : State). u.below) (sym (some_is s t h))
+
+pub steps_keep_levels : StepsKeepLevels
+steps_keep_levels c s t r v w h = elim (cases_Bool s.ended) [
+  | inl e ↦ ap (λ (u : State). u.below) (sym (some_is s t (sym (cond-true s.ended (Some s) (obey c s) e) ∙ h)))
+  | inr e ↦ obey_below c s t r v w (sym (cond-false s.ended (Some s) (obey c s) e) ∙ h)
+]

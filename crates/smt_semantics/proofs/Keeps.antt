@@ -1,0 +1,318 @@
+-- What a command leaves has the values and the sorts of what was there before it.
+use Rattle.std.proofs.Common.{◌≡◌, ◌⊎◌, ℕ, suc, Bool, true, false, ◌&&◌, ◌||◌, eqb, cond, List, [], ◌∷◌, map, length, refl, sym, ap, ap₂, ◌∙◌, subst, inl, inr, Option, Some, None}
+use Rattle.std.specs.Prelude.{codes, bytes_eq}
+use Rattle.std.specs.List.{list_any}
+use Rattle.std.proofs.lemmas.Bool.{and_parts, and_from, or_cases, or_parts, cases_Bool, false≢true}
+use Rattle.std.proofs.lemmas.Slice.Eq.{bytes_eq-Decides}
+use Rattle.smt_term.specs.Plain.{StringLikeOp, ZeroExtendOp}
+use Rattle.smt_semantics.specs.ScriptValues.{ScriptValue}
+use Rattle.smt_sexpr.specs.Lexicon.{Bits, Number, Text, Name}
+use Rattle.smt_sexpr.specs.Reading.{Expression, Leaf, Node, Expressions, Nil, Cons}
+use Rattle.smt_semantics.specs.Script.{Command, DeclareDatatype, DeclareConst, DefineFun, Assert, DeclareFun, Reset, Exit, Push, Pop, Function, obey, Constructor, Entry, Constant, Defined, Builds, Selects, State, step, declare, declare_selectors, declare_constructors, with_name, with_sort, with_assertion, with_level, has_name, has_sort, is_taken, is_taken_sort, is_reserved, is_in, is_sort, are_sorts, is_bit_sort, count, is_first, are_all, is_stated, each_stated, knows, Shape, BitLiteral, Qualified, Applied, Extended, Tested, Matched, Unformed, shape, shape_is_known, built_in_names, names_of, look_up, operator_of, ◌>>=◌}
+use Rattle.smt_semantics.specs.Sorts.{Entries, entries, entry_sort, applied_sort, named_sort, qualified_sort, tested_sort, operator_sort, shape_sort, sort_in, sorts_in, sort_of, each_there, first_there}
+use Rattle.smt_semantics.specs.Value.{ScriptInterpretation, Meaning, by_operator, applied_value, constant, qualified_value, is_built, of_one, operator_value, evaluate, evaluate_each, first_sort, shape_value, meaning, entry_meaning, body_of, StepsKeepValues, NamesHaveValues}
+
+or_left : (a b : Bool) → a ≡ true → (a || b) ≡ true
+or_left a b e = rw e refl
+
+or_right : (a b : Bool) → b ≡ true → (a || b) ≡ true
+or_right true b e = refl
+or_right false b e = e
+
+bind_same : {A B : Type 0} (o : Option A) (f g : A → Option B) → ((a : A) → f a ≡ g a) → (o >>= f) ≡ (o >>= g)
+bind_same (Some a) f g h = h a
+bind_same None f g h = refl
+
+-- ---- an expression's sort and value are those of its names
+
+same_shape_sort : (sorts : List ℕ → ℕ → Bool) (names : List ℕ → Bool) (f g : Entries) → ((n : List ℕ) → names n ≡ true → f n ≡ g n) → (x : Shape) (known : List Bool) (ss us : List (Option Expression)) → (are_all known ≡ true → ss ≡ us) → (is_first known ≡ true → first_there ss ≡ first_there us) → shape_is_known sorts names x known ≡ true → shape_sort f x ss ≡ shape_sort g x us
+same_shape_sort sorts names f g h (BitLiteral w n) known ss us k l e = refl
+same_shape_sort sorts names f g h (Qualified c sort) known ss us k l e = ap (λ (x : Option Entry). qualified_sort x c sort) (h c (and_parts (names c) (is_sort sorts sort) e).0)
+same_shape_sort sorts names f g h (Applied n) known ss us k l e =
+    let p = and_parts (names n) (are_all known) e in
+    ap₂ (λ (x : Option Entry) (o : List (Option Expression)). each_there o >>= applied_sort x n) (h n p.0) (k p.1)
+same_shape_sort sorts names f g h (Extended bits) known ss us k l e = ap (λ (o : List (Option Expression)). each_there o >>= operator_sort (ZeroExtendOp bits)) (k e)
+same_shape_sort sorts names f g h (Tested c) known ss us k l e =
+    let p = and_parts (names c) (are_all known) e in
+    ap₂ (λ (x : Option Entry) (o : List (Option Expression)). each_there o >>= tested_sort x) (h c p.0) (k p.1)
+same_shape_sort sorts names f g h (Matched p) known ss us k l e = ap (λ (o : Option Expression). o >>= λ s. operator_sort (StringLikeOp p) (s ∷ [])) (l e)
+same_shape_sort sorts names f g h Unformed known ss us k l e = refl
+
+mutual
+  same_sort_in : (sorts : List ℕ → ℕ → Bool) (names : List ℕ → Bool) (f g : Entries) → ((n : List ℕ) → names n ≡ true → f n ≡ g n) → (e : Expression) → is_stated sorts names e ≡ true → sort_in f e ≡ sort_in g e
+  same_sort_in sorts names f g h (Leaf (Name n)) k = ap (λ (x : Option Entry). named_sort x n) (h n k)
+  same_sort_in sorts names f g h (Leaf (Bits w n)) k = refl
+  same_sort_in sorts names f g h (Leaf (Number n)) k = refl
+  same_sort_in sorts names f g h (Leaf (Text t)) k = refl
+  same_sort_in sorts names f g h (Node Nil) k = refl
+  same_sort_in sorts names f g h (Node (Cons e es)) k = same_shape_sort sorts names f g h (shape e es) (each_stated sorts names es) (sorts_in f es) (sorts_in g es) (λ p. same_sorts_in sorts names f g h es p) (λ p. same_first_in sorts names f g h es p) k
+
+  same_sorts_in : (sorts : List ℕ → ℕ → Bool) (names : List ℕ → Bool) (f g : Entries) → ((n : List ℕ) → names n ≡ true → f n ≡ g n) → (es : Expressions) → are_all (each_stated sorts names es) ≡ true → sorts_in f es ≡ sorts_in g es
+  same_sorts_in sorts names f g h Nil k = refl
+  same_sorts_in sorts names f g h (Cons e es) k =
+      let p = and_parts (is_stated sorts names e) (are_all (each_stated sorts names es)) k in
+      ap₂ (λ (o : Option Expression) (os : List (Option Expression)). o ∷ os) (same_sort_in sorts names f g h e p.0) (same_sorts_in sorts names f g h es p.1)
+
+  same_first_in : (sorts : List ℕ → ℕ → Bool) (names : List ℕ → Bool) (f g : Entries) → ((n : List ℕ) → names n ≡ true → f n ≡ g n) → (es : Expressions) → is_first (each_stated sorts names es) ≡ true → first_there (sorts_in f es) ≡ first_there (sorts_in g es)
+  same_first_in sorts names f g h Nil k = refl
+  same_first_in sorts names f g h (Cons e es) k = same_sort_in sorts names f g h e k
+
+-- two readings of names that agree on those that are there
+record Agree (names : List ℕ → Bool) (f g : Entries) (p q : Meaning) : Type 0 where
+  entry : (n : List ℕ) → names n ≡ true → f n ≡ g n
+  value : (n : List ℕ) → names n ≡ true → (s : Option Expression) (vs : List ScriptValue) → p n s vs ≡ q n s vs
+
+first_sort_same : (sorts : List ℕ → ℕ → Bool) (names : List ℕ → Bool) (f g : Entries) → ((n : List ℕ) → names n ≡ true → f n ≡ g n) → (es : Expressions) → are_all (each_stated sorts names es) ≡ true → first_sort f es ≡ first_sort g es
+first_sort_same sorts names f g h Nil k = refl
+first_sort_same sorts names f g h (Cons e es) k = same_sort_in sorts names f g h e (and_parts (is_stated sorts names e) (are_all (each_stated sorts names es)) k).0
+
+constant_same : (p q : Meaning) (n : List ℕ) → ((s : Option Expression) (vs : List ScriptValue) → p n s vs ≡ q n s vs) → constant p n ≡ constant q n
+constant_same p q n h = ap (λ (v : Option ScriptValue). constant (λ m s vs. v) n) (h None [])
+
+same_shape_value : (sorts : List ℕ → ℕ → Bool) (names : List ℕ → Bool) (f g : Entries) (p q : Meaning) → Agree names f g p q → (x : Shape) (known : List Bool) (s u : Option Expression) (vs ws : List (Option ScriptValue)) → (are_all known ≡ true → s ≡ u) → (are_all known ≡ true → vs ≡ ws) → (is_first known ≡ true → first_there vs ≡ first_there ws) → shape_is_known sorts names x known ≡ true → shape_value f p x s vs ≡ shape_value g q x u ws
+same_shape_value sorts names f g p q h (BitLiteral w n) known s u vs ws i k l e = refl
+same_shape_value sorts names f g p q h (Qualified c sort) known s u vs ws i k l e = ap (λ (v : Option ScriptValue). qualified_value (λ m x ys. v) c) (h.value c (and_parts (names c) (is_sort sorts sort) e).0 None [])
+same_shape_value sorts names f g p q h (Applied n) known s u vs ws i k l e =
+    let r = and_parts (names n) (are_all known) e in
+    ap₂ (λ (x : Option Expression) (o : List (Option ScriptValue)). each_there o >>= applied_value p n x) (i r.1) (k r.1)
+    ∙ bind_same (each_there ws) (applied_value p n u) (applied_value q n u) (λ ys. ap (λ (v : Option ScriptValue). by_operator (operator_of n) n ys v) (h.value n r.0 u ys))
+same_shape_value sorts names f g p q h (Extended bits) known s u vs ws i k l e = ap (λ (o : List (Option ScriptValue)). each_there o >>= operator_value (ZeroExtendOp bits)) (k e)
+same_shape_value sorts names f g p q h (Tested c) known s u vs ws i k l e =
+    let r = and_parts (names c) (are_all known) e in
+    ap₂ (λ (x : Option Entry) (o : List (Option ScriptValue)). each_there o >>= of_one (is_built x c)) (h.entry c r.0) (k r.1)
+same_shape_value sorts names f g p q h (Matched r) known s u vs ws i k l e = ap (λ (o : Option ScriptValue). o >>= λ v. operator_value (StringLikeOp r) (v ∷ [])) (l e)
+same_shape_value sorts names f g p q h Unformed known s u vs ws i k l e = refl
+
+mutual
+  same_value : (sorts : List ℕ → ℕ → Bool) (names : List ℕ → Bool) (f g : Entries) (p q : Meaning) → Agree names f g p q → (e : Expression) → is_stated sorts names e ≡ true → evaluate f p e ≡ evaluate g q e
+  same_value sorts names f g p q h (Leaf (Name n)) k = constant_same p q n (h.value n k)
+  same_value sorts names f g p q h (Leaf (Bits w n)) k = refl
+  same_value sorts names f g p q h (Leaf (Number n)) k = refl
+  same_value sorts names f g p q h (Leaf (Text t)) k = refl
+  same_value sorts names f g p q h (Node Nil) k = refl
+  same_value sorts names f g p q h (Node (Cons e es)) k =
+      same_shape_value sorts names f g p q h (shape e es) (each_stated sorts names es) (first_sort f es) (first_sort g es) (evaluate_each f p es) (evaluate_each g q es)
+      (λ x. first_sort_same sorts names f g h.entry es x) (λ x. same_values sorts names f g p q h es x) (λ x. same_first sorts names f g p q h es x) k
+
+  same_values : (sorts : List ℕ → ℕ → Bool) (names : List ℕ → Bool) (f g : Entries) (p q : Meaning) → Agree names f g p q → (es : Expressions) → are_all (each_stated sorts names es) ≡ true → evaluate_each f p es ≡ evaluate_each g q es
+  same_values sorts names f g p q h Nil k = refl
+  same_values sorts names f g p q h (Cons e es) k =
+      let r = and_parts (is_stated sorts names e) (are_all (each_stated sorts names es)) k in
+      ap₂ (λ (o : Option ScriptValue) (os : List (Option ScriptValue)). o ∷ os) (same_value sorts names f g p q h e r.0) (same_values sorts names f g p q h es r.1)
+
+  same_first : (sorts : List ℕ → ℕ → Bool) (names : List ℕ → Bool) (f g : Entries) (p q : Meaning) → Agree names f g p q → (es : Expressions) → is_first (each_stated sorts names es) ≡ true → first_there (evaluate_each f p es) ≡ first_there (evaluate_each g q es)
+  same_first sorts names f g p q h Nil k = refl
+  same_first sorts names f g p q h (Cons e es) k = same_value sorts names f g p q h e k
+
+-- ---- what is known stays known
+
+mutual
+  pub sort_still_known : (has more : List ℕ → ℕ → Bool) → ((n : List ℕ) (k : ℕ) → has n k ≡ true → more n k ≡ true) → (e : Expression) → is_sort has e ≡ true → is_sort more e ≡ true
+  sort_still_known has more h (Leaf (Name n)) k = h n 0 k
+  sort_still_known has more h (Node (Cons (Leaf (Name n)) (Cons e es))) k = elim (or_cases (bytes_eq n (codes "_") && is_bit_sort (Cons e es)) (has n (count (Cons e es)) && are_sorts has (Cons e es)) k) [
+    | inl p ↦ or_left (bytes_eq n (codes "_") && is_bit_sort (Cons e es)) (more n (count (Cons e es)) && are_sorts more (Cons e es)) p
+    | inr p ↦ (let q = and_parts (has n (count (Cons e es))) (are_sorts has (Cons e es)) p in
+        or_right (bytes_eq n (codes "_") && is_bit_sort (Cons e es)) (more n (count (Cons e es)) && are_sorts more (Cons e es))
+        (and_from (more n (count (Cons e es))) (are_sorts more (Cons e es)) (h n (count (Cons e es)) q.0) (sorts_still_known has more h (Cons e es) q.1)))
+  ]
+  sort_still_known has more h e k = absurd (false≢true k)
+
+  pub sorts_still_known : (has more : List ℕ → ℕ → Bool) → ((n : List ℕ) (k : ℕ) → has n k ≡ true → more n k ≡ true) → (es : Expressions) → are_sorts has es ≡ true → are_sorts more es ≡ true
+  sorts_still_known has more h Nil k = refl
+  sorts_still_known has more h (Cons e es) k =
+      let p = and_parts (is_sort has e) (are_sorts has es) k in
+      and_from (is_sort more e) (are_sorts more es) (sort_still_known has more h e p.0) (sorts_still_known has more h es p.1)
+
+shape_still : (sorts sorts' : List ℕ → ℕ → Bool) (names names' : List ℕ → Bool) → ((n : List ℕ) (k : ℕ) → sorts n k ≡ true → sorts' n k ≡ true) → ((n : List ℕ) → names n ≡ true → names' n ≡ true) → (x : Shape) (bs cs : List Bool) → (are_all bs ≡ true → are_all cs ≡ true) → (is_first bs ≡ true → is_first cs ≡ true) → shape_is_known sorts names x bs ≡ true → shape_is_known sorts' names' x cs ≡ true
+shape_still sorts sorts' names names' h k (BitLiteral w n) bs cs i l e = refl
+shape_still sorts sorts' names names' h k (Qualified n sort) bs cs i l e =
+    let p = and_parts (names n) (is_sort sorts sort) e in
+    and_from (names' n) (is_sort sorts' sort) (k n p.0) (sort_still_known sorts sorts' h sort p.1)
+shape_still sorts sorts' names names' h k (Applied n) bs cs i l e =
+    let p = and_parts (names n) (are_all bs) e in and_from (names' n) (are_all cs) (k n p.0) (i p.1)
+shape_still sorts sorts' names names' h k (Extended bits) bs cs i l e = i e
+shape_still sorts sorts' names names' h k (Tested n) bs cs i l e =
+    let p = and_parts (names n) (are_all bs) e in and_from (names' n) (are_all cs) (k n p.0) (i p.1)
+shape_still sorts sorts' names names' h k (Matched p) bs cs i l e = l e
+shape_still sorts sorts' names names' h k Unformed bs cs i l e = absurd (false≢true e)
+
+mutual
+  still_known : (sorts sorts' : List ℕ → ℕ → Bool) (names names' : List ℕ → Bool) → ((n : List ℕ) (k : ℕ) → sorts n k ≡ true → sorts' n k ≡ true) → ((n : List ℕ) → names n ≡ true → names' n ≡ true) → (e : Expression) → is_stated sorts names e ≡ true → is_stated sorts' names' e ≡ true
+  still_known sorts sorts' names names' h k (Leaf (Name n)) e = k n e
+  still_known sorts sorts' names names' h k (Leaf (Bits w n)) e = refl
+  still_known sorts sorts' names names' h k (Leaf (Number n)) e = refl
+  still_known sorts sorts' names names' h k (Leaf (Text t)) e = refl
+  still_known sorts sorts' names names' h k (Node Nil) e = e
+  still_known sorts sorts' names names' h k (Node (Cons f es)) e = shape_still sorts sorts' names names' h k (shape f es) (each_stated sorts names es) (each_stated sorts' names' es) (λ p. all_still_known sorts sorts' names names' h k es p) (λ p. first_still_known sorts sorts' names names' h k es p) e
+
+  all_still_known : (sorts sorts' : List ℕ → ℕ → Bool) (names names' : List ℕ → Bool) → ((n : List ℕ) (k : ℕ) → sorts n k ≡ true → sorts' n k ≡ true) → ((n : List ℕ) → names n ≡ true → names' n ≡ true) → (es : Expressions) → are_all (each_stated sorts names es) ≡ true → are_all (each_stated sorts' names' es) ≡ true
+  all_still_known sorts sorts' names names' h k Nil e = refl
+  all_still_known sorts sorts' names names' h k (Cons f es) e =
+      let p = and_parts (is_stated sorts names f) (are_all (each_stated sorts names es)) e in
+      and_from (is_stated sorts' names' f) (are_all (each_stated sorts' names' es)) (still_known sorts sorts' names names' h k f p.0) (all_still_known sorts sorts' names names' h k es p.1)
+
+  first_still_known : (sorts sorts' : List ℕ → ℕ → Bool) (names names' : List ℕ → Bool) → ((n : List ℕ) (k : ℕ) → sorts n k ≡ true → sorts' n k ≡ true) → ((n : List ℕ) → names n ≡ true → names' n ≡ true) → (es : Expressions) → is_first (each_stated sorts names es) ≡ true → is_first (each_stated sorts' names' es) ≡ true
+  first_still_known sorts sorts' names names' h k Nil e = e
+  first_still_known sorts sorts' names names' h k (Cons f es) e = still_known sorts sorts' names names' h k f e
+
+-- ---- what declarations keep
+
+-- each name of s has in t what it has in s
+record Keeps (j : ScriptInterpretation) (s t : State) : Type 0 where
+  there : (n : List ℕ) → has_name s n ≡ true → has_name t n ≡ true
+  sorts : (n : List ℕ) (k : ℕ) → has_sort s n k ≡ true → has_sort t n k ≡ true
+  same : Agree (has_name s) (entries t) (entries s) (meaning j (names_of t)) (meaning j (names_of s))
+
+keeps_itself : (j : ScriptInterpretation) (s t : State) → names_of s ≡ names_of t → ((n : List ℕ) (k : ℕ) → has_sort s n k ≡ true → has_sort t n k ≡ true) → Keeps j s t
+keeps_itself j s t e k = record {
+  sorts = k;
+  there = λ n h. subst (λ (names : List (List ℕ × Entry)). (is_in n built_in_names || is_in n (map (λ p. p.0) names)) ≡ true) e h;
+  same = record {
+    entry = λ n h. ap (λ (names : List (List ℕ × Entry)). look_up n names) (sym e);
+    value = λ n h x vs. ap (λ (names : List (List ℕ × Entry)). meaning j names n x vs) (sym e);
+  };
+}
+
+same_state : (j : ScriptInterpretation) (s t : State) → s ≡ t → Keeps j s t
+same_state j s t e = subst (λ (u : State). Keeps j s u) e (keeps_itself j s s refl (λ n k h. h))
+
+keeps_then : (j : ScriptInterpretation) (s t u : State) → Keeps j s t → Keeps j t u → Keeps j s u
+keeps_then j s t u p q = record {
+  sorts = λ n k h. q.sorts n k (p.sorts n k h);
+  there = λ n h. q.there n (p.there n h);
+  same = record {
+    entry = λ n h. q.same.entry n (p.there n h) ∙ p.same.entry n h;
+    value = λ n h x vs. q.same.value n (p.there n h) x vs ∙ p.same.value n h x vs;
+  };
+}
+
+some_is : (s t : State) → Some s ≡ Some t → s ≡ t
+some_is s t h = cc
+
+-- a test in a definition that gave a state
+if_not : (b : Bool) (o : Option State) (t : State) → cond b None o ≡ Some t → (b ≡ false) × (o ≡ Some t)
+if_not true o t h = absurd cc
+if_not false o t h = (refl, h)
+
+if_so : (b : Bool) (o : Option State) (t : State) → cond b o None ≡ Some t → (b ≡ true) × (o ≡ Some t)
+if_so true o t h = (refl, h)
+if_so false o t h = absurd cc
+
+bind_gives : (o : Option State) (f : State → Option State) (u : State) → (o >>= f) ≡ Some u → (t : State) × (o ≡ Some t) × (f t ≡ Some u)
+bind_gives (Some t) f u h = (t, refl, h)
+bind_gives None f u h = absurd cc
+
+declared_is : (n : List ℕ) (entry : Entry) (s t : State) → declare n entry s ≡ Some t → (has_name s n ≡ false) × (with_name n entry s ≡ t)
+declared_is n entry s t h =
+    let p = if_not (is_taken s n) (Some (with_name n entry s)) t h in
+    ((or_parts (has_name s n) (is_reserved n) p.0).0, some_is (with_name n entry s) t p.1)
+
+-- a name that is there is not the new one
+not_new : (s : State) (m n : List ℕ) → has_name s m ≡ true → has_name s n ≡ false → bytes_eq m n ≡ false
+not_new s m n h k = elim (cases_Bool (bytes_eq m n)) [
+  | inl e ↦ absurd (false≢true (sym k ∙ ap (has_name s) (sym ((bytes_eq-Decides m n).0 e)) ∙ h))
+  | inr e ↦ e
+]
+
+declare_keeps : (j : ScriptInterpretation) (n : List ℕ) (entry : Entry) (s t : State) → declare n entry s ≡ Some t → Keeps j s t
+declare_keeps j n entry s t h =
+    let p = declared_is n entry s t h in
+    subst (λ (u : State). Keeps j s u) p.1 (record {
+      sorts = λ m k e. e;
+      there = λ m k. elim (or_cases (is_in m built_in_names) (is_in m (map (λ q. q.0) (names_of s))) k) [
+        | inl e ↦ or_left (is_in m built_in_names) _ e
+        | inr e ↦ or_right (is_in m built_in_names) (bytes_eq m n || is_in m (map (λ q. q.0) (names_of s))) (or_right (bytes_eq m n) (is_in m (map (λ q. q.0) (names_of s))) e)
+      ];
+      same = record {
+        entry = λ m k. rw (not_new s m n k p.0) refl;
+        value = λ m k x vs. rw (not_new s m n k p.0) refl;
+      };
+    })
+
+selectors_keep : (j : ScriptInterpretation) (d : List ℕ) (ps : List (List ℕ)) (c : List ℕ) (place : ℕ) (xs : List (List ℕ × Expression)) (s t : State) → declare_selectors d ps c place xs s ≡ Some t → Keeps j s t
+selectors_keep j d ps c place [] s t h = same_state j s t (some_is s t h)
+selectors_keep j d ps c place (x ∷ xs) s t h =
+    let p = if_so (is_sort (λ n k. has_sort s n k || (is_in n ps && (eqb k 0))) x.1) (declare x.0 (Selects d ps c place x.1) s >>= declare_selectors d ps c (suc place) xs) t h in
+    let q = bind_gives (declare x.0 (Selects d ps c place x.1) s) (declare_selectors d ps c (suc place) xs) t p.1 in
+    keeps_then j s q.0 t (declare_keeps j x.0 (Selects d ps c place x.1) s q.0 q.1) (selectors_keep j d ps c (suc place) xs q.0 t q.2)
+
+constructors_keep : (j : ScriptInterpretation) (d : List ℕ) (ps : List (List ℕ)) (place : ℕ) (cs : List Constructor) (s t : State) → declare_constructors d ps place cs s ≡ Some t → Keeps j s t
+constructors_keep j d ps place [] s t h = same_state j s t (some_is s t h)
+constructors_keep j d ps place (c ∷ cs) s t h =
+    let x = Builds d ps place (map (λ y. y.1) c.selectors) in
+    let p = bind_gives (declare c.name x s) (λ u. declare_selectors d ps c.name 0 c.selectors u >>= declare_constructors d ps (suc place) cs) t h in
+    let q = bind_gives (declare_selectors d ps c.name 0 c.selectors p.0) (declare_constructors d ps (suc place) cs) t p.2 in
+    keeps_then j s p.0 t (declare_keeps j c.name x s p.0 p.1)
+    (keeps_then j p.0 q.0 t (selectors_keep j d ps c.name 0 c.selectors p.0 q.0 q.1) (constructors_keep j d ps (suc place) cs q.0 t q.2))
+
+more_sorts : (n d : List ℕ) (k parameters : ℕ) (s : State) → has_sort s n k ≡ true → has_sort (with_sort d parameters s) n k ≡ true
+more_sorts n d k parameters s h = or_right (bytes_eq n d && eqb parameters k) (has_sort s n k) h
+
+obey_keeps : (j : ScriptInterpretation) (c : Command) (s t : State) → (c ≡ Reset → ⊥) → (c ≡ Pop → ⊥) → obey c s ≡ Some t → Keeps j s t
+obey_keeps j (DeclareDatatype d ps cs) s t r v h =
+    let p = if_not (is_taken_sort s d || list_any (is_taken_sort s) ps) (declare_constructors d ps 0 cs s >>= λ u. Some (with_sort d (length ps) u)) t h in
+    let q = bind_gives (declare_constructors d ps 0 cs s) (λ u. Some (with_sort d (length ps) u)) t p.1 in
+    keeps_then j s q.0 t (constructors_keep j d ps 0 cs s q.0 q.1) (subst (λ (u : State). Keeps j q.0 u) (some_is (with_sort d (length ps) q.0) t q.2) (keeps_itself j q.0 (with_sort d (length ps) q.0) refl (λ n k e. more_sorts n d k (length ps) q.0 e)))
+obey_keeps j (DeclareConst n sort) s t r v h = declare_keeps j n (Constant sort) s t (if_so (is_sort (has_sort s) sort) (declare n (Constant sort) s) t h).1
+obey_keeps j (DefineFun n sort body) s t r v h = declare_keeps j n (Defined sort body) s t (if_so (is_sort (has_sort s) sort && knows s body) (declare n (Defined sort body) s) t h).1
+obey_keeps j (Assert e) s t r v h =
+    subst (λ (u : State). Keeps j s u) (some_is (with_assertion e s) t (if_so (knows s e) (Some (with_assertion e s)) t h).1) (keeps_itself j s (with_assertion e s) refl (λ n k i. i))
+obey_keeps j (DeclareFun f a sort) s t r v h = declare_keeps j f (Function a sort) s t (if_so (is_sort (has_sort s) a && is_sort (has_sort s) sort) (declare f (Function a sort) s) t h).1
+obey_keeps j Reset s t r v h = absurd (r refl)
+obey_keeps j Pop s t r v h = absurd (v refl)
+obey_keeps j Push s t r v h = subst (λ (u : State). Keeps j s u) (some_is (with_level s) t h) (keeps_itself j s (with_level s) refl (λ n k i. i))
+obey_keeps j Exit s t r v h = subst (λ (u : State). Keeps j s u) (some_is (record s { ended = true }) t h) (keeps_itself j s (record s { ended = true }) refl (λ n k i. i))
+obey_keeps j c s t r v h = same_state j s t (some_is s t h)
+
+if_either : (b : Bool) (o p : Option State) (t : State) → cond b o p ≡ Some t → ((b ≡ true) × (o ≡ Some t)) ⊎ ((b ≡ false) × (p ≡ Some t))
+if_either true o p t h = inl (refl, h)
+if_either false o p t h = inr (refl, h)
+
+step_keeps : (j : ScriptInterpretation) (c : Command) (s t : State) → (c ≡ Reset → ⊥) → (c ≡ Pop → ⊥) → step c s ≡ Some t → Keeps j s t
+step_keeps j c s t r v h = elim (if_either s.ended (Some s) (obey c s) t h) [
+  | inl p ↦ same_state j s t (some_is s t p.1)
+  | inr p ↦ obey_keeps j c s t r v p.1
+]
+
+pub steps_keep_values : StepsKeepValues
+steps_keep_values j c s t e r v h k =
+    let keeps = step_keeps j c s t r v h in (
+      still_known (has_sort s) (has_sort t) (has_name s) (has_name t) keeps.sorts keeps.there e k,
+      same_value (has_sort s) (has_name s) (entries t) (entries s) (meaning j (names_of t)) (meaning j (names_of s)) keeps.same e k,
+      same_sort_in (has_sort s) (has_name s) (entries t) (entries s) keeps.same.entry e k,
+    )
+
+-- ---- the new name
+
+-- a name that isn't built in stands for what is declared
+bytes_same : (n : List ℕ) → bytes_eq n n ≡ true
+bytes_same n = (bytes_eq-Decides n n).1 refl
+
+record IsNew (j : ScriptInterpretation) (n : List ℕ) (entry : Entry) (s t : State) : Type 0 where
+  there : has_name t n ≡ true
+  value : constant (meaning j (names_of t)) n ≡ entry_meaning j n (evaluate (entries s) (meaning j (names_of s)) (body_of entry)) entry None []
+  sort : sort_of t (Leaf (Name n)) ≡ entry_sort entry []
+
+new_name : (j : ScriptInterpretation) (n : List ℕ) (entry : Entry) (s t : State) → declare n entry s ≡ Some t → IsNew j n entry s t
+new_name j n entry s t h =
+    let p = declared_is n entry s t h in
+    let b = or_parts (is_in n built_in_names) (is_in n (map (λ q. q.0) (names_of s))) p.0 in
+    let c = or_parts (bytes_eq n (codes "true")) _ b.0 in
+    let d = or_parts (bytes_eq n (codes "false")) _ c.1 in
+    subst (λ (u : State). IsNew j n entry s u) p.1 (record {
+      there = or_right (is_in n built_in_names) (bytes_eq n n || is_in n (map (λ q. q.0) (names_of s))) (or_left (bytes_eq n n) (is_in n (map (λ q. q.0) (names_of s))) (bytes_same n));
+      value = rw (c.0, d.0, bytes_same n) refl;
+      sort = rw (c.0, d.0, bytes_same n) refl;
+    })
+
+not_ended : (c : Command) (s t : State) → s.ended ≡ false → step c s ≡ Some t → obey c s ≡ Some t
+not_ended c s t e h = elim (if_either s.ended (Some s) (obey c s) t h) [
+  | inl p ↦ absurd (false≢true (sym e ∙ p.0))
+  | inr p ↦ p.1
+]
+
+pub names_have_values : NamesHaveValues
+names_have_values j n sort body s t e = (
+  λ h. (let new = new_name j n (Defined sort body) s t (if_so (is_sort (has_sort s) sort && knows s body) (declare n (Defined sort body) s) t (not_ended (DefineFun n sort body) s t e h)).1 in (new.there, new.value, new.sort)),
+  λ h. (let new = new_name j n (Constant sort) s t (if_so (is_sort (has_sort s) sort) (declare n (Constant sort) s) t (not_ended (DeclareConst n sort) s t e h)).1 in (new.there, new.value, new.sort)),
+)

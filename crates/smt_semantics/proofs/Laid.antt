@@ -1,0 +1,245 @@
+-- The texts of sorts and expressions, and the lines of all commands, each from its brackets.
+use Rattle.std.proofs.Common.{◌≡◌, ℕ, ◌+◌, ◌*◌, ◌-◌, ◌/◌, ◌%◌, ◌<◌, ◌^◌, Bool, true, ◌&&◌, List, [], ◌∷◌, ◌++◌, map, refl, sym, ap, ◌∙◌, subst, append_assoc, Option, Some, None, arith}
+use Rattle.std.specs.Prelude.{codes, decimal}
+use Rattle.std.specs.List.{list_all, fold}
+use Rattle.std.proofs.lemmas.Bool.{not-true, cond-true, cond-false, and_parts, and_from, agree_below_at}
+use Rattle.std.proofs.lemmas.List.Folds.{list_all-append}
+use Rattle.std.proofs.lemmas.Fmt.{decimal_by_steps_wide}
+use Rattle.smt_sexpr.specs.Lexicon.{is_digit, digit_value, number_in, some_all, is_symbol_byte, is_plain_byte, Number}
+use Rattle.smt_sexpr.specs.Reading.{Expression, Leaf}
+use Rattle.smt_semantics.specs.Script.{Command, DeclareDatatype, DeclareFun, SetLogic, SetOption, CheckSat, GetModel, Reset, Exit, Push, Pop, constructor, group, name, State, start, step, run, ◌>>=◌, obey}
+use Rattle.smt_semantics.specs.Written.{Writes, Item, laid, AreSpread, bracketed, listed, IsName}
+use Rattle.smt_semantics.specs.Texts.{Part, AreWritten, spaced, GroupsWrite, BitsWrite, BitSortsWrite, BitsHaveValues, ConstructorPart, AreConstructors, below_each, constructor_lines, DatatypeLine, SelectorsWrite, DeclareFunLine, SetLogicLine, SetOptionLine, PlainLines, CommandsExtend, AreSorted, OnState, SortedLinesAdd, SortedCommentsAdd}
+use Rattle.smt_semantics.proofs.Append.{holds_append, run_append}
+use Rattle.smt_semantics.proofs.Lines.{brackets_write, names_write, numerals_write, lines_add}
+use Rattle.smt_semantics.proofs.First.{first, next, below, line_of}
+
+-- ---- any number of arguments
+
+abbrev spread : List Part → List Item
+spread ps = map (λ p. next p.text p.expr) ps
+
+are_spread : (ps : List Part) → AreWritten ps → AreSpread (spread ps)
+are_spread [] h = tt
+are_spread (p ∷ ps) h = (refl, h.0, are_spread ps h.1)
+
+laid_spread : (ps : List Part) (end : List ℕ) → laid (spread ps) end ≡ spaced ps end
+laid_spread [] end = refl
+laid_spread (p ∷ ps) end = ap (λ (t : List ℕ). codes " " ++ (p.text ++ t)) (laid_spread ps end)
+
+spread_exprs : (ps : List Part) → map (λ i. i.expr) (spread ps) ≡ map (λ p. p.expr) ps
+spread_exprs [] = refl
+spread_exprs (p ∷ ps) = ap (λ (es : List Expression). p.expr ∷ es) (spread_exprs ps)
+
+pub groups_write : GroupsWrite
+groups_write head h ps gap w v g =
+    let items = first head h ∷ spread ps in
+    let e : bracketed items gap ≡ codes "(" ++ (head ++ spaced ps (gap ++ codes ")")) = ap (λ (t : List ℕ). codes "(" ++ (head ++ t)) (laid_spread ps (gap ++ codes ")")) in
+    let f : listed items ≡ group (h ∷ map (λ p. p.expr) ps) = ap (λ (es : List Expression). group (h ∷ es)) (spread_exprs ps) in
+    subst (λ (t : List ℕ). Writes t (group (h ∷ map (λ p. p.expr) ps))) e
+    (subst (λ (x : Expression). Writes (bracketed items gap) x) f (brackets_write items gap (refl, w, are_spread ps v) g))
+
+-- ---- numbers
+
+abbrev suits : ℕ → Bool
+suits b = is_symbol_byte b && (is_plain_byte b && is_digit b)
+
+digit_suits : (d : ℕ) → d < 10 → suits (48 + d) ≡ true
+digit_suits d h = agree_below_at (λ n. suits (48 + n)) (λ n. true) 10 d refl h
+
+digit_is : (d : ℕ) → d < 10 → is_digit (48 + d) ≡ true
+digit_is d h = agree_below_at (λ n. is_digit (48 + n)) (λ n. true) 10 d refl h
+
+value_is : (d : ℕ) → d < 10 → digit_value (48 + d) ≡ d
+value_is d h =
+    let e : 48 + d - 48 ≡ d = omega arith in
+    cond-true (is_digit (48 + d)) (48 + d - 48) _ (digit_is d h) ∙ e
+
+fold_last : (f : ℕ → ℕ → ℕ) (b : ℕ) (xs : List ℕ) (x : ℕ) → fold f b (xs ++ (x ∷ [])) ≡ f (fold f b xs) x
+fold_last f b [] x = refl
+fold_last f b (y ∷ xs) x = fold_last f (f b y) xs x
+
+record IsDecimal (n : ℕ) (ds : List ℕ) : Type 0 where
+  suit : list_all suits ds ≡ true
+  some : some_all is_digit ds ≡ true
+  value : number_in 10 ds ≡ n
+
+some_digits : (ds : List ℕ) (d : ℕ) → some_all is_digit ds ≡ true → is_digit d ≡ true → some_all is_digit (ds ++ (d ∷ [])) ≡ true
+some_digits [] d h k = and_from (is_digit d) true k refl
+some_digits (c ∷ cs) d h k =
+    let p = and_parts (is_digit c) (list_all is_digit cs) h in
+    and_from (is_digit c) (list_all is_digit (cs ++ (d ∷ []))) p.0 (list_all-append is_digit cs (d ∷ []) ∙ and_from (list_all is_digit cs) (is_digit d && true) p.1 (and_from (is_digit d) true k refl))
+
+is_decimal : (n : ℕ) → n < 10 ^ 64 → IsDecimal n (decimal n)
+is_decimal n h = decimal_by_steps_wide IsDecimal
+    (λ k l. record { suit = and_from (suits (48 + k)) true (digit_suits k l) refl; some = and_from (is_digit (48 + k)) true (digit_is k l) refl; value = one_digit (digit_value (48 + k)) ∙ value_is k l })
+    (λ k ds l p. (let m : k % 10 < 10 = omega arith in
+    record {
+      suit = list_all-append suits ds ((48 + k % 10) ∷ []) ∙ and_from (list_all suits ds) (suits (48 + k % 10) && true) p.suit (and_from (suits (48 + k % 10)) true (digit_suits (k % 10) m) refl);
+      some = some_digits ds (48 + k % 10) p.some (digit_is (k % 10) m);
+      value = fold_last (λ a d. a * 10 + digit_value d) 0 ds (48 + k % 10) ∙ last_step k (number_in 10 ds) (digit_value (48 + k % 10)) p.value (value_is (k % 10) m);
+    })) n h
+  where
+    one_digit : (x : ℕ) → 0 + x ≡ x
+    one_digit x = omega arith
+
+    last_step : (k a b : ℕ) → a ≡ k / 10 → b ≡ k % 10 → a * 10 + b ≡ k
+    last_step k a b e f = omega arith
+
+each_part : (p q : ℕ → Bool) (bs : List ℕ) → list_all (λ b. p b && q b) bs ≡ true → (list_all p bs ≡ true) × (list_all q bs ≡ true)
+each_part p q [] h = (refl, refl)
+each_part p q (b ∷ bs) h =
+    let x = and_parts (p b && q b) (list_all (λ c. p c && q c) bs) h in
+    let y = and_parts (p b) (q b) x.0 in
+    let z = each_part p q bs x.1 in
+    (and_from (p b) (list_all p bs) y.0 z.0, and_from (q b) (list_all q bs) y.1 z.1)
+
+bit_name : (n : ℕ) → n < 10 ^ 64 → IsName (codes "bv" ++ decimal n)
+bit_name n h =
+    let p = each_part is_symbol_byte (λ b. is_plain_byte b && is_digit b) (decimal n) (is_decimal n h).suit in
+    let q = each_part is_plain_byte is_digit (decimal n) p.1 in
+    and_from (list_all is_symbol_byte (decimal n)) (list_all is_plain_byte (decimal n)) p.0 q.0
+
+number_writes : (n : ℕ) → n < 10 ^ 64 → Writes (decimal n) (Leaf (Number n))
+number_writes n h = let d = is_decimal n h in subst (λ (m : ℕ). Writes (decimal n) (Leaf (Number m))) d.value (numerals_write (decimal n) d.some)
+
+abbrev part : List ℕ → Expression → Part
+part t e = record { text = t; expr = e }
+
+pub bits_write : BitsWrite
+bits_write width number h k =
+    let w = groups_write (codes "_") (name (codes "_")) (part (codes "bv" ++ decimal number) (name (codes "bv" ++ decimal number)) ∷ part (decimal width) (Leaf (Number width)) ∷ []) []
+    (names_write (codes "_") refl) (names_write (codes "bv" ++ decimal number) (bit_name number k), (number_writes width h, tt)) refl in
+    w
+
+pub bit_sorts_write : BitSortsWrite
+bit_sorts_write width h =
+    groups_write (codes "_") (name (codes "_")) (part (codes "BitVec") (name (codes "BitVec")) ∷ part (decimal width) (Leaf (Number width)) ∷ []) []
+    (names_write (codes "_") refl) (names_write (codes "BitVec") refl, (number_writes width h, tt)) refl
+
+pub bits_have_values : BitsHaveValues
+bits_have_values here env width number h k =
+    let d = is_decimal number h in
+    rw (d.some, d.value, k) refl
+
+-- ---- lines
+
+abbrev below_parts : List ConstructorPart → List Item
+below_parts cs = map (λ c. below c.text (constructor c.built)) cs
+
+below_spread : (cs : List ConstructorPart) → AreConstructors cs → AreSpread (below_parts cs)
+below_spread [] h = tt
+below_spread (c ∷ cs) h = (refl, h.0, below_spread cs h.1)
+
+laid_below : (cs : List ConstructorPart) (end : List ℕ) → laid (below_parts cs) end ≡ below_each cs end
+laid_below [] end = refl
+laid_below (c ∷ cs) end = ap (λ (t : List ℕ). codes "\n  " ++ (c.text ++ t)) (laid_below cs end)
+
+below_exprs : (cs : List ConstructorPart) → map (λ i. i.expr) (below_parts cs) ≡ map constructor (map (λ c. c.built) cs)
+below_exprs [] = refl
+below_exprs (c ∷ cs) = ap (λ (es : List Expression). constructor c.built ∷ es) (below_exprs cs)
+
+below_append : (cs : List ConstructorPart) (a b : List ℕ) → below_each cs a ++ b ≡ below_each cs (a ++ b)
+below_append [] a b = refl
+below_append (c ∷ cs) a b = ap (λ (t : List ℕ). codes "\n  " ++ t) (append_assoc c.text (below_each cs a) b ∙ ap (λ (t : List ℕ). c.text ++ t) (below_append cs a b))
+
+lines_append : (cs : List ConstructorPart) (a b : List ℕ) → constructor_lines cs a ++ b ≡ constructor_lines cs (a ++ b)
+lines_append [] a b = refl
+lines_append (c ∷ cs) a b = below_append (c ∷ cs) a b
+
+constructors_write : (cs : List ConstructorPart) → AreConstructors cs → Writes (codes "(" ++ constructor_lines cs (codes ")")) (group (map constructor (map (λ c. c.built) cs)))
+constructors_write [] h = brackets_write [] (codes "\n  ") tt refl
+constructors_write (c ∷ cs) h =
+    subst (λ (t : List ℕ). Writes t (group (map constructor (map (λ x. x.built) (c ∷ cs))))) (ap (λ (t : List ℕ). codes "(" ++ t) (laid_below (c ∷ cs) (codes ")")))
+    (subst (λ (es : List Expression). Writes (bracketed (below_parts (c ∷ cs)) []) (group es)) (below_exprs (c ∷ cs))
+    (brackets_write (below_parts (c ∷ cs)) [] (refl, h.0, below_spread cs h.1) refl))
+
+pub datatype_line : DatatypeLine
+datatype_line d cs h k =
+    let w = groups_write (codes "declare-datatype") (name (codes "declare-datatype")) (part d (name d) ∷ part (codes "(" ++ constructor_lines cs (codes ")")) (group (map constructor (map (λ c. c.built) cs))) ∷ []) []
+    (names_write (codes "declare-datatype") refl) (names_write d h, (constructors_write cs k, tt)) refl in
+    let inner = constructor_lines cs (codes ")") in
+    line_of _ _ (DeclareDatatype d [] (map (λ c. c.built) cs)) w
+    (ap (λ (t : List ℕ). codes "(declare-datatype " ++ t)
+    (append_assoc d (codes " (" ++ (inner ++ codes ")")) (codes "\n")
+    ∙ ap (λ (t : List ℕ). d ++ (codes " (" ++ t)) (append_assoc inner (codes ")") (codes "\n") ∙ lines_append cs (codes ")") (codes ")\n"))))
+
+pub selectors_write : SelectorsWrite
+selectors_write c ps gap h w g e =
+    subst (λ (es : List Expression). Writes (codes "(" ++ (c.name ++ spaced ps (gap ++ codes ")"))) (group (name c.name ∷ es))) e (groups_write c.name (name c.name) ps gap (names_write c.name h) w g)
+
+pub declare_fun_line : DeclareFunLine
+declare_fun_line f argument sort a s h w v =
+    let arguments = brackets_write (first argument a ∷ []) [] (refl, w, tt) refl in
+    let all = groups_write (codes "declare-fun") (name (codes "declare-fun")) (part f (name f) ∷ part (bracketed (first argument a ∷ []) []) (group (a ∷ [])) ∷ part sort s ∷ []) []
+    (names_write (codes "declare-fun") refl) (names_write f h, (arguments, (v, tt))) refl in
+    let end = codes " " ++ (sort ++ codes ")") in
+    line_of _ _ (DeclareFun f a s) all
+    (ap (λ (t : List ℕ). codes "(declare-fun " ++ t)
+    (append_assoc f (codes " (" ++ ((argument ++ codes ")") ++ end)) (codes "\n")
+    ∙ ap (λ (t : List ℕ). f ++ (codes " (" ++ t)) (append_assoc (argument ++ codes ")") end (codes "\n") ∙ append_assoc argument (codes ")") (end ++ codes "\n") ∙ ap (λ (t : List ℕ). argument ++ (codes ") " ++ t)) (append_assoc sort (codes ")") (codes "\n")))))
+
+pub set_logic_line : SetLogicLine
+set_logic_line l h = line_of _ _ (SetLogic l) (groups_write (codes "set-logic") (name (codes "set-logic")) (part l (name l) ∷ []) [] (names_write (codes "set-logic") refl) (names_write l h, tt) refl) (simp append_assoc)
+
+pub set_option_line : SetOptionLine
+set_option_line o v e h w = line_of _ _ (SetOption o e) (groups_write (codes "set-option") (name (codes "set-option")) (part (codes ":" ++ o) (name (codes ":" ++ o)) ∷ part v e ∷ []) [] (names_write (codes "set-option") refl) (names_write (codes ":" ++ o) h, (w, tt)) refl) (simp append_assoc)
+
+alone : (word : List ℕ) → IsName word → Writes (codes "(" ++ (word ++ codes ")")) (group (name word ∷ []))
+alone word h = groups_write word (name word) [] [] (names_write word h) tt refl
+
+by_one : (word : List ℕ) → IsName word → Writes (codes "(" ++ (word ++ codes " 1)")) (group (name word ∷ Leaf (Number 1) ∷ []))
+by_one word h = groups_write word (name word) (part (codes "1") (Leaf (Number 1)) ∷ []) [] (names_write word h) (numerals_write (codes "1") refl, tt) refl
+
+pub plain_lines : PlainLines
+plain_lines = (
+  line_of _ _ CheckSat (alone (codes "check-sat") refl) refl,
+  line_of _ _ GetModel (alone (codes "get-model") refl) refl,
+  line_of _ _ Reset (alone (codes "reset") refl) refl,
+  line_of _ _ Exit (alone (codes "exit") refl) refl,
+  line_of _ _ Push (by_one (codes "push") refl) refl,
+  line_of _ _ Pop (by_one (codes "pop") refl) refl,
+)
+
+pub commands_extend : CommandsExtend
+commands_extend text line c s t stands is-line obeys goes-on =
+    let steps : step c s ≡ Some t = cond-false s.ended (Some s) (obey c s) (not-true s.ended stands.running) ∙ obeys in
+    let after = (lines_add text line c s t stands.whole stands.script is-line).0 steps in
+    record { whole = after.1; script = after.0; running = goes-on }
+
+-- ---- well-sorted scripts
+
+some_is : (s t : State) → Some s ≡ Some t → s ≡ t
+some_is s t h = cc
+
+carried : (P Q : State → Type 0) (f : State → Option State) (o : Option State) (t : State) → ((u : State) → P u → f u ≡ Some t → Q u) → OnState P o → (o >>= f) ≡ Some t → OnState Q o
+carried P Q f None t g h e = h
+carried P Q f (Some u) t g h e = g u h e
+
+more_sorted : (cs ds : List Command) (s t : State) → AreSorted cs s → run cs s ≡ Some t → AreSorted ds t → AreSorted (cs ++ ds) s
+more_sorted [] ds s t h e k = subst (λ (u : State). AreSorted ds u) (some_is t s (sym e)) k
+more_sorted (c ∷ cs) ds s t h e k = (h.0, carried (AreSorted cs) (AreSorted (cs ++ ds)) (run cs) (step c s) t (λ u i f. more_sorted cs ds u t i f k) h.1 e)
+
+sorted_from : (o : Option State) (t : State) → o ≡ Some t → OnState (AreSorted []) o
+sorted_from None t h = absurd cc
+sorted_from (Some s) t h = tt
+
+pub sorted_lines_add : SortedLinesAdd
+sorted_lines_add text line c s t whole sorted is-line steps is-sorted = record {
+  script = record {
+    commands = sorted.script.commands ++ c ∷ [];
+    holds = holds_append text line sorted.script.commands (c ∷ []) whole sorted.script.holds is-line.holds;
+    runs = run_append sorted.script.commands (c ∷ []) start ∙ (rw sorted.script.runs (rw steps refl));
+  };
+  sorted = more_sorted sorted.script.commands (c ∷ []) start s sorted.sorted sorted.script.runs (is-sorted, sorted_from (step c s) t steps);
+}
+
+pub sorted_comments_add : SortedCommentsAdd
+sorted_comments_add text line s whole sorted is-line = record {
+  script = record {
+    commands = sorted.script.commands ++ [];
+    holds = holds_append text line sorted.script.commands [] whole sorted.script.holds is-line.holds;
+    runs = run_append sorted.script.commands [] start ∙ (rw sorted.script.runs refl);
+  };
+  sorted = more_sorted sorted.script.commands [] start s sorted.sorted sorted.script.runs tt;
+}

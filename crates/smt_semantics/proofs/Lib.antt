@@ -1,0 +1,16 @@
+pub mod Append
+pub mod Apply
+pub mod Commands
+pub mod Datatypes
+pub mod Extend
+pub mod First
+pub mod Free
+pub mod Grown
+pub mod Keeps
+pub mod Laid
+pub mod Lines
+pub mod LongSampled
+pub mod Numbers
+pub mod Quotes
+pub mod Ranks
+pub mod Sampled

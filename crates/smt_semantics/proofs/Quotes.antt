@@ -1,0 +1,280 @@
+-- What is written of code points is read as these.
+use Rattle.std.proofs.Common.{◌≡◌, ℕ, suc, ◌/◌, ◌%◌, ◌<◌, Bool, true, false, not, ◌&&◌, eqb, List, [], ◌∷◌, ◌++◌, map, refl, sym, ap, ◌∙◌, subst, inl, inr, Option, Some, None, append_assoc, arith}
+use Rattle.std.specs.Prelude.{codes, take, length}
+use Rattle.std.specs.List.{flat_map, list_all}
+use Rattle.std.specs.Fmt.{digits, digit_glyph}
+use Rattle.std.proofs.lemmas.Bool.{and_parts, and_from, cases_Bool, cond-true, cond-false, false≢true, eqb-true, eq-eqb, agree_below_at, leb-true}
+use Rattle.std.proofs.lemmas.List.Folds.{list_all-append}
+use Rattle.smt_sexpr.specs.Lexicon.{short_escape, braced_escape, is_printable, is_hexadecimal, digit_value, number_in, escape, decoded, Text}
+use Rattle.smt_sexpr.specs.Reading.{Leaf}
+use Rattle.smt_semantics.specs.Written.{Writes, quoted}
+use Rattle.smt_semantics.specs.Quoting.{escaped, is_point, TextsWrite}
+use Rattle.smt_semantics.proofs.Lines.{strings_write, names_write}
+use Rattle.smt_semantics.proofs.Laid.{groups_write}
+use Rattle.smt_term.specs.Plain.{PatternPart, Character, Wildcard}
+use Rattle.smt_sexpr.specs.Reading.{Expression}
+use Rattle.smt_semantics.specs.Script.{exprs, group, name, pattern, pattern_part, pattern_parts, ◌>>=◌}
+use Rattle.smt_semantics.specs.Texts.{Part, AreWritten}
+use Rattle.smt_semantics.specs.Quoting.{part_text, part_expr, pattern_text, pattern_expr, is_written_part, PatternsWrite}
+
+record IsGlyph (d a : ℕ) : Type 0 where
+  hex : is_hexadecimal a ≡ true
+  apart : eqb a 125 ≡ false
+  value : digit_value a ≡ d
+  printable : is_printable a ≡ true
+
+glyph : (d : ℕ) → d < 16 → IsGlyph d (digit_glyph false d)
+glyph d h = record {
+  hex = agree_below_at (λ n. is_hexadecimal (digit_glyph false n)) (λ n. true) 16 d refl h;
+  apart = agree_below_at (λ n. eqb (digit_glyph false n) 125) (λ n. false) 16 d refl h;
+  value = eqb-true (digit_value (digit_glyph false d)) d (agree_below_at (λ n. eqb (digit_value (digit_glyph false n)) n) (λ n. true) 16 d refl h);
+  printable = agree_below_at (λ n. is_printable (digit_glyph false n)) (λ n. true) 16 d refl h;
+}
+
+abbrev behind : List ℕ → List ℕ → List ℕ
+behind ds rest = 92 ∷ 117 ∷ 123 ∷ (ds ++ (125 ∷ rest))
+
+short_none : (xs : List ℕ) → short_escape (92 ∷ 117 ∷ 123 ∷ xs) ≡ None
+short_none xs = elim (cases_Bool (eqb (length (take 4 (123 ∷ xs))) 4)) [ inl e ↦ rw e refl | inr e ↦ rw e refl ]
+
+abbrev Decodes : ℕ → List ℕ → Type 0
+Decodes c ds = (rest : List ℕ) → decoded 0 (behind ds rest) ≡ c ∷ decoded 0 rest
+
+decodes : (k c : ℕ) (bs rest : List ℕ) → escape (92 ∷ bs) ≡ Some (record { len = suc k; point = c }) → decoded k bs ≡ decoded 0 rest → decoded 0 (92 ∷ bs) ≡ c ∷ decoded 0 rest
+decodes k c bs rest e f = rw e (ap (λ (t : List ℕ). c ∷ t) f)
+
+escape_1 : (a c : ℕ) → list_all is_hexadecimal (a ∷ []) ≡ true → number_in 16 (a ∷ []) ≡ c → is_point c ≡ true → Decodes c (a ∷ [])
+escape_1 a c h v p rest =
+    let bs = behind (a ∷ []) rest in
+    let y : braced_escape 1 bs ≡ Some (record { len = 5; point = c }) = rw (h, v, p) refl in
+    decodes 4 c (117 ∷ 123 ∷ a ∷ 125 ∷ rest) rest (rw (short_none (a ∷ 125 ∷ rest), y) refl) refl
+
+escape_2 : (a b c : ℕ) → list_all is_hexadecimal (a ∷ b ∷ []) ≡ true → eqb b 125 ≡ false → number_in 16 (a ∷ b ∷ []) ≡ c → is_point c ≡ true → Decodes c (a ∷ b ∷ [])
+escape_2 a b c h h1 v p rest =
+    let bs = behind (a ∷ b ∷ []) rest in
+    let n1 : braced_escape 1 bs ≡ None = rw h1 refl in
+    let y : braced_escape 2 bs ≡ Some (record { len = 6; point = c }) = rw (h, v, p) refl in
+    decodes 5 c (117 ∷ 123 ∷ a ∷ b ∷ 125 ∷ rest) rest (rw (short_none (a ∷ b ∷ 125 ∷ rest), n1, y) refl) refl
+
+escape_3 : (a b d c : ℕ) → list_all is_hexadecimal (a ∷ b ∷ d ∷ []) ≡ true → eqb b 125 ≡ false → eqb d 125 ≡ false → number_in 16 (a ∷ b ∷ d ∷ []) ≡ c → is_point c ≡ true → Decodes c (a ∷ b ∷ d ∷ [])
+escape_3 a b d c h h1 h2 v p rest =
+    let bs = behind (a ∷ b ∷ d ∷ []) rest in
+    let n1 : braced_escape 1 bs ≡ None = rw h1 refl in
+    let n2 : braced_escape 2 bs ≡ None = rw h2 refl in
+    let y : braced_escape 3 bs ≡ Some (record { len = 7; point = c }) = rw (h, v, p) refl in
+    decodes 6 c (117 ∷ 123 ∷ a ∷ b ∷ d ∷ 125 ∷ rest) rest (rw (short_none (a ∷ b ∷ d ∷ 125 ∷ rest), n1, n2, y) refl) refl
+
+escape_4 : (a b d e c : ℕ) → list_all is_hexadecimal (a ∷ b ∷ d ∷ e ∷ []) ≡ true → eqb b 125 ≡ false → eqb d 125 ≡ false → eqb e 125 ≡ false → number_in 16 (a ∷ b ∷ d ∷ e ∷ []) ≡ c → is_point c ≡ true → Decodes c (a ∷ b ∷ d ∷ e ∷ [])
+escape_4 a b d e c h h1 h2 h3 v p rest =
+    let bs = behind (a ∷ b ∷ d ∷ e ∷ []) rest in
+    let n1 : braced_escape 1 bs ≡ None = rw h1 refl in
+    let n2 : braced_escape 2 bs ≡ None = rw h2 refl in
+    let n3 : braced_escape 3 bs ≡ None = rw h3 refl in
+    let y : braced_escape 4 bs ≡ Some (record { len = 8; point = c }) = rw (h, v, p) refl in
+    decodes 7 c (117 ∷ 123 ∷ a ∷ b ∷ d ∷ e ∷ 125 ∷ rest) rest (rw (short_none (a ∷ b ∷ d ∷ e ∷ 125 ∷ rest), n1, n2, n3, y) refl) refl
+
+escape_5 : (a b d e f c : ℕ) → list_all is_hexadecimal (a ∷ b ∷ d ∷ e ∷ f ∷ []) ≡ true → eqb b 125 ≡ false → eqb d 125 ≡ false → eqb e 125 ≡ false → eqb f 125 ≡ false → number_in 16 (a ∷ b ∷ d ∷ e ∷ f ∷ []) ≡ c → is_point c ≡ true → Decodes c (a ∷ b ∷ d ∷ e ∷ f ∷ [])
+escape_5 a b d e f c h h1 h2 h3 h4 v p rest =
+    let bs = behind (a ∷ b ∷ d ∷ e ∷ f ∷ []) rest in
+    let n1 : braced_escape 1 bs ≡ None = rw h1 refl in
+    let n2 : braced_escape 2 bs ≡ None = rw h2 refl in
+    let n3 : braced_escape 3 bs ≡ None = rw h3 refl in
+    let n4 : braced_escape 4 bs ≡ None = rw h4 refl in
+    let y : braced_escape 5 bs ≡ Some (record { len = 9; point = c }) = rw (h, v, p) refl in
+    decodes 8 c (117 ∷ 123 ∷ a ∷ b ∷ d ∷ e ∷ f ∷ 125 ∷ rest) rest (rw (short_none (a ∷ b ∷ d ∷ e ∷ f ∷ 125 ∷ rest), n1, n2, n3, n4, y) refl) refl
+
+record Writing (c : ℕ) (ds : List ℕ) : Type 0 where
+  decodes : Decodes c ds
+  printable : list_all is_printable ds ≡ true
+
+writing_1 : (c : ℕ) → eqb (c / 16) 0 ≡ true → is_point c ≡ true → Writing c (digits 16 false c)
+unfolding digits
+writing_1 c e1 p =
+    let m0 : c % 16 < 16 = omega arith in
+    let g0 = glyph (c % 16) m0 in
+    let z = eqb-true (c / 16) 0 e1 in
+    let ds : List ℕ = digit_glyph false (c % 16) ∷ [] in
+    let v : number_in 16 ds ≡ c = rw (g0.value) (omega arith) in
+    let hex : list_all is_hexadecimal ds ≡ true = rw (g0.hex) refl in
+    let print : list_all is_printable ds ≡ true = rw (g0.printable) refl in
+    let e : ds ≡ digits 16 false c = rw (e1) refl in
+    subst (λ (t : List ℕ). Writing c t) e (record { decodes = escape_1 (digit_glyph false (c % 16)) c hex v p; printable = print })
+
+writing_2 : (c : ℕ) → eqb (c / 16) 0 ≡ false → eqb (c / 16 / 16) 0 ≡ true → is_point c ≡ true → Writing c (digits 16 false c)
+unfolding digits
+writing_2 c e1 e2 p =
+    let m0 : c % 16 < 16 = omega arith in
+    let g0 = glyph (c % 16) m0 in
+    let m1 : c / 16 % 16 < 16 = omega arith in
+    let g1 = glyph (c / 16 % 16) m1 in
+    let z = eqb-true (c / 16 / 16) 0 e2 in
+    let ds : List ℕ = digit_glyph false (c / 16 % 16) ∷ digit_glyph false (c % 16) ∷ [] in
+    let v : number_in 16 ds ≡ c = rw (g1.value, g0.value) (omega arith) in
+    let hex : list_all is_hexadecimal ds ≡ true = rw (g1.hex, g0.hex) refl in
+    let print : list_all is_printable ds ≡ true = rw (g1.printable, g0.printable) refl in
+    let e : ds ≡ digits 16 false c = rw (e1, e2) refl in
+    subst (λ (t : List ℕ). Writing c t) e (record { decodes = escape_2 (digit_glyph false (c / 16 % 16)) (digit_glyph false (c % 16)) c hex g0.apart v p; printable = print })
+
+writing_3 : (c : ℕ) → eqb (c / 16) 0 ≡ false → eqb (c / 16 / 16) 0 ≡ false → eqb (c / 16 / 16 / 16) 0 ≡ true → is_point c ≡ true → Writing c (digits 16 false c)
+unfolding digits
+writing_3 c e1 e2 e3 p =
+    let m0 : c % 16 < 16 = omega arith in
+    let g0 = glyph (c % 16) m0 in
+    let m1 : c / 16 % 16 < 16 = omega arith in
+    let g1 = glyph (c / 16 % 16) m1 in
+    let m2 : c / 16 / 16 % 16 < 16 = omega arith in
+    let g2 = glyph (c / 16 / 16 % 16) m2 in
+    let z = eqb-true (c / 16 / 16 / 16) 0 e3 in
+    let ds : List ℕ = digit_glyph false (c / 16 / 16 % 16) ∷ digit_glyph false (c / 16 % 16) ∷ digit_glyph false (c % 16) ∷ [] in
+    let v : number_in 16 ds ≡ c = rw (g2.value, g1.value, g0.value) (omega arith) in
+    let hex : list_all is_hexadecimal ds ≡ true = rw (g2.hex, g1.hex, g0.hex) refl in
+    let print : list_all is_printable ds ≡ true = rw (g2.printable, g1.printable, g0.printable) refl in
+    let e : ds ≡ digits 16 false c = rw (e1, e2, e3) refl in
+    subst (λ (t : List ℕ). Writing c t) e (record { decodes = escape_3 (digit_glyph false (c / 16 / 16 % 16)) (digit_glyph false (c / 16 % 16)) (digit_glyph false (c % 16)) c hex g1.apart g0.apart v p; printable = print })
+
+writing_4 : (c : ℕ) → eqb (c / 16) 0 ≡ false → eqb (c / 16 / 16) 0 ≡ false → eqb (c / 16 / 16 / 16) 0 ≡ false → eqb (c / 16 / 16 / 16 / 16) 0 ≡ true → is_point c ≡ true → Writing c (digits 16 false c)
+unfolding digits
+writing_4 c e1 e2 e3 e4 p =
+    let m0 : c % 16 < 16 = omega arith in
+    let g0 = glyph (c % 16) m0 in
+    let m1 : c / 16 % 16 < 16 = omega arith in
+    let g1 = glyph (c / 16 % 16) m1 in
+    let m2 : c / 16 / 16 % 16 < 16 = omega arith in
+    let g2 = glyph (c / 16 / 16 % 16) m2 in
+    let m3 : c / 16 / 16 / 16 % 16 < 16 = omega arith in
+    let g3 = glyph (c / 16 / 16 / 16 % 16) m3 in
+    let z = eqb-true (c / 16 / 16 / 16 / 16) 0 e4 in
+    let ds : List ℕ = digit_glyph false (c / 16 / 16 / 16 % 16) ∷ digit_glyph false (c / 16 / 16 % 16) ∷ digit_glyph false (c / 16 % 16) ∷ digit_glyph false (c % 16) ∷ [] in
+    let v : number_in 16 ds ≡ c = rw (g3.value, g2.value, g1.value, g0.value) (omega arith) in
+    let hex : list_all is_hexadecimal ds ≡ true = rw (g3.hex, g2.hex, g1.hex, g0.hex) refl in
+    let print : list_all is_printable ds ≡ true = rw (g3.printable, g2.printable, g1.printable, g0.printable) refl in
+    let e : ds ≡ digits 16 false c = rw (e1, e2, e3, e4) refl in
+    subst (λ (t : List ℕ). Writing c t) e (record { decodes = escape_4 (digit_glyph false (c / 16 / 16 / 16 % 16)) (digit_glyph false (c / 16 / 16 % 16)) (digit_glyph false (c / 16 % 16)) (digit_glyph false (c % 16)) c hex g2.apart g1.apart g0.apart v p; printable = print })
+
+writing_5 : (c : ℕ) → eqb (c / 16) 0 ≡ false → eqb (c / 16 / 16) 0 ≡ false → eqb (c / 16 / 16 / 16) 0 ≡ false → eqb (c / 16 / 16 / 16 / 16) 0 ≡ false → eqb (c / 16 / 16 / 16 / 16 / 16) 0 ≡ true → is_point c ≡ true → Writing c (digits 16 false c)
+unfolding digits
+writing_5 c e1 e2 e3 e4 e5 p =
+    let m0 : c % 16 < 16 = omega arith in
+    let g0 = glyph (c % 16) m0 in
+    let m1 : c / 16 % 16 < 16 = omega arith in
+    let g1 = glyph (c / 16 % 16) m1 in
+    let m2 : c / 16 / 16 % 16 < 16 = omega arith in
+    let g2 = glyph (c / 16 / 16 % 16) m2 in
+    let m3 : c / 16 / 16 / 16 % 16 < 16 = omega arith in
+    let g3 = glyph (c / 16 / 16 / 16 % 16) m3 in
+    let m4 : c / 16 / 16 / 16 / 16 % 16 < 16 = omega arith in
+    let g4 = glyph (c / 16 / 16 / 16 / 16 % 16) m4 in
+    let z = eqb-true (c / 16 / 16 / 16 / 16 / 16) 0 e5 in
+    let ds : List ℕ = digit_glyph false (c / 16 / 16 / 16 / 16 % 16) ∷ digit_glyph false (c / 16 / 16 / 16 % 16) ∷ digit_glyph false (c / 16 / 16 % 16) ∷ digit_glyph false (c / 16 % 16) ∷ digit_glyph false (c % 16) ∷ [] in
+    let v : number_in 16 ds ≡ c = rw (g4.value, g3.value, g2.value, g1.value, g0.value) (omega arith) in
+    let hex : list_all is_hexadecimal ds ≡ true = rw (g4.hex, g3.hex, g2.hex, g1.hex, g0.hex) refl in
+    let print : list_all is_printable ds ≡ true = rw (g4.printable, g3.printable, g2.printable, g1.printable, g0.printable) refl in
+    let e : ds ≡ digits 16 false c = rw (e1, e2, e3, e4, e5) refl in
+    subst (λ (t : List ℕ). Writing c t) e (record { decodes = escape_5 (digit_glyph false (c / 16 / 16 / 16 / 16 % 16)) (digit_glyph false (c / 16 / 16 / 16 % 16)) (digit_glyph false (c / 16 / 16 % 16)) (digit_glyph false (c / 16 % 16)) (digit_glyph false (c % 16)) c hex g3.apart g2.apart g1.apart g0.apart v p; printable = print })
+
+hexadecimal : (c : ℕ) → is_point c ≡ true → Writing c (digits 16 false c)
+hexadecimal c p = elim (cases_Bool (eqb (c / 16) 0)) [
+  | inl e1 ↦ writing_1 c e1 p
+  | inr e1 ↦ elim (cases_Bool (eqb (c / 16 / 16) 0)) [
+    | inl e2 ↦ writing_2 c e1 e2 p
+    | inr e2 ↦ elim (cases_Bool (eqb (c / 16 / 16 / 16) 0)) [
+      | inl e3 ↦ writing_3 c e1 e2 e3 p
+      | inr e3 ↦ elim (cases_Bool (eqb (c / 16 / 16 / 16 / 16) 0)) [
+        | inl e4 ↦ writing_4 c e1 e2 e3 e4 p
+        | inr e4 ↦ (let l = leb-true c 196607 p in let z : c / 16 / 16 / 16 / 16 / 16 ≡ 0 = omega arith in writing_5 c e1 e2 e3 e4 (eq-eqb (c / 16 / 16 / 16 / 16 / 16) 0 z) p)
+      ]
+    ]
+  ]
+]
+
+stays : (c : ℕ) (rest : List ℕ) → eqb c 92 ≡ false → decoded 0 (c ∷ rest) ≡ c ∷ decoded 0 rest
+stays c rest h =
+    let n : escape (c ∷ rest) ≡ None = rw h refl in
+    rw (n, decoded) refl
+
+not_is : (b : Bool) → not b ≡ true → b ≡ false
+not_is true h = absurd (false≢true h)
+not_is false h = refl
+
+record Reads (c : ℕ) : Type 0 where
+  read : (rest : List ℕ) → decoded 0 (escaped c ++ rest) ≡ c ∷ decoded 0 rest
+  plain : list_all is_printable (escaped c) ≡ true
+
+reads : (c : ℕ) → is_point c ≡ true → Reads c
+reads c h = elim (cases_Bool (is_printable c && not (eqb c 92))) [
+  | inl e ↦ (let p = and_parts (is_printable c) (not (eqb c 92)) e in
+      let w : c ∷ [] ≡ escaped c = sym (cond-true (is_printable c && not (eqb c 92)) (c ∷ []) (codes "\\u{" ++ (digits 16 false c ++ codes "}")) e) in
+      record {
+        read = λ rest. subst (λ (t : List ℕ). decoded 0 (t ++ rest) ≡ c ∷ decoded 0 rest) w (stays c rest (not_is (eqb c 92) p.1));
+        plain = subst (λ (t : List ℕ). list_all is_printable t ≡ true) w (and_from (is_printable c) true p.0 refl);
+      })
+  | inr e ↦ (let x = hexadecimal c h in
+      let w : codes "\\u{" ++ (digits 16 false c ++ codes "}") ≡ escaped c = sym (cond-false (is_printable c && not (eqb c 92)) (c ∷ []) (codes "\\u{" ++ (digits 16 false c ++ codes "}")) e) in
+      record {
+        read = λ rest. subst (λ (t : List ℕ). decoded 0 (t ++ rest) ≡ c ∷ decoded 0 rest) w (ap (λ (t : List ℕ). decoded 0 (92 ∷ 117 ∷ 123 ∷ t)) (append_assoc (digits 16 false c) (125 ∷ []) rest) ∙ x.decodes rest);
+        plain = subst (λ (t : List ℕ). list_all is_printable t ≡ true) w (list_all-append is_printable (digits 16 false c) (125 ∷ []) ∙ and_from (list_all is_printable (digits 16 false c)) true x.printable refl);
+      })
+]
+
+all_read : (cs : List ℕ) → list_all is_point cs ≡ true → decoded 0 (flat_map escaped cs) ≡ cs
+all_read [] h = refl
+all_read (c ∷ cs) h =
+    let p = and_parts (is_point c) (list_all is_point cs) h in
+    (reads c p.0).read (flat_map escaped cs) ∙ ap (λ (t : List ℕ). c ∷ t) (all_read cs p.1)
+
+all_plain : (cs : List ℕ) → list_all is_point cs ≡ true → list_all is_printable (flat_map escaped cs) ≡ true
+all_plain [] h = refl
+all_plain (c ∷ cs) h =
+    let p = and_parts (is_point c) (list_all is_point cs) h in
+    list_all-append is_printable (escaped c) (flat_map escaped cs) ∙ and_from (list_all is_printable (escaped c)) (list_all is_printable (flat_map escaped cs)) (reads c p.0).plain (all_plain cs p.1)
+
+pub texts_write : TextsWrite
+texts_write cs h = subst (λ (t : List ℕ). Writes (quoted (flat_map escaped cs)) (Leaf (Text t))) (all_read cs h) (strings_write (flat_map escaped cs) (all_plain cs h))
+
+-- ---- patterns
+
+abbrev part : PatternPart → Part
+part p = record { text = part_text p; expr = part_expr p }
+
+part_writes : (p : PatternPart) → is_written_part p ≡ true → Writes (part_text p) (part_expr p)
+part_writes (Character c) h =
+    groups_write (codes "str.to_re") (name (codes "str.to_re")) (record { text = quoted (flat_map escaped (c ∷ [])); expr = Leaf (Text (c ∷ [])) } ∷ []) []
+    (names_write (codes "str.to_re") refl) (texts_write (c ∷ []) (and_from (is_point c) true h refl), tt) refl
+part_writes Wildcard h =
+    groups_write (codes "re.*") (name (codes "re.*")) (record { text = codes "re.allchar"; expr = name (codes "re.allchar") } ∷ []) []
+    (names_write (codes "re.*") refl) (names_write (codes "re.allchar") refl, tt) refl
+
+parts_write : (ps : List PatternPart) → list_all is_written_part ps ≡ true → AreWritten (map part ps)
+parts_write [] h = tt
+parts_write (p ∷ ps) h = let q = and_parts (is_written_part p) (list_all is_written_part ps) h in (part_writes p q.0, parts_write ps q.1)
+
+part_exprs : (ps : List PatternPart) → map (λ p. p.expr) (map part ps) ≡ map part_expr ps
+part_exprs [] = refl
+part_exprs (p ∷ ps) = ap (λ (es : List Expression). part_expr p ∷ es) (part_exprs ps)
+
+part_is : (p : PatternPart) → pattern_part (part_expr p) ≡ Some (p ∷ [])
+part_is (Character c) = refl
+part_is Wildcard = refl
+
+parts_are : (ps : List PatternPart) → pattern_parts (exprs (map part_expr ps)) ≡ Some ps
+parts_are [] = refl
+parts_are (p ∷ ps) =
+    ap (λ (o : Option (List PatternPart)). o >>= λ x. pattern_parts (exprs (map part_expr ps)) >>= λ y. Some (x ++ y)) (part_is p)
+    ∙ ap (λ (o : Option (List PatternPart)). o >>= λ y. Some (p ∷ y)) (parts_are ps)
+
+many : (p q : PatternPart) (ps : List PatternPart) → pattern (pattern_expr (p ∷ q ∷ ps)) ≡ pattern_parts (exprs (map part_expr (p ∷ q ∷ ps)))
+many (Character c) q ps = refl
+many Wildcard q ps = refl
+
+alone_is : (p : PatternPart) → pattern (part_expr p) ≡ Some (p ∷ [])
+alone_is (Character c) = refl
+alone_is Wildcard = refl
+
+pub patterns_write : PatternsWrite
+patterns_write [] h = (groups_write (codes "str.to_re") (name (codes "str.to_re")) (record { text = codes "\"\""; expr = Leaf (Text []) } ∷ []) [] (names_write (codes "str.to_re") refl) (texts_write [] refl, tt) refl, refl)
+patterns_write (p ∷ []) h = (part_writes p (and_parts (is_written_part p) true h).0, alone_is p)
+patterns_write (p ∷ q ∷ ps) h = (
+  subst (λ (es : List Expression). Writes (pattern_text (p ∷ q ∷ ps)) (group (name (codes "re.++") ∷ es))) (part_exprs (p ∷ q ∷ ps))
+      (groups_write (codes "re.++") (name (codes "re.++")) (map part (p ∷ q ∷ ps)) [] (names_write (codes "re.++") refl) (parts_write (p ∷ q ∷ ps) h) refl),
+  many p q ps ∙ parts_are (p ∷ q ∷ ps),
+)

@@ -1,0 +1,299 @@
+-- What is a script, and what is none.
+use Rattle.std.proofs.Common.{◌≡◌, ℕ, eqb, cond, Bool, true, false, List, [], ◌∷◌, ◌++◌, refl, sym, ap₂, ◌∙◌, subst, Option, Some, None, inl, inr}
+use Rattle.std.specs.Prelude.{codes, IsTrue, bytes_eq}
+use Rattle.std.proofs.lemmas.Bool.{cases_Bool, cond-true, cond-false, false≢true, eqb-true}
+use Rattle.std.proofs.lemmas.Slice.Eq.{bytes_eq-Decides}
+use Rattle.std.proofs.lemmas.List.Elements.{All-from_recursion, recursion_from_All}
+use Rattle.smt_semantics.specs.ScriptValues.{ScriptValue, TruthOf, ConstructorOf, ScriptValues, no_script_values, one_script_value}
+use Rattle.smt_sexpr.specs.Reading.{Expression}
+use Rattle.smt_semantics.specs.Script.{Entry, Constant, Defined, Builds, Selects, State, Script, DeclareDatatype, DeclareConst, DefineFun, Assert, Pop, start, name, group, names_of, assertions_of, look_up}
+use Rattle.smt_semantics.specs.Sorts.{IsWellSorted, IsBodyWellSorted, sort_of, bool_sort, has_sort_in, have_sorts_in, constructor_fields, entries}
+use Rattle.smt_semantics.specs.Order.{same}
+use Rattle.smt_semantics.specs.Value.{ScriptInterpretation, IsScriptInterpretation, IsModel, expression_value, is_entry_given, is_selector_given, applied_selectors}
+use Rattle.smt_semantics.specs.Written.{is_name, option_lines, option_command, IsLine, Stands, Writes}
+use Rattle.smt_semantics.specs.Samples.{SampleIsScript, EnumSampleIsScript, RecordSampleIsScript, LevelSampleIsScript, UseBeforeDeclarationIsNone, TwiceDeclaredIsNone, BuiltInDeclaredIsNone, EscapesDecode, OperatorsGive, SelectorsSampled}
+use Rattle.smt_semantics.proofs.Lines.{lines_add, comments_add, names_write, comments_are_lines}
+use Rattle.smt_semantics.proofs.First.{declare_const_line, define_fun_line, assert_line, applied_text, option_is_line}
+use Rattle.smt_semantics.proofs.Laid.{groups_write, selectors_write, datatype_line, plain_lines, commands_extend}
+use Rattle.smt_semantics.proofs.Extend.{comments_extend}
+use Rattle.smt_semantics.proofs.Ranks.{same_is_equal}
+
+nothing : Script [] start
+nothing = record { commands = []; holds = record { reads = record { pieces = []; cut = record { spelled = refl; longest = refl }; tokens_are = refl }; plain = refl }; runs = refl }
+
+t0 : List ℕ
+t0 = codes "t0"
+
+const_line : IsLine (codes "(declare-const t0 Bool)\n") (DeclareConst (codes "t0") (name (codes "Bool")) ∷ [])
+const_line = declare_const_line (codes "t0") (codes "Bool") (name (codes "Bool")) refl (names_write (codes "Bool") refl)
+
+pub use_before_declaration : UseBeforeDeclarationIsNone
+use_before_declaration s h = none_is s ((lines_add [] (codes "(assert t0)\n") (Assert (name (codes "t0"))) start s tt nothing (assert_line (codes "t0") (name (codes "t0")) (names_write (codes "t0") refl))).1 h)
+  where
+    none_is : (t : State) → None ≡ Some t → ⊥
+    none_is t e = cc
+
+after_one : State
+after_one = record { last = record { sorts = []; names = (codes "t0", Constant (name (codes "Bool"))) ∷ []; assertions = [] }; below = []; ended = false }
+
+pub twice_declared : TwiceDeclaredIsNone
+unfolding after_one
+twice_declared s h =
+    let one = (lines_add [] (codes "(declare-const t0 Bool)\n") (DeclareConst (codes "t0") (name (codes "Bool"))) start after_one tt nothing const_line).0 refl in
+    none_is s ((lines_add (codes "(declare-const t0 Bool)\n") (codes "(declare-const t0 Bool)\n") (DeclareConst (codes "t0") (name (codes "Bool"))) after_one s one.1 one.0 const_line).1 h)
+  where
+    none_is : (t : State) → None ≡ Some t → ⊥
+    none_is t e = cc
+
+pub escapes_decode : EscapesDecode
+escapes_decode = (refl, refl)
+
+last_state : State
+last_state = record {
+  last = record {
+    sorts = (codes "Option", 1) ∷ [];
+    names = (codes "t1", Defined (name (codes "Bool")) (group (name (codes "not") ∷ name (codes "t0") ∷ []))) ∷ (codes "t0", Constant (name (codes "Bool")))
+        ∷ (codes "val", Selects (codes "Option") (codes "X" ∷ []) (codes "some") 0 (name (codes "X"))) ∷ (codes "some", Builds (codes "Option") (codes "X" ∷ []) 1 (name (codes "X") ∷ [])) ∷ (codes "none", Builds (codes "Option") (codes "X" ∷ []) 0 []) ∷ [];
+    assertions = name (codes "t1") ∷ [];
+  };
+  below = [];
+  ended = false;
+}
+
+pub sample_is_script : SampleIsScript
+unfolding last_state
+sample_is_script =
+    let a = (lines_add [] option_lines option_command start _ tt nothing option_is_line).0 refl in
+    let b = comments_add option_lines (codes "; \"b\"\n") _ a.1 a.0 (comments_are_lines (codes " \"b\"") refl) in
+    let c = (lines_add (option_lines ++ codes "; \"b\"\n") (codes "(declare-const t0 Bool)\n") (DeclareConst (codes "t0") (name (codes "Bool"))) _ _ b.1 b.0 const_line).0 refl in
+    let d = (lines_add ((option_lines ++ codes "; \"b\"\n") ++ codes "(declare-const t0 Bool)\n") (codes "(define-fun t1 () Bool (not t0))\n") (DefineFun (codes "t1") (name (codes "Bool")) (group (name (codes "not") ∷ name (codes "t0") ∷ []))) _ _ c.1 c.0
+    (define_fun_line (codes "t1") (codes "Bool") (codes "(not t0)") (name (codes "Bool")) (group (name (codes "not") ∷ name (codes "t0") ∷ [])) refl (names_write (codes "Bool") refl) (applied_text (codes "not") (codes "t0") (name (codes "t0")) refl (names_write (codes "t0") refl)))).0 refl in
+    let e = (lines_add _ (codes "(assert t1)\n") (Assert (name (codes "t1"))) _ _ d.1 d.0 (assert_line (codes "t1") (name (codes "t1")) (names_write (codes "t1") refl))).0 refl in
+    (last_state, e.0, refl, λ j h. All-from_recursion (λ x. expression_value j last_state x ≡ Some (TruthOf true)) last_state.last.assertions (rw h refl, tt), λ j h. rw h refl)
+
+-- ---- more samples
+
+begins : Stands [] start
+begins = record { whole = tt; script = nothing; running = refl }
+
+none_is : (t : State) → None ≡ Some t → ⊥
+none_is t e = cc
+
+named : (n : List ℕ) → IsTrue (is_name n) → Writes n (name n)
+named n h = names_write n h
+
+equation : (a b : List ℕ) → IsTrue (is_name a) → IsTrue (is_name b) → Writes (codes "(" ++ (codes "=" ++ (codes " " ++ (a ++ (codes " " ++ (b ++ codes ")")))))) (group (name (codes "=") ∷ name a ∷ name b ∷ []))
+equation a b h k = groups_write (codes "=") (name (codes "=")) (record { text = a; expr = name a } ∷ record { text = b; expr = name b } ∷ []) [] (names_write (codes "=") refl) (names_write a h, (names_write b k, tt)) refl
+
+enum_line : IsLine (codes "(declare-datatype E0 (\n  (E0_m0)\n  (E0_m1)))\n") (DeclareDatatype (codes "E0") [] (record { name = codes "E0_m0"; selectors = [] } ∷ record { name = codes "E0_m1"; selectors = [] } ∷ []) ∷ [])
+enum_line = datatype_line (codes "E0") (record { text = codes "(E0_m0)"; built = record { name = codes "E0_m0"; selectors = [] } } ∷ record { text = codes "(E0_m1)"; built = record { name = codes "E0_m1"; selectors = [] } } ∷ []) refl
+    (selectors_write (record { name = codes "E0_m0"; selectors = [] }) [] [] refl tt refl refl, (selectors_write (record { name = codes "E0_m1"; selectors = [] }) [] [] refl tt refl refl, tt))
+
+abbrev option_names : List (List ℕ × Entry)
+option_names = (codes "val", Selects (codes "Option") (codes "X" ∷ []) (codes "some") 0 (name (codes "X"))) ∷ (codes "some", Builds (codes "Option") (codes "X" ∷ []) 1 (name (codes "X") ∷ [])) ∷ (codes "none", Builds (codes "Option") (codes "X" ∷ []) 0 []) ∷ []
+
+truth_is : (b : Bool) → Some (TruthOf b) ≡ Some (TruthOf true) → b ≡ true
+truth_is b h = cc
+
+abbrev equal : List ℕ → List ℕ → Expression
+equal a b = group (name (codes "=") ∷ name a ∷ name b ∷ [])
+
+enum_state : State
+enum_state = record {
+  last = record {
+    sorts = (codes "E0", 0) ∷ (codes "Option", 1) ∷ [];
+    names = (codes "t2", Defined (name (codes "Bool")) (equal (codes "t0") (codes "E0_m1"))) ∷ (codes "t0", Constant (name (codes "E0"))) ∷ (codes "E0_m1", Builds (codes "E0") [] 1 []) ∷ (codes "E0_m0", Builds (codes "E0") [] 0 []) ∷ option_names;
+    assertions = name (codes "t2") ∷ [];
+  };
+  below = [];
+  ended = false;
+}
+
+second : ScriptValue
+second = ConstructorOf 1 (codes "E0_m1") no_script_values
+
+pub enum_sample_is_script : EnumSampleIsScript
+unfolding enum_state second
+enum_sample_is_script =
+    let a = commands_extend [] option_lines option_command start _ begins option_is_line refl refl in
+    let b = comments_extend _ (codes " Color::[a, b]") _ a refl in
+    let c = commands_extend _ (codes "(declare-datatype E0 (\n  (E0_m0)\n  (E0_m1)))\n") _ _ _ b enum_line refl refl in
+    let d = comments_extend _ (codes " \"c\"") _ c refl in
+    let e = commands_extend _ (codes "(declare-const t0 E0)\n") _ _ _ d (declare_const_line (codes "t0") (codes "E0") (name (codes "E0")) refl (names_write (codes "E0") refl)) refl refl in
+    let f = commands_extend _ (codes "(define-fun t2 () Bool (= t0 E0_m1))\n") _ _ _ e (define_fun_line (codes "t2") (codes "Bool") (codes "(= t0 E0_m1)") (name (codes "Bool")) _ refl (names_write (codes "Bool") refl) (equation (codes "t0") (codes "E0_m1") refl refl)) refl refl in
+    let g = commands_extend _ (codes "(assert t2)\n") _ _ _ f (assert_line (codes "t2") (name (codes "t2")) (names_write (codes "t2") refl)) refl refl in
+    (enum_state, g.script, refl, sorted, λ j h. only j h, λ j h. (interprets j h, All-from_recursion (λ x. expression_value j enum_state x ≡ Some (TruthOf true)) (assertions_of enum_state) (rw h refl, tt)))
+  where
+    sorted : IsWellSorted enum_state
+    sorted = record {
+      bodies = All-from_recursion (λ p. IsBodyWellSorted enum_state p) (names_of enum_state) (refl, (tt, (tt, (tt, (tt, (tt, (tt, tt)))))));
+      assertions = All-from_recursion (λ e. sort_of enum_state e ≡ Some bool_sort) (assertions_of enum_state) (refl, tt);
+    }
+
+    only : (j : ScriptInterpretation) → IsModel j enum_state → j.constants (codes "t0") ≡ second
+    only j h = (same_is_equal (j.constants (codes "t0")) second).0 (truth_is (same (j.constants (codes "t0")) second) (recursion_from_All (λ x. expression_value j enum_state x ≡ Some (TruthOf true)) (assertions_of enum_state) h).0)
+
+    interprets : (j : ScriptInterpretation) → j.constants (codes "t0") ≡ second → IsScriptInterpretation j enum_state
+    interprets j h = record {
+      declared = All-from_recursion (λ p. IsTrue (is_entry_given j (entries enum_state) p.0 p.1)) (names_of enum_state) (refl, (rw h refl, (refl, (refl, (refl, (refl, (refl, tt)))))));
+      selected = All-from_recursion (λ p. IsTrue (is_selector_given j (entries enum_state) p.selector p.sort p.entry)) (applied_selectors enum_state) tt;
+    }
+
+record_line : IsLine (codes "(declare-datatype R0 (\n  (R0 )))\n") (DeclareDatatype (codes "R0") [] (record { name = codes "R0"; selectors = [] } ∷ []) ∷ [])
+record_line = datatype_line (codes "R0") (record { text = codes "(R0 )"; built = record { name = codes "R0"; selectors = [] } } ∷ []) refl (selectors_write (record { name = codes "R0"; selectors = [] }) [] (codes " ") refl tt refl refl, tt)
+
+record_state : State
+record_state = record {
+  last = record {
+    sorts = (codes "R0", 0) ∷ (codes "Option", 1) ∷ [];
+    names = (codes "t2", Defined (name (codes "Bool")) (equal (codes "t0") (codes "t1"))) ∷ (codes "t1", Defined (name (codes "R0")) (name (codes "R0"))) ∷ (codes "t0", Constant (name (codes "R0"))) ∷ (codes "R0", Builds (codes "R0") [] 0 []) ∷ option_names;
+    assertions = name (codes "t2") ∷ [];
+  };
+  below = [];
+  ended = false;
+}
+
+the_record : ScriptValue
+the_record = ConstructorOf 0 (codes "R0") no_script_values
+
+-- what every name that a list has fulfils
+abbrev Each : (List ℕ → Entry → Type 0) → List (List ℕ × Entry) → Type 0
+Each P [] = Unit {0}
+Each P (d ∷ ds) = P d.0 d.1 × Each P ds
+
+found : (P : List ℕ → Entry → Type 0) (ds : List (List ℕ × Entry)) → Each P ds → (n : List ℕ) (x : Entry) → look_up n ds ≡ Some x → P n x
+found P [] h n x e = absurd cc
+found P (d ∷ ds) h n x e = elim (cases_Bool (bytes_eq n d.0)) [
+  | inl t ↦ (let y : d.1 ≡ x = some_entry d.1 x (sym (cond-true (bytes_eq n d.0) (Some d.1) (look_up n ds) t) ∙ e) in subst (λ (m : List ℕ). P m x) (sym ((bytes_eq-Decides n d.0).0 t)) (subst (λ (z : Entry). P d.0 z) y h.0))
+  | inr f ↦ found P ds h.1 n x (sym (cond-false (bytes_eq n d.0) (Some d.1) (look_up n ds) f) ∙ e)
+]
+  where
+    some_entry : (a b : Entry) → Some a ≡ Some b → a ≡ b
+    some_entry a b h = cc
+
+-- a value of the empty record's sort
+abbrev IsRecordBuilder : List ℕ → Entry → Type 0
+IsRecordBuilder n x = (place : ℕ) (vs : ScriptValues) → (elim (constructor_fields (Some x) place (name (codes "R0"))) [ Some fields ↦ have_sorts_in (entries record_state) fields vs | None ↦ false ]) ≡ true → ConstructorOf place n vs ≡ the_record
+
+one_record : (v : ScriptValue) → has_sort_in (entries record_state) (name (codes "R0")) v ≡ true → v ≡ the_record
+unfolding record_state the_record
+one_record (ConstructorOf place c vs) h = built (entries record_state c) refl h
+  where
+    vacuous : (f : List ℕ) (e : Entry) → ((p : ℕ) → constructor_fields (Some e) p (name (codes "R0")) ≡ None) → IsRecordBuilder f e
+    vacuous f e none p ws k = absurd (false≢true (subst (λ (o : Option (List Expression)). (elim o [ Some fields ↦ have_sorts_in (entries record_state) fields ws | None ↦ false ]) ≡ true) (none p) k))
+
+    no_fields : (ws : ScriptValues) → have_sorts_in (entries record_state) [] ws ≡ true → ws ≡ no_script_values
+    no_fields no_script_values k = refl
+    no_fields (one_script_value w ws) k = absurd (false≢true k)
+
+    the_builder : IsRecordBuilder (codes "R0") (Builds (codes "R0") [] 0 [])
+    the_builder p ws k = elim (cases_Bool (eqb 0 p)) [
+      | inl e ↦ ap₂ (λ (q : ℕ) (us : ScriptValues). ConstructorOf q (codes "R0") us) (sym (eqb-true 0 p e)) (no_fields ws (subst (λ (o : Option (List Expression)). (elim o [ Some fields ↦ have_sorts_in (entries record_state) fields ws | None ↦ false ]) ≡ true) (cond-true (eqb 0 p) (Some []) None e) k))
+      | inr e ↦ absurd (false≢true (subst (λ (o : Option (List Expression)). (elim o [ Some fields ↦ have_sorts_in (entries record_state) fields ws | None ↦ false ]) ≡ true) (cond-false (eqb 0 p) (Some []) None e) k))
+    ]
+
+    neither : (b : Bool) → cond {A = Option (List Expression)} b None None ≡ None
+    neither true = refl
+    neither false = refl
+
+    all : Each IsRecordBuilder (names_of record_state)
+    all = (
+      vacuous (codes "t2") (Defined (name (codes "Bool")) (equal (codes "t0") (codes "t1"))) (λ p. refl),
+      (
+        vacuous (codes "t1") (Defined (name (codes "R0")) (name (codes "R0"))) (λ p. refl),
+        (
+          vacuous (codes "t0") (Constant (name (codes "R0"))) (λ p. refl),
+          (
+            the_builder,
+            (
+              vacuous (codes "val") (Selects (codes "Option") (codes "X" ∷ []) (codes "some") 0 (name (codes "X"))) (λ p. refl),
+              (
+                vacuous (codes "some") (Builds (codes "Option") (codes "X" ∷ []) 1 (name (codes "X") ∷ [])) (λ p. neither (eqb 1 p)),
+                (vacuous (codes "none") (Builds (codes "Option") (codes "X" ∷ []) 0 []) (λ p. neither (eqb 0 p)), tt),
+              ),
+            ),
+          ),
+        ),
+      ),
+    )
+
+    built : (o : Option Entry) → entries record_state c ≡ o → (elim (constructor_fields o place (name (codes "R0"))) [ Some fields ↦ have_sorts_in (entries record_state) fields vs | None ↦ false ]) ≡ true → ConstructorOf place c vs ≡ the_record
+    built None e k = absurd (false≢true k)
+    built (Some x) e k = found IsRecordBuilder (names_of record_state) all c x e place vs k
+one_record v h = absurd (false≢true h)
+
+pub record_sample_is_script : RecordSampleIsScript
+unfolding record_state the_record
+record_sample_is_script =
+    let a = commands_extend [] option_lines option_command start _ begins option_is_line refl refl in
+    let b = comments_extend _ (codes " {}") _ a refl in
+    let c = commands_extend _ (codes "(declare-datatype R0 (\n  (R0 )))\n") _ _ _ b record_line refl refl in
+    let d = comments_extend _ (codes " \"r\"") _ c refl in
+    let e = commands_extend _ (codes "(declare-const t0 R0)\n") _ _ _ d (declare_const_line (codes "t0") (codes "R0") (name (codes "R0")) refl (names_write (codes "R0") refl)) refl refl in
+    let f = commands_extend _ (codes "(define-fun t1 () R0 R0)\n") _ _ _ e (define_fun_line (codes "t1") (codes "R0") (codes "R0") (name (codes "R0")) _ refl (names_write (codes "R0") refl) (names_write (codes "R0") refl)) refl refl in
+    let g = commands_extend _ (codes "(define-fun t2 () Bool (= t0 t1))\n") _ _ _ f (define_fun_line (codes "t2") (codes "Bool") (codes "(= t0 t1)") (name (codes "Bool")) _ refl (names_write (codes "Bool") refl) (equation (codes "t0") (codes "t1") refl refl)) refl refl in
+    let i = commands_extend _ (codes "(assert t2)\n") _ _ _ g (assert_line (codes "t2") (name (codes "t2")) (names_write (codes "t2") refl)) refl refl in
+    (record_state, i.script, refl, sorted, λ j h. interprets j h, λ j h. every j h)
+  where
+    sorted : IsWellSorted record_state
+    sorted = record {
+      bodies = All-from_recursion (λ p. IsBodyWellSorted record_state p) (names_of record_state) (refl, (refl, (tt, (tt, (tt, (tt, (tt, tt)))))));
+      assertions = All-from_recursion (λ e. sort_of record_state e ≡ Some bool_sort) (assertions_of record_state) (refl, tt);
+    }
+
+    interprets : (j : ScriptInterpretation) → j.constants (codes "t0") ≡ the_record → IsScriptInterpretation j record_state
+    interprets j h = record {
+      declared = All-from_recursion (λ p. IsTrue (is_entry_given j (entries record_state) p.0 p.1)) (names_of record_state) (refl, (refl, (rw h refl, (refl, (refl, (refl, (refl, tt)))))));
+      selected = All-from_recursion (λ p. IsTrue (is_selector_given j (entries record_state) p.selector p.sort p.entry)) (applied_selectors record_state) tt;
+    }
+
+    every : (j : ScriptInterpretation) → IsScriptInterpretation j record_state → (j.constants (codes "t0") ≡ the_record) × IsModel j record_state
+    every j h =
+        let v = one_record (j.constants (codes "t0")) (recursion_from_All (λ p. IsTrue (is_entry_given j (entries record_state) p.0 p.1)) (names_of record_state) h.declared).1.1.0 in
+        (v, All-from_recursion (λ x. expression_value j record_state x ≡ Some (TruthOf true)) (assertions_of record_state) (rw v refl, tt))
+
+level_state : State
+level_state = record {
+  last = record {
+    sorts = (codes "Option", 1) ∷ [];
+    names = (codes "t1", Constant (name (codes "Bool"))) ∷ (codes "t0", Constant (name (codes "Bool"))) ∷ option_names;
+    assertions = name (codes "t0") ∷ name (codes "t1") ∷ [];
+  };
+  below = [];
+  ended = false;
+}
+
+pub level_sample_is_script : LevelSampleIsScript
+unfolding level_state
+level_sample_is_script =
+    let a = commands_extend [] option_lines option_command start _ begins option_is_line refl refl in
+    let b = comments_extend _ (codes " \"b\"") _ a refl in
+    let c = commands_extend _ (codes "(declare-const t0 Bool)\n") _ _ _ b (declare_const_line (codes "t0") (codes "Bool") (name (codes "Bool")) refl (names_write (codes "Bool") refl)) refl refl in
+    let d = commands_extend _ (codes "(assert t0)\n") _ _ _ c (assert_line (codes "t0") (name (codes "t0")) (names_write (codes "t0") refl)) refl refl in
+    let e = commands_extend _ (codes "(push 1)\n") _ _ _ d plain_lines.4 refl refl in
+    let f = commands_extend _ (codes "(define-fun t1 () Bool (not t0))\n") _ _ _ e (define_fun_line (codes "t1") (codes "Bool") (codes "(not t0)") (name (codes "Bool")) _ refl (names_write (codes "Bool") refl) (applied_text (codes "not") (codes "t0") (name (codes "t0")) refl (names_write (codes "t0") refl))) refl refl in
+    let g = commands_extend _ (codes "(assert t1)\n") _ _ _ f (assert_line (codes "t1") (name (codes "t1")) (names_write (codes "t1") refl)) refl refl in
+    let h = commands_extend _ (codes "(pop 1)\n") _ _ _ g plain_lines.5 refl refl in
+    let i = comments_extend _ (codes " \"c\"") _ h refl in
+    let k = commands_extend _ (codes "(declare-const t1 Bool)\n") _ _ _ i (declare_const_line (codes "t1") (codes "Bool") (name (codes "Bool")) refl (names_write (codes "Bool") refl)) refl refl in
+    let l = commands_extend _ (codes "(assert t1)\n") _ _ _ k (assert_line (codes "t1") (name (codes "t1")) (names_write (codes "t1") refl)) refl refl in
+    (level_state, l.script, refl, sorted, λ t p. none_is t ((lines_add _ (codes "(pop 1)\n") Pop level_state t l.whole l.script plain_lines.5).1 p))
+  where
+    sorted : IsWellSorted level_state
+    sorted = record {
+      bodies = All-from_recursion (λ p. IsBodyWellSorted level_state p) (names_of level_state) (tt, (tt, (tt, (tt, (tt, tt)))));
+      assertions = All-from_recursion (λ e. sort_of level_state e ≡ Some bool_sort) (assertions_of level_state) (refl, (refl, tt));
+    }
+
+pub built_in_declared : BuiltInDeclaredIsNone
+built_in_declared = (
+  λ s h. none_is s ((lines_add [] (codes "(declare-const bvadd Bool)\n") _ start s tt nothing (declare_const_line (codes "bvadd") (codes "Bool") (name (codes "Bool")) refl (names_write (codes "Bool") refl))).1 h),
+  λ s h. none_is s ((lines_add [] (codes "(declare-datatype String (\n  (a)))\n") _ start s tt nothing
+      (datatype_line (codes "String") (record { text = codes "(a)"; built = record { name = codes "a"; selectors = [] } } ∷ []) refl (selectors_write (record { name = codes "a"; selectors = [] }) [] [] refl tt refl refl, tt))).1 h),
+)
+
+pub operators_give : OperatorsGive
+operators_give = (refl, refl, refl, refl, refl, refl, refl, refl, refl, refl, refl, refl, refl, refl, refl, refl, refl, refl, refl, refl, refl, refl, refl, refl, refl, refl, refl, refl, refl, refl, refl, refl, refl, refl)
+
+pub selectors_sampled : SelectorsSampled
+selectors_sampled = (_, refl, (tt, (tt, (tt, (refl, (refl, (refl, (refl, (refl, tt)))))))), refl, refl, λ j a h. (rw h refl, rw h refl, rw h refl), λ j a h. rw h refl, λ j a h. (rw h refl, rw h refl))

@@ -1,0 +1,17 @@
+use Rattle.smt_semantics.proofs.Apply as laws
+use Rattle.smt_semantics.proofs.evaluation.applications_have_values.Goals as goal
+
+pub returns : goal.returns
+returns c = record {
+  operators = laws.operators_apply;
+  constructors = laws.constructors_apply;
+  standing = laws.constructors_stand;
+  functions = laws.functions_apply;
+  selectors = laws.selectors_apply;
+  sorts = laws.applications_have_sorts;
+  extensions = laws.extensions_apply;
+  tests = laws.tests_apply;
+  matching = laws.matches_apply;
+  nones = laws.nones_stand;
+  sets = laws.sets_stand;
+}

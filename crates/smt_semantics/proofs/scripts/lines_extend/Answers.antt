@@ -1,0 +1,5 @@
+use Rattle.smt_semantics.proofs.Extend as laws
+use Rattle.smt_semantics.proofs.scripts.lines_extend.Goals as goal
+
+pub returns : goal.returns
+returns c = record { definition = laws.definitions_extend; assertion = laws.assertions_extend; comment = laws.comments_extend }

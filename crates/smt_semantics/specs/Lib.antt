@@ -1,0 +1,14 @@
+pub mod Arithmetic
+pub mod Growth
+pub mod LongSample
+pub mod Meanings
+pub mod Order
+pub mod Patterns
+pub mod Quoting
+pub mod Samples
+pub mod Script
+pub mod ScriptValues
+pub mod Sorts
+pub mod Texts
+pub mod Value
+pub mod Written

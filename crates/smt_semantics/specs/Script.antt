@@ -1,0 +1,397 @@
+-- Commands, what they declare, and what a script comes to.
+use Rattle.std.specs.Prelude.{◌≡◌, ℕ, suc, Bool, true, false, ◌&&◌, ◌||◌, ◌==◌, IsTrue, if◌then◌else◌, codes, bytes_eq, take, drop, length, map, List, [], ◌∷◌, ◌++◌, Option, Some, None}
+use Rattle.std.specs.List.{list_all, list_any}
+use Rattle.smt_term.specs.Plain.{PatternPart, Character, Wildcard, PlainOp, AndOp, BvaddOp, BvlshrOp, BvmulOp, BvnegOp, BvsaddoOp, BvsdivOp, BvshlOp, BvsleOp, BvsltOp, BvsmodOp, BvsmuloOp, BvsremOp, BvssuboOp, BvsubOp, BvudivOp, BvuleOp, BvultOp, BvuremOp, EqOp, IteOp, NotOp, OrOp, SetInterOp, SetMemberOp, SetSubsetOp}
+use Rattle.smt_sexpr.specs.Lexicon.{Number, Text, some_all, is_digit, number_in, Name, in_script}
+use Rattle.smt_sexpr.specs.Reading.{Expression, Leaf, Node, Expressions, Nil, Cons, Reads}
+use Rattle.smt_semantics.specs.Arithmetic.{is_width}
+
+-- ---- commands, as the grammar writes them
+
+-- a constructor, and its selectors with their sorts
+pub record Constructor : Type 0 where
+  pub name : List ℕ
+  pub selectors : List (List ℕ × Expression)
+
+pub data Command : Type 0 where
+  DeclareDatatype : (name : List ℕ) → (parameters : List (List ℕ)) → (constructors : List Constructor) → Command
+  DeclareConst : (name : List ℕ) → (sort : Expression) → Command
+  DefineFun : (name : List ℕ) → (sort : Expression) → (body : Expression) → Command
+  Assert : Expression → Command
+  DeclareFun : (name : List ℕ) → (argument : Expression) → (sort : Expression) → Command
+  SetLogic : (logic : List ℕ) → Command
+  SetOption : (option : List ℕ) → (value : Expression) → Command
+  CheckSat : Command
+  GetModel : Command
+  Reset : Command
+  Exit : Command
+  -- `(push 1)` and `(pop 1)`
+  Push : Command
+  Pop : Command
+
+abbrev pub name : List ℕ → Expression
+name text = Leaf (Name text)
+
+abbrev pub exprs : List Expression → Expressions
+exprs [] = Nil
+exprs (e ∷ es) = Cons e (exprs es)
+
+abbrev pub group : List Expression → Expression
+group es = Node (exprs es)
+
+abbrev pub constructor : Constructor → Expression
+constructor c = group (name c.name ∷ map (λ s. group (name s.0 ∷ s.1 ∷ [])) c.selectors)
+
+abbrev pub datatype : List (List ℕ) → List Constructor → Expression
+datatype [] cs = group (map constructor cs)
+datatype (p ∷ ps) cs = group (name (codes "par") ∷ group (map name (p ∷ ps)) ∷ group (map constructor cs) ∷ [])
+
+abbrev pub keyword : Command → List ℕ
+keyword (DeclareDatatype d ps cs) = codes "declare-datatype"
+keyword (DeclareConst c sort) = codes "declare-const"
+keyword (DefineFun f sort body) = codes "define-fun"
+keyword (Assert e) = codes "assert"
+keyword (DeclareFun f argument sort) = codes "declare-fun"
+keyword (SetLogic l) = codes "set-logic"
+keyword (SetOption o v) = codes "set-option"
+keyword CheckSat = codes "check-sat"
+keyword GetModel = codes "get-model"
+keyword Reset = codes "reset"
+keyword Exit = codes "exit"
+keyword Push = codes "push"
+keyword Pop = codes "pop"
+
+abbrev pub operands : Command → List Expression
+operands (DeclareDatatype d ps cs) = name d ∷ datatype ps cs ∷ []
+operands (DeclareConst c sort) = name c ∷ sort ∷ []
+operands (DefineFun f sort body) = name f ∷ group [] ∷ sort ∷ body ∷ []
+operands (Assert e) = e ∷ []
+operands (DeclareFun f argument sort) = name f ∷ group (argument ∷ []) ∷ sort ∷ []
+operands (SetLogic l) = name l ∷ []
+operands (SetOption o v) = name (codes ":" ++ o) ∷ v ∷ []
+operands CheckSat = []
+operands GetModel = []
+operands Reset = []
+operands Exit = []
+operands Push = Leaf (Number 1) ∷ []
+operands Pop = Leaf (Number 1) ∷ []
+
+abbrev pub stated : Command → Expression
+stated c = group (name (keyword c) ∷ operands c)
+
+-- ---- declarations
+
+pub data Entry : Type 0 where
+  Constant : (sort : Expression) → Entry
+  Function : (argument : Expression) → (sort : Expression) → Entry
+  Defined : (sort : Expression) → (body : Expression) → Entry
+  -- a constructor: its datatype, the datatype's parameters, its place, and the sorts of its arguments
+  Builds : (datatype : List ℕ) → (parameters : List (List ℕ)) → (place : ℕ) → (fields : List Expression) → Entry
+  -- a selector: the datatype, its parameters, the constructor that it belongs to, its place there, and its sort
+  Selects : (datatype : List ℕ) → (parameters : List (List ℕ)) → (constructor : List ℕ) → (place : ℕ) → (field : Expression) → Entry
+
+pub record Level : Type 0 where
+  -- each with the number of its parameters
+  pub sorts : List (List ℕ × ℕ)
+  -- the newest first
+  pub names : List (List ℕ × Entry)
+  -- in order
+  pub assertions : List Expression
+
+pub record State : Type 0 where
+  pub last : Level
+  -- the levels below, the newest first
+  pub below : List Level
+  -- behind `exit`
+  pub ended : Bool
+
+abbrev pub empty_level : Level
+empty_level = record { sorts = []; names = []; assertions = [] }
+
+abbrev pub start : State
+start = record { last = empty_level; below = []; ended = false }
+
+abbrev pub sorts_below : List Level → List (List ℕ × ℕ)
+sorts_below [] = []
+sorts_below (l ∷ ls) = l.sorts ++ sorts_below ls
+
+abbrev pub names_below : List Level → List (List ℕ × Entry)
+names_below [] = []
+names_below (l ∷ ls) = l.names ++ names_below ls
+
+abbrev pub assertions_below : List Level → List Expression
+assertions_below [] = []
+assertions_below (l ∷ ls) = assertions_below ls ++ l.assertions
+
+-- what is declared in all levels, the newest first
+abbrev pub sorts_of : State → List (List ℕ × ℕ)
+sorts_of s = s.last.sorts ++ sorts_below s.below
+
+abbrev pub names_of : State → List (List ℕ × Entry)
+names_of s = s.last.names ++ names_below s.below
+
+-- the assertions of all levels, in order
+abbrev pub assertions_of : State → List Expression
+assertions_of s = assertions_below s.below ++ s.last.assertions
+
+abbrev pub is_in : List ℕ → List (List ℕ) → Bool
+is_in n ns = list_any (bytes_eq n) ns
+
+-- the operators that a name stands for
+abbrev pub script_operators : List (List ℕ × PlainOp)
+script_operators =
+    (codes "not", NotOp) ∷ (codes "and", AndOp) ∷ (codes "or", OrOp) ∷ (codes "=", EqOp) ∷ (codes "ite", IteOp)
+    ∷ (codes "bvneg", BvnegOp) ∷ (codes "bvadd", BvaddOp) ∷ (codes "bvsub", BvsubOp) ∷ (codes "bvmul", BvmulOp)
+    ∷ (codes "bvudiv", BvudivOp) ∷ (codes "bvurem", BvuremOp) ∷ (codes "bvsdiv", BvsdivOp) ∷ (codes "bvsrem", BvsremOp) ∷ (codes "bvsmod", BvsmodOp)
+    ∷ (codes "bvshl", BvshlOp) ∷ (codes "bvlshr", BvlshrOp)
+    ∷ (codes "bvult", BvultOp) ∷ (codes "bvule", BvuleOp) ∷ (codes "bvslt", BvsltOp) ∷ (codes "bvsle", BvsleOp)
+    ∷ (codes "bvsaddo", BvsaddoOp) ∷ (codes "bvssubo", BvssuboOp) ∷ (codes "bvsmulo", BvsmuloOp)
+    ∷ (codes "set.member", SetMemberOp) ∷ (codes "set.subset", SetSubsetOp) ∷ (codes "set.inter", SetInterOp) ∷ []
+
+-- the first thing that a table has for a name
+abbrev pub look_up : {A : Type 0} → List ℕ → List (List ℕ × A) → Option A
+look_up n [] = None
+look_up n (d ∷ ds) = if bytes_eq n d.0 then Some d.1 else look_up n ds
+
+abbrev pub operator_of : List ℕ → Option PlainOp
+operator_of n = look_up n script_operators
+
+abbrev pub built_in_names : List (List ℕ)
+built_in_names =
+    codes "true" ∷ codes "false" ∷ codes "set.insert" ∷ codes "set.empty" ∷ codes "zero_extend"
+    ∷ codes "str.in_re" ∷ codes "str.to_re" ∷ codes "re.++" ∷ codes "re.*" ∷ codes "re.allchar" ∷ map (λ p. p.0) script_operators
+
+abbrev pub built_in_sorts : List (List ℕ × ℕ)
+built_in_sorts = (codes "Bool", 0) ∷ (codes "String", 0) ∷ (codes "Set", 1) ∷ []
+
+-- two words of the grammar, and the keywords
+abbrev pub is_reserved : List ℕ → Bool
+is_reserved n = is_in n (codes "_" ∷ codes "as" ∷ []) || bytes_eq (take 1 n) (codes ":")
+
+abbrev pub has_name : State → List ℕ → Bool
+has_name s n = is_in n built_in_names || is_in n (map (λ p. p.0) (names_of s))
+
+-- a sort of this many parameters is there
+abbrev pub has_sort : State → List ℕ → ℕ → Bool
+has_sort s n count = list_any (λ p. bytes_eq n p.0 && (p.1 == count)) (sorts_of s ++ built_in_sorts)
+
+-- a name that can't be declared, in its kind
+abbrev pub is_taken : State → List ℕ → Bool
+is_taken s n = has_name s n || is_reserved n
+
+abbrev pub is_taken_sort : State → List ℕ → Bool
+is_taken_sort s n = is_in n (codes "BitVec" ∷ map (λ p. p.0) (sorts_of s ++ built_in_sorts)) || is_reserved n
+
+abbrev pub count : Expressions → ℕ
+count Nil = 0
+count (Cons e es) = suc (count es)
+
+abbrev pub is_bit_sort : Expressions → Bool
+is_bit_sort (Cons (Leaf (Name n)) (Cons (Leaf (Number width)) Nil)) = bytes_eq n (codes "BitVec") && is_width width
+is_bit_sort es = false
+
+-- a sort of which each name is there
+abbrev mutual
+  pub is_sort : (List ℕ → ℕ → Bool) → Expression → Bool
+  is_sort has (Leaf (Name n)) = has n 0
+  is_sort has (Node (Cons (Leaf (Name n)) (Cons e es))) = (bytes_eq n (codes "_") && is_bit_sort (Cons e es)) || (has n (count (Cons e es)) && are_sorts has (Cons e es))
+  is_sort has e = false
+
+  pub are_sorts : (List ℕ → ℕ → Bool) → Expressions → Bool
+  are_sorts has Nil = true
+  are_sorts has (Cons e es) = is_sort has e && are_sorts has es
+
+-- ---- patterns
+
+infixl 10 ◌>>=◌
+abbrev pub ◌>>=◌ : {A B : Type 0} → Option A → (A → Option B) → Option B
+(Some x) >>= f = f x
+None >>= f = None
+
+abbrev pub character_in : List ℕ → Option (List PatternPart)
+character_in (c ∷ []) = Some (Character c ∷ [])
+character_in cs = None
+
+-- `(str.to_re "c")` or `(re.* re.allchar)`
+abbrev pub pattern_part : Expression → Option (List PatternPart)
+pattern_part (Node (Cons (Leaf (Name f)) (Cons (Leaf (Text text)) Nil))) = if bytes_eq f (codes "str.to_re") then character_in text else None
+pattern_part (Node (Cons (Leaf (Name f)) (Cons (Leaf (Name g)) Nil))) = if bytes_eq f (codes "re.*") && bytes_eq g (codes "re.allchar") then Some (Wildcard ∷ []) else None
+pattern_part e = None
+
+abbrev pub pattern_parts : Expressions → Option (List PatternPart)
+pattern_parts Nil = Some []
+pattern_parts (Cons e es) = pattern_part e >>= λ p. pattern_parts es >>= λ ps. Some (p ++ ps)
+
+abbrev pub is_empty_pattern : Expression → Bool
+is_empty_pattern (Node (Cons (Leaf (Name f)) (Cons (Leaf (Text text)) Nil))) = bytes_eq f (codes "str.to_re") && bytes_eq text []
+is_empty_pattern e = false
+
+abbrev pub joined_parts : Expression → Option (List PatternPart)
+joined_parts (Node (Cons (Leaf (Name f)) (Cons e (Cons d es)))) = if bytes_eq f (codes "re.++") then pattern_parts (Cons e (Cons d es)) else None
+joined_parts e = None
+
+abbrev pub either : {A : Type 0} → Option A → Option A → Option A
+either (Some x) other = Some x
+either None other = other
+
+-- `(str.to_re "")`, one part, or `(re.++ p q ..)`
+abbrev pub pattern : Expression → Option (List PatternPart)
+pattern e = if is_empty_pattern e then Some [] else either (pattern_part e) (joined_parts e)
+
+-- ---- expressions
+
+-- what stands in brackets, by its head
+pub data Shape : Type 0 where
+  -- `(_ bvN n)`
+  BitLiteral : (width number : ℕ) → Shape
+  -- `(as c S)`
+  Qualified : (constructor : List ℕ) → (sort : Expression) → Shape
+  -- `(f x ..)`
+  Applied : (function : List ℕ) → Shape
+  -- `((_ zero_extend k) x)`
+  Extended : (bits : ℕ) → Shape
+  -- `((_ is c) x)`
+  Tested : (constructor : List ℕ) → Shape
+  -- `(str.in_re x R)`
+  Matched : List PatternPart → Shape
+  Unformed : Shape
+
+abbrev pub bit_literal : Expressions → Shape
+bit_literal (Cons (Leaf (Name n)) (Cons (Leaf (Number width)) Nil)) =
+    if bytes_eq (take 2 n) (codes "bv") && some_all is_digit (drop 2 n) then BitLiteral width (number_in 10 (drop 2 n)) else Unformed
+bit_literal es = Unformed
+
+abbrev pub qualified : Expressions → Shape
+qualified (Cons (Leaf (Name c)) (Cons sort Nil)) = Qualified c sort
+qualified es = Unformed
+
+abbrev pub matched_by : Option (List PatternPart) → Shape
+matched_by (Some p) = Matched p
+matched_by None = Unformed
+
+abbrev pub matched : Expressions → Shape
+matched (Cons e (Cons r Nil)) = matched_by (pattern r)
+matched es = Unformed
+
+abbrev pub indexed : Expressions → Shape
+indexed (Cons (Leaf (Name f)) (Cons (Leaf (Number bits)) Nil)) = if bytes_eq f (codes "zero_extend") then Extended bits else Unformed
+indexed (Cons (Leaf (Name f)) (Cons (Leaf (Name c)) Nil)) = if bytes_eq f (codes "is") then Tested c else Unformed
+indexed es = Unformed
+
+abbrev pub shape : Expression → Expressions → Shape
+shape (Leaf (Name f)) es =
+    if bytes_eq f (codes "_") then bit_literal es
+    else (if bytes_eq f (codes "as") then qualified es else (if bytes_eq f (codes "str.in_re") then matched es else Applied f))
+shape (Node (Cons (Leaf (Name f)) fs)) es = if bytes_eq f (codes "_") then indexed fs else Unformed
+shape e es = Unformed
+
+abbrev pub is_first : List Bool → Bool
+is_first [] = false
+is_first (b ∷ bs) = b
+
+abbrev pub are_all : List Bool → Bool
+are_all [] = true
+are_all (b ∷ bs) = b && are_all bs
+
+abbrev pub shape_is_known : (List ℕ → ℕ → Bool) → (List ℕ → Bool) → Shape → List Bool → Bool
+shape_is_known sorts names (BitLiteral width number) arguments = true
+shape_is_known sorts names (Qualified c sort) arguments = names c && is_sort sorts sort
+shape_is_known sorts names (Applied f) arguments = names f && are_all arguments
+shape_is_known sorts names (Extended bits) arguments = are_all arguments
+shape_is_known sorts names (Tested c) arguments = names c && are_all arguments
+shape_is_known sorts names (Matched p) arguments = is_first arguments
+shape_is_known sorts names Unformed arguments = false
+
+-- each name in an expression is there, in its kind
+abbrev mutual
+  pub is_stated : (List ℕ → ℕ → Bool) → (List ℕ → Bool) → Expression → Bool
+  is_stated sorts names (Leaf (Name n)) = names n
+  is_stated sorts names (Leaf a) = true
+  is_stated sorts names (Node Nil) = false
+  is_stated sorts names (Node (Cons e es)) = shape_is_known sorts names (shape e es) (each_stated sorts names es)
+
+  pub each_stated : (List ℕ → ℕ → Bool) → (List ℕ → Bool) → Expressions → List Bool
+  each_stated sorts names Nil = []
+  each_stated sorts names (Cons e es) = is_stated sorts names e ∷ each_stated sorts names es
+
+abbrev pub knows : State → Expression → Bool
+knows s e = is_stated (has_sort s) (has_name s) e
+
+-- ---- what commands leave
+
+abbrev pub with_name : List ℕ → Entry → State → State
+with_name n entry s = record s { last = record s.last { names = (n, entry) ∷ s.last.names } }
+
+abbrev pub with_sort : List ℕ → ℕ → State → State
+with_sort n parameters s = record s { last = record s.last { sorts = (n, parameters) ∷ s.last.sorts } }
+
+abbrev pub with_assertion : Expression → State → State
+with_assertion e s = record s { last = record s.last { assertions = s.last.assertions ++ e ∷ [] } }
+
+abbrev pub with_level : State → State
+with_level s = record s { last = empty_level; below = s.last ∷ s.below }
+
+abbrev pub declare : List ℕ → Entry → State → Option State
+declare n entry s = if is_taken s n then None else Some (with_name n entry s)
+
+-- selectors of one constructor, from a place on
+abbrev pub declare_selectors : List ℕ → List (List ℕ) → List ℕ → ℕ → List (List ℕ × Expression) → State → Option State
+declare_selectors d ps c place [] s = Some s
+declare_selectors d ps c place (x ∷ xs) s =
+    if is_sort (λ n k. has_sort s n k || (is_in n ps && (k == 0))) x.1
+    then (declare x.0 (Selects d ps c place x.1) s >>= declare_selectors d ps c (suc place) xs)
+    else None
+
+abbrev pub declare_constructors : List ℕ → List (List ℕ) → ℕ → List Constructor → State → Option State
+declare_constructors d ps place [] s = Some s
+declare_constructors d ps place (c ∷ cs) s =
+    declare c.name (Builds d ps place (map (λ x. x.1) c.selectors)) s >>= λ t. declare_selectors d ps c.name 0 c.selectors t >>= declare_constructors d ps (suc place) cs
+
+-- the last level goes with all that it has; level 0 stays
+abbrev pub without_level : State → List Level → Option State
+without_level s [] = None
+without_level s (l ∷ ls) = Some (record s { last = l; below = ls })
+
+-- what a command leaves, or nothing where it breaks the rules of declarations
+abbrev pub obey : Command → State → Option State
+obey (DeclareDatatype d ps cs) s =
+    if is_taken_sort s d || list_any (is_taken_sort s) ps then None
+    else (declare_constructors d ps 0 cs s >>= λ t. Some (with_sort d (length ps) t))
+obey (DeclareConst c sort) s = if is_sort (has_sort s) sort then declare c (Constant sort) s else None
+obey (DefineFun f sort body) s =
+    if is_sort (has_sort s) sort && knows s body then declare f (Defined sort body) s else None
+obey (Assert e) s = if knows s e then Some (with_assertion e s) else None
+obey (DeclareFun f argument sort) s =
+    if is_sort (has_sort s) argument && is_sort (has_sort s) sort then declare f (Function argument sort) s else None
+obey (SetLogic l) s = Some s
+obey (SetOption o v) s = Some s
+obey CheckSat s = Some s
+obey GetModel s = Some s
+obey Reset s = Some start
+obey Exit s = Some (record s { ended = true })
+obey Push s = Some (with_level s)
+obey Pop s = without_level s s.below
+
+-- nothing behind an `exit` is obeyed
+abbrev pub step : Command → State → Option State
+step c s = if s.ended then Some s else obey c s
+
+abbrev pub run : List Command → State → Option State
+run [] s = Some s
+run (c ∷ cs) s = step c s >>= run cs
+
+-- The text is these commands.
+pub record Holds (bytes : List ℕ) (commands : List Command) : Type 0 where
+  pub reads : Reads bytes (map stated commands)
+  pub plain : IsTrue (list_all in_script reads.pieces)
+
+-- The text is a script, and this is what it comes to.
+pub record Script (bytes : List ℕ) (state : State) : Type 0 where
+  pub commands : List Command
+  pub holds : Holds bytes commands
+  pub runs : run commands start ≡ Some state
+
+-- empty, or ends with a line feed
+abbrev pub IsWhole : List ℕ → Type 0
+IsWhole [] = Unit {0}
+IsWhole (b ∷ bs) = (front : List ℕ) × (b ∷ bs ≡ front ++ 10 ∷ [])

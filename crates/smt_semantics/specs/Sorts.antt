@@ -1,0 +1,288 @@
+-- The sorts of expressions, and of values. A sort is an expression.
+use Rattle.std.specs.Prelude.{◌≡◌, ℕ, ◌+◌, Bool, true, false, ◌&&◌, ◌==◌, nat_le, if◌then◌else◌, codes, bytes_eq, length, map, List, [], ◌∷◌, Option, Some, None, is_some, IsTrue, All}
+use Rattle.std.specs.List.{list_all}
+use Rattle.smt_term.specs.Plain.{PlainOp, AndOp, BvnegOp, EqOp, IteOp, NotOp, OrOp, SetInterOp, SetMemberOp, SetSubsetOp, StringLikeOp, ZeroExtendOp}
+use Rattle.smt_semantics.specs.ScriptValues.{ScriptValue, TruthOf, BitsOf, TextOf, ConstructorOf, SetOf, ScriptValues, no_script_values, one_script_value}
+use Rattle.smt_sexpr.specs.Lexicon.{Atom, Bits, Number, Text, Name}
+use Rattle.smt_sexpr.specs.Reading.{Expression, Leaf, Node, Expressions, Nil, Cons}
+use Rattle.smt_semantics.specs.Script.{name, group, exprs, Entry, Constant, Function, Defined, Builds, Selects, Shape, BitLiteral, Qualified, Applied, Extended, Tested, Matched, Unformed, shape, look_up, operator_of, is_in, names_of, assertions_of, State, ◌>>=◌}
+use Rattle.smt_semantics.specs.Arithmetic.{are_bits, bit_function, bit_test}
+use Rattle.smt_semantics.specs.Order.{ascends}
+
+-- ---- sorts as they are written
+
+abbrev pub same_atom : Atom → Atom → Bool
+same_atom (Bits v m) (Bits w n) = (v == w) && (m == n)
+same_atom (Number m) (Number n) = m == n
+same_atom (Text s) (Text t) = bytes_eq s t
+same_atom (Name m) (Name n) = bytes_eq m n
+same_atom a b = false
+
+abbrev mutual
+  pub same_sort : Expression → Expression → Bool
+  same_sort (Leaf a) (Leaf b) = same_atom a b
+  same_sort (Node es) (Node fs) = same_sorts es fs
+  same_sort e f = false
+
+  pub same_sorts : Expressions → Expressions → Bool
+  same_sorts Nil Nil = true
+  same_sorts (Cons e es) (Cons f fs) = same_sort e f && same_sorts es fs
+  same_sorts es fs = false
+
+abbrev pub bool_sort : Expression
+bool_sort = name (codes "Bool")
+
+abbrev pub string_sort : Expression
+string_sort = name (codes "String")
+
+abbrev pub bit_sort : ℕ → Expression
+bit_sort width = group (name (codes "_") ∷ name (codes "BitVec") ∷ Leaf (Number width) ∷ [])
+
+abbrev pub set_sort : Expression → Expression
+set_sort s = group (name (codes "Set") ∷ s ∷ [])
+
+-- a datatype's sort: its name, or its name with its arguments
+abbrev pub datatype_sort : List ℕ → List Expression → Expression
+datatype_sort d [] = name d
+datatype_sort d (s ∷ ss) = group (name d ∷ s ∷ ss)
+
+-- the width of a sort of bits, the element of a sort of sets
+abbrev pub width_of : Expression → Option ℕ
+width_of (Node (Cons (Leaf (Name u)) (Cons (Leaf (Name b)) (Cons (Leaf (Number width)) Nil)))) = if bytes_eq u (codes "_") && bytes_eq b (codes "BitVec") then Some width else None
+width_of e = None
+
+abbrev pub element_of : Expression → Option Expression
+element_of (Node (Cons (Leaf (Name f)) (Cons e Nil))) = if bytes_eq f (codes "Set") then Some e else None
+element_of e = None
+
+abbrev pub listed_sorts : Expressions → List Expression
+listed_sorts Nil = []
+listed_sorts (Cons e es) = e ∷ listed_sorts es
+
+-- the arguments of a sort of this datatype
+abbrev pub arguments_of : List ℕ → Expression → Option (List Expression)
+arguments_of d (Leaf (Name n)) = if bytes_eq d n then Some [] else None
+arguments_of d (Node (Cons (Leaf (Name n)) (Cons e es))) = if bytes_eq d n then Some (e ∷ listed_sorts es) else None
+arguments_of d e = None
+
+-- parameters with what stands for them
+abbrev pub paired : List (List ℕ) → List Expression → List (List ℕ × Expression)
+paired [] es = []
+paired (p ∷ ps) [] = []
+paired (p ∷ ps) (e ∷ es) = (p, e) ∷ paired ps es
+
+abbrev pub or_itself : Expression → Option Expression → Expression
+or_itself e None = e
+or_itself e (Some f) = f
+
+-- a sort with its parameters replaced
+abbrev mutual
+  pub instance : List (List ℕ × Expression) → Expression → Expression
+  instance table (Leaf (Name n)) = or_itself (name n) (look_up n table)
+  instance table (Leaf a) = Leaf a
+  instance table (Node es) = Node (instances table es)
+
+  pub instances : List (List ℕ × Expression) → Expressions → Expressions
+  instances table Nil = Nil
+  instances table (Cons e es) = Cons (instance table e) (instances table es)
+
+-- the field sorts of a constructor, or of a selector, at a sort of its datatype
+abbrev pub fields_at : List ℕ → List (List ℕ) → List Expression → Expression → Option (List Expression)
+fields_at d ps fields sort = arguments_of d sort >>= λ es. if length es == length ps then Some (map (instance (paired ps es)) fields) else None
+
+-- what each parameter has to be where a field's sort is the one given
+abbrev pub bound : List ℕ → Expression → List (List ℕ × Expression) → Option Expression → Option (List (List ℕ × Expression))
+bound n s table None = Some ((n, s) ∷ table)
+bound n s table (Some t) = if same_sort s t then Some table else None
+
+abbrev mutual
+  pub match_sort : List (List ℕ) → Expression → Expression → List (List ℕ × Expression) → Option (List (List ℕ × Expression))
+  match_sort ps (Leaf (Name n)) s table = if is_in n ps then bound n s table (look_up n table) else (if same_sort (name n) s then Some table else None)
+  match_sort ps (Leaf a) s table = if same_sort (Leaf a) s then Some table else None
+  match_sort ps (Node es) (Leaf b) table = None
+  match_sort ps (Node es) (Node fs) table = match_sorts ps es fs table
+
+  pub match_sorts : List (List ℕ) → Expressions → Expressions → List (List ℕ × Expression) → Option (List (List ℕ × Expression))
+  match_sorts ps Nil Nil table = Some table
+  match_sorts ps (Cons e es) (Cons f fs) table = match_sort ps e f table >>= match_sorts ps es fs
+  match_sorts ps es fs table = None
+
+abbrev pub all_bound : List (List ℕ) → List (List ℕ × Expression) → Option (List Expression)
+all_bound [] table = Some []
+all_bound (p ∷ ps) table = look_up p table >>= λ e. all_bound ps table >>= λ es. Some (e ∷ es)
+
+-- ---- the sorts of expressions
+
+abbrev pub Entries : Type 0
+Entries = List ℕ → Option Entry
+
+abbrev pub entries : State → Entries
+entries s n = look_up n (names_of s)
+
+abbrev pub two_widths : Option ℕ → Option ℕ → Option ℕ
+two_widths v w = v >>= λ m. w >>= λ n. if m == n then Some m else None
+
+abbrev pub bits_sort : Bool → Bool → List Expression → Option Expression
+bits_sort result_bits result_truth (s ∷ t ∷ []) = two_widths (width_of s) (width_of t) >>= λ w. if result_bits then Some (bit_sort w) else (if result_truth then Some bool_sort else None)
+bits_sort result_bits result_truth ss = None
+
+abbrev pub if_sort : Bool → Expression → Option Expression
+if_sort b s = if b then Some s else None
+
+abbrev pub not_sort : List Expression → Option Expression
+not_sort (s ∷ []) = if_sort (same_sort s bool_sort) bool_sort
+not_sort ss = None
+
+abbrev pub two_truths_sort : List Expression → Option Expression
+two_truths_sort (s ∷ t ∷ []) = if_sort (same_sort s bool_sort && same_sort t bool_sort) bool_sort
+two_truths_sort ss = None
+
+abbrev pub equal_sort : List Expression → Option Expression
+equal_sort (s ∷ t ∷ []) = if_sort (same_sort s t) bool_sort
+equal_sort ss = None
+
+abbrev pub choice_sort : List Expression → Option Expression
+choice_sort (b ∷ s ∷ t ∷ []) = if_sort (same_sort b bool_sort && same_sort s t) s
+choice_sort ss = None
+
+abbrev pub negated_sort : List Expression → Option Expression
+negated_sort (s ∷ []) = width_of s >>= λ w. Some s
+negated_sort ss = None
+
+abbrev pub extended_sort : ℕ → List Expression → Option Expression
+extended_sort k (s ∷ []) = width_of s >>= λ w. if_sort (nat_le (w + k) 128) (bit_sort (w + k))
+extended_sort k ss = None
+
+abbrev pub member_sort : List Expression → Option Expression
+member_sort (s ∷ t ∷ []) = element_of t >>= λ e. if_sort (same_sort s e) bool_sort
+member_sort ss = None
+
+abbrev pub two_sets_sort : Bool → List Expression → Option Expression
+two_sets_sort result_set (s ∷ t ∷ []) = element_of s >>= λ e. if_sort (same_sort s t) (if result_set then s else bool_sort)
+two_sets_sort result_set ss = None
+
+abbrev pub text_sort : List Expression → Option Expression
+text_sort (s ∷ []) = if_sort (same_sort s string_sort) bool_sort
+text_sort ss = None
+
+abbrev pub operator_sort : PlainOp → List Expression → Option Expression
+operator_sort NotOp ss = not_sort ss
+operator_sort AndOp ss = two_truths_sort ss
+operator_sort OrOp ss = two_truths_sort ss
+operator_sort EqOp ss = equal_sort ss
+operator_sort IteOp ss = choice_sort ss
+operator_sort BvnegOp ss = negated_sort ss
+operator_sort (ZeroExtendOp k) ss = extended_sort k ss
+operator_sort SetMemberOp ss = member_sort ss
+operator_sort SetSubsetOp ss = two_sets_sort false ss
+operator_sort SetInterOp ss = two_sets_sort true ss
+operator_sort (StringLikeOp p) ss = text_sort ss
+operator_sort op ss = bits_sort (is_some (bit_function op)) (is_some (bit_test op)) ss
+
+-- elements of one sort, and last a set of it
+abbrev pub insert_sort : List Expression → Option Expression
+insert_sort [] = None
+insert_sort (s ∷ []) = element_of s >>= λ e. Some s
+insert_sort (s ∷ t ∷ ss) = insert_sort (t ∷ ss) >>= λ u. if_sort (same_sort u (set_sort s)) u
+
+-- a constructor, a selector or a function, applied
+abbrev pub entry_sort : Entry → List Expression → Option Expression
+entry_sort (Constant sort) ss = if_sort (length ss == 0) sort
+entry_sort (Defined sort body) ss = if_sort (length ss == 0) sort
+entry_sort (Function argument sort) ss = if_sort (same_sorts (exprs ss) (exprs (argument ∷ []))) sort
+entry_sort (Builds d ps place fields) ss = match_sorts ps (exprs fields) (exprs ss) [] >>= λ table. all_bound ps table >>= λ es. Some (datatype_sort d es)
+entry_sort (Selects d ps c place field) [] = None
+entry_sort (Selects d ps c place field) (s ∷ t ∷ ss) = None
+entry_sort (Selects d ps c place field) (s ∷ []) = arguments_of d s >>= λ es. if_sort (length es == length ps) (instance (paired ps es) field)
+
+-- `(as none S)`: a constructor of S's datatype without arguments
+abbrev pub is_constant_at : Option Entry → Expression → Bool
+is_constant_at (Some (Builds d ps place [])) sort = is_some (fields_at d ps [] sort)
+is_constant_at x sort = false
+
+-- `((_ is c) x)`
+abbrev pub tested_sort : Option Entry → List Expression → Option Expression
+tested_sort (Some (Builds d ps place fields)) (s ∷ []) = fields_at d ps fields s >>= λ fs. Some bool_sort
+tested_sort x ss = None
+
+abbrev pub sort_by_operator : Option PlainOp → List ℕ → List Expression → Option Expression → Option Expression
+sort_by_operator (Some op) f ss declared = operator_sort op ss
+sort_by_operator None f ss declared = if bytes_eq f (codes "set.insert") then insert_sort ss else declared
+
+abbrev pub applied_sort : Option Entry → List ℕ → List Expression → Option Expression
+applied_sort x f ss = sort_by_operator (operator_of f) f ss (x >>= λ y. entry_sort y ss)
+
+abbrev pub named_sort : Option Entry → List ℕ → Option Expression
+named_sort x n = if bytes_eq n (codes "true") then Some bool_sort else (if bytes_eq n (codes "false") then Some bool_sort else (x >>= λ y. entry_sort y []))
+
+abbrev pub qualified_sort : Option Entry → List ℕ → Expression → Option Expression
+qualified_sort x c sort = if bytes_eq c (codes "set.empty") then (element_of sort >>= λ e. Some sort) else if_sort (bytes_eq c (codes "none") && is_constant_at x sort) sort
+
+abbrev pub each_there : {A : Type 0} → List (Option A) → Option (List A)
+each_there [] = Some []
+each_there (x ∷ xs) = x >>= λ a. each_there xs >>= λ as'. Some (a ∷ as')
+
+abbrev pub first_there : {A : Type 0} → List (Option A) → Option A
+first_there [] = None
+first_there (x ∷ xs) = x
+
+abbrev pub shape_sort : Entries → Shape → List (Option Expression) → Option Expression
+shape_sort here (BitLiteral width number) ss = if_sort (are_bits width number) (bit_sort width)
+shape_sort here (Qualified c sort) ss = qualified_sort (here c) c sort
+shape_sort here (Applied f) ss = each_there ss >>= applied_sort (here f) f
+shape_sort here (Extended bits) ss = each_there ss >>= operator_sort (ZeroExtendOp bits)
+shape_sort here (Tested c) ss = each_there ss >>= tested_sort (here c)
+shape_sort here (Matched p) ss = first_there ss >>= λ s. operator_sort (StringLikeOp p) (s ∷ [])
+shape_sort here Unformed ss = None
+
+abbrev mutual
+  pub sort_in : Entries → Expression → Option Expression
+  sort_in here (Leaf (Name n)) = named_sort (here n) n
+  sort_in here (Leaf (Text t)) = Some string_sort
+  sort_in here (Leaf a) = None
+  sort_in here (Node Nil) = None
+  sort_in here (Node (Cons e es)) = shape_sort here (shape e es) (sorts_in here es)
+
+  pub sorts_in : Entries → Expressions → List (Option Expression)
+  sorts_in here Nil = []
+  sorts_in here (Cons e es) = sort_in here e ∷ sorts_in here es
+
+abbrev pub sort_of : State → Expression → Option Expression
+sort_of s e = sort_in (entries s) e
+
+abbrev pub IsBodyWellSorted : State → List ℕ × Entry → Type 0
+IsBodyWellSorted s (n, Defined sort body) = sort_of s body ≡ Some sort
+IsBodyWellSorted s (n, x) = Unit {0}
+
+-- Each body has its definition's sort, and each assertion the sort Bool.
+pub record IsWellSorted (s : State) : Type 0 where
+  pub bodies : All (λ p. IsBodyWellSorted s p) (names_of s)
+  pub assertions : All (λ e. sort_of s e ≡ Some bool_sort) (assertions_of s)
+
+-- ---- the sorts of values
+
+abbrev pub constructor_fields : Option Entry → ℕ → Expression → Option (List Expression)
+constructor_fields (Some (Builds d ps p fields)) place sort = if p == place then fields_at d ps fields sort else None
+constructor_fields x place sort = None
+
+-- the value is one of the sort: a string has code points up to 196607, a set ascends strictly
+abbrev mutual
+  pub has_sort_in : Entries → Expression → ScriptValue → Bool
+  has_sort_in here sort (TruthOf b) = same_sort sort bool_sort
+  has_sort_in here sort (BitsOf width number) = same_sort sort (bit_sort width) && are_bits width number
+  has_sort_in here sort (TextOf text) = same_sort sort string_sort && list_all (λ c. nat_le c 196607) text
+  has_sort_in here sort (ConstructorOf place c values) = elim (constructor_fields (here c) place sort) [ Some fields ↦ have_sorts_in here fields values | None ↦ false ]
+  has_sort_in here sort (SetOf values) = elim (element_of sort) [ Some element ↦ all_have_sort_in here element values && ascends values | None ↦ false ]
+
+  pub have_sorts_in : Entries → List Expression → ScriptValues → Bool
+  have_sorts_in here [] no_script_values = true
+  have_sorts_in here [] (one_script_value v vs) = false
+  have_sorts_in here (s ∷ ss) no_script_values = false
+  have_sorts_in here (s ∷ ss) (one_script_value v vs) = has_sort_in here s v && have_sorts_in here ss vs
+
+  pub all_have_sort_in : Entries → Expression → ScriptValues → Bool
+  all_have_sort_in here s no_script_values = true
+  all_have_sort_in here s (one_script_value v vs) = has_sort_in here s v && all_have_sort_in here s vs
+
+abbrev pub HasSort : State → Expression → ScriptValue → Type 0
+HasSort s sort v = IsTrue (has_sort_in (entries s) sort v)

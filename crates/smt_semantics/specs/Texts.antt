@@ -1,0 +1,122 @@
+-- The texts of sorts and expressions, and the lines of all commands.
+use Rattle.std.specs.Prelude.{◌≡◌, ℕ, ◌<◌, ◌^◌, decimal, true, not, IsTrue, codes, map, List, [], ◌∷◌, ◌++◌, Option, Some, None}
+use Rattle.smt_semantics.specs.ScriptValues.{BitsOf}
+use Rattle.smt_sexpr.specs.Lexicon.{Number}
+use Rattle.smt_sexpr.specs.Reading.{Expression, Leaf}
+use Rattle.smt_semantics.specs.Script.{Command, Constructor, DeclareDatatype, DeclareFun, SetLogic, SetOption, CheckSat, GetModel, Reset, Exit, Push, Pop, DefineFun, Assert, constructor, group, name, start, State, Script, IsWhole, obey, step}
+use Rattle.smt_semantics.specs.Arithmetic.{are_bits}
+use Rattle.smt_semantics.specs.Sorts.{Entries, bit_sort, bool_sort, sort_of}
+use Rattle.smt_semantics.specs.Value.{Meaning, evaluate}
+use Rattle.smt_semantics.specs.Written.{Writes, IsLine, IsName, is_gap, Stands}
+
+-- ---- any number of arguments
+
+-- a text, and what it writes
+pub record Part : Type 0 where
+  pub text : List ℕ
+  pub expr : Expression
+
+abbrev pub AreWritten : List Part → Type 0
+AreWritten [] = Unit {0}
+AreWritten (p ∷ ps) = Writes p.text p.expr × AreWritten ps
+
+-- a space before each, and what stands behind them
+abbrev pub spaced : List Part → List ℕ → List ℕ
+spaced [] end = end
+spaced (p ∷ ps) end = codes " " ++ (p.text ++ spaced ps end)
+
+-- `(f x y)`, and `(f )` by a gap
+abbrev pub GroupsWrite : Type 0
+GroupsWrite = (head : List ℕ) (h : Expression) (ps : List Part) (gap : List ℕ) → Writes head h → AreWritten ps → IsTrue (is_gap gap)
+    → Writes (codes "(" ++ (head ++ spaced ps (gap ++ codes ")"))) (group (h ∷ map (λ p. p.expr) ps))
+
+-- ---- literals and their sorts
+
+abbrev pub bits_text : ℕ → ℕ → List ℕ
+bits_text width number = codes "(_ bv" ++ (decimal number ++ (codes " " ++ (decimal width ++ codes ")")))
+
+abbrev pub bits_expr : ℕ → ℕ → Expression
+bits_expr width number = group (name (codes "_") ∷ name (codes "bv" ++ decimal number) ∷ Leaf (Number width) ∷ [])
+
+abbrev pub BitsWrite : Type 0
+BitsWrite = (width number : ℕ) → width < 10 ^ 64 → number < 10 ^ 64 → Writes (bits_text width number) (bits_expr width number)
+
+abbrev pub BitSortsWrite : Type 0
+BitSortsWrite = (width : ℕ) → width < 10 ^ 64 → Writes (codes "(_ BitVec " ++ (decimal width ++ codes ")")) (bit_sort width)
+
+abbrev pub BitsHaveValues : Type 0
+BitsHaveValues = (here : Entries) (env : Meaning) (width number : ℕ) → number < 10 ^ 64 → are_bits width number ≡ true → evaluate here env (bits_expr width number) ≡ Some (BitsOf width number)
+
+-- ---- lines
+
+-- a constructor's text
+pub record ConstructorPart : Type 0 where
+  pub text : List ℕ
+  pub built : Constructor
+
+abbrev pub AreConstructors : List ConstructorPart → Type 0
+AreConstructors [] = Unit {0}
+AreConstructors (c ∷ cs) = Writes c.text (constructor c.built) × AreConstructors cs
+
+-- each on a line of its own, behind two spaces
+abbrev pub below_each : List ConstructorPart → List ℕ → List ℕ
+below_each [] end = end
+below_each (c ∷ cs) end = codes "\n  " ++ (c.text ++ below_each cs end)
+
+abbrev pub constructor_lines : List ConstructorPart → List ℕ → List ℕ
+constructor_lines [] end = codes "\n  " ++ end
+constructor_lines (c ∷ cs) end = below_each (c ∷ cs) end
+
+abbrev pub DatatypeLine : Type 0
+DatatypeLine = (d : List ℕ) (cs : List ConstructorPart) → IsName d → AreConstructors cs
+    → IsLine (codes "(declare-datatype " ++ (d ++ (codes " (" ++ constructor_lines cs (codes "))\n")))) (DeclareDatatype d [] (map (λ c. c.built) cs) ∷ [])
+
+-- `(c (s S) ..)`; behind a gap where there is no selector, `(c )`
+abbrev pub SelectorsWrite : Type 0
+SelectorsWrite = (c : Constructor) (ps : List Part) (gap : List ℕ) → IsName c.name → AreWritten ps → IsTrue (is_gap gap) → map (λ p. p.expr) ps ≡ map (λ s. group (name s.0 ∷ s.1 ∷ [])) c.selectors
+    → Writes (codes "(" ++ (c.name ++ spaced ps (gap ++ codes ")"))) (constructor c)
+
+abbrev pub DeclareFunLine : Type 0
+DeclareFunLine = (f argument sort : List ℕ) (a s : Expression) → IsName f → Writes argument a → Writes sort s
+    → IsLine (codes "(declare-fun " ++ (f ++ (codes " (" ++ (argument ++ (codes ") " ++ (sort ++ codes ")\n")))))) (DeclareFun f a s ∷ [])
+
+abbrev pub SetLogicLine : Type 0
+SetLogicLine = (l : List ℕ) → IsName l → IsLine (codes "(set-logic " ++ l ++ codes ")\n") (SetLogic l ∷ [])
+
+abbrev pub SetOptionLine : Type 0
+SetOptionLine = (o v : List ℕ) (e : Expression) → IsName (codes ":" ++ o) → Writes v e → IsLine (codes "(set-option " ++ (codes ":" ++ o) ++ codes " " ++ v ++ codes ")\n") (SetOption o e ∷ [])
+
+abbrev pub PlainLines : Type 0
+PlainLines = IsLine (codes "(check-sat)\n") (CheckSat ∷ []) × IsLine (codes "(get-model)\n") (GetModel ∷ []) × IsLine (codes "(reset)\n") (Reset ∷ [])
+    × IsLine (codes "(exit)\n") (Exit ∷ []) × IsLine (codes "(push 1)\n") (Push ∷ []) × IsLine (codes "(pop 1)\n") (Pop ∷ [])
+
+-- a line at the end of a text that stands, whose command is obeyed, leaves a text that stands
+abbrev pub CommandsExtend : Type 0
+CommandsExtend = (text line : List ℕ) (c : Command) (s t : State) → Stands text s → IsLine line (c ∷ []) → obey c s ≡ Some t → IsTrue (not t.ended) → Stands (text ++ line) t
+
+-- ---- well-sorted scripts
+
+-- a body has its definition's sort, an assertion the sort Bool, by the declarations that are live at the command
+abbrev pub IsSortedCommand : State → Command → Type 0
+IsSortedCommand s (DefineFun f sort body) = sort_of s body ≡ Some sort
+IsSortedCommand s (Assert e) = sort_of s e ≡ Some bool_sort
+IsSortedCommand s c = Unit {0}
+
+abbrev pub OnState : (State → Type 0) → Option State → Type 0
+OnState P None = ⊥
+OnState P (Some s) = P s
+
+abbrev pub AreSorted : List Command → State → Type 0
+AreSorted [] s = Unit {0}
+AreSorted (c ∷ cs) s = IsSortedCommand s c × OnState (AreSorted cs) (step c s)
+
+-- The text is a well-sorted script, and this is what it comes to.
+pub record SortedScript (bytes : List ℕ) (state : State) : Type 0 where
+  pub script : Script bytes state
+  pub sorted : AreSorted script.commands start
+
+abbrev pub SortedLinesAdd : Type 0
+SortedLinesAdd = (text line : List ℕ) (c : Command) (s t : State) → IsWhole text → SortedScript text s → IsLine line (c ∷ []) → step c s ≡ Some t → IsSortedCommand s c → SortedScript (text ++ line) t
+
+abbrev pub SortedCommentsAdd : Type 0
+SortedCommentsAdd = (text line : List ℕ) (s : State) → IsWhole text → SortedScript text s → IsLine line [] → SortedScript (text ++ line) s

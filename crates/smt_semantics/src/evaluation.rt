@@ -1,0 +1,39 @@
+ghost use Rattle.smt_semantics.specs.Meanings.{ApplicationsHaveSorts, ConstructorsApply, ConstructorsStand, DatatypesLeave, ExtensionsApply, FunctionsApply, MatchesApply, NonesStand, OperatorsApply, PopsGiveBack, SelectorsApply, SetsStand, StepsKeepLevels, TestsApply};
+ghost use Rattle.smt_semantics.specs.Order.{OrderTurns, PutsKeepSets, SameIsEqual};
+ghost use Rattle.smt_semantics.specs.Value.{FreeNamesDecide, NamesHaveValues, StepsKeepValues};
+
+/// What a command leaves has the values of what was there before it, and a new name has its own.
+pub fn commands_keep_values()
+    ensures kept { StepsKeepValues }
+    ensures named { NamesHaveValues }
+    ensures free { FreeNamesDecide }
+{}
+
+/// Values of one place in the order are one value.
+pub fn script_values_are_ordered()
+    ensures equal { SameIsEqual }
+    ensures turned { OrderTurns }
+    ensures sets { PutsKeepSets }
+{}
+
+/// What operators and declared names give where they are applied.
+pub fn applications_have_values()
+    ensures operators { OperatorsApply }
+    ensures constructors { ConstructorsApply }
+    ensures standing { ConstructorsStand }
+    ensures functions { FunctionsApply }
+    ensures selectors { SelectorsApply }
+    ensures sorts { ApplicationsHaveSorts }
+    ensures extensions { ExtensionsApply }
+    ensures tests { TestsApply }
+    ensures matching { MatchesApply }
+    ensures nones { NonesStand }
+    ensures sets { SetsStand }
+{}
+
+/// What a datatype leaves, and what a level.
+pub fn datatypes_and_levels_leave()
+    ensures datatypes { DatatypesLeave }
+    ensures levels { PopsGiveBack }
+    ensures within { StepsKeepLevels }
+{}

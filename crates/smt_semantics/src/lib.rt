@@ -1,0 +1,6 @@
+//! Laws.
+#![tactic(auto)]
+
+pub mod evaluation;
+pub mod samples;
+pub mod scripts;

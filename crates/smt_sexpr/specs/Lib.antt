@@ -1,0 +1,2 @@
+pub mod Lexicon
+pub mod Reading

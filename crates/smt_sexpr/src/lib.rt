@@ -1,0 +1,4 @@
+//! Laws.
+#![tactic(auto)]
+
+pub mod laws;

@@ -1,0 +1,12 @@
+pub mod Agreement
+pub mod Defaults
+pub mod LiteralValues
+pub mod Matching
+pub mod RecordFaults
+pub mod SortedSets
+pub mod SortedValues
+pub mod Soundness
+pub mod TotalOrder
+pub mod TypeOrder
+pub mod Utf8Order
+pub mod ValueOrder

@@ -1,0 +1,38 @@
+-- Laws of the definitions.
+use Rattle.std.specs.Prelude.{◌≡◌, ℕ, None, List, [], ◌∷◌, IsTrue, IsUtf8, IfSome, false}
+use Rattle.std.specs.Str.{chars}
+use Rattle.smt_term.specs.ValueOrder.{text_cmp}
+use Rattle.std.specs.List.{AllByRecursion}
+use Rattle.smt_term.specs.Defaults.{default_interpretation}
+use Rattle.smt_term.specs.Faults.{first_fault, term_fault, is_about_records}
+use Rattle.smt_term.specs.Formed.{IsFormed}
+use Rattle.smt_term.specs.Interpretations.{IsInterpretation, Agree, restrict}
+use Rattle.smt_term.specs.Meaning.{term_value}
+use Rattle.smt_term.specs.Tables.{Interpretation}
+use Rattle.smt_term.specs.Types.{typed, Typed}
+use Rattle.smt_term.specs.TypeValues.{Enums, IsValue}
+use Rattle.smt_term.specs.Plain.{PlainType, PlainTerm}
+
+-- a typed term without fault has in every interpretation a value of its type
+abbrev pub TypedTermsHaveValues : Type 0
+TypedTermsHaveValues = (enums : Enums) (I : Interpretation) (t : PlainTerm) (ty : PlainType) → Typed t ty → IsFormed t → first_fault enums (t ∷ []) ≡ None → IsInterpretation enums (t ∷ []) I → IsValue enums ty (term_value I t)
+
+-- typed terms without fault have an interpretation: the one of default values
+abbrev pub DefaultsAreInterpretations : Type 0
+DefaultsAreInterpretations = (enums : Enums) (ts : List PlainTerm) → AllByRecursion (λ t. IsTrue (typed t)) ts → first_fault enums ts ≡ None → IsInterpretation enums ts (default_interpretation enums)
+
+-- a value depends on nothing but what the term reaches
+abbrev pub ReachedDecides : Type 0
+ReachedDecides = (ts : List PlainTerm) (I J : Interpretation) → Agree ts I J → AllByRecursion (λ t. term_value I t ≡ term_value J t) ts
+
+-- what is kept of an interpretation gives the same
+abbrev pub RestrictionAgrees : Type 0
+RestrictionAgrees = (ts : List PlainTerm) (I : Interpretation) → Agree ts I (restrict I ts)
+
+-- texts in UTF-8 stand in the order of their code points
+abbrev pub Utf8KeepsOrder : Type 0
+Utf8KeepsOrder = (s t : List ℕ) → IsUtf8 s → IsUtf8 t → text_cmp s t ≡ text_cmp (chars s) (chars t)
+
+-- a typed term has none of the four faults about records
+abbrev pub TypedTermsGetAttributes : Type 0
+TypedTermsGetAttributes = (enums : Enums) (t : PlainTerm) → IsTrue (typed t) → IfSome (term_fault enums t) (λ f. is_about_records f ≡ false)

@@ -1,0 +1,73 @@
+ghost use Rattle.smt_term.specs.Examples.{FaultRows, OperatorRows, OrderRows, TermRows};
+ghost use Rattle.smt_term.specs.Laws.{DefaultsAreInterpretations, ReachedDecides, RestrictionAgrees, TypedTermsGetAttributes, TypedTermsHaveValues, Utf8KeepsOrder};
+ghost use Rattle.smt_term.specs.Literals.{LiteralsAreTheirValues};
+ghost use Rattle.smt_term.specs.Patterns.{MatchingIsDecided};
+ghost use Rattle.smt_term.specs.Plain.{RoundTrip, terms};
+ghost use Rattle.smt_term.specs.ValueOrder.{EqualityIsDecided, OrderIsTotal};
+
+/// A list of terms and its plain form give each other.
+pub fn plain_lists()
+    ensures { RoundTrip }
+{}
+
+/// The order of values is total, and its test decides whether two values are equal.
+pub fn values_are_compared()
+    ensures equality { EqualityIsDecided }
+    ensures order { OrderIsTotal }
+{}
+
+/// The test of a pattern decides whether it matches.
+pub fn patterns_are_matched()
+    ensures { MatchingIsDecided }
+{}
+
+/// Typed literals of one type with one value are one term.
+pub fn literals_are_their_values()
+    ensures { LiteralsAreTheirValues }
+{}
+
+/// Texts in UTF-8 stand in the order of their code points.
+pub fn texts_keep_order()
+    ensures { Utf8KeepsOrder }
+{}
+
+/// A typed term has none of the four faults about records.
+pub fn typed_terms_get_attributes()
+    ensures { TypedTermsGetAttributes }
+{}
+
+/// A typed term without fault has in every interpretation a value of its type.
+pub fn typed_terms_have_values()
+    ensures { TypedTermsHaveValues }
+{}
+
+/// Typed terms without fault have an interpretation.
+pub fn interpretations_exist()
+    ensures { DefaultsAreInterpretations }
+{}
+
+/// A value depends on nothing but what the term reaches, and a restriction keeps that.
+pub fn values_depend_on_the_reached()
+    ensures values { ReachedDecides }
+    ensures restriction { RestrictionAgrees }
+{}
+
+/// Operators at chosen values.
+pub fn operator_rows()
+    ensures { OperatorRows }
+{}
+
+/// First faults of chosen terms.
+pub fn fault_rows()
+    ensures { FaultRows }
+{}
+
+/// Types and values of chosen terms.
+pub fn term_rows()
+    ensures { TermRows }
+{}
+
+/// The order of terms is not the order of their values.
+pub fn order_rows()
+    ensures { OrderRows }
+{}
