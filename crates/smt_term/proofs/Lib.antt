@@ -1,8 +1,11 @@
 pub mod Agreement
 pub mod Defaults
+pub mod DerivedEquality
+pub mod DerivedOrder
 pub mod LiteralValues
 pub mod Matching
 pub mod RecordFaults
+pub mod SameTerm
 pub mod SortedSets
 pub mod SortedValues
 pub mod Soundness

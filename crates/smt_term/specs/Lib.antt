@@ -1,4 +1,5 @@
 pub mod Defaults
+pub mod Enums
 pub mod Examples
 pub mod Faults
 pub mod Formed
@@ -16,3 +17,4 @@ pub mod TypeValues
 pub mod Types
 pub mod ValueOrder
 pub mod Values
+pub mod View

@@ -1,5 +1,5 @@
 -- The values of terms.
-use Rattle.std.specs.Prelude.{ℕ, ℤ, Bool, List, Option}
+use Rattle.std.specs.Prelude.{ℕ, Bool, List}
 use Rattle.smt_term.specs.Plain.{PlainExtension}
 
 -- A value, as terms have it. Strings and ids are lists of code points. The order of values goes by kind in the order

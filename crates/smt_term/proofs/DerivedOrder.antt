@@ -1,0 +1,96 @@
+-- The derived orders of types, operators, literals and terms are the orders of what they say.
+use Rattle.std.proofs.Common.{◌≡◌, refl, ap, ◌∙◌}
+use Rattle.std.specs.Rc.{rc_str_bytes}
+use Rattle.std.specs.Ordering.{ordering_then}
+use Rattle.std.specs.Cmp.Lexicographic.{slice_cmp}
+use Rattle.std.specs.declared.alloc.Global.{Global}
+use Rattle.std.specs.declared.rc.Rc.{Rc}
+use Rattle.std.specs.declared.cmp.Ordering.{Ordering}
+use Rattle.std.specs.declared.cmp.Ordering.TheVariants.{Equal}
+use Rattle.std.specs.formers.vec.Vec as vec
+use denote.Hole.Carrier
+use denote.Hole.Compared
+use mathlib.Core.Former
+use Rattle.smt_term.specs.TermOrder.{op_cmp, literal_cmp, term_cmp, terms_cmp}
+use Rattle.smt_term.specs.Types.{type_cmp}
+use Rattle.smt_term.specs.ValueOrder.{text_cmp}
+use Rattle.smt_term.specs.View.{plain_type, plain_op, plain_literal, plain_term, plain_row}
+use Rattle.smt_term.specs.declared.types.TermType.{TermType}
+use Rattle.smt_term.specs.declared.types.TermType.TheVariants.{Bool}
+use Rattle.smt_term.specs.declared.op.Op.{Op}
+use Rattle.smt_term.specs.declared.op.Op.TheVariants.{Not}
+use Rattle.smt_term.specs.declared.term.TermPrim.{TermPrim}
+use Rattle.smt_term.specs.declared.term.TermPrim.TheVariants.{Bool as TruthLiteral}
+use Rattle.smt_term.specs.declared.term.Term.{Term, App', Prim, Var, Row_of-Term, end_of-Term, more_of-Term}
+use Rattle.smt_term.specs.declared.term.Term.TheViews as views
+use Rattle.smt_term.specs.declared.term.Term.TheBlock as block
+use Rattle.smt_term.specs.declared.term.TermList.{TermList, items-the_row-Term, items_shown-the_row-Term-0}
+use Rattle.smt_term.specs.contracts.types.TermTypeOrd.TheImpl as type_ord
+use Rattle.smt_term.specs.contracts.op.OpOrd.TheImpl as op_ord
+use Rattle.smt_term.specs.contracts.term.TermPrimOrd.TheImpl as literal_ord
+use Rattle.smt_term.specs.contracts.term.TermOrd.TheImpl as term_ord
+use Rattle.smt_term.specs.contracts.term.TermOrd.TheImpl.Laws as term_laws
+
+-- the derived orders
+abbrev pub derived_type_cmp : TermType → TermType → Ordering
+derived_type_cmp = type_ord.ghosts.cmp
+
+abbrev pub derived_term_cmp : Term → Term → Ordering
+derived_term_cmp = term_ord.ghosts.cmp
+
+pub type_cmp-is : (a b : TermType) → derived_type_cmp a b ≡ type_cmp (plain_type a) (plain_type b)
+type_cmp-is Bool Bool = refl
+
+pub op_cmp-is : (a b : Op) → op_ord.ghosts.cmp a b ≡ op_cmp (plain_op a) (plain_op b)
+op_cmp-is Not Not = refl
+
+pub literal_cmp-is : (a b : TermPrim) → literal_ord.ghosts.cmp a b ≡ literal_cmp (plain_literal a) (plain_literal b)
+literal_cmp-is (TruthLiteral x) (TruthLiteral y) = refl
+
+-- a list of terms, taken apart into where it lies, its shape and its items
+abbrev Shape : Type 0
+Shape = (vec.the_former (Former.this {0}) Global).Shape
+
+abbrev Row : Shape → Type 0
+Row sh = Row_of-Term (Former.arity (vec.the_former (Former.this {0}) Global) sh)
+
+abbrev Blank : Type 0
+Blank = Rc (Unit {0}) Global
+
+-- the order of lists of terms, as the derived order of terms has it
+abbrev family : TermList → TermList → Ordering
+family = term_laws.family block.member-TermList
+
+family-is : (x y : TermList) → family x y ≡ slice_cmp derived_term_cmp x.items.value.items y.items.value.items
+unfolding Carrier.out
+family-is x y =
+    Compared.compared_is block.the_members (Carrier.Values block.the_members block.the_sigs block.the_carrier) block.the_depth Ordering Equal term_ord.the_step term_laws.local block.member-TermList x y
+
+abbrev made : (p : Blank) (sh : Shape) (row : Row sh) → TermList
+made p sh row = record { items = record { ptr = p.ptr; value = block.shown-the_row-Term-0 sh row } }
+
+family_made-is : (p : Blank) (sh : Shape) (row : Row sh) (q : Blank) (sh' : Shape) (row' : Row sh') → family (made p sh row) (made q sh' row') ≡ slice_cmp derived_term_cmp (items-the_row-Term _ row) (items-the_row-Term _ row')
+family_made-is p sh row q sh' row' =
+    family-is (made p sh row) (made q sh' row') ∙ (ap (λ l. slice_cmp derived_term_cmp l (made q sh' row').items.value.items) (items_shown-the_row-Term-0 sh row) ∙ ap (λ l. slice_cmp derived_term_cmp (items-the_row-Term _ row) l) (items_shown-the_row-Term-0 sh' row'))
+
+cmp-App : (o : Op) (p : Blank) (sh : Shape) (row : Row sh) (t : TermType) (o' : Op) (q : Blank) (sh' : Shape) (row' : Row sh') (t' : TermType) → derived_term_cmp (App' o p sh row t) (App' o' q sh' row' t') ≡ ordering_then (op_ord.ghosts.cmp o o') (ordering_then (family (made p sh row) (made q sh' row')) (derived_type_cmp t t'))
+unfolding views.out-Term Carrier.out
+cmp-App o p sh row t o' q sh' row' t' = term_laws.is (App' o p sh row t) (App' o' q sh' row' t')
+
+mutual
+  unfolding plain_term plain_row views.out-Term Carrier.out
+
+  -- the derived order of terms is the order of what they say
+  pub term_cmp-is : (a b : Term) → derived_term_cmp a b ≡ term_cmp (plain_term a) (plain_term b)
+  term_cmp-is (App' o p sh row t) (App' o' q sh' row' t') =
+      cmp-App o p sh row t o' q sh' row' t' ∙ (ap (λ r. ordering_then r (ordering_then (family (made p sh row) (made q sh' row')) (derived_type_cmp t t'))) (op_cmp-is o o') ∙ (ap (λ r. ordering_then (op_cmp (plain_op o) (plain_op o')) (ordering_then r (derived_type_cmp t t'))) (family_made-is p sh row q sh' row' ∙ rows_cmp-is row row') ∙ ap (λ r. ordering_then (op_cmp (plain_op o) (plain_op o')) (ordering_then (terms_cmp (plain_row row) (plain_row row')) r)) (type_cmp-is t t')))
+  term_cmp-is (Prim x) (Prim y) = term_laws.is (Prim x) (Prim y) ∙ literal_cmp-is x y
+  term_cmp-is (Var v) (Var w) = term_laws.is (Var v) (Var w) ∙ ap (λ o. ordering_then (text_cmp (rc_str_bytes v.id) (rc_str_bytes w.id)) o) (type_cmp-is v.ty w.ty)
+  term_cmp-is a b = term_laws.is a b
+
+  rows_cmp-is : {m n : _} (r : Row_of-Term m) (s : Row_of-Term n) → slice_cmp derived_term_cmp (items-the_row-Term m r) (items-the_row-Term n s) ≡ terms_cmp (plain_row r) (plain_row s)
+  rows_cmp-is end_of-Term end_of-Term = refl
+  rows_cmp-is end_of-Term (more_of-Term y s) = refl
+  rows_cmp-is (more_of-Term x r) end_of-Term = refl
+  rows_cmp-is (more_of-Term x r) (more_of-Term y s) =
+      ap (λ o. ordering_then o (slice_cmp derived_term_cmp (items-the_row-Term _ r) (items-the_row-Term _ s))) (term_cmp-is x y) ∙ ap (λ o. ordering_then (term_cmp (plain_term x) (plain_term y)) o) (rows_cmp-is r s)

@@ -1,0 +1,151 @@
+// Terms and lists of terms.
+ghost use Rattle.std.specs.Prelude.{◌≡◌, IfOk, length, map};
+ghost use Rattle.smt_term.specs.View.{items_of, plain_items, plain_literal, plain_term, plain_variable};
+
+use crate::error::TermError;
+use crate::op::Op;
+use crate::text::{Text, share_text};
+use crate::types::TermType;
+use std::alloc::Global;
+use std::rc::Rc;
+
+/// A variable: its id and its type. Two variables of one id and different types are different.
+#[derive(Debug, PartialEq, Eq, PartialOrd, Ord, Drop)]
+pub struct TermVar {
+    pub id: Text,
+    pub ty: TermType,
+}
+
+/// A literal.
+#[derive(Debug, PartialEq, Eq, PartialOrd, Ord, Drop)]
+pub enum TermPrim {
+    Bool(bool),
+}
+
+/// A term. Terms order by the variants and fields as declared, lists by their first difference.
+#[derive(Debug, PartialEq, Eq, PartialOrd, Ord, Drop)]
+#[cycle(term)]
+pub enum Term {
+    /// An operator at its arguments; `ret_ty` is the type of the result, as it is claimed.
+    App {
+        op: Op,
+        args: TermList,
+        ret_ty: TermType,
+    },
+    Prim(TermPrim),
+    Var(TermVar),
+}
+
+/// A list of terms in the order in which they were given; its holders share it.
+#[derive(Debug, PartialEq, Eq, PartialOrd, Ord, Drop)]
+#[cycle(term)]
+pub struct TermList {
+    items: Rc<Vec<Term>>,
+}
+
+impl TermList {
+    /// The list of these terms, in this order.
+    pub fn new(alloc: Global, items: &[Term]) -> Result<TermList, TermError>
+        ensures { IfOk result (λ list. plain_items list ≡ map plain_term items.now) }
+    {
+        let mut all = Vec::new(alloc);
+        for item in items {
+            all.push(item.share()?)?;
+        }
+        Ok(TermList {
+            items: Rc::new(alloc, all)?,
+        })
+    }
+
+    /// How many terms it has.
+    pub fn len(&self) -> usize
+        ensures { result ≡ length (plain_items self.now) }
+    {
+        self.items.len()
+    }
+
+    /// Whether it has none.
+    pub fn is_empty(&self) -> bool {
+        self.items.is_empty()
+    }
+
+    /// The terms, in order.
+    pub fn items(&self) -> &[Term]
+        ensures same { result.now ≡ items_of self.now }
+        ensures plain { map plain_term result.now ≡ plain_items self.now }
+    {
+        self.items.as_slice()
+    }
+
+    /// An equal list that shares the terms.
+    pub fn share(&self) -> Result<TermList, TermError>
+        ensures { IfOk result (λ list. plain_items list ≡ plain_items self.now) }
+    {
+        Ok(TermList {
+            items: self.items.clone()?,
+        })
+    }
+}
+
+impl TermPrim {
+    /// An equal literal that shares its text.
+    pub fn share(&self) -> Result<TermPrim, TermError>
+        ensures { IfOk result (λ literal. plain_literal literal ≡ plain_literal self.now) }
+    {
+        match self {
+            TermPrim::Bool(truth) => Ok(TermPrim::Bool(*truth)),
+        }
+    }
+}
+
+impl TermVar {
+    /// An equal variable that shares its id and its type.
+    pub fn share(&self) -> Result<TermVar, TermError>
+        ensures { IfOk result (λ variable. plain_variable variable ≡ plain_variable self.now) }
+    {
+        Ok(TermVar {
+            id: share_text(&self.id)?,
+            ty: self.ty.share()?,
+        })
+    }
+}
+
+impl Term {
+    /// An equal term that shares its parts.
+    pub fn share(&self) -> Result<Term, TermError>
+        ensures { IfOk result (λ term. plain_term term ≡ plain_term self.now) }
+    {
+        match self {
+            Term::App { op, args, ret_ty } => Ok(Term::App {
+                op: op.share()?,
+                args: args.share()?,
+                ret_ty: ret_ty.share()?,
+            }),
+            Term::Prim(literal) => Ok(Term::Prim(literal.share()?)),
+            Term::Var(variable) => Ok(Term::Var(variable.share()?)),
+        }
+    }
+}
+
+impl From<bool> for Term {
+    ghost use Rattle.std.specs.Prelude.{◌≡◌};
+    ghost use Rattle.smt_term.specs.Plain.{BoolLiteral, LiteralTerm};
+    ghost use Rattle.smt_term.specs.View.{plain_term};
+
+    ghost from_gives = { λ truth term. plain_term term ≡ LiteralTerm (BoolLiteral truth) };
+
+    fn from(truth: bool) -> Term {
+        Term::Prim(TermPrim::Bool(truth))
+    }
+}
+
+impl From<TermVar> for Term {
+    ghost use Rattle.std.specs.Prelude.{◌≡◌};
+    ghost use Rattle.smt_term.specs.View.{plain_term, plain_variable};
+
+    ghost from_gives = { λ variable term. plain_term term ≡ plain_variable variable };
+
+    fn from(variable: TermVar) -> Term {
+        Term::Var(variable)
+    }
+}
