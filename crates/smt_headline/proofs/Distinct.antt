@@ -13,6 +13,7 @@ use Rattle.smt_lines.specs.Same.{same_type}
 use Rattle.smt_lines.specs.Types.{type_of, literal_type}
 use Rattle.smt_lines.specs.Naming.{type_name, HasEntry, HasDistinctNames}
 use Rattle.smt_lines.specs.Fits.{EachEntry, HasSort, AreNumbered, stated_type_name, undrawn_entity, undrawn_manner}
+use Rattle.smt_lines.specs.Text.{names}
 use Rattle.smt_lines.specs.Growth.{Keeps, is_drawn, AreDrawn}
 use Rattle.smt_lines.proofs.Differ.{terms_differ, types_differ, functions_differ}
 use Rattle.smt_lines.proofs.Grow.{lookup_append, terms_grow}
@@ -26,12 +27,12 @@ use Rattle.smt_lines.proofs.Known.{each_found, each_append, each_map}
 use Rattle.smt_lines.proofs.Single.{with_term, keeps_term, keeps_function}
 use Rattle.smt_headline.specs.Standing.{NamesAreOneToOne}
 
-abbrev MemberNamed : Option (List (List ℕ)) → Tables → (type id n : List ℕ) → Type 0
+abbrev pub MemberNamed : Option (List (List ℕ)) → Tables → (type id n : List ℕ) → Type 0
 MemberNamed None u type id n = Unit {0}
 MemberNamed (Some ms) u type id n = (name_of_type u (EntityType type) ≡ Some (type_name u (EntityType type))) × (n ≡ member_name (type_name u (EntityType type)) (place_of id ms)) × (nat_lt (place_of id ms) (length ms) ≡ true)
 
 -- an entry whose name is not drawn is a member
-abbrev NameGood : Enums → Tables → PlainTerm → List ℕ → Type 0
+abbrev pub NameGood : Enums → Tables → PlainTerm → List ℕ → Type 0
 NameGood enums u (LiteralTerm (EntityLiteral type id)) n = MemberNamed (members_of enums type) u type id n
 NameGood enums u (Application op ts type) n = manner op ts type ≡ AsFalse → ⊥
 NameGood enums u t n = Unit {0}
@@ -154,6 +155,10 @@ module _ (enums : Enums) where
     fields : (x : PlainFields) → AreFineFields enums x → (s : Tables) → Good s → Good (encode_fields enums x s).tables
     fields no_fields f s h = h
     fields (one_field a t x) f s h = fields x f.1 (encode_term enums t s).tables (term t f.0 s h)
+
+-- What names of entries are, of the names of fine terms.
+pub names_good : (enums : Enums) (ts : List PlainTerm) → AreFine enums (terms ts) → EachEntry (NameGood enums (names enums ts)) (names enums ts).terms
+names_good enums ts f = each enums (terms ts) f no_names tt
 
 -- ---- names of members
 

@@ -28,10 +28,10 @@ use Rattle.smt_headline.proofs.Agree.{types_agree, members_agree, places_found, 
 
 -- ---- options
 
-inside : (t u : PlainType) → Some t ≡ Some u → t ≡ u
+pub inside : (t u : PlainType) → Some t ≡ Some u → t ≡ u
 inside t u e = ap (λ o. unwrap_or o t) e
 
-chosen : (b : Bool) (t u : PlainType) → then_some b t ≡ Some u → (b ≡ true) × (t ≡ u)
+pub chosen : (b : Bool) (t u : PlainType) → then_some b t ≡ Some u → (b ≡ true) × (t ≡ u)
 chosen true t u h = (refl, inside t u h)
 chosen false t u h = cc
 
@@ -57,7 +57,7 @@ mutual
   fine_types (attribute a t x) h =
       (fine_type t (all-front IsFormedHere (types_within t) (types_within_attributes x) h), fine_types x (all-back IsFormedHere (types_within t) (types_within_attributes x) h))
 
-abbrev HasFormedType : PlainTerm → Type 0
+abbrev pub HasFormedType : PlainTerm → Type 0
 HasFormedType t = IsFormedType (type_of t)
 
 own_type : (t : PlainTerm) → AllByRecursion HasFormedType (subterms t) → IsFormedType (type_of t)
@@ -69,7 +69,7 @@ own_type (SetTerm t ts) h = all-last HasFormedType (subterms_of_all ts) (SetTerm
 own_type (SomeTerm t) h = all-last HasFormedType (subterms t) (SomeTerm t) h
 own_type (VariableTerm id t) h = h.0
 
-fine_own : (t : PlainTerm) → AllByRecursion HasFormedType (subterms t) → IsFineType (type_of t)
+pub fine_own : (t : PlainTerm) → AllByRecursion HasFormedType (subterms t) → IsFineType (type_of t)
 fine_own t h = fine_type (type_of t) (own_type t h)
 
 -- the types of arguments
@@ -206,11 +206,11 @@ typed_lists_are_fine enums (t ∷ ts) h w f = (
   typed_lists_are_fine enums ts h.1 w.1 (none-second (term_fault enums t) (first_fault enums ts) f),
 )
 
-parts_typed : (ts : List PlainTerm) → AllByRecursion (λ t. Typed t BoolType) ts → AllByRecursion (λ t. typed t ≡ true) ts
+pub parts_typed : (ts : List PlainTerm) → AllByRecursion (λ t. Typed t BoolType) ts → AllByRecursion (λ t. typed t ≡ true) ts
 parts_typed [] h = tt
 parts_typed (t ∷ ts) h = (h.0.parts, parts_typed ts h.1)
 
-conditions_are_fine : (enums : Enums) (ts : List PlainTerm) → AreConditions enums ts → AreFine enums (terms ts)
+pub conditions_are_fine : (enums : Enums) (ts : List PlainTerm) → AreConditions enums ts → AreFine enums (terms ts)
 conditions_are_fine enums ts h = typed_lists_are_fine enums ts (parts_typed ts h.are_typed) h.are_formed h.have_no_fault
 
 pub conditions_are_scripts : ConditionsAreScripts

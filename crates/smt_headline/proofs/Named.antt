@@ -21,7 +21,7 @@ use Rattle.smt_carrying.specs.Sorts.{IsDeclared}
 use Rattle.smt_headline.specs.Standing.{TermsAreNamed, NamesStand}
 use Rattle.smt_headline.proofs.Types.{always_stands, there, type_stands}
 
-all_append : {A : Type 0} (P : A → Type 0) (xs ys : List A) → AllByRecursion P xs → AllByRecursion P ys → AllByRecursion P (xs ++ ys)
+pub all_append : {A : Type 0} (P : A → Type 0) (xs ys : List A) → AllByRecursion P xs → AllByRecursion P ys → AllByRecursion P (xs ++ ys)
 all_append P [] ys h k = k
 all_append P (x ∷ xs) ys h k = (h.0, all_append P xs ys h.1 k)
 
@@ -29,7 +29,7 @@ named_there : (o : Option (List ℕ)) → IsSome (named_text o) → o ≡ Some (
 named_there (Some n) h = refl
 named_there None h = absurd (false≢true h)
 
-some_there : (o : Option (List ℕ)) → IsSome o → o ≡ Some (text_of_name o)
+pub some_there : (o : Option (List ℕ)) → IsSome o → o ≡ Some (text_of_name o)
 some_there (Some n) h = refl
 some_there None h = absurd (false≢true h)
 
@@ -38,10 +38,10 @@ module _ (enums : Enums) (s : Tables) (state : State) (fit : Fit enums s state) 
   Named us = AllByRecursion (IsTermNamed enums s (entries state)) us
 
   -- an entry's parts have names
-  own : (t : PlainTerm) → IsSome (named_text (name_of_term s t)) → PartsStand s t × HasSort s (type_of t)
+  pub own : (t : PlainTerm) → IsSome (named_text (name_of_term s t)) → PartsStand s t × HasSort s (type_of t)
   own t h = let d = terms_are_declared enums s state t (text_of_name (name_of_term s t)) fit (named_there (name_of_term s t) h) in (d.1, d.2)
 
-  text_sort : (t : PlainTerm) → IsSome (text_of s t) → HasSort s (type_of t)
+  pub text_sort : (t : PlainTerm) → IsSome (text_of s t) → HasSort s (type_of t)
   text_sort (LiteralTerm (BitVecLiteral w n)) h = tt
   text_sort (LiteralTerm (BoolLiteral b)) h = tt
   text_sort (LiteralTerm (StringLiteral x)) h = tt
@@ -58,7 +58,7 @@ module _ (enums : Enums) (s : Tables) (state : State) (fit : Fit enums s state) 
   first_sort no_terms h = tt
   first_sort (one_term t ts) h = text_sort t h.0
 
-  names_there : (t : PlainType) → HasSort s t → HasNames s t
+  pub names_there : (t : PlainType) → HasSort s t → HasNames s t
   names_there (OptionType t) h = names_there t h
   names_there (BitVecType w) h = tt
   names_there BoolType h = tt
@@ -116,7 +116,7 @@ terms_are_named enums s state [] fit f h = tt
 terms_are_named enums s state (t ∷ ts) fit f h =
     all_append (IsTermNamed enums s (entries state)) (subterms t) (reached_terms ts) (term_named enums s state fit t f.0 h.0) (terms_are_named enums s state ts fit f.1 h.1)
 
-texts_there : (s : Tables) (ts : List PlainTerm) (es : List Expression) → TextsAre s (terms ts) es → AllByRecursion (λ t. IsSome (text_of s t)) ts
+pub texts_there : (s : Tables) (ts : List PlainTerm) (es : List Expression) → TextsAre s (terms ts) es → AllByRecursion (λ t. IsSome (text_of s t)) ts
 texts_there s [] es h = tt
 texts_there s (t ∷ ts) [] h = absurd h
 texts_there s (t ∷ ts) (e ∷ es) h = (ap is_some h.0, texts_there s ts es h.1)

@@ -6,9 +6,10 @@ use Rattle.smt_term.specs.Reached.{subterms, subterms_of_all, reached_terms}
 use Rattle.smt_sexpr.specs.Reading.{Expression}
 use Rattle.smt_semantics.specs.Script.{Command, Entry, start}
 use Rattle.smt_lines.specs.Line.{Line, Comment, DeclareDatatype, DeclareConst, DeclareFun, DefineFun, Assert, Push, Pop}
-use Rattle.smt_lines.specs.Lines.{Tables, no_names, option_line, text_of_name, encode_terms}
+use Rattle.smt_lines.specs.Lines.{Enums, Tables, no_names, option_line, text_of_name, encode, encode_terms}
 use Rattle.smt_lines.specs.Command.{commands}
 use Rattle.smt_lines.specs.Fit.{EachLine}
+use Rattle.smt_lines.specs.Text.{names}
 use Rattle.smt_lines.proofs.Kept.{lines_append}
 use Rattle.smt_carrying.specs.Open.{Occurs, IsVariable, IsFunction, IsOpenEntry}
 use Rattle.smt_carrying.proofs.Standing.{sorts_agree}
@@ -62,12 +63,18 @@ module _ (s : Tables) (us : List PlainTerm) where
   asserts [] = tt
   asserts (e ∷ es) = (tt, asserts es)
 
-pub names_are_open : NamesAreOpen
-names_are_open enums ts state runs =
+-- Where each line comes from, which the encoder writes for a list of terms.
+pub lines_origins : (enums : Enums) (ts : List PlainTerm) → EachLine (OriginOf (reached_terms ts) (names enums ts)) (option_line ∷ (encode enums ts no_names).lines)
+lines_origins enums ts =
     let made = encode_terms enums (terms ts) no_names in
     let u : Tables = made.tables in
     let us = reached_terms ts in
     let within : AllByRecursion (λ x. Occurs x us) (subterms_of_all (terms ts)) = subst (AllByRecursion (λ x. Occurs x us)) (sym (parts_are ts)) (all_occur us us (λ t h. h)) in
-    let ls : List Line = option_line ∷ (made.lines ++ map Assert made.made) in
-    let own : EachLine (OriginOf us u) ls = (tt, lines_append (OriginOf us u) made.lines (map Assert made.made) (each us enums (terms ts) within no_names) (asserts u us made.made)) in
-    run_each (Opens u us) (λ n sort body. tt) (λ n d ps place fields. tt) (λ n d ps c place field. tt) (commands ls) (good_lines u us ls own) start state tt runs
+    (tt, lines_append (OriginOf us u) made.lines (map Assert made.made) (each us enums (terms ts) within no_names) (asserts u us made.made))
+
+pub names_are_open : NamesAreOpen
+names_are_open enums ts state runs =
+    let us = reached_terms ts in
+    let u : Tables = names enums ts in
+    let ls : List Line = option_line ∷ (encode enums ts no_names).lines in
+    run_each (Opens u us) (λ n sort body. tt) (λ n d ps place fields. tt) (λ n d ps c place field. tt) (commands ls) (good_lines u us ls (lines_origins enums ts)) start state tt runs

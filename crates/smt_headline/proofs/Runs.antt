@@ -4,14 +4,14 @@ use Rattle.std.specs.List.{AllByRecursion, list_any}
 use Rattle.smt_sexpr.specs.Reading.{Expression}
 use Rattle.smt_semantics.specs.Script.{Command, DeclareDatatype, DeclareConst, DefineFun, Assert, DeclareFun, Reset, Exit, Push, Pop, Constructor, Entry, Constant, Function, Defined, Builds, Selects, State, is_in, is_taken, is_taken_sort, is_sort, has_sort, names_of, declare, declare_selectors, declare_constructors, with_name, with_sort, with_assertion, obey, step, run, knows, ◌>>=◌}
 
-bind_gives : (o : Option State) (f : State → Option State) (u : State) → (o >>= f) ≡ Some u → (t : State) × (o ≡ Some t) × (f t ≡ Some u)
+pub bind_gives : (o : Option State) (f : State → Option State) (u : State) → (o >>= f) ≡ Some u → (t : State) × (o ≡ Some t) × (f t ≡ Some u)
 bind_gives (Some t) f u h = (t, refl, h)
 bind_gives None f u h = absurd cc
 
-some_is : (s t : State) → Some s ≡ Some t → s ≡ t
+pub some_is : (s t : State) → Some s ≡ Some t → s ≡ t
 some_is s t h = cc
 
-if_so : (b : Bool) (o : Option State) (t : State) → cond b o None ≡ Some t → o ≡ Some t
+pub if_so : (b : Bool) (o : Option State) (t : State) → cond b o None ≡ Some t → o ≡ Some t
 if_so true o t h = h
 if_so false o t h = absurd cc
 

@@ -98,7 +98,7 @@ module _ (enums : Enums) (s : Tables) (state : State) (fit : Fit enums s state) 
   kinds_shown DatetimeKind = refl
   kinds_shown DurationKind = refl
 
-  selectors_shown : (n : List ℕ) (place : ℕ) (sorts : List Expression) → map (λ x. x.1) (attribute_selectors n place sorts) ≡ sorts
+  pub selectors_shown : (n : List ℕ) (place : ℕ) (sorts : List Expression) → map (λ x. x.1) (attribute_selectors n place sorts) ≡ sorts
   selectors_shown n place [] = refl
   selectors_shown n place (e ∷ es) = ap (λ (l : List Expression). e ∷ l) (selectors_shown n (suc place) es)
 

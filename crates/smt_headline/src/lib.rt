@@ -3,3 +3,5 @@
 
 pub mod conditions;
 pub mod fitting;
+pub mod headline;
+pub mod selections;

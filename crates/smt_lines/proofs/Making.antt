@@ -255,6 +255,14 @@ mutual
   larger_fields enums no_fields s k h = refl
   larger_fields enums (one_field a t x) s k h = larger_fields enums x (encode_term enums t s).tables k (omega arith) ∙ larger_term enums t s k (omega arith)
 
+-- A type leaves the names of terms as they were.
+pub types_leave : (enums : Enums) (type : PlainType) (s : Tables) (k : PlainTerm) → name_of_term (encode_type enums type s).tables k ≡ name_of_term s k
+types_leave enums type s k = with_terms k (type_terms enums type s)
+
+-- The arguments of an application leave its own entry as it was.
+pub arguments_leave : (enums : Enums) (op : PlainOp) (ts : PlainTerms) (type : PlainType) (s : Tables) → name_of_term (encode_terms enums ts s).tables (Application op ts type) ≡ name_of_term s (Application op ts type)
+arguments_leave enums op ts type s = larger_terms enums ts s (Application op ts type) (omega arith)
+
 -- ---- terms have the names that were made
 
 made_term : (t : PlainTerm) (s : Tables) (f : Tables → Written Expression) (o : Option (List ℕ)) → name_of_term s t ≡ o

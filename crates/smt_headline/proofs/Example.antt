@@ -1,0 +1,74 @@
+-- The worked example.
+use Rattle.std.proofs.Common.{◌≡◌, Bool, true, false, not, [], ◌∷◌, refl, sym, ap, ◌∙◌, subst, rules}
+use Rattle.std.specs.Prelude.{◌↔◌, codes}
+use Rattle.std.specs.Str.{chars}
+use Rattle.smt_term.specs.Plain.{BoolType}
+use Rattle.smt_term.specs.Interpretations.{IsInterpretation}
+use Rattle.smt_term.specs.Operators.{truth}
+use Rattle.smt_term.specs.Tables.{Interpretation}
+use Rattle.smt_term.specs.TypeValues.{IsValue}
+use Rattle.smt_term.specs.Values.{Value, BoolValue}
+use Rattle.smt_semantics.specs.ScriptValues.{ScriptValue, TruthOf}
+use Rattle.smt_semantics.specs.Script.{State}
+use Rattle.smt_semantics.specs.Sorts.{entries}
+use Rattle.smt_semantics.specs.Value.{ScriptInterpretation, IsScriptInterpretation, IsModel}
+use Rattle.smt_semantics.proofs.Commands.{one_state}
+use Rattle.smt_lines.specs.Rows.{not_b}
+use Rattle.smt_lines.specs.Scripts.{Stated}
+use Rattle.smt_lines.specs.Text.{text, names}
+use Rattle.smt_carrying.specs.Carry.{back}
+use Rattle.smt_carrying.proofs.Onto.{onto}
+use Rattle.smt_headline.specs.Conditions.{AreConditions}
+use Rattle.smt_headline.specs.Example.{NegationIsItsScript}
+use Rattle.smt_headline.specs.Headline.{AreTrue, Headline}
+use Rattle.smt_headline.proofs.FineTerms.{conditions_are_scripts}
+use Rattle.smt_headline.proofs.Models.{truth_carried, conditions_are_their_scripts}
+use Rattle.smt_headline.proofs.SelectionsGiven.{interpretations_give_reached}
+use Rattle.smt_headline.proofs.Types.{always_stands}
+
+condition : AreConditions [] (not_b ∷ [])
+unfolding chars
+condition = record {
+  are_typed = (record { parts = refl; type = refl }, tt);
+  are_formed = (record { literals = search rules; types = search rules }, tt);
+  have_no_fault = refl;
+}
+
+headline : Headline [] (not_b ∷ [])
+headline = conditions_are_their_scripts [] (not_b ∷ []) tt condition
+
+stated : Stated [] (not_b ∷ [])
+stated = conditions_are_scripts [] (not_b ∷ []) condition
+
+-- ---- truth
+
+is_false : (a : Bool) → BoolValue (not a) ≡ BoolValue true → a ≡ false
+is_false true h = absurd cc
+is_false false h = refl
+
+negated : (v : Value) → IsValue [] BoolType v → BoolValue (not (truth v)) ≡ BoolValue true → v ≡ BoolValue false
+negated (BoolValue b) k h = ap BoolValue (is_false b h)
+negated v k h = absurd k
+
+true_in : (I : Interpretation) → IsInterpretation [] (not_b ∷ []) I → AreTrue I (not_b ∷ []) ↔ (I.variable (codes "b") BoolType ≡ BoolValue false)
+true_in I g = (λ k. negated (I.variable (codes "b") BoolType) g.0 k.0, λ e. (ap (λ (v : Value). BoolValue (not (truth v))) e, tt))
+
+-- ---- models
+
+-- t0 has a truth
+given_truth : (state : State) → stated.state ≡ state → (J : ScriptInterpretation) → IsScriptInterpretation J state → J.constants (codes "t0") ≡ TruthOf (truth (back [] BoolType (J.constants (codes "t0"))))
+given_truth state e J g =
+    let given = interpretations_give_reached [] (not_b ∷ []) stated condition tt J (subst (λ (u : State). IsScriptInterpretation J u) (sym e) g) in
+    let o = onto (entries stated.state) (always_stands [] (names [] (not_b ∷ [])) stated.state stated.fits) [] (names [] (not_b ∷ [])) tt BoolType (J.constants (codes "t0")) tt given.0 in
+    sym o.1 ∙ (truth_carried [] (names [] (not_b ∷ [])) (back [] BoolType (J.constants (codes "t0"))) o.0).0
+
+models : (J : ScriptInterpretation) → IsScriptInterpretation J headline.state → IsModel J headline.state ↔ (J.constants (codes "t0") ≡ TruthOf false)
+models J g =
+    let truth_is = given_truth headline.state (one_state (text [] (not_b ∷ [])) stated.state headline.state stated.stands.script headline.script.script) J g in
+    let m = headline.models J g in (
+      λ k. truth_is ∙ ap TruthOf (is_false (truth (back [] BoolType (J.constants (codes "t0")))) (m.0 k).0),
+      λ e. m.1 (ap (λ (v : ScriptValue). BoolValue (not (truth (back [] BoolType v)))) e, tt),
+    )
+
+pub negation_is_its_script : NegationIsItsScript
+negation_is_its_script = record { condition = condition; text = refl; headline = headline; models = models; true_in = true_in }

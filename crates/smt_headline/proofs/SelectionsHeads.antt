@@ -1,0 +1,133 @@
+-- What a term leaves to the interpretation, and that no other application begins with a selector that is left open.
+use Rattle.std.proofs.Common.{◌≡◌, ℕ, Bool, true, false, not, List, [], ◌∷◌, ◌++◌, refl, sym, ap, subst, Option, Some, None}
+use Rattle.std.specs.Prelude.{codes}
+use Rattle.std.proofs.lemmas.Bool.{and_from, false≢true}
+use Rattle.smt_term.specs.Plain.{IpAddrKind, DecimalKind, DatetimeKind, DurationKind, PlainType, OptionType, BitVecType, BoolType, EntityType, ExtensionType, StringType, RecordType, SetType, PlainFunction, ExtensionOp, IpAddrV4Op, IpAddrV6Op, IpPrefixV4Op, IpPrefixV6Op, PlainOp, BvnegoOp, ExtOp, OptionGetOp, RecordGetOp, StringLikeOp, UufOp, PlainTerm, Application, PlainTerms}
+use Rattle.smt_term.specs.Types.{extension_signature}
+use Rattle.smt_sexpr.specs.Reading.{Expression}
+use Rattle.smt_semantics.specs.Script.{Entry, Selects, name, group, exprs, is_in}
+use Rattle.smt_semantics.specs.Value.{Selection}
+use Rattle.smt_lines.specs.Lines.{Enums, Tables, name_of_type, name_of_function, text_of_name, attribute_name, attribute_place, bits, operands, AsLeast, manner}
+use Rattle.smt_lines.specs.Same.{same_type, same_function}
+use Rattle.smt_lines.specs.Types.{first_type}
+use Rattle.smt_lines.specs.Naming.{type_name}
+use Rattle.smt_lines.specs.Fits.{EachEntry, texts_of, head_of, stated_type_name, stated_function_name}
+use Rattle.smt_lines.proofs.Known.{each_found}
+use Rattle.smt_lines.proofs.Sound.{same_types, same_functions}
+use Rattle.smt_carrying.specs.Interpretations.{ip_type, is_range_selector}
+use Rattle.smt_carrying.specs.Operators.{selector_name, selector_constructor, selector_place}
+use Rattle.smt_carrying.specs.Sorts.{option_sort, script_sort}
+use Rattle.smt_headline.proofs.SelectionsPlain.{open_selectors, is_plain_head, is_plain, each_plain, plain_append, plain_texts, plain_with_pattern}
+
+-- ---- the selections of terms
+
+abbrev pub option_entry : Entry
+option_entry = Selects (codes "Option") (codes "X" ∷ []) (codes "some") 0 (name (codes "X"))
+
+abbrev pub option_selection : Tables → PlainType → Selection
+option_selection s type = record { selector = codes "val"; entry = option_entry; sort = option_sort (script_sort s type) }
+
+abbrev pub range_entry : Tables → ExtensionOp → Entry
+range_entry s o = Selects (type_name s ip_type) [] (selector_constructor o) (selector_place o) (script_sort s (extension_signature o).1)
+
+abbrev pub range_selection : Tables → ExtensionOp → Selection
+range_selection s o = record { selector = selector_name o; entry = range_entry s o; sort = script_sort s ip_type }
+
+abbrev pub range_selections : Tables → ExtensionOp → Bool → List Selection
+range_selections s o true = range_selection s o ∷ []
+range_selections s o false = []
+
+-- what a term leaves to the interpretation
+abbrev pub op_selections : Tables → PlainOp → PlainType → List Selection
+op_selections s OptionGetOp type = option_selection s type ∷ []
+op_selections s (ExtOp o) type = range_selections s o (is_range_selector o)
+op_selections s op type = []
+
+abbrev pub own_selections : Tables → PlainTerm → List Selection
+own_selections s (Application op ts type) = op_selections s op type
+own_selections s t = []
+
+abbrev pub is_selecting : PlainOp → Bool
+is_selecting OptionGetOp = true
+is_selecting (ExtOp o) = is_range_selector o
+is_selecting op = false
+
+-- ---- names of types and functions
+
+abbrev pub AreTypesCounted : Tables → Type 0
+AreTypesCounted s = EachEntry (λ t n. (k : ℕ) × (n ≡ stated_type_name t k)) s.types
+
+abbrev pub AreFunctionsCounted : Tables → Type 0
+AreFunctionsCounted s = EachEntry (λ f n. (k : ℕ) × (n ≡ stated_function_name k)) s.functions
+
+type_is_no_selector : (t : PlainType) (k : ℕ) → is_in (stated_type_name t k) open_selectors ≡ false
+type_is_no_selector (OptionType t) k = refl
+type_is_no_selector (BitVecType w) k = refl
+type_is_no_selector BoolType k = refl
+type_is_no_selector (EntityType e) k = refl
+type_is_no_selector (ExtensionType IpAddrKind) k = refl
+type_is_no_selector (ExtensionType DecimalKind) k = refl
+type_is_no_selector (ExtensionType DatetimeKind) k = refl
+type_is_no_selector (ExtensionType DurationKind) k = refl
+type_is_no_selector StringType k = refl
+type_is_no_selector (RecordType x) k = refl
+type_is_no_selector (SetType t) k = refl
+
+attribute_is_no_selector : (t : PlainType) (k place : ℕ) → is_in (attribute_name (stated_type_name t k) place) open_selectors ≡ false
+attribute_is_no_selector (OptionType t) k place = refl
+attribute_is_no_selector (BitVecType w) k place = refl
+attribute_is_no_selector BoolType k place = refl
+attribute_is_no_selector (EntityType e) k place = refl
+attribute_is_no_selector (ExtensionType IpAddrKind) k place = refl
+attribute_is_no_selector (ExtensionType DecimalKind) k place = refl
+attribute_is_no_selector (ExtensionType DatetimeKind) k place = refl
+attribute_is_no_selector (ExtensionType DurationKind) k place = refl
+attribute_is_no_selector StringType k place = refl
+attribute_is_no_selector (RecordType x) k place = refl
+attribute_is_no_selector (SetType t) k place = refl
+
+module _ (s : Tables) (counted : AreTypesCounted s) (called : AreFunctionsCounted s) where
+  pub type_apart : (t : PlainType) (o : Option (List ℕ)) → name_of_type s t ≡ o → is_in (text_of_name o) open_selectors ≡ false
+  type_apart t None e = refl
+  type_apart t (Some n) e =
+      let p = each_found (λ t n. (k : ℕ) × (n ≡ stated_type_name t k)) (same_type t) t (λ l q. (same_types t l).0 q) s.types n e counted in
+      subst (λ m. is_in m open_selectors ≡ false) (sym p.1) (type_is_no_selector t p.0)
+
+  attribute_apart : (t : PlainType) (place : ℕ) (o : Option (List ℕ)) → name_of_type s t ≡ o → is_in (attribute_name (text_of_name o) place) open_selectors ≡ false
+  attribute_apart t place None e = refl
+  attribute_apart t place (Some n) e =
+      let p = each_found (λ t n. (k : ℕ) × (n ≡ stated_type_name t k)) (same_type t) t (λ l q. (same_types t l).0 q) s.types n e counted in
+      subst (λ m. is_in (attribute_name m place) open_selectors ≡ false) (sym p.1) (attribute_is_no_selector t p.0 place)
+
+  function_apart : (f : PlainFunction) (o : Option (List ℕ)) → name_of_function s f ≡ o → is_in (text_of_name o) open_selectors ≡ false
+  function_apart f None e = refl
+  function_apart f (Some n) e =
+      let p = each_found (λ f n. (k : ℕ) × (n ≡ stated_function_name k)) (same_function f) f (λ l q. (same_functions f l).0 q) s.functions n e called in
+      subst (λ m. is_in m open_selectors ≡ false) (sym p.1) refl
+
+  -- ---- applications without a selector that is left open
+
+  plain_op : (enums : Enums) (op : PlainOp) (ts : PlainTerms) → is_selecting op ≡ false → is_plain_head (head_of enums s op ts) ≡ true
+  plain_op enums (UufOp f) ts h = ap not (function_apart f (name_of_function s f) refl)
+  plain_op enums (RecordGetOp a) ts h = ap not (attribute_apart (first_type ts) (attribute_place a (first_type ts)) (name_of_type s (first_type ts)) refl)
+  plain_op enums OptionGetOp ts h = absurd (false≢true (sym h))
+  plain_op enums (ExtOp IpAddrV4Op) ts h = absurd (false≢true (sym h))
+  plain_op enums (ExtOp IpAddrV6Op) ts h = absurd (false≢true (sym h))
+  plain_op enums (ExtOp IpPrefixV4Op) ts h = absurd (false≢true (sym h))
+  plain_op enums (ExtOp IpPrefixV6Op) ts h = absurd (false≢true (sym h))
+  plain_op enums op ts h = refl
+
+  plain_operands : (op : PlainOp) (es : List Expression) → each_plain (exprs es) ≡ true → each_plain (exprs (operands op es)) ≡ true
+  plain_operands (StringLikeOp p) es h = plain_with_pattern p es h
+  plain_operands op es h = h
+
+  pub plain_application : (enums : Enums) (op : PlainOp) (ts : PlainTerms) → is_selecting op ≡ false → is_plain (group (head_of enums s op ts ∷ operands op (texts_of s ts))) ≡ true
+  plain_application enums op ts h =
+      and_from (is_plain_head (head_of enums s op ts)) (each_plain (exprs (operands op (texts_of s ts)))) (plain_op enums op ts h) (plain_operands op (texts_of s ts) (plain_texts s ts))
+
+  pub plain_least : (ts : PlainTerms) (w n : ℕ) → is_plain (group (name (codes "=") ∷ (texts_of s ts ++ bits w n ∷ []))) ≡ true
+  plain_least ts w n = plain_append (texts_of s ts) (bits w n ∷ []) (plain_texts s ts) refl
+
+pub least_selects : (s : Tables) (op : PlainOp) (ts : PlainTerms) (type : PlainType) (w : ℕ) → manner op ts type ≡ AsLeast w → op_selections s op type ≡ []
+least_selects s BvnegoOp ts type w e = refl
+least_selects s op ts type w e = absurd cc

@@ -1,0 +1,112 @@
+-- What texts are worth in a script, where names keep what their lines give them.
+use Rattle.std.proofs.Common.{◌≡◌, ℕ, true, List, ◌∷◌, refl, ap₂, ◌∙◌, Option, Some, None}
+use Rattle.std.specs.Prelude.{IsSome, nat_lt, ◌^◌, ◌<◌}
+use Rattle.std.proofs.lemmas.Bool.{false≢true, and_from, lt-ltb}
+use Rattle.smt_term.specs.Plain.{PlainType, OptionType, ExtensionType, PlainOp, BitVecLiteral, BoolLiteral, EntityLiteral, ExtensionLiteral, StringLiteral, PlainTerm, Application, NoneTerm, LiteralTerm, RecordTerm, SetTerm, SomeTerm, VariableTerm, PlainTerms, no_terms, one_term}
+use Rattle.smt_term.specs.Meaning.{meaning, meanings}
+use Rattle.smt_term.specs.Tables.{Interpretation}
+use Rattle.smt_term.specs.Types.{type_of, types_of}
+use Rattle.smt_term.specs.Values.{Value}
+use Rattle.smt_semantics.specs.ScriptValues.{ScriptValue, BitsOf}
+use Rattle.smt_sexpr.specs.Reading.{Expression}
+use Rattle.smt_semantics.specs.Arithmetic.{are_bits, is_width}
+use Rattle.smt_semantics.specs.Script.{State, Defined, name, ◌>>=◌}
+use Rattle.smt_semantics.specs.Sorts as sorts
+use Rattle.smt_semantics.specs.Sorts.{entries}
+use Rattle.smt_semantics.specs.Value.{ScriptInterpretation, expression_value}
+use Rattle.smt_semantics.specs.Meanings.{argument_values}
+use Rattle.smt_lines.specs.Lines.{Enums, Tables, name_of_term, bits, Manner, AsItStands, AsLeast, AsFalse, manner}
+use Rattle.smt_lines.specs.Types as lines
+use Rattle.smt_lines.specs.Naming.{IsOneToOne, sort_of}
+use Rattle.smt_lines.specs.Same.{same_term}
+use Rattle.smt_lines.specs.Fits.{EachEntry, named_text, text_of, given, texts_of, application_lines}
+use Rattle.smt_lines.specs.Fit.{Fit, EachLine, LineStands}
+use Rattle.smt_lines.proofs.Basic.{numeral_digits, numeral_number}
+use Rattle.smt_lines.proofs.Declared.{terms_are_declared}
+use Rattle.smt_lines.proofs.Known.{each_found}
+use Rattle.smt_lines.proofs.Sound.{same_terms_are_one}
+use Rattle.smt_carrying.specs.Carry.{carry}
+use Rattle.smt_carrying.specs.Interpretations.{carry_interpretation}
+use Rattle.smt_carrying.specs.Operators.{carry_each}
+use Rattle.smt_carrying.specs.Order.{AreEnums}
+use Rattle.smt_headline.specs.Texts.{NamesLast}
+use Rattle.smt_headline.proofs.Distinct.{NameGood}
+
+-- What the values of texts are followed by: tables and a state that fit, and names that differ and last.
+pub record Follows (enums : Enums) (s : Tables) (state : State) (I : Interpretation) : Type 0 where
+  pub fit : Fit enums s state
+  pub one_to_one : IsOneToOne s
+  pub enum_types : AreEnums enums
+  pub named : EachEntry (NameGood enums s) s.terms
+  pub last : NamesLast (carry_interpretation enums s I) state
+
+module _ (enums : Enums) (s : Tables) (state : State) (I : Interpretation) where
+  abbrev pub carried : ScriptInterpretation
+  carried = carry_interpretation enums s I
+
+  -- an expression has the carried value
+  abbrev pub Worth : Expression → PlainType → Value → Type 0
+  Worth e ty v = expression_value carried state e ≡ Some (carry enums s ty v)
+
+  -- the texts of terms have their values
+  abbrev pub AreWorth : PlainTerms → Type 0
+  AreWorth no_terms = Unit {0}
+  AreWorth (one_term t ts) = Worth (given (text_of s t)) (type_of t) (meaning I t) × AreWorth ts
+
+  pub arguments : (ts : PlainTerms) → AreWorth ts → argument_values carried state (texts_of s ts) ≡ Some (carry_each enums s (types_of ts) (meanings I ts))
+  arguments no_terms h = refl
+  arguments (one_term t ts) h = ap₂ (λ (o : Option ScriptValue) (p : Option (List ScriptValue)). o >>= λ v. p >>= λ vs. Some (v ∷ vs)) h.0 (arguments ts h.1)
+
+  pub bits_worth : (width number : ℕ) → are_bits width number ≡ true → expression_value carried state (bits width number) ≡ Some (BitsOf width number)
+  bits_worth width number h = rw (numeral_digits number, numeral_number number, h) refl
+
+pub bits_fit : (width number : ℕ) → is_width width ≡ true → number < 2 ^ width → are_bits width number ≡ true
+bits_fit width number w h = and_from (is_width width) (nat_lt number (2 ^ width)) w (lt-ltb number (2 ^ width) h)
+
+pub some_text : (o : Option Expression) → IsSome o → o ≡ Some (given o)
+some_text (Some e) h = refl
+some_text None h = absurd (false≢true h)
+
+-- types of which each term has an entry, with its sort
+abbrev pub IsEntered : PlainType → Type 0
+IsEntered (OptionType t) = Unit {0}
+IsEntered (ExtensionType kind) = Unit {0}
+IsEntered t = ⊥
+
+module _ (enums : Enums) (s : Tables) (state : State) (I : Interpretation) (x : Follows enums s state I) where
+  pub from_body : (n : List ℕ) (sort body : Expression) (o : Option ScriptValue) → entries state n ≡ Some (Defined sort body) → expression_value (carried enums s state I) state body ≡ o → expression_value (carried enums s state I) state (name n) ≡ o
+  from_body n sort body o h k = (x.last.bodies n sort body h).1 ∙ k
+
+  pub name_good : (t : PlainTerm) (n : List ℕ) → name_of_term s t ≡ Some n → NameGood enums s t n
+  name_good t n h = each_found (NameGood enums s) (same_term t) t (λ l q. (same_terms_are_one t l).0 q) s.terms n h x.named
+
+  -- an entry's text is its name
+  pub by_name : (P : Expression → Type 0) (t : PlainTerm) (o : Option (List ℕ)) → name_of_term s t ≡ o → IsSome (named_text o) → ((n : List ℕ) → name_of_term s t ≡ Some n → P (name n)) → P (given (named_text o))
+  by_name P t (Some n) e h f = f n e
+  by_name P t None e h f = absurd (false≢true h)
+
+  application_sorted : (m : Manner) (op : PlainOp) (ts : PlainTerms) (type : PlainType) (n : List ℕ) → (m ≡ AsFalse → ⊥) → EachLine (LineStands state) (application_lines enums s m op ts type n) → sorts.sort_of state (name n) ≡ Some (sort_of s type)
+  application_sorted AsItStands op ts type n k h = (x.last.bodies n _ _ h.0).2
+  application_sorted (AsLeast w) op ts type n k h = (x.last.bodies n _ _ h.0).2
+  application_sorted AsFalse op ts type n k h = absurd (k refl)
+
+  -- The text of a term of such a type has the type's sort.
+  pub text_sorted : (t : PlainTerm) → IsEntered (lines.type_of t) → IsSome (text_of s t) → sorts.sort_of state (given (text_of s t)) ≡ Some (sort_of s (lines.type_of t))
+  text_sorted (LiteralTerm (BitVecLiteral w n)) k h = absurd k
+  text_sorted (LiteralTerm (BoolLiteral b)) k h = absurd k
+  text_sorted (LiteralTerm (StringLiteral y)) k h = absurd k
+  text_sorted (LiteralTerm (EntityLiteral type id)) k h = absurd k
+  text_sorted (LiteralTerm (ExtensionLiteral y)) k h =
+      let t = LiteralTerm (ExtensionLiteral y) in
+      by_name (λ e. sorts.sort_of state e ≡ Some (sort_of s (lines.type_of t))) t _ refl h (λ n q. (x.last.bodies n _ _ (terms_are_declared enums s state t n x.fit q).0.0).2)
+  text_sorted (Application op ts type) k h =
+      let t = Application op ts type in
+      by_name (λ e. sorts.sort_of state e ≡ Some (sort_of s type)) t _ refl h (λ n q. application_sorted (manner op ts type) op ts type n (name_good t n q) (terms_are_declared enums s state t n x.fit q).0)
+  text_sorted (NoneTerm type) k h =
+      by_name (λ e. sorts.sort_of state e ≡ Some (sort_of s (OptionType type))) (NoneTerm type) _ refl h (λ n q. (x.last.bodies n _ _ (terms_are_declared enums s state (NoneTerm type) n x.fit q).0.0).2)
+  text_sorted (RecordTerm fs) k h = absurd k
+  text_sorted (SetTerm element ts) k h = absurd k
+  text_sorted (SomeTerm u) k h =
+      by_name (λ e. sorts.sort_of state e ≡ Some (sort_of s (lines.type_of (SomeTerm u)))) (SomeTerm u) _ refl h (λ n q. (x.last.bodies n _ _ (terms_are_declared enums s state (SomeTerm u) n x.fit q).0.0).2)
+  text_sorted (VariableTerm id type) k h =
+      by_name (λ e. sorts.sort_of state e ≡ Some (sort_of s type)) (VariableTerm id type) _ refl h (λ n q. (x.last.constants n _ (terms_are_declared enums s state (VariableTerm id type) n x.fit q).0.1.0).1)

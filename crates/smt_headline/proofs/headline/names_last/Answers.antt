@@ -1,0 +1,5 @@
+use Rattle.smt_headline.proofs.Lasting as laws
+use Rattle.smt_headline.proofs.headline.names_last.Goals as goal
+
+pub returns : goal.returns
+returns c = laws.stated_names_last

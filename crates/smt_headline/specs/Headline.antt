@@ -1,0 +1,70 @@
+-- The main theorem: the text of conditions is a script, and its models are exactly the interpretations that make them all true.
+use Rattle.std.specs.Prelude.{◌≡◌, ◌↔◌, ℕ, true, IsTrue, map, List, [], ◌∷◌, ◌++◌, Some, ⊤}
+use Rattle.std.specs.List.{AllByRecursion}
+use Rattle.smt_term.specs.Plain.{PlainTerm}
+use Rattle.smt_term.specs.Defaults.{default_interpretation}
+use Rattle.smt_term.specs.Interpretations.{IsInterpretation}
+use Rattle.smt_term.specs.Meaning.{term_value}
+use Rattle.smt_term.specs.Operators.{truth}
+use Rattle.smt_term.specs.Reached.{reached_variables, reached_functions}
+use Rattle.smt_term.specs.Tables.{Interpretation}
+use Rattle.smt_term.specs.Values.{BoolValue}
+use Rattle.smt_sexpr.specs.Reading.{Expression}
+use Rattle.smt_semantics.specs.Script.{State, is_in, assertions_of}
+use Rattle.smt_semantics.specs.ScriptValues.{TruthOf}
+use Rattle.smt_semantics.specs.Value.{ScriptInterpretation, IsScriptInterpretation, AgreeFor, IsModel, expression_value, free_names}
+use Rattle.smt_semantics.specs.Written.{Stands}
+use Rattle.smt_lines.specs.Fits.{text_of}
+use Rattle.smt_lines.specs.Lines.{Enums, Tables}
+use Rattle.smt_lines.specs.Naming.{IsOneToOne}
+use Rattle.smt_lines.specs.Text.{text, names}
+use Rattle.smt_carrying.specs.Interpretations.{carry_interpretation, back_interpretation, variable_name, function_name}
+use Rattle.smt_carrying.specs.Order.{AreEnums}
+use Rattle.smt_headline.specs.Conditions.{AreConditions}
+
+-- one expression for each term, at its place: the term's text
+abbrev pub AreTexts : Tables → List PlainTerm → List Expression → Type 0
+AreTexts s [] [] = ⊤
+AreTexts s (t ∷ ts) (e ∷ es) = (text_of s t ≡ Some e) × AreTexts s ts es
+AreTexts s ts es = ⊥
+
+-- each expression has the value of the term at its place
+abbrev pub HaveTermValues : Interpretation → ScriptInterpretation → State → List PlainTerm → List Expression → Type 0
+HaveTermValues I J state [] [] = ⊤
+HaveTermValues I J state (t ∷ ts) (e ∷ es) = (expression_value J state e ≡ Some (TruthOf (truth (term_value I t)))) × HaveTermValues I J state ts es
+HaveTermValues I J state ts es = ⊥
+
+-- the names that tables give to the variables and functions that terms reach
+abbrev pub reached_names : Tables → List PlainTerm → List (List ℕ)
+reached_names s ts = map (λ v. variable_name s v.0 v.1) (reached_variables ts) ++ map (function_name s) (reached_functions ts)
+
+-- each term is true
+abbrev pub AreTrue : Interpretation → List PlainTerm → Type 0
+AreTrue I ts = AllByRecursion (λ t. term_value I t ≡ BoolValue true) ts
+
+pub record Headline (enums : Enums) (ts : List PlainTerm) : Type 0 where
+  -- what the text comes to
+  pub state : State
+  -- The text is a whole script by the grammar, which declares each name once, before its use.
+  pub script : Stands (text enums ts) state
+  -- It has one assertion for each term, in order: the term's text.
+  pub assertions : AreTexts (names enums ts) ts (assertions_of state)
+  -- In each of the tables two keys have two names.
+  pub one_to_one : IsOneToOne (names enums ts)
+  -- The script's free names are exactly those of the variables and functions that the terms reach.
+  pub free : (n : List ℕ) → IsTrue (is_in n (free_names state)) ↔ IsTrue (is_in n (reached_names (names enums ts) ts))
+  -- An interpretation of the terms, carried over, is one of the script, and each assertion has its term's value in it.
+  pub carried : (I : Interpretation) → IsInterpretation enums ts I → IsScriptInterpretation (carry_interpretation enums (names enums ts) I) state
+  pub values : (I : Interpretation) → IsInterpretation enums ts I → HaveTermValues I (carry_interpretation enums (names enums ts) I) state ts (assertions_of state)
+  -- An interpretation of the script comes back as one of the terms, which is carried to it again.
+  pub back : (J : ScriptInterpretation) → IsScriptInterpretation J state → IsInterpretation enums ts (back_interpretation enums (names enums ts) J)
+  pub again : (J : ScriptInterpretation) → IsScriptInterpretation J state → AgreeFor (carry_interpretation enums (names enums ts) (back_interpretation enums (names enums ts) J)) J state
+  -- So the models are exactly the interpretations that make all terms true.
+  pub models : (J : ScriptInterpretation) → IsScriptInterpretation J state → IsModel J state ↔ AreTrue (back_interpretation enums (names enums ts) J) ts
+  pub true_in : (I : Interpretation) → IsInterpretation enums ts I → AreTrue I ts ↔ IsModel (carry_interpretation enums (names enums ts) I) state
+  -- The terms have an interpretation.
+  pub interpreted : IsInterpretation enums ts (default_interpretation enums)
+
+-- Conditions: typed Boolean terms, formed and without fault, over enum types whose members ascend.
+abbrev pub ConditionsAreTheirScripts : Type 0
+ConditionsAreTheirScripts = (enums : Enums) (ts : List PlainTerm) → AreEnums enums → AreConditions enums ts → Headline enums ts

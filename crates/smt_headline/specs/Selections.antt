@@ -1,0 +1,44 @@
+-- SMT-LIB leaves a selector at a value of another constructor to the interpretation. The selectors that the text of conditions
+-- leaves open so are those that the conditions leave to theirs.
+use Rattle.std.specs.Prelude.{◌≡◌, ℕ, codes, map, List, [], ◌∷◌, unwrap_or}
+use Rattle.smt_term.specs.Plain.{OptionType, BoolType, OptionGetOp, PlainTerm, VariableTerm}
+use Rattle.smt_sexpr.specs.Reading.{Expression}
+use Rattle.smt_semantics.specs.Script.{name, start, run}
+use Rattle.smt_semantics.specs.Sorts.{entries, bool_sort}
+use Rattle.smt_semantics.specs.Value.{ScriptInterpretation, IsScriptInterpretation, applied_selectors}
+use Rattle.smt_lines.specs.Command.{commands}
+use Rattle.smt_lines.specs.Lines.{Enums, no_names, encode, option_line}
+use Rattle.smt_lines.specs.Rows.{unary, condition}
+use Rattle.smt_lines.specs.Scripts.{Stated}
+use Rattle.smt_lines.specs.Text.{names}
+use Rattle.smt_carrying.specs.Interpretations.{GivesReachedNames}
+use Rattle.smt_carrying.specs.Open.{LeavesOpen}
+use Rattle.smt_carrying.specs.Order.{AreEnums}
+use Rattle.smt_carrying.specs.Sorts.{option_sort}
+use Rattle.smt_headline.specs.Conditions.{AreConditions}
+
+-- ---- the laws
+
+-- What the text of conditions leaves to an interpretation is what they reach: variables, functions, and selectors at the sorts
+-- that they are applied to.
+abbrev pub SelectorsAreOpen : Type 0
+SelectorsAreOpen = (enums : Enums) (ts : List PlainTerm) (x : Stated enums ts) → AreConditions enums ts → AreEnums enums → LeavesOpen (names enums ts) ts x.state
+
+-- An interpretation of that text gives values and tables to all of this.
+abbrev pub InterpretationsGiveReached : Type 0
+InterpretationsGiveReached = (enums : Enums) (ts : List PlainTerm) (x : Stated enums ts) → AreConditions enums ts → AreEnums enums → (J : ScriptInterpretation) → IsScriptInterpretation J x.state
+    → GivesReachedNames (names enums ts) (entries x.state) ts J
+
+-- ---- examples
+
+-- the selectors that the text of terms leaves open, with the sorts that they are applied to
+abbrev pub selected_in : List PlainTerm → List (List ℕ × Expression)
+selected_in ts = map (λ p. (p.selector, p.sort)) (applied_selectors (unwrap_or (run (commands (option_line ∷ (encode [] ts no_names).lines)) start) start))
+
+-- what is inside an option of Booleans
+abbrev pub inside_option : PlainTerm
+inside_option = unary OptionGetOp (VariableTerm (codes "o") (OptionType BoolType)) BoolType
+
+-- `val` at that option, and one selector of IP ranges; the attributes and the datetime of the second example leave nothing open.
+abbrev pub TheseAreSelected : Type 0
+TheseAreSelected = (selected_in (inside_option ∷ []) ≡ (codes "val", option_sort bool_sort) ∷ []) × (selected_in condition ≡ (codes "addrV4", name (codes "IPAddr")) ∷ [])
