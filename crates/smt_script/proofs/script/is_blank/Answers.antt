@@ -1,0 +1,7 @@
+use Rattle.std.proofs.lemmas.List.{length-map}
+use Rattle.smt_script.specs.Texts.{texts}
+use Rattle.smt_script.proofs.LinesLemmas.{spaced-two}
+use Rattle.smt_script.proofs.script.is_blank.Goals as goal
+
+pub returns-in-len2-up : goal.returns-in-len2-up
+returns-in-len2-up c = (λ h. absurd (cc), λ e. absurd (spaced-two (texts c.args.params.now) (simp length-map c.in-len2-up.len_at_least) e))

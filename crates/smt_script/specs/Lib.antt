@@ -1,0 +1,5 @@
+pub mod Sink
+pub mod Lines
+pub mod Texts
+pub mod Memory
+pub mod Writer

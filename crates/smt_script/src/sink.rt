@@ -1,0 +1,53 @@
+// What takes bytes.
+ghost use Rattle.std.specs.Prelude.{ℕ, List, Option, ◌∷◌};
+ghost use Rattle.smt_script.specs.Sink.{Puts, unreferenced};
+
+use thiserror::Error;
+
+/// Why a sink did not take all bytes of a put.
+#[derive(Clone, Copy, Debug, PartialEq, Eq, Drop, Error)]
+pub enum SinkError {
+    /// What takes the bytes failed. The sink's count of faults shows it.
+    #[error("the sink failed to take bytes")]
+    Fault,
+    /// There was no memory for the bytes.
+    #[error("no memory for the bytes of the sink")]
+    Memory,
+}
+
+/// What takes bytes, piece by piece.
+pub trait Sink {
+    /// The bytes that it holds, where it tells them.
+    ghost held: { Self → Option (List ℕ) };
+
+    /// How often it has failed. The count stands still at 2^64 - 1.
+    ghost faults: { Self → ℕ };
+
+    /// It certainly takes this many bytes more, in whatever pieces.
+    ghost takes: { Self → ℕ → Type 0 };
+
+    /// The references that lead to it, the outermost first.
+    ghost place: { Self → List ℕ } = { unreferenced };
+
+    /// Appends all of `bytes`, or on an error a first part of them.
+    ///
+    /// `Fault` comes only where the sink's count of faults rose in this call, or stands at its last
+    /// value. `Memory` may come at any put, unless the sink certainly takes the bytes.
+    fn put(&mut self, bytes: &[u8]) -> Result<(), SinkError>
+        ensures { Puts held faults takes place self.old self.new bytes.now result };
+}
+
+/// A mutable reference to a sink is a sink with the same meanings.
+impl<S: Sink> Sink for &mut S {
+    ghost held = { λ s. S.held s.now };
+
+    ghost faults = { λ s. S.faults s.now };
+
+    ghost takes = { λ s. S.takes s.now };
+
+    ghost place = { λ s. s.ghost_name ∷ S.place s.now };
+
+    fn put(&mut self, bytes: &[u8]) -> Result<(), SinkError> {
+        (**self).put(bytes)
+    }
+}

@@ -1,0 +1,166 @@
+ghost use Rattle.std.specs.Prelude.{◌++◌, ◌≡◌, IsOk, codes, length};
+ghost use Rattle.smt_script.specs.Lines.{declare_const_line};
+ghost use Rattle.smt_script.specs.Memory.{memory_bytes, memory_takes};
+
+use super::*;
+use std::alloc::{AllocError, Global};
+use std::io::{self, Write};
+use std::rc::RcStr;
+use std::test::Fail;
+
+/// What `put_lines` puts, as the table of lines spells it.
+const LINES: &str = "\
+(declare-datatype Option (par (X) (\n  (none)\n  (some (val X)))))
+; \"b\"
+(declare-const t0 Bool)
+(define-fun t1 () Bool (not t0))
+(assert t1)
+(declare-datatype E0 (\n  ))
+; a  b c
+(define-fun f ((x Int) (y Bool)) Int x)
+(declare-datatype D (\n  (c)))
+(declare-datatype D (par ( ) (\n  (c))))
+";
+
+fn texts(alloc: Global, items: &[&str]) -> Result<Vec<Text>, AllocError> {
+    let mut texts = Vec::new(alloc);
+    for item in items {
+        texts.push(RcStr::from_str(alloc, item)?)?;
+    }
+    Ok(texts)
+}
+
+fn arguments(alloc: Global) -> Result<Vec<(Text, Text)>, AllocError> {
+    let mut arguments = Vec::new(alloc);
+    arguments.push((RcStr::from_str(alloc, "x")?, RcStr::from_str(alloc, "Int")?))?;
+    arguments.push((
+        RcStr::from_str(alloc, "y")?,
+        RcStr::from_str(alloc, "Bool")?,
+    ))?;
+    Ok(arguments)
+}
+
+/// Datatypes whose parameters are one empty text, and two.
+fn put_datatypes<S: Sink>(sink: &mut S, alloc: Global) -> Result<(), Fail> {
+    let constructor = texts(alloc, &["(c)"])?;
+    sink.declare_datatype("D", texts(alloc, &[""])?.as_slice(), constructor.as_slice())?;
+    sink.declare_datatype(
+        "D",
+        texts(alloc, &["", ""])?.as_slice(),
+        constructor.as_slice(),
+    )?;
+    Ok(())
+}
+
+fn put_lines<S: Sink>(sink: &mut S, alloc: Global) -> Result<(), Fail> {
+    let parameters = texts(alloc, &["X"])?;
+    let constructors = texts(alloc, &["(none)", "(some (val X))"])?;
+    let mut arguments = Vec::new(alloc);
+    arguments.push((RcStr::from_str(alloc, "x")?, RcStr::from_str(alloc, "Int")?))?;
+    arguments.push((
+        RcStr::from_str(alloc, "y")?,
+        RcStr::from_str(alloc, "Bool")?,
+    ))?;
+    sink.declare_datatype("Option", parameters.as_slice(), constructors.as_slice())?;
+    sink.comment("\"b\"")?;
+    sink.declare_const("t0", "Bool")?;
+    sink.define_fun("t1", &[], "Bool", "(not t0)")?;
+    sink.assert("t1")?;
+    sink.declare_datatype("E0", &[], &[])?;
+    sink.comment("a\r\nb\nc")?;
+    sink.define_fun("f", arguments.as_slice(), "Int", "x")?;
+    put_datatypes(sink, alloc)
+}
+
+#[test]
+fn lines_are_spelled(rt: HostRuntime) -> Result<(), Fail> {
+    let alloc = rt.alloc();
+    let mut memory = MemorySink::new(alloc, &[], LINES.len())?;
+    put_lines(&mut memory, alloc)?;
+    assert_eq!(rt; memory.bytes(), LINES.as_bytes());
+    let mut list = ListSink::new(alloc);
+    put_lines(&mut &mut list, alloc)?;
+    assert_eq!(rt; list.bytes(), LINES.as_bytes());
+    let mut writer = ShortWriter::new(alloc, 1000);
+    put_lines(&mut WriteSink::new(&mut writer), alloc)?;
+    assert_eq!(rt; writer.bytes.as_slice(), LINES.as_bytes());
+    Ok(())
+}
+
+/// In a sink with room a line is put, whatever the allocator does.
+fn declare_in_room(sink: &mut MemorySink, id: &str) -> Result<(), SinkError>
+    requires { memory_takes sink.old (length (declare_const_line id.now (codes "Bool"))) }
+    ensures room { IsOk result }
+    ensures bytes { memory_bytes sink.new ≡ memory_bytes sink.old ++ declare_const_line id.now (codes "Bool") }
+{
+    sink.declare_const(id, "Bool")
+}
+
+#[test]
+fn memory_sinks_fail(rt: HostRuntime) -> Result<(), Fail> {
+    let alloc = rt.alloc();
+    let mut planned = MemorySink::new(alloc, &[2, 4], 10)?;
+    assert_eq!(rt; planned.put(b"ab"), Ok(()));
+    assert_eq!(rt; planned.put(b"cd"), Err(SinkError::Fault));
+    assert_eq!(rt; planned.put(b"ef"), Ok(()));
+    assert_eq!(rt; planned.put(b"gh"), Err(SinkError::Fault));
+    assert_eq!(rt; planned.bytes(), b"abef".as_slice());
+    let mut small = MemorySink::new(alloc, &[], 30)?;
+    assert_eq!(rt; declare_in_room(&mut small, "t0"), Ok(()));
+    assert_eq!(rt; small.assert("t0"), Err(SinkError::Fault));
+    assert_eq!(rt;
+        small.bytes(),
+        b"(declare-const t0 Bool)\n(asser".as_slice()
+    );
+    Ok(())
+}
+
+/// Takes at most three bytes a write, and fails where it has `room` bytes.
+#[derive(Drop)]
+struct ShortWriter {
+    bytes: Vec<u8>,
+    room: usize,
+    flushes: u32,
+}
+
+impl ShortWriter {
+    fn new(alloc: Global, room: usize) -> ShortWriter {
+        ShortWriter {
+            bytes: Vec::new(alloc),
+            room,
+            flushes: 0,
+        }
+    }
+}
+
+impl Write for ShortWriter {
+    fn write(&mut self, buf: &[u8]) -> io::Result<usize> {
+        let taken = buf
+            .len()
+            .min(3)
+            .min(self.room.saturating_sub(self.bytes.len()));
+        self.bytes.extend_from_slice(&buf[..taken])?;
+        Ok(taken)
+    }
+
+    fn flush(&mut self) -> io::Result<()> {
+        self.flushes = self.flushes.saturating_add(1);
+        Ok(())
+    }
+}
+
+#[test]
+fn writers_fail(rt: HostRuntime) -> Result<(), Fail> {
+    let mut writer = ShortWriter::new(rt.alloc(), 28);
+    let mut sink = WriteSink::new(&mut writer);
+    assert_eq!(rt; sink.declare_const("t0", "Bool"), Ok(()));
+    assert_eq!(rt; sink.put(b"(as"), Ok(()));
+    assert_eq!(rt; sink.put(b"sert"), Err(SinkError::Fault));
+    assert_eq!(rt; sink.put(b""), Ok(()));
+    assert_eq!(rt;
+        writer.bytes.as_slice(),
+        b"(declare-const t0 Bool)\n(ass".as_slice()
+    );
+    assert_eq!(rt; writer.flushes, 1);
+    Ok(())
+}
