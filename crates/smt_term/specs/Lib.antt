@@ -10,6 +10,7 @@ pub mod Meaning
 pub mod Operators
 pub mod Patterns
 pub mod Plain
+pub mod Program
 pub mod Reached
 pub mod Tables
 pub mod TermOrder

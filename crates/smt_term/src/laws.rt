@@ -3,6 +3,7 @@ ghost use Rattle.smt_term.specs.Laws.{DefaultsAreInterpretations, ReachedDecides
 ghost use Rattle.smt_term.specs.Literals.{LiteralsAreTheirValues};
 ghost use Rattle.smt_term.specs.Patterns.{MatchingIsDecided};
 ghost use Rattle.smt_term.specs.Plain.{RoundTrip, terms};
+ghost use Rattle.smt_term.specs.Program.{EqualTermsSayTheSame, TablesAreEmpty, TermsAreFormed, TermsCompareAsPlain, TypesCompareAsPlain};
 ghost use Rattle.smt_term.specs.ValueOrder.{EqualityIsDecided, OrderIsTotal};
 
 /// A list of terms and its plain form give each other.
@@ -70,4 +71,13 @@ pub fn term_rows()
 /// The order of terms is not the order of their values.
 pub fn order_rows()
     ensures { OrderRows }
+{}
+
+/// What the program's terms, types and tables keep.
+pub fn program_terms()
+    ensures formed { TermsAreFormed }
+    ensures equality { EqualTermsSayTheSame }
+    ensures order { TermsCompareAsPlain }
+    ensures type_order { TypesCompareAsPlain }
+    ensures tables { TablesAreEmpty }
 {}

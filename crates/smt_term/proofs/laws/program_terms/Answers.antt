@@ -1,0 +1,13 @@
+use Rattle.smt_term.proofs.DerivedEquality.{eq_from_same, same_from_eq}
+use Rattle.smt_term.proofs.DerivedOrder.{term_cmp-is, type_cmp-is}
+use Rattle.smt_term.proofs.FormedTerms.{tables_are_empty, terms_are_formed}
+use Rattle.smt_term.proofs.laws.program_terms.Goals as goal
+
+pub returns : goal.returns
+returns c = record {
+  formed = terms_are_formed;
+  equality = λ s t. (same_from_eq s t, eq_from_same s t);
+  order = term_cmp-is;
+  type_order = type_cmp-is;
+  tables = tables_are_empty;
+}
