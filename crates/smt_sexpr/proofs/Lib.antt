@@ -1,2 +1,10 @@
+pub mod Atoms
+pub mod Items
+pub mod Numbers
+pub mod PlainText
+pub mod Readings
+pub mod Runs
+pub mod Same
+pub mod Strings
 pub mod Trees
 pub mod Unique

@@ -9,11 +9,11 @@ use Rattle.smt_sexpr.specs.Lexicon.{Piece, Space, Comment, Open, Close, Quoted, 
 pub head_is : (a b : ℕ) (xs ys : List ℕ) → a ∷ xs ≡ b ∷ ys → (a ≡ b) × (xs ≡ ys)
 head_is a b xs ys e = (cc, cc)
 
-nothing_is : (b : ℕ) (bs : List ℕ) → [] ≡ b ∷ bs → ⊥
+pub nothing_is : (b : ℕ) (bs : List ℕ) → [] ≡ b ∷ bs → ⊥
 nothing_is b bs e = cc
 
 -- the first byte after a run does not belong to it
-pub ends_run : (ℕ → Bool) → List ℕ → Bool
+unfoldable pub ends_run : (ℕ → Bool) → List ℕ → Bool
 ends_run test [] = true
 ends_run test (b ∷ bs) = not (test b)
 
@@ -34,14 +34,14 @@ one_run test (x ∷ xs) (y ∷ ys) r s hx hy hr hs e =
 
 -- ---- strings
 
-twice_quote : (y : ℕ) (ys t : List ℕ) → eqb y 34 ≡ true → flat_map quote_twice (y ∷ ys) ++ t ≡ 34 ∷ 34 ∷ (flat_map quote_twice ys ++ t)
+pub twice_quote : (y : ℕ) (ys t : List ℕ) → eqb y 34 ≡ true → flat_map quote_twice (y ∷ ys) ++ t ≡ 34 ∷ 34 ∷ (flat_map quote_twice ys ++ t)
 twice_quote y ys t e = rw e refl
 
-twice_other : (y : ℕ) (ys t : List ℕ) → eqb y 34 ≡ false → flat_map quote_twice (y ∷ ys) ++ t ≡ y ∷ (flat_map quote_twice ys ++ t)
+pub twice_other : (y : ℕ) (ys t : List ℕ) → eqb y 34 ≡ false → flat_map quote_twice (y ∷ ys) ++ t ≡ y ∷ (flat_map quote_twice ys ++ t)
 twice_other y ys t e = rw e refl
 
 -- a string doesn't end before the other does
-not_sooner : (y : ℕ) (ys r t : List ℕ) → ends_run (λ b. eqb b 34) r ≡ true → 34 ∷ r ≡ flat_map quote_twice (y ∷ ys) ++ t → ⊥
+pub not_sooner : (y : ℕ) (ys r t : List ℕ) → ends_run (λ b. eqb b 34) r ≡ true → 34 ∷ r ≡ flat_map quote_twice (y ∷ ys) ++ t → ⊥
 unfolding ends_run
 not_sooner y ys r t hr e = elim (cases_Bool (eqb y 34)) [
   | inl q ↦ two r hr (head_is 34 34 r (34 ∷ (flat_map quote_twice ys ++ t)) (e ∙ twice_quote y ys t q)).1
@@ -84,15 +84,15 @@ number (Hexadecimal t) = 6
 number (Numeral t) = 7
 number (Symbol t) = 8
 
-abbrev second : List ℕ → ℕ
+abbrev pub second : List ℕ → ℕ
 second [] = 9
 second (b ∷ bs) = cond (eqb b 98) 5 6
 
-abbrev kind : List ℕ → ℕ
+abbrev pub kind : List ℕ → ℕ
 kind [] = 9
 kind (b ∷ bs) = cond (is_digit b) 7 (cond (is_symbol_byte b) 8 (cond (is_space b) 0 (cond (eqb b 59) 1 (cond (eqb b 40) 2 (cond (eqb b 41) 3 (cond (eqb b 34) 4 (second bs)))))))
 
-kind_space : (b : ℕ) (r : List ℕ) → is_space b ≡ true → kind (b ∷ r) ≡ 0
+pub kind_space : (b : ℕ) (r : List ℕ) → is_space b ≡ true → kind (b ∷ r) ≡ 0
 kind_space b r h = elim (or_cases ((eqb b 32 || eqb b 9) || is_line_end b) (eqb b 12) h) [
   | inr e ↦ rw (eqb-true b 12 e) refl
   | inl f ↦ elim (or_cases (eqb b 32 || eqb b 9) (is_line_end b) f) [
@@ -107,7 +107,7 @@ kind_space b r h = elim (or_cases ((eqb b 32 || eqb b 9) || is_line_end b) (eqb 
   ]
 ]
 
-kind_is : (x : Piece) (r : List ℕ) → is_piece x ≡ true → kind (spelling x ++ r) ≡ number x
+pub kind_is : (x : Piece) (r : List ℕ) → is_piece x ≡ true → kind (spelling x ++ r) ≡ number x
 kind_is (Space b) r h = kind_space b r h
 kind_is (Comment t) r h = refl
 kind_is Open r h = refl
@@ -157,10 +157,10 @@ same_kind (Symbol a) (Symbol b) r s n hx hy hr hs e =
     let t = one_run is_symbol_byte a b r s (all_of_symbol a hx) (all_of_symbol b hy) (run_ends (Symbol a) r hr) (run_ends (Symbol b) s hs) e in (ap Symbol t.0, t.1)
 same_kind x y r s n hx hy hr hs e = absurd (cc)
 
-first_one : (x y : Piece) (r s : List ℕ) → is_piece x ≡ true → is_piece y ≡ true → stops x r ≡ true → stops y s ≡ true → spelling x ++ r ≡ spelling y ++ s → (x ≡ y) × (r ≡ s)
+pub first_one : (x y : Piece) (r s : List ℕ) → is_piece x ≡ true → is_piece y ≡ true → stops x r ≡ true → stops y s ≡ true → spelling x ++ r ≡ spelling y ++ s → (x ≡ y) × (r ≡ s)
 first_one x y r s hx hy hr hs e = same_kind x y r s (sym (kind_is x r hx) ∙ ap kind e ∙ kind_is y s hy) hx hy hr hs e
 
-begins : (x : Piece) (r : List ℕ) → is_piece x ≡ true → [] ≡ spelling x ++ r → ⊥
+pub begins : (x : Piece) (r : List ℕ) → is_piece x ≡ true → [] ≡ spelling x ++ r → ⊥
 begins x r h e = no (number x) (number_small x) (ap kind e ∙ kind_is x r h)
   where
     no : (n : ℕ) → n < 9 → 9 ≡ n → ⊥

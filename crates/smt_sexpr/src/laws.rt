@@ -1,6 +1,17 @@
+ghost use Rattle.std.specs.Prelude.{◌≡◌, ◌↔◌, IsTrue};
 ghost use Rattle.smt_sexpr.specs.Reading.{OneReading};
+ghost use Rattle.smt_sexpr.specs.View.{plain};
+
+use crate::expression::SExpr;
 
 /// A text has one reading.
 pub fn one_reading()
     ensures { OneReading }
 {}
+
+/// Two expressions are equal exactly where they say the same.
+pub fn same_expression(a: &SExpr, b: &SExpr) -> bool
+    ensures { IsTrue result ↔ (plain a.now ≡ plain b.now) }
+{
+    a == b
+}

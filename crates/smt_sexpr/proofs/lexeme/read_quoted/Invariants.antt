@@ -1,0 +1,12 @@
+use Rattle.std.proofs.Common.{◌≡◌, ◌++◌, length}
+use Rattle.std.specs.List.{flat_map}
+use Rattle.std.specs.String.{string_bytes}
+use Rattle.smt_sexpr.specs.Lexicon.{quote_twice}
+use Rattle.smt_sexpr.specs.Plain.{IsPlainText}
+use Rattle.smt_sexpr.proofs.lexeme.read_quoted.Given as goal
+
+abbrev pub invariant-loop-text : goal.invariant-loop-text
+invariant-loop-text l = (l.src ≡ flat_map quote_twice (string_bytes l.text) ++ l.rest) × IsPlainText l.rest
+
+abbrev pub decreases-loop-text : goal.decreases-loop-text
+decreases-loop-text l = length l.rest

@@ -1,0 +1,6 @@
+use Rattle.std.proofs.Common.{sym, ap, ◌∙◌, drop}
+use Rattle.smt_sexpr.proofs.Runs.{skip_space_is}
+use Rattle.smt_sexpr.proofs.lexeme.without_space.Goals as goal
+
+pub returns : goal.returns
+returns c = c.split_at.ensures.back ∙ ap (λ n. drop n c.args.src.now) c.space_len.ensures ∙ sym (skip_space_is c.args.src.now)

@@ -1,0 +1,66 @@
+//! S-expressions and lists of them.
+#![tactic(auto, using(crate::specs::View::views))]
+
+ghost use Rattle.std.specs.Prelude.{◌≡◌, [], ◌∷◌, ◌++◌, length, OnOk, OnErr};
+ghost use Rattle.smt_sexpr.specs.View.{plain, plains, items_of};
+
+use std::alloc::{AllocError, Global};
+use std::rc::RcStr;
+
+/// A text that is shared, not copied.
+pub type Text = RcStr;
+
+/// An expression between brackets and spaces (SMT-LIB 2.7, section 3.2).
+#[derive(Debug, PartialEq, Eq, Drop)]
+#[cycle(sexpr)]
+pub enum SExpr {
+    /// A number in decimal digits, without a sign.
+    Numeral(u128),
+    /// The characters between the quotes, a doubled quote counted once.
+    String(Text),
+    /// A name or a reserved word.
+    Symbol(Text),
+    /// What stands between two brackets.
+    App(SExprs),
+}
+
+/// A list of expressions.
+#[derive(Debug, PartialEq, Eq, Drop)]
+#[cycle(sexpr)]
+pub struct SExprs {
+    items: Vec<SExpr>,
+}
+
+impl SExprs {
+    /// The empty list. It takes no memory.
+    pub fn new(alloc: Global) -> SExprs
+        ensures { plains result ≡ [] }
+    {
+        SExprs {
+            items: Vec::new(alloc),
+        }
+    }
+
+    /// Appends an expression. An `Err` changes nothing but that `item` is gone.
+    pub fn push(&mut self, item: SExpr) -> Result<(), AllocError>
+        ensures ok { OnOk result (plains self.new ≡ plains self.old ++ plain item ∷ []) }
+        ensures err { OnErr result (plains self.new ≡ plains self.old) }
+    {
+        self.items.push(item)?;
+        Ok(())
+    }
+
+    /// How many expressions there are.
+    pub fn len(&self) -> usize
+        ensures { result ≡ length (plains self.now) }
+    {
+        self.items.len()
+    }
+
+    /// The expressions in their order.
+    pub fn items(&self) -> &[SExpr]
+        ensures { result.now ≡ items_of self.now }
+    {
+        self.items.as_slice()
+    }
+}

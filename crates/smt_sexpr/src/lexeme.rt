@@ -1,0 +1,182 @@
+//! Strings, numerals and symbols at the front of a text.
+#![tactic(auto, using(crate::specs::View::views))]
+
+ghost use Rattle.std.specs.Prelude.{◌≡◌, ℕ, ◌^◌, ◌<◌, ◌∷◌, ◌++◌, List, length, not, true, false, ◌==◌, IsTrue, OnOk, IfSome, IfNone};
+ghost use Rattle.std.specs.List.{list_all, take_while};
+ghost use Rattle.std.specs.Option.{SomeIff};
+ghost use Rattle.std.specs.String.{string_bytes};
+ghost use Rattle.smt_sexpr.specs.Front.{Begins, BeginsWithNone, IfRead, IfUnread, IsQuoted, begins_no_symbol, begins_number, skip_space};
+ghost use Rattle.smt_sexpr.specs.Lexicon.{is_space, is_digit, is_symbol_byte, number_in};
+ghost use Rattle.smt_sexpr.specs.Plain.{IsPlainText, is_plain_text_byte};
+ghost use Rattle.smt_sexpr.specs.View.{plain};
+
+use crate::error::SExprParseError;
+use crate::expression::{SExpr, Text};
+use std::alloc::{AllocError, Global};
+use std::str;
+
+// Whether a plain text may hold the byte.
+fn is_plain(byte: u8) -> bool
+    ensures { result ≡ is_plain_text_byte byte }
+{
+    match byte {
+        b'#' | b';' | b'\\' => false,
+        b' ' | b'\t' | b'\n' | b'\r' | b'!'..=b'~' => true,
+        _ => false,
+    }
+}
+
+/// Whether a text holds nothing else.
+pub fn is_plain_text(src: &[u8]) -> bool
+    ensures { result ≡ list_all is_plain_text_byte src.now }
+{
+    src.iter().all(|byte| is_plain(*byte))
+}
+
+fn is_white_space(byte: u8) -> bool
+    ensures { result ≡ is_space byte }
+{
+    matches!(byte, b' ' | b'\t' | b'\n' | b'\r' | b'\x0c')
+}
+
+fn is_decimal(byte: u8) -> bool
+    ensures { result ≡ is_digit byte }
+{
+    byte.is_ascii_digit()
+}
+
+fn goes_on_symbol(byte: u8) -> bool
+    ensures { result ≡ is_symbol_byte byte }
+{
+    !is_white_space(byte) && !matches!(byte, b'(' | b')' | b';' | b'"' | b'#')
+}
+
+fn space_len(src: &[u8]) -> usize
+    ensures { result ≡ length (take_while is_space src.now) }
+{
+    src.iter().take_while(|byte| is_white_space(**byte)).count()
+}
+
+fn digits_len(src: &[u8]) -> usize
+    ensures { result ≡ length (take_while is_digit src.now) }
+{
+    src.iter().take_while(|byte| is_decimal(**byte)).count()
+}
+
+fn symbol_len(src: &[u8]) -> usize
+    ensures { result ≡ length (take_while is_symbol_byte src.now) }
+{
+    src.iter().take_while(|byte| goes_on_symbol(**byte)).count()
+}
+
+// How many bytes stand before the next quote.
+fn run_len(src: &[u8]) -> usize
+    ensures { result ≡ length (take_while (λ b. not (b == 34)) src.now) }
+{
+    src.iter().take_while(|byte| **byte != b'"').count()
+}
+
+/// The text from the first byte on that isn't white space.
+pub fn without_space(src: &[u8]) -> &[u8]
+    ensures { result.now ≡ skip_space src.now }
+{
+    src.split_at(space_len(src)).1
+}
+
+/// What follows the byte, where the text begins with it.
+pub fn behind(src: &[u8], byte: u8) -> Option<&[u8]>
+    ensures found { IfSome result (λ rest. src.now ≡ byte ∷ rest.now) }
+    ensures none { IfNone result ((rest : List ℕ) → src.now ≡ byte ∷ rest → ⊥) }
+{
+    let (first, rest) = src.split_first()?;
+    if *first == byte { Some(rest) } else { None }
+}
+
+/// The number that the digits write, where it is below 2 to the 128.
+fn number(digits: &[u8]) -> Option<u128>
+    requires { IsTrue (list_all is_digit digits.now) }
+    ensures { SomeIff result (number_in 10 digits.now < 2 ^ 128) (number_in 10 digits.now) }
+{
+    let mut value: u128 = 0;
+    for digit in digits {
+        value = value
+            .checked_mul(10)?
+            .checked_add(u128::from(*digit - b'0'))?;
+    }
+    Some(value)
+}
+
+/// The numeral at the front of a text, and what follows it.
+pub fn read_numeral(src: &[u8]) -> Option<(SExpr, &[u8])>
+    requires { begins_number src.now ≡ true }
+    ensures found { IfSome result (λ x. (depth : ℕ) → Begins depth (plain x.0) src.now x.1.now) }
+    ensures none { IfNone result ((depth : ℕ) → BeginsWithNone depth src.now) }
+    ensures rest_plain { IsPlainText src.now → IfSome result (λ x. IsPlainText x.1.now) }
+    ensures shorter { IfSome result (λ x. length x.1.now < length src.now) }
+{
+    let (digits, rest) = src.split_at(digits_len(src));
+    let value = number(digits)?;
+    Some((SExpr::Numeral(value), rest))
+}
+
+/// The symbol at the front of a text, and what follows it.
+pub fn read_symbol(alloc: Global, src: &[u8]) -> Result<Option<(SExpr, &[u8])>, SExprParseError>
+    requires is_plain { IsPlainText src.now }
+    requires no_other { begins_no_symbol src.now ≡ false }
+    ensures found { IfRead result (λ x. (depth : ℕ) → Begins depth (plain x.0) src.now x.1.now) }
+    ensures none { IfUnread result ((depth : ℕ) → BeginsWithNone depth src.now) }
+    ensures rest_plain { IfRead result (λ x. IsPlainText x.1.now) }
+    ensures shorter { IfRead result (λ x. length x.1.now < length src.now) }
+{
+    let (name, rest) = src.split_at(symbol_len(src));
+    if name.is_empty() {
+        return Ok(None);
+    }
+    let text = Text::from_str(alloc, str::from_utf8(name).unwrap())?;
+    Ok(Some((SExpr::Symbol(text), rest)))
+}
+
+/// Appends plain bytes to a text.
+fn push_plain(text: &mut String, bytes: &[u8]) -> Result<(), AllocError>
+    requires { IsPlainText bytes.now }
+    ensures { OnOk result (string_bytes text.new ≡ string_bytes text.old ++ bytes.now) }
+{
+    text.push_str(str::from_utf8(bytes).unwrap())
+}
+
+/// The text of a string, and what follows its closing quote. `src` stands behind the opening one.
+fn read_quoted(alloc: Global, src: &[u8]) -> Result<Option<(String, &[u8])>, AllocError>
+    requires { IsPlainText src.now }
+    ensures found { IfRead result (λ x. IsQuoted src.now (string_bytes x.0) x.1.now) }
+    ensures none { IfUnread result ((text rest : List ℕ) → IsQuoted src.now text rest → ⊥) }
+{
+    let mut text = String::new(alloc);
+    let mut rest = src;
+    loop {
+        let (run, quote) = rest.split_at(run_len(rest));
+        push_plain(&mut text, run)?;
+        let Some(after) = behind(quote, b'"') else {
+            return Ok(None);
+        };
+        let Some(more) = behind(after, b'"') else {
+            return Ok(Some((text, after)));
+        };
+        text.push('"')?;
+        rest = more;
+    }
+}
+
+/// The string at the front of a text, and what follows it. `src` stands behind the opening quote.
+pub fn read_string(alloc: Global, src: &[u8]) -> Result<Option<(SExpr, &[u8])>, SExprParseError>
+    requires { IsPlainText src.now }
+    ensures found { IfRead result (λ x. (depth : ℕ) → Begins depth (plain x.0) (34 ∷ src.now) x.1.now) }
+    ensures none { IfUnread result ((depth : ℕ) → BeginsWithNone depth (34 ∷ src.now)) }
+    ensures rest_plain { IfRead result (λ x. IsPlainText x.1.now) }
+    ensures shorter { IfRead result (λ x. length x.1.now < length src.now) }
+{
+    let Some((text, rest)) = read_quoted(alloc, src)? else {
+        return Ok(None);
+    };
+    let text = Text::from_string(text)?;
+    Ok(Some((SExpr::String(text), rest)))
+}
