@@ -1,0 +1,9 @@
+pub mod Applied
+pub mod Bracketed
+pub mod Conditions
+pub mod Going
+pub mod Lines
+pub mod Quoted
+pub mod Scripted
+pub mod Stated
+pub mod Tables

@@ -1,0 +1,58 @@
+-- A whole script: the declaration of `Option`, the terms' lines, and an assertion for each term.
+use Rattle.std.proofs.Common.{◌≡◌, ℕ, zero, suc, ◌+◌, ◌<◌, List, [], ◌∷◌, ◌++◌, length, take, get_or, map, refl, sym, ap, ◌∙◌, subst, append-nil, add-one, arith, Option, Ok, Err, Result}
+use Rattle.std.specs.Prelude.{OnOk}
+use Rattle.std.specs.Rc.{rc_str_bytes}
+use Rattle.std.specs.declared.alloc.Global.{Global}
+use Rattle.std.specs.declared.rc.RcStr.{RcStr}
+use Rattle.std.proofs.lemmas.List.{map-append}
+use Rattle.smt_term.specs.Plain.{PlainTerm, terms}
+use Rattle.smt_sexpr.specs.Reading.{Expression}
+use Rattle.smt_lines.specs.Line.{Line, Assert, spelled_lines}
+use Rattle.smt_lines.specs.Lines.{Enums, Tables, Written, encode, encode_terms, no_names, option_line}
+use Rattle.smt_lines.specs.Spelling.{spelled}
+use Rattle.smt_lines.specs.Text.{names, text}
+use Rattle.smt_encode.specs.Encoded.{AreSpelled, HasNames, Wrote}
+use Rattle.smt_encode.specs.declared.encoder.Encoder.{Encoder}
+use Rattle.smt_encode.specs.declared.error.EncodeError.{EncodeError}
+use Rattle.smt_encode.proofs.Lines.{wrote_then}
+
+-- the expression that a text spells, behind those before it
+pub record Spells (es : List Expression) (i : ℕ) (text : RcStr Global) : Type 0 where
+  pub expression : Expression
+  pub spells : rc_str_bytes text ≡ spelled expression
+  pub behind : take (i + 1) es ≡ take i es ++ expression ∷ []
+
+one_on : (e : Expression) (es : List Expression) (i : ℕ) (x : Expression) → take (i + 1) es ≡ take i es ++ x ∷ [] → take (suc i + 1) (e ∷ es) ≡ (e ∷ take i es) ++ x ∷ []
+one_on e es i x h = rw add-one (ap (λ xs. e ∷ xs) (ap (λ n. take n es) (sym (add-one i)) ∙ h))
+
+pub spelled_at : (es : List Expression) (texts : List (RcStr Global)) (i : ℕ) (text : RcStr Global) → AreSpelled es texts → i < length texts → text ≡ get_or texts i text → Spells es i text
+spelled_at es [] i text p l e = absurd (omega (arith, l))
+spelled_at [] (t ∷ ts) i text p l e = absurd (cc)
+spelled_at (e ∷ es) (t ∷ ts) zero text p l q = record { expression = e; spells = ap (λ (x : RcStr Global). rc_str_bytes x) q ∙ cc; behind = refl }
+spelled_at (e ∷ es) (t ∷ ts) (suc i) text p l q =
+    let s = spelled_at es ts i text (cc) (omega (arith, l)) q in
+    record { expression = s.expression; spells = s.spells; behind = one_on e es i s.expression s.behind }
+
+module _ {S : Type 0} {held : S → Option (List ℕ)} where
+  -- one assertion more
+  pub asserted : {old mid new : Encoder S} (es : List Expression) (i : ℕ) (e : Expression) (s : Tables) → take (i + 1) es ≡ take i es ++ e ∷ []
+      → Wrote held old mid (map Assert (take i es)) s → Wrote held mid new (Assert e ∷ []) s → Wrote held old new (map Assert (take (i + 1) es)) s
+  asserted {old} {mid} {new} es i e s behind p q =
+      subst (λ (ls : List Line). Wrote held old new ls s) (sym (ap (map Assert) behind ∙ map-append Assert (take i es) (e ∷ []))) (wrote_then p q)
+
+  -- the three parts of a script
+  pub scripted : {old opened mid : Encoder S} (new : Encoder S) (enums : Enums) (ts : List PlainTerm) → Wrote held old opened (option_line ∷ []) no_names
+      → Wrote held opened mid (encode_terms enums (terms ts) no_names).lines (encode_terms enums (terms ts) no_names).tables
+      → (result : Result (Unit {0}) EncodeError) → OnOk result (Wrote held mid new (map Assert (encode_terms enums (terms ts) no_names).made) (encode_terms enums (terms ts) no_names).tables)
+      → OnOk result (Wrote held old new (option_line ∷ (encode enums ts no_names).lines) (names enums ts))
+  scripted new enums ts head lines (Ok u) p = wrote_then head (wrote_then lines p)
+  scripted new enums ts head lines (Err e) p = tt
+
+-- the lines of a whole script are its text
+pub text_is : (enums : Enums) (ts : List PlainTerm) → spelled_lines (option_line ∷ (encode enums ts no_names).lines) ≡ text enums ts
+text_is enums ts = ap spelled_lines (sym (append-nil (option_line ∷ (encode enums ts no_names).lines)))
+
+-- what holds anyway holds on Ok
+pub ok_anyway : {T E P : Type 0} (result : Result T E) → P → OnOk result P
+ok_anyway (Ok x) p = p
+ok_anyway (Err e) p = tt

@@ -1,0 +1,84 @@
+-- The encoder's table of terms, and the tables that the stated lines speak of.
+use Rattle.std.proofs.Common.{◌≡◌, ◌≢◌, ℕ, ◌+◌, ◌<◌, ◌^◌, Bool, true, false, cond, List, [], ◌∷◌, ◌++◌, length, Option, Some, None, refl, sym, ap, ◌∙◌, subst, inl, inr, arith, length-append}
+use Rattle.std.specs.Prelude.{codes, decimal, option_map, is_some, if◌then◌else◌}
+use Rattle.std.specs.Cmp.{Equal-is}
+use Rattle.std.specs.BTreeMap.{get, Updates, btree_map_len, BTreeMap}
+use Rattle.std.specs.Map.{lookup}
+use Rattle.std.specs.Ordering.{is_eq}
+use Rattle.std.specs.Rc.{rc_str_bytes}
+use Rattle.std.specs.declared.alloc.Global.{Global}
+use Rattle.std.specs.declared.cmp.Ordering.TheVariants.{Equal}
+use Rattle.std.specs.declared.rc.RcStr.{RcStr}
+use Rattle.std.proofs.lemmas.Bool.{cases_Bool, not_from_true, false≢true}
+use Rattle.smt_term.specs.Plain.{PlainTerm}
+use Rattle.smt_term.specs.TermOrder.{term_cmp}
+use Rattle.smt_term.specs.View.{plain_term}
+use Rattle.smt_term.specs.contracts.term.TermOrd.TheImpl as term_order
+use Rattle.smt_term.specs.declared.term.Term.{Term}
+use Rattle.smt_term.proofs.DerivedOrder.{term_cmp-is}
+use Rattle.smt_term.proofs.DerivedEquality.{term_itself}
+use Rattle.smt_term.proofs.SameTerm.{term_same}
+use Rattle.smt_lines.specs.Lines.{Tables, name_of_term, next_term}
+use Rattle.smt_lines.specs.Same.{same_term}
+use Rattle.smt_lines.specs.Spelling.{numeral}
+use Rattle.smt_lines.proofs.Making.{lookup_new}
+use Rattle.smt_lines.proofs.Numerals.{numerals_are_printed}
+use Rattle.smt_lines.proofs.Sound.{same_terms_are_one}
+use Rattle.smt_encode.specs.Encoded.{HasNames, entry_of}
+use Rattle.smt_encode.specs.declared.encoder.Encoder.{Encoder}
+
+-- ---- names
+
+-- the name that is drawn next
+pub drawn : (n : ℕ) (name : List ℕ) (s : Tables) → n < 2 ^ 63 → n ≡ length s.terms → name ≡ codes "t" ++ decimal n → name ≡ next_term s
+drawn n name s small count named =
+    let e : numeral n ≡ decimal n = numerals_are_printed n (omega arith) in
+    named ∙ ap (λ d. codes "t" ++ d) (sym e) ∙ ap (λ m. codes "t" ++ numeral m) count
+
+-- ---- entries
+
+-- a test that fails at the last pair passes it over
+lookup_past : {K X : Type 0} (test : K → Bool) (es : List (K × X)) (k : K) (x : X) → test k ≡ false → lookup test (es ++ (k, x) ∷ []) ≡ lookup test es
+lookup_past test [] k x h = rw h refl
+lookup_past test (e ∷ es) k x h = ap (cond (test e.0) (Some e.1)) (lookup_past test es k x h)
+
+-- terms that the order holds equal are one term for the tables
+ties : (a b : Term) → is_eq (term_order.ghosts.cmp a b) ≡ true → plain_term a ≡ plain_term b
+ties a b h = term_same (plain_term a) (plain_term b) (sym (term_cmp-is a b) ∙ (Equal-is (term_order.ghosts.cmp a b)).0 h)
+
+differs : (a b : Term) → is_eq (term_order.ghosts.cmp a b) ≡ false → same_term (plain_term b) (plain_term a) ≡ false
+differs a b h = elim (cases_Bool (same_term (plain_term b) (plain_term a))) [
+  | inl same ↦ (let e : plain_term b ≡ plain_term a = (same_terms_are_one (plain_term b) (plain_term a)).0 same in
+      absurd (false≢true (sym h ∙ ap is_eq (term_cmp-is a b ∙ ap (λ t. term_cmp (plain_term a) t) e ∙ term_itself a))))
+  | inr other ↦ other
+]
+
+-- what the table has for a term after one more is entered, by whether it is that term
+named_after : (b : Bool) (key q : Term) (t : PlainTerm) (name : RcStr Global) (n : List ℕ) (before : Option (RcStr Global)) (es : List (PlainTerm × List ℕ))
+    → is_eq (term_order.ghosts.cmp key q) ≡ b → plain_term key ≡ t → rc_str_bytes name ≡ n → lookup (same_term t) es ≡ None
+    → option_map rc_str_bytes before ≡ lookup (same_term (plain_term q)) es
+    → option_map rc_str_bytes (cond b (Some name) before) ≡ lookup (same_term (plain_term q)) (es ++ (t, n) ∷ [])
+named_after true key q t name n before es tied same named absent had =
+    let e : t ≡ plain_term q = sym same ∙ ties key q tied in
+    let f : lookup (same_term (plain_term q)) es ≡ None = subst (λ (x : PlainTerm). lookup (same_term x) es ≡ None) e absent in
+    ap Some named ∙ sym (lookup_new (same_term (plain_term q)) es t n ((same_terms_are_one (plain_term q) t).1 (sym e)) f)
+named_after false key q t name n before es tied same named absent had =
+    had ∙ sym (lookup_past (same_term (plain_term q)) es t n (subst (λ (x : PlainTerm). same_term (plain_term q) x ≡ false) same (differs key q tied)))
+
+nothing_there : (o : Option (RcStr Global)) (p : Option (List ℕ)) → option_map rc_str_bytes o ≡ p → p ≡ None → o ≡ None
+nothing_there None p e f = refl
+nothing_there (Some x) p e f = cc
+
+-- a term that had no name has this one, and all others have what they had
+pub entered : {S : Type 0} (old new : Encoder S) (s : Tables) (t : PlainTerm) (n : List ℕ) (key : Term) (name : RcStr Global) (was : Option (RcStr Global))
+    → Updates term_order.ghosts.cmp old.terms new.terms key (Some name) → was ≡ get term_order.ghosts.cmp old.terms key
+    → btree_map_len new.terms ≡ btree_map_len old.terms + (if is_some was then 0 else 1)
+    → plain_term key ≡ t → rc_str_bytes name ≡ n → name_of_term s t ≡ None → HasNames old s → HasNames new (record s { terms = s.terms ++ (t, n) ∷ [] })
+entered old new s t n key name was updates before longer same named absent has =
+    let none : name_of_term s (plain_term key) ≡ None = ap (name_of_term s) same ∙ absent in
+    let missing : was ≡ None = before ∙ nothing_there (get term_order.ghosts.cmp old.terms key) (name_of_term s (plain_term key)) (has.terms key) none in
+    let one : btree_map_len new.terms ≡ btree_map_len old.terms + 1 = longer ∙ ap (λ o. btree_map_len old.terms + (if is_some o then 0 else 1)) missing in
+    record {
+      terms = λ q. ap (option_map rc_str_bytes) (updates.0 q) ∙ named_after (is_eq (term_order.ghosts.cmp key q)) key q t name n (get term_order.ghosts.cmp old.terms q) s.terms refl same named absent (has.terms q);
+      count = one ∙ ap (λ k. k + 1) has.count ∙ sym (length-append s.terms ((t, n) ∷ []));
+    }

@@ -1,0 +1,15 @@
+use denote.Text.{Utf8}
+use denote.Shadow.{shadow}
+use Rattle.std.proofs.Common.{◌≡◌, ◌++◌, drop, []}
+use Rattle.std.specs.Prelude.{codes}
+use Rattle.std.specs.String.{string_bytes}
+use Rattle.smt_script.specs.Texts.{texts}
+use Rattle.smt_script.proofs.LinesLemmas.{joined_from}
+use Rattle.smt_encode.proofs.spell.push_spaced.Given as goal
+
+-- what is written so far and what is left are all
+abbrev pub invariant-loop-operand : goal.invariant-loop-operand
+invariant-loop-operand l = record {
+  is_text : shadow (Utf8 l.gap);
+  going : string_bytes l.text ++ joined_from (λ x. x) l.gap (codes " ") (texts (drop l.operand-index l.operands)) ≡ string_bytes l.fn.text ++ joined_from (λ x. x) [] (codes " ") (texts l.operands);
+}

@@ -1,0 +1,82 @@
+-- What an encoder's tables hold, and what a call leaves of an encoder and its sink.
+use Rattle.std.specs.Prelude.{ℕ, ◌≡◌, ◌≤◌, List, Bool, ◌||◌, Option, option_map, Result, IfOk, OnOk, IsErrOf, length, map}
+use Rattle.std.specs.BTreeMap.{get, btree_map_len}
+use Rattle.std.specs.Io.KnownBytes.{append_known}
+use Rattle.std.specs.List.{AllByRecursion}
+use Rattle.std.specs.Rc.{rc_str_bytes}
+use Rattle.std.specs.declared.alloc.Global.{Global}
+use Rattle.std.specs.declared.rc.RcStr.{RcStr}
+use Rattle.smt_term.specs.Enums.{enums_of}
+use Rattle.smt_term.specs.Plain.{BoolType}
+use Rattle.smt_term.specs.Types.{Typed}
+use Rattle.smt_term.specs.TypeValues.{Enums}
+use Rattle.smt_term.specs.View.{plain_term}
+use Rattle.smt_term.specs.contracts.term.TermOrd.TheImpl as term_order
+use Rattle.smt_term.specs.declared.term.Term.{Term}
+use Rattle.smt_sexpr.specs.Reading.{Expression}
+use Rattle.smt_lines.specs.Line.{Line, spelled_lines}
+use Rattle.smt_lines.specs.Lines.{Tables, Written, name_of_term}
+use Rattle.smt_lines.specs.Spelling.{spelled}
+use Rattle.smt_script.specs.Sink.{Rose}
+use Rattle.smt_encode.specs.declared.encoder.Encoder.{Encoder}
+use Rattle.smt_encode.specs.declared.error.EncodeError.{EncodeError}
+use Rattle.smt_encode.specs.declared.error.EncodeError.TheVariants.{Io, Spent}
+
+-- the enum types that an encoder knows
+abbrev pub enums_in : {S : Type 0} → Encoder S → Enums
+enums_in e = enums_of e.enums.now
+
+-- the sink that an encoder holds
+abbrev pub sink_of : {S : Type 0} → Encoder S → S
+sink_of e = e.script
+
+-- An encoder is spent where an earlier call refused, or its terms are encoded.
+abbrev pub is_spent : {S : Type 0} → Encoder S → Bool
+is_spent e = e.begun || e.failed
+
+-- the name that an encoder's table of terms has for a term
+abbrev pub entry_of : {S : Type 0} → Encoder S → Term → Option (List ℕ)
+entry_of e t = option_map rc_str_bytes (get term_order.ghosts.cmp e.terms t)
+
+-- each term is typed as a Boolean
+abbrev pub AreBoolean : List Term → Type 0
+AreBoolean ts = AllByRecursion (λ t. Typed t BoolType) (map plain_term ts)
+
+-- An encoder's tables have the names of these tables, and as many.
+pub record HasNames {S : Type 0} (e : Encoder S) (s : Tables) : Type 0 where
+  pub terms : (t : Term) → entry_of e t ≡ name_of_term s (plain_term t)
+  pub count : btree_map_len e.terms ≡ length s.terms
+
+-- a text is the spelling of an expression
+abbrev pub IsSpelled : Expression → RcStr Global → Type 0
+IsSpelled expression text = rc_str_bytes text ≡ spelled expression
+
+-- texts are the spellings of expressions, in order
+abbrev pub AreSpelled : List Expression → List (RcStr Global) → Type 0
+AreSpelled es texts = map rc_str_bytes texts ≡ map spelled es
+
+-- The sink got these lines, and the encoder has the names of these tables.
+pub record Wrote {S : Type 0} (held : S → Option (List ℕ)) (old new : Encoder S) (lines : List Line) (tables : Tables) : Type 0 where
+  pub names : HasNames new tables
+  pub held_is : held new.script ≡ append_known (held old.script) (spelled_lines lines)
+
+-- On Ok the sink got this line. The tables stay as they were.
+pub record PutsLine {S T : Type 0} (held : S → Option (List ℕ)) (old new : Encoder S) (line : List ℕ) (result : Result T EncodeError) : Type 0 where
+  pub got : OnOk result (held new.script ≡ append_known (held old.script) line)
+  pub same_names : new.terms ≡ old.terms
+
+-- Where a call on an encoder answered Ok, it wrote what is stated, and its answer shows what was made.
+abbrev pub WritesHere : {S A T : Type 0} → (S → Option (List ℕ)) → Encoder S → Encoder S → Written A → (A → T → Type 0) → Result T EncodeError → Type 0
+WritesHere held old new w Shows result = IfOk result (λ x. Wrote held old new w.lines w.tables × Shows w.made x)
+
+-- The same of what is stated for the tables before the call, whichever tables have the encoder's names.
+abbrev pub Writes : {S A T : Type 0} → (S → Option (List ℕ)) → Encoder S → Encoder S → (Tables → Written A) → (A → T → Type 0) → Result T EncodeError → Type 0
+Writes held old new stated Shows result = (s : Tables) → HasNames old s → WritesHere held old new (stated s) Shows result
+
+-- `Io` comes only where the sink's count of faults rose, and `Spent` never from within. The encoder holds the same sink and enum types.
+pub record HasCause {S T : Type 0} (faults : S → ℕ) (place : S → List ℕ) (old new : Encoder S) (result : Result T EncodeError) : Type 0 where
+  pub later : faults old.script ≤ faults new.script
+  pub cause : IsErrOf result Io → Rose (faults old.script) (faults new.script)
+  pub unspent : IsErrOf result Spent → ⊥
+  pub same_place : place new.script ≡ place old.script
+  pub same_enums : new.enums ≡ old.enums

@@ -1,0 +1,333 @@
+// The encoder, from terms to the lines of a script.
+ghost use Rattle.std.specs.Prelude.{ℕ, List, ◌≡◌, ◌≤◌, ◌↔◌, ◌++◌, [], ◌∷◌, false, None, IfOk, IsOkUnless, OnOk, OnErr, IsTrue, IsErrOf, option_map, map, codes};
+ghost use Rattle.std.specs.Rc.{rc_str_bytes};
+ghost use Rattle.std.specs.String.{string_bytes};
+ghost use Rattle.smt_term.specs.View.{plain_op, plain_term, plain_type, plain_literal, plain_variable};
+ghost use Rattle.smt_term.specs.Plain.{terms as plain_terms};
+ghost use Rattle.smt_sexpr.specs.Reading.{Expression};
+ghost use Rattle.smt_lines.specs.Line.{Comment, DeclareConst, DefineFun, Assert, spelled_line};
+ghost use Rattle.smt_lines.specs.Lines as lines;
+ghost use Rattle.smt_lines.specs.Lines.{Tables, name_of_term, next_term, no_names, option_line};
+ghost use Rattle.smt_lines.specs.Text.{names, text};
+ghost use Rattle.smt_headline.specs.Headline.{Headline};
+ghost use Rattle.std.specs.Io.KnownBytes.{append_known};
+ghost use Rattle.smt_semantics.specs.Script.{group};
+ghost use Rattle.smt_encode.specs.Heads.{head_of};
+ghost use Rattle.smt_lines.specs.Spelling.{spelled};
+ghost use Rattle.smt_script.specs.Sink.{Rose};
+
+use crate::error::EncodeError;
+use crate::spell::{application_text, quoted_id_text, term_name};
+use smt_script::{Sink, SmtLibScript};
+use smt_term::{EnumTable, Op, Term, TermPrim, TermType, TermVar, Text};
+use std::alloc::Global;
+use std::collections::BTreeMap;
+
+/// Writes terms as lines of a script, and keeps the names under which it wrote them.
+///
+/// Each term that has no inline text gets one name, under which it is declared or defined once. An encoder
+/// encodes one list of terms; after that, and after an error, it is spent.
+pub struct Encoder<'a, S> {
+    alloc: Global,
+    enums: &'a EnumTable,
+    terms: BTreeMap<Term, Text>,
+    script: S,
+    begun: bool,
+    failed: bool,
+}
+
+impl<'a, S> Encoder<'a, S> {
+    ghost use Rattle.smt_encode.specs.Encoded.{entry_of, enums_in, is_spent, sink_of, HasNames};
+    ghost use Rattle.smt_term.specs.Enums.{enums_of};
+
+    /// An encoder without names over this sink. Takes no memory.
+    pub fn new(alloc: Global, enums: &'a EnumTable, script: S) -> Encoder<'a, S>
+        ensures no_names { HasNames result no_names }
+        ensures unspent { is_spent result ≡ false }
+        ensures sink { sink_of result ≡ script }
+        ensures enums { enums_in result ≡ enums_of enums.now }
+    {
+        Encoder {
+            alloc,
+            enums,
+            terms: BTreeMap::new(alloc),
+            script,
+            begun: false,
+            failed: false,
+        }
+    }
+
+    /// The sink that it held.
+    pub fn into_script(self) -> S
+        ensures { result ≡ sink_of self.entry }
+    {
+        let Encoder {
+            alloc: _,
+            enums: _,
+            terms: _,
+            script,
+            begun: _,
+            failed: _,
+        } = self;
+        script
+    }
+
+    /// The name under which a term is declared or defined, None exactly where it has none. Takes no memory.
+    pub fn name_of_term(&self, term: &Term) -> Option<&Text>
+        ensures { option_map (λ name. rc_str_bytes name.now) result ≡ entry_of self.now term.now }
+    {
+        self.terms.get(term)
+    }
+}
+
+impl<S: Sink> Encoder<'_, S> {
+    ghost use Rattle.smt_encode.specs.Encoded.{entry_of, enums_in, is_spent, sink_of, AreBoolean, AreSpelled, HasCause, HasNames, IsSpelled, PutsLine, Writes, WritesHere, Wrote};
+
+    /// Writes the script of these terms: the declaration of the datatype `Option`, what the terms need, and an
+    /// assertion for each term, in order.
+    ///
+    /// After Ok the sink got exactly the stated text, and the encoder has its table of names. For Boolean terms
+    /// `headline` says what that text means: it is a script by the grammar of SMT-LIB 2.7, its assertions are the
+    /// terms' texts, and its models are exactly the interpretations that make all terms true.
+    ///
+    /// `Spent` comes exactly from an encoder that has encoded before or refused before, and leaves it as it is. `Io`
+    /// comes only where the sink's count of faults rose in this call, or stands at its last value. After an error the
+    /// sink got a first part of the text.
+    pub fn encode(&mut self, terms: &[Term]) -> Result<(), EncodeError>
+        ensures text { HasNames self.old no_names → OnOk result (S.held (sink_of self.new) ≡ append_known (S.held (sink_of self.old)) (text (enums_in self.old) (map plain_term terms.now))) }
+        ensures names { HasNames self.old no_names → OnOk result (HasNames self.new (names (enums_in self.old) (map plain_term terms.now))) }
+        ensures headline { AreBoolean terms.now → OnOk result (Headline (enums_in self.old) (map plain_term terms.now)) }
+        ensures spent { IsErrOf result EncodeError.Spent ↔ IsTrue (is_spent self.old) }
+        ensures unchanged { IsTrue (is_spent self.old) → self.new ≡ self.old }
+        ensures once { IsTrue (is_spent self.new) }
+        ensures io { IsErrOf result EncodeError.Io → Rose (S.faults (sink_of self.old)) (S.faults (sink_of self.new)) }
+        ensures later { S.faults (sink_of self.old) ≤ S.faults (sink_of self.new) }
+        ensures sink { S.place (sink_of self.new) ≡ S.place (sink_of self.old) }
+        ensures enums { enums_in self.new ≡ enums_in self.old }
+    {
+        if self.begun || self.failed {
+            return Err(EncodeError::Spent);
+        }
+        let outcome = self.put_script(terms);
+        self.begun = true;
+        self.failed = outcome.is_err();
+        outcome
+    }
+
+    /// The name that a term has already, shared.
+    fn known(&self, term: &Term) -> Result<Option<Text>, EncodeError>
+        ensures known { IfOk result (λ name. option_map rc_str_bytes name ≡ entry_of self.now term.now) }
+        ensures refusal { IsOkUnless result EncodeError.Memory }
+    {
+        match self.terms.get(term) {
+            Some(name) => Ok(Some(name.clone()?)),
+            None => Ok(None),
+        }
+    }
+
+    /// The name of the next entry of the table of terms.
+    fn next_name(&self) -> Result<Text, EncodeError>
+        ensures name { (s : Tables) → HasNames self.now s → IfOk result (λ name. rc_str_bytes name ≡ next_term s) }
+        ensures refusal { IsOkUnless result EncodeError.Memory }
+    {
+        Ok(term_name(self.alloc, self.terms.len())?)
+    }
+
+    /// Enters a term that has no name yet.
+    fn enter(&mut self, term: &Term, name: &Text) -> Result<(), EncodeError>
+        ensures names { (s : Tables) → HasNames self.old s → name_of_term s (plain_term term.now) ≡ None →
+            OnOk result (HasNames self.new (record s { terms = s.terms ++ (plain_term term.now, rc_str_bytes name.now) ∷ [] })) }
+        ensures sink { self.new.script ≡ self.old.script }
+        ensures enums { self.new.enums ≡ self.old.enums }
+        ensures refusal { IsOkUnless result EncodeError.Memory }
+    {
+        self.terms.insert(term.share()?, name.clone()?)?;
+        Ok(())
+    }
+
+    /// Puts a comment.
+    fn put_comment(&mut self, text: &str) -> Result<(), EncodeError>
+        ensures line { PutsLine S.held self.old self.new (spelled_line (Comment text.now)) result }
+        ensures cause { HasCause S.faults S.place self.old self.new result }
+    {
+        self.script.comment(text)?;
+        Ok(())
+    }
+
+    /// Puts the declaration of a constant.
+    fn put_constant(&mut self, name: &str, sort: &str) -> Result<(), EncodeError>
+        ensures line { (e : Expression) → sort.now ≡ spelled e → PutsLine S.held self.old self.new (spelled_line (DeclareConst name.now e)) result }
+        ensures cause { HasCause S.faults S.place self.old self.new result }
+    {
+        self.script.declare_const(name, sort)?;
+        Ok(())
+    }
+
+    /// Puts the definition of a name.
+    fn put_definition(&mut self, name: &str, sort: &str, body: &str) -> Result<(), EncodeError>
+        ensures line { (e b : Expression) → sort.now ≡ spelled e → body.now ≡ spelled b → PutsLine S.held self.old self.new (spelled_line (DefineFun name.now e b)) result }
+        ensures cause { HasCause S.faults S.place self.old self.new result }
+    {
+        self.script.define_fun(name, &[], sort, body)?;
+        Ok(())
+    }
+
+    /// Puts an assertion.
+    fn put_assertion(&mut self, text: &str) -> Result<(), EncodeError>
+        ensures line { (e : Expression) → text.now ≡ spelled e → PutsLine S.held self.old self.new (spelled_line (Assert e)) result }
+        ensures cause { HasCause S.faults S.place self.old self.new result }
+    {
+        self.script.assert(text)?;
+        Ok(())
+    }
+
+    /// Puts the declaration of the datatype `Option`, with which each script begins.
+    fn put_option(&mut self) -> Result<(), EncodeError>
+        ensures line { PutsLine S.held self.old self.new (spelled_line option_line) result }
+        ensures cause { HasCause S.faults S.place self.old self.new result }
+    {
+        let parameter = Text::from_str(self.alloc, "X")?;
+        let none = Text::from_str(self.alloc, "(none)")?;
+        let some = Text::from_str(self.alloc, "(some (val X))")?;
+        self.script
+            .declare_datatype("Option", &[parameter], &[none, some])?;
+        Ok(())
+    }
+
+    /// The sort of a type.
+    fn encode_type(&mut self, ty: &TermType) -> Result<Text, EncodeError>
+        ensures lines { Writes S.held self.old self.new (lines.encode_type (enums_in self.old) (plain_type ty.now)) IsSpelled result }
+        ensures cause { HasCause S.faults S.place self.old self.new result }
+    {
+        match ty {
+            TermType::Bool => Ok(Text::from_str(self.alloc, "Bool")?),
+        }
+    }
+
+    /// The text of a literal.
+    fn encode_literal(&mut self, literal: &TermPrim) -> Result<Text, EncodeError>
+        ensures lines { Writes S.held self.old self.new (lines.encode_literal (enums_in self.old) (plain_literal literal.now)) IsSpelled result }
+        ensures cause { HasCause S.faults S.place self.old self.new result }
+    {
+        match literal {
+            TermPrim::Bool(truth) => {
+                let text = if *truth { "true" } else { "false" };
+                Ok(Text::from_str(self.alloc, text)?)
+            }
+        }
+    }
+
+    /// Declares a variable that has no name yet.
+    fn declare_variable(&mut self, term: &Term, variable: &TermVar) -> Result<Text, EncodeError>
+        requires { plain_term term.now ≡ plain_variable variable.now }
+        ensures lines { (s : Tables) → HasNames self.old s → name_of_term s (plain_term term.now) ≡ None →
+            WritesHere S.held self.old self.new (lines.encode_term (enums_in self.old) (plain_term term.now) s) IsSpelled result }
+        ensures cause { HasCause S.faults S.place self.old self.new result }
+    {
+        let sort = self.encode_type(&variable.ty)?;
+        let quoted = quoted_id_text(self.alloc, variable.id.as_str())?;
+        let name = self.next_name()?;
+        self.put_comment(quoted.as_str())?;
+        self.put_constant(name.as_str(), sort.as_str())?;
+        self.enter(term, &name)?;
+        Ok(name)
+    }
+
+    /// Defines a term that has no name yet, by its body.
+    fn define(&mut self, term: &Term, sort: &str, body: &str) -> Result<Text, EncodeError>
+        ensures lines { (s : Tables) (e b : Expression) → HasNames self.old s → name_of_term s (plain_term term.now) ≡ None → sort.now ≡ spelled e → body.now ≡ spelled b →
+            WritesHere S.held self.old self.new (lines.define (plain_term term.now) e b s) IsSpelled result }
+        ensures cause { HasCause S.faults S.place self.old self.new result }
+    {
+        let name = self.next_name()?;
+        self.put_definition(name.as_str(), sort, body)?;
+        self.enter(term, &name)?;
+        Ok(name)
+    }
+
+    /// Defines an application that has no name yet, by the texts of its sort and its operands.
+    fn define_application(
+        &mut self,
+        term: &Term,
+        op: &Op,
+        sort: &str,
+        operands: &[Text],
+    ) -> Result<Text, EncodeError>
+        ensures lines { (s : Tables) (e : Expression) (es : List Expression) → HasNames self.old s → name_of_term s (plain_term term.now) ≡ None → sort.now ≡ spelled e → AreSpelled es operands.now →
+            WritesHere S.held self.old self.new (lines.define (plain_term term.now) e (group (head_of (plain_op op.now) ∷ es)) s) IsSpelled result }
+        ensures cause { HasCause S.faults S.place self.old self.new result }
+    {
+        let body = application_text(self.alloc, head_text(op), operands)?;
+        self.define(term, sort, body.as_str())
+    }
+
+    /// The text of a term: its name, or the text of a literal, which has none. What has no name yet gets one, its
+    /// parts first.
+    fn encode_term(&mut self, term: &Term) -> Result<Text, EncodeError>
+        ensures lines { Writes S.held self.old self.new (lines.encode_term (enums_in self.old) (plain_term term.now)) IsSpelled result }
+        ensures cause { HasCause S.faults S.place self.old self.new result }
+    {
+        match term {
+            Term::App { op, args, ret_ty } => {
+                if let Some(name) = self.known(term)? {
+                    return Ok(name);
+                }
+                let sort = self.encode_type(ret_ty)?;
+                let mut operands = Vec::new(self.alloc);
+                for arg in args.items() {
+                    operands.push(self.encode_term(arg)?)?;
+                }
+                self.define_application(term, op, sort.as_str(), operands.as_slice())
+            }
+            Term::Prim(literal) => self.encode_literal(literal),
+            Term::Var(variable) => {
+                if let Some(name) = self.known(term)? {
+                    return Ok(name);
+                }
+                self.declare_variable(term, variable)
+            }
+        }
+    }
+
+    /// The texts of terms, in order.
+    fn encode_terms(&mut self, terms: &[Term]) -> Result<Vec<Text>, EncodeError>
+        ensures lines { Writes S.held self.old self.new (lines.encode_terms (enums_in self.old) (plain_terms (map plain_term terms.now))) (λ es texts. AreSpelled es texts.items) result }
+        ensures cause { HasCause S.faults S.place self.old self.new result }
+    {
+        let mut texts = Vec::new(self.alloc);
+        for term in terms {
+            texts.push(self.encode_term(term)?)?;
+        }
+        Ok(texts)
+    }
+
+    /// Puts an assertion for each text, in order.
+    fn put_assertions(&mut self, texts: &[Text]) -> Result<(), EncodeError>
+        ensures lines { (s : Tables) (es : List Expression) → HasNames self.old s → AreSpelled es texts.now → OnOk result (Wrote S.held self.old self.new (map Assert es) s) }
+        ensures cause { HasCause S.faults S.place self.old self.new result }
+    {
+        for text in texts {
+            self.put_assertion(text.as_str())?;
+        }
+        Ok(())
+    }
+
+    /// Puts the whole script of these terms.
+    fn put_script(&mut self, terms: &[Term]) -> Result<(), EncodeError>
+        ensures lines { HasNames self.old no_names → OnOk result (Wrote S.held self.old self.new (option_line ∷ (lines.encode (enums_in self.old) (map plain_term terms.now) no_names).lines) (names (enums_in self.old) (map plain_term terms.now))) }
+        ensures cause { HasCause S.faults S.place self.old self.new result }
+    {
+        self.put_option()?;
+        let texts = self.encode_terms(terms)?;
+        self.put_assertions(texts.as_slice())
+    }
+}
+
+/// What stands before the operands of an application.
+fn head_text(op: &Op) -> &'static str
+    ensures { result.now ≡ spelled (head_of (plain_op op.now)) }
+{
+    match op {
+        Op::Not => "not",
+    }
+}
