@@ -14,7 +14,7 @@ use Rattle.smt_semantics.specs.ScriptValues.{ScriptValue, TruthOf, BitsOf, TextO
 use Rattle.smt_term.specs.TypeValues.{IsValue, AreFieldValues, IsExtension, IsId, IsLong, IsPrefix, AreCodePoints}
 use Rattle.smt_term.specs.ValueOrder.{list_of_values, text_cmp, text_eq, value_cmp, ascends, is_below}
 use Rattle.smt_term.proofs.ValueOrder.{text_itself}
-use Rattle.smt_semantics.specs.Arithmetic.{is_width, are_bits}
+use Rattle.smt_bits.specs.Widths.{is_width, are_bits}
 use Rattle.smt_sexpr.specs.Lexicon.{Name, Number}
 use Rattle.smt_semantics.specs.Order as script
 use Rattle.smt_semantics.specs.Order.{order, is_before}

@@ -12,7 +12,7 @@ use Rattle.smt_term.specs.TypeValues as terms
 use Rattle.smt_term.specs.TypeValues.{IsValue, AreFieldValues, IsExtension, IsId, IsLong, IsPrefix, AreCodePoints}
 use Rattle.smt_term.specs.ValueOrder.{list_of_values, text_eq}
 use Rattle.smt_term.proofs.ValueOrder.{text_same}
-use Rattle.smt_semantics.specs.Arithmetic.{is_width, are_bits}
+use Rattle.smt_bits.specs.Widths.{is_width, are_bits}
 use Rattle.smt_sexpr.specs.Lexicon.{Name}
 use Rattle.smt_semantics.specs.Order as script
 use Rattle.smt_sexpr.specs.Reading.{Expression, Leaf, Node, Expressions, Nil, Cons}

@@ -2,7 +2,6 @@
 use Rattle.std.specs.Prelude.{◌≡◌, ℕ, true, codes, map, length, List, [], ◌∷◌, Some, unwrap_or, ⊤}
 use Rattle.std.specs.List.{AllByRecursion}
 use Rattle.smt_term.specs.Plain.{PlainType, OptionType, EntityType}
-use Rattle.smt_sexpr.specs.Reading.{Expression}
 use Rattle.smt_semantics.specs.Script.{Constructor, DeclareDatatype, Entry, Builds, State, start, run, name, look_up, names_of, with_sort}
 use Rattle.smt_semantics.specs.Meanings.{constructors_named, with_names, names_in, are_new}
 use Rattle.smt_semantics.specs.Sorts.{entries}

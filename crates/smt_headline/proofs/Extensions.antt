@@ -11,7 +11,7 @@ use Rattle.smt_term.specs.TypeValues.{IsValue, IsExtension, IsLong, IsPrefix}
 use Rattle.smt_term.specs.Values.{Value, ExtensionValue}
 use Rattle.smt_semantics.specs.ScriptValues.{ScriptValue, BitsOf, ConstructorOf}
 use Rattle.smt_sexpr.specs.Reading.{Expression}
-use Rattle.smt_semantics.specs.Arithmetic.{is_width}
+use Rattle.smt_bits.specs.Widths.{is_width}
 use Rattle.smt_semantics.specs.Script.{State, Builds, Selects, name, group}
 use Rattle.smt_semantics.specs.Sorts as sorts
 use Rattle.smt_semantics.specs.Sorts.{entries}

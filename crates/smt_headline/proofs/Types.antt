@@ -8,7 +8,7 @@ use Rattle.smt_sexpr.specs.Reading.{Expression}
 use Rattle.smt_semantics.specs.Script.{Constructor, Builds, State, name}
 use Rattle.smt_semantics.specs.Sorts.{Entries, entries}
 use Rattle.smt_semantics.specs.Growth.{Declares}
-use Rattle.smt_semantics.specs.Arithmetic.{is_width}
+use Rattle.smt_bits.specs.Widths.{is_width}
 use Rattle.smt_lines.specs.Line as line
 use Rattle.smt_lines.specs.Line.{Line, Bare, Fielded, DeclareDatatype}
 use Rattle.smt_lines.specs.Lines as lines

@@ -9,7 +9,7 @@ use Rattle.smt_term.specs.Types.{type_of, types_of}
 use Rattle.smt_term.specs.Values.{Value}
 use Rattle.smt_semantics.specs.ScriptValues.{ScriptValue, BitsOf}
 use Rattle.smt_sexpr.specs.Reading.{Expression}
-use Rattle.smt_semantics.specs.Arithmetic.{are_bits, is_width}
+use Rattle.smt_bits.specs.Widths.{are_bits, is_width}
 use Rattle.smt_semantics.specs.Script.{State, Defined, name, ◌>>=◌}
 use Rattle.smt_semantics.specs.Sorts as sorts
 use Rattle.smt_semantics.specs.Sorts.{entries}

@@ -8,7 +8,7 @@ use Rattle.std.proofs.lemmas.Slice.Eq.{bytes_eq-Decides}
 use Rattle.smt_term.specs.Plain.{PlainType, OptionType, BitVecType, BoolType, EntityType, ExtensionType, StringType, RecordType, SetType, PlainFunction, BitVecLiteral, BoolLiteral, EntityLiteral, ExtensionLiteral, StringLiteral, PlainTerm, Application, NoneTerm, LiteralTerm, RecordTerm, SetTerm, SomeTerm, VariableTerm, PlainTerms, no_terms, one_term}
 use Rattle.smt_sexpr.specs.Reading.{Expression}
 use Rattle.smt_semantics.specs.Script.{State, Entry, name, group, exprs, is_in, names_of, sorts_of, has_name, has_sort, built_in_names, built_in_sorts, is_sort, knows, are_all, each_stated}
-use Rattle.smt_semantics.specs.Arithmetic.{is_width}
+use Rattle.smt_bits.specs.Widths.{is_width}
 use Rattle.smt_semantics.specs.Written.{is_name}
 use Rattle.smt_lines.specs.Spelling.{numeral}
 use Rattle.smt_lines.specs.Lines.{Enums, Tables, name_of_term, name_of_type, name_of_function, text_of_name, bits}

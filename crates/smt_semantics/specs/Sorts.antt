@@ -6,7 +6,8 @@ use Rattle.smt_semantics.specs.ScriptValues.{ScriptValue, TruthOf, BitsOf, TextO
 use Rattle.smt_sexpr.specs.Lexicon.{Atom, Bits, Number, Text, Name}
 use Rattle.smt_sexpr.specs.Reading.{Expression, Leaf, Node, Expressions, Nil, Cons}
 use Rattle.smt_semantics.specs.Script.{name, group, exprs, Entry, Constant, Function, Defined, Builds, Selects, Shape, BitLiteral, Qualified, Applied, Extended, Tested, Matched, Unformed, shape, look_up, operator_of, is_in, names_of, assertions_of, State, ◌>>=◌}
-use Rattle.smt_semantics.specs.Arithmetic.{are_bits, bit_function, bit_test}
+use Rattle.smt_bits.specs.Widths.{are_bits}
+use Rattle.smt_semantics.specs.Arithmetic.{bit_function, bit_test}
 use Rattle.smt_semantics.specs.Order.{ascends}
 
 -- ---- sorts as they are written
