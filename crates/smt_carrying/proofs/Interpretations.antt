@@ -11,13 +11,13 @@ use Rattle.smt_term.specs.Interpretations.{AreDistinct, IsOfOtherFamily, IsSelec
 use Rattle.smt_term.specs.Reached.{reached_terms}
 use Rattle.smt_term.specs.Tables.{Table, Interpretation}
 use Rattle.smt_term.specs.Types.{extension_signature}
-use Rattle.smt_term.specs.TypeValues.{IsValue}
+use Rattle.smt_term.specs.TypeValues.{IsValue, Enums}
 use Rattle.smt_term.specs.ValueOrder.{value_eq}
 use Rattle.smt_semantics.specs.Script.{name}
 use Rattle.smt_semantics.specs.Sorts.{Entries, has_sort_in}
 use Rattle.smt_semantics.specs.Value as script
 use Rattle.smt_semantics.specs.Value.{is_key, are_pairs, is_table, is_other}
-use Rattle.smt_lines.specs.Lines.{Enums, Tables}
+use Rattle.smt_lines.specs.Lines.{Tables}
 use Rattle.smt_lines.specs.Naming.{IsOneToOne}
 use Rattle.smt_carrying.specs.Carry.{carry, back}
 use Rattle.smt_carrying.specs.Order.{AreEnums}

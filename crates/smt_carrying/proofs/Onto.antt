@@ -11,9 +11,9 @@ use Rattle.std.proofs.lemmas.Slice.Eq.{bytes_eq-Decides}
 use Rattle.smt_term.specs.Plain.{ExtensionKind, IpAddrKind, DecimalKind, DatetimeKind, DurationKind, PlainType, OptionType, BitVecType, BoolType, EntityType, ExtensionType, StringType, RecordType, SetType, AttributeTypes, no_attributes, attribute, PlainExtension, DecimalOf, DatetimeOf, DurationOf}
 use Rattle.smt_term.specs.Values.{Value, EntityValue, Values, no_values, one_value}
 use Rattle.smt_semantics.specs.ScriptValues.{ScriptValue, TruthOf, BitsOf, TextOf, ConstructorOf, SetOf, ScriptValues, no_script_values, one_script_value}
-use Rattle.smt_term.specs.TypeValues.{IsValue, AreFieldValues, IsExtension, IsId, IsLong, IsPrefix, AreCodePoints}
-use Rattle.smt_term.specs.ValueOrder.{list_of_values, text_cmp, text_eq, value_cmp, ascends, is_below}
-use Rattle.smt_term.proofs.ValueOrder.{text_itself}
+use Rattle.smt_term.specs.TypeValues.{IsValue, AreFieldValues, IsExtension, IsId, IsLong, IsPrefix, AreCodePoints, Enums, members_of}
+use Rattle.smt_term.specs.ValueOrder.{list_of_values, text_cmp, value_cmp, ascends, is_below}
+use Rattle.smt_term.proofs.ValueOrder.{text_itself, bytes_itself}
 use Rattle.smt_bits.specs.Widths.{is_width, are_bits}
 use Rattle.smt_sexpr.specs.Lexicon.{Name, Number}
 use Rattle.smt_semantics.specs.Order as script
@@ -21,15 +21,14 @@ use Rattle.smt_semantics.specs.Order.{order, is_before}
 use Rattle.smt_sexpr.specs.Reading.{Expression, Leaf, Node, Expressions, Nil, Cons}
 use Rattle.smt_semantics.specs.Script.{Entry, Builds, name, ◌>>=◌}
 use Rattle.smt_semantics.specs.Sorts.{Entries, string_sort, bit_sort, same_sort, listed_sorts, paired, instance, fields_at, constructor_fields, has_sort_in, have_sorts_in, all_have_sort_in}
-use Rattle.smt_lines.specs.Lines.{Enums, Tables, members_of, place_of, member_name}
+use Rattle.smt_lines.specs.Lines.{Tables, place_of, member_name}
 use Rattle.smt_lines.specs.Naming.{type_name}
 use Rattle.smt_carrying.specs.Carry.{alone, signed_bits, signed_of, text_at, carry_prefix, carry_extension, carry_entity, carry, carry_values, carry_fields, back_prefix, back_extension, back_entity, back, back_values, back_fields}
 use Rattle.smt_carrying.specs.Order.{AreMembers, AreEnums}
 use Rattle.smt_carrying.specs.Sorts.{option_sort, script_sort, field_sorts, Constructors, member_constructors, entity_constructors, kind_constructors, option_constructors, at_place, IsNoDatatype, StandsAlways, IsNamed, IsDeclared, AreDeclared}
 use Rattle.smt_carrying.proofs.Agree.{before_compared}
-use Rattle.smt_carrying.proofs.Members.{members_same, members_found, ascends_chars, behind}
-use Rattle.smt_carrying.proofs.Ordered.{keeps, one_to_one, text_itself_is}
-use Rattle.smt_carrying.proofs.Selectors.{bytes_itself}
+use Rattle.smt_carrying.proofs.Members.{members_found, ascends_chars, behind}
+use Rattle.smt_carrying.proofs.Ordered.{keeps, one_to_one}
 use Rattle.smt_carrying.proofs.Sorted.{fields_themselves, sorted_value}
 use mathlib.Core.Logic.{⊎_elim}
 
@@ -164,12 +163,12 @@ member_placed n start (m ∷ ms) (suc p) c fields e =
     let l : p < length ms = r.0 in
     (omega arith, r.1 ∙ ap (member_name n) (let q : suc start + p ≡ start + suc p = omega arith in q), r.2)
 
-text_in : (ms : List (List ℕ)) (place : ℕ) → place < length ms → list_any (λ m. text_eq m (text_at ms place)) ms ≡ true
+text_in : (ms : List (List ℕ)) (place : ℕ) → place < length ms → list_any (λ m. bytes_eq m (text_at ms place)) ms ≡ true
 text_in [] place l = absurd (omega arith)
-text_in (m ∷ ms) zero l = ap (λ b. b || list_any (λ x. text_eq x m) ms) (text_itself m)
-text_in (m ∷ ms) (suc p) l = by (text_eq m (text_at ms p)) (text_in ms p (omega arith))
+text_in (m ∷ ms) zero l = ap (λ b. b || list_any (λ x. bytes_eq x m) ms) (bytes_itself m)
+text_in (m ∷ ms) (suc p) l = by (bytes_eq m (text_at ms p)) (text_in ms p (omega arith))
   where
-    by : (b : Bool) → list_any (λ x. text_eq x (text_at ms p)) ms ≡ true → (b || list_any (λ x. text_eq x (text_at ms p)) ms) ≡ true
+    by : (b : Bool) → list_any (λ x. bytes_eq x (text_at ms p)) ms ≡ true → (b || list_any (λ x. bytes_eq x (text_at ms p)) ms) ≡ true
     by true h = refl
     by false h = h
 
@@ -187,7 +186,7 @@ place_found (m ∷ ms) (suc p) h l =
     differs false e = e
     differs true e =
         let q : text_at ms p ≡ m = (bytes_eq-Decides (text_at ms p) m).0 e in
-        let z : Less ≡ Equal = sym less ∙ (ap (text_cmp m) q ∙ text_itself_is m) in absurd cc
+        let z : Less ≡ Equal = sym less ∙ (ap (text_cmp m) q ∙ text_itself m) in absurd cc
 
 text_chars : (ms : List (List ℕ)) (place : ℕ) → place < length ms → text_at (map chars ms) place ≡ chars (text_at ms place)
 text_chars [] place l = absurd (omega arith)
@@ -198,11 +197,11 @@ length_chars : (ms : List (List ℕ)) → length (map chars ms) ≡ length ms
 length_chars [] = refl
 length_chars (m ∷ ms) = ap suc (length_chars ms)
 
-back_any : (i : List ℕ) (ms : List (List ℕ)) → list_any (λ m. text_eq m i) (map chars ms) ≡ true → list_any (λ m. text_eq (chars m) i) ms ≡ true
+back_any : (i : List ℕ) (ms : List (List ℕ)) → list_any (λ m. bytes_eq m i) (map chars ms) ≡ true → list_any (λ m. bytes_eq (chars m) i) ms ≡ true
 back_any i [] h = h
-back_any i (m ∷ ms) h = by (text_eq (chars m) i) h (back_any i ms)
+back_any i (m ∷ ms) h = by (bytes_eq (chars m) i) h (back_any i ms)
   where
-    by : (a : Bool) → (a || list_any (λ x. text_eq x i) (map chars ms)) ≡ true → (list_any (λ x. text_eq x i) (map chars ms) ≡ true → list_any (λ x. text_eq (chars x) i) ms ≡ true) → (a || list_any (λ x. text_eq (chars x) i) ms) ≡ true
+    by : (a : Bool) → (a || list_any (λ x. bytes_eq x i) (map chars ms)) ≡ true → (list_any (λ x. bytes_eq x i) (map chars ms) ≡ true → list_any (λ x. bytes_eq (chars x) i) ms ≡ true) → (a || list_any (λ x. bytes_eq (chars x) i) ms) ≡ true
     by true e f = refl
     by false e f = f e
 
@@ -333,7 +332,7 @@ module _ (here : Entries) (always : StandsAlways here) where
       let p : place_of (chars (text_at members place)) (map chars members) ≡ place = ap (λ x. place_of x (map chars members)) (sym t) ∙ place_found (map chars members) place (ascends_chars members m.texts m.ascending) k in (
         chars (text_at members place),
         refl,
-        back_any (chars (text_at members place)) members (ap (λ x. list_any (λ y. text_eq y x) (map chars members)) (sym t) ∙ text_in (map chars members) place k),
+        back_any (chars (text_at members place)) members (ap (λ x. list_any (λ y. bytes_eq y x) (map chars members)) (sym t) ∙ text_in (map chars members) place k),
         (λ i. ConstructorOf (p i) (member_name n (p i)) no_script_values) ∙ λ i. ConstructorOf place (sym (o.1 ∙ ap (member_name n) z) i) (sym r i),
       )
 
@@ -344,7 +343,7 @@ module _ (here : Entries) (always : StandsAlways here) where
     entity_onto : (e : List ℕ) (place : ℕ) (c : List ℕ) (vs : ScriptValues) → EntityReturns (members_of enums e) e (type_name s (EntityType e)) place c vs → Onto (EntityType e) (ConstructorOf place c vs)
     entity_onto e place c vs r =
         subst (λ v. IsValue enums (EntityType e) v × (carry enums s (EntityType e) v ≡ ConstructorOf place c vs)) (sym r.1)
-        ((refl, subst (λ m. IsId m r.0) (members_same enums e) r.2), r.3)
+        ((refl, r.2), r.3)
 
     -- values that are carried to a set that ascends, ascend
     ascends_back : (t : PlainType) (ws : Values) → AllByRecursion (λ v. IsValue enums t v) (list_of_values ws) → script.ascends (carry_values enums s t ws) ≡ true → ascends value_cmp (list_of_values ws) ≡ true
@@ -376,7 +375,7 @@ module _ (here : Entries) (always : StandsAlways here) where
       onto StringType x d h = absurd cc
       onto (EntityType e) (ConstructorOf place c vs) d h =
           entity_onto e place c vs
-          (entity_returns (members_of enums e) (type_name s (EntityType e)) place c vs e (subst (λ m. IfSome m AreMembers) (sym (members_same enums e)) (members_found enums e good))
+          (entity_returns (members_of enums e) (type_name s (EntityType e)) place c vs e (members_found enums e good)
           (named_fields here (type_name s (EntityType e)) (entity_constructors (members_of enums e) (type_name s (EntityType e))) place c vs d h))
       onto (EntityType e) (TruthOf b) d h = absurd (not_truth (type_name s (EntityType e)) (entity_constructors (members_of enums e) (type_name s (EntityType e))) d h)
       onto (EntityType e) (TextOf t) d h = absurd (not_text (type_name s (EntityType e)) (entity_constructors (members_of enums e) (type_name s (EntityType e))) (list_all (λ c. nat_le c 196607) t) d h)

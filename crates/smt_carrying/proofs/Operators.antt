@@ -12,12 +12,12 @@ use Rattle.smt_term.specs.Operators.{truth, to_bits, to_truth, elements, is_memb
 use Rattle.smt_term.specs.Patterns.{matches}
 use Rattle.smt_term.specs.Tables.{Interpretation}
 use Rattle.smt_term.specs.Types.{type_eq, is_bits, is_set, bits_and_bits, extended_type, result_type}
-use Rattle.smt_term.specs.TypeValues.{IsValue}
+use Rattle.smt_term.specs.TypeValues.{IsValue, Enums}
 use Rattle.smt_term.specs.ValueOrder.{value_eq, set_of}
 use Rattle.smt_term.proofs.TypeOrder.{eq_same}
 use Rattle.smt_semantics.specs.Value.{on_truth, on_truths, on_two, choice, on_bits, extended, on_two_bits, in_set, on_sets, on_text, operator_value}
 use Rattle.smt_semantics.specs.Order as sets
-use Rattle.smt_lines.specs.Lines.{Enums, Tables}
+use Rattle.smt_lines.specs.Lines.{Tables}
 use Rattle.smt_carrying.specs.Carry.{carry}
 use Rattle.smt_carrying.specs.Order.{AreEnums}
 use Rattle.smt_carrying.specs.Operators.{AreValues, carry_each, is_script_operator}

@@ -12,8 +12,7 @@ use Rattle.std.proofs.lemmas.Cmp.{nat_cmp_total}
 use Rattle.smt_term.specs.Plain.{ExtensionKind, IpAddrKind, DecimalKind, DatetimeKind, DurationKind, PlainType, OptionType, BitVecType, BoolType, EntityType, ExtensionType, StringType, RecordType, SetType, AttributeTypes, no_attributes, attribute, PlainExtension, DecimalOf, Ipv4Of, Ipv6Of, DatetimeOf, DurationOf}
 use Rattle.smt_term.specs.Values.{Value, BoolValue, BitVecValue, StringValue, EntityValue, ExtensionValue, NoneValue, SomeValue, RecordValue, SetValue, Values, no_values, one_value, FieldValues, no_field_values, one_field_value}
 use Rattle.smt_semantics.specs.ScriptValues.{ScriptValue, BitsOf, TextOf, ConstructorOf, ScriptValues, no_script_values, one_script_value}
-use Rattle.smt_term.specs.TypeValues as terms
-use Rattle.smt_term.specs.TypeValues.{IsValue, AreFieldValues, IsExtension, IsId, IsLong}
+use Rattle.smt_term.specs.TypeValues.{IsValue, AreFieldValues, IsExtension, IsId, IsLong, Enums, members_of}
 use Rattle.smt_term.specs.ValueOrder.{text_cmp, twos_complement_cmp, extension_cmp, value_cmp, values_cmp, field_values_cmp, list_of_values}
 use Rattle.std.specs.List.{AllByRecursion}
 use Rattle.smt_term.proofs.ValueOrder.{text_itself}
@@ -25,20 +24,17 @@ use Rattle.smt_semantics.proofs.Ranks.{same_is_equal}
 use Rattle.smt_term.specs.ValueOrder.{value_eq, ascends}
 use Rattle.smt_term.proofs.ValueOrder.{value_same}
 use Rattle.smt_semantics.specs.Order.{Comparison, Before, Same, After, and_then, order_numbers, order_texts, order, order_each}
-use Rattle.smt_lines.specs.Lines.{Enums, Tables, place_of, member_name}
+use Rattle.smt_lines.specs.Lines.{Tables, place_of, member_name}
 use Rattle.smt_lines.specs.Naming.{type_name}
 use Rattle.smt_carrying.specs.Carry.{alone, signed_bits, carry_prefix, carry_extension, carry_entity, carry, carry_values, carry_fields}
 use Rattle.smt_carrying.specs.Order.{compared, AreMembers, AreEnums}
 use Rattle.smt_carrying.proofs.Agree.{then_compared, numbers_agree, truths_agree, texts_agree, nat_less, same_compared, before_compared}
-use Rattle.smt_carrying.proofs.Members.{members_same, members_found, ascends_chars, any_chars, places_ordered, numbers_itself}
+use Rattle.smt_carrying.proofs.Members.{members_found, ascends_chars, any_chars, places_ordered, numbers_itself}
 
 -- ---- small steps
 
-pub text_itself_is : (s : List ℕ) → text_cmp s s ≡ Equal
-text_itself_is s = (Equal-is (text_cmp s s)).0 (text_itself s)
-
 pub texts_itself : (s : List ℕ) → order_texts s s ≡ Same
-texts_itself s = texts_agree s s ∙ ap compared (text_itself_is s)
+texts_itself s = texts_agree s s ∙ ap compared (text_itself s)
 
 -- one constructor of two values
 constructor_order : (place : ℕ) (n : List ℕ) (xs ys : ScriptValues) → order (ConstructorOf place n xs) (ConstructorOf place n ys) ≡ order_each xs ys
@@ -126,14 +122,13 @@ id_order (Some members) sort i j m h k =
     (places_ordered (map chars members) (ascends_chars members m.texts m.ascending) i j (any_chars i members h) (any_chars j members k))
 
 module _ (enums : Enums) (s : Tables) (good : AreEnums enums) where
-  entity_order : (e f g i j : List ℕ) → f ≡ e → g ≡ e → IsId (terms.members_of enums e) i → IsId (terms.members_of enums e) j
+  entity_order : (e f g i j : List ℕ) → f ≡ e → g ≡ e → IsId (members_of enums e) i → IsId (members_of enums e) j
       → order (carry enums s (EntityType e) (EntityValue f i)) (carry enums s (EntityType e) (EntityValue g j)) ≡ compared (value_cmp (EntityValue f i) (EntityValue g j))
   entity_order e f g i j p q h k =
       let here : order (carry enums s (EntityType e) (EntityValue e i)) (carry enums s (EntityType e) (EntityValue e j)) ≡ compared (text_cmp i j) =
-      (λ x. order (carry_entity (members_same enums e x) (type_name s (EntityType e)) i) (carry_entity (members_same enums e x) (type_name s (EntityType e)) j))
-      ∙ id_order (terms.members_of enums e) (type_name s (EntityType e)) i j (members_found enums e good) h k in
+      id_order (members_of enums e) (type_name s (EntityType e)) i j (members_found enums e good) h k in
       (λ x. order (carry enums s (EntityType e) (EntityValue (p x) i)) (carry enums s (EntityType e) (EntityValue (q x) j)))
-      ∙ (here ∙ (sym (ap (λ o. compared (ordering_then o (text_cmp i j))) (text_itself_is e)) ∙ λ x. compared (ordering_then (text_cmp (sym p x) (sym q x)) (text_cmp i j))))
+      ∙ (here ∙ (sym (ap (λ o. compared (ordering_then o (text_cmp i j))) (text_itself e)) ∙ λ x. compared (ordering_then (text_cmp (sym p x) (sym q x)) (text_cmp i j))))
 
   mutual
     pub keeps : (ty : PlainType) (v w : Value) → IsValue enums ty v → IsValue enums ty w → order (carry enums s ty v) (carry enums s ty w) ≡ compared (value_cmp v w)
@@ -180,7 +175,7 @@ module _ (enums : Enums) (s : Tables) (good : AreEnums enums) where
     keeps_fields no_attributes fs gs h k = absurd h
     keeps_fields (attribute a t x) (one_field_value b v fs) (one_field_value c w gs) h k =
         then_compared (ordering_then (text_cmp b c) (value_cmp v w)) (field_values_cmp fs gs) (order (carry enums s t v) (carry enums s t w)) (order_each (carry_fields enums s x fs) (carry_fields enums s x gs))
-        (keeps t v w h.1 k.1 ∙ ap (λ o. compared (ordering_then o (value_cmp v w))) (sym (text_itself_is a) ∙ λ i. text_cmp (sym h.0 i) (sym k.0 i)))
+        (keeps t v w h.1 k.1 ∙ ap (λ o. compared (ordering_then o (value_cmp v w))) (sym (text_itself a) ∙ λ i. text_cmp (sym h.0 i) (sym k.0 i)))
         (keeps_fields x fs gs h.2 k.2)
     keeps_fields (attribute a t x) (one_field_value b v fs) gs h k = absurd k
     keeps_fields (attribute a t x) fs gs h k = absurd h

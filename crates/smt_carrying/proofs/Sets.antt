@@ -11,7 +11,7 @@ use Rattle.std.specs.declared.cmp.Ordering.TheVariants.{Less, Equal, Greater}
 use Rattle.smt_term.specs.Plain.{PlainType, SetType}
 use Rattle.smt_term.specs.Values.{Value, Values, no_values, one_value}
 use Rattle.smt_semantics.specs.ScriptValues.{ScriptValue, SetOf, no_script_values, one_script_value}
-use Rattle.smt_term.specs.TypeValues.{IsValue}
+use Rattle.smt_term.specs.TypeValues.{IsValue, Enums}
 use Rattle.smt_term.specs.ValueOrder.{value_cmp, is_below, ascends, sorted_values, values, list_of_values, set_of}
 use Rattle.smt_term.specs.Operators as terms
 use Rattle.smt_term.proofs.TotalOrder.{values_total}
@@ -20,7 +20,7 @@ use Rattle.smt_semantics.specs.Order as script
 use Rattle.smt_semantics.specs.Order.{order, by_order, put}
 use Rattle.smt_semantics.specs.Script.{◌>>=◌}
 use Rattle.smt_semantics.specs.Value.{inserted, put_into}
-use Rattle.smt_lines.specs.Lines.{Enums, Tables}
+use Rattle.smt_lines.specs.Lines.{Tables}
 use Rattle.smt_carrying.specs.Carry.{carry, carry_values}
 use Rattle.smt_carrying.specs.Order.{compared, AreEnums}
 use Rattle.smt_carrying.proofs.Ordered.{keeps, same_values}

@@ -7,12 +7,13 @@ use Rattle.smt_term.specs.Interpretations.{IsInterpretation, Agree}
 use Rattle.smt_term.specs.Reached.{reached_terms}
 use Rattle.smt_term.specs.Tables.{Table, Interpretation}
 use Rattle.smt_term.specs.Types.{extension_signature}
+use Rattle.smt_term.specs.TypeValues.{Enums}
 use Rattle.smt_sexpr.specs.Lexicon.{Name, Number}
 use Rattle.smt_sexpr.specs.Reading.{Expression, Leaf, Node, Nil, Cons}
 use Rattle.smt_semantics.specs.Sorts.{Entries, has_sort_in}
 use Rattle.smt_semantics.specs.Value as script
 use Rattle.smt_semantics.specs.Value.{is_table, is_other}
-use Rattle.smt_lines.specs.Lines.{Enums, Tables, name_of_term, name_of_function, text_of_name}
+use Rattle.smt_lines.specs.Lines.{Tables, name_of_term, name_of_function, text_of_name}
 use Rattle.smt_lines.specs.Naming.{type_name, IsOneToOne}
 use Rattle.smt_carrying.specs.Carry.{key_of, carry, back, nothing_carried}
 use Rattle.smt_lines.specs.Lines.{name_of_type}

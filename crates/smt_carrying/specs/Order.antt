@@ -5,11 +5,11 @@ use Rattle.std.specs.declared.cmp.Ordering.{Ordering}
 use Rattle.std.specs.declared.cmp.Ordering.TheVariants.{Less, Equal, Greater}
 use Rattle.smt_term.specs.Plain.{PlainType, SetType}
 use Rattle.smt_term.specs.Values.{Value, SetValue, Values}
-use Rattle.smt_term.specs.TypeValues.{IsValue}
+use Rattle.smt_term.specs.TypeValues.{IsValue, Enums}
 use Rattle.smt_term.specs.ValueOrder.{text_cmp, value_cmp, value_eq, ascends}
 use Rattle.smt_semantics.specs.Order.{Comparison, Before, Same, After, order, same}
 use Rattle.smt_semantics.specs.Order as script
-use Rattle.smt_lines.specs.Lines.{Enums, Tables}
+use Rattle.smt_lines.specs.Lines.{Tables}
 use Rattle.smt_carrying.specs.Carry.{carry, carry_values}
 
 -- one answer of an order in the script's words

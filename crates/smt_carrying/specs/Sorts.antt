@@ -3,11 +3,11 @@ use Rattle.std.specs.Prelude.{◌≡◌, ℕ, zero, suc, ◌≤◌, false, bytes
 use Rattle.smt_term.specs.Plain.{ExtensionKind, IpAddrKind, DecimalKind, DatetimeKind, DurationKind, PlainType, OptionType, BitVecType, BoolType, EntityType, ExtensionType, StringType, RecordType, SetType, AttributeTypes, no_attributes, attribute}
 use Rattle.smt_term.specs.Values.{Value}
 use Rattle.smt_semantics.specs.ScriptValues.{ScriptValue}
-use Rattle.smt_term.specs.TypeValues.{IsValue}
+use Rattle.smt_term.specs.TypeValues.{IsValue, Enums, members_of}
 use Rattle.smt_sexpr.specs.Reading.{Expression}
 use Rattle.smt_semantics.specs.Script.{Builds, name, group}
 use Rattle.smt_semantics.specs.Sorts.{Entries, bool_sort, string_sort, bit_sort, set_sort, has_sort_in}
-use Rattle.smt_lines.specs.Lines.{Enums, Tables, members_of, member_name}
+use Rattle.smt_lines.specs.Lines.{Tables, member_name}
 use Rattle.smt_lines.specs.Naming.{type_name}
 use Rattle.smt_carrying.specs.Carry.{carry, back}
 use Rattle.smt_carrying.specs.Order.{AreEnums}

@@ -7,7 +7,7 @@ use Rattle.smt_term.specs.Interpretations.{IsGivenSelector, IsOfOtherFamily, emp
 use Rattle.smt_term.specs.Operators.{apply_extension}
 use Rattle.smt_term.specs.Tables.{Interpretation}
 use Rattle.smt_term.specs.Types.{extension_signature}
-use Rattle.smt_term.specs.TypeValues.{IsValue, IsExtension, IsLong, IsPrefix}
+use Rattle.smt_term.specs.TypeValues.{IsValue, IsExtension, IsLong, IsPrefix, Enums}
 use Rattle.smt_term.specs.Values.{Value, ExtensionValue}
 use Rattle.smt_semantics.specs.ScriptValues.{ScriptValue, BitsOf, ConstructorOf}
 use Rattle.smt_sexpr.specs.Reading.{Expression}
@@ -19,9 +19,9 @@ use Rattle.smt_semantics.specs.Growth.{Declares}
 use Rattle.smt_semantics.specs.Value.{ScriptInterpretation, expression_value, selected, script_values}
 use Rattle.smt_semantics.specs.Meanings.{argument_values}
 use Rattle.smt_semantics.proofs.Apply.{constructors_apply, selectors_apply, tests_apply, nones_stand}
-use Rattle.smt_lines.specs.Lines.{Enums, Tables, name_of_type, bits, bits_64, bits_sort, option_sort, prefix_body, extension_body, extension_op_head, kind_constructors}
+use Rattle.smt_lines.specs.Lines.{Tables, name_of_type, bits, bits_64, bits_sort, option_sort, prefix_body, extension_body, extension_op_head, kind_constructors}
 use Rattle.smt_lines.specs.Naming.{type_name}
-use Rattle.smt_lines.specs.Fits.{HasSort}
+use Rattle.smt_lines.specs.Entries.{HasSort}
 use Rattle.smt_lines.specs.Command.{all_built}
 use Rattle.smt_lines.proofs.Declared.{types_are_declared}
 use Rattle.smt_carrying.specs.Carry.{carry, carry_extension, carry_prefix, signed_bits, alone}

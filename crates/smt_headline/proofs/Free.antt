@@ -3,10 +3,11 @@ use Rattle.std.proofs.Common.{List, [], ◌∷◌, ap, ap₂, ◌∙◌, subst, 
 use Rattle.std.specs.List.{AllByRecursion}
 use Rattle.smt_term.specs.Plain.{PlainOp, UufOp, PlainType, PlainTerm, Application, VariableTerm, terms}
 use Rattle.smt_term.specs.Reached.{reached_terms}
+use Rattle.smt_term.specs.TypeValues.{Enums}
 use Rattle.smt_sexpr.specs.Reading.{Expression}
 use Rattle.smt_semantics.specs.Script.{Constant, Function, State}
 use Rattle.smt_semantics.specs.Sorts.{entries}
-use Rattle.smt_lines.specs.Lines.{Enums, Tables, no_names}
+use Rattle.smt_lines.specs.Lines.{Tables, no_names}
 use Rattle.smt_lines.specs.Naming.{HasDistinctNames}
 use Rattle.smt_lines.proofs.Grow.{terms_grow}
 use Rattle.smt_lines.proofs.Differ.{types_differ, functions_differ}

@@ -14,7 +14,7 @@ use Rattle.smt_lines.proofs.Known.{or_left, or_right}
 use Rattle.smt_carrying.specs.Interpretations.{variable_name, function_name}
 use Rattle.smt_carrying.specs.Open.{Occurs, IsOpenEntry}
 use Rattle.smt_carrying.specs.Sorts.{script_sort}
-use Rattle.smt_carrying.proofs.Selectors.{bytes_itself}
+use Rattle.smt_term.proofs.ValueOrder.{bytes_itself}
 use Rattle.smt_headline.specs.Headline.{reached_names}
 use Rattle.smt_headline.specs.Standing.{IsOpOpen, IsOpen}
 use Rattle.smt_headline.proofs.Lasting.{some_entry}

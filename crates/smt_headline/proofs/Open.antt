@@ -3,10 +3,11 @@ use Rattle.std.proofs.Common.{◌≡◌, ℕ, List, [], ◌∷◌, ◌++◌, map
 use Rattle.std.specs.List.{AllByRecursion}
 use Rattle.smt_term.specs.Plain.{PlainTerm, terms}
 use Rattle.smt_term.specs.Reached.{subterms, subterms_of_all, reached_terms}
+use Rattle.smt_term.specs.TypeValues.{Enums}
 use Rattle.smt_sexpr.specs.Reading.{Expression}
 use Rattle.smt_semantics.specs.Script.{Command, Entry, start}
 use Rattle.smt_lines.specs.Line.{Line, Comment, DeclareDatatype, DeclareConst, DeclareFun, DefineFun, Assert, Push, Pop}
-use Rattle.smt_lines.specs.Lines.{Enums, Tables, no_names, option_line, text_of_name, encode, encode_terms}
+use Rattle.smt_lines.specs.Lines.{Tables, no_names, option_line, text_of_name, encode, encode_terms}
 use Rattle.smt_lines.specs.Command.{commands}
 use Rattle.smt_lines.specs.Fit.{EachLine}
 use Rattle.smt_lines.specs.Text.{names}

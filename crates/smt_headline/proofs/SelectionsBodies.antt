@@ -5,27 +5,25 @@ use Rattle.std.specs.Bool.{then_some}
 use Rattle.std.specs.Cmp.{second_so}
 use Rattle.std.proofs.lemmas.Bool.{and_parts, false≢true, cond-false}
 use Rattle.smt_term.specs.Plain.{IpAddrKind, PlainType, OptionType, BoolType, EntityType, ExtensionType, SetType, ExtensionOp, IpAddrV4Op, IpAddrV6Op, IpPrefixV4Op, IpPrefixV6Op, PlainOp, BvnegoOp, ExtOp, OptionGetOp, BitVecLiteral, BoolLiteral, EntityLiteral, ExtensionLiteral, StringLiteral, PlainTerm, Application, NoneTerm, LiteralTerm, RecordTerm, SetTerm, SomeTerm, VariableTerm, PlainTerms, no_terms, one_term}
-use Rattle.smt_term.specs.Types as typing
-use Rattle.smt_term.specs.Types.{type_eq, inner_type, types_of, extension_signature, result_type, is_type, typed, typed_all}
+use Rattle.smt_term.specs.Types.{type_eq, inner_type, types_of, extension_signature, result_type, is_type, typed_all, type_of}
 use Rattle.smt_term.proofs.Soundness.{is_type-some}
 use Rattle.smt_term.proofs.TypeOrder.{eq_same}
+use Rattle.smt_term.specs.TypeValues.{Enums, members_of}
 use Rattle.smt_sexpr.specs.Lexicon.{Text}
 use Rattle.smt_sexpr.specs.Reading.{Expression, Leaf}
 use Rattle.smt_semantics.specs.Script.{Entry, Defined, Selects, Shape, Applied, State, name, group, exprs, is_in, built_in_names, shape, is_stated, shape_is_known, each_stated, look_up, ◌>>=◌}
 use Rattle.smt_semantics.specs.Sorts.{Entries, entries, bool_sort, entry_sort, named_sort, sort_in}
 use Rattle.smt_semantics.specs.Value.{Selection, selection, selection_of, shape_selection, selections}
-use Rattle.smt_lines.specs.Lines.{Enums, Tables, members_of, name_of_term, name_of_type, kind_constructors, bits, extension_op_head, extension_body, operands, none_body, set_body, record_body, Manner, AsItStands, AsLeast, AsFalse, manner}
+use Rattle.smt_lines.specs.Lines.{Tables, name_of_term, name_of_type, kind_constructors, bits, extension_op_head, extension_body, operands, none_body, set_body, record_body, Manner, AsItStands, AsLeast, AsFalse, manner}
 use Rattle.smt_lines.specs.Line.{DeclareDatatype}
-use Rattle.smt_lines.specs.Types.{type_of}
 use Rattle.smt_lines.specs.Naming.{sort_of, type_name}
-use Rattle.smt_lines.specs.Fits.{HasSort, HaveTexts, given, named_text, text_of, texts_of, texts_of_fields, head_of, application_lines, entity_literal_lines, term_lines}
+use Rattle.smt_lines.specs.Entries.{HasSort, HaveTexts, given, named_text, text_of, texts_of, texts_of_fields, head_of, application_lines, entity_literal_lines, term_lines}
 use Rattle.smt_lines.specs.Fit.{Fit, EachLine, LineStands}
 use Rattle.smt_lines.proofs.Declared.{terms_are_declared, types_are_declared}
 use Rattle.smt_carrying.specs.Interpretations.{ip_type, is_range_selector}
 use Rattle.smt_carrying.specs.Operators.{selector_name}
 use Rattle.smt_carrying.specs.Sorts.{option_sort, script_sort}
 use Rattle.smt_carrying.proofs.Standing.{sorts_agree}
-use Rattle.smt_headline.proofs.Agree.{types_agree}
 use Rattle.smt_headline.proofs.Types.{there}
 use Rattle.smt_headline.proofs.SelectionsHeads.{option_entry, option_selection, range_entry, range_selection, op_selections, own_selections, AreTypesCounted, AreFunctionsCounted, type_apart, plain_application, plain_least, least_selects}
 use Rattle.smt_headline.proofs.SelectionsOrigins.{HasDefinition}
@@ -184,13 +182,13 @@ module _ (enums : Enums) (s : Tables) (state : State) (fit : Fit enums s state) 
     extension_selects : (o : ExtensionOp) → is_range_selector o ≡ true → (ts : PlainTerms) (type : PlainType) → result_type (ExtOp o) (types_of ts) ≡ Some type → HaveTexts s ts → Known older (group (extension_op_head o ∷ texts_of s ts)) → selections (among older) (group (extension_op_head o ∷ texts_of s ts)) ≡ range_selection s o ∷ []
     extension_selects o r no_terms type h k known = absurd cc
     extension_selects o r (one_term t no_terms) type h k known =
-        range_selects o r t (types_agree t ∙ eq_same (typing.type_of t) (extension_signature o).0 (chosen (type_eq (typing.type_of t) (extension_signature o).0) (extension_signature o).1 type h)) k.0 known
+        range_selects o r t (eq_same (type_of t) (extension_signature o).0 (chosen (type_eq (type_of t) (extension_signature o).0) (extension_signature o).1 type h)) k.0 known
     extension_selects o r (one_term t (one_term u ts)) type h k known = absurd cc
 
     stands : (op : PlainOp) (ts : PlainTerms) (type : PlainType) → result_type op (types_of ts) ≡ Some type → HaveTexts s ts → Known older (group (head_of enums s op ts ∷ operands op (texts_of s ts)))
         → selections (among older) (group (head_of enums s op ts ∷ operands op (texts_of s ts))) ≡ op_selections s op type
     stands OptionGetOp no_terms type h k known = absurd cc
-    stands OptionGetOp (one_term t no_terms) type h k known = option_selects t type (types_agree t ∙ opened (typing.type_of t) type h) k.0 known
+    stands OptionGetOp (one_term t no_terms) type h k known = option_selects t type (opened (type_of t) type h) k.0 known
     stands OptionGetOp (one_term t (one_term u ts)) type h k known = absurd cc
     stands (ExtOp IpAddrV4Op) ts type h k known = extension_selects IpAddrV4Op refl ts type h k known
     stands (ExtOp IpAddrV6Op) ts type h k known = extension_selects IpAddrV6Op refl ts type h k known

@@ -8,12 +8,13 @@ use Rattle.smt_term.specs.Plain.{PlainType, BoolType, ExtensionOp, PlainOp, ExtO
 use Rattle.smt_term.specs.Reached.{reached_terms}
 use Rattle.smt_term.specs.Types.{Typed, typed, extension_signature}
 use Rattle.smt_term.proofs.Soundness.{all-front, all-back}
+use Rattle.smt_term.specs.TypeValues.{Enums}
 use Rattle.smt_sexpr.specs.Reading.{Expression}
 use Rattle.smt_semantics.specs.Script.{Defined, look_up, assertions_of, names_of}
 use Rattle.smt_semantics.specs.ScriptValues.{ScriptValue}
 use Rattle.smt_semantics.specs.Sorts.{entries}
 use Rattle.smt_semantics.specs.Value.{ScriptInterpretation, IsScriptInterpretation, Selection, selections, selections_in, body_of, body_selections, applied_selectors, is_selector_given, is_table, are_others, is_other}
-use Rattle.smt_lines.specs.Lines.{Enums, name_of_term}
+use Rattle.smt_lines.specs.Lines.{name_of_term}
 use Rattle.smt_lines.specs.Scripts.{Stated}
 use Rattle.smt_lines.specs.Text.{names}
 use Rattle.smt_lines.proofs.Declared.{terms_are_declared}

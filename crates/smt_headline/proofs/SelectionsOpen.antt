@@ -4,10 +4,11 @@ use Rattle.std.specs.List.{AllByRecursion}
 use Rattle.smt_term.specs.Plain.{PlainType, BoolType, ExtensionOp, PlainOp, ExtOp, OptionGetOp, PlainTerm, Application, PlainTerms}
 use Rattle.smt_term.specs.Reached.{reached_terms}
 use Rattle.smt_term.specs.Types.{Typed}
+use Rattle.smt_term.specs.TypeValues.{Enums}
 use Rattle.smt_semantics.specs.Script.{Entry, Defined, names_of}
 use Rattle.smt_semantics.specs.Sorts.{entries}
 use Rattle.smt_semantics.specs.Value.{Selection, selections, body_of, body_selections}
-use Rattle.smt_lines.specs.Lines.{Enums, Tables}
+use Rattle.smt_lines.specs.Lines.{Tables}
 use Rattle.smt_lines.specs.Scripts.{Stated}
 use Rattle.smt_lines.specs.Text.{names}
 use Rattle.smt_carrying.specs.Interpretations.{is_range_selector}

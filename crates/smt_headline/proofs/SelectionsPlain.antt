@@ -11,7 +11,7 @@ use Rattle.smt_semantics.specs.Value.{Selection, range_selectors, selection_if, 
 use Rattle.smt_lines.specs.Lines as lines
 use Rattle.smt_lines.specs.Lines.{Tables, name_of_term, bits, bits_64, prefix_body, extension_body, pattern_body, with_pattern, none_body, empty_set, set_body, record_body}
 use Rattle.smt_lines.specs.Naming.{sort_of}
-use Rattle.smt_lines.specs.Fits.{given, named_text, text_of, texts_of, texts_of_fields}
+use Rattle.smt_lines.specs.Entries.{given, named_text, text_of, texts_of, texts_of_fields}
 use Rattle.smt_headline.proofs.SelectionsRuns.{IsInside, or_parts}
 
 -- the selectors that may be left open

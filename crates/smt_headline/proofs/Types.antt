@@ -4,6 +4,7 @@ use Rattle.std.specs.Prelude.{codes, bytes_eq, IsSome, nat_le, unwrap_or}
 use Rattle.std.proofs.lemmas.Bool.{and_parts, cases_Bool, false≢true, leb-true}
 use Rattle.std.proofs.lemmas.Slice.Eq.{bytes_eq-Decides}
 use Rattle.smt_term.specs.Plain.{ExtensionKind, IpAddrKind, DecimalKind, DatetimeKind, DurationKind, PlainType, OptionType, BitVecType, BoolType, EntityType, ExtensionType, StringType, RecordType, SetType, AttributeTypes, no_attributes, attribute}
+use Rattle.smt_term.specs.TypeValues.{Enums, members_of}
 use Rattle.smt_sexpr.specs.Reading.{Expression}
 use Rattle.smt_semantics.specs.Script.{Constructor, Builds, State, name}
 use Rattle.smt_semantics.specs.Sorts.{Entries, entries}
@@ -12,8 +13,8 @@ use Rattle.smt_bits.specs.Widths.{is_width}
 use Rattle.smt_lines.specs.Line as line
 use Rattle.smt_lines.specs.Line.{Line, Bare, Fielded, DeclareDatatype}
 use Rattle.smt_lines.specs.Lines as lines
-use Rattle.smt_lines.specs.Lines.{Enums, Tables, members_of, name_of_type, member_name, attribute_selectors, entity_lines}
-use Rattle.smt_lines.specs.Fits.{HasSort, HaveSorts, sorts_of}
+use Rattle.smt_lines.specs.Lines.{Tables, name_of_type, member_name, attribute_selectors, entity_lines}
+use Rattle.smt_lines.specs.Entries.{HasSort, HaveSorts, sorts_of}
 use Rattle.smt_lines.specs.Naming.{type_name}
 use Rattle.smt_lines.specs.Command.{all_built}
 use Rattle.smt_lines.specs.Fine.{IsFineType, AreFineTypes}

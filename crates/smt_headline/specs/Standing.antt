@@ -3,11 +3,12 @@ use Rattle.std.specs.Prelude.{◌≡◌, List, [], ◌∷◌, Some, IsSome, IsTr
 use Rattle.std.specs.List.{AllByRecursion}
 use Rattle.smt_term.specs.Plain.{PlainType, PlainOp, UufOp, PlainTerm, Application, VariableTerm, terms}
 use Rattle.smt_term.specs.Reached.{reached_terms}
+use Rattle.smt_term.specs.TypeValues.{Enums}
 use Rattle.smt_semantics.specs.Script.{Constant, Function, State, start, run, names_of, assertions_of}
 use Rattle.smt_semantics.specs.Sorts.{Entries, entries, has_sort_in}
 use Rattle.smt_semantics.specs.Value.{ScriptInterpretation, IsScriptInterpretation, is_table, selections_in}
-use Rattle.smt_lines.specs.Lines.{Enums, Tables, no_names, encode, option_line}
-use Rattle.smt_lines.specs.Fits.{HasSort, text_of}
+use Rattle.smt_lines.specs.Lines.{Tables, no_names, encode, option_line}
+use Rattle.smt_lines.specs.Entries.{HasSort, text_of}
 use Rattle.smt_lines.specs.Naming.{HasDistinctNames, IsOneToOne}
 use Rattle.smt_lines.specs.Text.{names}
 use Rattle.smt_lines.specs.Fine.{IsFineType, AreFine}

@@ -4,15 +4,17 @@ use Rattle.std.specs.Prelude.{codes, IsSome, nat_lt, ℤ, pos, negsuc, eqb}
 use Rattle.std.specs.List.{list_all}
 use Rattle.std.proofs.lemmas.Bool.{and_parts, and_from, ltb-true, false≢true, eqb-true, eqb-false}
 use Rattle.smt_term.specs.Plain.{ExtensionKind, IpAddrKind, DecimalKind, DatetimeKind, DurationKind, PlainType, OptionType, BitVecType, ExtensionType, RecordType, AttributeTypes, PlainFunction, ExtensionOp, DatetimeOfBitVecOp, DatetimeValOp, DecimalValOp, DurationOfBitVecOp, DurationValOp, IpAddrV4Op, IpAddrV6Op, IpIsV4Op, IpPrefixV4Op, IpPrefixV6Op, PatternPart, Character, Wildcard, PlainOp, BvnegoOp, ExtOp, OptionGetOp, RecordGetOp, StringLikeOp, UufOp, PlainExtension, DecimalOf, Ipv4Of, Ipv6Of, DatetimeOf, DurationOf, PlainTerms, no_terms, one_term}
+use Rattle.smt_term.specs.TypeValues.{Enums}
+use Rattle.smt_term.specs.Formed.{attribute_names}
+use Rattle.smt_term.specs.Types.{kind_of}
 use Rattle.smt_sexpr.specs.Reading.{Expression}
 use Rattle.smt_semantics.specs.Script.{State, name, group, exprs, is_in, built_in_names, has_name, has_sort, is_sort, knows}
 use Rattle.smt_semantics.specs.Quoting.{part_expr, pattern_expr, is_written_part}
 use Rattle.smt_semantics.specs.Written.{is_name}
 use Rattle.smt_semantics.proofs.Quotes.{patterns_write}
-use Rattle.smt_lines.specs.Lines.{Enums, Tables, name_of_type, name_of_function, text_of_name, attribute_name, attribute_place, place_of, bits, bits_64, bits_sort, option_sort, prefix_body, extension_body, pattern_part, pattern_body, encode_head, encode_function, operands, AsItStands, manner, none_body, empty_set, set_body, record_body}
-use Rattle.smt_lines.specs.Types.{first_type, attribute_names, kind_of}
+use Rattle.smt_lines.specs.Lines.{Tables, name_of_type, name_of_function, text_of_name, attribute_name, attribute_place, place_of, bits, bits_64, bits_sort, option_sort, prefix_body, extension_body, pattern_part, pattern_body, encode_head, encode_function, operands, AsItStands, manner, none_body, empty_set, set_body, record_body, first_type}
 use Rattle.smt_lines.specs.Naming.{sort_of}
-use Rattle.smt_lines.specs.Fits.{HasSort, named_text}
+use Rattle.smt_lines.specs.Entries.{HasSort, named_text}
 use Rattle.smt_lines.proofs.Making.{functions_are_made}
 use Rattle.smt_lines.specs.Command.{is_written, are_written}
 use Rattle.smt_lines.specs.Fine.{IsFineOp, IsLeast, AreFine, kind_of_op}

@@ -2,10 +2,12 @@
 use Rattle.std.specs.Prelude.{◌≡◌, ◌⊎◌, ℕ, true, nat_lt, chars, length, List, Option, Some, None}
 use Rattle.std.specs.List.{list_all}
 use Rattle.smt_term.specs.Plain.{ExtensionKind, IpAddrKind, DecimalKind, DatetimeKind, DurationKind, PlainType, OptionType, BitVecType, ExtensionType, RecordType, SetType, AttributeTypes, no_attributes, attribute, ExtensionOp, DatetimeOfBitVecOp, DatetimeValOp, DecimalValOp, DurationOfBitVecOp, DurationValOp, IpAddrV4Op, IpAddrV6Op, IpIsV4Op, IpPrefixV4Op, IpPrefixV6Op, PlainOp, BvnegoOp, ExtOp, RecordGetOp, StringLikeOp, UufOp, PlainLiteral, EntityLiteral, StringLiteral, PlainTerm, Application, NoneTerm, LiteralTerm, RecordTerm, SetTerm, SomeTerm, VariableTerm, PlainTerms, no_terms, one_term, PlainFields, no_fields, one_field}
+use Rattle.smt_term.specs.TypeValues.{Enums, members_of}
+use Rattle.smt_term.specs.Types.{type_of}
+use Rattle.smt_term.specs.Formed.{attribute_names}
 use Rattle.smt_bits.specs.Widths.{is_width}
 use Rattle.smt_semantics.specs.Quoting.{is_point, is_written_part}
-use Rattle.smt_lines.specs.Lines.{Enums, members_of, place_of, Manner, AsItStands, AsLeast, AsFalse, manner}
-use Rattle.smt_lines.specs.Types.{type_of, first_type, attribute_names}
+use Rattle.smt_lines.specs.Lines.{place_of, Manner, AsItStands, AsLeast, AsFalse, manner, first_type}
 
 -- each width is one
 abbrev mutual

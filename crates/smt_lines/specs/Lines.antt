@@ -3,22 +3,18 @@ use Rattle.std.specs.Prelude.{ℕ, suc, ◌-◌, ◌^◌, Bool, true, false, ◌
 use Rattle.std.specs.List.{flat_map, join_by}
 use Rattle.std.specs.Map.{lookup}
 use Rattle.smt_term.specs.Plain.{ExtensionKind, IpAddrKind, DecimalKind, DatetimeKind, DurationKind, PlainType, OptionType, BitVecType, BoolType, EntityType, ExtensionType, StringType, RecordType, SetType, AttributeTypes, no_attributes, attribute, PlainFunction, ExtensionOp, DatetimeOfBitVecOp, DatetimeValOp, DecimalValOp, DurationOfBitVecOp, DurationValOp, IpAddrV4Op, IpAddrV6Op, IpIsV4Op, IpPrefixV4Op, IpPrefixV6Op, PatternPart, Character, Wildcard, PlainOp, AndOp, BvaddOp, BvlshrOp, BvmulOp, BvnegOp, BvnegoOp, BvsaddoOp, BvsdivOp, BvshlOp, BvsleOp, BvsltOp, BvsmodOp, BvsmuloOp, BvsremOp, BvssuboOp, BvsubOp, BvudivOp, BvuleOp, BvultOp, BvuremOp, EqOp, ExtOp, IteOp, NotOp, OptionGetOp, OrOp, RecordGetOp, SetInterOp, SetMemberOp, SetSubsetOp, StringLikeOp, UufOp, ZeroExtendOp, PlainExtension, DecimalOf, Ipv4Of, Ipv6Of, DatetimeOf, DurationOf, PlainLiteral, BitVecLiteral, BoolLiteral, EntityLiteral, ExtensionLiteral, StringLiteral, PlainTerm, Application, NoneTerm, LiteralTerm, RecordTerm, SetTerm, SomeTerm, VariableTerm, PlainTerms, no_terms, one_term, PlainFields, no_fields, one_field, terms}
+use Rattle.smt_term.specs.TypeValues.{Enums, members_of}
+use Rattle.smt_term.specs.Types.{type_eq, type_of, literal_type}
+use Rattle.smt_term.specs.Interpretations.{function_eq}
+use Rattle.smt_term.specs.TermOrder.{term_eq}
+use Rattle.smt_term.specs.Formed.{attribute_names}
 use Rattle.smt_sexpr.specs.Reading.{Expression, Leaf}
 use Rattle.smt_sexpr.specs.Lexicon.{Number, Text}
 use Rattle.smt_semantics.specs.Script.{name, group}
 use Rattle.smt_lines.specs.Spelling.{escaped, numeral}
 use Rattle.smt_lines.specs.Line.{Constructor, Bare, Fielded, Line, Comment, DeclareDatatype, DeclareConst, DeclareFun, DefineFun, Assert, Push, Pop}
-use Rattle.smt_lines.specs.Same.{same_type, same_function, same_term}
-use Rattle.smt_lines.specs.Types.{type_of, literal_type, attribute_names, first_type}
 
 -- ---- tables
-
--- the enum types, each with its members in their order
-abbrev pub Enums : Type 0
-Enums = List (List ℕ × List (List ℕ))
-
-abbrev pub members_of : Enums → List ℕ → Option (List (List ℕ))
-members_of enums type = lookup (bytes_eq type) enums
 
 -- what has a name, in the order in which the names were given
 pub record Tables : Type 0 where
@@ -30,13 +26,13 @@ abbrev pub no_names : Tables
 no_names = record { terms = []; types = []; functions = [] }
 
 abbrev pub name_of_term : Tables → PlainTerm → Option (List ℕ)
-name_of_term s t = lookup (same_term t) s.terms
+name_of_term s t = lookup (term_eq t) s.terms
 
 abbrev pub name_of_type : Tables → PlainType → Option (List ℕ)
-name_of_type s t = lookup (same_type t) s.types
+name_of_type s t = lookup (type_eq t) s.types
 
 abbrev pub name_of_function : Tables → PlainFunction → Option (List ℕ)
-name_of_function s f = lookup (same_function f) s.functions
+name_of_function s f = lookup (function_eq f) s.functions
 
 abbrev pub numbered : List ℕ → ℕ → List ℕ
 numbered letter n = letter ++ numeral n
@@ -264,6 +260,11 @@ extension_op_head IpAddrV6Op = name (codes "addrV6")
 extension_op_head IpIsV4Op = group (name (codes "_") ∷ name (codes "is") ∷ name (codes "V4") ∷ [])
 extension_op_head IpPrefixV4Op = name (codes "prefixV4")
 extension_op_head IpPrefixV6Op = name (codes "prefixV6")
+
+-- the type of the first term, and Bool where there is none
+abbrev pub first_type : PlainTerms → PlainType
+first_type no_terms = BoolType
+first_type (one_term t ts) = type_of t
 
 -- the place of an attribute in a record type; 0 where the type is none
 abbrev pub attribute_place : List ℕ → PlainType → ℕ
