@@ -17,7 +17,7 @@ use Rattle.smt_term.proofs.ValueOrder.{text_itself, bytes_itself}
 use Rattle.smt_bits.specs.Widths.{is_width, are_bits}
 use Rattle.smt_sexpr.specs.Lexicon.{Name, Number}
 use Rattle.smt_semantics.specs.Order as script
-use Rattle.smt_semantics.specs.Order.{order, is_before}
+use Rattle.smt_semantics.specs.Order.{order}
 use Rattle.smt_sexpr.specs.Reading.{Expression, Leaf, Node, Expressions, Nil, Cons}
 use Rattle.smt_semantics.specs.Script.{Entry, Builds, name, ◌>>=◌}
 use Rattle.smt_semantics.specs.Sorts.{Entries, string_sort, bit_sort, same_sort, listed_sorts, paired, instance, fields_at, constructor_fields, has_sort_in, have_sorts_in, all_have_sort_in}
@@ -26,7 +26,7 @@ use Rattle.smt_lines.specs.Naming.{type_name}
 use Rattle.smt_carrying.specs.Carry.{alone, signed_bits, signed_of, text_at, carry_prefix, carry_extension, carry_entity, carry, carry_values, carry_fields, back_prefix, back_extension, back_entity, back, back_values, back_fields}
 use Rattle.smt_carrying.specs.Order.{AreMembers, AreEnums}
 use Rattle.smt_carrying.specs.Sorts.{option_sort, script_sort, field_sorts, Constructors, member_constructors, entity_constructors, kind_constructors, option_constructors, at_place, IsNoDatatype, StandsAlways, IsNamed, IsDeclared, AreDeclared}
-use Rattle.smt_carrying.proofs.Agree.{before_compared}
+use Rattle.std.specs.Ordering.{is_lt}
 use Rattle.smt_carrying.proofs.Members.{members_found, ascends_chars, behind}
 use Rattle.smt_carrying.proofs.Ordered.{keeps, one_to_one}
 use Rattle.smt_carrying.proofs.Sorted.{fields_themselves, sorted_value}
@@ -350,9 +350,9 @@ module _ (here : Entries) (always : StandsAlways here) where
     ascends_back t no_values k h = refl
     ascends_back t (one_value w no_values) k h = refl
     ascends_back t (one_value v (one_value w ws)) k h =
-        let c : is_before (order (carry enums s t v) (carry enums s t w)) ≡ true = first_so (is_before (order (carry enums s t v) (carry enums s t w))) (script.ascends_from (carry enums s t w) (carry_values enums s t ws)) h in
-        both_true (sym (ap is_before (keeps enums s good t v w k.0 k.1.0) ∙ before_compared (value_cmp v w)) ∙ c)
-        (ascends_back t (one_value w ws) k.1 (second_so (is_before (order (carry enums s t v) (carry enums s t w))) (script.ascends_from (carry enums s t w) (carry_values enums s t ws)) h))
+        let c : is_lt (order (carry enums s t v) (carry enums s t w)) ≡ true = first_so (is_lt (order (carry enums s t v) (carry enums s t w))) (script.ascends_from (carry enums s t w) (carry_values enums s t ws)) h in
+        both_true (sym (ap is_lt (keeps enums s good t v w k.0 k.1.0)) ∙ c)
+        (ascends_back t (one_value w ws) k.1 (second_so (is_lt (order (carry enums s t v) (carry enums s t w))) (script.ascends_from (carry enums s t w) (carry_values enums s t ws)) h))
 
     not_text : (n : List ℕ) (cs : Constructors) (b : Bool) → IsNamed here n cs → (bytes_eq n (codes "String") && b) ≡ true → ⊥
     not_text n cs b d h = let z : true ≡ false = sym (first_so (bytes_eq n (codes "String")) b h) ∙ d.not_string in cc
