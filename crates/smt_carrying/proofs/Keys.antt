@@ -12,10 +12,10 @@ use Rattle.smt_term.specs.TypeValues.{Enums}
 use Rattle.smt_semantics.specs.Script.{name}
 use Rattle.smt_semantics.specs.Sorts.{Entries}
 use Rattle.smt_lines.specs.Lines.{Tables, name_of_type}
-use Rattle.smt_lines.specs.Naming.{type_name, HasEntry, HasDistinctNames}
+use Rattle.smt_lines.specs.Naming.{type_name, HasEntry, HasDistinctNames, sort_of}
 use Rattle.smt_carrying.specs.Carry.{key_of}
 use Rattle.smt_term.proofs.TermTotal.{types_decided, functions_decided, terms_decided}
-use Rattle.smt_carrying.specs.Sorts.{script_sort, IsNamed, Constructors, IsDeclared}
+use Rattle.smt_carrying.specs.Sorts.{IsNamed, Constructors, IsDeclared}
 use Rattle.smt_carrying.specs.Interpretations.{either_type, wrapped_type, type_of_sort, HasNames}
 
 module _ {K : Type 0} (test : K → Bool) (k : K) (sound : (x : K) → test x ≡ true → k ≡ x) where
@@ -54,7 +54,7 @@ module _ (enums : Enums) (s : Tables) (here : Entries) (distinct : HasDistinctNa
       (λ i. either_type (cond (d.not_bool i) (Some BoolType) (cond (d.not_string i) (Some StringType) None)) (key_of s.types n))
       ∙ key_found (type_eq t) t (λ x e. (types_decided t x).0 e) s.types n distinct h
 
-  pub sort_shows : (t : PlainType) → IsDeclared enums s here t → HasNames s t → type_of_sort s (script_sort s t) ≡ Some t
+  pub sort_shows : (t : PlainType) → IsDeclared enums s here t → HasNames s t → type_of_sort s (sort_of s t) ≡ Some t
   sort_shows (OptionType t) d h = ap (wrapped_type (name (codes "Option"))) (sort_shows t d h)
   sort_shows (BitVecType n) d h = refl
   sort_shows BoolType d h = refl

@@ -20,12 +20,13 @@ use Rattle.smt_semantics.specs.Order as script
 use Rattle.smt_semantics.specs.Order.{order}
 use Rattle.smt_sexpr.specs.Reading.{Expression, Leaf, Node, Expressions, Nil, Cons}
 use Rattle.smt_semantics.specs.Script.{Entry, Builds, name, ◌>>=◌}
-use Rattle.smt_semantics.specs.Sorts.{Entries, string_sort, bit_sort, same_sort, listed_sorts, paired, instance, fields_at, constructor_fields, has_sort_in, have_sorts_in, all_have_sort_in}
+use Rattle.smt_semantics.specs.Sorts.{Entries, string_sort, bit_sort, same_sort, listed_sorts, paired, instance, fields_at, constructor_fields, has_sort_in, have_sorts_in, all_have_sort_in, option_sort}
+use Rattle.smt_lines.specs.Entries.{sorts_of}
 use Rattle.smt_lines.specs.Lines.{Tables, place_of, member_name}
-use Rattle.smt_lines.specs.Naming.{type_name}
+use Rattle.smt_lines.specs.Naming.{type_name, sort_of}
 use Rattle.smt_carrying.specs.Carry.{alone, signed_bits, signed_of, text_at, carry_prefix, carry_extension, carry_entity, carry, carry_values, carry_fields, back_prefix, back_extension, back_entity, back, back_values, back_fields}
 use Rattle.smt_carrying.specs.Order.{AreMembers, AreEnums}
-use Rattle.smt_carrying.specs.Sorts.{option_sort, script_sort, field_sorts, Constructors, member_constructors, entity_constructors, kind_constructors, option_constructors, at_place, IsNoDatatype, StandsAlways, IsNamed, IsDeclared, AreDeclared}
+use Rattle.smt_carrying.specs.Sorts.{Constructors, member_constructors, entity_constructors, kind_constructors, option_constructors, at_place, IsNoDatatype, StandsAlways, IsNamed, IsDeclared, AreDeclared}
 use Rattle.std.specs.Ordering.{is_lt}
 use Rattle.smt_carrying.proofs.Members.{members_found, ascends_chars, behind}
 use Rattle.smt_carrying.proofs.Ordered.{keeps, one_to_one}
@@ -361,7 +362,7 @@ module _ (here : Entries) (always : StandsAlways here) where
     not_truth n cs d h = let z : true ≡ false = sym h ∙ d.not_bool in cc
 
     mutual
-      pub onto : (ty : PlainType) (x : ScriptValue) → IsDeclared enums s here ty → has_sort_in here (script_sort s ty) x ≡ true → Onto ty x
+      pub onto : (ty : PlainType) (x : ScriptValue) → IsDeclared enums s here ty → has_sort_in here (sort_of s ty) x ≡ true → Onto ty x
       onto BoolType (TruthOf b) d h = (tt, refl)
       onto BoolType (ConstructorOf place c vs) d h = absurd (not_named here (codes "Bool") place c vs always.truths h)
       onto BoolType x d h = absurd cc
@@ -385,43 +386,43 @@ module _ (here : Entries) (always : StandsAlways here) where
       onto (ExtensionType kind) (TextOf t) d h = absurd (not_text (type_name s (ExtensionType kind)) (kind_constructors kind) (list_all (λ c. nat_le c 196607) t) d h)
       onto (ExtensionType kind) x d h = absurd cc
       onto (OptionType t) (ConstructorOf place c no_script_values) d h =
-          let o : (place ≡ 0) × (c ≡ codes "none") = none_shown (script_sort s t) place c h in
+          let o : (place ≡ 0) × (c ≡ codes "none") = none_shown (sort_of s t) place c h in
           (tt, λ i. ConstructorOf (sym o.0 i) (sym o.1 i) no_script_values)
       onto (OptionType t) (ConstructorOf place c (one_script_value y ys)) d h =
-          let o : (place ≡ 1) × (c ≡ codes "some") × (has_sort_in here (script_sort s t) y ≡ true) × (ys ≡ no_script_values) = some_shown (script_sort s t) place c y ys h in
+          let o : (place ≡ 1) × (c ≡ codes "some") × (has_sort_in here (sort_of s t) y ≡ true) × (ys ≡ no_script_values) = some_shown (sort_of s t) place c y ys h in
           let r : Onto t y = onto t y d o.2 in
           (r.0, λ i. ConstructorOf (sym o.0 i) (sym o.1 i) (one_script_value (r.1 i) (sym o.3 i)))
       onto (OptionType t) x d h = absurd cc
       onto (RecordType x) (ConstructorOf place c vs) d h =
-          let f : Fielded here ((type_name s (RecordType x), field_sorts s x) ∷ []) place c vs = named_fields here (type_name s (RecordType x)) ((type_name s (RecordType x), field_sorts s x) ∷ []) place c vs d.0 h in
-          let o : (place ≡ 0) × (c ≡ type_name s (RecordType x)) × (f.fields ≡ field_sorts s x) = the_only (type_name s (RecordType x)) (field_sorts s x) place c f.fields f.stands in
+          let f : Fielded here ((type_name s (RecordType x), sorts_of s x) ∷ []) place c vs = named_fields here (type_name s (RecordType x)) ((type_name s (RecordType x), sorts_of s x) ∷ []) place c vs d.0 h in
+          let o : (place ≡ 0) × (c ≡ type_name s (RecordType x)) × (f.fields ≡ sorts_of s x) = the_only (type_name s (RecordType x)) (sorts_of s x) place c f.fields f.stands in
           let r : AreFieldValues enums x (back_fields enums x vs) × (carry_fields enums s x (back_fields enums x vs) ≡ vs) = onto_fields x vs d.1 (subst (λ fs. have_sorts_in here fs vs ≡ true) o.2 f.typed) in
           (r.0, λ i. ConstructorOf (sym o.0 i) (sym o.1 i) (r.1 i))
-      onto (RecordType x) (TruthOf b) d h = absurd (not_truth (type_name s (RecordType x)) ((type_name s (RecordType x), field_sorts s x) ∷ []) d.0 h)
-      onto (RecordType x) (TextOf t) d h = absurd (not_text (type_name s (RecordType x)) ((type_name s (RecordType x), field_sorts s x) ∷ []) (list_all (λ c. nat_le c 196607) t) d.0 h)
+      onto (RecordType x) (TruthOf b) d h = absurd (not_truth (type_name s (RecordType x)) ((type_name s (RecordType x), sorts_of s x) ∷ []) d.0 h)
+      onto (RecordType x) (TextOf t) d h = absurd (not_text (type_name s (RecordType x)) ((type_name s (RecordType x), sorts_of s x) ∷ []) (list_all (λ c. nat_le c 196607) t) d.0 h)
       onto (RecordType x) v d h = absurd cc
       onto (SetType t) (SetOf vs) d h =
-          let r : AllByRecursion (λ v. IsValue enums t v) (list_of_values (back_values enums t vs)) × (carry_values enums s t (back_values enums t vs) ≡ vs) = onto_each t vs d (first_so (all_have_sort_in here (script_sort s t) vs) (script.ascends vs) h) in
-          ((ascends_back t (back_values enums t vs) r.0 (ap script.ascends r.1 ∙ second_so (all_have_sort_in here (script_sort s t) vs) (script.ascends vs) h), r.0), ap SetOf r.1)
-      onto (SetType t) (ConstructorOf place c vs) d h = absurd (not_grouped here (codes "Set") (script_sort s t) Nil place c vs always.sets h)
+          let r : AllByRecursion (λ v. IsValue enums t v) (list_of_values (back_values enums t vs)) × (carry_values enums s t (back_values enums t vs) ≡ vs) = onto_each t vs d (first_so (all_have_sort_in here (sort_of s t) vs) (script.ascends vs) h) in
+          ((ascends_back t (back_values enums t vs) r.0 (ap script.ascends r.1 ∙ second_so (all_have_sort_in here (sort_of s t) vs) (script.ascends vs) h), r.0), ap SetOf r.1)
+      onto (SetType t) (ConstructorOf place c vs) d h = absurd (not_grouped here (codes "Set") (sort_of s t) Nil place c vs always.sets h)
       onto (SetType t) x d h = absurd cc
 
-      onto_each : (t : PlainType) (vs : ScriptValues) → IsDeclared enums s here t → all_have_sort_in here (script_sort s t) vs ≡ true
+      onto_each : (t : PlainType) (vs : ScriptValues) → IsDeclared enums s here t → all_have_sort_in here (sort_of s t) vs ≡ true
           → AllByRecursion (λ v. IsValue enums t v) (list_of_values (back_values enums t vs)) × (carry_values enums s t (back_values enums t vs) ≡ vs)
       onto_each t no_script_values d h = (tt, refl)
       onto_each t (one_script_value y ys) d h =
-          let p : Onto t y = onto t y d (first_so (has_sort_in here (script_sort s t) y) (all_have_sort_in here (script_sort s t) ys) h) in
-          let r : AllByRecursion (λ v. IsValue enums t v) (list_of_values (back_values enums t ys)) × (carry_values enums s t (back_values enums t ys) ≡ ys) = onto_each t ys d (second_so (has_sort_in here (script_sort s t) y) (all_have_sort_in here (script_sort s t) ys) h) in
+          let p : Onto t y = onto t y d (first_so (has_sort_in here (sort_of s t) y) (all_have_sort_in here (sort_of s t) ys) h) in
+          let r : AllByRecursion (λ v. IsValue enums t v) (list_of_values (back_values enums t ys)) × (carry_values enums s t (back_values enums t ys) ≡ ys) = onto_each t ys d (second_so (has_sort_in here (sort_of s t) y) (all_have_sort_in here (sort_of s t) ys) h) in
           ((p.0, r.0), λ i. one_script_value (p.1 i) (r.1 i))
 
-      onto_fields : (x : AttributeTypes) (vs : ScriptValues) → AreDeclared enums s here x → have_sorts_in here (field_sorts s x) vs ≡ true
+      onto_fields : (x : AttributeTypes) (vs : ScriptValues) → AreDeclared enums s here x → have_sorts_in here (sorts_of s x) vs ≡ true
           → AreFieldValues enums x (back_fields enums x vs) × (carry_fields enums s x (back_fields enums x vs) ≡ vs)
       onto_fields no_attributes no_script_values d h = (tt, refl)
       onto_fields no_attributes (one_script_value y ys) d h = absurd cc
       onto_fields (attribute a t x) no_script_values d h = absurd cc
       onto_fields (attribute a t x) (one_script_value y ys) d h =
-          let p : Onto t y = onto t y d.0 (first_so (has_sort_in here (script_sort s t) y) (have_sorts_in here (field_sorts s x) ys) h) in
-          let r : AreFieldValues enums x (back_fields enums x ys) × (carry_fields enums s x (back_fields enums x ys) ≡ ys) = onto_fields x ys d.1 (second_so (has_sort_in here (script_sort s t) y) (have_sorts_in here (field_sorts s x) ys) h) in
+          let p : Onto t y = onto t y d.0 (first_so (has_sort_in here (sort_of s t) y) (have_sorts_in here (sorts_of s x) ys) h) in
+          let r : AreFieldValues enums x (back_fields enums x ys) × (carry_fields enums s x (back_fields enums x ys) ≡ ys) = onto_fields x ys d.1 (second_so (has_sort_in here (sort_of s t) y) (have_sorts_in here (sorts_of s x) ys) h) in
           ((refl, p.0, r.0), λ i. one_script_value (p.1 i) (r.1 i))
 
     pub comes_back : (ty : PlainType) (v : Value) → IsDeclared enums s here ty → IsValue enums ty v → back enums ty (carry enums s ty v) ≡ v

@@ -14,12 +14,13 @@ use Rattle.smt_sexpr.specs.Lexicon.{Name}
 use Rattle.smt_semantics.specs.Order as script
 use Rattle.smt_sexpr.specs.Reading.{Expression, Leaf, Node, Expressions, Nil, Cons}
 use Rattle.smt_semantics.specs.Script.{name, ◌>>=◌}
-use Rattle.smt_semantics.specs.Sorts.{Entries, string_sort, bit_sort, same_sort, paired, instance, instances, fields_at, constructor_fields, has_sort_in, have_sorts_in, all_have_sort_in}
+use Rattle.smt_semantics.specs.Sorts.{Entries, string_sort, bit_sort, same_sort, paired, instance, instances, fields_at, constructor_fields, has_sort_in, have_sorts_in, all_have_sort_in, option_sort}
+use Rattle.smt_lines.specs.Entries.{sorts_of}
 use Rattle.smt_lines.specs.Lines.{Tables, place_of, member_name}
-use Rattle.smt_lines.specs.Naming.{type_name}
+use Rattle.smt_lines.specs.Naming.{type_name, sort_of}
 use Rattle.smt_carrying.specs.Carry.{alone, signed_bits, carry_prefix, carry_extension, carry_entity, carry, carry_values, carry_fields}
 use Rattle.smt_carrying.specs.Order.{AreEnums}
-use Rattle.smt_carrying.specs.Sorts.{option_sort, script_sort, field_sorts, Constructors, member_constructors, entity_constructors, kind_constructors, option_constructors, at_place, IsDatatype, StandsAlways, IsNamed, IsDeclared, AreDeclared}
+use Rattle.smt_carrying.specs.Sorts.{Constructors, member_constructors, entity_constructors, kind_constructors, option_constructors, at_place, IsDatatype, StandsAlways, IsNamed, IsDeclared, AreDeclared}
 use Rattle.smt_carrying.proofs.Ordered.{stays_sorted}
 use Rattle.smt_term.proofs.ValueOrder.{bytes_itself}
 use Rattle.std.proofs.lemmas.Slice.Eq.{bytes_eq-Decides}
@@ -149,7 +150,7 @@ module _ (here : Entries) where
 
     module _ (enums : Enums) (s : Tables) (good : AreEnums enums) where
       mutual
-        pub sorted_value : (ty : PlainType) (v : Value) → IsDeclared enums s here ty → IsValue enums ty v → has_sort_in here (script_sort s ty) (carry enums s ty v) ≡ true
+        pub sorted_value : (ty : PlainType) (v : Value) → IsDeclared enums s here ty → IsValue enums ty v → has_sort_in here (sort_of s ty) (carry enums s ty v) ≡ true
         sorted_value BoolType (BoolValue b) d h = refl
         sorted_value BoolType v d h = absurd h
         sorted_value (BitVecType n) (BitVecValue m a) d h = subst (λ x. has_sort_in here (bit_sort n) (BitsOf x a) ≡ true) (sym h.0) (width_itself n a (bits_from n a d.0 d.1 h.1))
@@ -162,21 +163,21 @@ module _ (here : Entries) where
         sorted_value (EntityType e) v d h = absurd h
         sorted_value (ExtensionType kind) (ExtensionValue x) d h = extension_sorted kind (type_name s (ExtensionType kind)) x d h
         sorted_value (ExtensionType kind) v d h = absurd h
-        sorted_value (OptionType t) NoneValue d h = none_sorted (script_sort s t)
-        sorted_value (OptionType t) (SomeValue v) d h = some_sorted (script_sort s t) (carry enums s t v) (sorted_value t v d h)
+        sorted_value (OptionType t) NoneValue d h = none_sorted (sort_of s t)
+        sorted_value (OptionType t) (SomeValue v) d h = some_sorted (sort_of s t) (carry enums s t v) (sorted_value t v d h)
         sorted_value (OptionType t) v d h = absurd h
         sorted_value (RecordType x) (RecordValue fs) d h =
-            built_named (type_name s (RecordType x)) ((type_name s (RecordType x), field_sorts s x) ∷ []) 0 (type_name s (RecordType x)) (field_sorts s x) (carry_fields enums s x fs) d.0 refl (sorted_fields x fs d.1 h)
+            built_named (type_name s (RecordType x)) ((type_name s (RecordType x), sorts_of s x) ∷ []) 0 (type_name s (RecordType x)) (sorts_of s x) (carry_fields enums s x fs) d.0 refl (sorted_fields x fs d.1 h)
         sorted_value (RecordType x) v d h = absurd h
-        sorted_value (SetType t) (SetValue vs) d h = and_from (all_have_sort_in here (script_sort s t) (carry_values enums s t vs)) (script.ascends (carry_values enums s t vs)) (sorted_each t vs d h.1) (stays_sorted enums s good t vs h.0 h.1)
+        sorted_value (SetType t) (SetValue vs) d h = and_from (all_have_sort_in here (sort_of s t) (carry_values enums s t vs)) (script.ascends (carry_values enums s t vs)) (sorted_each t vs d h.1) (stays_sorted enums s good t vs h.0 h.1)
         sorted_value (SetType t) v d h = absurd h
 
-        sorted_each : (t : PlainType) (vs : Values) → IsDeclared enums s here t → AllByRecursion (λ v. IsValue enums t v) (list_of_values vs) → all_have_sort_in here (script_sort s t) (carry_values enums s t vs) ≡ true
+        sorted_each : (t : PlainType) (vs : Values) → IsDeclared enums s here t → AllByRecursion (λ v. IsValue enums t v) (list_of_values vs) → all_have_sort_in here (sort_of s t) (carry_values enums s t vs) ≡ true
         sorted_each t no_values d h = refl
-        sorted_each t (one_value v vs) d h = and_from (has_sort_in here (script_sort s t) (carry enums s t v)) (all_have_sort_in here (script_sort s t) (carry_values enums s t vs)) (sorted_value t v d h.0) (sorted_each t vs d h.1)
+        sorted_each t (one_value v vs) d h = and_from (has_sort_in here (sort_of s t) (carry enums s t v)) (all_have_sort_in here (sort_of s t) (carry_values enums s t vs)) (sorted_value t v d h.0) (sorted_each t vs d h.1)
 
-        sorted_fields : (x : AttributeTypes) (fs : FieldValues) → AreDeclared enums s here x → AreFieldValues enums x fs → have_sorts_in here (field_sorts s x) (carry_fields enums s x fs) ≡ true
+        sorted_fields : (x : AttributeTypes) (fs : FieldValues) → AreDeclared enums s here x → AreFieldValues enums x fs → have_sorts_in here (sorts_of s x) (carry_fields enums s x fs) ≡ true
         sorted_fields no_attributes no_field_values d h = refl
         sorted_fields no_attributes fs d h = absurd h
-        sorted_fields (attribute a t x) (one_field_value b v fs) d h = and_from (has_sort_in here (script_sort s t) (carry enums s t v)) (have_sorts_in here (field_sorts s x) (carry_fields enums s x fs)) (sorted_value t v d.0 h.1) (sorted_fields x fs d.1 h.2)
+        sorted_fields (attribute a t x) (one_field_value b v fs) d h = and_from (has_sort_in here (sort_of s t) (carry enums s t v)) (have_sorts_in here (sorts_of s x) (carry_fields enums s x fs)) (sorted_value t v d.0 h.1) (sorted_fields x fs d.1 h.2)
         sorted_fields (attribute a t x) fs d h = absurd h

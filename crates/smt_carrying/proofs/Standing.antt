@@ -5,26 +5,15 @@ use Rattle.std.specs.List.{AllByRecursion}
 use Rattle.std.proofs.lemmas.Str.{IsUtf8-from_ascii}
 use Rattle.std.proofs.Common.{rules}
 use Rattle.std.proofs.lemmas.Slice.Eq.{bytes_eq-Decides}
-use Rattle.smt_term.specs.Plain.{OptionType, BitVecType, BoolType, EntityType, ExtensionType, StringType, RecordType, SetType}
 use Rattle.smt_sexpr.specs.Reading.{Expression}
 use Rattle.smt_semantics.specs.Script.{Constructor, Entry, Builds, Selects, look_up, names_of, names_below}
 use Rattle.smt_semantics.specs.Meanings.{selectors_named, constructors_named}
 use Rattle.smt_semantics.proofs.Grown.{datatypes_declare}
 use Rattle.smt_term.proofs.Soundness.{all-front, all-back}
-use Rattle.smt_semantics.specs.Sorts.{Entries, set_sort}
+use Rattle.smt_semantics.specs.Sorts.{Entries}
 use Rattle.smt_semantics.specs.Growth.{Declares}
-use Rattle.smt_carrying.specs.Sorts.{Constructors, option_sort, at_place, IsNoDatatype}
-use Rattle.smt_carrying.specs.Standing.{shown, BuildsRightly, option_declared, color_declared, color_state, BuildsOther, SortsAgree, DatatypesStand, NewDatatypesStand, ColorsStand}
-
-pub sorts_agree : SortsAgree
-sorts_agree s (OptionType t) = ap option_sort (sorts_agree s t)
-sorts_agree s (BitVecType n) = refl
-sorts_agree s BoolType = refl
-sorts_agree s (EntityType e) = refl
-sorts_agree s (ExtensionType k) = refl
-sorts_agree s StringType = refl
-sorts_agree s (RecordType x) = refl
-sorts_agree s (SetType t) = ap set_sort (sorts_agree s t)
+use Rattle.smt_carrying.specs.Sorts.{Constructors, at_place, IsNoDatatype}
+use Rattle.smt_carrying.specs.Standing.{shown, BuildsRightly, option_declared, color_declared, color_state, BuildsOther, DatatypesStand, NewDatatypesStand, ColorsStand}
 
 -- what holds of each entry holds of the one that a name has
 pub of_entry : (P : List ℕ → Entry → Type 0) (names : List (List ℕ × Entry)) → AllByRecursion (λ p. P p.0 p.1) names → (c : List ℕ) (x : Entry) → look_up c names ≡ Some x → P c x

@@ -1,20 +1,15 @@
 -- That what carrying asks of a script can be met, and is met by what its declarations leave.
 use Rattle.std.specs.Prelude.{◌≡◌, ℕ, true, codes, map, length, List, [], ◌∷◌, Some, unwrap_or, ⊤}
 use Rattle.std.specs.List.{AllByRecursion}
-use Rattle.smt_term.specs.Plain.{PlainType, OptionType, EntityType}
+use Rattle.smt_term.specs.Plain.{OptionType, EntityType}
 use Rattle.smt_term.specs.TypeValues.{Enums}
 use Rattle.smt_semantics.specs.Script.{Constructor, DeclareDatatype, Entry, Builds, State, start, run, name, look_up, names_of, with_sort}
 use Rattle.smt_semantics.specs.Meanings.{constructors_named, with_names, names_in, are_new}
 use Rattle.smt_semantics.specs.Sorts.{entries}
 use Rattle.smt_semantics.specs.Growth.{Declares}
 use Rattle.smt_lines.specs.Lines.{Tables}
-use Rattle.smt_lines.specs.Naming.{sort_of}
 use Rattle.smt_carrying.specs.Order.{AreEnums}
-use Rattle.smt_carrying.specs.Sorts.{Constructors, script_sort, at_place, IsDatatype, StandsAlways, IsDeclared}
-
--- The sort that is written for a type is the sort that its values have.
-abbrev pub SortsAgree : Type 0
-SortsAgree = (s : Tables) (t : PlainType) → sort_of s t ≡ script_sort s t
+use Rattle.smt_carrying.specs.Sorts.{Constructors, at_place, IsDatatype, StandsAlways, IsDeclared}
 
 -- ---- datatypes from declarations
 

@@ -19,7 +19,7 @@ use Rattle.smt_term.proofs.Utf8Order.{utf8_order}
 use Rattle.smt_semantics.specs.ScriptValues.{ScriptValue, TextOf, ConstructorOf, SetOf, ScriptValues, no_script_values, one_script_value}
 use Rattle.smt_sexpr.specs.Lexicon.{Text}
 use Rattle.smt_sexpr.specs.Reading.{Expression, Leaf}
-use Rattle.smt_semantics.specs.Script.{State, Builds, Defined, Constant, name, group, pattern, ◌>>=◌}
+use Rattle.smt_semantics.specs.Script.{State, Builds, Defined, Constant, name, group, ◌>>=◌}
 use Rattle.smt_semantics.specs.Sorts.{entries, string_sort, each_there}
 use Rattle.smt_semantics.specs.Value.{ScriptInterpretation, expression_value, script_values, inserted}
 use Rattle.smt_semantics.specs.Meanings.{argument_values, is_own}
@@ -29,7 +29,6 @@ use Rattle.smt_lines.specs.Lines.{Tables, member_name, place_of, name_of_term, n
 use Rattle.smt_lines.specs.Naming.{sort_of, type_name}
 use Rattle.smt_lines.specs.Entries.{HasSort, HaveTexts, HaveFieldTexts, HasFunction, text_of, given, texts_of, texts_of_fields, sorts_of, head_of, term_lines, application_lines, entity_literal_lines}
 use Rattle.smt_lines.specs.Fit.{EachLine, LineStands, HasRecord}
-use Rattle.smt_lines.proofs.Bodies.{pattern_is}
 use Rattle.smt_lines.proofs.Declared.{terms_are_declared, types_are_declared}
 use Rattle.smt_carrying.specs.Carry.{carry, carry_entity, carry_fields}
 use Rattle.smt_carrying.specs.Interpretations.{carry_constant}
@@ -120,7 +119,7 @@ module _ (enums : Enums) (s : Tables) (state : State) (I : Interpretation) (x : 
   applied (ZeroExtendOp n) (one_term t (one_term u ts)) type o k h f r q a = absurd (none_is type k.1)
   applied (StringLikeOp p) no_terms type o k h f r q a = absurd (none_is type k.1)
   applied (StringLikeOp p) (one_term t no_terms) type o k h f r q a =
-      matched enums s state I x p t type (ap pattern (pattern_is p) ∙ (patterns_write p k.3.1).1) k.1 k.0.1 a.0
+      matched enums s state I x p t type (patterns_write p k.3.1).1 k.1 k.0.1 a.0
   applied (StringLikeOp p) (one_term t (one_term u ts)) type o k h f r q a = absurd (none_is type k.1)
   applied (UufOp fn) no_terms type o k h f r q a = absurd (none_is type k.1)
   applied (UufOp fn) (one_term t no_terms) type o k h f r q a = function enums s state I x fn t type k.1 k.2.keys f k.0.1 a.0

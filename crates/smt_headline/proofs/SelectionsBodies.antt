@@ -12,7 +12,7 @@ use Rattle.smt_term.specs.TypeValues.{Enums, members_of}
 use Rattle.smt_sexpr.specs.Lexicon.{Text}
 use Rattle.smt_sexpr.specs.Reading.{Expression, Leaf}
 use Rattle.smt_semantics.specs.Script.{Entry, Defined, Selects, Shape, Applied, State, name, group, exprs, is_in, built_in_names, shape, is_stated, shape_is_known, each_stated, look_up, ◌>>=◌}
-use Rattle.smt_semantics.specs.Sorts.{Entries, entries, bool_sort, entry_sort, named_sort, sort_in}
+use Rattle.smt_semantics.specs.Sorts.{Entries, entries, bool_sort, entry_sort, named_sort, sort_in, option_sort}
 use Rattle.smt_semantics.specs.Value.{Selection, selection, selection_of, shape_selection, selections}
 use Rattle.smt_lines.specs.Lines.{Tables, name_of_term, name_of_type, kind_constructors, bits, extension_op_head, extension_body, operands, none_body, set_body, record_body, Manner, AsItStands, AsLeast, AsFalse, manner}
 use Rattle.smt_lines.specs.Line.{DeclareDatatype}
@@ -22,8 +22,6 @@ use Rattle.smt_lines.specs.Fit.{Fit, EachLine, LineStands}
 use Rattle.smt_lines.proofs.Declared.{terms_are_declared, types_are_declared}
 use Rattle.smt_carrying.specs.Interpretations.{ip_type, is_range_selector}
 use Rattle.smt_carrying.specs.Operators.{selector_name}
-use Rattle.smt_carrying.specs.Sorts.{option_sort, script_sort}
-use Rattle.smt_carrying.proofs.Standing.{sorts_agree}
 use Rattle.smt_headline.proofs.Types.{there}
 use Rattle.smt_headline.proofs.SelectionsHeads.{option_entry, option_selection, range_entry, range_selection, op_selections, own_selections, AreTypesCounted, AreFunctionsCounted, type_apart, plain_application, plain_least, least_selects}
 use Rattle.smt_headline.proofs.SelectionsOrigins.{HasDefinition}
@@ -130,7 +128,7 @@ module _ (enums : Enums) (s : Tables) (state : State) (fit : Fit enums s state) 
         ∙ cond-false (bytes_eq n (codes "false")) (Some bool_sort) (look_up n older >>= λ y. entry_sort y []) q.0
         ∙ ap (λ (o : Option Entry). o >>= λ y. entry_sort y []) e
 
-    argument_sort : (t : PlainTerm) → is_inner (type_of t) ≡ true → IsSome (text_of s t) → (sorts : List ℕ → ℕ → Bool) → is_stated sorts (is_known older) (given (text_of s t)) ≡ true → sort_in (among older) (given (text_of s t)) ≡ Some (script_sort s (type_of t))
+    argument_sort : (t : PlainTerm) → is_inner (type_of t) ≡ true → IsSome (text_of s t) → (sorts : List ℕ → ℕ → Bool) → is_stated sorts (is_known older) (given (text_of s t)) ≡ true → sort_in (among older) (given (text_of s t)) ≡ Some (sort_of s (type_of t))
     argument_sort t h k sorts known =
         let p = has_name s t h k in
         let n : List ℕ = p.0 in
@@ -138,15 +136,15 @@ module _ (enums : Enums) (s : Tables) (state : State) (fit : Fit enums s state) 
         let x = entry_sorted t h n d.0 in
         let here : is_known older n ≡ true = subst (λ o. is_stated sorts (is_known older) (given o) ≡ true) p.2 known in
         let apart = free n x.0 x.1 in
-        ap (λ o. sort_in (among older) (given o)) p.2 ∙ sort_found n x.0 apart (found n x.0 apart x.1 here) ∙ x.2 ∙ ap (λ (e : Expression). Some e) (sorts_agree s (type_of t))
+        ap (λ o. sort_in (among older) (given o)) p.2 ∙ sort_found n x.0 apart (found n x.0 apart x.1 here) ∙ x.2
 
     -- ---- the two forms of selectors
 
     option_selects : (t : PlainTerm) (type : PlainType) → type_of t ≡ OptionType type → IsSome (text_of s t) → Known older (group (name (codes "val") ∷ given (text_of s t) ∷ [])) → selections (among older) (group (name (codes "val") ∷ given (text_of s t) ∷ [])) ≡ option_selection s type ∷ []
     option_selects t type e h known =
         let k = head_known older (codes "val") (given (text_of s t)) refl known.0 known.1 in
-        let sorted = argument_sort t (ap is_inner e) h known.0 k.1 ∙ ap (λ u. Some (script_sort s u)) e in
-        selects_one (among older) (codes "val") (given (text_of s t)) (option_sort (script_sort s type)) option_entry refl sorted
+        let sorted = argument_sort t (ap is_inner e) h known.0 k.1 ∙ ap (λ u. Some (sort_of s u)) e in
+        selects_one (among older) (codes "val") (given (text_of s t)) (option_sort (sort_of s type)) option_entry refl sorted
         (found (codes "val") option_entry refl fit.option_stands.1.2.1.0 k.0) (plain_selects (among older) inside (given (text_of s t)) (plain_text s t))
 
     -- the selectors of IP ranges are declared
@@ -161,13 +159,13 @@ module _ (enums : Enums) (s : Tables) (state : State) (fit : Fit enums s state) 
         by o r d = absurd (false≢true r)
 
     one_range : (o : ExtensionOp) → is_range_selector o ≡ true → (t : PlainTerm) → type_of t ≡ ip_type → IsSome (text_of s t) → shape (name (selector_name o)) (exprs (given (text_of s t) ∷ [])) ≡ Applied (selector_name o) → is_in (selector_name o) built_in_names ≡ false
-        → Known older (group (name (selector_name o) ∷ given (text_of s t) ∷ [])) → selections (among older) (group (name (selector_name o) ∷ given (text_of s t) ∷ [])) ≡ selection_of (selector_name o) (script_sort s ip_type) (Some (range_entry s o)) ++ []
+        → Known older (group (name (selector_name o) ∷ given (text_of s t) ∷ [])) → selections (among older) (group (name (selector_name o) ∷ given (text_of s t) ∷ [])) ≡ selection_of (selector_name o) (sort_of s ip_type) (Some (range_entry s o)) ++ []
     one_range o r t e h a b known =
         let k = head_known older (selector_name o) (given (text_of s t)) a known.0 known.1 in
-        let sorted = argument_sort t (ap is_inner e) h known.0 k.1 ∙ ap (λ u. Some (script_sort s u)) e in
+        let sorted = argument_sort t (ap is_inner e) h known.0 k.1 ∙ ap (λ u. Some (sort_of s u)) e in
         let p = has_name s t (ap is_inner e) h in
         let has : HasSort s ip_type = subst (HasSort s) e (terms_are_declared enums s state t p.0 fit p.1).2 in
-        selects_one (among older) (selector_name o) (given (text_of s t)) (script_sort s ip_type) (range_entry s o) a sorted
+        selects_one (among older) (selector_name o) (given (text_of s t)) (sort_of s ip_type) (range_entry s o) a sorted
         (found (selector_name o) (range_entry s o) b (range_there o r has) k.0) (plain_selects (among older) inside (given (text_of s t)) (plain_text s t))
 
     range_selects : (o : ExtensionOp) → is_range_selector o ≡ true → (t : PlainTerm) → type_of t ≡ (extension_signature o).0 → IsSome (text_of s t) → Known older (group (extension_op_head o ∷ given (text_of s t) ∷ [])) → selections (among older) (group (extension_op_head o ∷ given (text_of s t) ∷ [])) ≡ range_selection s o ∷ []

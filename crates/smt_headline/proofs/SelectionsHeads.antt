@@ -10,13 +10,13 @@ use Rattle.smt_term.proofs.TermTotal.{types_decided, functions_decided}
 use Rattle.smt_sexpr.specs.Reading.{Expression}
 use Rattle.smt_semantics.specs.Script.{Entry, Selects, name, group, exprs, is_in}
 use Rattle.smt_semantics.specs.Value.{Selection}
+use Rattle.smt_semantics.specs.Sorts.{option_sort}
 use Rattle.smt_lines.specs.Lines.{Tables, name_of_type, name_of_function, text_of_name, attribute_name, attribute_place, bits, operands, AsLeast, manner, first_type}
-use Rattle.smt_lines.specs.Naming.{type_name}
+use Rattle.smt_lines.specs.Naming.{type_name, sort_of}
 use Rattle.smt_lines.specs.Entries.{EachEntry, texts_of, head_of, stated_type_name, stated_function_name}
 use Rattle.smt_lines.proofs.Known.{each_found}
 use Rattle.smt_carrying.specs.Interpretations.{ip_type, is_range_selector}
 use Rattle.smt_carrying.specs.Operators.{selector_name, selector_constructor, selector_place}
-use Rattle.smt_carrying.specs.Sorts.{option_sort, script_sort}
 use Rattle.smt_headline.proofs.SelectionsPlain.{open_selectors, is_plain_head, is_plain, each_plain, plain_append, plain_texts, plain_with_pattern}
 
 -- ---- the selections of terms
@@ -25,13 +25,13 @@ abbrev pub option_entry : Entry
 option_entry = Selects (codes "Option") (codes "X" ∷ []) (codes "some") 0 (name (codes "X"))
 
 abbrev pub option_selection : Tables → PlainType → Selection
-option_selection s type = record { selector = codes "val"; entry = option_entry; sort = option_sort (script_sort s type) }
+option_selection s type = record { selector = codes "val"; entry = option_entry; sort = option_sort (sort_of s type) }
 
 abbrev pub range_entry : Tables → ExtensionOp → Entry
-range_entry s o = Selects (type_name s ip_type) [] (selector_constructor o) (selector_place o) (script_sort s (extension_signature o).1)
+range_entry s o = Selects (type_name s ip_type) [] (selector_constructor o) (selector_place o) (sort_of s (extension_signature o).1)
 
 abbrev pub range_selection : Tables → ExtensionOp → Selection
-range_selection s o = record { selector = selector_name o; entry = range_entry s o; sort = script_sort s ip_type }
+range_selection s o = record { selector = selector_name o; entry = range_entry s o; sort = sort_of s ip_type }
 
 abbrev pub range_selections : Tables → ExtensionOp → Bool → List Selection
 range_selections s o true = range_selection s o ∷ []

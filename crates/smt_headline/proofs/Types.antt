@@ -21,9 +21,9 @@ use Rattle.smt_lines.specs.Fine.{IsFineType, AreFineTypes}
 use Rattle.smt_lines.specs.Fit.{Fit, EachLine, LineStands, BuildsOnly, constructor_at, declares_sort, is_old_sort_in}
 use Rattle.smt_lines.proofs.Datatype.{undeclared}
 use Rattle.smt_lines.proofs.Declared.{types_are_declared}
-use Rattle.smt_carrying.specs.Sorts.{Constructors, field_sorts, member_constructors, entity_constructors, kind_constructors, at_place, IsDatatype, IsNoDatatype, IsNamed, IsDeclared, AreDeclared}
+use Rattle.smt_carrying.specs.Sorts.{Constructors, member_constructors, entity_constructors, kind_constructors, at_place, IsDatatype, IsNoDatatype, IsNamed, IsDeclared, AreDeclared}
 use Rattle.smt_carrying.specs.Standing.{shown}
-use Rattle.smt_carrying.proofs.Standing.{sorts_agree}
+use Rattle.smt_semantics.specs.Sorts.{string_sort}
 use Rattle.smt_headline.specs.Standing.{AlwaysStands, TypesStand}
 
 -- ---- a datatype that is declared
@@ -103,12 +103,8 @@ module _ (enums : Enums) (s : Tables) (state : State) (fit : Fit enums s state) 
   selectors_shown n place [] = refl
   selectors_shown n place (e ∷ es) = ap (λ (l : List Expression). e ∷ l) (selectors_shown n (suc place) es)
 
-  fields_agree : (x : AttributeTypes) → sorts_of s x ≡ field_sorts s x
-  fields_agree no_attributes = refl
-  fields_agree (attribute a t x) = let p = sorts_agree s t in let q = fields_agree x in λ i. p i ∷ q i
-
   entity_stands : (o : Option (List (List ℕ))) (type n : List ℕ) → EachLine (LineStands state) (entity_lines o type n) → IsNamed (entries state) n (entity_constructors o n)
-  entity_stands None type n h = named n (Fielded n ((lines.id_name n, name (codes "String")) ∷ []) ∷ []) (entity_constructors None n) h.1.0 refl
+  entity_stands None type n h = named n (Fielded n ((lines.id_name n, string_sort) ∷ []) ∷ []) (entity_constructors None n) h.1.0 refl
   entity_stands (Some ms) type n h = named n (lines.member_constructors n 0 ms) (entity_constructors (Some ms) n) h.1.0 (members_shown n 0 ms)
 
   pub there : (t : PlainType) (o : Option (List ℕ)) → name_of_type s t ≡ o → IsSome o → name_of_type s t ≡ Some (type_name s t)
@@ -134,8 +130,8 @@ module _ (enums : Enums) (s : Tables) (state : State) (fit : Fit enums s state) 
         let n = type_name s (RecordType x) in
         let e = there (RecordType x) (name_of_type s (RecordType x)) refl h in
         let p = types_are_declared enums s state (RecordType x) n fit e in
-        let q = selectors_shown n 0 (sorts_of s x) ∙ fields_agree x in
-        (named n (Fielded n (attribute_selectors n 0 (sorts_of s x)) ∷ []) ((n, field_sorts s x) ∷ []) p.0.1.0 (λ i. (n, q i) ∷ []), types_stand_in x f p.1)
+        let q = selectors_shown n 0 (sorts_of s x) in
+        (named n (Fielded n (attribute_selectors n 0 (sorts_of s x)) ∷ []) ((n, sorts_of s x) ∷ []) p.0.1.0 (λ i. (n, q i) ∷ []), types_stand_in x f p.1)
     type_stands (SetType t) f h = type_stands t f h
 
     pub types_stand_in : (x : AttributeTypes) → AreFineTypes x → HaveSorts s x → AreDeclared enums s (entries state) x

@@ -12,7 +12,8 @@ use Rattle.smt_semantics.specs.Script.{State, name, group, exprs, is_in, built_i
 use Rattle.smt_semantics.specs.Quoting.{part_expr, pattern_expr, is_written_part}
 use Rattle.smt_semantics.specs.Written.{is_name}
 use Rattle.smt_semantics.proofs.Quotes.{patterns_write}
-use Rattle.smt_lines.specs.Lines.{Tables, name_of_type, name_of_function, text_of_name, attribute_name, attribute_place, place_of, bits, bits_64, bits_sort, option_sort, prefix_body, extension_body, pattern_part, pattern_body, encode_head, encode_function, operands, AsItStands, manner, none_body, empty_set, set_body, record_body, first_type}
+use Rattle.smt_semantics.specs.Sorts.{bit_sort, option_sort}
+use Rattle.smt_lines.specs.Lines.{Tables, name_of_type, name_of_function, text_of_name, attribute_name, attribute_place, place_of, bits, bits_64, prefix_body, extension_body, encode_head, encode_function, operands, AsItStands, manner, none_body, empty_set, set_body, record_body, first_type}
 use Rattle.smt_lines.specs.Naming.{sort_of}
 use Rattle.smt_lines.specs.Entries.{HasSort, named_text}
 use Rattle.smt_lines.proofs.Making.{functions_are_made}
@@ -102,19 +103,6 @@ record_get_good enums s state fit a x t e h l es g =
 
 -- ---- patterns
 
-part_is : (p : PatternPart) → pattern_part p ≡ part_expr p
-part_is (Character c) = refl
-part_is Wildcard = refl
-
-parts_are : (ps : List PatternPart) → map pattern_part ps ≡ map part_expr ps
-parts_are [] = refl
-parts_are (p ∷ ps) = let a = part_is p in let b = parts_are ps in λ i. a i ∷ b i
-
-pub pattern_is : (ps : List PatternPart) → pattern_body ps ≡ pattern_expr ps
-pattern_is [] = refl
-pattern_is (p ∷ []) = part_is p
-pattern_is (p ∷ q ∷ ps) = let a = parts_are (p ∷ q ∷ ps) in λ i. group (name (codes "re.++") ∷ a i)
-
 part_written : (p : PatternPart) → is_written_part p ≡ true → is_written (part_expr p) ≡ true
 part_written (Character c) h = rw h refl
 part_written Wildcard h = refl
@@ -128,9 +116,8 @@ pattern_written [] h = refl
 pattern_written (p ∷ []) h = part_written p (and_parts (is_written_part p) true h).0
 pattern_written (p ∷ q ∷ ps) h = parts_written (p ∷ q ∷ ps) h
 
-like_good : (state : State) (e : Expression) (ps : List PatternPart) → list_all is_written_part ps ≡ true → GoodText state e → GoodText state (group (name (codes "str.in_re") ∷ e ∷ pattern_body ps ∷ []))
+like_good : (state : State) (e : Expression) (ps : List PatternPart) → list_all is_written_part ps ≡ true → GoodText state e → GoodText state (group (name (codes "str.in_re") ∷ e ∷ pattern_expr ps ∷ []))
 like_good state e ps h g =
-    subst (λ r. GoodText state (group (name (codes "str.in_re") ∷ e ∷ r ∷ []))) (sym (pattern_is ps))
     (rw (patterns_write ps h).1 g.0, and_from (is_written e) _ g.1 (and_from (is_written (pattern_expr ps)) true (pattern_written ps h) refl))
 
 -- ---- applications
@@ -207,11 +194,11 @@ bits_64_good state (negsuc n) = bits_good state 64 (2 ^ 64 - suc n)
 
 prefix_4_good : (enums : Enums) (s : Tables) (state : State) → Fit enums s state → (p : Option ℕ) → GoodText state (prefix_body 5 p)
 prefix_4_good enums s state fit (Some p) = some_good enums s state fit (bits 5 p) (bits_good state 5 p)
-prefix_4_good enums s state fit None = none_good enums s state fit (option_sort (bits_sort 5)) (sort_good enums s state fit (OptionType (BitVecType 5)) refl tt)
+prefix_4_good enums s state fit None = none_good enums s state fit (option_sort (bit_sort 5)) (sort_good enums s state fit (OptionType (BitVecType 5)) refl tt)
 
 prefix_6_good : (enums : Enums) (s : Tables) (state : State) → Fit enums s state → (p : Option ℕ) → GoodText state (prefix_body 7 p)
 prefix_6_good enums s state fit (Some p) = some_good enums s state fit (bits 7 p) (bits_good state 7 p)
-prefix_6_good enums s state fit None = none_good enums s state fit (option_sort (bits_sort 7)) (sort_good enums s state fit (OptionType (BitVecType 7)) refl tt)
+prefix_6_good enums s state fit None = none_good enums s state fit (option_sort (bit_sort 7)) (sort_good enums s state fit (OptionType (BitVecType 7)) refl tt)
 
 pub extension_good : (enums : Enums) (s : Tables) (state : State) → Fit enums s state → (x : PlainExtension) → HasSort s (ExtensionType (kind_of x)) → GoodText state (extension_body x)
 extension_good enums s state fit (DecimalOf x) h = applied_good enums s state fit (codes "Decimal") (bits_64 x ∷ []) (kind_declares enums s state fit DecimalKind h (codes "Decimal") refl) refl (alone state (bits_64 x) (bits_64_good state x))

@@ -8,7 +8,8 @@ use Rattle.smt_term.specs.TermOrder.{term_eq}
 use Rattle.smt_term.proofs.TermTotal.{types_decided, functions_decided, terms_decided}
 use Rattle.smt_sexpr.specs.Reading.{Expression}
 use Rattle.smt_semantics.specs.Script.{name}
-use Rattle.smt_lines.specs.Lines.{Tables, Written, unless_named, name_of_term, name_of_type, name_of_function, text_of_name, option_sort, set_sort, encode_type, encode_attributes, encode_function, encode_literal, encode_head, encode_term, encode_terms, encode_fields, define_application, define_entity, Manner, AsItStands, AsLeast, AsFalse, manner}
+use Rattle.smt_semantics.specs.Sorts.{option_sort, set_sort}
+use Rattle.smt_lines.specs.Lines.{Tables, Written, unless_named, name_of_term, name_of_type, name_of_function, text_of_name, encode_type, encode_attributes, encode_function, encode_literal, encode_head, encode_term, encode_terms, encode_fields, define_application, define_entity, Manner, AsItStands, AsLeast, AsFalse, manner}
 use Rattle.smt_lines.specs.Naming.{type_name}
 use Rattle.smt_lines.specs.Entries.{text_of, named_text}
 use Rattle.smt_lines.specs.Made.{TypesAreMade, FunctionsAreMade, TermsAreMade}

@@ -6,7 +6,8 @@ use Rattle.smt_term.specs.Types.{type_eq}
 use Rattle.smt_term.proofs.TermTotal.{types_decided}
 use Rattle.smt_sexpr.specs.Reading.{Expression}
 use Rattle.smt_semantics.specs.Script.{name}
-use Rattle.smt_lines.specs.Lines.{Tables, Written, unless_named, name_of_term, name_of_type, text_of_name, option_sort, set_sort, encode_attributes, encode_term, encode_terms}
+use Rattle.smt_semantics.specs.Sorts.{option_sort, set_sort}
+use Rattle.smt_lines.specs.Lines.{Tables, Written, unless_named, name_of_term, name_of_type, text_of_name, encode_attributes, encode_term, encode_terms}
 use Rattle.smt_lines.specs.Entries.{named_text, given}
 use Rattle.smt_lines.specs.Made.{TermListsAreMade, TextsStay, SortsStay, SortsStand}
 use Rattle.smt_lines.proofs.Grow.{terms_grow, names_stay}

@@ -2,7 +2,7 @@
 use Rattle.std.specs.Prelude.{ℕ, suc, ◌-◌, ◌^◌, Bool, true, false, ◌||◌, if◌then◌else◌, ◌==◌, nat_lt, bytes_eq, codes, chars, ℤ, pos, negsuc, length, map, List, [], ◌∷◌, ◌++◌, Option, Some, None}
 use Rattle.std.specs.List.{flat_map, join_by}
 use Rattle.std.specs.Map.{lookup}
-use Rattle.smt_term.specs.Plain.{ExtensionKind, IpAddrKind, DecimalKind, DatetimeKind, DurationKind, PlainType, OptionType, BitVecType, BoolType, EntityType, ExtensionType, StringType, RecordType, SetType, AttributeTypes, no_attributes, attribute, PlainFunction, ExtensionOp, DatetimeOfBitVecOp, DatetimeValOp, DecimalValOp, DurationOfBitVecOp, DurationValOp, IpAddrV4Op, IpAddrV6Op, IpIsV4Op, IpPrefixV4Op, IpPrefixV6Op, PatternPart, Character, Wildcard, PlainOp, AndOp, BvaddOp, BvlshrOp, BvmulOp, BvnegOp, BvnegoOp, BvsaddoOp, BvsdivOp, BvshlOp, BvsleOp, BvsltOp, BvsmodOp, BvsmuloOp, BvsremOp, BvssuboOp, BvsubOp, BvudivOp, BvuleOp, BvultOp, BvuremOp, EqOp, ExtOp, IteOp, NotOp, OptionGetOp, OrOp, RecordGetOp, SetInterOp, SetMemberOp, SetSubsetOp, StringLikeOp, UufOp, ZeroExtendOp, PlainExtension, DecimalOf, Ipv4Of, Ipv6Of, DatetimeOf, DurationOf, PlainLiteral, BitVecLiteral, BoolLiteral, EntityLiteral, ExtensionLiteral, StringLiteral, PlainTerm, Application, NoneTerm, LiteralTerm, RecordTerm, SetTerm, SomeTerm, VariableTerm, PlainTerms, no_terms, one_term, PlainFields, no_fields, one_field, terms}
+use Rattle.smt_term.specs.Plain.{ExtensionKind, IpAddrKind, DecimalKind, DatetimeKind, DurationKind, PlainType, OptionType, BitVecType, BoolType, EntityType, ExtensionType, StringType, RecordType, SetType, AttributeTypes, no_attributes, attribute, PlainFunction, ExtensionOp, DatetimeOfBitVecOp, DatetimeValOp, DecimalValOp, DurationOfBitVecOp, DurationValOp, IpAddrV4Op, IpAddrV6Op, IpIsV4Op, IpPrefixV4Op, IpPrefixV6Op, PatternPart, PlainOp, AndOp, BvaddOp, BvlshrOp, BvmulOp, BvnegOp, BvnegoOp, BvsaddoOp, BvsdivOp, BvshlOp, BvsleOp, BvsltOp, BvsmodOp, BvsmuloOp, BvsremOp, BvssuboOp, BvsubOp, BvudivOp, BvuleOp, BvultOp, BvuremOp, EqOp, ExtOp, IteOp, NotOp, OptionGetOp, OrOp, RecordGetOp, SetInterOp, SetMemberOp, SetSubsetOp, StringLikeOp, UufOp, ZeroExtendOp, PlainExtension, DecimalOf, Ipv4Of, Ipv6Of, DatetimeOf, DurationOf, PlainLiteral, BitVecLiteral, BoolLiteral, EntityLiteral, ExtensionLiteral, StringLiteral, PlainTerm, Application, NoneTerm, LiteralTerm, RecordTerm, SetTerm, SomeTerm, VariableTerm, PlainTerms, no_terms, one_term, PlainFields, no_fields, one_field, terms}
 use Rattle.smt_term.specs.TypeValues.{Enums, members_of}
 use Rattle.smt_term.specs.Types.{type_eq, type_of, literal_type}
 use Rattle.smt_term.specs.Interpretations.{function_eq}
@@ -11,6 +11,8 @@ use Rattle.smt_term.specs.Formed.{attribute_names}
 use Rattle.smt_sexpr.specs.Reading.{Expression, Leaf}
 use Rattle.smt_sexpr.specs.Lexicon.{Number, Text}
 use Rattle.smt_semantics.specs.Script.{name, group}
+use Rattle.smt_semantics.specs.Quoting.{pattern_expr}
+use Rattle.smt_semantics.specs.Sorts.{bool_sort, string_sort, bit_sort, option_sort, set_sort}
 use Rattle.smt_lines.specs.Spelling.{escaped, numeral}
 use Rattle.smt_lines.specs.Line.{Constructor, Bare, Fielded, Line, Comment, DeclareDatatype, DeclareConst, DeclareFun, DefineFun, Assert, Push, Pop}
 
@@ -103,15 +105,6 @@ place_of text (x ∷ xs) = if bytes_eq text x then 0 else suc (place_of text xs)
 
 -- ---- sorts
 
-abbrev pub bits_sort : ℕ → Expression
-bits_sort width = group (name (codes "_") ∷ name (codes "BitVec") ∷ Leaf (Number width) ∷ [])
-
-abbrev pub option_sort : Expression → Expression
-option_sort sort = group (name (codes "Option") ∷ sort ∷ [])
-
-abbrev pub set_sort : Expression → Expression
-set_sort sort = group (name (codes "Set") ∷ sort ∷ [])
-
 -- constructors without fields, numbered from a place on
 abbrev pub member_constructors : (type : List ℕ) → ℕ → List (List ℕ) → List Constructor
 member_constructors type place [] = []
@@ -126,7 +119,7 @@ listed texts = join_by (λ x. x) (codes ", ") texts
 
 abbrev pub entity_lines : (members : Option (List (List ℕ))) → (type sort : List ℕ) → List Line
 entity_lines None type sort =
-    Comment type ∷ DeclareDatatype sort [] (Fielded sort ((id_name sort, name (codes "String")) ∷ []) ∷ []) ∷ []
+    Comment type ∷ DeclareDatatype sort [] (Fielded sort ((id_name sort, string_sort) ∷ []) ∷ []) ∷ []
 entity_lines (Some members) type sort =
     Comment (type ++ (codes "::[" ++ (listed members ++ codes "]"))) ∷ DeclareDatatype sort [] (member_constructors sort 0 members) ∷ []
 
@@ -142,11 +135,11 @@ kind_name DurationKind = codes "Duration"
 
 abbrev pub kind_constructors : ExtensionKind → List Constructor
 kind_constructors IpAddrKind =
-    Fielded (codes "V4") ((codes "addrV4", bits_sort 32) ∷ (codes "prefixV4", option_sort (bits_sort 5)) ∷ [])
-    ∷ Fielded (codes "V6") ((codes "addrV6", bits_sort 128) ∷ (codes "prefixV6", option_sort (bits_sort 7)) ∷ []) ∷ []
-kind_constructors DecimalKind = Fielded (codes "Decimal") ((codes "decimalVal", bits_sort 64) ∷ []) ∷ []
-kind_constructors DatetimeKind = Fielded (codes "Datetime") ((codes "datetimeVal", bits_sort 64) ∷ []) ∷ []
-kind_constructors DurationKind = Fielded (codes "Duration") ((codes "durationVal", bits_sort 64) ∷ []) ∷ []
+    Fielded (codes "V4") ((codes "addrV4", bit_sort 32) ∷ (codes "prefixV4", option_sort (bit_sort 5)) ∷ [])
+    ∷ Fielded (codes "V6") ((codes "addrV6", bit_sort 128) ∷ (codes "prefixV6", option_sort (bit_sort 7)) ∷ []) ∷ []
+kind_constructors DecimalKind = Fielded (codes "Decimal") ((codes "decimalVal", bit_sort 64) ∷ []) ∷ []
+kind_constructors DatetimeKind = Fielded (codes "Datetime") ((codes "datetimeVal", bit_sort 64) ∷ []) ∷ []
+kind_constructors DurationKind = Fielded (codes "Duration") ((codes "durationVal", bit_sort 64) ∷ []) ∷ []
 
 abbrev pub declare_entity : Enums → (type : List ℕ) → Tables → Written Expression
 declare_entity enums type s =
@@ -162,13 +155,13 @@ declare_record attributes sorts s =
 abbrev mutual
   pub encode_type : Enums → PlainType → Tables → Written Expression
   encode_type enums (OptionType t) s = encode_type enums t s >>= λ sort u. made_of (option_sort sort) u
-  encode_type enums (BitVecType width) s = made_of (bits_sort width) s
-  encode_type enums BoolType s = made_of (name (codes "Bool")) s
+  encode_type enums (BitVecType width) s = made_of (bit_sort width) s
+  encode_type enums BoolType s = made_of bool_sort s
   encode_type enums (EntityType type) s =
       unless_named (name_of_type s (EntityType type)) s (λ u. declare_entity enums type u)
   encode_type enums (ExtensionType kind) s =
       unless_named (name_of_type s (ExtensionType kind)) s (λ u. declare_kind kind u)
-  encode_type enums StringType s = made_of (name (codes "String")) s
+  encode_type enums StringType s = made_of string_sort s
   encode_type enums (RecordType attributes) s =
       unless_named (name_of_type s (RecordType attributes)) s
       (λ u. encode_attributes enums attributes u >>= λ sorts v. declare_record attributes sorts v)
@@ -200,7 +193,7 @@ bits_64 (negsuc n) = bits 64 (2 ^ 64 - suc n)
 
 abbrev pub prefix_body : (width : ℕ) → Option ℕ → Expression
 prefix_body width (Some p) = group (name (codes "some") ∷ bits width p ∷ [])
-prefix_body width None = group (name (codes "as") ∷ name (codes "none") ∷ option_sort (bits_sort width) ∷ [])
+prefix_body width None = group (name (codes "as") ∷ name (codes "none") ∷ option_sort (bit_sort width) ∷ [])
 
 abbrev pub extension_body : PlainExtension → Expression
 extension_body (DecimalOf x) = group (name (codes "Decimal") ∷ bits_64 x ∷ [])
@@ -239,15 +232,6 @@ encode_literal enums (ExtensionLiteral x) s =
 encode_literal enums (StringLiteral text) s = made_of (Leaf (Text (chars text))) s
 
 -- ---- operators
-
-abbrev pub pattern_part : PatternPart → Expression
-pattern_part (Character c) = group (name (codes "str.to_re") ∷ Leaf (Text (c ∷ [])) ∷ [])
-pattern_part Wildcard = group (name (codes "re.*") ∷ name (codes "re.allchar") ∷ [])
-
-abbrev pub pattern_body : List PatternPart → Expression
-pattern_body [] = group (name (codes "str.to_re") ∷ Leaf (Text []) ∷ [])
-pattern_body (p ∷ []) = pattern_part p
-pattern_body (p ∷ q ∷ ps) = group (name (codes "re.++") ∷ pattern_part p ∷ pattern_part q ∷ map pattern_part ps)
 
 abbrev pub extension_op_head : ExtensionOp → Expression
 extension_op_head DatetimeOfBitVecOp = name (codes "Datetime")
@@ -311,8 +295,8 @@ encode_head enums (ZeroExtendOp n) ts s =
 
 -- A pattern stands behind the arguments; where there are none, their empty text stands before it.
 abbrev pub with_pattern : List PatternPart → List Expression → List Expression
-with_pattern p [] = name [] ∷ pattern_body p ∷ []
-with_pattern p (e ∷ es) = e ∷ (es ++ pattern_body p ∷ [])
+with_pattern p [] = name [] ∷ pattern_expr p ∷ []
+with_pattern p (e ∷ es) = e ∷ (es ++ pattern_expr p ∷ [])
 
 abbrev pub operands : PlainOp → List Expression → List Expression
 operands (StringLikeOp p) es = with_pattern p es

@@ -42,6 +42,9 @@ bit_sort width = group (name (codes "_") ∷ name (codes "BitVec") ∷ Leaf (Num
 abbrev pub set_sort : Expression → Expression
 set_sort s = group (name (codes "Set") ∷ s ∷ [])
 
+abbrev pub option_sort : Expression → Expression
+option_sort s = group (name (codes "Option") ∷ s ∷ [])
+
 -- a datatype's sort: its name, or its name with its arguments
 abbrev pub datatype_sort : List ℕ → List Expression → Expression
 datatype_sort d [] = name d
