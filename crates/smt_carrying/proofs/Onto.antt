@@ -11,7 +11,7 @@ use Rattle.std.proofs.lemmas.Slice.Eq.{bytes_eq-Decides}
 use Rattle.smt_term.specs.Plain.{ExtensionKind, IpAddrKind, DecimalKind, DatetimeKind, DurationKind, PlainType, OptionType, BitVecType, BoolType, EntityType, ExtensionType, StringType, RecordType, SetType, AttributeTypes, no_attributes, attribute, PlainExtension, DecimalOf, DatetimeOf, DurationOf}
 use Rattle.smt_term.specs.Values.{Value, EntityValue, Values, no_values, one_value}
 use Rattle.smt_semantics.specs.ScriptValues.{ScriptValue, TruthOf, BitsOf, TextOf, ConstructorOf, SetOf, ScriptValues, no_script_values, one_script_value}
-use Rattle.smt_term.specs.TypeValues.{IsValue, AreFieldValues, IsExtension, IsId, IsLong, IsPrefix, AreCodePoints, Enums, members_of}
+use Rattle.smt_term.specs.TypeValues.{is_code_point, greatest_code_point, IsValue, AreFieldValues, IsExtension, IsId, IsLong, IsPrefix, AreCodePoints, Enums, members_of}
 use Rattle.smt_term.specs.ValueOrder.{list_of_values, text_cmp, value_cmp, ascends, is_below}
 use Rattle.smt_term.proofs.ValueOrder.{text_itself, bytes_itself}
 use Rattle.smt_bits.specs.Widths.{is_width, are_bits}
@@ -137,9 +137,9 @@ no_more : (here : Entries) (vs : ScriptValues) → have_sorts_in here [] vs ≡ 
 no_more here no_script_values h = refl
 no_more here (one_script_value v vs) h = absurd cc
 
-code_points : (s : List ℕ) → list_all (λ c. nat_le c 196607) s ≡ true → AreCodePoints s
+code_points : (s : List ℕ) → list_all is_code_point s ≡ true → AreCodePoints s
 code_points [] h = tt
-code_points (c ∷ s) h = (leb-true c 196607 (first_so (nat_le c 196607) (list_all (λ d. nat_le d 196607) s) h), code_points s (second_so (nat_le c 196607) (list_all (λ d. nat_le d 196607) s) h))
+code_points (c ∷ s) h = (leb-true c greatest_code_point (first_so (is_code_point c) (list_all is_code_point s) h), code_points s (second_so (is_code_point c) (list_all is_code_point s) h))
 
 below_width : (w a : ℕ) → are_bits w a ≡ true → a < 2 ^ w
 below_width w a h = ltb-true a (2 ^ w) (second_so (is_width w) (nat_lt a (2 ^ w)) h)
@@ -379,11 +379,11 @@ module _ (here : Entries) (always : StandsAlways here) where
           (entity_returns (members_of enums e) (type_name s (EntityType e)) place c vs e (members_found enums e good)
           (named_fields here (type_name s (EntityType e)) (entity_constructors (members_of enums e) (type_name s (EntityType e))) place c vs d h))
       onto (EntityType e) (TruthOf b) d h = absurd (not_truth (type_name s (EntityType e)) (entity_constructors (members_of enums e) (type_name s (EntityType e))) d h)
-      onto (EntityType e) (TextOf t) d h = absurd (not_text (type_name s (EntityType e)) (entity_constructors (members_of enums e) (type_name s (EntityType e))) (list_all (λ c. nat_le c 196607) t) d h)
+      onto (EntityType e) (TextOf t) d h = absurd (not_text (type_name s (EntityType e)) (entity_constructors (members_of enums e) (type_name s (EntityType e))) (list_all is_code_point t) d h)
       onto (EntityType e) x d h = absurd cc
       onto (ExtensionType kind) (ConstructorOf place c vs) d h = extension_returns kind place c vs (named_fields here (type_name s (ExtensionType kind)) (kind_constructors kind) place c vs d h)
       onto (ExtensionType kind) (TruthOf b) d h = absurd (not_truth (type_name s (ExtensionType kind)) (kind_constructors kind) d h)
-      onto (ExtensionType kind) (TextOf t) d h = absurd (not_text (type_name s (ExtensionType kind)) (kind_constructors kind) (list_all (λ c. nat_le c 196607) t) d h)
+      onto (ExtensionType kind) (TextOf t) d h = absurd (not_text (type_name s (ExtensionType kind)) (kind_constructors kind) (list_all is_code_point t) d h)
       onto (ExtensionType kind) x d h = absurd cc
       onto (OptionType t) (ConstructorOf place c no_script_values) d h =
           let o : (place ≡ 0) × (c ≡ codes "none") = none_shown (sort_of s t) place c h in
@@ -399,7 +399,7 @@ module _ (here : Entries) (always : StandsAlways here) where
           let r : AreFieldValues enums x (back_fields enums x vs) × (carry_fields enums s x (back_fields enums x vs) ≡ vs) = onto_fields x vs d.1 (subst (λ fs. have_sorts_in here fs vs ≡ true) o.2 f.typed) in
           (r.0, λ i. ConstructorOf (sym o.0 i) (sym o.1 i) (r.1 i))
       onto (RecordType x) (TruthOf b) d h = absurd (not_truth (type_name s (RecordType x)) ((type_name s (RecordType x), sorts_of s x) ∷ []) d.0 h)
-      onto (RecordType x) (TextOf t) d h = absurd (not_text (type_name s (RecordType x)) ((type_name s (RecordType x), sorts_of s x) ∷ []) (list_all (λ c. nat_le c 196607) t) d.0 h)
+      onto (RecordType x) (TextOf t) d h = absurd (not_text (type_name s (RecordType x)) ((type_name s (RecordType x), sorts_of s x) ∷ []) (list_all is_code_point t) d.0 h)
       onto (RecordType x) v d h = absurd cc
       onto (SetType t) (SetOf vs) d h =
           let r : AllByRecursion (λ v. IsValue enums t v) (list_of_values (back_values enums t vs)) × (carry_values enums s t (back_values enums t vs) ≡ vs) = onto_each t vs d (first_so (all_have_sort_in here (sort_of s t) vs) (script.ascends vs) h) in

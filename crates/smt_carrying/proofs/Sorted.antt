@@ -7,7 +7,7 @@ use Rattle.std.proofs.lemmas.Bool.{leb-false, ltb-false, eq-eqb, and_from}
 use Rattle.smt_term.specs.Plain.{ExtensionKind, IpAddrKind, DecimalKind, DatetimeKind, DurationKind, PlainType, OptionType, BitVecType, BoolType, EntityType, ExtensionType, StringType, RecordType, SetType, AttributeTypes, no_attributes, attribute, PlainExtension, DecimalOf, Ipv4Of, Ipv6Of, DatetimeOf, DurationOf}
 use Rattle.smt_term.specs.Values.{Value, BoolValue, BitVecValue, StringValue, EntityValue, ExtensionValue, NoneValue, SomeValue, RecordValue, SetValue, Values, no_values, one_value, FieldValues, no_field_values, one_field_value}
 use Rattle.smt_semantics.specs.ScriptValues.{ScriptValue, BitsOf, TextOf, ConstructorOf, ScriptValues, no_script_values, one_script_value}
-use Rattle.smt_term.specs.TypeValues.{IsValue, AreFieldValues, IsExtension, IsId, IsLong, IsPrefix, AreCodePoints, Enums, members_of}
+use Rattle.smt_term.specs.TypeValues.{is_code_point, greatest_code_point, IsValue, AreFieldValues, IsExtension, IsId, IsLong, IsPrefix, AreCodePoints, Enums, members_of}
 use Rattle.smt_term.specs.ValueOrder.{list_of_values}
 use Rattle.smt_bits.specs.Widths.{is_width, are_bits}
 use Rattle.smt_sexpr.specs.Lexicon.{Name}
@@ -81,9 +81,9 @@ module _ (here : Entries) where
       → IsNamed here n cs → at_place cs place ≡ Some (c, fields) → have_sorts_in here fields vs ≡ true → has_sort_in here (name n) (ConstructorOf place c vs) ≡ true
   built_named n cs place c fields vs x e h = built n [] cs place c fields fields (name n) vs x.datatype e (fields_named n fields) h
 
-  code_points : (s : List ℕ) → AreCodePoints s → list_all (λ c. nat_le c 196607) s ≡ true
+  code_points : (s : List ℕ) → AreCodePoints s → list_all is_code_point s ≡ true
   code_points [] h = refl
-  code_points (c ∷ s) h = and_from (nat_le c 196607) (list_all (λ c. nat_le c 196607) s) (leb_from c 196607 h.0) (code_points s h.1)
+  code_points (c ∷ s) h = and_from (is_code_point c) (list_all is_code_point s) (leb_from c greatest_code_point h.0) (code_points s h.1)
 
   -- ---- members
 
@@ -103,7 +103,7 @@ module _ (here : Entries) where
           later true f = absurd (let g : chars m ≡ i = (bytes_eq-Decides (chars m) i).0 f in let k : bytes_eq i (chars m) ≡ true = ap (λ x. bytes_eq i x) g ∙ bytes_itself i in let z : true ≡ false = sym k ∙ e in cc)
 
   entity_sorted : (members : Option (List (List ℕ))) (n i : List ℕ) → IsNamed here n (entity_constructors members n) → IsId members i → has_sort_in here (name n) (carry_entity members n i) ≡ true
-  entity_sorted None n i x h = built_named n (entity_constructors None n) 0 n (string_sort ∷ []) (alone (TextOf i)) x refl (and_from (list_all (λ c. nat_le c 196607) i) true (code_points i h) refl)
+  entity_sorted None n i x h = built_named n (entity_constructors None n) 0 n (string_sort ∷ []) (alone (TextOf i)) x refl (and_from (list_all is_code_point i) true (code_points i h) refl)
   entity_sorted (Some members) n i x h =
       built_named n (entity_constructors (Some members) n) (place_of i (map chars members)) (member_name n (place_of i (map chars members))) [] no_script_values x
       (member_at n 0 members i h ∙ ap (λ k. Some (member_name n k, [])) (let p : 0 + place_of i (map chars members) ≡ place_of i (map chars members) = omega arith in p)) refl

@@ -8,7 +8,6 @@ use Rattle.std.specs.Option.{is_some}
 use Rattle.std.proofs.lemmas.Bool.{le-leb}
 use Rattle.smt_term.specs.Plain.{PlainType, OptionType, BitVecType, BoolType, ExtensionType, RecordType, SetType, AttributeTypes, no_attributes, attribute, ExtensionOp, DatetimeOfBitVecOp, DatetimeValOp, DecimalValOp, DurationOfBitVecOp, DurationValOp, IpAddrV4Op, IpAddrV6Op, IpIsV4Op, IpPrefixV4Op, IpPrefixV6Op, PatternPart, Character, Wildcard, PlainOp, BvnegoOp, ExtOp, RecordGetOp, StringLikeOp, UufOp, PlainLiteral, EntityLiteral, StringLiteral, PlainTerm, Application, NoneTerm, LiteralTerm, RecordTerm, SetTerm, SomeTerm, VariableTerm, PlainTerms, no_terms, one_term, PlainFields, no_fields, one_field, terms}
 use Rattle.smt_bits.specs.Widths.{is_width}
-use Rattle.smt_semantics.specs.Quoting.{is_written_part}
 use Rattle.smt_term.specs.Faults.{Fault, earlier, fault_unless, is_string, is_pattern_part, entity_fault, literal_fault, is_passed_over, type_fault, operator_fault, term_fault, terms_fault, fields_fault, first_fault}
 use Rattle.smt_term.specs.Formed.{IsFormedHere, IsFormedType}
 use Rattle.smt_term.specs.Reached.{subterms, subterms_of_all, subterms_of_fields, types_within, types_within_attributes}
@@ -23,6 +22,7 @@ use Rattle.smt_lines.proofs.Levels.{calls_are_scripts}
 use Rattle.smt_lines.proofs.Whole.{texts_are_scripts}
 use Rattle.smt_headline.specs.Conditions.{FormedTypesAreFine, TypedTermsAreFine, TypedListsAreFine, AreConditions, ConditionsAreScripts, AreCallsOfConditions, CallsOfConditionsAreScripts}
 use Rattle.smt_headline.proofs.Agree.{places_found, attributes_found}
+use Rattle.smt_term.specs.Faults.{is_pattern_part}
 
 -- ---- options
 
@@ -93,14 +93,6 @@ fine_literal enums l h = tt
 
 -- ---- operators
 
-fine_part : (p : PatternPart) → is_written_part p ≡ is_pattern_part p
-fine_part (Character c) = refl
-fine_part Wildcard = refl
-
-fine_pattern : (ps : List PatternPart) → list_all is_written_part ps ≡ list_all is_pattern_part ps
-fine_pattern [] = refl
-fine_pattern (p ∷ ps) = λ i. fine_part p i && fine_pattern ps i
-
 least_of : (u : PlainType) → is_bits u ≡ true → IsLeast (least_manner u)
 least_of (BitVecType n) h = tt
 least_of u h = cc
@@ -137,7 +129,7 @@ fine_op enums (RecordGetOp x) no_terms ty h f k g = cc
 fine_op enums (RecordGetOp x) (one_term a no_terms) ty h f k g = fine_get x a (type_of a) ty h refl
 fine_op enums (RecordGetOp x) (one_term a (one_term b ts)) ty h f k g = cc
 fine_op enums (StringLikeOp p) no_terms ty h f k g = cc
-fine_op enums (StringLikeOp p) (one_term a no_terms) ty h f k g = (tt, fine_pattern p ∙ so (list_all is_pattern_part p) _ f)
+fine_op enums (StringLikeOp p) (one_term a no_terms) ty h f k g = (tt, so (list_all is_pattern_part p) _ f)
 fine_op enums (StringLikeOp p) (one_term a (one_term b ts)) ty h f k g = cc
 fine_op enums (UufOp fn) no_terms ty h f k g = cc
 fine_op enums (UufOp fn) (one_term a no_terms) ty h f k g =

@@ -9,7 +9,7 @@ use Rattle.smt_term.specs.Formed.{attribute_names}
 use Rattle.smt_term.specs.Types.{kind_of}
 use Rattle.smt_sexpr.specs.Reading.{Expression}
 use Rattle.smt_semantics.specs.Script.{State, name, group, exprs, is_in, built_in_names, has_name, has_sort, is_sort, knows}
-use Rattle.smt_semantics.specs.Quoting.{part_expr, pattern_expr, is_written_part}
+use Rattle.smt_semantics.specs.Quoting.{part_expr, pattern_expr}
 use Rattle.smt_semantics.specs.Written.{is_name}
 use Rattle.smt_semantics.proofs.Quotes.{patterns_write}
 use Rattle.smt_semantics.specs.Sorts.{bit_sort, option_sort}
@@ -21,6 +21,7 @@ use Rattle.smt_lines.specs.Command.{is_written, are_written}
 use Rattle.smt_lines.specs.Fine.{IsFineOp, IsLeast, AreFine, kind_of_op}
 use Rattle.smt_lines.specs.Fit.{Fit, TypeStands, declares, kind_names, placed}
 use Rattle.smt_lines.proofs.Known.{or_right, GoodSort, GoodText, GoodTexts, TextsAre, sort_good, text_good, texts_good, more_good, applied_good, one_passes, type_stands, function_stands, bits_good}
+use Rattle.smt_term.specs.Faults.{is_pattern_part}
 
 -- ---- entries of types
 
@@ -103,20 +104,20 @@ record_get_good enums s state fit a x t e h l es g =
 
 -- ---- patterns
 
-part_written : (p : PatternPart) → is_written_part p ≡ true → is_written (part_expr p) ≡ true
+part_written : (p : PatternPart) → is_pattern_part p ≡ true → is_written (part_expr p) ≡ true
 part_written (Character c) h = rw h refl
 part_written Wildcard h = refl
 
-parts_written : (ps : List PatternPart) → list_all is_written_part ps ≡ true → are_written (exprs (map part_expr ps)) ≡ true
+parts_written : (ps : List PatternPart) → list_all is_pattern_part ps ≡ true → are_written (exprs (map part_expr ps)) ≡ true
 parts_written [] h = refl
-parts_written (p ∷ ps) h = let q = and_parts (is_written_part p) (list_all is_written_part ps) h in and_from (is_written (part_expr p)) _ (part_written p q.0) (parts_written ps q.1)
+parts_written (p ∷ ps) h = let q = and_parts (is_pattern_part p) (list_all is_pattern_part ps) h in and_from (is_written (part_expr p)) _ (part_written p q.0) (parts_written ps q.1)
 
-pattern_written : (ps : List PatternPart) → list_all is_written_part ps ≡ true → is_written (pattern_expr ps) ≡ true
+pattern_written : (ps : List PatternPart) → list_all is_pattern_part ps ≡ true → is_written (pattern_expr ps) ≡ true
 pattern_written [] h = refl
-pattern_written (p ∷ []) h = part_written p (and_parts (is_written_part p) true h).0
+pattern_written (p ∷ []) h = part_written p (and_parts (is_pattern_part p) true h).0
 pattern_written (p ∷ q ∷ ps) h = parts_written (p ∷ q ∷ ps) h
 
-like_good : (state : State) (e : Expression) (ps : List PatternPart) → list_all is_written_part ps ≡ true → GoodText state e → GoodText state (group (name (codes "str.in_re") ∷ e ∷ pattern_expr ps ∷ []))
+like_good : (state : State) (e : Expression) (ps : List PatternPart) → list_all is_pattern_part ps ≡ true → GoodText state e → GoodText state (group (name (codes "str.in_re") ∷ e ∷ pattern_expr ps ∷ []))
 like_good state e ps h g =
     (rw (patterns_write ps h).1 g.0, and_from (is_written e) _ g.1 (and_from (is_written (pattern_expr ps)) true (pattern_written ps h) refl))
 

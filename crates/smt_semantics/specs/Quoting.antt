@@ -1,6 +1,8 @@
 -- How code points are written in a string, and patterns.
 use Rattle.std.specs.Prelude.{◌≡◌, ℕ, Bool, false, ◌&&◌, IsTrue, true, Some, map, ◌==◌, nat_le, if◌then◌else◌, codes, List, [], ◌∷◌, ◌++◌}
 use Rattle.std.specs.List.{flat_map, list_all}
+use Rattle.smt_term.specs.Faults.{is_pattern_part}
+use Rattle.smt_term.specs.TypeValues.{is_code_point}
 use Rattle.smt_term.specs.Plain.{PatternPart, Character, Wildcard}
 use Rattle.smt_semantics.specs.Script.{group, name, pattern}
 use Rattle.smt_semantics.specs.Texts.{spaced}
@@ -23,12 +25,9 @@ quoted_character c =
 abbrev pub quoted : List ℕ → List ℕ
 quoted characters = codes "\"" ++ (flat_map quoted_character characters ++ codes "\"")
 
-abbrev pub is_point : ℕ → Bool
-is_point c = nat_le c 196607
-
 -- What is written of code points up to 196607 is read as these.
 abbrev pub TextsWrite : Type 0
-TextsWrite = (cs : List ℕ) → IsTrue (list_all is_point cs) → Writes (quoted cs) (Leaf (Text cs))
+TextsWrite = (cs : List ℕ) → IsTrue (list_all is_code_point cs) → Writes (quoted cs) (Leaf (Text cs))
 
 -- ---- patterns
 
@@ -50,10 +49,6 @@ pattern_expr [] = group (name (codes "str.to_re") ∷ Leaf (Text []) ∷ [])
 pattern_expr (x ∷ []) = part_expr x
 pattern_expr (x ∷ y ∷ ps) = group (name (codes "re.++") ∷ map part_expr (x ∷ y ∷ ps))
 
-abbrev pub is_written_part : PatternPart → Bool
-is_written_part (Character c) = is_point c
-is_written_part Wildcard = true
-
 -- What is written of a pattern is read as it.
 abbrev pub PatternsWrite : Type 0
-PatternsWrite = (ps : List PatternPart) → IsTrue (list_all is_written_part ps) → Writes (pattern_text ps) (pattern_expr ps) × (pattern (pattern_expr ps) ≡ Some ps)
+PatternsWrite = (ps : List PatternPart) → IsTrue (list_all is_pattern_part ps) → Writes (pattern_text ps) (pattern_expr ps) × (pattern (pattern_expr ps) ≡ Some ps)

@@ -1,5 +1,5 @@
 -- The values of a type.
-use Rattle.std.specs.Prelude.{bytes_eq, ◌≡◌, ℕ, ◌^◌, ◌<◌, ◌≤◌, List, ℤ, FitsSigned, Option, Some, None, IfSome, IsTrue, ⊤}
+use Rattle.std.specs.Prelude.{◌≡◌, ℕ, Bool, nat_le, bytes_eq, ◌^◌, ◌<◌, ◌≤◌, List, ℤ, FitsSigned, Option, Some, None, IfSome, IsTrue, ⊤}
 use Rattle.std.specs.Int.{w64}
 use Rattle.std.specs.List.{AllByRecursion, list_any}
 use Rattle.std.specs.Map.{lookup}
@@ -19,6 +19,9 @@ members_of enums e = lookup (bytes_eq e) enums
 -- the code points of the theory UnicodeStrings
 abbrev pub greatest_code_point : ℕ
 greatest_code_point = 196607
+
+abbrev pub is_code_point : ℕ → Bool
+is_code_point c = nat_le c greatest_code_point
 
 abbrev pub AreCodePoints : List ℕ → Type 0
 AreCodePoints s = AllByRecursion (λ c. c ≤ greatest_code_point) s
