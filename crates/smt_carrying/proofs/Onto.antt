@@ -1,6 +1,6 @@
 -- Values of a type's sort are carried values.
 use Rattle.std.proofs.Common.{◌≡◌, ℕ, zero, suc, ◌+◌, ◌-◌, ◌^◌, ◌<◌, ◌≤◌, Bool, true, false, cond, ◌&&◌, ◌||◌, length, List, [], ◌∷◌, map, refl, sym, ap, ◌∙◌, subst, arith, inl, inr}
-use Rattle.std.specs.Prelude.{◌⊎◌, codes, bytes_eq, nat_le, nat_lt, ◌==◌, ℤ, pos, negsuc, Option, Some, None, IfSome, unwrap_or}
+use Rattle.std.specs.Prelude.{◌⊎◌, codes, bytes_eq, nat_lt, ◌==◌, ℤ, pos, negsuc, Option, Some, None, IfSome, unwrap_or}
 use Rattle.std.specs.Str.{chars}
 use Rattle.std.specs.List.{AllByRecursion, list_all, list_any}
 use Rattle.std.specs.Cmp.{first_so, second_so}

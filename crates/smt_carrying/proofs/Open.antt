@@ -20,11 +20,12 @@ use Rattle.smt_carrying.specs.Interpretations.{ip_type, is_range_selector, IsGiv
 use Rattle.smt_carrying.specs.Open.{Occurs, IsOpenEntry, IsOpenSelection, GivenNamesInterpret, NamesAgree}
 use Rattle.std.proofs.lemmas.List.Elements.{All-from_recursion}
 
-at_term : (P : PlainTerm → Type 0) (us : List PlainTerm) (t : PlainTerm) → AllByRecursion P us → Occurs t us → P t
+-- what holds of each holds of one that occurs
+pub at_term : (P : PlainTerm → Type 0) (us : List PlainTerm) (t : PlainTerm) → AllByRecursion P us → Occurs t us → P t
 at_term P [] t h o = absurd o
 at_term P (u ∷ us) t h o = ⊎_elim (λ e. subst P e h.0) (λ q. at_term P us t h.1 q) o
 
-every : {A : Type 0} (P Q : A → Type 0) → ((x : A) → P x → Q x) → (xs : List A) → AllByRecursion P xs → AllByRecursion Q xs
+pub every : {A : Type 0} (P Q : A → Type 0) → ((x : A) → P x → Q x) → (xs : List A) → AllByRecursion P xs → AllByRecursion Q xs
 every P Q f [] h = tt
 every P Q f (x ∷ xs) h = (f x h.0, every P Q f xs h.1)
 

@@ -1,6 +1,6 @@
 -- Operators give what is carried.
 use Rattle.std.proofs.Common.{◌≡◌, ℕ, ◌+◌, Bool, true, false, cond, ◌&&◌, ◌||◌, List, [], ◌∷◌, refl, sym, ap, ◌∙◌, subst}
-use Rattle.std.specs.Prelude.{not, nat_le, Option, Some, None, unwrap_or}
+use Rattle.std.specs.Prelude.{not, nat_le, Option, Some, None}
 use Rattle.std.specs.Bool.{then_some}
 use Rattle.std.specs.Cmp.{first_so, second_so}
 use Rattle.std.proofs.lemmas.Bool.{eq-eqb}
@@ -23,13 +23,7 @@ use Rattle.smt_carrying.specs.Order.{AreEnums}
 use Rattle.smt_carrying.specs.Operators.{AreValues, carry_each, is_script_operator}
 use Rattle.smt_carrying.proofs.Ordered.{same_values}
 use Rattle.smt_carrying.proofs.Sets.{member_carried, subset_carried, intersected}
-
-inside : (t u : PlainType) → Some t ≡ Some u → t ≡ u
-inside t u e = ap (λ o. unwrap_or o t) e
-
-chosen : (b : Bool) (t u : PlainType) → then_some b t ≡ Some u → (b ≡ true) × (t ≡ u)
-chosen true t u h = (refl, inside t u h)
-chosen false t u h = cc
+use Rattle.smt_term.proofs.Soundness.{inside, chosen}
 
 module _ (enums : Enums) (T : List PlainType → List Value → Type 0) where
   unary : ((vs : List Value) → T [] vs) → ((t u : PlainType) (tys : List PlainType) (vs : List Value) → T (t ∷ u ∷ tys) vs)

@@ -39,11 +39,11 @@ use Rattle.smt_carrying.proofs.Negations.{negated}
 use Rattle.smt_carrying.proofs.Operators.{commutes}
 use Rattle.smt_carrying.proofs.Selectors.{attribute_selected, option_selected, table_read}
 use Rattle.smt_headline.proofs.Agree.{attributes_found}
-use Rattle.smt_headline.proofs.FineTerms.{inside, chosen}
 use Rattle.smt_headline.proofs.Named.{some_there, names_there}
 use Rattle.smt_headline.proofs.Types.{type_stands}
 use Rattle.smt_headline.proofs.Valued.{AreValued}
 use Rattle.smt_headline.proofs.Worth.{Follows, carried, Worth, AreWorth, IsEntered, arguments, bits_worth, bits_fit, from_body, text_sorted}
+use Rattle.smt_term.proofs.Soundness.{inside, chosen}
 
 values : (enums : Enums) (I : Interpretation) (ts : PlainTerms) → AreValued enums I ts → AreValues enums (types_of ts) (meanings I ts)
 values enums I no_terms h = tt

@@ -1,11 +1,11 @@
 -- Entries of the names of fine terms have names of their own.
 use Rattle.std.proofs.Common.{◌≡◌, ℕ, suc, ◌<◌, Bool, true, false, cond, List, [], ◌∷◌, ◌++◌, length, refl, sym, ap, ap₂, ◌∙◌, subst, inl, inr, Option, Some, None, arith}
-use Rattle.std.specs.Prelude.{bytes_eq, codes, nat_lt, IsSome, is_none}
+use Rattle.std.specs.Prelude.{bytes_eq, codes, nat_lt, is_none}
 use Rattle.std.specs.Map.{lookup}
 use Rattle.std.proofs.lemmas.Bool.{false≢true, ltb-true, lt-ltb}
 use Rattle.std.proofs.lemmas.List.{append_cancel_left}
 use Rattle.std.proofs.lemmas.Slice.Eq.{bytes_eq-Decides}
-use Rattle.smt_term.specs.Plain.{PlainType, OptionType, BitVecType, BoolType, EntityType, ExtensionType, StringType, RecordType, SetType, AttributeTypes, no_attributes, attribute, PlainFunction, PlainOp, BvnegoOp, UufOp, PlainLiteral, BitVecLiteral, BoolLiteral, EntityLiteral, ExtensionLiteral, StringLiteral, PlainTerm, Application, NoneTerm, LiteralTerm, RecordTerm, SetTerm, SomeTerm, VariableTerm, PlainTerms, no_terms, one_term, PlainFields, no_fields, one_field, terms}
+use Rattle.smt_term.specs.Plain.{PlainType, OptionType, BitVecType, BoolType, EntityType, ExtensionType, StringType, RecordType, SetType, AttributeTypes, no_attributes, attribute, PlainFunction, PlainOp, UufOp, PlainLiteral, BitVecLiteral, BoolLiteral, EntityLiteral, ExtensionLiteral, StringLiteral, PlainTerm, Application, NoneTerm, LiteralTerm, RecordTerm, SetTerm, SomeTerm, VariableTerm, PlainTerms, no_terms, one_term, PlainFields, no_fields, one_field, terms}
 use Rattle.smt_term.specs.TypeValues.{Enums, members_of}
 use Rattle.smt_term.specs.Types.{type_eq, type_of, literal_type}
 use Rattle.smt_term.proofs.TermTotal.{types_decided}
@@ -20,12 +20,14 @@ use Rattle.smt_lines.proofs.Differ.{terms_differ, types_differ, functions_differ
 use Rattle.smt_lines.proofs.Grow.{lookup_append, terms_grow}
 use Rattle.smt_lines.proofs.Numerals.{numerals_differ}
 use Rattle.smt_lines.proofs.Stays.{sorts_stand}
-use Rattle.smt_lines.specs.Fine.{IsFine, AreFine, AreFineFields, IsFineOp, IsFineId, IsLeast}
+use Rattle.smt_lines.specs.Fine.{IsFine, AreFine, AreFineFields, IsFineOp, IsFineId}
 use Rattle.smt_lines.specs.Fit.{number_of, first}
 use Rattle.smt_lines.proofs.Basic.{leads_numeral}
 use Rattle.smt_lines.proofs.Known.{each_found, each_append, each_map}
 use Rattle.smt_lines.proofs.Single.{with_term, keeps_term, keeps_function}
 use Rattle.smt_headline.specs.Standing.{NamesAreOneToOne}
+use Rattle.smt_lines.proofs.OfTerms.{not_false}
+use Rattle.smt_headline.proofs.Named.{some_there}
 
 abbrev pub MemberNamed : Option (List (List ℕ)) → Tables → (type id n : List ℕ) → Type 0
 MemberNamed None u type id n = Unit {0}
@@ -59,10 +61,6 @@ name_stays enums s u k (VariableTerm id type) n h = tt
 
 keeps_type : (s : Tables) (t : PlainType) (n : List ℕ) → Keeps s (record s { types = s.types ++ (t, n) ∷ [] })
 keeps_type s t n = record { terms = λ x m h. h; types = λ x m h. lookup_append (type_eq x) s.types ((t, n) ∷ []) m h; functions = λ x m h. h }
-
-not_false : (op : PlainOp) (ts : PlainTerms) (type : PlainType) → manner op ts type ≡ AsFalse → IsFineOp op ts type → ⊥
-not_false BvnegoOp ts type e f = subst IsLeast e f
-not_false op ts type e f = absurd cc
 
 module _ (enums : Enums) where
   abbrev Good : Tables → Type 0
@@ -110,10 +108,6 @@ module _ (enums : Enums) where
       defined (encode_head enums op ts (arguments s).tables).tables (Application op ts type) _ (λ k. not_false op ts type k f) (head op ts (arguments s).tables (g s h))
   application (AsLeast w) op ts type e f arguments g sort s h = defined (arguments s).tables (Application op ts type) _ (λ k. not_false op ts type k f) (g s h)
   application AsFalse op ts type e f arguments g sort s h = absurd (not_false op ts type e f)
-
-  some_there : (o : Option (List ℕ)) → IsSome o → o ≡ Some (text_of_name o)
-  some_there (Some n) h = refl
-  some_there None h = absurd (false≢true h)
 
   entity : (o : Option (List (List ℕ))) (type id : List ℕ) → members_of enums type ≡ o → IsFineId o id → (v : Tables) → HasSort v (EntityType type) → Good v → Good (define_entity o type id (text_of_name (name_of_type v (EntityType type))) v).tables
   entity None type id e f v has h = defined v (LiteralTerm (EntityLiteral type id)) _ (subst (λ o. MemberNamed o (with_term (LiteralTerm (EntityLiteral type id)) (next_term v) v) type id (next_term v)) (sym e) tt) h

@@ -1,18 +1,17 @@
 -- A typed term that is formed and has no fault is fine.
 use Rattle.std.proofs.Common.{bytes_eq, ◌≡◌, ℕ, ◌≤◌, Bool, true, false, ◌&&◌, List, [], ◌∷◌, refl, ap, ◌∙◌, sym, subst, inl, inr}
-use Rattle.std.specs.Prelude.{◌⊎◌, Option, Some, None, unwrap_or}
-use Rattle.std.specs.Bool.{then_some}
+use Rattle.std.specs.Prelude.{◌⊎◌, Option, Some, None}
 use Rattle.std.specs.Cmp.{first_so, second_so}
 use Rattle.std.specs.List.{AllByRecursion, list_all, list_any}
 use Rattle.std.specs.Option.{is_some}
 use Rattle.std.proofs.lemmas.Bool.{le-leb}
-use Rattle.smt_term.specs.Plain.{PlainType, OptionType, BitVecType, BoolType, ExtensionType, RecordType, SetType, AttributeTypes, no_attributes, attribute, ExtensionOp, DatetimeOfBitVecOp, DatetimeValOp, DecimalValOp, DurationOfBitVecOp, DurationValOp, IpAddrV4Op, IpAddrV6Op, IpIsV4Op, IpPrefixV4Op, IpPrefixV6Op, PatternPart, Character, Wildcard, PlainOp, BvnegoOp, ExtOp, RecordGetOp, StringLikeOp, UufOp, PlainLiteral, EntityLiteral, StringLiteral, PlainTerm, Application, NoneTerm, LiteralTerm, RecordTerm, SetTerm, SomeTerm, VariableTerm, PlainTerms, no_terms, one_term, PlainFields, no_fields, one_field, terms}
+use Rattle.smt_term.specs.Plain.{PlainType, OptionType, BitVecType, BoolType, ExtensionType, RecordType, SetType, AttributeTypes, no_attributes, attribute, ExtensionOp, DatetimeOfBitVecOp, DatetimeValOp, DecimalValOp, DurationOfBitVecOp, DurationValOp, IpAddrV4Op, IpAddrV6Op, IpIsV4Op, IpPrefixV4Op, IpPrefixV6Op, PlainOp, BvnegoOp, ExtOp, RecordGetOp, StringLikeOp, UufOp, PlainLiteral, EntityLiteral, StringLiteral, PlainTerm, Application, NoneTerm, LiteralTerm, RecordTerm, SetTerm, SomeTerm, VariableTerm, PlainTerms, no_terms, one_term, PlainFields, no_fields, one_field, terms}
 use Rattle.smt_bits.specs.Widths.{is_width}
 use Rattle.smt_term.specs.Faults.{Fault, earlier, fault_unless, is_string, is_pattern_part, entity_fault, literal_fault, is_passed_over, type_fault, operator_fault, term_fault, terms_fault, fields_fault, first_fault}
 use Rattle.smt_term.specs.Formed.{IsFormedHere, IsFormedType}
 use Rattle.smt_term.specs.Reached.{subterms, subterms_of_all, subterms_of_fields, types_within, types_within_attributes}
 use Rattle.smt_term.specs.Types.{type_eq, type_of, field_types, types_of, is_bits, attribute_type, extension_signature, result_type, is_type, typed, typed_all, typed_fields, Typed}
-use Rattle.smt_term.proofs.Soundness.{all-front, all-back, all-last, none-first, none-second, not-passed, is_type-some, walked}
+use Rattle.smt_term.proofs.Soundness.{all-front, all-back, all-last, none-first, none-second, not-passed, is_type-some, walked, chosen}
 use Rattle.smt_term.proofs.TypeOrder.{eq_same}
 use Rattle.smt_term.specs.TypeValues.{Enums, members_of}
 use Rattle.smt_lines.specs.Lines.{Call, PushCall, PopCall, EncodeCall, Encoding, fresh, after_call, least_manner, negation_manner}
@@ -24,14 +23,7 @@ use Rattle.smt_headline.specs.Conditions.{FormedTypesAreFine, TypedTermsAreFine,
 use Rattle.smt_headline.proofs.Agree.{places_found, attributes_found}
 use Rattle.smt_term.specs.Faults.{is_pattern_part}
 
--- ---- options
-
-pub inside : (t u : PlainType) → Some t ≡ Some u → t ≡ u
-inside t u e = ap (λ o. unwrap_or o t) e
-
-pub chosen : (b : Bool) (t u : PlainType) → then_some b t ≡ Some u → (b ≡ true) × (t ≡ u)
-chosen true t u h = (refl, inside t u h)
-chosen false t u h = cc
+-- ---- tests
 
 so : (b : Bool) (f : Fault) → fault_unless b f ≡ None → b ≡ true
 so true f h = refl

@@ -1,6 +1,5 @@
 -- Names that a script leaves free.
-use Rattle.std.proofs.Common.{List, [], ◌∷◌, subst, sym}
-use Rattle.std.specs.List.{AllByRecursion}
+use Rattle.std.proofs.Common.{subst, sym}
 use Rattle.smt_term.specs.Plain.{PlainOp, UufOp, PlainType, PlainTerm, Application, VariableTerm, terms}
 use Rattle.smt_term.specs.Reached.{reached_terms}
 use Rattle.smt_term.specs.TypeValues.{Enums}
@@ -14,10 +13,7 @@ use Rattle.smt_lines.specs.Fit.{Fit}
 use Rattle.smt_lines.proofs.Declared.{terms_are_declared, functions_are_declared}
 use Rattle.smt_carrying.specs.Interpretations.{variable_name, function_name, IsOpNamed, IsTermNamed}
 use Rattle.smt_headline.specs.Standing.{IsOpOpen, IsOpen, ReachedAreOpen, NamesDiffer}
-
-every : {A : Type 0} (P Q : A → Type 0) → ((x : A) → P x → Q x) → (xs : List A) → AllByRecursion P xs → AllByRecursion Q xs
-every P Q f [] h = tt
-every P Q f (x ∷ xs) h = (f x h.0, every P Q f xs h.1)
+use Rattle.smt_carrying.proofs.Open.{every}
 
 module _ (enums : Enums) (s : Tables) (state : State) (fit : Fit enums s state) where
   op_open : (op : PlainOp) (t : PlainType) → IsOpNamed enums s (entries state) op t → IsOpOpen s (entries state) op

@@ -42,11 +42,11 @@ use Rattle.smt_headline.specs.Texts.{HasText}
 use Rattle.smt_headline.proofs.Applied.{operator, extended, matched, function, attribute_of, inside_of, negation}
 use Rattle.smt_headline.proofs.Distinct.{MemberNamed}
 use Rattle.smt_headline.proofs.Extensions.{built, none_there, some_entry, extension_worth, body_worth}
-use Rattle.smt_headline.proofs.FineTerms.{chosen}
 use Rattle.smt_headline.proofs.Named.{all_append, own, some_there, text_sort}
 use Rattle.smt_headline.proofs.Types.{type_stands, selectors_shown}
 use Rattle.smt_headline.proofs.Valued.{IsValued, AreValued, HaveValues}
 use Rattle.smt_headline.proofs.Worth.{Follows, carried, Worth, AreWorth, IsEntered, bits_worth, bits_fit, from_body, name_good, some_text, by_name, text_sorted}
+use Rattle.smt_term.proofs.Soundness.{chosen}
 
 none_is : (t : PlainType) → None ≡ Some t → ⊥
 none_is t h = cc

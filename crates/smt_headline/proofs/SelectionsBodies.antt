@@ -1,12 +1,11 @@
 -- The body of a term's definition applies the term's selector, and no other that is left open.
 use Rattle.std.proofs.Common.{◌≡◌, ℕ, Bool, true, false, ◌&&◌, ◌||◌, cond, List, [], ◌∷◌, ◌++◌, map, refl, sym, ap, ap₂, ◌∙◌, subst, Option, Some, None}
 use Rattle.std.specs.Prelude.{bytes_eq, chars, codes, IsSome, unwrap_or, ◌-◌, ◌^◌}
-use Rattle.std.specs.Bool.{then_some}
 use Rattle.std.specs.Cmp.{second_so}
-use Rattle.std.proofs.lemmas.Bool.{and_parts, false≢true, cond-false}
+use Rattle.std.proofs.lemmas.Bool.{and_parts, false≢true, cond-false, or_parts}
 use Rattle.smt_term.specs.Plain.{IpAddrKind, PlainType, OptionType, BoolType, EntityType, ExtensionType, SetType, ExtensionOp, IpAddrV4Op, IpAddrV6Op, IpPrefixV4Op, IpPrefixV6Op, PlainOp, BvnegoOp, ExtOp, OptionGetOp, BitVecLiteral, BoolLiteral, EntityLiteral, ExtensionLiteral, StringLiteral, PlainTerm, Application, NoneTerm, LiteralTerm, RecordTerm, SetTerm, SomeTerm, VariableTerm, PlainTerms, no_terms, one_term}
 use Rattle.smt_term.specs.Types.{type_eq, inner_type, types_of, extension_signature, result_type, is_type, typed_all, type_of}
-use Rattle.smt_term.proofs.Soundness.{is_type-some}
+use Rattle.smt_term.proofs.Soundness.{is_type-some, chosen}
 use Rattle.smt_term.proofs.TypeOrder.{eq_same}
 use Rattle.smt_term.specs.TypeValues.{Enums, members_of}
 use Rattle.smt_sexpr.specs.Lexicon.{Text}
@@ -27,7 +26,7 @@ use Rattle.smt_headline.proofs.SelectionsHeads.{option_entry, option_selection, 
 use Rattle.smt_headline.proofs.SelectionsOrigins.{HasDefinition}
 use Rattle.smt_headline.proofs.SelectionsParts.{IsSound, named_if}
 use Rattle.smt_headline.proofs.SelectionsPlain.{is_plain, HasOneInside, plain_selects, plain_sort, plain_text, plain_texts, plain_fields, plain_extension, plain_none, plain_some, plain_set, plain_group, plain_record}
-use Rattle.smt_headline.proofs.SelectionsRuns.{Names, is_known, Known, or_parts, Within, among, there_if}
+use Rattle.smt_headline.proofs.SelectionsRuns.{Names, is_known, Known, Within, among, there_if}
 
 -- ---- types of arguments
 
@@ -40,10 +39,6 @@ is_inner t = false
 opened : (u type : PlainType) → inner_type u ≡ Some type → u ≡ OptionType type
 opened (OptionType t) type h = ap (λ o. OptionType (unwrap_or o t)) h
 opened u type h = absurd cc
-
-chosen : (b : Bool) (t u : PlainType) → then_some b t ≡ Some u → b ≡ true
-chosen true t u h = refl
-chosen false t u h = absurd cc
 
 not_false : (op : PlainOp) (ts : PlainTerms) (type : PlainType) → is_inner type ≡ true → manner op ts type ≡ AsFalse → ⊥
 not_false BvnegoOp (one_term t no_terms) BoolType h e = false≢true h
@@ -180,7 +175,7 @@ module _ (enums : Enums) (s : Tables) (state : State) (fit : Fit enums s state) 
     extension_selects : (o : ExtensionOp) → is_range_selector o ≡ true → (ts : PlainTerms) (type : PlainType) → result_type (ExtOp o) (types_of ts) ≡ Some type → HaveTexts s ts → Known older (group (extension_op_head o ∷ texts_of s ts)) → selections (among older) (group (extension_op_head o ∷ texts_of s ts)) ≡ range_selection s o ∷ []
     extension_selects o r no_terms type h k known = absurd cc
     extension_selects o r (one_term t no_terms) type h k known =
-        range_selects o r t (eq_same (type_of t) (extension_signature o).0 (chosen (type_eq (type_of t) (extension_signature o).0) (extension_signature o).1 type h)) k.0 known
+        range_selects o r t (eq_same (type_of t) (extension_signature o).0 (chosen (type_eq (type_of t) (extension_signature o).0) (extension_signature o).1 type h).0) k.0 known
     extension_selects o r (one_term t (one_term u ts)) type h k known = absurd cc
 
     stands : (op : PlainOp) (ts : PlainTerms) (type : PlainType) → result_type op (types_of ts) ≡ Some type → HaveTexts s ts → Known older (group (head_of enums s op ts ∷ operands op (texts_of s ts)))

@@ -1,7 +1,7 @@
 -- Expressions without a head that may be left open apply no selector that is.
 use Rattle.std.proofs.Common.{◌≡◌, ℕ, Bool, true, false, not, ◌&&◌, cond, List, [], ◌∷◌, ◌++◌, refl, sym, ap, ap₂, ◌∙◌, Option, Some, None}
 use Rattle.std.specs.Prelude.{codes, bytes_eq, take, drop, pos, negsuc, ℤ, map}
-use Rattle.std.proofs.lemmas.Bool.{and_parts, and_from, false≢true}
+use Rattle.std.proofs.lemmas.Bool.{and_parts, and_from, false≢true, or_parts}
 use Rattle.smt_term.specs.Plain.{PlainType, OptionType, BitVecType, BoolType, EntityType, ExtensionType, StringType, RecordType, SetType, PatternPart, Character, Wildcard, PlainExtension, DecimalOf, Ipv4Of, Ipv6Of, DatetimeOf, DurationOf, BitVecLiteral, BoolLiteral, EntityLiteral, ExtensionLiteral, StringLiteral, PlainTerm, Application, NoneTerm, LiteralTerm, RecordTerm, SetTerm, SomeTerm, VariableTerm, PlainTerms, no_terms, one_term, PlainFields, no_fields, one_field}
 use Rattle.smt_sexpr.specs.Lexicon.{Bits, Number, Text, Name, is_digit, some_all, number_in}
 use Rattle.smt_sexpr.specs.Reading.{Expression, Leaf, Node, Expressions, Nil, Cons}
@@ -12,7 +12,7 @@ use Rattle.smt_semantics.specs.Quoting.{part_expr, pattern_expr}
 use Rattle.smt_lines.specs.Lines.{Tables, name_of_term, bits, bits_64, prefix_body, extension_body, with_pattern, none_body, empty_set, set_body, record_body}
 use Rattle.smt_lines.specs.Naming.{sort_of}
 use Rattle.smt_lines.specs.Entries.{given, named_text, text_of, texts_of, texts_of_fields}
-use Rattle.smt_headline.proofs.SelectionsRuns.{IsInside, or_parts}
+use Rattle.smt_headline.proofs.SelectionsRuns.{IsInside}
 
 -- the selectors that may be left open
 abbrev pub open_selectors : List (List ℕ)

@@ -20,8 +20,9 @@ use Rattle.smt_lines.proofs.Making.{functions_are_made}
 use Rattle.smt_lines.specs.Command.{is_written, are_written}
 use Rattle.smt_lines.specs.Fine.{IsFineOp, IsLeast, AreFine, kind_of_op}
 use Rattle.smt_lines.specs.Fit.{Fit, TypeStands, declares, kind_names, placed}
-use Rattle.smt_lines.proofs.Known.{or_right, GoodSort, GoodText, GoodTexts, TextsAre, sort_good, text_good, texts_good, more_good, applied_good, one_passes, type_stands, function_stands, bits_good}
+use Rattle.smt_lines.proofs.Known.{GoodSort, GoodText, GoodTexts, TextsAre, sort_good, text_good, texts_good, more_good, applied_good, one_passes, type_stands, function_stands, bits_good}
 use Rattle.smt_term.specs.Faults.{is_pattern_part}
+use Rattle.smt_semantics.proofs.Results.{or_right}
 
 -- ---- entries of types
 

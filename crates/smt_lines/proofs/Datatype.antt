@@ -26,9 +26,10 @@ use Rattle.smt_lines.specs.Lines.{Tables}
 use Rattle.smt_lines.proofs.Grow.{lookup_append}
 use Rattle.smt_lines.specs.Command.{all_built, is_written_constructor}
 use Rattle.smt_lines.specs.Fit.{EachLine, LineStands, Fit, Steps, declares, declares_sort, names_of_type, is_old_name_in, is_old_sort_in}
-use Rattle.smt_lines.proofs.Known.{or_left, or_right, one_passes}
+use Rattle.smt_lines.proofs.Known.{one_passes}
 use Rattle.smt_lines.proofs.Enter.{More, fit_grows, all_grow, old_stays, old_sort_stays, fresh_from}
 use Rattle.smt_lines.proofs.Single.{step_runs}
+use Rattle.smt_semantics.proofs.Results.{or_left, or_right}
 
 abbrev names_in_entries : List (List ℕ × Entry) → List (List ℕ)
 names_in_entries ds = map (λ p. p.0) ds

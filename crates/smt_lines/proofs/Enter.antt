@@ -21,7 +21,8 @@ use Rattle.smt_lines.specs.Growth.{Keeps}
 use Rattle.smt_lines.proofs.Kept.{BuildsNone, name_builds, name_kept, line_stays, lines_stay}
 use Rattle.smt_lines.specs.Fit.{IsRooted, Kept, EntryOf, TypeEntry, FunctionEntry, TermEntry, Fit, TypeStands, FunctionStands, TermStands, declares, first, behind_first, number_of, is_old, is_old_name_in, is_old_sort_in, of_kinds, kind_names, has_kind, names_of_type, option_names}
 use Rattle.smt_lines.proofs.Basic.{leads_alone, digit_first}
-use Rattle.smt_lines.proofs.Known.{or_left, or_right, each_append, each_map, one_passes, is_declared_old}
+use Rattle.smt_lines.proofs.Known.{each_append, each_map, one_passes, is_declared_old}
+use Rattle.smt_semantics.proofs.Results.{or_left, or_right}
 
 -- ---- tests that stay true
 

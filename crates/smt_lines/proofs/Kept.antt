@@ -13,7 +13,8 @@ use Rattle.smt_semantics.proofs.Grown.{constructors_append, constructors_other}
 use Rattle.smt_lines.specs.Line.{Line, Comment, DeclareDatatype, DeclareConst, DeclareFun, DefineFun, Assert, Push, Pop}
 use Rattle.smt_lines.specs.Command.{all_built}
 use Rattle.smt_lines.specs.Fit.{declares, declares_sort, constructor_at, BuildsOnly, IsRooted, Kept, LineStands, EachLine}
-use Rattle.smt_lines.proofs.Known.{or_left, or_right, one_passes}
+use Rattle.smt_lines.proofs.Known.{one_passes}
+use Rattle.smt_semantics.proofs.Results.{or_left, or_right}
 
 is_there : (n : List ℕ) (ds : List (List ℕ × Entry)) (x : Entry) → look_up n ds ≡ Some x → is_in n (map (λ p. p.0) ds) ≡ true
 is_there n [] x h = absurd (none h)

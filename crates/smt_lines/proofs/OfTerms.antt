@@ -19,12 +19,13 @@ use Rattle.smt_lines.proofs.Making.{terms_are_made, functions_are_made}
 use Rattle.smt_lines.proofs.Stays.{texts_stay}
 use Rattle.smt_lines.specs.Fine.{IsFineType, IsFineOp, IsLeast, IsFineId, IsFineLiteral, IsFine, AreFine, AreFineFields}
 use Rattle.smt_lines.specs.Fit.{HasRecord, EachLine, LineStands, Fit, Steps, StepsOf, declares, placed, names_of_entity}
-use Rattle.smt_lines.proofs.Known.{or_right, GoodSort, GoodText, GoodTexts, TextsAre, text_good, texts_good, applied_good}
+use Rattle.smt_lines.proofs.Known.{GoodSort, GoodText, GoodTexts, TextsAre, text_good, texts_good, applied_good}
 use Rattle.smt_lines.proofs.Kept.{itself_kept}
 use Rattle.smt_lines.proofs.Enter.{keeps_then}
 use Rattle.smt_lines.proofs.Single.{no_step, steps_then, unless_steps, define_steps, constant_steps, known_term}
 use Rattle.smt_lines.proofs.OfTypes.{types_step, functions_step, sort_later, good_later, itself}
 use Rattle.smt_lines.proofs.Bodies.{first_has_sort, stands_so, placed_passes, body_good, least_good, none_good, some_good, set_good, record_good, extension_good}
+use Rattle.smt_semantics.proofs.Results.{or_right}
 
 pub texts_keep : (s u : Tables) → Keeps s u → (ts : PlainTerms) (es : List Expression) → TextsAre s ts es → TextsAre u ts es
 texts_keep s u k no_terms [] h = tt
@@ -58,7 +59,7 @@ fields_are enums (one_field a t x) s =
 -- ---- names that have no line
 
 -- no fine application is written as `false`
-not_false : (op : PlainOp) (ts : PlainTerms) (type : PlainType) → manner op ts type ≡ AsFalse → IsFineOp op ts type → ⊥
+pub not_false : (op : PlainOp) (ts : PlainTerms) (type : PlainType) → manner op ts type ≡ AsFalse → IsFineOp op ts type → ⊥
 not_false BvnegoOp ts type e f = subst IsLeast e f
 not_false op ts type e f = absurd cc
 

@@ -21,11 +21,12 @@ use Rattle.smt_lines.specs.Command.{commands, commands_of, are_written, is_writt
 use Rattle.smt_lines.specs.Fit.{BuildsOnly, IsRooted, Fit, Kept, EachLine, LineStands}
 use Rattle.smt_lines.proofs.Kept.{first_only, first_rooted, kept_then, line_stays, lines_stay, lines_append}
 use Rattle.smt_lines.specs.Scripts.{TextsAreScripts}
-use Rattle.smt_lines.proofs.Known.{or_left, TextsAre, texts_good}
+use Rattle.smt_lines.proofs.Known.{TextsAre, texts_good}
 use Rattle.smt_lines.proofs.Enter.{fit_grows}
 use Rattle.smt_lines.proofs.Single.{commands_append, runs_then}
 use Rattle.smt_lines.proofs.OfTerms.{each_step, texts_are}
 use Rattle.smt_lines.proofs.Spelled.{one_holds, lines_hold}
+use Rattle.smt_semantics.proofs.Results.{or_left}
 
 -- ---- the first line
 

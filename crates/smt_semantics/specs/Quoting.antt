@@ -1,5 +1,5 @@
 -- How code points are written in a string, and patterns.
-use Rattle.std.specs.Prelude.{◌≡◌, ℕ, Bool, false, ◌&&◌, IsTrue, true, Some, map, ◌==◌, nat_le, if◌then◌else◌, codes, List, [], ◌∷◌, ◌++◌}
+use Rattle.std.specs.Prelude.{◌≡◌, ℕ, false, ◌&&◌, IsTrue, Some, map, ◌==◌, nat_le, if◌then◌else◌, codes, List, [], ◌∷◌, ◌++◌}
 use Rattle.std.specs.List.{flat_map, list_all}
 use Rattle.smt_term.specs.Faults.{is_pattern_part}
 use Rattle.smt_term.specs.TypeValues.{is_code_point}

@@ -41,10 +41,10 @@ module _ {X : Type 0} (P : X → Type 0) where
   pub all-last : (xs : List X) (y : X) → AllByRecursion P (xs ++ y ∷ []) → P y
   all-last xs y h = (all-back xs (y ∷ []) h).0
 
-inside : (t u : PlainType) → Some t ≡ Some u → t ≡ u
+pub inside : (t u : PlainType) → Some t ≡ Some u → t ≡ u
 inside t u e = ap (λ o. unwrap_or o t) e
 
-chosen : (b : Bool) (t u : PlainType) → then_some b t ≡ Some u → (b ≡ true) × (t ≡ u)
+pub chosen : (b : Bool) (t u : PlainType) → then_some b t ≡ Some u → (b ≡ true) × (t ≡ u)
 chosen true t u h = (refl, inside t u h)
 chosen false t u h = cc
 

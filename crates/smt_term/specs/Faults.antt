@@ -1,5 +1,5 @@
 -- The first fault that an encoder meets: a term's type, then its parts in order, then the term itself.
-use Rattle.std.specs.Prelude.{bytes_eq, ℕ, Bool, true, false, not, nat_le, List, [], ◌∷◌, Option, Some, None}
+use Rattle.std.specs.Prelude.{bytes_eq, ℕ, Bool, true, false, not, List, [], ◌∷◌, Option, Some, None}
 use Rattle.std.specs.List.{list_all, list_any}
 use Rattle.std.specs.Str.{chars}
 use Rattle.smt_term.specs.Types.{type_of, types_of, is_bits, attribute_in}
