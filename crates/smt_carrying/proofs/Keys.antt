@@ -15,8 +15,9 @@ use Rattle.smt_lines.specs.Lines.{Tables, name_of_type}
 use Rattle.smt_lines.specs.Naming.{type_name, HasEntry, HasDistinctNames, sort_of}
 use Rattle.smt_carrying.specs.Carry.{key_of}
 use Rattle.smt_term.proofs.TermTotal.{types_decided, functions_decided, terms_decided}
-use Rattle.smt_carrying.specs.Sorts.{IsNamed, Constructors, IsDeclared}
+use Rattle.smt_carrying.specs.Sorts.{IsNamed, IsDeclared}
 use Rattle.smt_carrying.specs.Interpretations.{either_type, wrapped_type, type_of_sort, HasNames}
+use Rattle.smt_semantics.specs.Growth.{Constructors}
 
 module _ {K : Type 0} (test : K → Bool) (k : K) (sound : (x : K) → test x ≡ true → k ≡ x) where
   entry_found : (es : List (K × List ℕ)) (n : List ℕ) → lookup test es ≡ Some n → HasEntry es k n

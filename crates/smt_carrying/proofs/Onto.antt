@@ -26,12 +26,13 @@ use Rattle.smt_lines.specs.Lines.{Tables, place_of, member_name}
 use Rattle.smt_lines.specs.Naming.{type_name, sort_of}
 use Rattle.smt_carrying.specs.Carry.{alone, signed_bits, signed_of, text_at, carry_prefix, carry_extension, carry_entity, carry, carry_values, carry_fields, back_prefix, back_extension, back_entity, back, back_values, back_fields}
 use Rattle.smt_carrying.specs.Order.{AreMembers, AreEnums}
-use Rattle.smt_carrying.specs.Sorts.{Constructors, member_constructors, entity_constructors, kind_constructors, option_constructors, at_place, IsNoDatatype, StandsAlways, IsNamed, IsDeclared, AreDeclared}
+use Rattle.smt_carrying.specs.Sorts.{member_constructors, entity_constructors, kind_constructors, option_constructors, IsNoDatatype, StandsAlways, IsNamed, IsDeclared, AreDeclared}
 use Rattle.std.specs.Ordering.{is_lt}
 use Rattle.smt_carrying.proofs.Members.{members_found, ascends_chars, behind}
 use Rattle.smt_carrying.proofs.Ordered.{keeps, one_to_one}
 use Rattle.smt_carrying.proofs.Sorted.{fields_themselves, sorted_value}
 use mathlib.Core.Logic.{⊎_elim}
+use Rattle.smt_semantics.specs.Growth.{Constructors, at_place}
 
 -- ---- what a constructor's value shows
 

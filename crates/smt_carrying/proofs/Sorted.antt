@@ -20,10 +20,11 @@ use Rattle.smt_lines.specs.Lines.{Tables, place_of, member_name}
 use Rattle.smt_lines.specs.Naming.{type_name, sort_of}
 use Rattle.smt_carrying.specs.Carry.{alone, signed_bits, carry_prefix, carry_extension, carry_entity, carry, carry_values, carry_fields}
 use Rattle.smt_carrying.specs.Order.{AreEnums}
-use Rattle.smt_carrying.specs.Sorts.{Constructors, member_constructors, entity_constructors, kind_constructors, option_constructors, at_place, IsDatatype, StandsAlways, IsNamed, IsDeclared, AreDeclared}
+use Rattle.smt_carrying.specs.Sorts.{member_constructors, entity_constructors, kind_constructors, option_constructors, IsDatatype, StandsAlways, IsNamed, IsDeclared, AreDeclared}
 use Rattle.smt_carrying.proofs.Ordered.{stays_sorted}
 use Rattle.smt_term.proofs.ValueOrder.{bytes_itself}
 use Rattle.std.proofs.lemmas.Slice.Eq.{bytes_eq-Decides}
+use Rattle.smt_semantics.specs.Growth.{Constructors, at_place}
 
 -- ---- tests from facts
 

@@ -1,13 +1,16 @@
 -- The sorts of types in a script, what it declares for them, and the values of these sorts carried back.
-use Rattle.std.specs.Prelude.{◌≡◌, ℕ, zero, suc, ◌≤◌, false, bytes_eq, codes, List, [], ◌∷◌, Option, Some, None, IsTrue, ⊤}
-use Rattle.smt_term.specs.Plain.{ExtensionKind, IpAddrKind, DecimalKind, DatetimeKind, DurationKind, PlainType, OptionType, BitVecType, BoolType, EntityType, ExtensionType, StringType, RecordType, SetType, AttributeTypes, no_attributes, attribute}
+use Rattle.std.specs.Prelude.{◌≡◌, ℕ, ◌≤◌, false, bytes_eq, codes, List, [], ◌∷◌, Option, Some, IsTrue, ⊤}
+use Rattle.smt_term.specs.Plain.{ExtensionKind, PlainType, OptionType, BitVecType, BoolType, EntityType, ExtensionType, StringType, RecordType, SetType, AttributeTypes, no_attributes, attribute}
 use Rattle.smt_term.specs.Values.{Value}
 use Rattle.smt_semantics.specs.ScriptValues.{ScriptValue}
 use Rattle.smt_term.specs.TypeValues.{IsValue, Enums, members_of}
 use Rattle.smt_sexpr.specs.Reading.{Expression}
-use Rattle.smt_semantics.specs.Script.{Builds, name}
-use Rattle.smt_semantics.specs.Sorts.{Entries, string_sort, bit_sort, option_sort, has_sort_in}
+use Rattle.smt_semantics.specs.Script.{Builds}
+use Rattle.smt_semantics.specs.Sorts.{Entries, has_sort_in}
 use Rattle.smt_lines.specs.Lines.{Tables, member_name}
+use Rattle.smt_semantics.specs.Growth.{Constructors, shown, at_place}
+use Rattle.smt_lines.specs.Command.{all_built}
+use Rattle.smt_lines.specs.Lines as lines
 use Rattle.smt_lines.specs.Naming.{type_name, sort_of}
 use Rattle.smt_lines.specs.Entries.{sorts_of}
 use Rattle.smt_carrying.specs.Carry.{carry, back}
@@ -15,31 +18,18 @@ use Rattle.smt_carrying.specs.Order.{AreEnums}
 
 -- ---- datatypes
 
--- constructors, each with the sorts of its fields
-abbrev pub Constructors : Type 0
-Constructors = List (List ℕ × List Expression)
-
+-- the constructors that are declared, each with the sorts of its fields
 abbrev pub member_constructors : (type : List ℕ) → ℕ → List (List ℕ) → Constructors
-member_constructors type place [] = []
-member_constructors type place (m ∷ ms) = (member_name type place, []) ∷ member_constructors type (suc place) ms
+member_constructors type place members = shown (all_built (lines.member_constructors type place members))
 
 abbrev pub entity_constructors : (members : Option (List (List ℕ))) → (type : List ℕ) → Constructors
-entity_constructors None type = (type, string_sort ∷ []) ∷ []
-entity_constructors (Some members) type = member_constructors type 0 members
+entity_constructors members type = shown (all_built (lines.entity_constructors members type))
 
 abbrev pub kind_constructors : ExtensionKind → Constructors
-kind_constructors IpAddrKind = (codes "V4", bit_sort 32 ∷ option_sort (bit_sort 5) ∷ []) ∷ (codes "V6", bit_sort 128 ∷ option_sort (bit_sort 7) ∷ []) ∷ []
-kind_constructors DecimalKind = (codes "Decimal", bit_sort 64 ∷ []) ∷ []
-kind_constructors DatetimeKind = (codes "Datetime", bit_sort 64 ∷ []) ∷ []
-kind_constructors DurationKind = (codes "Duration", bit_sort 64 ∷ []) ∷ []
+kind_constructors kind = shown (all_built (lines.kind_constructors kind))
 
 abbrev pub option_constructors : Constructors
-option_constructors = (codes "none", []) ∷ (codes "some", name (codes "X") ∷ []) ∷ []
-
-abbrev pub at_place : Constructors → ℕ → Option (List ℕ × List Expression)
-at_place [] place = None
-at_place (c ∷ cs) zero = Some c
-at_place (c ∷ cs) (suc place) = at_place cs place
+option_constructors = shown (all_built lines.option_constructors)
 
 -- What is declared builds values of this datatype by exactly these constructors.
 pub record IsDatatype (here : Entries) (d : List ℕ) (ps : List (List ℕ)) (cs : Constructors) : Type 0 where

@@ -34,7 +34,7 @@ use Rattle.smt_carrying.specs.Carry.{carry, carry_entity, carry_fields}
 use Rattle.smt_carrying.specs.Interpretations.{carry_constant}
 use Rattle.smt_carrying.specs.Operators.{carry_each}
 use Rattle.smt_carrying.specs.Order.{AreMembers}
-use Rattle.smt_carrying.specs.Sorts.{member_constructors, entity_constructors, at_place, IsNamed}
+use Rattle.smt_carrying.specs.Sorts.{member_constructors, entity_constructors, IsNamed}
 use Rattle.smt_carrying.proofs.Keys.{term_keyed}
 use Rattle.smt_carrying.proofs.Members.{tests_same, members_found}
 use Rattle.smt_carrying.proofs.Sets.{insertions}
@@ -47,6 +47,7 @@ use Rattle.smt_headline.proofs.Types.{type_stands, selectors_shown}
 use Rattle.smt_headline.proofs.Valued.{IsValued, AreValued, HaveValues}
 use Rattle.smt_headline.proofs.Worth.{Follows, carried, Worth, AreWorth, IsEntered, bits_worth, bits_fit, from_body, name_good, some_text, by_name, text_sorted}
 use Rattle.smt_term.proofs.Soundness.{chosen}
+use Rattle.smt_semantics.specs.Growth.{at_place}
 
 none_is : (t : PlainType) → None ≡ Some t → ⊥
 none_is t h = cc

@@ -110,6 +110,10 @@ abbrev pub member_constructors : (type : List ℕ) → ℕ → List (List ℕ) �
 member_constructors type place [] = []
 member_constructors type place (m ∷ ms) = Bare (member_name type place) ∷ member_constructors type (suc place) ms
 
+abbrev pub entity_constructors : (members : Option (List (List ℕ))) → (type : List ℕ) → List Constructor
+entity_constructors None type = Fielded type ((id_name type, string_sort) ∷ []) ∷ []
+entity_constructors (Some members) type = member_constructors type 0 members
+
 abbrev pub attribute_selectors : (type : List ℕ) → ℕ → List Expression → List (List ℕ × Expression)
 attribute_selectors type place [] = []
 attribute_selectors type place (sort ∷ sorts) = (attribute_name type place, sort) ∷ attribute_selectors type (suc place) sorts
@@ -119,9 +123,9 @@ listed texts = join_by (λ x. x) (codes ", ") texts
 
 abbrev pub entity_lines : (members : Option (List (List ℕ))) → (type sort : List ℕ) → List Line
 entity_lines None type sort =
-    Comment type ∷ DeclareDatatype sort [] (Fielded sort ((id_name sort, string_sort) ∷ []) ∷ []) ∷ []
+    Comment type ∷ DeclareDatatype sort [] (entity_constructors None sort) ∷ []
 entity_lines (Some members) type sort =
-    Comment (type ++ (codes "::[" ++ (listed members ++ codes "]"))) ∷ DeclareDatatype sort [] (member_constructors sort 0 members) ∷ []
+    Comment (type ++ (codes "::[" ++ (listed members ++ codes "]"))) ∷ DeclareDatatype sort [] (entity_constructors (Some members) sort) ∷ []
 
 abbrev pub record_lines : (attributes : List (List ℕ)) → (sort : List ℕ) → List Expression → List Line
 record_lines attributes sort sorts =
@@ -417,10 +421,12 @@ pub record Encoding : Type 0 where
 abbrev pub fresh : Encoding
 fresh = record { tables = no_names; below = []; begun = false }
 
+abbrev pub option_constructors : List Constructor
+option_constructors = Bare (codes "none") ∷ Fielded (codes "some") ((codes "val", name (codes "X")) ∷ []) ∷ []
+
 -- `Option`, with its constructors
 abbrev pub option_line : Line
-option_line = DeclareDatatype (codes "Option") (codes "X" ∷ [])
-    (Bare (codes "none") ∷ Fielded (codes "some") ((codes "val", name (codes "X")) ∷ []) ∷ [])
+option_line = DeclareDatatype (codes "Option") (codes "X" ∷ []) option_constructors
 
 abbrev pub beginning : Bool → List Line
 beginning true = []
