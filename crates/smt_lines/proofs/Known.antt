@@ -25,8 +25,6 @@ use Rattle.smt_lines.specs.Fit.{Fit, TypeStands, FunctionStands, TermStands, dec
 use Rattle.smt_lines.proofs.Basic.{numeral_digits, bv_name}
 use Rattle.smt_semantics.proofs.Results.{or_left, or_right}
 
-
-
 some_same : {A : Type 0} {a b : A} → Some a ≡ Some b → a ≡ b
 some_same h = cc
 
