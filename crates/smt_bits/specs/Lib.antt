@@ -1,2 +1,3 @@
 pub mod BitVectors
 pub mod Examples
+pub mod Widths

@@ -5,15 +5,19 @@ use Rattle.std.specs.Map.{lookup}
 use Rattle.std.proofs.lemmas.Slice.Eq.{bytes_eq-Decides}
 use mathlib.Core.Logic.{⊎_elim}
 use Rattle.smt_term.specs.Plain.{PlainType, OptionType, BitVecType, BoolType, EntityType, ExtensionType, StringType, RecordType, SetType, PlainFunction, PlainTerm}
+use Rattle.smt_term.specs.Types.{type_eq}
+use Rattle.smt_term.specs.Interpretations.{function_eq}
+use Rattle.smt_term.specs.TermOrder.{term_eq}
+use Rattle.smt_term.specs.TypeValues.{Enums}
 use Rattle.smt_semantics.specs.Script.{name}
 use Rattle.smt_semantics.specs.Sorts.{Entries}
-use Rattle.smt_lines.specs.Same.{same_type, same_function, same_term}
-use Rattle.smt_lines.specs.Lines.{Enums, Tables, name_of_type}
-use Rattle.smt_lines.specs.Naming.{type_name, HasEntry, HasDistinctNames}
+use Rattle.smt_lines.specs.Lines.{Tables, name_of_type}
+use Rattle.smt_lines.specs.Naming.{type_name, HasEntry, HasDistinctNames, sort_of}
 use Rattle.smt_carrying.specs.Carry.{key_of}
-use Rattle.smt_lines.proofs.Sound as laws
-use Rattle.smt_carrying.specs.Sorts.{script_sort, IsNamed, Constructors, IsDeclared}
+use Rattle.smt_term.proofs.TermTotal.{types_decided, functions_decided, terms_decided}
+use Rattle.smt_carrying.specs.Sorts.{IsNamed, IsDeclared}
 use Rattle.smt_carrying.specs.Interpretations.{either_type, wrapped_type, type_of_sort, HasNames}
+use Rattle.smt_semantics.specs.Growth.{Constructors}
 
 module _ {K : Type 0} (test : K → Bool) (k : K) (sound : (x : K) → test x ≡ true → k ≡ x) where
   entry_found : (es : List (K × List ℕ)) (n : List ℕ) → lookup test es ≡ Some n → HasEntry es k n
@@ -39,19 +43,19 @@ module _ {K : Type 0} (test : K → Bool) (k : K) (sound : (x : K) → test x �
       let r : (m : K) × (key_of es n ≡ Some m) × HasEntry es m n = key_there es k n (entry_found es n h) in
       r.1 ∙ ap Some (distinct n r.0 k r.2 (entry_found es n h))
 
-pub term_keyed : (s : Tables) (t : PlainTerm) (n : List ℕ) → HasDistinctNames s.terms → lookup (same_term t) s.terms ≡ Some n → key_of s.terms n ≡ Some t
-term_keyed s t n d h = key_found (same_term t) t (λ x e. (laws.same_terms_are_one t x).0 e) s.terms n d h
+pub term_keyed : (s : Tables) (t : PlainTerm) (n : List ℕ) → HasDistinctNames s.terms → lookup (term_eq t) s.terms ≡ Some n → key_of s.terms n ≡ Some t
+term_keyed s t n d h = key_found (term_eq t) t (λ x e. (terms_decided t x).0 e) s.terms n d h
 
-pub function_keyed : (s : Tables) (f : PlainFunction) (n : List ℕ) → HasDistinctNames s.functions → lookup (same_function f) s.functions ≡ Some n → key_of s.functions n ≡ Some f
-function_keyed s f n d h = key_found (same_function f) f (λ x e. (laws.same_functions f x).0 e) s.functions n d h
+pub function_keyed : (s : Tables) (f : PlainFunction) (n : List ℕ) → HasDistinctNames s.functions → lookup (function_eq f) s.functions ≡ Some n → key_of s.functions n ≡ Some f
+function_keyed s f n d h = key_found (function_eq f) f (λ x e. (functions_decided f x).0 e) s.functions n d h
 
 module _ (enums : Enums) (s : Tables) (here : Entries) (distinct : HasDistinctNames s.types) where
   own_name : (t : PlainType) (n : List ℕ) (cs : Constructors) → IsNamed here n cs → name_of_type s t ≡ Some n → type_of_sort s (name n) ≡ Some t
   own_name t n cs d h =
       (λ i. either_type (cond (d.not_bool i) (Some BoolType) (cond (d.not_string i) (Some StringType) None)) (key_of s.types n))
-      ∙ key_found (same_type t) t (λ x e. (laws.same_types t x).0 e) s.types n distinct h
+      ∙ key_found (type_eq t) t (λ x e. (types_decided t x).0 e) s.types n distinct h
 
-  pub sort_shows : (t : PlainType) → IsDeclared enums s here t → HasNames s t → type_of_sort s (script_sort s t) ≡ Some t
+  pub sort_shows : (t : PlainType) → IsDeclared enums s here t → HasNames s t → type_of_sort s (sort_of s t) ≡ Some t
   sort_shows (OptionType t) d h = ap (wrapped_type (name (codes "Option"))) (sort_shows t d h)
   sort_shows (BitVecType n) d h = refl
   sort_shows BoolType d h = refl

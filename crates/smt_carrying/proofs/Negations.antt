@@ -13,9 +13,9 @@ use Rattle.std.specs.declared.cmp.Ordering.TheVariants.{Equal}
 use Rattle.smt_bits.specs.BitVectors as bits
 use Rattle.smt_term.specs.Operators.{apply}
 use Rattle.smt_term.specs.Tables.{Interpretation}
-use Rattle.smt_term.specs.TypeValues.{IsValue}
+use Rattle.smt_term.specs.TypeValues.{IsValue, Enums}
 use Rattle.smt_semantics.specs.Value.{operator_value}
-use Rattle.smt_lines.specs.Lines.{Enums, Tables}
+use Rattle.smt_lines.specs.Lines.{Tables}
 use Rattle.smt_carrying.specs.Carry.{carry}
 use Rattle.smt_carrying.specs.Order.{AreEnums}
 use Rattle.smt_carrying.proofs.Ordered.{same_values}

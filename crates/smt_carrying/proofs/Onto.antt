@@ -1,6 +1,6 @@
 -- Values of a type's sort are carried values.
 use Rattle.std.proofs.Common.{◌≡◌, ℕ, zero, suc, ◌+◌, ◌-◌, ◌^◌, ◌<◌, ◌≤◌, Bool, true, false, cond, ◌&&◌, ◌||◌, length, List, [], ◌∷◌, map, refl, sym, ap, ◌∙◌, subst, arith, inl, inr}
-use Rattle.std.specs.Prelude.{◌⊎◌, codes, bytes_eq, nat_le, nat_lt, ◌==◌, ℤ, pos, negsuc, Option, Some, None, IfSome, unwrap_or}
+use Rattle.std.specs.Prelude.{◌⊎◌, codes, bytes_eq, nat_lt, ◌==◌, ℤ, pos, negsuc, Option, Some, None, IfSome, unwrap_or}
 use Rattle.std.specs.Str.{chars}
 use Rattle.std.specs.List.{AllByRecursion, list_all, list_any}
 use Rattle.std.specs.Cmp.{first_so, second_so}
@@ -11,27 +11,28 @@ use Rattle.std.proofs.lemmas.Slice.Eq.{bytes_eq-Decides}
 use Rattle.smt_term.specs.Plain.{ExtensionKind, IpAddrKind, DecimalKind, DatetimeKind, DurationKind, PlainType, OptionType, BitVecType, BoolType, EntityType, ExtensionType, StringType, RecordType, SetType, AttributeTypes, no_attributes, attribute, PlainExtension, DecimalOf, DatetimeOf, DurationOf}
 use Rattle.smt_term.specs.Values.{Value, EntityValue, Values, no_values, one_value}
 use Rattle.smt_semantics.specs.ScriptValues.{ScriptValue, TruthOf, BitsOf, TextOf, ConstructorOf, SetOf, ScriptValues, no_script_values, one_script_value}
-use Rattle.smt_term.specs.TypeValues.{IsValue, AreFieldValues, IsExtension, IsId, IsLong, IsPrefix, AreCodePoints}
-use Rattle.smt_term.specs.ValueOrder.{list_of_values, text_cmp, text_eq, value_cmp, ascends, is_below}
-use Rattle.smt_term.proofs.ValueOrder.{text_itself}
-use Rattle.smt_semantics.specs.Arithmetic.{is_width, are_bits}
+use Rattle.smt_term.specs.TypeValues.{is_code_point, greatest_code_point, IsValue, AreFieldValues, IsExtension, IsId, IsLong, IsPrefix, AreCodePoints, Enums, members_of}
+use Rattle.smt_term.specs.ValueOrder.{list_of_values, text_cmp, value_cmp, ascends, is_below}
+use Rattle.smt_term.proofs.ValueOrder.{text_itself, bytes_itself}
+use Rattle.smt_bits.specs.Widths.{is_width, are_bits}
 use Rattle.smt_sexpr.specs.Lexicon.{Name, Number}
 use Rattle.smt_semantics.specs.Order as script
-use Rattle.smt_semantics.specs.Order.{order, is_before}
+use Rattle.smt_semantics.specs.Order.{order}
 use Rattle.smt_sexpr.specs.Reading.{Expression, Leaf, Node, Expressions, Nil, Cons}
 use Rattle.smt_semantics.specs.Script.{Entry, Builds, name, ◌>>=◌}
-use Rattle.smt_semantics.specs.Sorts.{Entries, string_sort, bit_sort, same_sort, listed_sorts, paired, instance, fields_at, constructor_fields, has_sort_in, have_sorts_in, all_have_sort_in}
-use Rattle.smt_lines.specs.Lines.{Enums, Tables, members_of, place_of, member_name}
-use Rattle.smt_lines.specs.Naming.{type_name}
+use Rattle.smt_semantics.specs.Sorts.{Entries, string_sort, bit_sort, same_sort, listed_sorts, paired, instance, fields_at, constructor_fields, has_sort_in, have_sorts_in, all_have_sort_in, option_sort}
+use Rattle.smt_lines.specs.Entries.{sorts_of}
+use Rattle.smt_lines.specs.Lines.{Tables, place_of, member_name}
+use Rattle.smt_lines.specs.Naming.{type_name, sort_of}
 use Rattle.smt_carrying.specs.Carry.{alone, signed_bits, signed_of, text_at, carry_prefix, carry_extension, carry_entity, carry, carry_values, carry_fields, back_prefix, back_extension, back_entity, back, back_values, back_fields}
 use Rattle.smt_carrying.specs.Order.{AreMembers, AreEnums}
-use Rattle.smt_carrying.specs.Sorts.{option_sort, script_sort, field_sorts, Constructors, member_constructors, entity_constructors, kind_constructors, option_constructors, at_place, IsNoDatatype, StandsAlways, IsNamed, IsDeclared, AreDeclared}
-use Rattle.smt_carrying.proofs.Agree.{before_compared}
-use Rattle.smt_carrying.proofs.Members.{members_same, members_found, ascends_chars, behind}
-use Rattle.smt_carrying.proofs.Ordered.{keeps, one_to_one, text_itself_is}
-use Rattle.smt_carrying.proofs.Selectors.{bytes_itself}
+use Rattle.smt_carrying.specs.Sorts.{member_constructors, entity_constructors, kind_constructors, option_constructors, IsNoDatatype, StandsAlways, IsNamed, IsDeclared, AreDeclared}
+use Rattle.std.specs.Ordering.{is_lt}
+use Rattle.smt_carrying.proofs.Members.{members_found, ascends_chars, behind}
+use Rattle.smt_carrying.proofs.Ordered.{keeps, one_to_one}
 use Rattle.smt_carrying.proofs.Sorted.{fields_themselves, sorted_value}
 use mathlib.Core.Logic.{⊎_elim}
+use Rattle.smt_semantics.specs.Growth.{Constructors, at_place}
 
 -- ---- what a constructor's value shows
 
@@ -137,9 +138,9 @@ no_more : (here : Entries) (vs : ScriptValues) → have_sorts_in here [] vs ≡ 
 no_more here no_script_values h = refl
 no_more here (one_script_value v vs) h = absurd cc
 
-code_points : (s : List ℕ) → list_all (λ c. nat_le c 196607) s ≡ true → AreCodePoints s
+code_points : (s : List ℕ) → list_all is_code_point s ≡ true → AreCodePoints s
 code_points [] h = tt
-code_points (c ∷ s) h = (leb-true c 196607 (first_so (nat_le c 196607) (list_all (λ d. nat_le d 196607) s) h), code_points s (second_so (nat_le c 196607) (list_all (λ d. nat_le d 196607) s) h))
+code_points (c ∷ s) h = (leb-true c greatest_code_point (first_so (is_code_point c) (list_all is_code_point s) h), code_points s (second_so (is_code_point c) (list_all is_code_point s) h))
 
 below_width : (w a : ℕ) → are_bits w a ≡ true → a < 2 ^ w
 below_width w a h = ltb-true a (2 ^ w) (second_so (is_width w) (nat_lt a (2 ^ w)) h)
@@ -164,12 +165,12 @@ member_placed n start (m ∷ ms) (suc p) c fields e =
     let l : p < length ms = r.0 in
     (omega arith, r.1 ∙ ap (member_name n) (let q : suc start + p ≡ start + suc p = omega arith in q), r.2)
 
-text_in : (ms : List (List ℕ)) (place : ℕ) → place < length ms → list_any (λ m. text_eq m (text_at ms place)) ms ≡ true
+text_in : (ms : List (List ℕ)) (place : ℕ) → place < length ms → list_any (λ m. bytes_eq m (text_at ms place)) ms ≡ true
 text_in [] place l = absurd (omega arith)
-text_in (m ∷ ms) zero l = ap (λ b. b || list_any (λ x. text_eq x m) ms) (text_itself m)
-text_in (m ∷ ms) (suc p) l = by (text_eq m (text_at ms p)) (text_in ms p (omega arith))
+text_in (m ∷ ms) zero l = ap (λ b. b || list_any (λ x. bytes_eq x m) ms) (bytes_itself m)
+text_in (m ∷ ms) (suc p) l = by (bytes_eq m (text_at ms p)) (text_in ms p (omega arith))
   where
-    by : (b : Bool) → list_any (λ x. text_eq x (text_at ms p)) ms ≡ true → (b || list_any (λ x. text_eq x (text_at ms p)) ms) ≡ true
+    by : (b : Bool) → list_any (λ x. bytes_eq x (text_at ms p)) ms ≡ true → (b || list_any (λ x. bytes_eq x (text_at ms p)) ms) ≡ true
     by true h = refl
     by false h = h
 
@@ -187,7 +188,7 @@ place_found (m ∷ ms) (suc p) h l =
     differs false e = e
     differs true e =
         let q : text_at ms p ≡ m = (bytes_eq-Decides (text_at ms p) m).0 e in
-        let z : Less ≡ Equal = sym less ∙ (ap (text_cmp m) q ∙ text_itself_is m) in absurd cc
+        let z : Less ≡ Equal = sym less ∙ (ap (text_cmp m) q ∙ text_itself m) in absurd cc
 
 text_chars : (ms : List (List ℕ)) (place : ℕ) → place < length ms → text_at (map chars ms) place ≡ chars (text_at ms place)
 text_chars [] place l = absurd (omega arith)
@@ -198,11 +199,11 @@ length_chars : (ms : List (List ℕ)) → length (map chars ms) ≡ length ms
 length_chars [] = refl
 length_chars (m ∷ ms) = ap suc (length_chars ms)
 
-back_any : (i : List ℕ) (ms : List (List ℕ)) → list_any (λ m. text_eq m i) (map chars ms) ≡ true → list_any (λ m. text_eq (chars m) i) ms ≡ true
+back_any : (i : List ℕ) (ms : List (List ℕ)) → list_any (λ m. bytes_eq m i) (map chars ms) ≡ true → list_any (λ m. bytes_eq (chars m) i) ms ≡ true
 back_any i [] h = h
-back_any i (m ∷ ms) h = by (text_eq (chars m) i) h (back_any i ms)
+back_any i (m ∷ ms) h = by (bytes_eq (chars m) i) h (back_any i ms)
   where
-    by : (a : Bool) → (a || list_any (λ x. text_eq x i) (map chars ms)) ≡ true → (list_any (λ x. text_eq x i) (map chars ms) ≡ true → list_any (λ x. text_eq (chars x) i) ms ≡ true) → (a || list_any (λ x. text_eq (chars x) i) ms) ≡ true
+    by : (a : Bool) → (a || list_any (λ x. bytes_eq x i) (map chars ms)) ≡ true → (list_any (λ x. bytes_eq x i) (map chars ms) ≡ true → list_any (λ x. bytes_eq (chars x) i) ms ≡ true) → (a || list_any (λ x. bytes_eq (chars x) i) ms) ≡ true
     by true e f = refl
     by false e f = f e
 
@@ -333,7 +334,7 @@ module _ (here : Entries) (always : StandsAlways here) where
       let p : place_of (chars (text_at members place)) (map chars members) ≡ place = ap (λ x. place_of x (map chars members)) (sym t) ∙ place_found (map chars members) place (ascends_chars members m.texts m.ascending) k in (
         chars (text_at members place),
         refl,
-        back_any (chars (text_at members place)) members (ap (λ x. list_any (λ y. text_eq y x) (map chars members)) (sym t) ∙ text_in (map chars members) place k),
+        back_any (chars (text_at members place)) members (ap (λ x. list_any (λ y. bytes_eq y x) (map chars members)) (sym t) ∙ text_in (map chars members) place k),
         (λ i. ConstructorOf (p i) (member_name n (p i)) no_script_values) ∙ λ i. ConstructorOf place (sym (o.1 ∙ ap (member_name n) z) i) (sym r i),
       )
 
@@ -344,16 +345,16 @@ module _ (here : Entries) (always : StandsAlways here) where
     entity_onto : (e : List ℕ) (place : ℕ) (c : List ℕ) (vs : ScriptValues) → EntityReturns (members_of enums e) e (type_name s (EntityType e)) place c vs → Onto (EntityType e) (ConstructorOf place c vs)
     entity_onto e place c vs r =
         subst (λ v. IsValue enums (EntityType e) v × (carry enums s (EntityType e) v ≡ ConstructorOf place c vs)) (sym r.1)
-        ((refl, subst (λ m. IsId m r.0) (members_same enums e) r.2), r.3)
+        ((refl, r.2), r.3)
 
     -- values that are carried to a set that ascends, ascend
     ascends_back : (t : PlainType) (ws : Values) → AllByRecursion (λ v. IsValue enums t v) (list_of_values ws) → script.ascends (carry_values enums s t ws) ≡ true → ascends value_cmp (list_of_values ws) ≡ true
     ascends_back t no_values k h = refl
     ascends_back t (one_value w no_values) k h = refl
     ascends_back t (one_value v (one_value w ws)) k h =
-        let c : is_before (order (carry enums s t v) (carry enums s t w)) ≡ true = first_so (is_before (order (carry enums s t v) (carry enums s t w))) (script.ascends_from (carry enums s t w) (carry_values enums s t ws)) h in
-        both_true (sym (ap is_before (keeps enums s good t v w k.0 k.1.0) ∙ before_compared (value_cmp v w)) ∙ c)
-        (ascends_back t (one_value w ws) k.1 (second_so (is_before (order (carry enums s t v) (carry enums s t w))) (script.ascends_from (carry enums s t w) (carry_values enums s t ws)) h))
+        let c : is_lt (order (carry enums s t v) (carry enums s t w)) ≡ true = first_so (is_lt (order (carry enums s t v) (carry enums s t w))) (script.ascends_from (carry enums s t w) (carry_values enums s t ws)) h in
+        both_true (sym (ap is_lt (keeps enums s good t v w k.0 k.1.0)) ∙ c)
+        (ascends_back t (one_value w ws) k.1 (second_so (is_lt (order (carry enums s t v) (carry enums s t w))) (script.ascends_from (carry enums s t w) (carry_values enums s t ws)) h))
 
     not_text : (n : List ℕ) (cs : Constructors) (b : Bool) → IsNamed here n cs → (bytes_eq n (codes "String") && b) ≡ true → ⊥
     not_text n cs b d h = let z : true ≡ false = sym (first_so (bytes_eq n (codes "String")) b h) ∙ d.not_string in cc
@@ -362,7 +363,7 @@ module _ (here : Entries) (always : StandsAlways here) where
     not_truth n cs d h = let z : true ≡ false = sym h ∙ d.not_bool in cc
 
     mutual
-      pub onto : (ty : PlainType) (x : ScriptValue) → IsDeclared enums s here ty → has_sort_in here (script_sort s ty) x ≡ true → Onto ty x
+      pub onto : (ty : PlainType) (x : ScriptValue) → IsDeclared enums s here ty → has_sort_in here (sort_of s ty) x ≡ true → Onto ty x
       onto BoolType (TruthOf b) d h = (tt, refl)
       onto BoolType (ConstructorOf place c vs) d h = absurd (not_named here (codes "Bool") place c vs always.truths h)
       onto BoolType x d h = absurd cc
@@ -376,53 +377,53 @@ module _ (here : Entries) (always : StandsAlways here) where
       onto StringType x d h = absurd cc
       onto (EntityType e) (ConstructorOf place c vs) d h =
           entity_onto e place c vs
-          (entity_returns (members_of enums e) (type_name s (EntityType e)) place c vs e (subst (λ m. IfSome m AreMembers) (sym (members_same enums e)) (members_found enums e good))
+          (entity_returns (members_of enums e) (type_name s (EntityType e)) place c vs e (members_found enums e good)
           (named_fields here (type_name s (EntityType e)) (entity_constructors (members_of enums e) (type_name s (EntityType e))) place c vs d h))
       onto (EntityType e) (TruthOf b) d h = absurd (not_truth (type_name s (EntityType e)) (entity_constructors (members_of enums e) (type_name s (EntityType e))) d h)
-      onto (EntityType e) (TextOf t) d h = absurd (not_text (type_name s (EntityType e)) (entity_constructors (members_of enums e) (type_name s (EntityType e))) (list_all (λ c. nat_le c 196607) t) d h)
+      onto (EntityType e) (TextOf t) d h = absurd (not_text (type_name s (EntityType e)) (entity_constructors (members_of enums e) (type_name s (EntityType e))) (list_all is_code_point t) d h)
       onto (EntityType e) x d h = absurd cc
       onto (ExtensionType kind) (ConstructorOf place c vs) d h = extension_returns kind place c vs (named_fields here (type_name s (ExtensionType kind)) (kind_constructors kind) place c vs d h)
       onto (ExtensionType kind) (TruthOf b) d h = absurd (not_truth (type_name s (ExtensionType kind)) (kind_constructors kind) d h)
-      onto (ExtensionType kind) (TextOf t) d h = absurd (not_text (type_name s (ExtensionType kind)) (kind_constructors kind) (list_all (λ c. nat_le c 196607) t) d h)
+      onto (ExtensionType kind) (TextOf t) d h = absurd (not_text (type_name s (ExtensionType kind)) (kind_constructors kind) (list_all is_code_point t) d h)
       onto (ExtensionType kind) x d h = absurd cc
       onto (OptionType t) (ConstructorOf place c no_script_values) d h =
-          let o : (place ≡ 0) × (c ≡ codes "none") = none_shown (script_sort s t) place c h in
+          let o : (place ≡ 0) × (c ≡ codes "none") = none_shown (sort_of s t) place c h in
           (tt, λ i. ConstructorOf (sym o.0 i) (sym o.1 i) no_script_values)
       onto (OptionType t) (ConstructorOf place c (one_script_value y ys)) d h =
-          let o : (place ≡ 1) × (c ≡ codes "some") × (has_sort_in here (script_sort s t) y ≡ true) × (ys ≡ no_script_values) = some_shown (script_sort s t) place c y ys h in
+          let o : (place ≡ 1) × (c ≡ codes "some") × (has_sort_in here (sort_of s t) y ≡ true) × (ys ≡ no_script_values) = some_shown (sort_of s t) place c y ys h in
           let r : Onto t y = onto t y d o.2 in
           (r.0, λ i. ConstructorOf (sym o.0 i) (sym o.1 i) (one_script_value (r.1 i) (sym o.3 i)))
       onto (OptionType t) x d h = absurd cc
       onto (RecordType x) (ConstructorOf place c vs) d h =
-          let f : Fielded here ((type_name s (RecordType x), field_sorts s x) ∷ []) place c vs = named_fields here (type_name s (RecordType x)) ((type_name s (RecordType x), field_sorts s x) ∷ []) place c vs d.0 h in
-          let o : (place ≡ 0) × (c ≡ type_name s (RecordType x)) × (f.fields ≡ field_sorts s x) = the_only (type_name s (RecordType x)) (field_sorts s x) place c f.fields f.stands in
+          let f : Fielded here ((type_name s (RecordType x), sorts_of s x) ∷ []) place c vs = named_fields here (type_name s (RecordType x)) ((type_name s (RecordType x), sorts_of s x) ∷ []) place c vs d.0 h in
+          let o : (place ≡ 0) × (c ≡ type_name s (RecordType x)) × (f.fields ≡ sorts_of s x) = the_only (type_name s (RecordType x)) (sorts_of s x) place c f.fields f.stands in
           let r : AreFieldValues enums x (back_fields enums x vs) × (carry_fields enums s x (back_fields enums x vs) ≡ vs) = onto_fields x vs d.1 (subst (λ fs. have_sorts_in here fs vs ≡ true) o.2 f.typed) in
           (r.0, λ i. ConstructorOf (sym o.0 i) (sym o.1 i) (r.1 i))
-      onto (RecordType x) (TruthOf b) d h = absurd (not_truth (type_name s (RecordType x)) ((type_name s (RecordType x), field_sorts s x) ∷ []) d.0 h)
-      onto (RecordType x) (TextOf t) d h = absurd (not_text (type_name s (RecordType x)) ((type_name s (RecordType x), field_sorts s x) ∷ []) (list_all (λ c. nat_le c 196607) t) d.0 h)
+      onto (RecordType x) (TruthOf b) d h = absurd (not_truth (type_name s (RecordType x)) ((type_name s (RecordType x), sorts_of s x) ∷ []) d.0 h)
+      onto (RecordType x) (TextOf t) d h = absurd (not_text (type_name s (RecordType x)) ((type_name s (RecordType x), sorts_of s x) ∷ []) (list_all is_code_point t) d.0 h)
       onto (RecordType x) v d h = absurd cc
       onto (SetType t) (SetOf vs) d h =
-          let r : AllByRecursion (λ v. IsValue enums t v) (list_of_values (back_values enums t vs)) × (carry_values enums s t (back_values enums t vs) ≡ vs) = onto_each t vs d (first_so (all_have_sort_in here (script_sort s t) vs) (script.ascends vs) h) in
-          ((ascends_back t (back_values enums t vs) r.0 (ap script.ascends r.1 ∙ second_so (all_have_sort_in here (script_sort s t) vs) (script.ascends vs) h), r.0), ap SetOf r.1)
-      onto (SetType t) (ConstructorOf place c vs) d h = absurd (not_grouped here (codes "Set") (script_sort s t) Nil place c vs always.sets h)
+          let r : AllByRecursion (λ v. IsValue enums t v) (list_of_values (back_values enums t vs)) × (carry_values enums s t (back_values enums t vs) ≡ vs) = onto_each t vs d (first_so (all_have_sort_in here (sort_of s t) vs) (script.ascends vs) h) in
+          ((ascends_back t (back_values enums t vs) r.0 (ap script.ascends r.1 ∙ second_so (all_have_sort_in here (sort_of s t) vs) (script.ascends vs) h), r.0), ap SetOf r.1)
+      onto (SetType t) (ConstructorOf place c vs) d h = absurd (not_grouped here (codes "Set") (sort_of s t) Nil place c vs always.sets h)
       onto (SetType t) x d h = absurd cc
 
-      onto_each : (t : PlainType) (vs : ScriptValues) → IsDeclared enums s here t → all_have_sort_in here (script_sort s t) vs ≡ true
+      onto_each : (t : PlainType) (vs : ScriptValues) → IsDeclared enums s here t → all_have_sort_in here (sort_of s t) vs ≡ true
           → AllByRecursion (λ v. IsValue enums t v) (list_of_values (back_values enums t vs)) × (carry_values enums s t (back_values enums t vs) ≡ vs)
       onto_each t no_script_values d h = (tt, refl)
       onto_each t (one_script_value y ys) d h =
-          let p : Onto t y = onto t y d (first_so (has_sort_in here (script_sort s t) y) (all_have_sort_in here (script_sort s t) ys) h) in
-          let r : AllByRecursion (λ v. IsValue enums t v) (list_of_values (back_values enums t ys)) × (carry_values enums s t (back_values enums t ys) ≡ ys) = onto_each t ys d (second_so (has_sort_in here (script_sort s t) y) (all_have_sort_in here (script_sort s t) ys) h) in
+          let p : Onto t y = onto t y d (first_so (has_sort_in here (sort_of s t) y) (all_have_sort_in here (sort_of s t) ys) h) in
+          let r : AllByRecursion (λ v. IsValue enums t v) (list_of_values (back_values enums t ys)) × (carry_values enums s t (back_values enums t ys) ≡ ys) = onto_each t ys d (second_so (has_sort_in here (sort_of s t) y) (all_have_sort_in here (sort_of s t) ys) h) in
           ((p.0, r.0), λ i. one_script_value (p.1 i) (r.1 i))
 
-      onto_fields : (x : AttributeTypes) (vs : ScriptValues) → AreDeclared enums s here x → have_sorts_in here (field_sorts s x) vs ≡ true
+      onto_fields : (x : AttributeTypes) (vs : ScriptValues) → AreDeclared enums s here x → have_sorts_in here (sorts_of s x) vs ≡ true
           → AreFieldValues enums x (back_fields enums x vs) × (carry_fields enums s x (back_fields enums x vs) ≡ vs)
       onto_fields no_attributes no_script_values d h = (tt, refl)
       onto_fields no_attributes (one_script_value y ys) d h = absurd cc
       onto_fields (attribute a t x) no_script_values d h = absurd cc
       onto_fields (attribute a t x) (one_script_value y ys) d h =
-          let p : Onto t y = onto t y d.0 (first_so (has_sort_in here (script_sort s t) y) (have_sorts_in here (field_sorts s x) ys) h) in
-          let r : AreFieldValues enums x (back_fields enums x ys) × (carry_fields enums s x (back_fields enums x ys) ≡ ys) = onto_fields x ys d.1 (second_so (has_sort_in here (script_sort s t) y) (have_sorts_in here (field_sorts s x) ys) h) in
+          let p : Onto t y = onto t y d.0 (first_so (has_sort_in here (sort_of s t) y) (have_sorts_in here (sorts_of s x) ys) h) in
+          let r : AreFieldValues enums x (back_fields enums x ys) × (carry_fields enums s x (back_fields enums x ys) ≡ ys) = onto_fields x ys d.1 (second_so (has_sort_in here (sort_of s t) y) (have_sorts_in here (sorts_of s x) ys) h) in
           ((refl, p.0, r.0), λ i. one_script_value (p.1 i) (r.1 i))
 
     pub comes_back : (ty : PlainType) (v : Value) → IsDeclared enums s here ty → IsValue enums ty v → back enums ty (carry enums s ty v) ≡ v

@@ -13,18 +13,19 @@ use Rattle.smt_semantics.specs.Script.{Entry, Constant, Function, Selects, State
 use Rattle.smt_semantics.specs.Sorts.{Entries, entries, has_sort_in}
 use Rattle.smt_semantics.specs.Value as script
 use Rattle.smt_semantics.specs.Value.{IsScriptInterpretation, AgreeFor, AgreeAt, AgreeOn, applied_selectors, is_table, is_other, are_others, is_entry_given, is_selector_given}
+use Rattle.smt_lines.specs.Naming.{sort_of}
 use Rattle.smt_lines.specs.Lines.{Tables}
 use Rattle.smt_carrying.specs.Operators.{selector_name, selector_constructor}
-use Rattle.smt_carrying.specs.Sorts.{script_sort}
 use Rattle.smt_carrying.specs.Interpretations.{ip_type, is_range_selector, IsGivenRange, GiveRangeSame, AreOthers, IsScriptGiven, GivesReachedNames, GiveNameSame, AgreeOnNames}
 use Rattle.smt_carrying.specs.Open.{Occurs, IsOpenEntry, IsOpenSelection, GivenNamesInterpret, NamesAgree}
 use Rattle.std.proofs.lemmas.List.Elements.{All-from_recursion}
 
-at_term : (P : PlainTerm → Type 0) (us : List PlainTerm) (t : PlainTerm) → AllByRecursion P us → Occurs t us → P t
+-- what holds of each holds of one that occurs
+pub at_term : (P : PlainTerm → Type 0) (us : List PlainTerm) (t : PlainTerm) → AllByRecursion P us → Occurs t us → P t
 at_term P [] t h o = absurd o
 at_term P (u ∷ us) t h o = ⊎_elim (λ e. subst P e h.0) (λ q. at_term P us t h.1 q) o
 
-every : {A : Type 0} (P Q : A → Type 0) → ((x : A) → P x → Q x) → (xs : List A) → AllByRecursion P xs → AllByRecursion Q xs
+pub every : {A : Type 0} (P Q : A → Type 0) → ((x : A) → P x → Q x) → (xs : List A) → AllByRecursion P xs → AllByRecursion Q xs
 every P Q f [] h = tt
 every P Q f (x ∷ xs) h = (f x h.0, every P Q f xs h.1)
 
@@ -56,7 +57,7 @@ module _ (s : Tables) (ts : List PlainTerm) (state : State) where
     selector_given n sort (Selects d [] c place field) v =
         let g : IsGivenRange s (entries state) J v.selector true = range_given s (entries state) J v.selector (is_range_selector v.selector) refl v.ranges (given (Application (ExtOp v.selector) v.arguments v.type) v.reached) in
         (λ i. is_table (entries state) (v.argument_sorted i) (v.sorted i) (J.selectors (v.named i)) && are_others (v.constructs i) (J.selectors (v.named i)).pairs)
-        ∙ and_from (is_table (entries state) (script_sort s ip_type) (script_sort s (extension_signature v.selector).1) (J.selectors (selector_name v.selector))) (are_others (selector_constructor v.selector) (J.selectors (selector_name v.selector)).pairs)
+        ∙ and_from (is_table (entries state) (sort_of s ip_type) (sort_of s (extension_signature v.selector).1) (J.selectors (selector_name v.selector))) (are_others (selector_constructor v.selector) (J.selectors (selector_name v.selector)).pairs)
         g.0 (others_test (selector_constructor v.selector) (J.selectors (selector_name v.selector)).pairs g.1)
     selector_given n sort (Selects d (p ∷ ps) c place field) v =
         (λ i. is_selector_given J (entries state) n (v.argument_sorted i) (Selects (v.datatype i) (v.parameters i) c place (v.sorted i))) ∙ given (Application OptionGetOp v.arguments v.type) v.reached

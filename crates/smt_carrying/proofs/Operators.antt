@@ -1,6 +1,6 @@
 -- Operators give what is carried.
-use Rattle.std.proofs.Common.{◌≡◌, ℕ, ◌+◌, ◌^◌, ◌<◌, Bool, true, false, cond, ◌&&◌, ◌||◌, List, [], ◌∷◌, refl, sym, ap, ◌∙◌, subst}
-use Rattle.std.specs.Prelude.{not, nat_le, nat_lt, ◌+ℤ◌, ◌-ℤ◌, ◌*ℤ◌, int_lt, int_le, Option, Some, None, unwrap_or}
+use Rattle.std.proofs.Common.{◌≡◌, ℕ, ◌+◌, Bool, true, false, cond, ◌&&◌, ◌||◌, List, [], ◌∷◌, refl, sym, ap, ◌∙◌, subst}
+use Rattle.std.specs.Prelude.{not, nat_le, Option, Some, None}
 use Rattle.std.specs.Bool.{then_some}
 use Rattle.std.specs.Cmp.{first_so, second_so}
 use Rattle.std.proofs.lemmas.Bool.{eq-eqb}
@@ -9,30 +9,21 @@ use Rattle.smt_term.specs.Values.{Value, BoolValue, BitVecValue, StringValue, Se
 use Rattle.smt_semantics.specs.ScriptValues.{TruthOf, BitsOf, SetOf}
 use Rattle.smt_bits.specs.BitVectors as bits
 use Rattle.smt_term.specs.Operators.{truth, to_bits, to_truth, elements, is_member, is_subset, intersection, characters, apply}
-use Rattle.smt_term.specs.Patterns as terms
+use Rattle.smt_term.specs.Patterns.{matches}
 use Rattle.smt_term.specs.Tables.{Interpretation}
 use Rattle.smt_term.specs.Types.{type_eq, is_bits, is_set, bits_and_bits, extended_type, result_type}
-use Rattle.smt_term.specs.TypeValues.{IsValue}
+use Rattle.smt_term.specs.TypeValues.{IsValue, Enums}
 use Rattle.smt_term.specs.ValueOrder.{value_eq, set_of}
 use Rattle.smt_term.proofs.TypeOrder.{eq_same}
-use Rattle.smt_semantics.specs.Arithmetic as script
-use Rattle.smt_semantics.specs.Patterns as patterns
 use Rattle.smt_semantics.specs.Value.{on_truth, on_truths, on_two, choice, on_bits, extended, on_two_bits, in_set, on_sets, on_text, operator_value}
 use Rattle.smt_semantics.specs.Order as sets
-use Rattle.smt_lines.specs.Lines.{Enums, Tables}
+use Rattle.smt_lines.specs.Lines.{Tables}
 use Rattle.smt_carrying.specs.Carry.{carry}
 use Rattle.smt_carrying.specs.Order.{AreEnums}
 use Rattle.smt_carrying.specs.Operators.{AreValues, carry_each, is_script_operator}
-use Rattle.smt_carrying.proofs.Arithmetic as same
 use Rattle.smt_carrying.proofs.Ordered.{same_values}
 use Rattle.smt_carrying.proofs.Sets.{member_carried, subset_carried, intersected}
-
-inside : (t u : PlainType) → Some t ≡ Some u → t ≡ u
-inside t u e = ap (λ o. unwrap_or o t) e
-
-chosen : (b : Bool) (t u : PlainType) → then_some b t ≡ Some u → (b ≡ true) × (t ≡ u)
-chosen true t u h = (refl, inside t u h)
-chosen false t u h = cc
+use Rattle.smt_term.proofs.Soundness.{inside, chosen}
 
 module _ (enums : Enums) (T : List PlainType → List Value → Type 0) where
   unary : ((vs : List Value) → T [] vs) → ((t u : PlainType) (tys : List PlainType) (vs : List Value) → T (t ∷ u ∷ tys) vs)
@@ -119,8 +110,8 @@ module _ (enums : Enums) (s : Tables) (good : AreEnums enums) where
 
   -- ---- bitvectors
 
-  negated_case : (t ty : PlainType) (v : Value) → IsValue enums t v → then_some (is_bits t) t ≡ Some ty → (I : Interpretation) → on_bits script.negated (carry enums s t v ∷ []) ≡ Some (carry enums s ty (apply I BvnegOp ty (v ∷ [])))
-  negated_case (BitVecType n) ty (BitVecValue m a) h r I = subst (λ x. Some (BitsOf m (script.negated m a)) ≡ Some (carry enums s x (BitVecValue m (bits.bvneg m a)))) (inside (BitVecType n) ty r) refl
+  negated_case : (t ty : PlainType) (v : Value) → IsValue enums t v → then_some (is_bits t) t ≡ Some ty → (I : Interpretation) → on_bits bits.bvneg (carry enums s t v ∷ []) ≡ Some (carry enums s ty (apply I BvnegOp ty (v ∷ [])))
+  negated_case (BitVecType n) ty (BitVecValue m a) h r I = subst (λ x. Some (BitsOf m (bits.bvneg m a)) ≡ Some (carry enums s x (BitVecValue m (bits.bvneg m a)))) (inside (BitVecType n) ty r) refl
   negated_case (BitVecType n) ty v h r I = absurd h
   negated_case t ty v h r I = absurd cc
 
@@ -136,21 +127,19 @@ module _ (enums : Enums) (s : Tables) (good : AreEnums enums) where
   extended_case k (BitVecType n) ty v h r I = absurd h
   extended_case k t ty v h r I = absurd cc
 
-  bits_at : (g f : ℕ → ℕ → ℕ → ℕ) (test : Option (ℕ → ℕ → ℕ → Bool)) → ((n a b : ℕ) → a < 2 ^ n → b < 2 ^ n → g n a b ≡ f n a b) → (n : ℕ) (v w : Value) → IsValue enums (BitVecType n) v → IsValue enums (BitVecType n) w
-      → on_two_bits (Some g) test (carry enums s (BitVecType n) v ∷ carry enums s (BitVecType n) w ∷ []) ≡ Some (carry enums s (BitVecType n) (to_bits f v w))
-  bits_at g f test e n (BitVecValue l a) (BitVecValue m b) h k =
-      ap (λ c. cond c (Some (BitsOf l (g l a b))) None) (eq-eqb l m (h.0 ∙ sym k.0))
-      ∙ ap (λ x. Some (BitsOf l x)) (e l a b (subst (λ x. a < 2 ^ x) (sym h.0) h.1) (subst (λ x. b < 2 ^ x) (sym h.0) k.1))
-  bits_at g f test e n (BitVecValue l a) w h k = absurd k
-  bits_at g f test e n v w h k = absurd h
+  bits_at : (f : ℕ → ℕ → ℕ → ℕ) (test : Option (ℕ → ℕ → ℕ → Bool)) (n : ℕ) (v w : Value) → IsValue enums (BitVecType n) v → IsValue enums (BitVecType n) w
+      → on_two_bits (Some f) test (carry enums s (BitVecType n) v ∷ carry enums s (BitVecType n) w ∷ []) ≡ Some (carry enums s (BitVecType n) (to_bits f v w))
+  bits_at f test n (BitVecValue l a) (BitVecValue m b) h k =
+      ap (λ c. cond c (Some (BitsOf l (f l a b))) None) (eq-eqb l m (h.0 ∙ sym k.0))
+  bits_at f test n (BitVecValue l a) w h k = absurd k
+  bits_at f test n v w h k = absurd h
 
-  test_at : (g f : ℕ → ℕ → ℕ → Bool) → ((n a b : ℕ) → a < 2 ^ n → b < 2 ^ n → g n a b ≡ f n a b) → (n : ℕ) (v w : Value) → IsValue enums (BitVecType n) v → IsValue enums (BitVecType n) w
-      → on_two_bits None (Some g) (carry enums s (BitVecType n) v ∷ carry enums s (BitVecType n) w ∷ []) ≡ Some (carry enums s BoolType (to_truth f v w))
-  test_at g f e n (BitVecValue l a) (BitVecValue m b) h k =
-      ap (λ c. cond c (Some (TruthOf (g l a b))) None) (eq-eqb l m (h.0 ∙ sym k.0))
-      ∙ ap (λ x. Some (TruthOf x)) (e l a b (subst (λ x. a < 2 ^ x) (sym h.0) h.1) (subst (λ x. b < 2 ^ x) (sym h.0) k.1))
-  test_at g f e n (BitVecValue l a) w h k = absurd k
-  test_at g f e n v w h k = absurd h
+  test_at : (f : ℕ → ℕ → ℕ → Bool) (n : ℕ) (v w : Value) → IsValue enums (BitVecType n) v → IsValue enums (BitVecType n) w
+      → on_two_bits None (Some f) (carry enums s (BitVecType n) v ∷ carry enums s (BitVecType n) w ∷ []) ≡ Some (carry enums s BoolType (to_truth f v w))
+  test_at f n (BitVecValue l a) (BitVecValue m b) h k =
+      ap (λ c. cond c (Some (TruthOf (f l a b))) None) (eq-eqb l m (h.0 ∙ sym k.0))
+  test_at f n (BitVecValue l a) w h k = absurd k
+  test_at f n v w h k = absurd h
 
   -- two of one width
   widths : (Q : PlainType → PlainType → Value → Value → Type 0) → ((n : ℕ) (v w : Value) → IsValue enums (BitVecType n) v → IsValue enums (BitVecType n) w → Q (BitVecType n) (BitVecType n) v w)
@@ -159,19 +148,19 @@ module _ (enums : Enums) (s : Tables) (good : AreEnums enums) where
       subst (λ x. IsValue enums x w → Q (BitVecType n) x v w) (eq_same (BitVecType n) u r) (λ q. f n v w h q) k
   widths Q f t u v w h k r = absurd cc
 
-  bits_case : (g f : ℕ → ℕ → ℕ → ℕ) (test : Option (ℕ → ℕ → ℕ → Bool)) → ((n a b : ℕ) → a < 2 ^ n → b < 2 ^ n → g n a b ≡ f n a b) → (t u ty : PlainType) (v w : Value) → IsValue enums t v → IsValue enums u w
-      → then_some (bits_and_bits t u) t ≡ Some ty → on_two_bits (Some g) test (carry enums s t v ∷ carry enums s u w ∷ []) ≡ Some (carry enums s ty (to_bits f v w))
-  bits_case g f test e t u ty v w h k r =
+  bits_case : (f : ℕ → ℕ → ℕ → ℕ) (test : Option (ℕ → ℕ → ℕ → Bool)) (t u ty : PlainType) (v w : Value) → IsValue enums t v → IsValue enums u w
+      → then_some (bits_and_bits t u) t ≡ Some ty → on_two_bits (Some f) test (carry enums s t v ∷ carry enums s u w ∷ []) ≡ Some (carry enums s ty (to_bits f v w))
+  bits_case f test t u ty v w h k r =
       let c : (bits_and_bits t u ≡ true) × (t ≡ ty) = chosen (bits_and_bits t u) t ty r in
-      subst (λ x. on_two_bits (Some g) test (carry enums s t v ∷ carry enums s u w ∷ []) ≡ Some (carry enums s x (to_bits f v w))) c.1
-      (widths (λ x y p q. on_two_bits (Some g) test (carry enums s x p ∷ carry enums s y q ∷ []) ≡ Some (carry enums s x (to_bits f p q))) (bits_at g f test e) t u v w h k c.0)
+      subst (λ x. on_two_bits (Some f) test (carry enums s t v ∷ carry enums s u w ∷ []) ≡ Some (carry enums s x (to_bits f v w))) c.1
+      (widths (λ x y p q. on_two_bits (Some f) test (carry enums s x p ∷ carry enums s y q ∷ []) ≡ Some (carry enums s x (to_bits f p q))) (bits_at f test) t u v w h k c.0)
 
-  test_case : (g f : ℕ → ℕ → ℕ → Bool) → ((n a b : ℕ) → a < 2 ^ n → b < 2 ^ n → g n a b ≡ f n a b) → (t u ty : PlainType) (v w : Value) → IsValue enums t v → IsValue enums u w
-      → then_some (bits_and_bits t u) BoolType ≡ Some ty → on_two_bits None (Some g) (carry enums s t v ∷ carry enums s u w ∷ []) ≡ Some (carry enums s ty (to_truth f v w))
-  test_case g f e t u ty v w h k r =
+  test_case : (f : ℕ → ℕ → ℕ → Bool) (t u ty : PlainType) (v w : Value) → IsValue enums t v → IsValue enums u w
+      → then_some (bits_and_bits t u) BoolType ≡ Some ty → on_two_bits None (Some f) (carry enums s t v ∷ carry enums s u w ∷ []) ≡ Some (carry enums s ty (to_truth f v w))
+  test_case f t u ty v w h k r =
       let c : (bits_and_bits t u ≡ true) × (BoolType ≡ ty) = chosen (bits_and_bits t u) BoolType ty r in
-      subst (λ x. on_two_bits None (Some g) (carry enums s t v ∷ carry enums s u w ∷ []) ≡ Some (carry enums s x (to_truth f v w))) c.1
-      (widths (λ x y p q. on_two_bits None (Some g) (carry enums s x p ∷ carry enums s y q ∷ []) ≡ Some (carry enums s BoolType (to_truth f p q))) (test_at g f e) t u v w h k c.0)
+      subst (λ x. on_two_bits None (Some f) (carry enums s t v ∷ carry enums s u w ∷ []) ≡ Some (carry enums s x (to_truth f v w))) c.1
+      (widths (λ x y p q. on_two_bits None (Some f) (carry enums s x p ∷ carry enums s y q ∷ []) ≡ Some (carry enums s BoolType (to_truth f p q))) (test_at f) t u v w h k c.0)
 
   -- ---- sets
 
@@ -220,16 +209,16 @@ module _ (enums : Enums) (s : Tables) (good : AreEnums enums) where
 
   -- ---- texts
 
-  text_at : (p : List PatternPart) (v : Value) → IsValue enums StringType v → on_text (patterns.matches p) (carry enums s StringType v ∷ []) ≡ Some (TruthOf (terms.matches p (characters v)))
-  text_at p (StringValue text) h = ap (λ b. Some (TruthOf b)) (same.matches_same p text)
+  text_at : (p : List PatternPart) (v : Value) → IsValue enums StringType v → on_text (matches p) (carry enums s StringType v ∷ []) ≡ Some (TruthOf (matches p (characters v)))
+  text_at p (StringValue text) h = refl
   text_at p v h = absurd h
 
   text_case : (p : List PatternPart) (t ty : PlainType) (v : Value) → IsValue enums t v → then_some (type_eq t StringType) BoolType ≡ Some ty
-      → on_text (patterns.matches p) (carry enums s t v ∷ []) ≡ Some (carry enums s ty (BoolValue (terms.matches p (characters v))))
+      → on_text (matches p) (carry enums s t v ∷ []) ≡ Some (carry enums s ty (BoolValue (matches p (characters v))))
   text_case p t ty v h r =
       let c : (type_eq t StringType ≡ true) × (BoolType ≡ ty) = chosen (type_eq t StringType) BoolType ty r in
-      subst (λ x. on_text (patterns.matches p) (carry enums s t v ∷ []) ≡ Some (carry enums s x (BoolValue (terms.matches p (characters v))))) c.1
-      (subst (λ x. IsValue enums x v → on_text (patterns.matches p) (carry enums s x v ∷ []) ≡ Some (TruthOf (terms.matches p (characters v)))) (sym (eq_same t StringType c.0)) (text_at p v) h)
+      subst (λ x. on_text (matches p) (carry enums s t v ∷ []) ≡ Some (carry enums s x (BoolValue (matches p (characters v))))) c.1
+      (subst (λ x. IsValue enums x v → on_text (matches p) (carry enums s x v ∷ []) ≡ Some (TruthOf (matches p (characters v)))) (sym (eq_same t StringType c.0)) (text_at p v) h)
 
   -- ---- all together
 
@@ -244,23 +233,23 @@ module _ (enums : Enums) (s : Tables) (good : AreEnums enums) where
   commutes I IteOp ty tys vs o a = ternary enums (Goal I IteOp ty) (λ ws r. cc) (λ t ws r. cc) (λ t u ws r. cc) (λ t u x y us ws r. cc) (λ g t u b v w h k l r. choice_case g t u ty b v w h r) tys vs a
   commutes I BvnegOp ty tys vs o a = unary enums (Goal I BvnegOp ty) (λ ws r. cc) (λ t u us ws r. cc) (λ t v h r. negated_case t ty v h r I) tys vs a
   commutes I (ZeroExtendOp n) ty tys vs o a = unary enums (Goal I (ZeroExtendOp n) ty) (λ ws r. cc) (λ t u us ws r. cc) (λ t v h r. extended_case n t ty v h r I) tys vs a
-  commutes I BvaddOp ty tys vs o a = binary enums (Goal I BvaddOp ty) (λ ws r. cc) (λ t ws r. cc) (λ t u x us ws r. cc) (λ t u v w h k r. bits_case script.added bits.bvadd None (λ n a b p q. refl) t u ty v w h k r) tys vs a
-  commutes I BvsubOp ty tys vs o a = binary enums (Goal I BvsubOp ty) (λ ws r. cc) (λ t ws r. cc) (λ t u x us ws r. cc) (λ t u v w h k r. bits_case script.subtracted bits.bvsub None (λ n a b p q. refl) t u ty v w h k r) tys vs a
-  commutes I BvmulOp ty tys vs o a = binary enums (Goal I BvmulOp ty) (λ ws r. cc) (λ t ws r. cc) (λ t u x us ws r. cc) (λ t u v w h k r. bits_case script.multiplied bits.bvmul None (λ n a b p q. refl) t u ty v w h k r) tys vs a
-  commutes I BvudivOp ty tys vs o a = binary enums (Goal I BvudivOp ty) (λ ws r. cc) (λ t ws r. cc) (λ t u x us ws r. cc) (λ t u v w h k r. bits_case script.divided bits.bvudiv None (λ n a b p q. refl) t u ty v w h k r) tys vs a
-  commutes I BvuremOp ty tys vs o a = binary enums (Goal I BvuremOp ty) (λ ws r. cc) (λ t ws r. cc) (λ t u x us ws r. cc) (λ t u v w h k r. bits_case script.remainder bits.bvurem None (λ n a b p q. refl) t u ty v w h k r) tys vs a
-  commutes I BvsdivOp ty tys vs o a = binary enums (Goal I BvsdivOp ty) (λ ws r. cc) (λ t ws r. cc) (λ t u x us ws r. cc) (λ t u v w h k r. bits_case script.signed_divided bits.bvsdiv None same.sdiv_same t u ty v w h k r) tys vs a
-  commutes I BvsremOp ty tys vs o a = binary enums (Goal I BvsremOp ty) (λ ws r. cc) (λ t ws r. cc) (λ t u x us ws r. cc) (λ t u v w h k r. bits_case script.signed_remainder bits.bvsrem None same.srem_same t u ty v w h k r) tys vs a
-  commutes I BvsmodOp ty tys vs o a = binary enums (Goal I BvsmodOp ty) (λ ws r. cc) (λ t ws r. cc) (λ t u x us ws r. cc) (λ t u v w h k r. bits_case script.modulo bits.bvsmod None same.smod_same t u ty v w h k r) tys vs a
-  commutes I BvshlOp ty tys vs o a = binary enums (Goal I BvshlOp ty) (λ ws r. cc) (λ t ws r. cc) (λ t u x us ws r. cc) (λ t u v w h k r. bits_case script.shifted_up bits.bvshl None (λ n a b p q. same.shl_same n a b) t u ty v w h k r) tys vs a
-  commutes I BvlshrOp ty tys vs o a = binary enums (Goal I BvlshrOp ty) (λ ws r. cc) (λ t ws r. cc) (λ t u x us ws r. cc) (λ t u v w h k r. bits_case script.shifted_down bits.bvlshr None (λ n a b p q. same.lshr_same n a b) t u ty v w h k r) tys vs a
-  commutes I BvultOp ty tys vs o a = binary enums (Goal I BvultOp ty) (λ ws r. cc) (λ t ws r. cc) (λ t u x us ws r. cc) (λ t u v w h k r. test_case (λ width a b. nat_lt a b) bits.bvult (λ n a b p q. refl) t u ty v w h k r) tys vs a
-  commutes I BvuleOp ty tys vs o a = binary enums (Goal I BvuleOp ty) (λ ws r. cc) (λ t ws r. cc) (λ t u x us ws r. cc) (λ t u v w h k r. test_case (λ width a b. nat_le a b) bits.bvule (λ n a b p q. refl) t u ty v w h k r) tys vs a
-  commutes I BvsltOp ty tys vs o a = binary enums (Goal I BvsltOp ty) (λ ws r. cc) (λ t ws r. cc) (λ t u x us ws r. cc) (λ t u v w h k r. test_case (λ width a b. int_lt (script.signed width a) (script.signed width b)) bits.bvslt same.slt_same t u ty v w h k r) tys vs a
-  commutes I BvsleOp ty tys vs o a = binary enums (Goal I BvsleOp ty) (λ ws r. cc) (λ t ws r. cc) (λ t u x us ws r. cc) (λ t u v w h k r. test_case (λ width a b. int_le (script.signed width a) (script.signed width b)) bits.bvsle same.sle_same t u ty v w h k r) tys vs a
-  commutes I BvsaddoOp ty tys vs o a = binary enums (Goal I BvsaddoOp ty) (λ ws r. cc) (λ t ws r. cc) (λ t u x us ws r. cc) (λ t u v w h k r. test_case (λ width a b. script.overflows width (script.signed width a +ℤ script.signed width b)) bits.bvsaddo same.saddo_same t u ty v w h k r) tys vs a
-  commutes I BvssuboOp ty tys vs o a = binary enums (Goal I BvssuboOp ty) (λ ws r. cc) (λ t ws r. cc) (λ t u x us ws r. cc) (λ t u v w h k r. test_case (λ width a b. script.overflows width (script.signed width a -ℤ script.signed width b)) bits.bvssubo same.ssubo_same t u ty v w h k r) tys vs a
-  commutes I BvsmuloOp ty tys vs o a = binary enums (Goal I BvsmuloOp ty) (λ ws r. cc) (λ t ws r. cc) (λ t u x us ws r. cc) (λ t u v w h k r. test_case (λ width a b. script.overflows width (script.signed width a *ℤ script.signed width b)) bits.bvsmulo same.smulo_same t u ty v w h k r) tys vs a
+  commutes I BvaddOp ty tys vs o a = binary enums (Goal I BvaddOp ty) (λ ws r. cc) (λ t ws r. cc) (λ t u x us ws r. cc) (λ t u v w h k r. bits_case bits.bvadd None t u ty v w h k r) tys vs a
+  commutes I BvsubOp ty tys vs o a = binary enums (Goal I BvsubOp ty) (λ ws r. cc) (λ t ws r. cc) (λ t u x us ws r. cc) (λ t u v w h k r. bits_case bits.bvsub None t u ty v w h k r) tys vs a
+  commutes I BvmulOp ty tys vs o a = binary enums (Goal I BvmulOp ty) (λ ws r. cc) (λ t ws r. cc) (λ t u x us ws r. cc) (λ t u v w h k r. bits_case bits.bvmul None t u ty v w h k r) tys vs a
+  commutes I BvudivOp ty tys vs o a = binary enums (Goal I BvudivOp ty) (λ ws r. cc) (λ t ws r. cc) (λ t u x us ws r. cc) (λ t u v w h k r. bits_case bits.bvudiv None t u ty v w h k r) tys vs a
+  commutes I BvuremOp ty tys vs o a = binary enums (Goal I BvuremOp ty) (λ ws r. cc) (λ t ws r. cc) (λ t u x us ws r. cc) (λ t u v w h k r. bits_case bits.bvurem None t u ty v w h k r) tys vs a
+  commutes I BvsdivOp ty tys vs o a = binary enums (Goal I BvsdivOp ty) (λ ws r. cc) (λ t ws r. cc) (λ t u x us ws r. cc) (λ t u v w h k r. bits_case bits.bvsdiv None t u ty v w h k r) tys vs a
+  commutes I BvsremOp ty tys vs o a = binary enums (Goal I BvsremOp ty) (λ ws r. cc) (λ t ws r. cc) (λ t u x us ws r. cc) (λ t u v w h k r. bits_case bits.bvsrem None t u ty v w h k r) tys vs a
+  commutes I BvsmodOp ty tys vs o a = binary enums (Goal I BvsmodOp ty) (λ ws r. cc) (λ t ws r. cc) (λ t u x us ws r. cc) (λ t u v w h k r. bits_case bits.bvsmod None t u ty v w h k r) tys vs a
+  commutes I BvshlOp ty tys vs o a = binary enums (Goal I BvshlOp ty) (λ ws r. cc) (λ t ws r. cc) (λ t u x us ws r. cc) (λ t u v w h k r. bits_case bits.bvshl None t u ty v w h k r) tys vs a
+  commutes I BvlshrOp ty tys vs o a = binary enums (Goal I BvlshrOp ty) (λ ws r. cc) (λ t ws r. cc) (λ t u x us ws r. cc) (λ t u v w h k r. bits_case bits.bvlshr None t u ty v w h k r) tys vs a
+  commutes I BvultOp ty tys vs o a = binary enums (Goal I BvultOp ty) (λ ws r. cc) (λ t ws r. cc) (λ t u x us ws r. cc) (λ t u v w h k r. test_case bits.bvult t u ty v w h k r) tys vs a
+  commutes I BvuleOp ty tys vs o a = binary enums (Goal I BvuleOp ty) (λ ws r. cc) (λ t ws r. cc) (λ t u x us ws r. cc) (λ t u v w h k r. test_case bits.bvule t u ty v w h k r) tys vs a
+  commutes I BvsltOp ty tys vs o a = binary enums (Goal I BvsltOp ty) (λ ws r. cc) (λ t ws r. cc) (λ t u x us ws r. cc) (λ t u v w h k r. test_case bits.bvslt t u ty v w h k r) tys vs a
+  commutes I BvsleOp ty tys vs o a = binary enums (Goal I BvsleOp ty) (λ ws r. cc) (λ t ws r. cc) (λ t u x us ws r. cc) (λ t u v w h k r. test_case bits.bvsle t u ty v w h k r) tys vs a
+  commutes I BvsaddoOp ty tys vs o a = binary enums (Goal I BvsaddoOp ty) (λ ws r. cc) (λ t ws r. cc) (λ t u x us ws r. cc) (λ t u v w h k r. test_case bits.bvsaddo t u ty v w h k r) tys vs a
+  commutes I BvssuboOp ty tys vs o a = binary enums (Goal I BvssuboOp ty) (λ ws r. cc) (λ t ws r. cc) (λ t u x us ws r. cc) (λ t u v w h k r. test_case bits.bvssubo t u ty v w h k r) tys vs a
+  commutes I BvsmuloOp ty tys vs o a = binary enums (Goal I BvsmuloOp ty) (λ ws r. cc) (λ t ws r. cc) (λ t u x us ws r. cc) (λ t u v w h k r. test_case bits.bvsmulo t u ty v w h k r) tys vs a
   commutes I SetMemberOp ty tys vs o a = binary enums (Goal I SetMemberOp ty) (λ ws r. cc) (λ t ws r. cc) (λ t u x us ws r. cc) (λ t u v w h k r. member_case t u ty v w h k r) tys vs a
   commutes I SetSubsetOp ty tys vs o a = binary enums (Goal I SetSubsetOp ty) (λ ws r. cc) (λ t ws r. cc) (λ t u x us ws r. cc) (λ t u v w h k r. subset_case t u ty v w h k r) tys vs a
   commutes I SetInterOp ty tys vs o a = binary enums (Goal I SetInterOp ty) (λ ws r. cc) (λ t ws r. cc) (λ t u x us ws r. cc) (λ t u v w h k r. intersection_case t u ty v w h k r) tys vs a

@@ -5,58 +5,47 @@ use Rattle.std.specs.Str.{chars}
 use Rattle.std.specs.Cmp.{nat_cmp_is}
 use Rattle.std.specs.FinMap.{nat_cmp-IsAntisymmetric}
 use Rattle.std.specs.Option.{option_cmp}
-use Rattle.std.specs.Ordering.{nat_cmp, ordering_then, ordering_reverse, is_lt}
+use Rattle.std.specs.Ordering.{nat_cmp, ordering_then, ordering_reverse, is_eq, is_lt}
 use Rattle.std.specs.declared.cmp.Ordering.{Ordering}
 use Rattle.std.specs.declared.cmp.Ordering.TheVariants.{Less, Equal, Greater}
 use Rattle.std.proofs.lemmas.Cmp.{nat_cmp_total}
 use Rattle.smt_term.specs.Plain.{ExtensionKind, IpAddrKind, DecimalKind, DatetimeKind, DurationKind, PlainType, OptionType, BitVecType, BoolType, EntityType, ExtensionType, StringType, RecordType, SetType, AttributeTypes, no_attributes, attribute, PlainExtension, DecimalOf, Ipv4Of, Ipv6Of, DatetimeOf, DurationOf}
 use Rattle.smt_term.specs.Values.{Value, BoolValue, BitVecValue, StringValue, EntityValue, ExtensionValue, NoneValue, SomeValue, RecordValue, SetValue, Values, no_values, one_value, FieldValues, no_field_values, one_field_value}
 use Rattle.smt_semantics.specs.ScriptValues.{ScriptValue, BitsOf, TextOf, ConstructorOf, ScriptValues, no_script_values, one_script_value}
-use Rattle.smt_term.specs.TypeValues as terms
-use Rattle.smt_term.specs.TypeValues.{IsValue, AreFieldValues, IsExtension, IsId, IsLong}
+use Rattle.smt_term.specs.TypeValues.{IsValue, AreFieldValues, IsExtension, IsId, IsLong, Enums, members_of}
 use Rattle.smt_term.specs.ValueOrder.{text_cmp, twos_complement_cmp, extension_cmp, value_cmp, values_cmp, field_values_cmp, list_of_values}
 use Rattle.std.specs.List.{AllByRecursion}
 use Rattle.smt_term.proofs.ValueOrder.{text_itself}
 use Rattle.std.specs.Cmp.{Equal-is, first_so, second_so}
 use Rattle.std.proofs.lemmas.Bool.{and_from}
 use Rattle.smt_semantics.specs.Order as script
-use Rattle.smt_semantics.specs.Order.{same, is_same, is_before}
 use Rattle.smt_semantics.proofs.Ranks.{same_is_equal}
 use Rattle.smt_term.specs.ValueOrder.{value_eq, ascends}
 use Rattle.smt_term.proofs.ValueOrder.{value_same}
-use Rattle.smt_semantics.specs.Order.{Comparison, Before, Same, After, and_then, order_numbers, order_texts, order, order_each}
-use Rattle.smt_lines.specs.Lines.{Enums, Tables, place_of, member_name}
+use Rattle.smt_semantics.specs.Order.{order, order_each, same}
+use Rattle.smt_lines.specs.Lines.{Tables, place_of, member_name}
 use Rattle.smt_lines.specs.Naming.{type_name}
 use Rattle.smt_carrying.specs.Carry.{alone, signed_bits, carry_prefix, carry_extension, carry_entity, carry, carry_values, carry_fields}
-use Rattle.smt_carrying.specs.Order.{compared, AreMembers, AreEnums}
-use Rattle.smt_carrying.proofs.Agree.{then_compared, numbers_agree, truths_agree, texts_agree, nat_less, same_compared, before_compared}
-use Rattle.smt_carrying.proofs.Members.{members_same, members_found, ascends_chars, any_chars, places_ordered, numbers_itself}
+use Rattle.smt_carrying.specs.Order.{AreMembers, AreEnums}
+use Rattle.smt_carrying.proofs.Orderings.{then_none, nat_less}
+use Rattle.smt_carrying.proofs.Members.{members_found, ascends_chars, any_chars, places_ordered}
 
 -- ---- small steps
 
-pub text_itself_is : (s : List ℕ) → text_cmp s s ≡ Equal
-text_itself_is s = (Equal-is (text_cmp s s)).0 (text_itself s)
-
-pub texts_itself : (s : List ℕ) → order_texts s s ≡ Same
-texts_itself s = texts_agree s s ∙ ap compared (text_itself_is s)
+number_itself : (n : ℕ) → nat_cmp n n ≡ Equal
+number_itself n = sym (nat_cmp_is n n Equal refl)
 
 -- one constructor of two values
 constructor_order : (place : ℕ) (n : List ℕ) (xs ys : ScriptValues) → order (ConstructorOf place n xs) (ConstructorOf place n ys) ≡ order_each xs ys
-constructor_order place n xs ys = ap (λ c. and_then c (and_then (order_texts n n) (order_each xs ys))) (numbers_itself place) ∙ ap (λ c. and_then c (order_each xs ys)) (texts_itself n)
-
--- a comparison that nothing follows
-then_same : (c : Comparison) → and_then c Same ≡ c
-then_same Before = refl
-then_same Same = refl
-then_same After = refl
+constructor_order place n xs ys = ap (λ o. ordering_then o (ordering_then (text_cmp n n) (order_each xs ys))) (number_itself place) ∙ ap (λ o. ordering_then o (order_each xs ys)) (text_itself n)
 
 -- ---- signed numbers
 
-signed_order : (x y : ℤ) → IsLong x → IsLong y → order (signed_bits x) (signed_bits y) ≡ compared (twos_complement_cmp x y)
-signed_order (pos a) (pos b) h k = numbers_agree a b
-signed_order (pos a) (negsuc b) h k = numbers_agree a (2 ^ 64 - suc b) ∙ ap compared (sym (nat_cmp_is a (2 ^ 64 - suc b) Less (omega arith)))
-signed_order (negsuc a) (pos b) h k = numbers_agree (2 ^ 64 - suc a) b ∙ ap compared (sym (nat_cmp_is (2 ^ 64 - suc a) b Greater (omega arith)))
-signed_order (negsuc a) (negsuc b) h k = numbers_agree (2 ^ 64 - suc a) (2 ^ 64 - suc b) ∙ ap compared (by (nat_cmp b a) refl)
+signed_order : (x y : ℤ) → IsLong x → IsLong y → order (signed_bits x) (signed_bits y) ≡ twos_complement_cmp x y
+signed_order (pos a) (pos b) h k = refl
+signed_order (pos a) (negsuc b) h k = sym (nat_cmp_is a (2 ^ 64 - suc b) Less (omega arith))
+signed_order (negsuc a) (pos b) h k = sym (nat_cmp_is (2 ^ 64 - suc a) b Greater (omega arith))
+signed_order (negsuc a) (negsuc b) h k = by (nat_cmp b a) refl
   where
     by : (o : Ordering) → nat_cmp b a ≡ o → nat_cmp (2 ^ 64 - suc a) (2 ^ 64 - suc b) ≡ o
     by Less e = let l : b < a = nat_less b a e in sym (nat_cmp_is (2 ^ 64 - suc a) (2 ^ 64 - suc b) Less (omega arith))
@@ -65,25 +54,26 @@ signed_order (negsuc a) (negsuc b) h k = numbers_agree (2 ^ 64 - suc a) (2 ^ 64 
 
 -- ---- extension values
 
-prefix_order : (width : ℕ) (p q : Option ℕ) → order (carry_prefix width p) (carry_prefix width q) ≡ compared (option_cmp nat_cmp p q)
+prefix_order : (width : ℕ) (p q : Option ℕ) → order (carry_prefix width p) (carry_prefix width q) ≡ option_cmp nat_cmp p q
 prefix_order width None None = refl
 prefix_order width None (Some b) = refl
 prefix_order width (Some a) None = refl
-prefix_order width (Some a) (Some b) = constructor_order 1 (codes "some") (alone (BitsOf width a)) (alone (BitsOf width b)) ∙ (then_same (order (BitsOf width a) (BitsOf width b)) ∙ (ap (λ c. and_then c (order_numbers a b)) (numbers_itself width) ∙ numbers_agree a b))
+prefix_order width (Some a) (Some b) = constructor_order 1 (codes "some") (alone (BitsOf width a)) (alone (BitsOf width b)) ∙ (then_none (order (BitsOf width a) (BitsOf width b)) ∙ ap (λ o. ordering_then o (nat_cmp a b)) (number_itself width))
 
 address_order : (place width bits : ℕ) (n : List ℕ) (a b : ℕ) (p q : Option ℕ)
     → order (ConstructorOf place n (one_script_value (BitsOf width a) (one_script_value (carry_prefix bits p) no_script_values))) (ConstructorOf place n (one_script_value (BitsOf width b) (one_script_value (carry_prefix bits q) no_script_values)))
-    ≡ compared (ordering_then (nat_cmp a b) (option_cmp nat_cmp p q))
+    ≡ ordering_then (nat_cmp a b) (option_cmp nat_cmp p q)
 address_order place width bits n a b p q =
     constructor_order place n (one_script_value (BitsOf width a) (alone (carry_prefix bits p))) (one_script_value (BitsOf width b) (alone (carry_prefix bits q)))
-    ∙ then_compared (nat_cmp a b) (option_cmp nat_cmp p q) (order (BitsOf width a) (BitsOf width b)) (order_each (alone (carry_prefix bits p)) (alone (carry_prefix bits q)))
-    (ap (λ c. and_then c (order_numbers a b)) (numbers_itself width) ∙ numbers_agree a b)
-    (then_same (order (carry_prefix bits p) (carry_prefix bits q)) ∙ prefix_order bits p q)
+    ∙ λ i. ordering_then (ordering_then (number_itself width i) (nat_cmp a b)) (last i)
+  where
+    last : order_each (alone (carry_prefix bits p)) (alone (carry_prefix bits q)) ≡ option_cmp nat_cmp p q
+    last = then_none (order (carry_prefix bits p) (carry_prefix bits q)) ∙ prefix_order bits p q
 
-alone_order : (n : List ℕ) (v w : ScriptValue) (o : Ordering) → order v w ≡ compared o → order (ConstructorOf 0 n (one_script_value v no_script_values)) (ConstructorOf 0 n (one_script_value w no_script_values)) ≡ compared o
-alone_order n v w o h = constructor_order 0 n (alone v) (alone w) ∙ (then_same (order v w) ∙ h)
+alone_order : (n : List ℕ) (v w : ScriptValue) (o : Ordering) → order v w ≡ o → order (ConstructorOf 0 n (one_script_value v no_script_values)) (ConstructorOf 0 n (one_script_value w no_script_values)) ≡ o
+alone_order n v w o h = constructor_order 0 n (alone v) (alone w) ∙ (then_none (order v w) ∙ h)
 
-extension_order : (k : ExtensionKind) (x y : PlainExtension) → IsExtension k x → IsExtension k y → order (carry_extension x) (carry_extension y) ≡ compared (extension_cmp x y)
+extension_order : (k : ExtensionKind) (x y : PlainExtension) → IsExtension k x → IsExtension k y → order (carry_extension x) (carry_extension y) ≡ extension_cmp x y
 extension_order DecimalKind (DecimalOf x) (DecimalOf y) h k = alone_order (codes "Decimal") (signed_bits x) (signed_bits y) (twos_complement_cmp x y) (signed_order x y h k)
 extension_order DecimalKind (DecimalOf x) y h k = absurd k
 extension_order DecimalKind x y h k = absurd h
@@ -104,46 +94,37 @@ extension_order IpAddrKind x y h k = absurd h
 -- ---- entities
 
 -- constructors whose names come from their places
-places_decide : (f : ℕ → List ℕ) (p q : ℕ) (o : Ordering) → order_numbers p q ≡ compared o → order (ConstructorOf p (f p) no_script_values) (ConstructorOf q (f q) no_script_values) ≡ compared o
-places_decide f p q Less h = ap (λ c. and_then c (and_then (order_texts (f p) (f q)) Same)) h
-places_decide f p q Greater h = ap (λ c. and_then c (and_then (order_texts (f p) (f q)) Same)) h
+places_decide : (f : ℕ → List ℕ) (p q : ℕ) (o : Ordering) → nat_cmp p q ≡ o → order (ConstructorOf p (f p) no_script_values) (ConstructorOf q (f q) no_script_values) ≡ o
+places_decide f p q Less h = ap (λ o. ordering_then o (ordering_then (text_cmp (f p) (f q)) Equal)) h
+places_decide f p q Greater h = ap (λ o. ordering_then o (ordering_then (text_cmp (f p) (f q)) Equal)) h
 places_decide f p q Equal h =
-    ap (λ c. and_then c (and_then (order_texts (f p) (f q)) Same)) h
-    ∙ (then_same (order_texts (f p) (f q)) ∙ (ap (λ x. order_texts (f p) (f x)) (sym one) ∙ texts_itself (f p)))
-  where
-    one : p ≡ q
-    one = nat_cmp-IsAntisymmetric p q (equal (nat_cmp p q) (sym (numbers_agree p q) ∙ h))
-      where
-        equal : (r : Ordering) → compared r ≡ Same → r ≡ Equal
-        equal Less e = absurd cc
-        equal Equal e = refl
-        equal Greater e = absurd cc
+    ap (λ o. ordering_then o (ordering_then (text_cmp (f p) (f q)) Equal)) h
+    ∙ (then_none (text_cmp (f p) (f q)) ∙ (ap (λ x. text_cmp (f p) (f x)) (sym (nat_cmp-IsAntisymmetric p q h)) ∙ text_itself (f p)))
 
-id_order : (members : Option (List (List ℕ))) (sort i j : List ℕ) → IfSome members AreMembers → IsId members i → IsId members j → order (carry_entity members sort i) (carry_entity members sort j) ≡ compared (text_cmp i j)
-id_order None sort i j m h k = alone_order sort (TextOf i) (TextOf j) (text_cmp i j) (texts_agree i j)
+id_order : (members : Option (List (List ℕ))) (sort i j : List ℕ) → IfSome members AreMembers → IsId members i → IsId members j → order (carry_entity members sort i) (carry_entity members sort j) ≡ text_cmp i j
+id_order None sort i j m h k = alone_order sort (TextOf i) (TextOf j) (text_cmp i j) refl
 id_order (Some members) sort i j m h k =
     places_decide (member_name sort) (place_of i (map chars members)) (place_of j (map chars members)) (text_cmp i j)
     (places_ordered (map chars members) (ascends_chars members m.texts m.ascending) i j (any_chars i members h) (any_chars j members k))
 
 module _ (enums : Enums) (s : Tables) (good : AreEnums enums) where
-  entity_order : (e f g i j : List ℕ) → f ≡ e → g ≡ e → IsId (terms.members_of enums e) i → IsId (terms.members_of enums e) j
-      → order (carry enums s (EntityType e) (EntityValue f i)) (carry enums s (EntityType e) (EntityValue g j)) ≡ compared (value_cmp (EntityValue f i) (EntityValue g j))
+  entity_order : (e f g i j : List ℕ) → f ≡ e → g ≡ e → IsId (members_of enums e) i → IsId (members_of enums e) j
+      → order (carry enums s (EntityType e) (EntityValue f i)) (carry enums s (EntityType e) (EntityValue g j)) ≡ value_cmp (EntityValue f i) (EntityValue g j)
   entity_order e f g i j p q h k =
-      let here : order (carry enums s (EntityType e) (EntityValue e i)) (carry enums s (EntityType e) (EntityValue e j)) ≡ compared (text_cmp i j) =
-      (λ x. order (carry_entity (members_same enums e x) (type_name s (EntityType e)) i) (carry_entity (members_same enums e x) (type_name s (EntityType e)) j))
-      ∙ id_order (terms.members_of enums e) (type_name s (EntityType e)) i j (members_found enums e good) h k in
+      let here : order (carry enums s (EntityType e) (EntityValue e i)) (carry enums s (EntityType e) (EntityValue e j)) ≡ text_cmp i j =
+      id_order (members_of enums e) (type_name s (EntityType e)) i j (members_found enums e good) h k in
       (λ x. order (carry enums s (EntityType e) (EntityValue (p x) i)) (carry enums s (EntityType e) (EntityValue (q x) j)))
-      ∙ (here ∙ (sym (ap (λ o. compared (ordering_then o (text_cmp i j))) (text_itself_is e)) ∙ λ x. compared (ordering_then (text_cmp (sym p x) (sym q x)) (text_cmp i j))))
+      ∙ (here ∙ (sym (ap (λ o. ordering_then o (text_cmp i j)) (text_itself e)) ∙ λ x. ordering_then (text_cmp (sym p x) (sym q x)) (text_cmp i j)))
 
   mutual
-    pub keeps : (ty : PlainType) (v w : Value) → IsValue enums ty v → IsValue enums ty w → order (carry enums s ty v) (carry enums s ty w) ≡ compared (value_cmp v w)
-    keeps BoolType (BoolValue a) (BoolValue b) h k = truths_agree a b
+    pub keeps : (ty : PlainType) (v w : Value) → IsValue enums ty v → IsValue enums ty w → order (carry enums s ty v) (carry enums s ty w) ≡ value_cmp v w
+    keeps BoolType (BoolValue a) (BoolValue b) h k = refl
     keeps BoolType (BoolValue a) w h k = absurd k
     keeps BoolType v w h k = absurd h
-    keeps (BitVecType n) (BitVecValue l a) (BitVecValue m b) h k = then_compared (nat_cmp l m) (nat_cmp a b) (order_numbers l m) (order_numbers a b) (numbers_agree l m) (numbers_agree a b)
+    keeps (BitVecType n) (BitVecValue l a) (BitVecValue m b) h k = refl
     keeps (BitVecType n) (BitVecValue l a) w h k = absurd k
     keeps (BitVecType n) v w h k = absurd h
-    keeps StringType (StringValue a) (StringValue b) h k = texts_agree a b
+    keeps StringType (StringValue a) (StringValue b) h k = refl
     keeps StringType (StringValue a) w h k = absurd k
     keeps StringType v w h k = absurd h
     keeps (EntityType e) (EntityValue f i) (EntityValue g j) h k = entity_order e f g i j h.0 k.0 h.1 k.1
@@ -156,7 +137,7 @@ module _ (enums : Enums) (s : Tables) (good : AreEnums enums) where
     keeps (OptionType t) NoneValue (SomeValue w) h k = refl
     keeps (OptionType t) NoneValue w h k = absurd k
     keeps (OptionType t) (SomeValue v) NoneValue h k = refl
-    keeps (OptionType t) (SomeValue v) (SomeValue w) h k = constructor_order 1 (codes "some") (alone (carry enums s t v)) (alone (carry enums s t w)) ∙ (then_same (order (carry enums s t v) (carry enums s t w)) ∙ keeps t v w h k)
+    keeps (OptionType t) (SomeValue v) (SomeValue w) h k = constructor_order 1 (codes "some") (alone (carry enums s t v)) (alone (carry enums s t w)) ∙ (then_none (order (carry enums s t v) (carry enums s t w)) ∙ keeps t v w h k)
     keeps (OptionType t) (SomeValue v) w h k = absurd k
     keeps (OptionType t) v w h k = absurd h
     keeps (RecordType x) (RecordValue fs) (RecordValue gs) h k = constructor_order 0 (type_name s (RecordType x)) (carry_fields enums s x fs) (carry_fields enums s x gs) ∙ keeps_fields x fs gs h k
@@ -167,26 +148,25 @@ module _ (enums : Enums) (s : Tables) (good : AreEnums enums) where
     keeps (SetType t) v w h k = absurd h
 
     pub keeps_each : (t : PlainType) (vs ws : Values) → AllByRecursion (λ v. IsValue enums t v) (list_of_values vs) → AllByRecursion (λ v. IsValue enums t v) (list_of_values ws)
-        → order_each (carry_values enums s t vs) (carry_values enums s t ws) ≡ compared (values_cmp vs ws)
+        → order_each (carry_values enums s t vs) (carry_values enums s t ws) ≡ values_cmp vs ws
     keeps_each t no_values no_values h k = refl
     keeps_each t no_values (one_value w ws) h k = refl
     keeps_each t (one_value v vs) no_values h k = refl
-    keeps_each t (one_value v vs) (one_value w ws) h k = then_compared (value_cmp v w) (values_cmp vs ws) (order (carry enums s t v) (carry enums s t w)) (order_each (carry_values enums s t vs) (carry_values enums s t ws)) (keeps t v w h.0 k.0) (keeps_each t vs ws h.1 k.1)
+    keeps_each t (one_value v vs) (one_value w ws) h k = λ i. ordering_then (keeps t v w h.0 k.0 i) (keeps_each t vs ws h.1 k.1 i)
 
     pub keeps_fields : (x : AttributeTypes) (fs gs : FieldValues) → AreFieldValues enums x fs → AreFieldValues enums x gs
-        → order_each (carry_fields enums s x fs) (carry_fields enums s x gs) ≡ compared (field_values_cmp fs gs)
+        → order_each (carry_fields enums s x fs) (carry_fields enums s x gs) ≡ field_values_cmp fs gs
     keeps_fields no_attributes no_field_values no_field_values h k = refl
     keeps_fields no_attributes no_field_values gs h k = absurd k
     keeps_fields no_attributes fs gs h k = absurd h
     keeps_fields (attribute a t x) (one_field_value b v fs) (one_field_value c w gs) h k =
-        then_compared (ordering_then (text_cmp b c) (value_cmp v w)) (field_values_cmp fs gs) (order (carry enums s t v) (carry enums s t w)) (order_each (carry_fields enums s x fs) (carry_fields enums s x gs))
-        (keeps t v w h.1 k.1 ∙ ap (λ o. compared (ordering_then o (value_cmp v w))) (sym (text_itself_is a) ∙ λ i. text_cmp (sym h.0 i) (sym k.0 i)))
-        (keeps_fields x fs gs h.2 k.2)
+        let same_name : Equal ≡ text_cmp b c = sym (text_itself a) ∙ λ i. text_cmp (sym h.0 i) (sym k.0 i) in
+        λ i. ordering_then (ordering_then (same_name i) (keeps t v w h.1 k.1 i)) (keeps_fields x fs gs h.2 k.2 i)
     keeps_fields (attribute a t x) (one_field_value b v fs) gs h k = absurd k
     keeps_fields (attribute a t x) fs gs h k = absurd h
 
   pub same_values : (ty : PlainType) (v w : Value) → IsValue enums ty v → IsValue enums ty w → same (carry enums s ty v) (carry enums s ty w) ≡ value_eq v w
-  same_values ty v w h k = ap is_same (keeps ty v w h k) ∙ same_compared (value_cmp v w)
+  same_values ty v w h k = ap is_eq (keeps ty v w h k)
 
   pub one_to_one : (ty : PlainType) (v w : Value) → IsValue enums ty v → IsValue enums ty w
       → (carry enums s ty v ≡ carry enums s ty w → v ≡ w) × (same (carry enums s ty v) (carry enums s ty w) ≡ value_eq v w)
@@ -203,6 +183,6 @@ module _ (enums : Enums) (s : Tables) (good : AreEnums enums) where
           → script.ascends_from (carry enums s t v) (carry_values enums s t vs) ≡ true
       from t v no_values p k h = refl
       from t v (one_value w ws) p k h =
-          and_from (is_before (order (carry enums s t v) (carry enums s t w))) (script.ascends_from (carry enums s t w) (carry_values enums s t ws))
-          (ap is_before (keeps t v w p k.0) ∙ (before_compared (value_cmp v w) ∙ first_so (is_lt (value_cmp v w)) (ascends value_cmp (w ∷ list_of_values ws)) h))
+          and_from (is_lt (order (carry enums s t v) (carry enums s t w))) (script.ascends_from (carry enums s t w) (carry_values enums s t ws))
+          (ap is_lt (keeps t v w p k.0) ∙ first_so (is_lt (value_cmp v w)) (ascends value_cmp (w ∷ list_of_values ws)) h)
           (from t w ws k.0 k.1 (second_so (is_lt (value_cmp v w)) (ascends value_cmp (w ∷ list_of_values ws)) h))

@@ -5,7 +5,6 @@ use Rattle.std.specs.List.{AllByRecursion}
 use Rattle.std.specs.Ordering.{ordering_reverse, is_eq}
 use Rattle.std.specs.declared.cmp.Ordering.{Ordering}
 use Rattle.std.specs.declared.cmp.Ordering.TheVariants.{Less, Equal, Greater}
-use Rattle.std.proofs.lemmas.Slice.Eq.{bytes_eq-Decides}
 use Rattle.std.proofs.Math.Nat.{mod-eq_of_lt}
 use Rattle.smt_term.specs.Plain.{IpAddrKind, DatetimeKind, DurationKind, PlainType, OptionType, BitVecType, BoolType, ExtensionType, RecordType, AttributeTypes, no_attributes, attribute, ExtensionOp, DatetimeOfBitVecOp, DatetimeValOp, DecimalValOp, DurationOfBitVecOp, DurationValOp, IpAddrV4Op, IpAddrV6Op, IpIsV4Op, IpPrefixV4Op, IpPrefixV6Op, DecimalOf, Ipv4Of, Ipv6Of, DatetimeOf, DurationOf}
 use Rattle.smt_term.specs.Values.{Value, BitVecValue, ExtensionValue, NoneValue, SomeValue, RecordValue, FieldValues, no_field_values, one_field_value}
@@ -14,24 +13,21 @@ use Rattle.smt_bits.specs.BitVectors.{signed, bits_of, is_negative}
 use Rattle.smt_term.specs.Operators.{field_value, attribute_value, value_inside, prefix_value, apply_extension}
 use Rattle.smt_term.specs.Tables.{Table, Interpretation, value_among, value_at}
 use Rattle.smt_term.specs.Types.{attribute_in, extension_signature}
-use Rattle.smt_term.specs.TypeValues.{IsValue, AreFieldValues, IsLong}
-use Rattle.smt_term.specs.ValueOrder.{value_eq, value_cmp, text_eq}
+use Rattle.smt_term.specs.TypeValues.{IsValue, AreFieldValues, IsLong, Enums}
+use Rattle.smt_term.specs.ValueOrder.{value_eq, value_cmp}
 use Rattle.smt_term.proofs.ValueOrder.{value_turned}
+use Rattle.smt_term.specs.Formed.{attribute_names}
 use Rattle.smt_sexpr.specs.Reading.{Expression}
 use Rattle.smt_semantics.specs.Script.{Builds}
 use Rattle.smt_semantics.specs.Value as script
 use Rattle.smt_semantics.specs.Value.{in_pairs, in_table, selected, is_built, other_value}
-use Rattle.smt_lines.specs.Lines.{Enums, Tables, place_of}
-use Rattle.smt_lines.specs.Types.{attribute_names}
+use Rattle.smt_lines.specs.Lines.{Tables, place_of}
 use Rattle.smt_lines.specs.Naming.{type_name}
 use Rattle.smt_carrying.specs.Carry.{carry, carry_fields, carry_prefix, signed_bits, alone}
 use Rattle.smt_carrying.specs.Order.{AreEnums}
 use Rattle.smt_carrying.specs.Operators.{carry_table, selector_constructor, selector_place, is_selector, carry_selector, AreRanges, selector_name}
-use Rattle.smt_carrying.proofs.Members.{tests_same}
+use Rattle.smt_term.proofs.ValueOrder.{bytes_itself}
 use Rattle.smt_carrying.proofs.Ordered.{same_values}
-
-pub bytes_itself : (n : List ℕ) → bytes_eq n n ≡ true
-bytes_itself n = (bytes_eq-Decides n n).1 refl
 
 reversed : (o : Ordering) → is_eq (ordering_reverse o) ≡ is_eq o
 reversed Less = refl
@@ -47,29 +43,27 @@ selected_own : (j : script.ScriptInterpretation) (n : List ℕ) (ps : List (List
 selected_own j n ps c place q sort vs = ap (λ b. cond b (script.value_at place vs) (other_value j n ps sort (ConstructorOf q c vs))) (bytes_itself c)
 
 module _ (enums : Enums) (s : Tables) where
-  field_selected : (x : List ℕ) (attributes : AttributeTypes) (fs : FieldValues) (t : PlainType) → AreFieldValues enums attributes fs → attribute_in x attributes ≡ Some t
-      → script.value_at (place_of x (attribute_names attributes)) (carry_fields enums s attributes fs) ≡ Some (carry enums s t (field_value x fs))
+  field_selected : (x : List ℕ) (shape : AttributeTypes) (fs : FieldValues) (t : PlainType) → AreFieldValues enums shape fs → attribute_in x shape ≡ Some t
+      → script.value_at (place_of x (attribute_names shape)) (carry_fields enums s shape fs) ≡ Some (carry enums s t (field_value x fs))
   field_selected x no_attributes fs t h e = cc
-  field_selected x (attribute a u attributes) no_field_values t h e = absurd h
-  field_selected x (attribute a u attributes) (one_field_value b v fs) t h e =
-      by (bytes_eq x a) (text_eq x a) (text_eq x b) (tests_same x a) (ap (text_eq x) (sym h.0)) e (λ p. field_selected x attributes fs t h.2 p)
+  field_selected x (attribute a u shape) no_field_values t h e = absurd h
+  field_selected x (attribute a u shape) (one_field_value b v fs) t h e =
+      by (bytes_eq x a) (bytes_eq x b) (ap (bytes_eq x) (sym h.0)) e (λ p. field_selected x shape fs t h.2 p)
     where
-      by : (p q r : Bool) → p ≡ q → q ≡ r → (elim q as (λ b'. Option PlainType) [ true ↦ Some u | false ↦ attribute_in x attributes ]) ≡ Some t
-          → (attribute_in x attributes ≡ Some t → script.value_at (place_of x (attribute_names attributes)) (carry_fields enums s attributes fs) ≡ Some (carry enums s t (field_value x fs)))
-          → script.value_at (cond p 0 (suc (place_of x (attribute_names attributes)))) (carry_fields enums s (attribute a u attributes) (one_field_value b v fs)) ≡ Some (carry enums s t (elim r as (λ b'. Value) [ true ↦ v | false ↦ field_value x fs ]))
-      by true true true f g k again = ap (λ y. Some (carry enums s y v)) (ap (λ o. unwrap_or o u) k)
-      by false false false f g k again = again k
-      by true false r f g k again = cc
-      by false true r f g k again = cc
-      by true true false f g k again = cc
-      by false false true f g k again = cc
+      by : (p r : Bool) → p ≡ r → (elim p as (λ b'. Option PlainType) [ true ↦ Some u | false ↦ attribute_in x shape ]) ≡ Some t
+          → (attribute_in x shape ≡ Some t → script.value_at (place_of x (attribute_names shape)) (carry_fields enums s shape fs) ≡ Some (carry enums s t (field_value x fs)))
+          → script.value_at (cond p 0 (suc (place_of x (attribute_names shape)))) (carry_fields enums s (attribute a u shape) (one_field_value b v fs)) ≡ Some (carry enums s t (elim r as (λ b'. Value) [ true ↦ v | false ↦ field_value x fs ]))
+      by true true g k again = ap (λ y. Some (carry enums s y v)) (ap (λ o. unwrap_or o u) k)
+      by false false g k again = again k
+      by true false g k again = cc
+      by false true g k again = cc
 
-  pub attribute_selected : (j : script.ScriptInterpretation) (n x : List ℕ) (ps : List (List ℕ)) (sort : Option Expression) (attributes : AttributeTypes) (t : PlainType) (v : Value)
-      → IsValue enums (RecordType attributes) v → attribute_in x attributes ≡ Some t
-      → selected j n ps (type_name s (RecordType attributes)) (place_of x (attribute_names attributes)) sort (carry enums s (RecordType attributes) v) ≡ Some (carry enums s t (attribute_value x v))
-  attribute_selected j n x ps sort attributes t (RecordValue fs) h e =
-      selected_own j n ps (type_name s (RecordType attributes)) (place_of x (attribute_names attributes)) 0 sort (carry_fields enums s attributes fs) ∙ field_selected x attributes fs t h e
-  attribute_selected j n x ps sort attributes t v h e = absurd h
+  pub attribute_selected : (j : script.ScriptInterpretation) (n x : List ℕ) (ps : List (List ℕ)) (sort : Option Expression) (shape : AttributeTypes) (t : PlainType) (v : Value)
+      → IsValue enums (RecordType shape) v → attribute_in x shape ≡ Some t
+      → selected j n ps (type_name s (RecordType shape)) (place_of x (attribute_names shape)) sort (carry enums s (RecordType shape) v) ≡ Some (carry enums s t (attribute_value x v))
+  attribute_selected j n x ps sort shape t (RecordValue fs) h e =
+      selected_own j n ps (type_name s (RecordType shape)) (place_of x (attribute_names shape)) 0 sort (carry_fields enums s shape fs) ∙ field_selected x shape fs t h e
+  attribute_selected j n x ps sort shape t v h e = absurd h
 
   pub option_selected : (I : Interpretation) (j : script.ScriptInterpretation) (n p : List ℕ) (sort : Expression) (t : PlainType) (v : Value)
       → IsValue enums (OptionType t) v → j.options sort ≡ carry enums s t (I.inside_none t)

@@ -11,26 +11,22 @@ use Rattle.std.specs.declared.cmp.Ordering.TheVariants.{Less, Equal, Greater}
 use Rattle.smt_term.specs.Plain.{PlainType, SetType}
 use Rattle.smt_term.specs.Values.{Value, Values, no_values, one_value}
 use Rattle.smt_semantics.specs.ScriptValues.{ScriptValue, SetOf, no_script_values, one_script_value}
-use Rattle.smt_term.specs.TypeValues.{IsValue}
+use Rattle.smt_term.specs.TypeValues.{IsValue, Enums}
 use Rattle.smt_term.specs.ValueOrder.{value_cmp, is_below, ascends, sorted_values, values, list_of_values, set_of}
 use Rattle.smt_term.specs.Operators as terms
 use Rattle.smt_term.proofs.TotalOrder.{values_total}
 use Rattle.smt_term.proofs.SortedValues.{all-sorted}
 use Rattle.smt_semantics.specs.Order as script
-use Rattle.smt_semantics.specs.Order.{order, by_order, put}
+use Rattle.smt_semantics.specs.Order.{order, put}
 use Rattle.smt_semantics.specs.Script.{◌>>=◌}
 use Rattle.smt_semantics.specs.Value.{inserted, put_into}
-use Rattle.smt_lines.specs.Lines.{Enums, Tables}
+use Rattle.smt_lines.specs.Lines.{Tables}
 use Rattle.smt_carrying.specs.Carry.{carry, carry_values}
-use Rattle.smt_carrying.specs.Order.{compared, AreEnums}
+use Rattle.smt_carrying.specs.Order.{AreEnums}
+use Rattle.smt_carrying.proofs.Orderings.{less_is}
 use Rattle.smt_carrying.proofs.Ordered.{keeps, same_values}
 
 -- ---- lists that ascend
-
-less-is : (o : Ordering) → is_lt o ≡ true → o ≡ Less
-less-is Less e = refl
-less-is Equal e = cc
-less-is Greater e = cc
 
 sorted_ascending : (vs : List Value) → ascends value_cmp vs ≡ true → sorted_values vs ≡ vs
 sorted_ascending [] h = refl
@@ -38,11 +34,11 @@ sorted_ascending (v ∷ vs) h = ap (λ ws. insert_key value_cmp ws v) (sorted_as
   where
     first : (v : Value) (vs : List Value) → is_below value_cmp v vs ≡ true → insert_key value_cmp vs v ≡ v ∷ vs
     first v [] h = refl
-    first v (w ∷ ws) h = ap (λ o. match_ordering o (v ∷ w ∷ ws) (w ∷ ws) (w ∷ insert_key value_cmp ws v)) (less-is (value_cmp v w) h)
+    first v (w ∷ ws) h = ap (λ o. match_ordering o (v ∷ w ∷ ws) (w ∷ ws) (w ∷ insert_key value_cmp ws v)) (less_is (value_cmp v w) h)
 
 over : (x y : Value) (ys : List Value) → is_lt (value_cmp x y) ≡ true → is_below value_cmp y ys ≡ true → is_below value_cmp x ys ≡ true
 over x y [] h k = refl
-over x y (z ∷ ys) h k = ap is_lt (values_total.trans x y z (less-is (value_cmp x y) h) (less-is (value_cmp y z) k))
+over x y (z ∷ ys) h k = ap is_lt (values_total.trans x y z (less_is (value_cmp x y) h) (less_is (value_cmp y z) k))
 
 module _ (test : Value → Bool) where
   below_filtered : (x : Value) (ys : List Value) → is_below value_cmp x ys ≡ true → ascends value_cmp ys ≡ true → is_below value_cmp x (filter test ys) ≡ true
@@ -96,10 +92,10 @@ module _ (enums : Enums) (s : Tables) (good : AreEnums enums) (t : PlainType) wh
   put_carried : (v : Value) (xs : List Value) → IsValue enums t v → AllByRecursion (λ x. IsValue enums t x) xs → put (carry enums s t v) (carry_values enums s t (values xs)) ≡ carry_values enums s t (values (insert_key value_cmp xs v))
   put_carried v [] h k = refl
   put_carried v (x ∷ xs) h k =
-      (λ i. by_order (keeps enums s good t v x h k.0 i) (carry_values enums s t (values (v ∷ x ∷ xs))) (carry_values enums s t (values (x ∷ xs))) (one_script_value (carry enums s t x) (put_carried v xs h k.1 i)))
+      (λ i. match_ordering (keeps enums s good t v x h k.0 i) (carry_values enums s t (values (v ∷ x ∷ xs))) (carry_values enums s t (values (x ∷ xs))) (one_script_value (carry enums s t x) (put_carried v xs h k.1 i)))
       ∙ by (value_cmp v x)
     where
-      by : (o : Ordering) → by_order (compared o) (carry_values enums s t (values (v ∷ x ∷ xs))) (carry_values enums s t (values (x ∷ xs))) (one_script_value (carry enums s t x) (carry_values enums s t (values (insert_key value_cmp xs v))))
+      by : (o : Ordering) → match_ordering o (carry_values enums s t (values (v ∷ x ∷ xs))) (carry_values enums s t (values (x ∷ xs))) (one_script_value (carry enums s t x) (carry_values enums s t (values (insert_key value_cmp xs v))))
           ≡ carry_values enums s t (values (match_ordering o (v ∷ x ∷ xs) (x ∷ xs) (x ∷ insert_key value_cmp xs v)))
       by Less = refl
       by Equal = refl

@@ -3,29 +3,28 @@ use Rattle.std.proofs.Common.{◌≡◌, ℕ, suc, ◌+◌, ◌-◌, ◌^◌, �
 use Rattle.std.specs.Prelude.{codes, bytes_eq, nat_le, nat_lt, ◌==◌, ℤ, pos, negsuc, Option, Some, None}
 use Rattle.std.specs.Str.{chars}
 use Rattle.std.specs.List.{AllByRecursion, list_all, list_any}
-use Rattle.std.specs.Cmp.{Equal-is}
 use Rattle.std.proofs.lemmas.Bool.{leb-false, ltb-false, eq-eqb, and_from}
 use Rattle.smt_term.specs.Plain.{ExtensionKind, IpAddrKind, DecimalKind, DatetimeKind, DurationKind, PlainType, OptionType, BitVecType, BoolType, EntityType, ExtensionType, StringType, RecordType, SetType, AttributeTypes, no_attributes, attribute, PlainExtension, DecimalOf, Ipv4Of, Ipv6Of, DatetimeOf, DurationOf}
 use Rattle.smt_term.specs.Values.{Value, BoolValue, BitVecValue, StringValue, EntityValue, ExtensionValue, NoneValue, SomeValue, RecordValue, SetValue, Values, no_values, one_value, FieldValues, no_field_values, one_field_value}
 use Rattle.smt_semantics.specs.ScriptValues.{ScriptValue, BitsOf, TextOf, ConstructorOf, ScriptValues, no_script_values, one_script_value}
-use Rattle.smt_term.specs.TypeValues as terms
-use Rattle.smt_term.specs.TypeValues.{IsValue, AreFieldValues, IsExtension, IsId, IsLong, IsPrefix, AreCodePoints}
-use Rattle.smt_term.specs.ValueOrder.{list_of_values, text_eq}
-use Rattle.smt_term.proofs.ValueOrder.{text_same}
-use Rattle.smt_semantics.specs.Arithmetic.{is_width, are_bits}
+use Rattle.smt_term.specs.TypeValues.{is_code_point, greatest_code_point, IsValue, AreFieldValues, IsExtension, IsId, IsLong, IsPrefix, AreCodePoints, Enums, members_of}
+use Rattle.smt_term.specs.ValueOrder.{list_of_values}
+use Rattle.smt_bits.specs.Widths.{is_width, are_bits}
 use Rattle.smt_sexpr.specs.Lexicon.{Name}
 use Rattle.smt_semantics.specs.Order as script
 use Rattle.smt_sexpr.specs.Reading.{Expression, Leaf, Node, Expressions, Nil, Cons}
 use Rattle.smt_semantics.specs.Script.{name, ◌>>=◌}
-use Rattle.smt_semantics.specs.Sorts.{Entries, string_sort, bit_sort, same_sort, paired, instance, instances, fields_at, constructor_fields, has_sort_in, have_sorts_in, all_have_sort_in}
-use Rattle.smt_lines.specs.Lines.{Enums, Tables, members_of, place_of, member_name}
-use Rattle.smt_lines.specs.Naming.{type_name}
+use Rattle.smt_semantics.specs.Sorts.{Entries, string_sort, bit_sort, same_sort, paired, instance, instances, fields_at, constructor_fields, has_sort_in, have_sorts_in, all_have_sort_in, option_sort}
+use Rattle.smt_lines.specs.Entries.{sorts_of}
+use Rattle.smt_lines.specs.Lines.{Tables, place_of, member_name}
+use Rattle.smt_lines.specs.Naming.{type_name, sort_of}
 use Rattle.smt_carrying.specs.Carry.{alone, signed_bits, carry_prefix, carry_extension, carry_entity, carry, carry_values, carry_fields}
 use Rattle.smt_carrying.specs.Order.{AreEnums}
-use Rattle.smt_carrying.specs.Sorts.{option_sort, script_sort, field_sorts, Constructors, member_constructors, entity_constructors, kind_constructors, option_constructors, at_place, IsDatatype, StandsAlways, IsNamed, IsDeclared, AreDeclared}
-use Rattle.smt_carrying.proofs.Members.{members_same}
+use Rattle.smt_carrying.specs.Sorts.{member_constructors, entity_constructors, kind_constructors, option_constructors, IsDatatype, StandsAlways, IsNamed, IsDeclared, AreDeclared}
 use Rattle.smt_carrying.proofs.Ordered.{stays_sorted}
-use Rattle.smt_carrying.proofs.Selectors.{bytes_itself}
+use Rattle.smt_term.proofs.ValueOrder.{bytes_itself}
+use Rattle.std.proofs.lemmas.Slice.Eq.{bytes_eq-Decides}
+use Rattle.smt_semantics.specs.Growth.{Constructors, at_place}
 
 -- ---- tests from facts
 
@@ -83,29 +82,29 @@ module _ (here : Entries) where
       → IsNamed here n cs → at_place cs place ≡ Some (c, fields) → have_sorts_in here fields vs ≡ true → has_sort_in here (name n) (ConstructorOf place c vs) ≡ true
   built_named n cs place c fields vs x e h = built n [] cs place c fields fields (name n) vs x.datatype e (fields_named n fields) h
 
-  code_points : (s : List ℕ) → AreCodePoints s → list_all (λ c. nat_le c 196607) s ≡ true
+  code_points : (s : List ℕ) → AreCodePoints s → list_all is_code_point s ≡ true
   code_points [] h = refl
-  code_points (c ∷ s) h = and_from (nat_le c 196607) (list_all (λ c. nat_le c 196607) s) (leb_from c 196607 h.0) (code_points s h.1)
+  code_points (c ∷ s) h = and_from (is_code_point c) (list_all is_code_point s) (leb_from c greatest_code_point h.0) (code_points s h.1)
 
   -- ---- members
 
-  member_at : (n : List ℕ) (from : ℕ) (ms : List (List ℕ)) (i : List ℕ) → list_any (λ m. text_eq (chars m) i) ms ≡ true
+  member_at : (n : List ℕ) (from : ℕ) (ms : List (List ℕ)) (i : List ℕ) → list_any (λ m. bytes_eq (chars m) i) ms ≡ true
       → at_place (member_constructors n from ms) (place_of i (map chars ms)) ≡ Some (member_name n (from + place_of i (map chars ms)), [])
   member_at n from [] i h = cc
   member_at n from (m ∷ ms) i h = by (bytes_eq i (chars m)) refl (λ e. member_at n (suc from) ms i e)
     where
       by : (b : Bool) → bytes_eq i (chars m) ≡ b
-          → (list_any (λ x. text_eq (chars x) i) ms ≡ true → at_place (member_constructors n (suc from) ms) (place_of i (map chars ms)) ≡ Some (member_name n (suc from + place_of i (map chars ms)), []))
+          → (list_any (λ x. bytes_eq (chars x) i) ms ≡ true → at_place (member_constructors n (suc from) ms) (place_of i (map chars ms)) ≡ Some (member_name n (suc from + place_of i (map chars ms)), []))
           → at_place (member_constructors n from (m ∷ ms)) (cond b 0 (suc (place_of i (map chars ms)))) ≡ Some (member_name n (from + cond b 0 (suc (place_of i (map chars ms)))), [])
       by true e again = ap (λ k. Some (member_name n k, [])) (let p : from ≡ from + 0 = omega arith in p)
-      by false e again = again (later (text_eq (chars m) i) refl) ∙ ap (λ k. Some (member_name n k, [])) (let p : suc from + place_of i (map chars ms) ≡ from + suc (place_of i (map chars ms)) = omega arith in p)
+      by false e again = again (later (bytes_eq (chars m) i) refl) ∙ ap (λ k. Some (member_name n k, [])) (let p : suc from + place_of i (map chars ms) ≡ from + suc (place_of i (map chars ms)) = omega arith in p)
         where
-          later : (t : Bool) → text_eq (chars m) i ≡ t → list_any (λ x. text_eq (chars x) i) ms ≡ true
-          later false f = sym (ap (λ b. b || list_any (λ x. text_eq (chars x) i) ms) f) ∙ h
-          later true f = absurd (let g : chars m ≡ i = text_same (chars m) i ((Equal-is _).0 f) in let k : bytes_eq i (chars m) ≡ true = ap (λ x. bytes_eq i x) g ∙ bytes_itself i in let z : true ≡ false = sym k ∙ e in cc)
+          later : (t : Bool) → bytes_eq (chars m) i ≡ t → list_any (λ x. bytes_eq (chars x) i) ms ≡ true
+          later false f = sym (ap (λ b. b || list_any (λ x. bytes_eq (chars x) i) ms) f) ∙ h
+          later true f = absurd (let g : chars m ≡ i = (bytes_eq-Decides (chars m) i).0 f in let k : bytes_eq i (chars m) ≡ true = ap (λ x. bytes_eq i x) g ∙ bytes_itself i in let z : true ≡ false = sym k ∙ e in cc)
 
   entity_sorted : (members : Option (List (List ℕ))) (n i : List ℕ) → IsNamed here n (entity_constructors members n) → IsId members i → has_sort_in here (name n) (carry_entity members n i) ≡ true
-  entity_sorted None n i x h = built_named n (entity_constructors None n) 0 n (string_sort ∷ []) (alone (TextOf i)) x refl (and_from (list_all (λ c. nat_le c 196607) i) true (code_points i h) refl)
+  entity_sorted None n i x h = built_named n (entity_constructors None n) 0 n (string_sort ∷ []) (alone (TextOf i)) x refl (and_from (list_all is_code_point i) true (code_points i h) refl)
   entity_sorted (Some members) n i x h =
       built_named n (entity_constructors (Some members) n) (place_of i (map chars members)) (member_name n (place_of i (map chars members))) [] no_script_values x
       (member_at n 0 members i h ∙ ap (λ k. Some (member_name n k, [])) (let p : 0 + place_of i (map chars members) ≡ place_of i (map chars members) = omega arith in p)) refl
@@ -151,11 +150,8 @@ module _ (here : Entries) where
     extension_sorted kind n x d h = absurd h
 
     module _ (enums : Enums) (s : Tables) (good : AreEnums enums) where
-      id_of : (e i : List ℕ) → IsId (terms.members_of enums e) i → IsId (members_of enums e) i
-      id_of e i h = subst (λ m. IsId m i) (sym (members_same enums e)) h
-
       mutual
-        pub sorted_value : (ty : PlainType) (v : Value) → IsDeclared enums s here ty → IsValue enums ty v → has_sort_in here (script_sort s ty) (carry enums s ty v) ≡ true
+        pub sorted_value : (ty : PlainType) (v : Value) → IsDeclared enums s here ty → IsValue enums ty v → has_sort_in here (sort_of s ty) (carry enums s ty v) ≡ true
         sorted_value BoolType (BoolValue b) d h = refl
         sorted_value BoolType v d h = absurd h
         sorted_value (BitVecType n) (BitVecValue m a) d h = subst (λ x. has_sort_in here (bit_sort n) (BitsOf x a) ≡ true) (sym h.0) (width_itself n a (bits_from n a d.0 d.1 h.1))
@@ -164,25 +160,25 @@ module _ (here : Entries) where
         sorted_value StringType v d h = absurd h
         sorted_value (EntityType e) (EntityValue f i) d h =
             subst (λ x. has_sort_in here (name (type_name s (EntityType e))) (carry_entity (members_of enums x) (type_name s (EntityType x)) i) ≡ true) (sym h.0)
-            (entity_sorted (members_of enums e) (type_name s (EntityType e)) i d (id_of e i h.1))
+            (entity_sorted (members_of enums e) (type_name s (EntityType e)) i d h.1)
         sorted_value (EntityType e) v d h = absurd h
         sorted_value (ExtensionType kind) (ExtensionValue x) d h = extension_sorted kind (type_name s (ExtensionType kind)) x d h
         sorted_value (ExtensionType kind) v d h = absurd h
-        sorted_value (OptionType t) NoneValue d h = none_sorted (script_sort s t)
-        sorted_value (OptionType t) (SomeValue v) d h = some_sorted (script_sort s t) (carry enums s t v) (sorted_value t v d h)
+        sorted_value (OptionType t) NoneValue d h = none_sorted (sort_of s t)
+        sorted_value (OptionType t) (SomeValue v) d h = some_sorted (sort_of s t) (carry enums s t v) (sorted_value t v d h)
         sorted_value (OptionType t) v d h = absurd h
         sorted_value (RecordType x) (RecordValue fs) d h =
-            built_named (type_name s (RecordType x)) ((type_name s (RecordType x), field_sorts s x) ∷ []) 0 (type_name s (RecordType x)) (field_sorts s x) (carry_fields enums s x fs) d.0 refl (sorted_fields x fs d.1 h)
+            built_named (type_name s (RecordType x)) ((type_name s (RecordType x), sorts_of s x) ∷ []) 0 (type_name s (RecordType x)) (sorts_of s x) (carry_fields enums s x fs) d.0 refl (sorted_fields x fs d.1 h)
         sorted_value (RecordType x) v d h = absurd h
-        sorted_value (SetType t) (SetValue vs) d h = and_from (all_have_sort_in here (script_sort s t) (carry_values enums s t vs)) (script.ascends (carry_values enums s t vs)) (sorted_each t vs d h.1) (stays_sorted enums s good t vs h.0 h.1)
+        sorted_value (SetType t) (SetValue vs) d h = and_from (all_have_sort_in here (sort_of s t) (carry_values enums s t vs)) (script.ascends (carry_values enums s t vs)) (sorted_each t vs d h.1) (stays_sorted enums s good t vs h.0 h.1)
         sorted_value (SetType t) v d h = absurd h
 
-        sorted_each : (t : PlainType) (vs : Values) → IsDeclared enums s here t → AllByRecursion (λ v. IsValue enums t v) (list_of_values vs) → all_have_sort_in here (script_sort s t) (carry_values enums s t vs) ≡ true
+        sorted_each : (t : PlainType) (vs : Values) → IsDeclared enums s here t → AllByRecursion (λ v. IsValue enums t v) (list_of_values vs) → all_have_sort_in here (sort_of s t) (carry_values enums s t vs) ≡ true
         sorted_each t no_values d h = refl
-        sorted_each t (one_value v vs) d h = and_from (has_sort_in here (script_sort s t) (carry enums s t v)) (all_have_sort_in here (script_sort s t) (carry_values enums s t vs)) (sorted_value t v d h.0) (sorted_each t vs d h.1)
+        sorted_each t (one_value v vs) d h = and_from (has_sort_in here (sort_of s t) (carry enums s t v)) (all_have_sort_in here (sort_of s t) (carry_values enums s t vs)) (sorted_value t v d h.0) (sorted_each t vs d h.1)
 
-        sorted_fields : (x : AttributeTypes) (fs : FieldValues) → AreDeclared enums s here x → AreFieldValues enums x fs → have_sorts_in here (field_sorts s x) (carry_fields enums s x fs) ≡ true
+        sorted_fields : (x : AttributeTypes) (fs : FieldValues) → AreDeclared enums s here x → AreFieldValues enums x fs → have_sorts_in here (sorts_of s x) (carry_fields enums s x fs) ≡ true
         sorted_fields no_attributes no_field_values d h = refl
         sorted_fields no_attributes fs d h = absurd h
-        sorted_fields (attribute a t x) (one_field_value b v fs) d h = and_from (has_sort_in here (script_sort s t) (carry enums s t v)) (have_sorts_in here (field_sorts s x) (carry_fields enums s x fs)) (sorted_value t v d.0 h.1) (sorted_fields x fs d.1 h.2)
+        sorted_fields (attribute a t x) (one_field_value b v fs) d h = and_from (has_sort_in here (sort_of s t) (carry enums s t v)) (have_sorts_in here (sorts_of s x) (carry_fields enums s x fs)) (sorted_value t v d.0 h.1) (sorted_fields x fs d.1 h.2)
         sorted_fields (attribute a t x) fs d h = absurd h

@@ -5,26 +5,15 @@ use Rattle.std.specs.List.{AllByRecursion}
 use Rattle.std.proofs.lemmas.Str.{IsUtf8-from_ascii}
 use Rattle.std.proofs.Common.{rules}
 use Rattle.std.proofs.lemmas.Slice.Eq.{bytes_eq-Decides}
-use Rattle.smt_term.specs.Plain.{OptionType, BitVecType, BoolType, EntityType, ExtensionType, StringType, RecordType, SetType}
 use Rattle.smt_sexpr.specs.Reading.{Expression}
 use Rattle.smt_semantics.specs.Script.{Constructor, Entry, Builds, Selects, look_up, names_of, names_below}
 use Rattle.smt_semantics.specs.Meanings.{selectors_named, constructors_named}
 use Rattle.smt_semantics.proofs.Grown.{datatypes_declare}
 use Rattle.smt_term.proofs.Soundness.{all-front, all-back}
-use Rattle.smt_semantics.specs.Sorts.{Entries, set_sort}
-use Rattle.smt_semantics.specs.Growth.{Declares}
-use Rattle.smt_carrying.specs.Sorts.{Constructors, option_sort, at_place, IsNoDatatype}
-use Rattle.smt_carrying.specs.Standing.{shown, BuildsRightly, option_declared, color_declared, color_state, BuildsOther, SortsAgree, DatatypesStand, NewDatatypesStand, ColorsStand}
-
-pub sorts_agree : SortsAgree
-sorts_agree s (OptionType t) = ap option_sort (sorts_agree s t)
-sorts_agree s (BitVecType n) = refl
-sorts_agree s BoolType = refl
-sorts_agree s (EntityType e) = refl
-sorts_agree s (ExtensionType k) = refl
-sorts_agree s StringType = refl
-sorts_agree s (RecordType x) = refl
-sorts_agree s (SetType t) = ap set_sort (sorts_agree s t)
+use Rattle.smt_semantics.specs.Sorts.{Entries}
+use Rattle.smt_semantics.specs.Growth.{Declares, Constructors, at_place, shown}
+use Rattle.smt_carrying.specs.Sorts.{IsNoDatatype}
+use Rattle.smt_carrying.specs.Standing.{BuildsRightly, option_declared, color_declared, color_state, BuildsOther, DatatypesStand, NewDatatypesStand, ColorsStand}
 
 -- what holds of each entry holds of the one that a name has
 pub of_entry : (P : List ℕ → Entry → Type 0) (names : List (List ℕ × Entry)) → AllByRecursion (λ p. P p.0 p.1) names → (c : List ℕ) (x : Entry) → look_up c names ≡ Some x → P c x
@@ -35,7 +24,7 @@ of_entry P (p ∷ ps) h c x e = by (bytes_eq c p.0) refl e (of_entry P ps h.1 c 
     by true f g again = subst (λ n. P n x) (sym ((bytes_eq-Decides c p.0).0 f)) (subst (λ y. P p.0 y) (ap (λ o. unwrap_or o x) g) h.0)
     by false f g again = again g
 
-declared_at : (here : Entries) (d : List ℕ) (ps : List (List ℕ)) (from : ℕ) (cs : List Constructor) → Declares here d ps from cs → (place : ℕ) (c : List ℕ) (fields : List Expression) → at_place (shown cs) place ≡ Some (c, fields) → here c ≡ Some (Builds d ps (from + place) fields)
+pub declared_at : (here : Entries) (d : List ℕ) (ps : List (List ℕ)) (from : ℕ) (cs : List Constructor) → Declares here d ps from cs → (place : ℕ) (c : List ℕ) (fields : List Expression) → at_place (shown cs) place ≡ Some (c, fields) → here c ≡ Some (Builds d ps (from + place) fields)
 declared_at here d ps from [] h place c fields e = absurd cc
 declared_at here d ps from (x ∷ cs) h zero c fields e =
     let q : (x.name ≡ c) × (map (λ y. y.1) x.selectors ≡ fields) = both e in

@@ -7,18 +7,19 @@ use Rattle.smt_term.specs.Interpretations.{IsInterpretation, Agree}
 use Rattle.smt_term.specs.Reached.{reached_terms}
 use Rattle.smt_term.specs.Tables.{Table, Interpretation}
 use Rattle.smt_term.specs.Types.{extension_signature}
+use Rattle.smt_term.specs.TypeValues.{Enums}
 use Rattle.smt_sexpr.specs.Lexicon.{Name, Number}
 use Rattle.smt_sexpr.specs.Reading.{Expression, Leaf, Node, Nil, Cons}
-use Rattle.smt_semantics.specs.Sorts.{Entries, has_sort_in}
+use Rattle.smt_semantics.specs.Sorts.{Entries, has_sort_in, option_sort}
 use Rattle.smt_semantics.specs.Value as script
 use Rattle.smt_semantics.specs.Value.{is_table, is_other}
-use Rattle.smt_lines.specs.Lines.{Enums, Tables, name_of_term, name_of_function, text_of_name}
-use Rattle.smt_lines.specs.Naming.{type_name, IsOneToOne}
+use Rattle.smt_lines.specs.Lines.{Tables, name_of_term, name_of_function, text_of_name}
+use Rattle.smt_lines.specs.Naming.{type_name, IsOneToOne, sort_of}
 use Rattle.smt_carrying.specs.Carry.{key_of, carry, back, nothing_carried}
 use Rattle.smt_lines.specs.Lines.{name_of_type}
 use Rattle.smt_carrying.specs.Order.{AreEnums}
 use Rattle.smt_carrying.specs.Operators.{carry_table, carry_selector, selector_name, selector_constructor}
-use Rattle.smt_carrying.specs.Sorts.{option_sort, script_sort, StandsAlways, IsDeclared}
+use Rattle.smt_carrying.specs.Sorts.{StandsAlways, IsDeclared}
 
 abbrev pub ip_type : PlainType
 ip_type = ExtensionType IpAddrKind
@@ -98,7 +99,7 @@ abbrev pub back_interpretation : Enums → Tables → script.ScriptInterpretatio
 back_interpretation enums s J = record {
   variable = λ id t. back enums t (J.constants (variable_name s id t));
   function = λ f. back_table enums f.argument f.output (J.functions (function_name s f));
-  inside_none = λ t. back enums t (J.options (option_sort (script_sort s t)));
+  inside_none = λ t. back enums t (J.options (option_sort (sort_of s t)));
   other_family = λ o. back_table enums ip_type (extension_signature o).1 (J.selectors (selector_name o));
 }
 
@@ -117,18 +118,18 @@ is_range_selector o = false
 
 -- J gives a selector a table of its sorts, for values of the other constructor.
 abbrev pub IsGivenRange : Tables → Entries → script.ScriptInterpretation → ExtensionOp → Bool → Type 0
-IsGivenRange s here J o true = IsTrue (is_table here (script_sort s ip_type) (script_sort s (extension_signature o).1) (J.selectors (selector_name o))) × AreOthers (selector_constructor o) (J.selectors (selector_name o)).pairs
+IsGivenRange s here J o true = IsTrue (is_table here (sort_of s ip_type) (sort_of s (extension_signature o).1) (J.selectors (selector_name o))) × AreOthers (selector_constructor o) (J.selectors (selector_name o)).pairs
 IsGivenRange s here J o false = ⊤
 
 abbrev pub IsScriptGivenOp : Tables → Entries → script.ScriptInterpretation → PlainOp → PlainType → Type 0
-IsScriptGivenOp s here J (UufOp f) t = IsTrue (is_table here (script_sort s f.argument) (script_sort s f.output) (J.functions (function_name s f)))
-IsScriptGivenOp s here J OptionGetOp t = IsTrue (has_sort_in here (script_sort s t) (J.options (option_sort (script_sort s t))))
+IsScriptGivenOp s here J (UufOp f) t = IsTrue (is_table here (sort_of s f.argument) (sort_of s f.output) (J.functions (function_name s f)))
+IsScriptGivenOp s here J OptionGetOp t = IsTrue (has_sort_in here (sort_of s t) (J.options (option_sort (sort_of s t))))
 IsScriptGivenOp s here J (ExtOp o) t = IsGivenRange s here J o (is_range_selector o)
 IsScriptGivenOp s here J op t = ⊤
 
 -- J gives what one term asks of it a value or a table of its sort.
 abbrev pub IsScriptGiven : Tables → Entries → script.ScriptInterpretation → PlainTerm → Type 0
-IsScriptGiven s here J (VariableTerm id t) = IsTrue (has_sort_in here (script_sort s t) (J.constants (variable_name s id t)))
+IsScriptGiven s here J (VariableTerm id t) = IsTrue (has_sort_in here (sort_of s t) (J.constants (variable_name s id t)))
 IsScriptGiven s here J (Application op ts t) = IsScriptGivenOp s here J op t
 IsScriptGiven s here J t = ⊤
 
@@ -142,7 +143,7 @@ GiveRangeSame J K o false = ⊤
 
 abbrev pub GiveOpSame : Tables → script.ScriptInterpretation → script.ScriptInterpretation → PlainOp → PlainType → Type 0
 GiveOpSame s J K (UufOp f) t = J.functions (function_name s f) ≡ K.functions (function_name s f)
-GiveOpSame s J K OptionGetOp t = J.options (option_sort (script_sort s t)) ≡ K.options (option_sort (script_sort s t))
+GiveOpSame s J K OptionGetOp t = J.options (option_sort (sort_of s t)) ≡ K.options (option_sort (sort_of s t))
 GiveOpSame s J K (ExtOp o) t = GiveRangeSame J K o (is_range_selector o)
 GiveOpSame s J K op t = ⊤
 

@@ -7,12 +7,12 @@ use Rattle.smt_term.specs.Reached.{reached_terms}
 use Rattle.smt_term.specs.Types.{extension_signature}
 use Rattle.smt_sexpr.specs.Reading.{Expression}
 use Rattle.smt_semantics.specs.Script.{Entry, Constant, Function, Selects, State, name, names_of}
-use Rattle.smt_semantics.specs.Sorts.{entries}
+use Rattle.smt_semantics.specs.Sorts.{entries, option_sort}
 use Rattle.smt_semantics.specs.Value as script
 use Rattle.smt_semantics.specs.Value.{IsScriptInterpretation, AgreeFor, applied_selectors}
+use Rattle.smt_lines.specs.Naming.{sort_of}
 use Rattle.smt_lines.specs.Lines.{Tables}
 use Rattle.smt_carrying.specs.Operators.{selector_name, selector_constructor}
-use Rattle.smt_carrying.specs.Sorts.{option_sort, script_sort}
 use Rattle.smt_carrying.specs.Interpretations.{ip_type, is_range_selector, variable_name, function_name, GivesReachedNames, AgreeOnNames}
 
 abbrev pub Occurs : PlainTerm → List PlainTerm → Type 0
@@ -24,7 +24,7 @@ pub record IsVariable (s : Tables) (us : List PlainTerm) (n : List ℕ) (sort : 
   pub type : PlainType
   pub reached : Occurs (VariableTerm id type) us
   pub named : n ≡ variable_name s id type
-  pub sorted : sort ≡ script_sort s type
+  pub sorted : sort ≡ sort_of s type
 
 pub record IsFunction (s : Tables) (us : List PlainTerm) (n : List ℕ) (argument sort : Expression) : Type 0 where
   pub function : PlainFunction
@@ -32,8 +32,8 @@ pub record IsFunction (s : Tables) (us : List PlainTerm) (n : List ℕ) (argumen
   pub type : PlainType
   pub reached : Occurs (Application (UufOp function) arguments type) us
   pub named : n ≡ function_name s function
-  pub argument_sorted : argument ≡ script_sort s function.argument
-  pub sorted : sort ≡ script_sort s function.output
+  pub argument_sorted : argument ≡ sort_of s function.argument
+  pub sorted : sort ≡ sort_of s function.output
 
 pub record IsRange (s : Tables) (us : List PlainTerm) (n c : List ℕ) (sort field : Expression) : Type 0 where
   pub selector : ExtensionOp
@@ -43,14 +43,14 @@ pub record IsRange (s : Tables) (us : List PlainTerm) (n c : List ℕ) (sort fie
   pub ranges : IsTrue (is_range_selector selector)
   pub named : n ≡ selector_name selector
   pub constructs : c ≡ selector_constructor selector
-  pub argument_sorted : sort ≡ script_sort s ip_type
-  pub sorted : field ≡ script_sort s (extension_signature selector).1
+  pub argument_sorted : sort ≡ sort_of s ip_type
+  pub sorted : field ≡ sort_of s (extension_signature selector).1
 
 pub record IsOption (s : Tables) (us : List PlainTerm) (d : List ℕ) (ps : List (List ℕ)) (sort field : Expression) : Type 0 where
   pub arguments : PlainTerms
   pub type : PlainType
   pub reached : Occurs (Application OptionGetOp arguments type) us
-  pub argument_sorted : sort ≡ option_sort (script_sort s type)
+  pub argument_sorted : sort ≡ option_sort (sort_of s type)
   pub datatype : d ≡ codes "Option"
   pub parameters : ps ≡ codes "X" ∷ []
   pub sorted : field ≡ name (codes "X")

@@ -5,16 +5,16 @@ use Rattle.smt_term.specs.Plain.{IpAddrKind, DatetimeKind, DurationKind, PlainTy
 use Rattle.smt_term.specs.Values.{Value}
 use Rattle.smt_semantics.specs.ScriptValues.{ScriptValue, BitsOf, SetOf, ConstructorOf, no_script_values}
 use Rattle.smt_term.specs.Types.{result_type, attribute_in, extension_signature}
-use Rattle.smt_term.specs.TypeValues.{IsValue}
+use Rattle.smt_term.specs.TypeValues.{IsValue, Enums}
 use Rattle.smt_term.specs.ValueOrder.{set_of}
 use Rattle.smt_term.specs.Tables.{Table, Interpretation, value_at}
 use Rattle.smt_term.specs.Operators.{apply, apply_extension, attribute_value, value_inside}
+use Rattle.smt_term.specs.Formed.{attribute_names}
 use Rattle.smt_sexpr.specs.Reading.{Expression}
 use Rattle.smt_semantics.specs.Script.{Builds}
 use Rattle.smt_semantics.specs.Value as script
 use Rattle.smt_semantics.specs.Value.{operator_value, inserted, in_table, selected, is_built}
-use Rattle.smt_lines.specs.Lines.{Enums, Tables, place_of}
-use Rattle.smt_lines.specs.Types.{attribute_names}
+use Rattle.smt_lines.specs.Lines.{Tables, place_of}
 use Rattle.smt_lines.specs.Naming.{type_name}
 use Rattle.smt_carrying.specs.Carry.{carry, alone}
 use Rattle.smt_carrying.specs.Order.{AreEnums}

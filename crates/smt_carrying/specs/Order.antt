@@ -1,22 +1,14 @@
 -- Carrying keeps the order of the values of one type.
 use Rattle.std.specs.Prelude.{◌≡◌, ℕ, List, IsTrue, IsUtf8}
 use Rattle.std.specs.List.{AllByRecursion}
-use Rattle.std.specs.declared.cmp.Ordering.{Ordering}
-use Rattle.std.specs.declared.cmp.Ordering.TheVariants.{Less, Equal, Greater}
 use Rattle.smt_term.specs.Plain.{PlainType, SetType}
 use Rattle.smt_term.specs.Values.{Value, SetValue, Values}
-use Rattle.smt_term.specs.TypeValues.{IsValue}
+use Rattle.smt_term.specs.TypeValues.{IsValue, Enums}
 use Rattle.smt_term.specs.ValueOrder.{text_cmp, value_cmp, value_eq, ascends}
-use Rattle.smt_semantics.specs.Order.{Comparison, Before, Same, After, order, same}
+use Rattle.smt_semantics.specs.Order.{order, same}
 use Rattle.smt_semantics.specs.Order as script
-use Rattle.smt_lines.specs.Lines.{Enums, Tables}
+use Rattle.smt_lines.specs.Lines.{Tables}
 use Rattle.smt_carrying.specs.Carry.{carry, carry_values}
-
--- one answer of an order in the script's words
-abbrev pub compared : Ordering → Comparison
-compared Less = Before
-compared Equal = Same
-compared Greater = After
 
 -- The members of an enum type ascend strictly by their bytes, and are texts.
 pub record AreMembers (members : List (List ℕ)) : Type 0 where
@@ -29,7 +21,7 @@ AreEnums enums = AllByRecursion (λ e. AreMembers e.1) enums
 -- Values of one type stand in the order of what they are carried to, whatever names the types have.
 abbrev pub CarryingKeepsOrder : Type 0
 CarryingKeepsOrder = (enums : Enums) (s : Tables) (ty : PlainType) (v w : Value) → AreEnums enums → IsValue enums ty v → IsValue enums ty w
-    → order (carry enums s ty v) (carry enums s ty w) ≡ compared (value_cmp v w)
+    → order (carry enums s ty v) (carry enums s ty w) ≡ value_cmp v w
 
 -- Values of one type that are carried to one value are one, and the script's test of equality gives what the terms' gives.
 abbrev pub CarryingIsOneToOne : Type 0

@@ -1,62 +1,35 @@
 -- The sorts of types in a script, what it declares for them, and the values of these sorts carried back.
-use Rattle.std.specs.Prelude.{◌≡◌, ℕ, zero, suc, ◌≤◌, false, bytes_eq, codes, List, [], ◌∷◌, Option, Some, None, IsTrue, ⊤}
-use Rattle.smt_term.specs.Plain.{ExtensionKind, IpAddrKind, DecimalKind, DatetimeKind, DurationKind, PlainType, OptionType, BitVecType, BoolType, EntityType, ExtensionType, StringType, RecordType, SetType, AttributeTypes, no_attributes, attribute}
+use Rattle.std.specs.Prelude.{◌≡◌, ℕ, ◌≤◌, false, bytes_eq, codes, List, [], ◌∷◌, Option, Some, IsTrue, ⊤}
+use Rattle.smt_term.specs.Plain.{ExtensionKind, PlainType, OptionType, BitVecType, BoolType, EntityType, ExtensionType, StringType, RecordType, SetType, AttributeTypes, no_attributes, attribute}
 use Rattle.smt_term.specs.Values.{Value}
 use Rattle.smt_semantics.specs.ScriptValues.{ScriptValue}
-use Rattle.smt_term.specs.TypeValues.{IsValue}
+use Rattle.smt_term.specs.TypeValues.{IsValue, Enums, members_of}
 use Rattle.smt_sexpr.specs.Reading.{Expression}
-use Rattle.smt_semantics.specs.Script.{Builds, name, group}
-use Rattle.smt_semantics.specs.Sorts.{Entries, bool_sort, string_sort, bit_sort, set_sort, has_sort_in}
-use Rattle.smt_lines.specs.Lines.{Enums, Tables, members_of, member_name}
-use Rattle.smt_lines.specs.Naming.{type_name}
+use Rattle.smt_semantics.specs.Script.{Builds}
+use Rattle.smt_semantics.specs.Sorts.{Entries, has_sort_in}
+use Rattle.smt_lines.specs.Lines.{Tables, member_name}
+use Rattle.smt_semantics.specs.Growth.{Constructors, shown, at_place}
+use Rattle.smt_lines.specs.Command.{all_built}
+use Rattle.smt_lines.specs.Lines as lines
+use Rattle.smt_lines.specs.Naming.{type_name, sort_of}
+use Rattle.smt_lines.specs.Entries.{sorts_of}
 use Rattle.smt_carrying.specs.Carry.{carry, back}
 use Rattle.smt_carrying.specs.Order.{AreEnums}
 
-abbrev pub option_sort : Expression → Expression
-option_sort sort = group (name (codes "Option") ∷ sort ∷ [])
-
--- the sort of a type
-abbrev pub script_sort : Tables → PlainType → Expression
-script_sort s (OptionType t) = option_sort (script_sort s t)
-script_sort s (BitVecType width) = bit_sort width
-script_sort s BoolType = bool_sort
-script_sort s (EntityType type) = name (type_name s (EntityType type))
-script_sort s (ExtensionType kind) = name (type_name s (ExtensionType kind))
-script_sort s StringType = string_sort
-script_sort s (RecordType x) = name (type_name s (RecordType x))
-script_sort s (SetType t) = set_sort (script_sort s t)
-
-abbrev pub field_sorts : Tables → AttributeTypes → List Expression
-field_sorts s no_attributes = []
-field_sorts s (attribute a t x) = script_sort s t ∷ field_sorts s x
-
 -- ---- datatypes
 
--- constructors, each with the sorts of its fields
-abbrev pub Constructors : Type 0
-Constructors = List (List ℕ × List Expression)
-
+-- the constructors that are declared, each with the sorts of its fields
 abbrev pub member_constructors : (type : List ℕ) → ℕ → List (List ℕ) → Constructors
-member_constructors type place [] = []
-member_constructors type place (m ∷ ms) = (member_name type place, []) ∷ member_constructors type (suc place) ms
+member_constructors type place members = shown (all_built (lines.member_constructors type place members))
 
 abbrev pub entity_constructors : (members : Option (List (List ℕ))) → (type : List ℕ) → Constructors
-entity_constructors None type = (type, string_sort ∷ []) ∷ []
-entity_constructors (Some members) type = member_constructors type 0 members
+entity_constructors members type = shown (all_built (lines.entity_constructors members type))
 
 abbrev pub kind_constructors : ExtensionKind → Constructors
-kind_constructors IpAddrKind = (codes "V4", bit_sort 32 ∷ option_sort (bit_sort 5) ∷ []) ∷ (codes "V6", bit_sort 128 ∷ option_sort (bit_sort 7) ∷ []) ∷ []
-kind_constructors DecimalKind = (codes "Decimal", bit_sort 64 ∷ []) ∷ []
-kind_constructors DatetimeKind = (codes "Datetime", bit_sort 64 ∷ []) ∷ []
-kind_constructors DurationKind = (codes "Duration", bit_sort 64 ∷ []) ∷ []
+kind_constructors kind = shown (all_built (lines.kind_constructors kind))
 
 abbrev pub option_constructors : Constructors
-option_constructors = (codes "none", []) ∷ (codes "some", name (codes "X") ∷ []) ∷ []
-
-abbrev pub at_place : Constructors → ℕ → Option (List ℕ × List Expression)
-at_place [] place = None
-at_place (c ∷ cs) zero = Some c
-at_place (c ∷ cs) (suc place) = at_place cs place
+option_constructors = shown (all_built lines.option_constructors)
 
 -- What is declared builds values of this datatype by exactly these constructors.
 pub record IsDatatype (here : Entries) (d : List ℕ) (ps : List (List ℕ)) (cs : Constructors) : Type 0 where
@@ -90,7 +63,7 @@ abbrev mutual
   IsDeclared enums s here (EntityType type) = IsNamed here (type_name s (EntityType type)) (entity_constructors (members_of enums type) (type_name s (EntityType type)))
   IsDeclared enums s here (ExtensionType kind) = IsNamed here (type_name s (ExtensionType kind)) (kind_constructors kind)
   IsDeclared enums s here StringType = ⊤
-  IsDeclared enums s here (RecordType x) = IsNamed here (type_name s (RecordType x)) ((type_name s (RecordType x), field_sorts s x) ∷ []) × AreDeclared enums s here x
+  IsDeclared enums s here (RecordType x) = IsNamed here (type_name s (RecordType x)) ((type_name s (RecordType x), sorts_of s x) ∷ []) × AreDeclared enums s here x
   IsDeclared enums s here (SetType t) = IsDeclared enums s here t
 
   pub AreDeclared : Enums → Tables → Entries → AttributeTypes → Type 0
@@ -100,12 +73,12 @@ abbrev mutual
 -- Carried values have the sort of their type.
 abbrev pub CarriedValuesHaveSorts : Type 0
 CarriedValuesHaveSorts = (enums : Enums) (s : Tables) (here : Entries) (ty : PlainType) (v : Value) → AreEnums enums → StandsAlways here → IsDeclared enums s here ty
-    → IsValue enums ty v → IsTrue (has_sort_in here (script_sort s ty) (carry enums s ty v))
+    → IsValue enums ty v → IsTrue (has_sort_in here (sort_of s ty) (carry enums s ty v))
 
 -- A value of the type's sort is a value of the type that is carried.
 abbrev pub CarryingIsOnto : Type 0
 CarryingIsOnto = (enums : Enums) (s : Tables) (here : Entries) (ty : PlainType) (x : ScriptValue) → AreEnums enums → StandsAlways here → IsDeclared enums s here ty
-    → IsTrue (has_sort_in here (script_sort s ty) x) → IsValue enums ty (back enums ty x) × (carry enums s ty (back enums ty x) ≡ x)
+    → IsTrue (has_sort_in here (sort_of s ty) x) → IsValue enums ty (back enums ty x) × (carry enums s ty (back enums ty x) ≡ x)
 
 -- What is carried comes back.
 abbrev pub BackUndoesCarrying : Type 0

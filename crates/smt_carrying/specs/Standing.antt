@@ -1,25 +1,18 @@
 -- That what carrying asks of a script can be met, and is met by what its declarations leave.
-use Rattle.std.specs.Prelude.{◌≡◌, ℕ, true, codes, map, length, List, [], ◌∷◌, Some, unwrap_or, ⊤}
+use Rattle.std.specs.Prelude.{◌≡◌, ℕ, true, codes, length, List, [], ◌∷◌, Some, unwrap_or, ⊤}
 use Rattle.std.specs.List.{AllByRecursion}
-use Rattle.smt_term.specs.Plain.{PlainType, OptionType, EntityType}
-use Rattle.smt_sexpr.specs.Reading.{Expression}
-use Rattle.smt_semantics.specs.Script.{Constructor, DeclareDatatype, Entry, Builds, State, start, run, name, look_up, names_of, with_sort}
+use Rattle.smt_term.specs.Plain.{OptionType, EntityType}
+use Rattle.smt_term.specs.TypeValues.{Enums}
+use Rattle.smt_semantics.specs.Script.{Constructor, DeclareDatatype, Entry, Builds, State, start, run, look_up, names_of, with_sort}
 use Rattle.smt_semantics.specs.Meanings.{constructors_named, with_names, names_in, are_new}
 use Rattle.smt_semantics.specs.Sorts.{entries}
-use Rattle.smt_semantics.specs.Growth.{Declares}
-use Rattle.smt_lines.specs.Lines.{Enums, Tables}
-use Rattle.smt_lines.specs.Naming.{sort_of}
+use Rattle.smt_semantics.specs.Growth.{Constructors, shown, at_place, Declares}
+use Rattle.smt_lines.specs.Command.{all_built}
+use Rattle.smt_lines.specs.Lines.{Tables, option_constructors}
 use Rattle.smt_carrying.specs.Order.{AreEnums}
-use Rattle.smt_carrying.specs.Sorts.{Constructors, script_sort, at_place, IsDatatype, StandsAlways, IsDeclared}
-
--- The sort that is written for a type is the sort that its values have.
-abbrev pub SortsAgree : Type 0
-SortsAgree = (s : Tables) (t : PlainType) → sort_of s t ≡ script_sort s t
+use Rattle.smt_carrying.specs.Sorts.{IsDatatype, StandsAlways, IsDeclared}
 
 -- ---- datatypes from declarations
-
-abbrev pub shown : List Constructor → Constructors
-shown cs = map (λ c. (c.name, map (λ x. x.1) c.selectors)) cs
 
 -- an entry builds values of the datatype as its declaration says, or not at all
 abbrev pub BuildsRightly : List ℕ → List (List ℕ) → Constructors → List ℕ → Entry → Type 0
@@ -50,7 +43,7 @@ abbrev pub color_tables : Tables
 color_tables = record { terms = []; types = (EntityType (codes "Color"), codes "E0") ∷ []; functions = [] }
 
 abbrev pub option_declared : List Constructor
-option_declared = record { name = codes "none"; selectors = [] } ∷ record { name = codes "some"; selectors = (codes "val", name (codes "X")) ∷ [] } ∷ []
+option_declared = all_built option_constructors
 
 abbrev pub color_declared : List Constructor
 color_declared = record { name = codes "E0_m0"; selectors = [] } ∷ record { name = codes "E0_m1"; selectors = [] } ∷ []

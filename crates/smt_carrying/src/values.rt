@@ -1,6 +1,5 @@
 ghost use Rattle.smt_carrying.specs.Order.{CarryingIsOneToOne, CarryingKeepsOrder, SetsStaySorted};
 ghost use Rattle.smt_carrying.specs.Sorts.{BackUndoesCarrying, CarriedValuesHaveSorts, CarryingIsOnto};
-ghost use Rattle.smt_carrying.specs.Standing.{SortsAgree};
 
 /// On the values of one type carrying keeps the order.
 pub fn carrying_keeps_order()
@@ -30,9 +29,4 @@ pub fn carrying_is_onto()
 /// What is carried comes back.
 pub fn back_undoes_carrying()
     ensures { BackUndoesCarrying }
-{}
-
-/// The sort that is written for a type is the sort that its values have.
-pub fn sorts_agree()
-    ensures { SortsAgree }
 {}

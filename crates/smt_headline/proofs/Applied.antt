@@ -9,9 +9,10 @@ use Rattle.smt_term.specs.Meaning.{meaning, meanings}
 use Rattle.smt_term.specs.Operators.{apply, attribute_value, value_inside}
 use Rattle.smt_term.specs.Tables.{Interpretation, value_at}
 use Rattle.smt_term.specs.Types.{type_of, types_of, type_eq, is_bits, inner_type, attribute_type, attribute_in, result_type}
-use Rattle.smt_term.specs.TypeValues.{IsValue}
+use Rattle.smt_term.specs.TypeValues.{IsValue, Enums}
 use Rattle.smt_term.specs.Values.{Value}
 use Rattle.smt_term.proofs.TypeOrder.{eq_same}
+use Rattle.smt_term.specs.Formed.{attribute_names}
 use Rattle.smt_semantics.specs.ScriptValues.{ScriptValue, BitsOf}
 use Rattle.smt_sexpr.specs.Lexicon.{Number}
 use Rattle.smt_sexpr.specs.Reading.{Expression, Leaf}
@@ -23,29 +24,26 @@ use Rattle.smt_semantics.specs.Value.{ScriptInterpretation, expression_value, op
 use Rattle.smt_semantics.specs.Value as script
 use Rattle.smt_semantics.specs.Meanings.{argument_values}
 use Rattle.smt_semantics.proofs.Apply.{operators_apply, functions_apply, selectors_apply, extensions_apply, matches_apply}
-use Rattle.smt_lines.specs.Lines.{Enums, Tables, name_of_type, name_of_function, text_of_name, attribute_name, attribute_place, attribute_selectors, place_of, bits, least_manner, pattern_body}
-use Rattle.smt_lines.specs.Types as lines
-use Rattle.smt_lines.specs.Types.{attribute_names}
+use Rattle.smt_semantics.specs.Quoting.{pattern_expr}
+use Rattle.smt_lines.specs.Lines.{Tables, name_of_type, name_of_function, text_of_name, attribute_name, attribute_place, attribute_selectors, place_of, bits, least_manner}
 use Rattle.smt_lines.specs.Naming.{sort_of, type_name}
-use Rattle.smt_lines.specs.Fits.{HasSort, text_of, given, texts_of, sorts_of, application_lines}
+use Rattle.smt_lines.specs.Entries.{HasSort, text_of, given, texts_of, sorts_of, application_lines}
 use Rattle.smt_lines.specs.Fine.{IsFineType}
 use Rattle.smt_lines.specs.Fit.{EachLine, LineStands}
 use Rattle.smt_lines.proofs.Declared.{types_are_declared, functions_are_declared}
 use Rattle.smt_carrying.specs.Carry.{carry}
 use Rattle.smt_carrying.specs.Interpretations.{carry_function, carry_inside}
 use Rattle.smt_carrying.specs.Operators.{AreValues, is_script_operator}
-use Rattle.smt_carrying.specs.Sorts.{script_sort}
 use Rattle.smt_carrying.proofs.Keys.{function_keyed, sort_shows}
 use Rattle.smt_carrying.proofs.Negations.{negated}
 use Rattle.smt_carrying.proofs.Operators.{commutes}
 use Rattle.smt_carrying.proofs.Selectors.{attribute_selected, option_selected, table_read}
-use Rattle.smt_carrying.proofs.Standing.{sorts_agree}
 use Rattle.smt_headline.proofs.Agree.{attributes_found}
-use Rattle.smt_headline.proofs.FineTerms.{inside, chosen}
 use Rattle.smt_headline.proofs.Named.{some_there, names_there}
 use Rattle.smt_headline.proofs.Types.{type_stands}
 use Rattle.smt_headline.proofs.Valued.{AreValued}
 use Rattle.smt_headline.proofs.Worth.{Follows, carried, Worth, AreWorth, IsEntered, arguments, bits_worth, bits_fit, from_body, text_sorted}
+use Rattle.smt_term.proofs.Soundness.{inside, chosen}
 
 values : (enums : Enums) (I : Interpretation) (ts : PlainTerms) → AreValued enums I ts → AreValues enums (types_of ts) (meanings I ts)
 values enums I no_terms h = tt
@@ -74,10 +72,10 @@ module _ (enums : Enums) (s : Tables) (state : State) (I : Interpretation) (x : 
       ∙ ap (λ (q : Option ScriptValue). q >>= λ w. operator_value (ZeroExtendOp k) (w ∷ [])) a
       ∙ commutes enums s x.enum_types I (ZeroExtendOp k) type (type_of t ∷ []) (meaning I t ∷ []) refl (v, tt) r
 
-  pub matched : (p : List PatternPart) (t : PlainTerm) (type : PlainType) → pattern (pattern_body p) ≡ Some p → result_type (StringLikeOp p) (type_of t ∷ []) ≡ Some type → IsValue enums (type_of t) (meaning I t) → Has (given (text_of s t)) (type_of t) (meaning I t)
-      → Has (group (name (codes "str.in_re") ∷ given (text_of s t) ∷ pattern_body p ∷ [])) type (apply I (StringLikeOp p) type (meaning I t ∷ []))
+  pub matched : (p : List PatternPart) (t : PlainTerm) (type : PlainType) → pattern (pattern_expr p) ≡ Some p → result_type (StringLikeOp p) (type_of t ∷ []) ≡ Some type → IsValue enums (type_of t) (meaning I t) → Has (given (text_of s t)) (type_of t) (meaning I t)
+      → Has (group (name (codes "str.in_re") ∷ given (text_of s t) ∷ pattern_expr p ∷ [])) type (apply I (StringLikeOp p) type (meaning I t ∷ []))
   matched p t type h r v a =
-      (matches_apply J state (given (text_of s t)) (pattern_body p) p h).0
+      (matches_apply J state (given (text_of s t)) (pattern_expr p) p h).0
       ∙ ap (λ (q : Option ScriptValue). q >>= λ w. operator_value (StringLikeOp p) (w ∷ [])) a
       ∙ commutes enums s x.enum_types I (StringLikeOp p) type (type_of t ∷ []) (meaning I t ∷ []) refl (v, tt) r
 
@@ -130,16 +128,16 @@ module _ (enums : Enums) (s : Tables) (state : State) (I : Interpretation) (x : 
       selectors_apply J state (attribute_name n place) n [] n place q.0 e (carry enums s (RecordType fs) w) (x.last.own (attribute_name n place) (Selects n [] n place q.0) entry) entry h
       ∙ attribute_selected enums s J (attribute_name n place) a [] (sorts.sort_of state e) fs type w v r
 
-  pub attribute_of : (a : List ℕ) (t : PlainTerm) (u type : PlainType) → lines.type_of t ≡ u → type_of t ≡ u → attribute_type a u ≡ Some type → IsSome (name_of_type s (lines.type_of t)) → IsValue enums (type_of t) (meaning I t) → Has (given (text_of s t)) (type_of t) (meaning I t)
-      → Has (group (name (attribute_name (type_name s (lines.type_of t)) (attribute_place a (lines.type_of t))) ∷ given (text_of s t) ∷ [])) type (attribute_value a (meaning I t))
-  attribute_of a t (RecordType fs) type e f r there v h =
+  pub attribute_of : (a : List ℕ) (t : PlainTerm) (u type : PlainType) → type_of t ≡ u → attribute_type a u ≡ Some type → IsSome (name_of_type s (type_of t)) → IsValue enums (type_of t) (meaning I t) → Has (given (text_of s t)) (type_of t) (meaning I t)
+      → Has (group (name (attribute_name (type_name s (type_of t)) (attribute_place a (type_of t))) ∷ given (text_of s t) ∷ [])) type (attribute_value a (meaning I t))
+  attribute_of a t (RecordType fs) type e r there v h =
       subst (λ u. Has (group (name (attribute_name (type_name s u) (attribute_place a u)) ∷ given (text_of s t) ∷ [])) type (attribute_value a (meaning I t))) (sym e)
-      (attribute_worth a fs type (given (text_of s t)) (meaning I t) r (subst (λ u. IsSome (name_of_type s u)) e there) (subst (λ u. IsValue enums u (meaning I t)) f v) (subst (λ u. Has (given (text_of s t)) u (meaning I t)) f h))
-  attribute_of a t u type e f r there v h = cc
+      (attribute_worth a fs type (given (text_of s t)) (meaning I t) r (subst (λ u. IsSome (name_of_type s u)) e there) (subst (λ u. IsValue enums u (meaning I t)) e v) (subst (λ u. Has (given (text_of s t)) u (meaning I t)) e h))
+  attribute_of a t u type e r there v h = cc
 
   -- ---- options
 
-  inside_worth : (type : PlainType) (e : Expression) (w : Value) → IsFineType type → HasSort s type → sorts.sort_of state e ≡ Some (script_sort s (OptionType type)) → IsValue enums (OptionType type) w → Has e (OptionType type) w
+  inside_worth : (type : PlainType) (e : Expression) (w : Value) → IsFineType type → HasSort s type → sorts.sort_of state e ≡ Some (sort_of s (OptionType type)) → IsValue enums (OptionType type) w → Has e (OptionType type) w
       → Has (group (name (codes "val") ∷ e ∷ [])) type (value_inside (I.inside_none type) w)
   inside_worth type e w fine sort q v h =
       let entry = x.fit.option_stands.1.2.1.0 in
@@ -147,18 +145,17 @@ module _ (enums : Enums) (s : Tables) (state : State) (I : Interpretation) (x : 
       let shows = sort_shows enums s (entries state) x.one_to_one.types (OptionType type) declared (names_there enums s state x.fit type sort) in
       selectors_apply J state (codes "val") (codes "Option") (codes "X" ∷ []) (codes "some") 0 (name (codes "X")) e (carry enums s (OptionType type) w) refl entry h
       ∙ ap (λ (o : Option Expression). selected J (codes "val") (codes "X" ∷ []) (codes "some") 0 o (carry enums s (OptionType type) w)) q
-      ∙ option_selected enums s I J (codes "val") (codes "X") (script_sort s (OptionType type)) type w v (ap (carry_inside enums s I) shows)
+      ∙ option_selected enums s I J (codes "val") (codes "X") (sort_of s (OptionType type)) type w v (ap (carry_inside enums s I) shows)
 
-  pub inside_of : (t : PlainTerm) (u type : PlainType) → lines.type_of t ≡ u → type_of t ≡ u → inner_type u ≡ Some type → IsFineType type → HasSort s type → IsSome (text_of s t) → IsValue enums (type_of t) (meaning I t) → Has (given (text_of s t)) (type_of t) (meaning I t)
+  pub inside_of : (t : PlainTerm) (u type : PlainType) → type_of t ≡ u → inner_type u ≡ Some type → IsFineType type → HasSort s type → IsSome (text_of s t) → IsValue enums (type_of t) (meaning I t) → Has (given (text_of s t)) (type_of t) (meaning I t)
       → Has (group (name (codes "val") ∷ given (text_of s t) ∷ [])) type (value_inside (I.inside_none type) (meaning I t))
-  inside_of t (OptionType u) type e f r fine sort there v h =
+  inside_of t (OptionType u) type e r fine sort there v h =
       let q : OptionType u ≡ OptionType type = ap OptionType (inside u type r) in
-      let l : lines.type_of t ≡ OptionType type = e ∙ q in
-      let m : type_of t ≡ OptionType type = f ∙ q in
+      let l : type_of t ≡ OptionType type = e ∙ q in
       inside_worth type (given (text_of s t)) (meaning I t) fine sort
-      (text_sorted enums s state I x t (subst IsEntered (sym l) tt) there ∙ ap (λ u. Some (sort_of s u)) l ∙ ap (λ (k : Expression). Some k) (sorts_agree s (OptionType type)))
-      (subst (λ u. IsValue enums u (meaning I t)) m v) (subst (λ u. Has (given (text_of s t)) u (meaning I t)) m h)
-  inside_of t u type e f r fine sort there v h = cc
+      (text_sorted enums s state I x t (subst IsEntered (sym l) tt) there ∙ ap (λ u. Some (sort_of s u)) l)
+      (subst (λ u. IsValue enums u (meaning I t)) l v) (subst (λ u. Has (given (text_of s t)) u (meaning I t)) l h)
+  inside_of t u type e r fine sort there v h = cc
 
   -- ---- the overflow of a negation
 

@@ -1,31 +1,33 @@
 -- Entries of the names of fine terms have names of their own.
 use Rattle.std.proofs.Common.{◌≡◌, ℕ, suc, ◌<◌, Bool, true, false, cond, List, [], ◌∷◌, ◌++◌, length, refl, sym, ap, ap₂, ◌∙◌, subst, inl, inr, Option, Some, None, arith}
-use Rattle.std.specs.Prelude.{bytes_eq, codes, nat_lt, IsSome, is_none}
+use Rattle.std.specs.Prelude.{bytes_eq, codes, nat_lt, is_none}
 use Rattle.std.specs.Map.{lookup}
 use Rattle.std.proofs.lemmas.Bool.{false≢true, ltb-true, lt-ltb}
 use Rattle.std.proofs.lemmas.List.{append_cancel_left}
 use Rattle.std.proofs.lemmas.Slice.Eq.{bytes_eq-Decides}
-use Rattle.smt_term.specs.Plain.{PlainType, OptionType, BitVecType, BoolType, EntityType, ExtensionType, StringType, RecordType, SetType, AttributeTypes, no_attributes, attribute, PlainFunction, PlainOp, BvnegoOp, UufOp, PlainLiteral, BitVecLiteral, BoolLiteral, EntityLiteral, ExtensionLiteral, StringLiteral, PlainTerm, Application, NoneTerm, LiteralTerm, RecordTerm, SetTerm, SomeTerm, VariableTerm, PlainTerms, no_terms, one_term, PlainFields, no_fields, one_field, terms}
+use Rattle.smt_term.specs.Plain.{PlainType, OptionType, BitVecType, BoolType, EntityType, ExtensionType, StringType, RecordType, SetType, AttributeTypes, no_attributes, attribute, PlainFunction, PlainOp, UufOp, PlainLiteral, BitVecLiteral, BoolLiteral, EntityLiteral, ExtensionLiteral, StringLiteral, PlainTerm, Application, NoneTerm, LiteralTerm, RecordTerm, SetTerm, SomeTerm, VariableTerm, PlainTerms, no_terms, one_term, PlainFields, no_fields, one_field, terms}
+use Rattle.smt_term.specs.TypeValues.{Enums, members_of}
+use Rattle.smt_term.specs.Types.{type_eq, type_of, literal_type}
+use Rattle.smt_term.proofs.TermTotal.{types_decided}
 use Rattle.smt_sexpr.specs.Reading.{Expression}
 use Rattle.smt_lines.specs.Spelling.{numeral}
-use Rattle.smt_lines.specs.Lines.{Enums, Tables, no_names, members_of, member_name, place_of, numbered, Written, name_of_term, name_of_type, name_of_function, text_of_name, next_term, unless_named, define_entity, encode_type, encode_attributes, encode_function, encode_literal, encode_head, Manner, AsItStands, AsLeast, AsFalse, manner, define_application, encode_term, encode_terms, encode_fields}
-use Rattle.smt_lines.specs.Same.{same_type}
-use Rattle.smt_lines.specs.Types.{type_of, literal_type}
+use Rattle.smt_lines.specs.Lines.{Tables, no_names, member_name, place_of, numbered, Written, name_of_term, name_of_type, name_of_function, text_of_name, next_term, unless_named, define_entity, encode_type, encode_attributes, encode_function, encode_literal, encode_head, Manner, AsItStands, AsLeast, AsFalse, manner, define_application, encode_term, encode_terms, encode_fields}
 use Rattle.smt_lines.specs.Naming.{type_name, HasEntry, HasDistinctNames}
-use Rattle.smt_lines.specs.Fits.{EachEntry, HasSort, AreNumbered, stated_type_name, undrawn_entity, undrawn_manner}
+use Rattle.smt_lines.specs.Entries.{EachEntry, HasSort, AreNumbered, stated_type_name, undrawn_entity, undrawn_manner}
 use Rattle.smt_lines.specs.Text.{names}
 use Rattle.smt_lines.specs.Growth.{Keeps, is_drawn, AreDrawn}
 use Rattle.smt_lines.proofs.Differ.{terms_differ, types_differ, functions_differ}
 use Rattle.smt_lines.proofs.Grow.{lookup_append, terms_grow}
 use Rattle.smt_lines.proofs.Numerals.{numerals_differ}
-use Rattle.smt_lines.proofs.Sound.{same_types}
 use Rattle.smt_lines.proofs.Stays.{sorts_stand}
-use Rattle.smt_lines.specs.Fine.{IsFine, AreFine, AreFineFields, IsFineOp, IsFineId, IsLeast}
+use Rattle.smt_lines.specs.Fine.{IsFine, AreFine, AreFineFields, IsFineOp, IsFineId}
 use Rattle.smt_lines.specs.Fit.{number_of, first}
 use Rattle.smt_lines.proofs.Basic.{leads_numeral}
 use Rattle.smt_lines.proofs.Known.{each_found, each_append, each_map}
 use Rattle.smt_lines.proofs.Single.{with_term, keeps_term, keeps_function}
 use Rattle.smt_headline.specs.Standing.{NamesAreOneToOne}
+use Rattle.smt_lines.proofs.OfTerms.{not_false}
+use Rattle.smt_headline.proofs.Named.{some_there}
 
 abbrev pub MemberNamed : Option (List (List ℕ)) → Tables → (type id n : List ℕ) → Type 0
 MemberNamed None u type id n = Unit {0}
@@ -58,11 +60,7 @@ name_stays enums s u k (SomeTerm t) n h = tt
 name_stays enums s u k (VariableTerm id type) n h = tt
 
 keeps_type : (s : Tables) (t : PlainType) (n : List ℕ) → Keeps s (record s { types = s.types ++ (t, n) ∷ [] })
-keeps_type s t n = record { terms = λ x m h. h; types = λ x m h. lookup_append (same_type x) s.types ((t, n) ∷ []) m h; functions = λ x m h. h }
-
-not_false : (op : PlainOp) (ts : PlainTerms) (type : PlainType) → manner op ts type ≡ AsFalse → IsFineOp op ts type → ⊥
-not_false BvnegoOp ts type e f = subst IsLeast e f
-not_false op ts type e f = absurd cc
+keeps_type s t n = record { terms = λ x m h. h; types = λ x m h. lookup_append (type_eq x) s.types ((t, n) ∷ []) m h; functions = λ x m h. h }
 
 module _ (enums : Enums) where
   abbrev Good : Tables → Type 0
@@ -110,10 +108,6 @@ module _ (enums : Enums) where
       defined (encode_head enums op ts (arguments s).tables).tables (Application op ts type) _ (λ k. not_false op ts type k f) (head op ts (arguments s).tables (g s h))
   application (AsLeast w) op ts type e f arguments g sort s h = defined (arguments s).tables (Application op ts type) _ (λ k. not_false op ts type k f) (g s h)
   application AsFalse op ts type e f arguments g sort s h = absurd (not_false op ts type e f)
-
-  some_there : (o : Option (List ℕ)) → IsSome o → o ≡ Some (text_of_name o)
-  some_there (Some n) h = refl
-  some_there None h = absurd (false≢true h)
 
   entity : (o : Option (List (List ℕ))) (type id : List ℕ) → members_of enums type ≡ o → IsFineId o id → (v : Tables) → HasSort v (EntityType type) → Good v → Good (define_entity o type id (text_of_name (name_of_type v (EntityType type))) v).tables
   entity None type id e f v has h = defined v (LiteralTerm (EntityLiteral type id)) _ (subst (λ o. MemberNamed o (with_term (LiteralTerm (EntityLiteral type id)) (next_term v) v) type id (next_term v)) (sym e) tt) h
@@ -220,7 +214,7 @@ record IsMember (enums : Enums) (s : Tables) (t : PlainTerm) (n : List ℕ) : Ty
 
 module _ (enums : Enums) (s : Tables) (numbered_types : EachEntry (λ t n. (k : ℕ) × (n ≡ stated_type_name t k)) s.types) where
   typed_number : (type : List ℕ) (n : List ℕ) → name_of_type s (EntityType type) ≡ Some n → (k : ℕ) × (n ≡ numbered (codes "E") k)
-  typed_number type n h = each_found (λ t n. (k : ℕ) × (n ≡ stated_type_name t k)) (same_type (EntityType type)) (EntityType type) (λ l q. (same_types (EntityType type) l).0 q) s.types n h numbered_types
+  typed_number type n h = each_found (λ t n. (k : ℕ) × (n ≡ stated_type_name t k)) (type_eq (EntityType type)) (EntityType type) (λ l q. (types_decided (EntityType type) l).0 q) s.types n h numbered_types
 
   entity_member : (o : Option (List (List ℕ))) (type id n : List ℕ) → members_of enums type ≡ o → MemberNamed o s type id n → is_none (undrawn_entity o type id no_names) ≡ false → IsMember enums s (LiteralTerm (EntityLiteral type id)) n
   entity_member None type id n e g d = absurd (false≢true (sym d))
@@ -265,8 +259,8 @@ module _ (enums : Enums) (s : Tables) (numbered_types : EachEntry (λ t n. (k : 
   members_differ : HasDistinctNames s.types → (t u : PlainTerm) (n : List ℕ) → IsMember enums s t n → IsMember enums s u n → t ≡ u
   members_differ d t u n a b =
       let q = same_members a.number b.number (place_of a.id a.members) (place_of b.id b.members) (sym a.named ∙ b.named) in
-      let x = entry_found (same_type (EntityType a.type)) (EntityType a.type) (λ l e. (same_types (EntityType a.type) l).0 e) s.types (numbered (codes "E") a.number) a.typed in
-      let y = entry_found (same_type (EntityType b.type)) (EntityType b.type) (λ l e. (same_types (EntityType b.type) l).0 e) s.types (numbered (codes "E") a.number) (b.typed ∙ ap (λ k. Some (numbered (codes "E") k)) (sym q.0)) in
+      let x = entry_found (type_eq (EntityType a.type)) (EntityType a.type) (λ l e. (types_decided (EntityType a.type) l).0 e) s.types (numbered (codes "E") a.number) a.typed in
+      let y = entry_found (type_eq (EntityType b.type)) (EntityType b.type) (λ l e. (types_decided (EntityType b.type) l).0 e) s.types (numbered (codes "E") a.number) (b.typed ∙ ap (λ k. Some (numbered (codes "E") k)) (sym q.0)) in
       let same : EntityType a.type ≡ EntityType b.type = d (numbered (codes "E") a.number) (EntityType a.type) (EntityType b.type) x y in
       let types : a.type ≡ b.type = cc in
       let some : ◌≡◌ {A = Option (List (List ℕ))} (Some a.members) (Some b.members) = sym a.has ∙ ap (members_of enums) types ∙ b.has in

@@ -7,21 +7,21 @@ use Rattle.smt_term.specs.Interpretations.{IsGivenSelector, IsOfOtherFamily, emp
 use Rattle.smt_term.specs.Operators.{apply_extension}
 use Rattle.smt_term.specs.Tables.{Interpretation}
 use Rattle.smt_term.specs.Types.{extension_signature}
-use Rattle.smt_term.specs.TypeValues.{IsValue, IsExtension, IsLong, IsPrefix}
+use Rattle.smt_term.specs.TypeValues.{IsValue, IsExtension, IsLong, IsPrefix, Enums}
 use Rattle.smt_term.specs.Values.{Value, ExtensionValue}
 use Rattle.smt_semantics.specs.ScriptValues.{ScriptValue, BitsOf, ConstructorOf}
 use Rattle.smt_sexpr.specs.Reading.{Expression}
-use Rattle.smt_semantics.specs.Arithmetic.{is_width}
+use Rattle.smt_bits.specs.Widths.{is_width}
 use Rattle.smt_semantics.specs.Script.{State, Builds, Selects, name, group}
 use Rattle.smt_semantics.specs.Sorts as sorts
-use Rattle.smt_semantics.specs.Sorts.{entries}
+use Rattle.smt_semantics.specs.Sorts.{entries, bit_sort, option_sort}
 use Rattle.smt_semantics.specs.Growth.{Declares}
 use Rattle.smt_semantics.specs.Value.{ScriptInterpretation, expression_value, selected, script_values}
 use Rattle.smt_semantics.specs.Meanings.{argument_values}
 use Rattle.smt_semantics.proofs.Apply.{constructors_apply, selectors_apply, tests_apply, nones_stand}
-use Rattle.smt_lines.specs.Lines.{Enums, Tables, name_of_type, bits, bits_64, bits_sort, option_sort, prefix_body, extension_body, extension_op_head, kind_constructors}
+use Rattle.smt_lines.specs.Lines.{Tables, name_of_type, bits, bits_64, prefix_body, extension_body, extension_op_head, kind_constructors}
 use Rattle.smt_lines.specs.Naming.{type_name}
-use Rattle.smt_lines.specs.Fits.{HasSort}
+use Rattle.smt_lines.specs.Entries.{HasSort}
 use Rattle.smt_lines.specs.Command.{all_built}
 use Rattle.smt_lines.proofs.Declared.{types_are_declared}
 use Rattle.smt_carrying.specs.Carry.{carry, carry_extension, carry_prefix, signed_bits, alone}
@@ -105,28 +105,28 @@ module _ (enums : Enums) (s : Tables) (state : State) (I : Interpretation) (x : 
       → (IsEntered (extension_signature o).0 → (sort : Expression) × (sorts.sort_of state e ≡ Some sort)) → IsValue enums (extension_signature o).0 w → Has e (extension_signature o).0 w
       → Has (group (extension_op_head o ∷ e ∷ [])) (extension_signature o).1 (apply_extension I o w)
   extension_worth DatetimeOfBitVecOp e w g h k q v a =
-      built (codes "Datetime") (kind_name_of DatetimeKind) [] 0 (bits_sort 64) e (carry enums s (BitVecType 64) w) (kind_declared DatetimeKind k).0 a ∙ ap (λ (y : ScriptValue). Some y) (datetime_built enums s I w v)
+      built (codes "Datetime") (kind_name_of DatetimeKind) [] 0 (bit_sort 64) e (carry enums s (BitVecType 64) w) (kind_declared DatetimeKind k).0 a ∙ ap (λ (y : ScriptValue). Some y) (datetime_built enums s I w v)
   extension_worth DurationOfBitVecOp e w g h k q v a =
-      built (codes "Duration") (kind_name_of DurationKind) [] 0 (bits_sort 64) e (carry enums s (BitVecType 64) w) (kind_declared DurationKind k).0 a ∙ ap (λ (y : ScriptValue). Some y) (duration_built enums s I w v)
-  extension_worth DatetimeValOp e w g h k q v a = let r = q tt in selection DatetimeValOp (kind_name_of DatetimeKind) (bits_sort 64) e r.0 w (kind_declared DatetimeKind h).1.0 r.1 (datetime r.0 w v) a
-  extension_worth DecimalValOp e w g h k q v a = let r = q tt in selection DecimalValOp (kind_name_of DecimalKind) (bits_sort 64) e r.0 w (kind_declared DecimalKind h).1.0 r.1 (decimal r.0 w v) a
-  extension_worth DurationValOp e w g h k q v a = let r = q tt in selection DurationValOp (kind_name_of DurationKind) (bits_sort 64) e r.0 w (kind_declared DurationKind h).1.0 r.1 (duration r.0 w v) a
-  extension_worth IpIsV4Op e w g h k q v a = family (kind_name_of IpAddrKind) (bits_sort 32 ∷ option_sort (bits_sort 5) ∷ []) e w (kind_declared IpAddrKind h).0 v a
+      built (codes "Duration") (kind_name_of DurationKind) [] 0 (bit_sort 64) e (carry enums s (BitVecType 64) w) (kind_declared DurationKind k).0 a ∙ ap (λ (y : ScriptValue). Some y) (duration_built enums s I w v)
+  extension_worth DatetimeValOp e w g h k q v a = let r = q tt in selection DatetimeValOp (kind_name_of DatetimeKind) (bit_sort 64) e r.0 w (kind_declared DatetimeKind h).1.0 r.1 (datetime r.0 w v) a
+  extension_worth DecimalValOp e w g h k q v a = let r = q tt in selection DecimalValOp (kind_name_of DecimalKind) (bit_sort 64) e r.0 w (kind_declared DecimalKind h).1.0 r.1 (decimal r.0 w v) a
+  extension_worth DurationValOp e w g h k q v a = let r = q tt in selection DurationValOp (kind_name_of DurationKind) (bit_sort 64) e r.0 w (kind_declared DurationKind h).1.0 r.1 (duration r.0 w v) a
+  extension_worth IpIsV4Op e w g h k q v a = family (kind_name_of IpAddrKind) (bit_sort 32 ∷ option_sort (bit_sort 5) ∷ []) e w (kind_declared IpAddrKind h).0 v a
   extension_worth IpAddrV4Op e w g h k q v a =
       let r = q tt in
-      selection IpAddrV4Op (kind_name_of IpAddrKind) (bits_sort 32) e r.0 w (kind_declared IpAddrKind h).1.0 r.1
+      selection IpAddrV4Op (kind_name_of IpAddrKind) (bit_sort 32) e r.0 w (kind_declared IpAddrKind h).1.0 r.1
       (extension_selected enums s x.enum_types I J IpAddrV4Op r.0 w refl v (ranges IpAddrV4Op (I.other_family IpAddrV4Op).entries g.keys) refl) a
   extension_worth IpPrefixV4Op e w g h k q v a =
       let r = q tt in
-      selection IpPrefixV4Op (kind_name_of IpAddrKind) (option_sort (bits_sort 5)) e r.0 w (kind_declared IpAddrKind h).1.1.0 r.1
+      selection IpPrefixV4Op (kind_name_of IpAddrKind) (option_sort (bit_sort 5)) e r.0 w (kind_declared IpAddrKind h).1.1.0 r.1
       (extension_selected enums s x.enum_types I J IpPrefixV4Op r.0 w refl v (ranges IpPrefixV4Op (I.other_family IpPrefixV4Op).entries g.keys) refl) a
   extension_worth IpAddrV6Op e w g h k q v a =
       let r = q tt in
-      selection IpAddrV6Op (kind_name_of IpAddrKind) (bits_sort 128) e r.0 w (kind_declared IpAddrKind h).2.1.0 r.1
+      selection IpAddrV6Op (kind_name_of IpAddrKind) (bit_sort 128) e r.0 w (kind_declared IpAddrKind h).2.1.0 r.1
       (extension_selected enums s x.enum_types I J IpAddrV6Op r.0 w refl v (ranges IpAddrV6Op (I.other_family IpAddrV6Op).entries g.keys) refl) a
   extension_worth IpPrefixV6Op e w g h k q v a =
       let r = q tt in
-      selection IpPrefixV6Op (kind_name_of IpAddrKind) (option_sort (bits_sort 7)) e r.0 w (kind_declared IpAddrKind h).2.1.1.0 r.1
+      selection IpPrefixV6Op (kind_name_of IpAddrKind) (option_sort (bit_sort 7)) e r.0 w (kind_declared IpAddrKind h).2.1.1.0 r.1
       (extension_selected enums s x.enum_types I J IpPrefixV6Op r.0 w refl v (ranges IpPrefixV6Op (I.other_family IpPrefixV6Op).entries g.keys) refl) a
 
   -- ---- literals
@@ -142,18 +142,18 @@ module _ (enums : Enums) (s : Tables) (state : State) (I : Interpretation) (x : 
   long_worth (negsuc n) h = let l : 2 ^ 64 - suc n < 2 ^ 64 = omega arith in bits_worth enums s state I 64 (2 ^ 64 - suc n) (bits_fit 64 (2 ^ 64 - suc n) refl l)
 
   prefix_worth : (width : ℕ) (p : Option ℕ) → is_width width ≡ true → IsPrefix width p → expression_value J state (prefix_body width p) ≡ Some (carry_prefix width p)
-  prefix_worth width None w h = nones_stand J state (codes "Option") (codes "X" ∷ []) 0 (option_sort (bits_sort width)) none_there
+  prefix_worth width None w h = nones_stand J state (codes "Option") (codes "X" ∷ []) 0 (option_sort (bit_sort width)) none_there
   prefix_worth width (Some n) w h = built (codes "some") (codes "Option") (codes "X" ∷ []) 1 (name (codes "X")) (bits width n) (BitsOf width n) some_entry (bits_worth enums s state I width n (bits_fit width n w h))
 
   -- The body of an extension literal.
   pub body_worth : (y : PlainExtension) (kind : ExtensionKind) → IsExtension kind y → HasSort s (ExtensionType kind) → expression_value J state (extension_body y) ≡ Some (carry_extension y)
-  body_worth (DecimalOf z) DecimalKind h k = built (codes "Decimal") (kind_name_of DecimalKind) [] 0 (bits_sort 64) (bits_64 z) (signed_bits z) (kind_declared DecimalKind k).0 (long_worth z h)
-  body_worth (DatetimeOf z) DatetimeKind h k = built (codes "Datetime") (kind_name_of DatetimeKind) [] 0 (bits_sort 64) (bits_64 z) (signed_bits z) (kind_declared DatetimeKind k).0 (long_worth z h)
-  body_worth (DurationOf z) DurationKind h k = built (codes "Duration") (kind_name_of DurationKind) [] 0 (bits_sort 64) (bits_64 z) (signed_bits z) (kind_declared DurationKind k).0 (long_worth z h)
+  body_worth (DecimalOf z) DecimalKind h k = built (codes "Decimal") (kind_name_of DecimalKind) [] 0 (bit_sort 64) (bits_64 z) (signed_bits z) (kind_declared DecimalKind k).0 (long_worth z h)
+  body_worth (DatetimeOf z) DatetimeKind h k = built (codes "Datetime") (kind_name_of DatetimeKind) [] 0 (bit_sort 64) (bits_64 z) (signed_bits z) (kind_declared DatetimeKind k).0 (long_worth z h)
+  body_worth (DurationOf z) DurationKind h k = built (codes "Duration") (kind_name_of DurationKind) [] 0 (bit_sort 64) (bits_64 z) (signed_bits z) (kind_declared DurationKind k).0 (long_worth z h)
   body_worth (Ipv4Of a p) IpAddrKind h k =
-      built_of_two (codes "V4") (kind_name_of IpAddrKind) 0 (bits_sort 32) (option_sort (bits_sort 5)) (bits 32 a) (prefix_body 5 p) (BitsOf 32 a) (carry_prefix 5 p) (kind_declared IpAddrKind k).0
+      built_of_two (codes "V4") (kind_name_of IpAddrKind) 0 (bit_sort 32) (option_sort (bit_sort 5)) (bits 32 a) (prefix_body 5 p) (BitsOf 32 a) (carry_prefix 5 p) (kind_declared IpAddrKind k).0
       (bits_worth enums s state I 32 a (bits_fit 32 a refl h.0)) (prefix_worth 5 p refl h.1)
   body_worth (Ipv6Of a p) IpAddrKind h k =
-      built_of_two (codes "V6") (kind_name_of IpAddrKind) 1 (bits_sort 128) (option_sort (bits_sort 7)) (bits 128 a) (prefix_body 7 p) (BitsOf 128 a) (carry_prefix 7 p) (kind_declared IpAddrKind k).2.0
+      built_of_two (codes "V6") (kind_name_of IpAddrKind) 1 (bit_sort 128) (option_sort (bit_sort 7)) (bits 128 a) (prefix_body 7 p) (BitsOf 128 a) (carry_prefix 7 p) (kind_declared IpAddrKind k).2.0
       (bits_worth enums s state I 128 a (bits_fit 128 a refl h.0)) (prefix_worth 7 p refl h.1)
   body_worth y kind h k = absurd h

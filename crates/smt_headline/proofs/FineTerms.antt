@@ -1,39 +1,29 @@
 -- A typed term that is formed and has no fault is fine.
-use Rattle.std.proofs.Common.{◌≡◌, ℕ, ◌≤◌, Bool, true, false, ◌&&◌, List, [], ◌∷◌, refl, ap, ◌∙◌, sym, subst, inl, inr}
-use Rattle.std.specs.Prelude.{◌⊎◌, Option, Some, None, unwrap_or}
-use Rattle.std.specs.Bool.{then_some}
+use Rattle.std.proofs.Common.{bytes_eq, ◌≡◌, ℕ, ◌≤◌, Bool, true, false, ◌&&◌, List, [], ◌∷◌, refl, ap, ◌∙◌, sym, subst, inl, inr}
+use Rattle.std.specs.Prelude.{◌⊎◌, Option, Some, None}
 use Rattle.std.specs.Cmp.{first_so, second_so}
 use Rattle.std.specs.List.{AllByRecursion, list_all, list_any}
 use Rattle.std.specs.Option.{is_some}
 use Rattle.std.proofs.lemmas.Bool.{le-leb}
-use Rattle.smt_term.specs.Plain.{PlainType, OptionType, BitVecType, BoolType, ExtensionType, RecordType, SetType, AttributeTypes, no_attributes, attribute, ExtensionOp, DatetimeOfBitVecOp, DatetimeValOp, DecimalValOp, DurationOfBitVecOp, DurationValOp, IpAddrV4Op, IpAddrV6Op, IpIsV4Op, IpPrefixV4Op, IpPrefixV6Op, PatternPart, Character, Wildcard, PlainOp, BvnegoOp, ExtOp, RecordGetOp, StringLikeOp, UufOp, PlainLiteral, EntityLiteral, StringLiteral, PlainTerm, Application, NoneTerm, LiteralTerm, RecordTerm, SetTerm, SomeTerm, VariableTerm, PlainTerms, no_terms, one_term, PlainFields, no_fields, one_field, terms}
-use Rattle.smt_semantics.specs.Arithmetic.{is_width}
-use Rattle.smt_semantics.specs.Quoting.{is_written_part}
+use Rattle.smt_term.specs.Plain.{PlainType, OptionType, BitVecType, BoolType, ExtensionType, RecordType, SetType, AttributeTypes, no_attributes, attribute, ExtensionOp, DatetimeOfBitVecOp, DatetimeValOp, DecimalValOp, DurationOfBitVecOp, DurationValOp, IpAddrV4Op, IpAddrV6Op, IpIsV4Op, IpPrefixV4Op, IpPrefixV6Op, PlainOp, BvnegoOp, ExtOp, RecordGetOp, StringLikeOp, UufOp, PlainLiteral, EntityLiteral, StringLiteral, PlainTerm, Application, NoneTerm, LiteralTerm, RecordTerm, SetTerm, SomeTerm, VariableTerm, PlainTerms, no_terms, one_term, PlainFields, no_fields, one_field, terms}
+use Rattle.smt_bits.specs.Widths.{is_width}
 use Rattle.smt_term.specs.Faults.{Fault, earlier, fault_unless, is_string, is_pattern_part, entity_fault, literal_fault, is_passed_over, type_fault, operator_fault, term_fault, terms_fault, fields_fault, first_fault}
 use Rattle.smt_term.specs.Formed.{IsFormedHere, IsFormedType}
 use Rattle.smt_term.specs.Reached.{subterms, subterms_of_all, subterms_of_fields, types_within, types_within_attributes}
 use Rattle.smt_term.specs.Types.{type_eq, type_of, field_types, types_of, is_bits, attribute_type, extension_signature, result_type, is_type, typed, typed_all, typed_fields, Typed}
-use Rattle.smt_term.specs.TypeValues as values
-use Rattle.smt_term.specs.ValueOrder.{text_eq}
-use Rattle.smt_term.proofs.Soundness.{all-front, all-back, all-last, none-first, none-second, not-passed, is_type-some, walked}
+use Rattle.smt_term.proofs.Soundness.{all-front, all-back, all-last, none-first, none-second, not-passed, is_type-some, walked, chosen}
 use Rattle.smt_term.proofs.TypeOrder.{eq_same}
-use Rattle.smt_lines.specs.Lines.{Enums, Call, PushCall, PopCall, EncodeCall, Encoding, fresh, after_call, least_manner, negation_manner}
-use Rattle.smt_lines.specs.Types as lines
+use Rattle.smt_term.specs.TypeValues.{Enums, members_of}
+use Rattle.smt_lines.specs.Lines.{Call, PushCall, PopCall, EncodeCall, Encoding, fresh, after_call, least_manner, negation_manner}
 use Rattle.smt_lines.specs.Fine.{IsFineType, AreFineTypes, IsFineId, IsFineLiteral, kind_of_op, IsLeast, IsFineOp, IsFine, AreFine, AreFineFields}
 use Rattle.smt_lines.specs.Calls.{AreFineCalls}
 use Rattle.smt_lines.proofs.Levels.{calls_are_scripts}
 use Rattle.smt_lines.proofs.Whole.{texts_are_scripts}
 use Rattle.smt_headline.specs.Conditions.{FormedTypesAreFine, TypedTermsAreFine, TypedListsAreFine, AreConditions, ConditionsAreScripts, AreCallsOfConditions, CallsOfConditionsAreScripts}
-use Rattle.smt_headline.proofs.Agree.{types_agree, members_agree, places_found, attributes_found}
+use Rattle.smt_headline.proofs.Agree.{places_found, attributes_found}
+use Rattle.smt_term.specs.Faults.{is_pattern_part}
 
--- ---- options
-
-pub inside : (t u : PlainType) → Some t ≡ Some u → t ≡ u
-inside t u e = ap (λ o. unwrap_or o t) e
-
-pub chosen : (b : Bool) (t u : PlainType) → then_some b t ≡ Some u → (b ≡ true) × (t ≡ u)
-chosen true t u h = (refl, inside t u h)
-chosen false t u h = cc
+-- ---- tests
 
 so : (b : Bool) (f : Fault) → fault_unless b f ≡ None → b ≡ true
 so true f h = refl
@@ -86,22 +76,14 @@ fine_arguments (one_term t ts) h =
 
 fine_id : (e i : List ℕ) (members : Option (List (List ℕ))) → entity_fault e i members ≡ None → IsFineId members i
 fine_id e i None h = so (is_string i) _ h
-fine_id e i (Some ms) h = places_found i ms ∙ so (list_any (text_eq i) ms) _ h
+fine_id e i (Some ms) h = places_found i ms ∙ so (list_any (bytes_eq i) ms) _ h
 
 fine_literal : (enums : Enums) (l : PlainLiteral) → literal_fault enums l ≡ None → IsFineLiteral enums l
-fine_literal enums (EntityLiteral e i) h = subst (λ m. IsFineId m i) (sym (members_agree enums e)) (fine_id e i (values.members_of enums e) h)
+fine_literal enums (EntityLiteral e i) h = fine_id e i (members_of enums e) h
 fine_literal enums (StringLiteral s) h = so (is_string s) _ h
 fine_literal enums l h = tt
 
 -- ---- operators
-
-fine_part : (p : PatternPart) → is_written_part p ≡ is_pattern_part p
-fine_part (Character c) = refl
-fine_part Wildcard = refl
-
-fine_pattern : (ps : List PatternPart) → list_all is_written_part ps ≡ list_all is_pattern_part ps
-fine_pattern [] = refl
-fine_pattern (p ∷ ps) = λ i. fine_part p i && fine_pattern ps i
 
 least_of : (u : PlainType) → is_bits u ≡ true → IsLeast (least_manner u)
 least_of (BitVecType n) h = tt
@@ -120,7 +102,7 @@ fine_extension IpIsV4Op a ty h g = inl h
 fine_extension IpPrefixV4Op a ty h g = inl h
 fine_extension IpPrefixV6Op a ty h g = inl h
 
-fine_get : (x : List ℕ) (t : PlainTerm) (u ty : PlainType) → attribute_type x u ≡ Some ty → lines.type_of t ≡ u → IsFineOp (RecordGetOp x) (one_term t no_terms) ty
+fine_get : (x : List ℕ) (t : PlainTerm) (u ty : PlainType) → attribute_type x u ≡ Some ty → type_of t ≡ u → IsFineOp (RecordGetOp x) (one_term t no_terms) ty
 fine_get x t (RecordType attributes) ty h e = (attributes, e, attributes_found x attributes ∙ ap is_some h)
 fine_get x t u ty h e = cc
 
@@ -128,18 +110,18 @@ fine_op : (enums : Enums) (o : PlainOp) (ts : PlainTerms) (ty : PlainType) → r
 fine_op enums BvnegoOp no_terms ty h f k g = cc
 fine_op enums BvnegoOp (one_term a no_terms) ty h f k g =
     let e : (is_bits (type_of a) ≡ true) × (BoolType ≡ ty) = chosen (is_bits (type_of a)) BoolType ty h in
-    subst (λ x. IsLeast (negation_manner (one_term a no_terms) x)) e.1 (least_of (lines.type_of a) (ap is_bits (types_agree a) ∙ e.0))
+    subst (λ x. IsLeast (negation_manner (one_term a no_terms) x)) e.1 (least_of (type_of a) e.0)
 fine_op enums BvnegoOp (one_term a (one_term b ts)) ty h f k g = cc
 fine_op enums (ExtOp x) no_terms ty h f k g = cc
 fine_op enums (ExtOp x) (one_term a no_terms) ty h f k g =
     let e : (type_eq (type_of a) (extension_signature x).0 ≡ true) × ((extension_signature x).1 ≡ ty) = chosen (type_eq (type_of a) (extension_signature x).0) (extension_signature x).1 ty h in
-    fine_extension x (lines.type_of a) ty (types_agree a ∙ eq_same (type_of a) (extension_signature x).0 e.0) e.1
+    fine_extension x (type_of a) ty (eq_same (type_of a) (extension_signature x).0 e.0) e.1
 fine_op enums (ExtOp x) (one_term a (one_term b ts)) ty h f k g = cc
 fine_op enums (RecordGetOp x) no_terms ty h f k g = cc
-fine_op enums (RecordGetOp x) (one_term a no_terms) ty h f k g = fine_get x a (type_of a) ty h (types_agree a)
+fine_op enums (RecordGetOp x) (one_term a no_terms) ty h f k g = fine_get x a (type_of a) ty h refl
 fine_op enums (RecordGetOp x) (one_term a (one_term b ts)) ty h f k g = cc
 fine_op enums (StringLikeOp p) no_terms ty h f k g = cc
-fine_op enums (StringLikeOp p) (one_term a no_terms) ty h f k g = (tt, fine_pattern p ∙ so (list_all is_pattern_part p) _ f)
+fine_op enums (StringLikeOp p) (one_term a no_terms) ty h f k g = (tt, so (list_all is_pattern_part p) _ f)
 fine_op enums (StringLikeOp p) (one_term a (one_term b ts)) ty h f k g = cc
 fine_op enums (UufOp fn) no_terms ty h f k g = cc
 fine_op enums (UufOp fn) (one_term a no_terms) ty h f k g =
@@ -166,7 +148,7 @@ module _ (enums : Enums) where
     fine (NoneTerm t) h f w = fine_own (NoneTerm t) w
     fine (LiteralTerm l) h f w = fine_literal enums l (none-second (type_fault enums (type_of (LiteralTerm l))) (literal_fault enums l) f)
     fine (RecordTerm fs) h f w = (
-      subst IsFineType (sym (types_agree (RecordTerm fs))) (fine_own (RecordTerm fs) w),
+      fine_own (RecordTerm fs) w,
       fine_fields fs h (none-second (type_fault enums (RecordType (field_types fs))) (fields_fault enums fs) f) (all-front HasFormedType (subterms_of_fields fs) (RecordTerm fs ∷ []) w),
     )
     fine (SetTerm t ts) h f w = (
@@ -174,7 +156,7 @@ module _ (enums : Enums) where
       fine_all ts (first_so (typed_all ts) (list_all (type_eq t) (types_of ts)) h) (none-second (type_fault enums t) (terms_fault enums ts) f) (all-front HasFormedType (subterms_of_all ts) (SetTerm t ts ∷ []) w),
     )
     fine (SomeTerm t) h f w = (
-      subst IsFineType (sym (types_agree t)) (fine_own t (all-front HasFormedType (subterms t) (SomeTerm t ∷ []) w)),
+      fine_own t (all-front HasFormedType (subterms t) (SomeTerm t ∷ []) w),
       fine t h (none-second (type_fault enums (type_of t)) (term_fault enums t) f) (all-front HasFormedType (subterms t) (SomeTerm t ∷ []) w),
     )
     fine (VariableTerm id t) h f w = fine_own (VariableTerm id t) w

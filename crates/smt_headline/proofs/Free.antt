@@ -1,36 +1,31 @@
 -- Names that a script leaves free.
-use Rattle.std.proofs.Common.{List, [], ◌∷◌, ap, ap₂, ◌∙◌, subst, sym, Some}
-use Rattle.std.specs.List.{AllByRecursion}
+use Rattle.std.proofs.Common.{subst, sym}
 use Rattle.smt_term.specs.Plain.{PlainOp, UufOp, PlainType, PlainTerm, Application, VariableTerm, terms}
 use Rattle.smt_term.specs.Reached.{reached_terms}
-use Rattle.smt_sexpr.specs.Reading.{Expression}
-use Rattle.smt_semantics.specs.Script.{Constant, Function, State}
+use Rattle.smt_term.specs.TypeValues.{Enums}
+use Rattle.smt_semantics.specs.Script.{State}
 use Rattle.smt_semantics.specs.Sorts.{entries}
-use Rattle.smt_lines.specs.Lines.{Enums, Tables, no_names}
+use Rattle.smt_lines.specs.Lines.{Tables, no_names}
 use Rattle.smt_lines.specs.Naming.{HasDistinctNames}
 use Rattle.smt_lines.proofs.Grow.{terms_grow}
 use Rattle.smt_lines.proofs.Differ.{types_differ, functions_differ}
 use Rattle.smt_lines.specs.Fit.{Fit}
 use Rattle.smt_lines.proofs.Declared.{terms_are_declared, functions_are_declared}
 use Rattle.smt_carrying.specs.Interpretations.{variable_name, function_name, IsOpNamed, IsTermNamed}
-use Rattle.smt_carrying.proofs.Standing.{sorts_agree}
 use Rattle.smt_headline.specs.Standing.{IsOpOpen, IsOpen, ReachedAreOpen, NamesDiffer}
-
-every : {A : Type 0} (P Q : A → Type 0) → ((x : A) → P x → Q x) → (xs : List A) → AllByRecursion P xs → AllByRecursion Q xs
-every P Q f [] h = tt
-every P Q f (x ∷ xs) h = (f x h.0, every P Q f xs h.1)
+use Rattle.smt_carrying.proofs.Open.{every}
 
 module _ (enums : Enums) (s : Tables) (state : State) (fit : Fit enums s state) where
   op_open : (op : PlainOp) (t : PlainType) → IsOpNamed enums s (entries state) op t → IsOpOpen s (entries state) op
   op_open (UufOp f) t h =
       let d = functions_are_declared enums s state f (function_name s f) fit h.0 in
-      d.0.1.0 ∙ ap₂ (λ (a b : Expression). Some (Function a b)) (sorts_agree s f.argument) (sorts_agree s f.output)
+      d.0.1.0
   op_open op t h = tt
 
   term_open : (t : PlainTerm) → IsTermNamed enums s (entries state) t → IsOpen s (entries state) t
   term_open (VariableTerm id t) h =
       let d = terms_are_declared enums s state (VariableTerm id t) (variable_name s id t) fit h.0 in
-      d.0.1.0 ∙ ap (λ (e : Expression). Some (Constant e)) (sorts_agree s t)
+      d.0.1.0
   term_open (Application op ts t) h = op_open op t h
   term_open t h = tt
 

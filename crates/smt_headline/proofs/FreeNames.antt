@@ -9,15 +9,16 @@ use Rattle.smt_term.specs.Reached.{variable_of, function_of, function_of_op, rea
 use Rattle.smt_semantics.specs.Script.{Entry, Constant, Function, Defined, Builds, Selects, State, is_in, names_of, look_up}
 use Rattle.smt_semantics.specs.Sorts.{entries}
 use Rattle.smt_semantics.specs.Value.{free_in, free_names}
+use Rattle.smt_lines.specs.Naming.{sort_of}
 use Rattle.smt_lines.specs.Lines.{Tables}
-use Rattle.smt_lines.proofs.Known.{or_left, or_right}
 use Rattle.smt_carrying.specs.Interpretations.{variable_name, function_name}
 use Rattle.smt_carrying.specs.Open.{Occurs, IsOpenEntry}
-use Rattle.smt_carrying.specs.Sorts.{script_sort}
-use Rattle.smt_carrying.proofs.Selectors.{bytes_itself}
+use Rattle.smt_term.proofs.ValueOrder.{bytes_itself}
 use Rattle.smt_headline.specs.Headline.{reached_names}
 use Rattle.smt_headline.specs.Standing.{IsOpOpen, IsOpen}
 use Rattle.smt_headline.proofs.Lasting.{some_entry}
+use Rattle.smt_semantics.proofs.Results.{or_left, or_right}
+use Rattle.smt_carrying.proofs.Open.{at_term}
 
 in_front : (n : List ℕ) (xs ys : List (List ℕ)) → is_in n xs ≡ true → is_in n (xs ++ ys) ≡ true
 in_front n [] ys h = cc
@@ -36,11 +37,6 @@ in_either n (x ∷ xs) ys h = elim (or_cases (bytes_eq n x) (is_in n (xs ++ ys))
   | inl e ↦ inl (or_left (bytes_eq n x) (is_in n xs) e)
   | inr e ↦ elim (in_either n xs ys e) [ inl f ↦ inl (or_right (bytes_eq n x) (is_in n xs) f) | inr f ↦ inr f ]
 ]
-
-at_occurrence : (P : PlainTerm → Type 0) (us : List PlainTerm) (t : PlainTerm) → AllByRecursion P us → Occurs t us → P t
-at_occurrence P [] t a h = absurd h
-at_occurrence P (u ∷ us) t a (inl e) = subst P e a.0
-at_occurrence P (u ∷ us) t a (inr h) = at_occurrence P us t a.1 h
 
 -- ---- what terms bring
 
@@ -146,14 +142,14 @@ IsLeft state n = (y : Entry) × IsFree y × (entries state n ≡ Some y)
 
 -- a term that brings a variable, or a function, is one
 open_variable : (s : Tables) (state : State) (t : PlainTerm) (v : List ℕ × PlainType) → variable_of t ≡ Some v → IsOpen s (entries state) t → IsLeft state (variable_named s v)
-open_variable s state (VariableTerm id type) v e h = subst (λ (w : List ℕ × PlainType). IsLeft state (variable_named s w)) (inside (id, type) v e) (Constant (script_sort s type), tt, h)
+open_variable s state (VariableTerm id type) v e h = subst (λ (w : List ℕ × PlainType). IsLeft state (variable_named s w)) (inside (id, type) v e) (Constant (sort_of s type), tt, h)
   where
     inside : (v w : List ℕ × PlainType) → Some v ≡ Some w → v ≡ w
     inside v w e = ap (λ (o : Option (List ℕ × PlainType)). unwrap_or o v) e
 open_variable s state t v e h = absurd (let z : None ≡ Some v = e in cc)
 
 open_op : (s : Tables) (state : State) (op : PlainOp) (f : PlainFunction) → function_of_op op ≡ Some f → IsOpOpen s (entries state) op → IsLeft state (function_name s f)
-open_op s state (UufOp g) f e h = subst (λ (k : PlainFunction). IsLeft state (function_name s k)) (inside g f e) (Function (script_sort s g.argument) (script_sort s g.output), tt, h)
+open_op s state (UufOp g) f e h = subst (λ (k : PlainFunction). IsLeft state (function_name s k)) (inside g f e) (Function (sort_of s g.argument) (sort_of s g.output), tt, h)
   where
     inside : (g f : PlainFunction) → Some g ≡ Some f → g ≡ f
     inside g f e = ap (λ (o : Option PlainFunction). unwrap_or o g) e
@@ -170,9 +166,9 @@ free_names_are s ts state h k n = (free_reached s ts (names_of state) h n, reach
     reached_free : is_in n (reached_names s ts) ≡ true → is_in n (free_names state) ≡ true
     reached_free r = elim (in_either n (map (variable_named s) (reached_variables ts)) (map (function_name s) (reached_functions ts)) r) [
       | inl e ↦ (let o = named_occurs variable_of (variable_named s) (reached_terms ts) n e in
-          let y = open_variable s state o.0 o.1 o.2 (at_occurrence (IsOpen s (entries state)) (reached_terms ts) o.0 k o.3) in
+          let y = open_variable s state o.0 o.1 o.2 (at_term (IsOpen s (entries state)) (reached_terms ts) o.0 k o.3) in
           found_free n y.0 (names_of state) y.1 (ap (entries state) o.4 ∙ y.2))
       | inr e ↦ (let o = named_occurs function_of (function_name s) (reached_terms ts) n e in
-          let y = open_function s state o.0 o.1 o.2 (at_occurrence (IsOpen s (entries state)) (reached_terms ts) o.0 k o.3) in
+          let y = open_function s state o.0 o.1 o.2 (at_term (IsOpen s (entries state)) (reached_terms ts) o.0 k o.3) in
           found_free n y.0 (names_of state) y.1 (ap (entries state) o.4 ∙ y.2))
     ]

@@ -5,13 +5,13 @@ use Rattle.std.specs.Cmp.{first_so, second_so}
 use Rattle.std.specs.List.{AllByRecursion, list_all}
 use Rattle.std.specs.Ordering.{is_eq}
 use Rattle.std.proofs.lemmas.Bool.{ltb-true, eq-eqb, eqb-true}
-use Rattle.smt_term.specs.Plain.{IpAddrKind, DecimalKind, DatetimeKind, DurationKind, PlainType, OptionType, BoolType, EntityType, ExtensionType, RecordType, SetType, AttributeTypes, PlainOp, AndOp, BvaddOp, BvlshrOp, BvmulOp, BvnegOp, BvnegoOp, BvsaddoOp, BvsdivOp, BvshlOp, BvsleOp, BvsltOp, BvsmodOp, BvsmuloOp, BvsremOp, BvssuboOp, BvsubOp, BvudivOp, BvuleOp, BvultOp, BvuremOp, EqOp, ExtOp, IteOp, NotOp, OptionGetOp, OrOp, RecordGetOp, SetInterOp, SetMemberOp, SetSubsetOp, StringLikeOp, UufOp, ZeroExtendOp, PlainExtension, DecimalOf, Ipv4Of, Ipv6Of, DatetimeOf, DurationOf, PlainLiteral, BitVecLiteral, BoolLiteral, EntityLiteral, ExtensionLiteral, StringLiteral, PlainTerm, Application, NoneTerm, LiteralTerm, RecordTerm, SetTerm, SomeTerm, VariableTerm, PlainTerms, no_terms, one_term, PlainFields, no_fields, one_field}
+use Rattle.smt_term.specs.Plain.{IpAddrKind, DecimalKind, DatetimeKind, DurationKind, PlainType, OptionType, BoolType, EntityType, ExtensionType, RecordType, SetType, PlainOp, AndOp, BvaddOp, BvlshrOp, BvmulOp, BvnegOp, BvnegoOp, BvsaddoOp, BvsdivOp, BvshlOp, BvsleOp, BvsltOp, BvsmodOp, BvsmuloOp, BvsremOp, BvssuboOp, BvsubOp, BvudivOp, BvuleOp, BvultOp, BvuremOp, EqOp, ExtOp, IteOp, NotOp, OptionGetOp, OrOp, RecordGetOp, SetInterOp, SetMemberOp, SetSubsetOp, StringLikeOp, UufOp, ZeroExtendOp, PlainExtension, DecimalOf, Ipv4Of, Ipv6Of, DatetimeOf, DurationOf, PlainLiteral, BitVecLiteral, BoolLiteral, EntityLiteral, ExtensionLiteral, StringLiteral, PlainTerm, Application, NoneTerm, LiteralTerm, RecordTerm, SetTerm, SomeTerm, VariableTerm, PlainTerms, no_terms, one_term, PlainFields, no_fields, one_field}
 use Rattle.smt_term.specs.Meaning.{literal_value, meaning, meanings, field_meanings}
 use Rattle.smt_term.specs.Operators.{apply}
 use Rattle.smt_term.specs.Reached.{subterms, subterms_of_all, subterms_of_fields}
 use Rattle.smt_term.specs.Tables.{Interpretation}
-use Rattle.smt_term.specs.Types.{type_eq, literal_type, type_of, field_types, types_of, is_bits, extension_signature}
-use Rattle.smt_term.specs.TypeValues.{IsValue}
+use Rattle.smt_term.specs.Types.{type_eq, literal_type, type_of, field_types, types_of, is_bits, extension_signature, kind_of}
+use Rattle.smt_term.specs.TypeValues.{IsValue, Enums, members_of}
 use Rattle.smt_term.specs.Values.{Value, ExtensionValue, NoneValue, SomeValue, RecordValue}
 use Rattle.smt_term.specs.ValueOrder.{set_of}
 use Rattle.smt_term.proofs.TypeOrder.{eq_same}
@@ -19,38 +19,35 @@ use Rattle.smt_term.proofs.Utf8Order.{utf8_order}
 use Rattle.smt_semantics.specs.ScriptValues.{ScriptValue, TextOf, ConstructorOf, SetOf, ScriptValues, no_script_values, one_script_value}
 use Rattle.smt_sexpr.specs.Lexicon.{Text}
 use Rattle.smt_sexpr.specs.Reading.{Expression, Leaf}
-use Rattle.smt_semantics.specs.Script.{State, Builds, Defined, Constant, name, group, pattern, ◌>>=◌}
+use Rattle.smt_semantics.specs.Script.{State, Builds, Defined, Constant, name, group, ◌>>=◌}
 use Rattle.smt_semantics.specs.Sorts.{entries, string_sort, each_there}
 use Rattle.smt_semantics.specs.Value.{ScriptInterpretation, expression_value, script_values, inserted}
 use Rattle.smt_semantics.specs.Meanings.{argument_values, is_own}
 use Rattle.smt_semantics.proofs.Apply.{constructors_apply, constructors_stand, nones_stand, sets_stand}
 use Rattle.smt_semantics.proofs.Quotes.{patterns_write}
-use Rattle.smt_lines.specs.Lines.{Enums, Tables, members_of, member_name, place_of, name_of_term, name_of_type, extension_body, operands, none_body, set_body, record_body, empty_set, least_manner, negation_manner}
-use Rattle.smt_lines.specs.Types as lines
-use Rattle.smt_lines.specs.Types.{kind_of, types_of_fields}
+use Rattle.smt_lines.specs.Lines.{Tables, member_name, place_of, name_of_term, name_of_type, extension_body, operands, none_body, set_body, record_body, empty_set, negation_manner}
 use Rattle.smt_lines.specs.Naming.{sort_of, type_name}
-use Rattle.smt_lines.specs.Fits.{HasSort, HaveTexts, HaveFieldTexts, HasFunction, text_of, given, texts_of, texts_of_fields, sorts_of, head_of, term_lines, application_lines, entity_literal_lines}
+use Rattle.smt_lines.specs.Entries.{HasSort, HaveTexts, HaveFieldTexts, HasFunction, text_of, given, texts_of, texts_of_fields, sorts_of, head_of, term_lines, application_lines, entity_literal_lines}
 use Rattle.smt_lines.specs.Fit.{EachLine, LineStands, HasRecord}
-use Rattle.smt_lines.proofs.Bodies.{pattern_is}
 use Rattle.smt_lines.proofs.Declared.{terms_are_declared, types_are_declared}
 use Rattle.smt_carrying.specs.Carry.{carry, carry_entity, carry_fields}
 use Rattle.smt_carrying.specs.Interpretations.{carry_constant}
 use Rattle.smt_carrying.specs.Operators.{carry_each}
 use Rattle.smt_carrying.specs.Order.{AreMembers}
-use Rattle.smt_carrying.specs.Sorts.{member_constructors, entity_constructors, at_place, IsNamed}
+use Rattle.smt_carrying.specs.Sorts.{member_constructors, entity_constructors, IsNamed}
 use Rattle.smt_carrying.proofs.Keys.{term_keyed}
-use Rattle.smt_carrying.proofs.Members.{tests_same, members_same, members_found}
+use Rattle.smt_carrying.proofs.Members.{tests_same, members_found}
 use Rattle.smt_carrying.proofs.Sets.{insertions}
 use Rattle.smt_headline.specs.Texts.{HasText}
-use Rattle.smt_headline.proofs.Agree.{types_agree, field_types_agree}
 use Rattle.smt_headline.proofs.Applied.{operator, extended, matched, function, attribute_of, inside_of, negation}
 use Rattle.smt_headline.proofs.Distinct.{MemberNamed}
 use Rattle.smt_headline.proofs.Extensions.{built, none_there, some_entry, extension_worth, body_worth}
-use Rattle.smt_headline.proofs.FineTerms.{chosen}
 use Rattle.smt_headline.proofs.Named.{all_append, own, some_there, text_sort}
 use Rattle.smt_headline.proofs.Types.{type_stands, selectors_shown}
 use Rattle.smt_headline.proofs.Valued.{IsValued, AreValued, HaveValues}
 use Rattle.smt_headline.proofs.Worth.{Follows, carried, Worth, AreWorth, IsEntered, bits_worth, bits_fit, from_body, name_good, some_text, by_name, text_sorted}
+use Rattle.smt_term.proofs.Soundness.{chosen}
+use Rattle.smt_semantics.specs.Growth.{at_place}
 
 none_is : (t : PlainType) → None ≡ Some t → ⊥
 none_is t h = cc
@@ -123,25 +120,24 @@ module _ (enums : Enums) (s : Tables) (state : State) (I : Interpretation) (x : 
   applied (ZeroExtendOp n) (one_term t (one_term u ts)) type o k h f r q a = absurd (none_is type k.1)
   applied (StringLikeOp p) no_terms type o k h f r q a = absurd (none_is type k.1)
   applied (StringLikeOp p) (one_term t no_terms) type o k h f r q a =
-      matched enums s state I x p t type (ap pattern (pattern_is p) ∙ (patterns_write p k.3.1).1) k.1 k.0.1 a.0
+      matched enums s state I x p t type (patterns_write p k.3.1).1 k.1 k.0.1 a.0
   applied (StringLikeOp p) (one_term t (one_term u ts)) type o k h f r q a = absurd (none_is type k.1)
   applied (UufOp fn) no_terms type o k h f r q a = absurd (none_is type k.1)
   applied (UufOp fn) (one_term t no_terms) type o k h f r q a = function enums s state I x fn t type k.1 k.2.keys f k.0.1 a.0
   applied (UufOp fn) (one_term t (one_term u ts)) type o k h f r q a = absurd (none_is type k.1)
   applied (RecordGetOp c) no_terms type o k h f r q a = absurd (none_is type k.1)
-  applied (RecordGetOp c) (one_term t no_terms) type o k h f r q a = attribute_of enums s state I x c t (type_of t) type (types_agree t) refl k.1 r k.0.1 a.0
+  applied (RecordGetOp c) (one_term t no_terms) type o k h f r q a = attribute_of enums s state I x c t (type_of t) type refl k.1 r k.0.1 a.0
   applied (RecordGetOp c) (one_term t (one_term u ts)) type o k h f r q a = absurd (none_is type k.1)
   applied OptionGetOp no_terms type o k h f r q a = absurd (none_is type k.1)
-  applied OptionGetOp (one_term t no_terms) type o k h f r q a = inside_of enums s state I x t (type_of t) type (types_agree t) refl k.1 k.4 q h.0 k.0.1 a.0
+  applied OptionGetOp (one_term t no_terms) type o k h f r q a = inside_of enums s state I x t (type_of t) type refl k.1 k.4 q h.0 k.0.1 a.0
   applied OptionGetOp (one_term t (one_term u ts)) type o k h f r q a = absurd (none_is type k.1)
   applied (ExtOp e) no_terms type o k h f r q a = absurd (none_is type k.1)
   applied (ExtOp e) (one_term t no_terms) type o k h f r q a =
       let c : (type_eq (type_of t) (extension_signature e).0 ≡ true) × ((extension_signature e).1 ≡ type) = chosen (type_eq (type_of t) (extension_signature e).0) (extension_signature e).1 type k.1 in
       let same : type_of t ≡ (extension_signature e).0 = eq_same (type_of t) (extension_signature e).0 c.0 in
-      let l : lines.type_of t ≡ (extension_signature e).0 = types_agree t ∙ same in
       subst (λ u. Has (group (head_of enums s (ExtOp e) (one_term t no_terms) ∷ given (text_of s t) ∷ [])) u (apply I (ExtOp e) type (meaning I t ∷ []))) c.1
-      (extension_worth enums s state I x e (given (text_of s t)) (meaning I t) k.2 (subst (HasSort s) l (text_sort enums s state x.fit t h.0)) (subst (HasSort s) (sym c.1) q)
-      (λ entered. (sort_of s (lines.type_of t), text_sorted enums s state I x t (subst IsEntered (sym l) entered) h.0))
+      (extension_worth enums s state I x e (given (text_of s t)) (meaning I t) k.2 (subst (HasSort s) same (text_sort enums s state x.fit t h.0)) (subst (HasSort s) (sym c.1) q)
+      (λ entered. (sort_of s (type_of t), text_sorted enums s state I x t (subst IsEntered (sym same) entered) h.0))
       (subst (λ u. IsValue enums u (meaning I t)) same k.0.1) (subst (λ u. Has (given (text_of s t)) u (meaning I t)) same a.0))
   applied (ExtOp e) (one_term t (one_term u ts)) type o k h f r q a = absurd (none_is type k.1)
 
@@ -152,8 +148,7 @@ module _ (enums : Enums) (s : Tables) (state : State) (I : Interpretation) (x : 
       let c : (is_bits (type_of t) ≡ true) × (BoolType ≡ type) = chosen (is_bits (type_of t)) BoolType type k.1 in
       subst (λ u. Has (name n) u (apply I BvnegoOp u (meaning I t ∷ []))) c.1
       (negation enums s state I x t (type_of t) n c.0 k.0.2
-      (subst (λ u. EachLine (LineStands state) (application_lines enums s (least_manner u) BvnegoOp (one_term t no_terms) BoolType n)) (types_agree t)
-      (subst (λ u. EachLine (LineStands state) (application_lines enums s (negation_manner (one_term t no_terms) u) BvnegoOp (one_term t no_terms) u n)) (sym c.1) l)) k.0.1 a.0)
+      (subst (λ u. EachLine (LineStands state) (application_lines enums s (negation_manner (one_term t no_terms) u) BvnegoOp (one_term t no_terms) u n)) (sym c.1) l) k.0.1 a.0)
   application BvnegoOp (one_term t (one_term u ts)) type n l k h f r q a = absurd (none_is type k.1)
   application op ts type n l k h f r q a =
       from_body enums s state I x n (sort_of s type) (group (head_of enums s op ts ∷ operands op (texts_of s ts))) (Some (carry enums s type (apply I op type (meanings I ts)))) l.0 (applied op ts type refl k h f r q a)
@@ -184,9 +179,6 @@ module _ (enums : Enums) (s : Tables) (state : State) (I : Interpretation) (x : 
   extension_literal (DatetimeOf z) n sort h v k = from_body enums s state I x n sort (extension_body (DatetimeOf z)) _ h (body_worth enums s state I x (DatetimeOf z) DatetimeKind v k)
   extension_literal (DurationOf z) n sort h v k = from_body enums s state I x n sort (extension_body (DurationOf z)) _ h (body_worth enums s state I x (DurationOf z) DurationKind v k)
 
-  members_good : (type : List ℕ) → IfSome (members_of enums type) AreMembers
-  members_good type = subst (λ o. IfSome o AreMembers) (sym (members_same enums type)) (members_found enums type x.enum_types)
-
   literal_worth : (l : PlainLiteral) → IsValued enums I (LiteralTerm l) → IsSome (text_of s (LiteralTerm l)) → Has (given (text_of s (LiteralTerm l))) (literal_type l) (literal_value l)
   literal_worth (BitVecLiteral w n) k h = bits_worth enums s state I w n (bits_fit w n k.3 k.1)
   literal_worth (BoolLiteral true) k h = refl
@@ -196,7 +188,7 @@ module _ (enums : Enums) (s : Tables) (state : State) (I : Interpretation) (x : 
       let t = LiteralTerm (EntityLiteral type id) in
       by_name enums s state I x (λ e. expression_value J state e ≡ Some (carry_entity (members_of enums type) (type_name s (EntityType type)) (chars id))) t _ refl h
       (λ n q. (let d = terms_are_declared enums s state t n x.fit q in
-      entity_worth (members_of enums type) type id n (type_stands enums s state x.fit (EntityType type) tt d.2) d.0 (name_good enums s state I x t n q) (members_good type) k.1))
+      entity_worth (members_of enums type) type id n (type_stands enums s state x.fit (EntityType type) tt d.2) d.0 (name_good enums s state I x t n q) (members_found enums type x.enum_types) k.1))
   literal_worth (ExtensionLiteral y) k h =
       let t = LiteralTerm (ExtensionLiteral y) in
       by_name enums s state I x (λ e. Has e (literal_type (ExtensionLiteral y)) (ExtensionValue y)) t _ refl h
@@ -220,7 +212,7 @@ module _ (enums : Enums) (s : Tables) (state : State) (I : Interpretation) (x : 
   field_arguments no_fields h = refl
   field_arguments (one_field a t fs) h = ap₂ (λ (o : Option ScriptValue) (p : Option (List ScriptValue)). o >>= λ v. p >>= λ vs. Some (v ∷ vs)) h.0 (field_arguments fs h.1)
 
-  fields_counted : (fs : PlainFields) → length (listed fs) ≡ length (sorts_of s (types_of_fields fs))
+  fields_counted : (fs : PlainFields) → length (listed fs) ≡ length (sorts_of s (field_types fs))
   fields_counted no_fields = refl
   fields_counted (one_field a t fs) = ap suc (fields_counted fs)
 
@@ -230,16 +222,15 @@ module _ (enums : Enums) (s : Tables) (state : State) (I : Interpretation) (x : 
   built_record no_fields n (e ∷ es) own h l a = absurd (none_as_many (length es) l)
   built_record (one_field c t fs) n sorts own h l a = constructors_apply J state n n [] 0 sorts (texts_of_fields s (one_field c t fs)) (listed (one_field c t fs)) own h (field_arguments (one_field c t fs) a) l
 
-  record_worth : (fs : PlainFields) → HasSort s (RecordType (types_of_fields fs)) → AreFieldsWorth fs → Has (record_body (name (type_name s (RecordType (types_of_fields fs)))) (texts_of_fields s fs)) (RecordType (field_types fs)) (RecordValue (field_meanings I fs))
+  record_worth : (fs : PlainFields) → HasSort s (RecordType (field_types fs)) → AreFieldsWorth fs → Has (record_body (name (type_name s (RecordType (field_types fs)))) (texts_of_fields s fs)) (RecordType (field_types fs)) (RecordValue (field_meanings I fs))
   record_worth fs sort a =
-      let u = RecordType (types_of_fields fs) in
+      let u = RecordType (field_types fs) in
       let n = type_name s u in
-      let es = sorts_of s (types_of_fields fs) in
+      let es = sorts_of s (field_types fs) in
       let d = (types_are_declared enums s state u n x.fit (some_there (name_of_type s u) sort)).0.1.0.1.0 in
       let entry = subst (λ (fields : List Expression). entries state n ≡ Some (Builds n [] 0 fields)) (selectors_shown enums s state x.fit n 0 es) d in
       built_record fs n es (x.last.own n (Builds n [] 0 es) entry) entry (eq-eqb (length (listed fs)) (length es) (fields_counted fs)) a
       ∙ ap (λ (vs : ScriptValues). Some (ConstructorOf 0 n vs)) (fields_listed fs)
-      ∙ ap (λ (fields : AttributeTypes). Some (ConstructorOf 0 (type_name s (RecordType fields)) (carry_fields enums s (field_types fs) (field_meanings I fs)))) (field_types_agree fs)
 
   -- ---- sets
 

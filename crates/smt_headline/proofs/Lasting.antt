@@ -18,11 +18,10 @@ use Rattle.smt_lines.specs.Lines.{Tables, no_names, option_line, encode}
 use Rattle.smt_lines.specs.Text.{names}
 use Rattle.smt_lines.specs.Command.{commands}
 use Rattle.smt_lines.specs.Fit.{EachLine}
-use Rattle.smt_lines.proofs.Known.{or_right}
 use Rattle.smt_headline.specs.Texts.{NamesLast, StatedNamesLast}
 use Rattle.smt_headline.proofs.Open.{lines_origins}
 use Rattle.smt_headline.proofs.Origins.{OriginOf}
-use Rattle.smt_headline.proofs.Runs.{bind_gives, some_is, if_so}
+use Rattle.smt_semantics.proofs.Results.{some_is, if_so, bind_gives, or_right}
 
 -- ---- names that a command adds
 
@@ -76,7 +75,7 @@ selectors_add : (d : List ℕ) (ps : List (List ℕ)) (c : List ℕ) (place : �
 selectors_add d ps c place [] s t e = adds_none IsBuilt s t (some_is s t e)
 selectors_add d ps c place (x ∷ xs) s t e =
     let y = Selects d ps c place x.1 in
-    let p = bind_gives (declare x.0 y s) (declare_selectors d ps c (suc place) xs) t (if_so (is_sort (λ n i. has_sort s n i || (is_in n ps && eqb i 0)) x.1) (declare x.0 y s >>= declare_selectors d ps c (suc place) xs) t e) in
+    let p = bind_gives (declare x.0 y s) (declare_selectors d ps c (suc place) xs) t (if_so (is_sort (λ n i. has_sort s n i || (is_in n ps && eqb i 0)) x.1) (declare x.0 y s >>= declare_selectors d ps c (suc place) xs) t e).1 in
     adds_then IsBuilt s p.0 t (declare_adds IsBuilt x.0 y tt s p.0 p.1) (selectors_add d ps c (suc place) xs p.0 t p.2)
 
 constructors_add : (d : List ℕ) (ps : List (List ℕ)) (place : ℕ) (cs : List Constructor) (s t : State) → declare_constructors d ps place cs s ≡ Some t → Adds IsBuilt s t
@@ -106,10 +105,10 @@ obey_adds (DeclareDatatype d ps cs) k s t e =
     let o = passed (is_taken_sort s d || list_any (is_taken_sort s) ps) (declare_constructors d ps 0 cs s >>= λ u. Some (with_sort d (length ps) u)) t e in
     let p = bind_gives (declare_constructors d ps 0 cs s) (λ u. Some (with_sort d (length ps) u)) t o.1 in
     subst (λ (u : State). Adds IsBuilt s u) (some_is (with_sort d (length ps) p.0) t p.2) (constructors_add d ps 0 cs s p.0 p.1)
-obey_adds (DeclareConst n sort) k s t e = declare_adds (MadeBy (DeclareConst n sort)) n (Constant sort) (refl, refl) s t (if_so (is_sort (has_sort s) sort) (declare n (Constant sort) s) t e)
-obey_adds (DefineFun n sort body) k s t e = declare_adds (MadeBy (DefineFun n sort body)) n (Defined sort body) (refl, refl) s t (if_so (is_sort (has_sort s) sort && knows s body) (declare n (Defined sort body) s) t e)
-obey_adds (Assert x) k s t e = subst (λ (u : State). Adds IsBuilt s u) (some_is (with_assertion x s) t (if_so (knows s x) (Some (with_assertion x s)) t e)) (λ m y h. inl h)
-obey_adds (DeclareFun f a sort) k s t e = declare_adds IsBuilt f (Function a sort) tt s t (if_so (is_sort (has_sort s) a && is_sort (has_sort s) sort) (declare f (Function a sort) s) t e)
+obey_adds (DeclareConst n sort) k s t e = declare_adds (MadeBy (DeclareConst n sort)) n (Constant sort) (refl, refl) s t (if_so (is_sort (has_sort s) sort) (declare n (Constant sort) s) t e).1
+obey_adds (DefineFun n sort body) k s t e = declare_adds (MadeBy (DefineFun n sort body)) n (Defined sort body) (refl, refl) s t (if_so (is_sort (has_sort s) sort && knows s body) (declare n (Defined sort body) s) t e).1
+obey_adds (Assert x) k s t e = subst (λ (u : State). Adds IsBuilt s u) (some_is (with_assertion x s) t (if_so (knows s x) (Some (with_assertion x s)) t e).1) (λ m y h. inl h)
+obey_adds (DeclareFun f a sort) k s t e = declare_adds IsBuilt f (Function a sort) tt s t (if_so (is_sort (has_sort s) a && is_sort (has_sort s) sort) (declare f (Function a sort) s) t e).1
 obey_adds Reset k s t e = absurd k
 obey_adds Push k s t e = absurd k
 obey_adds Pop k s t e = absurd k

@@ -10,7 +10,7 @@ use Rattle.smt_term.specs.Operators.{truth}
 use Rattle.smt_term.specs.Reached.{subterms, reached_terms}
 use Rattle.smt_term.specs.Tables.{Interpretation}
 use Rattle.smt_term.specs.Types.{type_of, typed, Typed}
-use Rattle.smt_term.specs.TypeValues.{IsValue}
+use Rattle.smt_term.specs.TypeValues.{IsValue, Enums}
 use Rattle.smt_term.specs.Values.{Value, BoolValue}
 use Rattle.smt_term.proofs.Defaults.{interpreted}
 use Rattle.smt_sexpr.specs.Reading.{Expression}
@@ -19,8 +19,8 @@ use Rattle.smt_semantics.specs.ScriptValues.{ScriptValue, TruthOf}
 use Rattle.smt_semantics.specs.Sorts.{entries}
 use Rattle.smt_semantics.specs.Value.{ScriptInterpretation, IsScriptInterpretation, AgreeFor, IsModel, expression_value}
 use Rattle.smt_semantics.proofs.Free.{free_names_decide}
-use Rattle.smt_lines.specs.Fits.{given, text_of}
-use Rattle.smt_lines.specs.Lines.{Enums, Tables, no_names, encode_terms}
+use Rattle.smt_lines.specs.Entries.{given, text_of}
+use Rattle.smt_lines.specs.Lines.{Tables, no_names, encode_terms}
 use Rattle.smt_lines.specs.Scripts.{Stated}
 use Rattle.smt_lines.specs.Text.{names}
 use Rattle.smt_lines.proofs.OfTerms.{texts_are}

@@ -5,12 +5,13 @@ use Rattle.std.specs.List.{AllByRecursion}
 use Rattle.std.proofs.lemmas.Bool.{false≢true}
 use Rattle.smt_term.specs.Plain.{PlainType, OptionType, BitVecType, BoolType, EntityType, ExtensionType, StringType, RecordType, SetType, IpAddrV4Op, IpAddrV6Op, IpPrefixV4Op, IpPrefixV6Op, PlainOp, ExtOp, OptionGetOp, UufOp, BitVecLiteral, BoolLiteral, EntityLiteral, ExtensionLiteral, StringLiteral, PlainTerm, Application, NoneTerm, LiteralTerm, RecordTerm, SetTerm, SomeTerm, VariableTerm, PlainTerms, no_terms, one_term, PlainFields, no_fields, one_field, terms}
 use Rattle.smt_term.specs.Reached.{subterms, subterms_of_all, subterms_of_fields, reached_terms}
+use Rattle.smt_term.specs.TypeValues.{Enums}
+use Rattle.smt_term.specs.Types.{type_of}
 use Rattle.smt_sexpr.specs.Reading.{Expression}
 use Rattle.smt_semantics.specs.Script.{State}
 use Rattle.smt_semantics.specs.Sorts.{entries}
-use Rattle.smt_lines.specs.Lines.{Enums, Tables, no_names, name_of_term, name_of_function, text_of_name, encode_terms}
-use Rattle.smt_lines.specs.Types.{type_of, first_type}
-use Rattle.smt_lines.specs.Fits.{HasSort, HaveTexts, HaveFieldTexts, HasFunction, text_of, named_text}
+use Rattle.smt_lines.specs.Lines.{Tables, no_names, name_of_term, name_of_function, text_of_name, encode_terms, first_type}
+use Rattle.smt_lines.specs.Entries.{HasSort, HaveTexts, HaveFieldTexts, HasFunction, text_of, named_text}
 use Rattle.smt_lines.specs.Fine.{IsFineType, IsFine, AreFine, AreFineFields, IsFineOp}
 use Rattle.smt_lines.specs.Fit.{Fit, PartsStand}
 use Rattle.smt_lines.proofs.Known.{TextsAre}

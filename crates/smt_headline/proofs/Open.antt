@@ -1,18 +1,18 @@
 -- What is declared and left open is a variable or a function that is reached.
-use Rattle.std.proofs.Common.{◌≡◌, ℕ, List, [], ◌∷◌, ◌++◌, map, refl, sym, ap, ◌∙◌, subst, inl, inr}
+use Rattle.std.proofs.Common.{◌≡◌, ℕ, List, [], ◌∷◌, ◌++◌, map, refl, sym, ap, subst, inl, inr}
 use Rattle.std.specs.List.{AllByRecursion}
 use Rattle.smt_term.specs.Plain.{PlainTerm, terms}
 use Rattle.smt_term.specs.Reached.{subterms, subterms_of_all, reached_terms}
+use Rattle.smt_term.specs.TypeValues.{Enums}
 use Rattle.smt_sexpr.specs.Reading.{Expression}
 use Rattle.smt_semantics.specs.Script.{Command, Entry, start}
 use Rattle.smt_lines.specs.Line.{Line, Comment, DeclareDatatype, DeclareConst, DeclareFun, DefineFun, Assert, Push, Pop}
-use Rattle.smt_lines.specs.Lines.{Enums, Tables, no_names, option_line, text_of_name, encode, encode_terms}
+use Rattle.smt_lines.specs.Lines.{Tables, no_names, option_line, text_of_name, encode, encode_terms}
 use Rattle.smt_lines.specs.Command.{commands}
 use Rattle.smt_lines.specs.Fit.{EachLine}
 use Rattle.smt_lines.specs.Text.{names}
 use Rattle.smt_lines.proofs.Kept.{lines_append}
 use Rattle.smt_carrying.specs.Open.{Occurs, IsVariable, IsFunction, IsOpenEntry}
-use Rattle.smt_carrying.proofs.Standing.{sorts_agree}
 use Rattle.smt_headline.specs.Standing.{NamesAreOpen}
 use Rattle.smt_headline.proofs.Origins.{VariableOrigin, FunctionOrigin, OriginOf, each}
 use Rattle.smt_headline.proofs.Runs.{Declares, run_each}
@@ -35,7 +35,7 @@ module _ (s : Tables) (us : List PlainTerm) where
   Good c = Declares Opens (λ n sort body. tt) (λ n d ps place fields. tt) (λ n d ps c place field. tt) c
 
   variable_open : (n : List ℕ) (sort : Expression) → VariableOrigin us s n sort → IsVariable s us n sort
-  variable_open n sort h = record { id = h.id; type = h.type; reached = h.reached; named = ap text_of_name (sym h.named); sorted = h.sorted ∙ sorts_agree s h.type }
+  variable_open n sort h = record { id = h.id; type = h.type; reached = h.reached; named = ap text_of_name (sym h.named); sorted = h.sorted }
 
   function_open : (n : List ℕ) (argument sort : Expression) → FunctionOrigin us s n argument sort → IsFunction s us n argument sort
   function_open n argument sort h = record {
@@ -44,8 +44,8 @@ module _ (s : Tables) (us : List PlainTerm) where
     type = h.type;
     reached = h.reached;
     named = ap text_of_name (sym h.named);
-    argument_sorted = h.argument_sorted ∙ sorts_agree s h.function.argument;
-    sorted = h.sorted ∙ sorts_agree s h.function.output;
+    argument_sorted = h.argument_sorted;
+    sorted = h.sorted;
   }
 
   good_lines : (ls : List Line) → EachLine (OriginOf us s) ls → AllByRecursion Good (commands ls)

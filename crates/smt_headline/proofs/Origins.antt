@@ -4,13 +4,14 @@ use Rattle.std.specs.List.{AllByRecursion}
 use Rattle.smt_term.specs.Plain.{PlainType, OptionType, BitVecType, BoolType, EntityType, ExtensionType, StringType, RecordType, SetType, AttributeTypes, no_attributes, attribute, PlainFunction, PlainOp, UufOp, PlainLiteral, BitVecLiteral, BoolLiteral, EntityLiteral, ExtensionLiteral, StringLiteral, PlainTerm, Application, NoneTerm, LiteralTerm, RecordTerm, SetTerm, SomeTerm, VariableTerm, PlainTerms, no_terms, one_term, PlainFields, no_fields, one_field}
 use Rattle.smt_term.specs.Reached.{subterms, subterms_of_all, subterms_of_fields}
 use Rattle.smt_term.proofs.Soundness.{all-front, all-back}
+use Rattle.smt_term.specs.TypeValues.{Enums, members_of}
+use Rattle.smt_term.specs.Types.{type_of, literal_type}
 use Rattle.smt_sexpr.specs.Reading.{Expression}
 use Rattle.smt_semantics.specs.Script.{name}
 use Rattle.smt_lines.specs.Line.{Line, Comment, DeclareDatatype, DeclareConst, DeclareFun, DefineFun, Assert, Push, Pop}
-use Rattle.smt_lines.specs.Lines.{Enums, Tables, members_of, Written, name_of_term, name_of_type, name_of_function, next_term, next_function, unless_named, quoted_id, define_entity, entity_lines, encode_type, encode_attributes, encode_function, encode_literal, encode_head, Manner, AsItStands, AsLeast, AsFalse, manner, define_application, encode_term, encode_terms, encode_fields}
-use Rattle.smt_lines.specs.Types.{type_of, literal_type}
+use Rattle.smt_lines.specs.Lines.{Tables, Written, name_of_term, name_of_type, name_of_function, next_term, next_function, unless_named, quoted_id, define_entity, entity_lines, encode_type, encode_attributes, encode_function, encode_literal, encode_head, Manner, AsItStands, AsLeast, AsFalse, manner, define_application, encode_term, encode_terms, encode_fields}
 use Rattle.smt_lines.specs.Naming.{sort_of}
-use Rattle.smt_lines.specs.Fits.{HasSort, named_text}
+use Rattle.smt_lines.specs.Entries.{HasSort, named_text}
 use Rattle.smt_lines.specs.Growth.{Keeps}
 use Rattle.smt_lines.proofs.Grow.{type_grows, head_grows, terms_grow, names_stay, fields_grow}
 use Rattle.smt_lines.proofs.Making.{functions_are_made, terms_are_made}

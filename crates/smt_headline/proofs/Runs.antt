@@ -1,23 +1,9 @@
 -- What holds of each entry that a script declares.
-use Rattle.std.proofs.Common.{◌≡◌, ℕ, suc, Bool, true, false, ◌&&◌, ◌||◌, eqb, cond, List, [], ◌∷◌, map, length, refl, subst, Option, Some, None}
+use Rattle.std.proofs.Common.{◌≡◌, ℕ, suc, Bool, true, false, ◌&&◌, ◌||◌, eqb, cond, List, [], ◌∷◌, map, length, subst, Some}
 use Rattle.std.specs.List.{AllByRecursion, list_any}
 use Rattle.smt_sexpr.specs.Reading.{Expression}
 use Rattle.smt_semantics.specs.Script.{Command, DeclareDatatype, DeclareConst, DefineFun, Assert, DeclareFun, Reset, Exit, Push, Pop, Constructor, Entry, Constant, Function, Defined, Builds, Selects, State, is_in, is_taken, is_taken_sort, is_sort, has_sort, names_of, declare, declare_selectors, declare_constructors, with_name, with_sort, with_assertion, obey, step, run, knows, ◌>>=◌}
-
-pub bind_gives : (o : Option State) (f : State → Option State) (u : State) → (o >>= f) ≡ Some u → (t : State) × (o ≡ Some t) × (f t ≡ Some u)
-bind_gives (Some t) f u h = (t, refl, h)
-bind_gives None f u h = absurd cc
-
-pub some_is : (s t : State) → Some s ≡ Some t → s ≡ t
-some_is s t h = cc
-
-pub if_so : (b : Bool) (o : Option State) (t : State) → cond b o None ≡ Some t → o ≡ Some t
-if_so true o t h = h
-if_so false o t h = absurd cc
-
-if_not : (b : Bool) (o : Option State) (t : State) → cond b None o ≡ Some t → o ≡ Some t
-if_not true o t h = absurd cc
-if_not false o t h = h
+use Rattle.smt_semantics.proofs.Results.{some_is, if_not, if_so, bind_gives}
 
 -- a property of entries that those with a body, constructors and selectors have
 module _ (P : List ℕ → Entry → Type 0) (bodies : (n : List ℕ) (sort body : Expression) → P n (Defined sort body)) (builders : (n d : List ℕ) (ps : List (List ℕ)) (place : ℕ) (fields : List Expression) → P n (Builds d ps place fields)) (selectors : (n d : List ℕ) (ps : List (List ℕ)) (c : List ℕ) (place : ℕ) (field : Expression) → P n (Selects d ps c place field)) where
@@ -37,13 +23,13 @@ module _ (P : List ℕ → Entry → Type 0) (bodies : (n : List ℕ) (sort body
   to s t e h = subst Each e h
 
   declare_each : (n : List ℕ) (x : Entry) → P n x → (s t : State) → Each s → declare n x s ≡ Some t → Each t
-  declare_each n x p s t h e = to (with_name n x s) t (some_is (with_name n x s) t (if_not (is_taken s n) (Some (with_name n x s)) t e)) (p, h)
+  declare_each n x p s t h e = to (with_name n x s) t (some_is (with_name n x s) t (if_not (is_taken s n) (Some (with_name n x s)) t e).1) (p, h)
 
   selectors_each : (d : List ℕ) (ps : List (List ℕ)) (c : List ℕ) (place : ℕ) (xs : List (List ℕ × Expression)) (s t : State) → Each s → declare_selectors d ps c place xs s ≡ Some t → Each t
   selectors_each d ps c place [] s t h e = to s t (some_is s t e) h
   selectors_each d ps c place (x ∷ xs) s t h e =
       let y = Selects d ps c place x.1 in
-      let p = bind_gives (declare x.0 y s) (declare_selectors d ps c (suc place) xs) t (if_so (is_sort (λ n i. has_sort s n i || (is_in n ps && eqb i 0)) x.1) (declare x.0 y s >>= declare_selectors d ps c (suc place) xs) t e) in
+      let p = bind_gives (declare x.0 y s) (declare_selectors d ps c (suc place) xs) t (if_so (is_sort (λ n i. has_sort s n i || (is_in n ps && eqb i 0)) x.1) (declare x.0 y s >>= declare_selectors d ps c (suc place) xs) t e).1 in
       selectors_each d ps c (suc place) xs p.0 t (declare_each x.0 y (selectors x.0 d ps c place x.1) s p.0 h p.1) p.2
 
   constructors_each : (d : List ℕ) (ps : List (List ℕ)) (place : ℕ) (cs : List Constructor) (s t : State) → Each s → declare_constructors d ps place cs s ≡ Some t → Each t
@@ -56,12 +42,12 @@ module _ (P : List ℕ → Entry → Type 0) (bodies : (n : List ℕ) (sort body
 
   obey_each : (c : Command) → Declares c → (s t : State) → Each s → obey c s ≡ Some t → Each t
   obey_each (DeclareDatatype d ps cs) k s t h e =
-      let p = bind_gives (declare_constructors d ps 0 cs s) (λ u. Some (with_sort d (length ps) u)) t (if_not (is_taken_sort s d || list_any (is_taken_sort s) ps) (declare_constructors d ps 0 cs s >>= λ u. Some (with_sort d (length ps) u)) t e) in
+      let p = bind_gives (declare_constructors d ps 0 cs s) (λ u. Some (with_sort d (length ps) u)) t (if_not (is_taken_sort s d || list_any (is_taken_sort s) ps) (declare_constructors d ps 0 cs s >>= λ u. Some (with_sort d (length ps) u)) t e).1 in
       to (with_sort d (length ps) p.0) t (some_is (with_sort d (length ps) p.0) t p.2) (constructors_each d ps 0 cs s p.0 h p.1)
-  obey_each (DeclareConst n sort) k s t h e = declare_each n (Constant sort) k s t h (if_so (is_sort (has_sort s) sort) (declare n (Constant sort) s) t e)
-  obey_each (DefineFun n sort body) k s t h e = declare_each n (Defined sort body) (bodies n sort body) s t h (if_so (is_sort (has_sort s) sort && knows s body) (declare n (Defined sort body) s) t e)
-  obey_each (Assert x) k s t h e = to (with_assertion x s) t (some_is (with_assertion x s) t (if_so (knows s x) (Some (with_assertion x s)) t e)) h
-  obey_each (DeclareFun f a sort) k s t h e = declare_each f (Function a sort) k s t h (if_so (is_sort (has_sort s) a && is_sort (has_sort s) sort) (declare f (Function a sort) s) t e)
+  obey_each (DeclareConst n sort) k s t h e = declare_each n (Constant sort) k s t h (if_so (is_sort (has_sort s) sort) (declare n (Constant sort) s) t e).1
+  obey_each (DefineFun n sort body) k s t h e = declare_each n (Defined sort body) (bodies n sort body) s t h (if_so (is_sort (has_sort s) sort && knows s body) (declare n (Defined sort body) s) t e).1
+  obey_each (Assert x) k s t h e = to (with_assertion x s) t (some_is (with_assertion x s) t (if_so (knows s x) (Some (with_assertion x s)) t e).1) h
+  obey_each (DeclareFun f a sort) k s t h e = declare_each f (Function a sort) k s t h (if_so (is_sort (has_sort s) a && is_sort (has_sort s) sort) (declare f (Function a sort) s) t e).1
   obey_each Reset k s t h e = absurd k
   obey_each Push k s t h e = absurd k
   obey_each Pop k s t h e = absurd k

@@ -9,7 +9,7 @@ use Rattle.smt_semantics.specs.Sorts.{Entries, entries, sort_in}
 use Rattle.smt_semantics.specs.Script.{name}
 use Rattle.smt_semantics.specs.Value.{Selection, shape_selection, selections, selections_in}
 use Rattle.smt_lines.specs.Lines.{Tables, name_of_term, numbered, bits}
-use Rattle.smt_lines.specs.Fits.{given, named_text, text_of}
+use Rattle.smt_lines.specs.Entries.{given, named_text, text_of}
 use Rattle.smt_lines.specs.Text.{names}
 use Rattle.smt_headline.specs.Standing.{AssertionsSelectNothing}
 

@@ -1,37 +1,32 @@
 -- The body of a term's definition applies the term's selector, and no other that is left open.
 use Rattle.std.proofs.Common.{◌≡◌, ℕ, Bool, true, false, ◌&&◌, ◌||◌, cond, List, [], ◌∷◌, ◌++◌, map, refl, sym, ap, ap₂, ◌∙◌, subst, Option, Some, None}
 use Rattle.std.specs.Prelude.{bytes_eq, chars, codes, IsSome, unwrap_or, ◌-◌, ◌^◌}
-use Rattle.std.specs.Bool.{then_some}
 use Rattle.std.specs.Cmp.{second_so}
-use Rattle.std.proofs.lemmas.Bool.{and_parts, false≢true, cond-false}
+use Rattle.std.proofs.lemmas.Bool.{and_parts, false≢true, cond-false, or_parts}
 use Rattle.smt_term.specs.Plain.{IpAddrKind, PlainType, OptionType, BoolType, EntityType, ExtensionType, SetType, ExtensionOp, IpAddrV4Op, IpAddrV6Op, IpPrefixV4Op, IpPrefixV6Op, PlainOp, BvnegoOp, ExtOp, OptionGetOp, BitVecLiteral, BoolLiteral, EntityLiteral, ExtensionLiteral, StringLiteral, PlainTerm, Application, NoneTerm, LiteralTerm, RecordTerm, SetTerm, SomeTerm, VariableTerm, PlainTerms, no_terms, one_term}
-use Rattle.smt_term.specs.Types as typing
-use Rattle.smt_term.specs.Types.{type_eq, inner_type, types_of, extension_signature, result_type, is_type, typed, typed_all}
-use Rattle.smt_term.proofs.Soundness.{is_type-some}
+use Rattle.smt_term.specs.Types.{type_eq, inner_type, types_of, extension_signature, result_type, is_type, typed_all, type_of}
+use Rattle.smt_term.proofs.Soundness.{is_type-some, chosen}
 use Rattle.smt_term.proofs.TypeOrder.{eq_same}
+use Rattle.smt_term.specs.TypeValues.{Enums, members_of}
 use Rattle.smt_sexpr.specs.Lexicon.{Text}
 use Rattle.smt_sexpr.specs.Reading.{Expression, Leaf}
 use Rattle.smt_semantics.specs.Script.{Entry, Defined, Selects, Shape, Applied, State, name, group, exprs, is_in, built_in_names, shape, is_stated, shape_is_known, each_stated, look_up, ◌>>=◌}
-use Rattle.smt_semantics.specs.Sorts.{Entries, entries, bool_sort, entry_sort, named_sort, sort_in}
+use Rattle.smt_semantics.specs.Sorts.{Entries, entries, bool_sort, entry_sort, named_sort, sort_in, option_sort}
 use Rattle.smt_semantics.specs.Value.{Selection, selection, selection_of, shape_selection, selections}
-use Rattle.smt_lines.specs.Lines.{Enums, Tables, members_of, name_of_term, name_of_type, kind_constructors, bits, extension_op_head, extension_body, operands, none_body, set_body, record_body, Manner, AsItStands, AsLeast, AsFalse, manner}
+use Rattle.smt_lines.specs.Lines.{Tables, name_of_term, name_of_type, kind_constructors, bits, extension_op_head, extension_body, operands, none_body, set_body, record_body, Manner, AsItStands, AsLeast, AsFalse, manner}
 use Rattle.smt_lines.specs.Line.{DeclareDatatype}
-use Rattle.smt_lines.specs.Types.{type_of}
 use Rattle.smt_lines.specs.Naming.{sort_of, type_name}
-use Rattle.smt_lines.specs.Fits.{HasSort, HaveTexts, given, named_text, text_of, texts_of, texts_of_fields, head_of, application_lines, entity_literal_lines, term_lines}
+use Rattle.smt_lines.specs.Entries.{HasSort, HaveTexts, given, named_text, text_of, texts_of, texts_of_fields, head_of, application_lines, entity_literal_lines, term_lines}
 use Rattle.smt_lines.specs.Fit.{Fit, EachLine, LineStands}
 use Rattle.smt_lines.proofs.Declared.{terms_are_declared, types_are_declared}
 use Rattle.smt_carrying.specs.Interpretations.{ip_type, is_range_selector}
 use Rattle.smt_carrying.specs.Operators.{selector_name}
-use Rattle.smt_carrying.specs.Sorts.{option_sort, script_sort}
-use Rattle.smt_carrying.proofs.Standing.{sorts_agree}
-use Rattle.smt_headline.proofs.Agree.{types_agree}
 use Rattle.smt_headline.proofs.Types.{there}
 use Rattle.smt_headline.proofs.SelectionsHeads.{option_entry, option_selection, range_entry, range_selection, op_selections, own_selections, AreTypesCounted, AreFunctionsCounted, type_apart, plain_application, plain_least, least_selects}
 use Rattle.smt_headline.proofs.SelectionsOrigins.{HasDefinition}
 use Rattle.smt_headline.proofs.SelectionsParts.{IsSound, named_if}
 use Rattle.smt_headline.proofs.SelectionsPlain.{is_plain, HasOneInside, plain_selects, plain_sort, plain_text, plain_texts, plain_fields, plain_extension, plain_none, plain_some, plain_set, plain_group, plain_record}
-use Rattle.smt_headline.proofs.SelectionsRuns.{Names, is_known, Known, or_parts, Within, among, there_if}
+use Rattle.smt_headline.proofs.SelectionsRuns.{Names, is_known, Known, Within, among, there_if}
 
 -- ---- types of arguments
 
@@ -44,10 +39,6 @@ is_inner t = false
 opened : (u type : PlainType) → inner_type u ≡ Some type → u ≡ OptionType type
 opened (OptionType t) type h = ap (λ o. OptionType (unwrap_or o t)) h
 opened u type h = absurd cc
-
-chosen : (b : Bool) (t u : PlainType) → then_some b t ≡ Some u → b ≡ true
-chosen true t u h = refl
-chosen false t u h = absurd cc
 
 not_false : (op : PlainOp) (ts : PlainTerms) (type : PlainType) → is_inner type ≡ true → manner op ts type ≡ AsFalse → ⊥
 not_false BvnegoOp (one_term t no_terms) BoolType h e = false≢true h
@@ -132,7 +123,7 @@ module _ (enums : Enums) (s : Tables) (state : State) (fit : Fit enums s state) 
         ∙ cond-false (bytes_eq n (codes "false")) (Some bool_sort) (look_up n older >>= λ y. entry_sort y []) q.0
         ∙ ap (λ (o : Option Entry). o >>= λ y. entry_sort y []) e
 
-    argument_sort : (t : PlainTerm) → is_inner (type_of t) ≡ true → IsSome (text_of s t) → (sorts : List ℕ → ℕ → Bool) → is_stated sorts (is_known older) (given (text_of s t)) ≡ true → sort_in (among older) (given (text_of s t)) ≡ Some (script_sort s (type_of t))
+    argument_sort : (t : PlainTerm) → is_inner (type_of t) ≡ true → IsSome (text_of s t) → (sorts : List ℕ → ℕ → Bool) → is_stated sorts (is_known older) (given (text_of s t)) ≡ true → sort_in (among older) (given (text_of s t)) ≡ Some (sort_of s (type_of t))
     argument_sort t h k sorts known =
         let p = has_name s t h k in
         let n : List ℕ = p.0 in
@@ -140,15 +131,15 @@ module _ (enums : Enums) (s : Tables) (state : State) (fit : Fit enums s state) 
         let x = entry_sorted t h n d.0 in
         let here : is_known older n ≡ true = subst (λ o. is_stated sorts (is_known older) (given o) ≡ true) p.2 known in
         let apart = free n x.0 x.1 in
-        ap (λ o. sort_in (among older) (given o)) p.2 ∙ sort_found n x.0 apart (found n x.0 apart x.1 here) ∙ x.2 ∙ ap (λ (e : Expression). Some e) (sorts_agree s (type_of t))
+        ap (λ o. sort_in (among older) (given o)) p.2 ∙ sort_found n x.0 apart (found n x.0 apart x.1 here) ∙ x.2
 
     -- ---- the two forms of selectors
 
     option_selects : (t : PlainTerm) (type : PlainType) → type_of t ≡ OptionType type → IsSome (text_of s t) → Known older (group (name (codes "val") ∷ given (text_of s t) ∷ [])) → selections (among older) (group (name (codes "val") ∷ given (text_of s t) ∷ [])) ≡ option_selection s type ∷ []
     option_selects t type e h known =
         let k = head_known older (codes "val") (given (text_of s t)) refl known.0 known.1 in
-        let sorted = argument_sort t (ap is_inner e) h known.0 k.1 ∙ ap (λ u. Some (script_sort s u)) e in
-        selects_one (among older) (codes "val") (given (text_of s t)) (option_sort (script_sort s type)) option_entry refl sorted
+        let sorted = argument_sort t (ap is_inner e) h known.0 k.1 ∙ ap (λ u. Some (sort_of s u)) e in
+        selects_one (among older) (codes "val") (given (text_of s t)) (option_sort (sort_of s type)) option_entry refl sorted
         (found (codes "val") option_entry refl fit.option_stands.1.2.1.0 k.0) (plain_selects (among older) inside (given (text_of s t)) (plain_text s t))
 
     -- the selectors of IP ranges are declared
@@ -163,13 +154,13 @@ module _ (enums : Enums) (s : Tables) (state : State) (fit : Fit enums s state) 
         by o r d = absurd (false≢true r)
 
     one_range : (o : ExtensionOp) → is_range_selector o ≡ true → (t : PlainTerm) → type_of t ≡ ip_type → IsSome (text_of s t) → shape (name (selector_name o)) (exprs (given (text_of s t) ∷ [])) ≡ Applied (selector_name o) → is_in (selector_name o) built_in_names ≡ false
-        → Known older (group (name (selector_name o) ∷ given (text_of s t) ∷ [])) → selections (among older) (group (name (selector_name o) ∷ given (text_of s t) ∷ [])) ≡ selection_of (selector_name o) (script_sort s ip_type) (Some (range_entry s o)) ++ []
+        → Known older (group (name (selector_name o) ∷ given (text_of s t) ∷ [])) → selections (among older) (group (name (selector_name o) ∷ given (text_of s t) ∷ [])) ≡ selection_of (selector_name o) (sort_of s ip_type) (Some (range_entry s o)) ++ []
     one_range o r t e h a b known =
         let k = head_known older (selector_name o) (given (text_of s t)) a known.0 known.1 in
-        let sorted = argument_sort t (ap is_inner e) h known.0 k.1 ∙ ap (λ u. Some (script_sort s u)) e in
+        let sorted = argument_sort t (ap is_inner e) h known.0 k.1 ∙ ap (λ u. Some (sort_of s u)) e in
         let p = has_name s t (ap is_inner e) h in
         let has : HasSort s ip_type = subst (HasSort s) e (terms_are_declared enums s state t p.0 fit p.1).2 in
-        selects_one (among older) (selector_name o) (given (text_of s t)) (script_sort s ip_type) (range_entry s o) a sorted
+        selects_one (among older) (selector_name o) (given (text_of s t)) (sort_of s ip_type) (range_entry s o) a sorted
         (found (selector_name o) (range_entry s o) b (range_there o r has) k.0) (plain_selects (among older) inside (given (text_of s t)) (plain_text s t))
 
     range_selects : (o : ExtensionOp) → is_range_selector o ≡ true → (t : PlainTerm) → type_of t ≡ (extension_signature o).0 → IsSome (text_of s t) → Known older (group (extension_op_head o ∷ given (text_of s t) ∷ [])) → selections (among older) (group (extension_op_head o ∷ given (text_of s t) ∷ [])) ≡ range_selection s o ∷ []
@@ -184,13 +175,13 @@ module _ (enums : Enums) (s : Tables) (state : State) (fit : Fit enums s state) 
     extension_selects : (o : ExtensionOp) → is_range_selector o ≡ true → (ts : PlainTerms) (type : PlainType) → result_type (ExtOp o) (types_of ts) ≡ Some type → HaveTexts s ts → Known older (group (extension_op_head o ∷ texts_of s ts)) → selections (among older) (group (extension_op_head o ∷ texts_of s ts)) ≡ range_selection s o ∷ []
     extension_selects o r no_terms type h k known = absurd cc
     extension_selects o r (one_term t no_terms) type h k known =
-        range_selects o r t (types_agree t ∙ eq_same (typing.type_of t) (extension_signature o).0 (chosen (type_eq (typing.type_of t) (extension_signature o).0) (extension_signature o).1 type h)) k.0 known
+        range_selects o r t (eq_same (type_of t) (extension_signature o).0 (chosen (type_eq (type_of t) (extension_signature o).0) (extension_signature o).1 type h).0) k.0 known
     extension_selects o r (one_term t (one_term u ts)) type h k known = absurd cc
 
     stands : (op : PlainOp) (ts : PlainTerms) (type : PlainType) → result_type op (types_of ts) ≡ Some type → HaveTexts s ts → Known older (group (head_of enums s op ts ∷ operands op (texts_of s ts)))
         → selections (among older) (group (head_of enums s op ts ∷ operands op (texts_of s ts))) ≡ op_selections s op type
     stands OptionGetOp no_terms type h k known = absurd cc
-    stands OptionGetOp (one_term t no_terms) type h k known = option_selects t type (types_agree t ∙ opened (typing.type_of t) type h) k.0 known
+    stands OptionGetOp (one_term t no_terms) type h k known = option_selects t type (opened (type_of t) type h) k.0 known
     stands OptionGetOp (one_term t (one_term u ts)) type h k known = absurd cc
     stands (ExtOp IpAddrV4Op) ts type h k known = extension_selects IpAddrV4Op refl ts type h k known
     stands (ExtOp IpAddrV6Op) ts type h k known = extension_selects IpAddrV6Op refl ts type h k known

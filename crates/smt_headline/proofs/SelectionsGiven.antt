@@ -6,24 +6,25 @@ use Rattle.std.proofs.lemmas.Bool.{and_parts}
 use Rattle.std.proofs.lemmas.List.Elements.{recursion_from_All}
 use Rattle.smt_term.specs.Plain.{PlainType, BoolType, ExtensionOp, PlainOp, ExtOp, OptionGetOp, UufOp, PlainTerm, Application, VariableTerm, PlainTerms}
 use Rattle.smt_term.specs.Reached.{reached_terms}
-use Rattle.smt_term.specs.Types.{Typed, typed, extension_signature}
+use Rattle.smt_term.specs.Types.{Typed, extension_signature}
 use Rattle.smt_term.proofs.Soundness.{all-front, all-back}
+use Rattle.smt_term.specs.TypeValues.{Enums}
 use Rattle.smt_sexpr.specs.Reading.{Expression}
 use Rattle.smt_semantics.specs.Script.{Defined, look_up, assertions_of, names_of}
 use Rattle.smt_semantics.specs.ScriptValues.{ScriptValue}
 use Rattle.smt_semantics.specs.Sorts.{entries}
 use Rattle.smt_semantics.specs.Value.{ScriptInterpretation, IsScriptInterpretation, Selection, selections, selections_in, body_of, body_selections, applied_selectors, is_selector_given, is_table, are_others, is_other}
-use Rattle.smt_lines.specs.Lines.{Enums, name_of_term}
+use Rattle.smt_lines.specs.Naming.{sort_of}
+use Rattle.smt_lines.specs.Lines.{name_of_term}
 use Rattle.smt_lines.specs.Scripts.{Stated}
 use Rattle.smt_lines.specs.Text.{names}
 use Rattle.smt_lines.proofs.Declared.{terms_are_declared}
 use Rattle.smt_carrying.specs.Interpretations.{ip_type, is_range_selector, IsGivenRange, IsScriptGivenOp, IsScriptGiven, AreOthers}
 use Rattle.smt_carrying.specs.Operators.{selector_name, selector_constructor}
-use Rattle.smt_carrying.specs.Sorts.{script_sort}
 use Rattle.smt_headline.specs.Selections.{InterpretationsGiveReached}
 use Rattle.smt_headline.specs.Standing.{IsOpGiven, IsNameGiven}
 use Rattle.smt_headline.proofs.Distinct.{names_are_one_to_one}
-use Rattle.smt_headline.proofs.FineTerms.{typed_lists_are_fine}
+use Rattle.smt_headline.proofs.FineTerms.{typed_lists_are_fine, parts_typed}
 use Rattle.smt_headline.proofs.Free.{reached_are_open}
 use Rattle.smt_headline.proofs.Given.{interpretations_give_names}
 use Rattle.smt_headline.proofs.Named.{names_stand}
@@ -87,7 +88,7 @@ module _ (enums : Enums) (ts : List PlainTerm) (x : Stated enums ts) (typed : Al
     range_given : (o : ExtensionOp) (b : Bool) → AreGiven (range_selections (names enums ts) o b) → IsGivenRange (names enums ts) (entries x.state) J o b
     range_given o true k =
         let table = J.selectors (selector_name o) in
-        let q = and_parts (is_table (entries x.state) (script_sort (names enums ts) ip_type) (script_sort (names enums ts) (extension_signature o).1) table) (are_others (selector_constructor o) table.pairs) k.0 in
+        let q = and_parts (is_table (entries x.state) (sort_of (names enums ts) ip_type) (sort_of (names enums ts) (extension_signature o).1) table) (are_others (selector_constructor o) table.pairs) k.0 in
         (q.0, all_others (selector_constructor o) table.pairs q.1)
     range_given o false k = tt
 
@@ -105,10 +106,6 @@ module _ (enums : Enums) (ts : List PlainTerm) (x : Stated enums ts) (typed : Al
     each_given : (us : List PlainTerm) → AllByRecursion (IsSound (names enums ts)) us → AllByRecursion (IsNameGiven (names enums ts) (entries x.state) J) us → AllByRecursion (IsScriptGiven (names enums ts) (entries x.state) J) us
     each_given [] g k = tt
     each_given (t ∷ us) g k = (term_given t g.0 k.0, each_given us g.1 k.1)
-
-parts_typed : (ts : List PlainTerm) → AllByRecursion (λ t. Typed t BoolType) ts → AllByRecursion (λ t. IsTrue (typed t)) ts
-parts_typed [] h = tt
-parts_typed (t ∷ ts) h = (h.0.parts, parts_typed ts h.1)
 
 pub interpretations_give_reached : InterpretationsGiveReached
 interpretations_give_reached enums ts x conditions es J h =

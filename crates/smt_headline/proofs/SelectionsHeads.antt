@@ -3,20 +3,20 @@ use Rattle.std.proofs.Common.{◌≡◌, ℕ, Bool, true, false, not, List, [], 
 use Rattle.std.specs.Prelude.{codes}
 use Rattle.std.proofs.lemmas.Bool.{and_from, false≢true}
 use Rattle.smt_term.specs.Plain.{IpAddrKind, DecimalKind, DatetimeKind, DurationKind, PlainType, OptionType, BitVecType, BoolType, EntityType, ExtensionType, StringType, RecordType, SetType, PlainFunction, ExtensionOp, IpAddrV4Op, IpAddrV6Op, IpPrefixV4Op, IpPrefixV6Op, PlainOp, BvnegoOp, ExtOp, OptionGetOp, RecordGetOp, StringLikeOp, UufOp, PlainTerm, Application, PlainTerms}
-use Rattle.smt_term.specs.Types.{extension_signature}
+use Rattle.smt_term.specs.Types.{extension_signature, type_eq}
+use Rattle.smt_term.specs.TypeValues.{Enums}
+use Rattle.smt_term.specs.Interpretations.{function_eq}
+use Rattle.smt_term.proofs.TermTotal.{types_decided, functions_decided}
 use Rattle.smt_sexpr.specs.Reading.{Expression}
 use Rattle.smt_semantics.specs.Script.{Entry, Selects, name, group, exprs, is_in}
 use Rattle.smt_semantics.specs.Value.{Selection}
-use Rattle.smt_lines.specs.Lines.{Enums, Tables, name_of_type, name_of_function, text_of_name, attribute_name, attribute_place, bits, operands, AsLeast, manner}
-use Rattle.smt_lines.specs.Same.{same_type, same_function}
-use Rattle.smt_lines.specs.Types.{first_type}
-use Rattle.smt_lines.specs.Naming.{type_name}
-use Rattle.smt_lines.specs.Fits.{EachEntry, texts_of, head_of, stated_type_name, stated_function_name}
+use Rattle.smt_semantics.specs.Sorts.{option_sort}
+use Rattle.smt_lines.specs.Lines.{Tables, name_of_type, name_of_function, text_of_name, attribute_name, attribute_place, bits, operands, AsLeast, manner, first_type}
+use Rattle.smt_lines.specs.Naming.{type_name, sort_of}
+use Rattle.smt_lines.specs.Entries.{EachEntry, texts_of, head_of, stated_type_name, stated_function_name}
 use Rattle.smt_lines.proofs.Known.{each_found}
-use Rattle.smt_lines.proofs.Sound.{same_types, same_functions}
 use Rattle.smt_carrying.specs.Interpretations.{ip_type, is_range_selector}
 use Rattle.smt_carrying.specs.Operators.{selector_name, selector_constructor, selector_place}
-use Rattle.smt_carrying.specs.Sorts.{option_sort, script_sort}
 use Rattle.smt_headline.proofs.SelectionsPlain.{open_selectors, is_plain_head, is_plain, each_plain, plain_append, plain_texts, plain_with_pattern}
 
 -- ---- the selections of terms
@@ -25,13 +25,13 @@ abbrev pub option_entry : Entry
 option_entry = Selects (codes "Option") (codes "X" ∷ []) (codes "some") 0 (name (codes "X"))
 
 abbrev pub option_selection : Tables → PlainType → Selection
-option_selection s type = record { selector = codes "val"; entry = option_entry; sort = option_sort (script_sort s type) }
+option_selection s type = record { selector = codes "val"; entry = option_entry; sort = option_sort (sort_of s type) }
 
 abbrev pub range_entry : Tables → ExtensionOp → Entry
-range_entry s o = Selects (type_name s ip_type) [] (selector_constructor o) (selector_place o) (script_sort s (extension_signature o).1)
+range_entry s o = Selects (type_name s ip_type) [] (selector_constructor o) (selector_place o) (sort_of s (extension_signature o).1)
 
 abbrev pub range_selection : Tables → ExtensionOp → Selection
-range_selection s o = record { selector = selector_name o; entry = range_entry s o; sort = script_sort s ip_type }
+range_selection s o = record { selector = selector_name o; entry = range_entry s o; sort = sort_of s ip_type }
 
 abbrev pub range_selections : Tables → ExtensionOp → Bool → List Selection
 range_selections s o true = range_selection s o ∷ []
@@ -90,19 +90,19 @@ module _ (s : Tables) (counted : AreTypesCounted s) (called : AreFunctionsCounte
   pub type_apart : (t : PlainType) (o : Option (List ℕ)) → name_of_type s t ≡ o → is_in (text_of_name o) open_selectors ≡ false
   type_apart t None e = refl
   type_apart t (Some n) e =
-      let p = each_found (λ t n. (k : ℕ) × (n ≡ stated_type_name t k)) (same_type t) t (λ l q. (same_types t l).0 q) s.types n e counted in
+      let p = each_found (λ t n. (k : ℕ) × (n ≡ stated_type_name t k)) (type_eq t) t (λ l q. (types_decided t l).0 q) s.types n e counted in
       subst (λ m. is_in m open_selectors ≡ false) (sym p.1) (type_is_no_selector t p.0)
 
   attribute_apart : (t : PlainType) (place : ℕ) (o : Option (List ℕ)) → name_of_type s t ≡ o → is_in (attribute_name (text_of_name o) place) open_selectors ≡ false
   attribute_apart t place None e = refl
   attribute_apart t place (Some n) e =
-      let p = each_found (λ t n. (k : ℕ) × (n ≡ stated_type_name t k)) (same_type t) t (λ l q. (same_types t l).0 q) s.types n e counted in
+      let p = each_found (λ t n. (k : ℕ) × (n ≡ stated_type_name t k)) (type_eq t) t (λ l q. (types_decided t l).0 q) s.types n e counted in
       subst (λ m. is_in (attribute_name m place) open_selectors ≡ false) (sym p.1) (attribute_is_no_selector t p.0 place)
 
   function_apart : (f : PlainFunction) (o : Option (List ℕ)) → name_of_function s f ≡ o → is_in (text_of_name o) open_selectors ≡ false
   function_apart f None e = refl
   function_apart f (Some n) e =
-      let p = each_found (λ f n. (k : ℕ) × (n ≡ stated_function_name k)) (same_function f) f (λ l q. (same_functions f l).0 q) s.functions n e called in
+      let p = each_found (λ f n. (k : ℕ) × (n ≡ stated_function_name k)) (function_eq f) f (λ l q. (functions_decided f l).0 q) s.functions n e called in
       subst (λ m. is_in m open_selectors ≡ false) (sym p.1) refl
 
   -- ---- applications without a selector that is left open

@@ -1,13 +1,14 @@
 -- The selectors that the text of conditions leaves open are those of what is reached.
-use Rattle.std.proofs.Common.{◌≡◌, ℕ, Bool, true, false, List, [], ◌∷◌, ◌++◌, refl, sym, subst, inl, inr, Some}
+use Rattle.std.proofs.Common.{◌≡◌, ℕ, Bool, true, false, List, [], ◌∷◌, ◌++◌, refl, sym, subst, Some}
 use Rattle.std.specs.List.{AllByRecursion}
 use Rattle.smt_term.specs.Plain.{PlainType, BoolType, ExtensionOp, PlainOp, ExtOp, OptionGetOp, PlainTerm, Application, PlainTerms}
 use Rattle.smt_term.specs.Reached.{reached_terms}
 use Rattle.smt_term.specs.Types.{Typed}
+use Rattle.smt_term.specs.TypeValues.{Enums}
 use Rattle.smt_semantics.specs.Script.{Entry, Defined, names_of}
 use Rattle.smt_semantics.specs.Sorts.{entries}
 use Rattle.smt_semantics.specs.Value.{Selection, selections, body_of, body_selections}
-use Rattle.smt_lines.specs.Lines.{Enums, Tables}
+use Rattle.smt_lines.specs.Lines.{Tables}
 use Rattle.smt_lines.specs.Scripts.{Stated}
 use Rattle.smt_lines.specs.Text.{names}
 use Rattle.smt_carrying.specs.Interpretations.{is_range_selector}
@@ -20,11 +21,7 @@ use Rattle.smt_headline.proofs.SelectionsOrigins.{DefinitionOrigin}
 use Rattle.smt_headline.proofs.SelectionsParts.{IsSound, all_join}
 use Rattle.smt_headline.proofs.SelectionsRuns.{Names, IsRightly, AreRightly, Within, among, itself, older_within}
 use Rattle.smt_headline.proofs.SelectionsText.{stands_rightly, parts_sound, definition_selects}
-
-of_occurring : (P : PlainTerm → Type 0) (us : List PlainTerm) → AllByRecursion P us → (t : PlainTerm) → Occurs t us → P t
-of_occurring P [] h t r = absurd r
-of_occurring P (u ∷ us) h t (inl e) = subst P e h.0
-of_occurring P (u ∷ us) h t (inr r) = of_occurring P us h.1 t r
+use Rattle.smt_carrying.proofs.Open.{at_term}
 
 module _ (s : Tables) (us : List PlainTerm) where
   abbrev AreOpen : List Selection → Type 0
@@ -52,7 +49,7 @@ module _ (enums : Enums) (ts : List PlainTerm) (x : Stated enums ts) (typed : Al
 
   entry_open : (older : Names) → Within (among older) (entries x.state) → (n : List ℕ) (y : Entry) → IsRightly IsDefined older n y → entries x.state n ≡ Some y → AllOpen (selections (among older) (body_of y))
   entry_open older within n (Defined sort body) r e =
-      let g = of_occurring (IsSound (names enums ts)) (reached_terms ts) (parts_sound enums ts x typed) r.1.term r.1.reached in
+      let g = at_term (IsSound (names enums ts)) (reached_terms ts) r.1.term (parts_sound enums ts x typed) r.1.reached in
       subst AllOpen (sym (definition_selects enums ts x typed older within r.1.term g r.1.defined n r.1.named sort body e r.0)) (term_open (names enums ts) (reached_terms ts) r.1.term r.1.reached)
   entry_open older within n y r e = tt
 

@@ -5,13 +5,13 @@ use Rattle.std.specs.List.{AllByRecursion}
 use Rattle.smt_term.specs.Plain.{PlainType, OptionType, BitVecType, BoolType, EntityType, ExtensionType, StringType, RecordType, SetType, AttributeTypes, no_attributes, attribute, PlainOp, UufOp, PlainLiteral, BitVecLiteral, BoolLiteral, EntityLiteral, ExtensionLiteral, StringLiteral, PlainTerm, Application, NoneTerm, LiteralTerm, RecordTerm, SetTerm, SomeTerm, VariableTerm, PlainTerms, no_terms, one_term, PlainFields, no_fields, one_field, terms}
 use Rattle.smt_term.specs.Reached.{subterms, subterms_of_all, subterms_of_fields, reached_terms}
 use Rattle.smt_term.proofs.Soundness.{all-front, all-back}
+use Rattle.smt_term.specs.TypeValues.{Enums, members_of}
+use Rattle.smt_term.specs.Types.{type_of, literal_type}
 use Rattle.smt_sexpr.specs.Reading.{Expression}
 use Rattle.smt_semantics.specs.Script.{Constructor, State, name, names_of, start, run}
-use Rattle.smt_lines.specs.Line.{Bare, Fielded, Line, Comment, DeclareDatatype, DeclareConst, DeclareFun, DefineFun, Assert, Push, Pop}
-use Rattle.smt_lines.specs.Line as line
-use Rattle.smt_lines.specs.Lines.{Enums, Tables, no_names, option_line, members_of, Written, name_of_term, name_of_type, name_of_function, next_term, unless_named, define_entity, entity_lines, encode_type, encode_attributes, encode_literal, encode_head, Manner, AsItStands, AsLeast, AsFalse, manner, define_application, encode_term, encode_terms, encode_fields, encode}
-use Rattle.smt_lines.specs.Types.{type_of, literal_type}
-use Rattle.smt_lines.specs.Fits.{named_text}
+use Rattle.smt_lines.specs.Line.{Line, Comment, DeclareDatatype, DeclareConst, DeclareFun, DefineFun, Assert, Push, Pop}
+use Rattle.smt_lines.specs.Lines.{option_constructors, Tables, no_names, option_line, Written, name_of_term, name_of_type, name_of_function, next_term, unless_named, define_entity, entity_lines, encode_type, encode_attributes, encode_literal, encode_head, Manner, AsItStands, AsLeast, AsFalse, manner, define_application, encode_term, encode_terms, encode_fields, encode}
+use Rattle.smt_lines.specs.Entries.{named_text}
 use Rattle.smt_lines.specs.Growth.{Keeps}
 use Rattle.smt_lines.specs.Text.{names}
 use Rattle.smt_lines.specs.Command.{commands, all_built}
@@ -255,8 +255,5 @@ definitions_are_reached enums ts state runs =
     let within : AllByRecursion (λ x. Occurs x us) (subterms_of_all (terms ts)) = subst (AllByRecursion (λ x. Occurs x us)) (sym (parts_are ts)) (all_occur us us (λ t h. h)) in
     let ls : List Line = made.lines ++ map Assert made.made in
     let own : EachLine (OriginOf enums us u) ls = lines_append (OriginOf enums us u) made.lines (map Assert made.made) (each enums us (terms ts) within no_names) (asserts enums us u made.made) in
-    let option : AreInside (codes "X" ∷ []) (all_built option_built) = (tt, ((refl, tt), tt)) in
+    let option : AreInside (codes "X" ∷ []) (all_built option_constructors) = (tt, ((refl, tt), tt)) in
     run_stands D (commands (option_line ∷ ls)) (option, defining enums us u ls own) start state tt runs
-  where
-    option_built : List line.Constructor
-    option_built = Bare (codes "none") ∷ Fielded (codes "some") ((codes "val", name (codes "X")) ∷ []) ∷ []

@@ -7,9 +7,10 @@ use Rattle.std.proofs.lemmas.Bool.{false≢true}
 use Rattle.smt_term.specs.Plain.{PlainTerm, Application, NoneTerm, LiteralTerm, RecordTerm, SetTerm, SomeTerm, VariableTerm, PlainTerms, no_terms, one_term, PlainFields, no_fields, one_field}
 use Rattle.smt_term.specs.Reached.{subterms, subterms_of_all, subterms_of_fields, reached_terms}
 use Rattle.smt_term.specs.Types.{type_eq, types_of, result_type, is_type, typed, typed_all, typed_fields}
+use Rattle.smt_term.specs.TypeValues.{Enums}
 use Rattle.smt_semantics.specs.Script.{State}
-use Rattle.smt_lines.specs.Lines.{Enums, Tables, name_of_term}
-use Rattle.smt_lines.specs.Fits.{HaveTexts, HaveFieldTexts, named_text, text_of}
+use Rattle.smt_lines.specs.Lines.{Tables, name_of_term}
+use Rattle.smt_lines.specs.Entries.{HaveTexts, HaveFieldTexts, named_text, text_of}
 use Rattle.smt_lines.specs.Fit.{Fit, PartsStand}
 use Rattle.smt_lines.proofs.Declared.{terms_are_declared}
 

@@ -1,18 +1,18 @@
 -- Expressions without a head that may be left open apply no selector that is.
 use Rattle.std.proofs.Common.{◌≡◌, ℕ, Bool, true, false, not, ◌&&◌, cond, List, [], ◌∷◌, ◌++◌, refl, sym, ap, ap₂, ◌∙◌, Option, Some, None}
 use Rattle.std.specs.Prelude.{codes, bytes_eq, take, drop, pos, negsuc, ℤ, map}
-use Rattle.std.proofs.lemmas.Bool.{and_parts, and_from, false≢true}
+use Rattle.std.proofs.lemmas.Bool.{and_parts, and_from, false≢true, or_parts}
 use Rattle.smt_term.specs.Plain.{PlainType, OptionType, BitVecType, BoolType, EntityType, ExtensionType, StringType, RecordType, SetType, PatternPart, Character, Wildcard, PlainExtension, DecimalOf, Ipv4Of, Ipv6Of, DatetimeOf, DurationOf, BitVecLiteral, BoolLiteral, EntityLiteral, ExtensionLiteral, StringLiteral, PlainTerm, Application, NoneTerm, LiteralTerm, RecordTerm, SetTerm, SomeTerm, VariableTerm, PlainTerms, no_terms, one_term, PlainFields, no_fields, one_field}
 use Rattle.smt_sexpr.specs.Lexicon.{Bits, Number, Text, Name, is_digit, some_all, number_in}
 use Rattle.smt_sexpr.specs.Reading.{Expression, Leaf, Node, Expressions, Nil, Cons}
 use Rattle.smt_semantics.specs.Script.{Entry, Constant, Function, Defined, Builds, Selects, BitLiteral, Applied, Extended, Tested, Unformed, name, group, exprs, is_in, bit_literal, qualified, matched_by, matched, indexed, shape, pattern}
 use Rattle.smt_semantics.specs.Sorts.{Entries}
 use Rattle.smt_semantics.specs.Value.{Selection, range_selectors, selection_if, selection, shape_selection, first_sort, selections, each_selections}
-use Rattle.smt_lines.specs.Lines as lines
-use Rattle.smt_lines.specs.Lines.{Tables, name_of_term, bits, bits_64, prefix_body, extension_body, pattern_body, with_pattern, none_body, empty_set, set_body, record_body}
+use Rattle.smt_semantics.specs.Quoting.{part_expr, pattern_expr}
+use Rattle.smt_lines.specs.Lines.{Tables, name_of_term, bits, bits_64, prefix_body, extension_body, with_pattern, none_body, empty_set, set_body, record_body}
 use Rattle.smt_lines.specs.Naming.{sort_of}
-use Rattle.smt_lines.specs.Fits.{given, named_text, text_of, texts_of, texts_of_fields}
-use Rattle.smt_headline.proofs.SelectionsRuns.{IsInside, or_parts}
+use Rattle.smt_lines.specs.Entries.{given, named_text, text_of, texts_of, texts_of_fields}
+use Rattle.smt_headline.proofs.SelectionsRuns.{IsInside}
 
 -- the selectors that may be left open
 abbrev pub open_selectors : List (List ℕ)
@@ -174,25 +174,25 @@ plain_fields s (one_field a t x) = and_from (is_plain (given (text_of s t))) (ea
 
 -- ---- patterns
 
-plain_part : (p : PatternPart) → is_plain (lines.pattern_part p) ≡ true
+plain_part : (p : PatternPart) → is_plain (part_expr p) ≡ true
 plain_part (Character c) = refl
 plain_part Wildcard = refl
 
-plain_parts : (ps : List PatternPart) → each_plain (exprs (map lines.pattern_part ps)) ≡ true
+plain_parts : (ps : List PatternPart) → each_plain (exprs (map part_expr ps)) ≡ true
 plain_parts [] = refl
-plain_parts (p ∷ ps) = and_from (is_plain (lines.pattern_part p)) (each_plain (exprs (map lines.pattern_part ps))) (plain_part p) (plain_parts ps)
+plain_parts (p ∷ ps) = and_from (is_plain (part_expr p)) (each_plain (exprs (map part_expr ps))) (plain_part p) (plain_parts ps)
 
-plain_pattern : (ps : List PatternPart) → is_plain (pattern_body ps) ≡ true
+plain_pattern : (ps : List PatternPart) → is_plain (pattern_expr ps) ≡ true
 plain_pattern [] = refl
 plain_pattern (p ∷ []) = plain_part p
 plain_pattern (p ∷ q ∷ ps) =
-    and_from (is_plain (lines.pattern_part p)) _ (plain_part p) (and_from (is_plain (lines.pattern_part q)) (each_plain (exprs (map lines.pattern_part ps))) (plain_part q) (plain_parts ps))
+    and_from (is_plain (part_expr p)) _ (plain_part p) (and_from (is_plain (part_expr q)) (each_plain (exprs (map part_expr ps))) (plain_part q) (plain_parts ps))
 
 pub plain_with_pattern : (p : List PatternPart) (es : List Expression) → each_plain (exprs es) ≡ true → each_plain (exprs (with_pattern p es)) ≡ true
-plain_with_pattern p [] h = plain_two (name []) (pattern_body p) refl (plain_pattern p)
+plain_with_pattern p [] h = plain_two (name []) (pattern_expr p) refl (plain_pattern p)
 plain_with_pattern p (e ∷ es) h =
     let q = and_parts (is_plain e) (each_plain (exprs es)) h in
-    and_from (is_plain e) (each_plain (exprs (es ++ pattern_body p ∷ []))) q.0 (plain_append es (pattern_body p ∷ []) q.1 (plain_alone (pattern_body p) (plain_pattern p)))
+    and_from (is_plain e) (each_plain (exprs (es ++ pattern_expr p ∷ []))) q.0 (plain_append es (pattern_expr p ∷ []) q.1 (plain_alone (pattern_expr p) (plain_pattern p)))
 
 -- ---- literals
 

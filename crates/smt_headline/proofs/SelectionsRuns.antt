@@ -1,12 +1,13 @@
 -- What a script declares has names of its own, and a body knows what was declared before it.
-use Rattle.std.proofs.Common.{◌≡◌, ℕ, suc, Bool, true, false, ◌&&◌, ◌||◌, eqb, cond, List, [], ◌∷◌, map, length, refl, sym, ap, ◌∙◌, subst, inl, inr, Option, Some, None}
+use Rattle.std.proofs.Common.{◌≡◌, ℕ, suc, Bool, true, false, ◌&&◌, ◌||◌, eqb, cond, List, [], ◌∷◌, map, length, refl, sym, ap, ◌∙◌, subst, inl, inr, Some}
 use Rattle.std.specs.Prelude.{bytes_eq, codes, unwrap_or}
 use Rattle.std.specs.List.{AllByRecursion, list_any}
-use Rattle.std.proofs.lemmas.Bool.{and_parts, cases_Bool, cond-true, cond-false, false≢true}
+use Rattle.std.proofs.lemmas.Bool.{and_parts, cases_Bool, cond-true, cond-false, false≢true, or_parts}
 use Rattle.std.proofs.lemmas.Slice.Eq.{bytes_eq-Decides}
 use Rattle.smt_sexpr.specs.Reading.{Expression}
 use Rattle.smt_semantics.specs.Script.{Command, DeclareDatatype, DeclareConst, DefineFun, Assert, DeclareFun, Reset, Exit, Push, Pop, Constructor, Entry, Constant, Function, Defined, Builds, Selects, State, is_in, is_taken, is_taken_sort, is_reserved, is_sort, has_sort, has_name, is_stated, built_in_names, look_up, names_of, declare, declare_selectors, declare_constructors, with_name, with_sort, with_assertion, obey, step, run, knows, ◌>>=◌}
 use Rattle.smt_semantics.specs.Sorts.{Entries}
+use Rattle.smt_semantics.proofs.Results.{some_is, if_not, if_so, bind_gives}
 
 abbrev pub Names : Type 0
 Names = List (List ℕ × Entry)
@@ -26,25 +27,6 @@ IsInside (p ∷ ps) n = n ≡ codes "val"
 
 abbrev pub AreInside : List (List ℕ) → List Constructor → Type 0
 AreInside ps cs = AllByRecursion (λ c. AllByRecursion (λ x. IsInside ps x.0) c.selectors) cs
-
-pub or_parts : (a b : Bool) → (a || b) ≡ false → (a ≡ false) × (b ≡ false)
-or_parts true b h = absurd (false≢true (sym h))
-or_parts false b h = (refl, h)
-
-bind_gives : (o : Option State) (f : State → Option State) (u : State) → (o >>= f) ≡ Some u → (t : State) × (o ≡ Some t) × (f t ≡ Some u)
-bind_gives (Some t) f u h = (t, refl, h)
-bind_gives None f u h = absurd cc
-
-some_is : (s t : State) → Some s ≡ Some t → s ≡ t
-some_is s t h = cc
-
-if_so : (b : Bool) (o : Option State) (t : State) → cond b o None ≡ Some t → (b ≡ true) × (o ≡ Some t)
-if_so true o t h = (refl, h)
-if_so false o t h = absurd cc
-
-if_not : (b : Bool) (o : Option State) (t : State) → cond b None o ≡ Some t → (b ≡ false) × (o ≡ Some t)
-if_not true o t h = absurd cc
-if_not false o t h = (refl, h)
 
 -- D is a property of names that have a body
 module _ (D : List ℕ → Type 0) where

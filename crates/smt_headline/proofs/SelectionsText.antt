@@ -5,12 +5,13 @@ use Rattle.std.specs.List.{AllByRecursion}
 use Rattle.smt_term.specs.Plain.{PlainType, BoolType, PlainFunction, PlainTerm, terms}
 use Rattle.smt_term.specs.Reached.{reached_terms}
 use Rattle.smt_term.specs.Types.{Typed}
+use Rattle.smt_term.specs.TypeValues.{Enums}
 use Rattle.smt_sexpr.specs.Reading.{Expression}
 use Rattle.smt_semantics.specs.Script.{Entry, Defined, is_in, built_in_names, names_of}
 use Rattle.smt_semantics.specs.Sorts.{entries}
 use Rattle.smt_semantics.specs.Value.{selections}
-use Rattle.smt_lines.specs.Lines.{Enums, Tables, no_names, name_of_term, encode_terms}
-use Rattle.smt_lines.specs.Fits.{EachEntry, AreNumbered, stated_type_name, stated_function_name}
+use Rattle.smt_lines.specs.Lines.{Tables, no_names, name_of_term, encode_terms}
+use Rattle.smt_lines.specs.Entries.{EachEntry, AreNumbered, stated_type_name, stated_function_name}
 use Rattle.smt_lines.specs.Scripts.{Stated}
 use Rattle.smt_lines.specs.Text.{names}
 use Rattle.smt_lines.proofs.Grow.{terms_grow}

@@ -1,58 +1,36 @@
 -- Datatypes of a state that fits the tables.
-use Rattle.std.proofs.Common.{◌≡◌, ℕ, zero, suc, ◌+◌, ◌≤◌, true, false, List, [], ◌∷◌, map, refl, sym, ap, ◌∙◌, subst, inl, inr, Option, Some, None, arith}
-use Rattle.std.specs.Prelude.{codes, bytes_eq, IsSome, nat_le, unwrap_or}
+use Rattle.std.proofs.Common.{◌≡◌, ℕ, suc, ◌+◌, ◌≤◌, true, false, List, [], ◌∷◌, map, refl, sym, ap, ◌∙◌, subst, inl, inr, Option, Some, None, arith}
+use Rattle.std.specs.Prelude.{codes, bytes_eq, IsSome, nat_le}
 use Rattle.std.proofs.lemmas.Bool.{and_parts, cases_Bool, false≢true, leb-true}
 use Rattle.std.proofs.lemmas.Slice.Eq.{bytes_eq-Decides}
-use Rattle.smt_term.specs.Plain.{ExtensionKind, IpAddrKind, DecimalKind, DatetimeKind, DurationKind, PlainType, OptionType, BitVecType, BoolType, EntityType, ExtensionType, StringType, RecordType, SetType, AttributeTypes, no_attributes, attribute}
+use Rattle.smt_term.specs.Plain.{PlainType, OptionType, BitVecType, BoolType, EntityType, ExtensionType, StringType, RecordType, SetType, AttributeTypes, no_attributes, attribute}
+use Rattle.smt_term.specs.TypeValues.{Enums, members_of}
 use Rattle.smt_sexpr.specs.Reading.{Expression}
-use Rattle.smt_semantics.specs.Script.{Constructor, Builds, State, name}
+use Rattle.smt_semantics.specs.Script.{Constructor, Builds, State}
 use Rattle.smt_semantics.specs.Sorts.{Entries, entries}
-use Rattle.smt_semantics.specs.Growth.{Declares}
-use Rattle.smt_semantics.specs.Arithmetic.{is_width}
+use Rattle.smt_semantics.specs.Growth.{Declares, Constructors, shown}
+use Rattle.smt_bits.specs.Widths.{is_width}
 use Rattle.smt_lines.specs.Line as line
 use Rattle.smt_lines.specs.Line.{Line, Bare, Fielded, DeclareDatatype}
 use Rattle.smt_lines.specs.Lines as lines
-use Rattle.smt_lines.specs.Lines.{Enums, Tables, members_of, name_of_type, member_name, attribute_selectors, entity_lines}
-use Rattle.smt_lines.specs.Fits.{HasSort, HaveSorts, sorts_of}
+use Rattle.smt_lines.specs.Lines.{Tables, name_of_type, member_name, attribute_selectors, entity_lines}
+use Rattle.smt_lines.specs.Entries.{HasSort, HaveSorts, sorts_of}
 use Rattle.smt_lines.specs.Naming.{type_name}
 use Rattle.smt_lines.specs.Command.{all_built}
 use Rattle.smt_lines.specs.Fine.{IsFineType, AreFineTypes}
-use Rattle.smt_lines.specs.Fit.{Fit, EachLine, LineStands, BuildsOnly, constructor_at, declares_sort, is_old_sort_in}
+use Rattle.smt_lines.specs.Fit.{Fit, EachLine, LineStands, BuildsOnly, declares_sort, is_old_sort_in}
 use Rattle.smt_lines.proofs.Datatype.{undeclared}
 use Rattle.smt_lines.proofs.Declared.{types_are_declared}
-use Rattle.smt_carrying.specs.Sorts.{Constructors, field_sorts, member_constructors, entity_constructors, kind_constructors, at_place, IsDatatype, IsNoDatatype, IsNamed, IsDeclared, AreDeclared}
-use Rattle.smt_carrying.specs.Standing.{shown}
-use Rattle.smt_carrying.proofs.Standing.{sorts_agree}
+use Rattle.smt_carrying.specs.Sorts.{entity_constructors, kind_constructors, IsDatatype, IsNoDatatype, IsNamed, IsDeclared, AreDeclared}
 use Rattle.smt_headline.specs.Standing.{AlwaysStands, TypesStand}
+use Rattle.smt_carrying.proofs.Standing.{declared_at}
 
 -- ---- a datatype that is declared
-
-at_shown : (cs : List Constructor) (place : ℕ) → at_place (shown cs) place ≡ constructor_at cs place
-at_shown [] place = refl
-at_shown (c ∷ cs) zero = refl
-at_shown (c ∷ cs) (suc place) = at_shown cs place
-
-declared_at : (here : Entries) (d : List ℕ) (ps : List (List ℕ)) (from : ℕ) (cs : List Constructor) → Declares here d ps from cs → (place : ℕ) (c : List ℕ) (fields : List Expression) → at_place (shown cs) place ≡ Some (c, fields) → here c ≡ Some (Builds d ps (from + place) fields)
-declared_at here d ps from [] h place c fields e = absurd cc
-declared_at here d ps from (x ∷ cs) h zero c fields e =
-    let q : (x.name ≡ c) × (map (λ y. y.1) x.selectors ≡ fields) = both e in
-    subst (λ n. here n ≡ Some (Builds d ps (from + zero) fields)) q.0 (h.0 ∙ (λ i. Some (Builds d ps (z i) (q.1 i))))
-  where
-    z : from ≡ from + zero
-    z = omega arith
-
-    both : ◌≡◌ {A = Option (List ℕ × List Expression)} (Some (x.name, map (λ y. y.1) x.selectors)) (Some (c, fields)) → (x.name ≡ c) × (map (λ y. y.1) x.selectors ≡ fields)
-    both f =
-        let a : List ℕ × List Expression = (x.name, map (λ y. y.1) x.selectors) in let b : List ℕ × List Expression = (c, fields) in
-        let p : a ≡ b = ap (λ (o : Option (List ℕ × List Expression)). unwrap_or o a) f in
-        (ap (λ (r : List ℕ × List Expression). r.0) p, ap (λ (r : List ℕ × List Expression). r.1) p)
-declared_at here d ps from (x ∷ cs) h (suc place) c fields e =
-    declared_at here d ps (suc from) cs h.2 place c fields e ∙ ap (λ k. Some (Builds d ps k fields)) (let z : suc from + place ≡ from + suc place = omega arith in z)
 
 datatype_from : (here : Entries) (d : List ℕ) (ps : List (List ℕ)) (cs : List Constructor) → Declares here d ps 0 cs → BuildsOnly here d ps cs → IsDatatype here d ps (shown cs)
 datatype_from here d ps cs h k = record {
   builds = λ place c fields e. declared_at here d ps 0 cs h place c fields e ∙ ap (λ n. Some (Builds d ps n fields)) (let z : 0 + place ≡ place = omega arith in z);
-  only = λ place c fields qs e. let r = k place c fields qs e in (r.0, at_shown cs place ∙ r.1);
+  only = k;
 }
 
 -- ---- what stands always
@@ -60,12 +38,9 @@ datatype_from here d ps cs h k = record {
 no_datatype : (enums : Enums) (s : Tables) (state : State) → Fit enums s state → (d : List ℕ) → is_old_sort_in s d ≡ false → IsNoDatatype (entries state) d
 no_datatype enums s state fit d new c qs place fields e = false≢true (sym (undeclared enums s state fit d new) ∙ fit.rooted d c qs place fields e)
 
-abbrev option_built : List line.Constructor
-option_built = Bare (codes "none") ∷ Fielded (codes "some") ((codes "val", name (codes "X")) ∷ []) ∷ []
-
 pub always_stands : AlwaysStands
 always_stands enums s state fit = record {
-  options = datatype_from (entries state) (codes "Option") (codes "X" ∷ []) (all_built option_built) fit.option_stands.1 fit.option_stands.3;
+  options = datatype_from (entries state) (codes "Option") (codes "X" ∷ []) (all_built lines.option_constructors) fit.option_stands.1 fit.option_stands.3;
   bits = no_datatype enums s state fit (codes "_") refl;
   truths = no_datatype enums s state fit (codes "Bool") refl;
   texts = no_datatype enums s state fit (codes "String") refl;
@@ -88,27 +63,13 @@ module _ (enums : Enums) (s : Tables) (state : State) (fit : Fit enums s state) 
     datatype = subst (λ k. IsDatatype (entries state) n [] k) e (datatype_from (entries state) n [] (all_built cs) h.1 h.3);
   }
 
-  members_shown : (n : List ℕ) (place : ℕ) (ms : List (List ℕ)) → shown (all_built (lines.member_constructors n place ms)) ≡ member_constructors n place ms
-  members_shown n place [] = refl
-  members_shown n place (m ∷ ms) = ap (λ (cs : Constructors). (member_name n place, []) ∷ cs) (members_shown n (suc place) ms)
-
-  kinds_shown : (kind : ExtensionKind) → shown (all_built (lines.kind_constructors kind)) ≡ kind_constructors kind
-  kinds_shown IpAddrKind = refl
-  kinds_shown DecimalKind = refl
-  kinds_shown DatetimeKind = refl
-  kinds_shown DurationKind = refl
-
   pub selectors_shown : (n : List ℕ) (place : ℕ) (sorts : List Expression) → map (λ x. x.1) (attribute_selectors n place sorts) ≡ sorts
   selectors_shown n place [] = refl
   selectors_shown n place (e ∷ es) = ap (λ (l : List Expression). e ∷ l) (selectors_shown n (suc place) es)
 
-  fields_agree : (x : AttributeTypes) → sorts_of s x ≡ field_sorts s x
-  fields_agree no_attributes = refl
-  fields_agree (attribute a t x) = let p = sorts_agree s t in let q = fields_agree x in λ i. p i ∷ q i
-
   entity_stands : (o : Option (List (List ℕ))) (type n : List ℕ) → EachLine (LineStands state) (entity_lines o type n) → IsNamed (entries state) n (entity_constructors o n)
-  entity_stands None type n h = named n (Fielded n ((lines.id_name n, name (codes "String")) ∷ []) ∷ []) (entity_constructors None n) h.1.0 refl
-  entity_stands (Some ms) type n h = named n (lines.member_constructors n 0 ms) (entity_constructors (Some ms) n) h.1.0 (members_shown n 0 ms)
+  entity_stands None type n h = named n (lines.entity_constructors None n) (entity_constructors None n) h.1.0 refl
+  entity_stands (Some ms) type n h = named n (lines.member_constructors n 0 ms) (entity_constructors (Some ms) n) h.1.0 refl
 
   pub there : (t : PlainType) (o : Option (List ℕ)) → name_of_type s t ≡ o → IsSome o → name_of_type s t ≡ Some (type_name s t)
   there t (Some n) e h = e ∙ ap (λ (p : Option (List ℕ)). Some (lines.text_of_name p)) (sym e)
@@ -127,14 +88,14 @@ module _ (enums : Enums) (s : Tables) (state : State) (fit : Fit enums s state) 
         entity_stands (members_of enums type) type (type_name s (EntityType type)) (types_are_declared enums s state (EntityType type) (type_name s (EntityType type)) fit e).0
     type_stands (ExtensionType kind) f h =
         let e = there (ExtensionType kind) (name_of_type s (ExtensionType kind)) refl h in
-        named (type_name s (ExtensionType kind)) (lines.kind_constructors kind) (kind_constructors kind) (types_are_declared enums s state (ExtensionType kind) (type_name s (ExtensionType kind)) fit e).0.0 (kinds_shown kind)
+        named (type_name s (ExtensionType kind)) (lines.kind_constructors kind) (kind_constructors kind) (types_are_declared enums s state (ExtensionType kind) (type_name s (ExtensionType kind)) fit e).0.0 refl
     type_stands StringType f h = tt
     type_stands (RecordType x) f h =
         let n = type_name s (RecordType x) in
         let e = there (RecordType x) (name_of_type s (RecordType x)) refl h in
         let p = types_are_declared enums s state (RecordType x) n fit e in
-        let q = selectors_shown n 0 (sorts_of s x) ∙ fields_agree x in
-        (named n (Fielded n (attribute_selectors n 0 (sorts_of s x)) ∷ []) ((n, field_sorts s x) ∷ []) p.0.1.0 (λ i. (n, q i) ∷ []), types_stand_in x f p.1)
+        let q = selectors_shown n 0 (sorts_of s x) in
+        (named n (Fielded n (attribute_selectors n 0 (sorts_of s x)) ∷ []) ((n, sorts_of s x) ∷ []) p.0.1.0 (λ i. (n, q i) ∷ []), types_stand_in x f p.1)
     type_stands (SetType t) f h = type_stands t f h
 
     pub types_stand_in : (x : AttributeTypes) → AreFineTypes x → HaveSorts s x → AreDeclared enums s (entries state) x

@@ -7,24 +7,24 @@ use Rattle.smt_term.specs.Meaning.{meaning, meanings}
 use Rattle.smt_term.specs.Tables.{Interpretation}
 use Rattle.smt_term.specs.Types.{type_of, types_of}
 use Rattle.smt_term.specs.Values.{Value}
+use Rattle.smt_term.specs.TypeValues.{Enums}
+use Rattle.smt_term.specs.TermOrder.{term_eq}
+use Rattle.smt_term.proofs.TermTotal.{terms_decided}
 use Rattle.smt_semantics.specs.ScriptValues.{ScriptValue, BitsOf}
 use Rattle.smt_sexpr.specs.Reading.{Expression}
-use Rattle.smt_semantics.specs.Arithmetic.{are_bits, is_width}
+use Rattle.smt_bits.specs.Widths.{are_bits, is_width}
 use Rattle.smt_semantics.specs.Script.{State, Defined, name, ◌>>=◌}
 use Rattle.smt_semantics.specs.Sorts as sorts
 use Rattle.smt_semantics.specs.Sorts.{entries}
 use Rattle.smt_semantics.specs.Value.{ScriptInterpretation, expression_value}
 use Rattle.smt_semantics.specs.Meanings.{argument_values}
-use Rattle.smt_lines.specs.Lines.{Enums, Tables, name_of_term, bits, Manner, AsItStands, AsLeast, AsFalse, manner}
-use Rattle.smt_lines.specs.Types as lines
+use Rattle.smt_lines.specs.Lines.{Tables, name_of_term, bits, Manner, AsItStands, AsLeast, AsFalse, manner}
 use Rattle.smt_lines.specs.Naming.{IsOneToOne, sort_of}
-use Rattle.smt_lines.specs.Same.{same_term}
-use Rattle.smt_lines.specs.Fits.{EachEntry, named_text, text_of, given, texts_of, application_lines}
+use Rattle.smt_lines.specs.Entries.{EachEntry, named_text, text_of, given, texts_of, application_lines}
 use Rattle.smt_lines.specs.Fit.{Fit, EachLine, LineStands}
 use Rattle.smt_lines.proofs.Basic.{numeral_digits, numeral_number}
 use Rattle.smt_lines.proofs.Declared.{terms_are_declared}
 use Rattle.smt_lines.proofs.Known.{each_found}
-use Rattle.smt_lines.proofs.Sound.{same_terms_are_one}
 use Rattle.smt_carrying.specs.Carry.{carry}
 use Rattle.smt_carrying.specs.Interpretations.{carry_interpretation}
 use Rattle.smt_carrying.specs.Operators.{carry_each}
@@ -78,7 +78,7 @@ module _ (enums : Enums) (s : Tables) (state : State) (I : Interpretation) (x : 
   from_body n sort body o h k = (x.last.bodies n sort body h).1 ∙ k
 
   pub name_good : (t : PlainTerm) (n : List ℕ) → name_of_term s t ≡ Some n → NameGood enums s t n
-  name_good t n h = each_found (NameGood enums s) (same_term t) t (λ l q. (same_terms_are_one t l).0 q) s.terms n h x.named
+  name_good t n h = each_found (NameGood enums s) (term_eq t) t (λ l q. (terms_decided t l).0 q) s.terms n h x.named
 
   -- an entry's text is its name
   pub by_name : (P : Expression → Type 0) (t : PlainTerm) (o : Option (List ℕ)) → name_of_term s t ≡ o → IsSome (named_text o) → ((n : List ℕ) → name_of_term s t ≡ Some n → P (name n)) → P (given (named_text o))
@@ -91,14 +91,14 @@ module _ (enums : Enums) (s : Tables) (state : State) (I : Interpretation) (x : 
   application_sorted AsFalse op ts type n k h = absurd (k refl)
 
   -- The text of a term of such a type has the type's sort.
-  pub text_sorted : (t : PlainTerm) → IsEntered (lines.type_of t) → IsSome (text_of s t) → sorts.sort_of state (given (text_of s t)) ≡ Some (sort_of s (lines.type_of t))
+  pub text_sorted : (t : PlainTerm) → IsEntered (type_of t) → IsSome (text_of s t) → sorts.sort_of state (given (text_of s t)) ≡ Some (sort_of s (type_of t))
   text_sorted (LiteralTerm (BitVecLiteral w n)) k h = absurd k
   text_sorted (LiteralTerm (BoolLiteral b)) k h = absurd k
   text_sorted (LiteralTerm (StringLiteral y)) k h = absurd k
   text_sorted (LiteralTerm (EntityLiteral type id)) k h = absurd k
   text_sorted (LiteralTerm (ExtensionLiteral y)) k h =
       let t = LiteralTerm (ExtensionLiteral y) in
-      by_name (λ e. sorts.sort_of state e ≡ Some (sort_of s (lines.type_of t))) t _ refl h (λ n q. (x.last.bodies n _ _ (terms_are_declared enums s state t n x.fit q).0.0).2)
+      by_name (λ e. sorts.sort_of state e ≡ Some (sort_of s (type_of t))) t _ refl h (λ n q. (x.last.bodies n _ _ (terms_are_declared enums s state t n x.fit q).0.0).2)
   text_sorted (Application op ts type) k h =
       let t = Application op ts type in
       by_name (λ e. sorts.sort_of state e ≡ Some (sort_of s type)) t _ refl h (λ n q. application_sorted (manner op ts type) op ts type n (name_good t n q) (terms_are_declared enums s state t n x.fit q).0)
@@ -107,6 +107,6 @@ module _ (enums : Enums) (s : Tables) (state : State) (I : Interpretation) (x : 
   text_sorted (RecordTerm fs) k h = absurd k
   text_sorted (SetTerm element ts) k h = absurd k
   text_sorted (SomeTerm u) k h =
-      by_name (λ e. sorts.sort_of state e ≡ Some (sort_of s (lines.type_of (SomeTerm u)))) (SomeTerm u) _ refl h (λ n q. (x.last.bodies n _ _ (terms_are_declared enums s state (SomeTerm u) n x.fit q).0.0).2)
+      by_name (λ e. sorts.sort_of state e ≡ Some (sort_of s (type_of (SomeTerm u)))) (SomeTerm u) _ refl h (λ n q. (x.last.bodies n _ _ (terms_are_declared enums s state (SomeTerm u) n x.fit q).0.0).2)
   text_sorted (VariableTerm id type) k h =
       by_name (λ e. sorts.sort_of state e ≡ Some (sort_of s type)) (VariableTerm id type) _ refl h (λ n q. (x.last.constants n _ (terms_are_declared enums s state (VariableTerm id type) n x.fit q).0.1.0).1)

@@ -1,48 +1,25 @@
 -- What is typed and formed and has no fault is fine.
-use Rattle.std.specs.Prelude.{◌≡◌, ℕ, nat_lt, bytes_eq, length, get_or, List, [], ◌∷◌, None, IsTrue}
+use Rattle.std.specs.Prelude.{◌≡◌, ℕ, nat_lt, bytes_eq, length, List, [], ◌∷◌, None, IsTrue}
 use Rattle.std.specs.List.{AllByRecursion, list_any}
 use Rattle.std.specs.Option.{is_some}
-use Rattle.smt_term.specs.Plain.{PlainType, BoolType, AttributeTypes, PlainTerm, PlainTerms, PlainFields, terms}
+use Rattle.smt_term.specs.Plain.{PlainType, BoolType, AttributeTypes, PlainTerm, terms}
 use Rattle.smt_term.specs.Faults.{first_fault}
-use Rattle.smt_term.specs.Formed as formed
-use Rattle.smt_term.specs.Formed.{IsFormedType, IsFormed}
-use Rattle.smt_term.specs.Types as typing
-use Rattle.smt_term.specs.Types.{field_types, types_of, attribute_in, typed, Typed}
-use Rattle.smt_term.specs.TypeValues as values
-use Rattle.smt_term.specs.ValueOrder.{text_eq}
-use Rattle.smt_lines.specs.Lines.{Enums, members_of, place_of, Call, PushCall, PopCall, EncodeCall, Encoding, fresh, after_call}
+use Rattle.smt_term.specs.Formed.{IsFormedType, IsFormed, attribute_names}
+use Rattle.smt_term.specs.Types.{attribute_in, typed, Typed}
+use Rattle.smt_term.specs.TypeValues.{Enums}
+use Rattle.smt_lines.specs.Lines.{place_of, Call, PushCall, PopCall, EncodeCall, Encoding, fresh, after_call}
 use Rattle.smt_lines.specs.Rows.{condition}
-use Rattle.smt_lines.specs.Types.{type_of, types_of_fields, first_type, attribute_names}
 use Rattle.smt_lines.specs.Calls.{HasBelow}
 use Rattle.smt_lines.specs.Fine.{IsFineType, IsFine, AreFine}
 use Rattle.smt_lines.specs.Scripts.{Stated, StatedCalls}
 
--- ---- lines know the types that terms are typed by
-
-abbrev pub TypesAgree : Type 0
-TypesAgree = (t : PlainTerm) → type_of t ≡ typing.type_of t
-
-abbrev pub FieldTypesAgree : Type 0
-FieldTypesAgree = (fs : PlainFields) → types_of_fields fs ≡ field_types fs
-
-abbrev pub FirstTypesAgree : Type 0
-FirstTypesAgree = (ts : PlainTerms) → first_type ts ≡ get_or (types_of ts) 0 BoolType
-
-abbrev pub AttributeNamesAgree : Type 0
-AttributeNamesAgree = (x : AttributeTypes) → attribute_names x ≡ formed.attribute_names x
-
--- ---- and they look up alike
-
-abbrev pub TextTestsAgree : Type 0
-TextTestsAgree = (s t : List ℕ) → bytes_eq s t ≡ text_eq s t
-
-abbrev pub MembersAgree : Type 0
-MembersAgree = (enums : Enums) (e : List ℕ) → members_of enums e ≡ values.members_of enums e
+-- ---- look-ups
 
 -- a place is one in the list where some text is the same
 abbrev pub PlacesAreFound : Type 0
-PlacesAreFound = (i : List ℕ) (ms : List (List ℕ)) → nat_lt (place_of i ms) (length ms) ≡ list_any (text_eq i) ms
+PlacesAreFound = (i : List ℕ) (ms : List (List ℕ)) → nat_lt (place_of i ms) (length ms) ≡ list_any (bytes_eq i) ms
 
+-- the same among the attributes of a record type
 abbrev pub AttributesAreFound : Type 0
 AttributesAreFound = (a : List ℕ) (x : AttributeTypes) → nat_lt (place_of a (attribute_names x)) (length (attribute_names x)) ≡ is_some (attribute_in a x)
 

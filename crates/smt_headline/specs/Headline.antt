@@ -9,13 +9,14 @@ use Rattle.smt_term.specs.Operators.{truth}
 use Rattle.smt_term.specs.Reached.{reached_variables, reached_functions}
 use Rattle.smt_term.specs.Tables.{Interpretation}
 use Rattle.smt_term.specs.Values.{BoolValue}
+use Rattle.smt_term.specs.TypeValues.{Enums}
 use Rattle.smt_sexpr.specs.Reading.{Expression}
 use Rattle.smt_semantics.specs.Script.{State, is_in, assertions_of}
 use Rattle.smt_semantics.specs.ScriptValues.{TruthOf}
 use Rattle.smt_semantics.specs.Value.{ScriptInterpretation, IsScriptInterpretation, AgreeFor, IsModel, expression_value, free_names}
 use Rattle.smt_semantics.specs.Written.{Stands}
-use Rattle.smt_lines.specs.Fits.{text_of}
-use Rattle.smt_lines.specs.Lines.{Enums, Tables}
+use Rattle.smt_lines.specs.Entries.{text_of}
+use Rattle.smt_lines.specs.Lines.{Tables}
 use Rattle.smt_lines.specs.Naming.{IsOneToOne}
 use Rattle.smt_lines.specs.Text.{text, names}
 use Rattle.smt_carrying.specs.Interpretations.{carry_interpretation, back_interpretation, variable_name, function_name}

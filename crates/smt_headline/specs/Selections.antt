@@ -2,19 +2,19 @@
 -- leaves open so are those that the conditions leave to theirs.
 use Rattle.std.specs.Prelude.{◌≡◌, ℕ, codes, map, List, [], ◌∷◌, unwrap_or}
 use Rattle.smt_term.specs.Plain.{OptionType, BoolType, OptionGetOp, PlainTerm, VariableTerm}
+use Rattle.smt_term.specs.TypeValues.{Enums}
 use Rattle.smt_sexpr.specs.Reading.{Expression}
 use Rattle.smt_semantics.specs.Script.{name, start, run}
-use Rattle.smt_semantics.specs.Sorts.{entries, bool_sort}
+use Rattle.smt_semantics.specs.Sorts.{entries, bool_sort, option_sort}
 use Rattle.smt_semantics.specs.Value.{ScriptInterpretation, IsScriptInterpretation, applied_selectors}
 use Rattle.smt_lines.specs.Command.{commands}
-use Rattle.smt_lines.specs.Lines.{Enums, no_names, encode, option_line}
+use Rattle.smt_lines.specs.Lines.{no_names, encode, option_line}
 use Rattle.smt_lines.specs.Rows.{unary, condition}
 use Rattle.smt_lines.specs.Scripts.{Stated}
 use Rattle.smt_lines.specs.Text.{names}
 use Rattle.smt_carrying.specs.Interpretations.{GivesReachedNames}
 use Rattle.smt_carrying.specs.Open.{LeavesOpen}
 use Rattle.smt_carrying.specs.Order.{AreEnums}
-use Rattle.smt_carrying.specs.Sorts.{option_sort}
 use Rattle.smt_headline.specs.Conditions.{AreConditions}
 
 -- ---- the laws

@@ -3,12 +3,13 @@ use Rattle.std.specs.Prelude.{◌≡◌, List, [], ◌∷◌, Some, IsSome, IsTr
 use Rattle.std.specs.List.{AllByRecursion}
 use Rattle.smt_term.specs.Plain.{PlainType, PlainOp, UufOp, PlainTerm, Application, VariableTerm, terms}
 use Rattle.smt_term.specs.Reached.{reached_terms}
+use Rattle.smt_term.specs.TypeValues.{Enums}
 use Rattle.smt_semantics.specs.Script.{Constant, Function, State, start, run, names_of, assertions_of}
 use Rattle.smt_semantics.specs.Sorts.{Entries, entries, has_sort_in}
 use Rattle.smt_semantics.specs.Value.{ScriptInterpretation, IsScriptInterpretation, is_table, selections_in}
-use Rattle.smt_lines.specs.Lines.{Enums, Tables, no_names, encode, option_line}
-use Rattle.smt_lines.specs.Fits.{HasSort, text_of}
-use Rattle.smt_lines.specs.Naming.{HasDistinctNames, IsOneToOne}
+use Rattle.smt_lines.specs.Lines.{Tables, no_names, encode, option_line}
+use Rattle.smt_lines.specs.Entries.{HasSort, text_of}
+use Rattle.smt_lines.specs.Naming.{HasDistinctNames, IsOneToOne, sort_of}
 use Rattle.smt_lines.specs.Text.{names}
 use Rattle.smt_lines.specs.Fine.{IsFineType, AreFine}
 use Rattle.smt_lines.specs.Command.{commands}
@@ -17,7 +18,7 @@ use Rattle.smt_lines.specs.Scripts.{Stated}
 use Rattle.smt_carrying.specs.Interpretations.{variable_name, function_name, IsTermNamed, Stands}
 use Rattle.smt_carrying.specs.Open.{IsOpenEntry}
 use Rattle.smt_carrying.specs.Order.{AreEnums}
-use Rattle.smt_carrying.specs.Sorts.{script_sort, StandsAlways, IsDeclared}
+use Rattle.smt_carrying.specs.Sorts.{StandsAlways, IsDeclared}
 
 abbrev pub AlwaysStands : Type 0
 AlwaysStands = (enums : Enums) (s : Tables) (state : State) → Fit enums s state → StandsAlways (entries state)
@@ -39,12 +40,12 @@ NamesStand = (enums : Enums) (ts : List PlainTerm) (state : State) → Fit enums
 -- ---- free names
 
 abbrev pub IsOpOpen : Tables → Entries → PlainOp → Type 0
-IsOpOpen s here (UufOp f) = here (function_name s f) ≡ Some (Function (script_sort s f.argument) (script_sort s f.output))
+IsOpOpen s here (UufOp f) = here (function_name s f) ≡ Some (Function (sort_of s f.argument) (sort_of s f.output))
 IsOpOpen s here op = ⊤
 
 -- a variable, or a function, is declared with its sort, and has no body
 abbrev pub IsOpen : Tables → Entries → PlainTerm → Type 0
-IsOpen s here (VariableTerm id t) = here (variable_name s id t) ≡ Some (Constant (script_sort s t))
+IsOpen s here (VariableTerm id t) = here (variable_name s id t) ≡ Some (Constant (sort_of s t))
 IsOpen s here (Application op ts t) = IsOpOpen s here op
 IsOpen s here t = ⊤
 
@@ -78,11 +79,11 @@ AssertionsSelectNothing = (enums : Enums) (ts : List PlainTerm) (x : Stated enum
 
 -- J gives a variable a value, and a function a table, of its sort.
 abbrev pub IsOpGiven : Tables → Entries → ScriptInterpretation → PlainOp → Type 0
-IsOpGiven s here J (UufOp f) = IsTrue (is_table here (script_sort s f.argument) (script_sort s f.output) (J.functions (function_name s f)))
+IsOpGiven s here J (UufOp f) = IsTrue (is_table here (sort_of s f.argument) (sort_of s f.output) (J.functions (function_name s f)))
 IsOpGiven s here J op = ⊤
 
 abbrev pub IsNameGiven : Tables → Entries → ScriptInterpretation → PlainTerm → Type 0
-IsNameGiven s here J (VariableTerm id t) = IsTrue (has_sort_in here (script_sort s t) (J.constants (variable_name s id t)))
+IsNameGiven s here J (VariableTerm id t) = IsTrue (has_sort_in here (sort_of s t) (J.constants (variable_name s id t)))
 IsNameGiven s here J (Application op ts t) = IsOpGiven s here J op
 IsNameGiven s here J t = ⊤
 

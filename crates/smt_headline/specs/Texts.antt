@@ -7,13 +7,14 @@ use Rattle.smt_term.specs.Meaning.{meaning}
 use Rattle.smt_term.specs.Reached.{reached_terms}
 use Rattle.smt_term.specs.Tables.{Interpretation}
 use Rattle.smt_term.specs.Types.{type_of}
+use Rattle.smt_term.specs.TypeValues.{Enums}
 use Rattle.smt_sexpr.specs.Reading.{Expression}
 use Rattle.smt_semantics.specs.Script.{Entry, Constant, Defined, State, name, knows}
 use Rattle.smt_semantics.specs.Sorts.{entries, sort_of}
 use Rattle.smt_semantics.specs.Value.{ScriptInterpretation, expression_value}
 use Rattle.smt_semantics.specs.Meanings.{is_own}
-use Rattle.smt_lines.specs.Fits.{text_of}
-use Rattle.smt_lines.specs.Lines.{Enums, Tables}
+use Rattle.smt_lines.specs.Entries.{text_of}
+use Rattle.smt_lines.specs.Lines.{Tables}
 use Rattle.smt_lines.specs.Scripts.{Stated}
 use Rattle.smt_lines.specs.Text.{names}
 use Rattle.smt_carrying.specs.Carry.{carry}

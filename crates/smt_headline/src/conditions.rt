@@ -1,13 +1,7 @@
-ghost use Rattle.smt_headline.specs.Conditions.{AttributeNamesAgree, AttributesAreFound, CallsOfConditionsAreScripts, ConditionsAreScripts, FieldTypesAgree, FirstTypesAgree, FormedTypesAreFine, MembersAgree, PlacesAreFound, TextTestsAgree, TheseAreConditions, TypedListsAreFine, TypedTermsAreFine, TypesAgree};
+ghost use Rattle.smt_headline.specs.Conditions.{AttributesAreFound, CallsOfConditionsAreScripts, ConditionsAreScripts, FormedTypesAreFine, PlacesAreFound, TheseAreConditions, TypedListsAreFine, TypedTermsAreFine};
 
-/// The types and the look-ups that lines are made by are those that terms are typed by.
-pub fn look_ups_agree()
-    ensures types { TypesAgree }
-    ensures fields { FieldTypesAgree }
-    ensures first { FirstTypesAgree }
-    ensures names { AttributeNamesAgree }
-    ensures texts { TextTestsAgree }
-    ensures members { MembersAgree }
+/// The place of a text, and of an attribute, is one in its list where the list has it.
+pub fn places_are_found()
     ensures places { PlacesAreFound }
     ensures attributes { AttributesAreFound }
 {}

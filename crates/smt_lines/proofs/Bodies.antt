@@ -4,20 +4,25 @@ use Rattle.std.specs.Prelude.{codes, IsSome, nat_lt, ℤ, pos, negsuc, eqb}
 use Rattle.std.specs.List.{list_all}
 use Rattle.std.proofs.lemmas.Bool.{and_parts, and_from, ltb-true, false≢true, eqb-true, eqb-false}
 use Rattle.smt_term.specs.Plain.{ExtensionKind, IpAddrKind, DecimalKind, DatetimeKind, DurationKind, PlainType, OptionType, BitVecType, ExtensionType, RecordType, AttributeTypes, PlainFunction, ExtensionOp, DatetimeOfBitVecOp, DatetimeValOp, DecimalValOp, DurationOfBitVecOp, DurationValOp, IpAddrV4Op, IpAddrV6Op, IpIsV4Op, IpPrefixV4Op, IpPrefixV6Op, PatternPart, Character, Wildcard, PlainOp, BvnegoOp, ExtOp, OptionGetOp, RecordGetOp, StringLikeOp, UufOp, PlainExtension, DecimalOf, Ipv4Of, Ipv6Of, DatetimeOf, DurationOf, PlainTerms, no_terms, one_term}
+use Rattle.smt_term.specs.TypeValues.{Enums}
+use Rattle.smt_term.specs.Formed.{attribute_names}
+use Rattle.smt_term.specs.Types.{kind_of}
 use Rattle.smt_sexpr.specs.Reading.{Expression}
 use Rattle.smt_semantics.specs.Script.{State, name, group, exprs, is_in, built_in_names, has_name, has_sort, is_sort, knows}
-use Rattle.smt_semantics.specs.Quoting.{part_expr, pattern_expr, is_written_part}
+use Rattle.smt_semantics.specs.Quoting.{part_expr, pattern_expr}
 use Rattle.smt_semantics.specs.Written.{is_name}
 use Rattle.smt_semantics.proofs.Quotes.{patterns_write}
-use Rattle.smt_lines.specs.Lines.{Enums, Tables, name_of_type, name_of_function, text_of_name, attribute_name, attribute_place, place_of, bits, bits_64, bits_sort, option_sort, prefix_body, extension_body, pattern_part, pattern_body, encode_head, encode_function, operands, AsItStands, manner, none_body, empty_set, set_body, record_body}
-use Rattle.smt_lines.specs.Types.{first_type, attribute_names, kind_of}
+use Rattle.smt_semantics.specs.Sorts.{bit_sort, option_sort}
+use Rattle.smt_lines.specs.Lines.{Tables, name_of_type, name_of_function, text_of_name, attribute_name, attribute_place, place_of, bits, bits_64, prefix_body, extension_body, encode_head, encode_function, operands, AsItStands, manner, none_body, empty_set, set_body, record_body, first_type}
 use Rattle.smt_lines.specs.Naming.{sort_of}
-use Rattle.smt_lines.specs.Fits.{HasSort, named_text}
+use Rattle.smt_lines.specs.Entries.{HasSort, named_text}
 use Rattle.smt_lines.proofs.Making.{functions_are_made}
 use Rattle.smt_lines.specs.Command.{is_written, are_written}
 use Rattle.smt_lines.specs.Fine.{IsFineOp, IsLeast, AreFine, kind_of_op}
 use Rattle.smt_lines.specs.Fit.{Fit, TypeStands, declares, kind_names, placed}
-use Rattle.smt_lines.proofs.Known.{or_right, GoodSort, GoodText, GoodTexts, TextsAre, sort_good, text_good, texts_good, more_good, applied_good, one_passes, type_stands, function_stands, bits_good}
+use Rattle.smt_lines.proofs.Known.{GoodSort, GoodText, GoodTexts, TextsAre, sort_good, text_good, texts_good, more_good, applied_good, one_passes, type_stands, function_stands, bits_good}
+use Rattle.smt_term.specs.Faults.{is_pattern_part}
+use Rattle.smt_semantics.proofs.Results.{or_right}
 
 -- ---- entries of types
 
@@ -100,35 +105,21 @@ record_get_good enums s state fit a x t e h l es g =
 
 -- ---- patterns
 
-part_is : (p : PatternPart) → pattern_part p ≡ part_expr p
-part_is (Character c) = refl
-part_is Wildcard = refl
-
-parts_are : (ps : List PatternPart) → map pattern_part ps ≡ map part_expr ps
-parts_are [] = refl
-parts_are (p ∷ ps) = let a = part_is p in let b = parts_are ps in λ i. a i ∷ b i
-
-pub pattern_is : (ps : List PatternPart) → pattern_body ps ≡ pattern_expr ps
-pattern_is [] = refl
-pattern_is (p ∷ []) = part_is p
-pattern_is (p ∷ q ∷ ps) = let a = parts_are (p ∷ q ∷ ps) in λ i. group (name (codes "re.++") ∷ a i)
-
-part_written : (p : PatternPart) → is_written_part p ≡ true → is_written (part_expr p) ≡ true
+part_written : (p : PatternPart) → is_pattern_part p ≡ true → is_written (part_expr p) ≡ true
 part_written (Character c) h = rw h refl
 part_written Wildcard h = refl
 
-parts_written : (ps : List PatternPart) → list_all is_written_part ps ≡ true → are_written (exprs (map part_expr ps)) ≡ true
+parts_written : (ps : List PatternPart) → list_all is_pattern_part ps ≡ true → are_written (exprs (map part_expr ps)) ≡ true
 parts_written [] h = refl
-parts_written (p ∷ ps) h = let q = and_parts (is_written_part p) (list_all is_written_part ps) h in and_from (is_written (part_expr p)) _ (part_written p q.0) (parts_written ps q.1)
+parts_written (p ∷ ps) h = let q = and_parts (is_pattern_part p) (list_all is_pattern_part ps) h in and_from (is_written (part_expr p)) _ (part_written p q.0) (parts_written ps q.1)
 
-pattern_written : (ps : List PatternPart) → list_all is_written_part ps ≡ true → is_written (pattern_expr ps) ≡ true
+pattern_written : (ps : List PatternPart) → list_all is_pattern_part ps ≡ true → is_written (pattern_expr ps) ≡ true
 pattern_written [] h = refl
-pattern_written (p ∷ []) h = part_written p (and_parts (is_written_part p) true h).0
+pattern_written (p ∷ []) h = part_written p (and_parts (is_pattern_part p) true h).0
 pattern_written (p ∷ q ∷ ps) h = parts_written (p ∷ q ∷ ps) h
 
-like_good : (state : State) (e : Expression) (ps : List PatternPart) → list_all is_written_part ps ≡ true → GoodText state e → GoodText state (group (name (codes "str.in_re") ∷ e ∷ pattern_body ps ∷ []))
+like_good : (state : State) (e : Expression) (ps : List PatternPart) → list_all is_pattern_part ps ≡ true → GoodText state e → GoodText state (group (name (codes "str.in_re") ∷ e ∷ pattern_expr ps ∷ []))
 like_good state e ps h g =
-    subst (λ r. GoodText state (group (name (codes "str.in_re") ∷ e ∷ r ∷ []))) (sym (pattern_is ps))
     (rw (patterns_write ps h).1 g.0, and_from (is_written e) _ g.1 (and_from (is_written (pattern_expr ps)) true (pattern_written ps h) refl))
 
 -- ---- applications
@@ -205,11 +196,11 @@ bits_64_good state (negsuc n) = bits_good state 64 (2 ^ 64 - suc n)
 
 prefix_4_good : (enums : Enums) (s : Tables) (state : State) → Fit enums s state → (p : Option ℕ) → GoodText state (prefix_body 5 p)
 prefix_4_good enums s state fit (Some p) = some_good enums s state fit (bits 5 p) (bits_good state 5 p)
-prefix_4_good enums s state fit None = none_good enums s state fit (option_sort (bits_sort 5)) (sort_good enums s state fit (OptionType (BitVecType 5)) refl tt)
+prefix_4_good enums s state fit None = none_good enums s state fit (option_sort (bit_sort 5)) (sort_good enums s state fit (OptionType (BitVecType 5)) refl tt)
 
 prefix_6_good : (enums : Enums) (s : Tables) (state : State) → Fit enums s state → (p : Option ℕ) → GoodText state (prefix_body 7 p)
 prefix_6_good enums s state fit (Some p) = some_good enums s state fit (bits 7 p) (bits_good state 7 p)
-prefix_6_good enums s state fit None = none_good enums s state fit (option_sort (bits_sort 7)) (sort_good enums s state fit (OptionType (BitVecType 7)) refl tt)
+prefix_6_good enums s state fit None = none_good enums s state fit (option_sort (bit_sort 7)) (sort_good enums s state fit (OptionType (BitVecType 7)) refl tt)
 
 pub extension_good : (enums : Enums) (s : Tables) (state : State) → Fit enums s state → (x : PlainExtension) → HasSort s (ExtensionType (kind_of x)) → GoodText state (extension_body x)
 extension_good enums s state fit (DecimalOf x) h = applied_good enums s state fit (codes "Decimal") (bits_64 x ∷ []) (kind_declares enums s state fit DecimalKind h (codes "Decimal") refl) refl (alone state (bits_64 x) (bits_64_good state x))

@@ -7,6 +7,8 @@ use Rattle.std.proofs.lemmas.List.{append-nil, length-append}
 use Rattle.std.proofs.lemmas.List.Folds.{list_all-append, list_any-append}
 use Rattle.std.proofs.lemmas.Slice.Eq.{bytes_eq-Decides}
 use Rattle.smt_term.specs.Plain.{PlainType}
+use Rattle.smt_term.specs.TypeValues.{Enums}
+use Rattle.smt_term.specs.Types.{type_eq}
 use Rattle.smt_sexpr.specs.Reading.{Expression}
 use Rattle.smt_semantics.specs.Script as script
 use Rattle.smt_semantics.specs.Script.{Constructor, Entry, Builds, Selects, State, is_in, is_reserved, is_taken, is_taken_sort, names_of, names_below, sorts_of, has_sort, is_sort, built_in_names, built_in_sorts, with_sort, obey, run, step, ◌>>=◌}
@@ -19,15 +21,15 @@ use Rattle.smt_semantics.proofs.Keeps.{sort_still_known}
 use Rattle.smt_semantics.proofs.Datatypes.{datatypes_leave}
 use Rattle.smt_lines.specs.Line as line
 use Rattle.smt_lines.specs.Line.{Line, Comment, DeclareDatatype}
-use Rattle.smt_lines.specs.Fits.{TypePartsStand, type_lines}
-use Rattle.smt_lines.specs.Lines.{Enums, Tables}
-use Rattle.smt_lines.specs.Same.{same_type}
+use Rattle.smt_lines.specs.Entries.{TypePartsStand, type_lines}
+use Rattle.smt_lines.specs.Lines.{Tables}
 use Rattle.smt_lines.proofs.Grow.{lookup_append}
 use Rattle.smt_lines.specs.Command.{all_built, is_written_constructor}
 use Rattle.smt_lines.specs.Fit.{EachLine, LineStands, Fit, Steps, declares, declares_sort, names_of_type, is_old_name_in, is_old_sort_in}
-use Rattle.smt_lines.proofs.Known.{or_left, or_right, one_passes}
+use Rattle.smt_lines.proofs.Known.{one_passes}
 use Rattle.smt_lines.proofs.Enter.{More, fit_grows, all_grow, old_stays, old_sort_stays, fresh_from}
 use Rattle.smt_lines.proofs.Single.{step_runs}
+use Rattle.smt_semantics.proofs.Results.{or_left, or_right}
 
 abbrev names_in_entries : List (List ℕ × Entry) → List (List ℕ)
 names_in_entries ds = map (λ p. p.0) ds
@@ -90,7 +92,7 @@ more_type s t n = record {
   terms = omega arith;
   functions = omega arith;
   types = let a = length-append s.types ((t, n) ∷ []) in omega arith;
-  names = λ u m h. lookup_append (same_type u) s.types ((t, n) ∷ []) m h;
+  names = λ u m h. lookup_append (type_eq u) s.types ((t, n) ∷ []) m h;
 }
 
 abbrev pub are_distinct : List (List ℕ) → Bool
@@ -191,7 +193,7 @@ type_fits enums s state fit t d new cs e news parts own =
       type_entries = (
         record {
           tables = s;
-          keeps = record { terms = λ x n h. h; types = λ x n h. lookup_append (same_type x) s.types ((t, d) ∷ []) n h; functions = λ x n h. h };
+          keeps = record { terms = λ x n h. h; types = λ x n h. lookup_append (type_eq x) s.types ((t, d) ∷ []) n h; functions = λ x n h. h };
           parts = parts;
           lines = own;
         },

@@ -3,16 +3,19 @@ use Rattle.std.proofs.Common.{◌≡◌, ℕ, List, [], ◌∷◌, ◌++◌, ref
 use Rattle.std.specs.Prelude.{codes, IsSome, is_some, ◌-◌, ◌^◌}
 use Rattle.std.proofs.lemmas.Bool.{false≢true}
 use Rattle.smt_term.specs.Plain.{PlainType, OptionType, EntityType, RecordType, SetType, AttributeTypes, no_attributes, attribute, PlainOp, RecordGetOp, UufOp, BitVecLiteral, BoolLiteral, EntityLiteral, ExtensionLiteral, StringLiteral, PlainTerm, Application, NoneTerm, LiteralTerm, RecordTerm, SetTerm, SomeTerm, VariableTerm, PlainTerms, no_terms, one_term, PlainFields, no_fields, one_field}
+use Rattle.smt_term.specs.TypeValues.{Enums, members_of}
+use Rattle.smt_term.specs.Types.{type_eq, type_of}
+use Rattle.smt_term.specs.TermOrder.{term_eq}
+use Rattle.smt_term.specs.Interpretations.{function_eq}
+use Rattle.smt_term.specs.Formed.{attribute_names}
+use Rattle.smt_term.proofs.TermTotal.{types_decided, functions_decided, terms_decided}
 use Rattle.smt_sexpr.specs.Reading.{Expression}
 use Rattle.smt_semantics.specs.Script.{name, group}
 use Rattle.smt_lines.specs.Line.{Comment, DeclareConst, DeclareFun, DefineFun}
-use Rattle.smt_lines.specs.Lines.{Enums, members_of, Tables, name_of_type, name_of_function, text_of_name, attribute_name, attribute_place, bits, extension_body, operands, Manner, AsItStands, AsLeast, AsFalse, manner, none_body, set_body, record_body, record_lines, quoted_id}
-use Rattle.smt_lines.specs.Same.{same_type, same_term, same_function}
-use Rattle.smt_lines.specs.Types.{type_of, first_type, attribute_names}
+use Rattle.smt_lines.specs.Lines.{Tables, name_of_type, name_of_function, text_of_name, attribute_name, attribute_place, bits, extension_body, operands, Manner, AsItStands, AsLeast, AsFalse, manner, none_body, set_body, record_body, record_lines, quoted_id, first_type}
 use Rattle.smt_lines.specs.Naming.{sort_of}
-use Rattle.smt_lines.specs.Fits.{HasSort, HaveSorts, HaveTexts, HaveFieldTexts, HasFunction, TypePartsStand, text_of, given, texts_of, texts_of_fields, sorts_of, head_of, term_lines, type_lines, function_lines, application_lines, entity_literal_lines}
+use Rattle.smt_lines.specs.Entries.{HasSort, HaveSorts, HaveTexts, HaveFieldTexts, HasFunction, TypePartsStand, text_of, given, texts_of, texts_of_fields, sorts_of, head_of, term_lines, type_lines, function_lines, application_lines, entity_literal_lines}
 use Rattle.smt_lines.specs.Growth.{Keeps}
-use Rattle.smt_lines.proofs.Sound.{same_types, same_functions, same_terms_are_one}
 use Rattle.smt_lines.proofs.Stays.{texts_stay, sorts_stay}
 use Rattle.smt_lines.specs.Fit.{EachLine, LineStands, HasRecord, PartsStand, TypeEntry, FunctionEntry, TermEntry}
 use Rattle.smt_lines.specs.Scripts.{TermsAreDeclared, TypesAreDeclared, FunctionsAreDeclared}
@@ -94,7 +97,7 @@ kept_lines enums r s k (VariableTerm id type) n p h = (ap (λ (e : Expression). 
 
 pub terms_are_declared : TermsAreDeclared
 terms_are_declared enums s state t n fit h =
-    let e = each_found (TermEntry enums s state) (same_term t) t (λ l q. (same_terms_are_one t l).0 q) s.terms n h fit.term_entries in
+    let e = each_found (TermEntry enums s state) (term_eq t) t (λ l q. (terms_decided t l).0 q) s.terms n h fit.term_entries in
     let x = kept_lines enums e.tables s e.keeps t n e.parts.0 e.parts.1 in
     (subst (λ ls. EachLine (LineStands state) ls) x.0 e.lines, x.1, has_stays e.tables s e.keeps.types (type_of t) e.parts.1)
 
@@ -104,13 +107,13 @@ kept_type enums r s k t n p = (refl, tt)
 
 pub types_are_declared : TypesAreDeclared
 types_are_declared enums s state t n fit h =
-    let e = each_found (TypeEntry enums s state) (same_type t) t (λ l q. (same_types t l).0 q) s.types n h fit.type_entries in
+    let e = each_found (TypeEntry enums s state) (type_eq t) t (λ l q. (types_decided t l).0 q) s.types n h fit.type_entries in
     let x = kept_type enums e.tables s e.keeps t n e.parts in
     (subst (λ ls. EachLine (LineStands state) ls) x.0 e.lines, x.1)
 
 pub functions_are_declared : FunctionsAreDeclared
 functions_are_declared enums s state f n fit h =
-    let e = each_found (FunctionEntry s state) (same_function f) f (λ l q. (same_functions f l).0 q) s.functions n h fit.function_entries in
+    let e = each_found (FunctionEntry s state) (function_eq f) f (λ l q. (functions_decided f l).0 q) s.functions n h fit.function_entries in
     let a = sym (sorts_stay e.tables s f.argument e.keeps e.parts.0) in
     let b = sym (sorts_stay e.tables s f.output e.keeps e.parts.1) in
     let x : function_lines e.tables f n ≡ function_lines s f n = λ i. Comment f.id ∷ DeclareFun n (a i) (b i) ∷ [] in

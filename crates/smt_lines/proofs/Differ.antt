@@ -3,10 +3,11 @@ use Rattle.std.specs.Prelude.{codes, ◌⊎◌, nat_eq}
 use Rattle.std.proofs.Math.Logic.{inl, inr}
 use Rattle.std.proofs.lemmas.List.{append_cancel_left}
 use Rattle.smt_term.specs.Plain.{PlainType, OptionType, BitVecType, BoolType, EntityType, ExtensionType, StringType, RecordType, SetType, PlainTerm, ExtensionKind, IpAddrKind, DecimalKind, DatetimeKind, DurationKind}
+use Rattle.smt_term.specs.TypeValues.{Enums}
 use Rattle.smt_lines.specs.Naming.{HasEntry}
 use Rattle.smt_lines.specs.Spelling.{numeral}
-use Rattle.smt_lines.specs.Lines.{Enums, numbered, kind_name}
-use Rattle.smt_lines.specs.Fits.{AreNumbered, stated_type_name, stated_function_name}
+use Rattle.smt_lines.specs.Lines.{numbered, kind_name}
+use Rattle.smt_lines.specs.Entries.{AreNumbered, stated_type_name, stated_function_name}
 use Rattle.smt_lines.specs.Growth.{is_drawn, AreDrawn, FunctionNamesDiffer, TypeNamesDiffer, TermNamesDiffer}
 use Rattle.smt_lines.proofs.Numerals.{numerals_differ}
 
@@ -104,7 +105,7 @@ shape BoolType place = inr (record { letter = inl refl; number = refl })
 shape (EntityType type) place = inr (record { letter = inl refl; number = refl })
 shape (ExtensionType kind) place = inl (record { kind = kind; is = refl; named = refl })
 shape StringType place = inr (record { letter = inl refl; number = refl })
-shape (RecordType attributes) place = inr (record { letter = inr refl; number = refl })
+shape (RecordType _) place = inr (record { letter = inr refl; number = refl })
 shape (SetType t) place = inr (record { letter = inl refl; number = refl })
 
 kinds_apart : (k : ExtensionKind) (c : ℕ) → (first (kind_name k) ≡ c) → (c ≡ 69) ⊎ (c ≡ 82) → ⊥

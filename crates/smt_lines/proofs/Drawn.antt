@@ -6,17 +6,18 @@ use Rattle.std.proofs.lemmas.Bool.{and_from, or_from, cases_Bool, lt-ltb, le-ltb
 use Rattle.std.proofs.lemmas.List.{append-nil, length-append, append_cancel_left}
 use Rattle.std.proofs.lemmas.Slice.Eq.{bytes_eq-Decides}
 use Rattle.smt_term.specs.Plain.{ExtensionKind, IpAddrKind, DecimalKind, DatetimeKind, DurationKind, PlainType, EntityType, ExtensionType, RecordType, AttributeTypes}
+use Rattle.smt_term.specs.TypeValues.{Enums, members_of}
+use Rattle.smt_term.specs.Types.{type_eq}
+use Rattle.smt_term.specs.Formed.{attribute_names}
+use Rattle.smt_term.proofs.TermTotal.{types_decided}
 use Rattle.smt_sexpr.specs.Lexicon.{is_digit}
 use Rattle.smt_sexpr.specs.Reading.{Expression}
 use Rattle.smt_semantics.specs.Script.{is_in, is_reserved, built_in_names}
 use Rattle.smt_semantics.specs.Meanings.{names_in}
 use Rattle.smt_semantics.specs.Written.{is_name}
 use Rattle.smt_lines.specs.Spelling.{numeral}
-use Rattle.smt_lines.specs.Lines.{Enums, Tables, members_of, name_of_type, numbered, next_type, member_name, attribute_name, id_name, kind_name, member_constructors, attribute_selectors}
-use Rattle.smt_lines.specs.Same.{same_type}
-use Rattle.smt_lines.specs.Types.{attribute_names}
+use Rattle.smt_lines.specs.Lines.{Tables, name_of_type, numbered, next_type, member_name, attribute_name, id_name, kind_name, member_constructors, attribute_selectors}
 use Rattle.smt_lines.proofs.Numerals.{numerals_differ}
-use Rattle.smt_lines.proofs.Sound.{same_types}
 use Rattle.smt_lines.proofs.Making.{lookup_new}
 use Rattle.smt_lines.specs.Command.{all_built}
 use Rattle.smt_lines.specs.Fit.{first, behind_first, number_of, is_old, is_old_sort, is_old_name_in, has_kind, placed, names_of_entity, names_of_type}
@@ -183,7 +184,7 @@ selectors_named_so d p (sort ∷ sorts) = ap (λ (t : List (List ℕ)). attribut
 -- ---- kinds
 
 pub kind_new : (enums : Enums) (k : ExtensionKind) (s : Tables) → name_of_type s (ExtensionType k) ≡ None → IsNew enums s (ExtensionType k) (kind_name k)
-kind_new enums k s none = go k (ap is_some none) (ap is_some (lookup_new (same_type (ExtensionType k)) s.types (ExtensionType k) (kind_name k) ((same_types (ExtensionType k) (ExtensionType k)).1 refl) none))
+kind_new enums k s none = go k (ap is_some none) (ap is_some (lookup_new (type_eq (ExtensionType k)) s.types (ExtensionType k) (kind_name k) ((types_decided (ExtensionType k) (ExtensionType k)).1 refl) none))
   where
     go : (k : ExtensionKind) → has_kind s k ≡ false → has_kind (with_type (ExtensionType k) (kind_name k) s) k ≡ true → IsNew enums s (ExtensionType k) (kind_name k)
     go IpAddrKind f t = record { name = refl; sort_free = refl; sort_unreserved = refl; sort_new = rw f refl; sort_old = rw t refl; names = refl; free = refl; new = rw f refl; old = rw t refl; distinct = refl }

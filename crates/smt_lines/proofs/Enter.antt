@@ -6,20 +6,23 @@ use Rattle.std.proofs.lemmas.Bool.{and_parts, and_from, or_cases, or_from, cases
 use Rattle.std.proofs.lemmas.List.{append-nil, length-append}
 use Rattle.std.proofs.lemmas.Slice.Eq.{bytes_eq-Decides}
 use Rattle.smt_term.specs.Plain.{ExtensionKind, IpAddrKind, DecimalKind, DatetimeKind, DurationKind, PlainType, OptionType, BitVecType, BoolType, EntityType, ExtensionType, StringType, RecordType, SetType, PlainFunction, PlainTerm}
+use Rattle.smt_term.specs.TypeValues.{Enums}
+use Rattle.smt_term.specs.Types.{type_eq, type_of}
+use Rattle.smt_term.specs.TermOrder.{term_eq}
+use Rattle.smt_term.specs.Interpretations.{function_eq}
 use Rattle.smt_sexpr.specs.Lexicon.{is_digit}
 use Rattle.smt_semantics.specs.Script.{State, Entry, is_in, is_reserved, is_taken, names_of, sorts_of, has_name, has_sort, built_in_names, with_name}
 use Rattle.smt_lines.specs.Spelling.{numeral}
 use Rattle.smt_lines.specs.Line.{Line}
-use Rattle.smt_lines.specs.Lines.{Enums, Tables, next_term, next_function, kind_name, name_of_type, option_line}
-use Rattle.smt_lines.specs.Same.{same_type, same_term, same_function}
-use Rattle.smt_lines.specs.Types.{type_of}
-use Rattle.smt_lines.specs.Fits.{EachEntry, HasSort}
+use Rattle.smt_lines.specs.Lines.{Tables, next_term, next_function, kind_name, name_of_type, option_line}
+use Rattle.smt_lines.specs.Entries.{EachEntry, HasSort}
 use Rattle.smt_lines.proofs.Grow.{lookup_append}
 use Rattle.smt_lines.specs.Growth.{Keeps}
 use Rattle.smt_lines.proofs.Kept.{BuildsNone, name_builds, name_kept, line_stays, lines_stay}
 use Rattle.smt_lines.specs.Fit.{IsRooted, Kept, EntryOf, TypeEntry, FunctionEntry, TermEntry, Fit, TypeStands, FunctionStands, TermStands, declares, first, behind_first, number_of, is_old, is_old_name_in, is_old_sort_in, of_kinds, kind_names, has_kind, names_of_type, option_names}
 use Rattle.smt_lines.proofs.Basic.{leads_alone, digit_first}
-use Rattle.smt_lines.proofs.Known.{or_left, or_right, each_append, each_map, one_passes, is_declared_old}
+use Rattle.smt_lines.proofs.Known.{each_append, each_map, one_passes, is_declared_old}
+use Rattle.smt_semantics.proofs.Results.{or_left, or_right}
 
 -- ---- tests that stay true
 
@@ -156,14 +159,14 @@ more_from enums s u after b = record {
   terms = longer s.terms b.new_terms u.terms b.terms_are;
   functions = longer s.functions b.new_functions u.functions b.functions_are;
   types = longer s.types b.new_types u.types b.types_are;
-  names = λ t n h. rw b.types_are (lookup_append (same_type t) s.types b.new_types n h);
+  names = λ t n h. rw b.types_are (lookup_append (type_eq t) s.types b.new_types n h);
 }
 
 pub keeps_from : (enums : Enums) (s u : Tables) (after : State) → Behind enums s u after → Keeps s u
 keeps_from enums s u after b = record {
-  terms = λ t n h. rw b.terms_are (lookup_append (same_term t) s.terms b.new_terms n h);
-  types = λ t n h. rw b.types_are (lookup_append (same_type t) s.types b.new_types n h);
-  functions = λ t n h. rw b.functions_are (lookup_append (same_function t) s.functions b.new_functions n h);
+  terms = λ t n h. rw b.terms_are (lookup_append (term_eq t) s.terms b.new_terms n h);
+  types = λ t n h. rw b.types_are (lookup_append (type_eq t) s.types b.new_types n h);
+  functions = λ t n h. rw b.functions_are (lookup_append (function_eq t) s.functions b.new_functions n h);
 }
 
 pub keeps_then : (s u v : Tables) → Keeps s u → Keeps u v → Keeps s v

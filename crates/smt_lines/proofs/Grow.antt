@@ -3,11 +3,12 @@ use Rattle.std.specs.Prelude.{Bool, codes, cond}
 use Rattle.std.specs.Map.{lookup}
 use Rattle.std.proofs.lemmas.List.{append-nil, append_assoc, length-append}
 use Rattle.smt_term.specs.Plain.{PlainType, OptionType, BitVecType, BoolType, EntityType, ExtensionType, StringType, RecordType, SetType, AttributeTypes, no_attributes, attribute, PlainFunction, PlainOp, UufOp, ExtensionKind, PlainLiteral, BitVecLiteral, BoolLiteral, EntityLiteral, ExtensionLiteral, StringLiteral, PlainTerm, Application, NoneTerm, LiteralTerm, RecordTerm, SetTerm, SomeTerm, VariableTerm, PlainTerms, no_terms, one_term, PlainFields, no_fields, one_field}
+use Rattle.smt_term.specs.TypeValues.{Enums, members_of}
+use Rattle.smt_term.specs.Types.{kind_of, type_of, field_types}
 use Rattle.smt_sexpr.specs.Reading.{Expression}
 use Rattle.smt_lines.specs.Line.{Line, Comment, DeclareDatatype, DeclareConst, DeclareFun, DefineFun, Assert, Push, Pop}
-use Rattle.smt_lines.specs.Lines.{Enums, members_of, Tables, Written, unless_named, define, define_entity, encode_type, encode_attributes, encode_function, encode_literal, encode_head, encode_term, encode_terms, encode_fields, define_application, Manner, AsItStands, AsLeast, AsFalse, manner, declare_kind, declare_record, entity_lines, next_type, next_function, next_term, enter_type, enter_function, enter_term}
-use Rattle.smt_lines.specs.Fits.{AreNumbered, stated_type_name, stated_function_name}
-use Rattle.smt_lines.specs.Types.{kind_of, type_of, types_of_fields}
+use Rattle.smt_lines.specs.Lines.{Tables, Written, unless_named, define, define_entity, encode_type, encode_attributes, encode_function, encode_literal, encode_head, encode_term, encode_terms, encode_fields, define_application, Manner, AsItStands, AsLeast, AsFalse, manner, declare_kind, declare_record, entity_lines, next_type, next_function, next_term, enter_type, enter_function, enter_term}
+use Rattle.smt_lines.specs.Entries.{AreNumbered, stated_type_name, stated_function_name}
 use Rattle.smt_lines.specs.Growth.{datatypes, declared_functions, definitions, is_drawn, AreDrawn, Extends, Grown, NamesStay}
 
 -- ---- counts and numbers of joined lists
@@ -258,7 +259,7 @@ mutual
       (λ u. then enums (type_grows enums (OptionType type) u) (defines enums (NoneTerm type) _ _ _))
   term_grows enums (LiteralTerm p) s = literal_grows enums p s
   term_grows enums (RecordTerm fields) s = unless enums _ s _
-      (λ u. then enums (type_grows enums (RecordType (types_of_fields fields)) u) (then enums (fields_grow enums fields _) (defines enums (RecordTerm fields) _ _ _)))
+      (λ u. then enums (type_grows enums (RecordType (field_types fields)) u) (then enums (fields_grow enums fields _) (defines enums (RecordTerm fields) _ _ _)))
   term_grows enums (SetTerm element ts) s = unless enums _ s _
       (λ u. then enums (type_grows enums (SetType element) u) (then enums (terms_grow enums ts _) (defines enums (SetTerm element ts) _ _ _)))
   term_grows enums (SomeTerm t) s = unless enums _ s _

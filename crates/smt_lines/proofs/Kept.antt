@@ -8,12 +8,13 @@ use Rattle.smt_sexpr.specs.Reading.{Expression}
 use Rattle.smt_semantics.specs.Script.{Constructor, Entry, Builds, Selects, State, is_in, is_reserved, is_taken, names_of, names_below, has_name, has_sort, look_up, built_in_names, with_name}
 use Rattle.smt_semantics.specs.Sorts.{Entries, entries}
 use Rattle.smt_semantics.specs.Meanings.{names_in, are_new, selectors_named, constructors_named}
-use Rattle.smt_semantics.specs.Growth.{with_datatype, Declares, DeclaresSelectors}
+use Rattle.smt_semantics.specs.Growth.{with_datatype, Declares, DeclaresSelectors, shown, at_place}
 use Rattle.smt_semantics.proofs.Grown.{constructors_append, constructors_other}
 use Rattle.smt_lines.specs.Line.{Line, Comment, DeclareDatatype, DeclareConst, DeclareFun, DefineFun, Assert, Push, Pop}
 use Rattle.smt_lines.specs.Command.{all_built}
-use Rattle.smt_lines.specs.Fit.{declares, declares_sort, constructor_at, BuildsOnly, IsRooted, Kept, LineStands, EachLine}
-use Rattle.smt_lines.proofs.Known.{or_left, or_right, one_passes}
+use Rattle.smt_lines.specs.Fit.{declares, declares_sort, BuildsOnly, IsRooted, Kept, LineStands, EachLine}
+use Rattle.smt_lines.proofs.Known.{one_passes}
+use Rattle.smt_semantics.proofs.Results.{or_left, or_right}
 
 is_there : (n : List ℕ) (ds : List (List ℕ × Entry)) (x : Entry) → look_up n ds ≡ Some x → is_in n (map (λ p. p.0) ds) ≡ true
 is_there n [] x h = absurd (none h)
@@ -106,39 +107,39 @@ module _ (d : List ℕ) (ps : List (List ℕ)) (all : List Constructor) where
   only_selectors : (c : List ℕ) (place : ℕ) (xs : List (List ℕ × Expression)) (ds : List (List ℕ × Entry)) → BuildsOnly (λ n. look_up n ds) d ps all → BuildsOnly (λ n. look_up n (selectors_named d ps c place xs ds)) d ps all
   only_selectors c place xs ds h = λ at n fields qs e. h at n fields qs (others_in_selectors d qs at fields n d ps c place xs ds e)
 
-  only_name : (c : Constructor) (place : ℕ) (ds : List (List ℕ × Entry)) → constructor_at all place ≡ Some (c.name, map (λ y. y.1) c.selectors) → BuildsOnly (λ n. look_up n ds) d ps all
+  only_name : (c : Constructor) (place : ℕ) (ds : List (List ℕ × Entry)) → at_place (shown all) place ≡ Some (c.name, map (λ y. y.1) c.selectors) → BuildsOnly (λ n. look_up n ds) d ps all
       → BuildsOnly (λ n. look_up n ((c.name, Builds d ps place (map (λ y. y.1) c.selectors)) ∷ ds)) d ps all
   only_name c place ds f h at n fields qs e = by (bytes_eq n c.name) refl e
     where
-      by : (b : Bool) → bytes_eq n c.name ≡ b → cond b (Some (Builds d ps place (map (λ y. y.1) c.selectors))) (look_up n ds) ≡ Some (Builds d qs at fields) → (qs ≡ ps) × (constructor_at all at ≡ Some (n, fields))
+      by : (b : Bool) → bytes_eq n c.name ≡ b → cond b (Some (Builds d ps place (map (λ y. y.1) c.selectors))) (look_up n ds) ≡ Some (Builds d qs at fields) → (qs ≡ ps) × (at_place (shown all) at ≡ Some (n, fields))
       by true g k =
           let same : n ≡ c.name = (bytes_eq-Decides n c.name).0 g in
           let parameters : qs ≡ ps = cc in
           let places : at ≡ place = cc in
           let sorts : map (λ y. y.1) c.selectors ≡ fields = cc in
-          (parameters, ap (constructor_at all) places ∙ f ∙ (λ i. Some (sym same i, sorts i)))
+          (parameters, ap (at_place (shown all)) places ∙ f ∙ (λ i. Some (sym same i, sorts i)))
       by false g k = h at n fields qs k
 
-  only_constructors : (place : ℕ) (cs : List Constructor) (ds : List (List ℕ × Entry)) → ((k : ℕ) → constructor_at all (place + k) ≡ constructor_at cs k) → BuildsOnly (λ n. look_up n ds) d ps all
+  only_constructors : (place : ℕ) (cs : List Constructor) (ds : List (List ℕ × Entry)) → ((k : ℕ) → at_place (shown all) (place + k) ≡ at_place (shown cs) k) → BuildsOnly (λ n. look_up n ds) d ps all
       → BuildsOnly (λ n. look_up n (constructors_named d ps place cs ds)) d ps all
   only_constructors place [] ds f h = h
   only_constructors place (c ∷ cs) ds f h =
       let x = Builds d ps place (map (λ y. y.1) c.selectors) in
       only_constructors (suc place) cs (selectors_named d ps c.name 0 c.selectors ((c.name, x) ∷ ds))
-      (λ k. ap (constructor_at all) (let z : suc place + k ≡ place + suc k = omega arith in z) ∙ f (suc k))
+      (λ k. ap (at_place (shown all)) (let z : suc place + k ≡ place + suc k = omega arith in z) ∙ f (suc k))
       (only_selectors c.name 0 c.selectors ((c.name, x) ∷ ds)
-      (only_name c place ds (ap (constructor_at all) (let z : place ≡ place + 0 = omega arith in z) ∙ f 0) h))
+      (only_name c place ds (ap (at_place (shown all)) (let z : place ≡ place + 0 = omega arith in z) ∙ f 0) h))
 
 -- A datatype that was not declared has these constructors alone.
 pub datatype_only : (state : State) (d : List ℕ) (cs : List Constructor) → IsRooted state → declares_sort state d ≡ false → BuildsOnly (entries (with_datatype d cs state)) d [] cs
 datatype_only state d cs rooted new at n fields qs e =
-    only_constructors d [] cs 0 cs (names_of state) (λ k. ap (constructor_at cs) (let z : 0 + k ≡ k = omega arith in z))
+    only_constructors d [] cs 0 cs (names_of state) (λ k. ap (at_place (shown cs)) (let z : 0 + k ≡ k = omega arith in z))
     (λ at n fields qs e. absurd (false≢true (sym new ∙ rooted d n qs at fields e))) at n fields qs (sym (datatype_names state d cs n) ∙ e)
 
 -- the same of the first datatype
 pub first_only : (d : List ℕ) (ps : List (List ℕ)) (cs : List Constructor) → BuildsOnly (λ n. look_up n (constructors_named d ps 0 cs [])) d ps cs
 first_only d ps cs at n fields qs e =
-    only_constructors d ps cs 0 cs [] (λ k. ap (constructor_at cs) (let z : 0 + k ≡ k = omega arith in z)) (λ at n fields qs e. absurd cc) at n fields qs e
+    only_constructors d ps cs 0 cs [] (λ k. ap (at_place (shown cs)) (let z : 0 + k ≡ k = omega arith in z)) (λ at n fields qs e. absurd cc) at n fields qs e
 
 pub first_rooted : (d : List ℕ) (ps : List (List ℕ)) (cs : List Constructor) (e c : List ℕ) (qs : List (List ℕ)) (place : ℕ) (fields : List Expression) → look_up c (constructors_named d ps 0 cs []) ≡ Some (Builds e qs place fields) → bytes_eq e d ≡ true
 first_rooted d ps cs e c qs place fields h = elim (cases_Bool (bytes_eq e d)) [

@@ -1,33 +1,29 @@
 -- Where tables and a state fit, sorts of types and texts of terms are known.
-use Rattle.std.proofs.Common.{◌≡◌, ℕ, Bool, true, false, ◌&&◌, ◌||◌, cond, List, [], ◌∷◌, ◌++◌, map, refl, sym, ap, ◌∙◌, subst, inl, inr, Option, Some, None}
+use Rattle.std.proofs.Common.{◌≡◌, ℕ, Bool, true, false, ◌&&◌, cond, List, [], ◌∷◌, ◌++◌, map, refl, sym, ap, ◌∙◌, subst, inl, inr, Option, Some, None}
 use Rattle.std.specs.Prelude.{codes, bytes_eq, IsSome, ◌==◌}
 use Rattle.std.specs.List.{list_all, list_any}
 use Rattle.std.specs.Map.{lookup}
 use Rattle.std.proofs.lemmas.Bool.{and_parts, and_from, or_cases, cases_Bool, false≢true}
 use Rattle.std.proofs.lemmas.Slice.Eq.{bytes_eq-Decides}
 use Rattle.smt_term.specs.Plain.{PlainType, OptionType, BitVecType, BoolType, EntityType, ExtensionType, StringType, RecordType, SetType, PlainFunction, BitVecLiteral, BoolLiteral, EntityLiteral, ExtensionLiteral, StringLiteral, PlainTerm, Application, NoneTerm, LiteralTerm, RecordTerm, SetTerm, SomeTerm, VariableTerm, PlainTerms, no_terms, one_term}
+use Rattle.smt_term.specs.TypeValues.{Enums}
+use Rattle.smt_term.specs.Types.{type_eq, type_of}
+use Rattle.smt_term.specs.TermOrder.{term_eq}
+use Rattle.smt_term.specs.Interpretations.{function_eq}
+use Rattle.smt_term.proofs.TermTotal.{types_decided, functions_decided, terms_decided}
 use Rattle.smt_sexpr.specs.Reading.{Expression}
 use Rattle.smt_semantics.specs.Script.{State, Entry, name, group, exprs, is_in, names_of, sorts_of, has_name, has_sort, built_in_names, built_in_sorts, is_sort, knows, are_all, each_stated}
-use Rattle.smt_semantics.specs.Arithmetic.{is_width}
+use Rattle.smt_bits.specs.Widths.{is_width}
 use Rattle.smt_semantics.specs.Written.{is_name}
 use Rattle.smt_lines.specs.Spelling.{numeral}
-use Rattle.smt_lines.specs.Lines.{Enums, Tables, name_of_term, name_of_type, name_of_function, text_of_name, bits}
-use Rattle.smt_lines.specs.Same.{same_type, same_term, same_function}
-use Rattle.smt_lines.specs.Types.{type_of}
+use Rattle.smt_lines.specs.Lines.{Tables, name_of_term, name_of_type, name_of_function, text_of_name, bits}
 use Rattle.smt_lines.specs.Naming.{sort_of}
-use Rattle.smt_lines.specs.Fits.{EachEntry, HasSort, text_of, named_text}
-use Rattle.smt_lines.proofs.Sound.{same_types, same_functions, same_terms_are_one}
+use Rattle.smt_lines.specs.Entries.{EachEntry, HasSort, text_of, named_text}
 use Rattle.smt_lines.specs.Command.{is_written, are_written}
 use Rattle.smt_lines.specs.Fine.{IsFineType, IsFine, AreFine}
 use Rattle.smt_lines.specs.Fit.{Fit, TypeStands, FunctionStands, TermStands, declares, is_old_name_in}
 use Rattle.smt_lines.proofs.Basic.{numeral_digits, bv_name}
-
-pub or_left : (a b : Bool) → a ≡ true → (a || b) ≡ true
-or_left a b e = rw e refl
-
-pub or_right : (a b : Bool) → b ≡ true → (a || b) ≡ true
-or_right true b e = refl
-or_right false b e = e
+use Rattle.smt_semantics.proofs.Results.{or_left, or_right}
 
 some_same : {A : Type 0} {a b : A} → Some a ≡ Some b → a ≡ b
 some_same h = cc
@@ -54,13 +50,13 @@ each_map P Q f [] a = tt
 each_map P Q f (x ∷ xs) a = (f x.0 x.1 a.0, each_map P Q f xs a.1)
 
 pub type_stands : (enums : Enums) (s : Tables) (state : State) → Fit enums s state → (t : PlainType) (n : List ℕ) → name_of_type s t ≡ Some n → TypeStands enums state t n
-type_stands enums s state fit t n h = each_found (TypeStands enums state) (same_type t) t (λ l q. (same_types t l).0 q) s.types n h fit.types
+type_stands enums s state fit t n h = each_found (TypeStands enums state) (type_eq t) t (λ l q. (types_decided t l).0 q) s.types n h fit.types
 
 pub function_stands : (enums : Enums) (s : Tables) (state : State) → Fit enums s state → (f : PlainFunction) (n : List ℕ) → name_of_function s f ≡ Some n → FunctionStands state f n
-function_stands enums s state fit f n h = each_found (FunctionStands state) (same_function f) f (λ l q. (same_functions f l).0 q) s.functions n h fit.functions
+function_stands enums s state fit f n h = each_found (FunctionStands state) (function_eq f) f (λ l q. (functions_decided f l).0 q) s.functions n h fit.functions
 
 pub term_stands : (enums : Enums) (s : Tables) (state : State) → Fit enums s state → (t : PlainTerm) (n : List ℕ) → name_of_term s t ≡ Some n → TermStands s state t n
-term_stands enums s state fit t n h = each_found (TermStands s state) (same_term t) t (λ l q. (same_terms_are_one t l).0 q) s.terms n h fit.terms
+term_stands enums s state fit t n h = each_found (TermStands s state) (term_eq t) t (λ l q. (terms_decided t l).0 q) s.terms n h fit.terms
 
 -- ---- sorts
 

@@ -5,11 +5,12 @@ use Rattle.std.proofs.lemmas.Bool.{and_from}
 use Rattle.std.proofs.lemmas.List.{append-nil}
 use Rattle.std.proofs.lemmas.List.Folds.{list_all-append}
 use Rattle.smt_term.specs.Plain.{PlainTerm, terms}
+use Rattle.smt_term.specs.TypeValues.{Enums}
 use Rattle.smt_sexpr.specs.Reading.{Expression}
 use Rattle.smt_semantics.specs.Script as script
 use Rattle.smt_semantics.specs.Script.{Command, Level, State, Script, IsWhole, Holds, start, step, run, obey, with_level, ◌>>=◌}
 use Rattle.smt_lines.specs.Line.{Line, Assert, Push, Pop, spelled_line, spelled_lines}
-use Rattle.smt_lines.specs.Lines.{Enums, Tables, Call, PushCall, PopCall, EncodeCall, Encoding, fresh, after_call, after_calls, lines_of_call, lines_of_calls, beginning, encode, encode_terms, option_line}
+use Rattle.smt_lines.specs.Lines.{Tables, Call, PushCall, PopCall, EncodeCall, Encoding, fresh, after_call, after_calls, lines_of_call, lines_of_calls, beginning, encode, encode_terms, option_line}
 use Rattle.smt_lines.specs.Command.{commands, commands_of, is_written_line}
 use Rattle.smt_lines.specs.Calls.{IsFineCall, AreFineCalls, HasBelow, back_at, StackFits, TablesFit, EncodingFits}
 use Rattle.smt_lines.specs.Fine.{AreFine}

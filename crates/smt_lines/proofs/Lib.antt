@@ -15,7 +15,6 @@ pub mod Numerals
 pub mod OfTerms
 pub mod OfTypes
 pub mod Single
-pub mod Sound
 pub mod Spelled
 pub mod Stays
 pub mod Whole

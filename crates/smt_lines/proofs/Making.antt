@@ -1,15 +1,18 @@
 use Rattle.std.proofs.Common.{◌≡◌, ℕ, suc, ◌+◌, ◌<◌, Bool, true, false, cond, List, [], ◌∷◌, ◌++◌, Option, Some, None, refl, ap, ◌∙◌, arith}
 use Rattle.std.specs.Map.{lookup}
 use Rattle.smt_term.specs.Plain.{PlainType, OptionType, BitVecType, BoolType, EntityType, ExtensionType, StringType, RecordType, SetType, AttributeTypes, no_attributes, attribute, PlainFunction, PlainOp, UufOp, PlainLiteral, BitVecLiteral, BoolLiteral, EntityLiteral, ExtensionLiteral, StringLiteral, PlainTerm, Application, NoneTerm, LiteralTerm, RecordTerm, SetTerm, SomeTerm, VariableTerm, PlainTerms, no_terms, one_term, PlainFields, no_fields, one_field}
+use Rattle.smt_term.specs.TypeValues.{Enums, members_of}
+use Rattle.smt_term.specs.Types.{type_eq, kind_of, type_of, field_types}
+use Rattle.smt_term.specs.Interpretations.{function_eq}
+use Rattle.smt_term.specs.TermOrder.{term_eq}
+use Rattle.smt_term.proofs.TermTotal.{types_decided, functions_decided, terms_decided}
 use Rattle.smt_sexpr.specs.Reading.{Expression}
 use Rattle.smt_semantics.specs.Script.{name}
-use Rattle.smt_lines.specs.Lines.{Enums, members_of, Tables, Written, unless_named, name_of_term, name_of_type, name_of_function, text_of_name, option_sort, set_sort, encode_type, encode_attributes, encode_function, encode_literal, encode_head, encode_term, encode_terms, encode_fields, define_application, define_entity, Manner, AsItStands, AsLeast, AsFalse, manner}
-use Rattle.smt_lines.specs.Same.{same_type, same_function, same_term}
-use Rattle.smt_lines.specs.Types.{kind_of, type_of, types_of_fields}
+use Rattle.smt_semantics.specs.Sorts.{option_sort, set_sort}
+use Rattle.smt_lines.specs.Lines.{Tables, Written, unless_named, name_of_term, name_of_type, name_of_function, text_of_name, encode_type, encode_attributes, encode_function, encode_literal, encode_head, encode_term, encode_terms, encode_fields, define_application, define_entity, Manner, AsItStands, AsLeast, AsFalse, manner}
 use Rattle.smt_lines.specs.Naming.{type_name}
-use Rattle.smt_lines.specs.Fits.{text_of, named_text}
+use Rattle.smt_lines.specs.Entries.{text_of, named_text}
 use Rattle.smt_lines.specs.Made.{TypesAreMade, FunctionsAreMade, TermsAreMade}
-use Rattle.smt_lines.proofs.Sound.{same_types, same_functions, same_terms_are_one}
 
 -- ---- look-ups behind an entry
 
@@ -64,24 +67,24 @@ abbrev mutual
   extents_of_fields no_fields = 1
   extents_of_fields (one_field a t fields) = extent t + extents_of_fields fields
 
-other_type : (k t : PlainType) → size t < size k → same_type k t ≡ false
-other_type k t h = go (same_type k t) refl
+other_type : (k t : PlainType) → size t < size k → type_eq k t ≡ false
+other_type k t h = go (type_eq k t) refl
   where
-    go : (b : Bool) → same_type k t ≡ b → b ≡ false
-    go true e = let f = ap size ((same_types k t).0 e) in absurd (omega arith)
+    go : (b : Bool) → type_eq k t ≡ b → b ≡ false
+    go true e = let f = ap size ((types_decided k t).0 e) in absurd (omega arith)
     go false e = refl
 
-other_term : (k t : PlainTerm) → extent t < extent k → same_term k t ≡ false
-other_term k t h = go (same_term k t) refl
+other_term : (k t : PlainTerm) → extent t < extent k → term_eq k t ≡ false
+other_term k t h = go (term_eq k t) refl
   where
-    go : (b : Bool) → same_term k t ≡ b → b ≡ false
-    go true e = let f = ap extent ((same_terms_are_one k t).0 e) in absurd (omega arith)
+    go : (b : Bool) → term_eq k t ≡ b → b ≡ false
+    go true e = let f = ap extent ((terms_decided k t).0 e) in absurd (omega arith)
     go false e = refl
 
 -- ---- types: a larger type keeps what it has
 
-entered_type : (k t : PlainType) (n : List ℕ) (s : Tables) → size t < size k → lookup (same_type k) (s.types ++ (t, n) ∷ []) ≡ name_of_type s k
-entered_type k t n s h = lookup_other (same_type k) s.types t n (other_type k t h)
+entered_type : (k t : PlainType) (n : List ℕ) (s : Tables) → size t < size k → lookup (type_eq k) (s.types ++ (t, n) ∷ []) ≡ name_of_type s k
+entered_type k t n s h = lookup_other (type_eq k) s.types t n (other_type k t h)
 
 unless_type : (k : PlainType) (o : Option (List ℕ)) (s : Tables) (f : Tables → Written Expression)
     → name_of_type (f s).tables k ≡ name_of_type s k → name_of_type (unless_named o s f).tables k ≡ name_of_type s k
@@ -115,8 +118,8 @@ made_type : (t : PlainType) (s : Tables) (f : Tables → Written Expression) (o 
 made_type t s f (Some n) e h = ap (λ o. name (text_of_name o)) e
 made_type t s f None e h = h e
 
-new_type : (t : PlainType) (n : List ℕ) (s : Tables) → name_of_type s t ≡ None → name (text_of_name (lookup (same_type t) (s.types ++ (t, n) ∷ []))) ≡ name n
-new_type t n s h = ap (λ o. name (text_of_name o)) (lookup_new (same_type t) s.types t n ((same_types t t).1 refl) h)
+new_type : (t : PlainType) (n : List ℕ) (s : Tables) → name_of_type s t ≡ None → name (text_of_name (lookup (type_eq t) (s.types ++ (t, n) ∷ []))) ≡ name n
+new_type t n s h = ap (λ o. name (text_of_name o)) (lookup_new (type_eq t) s.types t n ((types_decided t t).1 refl) h)
 
 pub less : (x : AttributeTypes) → sizes x < size (RecordType x)
 less x = omega arith
@@ -190,13 +193,13 @@ made_function g s f None e h = h e
 
 pub functions_are_made : FunctionsAreMade
 functions_are_made enums f s = made_function f s _ (name_of_function s f) refl
-    (λ h. ap named_text (lookup_new (same_function f) _ f _ ((same_functions f f).1 refl)
-    (ap (lookup (same_function f)) (type_functions enums f.output (encode_type enums f.argument s).tables ∙ type_functions enums f.argument s) ∙ h)))
+    (λ h. ap named_text (lookup_new (function_eq f) _ f _ ((functions_decided f f).1 refl)
+    (ap (lookup (function_eq f)) (type_functions enums f.output (encode_type enums f.argument s).tables ∙ type_functions enums f.argument s) ∙ h)))
 
 -- ---- terms: a larger term keeps what it has
 
-entered_term : (k t : PlainTerm) (n : List ℕ) (es : List (PlainTerm × List ℕ)) → extent t < extent k → lookup (same_term k) (es ++ (t, n) ∷ []) ≡ lookup (same_term k) es
-entered_term k t n es h = lookup_other (same_term k) es t n (other_term k t h)
+entered_term : (k t : PlainTerm) (n : List ℕ) (es : List (PlainTerm × List ℕ)) → extent t < extent k → lookup (term_eq k) (es ++ (t, n) ∷ []) ≡ lookup (term_eq k) es
+entered_term k t n es h = lookup_other (term_eq k) es t n (other_term k t h)
 
 unless_term : (k : PlainTerm) (o : Option (List ℕ)) (s : Tables) (f : Tables → Written Expression)
     → name_of_term (f s).tables k ≡ name_of_term s k → name_of_term (unless_named o s f).tables k ≡ name_of_term s k
@@ -204,8 +207,8 @@ unless_term k (Some n) s f h = refl
 unless_term k None s f h = h
 
 -- the same terms, the same look-up
-with_terms : (k : PlainTerm) {es fs : List (PlainTerm × List ℕ)} → es ≡ fs → lookup (same_term k) es ≡ lookup (same_term k) fs
-with_terms k h = ap (lookup (same_term k)) h
+with_terms : (k : PlainTerm) {es fs : List (PlainTerm × List ℕ)} → es ≡ fs → lookup (term_eq k) es ≡ lookup (term_eq k) fs
+with_terms k h = ap (lookup (term_eq k)) h
 
 larger_application : (enums : Enums) (m : Manner) (op : PlainOp) (ts : PlainTerms) (type : PlainType) (arguments : Tables → Written (List Expression)) (sort : Expression) (s : Tables) (k : PlainTerm)
     → extent (Application op ts type) < extent k → name_of_term (arguments s).tables k ≡ name_of_term s k
@@ -239,7 +242,7 @@ mutual
       (entered_term k (NoneTerm type) _ _ h ∙ with_terms k (type_terms enums (OptionType type) s))
   larger_term enums (LiteralTerm p) s k h = larger_literal enums p s k h
   larger_term enums (RecordTerm fields) s k h = unless_term k (name_of_term s (RecordTerm fields)) s _
-      (entered_term k (RecordTerm fields) _ _ h ∙ larger_fields enums fields (encode_type enums (RecordType (types_of_fields fields)) s).tables k (omega arith) ∙ with_terms k (type_terms enums (RecordType (types_of_fields fields)) s))
+      (entered_term k (RecordTerm fields) _ _ h ∙ larger_fields enums fields (encode_type enums (RecordType (field_types fields)) s).tables k (omega arith) ∙ with_terms k (type_terms enums (RecordType (field_types fields)) s))
   larger_term enums (SetTerm element ts) s k h = unless_term k (name_of_term s (SetTerm element ts)) s _
       (entered_term k (SetTerm element ts) _ _ h ∙ larger_terms enums ts (encode_type enums (SetType element) s).tables k (omega arith) ∙ with_terms k (type_terms enums (SetType element) s))
   larger_term enums (SomeTerm t) s k h = unless_term k (name_of_term s (SomeTerm t)) s _
@@ -271,8 +274,8 @@ made_term : (t : PlainTerm) (s : Tables) (f : Tables → Written Expression) (o 
 made_term t s f (Some n) e h = ap named_text e
 made_term t s f None e h = h e
 
-new_term : (t : PlainTerm) (n : List ℕ) (es : List (PlainTerm × List ℕ)) → lookup (same_term t) es ≡ None → named_text (lookup (same_term t) (es ++ (t, n) ∷ [])) ≡ Some (name n)
-new_term t n es h = ap named_text (lookup_new (same_term t) es t n ((same_terms_are_one t t).1 refl) h)
+new_term : (t : PlainTerm) (n : List ℕ) (es : List (PlainTerm × List ℕ)) → lookup (term_eq t) es ≡ None → named_text (lookup (term_eq t) (es ++ (t, n) ∷ [])) ≡ Some (name n)
+new_term t n es h = ap named_text (lookup_new (term_eq t) es t n ((terms_decided t t).1 refl) h)
 
 made_application : (enums : Enums) (m : Manner) (op : PlainOp) (ts : PlainTerms) (type : PlainType) (arguments : Tables → Written (List Expression)) (sort : Expression) (s : Tables)
     → name_of_term s (Application op ts type) ≡ None → name_of_term (arguments s).tables (Application op ts type) ≡ name_of_term s (Application op ts type)
@@ -305,8 +308,8 @@ terms_are_made enums (NoneTerm type) s = made_term (NoneTerm type) s _ (name_of_
     (λ n. new_term (NoneTerm type) _ (encode_type enums (OptionType type) s).tables.terms (with_terms (NoneTerm type) (type_terms enums (OptionType type) s) ∙ n))
 terms_are_made enums (LiteralTerm p) s = made_literal enums p s
 terms_are_made enums (RecordTerm fields) s = made_term (RecordTerm fields) s _ (name_of_term s (RecordTerm fields)) refl
-    (λ n. new_term (RecordTerm fields) _ (encode_fields enums fields (encode_type enums (RecordType (types_of_fields fields)) s).tables).tables.terms (larger_fields enums fields (encode_type enums (RecordType (types_of_fields fields)) s).tables (RecordTerm fields) (omega arith)
-    ∙ with_terms (RecordTerm fields) (type_terms enums (RecordType (types_of_fields fields)) s) ∙ n))
+    (λ n. new_term (RecordTerm fields) _ (encode_fields enums fields (encode_type enums (RecordType (field_types fields)) s).tables).tables.terms (larger_fields enums fields (encode_type enums (RecordType (field_types fields)) s).tables (RecordTerm fields) (omega arith)
+    ∙ with_terms (RecordTerm fields) (type_terms enums (RecordType (field_types fields)) s) ∙ n))
 terms_are_made enums (SetTerm element ts) s = made_term (SetTerm element ts) s _ (name_of_term s (SetTerm element ts)) refl
     (λ n. new_term (SetTerm element ts) _ (encode_terms enums ts (encode_type enums (SetType element) s).tables).tables.terms (larger_terms enums ts (encode_type enums (SetType element) s).tables (SetTerm element ts) (omega arith)
     ∙ with_terms (SetTerm element ts) (type_terms enums (SetType element) s) ∙ n))

@@ -4,26 +4,28 @@ use Rattle.std.specs.Prelude.{codes, chars, IsSome, is_some, nat_lt}
 use Rattle.std.specs.List.{list_all}
 use Rattle.std.proofs.lemmas.Bool.{and_parts, ltb-true}
 use Rattle.smt_term.specs.Plain.{PlainType, OptionType, EntityType, ExtensionType, RecordType, SetType, PlainOp, BvnegoOp, RecordGetOp, UufOp, PlainLiteral, BitVecLiteral, BoolLiteral, EntityLiteral, ExtensionLiteral, StringLiteral, PlainTerm, Application, NoneTerm, LiteralTerm, RecordTerm, SetTerm, SomeTerm, VariableTerm, PlainTerms, no_terms, one_term, PlainFields, no_fields, one_field}
+use Rattle.smt_term.specs.TypeValues.{Enums, members_of}
+use Rattle.smt_term.specs.Types.{type_of, field_types, kind_of}
 use Rattle.smt_sexpr.specs.Lexicon.{Text}
 use Rattle.smt_sexpr.specs.Reading.{Expression, Leaf}
 use Rattle.smt_semantics.specs.Script.{State, name, group, is_in, built_in_names}
 use Rattle.smt_semantics.specs.Written.{is_name}
-use Rattle.smt_lines.specs.Lines.{name_of_function, encode_function, bits, operands, extension_body, Enums, Tables, members_of, name_of_term, name_of_type, text_of_name, member_name, place_of, define_entity, encode_type, encode_literal, encode_head, encode_term, encode_terms, encode_fields, define_application, Manner, AsItStands, AsLeast, AsFalse, manner, define, enter_term, next_term, quoted_id, none_body, set_body, record_body, ◌>>=◌}
+use Rattle.smt_lines.specs.Lines.{name_of_function, encode_function, bits, operands, extension_body, Tables, name_of_term, name_of_type, text_of_name, member_name, place_of, define_entity, encode_type, encode_literal, encode_head, encode_term, encode_terms, encode_fields, define_application, Manner, AsItStands, AsLeast, AsFalse, manner, define, enter_term, next_term, quoted_id, none_body, set_body, record_body, ◌>>=◌}
 use Rattle.smt_lines.specs.Line.{Comment, DeclareConst, DefineFun}
-use Rattle.smt_lines.specs.Types.{type_of, types_of_fields, kind_of}
-use Rattle.smt_lines.specs.Fits.{HasSort, texts_of, texts_of_fields, given, named_text, HaveTexts, HaveFieldTexts, HasFunction, head_of, application_lines, entity_literal_lines}
+use Rattle.smt_lines.specs.Entries.{HasSort, texts_of, texts_of_fields, given, named_text, HaveTexts, HaveFieldTexts, HasFunction, head_of, application_lines, entity_literal_lines}
 use Rattle.smt_lines.specs.Growth.{Keeps}
 use Rattle.smt_lines.proofs.Grow.{terms_grow, term_grows, fields_grow, head_grows, names_stay}
 use Rattle.smt_lines.proofs.Making.{terms_are_made, functions_are_made}
 use Rattle.smt_lines.proofs.Stays.{texts_stay}
 use Rattle.smt_lines.specs.Fine.{IsFineType, IsFineOp, IsLeast, IsFineId, IsFineLiteral, IsFine, AreFine, AreFineFields}
 use Rattle.smt_lines.specs.Fit.{HasRecord, EachLine, LineStands, Fit, Steps, StepsOf, declares, placed, names_of_entity}
-use Rattle.smt_lines.proofs.Known.{or_right, GoodSort, GoodText, GoodTexts, TextsAre, text_good, texts_good, applied_good}
+use Rattle.smt_lines.proofs.Known.{GoodSort, GoodText, GoodTexts, TextsAre, text_good, texts_good, applied_good}
 use Rattle.smt_lines.proofs.Kept.{itself_kept}
 use Rattle.smt_lines.proofs.Enter.{keeps_then}
 use Rattle.smt_lines.proofs.Single.{no_step, steps_then, unless_steps, define_steps, constant_steps, known_term}
 use Rattle.smt_lines.proofs.OfTypes.{types_step, functions_step, sort_later, good_later, itself}
 use Rattle.smt_lines.proofs.Bodies.{first_has_sort, stands_so, placed_passes, body_good, least_good, none_good, some_good, set_good, record_good, extension_good}
+use Rattle.smt_semantics.proofs.Results.{or_right}
 
 pub texts_keep : (s u : Tables) → Keeps s u → (ts : PlainTerms) (es : List Expression) → TextsAre s ts es → TextsAre u ts es
 texts_keep s u k no_terms [] h = tt
@@ -57,7 +59,7 @@ fields_are enums (one_field a t x) s =
 -- ---- names that have no line
 
 -- no fine application is written as `false`
-not_false : (op : PlainOp) (ts : PlainTerms) (type : PlainType) → manner op ts type ≡ AsFalse → IsFineOp op ts type → ⊥
+pub not_false : (op : PlainOp) (ts : PlainTerms) (type : PlainType) → manner op ts type ≡ AsFalse → IsFineOp op ts type → ⊥
 not_false BvnegoOp ts type e f = subst IsLeast e f
 not_false op ts type e f = absurd cc
 
@@ -223,13 +225,13 @@ variable_steps enums id type s f =
     (λ state fit. (good_later enums type s u (itself u) f state fit, (sort_later enums type s u (itself u)).0)) (λ state fit. (tt, tt))
     (ap (λ (e : Expression). Comment (quoted_id id) ∷ DeclareConst (next_term u) e ∷ []) (sort_later enums type s u (itself u)).1))
 
-record_steps : (enums : Enums) (x : PlainFields) (s : Tables) → IsFineType (RecordType (types_of_fields x)) → AreFineFields enums x
-    → StepsOf enums (encode_fields enums x (encode_type enums (RecordType (types_of_fields x)) s).tables).tables
-    (define (RecordTerm x) (encode_type enums (RecordType (types_of_fields x)) s).made
-    (record_body (encode_type enums (RecordType (types_of_fields x)) s).made (encode_fields enums x (encode_type enums (RecordType (types_of_fields x)) s).tables).made)
-    (encode_fields enums x (encode_type enums (RecordType (types_of_fields x)) s).tables).tables)
+record_steps : (enums : Enums) (x : PlainFields) (s : Tables) → IsFineType (RecordType (field_types x)) → AreFineFields enums x
+    → StepsOf enums (encode_fields enums x (encode_type enums (RecordType (field_types x)) s).tables).tables
+    (define (RecordTerm x) (encode_type enums (RecordType (field_types x)) s).made
+    (record_body (encode_type enums (RecordType (field_types x)) s).made (encode_fields enums x (encode_type enums (RecordType (field_types x)) s).tables).made)
+    (encode_fields enums x (encode_type enums (RecordType (field_types x)) s).tables).tables)
 record_steps enums x s f g =
-    let t : PlainType = RecordType (types_of_fields x) in
+    let t : PlainType = RecordType (field_types x) in
     let u : Tables = (encode_type enums t s).tables in
     let w : Tables = (encode_fields enums x u).tables in
     let es : List Expression = (encode_fields enums x u).made in
@@ -241,7 +243,7 @@ record_steps enums x s f g =
     define_steps enums (RecordTerm x) sort (record_body sort es) w
     (λ state fit. let h = sort_later enums t s w k in (
       good_later enums t s w k f state fit,
-      subst (λ e. GoodText state (record_body e es)) h.1 (record_good enums w state fit (types_of_fields x) h.0 es (texts_good enums w state fit (terms_in x) (fine_in enums x g) es (fields_are enums x u))),
+      subst (λ e. GoodText state (record_body e es)) h.1 (record_good enums w state fit (field_types x) h.0 es (texts_good enums w state fit (terms_in x) (fine_in enums x g) es (fields_are enums x u))),
       h.0,
     ))
     (λ state fit. (listed.1, tt)) (λ i. DefineFun (next_term w) (p i) (record_body (p i) (r i)) ∷ [])
@@ -291,8 +293,8 @@ mutual
   terms_step enums (NoneTerm type) s f = unless_steps enums (name_of_term s (NoneTerm type)) s _ (none_steps enums type s f)
   terms_step enums (LiteralTerm p) s f = literals_step enums p s f
   terms_step enums (RecordTerm x) s f = unless_steps enums (name_of_term s (RecordTerm x)) s _
-      (steps_then enums (types_step enums (RecordType (types_of_fields x)) s f.0)
-      (steps_then enums (fields_step enums x (encode_type enums (RecordType (types_of_fields x)) s).tables f.1) (record_steps enums x s f.0 f.1)))
+      (steps_then enums (types_step enums (RecordType (field_types x)) s f.0)
+      (steps_then enums (fields_step enums x (encode_type enums (RecordType (field_types x)) s).tables f.1) (record_steps enums x s f.0 f.1)))
   terms_step enums (SetTerm element ts) s f = unless_steps enums (name_of_term s (SetTerm element ts)) s _
       (steps_then enums (types_step enums (SetType element) s f.0)
       (steps_then enums (each_step enums ts (encode_type enums (SetType element) s).tables f.1) (set_steps enums element ts s f.0 f.1)))

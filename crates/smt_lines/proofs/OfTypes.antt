@@ -5,15 +5,17 @@ use Rattle.std.specs.List.{list_all}
 use Rattle.std.proofs.lemmas.Bool.{and_from}
 use Rattle.std.proofs.lemmas.List.{append-nil}
 use Rattle.smt_term.specs.Plain.{ExtensionKind, IpAddrKind, DecimalKind, DatetimeKind, DurationKind, PlainType, OptionType, BitVecType, BoolType, EntityType, ExtensionType, StringType, RecordType, SetType, AttributeTypes, no_attributes, attribute, PlainFunction}
+use Rattle.smt_term.specs.TypeValues.{Enums, members_of}
+use Rattle.smt_term.specs.Formed.{attribute_names}
 use Rattle.smt_sexpr.specs.Reading.{Expression}
 use Rattle.smt_semantics.specs.Script.{State, name}
 use Rattle.smt_semantics.specs.Meanings.{are_fields}
 use Rattle.smt_semantics.specs.Written.{is_name}
+use Rattle.smt_semantics.specs.Sorts.{bit_sort, option_sort}
 use Rattle.smt_lines.specs.Line.{Fielded, DeclareDatatype}
-use Rattle.smt_lines.specs.Lines.{Enums, Tables, Written, members_of, name_of_type, name_of_function, next_type, member_name, attribute_name, kind_name, kind_constructors, member_constructors, attribute_selectors, entity_lines, declare_entity, declare_kind, declare_record, encode_type, encode_attributes, encode_function, unless_named, bits_sort, option_sort}
-use Rattle.smt_lines.specs.Types.{attribute_names}
+use Rattle.smt_lines.specs.Lines.{Tables, Written, name_of_type, name_of_function, next_type, member_name, attribute_name, kind_name, kind_constructors, member_constructors, attribute_selectors, entity_lines, declare_entity, declare_kind, declare_record, encode_type, encode_attributes, encode_function, unless_named}
 use Rattle.smt_lines.specs.Naming.{sort_of}
-use Rattle.smt_lines.specs.Fits.{HasSort, HaveSorts, sorts_of}
+use Rattle.smt_lines.specs.Entries.{HasSort, HaveSorts, sorts_of}
 use Rattle.smt_lines.specs.Growth.{Keeps}
 use Rattle.smt_lines.proofs.Grow.{type_grows, attributes_grow, names_stay}
 use Rattle.smt_lines.proofs.Making.{types_are_made}
@@ -57,7 +59,7 @@ entity_steps enums type s = go (members_of enums type) refl
 
 kind_fields : (enums : Enums) (k : ExtensionKind) (s : Tables) (state : State) → Fit enums s state → (list_all (λ c. are_fields state [] c.selectors) (all_built (kind_constructors k)) ≡ true) × (list_all is_written_constructor (kind_constructors k) ≡ true)
 kind_fields enums IpAddrKind s state fit =
-    let a = field_sort state (option_sort (bits_sort 5)) (sort_good enums s state fit (OptionType (BitVecType 5)) refl tt).0 in
+    let a = field_sort state (option_sort (bit_sort 5)) (sort_good enums s state fit (OptionType (BitVecType 5)) refl tt).0 in
     (rw a refl, refl)
 kind_fields enums DecimalKind s state fit = (refl, refl)
 kind_fields enums DatetimeKind s state fit = (refl, refl)

@@ -7,6 +7,10 @@ use Rattle.std.proofs.lemmas.List.{append-nil, append_assoc, length-append}
 use Rattle.std.proofs.lemmas.List.Folds.{list_all-append}
 use Rattle.std.proofs.lemmas.Slice.Eq.{bytes_eq-Decides}
 use Rattle.smt_term.specs.Plain.{PlainFunction, PlainTerm}
+use Rattle.smt_term.specs.TypeValues.{Enums}
+use Rattle.smt_term.specs.Types.{type_of}
+use Rattle.smt_term.specs.TermOrder.{term_eq}
+use Rattle.smt_term.specs.Interpretations.{function_eq}
 use Rattle.smt_sexpr.specs.Reading.{Expression}
 use Rattle.smt_semantics.specs.Script as script
 use Rattle.smt_semantics.specs.Script.{Command, State, Entry, Constant, Function, Defined, is_taken, names_of, has_sort, is_sort, knows, declare, with_name, obey, step, run, is_in, built_in_names, ◌>>=◌}
@@ -14,19 +18,18 @@ use Rattle.smt_semantics.specs.Written.{is_name}
 use Rattle.smt_semantics.proofs.Append.{run_append}
 use Rattle.smt_lines.specs.Spelling.{numeral}
 use Rattle.smt_lines.specs.Line.{Line, Comment, DeclareConst, DeclareFun, DefineFun}
-use Rattle.smt_lines.specs.Lines.{Enums, Tables, Written, next_term, next_function, define, enter_term, enter_function, unless_named}
-use Rattle.smt_lines.specs.Types.{type_of}
-use Rattle.smt_lines.specs.Fits.{HasSort, term_lines, function_lines}
+use Rattle.smt_lines.specs.Lines.{Tables, Written, next_term, next_function, define, enter_term, enter_function, unless_named}
+use Rattle.smt_lines.specs.Entries.{HasSort, term_lines, function_lines}
 use Rattle.smt_lines.specs.Command.{commands, is_written, is_written_line}
 use Rattle.smt_lines.proofs.Kept.{BuildsNone, itself_kept, kept_then, name_kept, name_there, lines_stay, lines_append}
 use Rattle.smt_lines.specs.Naming.{sort_of}
-use Rattle.smt_lines.specs.Same.{same_term, same_function}
 use Rattle.smt_lines.specs.Growth.{Keeps}
 use Rattle.smt_lines.proofs.Grow.{lookup_append}
 use Rattle.smt_lines.specs.Fit.{PartsStand, EachLine, LineStands, Fit, Steps, StepsOf, TermStands, is_old_name_in}
 use Rattle.smt_lines.proofs.Basic.{numeral_suits, t_name, f_name, leads_alone}
-use Rattle.smt_lines.proofs.Known.{or_left, or_right, GoodSort, GoodText}
+use Rattle.smt_lines.proofs.Known.{GoodSort, GoodText}
 use Rattle.smt_lines.proofs.Enter.{More, fit_grows, with_name_grows, all_grow, old_stays, old_sort_stays, fresh_term, fresh_function, sort_stays}
+use Rattle.smt_semantics.proofs.Results.{or_left, or_right}
 
 -- ---- steps one after the other
 
@@ -92,7 +95,7 @@ more_term s t n = record {
 
 pub keeps_term : (s : Tables) (t : PlainTerm) (n : List ℕ) → Keeps s (with_term t n s)
 keeps_term s t n = record {
-  terms = λ u m h. lookup_append (same_term u) s.terms ((t, n) ∷ []) m h;
+  terms = λ u m h. lookup_append (term_eq u) s.terms ((t, n) ∷ []) m h;
   types = λ u m h. h;
   functions = λ f m h. h;
 }
@@ -101,7 +104,7 @@ pub keeps_function : (s : Tables) (f : PlainFunction) (n : List ℕ) → Keeps s
 keeps_function s f n = record {
   terms = λ u m h. h;
   types = λ u m h. h;
-  functions = λ g m h. lookup_append (same_function g) s.functions ((f, n) ∷ []) m h;
+  functions = λ g m h. lookup_append (function_eq g) s.functions ((f, n) ∷ []) m h;
 }
 
 -- a term whose name is there already

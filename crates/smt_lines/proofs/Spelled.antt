@@ -1,96 +1,24 @@
 -- What is spelled is read as it was.
-use Rattle.std.proofs.Common.{◌≡◌, ℕ, zero, suc, ◌/◌, ◌%◌, Bool, true, false, not, ◌&&◌, cond, eqb, List, [], ◌∷◌, ◌++◌, map, refl, sym, ap, ◌∙◌, subst, append_assoc, arith}
-use Rattle.std.specs.Prelude.{codes, nat_eq, nat_le, ◌==◌}
+use Rattle.std.proofs.Common.{◌≡◌, ℕ, Bool, true, false, not, ◌&&◌, cond, List, [], ◌∷◌, ◌++◌, map, refl, sym, ap, ◌∙◌, subst, append_assoc}
+use Rattle.std.specs.Prelude.{codes}
 use Rattle.std.specs.List.{list_all, flat_map}
-use Rattle.std.specs.Fmt.{digits, digits_onto, digit_glyph}
-use Rattle.std.proofs.lemmas.Bool.{and_parts, and_from, agree_below_at, eqb-true, false≢true}
-use Rattle.std.proofs.lemmas.Grind.{flat_map-append}
-use Rattle.smt_sexpr.specs.Lexicon.{Bits, Number, Text, Name, quote_twice, is_line_end}
+use Rattle.std.proofs.lemmas.Bool.{and_parts, and_from, false≢true}
+use Rattle.smt_sexpr.specs.Lexicon.{Bits, Number, Text, Name, is_line_end}
 use Rattle.smt_sexpr.specs.Reading.{Expression, Leaf, Node, Expressions, Nil, Cons}
 use Rattle.smt_semantics.specs.Script as script
 use Rattle.smt_semantics.specs.Script.{Command, Holds, IsWhole, name, group, exprs, constructor}
 use Rattle.smt_semantics.specs.Written.{Writes, IsLine, is_name}
 use Rattle.smt_semantics.specs.Texts.{Part, AreWritten, spaced, ConstructorPart, AreConstructors, constructor_lines, below_each}
-use Rattle.smt_semantics.specs.Quoting as quoting
-use Rattle.smt_semantics.specs.Quoting.{is_point}
 use Rattle.smt_semantics.proofs.Append.{holds_append, whole_append}
 use Rattle.smt_semantics.proofs.Lines.{names_write, numerals_write, brackets_write, comments_are_lines}
 use Rattle.smt_semantics.proofs.First.{assert_line, declare_const_line, define_fun_line, applied_text}
 use Rattle.smt_semantics.proofs.Laid.{groups_write, selectors_write, datatype_line, declare_fun_line, plain_lines}
 use Rattle.smt_semantics.proofs.Quotes.{texts_write}
-use Rattle.smt_lines.specs.Spelling.{numeral, escaped, quoted_character, quoted, spelled, spelled_others}
+use Rattle.smt_lines.specs.Spelling.{numeral, spelled, spelled_others}
 use Rattle.smt_lines.specs.Line.{Constructor, Bare, Fielded, Comment, DeclareDatatype, DeclareConst, DeclareFun, DefineFun, Assert, Push, Pop, in_comment, spelled_selector, spelled_constructor, spelled_constructors, spelled_line, spelled_lines}
 use Rattle.smt_lines.specs.Command.{built, all_built, commands_of, commands, is_written, are_written, is_written_constructor, is_written_line}
 use Rattle.smt_lines.specs.Scripts.{LinesAreLines, LinesHold}
 use Rattle.smt_lines.proofs.Basic.{numeral_digits, numeral_number}
-
--- ---- strings
-
-abbrev unquoted : ℕ → Bool
-unquoted b = not (b == 34)
-
-hex_digits : (k n : ℕ) (ds : List ℕ) → list_all unquoted ds ≡ true → list_all unquoted (digits_onto k 16 false n ds) ≡ true
-hex_digits zero n ds h = h
-hex_digits (suc k) n ds h = go (nat_eq (n / 16) 0) more (hex_digits k (n / 16) (digit_glyph false (n % 16) ∷ ds) more)
-  where
-    more : list_all unquoted (digit_glyph false (n % 16) ∷ ds) ≡ true
-    more = and_from (unquoted (digit_glyph false (n % 16))) (list_all unquoted ds) (agree_below_at (λ m. unquoted (digit_glyph false m)) (λ m. true) 16 (n % 16) refl (omega arith)) h
-
-    go : (b : Bool) → list_all unquoted (digit_glyph false (n % 16) ∷ ds) ≡ true → list_all unquoted (digits_onto k 16 false (n / 16) (digit_glyph false (n % 16) ∷ ds)) ≡ true
-        → list_all unquoted (cond b (digit_glyph false (n % 16) ∷ ds) (digits_onto k 16 false (n / 16) (digit_glyph false (n % 16) ∷ ds))) ≡ true
-    go true m again = m
-    go false m again = again
-
-no_quotes : (xs : List ℕ) → list_all unquoted xs ≡ true → flat_map quote_twice xs ≡ xs
-no_quotes [] h = refl
-no_quotes (x ∷ xs) h =
-    let q = and_parts (unquoted x) (list_all unquoted xs) h in
-    let e = not_true (x == 34) q.0 in
-    rw e (ap (λ (t : List ℕ). x ∷ t) (no_quotes xs q.1))
-  where
-    not_true : (b : Bool) → not b ≡ true → b ≡ false
-    not_true true h = absurd (false≢true h)
-    not_true false h = refl
-
-digits_unquoted : (c : ℕ) → list_all unquoted (digits 16 false c) ≡ true
-unfolding digits
-digits_unquoted c = hex_digits 64 c [] refl
-
-all_joined : (xs ys : List ℕ) → list_all unquoted xs ≡ true → list_all unquoted ys ≡ true → list_all unquoted (xs ++ ys) ≡ true
-all_joined [] ys h k = k
-all_joined (x ∷ xs) ys h k = let q = and_parts (unquoted x) (list_all unquoted xs) h in and_from (unquoted x) _ q.0 (all_joined xs ys q.1 k)
-
-escaped_stays : (c : ℕ) → flat_map quote_twice (escaped c) ≡ escaped c
-escaped_stays c = no_quotes (escaped c) (all_joined (digits 16 false c) (codes "}") (digits_unquoted c) refl)
-
-backslash : escaped 92 ≡ codes "\\u{5c}"
-unfolding digits
-backslash = refl
-
-character_is : (c : ℕ) → quoted_character c ≡ flat_map quote_twice (quoting.escaped c)
-character_is c = go (eqb c 34) refl
-  where
-    other : eqb c 34 ≡ false → eqb c 92 ≡ false → (b : Bool) → (nat_le 32 c && nat_le c 126) ≡ b
-        → cond b (c ∷ []) (escaped c) ≡ flat_map quote_twice (cond (b && true) (c ∷ []) (escaped c))
-    other e f true g = rw e refl
-    other e f false g = sym (escaped_stays c)
-
-    next : eqb c 34 ≡ false → (b : Bool) → eqb c 92 ≡ b → quoted_character c ≡ flat_map quote_twice (quoting.escaped c)
-    next e true f = let x = eqb-true c 92 f in rw x (sym (ap (flat_map quote_twice) backslash))
-    next e false f = rw (e, f) (other e f (nat_le 32 c && nat_le c 126) refl)
-
-    go : (b : Bool) → eqb c 34 ≡ b → quoted_character c ≡ flat_map quote_twice (quoting.escaped c)
-    go true e = let x = eqb-true c 34 e in rw x refl
-    go false e = next e (eqb c 92) refl
-
-characters_are : (cs : List ℕ) → flat_map quoted_character cs ≡ flat_map quote_twice (flat_map quoting.escaped cs)
-characters_are [] = refl
-characters_are (c ∷ cs) =
-    let a = character_is c in let b = characters_are cs in
-    (λ i. a i ++ b i) ∙ sym (flat_map-append quote_twice (quoting.escaped c) (flat_map quoting.escaped cs))
-
-strings : (cs : List ℕ) → list_all is_point cs ≡ true → Writes (quoted cs) (Leaf (Text cs))
-strings cs h = subst (λ (t : List ℕ). Writes (codes "\"" ++ (t ++ codes "\"")) (Leaf (Text cs))) (sym (characters_are cs)) (texts_write cs h)
 
 -- ---- expressions
 
@@ -119,7 +47,7 @@ mutual
   pub expressions_write : (e : Expression) → is_written e ≡ true → Writes (spelled e) e
   expressions_write (Leaf (Bits width n)) h = absurd (false≢true h)
   expressions_write (Leaf (Number n)) h = subst (λ m. Writes (numeral n) (Leaf (Number m))) (numeral_number n) (numerals_write (numeral n) (numeral_digits n))
-  expressions_write (Leaf (Text cs)) h = strings cs h
+  expressions_write (Leaf (Text cs)) h = texts_write cs h
   expressions_write (Leaf (Name n)) h = names_write n h
   expressions_write (Node Nil) h = brackets_write [] [] tt refl
   expressions_write (Node (Cons e es)) h = let q = and_parts (is_written e) (are_written es) h in node e es (expressions_write e q.0) (all_write es q.1)

@@ -1,13 +1,14 @@
 use Rattle.std.proofs.Common.{◌≡◌, ℕ, true, false, List, [], ◌∷◌, ◌++◌, Option, Some, None, refl, ap, ◌∙◌}
 use Rattle.std.specs.Prelude.{IsSome, is_some}
 use Rattle.std.specs.Map.{lookup}
-use Rattle.smt_lines.specs.Same.{same_type}
-use Rattle.smt_lines.proofs.Sound.{same_types}
 use Rattle.smt_term.specs.Plain.{PlainType, OptionType, BitVecType, BoolType, EntityType, ExtensionType, StringType, RecordType, SetType, BitVecLiteral, BoolLiteral, EntityLiteral, ExtensionLiteral, StringLiteral, Application, NoneTerm, LiteralTerm, RecordTerm, SetTerm, SomeTerm, VariableTerm, no_terms, one_term}
+use Rattle.smt_term.specs.Types.{type_eq}
+use Rattle.smt_term.proofs.TermTotal.{types_decided}
 use Rattle.smt_sexpr.specs.Reading.{Expression}
 use Rattle.smt_semantics.specs.Script.{name}
-use Rattle.smt_lines.specs.Lines.{Tables, Written, unless_named, name_of_term, name_of_type, text_of_name, option_sort, set_sort, encode_attributes, encode_term, encode_terms}
-use Rattle.smt_lines.specs.Fits.{named_text, given}
+use Rattle.smt_semantics.specs.Sorts.{option_sort, set_sort}
+use Rattle.smt_lines.specs.Lines.{Tables, Written, unless_named, name_of_term, name_of_type, text_of_name, encode_attributes, encode_term, encode_terms}
+use Rattle.smt_lines.specs.Entries.{named_text, given}
 use Rattle.smt_lines.specs.Made.{TermListsAreMade, TextsStay, SortsStay, SortsStand}
 use Rattle.smt_lines.proofs.Grow.{terms_grow, names_stay}
 use Rattle.smt_lines.proofs.Making.{terms_are_made, lookup_new, larger_attributes, less}
@@ -68,8 +69,8 @@ stands : (t : PlainType) (s : Tables) (f : Tables → Written Expression) (o : O
 stands t s f (Some n) e h = ap is_some e
 stands t s f None e h = h e
 
-stands_new : (t : PlainType) (n : List ℕ) (s : Tables) → name_of_type s t ≡ None → IsSome (lookup (same_type t) (s.types ++ (t, n) ∷ []))
-stands_new t n s h = ap is_some (lookup_new (same_type t) s.types t n ((same_types t t).1 refl) h)
+stands_new : (t : PlainType) (n : List ℕ) (s : Tables) → name_of_type s t ≡ None → IsSome (lookup (type_eq t) (s.types ++ (t, n) ∷ []))
+stands_new t n s h = ap is_some (lookup_new (type_eq t) s.types t n ((types_decided t t).1 refl) h)
 
 pub sorts_stand : SortsStand
 sorts_stand enums (OptionType t) s = sorts_stand enums t s

@@ -6,6 +6,7 @@ use Rattle.std.proofs.lemmas.Bool.{and_parts, and_from, cond-true, cond-false}
 use Rattle.std.proofs.lemmas.List.{append-nil}
 use Rattle.std.proofs.lemmas.List.Folds.{list_all-append}
 use Rattle.smt_term.specs.Plain.{PlainTerm, terms}
+use Rattle.smt_term.specs.TypeValues.{Enums}
 use Rattle.smt_sexpr.specs.Reading.{Expression}
 use Rattle.smt_semantics.specs.Script as script
 use Rattle.smt_semantics.specs.Script.{Command, State, Builds, Selects, Script, IsWhole, Holds, name, exprs, has_name, has_sort, knows, are_all, each_stated, with_assertion, start, step, run, obey, assertions_of, ◌>>=◌}
@@ -13,18 +14,19 @@ use Rattle.smt_semantics.specs.Sorts.{entries}
 use Rattle.smt_semantics.specs.Written.{IsLine, Stands}
 use Rattle.smt_semantics.proofs.First.{option_is_line}
 use Rattle.smt_lines.specs.Line.{Line, Assert, spelled_line, spelled_lines}
-use Rattle.smt_lines.specs.Lines.{Enums, Tables, no_names, encode_terms, option_line}
+use Rattle.smt_lines.specs.Lines.{Tables, no_names, encode_terms, option_line, option_constructors}
 use Rattle.smt_lines.specs.Text.{text}
-use Rattle.smt_lines.specs.Fits.{given, text_of}
-use Rattle.smt_lines.specs.Command.{commands, commands_of, are_written, is_written, is_written_line}
+use Rattle.smt_lines.specs.Entries.{given, text_of}
+use Rattle.smt_lines.specs.Command.{commands, commands_of, are_written, is_written, is_written_line, all_built}
 use Rattle.smt_lines.specs.Fit.{BuildsOnly, IsRooted, Fit, Kept, EachLine, LineStands}
 use Rattle.smt_lines.proofs.Kept.{first_only, first_rooted, kept_then, line_stays, lines_stay, lines_append}
 use Rattle.smt_lines.specs.Scripts.{TextsAreScripts}
-use Rattle.smt_lines.proofs.Known.{or_left, TextsAre, texts_good}
+use Rattle.smt_lines.proofs.Known.{TextsAre, texts_good}
 use Rattle.smt_lines.proofs.Enter.{fit_grows}
 use Rattle.smt_lines.proofs.Single.{commands_append, runs_then}
 use Rattle.smt_lines.proofs.OfTerms.{each_step, texts_are}
 use Rattle.smt_lines.proofs.Spelled.{one_holds, lines_hold}
+use Rattle.smt_semantics.proofs.Results.{or_left}
 
 -- ---- the first line
 
@@ -45,7 +47,7 @@ pub first_runs : run (commands (option_line ∷ [])) start ≡ Some begun
 first_runs = refl
 
 abbrev option_built : List script.Constructor
-option_built = record { name = codes "none"; selectors = [] } ∷ record { name = codes "some"; selectors = (codes "val", name (codes "X")) ∷ [] } ∷ []
+option_built = all_built option_constructors
 
 begun_only : BuildsOnly (entries begun) (codes "Option") (codes "X" ∷ []) option_built
 begun_only = first_only (codes "Option") (codes "X" ∷ []) option_built

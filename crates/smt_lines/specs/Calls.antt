@@ -1,8 +1,9 @@
 -- Calls of an encoder whose lines are a script, and states that fit an encoder between calls.
 use Rattle.std.specs.Prelude.{◌≡◌, Bool, true, false, List, [], ◌∷◌}
 use Rattle.smt_term.specs.Plain.{terms}
+use Rattle.smt_term.specs.TypeValues.{Enums}
 use Rattle.smt_semantics.specs.Script.{Level, State, start}
-use Rattle.smt_lines.specs.Lines.{Enums, Tables, no_names, Call, PushCall, PopCall, EncodeCall, Encoding, after_call}
+use Rattle.smt_lines.specs.Lines.{Tables, no_names, Call, PushCall, PopCall, EncodeCall, Encoding, after_call}
 use Rattle.smt_lines.specs.Fine.{AreFine}
 use Rattle.smt_lines.specs.Fit.{Fit}
 

@@ -6,8 +6,8 @@ use Rattle.smt_sexpr.specs.Reading.{Expression, Leaf, Node, Expressions, Nil, Co
 use Rattle.smt_semantics.specs.Script as script
 use Rattle.smt_semantics.specs.Script.{Command}
 use Rattle.smt_semantics.specs.Written.{is_name}
-use Rattle.smt_semantics.specs.Quoting.{is_point}
 use Rattle.smt_lines.specs.Line.{Constructor, Bare, Fielded, Line, Comment, DeclareDatatype, DeclareConst, DeclareFun, DefineFun, Assert, Push, Pop}
+use Rattle.smt_term.specs.TypeValues.{is_code_point}
 
 abbrev pub built : Constructor → script.Constructor
 built (Bare n) = record { name = n; selectors = [] }
@@ -35,7 +35,7 @@ commands ls = flat_map commands_of ls
 abbrev pub is_written_atom : Atom → Bool
 is_written_atom (Bits width n) = false
 is_written_atom (Number n) = true
-is_written_atom (Text characters) = list_all is_point characters
+is_written_atom (Text characters) = list_all is_code_point characters
 is_written_atom (Name n) = is_name n
 
 abbrev mutual

@@ -2,10 +2,13 @@
 use Rattle.std.specs.Prelude.{◌≡◌, ◌⊎◌, ℕ, true, nat_lt, chars, length, List, Option, Some, None}
 use Rattle.std.specs.List.{list_all}
 use Rattle.smt_term.specs.Plain.{ExtensionKind, IpAddrKind, DecimalKind, DatetimeKind, DurationKind, PlainType, OptionType, BitVecType, ExtensionType, RecordType, SetType, AttributeTypes, no_attributes, attribute, ExtensionOp, DatetimeOfBitVecOp, DatetimeValOp, DecimalValOp, DurationOfBitVecOp, DurationValOp, IpAddrV4Op, IpAddrV6Op, IpIsV4Op, IpPrefixV4Op, IpPrefixV6Op, PlainOp, BvnegoOp, ExtOp, RecordGetOp, StringLikeOp, UufOp, PlainLiteral, EntityLiteral, StringLiteral, PlainTerm, Application, NoneTerm, LiteralTerm, RecordTerm, SetTerm, SomeTerm, VariableTerm, PlainTerms, no_terms, one_term, PlainFields, no_fields, one_field}
-use Rattle.smt_semantics.specs.Arithmetic.{is_width}
-use Rattle.smt_semantics.specs.Quoting.{is_point, is_written_part}
-use Rattle.smt_lines.specs.Lines.{Enums, members_of, place_of, Manner, AsItStands, AsLeast, AsFalse, manner}
-use Rattle.smt_lines.specs.Types.{type_of, first_type, attribute_names}
+use Rattle.smt_term.specs.TypeValues.{Enums, members_of}
+use Rattle.smt_term.specs.Types.{type_of}
+use Rattle.smt_term.specs.Formed.{attribute_names}
+use Rattle.smt_bits.specs.Widths.{is_width}
+use Rattle.smt_lines.specs.Lines.{place_of, Manner, AsItStands, AsLeast, AsFalse, manner, first_type}
+use Rattle.smt_term.specs.TypeValues.{is_code_point}
+use Rattle.smt_term.specs.Faults.{is_pattern_part}
 
 -- each width is one
 abbrev mutual
@@ -22,12 +25,12 @@ abbrev mutual
 
 -- a member of its enum type, or an id that is written
 abbrev pub IsFineId : Option (List (List ℕ)) → (id : List ℕ) → Type 0
-IsFineId None id = list_all is_point (chars id) ≡ true
+IsFineId None id = list_all is_code_point (chars id) ≡ true
 IsFineId (Some members) id = nat_lt (place_of id members) (length members) ≡ true
 
 abbrev pub IsFineLiteral : Enums → PlainLiteral → Type 0
 IsFineLiteral enums (EntityLiteral type id) = IsFineId (members_of enums type) id
-IsFineLiteral enums (StringLiteral text) = list_all is_point (chars text) ≡ true
+IsFineLiteral enums (StringLiteral text) = list_all is_code_point (chars text) ≡ true
 IsFineLiteral enums p = Unit {0}
 
 -- the kind whose names an operator is written with
@@ -58,7 +61,7 @@ IsFineOp BvnegoOp ts type = IsLeast (manner BvnegoOp ts type)
 IsFineOp (ExtOp x) ts type = (first_type ts ≡ ExtensionType (kind_of_op x)) ⊎ (type ≡ ExtensionType (kind_of_op x))
 IsFineOp (RecordGetOp a) ts type =
     (attributes : AttributeTypes) × (first_type ts ≡ RecordType attributes) × (nat_lt (place_of a (attribute_names attributes)) (length (attribute_names attributes)) ≡ true)
-IsFineOp (StringLikeOp p) ts type = IsOne ts × (list_all is_written_part p ≡ true)
+IsFineOp (StringLikeOp p) ts type = IsOne ts × (list_all is_pattern_part p ≡ true)
 IsFineOp (UufOp f) ts type = IsFineType f.argument × IsFineType f.output
 IsFineOp op ts type = Unit {0}
 

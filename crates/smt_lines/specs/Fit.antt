@@ -3,6 +3,9 @@
 use Rattle.std.specs.Prelude.{◌≡◌, ℕ, zero, suc, ◌+◌, ◌-◌, ◌*◌, Bool, true, false, ◌&&◌, ◌||◌, if◌then◌else◌, ◌==◌, nat_lt, bytes_eq, is_some, IsSome, codes, length, map, List, [], ◌∷◌, Option, Some, None}
 use Rattle.std.specs.List.{list_all}
 use Rattle.smt_term.specs.Plain.{ExtensionKind, IpAddrKind, DecimalKind, DatetimeKind, DurationKind, PlainType, EntityType, ExtensionType, RecordType, PlainFunction, PlainOp, RecordGetOp, PlainTerm, Application, PlainTerms}
+use Rattle.smt_term.specs.TypeValues.{Enums, members_of}
+use Rattle.smt_term.specs.Types.{type_of}
+use Rattle.smt_term.specs.Formed.{attribute_names}
 use Rattle.smt_sexpr.specs.Lexicon.{is_digit}
 use Rattle.smt_sexpr.specs.Reading.{Expression}
 use Rattle.smt_semantics.specs.Script.{Constructor, Entry, Constant, Function, Defined, Builds, State, is_in, names_of, sorts_of, has_name, has_sort, run}
@@ -10,10 +13,9 @@ use Rattle.smt_semantics.specs.Meanings.{names_in}
 use Rattle.smt_semantics.specs.Written.{is_name}
 use Rattle.smt_lines.specs.Line.{Line, DeclareDatatype, DeclareConst, DeclareFun, DefineFun}
 use Rattle.smt_semantics.specs.Sorts.{Entries, entries}
-use Rattle.smt_semantics.specs.Growth.{Declares}
-use Rattle.smt_lines.specs.Lines.{Enums, members_of, Tables, Written, name_of_type, member_name, attribute_name, id_name, kind_name, kind_constructors, option_line}
-use Rattle.smt_lines.specs.Types.{first_type, type_of, attribute_names}
-use Rattle.smt_lines.specs.Fits.{EachEntry, HasSort, type_lines, function_lines, term_lines, TypePartsStand, TermPartsStand}
+use Rattle.smt_semantics.specs.Growth.{shown, at_place, Declares}
+use Rattle.smt_lines.specs.Lines.{Tables, Written, name_of_type, member_name, attribute_name, id_name, kind_name, kind_constructors, option_line, first_type}
+use Rattle.smt_lines.specs.Entries.{EachEntry, HasSort, type_lines, function_lines, term_lines, TypePartsStand, TermPartsStand}
 use Rattle.smt_lines.specs.Growth.{Keeps}
 use Rattle.smt_lines.specs.Command.{all_built, commands, is_written_line}
 
@@ -107,15 +109,9 @@ pub record TermStands (s : Tables) (state : State) (t : PlainTerm) (n : List ℕ
 abbrev pub declares_sort : State → List ℕ → Bool
 declares_sort state d = is_in d (map (λ p. p.0) (sorts_of state))
 
--- the constructor at a place, with the sorts of its fields
-abbrev pub constructor_at : List Constructor → ℕ → Option (List ℕ × List Expression)
-constructor_at [] place = None
-constructor_at (c ∷ cs) zero = Some (c.name, map (λ x. x.1) c.selectors)
-constructor_at (c ∷ cs) (suc place) = constructor_at cs place
-
 -- What builds values of a datatype is one of these constructors, at its place.
 abbrev pub BuildsOnly : Entries → List ℕ → List (List ℕ) → List Constructor → Type 0
-BuildsOnly here d ps cs = (place : ℕ) (c : List ℕ) (fields : List Expression) (qs : List (List ℕ)) → here c ≡ Some (Builds d qs place fields) → (qs ≡ ps) × (constructor_at cs place ≡ Some (c, fields))
+BuildsOnly here d ps cs = (place : ℕ) (c : List ℕ) (fields : List Expression) (qs : List (List ℕ)) → here c ≡ Some (Builds d qs place fields) → (qs ≡ ps) × (at_place (shown cs) place ≡ Some (c, fields))
 
 -- What builds values builds them of a datatype that is declared.
 abbrev pub IsRooted : State → Type 0

@@ -1,11 +1,12 @@
 -- What writing adds to the tables: entries behind those that are there, each with the name of its place, and lines as many.
 use Rattle.std.specs.Prelude.{◌≡◌, ℕ, suc, ◌≤◌, ◌<◌, ◌^◌, Bool, true, length, codes, decimal, List, [], ◌∷◌, ◌++◌, Some, is_none}
 use Rattle.smt_term.specs.Plain.{PlainType, PlainFunction, PlainTerm, PlainTerms}
+use Rattle.smt_term.specs.TypeValues.{Enums}
 use Rattle.smt_lines.specs.Naming.{HasEntry, HasDistinctNames}
 use Rattle.smt_lines.specs.Spelling.{numeral}
 use Rattle.smt_lines.specs.Line.{Line, DeclareDatatype, DeclareConst, DeclareFun, DefineFun}
-use Rattle.smt_lines.specs.Lines.{Enums, Tables, no_names, Written, numbered, name_of_term, name_of_type, name_of_function, encode_type, encode_function, encode_term, encode_terms}
-use Rattle.smt_lines.specs.Fits.{AreNumbered, stated_type_name, stated_function_name, undrawn_name}
+use Rattle.smt_lines.specs.Lines.{Tables, no_names, Written, numbered, name_of_term, name_of_type, name_of_function, encode_type, encode_function, encode_term, encode_terms}
+use Rattle.smt_lines.specs.Entries.{AreNumbered, stated_type_name, stated_function_name, undrawn_name}
 
 abbrev pub datatypes : List Line → ℕ
 datatypes [] = 0

@@ -1,11 +1,10 @@
 -- Laws of the bytes of expressions and of calls.
-use Rattle.std.specs.Prelude.{◌≡◌, map, List, ◌∷◌, ◌++◌, Decides}
+use Rattle.std.specs.Prelude.{◌≡◌, map, List, ◌∷◌, ◌++◌}
 use Rattle.smt_sexpr.specs.Reading.{Expression}
 use Rattle.smt_semantics.specs.Script.{name, group}
 use Rattle.smt_lines.specs.Spelling.{spelled}
-use Rattle.smt_lines.specs.Lines.{Enums, Call, Encoding, after_calls, lines_of_calls}
-use Rattle.smt_lines.specs.Same.{same_type, same_function, same_term}
-use Rattle.smt_term.specs.Plain.{PlainType, PlainFunction, PlainTerm}
+use Rattle.smt_lines.specs.Lines.{Call, Encoding, after_calls, lines_of_calls}
+use Rattle.smt_term.specs.TypeValues.{Enums}
 use Rattle.smt_lines.specs.Line.{Line, spelled_lines}
 
 -- what is written in place of an expression is its text alone
@@ -20,12 +19,3 @@ abbrev pub CallsJoin : Type 0
 CallsJoin = (enums : Enums) (cs ds : List Call) (s : Encoding)
     → (lines_of_calls enums (cs ++ ds) s ≡ lines_of_calls enums cs s ++ lines_of_calls enums ds (after_calls enums cs s))
     × (after_calls enums (cs ++ ds) s ≡ after_calls enums ds (after_calls enums cs s))
-
-abbrev pub SameTypesAreOne : Type 0
-SameTypesAreOne = (t u : PlainType) → Decides (same_type t u) (t ≡ u)
-
-abbrev pub SameFunctionsAreOne : Type 0
-SameFunctionsAreOne = (f g : PlainFunction) → Decides (same_function f g) (f ≡ g)
-
-abbrev pub SameTermsAreOne : Type 0
-SameTermsAreOne = (t u : PlainTerm) → Decides (same_term t u) (t ≡ u)

@@ -1,10 +1,9 @@
 pub mod Calls
 pub mod Command
+pub mod Entries
 pub mod Every
 pub mod Fine
 pub mod Fit
-pub mod Fits
-pub mod FitsRows
 pub mod Growth
 pub mod Hostile
 pub mod Joins
@@ -12,10 +11,7 @@ pub mod Line
 pub mod Lines
 pub mod Made
 pub mod Naming
-pub mod Reached
 pub mod Rows
-pub mod Same
 pub mod Scripts
 pub mod Spelling
 pub mod Text
-pub mod Types

@@ -2,23 +2,21 @@
 use Rattle.std.specs.Prelude.{ℕ, suc, ◌-◌, ◌^◌, Bool, true, false, ◌||◌, if◌then◌else◌, ◌==◌, nat_lt, bytes_eq, codes, chars, ℤ, pos, negsuc, length, map, List, [], ◌∷◌, ◌++◌, Option, Some, None}
 use Rattle.std.specs.List.{flat_map, join_by}
 use Rattle.std.specs.Map.{lookup}
-use Rattle.smt_term.specs.Plain.{ExtensionKind, IpAddrKind, DecimalKind, DatetimeKind, DurationKind, PlainType, OptionType, BitVecType, BoolType, EntityType, ExtensionType, StringType, RecordType, SetType, AttributeTypes, no_attributes, attribute, PlainFunction, ExtensionOp, DatetimeOfBitVecOp, DatetimeValOp, DecimalValOp, DurationOfBitVecOp, DurationValOp, IpAddrV4Op, IpAddrV6Op, IpIsV4Op, IpPrefixV4Op, IpPrefixV6Op, PatternPart, Character, Wildcard, PlainOp, AndOp, BvaddOp, BvlshrOp, BvmulOp, BvnegOp, BvnegoOp, BvsaddoOp, BvsdivOp, BvshlOp, BvsleOp, BvsltOp, BvsmodOp, BvsmuloOp, BvsremOp, BvssuboOp, BvsubOp, BvudivOp, BvuleOp, BvultOp, BvuremOp, EqOp, ExtOp, IteOp, NotOp, OptionGetOp, OrOp, RecordGetOp, SetInterOp, SetMemberOp, SetSubsetOp, StringLikeOp, UufOp, ZeroExtendOp, PlainExtension, DecimalOf, Ipv4Of, Ipv6Of, DatetimeOf, DurationOf, PlainLiteral, BitVecLiteral, BoolLiteral, EntityLiteral, ExtensionLiteral, StringLiteral, PlainTerm, Application, NoneTerm, LiteralTerm, RecordTerm, SetTerm, SomeTerm, VariableTerm, PlainTerms, no_terms, one_term, PlainFields, no_fields, one_field, terms}
+use Rattle.smt_term.specs.Plain.{ExtensionKind, IpAddrKind, DecimalKind, DatetimeKind, DurationKind, PlainType, OptionType, BitVecType, BoolType, EntityType, ExtensionType, StringType, RecordType, SetType, AttributeTypes, no_attributes, attribute, PlainFunction, ExtensionOp, DatetimeOfBitVecOp, DatetimeValOp, DecimalValOp, DurationOfBitVecOp, DurationValOp, IpAddrV4Op, IpAddrV6Op, IpIsV4Op, IpPrefixV4Op, IpPrefixV6Op, PatternPart, PlainOp, AndOp, BvaddOp, BvlshrOp, BvmulOp, BvnegOp, BvnegoOp, BvsaddoOp, BvsdivOp, BvshlOp, BvsleOp, BvsltOp, BvsmodOp, BvsmuloOp, BvsremOp, BvssuboOp, BvsubOp, BvudivOp, BvuleOp, BvultOp, BvuremOp, EqOp, ExtOp, IteOp, NotOp, OptionGetOp, OrOp, RecordGetOp, SetInterOp, SetMemberOp, SetSubsetOp, StringLikeOp, UufOp, ZeroExtendOp, PlainExtension, DecimalOf, Ipv4Of, Ipv6Of, DatetimeOf, DurationOf, PlainLiteral, BitVecLiteral, BoolLiteral, EntityLiteral, ExtensionLiteral, StringLiteral, PlainTerm, Application, NoneTerm, LiteralTerm, RecordTerm, SetTerm, SomeTerm, VariableTerm, PlainTerms, no_terms, one_term, PlainFields, no_fields, one_field, terms}
+pub use Rattle.smt_term.specs.TypeValues.{Enums, members_of}
+use Rattle.smt_term.specs.Types.{type_eq, type_of, literal_type}
+use Rattle.smt_term.specs.Interpretations.{function_eq}
+use Rattle.smt_term.specs.TermOrder.{term_eq}
+use Rattle.smt_term.specs.Formed.{attribute_names}
 use Rattle.smt_sexpr.specs.Reading.{Expression, Leaf}
 use Rattle.smt_sexpr.specs.Lexicon.{Number, Text}
 use Rattle.smt_semantics.specs.Script.{name, group}
+use Rattle.smt_semantics.specs.Quoting.{pattern_expr}
+use Rattle.smt_semantics.specs.Sorts.{bool_sort, string_sort, bit_sort, option_sort, set_sort}
 use Rattle.smt_lines.specs.Spelling.{escaped, numeral}
 use Rattle.smt_lines.specs.Line.{Constructor, Bare, Fielded, Line, Comment, DeclareDatatype, DeclareConst, DeclareFun, DefineFun, Assert, Push, Pop}
-use Rattle.smt_lines.specs.Same.{same_type, same_function, same_term}
-use Rattle.smt_lines.specs.Types.{type_of, literal_type, attribute_names, first_type}
 
 -- ---- tables
-
--- the enum types, each with its members in their order
-abbrev pub Enums : Type 0
-Enums = List (List ℕ × List (List ℕ))
-
-abbrev pub members_of : Enums → List ℕ → Option (List (List ℕ))
-members_of enums type = lookup (bytes_eq type) enums
 
 -- what has a name, in the order in which the names were given
 pub record Tables : Type 0 where
@@ -30,13 +28,13 @@ abbrev pub no_names : Tables
 no_names = record { terms = []; types = []; functions = [] }
 
 abbrev pub name_of_term : Tables → PlainTerm → Option (List ℕ)
-name_of_term s t = lookup (same_term t) s.terms
+name_of_term s t = lookup (term_eq t) s.terms
 
 abbrev pub name_of_type : Tables → PlainType → Option (List ℕ)
-name_of_type s t = lookup (same_type t) s.types
+name_of_type s t = lookup (type_eq t) s.types
 
 abbrev pub name_of_function : Tables → PlainFunction → Option (List ℕ)
-name_of_function s f = lookup (same_function f) s.functions
+name_of_function s f = lookup (function_eq f) s.functions
 
 abbrev pub numbered : List ℕ → ℕ → List ℕ
 numbered letter n = letter ++ numeral n
@@ -107,19 +105,14 @@ place_of text (x ∷ xs) = if bytes_eq text x then 0 else suc (place_of text xs)
 
 -- ---- sorts
 
-abbrev pub bits_sort : ℕ → Expression
-bits_sort width = group (name (codes "_") ∷ name (codes "BitVec") ∷ Leaf (Number width) ∷ [])
-
-abbrev pub option_sort : Expression → Expression
-option_sort sort = group (name (codes "Option") ∷ sort ∷ [])
-
-abbrev pub set_sort : Expression → Expression
-set_sort sort = group (name (codes "Set") ∷ sort ∷ [])
-
 -- constructors without fields, numbered from a place on
 abbrev pub member_constructors : (type : List ℕ) → ℕ → List (List ℕ) → List Constructor
 member_constructors type place [] = []
 member_constructors type place (m ∷ ms) = Bare (member_name type place) ∷ member_constructors type (suc place) ms
+
+abbrev pub entity_constructors : (members : Option (List (List ℕ))) → (type : List ℕ) → List Constructor
+entity_constructors None type = Fielded type ((id_name type, string_sort) ∷ []) ∷ []
+entity_constructors (Some members) type = member_constructors type 0 members
 
 abbrev pub attribute_selectors : (type : List ℕ) → ℕ → List Expression → List (List ℕ × Expression)
 attribute_selectors type place [] = []
@@ -130,9 +123,9 @@ listed texts = join_by (λ x. x) (codes ", ") texts
 
 abbrev pub entity_lines : (members : Option (List (List ℕ))) → (type sort : List ℕ) → List Line
 entity_lines None type sort =
-    Comment type ∷ DeclareDatatype sort [] (Fielded sort ((id_name sort, name (codes "String")) ∷ []) ∷ []) ∷ []
+    Comment type ∷ DeclareDatatype sort [] (entity_constructors None sort) ∷ []
 entity_lines (Some members) type sort =
-    Comment (type ++ (codes "::[" ++ (listed members ++ codes "]"))) ∷ DeclareDatatype sort [] (member_constructors sort 0 members) ∷ []
+    Comment (type ++ (codes "::[" ++ (listed members ++ codes "]"))) ∷ DeclareDatatype sort [] (entity_constructors (Some members) sort) ∷ []
 
 abbrev pub record_lines : (attributes : List (List ℕ)) → (sort : List ℕ) → List Expression → List Line
 record_lines attributes sort sorts =
@@ -146,11 +139,11 @@ kind_name DurationKind = codes "Duration"
 
 abbrev pub kind_constructors : ExtensionKind → List Constructor
 kind_constructors IpAddrKind =
-    Fielded (codes "V4") ((codes "addrV4", bits_sort 32) ∷ (codes "prefixV4", option_sort (bits_sort 5)) ∷ [])
-    ∷ Fielded (codes "V6") ((codes "addrV6", bits_sort 128) ∷ (codes "prefixV6", option_sort (bits_sort 7)) ∷ []) ∷ []
-kind_constructors DecimalKind = Fielded (codes "Decimal") ((codes "decimalVal", bits_sort 64) ∷ []) ∷ []
-kind_constructors DatetimeKind = Fielded (codes "Datetime") ((codes "datetimeVal", bits_sort 64) ∷ []) ∷ []
-kind_constructors DurationKind = Fielded (codes "Duration") ((codes "durationVal", bits_sort 64) ∷ []) ∷ []
+    Fielded (codes "V4") ((codes "addrV4", bit_sort 32) ∷ (codes "prefixV4", option_sort (bit_sort 5)) ∷ [])
+    ∷ Fielded (codes "V6") ((codes "addrV6", bit_sort 128) ∷ (codes "prefixV6", option_sort (bit_sort 7)) ∷ []) ∷ []
+kind_constructors DecimalKind = Fielded (codes "Decimal") ((codes "decimalVal", bit_sort 64) ∷ []) ∷ []
+kind_constructors DatetimeKind = Fielded (codes "Datetime") ((codes "datetimeVal", bit_sort 64) ∷ []) ∷ []
+kind_constructors DurationKind = Fielded (codes "Duration") ((codes "durationVal", bit_sort 64) ∷ []) ∷ []
 
 abbrev pub declare_entity : Enums → (type : List ℕ) → Tables → Written Expression
 declare_entity enums type s =
@@ -166,13 +159,13 @@ declare_record attributes sorts s =
 abbrev mutual
   pub encode_type : Enums → PlainType → Tables → Written Expression
   encode_type enums (OptionType t) s = encode_type enums t s >>= λ sort u. made_of (option_sort sort) u
-  encode_type enums (BitVecType width) s = made_of (bits_sort width) s
-  encode_type enums BoolType s = made_of (name (codes "Bool")) s
+  encode_type enums (BitVecType width) s = made_of (bit_sort width) s
+  encode_type enums BoolType s = made_of bool_sort s
   encode_type enums (EntityType type) s =
       unless_named (name_of_type s (EntityType type)) s (λ u. declare_entity enums type u)
   encode_type enums (ExtensionType kind) s =
       unless_named (name_of_type s (ExtensionType kind)) s (λ u. declare_kind kind u)
-  encode_type enums StringType s = made_of (name (codes "String")) s
+  encode_type enums StringType s = made_of string_sort s
   encode_type enums (RecordType attributes) s =
       unless_named (name_of_type s (RecordType attributes)) s
       (λ u. encode_attributes enums attributes u >>= λ sorts v. declare_record attributes sorts v)
@@ -204,7 +197,7 @@ bits_64 (negsuc n) = bits 64 (2 ^ 64 - suc n)
 
 abbrev pub prefix_body : (width : ℕ) → Option ℕ → Expression
 prefix_body width (Some p) = group (name (codes "some") ∷ bits width p ∷ [])
-prefix_body width None = group (name (codes "as") ∷ name (codes "none") ∷ option_sort (bits_sort width) ∷ [])
+prefix_body width None = group (name (codes "as") ∷ name (codes "none") ∷ option_sort (bit_sort width) ∷ [])
 
 abbrev pub extension_body : PlainExtension → Expression
 extension_body (DecimalOf x) = group (name (codes "Decimal") ∷ bits_64 x ∷ [])
@@ -244,15 +237,6 @@ encode_literal enums (StringLiteral text) s = made_of (Leaf (Text (chars text)))
 
 -- ---- operators
 
-abbrev pub pattern_part : PatternPart → Expression
-pattern_part (Character c) = group (name (codes "str.to_re") ∷ Leaf (Text (c ∷ [])) ∷ [])
-pattern_part Wildcard = group (name (codes "re.*") ∷ name (codes "re.allchar") ∷ [])
-
-abbrev pub pattern_body : List PatternPart → Expression
-pattern_body [] = group (name (codes "str.to_re") ∷ Leaf (Text []) ∷ [])
-pattern_body (p ∷ []) = pattern_part p
-pattern_body (p ∷ q ∷ ps) = group (name (codes "re.++") ∷ pattern_part p ∷ pattern_part q ∷ map pattern_part ps)
-
 abbrev pub extension_op_head : ExtensionOp → Expression
 extension_op_head DatetimeOfBitVecOp = name (codes "Datetime")
 extension_op_head DatetimeValOp = name (codes "datetimeVal")
@@ -264,6 +248,11 @@ extension_op_head IpAddrV6Op = name (codes "addrV6")
 extension_op_head IpIsV4Op = group (name (codes "_") ∷ name (codes "is") ∷ name (codes "V4") ∷ [])
 extension_op_head IpPrefixV4Op = name (codes "prefixV4")
 extension_op_head IpPrefixV6Op = name (codes "prefixV6")
+
+-- the type of the first term, and Bool where there is none
+abbrev pub first_type : PlainTerms → PlainType
+first_type no_terms = BoolType
+first_type (one_term t ts) = type_of t
 
 -- the place of an attribute in a record type; 0 where the type is none
 abbrev pub attribute_place : List ℕ → PlainType → ℕ
@@ -310,8 +299,8 @@ encode_head enums (ZeroExtendOp n) ts s =
 
 -- A pattern stands behind the arguments; where there are none, their empty text stands before it.
 abbrev pub with_pattern : List PatternPart → List Expression → List Expression
-with_pattern p [] = name [] ∷ pattern_body p ∷ []
-with_pattern p (e ∷ es) = e ∷ (es ++ pattern_body p ∷ [])
+with_pattern p [] = name [] ∷ pattern_expr p ∷ []
+with_pattern p (e ∷ es) = e ∷ (es ++ pattern_expr p ∷ [])
 
 abbrev pub operands : PlainOp → List Expression → List Expression
 operands (StringLikeOp p) es = with_pattern p es
@@ -432,10 +421,12 @@ pub record Encoding : Type 0 where
 abbrev pub fresh : Encoding
 fresh = record { tables = no_names; below = []; begun = false }
 
+abbrev pub option_constructors : List Constructor
+option_constructors = Bare (codes "none") ∷ Fielded (codes "some") ((codes "val", name (codes "X")) ∷ []) ∷ []
+
 -- `Option`, with its constructors
 abbrev pub option_line : Line
-option_line = DeclareDatatype (codes "Option") (codes "X" ∷ [])
-    (Bare (codes "none") ∷ Fielded (codes "some") ((codes "val", name (codes "X")) ∷ []) ∷ [])
+option_line = DeclareDatatype (codes "Option") (codes "X" ∷ []) option_constructors
 
 abbrev pub beginning : Bool → List Line
 beginning true = []

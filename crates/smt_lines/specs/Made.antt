@@ -1,10 +1,11 @@
 -- What was made for a type or a term is what the tables give for it afterwards.
 use Rattle.std.specs.Prelude.{◌≡◌, Some}
 use Rattle.smt_term.specs.Plain.{PlainType, PlainFunction, PlainTerm, PlainTerms}
+use Rattle.smt_term.specs.TypeValues.{Enums}
 use Rattle.smt_sexpr.specs.Reading.{Expression}
-use Rattle.smt_lines.specs.Lines.{Enums, Tables, name_of_function, encode_type, encode_function, encode_term, encode_terms}
+use Rattle.smt_lines.specs.Lines.{Tables, name_of_function, encode_type, encode_function, encode_term, encode_terms}
 use Rattle.smt_lines.specs.Naming.{sort_of}
-use Rattle.smt_lines.specs.Fits.{text_of, texts_of, named_text, HasSort}
+use Rattle.smt_lines.specs.Entries.{text_of, texts_of, named_text, HasSort}
 use Rattle.smt_lines.specs.Growth.{Keeps}
 
 abbrev pub TypesAreMade : Type 0

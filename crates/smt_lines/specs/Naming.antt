@@ -1,9 +1,10 @@
 -- The sorts that tables name, and tables whose names differ.
-use Rattle.std.specs.Prelude.{◌≡◌, ◌⊎◌, ℕ, codes, List, [], ◌∷◌}
+use Rattle.std.specs.Prelude.{◌≡◌, ◌⊎◌, ℕ, List, [], ◌∷◌}
 use Rattle.smt_term.specs.Plain.{PlainType, OptionType, BitVecType, BoolType, EntityType, ExtensionType, StringType, RecordType, SetType}
 use Rattle.smt_sexpr.specs.Reading.{Expression}
 use Rattle.smt_semantics.specs.Script.{name}
-use Rattle.smt_lines.specs.Lines.{Tables, name_of_type, text_of_name, bits_sort, option_sort, set_sort}
+use Rattle.smt_semantics.specs.Sorts.{bool_sort, string_sort, bit_sort, option_sort, set_sort}
+use Rattle.smt_lines.specs.Lines.{Tables, name_of_type, text_of_name}
 
 abbrev pub type_name : Tables → PlainType → List ℕ
 type_name s t = text_of_name (name_of_type s t)
@@ -11,11 +12,11 @@ type_name s t = text_of_name (name_of_type s t)
 -- the sort of a type, where its parts have names
 abbrev pub sort_of : Tables → PlainType → Expression
 sort_of s (OptionType t) = option_sort (sort_of s t)
-sort_of s (BitVecType width) = bits_sort width
-sort_of s BoolType = name (codes "Bool")
+sort_of s (BitVecType width) = bit_sort width
+sort_of s BoolType = bool_sort
 sort_of s (EntityType type) = name (type_name s (EntityType type))
 sort_of s (ExtensionType kind) = name (type_name s (ExtensionType kind))
-sort_of s StringType = name (codes "String")
+sort_of s StringType = string_sort
 sort_of s (RecordType attributes) = name (type_name s (RecordType attributes))
 sort_of s (SetType t) = set_sort (sort_of s t)
 

@@ -2,16 +2,17 @@
 use Rattle.std.specs.Prelude.{◌≡◌, ℕ, true, List, [], ◌∷◌, Some, map}
 use Rattle.std.specs.List.{list_all}
 use Rattle.smt_term.specs.Plain.{PlainType, PlainFunction, PlainTerm, terms}
+use Rattle.smt_term.specs.TypeValues.{Enums}
+use Rattle.smt_term.specs.Types.{type_of}
 use Rattle.smt_sexpr.specs.Reading.{Expression}
 use Rattle.smt_semantics.specs.Script.{State, IsWhole, Holds, start, run, assertions_of}
 use Rattle.smt_semantics.specs.Written.{Writes, IsLine, Stands}
 use Rattle.smt_lines.specs.Spelling.{spelled}
 use Rattle.smt_lines.specs.Line.{Line, spelled_line, spelled_lines}
-use Rattle.smt_lines.specs.Lines.{Enums, Tables, Call, fresh, after_calls, lines_of_calls, name_of_term, name_of_type, name_of_function, no_names, encode_type, encode_term, encode, option_line}
+use Rattle.smt_lines.specs.Lines.{Tables, Call, fresh, after_calls, lines_of_calls, name_of_term, name_of_type, name_of_function, no_names, encode_type, encode_term, encode, option_line}
 use Rattle.smt_lines.specs.Rows.{in_engineering}
 use Rattle.smt_lines.specs.Text.{text, names, text_of_calls}
-use Rattle.smt_lines.specs.Fits.{given, text_of, HasSort, TypePartsStand, term_lines, type_lines, function_lines}
-use Rattle.smt_lines.specs.Types.{type_of}
+use Rattle.smt_lines.specs.Entries.{given, text_of, HasSort, TypePartsStand, term_lines, type_lines, function_lines}
 use Rattle.smt_lines.specs.Command.{commands_of, commands, is_written, is_written_line}
 use Rattle.smt_lines.specs.Fine.{IsFineType, IsFine, AreFine}
 use Rattle.smt_lines.specs.Calls.{AreFineCalls, EncodingFits}

@@ -1,27 +1,13 @@
 -- Expressions, as scripts have them, and their bytes.
-use Rattle.std.specs.Prelude.{ℕ, false, ◌&&◌, if◌then◌else◌, ◌==◌, nat_le, codes, ◌+◌, ◌/◌, ◌^◌, List, [], ◌∷◌, ◌++◌}
-use Rattle.std.specs.List.{flat_map}
-use Rattle.std.specs.Fmt.{digits, digits_onto}
+use Rattle.std.specs.Prelude.{ℕ, false, codes, ◌+◌, ◌/◌, ◌^◌, List, [], ◌++◌}
+use Rattle.std.specs.Fmt.{digits_onto}
+pub use Rattle.smt_semantics.specs.Quoting.{escaped, quoted_character, quoted}
 use Rattle.smt_sexpr.specs.Lexicon.{Atom, Bits, Name, Number, Text}
 use Rattle.smt_sexpr.specs.Reading.{Expression, Leaf, Node, Expressions, Nil, Cons}
 
 -- a number in decimal, however many digits it has
 abbrev pub numeral : ℕ → List ℕ
 numeral n = digits_onto (64 + n / 10 ^ 64) 10 false n []
-
--- `\u{..}`, in lower-case hexadecimal without leading zeros
-abbrev pub escaped : ℕ → List ℕ
-escaped c = codes "\\u{" ++ (digits 16 false c ++ codes "}")
-
--- a character between the quotes of a string
-abbrev pub quoted_character : ℕ → List ℕ
-quoted_character c =
-    if c == 34 then codes "\"\""
-    else (if c == 92 then codes "\\u{5c}"
-    else (if nat_le 32 c && nat_le c 126 then c ∷ [] else escaped c))
-
-abbrev pub quoted : List ℕ → List ℕ
-quoted characters = codes "\"" ++ (flat_map quoted_character characters ++ codes "\"")
 
 abbrev pub spelled_atom : Atom → List ℕ
 -- no line has one

@@ -1,5 +1,4 @@
 ghost use Rattle.smt_lines.specs.Growth.{FunctionNamesDiffer, FunctionsGrow, NamesStay, NumeralsArePrinted, NumeralsDiffer, TermListsGrow, TermNamesDiffer, TermsGrow, TypeNamesDiffer, TypesGrow};
-ghost use Rattle.smt_lines.specs.Joins.{SameFunctionsAreOne, SameTermsAreOne, SameTypesAreOne};
 
 /// Writing adds entries behind those that are there, each with the name of its place, and takes no name back.
 pub fn tables_grow()
@@ -17,11 +16,4 @@ pub fn names_differ_by_number()
     ensures functions { FunctionNamesDiffer }
     ensures types { TypeNamesDiffer }
     ensures terms { TermNamesDiffer }
-{}
-
-/// The tests by which names are looked up are equality.
-pub fn same_is_equal()
-    ensures types { SameTypesAreOne }
-    ensures functions { SameFunctionsAreOne }
-    ensures terms { SameTermsAreOne }
 {}

@@ -1,5 +1,4 @@
 ghost use Rattle.smt_lines.specs.Every.{EveryOperator};
-ghost use Rattle.smt_lines.specs.FitsRows.{AllAgree, ColorsAgree, ConditionAgrees};
 ghost use Rattle.smt_lines.specs.Hostile.{HostileTexts};
 ghost use Rattle.smt_lines.specs.Rows.{Condition, EmptyRecord, EnumMember, HostileFunction, HostileVariable, Levels, Negation, NoTerm, RecordOfOne, Repeated, Shifted, TrueTerm, TwoOfOneId};
 ghost use Rattle.smt_lines.specs.Scripts.{ConditionIsFine};
@@ -33,13 +32,6 @@ pub fn every_operator()
 /// What is written for texts with characters that scripts do not have.
 pub fn hostile_texts()
     ensures { HostileTexts }
-{}
-
-/// The entries of tables have the lines that were written for them.
-pub fn entries_have_their_lines()
-    ensures condition { ConditionAgrees }
-    ensures colors { ColorsAgree }
-    ensures all { AllAgree }
 {}
 
 /// A term that meets the premise.

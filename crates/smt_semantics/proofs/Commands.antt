@@ -1,10 +1,8 @@
 -- Expressions state one list of commands, so a script comes to one state.
-use Rattle.std.proofs.Common.{ap₂, ◌≡◌, ℕ, List, [], ◌∷◌, ◌++◌, refl, sym, ap, ◌∙◌, map, append_assoc, Some}
+use Rattle.std.proofs.Common.{ap₂, ◌≡◌, ℕ, List, [], ◌∷◌, ◌++◌, refl, sym, ap, ◌∙◌, map, Some}
 use Rattle.std.proofs.lemmas.List.{append_cancel_left}
 use Rattle.std.specs.Prelude.{codes, bytes_eq, cond}
-use Rattle.std.specs.List.{flat_map}
-use Rattle.smt_sexpr.specs.Lexicon.{Token, Begin, End, Word, Atom, tokens}
-use Rattle.smt_sexpr.specs.Reading.{Expression, Leaf, Node, Expressions, Nil, Cons, brackets, inside, Reads}
+use Rattle.smt_sexpr.specs.Reading.{Expression}
 use Rattle.smt_semantics.specs.Script.{Command, DeclareDatatype, DeclareConst, DefineFun, Assert, DeclareFun, SetLogic, SetOption, CheckSat, GetModel, Reset, Exit, Push, Pop, Constructor, keyword, operands, constructor, datatype, name, exprs, group, stated, Holds, Script, State, run, start}
 use Rattle.smt_sexpr.proofs.Trees.{one_reading}
 

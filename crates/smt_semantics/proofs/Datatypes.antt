@@ -1,5 +1,5 @@
 -- What a datatype leaves, and what a level.
-use Rattle.std.proofs.Common.{◌≡◌, ℕ, suc, Bool, true, false, not, ◌&&◌, ◌||◌, eqb, cond, List, [], ◌∷◌, ◌++◌, map, length, refl, sym, ap, ◌∙◌, inl, inr, Option, Some, None}
+use Rattle.std.proofs.Common.{◌≡◌, ℕ, suc, Bool, true, false, not, ◌&&◌, ◌||◌, eqb, List, [], ◌∷◌, ◌++◌, map, length, refl, sym, ap, ◌∙◌, inl, inr, Option, Some, None}
 use Rattle.std.specs.Prelude.{bytes_eq}
 use Rattle.std.specs.List.{list_all, list_any}
 use Rattle.std.proofs.lemmas.Bool.{not-true, and_parts, and_from, cond-true, cond-false, or_parts, cases_Bool, false≢true}
@@ -7,6 +7,7 @@ use Rattle.std.proofs.lemmas.Slice.Eq.{bytes_eq-Decides}
 use Rattle.smt_sexpr.specs.Reading.{Expression}
 use Rattle.smt_semantics.specs.Script.{Command, DeclareDatatype, DeclareConst, DefineFun, Assert, DeclareFun, Reset, Exit, Push, Pop, Constructor, Entry, Constant, Function, Defined, Builds, Selects, State, built_in_names, is_in, is_reserved, has_name, is_taken, is_taken_sort, is_sort, has_sort, names_of, declare, declare_selectors, declare_constructors, with_name, with_sort, with_assertion, obey, knows, ◌>>=◌}
 use Rattle.smt_semantics.specs.Meanings.{selectors_named, constructors_named, with_names, names_in, are_new, are_fields, DatatypesLeave, StepsKeepLevels, PopsGiveBack}
+use Rattle.smt_semantics.proofs.Results.{some_is, if_not, if_so, bind_gives}
 
 not_both : (m n : List ℕ) → bytes_eq m n ≡ false → bytes_eq n m ≡ false
 not_both m n h = elim (cases_Bool (bytes_eq n m)) [
@@ -76,29 +77,14 @@ pops_give_back s t h k = rw (h, k) refl
 
 -- ---- levels
 
-bind_gives : (o : Option State) (f : State → Option State) (u : State) → (o >>= f) ≡ Some u → (t : State) × (o ≡ Some t) × (f t ≡ Some u)
-bind_gives (Some t) f u h = (t, refl, h)
-bind_gives None f u h = absurd cc
-
-some_is : (s t : State) → Some s ≡ Some t → s ≡ t
-some_is s t h = cc
-
-if_so : (b : Bool) (o : Option State) (t : State) → cond b o None ≡ Some t → o ≡ Some t
-if_so true o t h = h
-if_so false o t h = absurd cc
-
-if_not : (b : Bool) (o : Option State) (t : State) → cond b None o ≡ Some t → o ≡ Some t
-if_not true o t h = absurd cc
-if_not false o t h = h
-
 declare_below : (n : List ℕ) (x : Entry) (s t : State) → declare n x s ≡ Some t → t.below ≡ s.below
-declare_below n x s t h = ap (λ (u : State). u.below) (sym (some_is (with_name n x s) t (if_not (is_taken s n) (Some (with_name n x s)) t h)))
+declare_below n x s t h = ap (λ (u : State). u.below) (sym (some_is (with_name n x s) t (if_not (is_taken s n) (Some (with_name n x s)) t h).1))
 
 selectors_below : (d : List ℕ) (ps : List (List ℕ)) (c : List ℕ) (place : ℕ) (xs : List (List ℕ × Expression)) (s t : State) → declare_selectors d ps c place xs s ≡ Some t → t.below ≡ s.below
 selectors_below d ps c place [] s t h = ap (λ (u : State). u.below) (sym (some_is s t h))
 selectors_below d ps c place (x ∷ xs) s t h =
     let e = Selects d ps c place x.1 in
-    let p = bind_gives (declare x.0 e s) (declare_selectors d ps c (suc place) xs) t (if_so (is_sort (λ n i. has_sort s n i || (is_in n ps && eqb i 0)) x.1) (declare x.0 e s >>= declare_selectors d ps c (suc place) xs) t h) in
+    let p = bind_gives (declare x.0 e s) (declare_selectors d ps c (suc place) xs) t (if_so (is_sort (λ n i. has_sort s n i || (is_in n ps && eqb i 0)) x.1) (declare x.0 e s >>= declare_selectors d ps c (suc place) xs) t h).1 in
     selectors_below d ps c (suc place) xs p.0 t p.2 ∙ declare_below x.0 e s p.0 p.1
 
 constructors_below : (d : List ℕ) (ps : List (List ℕ)) (place : ℕ) (cs : List Constructor) (s t : State) → declare_constructors d ps place cs s ≡ Some t → t.below ≡ s.below
@@ -111,12 +97,12 @@ constructors_below d ps place (c ∷ cs) s t h =
 
 obey_below : (c : Command) (s t : State) → (c ≡ Reset → ⊥) → (c ≡ Push → ⊥) → (c ≡ Pop → ⊥) → obey c s ≡ Some t → t.below ≡ s.below
 obey_below (DeclareDatatype d ps cs) s t r v w h =
-    let p = bind_gives (declare_constructors d ps 0 cs s) (λ u. Some (with_sort d (length ps) u)) t (if_not (is_taken_sort s d || list_any (is_taken_sort s) ps) (declare_constructors d ps 0 cs s >>= λ u. Some (with_sort d (length ps) u)) t h) in
+    let p = bind_gives (declare_constructors d ps 0 cs s) (λ u. Some (with_sort d (length ps) u)) t (if_not (is_taken_sort s d || list_any (is_taken_sort s) ps) (declare_constructors d ps 0 cs s >>= λ u. Some (with_sort d (length ps) u)) t h).1 in
     ap (λ (u : State). u.below) (sym (some_is (with_sort d (length ps) p.0) t p.2)) ∙ constructors_below d ps 0 cs s p.0 p.1
-obey_below (DeclareConst n sort) s t r v w h = declare_below n (Constant sort) s t (if_so (is_sort (has_sort s) sort) (declare n (Constant sort) s) t h)
-obey_below (DefineFun n sort body) s t r v w h = declare_below n (Defined sort body) s t (if_so (is_sort (has_sort s) sort && knows s body) (declare n (Defined sort body) s) t h)
-obey_below (Assert e) s t r v w h = ap (λ (u : State). u.below) (sym (some_is (with_assertion e s) t (if_so (knows s e) (Some (with_assertion e s)) t h)))
-obey_below (DeclareFun f a sort) s t r v w h = declare_below f (Function a sort) s t (if_so (is_sort (has_sort s) a && is_sort (has_sort s) sort) (declare f (Function a sort) s) t h)
+obey_below (DeclareConst n sort) s t r v w h = declare_below n (Constant sort) s t (if_so (is_sort (has_sort s) sort) (declare n (Constant sort) s) t h).1
+obey_below (DefineFun n sort body) s t r v w h = declare_below n (Defined sort body) s t (if_so (is_sort (has_sort s) sort && knows s body) (declare n (Defined sort body) s) t h).1
+obey_below (Assert e) s t r v w h = ap (λ (u : State). u.below) (sym (some_is (with_assertion e s) t (if_so (knows s e) (Some (with_assertion e s)) t h).1))
+obey_below (DeclareFun f a sort) s t r v w h = declare_below f (Function a sort) s t (if_so (is_sort (has_sort s) a && is_sort (has_sort s) sort) (declare f (Function a sort) s) t h).1
 obey_below Reset s t r v w h = absurd (r refl)
 obey_below Push s t r v w h = absurd (v refl)
 obey_below Pop s t r v w h = absurd (w refl)

@@ -11,13 +11,7 @@ use Rattle.smt_sexpr.specs.Reading.{Expression, Leaf, Node, Expressions, Nil, Co
 use Rattle.smt_semantics.specs.Script.{Command, DeclareDatatype, DeclareConst, DefineFun, Assert, DeclareFun, Reset, Exit, Push, Pop, Function, obey, Constructor, Entry, Constant, Defined, Builds, Selects, State, step, declare, declare_selectors, declare_constructors, with_name, with_sort, with_assertion, with_level, has_name, has_sort, is_taken, is_taken_sort, is_reserved, is_in, is_sort, are_sorts, is_bit_sort, count, is_first, are_all, is_stated, each_stated, knows, Shape, BitLiteral, Qualified, Applied, Extended, Tested, Matched, Unformed, shape, shape_is_known, built_in_names, names_of, look_up, operator_of, ◌>>=◌}
 use Rattle.smt_semantics.specs.Sorts.{Entries, entries, entry_sort, applied_sort, named_sort, qualified_sort, tested_sort, operator_sort, shape_sort, sort_in, sorts_in, sort_of, each_there, first_there}
 use Rattle.smt_semantics.specs.Value.{ScriptInterpretation, Meaning, by_operator, applied_value, constant, qualified_value, is_built, of_one, operator_value, evaluate, evaluate_each, first_sort, shape_value, meaning, entry_meaning, body_of, StepsKeepValues, NamesHaveValues}
-
-or_left : (a b : Bool) → a ≡ true → (a || b) ≡ true
-or_left a b e = rw e refl
-
-or_right : (a b : Bool) → b ≡ true → (a || b) ≡ true
-or_right true b e = refl
-or_right false b e = e
+use Rattle.smt_semantics.proofs.Results.{or_left, or_right, some_is, if_not, if_so, bind_gives}
 
 bind_same : {A B : Type 0} (o : Option A) (f g : A → Option B) → ((a : A) → f a ≡ g a) → (o >>= f) ≡ (o >>= g)
 bind_same (Some a) f g h = h a
@@ -185,22 +179,6 @@ keeps_then j s t u p q = record {
     value = λ n h x vs. q.same.value n (p.there n h) x vs ∙ p.same.value n h x vs;
   };
 }
-
-some_is : (s t : State) → Some s ≡ Some t → s ≡ t
-some_is s t h = cc
-
--- a test in a definition that gave a state
-if_not : (b : Bool) (o : Option State) (t : State) → cond b None o ≡ Some t → (b ≡ false) × (o ≡ Some t)
-if_not true o t h = absurd cc
-if_not false o t h = (refl, h)
-
-if_so : (b : Bool) (o : Option State) (t : State) → cond b o None ≡ Some t → (b ≡ true) × (o ≡ Some t)
-if_so true o t h = (refl, h)
-if_so false o t h = absurd cc
-
-bind_gives : (o : Option State) (f : State → Option State) (u : State) → (o >>= f) ≡ Some u → (t : State) × (o ≡ Some t) × (f t ≡ Some u)
-bind_gives (Some t) f u h = (t, refl, h)
-bind_gives None f u h = absurd cc
 
 declared_is : (n : List ℕ) (entry : Entry) (s t : State) → declare n entry s ≡ Some t → (has_name s n ≡ false) × (with_name n entry s ≡ t)
 declared_is n entry s t h =

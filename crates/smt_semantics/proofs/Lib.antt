@@ -13,4 +13,5 @@ pub mod LongSampled
 pub mod Numbers
 pub mod Quotes
 pub mod Ranks
+pub mod Results
 pub mod Sampled

@@ -1,21 +1,24 @@
 -- What is written of code points is read as these.
-use Rattle.std.proofs.Common.{◌≡◌, ℕ, suc, ◌/◌, ◌%◌, ◌<◌, Bool, true, false, not, ◌&&◌, eqb, List, [], ◌∷◌, ◌++◌, map, refl, sym, ap, ◌∙◌, subst, inl, inr, Option, Some, None, append_assoc, arith}
-use Rattle.std.specs.Prelude.{codes, take, length}
+use Rattle.std.proofs.Common.{◌≡◌, ℕ, zero, suc, cond, ◌/◌, ◌%◌, ◌<◌, Bool, true, false, not, ◌&&◌, eqb, List, [], ◌∷◌, ◌++◌, map, refl, sym, ap, ◌∙◌, subst, inl, inr, Option, Some, None, append_assoc, arith}
+use Rattle.std.specs.Prelude.{codes, take, length, nat_eq, nat_le, ◌==◌, if◌then◌else◌}
 use Rattle.std.specs.List.{flat_map, list_all}
-use Rattle.std.specs.Fmt.{digits, digit_glyph}
+use Rattle.std.specs.Fmt.{digits, digits_onto, digit_glyph}
 use Rattle.std.proofs.lemmas.Bool.{and_parts, and_from, cases_Bool, cond-true, cond-false, false≢true, eqb-true, eq-eqb, agree_below_at, leb-true}
 use Rattle.std.proofs.lemmas.List.Folds.{list_all-append}
-use Rattle.smt_sexpr.specs.Lexicon.{short_escape, braced_escape, is_printable, is_hexadecimal, digit_value, number_in, escape, decoded, Text}
+use Rattle.std.proofs.lemmas.Grind.{flat_map-append}
+use Rattle.smt_sexpr.specs.Lexicon.{quote_twice, short_escape, braced_escape, is_printable, is_hexadecimal, digit_value, number_in, escape, decoded, Text}
 use Rattle.smt_sexpr.specs.Reading.{Leaf}
-use Rattle.smt_semantics.specs.Written.{Writes, quoted}
-use Rattle.smt_semantics.specs.Quoting.{escaped, is_point, TextsWrite}
+use Rattle.smt_semantics.specs.Written.{Writes, between_quotes}
+use Rattle.smt_semantics.specs.Quoting.{escaped, quoted_character, quoted, TextsWrite}
 use Rattle.smt_semantics.proofs.Lines.{strings_write, names_write}
 use Rattle.smt_semantics.proofs.Laid.{groups_write}
 use Rattle.smt_term.specs.Plain.{PatternPart, Character, Wildcard}
 use Rattle.smt_sexpr.specs.Reading.{Expression}
 use Rattle.smt_semantics.specs.Script.{exprs, group, name, pattern, pattern_part, pattern_parts, ◌>>=◌}
 use Rattle.smt_semantics.specs.Texts.{Part, AreWritten}
-use Rattle.smt_semantics.specs.Quoting.{part_text, part_expr, pattern_text, pattern_expr, is_written_part, PatternsWrite}
+use Rattle.smt_semantics.specs.Quoting.{part_text, part_expr, pattern_text, pattern_expr, PatternsWrite}
+use Rattle.smt_term.specs.TypeValues.{is_code_point}
+use Rattle.smt_term.specs.Faults.{is_pattern_part}
 
 record IsGlyph (d a : ℕ) : Type 0 where
   hex : is_hexadecimal a ≡ true
@@ -43,20 +46,20 @@ Decodes c ds = (rest : List ℕ) → decoded 0 (behind ds rest) ≡ c ∷ decode
 decodes : (k c : ℕ) (bs rest : List ℕ) → escape (92 ∷ bs) ≡ Some (record { len = suc k; point = c }) → decoded k bs ≡ decoded 0 rest → decoded 0 (92 ∷ bs) ≡ c ∷ decoded 0 rest
 decodes k c bs rest e f = rw e (ap (λ (t : List ℕ). c ∷ t) f)
 
-escape_1 : (a c : ℕ) → list_all is_hexadecimal (a ∷ []) ≡ true → number_in 16 (a ∷ []) ≡ c → is_point c ≡ true → Decodes c (a ∷ [])
+escape_1 : (a c : ℕ) → list_all is_hexadecimal (a ∷ []) ≡ true → number_in 16 (a ∷ []) ≡ c → is_code_point c ≡ true → Decodes c (a ∷ [])
 escape_1 a c h v p rest =
     let bs = behind (a ∷ []) rest in
     let y : braced_escape 1 bs ≡ Some (record { len = 5; point = c }) = rw (h, v, p) refl in
     decodes 4 c (117 ∷ 123 ∷ a ∷ 125 ∷ rest) rest (rw (short_none (a ∷ 125 ∷ rest), y) refl) refl
 
-escape_2 : (a b c : ℕ) → list_all is_hexadecimal (a ∷ b ∷ []) ≡ true → eqb b 125 ≡ false → number_in 16 (a ∷ b ∷ []) ≡ c → is_point c ≡ true → Decodes c (a ∷ b ∷ [])
+escape_2 : (a b c : ℕ) → list_all is_hexadecimal (a ∷ b ∷ []) ≡ true → eqb b 125 ≡ false → number_in 16 (a ∷ b ∷ []) ≡ c → is_code_point c ≡ true → Decodes c (a ∷ b ∷ [])
 escape_2 a b c h h1 v p rest =
     let bs = behind (a ∷ b ∷ []) rest in
     let n1 : braced_escape 1 bs ≡ None = rw h1 refl in
     let y : braced_escape 2 bs ≡ Some (record { len = 6; point = c }) = rw (h, v, p) refl in
     decodes 5 c (117 ∷ 123 ∷ a ∷ b ∷ 125 ∷ rest) rest (rw (short_none (a ∷ b ∷ 125 ∷ rest), n1, y) refl) refl
 
-escape_3 : (a b d c : ℕ) → list_all is_hexadecimal (a ∷ b ∷ d ∷ []) ≡ true → eqb b 125 ≡ false → eqb d 125 ≡ false → number_in 16 (a ∷ b ∷ d ∷ []) ≡ c → is_point c ≡ true → Decodes c (a ∷ b ∷ d ∷ [])
+escape_3 : (a b d c : ℕ) → list_all is_hexadecimal (a ∷ b ∷ d ∷ []) ≡ true → eqb b 125 ≡ false → eqb d 125 ≡ false → number_in 16 (a ∷ b ∷ d ∷ []) ≡ c → is_code_point c ≡ true → Decodes c (a ∷ b ∷ d ∷ [])
 escape_3 a b d c h h1 h2 v p rest =
     let bs = behind (a ∷ b ∷ d ∷ []) rest in
     let n1 : braced_escape 1 bs ≡ None = rw h1 refl in
@@ -64,7 +67,7 @@ escape_3 a b d c h h1 h2 v p rest =
     let y : braced_escape 3 bs ≡ Some (record { len = 7; point = c }) = rw (h, v, p) refl in
     decodes 6 c (117 ∷ 123 ∷ a ∷ b ∷ d ∷ 125 ∷ rest) rest (rw (short_none (a ∷ b ∷ d ∷ 125 ∷ rest), n1, n2, y) refl) refl
 
-escape_4 : (a b d e c : ℕ) → list_all is_hexadecimal (a ∷ b ∷ d ∷ e ∷ []) ≡ true → eqb b 125 ≡ false → eqb d 125 ≡ false → eqb e 125 ≡ false → number_in 16 (a ∷ b ∷ d ∷ e ∷ []) ≡ c → is_point c ≡ true → Decodes c (a ∷ b ∷ d ∷ e ∷ [])
+escape_4 : (a b d e c : ℕ) → list_all is_hexadecimal (a ∷ b ∷ d ∷ e ∷ []) ≡ true → eqb b 125 ≡ false → eqb d 125 ≡ false → eqb e 125 ≡ false → number_in 16 (a ∷ b ∷ d ∷ e ∷ []) ≡ c → is_code_point c ≡ true → Decodes c (a ∷ b ∷ d ∷ e ∷ [])
 escape_4 a b d e c h h1 h2 h3 v p rest =
     let bs = behind (a ∷ b ∷ d ∷ e ∷ []) rest in
     let n1 : braced_escape 1 bs ≡ None = rw h1 refl in
@@ -73,7 +76,7 @@ escape_4 a b d e c h h1 h2 h3 v p rest =
     let y : braced_escape 4 bs ≡ Some (record { len = 8; point = c }) = rw (h, v, p) refl in
     decodes 7 c (117 ∷ 123 ∷ a ∷ b ∷ d ∷ e ∷ 125 ∷ rest) rest (rw (short_none (a ∷ b ∷ d ∷ e ∷ 125 ∷ rest), n1, n2, n3, y) refl) refl
 
-escape_5 : (a b d e f c : ℕ) → list_all is_hexadecimal (a ∷ b ∷ d ∷ e ∷ f ∷ []) ≡ true → eqb b 125 ≡ false → eqb d 125 ≡ false → eqb e 125 ≡ false → eqb f 125 ≡ false → number_in 16 (a ∷ b ∷ d ∷ e ∷ f ∷ []) ≡ c → is_point c ≡ true → Decodes c (a ∷ b ∷ d ∷ e ∷ f ∷ [])
+escape_5 : (a b d e f c : ℕ) → list_all is_hexadecimal (a ∷ b ∷ d ∷ e ∷ f ∷ []) ≡ true → eqb b 125 ≡ false → eqb d 125 ≡ false → eqb e 125 ≡ false → eqb f 125 ≡ false → number_in 16 (a ∷ b ∷ d ∷ e ∷ f ∷ []) ≡ c → is_code_point c ≡ true → Decodes c (a ∷ b ∷ d ∷ e ∷ f ∷ [])
 escape_5 a b d e f c h h1 h2 h3 h4 v p rest =
     let bs = behind (a ∷ b ∷ d ∷ e ∷ f ∷ []) rest in
     let n1 : braced_escape 1 bs ≡ None = rw h1 refl in
@@ -87,7 +90,7 @@ record Writing (c : ℕ) (ds : List ℕ) : Type 0 where
   decodes : Decodes c ds
   printable : list_all is_printable ds ≡ true
 
-writing_1 : (c : ℕ) → eqb (c / 16) 0 ≡ true → is_point c ≡ true → Writing c (digits 16 false c)
+writing_1 : (c : ℕ) → eqb (c / 16) 0 ≡ true → is_code_point c ≡ true → Writing c (digits 16 false c)
 unfolding digits
 writing_1 c e1 p =
     let m0 : c % 16 < 16 = omega arith in
@@ -100,7 +103,7 @@ writing_1 c e1 p =
     let e : ds ≡ digits 16 false c = rw (e1) refl in
     subst (λ (t : List ℕ). Writing c t) e (record { decodes = escape_1 (digit_glyph false (c % 16)) c hex v p; printable = print })
 
-writing_2 : (c : ℕ) → eqb (c / 16) 0 ≡ false → eqb (c / 16 / 16) 0 ≡ true → is_point c ≡ true → Writing c (digits 16 false c)
+writing_2 : (c : ℕ) → eqb (c / 16) 0 ≡ false → eqb (c / 16 / 16) 0 ≡ true → is_code_point c ≡ true → Writing c (digits 16 false c)
 unfolding digits
 writing_2 c e1 e2 p =
     let m0 : c % 16 < 16 = omega arith in
@@ -115,7 +118,7 @@ writing_2 c e1 e2 p =
     let e : ds ≡ digits 16 false c = rw (e1, e2) refl in
     subst (λ (t : List ℕ). Writing c t) e (record { decodes = escape_2 (digit_glyph false (c / 16 % 16)) (digit_glyph false (c % 16)) c hex g0.apart v p; printable = print })
 
-writing_3 : (c : ℕ) → eqb (c / 16) 0 ≡ false → eqb (c / 16 / 16) 0 ≡ false → eqb (c / 16 / 16 / 16) 0 ≡ true → is_point c ≡ true → Writing c (digits 16 false c)
+writing_3 : (c : ℕ) → eqb (c / 16) 0 ≡ false → eqb (c / 16 / 16) 0 ≡ false → eqb (c / 16 / 16 / 16) 0 ≡ true → is_code_point c ≡ true → Writing c (digits 16 false c)
 unfolding digits
 writing_3 c e1 e2 e3 p =
     let m0 : c % 16 < 16 = omega arith in
@@ -132,7 +135,7 @@ writing_3 c e1 e2 e3 p =
     let e : ds ≡ digits 16 false c = rw (e1, e2, e3) refl in
     subst (λ (t : List ℕ). Writing c t) e (record { decodes = escape_3 (digit_glyph false (c / 16 / 16 % 16)) (digit_glyph false (c / 16 % 16)) (digit_glyph false (c % 16)) c hex g1.apart g0.apart v p; printable = print })
 
-writing_4 : (c : ℕ) → eqb (c / 16) 0 ≡ false → eqb (c / 16 / 16) 0 ≡ false → eqb (c / 16 / 16 / 16) 0 ≡ false → eqb (c / 16 / 16 / 16 / 16) 0 ≡ true → is_point c ≡ true → Writing c (digits 16 false c)
+writing_4 : (c : ℕ) → eqb (c / 16) 0 ≡ false → eqb (c / 16 / 16) 0 ≡ false → eqb (c / 16 / 16 / 16) 0 ≡ false → eqb (c / 16 / 16 / 16 / 16) 0 ≡ true → is_code_point c ≡ true → Writing c (digits 16 false c)
 unfolding digits
 writing_4 c e1 e2 e3 e4 p =
     let m0 : c % 16 < 16 = omega arith in
@@ -151,7 +154,7 @@ writing_4 c e1 e2 e3 e4 p =
     let e : ds ≡ digits 16 false c = rw (e1, e2, e3, e4) refl in
     subst (λ (t : List ℕ). Writing c t) e (record { decodes = escape_4 (digit_glyph false (c / 16 / 16 / 16 % 16)) (digit_glyph false (c / 16 / 16 % 16)) (digit_glyph false (c / 16 % 16)) (digit_glyph false (c % 16)) c hex g2.apart g1.apart g0.apart v p; printable = print })
 
-writing_5 : (c : ℕ) → eqb (c / 16) 0 ≡ false → eqb (c / 16 / 16) 0 ≡ false → eqb (c / 16 / 16 / 16) 0 ≡ false → eqb (c / 16 / 16 / 16 / 16) 0 ≡ false → eqb (c / 16 / 16 / 16 / 16 / 16) 0 ≡ true → is_point c ≡ true → Writing c (digits 16 false c)
+writing_5 : (c : ℕ) → eqb (c / 16) 0 ≡ false → eqb (c / 16 / 16) 0 ≡ false → eqb (c / 16 / 16 / 16) 0 ≡ false → eqb (c / 16 / 16 / 16 / 16) 0 ≡ false → eqb (c / 16 / 16 / 16 / 16 / 16) 0 ≡ true → is_code_point c ≡ true → Writing c (digits 16 false c)
 unfolding digits
 writing_5 c e1 e2 e3 e4 e5 p =
     let m0 : c % 16 < 16 = omega arith in
@@ -172,7 +175,7 @@ writing_5 c e1 e2 e3 e4 e5 p =
     let e : ds ≡ digits 16 false c = rw (e1, e2, e3, e4, e5) refl in
     subst (λ (t : List ℕ). Writing c t) e (record { decodes = escape_5 (digit_glyph false (c / 16 / 16 / 16 / 16 % 16)) (digit_glyph false (c / 16 / 16 / 16 % 16)) (digit_glyph false (c / 16 / 16 % 16)) (digit_glyph false (c / 16 % 16)) (digit_glyph false (c % 16)) c hex g3.apart g2.apart g1.apart g0.apart v p; printable = print })
 
-hexadecimal : (c : ℕ) → is_point c ≡ true → Writing c (digits 16 false c)
+hexadecimal : (c : ℕ) → is_code_point c ≡ true → Writing c (digits 16 false c)
 hexadecimal c p = elim (cases_Bool (eqb (c / 16) 0)) [
   | inl e1 ↦ writing_1 c e1 p
   | inr e1 ↦ elim (cases_Bool (eqb (c / 16 / 16) 0)) [
@@ -196,57 +199,130 @@ not_is : (b : Bool) → not b ≡ true → b ≡ false
 not_is true h = absurd (false≢true h)
 not_is false h = refl
 
-record Reads (c : ℕ) : Type 0 where
-  read : (rest : List ℕ) → decoded 0 (escaped c ++ rest) ≡ c ∷ decoded 0 rest
-  plain : list_all is_printable (escaped c) ≡ true
+-- a character between quotes, before each quote is written twice
+abbrev undoubled : ℕ → List ℕ
+undoubled c = if is_printable c && not (c == 92) then (c ∷ []) else escaped c
 
-reads : (c : ℕ) → is_point c ≡ true → Reads c
+-- ---- quotes are written twice
+
+abbrev unquoted : ℕ → Bool
+unquoted b = not (b == 34)
+
+hex_digits : (k n : ℕ) (ds : List ℕ) → list_all unquoted ds ≡ true → list_all unquoted (digits_onto k 16 false n ds) ≡ true
+hex_digits zero n ds h = h
+hex_digits (suc k) n ds h = go (nat_eq (n / 16) 0) more (hex_digits k (n / 16) (digit_glyph false (n % 16) ∷ ds) more)
+  where
+    more : list_all unquoted (digit_glyph false (n % 16) ∷ ds) ≡ true
+    more = and_from (unquoted (digit_glyph false (n % 16))) (list_all unquoted ds) (agree_below_at (λ m. unquoted (digit_glyph false m)) (λ m. true) 16 (n % 16) refl (omega arith)) h
+
+    go : (b : Bool) → list_all unquoted (digit_glyph false (n % 16) ∷ ds) ≡ true → list_all unquoted (digits_onto k 16 false (n / 16) (digit_glyph false (n % 16) ∷ ds)) ≡ true
+        → list_all unquoted (cond b (digit_glyph false (n % 16) ∷ ds) (digits_onto k 16 false (n / 16) (digit_glyph false (n % 16) ∷ ds))) ≡ true
+    go true m again = m
+    go false m again = again
+
+no_quotes : (xs : List ℕ) → list_all unquoted xs ≡ true → flat_map quote_twice xs ≡ xs
+no_quotes [] h = refl
+no_quotes (x ∷ xs) h =
+    let q = and_parts (unquoted x) (list_all unquoted xs) h in
+    let e = not_true (x == 34) q.0 in
+    rw e (ap (λ (t : List ℕ). x ∷ t) (no_quotes xs q.1))
+  where
+    not_true : (b : Bool) → not b ≡ true → b ≡ false
+    not_true true h = absurd (false≢true h)
+    not_true false h = refl
+
+digits_unquoted : (c : ℕ) → list_all unquoted (digits 16 false c) ≡ true
+unfolding digits
+digits_unquoted c = hex_digits 64 c [] refl
+
+all_joined : (xs ys : List ℕ) → list_all unquoted xs ≡ true → list_all unquoted ys ≡ true → list_all unquoted (xs ++ ys) ≡ true
+all_joined [] ys h k = k
+all_joined (x ∷ xs) ys h k = let q = and_parts (unquoted x) (list_all unquoted xs) h in and_from (unquoted x) _ q.0 (all_joined xs ys q.1 k)
+
+escaped_stays : (c : ℕ) → flat_map quote_twice (escaped c) ≡ escaped c
+escaped_stays c = no_quotes (escaped c) (all_joined (digits 16 false c) (codes "}") (digits_unquoted c) refl)
+
+backslash : escaped 92 ≡ codes "\\u{5c}"
+unfolding digits
+backslash = refl
+
+character_is : (c : ℕ) → quoted_character c ≡ flat_map quote_twice (undoubled c)
+character_is c = go (eqb c 34) refl
+  where
+    other : eqb c 34 ≡ false → eqb c 92 ≡ false → (b : Bool) → (nat_le 32 c && nat_le c 126) ≡ b
+        → cond b (c ∷ []) (escaped c) ≡ flat_map quote_twice (cond (b && true) (c ∷ []) (escaped c))
+    other e f true g = rw e refl
+    other e f false g = sym (escaped_stays c)
+
+    next : eqb c 34 ≡ false → (b : Bool) → eqb c 92 ≡ b → quoted_character c ≡ flat_map quote_twice (undoubled c)
+    next e true f = let x = eqb-true c 92 f in rw x (sym (ap (flat_map quote_twice) backslash))
+    next e false f = rw (e, f) (other e f (nat_le 32 c && nat_le c 126) refl)
+
+    go : (b : Bool) → eqb c 34 ≡ b → quoted_character c ≡ flat_map quote_twice (undoubled c)
+    go true e = let x = eqb-true c 34 e in rw x refl
+    go false e = next e (eqb c 92) refl
+
+characters_are : (cs : List ℕ) → flat_map quoted_character cs ≡ flat_map quote_twice (flat_map undoubled cs)
+characters_are [] = refl
+characters_are (c ∷ cs) =
+    let a = character_is c in let b = characters_are cs in
+    (λ i. a i ++ b i) ∙ sym (flat_map-append quote_twice (undoubled c) (flat_map undoubled cs))
+
+-- ---- characters
+
+record Reads (c : ℕ) : Type 0 where
+  read : (rest : List ℕ) → decoded 0 (undoubled c ++ rest) ≡ c ∷ decoded 0 rest
+  plain : list_all is_printable (undoubled c) ≡ true
+
+reads : (c : ℕ) → is_code_point c ≡ true → Reads c
 reads c h = elim (cases_Bool (is_printable c && not (eqb c 92))) [
   | inl e ↦ (let p = and_parts (is_printable c) (not (eqb c 92)) e in
-      let w : c ∷ [] ≡ escaped c = sym (cond-true (is_printable c && not (eqb c 92)) (c ∷ []) (codes "\\u{" ++ (digits 16 false c ++ codes "}")) e) in
+      let w : c ∷ [] ≡ undoubled c = sym (cond-true (is_printable c && not (eqb c 92)) (c ∷ []) (escaped c) e) in
       record {
         read = λ rest. subst (λ (t : List ℕ). decoded 0 (t ++ rest) ≡ c ∷ decoded 0 rest) w (stays c rest (not_is (eqb c 92) p.1));
         plain = subst (λ (t : List ℕ). list_all is_printable t ≡ true) w (and_from (is_printable c) true p.0 refl);
       })
   | inr e ↦ (let x = hexadecimal c h in
-      let w : codes "\\u{" ++ (digits 16 false c ++ codes "}") ≡ escaped c = sym (cond-false (is_printable c && not (eqb c 92)) (c ∷ []) (codes "\\u{" ++ (digits 16 false c ++ codes "}")) e) in
+      let w : escaped c ≡ undoubled c = sym (cond-false (is_printable c && not (eqb c 92)) (c ∷ []) (escaped c) e) in
       record {
         read = λ rest. subst (λ (t : List ℕ). decoded 0 (t ++ rest) ≡ c ∷ decoded 0 rest) w (ap (λ (t : List ℕ). decoded 0 (92 ∷ 117 ∷ 123 ∷ t)) (append_assoc (digits 16 false c) (125 ∷ []) rest) ∙ x.decodes rest);
         plain = subst (λ (t : List ℕ). list_all is_printable t ≡ true) w (list_all-append is_printable (digits 16 false c) (125 ∷ []) ∙ and_from (list_all is_printable (digits 16 false c)) true x.printable refl);
       })
 ]
 
-all_read : (cs : List ℕ) → list_all is_point cs ≡ true → decoded 0 (flat_map escaped cs) ≡ cs
+all_read : (cs : List ℕ) → list_all is_code_point cs ≡ true → decoded 0 (flat_map undoubled cs) ≡ cs
 all_read [] h = refl
 all_read (c ∷ cs) h =
-    let p = and_parts (is_point c) (list_all is_point cs) h in
-    (reads c p.0).read (flat_map escaped cs) ∙ ap (λ (t : List ℕ). c ∷ t) (all_read cs p.1)
+    let p = and_parts (is_code_point c) (list_all is_code_point cs) h in
+    (reads c p.0).read (flat_map undoubled cs) ∙ ap (λ (t : List ℕ). c ∷ t) (all_read cs p.1)
 
-all_plain : (cs : List ℕ) → list_all is_point cs ≡ true → list_all is_printable (flat_map escaped cs) ≡ true
+all_plain : (cs : List ℕ) → list_all is_code_point cs ≡ true → list_all is_printable (flat_map undoubled cs) ≡ true
 all_plain [] h = refl
 all_plain (c ∷ cs) h =
-    let p = and_parts (is_point c) (list_all is_point cs) h in
-    list_all-append is_printable (escaped c) (flat_map escaped cs) ∙ and_from (list_all is_printable (escaped c)) (list_all is_printable (flat_map escaped cs)) (reads c p.0).plain (all_plain cs p.1)
+    let p = and_parts (is_code_point c) (list_all is_code_point cs) h in
+    list_all-append is_printable (undoubled c) (flat_map undoubled cs) ∙ and_from (list_all is_printable (undoubled c)) (list_all is_printable (flat_map undoubled cs)) (reads c p.0).plain (all_plain cs p.1)
 
 pub texts_write : TextsWrite
-texts_write cs h = subst (λ (t : List ℕ). Writes (quoted (flat_map escaped cs)) (Leaf (Text t))) (all_read cs h) (strings_write (flat_map escaped cs) (all_plain cs h))
+texts_write cs h =
+    subst (λ (t : List ℕ). Writes (codes "\"" ++ (t ++ codes "\"")) (Leaf (Text cs))) (sym (characters_are cs))
+    (subst (λ (t : List ℕ). Writes (between_quotes (flat_map undoubled cs)) (Leaf (Text t))) (all_read cs h) (strings_write (flat_map undoubled cs) (all_plain cs h)))
 
 -- ---- patterns
 
 abbrev part : PatternPart → Part
 part p = record { text = part_text p; expr = part_expr p }
 
-part_writes : (p : PatternPart) → is_written_part p ≡ true → Writes (part_text p) (part_expr p)
+part_writes : (p : PatternPart) → is_pattern_part p ≡ true → Writes (part_text p) (part_expr p)
 part_writes (Character c) h =
-    groups_write (codes "str.to_re") (name (codes "str.to_re")) (record { text = quoted (flat_map escaped (c ∷ [])); expr = Leaf (Text (c ∷ [])) } ∷ []) []
-    (names_write (codes "str.to_re") refl) (texts_write (c ∷ []) (and_from (is_point c) true h refl), tt) refl
+    groups_write (codes "str.to_re") (name (codes "str.to_re")) (record { text = quoted (c ∷ []); expr = Leaf (Text (c ∷ [])) } ∷ []) []
+    (names_write (codes "str.to_re") refl) (texts_write (c ∷ []) (and_from (is_code_point c) true h refl), tt) refl
 part_writes Wildcard h =
     groups_write (codes "re.*") (name (codes "re.*")) (record { text = codes "re.allchar"; expr = name (codes "re.allchar") } ∷ []) []
     (names_write (codes "re.*") refl) (names_write (codes "re.allchar") refl, tt) refl
 
-parts_write : (ps : List PatternPart) → list_all is_written_part ps ≡ true → AreWritten (map part ps)
+parts_write : (ps : List PatternPart) → list_all is_pattern_part ps ≡ true → AreWritten (map part ps)
 parts_write [] h = tt
-parts_write (p ∷ ps) h = let q = and_parts (is_written_part p) (list_all is_written_part ps) h in (part_writes p q.0, parts_write ps q.1)
+parts_write (p ∷ ps) h = let q = and_parts (is_pattern_part p) (list_all is_pattern_part ps) h in (part_writes p q.0, parts_write ps q.1)
 
 part_exprs : (ps : List PatternPart) → map (λ p. p.expr) (map part ps) ≡ map part_expr ps
 part_exprs [] = refl
@@ -272,7 +348,7 @@ alone_is Wildcard = refl
 
 pub patterns_write : PatternsWrite
 patterns_write [] h = (groups_write (codes "str.to_re") (name (codes "str.to_re")) (record { text = codes "\"\""; expr = Leaf (Text []) } ∷ []) [] (names_write (codes "str.to_re") refl) (texts_write [] refl, tt) refl, refl)
-patterns_write (p ∷ []) h = (part_writes p (and_parts (is_written_part p) true h).0, alone_is p)
+patterns_write (p ∷ []) h = (part_writes p (and_parts (is_pattern_part p) true h).0, alone_is p)
 patterns_write (p ∷ q ∷ ps) h = (
   subst (λ (es : List Expression). Writes (pattern_text (p ∷ q ∷ ps)) (group (name (codes "re.++") ∷ es))) (part_exprs (p ∷ q ∷ ps))
       (groups_write (codes "re.++") (name (codes "re.++")) (map part (p ∷ q ∷ ps)) [] (names_write (codes "re.++") refl) (parts_write (p ∷ q ∷ ps) h) refl),

@@ -1,5 +1,5 @@
 -- What the lines of declarations leave of a text that stands.
-use Rattle.std.specs.Prelude.{◌≡◌, ℕ, suc, true, not, ◌&&◌, IsTrue, codes, length, map, List, [], ◌∷◌, ◌++◌, Some}
+use Rattle.std.specs.Prelude.{◌≡◌, ℕ, zero, suc, true, not, ◌&&◌, IsTrue, codes, length, map, List, [], ◌∷◌, ◌++◌, Option, Some, None}
 use Rattle.std.specs.List.{list_all}
 use Rattle.smt_sexpr.specs.Reading.{Expression}
 use Rattle.smt_semantics.specs.Script.{Constructor, Constant, Function, Builds, Selects, State, has_sort, is_sort, is_taken, is_taken_sort, with_name, with_sort}
@@ -25,6 +25,18 @@ abbrev pub DatatypesExtend : Type 0
 DatatypesExtend = (text d : List ℕ) (cs : List ConstructorPart) (s : State) → Stands text s → IsName d → AreConstructors cs
     → IsTrue (not (is_taken_sort s d)) → IsTrue (are_new s (names_in (map (λ c. c.built) cs))) → IsTrue (list_all (λ c. are_fields s [] c.selectors) (map (λ c. c.built) cs))
     → Stands (text ++ (codes "(declare-datatype " ++ (d ++ (codes " (" ++ constructor_lines cs (codes "))\n"))))) (with_datatype d (map (λ c. c.built) cs) s)
+
+-- constructors, each with the sorts of its fields
+abbrev pub Constructors : Type 0
+Constructors = List (List ℕ × List Expression)
+
+abbrev pub shown : List Constructor → Constructors
+shown cs = map (λ c. (c.name, map (λ x. x.1) c.selectors)) cs
+
+abbrev pub at_place : Constructors → ℕ → Option (List ℕ × List Expression)
+at_place [] place = None
+at_place (c ∷ cs) zero = Some c
+at_place (c ∷ cs) (suc place) = at_place cs place
 
 -- each selector and constructor is there with its place
 abbrev pub DeclaresSelectors : Entries → List ℕ → List (List ℕ) → List ℕ → ℕ → List (List ℕ × Expression) → Type 0

@@ -3,7 +3,6 @@ pub mod Growth
 pub mod LongSample
 pub mod Meanings
 pub mod Order
-pub mod Patterns
 pub mod Quoting
 pub mod Samples
 pub mod Script

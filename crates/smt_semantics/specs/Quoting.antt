@@ -1,29 +1,38 @@
 -- How code points are written in a string, and patterns.
-use Rattle.std.specs.Prelude.{◌≡◌, ℕ, Bool, false, ◌&&◌, not, IsTrue, true, Some, map, ◌==◌, nat_le, if◌then◌else◌, codes, List, [], ◌∷◌, ◌++◌}
+use Rattle.std.specs.Prelude.{◌≡◌, ℕ, false, ◌&&◌, IsTrue, Some, map, ◌==◌, nat_le, if◌then◌else◌, codes, List, [], ◌∷◌, ◌++◌}
 use Rattle.std.specs.List.{flat_map, list_all}
+use Rattle.smt_term.specs.Faults.{is_pattern_part}
+use Rattle.smt_term.specs.TypeValues.{is_code_point}
 use Rattle.smt_term.specs.Plain.{PatternPart, Character, Wildcard}
 use Rattle.smt_semantics.specs.Script.{group, name, pattern}
 use Rattle.smt_semantics.specs.Texts.{spaced}
 use Rattle.std.specs.Fmt.{digits}
-use Rattle.smt_sexpr.specs.Lexicon.{is_printable, Text}
+use Rattle.smt_sexpr.specs.Lexicon.{Text}
 use Rattle.smt_sexpr.specs.Reading.{Expression, Leaf}
-use Rattle.smt_semantics.specs.Written.{Writes, quoted}
+use Rattle.smt_semantics.specs.Written.{Writes}
 
--- a printable character but the backslash as itself, any other in hexadecimal
+-- `\u{..}`, in lower-case hexadecimal without leading zeros
 abbrev pub escaped : ℕ → List ℕ
-escaped c = if is_printable c && not (c == 92) then (c ∷ []) else (codes "\\u{" ++ (digits 16 false c ++ codes "}"))
+escaped c = codes "\\u{" ++ (digits 16 false c ++ codes "}")
 
-abbrev pub is_point : ℕ → Bool
-is_point c = nat_le c 196607
+-- a character between the quotes of a string
+abbrev pub quoted_character : ℕ → List ℕ
+quoted_character c =
+    if c == 34 then codes "\"\""
+    else (if c == 92 then codes "\\u{5c}"
+    else (if nat_le 32 c && nat_le c 126 then c ∷ [] else escaped c))
+
+abbrev pub quoted : List ℕ → List ℕ
+quoted characters = codes "\"" ++ (flat_map quoted_character characters ++ codes "\"")
 
 -- What is written of code points up to 196607 is read as these.
 abbrev pub TextsWrite : Type 0
-TextsWrite = (cs : List ℕ) → IsTrue (list_all is_point cs) → Writes (quoted (flat_map escaped cs)) (Leaf (Text cs))
+TextsWrite = (cs : List ℕ) → IsTrue (list_all is_code_point cs) → Writes (quoted cs) (Leaf (Text cs))
 
 -- ---- patterns
 
 abbrev pub part_text : PatternPart → List ℕ
-part_text (Character c) = codes "(str.to_re " ++ (quoted (flat_map escaped (c ∷ [])) ++ codes ")")
+part_text (Character c) = codes "(str.to_re " ++ (quoted (c ∷ []) ++ codes ")")
 part_text Wildcard = codes "(re.* re.allchar)"
 
 abbrev pub part_expr : PatternPart → Expression
@@ -40,10 +49,6 @@ pattern_expr [] = group (name (codes "str.to_re") ∷ Leaf (Text []) ∷ [])
 pattern_expr (x ∷ []) = part_expr x
 pattern_expr (x ∷ y ∷ ps) = group (name (codes "re.++") ∷ map part_expr (x ∷ y ∷ ps))
 
-abbrev pub is_written_part : PatternPart → Bool
-is_written_part (Character c) = is_point c
-is_written_part Wildcard = true
-
 -- What is written of a pattern is read as it.
 abbrev pub PatternsWrite : Type 0
-PatternsWrite = (ps : List PatternPart) → IsTrue (list_all is_written_part ps) → Writes (pattern_text ps) (pattern_expr ps) × (pattern (pattern_expr ps) ≡ Some ps)
+PatternsWrite = (ps : List PatternPart) → IsTrue (list_all is_pattern_part ps) → Writes (pattern_text ps) (pattern_expr ps) × (pattern (pattern_expr ps) ≡ Some ps)

@@ -1,10 +1,11 @@
 -- Commands, what they declare, and what a script comes to.
 use Rattle.std.specs.Prelude.{◌≡◌, ℕ, suc, Bool, true, false, ◌&&◌, ◌||◌, ◌==◌, IsTrue, if◌then◌else◌, codes, bytes_eq, take, drop, length, map, List, [], ◌∷◌, ◌++◌, Option, Some, None}
 use Rattle.std.specs.List.{list_all, list_any}
+use Rattle.std.specs.Map.{lookup}
 use Rattle.smt_term.specs.Plain.{PatternPart, Character, Wildcard, PlainOp, AndOp, BvaddOp, BvlshrOp, BvmulOp, BvnegOp, BvsaddoOp, BvsdivOp, BvshlOp, BvsleOp, BvsltOp, BvsmodOp, BvsmuloOp, BvsremOp, BvssuboOp, BvsubOp, BvudivOp, BvuleOp, BvultOp, BvuremOp, EqOp, IteOp, NotOp, OrOp, SetInterOp, SetMemberOp, SetSubsetOp}
 use Rattle.smt_sexpr.specs.Lexicon.{Number, Text, some_all, is_digit, number_in, Name, in_script}
 use Rattle.smt_sexpr.specs.Reading.{Expression, Leaf, Node, Expressions, Nil, Cons, Reads}
-use Rattle.smt_semantics.specs.Arithmetic.{is_width}
+use Rattle.smt_bits.specs.Widths.{is_width}
 
 -- ---- commands, as the grammar writes them
 
@@ -150,8 +151,7 @@ script_operators =
 
 -- the first thing that a table has for a name
 abbrev pub look_up : {A : Type 0} → List ℕ → List (List ℕ × A) → Option A
-look_up n [] = None
-look_up n (d ∷ ds) = if bytes_eq n d.0 then Some d.1 else look_up n ds
+look_up n table = lookup (bytes_eq n) table
 
 abbrev pub operator_of : List ℕ → Option PlainOp
 operator_of n = look_up n script_operators

@@ -2,11 +2,13 @@
 use Rattle.std.specs.Prelude.{◌≡◌, ℕ, ◌+◌, Bool, true, false, ◌&&◌, ◌==◌, nat_le, if◌then◌else◌, codes, bytes_eq, length, map, List, [], ◌∷◌, Option, Some, None, is_some, IsTrue, All}
 use Rattle.std.specs.List.{list_all}
 use Rattle.smt_term.specs.Plain.{PlainOp, AndOp, BvnegOp, EqOp, IteOp, NotOp, OrOp, SetInterOp, SetMemberOp, SetSubsetOp, StringLikeOp, ZeroExtendOp}
+use Rattle.smt_term.specs.TypeValues.{is_code_point}
 use Rattle.smt_semantics.specs.ScriptValues.{ScriptValue, TruthOf, BitsOf, TextOf, ConstructorOf, SetOf, ScriptValues, no_script_values, one_script_value}
 use Rattle.smt_sexpr.specs.Lexicon.{Atom, Bits, Number, Text, Name}
 use Rattle.smt_sexpr.specs.Reading.{Expression, Leaf, Node, Expressions, Nil, Cons}
 use Rattle.smt_semantics.specs.Script.{name, group, exprs, Entry, Constant, Function, Defined, Builds, Selects, Shape, BitLiteral, Qualified, Applied, Extended, Tested, Matched, Unformed, shape, look_up, operator_of, is_in, names_of, assertions_of, State, ◌>>=◌}
-use Rattle.smt_semantics.specs.Arithmetic.{are_bits, bit_function, bit_test}
+use Rattle.smt_bits.specs.Widths.{are_bits}
+use Rattle.smt_semantics.specs.Arithmetic.{bit_function, bit_test}
 use Rattle.smt_semantics.specs.Order.{ascends}
 
 -- ---- sorts as they are written
@@ -40,6 +42,9 @@ bit_sort width = group (name (codes "_") ∷ name (codes "BitVec") ∷ Leaf (Num
 
 abbrev pub set_sort : Expression → Expression
 set_sort s = group (name (codes "Set") ∷ s ∷ [])
+
+abbrev pub option_sort : Expression → Expression
+option_sort s = group (name (codes "Option") ∷ s ∷ [])
 
 -- a datatype's sort: its name, or its name with its arguments
 abbrev pub datatype_sort : List ℕ → List Expression → Expression
@@ -270,7 +275,7 @@ abbrev mutual
   pub has_sort_in : Entries → Expression → ScriptValue → Bool
   has_sort_in here sort (TruthOf b) = same_sort sort bool_sort
   has_sort_in here sort (BitsOf width number) = same_sort sort (bit_sort width) && are_bits width number
-  has_sort_in here sort (TextOf text) = same_sort sort string_sort && list_all (λ c. nat_le c 196607) text
+  has_sort_in here sort (TextOf text) = same_sort sort string_sort && list_all is_code_point text
   has_sort_in here sort (ConstructorOf place c values) = elim (constructor_fields (here c) place sort) [ Some fields ↦ have_sorts_in here fields values | None ↦ false ]
   has_sort_in here sort (SetOf values) = elim (element_of sort) [ Some element ↦ all_have_sort_in here element values && ascends values | None ↦ false ]
 

@@ -4,7 +4,7 @@ use Rattle.smt_semantics.specs.ScriptValues.{BitsOf}
 use Rattle.smt_sexpr.specs.Lexicon.{Number}
 use Rattle.smt_sexpr.specs.Reading.{Expression, Leaf}
 use Rattle.smt_semantics.specs.Script.{Command, Constructor, DeclareDatatype, DeclareFun, SetLogic, SetOption, CheckSat, GetModel, Reset, Exit, Push, Pop, DefineFun, Assert, constructor, group, name, start, State, Script, IsWhole, obey, step}
-use Rattle.smt_semantics.specs.Arithmetic.{are_bits}
+use Rattle.smt_bits.specs.Widths.{are_bits}
 use Rattle.smt_semantics.specs.Sorts.{Entries, bit_sort, bool_sort, sort_of}
 use Rattle.smt_semantics.specs.Value.{Meaning, evaluate}
 use Rattle.smt_semantics.specs.Written.{Writes, IsLine, IsName, is_gap, Stands}

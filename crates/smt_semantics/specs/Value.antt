@@ -4,8 +4,10 @@ use Rattle.smt_term.specs.Plain.{PlainOp, AndOp, BvnegOp, EqOp, IteOp, NotOp, Or
 use Rattle.smt_semantics.specs.ScriptValues.{ScriptValue, TruthOf, BitsOf, TextOf, ConstructorOf, SetOf, ScriptValues, no_script_values, one_script_value}
 use Rattle.smt_sexpr.specs.Lexicon.{Text, Name}
 use Rattle.smt_sexpr.specs.Reading.{Expression, Leaf, Node, Expressions, Nil, Cons}
-use Rattle.smt_semantics.specs.Arithmetic.{negated, are_bits, bit_function, bit_test}
-use Rattle.smt_semantics.specs.Patterns.{matches}
+use Rattle.smt_bits.specs.BitVectors.{bvneg}
+use Rattle.smt_bits.specs.Widths.{are_bits}
+use Rattle.smt_semantics.specs.Arithmetic.{bit_function, bit_test}
+use Rattle.smt_term.specs.Patterns.{matches}
 use Rattle.smt_semantics.specs.Order.{same, put, is_member, is_subset, intersection}
 use Rattle.smt_semantics.specs.Script.{DefineFun, DeclareConst, name, knows, is_in, Shape, BitLiteral, Qualified, Applied, Extended, Tested, Matched, Unformed, shape, Entry, Constant, Function, Defined, Builds, Selects, Reset, Pop, State, names_of, assertions_of, look_up, operator_of, ◌>>=◌, step, Command}
 use Rattle.smt_semantics.specs.Sorts.{Entries, entries, sort_in, sort_of, arguments_of, each_there, first_there, instance, paired, has_sort_in}
@@ -64,7 +66,7 @@ operator_value AndOp vs = on_truths (λ a b. a && b) vs
 operator_value OrOp vs = on_truths (λ a b. a || b) vs
 operator_value EqOp vs = on_two vs
 operator_value IteOp vs = choice vs
-operator_value BvnegOp vs = on_bits negated vs
+operator_value BvnegOp vs = on_bits bvneg vs
 operator_value (ZeroExtendOp k) vs = extended k vs
 operator_value SetMemberOp vs = in_set vs
 operator_value SetSubsetOp vs = on_sets (λ xs ys. TruthOf (is_subset xs ys)) vs

@@ -70,11 +70,11 @@ abbrev pub NamesWrite : Type 0
 NamesWrite = (n : List ℕ) → IsTrue (is_name n) → Writes n (name n)
 
 -- a string, each quote in it twice
-abbrev pub quoted : List ℕ → List ℕ
-quoted text = codes "\"" ++ flat_map quote_twice text ++ codes "\""
+abbrev pub between_quotes : List ℕ → List ℕ
+between_quotes text = codes "\"" ++ flat_map quote_twice text ++ codes "\""
 
 abbrev pub StringsWrite : Type 0
-StringsWrite = (text : List ℕ) → IsTrue (list_all is_printable text) → Writes (quoted text) (Leaf (Text (decoded 0 text)))
+StringsWrite = (text : List ℕ) → IsTrue (list_all is_printable text) → Writes (between_quotes text) (Leaf (Text (decoded 0 text)))
 
 abbrev pub NumeralsWrite : Type 0
 NumeralsWrite = (digits : List ℕ) → IsTrue (some_all is_digit digits) → Writes digits (Leaf (Number (number_in 10 digits)))

@@ -1,5 +1,5 @@
 ghost use Rattle.smt_semantics.specs.Meanings.{ApplicationsHaveSorts, ConstructorsApply, ConstructorsStand, DatatypesLeave, ExtensionsApply, FunctionsApply, MatchesApply, NonesStand, OperatorsApply, PopsGiveBack, SelectorsApply, SetsStand, StepsKeepLevels, TestsApply};
-ghost use Rattle.smt_semantics.specs.Order.{OrderTurns, PutsKeepSets, SameIsEqual};
+ghost use Rattle.smt_semantics.specs.Order.{OrderIsTotal, PutsKeepSets, SameIsEqual};
 ghost use Rattle.smt_semantics.specs.Value.{FreeNamesDecide, NamesHaveValues, StepsKeepValues};
 
 /// What a command leaves has the values of what was there before it, and a new name has its own.
@@ -9,10 +9,10 @@ pub fn commands_keep_values()
     ensures free { FreeNamesDecide }
 {}
 
-/// Values of one place in the order are one value.
+/// The order of script values is total, and values of one place in it are one value.
 pub fn script_values_are_ordered()
     ensures equal { SameIsEqual }
-    ensures turned { OrderTurns }
+    ensures total { OrderIsTotal }
     ensures sets { PutsKeepSets }
 {}
 

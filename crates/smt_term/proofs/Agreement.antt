@@ -1,6 +1,6 @@
 -- Interpretations that agree on what is reached give the same values; a restriction agrees.
 use Rattle.std.proofs.Common.{◌≡◌, ℕ, Bool, true, false, ◌&&◌, List, [], ◌∷◌, refl, ap, ◌∙◌, sym}
-use Rattle.std.specs.Prelude.{Option, Some, None, IfSome, cond}
+use Rattle.std.specs.Prelude.{bytes_eq, Option, Some, None, IfSome, cond}
 use Rattle.std.proofs.lemmas.Bool.{eq-eqb}
 use Rattle.std.specs.Cmp.Derive.{both_true}
 use Rattle.std.specs.List.{AllByRecursion, list_any, filter_map, cons_option}
@@ -11,11 +11,11 @@ use Rattle.smt_term.specs.Operators.{apply_extension, apply}
 use Rattle.smt_term.specs.Reached.{subterms, subterms_of_all, subterms_of_fields, reached_terms, reached_variables, reached_functions, reached_options, reached_selectors, variable_of, function_of, function_of_op, opened_of, opened_of_op, selector_of, selector_of_op, selector_of_extension}
 use Rattle.smt_term.specs.Tables.{Interpretation, value_at}
 use Rattle.smt_term.specs.Types.{type_eq, typed}
-use Rattle.smt_term.specs.ValueOrder.{text_eq, set_of}
+use Rattle.smt_term.specs.ValueOrder.{set_of}
 use Rattle.smt_term.proofs.Matching.{or_first, or_second}
 use Rattle.smt_term.proofs.Soundness.{all-front, all-back, all-last}
 use Rattle.smt_term.proofs.TypeOrder.{type_itself}
-use Rattle.smt_term.proofs.ValueOrder.{text_itself}
+use Rattle.smt_term.proofs.ValueOrder.{bytes_itself}
 use Rattle.smt_term.specs.Plain.{PlainType, PlainTerm, Application, NoneTerm, LiteralTerm, RecordTerm, SetTerm, SomeTerm, VariableTerm, PlainTerms, no_terms, one_term, PlainFields, no_fields, one_field, PlainFunction, ExtensionOp, DatetimeValOp, DecimalValOp, DurationValOp, IpAddrV4Op, IpAddrV6Op, IpIsV4Op, IpPrefixV4Op, IpPrefixV6Op, PlainOp, AndOp, BvaddOp, BvlshrOp, BvmulOp, BvnegOp, BvnegoOp, BvsaddoOp, BvsdivOp, BvshlOp, BvsleOp, BvsltOp, BvsmodOp, BvsmuloOp, BvsremOp, BvssuboOp, BvsubOp, BvudivOp, BvuleOp, BvultOp, BvuremOp, EqOp, ExtOp, IteOp, NotOp, OptionGetOp, OrOp, RecordGetOp, SetInterOp, SetMemberOp, SetSubsetOp, StringLikeOp, UufOp, ZeroExtendOp, DecimalOf, Ipv4Of, Ipv6Of, DatetimeOf, DurationOf}
 use Rattle.smt_term.specs.Values.{Value, BoolValue, ExtensionValue, SomeValue, RecordValue, one_field_value}
 
@@ -127,13 +127,13 @@ eq_itself : (t : PlainType) → type_eq t t ≡ true
 eq_itself t = ap is_eq (type_itself t)
 
 abbrev variable_eq : (List ℕ × PlainType) → (List ℕ × PlainType) → Bool
-variable_eq y x = text_eq x.0 y.0 && type_eq x.1 y.1
+variable_eq y x = bytes_eq x.0 y.0 && type_eq x.1 y.1
 
 variable_itself : (x : List ℕ × PlainType) → variable_eq x x ≡ true
-variable_itself x = both_true (text_itself x.0) (eq_itself x.1)
+variable_itself x = both_true (bytes_itself x.0) (eq_itself x.1)
 
 function_itself : (f : PlainFunction) → function_eq f f ≡ true
-function_itself f = both_true (text_itself f.id) (both_true (eq_itself f.argument) (eq_itself f.output))
+function_itself f = both_true (bytes_itself f.id) (both_true (eq_itself f.argument) (eq_itself f.output))
 
 selector_itself : (o : ExtensionOp) → selector_eq o o ≡ true
 selector_itself o = eq-eqb (extension_op_place o) (extension_op_place o) refl

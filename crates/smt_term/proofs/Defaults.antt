@@ -1,6 +1,6 @@
 -- The default values are values of their types, and give an interpretation.
 use Rattle.std.proofs.Common.{◌≡◌, ℕ, true, List, [], ◌∷◌, ◌++◌, refl, ap, arith}
-use Rattle.std.specs.Prelude.{Option, Some, None, ◌||◌, IsTrue}
+use Rattle.std.specs.Prelude.{bytes_eq, Option, Some, None, ◌||◌, IsTrue}
 use Rattle.std.specs.Cmp.{first_so, second_so}
 use Rattle.std.specs.List.{AllByRecursion, list_any}
 use Rattle.std.specs.Str.{chars}
@@ -10,10 +10,9 @@ use Rattle.smt_term.specs.Interpretations.{IsGivenOp, IsGiven, IsInterpretation}
 use Rattle.smt_term.specs.Reached.{subterms, subterms_of_all, subterms_of_fields}
 use Rattle.smt_term.specs.Types.{type_of, field_types, types_of, result_type, is_type, typed, typed_all, typed_fields, type_eq}
 use Rattle.smt_term.specs.TypeValues.{Enums, members_of, IsId, IsValue, AreFieldValues}
-use Rattle.smt_term.specs.ValueOrder.{text_eq}
 use Rattle.smt_bits.proofs.BitRanges.{positive}
 use Rattle.smt_term.proofs.Soundness.{none-first, none-second, not-passed, walked, is_type-some}
-use Rattle.smt_term.proofs.ValueOrder.{text_itself}
+use Rattle.smt_term.proofs.ValueOrder.{bytes_itself}
 use Rattle.std.specs.List.{list_all}
 use Rattle.smt_term.specs.Plain.{IpAddrKind, DecimalKind, DatetimeKind, DurationKind, PlainType, OptionType, BitVecType, BoolType, EntityType, ExtensionType, StringType, RecordType, SetType, AttributeTypes, no_attributes, attribute, IpAddrV4Op, IpAddrV6Op, IpPrefixV4Op, IpPrefixV6Op, PlainOp, ExtOp, OptionGetOp, UufOp, PlainTerm, Application, NoneTerm, LiteralTerm, RecordTerm, SetTerm, SomeTerm, VariableTerm, PlainTerms, no_terms, one_term, PlainFields, no_fields, one_field}
 
@@ -26,7 +25,7 @@ module _ (enums : Enums) where
   id_default : (e : List ℕ) (members : Option (List (List ℕ))) → entity_type_fault e members ≡ None → IsId members (default_id members)
   id_default e None h = tt
   id_default e (Some []) h = cc
-  id_default e (Some (m ∷ ms)) h = ap (λ b. b || list_any (λ n. text_eq (chars n) (chars m)) ms) (text_itself (chars m))
+  id_default e (Some (m ∷ ms)) h = ap (λ b. b || list_any (λ n. bytes_eq (chars n) (chars m)) ms) (bytes_itself (chars m))
 
   mutual
     pub is_default : (t : PlainType) → type_fault enums t ≡ None → IsValue enums t (default_value enums t)

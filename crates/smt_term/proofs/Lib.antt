@@ -10,6 +10,7 @@ pub mod SameTerm
 pub mod SortedSets
 pub mod SortedValues
 pub mod Soundness
+pub mod TermTotal
 pub mod TotalOrder
 pub mod TypeOrder
 pub mod Utf8Order

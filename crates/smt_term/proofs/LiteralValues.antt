@@ -1,7 +1,8 @@
 -- Typed literals of one type with one value are one term.
 use Rattle.std.proofs.Common.{◌≡◌, ℕ, true, false, List, [], ◌∷◌, refl, ap, ◌∙◌, sym, subst}
 use Rattle.std.specs.Prelude.{nat_lt, unwrap_or, IsUtf8}
-use Rattle.std.specs.Cmp.{IsTotalOrder, first_so, second_so}
+use Rattle.std.specs.Cmp.{first_so, second_so}
+use Rattle.smt_term.proofs.TermTotal.{terms_total}
 use Rattle.std.specs.List.{AllByRecursion, list_all}
 use Rattle.std.specs.Str.{chars}
 use Rattle.std.proofs.Math.Utf8.{encodes}
@@ -97,7 +98,7 @@ terms-again (one_term t ts) = ap (one_term t) (terms-again ts)
 
 -- ---- literals
 
-module _ (o : IsTotalOrder term_cmp) (I : Interpretation) where
+module _ (I : Interpretation) where
   abbrev Good : PlainTerm → Type 0
   Good t = (is_literal t ≡ true) × (typed t ≡ true) × AllByRecursion IsFormedNode (subterms t)
 
@@ -151,7 +152,7 @@ module _ (o : IsTotalOrder term_cmp) (I : Interpretation) where
         let ga : Of a ts = second_so (typed_all ts) (list_all (type_eq a) (types_of ts)) g.1 in
         let kb : Of b us = second_so (typed_all us) (list_all (type_eq b) (types_of us)) k.1 in
         let ka : Of a us = subst (λ x. Of x us) (sym p) kb in
-        let q : list_of_terms ts ≡ list_of_terms us = one_list term_cmp o (list_of_terms ts) (list_of_terms us) (all-last IsFormedNode (subterms_of_all ts) (SetTerm a ts) g.2) (all-last IsFormedNode (subterms_of_all us) (SetTerm b us) k.2) (all_in a ts us gs ks ga ka (set_in ts us v)) (all_found (list_of_terms ts) us ks a ka (λ u w s m. in_all a ts u gs w ga s (set_in us ts (sym v) (meaning I u) m))) in
+        let q : list_of_terms ts ≡ list_of_terms us = one_list term_cmp terms_total (list_of_terms ts) (list_of_terms us) (all-last IsFormedNode (subterms_of_all ts) (SetTerm a ts) g.2) (all-last IsFormedNode (subterms_of_all us) (SetTerm b us) k.2) (all_in a ts us gs ks ga ka (set_in ts us v)) (all_found (list_of_terms ts) us ks a ka (λ u w s m. in_all a ts u gs w ga s (set_in us ts (sym v) (meaning I u) m))) in
         let r : ts ≡ us = sym (terms-again ts) ∙ (ap terms q ∙ terms-again us) in
         λ i. SetTerm (p i) (r i)
     same (LiteralTerm l) (NoneTerm b) g k e v = absurd (literal_apart l NoneValue refl v)

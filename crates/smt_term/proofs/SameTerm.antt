@@ -1,8 +1,8 @@
 -- Operators, literals and terms that the order holds equal are equal.
-use Rattle.std.proofs.Common.{◌≡◌, ℕ, Bool, true, false, refl, ap}
+use Rattle.std.proofs.Common.{◌≡◌, ℕ, refl, ap}
 use Rattle.std.specs.Prelude.{Option, Some, None}
 use Rattle.std.specs.FinMap.{nat_cmp-IsAntisymmetric, int_cmp-IsAntisymmetric, slice_cmp-IsAntisymmetric}
-use Rattle.std.specs.Ordering.{nat_cmp, bool_cmp, ordering_then}
+use Rattle.std.specs.Ordering.{nat_cmp, ordering_then}
 use Rattle.std.specs.declared.cmp.Ordering.TheVariants.{Equal}
 use Rattle.smt_term.specs.Interpretations.{extension_op_place}
 use Rattle.smt_term.specs.Plain.{PlainFunction, ExtensionOp, DatetimeOfBitVecOp, DatetimeValOp, DecimalValOp, DurationOfBitVecOp, DurationValOp, IpAddrV4Op, IpAddrV6Op, IpIsV4Op, IpPrefixV4Op, IpPrefixV6Op, PatternPart, Character, Wildcard, PlainOp, AndOp, BvaddOp, BvlshrOp, BvmulOp, BvnegOp, BvnegoOp, BvsaddoOp, BvsdivOp, BvshlOp, BvsleOp, BvsltOp, BvsmodOp, BvsmuloOp, BvsremOp, BvssuboOp, BvsubOp, BvudivOp, BvuleOp, BvultOp, BvuremOp, EqOp, ExtOp, IteOp, NotOp, OptionGetOp, OrOp, RecordGetOp, SetInterOp, SetMemberOp, SetSubsetOp, StringLikeOp, UufOp, ZeroExtendOp, PlainExtension, DecimalOf, Ipv4Of, Ipv6Of, DatetimeOf, DurationOf, PlainLiteral, BitVecLiteral, BoolLiteral, EntityLiteral, ExtensionLiteral, StringLiteral, PlainTerm, Application, NoneTerm, LiteralTerm, RecordTerm, SetTerm, SomeTerm, VariableTerm, PlainTerms, no_terms, one_term, PlainFields, no_fields, one_field}
@@ -10,7 +10,7 @@ use Rattle.smt_term.specs.TermOrder.{part_cmp, function_cmp, op_place, op_fields
 use Rattle.smt_term.specs.Types.{type_cmp}
 use Rattle.smt_term.specs.ValueOrder.{text_cmp}
 use Rattle.smt_term.proofs.TypeOrder.{type_same}
-use Rattle.smt_term.proofs.ValueOrder.{text_same, then_equal}
+use Rattle.smt_term.proofs.ValueOrder.{text_same, bool_same, then_equal}
 
 part_same : (x y : PatternPart) → part_cmp x y ≡ Equal → x ≡ y
 part_same (Character c) (Character d) h = ap Character (nat_cmp-IsAntisymmetric c d h)
@@ -18,7 +18,7 @@ part_same (Character c) Wildcard h = cc
 part_same Wildcard (Character d) h = cc
 part_same Wildcard Wildcard h = refl
 
-function_same : (f g : PlainFunction) → function_cmp f g ≡ Equal → f ≡ g
+pub function_same : (f g : PlainFunction) → function_cmp f g ≡ Equal → f ≡ g
 function_same f g h =
     let e : (text_cmp f.id g.id ≡ Equal) × (ordering_then (type_cmp f.argument g.argument) (type_cmp f.output g.output) ≡ Equal) = then_equal (text_cmp f.id g.id) (ordering_then (type_cmp f.argument g.argument) (type_cmp f.output g.output)) h in
     let k : (type_cmp f.argument g.argument ≡ Equal) × (type_cmp f.output g.output ≡ Equal) = then_equal (type_cmp f.argument g.argument) (type_cmp f.output g.output) e.1 in
@@ -80,12 +80,6 @@ op_alike o p h g = cc
 pub op_same : (o p : PlainOp) → op_cmp o p ≡ Equal → o ≡ p
 op_same o p h = let e = then_equal (nat_cmp (op_place o) (op_place p)) (op_fields_cmp o p) h in op_alike o p e.0 e.1
 
-bool_same : (b c : Bool) → bool_cmp b c ≡ Equal → b ≡ c
-bool_same true true h = refl
-bool_same false false h = refl
-bool_same true false h = cc
-bool_same false true h = cc
-
 prefix_same : (p q : Option ℕ) → prefix_literal_cmp p q ≡ Equal → p ≡ q
 prefix_same (Some a) (Some b) h = ap Some (nat_cmp-IsAntisymmetric a b h)
 prefix_same (Some a) None h = cc
@@ -146,7 +140,7 @@ mutual
       λ x. VariableTerm (i x) (j x)
   term_same t u h = cc
 
-  terms_same : (ts us : PlainTerms) → terms_cmp ts us ≡ Equal → ts ≡ us
+  pub terms_same : (ts us : PlainTerms) → terms_cmp ts us ≡ Equal → ts ≡ us
   terms_same no_terms no_terms h = refl
   terms_same no_terms (one_term u us) h = cc
   terms_same (one_term t ts) no_terms h = cc

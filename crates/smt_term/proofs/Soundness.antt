@@ -1,6 +1,6 @@
 -- A typed term without fault has a value of its type.
 use Rattle.std.proofs.Common.{◌≡◌, ℕ, ◌+◌, ◌-◌, ◌*◌, ◌^◌, ◌<◌, ◌≤◌, Bool, true, false, ◌&&◌, List, [], ◌∷◌, ◌++◌, refl, ap, ◌∙◌, sym, subst, arith}
-use Rattle.std.specs.Prelude.{◌||◌, cond, not, nat_le, Option, Some, None, unwrap_or, pos, negsuc}
+use Rattle.std.specs.Prelude.{bytes_eq, ◌||◌, cond, not, nat_le, Option, Some, None, unwrap_or, pos, negsuc}
 use Rattle.std.specs.Bool.{then_some}
 use Rattle.std.specs.Cmp.{first_so, second_so}
 use Rattle.std.specs.List.{AllByRecursion, list_all, list_any}
@@ -17,13 +17,13 @@ use Rattle.smt_term.specs.Reached.{subterms, subterms_of_all, subterms_of_fields
 use Rattle.smt_term.specs.Tables.{Interpretation, value_among, value_at}
 use Rattle.smt_term.specs.Types.{type_eq, literal_type, type_of, field_types, types_of, is_bits, is_set, inner_type, attribute_in, attribute_type, extended_type, bits_and_bits, extension_signature, result_type, is_type, typed, typed_all, typed_fields}
 use Rattle.smt_term.specs.TypeValues.{Enums, members_of, greatest_code_point, AreCodePoints, IsId, IsLong, IsPrefix, IsValue, AreFieldValues}
-use Rattle.smt_term.specs.ValueOrder.{text_eq, value_eq, value_cmp, ascends, list_of_values, sorted_values, set_of}
+use Rattle.smt_term.specs.ValueOrder.{value_eq, value_cmp, ascends, list_of_values, sorted_values, set_of}
 use Rattle.smt_bits.proofs.BitRanges as ranges
 use Rattle.smt_term.proofs.Matching.{or_second}
 use Rattle.smt_term.proofs.SortedValues.{ascends-sorted, all-sorted, all-filtered, list-values}
 use Rattle.smt_term.proofs.TypeOrder.{eq_same}
-use Rattle.smt_term.proofs.ValueOrder.{text_same, text_itself}
-use Rattle.std.specs.Cmp.{Equal-is}
+use Rattle.smt_term.proofs.ValueOrder.{bytes_itself}
+use Rattle.std.proofs.lemmas.Slice.Eq.{bytes_eq-Decides}
 use Rattle.smt_term.specs.Plain.{PlainType, OptionType, BitVecType, BoolType, StringType, RecordType, SetType, AttributeTypes, no_attributes, attribute, ExtensionOp, DatetimeOfBitVecOp, DatetimeValOp, DecimalValOp, DurationOfBitVecOp, DurationValOp, IpAddrV4Op, IpAddrV6Op, IpIsV4Op, IpPrefixV4Op, IpPrefixV6Op, PlainOp, AndOp, BvaddOp, BvlshrOp, BvmulOp, BvnegOp, BvnegoOp, BvsaddoOp, BvsdivOp, BvshlOp, BvsleOp, BvsltOp, BvsmodOp, BvsmuloOp, BvsremOp, BvssuboOp, BvsubOp, BvudivOp, BvuleOp, BvultOp, BvuremOp, EqOp, ExtOp, IteOp, NotOp, OptionGetOp, OrOp, RecordGetOp, SetInterOp, SetMemberOp, SetSubsetOp, StringLikeOp, UufOp, ZeroExtendOp, DecimalOf, Ipv4Of, Ipv6Of, DatetimeOf, DurationOf, PlainLiteral, BitVecLiteral, BoolLiteral, EntityLiteral, ExtensionLiteral, StringLiteral, PlainTerm, Application, NoneTerm, LiteralTerm, RecordTerm, SetTerm, SomeTerm, VariableTerm, PlainTerms, no_terms, one_term, PlainFields, no_fields, one_field}
 use Rattle.smt_term.specs.Values.{Value, BoolValue, BitVecValue, ExtensionValue, NoneValue, SomeValue, RecordValue, SetValue, FieldValues, no_field_values, one_field_value}
 
@@ -41,10 +41,10 @@ module _ {X : Type 0} (P : X → Type 0) where
   pub all-last : (xs : List X) (y : X) → AllByRecursion P (xs ++ y ∷ []) → P y
   all-last xs y h = (all-back xs (y ∷ []) h).0
 
-inside : (t u : PlainType) → Some t ≡ Some u → t ≡ u
+pub inside : (t u : PlainType) → Some t ≡ Some u → t ≡ u
 inside t u e = ap (λ o. unwrap_or o t) e
 
-chosen : (b : Bool) (t u : PlainType) → then_some b t ≡ Some u → (b ≡ true) × (t ≡ u)
+pub chosen : (b : Bool) (t u : PlainType) → then_some b t ≡ Some u → (b ≡ true) × (t ≡ u)
 chosen true t u h = (refl, inside t u h)
 chosen false t u h = cc
 
@@ -74,16 +74,16 @@ code_points : (s : List ℕ) → list_all (λ c. nat_le c greatest_code_point) s
 code_points [] h = tt
 code_points (c ∷ s) h = (leb-true c greatest_code_point (first_so (nat_le c greatest_code_point) (list_all (λ d. nat_le d greatest_code_point) s) h), code_points s (second_so (nat_le c greatest_code_point) (list_all (λ d. nat_le d greatest_code_point) s) h))
 
-same_text : (s t : List ℕ) → text_eq s t ≡ true → text_eq (chars t) (chars s) ≡ true
-same_text s t h = let e : s ≡ t = text_same s t ((Equal-is _).0 h) in ap (λ u. text_eq (chars t) (chars u)) e ∙ text_itself (chars t)
+same_text : (s t : List ℕ) → bytes_eq s t ≡ true → bytes_eq (chars t) (chars s) ≡ true
+same_text s t h = ap (λ u. bytes_eq (chars t) (chars u)) ((bytes_eq-Decides s t).0 h) ∙ bytes_itself (chars t)
 
-member_found : (i : List ℕ) (ms : List (List ℕ)) → list_any (text_eq i) ms ≡ true → list_any (λ m. text_eq (chars m) (chars i)) ms ≡ true
+member_found : (i : List ℕ) (ms : List (List ℕ)) → list_any (bytes_eq i) ms ≡ true → list_any (λ m. bytes_eq (chars m) (chars i)) ms ≡ true
 member_found i [] h = cc
-member_found i (m ∷ ms) h = from (text_eq i m) refl (member_found i ms) h
+member_found i (m ∷ ms) h = from (bytes_eq i m) refl (member_found i ms) h
   where
-    from : (b : Bool) → text_eq i m ≡ b → (list_any (text_eq i) ms ≡ true → list_any (λ n. text_eq (chars n) (chars i)) ms ≡ true) → (b || list_any (text_eq i) ms) ≡ true → (text_eq (chars m) (chars i) || list_any (λ n. text_eq (chars n) (chars i)) ms) ≡ true
-    from true e again k = ap (λ b. b || list_any (λ n. text_eq (chars n) (chars i)) ms) (same_text i m e)
-    from false e again k = or_second (text_eq (chars m) (chars i)) (list_any (λ n. text_eq (chars n) (chars i)) ms) (again k)
+    from : (b : Bool) → bytes_eq i m ≡ b → (list_any (bytes_eq i) ms ≡ true → list_any (λ n. bytes_eq (chars n) (chars i)) ms ≡ true) → (b || list_any (bytes_eq i) ms) ≡ true → (bytes_eq (chars m) (chars i) || list_any (λ n. bytes_eq (chars n) (chars i)) ms) ≡ true
+    from true e again k = ap (λ b. b || list_any (λ n. bytes_eq (chars n) (chars i)) ms) (same_text i m e)
+    from false e again k = or_second (bytes_eq (chars m) (chars i)) (list_any (λ n. bytes_eq (chars n) (chars i)) ms) (again k)
 
 -- ---- operators
 
@@ -136,7 +136,7 @@ module _ (enums : Enums) where
   field_result : (x : List ℕ) (fs : AttributeTypes) (gs : FieldValues) (ty : PlainType) → attribute_in x fs ≡ Some ty → AreFieldValues enums fs gs → IsValue enums ty (field_value x gs)
   field_result x no_attributes gs ty h k = cc
   field_result x (attribute a t fs) no_field_values ty h k = elim k [ ]
-  field_result x (attribute a t fs) (one_field_value b v gs) ty h k = from (text_eq x a) (text_eq x b) (ap (text_eq x) (sym k.0)) h (λ e. field_result x fs gs ty e k.2)
+  field_result x (attribute a t fs) (one_field_value b v gs) ty h k = from (bytes_eq x a) (bytes_eq x b) (ap (bytes_eq x) (sym k.0)) h (λ e. field_result x fs gs ty e k.2)
     where
       from : (c d : Bool) → c ≡ d → ◌≡◌ {A = Option PlainType} (elim c [ true ↦ Some t | false ↦ attribute_in x fs ]) (Some ty) → (attribute_in x fs ≡ Some ty → IsValue enums ty (field_value x gs)) → IsValue enums ty (elim d [ true ↦ v | false ↦ field_value x gs ])
       from true true p e again = subst (λ u. IsValue enums u v) (inside t ty e) k.1
@@ -255,7 +255,7 @@ module _ (enums : Enums) where
 
   id_at : (e i : List ℕ) (members : Option (List (List ℕ))) → entity_fault e i members ≡ None → IsId members (chars i)
   id_at e i None h = code_points (chars i) (unless-none (is_string i) _ h)
-  id_at e i (Some ms) h = member_found i ms (unless-none (list_any (text_eq i) ms) _ h)
+  id_at e i (Some ms) h = member_found i ms (unless-none (list_any (bytes_eq i) ms) _ h)
 
   literal_result : (l : PlainLiteral) → literal_fault enums l ≡ None → IsFormedLiteral l → IsValue enums (literal_type l) (literal_value l)
   literal_result (BitVecLiteral n a) h f = (refl, f)

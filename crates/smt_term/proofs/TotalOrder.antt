@@ -15,7 +15,7 @@ use Rattle.smt_term.specs.Plain.{PlainExtension, DecimalOf, Ipv4Of, Ipv6Of, Date
 use Rattle.smt_term.specs.Values.{Value, BoolValue, BitVecValue, StringValue, EntityValue, ExtensionValue, NoneValue, SomeValue, RecordValue, SetValue, Values, no_values, one_value, FieldValues, no_field_values, one_field_value}
 
 -- three items by a first part and then a second: o and p are the answers on first and second against second and third
-then_less : (o12 o23 o13 p12 p23 p13 : Ordering) → (o12 ≡ Less → o23 ≡ Less → o13 ≡ Less) → (o12 ≡ Equal → o13 ≡ o23) → (o23 ≡ Equal → o13 ≡ o12) → (p12 ≡ Less → p23 ≡ Less → p13 ≡ Less) → ordering_then o12 p12 ≡ Less → ordering_then o23 p23 ≡ Less → ordering_then o13 p13 ≡ Less
+pub then_less : (o12 o23 o13 p12 p23 p13 : Ordering) → (o12 ≡ Less → o23 ≡ Less → o13 ≡ Less) → (o12 ≡ Equal → o13 ≡ o23) → (o23 ≡ Equal → o13 ≡ o12) → (p12 ≡ Less → p23 ≡ Less → p13 ≡ Less) → ordering_then o12 p12 ≡ Less → ordering_then o23 p23 ≡ Less → ordering_then o13 p13 ≡ Less
 then_less Less Less o13 p12 p23 p13 t l r s h g = ap (λ o. ordering_then o p13) (t refl refl)
 then_less Less Equal o13 p12 p23 p13 t l r s h g = ap (λ o. ordering_then o p13) (r refl)
 then_less Equal Less o13 p12 p23 p13 t l r s h g = ap (λ o. ordering_then o p13) (l refl)
@@ -26,17 +26,39 @@ then_less Equal Greater o13 p12 p23 p13 t l r s h g = cc
 
 -- the same, where the first parts are compared by an order that agrees with equality
 module _ {A : Type 0} (cmp : A → A → Ordering) (agrees : (x y : A) → cmp x y ≡ Equal → x ≡ y) (x y z : A) (p12 p23 p13 : Ordering) where
-  then_chain : (cmp x y ≡ Less → cmp y z ≡ Less → cmp x z ≡ Less) → (p12 ≡ Less → p23 ≡ Less → p13 ≡ Less) → ordering_then (cmp x y) p12 ≡ Less → ordering_then (cmp y z) p23 ≡ Less → ordering_then (cmp x z) p13 ≡ Less
+  pub then_chain : (cmp x y ≡ Less → cmp y z ≡ Less → cmp x z ≡ Less) → (p12 ≡ Less → p23 ≡ Less → p13 ≡ Less) → ordering_then (cmp x y) p12 ≡ Less → ordering_then (cmp y z) p23 ≡ Less → ordering_then (cmp x z) p13 ≡ Less
   then_chain t s h g =
       then_less (cmp x y) (cmp y z) (cmp x z) p12 p23 p13 t (λ e. ap (λ u. cmp u z) (agrees x y e)) (λ e. sym (ap (λ u. cmp x u) (agrees y z e))) s h g
 
-nat_less : (a b c : ℕ) → nat_cmp a b ≡ Less → nat_cmp b c ≡ Less → nat_cmp a c ≡ Less
+pub nat_less : (a b c : ℕ) → nat_cmp a b ≡ Less → nat_cmp b c ≡ Less → nat_cmp a c ≡ Less
 nat_less = nat_cmp_total.trans
 
-text_less : (a b c : List ℕ) → text_cmp a b ≡ Less → text_cmp b c ≡ Less → text_cmp a c ≡ Less
+pub text_less : (a b c : List ℕ) → text_cmp a b ≡ Less → text_cmp b c ≡ Less → text_cmp a c ≡ Less
 text_less = nat_list_cmp_total.trans
 
-bool_less : (a b c : Bool) → bool_cmp a b ≡ Less → bool_cmp b c ≡ Less → bool_cmp a c ≡ Less
+-- what has a name: by the name, then by an order that agrees with equality, and then by the rest
+module _ {A : Type 0} (cmp : A → A → Ordering) (agrees : (x y : A) → cmp x y ≡ Equal → x ≡ y) (a b c : List ℕ) (x y z : A) (p12 p23 p13 : Ordering) where
+  both_left : ordering_then (text_cmp a b) (cmp x y) ≡ Equal → ordering_then (text_cmp a c) (cmp x z) ≡ ordering_then (text_cmp b c) (cmp y z)
+  both_left e =
+      let k : (text_cmp a b ≡ Equal) × (cmp x y ≡ Equal) = then_equal (text_cmp a b) (cmp x y) e in
+      let p : a ≡ b = text_same a b k.0 in
+      let q : x ≡ y = agrees x y k.1 in
+      λ i. ordering_then (text_cmp (p i) c) (cmp (q i) z)
+
+  both_right : ordering_then (text_cmp b c) (cmp y z) ≡ Equal → ordering_then (text_cmp a c) (cmp x z) ≡ ordering_then (text_cmp a b) (cmp x y)
+  both_right e =
+      let k : (text_cmp b c ≡ Equal) × (cmp y z ≡ Equal) = then_equal (text_cmp b c) (cmp y z) e in
+      let p : c ≡ b = sym (text_same b c k.0) in
+      let q : z ≡ y = sym (agrees y z k.1) in
+      λ i. ordering_then (text_cmp a (p i)) (cmp x (q i))
+
+  pub named_chain : (cmp x y ≡ Less → cmp y z ≡ Less → cmp x z ≡ Less) → (p12 ≡ Less → p23 ≡ Less → p13 ≡ Less)
+      → ordering_then (ordering_then (text_cmp a b) (cmp x y)) p12 ≡ Less → ordering_then (ordering_then (text_cmp b c) (cmp y z)) p23 ≡ Less → ordering_then (ordering_then (text_cmp a c) (cmp x z)) p13 ≡ Less
+  named_chain t s h g =
+      then_less (ordering_then (text_cmp a b) (cmp x y)) (ordering_then (text_cmp b c) (cmp y z)) (ordering_then (text_cmp a c) (cmp x z)) p12 p23 p13
+      (then_chain text_cmp text_same a b c (cmp x y) (cmp y z) (cmp x z) (text_less a b c) t) both_left both_right s h g
+
+pub bool_less : (a b c : Bool) → bool_cmp a b ≡ Less → bool_cmp b c ≡ Less → bool_cmp a c ≡ Less
 bool_less false true true h g = refl
 bool_less false true false h g = cc
 bool_less false false c h g = cc
@@ -117,20 +139,6 @@ value_ordered (RecordValue fs) (RecordValue gs) h = refl
 value_ordered (SetValue vs) (SetValue ws) h = refl
 value_ordered v w h = cc
 
-pair_left : (a b c : List ℕ) (v w u : Value) → ordering_then (text_cmp a b) (value_cmp v w) ≡ Equal → ordering_then (text_cmp a c) (value_cmp v u) ≡ ordering_then (text_cmp b c) (value_cmp w u)
-pair_left a b c v w u e =
-    let k : (text_cmp a b ≡ Equal) × (value_cmp v w ≡ Equal) = then_equal (text_cmp a b) (value_cmp v w) e in
-    let p : a ≡ b = text_same a b k.0 in
-    let q : v ≡ w = value_same v w k.1 in
-    λ i. ordering_then (text_cmp (p i) c) (value_cmp (q i) u)
-
-pair_right : (a b c : List ℕ) (v w u : Value) → ordering_then (text_cmp b c) (value_cmp w u) ≡ Equal → ordering_then (text_cmp a c) (value_cmp v u) ≡ ordering_then (text_cmp a b) (value_cmp v w)
-pair_right a b c v w u e =
-    let k : (text_cmp b c ≡ Equal) × (value_cmp w u ≡ Equal) = then_equal (text_cmp b c) (value_cmp w u) e in
-    let p : c ≡ b = sym (text_same b c k.0) in
-    let q : u ≡ w = sym (value_same w u k.1) in
-    λ i. ordering_then (text_cmp a (p i)) (value_cmp v (q i))
-
 mutual
   pub value_less : (v w u : Value) → value_cmp v w ≡ Less → value_cmp w u ≡ Less → value_cmp v u ≡ Less
   value_less (BoolValue a) (BoolValue b) (BoolValue c) h g = bool_less a b c h g
@@ -157,7 +165,7 @@ mutual
 
   fields_less : (fs gs hs : FieldValues) → field_values_cmp fs gs ≡ Less → field_values_cmp gs hs ≡ Less → field_values_cmp fs hs ≡ Less
   fields_less (one_field_value a v fs) (one_field_value b w gs) (one_field_value c u hs) h g =
-      then_less _ _ _ _ _ _ (then_chain text_cmp text_same a b c _ _ _ (text_less a b c) (value_less v w u)) (λ e. pair_left a b c v w u e) (λ e. pair_right a b c v w u e) (fields_less fs gs hs) h g
+      named_chain value_cmp value_same a b c v w u _ _ _ (value_less v w u) (fields_less fs gs hs) h g
   fields_less no_field_values (one_field_value b w gs) (one_field_value c u hs) h g = refl
   fields_less no_field_values no_field_values hs h g = cc
   fields_less (one_field_value a v fs) no_field_values hs h g = cc

@@ -3,7 +3,7 @@ use Rattle.std.proofs.Common.{◌≡◌, ℕ, true, refl, ap}
 use Rattle.std.specs.Cmp.{Equal-is, tied_itself}
 use Rattle.std.proofs.lemmas.Cmp.{nat_cmp_total}
 use Rattle.std.specs.FinMap.{nat_cmp-IsAntisymmetric}
-use Rattle.std.specs.Ordering.{nat_cmp, ordering_then, is_eq}
+use Rattle.std.specs.Ordering.{nat_cmp, ordering_then}
 use Rattle.std.specs.declared.cmp.Ordering.{Ordering}
 use Rattle.std.specs.declared.cmp.Ordering.TheVariants.{Equal}
 use Rattle.smt_term.specs.Types.{extension_kind_place, type_cmp, attribute_types_cmp, type_eq}
@@ -45,9 +45,6 @@ mutual
 pub eq_same : (t u : PlainType) → type_eq t u ≡ true → t ≡ u
 eq_same t u h = type_same t u ((Equal-is (type_cmp t u)).0 h)
 
-own_turn : (o : Ordering) → is_eq o ≡ true → o ≡ Equal
-own_turn o = (Equal-is o).0
-
 then-equal : (o p : Ordering) → o ≡ Equal → p ≡ Equal → ordering_then o p ≡ Equal
 then-equal o p h g = (λ i. ordering_then (h i) (g i))
 
@@ -59,7 +56,7 @@ mutual
   type_itself (OptionType t) = type_itself t
   type_itself (BitVecType n) = nat_itself n
   type_itself BoolType = refl
-  type_itself (EntityType e) = own_turn _ (text_itself e)
+  type_itself (EntityType e) = text_itself e
   type_itself (ExtensionType k) = nat_itself (extension_kind_place k)
   type_itself StringType = refl
   type_itself (RecordType x) = attributes_itself x
@@ -67,4 +64,4 @@ mutual
 
   attributes_itself : (x : AttributeTypes) → attribute_types_cmp x x ≡ Equal
   attributes_itself no_attributes = refl
-  attributes_itself (attribute a t x) = then-equal _ _ (then-equal _ _ (own_turn _ (text_itself a)) (type_itself t)) (attributes_itself x)
+  attributes_itself (attribute a t x) = then-equal _ _ (then-equal _ _ (text_itself a) (type_itself t)) (attributes_itself x)

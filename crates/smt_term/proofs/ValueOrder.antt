@@ -1,12 +1,13 @@
 -- The order of values agrees with equality, and turns round with its arguments.
 use Rattle.std.proofs.Common.{◌≡◌, ℕ, Bool, true, false, List, refl, ap, ◌∙◌, sym}
-use Rattle.std.specs.Prelude.{ℤ, pos, negsuc, Option, Some, None}
+use Rattle.std.specs.Prelude.{bytes_eq, ℤ, pos, negsuc, Option, Some, None}
 use Rattle.std.specs.FinMap.{nat_cmp-IsAntisymmetric, slice_cmp-IsAntisymmetric}
 use Rattle.std.specs.Option.{option_cmp}
-use Rattle.std.specs.Ordering.{nat_cmp, bool_cmp, ordering_then, ordering_reverse, is_eq}
+use Rattle.std.specs.Ordering.{nat_cmp, bool_cmp, ordering_then, ordering_reverse}
 use Rattle.std.specs.declared.cmp.Ordering.{Ordering}
 use Rattle.std.specs.declared.cmp.Ordering.TheVariants.{Less, Equal, Greater}
 use Rattle.std.proofs.lemmas.Cmp.{nat_cmp_total, nat_list_cmp_total}
+use Rattle.std.proofs.lemmas.Slice.Eq.{bytes_eq-Decides}
 use Rattle.smt_term.specs.ValueOrder.{text_cmp, twos_complement_cmp, extension_cmp, value_cmp, values_cmp, field_values_cmp}
 use Rattle.smt_term.specs.Plain.{PlainExtension, DecimalOf, Ipv4Of, Ipv6Of, DatetimeOf, DurationOf}
 use Rattle.smt_term.specs.Values.{Value, BoolValue, BitVecValue, StringValue, EntityValue, ExtensionValue, NoneValue, SomeValue, RecordValue, SetValue, Values, no_values, one_value, FieldValues, no_field_values, one_field_value}
@@ -21,7 +22,7 @@ then_turned Less b = refl
 then_turned Equal b = refl
 then_turned Greater b = refl
 
-then_both : (a b c d : Ordering) → a ≡ ordering_reverse b → c ≡ ordering_reverse d → ordering_then a c ≡ ordering_reverse (ordering_then b d)
+pub then_both : (a b c d : Ordering) → a ≡ ordering_reverse b → c ≡ ordering_reverse d → ordering_then a c ≡ ordering_reverse (ordering_then b d)
 then_both a b c d p q = (λ i. ordering_then (p i) (q i)) ∙ sym (then_turned b d)
 
 -- ---- equal by the order is equal
@@ -29,7 +30,7 @@ then_both a b c d p q = (λ i. ordering_then (p i) (q i)) ∙ sym (then_turned b
 pub text_same : (a b : List ℕ) → text_cmp a b ≡ Equal → a ≡ b
 text_same = slice_cmp-IsAntisymmetric nat_cmp-IsAntisymmetric
 
-bool_same : (b c : Bool) → bool_cmp b c ≡ Equal → b ≡ c
+pub bool_same : (b c : Bool) → bool_cmp b c ≡ Equal → b ≡ c
 bool_same true true h = refl
 bool_same false false h = refl
 bool_same true false h = cc
@@ -101,13 +102,13 @@ mutual
 
 -- ---- the order turns round
 
-nat_turned : (a b : ℕ) → nat_cmp a b ≡ ordering_reverse (nat_cmp b a)
+pub nat_turned : (a b : ℕ) → nat_cmp a b ≡ ordering_reverse (nat_cmp b a)
 nat_turned = nat_cmp_total.antisymm
 
-text_turned : (a b : List ℕ) → text_cmp a b ≡ ordering_reverse (text_cmp b a)
+pub text_turned : (a b : List ℕ) → text_cmp a b ≡ ordering_reverse (text_cmp b a)
 text_turned = nat_list_cmp_total.antisymm
 
-bool_turned : (b c : Bool) → bool_cmp b c ≡ ordering_reverse (bool_cmp c b)
+pub bool_turned : (b c : Bool) → bool_cmp b c ≡ ordering_reverse (bool_cmp c b)
 bool_turned true true = refl
 bool_turned false false = refl
 bool_turned true false = refl
@@ -158,7 +159,7 @@ mutual
   fields_turned (one_field_value a v fs) no_field_values = refl
   fields_turned (one_field_value a v fs) (one_field_value b w gs) = then_both _ _ _ _ (then_both _ _ _ _ (text_turned a b) (value_turned v w)) (fields_turned fs gs)
 
-own_turn : (o : Ordering) → o ≡ ordering_reverse o → o ≡ Equal
+pub own_turn : (o : Ordering) → o ≡ ordering_reverse o → o ≡ Equal
 own_turn Less h = cc
 own_turn Equal h = refl
 own_turn Greater h = cc
@@ -166,5 +167,8 @@ own_turn Greater h = cc
 pub value_itself : (v : Value) → value_cmp v v ≡ Equal
 value_itself v = own_turn (value_cmp v v) (value_turned v v)
 
-pub text_itself : (s : List ℕ) → is_eq (text_cmp s s) ≡ true
-text_itself s = ap is_eq (own_turn (text_cmp s s) (text_turned s s))
+pub text_itself : (s : List ℕ) → text_cmp s s ≡ Equal
+text_itself s = own_turn (text_cmp s s) (text_turned s s)
+
+pub bytes_itself : (s : List ℕ) → bytes_eq s s ≡ true
+bytes_itself s = (bytes_eq-Decides s s).1 refl

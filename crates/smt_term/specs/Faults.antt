@@ -1,10 +1,9 @@
 -- The first fault that an encoder meets: a term's type, then its parts in order, then the term itself.
-use Rattle.std.specs.Prelude.{ℕ, Bool, true, false, not, nat_le, List, [], ◌∷◌, Option, Some, None}
+use Rattle.std.specs.Prelude.{bytes_eq, ℕ, Bool, true, false, not, List, [], ◌∷◌, Option, Some, None}
 use Rattle.std.specs.List.{list_all, list_any}
 use Rattle.std.specs.Str.{chars}
 use Rattle.smt_term.specs.Types.{type_of, types_of, is_bits, attribute_in}
-use Rattle.smt_term.specs.TypeValues.{Enums, members_of, greatest_code_point}
-use Rattle.smt_term.specs.ValueOrder.{text_eq}
+use Rattle.smt_term.specs.TypeValues.{Enums, members_of, is_code_point}
 use Rattle.smt_term.specs.Plain.{PlainType, OptionType, BoolType, EntityType, ExtensionType, RecordType, SetType, AttributeTypes, no_attributes, attribute, PatternPart, Character, Wildcard, PlainOp, BvnegoOp, RecordGetOp, StringLikeOp, UufOp, PlainLiteral, EntityLiteral, StringLiteral, PlainTerm, Application, NoneTerm, LiteralTerm, RecordTerm, SetTerm, SomeTerm, VariableTerm, PlainTerms, no_terms, one_term, PlainFields, no_fields, one_field}
 
 pub data Fault : Type 0 where
@@ -39,10 +38,10 @@ fault_unless false f = Some f
 
 -- the code points of a string literal, and of a pattern
 abbrev pub is_string : List ℕ → Bool
-is_string s = list_all (λ c. nat_le c greatest_code_point) (chars s)
+is_string s = list_all is_code_point (chars s)
 
 abbrev pub is_pattern_part : PatternPart → Bool
-is_pattern_part (Character c) = nat_le c greatest_code_point
+is_pattern_part (Character c) = is_code_point c
 is_pattern_part Wildcard = true
 
 abbrev pub entity_type_fault : (name : List ℕ) → (members : Option (List (List ℕ))) → Option Fault
@@ -51,7 +50,7 @@ entity_type_fault e members = None
 
 abbrev pub entity_fault : (type id : List ℕ) → (members : Option (List (List ℕ))) → Option Fault
 entity_fault e i None = fault_unless (is_string i) (EncodeStringFailed i)
-entity_fault e i (Some members) = fault_unless (list_any (text_eq i) members) (EnumMissingMember e i)
+entity_fault e i (Some members) = fault_unless (list_any (bytes_eq i) members) (EnumMissingMember e i)
 
 abbrev pub literal_fault : Enums → PlainLiteral → Option Fault
 literal_fault enums (EntityLiteral e i) = entity_fault e i (members_of enums e)

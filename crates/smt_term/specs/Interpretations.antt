@@ -1,11 +1,11 @@
 -- The interpretations of a list of terms.
-use Rattle.std.specs.Prelude.{◌≡◌, ℕ, ◌==◌, Bool, false, cond, ◌&&◌, List, [], ◌∷◌, map, ⊤, IfSome, IsFalse}
+use Rattle.std.specs.Prelude.{bytes_eq, ◌≡◌, ℕ, ◌==◌, Bool, false, cond, ◌&&◌, List, [], ◌∷◌, map, ⊤, IfSome, IsFalse}
 use Rattle.std.specs.List.{AllByRecursion, list_any}
 use Rattle.smt_term.specs.Reached.{selector_of_extension, reached_terms, reached_variables, reached_functions, reached_options, reached_selectors}
 use Rattle.smt_term.specs.Tables.{Table, Interpretation}
 use Rattle.smt_term.specs.Types.{type_eq, extension_signature}
 use Rattle.smt_term.specs.TypeValues.{Enums, IsValue}
-use Rattle.smt_term.specs.ValueOrder.{text_eq, value_eq}
+use Rattle.smt_term.specs.ValueOrder.{value_eq}
 use Rattle.smt_term.specs.Plain.{IpAddrKind, PlainType, ExtensionType, PlainFunction, ExtensionOp, DatetimeOfBitVecOp, DatetimeValOp, DecimalValOp, DurationOfBitVecOp, DurationValOp, IpAddrV4Op, IpAddrV6Op, IpIsV4Op, IpPrefixV4Op, IpPrefixV6Op, PlainOp, ExtOp, OptionGetOp, UufOp, PlainTerm, Application, VariableTerm, Ipv4Of, Ipv6Of}
 use Rattle.smt_term.specs.Values.{Value, BoolValue, ExtensionValue}
 
@@ -73,7 +73,7 @@ Agree ts I J = AllByRecursion (GiveSame I J) (reached_terms ts)
 
 -- equality of functions and of selectors, as tests
 abbrev pub function_eq : PlainFunction → PlainFunction → Bool
-function_eq f g = text_eq f.id g.id && (type_eq f.argument g.argument && type_eq f.output g.output)
+function_eq f g = bytes_eq f.id g.id && (type_eq f.argument g.argument && type_eq f.output g.output)
 
 abbrev pub extension_op_place : ExtensionOp → ℕ
 extension_op_place DatetimeOfBitVecOp = 0
@@ -99,4 +99,4 @@ empty_table = record { entries = []; elsewhere = nothing }
 
 -- what the terms reach of I
 abbrev pub restrict : Interpretation → List PlainTerm → Interpretation
-restrict I ts = record { variable = λ id t. cond (list_any (λ x. text_eq x.0 id && type_eq x.1 t) (reached_variables ts)) (I.variable id t) nothing; function = λ f. cond (list_any (function_eq f) (reached_functions ts)) (I.function f) empty_table; inside_none = λ t. cond (list_any (type_eq t) (reached_options ts)) (I.inside_none t) nothing; other_family = λ o. cond (list_any (selector_eq o) (reached_selectors ts)) (I.other_family o) empty_table }
+restrict I ts = record { variable = λ id t. cond (list_any (λ x. bytes_eq x.0 id && type_eq x.1 t) (reached_variables ts)) (I.variable id t) nothing; function = λ f. cond (list_any (function_eq f) (reached_functions ts)) (I.function f) empty_table; inside_none = λ t. cond (list_any (type_eq t) (reached_options ts)) (I.inside_none t) nothing; other_family = λ o. cond (list_any (selector_eq o) (reached_selectors ts)) (I.other_family o) empty_table }

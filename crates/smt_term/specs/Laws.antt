@@ -1,17 +1,20 @@
 -- Laws of the definitions.
-use Rattle.std.specs.Prelude.{◌≡◌, ℕ, None, List, [], ◌∷◌, IsTrue, IsUtf8, IfSome, false}
+use Rattle.std.specs.Cmp.{IsTotalOrder}
+use Rattle.std.specs.Prelude.{◌≡◌, ℕ, None, List, [], ◌∷◌, IsTrue, IsUtf8, IfSome, false, Decides}
+use Rattle.std.specs.Ordering.{is_eq}
 use Rattle.std.specs.Str.{chars}
 use Rattle.smt_term.specs.ValueOrder.{text_cmp}
 use Rattle.std.specs.List.{AllByRecursion}
 use Rattle.smt_term.specs.Defaults.{default_interpretation}
 use Rattle.smt_term.specs.Faults.{first_fault, term_fault, is_about_records}
 use Rattle.smt_term.specs.Formed.{IsFormed}
-use Rattle.smt_term.specs.Interpretations.{IsInterpretation, Agree, restrict}
+use Rattle.smt_term.specs.Interpretations.{IsInterpretation, Agree, restrict, function_eq}
 use Rattle.smt_term.specs.Meaning.{term_value}
 use Rattle.smt_term.specs.Tables.{Interpretation}
-use Rattle.smt_term.specs.Types.{typed, Typed}
+use Rattle.smt_term.specs.TermOrder.{op_cmp, term_cmp, term_eq}
+use Rattle.smt_term.specs.Types.{type_cmp, type_eq, typed, Typed}
 use Rattle.smt_term.specs.TypeValues.{Enums, IsValue}
-use Rattle.smt_term.specs.Plain.{PlainType, PlainTerm}
+use Rattle.smt_term.specs.Plain.{PlainType, PlainFunction, PlainOp, PlainTerm}
 
 -- a typed term without fault has in every interpretation a value of its type
 abbrev pub TypedTermsHaveValues : Type 0
@@ -36,3 +39,26 @@ Utf8KeepsOrder = (s t : List ℕ) → IsUtf8 s → IsUtf8 t → text_cmp s t ≡
 -- a typed term has none of the four faults about records
 abbrev pub TypedTermsGetAttributes : Type 0
 TypedTermsGetAttributes = (enums : Enums) (t : PlainTerm) → IsTrue (typed t) → IfSome (term_fault enums t) (λ f. is_about_records f ≡ false)
+
+-- the orders of types, operators and terms are total
+abbrev pub TypeOrderIsTotal : Type 0
+TypeOrderIsTotal = IsTotalOrder type_cmp
+
+abbrev pub OpOrderIsTotal : Type 0
+OpOrderIsTotal = IsTotalOrder op_cmp
+
+abbrev pub TermOrderIsTotal : Type 0
+TermOrderIsTotal = IsTotalOrder term_cmp
+
+-- the tests of equality decide it
+abbrev pub TypeEqualityIsDecided : Type 0
+TypeEqualityIsDecided = (t u : PlainType) → Decides (type_eq t u) (t ≡ u)
+
+abbrev pub FunctionEqualityIsDecided : Type 0
+FunctionEqualityIsDecided = (f g : PlainFunction) → Decides (function_eq f g) (f ≡ g)
+
+abbrev pub OpEqualityIsDecided : Type 0
+OpEqualityIsDecided = (o p : PlainOp) → Decides (is_eq (op_cmp o p)) (o ≡ p)
+
+abbrev pub TermEqualityIsDecided : Type 0
+TermEqualityIsDecided = (t u : PlainTerm) → Decides (term_eq t u) (t ≡ u)

@@ -1,10 +1,8 @@
 -- Literals: terms with no variable and no application in them.
 use Rattle.std.specs.Prelude.{◌≡◌, Bool, true, false, ◌&&◌, IsTrue}
-use Rattle.std.specs.Cmp.{IsTotalOrder}
 use Rattle.smt_term.specs.Formed.{IsFormed}
 use Rattle.smt_term.specs.Meaning.{term_value}
 use Rattle.smt_term.specs.Tables.{Interpretation}
-use Rattle.smt_term.specs.TermOrder.{term_cmp}
 use Rattle.smt_term.specs.Types.{Typed}
 use Rattle.smt_term.specs.Plain.{PlainType, PlainTerm, Application, NoneTerm, LiteralTerm, RecordTerm, SetTerm, SomeTerm, VariableTerm, PlainTerms, no_terms, one_term, PlainFields, no_fields, one_field}
 
@@ -26,6 +24,6 @@ abbrev mutual
   are_literal_fields no_fields = true
   are_literal_fields (one_field a t fs) = is_literal t && are_literal_fields fs
 
--- typed literals of one type with one value are one term, where the order of terms is total
+-- typed literals of one type with one value are one term
 abbrev pub LiteralsAreTheirValues : Type 0
-LiteralsAreTheirValues = IsTotalOrder term_cmp → (I : Interpretation) (t u : PlainTerm) (ty : PlainType) → IsTrue (is_literal t) → IsTrue (is_literal u) → Typed t ty → Typed u ty → IsFormed t → IsFormed u → term_value I t ≡ term_value I u → t ≡ u
+LiteralsAreTheirValues = (I : Interpretation) (t u : PlainTerm) (ty : PlainType) → IsTrue (is_literal t) → IsTrue (is_literal u) → Typed t ty → Typed u ty → IsFormed t → IsFormed u → term_value I t ≡ term_value I u → t ≡ u

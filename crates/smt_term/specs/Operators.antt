@@ -1,11 +1,11 @@
 -- The value of each operator.
-use Rattle.std.specs.Prelude.{ℕ, ◌+◌, Bool, true, false, cond, not, ◌&&◌, ◌||◌, List, [], ◌∷◌, filter, Option, Some, None}
+use Rattle.std.specs.Prelude.{ℕ, bytes_eq, ◌+◌, Bool, true, false, cond, not, ◌&&◌, ◌||◌, List, [], ◌∷◌, filter, Option, Some, None}
 use Rattle.std.specs.List.{list_any, list_all}
 use Rattle.smt_bits.specs.BitVectors as bits
 use Rattle.smt_bits.specs.BitVectors.{signed, bits_of}
 use Rattle.smt_term.specs.Patterns.{matches}
 use Rattle.smt_term.specs.Tables.{Interpretation, value_at}
-use Rattle.smt_term.specs.ValueOrder.{value_eq, text_eq, list_of_values, set_of}
+use Rattle.smt_term.specs.ValueOrder.{value_eq, list_of_values, set_of}
 use Rattle.smt_term.specs.Plain.{PlainType, ExtensionOp, DatetimeOfBitVecOp, DatetimeValOp, DecimalValOp, DurationOfBitVecOp, DurationValOp, IpAddrV4Op, IpAddrV6Op, IpIsV4Op, IpPrefixV4Op, IpPrefixV6Op, PlainOp, AndOp, BvaddOp, BvlshrOp, BvmulOp, BvnegOp, BvnegoOp, BvsaddoOp, BvsdivOp, BvshlOp, BvsleOp, BvsltOp, BvsmodOp, BvsmuloOp, BvsremOp, BvssuboOp, BvsubOp, BvudivOp, BvuleOp, BvultOp, BvuremOp, EqOp, ExtOp, IteOp, NotOp, OptionGetOp, OrOp, RecordGetOp, SetInterOp, SetMemberOp, SetSubsetOp, StringLikeOp, UufOp, ZeroExtendOp, DecimalOf, Ipv4Of, Ipv6Of, DatetimeOf, DurationOf}
 use Rattle.smt_term.specs.Values.{Value, BoolValue, BitVecValue, StringValue, ExtensionValue, NoneValue, SomeValue, RecordValue, SetValue, FieldValues, no_field_values, one_field_value}
 
@@ -32,7 +32,7 @@ elements v = []
 
 abbrev pub field_value : List ℕ → FieldValues → Value
 field_value x no_field_values = BoolValue false
-field_value x (one_field_value a v fs) = elim (text_eq x a) [ true ↦ v | false ↦ field_value x fs ]
+field_value x (one_field_value a v fs) = elim (bytes_eq x a) [ true ↦ v | false ↦ field_value x fs ]
 
 abbrev pub attribute_value : List ℕ → Value → Value
 attribute_value x (RecordValue fs) = field_value x fs

@@ -1,7 +1,7 @@
 -- The order of operators, literals and terms: by the variants and fields as declared, lists by their first difference.
-use Rattle.std.specs.Prelude.{ℕ, Option, Some, None}
+use Rattle.std.specs.Prelude.{ℕ, Bool, Option, Some, None}
 use Rattle.std.specs.Cmp.Lexicographic.{slice_cmp}
-use Rattle.std.specs.Ordering.{nat_cmp, bool_cmp, int_cmp, ordering_then}
+use Rattle.std.specs.Ordering.{nat_cmp, bool_cmp, int_cmp, ordering_then, is_eq}
 use Rattle.std.specs.declared.cmp.Ordering.{Ordering}
 use Rattle.std.specs.declared.cmp.Ordering.TheVariants.{Less, Equal, Greater}
 use Rattle.smt_term.specs.Interpretations.{extension_op_place}
@@ -135,3 +135,7 @@ abbrev mutual
   fields_cmp no_fields (one_field b u gs) = Less
   fields_cmp (one_field a t fs) no_fields = Greater
   fields_cmp (one_field a t fs) (one_field b u gs) = ordering_then (ordering_then (text_cmp a b) (term_cmp t u)) (fields_cmp fs gs)
+
+-- equality of terms, as a test
+abbrev pub term_eq : PlainTerm → PlainTerm → Bool
+term_eq t u = is_eq (term_cmp t u)

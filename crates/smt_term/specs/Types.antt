@@ -1,12 +1,12 @@
 -- The type of a term, and which terms are typed.
-use Rattle.std.specs.Prelude.{◌≡◌, ℕ, ◌+◌, Bool, true, false, ◌&&◌, nat_le, List, [], ◌∷◌, map, Option, Some, None, IsTrue}
+use Rattle.std.specs.Prelude.{◌≡◌, ℕ, ◌+◌, Bool, true, false, ◌&&◌, nat_le, bytes_eq, List, [], ◌∷◌, map, Option, Some, None, IsTrue}
 use Rattle.std.specs.Bool.{then_some}
 use Rattle.std.specs.List.{list_all}
 use Rattle.std.specs.Ordering.{nat_cmp, ordering_then, is_eq}
 use Rattle.std.specs.declared.cmp.Ordering.{Ordering}
 use Rattle.std.specs.declared.cmp.Ordering.TheVariants.{Less, Equal, Greater}
-use Rattle.smt_term.specs.ValueOrder.{text_cmp, text_eq}
-use Rattle.smt_term.specs.Plain.{ExtensionKind, IpAddrKind, DecimalKind, DatetimeKind, DurationKind, PlainType, OptionType, BitVecType, BoolType, EntityType, ExtensionType, StringType, RecordType, SetType, AttributeTypes, no_attributes, attribute, ExtensionOp, DatetimeOfBitVecOp, DatetimeValOp, DecimalValOp, DurationOfBitVecOp, DurationValOp, IpAddrV4Op, IpAddrV6Op, IpIsV4Op, IpPrefixV4Op, IpPrefixV6Op, PlainOp, AndOp, BvaddOp, BvlshrOp, BvmulOp, BvnegOp, BvnegoOp, BvsaddoOp, BvsdivOp, BvshlOp, BvsleOp, BvsltOp, BvsmodOp, BvsmuloOp, BvsremOp, BvssuboOp, BvsubOp, BvudivOp, BvuleOp, BvultOp, BvuremOp, EqOp, ExtOp, IteOp, NotOp, OptionGetOp, OrOp, RecordGetOp, SetInterOp, SetMemberOp, SetSubsetOp, StringLikeOp, UufOp, ZeroExtendOp, DecimalOf, Ipv4Of, Ipv6Of, DatetimeOf, DurationOf, PlainLiteral, BitVecLiteral, BoolLiteral, EntityLiteral, ExtensionLiteral, StringLiteral, PlainTerm, Application, NoneTerm, LiteralTerm, RecordTerm, SetTerm, SomeTerm, VariableTerm, PlainTerms, no_terms, one_term, PlainFields, no_fields, one_field, list_of_terms}
+use Rattle.smt_term.specs.ValueOrder.{text_cmp}
+use Rattle.smt_term.specs.Plain.{ExtensionKind, IpAddrKind, DecimalKind, DatetimeKind, DurationKind, PlainType, OptionType, BitVecType, BoolType, EntityType, ExtensionType, StringType, RecordType, SetType, AttributeTypes, no_attributes, attribute, ExtensionOp, DatetimeOfBitVecOp, DatetimeValOp, DecimalValOp, DurationOfBitVecOp, DurationValOp, IpAddrV4Op, IpAddrV6Op, IpIsV4Op, IpPrefixV4Op, IpPrefixV6Op, PlainOp, AndOp, BvaddOp, BvlshrOp, BvmulOp, BvnegOp, BvnegoOp, BvsaddoOp, BvsdivOp, BvshlOp, BvsleOp, BvsltOp, BvsmodOp, BvsmuloOp, BvsremOp, BvssuboOp, BvsubOp, BvudivOp, BvuleOp, BvultOp, BvuremOp, EqOp, ExtOp, IteOp, NotOp, OptionGetOp, OrOp, RecordGetOp, SetInterOp, SetMemberOp, SetSubsetOp, StringLikeOp, UufOp, ZeroExtendOp, PlainExtension, DecimalOf, Ipv4Of, Ipv6Of, DatetimeOf, DurationOf, PlainLiteral, BitVecLiteral, BoolLiteral, EntityLiteral, ExtensionLiteral, StringLiteral, PlainTerm, Application, NoneTerm, LiteralTerm, RecordTerm, SetTerm, SomeTerm, VariableTerm, PlainTerms, no_terms, one_term, PlainFields, no_fields, one_field, list_of_terms}
 
 -- the place of an extension type, and of a type's kind
 abbrev pub extension_kind_place : ExtensionKind → ℕ
@@ -46,15 +46,19 @@ abbrev mutual
 abbrev pub type_eq : PlainType → PlainType → Bool
 type_eq t u = is_eq (type_cmp t u)
 
+-- the extension type of a value
+abbrev pub kind_of : PlainExtension → ExtensionKind
+kind_of (DecimalOf z) = DecimalKind
+kind_of (Ipv4Of a p) = IpAddrKind
+kind_of (Ipv6Of a p) = IpAddrKind
+kind_of (DatetimeOf z) = DatetimeKind
+kind_of (DurationOf z) = DurationKind
+
 abbrev pub literal_type : PlainLiteral → PlainType
 literal_type (BitVecLiteral n a) = BitVecType n
 literal_type (BoolLiteral b) = BoolType
 literal_type (EntityLiteral e i) = EntityType e
-literal_type (ExtensionLiteral (DecimalOf z)) = ExtensionType DecimalKind
-literal_type (ExtensionLiteral (Ipv4Of a p)) = ExtensionType IpAddrKind
-literal_type (ExtensionLiteral (Ipv6Of a p)) = ExtensionType IpAddrKind
-literal_type (ExtensionLiteral (DatetimeOf z)) = ExtensionType DatetimeKind
-literal_type (ExtensionLiteral (DurationOf z)) = ExtensionType DurationKind
+literal_type (ExtensionLiteral x) = ExtensionType (kind_of x)
 literal_type (StringLiteral s) = StringType
 
 -- the type of a term: an application's as it stands
@@ -90,7 +94,7 @@ inner_type t = None
 
 abbrev pub attribute_in : List ℕ → AttributeTypes → Option PlainType
 attribute_in x no_attributes = None
-attribute_in x (attribute a t fs) = elim (text_eq x a) [ true ↦ Some t | false ↦ attribute_in x fs ]
+attribute_in x (attribute a t fs) = elim (bytes_eq x a) [ true ↦ Some t | false ↦ attribute_in x fs ]
 
 abbrev pub attribute_type : List ℕ → PlainType → Option PlainType
 attribute_type x (RecordType fs) = attribute_in x fs

@@ -14,9 +14,6 @@ use Rattle.smt_term.specs.Values.{Value, BoolValue, BitVecValue, StringValue, En
 abbrev pub text_cmp : List ℕ → List ℕ → Ordering
 text_cmp = slice_cmp nat_cmp
 
-abbrev pub text_eq : List ℕ → List ℕ → Bool
-text_eq s t = is_eq (text_cmp s t)
-
 -- a number of 64 bits by its two's complement, read without sign: the numbers from 0 up, then the negative ones
 abbrev pub twos_complement_cmp : ℤ → ℤ → Ordering
 twos_complement_cmp (pos a) (pos b) = nat_cmp a b

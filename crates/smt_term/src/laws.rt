@@ -1,5 +1,5 @@
 ghost use Rattle.smt_term.specs.Examples.{FaultRows, OperatorRows, OrderRows, TermRows};
-ghost use Rattle.smt_term.specs.Laws.{DefaultsAreInterpretations, ReachedDecides, RestrictionAgrees, TypedTermsGetAttributes, TypedTermsHaveValues, Utf8KeepsOrder};
+ghost use Rattle.smt_term.specs.Laws.{DefaultsAreInterpretations, FunctionEqualityIsDecided, OpEqualityIsDecided, OpOrderIsTotal, ReachedDecides, RestrictionAgrees, TermEqualityIsDecided, TermOrderIsTotal, TypeEqualityIsDecided, TypeOrderIsTotal, TypedTermsGetAttributes, TypedTermsHaveValues, Utf8KeepsOrder};
 ghost use Rattle.smt_term.specs.Literals.{LiteralsAreTheirValues};
 ghost use Rattle.smt_term.specs.Patterns.{MatchingIsDecided};
 ghost use Rattle.smt_term.specs.Plain.{RoundTrip, terms};
@@ -15,6 +15,21 @@ pub fn plain_lists()
 pub fn values_are_compared()
     ensures equality { EqualityIsDecided }
     ensures order { OrderIsTotal }
+{}
+
+/// The orders of types, operators and terms are total.
+pub fn orders_are_total()
+    ensures types { TypeOrderIsTotal }
+    ensures operators { OpOrderIsTotal }
+    ensures terms { TermOrderIsTotal }
+{}
+
+/// Types, functions, operators and terms that the tests hold equal are equal, and each is equal to itself.
+pub fn equality_is_decided()
+    ensures types { TypeEqualityIsDecided }
+    ensures functions { FunctionEqualityIsDecided }
+    ensures operators { OpEqualityIsDecided }
+    ensures terms { TermEqualityIsDecided }
 {}
 
 /// The test of a pattern decides whether it matches.

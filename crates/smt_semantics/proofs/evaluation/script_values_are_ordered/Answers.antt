@@ -2,4 +2,4 @@ use Rattle.smt_semantics.proofs.Ranks as laws
 use Rattle.smt_semantics.proofs.evaluation.script_values_are_ordered.Goals as goal
 
 pub returns : goal.returns
-returns c = record { equal = laws.same_is_equal; turned = laws.order_turns; sets = laws.puts_keep_sets }
+returns c = record { equal = laws.same_is_equal; total = laws.order_is_total; sets = laws.puts_keep_sets }

@@ -1,0 +1,26 @@
+-- What gave a state, and tests that hold by one of their parts.
+use Rattle.std.proofs.Common.{◌≡◌, Bool, true, false, ◌||◌, cond, refl, Option, Some, None}
+use Rattle.smt_semantics.specs.Script.{State, ◌>>=◌}
+
+pub or_left : (a b : Bool) → a ≡ true → (a || b) ≡ true
+or_left a b e = rw e refl
+
+pub or_right : (a b : Bool) → b ≡ true → (a || b) ≡ true
+or_right true b e = refl
+or_right false b e = e
+
+pub some_is : (s t : State) → Some s ≡ Some t → s ≡ t
+some_is s t h = cc
+
+-- a test in a definition that gave a state
+pub if_not : (b : Bool) (o : Option State) (t : State) → cond b None o ≡ Some t → (b ≡ false) × (o ≡ Some t)
+if_not true o t h = absurd cc
+if_not false o t h = (refl, h)
+
+pub if_so : (b : Bool) (o : Option State) (t : State) → cond b o None ≡ Some t → (b ≡ true) × (o ≡ Some t)
+if_so true o t h = (refl, h)
+if_so false o t h = absurd cc
+
+pub bind_gives : (o : Option State) (f : State → Option State) (u : State) → (o >>= f) ≡ Some u → (t : State) × (o ≡ Some t) × (f t ≡ Some u)
+bind_gives (Some t) f u h = (t, refl, h)
+bind_gives None f u h = absurd cc

@@ -1,0 +1,5 @@
+use Rattle.smt_term.proofs.TermTotal.{types_total, ops_total, terms_total}
+use Rattle.smt_term.proofs.laws.orders_are_total.Goals as goal
+
+pub returns : goal.returns
+returns c = record { types = types_total; operators = ops_total; terms = terms_total }
