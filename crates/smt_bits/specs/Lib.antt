@@ -1,2 +1,7 @@
+pub mod BitVec
 pub mod BitVectors
 pub mod Examples
+pub mod Fin
+pub mod Laws
+pub mod Printed
+pub mod Width
