@@ -1,6 +1,6 @@
 #!/bin/sh
-# Speed of the operators of smt_bits, beside the same loops over u64 and u128 in Rust (left out where
-# rustc is missing). Builds in a temporary folder; it proves nothing of the repository anew there.
+# Speed of the operators of smt_bits at 64 and 128 bits, beside the same loops over u64 and u128 in Rust,
+# which are left out where rustc is missing. The crate is copied to a temporary folder, proved and built there.
 set -e
 top=$(cd "$(dirname "$0")/.." && pwd)
 work=$(mktemp -d)
@@ -23,8 +23,8 @@ else
     : >"$work/rust"
 fi
 
-awk '
-    FNR == NR { time[$1, $2] = $3; sum[$1, $2] = $5; next }
+awk -v rust="$work/rust" '
+    FILENAME == rust { time[$1, $2] = $3; sum[$1, $2] = $5; next }
     $1 ~ /^(add|mul|udiv|sdiv|shl|slt)$/ {
         line = sprintf("%-5s %4d bits %8.1f million calls a second", $1, $2, 1000 * $4 / $3)
         if (($1, $2) in time) {
