@@ -1,1 +1,7 @@
 pub mod BitRanges
+pub mod Masks
+pub mod Modulus
+pub mod Moved
+pub mod SameValue
+pub mod SignedRange
+pub mod TwosComplement

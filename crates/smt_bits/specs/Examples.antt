@@ -1,6 +1,6 @@
 -- Worked examples of the operators on bitvectors, with values from the standard's own text.
-use Rattle.std.specs.Prelude.{◌≡◌, ℕ, true, false, List, [], ◌∷◌, map}
-use Rattle.smt_bits.specs.BitVectors.{bvneg, bvadd, bvsub, bvmul, bvudiv, bvurem, bvsdiv, bvsrem, bvsmod, bvshl, bvlshr, bvult, bvule, bvslt, bvsle, bvnego, bvsaddo, bvssubo, bvsmulo}
+use Rattle.std.specs.Prelude.{◌≡◌, ℕ, true, false, pos, negsuc, List, [], ◌∷◌, map}
+use Rattle.smt_bits.specs.BitVectors.{signed, bits_of, least_signed, greatest_signed, overflows, bvnot, bvneg, concat, extract, resize, bvadd, bvsub, bvmul, bvudiv, bvurem, bvsdiv, bvsrem, bvsmod, bvshl, bvlshr, bvult, bvule, bvslt, bvsle, bvnego, bvsaddo, bvssubo, bvsmulo}
 
 abbrev pub at_8 : {X : Type 0} → (ℕ → ℕ → ℕ → X) → List (ℕ × ℕ) → List X
 at_8 f rows = map (λ r. f 8 r.0 r.1) rows
@@ -18,10 +18,22 @@ pub record BitVectorRows : Type 0 where
   pub sums : at_8 bvadd ((255, 1) ∷ (127, 1) ∷ []) ≡ 0 ∷ 128 ∷ []
   pub differences : at_8 bvsub ((0, 1) ∷ (5, 5) ∷ []) ≡ 255 ∷ 0 ∷ []
   pub products : at_8 bvmul ((16, 16) ∷ (255, 255) ∷ []) ≡ 0 ∷ 1 ∷ []
+  pub complements : map (bvnot 4) (10 ∷ 0 ∷ 15 ∷ []) ≡ 5 ∷ 15 ∷ 0 ∷ []
   pub negations : map (bvneg 8) (0 ∷ 1 ∷ 128 ∷ []) ≡ 0 ∷ 255 ∷ 128 ∷ []
   pub left : at_8 bvshl ((3, 7) ∷ (3, 8) ∷ (255, 255) ∷ []) ≡ 128 ∷ 0 ∷ 0 ∷ []
   pub right : at_8 bvlshr ((255, 7) ∷ (255, 8) ∷ (255, 255) ∷ []) ≡ 1 ∷ 0 ∷ 0 ∷ []
   pub far : bvshl 64 1 4294967296 ≡ 0
+  pub joined : concat 4 10 3 ≡ 163
+  pub high_half : extract 4 7 163 ≡ 10
+  pub low_half : extract 0 3 163 ≡ 3
+  pub one_bit : extract 5 5 163 ≡ 1
+  pub extended : resize 16 163 ≡ 163
+  pub truncated : resize 4 163 ≡ 3
+  pub values : map (signed 8) (0 ∷ 127 ∷ 128 ∷ 255 ∷ []) ≡ pos 0 ∷ pos 127 ∷ negsuc 127 ∷ negsuc 0 ∷ []
+  pub bits : map (bits_of 8) (pos 300 ∷ negsuc 0 ∷ negsuc 127 ∷ negsuc 299 ∷ []) ≡ 44 ∷ 255 ∷ 128 ∷ 212 ∷ []
+  pub least : map least_signed (1 ∷ 8 ∷ []) ≡ negsuc 0 ∷ negsuc 127 ∷ []
+  pub greatest : map greatest_signed (1 ∷ 8 ∷ []) ≡ pos 0 ∷ pos 127 ∷ []
+  pub outside : map (overflows 8) (pos 127 ∷ pos 128 ∷ negsuc 127 ∷ negsuc 128 ∷ []) ≡ false ∷ true ∷ false ∷ true ∷ []
   pub less : at_8 bvult ((255, 0) ∷ (0, 255) ∷ []) ≡ false ∷ true ∷ []
   pub at_most : at_8 bvule ((255, 255) ∷ (255, 0) ∷ []) ≡ true ∷ false ∷ []
   pub less_signed : at_8 bvslt ((255, 0) ∷ (0, 255) ∷ (128, 127) ∷ []) ≡ true ∷ false ∷ true ∷ []
