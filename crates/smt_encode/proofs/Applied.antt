@@ -1,8 +1,8 @@
 -- An application's lines: those of its sort, those of its arguments, and its own.
-use Rattle.std.proofs.Common.{◌≡◌, ℕ, List, [], ◌∷◌, refl, sym, ap, ◌∙◌, subst, Option, None, Ok, Err, Result}
+use Rattle.std.proofs.Common.{◌≡◌, ℕ, List, ◌∷◌, refl, sym, ◌∙◌, subst, Option, None, Ok, Err, Result}
 use Rattle.std.specs.declared.alloc.Global.{Global}
 use Rattle.std.specs.declared.rc.RcStr.{RcStr}
-use Rattle.smt_term.specs.Plain.{PlainType, PlainTerm, PlainTerms, Application, terms}
+use Rattle.smt_term.specs.Plain.{PlainType, PlainTerm, PlainTerms, Application}
 use Rattle.smt_term.specs.View.{plain_op}
 use Rattle.smt_term.specs.declared.op.Op.{Op}
 use Rattle.smt_term.specs.declared.op.Op.TheVariants.{Not}

@@ -14,7 +14,6 @@ use Rattle.smt_term.specs.declared.types.TermType.{TermType}
 use Rattle.smt_term.specs.declared.types.TermType.TheVariants.{Bool}
 use Rattle.smt_term.proofs.FormedTerms.{tables_are_empty, terms_are_formed}
 use Rattle.smt_carrying.specs.Order.{AreEnums}
-use Rattle.smt_headline.specs.Conditions.{AreConditions}
 use Rattle.smt_headline.specs.Headline.{Headline}
 use Rattle.smt_headline.proofs.Models.{conditions_are_their_scripts}
 use Rattle.smt_encode.specs.Encoded.{AreBoolean}

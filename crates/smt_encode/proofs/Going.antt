@@ -1,12 +1,12 @@
 -- Terms encoded one after the other, and assertions put one after the other.
-use Rattle.std.proofs.Common.{◌≡◌, ℕ, ◌+◌, ◌<◌, ◌≤◌, List, [], ◌∷◌, ◌++◌, length, take, drop, get_or, map, refl, sym, ap, ◌∙◌, subst, append_assoc, append-nil, Option, Ok}
+use Rattle.std.proofs.Common.{◌≡◌, ℕ, List, [], ◌∷◌, ◌++◌, map, refl, sym, ap, ◌∙◌, subst, append_assoc, append-nil, Option}
 use Rattle.std.specs.Rc.{rc_str_bytes}
 use Rattle.std.specs.declared.alloc.Global.{Global}
 use Rattle.std.specs.declared.rc.RcStr.{RcStr}
-use Rattle.std.proofs.lemmas.List.{at_drop_more, map-append}
+use Rattle.std.proofs.lemmas.List.{map-append}
 use Rattle.smt_sexpr.specs.Reading.{Expression}
-use Rattle.smt_term.specs.Plain.{PlainTerm, terms, one_term, no_terms}
-use Rattle.smt_lines.specs.Line.{Line, Assert, spelled_line}
+use Rattle.smt_term.specs.Plain.{PlainTerm, terms}
+use Rattle.smt_lines.specs.Line.{Line}
 use Rattle.smt_lines.specs.Lines.{Enums, Tables, Written, encode_term, encode_terms}
 use Rattle.smt_lines.specs.Spelling.{spelled}
 use Rattle.smt_encode.specs.Encoded.{AreSpelled, HasNames, IsSpelled, Wrote}

@@ -1,11 +1,10 @@
 -- Lines that are put, and the lines that are stated.
-use Rattle.std.proofs.Common.{◌≡◌, ℕ, List, [], ◌∷◌, ◌++◌, refl, sym, ap, ◌∙◌, subst, append_assoc, append-nil, Option, Ok}
+use Rattle.std.proofs.Common.{◌≡◌, ℕ, List, [], ◌∷◌, ◌++◌, refl, sym, ap, ◌∙◌, subst, append-nil, Option, Ok}
 use Rattle.std.proofs.lemmas.Grind.{flat_map-append}
 use Rattle.std.specs.Io.KnownBytes.{append_known}
 use Rattle.std.specs.BTreeMap.{get, btree_map_len}
 use Rattle.std.specs.Prelude.{codes, option_map}
 use Rattle.std.specs.Rc.{rc_str_bytes}
-use Rattle.std.specs.List.{flat_map}
 use Rattle.smt_term.specs.Plain.{PlainTerm}
 use Rattle.smt_term.specs.contracts.term.TermOrd.TheImpl as term_order
 use Rattle.smt_lines.specs.Line.{Line, spelled_line, spelled_lines}

@@ -8,10 +8,10 @@ use Rattle.std.proofs.lemmas.List.{map-append}
 use Rattle.smt_term.specs.Plain.{PlainTerm, terms}
 use Rattle.smt_sexpr.specs.Reading.{Expression}
 use Rattle.smt_lines.specs.Line.{Line, Assert, spelled_lines}
-use Rattle.smt_lines.specs.Lines.{Enums, Tables, Written, encode, encode_terms, no_names, option_line}
+use Rattle.smt_lines.specs.Lines.{Enums, Tables, encode, encode_terms, no_names, option_line}
 use Rattle.smt_lines.specs.Spelling.{spelled}
 use Rattle.smt_lines.specs.Text.{names, text}
-use Rattle.smt_encode.specs.Encoded.{AreSpelled, HasNames, Wrote}
+use Rattle.smt_encode.specs.Encoded.{AreSpelled, Wrote}
 use Rattle.smt_encode.specs.declared.encoder.Encoder.{Encoder}
 use Rattle.smt_encode.specs.declared.error.EncodeError.{EncodeError}
 use Rattle.smt_encode.proofs.Lines.{wrote_then}

@@ -1,15 +1,14 @@
 -- The encoder's table of terms, and the tables that the stated lines speak of.
-use Rattle.std.proofs.Common.{◌≡◌, ◌≢◌, ℕ, ◌+◌, ◌<◌, ◌^◌, Bool, true, false, cond, List, [], ◌∷◌, ◌++◌, length, Option, Some, None, refl, sym, ap, ◌∙◌, subst, inl, inr, arith, length-append}
+use Rattle.std.proofs.Common.{◌≡◌, ℕ, ◌+◌, ◌<◌, ◌^◌, Bool, true, false, cond, List, [], ◌∷◌, ◌++◌, length, Option, Some, None, refl, sym, ap, ◌∙◌, subst, inl, inr, arith, length-append}
 use Rattle.std.specs.Prelude.{codes, decimal, option_map, is_some, if◌then◌else◌}
 use Rattle.std.specs.Cmp.{Equal-is}
-use Rattle.std.specs.BTreeMap.{get, Updates, btree_map_len, BTreeMap}
+use Rattle.std.specs.BTreeMap.{get, Updates, btree_map_len}
 use Rattle.std.specs.Map.{lookup}
 use Rattle.std.specs.Ordering.{is_eq}
 use Rattle.std.specs.Rc.{rc_str_bytes}
 use Rattle.std.specs.declared.alloc.Global.{Global}
-use Rattle.std.specs.declared.cmp.Ordering.TheVariants.{Equal}
 use Rattle.std.specs.declared.rc.RcStr.{RcStr}
-use Rattle.std.proofs.lemmas.Bool.{cases_Bool, not_from_true, false≢true}
+use Rattle.std.proofs.lemmas.Bool.{cases_Bool, false≢true}
 use Rattle.smt_term.specs.Plain.{PlainTerm}
 use Rattle.smt_term.specs.TermOrder.{term_cmp}
 use Rattle.smt_term.specs.View.{plain_term}
@@ -24,7 +23,7 @@ use Rattle.smt_lines.specs.Spelling.{numeral}
 use Rattle.smt_lines.proofs.Making.{lookup_new}
 use Rattle.smt_lines.proofs.Numerals.{numerals_are_printed}
 use Rattle.smt_lines.proofs.Sound.{same_terms_are_one}
-use Rattle.smt_encode.specs.Encoded.{HasNames, entry_of}
+use Rattle.smt_encode.specs.Encoded.{HasNames}
 use Rattle.smt_encode.specs.declared.encoder.Encoder.{Encoder}
 
 -- ---- names

@@ -10,3 +10,6 @@ mod spell;
 
 pub use encoder::Encoder;
 pub use error::EncodeError;
+
+#[cfg(test)]
+mod tests;

@@ -1,8 +1,8 @@
-use Rattle.std.proofs.Common.{◌≡◌, ◌+◌, None, List, ◌∷◌, drop, map, arith, rules, ap, sym, subst, ◌∙◌, option_map}
+use Rattle.std.proofs.Common.{◌≡◌, ◌+◌, None, ◌∷◌, drop, map, arith, rules, ap, sym, subst, ◌∙◌, option_map}
 use Rattle.std.specs.Rc.{rc_str_bytes}
 use Rattle.std.proofs.lemmas.List.{at_drop_more, at_drop_all}
 use Rattle.smt_term.specs.Enums.{enums_of}
-use Rattle.smt_term.specs.Plain.{PlainTerm, Application, terms}
+use Rattle.smt_term.specs.Plain.{Application, terms}
 use Rattle.smt_term.specs.View.{plain_items, plain_op, plain_term, plain_term-App, plain_term-Var, plain_type}
 use Rattle.smt_lines.specs.Lines.{Enums, name_of_term, encode_terms, encode_type}
 use Rattle.smt_encode.specs.Encoded.{enums_in}

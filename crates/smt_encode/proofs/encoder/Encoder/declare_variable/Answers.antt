@@ -1,13 +1,12 @@
-use Rattle.std.proofs.Common.{◌≡◌, ℕ, List, [], ◌∷◌, ◌++◌, None, ap, sym, subst, ◌∙◌}
-use Rattle.std.specs.Io.KnownBytes.{append_known}
+use Rattle.std.proofs.Common.{◌≡◌, ℕ, List, [], ◌∷◌, None, ap, ◌∙◌}
 use Rattle.std.specs.Rc.{rc_str_bytes}
-use Rattle.smt_term.specs.Plain.{PlainType, PlainTerm, VariableTerm}
+use Rattle.smt_term.specs.Plain.{PlainType, VariableTerm}
 use Rattle.smt_term.specs.View.{plain_type, plain_term}
 use Rattle.smt_sexpr.specs.Reading.{Expression}
 use Rattle.smt_lines.specs.Line.{Comment, DeclareConst, spelled_line}
-use Rattle.smt_lines.specs.Lines.{Tables, Written, name_of_term, next_term, quoted_id, encode_type, enter_term}
+use Rattle.smt_lines.specs.Lines.{Written, name_of_term, next_term, quoted_id, encode_type, enter_term}
 use Rattle.smt_lines.proofs.Making.{types_leave}
-use Rattle.smt_encode.specs.Encoded.{enums_in, HasNames, IsSpelled, Wrote}
+use Rattle.smt_encode.specs.Encoded.{enums_in}
 use Rattle.smt_encode.proofs.Lines.{binds, put, wrote_entry, wrote_then}
 use Rattle.smt_encode.proofs.Stated.{declaration_of}
 use Rattle.smt_encode.proofs.encoder.Encoder.declare_variable.Goals as goal

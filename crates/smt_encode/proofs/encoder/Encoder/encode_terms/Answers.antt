@@ -1,4 +1,4 @@
-use Rattle.std.proofs.Common.{◌≡◌, ◌+◌, List, ◌∷◌, drop, map, arith, rules, ap, sym, ◌∙◌}
+use Rattle.std.proofs.Common.{◌+◌, ◌∷◌, drop, map, arith, rules, ap, sym, ◌∙◌}
 use Rattle.std.proofs.lemmas.List.{at_drop_more, at_drop_all}
 use Rattle.smt_term.specs.Enums.{enums_of}
 use Rattle.smt_term.specs.View.{plain_term}

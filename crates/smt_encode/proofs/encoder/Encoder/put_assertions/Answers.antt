@@ -1,5 +1,4 @@
-use Rattle.std.proofs.Common.{rules, refl, ap, ◌∙◌}
-use Rattle.std.specs.Rc.{rc_str_bytes}
+use Rattle.std.proofs.Common.{rules, refl, ◌∙◌}
 use Rattle.smt_lines.specs.Line.{Assert}
 use Rattle.smt_encode.proofs.Lines.{put}
 use Rattle.smt_encode.proofs.Scripted.{asserted, spelled_at}
