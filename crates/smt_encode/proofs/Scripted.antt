@@ -1,6 +1,7 @@
 -- A whole script: the declaration of `Option`, the terms' lines, and an assertion for each term.
 use Rattle.std.proofs.Common.{◌≡◌, ℕ, zero, suc, ◌+◌, ◌<◌, List, [], ◌∷◌, ◌++◌, length, take, get_or, map, refl, sym, ap, ◌∙◌, subst, append-nil, add-one, arith, Option, Ok, Err, Result}
 use Rattle.std.specs.Prelude.{OnOk}
+use Rattle.std.specs.Io.KnownBytes.{append_known}
 use Rattle.std.specs.Rc.{rc_str_bytes}
 use Rattle.std.specs.declared.alloc.Global.{Global}
 use Rattle.std.specs.declared.rc.RcStr.{RcStr}
@@ -49,8 +50,13 @@ module _ {S : Type 0} {held : S → Option (List ℕ)} where
   scripted new enums ts head lines (Err e) p = tt
 
 -- the lines of a whole script are its text
-pub text_is : (enums : Enums) (ts : List PlainTerm) → spelled_lines (option_line ∷ (encode enums ts no_names).lines) ≡ text enums ts
+text_is : (enums : Enums) (ts : List PlainTerm) → spelled_lines (option_line ∷ (encode enums ts no_names).lines) ≡ text enums ts
 text_is enums ts = ap spelled_lines (sym (append-nil (option_line ∷ (encode enums ts no_names).lines)))
+
+-- where the lines of a whole script were written, its text was
+pub text_written : {S : Type 0} {held : S → Option (List ℕ)} {old new : Encoder S} {s : Tables} (enums : Enums) (ts : List PlainTerm) → Wrote held old new (option_line ∷ (encode enums ts no_names).lines) s
+    → held new.script ≡ append_known (held old.script) (text enums ts)
+text_written {held = held} {old} enums ts w = w.held_is ∙ ap (append_known (held old.script)) (text_is enums ts)
 
 -- what holds anyway holds on Ok
 pub ok_anyway : {T E P : Type 0} (result : Result T E) → P → OnOk result P

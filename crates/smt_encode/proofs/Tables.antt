@@ -10,7 +10,7 @@ use Rattle.std.specs.declared.alloc.Global.{Global}
 use Rattle.std.specs.declared.rc.RcStr.{RcStr}
 use Rattle.std.proofs.lemmas.Bool.{cases_Bool, false≢true}
 use Rattle.smt_term.specs.Plain.{PlainTerm}
-use Rattle.smt_term.specs.TermOrder.{term_cmp}
+use Rattle.smt_term.specs.TermOrder.{term_cmp, term_eq}
 use Rattle.smt_term.specs.View.{plain_term}
 use Rattle.smt_term.specs.contracts.term.TermOrd.TheImpl as term_order
 use Rattle.smt_term.specs.declared.term.Term.{Term}
@@ -18,11 +18,10 @@ use Rattle.smt_term.proofs.DerivedOrder.{term_cmp-is}
 use Rattle.smt_term.proofs.DerivedEquality.{term_itself}
 use Rattle.smt_term.proofs.SameTerm.{term_same}
 use Rattle.smt_lines.specs.Lines.{Tables, name_of_term, next_term}
-use Rattle.smt_lines.specs.Same.{same_term}
 use Rattle.smt_lines.specs.Spelling.{numeral}
 use Rattle.smt_lines.proofs.Making.{lookup_new}
 use Rattle.smt_lines.proofs.Numerals.{numerals_are_printed}
-use Rattle.smt_lines.proofs.Sound.{same_terms_are_one}
+use Rattle.smt_term.proofs.TermTotal.{terms_decided}
 use Rattle.smt_encode.specs.Encoded.{HasNames}
 use Rattle.smt_encode.specs.declared.encoder.Encoder.{Encoder}
 
@@ -45,24 +44,24 @@ lookup_past test (e ∷ es) k x h = ap (cond (test e.0) (Some e.1)) (lookup_past
 ties : (a b : Term) → is_eq (term_order.ghosts.cmp a b) ≡ true → plain_term a ≡ plain_term b
 ties a b h = term_same (plain_term a) (plain_term b) (sym (term_cmp-is a b) ∙ (Equal-is (term_order.ghosts.cmp a b)).0 h)
 
-differs : (a b : Term) → is_eq (term_order.ghosts.cmp a b) ≡ false → same_term (plain_term b) (plain_term a) ≡ false
-differs a b h = elim (cases_Bool (same_term (plain_term b) (plain_term a))) [
-  | inl same ↦ (let e : plain_term b ≡ plain_term a = (same_terms_are_one (plain_term b) (plain_term a)).0 same in
+differs : (a b : Term) → is_eq (term_order.ghosts.cmp a b) ≡ false → term_eq (plain_term b) (plain_term a) ≡ false
+differs a b h = elim (cases_Bool (term_eq (plain_term b) (plain_term a))) [
+  | inl same ↦ (let e : plain_term b ≡ plain_term a = (terms_decided (plain_term b) (plain_term a)).0 same in
       absurd (false≢true (sym h ∙ ap is_eq (term_cmp-is a b ∙ ap (λ t. term_cmp (plain_term a) t) e ∙ term_itself a))))
   | inr other ↦ other
 ]
 
 -- what the table has for a term after one more is entered, by whether it is that term
 named_after : (b : Bool) (key q : Term) (t : PlainTerm) (name : RcStr Global) (n : List ℕ) (before : Option (RcStr Global)) (es : List (PlainTerm × List ℕ))
-    → is_eq (term_order.ghosts.cmp key q) ≡ b → plain_term key ≡ t → rc_str_bytes name ≡ n → lookup (same_term t) es ≡ None
-    → option_map rc_str_bytes before ≡ lookup (same_term (plain_term q)) es
-    → option_map rc_str_bytes (cond b (Some name) before) ≡ lookup (same_term (plain_term q)) (es ++ (t, n) ∷ [])
+    → is_eq (term_order.ghosts.cmp key q) ≡ b → plain_term key ≡ t → rc_str_bytes name ≡ n → lookup (term_eq t) es ≡ None
+    → option_map rc_str_bytes before ≡ lookup (term_eq (plain_term q)) es
+    → option_map rc_str_bytes (cond b (Some name) before) ≡ lookup (term_eq (plain_term q)) (es ++ (t, n) ∷ [])
 named_after true key q t name n before es tied same named absent had =
     let e : t ≡ plain_term q = sym same ∙ ties key q tied in
-    let f : lookup (same_term (plain_term q)) es ≡ None = subst (λ (x : PlainTerm). lookup (same_term x) es ≡ None) e absent in
-    ap Some named ∙ sym (lookup_new (same_term (plain_term q)) es t n ((same_terms_are_one (plain_term q) t).1 (sym e)) f)
+    let f : lookup (term_eq (plain_term q)) es ≡ None = subst (λ (x : PlainTerm). lookup (term_eq x) es ≡ None) e absent in
+    ap Some named ∙ sym (lookup_new (term_eq (plain_term q)) es t n ((terms_decided (plain_term q) t).1 (sym e)) f)
 named_after false key q t name n before es tied same named absent had =
-    had ∙ sym (lookup_past (same_term (plain_term q)) es t n (subst (λ (x : PlainTerm). same_term (plain_term q) x ≡ false) same (differs key q tied)))
+    had ∙ sym (lookup_past (term_eq (plain_term q)) es t n (subst (λ (x : PlainTerm). term_eq (plain_term q) x ≡ false) same (differs key q tied)))
 
 nothing_there : (o : Option (RcStr Global)) (p : Option (List ℕ)) → option_map rc_str_bytes o ≡ p → p ≡ None → o ≡ None
 nothing_there None p e f = refl

@@ -91,8 +91,7 @@ impl<S: Sink> Encoder<'_, S> {
     /// terms' texts, and its models are exactly the interpretations that make all terms true.
     ///
     /// `Spent` comes exactly from an encoder that has encoded before or refused before, and leaves it as it is. `Io`
-    /// comes only where the sink's count of faults rose in this call, or stands at its last value. After an error the
-    /// sink got a first part of the text.
+    /// comes only where the sink's count of faults rose in this call, or stands at its last value.
     pub fn encode(&mut self, terms: &[Term]) -> Result<(), EncodeError>
         ensures text { HasNames self.old no_names → OnOk result (S.held (sink_of self.new) ≡ append_known (S.held (sink_of self.old)) (text (enums_in self.old) (map plain_term terms.now))) }
         ensures names { HasNames self.old no_names → OnOk result (HasNames self.new (names (enums_in self.old) (map plain_term terms.now))) }

@@ -4,12 +4,12 @@ use Rattle.std.proofs.lemmas.Result.{on_ok_weaker}
 use Rattle.smt_term.specs.View.{plain_term}
 use Rattle.smt_encode.specs.Encoded.{enums_in}
 use Rattle.smt_encode.proofs.Conditions.{headline}
-use Rattle.smt_encode.proofs.Scripted.{ok_anyway, text_is}
+use Rattle.smt_encode.proofs.Scripted.{ok_anyway, text_written}
 use Rattle.smt_encode.proofs.encoder.Encoder.encode.Goals as goal
 
 pub returns-clause-text : goal.returns-clause-text
 returns-clause-text g c has =
-    on_ok_weaker c.put_script-outcome.result (λ w. w.held_is ∙ ap (append_known (g.S.Sink.held c.args.self.now.script)) (text_is (enums_in c.args.self.now) (map plain_term c.args.terms.now))) (c.put_script-outcome.ensures.lines has)
+    on_ok_weaker c.put_script-outcome.result (text_written (enums_in c.args.self.now) (map plain_term c.args.terms.now)) (c.put_script-outcome.ensures.lines has)
 
 pub returns-clause-headline : goal.returns-clause-headline
 returns-clause-headline g c typed = ok_anyway c.put_script-outcome.result (headline c.args.self.now.enums.now c.args.terms.now typed)
