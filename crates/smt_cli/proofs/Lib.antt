@@ -1,0 +1,4 @@
+pub mod Declarations
+pub mod Giving
+pub mod ReadsLemmas
+pub mod Shapes

@@ -1,0 +1,5 @@
+pub mod Input
+pub mod Job
+pub mod JobView
+pub mod MemorySource
+pub mod Source

@@ -1,0 +1,13 @@
+//! The program's run: a job read from a source, its script put to a sink.
+#![tactic(auto, using(smt_term::specs::View::views, smt_sexpr::specs::View::views))]
+
+mod input;
+mod job;
+mod source;
+
+pub use input::{InputError, read_input};
+pub use job::{Job, JobError, VarList, read_job};
+pub use source::{MemorySource, ReadSource, Source, SourceError, SourceFault};
+
+#[cfg(test)]
+mod tests_source;
