@@ -44,7 +44,7 @@ headed_not vs n operand inner h = ap (λ x. headed_term vs x operand inner) h
 pub headed_var : (vs : Variables) (n : List ℕ) (operand : Expression) (inner : Option PlainTerm) → n ≡ codes "var" → headed_term vs n operand inner ≡ declared_variable vs operand
 headed_var vs n operand inner h = ap (λ x. headed_term vs x operand inner) h
 
-other_text : (n m : List ℕ) → (n ≡ m → ⊥) → bytes_eq n m ≡ false
+pub other_text : (n m : List ℕ) → (n ≡ m → ⊥) → bytes_eq n m ≡ false
 other_text n m h = elim (cases_Bool (bytes_eq n m)) [
   | inl same ↦ absurd (h ((bytes_eq-Decides n m).0 same))
   | inr other ↦ other

@@ -1,4 +1,5 @@
 pub mod Declarations
 pub mod Giving
 pub mod ReadsLemmas
+pub mod Running
 pub mod Shapes

@@ -2,4 +2,5 @@ pub mod Input
 pub mod Job
 pub mod JobView
 pub mod MemorySource
+pub mod Run
 pub mod Source

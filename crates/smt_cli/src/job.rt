@@ -35,17 +35,6 @@ pub enum JobError {
     Memory,
 }
 
-impl JobError {
-    /// The variant's name.
-    pub fn name(self) -> &'static str {
-        match self {
-            JobError::TooLarge => "TooLarge",
-            JobError::BadForm => "BadForm",
-            JobError::Memory => "Memory",
-        }
-    }
-}
-
 impl From<AllocError> for JobError {
     ghost use Rattle.std.specs.Prelude.{◌≡◌};
     ghost use Rattle.smt_cli.specs.declared.job.JobError.TheVariants.{Memory};

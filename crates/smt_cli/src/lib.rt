@@ -3,10 +3,12 @@
 
 mod input;
 mod job;
+mod program;
 mod source;
 
 pub use input::{InputError, read_input};
 pub use job::{Job, JobError, VarList, read_job};
+pub use program::{Command, Refusal, run};
 pub use source::{MemorySource, ReadSource, Source, SourceError, SourceFault};
 
 #[cfg(test)]

@@ -1,0 +1,85 @@
+-- What a run is asked for, what it does, and what it says.
+use Rattle.std.specs.Prelude.{ℕ, ◌≡◌, ◌⊎◌, if◌then◌else◌, bytes_eq, codes, length, IfSome, IsErrOf, List, [], ◌∷◌, ◌++◌, Option, Some, None, Ok, Err, Result}
+use Rattle.std.specs.Io.KnownBytes.{append_known}
+use Rattle.smt_headline.specs.Headline.{Headline}
+use Rattle.smt_lines.specs.Text.{text}
+use Rattle.smt_script.specs.Sink.{Puts, Rose}
+use Rattle.smt_script.specs.declared.sink.SinkError.{SinkError}
+use Rattle.smt_cli.specs.Job.{IsJob, PlainJob}
+use Rattle.smt_cli.specs.declared.job.JobError.{JobError}
+use Rattle.smt_cli.specs.declared.job.JobError.TheVariants.{TooLarge, BadForm, Memory}
+use Rattle.smt_cli.specs.declared.program.Command.{Command}
+use Rattle.smt_cli.specs.declared.program.Command.TheVariants.{Script, Help, Version}
+use Rattle.smt_cli.specs.declared.program.Refusal.{Refusal}
+use Rattle.smt_cli.specs.declared.program.Refusal.TheVariants.{Usage, Job, Source, Sink, Memory as Want}
+
+-- what words ask for; None where they are no command
+abbrev pub word_asks : List ℕ → Option Command
+word_asks w =
+    if bytes_eq w (codes "script") then Some Script
+    else (if bytes_eq w (codes "--help") then Some Help else (if bytes_eq w (codes "--version") then Some Version else None))
+
+abbrev pub commanded : List (List ℕ) → Option Command
+commanded (w ∷ []) = word_asks w
+commanded words = None
+
+-- the status of a refusal
+abbrev pub status_of : Refusal → ℕ
+status_of Usage = 2
+status_of (Job TooLarge) = 3
+status_of (Job BadForm) = 3
+status_of Source = 5
+status_of Sink = 6
+status_of (Job Memory) = 7
+status_of Want = 7
+
+-- what is said of a refusal
+abbrev pub line_of : Refusal → List ℕ
+line_of Usage = codes "usage: smtcli script\n"
+line_of (Job TooLarge) = codes "job refused: TooLarge\n"
+line_of (Job BadForm) = codes "job refused: BadForm\n"
+line_of Source = codes "source fault\n"
+line_of Sink = codes "sink fault\n"
+line_of (Job Memory) = codes "memory\n"
+line_of Want = codes "memory\n"
+
+abbrev pub help_text : List ℕ
+help_text = codes "usage: smtcli script\n\nReads a job from standard input and prints its script in SMT-LIB 2.7.\n\njob:  (job (enums) (vars (\"id\" Bool) ..) (funs) (terms t ..))\nterm: true, false, (var \"id\") or (not t)\n\nstatus: 0 done, 2 no such command, 3 job refused, 5 source fault, 6 sink fault, 7 out of memory\n"
+
+abbrev pub version_text : List ℕ
+version_text = codes "smtcli 0.1.0\n"
+
+-- The bytes are a job, and its script was put.
+pub record Prints (old new : Option (List ℕ)) (bytes : List ℕ) : Type 0 where
+  pub job : PlainJob
+  pub is_job : IsJob bytes job
+  pub printed : new ≡ append_known old (text job.enums job.terms)
+
+-- What was asked for is put, of a source that had this left.
+abbrev pub IsDone : Option Command → (left old new : Option (List ℕ)) → Type 0
+IsDone (Some Script) left old new = IfSome left (Prints old new)
+IsDone (Some Help) left old new = new ≡ append_known old help_text
+IsDone (Some Version) left old new = new ≡ append_known old version_text
+IsDone None left old new = ⊥
+
+-- no job has these bytes: there are more than a job may have, or they have not its form
+abbrev pub IsNoJob : List ℕ → Type 0
+IsNoJob bytes = (job : PlainJob) → IsJob bytes job → ⊥
+
+-- Each refusal has its cause: by what a source had left, its count of faults, and what a sink held and its count.
+pub record Answers (left : Option (List ℕ)) (before now : ℕ) (old new : Option (List ℕ)) (faults faults' : ℕ) (result : Result (Unit {0}) Refusal) : Type 0 where
+  pub too_large : IsErrOf result (Job TooLarge) → IfSome left IsNoJob × (new ≡ old)
+  pub bad_form : IsErrOf result (Job BadForm) → IfSome left IsNoJob × (new ≡ old)
+  pub source : IsErrOf result Source → Rose before now × (new ≡ old)
+  pub sink : IsErrOf result Sink → Rose faults faults'
+  pub usage : IsErrOf result Usage → new ≡ old
+
+-- A status, and what was said: nothing with 0, else the line of a refusal of this status was put, as far as that went.
+pub record Says {S : Type 0} (held : S → Option (List ℕ)) (faults : S → ℕ) (takes : S → ℕ → Type 0) (place : S → List ℕ) (old new : S) (status : ℕ) : Type 0 where
+  pub refusal : Refusal
+  pub status_is : status ≡ status_of refusal
+  pub outcome : Result (Unit {0}) SinkError
+  pub put : Puts held faults takes place old new (line_of refusal) outcome
+
+abbrev pub Reports : {S : Type 0} → (S → Option (List ℕ)) → (S → ℕ) → (S → ℕ → Type 0) → (S → List ℕ) → S → S → ℕ → Type 0
+Reports held faults takes place old new status = ((status ≡ 0) × (new ≡ old)) ⊎ Says held faults takes place old new status
