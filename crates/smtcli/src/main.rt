@@ -1,0 +1,38 @@
+//! `smtcli`: the script of a job, or why there is none.
+#![tactic(auto)]
+
+use smt_cli::{ReadSource, run};
+use smt_script::WriteSink;
+use smt_term::Text;
+use std::alloc::Global;
+use std::env;
+use std::process::ExitCode;
+
+/// The status of a run that finds no memory for its words.
+const NO_MEMORY: u8 = 7;
+
+/// The words behind the program's name, None where there is no memory for them.
+fn words(rt: &HostRuntime, alloc: Global) -> Option<Vec<Text>> {
+    let mut words = Vec::new(alloc);
+    for arg in env::args(rt).ok()?.skip(1) {
+        words.push(Text::from_string(arg).ok()?).ok()?;
+    }
+    Some(words)
+}
+
+fn main(rt: HostRuntime) -> ExitCode {
+    let alloc = rt.alloc();
+    let Some(words) = words(&rt, alloc) else {
+        return ExitCode::from(NO_MEMORY);
+    };
+    let mut source = ReadSource::new(rt.stdin());
+    let mut out = WriteSink::new(rt.stdout());
+    let mut diag = WriteSink::new(rt.stderr());
+    ExitCode::from(run(
+        alloc,
+        words.as_slice(),
+        &mut source,
+        &mut out,
+        &mut diag,
+    ))
+}
