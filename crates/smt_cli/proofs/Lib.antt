@@ -3,3 +3,4 @@ pub mod Giving
 pub mod ReadsLemmas
 pub mod Running
 pub mod Shapes
+pub mod TypedJobs

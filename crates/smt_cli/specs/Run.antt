@@ -49,11 +49,13 @@ help_text = codes "usage: smtcli script\n\nReads a job from standard input and p
 abbrev pub version_text : List ℕ
 version_text = codes "smtcli 0.1.0\n"
 
--- The bytes are a job, and its script was put.
+-- The bytes are a job, its script was put, and that is a script whose models are exactly the interpretations that make
+-- the job's terms true.
 pub record Prints (old new : Option (List ℕ)) (bytes : List ℕ) : Type 0 where
   pub job : PlainJob
   pub is_job : IsJob bytes job
   pub printed : new ≡ append_known old (text job.enums job.terms)
+  pub means : Headline job.enums job.terms
 
 -- What was asked for is put, of a source that had this left.
 abbrev pub IsDone : Option Command → (left old new : Option (List ℕ)) → Type 0

@@ -2,7 +2,11 @@
 ghost use Rattle.std.specs.Prelude.{◌≡◌, ◌<◌, ◌⊎◌, ◌↔◌, Err, Some, None, IfOk, IfSome, IsErrOf, OnErr, OnOk, length};
 ghost use Rattle.std.specs.Io.KnownBytes.{append_known};
 ghost use Rattle.smt_term.specs.Enums.{enums_of};
+ghost use Rattle.std.specs.List.{AllByRecursion};
+ghost use Rattle.smt_term.specs.Plain.{BoolType};
+ghost use Rattle.smt_term.specs.Types.{Typed};
 ghost use Rattle.smt_term.specs.View.{plain_items};
+ghost use Rattle.smt_headline.specs.Headline.{Headline};
 ghost use Rattle.smt_lines.specs.Text.{text};
 ghost use Rattle.smt_script.specs.Sink.{Puts, Rose};
 ghost use Rattle.smt_script.specs.Texts.{texts};
@@ -143,6 +147,7 @@ fn read_source<R: Source>(alloc: Global, source: &mut R) -> Result<Job, Refusal>
 /// Puts the script of a job.
 fn put_script<W: Sink>(alloc: Global, job: &Job, out: &mut W) -> Result<(), Refusal>
     ensures text { OnOk result (W.held out.new ≡ append_known (W.held out.old) (text (enums_of job.now.enums) (plain_items job.now.terms))) }
+    ensures headline { AllByRecursion (λ t. Typed t BoolType) (plain_items job.now.terms) → OnOk result (Headline (enums_of job.now.enums) (plain_items job.now.terms)) }
     ensures sink { IsErrOf result Refusal.Sink → Rose (W.faults out.old) (W.faults out.new) }
     ensures only { OnErr result ((result ≡ Err Refusal.Sink) ⊎ (result ≡ Err Refusal.Memory)) }
 {
