@@ -1,4 +1,4 @@
-//! Laws.
+//! Values and interpretations carried from terms to scripts and back, with the law that every operator commutes with it.
 #![tactic(auto)]
 
 pub mod commuting;

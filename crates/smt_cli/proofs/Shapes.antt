@@ -1,19 +1,17 @@
 -- The parts of expressions of the program, and of what they say.
-use Rattle.std.proofs.Common.{◌≡◌, ℕ, suc, false, ◌<◌, ◌≤◌, Bool, List, [], ◌∷◌, Option, Some, None, length, get_or, map, cond, bytes_eq, refl, sym, ap, ◌∙◌, arith}
+use Rattle.std.proofs.Common.{◌≡◌, ℕ, suc, false, ◌<◌, ◌≤◌, Bool, List, [], ◌∷◌, Some, None, length, get_or, cond, bytes_eq, refl, sym, ap, ◌∙◌, arith}
 use Rattle.std.specs.Prelude.{if◌then◌else◌, ◌==◌}
 use Rattle.std.proofs.lemmas.Bool.Decides.{nat_tests}
 use Rattle.std.proofs.lemmas.Str.{IsUtf8-string_bytes, encodes-chars}
 use Rattle.std.specs.Rc.{rc_str_bytes}
-use Rattle.std.specs.Str.{chars}
 use Rattle.std.specs.declared.alloc.Global.{Global}
 use Rattle.std.specs.declared.rc.RcStr.{RcStr}
-use Rattle.smt_term.specs.Plain.{PlainType, PlainTerm}
-use Rattle.smt_sexpr.specs.Lexicon.{Text}
-use Rattle.smt_sexpr.specs.Reading.{Expression, Leaf, Node, Expressions, Nil, Cons}
+use Rattle.smt_term.specs.Plain.{PlainType}
+use Rattle.smt_sexpr.specs.Reading.{Expression, Node, Nil, Cons}
 use Rattle.smt_sexpr.specs.View.{items_of, plain, plain-App, plain-String}
 use Rattle.smt_sexpr.specs.declared.expression.SExpr.{SExpr, App, String}
 use Rattle.smt_sexpr.specs.declared.expression.SExprs.{SExprs}
-use Rattle.smt_cli.specs.Job.{Variables, job_of_sections, nothing_in, name_in, text_in, section, type_declared, type_of_expression, unless_declared, variable_of, headed_term, term_of, ◌>>=◌}
+use Rattle.smt_cli.specs.Job.{Variables, job_of_sections, nothing_in, name_in, text_in, section, type_declared, type_of_expression, unless_declared, variable_of, headed_term, term_of}
 use Rattle.smt_cli.specs.JobView.{listed}
 
 -- what stands between the quotes of a string are its bytes

@@ -1,13 +1,12 @@
 -- The terms of a job are typed as Booleans.
-use Rattle.std.proofs.Common.{◌≡◌, ℕ, Bool, true, false, cond, List, [], ◌∷◌, ◌++◌, Option, Some, None, codes, bytes_eq, refl, sym, ap, ◌∙◌, inl, inr, subst}
+use Rattle.std.proofs.Common.{◌≡◌, ℕ, Bool, true, false, cond, List, [], ◌∷◌, ◌++◌, Option, Some, None, codes, bytes_eq, refl, sym, ap, ◌∙◌, subst}
 use Rattle.std.specs.List.{AllByRecursion}
-use Rattle.std.specs.Map.{lookup}
 use Rattle.std.specs.Prelude.{if◌then◌else◌}
 use Rattle.smt_term.specs.Plain.{PlainType, BoolType, PlainTerm, VariableTerm}
 use Rattle.smt_term.specs.Types.{Typed}
 use Rattle.smt_sexpr.specs.Lexicon.{Bits, Number, Text, Name}
 use Rattle.smt_sexpr.specs.Reading.{Expression, Leaf, Node, Expressions, Nil, Cons}
-use Rattle.smt_cli.specs.Job.{IsJob, PlainJob, Variables, ◌>>=◌, declared_by, declared_variable, headed_term, job_of, job_of_sections, literal_of, name_in, negation, section, empty_section, term_of, terms_of, text_in, truth, type_declared, type_named, type_of_expression, unless_declared, variable_of}
+use Rattle.smt_cli.specs.Job.{IsJob, PlainJob, Variables, ◌>>=◌, declared_by, declared_variable, headed_term, job_of_sections, name_in, negation, section, empty_section, term_of, terms_of, text_in, truth, type_declared, type_named, type_of_expression, unless_declared, variable_of}
 
 -- each variable is Boolean
 abbrev AreBool : Variables → Type 0
@@ -135,6 +134,7 @@ parts_typed (Some x) (Some v) (Some y) (Some t) job p = go (declared_by [] v) (�
     last ds (Some us) f q =
         let e : us ≡ job.terms = cc in
         subst (λ (x : List PlainTerm). AllByRecursion (λ t. Typed t BoolType) x) e (f us refl)
+
     go : (o : Option Variables) → ((ds : Variables) → o ≡ Some ds → AreBool ds)
         → (o >>= λ declared. terms_of declared t >>= λ written. Some (record { enums = []; variables = declared; terms = written })) ≡ Some job → AllByRecursion (λ t. Typed t BoolType) job.terms
     go None f q = absurd (cc)

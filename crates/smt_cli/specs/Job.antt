@@ -2,7 +2,7 @@
 -- (job (enums) (vars ("id" Bool) ..) (funs) (terms t ..)),
 -- of at most 16777216 bytes in which at most 512 brackets are open at a place. The ids are distinct. A term is `true`,
 -- `false`, `(var "id")` of a declared id, or `(not t)`.
-use Rattle.std.specs.Prelude.{ℕ, ◌≤◌, ◌≡◌, ◌||◌, Bool, true, false, bytes_eq, codes, if◌then◌else◌, length, encode_utf8_all, List, [], ◌∷◌, ◌++◌, Option, Some, None}
+use Rattle.std.specs.Prelude.{ℕ, ◌≤◌, ◌≡◌, Bool, true, false, bytes_eq, codes, if◌then◌else◌, length, encode_utf8_all, List, [], ◌∷◌, ◌++◌, Option, Some, None}
 use Rattle.std.specs.Map.{lookup}
 use Rattle.smt_term.specs.Plain.{PlainType, BoolType, NotOp, BoolLiteral, PlainTerm, Application, LiteralTerm, VariableTerm, terms}
 use Rattle.smt_term.specs.TypeValues.{Enums}

@@ -1,12 +1,11 @@
 -- What a run is asked for, what it does, and what it says.
-use Rattle.std.specs.Prelude.{ℕ, ◌≡◌, ◌⊎◌, if◌then◌else◌, bytes_eq, codes, length, IfSome, IsErrOf, List, [], ◌∷◌, ◌++◌, Option, Some, None, Ok, Err, Result}
+use Rattle.std.specs.Prelude.{ℕ, ◌≡◌, ◌⊎◌, if◌then◌else◌, bytes_eq, codes, IfSome, IsErrOf, List, [], ◌∷◌, Option, Some, None, Result}
 use Rattle.std.specs.Io.KnownBytes.{append_known}
 use Rattle.smt_headline.specs.Headline.{Headline}
 use Rattle.smt_lines.specs.Text.{text}
 use Rattle.smt_script.specs.Sink.{Puts, Rose}
 use Rattle.smt_script.specs.declared.sink.SinkError.{SinkError}
 use Rattle.smt_cli.specs.Job.{IsJob, PlainJob}
-use Rattle.smt_cli.specs.declared.job.JobError.{JobError}
 use Rattle.smt_cli.specs.declared.job.JobError.TheVariants.{TooLarge, BadForm, Memory}
 use Rattle.smt_cli.specs.declared.program.Command.{Command}
 use Rattle.smt_cli.specs.declared.program.Command.TheVariants.{Script, Help, Version}

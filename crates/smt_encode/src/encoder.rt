@@ -26,7 +26,8 @@ use std::collections::BTreeMap;
 /// Writes terms as lines of a script, and keeps the names under which it wrote them.
 ///
 /// Each term that has no inline text gets one name, under which it is declared or defined once. An encoder
-/// encodes one list of terms; after that, and after an error, it is spent.
+/// encodes one list of terms; after that, and after an error, it is spent. It is let go by `into_script`, which gives
+/// its sink back.
 pub struct Encoder<'a, S> {
     alloc: Global,
     enums: &'a EnumTable,

@@ -1,4 +1,4 @@
-//! Laws.
+//! The main theorem: the stated script of conditions has exactly the interpretations as models that make them all true.
 #![tactic(auto)]
 
 pub mod conditions;

@@ -1,4 +1,4 @@
-//! Laws.
+//! What scripts mean: their state, the values of their expressions and their models, with laws of them.
 #![tactic(auto)]
 
 pub mod evaluation;

@@ -10,7 +10,7 @@ use std::rc::RcStr;
 /// A text that is shared, not copied.
 pub type Text = RcStr;
 
-/// An expression between brackets and spaces (SMT-LIB 2.7, section 3.2).
+/// An expression between brackets and spaces (SMT-LIB 2.7, S-expressions).
 #[derive(Debug, PartialEq, Eq, Drop)]
 #[cycle(sexpr)]
 pub enum SExpr {

@@ -75,7 +75,7 @@ fn read_items(
 ///
 /// A plain text holds nothing but space, tab, LF, CR and the bytes 33 to 126 without `#`, `;` and backslash: so no
 /// comments, no literals in base 2 or 16 and no escapes. At most `max_depth` brackets may be open at a place. A numeral
-/// is below 2 to the 128. The grammar is that of SMT-LIB 2.7, section 3.1 and 3.2, where a numeral may have leading
+/// is below 2 to the 128. The grammar is that of SMT-LIB 2.7, Lexicon and S-expressions, where a numeral may have leading
 /// zeros and a symbol is any run of bytes that ends at white space, a bracket or a quote. The reader calls itself once
 /// for each bracket that is open, so the stack has to hold `max_depth` of its calls.
 ///

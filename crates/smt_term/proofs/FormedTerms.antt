@@ -1,15 +1,13 @@
 -- The program's terms are formed, and no table of enum types has an entry.
-use Rattle.std.proofs.Common.{◌≡◌, List, [], ◌∷◌, map, ap}
+use Rattle.std.proofs.Common.{List, [], ◌∷◌, map, ap}
 use Rattle.std.specs.Rc.{rc_str_bytes}
 use Rattle.std.specs.List.{AllByRecursion}
-use Rattle.smt_term.specs.Enums.{enums_of}
-use Rattle.smt_term.specs.Formed.{IsFormed, IsFormedLiteral, IsFormedNode, IsFormedType}
-use Rattle.smt_term.specs.Plain.{Application, PlainTerm}
+use Rattle.smt_term.specs.Formed.{IsFormedLiteral, IsFormedNode, IsFormedType}
+use Rattle.smt_term.specs.Plain.{PlainTerm}
 use Rattle.smt_term.specs.Program.{TablesAreEmpty, TermsAreFormed}
 use Rattle.smt_term.specs.Reached.{subterms, subterms_of_all}
 use Rattle.smt_term.specs.Types.{literal_type, type_of}
-use Rattle.smt_term.specs.View.{plain_literal, plain_op, plain_row, plain_term, plain_type}
-use Rattle.smt_term.specs.declared.enums.EnumTable.{EnumTable}
+use Rattle.smt_term.specs.View.{plain_literal, plain_row, plain_term, plain_type}
 use Rattle.smt_term.specs.declared.term.Term.{Term, App', Prim, Var, Row_of-Term, end_of-Term, more_of-Term}
 use Rattle.smt_term.specs.declared.term.TermPrim.{TermPrim}
 use Rattle.smt_term.specs.declared.term.TermPrim.TheVariants.{Bool as TruthLiteral}

@@ -73,7 +73,7 @@ prefix_literal_cmp (Some p) None = Less
 prefix_literal_cmp None (Some q) = Greater
 prefix_literal_cmp None None = Equal
 
--- the place of an extension literal's variant: both families of IP ranges are one variant
+-- the place of an extension literal's variant; IP ranges are one variant, in which the family V4 comes first
 abbrev pub extension_literal_place : PlainExtension → ℕ
 extension_literal_place (DecimalOf z) = 0
 extension_literal_place (Ipv4Of a p) = 1

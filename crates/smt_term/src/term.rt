@@ -1,5 +1,5 @@
 // Terms and lists of terms.
-ghost use Rattle.std.specs.Prelude.{◌≡◌, IfOk, length, map};
+ghost use Rattle.std.specs.Prelude.{◌≡◌, ◌↔◌, [], IfOk, IsTrue, length, map};
 ghost use Rattle.smt_term.specs.View.{items_of, plain_items, plain_literal, plain_term, plain_variable};
 
 use crate::error::TermError;
@@ -65,7 +65,9 @@ impl TermList {
     }
 
     /// Whether it has none.
-    pub fn is_empty(&self) -> bool {
+    pub fn is_empty(&self) -> bool
+        ensures { IsTrue result ↔ (plain_items self.now ≡ []) }
+    {
         self.items.is_empty()
     }
 

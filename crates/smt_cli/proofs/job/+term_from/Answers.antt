@@ -2,7 +2,7 @@ use Rattle.std.proofs.Common.{Option, Some, rules, sym, ap, subst, ◌∙◌}
 use Rattle.smt_term.specs.Plain.{PlainTerm}
 use Rattle.smt_term.specs.View.{plain_term}
 use Rattle.smt_sexpr.specs.View.{plain}
-use Rattle.smt_cli.specs.Job.{headed_term, negation, term_of, ◌>>=◌}
+use Rattle.smt_cli.specs.Job.{negation, term_of, ◌>>=◌}
 use Rattle.smt_cli.specs.JobView.{Gives}
 use Rattle.smt_cli.proofs.Giving.{headed_not, headed_other, headed_var, passes_on}
 use Rattle.smt_cli.proofs.Shapes.{bracketed, pair, term_few, term_many, no_head, is_headed}

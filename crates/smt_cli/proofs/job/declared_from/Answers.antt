@@ -1,7 +1,6 @@
-use Rattle.std.proofs.Common.{rules, ap, sym, ◌∙◌}
 use Rattle.smt_cli.specs.JobView.{declarations}
 use Rattle.smt_cli.specs.declared.job.Declared.{Declared}
-use Rattle.smt_cli.proofs.Giving.{all_declared, declares_itself, next_declared, not_declared}
+use Rattle.smt_cli.proofs.Giving.{next_declared, not_declared}
 use Rattle.smt_cli.proofs.job.declared_from.Goals as goal
 
 pub loop-declaration-preserved : goal.loop-declaration-preserved

@@ -1,4 +1,4 @@
-use Rattle.std.proofs.Common.{Some, map, rules, arith, ap, sym, ◌∙◌}
+use Rattle.std.proofs.Common.{Some, map, arith, ap, sym, ◌∙◌}
 use Rattle.smt_term.specs.View.{plain_items, plain_term}
 use Rattle.smt_cli.proofs.Giving.{all_read, not_read, reads_on, starts_reading}
 use Rattle.smt_cli.proofs.job.terms_from.Goals as goal

@@ -1,4 +1,4 @@
-use Rattle.std.proofs.Common.{rules, arith, ap, ◌∙◌}
+use Rattle.std.proofs.Common.{rules, ap, ◌∙◌}
 use Rattle.std.specs.Rc.{rc_str_bytes}
 use Rattle.smt_term.specs.View.{plain_type}
 use Rattle.smt_cli.specs.Job.{unless_declared}
