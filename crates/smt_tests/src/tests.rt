@@ -1,0 +1,258 @@
+// Whole runs of the program: from words and a job to a script, a line of diagnosis and a status.
+use smt_cli::{MemorySource, Source, run};
+use smt_script::{ListSink, MemorySink};
+use smt_term::Text;
+use std::alloc::{AllocError, Global};
+use std::test::Fail;
+
+/// The declaration of the datatype `Option`, with which each script begins.
+const HEAD: &str = "(declare-datatype Option (par (X) (\n  (none)\n  (some (val X)))))\n";
+
+/// The job of `not b`.
+const NOT_B: &str = "(job (enums) (vars (\"b\" Bool)) (funs) (terms (not (var \"b\"))))";
+
+/// The lines of its script behind the head.
+const NOT_B_LINES: &str =
+    "; \"b\"\n(declare-const t0 Bool)\n(define-fun t1 () Bool (not t0))\n(assert t1)\n";
+
+/// The line of a job that has not the form of jobs.
+const BAD_FORM: &str = "job refused: BadForm\n";
+
+fn texts(alloc: Global, items: &[&str]) -> Result<Vec<Text>, AllocError> {
+    let mut texts = Vec::new(alloc);
+    for item in items {
+        texts.push(Text::from_str(alloc, item)?)?;
+    }
+    Ok(texts)
+}
+
+/// The status of a run over these words and this source, and the bytes that it put to out and to diag.
+fn run_from(
+    alloc: Global,
+    words: &[&str],
+    source: &mut MemorySource,
+) -> Result<(u8, Vec<u8>, Vec<u8>), Fail> {
+    let words = texts(alloc, words)?;
+    let mut out = ListSink::new(alloc);
+    let mut diag = ListSink::new(alloc);
+    let status = run(alloc, words.as_slice(), source, &mut out, &mut diag);
+    Ok((
+        status,
+        out.bytes().to_vec(alloc)?,
+        diag.bytes().to_vec(alloc)?,
+    ))
+}
+
+/// The same, over a source of these bytes that never fails.
+fn run_on(alloc: Global, words: &[&str], bytes: &[u8]) -> Result<(u8, Vec<u8>, Vec<u8>), Fail> {
+    run_from(alloc, words, &mut MemorySource::new(alloc, bytes, &[])?)
+}
+
+/// Whether this job has the script of these lines behind the head, and nothing is said on diag.
+fn has_lines(alloc: Global, job: &str, lines: &str) -> Result<bool, Fail> {
+    let (status, out, diag) = run_on(alloc, &["script"], job.as_bytes())?;
+    let script = format!(in alloc; "{HEAD}{lines}")?;
+    Ok(status == 0 && out.as_slice() == script.as_bytes() && diag.is_empty())
+}
+
+/// Whether these bytes are refused with this line on diag, and nothing is put to out.
+fn is_refused(alloc: Global, bytes: &[u8], line: &str) -> Result<bool, Fail> {
+    let (status, out, diag) = run_on(alloc, &["script"], bytes)?;
+    Ok(status == 3 && out.is_empty() && diag.as_slice() == line.as_bytes())
+}
+
+#[test]
+fn jobs_have_scripts(rt: HostRuntime) -> Result<(), Fail> {
+    assert_eq!(rt; HEAD.len(), 65);
+    let rows = [
+        ("(job (enums) (vars) (funs) (terms))", ""),
+        (
+            "(job (enums) (vars) (funs) (terms true))",
+            "(assert true)\n",
+        ),
+        (
+            "(job (enums) (vars) (funs) (terms false))",
+            "(assert false)\n",
+        ),
+        (NOT_B, NOT_B_LINES),
+        (
+            "(job (enums) (vars (\"b\" Bool)) (funs) (terms (not (var \"b\")) (not (var \"b\"))))",
+            "; \"b\"\n(declare-const t0 Bool)\n(define-fun t1 () Bool (not t0))\n\
+             (assert t1)\n(assert t1)\n",
+        ),
+        (
+            "(job (enums) (vars (\"b\" Bool)) (funs) (terms (not (not (var \"b\")))))",
+            "; \"b\"\n(declare-const t0 Bool)\n(define-fun t1 () Bool (not t0))\n\
+             (define-fun t2 () Bool (not t1))\n(assert t2)\n",
+        ),
+        (
+            "(job (enums) (vars (\"a\" Bool) (\"b\" Bool)) (funs) (terms (not (var \"b\"))))",
+            NOT_B_LINES,
+        ),
+        (
+            " \n\t( job\r\n\t( enums )\n ( vars\t(\n\"b\"\t \nBool ) )\n\n(\tfuns\n) \
+             (terms\t( not\n( var \t\"b\"\n)\t)\r\n)\n)\t \n",
+            NOT_B_LINES,
+        ),
+    ];
+    for (job, lines) in rows {
+        assert!(rt; has_lines(rt.alloc(), job, lines)?, "{job}");
+    }
+    Ok(())
+}
+
+#[test]
+fn other_texts_are_refused(rt: HostRuntime) -> Result<(), Fail> {
+    let rows = [
+        "",
+        "  \n ",
+        "(job (enums) (vars) (funs) (terms true)",
+        "(job (enums) (vars) (funs) (terms true)))",
+        "(job)",
+        "(job (vars) (enums) (funs) (terms))",
+        "(job (enums) (vars) (terms))",
+        "(job (enums) (vars) (funs) (terms)) (job (enums) (vars) (funs) (terms))",
+        "(job (enums (\"C\" \"r\")) (vars) (funs) (terms))",
+        "(job (enums) (vars) (funs (\"f\" Bool Bool)) (terms))",
+        "(job (enums) (vars (\"b\" Bool)) (funs) (terms (var \"c\")))",
+        "(job (enums) (vars (\"b\" Bool) (\"b\" Bool)) (funs) (terms))",
+        "(job (enums) (vars (\"b\" Int)) (funs) (terms))",
+        "(job (enums) (vars (b Bool)) (funs) (terms))",
+        "(job (enums) (vars) (funs) (terms (and true)))",
+        "(job (enums) (vars) (funs) (terms (not)))",
+        "(job (enums) (vars) (funs) (terms (not true true)))",
+        "(job (enums) (vars (\"b\" Bool)) (funs) (terms \"b\"))",
+        "(job (enums) (vars) (funs) (terms 1))",
+        "(job (enums) (vars (\"b\" Bool)) (funs) (terms (var b)))",
+        "(job (enums) (vars) (funs) ; x\n (terms))",
+    ];
+    for job in rows {
+        assert!(rt; is_refused(rt.alloc(), job.as_bytes(), BAD_FORM)?, "{job}");
+    }
+    let no_text = b"(job (enums) (vars (\"\xff\" Bool)) (funs) (terms))";
+    assert!(rt; is_refused(rt.alloc(), no_text, BAD_FORM)?);
+    Ok(())
+}
+
+/// The job of `true` under this many negations.
+fn negated(alloc: Global, count: usize) -> Result<Vec<u8>, AllocError> {
+    let mut job = b"(job (enums) (vars) (funs) (terms ".to_vec(alloc)?;
+    for _ in 0..count {
+        job.extend_from_slice(b"(not ")?;
+    }
+    job.extend_from_slice(b"true")?;
+    for _ in 0..count {
+        job.push(b')')?;
+    }
+    job.extend_from_slice(b"))")?;
+    Ok(job)
+}
+
+#[test]
+fn nesting_has_a_limit(rt: HostRuntime) -> Result<(), Fail> {
+    let alloc = rt.alloc();
+    let (status, out, diag) = run_on(alloc, &["script"], negated(alloc, 510)?.as_slice())?;
+    assert_eq!(rt; status, 0);
+    assert!(rt; out.as_slice().starts_with(HEAD.as_bytes()));
+    assert!(rt; out.as_slice().ends_with(b"(not t508))\n(assert t509)\n"));
+    assert!(rt; diag.is_empty());
+    assert!(rt; is_refused(alloc, negated(alloc, 511)?.as_slice(), BAD_FORM)?);
+    Ok(())
+}
+
+#[test]
+fn length_has_a_limit(rt: HostRuntime) -> Result<(), Fail> {
+    let alloc = rt.alloc();
+    let mut job = NOT_B.as_bytes().to_vec(alloc)?;
+    job.resize(16_777_216, b' ')?;
+    let (status, out, diag) = run_on(alloc, &["script"], job.as_slice())?;
+    assert!(rt; status == 0 && out.as_slice().ends_with(NOT_B_LINES.as_bytes()) && diag.is_empty());
+    job.push(b' ')?;
+    assert!(rt; is_refused(alloc, job.as_slice(), "job refused: TooLarge\n")?);
+    Ok(())
+}
+
+#[test]
+fn words_are_commands(rt: HostRuntime) -> Result<(), Fail> {
+    let alloc = rt.alloc();
+    let rows: [&[&str]; 3] = [&[], &["scripts"], &["script", "x"]];
+    for words in rows {
+        let mut source = MemorySource::new(alloc, NOT_B.as_bytes(), &[])?;
+        let (status, out, diag) = run_from(alloc, words, &mut source)?;
+        let refused = status == 2
+            && out.is_empty()
+            && diag.as_slice() == b"usage: smtcli script\n".as_slice();
+        assert!(rt; refused, "{words:?}");
+        // The first read is still to come, and gives the first bytes.
+        let mut buffer = *b"....";
+        assert!(rt;
+            source.read(&mut buffer) == Ok(4) && buffer == *b"(job",
+            "{words:?}"
+        );
+    }
+    let (status, out, diag) = run_on(alloc, &["--help"], b"")?;
+    let begun = out.as_slice().starts_with(b"usage: smtcli script\n");
+    assert!(rt; status == 0 && begun && diag.is_empty());
+    let (status, out, diag) = run_on(alloc, &["--version"], b"")?;
+    assert!(rt; status == 0 && out.as_slice() == b"smtcli 0.1.0\n".as_slice() && diag.is_empty());
+    Ok(())
+}
+
+#[test]
+fn sources_fail(rt: HostRuntime) -> Result<(), Fail> {
+    let alloc = rt.alloc();
+    // The first read gives the whole job, the second finds the end.
+    for number in [1, 2] {
+        let mut source = MemorySource::new(alloc, NOT_B.as_bytes(), &[number])?;
+        let (status, out, diag) = run_from(alloc, &["script"], &mut source)?;
+        let failed = status == 5
+            && out.is_empty()
+            && diag.as_slice() == b"source fault\n".as_slice();
+        assert!(rt; failed, "read {number}");
+    }
+    Ok(())
+}
+
+/// Whether a run that puts its script to this sink ends with a sink fault, and has put a first part of the script.
+fn is_cut(alloc: Global, out: &mut MemorySink) -> Result<bool, Fail> {
+    let words = texts(alloc, &["script"])?;
+    let mut source = MemorySource::new(alloc, NOT_B.as_bytes(), &[])?;
+    let mut diag = ListSink::new(alloc);
+    let status = run(alloc, words.as_slice(), &mut source, out, &mut diag);
+    let script = format!(in alloc; "{HEAD}{NOT_B_LINES}")?;
+    let cut = out.bytes().len() < script.len() && script.as_bytes().starts_with(out.bytes());
+    Ok(status == 6 && cut && diag.bytes() == b"sink fault\n".as_slice())
+}
+
+#[test]
+fn sinks_fail(rt: HostRuntime) -> Result<(), Fail> {
+    let alloc = rt.alloc();
+    for number in [1, 2, 7] {
+        let mut out = MemorySink::new(alloc, &[number], 200)?;
+        assert!(rt; is_cut(alloc, &mut out)?, "put {number}");
+    }
+    let mut small = MemorySink::new(alloc, &[], 70)?;
+    assert!(rt; is_cut(alloc, &mut small)? && small.bytes().len() == 70);
+    Ok(())
+}
+
+#[test]
+fn a_failing_diag_changes_no_status(rt: HostRuntime) -> Result<(), Fail> {
+    let alloc = rt.alloc();
+    let rows = [
+        ("scripts", NOT_B, 0, 200, 2),
+        ("script", "(job)", 0, 200, 3),
+        ("script", NOT_B, 1, 200, 5),
+        ("script", NOT_B, 0, 70, 6),
+        ("script", NOT_B, 0, 200, 0),
+    ];
+    for (word, job, failing_read, room, want) in rows {
+        let words = texts(alloc, &[word])?;
+        let mut source = MemorySource::new(alloc, job.as_bytes(), &[failing_read])?;
+        let mut out = MemorySink::new(alloc, &[], room)?;
+        let mut diag = MemorySink::new(alloc, &[1], 100)?;
+        let status = run(alloc, words.as_slice(), &mut source, &mut out, &mut diag);
+        assert!(rt; status == want && diag.bytes().is_empty(), "status {want}");
+    }
+    Ok(())
+}
