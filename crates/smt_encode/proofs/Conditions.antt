@@ -16,7 +16,7 @@ use Rattle.smt_term.proofs.FormedTerms.{tables_are_empty, terms_are_formed}
 use Rattle.smt_carrying.specs.Order.{AreEnums}
 use Rattle.smt_headline.specs.Headline.{Headline}
 use Rattle.smt_headline.proofs.Models.{conditions_are_their_scripts}
-use Rattle.smt_encode.specs.Encoded.{AreBoolean}
+use Rattle.smt_encode.specs.Encoded.{AreBoolean, ModelsMakeTrue}
 
 module _ (enums : Enums) where
   no_type_fault : (t : TermType) → type_fault enums (plain_type t) ≡ None
@@ -49,3 +49,8 @@ pub headline : (table : EnumTable) (ts : List Term) → AreBoolean ts → Headli
 headline table ts typed =
     conditions_are_their_scripts (enums_of table) (map plain_term ts) (are_enums table)
     (record { are_typed = typed; are_formed = all_formed ts; have_no_fault = no_first_fault (enums_of table) ts })
+
+pub models_make_true : (table : EnumTable) (ts : List Term) → AreBoolean ts → ModelsMakeTrue (enums_of table) (map plain_term ts)
+models_make_true table ts typed =
+    let h = headline table ts typed in
+    record { state = h.state; script = h.script; from_models = h.models; to_models = h.true_in }

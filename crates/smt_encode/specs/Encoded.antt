@@ -1,5 +1,5 @@
 -- What an encoder's tables hold, and what a call leaves of an encoder and its sink.
-use Rattle.std.specs.Prelude.{ℕ, ◌≡◌, ◌≤◌, List, Bool, ◌||◌, Option, option_map, Result, IfOk, OnOk, IsErrOf, length, map}
+use Rattle.std.specs.Prelude.{ℕ, ◌≡◌, ◌≤◌, ◌↔◌, List, Bool, ◌||◌, Option, option_map, Result, IfOk, OnOk, IsErrOf, length, map}
 use Rattle.std.specs.BTreeMap.{get, btree_map_len}
 use Rattle.std.specs.Io.KnownBytes.{append_known}
 use Rattle.std.specs.List.{AllByRecursion}
@@ -7,16 +7,24 @@ use Rattle.std.specs.Rc.{rc_str_bytes}
 use Rattle.std.specs.declared.alloc.Global.{Global}
 use Rattle.std.specs.declared.rc.RcStr.{RcStr}
 use Rattle.smt_term.specs.Enums.{enums_of}
-use Rattle.smt_term.specs.Plain.{BoolType}
+use Rattle.smt_term.specs.Interpretations.{IsInterpretation}
+use Rattle.smt_term.specs.Plain.{BoolType, PlainTerm}
+use Rattle.smt_term.specs.Tables.{Interpretation}
 use Rattle.smt_term.specs.Types.{Typed}
 use Rattle.smt_term.specs.TypeValues.{Enums}
 use Rattle.smt_term.specs.View.{plain_term}
 use Rattle.smt_term.specs.contracts.term.TermOrd.TheImpl as term_order
 use Rattle.smt_term.specs.declared.term.Term.{Term}
 use Rattle.smt_sexpr.specs.Reading.{Expression}
+use Rattle.smt_semantics.specs.Script.{State}
+use Rattle.smt_semantics.specs.Value.{ScriptInterpretation, IsModel, IsScriptInterpretation}
+use Rattle.smt_semantics.specs.Written.{Stands}
 use Rattle.smt_lines.specs.Line.{Line, spelled_lines}
 use Rattle.smt_lines.specs.Lines.{Tables, Written, name_of_term}
 use Rattle.smt_lines.specs.Spelling.{spelled}
+use Rattle.smt_lines.specs.Text.{names, text}
+use Rattle.smt_carrying.specs.Interpretations.{back_interpretation, carry_interpretation}
+use Rattle.smt_headline.specs.Headline.{AreTrue}
 use Rattle.smt_script.specs.Sink.{Rose}
 use Rattle.smt_encode.specs.declared.encoder.Encoder.{Encoder}
 use Rattle.smt_encode.specs.declared.error.EncodeError.{EncodeError}
@@ -41,6 +49,14 @@ entry_of e t = option_map rc_str_bytes (get term_order.ghosts.cmp e.terms t)
 -- each term is typed as a Boolean
 abbrev pub AreBoolean : List Term → Type 0
 AreBoolean ts = AllByRecursion (λ t. Typed t BoolType) (map plain_term ts)
+
+-- The text is a script. What an interpretation of the script comes back as makes every term true exactly where it is a
+-- model, and an interpretation of the terms makes every term true exactly where it is carried to a model.
+pub record ModelsMakeTrue (enums : Enums) (ts : List PlainTerm) : Type 0 where
+  pub state : State
+  pub script : Stands (text enums ts) state
+  pub from_models : (J : ScriptInterpretation) → IsScriptInterpretation J state → IsModel J state ↔ AreTrue (back_interpretation enums (names enums ts) J) ts
+  pub to_models : (I : Interpretation) → IsInterpretation enums ts I → AreTrue I ts ↔ IsModel (carry_interpretation enums (names enums ts) I) state
 
 -- An encoder's tables have the names of these tables, and as many.
 pub record HasNames {S : Type 0} (e : Encoder S) (s : Tables) : Type 0 where

@@ -82,14 +82,15 @@ impl<'a, S> Encoder<'a, S> {
 }
 
 impl<S: Sink> Encoder<'_, S> {
-    ghost use Rattle.smt_encode.specs.Encoded.{entry_of, enums_in, is_spent, sink_of, AreBoolean, AreSpelled, HasCause, HasNames, IsSpelled, PutsLine, Writes, WritesHere, Wrote};
+    ghost use Rattle.smt_encode.specs.Encoded.{entry_of, enums_in, is_spent, sink_of, AreBoolean, AreSpelled, HasCause, HasNames, IsSpelled, ModelsMakeTrue, PutsLine, Writes, WritesHere, Wrote};
 
     /// Writes the script of these terms: the declaration of the datatype `Option`, what the terms need, and an
     /// assertion for each term, in order.
     ///
     /// After Ok the sink got exactly the stated text, and the encoder has its table of names. For Boolean terms
     /// `headline` says what that text means: it is a script by the grammar of SMT-LIB 2.7, its assertions are the
-    /// terms' texts, and its models are exactly the interpretations that make all terms true.
+    /// terms' texts, and its models are exactly the interpretations that make all terms true, which `models` says by
+    /// itself.
     ///
     /// `Spent` comes exactly from an encoder that has encoded before or refused before, and leaves it as it is. `Io`
     /// comes only where the sink's count of faults rose in this call, or stands at its last value.
@@ -97,10 +98,12 @@ impl<S: Sink> Encoder<'_, S> {
         ensures text { HasNames self.old no_names → OnOk result (S.held (sink_of self.new) ≡ append_known (S.held (sink_of self.old)) (text (enums_in self.old) (map plain_term terms.now))) }
         ensures names { HasNames self.old no_names → OnOk result (HasNames self.new (names (enums_in self.old) (map plain_term terms.now))) }
         ensures headline { AreBoolean terms.now → OnOk result (Headline (enums_in self.old) (map plain_term terms.now)) }
+        ensures models { AreBoolean terms.now → OnOk result (ModelsMakeTrue (enums_in self.old) (map plain_term terms.now)) }
         ensures spent { IsErrOf result EncodeError.Spent ↔ IsTrue (is_spent self.old) }
         ensures unchanged { IsTrue (is_spent self.old) → self.new ≡ self.old }
         ensures once { IsTrue (is_spent self.new) }
         ensures io { IsErrOf result EncodeError.Io → Rose (S.faults (sink_of self.old)) (S.faults (sink_of self.new)) }
+        ensures complete { is_spent self.old ≡ false → (Rose (S.faults (sink_of self.old)) (S.faults (sink_of self.new)) → ⊥) → IsOkUnless result EncodeError.Memory }
         ensures later { S.faults (sink_of self.old) ≤ S.faults (sink_of self.new) }
         ensures sink { S.place (sink_of self.new) ≡ S.place (sink_of self.old) }
         ensures enums { enums_in self.new ≡ enums_in self.old }

@@ -3,7 +3,7 @@ use Rattle.std.specs.Io.KnownBytes.{append_known}
 use Rattle.std.proofs.lemmas.Result.{on_ok_weaker}
 use Rattle.smt_term.specs.View.{plain_term}
 use Rattle.smt_encode.specs.Encoded.{enums_in}
-use Rattle.smt_encode.proofs.Conditions.{headline}
+use Rattle.smt_encode.proofs.Conditions.{headline, models_make_true}
 use Rattle.smt_encode.proofs.Scripted.{ok_anyway, text_written}
 use Rattle.smt_encode.proofs.encoder.Encoder.encode.Goals as goal
 
@@ -13,3 +13,6 @@ returns-clause-text g c has =
 
 pub returns-clause-headline : goal.returns-clause-headline
 returns-clause-headline g c typed = ok_anyway c.put_script-outcome.result (headline c.args.self.now.enums.now c.args.terms.now typed)
+
+pub returns-clause-models : goal.returns-clause-models
+returns-clause-models g c typed = ok_anyway c.put_script-outcome.result (models_make_true c.args.self.now.enums.now c.args.terms.now typed)
