@@ -1,7 +1,7 @@
 -- What a run is asked for and does.
-use Rattle.std.proofs.Common.{◌≡◌, ℕ, ◌<◌, ◌≤◌, List, [], ◌∷◌, Option, Some, None, Ok, Err, Result, codes, length, get_or, refl, sym, ap, ◌∙◌, subst, arith}
+use Rattle.std.proofs.Common.{◌≡◌, ℕ, ◌<◌, ◌≤◌, List, [], ◌∷◌, Option, Some, None, Ok, Err, Result, codes, length, get_or, refl, sym, ap, ◌∙◌, subst, inl, inr, arith}
 use Rattle.std.specs.Io.KnownBytes.{append_known}
-use Rattle.std.specs.Prelude.{IfSome, OnOk}
+use Rattle.std.specs.Prelude.{◌⊎◌, IfSome, IsErrOf, OnOk}
 use Rattle.std.specs.Rc.{rc_str_bytes}
 use Rattle.std.specs.declared.alloc.Global.{Global}
 use Rattle.std.specs.declared.rc.RcStr.{RcStr}
@@ -12,9 +12,13 @@ use Rattle.smt_term.specs.Plain.{BoolType}
 use Rattle.smt_term.specs.Types.{Typed}
 use Rattle.std.specs.List.{AllByRecursion}
 use Rattle.smt_cli.proofs.TypedJobs.{job_typed}
-use Rattle.smt_cli.specs.Job.{IsJob, PlainJob, greatest_length}
-use Rattle.smt_cli.specs.Run.{commanded, IsNoJob, Prints}
+use Rattle.smt_script.specs.Sink.{Rose}
+use Rattle.smt_cli.specs.Job.{IsJob, PlainJob}
+use Rattle.smt_cli.specs.Run.{commanded, status_of, Answers, HasNoForm, IsAJob, IsDueTo, IsNoJob, Prints}
+use Rattle.smt_cli.specs.declared.job.JobError.TheVariants.{TooLarge, BadForm, Memory}
+use Rattle.smt_cli.specs.declared.program.Command.{Command}
 use Rattle.smt_cli.specs.declared.program.Refusal.{Refusal}
+use Rattle.smt_cli.specs.declared.program.Refusal.TheVariants.{Usage, Job, Source, Sink, Memory as Want}
 use Rattle.smt_cli.proofs.Giving.{other_text}
 
 -- a word that is no command
@@ -26,15 +30,69 @@ unasked (x ∷ []) word w l m p q a b d =
 unasked [] word w l m p q a b d = absurd (omega (arith, l))
 unasked (x ∷ y ∷ words) word w l m p q a b d = absurd (omega (arith, m))
 
--- what was read whole is no job
-pub no_job : (left : Option (List ℕ)) (bytes : List ℕ) → IfSome left (λ all. all ≡ bytes) → IsNoJob bytes → IfSome left IsNoJob
-no_job (Some all) bytes p none = λ job is. none job (subst (λ (b : List ℕ). IsJob b job) p is)
-no_job None bytes p none = tt
+-- what was read whole has not the form of a job
+pub no_form : (left : Option (List ℕ)) (bytes : List ℕ) → IfSome left (λ all. all ≡ bytes) → HasNoForm bytes → IfSome left HasNoForm
+no_form (Some all) bytes p none = subst (λ (b : List ℕ). HasNoForm b) (sym p) none
+no_form None bytes p none = tt
 
--- more bytes than a job may have are no job
-pub no_long_job : (left : Option (List ℕ)) → IfSome left (λ bytes. greatest_length < length bytes) → IfSome left IsNoJob
-no_long_job (Some bytes) long = λ job is. omega (arith, is.short, long)
-no_long_job None long = tt
+-- what is due to the job is no job
+pub no_job : (left : Option (List ℕ)) (r : Refusal) → status_of r ≡ 3 → IsDueTo left r → IfSome left IsNoJob
+no_job None r p due = tt
+no_job (Some bytes) (Job TooLarge) p due = λ job is. omega (arith, is.short, due)
+no_job (Some bytes) (Job BadForm) p due = due.1
+no_job (Some bytes) (Job Memory) p due = absurd (omega (arith, p))
+no_job (Some bytes) Usage p due = absurd (omega (arith, p))
+no_job (Some bytes) Source p due = absurd (omega (arith, p))
+no_job (Some bytes) Sink p due = absurd (omega (arith, p))
+no_job (Some bytes) Want p due = absurd (omega (arith, p))
+
+-- what each refusal is due to
+pub due_to : (left : Option (List ℕ)) (r : Refusal) (before now : ℕ) (old new : Option (List ℕ)) (faults faults' : ℕ) → Answers left before now old new faults faults' (Err r) → IsDueTo left r
+due_to left (Job TooLarge) before now old new faults faults' a = (a.too_large refl).0
+due_to left (Job BadForm) before now old new faults faults' a = (a.bad_form refl).0
+due_to left (Job Memory) before now old new faults faults' a = tt
+due_to left Usage before now old new faults faults' a = tt
+due_to left Source before now old new faults faults' a = tt
+due_to left Sink before now old new faults faults' a = tt
+due_to left Want before now old new faults faults' a = tt
+
+module _ (left : Option (List ℕ)) (r : Refusal) (before now : ℕ) (old new : Option (List ℕ)) (faults faults' : ℕ) (a : Answers left before now old new faults faults' (Err r)) (used : IsErrOf {T = Unit {0}} (Err r) Usage → ⊥) (given : Rose before now → ⊥) where
+  -- an accepted job is refused for want of memory alone
+  pub accepted : (Rose faults faults' → ⊥) → IfSome left (λ bytes. IsAJob bytes → (status_of r ≡ 0) ⊎ (status_of r ≡ 7))
+  accepted taken = go left r a used
+    where
+      go : (left : Option (List ℕ)) (r : Refusal) → Answers left before now old new faults faults' (Err r) → (IsErrOf {T = Unit {0}} (Err r) Usage → ⊥) → IfSome left (λ bytes. IsAJob bytes → (status_of r ≡ 0) ⊎ (status_of r ≡ 7))
+      go None r a u = tt
+      go (Some bytes) (Job TooLarge) a u = λ j. absurd (omega (arith, j.1.short, (a.too_large refl).0))
+      go (Some bytes) (Job BadForm) a u = λ j. absurd ((a.bad_form refl).0.1 j.0 j.1)
+      go (Some bytes) (Job Memory) a u = λ j. inr refl
+      go (Some bytes) Usage a u = λ j. absurd (u refl)
+      go (Some bytes) Source a u = λ j. absurd (given (a.source refl).0)
+      go (Some bytes) Sink a u = λ j. absurd (taken (a.sink refl))
+      go (Some bytes) Want a u = λ j. inr refl
+
+  -- what is no job is refused as such, but for want of memory
+  pub complete : (IsErrOf {T = Unit {0}} (Err r) Sink → IfSome left IsAJob) → IfSome left (λ bytes. IsNoJob bytes → (status_of r ≡ 3) ⊎ (status_of r ≡ 7))
+  complete read = go left r a used read
+    where
+      go : (left : Option (List ℕ)) (r : Refusal) → Answers left before now old new faults faults' (Err r) → (IsErrOf {T = Unit {0}} (Err r) Usage → ⊥) → (IsErrOf {T = Unit {0}} (Err r) Sink → IfSome left IsAJob) → IfSome left (λ bytes. IsNoJob bytes → (status_of r ≡ 3) ⊎ (status_of r ≡ 7))
+      go None r a u j = tt
+      go (Some bytes) (Job TooLarge) a u j = λ none. inl refl
+      go (Some bytes) (Job BadForm) a u j = λ none. inl refl
+      go (Some bytes) (Job Memory) a u j = λ none. inr refl
+      go (Some bytes) Usage a u j = λ none. absurd (u refl)
+      go (Some bytes) Source a u j = λ none. absurd (given (a.source refl).0)
+      go (Some bytes) Sink a u j = λ none. absurd (none (j refl).0 (j refl).1)
+      go (Some bytes) Want a u j = λ none. inr refl
+
+-- words that ask for something are a command
+pub asked_twice : (o : Option Command) (c : Command) → o ≡ Some c → o ≡ None → ⊥
+asked_twice o c p q = cc
+
+-- no script of what is no job is put
+pub never_done : (X : Type 0) (left : Option (List ℕ)) (old new : Option (List ℕ)) → IfSome left (Prints old new) → IfSome left (λ bytes. IsNoJob bytes → X)
+never_done X None old new p = tt
+never_done X (Some bytes) old new p = λ none. absurd (none p.job p.is_job)
 
 -- what was read whole is a job whose script was put
 prints : (left : Option (List ℕ)) (job : PlainJob) (old new : Option (List ℕ)) → IfSome left (λ bytes. IsJob bytes job) → new ≡ append_known old (text job.enums job.terms)

@@ -1,11 +1,11 @@
 -- What a run is asked for, what it does, and what it says.
-use Rattle.std.specs.Prelude.{ℕ, ◌≡◌, ◌⊎◌, if◌then◌else◌, bytes_eq, codes, IfSome, IsErrOf, List, [], ◌∷◌, Option, Some, None, Result}
+use Rattle.std.specs.Prelude.{ℕ, ◌≡◌, ◌≤◌, ◌<◌, ◌⊎◌, ⊤, length, if◌then◌else◌, bytes_eq, codes, IfSome, IsErrOf, List, [], ◌∷◌, Option, Some, None, Result}
 use Rattle.std.specs.Io.KnownBytes.{append_known}
 use Rattle.smt_headline.specs.Headline.{Headline}
 use Rattle.smt_lines.specs.Text.{text}
 use Rattle.smt_script.specs.Sink.{Puts, Rose}
 use Rattle.smt_script.specs.declared.sink.SinkError.{SinkError}
-use Rattle.smt_cli.specs.Job.{IsJob, PlainJob}
+use Rattle.smt_cli.specs.Job.{IsJob, PlainJob, greatest_length}
 use Rattle.smt_cli.specs.declared.job.JobError.TheVariants.{TooLarge, BadForm, Memory}
 use Rattle.smt_cli.specs.declared.program.Command.{Command}
 use Rattle.smt_cli.specs.declared.program.Command.TheVariants.{Script, Help, Version}
@@ -63,24 +63,41 @@ IsDone (Some Help) left old new = new ≡ append_known old help_text
 IsDone (Some Version) left old new = new ≡ append_known old version_text
 IsDone None left old new = ⊥
 
+-- some job has these bytes
+abbrev pub IsAJob : List ℕ → Type 0
+IsAJob bytes = (job : PlainJob) × IsJob bytes job
+
 -- no job has these bytes: there are more than a job may have, or they have not its form
 abbrev pub IsNoJob : List ℕ → Type 0
 IsNoJob bytes = (job : PlainJob) → IsJob bytes job → ⊥
 
+abbrev pub IsTooLong : List ℕ → Type 0
+IsTooLong bytes = greatest_length < length bytes
+
+abbrev pub HasNoForm : List ℕ → Type 0
+HasNoForm bytes = (length bytes ≤ greatest_length) × IsNoJob bytes
+
 -- Each refusal has its cause: by what a source had left, its count of faults, and what a sink held and its count.
 pub record Answers (left : Option (List ℕ)) (before now : ℕ) (old new : Option (List ℕ)) (faults faults' : ℕ) (result : Result (Unit {0}) Refusal) : Type 0 where
-  pub too_large : IsErrOf result (Job TooLarge) → IfSome left IsNoJob × (new ≡ old)
-  pub bad_form : IsErrOf result (Job BadForm) → IfSome left IsNoJob × (new ≡ old)
+  pub too_large : IsErrOf result (Job TooLarge) → IfSome left IsTooLong × (new ≡ old)
+  pub bad_form : IsErrOf result (Job BadForm) → IfSome left HasNoForm × (new ≡ old)
   pub source : IsErrOf result Source → Rose before now × (new ≡ old)
   pub sink : IsErrOf result Sink → Rose faults faults'
   pub usage : IsErrOf result Usage → new ≡ old
 
+-- why a job was refused, where a source had this left
+abbrev pub IsDueTo : (left : Option (List ℕ)) → Refusal → Type 0
+IsDueTo left (Job TooLarge) = IfSome left IsTooLong
+IsDueTo left (Job BadForm) = IfSome left HasNoForm
+IsDueTo left refusal = ⊤
+
 -- A status, and what was said: nothing with 0, else the line of a refusal of this status was put, as far as that went.
-pub record Says {S : Type 0} (held : S → Option (List ℕ)) (faults : S → ℕ) (takes : S → ℕ → Type 0) (place : S → List ℕ) (old new : S) (status : ℕ) : Type 0 where
+pub record Says {S : Type 0} (left : Option (List ℕ)) (held : S → Option (List ℕ)) (faults : S → ℕ) (takes : S → ℕ → Type 0) (place : S → List ℕ) (old new : S) (status : ℕ) : Type 0 where
   pub refusal : Refusal
   pub status_is : status ≡ status_of refusal
+  pub due_to : IsDueTo left refusal
   pub outcome : Result (Unit {0}) SinkError
   pub put : Puts held faults takes place old new (line_of refusal) outcome
 
-abbrev pub Reports : {S : Type 0} → (S → Option (List ℕ)) → (S → ℕ) → (S → ℕ → Type 0) → (S → List ℕ) → S → S → ℕ → Type 0
-Reports held faults takes place old new status = ((status ≡ 0) × (new ≡ old)) ⊎ Says held faults takes place old new status
+abbrev pub Reports : {S : Type 0} → (left : Option (List ℕ)) → (S → Option (List ℕ)) → (S → ℕ) → (S → ℕ → Type 0) → (S → List ℕ) → S → S → ℕ → Type 0
+Reports left held faults takes place old new status = ((status ≡ 0) × (new ≡ old)) ⊎ Says left held faults takes place old new status

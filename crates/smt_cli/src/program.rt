@@ -1,5 +1,5 @@
 // The run of the program, from its words to its status.
-ghost use Rattle.std.specs.Prelude.{◌≡◌, ◌<◌, ◌⊎◌, ◌↔◌, Err, Some, None, IfOk, IfSome, IsErrOf, OnErr, OnOk, length};
+ghost use Rattle.std.specs.Prelude.{◌≡◌, ◌<◌, ◌⊎◌, ◌↔◌, [], Err, Some, None, IfOk, IfSome, IsErrOf, OnErr, OnOk, length, option_map};
 ghost use Rattle.std.specs.Io.KnownBytes.{append_known};
 ghost use Rattle.smt_term.specs.Enums.{enums_of};
 ghost use Rattle.std.specs.List.{AllByRecursion};
@@ -10,9 +10,9 @@ ghost use Rattle.smt_headline.specs.Headline.{Headline};
 ghost use Rattle.smt_lines.specs.Text.{text};
 ghost use Rattle.smt_script.specs.Sink.{Puts, Rose};
 ghost use Rattle.smt_script.specs.Texts.{texts};
-ghost use Rattle.smt_cli.specs.Job.{IsJob, PlainJob, greatest_length};
+ghost use Rattle.smt_cli.specs.Job.{IsJob};
 ghost use Rattle.smt_cli.specs.JobView.{plain_job};
-ghost use Rattle.smt_cli.specs.Run.{commanded, help_text, line_of, status_of, version_text, Answers, IsDone, Prints, Reports};
+ghost use Rattle.smt_cli.specs.Run.{commanded, help_text, line_of, status_of, version_text, Answers, HasNoForm, IsAJob, IsDone, IsNoJob, IsTooLong, Prints, Reports};
 
 use crate::input::{InputError, read_input};
 use crate::job::{GREATEST_JOB, Job, JobError, read_job};
@@ -126,11 +126,12 @@ fn put_text<W: Sink>(out: &mut W, text: &str) -> Result<(), Refusal>
 /// Reads the source to its end, and the job that it gave.
 fn read_source<R: Source>(alloc: Global, source: &mut R) -> Result<Job, Refusal>
     ensures job { IfOk result (λ job. IfSome (R.left source.old) (λ bytes. IsJob bytes (plain_job job))) }
-    ensures too_large { IsErrOf result (Refusal.Job JobError.TooLarge) → IfSome (R.left source.old) (λ bytes. greatest_length < length bytes) }
-    ensures bad_form { IsErrOf result (Refusal.Job JobError.BadForm) → IfSome (R.left source.old) (λ bytes. (job : PlainJob) → IsJob bytes job → ⊥) }
+    ensures too_large { IsErrOf result (Refusal.Job JobError.TooLarge) → IfSome (R.left source.old) IsTooLong }
+    ensures bad_form { IsErrOf result (Refusal.Job JobError.BadForm) → IfSome (R.left source.old) HasNoForm }
     ensures source { IsErrOf result Refusal.Source → Rose (R.faults source.old) (R.faults source.new) }
     ensures no_usage { IsErrOf result Refusal.Usage → ⊥ }
     ensures no_sink { IsErrOf result Refusal.Sink → ⊥ }
+    ensures ended { OnOk result (R.left source.new ≡ option_map (λ _. []) (R.left source.old)) }
 {
     let bytes = match read_input(alloc, source, GREATEST_JOB) {
         Ok(bytes) => bytes,
@@ -172,6 +173,8 @@ fn print_script<R: Source, W: Sink>(
     ensures done { OnOk result (IfSome (R.left source.old) (Prints (W.held out.old) (W.held out.new))) }
     ensures answers { Answers (R.left source.old) (R.faults source.old) (R.faults source.new) (W.held out.old) (W.held out.new) (W.faults out.old) (W.faults out.new) result }
     ensures no_usage { IsErrOf result Refusal.Usage → ⊥ }
+    ensures read { IsErrOf result Refusal.Sink → IfSome (R.left source.old) IsAJob }
+    ensures ended { OnOk result (R.left source.new ≡ option_map (λ _. []) (R.left source.old)) }
 {
     let job = read_source(alloc, source)?;
     put_script(alloc, &job, out)
@@ -187,6 +190,8 @@ fn answer<R: Source, W: Sink>(
     ensures done { OnOk result (IsDone (commanded (texts words.now)) (R.left source.old) (W.held out.old) (W.held out.new)) }
     ensures answers { Answers (R.left source.old) (R.faults source.old) (R.faults source.new) (W.held out.old) (W.held out.new) (W.faults out.old) (W.faults out.new) result }
     ensures usage { IsErrOf result Refusal.Usage ↔ (commanded (texts words.now) ≡ None) }
+    ensures read { commanded (texts words.now) ≡ Some Command.Script → IsErrOf result Refusal.Sink → IfSome (R.left source.old) IsAJob }
+    ensures ended { commanded (texts words.now) ≡ Some Command.Script → OnOk result (R.left source.new ≡ option_map (λ _. []) (R.left source.old)) }
 {
     match command_of(words) {
         Some(Command::Script) => print_script(alloc, source, out),
@@ -210,11 +215,16 @@ pub fn run<R: Source, W: Sink, D: Sink>(
 ) -> u8
     ensures done { result ≡ 0 → IsDone (commanded (texts words.now)) (R.left source.old) (W.held out.old) (W.held out.new) }
     ensures usage { result ≡ 2 ↔ (commanded (texts words.now) ≡ None) }
-    ensures refused { result ≡ 3 → IfSome (R.left source.old) (λ bytes. (job : PlainJob) → IsJob bytes job → ⊥) }
+    ensures refused { result ≡ 3 → IfSome (R.left source.old) IsNoJob }
     ensures source { result ≡ 5 → Rose (R.faults source.old) (R.faults source.new) }
     ensures sink { result ≡ 6 → Rose (W.faults out.old) (W.faults out.new) }
     ensures untouched { (result ≡ 2) ⊎ ((result ≡ 3) ⊎ (result ≡ 5)) → W.held out.new ≡ W.held out.old }
-    ensures report { Reports D.held D.faults D.takes D.place diag.old diag.new result }
+    ensures accepted { commanded (texts words.now) ≡ Some Command.Script → (Rose (R.faults source.old) (R.faults source.new) → ⊥) → (Rose (W.faults out.old) (W.faults out.new) → ⊥) →
+        IfSome (R.left source.old) (λ bytes. IsAJob bytes → (result ≡ 0) ⊎ (result ≡ 7)) }
+    ensures complete { commanded (texts words.now) ≡ Some Command.Script → (Rose (R.faults source.old) (R.faults source.new) → ⊥) →
+        IfSome (R.left source.old) (λ bytes. IsNoJob bytes → (result ≡ 3) ⊎ (result ≡ 7)) }
+    ensures ended { result ≡ 0 → commanded (texts words.now) ≡ Some Command.Script → R.left source.new ≡ option_map (λ _. []) (R.left source.old) }
+    ensures report { Reports (R.left source.old) D.held D.faults D.takes D.place diag.old diag.new result }
 {
     match answer(alloc, words, source, out) {
         Ok(()) => 0,
