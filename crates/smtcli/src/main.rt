@@ -28,11 +28,5 @@ fn main(rt: HostRuntime) -> ExitCode {
     let mut source = ReadSource::new(rt.stdin());
     let mut out = WriteSink::new(rt.stdout());
     let mut diag = WriteSink::new(rt.stderr());
-    ExitCode::from(run(
-        alloc,
-        words.as_slice(),
-        &mut source,
-        &mut out,
-        &mut diag,
-    ))
+    ExitCode::from(run(alloc, words.as_slice(), &mut source, &mut out, &mut diag))
 }
