@@ -6,9 +6,10 @@ use smt_script::WriteSink;
 use smt_term::Text;
 use std::alloc::Global;
 use std::env;
+use std::io::BufWriter;
 use std::process::ExitCode;
 
-/// The status of a run that finds no memory for its words.
+/// The status of a run that finds no memory for its words or its streams.
 const NO_MEMORY: u8 = 7;
 
 /// The words behind the program's name, None where there is no memory for them.
@@ -26,7 +27,10 @@ fn main(rt: HostRuntime) -> ExitCode {
         return ExitCode::from(NO_MEMORY);
     };
     let mut source = ReadSource::new(rt.stdin());
-    let mut out = WriteSink::new(rt.stdout());
+    let Ok(stdout) = BufWriter::new(alloc, rt.stdout()) else {
+        return ExitCode::from(NO_MEMORY);
+    };
+    let mut out = WriteSink::new(stdout);
     let mut diag = WriteSink::new(rt.stderr());
     ExitCode::from(run(alloc, words.as_slice(), &mut source, &mut out, &mut diag))
 }
