@@ -13,5 +13,6 @@ pub mod Soundness
 pub mod TermTotal
 pub mod TotalOrder
 pub mod TypeOrder
+pub mod TypedArguments
 pub mod Utf8Order
 pub mod ValueOrder

@@ -7,6 +7,7 @@ pub mod Interpretations
 pub mod Laws
 pub mod Literals
 pub mod Meaning
+pub mod Names
 pub mod Operators
 pub mod Patterns
 pub mod Plain
