@@ -1,5 +1,5 @@
 -- The folding of the connectives: the cases of each in the order in which they are tried.
-use Rattle.std.specs.Prelude.{Bool, true, false, cond, not, ◌||◌, List, [], ◌∷◌}
+use Rattle.std.specs.Prelude.{Bool, false, cond, not, ◌||◌, List, [], ◌∷◌}
 use Rattle.smt_factory.specs.Applications.{true_term, false_term, truth_literal, not_of, and_of, or_of}
 use Rattle.smt_term.specs.TermOrder.{term_eq}
 use Rattle.smt_term.specs.Plain.{NotOp, BoolLiteral, PlainTerm, Application, LiteralTerm, no_terms, one_term}

@@ -1,7 +1,7 @@
 -- Worked examples of folding.
-use Rattle.std.specs.Prelude.{◌≡◌, ℕ, List, [], ◌∷◌, codes}
+use Rattle.std.specs.Prelude.{◌≡◌, ℕ, [], ◌∷◌, codes}
 use Rattle.smt_factory.specs.Applications.{true_term, false_term, bits_literal, not_of, and_of, or_of, eq_of, ite_of, bits_of_two, test_of_two, zero_extend_of}
-use Rattle.smt_factory.specs.FoldBits.{folded_bvneg, folded_bvnego, folded_zero_extend, folded_bvadd, folded_bvsub, folded_bvshl, folded_bvlshr, folded_bvslt, folded_bvult, folded_bvsaddo, folded_bvssubo, folded_bvsmulo}
+use Rattle.smt_factory.specs.FoldBits.{folded_bvneg, folded_bvnego, folded_zero_extend, folded_bvadd, folded_bvshl, folded_bvlshr, folded_bvslt, folded_bvult, folded_bvsaddo, folded_bvssubo, folded_bvsmulo}
 use Rattle.smt_factory.specs.FoldConnectives.{folded_not, folded_and, folded_or, folded_implies, folded_any}
 use Rattle.smt_factory.specs.FoldEquality.{folded_eq, folded_ite}
 use Rattle.smt_term.specs.Plain.{BitVecType, BoolType, BvaddOp, BvlshrOp, BvshlOp, BvultOp, PlainTerm, NoneTerm, SomeTerm, VariableTerm}

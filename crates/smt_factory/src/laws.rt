@@ -1,4 +1,35 @@
 ghost use Rattle.smt_factory.specs.FoldRows.{BitsRows, ConnectiveRows, EqualityRows};
+ghost use Rattle.smt_factory.specs.Laws.{BitsAreFolded, ConnectivesAreFolded, EqualityAndChoiceAreFolded, LiteralsAreEqualByValue, StandingIsKept, TestsAreFolded};
+
+/// A term stands for itself, onward, and in applications and in `some`.
+pub fn standing_is_kept()
+    ensures { StandingIsKept }
+{}
+
+/// Two literals of one type are equal exactly where their values are.
+pub fn literals_are_equal_by_value()
+    ensures { LiteralsAreEqualByValue }
+{}
+
+/// `not`, `and`, `or`, `implies` and the disjunction of many: what they are folded to stands for them.
+pub fn connectives_are_folded()
+    ensures { ConnectivesAreFolded }
+{}
+
+/// `eq` and `ite`: what they are folded to stands for them.
+pub fn equality_and_choice_are_folded()
+    ensures { EqualityAndChoiceAreFolded }
+{}
+
+/// The operators from bits to bits: what they are folded to stands for them.
+pub fn bits_are_folded()
+    ensures { BitsAreFolded }
+{}
+
+/// The tests of bits: what they are folded to stands for them.
+pub fn tests_are_folded()
+    ensures { TestsAreFolded }
+{}
 
 /// Foldings of chosen terms.
 pub fn fold_rows()
