@@ -11,8 +11,7 @@ use Rattle.smt_bits.proofs.BitRanges as ranges
 use Rattle.smt_factory.specs.Applications.{truth_literal, bits_literal, bvneg_of, bits_of_two, test_of_two, bvnego_of, wider_type, zero_extend_of}
 use Rattle.smt_factory.specs.FoldBits.{folded_bvneg, folded_bits_where, folded_test, folded_bvnego, folded_zero_extend}
 use Rattle.smt_factory.specs.StandsFor.{StandsFor}
-use Rattle.smt_factory.proofs.Connectives.{argument, first_argument, second_argument}
-use Rattle.smt_factory.proofs.Equality.{chosen_type}
+use Rattle.smt_factory.proofs.Connectives.{chosen_type, argument, first_argument, second_argument}
 use Rattle.smt_factory.proofs.Least.{overflow_is}
 use Rattle.smt_factory.proofs.Standing.{SameMeaning, SameType, itself, one_of, standing, standing_within}
 use Rattle.smt_term.specs.Formed.{IsFormedType, IsFormedNode, IsFormed}
@@ -41,23 +40,30 @@ bits_formed n a l f = record { literals = (l, tt); types = (f, tt) }
 in_width : (n a : ℕ) → AllByRecursion IsFormedNode (subterms (bits_literal n a)) → a < 2 ^ n
 in_width n a h = h.0
 
--- ---- two literals of one width
+-- ---- two literals
+
+answered : (o : PlainOp) (n a m b c : ℕ) → (IsFormed (bits_of_two o (bits_literal n a) (bits_literal m b)) → c < 2 ^ n) → ((I : Interpretation) → apply I o (BitVecType n) (BitVecValue n a ∷ BitVecValue m b ∷ []) ≡ BitVecValue n c) → StandsFor (bits_literal n c) (bits_of_two o (bits_literal n a) (bits_literal m b))
+answered o n a m b c l e =
+    literal_standing (BitVecLiteral n c) u
+    (λ g. bits_formed n c (l g) (all-last (λ x. IsFormedType (type_of x)) (subterms_of_all (terms (bits_literal n a ∷ bits_literal m b ∷ []))) u g.types))
+    (λ h. (refl, refl)) (λ enums I h g i. sym (e I))
+  where
+    u : PlainTerm
+    u = bits_of_two o (bits_literal n a) (bits_literal m b)
+
+pub bits_answered : (o : PlainOp) (n a b c : ℕ) → c < 2 ^ n → ((I : Interpretation) → apply I o (BitVecType n) (BitVecValue n a ∷ BitVecValue n b ∷ []) ≡ BitVecValue n c) → StandsFor (bits_literal n c) (bits_of_two o (bits_literal n a) (bits_literal n b))
+bits_answered o n a b c l e = answered o n a n b c (λ f. l) e
+
+pub test_answered : (o : PlainOp) (n a m b : ℕ) (c : Bool) → ((I : Interpretation) → apply I o BoolType (BitVecValue n a ∷ BitVecValue m b ∷ []) ≡ BoolValue c) → StandsFor (truth_literal c) (test_of_two o (bits_literal n a) (bits_literal m b))
+test_answered o n a m b c e =
+    standing_within (truth_literal c) (test_of_two o (bits_literal n a) (bits_literal m b)) (λ P q h. (q (truth_literal c) tt, tt)) (λ h. (refl, refl)) (λ enums I h g i. sym (e I))
 
 module _ (o : PlainOp) (f : ℕ → ℕ → ℕ → ℕ) (fits : (n a b : ℕ) → a < 2 ^ n → b < 2 ^ n → f n a b < 2 ^ n) (computed : (I : Interpretation) (ty : PlainType) (v w : Value) → apply I o ty (v ∷ w ∷ []) ≡ to_bits f v w) where
   two_literals : (n a m b : ℕ) → n ≡ m → StandsFor (bits_literal n (f n a b)) (bits_of_two o (bits_literal n a) (bits_literal m b))
   two_literals n a m b e =
-      literal_standing (BitVecLiteral n (f n a b)) u
-      (λ g. bits_formed n (f n a b) (fits n a b (in_width n a (first_argument IsFormedNode o t w (BitVecType n) g.literals)) (subst (λ k. b < 2 ^ k) (sym e) (in_width m b (second_argument IsFormedNode o t w (BitVecType n) g.literals)))) (all-last (λ x. IsFormedType (type_of x)) (subterms_of_all (terms (t ∷ w ∷ []))) u g.types))
-      (λ h. (refl, refl)) (λ enums I h g i. sym (computed I (BitVecType n) (BitVecValue n a) (BitVecValue m b)))
-    where
-      t : PlainTerm
-      t = bits_literal n a
-
-      w : PlainTerm
-      w = bits_literal m b
-
-      u : PlainTerm
-      u = bits_of_two o t w
+      answered o n a m b (f n a b)
+      (λ g. fits n a b (in_width n a (first_argument IsFormedNode o (bits_literal n a) (bits_literal m b) (BitVecType n) g.literals)) (subst (λ k. b < 2 ^ k) (sym e) (in_width m b (second_argument IsFormedNode o (bits_literal n a) (bits_literal m b) (BitVecType n) g.literals))))
+      (λ I. computed I (BitVecType n) (BitVecValue n a) (BitVecValue m b))
 
   pub stands_bits : (taken : ℕ → Bool) (t u : PlainTerm) → StandsFor (folded_bits_where taken o f t u) (bits_of_two o t u)
   stands_bits taken (LiteralTerm (BitVecLiteral n a)) (LiteralTerm (BitVecLiteral m b)) =
@@ -69,7 +75,7 @@ module _ (o : PlainOp) (f : ℕ → ℕ → ℕ → Bool) (computed : (I : Inter
   pub stands_test : (t u : PlainTerm) → StandsFor (folded_test o f t u) (test_of_two o t u)
   stands_test (LiteralTerm (BitVecLiteral n a)) (LiteralTerm (BitVecLiteral m b)) =
       one_of (n == m) (truth_literal (f n a b)) (test_of_two o (bits_literal n a) (bits_literal m b)) (test_of_two o (bits_literal n a) (bits_literal m b))
-      (λ h. standing_within (truth_literal (f n a b)) (test_of_two o (bits_literal n a) (bits_literal m b)) (λ P q h. (q (truth_literal (f n a b)) tt, tt)) (λ h. (refl, refl)) (λ enums I h g i. sym (computed I (BitVecValue n a) (BitVecValue m b))))
+      (λ h. test_answered o n a m b (f n a b) (λ I. computed I (BitVecValue n a) (BitVecValue m b)))
       (itself (test_of_two o (bits_literal n a) (bits_literal m b)))
   stands_test (LiteralTerm (BitVecLiteral n a)) u = itself (test_of_two o (bits_literal n a) u)
   stands_test t u = itself (test_of_two o t u)

@@ -2,25 +2,26 @@
 use Rattle.std.proofs.Common.{◌≡◌, Bool, true, false, not, ◌&&◌, ◌||◌, cond, List, [], ◌∷◌, refl, ap, ◌∙◌, sym, subst, ⊎_elim}
 use Rattle.std.specs.Bool.{then_some}
 use Rattle.std.specs.Cmp.{first_so, second_so}
-use Rattle.std.specs.List.{AllByRecursion, AllZip}
+use Rattle.std.specs.Cmp.Derive.{both_true}
+use Rattle.std.specs.List.{AllByRecursion, AllZip, list_any}
 use Rattle.std.proofs.lemmas.Bool.{or_cases}
 use Rattle.smt_factory.specs.Applications.{true_term, false_term, truth_literal, not_of, and_of, or_of, implies_of, any_of_from, any_of}
 use Rattle.smt_factory.specs.FoldConnectives.{folded_not, is_negation, are_opposites, folded_and, folded_or, folded_implies, folded_any_from, folded_any}
 use Rattle.smt_factory.specs.StandsFor.{StandsFor}
-use Rattle.smt_factory.proofs.Standing.{Given, itself, onward, one_of, standing_within, application}
+use Rattle.smt_factory.proofs.Standing.{valued, Given, itself, onward, one_of, standing_within, application}
 use Rattle.smt_term.specs.Formed.{IsFormedNode}
 use Rattle.smt_term.specs.Interpretations.{IsGiven}
-use Rattle.smt_term.specs.Meaning.{meaning}
+use Rattle.smt_term.specs.Meaning.{meaning, term_value}
 use Rattle.smt_term.specs.Operators.{truth, apply}
 use Rattle.smt_term.specs.Reached.{subterms, subterms_of_all}
 use Rattle.smt_term.specs.Shapes.{IsShaped}
 use Rattle.smt_term.specs.Tables.{Interpretation}
 use Rattle.smt_term.specs.TermOrder.{term_eq}
-use Rattle.smt_term.specs.Types.{type_eq, type_of, is_type, typed}
+use Rattle.smt_term.specs.Types.{type_eq, type_of, is_type, typed, Typed}
 use Rattle.smt_term.specs.TypeValues.{Enums}
 use Rattle.smt_term.proofs.Shapes.{term_shaped}
 use Rattle.smt_term.proofs.Soundness.{all-front, all-back}
-use Rattle.smt_term.proofs.TermTotal.{terms_decided}
+use Rattle.smt_term.proofs.TermTotal.{terms_decided, types_decided}
 use Rattle.smt_term.proofs.TypeOrder.{eq_same}
 use Rattle.smt_term.specs.Plain.{PlainType, BoolType, PlainOp, AndOp, NotOp, OrOp, BoolLiteral, PlainTerm, Application, LiteralTerm, no_terms, one_term, terms}
 use Rattle.smt_term.specs.Values.{Value, BoolValue}
@@ -94,14 +95,14 @@ same_term t u h = (terms_decided t u).0 h
 pub boolean : (enums : Enums) (I : Interpretation) (t : PlainTerm) → typed t ≡ true → type_of t ≡ BoolType → AllByRecursion IsFormedNode (subterms t) → Given enums I t → meaning I t ≡ BoolValue (truth (meaning I t))
 boolean enums I t h e f g = whole (meaning I t) (subst (λ y. IsShaped y (meaning I t)) e (term_shaped enums I t h f g))
 
-is_chosen : (b : Bool) (t : PlainType) → is_type (then_some b t) t ≡ true → b ≡ true
-is_chosen true t h = refl
-is_chosen false t h = cc
+pub chosen_type : (b : Bool) (t ty : PlainType) → is_type (then_some b t) ty ≡ true → (b ≡ true) × (t ≡ ty)
+chosen_type true t ty h = (refl, eq_same t ty h)
+chosen_type false t ty h = cc
 
 pub negated_parts : (t : PlainTerm) → typed (not_of t) ≡ true → (typed t ≡ true) × (type_of t ≡ BoolType)
 negated_parts t h =
     let a : (typed t && true) ≡ true = first_so (typed t && true) (is_type (then_some (type_eq (type_of t) BoolType) BoolType) BoolType) h in
-    let b : type_eq (type_of t) BoolType ≡ true = is_chosen (type_eq (type_of t) BoolType) BoolType (second_so (typed t && true) (is_type (then_some (type_eq (type_of t) BoolType) BoolType) BoolType) h) in
+    let b : type_eq (type_of t) BoolType ≡ true = (chosen_type (type_eq (type_of t) BoolType) BoolType BoolType (second_so (typed t && true) (is_type (then_some (type_eq (type_of t) BoolType) BoolType) BoolType) h)).0 in
     (first_so (typed t) true a, eq_same (type_of t) BoolType b)
 
 -- the one argument of an application
@@ -140,7 +141,7 @@ both_parts : (t u : PlainTerm) → typed (and_of t u) ≡ true → BothBoolean t
 both_parts t u h =
     let k : Bool = type_eq (type_of t) BoolType && type_eq (type_of u) BoolType in
     let a : (typed t && (typed u && true)) ≡ true = first_so (typed t && (typed u && true)) (is_type (then_some k BoolType) BoolType) h in
-    let b : k ≡ true = is_chosen k BoolType (second_so (typed t && (typed u && true)) (is_type (then_some k BoolType) BoolType) h) in
+    let b : k ≡ true = (chosen_type k BoolType BoolType (second_so (typed t && (typed u && true)) (is_type (then_some k BoolType) BoolType) h)).0 in
     record { first = first_so (typed t) (typed u && true) a; second = first_so (typed u) true (second_so (typed t) (typed u && true) a); first_type = eq_same (type_of t) BoolType (first_so (type_eq (type_of t) BoolType) (type_eq (type_of u) BoolType) b); second_type = eq_same (type_of u) BoolType (second_so (type_eq (type_of t) BoolType) (type_eq (type_of u) BoolType) b) }
 
 -- the two arguments of an application
@@ -245,3 +246,28 @@ any_from x y (t ∷ ts) (u ∷ us) s z =
 
 pub stands_any : (ts us : List PlainTerm) → AllZip StandsFor ts us → StandsFor (folded_any ts) (any_of us)
 stands_any ts us z = any_from false_term false_term ts us (itself false_term) z
+
+-- ---- the value of the disjunction of many
+
+either_turned : (x y z : Bool) → (y || (x || z)) ≡ ((x || y) || z)
+either_turned true true z = refl
+either_turned true false z = refl
+either_turned false y z = refl
+
+pub is_both_boolean : (t u : PlainTerm) → typed t ≡ true → type_of t ≡ BoolType → typed u ≡ true → type_of u ≡ BoolType → typed (or_of t u) ≡ true
+is_both_boolean t u h e k d = both_true (both_true h (both_true k refl)) (ap (λ b. is_type (then_some b BoolType) BoolType) (both_true ((types_decided (type_of t) BoolType).1 e) ((types_decided (type_of u) BoolType).1 d)))
+
+any_value : (I : Interpretation) (x : PlainTerm) (b : Bool) (ts : List PlainTerm) → typed x ≡ true → type_of x ≡ BoolType → meaning I x ≡ BoolValue b → AllByRecursion (λ t. Typed t BoolType) ts → term_value I (any_of_from x ts) ≡ BoolValue (list_any (λ t. truth (term_value I t)) ts || b)
+any_value I x b [] h e v a = valued I x h ∙ v
+any_value I x b (t ∷ ts) h e v a =
+    let p : truth (meaning I t) ≡ truth (term_value I t) = ap truth (sym (valued I t a.0.parts)) in
+    let q : truth (meaning I x) ≡ b = ap truth v in
+    any_value I (or_of t x) (truth (term_value I t) || b) ts (is_both_boolean t x a.0.parts a.0.type h e) refl (λ i. BoolValue (p i || q i)) a.1
+    ∙ ap BoolValue (either_turned (truth (term_value I t)) (list_any (λ u. truth (term_value I u)) ts) b)
+
+or_nothing : (x : Bool) → (x || false) ≡ x
+or_nothing true = refl
+or_nothing false = refl
+
+pub any_is_true : (I : Interpretation) (ts : List PlainTerm) → AllByRecursion (λ t. Typed t BoolType) ts → term_value I (any_of ts) ≡ BoolValue (list_any (λ t. truth (term_value I t)) ts)
+any_is_true I ts a = any_value I false_term false ts refl refl refl a ∙ ap BoolValue (or_nothing (list_any (λ t. truth (term_value I t)) ts))

@@ -10,7 +10,7 @@ use Rattle.smt_factory.specs.Applications.{true_term, false_term, truth_literal,
 use Rattle.smt_factory.specs.FoldConnectives.{folded_not, folded_and, folded_or}
 use Rattle.smt_factory.specs.FoldEquality.{is_boolean, folded_eq_inside, folded_eq, folded_ite_inside, folded_ite}
 use Rattle.smt_factory.specs.StandsFor.{StandsFor}
-use Rattle.smt_factory.proofs.Connectives.{same_term, boolean, first_argument, second_argument, stands_not, stands_and, stands_or}
+use Rattle.smt_factory.proofs.Connectives.{is_both_boolean, chosen_type, same_term, boolean, first_argument, second_argument, stands_not, stands_and, stands_or}
 use Rattle.smt_factory.proofs.Standing.{itself, onward, one_of, standing, standing_within, some, last_of}
 use Rattle.smt_term.specs.Formed.{IsFormedNode, IsFormedType, IsFormed}
 use Rattle.smt_term.specs.Interpretations.{IsGiven}
@@ -31,10 +31,6 @@ use Rattle.smt_term.proofs.TypeOrder.{eq_same}
 use Rattle.smt_term.proofs.ValueOrder.{value_same, value_itself}
 use Rattle.smt_term.specs.Plain.{PlainType, OptionType, BoolType, EqOp, IteOp, PlainTerm, Application, NoneTerm, SomeTerm, terms}
 use Rattle.smt_term.specs.Values.{Value, BoolValue, SomeValue}
-
-pub chosen_type : (b : Bool) (t ty : PlainType) → is_type (then_some b t) ty ≡ true → (b ≡ true) × (t ≡ ty)
-chosen_type true t ty h = (refl, eq_same t ty h)
-chosen_type false t ty h = cc
 
 pub boolean_type : (t : PlainTerm) → is_boolean t ≡ true → type_of t ≡ BoolType
 boolean_type t h = eq_same (type_of t) BoolType h
@@ -244,9 +240,6 @@ guard_negated g =
     standing_within (not_of g) (ite_of g false_term true_term) (λ P n h. all-join P (subterms_of_all (terms (g ∷ []))) (not_of g ∷ []) (all-join P (subterms g) [] (of_guard P g false_term true_term BoolType h) tt) (n (not_of g) tt, tt))
     (λ h. (not_typed g (parts_of g false_term true_term h).guard (parts_of g false_term true_term h).guard_type, refl)) (λ enums I h f i. cond_not (truth (meaning I g)))
 
-both_typed : (t u : PlainTerm) → typed t ≡ true → type_of t ≡ BoolType → typed u ≡ true → type_of u ≡ BoolType → typed (and_of t u) ≡ true
-both_typed t u h e k d = both_true (both_true h (both_true k refl)) (ap (λ b. is_type (then_some b BoolType) BoolType) (both_true ((types_decided (type_of t) BoolType).1 e) ((types_decided (type_of u) BoolType).1 d)))
-
 -- the subterms of a connective of two terms
 of_two : (P : PlainTerm → Type 0) (x t u : PlainTerm) → AllByRecursion P (subterms t) → AllByRecursion P (subterms u) → P x → AllByRecursion P (subterms_of_all (terms (t ∷ u ∷ [])) ++ x ∷ [])
 of_two P x t u h k p = all-join P (subterms_of_all (terms (t ∷ u ∷ []))) (x ∷ []) (all-join P (subterms t) (subterms_of_all (terms (u ∷ []))) h (all-join P (subterms u) [] k tt)) (p, tt)
@@ -254,13 +247,13 @@ of_two P x t u h k p = all-join P (subterms_of_all (terms (t ∷ u ∷ []))) (x 
 and_for_ite : (g t : PlainTerm) → StandsFor (and_of g t) (ite_of g t false_term)
 and_for_ite g t =
     standing_within (and_of g t) (ite_of g t false_term) (λ P n h. of_two P (and_of g t) g t (of_guard P g t false_term (type_of t) h) (of_first P g t false_term (type_of t) h) (n (and_of g t) tt))
-    (λ h. (both_typed g t (parts_of g t false_term h).guard (parts_of g t false_term h).guard_type (parts_of g t false_term h).first (parts_of g t false_term h).types, sym (parts_of g t false_term h).types))
+    (λ h. (is_both_boolean g t (parts_of g t false_term h).guard (parts_of g t false_term h).guard_type (parts_of g t false_term h).first (parts_of g t false_term h).types, sym (parts_of g t false_term h).types))
     (λ enums I h f i. cond_and (truth (meaning I g)) (truth (meaning I t)) ∙ ap (λ v. cond (truth (meaning I g)) v (BoolValue false)) (sym (boolean enums I t (parts_of g t false_term h).first (parts_of g t false_term h).types (of_first IsFormedNode g t false_term (type_of t) f.literals) (of_first (IsGiven enums I) g t false_term (type_of t) i))))
 
 or_for_ite : (g u : PlainTerm) → StandsFor (or_of g u) (ite_of g true_term u)
 or_for_ite g u =
     standing_within (or_of g u) (ite_of g true_term u) (λ P n h. of_two P (or_of g u) g u (of_guard P g true_term u BoolType h) (of_second P g true_term u BoolType h) (n (or_of g u) tt))
-    (λ h. (both_typed g u (parts_of g true_term u h).guard (parts_of g true_term u h).guard_type (parts_of g true_term u h).second (sym (parts_of g true_term u h).types), refl))
+    (λ h. (is_both_boolean g u (parts_of g true_term u h).guard (parts_of g true_term u h).guard_type (parts_of g true_term u h).second (sym (parts_of g true_term u h).types), refl))
     (λ enums I h f i. cond_or (truth (meaning I g)) (truth (meaning I u)) ∙ ap (λ v. cond (truth (meaning I g)) (BoolValue true) v) (sym (boolean enums I u (parts_of g true_term u h).second (sym (parts_of g true_term u h).types) (of_second IsFormedNode g true_term u BoolType f.literals) (of_second (IsGiven enums I) g true_term u BoolType i))))
 
 -- a choice that stands for one with other branches, where these are literals

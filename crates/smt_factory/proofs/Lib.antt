@@ -3,4 +3,5 @@ pub mod Connectives
 pub mod Equality
 pub mod Least
 pub mod Reaching
+pub mod Records
 pub mod Standing

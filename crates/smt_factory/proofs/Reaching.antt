@@ -9,6 +9,7 @@ use Rattle.smt_term.specs.Reached.{subterms, reached_terms, reached_variables, r
 use Rattle.smt_term.specs.Tables.{Interpretation}
 use Rattle.smt_term.specs.TypeValues.{Enums, IsValue}
 use Rattle.smt_term.proofs.Defaults.{all-join}
+use Rattle.smt_term.proofs.Shapes.{all-become}
 use Rattle.smt_term.proofs.Soundness.{all-front}
 use Rattle.smt_term.specs.Plain.{PlainType, PlainFunction, ExtensionOp, IpAddrV4Op, IpAddrV6Op, IpPrefixV4Op, IpPrefixV6Op, ExtOp, OptionGetOp, UufOp, PlainTerm, Application, VariableTerm}
 
@@ -22,10 +23,6 @@ module _ {X : Type 0} (Q : X → Type 0) where
 
 pub held : {X : Type 0} (xs ys : List X) → AllByRecursion (Contains ys) xs → AreAmong xs ys
 held xs ys h z m = All-contains (Contains ys) xs z (All-from_recursion (Contains ys) xs h) m
-
-pub all-become : {X : Type 0} (P Q : X → Type 0) → ((x : X) → P x → Q x) → (xs : List X) → AllByRecursion P xs → AllByRecursion Q xs
-all-become P Q f [] h = tt
-all-become P Q f (x ∷ xs) h = (f x h.0, all-become P Q f xs h.1)
 
 module _ {X Y : Type 0} (f : X → Option Y) (Q : Y → Type 0) where
   taken : (o : Option Y) (ys : List Y) → AllByRecursion Q (cons_option o ys) → IfSome o Q × AllByRecursion Q ys

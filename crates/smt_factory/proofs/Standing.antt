@@ -21,7 +21,7 @@ use Rattle.smt_term.specs.Values.{BoolValue, SomeValue}
 
 -- ---- one term for another
 
-valued : (I : Interpretation) (t : PlainTerm) → typed t ≡ true → term_value I t ≡ meaning I t
+pub valued : (I : Interpretation) (t : PlainTerm) → typed t ≡ true → term_value I t ≡ meaning I t
 valued I t h = ap (λ b. cond b (meaning I t) (BoolValue false)) h
 
 abbrev pub Given : Enums → Interpretation → PlainTerm → Type 0
@@ -150,7 +150,7 @@ meanings_all enums I (t ∷ ts) (u ∷ us) z h f g i =
     λ j. p j ∷ q j
 
 -- each list of what is reached, for arguments that stand for others
-abbrev StandAmong : {Y : Type 0} → (PlainTerm → Option Y) → Type 0
+abbrev pub StandAmong : {Y : Type 0} → (PlainTerm → Option Y) → Type 0
 StandAmong f = (t u : PlainTerm) → StandsFor t u → AreAmong (filter_map f (reached_terms (t ∷ []))) (filter_map f (reached_terms (u ∷ [])))
 
 module _ {Y : Type 0} (f : PlainTerm → Option Y) (one : StandAmong f) where

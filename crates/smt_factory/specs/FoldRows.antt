@@ -1,8 +1,8 @@
 -- Worked examples of folding.
-use Rattle.std.specs.Prelude.{◌≡◌, ℕ, [], ◌∷◌, codes}
+use Rattle.std.specs.Prelude.{◌≡◌, ℕ, true, false, [], ◌∷◌, codes}
 use Rattle.smt_factory.specs.Applications.{true_term, false_term, bits_literal, not_of, and_of, or_of, eq_of, ite_of, bits_of_two, test_of_two, zero_extend_of}
 use Rattle.smt_factory.specs.FoldBits.{folded_bvneg, folded_bvnego, folded_zero_extend, folded_bvadd, folded_bvshl, folded_bvlshr, folded_bvslt, folded_bvult, folded_bvsaddo, folded_bvssubo, folded_bvsmulo}
-use Rattle.smt_factory.specs.FoldConnectives.{folded_not, folded_and, folded_or, folded_implies, folded_any}
+use Rattle.smt_factory.specs.FoldConnectives.{folded_not, are_opposites, folded_and, folded_or, folded_implies, folded_any}
 use Rattle.smt_factory.specs.FoldEquality.{folded_eq, folded_ite}
 use Rattle.smt_term.specs.Plain.{BitVecType, BoolType, BvaddOp, BvlshrOp, BvshlOp, BvultOp, PlainTerm, NoneTerm, SomeTerm, VariableTerm}
 
@@ -21,6 +21,10 @@ byte a = bits_literal 8 a
 
 pub record ConnectiveRows : Type 0 where
   pub double_negation : folded_not (folded_not b) ≡ b
+  pub opposites : are_opposites b (not_of b) ≡ true
+  pub opposites_turned : are_opposites (not_of b) b ≡ true
+  pub opposite_negations : are_opposites (not_of (not_of b)) (not_of b) ≡ true
+  pub no_opposites : are_opposites b c ≡ false
   pub no_contradiction : folded_and b (folded_not b) ≡ false_term
   pub and_stays : folded_and b c ≡ and_of b c
   pub excluded_middle : folded_or b (folded_not b) ≡ true_term

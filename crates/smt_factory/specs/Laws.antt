@@ -1,24 +1,33 @@
 -- Laws of standing for an application, and that each folding stands for the application that it was asked for.
-use Rattle.std.specs.Prelude.{◌≡◌, ◌↔◌, ℕ, List, IsTrue}
-use Rattle.std.specs.List.{AllZip}
-use Rattle.smt_factory.specs.Applications.{not_of, and_of, or_of, implies_of, eq_of, ite_of, any_of, bvneg_of, bits_of_two, test_of_two, bvnego_of, zero_extend_of}
+use Rattle.std.specs.Prelude.{◌≡◌, ◌↔◌, ℕ, ◌^◌, ◌<◌, Bool, List, [], ◌∷◌, IsTrue}
+use Rattle.std.specs.List.{AllByRecursion, AllZip, list_any}
+use Rattle.smt_factory.specs.Applications.{truth_literal, bits_literal, not_of, and_of, or_of, implies_of, eq_of, ite_of, any_of, bvneg_of, bits_of_two, test_of_two, bvnego_of, zero_extend_of}
 use Rattle.smt_factory.specs.FoldBits.{folded_bvneg, folded_bvnego, folded_zero_extend, folded_bvadd, folded_bvsub, folded_bvmul, folded_bvsdiv, folded_bvudiv, folded_bvsrem, folded_bvsmod, folded_bvurem, folded_bvshl, folded_bvlshr, folded_bvslt, folded_bvsle, folded_bvult, folded_bvule, folded_bvsaddo, folded_bvssubo, folded_bvsmulo}
 use Rattle.smt_factory.specs.FoldConnectives.{folded_not, folded_and, folded_or, folded_implies, folded_any}
 use Rattle.smt_factory.specs.FoldEquality.{folded_eq, folded_ite}
-use Rattle.smt_factory.specs.StandsFor.{StandsFor}
+use Rattle.smt_factory.specs.StandsFor.{StandsFor, FieldsStandFor}
 use Rattle.smt_term.specs.Formed.{IsFormed}
+use Rattle.smt_term.specs.Interpretations.{IsInterpretation}
 use Rattle.smt_term.specs.Literals.{is_literal}
 use Rattle.smt_term.specs.Meaning.{term_value}
+use Rattle.smt_term.specs.Operators.{truth, apply}
 use Rattle.smt_term.specs.Tables.{Interpretation}
 use Rattle.smt_term.specs.Types.{Typed}
-use Rattle.smt_term.specs.Plain.{PlainType, PlainOp, BvaddOp, BvlshrOp, BvmulOp, BvsaddoOp, BvsdivOp, BvshlOp, BvsleOp, BvsltOp, BvsmodOp, BvsmuloOp, BvsremOp, BvssuboOp, BvsubOp, BvudivOp, BvuleOp, BvultOp, BvuremOp, PlainTerm, Application, SomeTerm, terms}
+use Rattle.smt_term.specs.TypeValues.{Enums}
+use Rattle.smt_term.specs.Plain.{PlainType, BitVecType, BoolType, PlainOp, BvaddOp, BvlshrOp, BvmulOp, BvsaddoOp, BvsdivOp, BvshlOp, BvsleOp, BvsltOp, BvsmodOp, BvsmuloOp, BvsremOp, BvssuboOp, BvsubOp, BvudivOp, BvuleOp, BvultOp, BvuremOp, PlainTerm, Application, RecordTerm, SomeTerm, PlainFields, terms}
+use Rattle.smt_term.specs.Values.{BoolValue, BitVecValue}
 
--- standing for is an order that applications and `some` keep
+-- standing for is an order that applications, `some` and records keep
 pub record StandingIsKept : Type 0 where
   pub itself : (t : PlainTerm) → StandsFor t t
   pub onward : (t u w : PlainTerm) → StandsFor t u → StandsFor u w → StandsFor t w
   pub application : (o : PlainOp) (ts us : List PlainTerm) (ty : PlainType) → AllZip StandsFor ts us → StandsFor (Application o (terms ts) ty) (Application o (terms us) ty)
   pub some : (t u : PlainTerm) → StandsFor t u → StandsFor (SomeTerm t) (SomeTerm u)
+  pub fields : (fs gs : PlainFields) → FieldsStandFor fs gs → StandsFor (RecordTerm fs) (RecordTerm gs)
+
+-- an interpretation of terms is one of the terms that stand for them
+abbrev pub InterpretationsPass : Type 0
+InterpretationsPass = (enums : Enums) (I : Interpretation) (ts us : List PlainTerm) → AllZip StandsFor ts us → IsInterpretation enums us I → IsInterpretation enums ts I
 
 -- two literals of one type are equal exactly where their values are
 abbrev pub LiteralsAreEqualByValue : Type 0
@@ -31,6 +40,10 @@ pub record ConnectivesAreFolded : Type 0 where
   pub or : (t u : PlainTerm) → StandsFor (folded_or t u) (or_of t u)
   pub implies : (t u : PlainTerm) → StandsFor (folded_implies t u) (implies_of t u)
   pub any : (ts us : List PlainTerm) → AllZip StandsFor ts us → StandsFor (folded_any ts) (any_of us)
+
+-- the disjunction of many is true where one of them is
+abbrev pub AnyIsTrue : Type 0
+AnyIsTrue = (I : Interpretation) (ts : List PlainTerm) → AllByRecursion (λ t. Typed t BoolType) ts → term_value I (any_of ts) ≡ BoolValue (list_any (λ t. truth (term_value I t)) ts)
 
 -- equality and choice
 pub record EqualityAndChoiceAreFolded : Type 0 where
@@ -62,3 +75,8 @@ pub record TestsAreFolded : Type 0 where
   pub bvsaddo : (t u : PlainTerm) → StandsFor (folded_bvsaddo t u) (test_of_two BvsaddoOp t u)
   pub bvssubo : (t u : PlainTerm) → StandsFor (folded_bvssubo t u) (test_of_two BvssuboOp t u)
   pub bvsmulo : (t u : PlainTerm) → StandsFor (folded_bvsmulo t u) (test_of_two BvsmuloOp t u)
+
+-- what has the operator's value at two literals stands for the application, whoever computed it
+pub record AnswersStandFor : Type 0 where
+  pub bits : (o : PlainOp) (n a b c : ℕ) → c < 2 ^ n → ((I : Interpretation) → apply I o (BitVecType n) (BitVecValue n a ∷ BitVecValue n b ∷ []) ≡ BitVecValue n c) → StandsFor (bits_literal n c) (bits_of_two o (bits_literal n a) (bits_literal n b))
+  pub test : (o : PlainOp) (n a m b : ℕ) (c : Bool) → ((I : Interpretation) → apply I o BoolType (BitVecValue n a ∷ BitVecValue m b ∷ []) ≡ BoolValue c) → StandsFor (truth_literal c) (test_of_two o (bits_literal n a) (bits_literal m b))

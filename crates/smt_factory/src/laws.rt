@@ -1,9 +1,11 @@
 ghost use Rattle.smt_factory.specs.FoldRows.{BitsRows, ConnectiveRows, EqualityRows};
-ghost use Rattle.smt_factory.specs.Laws.{BitsAreFolded, ConnectivesAreFolded, EqualityAndChoiceAreFolded, LiteralsAreEqualByValue, StandingIsKept, TestsAreFolded};
+ghost use Rattle.smt_factory.specs.Laws.{AnswersStandFor, AnyIsTrue, BitsAreFolded, ConnectivesAreFolded, EqualityAndChoiceAreFolded, InterpretationsPass, LiteralsAreEqualByValue, StandingIsKept, TestsAreFolded};
 
-/// A term stands for itself, onward, and in applications and in `some`.
+/// A term stands for itself, onward, and in applications, `some` and records; and an interpretation of terms is one of the
+/// terms that stand for them.
 pub fn standing_is_kept()
-    ensures { StandingIsKept }
+    ensures kept { StandingIsKept }
+    ensures interpretations { InterpretationsPass }
 {}
 
 /// Two literals of one type are equal exactly where their values are.
@@ -11,9 +13,11 @@ pub fn literals_are_equal_by_value()
     ensures { LiteralsAreEqualByValue }
 {}
 
-/// `not`, `and`, `or`, `implies` and the disjunction of many: what they are folded to stands for them.
+/// `not`, `and`, `or`, `implies` and the disjunction of many: what they are folded to stands for them. The last is true where
+/// one of its terms is.
 pub fn connectives_are_folded()
-    ensures { ConnectivesAreFolded }
+    ensures folded { ConnectivesAreFolded }
+    ensures any { AnyIsTrue }
 {}
 
 /// `eq` and `ite`: what they are folded to stands for them.
@@ -29,6 +33,11 @@ pub fn bits_are_folded()
 /// The tests of bits: what they are folded to stands for them.
 pub fn tests_are_folded()
     ensures { TestsAreFolded }
+{}
+
+/// A literal with the operator's value at two literals stands for the application, whoever computed it.
+pub fn answers_stand()
+    ensures { AnswersStandFor }
 {}
 
 /// Foldings of chosen terms.
