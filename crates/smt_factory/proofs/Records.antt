@@ -1,5 +1,5 @@
 -- Records of terms that stand for others, and lists of such terms.
-use Rattle.std.proofs.Common.{◌≡◌, true, List, [], ◌∷◌, refl, ap, ◌∙◌, sym, subst}
+use Rattle.std.proofs.Common.{◌≡◌, true, List, [], ◌∷◌, map, refl, ap, ◌∙◌, sym, subst}
 use Rattle.std.specs.Prelude.{IsTrue, Option, IfSome, Contains}
 use Rattle.std.specs.Cmp.{first_so, second_so}
 use Rattle.std.specs.Cmp.Derive.{both_true}
@@ -9,7 +9,7 @@ use Rattle.smt_factory.proofs.Reaching.{IsBrought, brought_itself, among_brought
 use Rattle.smt_factory.proofs.Standing.{Given, StandAmong, valued, same_type, same_meaning, last_of}
 use Rattle.smt_term.specs.Formed.{attribute_names, IsFormedHere, IsFormedType, IsFormedNode, IsFormed}
 use Rattle.smt_term.specs.Interpretations.{IsGiven, IsInterpretation}
-use Rattle.smt_term.specs.Meaning.{meaning, field_meanings}
+use Rattle.smt_term.specs.Meaning.{meaning, field_meanings, term_value}
 use Rattle.smt_term.specs.Reached.{subterms, subterms_of_fields, reached_terms, types_within, types_within_attributes, variable_of, function_of, opened_of, selector_of}
 use Rattle.smt_term.specs.Tables.{Interpretation}
 use Rattle.smt_term.specs.Types.{type_of, field_types, typed, typed_fields}
@@ -117,3 +117,12 @@ interpretations enums I [] (u ∷ us) z g = elim z [ ]
 interpretations enums I (t ∷ ts) [] z g = elim z [ ]
 interpretations enums I (t ∷ ts) (u ∷ us) z g =
     all-join (IsGiven enums I) (subterms t) (reached_terms ts) (interpreted enums I t u z.0.variables z.0.functions z.0.options z.0.selectors (all-front (IsGiven enums I) (subterms u) (reached_terms us) g)) (interpretations enums I ts us z.1 (all-back (IsGiven enums I) (subterms u) (reached_terms us) g))
+
+pub values : (enums : Enums) (I : Interpretation) (ts us : List PlainTerm) → AllZip StandsFor ts us → AllByRecursion IsFormed us → AllByRecursion (λ u. IsTrue (typed u)) us → IsInterpretation enums us I → map (term_value I) ts ≡ map (term_value I) us
+values enums I [] [] z f h g = refl
+values enums I [] (u ∷ us) z f h g = elim z [ ]
+values enums I (t ∷ ts) [] z f h g = elim z [ ]
+values enums I (t ∷ ts) (u ∷ us) z f h g =
+    let p : term_value I t ≡ term_value I u = z.0.value (type_of u) enums I f.0 (record { parts = h.0; type = refl }) (all-join (IsGiven enums I) (subterms u) [] (all-front (IsGiven enums I) (subterms u) (reached_terms us) g) tt) in
+    let q : map (term_value I) ts ≡ map (term_value I) us = values enums I ts us z.1 f.1 h.1 (all-back (IsGiven enums I) (subterms u) (reached_terms us) g) in
+    λ i. p i ∷ q i

@@ -4,6 +4,7 @@ use Rattle.smt_factory.specs.Applications.{true_term, false_term, bits_literal, 
 use Rattle.smt_factory.specs.FoldBits.{folded_bvneg, folded_bvnego, folded_zero_extend, folded_bvadd, folded_bvshl, folded_bvlshr, folded_bvslt, folded_bvult, folded_bvsaddo, folded_bvssubo, folded_bvsmulo}
 use Rattle.smt_factory.specs.FoldConnectives.{folded_not, are_opposites, folded_and, folded_or, folded_implies, folded_any}
 use Rattle.smt_factory.specs.FoldEquality.{folded_eq, folded_ite}
+use Rattle.smt_factory.specs.StandsFor.{StandsFor}
 use Rattle.smt_term.specs.Plain.{BitVecType, BoolType, BvaddOp, BvlshrOp, BvshlOp, BvultOp, PlainTerm, NoneTerm, SomeTerm, VariableTerm}
 
 -- variables
@@ -66,3 +67,9 @@ pub record BitsRows : Type 0 where
   pub extended : folded_zero_extend 8 (byte 5) ≡ bits_literal 16 5
   pub extended_stays : folded_zero_extend 8 x ≡ zero_extend_of 8 x
   pub no_bits : folded_zero_extend 8 b ≡ b
+
+-- what does not stand for a term: another value, another type, and a variable that the original does not reach
+pub record ApartRows : Type 0 where
+  pub values : StandsFor true_term b → ⊥
+  pub types : StandsFor (byte 1) true_term → ⊥
+  pub reached : StandsFor (and_of b false_term) false_term → ⊥

@@ -1,5 +1,5 @@
 -- Laws of standing for an application, and that each folding stands for the application that it was asked for.
-use Rattle.std.specs.Prelude.{◌≡◌, ◌↔◌, ℕ, ◌^◌, ◌<◌, Bool, List, [], ◌∷◌, IsTrue}
+use Rattle.std.specs.Prelude.{◌≡◌, ◌↔◌, ℕ, ◌^◌, ◌<◌, Bool, List, [], ◌∷◌, map, IsTrue}
 use Rattle.std.specs.List.{AllByRecursion, AllZip, list_any}
 use Rattle.smt_factory.specs.Applications.{truth_literal, bits_literal, not_of, and_of, or_of, implies_of, eq_of, ite_of, any_of, bvneg_of, bits_of_two, test_of_two, bvnego_of, zero_extend_of}
 use Rattle.smt_factory.specs.FoldBits.{folded_bvneg, folded_bvnego, folded_zero_extend, folded_bvadd, folded_bvsub, folded_bvmul, folded_bvsdiv, folded_bvudiv, folded_bvsrem, folded_bvsmod, folded_bvurem, folded_bvshl, folded_bvlshr, folded_bvslt, folded_bvsle, folded_bvult, folded_bvule, folded_bvsaddo, folded_bvssubo, folded_bvsmulo}
@@ -12,7 +12,7 @@ use Rattle.smt_term.specs.Literals.{is_literal}
 use Rattle.smt_term.specs.Meaning.{term_value}
 use Rattle.smt_term.specs.Operators.{truth, apply}
 use Rattle.smt_term.specs.Tables.{Interpretation}
-use Rattle.smt_term.specs.Types.{Typed}
+use Rattle.smt_term.specs.Types.{typed, Typed}
 use Rattle.smt_term.specs.TypeValues.{Enums}
 use Rattle.smt_term.specs.Plain.{PlainType, BitVecType, BoolType, PlainOp, BvaddOp, BvlshrOp, BvmulOp, BvsaddoOp, BvsdivOp, BvshlOp, BvsleOp, BvsltOp, BvsmodOp, BvsmuloOp, BvsremOp, BvssuboOp, BvsubOp, BvudivOp, BvuleOp, BvultOp, BvuremOp, PlainTerm, Application, RecordTerm, SomeTerm, PlainFields, terms}
 use Rattle.smt_term.specs.Values.{BoolValue, BitVecValue}
@@ -28,6 +28,10 @@ pub record StandingIsKept : Type 0 where
 -- an interpretation of terms is one of the terms that stand for them
 abbrev pub InterpretationsPass : Type 0
 InterpretationsPass = (enums : Enums) (I : Interpretation) (ts us : List PlainTerm) → AllZip StandsFor ts us → IsInterpretation enums us I → IsInterpretation enums ts I
+
+-- formed and typed terms have in every interpretation the values of the terms that stand for them
+abbrev pub ValuesPass : Type 0
+ValuesPass = (enums : Enums) (I : Interpretation) (ts us : List PlainTerm) → AllZip StandsFor ts us → AllByRecursion IsFormed us → AllByRecursion (λ u. IsTrue (typed u)) us → IsInterpretation enums us I → map (term_value I) ts ≡ map (term_value I) us
 
 -- two literals of one type are equal exactly where their values are
 abbrev pub LiteralsAreEqualByValue : Type 0

@@ -1,11 +1,17 @@
-ghost use Rattle.smt_factory.specs.FoldRows.{BitsRows, ConnectiveRows, EqualityRows};
-ghost use Rattle.smt_factory.specs.Laws.{AnswersStandFor, AnyIsTrue, BitsAreFolded, ConnectivesAreFolded, EqualityAndChoiceAreFolded, InterpretationsPass, LiteralsAreEqualByValue, StandingIsKept, TestsAreFolded};
+ghost use Rattle.smt_factory.specs.FoldRows.{ApartRows, BitsRows, ConnectiveRows, EqualityRows};
+ghost use Rattle.smt_factory.specs.Laws.{AnswersStandFor, AnyIsTrue, BitsAreFolded, ConnectivesAreFolded, EqualityAndChoiceAreFolded, InterpretationsPass, LiteralsAreEqualByValue, StandingIsKept, TestsAreFolded, ValuesPass};
 
 /// A term stands for itself, onward, and in applications, `some` and records; and an interpretation of terms is one of the
-/// terms that stand for them.
+/// terms that stand for them, in which they have the same values.
 pub fn standing_is_kept()
     ensures kept { StandingIsKept }
     ensures interpretations { InterpretationsPass }
+    ensures values { ValuesPass }
+{}
+
+/// A term of another value, of another type, or that reaches a variable more, does not stand for a term.
+pub fn standing_tells_apart()
+    ensures { ApartRows }
 {}
 
 /// Two literals of one type are equal exactly where their values are.

@@ -1,4 +1,4 @@
-use Rattle.smt_factory.proofs.Records.{fields, interpretations}
+use Rattle.smt_factory.proofs.Records.{fields, interpretations, values}
 use Rattle.smt_factory.proofs.Standing.{itself, onward, application, some}
 use Rattle.smt_factory.proofs.laws.standing_is_kept.Goals as goal
 
@@ -7,3 +7,6 @@ returns-clause-kept c = record { itself = itself; onward = onward; application =
 
 pub returns-clause-interpretations : goal.returns-clause-interpretations
 returns-clause-interpretations c = interpretations
+
+pub returns-clause-values : goal.returns-clause-values
+returns-clause-values c = values
