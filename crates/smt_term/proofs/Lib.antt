@@ -7,6 +7,7 @@ pub mod LiteralValues
 pub mod Matching
 pub mod RecordFaults
 pub mod SameTerm
+pub mod Shapes
 pub mod SortedSets
 pub mod SortedValues
 pub mod Soundness

@@ -13,6 +13,7 @@ pub mod Patterns
 pub mod Plain
 pub mod Program
 pub mod Reached
+pub mod Shapes
 pub mod Tables
 pub mod TermOrder
 pub mod TypeValues

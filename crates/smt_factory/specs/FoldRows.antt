@@ -1,0 +1,75 @@
+-- Worked examples of folding.
+use Rattle.std.specs.Prelude.{◌≡◌, ℕ, true, false, [], ◌∷◌, codes}
+use Rattle.smt_factory.specs.Applications.{true_term, false_term, bits_literal, not_of, and_of, or_of, eq_of, ite_of, bits_of_two, test_of_two, zero_extend_of}
+use Rattle.smt_factory.specs.FoldBits.{folded_bvneg, folded_bvnego, folded_zero_extend, folded_bvadd, folded_bvshl, folded_bvlshr, folded_bvslt, folded_bvult, folded_bvsaddo, folded_bvssubo, folded_bvsmulo}
+use Rattle.smt_factory.specs.FoldConnectives.{folded_not, are_opposites, folded_and, folded_or, folded_implies, folded_any}
+use Rattle.smt_factory.specs.FoldEquality.{folded_eq, folded_ite}
+use Rattle.smt_factory.specs.StandsFor.{StandsFor}
+use Rattle.smt_term.specs.Plain.{BitVecType, BoolType, BvaddOp, BvlshrOp, BvshlOp, BvultOp, PlainTerm, NoneTerm, SomeTerm, VariableTerm}
+
+-- variables
+abbrev pub b : PlainTerm
+b = VariableTerm (codes "b") BoolType
+
+abbrev pub c : PlainTerm
+c = VariableTerm (codes "c") BoolType
+
+abbrev pub x : PlainTerm
+x = VariableTerm (codes "x") (BitVecType 8)
+
+abbrev pub byte : ℕ → PlainTerm
+byte a = bits_literal 8 a
+
+pub record ConnectiveRows : Type 0 where
+  pub double_negation : folded_not (folded_not b) ≡ b
+  pub opposites : are_opposites b (not_of b) ≡ true
+  pub opposites_turned : are_opposites (not_of b) b ≡ true
+  pub opposite_negations : are_opposites (not_of (not_of b)) (not_of b) ≡ true
+  pub no_opposites : are_opposites b c ≡ false
+  pub no_contradiction : folded_and b (folded_not b) ≡ false_term
+  pub and_stays : folded_and b c ≡ and_of b c
+  pub excluded_middle : folded_or b (folded_not b) ≡ true_term
+  pub from_false : folded_implies false_term b ≡ true_term
+  pub any_of_none : folded_any [] ≡ false_term
+  pub any_in_turn : folded_any (b ∷ c ∷ []) ≡ or_of c b
+  pub any_true : folded_any (b ∷ true_term ∷ c ∷ []) ≡ true_term
+
+pub record EqualityRows : Type 0 where
+  pub eq_true : folded_eq true_term b ≡ b
+  pub eq_false : folded_eq b false_term ≡ not_of b
+  pub eq_literals : folded_eq (byte 1) (byte 2) ≡ false_term
+  pub eq_inside : folded_eq (SomeTerm true_term) (SomeTerm b) ≡ b
+  pub eq_none : folded_eq (SomeTerm x) (NoneTerm (BitVecType 8)) ≡ false_term
+  pub eq_stays : folded_eq x (byte 1) ≡ eq_of x (byte 1)
+  pub ite_guard : folded_ite b true_term false_term ≡ b
+  pub ite_negated : folded_ite b false_term true_term ≡ not_of b
+  pub ite_and : folded_ite b c false_term ≡ and_of b c
+  pub ite_or : folded_ite b true_term c ≡ or_of b c
+  pub ite_inside : folded_ite b (SomeTerm x) (SomeTerm (byte 1)) ≡ SomeTerm (ite_of b x (byte 1))
+
+pub record BitsRows : Type 0 where
+  pub negation : folded_bvneg (byte 1) ≡ byte 255
+  pub negation_twice : folded_bvneg (folded_bvneg x) ≡ x
+  pub sum : folded_bvadd (byte 255) (byte 1) ≡ byte 0
+  pub sum_stays : folded_bvadd x (byte 1) ≡ bits_of_two BvaddOp x (byte 1)
+  pub widths_differ : folded_bvadd (byte 1) (bits_literal 16 1) ≡ bits_of_two BvaddOp (byte 1) (bits_literal 16 1)
+  pub shift : folded_bvshl (bits_literal 64 1) (bits_literal 64 4294967295) ≡ bits_literal 64 0
+  pub far_shift : folded_bvshl (bits_literal 64 1) (bits_literal 64 4294967296) ≡ bits_of_two BvshlOp (bits_literal 64 1) (bits_literal 64 4294967296)
+  pub far_shift_right : folded_bvlshr (bits_literal 64 1) (bits_literal 64 4294967296) ≡ bits_of_two BvlshrOp (bits_literal 64 1) (bits_literal 64 4294967296)
+  pub less : folded_bvslt (byte 255) (byte 0) ≡ true_term
+  pub less_unsigned : folded_bvult (byte 255) (byte 0) ≡ false_term
+  pub less_stays : folded_bvult (byte 1) (bits_literal 16 1) ≡ test_of_two BvultOp (byte 1) (bits_literal 16 1)
+  pub least : folded_bvnego (byte 128) ≡ true_term
+  pub not_least : folded_bvnego (byte 127) ≡ false_term
+  pub sum_overflows : folded_bvsaddo (byte 127) (byte 1) ≡ true_term
+  pub difference_overflows : folded_bvssubo (byte 128) (byte 1) ≡ true_term
+  pub product_overflows : folded_bvsmulo (byte 16) (byte 8) ≡ true_term
+  pub extended : folded_zero_extend 8 (byte 5) ≡ bits_literal 16 5
+  pub extended_stays : folded_zero_extend 8 x ≡ zero_extend_of 8 x
+  pub no_bits : folded_zero_extend 8 b ≡ b
+
+-- what does not stand for a term: another value, another type, and a variable that the original does not reach
+pub record ApartRows : Type 0 where
+  pub values : StandsFor true_term b → ⊥
+  pub types : StandsFor (byte 1) true_term → ⊥
+  pub reached : StandsFor (and_of b false_term) false_term → ⊥

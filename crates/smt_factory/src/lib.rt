@@ -1,0 +1,8 @@
+//! The folding factory: what a call that builds a term for an operator gives, where it folds constants.
+//!
+//! A call does not always build the application that it is asked for: `and(b, not b)` is `false`. What it gives
+//! is said by a function of plain terms (`specs/FoldConnectives.antt`, `FoldEquality.antt`, `FoldBits.antt`), and
+//! that the result may take the application's place by one word, `StandsFor` of `specs/StandsFor.antt`.
+#![tactic(auto)]
+
+pub mod laws;
