@@ -1,4 +1,5 @@
 pub mod Bits
+pub mod BuiltTerms
 pub mod Connectives
 pub mod Equality
 pub mod Least

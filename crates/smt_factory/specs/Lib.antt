@@ -1,4 +1,5 @@
 pub mod Applications
+pub mod Built
 pub mod FoldBits
 pub mod FoldConnectives
 pub mod FoldEquality

@@ -1,3 +1,4 @@
+ghost use Rattle.smt_factory.specs.Built.{BuiltTermsStand};
 ghost use Rattle.smt_factory.specs.FoldRows.{ApartRows, BitsRows, ConnectiveRows, EqualityRows};
 ghost use Rattle.smt_factory.specs.Laws.{AnswersStandFor, AnyIsTrue, BitsAreFolded, ConnectivesAreFolded, EqualityAndChoiceAreFolded, InterpretationsPass, LiteralsAreEqualByValue, StandingIsKept, TestsAreFolded, ValuesPass};
 
@@ -39,6 +40,11 @@ pub fn bits_are_folded()
 /// The tests of bits: what they are folded to stands for them.
 pub fn tests_are_folded()
     ensures { TestsAreFolded }
+{}
+
+/// What is built for a typed term, each application folded after its arguments, stands for it.
+pub fn built_terms_stand()
+    ensures { BuiltTermsStand }
 {}
 
 /// A literal with the operator's value at two literals stands for the application, whoever computed it.
