@@ -1,0 +1,9 @@
+pub mod Choices
+pub mod Datetimes
+pub mod Decimals
+pub mod Durations
+pub mod Fields
+pub mod Numbers
+pub mod PrintedDecimals
+pub mod Runs
+pub mod Stamps

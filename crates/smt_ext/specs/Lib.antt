@@ -1,0 +1,10 @@
+pub mod DatetimeReading
+pub mod DatetimeRefusal
+pub mod DatetimeText
+pub mod Decimal
+pub mod Digits
+pub mod DurationRefusal
+pub mod DurationText
+pub mod Front
+pub mod Milliseconds
+pub mod Printed
