@@ -1,0 +1,21 @@
+-- Worked examples of IP ranges and their printed texts.
+use Rattle.std.specs.Prelude.{◌≡◌, ℕ, ◌*◌, ◌+◌, ◌^◌, Option, Some, None, codes}
+use Rattle.smt_ext.specs.IpRanges.{Version4, Version6, Range, free_bits, IsIn, prefix_of}
+use Rattle.smt_ext.specs.IpPrinted.{range_text}
+
+-- 10.0.0.1/24
+abbrev pub ten_24 : Range
+ten_24 = record { family = Version4; address = 10 * 2 ^ 24 + 1; prefix = Some 24 }
+
+-- 7:70:700:7000::a00
+abbrev pub sevens : Range
+sevens = record { family = Version6; address = 7 * 2 ^ 112 + 0x70 * 2 ^ 96 + 0x700 * 2 ^ 80 + 0x7000 * 2 ^ 64 + 0xa00; prefix = None }
+
+pub record IpRows : Type 0 where
+  pub free : free_bits ten_24 ≡ 8
+  pub last : IsIn (10 * 2 ^ 24 + 255) ten_24
+  pub next : IsIn (10 * 2 ^ 24 + 256) ten_24 → ⊥
+  pub all_bits : prefix_of 32 32 ≡ None
+  pub no_bits : prefix_of 32 0 ≡ Some 0
+  pub printed_v4 : range_text ten_24 ≡ codes "10.0.0.1/24"
+  pub printed_v6 : range_text sevens ≡ codes "0007:0070:0700:7000:0000:0000:0000:0a00/128"

@@ -1,0 +1,3 @@
+//! Laws of the definitions that the contracts cite, proved with no code.
+
+pub mod ip;
