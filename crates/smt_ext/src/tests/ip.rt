@@ -1,7 +1,7 @@
 //! IP ranges.
 
-use super::ip_ranges::IN_RANGE;
-use super::ip_texts::{REFUSED, Row, V4, V6};
+use super::ip_ranges::{INSIDE, OUTSIDE};
+use super::ip_texts::{REFUSED, V4, V6};
 use crate::*;
 use smt_bits::{BitVec, BitVecError, FIVE, HUNDRED_TWENTY_EIGHT, SEVEN, THIRTY_TWO, Width};
 use std::alloc::Global;
@@ -26,32 +26,23 @@ fn v6(address: u128, bits: Option<u128>) -> Option<IPNet> {
     }))
 }
 
-fn is_read(
-    rt: &impl Abort,
-    alloc: Global,
-    text: &str,
-    want: Option<IPNet>,
-    printed: &str,
-) -> Result<(), Fail> {
+// Whether the row's text is read as its address and prefix, and printed as it says.
+fn is_read(rt: &impl Abort, alloc: Global, row: &str, is_v4: bool) -> Result<(), Fail> {
+    let (text, rest) = row.split_once(' ').ok_or("no address")?;
+    let (address, rest) = rest.split_once(' ').ok_or("no prefix")?;
+    let (bits, printed) = rest.split_once(' ').ok_or("no printed text")?;
+    let address = address.parse::<u128>().ok().ok_or("no number")?;
     let net = IPNet::parse(alloc, text)?;
+    let bits = bits.parse::<u128>().ok();
+    let want = if is_v4 {
+        v4(address, bits)
+    } else {
+        v6(address, bits)
+    };
     assert_eq!(rt; Some(net), want, "{text}");
     let shown = net.to_string(alloc)?;
     assert_eq!(rt; shown.as_str(), printed);
     assert_eq!(rt; IPNet::parse(alloc, printed)?, net);
-    Ok(())
-}
-
-fn are_read_v4(rt: &impl Abort, alloc: Global, rows: &[Row]) -> Result<(), Fail> {
-    for (text, address, bits, printed) in rows.iter().copied() {
-        is_read(rt, alloc, text, v4(address, bits), printed)?;
-    }
-    Ok(())
-}
-
-fn are_read_v6(rt: &impl Abort, alloc: Global, rows: &[Row]) -> Result<(), Fail> {
-    for (text, address, bits, printed) in rows.iter().copied() {
-        is_read(rt, alloc, text, v6(address, bits), printed)?;
-    }
     Ok(())
 }
 
@@ -63,9 +54,13 @@ fn is_refused(rt: &impl Abort, alloc: Global, text: &str) -> Result<(), Fail> {
 
 #[test]
 fn texts_agree_with_outside_values(rt: HostRuntime) -> Result<(), Fail> {
-    are_read_v4(&rt, rt.alloc(), &V4)?;
-    are_read_v6(&rt, rt.alloc(), &V6)?;
-    for text in REFUSED {
+    for row in V4.lines() {
+        is_read(&rt, rt.alloc(), row, true)?;
+    }
+    for row in V6.lines() {
+        is_read(&rt, rt.alloc(), row, false)?;
+    }
+    for text in REFUSED.lines() {
         is_refused(&rt, rt.alloc(), text)?;
     }
     Ok(())
@@ -77,20 +72,22 @@ fn lies_in(alloc: Global, inner: &str, outer: &str) -> Result<bool, IPError> {
     Ok(inner.in_range(&outer))
 }
 
+fn are_inside(rt: &impl Abort, alloc: Global, rows: &str, want: bool) -> Result<(), Fail> {
+    for row in rows.lines() {
+        let (inner, outer) = row.split_once(' ').ok_or("no pair")?;
+        assert_eq!(rt; lies_in(alloc, inner, outer)?, want, "{row}");
+    }
+    Ok(())
+}
+
 #[test]
 fn containment_agrees_with_outside_values(rt: HostRuntime) -> Result<(), Fail> {
-    for (inner, outer, want) in IN_RANGE {
-        assert_eq!(rt;
-            lies_in(rt.alloc(), inner, outer),
-            Ok(want),
-            "{inner} {outer}"
-        );
-    }
-    assert_eq!(rt; lies_in(rt.alloc(), "10.0.0.0/29", "10.0.0.1/24"), Ok(true));
-    assert_eq!(rt; lies_in(rt.alloc(), "1.2.3.4", "0.0.0.0/0"), Ok(true));
-    assert_eq!(rt; lies_in(rt.alloc(), "0.0.0.0/0", "1.2.3.4"), Ok(false));
-    assert_eq!(rt; lies_in(rt.alloc(), "::", "0.0.0.0"), Ok(false));
-    Ok(())
+    are_inside(&rt, rt.alloc(), INSIDE, true)?;
+    are_inside(&rt, rt.alloc(), OUTSIDE, false)?;
+    let inside = "10.0.0.0/29 10.0.0.1/24\n1.2.3.4 0.0.0.0/0";
+    are_inside(&rt, rt.alloc(), inside, true)?;
+    let outside = "0.0.0.0/0 1.2.3.4\n:: 0.0.0.0";
+    are_inside(&rt, rt.alloc(), outside, false)
 }
 
 #[test]
