@@ -1,13 +1,13 @@
 -- When one range of addresses lies in another.
 use Rattle.std.proofs.Common.{◌≡◌, ℕ, ◌+◌, ◌-◌, ◌*◌, ◌/◌, ◌^◌, ◌<◌, ◌≤◌, Bool, refl, sym, ap, ◌∙◌, subst, arith, inl, inr}
 use Rattle.std.specs.Prelude.{IsTrue, ◌↔◌}
-use Rattle.std.proofs.Math.Nat.{div-div-eq-div-mul, div-mul-le_self, add-div_right, div-lt_iff_lt-mul, mul-le-mul_right}
+use Rattle.std.proofs.Math.Nat.{div-div-eq-div-mul, add-div_right, div-lt_iff_lt-mul, mul-le-mul_right}
 use Rattle.std.proofs.Math.Pow.{pow-lt}
 use Rattle.std.proofs.lemmas.Nat.{pow_pos, pow-add, div-mul-add}
 use Rattle.std.proofs.lemmas.Bool.{cases_lt}
 use Rattle.smt_bits.specs.BitVec.{width_of, number_of}
 use Rattle.smt_bits.specs.declared.bitvec.BitVec.{BitVec}
-use Rattle.smt_ext.specs.IpRanges.{Family, Range, address_bits, free_bits, IsIn, LiesIn}
+use Rattle.smt_ext.specs.IpRanges.{Range, address_bits, free_bits, LiesIn}
 
 -- more free bits are a quotient of the quotient
 coarser : (a h k : ℕ) → h ≤ k → a / 2 ^ k ≡ a / 2 ^ h / 2 ^ (k - h)

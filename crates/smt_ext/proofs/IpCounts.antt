@@ -1,8 +1,8 @@
 -- The digits of a prefix.
-use Rattle.std.proofs.Common.{◌≡◌, ◌≢◌, ℕ, ◌^◌, ◌<◌, ◌≤◌, ◌+◌, Bool, true, false, ◌||◌, ◌&&◌, List, length, get_or, Result, Ok, Err, decimal, refl, sym, ap, ◌∙◌, subst, arith, inl, inr, eqb, eqb-true, eq-eqb, ne_eqb}
+use Rattle.std.proofs.Common.{◌≡◌, ℕ, ◌<◌, Bool, true, false, ◌||◌, List, length, get_or, Result, Ok, decimal, refl, sym, ap, ◌∙◌, arith, inl, inr, eqb-true, eq-eqb}
 use Rattle.std.specs.Prelude.{nat_lt, ◌==◌}
-use Rattle.std.specs.Str.Parse.{ParsesUnsigned, IsNumeral, digits_value, AllDigits}
-use Rattle.std.proofs.lemmas.Bool.{eqb-false, cases_lt, cases_eq, both_ways, and_parts, lt-ltb}
+use Rattle.std.specs.Str.Parse.{ParsesUnsigned}
+use Rattle.std.proofs.lemmas.Bool.{eqb-false, cases_lt, both_ways, and_parts, lt-ltb}
 use Rattle.std.proofs.lemmas.Result.{OkIff-at_ok}
 use Rattle.std.proofs.lemmas.Fmt.{decimal_digit, first_decimal, decimal_is_IsNumeral, decimal-digits_value, parse-decimal}
 use Rattle.std.proofs.lemmas.Str.Parse.{numerals_by_value, tells_digits, digit_at, without_leading_plus_none}

@@ -1,5 +1,5 @@
 -- The grammar of addresses and the one by which std reads, and that a text writes one address at most.
-use Rattle.std.proofs.Common.{◌≡◌, ◌≢◌, ℕ, suc, ◌+◌, ◌-◌, ◌*◌, ◌/◌, ◌%◌, ◌^◌, ◌<◌, ◌≤◌, Bool, true, false, List, [], ◌∷◌, ◌++◌, length, get_or, decimal, ◌⊎◌, Some, refl, sym, ap, ◌∙◌, subst, arith, inl, inr, lit≤, eqb-true, true≢false}
+use Rattle.std.proofs.Common.{◌≡◌, ◌≢◌, ℕ, ◌+◌, ◌*◌, ◌<◌, ◌≤◌, Bool, true, false, List, [], ◌∷◌, ◌++◌, length, decimal, ◌⊎◌, refl, sym, ap, ◌∙◌, subst, arith, inl, inr, lit≤, eqb-true, true≢false}
 use Rattle.std.specs.Prelude.{codes, nat_eq}
 use Rattle.std.specs.List.{list_any}
 use Rattle.std.specs.Char.{digit_value}
@@ -10,13 +10,13 @@ use Rattle.std.specs.Net.Grammar as Std
 use Rattle.std.specs.Net.Text as StdText
 use Rattle.std.proofs.lemmas.Bool.{eqb-false}
 use Rattle.std.proofs.lemmas.Fmt.{decimal_is_IsNumeral}
-use Rattle.std.proofs.NetLemmas.Arrays.{four_items, eight_items}
+use Rattle.std.proofs.NetLemmas.Arrays.{eight_items}
 use Rattle.std.proofs.NetLemmas.Options.{same_parts}
 use Rattle.std.proofs.NetLemmas.Ipv4.{read_ipv4_complete}
 use Rattle.std.proofs.NetLemmas.Ipv6.{read_ipv6_complete, EndsGroups-nil, IsDotted-not_colon_hex}
 use Rattle.smt_ext.specs.IpReader.{HasNo}
 use Rattle.smt_ext.proofs.IpCounts.{or_false, or_true}
-use Rattle.smt_ext.specs.IpText.{IsDotted, IsGroup, AreGroupsBehind, AreGroups, IsShortened, IsColonText, joined_groups}
+use Rattle.smt_ext.specs.IpText.{IsDotted, AreGroupsBehind, AreGroups, IsShortened, IsColonText, joined_groups}
 
 -- ---- bytes that a text has not
 

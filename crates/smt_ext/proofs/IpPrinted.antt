@@ -1,5 +1,5 @@
 -- What is printed of a range writes that range.
-use Rattle.std.proofs.Common.{◌≡◌, ℕ, ◌+◌, ◌*◌, ◌/◌, ◌%◌, ◌^◌, ◌<◌, ◌≤◌, Bool, true, Option, Some, None, List, [], ◌∷◌, ◌++◌, length, decimal, refl, sym, ap, ◌∙◌, arith, inl, eqb-true, eq-eqb, ne_eqb}
+use Rattle.std.proofs.Common.{◌≡◌, ℕ, ◌/◌, ◌%◌, ◌^◌, ◌<◌, true, Option, Some, None, [], ◌∷◌, decimal, refl, ap, arith, inl, eqb-true, eq-eqb, ne_eqb}
 use Rattle.std.specs.Char.{digit_char, digit_value}
 use Rattle.std.specs.Prelude.{unwrap_or, option_map}
 use Rattle.std.proofs.lemmas.Bool.Decides.{nat_tests}
@@ -10,7 +10,7 @@ use Rattle.smt_ext.specs.declared.ipaddr.net.IPNet.{IPNet}
 use Rattle.smt_ext.specs.declared.ipaddr.net.IPNet.TheVariants.{V4, V6}
 use Rattle.smt_ext.specs.IpPrefixBits.{given, has_width}
 use Rattle.smt_ext.specs.IpPrinted.{dotted_text, group_text, group_at, colon_text, address_text, range_text}
-use Rattle.smt_ext.specs.IpRanges.{Family, Version4, Version6, Range, address_bits, prefix_bits, prefix_of}
+use Rattle.smt_ext.specs.IpRanges.{Family, Version4, Version6, Range, address_bits, prefix_bits}
 use Rattle.smt_ext.specs.IpText.{IsDotted, IsGroup, IsColonText, WritesAddress, WritesPrefix, WritesRange}
 use Rattle.smt_ext.specs.IpView.{range_of}
 use Rattle.smt_ext.proofs.IpContained.{below}

@@ -1,9 +1,8 @@
 -- What std's readers answer, in the words of the grammar.
-use Rattle.std.proofs.Common.{◌≡◌, ◌≢◌, ℕ, ◌<◌, ◌≤◌, List, [], ◌∷◌, length, get_or, Option, Some, None, Result, Ok, Err, decimal, refl, sym, ap, ◌∙◌, arith}
-use Rattle.std.specs.Int.{w32, w128, from_be_bytes}
+use Rattle.std.proofs.Common.{◌≡◌, ℕ, ◌<◌, List, [], ◌∷◌, length, Option, Some, None, Result, Ok, Err, decimal, sym, ap, ◌∙◌}
 use Rattle.std.specs.Result.{result_ok}
 use Rattle.std.specs.Str.Parse.{ParsesUnsigned}
-use Rattle.std.specs.Net.Addr.{ipv4_octets, ipv6_segments, octets_of, ipv4_bits, ipv6_bits}
+use Rattle.std.specs.Net.Addr.{ipv4_octets, ipv6_segments, ipv4_bits, ipv6_bits}
 use Rattle.std.specs.Net.Grammar.{Parses, IsIpv4Text, IsIpv6Text}
 use Rattle.std.specs.declared.net.ipv4_addr.Ipv4Addr.{Ipv4Addr}
 use Rattle.std.specs.declared.net.ipv6_addr.Ipv6Addr.{Ipv6Addr}

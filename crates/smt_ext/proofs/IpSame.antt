@@ -1,10 +1,9 @@
 -- Values that stand for one range are one value.
-use Rattle.std.proofs.Common.{◌≡◌, ℕ, Bool, true, Option, Some, None, refl, ap, sym, ◌∙◌, eqb-true}
+use Rattle.std.proofs.Common.{◌≡◌, ℕ, true, Some, refl, ap, sym, ◌∙◌, eqb-true}
 use Rattle.std.specs.Prelude.{option_map}
 use Rattle.std.proofs.Math.Nat.{ℕ_set}
 use Rattle.std.proofs.Math.Bool.{Bool-set}
 use mathlib.Core.HLevel.{is_prop→PathP}
-use Rattle.smt_bits.specs.declared.bitvec.BitVec.{BitVec}
 use Rattle.smt_bits.specs.BitVec.{width_of, number_of}
 use Rattle.smt_bits.proofs.SameValue.{same_bits}
 use Rattle.smt_ext.specs.declared.ipaddr.address.IPv4Addr.{IPv4Addr}
@@ -18,7 +17,7 @@ use Rattle.smt_ext.specs.declared.ipaddr.net.CIDRv6.{CIDRv6}
 use Rattle.smt_ext.specs.declared.ipaddr.net.IPNet.{IPNet}
 use Rattle.smt_ext.specs.declared.ipaddr.net.IPNet.TheVariants.{V4, V6}
 use Rattle.smt_ext.specs.IpPrefixBits.{given, has_width}
-use Rattle.smt_ext.specs.IpRanges.{Family, Version4, Version6, Range}
+use Rattle.smt_ext.specs.IpRanges.{Version4, Version6, Range}
 use Rattle.smt_ext.specs.IpView.{v4_bits, v6_bits, v4_prefix, v6_prefix, v4_range, v6_range, range_of}
 
 same_v4_addr : (a b : IPv4Addr) → number_of (v4_bits a) ≡ number_of (v4_bits b) → a ≡ b

@@ -1,5 +1,5 @@
 -- Worked examples of IP ranges and their printed texts.
-use Rattle.std.specs.Prelude.{◌≡◌, ℕ, ◌*◌, ◌+◌, ◌^◌, Option, Some, None, codes}
+use Rattle.std.specs.Prelude.{◌≡◌, ◌*◌, ◌+◌, ◌^◌, Some, None, codes}
 use Rattle.smt_ext.specs.IpRanges.{Version4, Version6, Range, free_bits, IsIn, prefix_of}
 use Rattle.smt_ext.specs.IpPrinted.{range_text}
 

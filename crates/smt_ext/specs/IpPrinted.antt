@@ -1,5 +1,5 @@
 -- The printed text of an IP range.
-use Rattle.std.specs.Prelude.{ℕ, ◌+◌, ◌/◌, ◌%◌, ◌^◌, List, [], ◌∷◌, ◌++◌, codes, decimal}
+use Rattle.std.specs.Prelude.{ℕ, ◌/◌, ◌%◌, ◌^◌, List, [], ◌∷◌, ◌++◌, codes, decimal}
 use Rattle.std.specs.Char.{digit_char}
 use Rattle.smt_ext.specs.IpRanges.{Family, Version4, Version6, Range, prefix_bits}
 

@@ -1,6 +1,6 @@
 -- What the private functions of the reader of IP ranges say.
-use Rattle.std.specs.Prelude.{◌≡◌, ◌≢◌, ℕ, Bool, ◌||◌, ◌&&◌, ◌==◌, nat_lt, Option, List, [], ◌∷◌, length, slice_index}
-use Rattle.smt_ext.specs.IpRanges.{Family, Range, address_bits}
+use Rattle.std.specs.Prelude.{◌≢◌, ℕ, Bool, ◌||◌, ◌&&◌, ◌==◌, nat_lt, Option, List, [], ◌∷◌, length, slice_index}
+use Rattle.smt_ext.specs.IpRanges.{Range, address_bits}
 use Rattle.smt_ext.specs.IpText.{WritesAddress, WritesPrefix}
 
 -- none of the bytes is this one

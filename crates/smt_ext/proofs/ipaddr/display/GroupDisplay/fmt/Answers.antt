@@ -1,7 +1,6 @@
-use Rattle.std.proofs.Common.{◌≡◌, ◌/◌, ◌%◌, ◌<◌, false, Some, [], ◌∷◌, refl, subst, arith}
-use Rattle.std.specs.Fmt.{DisplaysOnOk, styled_digits_output, digit_glyph, ◌++?◌}
+use Rattle.std.proofs.Common.{◌≡◌, ◌/◌, ◌%◌, ◌<◌, false, Some, [], ◌∷◌, refl, arith}
+use Rattle.std.specs.Fmt.{styled_digits_output, digit_glyph}
 use Rattle.std.proofs.lemmas.Fmt.{hex_byte}
-use Rattle.smt_ext.specs.IpPrinted.{group_text}
 use Rattle.smt_ext.proofs.ipaddr.display.GroupDisplay.fmt.Goals as goal
 
 pub returns-clause-writes : goal.returns-clause-writes
