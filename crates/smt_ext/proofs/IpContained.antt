@@ -46,7 +46,7 @@ must_share n s o h k le small each =
       | inr wide ↦ (wide, each s small refl)
     ]
 
-LiesIn-from : (r t : Range) → r.family ≡ t.family → free_bits r ≤ free_bits t → r.address / 2 ^ free_bits t ≡ t.address / 2 ^ free_bits t → LiesIn r t
+pub LiesIn-from : (r t : Range) → r.family ≡ t.family → free_bits r ≤ free_bits t → r.address / 2 ^ free_bits t ≡ t.address / 2 ^ free_bits t → LiesIn r t
 LiesIn-from r t same le shared = record {
   one_family = same;
   every =
@@ -56,7 +56,7 @@ LiesIn-from r t same le shared = record {
       };
 }
 
-LiesIn-shares : (r t : Range) → r.address < 2 ^ address_bits r.family → LiesIn r t → (free_bits r ≤ free_bits t) × (r.address / 2 ^ free_bits t ≡ t.address / 2 ^ free_bits t)
+pub LiesIn-shares : (r t : Range) → r.address < 2 ^ address_bits r.family → LiesIn r t → (free_bits r ≤ free_bits t) × (r.address / 2 ^ free_bits t ≡ t.address / 2 ^ free_bits t)
 LiesIn-shares r t small h =
     must_share (address_bits r.family) r.address t.address (free_bits r) (free_bits t) (omega arith) small
     (λ a lt e. (h.every a (record { is_address = lt; has_prefix = e })).has_prefix)

@@ -85,14 +85,16 @@ impl IPv4Prefix {
 
     /// The 5 bits; nothing for no prefix.
     pub fn as_bitvec(&self) -> Option<&BitVec>
-        ensures { option_copied result ≡ v4_prefix_bits self.now }
+        ensures value { option_copied result ≡ v4_prefix_bits self.now }
+        ensures width { IfSome result (λ bits. width_of bits.now ≡ 5) }
     {
         self.bits.as_bitvec()
     }
 
     /// The 5 bits; nothing for no prefix.
     pub fn into_bitvec(self) -> Option<BitVec>
-        ensures { result ≡ v4_prefix_bits self }
+        ensures value { result ≡ v4_prefix_bits self }
+        ensures width { IfSome result (λ bits. width_of bits ≡ 5) }
     {
         self.bits.into_bitvec()
     }
@@ -136,14 +138,16 @@ impl IPv6Prefix {
 
     /// The 7 bits; nothing for no prefix.
     pub fn as_bitvec(&self) -> Option<&BitVec>
-        ensures { option_copied result ≡ v6_prefix_bits self.now }
+        ensures value { option_copied result ≡ v6_prefix_bits self.now }
+        ensures width { IfSome result (λ bits. width_of bits.now ≡ 7) }
     {
         self.bits.as_bitvec()
     }
 
     /// The 7 bits; nothing for no prefix.
     pub fn into_bitvec(self) -> Option<BitVec>
-        ensures { result ≡ v6_prefix_bits self }
+        ensures value { result ≡ v6_prefix_bits self }
+        ensures width { IfSome result (λ bits. width_of bits ≡ 7) }
     {
         self.bits.into_bitvec()
     }
