@@ -3,6 +3,13 @@ pub mod Datetimes
 pub mod Decimals
 pub mod Durations
 pub mod Fields
+pub mod IpContained
+pub mod IpCounts
+pub mod IpGrammar
+pub mod IpPrinted
+pub mod IpReads
+pub mod IpSame
+pub mod IpSplits
 pub mod Numbers
 pub mod PrintedDecimals
 pub mod Runs

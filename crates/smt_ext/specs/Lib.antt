@@ -5,6 +5,15 @@ pub mod Decimal
 pub mod Digits
 pub mod DurationRefusal
 pub mod DurationText
+pub mod Extensions
 pub mod Front
+pub mod IpExamples
+pub mod IpOrder
+pub mod IpPrefixBits
+pub mod IpPrinted
+pub mod IpRanges
+pub mod IpReader
+pub mod IpText
+pub mod IpView
 pub mod Milliseconds
 pub mod Printed

@@ -4,6 +4,8 @@ ghost use Rattle.smt_ext.specs.Decimal.{IsDecimalText};
 ghost use Rattle.smt_ext.specs.Digits.{IsLong};
 ghost use Rattle.smt_ext.specs.Printed.{decimal_text};
 
+pub mod ip;
+
 /// A text is the text of one decimal at most.
 pub fn decimal_texts_have_one_value()
     ensures { (text : List ℕ) (v w : ℤ) → IsDecimalText text v → IsDecimalText text w → v ≡ w }

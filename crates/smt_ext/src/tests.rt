@@ -3,6 +3,9 @@
 mod datetimes;
 mod decimals;
 mod durations;
+mod ip;
+mod ip_ranges;
+mod ip_texts;
 
 use super::*;
 use std::alloc::{AllocError, Global};

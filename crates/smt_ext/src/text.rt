@@ -2,5 +2,5 @@
 
 use std::rc::RcStr;
 
-/// A text that several values may hold.
+/// A text that its holders share.
 pub type Text = RcStr;
