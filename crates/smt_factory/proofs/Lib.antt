@@ -1,6 +1,7 @@
-pub mod Bits
-pub mod Connectives
-pub mod Equality
+pub mod BitsStand
+pub mod ConnectivesStand
+pub mod EqualityStands
+pub mod Folding
 pub mod Least
 pub mod Reaching
 pub mod Records

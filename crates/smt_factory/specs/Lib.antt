@@ -4,4 +4,5 @@ pub mod FoldConnectives
 pub mod FoldEquality
 pub mod FoldRows
 pub mod Laws
+pub mod Parts
 pub mod StandsFor

@@ -11,7 +11,7 @@ use Rattle.smt_bits.proofs.BitRanges as ranges
 use Rattle.smt_factory.specs.Applications.{truth_literal, bits_literal, bvneg_of, bits_of_two, test_of_two, bvnego_of, wider_type, zero_extend_of}
 use Rattle.smt_factory.specs.FoldBits.{folded_bvneg, folded_bits_where, folded_test, folded_bvnego, folded_zero_extend}
 use Rattle.smt_factory.specs.StandsFor.{StandsFor}
-use Rattle.smt_factory.proofs.Connectives.{chosen_type, argument, first_argument, second_argument}
+use Rattle.smt_factory.proofs.ConnectivesStand.{chosen_type, argument, first_argument, second_argument}
 use Rattle.smt_factory.proofs.Least.{overflow_is}
 use Rattle.smt_factory.proofs.Standing.{SameMeaning, SameType, itself, one_of, standing, standing_within}
 use Rattle.smt_term.specs.Formed.{IsFormedType, IsFormedNode, IsFormed}
