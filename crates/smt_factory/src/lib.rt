@@ -7,7 +7,9 @@
 
 mod application;
 mod connectives;
+mod equality;
 pub mod laws;
 mod parts;
 
 pub use connectives::{and, implies, not, opposites, or};
+pub use equality::{eq, ite};
