@@ -30,10 +30,10 @@ use Rattle.smt_term.specs.Values.{Value, BoolValue, BitVecValue}
 -- ---- a literal in place of an application
 
 -- a literal stands for an application of its type and value
-literal_standing : (l : PlainLiteral) (u : PlainTerm) → (IsFormed u → IsFormed (LiteralTerm l)) → SameType (LiteralTerm l) u → SameMeaning (LiteralTerm l) u → StandsFor (LiteralTerm l) u
+pub literal_standing : (l : PlainLiteral) (u : PlainTerm) → (IsFormed u → IsFormed (LiteralTerm l)) → SameType (LiteralTerm l) u → SameMeaning (LiteralTerm l) u → StandsFor (LiteralTerm l) u
 literal_standing l u f y v = standing (LiteralTerm l) u (λ P q h. (q (LiteralTerm l) (refl, refl, refl, refl), tt)) f y v
 
-bits_formed : (n a : ℕ) → a < 2 ^ n → IsFormedType (BitVecType n) → IsFormed (bits_literal n a)
+pub bits_formed : (n a : ℕ) → a < 2 ^ n → IsFormedType (BitVecType n) → IsFormed (bits_literal n a)
 bits_formed n a l f = record { literals = (l, tt); types = (f, tt) }
 
 -- the number of a formed literal is one of its width

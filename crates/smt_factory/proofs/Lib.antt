@@ -1,3 +1,4 @@
+pub mod Answers
 pub mod BitsStand
 pub mod ConnectivesStand
 pub mod EqualityStands

@@ -1,5 +1,6 @@
 pub mod Applications
 pub mod FoldBits
+pub mod FoldBy
 pub mod FoldConnectives
 pub mod FoldEquality
 pub mod FoldRows

@@ -6,10 +6,12 @@
 #![tactic(auto, using(crate::proofs::Folding::folding))]
 
 mod application;
+mod bits;
 mod connectives;
 mod equality;
 pub mod laws;
 mod parts;
 
+pub use bits::{bvadd, bvapp, bvlshr, bvmul, bvsdiv, bvshl, bvsmod, bvsrem, bvsub, bvudiv, bvurem};
 pub use connectives::{and, implies, not, opposites, or};
 pub use equality::{eq, ite};
