@@ -12,9 +12,9 @@ use Rattle.smt_factory.specs.Applications.{wider_type}
 use Rattle.smt_factory.specs.Built.{built, built_all, folded}
 use Rattle.smt_factory.specs.FoldBits.{folded_zero_extend, greatest_shift}
 use Rattle.smt_factory.specs.StandsFor.{StandsFor}
-use Rattle.smt_factory.proofs.Bits.{stands_bits, stands_bvneg, stands_bvnego, stands_test, stands_zero_extend}
-use Rattle.smt_factory.proofs.Connectives.{chosen_type, stands_and, stands_not, stands_or}
-use Rattle.smt_factory.proofs.Equality.{stands_eq, stands_ite}
+use Rattle.smt_factory.proofs.BitsStand.{stands_bits, stands_bvneg, stands_bvnego, stands_test, stands_zero_extend}
+use Rattle.smt_factory.proofs.ConnectivesStand.{chosen_type, stands_and, stands_not, stands_or}
+use Rattle.smt_factory.proofs.EqualityStands.{stands_eq, stands_ite}
 use Rattle.smt_factory.proofs.Standing.{application, itself, onward, same_type}
 
 -- ---- one application

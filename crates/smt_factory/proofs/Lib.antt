@@ -1,7 +1,9 @@
-pub mod Bits
+pub mod Answers
+pub mod BitsStand
 pub mod BuiltTerms
-pub mod Connectives
-pub mod Equality
+pub mod ConnectivesStand
+pub mod EqualityStands
+pub mod Folding
 pub mod Least
 pub mod Reaching
 pub mod Records

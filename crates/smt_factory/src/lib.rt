@@ -3,6 +3,15 @@
 //! A call does not always build the application that it is asked for: `and(b, not b)` is `false`. What it gives
 //! is said by a function of plain terms (`specs/FoldConnectives.antt`, `FoldEquality.antt`, `FoldBits.antt`), and
 //! that the result may take the application's place by one word, `StandsFor` of `specs/StandsFor.antt`.
-#![tactic(auto)]
+#![tactic(auto, using(crate::proofs::Folding::folding))]
 
+mod application;
+mod bits;
+mod connectives;
+mod equality;
 pub mod laws;
+mod parts;
+
+pub use bits::{bvadd, bvapp, bvlshr, bvmul, bvsdiv, bvshl, bvsmod, bvsrem, bvsub, bvudiv, bvurem};
+pub use connectives::{and, implies, not, opposites, or};
+pub use equality::{eq, ite};

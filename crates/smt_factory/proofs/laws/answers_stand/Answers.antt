@@ -1,4 +1,4 @@
-use Rattle.smt_factory.proofs.Bits.{bits_answered, test_answered}
+use Rattle.smt_factory.proofs.BitsStand.{bits_answered, test_answered}
 use Rattle.smt_factory.proofs.laws.answers_stand.Goals as goal
 
 pub returns : goal.returns

@@ -3,7 +3,7 @@ use Rattle.std.specs.Prelude.{nat_le}
 use Rattle.smt_bits.specs.BitVectors as bits
 use Rattle.smt_bits.proofs.BitRanges as ranges
 use Rattle.smt_factory.specs.FoldBits.{greatest_shift}
-use Rattle.smt_factory.proofs.Bits.{stands_bits, stands_bvneg, stands_zero_extend}
+use Rattle.smt_factory.proofs.BitsStand.{stands_bits, stands_bvneg, stands_zero_extend}
 use Rattle.smt_factory.proofs.laws.bits_are_folded.Goals as goal
 use Rattle.smt_term.specs.Plain.{BvaddOp, BvlshrOp, BvmulOp, BvsdivOp, BvshlOp, BvsmodOp, BvsremOp, BvsubOp, BvudivOp, BvuremOp}
 

@@ -1,4 +1,4 @@
-use Rattle.smt_factory.proofs.Connectives.{stands_not, stands_and, stands_or, stands_implies, stands_any, any_is_true}
+use Rattle.smt_factory.proofs.ConnectivesStand.{stands_not, stands_and, stands_or, stands_implies, stands_any, any_is_true}
 use Rattle.smt_factory.proofs.laws.connectives_are_folded.Goals as goal
 
 pub returns-clause-folded : goal.returns-clause-folded

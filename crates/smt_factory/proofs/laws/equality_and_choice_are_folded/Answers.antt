@@ -1,4 +1,4 @@
-use Rattle.smt_factory.proofs.Equality.{stands_eq, stands_ite}
+use Rattle.smt_factory.proofs.EqualityStands.{stands_eq, stands_ite}
 use Rattle.smt_factory.proofs.laws.equality_and_choice_are_folded.Goals as goal
 
 pub returns : goal.returns

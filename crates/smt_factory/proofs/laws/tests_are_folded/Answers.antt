@@ -1,6 +1,6 @@
 use Rattle.std.proofs.Common.{refl}
 use Rattle.smt_bits.specs.BitVectors as bits
-use Rattle.smt_factory.proofs.Bits.{stands_test, stands_bvnego}
+use Rattle.smt_factory.proofs.BitsStand.{stands_test, stands_bvnego}
 use Rattle.smt_factory.proofs.laws.tests_are_folded.Goals as goal
 use Rattle.smt_term.specs.Plain.{BvsaddoOp, BvsleOp, BvsltOp, BvsmuloOp, BvssuboOp, BvuleOp, BvultOp}
 

@@ -11,7 +11,7 @@ use Rattle.smt_bits.proofs.BitRanges as ranges
 use Rattle.smt_factory.specs.Applications.{truth_literal, bits_literal, bvneg_of, bits_of_two, test_of_two, bvnego_of, wider_type, zero_extend_of}
 use Rattle.smt_factory.specs.FoldBits.{folded_bvneg, folded_bits_where, folded_test, folded_bvnego, folded_zero_extend}
 use Rattle.smt_factory.specs.StandsFor.{StandsFor}
-use Rattle.smt_factory.proofs.Connectives.{chosen_type, argument, first_argument, second_argument}
+use Rattle.smt_factory.proofs.ConnectivesStand.{chosen_type, argument, first_argument, second_argument}
 use Rattle.smt_factory.proofs.Least.{overflow_is}
 use Rattle.smt_factory.proofs.Standing.{SameMeaning, SameType, itself, one_of, standing, standing_within}
 use Rattle.smt_term.specs.Formed.{IsFormedType, IsFormedNode, IsFormed}
@@ -30,10 +30,10 @@ use Rattle.smt_term.specs.Values.{Value, BoolValue, BitVecValue}
 -- ---- a literal in place of an application
 
 -- a literal stands for an application of its type and value
-literal_standing : (l : PlainLiteral) (u : PlainTerm) → (IsFormed u → IsFormed (LiteralTerm l)) → SameType (LiteralTerm l) u → SameMeaning (LiteralTerm l) u → StandsFor (LiteralTerm l) u
+pub literal_standing : (l : PlainLiteral) (u : PlainTerm) → (IsFormed u → IsFormed (LiteralTerm l)) → SameType (LiteralTerm l) u → SameMeaning (LiteralTerm l) u → StandsFor (LiteralTerm l) u
 literal_standing l u f y v = standing (LiteralTerm l) u (λ P q h. (q (LiteralTerm l) (refl, refl, refl, refl), tt)) f y v
 
-bits_formed : (n a : ℕ) → a < 2 ^ n → IsFormedType (BitVecType n) → IsFormed (bits_literal n a)
+pub bits_formed : (n a : ℕ) → a < 2 ^ n → IsFormedType (BitVecType n) → IsFormed (bits_literal n a)
 bits_formed n a l f = record { literals = (l, tt); types = (f, tt) }
 
 -- the number of a formed literal is one of its width

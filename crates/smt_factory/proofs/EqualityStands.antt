@@ -10,7 +10,7 @@ use Rattle.smt_factory.specs.Applications.{true_term, false_term, truth_literal,
 use Rattle.smt_factory.specs.FoldConnectives.{folded_not, folded_and, folded_or}
 use Rattle.smt_factory.specs.FoldEquality.{is_boolean, folded_eq_inside, folded_eq, folded_ite_inside, folded_ite}
 use Rattle.smt_factory.specs.StandsFor.{StandsFor}
-use Rattle.smt_factory.proofs.Connectives.{is_both_boolean, chosen_type, same_term, boolean, first_argument, second_argument, stands_not, stands_and, stands_or}
+use Rattle.smt_factory.proofs.ConnectivesStand.{is_both_boolean, chosen_type, same_term, boolean, first_argument, second_argument, stands_not, stands_and, stands_or}
 use Rattle.smt_factory.proofs.Standing.{itself, onward, one_of, standing, standing_within, some, last_of}
 use Rattle.smt_term.specs.Formed.{IsFormedNode, IsFormedType, IsFormed}
 use Rattle.smt_term.specs.Interpretations.{IsGiven}

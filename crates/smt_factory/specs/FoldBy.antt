@@ -1,0 +1,48 @@
+-- The folding of operators whose value at literals another call answers.
+use Rattle.std.specs.Prelude.{◌≡◌, ◌⊎◌, ℤ, ℕ, Bool, true, List, [], ◌∷◌, Option, Some, None, Result, Ok, Err}
+use Rattle.smt_bits.specs.BitVec.{number_of, width_of}
+use Rattle.smt_bits.specs.BitVectors as bits
+use Rattle.smt_bits.specs.declared.bitvec.BitVec.{BitVec}
+use Rattle.smt_bits.specs.declared.error.BitVecError.{BitVecError}
+use Rattle.smt_factory.specs.Applications.{truth_literal, bits_literal, bits_of_two, test_of_two}
+use Rattle.smt_factory.specs.Parts.{bits_inside}
+use Rattle.smt_term.specs.Operators.{apply}
+use Rattle.smt_term.specs.Tables.{Interpretation}
+use Rattle.smt_term.specs.Plain.{BitVecType, BoolType, PlainOp, PlainTerm}
+use Rattle.smt_term.specs.Values.{BoolValue, BitVecValue}
+
+-- the literal with a bitvector's width and number
+abbrev pub literal_of : BitVec → PlainTerm
+literal_of b = bits_literal (width_of b) (number_of b)
+
+-- not both terms are literals of bits
+abbrev pub NotTwoLiterals : PlainTerm → PlainTerm → Type 0
+NotTwoLiterals t u = (bits_inside t ≡ None) ⊎ (bits_inside u ≡ None)
+
+-- ---- operators from bits to bits: which answers a call may give at two bitvectors
+
+-- it may give this answer at the literals t and u
+pub record AnswersAt (answers : BitVec → BitVec → Result BitVec BitVecError → Type 0) (t u : PlainTerm) (r : Result BitVec BitVecError) : Type 0 where
+  pub left : BitVec
+  pub right : BitVec
+  pub first : t ≡ literal_of left
+  pub second : u ≡ literal_of right
+  pub gives : answers left right r
+
+-- it may refuse at t and u, or they are not two literals
+abbrev pub RefusesAt : (BitVec → BitVec → Result BitVec BitVecError → Type 0) → PlainTerm → PlainTerm → Type 0
+RefusesAt answers t u = ((e : BitVecError) × AnswersAt answers t u (Err e)) ⊎ NotTwoLiterals t u
+
+-- the folded term is the literal of what the call answers at two literals; where it refuses, and at all else, the application
+abbrev pub IsFoldedBy : (BitVec → BitVec → Result BitVec BitVecError → Type 0) → PlainOp → PlainTerm → PlainTerm → PlainTerm → Type 0
+IsFoldedBy answers o t u r =
+    ((c : BitVec) × AnswersAt answers t u (Ok c) × (r ≡ literal_of c)) ⊎ (RefusesAt answers t u × (r ≡ bits_of_two o t u))
+
+-- c is the operator's value at a and b, which have one width
+pub record IsValue (o : PlainOp) (a b c : BitVec) : Type 0 where
+  pub width : width_of c ≡ width_of a
+  pub value : (I : Interpretation) → apply I o (BitVecType (width_of a)) (BitVecValue (width_of a) (number_of a) ∷ BitVecValue (width_of a) (number_of b) ∷ []) ≡ BitVecValue (width_of a) (number_of c)
+
+-- on equal widths the call refuses or answers the operator's value
+abbrev pub AnswersValues : (BitVec → BitVec → Result BitVec BitVecError → Type 0) → PlainOp → Type 0
+AnswersValues answers o = (a b c : BitVec) → width_of a ≡ width_of b → answers a b (Ok c) → IsValue o a b c
