@@ -42,6 +42,9 @@ misshapen_is_none text v h d = h d.stamp d.written d.allowed
 pub unreal_is_none : (text : List ℕ) (v : ℤ) → IsUnreal text → IsDatetimeText text v → ⊥
 unreal_is_none text v h d = h.unreal (subst IsReal (one_stamp text d.stamp h.stamp d.written h.written) d.real)
 
+pub one_refusal : (text : List ℕ) → IsMisshapen text → IsUnreal text → ⊥
+one_refusal text m u = m u.stamp u.written u.allowed
+
 pub misshapen_by_none : (text : List ℕ) → stamp_at text ≡ None → IsMisshapen text
 misshapen_by_none text e s h b = none-some s (sym e ∙ stamp_again text s h)
 

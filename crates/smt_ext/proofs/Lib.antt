@@ -3,6 +3,7 @@ pub mod Datetimes
 pub mod Decimals
 pub mod Durations
 pub mod Fields
+pub mod Midnights
 pub mod Numbers
 pub mod PrintedDecimals
 pub mod Runs
