@@ -1,5 +1,5 @@
 -- What is found of a duration's text from its right end are its parts.
-use Rattle.std.proofs.Common.{inl, inr, ◌⊎◌, ◌≡◌, ℕ, zero, suc, ◌+◌, ◌*◌, ◌<◌, ◌≤◌, Bool, true, false, ◌||◌, nat_lt, eqb, drop, Option, Some, None, List, [], ◌∷◌, ◌++◌, reverse, length, refl, sym, ap, ap₂, ◌∙◌, subst, append_assoc, arith, ℤ, pos, negsuc}
+use Rattle.std.proofs.Common.{inl, inr, ◌⊎◌, ◌≡◌, ℕ, zero, suc, ◌+◌, ◌*◌, ◌<◌, ◌≤◌, Bool, true, false, ◌||◌, nat_lt, eqb, drop, Option, Some, None, List, [], ◌∷◌, ◌++◌, reverse, length, refl, sym, ap, ap₂, ◌∙◌, subst, append_assoc, arith, ℤ}
 use Rattle.std.specs.List.{list_all}
 use Rattle.std.proofs.lemmas.Bool.{false≢true, cases_Bool, and_parts, eqb-true, not_from_false}
 use Rattle.std.proofs.lemmas.List.{append-nil, reverse-append, reverse-reverse, append_cancel_right, length-append, length-reverse}
@@ -9,7 +9,7 @@ use Rattle.smt_ext.specs.declared.datetime.span.TimeUnit.{TimeUnit}
 use Rattle.smt_ext.specs.declared.datetime.span.TimeUnit.TheVariants.{Millisecond, Second, Minute, Hour, FullDay}
 use Rattle.smt_ext.specs.Digits.{is_digit, is_numeral, number_of, minus_if, signed, IsLong}
 use Rattle.smt_ext.specs.Front.{begins_without, IsSigned}
-use Rattle.smt_ext.specs.DurationRefusal.{unit_name, unit_milliseconds, all_units, EndsInPart, HasNoPart, begins_past_ascii, ends_past_ascii, IsSoundPart, IsPartFault, IsFirstFault, HasSum, IsFaultBehindSign, HasFault}
+use Rattle.smt_ext.specs.DurationRefusal.{unit_name, unit_milliseconds, all_units, EndsInPart, HasNoPart, begins_past_ascii, IsSoundPart, IsPartFault, IsFirstFault, HasSum, IsFaultBehindSign, HasFault}
 use Rattle.smt_ext.specs.DurationText.{Parts, part_text, part_number, IsPart, parts_text, parts_number, ArePartsOfDuration, IsDurationText}
 use Rattle.smt_ext.proofs.Runs.{one_run, one_sign, sign_of, numeral_unsigned, digits_of_numeral, list_all-reverse, head_is}
 

@@ -1,5 +1,5 @@
 -- The start of a day.
-use Rattle.std.proofs.Common.{◌≡◌, ℕ, suc, ◌+◌, ◌-◌, ◌*◌, ◌/◌, ◌%◌, ℤ, pos, negsuc, arith}
+use Rattle.std.proofs.Common.{◌/◌, ℤ, pos, negsuc, arith}
 use Rattle.std.proofs.lemmas.Int.{ints}
 use Rattle.smt_ext.specs.Milliseconds.{IsLastMidnight, day_start}
 

@@ -1,4 +1,4 @@
-use Rattle.std.proofs.Common.{None, Some, true, arith, refl, lit<, lit≤}
+use Rattle.std.proofs.Common.{None, Some, true, refl, lit<, lit≤}
 use Rattle.std.specs.Prelude.{codes}
 use Rattle.smt_ext.proofs.laws.worked_texts.Goals as goal
 
