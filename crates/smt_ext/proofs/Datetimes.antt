@@ -1,5 +1,5 @@
 -- A text is the text of one datetime at most, and then gets no refusal.
-use Rattle.std.proofs.Common.{◌≡◌, ℕ, Bool, true, false, Option, Some, None, List, refl, sym, ap, ◌∙◌, subst, ℤ, pos, ◌<◌, w8, w16, w32, w64, FitsSigned, arith}
+use Rattle.std.proofs.Common.{◌≡◌, ℕ, true, false, Some, None, List, sym, ap, ◌∙◌, subst, ℤ, pos, ◌<◌, w8, w16, w32, w64, FitsSigned, arith}
 use Rattle.std.specs.Prelude.{◌*ℤ◌, ◌+ℤ◌, ◌≤ℤ◌, neg_ℤ}
 use Rattle.std.proofs.lemmas.Bool.{false≢true}
 use Rattle.std.proofs.lemmas.Int.{to_z_pos, ints}
@@ -9,11 +9,10 @@ use Rattle.jiff.specs.Types.{Date}
 use Rattle.jiff.specs.Words.{IsDate, IsYmd, epoch_day}
 use Rattle.smt_ext.specs.declared.datetime.error.DatetimeError.{DatetimeError}
 use Rattle.smt_ext.specs.declared.datetime.error.DatetimeError.TheVariants.{DatetimeParseError, ChronoParseError, IntegerOverflowDuringParsing, ParseIntError, InvalidUnit, Memory}
-use Rattle.smt_ext.specs.declared.datetime.stamp.Day.{Day}
 use Rattle.smt_ext.specs.declared.datetime.stamp.Stamp.{Stamp}
 use Rattle.smt_ext.specs.DatetimeReading.{stamp_at}
 use Rattle.smt_ext.specs.DatetimeRefusal.{HoldsText, IsMisshapen, IsUnreal, IsDatetimeRefusal}
-use Rattle.smt_ext.specs.DatetimeText.{HasStamp, is_barred, IsReal, IsDayNumber, IsStampValue, IsDatetimeText, clock_value}
+use Rattle.smt_ext.specs.DatetimeText.{is_barred, IsReal, IsStampValue, IsDatetimeText, clock_value}
 use Rattle.smt_ext.proofs.Stamps.{stamp_takes, stamp_again, one_stamp}
 
 one_day : (y m d : ℤ) (a b : Date) → IsYmd y m d a → IsYmd y m d b → epoch_day a ≡ epoch_day b
@@ -41,6 +40,9 @@ misshapen_is_none text v h d = h d.stamp d.written d.allowed
 
 pub unreal_is_none : (text : List ℕ) (v : ℤ) → IsUnreal text → IsDatetimeText text v → ⊥
 unreal_is_none text v h d = h.unreal (subst IsReal (one_stamp text d.stamp h.stamp d.written h.written) d.real)
+
+pub one_refusal : (text : List ℕ) → IsMisshapen text → IsUnreal text → ⊥
+one_refusal text m u = m u.stamp u.written u.allowed
 
 pub misshapen_by_none : (text : List ℕ) → stamp_at text ≡ None → IsMisshapen text
 misshapen_by_none text e s h b = none-some s (sym e ∙ stamp_again text s h)

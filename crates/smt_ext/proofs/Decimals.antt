@@ -1,9 +1,9 @@
 -- A decimal's text has one sign, one list of digits before the point and one behind it.
-use Rattle.std.proofs.Common.{lit<, inl, inr, ◌≡◌, ℕ, zero, suc, ◌+◌, ◌-◌, ◌*◌, ◌^◌, ◌<◌, ◌≤◌, Bool, true, false, List, [], ◌∷◌, ◌++◌, refl, sym, ap, ◌∙◌, arith, length, ℤ, pos, negsuc}
+use Rattle.std.proofs.Common.{lit<, ◌≡◌, ℕ, zero, suc, ◌^◌, ◌<◌, Bool, true, false, List, ◌∷◌, ◌++◌, refl, sym, ◌∙◌, arith, ℤ}
 use Rattle.smt_ext.specs.declared.decimal.DecimalError.{DecimalError}
 use Rattle.smt_ext.specs.declared.decimal.DecimalError.TheVariants.{ParseError, Memory}
 use Rattle.smt_ext.specs.Decimal.{HoldsDecimalText, IsDecimalRefusal, HasDecimalParts, ten_thousandths, IsDecimalText, IsNoDecimal}
-use Rattle.smt_ext.specs.Digits.{is_digit, is_numeral, signed, IsLong}
+use Rattle.smt_ext.specs.Digits.{is_digit, signed, IsLong}
 use Rattle.smt_ext.specs.Front.{IsRun, IsSigned}
 use Rattle.smt_ext.proofs.Runs.{one_run, one_sign, sign_of, numeral_unsigned, digits_of_numeral}
 

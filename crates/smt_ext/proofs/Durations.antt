@@ -1,5 +1,5 @@
 -- What is found of a duration's text from its right end are its parts.
-use Rattle.std.proofs.Common.{inl, inr, ◌⊎◌, ◌≡◌, ℕ, zero, suc, ◌+◌, ◌*◌, ◌<◌, ◌≤◌, Bool, true, false, ◌||◌, nat_lt, eqb, drop, Option, Some, None, List, [], ◌∷◌, ◌++◌, reverse, length, refl, sym, ap, ap₂, ◌∙◌, subst, append_assoc, arith, ℤ, pos, negsuc}
+use Rattle.std.proofs.Common.{inl, inr, ◌⊎◌, ◌≡◌, ℕ, zero, suc, ◌+◌, ◌*◌, ◌<◌, ◌≤◌, Bool, true, false, ◌||◌, nat_lt, eqb, drop, Option, Some, None, List, [], ◌∷◌, ◌++◌, reverse, length, refl, sym, ap, ap₂, ◌∙◌, subst, append_assoc, arith, ℤ}
 use Rattle.std.specs.List.{list_all}
 use Rattle.std.proofs.lemmas.Bool.{false≢true, cases_Bool, and_parts, eqb-true, not_from_false}
 use Rattle.std.proofs.lemmas.List.{append-nil, reverse-append, reverse-reverse, append_cancel_right, length-append, length-reverse}
@@ -9,7 +9,7 @@ use Rattle.smt_ext.specs.declared.datetime.span.TimeUnit.{TimeUnit}
 use Rattle.smt_ext.specs.declared.datetime.span.TimeUnit.TheVariants.{Millisecond, Second, Minute, Hour, FullDay}
 use Rattle.smt_ext.specs.Digits.{is_digit, is_numeral, number_of, minus_if, signed, IsLong}
 use Rattle.smt_ext.specs.Front.{begins_without, IsSigned}
-use Rattle.smt_ext.specs.DurationRefusal.{unit_name, unit_milliseconds, all_units, EndsInPart, HasNoPart, begins_past_ascii, ends_past_ascii, IsSoundPart, IsPartFault, IsFirstFault, HasSum, IsFaultBehindSign, HasFault}
+use Rattle.smt_ext.specs.DurationRefusal.{unit_name, unit_milliseconds, all_units, EndsInPart, HasNoPart, begins_past_ascii, IsSoundPart, IsPartFault, IsFirstFault, HasSum, IsFaultBehindSign, HasFault}
 use Rattle.smt_ext.specs.DurationText.{Parts, part_text, part_number, IsPart, parts_text, parts_number, ArePartsOfDuration, IsDurationText}
 use Rattle.smt_ext.proofs.Runs.{one_run, one_sign, sign_of, numeral_unsigned, digits_of_numeral, list_all-reverse, head_is}
 
@@ -335,3 +335,61 @@ one_duration text v w d e =
     let Q : List ℕ → Type 0 = λ r. HasSum e.negative all_units r (parts_number d.parts) in
     let same = one_sum e.negative all_units (parts_text e.parts) (parts_number d.parts) (parts_number e.parts) (subst Q u.1 (subst P u.0 a)) b in
     d.number ∙ ap₂ (λ (x : Bool) (n : ℕ). signed x n) u.0 same ∙ sym e.number
+
+-- ---- a text has one fault at most
+
+one_part_fault : (negative : Bool) (unit : TimeUnit) (f d : List ℕ) (a b : Fault) → IsPartFault negative unit f d a → IsPartFault negative unit f d b → a ≡ b
+one_part_fault negative unit f d Form Form h k = refl
+one_part_fault negative unit f d Form NoDigits h k = absurd (false≢true (sym k.0 ∙ h))
+one_part_fault negative unit f d Form OutOfRange h k = absurd (false≢true (sym k.0 ∙ h))
+one_part_fault negative unit f d NoDigits Form h k = absurd (false≢true (sym h.0 ∙ k))
+one_part_fault negative unit f d NoDigits NoDigits h k = refl
+one_part_fault negative unit f d NoDigits OutOfRange h k = absurd (let l = k.1 in let e = ap length h.1 in omega arith)
+one_part_fault negative unit f d OutOfRange Form h k = absurd (false≢true (sym h.0 ∙ k))
+one_part_fault negative unit f d OutOfRange NoDigits h k = absurd (let l = h.1 in let e = ap length k.1 in omega arith)
+one_part_fault negative unit f d OutOfRange OutOfRange h k = refl
+
+one_first_fault : (negative : Bool) (units : List TimeUnit) (rest : List ℕ) (a b : Fault) → IsFirstFault negative units rest a → IsFirstFault negative units rest b → a ≡ b
+unfolding IsFirstFault
+one_first_fault negative [] rest a b s t = s.1 ∙ sym t.1
+one_first_fault negative (unit ∷ units) rest a b (inl s) (inl t) = one_first_fault negative units rest a b s.1 t.1
+one_first_fault negative (unit ∷ units) rest a b (inl s) (inr t) = absurd (no_part unit rest t.0 t.1 s.0 t.2)
+one_first_fault negative (unit ∷ units) rest a b (inr s) (inl t) = absurd (no_part unit rest s.0 s.1 t.0 s.2)
+one_first_fault negative (unit ∷ units) rest a b (inr s) (inr t) =
+    let same = one_part unit rest s.0 s.1 t.0 t.1 s.2 t.2 in
+    let P : List ℕ → Type 0 = λ d. IsPartFault negative unit s.0 d a ⊎ (IsSoundPart negative unit s.0 d × IsFirstFault negative units s.0 a) in
+    let Q : List ℕ → Type 0 = λ f. IsPartFault negative unit f t.1 a ⊎ (IsSoundPart negative unit f t.1 × IsFirstFault negative units f a) in
+    elim (subst Q same.0 (subst P same.1 s.3)) [
+      | inl h ↦ elim t.3 [
+        | inl k ↦ one_part_fault negative unit t.0 t.1 a b h k
+        | inr k ↦ absurd (sound_or_fault negative unit t.0 t.1 a k.0 h)
+      ]
+      | inr h ↦ elim t.3 [
+        | inl k ↦ absurd (sound_or_fault negative unit t.0 t.1 b h.0 k)
+        | inr k ↦ one_first_fault negative units t.0 a b h.1 k.1
+      ]
+    ]
+
+one_fault_behind : (negative : Bool) (rest : List ℕ) (a b : Fault) → IsFaultBehindSign negative rest a → IsFaultBehindSign negative rest b → a ≡ b
+one_fault_behind negative rest a b (inl s) (inl t) = s.1 ∙ sym t.1
+one_fault_behind negative rest a b (inl s) (inr (inl t)) = absurd (let l = t.0 in let e = ap length s.0 in omega arith)
+one_fault_behind negative rest a b (inl s) (inr (inr t)) = absurd (let l = t.1 in let e = ap length s.0 in omega arith)
+one_fault_behind negative rest a b (inr (inl s)) (inl t) = absurd (let l = s.0 in let e = ap length t.0 in omega arith)
+one_fault_behind negative rest a b (inr (inr s)) (inl t) = absurd (let l = s.1 in let e = ap length t.0 in omega arith)
+one_fault_behind negative rest a b (inr (inl s)) (inr (inl t)) = one_first_fault negative all_units rest a b s.1 t.1
+one_fault_behind negative rest a b (inr (inl s)) (inr (inr t)) = absurd (sum_or_fault negative all_units rest t.0 a t.2 s.1)
+one_fault_behind negative rest a b (inr (inr s)) (inr (inl t)) = absurd (sum_or_fault negative all_units rest s.0 b s.2 t.1)
+one_fault_behind negative rest a b (inr (inr s)) (inr (inr t)) = s.4 ∙ sym t.4
+
+one_rest : (text r s : List ℕ) (m n : Bool) → IsSigned text m r → IsSigned text n s → (m ≡ n) × (r ≡ s)
+one_rest text r s true true p q = (refl, (head_is 45 45 r s (sym p.whole ∙ q.whole)).1)
+one_rest text r s true false p q = absurd (q.only refl r p.whole)
+one_rest text r s false true p q = absurd (p.only refl s q.whole)
+one_rest text r s false false p q = (refl, sym p.whole ∙ q.whole)
+
+pub one_fault : (text : List ℕ) (a b : Fault) → HasFault text a → HasFault text b → a ≡ b
+one_fault text a b f g =
+    let u = one_rest text f.rest g.rest f.negative g.negative f.sign g.sign in
+    let P : Bool → Type 0 = λ n. IsFaultBehindSign n f.rest a in
+    let Q : List ℕ → Type 0 = λ r. IsFaultBehindSign g.negative r a in
+    one_fault_behind g.negative g.rest a b (subst Q u.1 (subst P u.0 f.fault_is)) g.fault_is

@@ -1,10 +1,10 @@
 -- Numbers in a fixed count of digits.
-use Rattle.std.proofs.Common.{lit<, ◌≡◌, ℕ, suc, zero, ◌+◌, ◌-◌, ◌*◌, ◌/◌, ◌%◌, ◌^◌, ◌<◌, ◌≤◌, Bool, true, false, List, [], ◌∷◌, ◌++◌, refl, sym, ap, ap₂, ◌∙◌, arith, length}
-use Rattle.std.specs.List.{fold, list_all}
+use Rattle.std.proofs.Common.{lit<, ◌≡◌, ℕ, suc, zero, ◌+◌, ◌-◌, ◌*◌, ◌/◌, ◌%◌, ◌^◌, ◌<◌, ◌≤◌, true, List, [], ◌∷◌, refl, sym, ap, ap₂, ◌∙◌, arith, length}
+use Rattle.std.specs.List.{list_all}
 use Rattle.std.proofs.Math.Nat.{pow-suc, pow-le-pow_right, div-add-mod, mod-lt, mod-eq_of_lt, mul-add-mod_self_right, mul-le-mul_right, div-lt_iff_lt-mul}
 use Rattle.std.proofs.lemmas.Nat.{div-mul-add}
 use Rattle.std.proofs.lemmas.Bool.{and_parts, and_from, le-leb}
-use Rattle.smt_ext.specs.Digits.{is_digit, is_numeral, number_of, padded}
+use Rattle.smt_ext.specs.Digits.{is_digit, number_of, padded}
 use Rattle.smt_ext.proofs.Numbers.{from_digits}
 use Rattle.smt_ext.proofs.Runs.{digit_range}
 

@@ -10,6 +10,7 @@ pub mod IpPrinted
 pub mod IpReads
 pub mod IpSame
 pub mod IpSplits
+pub mod Midnights
 pub mod Numbers
 pub mod PrintedDecimals
 pub mod Runs

@@ -1,13 +1,10 @@
 -- The number that digits write, read from the left.
-use Rattle.std.proofs.Common.{◌≡◌, ℕ, suc, zero, ◌+◌, ◌-◌, ◌*◌, ◌/◌, ◌%◌, ◌^◌, ◌<◌, ◌≤◌, Bool, true, false, List, [], ◌∷◌, refl, sym, ap, ap₂, ◌∙◌, arith, length, drop, get_or}
+use Rattle.std.proofs.Common.{◌≡◌, ℕ, ◌+◌, ◌-◌, ◌*◌, ◌<◌, ◌≤◌, true, List, [], ◌∷◌, refl, arith, length, drop, get_or}
 use Rattle.std.specs.List.{fold, list_all}
-use Rattle.std.proofs.Math.Nat.{pow-suc, div-add-mod, mod-lt, div-lt_iff_lt-mul}
 use Rattle.std.proofs.Math.Numerals.{add-one}
 use Rattle.std.proofs.Math.Seq.{drop-cons}
-use Rattle.std.proofs.lemmas.Bool.{and_parts, and_from, le-leb}
 use Rattle.std.proofs.lemmas.List.Sums.{AllPass-from_list_all}
-use Rattle.smt_ext.specs.Digits.{is_digit, is_numeral, number_of, padded}
-use Rattle.smt_ext.proofs.Runs.{digit_range}
+use Rattle.smt_ext.specs.Digits.{is_digit}
 
 -- digits behind a number that is read already
 abbrev pub from_digits : ℕ → List ℕ → ℕ

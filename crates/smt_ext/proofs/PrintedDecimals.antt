@@ -1,5 +1,5 @@
 -- The printed form of a decimal, and that it is read back.
-use Rattle.std.proofs.Common.{◌≡◌, ℕ, zero, suc, ◌+◌, ◌*◌, ◌/◌, ◌%◌, ◌^◌, ◌<◌, ◌≤◌, Bool, true, false, List, [], ◌∷◌, ◌++◌, refl, sym, ap, ap₂, ◌∙◌, inl, inr, arith, length, ℤ, pos, negsuc, lit<, lit≤, rules}
+use Rattle.std.proofs.Common.{◌≡◌, ℕ, ◌+◌, ◌/◌, ◌%◌, ◌^◌, ◌<◌, ◌≤◌, true, false, List, [], ◌∷◌, ◌++◌, refl, sym, ap, ◌∙◌, inl, inr, arith, length, ℤ, pos, negsuc, lit≤, rules}
 use Rattle.std.specs.Prelude.{unsigned_abs}
 use Rattle.std.specs.Prelude.{int_lt}
 use Rattle.std.specs.List.{list_all}
@@ -8,7 +8,7 @@ use Rattle.std.proofs.lemmas.Bool.{cases_lt, ltb-true, false≢true}
 use Rattle.std.proofs.lemmas.Fmt.{decimal_digit, decimal_step, digits_decimal, digits_value-decimal, decimal_nonempty}
 use Rattle.std.proofs.lemmas.Str.Parse.{IsNumeralModel, numerals_by_fold}
 use Rattle.smt_ext.specs.Decimal.{IsDecimalText}
-use Rattle.smt_ext.specs.Digits.{is_digit, is_numeral, number_of, padded, signed, minus_if, IsLong}
+use Rattle.smt_ext.specs.Digits.{is_digit, is_numeral, padded, signed, IsLong}
 use Rattle.smt_ext.specs.Printed.{is_below_zero, decimal_text}
 use Rattle.smt_ext.proofs.Numbers.{from_digits}
 use Rattle.smt_ext.proofs.Fields.{padded_digits, number-padded}

@@ -1,5 +1,5 @@
 -- Runs of digits and signs at the front of a text: there is one reading.
-use Rattle.std.proofs.Common.{inl, inr, ap₂, ◌≡◌, ℕ, ◌-◌, ◌≤◌, ◌&&◌, reverse, Bool, true, false, not, cond, eqb, List, [], ◌∷◌, ◌++◌, refl, sym, ap, ◌∙◌, take, drop, length, arith}
+use Rattle.std.proofs.Common.{inl, inr, ap₂, ◌≡◌, ℕ, ◌-◌, ◌≤◌, ◌&&◌, reverse, Bool, true, false, not, eqb, List, [], ◌∷◌, ◌++◌, refl, sym, ap, ◌∙◌, take, drop, length, arith}
 use Rattle.std.specs.List.{list_all, prefix_len, take_while}
 use Rattle.std.proofs.Math.Numerals.{one-add}
 use Rattle.std.proofs.Math.Seq.{take-append_seam, drop-append_seam}

@@ -1,5 +1,5 @@
 -- What the readers of a datetime's parts answer: the part at the front of a text, and what follows it.
-use Rattle.std.specs.Prelude.{◌≡◌, ℕ, Bool, true, false, ◌&&◌, ◌||◌, ◌==◌, if◌then◌else◌, Option, Some, None, length, take, drop, List, [], ◌∷◌}
+use Rattle.std.specs.Prelude.{◌≡◌, ℕ, Bool, true, false, ◌&&◌, ◌==◌, if◌then◌else◌, Option, Some, None, length, take, drop, List, [], ◌∷◌}
 use Rattle.std.specs.List.{list_all}
 use Rattle.smt_ext.specs.declared.datetime.stamp.Day.{Day}
 use Rattle.smt_ext.specs.declared.datetime.stamp.Clock.{Clock}

@@ -1,5 +1,5 @@
 -- Which refusal a text gets that is no duration. The parts are looked at from the right end.
-use Rattle.std.specs.Prelude.{◌≡◌, ℕ, ◌+◌, ◌*◌, ◌<◌, Bool, true, false, nat_lt, IsTrue, ◌⊎◌, codes, length, reverse, List, [], ◌∷◌, ◌++◌}
+use Rattle.std.specs.Prelude.{◌≡◌, ℕ, ◌+◌, ◌*◌, ◌<◌, Bool, false, nat_lt, IsTrue, ◌⊎◌, codes, length, reverse, List, [], ◌∷◌, ◌++◌}
 use Rattle.std.specs.List.{list_all}
 use Rattle.std.specs.Rc.{rc_str_bytes}
 use Rattle.smt_ext.specs.declared.datetime.error.DatetimeError.{DatetimeError}

@@ -5,6 +5,7 @@ pub mod Decimal
 pub mod Digits
 pub mod DurationRefusal
 pub mod DurationText
+pub mod Examples
 pub mod Extensions
 pub mod Front
 pub mod IpExamples

@@ -1,5 +1,5 @@
 -- Datetimes and durations as numbers of milliseconds.
-use Rattle.std.specs.Prelude.{ℤ, pos, ◌-ℤ◌}
+use Rattle.std.specs.Prelude.{◌≡◌, ℤ, pos, ◌+ℤ◌, ◌-ℤ◌, ◌*ℤ◌, ◌≤ℤ◌, ◌<ℤ◌}
 use Rattle.std.specs.Int.{int_rem_euclid}
 use Rattle.std.specs.Int.RustNames.{int_div}
 use Rattle.smt_ext.specs.declared.datetime.Datetime.{Datetime}
@@ -19,6 +19,13 @@ time_of_day v = int_rem_euclid v (pos 86400000)
 -- the last midnight: the greatest multiple of 86400000 that is not above
 abbrev pub day_start : ℤ → ℤ
 day_start v = v -ℤ time_of_day v
+
+-- The start is a multiple of 86400000, not above, and the next multiple is above.
+pub record IsLastMidnight (value start : ℤ) : Type 0 where
+  pub days : ℤ
+  pub multiple : start ≡ days *ℤ pos 86400000
+  pub not_above : start ≤ℤ value
+  pub next_above : value <ℤ (start +ℤ pos 86400000)
 
 -- whole seconds, minutes, hours and days, rounded towards zero
 abbrev pub whole_seconds : ℤ → ℤ

@@ -20,13 +20,20 @@ fn misshapen(alloc: Global, text: &str) -> Result<DatetimeError, AllocError> {
     Ok(DatetimeError::DatetimeParseError(Text::from_str(alloc, text)?))
 }
 
+// The text and the value of a line.
+fn row(line: &str) -> Result<(&str, i64), Fail> {
+    let (text, value) = line.split_once('|').ok_or("no value")?;
+    Ok((text, value.parse()?))
+}
+
 #[test]
 fn decimals_agree_with_outside_values(rt: HostRuntime) -> Result<(), Fail> {
-    for (text, value) in decimals::ACCEPTED.iter().copied() {
+    for line in decimals::ACCEPTED.lines() {
+        let (text, value) = row(line)?;
         let found = Decimal::parse(rt.alloc(), text);
         assert_eq!(rt; found, Ok(Decimal(value)), "{text}");
     }
-    for text in decimals::REFUSED.iter().copied() {
+    for text in decimals::REFUSED.lines() {
         let found = Decimal::parse(rt.alloc(), text);
         assert_eq!(rt; found, Err(no_decimal(rt.alloc(), text)?), "{text}");
     }
@@ -35,15 +42,16 @@ fn decimals_agree_with_outside_values(rt: HostRuntime) -> Result<(), Fail> {
 
 #[test]
 fn datetimes_agree_with_outside_values(rt: HostRuntime) -> Result<(), Fail> {
-    for (text, value) in datetimes::ACCEPTED.iter().copied() {
+    for line in datetimes::ACCEPTED.lines() {
+        let (text, value) = row(line)?;
         let found = Datetime::parse(rt.alloc(), text);
         assert_eq!(rt; found, Ok(Datetime::from(value)), "{text}");
     }
-    for text in datetimes::MISSHAPEN.iter().copied() {
+    for text in datetimes::MISSHAPEN.lines() {
         let found = Datetime::parse(rt.alloc(), text);
         assert_eq!(rt; found, Err(misshapen(rt.alloc(), text)?), "{text}");
     }
-    for text in datetimes::UNREAL.iter().copied() {
+    for text in datetimes::UNREAL.lines() {
         let found = Datetime::parse(rt.alloc(), text);
         assert_eq!(rt; found, Err(DatetimeError::ChronoParseError), "{text}");
     }
@@ -52,19 +60,20 @@ fn datetimes_agree_with_outside_values(rt: HostRuntime) -> Result<(), Fail> {
 
 #[test]
 fn durations_agree_with_outside_values(rt: HostRuntime) -> Result<(), Fail> {
-    for (text, value) in durations::ACCEPTED.iter().copied() {
+    for line in durations::ACCEPTED.lines() {
+        let (text, value) = row(line)?;
         let found = Duration::parse(rt.alloc(), text);
         assert_eq!(rt; found, Ok(Duration::from(value)), "{text}");
     }
-    for text in durations::MISSHAPEN.iter().copied() {
+    for text in durations::MISSHAPEN.lines() {
         let found = Duration::parse(rt.alloc(), text);
         assert_eq!(rt; found, Err(misshapen(rt.alloc(), text)?), "{text}");
     }
-    for text in durations::WITHOUT_DIGITS.iter().copied() {
+    for text in durations::WITHOUT_DIGITS.lines() {
         let found = Duration::parse(rt.alloc(), text);
         assert_eq!(rt; found, Err(DatetimeError::ParseIntError), "{text}");
     }
-    for text in durations::OUT_OF_RANGE.iter().copied() {
+    for text in durations::OUT_OF_RANGE.lines() {
         let found = Duration::parse(rt.alloc(), text);
         assert_eq!(rt;
             found,

@@ -1,4 +1,4 @@
-use Rattle.std.proofs.Common.{◌≡◌, ℕ, List, ◌∙◌, sym, subst, w64}
+use Rattle.std.proofs.Common.{ℕ, List, sym, subst, w64}
 use Rattle.std.proofs.lemmas.Int.{to_z-of_z}
 use Rattle.smt_ext.specs.declared.datetime.span.Fault.TheVariants.{Form, NoDigits, OutOfRange}
 use Rattle.smt_ext.specs.DurationText.{IsDurationText}

@@ -1,7 +1,6 @@
-use Rattle.std.proofs.Common.{◌≡◌, ℤ, pos, ap, sym, ◌∙◌, subst, w32, w64, FitsSigned, rules}
+use Rattle.std.proofs.Common.{◌≡◌, ℤ, pos, ap, ◌∙◌, w32, w64, FitsSigned, rules}
 use Rattle.std.specs.Prelude.{◌*ℤ◌, ◌+ℤ◌}
 use Rattle.std.proofs.lemmas.Int.{to_z-of_z}
-use Rattle.smt_ext.specs.DatetimeText.{clock_value}
 use Rattle.smt_ext.proofs.Datetimes.{product_fits, total_fits}
 use Rattle.smt_ext.proofs.datetime.moment.moment_of.Goals as goal
 

@@ -1,4 +1,4 @@
-use Rattle.std.proofs.Common.{◌≡◌, ℕ, ◌+◌, ◌*◌, ◌^◌, ◌≤◌, drop}
+use Rattle.std.proofs.Common.{ℕ, ◌+◌, ◌*◌, ◌^◌, ◌≤◌, drop}
 use Rattle.smt_ext.specs.declared.datetime.span.Fault.{Fault}
 use Rattle.smt_ext.specs.DurationRefusal.{IsFirstFault, HasSum, all_units}
 use Rattle.smt_ext.proofs.datetime.span.sum_of_parts.Given as goal

@@ -1,6 +1,5 @@
-use Rattle.std.proofs.Common.{◌≡◌, ℤ, sym, ◌∙◌, w64, FitsSigned}
+use Rattle.std.proofs.Common.{sym, ◌∙◌, w64, FitsSigned}
 use Rattle.std.proofs.lemmas.Int.{to_z-of_z}
-use Rattle.smt_ext.specs.Digits.{signed}
 use Rattle.smt_ext.proofs.Durations.{duration_is}
 use Rattle.smt_ext.proofs.datetime.span.value_of.Goals as goal
 

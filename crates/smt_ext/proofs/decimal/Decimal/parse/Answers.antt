@@ -1,4 +1,4 @@
-use Rattle.std.proofs.Common.{◌≡◌, ℕ, List, ◌∙◌, sym, subst, w64}
+use Rattle.std.proofs.Common.{ℕ, List, sym, subst, w64}
 use Rattle.std.proofs.lemmas.Int.{to_z-of_z}
 use Rattle.smt_ext.specs.Decimal.{IsDecimalText, IsNoDecimal}
 use Rattle.smt_ext.proofs.Decimals.{one_value, refusal_of}
