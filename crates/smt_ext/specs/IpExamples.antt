@@ -24,6 +24,7 @@ every_v4 = record { family = Version4; address = 0; prefix = Some 0 }
 abbrev pub sevens : Range
 sevens = record { family = Version6; address = 7 * 2 ^ 112 + 0x70 * 2 ^ 96 + 0x700 * 2 ^ 80 + 0x7000 * 2 ^ 64 + 0xa00; prefix = None }
 
+-- Which addresses lie in which ranges, and which texts write which ranges.
 pub record IpRows : Type 0 where
   pub free : free_bits ten_24 ≡ 8
   pub last : IsIn (10 * 2 ^ 24 + 255) ten_24

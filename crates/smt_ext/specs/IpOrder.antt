@@ -5,6 +5,7 @@ use Rattle.std.specs.declared.cmp.Ordering.{Ordering}
 use Rattle.std.specs.declared.cmp.Ordering.TheVariants.{Less, Equal, Greater}
 use Rattle.smt_ext.specs.IpRanges.{Family, Version4, Version6, Range}
 
+-- IPv4 before IPv6
 abbrev pub family_cmp : Family → Family → Ordering
 family_cmp Version4 Version4 = Equal
 family_cmp Version4 Version6 = Less

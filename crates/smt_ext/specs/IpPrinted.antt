@@ -7,6 +7,7 @@ use Rattle.smt_ext.specs.IpRanges.{Family, Version4, Version6, Range, prefix_bit
 abbrev pub byte_text : ℕ → ℕ → List ℕ
 byte_text address low = decimal (address / 2 ^ low % 256)
 
+-- four bytes joined by dots
 abbrev pub dotted_text : ℕ → List ℕ
 dotted_text address = byte_text address 24 ++ codes "." ++ byte_text address 16 ++ codes "." ++ byte_text address 8 ++ codes "." ++ byte_text address 0
 
@@ -26,6 +27,7 @@ colon_text address =
     ++ group_text (group_at address 48) ++ codes ":" ++ group_text (group_at address 32) ++ codes ":"
     ++ group_text (group_at address 16) ++ codes ":" ++ group_text (group_at address 0)
 
+-- the address as its family writes it
 abbrev pub address_text : Family → ℕ → List ℕ
 address_text Version4 address = dotted_text address
 address_text Version6 address = colon_text address

@@ -1,6 +1,7 @@
 -- IP ranges as sets of addresses. Addresses are whole numbers.
 use Rattle.std.specs.Prelude.{◌≡◌, ℕ, ◌-◌, ◌*◌, ◌/◌, ◌^◌, ◌<◌, ◌⊎◌, Option, Some, None, unwrap_or, ◌==◌, if◌then◌else◌}
 
+-- the two versions of the Internet Protocol
 pub data Family : Type 0 where
   Version4 : Family
   Version6 : Family

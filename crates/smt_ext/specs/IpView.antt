@@ -37,6 +37,7 @@ v4_prefix p = option_map number_of (v4_prefix_bits p)
 abbrev pub v6_prefix : IPv6Prefix → Option ℕ
 v6_prefix p = option_map number_of (v6_prefix_bits p)
 
+-- the range of an address and a prefix
 abbrev pub v4_range : CIDRv4 → Range
 v4_range c = record { family = Version4; address = number_of (v4_bits c.addr); prefix = v4_prefix c.prefix }
 
@@ -48,6 +49,7 @@ abbrev pub range_of : IPNet → Range
 range_of (V4 c) = v4_range c
 range_of (V6 c) = v6_range c
 
+-- its family
 abbrev pub family_of : IPNet → Family
 family_of net = (range_of net).family
 
