@@ -11,12 +11,12 @@ ghost use Rattle.smt_ext.specs.Milliseconds.{IsLastMidnight, day_start};
 ghost use Rattle.smt_ext.specs.Printed.{decimal_text};
 ghost use Rattle.smt_ext.specs.declared.datetime.span.Fault.{Fault};
 
+pub mod ip;
+
 /// Texts at the limits, and their values.
 pub fn worked_texts()
     ensures { WorkedTexts }
 {}
-
-pub mod ip;
 
 /// A text is the text of one decimal at most.
 pub fn decimal_texts_have_one_value()
