@@ -285,7 +285,7 @@ level_sample_is_script =
       assertions = All-from_recursion (λ e. sort_of level_state e ≡ Some bool_sort) (assertions_of level_state) (refl, (refl, tt));
     }
 
-asserted : (s : State) → run (Assert (name (codes "true")) ∷ Push ∷ Assert (name (codes "false")) ∷ Assert (name (codes "true")) ∷ []) start ≡ Some s
+asserted : (s : State) → run (Assert (name (codes "true")) ∷ Push ∷ Assert (name (codes "false")) ∷ Push ∷ Assert (name (codes "true")) ∷ []) start ≡ Some s
     → assertions_of s ≡ name (codes "true") ∷ name (codes "false") ∷ name (codes "true") ∷ []
 asserted s h = subst (λ (o : Option State). assertions_of (unwrap_or o start) ≡ name (codes "true") ∷ name (codes "false") ∷ name (codes "true") ∷ []) h refl
 

@@ -94,7 +94,7 @@ pub record CommandRows : Type 0 where
   pub exit : run (Exit ∷ Assert (name (codes "x")) ∷ []) start ≡ Some (record { last = empty_level; below = []; ended = true })
   pub reset : run (declare_x ∷ Push ∷ Assert (name (codes "x")) ∷ Reset ∷ []) start ≡ Some start
   -- assertions stand in the order of the script, over all levels
-  pub asserted : (s : State) → run (Assert (name (codes "true")) ∷ Push ∷ Assert (name (codes "false")) ∷ Assert (name (codes "true")) ∷ []) start ≡ Some s
+  pub asserted : (s : State) → run (Assert (name (codes "true")) ∷ Push ∷ Assert (name (codes "false")) ∷ Push ∷ Assert (name (codes "true")) ∷ []) start ≡ Some s
       → assertions_of s ≡ name (codes "true") ∷ name (codes "false") ∷ name (codes "true") ∷ []
 
 -- a built-in name or sort is declared
