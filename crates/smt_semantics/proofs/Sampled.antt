@@ -294,7 +294,7 @@ built_in_declared = (
   λ s h. none_is s ((lines_add [] (codes "(declare-const bvadd Bool)\n") _ start s tt nothing (declare_const_line (codes "bvadd") (codes "Bool") (name (codes "Bool")) refl (names_write (codes "Bool") refl))).1 h),
   λ s h. none_is s ((lines_add [] (codes "(declare-datatype String (\n  (a)))\n") _ start s tt nothing
       (datatype_line (codes "String") (record { text = codes "(a)"; built = record { name = codes "a"; selectors = [] } } ∷ []) refl (selectors_write (record { name = codes "a"; selectors = [] }) [] [] refl tt refl refl, tt))).1 h),
-  record { obeyed = refl; twice = refl; absent = refl; reserved = refl; widths = refl; exit = refl; reset = refl; asserted = λ s h. asserted s h },
+  record { obeyed = refl; twice = refl; absent = refl; reserved = refl; built_in = refl; built_in_sort = refl; widths = refl; exit = refl; reset = refl; asserted = λ s h. asserted s h },
 )
 
 pub operators_give : OperatorsGive

@@ -89,6 +89,9 @@ pub record CommandRows : Type 0 where
   pub reserved : map is_obeyed ((DeclareConst (codes ":x") bool_sort ∷ []) ∷ (DeclareConst (codes "_") bool_sort ∷ []) ∷ (DeclareConst (codes "as") bool_sort ∷ [])
       ∷ (option_command ∷ DeclareConst (codes "o") (name (codes "Option")) ∷ []) ∷ [])
       ≡ false ∷ false ∷ false ∷ false ∷ []
+  pub built_in : map (λ n. is_obeyed (DeclareConst n bool_sort ∷ [])) (codes "true" ∷ codes "false" ∷ codes "not" ∷ codes "and" ∷ codes "or" ∷ codes "=" ∷ codes "ite" ∷ codes "zero_extend" ∷ codes "bvsmulo" ∷ codes "str.in_re" ∷ codes "str.to_re" ∷ codes "re.++" ∷ codes "re.*" ∷ codes "re.allchar" ∷ codes "set.empty" ∷ codes "set.insert" ∷ codes "set.inter" ∷ [])
+      ≡ false ∷ false ∷ false ∷ false ∷ false ∷ false ∷ false ∷ false ∷ false ∷ false ∷ false ∷ false ∷ false ∷ false ∷ false ∷ false ∷ false ∷ []
+  pub built_in_sort : map (λ n. is_obeyed (DeclareDatatype n [] (record { name = codes "c"; selectors = [] } ∷ []) ∷ [])) (codes "Bool" ∷ codes "String" ∷ codes "Set" ∷ codes "BitVec" ∷ codes "d" ∷ []) ≡ false ∷ false ∷ false ∷ false ∷ true ∷ []
   pub widths : map (λ n. is_obeyed (of_width n)) (0 ∷ 1 ∷ 128 ∷ 129 ∷ []) ≡ false ∷ true ∷ true ∷ false ∷ []
   -- nothing behind `exit` is obeyed, and `reset` leaves nothing
   pub exit : run (Exit ∷ Assert (name (codes "x")) ∷ []) start ≡ Some (record { last = empty_level; below = []; ended = true })
@@ -190,7 +193,7 @@ truths_are bs = map (λ b. Some (TruthOf b)) bs
 abbrev pub a_table : Table
 a_table = record { pairs = (TruthOf true, BitsOf 8 1) ∷ (TruthOf true, BitsOf 8 2) ∷ []; default = BitsOf 8 3 }
 
-pub record ValueRows : Type 0 where
+pub record ScriptValueRows : Type 0 where
   pub negated : values (apply (codes "not") (t ∷ []) ∷ apply (codes "not") (f ∷ []) ∷ []) ≡ truths_are (false ∷ true ∷ [])
   pub both : values (truths (codes "and") t t ∷ truths (codes "and") t f ∷ truths (codes "and") f t ∷ truths (codes "and") f f ∷ []) ≡ truths_are (true ∷ false ∷ false ∷ false ∷ [])
   pub either : values (truths (codes "or") t t ∷ truths (codes "or") t f ∷ truths (codes "or") f t ∷ truths (codes "or") f f ∷ []) ≡ truths_are (true ∷ true ∷ true ∷ false ∷ [])
@@ -255,7 +258,7 @@ OperatorsGive = Gives (two (codes "bvadd") (codes "bv255") (codes "bv1")) (Some 
     × Yes (like [] (apply (codes "str.to_re") (Leaf (Text []) ∷ []))) × Yes (like (codes "a") (character 97)) × Yes (like [] wildcard)
     × Yes (apply (codes "set.subset") (empty_set ∷ apply (codes "set.insert") (name (codes "true") ∷ empty_set ∷ []) ∷ []))
     × Gives (apply (codes "set.insert") (name (codes "true") ∷ name (codes "false") ∷ name (codes "true") ∷ empty_set ∷ [])) (Some (SetOf (one_script_value (TruthOf false) (one_script_value (TruthOf true) no_script_values))))
-    × ValueRows × SortRows
+    × ScriptValueRows × SortRows
 
 -- ---- selectors on another constructor's values
 
