@@ -1,18 +1,21 @@
 -- A worked example: a Boolean variable b, and the condition that it is false.
 use Rattle.std.specs.Prelude.{◌≡◌, ◌↔◌, ℕ, codes, true, false, List, [], ◌∷◌, IsTrue}
-use Rattle.smt_term.specs.Plain.{BoolType}
+use Rattle.smt_term.specs.Plain.{BoolType, BoolLiteral, PlainTerm, LiteralTerm}
 use Rattle.smt_term.specs.Interpretations.{IsInterpretation}
 use Rattle.smt_term.specs.Tables.{Interpretation}
 use Rattle.smt_term.specs.Values.{BoolValue}
 use Rattle.smt_semantics.specs.ScriptValues.{TruthOf}
-use Rattle.smt_semantics.specs.Script.{name, is_in}
+use Rattle.smt_semantics.specs.Script.{start, name, is_in}
 use Rattle.smt_semantics.specs.Value.{ScriptInterpretation, IsScriptInterpretation, IsModel, free_names}
 use Rattle.smt_lines.specs.Naming.{HasDistinctNames}
 use Rattle.smt_lines.specs.Rows.{bool_variable, not_b, Negation}
 use Rattle.smt_lines.specs.Text.{names}
 use Rattle.smt_carrying.specs.Interpretations.{carry_interpretation, back_interpretation}
 use Rattle.smt_headline.specs.Conditions.{AreConditions}
-use Rattle.smt_headline.specs.Headline.{AreTexts, AreTrue, Headline}
+use Rattle.smt_headline.specs.Headline.{AreTexts, HaveTermValues, AreTrue, Headline}
+
+abbrev pub true_term : PlainTerm
+true_term = LiteralTerm (BoolLiteral true)
 
 pub record NegationIsItsScript : Type 0 where
   pub condition : AreConditions [] (not_b ∷ [])
@@ -33,3 +36,6 @@ pub record NegationIsItsScript : Type 0 where
   pub fewer : AreTexts (names [] (not_b ∷ [])) (not_b ∷ bool_variable (codes "b") ∷ []) (name (codes "t1") ∷ []) → ⊥
   -- Two keys with one name are not one to one.
   pub one_name : HasDistinctNames {K = ℕ} ((1, codes "t0") ∷ (2, codes "t0") ∷ []) → ⊥
+  -- An expression has a term's value where the two truths are one.
+  pub worth : (I : Interpretation) (J : ScriptInterpretation) → HaveTermValues I J start (true_term ∷ []) (name (codes "true") ∷ [])
+  pub other_worth : (I : Interpretation) (J : ScriptInterpretation) → HaveTermValues I J start (true_term ∷ []) (name (codes "false") ∷ []) → ⊥

@@ -85,6 +85,7 @@ pub record OperatorRows : Type 0 where
   pub equal : at_two bit_tests (byte 16) (byte 16) ≡ no ∷ yes ∷ no ∷ yes ∷ no ∷ no ∷ yes ∷ []
   pub least : at_two bit_tests (byte 128) (byte 2) ≡ no ∷ no ∷ yes ∷ yes ∷ no ∷ yes ∷ yes ∷ []
   pub least_less_one : at_two bit_tests (byte 128) (byte 255) ≡ yes ∷ yes ∷ yes ∷ yes ∷ yes ∷ no ∷ yes ∷ []
+  pub small : at_two bit_tests (byte 2) (byte 3) ≡ yes ∷ yes ∷ yes ∷ yes ∷ no ∷ no ∷ no ∷ []
   pub negations : at_each BvnegOp (byte 1 ∷ byte 128 ∷ []) ≡ byte 255 ∷ byte 128 ∷ []
   pub negations_overflow : at_each BvnegoOp (byte 127 ∷ byte 128 ∷ []) ≡ no ∷ yes ∷ []
   pub is_member : apply sevens SetMemberOp BoolType (byte 2 ∷ set_of (byte 1 ∷ byte 2 ∷ []) ∷ []) ≡ yes
