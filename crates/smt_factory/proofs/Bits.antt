@@ -12,7 +12,7 @@ use Rattle.smt_factory.specs.Applications.{truth_literal, bits_literal, bvneg_of
 use Rattle.smt_factory.specs.FoldBits.{folded_bvneg, folded_bits_where, folded_test, folded_bvnego, folded_zero_extend}
 use Rattle.smt_factory.specs.StandsFor.{StandsFor}
 use Rattle.smt_factory.proofs.Connectives.{chosen_type, argument, first_argument, second_argument}
-use Rattle.smt_bits.proofs.Least.{overflow_is}
+use Rattle.smt_factory.proofs.Least.{overflow_is}
 use Rattle.smt_factory.proofs.Standing.{SameMeaning, SameType, itself, one_of, standing, standing_within}
 use Rattle.smt_term.specs.Formed.{IsFormedType, IsFormedNode, IsFormed}
 use Rattle.smt_term.specs.Interpretations.{IsGiven}
