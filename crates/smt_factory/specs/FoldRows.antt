@@ -1,11 +1,14 @@
 -- Worked examples of folding.
 use Rattle.std.specs.Prelude.{◌≡◌, ℕ, Bool, true, false, List, [], ◌∷◌, map, codes}
-use Rattle.smt_factory.specs.Applications.{truth_literal, true_term, false_term, bits_literal, not_of, implies_of, and_of, or_of, eq_of, ite_of, bits_of_two, test_of_two, zero_extend_of}
+use Rattle.smt_factory.specs.Applications.{truth_literal, true_term, false_term, bits_literal, not_of, implies_of, and_of, or_of, eq_of, ite_of, any_of, bvneg_of, bits_of_two, test_of_two, bvnego_of, zero_extend_of}
 use Rattle.smt_factory.specs.FoldBits.{folded_bvneg, folded_bvnego, folded_zero_extend, folded_bvadd, folded_bvsub, folded_bvmul, folded_bvsdiv, folded_bvudiv, folded_bvsrem, folded_bvsmod, folded_bvurem, folded_bvshl, folded_bvlshr, folded_bvslt, folded_bvsle, folded_bvult, folded_bvule, folded_bvsaddo, folded_bvssubo, folded_bvsmulo}
 use Rattle.smt_factory.specs.FoldConnectives.{folded_not, are_opposites, folded_and, folded_or, folded_implies, folded_any}
 use Rattle.smt_factory.specs.FoldEquality.{folded_eq, folded_ite}
 use Rattle.smt_factory.specs.StandsFor.{StandsFor}
-use Rattle.smt_term.specs.Plain.{BitVecType, BoolType, BvaddOp, BvlshrOp, BvshlOp, BvultOp, PlainTerm, NoneTerm, SomeTerm, VariableTerm}
+use Rattle.smt_term.specs.Meaning.{term_value}
+use Rattle.smt_term.specs.Tables.{Interpretation}
+use Rattle.smt_term.specs.Values.{BoolValue, BitVecValue}
+use Rattle.smt_term.specs.Plain.{BitVecType, BoolType, BvaddOp, BvlshrOp, BvshlOp, BvsubOp, BvultOp, PlainTerm, NoneTerm, SomeTerm, VariableTerm}
 
 -- variables
 abbrev pub b : PlainTerm
@@ -34,6 +37,11 @@ abbrev pub truths : List Bool → List PlainTerm
 truths bs = map truth_literal bs
 
 pub record ConnectiveRows : Type 0 where
+  -- the applications themselves, by their values, which are false where a term is not typed
+  pub applied : (I : Interpretation) → map (term_value I) (not_of false_term ∷ and_of true_term false_term ∷ or_of true_term false_term ∷ implies_of true_term false_term ∷ implies_of false_term true_term ∷ eq_of (byte 1) (byte 1) ∷ any_of (false_term ∷ true_term ∷ []) ∷ [])
+      ≡ BoolValue true ∷ BoolValue false ∷ BoolValue true ∷ BoolValue false ∷ BoolValue true ∷ BoolValue true ∷ BoolValue true ∷ []
+  pub applied_bits : (I : Interpretation) → map (term_value I) (ite_of true_term (byte 1) (byte 2) ∷ ite_of false_term (byte 1) (byte 2) ∷ bvneg_of (byte 1) ∷ bits_of_two BvsubOp (byte 0) (byte 2) ∷ test_of_two BvultOp (byte 1) (byte 2) ∷ test_of_two BvultOp (byte 2) (byte 1) ∷ bvnego_of (byte 128) ∷ zero_extend_of 8 (byte 5) ∷ [])
+      ≡ BitVecValue 8 1 ∷ BitVecValue 8 2 ∷ BitVecValue 8 255 ∷ BitVecValue 8 254 ∷ BoolValue true ∷ BoolValue false ∷ BoolValue true ∷ BitVecValue 16 5 ∷ []
   pub double_negation : folded_not (folded_not b) ≡ b
   pub opposites : are_opposites b (not_of b) ≡ true
   pub opposites_turned : are_opposites (not_of b) b ≡ true
