@@ -1,16 +1,15 @@
 -- Foldings by what a call answers at two literals.
-use Rattle.std.proofs.Common.{◌≡◌, ℕ, ◌^◌, ◌<◌, Bool, true, false, ◌&&◌, cond, [], ◌∷◌, Option, Some, None, refl, ap, ◌∙◌, sym, subst, inl, inr, ⊎_elim}
-use Rattle.std.specs.Prelude.{◌==◌, ◌⊎◌, Result, Ok, Err}
+use Rattle.std.proofs.Common.{◌≡◌, ℕ, ◌^◌, ◌<◌, Bool, true, false, [], ◌∷◌, refl, ◌∙◌, sym, subst, inl, inr}
+use Rattle.std.specs.Prelude.{◌==◌, Result}
 use Rattle.std.specs.Bool.{then_some}
 use Rattle.std.specs.Cmp.{second_so}
 use Rattle.std.proofs.lemmas.Bool.{eqb-true, eq-eqb, false≢true}
 use Rattle.smt_bits.specs.BitVec.{number_of, width_of}
 use Rattle.smt_bits.specs.declared.bitvec.BitVec.{BitVec}
 use Rattle.smt_bits.specs.declared.error.BitVecError.{BitVecError}
-use Rattle.smt_factory.specs.Applications.{bits_literal, bits_of_two}
-use Rattle.smt_factory.specs.FoldBits.{folded_bits_where}
-use Rattle.smt_factory.specs.FoldBy.{literal_of, NotTwoLiterals, AnswersAt, RefusesAt, IsFoldedBy, IsValue, AnswersValues}
-use Rattle.smt_factory.specs.Parts.{bits_inside}
+use Rattle.smt_factory.specs.Applications.{bits_literal, bits_of_two, test_of_two}
+use Rattle.smt_factory.specs.FoldBits.{folded_test}
+use Rattle.smt_factory.specs.FoldBy.{literal_of, NotTwoLiterals, IsFoldedBy, IsValue, AnswersValues}
 use Rattle.smt_factory.specs.StandsFor.{StandsFor}
 use Rattle.smt_factory.proofs.BitsStand.{literal_standing, bits_formed, bits_answered}
 use Rattle.smt_factory.proofs.ConnectivesStand.{chosen_type}
@@ -19,7 +18,7 @@ use Rattle.smt_term.specs.Operators.{apply}
 use Rattle.smt_term.specs.Tables.{Interpretation}
 use Rattle.smt_term.specs.Types.{bits_and_bits, is_type, result_type, type_eq, typed}
 use Rattle.smt_term.proofs.TypeOrder.{eq_same}
-use Rattle.smt_term.specs.Plain.{PlainType, BitVecType, BoolType, PlainOp, BvaddOp, BvlshrOp, BvmulOp, BvsaddoOp, BvsdivOp, BvshlOp, BvsleOp, BvsltOp, BvsmodOp, BvsmuloOp, BvsremOp, BvssuboOp, BvsubOp, BvudivOp, BvuleOp, BvultOp, BvuremOp, EqOp, BitVecLiteral, PlainTerm, Application, LiteralTerm}
+use Rattle.smt_term.specs.Plain.{BitVecType, BoolType, PlainOp, BvaddOp, BvlshrOp, BvmulOp, BvsaddoOp, BvsdivOp, BvshlOp, BvsleOp, BvsltOp, BvsmodOp, BvsmuloOp, BvsremOp, BvssuboOp, BvsubOp, BvudivOp, BvuleOp, BvultOp, BvuremOp, EqOp, BitVecLiteral, PlainTerm, LiteralTerm}
 use Rattle.smt_term.specs.Values.{BitVecValue}
 
 -- ---- typed applications from bits to bits have arguments of one width
@@ -83,3 +82,11 @@ stands_by answers o t u r v (inl (c, a, e)) =
     let R : PlainTerm → Type 0 = λ x. StandsFor (literal_of c) (bits_of_two o (literal_of a.left) x) in
     subst P (sym e) (subst Q (sym a.first) (subst R (sym a.second) (value_stands o a.left a.right c (λ w. v a.left a.right c w a.gives))))
 stands_by answers o t u r v (inr (w, e)) = let P : PlainTerm → Type 0 = λ x. StandsFor x (bits_of_two o t u) in subst P (sym e) (itself (bits_of_two o t u))
+
+-- ---- a test at what is no two literals
+
+pub no_test : (o : PlainOp) (f : ℕ → ℕ → ℕ → Bool) (t u : PlainTerm) → NotTwoLiterals t u → folded_test o f t u ≡ test_of_two o t u
+no_test o f (LiteralTerm (BitVecLiteral n a)) (LiteralTerm (BitVecLiteral m b)) (inl e) = cc
+no_test o f (LiteralTerm (BitVecLiteral n a)) (LiteralTerm (BitVecLiteral m b)) (inr e) = cc
+no_test o f (LiteralTerm (BitVecLiteral n a)) u e = refl
+no_test o f t u e = refl

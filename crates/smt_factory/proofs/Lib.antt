@@ -5,6 +5,7 @@ pub mod ConnectivesStand
 pub mod EqualityStands
 pub mod Folding
 pub mod Least
+pub mod OutOfRange
 pub mod Reaching
 pub mod Records
 pub mod Standing

@@ -1,17 +1,21 @@
 //! Operators from bits to bits, of the theory FixedSizeBitVectors and the logic QF_BV.
 ghost use Rattle.std.specs.Fn.{FnReturnsAtPair};
-ghost use Rattle.std.specs.Prelude.{◌≡◌, Err, IfOk, MatchOption, Ok};
-ghost use Rattle.smt_factory.specs.Applications.{bits_of_two};
-ghost use Rattle.smt_factory.specs.FoldBits.{folded_bvadd, folded_bvlshr, folded_bvmul, folded_bvsdiv, folded_bvshl, folded_bvsmod, folded_bvsrem, folded_bvsub, folded_bvudiv, folded_bvurem};
-ghost use Rattle.smt_factory.specs.FoldBy.{AnswersAt, AnswersValues, IsFoldedBy, RefusesAt};
+ghost use Rattle.std.specs.Prelude.{◌≡◌, ◌+◌, ◌≤◌, IfOk, IfSome, MatchOption, None, Some};
+ghost use Rattle.smt_bits.specs.BitVec.{number_of, width_of};
+ghost use Rattle.smt_bits.specs.Width.{bits_in};
+ghost use Rattle.smt_factory.specs.Applications.{bits_of_two, bvneg_of, zero_extend_of};
+ghost use Rattle.smt_factory.specs.FoldBits.{folded_bvadd, folded_bvlshr, folded_bvmul, folded_bvneg, folded_bvsdiv, folded_bvshl, folded_bvsmod, folded_bvsrem, folded_bvsub, folded_bvudiv, folded_bvurem, folded_zero_extend};
+ghost use Rattle.smt_factory.specs.FoldBy.{AnswersValues, IsFoldedBy};
+ghost use Rattle.smt_factory.specs.Parts.{negated_bits};
 ghost use Rattle.smt_factory.specs.StandsFor.{StandsFor};
 ghost use Rattle.smt_term.specs.Plain.{BvaddOp, BvlshrOp, BvmulOp, BvsdivOp, BvshlOp, BvsmodOp, BvsremOp, BvsubOp, BvudivOp, BvuremOp};
+ghost use Rattle.smt_term.specs.Types.{type_of, width_in};
 ghost use Rattle.smt_term.specs.View.{plain_op, plain_term};
 
 use crate::application::application;
-use crate::parts::bits_inside;
-use smt_bits::{BitVec, BitVecError};
-use smt_term::{Op, Term, TermError};
+use crate::parts::{answer, bits_inside, only_one};
+use smt_bits::{BitVec, BitVecError, Width};
+use smt_term::{Op, Term, TermError, TermType};
 use std::alloc::Global;
 
 /// The application of an operator from bits to bits, where `f` answers its value.
@@ -34,33 +38,43 @@ where
     }
 }
 
-// What the call answers at the bits of two literals.
-fn answer<F>(f: &F, t1: &Term, t2: &Term) -> Option<BitVec>
-where
-    F: Fn(&BitVec, &BitVec) -> Result<BitVec, BitVecError>,
-    requires { F.IsAlwaysCallable f.now }
-    ensures { MatchOption result
-        (RefusesAt (FnReturnsAtPair F.Fn f.now) (plain_term t1.now) (plain_term t2.now))
-        (λ c. AnswersAt (FnReturnsAtPair F.Fn f.now) (plain_term t1.now) (plain_term t2.now) (Ok c)) }
-{
-    let Some(left) = bits_inside(t1) else {
-        return None;
-    };
-    let Some(right) = bits_inside(t2) else {
-        return None;
-    };
-    match f(&left, &right) {
-        Ok(bits) => Some(bits),
-        Err(_) => None,
-    }
-}
-
 // The application of an operator at two arguments, with the type of the first.
 fn of_two(alloc: Global, op: Op, t1: Term, t2: Term) -> Result<Term, TermError>
     ensures { IfOk result (λ r. plain_term r ≡ bits_of_two (plain_op op) (plain_term t1) (plain_term t2)) }
 {
     let ty = t1.type_of(alloc)?;
     application(alloc, op, &[t1, t2], ty)
+}
+
+/// The negation. Of a literal it is a literal, and of a negation what that is of.
+///
+/// # Errors
+/// `Memory`, where there is none for the term.
+pub fn bvneg(alloc: Global, t: Term) -> Result<Term, TermError>
+    ensures folded { IfOk result (λ r. plain_term r ≡ folded_bvneg (plain_term t)) }
+    ensures stands { IfOk result (λ r. StandsFor (plain_term r) (bvneg_of (plain_term t))) }
+{
+    if let Some(bits) = bits_inside(&t) {
+        return Ok(Term::from(bits.neg()));
+    }
+    if let Some(operand) = negated_bits(&t) {
+        return Ok(operand.share()?);
+    }
+    let ty = t.type_of(alloc)?;
+    application(alloc, Op::Bvneg, &[t], ty)
+}
+
+// What a negation of bits is of.
+fn negated_bits(t: &Term) -> Option<&Term>
+    ensures { MatchOption result (negated_bits (plain_term t.now) ≡ None) (λ u. negated_bits (plain_term t.now) ≡ Some (plain_term u.now)) }
+{
+    match t {
+        Term::App { op, args, .. } => match op {
+            Op::Bvneg => only_one(args),
+            _ => None,
+        },
+        Term::Prim(_) | Term::Var(_) => None,
+    }
 }
 
 /// The sum.
@@ -171,4 +185,45 @@ pub fn bvlshr(alloc: Global, t1: Term, t2: Term) -> Result<Term, TermError>
     ensures stands { IfOk result (λ r. StandsFor (plain_term r) (bits_of_two BvlshrOp (plain_term t1) (plain_term t2))) }
 {
     bvapp(alloc, Op::Bvlshr, &BitVec::lshr, t1, t2)
+}
+
+/// The same number with `n` bits more. What is no bitvector stays as it is.
+///
+/// # Errors
+/// `Memory`, where there is none for the term.
+pub fn zero_extend(alloc: Global, n: u32, t: Term) -> Result<Term, TermError>
+    requires { IfSome (width_in (type_of (plain_term t))) (λ width. width + n ≤ 128) }
+    ensures folded { IfOk result (λ r. plain_term r ≡ folded_zero_extend n (plain_term t)) }
+    ensures stands { IfOk result (λ r. StandsFor (plain_term r) (zero_extend_of n (plain_term t))) }
+{
+    if let Some(bits) = bits_inside(&t) {
+        return Ok(Term::from(extended(&bits, n)));
+    }
+    match t.type_of(alloc)? {
+        TermType::Bitvec { n: width } => {
+            let ty = TermType::Bitvec { n: wider(width, n) };
+            application(alloc, Op::ZeroExtend(n), &[t], ty)
+        }
+        TermType::Bool => Ok(t),
+    }
+}
+
+// The same number with as many bits more.
+fn extended(bits: &BitVec, more: u32) -> BitVec
+    requires { width_of bits.now + more ≤ 128 }
+    ensures width { width_of result ≡ width_of bits.now + more }
+    ensures value { number_of result ≡ number_of bits.now }
+{
+    BitVec::zero_extend(bits, wider(bits.width(), more))
+}
+
+// The width of as many bits more.
+fn wider(width: Width, more: u32) -> Width
+    requires { bits_in width + more ≤ 128 }
+    ensures { bits_in result ≡ bits_in width + more }
+{
+    match Width::new(width.get() + more) {
+        Some(sum) => sum,
+        None => width,
+    }
 }

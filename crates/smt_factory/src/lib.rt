@@ -7,11 +7,18 @@
 
 mod application;
 mod bits;
+mod comparisons;
 mod connectives;
 mod equality;
 pub mod laws;
+mod overflows;
 mod parts;
 
-pub use bits::{bvadd, bvapp, bvlshr, bvmul, bvsdiv, bvshl, bvsmod, bvsrem, bvsub, bvudiv, bvurem};
+pub use bits::{
+    bvadd, bvapp, bvlshr, bvmul, bvneg, bvsdiv, bvshl, bvsmod, bvsrem, bvsub, bvudiv, bvurem,
+    zero_extend,
+};
+pub use comparisons::{bvsle, bvslt, bvule, bvult};
 pub use connectives::{and, implies, not, opposites, or};
 pub use equality::{eq, ite};
+pub use overflows::{bvnego, bvsaddo, bvsmulo, bvso, bvssubo};

@@ -1,12 +1,13 @@
 //! What the foldings look for in a term.
-ghost use Rattle.std.specs.Prelude.{◌≡◌, MatchOption, None, Some};
+ghost use Rattle.std.specs.Fn.{FnReturnsAtPair};
+ghost use Rattle.std.specs.Prelude.{◌≡◌, MatchOption, None, Ok, Some};
 ghost use Rattle.smt_bits.specs.BitVec.{number_of, width_of};
-ghost use Rattle.smt_factory.specs.FoldBy.{literal_of};
+ghost use Rattle.smt_factory.specs.FoldBy.{AnswersAt, RefusesAt, literal_of};
 ghost use Rattle.smt_factory.specs.Parts.{bits_inside, only_one};
 ghost use Rattle.smt_term.specs.Plain.{BitVecLiteral, LiteralTerm};
 ghost use Rattle.smt_term.specs.View.{plain_items, plain_literal, plain_term};
 
-use smt_bits::BitVec;
+use smt_bits::{BitVec, BitVecError};
 use smt_term::{Term, TermList, TermPrim};
 
 // The one term of a list that has one.
@@ -37,5 +38,26 @@ fn literal_bits(literal: &TermPrim) -> Option<BitVec>
     match literal {
         TermPrim::Bitvec(bits) => Some(*bits),
         TermPrim::Bool(_) => None,
+    }
+}
+
+// What the call answers at the bits of two literals.
+pub(crate) fn answer<F, X>(f: &F, t1: &Term, t2: &Term) -> Option<X>
+where
+    F: Fn(&BitVec, &BitVec) -> Result<X, BitVecError>,
+    requires { F.IsAlwaysCallable f.now }
+    ensures { MatchOption result
+        (RefusesAt (FnReturnsAtPair F.Fn f.now) (plain_term t1.now) (plain_term t2.now))
+        (λ c. AnswersAt (FnReturnsAtPair F.Fn f.now) (plain_term t1.now) (plain_term t2.now) (Ok c)) }
+{
+    let Some(left) = bits_inside(t1) else {
+        return None;
+    };
+    let Some(right) = bits_inside(t2) else {
+        return None;
+    };
+    match f(&left, &right) {
+        Ok(bits) => Some(bits),
+        Err(_) => None,
     }
 }

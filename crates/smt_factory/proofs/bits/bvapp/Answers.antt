@@ -1,4 +1,4 @@
-use Rattle.std.proofs.Common.{inl, inr}
+use Rattle.std.proofs.Common.{inl}
 use Rattle.smt_factory.proofs.Answers.{stands_by}
 use Rattle.smt_factory.proofs.bits.bvapp.Goals as goal
 

@@ -1,6 +1,6 @@
-use Rattle.std.proofs.Common.{◌≡◌, ap, ◌∙◌, sym, inl, inr}
+use Rattle.std.proofs.Common.{inl}
 use Rattle.std.proofs.lemmas.Fn.{says_at_two}
-use Rattle.smt_factory.proofs.bits.answer.Goals as goal
+use Rattle.smt_factory.proofs.parts.answer.Goals as goal
 
 pub returns-in-Ok : goal.returns-in-Ok
 returns-in-Ok g c = record { left = c.in-Some.left; right = c.in-Some-bits_inside.right; first = c.in-Some.ensures; second = c.in-Some-bits_inside.ensures; gives = says_at_two g.F.Fn c.f.ensures c.in-Ok.is }
