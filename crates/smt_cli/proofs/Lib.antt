@@ -1,4 +1,5 @@
 pub mod Declarations
+pub mod Forms
 pub mod Giving
 pub mod ReadsLemmas
 pub mod Running

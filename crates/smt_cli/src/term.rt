@@ -1,13 +1,14 @@
 // Terms as jobs write them, and as they are built: each application is folded, its operands first.
-ghost use Rattle.std.specs.Prelude.{◌≡◌, List, Some, IfOk, map, option_map};
+ghost use Rattle.std.specs.Prelude.{◌≡◌, ◌≤◌, ◌+◌, List, IfOk, OnOk, length, map, option_map};
 ghost use Rattle.std.specs.Rc.{rc_str_bytes};
 ghost use Rattle.smt_factory.specs.Built.{built};
 ghost use Rattle.smt_sexpr.specs.View.{plain};
 ghost use Rattle.smt_term.specs.Plain.{PlainTerm};
 ghost use Rattle.smt_term.specs.View.{plain_items, plain_op, plain_term};
-ghost use Rattle.smt_cli.specs.Job.{Variables, applied, bits_literal, bits_stated, condition_of, conditions_of, declared_variable, extension_by, literal_of, long_in, long_stated, term_of};
+ghost use Rattle.smt_cli.specs.Job as job;
+ghost use Rattle.smt_cli.specs.Job.{Variables, applied, bits_literal, bits_stated, condition_of, conditions_of, declared_variable, extension_by, extension_stated, literal_of, long_in, long_of_text, long_stated, term_of, variable_stated};
 ghost use Rattle.smt_cli.specs.JobView as view;
-ghost use Rattle.smt_cli.specs.JobView.{AreBuilt, Declares, Gives, States};
+ghost use Rattle.smt_cli.specs.JobView.{AreBuilt, Declares, Gives, States, StatesHeaded, first_of};
 
 use crate::declaration::Declared;
 use crate::expression::{name_in, number_in, sole, text_in};
@@ -79,7 +80,7 @@ fn long_in(text: &str) -> Option<i64>
 
 /// The literal of 64 bits that an expression states.
 fn long_from(expression: &SExpr) -> Option<Term>
-    ensures { option_map plain_term result ≡ long_stated (plain expression.now) }
+    ensures { option_map plain_term result ≡ long_of_text (plain expression.now) }
 {
     Some(Term::from(long_in(text_in(expression)?.as_str())?))
 }
@@ -101,34 +102,97 @@ enum Form {
     Applied { op: Op, first: usize },
 }
 
+/// The variable that stands behind `var`.
+fn variable_form(declared: &Declared, operands: &[SExpr]) -> Result<Term, JobError>
+    ensures { (vs : Variables) → Declares declared.now vs → Gives plain_term result (option_map built (variable_stated vs (view.listed operands.now))) }
+{
+    match sole(operands) {
+        Some(id) => variable_from(declared, id),
+        None => Err(JobError::BadForm),
+    }
+}
+
+/// The literal that stands behind `bv`.
+fn bits_form(operands: &[SExpr]) -> Result<Term, JobError>
+    ensures { Gives plain_term result (option_map built (bits_stated (view.listed operands.now))) }
+{
+    match bits_from(operands) {
+        Some(literal) => Ok(literal),
+        None => Err(JobError::BadForm),
+    }
+}
+
+/// The literal that stands behind `long`.
+fn long_form(operands: &[SExpr]) -> Result<Term, JobError>
+    ensures { Gives plain_term result (option_map built (long_stated (view.listed operands.now))) }
+{
+    match sole(operands) {
+        Some(text) => match long_from(text) {
+            Some(literal) => Ok(literal),
+            None => Err(JobError::BadForm),
+        },
+        None => Err(JobError::BadForm),
+    }
+}
+
+/// The operator of `zero_extend`, by the number that stands first behind it.
+fn extension_form(operands: &[SExpr]) -> Result<Op, JobError>
+    ensures stated { Gives plain_op result (extension_stated (view.listed operands.now)) }
+    ensures first { OnOk result (1 ≤ length operands.now) }
+{
+    let Some(bits) = operands.first() else {
+        return Err(JobError::BadForm);
+    };
+    let Some(bits) = number_in(bits) else {
+        return Err(JobError::BadForm);
+    };
+    match extension_by(bits) {
+        Some(op) => Ok(op),
+        None => Err(JobError::BadForm),
+    }
+}
+
+/// The operator of another name.
+fn operator_form(name: &str) -> Result<Op, JobError>
+    ensures { Gives plain_op result (job.operator_named name.now) }
+{
+    match operator_named(name) {
+        Some(op) => Ok(op),
+        None => Err(JobError::BadForm),
+    }
+}
+
+/// The form of a head and what stands behind it.
+fn headed_form(declared: &Declared, head: &str, operands: &[SExpr]) -> Result<Form, JobError>
+    ensures stated { (vs : Variables) → Declares declared.now vs → StatesHeaded vs head.now operands.now result }
+    ensures within { IfOk result (λ form. first_of form ≤ 1 + length operands.now) }
+{
+    match head {
+        "var" => Ok(Form::Whole(variable_form(declared, operands)?)),
+        "bv" => Ok(Form::Whole(bits_form(operands)?)),
+        "long" => Ok(Form::Whole(long_form(operands)?)),
+        "zero_extend" => Ok(Form::Applied {
+            op: extension_form(operands)?,
+            first: 2,
+        }),
+        name => Ok(Form::Applied {
+            op: operator_form(name)?,
+            first: 1,
+        }),
+    }
+}
+
 /// The form that brackets with these expressions inside have.
 fn form_from(declared: &Declared, items: &[SExpr]) -> Result<Form, JobError>
-    ensures { (vs : Variables) → Declares declared.now vs → States vs items.now result }
+    ensures stated { (vs : Variables) → Declares declared.now vs → States vs items.now result }
+    ensures within { IfOk result (λ form. first_of form ≤ length items.now) }
 {
     let Some((head, operands)) = items.split_first() else {
         return Err(JobError::BadForm);
     };
-    let head = name_in(head).ok_or(JobError::BadForm)?;
-    match head.as_str() {
-        "var" => {
-            let id = sole(operands).ok_or(JobError::BadForm)?;
-            Ok(Form::Whole(variable_from(declared, id)?))
-        }
-        "bv" => Ok(Form::Whole(bits_from(operands).ok_or(JobError::BadForm)?)),
-        "long" => {
-            let text = sole(operands).ok_or(JobError::BadForm)?;
-            Ok(Form::Whole(long_from(text).ok_or(JobError::BadForm)?))
-        }
-        "zero_extend" => {
-            let bits = operands.first().ok_or(JobError::BadForm)?;
-            let bits = number_in(bits).ok_or(JobError::BadForm)?;
-            let op = extension_by(bits).ok_or(JobError::BadForm)?;
-            Ok(Form::Applied { op, first: 2 })
-        }
-        name => {
-            let op = operator_named(name).ok_or(JobError::BadForm)?;
-            Ok(Form::Applied { op, first: 1 })
-        }
+    match name_in(head) {
+        Some(head) => headed_form(declared, head.as_str(), operands),
+        None => Err(JobError::BadForm),
     }
 }
 
@@ -136,7 +200,10 @@ fn form_from(declared: &Declared, items: &[SExpr]) -> Result<Form, JobError>
 fn application_from(alloc: Global, op: &Op, operands: &[Term]) -> Result<Term, JobError>
     ensures { (written : List PlainTerm) → AreBuilt written operands.now → Gives plain_term result (option_map built (applied (plain_op op.now) written)) }
 {
-    built_from(alloc, op, operands)?.ok_or(JobError::BadForm)
+    match built_from(alloc, op, operands)? {
+        Some(term) => Ok(term),
+        None => Err(JobError::BadForm),
+    }
 }
 
 /// The term that an expression states, as it is built.
@@ -151,8 +218,9 @@ fn term_from(alloc: Global, declared: &Declared, expression: &SExpr) -> Result<T
     match form_from(declared, items)? {
         Form::Whole(term) => Ok(term),
         Form::Applied { op, first } => {
+            let others = &items[first..];
             let mut operands = Vec::new(alloc);
-            for item in &items[first..] {
+            for item in others {
                 operands.push(term_from(alloc, declared, item)?)?;
             }
             application_from(alloc, &op, operands.as_slice())
@@ -165,10 +233,9 @@ fn condition_from(alloc: Global, declared: &Declared, expression: &SExpr) -> Res
     ensures { (vs : Variables) → Declares declared.now vs → Gives plain_term result (option_map built (condition_of vs (plain expression.now))) }
 {
     let term = term_from(alloc, declared, expression)?;
-    if term.type_of(alloc)? == TermType::Bool {
-        Ok(term)
-    } else {
-        Err(JobError::BadForm)
+    match term.type_of(alloc)? {
+        TermType::Bool => Ok(term),
+        TermType::Bitvec { .. } => Err(JobError::BadForm),
     }
 }
 

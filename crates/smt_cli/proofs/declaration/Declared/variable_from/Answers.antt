@@ -3,8 +3,8 @@ use Rattle.std.specs.Rc.{rc_str_bytes}
 use Rattle.smt_term.specs.View.{plain_type}
 use Rattle.smt_cli.specs.Job.{unless_declared}
 use Rattle.smt_cli.proofs.Shapes.{bracketed, pair, variable_few, variable_many, no_id, no_type, is_variable}
-use Rattle.smt_cli.proofs.job.Declared.variable_from.Goals as goal
-use Rattle.smt_cli.proofs.job.Declared.variable_from.Goals.{in_default-via-then-items-lt2, in_default-via-else-items-lt2+else-this-lt3}
+use Rattle.smt_cli.proofs.declaration.Declared.variable_from.Goals as goal
+use Rattle.smt_cli.proofs.declaration.Declared.variable_from.Goals.{in_default-via-then-items-lt2, in_default-via-else-items-lt2+else-this-lt3}
 
 pub returns-in_default-clause-stated : goal.returns-in_default-clause-stated
 returns-in_default-clause-stated c vs has =

@@ -3,7 +3,7 @@ use Rattle.std.specs.Prelude.{if◌then◌else◌}
 use Rattle.smt_sexpr.specs.Reading.{Nil}
 use Rattle.smt_cli.specs.Job.{nothing_in, ◌>>=◌}
 use Rattle.smt_cli.proofs.Shapes.{nothing_listed}
-use Rattle.smt_cli.proofs.job.is_empty_section.Goals as goal
+use Rattle.smt_cli.proofs.expression.is_empty_section.Goals as goal
 
 pub returns-in-Some : goal.returns-in-Some
 returns-in-Some c =

@@ -3,7 +3,7 @@ use Rattle.std.proofs.lemmas.Map.Text.{is_eq-slice_cmp}
 use Rattle.std.specs.Rc.{rc_str_bytes}
 use Rattle.smt_term.specs.View.{plain_type}
 use Rattle.smt_cli.proofs.Declarations.{typed_after}
-use Rattle.smt_cli.proofs.job.Declared.enter.Goals as goal
+use Rattle.smt_cli.proofs.declaration.Declared.enter.Goals as goal
 
 pub returns-clause-entered : goal.returns-clause-entered
 returns-clause-entered c vs has absent = record {

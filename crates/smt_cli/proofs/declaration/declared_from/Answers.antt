@@ -1,7 +1,7 @@
 use Rattle.smt_cli.specs.JobView.{declarations}
-use Rattle.smt_cli.specs.declared.job.Declared.{Declared}
+use Rattle.smt_cli.specs.declared.declaration.Declared.{Declared}
 use Rattle.smt_cli.proofs.Giving.{next_declared, not_declared}
-use Rattle.smt_cli.proofs.job.declared_from.Goals as goal
+use Rattle.smt_cli.proofs.declaration.declared_from.Goals as goal
 
 pub loop-declaration-preserved : goal.loop-declaration-preserved
 loop-declaration-preserved c = next_declared _ _ _ c.declaration-item.result c.loop-declaration.invariant c.loop-declaration-test.true c.declaration-item.is _ (c.in_ok-declare.ensures _ c.loop-declaration.invariant.declares)

@@ -1,6 +1,6 @@
 use Rattle.std.proofs.Common.{bytes_eq, ap, ◌∙◌}
 use Rattle.smt_cli.proofs.Shapes.{bracketed, section_is, section_none}
-use Rattle.smt_cli.proofs.job.section.Goals as goal
+use Rattle.smt_cli.proofs.expression.section.Goals as goal
 
 pub returns-in_err-first : goal.returns-in_err-first
 returns-in_err-first c =

@@ -2,7 +2,7 @@ use Rattle.std.proofs.Common.{sym}
 use Rattle.std.specs.Rc.{rc_str_bytes}
 use Rattle.smt_term.specs.View.{plain_type}
 use Rattle.smt_cli.proofs.Declarations.{declares_next}
-use Rattle.smt_cli.proofs.job.Declared.declare.Goals as goal
+use Rattle.smt_cli.proofs.declaration.Declared.declare.Goals as goal
 
 pub returns-in-Some : goal.returns-in-Some
 returns-in-Some c vs has =
