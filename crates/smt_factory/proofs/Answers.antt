@@ -1,5 +1,5 @@
 -- Foldings by what a call answers at two literals.
-use Rattle.std.proofs.Common.{◌≡◌, ℕ, ◌^◌, ◌<◌, Bool, true, false, [], ◌∷◌, refl, ◌∙◌, sym, subst, inl, inr}
+use Rattle.std.proofs.Common.{◌≡◌, ℕ, ◌^◌, ◌<◌, ◌≤◌, Bool, true, false, [], ◌∷◌, refl, ◌∙◌, sym, subst, inl, inr, arith}
 use Rattle.std.specs.Prelude.{◌==◌, Result}
 use Rattle.std.specs.Bool.{then_some}
 use Rattle.std.specs.Cmp.{second_so}
@@ -9,17 +9,17 @@ use Rattle.smt_bits.specs.declared.bitvec.BitVec.{BitVec}
 use Rattle.smt_bits.specs.declared.error.BitVecError.{BitVecError}
 use Rattle.smt_factory.specs.Applications.{bits_literal, bits_of_two, test_of_two}
 use Rattle.smt_factory.specs.FoldBits.{folded_test}
-use Rattle.smt_factory.specs.FoldBy.{literal_of, NotTwoLiterals, IsFoldedBy, IsValue, AnswersValues}
+use Rattle.smt_factory.specs.FoldBy.{literal_of, NotTwoLiterals, IsFoldedBy, IsValue, AnswersValues, value_at}
 use Rattle.smt_factory.specs.StandsFor.{StandsFor}
 use Rattle.smt_factory.proofs.BitsStand.{literal_standing, bits_formed, bits_answered}
 use Rattle.smt_factory.proofs.ConnectivesStand.{chosen_type}
 use Rattle.smt_factory.proofs.Standing.{itself}
-use Rattle.smt_term.specs.Operators.{apply}
+use Rattle.smt_term.specs.Operators.{apply, number, width}
 use Rattle.smt_term.specs.Tables.{Interpretation}
 use Rattle.smt_term.specs.Types.{bits_and_bits, is_type, result_type, type_eq, typed}
 use Rattle.smt_term.proofs.TypeOrder.{eq_same}
 use Rattle.smt_term.specs.Plain.{BitVecType, BoolType, PlainOp, BvaddOp, BvlshrOp, BvmulOp, BvsaddoOp, BvsdivOp, BvshlOp, BvsleOp, BvsltOp, BvsmodOp, BvsmuloOp, BvsremOp, BvssuboOp, BvsubOp, BvudivOp, BvuleOp, BvultOp, BvuremOp, EqOp, BitVecLiteral, PlainTerm, LiteralTerm}
-use Rattle.smt_term.specs.Values.{BitVecValue}
+use Rattle.smt_term.specs.Values.{Value, BitVecValue}
 
 -- ---- typed applications from bits to bits have arguments of one width
 
@@ -52,11 +52,16 @@ widths_agree o n m h = cc
 
 -- ---- an answer in place of an application
 
-at_one_width : (o : PlainOp) (n a m b k c : ℕ) → n ≡ m → k ≡ n → c < 2 ^ k → ((I : Interpretation) → apply I o (BitVecType n) (BitVecValue n a ∷ BitVecValue n b ∷ []) ≡ BitVecValue n c) → StandsFor (bits_literal k c) (bits_of_two o (bits_literal n a) (bits_literal m b))
+bits_value : (v : Value) (n c : ℕ) → 1 ≤ n → width v ≡ n → number v ≡ c → v ≡ BitVecValue n c
+bits_value (BitVecValue m b) n c l e d = cc
+bits_value v n c l e d = absurd (omega arith)
+
+at_one_width : (o : PlainOp) (n a m b k c : ℕ) → n ≡ m → k ≡ n → c < 2 ^ k → ((I : Interpretation) → apply I o (BitVecType n) (BitVecValue n a ∷ BitVecValue m b ∷ []) ≡ BitVecValue n c) → StandsFor (bits_literal k c) (bits_of_two o (bits_literal n a) (bits_literal m b))
 at_one_width o n a m b k c e d l v =
     let P : ℕ → Type 0 = λ x. StandsFor (bits_literal x c) (bits_of_two o (bits_literal n a) (bits_literal m b)) in
     let Q : ℕ → Type 0 = λ x. StandsFor (bits_literal n c) (bits_of_two o (bits_literal n a) (bits_literal x b)) in
-    subst P (sym d) (subst Q e (bits_answered o n a b c (subst (λ (x : ℕ). c < 2 ^ x) d l) v))
+    let V : ℕ → Type 0 = λ x. (I : Interpretation) → apply I o (BitVecType n) (BitVecValue n a ∷ BitVecValue x b ∷ []) ≡ BitVecValue n c in
+    subst P (sym d) (subst Q e (bits_answered o n a b c (subst (λ (x : ℕ). c < 2 ^ x) d l) (subst V (sym e) v)))
 
 value_stands : (o : PlainOp) (a b c : BitVec) → (width_of a ≡ width_of b → IsValue o a b c) → StandsFor (literal_of c) (bits_of_two o (literal_of a) (literal_of b))
 value_stands o a b c v = by (width_of a == width_of b) refl
@@ -70,7 +75,7 @@ value_stands o a b c v = by (width_of a == width_of b) refl
         false≢true (sym e ∙ eq-eqb (width_of a) (width_of b) w)
 
     by : (x : Bool) → (width_of a == width_of b) ≡ x → StandsFor (literal_of c) (bits_of_two o (literal_of a) (literal_of b))
-    by true e = let w = eqb-true (width_of a) (width_of b) e in at_one_width o (width_of a) (number_of a) (width_of b) (number_of b) (width_of c) (number_of c) w (v w).width c.below_width (v w).value
+    by true e = let w = eqb-true (width_of a) (width_of b) e in at_one_width o (width_of a) (number_of a) (width_of b) (number_of b) (width_of c) (number_of c) w (v w).same_width c.below_width (λ I. bits_value (value_at I o a b) (width_of a) (number_of c) a.width.at_least_one ((v w).value_width I) ((v w).value_number I))
     by false e =
         literal_standing (BitVecLiteral (width_of c) (number_of c)) u (λ f. bits_formed (width_of c) (number_of c) c.below_width ((c.width.at_least_one, c.width.at_most_128), tt))
         (λ h. absurd (never e h)) (λ enums I h f g. absurd (never e h))

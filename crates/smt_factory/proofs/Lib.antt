@@ -1,4 +1,5 @@
 pub mod Answers
+pub mod AnyAnswers
 pub mod BitsStand
 pub mod BuiltTerms
 pub mod ConnectivesStand

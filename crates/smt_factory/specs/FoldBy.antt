@@ -6,10 +6,10 @@ use Rattle.smt_bits.specs.declared.bitvec.BitVec.{BitVec}
 use Rattle.smt_bits.specs.declared.error.BitVecError.{BitVecError}
 use Rattle.smt_factory.specs.Applications.{truth_literal, bits_literal, bits_of_two, test_of_two}
 use Rattle.smt_factory.specs.Parts.{bits_inside}
-use Rattle.smt_term.specs.Operators.{apply}
+use Rattle.smt_term.specs.Operators.{apply, number, width}
 use Rattle.smt_term.specs.Tables.{Interpretation}
 use Rattle.smt_term.specs.Plain.{BitVecType, BoolType, PlainOp, PlainTerm}
-use Rattle.smt_term.specs.Values.{BoolValue, BitVecValue}
+use Rattle.smt_term.specs.Values.{Value, BoolValue, BitVecValue}
 
 -- the literal with a bitvector's width and number
 abbrev pub literal_of : BitVec → PlainTerm
@@ -40,10 +40,15 @@ abbrev pub IsFoldedBy : (BitVec → BitVec → Result BitVec BitVecError → Typ
 IsFoldedBy answers o t u r =
     ((c : BitVec) × AnswersAt answers t u (Ok c) × (r ≡ literal_of c)) ⊎ (RefusesAt answers t u × (r ≡ bits_of_two o t u))
 
--- c is the operator's value at a and b, which have one width
+-- the operator at two bitvectors
+abbrev pub value_at : Interpretation → PlainOp → BitVec → BitVec → Value
+value_at I o a b = apply I o (BitVecType (width_of a)) (BitVecValue (width_of a) (number_of a) ∷ BitVecValue (width_of b) (number_of b) ∷ [])
+
+-- c is the operator's value at a and b, with the width of a: its width and its number are those of the value
 pub record IsValue (o : PlainOp) (a b c : BitVec) : Type 0 where
-  pub width : width_of c ≡ width_of a
-  pub value : (I : Interpretation) → apply I o (BitVecType (width_of a)) (BitVecValue (width_of a) (number_of a) ∷ BitVecValue (width_of a) (number_of b) ∷ []) ≡ BitVecValue (width_of a) (number_of c)
+  pub same_width : width_of c ≡ width_of a
+  pub value_width : (I : Interpretation) → width (value_at I o a b) ≡ width_of a
+  pub value_number : (I : Interpretation) → number (value_at I o a b) ≡ number_of c
 
 -- on equal widths the call refuses or answers the operator's value
 abbrev pub AnswersValues : (BitVec → BitVec → Result BitVec BitVecError → Type 0) → PlainOp → Type 0

@@ -1,3 +1,4 @@
+pub mod AnyOf
 pub mod Applications
 pub mod Built
 pub mod FoldBits

@@ -5,6 +5,7 @@
 //! that the result may take the application's place by one word, `StandsFor` of `specs/StandsFor.antt`.
 #![tactic(auto, using(crate::proofs::Folding::folding))]
 
+mod any;
 mod application;
 mod bits;
 mod comparisons;
@@ -13,7 +14,9 @@ mod equality;
 pub mod laws;
 mod overflows;
 mod parts;
+mod rule;
 
+pub use any::any_true;
 pub use bits::{
     bvadd, bvapp, bvlshr, bvmul, bvneg, bvsdiv, bvshl, bvsmod, bvsrem, bvsub, bvudiv, bvurem,
     zero_extend,
@@ -22,3 +25,7 @@ pub use comparisons::{bvsle, bvslt, bvule, bvult};
 pub use connectives::{and, implies, not, opposites, or};
 pub use equality::{eq, ite};
 pub use overflows::{bvnego, bvsaddo, bvsmulo, bvso, bvssubo};
+pub use rule::{BvRule, bvapp_by};
+
+#[cfg(test)]
+mod tests;
