@@ -15,6 +15,7 @@ use Rattle.smt_ext.specs.declared.ipaddr.error.IPError.{IPError}
 use Rattle.smt_ext.specs.declared.ipaddr.error.IPError.TheVariants.{ParseError, BitVecError, ExepectedOctet, Memory}
 use Rattle.smt_ext.specs.IpPrefixBits.{given}
 use Rattle.smt_ext.specs.IpRanges.{Family, Version4, Version6, Range}
+use Rattle.smt_ext.specs.IpText.{WritesRange}
 
 -- the bits of an address, of width 32 and 128
 abbrev pub v4_bits : IPv4Addr → BitVec
@@ -53,9 +54,13 @@ range_of (V6 c) = v6_range c
 abbrev pub family_of : IPNet → Family
 family_of net = (range_of net).family
 
--- why a text is refused: it is the payload, or memory ran out
+-- the text writes no range
+abbrev pub IsNoRange : List ℕ → Type 0
+IsNoRange text = (r : Range) → WritesRange text r → ⊥
+
+-- The error holds the text, which writes no range; or there was no memory to hold it.
 abbrev pub RefusesText : List ℕ → IPError → Type 0
-RefusesText text (ParseError payload) = rc_str_bytes payload ≡ text
+RefusesText text (ParseError payload) = (rc_str_bytes payload ≡ text) × IsNoRange text
 RefusesText text (BitVecError e) = ⊥
 RefusesText text ExepectedOctet = ⊥
-RefusesText text Memory = Unit {0}
+RefusesText text Memory = IsNoRange text

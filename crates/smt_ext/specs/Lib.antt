@@ -6,6 +6,7 @@ pub mod Digits
 pub mod DurationRefusal
 pub mod DurationText
 pub mod Examples
+pub mod ExtOrder
 pub mod Extensions
 pub mod Front
 pub mod IpExamples

@@ -1,5 +1,6 @@
 //! Laws of the definitions that the contracts cite, proved with no code.
-ghost use Rattle.std.specs.Prelude.{◌≡◌, ℕ, ℤ, List};
+ghost use Rattle.std.specs.Prelude.{◌≡◌, ◌↔◌, ℕ, ℤ, List, IsTrue};
+ghost use Rattle.std.specs.Ordering.{int_cmp};
 ghost use Rattle.smt_ext.specs.DatetimeRefusal.{IsMisshapen, IsUnreal};
 ghost use Rattle.smt_ext.specs.DatetimeText.{IsDatetimeText};
 ghost use Rattle.smt_ext.specs.Decimal.{IsDecimalText};
@@ -7,9 +8,16 @@ ghost use Rattle.smt_ext.specs.Digits.{IsLong};
 ghost use Rattle.smt_ext.specs.DurationRefusal.{HasFault};
 ghost use Rattle.smt_ext.specs.DurationText.{IsDurationText};
 ghost use Rattle.smt_ext.specs.Examples.{WorkedTexts};
-ghost use Rattle.smt_ext.specs.Milliseconds.{IsLastMidnight, day_start};
+ghost use Rattle.smt_ext.specs.ExtOrder.{SameExt, ext_cmp};
+ghost use Rattle.smt_ext.specs.Milliseconds.{IsLastMidnight, datetime_value, day_start, duration_value};
 ghost use Rattle.smt_ext.specs.Printed.{decimal_text};
+ghost use Rattle.smt_ext.specs.declared.datetime.Datetime.{Datetime as Moment};
+ghost use Rattle.smt_ext.specs.declared.datetime.Duration.{Duration as Span};
 ghost use Rattle.smt_ext.specs.declared.datetime.span.Fault.{Fault};
+ghost use Rattle.smt_ext.specs.declared.decimal.Decimal.{Decimal as Number};
+ghost use Rattle.smt_ext.specs.declared.ext.Ext.{Ext as Value};
+
+use crate::{Datetime, Decimal, Duration, Ext};
 
 pub mod ip;
 
@@ -46,4 +54,20 @@ pub fn duration_texts_have_one_answer()
 /// A day starts at the greatest multiple of its milliseconds that is not above.
 pub fn days_start_at_midnight()
     ensures { (v : ℤ) → IsLastMidnight v (day_start v) }
+{}
+
+/// Decimals, datetimes and durations are ordered by their numbers, and are equal where these are.
+pub fn numbers_are_ordered()
+    ensures decimals { (a b : Number) → ⟦<Decimal as Ord>⟧.cmp a b ≡ int_cmp a.0 b.0 }
+    ensures datetimes { (a b : Moment) → ⟦<Datetime as Ord>⟧.cmp a b ≡ int_cmp (datetime_value a) (datetime_value b) }
+    ensures durations { (a b : Span) → ⟦<Duration as Ord>⟧.cmp a b ≡ int_cmp (duration_value a) (duration_value b) }
+    ensures equal_decimals { (a b : Number) → IsTrue (⟦<Decimal as PartialEq>⟧.eq a b) ↔ (a.0 ≡ b.0) }
+    ensures equal_datetimes { (a b : Moment) → IsTrue (⟦<Datetime as PartialEq>⟧.eq a b) ↔ (datetime_value a ≡ datetime_value b) }
+    ensures equal_durations { (a b : Span) → IsTrue (⟦<Duration as PartialEq>⟧.eq a b) ↔ (duration_value a ≡ duration_value b) }
+{}
+
+/// Values of the four types are ordered by their kind, then inside it, and are equal where both agree.
+pub fn values_are_ordered()
+    ensures order { (a b : Value) → ⟦<Ext as Ord>⟧.cmp a b ≡ ext_cmp a b }
+    ensures equality { (a b : Value) → IsTrue (⟦<Ext as PartialEq>⟧.eq a b) ↔ SameExt a b }
 {}
