@@ -121,12 +121,7 @@ fn built_from_three(
     ensures { (ty : PlainType) → IfOk result (λ found. option_map plain_term found ≡ Some (folded (plain_op op.now) (plain_term a.now ∷ plain_term b.now ∷ plain_term c.now ∷ []) ty)) }
 {
     match op {
-        Op::Ite => Ok(Some(factory::ite(
-            alloc,
-            a.share()?,
-            b.share()?,
-            c.share()?,
-        )?)),
+        Op::Ite => Ok(Some(factory::ite(alloc, a.share()?, b.share()?, c.share()?)?)),
         _ => Ok(None),
     }
 }
