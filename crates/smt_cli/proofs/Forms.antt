@@ -1,12 +1,12 @@
 -- What brackets state, by their head.
-use Rattle.std.proofs.Common.{◌≡◌, ℕ, suc, ◌-◌, ◌<◌, ◌≤◌, Bool, true, false, List, [], ◌∷◌, Option, Some, None, Ok, Err, Result, codes, bytes_eq, drop, take, length, length-drop, map, option_map, refl, sym, ap, ◌∙◌, subst, arith}
+use Rattle.std.proofs.Common.{◌≡◌, ℕ, ◌-◌, ◌<◌, Bool, true, false, List, [], ◌∷◌, Option, Some, None, Ok, Err, Result, codes, drop, take, length, length-drop, map, option_map, refl, sym, ap, ◌∙◌, subst, arith}
 use Rattle.std.specs.List.{AllByRecursion}
 use Rattle.std.proofs.lemmas.List.{take_all}
 use Rattle.std.specs.Prelude.{IfSome, IsErrAnd, IsTrue, if◌then◌else◌, is_some}
 use Rattle.smt_term.specs.Formed.{IsFormed}
 use Rattle.smt_term.specs.Plain.{PlainType, BitVecType, BoolType, PlainOp, NotOp, PlainTerm, Application, terms}
 use Rattle.smt_term.specs.Types.{result_type, type_eq, type_of, typed}
-use Rattle.smt_term.specs.View.{plain_op, plain_term, plain_term-Var}
+use Rattle.smt_term.specs.View.{plain_term, plain_term-Var}
 use Rattle.smt_term.specs.declared.term.Term.{Term, Var}
 use Rattle.smt_term.specs.declared.term.TermVar.{TermVar}
 use Rattle.smt_term.proofs.FormedTerms.{terms_are_formed}
@@ -22,7 +22,7 @@ use Rattle.smt_cli.specs.declared.declaration.Declared.{Declared}
 use Rattle.smt_cli.specs.declared.job.JobError.{JobError}
 use Rattle.smt_cli.specs.declared.job.JobError.TheVariants.{TooLarge, BadForm, Memory}
 use Rattle.smt_cli.specs.declared.term.Form.{Form}
-use Rattle.smt_cli.proofs.Giving.{IsBuiltOf, built_from_none, built_of, each_of, each_term, other_text}
+use Rattle.smt_cli.proofs.Giving.{IsBuiltOf, built_of, each_of, each_term, other_text}
 use Rattle.smt_cli.proofs.TypedJobs.{AreFormed, AreSound, IsSound, term_sound, terms_sound}
 
 -- ---- errors that are passed on

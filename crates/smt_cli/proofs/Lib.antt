@@ -1,3 +1,4 @@
+pub mod AsWritten
 pub mod Declarations
 pub mod Forms
 pub mod Giving

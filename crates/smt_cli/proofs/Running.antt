@@ -1,30 +1,21 @@
 -- What a run is asked for and does.
 use Rattle.std.proofs.Common.{◌≡◌, ℕ, ◌<◌, ◌≤◌, List, [], ◌∷◌, map, Option, Some, None, Ok, Err, Result, codes, length, get_or, refl, sym, ap, ◌∙◌, subst, inl, inr, arith}
 use Rattle.std.specs.Io.KnownBytes.{append_known}
-use Rattle.std.specs.Prelude.{◌⊎◌, ◌↔◌, IsTrue, IfSome, IsErrOf, OnOk}
+use Rattle.std.specs.Prelude.{◌⊎◌, IfSome, IsErrOf, OnOk}
 use Rattle.std.specs.Rc.{rc_str_bytes}
 use Rattle.std.specs.declared.alloc.Global.{Global}
 use Rattle.std.specs.declared.rc.RcStr.{RcStr}
-use Rattle.smt_lines.specs.Text.{names, text}
+use Rattle.smt_lines.specs.Text.{text}
 use Rattle.smt_script.specs.Texts.{texts}
-use Rattle.smt_headline.specs.Headline.{AreTrue, Headline}
-use Rattle.std.specs.List.{AllByRecursion, AllZip}
-use Rattle.smt_term.specs.Formed.{IsFormed}
-use Rattle.smt_term.specs.Interpretations.{IsInterpretation}
-use Rattle.smt_term.specs.Meaning.{term_value}
-use Rattle.smt_term.specs.Plain.{BoolType, PlainTerm}
-use Rattle.smt_term.specs.Tables.{Interpretation}
-use Rattle.smt_term.specs.Types.{Typed, typed}
-use Rattle.smt_term.specs.TypeValues.{Enums}
+use Rattle.smt_headline.specs.Headline.{Headline}
+use Rattle.std.specs.List.{AllByRecursion}
+use Rattle.smt_term.specs.Plain.{BoolType}
+use Rattle.smt_term.specs.Types.{Typed}
 use Rattle.smt_factory.specs.Built.{built}
-use Rattle.smt_factory.specs.StandsFor.{StandsFor}
-use Rattle.smt_factory.proofs.BuiltTerms.{built_stands}
-use Rattle.smt_factory.proofs.Records.{interpretations, values}
-use Rattle.smt_semantics.specs.Value.{IsModel}
-use Rattle.smt_carrying.specs.Interpretations.{carry_interpretation}
+use Rattle.smt_cli.proofs.AsWritten.{as_written, built_booleans}
 use Rattle.smt_cli.proofs.TypedJobs.{IsCondition, job_conditions}
 use Rattle.smt_script.specs.Sink.{Rose}
-use Rattle.smt_cli.specs.Job.{IsBuiltFrom, IsJob, PlainJob, built_job}
+use Rattle.smt_cli.specs.Job.{IsBuiltFrom, PlainJob, built_job}
 use Rattle.smt_cli.specs.Run.{commanded, status_of, Answers, HasNoForm, IsAJob, IsDueTo, IsNoJob, Prints}
 use Rattle.smt_cli.specs.declared.job.JobError.TheVariants.{TooLarge, BadForm, Memory}
 use Rattle.smt_cli.specs.declared.program.Command.{Command}
@@ -104,47 +95,6 @@ asked_twice o c p q = cc
 pub never_done : (X : Type 0) (left : Option (List ℕ)) (old new : Option (List ℕ)) → IfSome left (Prints old new) → IfSome left (λ bytes. IsNoJob bytes → X)
 never_done X None old new p = tt
 never_done X (Some bytes) old new p = λ none. absurd (none p.job p.is_job)
-
--- ---- what a script says of the terms as they are written
-
-module _ (enums : Enums) (I : Interpretation) where
-  abbrev AreTypedTerms : List PlainTerm → Type 0
-  AreTypedTerms ts = AllByRecursion (λ t. IsTrue (typed t)) ts
-
-  all_built : (ts : List PlainTerm) → AllByRecursion IsCondition ts → AllZip StandsFor (map built ts) ts
-  all_built [] h = tt
-  all_built (t ∷ ts) h = (built_stands t h.0.boolean.parts, all_built ts h.1)
-
-  all_formed : (ts : List PlainTerm) → AllByRecursion IsCondition ts → AllByRecursion IsFormed ts
-  all_formed [] h = tt
-  all_formed (t ∷ ts) h = (h.0.formed, all_formed ts h.1)
-
-  are_typed : (ts : List PlainTerm) → AllByRecursion IsCondition ts → AreTypedTerms ts
-  are_typed [] h = tt
-  are_typed (t ∷ ts) h = (h.0.boolean.parts, are_typed ts h.1)
-
-  -- terms with the same values are true together
-  true_together : (ts us : List PlainTerm) → map (term_value I) ts ≡ map (term_value I) us → AreTrue I ts → AreTrue I us
-  true_together [] [] e h = tt
-  true_together [] (u ∷ us) e h = cc
-  true_together (t ∷ ts) [] e h = cc
-  true_together (t ∷ ts) (u ∷ us) e h =
-      let first : term_value I t ≡ term_value I u = cc in
-      let others : map (term_value I) ts ≡ map (term_value I) us = cc in
-      (sym first ∙ h.0, true_together ts us others h.1)
-
-  pub as_written : (ts : List PlainTerm) (headline : Headline enums (map built ts)) → AllByRecursion IsCondition ts → IsInterpretation enums ts I
-      → AreTrue I ts ↔ IsModel (carry_interpretation enums (names enums (map built ts)) I) headline.state
-  as_written ts headline h given =
-      let zip = all_built ts h in
-      let passed = interpretations enums I (map built ts) ts zip given in
-      let same = values enums I (map built ts) ts zip (all_formed ts h) (are_typed ts h) given in
-      let models = headline.true_in I passed in
-      (λ true. models.0 (true_together ts (map built ts) (sym same) true), λ model. true_together (map built ts) ts same (models.1 model))
-
-built_booleans : (ts : List PlainTerm) → AllByRecursion IsCondition ts → AllByRecursion (λ t. Typed t BoolType) (map built ts)
-built_booleans [] h = tt
-built_booleans (t ∷ ts) h = ((built_stands t h.0.boolean.parts).type BoolType h.0.boolean, built_booleans ts h.1)
 
 -- what was read whole is a job whose script was put
 prints : (left : Option (List ℕ)) (job : PlainJob) (old new : Option (List ℕ)) → IfSome left (λ bytes. IsBuiltFrom bytes job) → new ≡ append_known old (text job.enums job.terms)

@@ -1,7 +1,7 @@
 -- What a run is asked for, what it does, and what it says.
 use Rattle.std.specs.Prelude.{ℕ, ◌≡◌, ◌↔◌, ◌≤◌, ◌<◌, ◌⊎◌, ⊤, length, map, if◌then◌else◌, bytes_eq, codes, IfSome, IsErrOf, List, [], ◌∷◌, Option, Some, None, Result}
 use Rattle.std.specs.Io.KnownBytes.{append_known}
-use Rattle.smt_term.specs.Interpretations.{IsInterpretation}
+use Rattle.smt_term.specs.Interpretations.{IsInterpretation, restrict}
 use Rattle.smt_term.specs.Tables.{Interpretation}
 use Rattle.smt_factory.specs.Built.{built}
 use Rattle.smt_semantics.specs.Value.{IsModel}
@@ -55,13 +55,13 @@ version_text = codes "smtcli 0.1.0\n"
 
 -- The bytes are a job, and the script of what is built of its terms was put. That is a script whose models are exactly the
 -- interpretations that make the built terms true, and an interpretation of the terms as they are written makes them true
--- exactly where it is carried to a model.
+-- exactly where what the built terms reach of it is carried to a model.
 pub record Prints (old new : Option (List ℕ)) (bytes : List ℕ) : Type 0 where
   pub job : PlainJob
   pub is_job : IsJob bytes job
   pub printed : new ≡ append_known old (text job.enums (map built job.terms))
   pub means : Headline job.enums (map built job.terms)
-  pub true_as_written : (I : Interpretation) → IsInterpretation job.enums job.terms I → AreTrue I job.terms ↔ IsModel (carry_interpretation job.enums (names job.enums (map built job.terms)) I) means.state
+  pub true_as_written : (I : Interpretation) → IsInterpretation job.enums job.terms I → AreTrue I job.terms ↔ IsModel (carry_interpretation job.enums (names job.enums (map built job.terms)) (restrict I (map built job.terms))) means.state
 
 -- What was asked for is put, of a source that had this left.
 abbrev pub IsDone : Option Command → (left old new : Option (List ℕ)) → Type 0

@@ -1,4 +1,4 @@
-use Rattle.std.proofs.Common.{map, rules}
+use Rattle.std.proofs.Common.{rules}
 use Rattle.smt_term.specs.View.{plain_op}
 use Rattle.smt_term.proofs.TypedArguments.{not_taken}
 use Rattle.smt_cli.proofs.Forms.{nothing_built, nothing_taken}

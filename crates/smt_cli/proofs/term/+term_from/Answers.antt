@@ -1,11 +1,10 @@
-use Rattle.std.proofs.Common.{Option, Ok, ◌-◌, drop, take, length, map, option_map, arith, ap, sym, ◌∙◌, subst}
+use Rattle.std.proofs.Common.{Option, ◌-◌, drop, take, length, map, option_map, arith, ap, sym, ◌∙◌, subst}
 use Rattle.smt_term.specs.Plain.{PlainTerm}
 use Rattle.smt_term.specs.View.{plain_op, plain_term}
 use Rattle.smt_factory.specs.Built.{built}
 use Rattle.smt_sexpr.specs.Reading.{Node}
-use Rattle.smt_sexpr.specs.View.{plain}
 use Rattle.smt_cli.specs.Job.{term_of}
-use Rattle.smt_cli.specs.JobView.{Gives, HasForm, IsForm, listed}
+use Rattle.smt_cli.specs.JobView.{Gives, IsForm, listed}
 use Rattle.smt_cli.specs.declared.term.Form.{Form}
 use Rattle.smt_cli.proofs.Forms.{application_read, application_unread, are_built, declared_types_formed, passes_form, to_the_end}
 use Rattle.smt_cli.proofs.Giving.{all_read, built_from_none, each_of, not_read, passes_on, reads_on}
