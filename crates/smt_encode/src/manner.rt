@@ -27,7 +27,7 @@ pub(crate) enum Manner {
 
 /// How an application is written, None where it is written as `false`.
 ///
-/// Scripts have no operator for the overflow of a negation. It overflows exactly at the least number of its width,
+/// The overflow of a negation is written without its operator: it overflows exactly at the least number of its width,
 /// and what is no bitvector does not overflow.
 pub(crate) fn manner_of(
     alloc: Global,

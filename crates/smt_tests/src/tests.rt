@@ -101,7 +101,8 @@ fn jobs_have_scripts(rt: HostRuntime) -> Result<(), Fail> {
 }
 
 /// A job with terms that are not folded whole, and the lines of its script, as the public crate writes them.
-const BITS: &str = "(job (enums) (vars (\"x\" (BitVec 8)) (\"y\" (BitVec 8)) (\"b\" Bool)) (funs) (terms
+const BITS: &str =
+    "(job (enums) (vars (\"x\" (BitVec 8)) (\"y\" (BitVec 8)) (\"b\" Bool)) (funs) (terms
  (bvslt (bvadd (var \"x\") (var \"y\")) (bv 8 200))
  (ite (var \"b\") (eq (bvudiv (var \"x\") (bv 8 0)) (bv 8 255)) (not (bvnego (var \"y\"))))
  (or (var \"b\") (bvsaddo (zero_extend 56 (var \"x\")) (long \"-9223372036854775808\")))))";
@@ -128,9 +129,46 @@ const BITS_LINES: &str = "\
 (assert t12)
 ";
 
+/// A job of the operators that no other job here has, and the lines of its script, as the public crate writes them.
+const OPERATORS: &str = "(job (enums) (vars (\"x\" (BitVec 8)) (\"y\" (BitVec 8))) (funs) (terms
+ (bvult (bvneg (var \"x\")) (bvsub (var \"x\") (var \"y\")))
+ (bvule (bvmul (var \"x\") (var \"y\")) (bvurem (var \"x\") (var \"y\")))
+ (bvsle (bvsdiv (var \"x\") (var \"y\")) (bvsrem (var \"x\") (var \"y\")))
+ (and (bvssubo (var \"x\") (var \"y\")) (bvsmulo (var \"x\") (var \"y\")))
+ (eq (bvlshr (var \"x\") (var \"y\")) (bvsmod (var \"x\") (bvshl (var \"x\") (var \"y\"))))))";
+
+const OPERATORS_LINES: &str = "\
+; \"x\"
+(declare-const t0 (_ BitVec 8))
+(define-fun t1 () (_ BitVec 8) (bvneg t0))
+; \"y\"
+(declare-const t2 (_ BitVec 8))
+(define-fun t3 () (_ BitVec 8) (bvsub t0 t2))
+(define-fun t4 () Bool (bvult t1 t3))
+(define-fun t5 () (_ BitVec 8) (bvmul t0 t2))
+(define-fun t6 () (_ BitVec 8) (bvurem t0 t2))
+(define-fun t7 () Bool (bvule t5 t6))
+(define-fun t8 () (_ BitVec 8) (bvsdiv t0 t2))
+(define-fun t9 () (_ BitVec 8) (bvsrem t0 t2))
+(define-fun t10 () Bool (bvsle t8 t9))
+(define-fun t11 () Bool (bvssubo t0 t2))
+(define-fun t12 () Bool (bvsmulo t0 t2))
+(define-fun t13 () Bool (and t11 t12))
+(define-fun t14 () (_ BitVec 8) (bvlshr t0 t2))
+(define-fun t15 () (_ BitVec 8) (bvshl t0 t2))
+(define-fun t16 () (_ BitVec 8) (bvsmod t0 t15))
+(define-fun t17 () Bool (= t14 t16))
+(assert t4)
+(assert t7)
+(assert t10)
+(assert t13)
+(assert t17)
+";
+
 /// A job of terms that are folded to literals and to its variable, and the lines of its script, as the public crate writes
 /// them.
-const FOLDED: &str = "(job (enums) (vars (\"b\" Bool)) (funs) (terms (and (var \"b\") (not (var \"b\")))
+const FOLDED: &str =
+    "(job (enums) (vars (\"b\" Bool)) (funs) (terms (and (var \"b\") (not (var \"b\")))
  (eq (bvsrem (bv 8 249) (bv 8 2)) (bv 8 255)) (eq (bvsmod (bv 8 249) (bv 8 2)) (bv 8 1))
  (eq (long \"-5\") (bv 64 18446744073709551611)) (ite (var \"b\") true false) (eq true (var \"b\"))))";
 
@@ -149,6 +187,7 @@ const FOLDED_LINES: &str = "\
 fn jobs_of_bitvectors_have_scripts(rt: HostRuntime) -> Result<(), Fail> {
     let rows = [
         (BITS, BITS_LINES),
+        (OPERATORS, OPERATORS_LINES),
         (FOLDED, FOLDED_LINES),
         // A shift by 2 to the 32 is not folded.
         (
@@ -205,10 +244,19 @@ fn terms_of_no_form_are_refused(rt: HostRuntime) -> Result<(), Fail> {
         "(bvxor (bv 8 1) (bv 8 1))",
     ];
     for term in rows {
-        let job = format!(in rt.alloc(); "(job (enums) (vars (\"x\" (BitVec 8))) (funs) (terms {term}))")?;
+        let job = format!(in rt.alloc();
+            "(job (enums) (vars (\"x\" (BitVec 8))) (funs) (terms {term}))"
+        )?;
         assert!(rt; is_refused(rt.alloc(), job.as_bytes(), BAD_FORM)?, "{term}");
     }
-    for ty in ["(BitVec 0)", "(BitVec 129)", "(BitVec)", "(BitVec 8 8)", "(BitVec \"8\")", "BitVec"] {
+    for ty in [
+        "(BitVec 0)",
+        "(BitVec 129)",
+        "(BitVec)",
+        "(BitVec 8 8)",
+        "(BitVec \"8\")",
+        "BitVec",
+    ] {
         let job = format!(in rt.alloc(); "(job (enums) (vars (\"x\" {ty})) (funs) (terms))")?;
         assert!(rt; is_refused(rt.alloc(), job.as_bytes(), BAD_FORM)?, "{ty}");
     }
