@@ -1,4 +1,5 @@
 pub mod BitRanges
+pub mod Least
 pub mod Masks
 pub mod Modulus
 pub mod Moved

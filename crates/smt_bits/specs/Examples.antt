@@ -1,6 +1,7 @@
 -- Worked examples of the operators on bitvectors, with values from the standard's own text.
-use Rattle.std.specs.Prelude.{◌≡◌, ℕ, true, false, pos, negsuc, List, [], ◌∷◌, map}
+use Rattle.std.specs.Prelude.{◌≡◌, ℕ, ◌^◌, ◌-◌, true, false, pos, negsuc, List, [], ◌∷◌, map}
 use Rattle.smt_bits.specs.BitVectors.{signed, bits_of, least_signed, greatest_signed, overflows, bvnot, bvneg, concat, extract, resize, bvadd, bvsub, bvmul, bvudiv, bvurem, bvsdiv, bvsrem, bvsmod, bvshl, bvlshr, bvult, bvule, bvslt, bvsle, bvnego, bvsaddo, bvssubo, bvsmulo}
+use Rattle.smt_bits.specs.Widths.{is_width, are_bits}
 
 abbrev pub at_8 : {X : Type 0} → (ℕ → ℕ → ℕ → X) → List (ℕ × ℕ) → List X
 at_8 f rows = map (λ r. f 8 r.0 r.1) rows
@@ -34,11 +35,13 @@ pub record BitVectorRows : Type 0 where
   pub least : map least_signed (1 ∷ 8 ∷ []) ≡ negsuc 0 ∷ negsuc 127 ∷ []
   pub greatest : map greatest_signed (1 ∷ 8 ∷ []) ≡ pos 0 ∷ pos 127 ∷ []
   pub outside : map (overflows 8) (pos 127 ∷ pos 128 ∷ negsuc 127 ∷ negsuc 128 ∷ []) ≡ false ∷ true ∷ false ∷ true ∷ []
-  pub less : at_8 bvult ((255, 0) ∷ (0, 255) ∷ []) ≡ false ∷ true ∷ []
-  pub at_most : at_8 bvule ((255, 255) ∷ (255, 0) ∷ []) ≡ true ∷ false ∷ []
-  pub less_signed : at_8 bvslt ((255, 0) ∷ (0, 255) ∷ (128, 127) ∷ []) ≡ true ∷ false ∷ true ∷ []
+  pub less : at_8 bvult ((255, 0) ∷ (0, 255) ∷ (5, 5) ∷ []) ≡ false ∷ true ∷ false ∷ []
+  pub at_most : at_8 bvule ((255, 255) ∷ (255, 0) ∷ (0, 255) ∷ []) ≡ true ∷ false ∷ true ∷ []
+  pub less_signed : at_8 bvslt ((255, 0) ∷ (0, 255) ∷ (128, 127) ∷ (255, 255) ∷ []) ≡ true ∷ false ∷ true ∷ false ∷ []
   pub at_most_signed : at_8 bvsle ((128, 127) ∷ (127, 128) ∷ (255, 255) ∷ []) ≡ true ∷ false ∷ true ∷ []
   pub negations_overflow : map (bvnego 8) (0 ∷ 127 ∷ 128 ∷ 129 ∷ []) ≡ false ∷ false ∷ true ∷ false ∷ []
   pub sums_overflow : at_8 bvsaddo ((127, 1) ∷ (128, 255) ∷ (127, 255) ∷ []) ≡ true ∷ true ∷ false ∷ []
   pub differences_overflow : at_8 bvssubo ((128, 1) ∷ (127, 255) ∷ (0, 128) ∷ (255, 128) ∷ []) ≡ true ∷ true ∷ true ∷ false ∷ []
   pub products_overflow : at_8 bvsmulo ((16, 8) ∷ (240, 8) ∷ (128, 255) ∷ []) ≡ true ∷ false ∷ true ∷ []
+  pub widths : map is_width (0 ∷ 1 ∷ 128 ∷ 129 ∷ []) ≡ false ∷ true ∷ true ∷ false ∷ []
+  pub numbers : map (λ (r : ℕ × ℕ). are_bits r.0 r.1) ((8, 255) ∷ (8, 256) ∷ (0, 0) ∷ (128, 2 ^ 128 - 1) ∷ (129, 0) ∷ []) ≡ true ∷ false ∷ false ∷ true ∷ false ∷ []

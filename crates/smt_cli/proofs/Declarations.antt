@@ -13,7 +13,7 @@ use Rattle.smt_term.specs.declared.types.TermType.{TermType}
 use Rattle.smt_lines.proofs.Making.{lookup_new}
 use Rattle.smt_cli.specs.Job.{Variables, type_declared}
 use Rattle.smt_cli.specs.JobView.{Declares, DeclaresNext}
-use Rattle.smt_cli.specs.declared.job.Declared.{Declared}
+use Rattle.smt_cli.specs.declared.declaration.Declared.{Declared}
 use Rattle.smt_cli.specs.declared.job.JobError.{JobError}
 use Rattle.smt_cli.specs.declared.job.JobError.TheVariants.{TooLarge, BadForm, Memory}
 

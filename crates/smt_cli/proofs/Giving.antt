@@ -1,18 +1,19 @@
 -- What reading a part gives, and what the whole gives.
-use Rattle.std.proofs.Common.{◌≡◌, ℕ, ◌+◌, ◌<◌, ◌≤◌, false, List, [], ◌∷◌, ◌++◌, Option, Some, None, Ok, Err, Result, codes, bytes_eq, drop, get_or, length, map, refl, sym, ap, ◌∙◌, subst, inl, inr, append_assoc, append-nil}
+use Rattle.std.proofs.Common.{◌≡◌, ℕ, ◌+◌, ◌<◌, ◌≤◌, false, List, [], ◌∷◌, ◌++◌, Option, Some, None, Ok, Err, Result, bytes_eq, drop, get_or, length, map, option_map, refl, sym, ap, ◌∙◌, subst, inl, inr, append_assoc, append-nil}
 use Rattle.std.specs.Prelude.{IsErrAnd, IsErrOf}
 use Rattle.std.proofs.lemmas.Bool.{cases_Bool}
 use Rattle.std.proofs.lemmas.List.{at_drop_more, at_drop_all, map-append}
 use Rattle.std.proofs.lemmas.Slice.Eq.{bytes_eq-Decides}
+use Rattle.smt_factory.specs.Built.{built}
 use Rattle.smt_term.specs.Plain.{PlainTerm, PlainType}
 use Rattle.smt_term.specs.View.{plain_term}
 use Rattle.smt_term.specs.declared.term.Term.{Term}
-use Rattle.smt_sexpr.specs.Reading.{Expression, Cons}
+use Rattle.smt_sexpr.specs.Reading.{Expression, Expressions, Nil, Cons}
 use Rattle.smt_sexpr.specs.View.{plain}
 use Rattle.smt_sexpr.specs.declared.expression.SExpr.{SExpr}
-use Rattle.smt_cli.specs.Job.{Variables, ◌>>=◌, declared_by, declared_variable, headed_term, negation, term_of, terms_of, variable_of}
+use Rattle.smt_cli.specs.Job.{Variables, ◌>>=◌, condition_of, conditions_of, declared_by, term_of, terms_of, variable_of}
 use Rattle.smt_cli.specs.JobView.{Declares, DeclaresNext, Gives, declarations, listed}
-use Rattle.smt_cli.specs.declared.job.Declared.{Declared}
+use Rattle.smt_cli.specs.declared.declaration.Declared.{Declared}
 use Rattle.smt_cli.specs.declared.job.JobError.{JobError}
 use Rattle.smt_cli.specs.declared.job.JobError.TheVariants.{TooLarge, BadForm, Memory}
 
@@ -35,22 +36,13 @@ bad_form view (Err BadForm) stated h g = g
 bad_form view (Err Memory) stated h g = absurd (cc)
 bad_form view (Err TooLarge) stated h g = absurd g
 
--- ---- heads of terms
-
-pub headed_not : (vs : Variables) (n : List ℕ) (operand : Expression) (inner : Option PlainTerm) → n ≡ codes "not" → headed_term vs n operand inner ≡ (inner >>= λ t. Some (negation t))
-headed_not vs n operand inner h = ap (λ x. headed_term vs x operand inner) h
-
-pub headed_var : (vs : Variables) (n : List ℕ) (operand : Expression) (inner : Option PlainTerm) → n ≡ codes "var" → headed_term vs n operand inner ≡ declared_variable vs operand
-headed_var vs n operand inner h = ap (λ x. headed_term vs x operand inner) h
+-- ---- names
 
 pub other_text : (n m : List ℕ) → (n ≡ m → ⊥) → bytes_eq n m ≡ false
 other_text n m h = elim (cases_Bool (bytes_eq n m)) [
   | inl same ↦ absurd (h ((bytes_eq-Decides n m).0 same))
   | inr other ↦ other
 ]
-
-pub headed_other : (vs : Variables) (n : List ℕ) (operand : Expression) (inner : Option PlainTerm) → (n ≡ codes "not" → ⊥) → (n ≡ codes "var" → ⊥) → headed_term vs n operand inner ≡ None
-headed_other vs n operand inner h g = rw (other_text n (codes "not") h, other_text n (codes "var") g) refl
 
 -- ---- declarations, one after the other
 
@@ -88,40 +80,79 @@ module _ (d : Declared) (all : List SExpr) (i : ℕ) (e : SExpr) (g : Declaring 
 pub all_declared : (d : Declared) (all : List SExpr) (i : ℕ) → length all ≤ i → Declaring d (drop i all) all → declared_by [] (listed all) ≡ Some (declarations d.vars)
 all_declared d all i l g = g.whole ∙ at_drop_all (λ xs. declared_by (declarations d.vars) (listed xs)) all i l
 
--- ---- terms, one after the other
+-- ---- what is built of what is stated
 
-abbrev pub behind_terms : List PlainTerm → Option (List PlainTerm) → Option (List PlainTerm)
-behind_terms done (Some ts) = Some (done ++ ts)
-behind_terms done None = None
+pub built_from_none : {A B : Type 0} (f : A → B) (o : Option A) → option_map f o ≡ None → o ≡ None
+built_from_none f None h = refl
+built_from_none f (Some a) h = cc
 
--- what was read so far and what is left are all
-abbrev pub Reading : Variables → List Term → (left all : List SExpr) → Type 0
-Reading vs done left all = terms_of vs (listed all) ≡ behind_terms (map plain_term done) (terms_of vs (listed left))
+-- what is built of something stated is that of the one that is stated
+pub record IsBuiltOf {A B : Type 0} (f : A → B) (o : Option A) (b : B) : Type 0 where
+  pub stated : A
+  pub is_stated : o ≡ Some stated
+  pub is_built : b ≡ f stated
 
-behind_nothing : (o : Option (List PlainTerm)) → o ≡ behind_terms [] o
+pub built_of : {A B : Type 0} (f : A → B) (o : Option A) (b : B) → option_map f o ≡ Some b → IsBuiltOf f o b
+built_of f (Some a) b h = record { stated = a; is_stated = refl; is_built = cc }
+built_of f None b h = absurd (cc)
+
+-- ---- expressions, one after the other
+
+-- what is stated of expressions, by what is stated of each
+abbrev pub each_of : {A : Type 0} → (Expression → Option A) → Expressions → Option (List A)
+each_of of Nil = Some []
+each_of of (Cons e es) = of e >>= λ a. each_of of es >>= λ rest. Some (a ∷ rest)
+
+pub each_term : (vs : Variables) (es : Expressions) → terms_of vs es ≡ each_of (term_of vs) es
+each_term vs Nil = refl
+each_term vs (Cons e es) = ap (λ o. term_of vs e >>= λ t. o >>= λ ts. Some (t ∷ ts)) (each_term vs es)
+
+pub each_condition : (vs : Variables) (es : Expressions) → conditions_of vs es ≡ each_of (condition_of vs) es
+each_condition vs Nil = refl
+each_condition vs (Cons e es) = ap (λ o. condition_of vs e >>= λ t. o >>= λ ts. Some (t ∷ ts)) (each_condition vs es)
+
+abbrev pub behind : {A : Type 0} → List A → Option (List A) → Option (List A)
+behind done (Some rest) = Some (done ++ rest)
+behind done None = None
+
+behind_nothing : {A : Type 0} (o : Option (List A)) → o ≡ behind [] o
 behind_nothing (Some ts) = refl
 behind_nothing None = refl
 
-pub starts_reading : (vs : Variables) (done : List Term) (all : List SExpr) → done ≡ [] → Reading vs done all all
-starts_reading vs done all none = behind_nothing (terms_of vs (listed all)) ∙ ap (λ ts. behind_terms (map plain_term ts) (terms_of vs (listed all))) (sym none)
-
-one_behind : (done : List PlainTerm) (t : PlainTerm) (o : Option (List PlainTerm)) → behind_terms done (o >>= λ ts. Some (t ∷ ts)) ≡ behind_terms (done ++ t ∷ []) o
+one_behind : {A : Type 0} (done : List A) (t : A) (o : Option (List A)) → behind done (o >>= λ ts. Some (t ∷ ts)) ≡ behind (done ++ t ∷ []) o
 one_behind done t (Some ts) = ap Some (sym (append_assoc done (t ∷ []) ts))
 one_behind done t None = refl
 
-module _ (vs : Variables) (done : List Term) (all : List SExpr) (i : ℕ) (e : SExpr) (g : Reading vs done (drop i all) all) (l : i < length all) (at : e ≡ get_or all i e) where
-  this_term : terms_of vs (listed all) ≡ behind_terms (map plain_term done) (term_of vs (plain e) >>= λ t. terms_of vs (listed (drop (i + 1) all)) >>= λ ts. Some (t ∷ ts))
-  this_term = g ∙ ap (behind_terms (map plain_term done)) (at_drop_more (λ xs. terms_of vs (listed xs)) all i e l ∙ ap (λ x. terms_of vs (Cons (plain x) (listed (drop (i + 1) all)))) (sym at))
+-- What was read so far, as it is built of what is stated, and what is left are all.
+pub record Reading (of : Expression → Option PlainTerm) (done : List Term) (left all : List SExpr) : Type 0 where
+  pub written : List PlainTerm
+  pub are_built : map plain_term done ≡ map built written
+  pub whole : each_of of (listed all) ≡ behind written (each_of of (listed left))
 
-  pub reads_on : (t : Term) (more : List Term) → term_of vs (plain e) ≡ Some (plain_term t) → more ≡ done ++ t ∷ [] → Reading vs more (drop (i + 1) all) all
+pub starts_reading : (of : Expression → Option PlainTerm) (done : List Term) (all : List SExpr) → done ≡ [] → Reading of done all all
+starts_reading of done all none = record { written = []; are_built = ap (map plain_term) none; whole = behind_nothing (each_of of (listed all)) }
+
+module _ (of : Expression → Option PlainTerm) (done : List Term) (all : List SExpr) (i : ℕ) (e : SExpr) (g : Reading of done (drop i all) all) (l : i < length all) (at : e ≡ get_or all i e) where
+  this_one_of : each_of of (listed all) ≡ behind g.written (of (plain e) >>= λ t. each_of of (listed (drop (i + 1) all)) >>= λ ts. Some (t ∷ ts))
+  this_one_of = g.whole ∙ ap (behind g.written) (at_drop_more (λ xs. each_of of (listed xs)) all i e l ∙ ap (λ x. each_of of (Cons (plain x) (listed (drop (i + 1) all)))) (sym at))
+
+  pub reads_on : (t : Term) (more : List Term) → option_map built (of (plain e)) ≡ Some (plain_term t) → more ≡ done ++ t ∷ [] → Reading of more (drop (i + 1) all) all
   reads_on t more p q =
-      this_term ∙ ap (λ o. behind_terms (map plain_term done) (o >>= λ t. terms_of vs (listed (drop (i + 1) all)) >>= λ ts. Some (t ∷ ts))) p
-      ∙ one_behind (map plain_term done) (plain_term t) (terms_of vs (listed (drop (i + 1) all)))
-      ∙ ap (λ d. behind_terms d (terms_of vs (listed (drop (i + 1) all)))) (sym (map-append plain_term done (t ∷ [])) ∙ ap (map plain_term) (sym q))
+      let b = built_of built (of (plain e)) (plain_term t) p in
+      record {
+        written = g.written ++ b.stated ∷ [];
+        are_built = ap (map plain_term) q ∙ map-append plain_term done (t ∷ []) ∙ (λ k. g.are_built k ++ b.is_built k ∷ []) ∙ sym (map-append built g.written (b.stated ∷ []));
+        whole = this_one_of ∙ ap (λ o. behind g.written (o >>= λ t. each_of of (listed (drop (i + 1) all)) >>= λ ts. Some (t ∷ ts))) b.is_stated ∙ one_behind g.written b.stated (each_of of (listed (drop (i + 1) all)));
+      }
 
-  pub not_read : {A : Type 0} (view : A → List PlainTerm) (r : Result A JobError) (error : JobError) → Gives plain_term (Err error) (term_of vs (plain e)) → IsErrAnd r (λ y. y ≡ error) → Gives view r (terms_of vs (listed all))
-  not_read view r error p h =
-      passes_on view plain_term r error _ (term_of vs (plain e)) h p (λ none. this_term ∙ ap (λ o. behind_terms (map plain_term done) (o >>= λ t. terms_of vs (listed (drop (i + 1) all)) >>= λ ts. Some (t ∷ ts))) none)
+  pub not_read : of (plain e) ≡ None → each_of of (listed all) ≡ None
+  not_read none = this_one_of ∙ ap (λ o. behind g.written (o >>= λ t. each_of of (listed (drop (i + 1) all)) >>= λ ts. Some (t ∷ ts))) none
 
-pub all_read : (vs : Variables) (done : List Term) (all : List SExpr) (i : ℕ) → length all ≤ i → Reading vs done (drop i all) all → terms_of vs (listed all) ≡ Some (map plain_term done)
-all_read vs done all i l g = g ∙ ap (behind_terms (map plain_term done)) (at_drop_all (λ xs. terms_of vs (listed xs)) all i l) ∙ ap Some (append-nil (map plain_term done))
+-- all are read
+pub record AllRead (of : Expression → Option PlainTerm) (done : List Term) (all : List SExpr) : Type 0 where
+  pub written : List PlainTerm
+  pub are_built : map plain_term done ≡ map built written
+  pub whole : each_of of (listed all) ≡ Some written
+
+pub all_read : (of : Expression → Option PlainTerm) (done : List Term) (all : List SExpr) (i : ℕ) → length all ≤ i → Reading of done (drop i all) all → AllRead of done all
+all_read of done all i l g = record { written = g.written; are_built = g.are_built; whole = g.whole ∙ ap (behind g.written) (at_drop_all (λ xs. each_of of (listed xs)) all i l) ∙ ap Some (append-nil g.written) }

@@ -1,4 +1,6 @@
+pub mod AsWritten
 pub mod Declarations
+pub mod Forms
 pub mod Giving
 pub mod ReadsLemmas
 pub mod Running

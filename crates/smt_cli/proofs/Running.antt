@@ -1,5 +1,5 @@
 -- What a run is asked for and does.
-use Rattle.std.proofs.Common.{◌≡◌, ℕ, ◌<◌, ◌≤◌, List, [], ◌∷◌, Option, Some, None, Ok, Err, Result, codes, length, get_or, refl, sym, ap, ◌∙◌, subst, inl, inr, arith}
+use Rattle.std.proofs.Common.{◌≡◌, ℕ, ◌<◌, ◌≤◌, List, [], ◌∷◌, map, Option, Some, None, Ok, Err, Result, codes, length, get_or, refl, sym, ap, ◌∙◌, subst, inl, inr, arith}
 use Rattle.std.specs.Io.KnownBytes.{append_known}
 use Rattle.std.specs.Prelude.{◌⊎◌, IfSome, IsErrOf, OnOk}
 use Rattle.std.specs.Rc.{rc_str_bytes}
@@ -8,12 +8,14 @@ use Rattle.std.specs.declared.rc.RcStr.{RcStr}
 use Rattle.smt_lines.specs.Text.{text}
 use Rattle.smt_script.specs.Texts.{texts}
 use Rattle.smt_headline.specs.Headline.{Headline}
+use Rattle.std.specs.List.{AllByRecursion}
 use Rattle.smt_term.specs.Plain.{BoolType}
 use Rattle.smt_term.specs.Types.{Typed}
-use Rattle.std.specs.List.{AllByRecursion}
-use Rattle.smt_cli.proofs.TypedJobs.{job_typed}
+use Rattle.smt_factory.specs.Built.{built}
+use Rattle.smt_cli.proofs.AsWritten.{as_written, built_booleans}
+use Rattle.smt_cli.proofs.TypedJobs.{IsCondition, job_conditions}
 use Rattle.smt_script.specs.Sink.{Rose}
-use Rattle.smt_cli.specs.Job.{IsJob, PlainJob}
+use Rattle.smt_cli.specs.Job.{IsBuiltFrom, PlainJob, built_job}
 use Rattle.smt_cli.specs.Run.{commanded, status_of, Answers, HasNoForm, IsAJob, IsDueTo, IsNoJob, Prints}
 use Rattle.smt_cli.specs.declared.job.JobError.TheVariants.{TooLarge, BadForm, Memory}
 use Rattle.smt_cli.specs.declared.program.Command.{Command}
@@ -95,12 +97,31 @@ never_done X None old new p = tt
 never_done X (Some bytes) old new p = λ none. absurd (none p.job p.is_job)
 
 -- what was read whole is a job whose script was put
-prints : (left : Option (List ℕ)) (job : PlainJob) (old new : Option (List ℕ)) → IfSome left (λ bytes. IsJob bytes job) → new ≡ append_known old (text job.enums job.terms)
+prints : (left : Option (List ℕ)) (job : PlainJob) (old new : Option (List ℕ)) → IfSome left (λ bytes. IsBuiltFrom bytes job) → new ≡ append_known old (text job.enums job.terms)
     → (AllByRecursion (λ t. Typed t BoolType) job.terms → Headline job.enums job.terms) → IfSome left (Prints old new)
-prints (Some bytes) job old new is put means = record { job = job; is_job = is; printed = put; means = means (job_typed bytes job is) }
+prints (Some bytes) job old new is put means = shown job is.is_built put means
+  where
+    conditions : AllByRecursion IsCondition is.written.terms
+    conditions = job_conditions bytes is.written is.is_job
+
+    shown : (j : PlainJob) → j ≡ built_job is.written → new ≡ append_known old (text j.enums j.terms) → (AllByRecursion (λ t. Typed t BoolType) j.terms → Headline j.enums j.terms) → Prints old new bytes
+    shown j e p m =
+        let mean : Headline is.written.enums (map built is.written.terms) = subst (λ (x : PlainJob). (AllByRecursion (λ t. Typed t BoolType) x.terms → Headline x.enums x.terms)) e m (built_booleans is.written.terms conditions) in
+        record {
+          job = is.written;
+          is_job = is.is_job;
+          printed = p ∙ ap (λ (x : PlainJob). append_known old (text x.enums x.terms)) e;
+          means = mean;
+          true_as_written = λ I given. as_written is.written.enums I is.written.terms mean conditions given;
+        }
 prints None job old new is put means = tt
 
-pub printed_ok : (result : Result (Unit {0}) Refusal) (left : Option (List ℕ)) (job : PlainJob) (old new : Option (List ℕ)) → IfSome left (λ bytes. IsJob bytes job) → OnOk result (new ≡ append_known old (text job.enums job.terms))
+pub printed_ok : (result : Result (Unit {0}) Refusal) (left : Option (List ℕ)) (job : PlainJob) (old new : Option (List ℕ)) → IfSome left (λ bytes. IsBuiltFrom bytes job) → OnOk result (new ≡ append_known old (text job.enums job.terms))
     → (AllByRecursion (λ t. Typed t BoolType) job.terms → OnOk result (Headline job.enums job.terms)) → OnOk result (IfSome left (Prints old new))
 printed_ok (Ok u) left job old new is put means = prints left job old new is put means
 printed_ok (Err e) left job old new is put means = tt
+
+-- what is built of a job is read from a job
+pub a_job : (left : Option (List ℕ)) (job : PlainJob) → IfSome left (λ bytes. IsBuiltFrom bytes job) → IfSome left IsAJob
+a_job (Some bytes) job is = (is.written, is.is_job)
+a_job None job is = tt

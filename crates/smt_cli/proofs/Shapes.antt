@@ -11,7 +11,7 @@ use Rattle.smt_sexpr.specs.Reading.{Expression, Node, Nil, Cons}
 use Rattle.smt_sexpr.specs.View.{items_of, plain, plain-App, plain-String}
 use Rattle.smt_sexpr.specs.declared.expression.SExpr.{SExpr, App, String}
 use Rattle.smt_sexpr.specs.declared.expression.SExprs.{SExprs}
-use Rattle.smt_cli.specs.Job.{Variables, job_of_sections, nothing_in, name_in, text_in, section, type_declared, type_of_expression, unless_declared, variable_of, headed_term, term_of}
+use Rattle.smt_cli.specs.Job.{Variables, bits_stated, sole, job_of_sections, nothing_in, name_in, text_in, section, type_declared, type_of_expression, unless_declared, variable_of}
 use Rattle.smt_cli.specs.JobView.{listed}
 
 -- what stands between the quotes of a string are its bytes
@@ -64,26 +64,6 @@ module _ (vs : Variables) (e id type : Expression) (shape : e ≡ Node (Cons id 
   pub is_variable : (n : List ℕ) (t : PlainType) → Some n ≡ text_in id → Some t ≡ type_of_expression type → unless_declared (type_declared vs n) (n, t) ≡ variable_of vs e
   is_variable n t p q = rw (shape, sym p, sym q) refl
 
--- ---- terms
-
-pub term_few : (vs : Variables) (e : Expression) (xs : List SExpr) → e ≡ Node (listed xs) → length xs < 2 → term_of vs e ≡ None
-term_few vs e [] p l = ap (term_of vs) p
-term_few vs e (x ∷ []) p l = ap (term_of vs) p
-term_few vs e (x ∷ y ∷ xs) p l = absurd (omega (arith, l))
-
-pub term_many : (vs : Variables) (e : Expression) (xs : List SExpr) → e ≡ Node (listed xs) → 3 ≤ length xs → term_of vs e ≡ None
-term_many vs e (x ∷ y ∷ z ∷ xs) p l = ap (term_of vs) p
-term_many vs e [] p l = absurd (omega (arith, l))
-term_many vs e (x ∷ []) p l = absurd (omega (arith, l))
-term_many vs e (x ∷ y ∷ []) p l = absurd (omega (arith, l))
-
-module _ (vs : Variables) (e head operand : Expression) (shape : e ≡ Node (Cons head (Cons operand Nil))) where
-  pub no_head : None ≡ name_in head → term_of vs e ≡ None
-  no_head p = rw (shape, sym p) refl
-
-  pub is_headed : (n : List ℕ) → Some n ≡ name_in head → term_of vs e ≡ headed_term vs n operand (term_of vs operand)
-  is_headed n p = rw (shape, sym p) refl
-
 -- ---- jobs
 
 pub sections_few : (xs : List SExpr) → length xs < 4 → job_of_sections (listed xs) ≡ None
@@ -107,3 +87,25 @@ not_none n = grind (arith, nat_tests)
 pub nothing_listed : (xs : List SExpr) → nothing_in (listed xs) ≡ (if length xs == 0 then Some Nil else None)
 nothing_listed [] = refl
 nothing_listed (x ∷ xs) = ap (λ b. if b then Some Nil else None) (sym (not_none (length xs)))
+
+-- ---- as many expressions as a form has
+
+pub sole_few : (xs : List SExpr) → length xs < 1 → None ≡ sole (listed xs)
+sole_few [] l = refl
+sole_few (x ∷ xs) l = absurd (omega (arith, l))
+
+pub sole_many : (xs : List SExpr) → 2 ≤ length xs → None ≡ sole (listed xs)
+sole_many (x ∷ y ∷ xs) l = refl
+sole_many [] l = absurd (omega (arith, l))
+sole_many (x ∷ []) l = absurd (omega (arith, l))
+
+pub bits_few : (xs : List SExpr) → length xs < 2 → None ≡ bits_stated (listed xs)
+bits_few [] l = refl
+bits_few (x ∷ []) l = refl
+bits_few (x ∷ y ∷ xs) l = absurd (omega (arith, l))
+
+pub bits_many : (xs : List SExpr) → 3 ≤ length xs → None ≡ bits_stated (listed xs)
+bits_many (x ∷ y ∷ z ∷ xs) l = refl
+bits_many [] l = absurd (omega (arith, l))
+bits_many (x ∷ []) l = absurd (omega (arith, l))
+bits_many (x ∷ y ∷ []) l = absurd (omega (arith, l))

@@ -1,157 +1,326 @@
--- The terms of a job are typed as Booleans.
-use Rattle.std.proofs.Common.{◌≡◌, ℕ, Bool, true, false, cond, List, [], ◌∷◌, ◌++◌, Option, Some, None, codes, bytes_eq, refl, sym, ap, ◌∙◌, subst}
+-- The terms of a job are typed and formed, and its conditions are Booleans.
+use Rattle.std.proofs.Common.{◌≡◌, ℕ, ◌+◌, ◌^◌, ◌<◌, ◌≤◌, Bool, true, false, cond, List, [], ◌∷◌, ◌++◌, Option, Some, None, codes, bytes_eq, map, refl, ap, ◌∙◌, subst, arith}
+use Rattle.std.specs.Bool.{then_some}
 use Rattle.std.specs.List.{AllByRecursion}
-use Rattle.std.specs.Prelude.{if◌then◌else◌}
-use Rattle.smt_term.specs.Plain.{PlainType, BoolType, PlainTerm, VariableTerm}
-use Rattle.smt_term.specs.Types.{Typed}
-use Rattle.smt_sexpr.specs.Lexicon.{Bits, Number, Text, Name}
+use Rattle.std.specs.Map.{lookup}
+use Rattle.std.specs.Ordering.{is_eq}
+use Rattle.std.specs.Prelude.{if◌then◌else◌, nat_le, nat_lt, IfSome}
+use Rattle.std.proofs.lemmas.Bool.{and_parts, leb-true, ltb-true}
+use Rattle.smt_bits.specs.BitVectors.{bits_of}
+use Rattle.smt_bits.specs.Widths.{are_bits, is_width}
+use Rattle.smt_bits.proofs.BitRanges as ranges
+use Rattle.smt_term.specs.Formed.{IsFormed, IsFormedNode, IsFormedType}
+use Rattle.smt_term.specs.Plain.{PlainType, BitVecType, BoolType, PlainOp, AndOp, BvaddOp, BvlshrOp, BvmulOp, BvnegOp, BvnegoOp, BvsaddoOp, BvsdivOp, BvshlOp, BvsleOp, BvsltOp, BvsmodOp, BvsmuloOp, BvsremOp, BvssuboOp, BvsubOp, BvudivOp, BvuleOp, BvultOp, BvuremOp, EqOp, IteOp, NotOp, OrOp, ZeroExtendOp, BitVecLiteral, PlainTerm, Application, LiteralTerm, VariableTerm, terms}
+use Rattle.smt_term.specs.Reached.{subterms, subterms_of_all}
+use Rattle.smt_term.specs.Types.{Typed, extended_type, result_type, type_eq, type_of, types_of, typed, typed_all}
+use Rattle.smt_term.proofs.Defaults.{all-join}
+use Rattle.smt_term.proofs.Soundness.{chosen}
+use Rattle.smt_term.proofs.TypeOrder.{eq_same, type_itself}
+use Rattle.smt_term.proofs.TypedArguments.{listed}
+use Rattle.smt_factory.proofs.Standing.{last_type}
 use Rattle.smt_sexpr.specs.Reading.{Expression, Leaf, Node, Expressions, Nil, Cons}
-use Rattle.smt_cli.specs.Job.{IsJob, PlainJob, Variables, ◌>>=◌, declared_by, declared_variable, headed_term, job_of_sections, name_in, negation, section, empty_section, term_of, terms_of, text_in, truth, type_declared, type_named, type_of_expression, unless_declared, variable_of}
+use Rattle.smt_cli.specs.Job.{IsJob, PlainJob, Variables, ◌>>=◌, applied, bits_literal, bits_stated, bits_type, condition_of, conditions_of, declared_by, declared_variable, empty_section, extension_by, extension_stated, first_in, headed_term, job_of_sections, literal_of, long_in, long_of_text, name_in, named_operators, number_in, operator_named, other_terms, section, sole, term_of, terms_of, text_in, truth, type_declared, type_named, type_of_expression, unless_declared, variable_of}
 
--- each variable is Boolean
-abbrev AreBool : Variables → Type 0
-AreBool vs = AllByRecursion (λ v. v.1 ≡ BoolType) vs
+-- ---- what there is of something optional
 
-all_more : (vs : Variables) (v : List ℕ × PlainType) → AreBool vs → v.1 ≡ BoolType → AreBool (vs ++ v ∷ [])
-all_more [] v h p = (p, tt)
-all_more (w ∷ vs) v h p = (h.0, all_more vs v h.1 p)
+module _ {A B : Type 0} (P : B → Type 0) where
+  pub bound : (o : Option A) (f : A → Option B) → IfSome o (λ a. IfSome (f a) P) → IfSome (o >>= f) P
+  bound (Some a) f h = h
+  bound None f h = tt
 
-declared_bool : (vs : Variables) (id : List ℕ) (t : PlainType) → AreBool vs → type_declared vs id ≡ Some t → t ≡ BoolType
-declared_bool [] id t h p = absurd (cc)
-declared_bool (v ∷ vs) id t h p = go (bytes_eq id v.0) (λ q. declared_bool vs id t h.1 q) p
+whichever : {A : Type 0} (P : A → Type 0) (o : Option A) → ((a : A) → P a) → IfSome o P
+whichever P (Some a) h = h a
+whichever P None h = tt
+
+either : {A : Type 0} (P : A → Type 0) (b : Bool) (x y : Option A) → IfSome x P → IfSome y P → IfSome (if b then x else y) P
+either P true x y h g = h
+either P false x y h g = g
+
+onward : {A : Type 0} {P Q : A → Type 0} (o : Option A) → IfSome o P → ((a : A) → P a → Q a) → IfSome o Q
+onward (Some a) h f = f a h
+onward None h f = tt
+
+-- one that is found among entries that all have P
+found_among : {V : Type 0} (P : V → Type 0) (test : List ℕ → Bool) (es : List (List ℕ × V)) → AllByRecursion (λ e. P e.1) es → IfSome (lookup test es) P
+found_among P test [] h = tt
+found_among P test (e ∷ es) h = go (test e.0) (found_among P test es h.1)
   where
-    go : (b : Bool) → (type_declared vs id ≡ Some t → t ≡ BoolType) → cond b (Some v.1) (type_declared vs id) ≡ Some t → t ≡ BoolType
-    go true f q = (let e : v.1 ≡ t = cc in sym e ∙ h.0)
-    go false f q = f q
+    go : (b : Bool) → IfSome (lookup test es) P → IfSome (cond b (Some e.1) (lookup test es)) P
+    go true f = h.0
+    go false f = f
+
+-- ---- types
+
+abbrev pub AreFormed : Variables → Type 0
+AreFormed vs = AllByRecursion (λ v. IsFormedType v.1) vs
+
+one_more : (vs : Variables) (v : List ℕ × PlainType) → AreFormed vs → IsFormedType v.1 → AreFormed (vs ++ v ∷ [])
+one_more [] v h p = (p, tt)
+one_more (w ∷ vs) v h p = (h.0, one_more vs v h.1 p)
+
+bool_formed : IsFormedType BoolType
+bool_formed = (tt, tt)
+
+width_formed : (n : ℕ) → is_width n ≡ true → IsFormedType (BitVecType n)
+width_formed n h = (let p = and_parts (nat_le 1 n) (nat_le n 128) h in ((leb-true 1 n p.0, leb-true n 128 p.1), tt))
+
+bits_formed : (n : ℕ) → IfSome (bits_type n) IsFormedType
+bits_formed n = go (is_width n) refl
+  where
+    go : (b : Bool) → is_width n ≡ b → IfSome (if b then Some (BitVecType n) else None) IsFormedType
+    go true e = width_formed n e
+    go false e = tt
+
+type_formed : (e : Expression) → IfSome (type_of_expression e) IsFormedType
+type_formed (Leaf a) = bound IsFormedType (name_in (Leaf a)) type_named (whichever _ (name_in (Leaf a)) (λ n. either IsFormedType (bytes_eq n (codes "Bool")) (Some BoolType) None bool_formed tt))
+type_formed (Node es) =
+    bound IsFormedType (section (codes "BitVec") (Node es) >>= sole >>= number_in) bits_type (whichever _ (section (codes "BitVec") (Node es) >>= sole >>= number_in) bits_formed)
 
 -- ---- declarations
 
-named_bool : (b : Bool) (t : PlainType) → (if b then Some BoolType else None) ≡ Some t → t ≡ BoolType
-named_bool true t p = cc
-named_bool false t p = absurd (cc)
+declared_formed : (vs : Variables) (id : List ℕ) → AreFormed vs → IfSome (type_declared vs id) IsFormedType
+declared_formed vs id h = found_among IsFormedType (bytes_eq id) vs h
 
-type_bool : (o : Option (List ℕ)) (t : PlainType) → (o >>= type_named) ≡ Some t → t ≡ BoolType
-type_bool (Some n) t p = named_bool (bytes_eq n (codes "Bool")) t p
-type_bool None t p = absurd (cc)
+undeclared : (o : Option PlainType) (v : List ℕ × PlainType) → IsFormedType v.1 → IfSome (unless_declared o v) (λ w. IsFormedType w.1)
+undeclared (Some t) v h = tt
+undeclared None v h = h
 
-undeclared_bool : (o : Option PlainType) (w v : List ℕ × PlainType) → w.1 ≡ BoolType → unless_declared o w ≡ Some v → v.1 ≡ BoolType
-undeclared_bool (Some t) w v h p = absurd (cc)
-undeclared_bool None w v h p = (let e : w ≡ v = cc in ap (λ (x : List ℕ × PlainType). x.1) (sym e) ∙ h)
+variable_formed : (vs : Variables) (e : Expression) → IfSome (variable_of vs e) (λ v. IsFormedType v.1)
+variable_formed vs (Leaf a) = tt
+variable_formed vs (Node Nil) = tt
+variable_formed vs (Node (Cons id Nil)) = tt
+variable_formed vs (Node (Cons id (Cons ty Nil))) =
+    bound _ (text_in id) _ (whichever _ (text_in id) (λ name. bound _ (type_of_expression ty) _ (onward (type_of_expression ty) (type_formed ty) (λ t f. undeclared (type_declared vs name) (name, t) f))))
+variable_formed vs (Node (Cons id (Cons ty (Cons e es)))) = tt
 
-stated_bool : (vs : Variables) (o : Option (List ℕ)) (ty : Option PlainType) (v : List ℕ × PlainType) → ((t : PlainType) → ty ≡ Some t → t ≡ BoolType)
-    → (o >>= λ name. ty >>= λ t. unless_declared (type_declared vs name) (name, t)) ≡ Some v → v.1 ≡ BoolType
-stated_bool vs None ty v h p = absurd (cc)
-stated_bool vs (Some n) None v h p = absurd (cc)
-stated_bool vs (Some n) (Some t) v h p = undeclared_bool (type_declared vs n) (n, t) v (h t refl) p
-
-variable_bool : (vs : Variables) (e : Expression) (v : List ℕ × PlainType) → variable_of vs e ≡ Some v → v.1 ≡ BoolType
-variable_bool vs (Leaf a) v p = absurd (cc)
-variable_bool vs (Node Nil) v p = absurd (cc)
-variable_bool vs (Node (Cons id Nil)) v p = absurd (cc)
-variable_bool vs (Node (Cons id (Cons ty Nil))) v p = stated_bool vs (text_in id) (type_of_expression ty) v (type_bool (name_in ty)) p
-variable_bool vs (Node (Cons id (Cons ty (Cons e es)))) v p = absurd (cc)
-
-all_declared_bool : (vs ds : Variables) (es : Expressions) → AreBool vs → declared_by vs es ≡ Some ds → AreBool ds
-all_declared_bool vs ds Nil h p = (let e : vs ≡ ds = cc in subst (λ (x : Variables). AreBool x) e h)
-all_declared_bool vs ds (Cons e es) h p = go (variable_of vs e) (variable_bool vs e) (λ more g q. all_declared_bool more ds es g q) p
-  where
-    go : (o : Option (List ℕ × PlainType)) → ((v : List ℕ × PlainType) → o ≡ Some v → v.1 ≡ BoolType) → ((more : Variables) → AreBool more → declared_by more es ≡ Some ds → AreBool ds)
-        → (o >>= λ v. declared_by (vs ++ v ∷ []) es) ≡ Some ds → AreBool ds
-    go (Some v) b f q = f (vs ++ v ∷ []) (all_more vs v h (b v refl)) q
-    go None b f q = absurd (cc)
+all_declared_formed : (vs : Variables) (es : Expressions) → AreFormed vs → IfSome (declared_by vs es) AreFormed
+all_declared_formed vs Nil h = h
+all_declared_formed vs (Cons e es) h = bound AreFormed (variable_of vs e) _ (onward (variable_of vs e) (variable_formed vs e) (λ v f. all_declared_formed (vs ++ v ∷ []) es (one_more vs v h f)))
 
 -- ---- terms
 
-truth_typed : (b : Bool) → Typed (truth b) BoolType
-truth_typed b = record { parts = refl; type = refl }
+-- typed and formed
+pub record IsSound (t : PlainTerm) : Type 0 where
+  pub is_typed : typed t ≡ true
+  pub formed : IsFormed t
 
-negation_typed : (t : PlainTerm) → Typed t BoolType → Typed (negation t) BoolType
-negation_typed t h = record { parts = rw (h.parts, h.type) refl; type = refl }
+abbrev pub AreSound : List PlainTerm → Type 0
+AreSound ts = AllByRecursion IsSound ts
 
-literal_typed : (a b : Bool) (t : PlainTerm) → (if a then Some (truth true) else (if b then Some (truth false) else None)) ≡ Some t → Typed t BoolType
-literal_typed true b t p = (let e : truth true ≡ t = cc in subst (λ (x : PlainTerm). Typed x BoolType) e (truth_typed true))
-literal_typed false true t p = (let e : truth false ≡ t = cc in subst (λ (x : PlainTerm). Typed x BoolType) e (truth_typed false))
-literal_typed false false t p = absurd (cc)
+truth_sound : (b : Bool) → IsSound (truth b)
+truth_sound b = record { is_typed = refl; formed = record { literals = (tt, tt); types = (bool_formed, tt) } }
 
-one_variable : (id : List ℕ) (o : Option PlainType) (t : PlainTerm) → ((u : PlainType) → o ≡ Some u → u ≡ BoolType) → (o >>= λ u. Some (VariableTerm id u)) ≡ Some t → Typed t BoolType
-one_variable id None t h p = absurd (cc)
-one_variable id (Some u) t h p =
-    let e : VariableTerm id u ≡ t = cc in
-    subst (λ (x : PlainTerm). Typed x BoolType) e (record { parts = refl; type = h u refl })
+bits_sound : (w n : ℕ) → 1 ≤ w → w ≤ 128 → n < 2 ^ w → IsSound (LiteralTerm (BitVecLiteral w n))
+bits_sound w n l m h = record { is_typed = refl; formed = record { literals = (h, tt); types = (((l, m), tt), tt) } }
 
-variable_typed : (vs : Variables) (o : Option (List ℕ)) (t : PlainTerm) → AreBool vs → (o >>= λ name. type_declared vs name >>= λ u. Some (VariableTerm name u)) ≡ Some t → Typed t BoolType
-variable_typed vs None t h p = absurd (cc)
-variable_typed vs (Some id) t h p = one_variable id (type_declared vs id) t (λ u q. declared_bool vs id u h q) p
+variable_sound : (id : List ℕ) (t : PlainType) → IsFormedType t → IsSound (VariableTerm id t)
+variable_sound id t h = record { is_typed = refl; formed = record { literals = (tt, tt); types = (h, tt) } }
 
-negated : (o : Option PlainTerm) (t : PlainTerm) → ((u : PlainTerm) → o ≡ Some u → Typed u BoolType) → (o >>= λ u. Some (negation u)) ≡ Some t → Typed t BoolType
-negated None t h p = absurd (cc)
-negated (Some u) t h p = (let e : negation u ≡ t = cc in subst (λ (x : PlainTerm). Typed x BoolType) e (negation_typed u (h u refl)))
+declared_sound : (vs : Variables) (e : Expression) → AreFormed vs → IfSome (declared_variable vs e) IsSound
+declared_sound vs e h = bound IsSound (text_in e) _ (whichever _ (text_in e) (λ name. bound IsSound (type_declared vs name) _ (onward (type_declared vs name) (declared_formed vs name h) (λ t f. variable_sound name t f))))
 
-headed : (a b : Bool) (inner var : Option PlainTerm) (t : PlainTerm) → ((u : PlainTerm) → inner ≡ Some u → Typed u BoolType) → ((u : PlainTerm) → var ≡ Some u → Typed u BoolType)
-    → (if a then (inner >>= λ u. Some (negation u)) else (if b then var else None)) ≡ Some t → Typed t BoolType
-headed true b inner var t h g p = negated inner t h p
-headed false true inner var t h g p = g t p
-headed false false inner var t h g p = absurd (cc)
-
-term_typed : (vs : Variables) (e : Expression) (t : PlainTerm) → AreBool vs → term_of vs e ≡ Some t → Typed t BoolType
-term_typed vs (Leaf (Bits w n)) t h p = absurd (cc)
-term_typed vs (Leaf (Number n)) t h p = absurd (cc)
-term_typed vs (Leaf (Text s)) t h p = absurd (cc)
-term_typed vs (Leaf (Name n)) t h p = literal_typed (bytes_eq n (codes "true")) (bytes_eq n (codes "false")) t p
-term_typed vs (Node Nil) t h p = absurd (cc)
-term_typed vs (Node (Cons head Nil)) t h p = absurd (cc)
-term_typed vs (Node (Cons head (Cons e Nil))) t h p = go (name_in head) (λ u r. term_typed vs e u h r) p
+literal_sound : (w n : ℕ) → IfSome (bits_literal w n) IsSound
+literal_sound w n = go (are_bits w n) refl
   where
-    go : (o : Option (List ℕ)) → ((u : PlainTerm) → term_of vs e ≡ Some u → Typed u BoolType) → (o >>= λ n. headed_term vs n e (term_of vs e)) ≡ Some t → Typed t BoolType
-    go None f q = absurd (cc)
-    go (Some n) f q = headed (bytes_eq n (codes "not")) (bytes_eq n (codes "var")) (term_of vs e) (declared_variable vs e) t f (λ u r. variable_typed vs (text_in e) u h r) q
-term_typed vs (Node (Cons head (Cons e (Cons f es)))) t h p = absurd (cc)
+    go : (b : Bool) → are_bits w n ≡ b → IfSome (if b then Some (LiteralTerm (BitVecLiteral w n)) else None) IsSound
+    go true e =
+        let p = and_parts (is_width w) (nat_lt n (2 ^ w)) e in
+        let q = and_parts (nat_le 1 w) (nat_le w 128) p.0 in
+        bits_sound w n (leb-true 1 w q.0) (leb-true w 128 q.1) (ltb-true n (2 ^ w) p.1)
+    go false e = tt
 
-terms_typed : (vs : Variables) (es : Expressions) (ts : List PlainTerm) → AreBool vs → terms_of vs es ≡ Some ts → AllByRecursion (λ t. Typed t BoolType) ts
-terms_typed vs Nil ts h p = (let e : [] ≡ ts = cc in subst (λ (x : List PlainTerm). AllByRecursion (λ t. Typed t BoolType) x) e tt)
-terms_typed vs (Cons e es) ts h p = go (term_of vs e) (terms_of vs es) (λ t q. term_typed vs e t h q) (λ us q. terms_typed vs es us h q) p
+stated_bits_sound : (es : Expressions) → IfSome (bits_stated es) IsSound
+stated_bits_sound Nil = tt
+stated_bits_sound (Cons width Nil) = tt
+stated_bits_sound (Cons width (Cons number Nil)) =
+    bound IsSound (number_in width) _ (whichever _ (number_in width) (λ w. bound IsSound (number_in number) _ (whichever _ (number_in number) (λ n. literal_sound w n))))
+stated_bits_sound (Cons width (Cons number (Cons e es))) = tt
+
+long_sound : (e : Expression) → IfSome (long_of_text e) IsSound
+long_sound e = bound IsSound (text_in e >>= long_in) _ (whichever _ (text_in e >>= long_in) (λ z. bits_sound 64 (bits_of 64 z) (omega arith) (omega arith) (ranges.bits_of-below 64 z)))
+
+-- ---- applications
+
+-- the operators that jobs apply
+abbrev is_applied : PlainOp → Bool
+is_applied NotOp = true
+is_applied AndOp = true
+is_applied OrOp = true
+is_applied EqOp = true
+is_applied IteOp = true
+is_applied BvnegOp = true
+is_applied BvaddOp = true
+is_applied BvsubOp = true
+is_applied BvmulOp = true
+is_applied BvudivOp = true
+is_applied BvuremOp = true
+is_applied BvsdivOp = true
+is_applied BvsremOp = true
+is_applied BvsmodOp = true
+is_applied BvshlOp = true
+is_applied BvlshrOp = true
+is_applied BvultOp = true
+is_applied BvuleOp = true
+is_applied BvsltOp = true
+is_applied BvsleOp = true
+is_applied BvnegoOp = true
+is_applied BvsaddoOp = true
+is_applied BvssuboOp = true
+is_applied BvsmuloOp = true
+is_applied (ZeroExtendOp k) = true
+is_applied o = false
+
+operators_applied : (n : List ℕ) → IfSome (operator_named n) (λ o. is_applied o ≡ true)
+operators_applied n = found_among (λ o. is_applied o ≡ true) (bytes_eq n) named_operators (refl, (refl, (refl, (refl, (refl, (refl, (refl, (refl, (refl, (refl, (refl, (refl, (refl, (refl, (refl, (refl, (refl, (refl, (refl, (refl, (refl, (refl, (refl, (refl, tt))))))))))))))))))))))))
+
+extension_applied : (k : ℕ) → IfSome (extension_by k) (λ o. is_applied o ≡ true)
+extension_applied k = either (λ o. is_applied o ≡ true) (nat_le k 127) (Some (ZeroExtendOp k)) None refl tt
+
+truth_given : (b : Bool) (t : PlainType) → then_some b BoolType ≡ Some t → IsFormedType t
+truth_given b t h = subst (λ (x : PlainType). IsFormedType x) (chosen b BoolType t h).1 bool_formed
+
+same_given : (b : Bool) (u t : PlainType) → IsFormedType u → then_some b u ≡ Some t → IsFormedType t
+same_given b u t f h = subst (λ (x : PlainType). IsFormedType x) (chosen b u t h).1 f
+
+wider_given : (k : ℕ) (u t : PlainType) → IsFormedType u → extended_type k u ≡ Some t → IsFormedType t
+wider_given k (BitVecType n) t f h =
+    let p = chosen (nat_le (n + k) 128) (BitVecType (n + k)) t h in
+    let most = leb-true (n + k) 128 p.0 in
+    subst (λ (x : PlainType). IsFormedType x) p.1 ((omega (arith, f.0.0), most), tt)
+wider_given k u t f h = absurd (cc)
+
+-- their results are formed
+given_formed : (o : PlainOp) (us : List PlainType) (t : PlainType) → is_applied o ≡ true → AllByRecursion IsFormedType us → result_type o us ≡ Some t → IsFormedType t
+given_formed NotOp (u ∷ []) t a f h = truth_given _ t h
+given_formed BvnegoOp (u ∷ []) t a f h = truth_given _ t h
+given_formed BvnegOp (u ∷ []) t a f h = same_given _ u t f.0 h
+given_formed (ZeroExtendOp k) (u ∷ []) t a f h = wider_given k u t f.0 h
+given_formed AndOp (u ∷ w ∷ []) t a f h = truth_given _ t h
+given_formed OrOp (u ∷ w ∷ []) t a f h = truth_given _ t h
+given_formed EqOp (u ∷ w ∷ []) t a f h = truth_given _ t h
+given_formed BvultOp (u ∷ w ∷ []) t a f h = truth_given _ t h
+given_formed BvuleOp (u ∷ w ∷ []) t a f h = truth_given _ t h
+given_formed BvsltOp (u ∷ w ∷ []) t a f h = truth_given _ t h
+given_formed BvsleOp (u ∷ w ∷ []) t a f h = truth_given _ t h
+given_formed BvsaddoOp (u ∷ w ∷ []) t a f h = truth_given _ t h
+given_formed BvssuboOp (u ∷ w ∷ []) t a f h = truth_given _ t h
+given_formed BvsmuloOp (u ∷ w ∷ []) t a f h = truth_given _ t h
+given_formed BvaddOp (u ∷ w ∷ []) t a f h = same_given _ u t f.0 h
+given_formed BvsubOp (u ∷ w ∷ []) t a f h = same_given _ u t f.0 h
+given_formed BvmulOp (u ∷ w ∷ []) t a f h = same_given _ u t f.0 h
+given_formed BvudivOp (u ∷ w ∷ []) t a f h = same_given _ u t f.0 h
+given_formed BvuremOp (u ∷ w ∷ []) t a f h = same_given _ u t f.0 h
+given_formed BvsdivOp (u ∷ w ∷ []) t a f h = same_given _ u t f.0 h
+given_formed BvsremOp (u ∷ w ∷ []) t a f h = same_given _ u t f.0 h
+given_formed BvsmodOp (u ∷ w ∷ []) t a f h = same_given _ u t f.0 h
+given_formed BvshlOp (u ∷ w ∷ []) t a f h = same_given _ u t f.0 h
+given_formed BvlshrOp (u ∷ w ∷ []) t a f h = same_given _ u t f.0 h
+given_formed IteOp (g ∷ u ∷ w ∷ []) t a f h = same_given _ u t f.1.0 h
+given_formed o us t a f h = absurd (cc)
+
+-- what holds of the subterms of each term holds of those of all
+joined : (P : PlainTerm → Type 0) (ts : List PlainTerm) → AllByRecursion (λ t. AllByRecursion P (subterms t)) ts → AllByRecursion P (subterms_of_all (terms ts))
+joined P [] h = tt
+joined P (t ∷ ts) h = all-join P (subterms t) (subterms_of_all (terms ts)) h.0 (joined P ts h.1)
+
+all_literals : (ts : List PlainTerm) → AreSound ts → AllByRecursion (λ t. AllByRecursion IsFormedNode (subterms t)) ts
+all_literals [] h = tt
+all_literals (t ∷ ts) h = (h.0.formed.literals, all_literals ts h.1)
+
+all_types : (ts : List PlainTerm) → AreSound ts → AllByRecursion (λ t. AllByRecursion (λ u. IsFormedType (type_of u)) (subterms t)) ts
+all_types [] h = tt
+all_types (t ∷ ts) h = (h.0.formed.types, all_types ts h.1)
+
+all_typed : (ts : List PlainTerm) → AreSound ts → typed_all (terms ts) ≡ true
+all_typed [] h = refl
+all_typed (t ∷ ts) h = rw h.0.is_typed (all_typed ts h.1)
+
+own_types : (ts : List PlainTerm) → AreSound ts → AllByRecursion IsFormedType (map type_of ts)
+own_types [] h = tt
+own_types (t ∷ ts) h = (last_type t h.0.formed, own_types ts h.1)
+
+-- an operator at sound terms that it takes
+applied_sound : (o : PlainOp) (ts : List PlainTerm) → is_applied o ≡ true → AreSound ts → IfSome (applied o ts) IsSound
+applied_sound o ts a h = go (result_type o (map type_of ts)) refl
   where
-    go : (o : Option PlainTerm) (os : Option (List PlainTerm)) → ((t : PlainTerm) → o ≡ Some t → Typed t BoolType) → ((us : List PlainTerm) → os ≡ Some us → AllByRecursion (λ t. Typed t BoolType) us)
-        → (o >>= λ t. os >>= λ us. Some (t ∷ us)) ≡ Some ts → AllByRecursion (λ t. Typed t BoolType) ts
-    go None os f g q = absurd (cc)
-    go (Some t) None f g q = absurd (cc)
-    go (Some t) (Some us) f g q = (let e : t ∷ us ≡ ts = cc in subst (λ (x : List PlainTerm). AllByRecursion (λ t. Typed t BoolType) x) e (f t refl, g us refl))
+    go : (r : Option PlainType) → result_type o (map type_of ts) ≡ r → IfSome (r >>= λ t. Some (Application o (terms ts) t)) IsSound
+    go (Some t) e = record {
+      is_typed =
+          let same : result_type o (types_of (terms ts)) ≡ Some t = ap (λ us. result_type o (map type_of us)) (listed ts) ∙ e in
+          rw (all_typed ts h, same) (ap is_eq (type_itself t));
+      formed = record {
+        literals = all-join IsFormedNode (subterms_of_all (terms ts)) _ (joined IsFormedNode ts (all_literals ts h)) (tt, tt);
+        types = all-join (λ u. IsFormedType (type_of u)) (subterms_of_all (terms ts)) _ (joined (λ u. IsFormedType (type_of u)) ts (all_types ts h)) (given_formed o (map type_of ts) t a (own_types ts h) e, tt);
+      };
+    }
+    go None e = tt
+
+module _ (vs : Variables) (formed : AreFormed vs) where
+  headed_sound : (n : List ℕ) (es : Expressions) (all others : Option (List PlainTerm)) → IfSome all AreSound → IfSome others AreSound → IfSome (headed_term vs n es all others) IsSound
+  headed_sound n es all others h g =
+      either IsSound (bytes_eq n (codes "var")) _ _ (bound IsSound (sole es) _ (whichever _ (sole es) (λ e. declared_sound vs e formed)))
+      (either IsSound (bytes_eq n (codes "bv")) _ _ (stated_bits_sound es)
+      (either IsSound (bytes_eq n (codes "long")) _ _ (bound IsSound (sole es) _ (whichever _ (sole es) long_sound))
+      (either IsSound (bytes_eq n (codes "zero_extend")) _ _
+      (bound IsSound (extension_stated es) _ (onward (extension_stated es) (bound _ (first_in es >>= number_in) _ (whichever _ (first_in es >>= number_in) extension_applied)) (λ o a. bound IsSound others _ (onward others g (λ ts s. applied_sound o ts a s)))))
+      (bound IsSound (operator_named n) _ (onward (operator_named n) (operators_applied n) (λ o a. bound IsSound all _ (onward all h (λ ts s. applied_sound o ts a s))))))))
+
+  leaf_sound : (o : Option (List ℕ)) → IfSome (o >>= literal_of) IsSound
+  leaf_sound o = bound IsSound o literal_of (whichever _ o (λ n. either IsSound (bytes_eq n (codes "true")) _ _ (truth_sound true) (either IsSound (bytes_eq n (codes "false")) _ _ (truth_sound false) tt)))
+
+  mutual
+    pub term_sound : (e : Expression) → IfSome (term_of vs e) IsSound
+    term_sound (Leaf a) = leaf_sound (name_in (Leaf a))
+    term_sound (Node Nil) = tt
+    term_sound (Node (Cons head es)) = bound IsSound (name_in head) _ (whichever _ (name_in head) (λ n. headed_sound n es (terms_of vs es) (other_terms vs es) (terms_sound es) (others_sound es)))
+
+    pub terms_sound : (es : Expressions) → IfSome (terms_of vs es) AreSound
+    terms_sound Nil = tt
+    terms_sound (Cons e es) = bound AreSound (term_of vs e) _ (onward (term_of vs e) (term_sound e) (λ t s. bound AreSound (terms_of vs es) _ (onward (terms_of vs es) (terms_sound es) (λ ts r. (s, r)))))
+
+    others_sound : (es : Expressions) → IfSome (other_terms vs es) AreSound
+    others_sound Nil = tt
+    others_sound (Cons e es) = terms_sound es
+
+-- ---- conditions
+
+-- typed as a Boolean, and formed
+pub record IsCondition (t : PlainTerm) : Type 0 where
+  pub boolean : Typed t BoolType
+  pub formed : IsFormed t
+
+chosen_condition : (t : PlainTerm) → IsSound t → IfSome (if type_eq (type_of t) BoolType then Some t else None) IsCondition
+chosen_condition t s = go (type_eq (type_of t) BoolType) refl
+  where
+    go : (b : Bool) → type_eq (type_of t) BoolType ≡ b → IfSome (if b then Some t else None) IsCondition
+    go true e = record { boolean = record { parts = s.is_typed; type = eq_same (type_of t) BoolType e }; formed = s.formed }
+    go false e = tt
+
+conditions_sound : (vs : Variables) (es : Expressions) → AreFormed vs → IfSome (conditions_of vs es) (AllByRecursion IsCondition)
+conditions_sound vs Nil h = tt
+conditions_sound vs (Cons e es) h =
+    bound _ (condition_of vs e) _ (onward (condition_of vs e) (bound IsCondition (term_of vs e) _ (onward (term_of vs e) (term_sound vs h e) (λ t s. chosen_condition t s)))
+    (λ t c. bound _ (conditions_of vs es) _ (onward (conditions_of vs es) (conditions_sound vs es h) (λ ts r. (c, r)))))
 
 -- ---- jobs
 
-parts_typed : (a : Option Expressions) (vs : Option Expressions) (b : Option Expressions) (ts : Option Expressions) (job : PlainJob)
-    → (a >>= λ x. vs >>= λ v. b >>= λ y. ts >>= λ t. declared_by [] v >>= λ declared. terms_of declared t >>= λ written. Some (record { enums = []; variables = declared; terms = written })) ≡ Some job
-    → AllByRecursion (λ t. Typed t BoolType) job.terms
-parts_typed None vs b ts job p = absurd (cc)
-parts_typed (Some x) None b ts job p = absurd (cc)
-parts_typed (Some x) (Some v) None ts job p = absurd (cc)
-parts_typed (Some x) (Some v) (Some y) None job p = absurd (cc)
-parts_typed (Some x) (Some v) (Some y) (Some t) job p = go (declared_by [] v) (λ ds q. all_declared_bool [] ds v tt q) p
-  where
-    last : (ds : Variables) (o : Option (List PlainTerm)) → ((us : List PlainTerm) → o ≡ Some us → AllByRecursion (λ t. Typed t BoolType) us)
-        → (o >>= λ written. Some (record { enums = []; variables = ds; terms = written })) ≡ Some job → AllByRecursion (λ t. Typed t BoolType) job.terms
-    last ds None f q = absurd (cc)
-    last ds (Some us) f q =
-        let e : us ≡ job.terms = cc in
-        subst (λ (x : List PlainTerm). AllByRecursion (λ t. Typed t BoolType) x) e (f us refl)
+abbrev AreJobConditions : PlainJob → Type 0
+AreJobConditions job = AllByRecursion IsCondition job.terms
 
-    go : (o : Option Variables) → ((ds : Variables) → o ≡ Some ds → AreBool ds)
-        → (o >>= λ declared. terms_of declared t >>= λ written. Some (record { enums = []; variables = declared; terms = written })) ≡ Some job → AllByRecursion (λ t. Typed t BoolType) job.terms
-    go None f q = absurd (cc)
-    go (Some ds) f q = last ds (terms_of ds t) (λ us r. terms_typed ds t us (f ds refl) r) q
+sections_sound : (es : Expressions) → IfSome (job_of_sections es) AreJobConditions
+sections_sound (Cons enums (Cons variables (Cons functions (Cons conditions Nil)))) =
+    bound AreJobConditions (empty_section (codes "enums") enums) _ (whichever _ (empty_section (codes "enums") enums) (λ a.
+    bound AreJobConditions (section (codes "vars") variables) _ (whichever _ (section (codes "vars") variables) (λ vs.
+    bound AreJobConditions (empty_section (codes "funs") functions) _ (whichever _ (empty_section (codes "funs") functions) (λ b.
+    bound AreJobConditions (section (codes "terms") conditions) _ (whichever _ (section (codes "terms") conditions) (λ ts.
+    bound AreJobConditions (declared_by [] vs) _ (onward (declared_by [] vs) (all_declared_formed [] vs tt) (λ declared f.
+    bound AreJobConditions (conditions_of declared ts) _ (onward (conditions_of declared ts) (conditions_sound declared ts f) (λ written c. c))))))))))))
+sections_sound Nil = tt
+sections_sound (Cons a Nil) = tt
+sections_sound (Cons a (Cons b Nil)) = tt
+sections_sound (Cons a (Cons b (Cons c Nil))) = tt
+sections_sound (Cons a (Cons b (Cons c (Cons d (Cons e es))))) = tt
 
-sections_typed : (es : Expressions) (job : PlainJob) → job_of_sections es ≡ Some job → AllByRecursion (λ t. Typed t BoolType) job.terms
-sections_typed (Cons a (Cons v (Cons f (Cons t Nil)))) job p = parts_typed (empty_section (codes "enums") a) (section (codes "vars") v) (empty_section (codes "funs") f) (section (codes "terms") t) job p
-sections_typed Nil job p = absurd (cc)
-sections_typed (Cons a Nil) job p = absurd (cc)
-sections_typed (Cons a (Cons v Nil)) job p = absurd (cc)
-sections_typed (Cons a (Cons v (Cons f Nil))) job p = absurd (cc)
-sections_typed (Cons a (Cons v (Cons f (Cons t (Cons e es))))) job p = absurd (cc)
-
--- the terms of a job are typed as Booleans
-pub job_typed : (bytes : List ℕ) (job : PlainJob) → IsJob bytes job → AllByRecursion (λ t. Typed t BoolType) job.terms
-job_typed bytes job is = go (section (codes "job") is.expression) is.stated
-  where
-    go : (o : Option Expressions) → (o >>= job_of_sections) ≡ Some job → AllByRecursion (λ t. Typed t BoolType) job.terms
-    go None q = absurd (cc)
-    go (Some es) q = sections_typed es job q
+pub job_conditions : (bytes : List ℕ) (job : PlainJob) → IsJob bytes job → AllByRecursion IsCondition job.terms
+job_conditions bytes job is =
+    subst (λ (o : Option PlainJob). IfSome o AreJobConditions) is.stated (bound AreJobConditions (section (codes "job") is.expression) job_of_sections (whichever _ (section (codes "job") is.expression) sections_sound))

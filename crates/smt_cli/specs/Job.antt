@@ -1,16 +1,23 @@
--- Jobs of Boolean terms. A job is one S-expression,
--- (job (enums) (vars ("id" Bool) ..) (funs) (terms t ..)),
--- of at most 16777216 bytes in which at most 512 brackets are open at a place. The ids are distinct. A term is `true`,
--- `false`, `(var "id")` of a declared id, or `(not t)`.
-use Rattle.std.specs.Prelude.{ℕ, ◌≤◌, ◌≡◌, Bool, true, false, bytes_eq, codes, if◌then◌else◌, length, encode_utf8_all, List, [], ◌∷◌, ◌++◌, Option, Some, None}
+-- Jobs of terms over Booleans and bitvectors. A job is one S-expression,
+-- (job (enums) (vars ("id" TYPE) ..) (funs) (terms t ..)),
+-- of at most 16777216 bytes in which at most 512 brackets are open at a place. The ids are distinct. A TYPE is `Bool` or
+-- `(BitVec N)`, N from 1 to 128. A term is `true`, `false`, `(var "id")` of a declared id, `(bv W N)` with N below 2 to the W,
+-- `(long "-5")` of a number of 64 bits, `(zero_extend N t)`, or `(name t ..)` of another operator that takes terms of these
+-- types. Each term is a Boolean.
+use Rattle.std.specs.Prelude.{ℕ, ◌≤◌, ◌≡◌, ◌==◌, Bool, true, false, not, ◌&&◌, nat_le, ℤ, bytes_eq, codes, if◌then◌else◌, length, map, encode_utf8_all, List, [], ◌∷◌, ◌++◌, Option, Some, None}
 use Rattle.std.specs.Map.{lookup}
-use Rattle.smt_term.specs.Plain.{PlainType, BoolType, NotOp, BoolLiteral, PlainTerm, Application, LiteralTerm, VariableTerm, terms}
+use Rattle.smt_bits.specs.BitVectors.{bits_of, overflows}
+use Rattle.smt_bits.specs.Widths.{are_bits, is_width}
+use Rattle.smt_ext.specs.Digits.{is_numeral, number_of, signed}
+use Rattle.smt_factory.specs.Built.{built}
+use Rattle.smt_term.specs.Plain.{PlainType, BitVecType, BoolType, PlainOp, AndOp, BvaddOp, BvlshrOp, BvmulOp, BvnegOp, BvnegoOp, BvsaddoOp, BvsdivOp, BvshlOp, BvsleOp, BvsltOp, BvsmodOp, BvsmuloOp, BvsremOp, BvssuboOp, BvsubOp, BvudivOp, BvuleOp, BvultOp, BvuremOp, EqOp, IteOp, NotOp, OrOp, ZeroExtendOp, BitVecLiteral, BoolLiteral, PlainTerm, Application, LiteralTerm, VariableTerm, terms}
+use Rattle.smt_term.specs.Types.{result_type, type_eq, type_of}
 use Rattle.smt_term.specs.TypeValues.{Enums}
-use Rattle.smt_sexpr.specs.Lexicon.{Name, Text}
+use Rattle.smt_sexpr.specs.Lexicon.{Name, Number, Text}
 use Rattle.smt_sexpr.specs.Plain.{IsPlainRead}
 use Rattle.smt_sexpr.specs.Reading.{Expression, Leaf, Node, Expressions, Nil, Cons}
 
--- a job without where it lies in memory: its enum types, the declared variables with their types, and its terms
+-- a job without where it lies in memory: its enum types, the declared variables with their types, and its terms as written
 pub record PlainJob : Type 0 where
   pub enums : Enums
   pub variables : List (List ℕ × PlainType)
@@ -38,6 +45,15 @@ abbrev pub text_in : Expression → Option (List ℕ)
 text_in (Leaf (Text points)) = Some (encode_utf8_all points)
 text_in e = None
 
+abbrev pub number_in : Expression → Option ℕ
+number_in (Leaf (Number n)) = Some n
+number_in e = None
+
+-- the one expression of a list
+abbrev pub sole : Expressions → Option Expression
+sole (Cons e Nil) = Some e
+sole es = None
+
 -- what stands behind a head in brackets
 abbrev pub section : List ℕ → Expression → Option Expressions
 section head (Node (Cons first es)) = name_in first >>= λ n. if bytes_eq head n then Some es else None
@@ -48,8 +64,13 @@ section head e = None
 abbrev pub type_named : List ℕ → Option PlainType
 type_named n = if bytes_eq n (codes "Bool") then Some BoolType else None
 
+abbrev pub bits_type : (width : ℕ) → Option PlainType
+bits_type n = if is_width n then Some (BitVecType n) else None
+
+-- `Bool`, or `(BitVec N)`
 abbrev pub type_of_expression : Expression → Option PlainType
-type_of_expression e = name_in e >>= type_named
+type_of_expression (Leaf a) = name_in (Leaf a) >>= type_named
+type_of_expression (Node es) = section (codes "BitVec") (Node es) >>= sole >>= number_in >>= bits_type
 
 abbrev pub unless_declared : Option PlainType → List ℕ × PlainType → Option (List ℕ × PlainType)
 unless_declared (Some t) variable = None
@@ -66,7 +87,7 @@ abbrev pub declared_by : Variables → Expressions → Option Variables
 declared_by variables Nil = Some variables
 declared_by variables (Cons e es) = variable_of variables e >>= λ variable. declared_by (variables ++ variable ∷ []) es
 
--- ---- terms
+-- ---- terms that are no applications
 
 abbrev pub truth : Bool → PlainTerm
 truth b = LiteralTerm (BoolLiteral b)
@@ -77,23 +98,95 @@ literal_of n = if bytes_eq n (codes "true") then Some (truth true) else (if byte
 abbrev pub declared_variable : Variables → Expression → Option PlainTerm
 declared_variable variables e = text_in e >>= λ name. type_declared variables name >>= λ t. Some (VariableTerm name t)
 
-abbrev pub negation : PlainTerm → PlainTerm
-negation t = Application NotOp (terms (t ∷ [])) BoolType
+abbrev pub variable_stated : Variables → Expressions → Option PlainTerm
+variable_stated variables es = sole es >>= declared_variable variables
 
--- a term of one operand, by its head
-abbrev pub headed_term : Variables → (head : List ℕ) → (operand : Expression) → (inner : Option PlainTerm) → Option PlainTerm
-headed_term variables head operand inner =
-    if bytes_eq head (codes "not") then (inner >>= λ t. Some (negation t))
-    else (if bytes_eq head (codes "var") then declared_variable variables operand else None)
+-- a width and a number of that width
+abbrev pub bits_literal : (width number : ℕ) → Option PlainTerm
+bits_literal w n = if are_bits w n then Some (LiteralTerm (BitVecLiteral w n)) else None
 
-abbrev pub term_of : Variables → Expression → Option PlainTerm
-term_of variables (Leaf (Name n)) = literal_of n
-term_of variables (Node (Cons head (Cons e Nil))) = name_in head >>= λ n. headed_term variables n e (term_of variables e)
-term_of variables e = None
+abbrev pub bits_stated : Expressions → Option PlainTerm
+bits_stated (Cons width (Cons number Nil)) = number_in width >>= λ w. number_in number >>= λ n. bits_literal w n
+bits_stated es = None
 
-abbrev pub terms_of : Variables → Expressions → Option (List PlainTerm)
-terms_of variables Nil = Some []
-terms_of variables (Cons e es) = term_of variables e >>= λ t. terms_of variables es >>= λ ts. Some (t ∷ ts)
+-- a number of 64 bits: a minus where it is negative, and digits
+abbrev pub long_of : (negative : Bool) → (digits : List ℕ) → Option ℤ
+long_of negative digits =
+    if is_numeral digits && not (overflows 64 (signed negative (number_of digits))) then Some (signed negative (number_of digits)) else None
+
+abbrev pub long_in : List ℕ → Option ℤ
+long_in [] = None
+long_in (b ∷ bs) = if b == 45 then long_of true bs else long_of false (b ∷ bs)
+
+abbrev pub long_literal : ℤ → PlainTerm
+long_literal z = LiteralTerm (BitVecLiteral 64 (bits_of 64 z))
+
+abbrev pub long_of_text : Expression → Option PlainTerm
+long_of_text e = text_in e >>= long_in >>= λ z. Some (long_literal z)
+
+abbrev pub long_stated : Expressions → Option PlainTerm
+long_stated es = sole es >>= long_of_text
+
+-- ---- applications
+
+-- operators by their names, but for `zero_extend`, whose number stands before its operand
+abbrev pub named_operators : List (List ℕ × PlainOp)
+named_operators =
+    (codes "not", NotOp) ∷ (codes "and", AndOp) ∷ (codes "or", OrOp) ∷ (codes "eq", EqOp) ∷ (codes "ite", IteOp)
+    ∷ (codes "bvneg", BvnegOp) ∷ (codes "bvadd", BvaddOp) ∷ (codes "bvsub", BvsubOp) ∷ (codes "bvmul", BvmulOp)
+    ∷ (codes "bvudiv", BvudivOp) ∷ (codes "bvurem", BvuremOp) ∷ (codes "bvsdiv", BvsdivOp) ∷ (codes "bvsrem", BvsremOp) ∷ (codes "bvsmod", BvsmodOp)
+    ∷ (codes "bvshl", BvshlOp) ∷ (codes "bvlshr", BvlshrOp)
+    ∷ (codes "bvult", BvultOp) ∷ (codes "bvule", BvuleOp) ∷ (codes "bvslt", BvsltOp) ∷ (codes "bvsle", BvsleOp)
+    ∷ (codes "bvnego", BvnegoOp) ∷ (codes "bvsaddo", BvsaddoOp) ∷ (codes "bvssubo", BvssuboOp) ∷ (codes "bvsmulo", BvsmuloOp) ∷ []
+
+abbrev pub operator_named : List ℕ → Option PlainOp
+operator_named n = lookup (bytes_eq n) named_operators
+
+abbrev pub extension_by : ℕ → Option PlainOp
+extension_by k = if nat_le k 127 then Some (ZeroExtendOp k) else None
+
+-- an operator at arguments of types that it takes
+abbrev pub applied : PlainOp → List PlainTerm → Option PlainTerm
+applied o ts = result_type o (map type_of ts) >>= λ t. Some (Application o (terms ts) t)
+
+-- the operator of an extension, by the number that stands first
+abbrev pub first_in : Expressions → Option Expression
+first_in (Cons e es) = Some e
+first_in Nil = None
+
+abbrev pub extension_stated : Expressions → Option PlainOp
+extension_stated es = first_in es >>= number_in >>= extension_by
+
+-- a term by its head, by what stands behind it, and by the terms that all and all but the first of this state
+abbrev pub headed_term : Variables → (head : List ℕ) → Expressions → (all others : Option (List PlainTerm)) → Option PlainTerm
+headed_term variables head es all others =
+    if bytes_eq head (codes "var") then variable_stated variables es
+    else (if bytes_eq head (codes "bv") then bits_stated es
+    else (if bytes_eq head (codes "long") then long_stated es
+    else (if bytes_eq head (codes "zero_extend") then (extension_stated es >>= λ o. others >>= λ ts. applied o ts)
+    else (operator_named head >>= λ o. all >>= λ ts. applied o ts))))
+
+abbrev mutual
+  pub term_of : Variables → Expression → Option PlainTerm
+  term_of variables (Leaf a) = name_in (Leaf a) >>= literal_of
+  term_of variables (Node Nil) = None
+  term_of variables (Node (Cons head es)) = name_in head >>= λ n. headed_term variables n es (terms_of variables es) (other_terms variables es)
+
+  pub terms_of : Variables → Expressions → Option (List PlainTerm)
+  terms_of variables Nil = Some []
+  terms_of variables (Cons e es) = term_of variables e >>= λ t. terms_of variables es >>= λ ts. Some (t ∷ ts)
+
+  pub other_terms : Variables → Expressions → Option (List PlainTerm)
+  other_terms variables Nil = None
+  other_terms variables (Cons e es) = terms_of variables es
+
+-- a term that is a Boolean
+abbrev pub condition_of : Variables → Expression → Option PlainTerm
+condition_of variables e = term_of variables e >>= λ t. if type_eq (type_of t) BoolType then Some t else None
+
+abbrev pub conditions_of : Variables → Expressions → Option (List PlainTerm)
+conditions_of variables Nil = Some []
+conditions_of variables (Cons e es) = condition_of variables e >>= λ t. conditions_of variables es >>= λ ts. Some (t ∷ ts)
 
 -- ---- jobs
 
@@ -108,7 +201,7 @@ empty_section head e = section head e >>= nothing_in
 abbrev pub job_of_sections : Expressions → Option PlainJob
 job_of_sections (Cons enums (Cons variables (Cons functions (Cons conditions Nil)))) =
     empty_section (codes "enums") enums >>= λ a. section (codes "vars") variables >>= λ vs. empty_section (codes "funs") functions >>= λ b.
-    section (codes "terms") conditions >>= λ ts. declared_by [] vs >>= λ declared. terms_of declared ts >>= λ written.
+    section (codes "terms") conditions >>= λ ts. declared_by [] vs >>= λ declared. conditions_of declared ts >>= λ written.
     Some (record { enums = []; variables = declared; terms = written })
 job_of_sections es = None
 
@@ -128,3 +221,13 @@ pub record IsJob (bytes : List ℕ) (job : PlainJob) : Type 0 where
   pub expression : Expression
   pub read : IsPlainRead bytes greatest_nesting expression
   pub stated : job_of expression ≡ Some job
+
+-- the job with its terms as they are built: each application is folded, its operands first
+abbrev pub built_job : PlainJob → PlainJob
+built_job job = record { enums = job.enums; variables = job.variables; terms = map built job.terms }
+
+-- The bytes are a job, of which this is built.
+pub record IsBuiltFrom (bytes : List ℕ) (job : PlainJob) : Type 0 where
+  pub written : PlainJob
+  pub is_job : IsJob bytes written
+  pub is_built : job ≡ built_job written

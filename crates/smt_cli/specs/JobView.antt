@@ -1,9 +1,13 @@
 -- What a job of the program says, and what reading one gives.
-use Rattle.std.specs.Prelude.{ℕ, ◌≡◌, List, [], ◌∷◌, ◌++◌, map, option_map, Option, Some, None, Ok, Err, Result, ⊤}
+use Rattle.std.specs.Prelude.{ℕ, ◌≡◌, ◌≤◌, IsTrue, drop, length, List, [], ◌∷◌, ◌++◌, map, option_map, Option, Some, None, Ok, Err, Result, ⊤}
+use Rattle.std.specs.List.{AllByRecursion}
 use Rattle.std.specs.Rc.{rc_str_bytes}
 use Rattle.smt_term.specs.Enums.{enums_of}
-use Rattle.smt_term.specs.Plain.{PlainType}
-use Rattle.smt_term.specs.View.{plain_type, plain_items}
+use Rattle.smt_factory.specs.Built.{built}
+use Rattle.smt_term.specs.Plain.{PlainTerm, PlainType}
+use Rattle.smt_term.specs.Types.{typed}
+use Rattle.smt_term.specs.View.{plain_items, plain_op, plain_term, plain_type}
+use Rattle.smt_term.specs.declared.term.Term.{Term}
 use Rattle.smt_term.specs.declared.term.TermVar.{TermVar}
 use Rattle.std.specs.BTreeMap.{get}
 use Rattle.std.specs.Cmp.Lexicographic.{slice_cmp}
@@ -11,15 +15,17 @@ use Rattle.std.specs.Ordering.{nat_cmp}
 use Rattle.std.specs.declared.cmp.Ordering.{Ordering}
 use Rattle.std.specs.declared.alloc.Global.{Global}
 use Rattle.std.specs.declared.rc.RcStr.{RcStr}
-use Rattle.smt_sexpr.specs.Reading.{Expressions}
+use Rattle.smt_sexpr.specs.Reading.{Expressions, Node}
 use Rattle.smt_sexpr.specs.View.{expressions, plain}
 use Rattle.smt_sexpr.specs.declared.expression.SExpr.{SExpr}
-use Rattle.smt_cli.specs.Job.{PlainJob, Variables, type_declared}
-use Rattle.smt_cli.specs.declared.job.Declared.{Declared}
+use Rattle.smt_cli.specs.Job.{PlainJob, Variables, ◌>>=◌, applied, headed_term, other_terms, term_of, terms_of, type_declared}
+use Rattle.smt_cli.specs.declared.declaration.Declared.{Declared}
 use Rattle.smt_cli.specs.declared.job.Job.{Job}
 use Rattle.smt_cli.specs.declared.job.JobError.{JobError}
 use Rattle.smt_cli.specs.declared.job.JobError.TheVariants.{TooLarge, BadForm, Memory}
 use Rattle.smt_cli.specs.declared.job.VarList.{VarList}
+use Rattle.smt_cli.specs.declared.term.Form.{Form}
+use Rattle.smt_cli.specs.declared.term.Form.TheVariants.{Whole, Applied}
 
 -- a declared variable: its id and its type
 abbrev pub plain_declaration : TermVar → List ℕ × PlainType
@@ -46,6 +52,40 @@ listed es = expressions (map plain es)
 -- ids stand in the order of their bytes
 abbrev pub text_order : RcStr Global → RcStr Global → Ordering
 text_order a b = slice_cmp nat_cmp (rc_str_bytes a) (rc_str_bytes b)
+
+-- terms of the program as they are built of these
+pub record AreBuilt (written : List PlainTerm) (now : List Term) : Type 0 where
+  pub are_typed : AllByRecursion (λ t. IsTrue (typed t)) written
+  pub same : map plain_term now ≡ map built written
+
+-- what a head and what stands behind it state
+abbrev pub headed : Variables → List ℕ → List SExpr → Option PlainTerm
+headed vs head operands = headed_term vs head (listed operands) (terms_of vs (listed operands)) (other_terms vs (listed operands))
+
+-- What is stated has this form, where these are all expressions inside the brackets.
+abbrev pub IsForm : Variables → Option PlainTerm → (items : List SExpr) → Form → Type 0
+IsForm vs stated items (Whole t) = option_map built stated ≡ Some (plain_term t)
+IsForm vs stated items (Applied op first) = (first ≤ length items) × (stated ≡ (terms_of vs (listed (drop first items)) >>= applied (plain_op op)))
+
+-- the place of the first operand; 0 where there is none
+abbrev pub first_of : Form → ℕ
+first_of (Whole t) = 0
+first_of (Applied op first) = first
+
+-- The form was found; `BadForm` comes where nothing is stated, `Memory` is free.
+abbrev pub HasForm : Variables → Option PlainTerm → (items : List SExpr) → Result Form JobError → Type 0
+HasForm vs stated items (Ok form) = IsForm vs stated items form
+HasForm vs stated items (Err BadForm) = stated ≡ None
+HasForm vs stated items (Err Memory) = ⊤
+HasForm vs stated items (Err TooLarge) = ⊥
+
+-- of what stands in brackets
+abbrev pub States : Variables → List SExpr → Result Form JobError → Type 0
+States vs items result = HasForm vs (term_of vs (Node (listed items))) items result
+
+-- of a head, which stands before the operands, and of these
+abbrev pub StatesHeaded : Variables → List ℕ → List SExpr → Result Form JobError → Type 0
+StatesHeaded vs head operands result = (first : SExpr) → HasForm vs (headed vs head operands) (first ∷ operands) result
 
 -- The variables are these, in order, and the types are found by their ids.
 pub record Declares (d : Declared) (vs : Variables) : Type 0 where

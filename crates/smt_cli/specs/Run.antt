@@ -1,8 +1,13 @@
 -- What a run is asked for, what it does, and what it says.
-use Rattle.std.specs.Prelude.{ℕ, ◌≡◌, ◌≤◌, ◌<◌, ◌⊎◌, ⊤, length, if◌then◌else◌, bytes_eq, codes, IfSome, IsErrOf, List, [], ◌∷◌, Option, Some, None, Result}
+use Rattle.std.specs.Prelude.{ℕ, ◌≡◌, ◌↔◌, ◌≤◌, ◌<◌, ◌⊎◌, ⊤, length, map, if◌then◌else◌, bytes_eq, codes, IfSome, IsErrOf, List, [], ◌∷◌, Option, Some, None, Result}
 use Rattle.std.specs.Io.KnownBytes.{append_known}
-use Rattle.smt_headline.specs.Headline.{Headline}
-use Rattle.smt_lines.specs.Text.{text}
+use Rattle.smt_term.specs.Interpretations.{IsInterpretation, restrict}
+use Rattle.smt_term.specs.Tables.{Interpretation}
+use Rattle.smt_factory.specs.Built.{built}
+use Rattle.smt_semantics.specs.Value.{IsModel}
+use Rattle.smt_carrying.specs.Interpretations.{carry_interpretation}
+use Rattle.smt_headline.specs.Headline.{AreTrue, Headline}
+use Rattle.smt_lines.specs.Text.{names, text}
 use Rattle.smt_script.specs.Sink.{Puts, Rose}
 use Rattle.smt_script.specs.declared.sink.SinkError.{SinkError}
 use Rattle.smt_cli.specs.Job.{IsJob, PlainJob, greatest_length}
@@ -43,18 +48,20 @@ line_of (Job Memory) = codes "memory\n"
 line_of Want = codes "memory\n"
 
 abbrev pub help_text : List ℕ
-help_text = codes "usage: smtcli script\n\nReads a job from standard input and prints its script in SMT-LIB 2.7.\n\njob:  (job (enums) (vars (\"id\" Bool) ..) (funs) (terms t ..))\nterm: true, false, (var \"id\") or (not t)\n\nstatus: 0 done, 2 no such command, 3 job refused, 5 source fault, 6 sink fault, 7 out of memory\n"
+help_text = codes "usage: smtcli script\n\nReads a job from standard input and prints its script in SMT-LIB 2.7.\n\njob:  (job (enums) (vars (\"id\" TYPE) ..) (funs) (terms t ..))\nTYPE: Bool or (BitVec N)\nterm: true, false, (var \"id\"), (bv W N), (long \"-5\"), (zero_extend N t) or (name t ..)\nname: not and or eq ite bvneg bvadd bvsub bvmul bvudiv bvurem bvsdiv bvsrem bvsmod bvshl bvlshr\n      bvult bvule bvslt bvsle bvnego bvsaddo bvssubo bvsmulo\n\nstatus: 0 done, 2 no such command, 3 job refused, 5 source fault, 6 sink fault, 7 out of memory\n"
 
 abbrev pub version_text : List ℕ
 version_text = codes "smtcli 0.1.0\n"
 
--- The bytes are a job, its script was put, and that is a script whose models are exactly the interpretations that make
--- the job's terms true.
+-- The bytes are a job, and the script of what is built of its terms was put. That is a script whose models are exactly the
+-- interpretations that make the built terms true, and an interpretation of the terms as they are written makes them true
+-- exactly where what the built terms reach of it is carried to a model.
 pub record Prints (old new : Option (List ℕ)) (bytes : List ℕ) : Type 0 where
   pub job : PlainJob
   pub is_job : IsJob bytes job
-  pub printed : new ≡ append_known old (text job.enums job.terms)
-  pub means : Headline job.enums job.terms
+  pub printed : new ≡ append_known old (text job.enums (map built job.terms))
+  pub means : Headline job.enums (map built job.terms)
+  pub true_as_written : (I : Interpretation) → IsInterpretation job.enums job.terms I → AreTrue I job.terms ↔ IsModel (carry_interpretation job.enums (names job.enums (map built job.terms)) (restrict I (map built job.terms))) means.state
 
 -- What was asked for is put, of a source that had this left.
 abbrev pub IsDone : Option Command → (left old new : Option (List ℕ)) → Type 0

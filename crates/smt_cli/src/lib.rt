@@ -1,10 +1,14 @@
 //! The program's run: a job read from a source, its script put to a sink.
 #![tactic(auto, using(smt_term::specs::View::views, smt_sexpr::specs::View::views))]
 
+mod declaration;
+mod expression;
 mod input;
 mod job;
+mod operator;
 mod program;
 mod source;
+mod term;
 
 pub use input::{InputError, read_input};
 pub use job::{Job, JobError, VarList, read_job};

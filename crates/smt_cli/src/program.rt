@@ -10,7 +10,7 @@ ghost use Rattle.smt_headline.specs.Headline.{Headline};
 ghost use Rattle.smt_lines.specs.Text.{text};
 ghost use Rattle.smt_script.specs.Sink.{Puts, Rose};
 ghost use Rattle.smt_script.specs.Texts.{texts};
-ghost use Rattle.smt_cli.specs.Job.{IsJob};
+ghost use Rattle.smt_cli.specs.Job.{IsBuiltFrom};
 ghost use Rattle.smt_cli.specs.JobView.{plain_job};
 ghost use Rattle.smt_cli.specs.Run.{commanded, help_text, line_of, status_of, version_text, Answers, HasNoForm, IsAJob, IsDone, IsNoJob, IsTooLong, Prints, Reports};
 
@@ -28,8 +28,11 @@ usage: smtcli script
 
 Reads a job from standard input and prints its script in SMT-LIB 2.7.
 
-job:  (job (enums) (vars (\"id\" Bool) ..) (funs) (terms t ..))
-term: true, false, (var \"id\") or (not t)
+job:  (job (enums) (vars (\"id\" TYPE) ..) (funs) (terms t ..))
+TYPE: Bool or (BitVec N)
+term: true, false, (var \"id\"), (bv W N), (long \"-5\"), (zero_extend N t) or (name t ..)
+name: not and or eq ite bvneg bvadd bvsub bvmul bvudiv bvurem bvsdiv bvsrem bvsmod bvshl bvlshr
+      bvult bvule bvslt bvsle bvnego bvsaddo bvssubo bvsmulo
 
 status: 0 done, 2 no such command, 3 job refused, 5 source fault, 6 sink fault, 7 out of memory
 ";
@@ -125,7 +128,7 @@ fn put_text<W: Sink>(out: &mut W, text: &str) -> Result<(), Refusal>
 
 /// Reads the source to its end, and the job that it gave.
 fn read_source<R: Source>(alloc: Global, source: &mut R) -> Result<Job, Refusal>
-    ensures job { IfOk result (λ job. IfSome (R.left source.old) (λ bytes. IsJob bytes (plain_job job))) }
+    ensures job { IfOk result (λ job. IfSome (R.left source.old) (λ bytes. IsBuiltFrom bytes (plain_job job))) }
     ensures too_large { IsErrOf result (Refusal.Job JobError.TooLarge) → IfSome (R.left source.old) IsTooLong }
     ensures bad_form { IsErrOf result (Refusal.Job JobError.BadForm) → IfSome (R.left source.old) HasNoForm }
     ensures source { IsErrOf result Refusal.Source → Rose (R.faults source.old) (R.faults source.new) }

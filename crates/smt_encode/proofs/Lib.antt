@@ -3,6 +3,7 @@ pub mod Bracketed
 pub mod Conditions
 pub mod Going
 pub mod Lines
+pub mod Numbered
 pub mod Quoted
 pub mod Scripted
 pub mod Stated

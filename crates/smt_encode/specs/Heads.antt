@@ -1,10 +1,13 @@
 -- What stands before the operands of an application.
-use Rattle.std.specs.Prelude.{codes, []}
-use Rattle.smt_term.specs.Plain.{PlainOp, NotOp}
-use Rattle.smt_sexpr.specs.Reading.{Expression}
-use Rattle.smt_semantics.specs.Script.{name}
+use Rattle.std.specs.Prelude.{codes, [], ◌∷◌}
+use Rattle.smt_term.specs.Names.{op_name}
+use Rattle.smt_term.specs.Plain.{PlainOp, EqOp, ZeroExtendOp}
+use Rattle.smt_sexpr.specs.Lexicon.{Number}
+use Rattle.smt_sexpr.specs.Reading.{Expression, Leaf}
+use Rattle.smt_semantics.specs.Script.{group, name}
 
--- the name of an operator of the theory Core, as a script has it; of other operators nothing is said yet
+-- an operator of the theory Core, of FixedSizeBitVectors or of QF_BV, as a script has it
 abbrev pub head_of : PlainOp → Expression
-head_of NotOp = name (codes "not")
-head_of op = name []
+head_of EqOp = name (codes "=")
+head_of (ZeroExtendOp k) = group (name (codes "_") ∷ name (codes "zero_extend") ∷ Leaf (Number k) ∷ [])
+head_of op = name (op_name op)

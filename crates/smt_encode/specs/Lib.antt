@@ -1,3 +1,4 @@
 pub mod Encoded
 pub mod Errors
 pub mod Heads
+pub mod Manners

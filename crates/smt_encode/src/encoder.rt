@@ -7,17 +7,17 @@ ghost use Rattle.smt_term.specs.Plain.{terms as plain_terms};
 ghost use Rattle.smt_sexpr.specs.Reading.{Expression};
 ghost use Rattle.smt_lines.specs.Line.{Comment, DeclareConst, DefineFun, Assert, spelled_line};
 ghost use Rattle.smt_lines.specs.Lines as lines;
-ghost use Rattle.smt_lines.specs.Lines.{Tables, name_of_term, next_term, no_names, option_line};
+ghost use Rattle.smt_lines.specs.Lines.{Tables, enter_term, name_of_term, next_term, no_names, option_line};
 ghost use Rattle.smt_lines.specs.Text.{names, text};
 ghost use Rattle.smt_headline.specs.Headline.{Headline};
 ghost use Rattle.std.specs.Io.KnownBytes.{append_known};
-ghost use Rattle.smt_semantics.specs.Script.{group};
-ghost use Rattle.smt_encode.specs.Heads.{head_of};
+ghost use Rattle.smt_encode.specs.Manners.{body_of};
 ghost use Rattle.smt_lines.specs.Spelling.{spelled};
 ghost use Rattle.smt_script.specs.Sink.{Rose};
 
 use crate::error::EncodeError;
-use crate::spell::{application_text, quoted_id_text, term_name};
+use crate::manner::{Manner, body_text, manner_of};
+use crate::spell::{bits_literal, bits_sort, quoted_id_text, term_name};
 use smt_script::{Sink, SmtLibScript};
 use smt_term::{EnumTable, Op, Term, TermPrim, TermType, TermVar, Text};
 use std::alloc::Global;
@@ -203,6 +203,7 @@ impl<S: Sink> Encoder<'_, S> {
         ensures cause { HasCause S.faults S.place self.old self.new result }
     {
         match ty {
+            TermType::Bitvec { n } => Ok(bits_sort(self.alloc, *n)?),
             TermType::Bool => Ok(Text::from_str(self.alloc, "Bool")?),
         }
     }
@@ -213,6 +214,7 @@ impl<S: Sink> Encoder<'_, S> {
         ensures cause { HasCause S.faults S.place self.old self.new result }
     {
         match literal {
+            TermPrim::Bitvec(bits) => Ok(bits_literal(self.alloc, bits)?),
             TermPrim::Bool(truth) => {
                 let text = if *truth { "true" } else { "false" };
                 Ok(Text::from_str(self.alloc, text)?)
@@ -252,16 +254,28 @@ impl<S: Sink> Encoder<'_, S> {
     fn define_application(
         &mut self,
         term: &Term,
+        manner: Manner,
         op: &Op,
         sort: &str,
-        operands: &[Text],
+        operands: Vec<Text>,
     ) -> Result<Text, EncodeError>
-        ensures lines { (s : Tables) (e : Expression) (es : List Expression) → HasNames self.old s → name_of_term s (plain_term term.now) ≡ None → sort.now ≡ spelled e → AreSpelled es operands.now →
-            WritesHere S.held self.old self.new (lines.define (plain_term term.now) e (group (head_of (plain_op op.now) ∷ es)) s) IsSpelled result }
+        ensures lines { (s : Tables) (e : Expression) (es : List Expression) → HasNames self.old s → name_of_term s (plain_term term.now) ≡ None → sort.now ≡ spelled e → AreSpelled es operands.items →
+            WritesHere S.held self.old self.new (lines.define (plain_term term.now) e (body_of manner (plain_op op.now) es) s) IsSpelled result }
         ensures cause { HasCause S.faults S.place self.old self.new result }
     {
-        let body = application_text(self.alloc, head_text(op), operands)?;
+        let body = body_text(self.alloc, manner, op, operands)?;
         self.define(term, sort, body.as_str())
+    }
+
+    /// Names a term that has no name yet `false`. It gets no line.
+    fn name_false(&mut self, term: &Term) -> Result<Text, EncodeError>
+        ensures lines { (s : Tables) → HasNames self.old s → name_of_term s (plain_term term.now) ≡ None →
+            WritesHere S.held self.old self.new (enter_term (plain_term term.now) (codes "false") [] s) IsSpelled result }
+        ensures cause { HasCause S.faults S.place self.old self.new result }
+    {
+        let name = Text::from_str(self.alloc, "false")?;
+        self.enter(term, &name)?;
+        Ok(name)
     }
 
     /// The text of a term: its name, or the text of a literal, which has none. What has no name yet gets one, its
@@ -276,11 +290,15 @@ impl<S: Sink> Encoder<'_, S> {
                     return Ok(name);
                 }
                 let sort = self.encode_type(ret_ty)?;
+                let args = args.items();
+                let Some(manner) = manner_of(self.alloc, op, args, ret_ty)? else {
+                    return self.name_false(term);
+                };
                 let mut operands = Vec::new(self.alloc);
-                for arg in args.items() {
+                for arg in args {
                     operands.push(self.encode_term(arg)?)?;
                 }
-                self.define_application(term, op, sort.as_str(), operands.as_slice())
+                self.define_application(term, manner, op, sort.as_str(), operands)
             }
             Term::Prim(literal) => self.encode_literal(literal),
             Term::Var(variable) => {
@@ -323,14 +341,5 @@ impl<S: Sink> Encoder<'_, S> {
         self.put_option()?;
         let texts = self.encode_terms(terms)?;
         self.put_assertions(texts.as_slice())
-    }
-}
-
-/// What stands before the operands of an application.
-fn head_text(op: &Op) -> &'static str
-    ensures { result.now ≡ spelled (head_of (plain_op op.now)) }
-{
-    match op {
-        Op::Not => "not",
     }
 }

@@ -6,6 +6,7 @@
 
 mod encoder;
 mod error;
+mod manner;
 mod spell;
 
 pub use encoder::Encoder;

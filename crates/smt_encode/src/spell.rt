@@ -1,12 +1,21 @@
-// The texts of names, ids and applications.
+// The texts of names, sorts, literals, ids and applications.
 ghost use Rattle.std.specs.Prelude.{◌≡◌, ◌++◌, IfOk, OnOk, codes, decimal, encode_utf8};
 ghost use Rattle.std.specs.List.{flat_map, join_by};
 ghost use Rattle.std.specs.Rc.{rc_str_bytes};
 ghost use Rattle.std.specs.String.{string_bytes};
+ghost use Rattle.smt_bits.specs.BitVec.{number_of, width_of};
+ghost use Rattle.smt_bits.specs.Width.{bits_in};
+ghost use Rattle.smt_encode.specs.Heads.{head_of};
+ghost use Rattle.smt_lines.specs.Lines as lines;
 ghost use Rattle.smt_lines.specs.Lines.{quoted_id, quoted_id_byte};
+ghost use Rattle.smt_lines.specs.Spelling.{spelled};
+ghost use Rattle.smt_semantics.specs.Sorts.{bit_sort};
+ghost use Rattle.smt_term.specs.Plain.{ZeroExtendOp};
+ghost use Rattle.smt_term.specs.View.{plain_op};
 ghost use Rattle.smt_script.specs.Texts.{texts};
 
-use smt_term::Text;
+use smt_bits::{BitVec, Width};
+use smt_term::{Op, Text};
 use std::alloc::{AllocError, Global};
 
 /// `tm`, the name of the entry at place `place` of the table of terms.
@@ -14,6 +23,41 @@ pub(crate) fn term_name(alloc: Global, place: usize) -> Result<Text, AllocError>
     ensures { IfOk result (λ name. rc_str_bytes name ≡ codes "t" ++ decimal place) }
 {
     Text::from_string(format!(in alloc; "t{place}")?)
+}
+
+/// `(_ BitVec n)`, the sort of bitvectors of a width (FixedSizeBitVectors).
+pub(crate) fn bits_sort(alloc: Global, width: Width) -> Result<Text, AllocError>
+    ensures { IfOk result (λ sort. rc_str_bytes sort ≡ spelled (bit_sort (bits_in width))) }
+{
+    let width = width.get();
+    Text::from_string(format!(in alloc; "(_ BitVec {width})")?)
+}
+
+/// `(_ bvN n)`, the literal of the number N of width n (the abbreviation of the logic QF_BV).
+pub(crate) fn bits_literal(alloc: Global, bits: &BitVec) -> Result<Text, AllocError>
+    ensures { IfOk result (λ literal. rc_str_bytes literal ≡ spelled (lines.bits (width_of bits.now) (number_of bits.now))) }
+{
+    let number = bits.to_nat();
+    let width = bits.width().get();
+    Text::from_string(format!(in alloc; "(_ bv{number} {width})")?)
+}
+
+/// What stands before the operands of an application.
+pub(crate) fn head_text(alloc: Global, op: &Op) -> Result<Text, AllocError>
+    ensures { IfOk result (λ head. rc_str_bytes head ≡ spelled (head_of (plain_op op.now))) }
+{
+    match op {
+        Op::Eq => Text::from_str(alloc, "="),
+        Op::ZeroExtend(bits) => zero_extension(alloc, *bits),
+        _ => Text::from_str(alloc, op.mk_name()),
+    }
+}
+
+// `(_ zero_extend k)` (QF_BV).
+fn zero_extension(alloc: Global, bits: u32) -> Result<Text, AllocError>
+    ensures { IfOk result (λ head. rc_str_bytes head ≡ spelled (head_of (ZeroExtendOp bits))) }
+{
+    Text::from_string(format!(in alloc; "(_ zero_extend {bits})")?)
 }
 
 /// Appends a character of an id: the quote, the backslash and the controls of ASCII by an escape.

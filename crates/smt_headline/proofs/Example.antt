@@ -1,5 +1,6 @@
 -- The worked example.
-use Rattle.std.proofs.Common.{◌≡◌, Bool, true, false, not, [], ◌∷◌, refl, sym, ap, ◌∙◌, subst, rules}
+use Rattle.std.proofs.Common.{◌≡◌, ℕ, ◌+◌, ◌-◌, ◌<◌, Option, Some, Bool, true, false, not, [], ◌∷◌, refl, sym, ap, ◌∙◌, subst, rules, arith, inl, inr}
+use Rattle.std.proofs.lemmas.Bool.{false≢true}
 use Rattle.std.specs.Prelude.{◌↔◌, codes}
 use Rattle.std.specs.Str.{chars}
 use Rattle.smt_term.specs.Plain.{BoolType}
@@ -8,19 +9,22 @@ use Rattle.smt_term.specs.Operators.{truth}
 use Rattle.smt_term.specs.Tables.{Interpretation}
 use Rattle.smt_term.specs.TypeValues.{IsValue}
 use Rattle.smt_term.specs.Values.{Value, BoolValue}
+use Rattle.smt_sexpr.specs.Lexicon.{Name}
+use Rattle.smt_sexpr.specs.Reading.{Expression, Leaf}
 use Rattle.smt_semantics.specs.ScriptValues.{ScriptValue, TruthOf}
-use Rattle.smt_semantics.specs.Script.{State}
+use Rattle.smt_semantics.specs.Script.{State, start, name}
 use Rattle.smt_semantics.specs.Sorts.{entries}
 use Rattle.smt_semantics.specs.Value.{ScriptInterpretation, IsScriptInterpretation, IsModel}
 use Rattle.smt_semantics.proofs.Commands.{one_state}
-use Rattle.smt_lines.specs.Rows.{not_b}
+use Rattle.smt_lines.specs.Naming.{HasDistinctNames}
+use Rattle.smt_lines.specs.Rows.{bool_variable, not_b}
 use Rattle.smt_lines.specs.Scripts.{Stated}
 use Rattle.smt_lines.specs.Text.{text, names}
 use Rattle.smt_carrying.specs.Carry.{back}
 use Rattle.smt_carrying.proofs.Onto.{onto}
 use Rattle.smt_headline.specs.Conditions.{AreConditions}
-use Rattle.smt_headline.specs.Example.{NegationIsItsScript}
-use Rattle.smt_headline.specs.Headline.{AreTrue, Headline}
+use Rattle.smt_headline.specs.Example.{NegationIsItsScript, true_term}
+use Rattle.smt_headline.specs.Headline.{AreTexts, HaveTermValues, AreTrue, Headline}
 use Rattle.smt_headline.proofs.FineTerms.{conditions_are_scripts}
 use Rattle.smt_headline.proofs.Models.{truth_carried, conditions_are_their_scripts}
 use Rattle.smt_headline.proofs.SelectionsGiven.{interpretations_give_reached}
@@ -70,5 +74,48 @@ models J g =
       λ e. m.1 (ap (λ (v : ScriptValue). BoolValue (not (truth (back [] BoolType v)))) e, tt),
     )
 
+-- ---- names and texts
+
+-- a number is not two numbers
+no_two : (n m k : ℕ) → n ≡ m → n ≡ k → 0 < (m - k) + (k - m) → ⊥
+no_two n m k e f h = omega arith
+
+second_byte : Option Expression → ℕ
+second_byte (Some (Leaf (Name (a ∷ b ∷ [])))) = b
+second_byte e = 0
+
+turned : AreTexts (names [] (not_b ∷ [])) (not_b ∷ bool_variable (codes "b") ∷ []) (name (codes "t0") ∷ name (codes "t1") ∷ []) → ⊥
+unfolding second_byte
+turned h = no_two 49 48 49 (ap second_byte h.0) refl (omega arith)
+
+fewer : AreTexts (names [] (not_b ∷ [])) (not_b ∷ bool_variable (codes "b") ∷ []) (name (codes "t1") ∷ []) → ⊥
+fewer h = h.1
+
+one_name : HasDistinctNames {K = ℕ} ((1, codes "t0") ∷ (2, codes "t0") ∷ []) → ⊥
+one_name h = no_two 1 2 1 (h (codes "t0") 1 2 (inl (refl, refl)) (inr (inl (refl, refl)))) refl (omega arith)
+
+is_true : Option ScriptValue → Bool
+is_true (Some (TruthOf b)) = b
+is_true v = true
+
+other_worth : (I : Interpretation) (J : ScriptInterpretation) → HaveTermValues I J start (true_term ∷ []) (name (codes "false") ∷ []) → ⊥
+unfolding is_true
+other_worth I J h = false≢true (ap is_true h.0)
+
 pub negation_is_its_script : NegationIsItsScript
-negation_is_its_script = record { condition = condition; text = refl; headline = headline; models = models; true_in = true_in }
+negation_is_its_script = record {
+  condition = condition;
+  text = refl;
+  headline = headline;
+  models = models;
+  true_in = true_in;
+  free = headline.free;
+  goes = λ I e. rw e refl;
+  comes = λ J e. rw e refl;
+  in_order = (refl, (refl, tt));
+  turned = turned;
+  fewer = fewer;
+  one_name = one_name;
+  worth = λ I J. (refl, tt);
+  other_worth = other_worth;
+}

@@ -1,14 +1,21 @@
 -- A worked example: a Boolean variable b, and the condition that it is false.
-use Rattle.std.specs.Prelude.{◌≡◌, ◌↔◌, codes, false, [], ◌∷◌}
-use Rattle.smt_term.specs.Plain.{BoolType}
+use Rattle.std.specs.Prelude.{◌≡◌, ◌↔◌, ℕ, codes, true, false, List, [], ◌∷◌, IsTrue}
+use Rattle.smt_term.specs.Plain.{BoolType, BoolLiteral, PlainTerm, LiteralTerm}
 use Rattle.smt_term.specs.Interpretations.{IsInterpretation}
 use Rattle.smt_term.specs.Tables.{Interpretation}
 use Rattle.smt_term.specs.Values.{BoolValue}
 use Rattle.smt_semantics.specs.ScriptValues.{TruthOf}
-use Rattle.smt_semantics.specs.Value.{ScriptInterpretation, IsScriptInterpretation, IsModel}
-use Rattle.smt_lines.specs.Rows.{not_b, Negation}
+use Rattle.smt_semantics.specs.Script.{start, name, is_in}
+use Rattle.smt_semantics.specs.Value.{ScriptInterpretation, IsScriptInterpretation, IsModel, free_names}
+use Rattle.smt_lines.specs.Naming.{HasDistinctNames}
+use Rattle.smt_lines.specs.Rows.{bool_variable, not_b, Negation}
+use Rattle.smt_lines.specs.Text.{names}
+use Rattle.smt_carrying.specs.Interpretations.{carry_interpretation, back_interpretation}
 use Rattle.smt_headline.specs.Conditions.{AreConditions}
-use Rattle.smt_headline.specs.Headline.{AreTrue, Headline}
+use Rattle.smt_headline.specs.Headline.{AreTexts, HaveTermValues, AreTrue, Headline}
+
+abbrev pub true_term : PlainTerm
+true_term = LiteralTerm (BoolLiteral true)
 
 pub record NegationIsItsScript : Type 0 where
   pub condition : AreConditions [] (not_b ∷ [])
@@ -19,3 +26,16 @@ pub record NegationIsItsScript : Type 0 where
   pub models : (J : ScriptInterpretation) → IsScriptInterpretation J headline.state → IsModel J headline.state ↔ (J.constants (codes "t0") ≡ TruthOf false)
   -- and the term is true in exactly the interpretations that give b the value false.
   pub true_in : (I : Interpretation) → IsInterpretation [] (not_b ∷ []) I → AreTrue I (not_b ∷ []) ↔ (I.variable (codes "b") BoolType ≡ BoolValue false)
+  -- Its one free name is t0, and b goes there and comes back from there.
+  pub free : (n : List ℕ) → IsTrue (is_in n (free_names headline.state)) ↔ IsTrue (is_in n (codes "t0" ∷ []))
+  pub goes : (I : Interpretation) → I.variable (codes "b") BoolType ≡ BoolValue true → (carry_interpretation [] (names [] (not_b ∷ [])) I).constants (codes "t0") ≡ TruthOf true
+  pub comes : (J : ScriptInterpretation) → J.constants (codes "t0") ≡ TruthOf true → (back_interpretation [] (names [] (not_b ∷ [])) J).variable (codes "b") BoolType ≡ BoolValue true
+  -- The texts of two terms are these in this order, and no fewer.
+  pub in_order : AreTexts (names [] (not_b ∷ [])) (not_b ∷ bool_variable (codes "b") ∷ []) (name (codes "t1") ∷ name (codes "t0") ∷ [])
+  pub turned : AreTexts (names [] (not_b ∷ [])) (not_b ∷ bool_variable (codes "b") ∷ []) (name (codes "t0") ∷ name (codes "t1") ∷ []) → ⊥
+  pub fewer : AreTexts (names [] (not_b ∷ [])) (not_b ∷ bool_variable (codes "b") ∷ []) (name (codes "t1") ∷ []) → ⊥
+  -- Two keys with one name are not one to one.
+  pub one_name : HasDistinctNames {K = ℕ} ((1, codes "t0") ∷ (2, codes "t0") ∷ []) → ⊥
+  -- An expression has a term's value where the two truths are one.
+  pub worth : (I : Interpretation) (J : ScriptInterpretation) → HaveTermValues I J start (true_term ∷ []) (name (codes "true") ∷ [])
+  pub other_worth : (I : Interpretation) (J : ScriptInterpretation) → HaveTermValues I J start (true_term ∷ []) (name (codes "false") ∷ []) → ⊥

@@ -118,8 +118,8 @@ Condition = text [] condition ≡ head ++ condition_lines
 -- ---- characters that end a line
 
 abbrev pub HostileVariable : Type 0
-HostileVariable = text [] (bool_variable (codes "x\r(assert false)") ∷ [])
-    ≡ head ++ codes "; \"x\\r(assert false)\"\n(declare-const t0 Bool)\n(assert t0)\n"
+HostileVariable = text [] (bool_variable (codes "x\r\n(assert false)") ∷ [])
+    ≡ head ++ codes "; \"x\\r\\n(assert false)\"\n(declare-const t0 Bool)\n(assert t0)\n"
 
 abbrev pub HostileFunction : Type 0
 HostileFunction = text [] (unary (UufOp (record { id = codes "f\n(check-sat)"; argument = BoolType; output = BoolType })) (LiteralTerm (BoolLiteral true)) BoolType ∷ [])

@@ -1,12 +1,12 @@
 -- What is a script, and what is none.
 use Rattle.std.proofs.Common.{◌≡◌, ℕ, eqb, cond, Bool, true, false, List, [], ◌∷◌, ◌++◌, refl, sym, ap₂, ◌∙◌, subst, Option, Some, None, inl, inr}
-use Rattle.std.specs.Prelude.{codes, IsTrue, bytes_eq}
+use Rattle.std.specs.Prelude.{codes, IsTrue, bytes_eq, unwrap_or}
 use Rattle.std.proofs.lemmas.Bool.{cases_Bool, cond-true, cond-false, false≢true, eqb-true}
 use Rattle.std.proofs.lemmas.Slice.Eq.{bytes_eq-Decides}
 use Rattle.std.proofs.lemmas.List.Elements.{All-from_recursion, recursion_from_All}
 use Rattle.smt_semantics.specs.ScriptValues.{ScriptValue, TruthOf, ConstructorOf, ScriptValues, no_script_values, one_script_value}
 use Rattle.smt_sexpr.specs.Reading.{Expression}
-use Rattle.smt_semantics.specs.Script.{Entry, Constant, Defined, Builds, Selects, State, Script, DeclareDatatype, DeclareConst, DefineFun, Assert, Pop, start, name, group, names_of, assertions_of, look_up}
+use Rattle.smt_semantics.specs.Script.{Entry, Constant, Defined, Builds, Selects, State, Script, DeclareDatatype, DeclareConst, DefineFun, Assert, Push, Pop, start, run, name, group, names_of, assertions_of, look_up}
 use Rattle.smt_semantics.specs.Sorts.{IsWellSorted, IsBodyWellSorted, sort_of, bool_sort, has_sort_in, have_sorts_in, constructor_fields, entries}
 use Rattle.smt_semantics.specs.Order.{same}
 use Rattle.smt_semantics.specs.Value.{ScriptInterpretation, IsScriptInterpretation, IsModel, expression_value, is_entry_given, is_selector_given, applied_selectors}
@@ -46,7 +46,7 @@ twice_declared s h =
     none_is t e = cc
 
 pub escapes_decode : EscapesDecode
-escapes_decode = (refl, refl)
+escapes_decode = (refl, refl, record { spaces = refl; digits = refl; hexadecimal = refl; symbols = refl; no_pieces = refl; spelled = refl; longest = refl; cut_short = refl; tokens_of = refl; last_escape = refl; in_scripts = refl; in_no_script = refl })
 
 last_state : State
 last_state = record {
@@ -285,15 +285,20 @@ level_sample_is_script =
       assertions = All-from_recursion (λ e. sort_of level_state e ≡ Some bool_sort) (assertions_of level_state) (refl, (refl, tt));
     }
 
+asserted : (s : State) → run (Assert (name (codes "true")) ∷ Push ∷ Assert (name (codes "false")) ∷ Push ∷ Assert (name (codes "true")) ∷ []) start ≡ Some s
+    → assertions_of s ≡ name (codes "true") ∷ name (codes "false") ∷ name (codes "true") ∷ []
+asserted s h = subst (λ (o : Option State). assertions_of (unwrap_or o start) ≡ name (codes "true") ∷ name (codes "false") ∷ name (codes "true") ∷ []) h refl
+
 pub built_in_declared : BuiltInDeclaredIsNone
 built_in_declared = (
   λ s h. none_is s ((lines_add [] (codes "(declare-const bvadd Bool)\n") _ start s tt nothing (declare_const_line (codes "bvadd") (codes "Bool") (name (codes "Bool")) refl (names_write (codes "Bool") refl))).1 h),
   λ s h. none_is s ((lines_add [] (codes "(declare-datatype String (\n  (a)))\n") _ start s tt nothing
       (datatype_line (codes "String") (record { text = codes "(a)"; built = record { name = codes "a"; selectors = [] } } ∷ []) refl (selectors_write (record { name = codes "a"; selectors = [] }) [] [] refl tt refl refl, tt))).1 h),
+  record { obeyed = refl; twice = refl; absent = refl; reserved = refl; built_in = refl; built_in_sort = refl; widths = refl; exit = refl; reset = refl; asserted = λ s h. asserted s h },
 )
 
 pub operators_give : OperatorsGive
-operators_give = (refl, refl, refl, refl, refl, refl, refl, refl, refl, refl, refl, refl, refl, refl, refl, refl, refl, refl, refl, refl, refl, refl, refl, refl, refl, refl, refl, refl, refl, refl, refl, refl, refl, refl)
+operators_give = (refl, refl, refl, refl, refl, refl, refl, refl, refl, refl, refl, refl, refl, refl, refl, refl, refl, refl, refl, refl, refl, refl, refl, refl, refl, refl, refl, refl, refl, refl, refl, refl, refl, refl, record { negated = refl; both = refl; either = refl; equal = refl; chosen = refl; equal_bits = refl; signed_bits = refl; members = refl; subsets = refl; common = refl; nothing = refl; looked_up = refl }, record { sorted = refl; ill_sorted = refl; of_bits = refl; of_text = refl; of_set = refl; of_datatype = refl; of_no_datatype = refl; tables = refl; no_default = refl; others = refl })
 
 pub selectors_sampled : SelectorsSampled
 selectors_sampled = (_, refl, (tt, (tt, (tt, (refl, (refl, (refl, (refl, (refl, tt)))))))), refl, refl, λ j a h. (rw h refl, rw h refl, rw h refl), λ j a h. rw h refl, λ j a h. (rw h refl, rw h refl))

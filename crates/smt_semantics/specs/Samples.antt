@@ -1,11 +1,11 @@
 -- Samples of what is a script and what is none.
-use Rattle.std.specs.Prelude.{◌≡◌, ℕ, true, false, codes, map, List, [], ◌∷◌, ◌++◌, Option, Some, None}
-use Rattle.smt_semantics.specs.ScriptValues.{ScriptValue, TruthOf, BitsOf, ConstructorOf, SetOf, no_script_values, one_script_value}
-use Rattle.smt_sexpr.specs.Lexicon.{decoded, Number, Text}
+use Rattle.std.specs.Prelude.{◌≡◌, ℕ, Bool, true, false, codes, map, List, [], ◌∷◌, ◌++◌, Option, Some, None, is_some}
+use Rattle.smt_semantics.specs.ScriptValues.{ScriptValue, TruthOf, BitsOf, TextOf, ConstructorOf, SetOf, no_script_values, one_script_value}
+use Rattle.smt_sexpr.specs.Lexicon.{is_space, is_digit, is_hexadecimal, Piece, Space, Comment, Open, Close, Quoted, Binary, Hexadecimal, Numeral, Symbol, is_symbol, is_piece, spell, each_longest, decoded, Bits, Number, Text, Name, Begin, End, Word, tokens, in_script}
 use Rattle.smt_sexpr.specs.Reading.{Expression, Leaf}
-use Rattle.smt_semantics.specs.Script.{State, Script, Command, DeclareDatatype, DeclareConst, DefineFun, Assert, start, run, name, group, assertions_of}
-use Rattle.smt_semantics.specs.Sorts.{Entries, IsWellSorted, bit_sort, bool_sort}
-use Rattle.smt_semantics.specs.Value.{ScriptInterpretation, Meaning, IsScriptInterpretation, IsModel, applied_selectors, in_table, expression_value, evaluate}
+use Rattle.smt_semantics.specs.Script.{State, Script, Command, DeclareDatatype, DeclareConst, DefineFun, Assert, DeclareFun, Reset, Exit, Push, Pop, Builds, start, empty_level, run, name, group, look_up, assertions_of}
+use Rattle.smt_semantics.specs.Sorts.{Entries, IsWellSorted, bit_sort, bool_sort, string_sort, set_sort, option_sort, sort_in, has_sort_in}
+use Rattle.smt_semantics.specs.Value.{Table, ScriptInterpretation, Meaning, IsScriptInterpretation, IsModel, applied_selectors, in_table, expression_value, evaluate, is_table, is_other}
 use Rattle.smt_semantics.specs.Written.{option_lines, option_command}
 use Rattle.smt_semantics.specs.Texts.{AreSorted}
 use Rattle.smt_semantics.specs.Meanings.{indexed_by}
@@ -56,13 +56,79 @@ UseBeforeDeclarationIsNone = (s : State) → Script (codes "(assert t0)\n") s �
 abbrev pub TwiceDeclaredIsNone : Type 0
 TwiceDeclaredIsNone = (s : State) → Script (codes "(declare-const t0 Bool)\n" ++ codes "(declare-const t0 Bool)\n") s → ⊥
 
+-- whether commands are obeyed
+abbrev pub is_obeyed : List Command → Bool
+is_obeyed cs = is_some (run cs start)
+
+abbrev pub declare_x : Command
+declare_x = DeclareConst (codes "x") bool_sort
+
+abbrev pub declare_d : List (List ℕ × Expression) → Command
+declare_d selectors = DeclareDatatype (codes "d") [] (record { name = codes "c"; selectors = selectors } ∷ [])
+
+abbrev pub twice_c : Command
+twice_c = DeclareDatatype (codes "d") [] (record { name = codes "c"; selectors = [] } ∷ record { name = codes "c"; selectors = [] } ∷ [])
+
+abbrev pub of_width : ℕ → List Command
+of_width n = DeclareConst (codes "x") (bit_sort n) ∷ []
+
+pub record CommandRows : Type 0 where
+  -- a level's names go with it, and all go with `reset`; a sort and a constructor may have one name
+  pub obeyed : map is_obeyed ((declare_x ∷ Assert (name (codes "x")) ∷ []) ∷ (Push ∷ declare_x ∷ Pop ∷ declare_x ∷ []) ∷ (declare_x ∷ Reset ∷ declare_x ∷ [])
+      ∷ (DeclareDatatype (codes "x") [] (record { name = codes "x"; selectors = [] } ∷ []) ∷ []) ∷ (option_command ∷ DeclareConst (codes "o") (option_sort bool_sort) ∷ []) ∷ [])
+      ≡ true ∷ true ∷ true ∷ true ∷ true ∷ []
+  -- a name declared twice, also by another command or in one datatype; a sort declared twice
+  pub twice : map is_obeyed ((declare_x ∷ declare_x ∷ []) ∷ (declare_x ∷ DeclareFun (codes "x") bool_sort bool_sort ∷ []) ∷ (declare_x ∷ Push ∷ declare_x ∷ [])
+      ∷ (twice_c ∷ []) ∷ (declare_d [] ∷ DeclareDatatype (codes "d") [] [] ∷ []) ∷ [])
+      ≡ false ∷ false ∷ false ∷ false ∷ false ∷ []
+  -- a name that is not there yet, or no longer: in a body, in its own body, in its own datatype, behind `pop`
+  pub absent : map is_obeyed ((DefineFun (codes "f") bool_sort (name (codes "x")) ∷ []) ∷ (DefineFun (codes "f") bool_sort (name (codes "f")) ∷ [])
+      ∷ (declare_d ((codes "s", name (codes "d")) ∷ []) ∷ []) ∷ (Push ∷ declare_x ∷ Pop ∷ Assert (name (codes "x")) ∷ []) ∷ (DeclareConst (codes "x") (name (codes "d")) ∷ []) ∷ (Pop ∷ []) ∷ [])
+      ≡ false ∷ false ∷ false ∷ false ∷ false ∷ false ∷ []
+  -- keywords and words of the grammar, and a sort without its argument
+  pub reserved : map is_obeyed ((DeclareConst (codes ":x") bool_sort ∷ []) ∷ (DeclareConst (codes "_") bool_sort ∷ []) ∷ (DeclareConst (codes "as") bool_sort ∷ [])
+      ∷ (option_command ∷ DeclareConst (codes "o") (name (codes "Option")) ∷ []) ∷ [])
+      ≡ false ∷ false ∷ false ∷ false ∷ []
+  pub built_in : map (λ n. is_obeyed (DeclareConst n bool_sort ∷ [])) (codes "true" ∷ codes "false" ∷ codes "not" ∷ codes "and" ∷ codes "or" ∷ codes "=" ∷ codes "ite" ∷ codes "zero_extend" ∷ codes "bvsmulo" ∷ codes "str.in_re" ∷ codes "str.to_re" ∷ codes "re.++" ∷ codes "re.*" ∷ codes "re.allchar" ∷ codes "set.empty" ∷ codes "set.insert" ∷ codes "set.inter" ∷ [])
+      ≡ false ∷ false ∷ false ∷ false ∷ false ∷ false ∷ false ∷ false ∷ false ∷ false ∷ false ∷ false ∷ false ∷ false ∷ false ∷ false ∷ false ∷ []
+  pub built_in_sort : map (λ n. is_obeyed (DeclareDatatype n [] (record { name = codes "c"; selectors = [] } ∷ []) ∷ [])) (codes "Bool" ∷ codes "String" ∷ codes "Set" ∷ codes "BitVec" ∷ codes "d" ∷ []) ≡ false ∷ false ∷ false ∷ false ∷ true ∷ []
+  pub widths : map (λ n. is_obeyed (of_width n)) (0 ∷ 1 ∷ 128 ∷ 129 ∷ []) ≡ false ∷ true ∷ true ∷ false ∷ []
+  -- nothing behind `exit` is obeyed, and `reset` leaves nothing
+  pub exit : run (Exit ∷ Assert (name (codes "x")) ∷ []) start ≡ Some (record { last = empty_level; below = []; ended = true })
+  pub reset : run (declare_x ∷ Push ∷ Assert (name (codes "x")) ∷ Reset ∷ []) start ≡ Some start
+  -- assertions stand in the order of the script, over all levels
+  pub asserted : (s : State) → run (Assert (name (codes "true")) ∷ Push ∷ Assert (name (codes "false")) ∷ Push ∷ Assert (name (codes "true")) ∷ []) start ≡ Some s
+      → assertions_of s ≡ name (codes "true") ∷ name (codes "false") ∷ name (codes "true") ∷ []
+
 -- a built-in name or sort is declared
 abbrev pub BuiltInDeclaredIsNone : Type 0
 BuiltInDeclaredIsNone = ((s : State) → Script (codes "(declare-const bvadd Bool)\n") s → ⊥)
     × ((s : State) → Script (codes "(declare-datatype String (\n  (a)))\n") s → ⊥)
+    × CommandRows
+
+abbrev pub mixed_pieces : List Piece
+mixed_pieces = Comment (codes "x") ∷ Space 10 ∷ Open ∷ Quoted (codes "a\"b") ∷ Binary (codes "01") ∷ Space 32 ∷ Hexadecimal (codes "fF") ∷ Symbol (codes "s") ∷ Close ∷ []
+
+pub record LexiconRows : Type 0 where
+  pub spaces : map is_space (9 ∷ 10 ∷ 11 ∷ 12 ∷ 13 ∷ 32 ∷ 160 ∷ []) ≡ true ∷ true ∷ false ∷ true ∷ true ∷ true ∷ false ∷ []
+  pub digits : map is_digit (codes "/09:") ≡ false ∷ true ∷ true ∷ false ∷ []
+  pub hexadecimal : map is_hexadecimal (codes "09afAF/:@G`g") ≡ true ∷ true ∷ true ∷ true ∷ true ∷ true ∷ false ∷ false ∷ false ∷ false ∷ false ∷ false ∷ []
+  pub symbols : map is_symbol (codes "a1" ∷ codes "<=" ∷ codes "1a" ∷ [] ∷ codes "a b" ∷ codes "a;" ∷ codes "a\"" ∷ codes "a(" ∷ []) ≡ true ∷ true ∷ false ∷ false ∷ false ∷ false ∷ false ∷ false ∷ []
+  pub no_pieces : map is_piece (Space 11 ∷ Comment (codes "x\n") ∷ Comment (codes "x\r") ∷ Binary [] ∷ Binary (codes "2") ∷ Hexadecimal (codes "g") ∷ Numeral [] ∷ []) ≡ false ∷ false ∷ false ∷ false ∷ false ∷ false ∷ false ∷ []
+  pub spelled : spell mixed_pieces ≡ codes ";x\n(\"a\"\"b\"#b01 #xfFs)"
+  pub longest : map each_longest (mixed_pieces ∷ (Comment (codes "x") ∷ Space 13 ∷ []) ∷ (Symbol (codes "a") ∷ Quoted (codes "b") ∷ []) ∷ []) ≡ true ∷ true ∷ true ∷ []
+  -- each of these texts is one piece
+  pub cut_short : map each_longest ((Symbol (codes "a") ∷ Symbol (codes "b") ∷ []) ∷ (Numeral (codes "1") ∷ Numeral (codes "2") ∷ []) ∷ (Quoted (codes "a") ∷ Quoted (codes "b") ∷ [])
+      ∷ (Comment (codes "x") ∷ Symbol (codes "y") ∷ []) ∷ (Binary (codes "0") ∷ Numeral (codes "1") ∷ []) ∷ (Hexadecimal (codes "0") ∷ Symbol (codes "f") ∷ []) ∷ [])
+      ≡ false ∷ false ∷ false ∷ false ∷ false ∷ false ∷ []
+  pub tokens_of : tokens (Space 32 ∷ Comment (codes "x") ∷ Open ∷ Binary (codes "110") ∷ Hexadecimal (codes "1f") ∷ Hexadecimal (codes "F") ∷ Numeral (codes "120") ∷ Quoted (codes "\\u{41}\"") ∷ Symbol (codes "a") ∷ Close ∷ [])
+      ≡ Begin ∷ Word (Bits 3 6) ∷ Word (Bits 8 31) ∷ Word (Bits 4 15) ∷ Word (Number 120) ∷ Word (Text (codes "A\"")) ∷ Word (Name (codes "a")) ∷ End ∷ []
+  pub last_escape : decoded 0 (codes "\\u{2ffff}\\u{30000}\\u{}\\u41\\u{A}") ≡ 196607 ∷ (codes "\\u{30000}\\u{}\\u41" ++ 10 ∷ [])
+  pub in_scripts : map in_script (Comment (233 ∷ []) ∷ Symbol (codes "~!@$%^&*_-+=<>.?/a1") ∷ Symbol (codes ":a") ∷ Quoted (codes " ~") ∷ []) ≡ true ∷ true ∷ true ∷ true ∷ []
+  pub in_no_script : map in_script (Space 12 ∷ Quoted (codes "\n") ∷ Quoted (127 ∷ []) ∷ Quoted (233 ∷ []) ∷ Symbol (codes "|a|") ∷ Symbol (codes "a:b") ∷ Symbol (codes "a'") ∷ []) ≡ false ∷ false ∷ false ∷ false ∷ false ∷ false ∷ false ∷ []
 
 abbrev pub EscapesDecode : Type 0
-EscapesDecode = (decoded 0 (codes "a\\u{5c}\\u0041\\x\\u{32344}") ≡ codes "a\\A\\x\\u{32344}") × (decoded 0 (codes "\\u{01dcef}") ≡ codes "\\u{01dcef}")
+EscapesDecode = (decoded 0 (codes "a\\u{5c}\\u0041\\x\\u{32344}") ≡ codes "a\\A\\x\\u{32344}") × (decoded 0 (codes "\\u{01dcef}") ≡ codes "\\u{01dcef}") × LexiconRows
 
 -- ---- values
 
@@ -102,6 +168,80 @@ like text r = apply (codes "str.in_re") (Leaf (Text text) ∷ r ∷ [])
 abbrev pub empty_set : Expression
 empty_set = apply (codes "as") (name (codes "set.empty") ∷ apply (codes "Set") (name (codes "Bool") ∷ []) ∷ [])
 
+abbrev pub truths : List ℕ → Expression → Expression → Expression
+truths f a b = apply f (a ∷ b ∷ [])
+
+abbrev pub set_of : List Expression → Expression
+set_of es = apply (codes "set.insert") (es ++ empty_set ∷ [])
+
+abbrev pub t : Expression
+t = name (codes "true")
+
+abbrev pub f : Expression
+f = name (codes "false")
+
+abbrev pub word : List ℕ → Expression
+word text = Leaf (Text text)
+
+abbrev pub values : List Expression → List (Option ScriptValue)
+values es = map (evaluate nothing_there nothing_meant) es
+
+abbrev pub truths_are : List Bool → List (Option ScriptValue)
+truths_are bs = map (λ b. Some (TruthOf b)) bs
+
+-- two entries with one key, of which the first counts
+abbrev pub a_table : Table
+a_table = record { pairs = (TruthOf true, BitsOf 8 1) ∷ (TruthOf true, BitsOf 8 2) ∷ []; default = BitsOf 8 3 }
+
+pub record ScriptValueRows : Type 0 where
+  pub negated : values (apply (codes "not") (t ∷ []) ∷ apply (codes "not") (f ∷ []) ∷ []) ≡ truths_are (false ∷ true ∷ [])
+  pub both : values (truths (codes "and") t t ∷ truths (codes "and") t f ∷ truths (codes "and") f t ∷ truths (codes "and") f f ∷ []) ≡ truths_are (true ∷ false ∷ false ∷ false ∷ [])
+  pub either : values (truths (codes "or") t t ∷ truths (codes "or") t f ∷ truths (codes "or") f t ∷ truths (codes "or") f f ∷ []) ≡ truths_are (true ∷ true ∷ true ∷ false ∷ [])
+  pub equal : values (truths (codes "=") (word (codes "a")) (word (codes "a")) ∷ truths (codes "=") (word (codes "a")) (word (codes "b")) ∷ []) ≡ truths_are (true ∷ false ∷ [])
+  pub chosen : values (apply (codes "ite") (t ∷ word (codes "a") ∷ word (codes "b") ∷ []) ∷ apply (codes "ite") (f ∷ word (codes "a") ∷ word (codes "b") ∷ []) ∷ []) ≡ Some (TextOf (codes "a")) ∷ Some (TextOf (codes "b")) ∷ []
+  -- at two equal numbers, and at 3 and -7
+  pub equal_bits : values (map (λ o. two o (codes "bv3") (codes "bv3")) (codes "bvult" ∷ codes "bvule" ∷ codes "bvslt" ∷ codes "bvsle" ∷ [])) ≡ truths_are (false ∷ true ∷ false ∷ true ∷ [])
+  pub signed_bits : values (map (λ o. two o (codes "bv3") (codes "bv249")) (codes "bvult" ∷ codes "bvule" ∷ codes "bvslt" ∷ codes "bvsle" ∷ [])) ≡ truths_are (true ∷ true ∷ false ∷ false ∷ [])
+  pub members : values (truths (codes "set.member") t (set_of (t ∷ [])) ∷ truths (codes "set.member") f (set_of (t ∷ [])) ∷ []) ≡ truths_are (true ∷ false ∷ [])
+  pub subsets : values (truths (codes "set.subset") (set_of (t ∷ [])) (set_of (t ∷ f ∷ [])) ∷ truths (codes "set.subset") (set_of (t ∷ f ∷ [])) (set_of (t ∷ [])) ∷ []) ≡ truths_are (true ∷ false ∷ [])
+  pub common : values (truths (codes "set.inter") (set_of (t ∷ f ∷ [])) (set_of (t ∷ [])) ∷ []) ≡ Some (SetOf (one_script_value (TruthOf true) no_script_values)) ∷ []
+  -- a wrong number of arguments, or arguments of another kind
+  pub nothing : values (apply (codes "and") (t ∷ []) ∷ truths (codes "and") t (word (codes "a")) ∷ truths (codes "bvadd") (bits (codes "bv1") 8) (bits (codes "bv1") 16) ∷ bits (codes "bv0") 129 ∷ name (codes "x") ∷ []) ≡ None ∷ None ∷ None ∷ None ∷ None ∷ []
+  pub looked_up : map (in_table a_table) (TruthOf true ∷ TruthOf false ∷ []) ≡ BitsOf 8 1 ∷ BitsOf 8 3 ∷ []
+
+-- ---- sorts
+
+abbrev pub two_there : Entries
+two_there n = look_up n ((codes "c", Builds (codes "d") [] 0 []) ∷ (codes "e", Builds (codes "d") [] 1 (bit_sort 8 ∷ [])) ∷ [])
+
+abbrev pub made : ℕ → List ℕ → ScriptValue → ScriptValue
+made place c v = ConstructorOf place c (one_script_value v no_script_values)
+
+abbrev pub are_of : Expression → List ScriptValue → List Bool
+are_of sort vs = map (has_sort_in two_there sort) vs
+
+abbrev pub pair_of : ScriptValue → ScriptValue → ScriptValue
+pair_of v w = SetOf (one_script_value v (one_script_value w no_script_values))
+
+abbrev pub are_tables : List (List (ScriptValue × ScriptValue)) → ScriptValue → List Bool
+are_tables ps default = map (λ p. is_table nothing_there bool_sort (bit_sort 8) (record { pairs = p; default = default })) ps
+
+pub record SortRows : Type 0 where
+  pub sorted : map (sort_in nothing_there) (two (codes "bvadd") (codes "bv1") (codes "bv2") ∷ two (codes "bvult") (codes "bv1") (codes "bv2") ∷ truths (codes "=") t f ∷ word [] ∷ set_of (t ∷ []) ∷ truths (codes "set.member") t empty_set ∷ indexed_by (codes "zero_extend") (Leaf (Number 8)) (bits (codes "bv1") 8) ∷ [])
+      ≡ Some (bit_sort 8) ∷ Some bool_sort ∷ Some bool_sort ∷ Some string_sort ∷ Some (set_sort bool_sort) ∷ Some bool_sort ∷ Some (bit_sort 16) ∷ []
+  pub ill_sorted : map (sort_in nothing_there) (truths (codes "bvadd") (bits (codes "bv1") 8) (bits (codes "bv1") 16) ∷ truths (codes "=") t (word []) ∷ truths (codes "and") t (word []) ∷ apply (codes "and") (t ∷ []) ∷ truths (codes "set.member") (word []) empty_set ∷ bits (codes "bv256") 8 ∷ name (codes "x") ∷ [])
+      ≡ None ∷ None ∷ None ∷ None ∷ None ∷ None ∷ None ∷ []
+  pub of_bits : are_of (bit_sort 8) (BitsOf 8 255 ∷ BitsOf 8 256 ∷ BitsOf 16 1 ∷ TruthOf true ∷ []) ≡ true ∷ false ∷ false ∷ false ∷ []
+  pub of_text : are_of string_sort (TextOf (196607 ∷ []) ∷ TextOf (196608 ∷ []) ∷ []) ≡ true ∷ false ∷ []
+  pub of_set : are_of (set_sort bool_sort) (pair_of (TruthOf false) (TruthOf true) ∷ pair_of (TruthOf true) (TruthOf false) ∷ pair_of (TruthOf true) (TruthOf true) ∷ pair_of (TextOf []) (TextOf (1 ∷ [])) ∷ []) ≡ true ∷ false ∷ false ∷ false ∷ []
+  pub of_datatype : are_of (name (codes "d")) (ConstructorOf 0 (codes "c") no_script_values ∷ made 1 (codes "e") (BitsOf 8 1) ∷ []) ≡ true ∷ true ∷ []
+  -- another place, no argument, an argument of another sort, one argument too many, no constructor
+  pub of_no_datatype : are_of (name (codes "d")) (ConstructorOf 1 (codes "c") no_script_values ∷ ConstructorOf 1 (codes "e") no_script_values ∷ made 1 (codes "e") (TruthOf true) ∷ made 0 (codes "c") (BitsOf 8 1) ∷ ConstructorOf 0 (codes "n") no_script_values ∷ []) ≡ false ∷ false ∷ false ∷ false ∷ false ∷ []
+  -- no key twice, keys and values of their sorts
+  pub tables : are_tables (((TruthOf true, BitsOf 8 1) ∷ (TruthOf false, BitsOf 8 1) ∷ []) ∷ ((TruthOf true, BitsOf 8 1) ∷ (TruthOf true, BitsOf 8 2) ∷ []) ∷ ((TextOf [], BitsOf 8 1) ∷ []) ∷ ((TruthOf true, BitsOf 16 1) ∷ []) ∷ []) (BitsOf 8 0) ≡ true ∷ false ∷ false ∷ false ∷ []
+  pub no_default : are_tables ([] ∷ []) (BitsOf 16 0) ≡ false ∷ []
+  pub others : map (is_other (codes "c")) (ConstructorOf 0 (codes "c") no_script_values ∷ made 1 (codes "e") (BitsOf 8 1) ∷ TruthOf true ∷ []) ≡ false ∷ true ∷ false ∷ []
+
 -- 249 is -7, 253 is -3
 abbrev pub OperatorsGive : Type 0
 OperatorsGive = Gives (two (codes "bvadd") (codes "bv255") (codes "bv1")) (Some (BitsOf 8 0)) × Gives (two (codes "bvsub") (codes "bv0") (codes "bv1")) (Some (BitsOf 8 255)) × Gives (two (codes "bvmul") (codes "bv16") (codes "bv17")) (Some (BitsOf 8 16))
@@ -118,6 +258,7 @@ OperatorsGive = Gives (two (codes "bvadd") (codes "bv255") (codes "bv1")) (Some 
     × Yes (like [] (apply (codes "str.to_re") (Leaf (Text []) ∷ []))) × Yes (like (codes "a") (character 97)) × Yes (like [] wildcard)
     × Yes (apply (codes "set.subset") (empty_set ∷ apply (codes "set.insert") (name (codes "true") ∷ empty_set ∷ []) ∷ []))
     × Gives (apply (codes "set.insert") (name (codes "true") ∷ name (codes "false") ∷ name (codes "true") ∷ empty_set ∷ [])) (Some (SetOf (one_script_value (TruthOf false) (one_script_value (TruthOf true) no_script_values))))
+    × ScriptValueRows × SortRows
 
 -- ---- selectors on another constructor's values
 

@@ -23,3 +23,7 @@ same_from_eq a b h =
 pub eq_from_same : (a b : Term) → plain_term a ≡ plain_term b → term_eq.ghosts.eq a b ≡ true
 eq_from_same a b h =
     term_laws.matches_eq-law a b ∙ ap is_eq (term_cmp-is a b ∙ (ap (λ t. term_cmp (plain_term a) t) (sym h) ∙ term_itself a))
+
+-- the derived test is the test on what they say
+pub eq-is : (a b : Term) → term_eq.ghosts.eq a b ≡ is_eq (term_cmp (plain_term a) (plain_term b))
+eq-is a b = term_laws.matches_eq-law a b ∙ ap is_eq (term_cmp-is a b)

@@ -16,11 +16,11 @@ use Rattle.smt_term.specs.Types.{type_cmp}
 use Rattle.smt_term.specs.ValueOrder.{text_cmp}
 use Rattle.smt_term.specs.View.{plain_type, plain_op, plain_literal, plain_term, plain_row}
 use Rattle.smt_term.specs.declared.types.TermType.{TermType}
-use Rattle.smt_term.specs.declared.types.TermType.TheVariants.{Bool}
+use Rattle.smt_term.specs.declared.types.TermType.TheVariants.{Bitvec, Bool}
 use Rattle.smt_term.specs.declared.op.Op.{Op}
-use Rattle.smt_term.specs.declared.op.Op.TheVariants.{Not}
+use Rattle.smt_term.specs.declared.op.Op.TheVariants.{And, Bvadd, Bvlshr, Bvmul, Bvneg, Bvnego, Bvsaddo, Bvsdiv, Bvshl, Bvsle, Bvslt, Bvsmod, Bvsmulo, Bvsrem, Bvssubo, Bvsub, Bvudiv, Bvule, Bvult, Bvurem, Eq, Ite, Not, Or, ZeroExtend}
 use Rattle.smt_term.specs.declared.term.TermPrim.{TermPrim}
-use Rattle.smt_term.specs.declared.term.TermPrim.TheVariants.{Bool as TruthLiteral}
+use Rattle.smt_term.specs.declared.term.TermPrim.TheVariants.{Bitvec as BitsLiteral, Bool as TruthLiteral}
 use Rattle.smt_term.specs.declared.term.Term.{Term, App', Prim, Var, Row_of-Term, end_of-Term, more_of-Term}
 use Rattle.smt_term.specs.declared.term.Term.TheViews as views
 use Rattle.smt_term.specs.declared.term.Term.TheBlock as block
@@ -39,13 +39,42 @@ abbrev pub derived_term_cmp : Term → Term → Ordering
 derived_term_cmp = term_ord.ghosts.cmp
 
 pub type_cmp-is : (a b : TermType) → derived_type_cmp a b ≡ type_cmp (plain_type a) (plain_type b)
+type_cmp-is (Bitvec n) (Bitvec m) = refl
 type_cmp-is Bool Bool = refl
+type_cmp-is a b = refl
 
 pub op_cmp-is : (a b : Op) → op_ord.ghosts.cmp a b ≡ op_cmp (plain_op a) (plain_op b)
+op_cmp-is And And = refl
+op_cmp-is Bvadd Bvadd = refl
+op_cmp-is Bvlshr Bvlshr = refl
+op_cmp-is Bvmul Bvmul = refl
+op_cmp-is Bvneg Bvneg = refl
+op_cmp-is Bvnego Bvnego = refl
+op_cmp-is Bvsaddo Bvsaddo = refl
+op_cmp-is Bvsdiv Bvsdiv = refl
+op_cmp-is Bvshl Bvshl = refl
+op_cmp-is Bvsle Bvsle = refl
+op_cmp-is Bvslt Bvslt = refl
+op_cmp-is Bvsmod Bvsmod = refl
+op_cmp-is Bvsmulo Bvsmulo = refl
+op_cmp-is Bvsrem Bvsrem = refl
+op_cmp-is Bvssubo Bvssubo = refl
+op_cmp-is Bvsub Bvsub = refl
+op_cmp-is Bvudiv Bvudiv = refl
+op_cmp-is Bvule Bvule = refl
+op_cmp-is Bvult Bvult = refl
+op_cmp-is Bvurem Bvurem = refl
+op_cmp-is Eq Eq = refl
+op_cmp-is Ite Ite = refl
 op_cmp-is Not Not = refl
+op_cmp-is Or Or = refl
+op_cmp-is (ZeroExtend k) (ZeroExtend l) = refl
+op_cmp-is a b = refl
 
 pub literal_cmp-is : (a b : TermPrim) → literal_ord.ghosts.cmp a b ≡ literal_cmp (plain_literal a) (plain_literal b)
+literal_cmp-is (BitsLiteral x) (BitsLiteral y) = refl
 literal_cmp-is (TruthLiteral x) (TruthLiteral y) = refl
+literal_cmp-is a b = refl
 
 -- a list of terms, taken apart into where it lies, its shape and its items
 abbrev Shape : Type 0

@@ -10,9 +10,9 @@ use Rattle.smt_term.specs.Types.{literal_type, type_of}
 use Rattle.smt_term.specs.View.{plain_literal, plain_row, plain_term, plain_type}
 use Rattle.smt_term.specs.declared.term.Term.{Term, App', Prim, Var, Row_of-Term, end_of-Term, more_of-Term}
 use Rattle.smt_term.specs.declared.term.TermPrim.{TermPrim}
-use Rattle.smt_term.specs.declared.term.TermPrim.TheVariants.{Bool as TruthLiteral}
+use Rattle.smt_term.specs.declared.term.TermPrim.TheVariants.{Bitvec as BitsLiteral, Bool as TruthLiteral}
 use Rattle.smt_term.specs.declared.types.TermType.{TermType}
-use Rattle.smt_term.specs.declared.types.TermType.TheVariants.{Bool}
+use Rattle.smt_term.specs.declared.types.TermType.TheVariants.{Bitvec, Bool}
 use Rattle.smt_term.proofs.Defaults.{all-join}
 
 -- a term by itself and its type are formed
@@ -20,9 +20,11 @@ abbrev IsFormedBoth : PlainTerm → Type 0
 IsFormedBoth t = IsFormedNode t × IsFormedType (type_of t)
 
 formed_type : (t : TermType) → IsFormedType (plain_type t)
+formed_type (Bitvec n) = ((n.at_least_one, n.at_most_128), tt)
 formed_type Bool = (tt, tt)
 
 formed_literal : (l : TermPrim) → IsFormedLiteral (plain_literal l) × IsFormedType (literal_type (plain_literal l))
+formed_literal (BitsLiteral b) = (b.below_width, ((b.width.at_least_one, b.width.at_most_128), tt))
 formed_literal (TruthLiteral b) = (tt, (tt, tt))
 
 mutual

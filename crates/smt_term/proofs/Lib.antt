@@ -7,11 +7,13 @@ pub mod LiteralValues
 pub mod Matching
 pub mod RecordFaults
 pub mod SameTerm
+pub mod Shapes
 pub mod SortedSets
 pub mod SortedValues
 pub mod Soundness
 pub mod TermTotal
 pub mod TotalOrder
 pub mod TypeOrder
+pub mod TypedArguments
 pub mod Utf8Order
 pub mod ValueOrder

@@ -88,7 +88,7 @@ member_found i (m ∷ ms) h = from (bytes_eq i m) refl (member_found i ms) h
 -- ---- operators
 
 module _ (enums : Enums) where
-  abbrev AreBelow : (ℕ → ℕ → ℕ → ℕ) → Type 0
+  abbrev pub AreBelow : (ℕ → ℕ → ℕ → ℕ) → Type 0
   AreBelow f = (n a b : ℕ) → a < 2 ^ n → b < 2 ^ n → f n a b < 2 ^ n
 
   two_bits : (f : ℕ → ℕ → ℕ → ℕ) → AreBelow f → (n : ℕ) (v w : Value) → IsValue enums (BitVecType n) v → IsValue enums (BitVecType n) w → IsValue enums (BitVecType n) (to_bits f v w)
@@ -100,14 +100,14 @@ module _ (enums : Enums) where
   two_bits_at f fits (BitVecType n) v w e h g = two_bits f fits n v w h g
   two_bits_at f fits t v w e h g = cc
 
-  bits_result : (f : ℕ → ℕ → ℕ → ℕ) → AreBelow f → (t u ty : PlainType) (v w : Value) → then_some (bits_and_bits t u) t ≡ Some ty → IsValue enums t v → IsValue enums u w → IsValue enums ty (to_bits f v w)
+  pub bits_result : (f : ℕ → ℕ → ℕ → ℕ) → AreBelow f → (t u ty : PlainType) (v w : Value) → then_some (bits_and_bits t u) t ≡ Some ty → IsValue enums t v → IsValue enums u w → IsValue enums ty (to_bits f v w)
   bits_result f fits t u ty v w e h g =
       let c : (bits_and_bits t u ≡ true) × (t ≡ ty) = chosen (bits_and_bits t u) t ty e in
       let s : t ≡ u = eq_same t u (second_so (is_bits t) (type_eq t u) c.0) in
       let k : IsValue enums t w = subst (λ x. IsValue enums x w) (sym s) g in
       subst (λ x. IsValue enums x (to_bits f v w)) c.1 (two_bits_at f fits t v w (first_so (is_bits t) (type_eq t u) c.0) h k)
 
-  negated_at : (t : PlainType) (v : Value) → is_bits t ≡ true → IsValue enums t v → IsValue enums t (BitVecValue (width v) (bits.bvneg (width v) (number v)))
+  pub negated_at : (t : PlainType) (v : Value) → is_bits t ≡ true → IsValue enums t v → IsValue enums t (BitVecValue (width v) (bits.bvneg (width v) (number v)))
   negated_at (BitVecType n) (BitVecValue m a) e h = (h.0, rw h.0 (ranges.below n (2 ^ n - a)))
   negated_at (BitVecType n) v e h = elim h [ ]
   negated_at t v e h = cc
@@ -119,7 +119,7 @@ module _ (enums : Enums) where
   choice true t v w h k = h
   choice false t v w h k = k
 
-  looked_up : (out : PlainType) (es : List (Value × Value)) (d v : Value) → AllByRecursion (λ e. IsValue enums out e.1) es → IsValue enums out d → IsValue enums out (value_among es d v)
+  pub looked_up : (out : PlainType) (es : List (Value × Value)) (d v : Value) → AllByRecursion (λ e. IsValue enums out e.1) es → IsValue enums out d → IsValue enums out (value_among es d v)
   looked_up out [] d v h g = g
   looked_up out (e ∷ es) d v h g = from (value_eq e.0 v) (looked_up out es d v h.1 g)
     where
@@ -181,7 +181,7 @@ module _ (enums : Enums) where
   signed_is (BitVecValue m a) h = signed_fits a (is_negative 64 a) refl h.1
   signed_is v h = elim h [ ]
 
-  extension_result : (I : Interpretation) (o : ExtensionOp) (v : Value) → IsValue enums (extension_signature o).0 v → IsGivenSelector enums I o → IsValue enums (extension_signature o).1 (apply_extension I o v)
+  pub extension_result : (I : Interpretation) (o : ExtensionOp) (v : Value) → IsValue enums (extension_signature o).0 v → IsGivenSelector enums I o → IsValue enums (extension_signature o).1 (apply_extension I o v)
   extension_result I DecimalValOp (ExtensionValue (DecimalOf z)) h g = (refl, ranges.bits_of-below 64 z)
   extension_result I DatetimeValOp (ExtensionValue (DatetimeOf z)) h g = (refl, ranges.bits_of-below 64 z)
   extension_result I DurationValOp (ExtensionValue (DurationOf z)) h g = (refl, ranges.bits_of-below 64 z)

@@ -7,11 +7,13 @@ pub mod Interpretations
 pub mod Laws
 pub mod Literals
 pub mod Meaning
+pub mod Names
 pub mod Operators
 pub mod Patterns
 pub mod Plain
 pub mod Program
 pub mod Reached
+pub mod Shapes
 pub mod Tables
 pub mod TermOrder
 pub mod TypeValues

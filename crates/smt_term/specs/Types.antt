@@ -84,6 +84,10 @@ abbrev pub is_bits : PlainType → Bool
 is_bits (BitVecType n) = true
 is_bits t = false
 
+abbrev pub width_in : PlainType → Option ℕ
+width_in (BitVecType n) = Some n
+width_in t = None
+
 abbrev pub is_set : PlainType → Bool
 is_set (SetType t) = true
 is_set t = false

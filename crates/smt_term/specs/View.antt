@@ -1,26 +1,54 @@
 -- The plain form of the program's types, operators and terms: what they say, without where they lie in memory.
 use Rattle.std.specs.Prelude.{List, map, ◌≡◌, refl}
+use Rattle.smt_bits.specs.BitVec.{number_of, width_of}
+use Rattle.smt_bits.specs.Width.{bits_in}
 use Rattle.std.proofs.Common.{ap, ◌∙◌}
 use Rattle.std.specs.Rc.{rc_str_bytes}
-use Rattle.smt_term.specs.Plain.{PlainType, BoolType, PlainOp, NotOp, PlainLiteral, BoolLiteral, PlainTerm, Application, LiteralTerm, VariableTerm, PlainTerms, no_terms, one_term, terms}
+use Rattle.smt_term.specs.Plain.{PlainType, BitVecType, BoolType, PlainOp, AndOp, BvaddOp, BvlshrOp, BvmulOp, BvnegOp, BvnegoOp, BvsaddoOp, BvsdivOp, BvshlOp, BvsleOp, BvsltOp, BvsmodOp, BvsmuloOp, BvsremOp, BvssuboOp, BvsubOp, BvudivOp, BvuleOp, BvultOp, BvuremOp, EqOp, IteOp, NotOp, OrOp, ZeroExtendOp, PlainLiteral, BitVecLiteral, BoolLiteral, PlainTerm, Application, LiteralTerm, VariableTerm, PlainTerms, no_terms, one_term, terms}
 use Rattle.smt_term.specs.declared.types.TermType.{TermType}
-use Rattle.smt_term.specs.declared.types.TermType.TheVariants.{Bool}
+use Rattle.smt_term.specs.declared.types.TermType.TheVariants.{Bitvec, Bool}
 use Rattle.smt_term.specs.declared.op.Op.{Op}
-use Rattle.smt_term.specs.declared.op.Op.TheVariants.{Not}
+use Rattle.smt_term.specs.declared.op.Op.TheVariants.{And, Bvadd, Bvlshr, Bvmul, Bvneg, Bvnego, Bvsaddo, Bvsdiv, Bvshl, Bvsle, Bvslt, Bvsmod, Bvsmulo, Bvsrem, Bvssubo, Bvsub, Bvudiv, Bvule, Bvult, Bvurem, Eq, Ite, Not, Or, ZeroExtend}
 use Rattle.smt_term.specs.declared.term.TermVar.{TermVar}
 use Rattle.smt_term.specs.declared.term.TermPrim.{TermPrim}
-use Rattle.smt_term.specs.declared.term.TermPrim.TheVariants.{Bool as TruthLiteral}
+use Rattle.smt_term.specs.declared.term.TermPrim.TheVariants.{Bitvec as BitsLiteral, Bool as TruthLiteral}
 use Rattle.smt_term.specs.declared.term.Term.{Term, App, App', Prim, Var, Row_of-Term, end_of-Term, more_of-Term, items-the_row-Term, items_hidden-the_row-Term-0}
 use Rattle.smt_term.specs.declared.term.TermList.{TermList}
 use Rattle.smt_term.specs.declared.term.Term.TheBlock.{hidden-the_row-Term-0}
 
 abbrev pub plain_type : TermType → PlainType
+plain_type (Bitvec n) = BitVecType (bits_in n)
 plain_type Bool = BoolType
 
 abbrev pub plain_op : Op → PlainOp
+plain_op And = AndOp
+plain_op Bvadd = BvaddOp
+plain_op Bvlshr = BvlshrOp
+plain_op Bvmul = BvmulOp
+plain_op Bvneg = BvnegOp
+plain_op Bvnego = BvnegoOp
+plain_op Bvsaddo = BvsaddoOp
+plain_op Bvsdiv = BvsdivOp
+plain_op Bvshl = BvshlOp
+plain_op Bvsle = BvsleOp
+plain_op Bvslt = BvsltOp
+plain_op Bvsmod = BvsmodOp
+plain_op Bvsmulo = BvsmuloOp
+plain_op Bvsrem = BvsremOp
+plain_op Bvssubo = BvssuboOp
+plain_op Bvsub = BvsubOp
+plain_op Bvudiv = BvudivOp
+plain_op Bvule = BvuleOp
+plain_op Bvult = BvultOp
+plain_op Bvurem = BvuremOp
+plain_op Eq = EqOp
+plain_op Ite = IteOp
 plain_op Not = NotOp
+plain_op Or = OrOp
+plain_op (ZeroExtend k) = ZeroExtendOp k
 
 abbrev pub plain_literal : TermPrim → PlainLiteral
+plain_literal (BitsLiteral b) = BitVecLiteral (width_of b) (number_of b)
 plain_literal (TruthLiteral b) = BoolLiteral b
 
 -- a variable as a term

@@ -4,6 +4,7 @@ ghost use Rattle.smt_term.specs.Literals.{LiteralsAreTheirValues};
 ghost use Rattle.smt_term.specs.Patterns.{MatchingIsDecided};
 ghost use Rattle.smt_term.specs.Plain.{RoundTrip, terms};
 ghost use Rattle.smt_term.specs.Program.{EqualTermsSayTheSame, TablesAreEmpty, TermsAreFormed, TermsCompareAsPlain, TypesCompareAsPlain};
+ghost use Rattle.smt_term.specs.Shapes.{TypedTermsHaveShapes, ValuesAreShaped};
 ghost use Rattle.smt_term.specs.ValueOrder.{EqualityIsDecided, OrderIsTotal};
 
 /// A list of terms and its plain form give each other.
@@ -55,6 +56,13 @@ pub fn typed_terms_get_attributes()
 /// A typed term without fault has in every interpretation a value of its type.
 pub fn typed_terms_have_values()
     ensures { TypedTermsHaveValues }
+{}
+
+/// A value of a type has the type's shape, and a typed term has in every interpretation a value of its type's shape,
+/// whatever its faults.
+pub fn typed_terms_have_shapes()
+    ensures values { ValuesAreShaped }
+    ensures terms { TypedTermsHaveShapes }
 {}
 
 /// Typed terms without fault have an interpretation.

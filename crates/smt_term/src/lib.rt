@@ -13,6 +13,7 @@ mod op;
 mod term;
 mod text;
 mod types;
+mod typing;
 
 pub use enums::EnumTable;
 pub use error::TermError;

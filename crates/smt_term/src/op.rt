@@ -1,23 +1,129 @@
 // The operators of applications.
 ghost use Rattle.std.specs.Prelude.{◌≡◌, IfOk};
+ghost use Rattle.smt_term.specs.Names.{op_name};
 ghost use Rattle.smt_term.specs.View.{plain_op};
 
 use crate::error::TermError;
 
-/// An operator. `Not` is the connective of the theory Core.
+/// An operator: a connective of the theory Core, or one of the theory FixedSizeBitVectors and the logic QF_BV.
 #[derive(Debug, PartialEq, Eq, PartialOrd, Ord, Drop)]
 pub enum Op {
+    /// Conjunction of two Booleans.
+    And,
+    /// Sum.
+    Bvadd,
+    /// Shift to the right, with zeros from the left.
+    Bvlshr,
+    /// Product.
+    Bvmul,
+    /// Negation in two's complement.
+    Bvneg,
+    /// Whether negation leaves the signed range.
+    Bvnego,
+    /// Whether a signed sum leaves the signed range.
+    Bvsaddo,
+    /// Signed quotient, rounded toward 0.
+    Bvsdiv,
+    /// Shift to the left.
+    Bvshl,
+    /// Signed less-than-or-equal.
+    Bvsle,
+    /// Signed less-than.
+    Bvslt,
+    /// Signed remainder, with the divisor's sign.
+    Bvsmod,
+    /// Whether a signed product leaves the signed range.
+    Bvsmulo,
+    /// Signed remainder, with the dividend's sign.
+    Bvsrem,
+    /// Whether a signed difference leaves the signed range.
+    Bvssubo,
+    /// Difference.
+    Bvsub,
+    /// Unsigned quotient, rounded down.
+    Bvudiv,
+    /// Unsigned less-than-or-equal.
+    Bvule,
+    /// Unsigned less-than.
+    Bvult,
+    /// Unsigned remainder.
+    Bvurem,
+    /// Equality of two terms of one type.
+    Eq,
+    /// A choice: of three arguments the second where the first is true, and else the third.
+    Ite,
     /// Negation, from Bool to Bool.
     Not,
+    /// Disjunction of two Booleans.
+    Or,
+    /// The same number with this many bits more.
+    ZeroExtend(u32),
 }
 
 impl Op {
+    /// The name of the operator, by which jobs and messages call it.
+    pub fn mk_name(&self) -> &'static str
+        ensures { result.now ≡ op_name (plain_op self.now) }
+    {
+        match self {
+            Op::And => "and",
+            Op::Bvadd => "bvadd",
+            Op::Bvlshr => "bvlshr",
+            Op::Bvmul => "bvmul",
+            Op::Bvneg => "bvneg",
+            Op::Bvnego => "bvnego",
+            Op::Bvsaddo => "bvsaddo",
+            Op::Bvsdiv => "bvsdiv",
+            Op::Bvshl => "bvshl",
+            Op::Bvsle => "bvsle",
+            Op::Bvslt => "bvslt",
+            Op::Bvsmod => "bvsmod",
+            Op::Bvsmulo => "bvsmulo",
+            Op::Bvsrem => "bvsrem",
+            Op::Bvssubo => "bvssubo",
+            Op::Bvsub => "bvsub",
+            Op::Bvudiv => "bvudiv",
+            Op::Bvule => "bvule",
+            Op::Bvult => "bvult",
+            Op::Bvurem => "bvurem",
+            Op::Eq => "eq",
+            Op::Ite => "ite",
+            Op::Not => "not",
+            Op::Or => "or",
+            Op::ZeroExtend(_) => "zero_extend",
+        }
+    }
+
     /// An equal operator that shares its parts.
     pub fn share(&self) -> Result<Op, TermError>
         ensures { IfOk result (λ shared. plain_op shared ≡ plain_op self.now) }
     {
-        match self {
-            Op::Not => Ok(Op::Not),
-        }
+        Ok(match self {
+            Op::And => Op::And,
+            Op::Bvadd => Op::Bvadd,
+            Op::Bvlshr => Op::Bvlshr,
+            Op::Bvmul => Op::Bvmul,
+            Op::Bvneg => Op::Bvneg,
+            Op::Bvnego => Op::Bvnego,
+            Op::Bvsaddo => Op::Bvsaddo,
+            Op::Bvsdiv => Op::Bvsdiv,
+            Op::Bvshl => Op::Bvshl,
+            Op::Bvsle => Op::Bvsle,
+            Op::Bvslt => Op::Bvslt,
+            Op::Bvsmod => Op::Bvsmod,
+            Op::Bvsmulo => Op::Bvsmulo,
+            Op::Bvsrem => Op::Bvsrem,
+            Op::Bvssubo => Op::Bvssubo,
+            Op::Bvsub => Op::Bvsub,
+            Op::Bvudiv => Op::Bvudiv,
+            Op::Bvule => Op::Bvule,
+            Op::Bvult => Op::Bvult,
+            Op::Bvurem => Op::Bvurem,
+            Op::Eq => Op::Eq,
+            Op::Ite => Op::Ite,
+            Op::Not => Op::Not,
+            Op::Or => Op::Or,
+            Op::ZeroExtend(bits) => Op::ZeroExtend(*bits),
+        })
     }
 }

@@ -6,6 +6,7 @@ use crate::error::TermError;
 use crate::op::Op;
 use crate::text::{Text, share_text};
 use crate::types::TermType;
+use smt_bits::{BitVec, SIXTY_FOUR};
 use std::alloc::Global;
 use std::rc::Rc;
 
@@ -19,6 +20,9 @@ pub struct TermVar {
 /// A literal.
 #[derive(Debug, PartialEq, Eq, PartialOrd, Ord, Drop)]
 pub enum TermPrim {
+    /// A bitvector.
+    Bitvec(BitVec),
+    /// A truth value.
     Bool(bool),
 }
 
@@ -95,6 +99,7 @@ impl TermPrim {
         ensures { IfOk result (λ literal. plain_literal literal ≡ plain_literal self.now) }
     {
         match self {
+            TermPrim::Bitvec(bits) => Ok(TermPrim::Bitvec(*bits)),
             TermPrim::Bool(truth) => Ok(TermPrim::Bool(*truth)),
         }
     }
@@ -138,6 +143,32 @@ impl From<bool> for Term {
 
     fn from(truth: bool) -> Term {
         Term::Prim(TermPrim::Bool(truth))
+    }
+}
+
+impl From<i64> for Term {
+    ghost use Rattle.std.specs.Prelude.{◌≡◌};
+    ghost use Rattle.smt_bits.specs.BitVectors.{bits_of};
+    ghost use Rattle.smt_term.specs.Plain.{BitVecLiteral, LiteralTerm};
+    ghost use Rattle.smt_term.specs.View.{plain_term};
+
+    ghost from_gives = { λ number term. plain_term term ≡ LiteralTerm (BitVecLiteral 64 (bits_of 64 number)) };
+
+    fn from(number: i64) -> Term {
+        Term::from(BitVec::of_int(SIXTY_FOUR, i128::from(number)))
+    }
+}
+
+impl From<BitVec> for Term {
+    ghost use Rattle.std.specs.Prelude.{◌≡◌};
+    ghost use Rattle.smt_bits.specs.BitVec.{number_of, width_of};
+    ghost use Rattle.smt_term.specs.Plain.{BitVecLiteral, LiteralTerm};
+    ghost use Rattle.smt_term.specs.View.{plain_term};
+
+    ghost from_gives = { λ bits term. plain_term term ≡ LiteralTerm (BitVecLiteral (width_of bits) (number_of bits)) };
+
+    fn from(bits: BitVec) -> Term {
+        Term::Prim(TermPrim::Bitvec(bits))
     }
 }
 

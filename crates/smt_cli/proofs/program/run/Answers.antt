@@ -1,4 +1,4 @@
-use Rattle.std.proofs.Common.{◌≡◌, ℕ, Option, Some, None, sym, subst, ◌∙◌}
+use Rattle.std.proofs.Common.{◌≡◌, ℕ, Option, sym, subst}
 use Rattle.std.specs.Prelude.{◌⊎◌, IfSome}
 use Rattle.smt_cli.specs.Run.{IsAJob, IsDone, IsNoJob}
 use Rattle.smt_cli.specs.declared.program.Command.{Command}

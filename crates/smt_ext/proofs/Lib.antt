@@ -1,0 +1,17 @@
+pub mod Choices
+pub mod Datetimes
+pub mod Decimals
+pub mod Durations
+pub mod Fields
+pub mod IpContained
+pub mod IpCounts
+pub mod IpGrammar
+pub mod IpPrinted
+pub mod IpReads
+pub mod IpSame
+pub mod IpSplits
+pub mod Midnights
+pub mod Numbers
+pub mod PrintedDecimals
+pub mod Runs
+pub mod Stamps

@@ -1,0 +1,40 @@
+-- The texts of decimals.
+use Rattle.std.specs.Prelude.{◌≡◌, ℕ, ◌+◌, ◌-◌, ◌*◌, ◌^◌, ◌≤◌, Bool, IsTrue, ℤ, codes, length, List, ◌++◌}
+use Rattle.std.specs.Rc.{rc_str_bytes}
+use Rattle.smt_ext.specs.declared.decimal.DecimalError.{DecimalError}
+use Rattle.smt_ext.specs.declared.decimal.DecimalError.TheVariants.{ParseError, Memory}
+use Rattle.smt_ext.specs.Digits.{is_numeral, number_of, minus_if, signed, IsLong}
+
+-- The text is an optional minus, digits, a point, and one to four digits.
+pub record HasDecimalParts (text : List ℕ) (negative : Bool) (whole fraction : List ℕ) : Type 0 where
+  pub spelled : text ≡ minus_if negative ++ (whole ++ (codes "." ++ fraction))
+  pub whole_digits : IsTrue (is_numeral whole)
+  pub fraction_digits : IsTrue (is_numeral fraction)
+  pub places : length fraction ≤ 4
+
+-- the digits before and behind the point as a number of ten-thousandths
+abbrev pub ten_thousandths : List ℕ → List ℕ → ℕ
+ten_thousandths whole fraction = number_of whole * 10000 + number_of fraction * 10 ^ (4 - length fraction)
+
+-- The text is a decimal, and the value is its number times 10000, in 64 bits.
+pub record IsDecimalText (text : List ℕ) (value : ℤ) : Type 0 where
+  pub negative : Bool
+  pub whole : List ℕ
+  pub fraction : List ℕ
+  pub parts : HasDecimalParts text negative whole fraction
+  pub number : value ≡ signed negative (ten_thousandths whole fraction)
+  pub fits : IsLong value
+
+-- no value's text
+abbrev pub IsNoDecimal : List ℕ → Type 0
+IsNoDecimal text = (value : ℤ) → IsDecimalText text value → ⊥
+
+-- The error holds the text, or there was no memory to hold it.
+abbrev pub HoldsDecimalText : List ℕ → DecimalError → Type 0
+HoldsDecimalText text (ParseError given) = rc_str_bytes given ≡ text
+HoldsDecimalText text Memory = Unit {0}
+
+-- The error holds the text, which is no decimal; or there was no memory to hold it.
+abbrev pub IsDecimalRefusal : List ℕ → DecimalError → Type 0
+IsDecimalRefusal text (ParseError given) = (rc_str_bytes given ≡ text) × IsNoDecimal text
+IsDecimalRefusal text Memory = IsNoDecimal text

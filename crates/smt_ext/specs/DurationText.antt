@@ -1,0 +1,49 @@
+-- The texts of durations.
+use Rattle.std.specs.Prelude.{◌≡◌, ℕ, ◌+◌, ◌*◌, ◌<◌, Bool, IsTrue, ℤ, Option, Some, None, codes, length, List, [], ◌++◌}
+use Rattle.smt_ext.specs.Digits.{is_numeral, number_of, minus_if, signed, IsLong}
+
+-- The digits of each part, as far as it is there.
+pub record Parts : Type 0 where
+  pub days : Option (List ℕ)
+  pub hours : Option (List ℕ)
+  pub minutes : Option (List ℕ)
+  pub seconds : Option (List ℕ)
+  pub milliseconds : Option (List ℕ)
+
+-- a part's digits before its unit
+abbrev pub part_text : List ℕ → Option (List ℕ) → List ℕ
+part_text unit None = []
+part_text unit (Some digits) = digits ++ unit
+
+abbrev pub part_number : Option (List ℕ) → ℕ
+part_number None = 0
+part_number (Some digits) = number_of digits
+
+abbrev pub IsPart : Option (List ℕ) → Type 0
+IsPart None = Unit {0}
+IsPart (Some digits) = IsTrue (is_numeral digits)
+
+-- days, hours, minutes, seconds, milliseconds
+abbrev pub parts_text : Parts → List ℕ
+parts_text p =
+    part_text (codes "d") p.days ++ (part_text (codes "h") p.hours ++ (part_text (codes "m") p.minutes
+    ++ (part_text (codes "s") p.seconds ++ part_text (codes "ms") p.milliseconds)))
+
+abbrev pub ArePartsOfDuration : Parts → Type 0
+ArePartsOfDuration p = IsPart p.days × IsPart p.hours × IsPart p.minutes × IsPart p.seconds × IsPart p.milliseconds
+
+-- in milliseconds
+abbrev pub parts_number : Parts → ℕ
+parts_number p =
+    part_number p.days * 86400000 + part_number p.hours * 3600000 + part_number p.minutes * 60000
+    + part_number p.seconds * 1000 + part_number p.milliseconds
+
+-- The text is an optional minus and at least one part, and the value is their signed sum, in 64 bits.
+pub record IsDurationText (text : List ℕ) (value : ℤ) : Type 0 where
+  pub negative : Bool
+  pub parts : Parts
+  pub spelled : text ≡ minus_if negative ++ parts_text parts
+  pub numerals : ArePartsOfDuration parts
+  pub some_part : 0 < length (parts_text parts)
+  pub number : value ≡ signed negative (parts_number parts)
+  pub fits : IsLong value

@@ -1,0 +1,16 @@
+-- Texts at the limits, and their values.
+use Rattle.std.specs.Prelude.{negsuc, Some, true, codes}
+use Rattle.smt_ext.specs.declared.datetime.stamp.Zone.TheVariants.{Offset}
+use Rattle.smt_ext.specs.DatetimeText.{HasStamp}
+use Rattle.smt_ext.specs.Decimal.{IsDecimalText}
+use Rattle.smt_ext.specs.DurationText.{IsDurationText}
+
+pub record WorkedTexts : Type 0 where
+  pub least_decimal : IsDecimalText (codes "-922337203685477.5808") (negsuc 9223372036854775807)
+  pub small_decimal : IsDecimalText (codes "-0.0001") (negsuc 0)
+  pub written_datetime : HasStamp (codes "2024-10-15T11:38:02.101-1134") (record {
+    day = record { year = 2024; month = 10; day = 15 };
+    clock = Some (record { hour = 11; minute = 38; second = 2; millisecond = Some 101; zone = Offset true 11 34 });
+  })
+  pub negative_duration : IsDurationText (codes "-0h2s1ms") (negsuc 2000)
+  pub least_duration : IsDurationText (codes "-9223372036854775808ms") (negsuc 9223372036854775807)

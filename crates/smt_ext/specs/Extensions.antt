@@ -1,0 +1,88 @@
+-- What the readers of the four types answer, as values of one type.
+use Rattle.std.specs.Prelude.{◌≡◌, ℕ, ℤ, List}
+use Rattle.smt_ext.specs.DatetimeRefusal.{IsDatetimeRefusal}
+use Rattle.smt_ext.specs.DatetimeText.{IsDatetimeText}
+use Rattle.smt_ext.specs.Decimal.{IsDecimalRefusal, IsDecimalText}
+use Rattle.smt_ext.specs.DurationRefusal.{IsDurationRefusal}
+use Rattle.smt_ext.specs.DurationText.{IsDurationText}
+use Rattle.smt_ext.specs.IpText.{WritesRange}
+use Rattle.smt_ext.specs.IpView.{range_of, RefusesText}
+use Rattle.smt_ext.specs.Milliseconds.{datetime_value, duration_value}
+use Rattle.smt_ext.specs.declared.datetime.error.DatetimeError.{DatetimeError}
+use Rattle.smt_ext.specs.declared.datetime.error.DatetimeError.TheVariants as moments
+use Rattle.smt_ext.specs.declared.decimal.DecimalError.{DecimalError}
+use Rattle.smt_ext.specs.declared.decimal.DecimalError.TheVariants as decimals
+use Rattle.smt_ext.specs.declared.ext.Ext.{Ext}
+use Rattle.smt_ext.specs.declared.ext.Ext.TheVariants.{Decimal, Ipaddr, Datetime, Duration}
+use Rattle.smt_ext.specs.declared.ext.ExtParseError.{ExtParseError}
+use Rattle.smt_ext.specs.declared.ext.ExtParseError.TheVariants as refusals
+use Rattle.smt_ext.specs.declared.ipaddr.error.IPError.{IPError}
+use Rattle.smt_ext.specs.declared.ipaddr.error.IPError.TheVariants as ranges
+
+-- ---- values
+
+-- the value of this kind, with this number
+abbrev pub IsDecimal : ℤ → Ext → Type 0
+IsDecimal v (Decimal d) = d.0 ≡ v
+IsDecimal v x = ⊥
+
+abbrev pub IsDatetime : ℤ → Ext → Type 0
+IsDatetime v (Datetime d) = datetime_value d ≡ v
+IsDatetime v x = ⊥
+
+abbrev pub IsDuration : ℤ → Ext → Type 0
+IsDuration v (Duration d) = duration_value d ≡ v
+IsDuration v x = ⊥
+
+-- the text writes this value, which is of this kind
+abbrev pub WritesDecimal : List ℕ → Ext → Type 0
+WritesDecimal text (Decimal d) = IsDecimalText text d.0
+WritesDecimal text x = ⊥
+
+abbrev pub WritesDatetime : List ℕ → Ext → Type 0
+WritesDatetime text (Datetime d) = IsDatetimeText text (datetime_value d)
+WritesDatetime text x = ⊥
+
+abbrev pub WritesDuration : List ℕ → Ext → Type 0
+WritesDuration text (Duration d) = IsDurationText text (duration_value d)
+WritesDuration text x = ⊥
+
+abbrev pub IsRangeText : List ℕ → Ext → Type 0
+IsRangeText text (Ipaddr net) = WritesRange text (range_of net)
+IsRangeText text x = ⊥
+
+-- ---- refusals
+
+-- a reader's refusal, in which want of memory is the outer one
+abbrev pub decimal_refusal : DecimalError → ExtParseError
+decimal_refusal decimals.Memory = refusals.Memory
+decimal_refusal e = refusals.DecimalError e
+
+abbrev pub datetime_refusal : DatetimeError → ExtParseError
+datetime_refusal moments.Memory = refusals.Memory
+datetime_refusal e = refusals.DatetimeError e
+
+abbrev pub range_refusal : IPError → ExtParseError
+range_refusal ranges.Memory = refusals.Memory
+range_refusal e = refusals.IPError e
+
+-- it is the reader's refusal of the text
+pub record RefusesDecimal (text : List ℕ) (e : ExtParseError) : Type 0 where
+  pub inner : DecimalError
+  pub refused : IsDecimalRefusal text inner
+  pub wrapped : e ≡ decimal_refusal inner
+
+pub record RefusesDatetime (text : List ℕ) (e : ExtParseError) : Type 0 where
+  pub inner : DatetimeError
+  pub refused : IsDatetimeRefusal text inner
+  pub wrapped : e ≡ datetime_refusal inner
+
+pub record RefusesDuration (text : List ℕ) (e : ExtParseError) : Type 0 where
+  pub inner : DatetimeError
+  pub refused : IsDurationRefusal text inner
+  pub wrapped : e ≡ datetime_refusal inner
+
+pub record RefusesRange (text : List ℕ) (e : ExtParseError) : Type 0 where
+  pub inner : IPError
+  pub refused : RefusesText text inner
+  pub wrapped : e ≡ range_refusal inner

@@ -1,0 +1,12 @@
+pub mod Answers
+pub mod AnyAnswers
+pub mod BitsStand
+pub mod BuiltTerms
+pub mod ConnectivesStand
+pub mod EqualityStands
+pub mod Folding
+pub mod Least
+pub mod OutOfRange
+pub mod Reaching
+pub mod Records
+pub mod Standing

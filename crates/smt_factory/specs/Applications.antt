@@ -1,0 +1,65 @@
+-- The applications that calls of the factory are asked for, before any folding.
+use Rattle.std.specs.Prelude.{ℕ, ◌+◌, Bool, true, false, List, [], ◌∷◌}
+use Rattle.smt_term.specs.Types.{type_of}
+use Rattle.smt_term.specs.Plain.{PlainType, BitVecType, BoolType, PlainOp, AndOp, BvnegOp, BvnegoOp, EqOp, IteOp, NotOp, OrOp, ZeroExtendOp, BitVecLiteral, BoolLiteral, PlainTerm, Application, LiteralTerm, terms}
+
+-- literals
+abbrev pub truth_literal : Bool → PlainTerm
+truth_literal b = LiteralTerm (BoolLiteral b)
+
+abbrev pub true_term : PlainTerm
+true_term = truth_literal true
+
+abbrev pub false_term : PlainTerm
+false_term = truth_literal false
+
+abbrev pub bits_literal : (width number : ℕ) → PlainTerm
+bits_literal n a = LiteralTerm (BitVecLiteral n a)
+
+-- connectives, equality and choice
+abbrev pub not_of : PlainTerm → PlainTerm
+not_of t = Application NotOp (terms (t ∷ [])) BoolType
+
+abbrev pub and_of : PlainTerm → PlainTerm → PlainTerm
+and_of t u = Application AndOp (terms (t ∷ u ∷ [])) BoolType
+
+abbrev pub or_of : PlainTerm → PlainTerm → PlainTerm
+or_of t u = Application OrOp (terms (t ∷ u ∷ [])) BoolType
+
+abbrev pub implies_of : PlainTerm → PlainTerm → PlainTerm
+implies_of t u = or_of (not_of t) u
+
+abbrev pub eq_of : PlainTerm → PlainTerm → PlainTerm
+eq_of t u = Application EqOp (terms (t ∷ u ∷ [])) BoolType
+
+abbrev pub ite_of : (guard : PlainTerm) → PlainTerm → PlainTerm → PlainTerm
+ite_of g t u = Application IteOp (terms (g ∷ t ∷ u ∷ [])) (type_of t)
+
+-- the disjunction of terms: each before what came of those in front of it
+abbrev pub any_of_from : PlainTerm → List PlainTerm → PlainTerm
+any_of_from so_far [] = so_far
+any_of_from so_far (t ∷ ts) = any_of_from (or_of t so_far) ts
+
+abbrev pub any_of : List PlainTerm → PlainTerm
+any_of ts = any_of_from false_term ts
+
+-- operators from bits to bits of the same width, and tests of bits
+abbrev pub bvneg_of : PlainTerm → PlainTerm
+bvneg_of t = Application BvnegOp (terms (t ∷ [])) (type_of t)
+
+abbrev pub bits_of_two : PlainOp → PlainTerm → PlainTerm → PlainTerm
+bits_of_two o t u = Application o (terms (t ∷ u ∷ [])) (type_of t)
+
+abbrev pub test_of_two : PlainOp → PlainTerm → PlainTerm → PlainTerm
+test_of_two o t u = Application o (terms (t ∷ u ∷ [])) BoolType
+
+abbrev pub bvnego_of : PlainTerm → PlainTerm
+bvnego_of t = Application BvnegoOp (terms (t ∷ [])) BoolType
+
+-- the type of bits that are wider by k places; another type stays
+abbrev pub wider_type : ℕ → PlainType → PlainType
+wider_type k (BitVecType n) = BitVecType (n + k)
+wider_type k t = t
+
+abbrev pub zero_extend_of : ℕ → PlainTerm → PlainTerm
+zero_extend_of k t = Application (ZeroExtendOp k) (terms (t ∷ [])) (wider_type k (type_of t))

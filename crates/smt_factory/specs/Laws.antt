@@ -1,0 +1,86 @@
+-- Laws of standing for an application, and that each folding stands for the application that it was asked for.
+use Rattle.std.specs.Prelude.{◌≡◌, ◌↔◌, ℕ, ◌^◌, ◌<◌, Bool, List, [], ◌∷◌, map, IsTrue}
+use Rattle.std.specs.List.{AllByRecursion, AllZip, list_any}
+use Rattle.smt_factory.specs.Applications.{truth_literal, bits_literal, not_of, and_of, or_of, implies_of, eq_of, ite_of, any_of, bvneg_of, bits_of_two, test_of_two, bvnego_of, zero_extend_of}
+use Rattle.smt_factory.specs.FoldBits.{folded_bvneg, folded_bvnego, folded_zero_extend, folded_bvadd, folded_bvsub, folded_bvmul, folded_bvsdiv, folded_bvudiv, folded_bvsrem, folded_bvsmod, folded_bvurem, folded_bvshl, folded_bvlshr, folded_bvslt, folded_bvsle, folded_bvult, folded_bvule, folded_bvsaddo, folded_bvssubo, folded_bvsmulo}
+use Rattle.smt_factory.specs.FoldConnectives.{folded_not, folded_and, folded_or, folded_implies, folded_any}
+use Rattle.smt_factory.specs.FoldEquality.{folded_eq, folded_ite}
+use Rattle.smt_factory.specs.StandsFor.{StandsFor, FieldsStandFor}
+use Rattle.smt_term.specs.Formed.{IsFormed}
+use Rattle.smt_term.specs.Interpretations.{IsInterpretation}
+use Rattle.smt_term.specs.Literals.{is_literal}
+use Rattle.smt_term.specs.Meaning.{term_value}
+use Rattle.smt_term.specs.Operators.{truth, apply}
+use Rattle.smt_term.specs.Tables.{Interpretation}
+use Rattle.smt_term.specs.Types.{typed, Typed}
+use Rattle.smt_term.specs.TypeValues.{Enums}
+use Rattle.smt_term.specs.Plain.{PlainType, BitVecType, BoolType, PlainOp, BvaddOp, BvlshrOp, BvmulOp, BvsaddoOp, BvsdivOp, BvshlOp, BvsleOp, BvsltOp, BvsmodOp, BvsmuloOp, BvsremOp, BvssuboOp, BvsubOp, BvudivOp, BvuleOp, BvultOp, BvuremOp, PlainTerm, Application, RecordTerm, SomeTerm, PlainFields, terms}
+use Rattle.smt_term.specs.Values.{BoolValue, BitVecValue}
+
+-- standing for is an order that applications, `some` and records keep
+pub record StandingIsKept : Type 0 where
+  pub itself : (t : PlainTerm) → StandsFor t t
+  pub onward : (t u w : PlainTerm) → StandsFor t u → StandsFor u w → StandsFor t w
+  pub application : (o : PlainOp) (ts us : List PlainTerm) (ty : PlainType) → AllZip StandsFor ts us → StandsFor (Application o (terms ts) ty) (Application o (terms us) ty)
+  pub some : (t u : PlainTerm) → StandsFor t u → StandsFor (SomeTerm t) (SomeTerm u)
+  pub fields : (fs gs : PlainFields) → FieldsStandFor fs gs → StandsFor (RecordTerm fs) (RecordTerm gs)
+
+-- an interpretation of terms is one of the terms that stand for them
+abbrev pub InterpretationsPass : Type 0
+InterpretationsPass = (enums : Enums) (I : Interpretation) (ts us : List PlainTerm) → AllZip StandsFor ts us → IsInterpretation enums us I → IsInterpretation enums ts I
+
+-- formed and typed terms have in every interpretation the values of the terms that stand for them
+abbrev pub ValuesPass : Type 0
+ValuesPass = (enums : Enums) (I : Interpretation) (ts us : List PlainTerm) → AllZip StandsFor ts us → AllByRecursion IsFormed us → AllByRecursion (λ u. IsTrue (typed u)) us → IsInterpretation enums us I → map (term_value I) ts ≡ map (term_value I) us
+
+-- two literals of one type are equal exactly where their values are
+abbrev pub LiteralsAreEqualByValue : Type 0
+LiteralsAreEqualByValue = (I : Interpretation) (t u : PlainTerm) (ty : PlainType) → IsTrue (is_literal t) → IsTrue (is_literal u) → Typed t ty → Typed u ty → IsFormed t → IsFormed u → (t ≡ u) ↔ (term_value I t ≡ term_value I u)
+
+-- the connectives
+pub record ConnectivesAreFolded : Type 0 where
+  pub not : (t : PlainTerm) → StandsFor (folded_not t) (not_of t)
+  pub and : (t u : PlainTerm) → StandsFor (folded_and t u) (and_of t u)
+  pub or : (t u : PlainTerm) → StandsFor (folded_or t u) (or_of t u)
+  pub implies : (t u : PlainTerm) → StandsFor (folded_implies t u) (implies_of t u)
+  pub any : (ts us : List PlainTerm) → AllZip StandsFor ts us → StandsFor (folded_any ts) (any_of us)
+
+-- the disjunction of many is true where one of them is
+abbrev pub AnyIsTrue : Type 0
+AnyIsTrue = (I : Interpretation) (ts : List PlainTerm) → AllByRecursion (λ t. Typed t BoolType) ts → term_value I (any_of ts) ≡ BoolValue (list_any (λ t. truth (term_value I t)) ts)
+
+-- equality and choice
+pub record EqualityAndChoiceAreFolded : Type 0 where
+  pub eq : (t u : PlainTerm) → StandsFor (folded_eq t u) (eq_of t u)
+  pub ite : (g t u : PlainTerm) → StandsFor (folded_ite g t u) (ite_of g t u)
+
+-- operators from bits to bits
+pub record BitsAreFolded : Type 0 where
+  pub bvneg : (t : PlainTerm) → StandsFor (folded_bvneg t) (bvneg_of t)
+  pub bvadd : (t u : PlainTerm) → StandsFor (folded_bvadd t u) (bits_of_two BvaddOp t u)
+  pub bvsub : (t u : PlainTerm) → StandsFor (folded_bvsub t u) (bits_of_two BvsubOp t u)
+  pub bvmul : (t u : PlainTerm) → StandsFor (folded_bvmul t u) (bits_of_two BvmulOp t u)
+  pub bvsdiv : (t u : PlainTerm) → StandsFor (folded_bvsdiv t u) (bits_of_two BvsdivOp t u)
+  pub bvudiv : (t u : PlainTerm) → StandsFor (folded_bvudiv t u) (bits_of_two BvudivOp t u)
+  pub bvsrem : (t u : PlainTerm) → StandsFor (folded_bvsrem t u) (bits_of_two BvsremOp t u)
+  pub bvsmod : (t u : PlainTerm) → StandsFor (folded_bvsmod t u) (bits_of_two BvsmodOp t u)
+  pub bvurem : (t u : PlainTerm) → StandsFor (folded_bvurem t u) (bits_of_two BvuremOp t u)
+  pub bvshl : (t u : PlainTerm) → StandsFor (folded_bvshl t u) (bits_of_two BvshlOp t u)
+  pub bvlshr : (t u : PlainTerm) → StandsFor (folded_bvlshr t u) (bits_of_two BvlshrOp t u)
+  pub zero_extend : (k : ℕ) (t : PlainTerm) → StandsFor (folded_zero_extend k t) (zero_extend_of k t)
+
+-- tests of bits
+pub record TestsAreFolded : Type 0 where
+  pub bvslt : (t u : PlainTerm) → StandsFor (folded_bvslt t u) (test_of_two BvsltOp t u)
+  pub bvsle : (t u : PlainTerm) → StandsFor (folded_bvsle t u) (test_of_two BvsleOp t u)
+  pub bvult : (t u : PlainTerm) → StandsFor (folded_bvult t u) (test_of_two BvultOp t u)
+  pub bvule : (t u : PlainTerm) → StandsFor (folded_bvule t u) (test_of_two BvuleOp t u)
+  pub bvnego : (t : PlainTerm) → StandsFor (folded_bvnego t) (bvnego_of t)
+  pub bvsaddo : (t u : PlainTerm) → StandsFor (folded_bvsaddo t u) (test_of_two BvsaddoOp t u)
+  pub bvssubo : (t u : PlainTerm) → StandsFor (folded_bvssubo t u) (test_of_two BvssuboOp t u)
+  pub bvsmulo : (t u : PlainTerm) → StandsFor (folded_bvsmulo t u) (test_of_two BvsmuloOp t u)
+
+-- what has the operator's value at two literals stands for the application, whoever computed it
+pub record AnswersStandFor : Type 0 where
+  pub bits : (o : PlainOp) (n a b c : ℕ) → c < 2 ^ n → ((I : Interpretation) → apply I o (BitVecType n) (BitVecValue n a ∷ BitVecValue n b ∷ []) ≡ BitVecValue n c) → StandsFor (bits_literal n c) (bits_of_two o (bits_literal n a) (bits_literal n b))
+  pub test : (o : PlainOp) (n a m b : ℕ) (c : Bool) → ((I : Interpretation) → apply I o BoolType (BitVecValue n a ∷ BitVecValue m b ∷ []) ≡ BoolValue c) → StandsFor (truth_literal c) (test_of_two o (bits_literal n a) (bits_literal m b))

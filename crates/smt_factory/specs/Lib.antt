@@ -1,0 +1,11 @@
+pub mod AnyOf
+pub mod Applications
+pub mod Built
+pub mod FoldBits
+pub mod FoldBy
+pub mod FoldConnectives
+pub mod FoldEquality
+pub mod FoldRows
+pub mod Laws
+pub mod Parts
+pub mod StandsFor

@@ -1,0 +1,72 @@
+//! Comparisons of bits, of the theory FixedSizeBitVectors and the logic QF_BV.
+ghost use Rattle.std.specs.Fn.{FnReturnsAtPair};
+ghost use Rattle.std.specs.Prelude.{◌≡◌, IfOk};
+ghost use Rattle.smt_factory.specs.Applications.{test_of_two};
+ghost use Rattle.smt_factory.specs.FoldBits.{folded_bvsle, folded_bvslt, folded_bvule, folded_bvult};
+ghost use Rattle.smt_factory.specs.FoldBy.{IsTestedBy};
+ghost use Rattle.smt_factory.specs.StandsFor.{StandsFor};
+ghost use Rattle.smt_term.specs.Plain.{BvsleOp, BvsltOp, BvuleOp, BvultOp};
+ghost use Rattle.smt_term.specs.View.{plain_op, plain_term};
+
+use crate::application::truth_application;
+use crate::parts::answer;
+use smt_bits::{BitVec, BitVecError};
+use smt_term::{Op, Term, TermError};
+use std::alloc::Global;
+
+// The application of a test of bits, where `f` answers its value.
+fn test<F>(alloc: Global, op: Op, f: &F, t1: Term, t2: Term) -> Result<Term, TermError>
+where
+    F: Fn(&BitVec, &BitVec) -> Result<bool, BitVecError>,
+    requires { F.IsAlwaysCallable f.now }
+    ensures { IfOk result (λ r. IsTestedBy (FnReturnsAtPair F.Fn f.now) (plain_op op) (plain_term t1) (plain_term t2) (plain_term r)) }
+{
+    match answer(f, &t1, &t2) {
+        Some(holds) => Ok(Term::from(holds)),
+        None => truth_application(alloc, op, &[t1, t2]),
+    }
+}
+
+/// Whether the first is less than the second, in two's complement.
+///
+/// # Errors
+/// `Memory`, where there is none for the term.
+pub fn bvslt(alloc: Global, t1: Term, t2: Term) -> Result<Term, TermError>
+    ensures folded { IfOk result (λ r. plain_term r ≡ folded_bvslt (plain_term t1) (plain_term t2)) }
+    ensures stands { IfOk result (λ r. StandsFor (plain_term r) (test_of_two BvsltOp (plain_term t1) (plain_term t2))) }
+{
+    test(alloc, Op::Bvslt, &BitVec::slt, t1, t2)
+}
+
+/// Whether the first is at most the second, in two's complement.
+///
+/// # Errors
+/// `Memory`, where there is none for the term.
+pub fn bvsle(alloc: Global, t1: Term, t2: Term) -> Result<Term, TermError>
+    ensures folded { IfOk result (λ r. plain_term r ≡ folded_bvsle (plain_term t1) (plain_term t2)) }
+    ensures stands { IfOk result (λ r. StandsFor (plain_term r) (test_of_two BvsleOp (plain_term t1) (plain_term t2))) }
+{
+    test(alloc, Op::Bvsle, &BitVec::sle, t1, t2)
+}
+
+/// Whether the first is less than the second, as a number.
+///
+/// # Errors
+/// `Memory`, where there is none for the term.
+pub fn bvult(alloc: Global, t1: Term, t2: Term) -> Result<Term, TermError>
+    ensures folded { IfOk result (λ r. plain_term r ≡ folded_bvult (plain_term t1) (plain_term t2)) }
+    ensures stands { IfOk result (λ r. StandsFor (plain_term r) (test_of_two BvultOp (plain_term t1) (plain_term t2))) }
+{
+    test(alloc, Op::Bvult, &BitVec::ult, t1, t2)
+}
+
+/// Whether the first is at most the second, as a number.
+///
+/// # Errors
+/// `Memory`, where there is none for the term.
+pub fn bvule(alloc: Global, t1: Term, t2: Term) -> Result<Term, TermError>
+    ensures folded { IfOk result (λ r. plain_term r ≡ folded_bvule (plain_term t1) (plain_term t2)) }
+    ensures stands { IfOk result (λ r. StandsFor (plain_term r) (test_of_two BvuleOp (plain_term t1) (plain_term t2))) }
+{
+    test(alloc, Op::Bvule, &BitVec::ule, t1, t2)
+}

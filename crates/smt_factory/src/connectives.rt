@@ -1,0 +1,119 @@
+//! The connectives of the theory Core.
+ghost use Rattle.std.specs.Prelude.{◌≡◌, IfOk, MatchOption, None, Some};
+ghost use Rattle.smt_factory.specs.Applications.{and_of, implies_of, not_of, or_of};
+ghost use Rattle.smt_factory.specs.FoldConnectives.{are_opposites, is_negation, folded_and, folded_implies, folded_not, folded_or};
+ghost use Rattle.smt_factory.specs.Parts.{negated};
+ghost use Rattle.smt_factory.specs.StandsFor.{StandsFor};
+ghost use Rattle.smt_term.specs.View.{plain_term};
+
+use crate::application::truth_application;
+use crate::parts::only_one;
+use smt_term::{Op, Term, TermError};
+use std::alloc::Global;
+
+// What a negation is of.
+fn negated(t: &Term) -> Option<&Term>
+    ensures { MatchOption result (negated (plain_term t.now) ≡ None) (λ u. negated (plain_term t.now) ≡ Some (plain_term u.now)) }
+{
+    match t {
+        Term::App { op, args, .. } => match op {
+            Op::Not => only_one(args),
+            _ => None,
+        },
+        Term::Prim(_) | Term::Var(_) => None,
+    }
+}
+
+// Whether the second is the negation of the first.
+fn is_negation(t1: &Term, t2: &Term) -> bool
+    ensures { result ≡ is_negation (plain_term t1.now) (plain_term t2.now) }
+{
+    match negated(t2) {
+        Some(t) => t1 == t,
+        None => false,
+    }
+}
+
+/// Whether one of the two is the negation of the other.
+pub fn opposites(t1: &Term, t2: &Term) -> bool
+    ensures { result ≡ are_opposites (plain_term t1.now) (plain_term t2.now) }
+{
+    is_negation(t1, t2) || is_negation(t2, t1)
+}
+
+/// The negation of a Boolean term. Of a literal it is the other one, and of a negation what that is of.
+///
+/// # Errors
+/// `Memory`, where there is none for the term.
+pub fn not(alloc: Global, t: Term) -> Result<Term, TermError>
+    ensures folded { IfOk result (λ r. plain_term r ≡ folded_not (plain_term t)) }
+    ensures stands { IfOk result (λ r. StandsFor (plain_term r) (not_of (plain_term t))) }
+{
+    if t == Term::from(true) {
+        return Ok(Term::from(false));
+    }
+    if t == Term::from(false) {
+        return Ok(Term::from(true));
+    }
+    if let Some(operand) = negated(&t) {
+        return Ok(operand.share()?);
+    }
+    truth_application(alloc, Op::Not, &[t])
+}
+
+/// The conjunction of two Boolean terms.
+///
+/// Equal terms give the first, as does a second that is true; a first that is true gives the second. A false one, or
+/// opposites, give false.
+///
+/// # Errors
+/// `Memory`, where there is none for the term.
+pub fn and(alloc: Global, t1: Term, t2: Term) -> Result<Term, TermError>
+    ensures folded { IfOk result (λ r. plain_term r ≡ folded_and (plain_term t1) (plain_term t2)) }
+    ensures stands { IfOk result (λ r. StandsFor (plain_term r) (and_of (plain_term t1) (plain_term t2))) }
+{
+    if t1 == t2 || t2 == Term::from(true) {
+        return Ok(t1);
+    }
+    if t1 == Term::from(true) {
+        return Ok(t2);
+    }
+    if t1 == Term::from(false) || t2 == Term::from(false) || opposites(&t1, &t2) {
+        return Ok(Term::from(false));
+    }
+    truth_application(alloc, Op::And, &[t1, t2])
+}
+
+/// The disjunction of two Boolean terms.
+///
+/// Equal terms give the first, as does a second that is false; a first that is false gives the second. A true one, or
+/// opposites, give true.
+///
+/// # Errors
+/// `Memory`, where there is none for the term.
+pub fn or(alloc: Global, t1: Term, t2: Term) -> Result<Term, TermError>
+    ensures folded { IfOk result (λ r. plain_term r ≡ folded_or (plain_term t1) (plain_term t2)) }
+    ensures stands { IfOk result (λ r. StandsFor (plain_term r) (or_of (plain_term t1) (plain_term t2))) }
+{
+    if t1 == t2 || t2 == Term::from(false) {
+        return Ok(t1);
+    }
+    if t1 == Term::from(false) {
+        return Ok(t2);
+    }
+    if t1 == Term::from(true) || t2 == Term::from(true) || opposites(&t1, &t2) {
+        return Ok(Term::from(true));
+    }
+    truth_application(alloc, Op::Or, &[t1, t2])
+}
+
+/// The implication from one Boolean term to another: the disjunction of the first's negation with the second.
+///
+/// # Errors
+/// `Memory`, where there is none for the term.
+pub fn implies(alloc: Global, t1: Term, t2: Term) -> Result<Term, TermError>
+    ensures folded { IfOk result (λ r. plain_term r ≡ folded_implies (plain_term t1) (plain_term t2)) }
+    ensures stands { IfOk result (λ r. StandsFor (plain_term r) (implies_of (plain_term t1) (plain_term t2))) }
+{
+    or(alloc, not(alloc, t1)?, t2)
+}

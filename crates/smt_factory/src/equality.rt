@@ -1,0 +1,129 @@
+//! Equality and choice of the theory Core.
+ghost use Rattle.std.specs.Prelude.{◌≡◌, ◌&&◌, IfOk};
+ghost use Rattle.smt_factory.specs.Applications.{eq_of, ite_of, truth_literal};
+ghost use Rattle.smt_factory.specs.FoldEquality.{folded_eq, folded_eq_inside, folded_ite, folded_ite_inside, is_boolean};
+ghost use Rattle.smt_factory.specs.StandsFor.{StandsFor};
+ghost use Rattle.smt_term.specs.Plain.{BoolType};
+ghost use Rattle.smt_term.specs.TermOrder.{term_eq};
+ghost use Rattle.smt_term.specs.Types.{literal_type, type_eq};
+ghost use Rattle.smt_term.specs.View.{plain_literal, plain_term, plain_type};
+
+use crate::application::{application, truth_application};
+use crate::connectives::{and, not, or};
+use smt_term::{Op, Term, TermError, TermPrim, TermType};
+use std::alloc::Global;
+
+// Whether the term has the type of truth values.
+fn is_boolean(t: &Term) -> bool
+    ensures { result ≡ is_boolean (plain_term t.now) }
+{
+    match t {
+        Term::App { ret_ty, .. } => is_truth_type(ret_ty),
+        Term::Prim(literal) => is_truth(literal),
+        Term::Var(variable) => is_truth_type(&variable.ty),
+    }
+}
+
+fn is_truth_type(ty: &TermType) -> bool
+    ensures { result ≡ type_eq (plain_type ty.now) BoolType }
+{
+    match ty {
+        TermType::Bool => true,
+        TermType::Bitvec { .. } => false,
+    }
+}
+
+fn is_truth(literal: &TermPrim) -> bool
+    ensures { result ≡ type_eq (literal_type (plain_literal literal.now)) BoolType }
+{
+    match literal {
+        TermPrim::Bool(_) => true,
+        TermPrim::Bitvec(_) => false,
+    }
+}
+
+// Whether the first is this literal, and the second a Boolean term.
+fn is_beside_boolean(truth: bool, t1: &Term, t2: &Term) -> bool
+    ensures { result ≡ (term_eq (plain_term t1.now) (truth_literal truth) && is_boolean (plain_term t2.now)) }
+{
+    *t1 == Term::from(truth) && is_boolean(t2)
+}
+
+/// The equality of two terms of one type.
+///
+/// Equal terms give true and two other literals false. True with a Boolean term gives that term, and false with one its
+/// negation.
+///
+/// # Errors
+/// `Memory`, where there is none for the term.
+pub fn eq(alloc: Global, t1: Term, t2: Term) -> Result<Term, TermError>
+    ensures folded { IfOk result (λ r. plain_term r ≡ folded_eq (plain_term t1) (plain_term t2)) }
+    ensures stands { IfOk result (λ r. StandsFor (plain_term r) (eq_of (plain_term t1) (plain_term t2))) }
+{
+    eq_inside(alloc, t1, t2)
+}
+
+// Equality, of terms that are no `some`.
+fn eq_inside(alloc: Global, t1: Term, t2: Term) -> Result<Term, TermError>
+    ensures { IfOk result (λ r. plain_term r ≡ folded_eq_inside (plain_term t1) (plain_term t2)) }
+{
+    if t1 == t2 {
+        return Ok(Term::from(true));
+    }
+    if t1.is_literal() && t2.is_literal() {
+        return Ok(Term::from(false));
+    }
+    if is_beside_boolean(true, &t1, &t2) {
+        return Ok(t2);
+    }
+    if is_beside_boolean(true, &t2, &t1) {
+        return Ok(t1);
+    }
+    if is_beside_boolean(false, &t1, &t2) {
+        return not(alloc, t2);
+    }
+    if is_beside_boolean(false, &t2, &t1) {
+        return not(alloc, t1);
+    }
+    truth_application(alloc, Op::Eq, &[t1, t2])
+}
+
+/// The second term where the first is true, and else the third.
+///
+/// A first that is a literal, or equal branches, give the branch. True, then false gives the first and the other way its
+/// negation. False in the third place gives a conjunction, and true in the second a disjunction.
+///
+/// # Errors
+/// `Memory`, where there is none for the term.
+pub fn ite(alloc: Global, t1: Term, t2: Term, t3: Term) -> Result<Term, TermError>
+    ensures folded { IfOk result (λ r. plain_term r ≡ folded_ite (plain_term t1) (plain_term t2) (plain_term t3)) }
+    ensures stands { IfOk result (λ r. StandsFor (plain_term r) (ite_of (plain_term t1) (plain_term t2) (plain_term t3))) }
+{
+    ite_inside(alloc, t1, t2, t3)
+}
+
+// Choice, of branches that are no `some`.
+fn ite_inside(alloc: Global, t1: Term, t2: Term, t3: Term) -> Result<Term, TermError>
+    ensures { IfOk result (λ r. plain_term r ≡ folded_ite_inside (plain_term t1) (plain_term t2) (plain_term t3)) }
+{
+    if t1 == Term::from(true) || t2 == t3 {
+        return Ok(t2);
+    }
+    if t1 == Term::from(false) {
+        return Ok(t3);
+    }
+    if t2 == Term::from(true) && t3 == Term::from(false) {
+        return Ok(t1);
+    }
+    if t2 == Term::from(false) && t3 == Term::from(true) {
+        return not(alloc, t1);
+    }
+    if t3 == Term::from(false) {
+        return and(alloc, t1, t2);
+    }
+    if t2 == Term::from(true) {
+        return or(alloc, t1, t3);
+    }
+    let ty = t2.type_of(alloc)?;
+    application(alloc, Op::Ite, &[t1, t2, t3], ty)
+}

@@ -1,0 +1,60 @@
+ghost use Rattle.smt_factory.specs.Built.{BuiltTermsStand};
+ghost use Rattle.smt_factory.specs.FoldRows.{ApartRows, BitsRows, ConnectiveRows, EqualityRows};
+ghost use Rattle.smt_factory.specs.Laws.{AnswersStandFor, AnyIsTrue, BitsAreFolded, ConnectivesAreFolded, EqualityAndChoiceAreFolded, InterpretationsPass, LiteralsAreEqualByValue, StandingIsKept, TestsAreFolded, ValuesPass};
+
+/// A term stands for itself, onward, and in applications, `some` and records; and an interpretation of terms is one of the
+/// terms that stand for them, in which they have the same values.
+pub fn standing_is_kept()
+    ensures kept { StandingIsKept }
+    ensures interpretations { InterpretationsPass }
+    ensures values { ValuesPass }
+{}
+
+/// A term of another value, of another type, or that reaches a variable more, does not stand for a term.
+pub fn standing_tells_apart()
+    ensures { ApartRows }
+{}
+
+/// Two literals of one type are equal exactly where their values are.
+pub fn literals_are_equal_by_value()
+    ensures { LiteralsAreEqualByValue }
+{}
+
+/// `not`, `and`, `or`, `implies` and the disjunction of many: what they are folded to stands for them. The last is true where
+/// one of its terms is.
+pub fn connectives_are_folded()
+    ensures folded { ConnectivesAreFolded }
+    ensures any { AnyIsTrue }
+{}
+
+/// `eq` and `ite`: what they are folded to stands for them.
+pub fn equality_and_choice_are_folded()
+    ensures { EqualityAndChoiceAreFolded }
+{}
+
+/// The operators from bits to bits: what they are folded to stands for them.
+pub fn bits_are_folded()
+    ensures { BitsAreFolded }
+{}
+
+/// The tests of bits: what they are folded to stands for them.
+pub fn tests_are_folded()
+    ensures { TestsAreFolded }
+{}
+
+/// What is built for a typed term, each application folded after its arguments, stands for it.
+pub fn built_terms_stand()
+    ensures { BuiltTermsStand }
+{}
+
+/// A literal with the operator's value at two literals stands for the application, whoever computed it.
+pub fn answers_stand()
+    ensures { AnswersStandFor }
+{}
+
+/// Foldings of chosen terms.
+pub fn fold_rows()
+    ensures connectives { ConnectiveRows }
+    ensures equality { EqualityRows }
+    ensures bits { BitsRows }
+{}

@@ -1,0 +1,31 @@
+//! The folding factory: what a call that builds a term for an operator gives, where it folds constants.
+//!
+//! A call does not always build the application that it is asked for: `and(b, not b)` is `false`. What it gives
+//! is said by a function of plain terms (`specs/FoldConnectives.antt`, `FoldEquality.antt`, `FoldBits.antt`), and
+//! that the result may take the application's place by one word, `StandsFor` of `specs/StandsFor.antt`.
+#![tactic(auto, using(crate::proofs::Folding::folding))]
+
+mod any;
+mod application;
+mod bits;
+mod comparisons;
+mod connectives;
+mod equality;
+pub mod laws;
+mod overflows;
+mod parts;
+mod rule;
+
+pub use any::any_true;
+pub use bits::{
+    bvadd, bvapp, bvlshr, bvmul, bvneg, bvsdiv, bvshl, bvsmod, bvsrem, bvsub, bvudiv, bvurem,
+    zero_extend,
+};
+pub use comparisons::{bvsle, bvslt, bvule, bvult};
+pub use connectives::{and, implies, not, opposites, or};
+pub use equality::{eq, ite};
+pub use overflows::{bvnego, bvsaddo, bvsmulo, bvso, bvssubo};
+pub use rule::{BvRule, bvapp_by};
+
+#[cfg(test)]
+mod tests;

@@ -1,0 +1,35 @@
+use Rattle.std.proofs.Common.{◌≡◌, ◌+◌, true, ◌&&◌, refl, sym, ap, ◌∙◌, arith, drop, map}
+use Rattle.smt_term.specs.Types.{is_type, result_type, type_of}
+use Rattle.smt_term.specs.View.{plain_op, plain_term, plain_type}
+use Rattle.smt_term.proofs.TypedArguments.{application_typed, not_given, typed_list, typed_more, typed_none}
+use Rattle.smt_term.proofs.term.Term.+well_typed.Goals as goal
+
+pub loop-arg-init : goal.loop-arg-init
+loop-arg-init t c = refl
+
+pub returns-then-not-well_typed : goal.returns-then-not-well_typed
+returns-then-not-well_typed t c =
+    let untyped = sym c.well_typed.ensures ∙ c.if-not-well_typed.true in
+    let left = typed_more c.items-args.result.now c.loop-arg.arg-index c.arg-item.result c.loop-arg-test.true c.arg-item.is in
+    let none = sym c.loop-arg.invariant ∙ left ∙ ap (λ b. b && typed_list (drop (c.loop-arg.arg-index + 1) c.items-args.result.now)) untyped in
+    sym (application_typed c.args.self.now c.in-App.op c.in-App.args c.in-App.ret_ty c.items-args.result.now c.in-App.is c.items-args.ensures.plain
+    ∙ ap (λ b. b && is_type (result_type (plain_op c.in-App.op) (map type_of (map plain_term c.items-args.result.now))) (plain_type c.in-App.ret_ty)) none)
+
+pub loop-arg-preserved : goal.loop-arg-preserved
+loop-arg-preserved t c =
+    let typed = sym c.well_typed.ensures ∙ c.if-not-well_typed.false in
+    let left = typed_more c.items-args.result.now c.loop-arg.arg-index c.arg-item.result c.loop-arg-test.true c.arg-item.is in
+    sym (left ∙ ap (λ b. b && typed_list (drop (c.loop-arg.arg-index + 1) c.items-args.result.now)) typed) ∙ c.loop-arg.invariant
+
+pub returns-then-takes : goal.returns-then-takes
+returns-then-takes t c =
+    let all = sym c.loop-arg.invariant ∙ typed_none c.items-args.result.now c.loop-arg.arg-index (omega (arith, c.loop-arg-test.false)) in
+    let given = is_type (result_type (plain_op c.in-App.op) (map type_of (map plain_term c.items-args.result.now))) (plain_type c.in-App.ret_ty) in
+    c.gives.ensures (sym c.takes.ensures ∙ c.if-takes.true) ∙ sym (application_typed c.args.self.now c.in-App.op c.in-App.args c.in-App.ret_ty c.items-args.result.now c.in-App.is c.items-args.ensures.plain ∙ ap (λ b. b && given) all)
+
+pub returns-else-takes : goal.returns-else-takes
+returns-else-takes t c =
+    let all = sym c.loop-arg.invariant ∙ typed_none c.items-args.result.now c.loop-arg.arg-index (omega (arith, c.loop-arg-test.false)) in
+    let given = is_type (result_type (plain_op c.in-App.op) (map type_of (map plain_term c.items-args.result.now))) (plain_type c.in-App.ret_ty) in
+    let none = not_given (result_type (plain_op c.in-App.op) (map type_of (map plain_term c.items-args.result.now))) (plain_type c.in-App.ret_ty) (sym c.takes.ensures ∙ c.if-takes.false) in
+    c.if-takes.false ∙ sym (application_typed c.args.self.now c.in-App.op c.in-App.args c.in-App.ret_ty c.items-args.result.now c.in-App.is c.items-args.ensures.plain ∙ ap (λ b. b && given) all ∙ none)

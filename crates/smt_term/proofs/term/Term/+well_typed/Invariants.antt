@@ -1,0 +1,7 @@
+use Rattle.std.proofs.Common.{◌≡◌, drop}
+use Rattle.smt_term.proofs.TypedArguments.{typed_list}
+use Rattle.smt_term.proofs.term.Term.+well_typed.Given as goal
+
+-- whether the arguments that are left are typed decides it of all
+abbrev pub invariant-loop-arg : goal.invariant-loop-arg
+invariant-loop-arg l = typed_list (drop l.arg-index l.args) ≡ typed_list l.args
