@@ -3,12 +3,15 @@ use Rattle.std.proofs.Common.{◌≡◌, ℕ, zero, suc, cond, ◌/◌, ◌%◌,
 use Rattle.std.specs.Prelude.{codes, take, length, nat_eq, nat_le, ◌==◌, if◌then◌else◌}
 use Rattle.std.specs.List.{flat_map, list_all}
 use Rattle.std.specs.Fmt.{digits, digits_onto, digit_glyph}
-use Rattle.std.proofs.lemmas.Bool.{and_parts, and_from, cases_Bool, cond-true, cond-false, false≢true, eqb-true, eq-eqb, agree_below_at, leb-true}
+use Rattle.std.proofs.lemmas.Bool.{and_parts, and_from, cases_Bool, cond-true, cond-false, eqb-true, eq-eqb, agree_below_at, leb-true, not-true}
 use Rattle.std.proofs.lemmas.List.{append-nil}
 use Rattle.std.proofs.lemmas.List.Folds.{list_all-append}
 use Rattle.std.proofs.lemmas.Grind.{flat_map-append}
 use Rattle.smt_sexpr.specs.Lexicon.{Quoted, Word, quote_twice, short_escape, braced_escape, is_printable, is_hexadecimal, digit_value, number_in, escape, decoded, Text}
 use Rattle.smt_sexpr.specs.Quoting.{is_character, escaped, quoted_character, QuotedTextsAreRead}
+use Rattle.smt_sexpr.proofs.Strings.{is_no_quote, twice_none}
+
+-- ---- digits in base 16
 
 record IsGlyph (d a : ℕ) : Type 0 where
   hex : is_hexadecimal a ≡ true
@@ -23,6 +26,8 @@ glyph d h = record {
   value = eqb-true (digit_value (digit_glyph false d)) d (agree_below_at (λ n. eqb (digit_value (digit_glyph false n)) n) (λ n. true) 16 d refl h);
   printable = agree_below_at (λ n. is_printable (digit_glyph false n)) (λ n. true) 16 d refl h;
 }
+
+-- ---- escapes of one to five digits
 
 abbrev behind : List ℕ → List ℕ → List ℕ
 behind ds rest = 92 ∷ 117 ∷ 123 ∷ (ds ++ (125 ∷ rest))
@@ -185,52 +190,30 @@ stays c rest h =
     let n : escape (c ∷ rest) ≡ None = rw h refl in
     rw (n, decoded) refl
 
-not_is : (b : Bool) → not b ≡ true → b ≡ false
-not_is true h = absurd (false≢true h)
-not_is false h = refl
-
 -- a character between quotes, before each quote is written twice
 abbrev pub undoubled : ℕ → List ℕ
 undoubled c = if is_printable c && not (c == 92) then (c ∷ []) else escaped c
 
 -- ---- quotes are written twice
 
-abbrev unquoted : ℕ → Bool
-unquoted b = not (b == 34)
-
-hex_digits : (k n : ℕ) (ds : List ℕ) → list_all unquoted ds ≡ true → list_all unquoted (digits_onto k 16 false n ds) ≡ true
+hex_digits : (k n : ℕ) (ds : List ℕ) → list_all is_no_quote ds ≡ true → list_all is_no_quote (digits_onto k 16 false n ds) ≡ true
 hex_digits zero n ds h = h
 hex_digits (suc k) n ds h = go (nat_eq (n / 16) 0) more (hex_digits k (n / 16) (digit_glyph false (n % 16) ∷ ds) more)
   where
-    more : list_all unquoted (digit_glyph false (n % 16) ∷ ds) ≡ true
-    more = and_from (unquoted (digit_glyph false (n % 16))) (list_all unquoted ds) (agree_below_at (λ m. unquoted (digit_glyph false m)) (λ m. true) 16 (n % 16) refl (omega arith)) h
+    more : list_all is_no_quote (digit_glyph false (n % 16) ∷ ds) ≡ true
+    more = and_from (is_no_quote (digit_glyph false (n % 16))) (list_all is_no_quote ds) (agree_below_at (λ m. is_no_quote (digit_glyph false m)) (λ m. true) 16 (n % 16) refl (omega arith)) h
 
-    go : (b : Bool) → list_all unquoted (digit_glyph false (n % 16) ∷ ds) ≡ true → list_all unquoted (digits_onto k 16 false (n / 16) (digit_glyph false (n % 16) ∷ ds)) ≡ true
-        → list_all unquoted (cond b (digit_glyph false (n % 16) ∷ ds) (digits_onto k 16 false (n / 16) (digit_glyph false (n % 16) ∷ ds))) ≡ true
+    go : (b : Bool) → list_all is_no_quote (digit_glyph false (n % 16) ∷ ds) ≡ true → list_all is_no_quote (digits_onto k 16 false (n / 16) (digit_glyph false (n % 16) ∷ ds)) ≡ true
+        → list_all is_no_quote (cond b (digit_glyph false (n % 16) ∷ ds) (digits_onto k 16 false (n / 16) (digit_glyph false (n % 16) ∷ ds))) ≡ true
     go true m again = m
     go false m again = again
 
-no_quotes : (xs : List ℕ) → list_all unquoted xs ≡ true → flat_map quote_twice xs ≡ xs
-no_quotes [] h = refl
-no_quotes (x ∷ xs) h =
-    let q = and_parts (unquoted x) (list_all unquoted xs) h in
-    let e = not_true (x == 34) q.0 in
-    rw e (ap (λ (t : List ℕ). x ∷ t) (no_quotes xs q.1))
-  where
-    not_true : (b : Bool) → not b ≡ true → b ≡ false
-    not_true true h = absurd (false≢true h)
-    not_true false h = refl
-
-digits_unquoted : (c : ℕ) → list_all unquoted (digits 16 false c) ≡ true
+digits_no_quote : (c : ℕ) → list_all is_no_quote (digits 16 false c) ≡ true
 unfolding digits
-digits_unquoted c = hex_digits 64 c [] refl
-
-all_joined : (xs ys : List ℕ) → list_all unquoted xs ≡ true → list_all unquoted ys ≡ true → list_all unquoted (xs ++ ys) ≡ true
-all_joined [] ys h k = k
-all_joined (x ∷ xs) ys h k = let q = and_parts (unquoted x) (list_all unquoted xs) h in and_from (unquoted x) _ q.0 (all_joined xs ys q.1 k)
+digits_no_quote c = hex_digits 64 c [] refl
 
 escaped_stays : (c : ℕ) → flat_map quote_twice (escaped c) ≡ escaped c
-escaped_stays c = no_quotes (escaped c) (all_joined (digits 16 false c) (codes "}") (digits_unquoted c) refl)
+escaped_stays c = twice_none (escaped c) (list_all-append is_no_quote (digits 16 false c) (codes "}") ∙ and_from (list_all is_no_quote (digits 16 false c)) true (digits_no_quote c) refl)
 
 backslash : escaped 92 ≡ codes "\\u{5c}"
 unfolding digits
@@ -269,7 +252,7 @@ reads c h = elim (cases_Bool (is_printable c && not (eqb c 92))) [
   | inl e ↦ (let p = and_parts (is_printable c) (not (eqb c 92)) e in
       let w : c ∷ [] ≡ undoubled c = sym (cond-true (is_printable c && not (eqb c 92)) (c ∷ []) (escaped c) e) in
       record {
-        read = λ rest. subst (λ (t : List ℕ). decoded 0 (t ++ rest) ≡ c ∷ decoded 0 rest) w (stays c rest (not_is (eqb c 92) p.1));
+        read = λ rest. subst (λ (t : List ℕ). decoded 0 (t ++ rest) ≡ c ∷ decoded 0 rest) w (stays c rest (not-true (eqb c 92) p.1));
         plain = subst (λ (t : List ℕ). list_all is_printable t ≡ true) w (and_from (is_printable c) true p.0 refl);
       })
   | inr e ↦ (let x = hexadecimal c h in
@@ -291,6 +274,8 @@ all_plain [] h = refl
 all_plain (c ∷ cs) h =
     let p = and_parts (is_character c) (list_all is_character cs) h in
     list_all-append is_printable (undoubled c) (flat_map undoubled cs) ∙ and_from (list_all is_printable (undoubled c)) (list_all is_printable (flat_map undoubled cs)) (reads c p.0).plain (all_plain cs p.1)
+
+-- ---- the text
 
 -- one piece, with no byte behind it
 pub quoted_texts_are_read : QuotedTextsAreRead

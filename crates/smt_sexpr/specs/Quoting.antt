@@ -20,6 +20,7 @@ quoted_character c =
     else (if c == 92 then codes "\\u{5c}"
     else (if nat_le 32 c && nat_le c 126 then c ∷ [] else escaped c))
 
+-- the characters and the two quotes around them
 abbrev pub quoted : List ℕ → List ℕ
 quoted characters = codes "\"" ++ (flat_map quoted_character characters ++ codes "\"")
 

@@ -1,12 +1,11 @@
 //! The text between quotes, as a script has it.
 #![tactic(auto)]
 
-ghost use Rattle.std.specs.Prelude.{◌≡◌, ◌++◌, IfOk, IfErr, OnOk, is_some};
+ghost use Rattle.std.specs.Prelude.{◌≡◌, ◌++◌, IfOk, IfErr, IfSome, OnOk, is_some};
 ghost use Rattle.std.specs.List.{list_all};
 ghost use Rattle.std.specs.Rc.{rc_str_bytes};
 ghost use Rattle.std.specs.Str.{chars};
 ghost use Rattle.std.specs.String.{string_bytes};
-ghost use Rattle.smt_sexpr.specs.Front.{IfRead};
 ghost use Rattle.smt_sexpr.specs.Quoting.{is_character, quoted, quoted_character};
 
 use crate::error::SExprParseError;
@@ -61,8 +60,8 @@ fn quoted_text(alloc: Global, s: &str) -> Result<String, AllocError>
 ///
 /// `Memory`, where there is none left.
 pub fn quote_string(alloc: Global, s: &str) -> Result<Option<Text>, SExprParseError>
-    ensures found { IfRead result (λ text. rc_str_bytes text ≡ quoted (chars s.now)) }
-    ensures some { IfOk result (λ found. is_some found ≡ list_all is_character (chars s.now)) }
+    ensures found { IfOk result (λ o. IfSome o (λ text. rc_str_bytes text ≡ quoted (chars s.now))) }
+    ensures some { IfOk result (λ o. is_some o ≡ list_all is_character (chars s.now)) }
     ensures error { IfErr result (λ e. e ≡ SExprParseError.Memory) }
 {
     if !is_string(s) {
