@@ -10,6 +10,7 @@ pub mod Meaning
 pub mod Names
 pub mod Operators
 pub mod PatternOrder
+pub mod PatternSearch
 pub mod PatternView
 pub mod Patterns
 pub mod Plain
