@@ -114,6 +114,7 @@ enum Front<'a> {
     Ends,
 }
 
+// How the text compares with the characters before the first wildcard of these elements.
 fn front_of<'a>(elems: &'a [PatternElem], text: &'a str) -> Front<'a>
     ensures { IsFront (map plain_part elems.now) (chars text.now) result }
 {

@@ -1,4 +1,4 @@
-use Rattle.std.proofs.Common.{◌≡◌, map, ◌∙◌, sym}
+use Rattle.std.proofs.Common.{map, ◌∙◌, sym}
 use Rattle.std.specs.Str.{chars}
 use Rattle.smt_term.specs.PatternView.{plain_part}
 use Rattle.smt_term.proofs.PatternSearch.{first_place, place_ends}
