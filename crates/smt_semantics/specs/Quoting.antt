@@ -1,29 +1,15 @@
 -- How code points are written in a string, and patterns.
-use Rattle.std.specs.Prelude.{◌≡◌, ℕ, false, ◌&&◌, IsTrue, Some, map, ◌==◌, nat_le, if◌then◌else◌, codes, List, [], ◌∷◌, ◌++◌}
-use Rattle.std.specs.List.{flat_map, list_all}
+use Rattle.std.specs.Prelude.{◌≡◌, ℕ, IsTrue, Some, map, codes, List, [], ◌∷◌, ◌++◌}
+use Rattle.std.specs.List.{list_all}
 use Rattle.smt_term.specs.Faults.{is_pattern_part}
 use Rattle.smt_term.specs.TypeValues.{is_code_point}
 use Rattle.smt_term.specs.Plain.{PatternPart, Character, Wildcard}
 use Rattle.smt_semantics.specs.Script.{group, name, pattern}
 use Rattle.smt_semantics.specs.Texts.{spaced}
-use Rattle.std.specs.Fmt.{digits}
 use Rattle.smt_sexpr.specs.Lexicon.{Text}
+pub use Rattle.smt_sexpr.specs.Quoting.{escaped, quoted_character, quoted}
 use Rattle.smt_sexpr.specs.Reading.{Expression, Leaf}
 use Rattle.smt_semantics.specs.Written.{Writes}
-
--- `\u{..}`, in lower-case hexadecimal without leading zeros
-abbrev pub escaped : ℕ → List ℕ
-escaped c = codes "\\u{" ++ (digits 16 false c ++ codes "}")
-
--- a character between the quotes of a string
-abbrev pub quoted_character : ℕ → List ℕ
-quoted_character c =
-    if c == 34 then codes "\"\""
-    else (if c == 92 then codes "\\u{5c}"
-    else (if nat_le 32 c && nat_le c 126 then c ∷ [] else escaped c))
-
-abbrev pub quoted : List ℕ → List ℕ
-quoted characters = codes "\"" ++ (flat_map quoted_character characters ++ codes "\"")
 
 -- What is written of code points up to 196607 is read as these.
 abbrev pub TextsWrite : Type 0

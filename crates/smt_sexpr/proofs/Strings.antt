@@ -13,7 +13,8 @@ use Rattle.smt_sexpr.proofs.Runs.{IsRun, plain_back, plain_front, plain_parts}
 abbrev pub is_no_quote : ℕ → Bool
 is_no_quote b = not (eqb b 34)
 
-twice_none : (run : List ℕ) → list_all is_no_quote run ≡ true → flat_map quote_twice run ≡ run
+-- where no quote is, nothing is written twice
+pub twice_none : (run : List ℕ) → list_all is_no_quote run ≡ true → flat_map quote_twice run ≡ run
 twice_none [] h = refl
 twice_none (b ∷ bs) h =
     let p = and_parts (is_no_quote b) (list_all is_no_quote bs) h in

@@ -1,12 +1,14 @@
-//! S-expressions of SMT-LIB: their values, and a reader of texts that hold one.
+//! S-expressions of SMT-LIB: their values, a reader of texts that hold one, and texts between quotes.
 #![tactic(auto)]
 
 pub mod error;
 pub mod expression;
 pub mod laws;
 mod lexeme;
+pub mod quote;
 pub mod read;
 
 pub use error::SExprParseError;
 pub use expression::{SExpr, SExprs, Text};
+pub use quote::quote_string;
 pub use read::read_plain;

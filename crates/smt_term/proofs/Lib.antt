@@ -5,6 +5,8 @@ pub mod DerivedOrder
 pub mod FormedTerms
 pub mod LiteralValues
 pub mod Matching
+pub mod PatternOrder
+pub mod PatternSearch
 pub mod RecordFaults
 pub mod SameTerm
 pub mod Shapes

@@ -9,6 +9,9 @@ pub mod Literals
 pub mod Meaning
 pub mod Names
 pub mod Operators
+pub mod PatternOrder
+pub mod PatternSearch
+pub mod PatternView
 pub mod Patterns
 pub mod Plain
 pub mod Program

@@ -1,6 +1,7 @@
 ghost use Rattle.smt_term.specs.Examples.{FaultRows, OperatorRows, OrderRows, TermRows};
 ghost use Rattle.smt_term.specs.Laws.{DefaultsAreInterpretations, FunctionEqualityIsDecided, OpEqualityIsDecided, OpOrderIsTotal, ReachedDecides, RestrictionAgrees, TermEqualityIsDecided, TermOrderIsTotal, TypeEqualityIsDecided, TypeOrderIsTotal, TypedTermsGetAttributes, TypedTermsHaveValues, Utf8KeepsOrder};
 ghost use Rattle.smt_term.specs.Literals.{LiteralsAreTheirValues};
+ghost use Rattle.smt_term.specs.PatternOrder.{ElementsCompareAsPlain, EqualElementsSayTheSame, EqualOrdPatternsSayTheSame, EqualPatternsSayTheSame, PatternsCompareAsPlain};
 ghost use Rattle.smt_term.specs.Patterns.{MatchingIsDecided};
 ghost use Rattle.smt_term.specs.Plain.{RoundTrip, terms};
 ghost use Rattle.smt_term.specs.Program.{EqualTermsSayTheSame, TablesAreEmpty, TermsAreFormed, TermsCompareAsPlain, TypesCompareAsPlain};
@@ -103,4 +104,13 @@ pub fn program_terms()
     ensures order { TermsCompareAsPlain }
     ensures type_order { TypesCompareAsPlain }
     ensures tables { TablesAreEmpty }
+{}
+
+/// The program's patterns and their elements compare as what they say, and are equal exactly where they say the same.
+pub fn program_patterns()
+    ensures element_order { ElementsCompareAsPlain }
+    ensures order { PatternsCompareAsPlain }
+    ensures element_equality { EqualElementsSayTheSame }
+    ensures equality { EqualPatternsSayTheSame }
+    ensures ordered_equality { EqualOrdPatternsSayTheSame }
 {}

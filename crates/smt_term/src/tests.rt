@@ -4,6 +4,8 @@ use smt_bits::{BitVec, EIGHT, HUNDRED_TWENTY_EIGHT, ONE, SIXTY_FOUR, Width};
 use std::alloc::Global;
 use std::test::Fail;
 
+mod patterns;
+
 /// The type of bitvectors of this width; Bool for 0.
 fn type_of_width(bits: u32) -> TermType {
     Width::new(bits).map_or(TermType::Bool, |n| TermType::Bitvec { n })

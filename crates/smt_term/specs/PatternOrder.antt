@@ -1,0 +1,33 @@
+-- Laws of the program's patterns: their order and their equality, said of their plain form.
+use Rattle.std.specs.Prelude.{◌≡◌, ◌↔◌, IsTrue}
+use Rattle.std.specs.Cmp.Lexicographic.{slice_cmp}
+use Rattle.smt_term.specs.PatternView.{plain_part, plain_pattern, plain_ord_pattern}
+use Rattle.smt_term.specs.TermOrder.{part_cmp}
+use Rattle.smt_term.specs.contracts.pattern.OrdPatternOrd.TheImpl as pattern_order
+use Rattle.smt_term.specs.contracts.pattern.OrdPatternPartialEq.TheImpl as ord_pattern_equality
+use Rattle.smt_term.specs.contracts.pattern.PatternElemOrd.TheImpl as element_order
+use Rattle.smt_term.specs.contracts.pattern.PatternElemPartialEq.TheImpl as element_equality
+use Rattle.smt_term.specs.contracts.pattern.PatternPartialEq.TheImpl as pattern_equality
+use Rattle.smt_term.specs.declared.pattern.OrdPattern.{OrdPattern}
+use Rattle.smt_term.specs.declared.pattern.Pattern.{Pattern}
+use Rattle.smt_term.specs.declared.pattern.PatternElem.{PatternElem}
+
+-- elements compare as what they say
+abbrev pub ElementsCompareAsPlain : Type 0
+ElementsCompareAsPlain = (a b : PatternElem) → element_order.ghosts.cmp a b ≡ part_cmp (plain_part a) (plain_part b)
+
+-- patterns compare as lists of their parts, by the first difference
+abbrev pub PatternsCompareAsPlain : Type 0
+PatternsCompareAsPlain = (p q : OrdPattern) → pattern_order.ghosts.cmp p q ≡ slice_cmp part_cmp (plain_ord_pattern p) (plain_ord_pattern q)
+
+-- two elements are equal exactly where they say the same
+abbrev pub EqualElementsSayTheSame : Type 0
+EqualElementsSayTheSame = (a b : PatternElem) → IsTrue (element_equality.ghosts.eq a b) ↔ (plain_part a ≡ plain_part b)
+
+-- the same of patterns
+abbrev pub EqualPatternsSayTheSame : Type 0
+EqualPatternsSayTheSame = (p q : Pattern) → IsTrue (pattern_equality.ghosts.eq p q) ↔ (plain_pattern p ≡ plain_pattern q)
+
+-- the same of patterns with an order
+abbrev pub EqualOrdPatternsSayTheSame : Type 0
+EqualOrdPatternsSayTheSame = (p q : OrdPattern) → IsTrue (ord_pattern_equality.ghosts.eq p q) ↔ (plain_ord_pattern p ≡ plain_ord_pattern q)
