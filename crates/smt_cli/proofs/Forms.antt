@@ -5,7 +5,8 @@ use Rattle.std.proofs.lemmas.List.{take_all}
 use Rattle.std.specs.Prelude.{IfSome, IsErrAnd, IsTrue, if◌then◌else◌, is_some}
 use Rattle.smt_term.specs.Formed.{IsFormed}
 use Rattle.smt_term.specs.Plain.{PlainType, BitVecType, BoolType, PlainOp, NotOp, PlainTerm, Application, terms}
-use Rattle.smt_term.specs.Types.{result_type, type_eq, type_of, typed}
+use Rattle.smt_term.specs.Types.{result_type, type_eq, type_of}
+use Rattle.smt_term.specs.Typing.{typed}
 use Rattle.smt_term.specs.View.{plain_term, plain_term-Var}
 use Rattle.smt_term.specs.declared.term.Term.{Term, Var}
 use Rattle.smt_term.specs.declared.term.TermVar.{TermVar}

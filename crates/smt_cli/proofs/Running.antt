@@ -10,7 +10,7 @@ use Rattle.smt_script.specs.Texts.{texts}
 use Rattle.smt_headline.specs.Headline.{Headline}
 use Rattle.std.specs.List.{AllByRecursion}
 use Rattle.smt_term.specs.Plain.{BoolType}
-use Rattle.smt_term.specs.Types.{Typed}
+use Rattle.smt_term.specs.Typing.{Typed}
 use Rattle.smt_factory.specs.Built.{built}
 use Rattle.smt_cli.proofs.AsWritten.{as_written, built_booleans}
 use Rattle.smt_cli.proofs.TypedJobs.{IsCondition, job_conditions}

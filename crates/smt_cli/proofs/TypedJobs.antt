@@ -12,7 +12,8 @@ use Rattle.smt_bits.proofs.BitRanges as ranges
 use Rattle.smt_term.specs.Formed.{IsFormed, IsFormedNode, IsFormedType}
 use Rattle.smt_term.specs.Plain.{PlainType, BitVecType, BoolType, PlainOp, AndOp, BvaddOp, BvlshrOp, BvmulOp, BvnegOp, BvnegoOp, BvsaddoOp, BvsdivOp, BvshlOp, BvsleOp, BvsltOp, BvsmodOp, BvsmuloOp, BvsremOp, BvssuboOp, BvsubOp, BvudivOp, BvuleOp, BvultOp, BvuremOp, EqOp, IteOp, NotOp, OrOp, ZeroExtendOp, BitVecLiteral, PlainTerm, Application, LiteralTerm, VariableTerm, terms}
 use Rattle.smt_term.specs.Reached.{subterms, subterms_of_all}
-use Rattle.smt_term.specs.Types.{Typed, extended_type, result_type, type_eq, type_of, types_of, typed, typed_all}
+use Rattle.smt_term.specs.Types.{extended_type, result_type, type_eq, type_of, types_of}
+use Rattle.smt_term.specs.Typing.{Typed, typed, typed_all}
 use Rattle.smt_term.proofs.Defaults.{all-join}
 use Rattle.smt_term.proofs.Soundness.{chosen}
 use Rattle.smt_term.proofs.TypeOrder.{eq_same, type_itself}

@@ -5,7 +5,7 @@ use Rattle.std.specs.Rc.{rc_str_bytes}
 use Rattle.smt_term.specs.Enums.{enums_of}
 use Rattle.smt_factory.specs.Built.{built}
 use Rattle.smt_term.specs.Plain.{PlainTerm, PlainType}
-use Rattle.smt_term.specs.Types.{typed}
+use Rattle.smt_term.specs.Typing.{typed}
 use Rattle.smt_term.specs.View.{plain_items, plain_op, plain_term, plain_type}
 use Rattle.smt_term.specs.declared.term.Term.{Term}
 use Rattle.smt_term.specs.declared.term.TermVar.{TermVar}

@@ -4,7 +4,7 @@ ghost use Rattle.std.specs.Io.KnownBytes.{append_known};
 ghost use Rattle.smt_term.specs.Enums.{enums_of};
 ghost use Rattle.std.specs.List.{AllByRecursion};
 ghost use Rattle.smt_term.specs.Plain.{BoolType};
-ghost use Rattle.smt_term.specs.Types.{Typed};
+ghost use Rattle.smt_term.specs.Typing.{Typed};
 ghost use Rattle.smt_term.specs.View.{plain_items};
 ghost use Rattle.smt_headline.specs.Headline.{Headline};
 ghost use Rattle.smt_lines.specs.Text.{text};

@@ -7,7 +7,8 @@ use Rattle.std.specs.List.{AllZip}
 use Rattle.smt_bits.specs.BitVectors as bits
 use Rattle.smt_bits.proofs.BitRanges as ranges
 use Rattle.smt_term.specs.Plain.{PlainType, BitVecType, BoolType, PlainOp, AndOp, BvaddOp, BvlshrOp, BvmulOp, BvnegOp, BvnegoOp, BvsaddoOp, BvsdivOp, BvshlOp, BvsleOp, BvsltOp, BvsmodOp, BvsmuloOp, BvsremOp, BvssuboOp, BvsubOp, BvudivOp, BvuleOp, BvultOp, BvuremOp, EqOp, IteOp, NotOp, OrOp, ZeroExtendOp, PlainTerm, Application, NoneTerm, LiteralTerm, RecordTerm, SetTerm, SomeTerm, VariableTerm, PlainTerms, no_terms, one_term, list_of_terms, terms}
-use Rattle.smt_term.specs.Types.{extended_type, is_type, result_type, type_of, types_of, typed, typed_all}
+use Rattle.smt_term.specs.Types.{extended_type, is_type, result_type, type_of, types_of}
+use Rattle.smt_term.specs.Typing.{typed, typed_all}
 use Rattle.smt_factory.specs.Applications.{wider_type}
 use Rattle.smt_factory.specs.Built.{built, built_all, folded}
 use Rattle.smt_factory.specs.FoldBits.{folded_zero_extend, greatest_shift}

@@ -20,7 +20,8 @@ use Rattle.smt_term.specs.Operators.{truth}
 use Rattle.smt_term.specs.Reached.{subterms, subterms_of_all}
 use Rattle.smt_term.specs.Tables.{Interpretation}
 use Rattle.smt_term.specs.TermOrder.{term_eq}
-use Rattle.smt_term.specs.Types.{type_eq, type_of, is_type, typed}
+use Rattle.smt_term.specs.Types.{type_eq, type_of, is_type}
+use Rattle.smt_term.specs.Typing.{typed}
 use Rattle.smt_term.specs.TypeValues.{Enums}
 use Rattle.smt_term.specs.ValueOrder.{value_eq, value_cmp}
 use Rattle.smt_term.proofs.Defaults.{all-join}

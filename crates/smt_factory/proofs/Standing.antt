@@ -12,7 +12,8 @@ use Rattle.smt_term.specs.Meaning.{meaning, meanings, term_value}
 use Rattle.smt_term.specs.Operators.{apply}
 use Rattle.smt_term.specs.Reached.{subterms, subterms_of_all, subterms_of_fields, reached_terms, types_within, variable_of, function_of, opened_of, selector_of}
 use Rattle.smt_term.specs.Tables.{Interpretation}
-use Rattle.smt_term.specs.Types.{type_of, types_of, result_type, is_type, typed, typed_all, Typed}
+use Rattle.smt_term.specs.Types.{type_of, types_of, result_type, is_type}
+use Rattle.smt_term.specs.Typing.{typed, typed_all, Typed}
 use Rattle.smt_term.specs.TypeValues.{Enums}
 use Rattle.smt_term.proofs.Defaults.{all-join}
 use Rattle.smt_term.proofs.Soundness.{all-front, all-back, all-last}

@@ -5,7 +5,7 @@ use Rattle.smt_factory.specs.FoldConnectives.{folded_not, folded_and, folded_or}
 use Rattle.smt_factory.specs.FoldEquality.{folded_eq, folded_ite}
 use Rattle.smt_factory.specs.StandsFor.{StandsFor}
 use Rattle.smt_term.specs.Plain.{PlainType, PlainOp, AndOp, BvaddOp, BvlshrOp, BvmulOp, BvnegOp, BvnegoOp, BvsaddoOp, BvsdivOp, BvshlOp, BvsleOp, BvsltOp, BvsmodOp, BvsmuloOp, BvsremOp, BvssuboOp, BvsubOp, BvudivOp, BvuleOp, BvultOp, BvuremOp, EqOp, IteOp, NotOp, OrOp, ZeroExtendOp, PlainTerm, Application, NoneTerm, LiteralTerm, RecordTerm, SetTerm, SomeTerm, VariableTerm, PlainTerms, no_terms, one_term, terms}
-use Rattle.smt_term.specs.Types.{typed}
+use Rattle.smt_term.specs.Typing.{typed}
 use Rattle.std.specs.Prelude.{IsTrue}
 
 -- an application by the call of its operator; what no call folds stays

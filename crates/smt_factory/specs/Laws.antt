@@ -12,7 +12,7 @@ use Rattle.smt_term.specs.Literals.{is_literal}
 use Rattle.smt_term.specs.Meaning.{term_value}
 use Rattle.smt_term.specs.Operators.{truth, apply}
 use Rattle.smt_term.specs.Tables.{Interpretation}
-use Rattle.smt_term.specs.Types.{typed, Typed}
+use Rattle.smt_term.specs.Typing.{typed, Typed}
 use Rattle.smt_term.specs.TypeValues.{Enums}
 use Rattle.smt_term.specs.Plain.{PlainType, BitVecType, BoolType, PlainOp, BvaddOp, BvlshrOp, BvmulOp, BvsaddoOp, BvsdivOp, BvshlOp, BvsleOp, BvsltOp, BvsmodOp, BvsmuloOp, BvsremOp, BvssuboOp, BvsubOp, BvudivOp, BvuleOp, BvultOp, BvuremOp, PlainTerm, Application, RecordTerm, SomeTerm, PlainFields, terms}
 use Rattle.smt_term.specs.Values.{BoolValue, BitVecValue}

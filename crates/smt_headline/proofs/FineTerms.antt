@@ -10,7 +10,8 @@ use Rattle.smt_bits.specs.Widths.{is_width}
 use Rattle.smt_term.specs.Faults.{Fault, earlier, fault_unless, is_string, is_pattern_part, entity_fault, literal_fault, is_passed_over, type_fault, operator_fault, term_fault, terms_fault, fields_fault, first_fault}
 use Rattle.smt_term.specs.Formed.{IsFormedHere, IsFormedType}
 use Rattle.smt_term.specs.Reached.{subterms, subterms_of_all, subterms_of_fields, types_within, types_within_attributes}
-use Rattle.smt_term.specs.Types.{type_eq, type_of, field_types, types_of, is_bits, attribute_type, extension_signature, result_type, is_type, typed, typed_all, typed_fields, Typed}
+use Rattle.smt_term.specs.Types.{type_eq, type_of, field_types, types_of, is_bits, attribute_type, extension_signature, result_type, is_type}
+use Rattle.smt_term.specs.Typing.{are_elements, typed, typed_all, typed_fields, Typed}
 use Rattle.smt_term.proofs.Soundness.{all-front, all-back, all-last, none-first, none-second, not-passed, is_type-some, walked, chosen}
 use Rattle.smt_term.proofs.TypeOrder.{eq_same}
 use Rattle.smt_term.specs.TypeValues.{Enums, members_of}
@@ -153,7 +154,7 @@ module _ (enums : Enums) where
     )
     fine (SetTerm t ts) h f w = (
       fine_own (SetTerm t ts) w,
-      fine_all ts (first_so (typed_all ts) (list_all (type_eq t) (types_of ts)) h) (none-second (type_fault enums t) (terms_fault enums ts) f) (all-front HasFormedType (subterms_of_all ts) (SetTerm t ts ∷ []) w),
+      fine_all ts (first_so (typed_all ts) (are_elements t ts) h) (none-second (type_fault enums t) (terms_fault enums ts) f) (all-front HasFormedType (subterms_of_all ts) (SetTerm t ts ∷ []) w),
     )
     fine (SomeTerm t) h f w = (
       fine_own t (all-front HasFormedType (subterms t) (SomeTerm t ∷ []) w),

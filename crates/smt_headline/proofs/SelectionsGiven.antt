@@ -6,7 +6,8 @@ use Rattle.std.proofs.lemmas.Bool.{and_parts}
 use Rattle.std.proofs.lemmas.List.Elements.{recursion_from_All}
 use Rattle.smt_term.specs.Plain.{PlainType, BoolType, ExtensionOp, PlainOp, ExtOp, OptionGetOp, UufOp, PlainTerm, Application, VariableTerm, PlainTerms}
 use Rattle.smt_term.specs.Reached.{reached_terms}
-use Rattle.smt_term.specs.Types.{Typed, extension_signature}
+use Rattle.smt_term.specs.Types.{extension_signature}
+use Rattle.smt_term.specs.Typing.{Typed}
 use Rattle.smt_term.proofs.Soundness.{all-front, all-back}
 use Rattle.smt_term.specs.TypeValues.{Enums}
 use Rattle.smt_sexpr.specs.Reading.{Expression}

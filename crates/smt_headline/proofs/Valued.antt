@@ -9,7 +9,9 @@ use Rattle.smt_term.specs.Interpretations.{IsGivenOp, IsGiven}
 use Rattle.smt_term.specs.Meaning.{literal_value, meaning}
 use Rattle.smt_term.specs.Reached.{subterms, subterms_of_all, subterms_of_fields, reached_terms}
 use Rattle.smt_term.specs.Tables.{Interpretation}
-use Rattle.smt_term.specs.Types.{type_eq, literal_type, type_of, field_types, types_of, result_type, is_type, typed, typed_all, typed_fields}
+use Rattle.smt_term.specs.Types.{type_eq, literal_type, type_of, field_types, types_of, result_type, is_type}
+use Rattle.smt_term.specs.Typing.{are_elements, typed, typed_all, typed_fields}
+use Rattle.smt_term.proofs.Elements.{typed_elements}
 use Rattle.smt_term.specs.TypeValues.{Enums, IsValue}
 use Rattle.smt_term.proofs.Soundness.{all-front, all-back, all-last, none-first, none-second, not-passed, is_type-some, walked, valued}
 use Rattle.smt_lines.specs.Fine.{IsFineType, IsFineOp, IsFineLiteral, IsFine}
@@ -64,9 +66,9 @@ module _ (enums : Enums) (I : Interpretation) where
         have_values fs h (none-second (type_fault enums (RecordType (field_types fs))) (fields_fault enums fs) f)
         (all-front IsFormedNode (subterms_of_fields fs) (RecordTerm fs ∷ []) w) (all-front HasFormedType (subterms_of_fields fs) (RecordTerm fs ∷ []) y) (all-front (IsGiven enums I) (subterms_of_fields fs) (RecordTerm fs ∷ []) g)
     is_valued (SetTerm t ts) h f w y g = (
-      are_valued ts (first_so (typed_all ts) (list_all (type_eq t) (types_of ts)) h) (none-second (type_fault enums t) (terms_fault enums ts) f)
+      are_valued ts (first_so (typed_all ts) (are_elements t ts) h) (none-second (type_fault enums t) (terms_fault enums ts) f)
           (all-front IsFormedNode (subterms_of_all ts) (SetTerm t ts ∷ []) w) (all-front HasFormedType (subterms_of_all ts) (SetTerm t ts ∷ []) y) (all-front (IsGiven enums I) (subterms_of_all ts) (SetTerm t ts ∷ []) g),
-      second_so (typed_all ts) (list_all (type_eq t) (types_of ts)) h,
+      typed_elements t ts (second_so (typed_all ts) (are_elements t ts) h),
     )
     is_valued (SomeTerm t) h f w y g =
         is_valued t h (none-second (type_fault enums (type_of t)) (term_fault enums t) f)

@@ -8,7 +8,8 @@ use Rattle.smt_term.specs.Defaults.{default_id, default_value, default_fields, d
 use Rattle.smt_term.specs.Faults.{earlier, entity_type_fault, type_fault, attribute_types_fault, operator_fault, term_fault, terms_fault, fields_fault, first_fault, is_passed_over}
 use Rattle.smt_term.specs.Interpretations.{IsGivenOp, IsGiven, IsInterpretation}
 use Rattle.smt_term.specs.Reached.{subterms, subterms_of_all, subterms_of_fields}
-use Rattle.smt_term.specs.Types.{type_of, field_types, types_of, result_type, is_type, typed, typed_all, typed_fields, type_eq}
+use Rattle.smt_term.specs.Types.{type_of, field_types, types_of, result_type, is_type, type_eq}
+use Rattle.smt_term.specs.Typing.{are_elements, typed, typed_all, typed_fields}
 use Rattle.smt_term.specs.TypeValues.{Enums, members_of, IsId, IsValue, AreFieldValues}
 use Rattle.smt_bits.proofs.BitRanges.{positive}
 use Rattle.smt_term.proofs.Soundness.{none-first, none-second, not-passed, walked, is_type-some}
@@ -71,7 +72,7 @@ module _ (enums : Enums) where
     given (NoneTerm t) h f = (tt, tt)
     given (LiteralTerm l) h f = (tt, tt)
     given (RecordTerm fs) h f = all-join P (subterms_of_fields fs) (RecordTerm fs ∷ []) (fields_given fs h (none-second (type_fault enums (RecordType (field_types fs))) (fields_fault enums fs) f)) (tt, tt)
-    given (SetTerm t ts) h f = all-join P (subterms_of_all ts) (SetTerm t ts ∷ []) (all_given ts (first_so (typed_all ts) (list_all (type_eq t) (types_of ts)) h) (none-second (type_fault enums t) (terms_fault enums ts) f)) (tt, tt)
+    given (SetTerm t ts) h f = all-join P (subterms_of_all ts) (SetTerm t ts ∷ []) (all_given ts (first_so (typed_all ts) (are_elements t ts) h) (none-second (type_fault enums t) (terms_fault enums ts) f)) (tt, tt)
     given (SomeTerm t) h f = all-join P (subterms t) (SomeTerm t ∷ []) (given t h (none-second (type_fault enums (type_of t)) (term_fault enums t) f)) (tt, tt)
     given (VariableTerm id t) h f = (is_default t f, tt)
 

@@ -2,6 +2,7 @@ pub mod Agreement
 pub mod Defaults
 pub mod DerivedEquality
 pub mod DerivedOrder
+pub mod Elements
 pub mod FormedTerms
 pub mod LiteralValues
 pub mod Matching

@@ -15,7 +15,9 @@ use Rattle.smt_term.specs.Meaning.{literal_value, meaning, meanings, field_meani
 use Rattle.smt_term.specs.Operators.{truth, width, number, elements, field_value, attribute_value, intersection, is_member, value_inside, prefix_value, apply_extension, to_bits, apply}
 use Rattle.smt_term.specs.Reached.{subterms, subterms_of_all, subterms_of_fields}
 use Rattle.smt_term.specs.Tables.{Interpretation, value_among, value_at}
-use Rattle.smt_term.specs.Types.{type_eq, literal_type, type_of, field_types, types_of, is_bits, is_set, inner_type, attribute_in, attribute_type, extended_type, bits_and_bits, extension_signature, result_type, is_type, typed, typed_all, typed_fields}
+use Rattle.smt_term.specs.Types.{type_eq, literal_type, type_of, field_types, types_of, is_bits, is_set, inner_type, attribute_in, attribute_type, extended_type, bits_and_bits, extension_signature, result_type, is_type}
+use Rattle.smt_term.specs.Typing.{are_elements, typed, typed_all, typed_fields}
+use Rattle.smt_term.proofs.Elements.{typed_elements}
 use Rattle.smt_term.specs.TypeValues.{Enums, members_of, greatest_code_point, AreCodePoints, IsId, IsLong, IsPrefix, IsValue, AreFieldValues}
 use Rattle.smt_term.specs.ValueOrder.{value_eq, value_cmp, ascends, list_of_values, sorted_values, set_of}
 use Rattle.smt_bits.proofs.BitRanges as ranges
@@ -297,7 +299,7 @@ module _ (enums : Enums) where
     valued I (RecordTerm fs) h f w g =
         fields_valued I fs h (none-second (type_fault enums (RecordType (field_types fs))) (fields_fault enums fs) f) (all-front IsFormedNode (subterms_of_fields fs) (RecordTerm fs ∷ []) w) (all-front (IsGiven enums I) (subterms_of_fields fs) (RecordTerm fs ∷ []) g)
     valued I (SetTerm t ts) h f w g =
-        set_value t (meanings I ts) (elements_valued I t ts (second_so (typed_all ts) (list_all (type_eq t) (types_of ts)) h) (all_valued I ts (first_so (typed_all ts) (list_all (type_eq t) (types_of ts)) h) (none-second (type_fault enums t) (terms_fault enums ts) f) (all-front IsFormedNode (subterms_of_all ts) (SetTerm t ts ∷ []) w) (all-front (IsGiven enums I) (subterms_of_all ts) (SetTerm t ts ∷ []) g)))
+        set_value t (meanings I ts) (elements_valued I t ts (typed_elements t ts (second_so (typed_all ts) (are_elements t ts) h)) (all_valued I ts (first_so (typed_all ts) (are_elements t ts) h) (none-second (type_fault enums t) (terms_fault enums ts) f) (all-front IsFormedNode (subterms_of_all ts) (SetTerm t ts ∷ []) w) (all-front (IsGiven enums I) (subterms_of_all ts) (SetTerm t ts ∷ []) g)))
     valued I (SomeTerm t) h f w g =
         valued I t h (none-second (type_fault enums (type_of t)) (term_fault enums t) f) (all-front IsFormedNode (subterms t) (SomeTerm t ∷ []) w) (all-front (IsGiven enums I) (subterms t) (SomeTerm t ∷ []) g)
     valued I (VariableTerm id t) h f w g = g.0

@@ -3,7 +3,8 @@ use Rattle.std.proofs.Common.{◌≡◌, ℕ, ◌+◌, ◌<◌, ◌≤◌, Bool,
 use Rattle.std.proofs.lemmas.List.{at_drop_more, at_drop_all}
 use Rattle.std.specs.Prelude.{is_some}
 use Rattle.smt_term.specs.Plain.{PlainType, PlainOp, NotOp, PlainTerm, Application, list_of_terms, terms}
-use Rattle.smt_term.specs.Types.{is_type, result_type, type_of, typed, typed_all}
+use Rattle.smt_term.specs.Types.{is_type, result_type, type_of}
+use Rattle.smt_term.specs.Typing.{typed, typed_all}
 use Rattle.smt_term.specs.View.{plain_items, plain_op, plain_term, plain_term-App, plain_type}
 use Rattle.smt_term.specs.declared.op.Op.{Op}
 use Rattle.smt_term.specs.declared.term.Term.{Term, App}

@@ -11,7 +11,8 @@ use Rattle.smt_term.specs.Patterns.{matches}
 use Rattle.smt_term.specs.Reached.{subterms, reached_variables, reached_functions, reached_options, reached_selectors, reached_types}
 use Rattle.smt_term.specs.Tables.{Interpretation}
 use Rattle.smt_term.specs.TermOrder.{term_cmp}
-use Rattle.smt_term.specs.Types.{type_of, result_type, typed}
+use Rattle.smt_term.specs.Types.{type_of, result_type}
+use Rattle.smt_term.specs.Typing.{typed}
 use Rattle.smt_term.specs.TypeValues.{Enums, IsExtension, IsValue}
 use Rattle.smt_term.specs.ValueOrder.{value_cmp, ascends, set_of}
 use Rattle.smt_term.specs.Plain.{IpAddrKind, DecimalKind, PlainType, OptionType, BitVecType, BoolType, EntityType, ExtensionType, StringType, RecordType, SetType, no_attributes, attribute, PlainFunction, PatternPart, Character, Wildcard, DatetimeOfBitVecOp, DecimalValOp, IpAddrV4Op, IpAddrV6Op, IpIsV4Op, IpPrefixV4Op, IpPrefixV6Op, PlainOp, AndOp, BvaddOp, BvlshrOp, BvmulOp, BvnegOp, BvnegoOp, BvsaddoOp, BvsdivOp, BvshlOp, BvsleOp, BvsltOp, BvsmodOp, BvsmuloOp, BvsremOp, BvssuboOp, BvsubOp, BvudivOp, BvuleOp, BvultOp, BvuremOp, EqOp, ExtOp, IteOp, NotOp, OptionGetOp, OrOp, RecordGetOp, SetInterOp, SetMemberOp, SetSubsetOp, StringLikeOp, UufOp, ZeroExtendOp, PlainExtension, DecimalOf, Ipv4Of, Ipv6Of, DatetimeOf, BitVecLiteral, EntityLiteral, ExtensionLiteral, StringLiteral, PlainTerm, Application, NoneTerm, LiteralTerm, RecordTerm, SetTerm, SomeTerm, VariableTerm, no_terms, no_fields, one_field, terms}

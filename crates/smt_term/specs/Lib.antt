@@ -21,6 +21,7 @@ pub mod Tables
 pub mod TermOrder
 pub mod TypeValues
 pub mod Types
+pub mod Typing
 pub mod ValueOrder
 pub mod Values
 pub mod View

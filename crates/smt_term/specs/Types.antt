@@ -1,4 +1,4 @@
--- The type of a term, and which terms are typed.
+-- The types of terms and of what operators give.
 use Rattle.std.specs.Prelude.{◌≡◌, ℕ, ◌+◌, Bool, true, false, ◌&&◌, nat_le, bytes_eq, List, [], ◌∷◌, map, Option, Some, None, IsTrue}
 use Rattle.std.specs.Bool.{then_some}
 use Rattle.std.specs.List.{list_all}
@@ -165,27 +165,3 @@ result_type o ts = None
 abbrev pub is_type : Option PlainType → PlainType → Bool
 is_type None t = false
 is_type (Some u) t = type_eq u t
-
--- a term whose every application has the argument types of its operator and the result type, and whose every set has
--- elements of its element type
-abbrev mutual
-  pub typed : PlainTerm → Bool
-  typed (Application o ts t) = typed_all ts && is_type (result_type o (types_of ts)) t
-  typed (NoneTerm t) = true
-  typed (LiteralTerm l) = true
-  typed (RecordTerm fs) = typed_fields fs
-  typed (SetTerm t ts) = typed_all ts && list_all (type_eq t) (types_of ts)
-  typed (SomeTerm t) = typed t
-  typed (VariableTerm id t) = true
-
-  pub typed_all : PlainTerms → Bool
-  typed_all no_terms = true
-  typed_all (one_term t ts) = typed t && typed_all ts
-
-  pub typed_fields : PlainFields → Bool
-  typed_fields no_fields = true
-  typed_fields (one_field a t fs) = typed t && typed_fields fs
-
-pub record Typed (t : PlainTerm) (ty : PlainType) : Type 0 where
-  pub parts : IsTrue (typed t)
-  pub type : type_of t ≡ ty

@@ -2,7 +2,8 @@
 ghost use Rattle.std.specs.Prelude.{◌≡◌, ◌↔◌, ◌∷◌, [], IfOk, IsTrue, is_some, map, option_map};
 ghost use Rattle.smt_bits.specs.Width.{bits_in};
 ghost use Rattle.smt_term.specs.Literals.{is_literal};
-ghost use Rattle.smt_term.specs.Types.{Typed, extended_type, is_type, literal_type, result_type, type_eq, type_of, typed, width_in};
+ghost use Rattle.smt_term.specs.Types.{extended_type, is_type, literal_type, result_type, type_eq, type_of, width_in};
+ghost use Rattle.smt_term.specs.Typing.{Typed, typed};
 ghost use Rattle.smt_term.specs.View.{plain_literal, plain_op, plain_term, plain_type};
 
 use crate::error::TermError;
