@@ -11,6 +11,7 @@ pub mod PatternSearch
 pub mod RecordFaults
 pub mod SameTerm
 pub mod Shapes
+pub mod Sorted
 pub mod SortedSets
 pub mod SortedValues
 pub mod Soundness

@@ -19,7 +19,8 @@ use Rattle.smt_term.specs.Types.{inner_type, type_eq, type_of, field_types, type
 use Rattle.smt_term.specs.Typing.{are_elements, typed, typed_all, typed_fields}
 use Rattle.smt_term.proofs.Elements.{elements_ascend, typed_elements}
 use Rattle.smt_term.specs.ValueOrder.{value_place, sorted_values, set_of}
-use Rattle.smt_term.proofs.SortedSets.{IsIn, one_list, in-sorted, out-sorted}
+use Rattle.smt_term.proofs.Sorted.{IsIn, one_list}
+use Rattle.smt_term.proofs.SortedSets.{in-sorted, out-sorted}
 use Rattle.smt_term.proofs.SortedValues.{list-values}
 use Rattle.smt_term.proofs.Soundness.{all-front, all-back, all-last}
 use Rattle.smt_term.proofs.TypeOrder.{eq_same}

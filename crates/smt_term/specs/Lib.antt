@@ -19,6 +19,7 @@ pub mod Reached
 pub mod Shapes
 pub mod Tables
 pub mod TermOrder
+pub mod TermSets
 pub mod TypeValues
 pub mod Types
 pub mod Typing
