@@ -8,4 +8,5 @@ use Rattle.smt_term.proofs.term.Term.has_type.Goals as goal
 pub returns-then-well_typed : goal.returns-then-well_typed
 returns-then-well_typed c = (
   λ h. record { parts = sym c.well_typed.ensures ∙ c.if-well_typed.true; type = eq_same _ _ (sym c.is_of_type.ensures.same ∙ h) },
-  λ t. c.is_of_type.ensures.same ∙ ap (λ u. type_eq u (plain_type c.args.ty.now)) t.type ∙ ap is_eq (type_itself (plain_type c.args.ty.now)))
+  λ t. c.is_of_type.ensures.same ∙ ap (λ u. type_eq u (plain_type c.args.ty.now)) t.type ∙ ap is_eq (type_itself (plain_type c.args.ty.now)),
+)
