@@ -11,6 +11,7 @@ use Rattle.smt_term.specs.Patterns.{matches}
 use Rattle.smt_term.specs.Reached.{subterms, reached_variables, reached_functions, reached_options, reached_selectors, reached_types}
 use Rattle.smt_term.specs.Tables.{Interpretation}
 use Rattle.smt_term.specs.TermOrder.{term_cmp}
+use Rattle.smt_term.specs.TermSets.{set_term}
 use Rattle.smt_term.specs.Types.{type_of, result_type}
 use Rattle.smt_term.specs.Typing.{typed}
 use Rattle.smt_term.specs.TypeValues.{Enums, IsExtension, IsValue}
@@ -208,6 +209,9 @@ pub record TypeRows : Type 0 where
   -- each of these would be typed but for one part
   pub ill_typed : map typed (Application BvaddOp (terms (one_byte 1 ∷ one_byte 2 ∷ [])) bits_16 ∷ SomeTerm ill ∷ RecordTerm (one_field (codes "a") ill no_fields) ∷ SetTerm BoolType (terms (ill ∷ [])) ∷ SetTerm bits_16 (terms (one_byte 1 ∷ [])) ∷ [])
       ≡ false ∷ false ∷ false ∷ false ∷ false ∷ []
+  -- elements that stand twice, or in the other order
+  pub no_sets_of_order : map typed (SetTerm bits_8 (terms (one_byte 1 ∷ one_byte 1 ∷ [])) ∷ SetTerm bits_8 (terms (one_byte 2 ∷ one_byte 1 ∷ [])) ∷ SetTerm bits_8 (terms (one_byte 1 ∷ one_byte 2 ∷ [])) ∷ []) ≡ false ∷ false ∷ true ∷ []
+  pub in_order : set_term bits_8 (one_byte 2 ∷ one_byte 1 ∷ one_byte 2 ∷ []) ≡ SetTerm bits_8 (terms (one_byte 1 ∷ one_byte 2 ∷ []))
   pub well_typed : map typed (Application BvaddOp (terms (one_byte 1 ∷ one_byte 2 ∷ [])) bits_8 ∷ SetTerm bits_8 (terms (one_byte 1 ∷ [])) ∷ NoneTerm bits_8 ∷ []) ≡ true ∷ true ∷ true ∷ []
 
 -- ---- values of types
