@@ -235,7 +235,10 @@ fn condition_from(alloc: Global, declared: &Declared, expression: &SExpr) -> Res
     let term = term_from(alloc, declared, expression)?;
     match term.type_of(alloc)? {
         TermType::Bool => Ok(term),
-        TermType::Bitvec { .. } => Err(JobError::BadForm),
+        TermType::Option { .. }
+        | TermType::Bitvec { .. }
+        | TermType::String
+        | TermType::Set { .. } => Err(JobError::BadForm),
     }
 }
 
