@@ -1,4 +1,4 @@
-use Rattle.std.proofs.Common.{◌≡◌, ◌+◌, true, ◌&&◌, refl, sym, ap, ◌∙◌, arith, drop, map}
+use Rattle.std.proofs.Common.{◌+◌, ◌&&◌, refl, sym, ap, ◌∙◌, arith, drop, map}
 use Rattle.smt_term.specs.Types.{is_type, result_type, type_of}
 use Rattle.smt_term.specs.View.{plain_op, plain_term, plain_type}
 use Rattle.smt_term.proofs.TypedArguments.{application_typed, not_given, typed_list, typed_more, typed_none}
