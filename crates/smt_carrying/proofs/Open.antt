@@ -5,7 +5,6 @@ use Rattle.std.specs.List.{AllByRecursion}
 use Rattle.std.proofs.lemmas.Bool.{and_from}
 use mathlib.Core.Logic.{⊎_elim}
 use Rattle.smt_term.specs.Plain.{PlainTerm, Application, VariableTerm, ExtensionOp, ExtOp, OptionGetOp, UufOp}
-use Rattle.smt_semantics.specs.ScriptValues.{ScriptValue}
 use Rattle.smt_term.specs.Reached.{reached_terms}
 use Rattle.smt_term.specs.Types.{extension_signature}
 use Rattle.smt_sexpr.specs.Reading.{Expression}

@@ -1,6 +1,6 @@
 -- Tables, selectors and constructors give what is carried.
-use Rattle.std.proofs.Common.{◌≡◌, ℕ, suc, ◌-◌, ◌%◌, ◌^◌, ◌<◌, Bool, true, false, cond, List, [], ◌∷◌, map, refl, sym, ap, ◌∙◌, arith}
-use Rattle.std.specs.Prelude.{codes, bytes_eq, ℤ, pos, negsuc, Option, Some, None, unwrap_or}
+use Rattle.std.proofs.Common.{◌≡◌, ℕ, suc, Bool, true, false, cond, List, [], ◌∷◌, map, refl, sym, ap, ◌∙◌}
+use Rattle.std.specs.Prelude.{codes, bytes_eq, Option, Some, None, unwrap_or}
 use Rattle.std.specs.List.{AllByRecursion}
 use Rattle.std.specs.Ordering.{ordering_reverse, is_eq}
 use Rattle.std.specs.declared.cmp.Ordering.{Ordering}
@@ -12,7 +12,7 @@ use Rattle.smt_bits.proofs.TwosComplement.{signed_has_its_bits}
 use Rattle.smt_term.specs.Operators.{field_value, attribute_value, value_inside, prefix_value, apply_extension}
 use Rattle.smt_term.specs.Tables.{Table, Interpretation, value_among, value_at}
 use Rattle.smt_term.specs.Types.{attribute_in, extension_signature}
-use Rattle.smt_term.specs.TypeValues.{IsValue, AreFieldValues, IsLong, Enums}
+use Rattle.smt_term.specs.TypeValues.{IsValue, AreFieldValues, Enums}
 use Rattle.smt_term.specs.ValueOrder.{value_eq, value_cmp}
 use Rattle.smt_term.proofs.ValueOrder.{value_turned}
 use Rattle.smt_term.specs.Formed.{attribute_names}

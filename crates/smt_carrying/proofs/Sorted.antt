@@ -1,6 +1,6 @@
 -- Carried values have the sort of their type.
-use Rattle.std.proofs.Common.{◌≡◌, ℕ, suc, ◌+◌, ◌-◌, ◌^◌, ◌<◌, ◌≤◌, Bool, true, false, cond, ◌||◌, length, List, [], ◌∷◌, map, refl, sym, ap, ◌∙◌, subst, arith}
-use Rattle.std.specs.Prelude.{codes, bytes_eq, nat_le, nat_lt, ◌==◌, ℤ, pos, negsuc, Option, Some, None}
+use Rattle.std.proofs.Common.{◌≡◌, ℕ, suc, ◌+◌, ◌^◌, ◌<◌, ◌≤◌, Bool, true, false, cond, ◌||◌, length, List, [], ◌∷◌, map, refl, sym, ap, ◌∙◌, subst, arith}
+use Rattle.std.specs.Prelude.{codes, bytes_eq, nat_le, nat_lt, ◌==◌, ℤ, Option, Some, None}
 use Rattle.std.specs.Str.{chars}
 use Rattle.std.specs.List.{AllByRecursion, list_all, list_any}
 use Rattle.std.proofs.lemmas.Bool.{leb-false, ltb-false, eq-eqb, and_from}
@@ -9,7 +9,7 @@ use Rattle.smt_bits.proofs.BitRanges.{bits_of-below}
 use Rattle.smt_term.specs.Plain.{ExtensionKind, IpAddrKind, DecimalKind, DatetimeKind, DurationKind, PlainType, OptionType, BitVecType, BoolType, EntityType, ExtensionType, StringType, RecordType, SetType, AttributeTypes, no_attributes, attribute, PlainExtension, DecimalOf, Ipv4Of, Ipv6Of, DatetimeOf, DurationOf}
 use Rattle.smt_term.specs.Values.{Value, BoolValue, BitVecValue, StringValue, EntityValue, ExtensionValue, NoneValue, SomeValue, RecordValue, SetValue, Values, no_values, one_value, FieldValues, no_field_values, one_field_value}
 use Rattle.smt_semantics.specs.ScriptValues.{ScriptValue, BitsOf, TextOf, ConstructorOf, ScriptValues, no_script_values, one_script_value}
-use Rattle.smt_term.specs.TypeValues.{is_code_point, greatest_code_point, IsValue, AreFieldValues, IsExtension, IsId, IsLong, IsPrefix, AreCodePoints, Enums, members_of}
+use Rattle.smt_term.specs.TypeValues.{is_code_point, greatest_code_point, IsValue, AreFieldValues, IsExtension, IsId, IsPrefix, AreCodePoints, Enums, members_of}
 use Rattle.smt_term.specs.ValueOrder.{list_of_values}
 use Rattle.smt_bits.specs.Widths.{is_width, are_bits}
 use Rattle.smt_sexpr.specs.Lexicon.{Name}

@@ -5,7 +5,7 @@ use Rattle.smt_bits.specs.BitVectors as bits
 use Rattle.smt_factory.specs.Applications.{truth_literal, bits_literal, bvneg_of, bits_of_two, test_of_two, bvnego_of, zero_extend_of}
 use Rattle.smt_factory.specs.Parts.{negated_bits}
 use Rattle.smt_term.specs.Types.{type_of, is_bits}
-use Rattle.smt_term.specs.Plain.{PlainOp, BvaddOp, BvlshrOp, BvmulOp, BvnegOp, BvsaddoOp, BvsdivOp, BvshlOp, BvsleOp, BvsltOp, BvsmodOp, BvsmuloOp, BvsremOp, BvssuboOp, BvsubOp, BvudivOp, BvuleOp, BvultOp, BvuremOp, BitVecLiteral, PlainTerm, Application, LiteralTerm, no_terms, one_term}
+use Rattle.smt_term.specs.Plain.{PlainOp, BvaddOp, BvlshrOp, BvmulOp, BvsaddoOp, BvsdivOp, BvshlOp, BvsleOp, BvsltOp, BvsmodOp, BvsmuloOp, BvsremOp, BvssuboOp, BvsubOp, BvudivOp, BvuleOp, BvultOp, BvuremOp, BitVecLiteral, PlainTerm, LiteralTerm}
 
 -- a literal's negation, and what a negation is of
 abbrev pub folded_bvneg : PlainTerm → PlainTerm

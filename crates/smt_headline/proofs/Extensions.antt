@@ -1,13 +1,13 @@
 -- What the operators and the literals of extension types are worth.
-use Rattle.std.proofs.Common.{◌≡◌, ℕ, suc, ◌-◌, ◌^◌, ◌<◌, true, List, [], ◌∷◌, refl, ap, ap₂, ◌∙◌, Option, Some, None, arith}
-use Rattle.std.specs.Prelude.{codes, pos, negsuc, ℤ}
+use Rattle.std.proofs.Common.{◌≡◌, ℕ, ◌-◌, true, List, [], ◌∷◌, refl, ap, ap₂, ◌∙◌, Option, Some, None}
+use Rattle.std.specs.Prelude.{codes, ℤ}
 use Rattle.std.specs.List.{AllByRecursion}
 use Rattle.smt_term.specs.Plain.{ExtensionKind, IpAddrKind, DecimalKind, DatetimeKind, DurationKind, PlainType, BitVecType, ExtensionType, ExtensionOp, DatetimeOfBitVecOp, DatetimeValOp, DecimalValOp, DurationOfBitVecOp, DurationValOp, IpAddrV4Op, IpAddrV6Op, IpIsV4Op, IpPrefixV4Op, IpPrefixV6Op, PlainExtension, DecimalOf, Ipv4Of, Ipv6Of, DatetimeOf, DurationOf}
 use Rattle.smt_term.specs.Interpretations.{IsGivenSelector, IsOfOtherFamily, empty_table}
 use Rattle.smt_term.specs.Operators.{apply_extension}
 use Rattle.smt_term.specs.Tables.{Interpretation}
 use Rattle.smt_term.specs.Types.{extension_signature}
-use Rattle.smt_term.specs.TypeValues.{IsValue, IsExtension, IsLong, IsPrefix, Enums}
+use Rattle.smt_term.specs.TypeValues.{IsValue, IsExtension, IsPrefix, Enums}
 use Rattle.smt_term.specs.Values.{Value, ExtensionValue}
 use Rattle.smt_semantics.specs.ScriptValues.{ScriptValue, BitsOf, ConstructorOf}
 use Rattle.smt_sexpr.specs.Reading.{Expression}

@@ -12,7 +12,6 @@ use Rattle.smt_term.proofs.Soundness.{all-front, all-back}
 use Rattle.smt_term.specs.TypeValues.{Enums}
 use Rattle.smt_sexpr.specs.Reading.{Expression}
 use Rattle.smt_semantics.specs.Script.{Defined, look_up, assertions_of, names_of}
-use Rattle.smt_semantics.specs.ScriptValues.{ScriptValue}
 use Rattle.smt_semantics.specs.Sorts.{entries}
 use Rattle.smt_semantics.specs.Value.{ScriptInterpretation, IsScriptInterpretation, Selection, selections, selections_in, body_of, body_selections, applied_selectors, is_selector_given, is_table, are_others}
 use Rattle.smt_lines.specs.Naming.{sort_of}

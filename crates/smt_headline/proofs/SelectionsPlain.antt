@@ -1,6 +1,6 @@
 -- Expressions without a head that may be left open apply no selector that is.
 use Rattle.std.proofs.Common.{◌≡◌, ℕ, Bool, true, false, not, ◌&&◌, cond, List, [], ◌∷◌, ◌++◌, refl, sym, ap, ap₂, ◌∙◌, Option, Some, None}
-use Rattle.std.specs.Prelude.{codes, bytes_eq, take, drop, pos, negsuc, ℤ, map}
+use Rattle.std.specs.Prelude.{codes, bytes_eq, take, drop, map}
 use Rattle.std.proofs.lemmas.Bool.{and_parts, and_from, false≢true, or_parts}
 use Rattle.smt_bits.specs.BitVectors.{bits_of}
 use Rattle.smt_term.specs.Plain.{PlainType, OptionType, BitVecType, BoolType, EntityType, ExtensionType, StringType, RecordType, SetType, PatternPart, Character, Wildcard, PlainExtension, DecimalOf, Ipv4Of, Ipv6Of, DatetimeOf, DurationOf, BitVecLiteral, BoolLiteral, EntityLiteral, ExtensionLiteral, StringLiteral, PlainTerm, Application, NoneTerm, LiteralTerm, RecordTerm, SetTerm, SomeTerm, VariableTerm, PlainTerms, no_terms, one_term, PlainFields, no_fields, one_field}

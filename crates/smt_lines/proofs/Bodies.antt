@@ -1,6 +1,6 @@
 -- The bodies of definitions are known where tables and a state fit.
 use Rattle.std.proofs.Common.{◌≡◌, ℕ, zero, suc, ◌+◌, ◌-◌, ◌^◌, ◌<◌, ◌≤◌, Bool, true, false, List, [], ◌∷◌, ◌++◌, map, length, refl, sym, subst, inl, inr, Option, Some, None, arith}
-use Rattle.std.specs.Prelude.{codes, IsSome, nat_lt, ℤ, pos, negsuc, eqb}
+use Rattle.std.specs.Prelude.{codes, IsSome, nat_lt, eqb}
 use Rattle.std.specs.List.{list_all}
 use Rattle.std.proofs.lemmas.Bool.{and_parts, and_from, ltb-true, false≢true, eqb-true, eqb-false}
 use Rattle.smt_bits.specs.BitVectors.{bits_of}

@@ -1,10 +1,8 @@
 -- The texts of sorts and expressions, and the lines of all commands, each from its brackets.
-use Rattle.std.proofs.Common.{◌≡◌, ℕ, ◌+◌, ◌*◌, ◌-◌, ◌/◌, ◌%◌, ◌<◌, ◌^◌, Bool, true, ◌&&◌, List, [], ◌∷◌, ◌++◌, map, refl, sym, ap, ◌∙◌, subst, append_assoc, Option, Some, None, arith}
+use Rattle.std.proofs.Common.{◌≡◌, ℕ, List, [], ◌∷◌, ◌++◌, map, refl, sym, ap, ◌∙◌, subst, append_assoc, Option, Some, None}
 use Rattle.std.specs.Prelude.{codes}
-use Rattle.std.specs.List.{list_all, fold}
-use Rattle.std.proofs.lemmas.Bool.{not-true, cond-true, cond-false, and_parts, and_from, agree_below_at}
-use Rattle.std.proofs.lemmas.List.Folds.{list_all-append}
-use Rattle.smt_sexpr.specs.Lexicon.{is_digit, digit_value, number_in, some_all, is_symbol_byte, is_plain_byte, Number}
+use Rattle.std.proofs.lemmas.Bool.{not-true, cond-false}
+use Rattle.smt_sexpr.specs.Lexicon.{Number}
 use Rattle.smt_sexpr.specs.Reading.{Expression, Leaf}
 use Rattle.smt_semantics.specs.Numerals.{numbered, numeral}
 use Rattle.smt_semantics.specs.Script.{Command, DeclareDatatype, DeclareFun, SetLogic, SetOption, CheckSat, GetModel, Reset, Exit, Push, Pop, constructor, group, name, State, start, step, run, ◌>>=◌, obey}

@@ -1,5 +1,5 @@
 -- Names made of letters and a number, and the number that stands in them.
-use Rattle.std.proofs.Common.{◌≡◌, ℕ, zero, suc, ◌+◌, ◌-◌, ◌*◌, ◌/◌, ◌%◌, ◌^◌, ◌<◌, Bool, true, false, ◌&&◌, cond, List, [], ◌∷◌, ◌++◌, refl, ap, ◌∙◌, subst, arith}
+use Rattle.std.proofs.Common.{◌≡◌, ℕ, zero, suc, ◌+◌, ◌-◌, ◌*◌, ◌/◌, ◌%◌, ◌^◌, ◌<◌, Bool, true, false, ◌&&◌, cond, List, [], ◌∷◌, refl, ap, ◌∙◌, subst, arith}
 use Rattle.std.specs.Prelude.{codes, nat_eq}
 use Rattle.std.specs.Fmt.{digits_onto, digit_glyph}
 use Rattle.std.specs.List.{list_all, fold}
