@@ -3,6 +3,7 @@ use Rattle.std.proofs.Common.{◌≡◌, ℕ, ◌-◌, ◌<◌, Bool, true, fals
 use Rattle.std.specs.List.{AllByRecursion}
 use Rattle.std.proofs.lemmas.List.{take_all}
 use Rattle.std.specs.Prelude.{IfSome, IsErrAnd, IsTrue, if◌then◌else◌, is_some}
+use Rattle.smt_semantics.specs.Script.{◌>>=◌}
 use Rattle.smt_term.specs.Formed.{IsFormed}
 use Rattle.smt_term.specs.Plain.{PlainType, BitVecType, BoolType, PlainOp, NotOp, PlainTerm, Application, terms}
 use Rattle.smt_term.specs.Types.{result_type, type_eq, type_of}
@@ -17,7 +18,7 @@ use Rattle.smt_factory.proofs.Standing.{same_type}
 use Rattle.smt_sexpr.specs.Reading.{Expression, Expressions, Node}
 use Rattle.smt_sexpr.specs.View.{plain}
 use Rattle.smt_sexpr.specs.declared.expression.SExpr.{SExpr}
-use Rattle.smt_cli.specs.Job.{Variables, ◌>>=◌, applied, condition_of, headed_term, name_in, operator_named, other_terms, term_of, terms_of, variable_stated}
+use Rattle.smt_cli.specs.Job.{Variables, applied, condition_of, headed_term, name_in, operator_named, other_terms, term_of, terms_of, variable_stated}
 use Rattle.smt_cli.specs.JobView.{AreBuilt, Declares, Gives, HasForm, headed, listed, plain_declaration}
 use Rattle.smt_cli.specs.declared.declaration.Declared.{Declared}
 use Rattle.smt_cli.specs.declared.job.JobError.{JobError}

@@ -20,7 +20,7 @@ use Rattle.smt_term.proofs.SameTerm.{term_same}
 use Rattle.smt_lines.specs.Lines.{Tables, name_of_term, next_term}
 use Rattle.smt_lines.specs.Spelling.{numeral}
 use Rattle.smt_lines.proofs.Making.{lookup_new}
-use Rattle.smt_lines.proofs.Numerals.{numerals_are_printed}
+use Rattle.smt_semantics.proofs.Numerals.{numerals_are_printed}
 use Rattle.smt_term.proofs.TermTotal.{terms_decided}
 use Rattle.smt_encode.specs.Encoded.{HasNames}
 use Rattle.smt_encode.specs.declared.encoder.Encoder.{Encoder}

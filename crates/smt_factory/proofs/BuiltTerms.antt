@@ -11,7 +11,7 @@ use Rattle.smt_term.specs.Types.{extended_type, is_type, result_type, type_of, t
 use Rattle.smt_term.specs.Typing.{typed, typed_all}
 use Rattle.smt_factory.specs.Applications.{wider_type}
 use Rattle.smt_factory.specs.Built.{built, built_all, folded}
-use Rattle.smt_factory.specs.FoldBits.{folded_zero_extend, greatest_shift}
+use Rattle.smt_factory.specs.FoldBits.{folded_zero_extend}
 use Rattle.smt_factory.specs.StandsFor.{StandsFor}
 use Rattle.smt_factory.proofs.BitsStand.{stands_bits, stands_bvneg, stands_bvnego, stands_test, stands_zero_extend}
 use Rattle.smt_factory.proofs.ConnectivesStand.{chosen_type, stands_and, stands_not, stands_or}
@@ -43,8 +43,8 @@ folded_stands BvuremOp (t ∷ u ∷ []) ty h = with_type BvuremOp (t ∷ u ∷ [
 folded_stands BvsdivOp (t ∷ u ∷ []) ty h = with_type BvsdivOp (t ∷ u ∷ []) _ (type_of t) ty _ h (stands_bits BvsdivOp bits.bvsdiv ranges.bvsdiv-below (λ I ty v w. refl) (λ b. true) t u)
 folded_stands BvsremOp (t ∷ u ∷ []) ty h = with_type BvsremOp (t ∷ u ∷ []) _ (type_of t) ty _ h (stands_bits BvsremOp bits.bvsrem ranges.bvsrem-below (λ I ty v w. refl) (λ b. true) t u)
 folded_stands BvsmodOp (t ∷ u ∷ []) ty h = with_type BvsmodOp (t ∷ u ∷ []) _ (type_of t) ty _ h (stands_bits BvsmodOp bits.bvsmod ranges.bvsmod-below (λ I ty v w. refl) (λ b. true) t u)
-folded_stands BvshlOp (t ∷ u ∷ []) ty h = with_type BvshlOp (t ∷ u ∷ []) _ (type_of t) ty _ h (stands_bits BvshlOp bits.bvshl ranges.bvshl-below (λ I ty v w. refl) (λ b. nat_le b greatest_shift) t u)
-folded_stands BvlshrOp (t ∷ u ∷ []) ty h = with_type BvlshrOp (t ∷ u ∷ []) _ (type_of t) ty _ h (stands_bits BvlshrOp bits.bvlshr ranges.bvlshr-below (λ I ty v w. refl) (λ b. nat_le b greatest_shift) t u)
+folded_stands BvshlOp (t ∷ u ∷ []) ty h = with_type BvshlOp (t ∷ u ∷ []) _ (type_of t) ty _ h (stands_bits BvshlOp bits.bvshl ranges.bvshl-below (λ I ty v w. refl) (λ b. nat_le b bits.greatest_shift) t u)
+folded_stands BvlshrOp (t ∷ u ∷ []) ty h = with_type BvlshrOp (t ∷ u ∷ []) _ (type_of t) ty _ h (stands_bits BvlshrOp bits.bvlshr ranges.bvlshr-below (λ I ty v w. refl) (λ b. nat_le b bits.greatest_shift) t u)
 folded_stands BvultOp (t ∷ u ∷ []) ty h = with_type BvultOp (t ∷ u ∷ []) _ BoolType ty _ h (stands_test BvultOp bits.bvult (λ I v w. refl) t u)
 folded_stands BvuleOp (t ∷ u ∷ []) ty h = with_type BvuleOp (t ∷ u ∷ []) _ BoolType ty _ h (stands_test BvuleOp bits.bvule (λ I v w. refl) t u)
 folded_stands BvsltOp (t ∷ u ∷ []) ty h = with_type BvsltOp (t ∷ u ∷ []) _ BoolType ty _ h (stands_test BvsltOp bits.bvslt (λ I v w. refl) t u)

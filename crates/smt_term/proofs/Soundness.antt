@@ -8,7 +8,8 @@ use Rattle.std.specs.Str.{chars}
 use Rattle.std.proofs.lemmas.Bool.{leb-true, leb-false}
 use Rattle.smt_bits.specs.BitVectors as bits
 use Rattle.smt_bits.specs.BitVectors.{signed, bits_of, is_negative}
-use Rattle.smt_term.specs.Faults.{Fault, earlier, unless, fault_unless, is_string, entity_fault, literal_fault, is_passed_over, type_fault, operator_fault, term_fault, terms_fault, fields_fault}
+use Rattle.std.specs.Option.{option_or}
+use Rattle.smt_term.specs.Faults.{Fault, unless, fault_unless, is_string, entity_fault, literal_fault, is_passed_over, type_fault, operator_fault, term_fault, terms_fault, fields_fault}
 use Rattle.smt_term.specs.Formed.{IsFormedLiteral, IsFormedNode}
 use Rattle.smt_term.specs.Interpretations.{IsGivenSelector, IsGivenOp, IsGiven}
 use Rattle.smt_term.specs.Meaning.{literal_value, meaning, meanings, field_meanings}
@@ -50,11 +51,11 @@ pub chosen : (b : Bool) (t u : PlainType) → then_some b t ≡ Some u → (b �
 chosen true t u h = (refl, inside t u h)
 chosen false t u h = cc
 
-pub none-first : (f g : Option Fault) → earlier f g ≡ None → f ≡ None
+pub none-first : (f g : Option Fault) → option_or f g ≡ None → f ≡ None
 none-first None g h = refl
 none-first (Some f) g h = cc
 
-pub none-second : (f g : Option Fault) → earlier f g ≡ None → g ≡ None
+pub none-second : (f g : Option Fault) → option_or f g ≡ None → g ≡ None
 none-second None g h = h
 none-second (Some f) g h = cc
 
@@ -292,7 +293,7 @@ module _ (enums : Enums) where
     pub valued : (I : Interpretation) (t : PlainTerm) → typed t ≡ true → term_fault enums t ≡ None → Formed (subterms t) → Given I (subterms t) → IsValue enums (type_of t) (meaning I t)
     valued I (Application o ts t) h f w g =
         let r : result_type o (types_of ts) ≡ Some t = is_type-some (result_type o (types_of ts)) t (second_so (typed_all ts) (is_type (result_type o (types_of ts)) t) h) in
-        let e : earlier (type_fault enums t) (earlier (terms_fault enums ts) (operator_fault enums o (types_of ts))) ≡ None = not-passed (is_passed_over o (types_of ts) t) _ (walked o (types_of ts) t r) f in
+        let e : option_or (type_fault enums t) (option_or (terms_fault enums ts) (operator_fault enums o (types_of ts))) ≡ None = not-passed (is_passed_over o (types_of ts) t) _ (walked o (types_of ts) t r) f in
         applied I o ts t r (all_valued I ts (first_so (typed_all ts) (is_type (result_type o (types_of ts)) t) h) (none-first (terms_fault enums ts) (operator_fault enums o (types_of ts)) (none-second (type_fault enums t) _ e)) (all-front IsFormedNode (subterms_of_all ts) (Application o ts t ∷ []) w) (all-front (IsGiven enums I) (subterms_of_all ts) (Application o ts t ∷ []) g)) (all-last (IsGiven enums I) (subterms_of_all ts) (Application o ts t) g)
     valued I (NoneTerm t) h f w g = tt
     valued I (LiteralTerm l) h f w g = literal_result l (none-second (type_fault enums (literal_type l)) (literal_fault enums l) f) w.0

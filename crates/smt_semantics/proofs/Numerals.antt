@@ -1,11 +1,11 @@
+-- The digits of a number, and the number that digits stand for.
 use Rattle.std.proofs.Common.{◌≡◌, ℕ, zero, suc, ◌+◌, ◌-◌, ◌*◌, ◌/◌, ◌%◌, ◌^◌, ◌<◌, ◌≤◌, Bool, true, false, cond, List, [], ◌∷◌, refl, sym, ap, ◌∙◌, arith}
 use Rattle.std.specs.Prelude.{nat_eq, nat_lt}
 use Rattle.std.specs.Fmt.{digits, digits_onto, digit_glyph}
 use Rattle.std.proofs.lemmas.Bool.{eqb-true, ltb-false}
 use Rattle.std.proofs.lemmas.Nat.{pow-add}
 use Rattle.std.proofs.Math.Nat.{pow-suc, div-eq_of_lt, mul-le-mul_left}
-use Rattle.smt_lines.specs.Spelling.{numeral}
-use Rattle.smt_lines.specs.Growth.{NumeralsDiffer, NumeralsArePrinted}
+use Rattle.smt_semantics.specs.Numerals.{numeral, NumeralsDiffer, NumeralsArePrinted}
 
 -- the number that digits behind a number stand for
 unfoldable pub value : ℕ → List ℕ → ℕ

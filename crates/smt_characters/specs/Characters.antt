@@ -1,0 +1,14 @@
+-- Characters of strings and of scripts, as SMT-LIB 2.7 has them.
+use Rattle.std.specs.Prelude.{ℕ, Bool, ◌||◌, ◌==◌, nat_le}
+
+-- the greatest code point of a character of a string, 2FFFF in hexadecimal (theory UnicodeStrings)
+abbrev pub greatest_code_point : ℕ
+greatest_code_point = 196607
+
+-- the code points of that theory
+abbrev pub is_code_point : ℕ → Bool
+is_code_point c = nat_le c greatest_code_point
+
+-- CR or LF: either ends a line, and a comment with it (chapter 3, Lexicon)
+abbrev pub is_line_end : ℕ → Bool
+is_line_end b = (b == 10) || (b == 13)
