@@ -1,7 +1,8 @@
 -- The first fault of a term by the faults of its type, its parts and its own line.
 use Rattle.std.proofs.Common.{◌≡◌, Bool, true, false, List, [], ◌∷◌, refl, sym, ap, ◌∙◌, subst, Some, None, Ok, Err, Result}
 use Rattle.std.specs.Prelude.{IsErrOf, IsOkUnless, OnOk}
-use Rattle.smt_term.specs.Faults.{Fault, earlier, first_fault, is_passed_over, operator_fault, term_fault, terms_fault, type_fault, unless}
+use Rattle.std.specs.Option.{option_or}
+use Rattle.smt_term.specs.Faults.{Fault, first_fault, is_passed_over, operator_fault, term_fault, terms_fault, type_fault, unless}
 use Rattle.smt_term.specs.Plain.{PlainType, BitVecType, BoolType, PlainOp, BvnegoOp, PlainTerm, PlainTerms, no_terms, one_term, terms, Application, NoneTerm, SetTerm, SomeTerm, VariableTerm}
 use Rattle.smt_term.specs.TypeValues.{Enums}
 use Rattle.smt_term.specs.Types.{is_bits, type_of, types_of}
@@ -61,40 +62,40 @@ module _ (enums : Enums) where
     pub variable_is : (id : _) (type : PlainType) → t ≡ VariableTerm id type → term_fault enums t ≡ type_fault enums (type_of t)
     variable_is id type same = subst (λ (u : PlainTerm). term_fault enums u ≡ type_fault enums (type_of u)) (sym same) refl
 
-    pub some_is : (inner : PlainTerm) → t ≡ SomeTerm inner → term_fault enums t ≡ earlier (type_fault enums (type_of t)) (term_fault enums inner)
-    some_is inner same = subst (λ (u : PlainTerm). term_fault enums u ≡ earlier (type_fault enums (type_of u)) (term_fault enums inner)) (sym same) refl
+    pub some_is : (inner : PlainTerm) → t ≡ SomeTerm inner → term_fault enums t ≡ option_or (type_fault enums (type_of t)) (term_fault enums inner)
+    some_is inner same = subst (λ (u : PlainTerm). term_fault enums u ≡ option_or (type_fault enums (type_of u)) (term_fault enums inner)) (sym same) refl
 
-    pub set_is : (element : PlainType) (ts : PlainTerms) → t ≡ SetTerm element ts → term_fault enums t ≡ earlier (type_fault enums (type_of t)) (terms_fault enums ts)
-    set_is element ts same = subst (λ (u : PlainTerm). term_fault enums u ≡ earlier (type_fault enums (type_of u)) (terms_fault enums ts)) (sym same) refl
+    pub set_is : (element : PlainType) (ts : PlainTerms) → t ≡ SetTerm element ts → term_fault enums t ≡ option_or (type_fault enums (type_of t)) (terms_fault enums ts)
+    set_is element ts same = subst (λ (u : PlainTerm). term_fault enums u ≡ option_or (type_fault enums (type_of u)) (terms_fault enums ts)) (sym same) refl
 
     pub application_is : (how : Manner) (op : Op) (ts : PlainTerms) (type : PlainType) → t ≡ Application (plain_op op) ts type → plain_manner (Some how) ≡ manner (plain_op op) ts type
-        → term_fault enums t ≡ earlier (type_fault enums (type_of t)) (earlier (terms_fault enums ts) (body_fault how (plain_op op)))
-    application_is how op ts type same h = subst (λ (u : PlainTerm). term_fault enums u ≡ earlier (type_fault enums (type_of u)) (earlier (terms_fault enums ts) (body_fault how (plain_op op)))) (sym same)
-        ((λ i. unless (not_passed how (plain_op op) ts type h i) (earlier (type_fault enums type) (earlier (terms_fault enums ts) (operator_fault enums (plain_op op) (types_of ts)))))
-        ∙ ap (λ o. earlier (type_fault enums type) (earlier (terms_fault enums ts) o)) (own_fault how op ts type (types_of ts) h))
+        → term_fault enums t ≡ option_or (type_fault enums (type_of t)) (option_or (terms_fault enums ts) (body_fault how (plain_op op)))
+    application_is how op ts type same h = subst (λ (u : PlainTerm). term_fault enums u ≡ option_or (type_fault enums (type_of u)) (option_or (terms_fault enums ts) (body_fault how (plain_op op)))) (sym same)
+        ((λ i. unless (not_passed how (plain_op op) ts type h i) (option_or (type_fault enums type) (option_or (terms_fault enums ts) (operator_fault enums (plain_op op) (types_of ts)))))
+        ∙ ap (λ o. option_or (type_fault enums type) (option_or (terms_fault enums ts) o)) (own_fault how op ts type (types_of ts) h))
 
     pub false_is : (op : Op) (ts : PlainTerms) (type : PlainType) → t ≡ Application (plain_op op) ts type → lines.AsFalse ≡ manner (plain_op op) ts type → term_fault enums t ≡ None
     false_is op ts type same h = ap (term_fault enums) same
-        ∙ (λ i. unless (passed_false (plain_op op) ts type h i) (earlier (type_fault enums type) (earlier (terms_fault enums ts) (operator_fault enums (plain_op op) (types_of ts)))))
+        ∙ (λ i. unless (passed_false (plain_op op) ts type h i) (option_or (type_fault enums type) (option_or (terms_fault enums ts) (operator_fault enums (plain_op op) (types_of ts)))))
 
     -- a fault of an application's type is the application's
     pub sort_fault : (op : Op) (ts : PlainTerms) (type : PlainType) → t ≡ Application (plain_op op) ts type → (f : Fault) → type_fault enums (type_of t) ≡ Some f → term_fault enums t ≡ Some f
     sort_fault op ts type same f = subst (λ (u : PlainTerm). type_fault enums (type_of u) ≡ Some f → term_fault enums u ≡ Some f) (sym same) (here (is_passed_over (plain_op op) (types_of ts) type) refl)
       where
         here : (b : Bool) → is_passed_over (plain_op op) (types_of ts) type ≡ b → type_fault enums type ≡ Some f
-            → unless b (earlier (type_fault enums type) (earlier (terms_fault enums ts) (operator_fault enums (plain_op op) (types_of ts)))) ≡ Some f
+            → unless b (option_or (type_fault enums type) (option_or (terms_fault enums ts) (operator_fault enums (plain_op op) (types_of ts)))) ≡ Some f
         here true passed h = sym (passed_type (plain_op op) (types_of ts) type passed) ∙ h
-        here false passed h = ap (λ o. earlier o (earlier (terms_fault enums ts) (operator_fault enums (plain_op op) (types_of ts)))) h
+        here false passed h = ap (λ o. option_or o (option_or (terms_fault enums ts) (operator_fault enums (plain_op op) (types_of ts)))) h
 
   -- ---- lists
 
   pub first_is : (ts : List PlainTerm) → first_fault enums ts ≡ terms_fault enums (terms ts)
   first_is [] = refl
-  first_is (t ∷ ts) = ap (earlier (term_fault enums t)) (first_is ts)
+  first_is (t ∷ ts) = ap (option_or (term_fault enums t)) (first_is ts)
 
   -- one term without fault more
   pub one_passed : (left left' all : List PlainTerm) (t : PlainTerm) → left ≡ t ∷ left' → term_fault enums t ≡ None → terms_fault enums (terms all) ≡ terms_fault enums (terms left) → terms_fault enums (terms all) ≡ terms_fault enums (terms left')
-  one_passed left left' all t this none h = h ∙ ap (λ l. terms_fault enums (terms l)) this ∙ ap (λ o. earlier o (terms_fault enums (terms left'))) none
+  one_passed left left' all t this none h = h ∙ ap (λ l. terms_fault enums (terms l)) this ∙ ap (λ o. option_or o (terms_fault enums (terms left'))) none
 
   -- ---- answers of a whole walk
 

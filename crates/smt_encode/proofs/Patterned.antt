@@ -10,7 +10,6 @@ use Rattle.std.specs.declared.rc.RcStr.{RcStr}
 use Rattle.std.proofs.lemmas.List.{map-append}
 use Rattle.smt_term.specs.Plain.{PatternPart}
 use Rattle.smt_term.specs.TypeValues.{is_code_point}
-use Rattle.smt_sexpr.specs.Quoting.{is_character}
 use Rattle.smt_sexpr.specs.Reading.{Expression}
 use Rattle.smt_semantics.specs.Quoting.{part_expr, pattern_expr}
 use Rattle.smt_semantics.specs.Script.{name}
@@ -72,8 +71,8 @@ set_spelled sort [] (x ∷ ts) us empty shown long more same = absurd (cc)
 pub chars_alone : (bs : List ℕ) (c : ℕ) → IsUtf8 bs → bs ≡ encode_utf8 c → chars bs ≡ c ∷ []
 chars_alone bs c text same = chars_past_char bs [] c text (same ∙ sym (append-nil (encode_utf8 c))) ∙ ap (λ l. c ∷ l) chars-nil
 
-pub allowed_alone : (cs : List ℕ) (c : ℕ) → cs ≡ c ∷ [] → list_all is_character cs ≡ is_code_point c
-allowed_alone cs c same = ap (list_all is_character) same ∙ both (is_code_point c)
+pub allowed_alone : (cs : List ℕ) (c : ℕ) → cs ≡ c ∷ [] → list_all is_code_point cs ≡ is_code_point c
+allowed_alone cs c same = ap (list_all is_code_point) same ∙ both (is_code_point c)
   where
     both : (b : Bool) → b && true ≡ b
     both true = refl
