@@ -1,6 +1,7 @@
 -- What the readers of a datetime's parts answer: the part at the front of a text, and what follows it.
 use Rattle.std.specs.Prelude.{ℕ, Bool, true, false, ◌&&◌, ◌==◌, if◌then◌else◌, Option, Some, None, length, take, drop, List, [], ◌∷◌}
 use Rattle.std.specs.List.{list_all}
+use Rattle.std.specs.Option.{option_and_then}
 use Rattle.smt_ext.specs.declared.datetime.stamp.Day.{Day}
 use Rattle.smt_ext.specs.declared.datetime.stamp.Clock.{Clock}
 use Rattle.smt_ext.specs.declared.datetime.stamp.Stamp.{Stamp}
@@ -9,10 +10,10 @@ use Rattle.smt_ext.specs.declared.datetime.stamp.Zone.TheVariants.{Utc, Offset}
 use Rattle.smt_ext.specs.Digits.{is_digit, number_of}
 use Rattle.smt_ext.specs.Front.{byte_at}
 
+-- `option_and_then` of std, written between what is read first and what is read then
 infixl 10 ◌>>=◌
 abbrev pub ◌>>=◌ : {A B : Type 0} → Option A → (A → Option B) → Option B
-(Some x) >>= f = f x
-None >>= f = None
+o >>= f = option_and_then f o
 
 abbrev pub is_empty : List ℕ → Bool
 is_empty text = length text == 0
