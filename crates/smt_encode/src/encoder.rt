@@ -5,7 +5,7 @@ ghost use Rattle.std.specs.String.{string_bytes};
 ghost use Rattle.std.specs.declared.alloc.Global.{Global};
 ghost use Rattle.std.specs.declared.rc.RcStr.{RcStr};
 ghost use Rattle.smt_term.specs.Enums.{enums_of};
-ghost use Rattle.smt_term.specs.Faults.{EncodeStringFailed, EncodePatternFailed, first_fault, literal_fault, operator_fault, term_fault, terms_fault, type_fault};
+ghost use Rattle.smt_term.specs.Faults.{EncodeStringFailed, EncodePatternFailed, first_fault, term_fault, terms_fault, type_fault};
 ghost use Rattle.smt_term.specs.PatternView.{plain_ord_pattern};
 ghost use Rattle.smt_term.specs.Plain.{LiteralTerm, terms as plain_terms};
 ghost use Rattle.smt_term.specs.Types.{type_of};
@@ -38,7 +38,7 @@ use std::collections::BTreeMap;
 ///
 /// Each term that has no inline text gets one name, under which it is declared or defined once. An encoder
 /// encodes one list of terms; after that, and after an error, it is spent. It is let go by `into_script`, which gives
-/// its sink back.
+/// its sink back. No term of its table has a fault, so that a term whose name it finds there needs no second look.
 pub struct Encoder<'a, S> {
     alloc: Global,
     enums: &'a EnumTable,
@@ -51,6 +51,7 @@ pub struct Encoder<'a, S> {
 
 impl<'a, S> Encoder<'a, S> {
     ghost use Rattle.smt_encode.specs.Encoded.{entry_of, enums_in, is_spent, sink_of, HasNames};
+
     /// An encoder without names over this sink. Takes no memory.
     pub fn new(alloc: Global, enums: &'a EnumTable, script: S) -> Encoder<'a, S>
         ensures no_names { HasNames result no_names }
@@ -134,7 +135,7 @@ impl<S: Sink> Encoder<'_, S> {
         outcome
     }
 
-    /// The name that a term has already, shared.
+    /// The name that a term has already, shared. A term that has one has no fault.
     fn known(&self, term: &Term) -> Result<Option<Text>, EncodeError>
         ensures known { IfOk result (λ name. option_map rc_str_bytes name ≡ entry_of self.now term.now) }
         ensures sound { IfOk result (λ found. IfSome found (λ _. term_fault (enums_in self.now) (plain_term term.now) ≡ None)) }
@@ -154,7 +155,7 @@ impl<S: Sink> Encoder<'_, S> {
         Ok(term_name(self.alloc, self.terms.len())?)
     }
 
-    /// Enters a term that has no name yet.
+    /// Enters a term that has no name yet, and no fault.
     fn enter(&mut self, term: &Term, name: &Text) -> Result<(), EncodeError>
         requires sound { term_fault (enums_in self.now) (plain_term term.now) ≡ None }
         ensures names { (s : Tables) → HasNames self.old s → name_of_term s (plain_term term.now) ≡ None →

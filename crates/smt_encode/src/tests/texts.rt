@@ -159,6 +159,7 @@ fn is_refused(
 #[test]
 fn characters_above_the_greatest_are_refused(rt: HostRuntime) -> Result<(), Fail> {
     let alloc = rt.alloc();
+    assert_eq!(rt; SMT_LIB_MAX_CODE_POINT, 0x2ffff);
     let far = Text::from_str(alloc, "a\u{30000}")?;
     let literal = Term::from(far.clone()?);
     let same = to_bool(alloc, Op::Eq, &[literal, text(alloc, "a")?])?;
