@@ -9,4 +9,5 @@ pub mod Least
 pub mod OutOfRange
 pub mod Reaching
 pub mod Records
+pub mod SetLists
 pub mod Standing
