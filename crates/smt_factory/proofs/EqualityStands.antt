@@ -38,10 +38,10 @@ boolean_type t h = eq_same (type_of t) BoolType h
 
 -- ---- values
 
-equal_values : (v w : Value) → v ≡ w → value_eq v w ≡ true
+pub equal_values : (v w : Value) → v ≡ w → value_eq v w ≡ true
 equal_values v w e = sym (ap (λ u. value_eq v u) e) ∙ ap is_eq (value_itself v)
 
-value_is : (v w : Value) → value_eq v w ≡ true → v ≡ w
+pub value_is : (v w : Value) → value_eq v w ≡ true → v ≡ w
 value_is v w h = value_same v w ((Equal-is (value_cmp v w)).0 h)
 
 true_is : (x : Bool) → BoolValue x ≡ BoolValue (value_eq (BoolValue true) (BoolValue x))
@@ -73,10 +73,10 @@ eq_parts t u h =
     let b : (type_eq (type_of t) (type_of u) ≡ true) × (BoolType ≡ BoolType) = chosen_type (type_eq (type_of t) (type_of u)) BoolType BoolType (second_so (typed t && (typed u && true)) (is_type (then_some (type_eq (type_of t) (type_of u)) BoolType) BoolType) h) in
     record { first = first_so (typed t) (typed u && true) a; second = first_so (typed u) true (second_so (typed t) (typed u && true) a); types = eq_same (type_of t) (type_of u) b.0 }
 
-literal_for_eq : (b : Bool) (t u : PlainTerm) → ((enums : Enums) (I : Interpretation) → EqParts t u → IsFormed (eq_of t u) → b ≡ value_eq (meaning I t) (meaning I u)) → StandsFor (truth_literal b) (eq_of t u)
+pub literal_for_eq : (b : Bool) (t u : PlainTerm) → ((enums : Enums) (I : Interpretation) → EqParts t u → IsFormed (eq_of t u) → b ≡ value_eq (meaning I t) (meaning I u)) → StandsFor (truth_literal b) (eq_of t u)
 literal_for_eq b t u e = standing_within (truth_literal b) (eq_of t u) (λ P n h. (n (truth_literal b) tt, tt)) (λ h. (refl, refl)) (λ enums I h f g. ap BoolValue (e enums I (eq_parts t u h) f))
 
-equal_for_eq : (t u : PlainTerm) → t ≡ u → StandsFor true_term (eq_of t u)
+pub equal_for_eq : (t u : PlainTerm) → t ≡ u → StandsFor true_term (eq_of t u)
 equal_for_eq t u e = literal_for_eq true t u (λ enums I p f. sym (equal_values (meaning I t) (meaning I u) (ap (meaning I) e)))
 
 differing : (t u : PlainTerm) → (is_literal t && is_literal u) ≡ true → (t ≡ u → ⊥) → (I : Interpretation) → EqParts t u → IsFormed (eq_of t u) → false ≡ value_eq (meaning I t) (meaning I u)

@@ -10,4 +10,6 @@ pub mod OutOfRange
 pub mod Reaching
 pub mod Records
 pub mod SetLists
+pub mod SetValues
+pub mod SetsKept
 pub mod Standing
