@@ -12,4 +12,7 @@ pub mod Records
 pub mod SetLists
 pub mod SetValues
 pub mod SetsKept
+pub mod SetsStand
 pub mod Standing
+pub mod StringsStand
+pub mod TypeTests

@@ -4,6 +4,7 @@ use Rattle.std.specs.Prelude.{cond, Option, IfSome, Contains}
 use Rattle.std.specs.Cmp.{first_so, second_so}
 use Rattle.std.specs.Cmp.Derive.{both_true}
 use Rattle.std.specs.List.{AllByRecursion, AllZip, filter_map}
+use Rattle.smt_factory.specs.Applications.{truth_literal}
 use Rattle.smt_factory.specs.StandsFor.{AreAmong, StandsFor}
 use Rattle.smt_factory.proofs.Reaching.{AsksNothing, Reaches, IsBrought, brought_itself, among_brought, through, among, interpreted}
 use Rattle.smt_term.specs.Formed.{IsFormedHere, IsFormedType, IsFormedNode, IsFormed}
@@ -118,6 +119,10 @@ Within t u = (P : PlainTerm → Type 0) → ((w : PlainTerm) → IsNew w → P w
 pub standing_within : (t u : PlainTerm) → Within t u → SameType t u → SameMeaning t u → StandsFor t u
 standing_within t u w y v =
     standing t u (λ P q h. w P (λ x n. q x (new_asks x n)) h) (λ f. record { literals = w IsFormedNode new_formed f.literals; types = w (λ x. IsFormedType (type_of x)) new_type f.types }) y v
+
+-- a truth value for a term
+pub truth_standing : (b : Bool) (u : PlainTerm) → type_of u ≡ BoolType → SameMeaning (truth_literal b) u → StandsFor (truth_literal b) u
+truth_standing b u e v = standing_within (truth_literal b) u (λ P n h. (n (truth_literal b) tt, tt)) (λ h. (refl, sym e)) v
 
 -- ---- applications and `some` of terms that stand for others
 
