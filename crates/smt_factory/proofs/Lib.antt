@@ -6,6 +6,7 @@ pub mod ConnectivesStand
 pub mod EqualityStands
 pub mod Folding
 pub mod Least
+pub mod OptionsStand
 pub mod OutOfRange
 pub mod Reaching
 pub mod Records
