@@ -1,5 +1,5 @@
 ghost use Rattle.smt_factory.specs.Built.{BuiltTermsStand};
-ghost use Rattle.smt_factory.specs.FoldRows.{ApartRows, BitsRows, ConnectiveRows, EqualityRows};
+ghost use Rattle.smt_factory.specs.FoldRows.{ApartRows, BitsRows, ConnectiveRows, EqualityRows, OptionRows, SetRows, StringRows};
 ghost use Rattle.smt_factory.specs.Laws.{AnswersStandFor, AnyIsTrue, BitsAreFolded, ConnectivesAreFolded, EqualityAndChoiceAreFolded, InterpretationsPass, LiteralsAreEqualByValue, OptionsAreFolded, SetsAreFolded, StandingIsKept, StringLikeIsFolded, TestsAreFolded, ValuesPass};
 
 /// A term stands for itself, onward, in applications, `some`, records and sets, and in the tests for none and for the empty
@@ -72,4 +72,7 @@ pub fn fold_rows()
     ensures connectives { ConnectiveRows }
     ensures equality { EqualityRows }
     ensures bits { BitsRows }
+    ensures strings { StringRows }
+    ensures sets { SetRows }
+    ensures options { OptionRows }
 {}
