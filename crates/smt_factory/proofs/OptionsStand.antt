@@ -12,9 +12,9 @@ use Rattle.smt_factory.specs.StandsFor.{StandsFor}
 use Rattle.smt_factory.proofs.ConnectivesStand.{argument, boolean, chosen_type, stands_any, stands_not}
 use Rattle.smt_factory.proofs.EqualityStands.{IteParts, equal_for_eq, ite_parts, literal_for_eq, not_typed, of_guard, stands_ite}
 use Rattle.smt_factory.proofs.Records.{HasFormedType}
-use Rattle.smt_factory.proofs.Standing.{SameMeaning, application, itself, onward, standing, standing_within, truth_standing}
+use Rattle.smt_factory.proofs.Standing.{application, itself, onward, standing, standing_within}
 use Rattle.smt_factory.proofs.TypeTests.{IsMade, inside_test, stands_never, test_at, test_folded, test_is_truth, test_kept, test_typed}
-use Rattle.smt_term.specs.Formed.{IsFormedHere, IsFormedNode, IsFormedType}
+use Rattle.smt_term.specs.Formed.{IsFormedNode, IsFormedType}
 use Rattle.smt_term.specs.Interpretations.{IsGiven}
 use Rattle.smt_term.specs.Meaning.{meaning}
 use Rattle.smt_term.specs.Operators.{truth}
@@ -25,7 +25,7 @@ use Rattle.smt_term.specs.Typing.{typed}
 use Rattle.smt_term.specs.ValueOrder.{value_eq}
 use Rattle.smt_term.proofs.Defaults.{all-join}
 use Rattle.smt_term.proofs.Soundness.{all-front, inside}
-use Rattle.smt_term.specs.Plain.{PlainType, OptionType, BoolType, EqOp, IteOp, NotOp, OptionGetOp, PlainTerm, Application, NoneTerm, SomeTerm, no_terms, one_term, terms}
+use Rattle.smt_term.specs.Plain.{PlainType, OptionType, BoolType, IteOp, NotOp, OptionGetOp, PlainTerm, Application, NoneTerm, SomeTerm, no_terms, one_term, terms}
 use Rattle.smt_term.specs.Values.{Value, BoolValue, NoneValue, SomeValue}
 
 -- ---- what an option holds

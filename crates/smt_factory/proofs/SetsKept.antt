@@ -6,7 +6,7 @@ use Rattle.smt_factory.specs.StandsFor.{AreAmong, StandsFor}
 use Rattle.smt_factory.proofs.Reaching.{IsBrought, brought_itself, among_brought}
 use Rattle.smt_factory.proofs.Records.{HasFormedType}
 use Rattle.smt_factory.proofs.SetLists.{IsElement, among_them, each_typed, elements_typed, same_meanings, set_typed, unsorted}
-use Rattle.smt_factory.proofs.Standing.{Given, StandAmong, all_through, formed_all, meanings_all, same_type, types_all, valued}
+use Rattle.smt_factory.proofs.Standing.{Given, StandAmong, all_through, formed_all, meanings_all, same_type, valued}
 use Rattle.smt_term.specs.Formed.{IsFormedNode, IsFormed}
 use Rattle.smt_term.specs.Interpretations.{IsGiven}
 use Rattle.smt_term.specs.Meaning.{meanings}

@@ -1,5 +1,5 @@
 -- The foldings of the calls on sets stand for them.
-use Rattle.std.proofs.Common.{◌≡◌, Bool, true, false, not, ◌&&◌, ◌||◌, cond, List, [], ◌∷◌, refl, ap, ◌∙◌, sym, subst, ⊎_elim}
+use Rattle.std.proofs.Common.{◌≡◌, Bool, true, false, ◌&&◌, ◌||◌, cond, List, [], ◌∷◌, refl, ap, sym, subst, ⊎_elim}
 use Rattle.std.specs.Prelude.{filter, Some}
 use Rattle.std.specs.BTreeSet.{insert_key}
 use Rattle.std.specs.Bool.{then_some}
@@ -22,12 +22,12 @@ use Rattle.smt_factory.proofs.SetValues.{IsLiteralElement, among_is, common_is, 
 use Rattle.smt_factory.proofs.SetsKept.{of_set}
 use Rattle.smt_factory.proofs.Standing.{application, itself, last_of, one_of, onward, standing, standing_within, truth_standing}
 use Rattle.smt_factory.proofs.TypeTests.{IsMade, test_folded, test_kept}
-use Rattle.smt_term.specs.Formed.{IsFormedHere, IsFormedNode, IsFormedType, IsFormed}
+use Rattle.smt_term.specs.Formed.{IsFormedNode, IsFormedType}
 use Rattle.smt_term.specs.Interpretations.{IsGiven}
 use Rattle.smt_term.specs.Literals.{are_literals, is_literal}
 use Rattle.smt_term.specs.Meaning.{meaning, meanings}
-use Rattle.smt_term.specs.Operators.{elements, is_subset}
-use Rattle.smt_term.specs.Reached.{subterms, subterms_of_all, types_within}
+use Rattle.smt_term.specs.Operators.{elements}
+use Rattle.smt_term.specs.Reached.{subterms, subterms_of_all}
 use Rattle.smt_term.specs.TermOrder.{term_eq}
 use Rattle.smt_term.specs.TermSets.{set_term}
 use Rattle.smt_term.specs.Types.{is_set, is_type, type_eq, type_of}
@@ -36,7 +36,7 @@ use Rattle.smt_term.specs.ValueOrder.{set_of, sorted_values, value_cmp, value_eq
 use Rattle.smt_term.proofs.Shapes.{term_shaped}
 use Rattle.smt_term.proofs.Soundness.{all-front, inside}
 use Rattle.smt_term.proofs.TypeOrder.{eq_same}
-use Rattle.smt_term.specs.Plain.{PlainType, BoolType, SetType, NotOp, SetInterOp, SetMemberOp, SetSubsetOp, PlainTerm, SetTerm, PlainTerms, no_terms, one_term, list_of_terms, terms}
+use Rattle.smt_term.specs.Plain.{PlainType, BoolType, SetType, NotOp, SetInterOp, SetMemberOp, SetSubsetOp, PlainTerm, SetTerm, PlainTerms, no_terms, one_term, list_of_terms}
 use Rattle.smt_term.specs.Values.{Value, BoolValue, SetValue, no_values}
 
 -- ---- parts

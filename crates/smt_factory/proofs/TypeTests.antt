@@ -3,7 +3,7 @@
 use Rattle.std.proofs.Common.{◌≡◌, Bool, true, false, not, [], ◌∷◌, refl, ap, ◌∙◌, sym, subst}
 use Rattle.std.specs.Prelude.{Option, Some, None}
 use Rattle.std.specs.List.{AllByRecursion}
-use Rattle.smt_factory.specs.Applications.{false_term, not_of, eq_of, never_of}
+use Rattle.smt_factory.specs.Applications.{false_term, eq_of, never_of}
 use Rattle.smt_factory.specs.FoldEquality.{folded_eq}
 use Rattle.smt_factory.specs.StandsFor.{StandsFor}
 use Rattle.smt_factory.proofs.ConnectivesStand.{argument, first_argument, negated_parts}

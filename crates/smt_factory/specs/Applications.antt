@@ -1,5 +1,5 @@
 -- The applications that calls of the factory are asked for, before any folding.
-use Rattle.std.specs.Prelude.{ℕ, ◌+◌, Bool, true, false, List, [], ◌∷◌, map, Option, Some, None}
+use Rattle.std.specs.Prelude.{ℕ, ◌+◌, Bool, true, false, List, [], ◌∷◌, map, Some, None}
 use Rattle.smt_factory.specs.Parts.{element_type}
 use Rattle.smt_term.specs.Types.{inner_type, type_of}
 use Rattle.smt_term.specs.Plain.{PlainType, OptionType, BitVecType, BoolType, PatternPart, PlainOp, AndOp, BvnegOp, BvnegoOp, EqOp, IteOp, NotOp, OptionGetOp, OrOp, SetInterOp, SetMemberOp, SetSubsetOp, StringLikeOp, ZeroExtendOp, BitVecLiteral, BoolLiteral, PlainTerm, Application, NoneTerm, LiteralTerm, SetTerm, SomeTerm, no_terms, terms}

@@ -1,5 +1,5 @@
 -- The folding of the calls on sets: the cases of each in the order in which they are tried.
-use Rattle.std.specs.Prelude.{Bool, true, false, cond, ◌&&◌, ◌||◌, List, filter, Option, Some, None}
+use Rattle.std.specs.Prelude.{Bool, cond, ◌&&◌, ◌||◌, List, filter, Some, None}
 use Rattle.std.specs.List.{list_all, list_any}
 use Rattle.smt_factory.specs.Applications.{truth_literal, true_term, false_term, set_member_of, set_subset_of, set_inter_of}
 use Rattle.smt_factory.specs.FoldConnectives.{folded_not}
