@@ -8,13 +8,12 @@ use Rattle.smt_term.specs.Defaults.{default_id, default_value, default_fields, d
 use Rattle.smt_term.specs.Faults.{earlier, entity_type_fault, type_fault, attribute_types_fault, operator_fault, term_fault, terms_fault, fields_fault, first_fault, is_passed_over}
 use Rattle.smt_term.specs.Interpretations.{IsGivenOp, IsGiven, IsInterpretation}
 use Rattle.smt_term.specs.Reached.{subterms, subterms_of_all, subterms_of_fields}
-use Rattle.smt_term.specs.Types.{type_of, field_types, types_of, result_type, is_type, type_eq}
+use Rattle.smt_term.specs.Types.{type_of, field_types, types_of, result_type, is_type}
 use Rattle.smt_term.specs.Typing.{are_elements, typed, typed_all, typed_fields}
 use Rattle.smt_term.specs.TypeValues.{Enums, members_of, IsId, IsValue, AreFieldValues}
 use Rattle.smt_bits.proofs.BitRanges.{positive}
 use Rattle.smt_term.proofs.Soundness.{none-first, none-second, not-passed, walked, is_type-some}
 use Rattle.smt_term.proofs.ValueOrder.{bytes_itself}
-use Rattle.std.specs.List.{list_all}
 use Rattle.smt_term.specs.Plain.{IpAddrKind, DecimalKind, DatetimeKind, DurationKind, PlainType, OptionType, BitVecType, BoolType, EntityType, ExtensionType, StringType, RecordType, SetType, AttributeTypes, no_attributes, attribute, IpAddrV4Op, IpAddrV6Op, IpPrefixV4Op, IpPrefixV6Op, PlainOp, ExtOp, OptionGetOp, UufOp, PlainTerm, Application, NoneTerm, LiteralTerm, RecordTerm, SetTerm, SomeTerm, VariableTerm, PlainTerms, no_terms, one_term, PlainFields, no_fields, one_field}
 
 module _ {X : Type 0} (P : X → Type 0) where

@@ -4,12 +4,15 @@ pub mod DerivedEquality
 pub mod DerivedOrder
 pub mod Elements
 pub mod FormedTerms
+pub mod InsertedTerms
+pub mod LiteralElements
 pub mod LiteralValues
 pub mod Matching
 pub mod PatternOrder
 pub mod PatternSearch
 pub mod RecordFaults
 pub mod SameTerm
+pub mod SameType
 pub mod Shapes
 pub mod Sorted
 pub mod SortedSets

@@ -22,7 +22,7 @@ use Rattle.smt_term.specs.ValueOrder.{value_place, sorted_values, set_of}
 use Rattle.smt_term.proofs.Sorted.{IsIn, one_list}
 use Rattle.smt_term.proofs.SortedSets.{in-sorted, out-sorted}
 use Rattle.smt_term.proofs.SortedValues.{list-values}
-use Rattle.smt_term.proofs.Soundness.{all-front, all-back, all-last}
+use Rattle.smt_term.proofs.Soundness.{all-front, all-back}
 use Rattle.smt_term.proofs.TypeOrder.{eq_same}
 use Rattle.smt_term.specs.Plain.{PlainType, BoolType, RecordType, SetType, AttributeTypes, no_attributes, attribute, PlainExtension, PlainLiteral, BitVecLiteral, BoolLiteral, EntityLiteral, ExtensionLiteral, StringLiteral, PlainTerm, NoneTerm, LiteralTerm, RecordTerm, SetTerm, SomeTerm, PlainTerms, no_terms, one_term, PlainFields, no_fields, one_field, terms, list_of_terms}
 use Rattle.smt_term.specs.Values.{Value, EntityValue, ExtensionValue, NoneValue, SomeValue, RecordValue, FieldValues, no_field_values, one_field_value}

@@ -4,7 +4,7 @@ use Rattle.std.specs.Prelude.{Option, Some, None, IfSome}
 use Rattle.std.specs.Cmp.{first_so, second_so}
 use Rattle.std.specs.List.{list_all}
 use Rattle.smt_term.specs.Faults.{Fault, EnumMissingMember, EncodeStringFailed, EncodePatternFailed, earlier, unless, fault_unless, is_string, is_pattern_part, entity_type_fault, entity_fault, literal_fault, attribute_fault, record_get_fault, is_passed_over, type_fault, attribute_types_fault, operator_fault, term_fault, terms_fault, fields_fault, is_about_records}
-use Rattle.smt_term.specs.Types.{type_of, field_types, types_of, attribute_in, attribute_type, result_type, is_type, type_eq}
+use Rattle.smt_term.specs.Types.{type_of, field_types, types_of, attribute_in, attribute_type, result_type, is_type}
 use Rattle.smt_term.specs.Typing.{are_elements, typed, typed_all, typed_fields}
 use Rattle.smt_term.specs.TypeValues.{Enums, members_of}
 use Rattle.smt_term.proofs.Soundness.{is_type-some}

@@ -1,12 +1,13 @@
 -- The elements of sets: values and terms in order are those of the list, and the terms of a set ascend.
-use Rattle.std.proofs.Common.{◌≡◌, true, List, [], ◌∷◌, refl, sym, ap, ◌∙◌}
+use Rattle.std.proofs.Common.{◌≡◌, true, List, [], ◌∷◌, refl, sym, subst, arith}
+use Rattle.std.proofs.lemmas.List.Elements.{Contains-append_cases, Contains-append_left, Contains-append_right, Contains-push, Contains-push_cases}
 use Rattle.std.specs.BTreeSet.{insert_key}
 use Rattle.std.specs.List.{AllByRecursion}
-use Rattle.std.specs.Prelude.{◌⊎◌}
+use Rattle.std.specs.Prelude.{◌⊎◌, Contains}
 use mathlib.Core.Logic.{inl, inr, ⊎_elim}
 use Rattle.smt_term.specs.Plain.{PlainTerm}
 use Rattle.smt_term.specs.TermOrder.{term_cmp}
-use Rattle.smt_term.specs.TermSets.{sorted_terms}
+use Rattle.smt_term.specs.TermSets.{SortedTermsAscend, sorted_terms}
 use Rattle.smt_term.specs.ValueOrder.{value_cmp, ascends, sorted_values}
 use Rattle.smt_term.specs.Values.{Value}
 use Rattle.smt_term.proofs.SameTerm.{term_same}
@@ -61,3 +62,20 @@ put-in z xs (t ∷ ts) m =
 pub put-sorted : (ts : List PlainTerm) → put_all [] ts ≡ sorted_terms ts
 put-sorted ts =
     one-set (put_all [] ts) ts (put-ascends [] ts refl) (λ z m. ⊎_elim (λ k. absurd k) (λ k. k) (put-out z [] ts m)) (λ z m. put-in z [] ts (inr m))
+
+contained : (z : PlainTerm) (ts : List PlainTerm) → IsIn z ts → Contains ts z
+contained z [] m = absurd m
+contained z (t ∷ ts) m =
+    ⊎_elim (λ e. subst (λ u. Contains (t ∷ ts) u) (sym e) (Contains-append_left (t ∷ []) ts t (Contains-push [] t))) (λ n. Contains-append_right (t ∷ []) ts z (contained z ts n)) m
+
+nowhere : (z : PlainTerm) → Contains [] z → ⊥
+nowhere z m = omega (arith, m.1)
+
+is-in : (z : PlainTerm) (ts : List PlainTerm) → Contains ts z → IsIn z ts
+is-in z [] m = absurd (nowhere z m)
+is-in z (t ∷ ts) m =
+    ⊎_elim (λ a. ⊎_elim (λ n. absurd (nowhere z n)) (λ e. inl (sym e)) (Contains-push_cases [] t z a)) (λ b. inr (is-in z ts b)) (Contains-append_cases (t ∷ []) ts z m)
+
+pub sorted_terms_ascend : SortedTermsAscend
+sorted_terms_ascend ts =
+    (terms-ascend ts, λ t. (λ m. contained t ts (out-terms t ts (is-in t (sorted_terms ts) m)), λ m. contained t (sorted_terms ts) (in-terms t ts (is-in t ts m))))

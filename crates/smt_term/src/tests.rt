@@ -5,6 +5,7 @@ use std::alloc::Global;
 use std::test::Fail;
 
 mod patterns;
+mod structures;
 
 /// The type of bitvectors of this width; Bool for 0.
 fn type_of_width(bits: u32) -> TermType {
