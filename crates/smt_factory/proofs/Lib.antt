@@ -5,6 +5,8 @@ pub mod BuiltTerms
 pub mod ConnectivesStand
 pub mod EqualityStands
 pub mod Folding
+pub mod FoldingOptions
+pub mod FoldingSets
 pub mod Least
 pub mod OptionsStand
 pub mod OutOfRange

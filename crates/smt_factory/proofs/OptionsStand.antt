@@ -7,7 +7,7 @@ use Rattle.std.specs.List.{AllByRecursion, AllZip}
 use Rattle.smt_factory.specs.Applications.{false_term, not_of, ite_of, option_get_of, is_none_of, is_some_of, if_false_of, if_true_of, unless_of, if_some_of, any_none_of, if_all_some_of, type_inside}
 use Rattle.smt_factory.specs.FoldConnectives.{folded_not}
 use Rattle.smt_factory.specs.FoldEquality.{folded_ite}
-use Rattle.smt_factory.specs.FoldOptions.{folded_option_get, folded_is_none_by_type, folded_is_none_of_choice, folded_is_none, folded_is_some, folded_if_false, folded_if_true, folded_unless, folded_if_some, folded_any_none, folded_if_all_some}
+use Rattle.smt_factory.specs.FoldOptions.{folded_option_get, folded_is_none_by_type, folded_is_none, folded_is_some, folded_if_false, folded_if_true, folded_unless, folded_if_some, folded_any_none, folded_if_all_some}
 use Rattle.smt_factory.specs.StandsFor.{StandsFor}
 use Rattle.smt_factory.proofs.ConnectivesStand.{argument, boolean, chosen_type, stands_any, stands_not}
 use Rattle.smt_factory.proofs.EqualityStands.{IteParts, equal_for_eq, ite_parts, literal_for_eq, not_typed, of_guard, stands_ite}
@@ -124,7 +124,7 @@ module _ (g t u : PlainTerm) (ty : PlainType) where
   by_type_stands : StandsFor (folded_is_none_by_type Choice) (is_none_of Choice)
   by_type_stands = test_folded inner_type NoneTerm none_is_made (inner_type ty) Choice
 
-none_of_choice : (g t u : PlainTerm) (ty : PlainType) → StandsFor (folded_is_none_of_choice g t u (folded_is_none_by_type (Application IteOp (terms (g ∷ t ∷ u ∷ [])) ty))) (is_none_of (Application IteOp (terms (g ∷ t ∷ u ∷ [])) ty))
+none_of_choice : (g t u : PlainTerm) (ty : PlainType) → StandsFor (folded_is_none (Application IteOp (terms (g ∷ t ∷ u ∷ [])) ty)) (is_none_of (Application IteOp (terms (g ∷ t ∷ u ∷ [])) ty))
 none_of_choice g (SomeTerm t) (SomeTerm u) ty = two_some_stand g (SomeTerm t) (SomeTerm u) ty (inner_type ty) (λ I. two_some (truth (meaning I g)) (meaning I t) (meaning I u))
 none_of_choice g (SomeTerm t) (NoneTerm x) ty = negated_guard_stands g (SomeTerm t) (NoneTerm x) ty (type_of t) refl (λ I. some_else_none (truth (meaning I g)) (meaning I t))
 none_of_choice g (NoneTerm x) (SomeTerm u) ty = guard_stands g (NoneTerm x) (SomeTerm u) ty x refl (λ I. none_else_some (truth (meaning I g)) (meaning I u))

@@ -4,7 +4,7 @@ use Rattle.smt_factory.specs.Applications.{true_term, false_term, option_get_of}
 use Rattle.smt_factory.specs.FoldConnectives.{folded_not, folded_any}
 use Rattle.smt_factory.specs.FoldEquality.{folded_eq, folded_ite}
 use Rattle.smt_term.specs.Types.{inner_type, type_of}
-use Rattle.smt_term.specs.Plain.{IteOp, PlainTerm, Application, NoneTerm, SomeTerm, no_terms, one_term}
+use Rattle.smt_term.specs.Plain.{IteOp, PlainTerm, Application, NoneTerm, SomeTerm, list_of_terms}
 
 -- `some` gives what it holds; what is no option stays
 abbrev pub folded_option_get : PlainTerm → PlainTerm
@@ -15,20 +15,27 @@ folded_option_get t = elim (inner_type (type_of t)) [ Some ty ↦ option_get_of 
 abbrev pub folded_is_none_by_type : PlainTerm → PlainTerm
 folded_is_none_by_type t = elim (inner_type (type_of t)) [ Some ty ↦ folded_eq t (NoneTerm ty) | None ↦ false_term ]
 
--- a choice of two `some`: false; of some and none: the guard's negation; of none and some: the guard; else what is given
-abbrev pub folded_is_none_of_choice : (guard first second otherwise : PlainTerm) → PlainTerm
-folded_is_none_of_choice g (SomeTerm t) (SomeTerm u) x = false_term
-folded_is_none_of_choice g (SomeTerm t) (NoneTerm ty) x = folded_not g
-folded_is_none_of_choice g (NoneTerm ty) (SomeTerm u) x = g
-folded_is_none_of_choice g t u x = x
+-- A choice between two `some`: false; between some and none: the guard's negation; between none and some: the guard.
+abbrev pub none_by_branches : (guard first second : PlainTerm) → Option PlainTerm
+none_by_branches g (SomeTerm t) (SomeTerm u) = Some false_term
+none_by_branches g (SomeTerm t) (NoneTerm ty) = Some (folded_not g)
+none_by_branches g (NoneTerm ty) (SomeTerm u) = Some g
+none_by_branches g t u = None
 
--- none: true; some: false; a choice by its branches; all else by its type
+abbrev pub none_by_arguments : List PlainTerm → Option PlainTerm
+none_by_arguments (g ∷ t ∷ u ∷ []) = none_by_branches g t u
+none_by_arguments ts = None
+
+-- none: true; some: false; a choice by its branches
+abbrev pub none_by_form : PlainTerm → Option PlainTerm
+none_by_form (NoneTerm ty) = Some true_term
+none_by_form (SomeTerm t) = Some false_term
+none_by_form (Application IteOp ts ty) = none_by_arguments (list_of_terms ts)
+none_by_form t = None
+
+-- whether an option is none: by its form where that tells, and else by its type
 abbrev pub folded_is_none : PlainTerm → PlainTerm
-folded_is_none (NoneTerm ty) = true_term
-folded_is_none (SomeTerm t) = false_term
-folded_is_none (Application IteOp (one_term g (one_term t (one_term u no_terms))) ty) =
-    folded_is_none_of_choice g t u (folded_is_none_by_type (Application IteOp (one_term g (one_term t (one_term u no_terms))) ty))
-folded_is_none t = folded_is_none_by_type t
+folded_is_none t = elim (none_by_form t) [ Some x ↦ x | None ↦ folded_is_none_by_type t ]
 
 abbrev pub folded_is_some : PlainTerm → PlainTerm
 folded_is_some t = folded_not (folded_is_none t)

@@ -73,7 +73,7 @@ fn negated_bits(t: &Term) -> Option<&Term>
             Op::Bvneg => only_one(args),
             _ => None,
         },
-        Term::Prim(_) | Term::Var(_) => None,
+        Term::None(_) | Term::Prim(_) | Term::Set { .. } | Term::Some(_) | Term::Var(_) => None,
     }
 }
 
@@ -204,7 +204,7 @@ pub fn zero_extend(alloc: Global, n: u32, t: Term) -> Result<Term, TermError>
             let ty = TermType::Bitvec { n: wider(width, n) };
             application(alloc, Op::ZeroExtend(n), &[t], ty)
         }
-        TermType::Bool => Ok(t),
+        TermType::Option { .. } | TermType::Bool | TermType::String | TermType::Set { .. } => Ok(t),
     }
 }
 

@@ -20,7 +20,7 @@ fn negated(t: &Term) -> Option<&Term>
             Op::Not => only_one(args),
             _ => None,
         },
-        Term::Prim(_) | Term::Var(_) => None,
+        Term::None(_) | Term::Prim(_) | Term::Set { .. } | Term::Some(_) | Term::Var(_) => None,
     }
 }
 
