@@ -3,18 +3,18 @@ use Rattle.std.proofs.Common.{◌≡◌, ℕ, ◌+◌, ◌%◌, ◌^◌, ◌<◌
 use Rattle.std.proofs.Math.Nat.{mod-eq_of_lt}
 use Rattle.smt_bits.specs.BitVectors as bits
 use Rattle.smt_bits.proofs.BitRanges as ranges
-use Rattle.smt_factory.specs.Applications.{false_term, not_of, and_of, or_of, implies_of, eq_of, ite_of, bvneg_of, test_of_two, zero_extend_of}
-use Rattle.smt_factory.specs.FoldBits.{folded_bvneg, folded_zero_extend, folded_bvsaddo, folded_bvssubo, folded_bvsmulo}
+use Rattle.smt_factory.specs.Applications.{false_term, not_of, and_of, or_of, implies_of, eq_of, ite_of, bvneg_of, bvnego_of, test_of_two, zero_extend_of}
+use Rattle.smt_factory.specs.FoldBits.{folded_bvneg, folded_bvnego, folded_zero_extend, folded_bvsaddo, folded_bvssubo, folded_bvsmulo}
 use Rattle.smt_factory.specs.FoldConnectives.{folded_not, is_negation, folded_and, folded_or, folded_implies}
 use Rattle.smt_factory.specs.FoldEquality.{folded_eq, folded_eq_inside, folded_ite, folded_ite_inside}
 use Rattle.smt_factory.specs.Parts.{are_some, are_some_and_none, held, is_none_term, negated}
 use Rattle.smt_factory.specs.StandsFor.{StandsFor}
-use Rattle.smt_factory.proofs.BitsStand.{stands_bvneg, stands_test, stands_zero_extend}
+use Rattle.smt_factory.proofs.BitsStand.{stands_bvneg, stands_bvnego, stands_test, stands_zero_extend}
 use Rattle.smt_factory.proofs.ConnectivesStand.{stands_not, stands_and, stands_or, stands_implies}
 use Rattle.smt_factory.proofs.EqualityStands.{stands_eq, stands_ite}
 use Rattle.smt_term.specs.Plain.{BvsaddoOp, BvsmuloOp, BvssuboOp, NotOp, PlainTerm, Application, NoneTerm, SomeTerm, no_terms, one_term}
 use Rattle.smt_term.specs.TermOrder.{term_eq}
-use Rattle.smt_term.specs.View.{views}
+use Rattle.smt_term.specs.View.{views, plain_term-App, plain_type-Option, plain_type-Bitvec, plain_type-Bool, plain_type-String, plain_type-Set}
 use Rattle.smt_term.proofs.DerivedEquality.{eq-is}
 
 -- ---- what a term is
@@ -96,6 +96,9 @@ stands_for_ite r g t u e = subst (λ (x : PlainTerm). StandsFor x (ite_of g t u)
 pub stands_for_bvneg : (r t : PlainTerm) → r ≡ folded_bvneg t → StandsFor r (bvneg_of t)
 stands_for_bvneg r t e = subst (λ (x : PlainTerm). StandsFor x (bvneg_of t)) (sym e) (stands_bvneg t)
 
+pub stands_for_bvnego : (r t : PlainTerm) → r ≡ folded_bvnego t → StandsFor r (bvnego_of t)
+stands_for_bvnego r t e = subst (λ (x : PlainTerm). StandsFor x (bvnego_of t)) (sym e) (stands_bvnego t)
+
 pub stands_for_zero_extend : (r : PlainTerm) (k : ℕ) (t : PlainTerm) → r ≡ folded_zero_extend k t → StandsFor r (zero_extend_of k t)
 stands_for_zero_extend r k t e = subst (λ (x : PlainTerm). StandsFor x (zero_extend_of k t)) (sym e) (stands_zero_extend k t)
 
@@ -114,4 +117,12 @@ stands_for_bvsmulo r t u e = subst (λ (x : PlainTerm). StandsFor x (test_of_two
 pub same_extended : (n k w a : ℕ) → a < 2 ^ n → w ≡ n + k → a % 2 ^ w ≡ a
 same_extended n k w a l e = ap (λ x. a % 2 ^ x) e ∙ mod-eq_of_lt (ranges.wider n k a l)
 
-pub ruleset folding = (views, eq-is, is_negation-some, stands_for_not, stands_for_and, stands_for_or, stands_for_implies, are_some-first, are_some-second, some_and_none-some, some_and_none-other, folded_eq-held, folded_eq-apart, folded_eq-turned, folded_eq-inside, folded_ite-held, folded_ite-inside, stands_for_eq, stands_for_ite)
+pub ruleset folding = (plain_term-App, plain_type-Bool, eq-is, is_negation-some, stands_for_not, stands_for_and, stands_for_or, stands_for_implies, stands_for_eq, stands_for_ite, stands_for_bvneg, stands_for_bvnego, stands_for_zero_extend)
+
+-- for what matches on terms, and on types
+pub ruleset matching = (views, is_negation-some, are_some-first, are_some-second, some_and_none-some, some_and_none-other)
+
+pub ruleset types = (plain_type-Option, plain_type-Bitvec, plain_type-Bool, plain_type-String, plain_type-Set)
+
+-- for equality and choice of two options
+pub ruleset choosing = (folded_eq-held, folded_eq-apart, folded_eq-turned, folded_eq-inside, folded_ite-held, folded_ite-inside)

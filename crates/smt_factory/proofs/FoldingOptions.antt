@@ -1,13 +1,13 @@
 -- What the code's tests of options decide, in the words of the foldings.
 use Rattle.std.proofs.Common.{◌≡◌, true, false, List, [], ◌∷◌, refl, ap, ◌∙◌, sym, subst}
 use Rattle.std.specs.Prelude.{Option, Some, None}
-use Rattle.smt_factory.specs.Applications.{false_term, option_get_of, is_none_of, is_some_of, if_false_of, if_true_of, if_some_of, type_inside}
+use Rattle.smt_factory.specs.Applications.{false_term, option_get_of, is_none_of, is_some_of, if_false_of, if_true_of, if_some_of, if_all_some_of, type_inside}
 use Rattle.smt_factory.specs.FoldConnectives.{folded_not}
 use Rattle.smt_factory.specs.FoldEquality.{folded_eq, folded_ite}
-use Rattle.smt_factory.specs.FoldOptions.{folded_option_get, folded_is_none_by_type, none_by_branches, none_by_arguments, none_by_form, folded_is_none, folded_is_some, folded_if_false, folded_if_true, folded_unless, folded_if_some}
+use Rattle.smt_factory.specs.FoldOptions.{folded_option_get, folded_is_none_by_type, none_by_branches, none_by_arguments, none_by_form, folded_is_none, folded_is_some, folded_if_false, folded_if_true, folded_unless, folded_if_some, folded_if_all_some}
 use Rattle.smt_factory.specs.Parts.{held, is_none_term}
 use Rattle.smt_factory.specs.StandsFor.{StandsFor}
-use Rattle.smt_factory.proofs.OptionsStand.{stands_option_get, stands_is_none, stands_is_some, stands_if_false, stands_if_true, stands_if_some}
+use Rattle.smt_factory.proofs.OptionsStand.{stands_option_get, stands_is_none, stands_is_some, stands_if_false, stands_if_true, stands_if_some, stands_if_all_some}
 use Rattle.smt_term.proofs.TypedArguments.{listed}
 use Rattle.smt_term.specs.Plain.{PlainType, OptionType, IteOp, OptionGetOp, PlainTerm, Application, NoneTerm, SomeTerm, terms}
 use Rattle.smt_term.specs.Types.{inner_type, type_of}
@@ -106,4 +106,7 @@ stands_for_if_true r g t e = subst (λ (x : PlainTerm). StandsFor x (if_true_of 
 pub stands_for_if_some : (r g t : PlainTerm) → r ≡ folded_if_some g t → StandsFor r (if_some_of g t)
 stands_for_if_some r g t e = subst (λ (x : PlainTerm). StandsFor x (if_some_of g t)) (sym e) (stands_if_some g t)
 
-pub ruleset option_folding = (folded_option_get-held, folded_option_get-option, folded_option_get-other, by_branches-some, by_branches-negated, by_branches-guard, by_branches-first, by_branches-second, by_branches-neither, by_form-choice, by_type-option, by_type-other, is_none-known, is_none-unknown, unless-option, unless-other, stands_for_option_get, stands_for_is_none, stands_for_is_some, stands_for_if_false, stands_for_if_true, stands_for_if_some)
+pub stands_for_if_all_some : (r : PlainTerm) (gs : List PlainTerm) (t : PlainTerm) → r ≡ folded_if_all_some gs t → StandsFor r (if_all_some_of gs t)
+stands_for_if_all_some r gs t e = subst (λ (x : PlainTerm). StandsFor x (if_all_some_of gs t)) (sym e) (stands_if_all_some gs t)
+
+pub ruleset option_folding = (folded_option_get-held, folded_option_get-option, folded_option_get-other, by_branches-some, by_branches-negated, by_branches-guard, by_branches-first, by_branches-second, by_branches-neither, by_form-choice, by_type-option, by_type-other, is_none-known, is_none-unknown, unless-option, unless-other, stands_for_option_get, stands_for_is_none, stands_for_is_some, stands_for_if_false, stands_for_if_true, stands_for_if_some, stands_for_if_all_some)

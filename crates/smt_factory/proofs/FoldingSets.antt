@@ -12,6 +12,7 @@ use Rattle.smt_factory.specs.Parts.{element_type, elements_in, is_empty_set, is_
 use Rattle.smt_factory.specs.StandsFor.{StandsFor}
 use Rattle.smt_factory.proofs.SetsStand.{stands_set_inter, stands_set_intersects, stands_set_is_empty, stands_set_member, stands_set_subset}
 use Rattle.smt_factory.proofs.StringsStand.{stands_string_like}
+use Rattle.smt_term.proofs.DerivedEquality.{eq-is}
 use Rattle.smt_term.proofs.TypedArguments.{listed}
 use Rattle.smt_term.specs.Literals.{is_literal}
 use Rattle.smt_term.specs.Patterns.{matches}
@@ -107,4 +108,4 @@ stands_for_set_is_empty r t e = subst (λ (x : PlainTerm). StandsFor x (set_is_e
 pub stands_for_set_intersects : (r t u : PlainTerm) → r ≡ folded_set_intersects t u → StandsFor r (set_intersects_of t u)
 stands_for_set_intersects r t u e = subst (λ (x : PlainTerm). StandsFor x (set_intersects_of t u)) (sym e) (stands_set_intersects t u)
 
-pub ruleset set_folding = (folded_string_like-text, folded_string_like-other, elements_in-set, set_literal-is, common_set-set, is_empty-elements, is_empty-set, is_empty-other, stands_for_string_like, stands_for_set_member, stands_for_set_subset, stands_for_set_inter, stands_for_set_is_empty, stands_for_set_intersects)
+pub ruleset set_folding = (eq-is, folded_string_like-text, folded_string_like-other, elements_in-set, set_literal-is, common_set-set, is_empty-elements, is_empty-set, is_empty-other, stands_for_string_like, stands_for_set_member, stands_for_set_subset, stands_for_set_inter, stands_for_set_is_empty, stands_for_set_intersects)

@@ -1,5 +1,5 @@
 -- The folding of the calls on options: the cases of each in the order in which they are tried.
-use Rattle.std.specs.Prelude.{List, map, Some, None}
+use Rattle.std.specs.Prelude.{List, [], ◌∷◌, map, Option, Some, None}
 use Rattle.smt_factory.specs.Applications.{true_term, false_term, option_get_of}
 use Rattle.smt_factory.specs.FoldConnectives.{folded_not, folded_any}
 use Rattle.smt_factory.specs.FoldEquality.{folded_eq, folded_ite}

@@ -1,4 +1,5 @@
 //! Equality and choice of the theory Core.
+#![tactic(auto, using(crate::proofs::Folding::folding, crate::proofs::Folding::choosing))]
 ghost use Rattle.std.specs.Prelude.{◌≡◌, ◌&&◌, IfOk};
 ghost use Rattle.smt_factory.specs.Applications.{eq_of, ite_of, truth_literal};
 ghost use Rattle.smt_factory.specs.FoldEquality.{folded_eq, folded_eq_inside, folded_ite, folded_ite_inside, is_boolean};
@@ -11,11 +12,12 @@ ghost use Rattle.smt_term.specs.View.{plain_literal, plain_term, plain_type};
 use crate::application::{application, truth_application};
 use crate::connectives::{and, not, or};
 use crate::options::some_of;
-use crate::parts::{are_some_and_none, both_held};
+use crate::parts::{are_some_and_none, both_held, is_truth_value};
 use smt_term::{Op, Term, TermError, TermPrim, TermType};
 use std::alloc::Global;
 
 // Whether the term has the type of truth values.
+#[tactic(auto, using(crate::proofs::Folding::matching))]
 fn is_boolean(t: &Term) -> bool
     ensures { result ≡ is_boolean (plain_term t.now) }
 {
@@ -27,6 +29,7 @@ fn is_boolean(t: &Term) -> bool
     }
 }
 
+#[tactic(auto, using(crate::proofs::Folding::matching))]
 fn is_truth_type(ty: &TermType) -> bool
     ensures { result ≡ type_eq (plain_type ty.now) BoolType }
 {
@@ -52,7 +55,7 @@ fn is_truth(literal: &TermPrim) -> bool
 fn is_beside_boolean(truth: bool, t1: &Term, t2: &Term) -> bool
     ensures { result ≡ (term_eq (plain_term t1.now) (truth_literal truth) && is_boolean (plain_term t2.now)) }
 {
-    *t1 == Term::from(truth) && is_boolean(t2)
+    is_truth_value(t1, truth) && is_boolean(t2)
 }
 
 /// The equality of two terms of one type.
@@ -65,6 +68,13 @@ fn is_beside_boolean(truth: bool, t1: &Term, t2: &Term) -> bool
 pub fn eq(alloc: Global, t1: Term, t2: Term) -> Result<Term, TermError>
     ensures folded { IfOk result (λ r. plain_term r ≡ folded_eq (plain_term t1) (plain_term t2)) }
     ensures stands { IfOk result (λ r. StandsFor (plain_term r) (eq_of (plain_term t1) (plain_term t2))) }
+{
+    folded_eq(alloc, t1, t2)
+}
+
+// The equality, folded.
+fn folded_eq(alloc: Global, t1: Term, t2: Term) -> Result<Term, TermError>
+    ensures { IfOk result (λ r. plain_term r ≡ folded_eq (plain_term t1) (plain_term t2)) }
 {
     if let Some((held1, held2)) = both_held(&t1, &t2) {
         return eq_inside(alloc, held1.share()?, held2.share()?);
@@ -121,22 +131,22 @@ pub fn ite(alloc: Global, t1: Term, t2: Term, t3: Term) -> Result<Term, TermErro
 fn ite_inside(alloc: Global, t1: Term, t2: Term, t3: Term) -> Result<Term, TermError>
     ensures { IfOk result (λ r. plain_term r ≡ folded_ite_inside (plain_term t1) (plain_term t2) (plain_term t3)) }
 {
-    if t1 == Term::from(true) || t2 == t3 {
+    if is_truth_value(&t1, true) || t2 == t3 {
         return Ok(t2);
     }
-    if t1 == Term::from(false) {
+    if is_truth_value(&t1, false) {
         return Ok(t3);
     }
-    if t2 == Term::from(true) && t3 == Term::from(false) {
+    if is_truth_value(&t2, true) && is_truth_value(&t3, false) {
         return Ok(t1);
     }
-    if t2 == Term::from(false) && t3 == Term::from(true) {
+    if is_truth_value(&t2, false) && is_truth_value(&t3, true) {
         return not(alloc, t1);
     }
-    if t3 == Term::from(false) {
+    if is_truth_value(&t3, false) {
         return and(alloc, t1, t2);
     }
-    if t2 == Term::from(true) {
+    if is_truth_value(&t2, true) {
         return or(alloc, t1, t3);
     }
     let ty = t2.type_of(alloc)?;

@@ -1,5 +1,5 @@
 //! Options: none, some, and what they hold.
-#![tactic(auto, using(crate::proofs::Folding::folding, crate::proofs::FoldingOptions::option_folding))]
+#![tactic(auto, using(crate::proofs::FoldingOptions::option_folding))]
 ghost use Rattle.std.specs.Prelude.{◌≡◌, IfOk, MatchOption, None, Some, map};
 ghost use Rattle.smt_factory.specs.Applications.{any_none_of, if_all_some_of, if_false_of, if_some_of, if_true_of, is_none_of, is_some_of, option_get_of};
 ghost use Rattle.smt_factory.specs.FoldOptions.{folded_any_none, folded_if_all_some, folded_if_false, folded_if_some, folded_if_true, folded_is_none, folded_is_none_by_type, folded_is_some, folded_option_get, folded_unless, none_by_arguments, none_by_branches, none_by_form};
@@ -17,6 +17,7 @@ use std::alloc::Global;
 use std::rc::Rc;
 
 /// None of the options of values of a type.
+#[tactic(auto, using(crate::proofs::Folding::matching))]
 pub fn none_of(ty: TermType) -> Term
     ensures { plain_term result ≡ NoneTerm (plain_type ty) }
 {
@@ -27,6 +28,7 @@ pub fn none_of(ty: TermType) -> Term
 ///
 /// # Errors
 /// `Memory`, where there is none for the term.
+#[tactic(auto, using(crate::proofs::Folding::matching))]
 pub fn some_of(alloc: Global, t: Term) -> Result<Term, TermError>
     ensures { IfOk result (λ r. plain_term r ≡ SomeTerm (plain_term t)) }
 {
@@ -42,6 +44,13 @@ pub fn option_get(alloc: Global, t: Term) -> Result<Term, TermError>
     ensures folded { IfOk result (λ r. plain_term r ≡ folded_option_get (plain_term t)) }
     ensures stands { IfOk result (λ r. StandsFor (plain_term r) (option_get_of (plain_term t))) }
 {
+    folded_option_get(alloc, t)
+}
+
+// What an option holds, folded.
+fn folded_option_get(alloc: Global, t: Term) -> Result<Term, TermError>
+    ensures { IfOk result (λ r. plain_term r ≡ folded_option_get (plain_term t)) }
+{
     if let Some(inner) = held(&t) {
         return Ok(inner.share()?);
     }
@@ -52,6 +61,7 @@ pub fn option_get(alloc: Global, t: Term) -> Result<Term, TermError>
 }
 
 // Whether a term is none, where its form tells.
+#[tactic(auto, using(crate::proofs::Folding::matching, crate::proofs::FoldingOptions::option_folding))]
 fn none_by_form(alloc: Global, t: &Term) -> Result<Option<Term>, TermError>
     ensures { IfOk result (λ o. MatchOption o (none_by_form (plain_term t.now) ≡ None) (λ r. none_by_form (plain_term t.now) ≡ Some (plain_term r))) }
 {
@@ -127,6 +137,13 @@ pub fn is_none(alloc: Global, t: Term) -> Result<Term, TermError>
     ensures folded { IfOk result (λ r. plain_term r ≡ folded_is_none (plain_term t)) }
     ensures stands { IfOk result (λ r. StandsFor (plain_term r) (is_none_of (plain_term t))) }
 {
+    folded_is_none(alloc, t)
+}
+
+// Whether an option is none, folded.
+fn folded_is_none(alloc: Global, t: Term) -> Result<Term, TermError>
+    ensures { IfOk result (λ r. plain_term r ≡ folded_is_none (plain_term t)) }
+{
     match none_by_form(alloc, &t)? {
         Some(known) => Ok(known),
         None => none_by_type(alloc, t),
@@ -186,6 +203,13 @@ pub fn if_some(alloc: Global, g: Term, t: Term) -> Result<Term, TermError>
     ensures folded { IfOk result (λ r. plain_term r ≡ folded_if_some (plain_term g) (plain_term t)) }
     ensures stands { IfOk result (λ r. StandsFor (plain_term r) (if_some_of (plain_term g) (plain_term t))) }
 {
+    folded_if_some(alloc, g, t)
+}
+
+// The option, folded.
+fn folded_if_some(alloc: Global, g: Term, t: Term) -> Result<Term, TermError>
+    ensures { IfOk result (λ r. plain_term r ≡ folded_if_some (plain_term g) (plain_term t)) }
+{
     unless(alloc, is_none(alloc, g)?, t)
 }
 
@@ -208,6 +232,13 @@ pub fn any_none(alloc: Global, gs: &[Term]) -> Result<Term, TermError>
 pub fn if_all_some(alloc: Global, gs: &[Term], t: Term) -> Result<Term, TermError>
     ensures folded { IfOk result (λ r. plain_term r ≡ folded_if_all_some (map plain_term gs.now) (plain_term t)) }
     ensures stands { IfOk result (λ r. StandsFor (plain_term r) (if_all_some_of (map plain_term gs.now) (plain_term t))) }
+{
+    folded_if_all_some(alloc, gs, t)
+}
+
+// The option, folded.
+fn folded_if_all_some(alloc: Global, gs: &[Term], t: Term) -> Result<Term, TermError>
+    ensures { IfOk result (λ r. plain_term r ≡ folded_if_all_some (map plain_term gs.now) (plain_term t)) }
 {
     unless(alloc, any_none(alloc, gs)?, t)
 }

@@ -1,10 +1,13 @@
 //! What the foldings look for in a term.
+#![tactic(auto, using(crate::proofs::Folding::matching))]
 ghost use Rattle.std.specs.Fn.{FnReturnsAtPair};
 ghost use Rattle.std.specs.Prelude.{◌≡◌, false, IfOk, MatchOption, None, Ok, Some};
 ghost use Rattle.smt_bits.specs.BitVec.{number_of, width_of};
+ghost use Rattle.smt_factory.specs.Applications.{truth_literal};
 ghost use Rattle.smt_factory.specs.FoldBy.{AnswersAt, RefusesAt, literal_of};
 ghost use Rattle.smt_factory.specs.Parts.{are_some, are_some_and_none, bits_inside, element_type, held, is_none_term, only_one};
 ghost use Rattle.smt_term.specs.Plain.{BitVecLiteral, LiteralTerm, SomeTerm};
+ghost use Rattle.smt_term.specs.TermOrder.{term_eq};
 ghost use Rattle.smt_term.specs.Types.{inner_type, type_of};
 ghost use Rattle.smt_term.specs.View.{plain_items, plain_literal, plain_term, plain_type};
 
@@ -124,4 +127,12 @@ pub(crate) fn element_type(alloc: Global, t: &Term) -> Result<Option<TermType>, 
         TermType::Set { ty } => Ok(Some(ty.share()?)),
         TermType::Option { .. } | TermType::Bitvec { .. } | TermType::Bool | TermType::String => Ok(None),
     }
+}
+
+// Whether it is this truth value.
+#[tactic(auto, using(crate::proofs::Folding::folding))]
+pub(crate) fn is_truth_value(t: &Term, truth: bool) -> bool
+    ensures { result ≡ term_eq (plain_term t.now) (truth_literal truth) }
+{
+    *t == Term::from(truth)
 }

@@ -1,5 +1,5 @@
 //! Sets of the values of terms.
-#![tactic(auto, using(crate::proofs::Folding::folding, crate::proofs::FoldingSets::set_folding))]
+#![tactic(auto, using(crate::proofs::FoldingSets::set_folding))]
 ghost use Rattle.std.specs.Prelude.{◌≡◌, IfOk, map};
 ghost use Rattle.std.specs.List.{filter, list_all};
 ghost use Rattle.smt_factory.specs.Applications.{set_inter_of, set_intersects_of, set_is_empty_of, set_member_of, set_subset_of};
@@ -20,6 +20,7 @@ use std::alloc::Global;
 ///
 /// # Errors
 /// `Memory`, where there is none for the term.
+#[tactic(auto, using(crate::proofs::Folding::matching, crate::proofs::FoldingSets::set_folding))]
 pub fn set_of(alloc: Global, ts: &[Term], elts_ty: TermType) -> Result<Term, TermError>
     ensures { IfOk result (λ r. plain_term r ≡ set_term (plain_type elts_ty) (map plain_term ts.now)) }
 {
@@ -28,6 +29,7 @@ pub fn set_of(alloc: Global, ts: &[Term], elts_ty: TermType) -> Result<Term, Ter
 }
 
 // Whether it is a set that is given by its elements.
+#[tactic(auto, using(crate::proofs::Folding::matching, crate::proofs::FoldingSets::set_folding))]
 fn is_set_term(t: &Term) -> bool
     ensures { result ≡ is_set_term (plain_term t.now) }
 {
@@ -38,6 +40,7 @@ fn is_set_term(t: &Term) -> bool
 }
 
 // The elements of a set that is given by them.
+#[tactic(auto, using(crate::proofs::Folding::matching, crate::proofs::FoldingSets::set_folding))]
 fn elements_in(t: &Term) -> &[Term]
     ensures { map plain_term result.now ≡ elements_in (plain_term t.now) }
 {
@@ -48,6 +51,7 @@ fn elements_in(t: &Term) -> &[Term]
 }
 
 // Whether it is a set without elements.
+#[tactic(auto, using(crate::proofs::Folding::matching, crate::proofs::FoldingSets::set_folding))]
 fn is_empty_set(t: &Term) -> bool
     ensures { result ≡ is_empty_set (plain_term t.now) }
 {
@@ -58,6 +62,7 @@ fn is_empty_set(t: &Term) -> bool
 }
 
 // Whether it is a set of literals.
+#[tactic(auto, using(crate::proofs::Folding::matching, crate::proofs::FoldingSets::set_folding))]
 fn is_set_literal(t: &Term) -> bool
     ensures { result ≡ is_set_literal (plain_term t.now) }
 {
@@ -96,6 +101,13 @@ pub fn set_member(alloc: Global, t: Term, ts: Term) -> Result<Term, TermError>
     ensures folded { IfOk result (λ r. plain_term r ≡ folded_set_member (plain_term t) (plain_term ts)) }
     ensures stands { IfOk result (λ r. StandsFor (plain_term r) (set_member_of (plain_term t) (plain_term ts))) }
 {
+    folded_set_member(alloc, t, ts)
+}
+
+// Membership, folded.
+fn folded_set_member(alloc: Global, t: Term, ts: Term) -> Result<Term, TermError>
+    ensures { IfOk result (λ r. plain_term r ≡ folded_set_member (plain_term t) (plain_term ts)) }
+{
     if is_empty_set(&ts) {
         return Ok(Term::from(false));
     }
@@ -112,6 +124,13 @@ pub fn set_member(alloc: Global, t: Term, ts: Term) -> Result<Term, TermError>
 pub fn set_subset(alloc: Global, sub: Term, sup: Term) -> Result<Term, TermError>
     ensures folded { IfOk result (λ r. plain_term r ≡ folded_set_subset (plain_term sub) (plain_term sup)) }
     ensures stands { IfOk result (λ r. StandsFor (plain_term r) (set_subset_of (plain_term sub) (plain_term sup))) }
+{
+    folded_set_subset(alloc, sub, sup)
+}
+
+// Whether a set is in another, folded.
+fn folded_set_subset(alloc: Global, sub: Term, sup: Term) -> Result<Term, TermError>
+    ensures { IfOk result (λ r. plain_term r ≡ folded_set_subset (plain_term sub) (plain_term sup)) }
 {
     if sub == sup || is_empty_set(&sub) {
         return Ok(Term::from(true));
@@ -136,6 +155,7 @@ fn common(alloc: Global, ts1: &[Term], ts2: &[Term]) -> Result<Vec<Term>, TermEr
 }
 
 // The set of the first's elements that are in the second; the first itself where it is not given by its elements.
+#[tactic(auto, using(crate::proofs::Folding::matching, crate::proofs::FoldingSets::set_folding))]
 fn common_set(alloc: Global, ts1: Term, ts2: &Term) -> Result<Term, TermError>
     ensures { IfOk result (λ r. plain_term r ≡ common_set (plain_term ts1) (plain_term ts2.now)) }
 {
@@ -159,6 +179,13 @@ pub fn set_inter(alloc: Global, ts1: Term, ts2: Term) -> Result<Term, TermError>
     ensures folded { IfOk result (λ r. plain_term r ≡ folded_set_inter (plain_term ts1) (plain_term ts2)) }
     ensures stands { IfOk result (λ r. StandsFor (plain_term r) (set_inter_of (plain_term ts1) (plain_term ts2))) }
 {
+    folded_set_inter(alloc, ts1, ts2)
+}
+
+// The intersection, folded.
+fn folded_set_inter(alloc: Global, ts1: Term, ts2: Term) -> Result<Term, TermError>
+    ensures { IfOk result (λ r. plain_term r ≡ folded_set_inter (plain_term ts1) (plain_term ts2)) }
+{
     if ts1 == ts2 || is_empty_set(&ts1) {
         return Ok(ts1);
     }
@@ -181,6 +208,13 @@ pub fn set_inter(alloc: Global, ts1: Term, ts2: Term) -> Result<Term, TermError>
 pub fn set_is_empty(alloc: Global, t: Term) -> Result<Term, TermError>
     ensures folded { IfOk result (λ r. plain_term r ≡ folded_set_is_empty (plain_term t)) }
     ensures stands { IfOk result (λ r. StandsFor (plain_term r) (set_is_empty_of (plain_term t))) }
+{
+    folded_set_is_empty(alloc, t)
+}
+
+// Whether a set is empty, folded.
+fn folded_set_is_empty(alloc: Global, t: Term) -> Result<Term, TermError>
+    ensures { IfOk result (λ r. plain_term r ≡ folded_set_is_empty (plain_term t)) }
 {
     if is_set_term(&t) {
         return Ok(Term::from(is_empty_set(&t)));

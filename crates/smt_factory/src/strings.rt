@@ -1,5 +1,5 @@
 //! Strings: whether they match a pattern.
-#![tactic(auto, using(crate::proofs::Folding::folding, crate::proofs::FoldingSets::set_folding))]
+#![tactic(auto, using(crate::proofs::FoldingSets::set_folding))]
 ghost use Rattle.std.specs.Prelude.{◌≡◌, IfOk, MatchOption, None};
 ghost use Rattle.std.specs.Rc.{rc_str_bytes};
 ghost use Rattle.smt_factory.specs.Applications.{string_like_of};
@@ -15,6 +15,7 @@ use smt_term::{Op, OrdPattern, Term, TermError, TermPrim, Text};
 use std::alloc::Global;
 
 // The text of a literal.
+#[tactic(auto, using(crate::proofs::Folding::matching))]
 fn text_inside(t: &Term) -> Option<&Text>
     ensures { MatchOption result (text_inside (plain_term t.now) ≡ None) (λ s. plain_term t.now ≡ LiteralTerm (StringLiteral (rc_str_bytes s.now))) }
 {
@@ -24,6 +25,7 @@ fn text_inside(t: &Term) -> Option<&Text>
     }
 }
 
+#[tactic(auto, using(crate::proofs::Folding::matching))]
 fn literal_text(literal: &TermPrim) -> Option<&Text>
     ensures { MatchOption result
         (text_inside (LiteralTerm (plain_literal literal.now)) ≡ None)
