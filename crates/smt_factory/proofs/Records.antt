@@ -21,7 +21,7 @@ use Rattle.smt_term.proofs.Soundness.{all-front, all-back, all-last}
 use Rattle.smt_term.specs.Plain.{RecordType, attribute, PlainTerm, RecordTerm, PlainFields, no_fields, one_field}
 use Rattle.smt_term.specs.Values.{RecordValue, one_field_value}
 
-abbrev HasFormedType : PlainTerm → Type 0
+abbrev pub HasFormedType : PlainTerm → Type 0
 HasFormedType w = IsFormedType (type_of w)
 
 -- ---- fields

@@ -12,9 +12,12 @@ mod comparisons;
 mod connectives;
 mod equality;
 pub mod laws;
+mod options;
 mod overflows;
 mod parts;
 mod rule;
+mod sets;
+mod strings;
 
 pub use any::any_true;
 pub use bits::{
@@ -24,8 +27,15 @@ pub use bits::{
 pub use comparisons::{bvsle, bvslt, bvule, bvult};
 pub use connectives::{and, implies, not, opposites, or};
 pub use equality::{eq, ite};
+pub use options::{
+    any_none, if_all_some, if_false, if_some, if_true, is_none, is_some, none_of, option_get, some_of,
+};
 pub use overflows::{bvnego, bvsaddo, bvsmulo, bvso, bvssubo};
 pub use rule::{BvRule, bvapp_by};
+pub use sets::{
+    set_inter, set_intersects, set_is_empty, set_member, set_of, set_subset,
+};
+pub use strings::string_like;
 
 #[cfg(test)]
 mod tests;
