@@ -119,9 +119,10 @@ pub record IsElement (ty : PlainType) (t : PlainTerm) : Type 0 where
 
 typed_each : (ty : PlainType) (ts : List PlainTerm) → typed_all (terms ts) ≡ true → list_all (type_eq ty) (types_of (terms ts)) ≡ true → AllByRecursion (IsElement ty) ts
 typed_each ty [] h g = tt
-typed_each ty (t ∷ ts) h g =
-    (record { parts = first_so (typed t) (typed_all (terms ts)) h; type = eq_same ty (type_of t) (first_so (type_eq ty (type_of t)) (list_all (type_eq ty) (types_of (terms ts))) g) },
-    typed_each ty ts (second_so (typed t) (typed_all (terms ts)) h) (second_so (type_eq ty (type_of t)) (list_all (type_eq ty) (types_of (terms ts))) g))
+typed_each ty (t ∷ ts) h g = (
+  record { parts = first_so (typed t) (typed_all (terms ts)) h; type = eq_same ty (type_of t) (first_so (type_eq ty (type_of t)) (list_all (type_eq ty) (types_of (terms ts))) g) },
+  typed_each ty ts (second_so (typed t) (typed_all (terms ts)) h) (second_so (type_eq ty (type_of t)) (list_all (type_eq ty) (types_of (terms ts))) g),
+)
 
 pub each_typed : (ty : PlainType) (ts : List PlainTerm) → AllByRecursion (IsElement ty) ts → typed_all (terms ts) ≡ true
 each_typed ty [] h = refl

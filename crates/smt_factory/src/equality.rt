@@ -1,5 +1,6 @@
 //! Equality and choice of the theory Core.
 #![tactic(auto, using(crate::proofs::Folding::folding, crate::proofs::Folding::choosing))]
+
 ghost use Rattle.std.specs.Prelude.{◌≡◌, ◌&&◌, IfOk};
 ghost use Rattle.smt_factory.specs.Applications.{eq_of, ite_of, truth_literal};
 ghost use Rattle.smt_factory.specs.FoldEquality.{folded_eq, folded_eq_inside, folded_ite, folded_ite_inside, is_boolean};
@@ -122,7 +123,10 @@ pub fn ite(alloc: Global, t1: Term, t2: Term, t3: Term) -> Result<Term, TermErro
     ensures stands { IfOk result (λ r. StandsFor (plain_term r) (ite_of (plain_term t1) (plain_term t2) (plain_term t3))) }
 {
     if let Some((held2, held3)) = both_held(&t2, &t3) {
-        return some_of(alloc, ite_inside(alloc, t1, held2.share()?, held3.share()?)?);
+        return some_of(
+            alloc,
+            ite_inside(alloc, t1, held2.share()?, held3.share()?)?,
+        );
     }
     ite_inside(alloc, t1, t2, t3)
 }

@@ -1,5 +1,6 @@
 //! What the foldings look for in a term.
 #![tactic(auto, using(crate::proofs::Folding::matching))]
+
 ghost use Rattle.std.specs.Fn.{FnReturnsAtPair};
 ghost use Rattle.std.specs.Prelude.{◌≡◌, false, IfOk, MatchOption, None, Ok, Some};
 ghost use Rattle.smt_bits.specs.BitVec.{number_of, width_of};
@@ -115,7 +116,9 @@ pub(crate) fn inner_type(alloc: Global, t: &Term) -> Result<Option<TermType>, Te
 {
     match t.type_of(alloc)? {
         TermType::Option { ty } => Ok(Some(ty.share()?)),
-        TermType::Bitvec { .. } | TermType::Bool | TermType::String | TermType::Set { .. } => Ok(None),
+        TermType::Bitvec { .. } | TermType::Bool | TermType::String | TermType::Set { .. } => Ok(
+            None,
+        ),
     }
 }
 
@@ -125,7 +128,9 @@ pub(crate) fn element_type(alloc: Global, t: &Term) -> Result<Option<TermType>, 
 {
     match t.type_of(alloc)? {
         TermType::Set { ty } => Ok(Some(ty.share()?)),
-        TermType::Option { .. } | TermType::Bitvec { .. } | TermType::Bool | TermType::String => Ok(None),
+        TermType::Option { .. } | TermType::Bitvec { .. } | TermType::Bool | TermType::String => Ok(
+            None,
+        ),
     }
 }
 

@@ -1,5 +1,6 @@
 //! Sets of the values of terms.
 #![tactic(auto, using(crate::proofs::FoldingSets::set_folding))]
+
 ghost use Rattle.std.specs.Prelude.{◌≡◌, IfOk, map};
 ghost use Rattle.std.specs.List.{filter, list_all};
 ghost use Rattle.smt_factory.specs.Applications.{set_inter_of, set_intersects_of, set_is_empty_of, set_member_of, set_subset_of};
@@ -156,15 +157,17 @@ fn common(alloc: Global, ts1: &[Term], ts2: &[Term]) -> Result<Vec<Term>, TermEr
 
 // The set of the first's elements that are in the second; the first itself where it is not given by its elements.
 #[tactic(auto, using(crate::proofs::Folding::matching, crate::proofs::FoldingSets::set_folding))]
-fn common_set(alloc: Global, ts1: Term, ts2: &Term) -> Result<Term, TermError>
-    ensures { IfOk result (λ r. plain_term r ≡ common_set (plain_term ts1) (plain_term ts2.now)) }
+fn common_set(alloc: Global, ts1: &Term, ts2: &Term) -> Result<Term, TermError>
+    ensures { IfOk result (λ r. plain_term r ≡ common_set (plain_term ts1.now) (plain_term ts2.now)) }
 {
-    match &ts1 {
+    match ts1 {
         Term::Set { elts_ty, elts } => {
             let kept = common(alloc, elts.items(), elements_in(ts2))?;
             set_of(alloc, kept.as_slice(), elts_ty.share()?)
         }
-        Term::App { .. } | Term::None(_) | Term::Prim(_) | Term::Some(_) | Term::Var(_) => Ok(ts1),
+        Term::App { .. } | Term::None(_) | Term::Prim(_) | Term::Some(_) | Term::Var(_) => {
+            ts1.share()
+        }
     }
 }
 
@@ -193,7 +196,7 @@ fn folded_set_inter(alloc: Global, ts1: Term, ts2: Term) -> Result<Term, TermErr
         return Ok(ts2);
     }
     if is_set_literal(&ts1) && is_set_literal(&ts2) {
-        return common_set(alloc, ts1, &ts2);
+        return common_set(alloc, &ts1, &ts2);
     }
     let ty = ts1.type_of(alloc)?;
     application(alloc, Op::SetInter, &[ts1, ts2], ty)

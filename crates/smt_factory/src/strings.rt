@@ -1,5 +1,6 @@
 //! Strings: whether they match a pattern.
 #![tactic(auto, using(crate::proofs::FoldingSets::set_folding))]
+
 ghost use Rattle.std.specs.Prelude.{◌≡◌, IfOk, MatchOption, None};
 ghost use Rattle.std.specs.Rc.{rc_str_bytes};
 ghost use Rattle.smt_factory.specs.Applications.{string_like_of};

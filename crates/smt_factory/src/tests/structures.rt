@@ -2,7 +2,9 @@
 use super::{byte, truth};
 use crate::*;
 use smt_bits::EIGHT;
-use smt_term::{OrdPattern, Pattern, PatternElem, Term, TermError, TermSet, TermType, TermVar, Text};
+use smt_term::{
+    OrdPattern, Pattern, PatternElem, Term, TermError, TermSet, TermType, TermVar, Text,
+};
 use std::alloc::Global;
 use std::test::Fail;
 
@@ -25,7 +27,11 @@ fn variable(alloc: Global, id: &str, ty: TermType) -> Result<Term, TermError> {
 #[test]
 fn strings_fold(rt: HostRuntime) -> Result<(), Fail> {
     let alloc = rt.alloc();
-    let elems = [PatternElem::Char('a'), PatternElem::Wildcard, PatternElem::Char('z')];
+    let elems = [
+        PatternElem::Char('a'),
+        PatternElem::Wildcard,
+        PatternElem::Char('z'),
+    ];
     let pattern = OrdPattern::from(Pattern::new(alloc, &elems)?);
     let text = Term::from(Text::from_str(alloc, "abz")?);
     assert!(rt; string_like(alloc, text, pattern.share()?)? == Term::from(true));
@@ -42,9 +48,18 @@ fn sets_fold(rt: HostRuntime) -> Result<(), Fail> {
     let empty = bytes(alloc, &[])?;
     let one = bytes(alloc, &[1])?;
     let two = bytes(alloc, &[2, 1, 2])?;
-    let s = variable(alloc, "s", TermType::set_of(alloc, TermType::Bitvec { n: EIGHT })?)?;
+    let s = variable(
+        alloc,
+        "s",
+        TermType::set_of(alloc, TermType::Bitvec { n: EIGHT })?,
+    )?;
     let elements = TermSet::new(alloc, &[byte(1), byte(2)])?;
-    assert!(rt; two == Term::Set { elts_ty: TermType::Bitvec { n: EIGHT }, elts: elements });
+    assert!(rt;
+        two == Term::Set {
+            elts_ty: TermType::Bitvec { n: EIGHT },
+            elts: elements
+        }
+    );
     assert!(rt; set_member(alloc, byte(1), empty.share()?)? == Term::from(false));
     assert!(rt; set_member(alloc, byte(2), two.share()?)? == Term::from(true));
     assert!(rt; set_subset(alloc, empty.share()?, s.share()?)? == Term::from(true));
