@@ -1,9 +1,9 @@
-use Rattle.std.proofs.Common.{◌≡◌, ℕ, Option, sym, subst}
+use Rattle.std.proofs.Common.{◌≡◌, ℕ, Option, sym, subst, ◌∙◌}
 use Rattle.std.specs.Prelude.{◌⊎◌, IfSome}
 use Rattle.smt_cli.specs.Run.{IsDone, IsFaultless, IsFaulty, IsNoJob}
 use Rattle.smt_cli.specs.declared.program.Command.{Command}
 use Rattle.smt_cli.specs.declared.program.Command.TheVariants.{Script}
-use Rattle.smt_cli.proofs.Running.{accepted, asked_twice, complete, never_done, never_faulty, refused}
+use Rattle.smt_cli.proofs.Running.{accepted, asked_twice, complete, due_to, has_fault, never_done, never_faulty, refused}
 use Rattle.smt_cli.proofs.program.run.Goals as goal
 
 pub returns-in-Ok-clause-complete : goal.returns-in-Ok-clause-complete
@@ -28,3 +28,7 @@ returns-in-Err-clause-faulty g c asked given taken =
 
 pub returns-in-Ok-clause-faulty : goal.returns-in-Ok-clause-faulty
 returns-in-Ok-clause-faulty g c asked given taken = never_faulty _ (g.R.Source.left c.args.source.now) (c.in-Ok.ensures.faultless asked)
+
+pub returns-in-Err-clause-fault : goal.returns-in-Err-clause-fault
+returns-in-Err-clause-fault g c four =
+    has_fault (g.R.Source.left c.args.source.now) c.in-Err.refusal (sym c.status.ensures ∙ four) (due_to _ c.in-Err.refusal _ _ _ _ _ _ c.in-Err.ensures.answers)
