@@ -116,10 +116,6 @@ abbrev pub behind : {A : Type 0} → List A → Option (List A) → Option (List
 behind done (Some rest) = Some (done ++ rest)
 behind done None = None
 
-behind_nothing : {A : Type 0} (o : Option (List A)) → o ≡ behind [] o
-behind_nothing (Some ts) = refl
-behind_nothing None = refl
-
 one_behind : {A : Type 0} (done : List A) (t : A) (o : Option (List A)) → behind done (o >>= λ ts. Some (t ∷ ts)) ≡ behind (done ++ t ∷ []) o
 one_behind done t (Some ts) = ap Some (sym (append_assoc done (t ∷ []) ts))
 one_behind done t None = refl
@@ -129,9 +125,6 @@ pub record Reading (of : Expression → Option PlainTerm) (done : List Term) (le
   pub written : List PlainTerm
   pub are_built : map plain_term done ≡ map built written
   pub whole : each_of of (listed all) ≡ behind written (each_of of (listed left))
-
-pub starts_reading : (of : Expression → Option PlainTerm) (done : List Term) (all : List SExpr) → done ≡ [] → Reading of done all all
-starts_reading of done all none = record { written = []; are_built = ap (map plain_term) none; whole = behind_nothing (each_of of (listed all)) }
 
 module _ (of : Expression → Option PlainTerm) (done : List Term) (all : List SExpr) (i : ℕ) (e : SExpr) (g : Reading of done (drop i all) all) (l : i < length all) (at : e ≡ get_or all i e) where
   this_one_of : each_of of (listed all) ≡ behind g.written (of (plain e) >>= λ t. each_of of (listed (drop (i + 1) all)) >>= λ ts. Some (t ∷ ts))
