@@ -2,123 +2,209 @@
 use super::{byte, truth};
 use crate::*;
 use smt_bits::EIGHT;
-use smt_term::{
-    OrdPattern, Pattern, PatternElem, Term, TermError, TermSet, TermType, TermVar, Text,
-};
+use smt_term::{OrdPattern, Pattern, PatternElem, Term, TermError, TermType, TermVar, Text};
 use std::alloc::Global;
 use std::test::Fail;
 
-// The set of these bytes.
-fn bytes(alloc: Global, numbers: &[u128]) -> Result<Term, TermError> {
-    let mut elements = Vec::new(alloc);
-    for number in numbers {
-        elements.push(byte(*number))?;
-    }
-    set_of(alloc, elements.as_slice(), TermType::Bitvec { n: EIGHT })
+// Whether this is what was folded.
+fn is(folded: Result<Term, TermError>, expected: Term) -> Result<bool, Fail> {
+    Ok(folded? == expected)
 }
 
-fn variable(alloc: Global, id: &str, ty: TermType) -> Result<Term, TermError> {
+// Whether what was folded stays a term of this type.
+fn stays(folded: Result<Term, TermError>, ty: TermType) -> Result<bool, Fail> {
+    Ok(folded?.has_type(&ty))
+}
+
+fn variable(alloc: Global, id: &str, ty: TermType) -> Result<Term, Fail> {
     Ok(Term::Var(TermVar {
         id: Text::from_str(alloc, id)?,
         ty,
     }))
 }
 
-#[test]
-fn strings_fold(rt: HostRuntime) -> Result<(), Fail> {
-    let alloc = rt.alloc();
+// The set of these bytes.
+fn bytes(alloc: Global, numbers: &[u128]) -> Result<Term, Fail> {
+    let mut elements = Vec::new(alloc);
+    for number in numbers {
+        elements.push(byte(*number))?;
+    }
+    Ok(set_of(alloc, elements.as_slice(), TermType::Bitvec { n: EIGHT })?)
+}
+
+fn type_of_bytes(alloc: Global) -> Result<TermType, Fail> {
+    Ok(TermType::set_of(alloc, TermType::Bitvec { n: EIGHT })?)
+}
+
+// A variable of sets of bytes, and one of options of truth values.
+fn some_set(alloc: Global) -> Result<Term, Fail> {
+    variable(alloc, "s", type_of_bytes(alloc)?)
+}
+
+fn option(alloc: Global) -> Result<Term, Fail> {
+    variable(alloc, "o", TermType::option_of(alloc, TermType::Bool)?)
+}
+
+// None of the options of truth values, and `some` of a variable.
+fn none() -> Term {
+    none_of(TermType::Bool)
+}
+
+fn some(alloc: Global, id: &str) -> Result<Term, Fail> {
+    Ok(some_of(alloc, truth(alloc, id)?)?)
+}
+
+// A text, matched with `a`, any text, and `z`.
+fn like(alloc: Global, t: Term) -> Result<Term, TermError> {
     let elems = [
         PatternElem::Char('a'),
         PatternElem::Wildcard,
         PatternElem::Char('z'),
     ];
-    let pattern = OrdPattern::from(Pattern::new(alloc, &elems)?);
-    let text = Term::from(Text::from_str(alloc, "abz")?);
-    assert!(rt; string_like(alloc, text, pattern.share()?)? == Term::from(true));
-    let other = Term::from(Text::from_str(alloc, "abzy")?);
-    assert!(rt; string_like(alloc, other, pattern.share()?)? == Term::from(false));
+    string_like(alloc, t, OrdPattern::from(Pattern::new(alloc, &elems)?))
+}
+
+fn text(alloc: Global, s: &str) -> Result<Term, Fail> {
+    Ok(Term::from(Text::from_str(alloc, s)?))
+}
+
+#[test]
+fn strings_fold(rt: HostRuntime) -> Result<(), Fail> {
+    let alloc = rt.alloc();
+    assert!(rt; is(like(alloc, text(alloc, "abz")?), Term::from(true))?);
+    assert!(rt; is(like(alloc, text(alloc, "abzy")?), Term::from(false))?);
     let y = variable(alloc, "y", TermType::String)?;
-    assert!(rt; string_like(alloc, y, pattern)?.has_type(&TermType::Bool));
+    assert!(rt; stays(like(alloc, y), TermType::Bool)?);
     Ok(())
 }
 
 #[test]
-fn sets_fold(rt: HostRuntime) -> Result<(), Fail> {
+fn sets_are_made(rt: HostRuntime) -> Result<(), Fail> {
+    let alloc = rt.alloc();
+    let Term::Set { elts, .. } = bytes(alloc, &[2, 1, 2])? else {
+        return Err(Fail::from("a set is made of its elements"));
+    };
+    assert!(rt; elts.items() == [byte(1), byte(2)].as_slice());
+    Ok(())
+}
+
+#[test]
+fn members_fold(rt: HostRuntime) -> Result<(), Fail> {
     let alloc = rt.alloc();
     let empty = bytes(alloc, &[])?;
-    let one = bytes(alloc, &[1])?;
-    let two = bytes(alloc, &[2, 1, 2])?;
-    let s = variable(
-        alloc,
-        "s",
-        TermType::set_of(alloc, TermType::Bitvec { n: EIGHT })?,
-    )?;
-    let elements = TermSet::new(alloc, &[byte(1), byte(2)])?;
-    assert!(rt;
-        two == Term::Set {
-            elts_ty: TermType::Bitvec { n: EIGHT },
-            elts: elements
-        }
-    );
-    assert!(rt; set_member(alloc, byte(1), empty.share()?)? == Term::from(false));
-    assert!(rt; set_member(alloc, byte(2), two.share()?)? == Term::from(true));
-    assert!(rt; set_subset(alloc, empty.share()?, s.share()?)? == Term::from(true));
-    assert!(rt; set_subset(alloc, two.share()?, one.share()?)? == Term::from(false));
-    assert!(rt; set_inter(alloc, one.share()?, two.share()?)? == one);
-    assert!(rt; set_inter(alloc, s.share()?, empty.share()?)? == empty);
-    assert!(rt; set_is_empty(alloc, empty.share()?)? == Term::from(true));
-    assert!(rt; set_is_empty(alloc, byte(1))? == Term::from(false));
-    let none_in_s = eq(alloc, s.share()?, empty)?;
-    assert!(rt; set_is_empty(alloc, s.share()?)? == none_in_s);
-    assert!(rt; set_intersects(alloc, one.share()?, one.share()?)? == Term::from(true));
-    let some_in_s = not(alloc, none_in_s)?;
-    assert!(rt; set_intersects(alloc, s.share()?, s.share()?)? == some_in_s);
-    assert!(rt; set_member(alloc, byte(1), s.share()?)?.has_type(&TermType::Bool));
-    assert!(rt; set_subset(alloc, s.share()?, one.share()?)?.has_type(&TermType::Bool));
-    assert!(rt; set_inter(alloc, s.share()?, one)?.has_type(&s.type_of(alloc)?));
+    assert!(rt; is(set_member(alloc, byte(1), empty), Term::from(false))?);
+    let two = bytes(alloc, &[2, 1])?;
+    assert!(rt; is(set_member(alloc, byte(2), two), Term::from(true))?);
+    let s = some_set(alloc)?;
+    assert!(rt; stays(set_member(alloc, byte(1), s), TermType::Bool)?);
     Ok(())
 }
 
 #[test]
-fn options_fold(rt: HostRuntime) -> Result<(), Fail> {
+fn subsets_fold(rt: HostRuntime) -> Result<(), Fail> {
     let alloc = rt.alloc();
-    let b = truth(alloc, "b")?;
+    let folded = set_subset(alloc, bytes(alloc, &[])?, some_set(alloc)?);
+    assert!(rt; is(folded, Term::from(true))?);
+    let folded = set_subset(alloc, bytes(alloc, &[1, 2])?, bytes(alloc, &[1])?);
+    assert!(rt; is(folded, Term::from(false))?);
+    let folded = set_subset(alloc, some_set(alloc)?, bytes(alloc, &[1])?);
+    assert!(rt; stays(folded, TermType::Bool)?);
+    Ok(())
+}
+
+#[test]
+fn intersections_fold(rt: HostRuntime) -> Result<(), Fail> {
+    let alloc = rt.alloc();
+    let folded = set_inter(alloc, bytes(alloc, &[1])?, bytes(alloc, &[1, 2])?);
+    assert!(rt; is(folded, bytes(alloc, &[1])?)?);
+    let folded = set_inter(alloc, some_set(alloc)?, bytes(alloc, &[])?);
+    assert!(rt; is(folded, bytes(alloc, &[])?)?);
+    let folded = set_inter(alloc, some_set(alloc)?, bytes(alloc, &[1])?);
+    assert!(rt; stays(folded, type_of_bytes(alloc)?)?);
+    let folded = set_intersects(alloc, bytes(alloc, &[1])?, bytes(alloc, &[1])?);
+    assert!(rt; is(folded, Term::from(true))?);
+    Ok(())
+}
+
+#[test]
+fn empty_sets_are_told(rt: HostRuntime) -> Result<(), Fail> {
+    let alloc = rt.alloc();
+    let empty = bytes(alloc, &[])?;
+    assert!(rt; is(set_is_empty(alloc, empty), Term::from(true))?);
+    assert!(rt; is(set_is_empty(alloc, byte(1)), Term::from(false))?);
+    let compared = eq(alloc, some_set(alloc)?, bytes(alloc, &[])?)?;
+    let s = some_set(alloc)?;
+    assert!(rt; is(set_is_empty(alloc, s), compared)?);
+    Ok(())
+}
+
+#[test]
+fn options_are_opened(rt: HostRuntime) -> Result<(), Fail> {
+    let alloc = rt.alloc();
+    let one = some_of(alloc, byte(1))?;
+    assert!(rt; is(option_get(alloc, one), byte(1))?);
+    let o = option(alloc)?;
+    assert!(rt; stays(option_get(alloc, o), TermType::Bool)?);
+    Ok(())
+}
+
+#[test]
+fn options_are_told(rt: HostRuntime) -> Result<(), Fail> {
+    let alloc = rt.alloc();
+    let some_b = some(alloc, "b")?;
+    assert!(rt; is(is_none(alloc, some_b), Term::from(false))?);
+    assert!(rt; is(is_none(alloc, none()), Term::from(true))?);
+    let some_b = some(alloc, "b")?;
+    assert!(rt; is(is_some(alloc, some_b), Term::from(true))?);
+    let compared = eq(alloc, option(alloc)?, none())?;
+    let o = option(alloc)?;
+    assert!(rt; is(is_none(alloc, o), compared)?);
+    Ok(())
+}
+
+#[test]
+fn choices_of_options_are_told(rt: HostRuntime) -> Result<(), Fail> {
+    let alloc = rt.alloc();
+    let if_c = if_true(alloc, truth(alloc, "c")?, truth(alloc, "b")?)?;
+    let not_c = not(alloc, truth(alloc, "c")?)?;
+    assert!(rt; is(is_none(alloc, if_c), not_c)?);
+    let unless_c = if_false(alloc, truth(alloc, "c")?, truth(alloc, "b")?)?;
     let c = truth(alloc, "c")?;
-    let none = none_of(TermType::Bool);
-    let some_b = some_of(alloc, b.share()?)?;
-    let o = variable(alloc, "o", TermType::option_of(alloc, TermType::Bool)?)?;
-    let o_is_none = eq(alloc, o.share()?, none.share()?)?;
-    assert!(rt; option_get(alloc, some_of(alloc, byte(1))?)? == byte(1));
-    assert!(rt; option_get(alloc, o.share()?)?.has_type(&TermType::Bool));
-    assert!(rt; is_none(alloc, some_b.share()?)? == Term::from(false));
-    assert!(rt; is_none(alloc, none.share()?)? == Term::from(true));
-    assert!(rt; is_none(alloc, o.share()?)? == o_is_none);
-    assert!(rt; is_some(alloc, some_b.share()?)? == Term::from(true));
-    let if_c = if_true(alloc, c.share()?, b.share()?)?;
-    assert!(rt; is_none(alloc, if_c)? == not(alloc, c.share()?)?);
-    let unless_c = if_false(alloc, c.share()?, b.share()?)?;
-    assert!(rt; is_none(alloc, unless_c)? == c);
-    assert!(rt; if_true(alloc, Term::from(true), b.share()?)? == some_b);
-    assert!(rt; if_false(alloc, Term::from(true), b.share()?)? == none);
-    assert!(rt; if_some(alloc, some_b.share()?, c.share()?)? == some_of(alloc, c)?);
-    assert!(rt; if_some(alloc, some_b.share()?, o.share()?)? == o);
-    assert!(rt; any_none(alloc, &[some_b.share()?])? == Term::from(false));
-    assert!(rt; any_none(alloc, &[some_b.share()?, o])? == o_is_none);
-    assert!(rt; if_all_some(alloc, &[], b.share()?)? == some_b);
-    assert!(rt; if_all_some(alloc, &[none.share()?], b)? == none);
+    assert!(rt; is(is_none(alloc, unless_c), c)?);
+    let folded = if_true(alloc, Term::from(true), truth(alloc, "b")?);
+    assert!(rt; is(folded, some(alloc, "b")?)?);
+    Ok(())
+}
+
+#[test]
+fn guarded_terms_fold(rt: HostRuntime) -> Result<(), Fail> {
+    let alloc = rt.alloc();
+    let folded = if_some(alloc, some(alloc, "b")?, truth(alloc, "c")?);
+    assert!(rt; is(folded, some(alloc, "c")?)?);
+    let folded = if_some(alloc, some(alloc, "b")?, option(alloc)?);
+    assert!(rt; is(folded, option(alloc)?)?);
+    let folded = if_all_some(alloc, &[], truth(alloc, "b")?);
+    assert!(rt; is(folded, some(alloc, "b")?)?);
+    let folded = if_all_some(alloc, &[none()], truth(alloc, "b")?);
+    assert!(rt; is(folded, none())?);
+    let folded = any_none(alloc, &[some(alloc, "b")?]);
+    assert!(rt; is(folded, Term::from(false))?);
     Ok(())
 }
 
 #[test]
 fn options_are_compared_and_chosen_inside(rt: HostRuntime) -> Result<(), Fail> {
     let alloc = rt.alloc();
-    let b = truth(alloc, "b")?;
-    let some_b = some_of(alloc, b.share()?)?;
-    let some_true = some_of(alloc, Term::from(true))?;
-    assert!(rt; eq(alloc, some_true.share()?, some_b.share()?)? == b);
-    assert!(rt; eq(alloc, none_of(TermType::Bool), some_b.share()?)? == Term::from(false));
-    assert!(rt; eq(alloc, some_b.share()?, none_of(TermType::Bool))? == Term::from(false));
-    let some_false = some_of(alloc, Term::from(false))?;
-    assert!(rt; ite(alloc, b, some_true, some_false)? == some_b);
+    let folded = eq(alloc, some_of(alloc, Term::from(true))?, some(alloc, "b")?);
+    assert!(rt; is(folded, truth(alloc, "b")?)?);
+    let folded = eq(alloc, none(), some(alloc, "b")?);
+    assert!(rt; is(folded, Term::from(false))?);
+    let folded = ite(
+        alloc,
+        truth(alloc, "b")?,
+        some_of(alloc, Term::from(true))?,
+        some_of(alloc, Term::from(false))?,
+    );
+    assert!(rt; is(folded, some(alloc, "b")?)?);
     Ok(())
 }

@@ -5,19 +5,22 @@ use std::alloc::Global;
 use std::rc::Rc;
 use std::test::Fail;
 
-/// The type that a word spells: `B`, `S`, a width, or `O` or `Z` before the type inside an option or a set.
+/// The type that a word spells: `B`, `S` or a width, behind an `O` or a `Z` for each option or set around it.
 fn type_named(alloc: Global, word: &str) -> Result<TermType, Fail> {
-    if let Some(inner) = word.strip_prefix('O') {
-        return Ok(TermType::option_of(alloc, type_named(alloc, inner)?)?);
-    }
-    if let Some(element) = word.strip_prefix('Z') {
-        return Ok(TermType::set_of(alloc, type_named(alloc, element)?)?);
-    }
-    Ok(match word {
+    let innermost = word.trim_start_matches(|c| c == 'O' || c == 'Z');
+    let mut ty = match innermost {
         "B" => TermType::Bool,
         "S" => TermType::String,
-        _ => type_of_width(word.parse()?),
-    })
+        _ => type_of_width(innermost.parse()?),
+    };
+    for c in word.chars().rev() {
+        ty = match c {
+            'O' => TermType::option_of(alloc, ty)?,
+            'Z' => TermType::set_of(alloc, ty)?,
+            _ => ty,
+        };
+    }
+    Ok(ty)
 }
 
 /// Terms of a type: a variable, and where it is that of options or sets, none, some and a set of a variable.
