@@ -11,6 +11,15 @@ use Rattle.smt_bits.specs.BitVectors.{is_negative, bits_of, bvneg, bvudiv, bvure
 use Rattle.smt_bits.specs.Laws.{SignedHasItsBits, BitsAreTakenIntoRange, DivisionRoundsTowardZero}
 use Rattle.smt_bits.proofs.BitRanges.{bits_of-below}
 
+-- the bits of a number that they hold
+pub bits_of-pos : (n a : ℕ) → a < 2 ^ n → bits_of n (pos a) ≡ a
+bits_of-pos n a h = mod-eq_of_lt h
+
+pub bits_of-negsuc : (n a : ℕ) → a < 2 ^ n → bits_of n (negsuc a) ≡ 2 ^ n - suc a
+bits_of-negsuc n a h =
+    let e : a % 2 ^ n ≡ a = mod-eq_of_lt h in
+    ap (λ x. 2 ^ n - 1 - x) e ∙ omega arith
+
 bits_at : (s : Bool) (n a : ℕ) → a < 2 ^ n → bits_of n (cond s (negsuc (2 ^ n - 1 - a)) (pos a)) ≡ a
 bits_at true n a h =
     let e : (2 ^ n - 1 - a) % 2 ^ n ≡ 2 ^ n - 1 - a = mod-eq_of_lt (omega arith) in
@@ -35,10 +44,8 @@ bits_of_negated n zero h =
     let e : 2 ^ n ≡ 2 ^ n - 0 = omega arith in
     zero-mod (2 ^ n) ∙ sym (mod_self (2 ^ n)) ∙ ap (λ x. x % 2 ^ n) e
 bits_of_negated n (suc q) h =
-    let small : q % 2 ^ n ≡ q = mod-eq_of_lt (omega arith) in
-    let same : 2 ^ n - 1 - q ≡ 2 ^ n - suc q = omega arith in
     let below : 2 ^ n - suc q < 2 ^ n = omega arith in
-    ap (λ x. 2 ^ n - 1 - x) small ∙ same ∙ sym (mod-eq_of_lt below)
+    bits_of-negsuc n q (omega arith) ∙ sym (mod-eq_of_lt below)
 
 absolute : (n a : ℕ) → a < 2 ^ n → suc (2 ^ n - 1 - a) ≡ 2 ^ n - a
 absolute n a h = omega arith

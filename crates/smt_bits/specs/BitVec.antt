@@ -1,5 +1,6 @@
 -- What contracts see of a bitvector: its width and its number.
 use Rattle.std.specs.Prelude.{◌≡◌, ◌≢◌, ℕ, ◌<◌}
+use Rattle.smt_bits.specs.BitVectors.{greatest_shift}
 use Rattle.smt_bits.specs.declared.bitvec.BitVec.{BitVec}
 use Rattle.smt_bits.specs.declared.error.BvCall.{BvCall}
 use Rattle.smt_bits.specs.declared.error.BitVecError.{BitVecError}
@@ -17,9 +18,9 @@ number_of b = b.number
 abbrev pub IsMismatch : BvCall → BitVec → BitVec → BitVecError → Type 0
 IsMismatch call lhs rhs e = (e ≡ MismatchedWidths call) × (width_of lhs ≢ width_of rhs)
 
--- a shift refuses: for its widths, and where they are equal for a number of places above 4294967295
+-- a shift refuses: for its widths, and where they are equal for a number of places above the greatest one
 abbrev pub RefusesShift : BvCall → BitVec → BitVec → BitVecError → Type 0
 RefusesShift call lhs rhs (MismatchedWidths named) = (named ≡ call) × (width_of lhs ≢ width_of rhs)
-RefusesShift call lhs rhs ShiftAmountTooLarge = (width_of lhs ≡ width_of rhs) × (4294967295 < number_of rhs)
+RefusesShift call lhs rhs ShiftAmountTooLarge = (width_of lhs ≡ width_of rhs) × (greatest_shift < number_of rhs)
 RefusesShift call lhs rhs ExtractOutOfBounds = ⊥
 RefusesShift call lhs rhs WidthTooLarge = ⊥

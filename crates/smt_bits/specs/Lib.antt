@@ -3,6 +3,7 @@ pub mod BitVectors
 pub mod Examples
 pub mod Fin
 pub mod Laws
+pub mod Longs
 pub mod Printed
 pub mod Width
 pub mod Widths

@@ -3,7 +3,7 @@ use Rattle.std.proofs.Common.{◌≡◌, ℕ, Bool, true, false, ◌&&◌, ◌||
 use Rattle.std.specs.Prelude.{not, codes, IsTrue}
 use Rattle.std.specs.List.{AllByRecursion, list_any}
 use Rattle.std.specs.Cmp.{first_so, second_so}
-use Rattle.std.proofs.lemmas.Bool.{and_from}
+use Rattle.std.proofs.lemmas.Bool.{and_from, and_parts}
 use Rattle.smt_term.specs.Plain.{PlainType, PlainFunction, ExtensionOp, IpAddrV4Op, IpAddrV6Op, IpPrefixV4Op, IpPrefixV6Op, PlainOp, ExtOp, OptionGetOp, UufOp, PlainTerm, Application, VariableTerm, Ipv4Of, Ipv6Of}
 use Rattle.smt_term.specs.Values.{Value, ExtensionValue}
 use Rattle.smt_semantics.specs.ScriptValues.{ScriptValue}
@@ -16,14 +16,14 @@ use Rattle.smt_term.specs.ValueOrder.{value_eq}
 use Rattle.smt_semantics.specs.Script.{name}
 use Rattle.smt_semantics.specs.Sorts.{Entries, has_sort_in, option_sort}
 use Rattle.smt_semantics.specs.Value as script
-use Rattle.smt_semantics.specs.Value.{is_key, are_pairs, is_table, is_other}
+use Rattle.smt_semantics.specs.Value.{is_key, are_pairs, is_table, is_other, are_others}
 use Rattle.smt_lines.specs.Lines.{Tables}
 use Rattle.smt_lines.specs.Naming.{IsOneToOne, sort_of}
 use Rattle.smt_carrying.specs.Carry.{carry, back}
 use Rattle.smt_carrying.specs.Order.{AreEnums}
 use Rattle.smt_carrying.specs.Operators.{carry_table, carry_selector, selector_name, selector_constructor}
 use Rattle.smt_carrying.specs.Sorts.{StandsAlways, IsDeclared}
-use Rattle.smt_carrying.specs.Interpretations.{ip_type, wrapped_type, carry_constant, carry_function, carry_inside, carry_interpretation, back_table, back_interpretation, variable_name, function_name, AreOthers, is_range_selector, IsScriptGivenOp, IsScriptGiven, GivesReachedNames, GiveOpSame, GiveNameSame, AgreeOnNames, IsOpNamed, IsTermNamed, Stands}
+use Rattle.smt_carrying.specs.Interpretations.{ip_type, wrapped_type, carry_constant, carry_function, carry_inside, carry_interpretation, back_table, back_interpretation, variable_name, function_name, is_range_selector, IsScriptGivenOp, IsScriptGiven, GivesReachedNames, GiveOpSame, GiveNameSame, AgreeOnNames, IsOpNamed, IsTermNamed, Stands}
 use Rattle.smt_carrying.proofs.Keys.{term_keyed, function_keyed, sort_shows}
 use Rattle.smt_carrying.proofs.Onto.{onto}
 use Rattle.smt_carrying.proofs.Onto as value
@@ -152,15 +152,15 @@ module _ (enums : Enums) (s : Tables) (here : Entries) (good : AreEnums enums) (
       option_is t d = ap (λ o. carry_inside enums s I (wrapped_type (name (codes "Option")) o)) (sort_shows enums s here unique.types t d.0 d.1)
 
       range_carried : (o : ExtensionOp) → is_range_selector o ≡ true → IsDeclared enums s here ip_type → IsSelectorTable enums I o
-          → IsTrue (is_table here (sort_of s ip_type) (sort_of s (extension_signature o).1) (carry_selector enums s I o)) × AreOthers (selector_constructor o) (carry_selector enums s I o).pairs
+          → IsTrue (is_table here (sort_of s ip_type) (sort_of s (extension_signature o).1) (carry_selector enums s I o)) × IsTrue (are_others (selector_constructor o) (carry_selector enums s I o).pairs)
       range_carried o r d g = (
         table_sorted ip_type (extension_signature o).1 d (answer_declared o r) (I.other_family o) (all_mapped (λ e. IsOfOtherFamily o e.0 × IsValue enums ip_type e.0) (λ e. IsValue enums ip_type e.0) (λ e p. p.1) (I.other_family o).entries g.keys) g.distinct g.answers g.elsewhere,
         others (I.other_family o).entries g.keys,
       )
         where
-          others : (es : List (Value × Value)) → AllByRecursion (λ e. IsOfOtherFamily o e.0 × IsValue enums ip_type e.0) es → AreOthers (selector_constructor o) (map (carry_pair enums s ip_type (extension_signature o).1) es)
-          others [] h = tt
-          others (e ∷ es) h = (other_to enums s o e.0 h.0.0, others es h.1)
+          others : (es : List (Value × Value)) → AllByRecursion (λ e. IsOfOtherFamily o e.0 × IsValue enums ip_type e.0) es → are_others (selector_constructor o) (map (carry_pair enums s ip_type (extension_signature o).1) es) ≡ true
+          others [] h = refl
+          others (e ∷ es) h = and_from (is_other (selector_constructor o) (carry enums s ip_type e.0)) (are_others (selector_constructor o) (map (carry_pair enums s ip_type (extension_signature o).1) es)) (other_to enums s o e.0 h.0.0) (others es h.1)
 
       op_carried : (op : PlainOp) (t : PlainType) → IsOpNamed enums s here op t → IsGivenOp enums I op t → IsScriptGivenOp s here (carry_interpretation enums s I) op t
       op_carried (UufOp f) t d g =
@@ -212,7 +212,7 @@ module _ (enums : Enums) (s : Tables) (here : Entries) (good : AreEnums enums) (
 
     module _ (J : script.ScriptInterpretation) where
       range_back : (o : ExtensionOp) → is_range_selector o ≡ true → IsDeclared enums s here ip_type
-          → IsTrue (is_table here (sort_of s ip_type) (sort_of s (extension_signature o).1) (J.selectors (selector_name o))) × AreOthers (selector_constructor o) (J.selectors (selector_name o)).pairs
+          → IsTrue (is_table here (sort_of s ip_type) (sort_of s (extension_signature o).1) (J.selectors (selector_name o))) × IsTrue (are_others (selector_constructor o) (J.selectors (selector_name o)).pairs)
           → IsSelectorTable enums (back_interpretation enums s J) o
       range_back o r d g =
           let b : Back ip_type (extension_signature o).1 d (answer_declared o r) (J.selectors (selector_name o)).pairs = table_pairs ip_type (extension_signature o).1 d (answer_declared o r) (J.selectors (selector_name o)) g.0 in
@@ -230,13 +230,14 @@ module _ (enums : Enums) (s : Tables) (here : Entries) (good : AreEnums enums) (
           rest_keys x y xs ys e = cc
 
           others : (ps : List (ScriptValue × ScriptValue)) → AllByRecursion (λ e. IsValue enums ip_type e.0) (map (back_pair enums ip_type (extension_signature o).1) ps)
-              → map (carry_pair enums s ip_type (extension_signature o).1) (map (back_pair enums ip_type (extension_signature o).1) ps) ≡ ps → AreOthers (selector_constructor o) ps
+              → map (carry_pair enums s ip_type (extension_signature o).1) (map (back_pair enums ip_type (extension_signature o).1) ps) ≡ ps → are_others (selector_constructor o) ps ≡ true
               → AllByRecursion (λ e. IsOfOtherFamily o e.0 × IsValue enums ip_type e.0) (map (back_pair enums ip_type (extension_signature o).1) ps)
           others [] h e a = tt
           others (p ∷ ps) h e a =
               let x : ScriptValue × ScriptValue = carry_pair enums s ip_type (extension_signature o).1 (back_pair enums ip_type (extension_signature o).1 p) in
               let xs : List (ScriptValue × ScriptValue) = map (carry_pair enums s ip_type (extension_signature o).1) (map (back_pair enums ip_type (extension_signature o).1) ps) in
-              ((other_from enums s o (back enums ip_type p.0) r h.0 (ap (is_other (selector_constructor o)) (first_key x p xs ps e) ∙ a.0), h.0), others ps h.1 (rest_keys x p xs ps e) a.1)
+              let q = and_parts (is_other (selector_constructor o) p.0) (are_others (selector_constructor o) ps) a in
+              ((other_from enums s o (back enums ip_type p.0) r h.0 (ap (is_other (selector_constructor o)) (first_key x p xs ps e) ∙ q.0), h.0), others ps h.1 (rest_keys x p xs ps e) q.1)
 
       op_back : (op : PlainOp) (t : PlainType) → IsOpNamed enums s here op t → IsScriptGivenOp s here J op t → IsGivenOp enums (back_interpretation enums s J) op t
       op_back (UufOp f) t d g =

@@ -3,6 +3,7 @@ use Rattle.std.proofs.Common.{◌≡◌, ℕ, Bool, true, false, cond, List, [],
 use Rattle.std.specs.Prelude.{bytes_eq, codes, Some, None, unwrap_or}
 use Rattle.std.specs.Map.{lookup}
 use Rattle.std.proofs.lemmas.Slice.Eq.{bytes_eq-Decides}
+use Rattle.std.specs.Option.{option_or}
 use mathlib.Core.Logic.{⊎_elim}
 use Rattle.smt_term.specs.Plain.{PlainType, OptionType, BitVecType, BoolType, EntityType, ExtensionType, StringType, RecordType, SetType, PlainFunction, PlainTerm}
 use Rattle.smt_term.specs.Types.{type_eq}
@@ -16,7 +17,7 @@ use Rattle.smt_lines.specs.Naming.{type_name, HasEntry, HasDistinctNames, sort_o
 use Rattle.smt_carrying.specs.Carry.{key_of}
 use Rattle.smt_term.proofs.TermTotal.{types_decided, functions_decided, terms_decided}
 use Rattle.smt_carrying.specs.Sorts.{IsNamed, IsDeclared}
-use Rattle.smt_carrying.specs.Interpretations.{either_type, wrapped_type, type_of_sort, HasNames}
+use Rattle.smt_carrying.specs.Interpretations.{wrapped_type, type_of_sort, HasNames}
 use Rattle.smt_semantics.specs.Growth.{Constructors}
 
 module _ {K : Type 0} (test : K → Bool) (k : K) (sound : (x : K) → test x ≡ true → k ≡ x) where
@@ -52,7 +53,7 @@ function_keyed s f n d h = key_found (function_eq f) f (λ x e. (functions_decid
 module _ (enums : Enums) (s : Tables) (here : Entries) (distinct : HasDistinctNames s.types) where
   own_name : (t : PlainType) (n : List ℕ) (cs : Constructors) → IsNamed here n cs → name_of_type s t ≡ Some n → type_of_sort s (name n) ≡ Some t
   own_name t n cs d h =
-      (λ i. either_type (cond (d.not_bool i) (Some BoolType) (cond (d.not_string i) (Some StringType) None)) (key_of s.types n))
+      (λ i. option_or (cond (d.not_bool i) (Some BoolType) (cond (d.not_string i) (Some StringType) None)) (key_of s.types n))
       ∙ key_found (type_eq t) t (λ x e. (types_decided t x).0 e) s.types n distinct h
 
   pub sort_shows : (t : PlainType) → IsDeclared enums s here t → HasNames s t → type_of_sort s (sort_of s t) ≡ Some t

@@ -1,12 +1,12 @@
 -- Values of a type's sort are carried values.
-use Rattle.std.proofs.Common.{◌≡◌, ℕ, zero, suc, ◌+◌, ◌-◌, ◌^◌, ◌<◌, ◌≤◌, Bool, true, false, cond, ◌&&◌, ◌||◌, length, List, [], ◌∷◌, map, refl, sym, ap, ◌∙◌, subst, arith, inl, inr}
+use Rattle.std.proofs.Common.{◌≡◌, ℕ, zero, suc, ◌+◌, ◌-◌, ◌*◌, ◌^◌, ◌<◌, ◌≤◌, Bool, true, false, cond, ◌&&◌, ◌||◌, length, List, [], ◌∷◌, map, refl, sym, ap, ◌∙◌, subst, arith, inl, inr}
 use Rattle.std.specs.Prelude.{◌⊎◌, codes, bytes_eq, nat_lt, ◌==◌, ℤ, pos, negsuc, Option, Some, None, IfSome, unwrap_or}
 use Rattle.std.specs.Str.{chars}
 use Rattle.std.specs.List.{AllByRecursion, list_all, list_any}
 use Rattle.std.specs.Cmp.{first_so, second_so}
 use Rattle.std.specs.Cmp.Derive.{both_true}
 use Rattle.std.specs.declared.cmp.Ordering.TheVariants.{Less, Equal}
-use Rattle.std.proofs.lemmas.Bool.{leb-true, ltb-true, ltb-false, eqb-true}
+use Rattle.std.proofs.lemmas.Bool.{leb-true, leb-false, ltb-true, eqb-true}
 use Rattle.std.proofs.lemmas.Slice.Eq.{bytes_eq-Decides}
 use Rattle.smt_term.specs.Plain.{ExtensionKind, IpAddrKind, DecimalKind, DatetimeKind, DurationKind, PlainType, OptionType, BitVecType, BoolType, EntityType, ExtensionType, StringType, RecordType, SetType, AttributeTypes, no_attributes, attribute, PlainExtension, DecimalOf, DatetimeOf, DurationOf}
 use Rattle.smt_term.specs.Values.{Value, EntityValue, Values, no_values, one_value}
@@ -14,7 +14,9 @@ use Rattle.smt_semantics.specs.ScriptValues.{ScriptValue, TruthOf, BitsOf, TextO
 use Rattle.smt_term.specs.TypeValues.{is_code_point, greatest_code_point, IsValue, AreFieldValues, IsExtension, IsId, IsLong, IsPrefix, AreCodePoints, Enums, members_of}
 use Rattle.smt_term.specs.ValueOrder.{list_of_values, text_cmp, value_cmp, ascends, is_below}
 use Rattle.smt_term.proofs.ValueOrder.{text_itself, bytes_itself}
+use Rattle.smt_bits.specs.BitVectors.{is_negative, bits_of, signed}
 use Rattle.smt_bits.specs.Widths.{is_width, are_bits}
+use Rattle.smt_bits.proofs.TwosComplement.{signed_has_its_bits}
 use Rattle.smt_sexpr.specs.Lexicon.{Name, Number}
 use Rattle.smt_semantics.specs.Order as script
 use Rattle.smt_semantics.specs.Order.{order}
@@ -24,7 +26,7 @@ use Rattle.smt_semantics.specs.Sorts.{Entries, string_sort, bit_sort, same_sort,
 use Rattle.smt_lines.specs.Entries.{sorts_of}
 use Rattle.smt_lines.specs.Lines.{Tables, place_of, member_name}
 use Rattle.smt_lines.specs.Naming.{type_name, sort_of}
-use Rattle.smt_carrying.specs.Carry.{alone, signed_bits, signed_of, text_at, carry_prefix, carry_extension, carry_entity, carry, carry_values, carry_fields, back_prefix, back_extension, back_entity, back, back_values, back_fields}
+use Rattle.smt_carrying.specs.Carry.{alone, text_at, carry_prefix, carry_extension, carry_entity, carry, carry_values, carry_fields, back_prefix, back_extension, back_entity, back, back_values, back_fields}
 use Rattle.smt_carrying.specs.Order.{AreMembers, AreEnums}
 use Rattle.smt_carrying.specs.Sorts.{member_constructors, entity_constructors, kind_constructors, option_constructors, IsNoDatatype, StandsAlways, IsNamed, IsDeclared, AreDeclared}
 use Rattle.std.specs.Ordering.{is_lt}
@@ -145,12 +147,12 @@ code_points (c ∷ s) h = (leb-true c greatest_code_point (first_so (is_code_poi
 below_width : (w a : ℕ) → are_bits w a ≡ true → a < 2 ^ w
 below_width w a h = ltb-true a (2 ^ w) (second_so (is_width w) (nat_lt a (2 ^ w)) h)
 
-long_of : (a : ℕ) → a < 2 ^ 64 → IsLong (signed_of a) × (signed_bits (signed_of a) ≡ BitsOf 64 a)
-long_of a h = by (nat_lt a (2 ^ 63)) refl
+signed_long : (a : ℕ) → a < 2 ^ 64 → IsLong (signed 64 a)
+signed_long a h = by (is_negative 64 a) refl
   where
-    by : (b : Bool) → nat_lt a (2 ^ 63) ≡ b → IsLong (cond b (pos a) (negsuc (2 ^ 64 - suc a))) × (signed_bits (cond b (pos a) (negsuc (2 ^ 64 - suc a))) ≡ BitsOf 64 a)
-    by true e = let l : a < 2 ^ 63 = ltb-true a (2 ^ 63) e in (record { sfits = omega arith }, refl)
-    by false e = let l : 2 ^ 63 ≤ a = ltb-false a (2 ^ 63) e in let q : 2 ^ 64 - suc (2 ^ 64 - suc a) ≡ a = omega arith in (record { sfits = omega arith }, ap (BitsOf 64) q)
+    by : (b : Bool) → is_negative 64 a ≡ b → IsLong (cond b (negsuc (2 ^ 64 - 1 - a)) (pos a))
+    by true e = let l : 2 ^ 64 ≤ 2 * a = leb-true (2 ^ 64) (2 * a) e in record { sfits = omega arith }
+    by false e = let l : 2 * a < 2 ^ 64 = leb-false (2 ^ 64) (2 * a) e in record { sfits = omega arith }
 
 -- ---- members by their places
 
@@ -277,15 +279,15 @@ module _ (here : Entries) (always : StandsAlways here) where
   Returns kind place c vs = IsExtension kind (back_extension kind place vs) × (carry_extension (back_extension kind place vs) ≡ ConstructorOf place c vs)
 
   long_returns : (kind : ExtensionKind) (build : ℤ → PlainExtension) (n : List ℕ) (place : ℕ) (c : List ℕ) (vs : ScriptValues)
-      → ((p a : ℕ) → back_extension kind p (alone (BitsOf 64 a)) ≡ build (signed_of a)) → ((z : ℤ) → IsLong z → IsExtension kind (build z)) → ((z : ℤ) → carry_extension (build z) ≡ ConstructorOf 0 n (alone (signed_bits z)))
+      → ((p a : ℕ) → back_extension kind p (alone (BitsOf 64 a)) ≡ build (signed 64 a)) → ((z : ℤ) → IsLong z → IsExtension kind (build z)) → ((z : ℤ) → carry_extension (build z) ≡ ConstructorOf 0 n (alone (BitsOf 64 (bits_of 64 z))))
       → Fielded here ((n, bit_sort 64 ∷ []) ∷ []) place c vs → Returns kind place c vs
   long_returns kind build n place c vs back_is good carry_is f =
       let o : (place ≡ 0) × (c ≡ n) × (f.fields ≡ bit_sort 64 ∷ []) = the_only n (bit_sort 64 ∷ []) place c f.fields f.stands in
       let a : (a : ℕ) × (vs ≡ alone (BitsOf 64 a)) × (a < 2 ^ 64) = alone_shown 64 vs (subst (λ fs. have_sorts_in here fs vs ≡ true) o.2 f.typed) in
-      let l : IsLong (signed_of a.0) × (signed_bits (signed_of a.0) ≡ BitsOf 64 a.0) = long_of a.0 a.2 in
+      let same : bits_of 64 (signed 64 a.0) ≡ a.0 = signed_has_its_bits 64 a.0 a.2 in
       subst (λ xs. Returns kind place c xs) (sym a.1) (
-        subst (λ x. IsExtension kind x) (sym (back_is place a.0)) (good (signed_of a.0) l.0),
-        ap carry_extension (back_is place a.0) ∙ (carry_is (signed_of a.0) ∙ λ i. ConstructorOf (sym o.0 i) (sym o.1 i) (alone (l.1 i))),
+        subst (λ x. IsExtension kind x) (sym (back_is place a.0)) (good (signed 64 a.0) (signed_long a.0 a.2)),
+        ap carry_extension (back_is place a.0) ∙ (carry_is (signed 64 a.0) ∙ λ i. ConstructorOf (sym o.0 i) (sym o.1 i) (alone (BitsOf 64 (same i)))),
       )
 
   ranges_return : (place : ℕ) (c : List ℕ) (vs : ScriptValues) → (f : Fielded here (kind_constructors IpAddrKind) place c vs) → Returns IpAddrKind place c vs

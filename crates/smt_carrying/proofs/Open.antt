@@ -5,18 +5,17 @@ use Rattle.std.specs.List.{AllByRecursion}
 use Rattle.std.proofs.lemmas.Bool.{and_from}
 use mathlib.Core.Logic.{⊎_elim}
 use Rattle.smt_term.specs.Plain.{PlainTerm, Application, VariableTerm, ExtensionOp, ExtOp, OptionGetOp, UufOp}
-use Rattle.smt_semantics.specs.ScriptValues.{ScriptValue}
 use Rattle.smt_term.specs.Reached.{reached_terms}
 use Rattle.smt_term.specs.Types.{extension_signature}
 use Rattle.smt_sexpr.specs.Reading.{Expression}
 use Rattle.smt_semantics.specs.Script.{Entry, Constant, Function, Selects, State, names_of}
 use Rattle.smt_semantics.specs.Sorts.{Entries, entries, has_sort_in}
 use Rattle.smt_semantics.specs.Value as script
-use Rattle.smt_semantics.specs.Value.{IsScriptInterpretation, AgreeFor, AgreeAt, AgreeOn, applied_selectors, is_table, is_other, are_others, is_entry_given, is_selector_given}
+use Rattle.smt_semantics.specs.Value.{IsScriptInterpretation, AgreeFor, AgreeAt, AgreeOn, applied_selectors, is_table, are_others, is_entry_given, is_selector_given}
 use Rattle.smt_lines.specs.Naming.{sort_of}
 use Rattle.smt_lines.specs.Lines.{Tables}
 use Rattle.smt_carrying.specs.Operators.{selector_name, selector_constructor}
-use Rattle.smt_carrying.specs.Interpretations.{ip_type, is_range_selector, IsGivenRange, GiveRangeSame, AreOthers, IsScriptGiven, GivesReachedNames, GiveNameSame, AgreeOnNames}
+use Rattle.smt_carrying.specs.Interpretations.{ip_type, is_range_selector, IsGivenRange, GiveRangeSame, IsScriptGiven, GivesReachedNames, GiveNameSame, AgreeOnNames}
 use Rattle.smt_carrying.specs.Open.{Occurs, IsOpenEntry, IsOpenSelection, GivenNamesInterpret, NamesAgree}
 use Rattle.std.proofs.lemmas.List.Elements.{All-from_recursion}
 
@@ -28,10 +27,6 @@ at_term P (u ∷ us) t h o = ⊎_elim (λ e. subst P e h.0) (λ q. at_term P us 
 pub every : {A : Type 0} (P Q : A → Type 0) → ((x : A) → P x → Q x) → (xs : List A) → AllByRecursion P xs → AllByRecursion Q xs
 every P Q f [] h = tt
 every P Q f (x ∷ xs) h = (f x h.0, every P Q f xs h.1)
-
-others_test : (c : List ℕ) (ps : List (ScriptValue × ScriptValue)) → AreOthers c ps → are_others c ps ≡ true
-others_test c [] h = refl
-others_test c (p ∷ ps) h = and_from (is_other c p.0) (are_others c ps) h.0 (others_test c ps h.1)
 
 range_given : (s : Tables) (here : Entries) (J : script.ScriptInterpretation) (o : ExtensionOp) (b : Bool) → is_range_selector o ≡ b → b ≡ true → IsGivenRange s here J o b → IsGivenRange s here J o true
 range_given s here J o true e f h = h
@@ -58,7 +53,7 @@ module _ (s : Tables) (ts : List PlainTerm) (state : State) where
         let g : IsGivenRange s (entries state) J v.selector true = range_given s (entries state) J v.selector (is_range_selector v.selector) refl v.ranges (given (Application (ExtOp v.selector) v.arguments v.type) v.reached) in
         (λ i. is_table (entries state) (v.argument_sorted i) (v.sorted i) (J.selectors (v.named i)) && are_others (v.constructs i) (J.selectors (v.named i)).pairs)
         ∙ and_from (is_table (entries state) (sort_of s ip_type) (sort_of s (extension_signature v.selector).1) (J.selectors (selector_name v.selector))) (are_others (selector_constructor v.selector) (J.selectors (selector_name v.selector)).pairs)
-        g.0 (others_test (selector_constructor v.selector) (J.selectors (selector_name v.selector)).pairs g.1)
+        g.0 g.1
     selector_given n sort (Selects d (p ∷ ps) c place field) v =
         (λ i. is_selector_given J (entries state) n (v.argument_sorted i) (Selects (v.datatype i) (v.parameters i) c place (v.sorted i))) ∙ given (Application OptionGetOp v.arguments v.type) v.reached
     selector_given n sort x v = refl

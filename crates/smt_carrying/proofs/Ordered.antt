@@ -9,6 +9,8 @@ use Rattle.std.specs.Ordering.{nat_cmp, ordering_then, ordering_reverse, is_eq, 
 use Rattle.std.specs.declared.cmp.Ordering.{Ordering}
 use Rattle.std.specs.declared.cmp.Ordering.TheVariants.{Less, Equal, Greater}
 use Rattle.std.proofs.lemmas.Cmp.{nat_cmp_total}
+use Rattle.smt_bits.specs.BitVectors.{bits_of}
+use Rattle.smt_bits.proofs.TwosComplement.{bits_of-pos, bits_of-negsuc}
 use Rattle.smt_term.specs.Plain.{ExtensionKind, IpAddrKind, DecimalKind, DatetimeKind, DurationKind, PlainType, OptionType, BitVecType, BoolType, EntityType, ExtensionType, StringType, RecordType, SetType, AttributeTypes, no_attributes, attribute, PlainExtension, DecimalOf, Ipv4Of, Ipv6Of, DatetimeOf, DurationOf}
 use Rattle.smt_term.specs.Values.{Value, BoolValue, BitVecValue, StringValue, EntityValue, ExtensionValue, NoneValue, SomeValue, RecordValue, SetValue, Values, no_values, one_value, FieldValues, no_field_values, one_field_value}
 use Rattle.smt_semantics.specs.ScriptValues.{ScriptValue, BitsOf, TextOf, ConstructorOf, ScriptValues, no_script_values, one_script_value}
@@ -25,7 +27,7 @@ use Rattle.smt_term.proofs.ValueOrder.{value_same}
 use Rattle.smt_semantics.specs.Order.{order, order_each, same}
 use Rattle.smt_lines.specs.Lines.{Tables, place_of, member_name}
 use Rattle.smt_lines.specs.Naming.{type_name}
-use Rattle.smt_carrying.specs.Carry.{alone, signed_bits, carry_prefix, carry_extension, carry_entity, carry, carry_values, carry_fields}
+use Rattle.smt_carrying.specs.Carry.{alone, carry_prefix, carry_extension, carry_entity, carry, carry_values, carry_fields}
 use Rattle.smt_carrying.specs.Order.{AreMembers, AreEnums}
 use Rattle.smt_carrying.proofs.Orderings.{then_none, nat_less}
 use Rattle.smt_carrying.proofs.Members.{members_found, ascends_chars, any_chars, places_ordered}
@@ -41,11 +43,23 @@ constructor_order place n xs ys = ap (λ o. ordering_then o (ordering_then (text
 
 -- ---- signed numbers
 
-signed_order : (x y : ℤ) → IsLong x → IsLong y → order (signed_bits x) (signed_bits y) ≡ twos_complement_cmp x y
-signed_order (pos a) (pos b) h k = refl
-signed_order (pos a) (negsuc b) h k = sym (nat_cmp_is a (2 ^ 64 - suc b) Less (omega arith))
-signed_order (negsuc a) (pos b) h k = sym (nat_cmp_is (2 ^ 64 - suc a) b Greater (omega arith))
-signed_order (negsuc a) (negsuc b) h k = by (nat_cmp b a) refl
+signed_order : (x y : ℤ) → IsLong x → IsLong y → order (BitsOf 64 (bits_of 64 x)) (BitsOf 64 (bits_of 64 y)) ≡ twos_complement_cmp x y
+signed_order (pos a) (pos b) h k =
+    let p = bits_of-pos 64 a (omega arith) in
+    let q = bits_of-pos 64 b (omega arith) in
+    λ i. nat_cmp (p i) (q i)
+signed_order (pos a) (negsuc b) h k =
+    let p = bits_of-pos 64 a (omega arith) in
+    let q = bits_of-negsuc 64 b (omega arith) in
+    (λ i. nat_cmp (p i) (q i)) ∙ sym (nat_cmp_is a (2 ^ 64 - suc b) Less (omega arith))
+signed_order (negsuc a) (pos b) h k =
+    let p = bits_of-negsuc 64 a (omega arith) in
+    let q = bits_of-pos 64 b (omega arith) in
+    (λ i. nat_cmp (p i) (q i)) ∙ sym (nat_cmp_is (2 ^ 64 - suc a) b Greater (omega arith))
+signed_order (negsuc a) (negsuc b) h k =
+    let p = bits_of-negsuc 64 a (omega arith) in
+    let q = bits_of-negsuc 64 b (omega arith) in
+    (λ i. nat_cmp (p i) (q i)) ∙ by (nat_cmp b a) refl
   where
     by : (o : Ordering) → nat_cmp b a ≡ o → nat_cmp (2 ^ 64 - suc a) (2 ^ 64 - suc b) ≡ o
     by Less e = let l : b < a = nat_less b a e in sym (nat_cmp_is (2 ^ 64 - suc a) (2 ^ 64 - suc b) Less (omega arith))
@@ -74,13 +88,13 @@ alone_order : (n : List ℕ) (v w : ScriptValue) (o : Ordering) → order v w �
 alone_order n v w o h = constructor_order 0 n (alone v) (alone w) ∙ (then_none (order v w) ∙ h)
 
 extension_order : (k : ExtensionKind) (x y : PlainExtension) → IsExtension k x → IsExtension k y → order (carry_extension x) (carry_extension y) ≡ extension_cmp x y
-extension_order DecimalKind (DecimalOf x) (DecimalOf y) h k = alone_order (codes "Decimal") (signed_bits x) (signed_bits y) (twos_complement_cmp x y) (signed_order x y h k)
+extension_order DecimalKind (DecimalOf x) (DecimalOf y) h k = alone_order (codes "Decimal") (BitsOf 64 (bits_of 64 x)) (BitsOf 64 (bits_of 64 y)) (twos_complement_cmp x y) (signed_order x y h k)
 extension_order DecimalKind (DecimalOf x) y h k = absurd k
 extension_order DecimalKind x y h k = absurd h
-extension_order DatetimeKind (DatetimeOf x) (DatetimeOf y) h k = alone_order (codes "Datetime") (signed_bits x) (signed_bits y) (twos_complement_cmp x y) (signed_order x y h k)
+extension_order DatetimeKind (DatetimeOf x) (DatetimeOf y) h k = alone_order (codes "Datetime") (BitsOf 64 (bits_of 64 x)) (BitsOf 64 (bits_of 64 y)) (twos_complement_cmp x y) (signed_order x y h k)
 extension_order DatetimeKind (DatetimeOf x) y h k = absurd k
 extension_order DatetimeKind x y h k = absurd h
-extension_order DurationKind (DurationOf x) (DurationOf y) h k = alone_order (codes "Duration") (signed_bits x) (signed_bits y) (twos_complement_cmp x y) (signed_order x y h k)
+extension_order DurationKind (DurationOf x) (DurationOf y) h k = alone_order (codes "Duration") (BitsOf 64 (bits_of 64 x)) (BitsOf 64 (bits_of 64 y)) (twos_complement_cmp x y) (signed_order x y h k)
 extension_order DurationKind (DurationOf x) y h k = absurd k
 extension_order DurationKind x y h k = absurd h
 extension_order IpAddrKind (Ipv4Of a p) (Ipv4Of b q) h k = address_order 0 32 5 (codes "V4") a b p q

@@ -1,19 +1,18 @@
 -- Tables, selectors and constructors give what is carried.
-use Rattle.std.proofs.Common.{◌≡◌, ℕ, suc, ◌-◌, ◌%◌, ◌^◌, ◌<◌, Bool, true, false, cond, List, [], ◌∷◌, map, refl, sym, ap, ◌∙◌, arith}
-use Rattle.std.specs.Prelude.{codes, bytes_eq, ℤ, pos, negsuc, Option, Some, None, unwrap_or}
+use Rattle.std.proofs.Common.{◌≡◌, ℕ, suc, Bool, true, false, cond, List, [], ◌∷◌, map, refl, sym, ap, ◌∙◌}
+use Rattle.std.specs.Prelude.{codes, bytes_eq, Option, Some, None, unwrap_or}
 use Rattle.std.specs.List.{AllByRecursion}
 use Rattle.std.specs.Ordering.{ordering_reverse, is_eq}
 use Rattle.std.specs.declared.cmp.Ordering.{Ordering}
 use Rattle.std.specs.declared.cmp.Ordering.TheVariants.{Less, Equal, Greater}
-use Rattle.std.proofs.Math.Nat.{mod-eq_of_lt}
 use Rattle.smt_term.specs.Plain.{IpAddrKind, DatetimeKind, DurationKind, PlainType, OptionType, BitVecType, BoolType, ExtensionType, RecordType, AttributeTypes, no_attributes, attribute, ExtensionOp, DatetimeOfBitVecOp, DatetimeValOp, DecimalValOp, DurationOfBitVecOp, DurationValOp, IpAddrV4Op, IpAddrV6Op, IpIsV4Op, IpPrefixV4Op, IpPrefixV6Op, DecimalOf, Ipv4Of, Ipv6Of, DatetimeOf, DurationOf}
 use Rattle.smt_term.specs.Values.{Value, BitVecValue, ExtensionValue, NoneValue, SomeValue, RecordValue, FieldValues, no_field_values, one_field_value}
 use Rattle.smt_semantics.specs.ScriptValues.{BitsOf, ConstructorOf, ScriptValues}
-use Rattle.smt_bits.specs.BitVectors.{signed, bits_of, is_negative}
+use Rattle.smt_bits.proofs.TwosComplement.{signed_has_its_bits}
 use Rattle.smt_term.specs.Operators.{field_value, attribute_value, value_inside, prefix_value, apply_extension}
 use Rattle.smt_term.specs.Tables.{Table, Interpretation, value_among, value_at}
 use Rattle.smt_term.specs.Types.{attribute_in, extension_signature}
-use Rattle.smt_term.specs.TypeValues.{IsValue, AreFieldValues, IsLong, Enums}
+use Rattle.smt_term.specs.TypeValues.{IsValue, AreFieldValues, Enums}
 use Rattle.smt_term.specs.ValueOrder.{value_eq, value_cmp}
 use Rattle.smt_term.proofs.ValueOrder.{value_turned}
 use Rattle.smt_term.specs.Formed.{attribute_names}
@@ -23,7 +22,7 @@ use Rattle.smt_semantics.specs.Value as script
 use Rattle.smt_semantics.specs.Value.{in_pairs, in_table, selected, is_built, other_value}
 use Rattle.smt_lines.specs.Lines.{Tables, place_of}
 use Rattle.smt_lines.specs.Naming.{type_name}
-use Rattle.smt_carrying.specs.Carry.{carry, carry_fields, carry_prefix, signed_bits, alone}
+use Rattle.smt_carrying.specs.Carry.{carry, carry_fields, carry_prefix, alone}
 use Rattle.smt_carrying.specs.Order.{AreEnums}
 use Rattle.smt_carrying.specs.Operators.{carry_table, selector_constructor, selector_place, is_selector, carry_selector, AreRanges, selector_name}
 use Rattle.smt_term.proofs.ValueOrder.{bytes_itself}
@@ -90,17 +89,6 @@ module _ (enums : Enums) (s : Tables) where
 
   -- ---- extension types
 
-  long_bits : (z : ℤ) → IsLong z → signed_bits z ≡ BitsOf 64 (bits_of 64 z)
-  long_bits (pos a) h = let l : a < 2 ^ 64 = omega arith in ap (BitsOf 64) (sym (mod-eq_of_lt l))
-  long_bits (negsuc a) h = let l : a < 2 ^ 64 = omega arith in let e : a % 2 ^ 64 ≡ a = mod-eq_of_lt l in let f : 2 ^ 64 - suc a ≡ 2 ^ 64 - 1 - a % 2 ^ 64 = omega arith in ap (BitsOf 64) f
-
-  pub bits_long : (a : ℕ) → a < 2 ^ 64 → signed_bits (signed 64 a) ≡ BitsOf 64 a
-  bits_long a h = by (is_negative 64 a) refl
-    where
-      by : (b : Bool) → is_negative 64 a ≡ b → signed_bits (cond b (negsuc (2 ^ 64 - 1 - a)) (pos a)) ≡ BitsOf 64 a
-      by true e = let p : 2 ^ 64 - suc (2 ^ 64 - 1 - a) ≡ a = omega arith in ap (BitsOf 64) p
-      by false e = refl
-
   prefix_carried : (n : ℕ) (p : Option ℕ) → carry_prefix n p ≡ carry enums s (OptionType (BitVecType n)) (prefix_value n p)
   prefix_carried n None = refl
   prefix_carried n (Some p) = refl
@@ -116,9 +104,9 @@ module _ (enums : Enums) (s : Tables) where
     extension_selected DatetimeOfBitVecOp sort v o h r e = cc
     extension_selected DurationOfBitVecOp sort v o h r e = cc
     extension_selected IpIsV4Op sort v o h r e = cc
-    extension_selected DecimalValOp sort (ExtensionValue (DecimalOf z)) o h r e = ap (λ x. Some x) (long_bits z h)
-    extension_selected DatetimeValOp sort (ExtensionValue (DatetimeOf z)) o h r e = ap (λ x. Some x) (long_bits z h)
-    extension_selected DurationValOp sort (ExtensionValue (DurationOf z)) o h r e = ap (λ x. Some x) (long_bits z h)
+    extension_selected DecimalValOp sort (ExtensionValue (DecimalOf z)) o h r e = refl
+    extension_selected DatetimeValOp sort (ExtensionValue (DatetimeOf z)) o h r e = refl
+    extension_selected DurationValOp sort (ExtensionValue (DurationOf z)) o h r e = refl
     extension_selected IpAddrV4Op sort (ExtensionValue (Ipv4Of a p)) o h r e = refl
     extension_selected IpAddrV4Op sort (ExtensionValue (Ipv6Of a p)) o h r e = other_read IpAddrV4Op (ExtensionValue (Ipv6Of a p)) h r e
     extension_selected IpAddrV6Op sort (ExtensionValue (Ipv6Of a p)) o h r e = refl
@@ -130,11 +118,11 @@ module _ (enums : Enums) (s : Tables) where
     extension_selected o sort v x h r e = absurd h
 
   pub datetime_built : (I : Interpretation) (v : Value) → IsValue enums (BitVecType 64) v → ConstructorOf 0 (codes "Datetime") (alone (carry enums s (BitVecType 64) v)) ≡ carry enums s (ExtensionType DatetimeKind) (apply_extension I DatetimeOfBitVecOp v)
-  datetime_built I (BitVecValue m a) h = ap (λ x. ConstructorOf 0 (codes "Datetime") (alone x)) (ap (λ x. BitsOf x a) h.0 ∙ sym (bits_long a h.1))
+  datetime_built I (BitVecValue m a) h = ap (λ x. ConstructorOf 0 (codes "Datetime") (alone x)) (ap (λ x. BitsOf x a) h.0 ∙ ap (BitsOf 64) (sym (signed_has_its_bits 64 a h.1)))
   datetime_built I v h = absurd h
 
   pub duration_built : (I : Interpretation) (v : Value) → IsValue enums (BitVecType 64) v → ConstructorOf 0 (codes "Duration") (alone (carry enums s (BitVecType 64) v)) ≡ carry enums s (ExtensionType DurationKind) (apply_extension I DurationOfBitVecOp v)
-  duration_built I (BitVecValue m a) h = ap (λ x. ConstructorOf 0 (codes "Duration") (alone x)) (ap (λ x. BitsOf x a) h.0 ∙ sym (bits_long a h.1))
+  duration_built I (BitVecValue m a) h = ap (λ x. ConstructorOf 0 (codes "Duration") (alone x)) (ap (λ x. BitsOf x a) h.0 ∙ ap (BitsOf 64) (sym (signed_has_its_bits 64 a h.1)))
   duration_built I v h = absurd h
 
   pub family_tested : (I : Interpretation) (v : Value) (d : List ℕ) (ps : List (List ℕ)) (place : ℕ) (fields : List Expression) → IsValue enums (ExtensionType IpAddrKind) v

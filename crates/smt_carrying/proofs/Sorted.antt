@@ -1,13 +1,15 @@
 -- Carried values have the sort of their type.
-use Rattle.std.proofs.Common.{◌≡◌, ℕ, suc, ◌+◌, ◌-◌, ◌^◌, ◌<◌, ◌≤◌, Bool, true, false, cond, ◌||◌, length, List, [], ◌∷◌, map, refl, sym, ap, ◌∙◌, subst, arith}
-use Rattle.std.specs.Prelude.{codes, bytes_eq, nat_le, nat_lt, ◌==◌, ℤ, pos, negsuc, Option, Some, None}
+use Rattle.std.proofs.Common.{◌≡◌, ℕ, suc, ◌+◌, ◌^◌, ◌<◌, ◌≤◌, Bool, true, false, cond, ◌||◌, length, List, [], ◌∷◌, map, refl, sym, ap, ◌∙◌, subst, arith}
+use Rattle.std.specs.Prelude.{codes, bytes_eq, nat_le, nat_lt, ◌==◌, ℤ, Option, Some, None}
 use Rattle.std.specs.Str.{chars}
 use Rattle.std.specs.List.{AllByRecursion, list_all, list_any}
 use Rattle.std.proofs.lemmas.Bool.{leb-false, ltb-false, eq-eqb, and_from}
+use Rattle.smt_bits.specs.BitVectors.{bits_of}
+use Rattle.smt_bits.proofs.BitRanges.{bits_of-below}
 use Rattle.smt_term.specs.Plain.{ExtensionKind, IpAddrKind, DecimalKind, DatetimeKind, DurationKind, PlainType, OptionType, BitVecType, BoolType, EntityType, ExtensionType, StringType, RecordType, SetType, AttributeTypes, no_attributes, attribute, PlainExtension, DecimalOf, Ipv4Of, Ipv6Of, DatetimeOf, DurationOf}
 use Rattle.smt_term.specs.Values.{Value, BoolValue, BitVecValue, StringValue, EntityValue, ExtensionValue, NoneValue, SomeValue, RecordValue, SetValue, Values, no_values, one_value, FieldValues, no_field_values, one_field_value}
 use Rattle.smt_semantics.specs.ScriptValues.{ScriptValue, BitsOf, TextOf, ConstructorOf, ScriptValues, no_script_values, one_script_value}
-use Rattle.smt_term.specs.TypeValues.{is_code_point, greatest_code_point, IsValue, AreFieldValues, IsExtension, IsId, IsLong, IsPrefix, AreCodePoints, Enums, members_of}
+use Rattle.smt_term.specs.TypeValues.{is_code_point, greatest_code_point, IsValue, AreFieldValues, IsExtension, IsId, IsPrefix, AreCodePoints, Enums, members_of}
 use Rattle.smt_term.specs.ValueOrder.{list_of_values}
 use Rattle.smt_bits.specs.Widths.{is_width, are_bits}
 use Rattle.smt_sexpr.specs.Lexicon.{Name}
@@ -18,7 +20,7 @@ use Rattle.smt_semantics.specs.Sorts.{Entries, string_sort, bit_sort, same_sort,
 use Rattle.smt_lines.specs.Entries.{sorts_of}
 use Rattle.smt_lines.specs.Lines.{Tables, place_of, member_name}
 use Rattle.smt_lines.specs.Naming.{type_name, sort_of}
-use Rattle.smt_carrying.specs.Carry.{alone, signed_bits, carry_prefix, carry_extension, carry_entity, carry, carry_values, carry_fields}
+use Rattle.smt_carrying.specs.Carry.{alone, carry_prefix, carry_extension, carry_entity, carry, carry_values, carry_fields}
 use Rattle.smt_carrying.specs.Order.{AreEnums}
 use Rattle.smt_carrying.specs.Sorts.{member_constructors, entity_constructors, kind_constructors, option_constructors, IsDatatype, StandsAlways, IsNamed, IsDeclared, AreDeclared}
 use Rattle.smt_carrying.proofs.Ordered.{stays_sorted}
@@ -124,12 +126,8 @@ module _ (here : Entries) where
     prefix_sorted width None h k l = none_sorted (bit_sort width)
     prefix_sorted width (Some p) h k l = some_sorted (bit_sort width) (BitsOf width p) (width_itself width p (bits_from width p h k l))
 
-    signed_sorted : (z : ℤ) → IsLong z → has_sort_in here (bit_sort 64) (signed_bits z) ≡ true
-    signed_sorted (pos a) h = width_itself 64 a (bits_from 64 a (omega arith) (omega arith) (omega arith))
-    signed_sorted (negsuc a) h = width_itself 64 (2 ^ 64 - suc a) (bits_from 64 (2 ^ 64 - suc a) (omega arith) (omega arith) (omega arith))
-
-    signed_alone : (z : ℤ) → IsLong z → have_sorts_in here (bit_sort 64 ∷ []) (alone (signed_bits z)) ≡ true
-    signed_alone z h = and_from (has_sort_in here (bit_sort 64) (signed_bits z)) true (signed_sorted z h) refl
+    long_sorted : (z : ℤ) → have_sorts_in here (bit_sort 64 ∷ []) (alone (BitsOf 64 (bits_of 64 z))) ≡ true
+    long_sorted z = and_from (has_sort_in here (bit_sort 64) (BitsOf 64 (bits_of 64 z))) true (width_itself 64 (bits_of 64 z) (bits_from 64 (bits_of 64 z) (omega arith) (omega arith) (bits_of-below 64 z))) refl
 
     address_sorted : (width bits a : ℕ) (p : Option ℕ) → 1 ≤ width → width ≤ 128 → 1 ≤ bits → bits ≤ 128 → a < 2 ^ width → IsPrefix bits p
         → have_sorts_in here (bit_sort width ∷ option_sort (bit_sort bits) ∷ []) (one_script_value (BitsOf width a) (alone (carry_prefix bits p))) ≡ true
@@ -138,9 +136,9 @@ module _ (here : Entries) where
         (and_from (has_sort_in here (option_sort (bit_sort bits)) (carry_prefix bits p)) true (prefix_sorted bits p b b' k) refl)
 
     extension_sorted : (kind : ExtensionKind) (n : List ℕ) (x : PlainExtension) → IsNamed here n (kind_constructors kind) → IsExtension kind x → has_sort_in here (name n) (carry_extension x) ≡ true
-    extension_sorted DecimalKind n (DecimalOf z) d h = built_named n (kind_constructors DecimalKind) 0 (codes "Decimal") (bit_sort 64 ∷ []) (alone (signed_bits z)) d refl (signed_alone z h)
-    extension_sorted DatetimeKind n (DatetimeOf z) d h = built_named n (kind_constructors DatetimeKind) 0 (codes "Datetime") (bit_sort 64 ∷ []) (alone (signed_bits z)) d refl (signed_alone z h)
-    extension_sorted DurationKind n (DurationOf z) d h = built_named n (kind_constructors DurationKind) 0 (codes "Duration") (bit_sort 64 ∷ []) (alone (signed_bits z)) d refl (signed_alone z h)
+    extension_sorted DecimalKind n (DecimalOf z) d h = built_named n (kind_constructors DecimalKind) 0 (codes "Decimal") (bit_sort 64 ∷ []) (alone (BitsOf 64 (bits_of 64 z))) d refl (long_sorted z)
+    extension_sorted DatetimeKind n (DatetimeOf z) d h = built_named n (kind_constructors DatetimeKind) 0 (codes "Datetime") (bit_sort 64 ∷ []) (alone (BitsOf 64 (bits_of 64 z))) d refl (long_sorted z)
+    extension_sorted DurationKind n (DurationOf z) d h = built_named n (kind_constructors DurationKind) 0 (codes "Duration") (bit_sort 64 ∷ []) (alone (BitsOf 64 (bits_of 64 z))) d refl (long_sorted z)
     extension_sorted IpAddrKind n (Ipv4Of a p) d h =
         built_named n (kind_constructors IpAddrKind) 0 (codes "V4") (bit_sort 32 ∷ option_sort (bit_sort 5) ∷ []) (one_script_value (BitsOf 32 a) (alone (carry_prefix 5 p))) d refl
         (address_sorted 32 5 a p (omega arith) (omega arith) (omega arith) (omega arith) h.0 h.1)

@@ -1,5 +1,6 @@
 -- Values of terms carried to values of a script, and back.
-use Rattle.std.specs.Prelude.{ℕ, zero, suc, ◌-◌, ◌^◌, ℤ, pos, negsuc, false, if◌then◌else◌, nat_lt, bytes_eq, codes, chars, map, List, [], ◌∷◌, Option, Some, None}
+use Rattle.std.specs.Prelude.{ℕ, zero, suc, pos, false, if◌then◌else◌, bytes_eq, codes, chars, map, List, [], ◌∷◌, Option, Some, None}
+use Rattle.smt_bits.specs.BitVectors.{bits_of, signed}
 use Rattle.smt_term.specs.Plain.{ExtensionKind, IpAddrKind, DecimalKind, DatetimeKind, DurationKind, PlainType, OptionType, BitVecType, BoolType, EntityType, ExtensionType, StringType, RecordType, SetType, AttributeTypes, attribute, PlainExtension, DecimalOf, Ipv4Of, Ipv6Of, DatetimeOf, DurationOf}
 use Rattle.smt_term.specs.Values.{Value, BoolValue, BitVecValue, StringValue, EntityValue, ExtensionValue, NoneValue, SomeValue, RecordValue, SetValue, Values, no_values, one_value, FieldValues, no_field_values, one_field_value}
 use Rattle.smt_term.specs.TypeValues.{Enums, members_of}
@@ -30,20 +31,16 @@ none_carried = ConstructorOf 0 (codes "none") no_script_values
 abbrev pub some_carried : ScriptValue → ScriptValue
 some_carried v = ConstructorOf 1 (codes "some") (alone v)
 
-abbrev pub signed_bits : ℤ → ScriptValue
-signed_bits (pos n) = BitsOf 64 n
-signed_bits (negsuc n) = BitsOf 64 (2 ^ 64 - suc n)
-
 abbrev pub carry_prefix : (width : ℕ) → Option ℕ → ScriptValue
 carry_prefix width None = none_carried
 carry_prefix width (Some p) = some_carried (BitsOf width p)
 
 abbrev pub carry_extension : PlainExtension → ScriptValue
-carry_extension (DecimalOf x) = ConstructorOf 0 (codes "Decimal") (alone (signed_bits x))
+carry_extension (DecimalOf x) = ConstructorOf 0 (codes "Decimal") (alone (BitsOf 64 (bits_of 64 x)))
 carry_extension (Ipv4Of a p) = ConstructorOf 0 (codes "V4") (one_script_value (BitsOf 32 a) (alone (carry_prefix 5 p)))
 carry_extension (Ipv6Of a p) = ConstructorOf 1 (codes "V6") (one_script_value (BitsOf 128 a) (alone (carry_prefix 7 p)))
-carry_extension (DatetimeOf x) = ConstructorOf 0 (codes "Datetime") (alone (signed_bits x))
-carry_extension (DurationOf x) = ConstructorOf 0 (codes "Duration") (alone (signed_bits x))
+carry_extension (DatetimeOf x) = ConstructorOf 0 (codes "Datetime") (alone (BitsOf 64 (bits_of 64 x)))
+carry_extension (DurationOf x) = ConstructorOf 0 (codes "Duration") (alone (BitsOf 64 (bits_of 64 x)))
 
 -- an entity, whose id is a list of characters
 abbrev pub carry_entity : (members : Option (List (List ℕ))) → (sort id : List ℕ) → ScriptValue
@@ -76,9 +73,6 @@ abbrev mutual
 
 -- ---- the way back
 
-abbrev pub signed_of : (number : ℕ) → ℤ
-signed_of n = if nat_lt n (2 ^ 63) then pos n else negsuc (2 ^ 64 - suc n)
-
 abbrev pub back_prefix : ScriptValue → Option ℕ
 back_prefix (ConstructorOf place n (one_script_value (BitsOf width number) vs)) = Some number
 back_prefix v = None
@@ -89,9 +83,9 @@ back_address (suc place) a p = Ipv6Of a p
 
 abbrev pub back_extension : ExtensionKind → (place : ℕ) → ScriptValues → PlainExtension
 back_extension IpAddrKind place (one_script_value (BitsOf width a) (one_script_value v vs)) = back_address place a (back_prefix v)
-back_extension DecimalKind place (one_script_value (BitsOf width n) vs) = DecimalOf (signed_of n)
-back_extension DatetimeKind place (one_script_value (BitsOf width n) vs) = DatetimeOf (signed_of n)
-back_extension DurationKind place (one_script_value (BitsOf width n) vs) = DurationOf (signed_of n)
+back_extension DecimalKind place (one_script_value (BitsOf width n) vs) = DecimalOf (signed 64 n)
+back_extension DatetimeKind place (one_script_value (BitsOf width n) vs) = DatetimeOf (signed 64 n)
+back_extension DurationKind place (one_script_value (BitsOf width n) vs) = DurationOf (signed 64 n)
 back_extension kind place vs = DecimalOf (pos 0)
 
 -- the text at a place

@@ -1,10 +1,11 @@
 -- Interpretations of terms carried to interpretations of a script, and back.
 use Rattle.std.specs.Prelude.{◌≡◌, ℕ, Bool, true, false, ◌&&◌, bytes_eq, codes, if◌then◌else◌, map, List, [], Option, Some, None, IsTrue, ⊤}
 use Rattle.std.specs.List.{AllByRecursion}
+use Rattle.std.specs.Option.{is_some, option_or}
 use Rattle.smt_term.specs.Plain.{IpAddrKind, PlainType, OptionType, BitVecType, BoolType, EntityType, ExtensionType, StringType, RecordType, SetType, PlainFunction, ExtensionOp, IpAddrV4Op, IpAddrV6Op, IpPrefixV4Op, IpPrefixV6Op, PlainOp, ExtOp, OptionGetOp, UufOp, PlainTerm, Application, VariableTerm}
 use Rattle.smt_semantics.specs.ScriptValues.{ScriptValue}
 use Rattle.smt_term.specs.Interpretations.{IsInterpretation, Agree}
-use Rattle.smt_term.specs.Reached.{reached_terms}
+use Rattle.smt_term.specs.Reached.{reached_terms, selector_of_extension}
 use Rattle.smt_term.specs.Tables.{Table, Interpretation}
 use Rattle.smt_term.specs.Types.{extension_signature}
 use Rattle.smt_term.specs.TypeValues.{Enums}
@@ -12,7 +13,7 @@ use Rattle.smt_sexpr.specs.Lexicon.{Name, Number}
 use Rattle.smt_sexpr.specs.Reading.{Expression, Leaf, Node, Nil, Cons}
 use Rattle.smt_semantics.specs.Sorts.{Entries, has_sort_in, option_sort}
 use Rattle.smt_semantics.specs.Value as script
-use Rattle.smt_semantics.specs.Value.{is_table, is_other}
+use Rattle.smt_semantics.specs.Value.{is_table, are_others}
 use Rattle.smt_lines.specs.Lines.{Tables, name_of_term, name_of_function, text_of_name}
 use Rattle.smt_lines.specs.Naming.{type_name, IsOneToOne, sort_of}
 use Rattle.smt_carrying.specs.Carry.{key_of, carry, back, nothing_carried}
@@ -25,10 +26,6 @@ abbrev pub ip_type : PlainType
 ip_type = ExtensionType IpAddrKind
 
 -- ---- the type whose sort an expression is
-
-abbrev pub either_type : Option PlainType → Option PlainType → Option PlainType
-either_type (Some t) u = Some t
-either_type None u = u
 
 abbrev pub built_in_type : List ℕ → Option PlainType
 built_in_type n = if bytes_eq n (codes "Bool") then Some BoolType else (if bytes_eq n (codes "String") then Some StringType else None)
@@ -43,7 +40,7 @@ width_type (Leaf (Name a)) (Leaf (Name b)) (Leaf (Number n)) = if bytes_eq a (co
 width_type a b c = None
 
 abbrev pub type_of_sort : Tables → Expression → Option PlainType
-type_of_sort s (Leaf (Name n)) = either_type (built_in_type n) (key_of s.types n)
+type_of_sort s (Leaf (Name n)) = option_or (built_in_type n) (key_of s.types n)
 type_of_sort s (Node (Cons head (Cons e Nil))) = wrapped_type head (type_of_sort s e)
 type_of_sort s (Node (Cons a (Cons b (Cons c Nil)))) = width_type a b c
 type_of_sort s e = None
@@ -105,20 +102,13 @@ back_interpretation enums s J = record {
 
 -- ---- what the terms reach, by name
 
--- the keys are of another constructor
-abbrev pub AreOthers : List ℕ → List (ScriptValue × ScriptValue) → Type 0
-AreOthers c ps = AllByRecursion (λ p. IsTrue (is_other c p.0)) ps
-
+-- one of the selectors of IP ranges, which an interpretation answers for the other family
 abbrev pub is_range_selector : ExtensionOp → Bool
-is_range_selector IpAddrV4Op = true
-is_range_selector IpAddrV6Op = true
-is_range_selector IpPrefixV4Op = true
-is_range_selector IpPrefixV6Op = true
-is_range_selector o = false
+is_range_selector o = is_some (selector_of_extension o)
 
 -- J gives a selector a table of its sorts, for values of the other constructor.
 abbrev pub IsGivenRange : Tables → Entries → script.ScriptInterpretation → ExtensionOp → Bool → Type 0
-IsGivenRange s here J o true = IsTrue (is_table here (sort_of s ip_type) (sort_of s (extension_signature o).1) (J.selectors (selector_name o))) × AreOthers (selector_constructor o) (J.selectors (selector_name o)).pairs
+IsGivenRange s here J o true = IsTrue (is_table here (sort_of s ip_type) (sort_of s (extension_signature o).1) (J.selectors (selector_name o))) × IsTrue (are_others (selector_constructor o) (J.selectors (selector_name o)).pairs)
 IsGivenRange s here J o false = ⊤
 
 abbrev pub IsScriptGivenOp : Tables → Entries → script.ScriptInterpretation → PlainOp → PlainType → Type 0

@@ -8,7 +8,8 @@ use Rattle.smt_term.specs.Meaning.{term_value}
 use Rattle.smt_term.specs.Plain.{PlainType, ExtensionType, BoolType, IpAddrKind, ExtensionOp, IpAddrV4Op, IpAddrV6Op, IpPrefixV4Op, IpPrefixV6Op, PlainOp, ExtOp, OptionGetOp, UufOp, PlainTerm, Application, VariableTerm}
 use Rattle.smt_term.specs.Reached.{reached_terms}
 use Rattle.smt_term.specs.Tables.{Interpretation, Table}
-use Rattle.smt_term.specs.Types.{Typed, typed, extension_signature}
+use Rattle.smt_term.specs.Types.{extension_signature}
+use Rattle.smt_term.specs.Typing.{Typed, typed}
 use Rattle.smt_term.specs.TypeValues.{Enums, IsValue}
 use Rattle.smt_term.proofs.Agreement.{restricted, same_values}
 use Rattle.smt_term.specs.Values.{Value}

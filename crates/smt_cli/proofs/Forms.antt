@@ -3,9 +3,11 @@ use Rattle.std.proofs.Common.{◌≡◌, ℕ, ◌-◌, ◌<◌, Bool, true, fals
 use Rattle.std.specs.List.{AllByRecursion}
 use Rattle.std.proofs.lemmas.List.{take_all}
 use Rattle.std.specs.Prelude.{IfSome, IsErrAnd, IsTrue, if◌then◌else◌, is_some}
+use Rattle.smt_semantics.specs.Script.{◌>>=◌}
 use Rattle.smt_term.specs.Formed.{IsFormed}
-use Rattle.smt_term.specs.Plain.{PlainType, BitVecType, BoolType, PlainOp, NotOp, PlainTerm, Application, terms}
-use Rattle.smt_term.specs.Types.{result_type, type_eq, type_of, typed}
+use Rattle.smt_term.specs.Plain.{PlainType, BoolType, PlainOp, NotOp, PlainTerm, Application, terms}
+use Rattle.smt_term.specs.Types.{result_type, type_eq, type_of}
+use Rattle.smt_term.specs.Typing.{typed}
 use Rattle.smt_term.specs.View.{plain_term, plain_term-Var}
 use Rattle.smt_term.specs.declared.term.Term.{Term, Var}
 use Rattle.smt_term.specs.declared.term.TermVar.{TermVar}
@@ -16,7 +18,7 @@ use Rattle.smt_factory.proofs.Standing.{same_type}
 use Rattle.smt_sexpr.specs.Reading.{Expression, Expressions, Node}
 use Rattle.smt_sexpr.specs.View.{plain}
 use Rattle.smt_sexpr.specs.declared.expression.SExpr.{SExpr}
-use Rattle.smt_cli.specs.Job.{Variables, ◌>>=◌, applied, condition_of, headed_term, name_in, operator_named, other_terms, term_of, terms_of, variable_stated}
+use Rattle.smt_cli.specs.Job.{Variables, applied, condition_of, headed_term, name_in, operator_named, other_terms, term_of, terms_of, variable_stated}
 use Rattle.smt_cli.specs.JobView.{AreBuilt, Declares, Gives, HasForm, headed, listed, plain_declaration}
 use Rattle.smt_cli.specs.declared.declaration.Declared.{Declared}
 use Rattle.smt_cli.specs.declared.job.JobError.{JobError}
@@ -129,11 +131,11 @@ module _ (vs : Variables) (formed : AreFormed vs) (e : Expression) (term : Plain
       let sound = found_sound (term_of vs e) found.stated (term_sound vs formed e) found.is_stated in
       ap type_of found.is_built ∙ (same_type (built found.stated) found.stated (built_stands found.stated sound.is_typed) sound.is_typed).1
 
-  pub is_condition : type_of term ≡ BoolType → option_map built (condition_of vs e) ≡ Some term
-  is_condition h = ap (option_map built) (chosen_type (term_of vs e) found.stated true found.is_stated (ap (λ t. type_eq t BoolType) (sym same ∙ h))) ∙ ap Some (sym found.is_built)
+  pub is_condition : type_eq (type_of term) BoolType ≡ true → option_map built (condition_of vs e) ≡ Some term
+  is_condition h = ap (option_map built) (chosen_type (term_of vs e) found.stated true found.is_stated (ap (λ t. type_eq t BoolType) (sym same) ∙ h)) ∙ ap Some (sym found.is_built)
 
-  pub no_condition : (n : ℕ) → type_of term ≡ BitVecType n → option_map built (condition_of vs e) ≡ None
-  no_condition n h = ap (option_map built) (chosen_type (term_of vs e) found.stated false found.is_stated (ap (λ t. type_eq t BoolType) (sym same ∙ h)))
+  pub no_condition : type_eq (type_of term) BoolType ≡ false → option_map built (condition_of vs e) ≡ None
+  no_condition h = ap (option_map built) (chosen_type (term_of vs e) found.stated false found.is_stated (ap (λ t. type_eq t BoolType) (sym same) ∙ h))
 
 -- ---- applications that are read
 

@@ -4,6 +4,7 @@ use Rattle.std.specs.Prelude.{IsErrAnd, IsErrOf}
 use Rattle.std.proofs.lemmas.Bool.{cases_Bool}
 use Rattle.std.proofs.lemmas.List.{at_drop_more, at_drop_all, map-append}
 use Rattle.std.proofs.lemmas.Slice.Eq.{bytes_eq-Decides}
+use Rattle.smt_semantics.specs.Script.{◌>>=◌}
 use Rattle.smt_factory.specs.Built.{built}
 use Rattle.smt_term.specs.Plain.{PlainTerm, PlainType}
 use Rattle.smt_term.specs.View.{plain_term}
@@ -11,7 +12,7 @@ use Rattle.smt_term.specs.declared.term.Term.{Term}
 use Rattle.smt_sexpr.specs.Reading.{Expression, Expressions, Nil, Cons}
 use Rattle.smt_sexpr.specs.View.{plain}
 use Rattle.smt_sexpr.specs.declared.expression.SExpr.{SExpr}
-use Rattle.smt_cli.specs.Job.{Variables, ◌>>=◌, condition_of, conditions_of, declared_by, term_of, terms_of, variable_of}
+use Rattle.smt_cli.specs.Job.{Variables, condition_of, conditions_of, declared_by, term_of, terms_of, variable_of}
 use Rattle.smt_cli.specs.JobView.{Declares, DeclaresNext, Gives, declarations, listed}
 use Rattle.smt_cli.specs.declared.declaration.Declared.{Declared}
 use Rattle.smt_cli.specs.declared.job.JobError.{JobError}
@@ -115,10 +116,6 @@ abbrev pub behind : {A : Type 0} → List A → Option (List A) → Option (List
 behind done (Some rest) = Some (done ++ rest)
 behind done None = None
 
-behind_nothing : {A : Type 0} (o : Option (List A)) → o ≡ behind [] o
-behind_nothing (Some ts) = refl
-behind_nothing None = refl
-
 one_behind : {A : Type 0} (done : List A) (t : A) (o : Option (List A)) → behind done (o >>= λ ts. Some (t ∷ ts)) ≡ behind (done ++ t ∷ []) o
 one_behind done t (Some ts) = ap Some (sym (append_assoc done (t ∷ []) ts))
 one_behind done t None = refl
@@ -128,9 +125,6 @@ pub record Reading (of : Expression → Option PlainTerm) (done : List Term) (le
   pub written : List PlainTerm
   pub are_built : map plain_term done ≡ map built written
   pub whole : each_of of (listed all) ≡ behind written (each_of of (listed left))
-
-pub starts_reading : (of : Expression → Option PlainTerm) (done : List Term) (all : List SExpr) → done ≡ [] → Reading of done all all
-starts_reading of done all none = record { written = []; are_built = ap (map plain_term) none; whole = behind_nothing (each_of of (listed all)) }
 
 module _ (of : Expression → Option PlainTerm) (done : List Term) (all : List SExpr) (i : ℕ) (e : SExpr) (g : Reading of done (drop i all) all) (l : i < length all) (at : e ≡ get_or all i e) where
   this_one_of : each_of of (listed all) ≡ behind g.written (of (plain e) >>= λ t. each_of of (listed (drop (i + 1) all)) >>= λ ts. Some (t ∷ ts))

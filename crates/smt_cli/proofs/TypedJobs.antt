@@ -6,20 +6,23 @@ use Rattle.std.specs.Map.{lookup}
 use Rattle.std.specs.Ordering.{is_eq}
 use Rattle.std.specs.Prelude.{if◌then◌else◌, nat_le, nat_lt, IfSome}
 use Rattle.std.proofs.lemmas.Bool.{and_parts, leb-true, ltb-true}
+use Rattle.smt_semantics.specs.Script.{◌>>=◌}
 use Rattle.smt_bits.specs.BitVectors.{bits_of}
 use Rattle.smt_bits.specs.Widths.{are_bits, is_width}
 use Rattle.smt_bits.proofs.BitRanges as ranges
 use Rattle.smt_term.specs.Formed.{IsFormed, IsFormedNode, IsFormedType}
 use Rattle.smt_term.specs.Plain.{PlainType, BitVecType, BoolType, PlainOp, AndOp, BvaddOp, BvlshrOp, BvmulOp, BvnegOp, BvnegoOp, BvsaddoOp, BvsdivOp, BvshlOp, BvsleOp, BvsltOp, BvsmodOp, BvsmuloOp, BvsremOp, BvssuboOp, BvsubOp, BvudivOp, BvuleOp, BvultOp, BvuremOp, EqOp, IteOp, NotOp, OrOp, ZeroExtendOp, BitVecLiteral, PlainTerm, Application, LiteralTerm, VariableTerm, terms}
 use Rattle.smt_term.specs.Reached.{subterms, subterms_of_all}
-use Rattle.smt_term.specs.Types.{Typed, extended_type, result_type, type_eq, type_of, types_of, typed, typed_all}
+use Rattle.smt_term.specs.Types.{extended_type, result_type, type_eq, type_of, types_of}
+use Rattle.smt_term.specs.Typing.{Typed, typed, typed_all}
 use Rattle.smt_term.proofs.Defaults.{all-join}
 use Rattle.smt_term.proofs.Soundness.{chosen}
 use Rattle.smt_term.proofs.TypeOrder.{eq_same, type_itself}
 use Rattle.smt_term.proofs.TypedArguments.{listed}
 use Rattle.smt_factory.proofs.Standing.{last_type}
+use Rattle.smt_factory.specs.Applications.{truth_literal}
 use Rattle.smt_sexpr.specs.Reading.{Expression, Leaf, Node, Expressions, Nil, Cons}
-use Rattle.smt_cli.specs.Job.{IsJob, PlainJob, Variables, ◌>>=◌, applied, bits_literal, bits_stated, bits_type, condition_of, conditions_of, declared_by, declared_variable, empty_section, extension_by, extension_stated, first_in, headed_term, job_of_sections, literal_of, long_in, long_of_text, name_in, named_operators, number_in, operator_named, other_terms, section, sole, term_of, terms_of, text_in, truth, type_declared, type_named, type_of_expression, unless_declared, variable_of}
+use Rattle.smt_cli.specs.Job.{IsJob, PlainJob, Variables, applied, bits_literal, bits_stated, bits_type, condition_of, conditions_of, declared_by, declared_variable, empty_section, extension_by, extension_stated, first_in, headed_term, job_of_sections, literal_of, long_in, long_of_text, name_in, named_operators, number_in, operator_named, other_terms, section, sole, term_of, terms_of, text_in, type_declared, type_named, type_of_expression, unless_declared, variable_of}
 
 -- ---- what there is of something optional
 
@@ -107,7 +110,7 @@ pub record IsSound (t : PlainTerm) : Type 0 where
 abbrev pub AreSound : List PlainTerm → Type 0
 AreSound ts = AllByRecursion IsSound ts
 
-truth_sound : (b : Bool) → IsSound (truth b)
+truth_sound : (b : Bool) → IsSound (truth_literal b)
 truth_sound b = record { is_typed = refl; formed = record { literals = (tt, tt); types = (bool_formed, tt) } }
 
 bits_sound : (w n : ℕ) → 1 ≤ w → w ≤ 128 → n < 2 ^ w → IsSound (LiteralTerm (BitVecLiteral w n))

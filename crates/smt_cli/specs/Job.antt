@@ -9,24 +9,21 @@ use Rattle.std.specs.Map.{lookup}
 use Rattle.smt_bits.specs.BitVectors.{bits_of, overflows}
 use Rattle.smt_bits.specs.Widths.{are_bits, is_width}
 use Rattle.smt_ext.specs.Digits.{is_numeral, number_of, signed}
+use Rattle.smt_factory.specs.Applications.{false_term, true_term}
 use Rattle.smt_factory.specs.Built.{built}
-use Rattle.smt_term.specs.Plain.{PlainType, BitVecType, BoolType, PlainOp, AndOp, BvaddOp, BvlshrOp, BvmulOp, BvnegOp, BvnegoOp, BvsaddoOp, BvsdivOp, BvshlOp, BvsleOp, BvsltOp, BvsmodOp, BvsmuloOp, BvsremOp, BvssuboOp, BvsubOp, BvudivOp, BvuleOp, BvultOp, BvuremOp, EqOp, IteOp, NotOp, OrOp, ZeroExtendOp, BitVecLiteral, BoolLiteral, PlainTerm, Application, LiteralTerm, VariableTerm, terms}
+use Rattle.smt_term.specs.Plain.{PlainType, BitVecType, BoolType, PlainOp, AndOp, BvaddOp, BvlshrOp, BvmulOp, BvnegOp, BvnegoOp, BvsaddoOp, BvsdivOp, BvshlOp, BvsleOp, BvsltOp, BvsmodOp, BvsmuloOp, BvsremOp, BvssuboOp, BvsubOp, BvudivOp, BvuleOp, BvultOp, BvuremOp, EqOp, IteOp, NotOp, OrOp, ZeroExtendOp, BitVecLiteral, PlainTerm, Application, LiteralTerm, VariableTerm, terms}
 use Rattle.smt_term.specs.Types.{result_type, type_eq, type_of}
 use Rattle.smt_term.specs.TypeValues.{Enums}
 use Rattle.smt_sexpr.specs.Lexicon.{Name, Number, Text}
 use Rattle.smt_sexpr.specs.Plain.{IsPlainRead}
 use Rattle.smt_sexpr.specs.Reading.{Expression, Leaf, Node, Expressions, Nil, Cons}
+use Rattle.smt_semantics.specs.Script.{◌>>=◌}
 
 -- a job without where it lies in memory: its enum types, the declared variables with their types, and its terms as written
 pub record PlainJob : Type 0 where
   pub enums : Enums
   pub variables : List (List ℕ × PlainType)
   pub terms : List PlainTerm
-
-infixl 10 ◌>>=◌
-abbrev pub ◌>>=◌ : {A B : Type 0} → Option A → (A → Option B) → Option B
-(Some x) >>= f = f x
-None >>= f = None
 
 abbrev pub Variables : Type 0
 Variables = List (List ℕ × PlainType)
@@ -89,11 +86,8 @@ declared_by variables (Cons e es) = variable_of variables e >>= λ variable. dec
 
 -- ---- terms that are no applications
 
-abbrev pub truth : Bool → PlainTerm
-truth b = LiteralTerm (BoolLiteral b)
-
 abbrev pub literal_of : List ℕ → Option PlainTerm
-literal_of n = if bytes_eq n (codes "true") then Some (truth true) else (if bytes_eq n (codes "false") then Some (truth false) else None)
+literal_of n = if bytes_eq n (codes "true") then Some true_term else (if bytes_eq n (codes "false") then Some false_term else None)
 
 abbrev pub declared_variable : Variables → Expression → Option PlainTerm
 declared_variable variables e = text_in e >>= λ name. type_declared variables name >>= λ t. Some (VariableTerm name t)

@@ -1,6 +1,8 @@
 -- What a run is asked for, what it does, and what it says.
-use Rattle.std.specs.Prelude.{ℕ, ◌≡◌, ◌↔◌, ◌≤◌, ◌<◌, ◌⊎◌, ⊤, length, map, if◌then◌else◌, bytes_eq, codes, IfSome, IsErrOf, List, [], ◌∷◌, Option, Some, None, Result}
+use Rattle.std.specs.Prelude.{ℕ, ◌≡◌, ◌↔◌, ◌≤◌, ◌<◌, ◌⊎◌, ⊤, length, map, if◌then◌else◌, bytes_eq, codes, IfSome, IsErrOf, IsTrue, is_some, List, [], ◌∷◌, Option, Some, None, Result}
 use Rattle.std.specs.Io.KnownBytes.{append_known}
+use Rattle.smt_term.specs.Faults.{Fault, EncodeStringFailed as StringFault, EncodePatternFailed as PatternFault, first_fault}
+use Rattle.smt_term.specs.Plain.{PatternPart}
 use Rattle.smt_term.specs.Interpretations.{IsInterpretation, restrict}
 use Rattle.smt_term.specs.Tables.{Interpretation}
 use Rattle.smt_factory.specs.Built.{built}
@@ -14,8 +16,10 @@ use Rattle.smt_cli.specs.Job.{IsJob, PlainJob, greatest_length}
 use Rattle.smt_cli.specs.declared.job.JobError.TheVariants.{TooLarge, BadForm, Memory}
 use Rattle.smt_cli.specs.declared.program.Command.{Command}
 use Rattle.smt_cli.specs.declared.program.Command.TheVariants.{Script, Help, Version}
+use Rattle.smt_cli.specs.declared.program.EncodeRefusal.{EncodeRefusal}
+use Rattle.smt_cli.specs.declared.program.EncodeRefusal.TheVariants.{EncodeStringFailed, EncodePatternFailed}
 use Rattle.smt_cli.specs.declared.program.Refusal.{Refusal}
-use Rattle.smt_cli.specs.declared.program.Refusal.TheVariants.{Usage, Job, Source, Sink, Memory as Want}
+use Rattle.smt_cli.specs.declared.program.Refusal.TheVariants.{Usage, Job, Encode, Source, Sink, Memory as Want}
 
 -- what words ask for; None where they are no command
 abbrev pub word_asks : List ℕ → Option Command
@@ -32,6 +36,7 @@ abbrev pub status_of : Refusal → ℕ
 status_of Usage = 2
 status_of (Job TooLarge) = 3
 status_of (Job BadForm) = 3
+status_of (Encode f) = 4
 status_of Source = 5
 status_of Sink = 6
 status_of (Job Memory) = 7
@@ -42,13 +47,15 @@ abbrev pub line_of : Refusal → List ℕ
 line_of Usage = codes "usage: smtcli script\n"
 line_of (Job TooLarge) = codes "job refused: TooLarge\n"
 line_of (Job BadForm) = codes "job refused: BadForm\n"
+line_of (Encode EncodeStringFailed) = codes "encode refused: EncodeStringFailed\n"
+line_of (Encode EncodePatternFailed) = codes "encode refused: EncodePatternFailed\n"
 line_of Source = codes "source fault\n"
 line_of Sink = codes "sink fault\n"
 line_of (Job Memory) = codes "memory\n"
 line_of Want = codes "memory\n"
 
 abbrev pub help_text : List ℕ
-help_text = codes "usage: smtcli script\n\nReads a job from standard input and prints its script in SMT-LIB 2.7.\n\njob:  (job (enums) (vars (\"id\" TYPE) ..) (funs) (terms t ..))\nTYPE: Bool or (BitVec N)\nterm: true, false, (var \"id\"), (bv W N), (long \"-5\"), (zero_extend N t) or (name t ..)\nname: not and or eq ite bvneg bvadd bvsub bvmul bvudiv bvurem bvsdiv bvsrem bvsmod bvshl bvlshr\n      bvult bvule bvslt bvsle bvnego bvsaddo bvssubo bvsmulo\n\nstatus: 0 done, 2 no such command, 3 job refused, 5 source fault, 6 sink fault, 7 out of memory\n"
+help_text = codes "usage: smtcli script\n\nReads a job from standard input and prints its script in SMT-LIB 2.7.\n\njob:  (job (enums) (vars (\"id\" TYPE) ..) (funs) (terms t ..))\nTYPE: Bool or (BitVec N)\nterm: true, false, (var \"id\"), (bv W N), (long \"-5\"), (zero_extend N t) or (name t ..)\nname: not and or eq ite bvneg bvadd bvsub bvmul bvudiv bvurem bvsdiv bvsrem bvsmod bvshl bvlshr\n      bvult bvule bvslt bvsle bvnego bvsaddo bvssubo bvsmulo\n\nstatus: 0 done, 2 no such command, 3 job refused, 4 no script for a term, 5 source fault, 6 sink fault, 7 out of memory\n"
 
 abbrev pub version_text : List ℕ
 version_text = codes "smtcli 0.1.0\n"
@@ -78,6 +85,25 @@ IsAJob bytes = (job : PlainJob) × IsJob bytes job
 abbrev pub IsNoJob : List ℕ → Type 0
 IsNoJob bytes = (job : PlainJob) → IsJob bytes job → ⊥
 
+-- the first fault of the terms that are built of a job
+abbrev pub fault_of : PlainJob → Option Fault
+fault_of job = first_fault job.enums (map built job.terms)
+
+-- Some job has these bytes, and what is built of its terms has a fault, or has none.
+abbrev pub IsFaulty : List ℕ → Type 0
+IsFaulty bytes = (job : PlainJob) × IsJob bytes job × IsTrue (is_some (fault_of job))
+
+abbrev pub IsFaultless : List ℕ → Type 0
+IsFaultless bytes = (job : PlainJob) × IsJob bytes job × (fault_of job ≡ None)
+
+-- the first fault of a job is of this kind
+abbrev pub IsFaultOf : EncodeRefusal → Option Fault → Type 0
+IsFaultOf EncodeStringFailed fault = (text : List ℕ) × (fault ≡ Some (StringFault text))
+IsFaultOf EncodePatternFailed fault = (pattern : List PatternPart) × (fault ≡ Some (PatternFault pattern))
+
+abbrev pub HasFaultOf : EncodeRefusal → List ℕ → Type 0
+HasFaultOf kind bytes = (job : PlainJob) × IsJob bytes job × IsFaultOf kind (fault_of job)
+
 abbrev pub IsTooLong : List ℕ → Type 0
 IsTooLong bytes = greatest_length < length bytes
 
@@ -88,14 +114,16 @@ HasNoForm bytes = (length bytes ≤ greatest_length) × IsNoJob bytes
 pub record Answers (left : Option (List ℕ)) (before now : ℕ) (old new : Option (List ℕ)) (faults faults' : ℕ) (result : Result (Unit {0}) Refusal) : Type 0 where
   pub too_large : IsErrOf result (Job TooLarge) → IfSome left IsTooLong × (new ≡ old)
   pub bad_form : IsErrOf result (Job BadForm) → IfSome left HasNoForm × (new ≡ old)
+  pub encode : (kind : EncodeRefusal) → IsErrOf result (Encode kind) → IfSome left (HasFaultOf kind)
   pub source : IsErrOf result Source → Rose before now × (new ≡ old)
   pub sink : IsErrOf result Sink → Rose faults faults'
   pub usage : IsErrOf result Usage → new ≡ old
 
--- why a job was refused, where a source had this left
+-- why a job was refused, or its terms, where a source had this left
 abbrev pub IsDueTo : (left : Option (List ℕ)) → Refusal → Type 0
 IsDueTo left (Job TooLarge) = IfSome left IsTooLong
 IsDueTo left (Job BadForm) = IfSome left HasNoForm
+IsDueTo left (Encode kind) = IfSome left (HasFaultOf kind)
 IsDueTo left refusal = ⊤
 
 -- A status, and what was said: nothing with 0, else the line of a refusal of this status was put, as far as that went.

@@ -12,7 +12,7 @@ mod term;
 
 pub use input::{InputError, read_input};
 pub use job::{Job, JobError, VarList, read_job};
-pub use program::{Command, Refusal, run};
+pub use program::{Command, EncodeRefusal, Refusal, run};
 pub use source::{MemorySource, ReadSource, Source, SourceError, SourceFault};
 
 #[cfg(test)]

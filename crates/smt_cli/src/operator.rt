@@ -72,6 +72,8 @@ fn built_from_one(alloc: Global, op: &Op, a: &Term) -> Result<Option<Term>, Term
         Op::Not => factory::not(alloc, a)?,
         Op::Bvneg => factory::bvneg(alloc, a)?,
         Op::Bvnego => factory::bvnego(alloc, a)?,
+        Op::OptionGet => factory::option_get(alloc, a)?,
+        Op::StringLike(pattern) => factory::string_like(alloc, a, pattern.share()?)?,
         Op::ZeroExtend(bits) => factory::zero_extend(alloc, *bits, a)?,
         _ => return Ok(None),
     }))
@@ -105,7 +107,16 @@ fn built_from_two(alloc: Global, op: &Op, a: &Term, b: &Term) -> Result<Option<T
         Op::Bvsaddo => factory::bvsaddo(alloc, a, b)?,
         Op::Bvssubo => factory::bvssubo(alloc, a, b)?,
         Op::Bvsmulo => factory::bvsmulo(alloc, a, b)?,
-        Op::Bvneg | Op::Bvnego | Op::Ite | Op::Not | Op::ZeroExtend(_) => return Ok(None),
+        Op::SetInter => factory::set_inter(alloc, a, b)?,
+        Op::SetMember => factory::set_member(alloc, a, b)?,
+        Op::SetSubset => factory::set_subset(alloc, a, b)?,
+        Op::Bvneg
+        | Op::Bvnego
+        | Op::Ite
+        | Op::Not
+        | Op::OptionGet
+        | Op::StringLike(_)
+        | Op::ZeroExtend(_) => return Ok(None),
     }))
 }
 

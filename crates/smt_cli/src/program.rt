@@ -2,9 +2,10 @@
 ghost use Rattle.std.specs.Prelude.{◌≡◌, ◌<◌, ◌⊎◌, ◌↔◌, [], Err, Some, None, IfOk, IfSome, IsErrOf, OnErr, OnOk, length, option_map};
 ghost use Rattle.std.specs.Io.KnownBytes.{append_known};
 ghost use Rattle.smt_term.specs.Enums.{enums_of};
+ghost use Rattle.smt_term.specs.Faults.{first_fault};
 ghost use Rattle.std.specs.List.{AllByRecursion};
 ghost use Rattle.smt_term.specs.Plain.{BoolType};
-ghost use Rattle.smt_term.specs.Types.{Typed};
+ghost use Rattle.smt_term.specs.Typing.{Typed};
 ghost use Rattle.smt_term.specs.View.{plain_items};
 ghost use Rattle.smt_headline.specs.Headline.{Headline};
 ghost use Rattle.smt_lines.specs.Text.{text};
@@ -12,7 +13,7 @@ ghost use Rattle.smt_script.specs.Sink.{Puts, Rose};
 ghost use Rattle.smt_script.specs.Texts.{texts};
 ghost use Rattle.smt_cli.specs.Job.{IsBuiltFrom};
 ghost use Rattle.smt_cli.specs.JobView.{plain_job};
-ghost use Rattle.smt_cli.specs.Run.{commanded, help_text, line_of, status_of, version_text, Answers, HasNoForm, IsAJob, IsDone, IsNoJob, IsTooLong, Prints, Reports};
+ghost use Rattle.smt_cli.specs.Run.{commanded, help_text, line_of, status_of, version_text, Answers, HasNoForm, IsAJob, IsDone, IsFaultless, IsFaultOf, IsFaulty, IsNoJob, IsTooLong, Prints, Reports};
 
 use crate::input::{InputError, read_input};
 use crate::job::{GREATEST_JOB, Job, JobError, read_job};
@@ -34,7 +35,7 @@ term: true, false, (var \"id\"), (bv W N), (long \"-5\"), (zero_extend N t) or (
 name: not and or eq ite bvneg bvadd bvsub bvmul bvudiv bvurem bvsdiv bvsrem bvsmod bvshl bvlshr
       bvult bvule bvslt bvsle bvnego bvsaddo bvssubo bvsmulo
 
-status: 0 done, 2 no such command, 3 job refused, 5 source fault, 6 sink fault, 7 out of memory
+status: 0 done, 2 no such command, 3 job refused, 4 no script for a term, 5 source fault, 6 sink fault, 7 out of memory
 ";
 
 /// What `smtcli --version` prints.
@@ -58,12 +59,23 @@ pub enum Refusal {
     Usage,
     /// The job was refused.
     Job(JobError),
+    /// A term of the job has no script.
+    Encode(EncodeRefusal),
     /// The source failed.
     Source,
     /// The sink failed.
     Sink,
     /// There was no memory.
     Memory,
+}
+
+/// Why a term has no script.
+#[derive(Clone, Copy, Debug, PartialEq, Eq, Drop)]
+pub enum EncodeRefusal {
+    /// A string has a character above 196607.
+    EncodeStringFailed,
+    /// A pattern has a character above 196607.
+    EncodePatternFailed,
 }
 
 impl Refusal {
@@ -75,6 +87,7 @@ impl Refusal {
             Refusal::Usage => 2,
             Refusal::Job(JobError::TooLarge) => 3,
             Refusal::Job(JobError::BadForm) => 3,
+            Refusal::Encode(_) => 4,
             Refusal::Source => 5,
             Refusal::Sink => 6,
             Refusal::Job(JobError::Memory) => 7,
@@ -90,6 +103,12 @@ impl Refusal {
             Refusal::Usage => "usage: smtcli script\n",
             Refusal::Job(JobError::TooLarge) => "job refused: TooLarge\n",
             Refusal::Job(JobError::BadForm) => "job refused: BadForm\n",
+            Refusal::Encode(EncodeRefusal::EncodeStringFailed) => {
+                "encode refused: EncodeStringFailed\n"
+            }
+            Refusal::Encode(EncodeRefusal::EncodePatternFailed) => {
+                "encode refused: EncodePatternFailed\n"
+            }
             Refusal::Source => "source fault\n",
             Refusal::Sink => "sink fault\n",
             Refusal::Job(JobError::Memory) => "memory\n",
@@ -134,6 +153,7 @@ fn read_source<R: Source>(alloc: Global, source: &mut R) -> Result<Job, Refusal>
     ensures source { IsErrOf result Refusal.Source → Rose (R.faults source.old) (R.faults source.new) }
     ensures no_usage { IsErrOf result Refusal.Usage → ⊥ }
     ensures no_sink { IsErrOf result Refusal.Sink → ⊥ }
+    ensures no_fault { (kind : EncodeRefusal) → IsErrOf result (Refusal.Encode kind) → ⊥ }
     ensures ended { OnOk result (R.left source.new ≡ option_map (λ _. []) (R.left source.old)) }
 {
     let bytes = match read_input(alloc, source, GREATEST_JOB) {
@@ -152,8 +172,12 @@ fn read_source<R: Source>(alloc: Global, source: &mut R) -> Result<Job, Refusal>
 fn put_script<W: Sink>(alloc: Global, job: &Job, out: &mut W) -> Result<(), Refusal>
     ensures text { OnOk result (W.held out.new ≡ append_known (W.held out.old) (text (enums_of job.now.enums) (plain_items job.now.terms))) }
     ensures headline { AllByRecursion (λ t. Typed t BoolType) (plain_items job.now.terms) → OnOk result (Headline (enums_of job.now.enums) (plain_items job.now.terms)) }
+    ensures faultless { OnOk result (first_fault (enums_of job.now.enums) (plain_items job.now.terms) ≡ None) }
+    ensures fault { (kind : EncodeRefusal) → IsErrOf result (Refusal.Encode kind) → IsFaultOf kind (first_fault (enums_of job.now.enums) (plain_items job.now.terms)) }
     ensures sink { IsErrOf result Refusal.Sink → Rose (W.faults out.old) (W.faults out.new) }
-    ensures only { OnErr result ((result ≡ Err Refusal.Sink) ⊎ (result ≡ Err Refusal.Memory)) }
+    ensures no_usage { IsErrOf result Refusal.Usage → ⊥ }
+    ensures no_source { IsErrOf result Refusal.Source → ⊥ }
+    ensures no_job { (error : JobError) → IsErrOf result (Refusal.Job error) → ⊥ }
 {
     let mut encoder = Encoder::new(alloc, &job.enums, out);
     let outcome = encoder.encode(job.terms.items());
@@ -161,6 +185,12 @@ fn put_script<W: Sink>(alloc: Global, job: &Job, out: &mut W) -> Result<(), Refu
     match outcome {
         Ok(()) => Ok(()),
         Err(EncodeError::Io) => Err(Refusal::Sink),
+        Err(EncodeError::EncodeStringFailed(_)) => {
+            Err(Refusal::Encode(EncodeRefusal::EncodeStringFailed))
+        }
+        Err(EncodeError::EncodePatternFailed(_)) => {
+            Err(Refusal::Encode(EncodeRefusal::EncodePatternFailed))
+        }
         Err(EncodeError::Memory) => Err(Refusal::Memory),
         // The encoder is a new one.
         Err(EncodeError::Spent) => unreachable!(),
@@ -177,6 +207,7 @@ fn print_script<R: Source, W: Sink>(
     ensures answers { Answers (R.left source.old) (R.faults source.old) (R.faults source.new) (W.held out.old) (W.held out.new) (W.faults out.old) (W.faults out.new) result }
     ensures no_usage { IsErrOf result Refusal.Usage → ⊥ }
     ensures read { IsErrOf result Refusal.Sink → IfSome (R.left source.old) IsAJob }
+    ensures faultless { OnOk result (IfSome (R.left source.old) IsFaultless) }
     ensures ended { OnOk result (R.left source.new ≡ option_map (λ _. []) (R.left source.old)) }
 {
     let job = read_source(alloc, source)?;
@@ -194,6 +225,7 @@ fn answer<R: Source, W: Sink>(
     ensures answers { Answers (R.left source.old) (R.faults source.old) (R.faults source.new) (W.held out.old) (W.held out.new) (W.faults out.old) (W.faults out.new) result }
     ensures usage { IsErrOf result Refusal.Usage ↔ (commanded (texts words.now) ≡ None) }
     ensures read { commanded (texts words.now) ≡ Some Command.Script → IsErrOf result Refusal.Sink → IfSome (R.left source.old) IsAJob }
+    ensures faultless { commanded (texts words.now) ≡ Some Command.Script → OnOk result (IfSome (R.left source.old) IsFaultless) }
     ensures ended { commanded (texts words.now) ≡ Some Command.Script → OnOk result (R.left source.new ≡ option_map (λ _. []) (R.left source.old)) }
 {
     match command_of(words) {
@@ -206,9 +238,9 @@ fn answer<R: Source, W: Sink>(
 
 /// Runs the program over these words, and answers the status with which it ends.
 ///
-/// 0: what was asked for is put to `out`. 2: the words are no command. 3: the job was refused. 5: the source failed.
-/// 6: `out` failed. 7: there was no memory. With 2, 3 and 5 nothing is put to `out`. But for 0, one line is put to
-/// `diag`; whether that went well changes no status.
+/// 0: what was asked for is put to `out`. 2: the words are no command. 3: the job was refused. 4: a term of the job has no
+/// script. 5: the source failed. 6: `out` failed. 7: there was no memory. With 2, 3 and 5 nothing is put to `out`. But for
+/// 0, one line is put to `diag`; whether that went well changes no status.
 pub fn run<R: Source, W: Sink, D: Sink>(
     alloc: Global,
     words: &[Text],
@@ -219,11 +251,14 @@ pub fn run<R: Source, W: Sink, D: Sink>(
     ensures done { result ≡ 0 → IsDone (commanded (texts words.now)) (R.left source.old) (W.held out.old) (W.held out.new) }
     ensures usage { result ≡ 2 ↔ (commanded (texts words.now) ≡ None) }
     ensures refused { result ≡ 3 → IfSome (R.left source.old) IsNoJob }
+    ensures fault { result ≡ 4 → IfSome (R.left source.old) IsFaulty }
     ensures source { result ≡ 5 → Rose (R.faults source.old) (R.faults source.new) }
     ensures sink { result ≡ 6 → Rose (W.faults out.old) (W.faults out.new) }
     ensures untouched { (result ≡ 2) ⊎ ((result ≡ 3) ⊎ (result ≡ 5)) → W.held out.new ≡ W.held out.old }
     ensures accepted { commanded (texts words.now) ≡ Some Command.Script → (Rose (R.faults source.old) (R.faults source.new) → ⊥) → (Rose (W.faults out.old) (W.faults out.new) → ⊥) →
-        IfSome (R.left source.old) (λ bytes. IsAJob bytes → (result ≡ 0) ⊎ (result ≡ 7)) }
+        IfSome (R.left source.old) (λ bytes. IsFaultless bytes → (result ≡ 0) ⊎ (result ≡ 7)) }
+    ensures faulty { commanded (texts words.now) ≡ Some Command.Script → (Rose (R.faults source.old) (R.faults source.new) → ⊥) → (Rose (W.faults out.old) (W.faults out.new) → ⊥) →
+        IfSome (R.left source.old) (λ bytes. IsFaulty bytes → (result ≡ 4) ⊎ (result ≡ 7)) }
     ensures complete { commanded (texts words.now) ≡ Some Command.Script → (Rose (R.faults source.old) (R.faults source.new) → ⊥) →
         IfSome (R.left source.old) (λ bytes. IsNoJob bytes → (result ≡ 3) ⊎ (result ≡ 7)) }
     ensures ended { result ≡ 0 → commanded (texts words.now) ≡ Some Command.Script → R.left source.new ≡ option_map (λ _. []) (R.left source.old) }

@@ -233,9 +233,10 @@ fn condition_from(alloc: Global, declared: &Declared, expression: &SExpr) -> Res
     ensures { (vs : Variables) → Declares declared.now vs → Gives plain_term result (option_map built (condition_of vs (plain expression.now))) }
 {
     let term = term_from(alloc, declared, expression)?;
-    match term.type_of(alloc)? {
-        TermType::Bool => Ok(term),
-        TermType::Bitvec { .. } => Err(JobError::BadForm),
+    if term.type_of(alloc)? == TermType::Bool {
+        Ok(term)
+    } else {
+        Err(JobError::BadForm)
     }
 }
 

@@ -1,10 +1,15 @@
 pub mod Applied
 pub mod Bracketed
 pub mod Conditions
+pub mod Faulted
 pub mod Going
+pub mod Heads
+pub mod Larger
 pub mod Lines
 pub mod Numbered
+pub mod Patterned
 pub mod Quoted
 pub mod Scripted
+pub mod Sorts
 pub mod Stated
 pub mod Tables

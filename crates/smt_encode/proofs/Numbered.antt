@@ -6,7 +6,7 @@ use Rattle.smt_term.specs.Plain.{ZeroExtendOp}
 use Rattle.smt_semantics.specs.Sorts.{bit_sort}
 use Rattle.smt_lines.specs.Lines.{bits}
 use Rattle.smt_lines.specs.Spelling.{numeral, spelled}
-use Rattle.smt_lines.proofs.Numerals.{numerals_are_printed}
+use Rattle.smt_semantics.proofs.Numerals.{numerals_are_printed}
 use Rattle.smt_encode.specs.Heads.{head_of}
 
 last : (n k : ℕ) → n ≡ k → n < 10 ^ 64 → decimal n ++ codes ")" ≡ (numeral k ++ []) ++ codes ")"

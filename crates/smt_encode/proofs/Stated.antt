@@ -1,53 +1,106 @@
--- What is stated for a term that has no name yet.
+-- What is stated for a term that has no name yet: its sort, then its parts, then its own line; and for one that has a name.
 use Rattle.std.proofs.Common.{◌≡◌, ℕ, List, [], ◌∷◌, refl, sym, ap, ◌∙◌, subst, Option, Some, None}
+use Rattle.std.specs.Prelude.{codes}
 use Rattle.std.specs.Rc.{rc_str_bytes}
 use Rattle.std.specs.declared.alloc.Global.{Global}
 use Rattle.std.specs.declared.rc.RcStr.{RcStr}
 use Rattle.smt_sexpr.specs.Reading.{Expression}
-use Rattle.smt_term.specs.Plain.{PlainType, PlainOp, PlainTerm, PlainTerms, Application, VariableTerm}
+use Rattle.smt_semantics.specs.Script.{group, name}
+use Rattle.smt_term.specs.Plain.{PlainType, PlainTerm, PlainTerms, Application, NoneTerm, SetTerm, SomeTerm, VariableTerm}
+use Rattle.smt_term.specs.Types.{type_of}
+use Rattle.smt_term.specs.View.{plain_op, plain_type, plain_term, plain_row, plain_variable}
+use Rattle.smt_term.specs.declared.op.Op.{Op}
+use Rattle.smt_term.specs.declared.term.Term.{Term, App', None as Nothing, Prim, Set', Some', Var}
+use Rattle.smt_term.specs.declared.term.TermPrim.{TermPrim}
 use Rattle.smt_lines.specs.Line.{Comment, DeclareConst}
-use Rattle.smt_lines.specs.Lines.{Enums, Tables, Written, name_of_term, next_term, quoted_id, enter_term, encode_type, encode_terms, encode_term, define_application, manner, unless_named, made_of, ◌>>=◌}
-use Rattle.smt_semantics.specs.Script.{name}
+use Rattle.smt_lines.specs.Lines as lines
+use Rattle.smt_lines.specs.Lines.{Enums, Tables, Written, name_of_term, next_term, quoted_id, enter_term, encode_type, encode_terms, encode_term, define, define_application, manner, none_body, set_body, unless_named, made_of, ◌>>=◌}
 use Rattle.smt_encode.specs.Encoded.{HasNames, IsSpelled, Wrote}
+use Rattle.smt_encode.specs.Manners.{body_of, plain_manner}
 use Rattle.smt_encode.specs.declared.encoder.Encoder.{Encoder}
+use Rattle.smt_encode.specs.declared.manner.Manner.{Manner}
+use Rattle.smt_encode.specs.declared.manner.Manner.TheVariants.{AsItStands, AsLeast}
+use Rattle.smt_encode.proofs.Heads.{head_made}
 use Rattle.smt_encode.proofs.Lines.{nothing_written}
 
--- a variable's declaration, behind the lines of its type
-abbrev pub declaration : Enums → (id : List ℕ) → PlainType → PlainTerm → Tables → Written Expression
-declaration enums id type t s = encode_type enums type s >>= λ sort v. enter_term t (next_term v) (Comment (quoted_id id) ∷ DeclareConst (next_term v) sort ∷ []) v
+-- ---- the lines of a term's own, behind those of its sort and its parts
 
-variable_stated : (enums : Enums) (id : List ℕ) (type : PlainType) (s : Tables) → name_of_term s (VariableTerm id type) ≡ None → encode_term enums (VariableTerm id type) s ≡ declaration enums id type (VariableTerm id type) s
-variable_stated enums id type s absent = ap (λ o. unless_named o s (declaration enums id type (VariableTerm id type))) absent
+abbrev pub declared : (id : List ℕ) → PlainTerm → (sort : Expression) → Tables → Written Expression
+declared id t sort s = enter_term t (next_term s) (Comment (quoted_id id) ∷ DeclareConst (next_term s) sort ∷ []) s
 
-pub declaration_of : (enums : Enums) (id : List ℕ) (type : PlainType) (t : PlainTerm) (s : Tables) → t ≡ VariableTerm id type → name_of_term s t ≡ None → encode_term enums t s ≡ declaration enums id type t s
-declaration_of enums id type t s same absent =
-    subst (λ (u : PlainTerm). name_of_term s u ≡ None → encode_term enums u s ≡ declaration enums id type u s) (sym same) (variable_stated enums id type s) absent
+abbrev pub as_some : PlainTerm → (sort inner : Expression) → Tables → Written Expression
+as_some t sort e s = define t sort (group (name (codes "some") ∷ e ∷ [])) s
 
--- an application's definition, behind the lines of its sort and its arguments
-abbrev pub definition : Enums → PlainOp → PlainTerms → PlainType → Tables → Written Expression
-definition enums op ts type s = encode_type enums type s >>= λ sort v. define_application enums (manner op ts type) op ts type (λ w. encode_terms enums ts w) sort v
+-- ---- a term that has no name yet
 
-pub application_stated : (enums : Enums) (op : PlainOp) (ts : PlainTerms) (type : PlainType) (s : Tables) → name_of_term s (Application op ts type) ≡ None → encode_term enums (Application op ts type) s ≡ definition enums op ts type s
-application_stated enums op ts type s absent = ap (λ o. unless_named o s (definition enums op ts type)) absent
+module _ (enums : Enums) (t : PlainTerm) (s : Tables) (absent : name_of_term s t ≡ None) where
+  -- what is stated of a form is stated of a term that is of this form
+  of_form : (form : PlainTerm) (stated : PlainTerm → Written Expression) → t ≡ form → (name_of_term s form ≡ None → encode_term enums form s ≡ stated form) → encode_term enums t s ≡ stated t
+  of_form form stated same h = subst (λ (u : PlainTerm). name_of_term s u ≡ None → encode_term enums u s ≡ stated u) (sym same) h absent
+
+  pub variable_stated : (id : List ℕ) (type : PlainType) → t ≡ VariableTerm id type → encode_term enums t s ≡ encode_type enums (type_of t) s >>= λ sort v. declared id t sort v
+  variable_stated id type same = of_form (VariableTerm id type) (λ u. encode_type enums (type_of u) s >>= λ sort v. declared id u sort v) same
+      (λ none. ap (λ o. unless_named o s (λ u. encode_type enums type u >>= λ sort v. declared id (VariableTerm id type) sort v)) none)
+
+  pub none_stated : (type : PlainType) → t ≡ NoneTerm type → encode_term enums t s ≡ encode_type enums (type_of t) s >>= λ sort v. define t sort (none_body sort) v
+  none_stated type same = of_form (NoneTerm type) (λ u. encode_type enums (type_of u) s >>= λ sort v. define u sort (none_body sort) v) same
+      (λ none. ap (λ o. unless_named o s (λ u. encode_type enums (type_of (NoneTerm type)) u >>= λ sort v. define (NoneTerm type) sort (none_body sort) v)) none)
+
+  pub some_stated : (inner : PlainTerm) → t ≡ SomeTerm inner → encode_term enums t s ≡ encode_type enums (type_of t) s >>= λ sort v. encode_term enums inner v >>= λ e w. as_some t sort e w
+  some_stated inner same = of_form (SomeTerm inner) (λ u. encode_type enums (type_of u) s >>= λ sort v. encode_term enums inner v >>= λ e w. as_some u sort e w) same
+      (λ none. ap (λ o. unless_named o s (λ u. encode_type enums (type_of (SomeTerm inner)) u >>= λ sort v. encode_term enums inner v >>= λ e w. as_some (SomeTerm inner) sort e w)) none)
+
+  pub set_stated : (element : PlainType) (ts : PlainTerms) → t ≡ SetTerm element ts → encode_term enums t s ≡ encode_type enums (type_of t) s >>= λ sort v. encode_terms enums ts v >>= λ es w. define t sort (set_body sort es) w
+  set_stated element ts same = of_form (SetTerm element ts) (λ u. encode_type enums (type_of u) s >>= λ sort v. encode_terms enums ts v >>= λ es w. define u sort (set_body sort es) w) same
+      (λ none. ap (λ o. unless_named o s (λ u. encode_type enums (type_of (SetTerm element ts)) u >>= λ sort v. encode_terms enums ts v >>= λ es w. define (SetTerm element ts) sort (set_body sort es) w)) none)
+
+  -- ---- applications, by their manner
+
+  abbrev in_manner : lines.Manner → Op → PlainTerms → PlainType → PlainTerm → Written Expression
+  in_manner m op ts type u = encode_type enums (type_of u) s >>= λ sort v. define_application enums m (plain_op op) ts type (λ w. encode_terms enums ts w) sort v
+
+  application_in : (m : lines.Manner) (op : Op) (ts : PlainTerms) (type : PlainType) → t ≡ Application (plain_op op) ts type → m ≡ manner (plain_op op) ts type
+      → (stated : PlainTerm → Written Expression) → in_manner m op ts type (Application (plain_op op) ts type) ≡ stated (Application (plain_op op) ts type) → encode_term enums t s ≡ stated t
+  application_in m op ts type same how stated h = of_form (Application (plain_op op) ts type) stated same
+      (λ none. ap (λ o. unless_named o s (λ u. encode_type enums type u >>= λ sort v. define_application enums (manner (plain_op op) ts type) (plain_op op) ts type (λ w. encode_terms enums ts w) sort v)) none
+      ∙ ap (λ m. in_manner m op ts type (Application (plain_op op) ts type)) (sym how) ∙ h)
+
+  pub false_stated : (op : Op) (ts : PlainTerms) (type : PlainType) → t ≡ Application (plain_op op) ts type → lines.AsFalse ≡ manner (plain_op op) ts type
+      → encode_term enums t s ≡ encode_type enums (type_of t) s >>= λ sort v. enter_term t (codes "false") [] v
+  false_stated op ts type same how = application_in lines.AsFalse op ts type same how (λ u. encode_type enums (type_of u) s >>= λ sort v. enter_term u (codes "false") [] v) refl
+
+  pub application_stated : (how : Manner) (op : Op) (ts : PlainTerms) (type : PlainType) → t ≡ Application (plain_op op) ts type → plain_manner (Some how) ≡ manner (plain_op op) ts type
+      → encode_term enums t s ≡ encode_type enums (type_of t) s >>= λ sort v. encode_terms enums ts v >>= λ es u. define t sort (body_of how (plain_op op) es) u
+  application_stated AsItStands op ts type same how = application_in lines.AsItStands op ts type same how (λ t. encode_type enums (type_of t) s >>= λ sort v. encode_terms enums ts v >>= λ es u. define t sort (body_of AsItStands (plain_op op) es) u)
+      (λ i. encode_type enums type s >>= λ sort v. encode_terms enums ts v >>= λ es u. head_made enums op ts u i >>= λ head w. define (Application (plain_op op) ts type) sort (group (head ∷ lines.operands (plain_op op) es)) w)
+  application_stated (AsLeast width) op ts type same how = application_in (plain_manner (Some (AsLeast width))) op ts type same how (λ t. encode_type enums (type_of t) s >>= λ sort v. encode_terms enums ts v >>= λ es u. define t sort (body_of (AsLeast width) (plain_op op) es) u) refl
+
+-- ---- a term that has a name
+
+-- a literal has no name here
+abbrev pub IsNamed : Term → Type 0
+IsNamed (Prim l) = ⊥
+IsNamed t = Unit {0}
+
+pub named_unless : (t : Term) → ((l : TermPrim) → t ≡ Prim l → ⊥) → IsNamed t
+named_unless (Prim l) h = h l refl
+named_unless t h = tt
+
+named_stated : (enums : Enums) (t : Term) (s : Tables) (n : List ℕ) → IsNamed t → name_of_term s (plain_term t) ≡ Some n → encode_term enums (plain_term t) s ≡ made_of (name n) s
+unfolding plain_term plain_row
+named_stated enums (App' op p shape row type) s n h there =
+    ap (λ o. unless_named o s (λ u. encode_type enums (plain_type type) u >>= λ sort v. define_application enums (manner (plain_op op) (plain_row row) (plain_type type)) (plain_op op) (plain_row row) (plain_type type) (λ w. encode_terms enums (plain_row row) w) sort v)) there
+named_stated enums (Nothing type) s n h there =
+    ap (λ o. unless_named o s (λ u. encode_type enums (type_of (NoneTerm (plain_type type))) u >>= λ sort v. define (NoneTerm (plain_type type)) sort (none_body sort) v)) there
+named_stated enums (Prim l) s n h there = absurd h
+named_stated enums (Set' element p shape row) s n h there =
+    ap (λ o. unless_named o s (λ u. encode_type enums (type_of (SetTerm (plain_type element) (plain_row row))) u >>= λ sort v. encode_terms enums (plain_row row) v >>= λ es w. define (SetTerm (plain_type element) (plain_row row)) sort (set_body sort es) w)) there
+named_stated enums (Some' p t) s n h there =
+    ap (λ o. unless_named o s (λ u. encode_type enums (type_of (SomeTerm (plain_term t))) u >>= λ sort v. encode_term enums (plain_term t) v >>= λ e w. as_some (SomeTerm (plain_term t)) sort e w)) there
+named_stated enums (Var v) s n h there =
+    ap (λ o. unless_named o s (λ u. encode_type enums (plain_type v.ty) u >>= λ sort v'. declared (rc_str_bytes v.id) (plain_variable v) sort v')) there
 
 -- a term that has a name is written by it, and nothing is added
-known_application : (enums : Enums) (op : PlainOp) (ts : PlainTerms) (type : PlainType) (s : Tables) (n : List ℕ) → name_of_term s (Application op ts type) ≡ Some n → encode_term enums (Application op ts type) s ≡ made_of (name n) s
-known_application enums op ts type s n there = ap (λ o. unless_named o s (definition enums op ts type)) there
-
-known_variable : (enums : Enums) (id : List ℕ) (type : PlainType) (s : Tables) (n : List ℕ) → name_of_term s (VariableTerm id type) ≡ Some n → encode_term enums (VariableTerm id type) s ≡ made_of (name n) s
-known_variable enums id type s n there = ap (λ o. unless_named o s (declaration enums id type (VariableTerm id type))) there
-
-module _ {S : Type 0} {held : S → Option (List ℕ)} {e : Encoder S} (enums : Enums) (t : PlainTerm) (s : Tables) (text : RcStr Global) (has : HasNames e s) (there : name_of_term s t ≡ Some (rc_str_bytes text)) where
-  known_written : encode_term enums t s ≡ made_of (name (rc_str_bytes text)) s
-      → Wrote held e e (encode_term enums t s).lines (encode_term enums t s).tables × IsSpelled (encode_term enums t s).made text
-  known_written stated = rw stated (nothing_written e s has, refl)
-
-  pub application_known : (op : PlainOp) (ts : PlainTerms) (type : PlainType) → t ≡ Application op ts type
-      → Wrote held e e (encode_term enums t s).lines (encode_term enums t s).tables × IsSpelled (encode_term enums t s).made text
-  application_known op ts type same =
-      known_written (ap (λ u. encode_term enums u s) same ∙ known_application enums op ts type s _ (ap (name_of_term s) (sym same) ∙ there))
-
-  pub variable_known : (id : List ℕ) (type : PlainType) → t ≡ VariableTerm id type
-      → Wrote held e e (encode_term enums t s).lines (encode_term enums t s).tables × IsSpelled (encode_term enums t s).made text
-  variable_known id type same =
-      known_written (ap (λ u. encode_term enums u s) same ∙ known_variable enums id type s _ (ap (name_of_term s) (sym same) ∙ there))
+pub named_written : {S : Type 0} {held : S → Option (List ℕ)} {e : Encoder S} (enums : Enums) (t : Term) (s : Tables) (text : RcStr Global) → HasNames e s → IsNamed t → name_of_term s (plain_term t) ≡ Some (rc_str_bytes text)
+    → Wrote held e e (encode_term enums (plain_term t) s).lines (encode_term enums (plain_term t) s).tables × IsSpelled (encode_term enums (plain_term t) s).made text
+named_written {e = e} enums t s text has named there = rw (named_stated enums t s (rc_str_bytes text) named there) (nothing_written e s has, refl)

@@ -1,16 +1,18 @@
 -- The encoder's table of terms, and the tables that the stated lines speak of.
 use Rattle.std.proofs.Common.{◌≡◌, ℕ, ◌+◌, ◌<◌, ◌^◌, Bool, true, false, cond, List, [], ◌∷◌, ◌++◌, length, Option, Some, None, refl, sym, ap, ◌∙◌, subst, inl, inr, arith, length-append}
-use Rattle.std.specs.Prelude.{codes, decimal, option_map, is_some, if◌then◌else◌}
+use Rattle.std.specs.Prelude.{codes, decimal, option_map, is_none, is_some, Result, Ok, Err, OnOk, OnErr, if◌then◌else◌}
 use Rattle.std.specs.Cmp.{Equal-is}
-use Rattle.std.specs.BTreeMap.{get, Updates, btree_map_len}
+use Rattle.std.specs.BTreeMap.{BTreeMap, get, is_at, Updates, IsUnchanged, btree_map_len}
 use Rattle.std.specs.Map.{lookup}
 use Rattle.std.specs.Ordering.{is_eq}
 use Rattle.std.specs.Rc.{rc_str_bytes}
 use Rattle.std.specs.declared.alloc.Global.{Global}
 use Rattle.std.specs.declared.rc.RcStr.{RcStr}
 use Rattle.std.proofs.lemmas.Bool.{cases_Bool, false≢true}
+use Rattle.smt_term.specs.Faults.{term_fault}
 use Rattle.smt_term.specs.Plain.{PlainTerm}
 use Rattle.smt_term.specs.TermOrder.{term_cmp, term_eq}
+use Rattle.smt_term.specs.TypeValues.{Enums}
 use Rattle.smt_term.specs.View.{plain_term}
 use Rattle.smt_term.specs.contracts.term.TermOrd.TheImpl as term_order
 use Rattle.smt_term.specs.declared.term.Term.{Term}
@@ -20,9 +22,10 @@ use Rattle.smt_term.proofs.SameTerm.{term_same}
 use Rattle.smt_lines.specs.Lines.{Tables, name_of_term, next_term}
 use Rattle.smt_lines.specs.Spelling.{numeral}
 use Rattle.smt_lines.proofs.Making.{lookup_new}
-use Rattle.smt_lines.proofs.Numerals.{numerals_are_printed}
+use Rattle.smt_semantics.proofs.Numerals.{numerals_are_printed}
 use Rattle.smt_term.proofs.TermTotal.{terms_decided}
 use Rattle.smt_encode.specs.Encoded.{HasNames}
+use Rattle.smt_encode.specs.Refusals.{HaveNoFaults}
 use Rattle.smt_encode.specs.declared.encoder.Encoder.{Encoder}
 
 -- ---- names
@@ -36,7 +39,7 @@ drawn n name s small count named =
 -- ---- entries
 
 -- a test that fails at the last pair passes it over
-lookup_past : {K X : Type 0} (test : K → Bool) (es : List (K × X)) (k : K) (x : X) → test k ≡ false → lookup test (es ++ (k, x) ∷ []) ≡ lookup test es
+pub lookup_past : {K X : Type 0} (test : K → Bool) (es : List (K × X)) (k : K) (x : X) → test k ≡ false → lookup test (es ++ (k, x) ∷ []) ≡ lookup test es
 lookup_past test [] k x h = rw h refl
 lookup_past test (e ∷ es) k x h = ap (cond (test e.0) (Some e.1)) (lookup_past test es k x h)
 
@@ -62,6 +65,21 @@ named_after true key q t name n before es tied same named absent had =
     ap Some named ∙ sym (lookup_new (term_eq (plain_term q)) es t n ((terms_decided (plain_term q) t).1 (sym e)) f)
 named_after false key q t name n before es tied same named absent had =
     had ∙ sym (lookup_past (term_eq (plain_term q)) es t n (subst (λ (x : PlainTerm). term_eq (plain_term q) x ≡ false) same (differs key q tied)))
+
+-- a table without faults has none when a term without fault is entered
+pub still_sound : (enums : Enums) (old new : BTreeMap Term (RcStr Global)) (key : Term) (t : PlainTerm) (name : RcStr Global) → Updates term_order.ghosts.cmp old new key (Some name)
+    → plain_term key ≡ t → term_fault enums t ≡ None → HaveNoFaults enums old → HaveNoFaults enums new
+still_sound enums old new key t name updates same none sound q there = go (is_eq (term_order.ghosts.cmp key q)) refl (ap is_some (sym (updates.0 q)) ∙ there)
+  where
+    go : (b : Bool) → is_eq (term_order.ghosts.cmp key q) ≡ b → is_some (cond b (Some name) (get term_order.ghosts.cmp old q)) ≡ true → is_none (term_fault enums (plain_term q)) ≡ true
+    go true tied h = ap (λ u. is_none (term_fault enums u)) (sym (ties key q tied) ∙ same) ∙ ap is_none none
+    go false tied h = sound q h
+
+-- the same after an insertion, also one that failed
+pub sound_after : {R E : Type 0} (enums : Enums) (old new : BTreeMap Term (RcStr Global)) (key : Term) (t : PlainTerm) (name : RcStr Global) (result : Result R E) → OnOk result (Updates term_order.ghosts.cmp old new key (Some name))
+    → OnErr result (IsUnchanged old new) → plain_term key ≡ t → term_fault enums t ≡ None → HaveNoFaults enums old → HaveNoFaults enums new
+sound_after enums old new key t name (Ok x) updates same is none sound = still_sound enums old new key t name updates is none sound
+sound_after enums old new key t name (Err e) updates same is none sound = λ q there. sound q (ap (λ es. is_some (lookup (is_at (term_order.ghosts.cmp q)) es)) (sym same) ∙ there)
 
 nothing_there : (o : Option (RcStr Global)) (p : Option (List ℕ)) → option_map rc_str_bytes o ≡ p → p ≡ None → o ≡ None
 nothing_there None p e f = refl

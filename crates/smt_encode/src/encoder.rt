@@ -1,23 +1,34 @@
 // The encoder, from terms to the lines of a script.
-ghost use Rattle.std.specs.Prelude.{ℕ, List, ◌≡◌, ◌≤◌, ◌↔◌, ◌++◌, [], ◌∷◌, false, None, IfOk, IsOkUnless, OnOk, OnErr, IsTrue, IsErrOf, option_map, map, codes};
+ghost use Rattle.std.specs.Prelude.{ℕ, List, ◌≡◌, ◌≤◌, ◌↔◌, ◌++◌, [], ◌∷◌, false, None, Some, IfOk, IfSome, IsOkUnless, OnOk, OnErr, IsTrue, IsErrOf, option_map, map, codes};
 ghost use Rattle.std.specs.Rc.{rc_str_bytes};
 ghost use Rattle.std.specs.String.{string_bytes};
+ghost use Rattle.std.specs.declared.alloc.Global.{Global};
+ghost use Rattle.std.specs.declared.rc.RcStr.{RcStr};
+ghost use Rattle.smt_term.specs.Enums.{enums_of};
+ghost use Rattle.smt_term.specs.Faults.{EncodeStringFailed, EncodePatternFailed, first_fault, term_fault, terms_fault, type_fault};
+ghost use Rattle.smt_term.specs.PatternView.{plain_ord_pattern};
+ghost use Rattle.smt_term.specs.Plain.{LiteralTerm, terms as plain_terms};
+ghost use Rattle.smt_term.specs.Types.{type_of};
 ghost use Rattle.smt_term.specs.View.{plain_op, plain_term, plain_type, plain_literal, plain_variable};
-ghost use Rattle.smt_term.specs.Plain.{terms as plain_terms};
+ghost use Rattle.smt_term.specs.declared.pattern.OrdPattern.{OrdPattern};
 ghost use Rattle.smt_sexpr.specs.Reading.{Expression};
 ghost use Rattle.smt_lines.specs.Line.{Comment, DeclareConst, DefineFun, Assert, spelled_line};
 ghost use Rattle.smt_lines.specs.Lines as lines;
-ghost use Rattle.smt_lines.specs.Lines.{Tables, enter_term, name_of_term, next_term, no_names, option_line};
+ghost use Rattle.smt_lines.specs.Lines.{Tables, enter_term, name_of_term, next_term, no_names, option_line, quoted_id};
 ghost use Rattle.smt_lines.specs.Text.{names, text};
 ghost use Rattle.smt_headline.specs.Headline.{Headline};
 ghost use Rattle.std.specs.Io.KnownBytes.{append_known};
-ghost use Rattle.smt_encode.specs.Manners.{body_of};
+ghost use Rattle.smt_encode.specs.Manners.{body_fault, body_of};
+ghost use Rattle.smt_encode.specs.Refusals.{Finds, HaveNoFaults};
 ghost use Rattle.smt_lines.specs.Spelling.{spelled};
 ghost use Rattle.smt_script.specs.Sink.{Rose};
 
 use crate::error::EncodeError;
 use crate::manner::{Manner, body_text, manner_of};
-use crate::spell::{bits_literal, bits_sort, quoted_id_text, term_name};
+use crate::spell::{
+    as_text, bits_literal, bits_sort, option_sort, quoted_id_text, set_sort, set_text, some_text,
+    string_literal, term_name,
+};
 use smt_script::{Sink, SmtLibScript};
 use smt_term::{EnumTable, Op, Term, TermPrim, TermType, TermVar, Text};
 use std::alloc::Global;
@@ -27,7 +38,7 @@ use std::collections::BTreeMap;
 ///
 /// Each term that has no inline text gets one name, under which it is declared or defined once. An encoder
 /// encodes one list of terms; after that, and after an error, it is spent. It is let go by `into_script`, which gives
-/// its sink back.
+/// its sink back. No term of its table has a fault, so that a term whose name it finds there needs no second look.
 pub struct Encoder<'a, S> {
     alloc: Global,
     enums: &'a EnumTable,
@@ -35,11 +46,11 @@ pub struct Encoder<'a, S> {
     script: S,
     begun: bool,
     failed: bool,
+    ghost sound: { HaveNoFaults (enums_of enums.now) terms },
 }
 
 impl<'a, S> Encoder<'a, S> {
     ghost use Rattle.smt_encode.specs.Encoded.{entry_of, enums_in, is_spent, sink_of, HasNames};
-    ghost use Rattle.smt_term.specs.Enums.{enums_of};
 
     /// An encoder without names over this sink. Takes no memory.
     pub fn new(alloc: Global, enums: &'a EnumTable, script: S) -> Encoder<'a, S>
@@ -92,8 +103,12 @@ impl<S: Sink> Encoder<'_, S> {
     /// terms' texts, and its models are exactly the interpretations that make all terms true, which `models` says by
     /// itself.
     ///
+    /// # Errors
+    ///
     /// `Spent` comes exactly from an encoder that has encoded before or refused before, and leaves it as it is. `Io`
     /// comes only where the sink's count of faults rose in this call, or stands at its last value.
+    /// `EncodeStringFailed` and `EncodePatternFailed` come only where this is the first fault of the terms, from left
+    /// to right and a term's parts before the term; where the terms have a fault, the answer is never Ok.
     pub fn encode(&mut self, terms: &[Term]) -> Result<(), EncodeError>
         ensures text { HasNames self.old no_names → OnOk result (S.held (sink_of self.new) ≡ append_known (S.held (sink_of self.old)) (text (enums_in self.old) (map plain_term terms.now))) }
         ensures names { HasNames self.old no_names → OnOk result (HasNames self.new (names (enums_in self.old) (map plain_term terms.now))) }
@@ -103,7 +118,10 @@ impl<S: Sink> Encoder<'_, S> {
         ensures unchanged { IsTrue (is_spent self.old) → self.new ≡ self.old }
         ensures once { IsTrue (is_spent self.new) }
         ensures io { IsErrOf result EncodeError.Io → Rose (S.faults (sink_of self.old)) (S.faults (sink_of self.new)) }
-        ensures complete { is_spent self.old ≡ false → (Rose (S.faults (sink_of self.old)) (S.faults (sink_of self.new)) → ⊥) → IsOkUnless result EncodeError.Memory }
+        ensures string { (text : RcStr Global) → IsErrOf result (EncodeError.EncodeStringFailed text) → first_fault (enums_in self.old) (map plain_term terms.now) ≡ Some (EncodeStringFailed (rc_str_bytes text)) }
+        ensures pattern { (pattern : OrdPattern) → IsErrOf result (EncodeError.EncodePatternFailed pattern) → first_fault (enums_in self.old) (map plain_term terms.now) ≡ Some (EncodePatternFailed (plain_ord_pattern pattern)) }
+        ensures fault { OnOk result (first_fault (enums_in self.old) (map plain_term terms.now) ≡ None) }
+        ensures complete { is_spent self.old ≡ false → first_fault (enums_in self.old) (map plain_term terms.now) ≡ None → (Rose (S.faults (sink_of self.old)) (S.faults (sink_of self.new)) → ⊥) → IsOkUnless result EncodeError.Memory }
         ensures later { S.faults (sink_of self.old) ≤ S.faults (sink_of self.new) }
         ensures sink { S.place (sink_of self.new) ≡ S.place (sink_of self.old) }
         ensures enums { enums_in self.new ≡ enums_in self.old }
@@ -117,9 +135,10 @@ impl<S: Sink> Encoder<'_, S> {
         outcome
     }
 
-    /// The name that a term has already, shared.
+    /// The name that a term has already, shared. A term that has one has no fault.
     fn known(&self, term: &Term) -> Result<Option<Text>, EncodeError>
         ensures known { IfOk result (λ name. option_map rc_str_bytes name ≡ entry_of self.now term.now) }
+        ensures sound { IfOk result (λ found. IfSome found (λ _. term_fault (enums_in self.now) (plain_term term.now) ≡ None)) }
         ensures refusal { IsOkUnless result EncodeError.Memory }
     {
         match self.terms.get(term) {
@@ -136,8 +155,9 @@ impl<S: Sink> Encoder<'_, S> {
         Ok(term_name(self.alloc, self.terms.len())?)
     }
 
-    /// Enters a term that has no name yet.
+    /// Enters a term that has no name yet, and no fault.
     fn enter(&mut self, term: &Term, name: &Text) -> Result<(), EncodeError>
+        requires sound { term_fault (enums_in self.now) (plain_term term.now) ≡ None }
         ensures names { (s : Tables) → HasNames self.old s → name_of_term s (plain_term term.now) ≡ None →
             OnOk result (HasNames self.new (record s { terms = s.terms ++ (plain_term term.now, rc_str_bytes name.now) ∷ [] })) }
         ensures sink { self.new.script ≡ self.old.script }
@@ -152,6 +172,7 @@ impl<S: Sink> Encoder<'_, S> {
     fn put_comment(&mut self, text: &str) -> Result<(), EncodeError>
         ensures line { PutsLine S.held self.old self.new (spelled_line (Comment text.now)) result }
         ensures cause { HasCause S.faults S.place self.old self.new result }
+        ensures fault { Finds None result }
     {
         self.script.comment(text)?;
         Ok(())
@@ -161,6 +182,7 @@ impl<S: Sink> Encoder<'_, S> {
     fn put_constant(&mut self, name: &str, sort: &str) -> Result<(), EncodeError>
         ensures line { (e : Expression) → sort.now ≡ spelled e → PutsLine S.held self.old self.new (spelled_line (DeclareConst name.now e)) result }
         ensures cause { HasCause S.faults S.place self.old self.new result }
+        ensures fault { Finds None result }
     {
         self.script.declare_const(name, sort)?;
         Ok(())
@@ -170,6 +192,7 @@ impl<S: Sink> Encoder<'_, S> {
     fn put_definition(&mut self, name: &str, sort: &str, body: &str) -> Result<(), EncodeError>
         ensures line { (e b : Expression) → sort.now ≡ spelled e → body.now ≡ spelled b → PutsLine S.held self.old self.new (spelled_line (DefineFun name.now e b)) result }
         ensures cause { HasCause S.faults S.place self.old self.new result }
+        ensures fault { Finds None result }
     {
         self.script.define_fun(name, &[], sort, body)?;
         Ok(())
@@ -179,6 +202,7 @@ impl<S: Sink> Encoder<'_, S> {
     fn put_assertion(&mut self, text: &str) -> Result<(), EncodeError>
         ensures line { (e : Expression) → text.now ≡ spelled e → PutsLine S.held self.old self.new (spelled_line (Assert e)) result }
         ensures cause { HasCause S.faults S.place self.old self.new result }
+        ensures fault { Finds None result }
     {
         self.script.assert(text)?;
         Ok(())
@@ -188,6 +212,7 @@ impl<S: Sink> Encoder<'_, S> {
     fn put_option(&mut self) -> Result<(), EncodeError>
         ensures line { PutsLine S.held self.old self.new (spelled_line option_line) result }
         ensures cause { HasCause S.faults S.place self.old self.new result }
+        ensures fault { Finds None result }
     {
         let parameter = Text::from_str(self.alloc, "X")?;
         let none = Text::from_str(self.alloc, "(none)")?;
@@ -201,17 +226,38 @@ impl<S: Sink> Encoder<'_, S> {
     fn encode_type(&mut self, ty: &TermType) -> Result<Text, EncodeError>
         ensures lines { Writes S.held self.old self.new (lines.encode_type (enums_in self.old) (plain_type ty.now)) IsSpelled result }
         ensures cause { HasCause S.faults S.place self.old self.new result }
+        ensures fault { Finds (type_fault (enums_in self.old) (plain_type ty.now)) result }
     {
         match ty {
+            TermType::Option { ty } => {
+                let inner = self.encode_type(ty)?;
+                Ok(option_sort(self.alloc, inner)?)
+            }
             TermType::Bitvec { n } => Ok(bits_sort(self.alloc, *n)?),
             TermType::Bool => Ok(Text::from_str(self.alloc, "Bool")?),
+            TermType::String => Ok(Text::from_str(self.alloc, "String")?),
+            TermType::Set { ty } => {
+                let inner = self.encode_type(ty)?;
+                Ok(set_sort(self.alloc, inner)?)
+            }
         }
+    }
+
+    /// The sort of a term.
+    fn encode_sort(&mut self, term: &Term) -> Result<Text, EncodeError>
+        ensures lines { Writes S.held self.old self.new (lines.encode_type (enums_in self.old) (type_of (plain_term term.now))) IsSpelled result }
+        ensures cause { HasCause S.faults S.place self.old self.new result }
+        ensures fault { Finds (type_fault (enums_in self.old) (type_of (plain_term term.now))) result }
+    {
+        let ty = term.type_of(self.alloc)?;
+        self.encode_type(&ty)
     }
 
     /// The text of a literal.
     fn encode_literal(&mut self, literal: &TermPrim) -> Result<Text, EncodeError>
         ensures lines { Writes S.held self.old self.new (lines.encode_literal (enums_in self.old) (plain_literal literal.now)) IsSpelled result }
         ensures cause { HasCause S.faults S.place self.old self.new result }
+        ensures fault { Finds (term_fault (enums_in self.old) (LiteralTerm (plain_literal literal.now))) result }
     {
         match literal {
             TermPrim::Bitvec(bits) => Ok(bits_literal(self.alloc, bits)?),
@@ -219,30 +265,39 @@ impl<S: Sink> Encoder<'_, S> {
                 let text = if *truth { "true" } else { "false" };
                 Ok(Text::from_str(self.alloc, text)?)
             }
+            TermPrim::String(text) => string_literal(self.alloc, text),
         }
     }
 
     /// Declares a variable that has no name yet.
-    fn declare_variable(&mut self, term: &Term, variable: &TermVar) -> Result<Text, EncodeError>
-        requires { plain_term term.now ≡ plain_variable variable.now }
-        ensures lines { (s : Tables) → HasNames self.old s → name_of_term s (plain_term term.now) ≡ None →
-            WritesHere S.held self.old self.new (lines.encode_term (enums_in self.old) (plain_term term.now) s) IsSpelled result }
+    fn declare_variable(
+        &mut self,
+        term: &Term,
+        sort: &str,
+        variable: &TermVar,
+    ) -> Result<Text, EncodeError>
+        requires variable { plain_term term.now ≡ plain_variable variable.now }
+        requires sound { term_fault (enums_in self.now) (plain_term term.now) ≡ None }
+        ensures lines { (s : Tables) (e : Expression) → HasNames self.old s → name_of_term s (plain_term term.now) ≡ None → sort.now ≡ spelled e →
+            WritesHere S.held self.old self.new (enter_term (plain_term term.now) (next_term s) (Comment (quoted_id (rc_str_bytes variable.now.id)) ∷ DeclareConst (next_term s) e ∷ []) s) IsSpelled result }
         ensures cause { HasCause S.faults S.place self.old self.new result }
+        ensures fault { Finds None result }
     {
-        let sort = self.encode_type(&variable.ty)?;
         let quoted = quoted_id_text(self.alloc, variable.id.as_str())?;
         let name = self.next_name()?;
         self.put_comment(quoted.as_str())?;
-        self.put_constant(name.as_str(), sort.as_str())?;
+        self.put_constant(name.as_str(), sort)?;
         self.enter(term, &name)?;
         Ok(name)
     }
 
     /// Defines a term that has no name yet, by its body.
     fn define(&mut self, term: &Term, sort: &str, body: &str) -> Result<Text, EncodeError>
+        requires sound { term_fault (enums_in self.now) (plain_term term.now) ≡ None }
         ensures lines { (s : Tables) (e b : Expression) → HasNames self.old s → name_of_term s (plain_term term.now) ≡ None → sort.now ≡ spelled e → body.now ≡ spelled b →
             WritesHere S.held self.old self.new (lines.define (plain_term term.now) e b s) IsSpelled result }
         ensures cause { HasCause S.faults S.place self.old self.new result }
+        ensures fault { Finds None result }
     {
         let name = self.next_name()?;
         self.put_definition(name.as_str(), sort, body)?;
@@ -259,9 +314,11 @@ impl<S: Sink> Encoder<'_, S> {
         sort: &str,
         operands: Vec<Text>,
     ) -> Result<Text, EncodeError>
+        requires fault { term_fault (enums_in self.now) (plain_term term.now) ≡ body_fault manner (plain_op op.now) }
         ensures lines { (s : Tables) (e : Expression) (es : List Expression) → HasNames self.old s → name_of_term s (plain_term term.now) ≡ None → sort.now ≡ spelled e → AreSpelled es operands.items →
             WritesHere S.held self.old self.new (lines.define (plain_term term.now) e (body_of manner (plain_op op.now) es) s) IsSpelled result }
         ensures cause { HasCause S.faults S.place self.old self.new result }
+        ensures fault { Finds (body_fault manner (plain_op op.now)) result }
     {
         let body = body_text(self.alloc, manner, op, operands)?;
         self.define(term, sort, body.as_str())
@@ -269,51 +326,82 @@ impl<S: Sink> Encoder<'_, S> {
 
     /// Names a term that has no name yet `false`. It gets no line.
     fn name_false(&mut self, term: &Term) -> Result<Text, EncodeError>
+        requires sound { term_fault (enums_in self.now) (plain_term term.now) ≡ None }
         ensures lines { (s : Tables) → HasNames self.old s → name_of_term s (plain_term term.now) ≡ None →
             WritesHere S.held self.old self.new (enter_term (plain_term term.now) (codes "false") [] s) IsSpelled result }
         ensures cause { HasCause S.faults S.place self.old self.new result }
+        ensures fault { Finds None result }
     {
         let name = Text::from_str(self.alloc, "false")?;
         self.enter(term, &name)?;
         Ok(name)
     }
 
-    /// The text of a term: its name, or the text of a literal, which has none. What has no name yet gets one, its
-    /// parts first.
+    /// The text of a term: its name, or the text of a literal, which has none. What has no name yet gets one.
+    #[cycle(walk)]
     fn encode_term(&mut self, term: &Term) -> Result<Text, EncodeError>
         ensures lines { Writes S.held self.old self.new (lines.encode_term (enums_in self.old) (plain_term term.now)) IsSpelled result }
         ensures cause { HasCause S.faults S.place self.old self.new result }
+        ensures fault { Finds (term_fault (enums_in self.old) (plain_term term.now)) result }
+    {
+        if let Term::Prim(literal) = term {
+            return self.encode_literal(literal);
+        }
+        match self.known(term)? {
+            Some(name) => Ok(name),
+            None => self.encode_new(term),
+        }
+    }
+
+    /// Gives a term its name, by its lines: its sort first, then its parts in order, then its own line.
+    #[cycle(walk)]
+    fn encode_new(&mut self, term: &Term) -> Result<Text, EncodeError>
+        ensures lines { (s : Tables) → HasNames self.old s → name_of_term s (plain_term term.now) ≡ None →
+            WritesHere S.held self.old self.new (lines.encode_term (enums_in self.old) (plain_term term.now) s) IsSpelled result }
+        ensures cause { HasCause S.faults S.place self.old self.new result }
+        ensures fault { Finds (term_fault (enums_in self.old) (plain_term term.now)) result }
     {
         match term {
             Term::App { op, args, ret_ty } => {
-                if let Some(name) = self.known(term)? {
-                    return Ok(name);
-                }
-                let sort = self.encode_type(ret_ty)?;
+                let sort = self.encode_sort(term)?;
                 let args = args.items();
                 let Some(manner) = manner_of(self.alloc, op, args, ret_ty)? else {
                     return self.name_false(term);
                 };
-                let mut operands = Vec::new(self.alloc);
-                for arg in args {
-                    operands.push(self.encode_term(arg)?)?;
-                }
+                let operands = self.encode_terms(args)?;
                 self.define_application(term, manner, op, sort.as_str(), operands)
             }
+            Term::None(_) => {
+                let sort = self.encode_sort(term)?;
+                let body = as_text(self.alloc, "none", sort.as_str())?;
+                self.define(term, sort.as_str(), body.as_str())
+            }
             Term::Prim(literal) => self.encode_literal(literal),
+            Term::Set { elts, .. } => {
+                let sort = self.encode_sort(term)?;
+                let operands = self.encode_terms(elts.items())?;
+                let body = set_text(self.alloc, sort.as_str(), operands)?;
+                self.define(term, sort.as_str(), body.as_str())
+            }
+            Term::Some(inner) => {
+                let sort = self.encode_sort(term)?;
+                let operand = self.encode_term(inner)?;
+                let body = some_text(self.alloc, operand)?;
+                self.define(term, sort.as_str(), body.as_str())
+            }
             Term::Var(variable) => {
-                if let Some(name) = self.known(term)? {
-                    return Ok(name);
-                }
-                self.declare_variable(term, variable)
+                let sort = self.encode_sort(term)?;
+                self.declare_variable(term, sort.as_str(), variable)
             }
         }
     }
 
     /// The texts of terms, in order.
+    #[cycle(walk)]
     fn encode_terms(&mut self, terms: &[Term]) -> Result<Vec<Text>, EncodeError>
         ensures lines { Writes S.held self.old self.new (lines.encode_terms (enums_in self.old) (plain_terms (map plain_term terms.now))) (λ es texts. AreSpelled es texts.items) result }
         ensures cause { HasCause S.faults S.place self.old self.new result }
+        ensures fault { Finds (terms_fault (enums_in self.old) (plain_terms (map plain_term terms.now))) result }
     {
         let mut texts = Vec::new(self.alloc);
         for term in terms {
@@ -326,6 +414,7 @@ impl<S: Sink> Encoder<'_, S> {
     fn put_assertions(&mut self, texts: &[Text]) -> Result<(), EncodeError>
         ensures lines { (s : Tables) (es : List Expression) → HasNames self.old s → AreSpelled es texts.now → OnOk result (Wrote S.held self.old self.new (map Assert es) s) }
         ensures cause { HasCause S.faults S.place self.old self.new result }
+        ensures fault { Finds None result }
     {
         for text in texts {
             self.put_assertion(text.as_str())?;
@@ -337,6 +426,7 @@ impl<S: Sink> Encoder<'_, S> {
     fn put_script(&mut self, terms: &[Term]) -> Result<(), EncodeError>
         ensures lines { HasNames self.old no_names → OnOk result (Wrote S.held self.old self.new (option_line ∷ (lines.encode (enums_in self.old) (map plain_term terms.now) no_names).lines) (names (enums_in self.old) (map plain_term terms.now))) }
         ensures cause { HasCause S.faults S.place self.old self.new result }
+        ensures fault { Finds (terms_fault (enums_in self.old) (plain_terms (map plain_term terms.now))) result }
     {
         self.put_option()?;
         let texts = self.encode_terms(terms)?;

@@ -2,9 +2,13 @@
 ghost use Rattle.std.specs.Prelude.{◌≡◌};
 
 use smt_script::SinkError;
-use smt_term::TermError;
+use smt_sexpr::SExprParseError;
+use smt_term::{OrdPattern, TermError, Text};
 use std::alloc::{AllocError, AllocFailed};
 use thiserror::Error;
+
+/// The greatest code point of a character in a string of SMT-LIB 2.7 (theory UnicodeStrings).
+pub const SMT_LIB_MAX_CODE_POINT: u32 = 196607;
 
 /// Why a call of an encoder did not write its lines.
 #[derive(Debug, PartialEq, Eq, Drop, Error)]
@@ -12,6 +16,12 @@ pub enum EncodeError {
     /// The sink failed, which its count of faults shows.
     #[error("the sink of the script failed")]
     Io,
+    /// This string literal has a character above `SMT_LIB_MAX_CODE_POINT`.
+    #[error("a string has a character above U+2FFFF")]
+    EncodeStringFailed(Text),
+    /// This pattern has a character above `SMT_LIB_MAX_CODE_POINT`.
+    #[error("a pattern has a character above U+2FFFF")]
+    EncodePatternFailed(OrdPattern),
     /// An earlier call of this encoder refused, or it has encoded its terms already.
     #[error("the encoder is spent")]
     Spent,
@@ -43,6 +53,19 @@ impl From<TermError> for EncodeError {
     fn from(error: TermError) -> EncodeError {
         match error {
             TermError::Memory => EncodeError::Memory,
+        }
+    }
+}
+
+impl From<SExprParseError> for EncodeError {
+    ghost use Rattle.std.specs.Prelude.{◌≡◌};
+    ghost use Rattle.smt_encode.specs.declared.error.EncodeError.TheVariants.{Memory};
+
+    ghost from_gives = { λ _ error. error ≡ Memory };
+
+    fn from(error: SExprParseError) -> EncodeError {
+        match error {
+            SExprParseError::Memory => EncodeError::Memory,
         }
     }
 }

@@ -7,10 +7,11 @@
 mod encoder;
 mod error;
 mod manner;
+mod pattern;
 mod spell;
 
 pub use encoder::Encoder;
-pub use error::EncodeError;
+pub use error::{EncodeError, SMT_LIB_MAX_CODE_POINT};
 
 #[cfg(test)]
 mod tests;

@@ -1,16 +1,21 @@
 // How an application is written: as it stands, as an equality, or as `false`.
-ghost use Rattle.std.specs.Prelude.{◌≡◌, List, IfOk, map};
+ghost use Rattle.std.specs.Prelude.{◌≡◌, List, IfOk, OnOk, IsErrOf, map};
+ghost use Rattle.std.specs.Rc.{rc_str_bytes};
 ghost use Rattle.std.specs.String.{string_bytes};
 ghost use Rattle.smt_encode.specs.Encoded.{AreSpelled};
-ghost use Rattle.smt_encode.specs.Manners.{body_of, plain_manner};
+ghost use Rattle.smt_encode.specs.Manners.{body_fault, body_of, pattern_fault, plain_manner};
+ghost use Rattle.smt_encode.specs.Refusals.{Finds};
 ghost use Rattle.smt_lines.specs.Lines as lines;
 ghost use Rattle.smt_lines.specs.Lines.{manner};
 ghost use Rattle.smt_lines.specs.Spelling.{spelled};
 ghost use Rattle.smt_sexpr.specs.Reading.{Expression};
-ghost use Rattle.smt_term.specs.Plain.{terms};
+ghost use Rattle.smt_semantics.specs.Quoting.{pattern_expr};
+ghost use Rattle.smt_term.specs.Plain.{PatternPart, terms};
 ghost use Rattle.smt_term.specs.Types.{type_of};
 ghost use Rattle.smt_term.specs.View.{plain_op, plain_term, plain_type};
 
+use crate::error::EncodeError;
+use crate::pattern::pattern_text;
 use crate::spell::{application_text, bits_literal, head_text};
 use smt_bits::{BitVec, Width};
 use smt_term::{Op, Term, TermError, TermType, Text};
@@ -52,11 +57,14 @@ fn negation_manner(
     ensures { IfOk result (λ found. plain_manner found ≡ lines.negation_manner (terms (map plain_term args.now)) (plain_type ret_ty.now)) }
 {
     match ret_ty {
-        TermType::Bitvec { .. } => Ok(Some(Manner::AsItStands)),
         TermType::Bool => match args {
             [operand] => least_manner(alloc, operand),
             _ => Ok(Some(Manner::AsItStands)),
         },
+        TermType::Option { .. }
+        | TermType::Bitvec { .. }
+        | TermType::String
+        | TermType::Set { .. } => Ok(Some(Manner::AsItStands)),
     }
 }
 
@@ -66,7 +74,9 @@ fn least_manner(alloc: Global, operand: &Term) -> Result<Option<Manner>, TermErr
 {
     match operand.type_of(alloc)? {
         TermType::Bitvec { n } => Ok(Some(Manner::AsLeast(n))),
-        TermType::Bool => Ok(None),
+        TermType::Option { .. } | TermType::Bool | TermType::String | TermType::Set { .. } => {
+            Ok(None)
+        }
     }
 }
 
@@ -76,17 +86,55 @@ pub(crate) fn body_text(
     manner: Manner,
     op: &Op,
     mut operands: Vec<Text>,
-) -> Result<String, AllocError>
-    ensures { (es : List Expression) → AreSpelled es operands.items → IfOk result (λ text. string_bytes text ≡ spelled (body_of manner (plain_op op.now) es)) }
+) -> Result<String, EncodeError>
+    ensures text { (es : List Expression) → AreSpelled es operands.items → IfOk result (λ text. string_bytes text ≡ spelled (body_of manner (plain_op op.now) es)) }
+    ensures fault { Finds (body_fault manner (plain_op op.now)) result }
+    ensures unspent { IsErrOf result EncodeError.Spent → ⊥ }
+    ensures no_sink { IsErrOf result EncodeError.Io → ⊥ }
 {
     match manner {
         Manner::AsItStands => {
+            push_pattern(alloc, op, &mut operands)?;
             let head = head_text(alloc, op)?;
-            application_text(alloc, head.as_str(), operands.as_slice())
+            Ok(application_text(alloc, head.as_str(), operands.as_slice())?)
         }
         Manner::AsLeast(width) => {
             operands.push(bits_literal(alloc, &BitVec::int_min(width))?)?;
-            application_text(alloc, "=", operands.as_slice())
+            Ok(application_text(alloc, "=", operands.as_slice())?)
         }
     }
+}
+
+// Puts the pattern of `string.like` behind the operands. Where there are none, their empty text stands before it.
+fn push_pattern(alloc: Global, op: &Op, operands: &mut Vec<Text>) -> Result<(), EncodeError>
+    ensures operands { (es : List Expression) → AreSpelled es operands.old.items → OnOk result (AreSpelled (lines.operands (plain_op op.now) es) operands.new.items) }
+    ensures fault { Finds (pattern_fault (plain_op op.now)) result }
+    ensures unspent { IsErrOf result EncodeError.Spent → ⊥ }
+    ensures no_sink { IsErrOf result EncodeError.Io → ⊥ }
+{
+    match op {
+        Op::StringLike(pattern) => {
+            let expression = pattern_text(alloc, pattern)?;
+            push_expression(alloc, expression, operands)?;
+            Ok(())
+        }
+        _ => Ok(()),
+    }
+}
+
+// Puts a regular expression behind the operands.
+fn push_expression(
+    alloc: Global,
+    expression: Text,
+    operands: &mut Vec<Text>,
+) -> Result<(), AllocError>
+    ensures { (p : List PatternPart) (es : List Expression) → rc_str_bytes expression ≡ spelled (pattern_expr p) → AreSpelled es operands.old.items → OnOk result (AreSpelled (lines.with_pattern p es) operands.new.items) }
+{
+    if operands.is_empty() {
+        operands.push(Text::from_str(alloc, "")?)?;
+        operands.push(expression)?;
+        return Ok(());
+    }
+    operands.push(expression)?;
+    Ok(())
 }

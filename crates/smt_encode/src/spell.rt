@@ -1,11 +1,19 @@
 // The texts of names, sorts, literals, ids and applications.
-ghost use Rattle.std.specs.Prelude.{◌≡◌, ◌++◌, IfOk, OnOk, codes, decimal, encode_utf8};
+ghost use Rattle.std.specs.Prelude.{◌≡◌, ◌++◌, List, [], ◌∷◌, IfOk, OnOk, IsErrOf, codes, decimal, encode_utf8};
 ghost use Rattle.std.specs.List.{flat_map, join_by};
 ghost use Rattle.std.specs.Rc.{rc_str_bytes};
 ghost use Rattle.std.specs.String.{string_bytes};
 ghost use Rattle.smt_bits.specs.BitVec.{number_of, width_of};
 ghost use Rattle.smt_bits.specs.Width.{bits_in};
+ghost use Rattle.std.specs.Str.{chars};
+ghost use Rattle.smt_encode.specs.Encoded.{AreSpelled};
 ghost use Rattle.smt_encode.specs.Heads.{head_of};
+ghost use Rattle.smt_encode.specs.Refusals.{Finds};
+ghost use Rattle.smt_lines.specs.Spelling.{quoted};
+ghost use Rattle.smt_semantics.specs.Script.{group, name};
+ghost use Rattle.smt_semantics.specs.Sorts as sorts;
+ghost use Rattle.smt_sexpr.specs.Reading.{Expression};
+ghost use Rattle.smt_term.specs.Faults.{EncodeStringFailed, fault_unless, is_string};
 ghost use Rattle.smt_lines.specs.Lines as lines;
 ghost use Rattle.smt_lines.specs.Lines.{quoted_id, quoted_id_byte};
 ghost use Rattle.smt_lines.specs.Spelling.{spelled};
@@ -14,7 +22,9 @@ ghost use Rattle.smt_term.specs.Plain.{ZeroExtendOp};
 ghost use Rattle.smt_term.specs.View.{plain_op};
 ghost use Rattle.smt_script.specs.Texts.{texts};
 
+use crate::error::EncodeError;
 use smt_bits::{BitVec, Width};
+use smt_sexpr::quote_string;
 use smt_term::{Op, Text};
 use std::alloc::{AllocError, Global};
 
@@ -42,12 +52,73 @@ pub(crate) fn bits_literal(alloc: Global, bits: &BitVec) -> Result<Text, AllocEr
     Text::from_string(format!(in alloc; "(_ bv{number} {width})")?)
 }
 
+/// `(Option S)`, the sort of options of a sort.
+pub(crate) fn option_sort(alloc: Global, inner: Text) -> Result<Text, AllocError>
+    ensures { (e : Expression) → rc_str_bytes inner ≡ spelled e → IfOk result (λ sort. rc_str_bytes sort ≡ spelled (sorts.option_sort e)) }
+{
+    Text::from_string(application_text(alloc, "Option", &[inner])?)
+}
+
+/// `(Set S)`, the sort of sets of a sort.
+pub(crate) fn set_sort(alloc: Global, inner: Text) -> Result<Text, AllocError>
+    ensures { (e : Expression) → rc_str_bytes inner ≡ spelled e → IfOk result (λ sort. rc_str_bytes sort ≡ spelled (sorts.set_sort e)) }
+{
+    Text::from_string(application_text(alloc, "Set", &[inner])?)
+}
+
+/// A string between quotes (UnicodeStrings), or its refusal where a character is above `SMT_LIB_MAX_CODE_POINT`.
+pub(crate) fn string_literal(alloc: Global, text: &Text) -> Result<Text, EncodeError>
+    ensures text { IfOk result (λ literal. rc_str_bytes literal ≡ quoted (chars (rc_str_bytes text.now))) }
+    ensures fault { Finds (fault_unless (is_string (rc_str_bytes text.now)) (EncodeStringFailed (rc_str_bytes text.now))) result }
+    ensures unspent { IsErrOf result EncodeError.Spent → ⊥ }
+    ensures no_sink { IsErrOf result EncodeError.Io → ⊥ }
+{
+    match quote_string(alloc, text.as_str())? {
+        Some(literal) => Ok(literal),
+        None => Err(EncodeError::EncodeStringFailed(text.clone()?)),
+    }
+}
+
+/// `(as WORD S)`: the constant of this name that has this sort.
+pub(crate) fn as_text(alloc: Global, word: &str, sort: &str) -> Result<Text, AllocError>
+    ensures { (e : Expression) → sort.now ≡ spelled e → IfOk result (λ text. rc_str_bytes text ≡ spelled (group (name (codes "as") ∷ name word.now ∷ e ∷ []))) }
+{
+    let word = Text::from_str(alloc, word)?;
+    let sort = Text::from_str(alloc, sort)?;
+    Text::from_string(application_text(alloc, "as", &[word, sort])?)
+}
+
+/// `(some x)`.
+pub(crate) fn some_text(alloc: Global, operand: Text) -> Result<String, AllocError>
+    ensures { (e : Expression) → rc_str_bytes operand ≡ spelled e → IfOk result (λ text. string_bytes text ≡ spelled (group (name (codes "some") ∷ e ∷ []))) }
+{
+    application_text(alloc, "some", &[operand])
+}
+
+/// `(set.insert x y (as set.empty S))`: a set of this sort by its elements, `(as set.empty S)` where there is none.
+pub(crate) fn set_text(
+    alloc: Global,
+    sort: &str,
+    mut elements: Vec<Text>,
+) -> Result<Text, AllocError>
+    ensures { (e : Expression) (es : List Expression) → sort.now ≡ spelled e → AreSpelled es elements.items → IfOk result (λ text. rc_str_bytes text ≡ spelled (lines.set_body e es)) }
+{
+    let empty = as_text(alloc, "set.empty", sort)?;
+    if elements.is_empty() {
+        return Ok(empty);
+    }
+    elements.push(empty)?;
+    Text::from_string(application_text(alloc, "set.insert", elements.as_slice())?)
+}
+
 /// What stands before the operands of an application.
 pub(crate) fn head_text(alloc: Global, op: &Op) -> Result<Text, AllocError>
     ensures { IfOk result (λ head. rc_str_bytes head ≡ spelled (head_of (plain_op op.now))) }
 {
     match op {
         Op::Eq => Text::from_str(alloc, "="),
+        Op::OptionGet => Text::from_str(alloc, "val"),
+        Op::StringLike(_) => Text::from_str(alloc, "str.in_re"),
         Op::ZeroExtend(bits) => zero_extension(alloc, *bits),
         _ => Text::from_str(alloc, op.mk_name()),
     }

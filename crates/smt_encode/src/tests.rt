@@ -7,6 +7,8 @@ use std::alloc::Global;
 use std::process::Abort;
 use std::test::Fail;
 
+mod texts;
+
 /// The declaration of the datatype `Option`, with which each script begins.
 const OPTION: &str = "(declare-datatype Option (par (X) (\n  (none)\n  (some (val X)))))\n";
 

@@ -1,22 +1,19 @@
 -- What the readers of a datetime's parts answer: the part at the front of a text, and what follows it.
-use Rattle.std.specs.Prelude.{◌≡◌, ℕ, Bool, true, false, ◌&&◌, ◌==◌, if◌then◌else◌, Option, Some, None, length, take, drop, List, [], ◌∷◌}
+use Rattle.std.specs.Prelude.{ℕ, Bool, true, false, ◌&&◌, ◌==◌, if◌then◌else◌, Option, Some, None, length, take, drop, List, [], ◌∷◌}
 use Rattle.std.specs.List.{list_all}
+use Rattle.std.specs.Option.{option_and_then}
 use Rattle.smt_ext.specs.declared.datetime.stamp.Day.{Day}
 use Rattle.smt_ext.specs.declared.datetime.stamp.Clock.{Clock}
 use Rattle.smt_ext.specs.declared.datetime.stamp.Stamp.{Stamp}
 use Rattle.smt_ext.specs.declared.datetime.stamp.Zone.{Zone}
 use Rattle.smt_ext.specs.declared.datetime.stamp.Zone.TheVariants.{Utc, Offset}
 use Rattle.smt_ext.specs.Digits.{is_digit, number_of}
+use Rattle.smt_ext.specs.Front.{byte_at}
 
+-- `option_and_then` of std, written between what is read first and what is read then
 infixl 10 ◌>>=◌
 abbrev pub ◌>>=◌ : {A B : Type 0} → Option A → (A → Option B) → Option B
-(Some x) >>= f = f x
-None >>= f = None
-
--- what a function returned, seen by the view, is what reading gives
-abbrev pub Gives : {X Y : Type 0} → (X → Y) → Option X → Option Y → Type 0
-Gives view (Some x) read = read ≡ Some (view x)
-Gives view None read = read ≡ None
+o >>= f = option_and_then f o
 
 abbrev pub is_empty : List ℕ → Bool
 is_empty text = length text == 0
@@ -27,11 +24,6 @@ field_at k text =
     if (length (take k text) == k) && list_all is_digit (take k text)
     then Some (number_of (take k text), drop k text)
     else None
-
--- this byte
-unfoldable pub byte_at : ℕ → List ℕ → Option (List ℕ)
-byte_at c [] = None
-byte_at c (b ∷ rest) = if b == c then Some rest else None
 
 unfoldable pub day_at : List ℕ → Option (Day × List ℕ)
 day_at text = do

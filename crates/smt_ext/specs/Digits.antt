@@ -1,12 +1,8 @@
 -- Decimal digits in texts of bytes, and the numbers that they write.
-use Rattle.std.specs.Prelude.{ℕ, zero, suc, ◌+◌, ◌-◌, ◌*◌, ◌/◌, ◌%◌, ◌^◌, Bool, true, false, ◌&&◌, nat_le, ℤ, pos, neg_ℤ, codes, List, [], ◌∷◌}
-use Rattle.std.specs.Int.{w64}
-use Rattle.std.specs.Int.RustNames.{FitsSigned}
+use Rattle.std.specs.Prelude.{ℕ, zero, suc, ◌+◌, ◌-◌, ◌*◌, ◌/◌, ◌%◌, ◌^◌, Bool, true, false, ◌&&◌, ℤ, pos, neg_ℤ, codes, List, [], ◌∷◌}
 use Rattle.std.specs.List.{fold, list_all}
-
--- '0' to '9'
-abbrev pub is_digit : ℕ → Bool
-is_digit b = nat_le 48 b && nat_le b 57
+pub use Rattle.smt_bits.specs.Longs.{IsLong}
+pub use Rattle.smt_characters.specs.Characters.{is_digit}
 
 -- at least one digit, and nothing else
 abbrev pub is_numeral : List ℕ → Bool
@@ -31,7 +27,3 @@ minus_if false = []
 abbrev pub signed : Bool → ℕ → ℤ
 signed true n = neg_ℤ (pos n)
 signed false n = pos n
-
--- from -2 to the 63 up to 2 to the 63, less one
-abbrev pub IsLong : ℤ → Type 0
-IsLong v = FitsSigned w64 v

@@ -1,5 +1,5 @@
 -- What stands at the front of a text.
-use Rattle.std.specs.Prelude.{◌≡◌, ℕ, Bool, true, false, not, IsTrue, reverse, List, [], ◌∷◌, ◌++◌}
+use Rattle.std.specs.Prelude.{◌≡◌, ℕ, Bool, true, false, not, IsTrue, reverse, ◌==◌, if◌then◌else◌, Option, Some, None, List, [], ◌∷◌, ◌++◌}
 use Rattle.std.specs.List.{list_all}
 use Rattle.smt_ext.specs.Digits.{minus_if}
 
@@ -24,3 +24,13 @@ pub record IsRunAtEnd (test : ℕ → Bool) (text front run : List ℕ) : Type 0
   pub whole : text ≡ front ++ run
   pub each : IsTrue (list_all test run)
   pub longest : IsTrue (begins_without test (reverse front))
+
+-- what a function returned, seen by the view, is what reading gives
+abbrev pub Gives : {X Y : Type 0} → (X → Y) → Option X → Option Y → Type 0
+Gives view (Some x) read = read ≡ Some (view x)
+Gives view None read = read ≡ None
+
+-- what follows this byte
+unfoldable pub byte_at : ℕ → List ℕ → Option (List ℕ)
+byte_at c [] = None
+byte_at c (b ∷ rest) = if b == c then Some rest else None

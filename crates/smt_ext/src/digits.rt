@@ -3,7 +3,7 @@ ghost use Rattle.std.specs.Prelude.{◌≡◌, ◌^◌, ◌<◌, ◌∷◌, ℕ,
 ghost use Rattle.std.specs.List.{list_all, take_while};
 ghost use Rattle.std.specs.Option.{SomeIff};
 ghost use Rattle.smt_ext.specs.Digits.{is_digit, is_numeral, number_of, signed, IsLong};
-ghost use Rattle.smt_ext.specs.Front.{IsRun, IsRunAtEnd, IsSigned};
+ghost use Rattle.smt_ext.specs.Front.{Gives, IsRun, IsRunAtEnd, IsSigned, byte_at};
 
 // Whether the byte is a decimal digit.
 fn is_decimal(byte: u8) -> bool
@@ -76,9 +76,11 @@ pub fn number(digits: &[u8]) -> Option<u64>
 }
 
 /// What follows the byte, where the text begins with it.
+#[tactic(auto, unfolding(crate::specs::Front::byte_at))]
 pub fn behind(text: &[u8], byte: u8) -> Option<&[u8]>
     ensures found { IfSome result (λ rest. text.now ≡ byte ∷ rest.now) }
     ensures none { IfNone result ((rest : List ℕ) → text.now ≡ byte ∷ rest → ⊥) }
+    ensures read { Gives (λ rest. rest.now) result (byte_at byte text.now) }
 {
     let (first, rest) = text.split_first()?;
     if *first == byte { Some(rest) } else { None }

@@ -16,7 +16,8 @@ use Rattle.smt_factory.proofs.ConnectivesStand.{chosen_type}
 use Rattle.smt_factory.proofs.Standing.{itself}
 use Rattle.smt_term.specs.Operators.{apply, number, width}
 use Rattle.smt_term.specs.Tables.{Interpretation}
-use Rattle.smt_term.specs.Types.{bits_and_bits, is_type, result_type, type_eq, typed}
+use Rattle.smt_term.specs.Types.{bits_and_bits, is_type, result_type, type_eq}
+use Rattle.smt_term.specs.Typing.{typed}
 use Rattle.smt_term.proofs.TypeOrder.{eq_same}
 use Rattle.smt_term.specs.Plain.{BitVecType, BoolType, PlainOp, BvaddOp, BvlshrOp, BvmulOp, BvsaddoOp, BvsdivOp, BvshlOp, BvsleOp, BvsltOp, BvsmodOp, BvsmuloOp, BvsremOp, BvssuboOp, BvsubOp, BvudivOp, BvuleOp, BvultOp, BvuremOp, EqOp, BitVecLiteral, PlainTerm, LiteralTerm}
 use Rattle.smt_term.specs.Values.{Value, BitVecValue}

@@ -38,6 +38,19 @@ module _ (answers : Term → Result Term TermError → Type 0) where
       let k : (all : List PlainTerm) × AllZip (Gives answers) (map plain_term ts) all × (folded_any_from any [] ≡ folded_any all) = h [] (subst P (sym d) tt) in
       record { given = k.0; each = k.1; folded = k.2 }
 
+  each_folded : (f : PlainTerm → PlainTerm) → ((t u : Term) → answers t (Ok u) → plain_term u ≡ f (plain_term t)) → (ts us : List PlainTerm) → AllZip (Gives answers) ts us → us ≡ map f ts
+  each_folded f g [] [] z = refl
+  each_folded f g [] (u ∷ us) z = elim z [ ]
+  each_folded f g (t ∷ ts) [] z = elim z [ ]
+  each_folded f g (t ∷ ts) (u ∷ us) z =
+      let p : u ≡ f t = sym z.0.said ∙ (g z.0.argument z.0.answer z.0.gives ∙ ap f z.0.asked) in
+      let q : us ≡ map f ts = each_folded f g ts us z.1 in
+      λ i. p i ∷ q i
+
+  -- where the call folds by a function of plain terms
+  pub any_folded : (f : PlainTerm → PlainTerm) (ts : List PlainTerm) (r : PlainTerm) → ((t u : Term) → answers t (Ok u) → plain_term u ≡ f (plain_term t)) → IsAnyOf answers ts r → r ≡ folded_any (map f ts)
+  any_folded f ts r g h = h.folded ∙ ap folded_any (each_folded f g ts h.given h.each)
+
   each_stands : (original : PlainTerm → PlainTerm) → GivesWhatStandsFor answers original → (ts us : List PlainTerm) → AllZip (Gives answers) ts us → AllZip StandsFor us (map original ts)
   each_stands original g [] [] z = tt
   each_stands original g [] (u ∷ us) z = elim z [ ]

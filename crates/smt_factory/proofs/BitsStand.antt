@@ -21,7 +21,8 @@ use Rattle.smt_term.specs.Operators.{width, number, to_bits, to_truth, apply}
 use Rattle.smt_term.specs.Reached.{subterms, subterms_of_all}
 use Rattle.smt_term.specs.Shapes.{IsShaped}
 use Rattle.smt_term.specs.Tables.{Interpretation}
-use Rattle.smt_term.specs.Types.{type_of, is_bits, extended_type, is_type, typed}
+use Rattle.smt_term.specs.Types.{type_of, is_bits, extended_type, is_type}
+use Rattle.smt_term.specs.Typing.{typed}
 use Rattle.smt_term.proofs.Shapes.{term_shaped}
 use Rattle.smt_term.proofs.Soundness.{all-last}
 use Rattle.smt_term.specs.Plain.{PlainType, BitVecType, BoolType, PlainOp, BvnegOp, BvnegoOp, ZeroExtendOp, PlainLiteral, BitVecLiteral, PlainTerm, Application, LiteralTerm, no_terms, one_term, terms}

@@ -17,7 +17,8 @@ use Rattle.smt_term.specs.Reached.{subterms, subterms_of_all}
 use Rattle.smt_term.specs.Shapes.{IsShaped}
 use Rattle.smt_term.specs.Tables.{Interpretation}
 use Rattle.smt_term.specs.TermOrder.{term_eq}
-use Rattle.smt_term.specs.Types.{type_eq, type_of, is_type, typed, Typed}
+use Rattle.smt_term.specs.Types.{type_eq, type_of, is_type}
+use Rattle.smt_term.specs.Typing.{typed, Typed}
 use Rattle.smt_term.specs.TypeValues.{Enums}
 use Rattle.smt_term.proofs.Shapes.{term_shaped}
 use Rattle.smt_term.proofs.Soundness.{all-front, all-back}

@@ -20,7 +20,8 @@ use Rattle.smt_term.specs.Operators.{truth}
 use Rattle.smt_term.specs.Reached.{subterms, subterms_of_all}
 use Rattle.smt_term.specs.Tables.{Interpretation}
 use Rattle.smt_term.specs.TermOrder.{term_eq}
-use Rattle.smt_term.specs.Types.{type_eq, type_of, is_type, typed}
+use Rattle.smt_term.specs.Types.{type_eq, type_of, is_type}
+use Rattle.smt_term.specs.Typing.{typed}
 use Rattle.smt_term.specs.TypeValues.{Enums}
 use Rattle.smt_term.specs.ValueOrder.{value_eq, value_cmp}
 use Rattle.smt_term.proofs.Defaults.{all-join}
@@ -37,10 +38,10 @@ boolean_type t h = eq_same (type_of t) BoolType h
 
 -- ---- values
 
-equal_values : (v w : Value) → v ≡ w → value_eq v w ≡ true
+pub equal_values : (v w : Value) → v ≡ w → value_eq v w ≡ true
 equal_values v w e = sym (ap (λ u. value_eq v u) e) ∙ ap is_eq (value_itself v)
 
-value_is : (v w : Value) → value_eq v w ≡ true → v ≡ w
+pub value_is : (v w : Value) → value_eq v w ≡ true → v ≡ w
 value_is v w h = value_same v w ((Equal-is (value_cmp v w)).0 h)
 
 true_is : (x : Bool) → BoolValue x ≡ BoolValue (value_eq (BoolValue true) (BoolValue x))
@@ -66,16 +67,16 @@ pub record EqParts (t u : PlainTerm) : Type 0 where
   pub second : typed u ≡ true
   pub types : type_of t ≡ type_of u
 
-eq_parts : (t u : PlainTerm) → typed (eq_of t u) ≡ true → EqParts t u
+pub eq_parts : (t u : PlainTerm) → typed (eq_of t u) ≡ true → EqParts t u
 eq_parts t u h =
     let a : (typed t && (typed u && true)) ≡ true = first_so (typed t && (typed u && true)) (is_type (then_some (type_eq (type_of t) (type_of u)) BoolType) BoolType) h in
     let b : (type_eq (type_of t) (type_of u) ≡ true) × (BoolType ≡ BoolType) = chosen_type (type_eq (type_of t) (type_of u)) BoolType BoolType (second_so (typed t && (typed u && true)) (is_type (then_some (type_eq (type_of t) (type_of u)) BoolType) BoolType) h) in
     record { first = first_so (typed t) (typed u && true) a; second = first_so (typed u) true (second_so (typed t) (typed u && true) a); types = eq_same (type_of t) (type_of u) b.0 }
 
-literal_for_eq : (b : Bool) (t u : PlainTerm) → ((enums : Enums) (I : Interpretation) → EqParts t u → IsFormed (eq_of t u) → b ≡ value_eq (meaning I t) (meaning I u)) → StandsFor (truth_literal b) (eq_of t u)
+pub literal_for_eq : (b : Bool) (t u : PlainTerm) → ((enums : Enums) (I : Interpretation) → EqParts t u → IsFormed (eq_of t u) → b ≡ value_eq (meaning I t) (meaning I u)) → StandsFor (truth_literal b) (eq_of t u)
 literal_for_eq b t u e = standing_within (truth_literal b) (eq_of t u) (λ P n h. (n (truth_literal b) tt, tt)) (λ h. (refl, refl)) (λ enums I h f g. ap BoolValue (e enums I (eq_parts t u h) f))
 
-equal_for_eq : (t u : PlainTerm) → t ≡ u → StandsFor true_term (eq_of t u)
+pub equal_for_eq : (t u : PlainTerm) → t ≡ u → StandsFor true_term (eq_of t u)
 equal_for_eq t u e = literal_for_eq true t u (λ enums I p f. sym (equal_values (meaning I t) (meaning I u) (ap (meaning I) e)))
 
 differing : (t u : PlainTerm) → (is_literal t && is_literal u) ≡ true → (t ≡ u → ⊥) → (I : Interpretation) → EqParts t u → IsFormed (eq_of t u) → false ≡ value_eq (meaning I t) (meaning I u)
@@ -100,7 +101,7 @@ eq_true t =
     let e : meaning I t ≡ BoolValue (truth (meaning I t)) = boolean enums I t (eq_parts t true_term h).first (eq_parts t true_term h).types (first_argument IsFormedNode EqOp t true_term BoolType f.literals) (first_argument (IsGiven enums I) EqOp t true_term BoolType g) in
     e ∙ (is_true (truth (meaning I t)) ∙ ap (λ v. BoolValue (value_eq v (BoolValue true))) (sym e))))
 
-not_typed : (t : PlainTerm) → typed t ≡ true → type_of t ≡ BoolType → typed (not_of t) ≡ true
+pub not_typed : (t : PlainTerm) → typed t ≡ true → type_of t ≡ BoolType → typed (not_of t) ≡ true
 not_typed t h e = both_true (both_true h refl) (ap (λ b. is_type (then_some b BoolType) BoolType) ((types_decided (type_of t) BoolType).1 e))
 
 false_eq : (u : PlainTerm) → StandsFor (not_of u) (eq_of false_term u)
@@ -175,7 +176,7 @@ pub record IteParts (g t u : PlainTerm) : Type 0 where
   pub guard_type : type_of g ≡ BoolType
   pub types : type_of t ≡ type_of u
 
-ite_parts : (g t u : PlainTerm) (ty : PlainType) → typed (Application IteOp (terms (g ∷ t ∷ u ∷ [])) ty) ≡ true → IteParts g t u
+pub ite_parts : (g t u : PlainTerm) (ty : PlainType) → typed (Application IteOp (terms (g ∷ t ∷ u ∷ [])) ty) ≡ true → IteParts g t u
 ite_parts g t u ty h =
     let k : Bool = type_eq (type_of g) BoolType && type_eq (type_of t) (type_of u) in
     let a : (typed g && (typed t && (typed u && true))) ≡ true = first_so (typed g && (typed t && (typed u && true))) (is_type (then_some k (type_of t)) ty) h in
@@ -188,7 +189,7 @@ module _ (P : PlainTerm → Type 0) (g t u : PlainTerm) (ty : PlainType) (h : Al
   of_all : AllByRecursion P (subterms_of_all (terms (g ∷ t ∷ u ∷ [])))
   of_all = all-front P (subterms_of_all (terms (g ∷ t ∷ u ∷ []))) (Application IteOp (terms (g ∷ t ∷ u ∷ [])) ty ∷ []) h
 
-  of_guard : AllByRecursion P (subterms g)
+  pub of_guard : AllByRecursion P (subterms g)
   of_guard = all-front P (subterms g) (subterms_of_all (terms (t ∷ u ∷ []))) of_all
 
   of_first : AllByRecursion P (subterms t)

@@ -1,21 +1,20 @@
 -- What the code's tests decide, in the words of the foldings.
-use Rattle.std.proofs.Common.{◌≡◌, ℕ, ◌+◌, ◌%◌, ◌^◌, ◌<◌, Some, refl, ap, ◌∙◌, sym, subst}
+use Rattle.std.proofs.Common.{◌≡◌, ℕ, ◌+◌, ◌%◌, ◌^◌, ◌<◌, true, false, None, Some, refl, ap, ◌∙◌, sym, subst}
 use Rattle.std.proofs.Math.Nat.{mod-eq_of_lt}
 use Rattle.smt_bits.specs.BitVectors as bits
 use Rattle.smt_bits.proofs.BitRanges as ranges
-use Rattle.smt_factory.specs.Applications.{not_of, and_of, or_of, implies_of, eq_of, ite_of, bvneg_of, test_of_two, zero_extend_of}
-use Rattle.smt_factory.specs.FoldBits.{folded_bvneg, folded_zero_extend, folded_bvsaddo, folded_bvssubo, folded_bvsmulo}
+use Rattle.smt_factory.specs.Applications.{false_term, not_of, and_of, or_of, implies_of, eq_of, ite_of, bvneg_of, bvnego_of, test_of_two, zero_extend_of}
+use Rattle.smt_factory.specs.FoldBits.{folded_bvneg, folded_bvnego, folded_zero_extend, folded_bvsaddo, folded_bvssubo, folded_bvsmulo}
 use Rattle.smt_factory.specs.FoldConnectives.{folded_not, is_negation, folded_and, folded_or, folded_implies}
 use Rattle.smt_factory.specs.FoldEquality.{folded_eq, folded_eq_inside, folded_ite, folded_ite_inside}
-use Rattle.smt_factory.specs.Parts.{negated}
+use Rattle.smt_factory.specs.Parts.{are_some, are_some_and_none, held, is_none_term, negated}
 use Rattle.smt_factory.specs.StandsFor.{StandsFor}
-use Rattle.smt_factory.proofs.BitsStand.{stands_bvneg, stands_test, stands_zero_extend}
+use Rattle.smt_factory.proofs.BitsStand.{stands_bvneg, stands_bvnego, stands_test, stands_zero_extend}
 use Rattle.smt_factory.proofs.ConnectivesStand.{stands_not, stands_and, stands_or, stands_implies}
 use Rattle.smt_factory.proofs.EqualityStands.{stands_eq, stands_ite}
-use Rattle.smt_term.specs.Plain.{BvsaddoOp, BvsmuloOp, BvssuboOp, NotOp, PlainTerm, Application, no_terms, one_term}
+use Rattle.smt_term.specs.Plain.{BvsaddoOp, BvsmuloOp, BvssuboOp, NotOp, PlainTerm, Application, NoneTerm, SomeTerm, no_terms, one_term}
 use Rattle.smt_term.specs.TermOrder.{term_eq}
-use Rattle.smt_term.specs.View.{plain_term, plain_term-App, plain_term-Prim, plain_term-Var}
-use Rattle.smt_term.specs.declared.term.Term.{Term, App', Prim, Var}
+use Rattle.smt_term.specs.View.{views, plain_term-App, plain_type-Option, plain_type-Bitvec, plain_type-Bool, plain_type-String, plain_type-Set}
 use Rattle.smt_term.proofs.DerivedEquality.{eq-is}
 
 -- ---- what a term is
@@ -24,18 +23,55 @@ pub is_negation-some : (t u v : PlainTerm) → negated u ≡ Some v → is_negat
 is_negation-some t (Application NotOp (one_term w no_terms) ty) v e = let same : w ≡ v = cc in let P : PlainTerm → Type 0 = λ x. term_eq t w ≡ term_eq t x in subst P same refl
 is_negation-some t u v e = cc
 
--- no term of the program is a `some` or none
-pub folded_eq-inside : (t u : Term) → folded_eq (plain_term t) (plain_term u) ≡ folded_eq_inside (plain_term t) (plain_term u)
-unfolding plain_term
-folded_eq-inside (App' op p shape row type) u = refl
-folded_eq-inside (Prim literal) u = refl
-folded_eq-inside (Var v) u = refl
+-- two `some`, some and none, and all else
+pub are_some-first : (t u : PlainTerm) → held t ≡ None → are_some t u ≡ false
+are_some-first (SomeTerm t) u e = cc
+are_some-first t u e = refl
 
-pub folded_ite-inside : (g t u : Term) → folded_ite (plain_term g) (plain_term t) (plain_term u) ≡ folded_ite_inside (plain_term g) (plain_term t) (plain_term u)
-unfolding plain_term
-folded_ite-inside g (App' op p shape row type) u = refl
-folded_ite-inside g (Prim literal) u = refl
-folded_ite-inside g (Var v) u = refl
+pub are_some-second : (t u : PlainTerm) → held u ≡ None → are_some t u ≡ false
+are_some-second (SomeTerm t) (SomeTerm u) e = cc
+are_some-second (SomeTerm t) u e = refl
+are_some-second t u e = refl
+
+pub some_and_none-some : (t u v : PlainTerm) → t ≡ SomeTerm v → are_some_and_none t u ≡ is_none_term u
+some_and_none-some t u v e = ap (λ x. are_some_and_none x u) e ∙ of_some u
+  where
+    of_some : (x : PlainTerm) → are_some_and_none (SomeTerm v) x ≡ is_none_term x
+    of_some (NoneTerm ty) = refl
+    of_some x = refl
+
+pub some_and_none-other : (t u : PlainTerm) → held t ≡ None → are_some_and_none t u ≡ false
+some_and_none-other (SomeTerm t) u e = cc
+some_and_none-other t u e = refl
+
+pub folded_eq-held : (t u a b : PlainTerm) → t ≡ SomeTerm a → u ≡ SomeTerm b → folded_eq t u ≡ folded_eq_inside a b
+folded_eq-held t u a b e d = λ i. folded_eq (e i) (d i)
+
+pub folded_eq-apart : (t u : PlainTerm) → are_some_and_none t u ≡ true → folded_eq t u ≡ false_term
+folded_eq-apart (SomeTerm t) (NoneTerm ty) e = refl
+folded_eq-apart (SomeTerm t) u e = cc
+folded_eq-apart t u e = cc
+
+pub folded_eq-turned : (t u : PlainTerm) → are_some_and_none u t ≡ true → folded_eq t u ≡ false_term
+folded_eq-turned (NoneTerm ty) (SomeTerm u) e = refl
+folded_eq-turned t (SomeTerm u) e = cc
+folded_eq-turned t u e = cc
+
+pub folded_eq-inside : (t u : PlainTerm) → are_some t u ≡ false → are_some_and_none t u ≡ false → are_some_and_none u t ≡ false → folded_eq t u ≡ folded_eq_inside t u
+folded_eq-inside (SomeTerm t) (SomeTerm u) e d f = cc
+folded_eq-inside (SomeTerm t) (NoneTerm ty) e d f = cc
+folded_eq-inside (NoneTerm ty) (SomeTerm u) e d f = cc
+folded_eq-inside (SomeTerm t) u e d f = refl
+folded_eq-inside (NoneTerm ty) u e d f = refl
+folded_eq-inside t u e d f = refl
+
+pub folded_ite-held : (g t u a b : PlainTerm) → t ≡ SomeTerm a → u ≡ SomeTerm b → folded_ite g t u ≡ SomeTerm (folded_ite_inside g a b)
+folded_ite-held g t u a b e d = λ i. folded_ite g (e i) (d i)
+
+pub folded_ite-inside : (g t u : PlainTerm) → are_some t u ≡ false → folded_ite g t u ≡ folded_ite_inside g t u
+folded_ite-inside g (SomeTerm t) (SomeTerm u) e = cc
+folded_ite-inside g (SomeTerm t) u e = refl
+folded_ite-inside g t u e = refl
 
 -- ---- what is folded stands for what was asked for
 
@@ -60,6 +96,9 @@ stands_for_ite r g t u e = subst (λ (x : PlainTerm). StandsFor x (ite_of g t u)
 pub stands_for_bvneg : (r t : PlainTerm) → r ≡ folded_bvneg t → StandsFor r (bvneg_of t)
 stands_for_bvneg r t e = subst (λ (x : PlainTerm). StandsFor x (bvneg_of t)) (sym e) (stands_bvneg t)
 
+pub stands_for_bvnego : (r t : PlainTerm) → r ≡ folded_bvnego t → StandsFor r (bvnego_of t)
+stands_for_bvnego r t e = subst (λ (x : PlainTerm). StandsFor x (bvnego_of t)) (sym e) (stands_bvnego t)
+
 pub stands_for_zero_extend : (r : PlainTerm) (k : ℕ) (t : PlainTerm) → r ≡ folded_zero_extend k t → StandsFor r (zero_extend_of k t)
 stands_for_zero_extend r k t e = subst (λ (x : PlainTerm). StandsFor x (zero_extend_of k t)) (sym e) (stands_zero_extend k t)
 
@@ -78,4 +117,12 @@ stands_for_bvsmulo r t u e = subst (λ (x : PlainTerm). StandsFor x (test_of_two
 pub same_extended : (n k w a : ℕ) → a < 2 ^ n → w ≡ n + k → a % 2 ^ w ≡ a
 same_extended n k w a l e = ap (λ x. a % 2 ^ x) e ∙ mod-eq_of_lt (ranges.wider n k a l)
 
-pub ruleset folding = (plain_term-App, plain_term-Prim, plain_term-Var, eq-is, is_negation-some, stands_for_not, stands_for_and, stands_for_or, stands_for_implies, folded_eq-inside, folded_ite-inside, stands_for_eq, stands_for_ite)
+pub ruleset folding = (plain_term-App, plain_type-Bool, eq-is, is_negation-some, stands_for_not, stands_for_and, stands_for_or, stands_for_implies, stands_for_eq, stands_for_ite, stands_for_bvneg, stands_for_bvnego, stands_for_zero_extend)
+
+-- for what matches on terms, and on types
+pub ruleset matching = (views, is_negation-some, are_some-first, are_some-second, some_and_none-some, some_and_none-other)
+
+pub ruleset types = (plain_type-Option, plain_type-Bitvec, plain_type-Bool, plain_type-String, plain_type-Set)
+
+-- for equality and choice of two options
+pub ruleset choosing = (folded_eq-held, folded_eq-apart, folded_eq-turned, folded_eq-inside, folded_ite-held, folded_ite-inside)

@@ -5,8 +5,17 @@ pub mod BuiltTerms
 pub mod ConnectivesStand
 pub mod EqualityStands
 pub mod Folding
+pub mod FoldingOptions
+pub mod FoldingSets
 pub mod Least
+pub mod OptionsStand
 pub mod OutOfRange
 pub mod Reaching
 pub mod Records
+pub mod SetLists
+pub mod SetValues
+pub mod SetsKept
+pub mod SetsStand
 pub mod Standing
+pub mod StringsStand
+pub mod TypeTests

@@ -12,7 +12,8 @@ use Rattle.smt_term.specs.Interpretations.{IsGiven, IsInterpretation}
 use Rattle.smt_term.specs.Meaning.{meaning, field_meanings, term_value}
 use Rattle.smt_term.specs.Reached.{subterms, subterms_of_fields, reached_terms, types_within, types_within_attributes, variable_of, function_of, opened_of, selector_of}
 use Rattle.smt_term.specs.Tables.{Interpretation}
-use Rattle.smt_term.specs.Types.{type_of, field_types, typed, typed_fields}
+use Rattle.smt_term.specs.Types.{type_of, field_types}
+use Rattle.smt_term.specs.Typing.{typed, typed_fields}
 use Rattle.smt_term.specs.TypeValues.{Enums}
 use Rattle.smt_term.specs.ValueOrder.{text_cmp, ascends}
 use Rattle.smt_term.proofs.Defaults.{all-join}
@@ -20,7 +21,7 @@ use Rattle.smt_term.proofs.Soundness.{all-front, all-back, all-last}
 use Rattle.smt_term.specs.Plain.{RecordType, attribute, PlainTerm, RecordTerm, PlainFields, no_fields, one_field}
 use Rattle.smt_term.specs.Values.{RecordValue, one_field_value}
 
-abbrev HasFormedType : PlainTerm → Type 0
+abbrev pub HasFormedType : PlainTerm → Type 0
 HasFormedType w = IsFormedType (type_of w)
 
 -- ---- fields

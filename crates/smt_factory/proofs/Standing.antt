@@ -4,6 +4,7 @@ use Rattle.std.specs.Prelude.{cond, Option, IfSome, Contains}
 use Rattle.std.specs.Cmp.{first_so, second_so}
 use Rattle.std.specs.Cmp.Derive.{both_true}
 use Rattle.std.specs.List.{AllByRecursion, AllZip, filter_map}
+use Rattle.smt_factory.specs.Applications.{truth_literal}
 use Rattle.smt_factory.specs.StandsFor.{AreAmong, StandsFor}
 use Rattle.smt_factory.proofs.Reaching.{AsksNothing, Reaches, IsBrought, brought_itself, among_brought, through, among, interpreted}
 use Rattle.smt_term.specs.Formed.{IsFormedHere, IsFormedType, IsFormedNode, IsFormed}
@@ -12,7 +13,8 @@ use Rattle.smt_term.specs.Meaning.{meaning, meanings, term_value}
 use Rattle.smt_term.specs.Operators.{apply}
 use Rattle.smt_term.specs.Reached.{subterms, subterms_of_all, subterms_of_fields, reached_terms, types_within, variable_of, function_of, opened_of, selector_of}
 use Rattle.smt_term.specs.Tables.{Interpretation}
-use Rattle.smt_term.specs.Types.{type_of, types_of, result_type, is_type, typed, typed_all, Typed}
+use Rattle.smt_term.specs.Types.{type_of, types_of, result_type, is_type}
+use Rattle.smt_term.specs.Typing.{typed, typed_all, Typed}
 use Rattle.smt_term.specs.TypeValues.{Enums}
 use Rattle.smt_term.proofs.Defaults.{all-join}
 use Rattle.smt_term.proofs.Soundness.{all-front, all-back, all-last}
@@ -118,9 +120,13 @@ pub standing_within : (t u : PlainTerm) → Within t u → SameType t u → Same
 standing_within t u w y v =
     standing t u (λ P q h. w P (λ x n. q x (new_asks x n)) h) (λ f. record { literals = w IsFormedNode new_formed f.literals; types = w (λ x. IsFormedType (type_of x)) new_type f.types }) y v
 
+-- a truth value for a term
+pub truth_standing : (b : Bool) (u : PlainTerm) → type_of u ≡ BoolType → SameMeaning (truth_literal b) u → StandsFor (truth_literal b) u
+truth_standing b u e v = standing_within (truth_literal b) u (λ P n h. (n (truth_literal b) tt, tt)) (λ h. (refl, sym e)) v
+
 -- ---- applications and `some` of terms that stand for others
 
-formed_all : (ts us : List PlainTerm) → AllZip StandsFor ts us → AllByRecursion IsFormedNode (subterms_of_all (terms us)) → AllByRecursion (λ w. IsFormedType (type_of w)) (subterms_of_all (terms us)) → AllByRecursion IsFormedNode (subterms_of_all (terms ts)) × AllByRecursion (λ w. IsFormedType (type_of w)) (subterms_of_all (terms ts))
+pub formed_all : (ts us : List PlainTerm) → AllZip StandsFor ts us → AllByRecursion IsFormedNode (subterms_of_all (terms us)) → AllByRecursion (λ w. IsFormedType (type_of w)) (subterms_of_all (terms us)) → AllByRecursion IsFormedNode (subterms_of_all (terms ts)) × AllByRecursion (λ w. IsFormedType (type_of w)) (subterms_of_all (terms ts))
 formed_all [] [] z h g = (tt, tt)
 formed_all [] (u ∷ us) z h g = elim z [ ]
 formed_all (t ∷ ts) [] z h g = elim z [ ]
@@ -129,7 +135,7 @@ formed_all (t ∷ ts) (u ∷ us) z h g =
     let r = formed_all ts us z.1 (all-back IsFormedNode (subterms u) (subterms_of_all (terms us)) h) (all-back (λ w. IsFormedType (type_of w)) (subterms u) (subterms_of_all (terms us)) g) in
     (all-join IsFormedNode (subterms t) (subterms_of_all (terms ts)) f.literals r.0, all-join (λ w. IsFormedType (type_of w)) (subterms t) (subterms_of_all (terms ts)) f.types r.1)
 
-types_all : (ts us : List PlainTerm) → AllZip StandsFor ts us → typed_all (terms us) ≡ true → (typed_all (terms ts) ≡ true) × (types_of (terms ts) ≡ types_of (terms us))
+pub types_all : (ts us : List PlainTerm) → AllZip StandsFor ts us → typed_all (terms us) ≡ true → (typed_all (terms ts) ≡ true) × (types_of (terms ts) ≡ types_of (terms us))
 types_all [] [] z h = (refl, refl)
 types_all [] (u ∷ us) z h = elim z [ ]
 types_all (t ∷ ts) [] z h = elim z [ ]
@@ -140,7 +146,7 @@ types_all (t ∷ ts) (u ∷ us) z h =
     let q : types_of (terms ts) ≡ types_of (terms us) = r.1 in
     (both_true a.0 r.0, λ i. p i ∷ q i)
 
-meanings_all : (enums : Enums) (I : Interpretation) (ts us : List PlainTerm) → AllZip StandsFor ts us → typed_all (terms us) ≡ true → AllByRecursion IsFormedNode (subterms_of_all (terms us)) → AllByRecursion (λ w. IsFormedType (type_of w)) (subterms_of_all (terms us)) → AllByRecursion (IsGiven enums I) (subterms_of_all (terms us)) → meanings I (terms ts) ≡ meanings I (terms us)
+pub meanings_all : (enums : Enums) (I : Interpretation) (ts us : List PlainTerm) → AllZip StandsFor ts us → typed_all (terms us) ≡ true → AllByRecursion IsFormedNode (subterms_of_all (terms us)) → AllByRecursion (λ w. IsFormedType (type_of w)) (subterms_of_all (terms us)) → AllByRecursion (IsGiven enums I) (subterms_of_all (terms us)) → meanings I (terms ts) ≡ meanings I (terms us)
 meanings_all enums I [] [] z h f g i = refl
 meanings_all enums I [] (u ∷ us) z h f g i = elim z [ ]
 meanings_all enums I (t ∷ ts) [] z h f g i = elim z [ ]
@@ -154,7 +160,7 @@ abbrev pub StandAmong : {Y : Type 0} → (PlainTerm → Option Y) → Type 0
 StandAmong f = (t u : PlainTerm) → StandsFor t u → AreAmong (filter_map f (reached_terms (t ∷ []))) (filter_map f (reached_terms (u ∷ [])))
 
 module _ {Y : Type 0} (f : PlainTerm → Option Y) (one : StandAmong f) where
-  all_through : (Q : Y → Type 0) (ts us : List PlainTerm) → AllZip StandsFor ts us → AllByRecursion (λ w. IfSome (f w) Q) (subterms_of_all (terms us)) → AllByRecursion (λ w. IfSome (f w) Q) (subterms_of_all (terms ts))
+  pub all_through : (Q : Y → Type 0) (ts us : List PlainTerm) → AllZip StandsFor ts us → AllByRecursion (λ w. IfSome (f w) Q) (subterms_of_all (terms us)) → AllByRecursion (λ w. IfSome (f w) Q) (subterms_of_all (terms ts))
   all_through Q [] [] z h = tt
   all_through Q [] (u ∷ us) z h = elim z [ ]
   all_through Q (t ∷ ts) [] z h = elim z [ ]

@@ -1,11 +1,16 @@
--- What the factory builds for a whole term: each application is folded, its arguments first.
-use Rattle.std.specs.Prelude.{ℕ, List, [], ◌∷◌}
+-- What the factory builds for a whole term: each application is folded, its arguments first, and the elements of each set
+-- are put in order anew.
+use Rattle.std.specs.Prelude.{List, [], ◌∷◌}
 use Rattle.smt_factory.specs.FoldBits.{folded_bvneg, folded_bvnego, folded_zero_extend, folded_bvadd, folded_bvsub, folded_bvmul, folded_bvsdiv, folded_bvudiv, folded_bvsrem, folded_bvsmod, folded_bvurem, folded_bvshl, folded_bvlshr, folded_bvslt, folded_bvsle, folded_bvult, folded_bvule, folded_bvsaddo, folded_bvssubo, folded_bvsmulo}
 use Rattle.smt_factory.specs.FoldConnectives.{folded_not, folded_and, folded_or}
 use Rattle.smt_factory.specs.FoldEquality.{folded_eq, folded_ite}
+use Rattle.smt_factory.specs.FoldOptions.{folded_option_get}
+use Rattle.smt_factory.specs.FoldSets.{folded_set_member, folded_set_subset, folded_set_inter}
+use Rattle.smt_factory.specs.FoldStrings.{folded_string_like}
 use Rattle.smt_factory.specs.StandsFor.{StandsFor}
-use Rattle.smt_term.specs.Plain.{PlainType, PlainOp, AndOp, BvaddOp, BvlshrOp, BvmulOp, BvnegOp, BvnegoOp, BvsaddoOp, BvsdivOp, BvshlOp, BvsleOp, BvsltOp, BvsmodOp, BvsmuloOp, BvsremOp, BvssuboOp, BvsubOp, BvudivOp, BvuleOp, BvultOp, BvuremOp, EqOp, IteOp, NotOp, OrOp, ZeroExtendOp, PlainTerm, Application, NoneTerm, LiteralTerm, RecordTerm, SetTerm, SomeTerm, VariableTerm, PlainTerms, no_terms, one_term, terms}
-use Rattle.smt_term.specs.Types.{typed}
+use Rattle.smt_term.specs.Plain.{PlainType, PlainOp, AndOp, BvaddOp, BvlshrOp, BvmulOp, BvnegOp, BvnegoOp, BvsaddoOp, BvsdivOp, BvshlOp, BvsleOp, BvsltOp, BvsmodOp, BvsmuloOp, BvsremOp, BvssuboOp, BvsubOp, BvudivOp, BvuleOp, BvultOp, BvuremOp, EqOp, IteOp, NotOp, OptionGetOp, OrOp, SetInterOp, SetMemberOp, SetSubsetOp, StringLikeOp, ZeroExtendOp, PlainTerm, Application, NoneTerm, LiteralTerm, RecordTerm, SetTerm, SomeTerm, VariableTerm, PlainTerms, no_terms, one_term, PlainFields, no_fields, one_field, terms}
+use Rattle.smt_term.specs.TermSets.{set_term}
+use Rattle.smt_term.specs.Typing.{typed}
 use Rattle.std.specs.Prelude.{IsTrue}
 
 -- an application by the call of its operator; what no call folds stays
@@ -35,6 +40,11 @@ folded BvsaddoOp (t ∷ u ∷ []) ty = folded_bvsaddo t u
 folded BvssuboOp (t ∷ u ∷ []) ty = folded_bvssubo t u
 folded BvsmuloOp (t ∷ u ∷ []) ty = folded_bvsmulo t u
 folded (ZeroExtendOp k) (t ∷ []) ty = folded_zero_extend k t
+folded SetMemberOp (t ∷ u ∷ []) ty = folded_set_member t u
+folded SetSubsetOp (t ∷ u ∷ []) ty = folded_set_subset t u
+folded SetInterOp (t ∷ u ∷ []) ty = folded_set_inter t u
+folded OptionGetOp (t ∷ []) ty = folded_option_get t
+folded (StringLikeOp p) (t ∷ []) ty = folded_string_like t p
 folded o ts ty = Application o (terms ts) ty
 
 abbrev mutual
@@ -42,14 +52,18 @@ abbrev mutual
   built (Application o ts ty) = folded o (built_all ts) ty
   built (NoneTerm ty) = NoneTerm ty
   built (LiteralTerm l) = LiteralTerm l
-  built (RecordTerm fs) = RecordTerm fs
-  built (SetTerm ty ts) = SetTerm ty ts
-  built (SomeTerm t) = SomeTerm t
+  built (RecordTerm fs) = RecordTerm (built_fields fs)
+  built (SetTerm ty ts) = set_term ty (built_all ts)
+  built (SomeTerm t) = SomeTerm (built t)
   built (VariableTerm id ty) = VariableTerm id ty
 
   pub built_all : PlainTerms → List PlainTerm
   built_all no_terms = []
   built_all (one_term t ts) = built t ∷ built_all ts
+
+  pub built_fields : PlainFields → PlainFields
+  built_fields no_fields = no_fields
+  built_fields (one_field a t fs) = one_field a (built t) (built_fields fs)
 
 -- what is built for a typed term stands for it
 abbrev pub BuiltTermsStand : Type 0

@@ -1,15 +1,16 @@
 -- The folding of the operators on bits: literals are computed with, and all else stays an application.
 use Rattle.std.specs.Prelude.{ℕ, ◌+◌, ◌-◌, ◌^◌, Bool, true, cond, ◌&&◌, ◌==◌, nat_le}
+use Rattle.std.specs.Option.{unwrap_or}
 use Rattle.smt_bits.specs.BitVectors as bits
 use Rattle.smt_factory.specs.Applications.{truth_literal, bits_literal, bvneg_of, bits_of_two, test_of_two, bvnego_of, zero_extend_of}
+use Rattle.smt_factory.specs.Parts.{negated_bits}
 use Rattle.smt_term.specs.Types.{type_of, is_bits}
-use Rattle.smt_term.specs.Plain.{PlainOp, BvaddOp, BvlshrOp, BvmulOp, BvnegOp, BvsaddoOp, BvsdivOp, BvshlOp, BvsleOp, BvsltOp, BvsmodOp, BvsmuloOp, BvsremOp, BvssuboOp, BvsubOp, BvudivOp, BvuleOp, BvultOp, BvuremOp, BitVecLiteral, PlainTerm, Application, LiteralTerm, no_terms, one_term}
+use Rattle.smt_term.specs.Plain.{PlainOp, BvaddOp, BvlshrOp, BvmulOp, BvsaddoOp, BvsdivOp, BvshlOp, BvsleOp, BvsltOp, BvsmodOp, BvsmuloOp, BvsremOp, BvssuboOp, BvsubOp, BvudivOp, BvuleOp, BvultOp, BvuremOp, BitVecLiteral, PlainTerm, LiteralTerm}
 
 -- a literal's negation, and what a negation is of
 abbrev pub folded_bvneg : PlainTerm → PlainTerm
 folded_bvneg (LiteralTerm (BitVecLiteral n a)) = bits_literal n (bits.bvneg n a)
-folded_bvneg (Application BvnegOp (one_term t no_terms) ty) = t
-folded_bvneg t = bvneg_of t
+folded_bvneg t = unwrap_or (negated_bits t) (bvneg_of t)
 
 -- two literals of one width, of which the test takes the second's number
 abbrev pub folded_bits_where : (ℕ → Bool) → PlainOp → (ℕ → ℕ → ℕ → ℕ) → PlainTerm → PlainTerm → PlainTerm
@@ -22,11 +23,8 @@ abbrev pub folded_bits : PlainOp → (ℕ → ℕ → ℕ → ℕ) → PlainTerm
 folded_bits o f = folded_bits_where (λ b. true) o f
 
 -- a shift by a number of 32 bits
-abbrev pub greatest_shift : ℕ
-greatest_shift = 4294967295
-
 abbrev pub folded_shift : PlainOp → (ℕ → ℕ → ℕ → ℕ) → PlainTerm → PlainTerm → PlainTerm
-folded_shift o f = folded_bits_where (λ b. nat_le b greatest_shift) o f
+folded_shift o f = folded_bits_where (λ b. nat_le b bits.greatest_shift) o f
 
 -- a test of two literals of one width
 abbrev pub folded_test : PlainOp → (ℕ → ℕ → ℕ → Bool) → PlainTerm → PlainTerm → PlainTerm

@@ -1,19 +1,19 @@
 -- The folding of the connectives: the cases of each in the order in which they are tried.
 use Rattle.std.specs.Prelude.{Bool, false, cond, not, ◌||◌, List, [], ◌∷◌}
+use Rattle.std.specs.Option.{option_map_or, unwrap_or}
 use Rattle.smt_factory.specs.Applications.{true_term, false_term, truth_literal, not_of, and_of, or_of}
+use Rattle.smt_factory.specs.Parts.{negated}
 use Rattle.smt_term.specs.TermOrder.{term_eq}
-use Rattle.smt_term.specs.Plain.{NotOp, BoolLiteral, PlainTerm, Application, LiteralTerm, no_terms, one_term}
+use Rattle.smt_term.specs.Plain.{BoolLiteral, PlainTerm, LiteralTerm}
 
 -- a literal's negation, and what a negation is of
 abbrev pub folded_not : PlainTerm → PlainTerm
 folded_not (LiteralTerm (BoolLiteral b)) = truth_literal (not b)
-folded_not (Application NotOp (one_term t no_terms) ty) = t
-folded_not t = not_of t
+folded_not t = unwrap_or (negated t) (not_of t)
 
 -- the second is the negation of the first
 abbrev pub is_negation : PlainTerm → PlainTerm → Bool
-is_negation t (Application NotOp (one_term u no_terms) ty) = term_eq t u
-is_negation t u = false
+is_negation t u = option_map_or (term_eq t) (negated u) false
 
 -- one of the two is the negation of the other
 abbrev pub are_opposites : PlainTerm → PlainTerm → Bool

@@ -1,14 +1,18 @@
 -- Worked examples of folding.
 use Rattle.std.specs.Prelude.{◌≡◌, ℕ, Bool, true, false, List, [], ◌∷◌, map, codes}
-use Rattle.smt_factory.specs.Applications.{truth_literal, true_term, false_term, bits_literal, not_of, implies_of, and_of, or_of, eq_of, ite_of, any_of, bvneg_of, bits_of_two, test_of_two, bvnego_of, zero_extend_of}
+use Rattle.smt_factory.specs.Applications.{truth_literal, true_term, false_term, bits_literal, not_of, implies_of, and_of, or_of, eq_of, ite_of, any_of, bvneg_of, bits_of_two, test_of_two, bvnego_of, zero_extend_of, string_like_of, set_member_of, set_subset_of, set_inter_of, set_is_empty_of, set_intersects_of, option_get_of, is_none_of, is_some_of, if_false_of, if_true_of, if_some_of, any_none_of, if_all_some_of}
 use Rattle.smt_factory.specs.FoldBits.{folded_bvneg, folded_bvnego, folded_zero_extend, folded_bvadd, folded_bvsub, folded_bvmul, folded_bvsdiv, folded_bvudiv, folded_bvsrem, folded_bvsmod, folded_bvurem, folded_bvshl, folded_bvlshr, folded_bvslt, folded_bvsle, folded_bvult, folded_bvule, folded_bvsaddo, folded_bvssubo, folded_bvsmulo}
 use Rattle.smt_factory.specs.FoldConnectives.{folded_not, are_opposites, folded_and, folded_or, folded_implies, folded_any}
 use Rattle.smt_factory.specs.FoldEquality.{folded_eq, folded_ite}
+use Rattle.smt_factory.specs.FoldOptions.{folded_option_get, folded_is_none, folded_is_some, folded_if_false, folded_if_true, folded_if_some, folded_any_none, folded_if_all_some}
+use Rattle.smt_factory.specs.FoldSets.{folded_set_member, folded_set_subset, folded_set_inter, folded_set_is_empty, folded_set_intersects}
+use Rattle.smt_factory.specs.FoldStrings.{folded_string_like}
 use Rattle.smt_factory.specs.StandsFor.{StandsFor}
 use Rattle.smt_term.specs.Meaning.{term_value}
 use Rattle.smt_term.specs.Tables.{Interpretation}
-use Rattle.smt_term.specs.Values.{BoolValue, BitVecValue}
-use Rattle.smt_term.specs.Plain.{BitVecType, BoolType, BvaddOp, BvlshrOp, BvshlOp, BvsubOp, BvultOp, PlainTerm, NoneTerm, SomeTerm, VariableTerm}
+use Rattle.smt_term.specs.TermSets.{set_term}
+use Rattle.smt_term.specs.Values.{BoolValue, BitVecValue, NoneValue, SomeValue}
+use Rattle.smt_term.specs.Plain.{OptionType, BitVecType, BoolType, SetType, StringType, PatternPart, Character, Wildcard, BvaddOp, BvlshrOp, BvshlOp, BvsubOp, BvultOp, IteOp, StringLiteral, PlainTerm, Application, NoneTerm, LiteralTerm, SetTerm, SomeTerm, VariableTerm, terms}
 
 -- variables
 abbrev pub b : PlainTerm
@@ -103,6 +107,95 @@ pub record BitsRows : Type 0 where
   pub extended : folded_zero_extend 8 (byte 5) ≡ bits_literal 16 5
   pub extended_stays : folded_zero_extend 8 x ≡ zero_extend_of 8 x
   pub no_bits : folded_zero_extend 8 b ≡ b
+
+-- a pattern that takes a character, any text and a character; a literal and a variable
+abbrev pub a_star_z : List PatternPart
+a_star_z = Character 97 ∷ Wildcard ∷ Character 122 ∷ []
+
+abbrev pub text : List ℕ → PlainTerm
+text s = LiteralTerm (StringLiteral s)
+
+abbrev pub y : PlainTerm
+y = VariableTerm (codes "y") StringType
+
+pub record StringRows : Type 0 where
+  pub applied : (I : Interpretation) → map (term_value I) (string_like_of (text (codes "abz")) a_star_z ∷ string_like_of (text (codes "az!")) a_star_z ∷ []) ≡ BoolValue true ∷ BoolValue false ∷ []
+  pub matched : map (λ s. folded_string_like (text s) a_star_z) (codes "abz" ∷ codes "az" ∷ codes "ab" ∷ codes "abzy" ∷ []) ≡ truths (true ∷ true ∷ false ∷ false ∷ [])
+  pub empty : folded_string_like (text []) [] ∷ folded_string_like (text (codes "a")) [] ∷ [] ≡ truths (true ∷ false ∷ [])
+  pub stays : folded_string_like y a_star_z ≡ string_like_of y a_star_z
+
+-- sets of bytes: of literals, of a variable, and a variable
+abbrev pub bytes : List ℕ → PlainTerm
+bytes ns = set_term (BitVecType 8) (map byte ns)
+
+abbrev pub of_x : PlainTerm
+of_x = set_term (BitVecType 8) (x ∷ [])
+
+abbrev pub s : PlainTerm
+s = VariableTerm (codes "s") (SetType (BitVecType 8))
+
+pub record SetRows : Type 0 where
+  pub applied : (I : Interpretation) → map (term_value I) (set_member_of (byte 1) (bytes (1 ∷ 2 ∷ [])) ∷ set_member_of (byte 3) (bytes (1 ∷ 2 ∷ [])) ∷ set_subset_of (bytes (1 ∷ [])) (bytes (1 ∷ 2 ∷ [])) ∷ set_subset_of (bytes (1 ∷ 2 ∷ [])) (bytes (1 ∷ [])) ∷ [])
+      ≡ BoolValue true ∷ BoolValue false ∷ BoolValue true ∷ BoolValue false ∷ []
+  -- what is no set is not empty
+  pub applied_empty : (I : Interpretation) → map (term_value I) (set_is_empty_of (bytes []) ∷ set_is_empty_of (bytes (1 ∷ [])) ∷ set_is_empty_of true_term ∷ set_intersects_of (bytes (1 ∷ 2 ∷ [])) (bytes (2 ∷ 3 ∷ [])) ∷ set_intersects_of (bytes (1 ∷ [])) (bytes (2 ∷ [])) ∷ [])
+      ≡ BoolValue true ∷ BoolValue false ∷ BoolValue false ∷ BoolValue true ∷ BoolValue false ∷ []
+  pub applied_inter : (I : Interpretation) → term_value I (set_inter_of (bytes (1 ∷ 2 ∷ [])) (bytes (2 ∷ 3 ∷ []))) ≡ term_value I (bytes (2 ∷ []))
+  pub each_once : bytes (2 ∷ 1 ∷ 2 ∷ []) ≡ SetTerm (BitVecType 8) (terms (byte 1 ∷ byte 2 ∷ []))
+  -- of {}, {1} and {1, 2}; and where the term or an element is no literal
+  pub member : map (folded_set_member (byte 2)) (bytes [] ∷ bytes (1 ∷ []) ∷ bytes (1 ∷ 2 ∷ []) ∷ []) ≡ truths (false ∷ false ∷ true ∷ [])
+  pub member_stays : map (folded_set_member x) (bytes [] ∷ bytes (1 ∷ []) ∷ []) ≡ false_term ∷ set_member_of x (bytes (1 ∷ [])) ∷ []
+  pub member_of_unknown : map (folded_set_member (byte 1)) (of_x ∷ s ∷ []) ≡ set_member_of (byte 1) of_x ∷ set_member_of (byte 1) s ∷ []
+  pub subset : folded_set_subset (bytes []) s ∷ folded_set_subset s s ∷ folded_set_subset (bytes (1 ∷ [])) (bytes (1 ∷ 2 ∷ [])) ∷ folded_set_subset (bytes (1 ∷ 2 ∷ [])) (bytes (1 ∷ [])) ∷ folded_set_subset (bytes (1 ∷ [])) (bytes []) ∷ []
+      ≡ truths (true ∷ true ∷ true ∷ false ∷ false ∷ [])
+  pub subset_stays : folded_set_subset s (bytes []) ∷ folded_set_subset of_x (bytes (1 ∷ [])) ∷ [] ≡ set_subset_of s (bytes []) ∷ set_subset_of of_x (bytes (1 ∷ [])) ∷ []
+  pub inter : folded_set_inter (bytes (1 ∷ [])) (bytes (1 ∷ 2 ∷ [])) ∷ folded_set_inter (bytes (1 ∷ 2 ∷ [])) (bytes (2 ∷ 3 ∷ [])) ∷ folded_set_inter (bytes (1 ∷ [])) (bytes (2 ∷ [])) ∷ [] ≡ bytes (1 ∷ []) ∷ bytes (2 ∷ []) ∷ bytes [] ∷ []
+  pub inter_known : folded_set_inter s s ∷ folded_set_inter (bytes []) s ∷ folded_set_inter s (bytes []) ∷ [] ≡ s ∷ bytes [] ∷ bytes [] ∷ []
+  -- two empty sets: the first; literals of two types: with the first's
+  pub inter_first : folded_set_inter (bytes []) (set_term BoolType []) ∷ folded_set_inter (bytes (1 ∷ [])) (set_term BoolType (byte 1 ∷ [])) ∷ [] ≡ bytes [] ∷ bytes (1 ∷ []) ∷ []
+  pub inter_stays : folded_set_inter s (bytes (1 ∷ [])) ∷ folded_set_inter of_x (bytes (1 ∷ [])) ∷ [] ≡ set_inter_of s (bytes (1 ∷ [])) ∷ set_inter_of of_x (bytes (1 ∷ [])) ∷ []
+  pub is_empty : map folded_set_is_empty (bytes [] ∷ bytes (1 ∷ []) ∷ of_x ∷ b ∷ []) ≡ truths (true ∷ false ∷ false ∷ false ∷ [])
+  pub is_empty_stays : folded_set_is_empty s ≡ eq_of s (bytes [])
+  pub intersect : folded_set_intersects (bytes (1 ∷ [])) (bytes (1 ∷ [])) ∷ folded_set_intersects (bytes (1 ∷ [])) (bytes (2 ∷ [])) ∷ folded_set_intersects s (bytes []) ∷ [] ≡ truths (true ∷ false ∷ false ∷ [])
+  pub intersect_stays : folded_set_intersects s s ≡ not_of (eq_of s (bytes []))
+
+-- options of truth values
+abbrev pub no_truth : PlainTerm
+no_truth = NoneTerm BoolType
+
+abbrev pub o : PlainTerm
+o = VariableTerm (codes "o") (OptionType BoolType)
+
+abbrev pub p : PlainTerm
+p = VariableTerm (codes "p") (OptionType BoolType)
+
+-- a choice between options
+abbrev pub choice : List PlainTerm → PlainTerm
+choice ts = Application IteOp (terms ts) (OptionType BoolType)
+
+pub record OptionRows : Type 0 where
+  -- what is no option is not none
+  pub applied : (I : Interpretation) → map (term_value I) (is_none_of no_truth ∷ is_none_of (SomeTerm true_term) ∷ is_none_of true_term ∷ is_some_of no_truth ∷ is_some_of (SomeTerm true_term) ∷ any_none_of [] ∷ any_none_of (SomeTerm true_term ∷ no_truth ∷ []) ∷ option_get_of (SomeTerm true_term) ∷ [])
+      ≡ BoolValue true ∷ BoolValue false ∷ BoolValue false ∷ BoolValue false ∷ BoolValue true ∷ BoolValue false ∷ BoolValue true ∷ BoolValue true ∷ []
+  pub applied_guards : (I : Interpretation) → map (term_value I) (if_false_of true_term true_term ∷ if_false_of false_term true_term ∷ if_true_of true_term true_term ∷ if_true_of false_term true_term ∷ if_some_of no_truth true_term ∷ if_some_of (SomeTerm false_term) true_term ∷ if_some_of true_term (SomeTerm true_term) ∷ if_all_some_of (no_truth ∷ []) true_term ∷ if_all_some_of [] true_term ∷ [])
+      ≡ NoneValue ∷ SomeValue (BoolValue true) ∷ SomeValue (BoolValue true) ∷ NoneValue ∷ NoneValue ∷ SomeValue (BoolValue true) ∷ SomeValue (BoolValue true) ∷ NoneValue ∷ SomeValue (BoolValue true) ∷ []
+  pub held : folded_option_get (SomeTerm (byte 1)) ∷ folded_option_get b ∷ folded_option_get o ∷ folded_option_get no_truth ∷ [] ≡ byte 1 ∷ b ∷ option_get_of o ∷ option_get_of no_truth ∷ []
+  pub is_none : map folded_is_none (no_truth ∷ SomeTerm b ∷ b ∷ []) ≡ truths (true ∷ false ∷ false ∷ [])
+  pub is_none_stays : folded_is_none o ≡ eq_of o no_truth
+  -- a choice of some and some, some and none, none and some, and none and none
+  pub is_none_of_choices : map (λ ts. folded_is_none (choice (c ∷ ts))) ((SomeTerm b ∷ SomeTerm b ∷ []) ∷ (SomeTerm b ∷ no_truth ∷ []) ∷ (no_truth ∷ SomeTerm b ∷ []) ∷ (no_truth ∷ no_truth ∷ []) ∷ [])
+      ≡ false_term ∷ not_of c ∷ c ∷ eq_of (choice (c ∷ no_truth ∷ no_truth ∷ [])) no_truth ∷ []
+  -- one branch of which nothing is known, other counts of arguments, and a choice of no option type
+  pub other_choices : map (λ ts. folded_is_none (choice ts)) ((c ∷ SomeTerm b ∷ o ∷ []) ∷ (SomeTerm b ∷ SomeTerm b ∷ []) ∷ (c ∷ SomeTerm b ∷ SomeTerm b ∷ b ∷ []) ∷ [])
+      ≡ eq_of (choice (c ∷ SomeTerm b ∷ o ∷ [])) no_truth ∷ eq_of (choice (SomeTerm b ∷ SomeTerm b ∷ [])) no_truth ∷ eq_of (choice (c ∷ SomeTerm b ∷ SomeTerm b ∷ b ∷ [])) no_truth ∷ []
+  pub choice_of_no_option : folded_is_none (ite_of c x (byte 1)) ≡ false_term
+  pub is_some : map folded_is_some (no_truth ∷ SomeTerm b ∷ o ∷ []) ≡ false_term ∷ true_term ∷ not_of (eq_of o no_truth) ∷ []
+  pub guarded : folded_if_true true_term b ∷ folded_if_true false_term b ∷ folded_if_false true_term b ∷ folded_if_false false_term b ∷ [] ≡ SomeTerm b ∷ no_truth ∷ no_truth ∷ SomeTerm b ∷ []
+  pub guarded_stays : folded_if_true c b ∷ folded_if_false c b ∷ [] ≡ ite_of c (SomeTerm b) no_truth ∷ ite_of c no_truth (SomeTerm b) ∷ []
+  pub if_some : folded_if_some (SomeTerm b) c ∷ folded_if_some no_truth c ∷ folded_if_some (SomeTerm b) p ∷ folded_if_some no_truth p ∷ [] ≡ SomeTerm c ∷ no_truth ∷ p ∷ no_truth ∷ []
+  pub if_some_stays : folded_if_some o c ∷ folded_if_some o p ∷ [] ≡ ite_of (eq_of o no_truth) no_truth (SomeTerm c) ∷ ite_of (eq_of o no_truth) no_truth p ∷ []
+  pub any_none : map folded_any_none ([] ∷ (SomeTerm b ∷ []) ∷ (SomeTerm b ∷ no_truth ∷ []) ∷ (o ∷ []) ∷ (o ∷ p ∷ []) ∷ []) ≡ false_term ∷ false_term ∷ true_term ∷ eq_of o no_truth ∷ or_of (eq_of p no_truth) (eq_of o no_truth) ∷ []
+  pub if_all_some : folded_if_all_some [] b ∷ folded_if_all_some (no_truth ∷ []) b ∷ folded_if_all_some (o ∷ []) p ∷ [] ≡ SomeTerm b ∷ no_truth ∷ ite_of (eq_of o no_truth) no_truth p ∷ []
 
 -- what does not stand for a term: another value, another type, and a variable that the original does not reach
 pub record ApartRows : Type 0 where

@@ -1,10 +1,13 @@
 -- Laws of standing for an application, and that each folding stands for the application that it was asked for.
 use Rattle.std.specs.Prelude.{◌≡◌, ◌↔◌, ℕ, ◌^◌, ◌<◌, Bool, List, [], ◌∷◌, map, IsTrue}
 use Rattle.std.specs.List.{AllByRecursion, AllZip, list_any}
-use Rattle.smt_factory.specs.Applications.{truth_literal, bits_literal, not_of, and_of, or_of, implies_of, eq_of, ite_of, any_of, bvneg_of, bits_of_two, test_of_two, bvnego_of, zero_extend_of}
+use Rattle.smt_factory.specs.Applications.{truth_literal, bits_literal, not_of, and_of, or_of, implies_of, eq_of, ite_of, any_of, bvneg_of, bits_of_two, test_of_two, bvnego_of, zero_extend_of, string_like_of, set_member_of, set_subset_of, set_inter_of, set_is_empty_of, set_intersects_of, option_get_of, is_none_of, is_some_of, if_false_of, if_true_of, if_some_of, any_none_of, if_all_some_of}
 use Rattle.smt_factory.specs.FoldBits.{folded_bvneg, folded_bvnego, folded_zero_extend, folded_bvadd, folded_bvsub, folded_bvmul, folded_bvsdiv, folded_bvudiv, folded_bvsrem, folded_bvsmod, folded_bvurem, folded_bvshl, folded_bvlshr, folded_bvslt, folded_bvsle, folded_bvult, folded_bvule, folded_bvsaddo, folded_bvssubo, folded_bvsmulo}
 use Rattle.smt_factory.specs.FoldConnectives.{folded_not, folded_and, folded_or, folded_implies, folded_any}
 use Rattle.smt_factory.specs.FoldEquality.{folded_eq, folded_ite}
+use Rattle.smt_factory.specs.FoldOptions.{folded_option_get, folded_is_none, folded_is_some, folded_if_false, folded_if_true, folded_if_some, folded_any_none, folded_if_all_some}
+use Rattle.smt_factory.specs.FoldSets.{folded_set_member, folded_set_subset, folded_set_inter, folded_set_is_empty, folded_set_intersects}
+use Rattle.smt_factory.specs.FoldStrings.{folded_string_like}
 use Rattle.smt_factory.specs.StandsFor.{StandsFor, FieldsStandFor}
 use Rattle.smt_term.specs.Formed.{IsFormed}
 use Rattle.smt_term.specs.Interpretations.{IsInterpretation}
@@ -12,18 +15,22 @@ use Rattle.smt_term.specs.Literals.{is_literal}
 use Rattle.smt_term.specs.Meaning.{term_value}
 use Rattle.smt_term.specs.Operators.{truth, apply}
 use Rattle.smt_term.specs.Tables.{Interpretation}
-use Rattle.smt_term.specs.Types.{typed, Typed}
+use Rattle.smt_term.specs.TermSets.{set_term}
+use Rattle.smt_term.specs.Typing.{typed, Typed}
 use Rattle.smt_term.specs.TypeValues.{Enums}
-use Rattle.smt_term.specs.Plain.{PlainType, BitVecType, BoolType, PlainOp, BvaddOp, BvlshrOp, BvmulOp, BvsaddoOp, BvsdivOp, BvshlOp, BvsleOp, BvsltOp, BvsmodOp, BvsmuloOp, BvsremOp, BvssuboOp, BvsubOp, BvudivOp, BvuleOp, BvultOp, BvuremOp, PlainTerm, Application, RecordTerm, SomeTerm, PlainFields, terms}
+use Rattle.smt_term.specs.Plain.{PlainType, BitVecType, BoolType, PatternPart, PlainOp, BvaddOp, BvlshrOp, BvmulOp, BvsaddoOp, BvsdivOp, BvshlOp, BvsleOp, BvsltOp, BvsmodOp, BvsmuloOp, BvsremOp, BvssuboOp, BvsubOp, BvudivOp, BvuleOp, BvultOp, BvuremOp, PlainTerm, Application, RecordTerm, SomeTerm, PlainFields, terms}
 use Rattle.smt_term.specs.Values.{BoolValue, BitVecValue}
 
--- standing for is an order that applications, `some` and records keep
+-- standing for is an order that applications, `some`, records and sets keep, and the tests for none and for the empty set
 pub record StandingIsKept : Type 0 where
   pub itself : (t : PlainTerm) → StandsFor t t
   pub onward : (t u w : PlainTerm) → StandsFor t u → StandsFor u w → StandsFor t w
   pub application : (o : PlainOp) (ts us : List PlainTerm) (ty : PlainType) → AllZip StandsFor ts us → StandsFor (Application o (terms ts) ty) (Application o (terms us) ty)
   pub some : (t u : PlainTerm) → StandsFor t u → StandsFor (SomeTerm t) (SomeTerm u)
   pub fields : (fs gs : PlainFields) → FieldsStandFor fs gs → StandsFor (RecordTerm fs) (RecordTerm gs)
+  pub set : (ty : PlainType) (ts us : List PlainTerm) → AllZip StandsFor ts us → StandsFor (set_term ty ts) (set_term ty us)
+  pub is_none : (t u : PlainTerm) → StandsFor t u → StandsFor (is_none_of t) (is_none_of u)
+  pub is_empty : (t u : PlainTerm) → StandsFor t u → StandsFor (set_is_empty_of t) (set_is_empty_of u)
 
 -- an interpretation of terms is one of the terms that stand for them
 abbrev pub InterpretationsPass : Type 0
@@ -79,6 +86,29 @@ pub record TestsAreFolded : Type 0 where
   pub bvsaddo : (t u : PlainTerm) → StandsFor (folded_bvsaddo t u) (test_of_two BvsaddoOp t u)
   pub bvssubo : (t u : PlainTerm) → StandsFor (folded_bvssubo t u) (test_of_two BvssuboOp t u)
   pub bvsmulo : (t u : PlainTerm) → StandsFor (folded_bvsmulo t u) (test_of_two BvsmuloOp t u)
+
+-- the match of a string with a pattern
+abbrev pub StringLikeIsFolded : Type 0
+StringLikeIsFolded = (t : PlainTerm) (p : List PatternPart) → StandsFor (folded_string_like t p) (string_like_of t p)
+
+-- the calls on sets
+pub record SetsAreFolded : Type 0 where
+  pub set_member : (t u : PlainTerm) → StandsFor (folded_set_member t u) (set_member_of t u)
+  pub set_subset : (t u : PlainTerm) → StandsFor (folded_set_subset t u) (set_subset_of t u)
+  pub set_inter : (t u : PlainTerm) → StandsFor (folded_set_inter t u) (set_inter_of t u)
+  pub set_is_empty : (t : PlainTerm) → StandsFor (folded_set_is_empty t) (set_is_empty_of t)
+  pub set_intersects : (t u : PlainTerm) → StandsFor (folded_set_intersects t u) (set_intersects_of t u)
+
+-- the calls on options
+pub record OptionsAreFolded : Type 0 where
+  pub option_get : (t : PlainTerm) → StandsFor (folded_option_get t) (option_get_of t)
+  pub is_none : (t : PlainTerm) → StandsFor (folded_is_none t) (is_none_of t)
+  pub is_some : (t : PlainTerm) → StandsFor (folded_is_some t) (is_some_of t)
+  pub if_false : (g t : PlainTerm) → StandsFor (folded_if_false g t) (if_false_of g t)
+  pub if_true : (g t : PlainTerm) → StandsFor (folded_if_true g t) (if_true_of g t)
+  pub if_some : (g t : PlainTerm) → StandsFor (folded_if_some g t) (if_some_of g t)
+  pub any_none : (gs : List PlainTerm) → StandsFor (folded_any_none gs) (any_none_of gs)
+  pub if_all_some : (gs : List PlainTerm) (t : PlainTerm) → StandsFor (folded_if_all_some gs t) (if_all_some_of gs t)
 
 -- what has the operator's value at two literals stands for the application, whoever computed it
 pub record AnswersStandFor : Type 0 where

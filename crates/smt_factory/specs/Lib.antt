@@ -5,7 +5,10 @@ pub mod FoldBits
 pub mod FoldBy
 pub mod FoldConnectives
 pub mod FoldEquality
+pub mod FoldOptions
 pub mod FoldRows
+pub mod FoldSets
+pub mod FoldStrings
 pub mod Laws
 pub mod Parts
 pub mod StandsFor

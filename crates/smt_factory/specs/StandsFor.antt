@@ -5,7 +5,7 @@ use Rattle.smt_term.specs.Interpretations.{IsInterpretation}
 use Rattle.smt_term.specs.Meaning.{term_value}
 use Rattle.smt_term.specs.Reached.{reached_variables, reached_functions, reached_options, reached_selectors}
 use Rattle.smt_term.specs.Tables.{Interpretation}
-use Rattle.smt_term.specs.Types.{Typed}
+use Rattle.smt_term.specs.Typing.{Typed}
 use Rattle.smt_term.specs.TypeValues.{Enums}
 use Rattle.smt_term.specs.Plain.{PlainType, PlainTerm, PlainFields, no_fields, one_field}
 

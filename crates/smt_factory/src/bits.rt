@@ -54,6 +54,13 @@ pub fn bvneg(alloc: Global, t: Term) -> Result<Term, TermError>
     ensures folded { IfOk result (λ r. plain_term r ≡ folded_bvneg (plain_term t)) }
     ensures stands { IfOk result (λ r. StandsFor (plain_term r) (bvneg_of (plain_term t))) }
 {
+    folded_bvneg(alloc, t)
+}
+
+// The negation, folded.
+fn folded_bvneg(alloc: Global, t: Term) -> Result<Term, TermError>
+    ensures { IfOk result (λ r. plain_term r ≡ folded_bvneg (plain_term t)) }
+{
     if let Some(bits) = bits_inside(&t) {
         return Ok(Term::from(bits.neg()));
     }
@@ -65,6 +72,7 @@ pub fn bvneg(alloc: Global, t: Term) -> Result<Term, TermError>
 }
 
 // What a negation of bits is of.
+#[tactic(auto, using(crate::proofs::Folding::matching))]
 fn negated_bits(t: &Term) -> Option<&Term>
     ensures { MatchOption result (negated_bits (plain_term t.now) ≡ None) (λ u. negated_bits (plain_term t.now) ≡ Some (plain_term u.now)) }
 {
@@ -73,7 +81,7 @@ fn negated_bits(t: &Term) -> Option<&Term>
             Op::Bvneg => only_one(args),
             _ => None,
         },
-        Term::Prim(_) | Term::Var(_) => None,
+        Term::None(_) | Term::Prim(_) | Term::Set { .. } | Term::Some(_) | Term::Var(_) => None,
     }
 }
 
@@ -196,6 +204,15 @@ pub fn zero_extend(alloc: Global, n: u32, t: Term) -> Result<Term, TermError>
     ensures folded { IfOk result (λ r. plain_term r ≡ folded_zero_extend n (plain_term t)) }
     ensures stands { IfOk result (λ r. StandsFor (plain_term r) (zero_extend_of n (plain_term t))) }
 {
+    folded_zero_extend(alloc, n, t)
+}
+
+// The same number with more bits, folded.
+#[tactic(auto, using(crate::proofs::Folding::folding, crate::proofs::Folding::types))]
+fn folded_zero_extend(alloc: Global, n: u32, t: Term) -> Result<Term, TermError>
+    requires { IfSome (width_in (type_of (plain_term t))) (λ width. width + n ≤ 128) }
+    ensures { IfOk result (λ r. plain_term r ≡ folded_zero_extend n (plain_term t)) }
+{
     if let Some(bits) = bits_inside(&t) {
         return Ok(Term::from(extended(&bits, n)));
     }
@@ -204,7 +221,7 @@ pub fn zero_extend(alloc: Global, n: u32, t: Term) -> Result<Term, TermError>
             let ty = TermType::Bitvec { n: wider(width, n) };
             application(alloc, Op::ZeroExtend(n), &[t], ty)
         }
-        TermType::Bool => Ok(t),
+        TermType::Option { .. } | TermType::Bool | TermType::String | TermType::Set { .. } => Ok(t),
     }
 }
 

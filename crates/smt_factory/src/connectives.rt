@@ -7,11 +7,12 @@ ghost use Rattle.smt_factory.specs.StandsFor.{StandsFor};
 ghost use Rattle.smt_term.specs.View.{plain_term};
 
 use crate::application::truth_application;
-use crate::parts::only_one;
+use crate::parts::{is_truth_value, only_one};
 use smt_term::{Op, Term, TermError};
 use std::alloc::Global;
 
 // What a negation is of.
+#[tactic(auto, using(crate::proofs::Folding::matching))]
 fn negated(t: &Term) -> Option<&Term>
     ensures { MatchOption result (negated (plain_term t.now) ≡ None) (λ u. negated (plain_term t.now) ≡ Some (plain_term u.now)) }
 {
@@ -20,7 +21,7 @@ fn negated(t: &Term) -> Option<&Term>
             Op::Not => only_one(args),
             _ => None,
         },
-        Term::Prim(_) | Term::Var(_) => None,
+        Term::None(_) | Term::Prim(_) | Term::Set { .. } | Term::Some(_) | Term::Var(_) => None,
     }
 }
 
@@ -49,10 +50,17 @@ pub fn not(alloc: Global, t: Term) -> Result<Term, TermError>
     ensures folded { IfOk result (λ r. plain_term r ≡ folded_not (plain_term t)) }
     ensures stands { IfOk result (λ r. StandsFor (plain_term r) (not_of (plain_term t))) }
 {
-    if t == Term::from(true) {
+    folded_not(alloc, t)
+}
+
+// The negation, folded.
+fn folded_not(alloc: Global, t: Term) -> Result<Term, TermError>
+    ensures { IfOk result (λ r. plain_term r ≡ folded_not (plain_term t)) }
+{
+    if is_truth_value(&t, true) {
         return Ok(Term::from(false));
     }
-    if t == Term::from(false) {
+    if is_truth_value(&t, false) {
         return Ok(Term::from(true));
     }
     if let Some(operand) = negated(&t) {
@@ -72,13 +80,20 @@ pub fn and(alloc: Global, t1: Term, t2: Term) -> Result<Term, TermError>
     ensures folded { IfOk result (λ r. plain_term r ≡ folded_and (plain_term t1) (plain_term t2)) }
     ensures stands { IfOk result (λ r. StandsFor (plain_term r) (and_of (plain_term t1) (plain_term t2))) }
 {
-    if t1 == t2 || t2 == Term::from(true) {
+    folded_and(alloc, t1, t2)
+}
+
+// The conjunction, folded.
+fn folded_and(alloc: Global, t1: Term, t2: Term) -> Result<Term, TermError>
+    ensures { IfOk result (λ r. plain_term r ≡ folded_and (plain_term t1) (plain_term t2)) }
+{
+    if t1 == t2 || is_truth_value(&t2, true) {
         return Ok(t1);
     }
-    if t1 == Term::from(true) {
+    if is_truth_value(&t1, true) {
         return Ok(t2);
     }
-    if t1 == Term::from(false) || t2 == Term::from(false) || opposites(&t1, &t2) {
+    if is_truth_value(&t1, false) || is_truth_value(&t2, false) || opposites(&t1, &t2) {
         return Ok(Term::from(false));
     }
     truth_application(alloc, Op::And, &[t1, t2])
@@ -95,13 +110,20 @@ pub fn or(alloc: Global, t1: Term, t2: Term) -> Result<Term, TermError>
     ensures folded { IfOk result (λ r. plain_term r ≡ folded_or (plain_term t1) (plain_term t2)) }
     ensures stands { IfOk result (λ r. StandsFor (plain_term r) (or_of (plain_term t1) (plain_term t2))) }
 {
-    if t1 == t2 || t2 == Term::from(false) {
+    folded_or(alloc, t1, t2)
+}
+
+// The disjunction, folded.
+fn folded_or(alloc: Global, t1: Term, t2: Term) -> Result<Term, TermError>
+    ensures { IfOk result (λ r. plain_term r ≡ folded_or (plain_term t1) (plain_term t2)) }
+{
+    if t1 == t2 || is_truth_value(&t2, false) {
         return Ok(t1);
     }
-    if t1 == Term::from(false) {
+    if is_truth_value(&t1, false) {
         return Ok(t2);
     }
-    if t1 == Term::from(true) || t2 == Term::from(true) || opposites(&t1, &t2) {
+    if is_truth_value(&t1, true) || is_truth_value(&t2, true) || opposites(&t1, &t2) {
         return Ok(Term::from(true));
     }
     truth_application(alloc, Op::Or, &[t1, t2])

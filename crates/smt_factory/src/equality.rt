@@ -1,4 +1,6 @@
 //! Equality and choice of the theory Core.
+#![tactic(auto, using(crate::proofs::Folding::folding, crate::proofs::Folding::choosing))]
+
 ghost use Rattle.std.specs.Prelude.{◌≡◌, ◌&&◌, IfOk};
 ghost use Rattle.smt_factory.specs.Applications.{eq_of, ite_of, truth_literal};
 ghost use Rattle.smt_factory.specs.FoldEquality.{folded_eq, folded_eq_inside, folded_ite, folded_ite_inside, is_boolean};
@@ -10,26 +12,34 @@ ghost use Rattle.smt_term.specs.View.{plain_literal, plain_term, plain_type};
 
 use crate::application::{application, truth_application};
 use crate::connectives::{and, not, or};
+use crate::options::some_of;
+use crate::parts::{are_some_and_none, both_held, is_truth_value};
 use smt_term::{Op, Term, TermError, TermPrim, TermType};
 use std::alloc::Global;
 
 // Whether the term has the type of truth values.
+#[tactic(auto, using(crate::proofs::Folding::matching))]
 fn is_boolean(t: &Term) -> bool
     ensures { result ≡ is_boolean (plain_term t.now) }
 {
     match t {
         Term::App { ret_ty, .. } => is_truth_type(ret_ty),
+        Term::None(_) | Term::Set { .. } | Term::Some(_) => false,
         Term::Prim(literal) => is_truth(literal),
         Term::Var(variable) => is_truth_type(&variable.ty),
     }
 }
 
+#[tactic(auto, using(crate::proofs::Folding::matching))]
 fn is_truth_type(ty: &TermType) -> bool
     ensures { result ≡ type_eq (plain_type ty.now) BoolType }
 {
     match ty {
         TermType::Bool => true,
-        TermType::Bitvec { .. } => false,
+        TermType::Option { .. }
+        | TermType::Bitvec { .. }
+        | TermType::String
+        | TermType::Set { .. } => false,
     }
 }
 
@@ -38,7 +48,7 @@ fn is_truth(literal: &TermPrim) -> bool
 {
     match literal {
         TermPrim::Bool(_) => true,
-        TermPrim::Bitvec(_) => false,
+        TermPrim::Bitvec(_) | TermPrim::String(_) => false,
     }
 }
 
@@ -46,13 +56,13 @@ fn is_truth(literal: &TermPrim) -> bool
 fn is_beside_boolean(truth: bool, t1: &Term, t2: &Term) -> bool
     ensures { result ≡ (term_eq (plain_term t1.now) (truth_literal truth) && is_boolean (plain_term t2.now)) }
 {
-    *t1 == Term::from(truth) && is_boolean(t2)
+    is_truth_value(t1, truth) && is_boolean(t2)
 }
 
 /// The equality of two terms of one type.
 ///
-/// Equal terms give true and two other literals false. True with a Boolean term gives that term, and false with one its
-/// negation.
+/// Two `some` are compared by what they hold, and `some` and none give false. Equal terms give true and two other literals
+/// false. True with a Boolean term gives that term, and false with one its negation.
 ///
 /// # Errors
 /// `Memory`, where there is none for the term.
@@ -60,10 +70,23 @@ pub fn eq(alloc: Global, t1: Term, t2: Term) -> Result<Term, TermError>
     ensures folded { IfOk result (λ r. plain_term r ≡ folded_eq (plain_term t1) (plain_term t2)) }
     ensures stands { IfOk result (λ r. StandsFor (plain_term r) (eq_of (plain_term t1) (plain_term t2))) }
 {
+    folded_eq(alloc, t1, t2)
+}
+
+// The equality, folded.
+fn folded_eq(alloc: Global, t1: Term, t2: Term) -> Result<Term, TermError>
+    ensures { IfOk result (λ r. plain_term r ≡ folded_eq (plain_term t1) (plain_term t2)) }
+{
+    if let Some((held1, held2)) = both_held(&t1, &t2) {
+        return eq_inside(alloc, held1.share()?, held2.share()?);
+    }
+    if are_some_and_none(&t1, &t2) || are_some_and_none(&t2, &t1) {
+        return Ok(Term::from(false));
+    }
     eq_inside(alloc, t1, t2)
 }
 
-// Equality, of terms that are no `some`.
+// Equality, where what `some` and none hold has been looked at.
 fn eq_inside(alloc: Global, t1: Term, t2: Term) -> Result<Term, TermError>
     ensures { IfOk result (λ r. plain_term r ≡ folded_eq_inside (plain_term t1) (plain_term t2)) }
 {
@@ -90,7 +113,7 @@ fn eq_inside(alloc: Global, t1: Term, t2: Term) -> Result<Term, TermError>
 
 /// The second term where the first is true, and else the third.
 ///
-/// A first that is a literal, or equal branches, give the branch. True, then false gives the first and the other way its
+/// Of two `some` it is some of the choice between what they hold. A first that is a literal, or equal branches, give the branch. True, then false gives the first and the other way its
 /// negation. False in the third place gives a conjunction, and true in the second a disjunction.
 ///
 /// # Errors
@@ -99,29 +122,35 @@ pub fn ite(alloc: Global, t1: Term, t2: Term, t3: Term) -> Result<Term, TermErro
     ensures folded { IfOk result (λ r. plain_term r ≡ folded_ite (plain_term t1) (plain_term t2) (plain_term t3)) }
     ensures stands { IfOk result (λ r. StandsFor (plain_term r) (ite_of (plain_term t1) (plain_term t2) (plain_term t3))) }
 {
+    if let Some((held2, held3)) = both_held(&t2, &t3) {
+        return some_of(
+            alloc,
+            ite_inside(alloc, t1, held2.share()?, held3.share()?)?,
+        );
+    }
     ite_inside(alloc, t1, t2, t3)
 }
 
-// Choice, of branches that are no `some`.
+// Choice, where what two `some` hold has been taken out.
 fn ite_inside(alloc: Global, t1: Term, t2: Term, t3: Term) -> Result<Term, TermError>
     ensures { IfOk result (λ r. plain_term r ≡ folded_ite_inside (plain_term t1) (plain_term t2) (plain_term t3)) }
 {
-    if t1 == Term::from(true) || t2 == t3 {
+    if is_truth_value(&t1, true) || t2 == t3 {
         return Ok(t2);
     }
-    if t1 == Term::from(false) {
+    if is_truth_value(&t1, false) {
         return Ok(t3);
     }
-    if t2 == Term::from(true) && t3 == Term::from(false) {
+    if is_truth_value(&t2, true) && is_truth_value(&t3, false) {
         return Ok(t1);
     }
-    if t2 == Term::from(false) && t3 == Term::from(true) {
+    if is_truth_value(&t2, false) && is_truth_value(&t3, true) {
         return not(alloc, t1);
     }
-    if t3 == Term::from(false) {
+    if is_truth_value(&t3, false) {
         return and(alloc, t1, t2);
     }
-    if t2 == Term::from(true) {
+    if is_truth_value(&t2, true) {
         return or(alloc, t1, t3);
     }
     let ty = t2.type_of(alloc)?;

@@ -1,9 +1,9 @@
 ghost use Rattle.smt_factory.specs.Built.{BuiltTermsStand};
-ghost use Rattle.smt_factory.specs.FoldRows.{ApartRows, BitsRows, ConnectiveRows, EqualityRows};
-ghost use Rattle.smt_factory.specs.Laws.{AnswersStandFor, AnyIsTrue, BitsAreFolded, ConnectivesAreFolded, EqualityAndChoiceAreFolded, InterpretationsPass, LiteralsAreEqualByValue, StandingIsKept, TestsAreFolded, ValuesPass};
+ghost use Rattle.smt_factory.specs.FoldRows.{ApartRows, BitsRows, ConnectiveRows, EqualityRows, OptionRows, SetRows, StringRows};
+ghost use Rattle.smt_factory.specs.Laws.{AnswersStandFor, AnyIsTrue, BitsAreFolded, ConnectivesAreFolded, EqualityAndChoiceAreFolded, InterpretationsPass, LiteralsAreEqualByValue, OptionsAreFolded, SetsAreFolded, StandingIsKept, StringLikeIsFolded, TestsAreFolded, ValuesPass};
 
-/// A term stands for itself, onward, and in applications, `some` and records; and an interpretation of terms is one of the
-/// terms that stand for them, in which they have the same values.
+/// A term stands for itself, onward, in applications, `some`, records and sets, and in the tests for none and for the empty
+/// set; and an interpretation of terms is one of the terms that stand for them, in which they have the same values.
 pub fn standing_is_kept()
     ensures kept { StandingIsKept }
     ensures interpretations { InterpretationsPass }
@@ -42,6 +42,21 @@ pub fn tests_are_folded()
     ensures { TestsAreFolded }
 {}
 
+/// `string_like`: what it is folded to stands for it.
+pub fn strings_are_folded()
+    ensures { StringLikeIsFolded }
+{}
+
+/// The calls on sets: what they are folded to stands for them.
+pub fn sets_are_folded()
+    ensures { SetsAreFolded }
+{}
+
+/// The calls on options: what they are folded to stands for them.
+pub fn options_are_folded()
+    ensures { OptionsAreFolded }
+{}
+
 /// What is built for a typed term, each application folded after its arguments, stands for it.
 pub fn built_terms_stand()
     ensures { BuiltTermsStand }
@@ -57,4 +72,7 @@ pub fn fold_rows()
     ensures connectives { ConnectiveRows }
     ensures equality { EqualityRows }
     ensures bits { BitsRows }
+    ensures strings { StringRows }
+    ensures sets { SetRows }
+    ensures options { OptionRows }
 {}

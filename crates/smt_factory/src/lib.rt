@@ -1,8 +1,10 @@
 //! The folding factory: what a call that builds a term for an operator gives, where it folds constants.
 //!
 //! A call does not always build the application that it is asked for: `and(b, not b)` is `false`. What it gives
-//! is said by a function of plain terms (`specs/FoldConnectives.antt`, `FoldEquality.antt`, `FoldBits.antt`), and
-//! that the result may take the application's place by one word, `StandsFor` of `specs/StandsFor.antt`.
+//! is said by a function of plain terms (`specs/FoldConnectives.antt`, `FoldEquality.antt`, `FoldBits.antt`,
+//! `FoldStrings.antt`, `FoldSets.antt`, `FoldOptions.antt`), and that the result may take the application's place by
+//! one word, `StandsFor` of `specs/StandsFor.antt`. A call with many exits has a private one beside it that folds,
+//! so that what stands for what is shown once and not at each exit.
 #![tactic(auto, using(crate::proofs::Folding::folding))]
 
 mod any;
@@ -12,9 +14,12 @@ mod comparisons;
 mod connectives;
 mod equality;
 pub mod laws;
+mod options;
 mod overflows;
 mod parts;
 mod rule;
+mod sets;
+mod strings;
 
 pub use any::any_true;
 pub use bits::{
@@ -24,8 +29,14 @@ pub use bits::{
 pub use comparisons::{bvsle, bvslt, bvule, bvult};
 pub use connectives::{and, implies, not, opposites, or};
 pub use equality::{eq, ite};
+pub use options::{
+    any_none, if_all_some, if_false, if_some, if_true, is_none, is_some, none_of, option_get,
+    some_of,
+};
 pub use overflows::{bvnego, bvsaddo, bvsmulo, bvso, bvssubo};
 pub use rule::{BvRule, bvapp_by};
+pub use sets::{set_inter, set_intersects, set_is_empty, set_member, set_of, set_subset};
+pub use strings::string_like;
 
 #[cfg(test)]
 mod tests;

@@ -24,6 +24,13 @@ pub fn bvnego(alloc: Global, t: Term) -> Result<Term, TermError>
     ensures folded { IfOk result (λ r. plain_term r ≡ folded_bvnego (plain_term t)) }
     ensures stands { IfOk result (λ r. StandsFor (plain_term r) (bvnego_of (plain_term t))) }
 {
+    folded_bvnego(alloc, t)
+}
+
+// Whether the negation leaves the signed range, folded.
+fn folded_bvnego(alloc: Global, t: Term) -> Result<Term, TermError>
+    ensures { IfOk result (λ r. plain_term r ≡ folded_bvnego (plain_term t)) }
+{
     match bits_inside(&t) {
         Some(bits) => Ok(Term::from(bits.to_nat() == BitVec::int_min(bits.width()).to_nat())),
         None => truth_application(alloc, Op::Bvnego, &[t]),

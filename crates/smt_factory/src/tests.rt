@@ -10,6 +10,8 @@ use smt_term::{Op, Term, TermError, TermList, TermType, TermVar, Text};
 use std::alloc::Global;
 use std::test::Fail;
 
+mod structures;
+
 // A literal of 8 bits.
 fn byte(number: u128) -> Term
     ensures { type_of (plain_term result) ≡ BitVecType 8 }

@@ -18,7 +18,7 @@ use Rattle.smt_lines.specs.Text.{names}
 use Rattle.smt_lines.specs.Growth.{Keeps, is_drawn, AreDrawn}
 use Rattle.smt_lines.proofs.Differ.{terms_differ, types_differ, functions_differ}
 use Rattle.smt_lines.proofs.Grow.{lookup_append, terms_grow}
-use Rattle.smt_lines.proofs.Numerals.{numerals_differ}
+use Rattle.smt_semantics.proofs.Numerals.{numerals_differ}
 use Rattle.smt_lines.proofs.Stays.{sorts_stand}
 use Rattle.smt_lines.specs.Fine.{IsFine, AreFine, AreFineFields, IsFineOp, IsFineId}
 use Rattle.smt_lines.specs.Fit.{number_of, first}

@@ -1,17 +1,19 @@
 -- What the operators and the literals of extension types are worth.
-use Rattle.std.proofs.Common.{◌≡◌, ℕ, suc, ◌-◌, ◌^◌, ◌<◌, true, List, [], ◌∷◌, refl, ap, ap₂, ◌∙◌, Option, Some, None, arith}
-use Rattle.std.specs.Prelude.{codes, pos, negsuc, ℤ}
+use Rattle.std.proofs.Common.{◌≡◌, ℕ, true, List, [], ◌∷◌, refl, ap, ap₂, ◌∙◌, Option, Some, None}
+use Rattle.std.specs.Prelude.{codes, ℤ}
 use Rattle.std.specs.List.{AllByRecursion}
 use Rattle.smt_term.specs.Plain.{ExtensionKind, IpAddrKind, DecimalKind, DatetimeKind, DurationKind, PlainType, BitVecType, ExtensionType, ExtensionOp, DatetimeOfBitVecOp, DatetimeValOp, DecimalValOp, DurationOfBitVecOp, DurationValOp, IpAddrV4Op, IpAddrV6Op, IpIsV4Op, IpPrefixV4Op, IpPrefixV6Op, PlainExtension, DecimalOf, Ipv4Of, Ipv6Of, DatetimeOf, DurationOf}
 use Rattle.smt_term.specs.Interpretations.{IsGivenSelector, IsOfOtherFamily, empty_table}
 use Rattle.smt_term.specs.Operators.{apply_extension}
 use Rattle.smt_term.specs.Tables.{Interpretation}
 use Rattle.smt_term.specs.Types.{extension_signature}
-use Rattle.smt_term.specs.TypeValues.{IsValue, IsExtension, IsLong, IsPrefix, Enums}
+use Rattle.smt_term.specs.TypeValues.{IsValue, IsExtension, IsPrefix, Enums}
 use Rattle.smt_term.specs.Values.{Value, ExtensionValue}
 use Rattle.smt_semantics.specs.ScriptValues.{ScriptValue, BitsOf, ConstructorOf}
 use Rattle.smt_sexpr.specs.Reading.{Expression}
 use Rattle.smt_bits.specs.Widths.{is_width}
+use Rattle.smt_bits.specs.BitVectors.{bits_of}
+use Rattle.smt_bits.proofs.BitRanges.{bits_of-below}
 use Rattle.smt_semantics.specs.Script.{State, Builds, Selects, name, group}
 use Rattle.smt_semantics.specs.Sorts as sorts
 use Rattle.smt_semantics.specs.Sorts.{entries, bit_sort, option_sort}
@@ -19,12 +21,12 @@ use Rattle.smt_semantics.specs.Growth.{Declares}
 use Rattle.smt_semantics.specs.Value.{ScriptInterpretation, expression_value, selected, script_values}
 use Rattle.smt_semantics.specs.Meanings.{argument_values}
 use Rattle.smt_semantics.proofs.Apply.{constructors_apply, selectors_apply, tests_apply, nones_stand}
-use Rattle.smt_lines.specs.Lines.{Tables, name_of_type, bits, bits_64, prefix_body, extension_body, extension_op_head, kind_constructors}
+use Rattle.smt_lines.specs.Lines.{Tables, name_of_type, bits, prefix_body, extension_body, extension_op_head, kind_constructors}
 use Rattle.smt_lines.specs.Naming.{type_name}
 use Rattle.smt_lines.specs.Entries.{HasSort}
 use Rattle.smt_lines.specs.Command.{all_built}
 use Rattle.smt_lines.proofs.Declared.{types_are_declared}
-use Rattle.smt_carrying.specs.Carry.{carry, carry_extension, carry_prefix, signed_bits, alone}
+use Rattle.smt_carrying.specs.Carry.{carry, carry_extension, carry_prefix, alone}
 use Rattle.smt_carrying.specs.Operators.{selector_name, selector_constructor, selector_place, carry_selector}
 use Rattle.smt_carrying.proofs.Selectors.{extension_selected, datetime_built, duration_built}
 use Rattle.smt_headline.proofs.Named.{some_there}
@@ -137,9 +139,8 @@ module _ (enums : Enums) (s : Tables) (state : State) (I : Interpretation) (x : 
   pub some_entry : entries state (codes "some") ≡ Some (Builds (codes "Option") (codes "X" ∷ []) 1 (name (codes "X") ∷ []))
   some_entry = x.fit.option_stands.1.2.0
 
-  long_worth : (z : ℤ) → IsLong z → expression_value J state (bits_64 z) ≡ Some (signed_bits z)
-  long_worth (pos n) h = let l : n < 2 ^ 64 = omega arith in bits_worth enums s state I 64 n (bits_fit 64 n refl l)
-  long_worth (negsuc n) h = let l : 2 ^ 64 - suc n < 2 ^ 64 = omega arith in bits_worth enums s state I 64 (2 ^ 64 - suc n) (bits_fit 64 (2 ^ 64 - suc n) refl l)
+  long_worth : (z : ℤ) → expression_value J state (bits 64 (bits_of 64 z)) ≡ Some (BitsOf 64 (bits_of 64 z))
+  long_worth z = bits_worth enums s state I 64 (bits_of 64 z) (bits_fit 64 (bits_of 64 z) refl (bits_of-below 64 z))
 
   prefix_worth : (width : ℕ) (p : Option ℕ) → is_width width ≡ true → IsPrefix width p → expression_value J state (prefix_body width p) ≡ Some (carry_prefix width p)
   prefix_worth width None w h = nones_stand J state (codes "Option") (codes "X" ∷ []) 0 (option_sort (bit_sort width)) none_there
@@ -147,9 +148,9 @@ module _ (enums : Enums) (s : Tables) (state : State) (I : Interpretation) (x : 
 
   -- The body of an extension literal.
   pub body_worth : (y : PlainExtension) (kind : ExtensionKind) → IsExtension kind y → HasSort s (ExtensionType kind) → expression_value J state (extension_body y) ≡ Some (carry_extension y)
-  body_worth (DecimalOf z) DecimalKind h k = built (codes "Decimal") (kind_name_of DecimalKind) [] 0 (bit_sort 64) (bits_64 z) (signed_bits z) (kind_declared DecimalKind k).0 (long_worth z h)
-  body_worth (DatetimeOf z) DatetimeKind h k = built (codes "Datetime") (kind_name_of DatetimeKind) [] 0 (bit_sort 64) (bits_64 z) (signed_bits z) (kind_declared DatetimeKind k).0 (long_worth z h)
-  body_worth (DurationOf z) DurationKind h k = built (codes "Duration") (kind_name_of DurationKind) [] 0 (bit_sort 64) (bits_64 z) (signed_bits z) (kind_declared DurationKind k).0 (long_worth z h)
+  body_worth (DecimalOf z) DecimalKind h k = built (codes "Decimal") (kind_name_of DecimalKind) [] 0 (bit_sort 64) (bits 64 (bits_of 64 z)) (BitsOf 64 (bits_of 64 z)) (kind_declared DecimalKind k).0 (long_worth z)
+  body_worth (DatetimeOf z) DatetimeKind h k = built (codes "Datetime") (kind_name_of DatetimeKind) [] 0 (bit_sort 64) (bits 64 (bits_of 64 z)) (BitsOf 64 (bits_of 64 z)) (kind_declared DatetimeKind k).0 (long_worth z)
+  body_worth (DurationOf z) DurationKind h k = built (codes "Duration") (kind_name_of DurationKind) [] 0 (bit_sort 64) (bits 64 (bits_of 64 z)) (BitsOf 64 (bits_of 64 z)) (kind_declared DurationKind k).0 (long_worth z)
   body_worth (Ipv4Of a p) IpAddrKind h k =
       built_of_two (codes "V4") (kind_name_of IpAddrKind) 0 (bit_sort 32) (option_sort (bit_sort 5)) (bits 32 a) (prefix_body 5 p) (BitsOf 32 a) (carry_prefix 5 p) (kind_declared IpAddrKind k).0
       (bits_worth enums s state I 32 a (bits_fit 32 a refl h.0)) (prefix_worth 5 p refl h.1)

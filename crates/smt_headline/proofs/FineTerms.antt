@@ -3,14 +3,15 @@ use Rattle.std.proofs.Common.{bytes_eq, ◌≡◌, ℕ, ◌≤◌, Bool, true, f
 use Rattle.std.specs.Prelude.{◌⊎◌, Option, Some, None}
 use Rattle.std.specs.Cmp.{first_so, second_so}
 use Rattle.std.specs.List.{AllByRecursion, list_all, list_any}
-use Rattle.std.specs.Option.{is_some}
+use Rattle.std.specs.Option.{is_some, option_or}
 use Rattle.std.proofs.lemmas.Bool.{le-leb}
 use Rattle.smt_term.specs.Plain.{PlainType, OptionType, BitVecType, BoolType, ExtensionType, RecordType, SetType, AttributeTypes, no_attributes, attribute, ExtensionOp, DatetimeOfBitVecOp, DatetimeValOp, DecimalValOp, DurationOfBitVecOp, DurationValOp, IpAddrV4Op, IpAddrV6Op, IpIsV4Op, IpPrefixV4Op, IpPrefixV6Op, PlainOp, BvnegoOp, ExtOp, RecordGetOp, StringLikeOp, UufOp, PlainLiteral, EntityLiteral, StringLiteral, PlainTerm, Application, NoneTerm, LiteralTerm, RecordTerm, SetTerm, SomeTerm, VariableTerm, PlainTerms, no_terms, one_term, PlainFields, no_fields, one_field, terms}
 use Rattle.smt_bits.specs.Widths.{is_width}
-use Rattle.smt_term.specs.Faults.{Fault, earlier, fault_unless, is_string, is_pattern_part, entity_fault, literal_fault, is_passed_over, type_fault, operator_fault, term_fault, terms_fault, fields_fault, first_fault}
+use Rattle.smt_term.specs.Faults.{Fault, fault_unless, is_string, is_pattern_part, entity_fault, literal_fault, is_passed_over, type_fault, operator_fault, term_fault, terms_fault, fields_fault, first_fault}
 use Rattle.smt_term.specs.Formed.{IsFormedHere, IsFormedType}
 use Rattle.smt_term.specs.Reached.{subterms, subterms_of_all, subterms_of_fields, types_within, types_within_attributes}
-use Rattle.smt_term.specs.Types.{type_eq, type_of, field_types, types_of, is_bits, attribute_type, extension_signature, result_type, is_type, typed, typed_all, typed_fields, Typed}
+use Rattle.smt_term.specs.Types.{type_eq, type_of, field_types, types_of, is_bits, attribute_type, extension_signature, result_type, is_type}
+use Rattle.smt_term.specs.Typing.{are_elements, typed, typed_all, typed_fields, Typed}
 use Rattle.smt_term.proofs.Soundness.{all-front, all-back, all-last, none-first, none-second, not-passed, is_type-some, walked, chosen}
 use Rattle.smt_term.proofs.TypeOrder.{eq_same}
 use Rattle.smt_term.specs.TypeValues.{Enums, members_of}
@@ -137,8 +138,8 @@ module _ (enums : Enums) where
     pub fine : (t : PlainTerm) → typed t ≡ true → term_fault enums t ≡ None → AllByRecursion HasFormedType (subterms t) → IsFine enums t
     fine (Application o ts t) h f w =
         let r : result_type o (types_of ts) ≡ Some t = is_type-some (result_type o (types_of ts)) t (second_so (typed_all ts) (is_type (result_type o (types_of ts)) t) h) in
-        let e : earlier (type_fault enums t) (earlier (terms_fault enums ts) (operator_fault enums o (types_of ts))) ≡ None = not-passed (is_passed_over o (types_of ts) t) _ (walked enums o (types_of ts) t r) f in
-        let d : earlier (terms_fault enums ts) (operator_fault enums o (types_of ts)) ≡ None = none-second (type_fault enums t) _ e in
+        let e : option_or (type_fault enums t) (option_or (terms_fault enums ts) (operator_fault enums o (types_of ts))) ≡ None = not-passed (is_passed_over o (types_of ts) t) _ (walked enums o (types_of ts) t r) f in
+        let d : option_or (terms_fault enums ts) (operator_fault enums o (types_of ts)) ≡ None = none-second (type_fault enums t) _ e in
         let v : AllByRecursion HasFormedType (subterms_of_all ts) = all-front HasFormedType (subterms_of_all ts) (Application o ts t ∷ []) w in
         let g : IsFineType t = fine_own (Application o ts t) w in (
           g,
@@ -153,7 +154,7 @@ module _ (enums : Enums) where
     )
     fine (SetTerm t ts) h f w = (
       fine_own (SetTerm t ts) w,
-      fine_all ts (first_so (typed_all ts) (list_all (type_eq t) (types_of ts)) h) (none-second (type_fault enums t) (terms_fault enums ts) f) (all-front HasFormedType (subterms_of_all ts) (SetTerm t ts ∷ []) w),
+      fine_all ts (first_so (typed_all ts) (are_elements t ts) h) (none-second (type_fault enums t) (terms_fault enums ts) f) (all-front HasFormedType (subterms_of_all ts) (SetTerm t ts ∷ []) w),
     )
     fine (SomeTerm t) h f w = (
       fine_own t (all-front HasFormedType (subterms t) (SomeTerm t ∷ []) w),

@@ -9,7 +9,8 @@ use Rattle.smt_term.specs.Meaning.{meaning, term_value}
 use Rattle.smt_term.specs.Operators.{truth}
 use Rattle.smt_term.specs.Reached.{subterms, reached_terms}
 use Rattle.smt_term.specs.Tables.{Interpretation}
-use Rattle.smt_term.specs.Types.{type_of, typed, Typed}
+use Rattle.smt_term.specs.Types.{type_of}
+use Rattle.smt_term.specs.Typing.{typed, Typed}
 use Rattle.smt_term.specs.TypeValues.{IsValue, Enums}
 use Rattle.smt_term.specs.Values.{Value, BoolValue}
 use Rattle.smt_term.proofs.Defaults.{interpreted}

@@ -4,13 +4,14 @@ use Rattle.std.specs.Prelude.{bytes_eq, chars, codes, IsSome, unwrap_or, ◌-◌
 use Rattle.std.specs.Cmp.{second_so}
 use Rattle.std.proofs.lemmas.Bool.{and_parts, false≢true, cond-false, or_parts}
 use Rattle.smt_term.specs.Plain.{IpAddrKind, PlainType, OptionType, BoolType, EntityType, ExtensionType, SetType, ExtensionOp, IpAddrV4Op, IpAddrV6Op, IpPrefixV4Op, IpPrefixV6Op, PlainOp, BvnegoOp, ExtOp, OptionGetOp, BitVecLiteral, BoolLiteral, EntityLiteral, ExtensionLiteral, StringLiteral, PlainTerm, Application, NoneTerm, LiteralTerm, RecordTerm, SetTerm, SomeTerm, VariableTerm, PlainTerms, no_terms, one_term}
-use Rattle.smt_term.specs.Types.{type_eq, inner_type, types_of, extension_signature, result_type, is_type, typed_all, type_of}
+use Rattle.smt_term.specs.Types.{type_eq, inner_type, types_of, extension_signature, result_type, is_type, type_of}
+use Rattle.smt_term.specs.Typing.{typed_all}
 use Rattle.smt_term.proofs.Soundness.{is_type-some, chosen}
 use Rattle.smt_term.proofs.TypeOrder.{eq_same}
 use Rattle.smt_term.specs.TypeValues.{Enums, members_of}
 use Rattle.smt_sexpr.specs.Lexicon.{Text}
-use Rattle.smt_sexpr.specs.Reading.{Expression, Leaf}
-use Rattle.smt_semantics.specs.Script.{Entry, Defined, Selects, Shape, Applied, State, name, group, exprs, is_in, built_in_names, shape, is_stated, shape_is_known, each_stated, look_up, ◌>>=◌}
+use Rattle.smt_sexpr.specs.Reading.{Expression, Leaf, expressions}
+use Rattle.smt_semantics.specs.Script.{Entry, Defined, Selects, Shape, Applied, State, name, group, is_in, built_in_names, shape, is_stated, shape_is_known, each_stated, look_up, ◌>>=◌}
 use Rattle.smt_semantics.specs.Sorts.{Entries, entries, bool_sort, entry_sort, named_sort, sort_in, option_sort}
 use Rattle.smt_semantics.specs.Value.{Selection, selection, selection_of, shape_selection, selections}
 use Rattle.smt_lines.specs.Lines.{Tables, name_of_term, name_of_type, kind_constructors, bits, extension_op_head, extension_body, operands, none_body, set_body, record_body, Manner, AsItStands, AsLeast, AsFalse, manner}
@@ -68,13 +69,13 @@ same_body a b c d h = cc
 -- ---- a selector, applied
 
 -- the name is known, and so is what it is applied to
-head_known : (older : Names) (f : List ℕ) (e : Expression) → shape (name f) (exprs (e ∷ [])) ≡ Applied f → (sorts : List ℕ → ℕ → Bool) → is_stated sorts (is_known older) (group (name f ∷ e ∷ [])) ≡ true
+head_known : (older : Names) (f : List ℕ) (e : Expression) → shape (name f) (expressions (e ∷ [])) ≡ Applied f → (sorts : List ℕ → ℕ → Bool) → is_stated sorts (is_known older) (group (name f ∷ e ∷ [])) ≡ true
     → (is_known older f ≡ true) × (is_stated sorts (is_known older) e ≡ true)
 head_known older f e h sorts k =
-    let p = and_parts (is_known older f) (is_stated sorts (is_known older) e && true) (sym (ap (λ (x : Shape). shape_is_known sorts (is_known older) x (each_stated sorts (is_known older) (exprs (e ∷ [])))) h) ∙ k) in
+    let p = and_parts (is_known older f) (is_stated sorts (is_known older) e && true) (sym (ap (λ (x : Shape). shape_is_known sorts (is_known older) x (each_stated sorts (is_known older) (expressions (e ∷ [])))) h) ∙ k) in
     (p.0, (and_parts (is_stated sorts (is_known older) e) true p.1).0)
 
-selects_one : (here : Entries) (f : List ℕ) (e sort : Expression) (x : Entry) → shape (name f) (exprs (e ∷ [])) ≡ Applied f → sort_in here e ≡ Some sort → here f ≡ Some x → selections here e ≡ []
+selects_one : (here : Entries) (f : List ℕ) (e sort : Expression) (x : Entry) → shape (name f) (expressions (e ∷ [])) ≡ Applied f → sort_in here e ≡ Some sort → here f ≡ Some x → selections here e ≡ []
     → selections here (group (name f ∷ e ∷ [])) ≡ selection_of f sort (Some x) ++ []
 selects_one here f e sort x h sorted found plain =
     ap (λ (y : Shape). shape_selection here y (sort_in here e) ++ (selections here e ++ [])) h
@@ -153,7 +154,7 @@ module _ (enums : Enums) (s : Tables) (state : State) (fit : Fit enums s state) 
         by IpPrefixV6Op r d = d.1.2.1.1.0
         by o r d = absurd (false≢true r)
 
-    one_range : (o : ExtensionOp) → is_range_selector o ≡ true → (t : PlainTerm) → type_of t ≡ ip_type → IsSome (text_of s t) → shape (name (selector_name o)) (exprs (given (text_of s t) ∷ [])) ≡ Applied (selector_name o) → is_in (selector_name o) built_in_names ≡ false
+    one_range : (o : ExtensionOp) → is_range_selector o ≡ true → (t : PlainTerm) → type_of t ≡ ip_type → IsSome (text_of s t) → shape (name (selector_name o)) (expressions (given (text_of s t) ∷ [])) ≡ Applied (selector_name o) → is_in (selector_name o) built_in_names ≡ false
         → Known older (group (name (selector_name o) ∷ given (text_of s t) ∷ [])) → selections (among older) (group (name (selector_name o) ∷ given (text_of s t) ∷ [])) ≡ selection_of (selector_name o) (sort_of s ip_type) (Some (range_entry s o)) ++ []
     one_range o r t e h a b known =
         let k = head_known older (selector_name o) (given (text_of s t)) a known.0 known.1 in

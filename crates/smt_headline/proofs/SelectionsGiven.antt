@@ -6,20 +6,20 @@ use Rattle.std.proofs.lemmas.Bool.{and_parts}
 use Rattle.std.proofs.lemmas.List.Elements.{recursion_from_All}
 use Rattle.smt_term.specs.Plain.{PlainType, BoolType, ExtensionOp, PlainOp, ExtOp, OptionGetOp, UufOp, PlainTerm, Application, VariableTerm, PlainTerms}
 use Rattle.smt_term.specs.Reached.{reached_terms}
-use Rattle.smt_term.specs.Types.{Typed, extension_signature}
+use Rattle.smt_term.specs.Types.{extension_signature}
+use Rattle.smt_term.specs.Typing.{Typed}
 use Rattle.smt_term.proofs.Soundness.{all-front, all-back}
 use Rattle.smt_term.specs.TypeValues.{Enums}
 use Rattle.smt_sexpr.specs.Reading.{Expression}
 use Rattle.smt_semantics.specs.Script.{Defined, look_up, assertions_of, names_of}
-use Rattle.smt_semantics.specs.ScriptValues.{ScriptValue}
 use Rattle.smt_semantics.specs.Sorts.{entries}
-use Rattle.smt_semantics.specs.Value.{ScriptInterpretation, IsScriptInterpretation, Selection, selections, selections_in, body_of, body_selections, applied_selectors, is_selector_given, is_table, are_others, is_other}
+use Rattle.smt_semantics.specs.Value.{ScriptInterpretation, IsScriptInterpretation, Selection, selections, selections_in, body_of, body_selections, applied_selectors, is_selector_given, is_table, are_others}
 use Rattle.smt_lines.specs.Naming.{sort_of}
 use Rattle.smt_lines.specs.Lines.{name_of_term}
 use Rattle.smt_lines.specs.Scripts.{Stated}
 use Rattle.smt_lines.specs.Text.{names}
 use Rattle.smt_lines.proofs.Declared.{terms_are_declared}
-use Rattle.smt_carrying.specs.Interpretations.{ip_type, is_range_selector, IsGivenRange, IsScriptGivenOp, IsScriptGiven, AreOthers}
+use Rattle.smt_carrying.specs.Interpretations.{ip_type, is_range_selector, IsGivenRange, IsScriptGivenOp, IsScriptGiven}
 use Rattle.smt_carrying.specs.Operators.{selector_name, selector_constructor}
 use Rattle.smt_headline.specs.Selections.{InterpretationsGiveReached}
 use Rattle.smt_headline.specs.Standing.{IsOpGiven, IsNameGiven}
@@ -33,10 +33,6 @@ use Rattle.smt_headline.proofs.SelectionsOrigins.{HasDefinition, DefinitionOrigi
 use Rattle.smt_headline.proofs.SelectionsParts.{IsSound, named_if}
 use Rattle.smt_headline.proofs.SelectionsRuns.{Names, IsRightly, AreRightly, Within, among, older_within}
 use Rattle.smt_headline.proofs.SelectionsText.{stands_rightly, parts_sound, definition_selects}
-
-all_others : (c : List ℕ) (ps : List (ScriptValue × ScriptValue)) → are_others c ps ≡ true → AreOthers c ps
-all_others c [] h = tt
-all_others c (p ∷ ps) h = let q = and_parts (is_other c p.0) (are_others c ps) h in (q.0, all_others c ps q.1)
 
 module _ (enums : Enums) (ts : List PlainTerm) (x : Stated enums ts) (typed : AllByRecursion (λ t. Typed t BoolType) ts) (J : ScriptInterpretation) where
   abbrev IsDefined : List ℕ → Type 0
@@ -88,8 +84,7 @@ module _ (enums : Enums) (ts : List PlainTerm) (x : Stated enums ts) (typed : Al
     range_given : (o : ExtensionOp) (b : Bool) → AreGiven (range_selections (names enums ts) o b) → IsGivenRange (names enums ts) (entries x.state) J o b
     range_given o true k =
         let table = J.selectors (selector_name o) in
-        let q = and_parts (is_table (entries x.state) (sort_of (names enums ts) ip_type) (sort_of (names enums ts) (extension_signature o).1) table) (are_others (selector_constructor o) table.pairs) k.0 in
-        (q.0, all_others (selector_constructor o) table.pairs q.1)
+        and_parts (is_table (entries x.state) (sort_of (names enums ts) ip_type) (sort_of (names enums ts) (extension_signature o).1) table) (are_others (selector_constructor o) table.pairs) k.0
     range_given o false k = tt
 
     op_given : (op : PlainOp) (us : PlainTerms) (type : PlainType) → IsSound (names enums ts) (Application op us type) → IsOpGiven (names enums ts) (entries x.state) J op → IsScriptGivenOp (names enums ts) (entries x.state) J op type

@@ -7,8 +7,8 @@ use Rattle.smt_term.specs.Types.{extension_signature, type_eq}
 use Rattle.smt_term.specs.TypeValues.{Enums}
 use Rattle.smt_term.specs.Interpretations.{function_eq}
 use Rattle.smt_term.proofs.TermTotal.{types_decided, functions_decided}
-use Rattle.smt_sexpr.specs.Reading.{Expression}
-use Rattle.smt_semantics.specs.Script.{Entry, Selects, name, group, exprs, is_in}
+use Rattle.smt_sexpr.specs.Reading.{Expression, expressions}
+use Rattle.smt_semantics.specs.Script.{Entry, Selects, name, group, is_in}
 use Rattle.smt_semantics.specs.Value.{Selection}
 use Rattle.smt_semantics.specs.Sorts.{option_sort}
 use Rattle.smt_lines.specs.Lines.{Tables, name_of_type, name_of_function, text_of_name, attribute_name, attribute_place, bits, operands, AsLeast, manner, first_type}
@@ -117,13 +117,13 @@ module _ (s : Tables) (counted : AreTypesCounted s) (called : AreFunctionsCounte
   plain_op enums (ExtOp IpPrefixV6Op) ts h = absurd (false≢true (sym h))
   plain_op enums op ts h = refl
 
-  plain_operands : (op : PlainOp) (es : List Expression) → each_plain (exprs es) ≡ true → each_plain (exprs (operands op es)) ≡ true
+  plain_operands : (op : PlainOp) (es : List Expression) → each_plain (expressions es) ≡ true → each_plain (expressions (operands op es)) ≡ true
   plain_operands (StringLikeOp p) es h = plain_with_pattern p es h
   plain_operands op es h = h
 
   pub plain_application : (enums : Enums) (op : PlainOp) (ts : PlainTerms) → is_selecting op ≡ false → is_plain (group (head_of enums s op ts ∷ operands op (texts_of s ts))) ≡ true
   plain_application enums op ts h =
-      and_from (is_plain_head (head_of enums s op ts)) (each_plain (exprs (operands op (texts_of s ts)))) (plain_op enums op ts h) (plain_operands op (texts_of s ts) (plain_texts s ts))
+      and_from (is_plain_head (head_of enums s op ts)) (each_plain (expressions (operands op (texts_of s ts)))) (plain_op enums op ts h) (plain_operands op (texts_of s ts) (plain_texts s ts))
 
   pub plain_least : (ts : PlainTerms) (w n : ℕ) → is_plain (group (name (codes "=") ∷ (texts_of s ts ++ bits w n ∷ []))) ≡ true
   plain_least ts w n = plain_append (texts_of s ts) (bits w n ∷ []) (plain_texts s ts) refl

@@ -3,7 +3,7 @@ use Rattle.std.proofs.Common.{◌≡◌, ℕ, Bool, true, false, List, [], ◌�
 use Rattle.std.specs.List.{AllByRecursion}
 use Rattle.smt_term.specs.Plain.{PlainType, BoolType, ExtensionOp, PlainOp, ExtOp, OptionGetOp, PlainTerm, Application, PlainTerms}
 use Rattle.smt_term.specs.Reached.{reached_terms}
-use Rattle.smt_term.specs.Types.{Typed}
+use Rattle.smt_term.specs.Typing.{Typed}
 use Rattle.smt_term.specs.TypeValues.{Enums}
 use Rattle.smt_semantics.specs.Script.{Entry, Defined, names_of}
 use Rattle.smt_semantics.specs.Sorts.{entries}

@@ -2,11 +2,12 @@
 use Rattle.std.proofs.Common.{◌≡◌, ℕ, true, List, [], ◌∷◌, ◌++◌, refl, Option, Some, None}
 use Rattle.std.specs.Prelude.{IsSome}
 use Rattle.std.specs.Cmp.{first_so, second_so}
-use Rattle.std.specs.List.{AllByRecursion, list_all}
+use Rattle.std.specs.List.{AllByRecursion}
 use Rattle.std.proofs.lemmas.Bool.{false≢true}
 use Rattle.smt_term.specs.Plain.{PlainTerm, Application, NoneTerm, LiteralTerm, RecordTerm, SetTerm, SomeTerm, VariableTerm, PlainTerms, no_terms, one_term, PlainFields, no_fields, one_field}
 use Rattle.smt_term.specs.Reached.{subterms, subterms_of_all, subterms_of_fields, reached_terms}
-use Rattle.smt_term.specs.Types.{type_eq, types_of, result_type, is_type, typed, typed_all, typed_fields}
+use Rattle.smt_term.specs.Types.{types_of, result_type, is_type}
+use Rattle.smt_term.specs.Typing.{are_elements, typed, typed_all, typed_fields}
 use Rattle.smt_term.specs.TypeValues.{Enums}
 use Rattle.smt_semantics.specs.Script.{State}
 use Rattle.smt_lines.specs.Lines.{Tables, name_of_term}
@@ -43,7 +44,7 @@ module _ (enums : Enums) (s : Tables) (state : State) (fit : Fit enums s state) 
     term_sound (LiteralTerm l) h k = ((h, k), tt)
     term_sound (RecordTerm x) h k = all_join (IsSound s) (subterms_of_fields x) (RecordTerm x ∷ []) (fields_sound x h (own (RecordTerm x) k).0) ((h, k), tt)
     term_sound (SetTerm t ts) h k =
-        all_join (IsSound s) (subterms_of_all ts) (SetTerm t ts ∷ []) (terms_sound ts (first_so (typed_all ts) (list_all (type_eq t) (types_of ts)) h) (own (SetTerm t ts) k).0) ((h, k), tt)
+        all_join (IsSound s) (subterms_of_all ts) (SetTerm t ts ∷ []) (terms_sound ts (first_so (typed_all ts) (are_elements t ts) h) (own (SetTerm t ts) k).0) ((h, k), tt)
     term_sound (SomeTerm t) h k = all_join (IsSound s) (subterms t) (SomeTerm t ∷ []) (term_sound t h (own (SomeTerm t) k).0) ((h, k), tt)
     term_sound (VariableTerm id type) h k = ((h, k), tt)
 

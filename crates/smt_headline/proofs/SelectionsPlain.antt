@@ -1,15 +1,16 @@
 -- Expressions without a head that may be left open apply no selector that is.
 use Rattle.std.proofs.Common.{◌≡◌, ℕ, Bool, true, false, not, ◌&&◌, cond, List, [], ◌∷◌, ◌++◌, refl, sym, ap, ap₂, ◌∙◌, Option, Some, None}
-use Rattle.std.specs.Prelude.{codes, bytes_eq, take, drop, pos, negsuc, ℤ, map}
+use Rattle.std.specs.Prelude.{codes, bytes_eq, take, drop, map}
 use Rattle.std.proofs.lemmas.Bool.{and_parts, and_from, false≢true, or_parts}
+use Rattle.smt_bits.specs.BitVectors.{bits_of}
 use Rattle.smt_term.specs.Plain.{PlainType, OptionType, BitVecType, BoolType, EntityType, ExtensionType, StringType, RecordType, SetType, PatternPart, Character, Wildcard, PlainExtension, DecimalOf, Ipv4Of, Ipv6Of, DatetimeOf, DurationOf, BitVecLiteral, BoolLiteral, EntityLiteral, ExtensionLiteral, StringLiteral, PlainTerm, Application, NoneTerm, LiteralTerm, RecordTerm, SetTerm, SomeTerm, VariableTerm, PlainTerms, no_terms, one_term, PlainFields, no_fields, one_field}
 use Rattle.smt_sexpr.specs.Lexicon.{Bits, Number, Text, Name, is_digit, some_all, number_in}
-use Rattle.smt_sexpr.specs.Reading.{Expression, Leaf, Node, Expressions, Nil, Cons}
-use Rattle.smt_semantics.specs.Script.{Entry, Constant, Function, Defined, Builds, Selects, BitLiteral, Applied, Extended, Tested, Unformed, name, group, exprs, is_in, bit_literal, qualified, matched_by, matched, indexed, shape, pattern}
+use Rattle.smt_sexpr.specs.Reading.{Expression, Leaf, Node, Expressions, Nil, Cons, expressions}
+use Rattle.smt_semantics.specs.Script.{Entry, Constant, Function, Defined, Builds, Selects, BitLiteral, Applied, Extended, Tested, Unformed, name, group, is_in, bit_literal, qualified, matched_by, matched, indexed, shape, pattern}
 use Rattle.smt_semantics.specs.Sorts.{Entries}
 use Rattle.smt_semantics.specs.Value.{Selection, range_selectors, selection_if, selection, shape_selection, first_sort, selections, each_selections}
 use Rattle.smt_semantics.specs.Quoting.{part_expr, pattern_expr}
-use Rattle.smt_lines.specs.Lines.{Tables, name_of_term, bits, bits_64, prefix_body, extension_body, with_pattern, none_body, empty_set, set_body, record_body}
+use Rattle.smt_lines.specs.Lines.{Tables, name_of_term, bits, prefix_body, extension_body, with_pattern, none_body, empty_set, set_body, record_body}
 use Rattle.smt_lines.specs.Naming.{sort_of}
 use Rattle.smt_lines.specs.Entries.{given, named_text, text_of, texts_of, texts_of_fields}
 use Rattle.smt_headline.proofs.SelectionsRuns.{IsInside}
@@ -124,16 +125,16 @@ module _ (here : Entries) (one : HasOneInside here) where
 
 -- ---- the expressions that are written
 
-pub plain_append : (es fs : List Expression) → each_plain (exprs es) ≡ true → each_plain (exprs fs) ≡ true → each_plain (exprs (es ++ fs)) ≡ true
+pub plain_append : (es fs : List Expression) → each_plain (expressions es) ≡ true → each_plain (expressions fs) ≡ true → each_plain (expressions (es ++ fs)) ≡ true
 plain_append [] fs h k = k
 plain_append (e ∷ es) fs h k =
-    let p = and_parts (is_plain e) (each_plain (exprs es)) h in
-    and_from (is_plain e) (each_plain (exprs (es ++ fs))) p.0 (plain_append es fs p.1 k)
+    let p = and_parts (is_plain e) (each_plain (expressions es)) h in
+    and_from (is_plain e) (each_plain (expressions (es ++ fs))) p.0 (plain_append es fs p.1 k)
 
-plain_two : (e f : Expression) → is_plain e ≡ true → is_plain f ≡ true → each_plain (exprs (e ∷ f ∷ [])) ≡ true
+plain_two : (e f : Expression) → is_plain e ≡ true → is_plain f ≡ true → each_plain (expressions (e ∷ f ∷ [])) ≡ true
 plain_two e f h k = and_from (is_plain e) (is_plain f && true) h (and_from (is_plain f) true k refl)
 
-plain_alone : (e : Expression) → is_plain e ≡ true → each_plain (exprs (e ∷ [])) ≡ true
+plain_alone : (e : Expression) → is_plain e ≡ true → each_plain (expressions (e ∷ [])) ≡ true
 plain_alone e h = and_from (is_plain e) true h refl
 
 pub plain_sort : (s : Tables) (t : PlainType) → is_plain (sort_of s t) ≡ true
@@ -164,13 +165,13 @@ plain_text s (SetTerm t ts) = plain_name (name_of_term s (SetTerm t ts))
 plain_text s (SomeTerm t) = plain_name (name_of_term s (SomeTerm t))
 plain_text s (VariableTerm id type) = plain_name (name_of_term s (VariableTerm id type))
 
-pub plain_texts : (s : Tables) (ts : PlainTerms) → each_plain (exprs (texts_of s ts)) ≡ true
+pub plain_texts : (s : Tables) (ts : PlainTerms) → each_plain (expressions (texts_of s ts)) ≡ true
 plain_texts s no_terms = refl
-plain_texts s (one_term t ts) = and_from (is_plain (given (text_of s t))) (each_plain (exprs (texts_of s ts))) (plain_text s t) (plain_texts s ts)
+plain_texts s (one_term t ts) = and_from (is_plain (given (text_of s t))) (each_plain (expressions (texts_of s ts))) (plain_text s t) (plain_texts s ts)
 
-pub plain_fields : (s : Tables) (x : PlainFields) → each_plain (exprs (texts_of_fields s x)) ≡ true
+pub plain_fields : (s : Tables) (x : PlainFields) → each_plain (expressions (texts_of_fields s x)) ≡ true
 plain_fields s no_fields = refl
-plain_fields s (one_field a t x) = and_from (is_plain (given (text_of s t))) (each_plain (exprs (texts_of_fields s x))) (plain_text s t) (plain_fields s x)
+plain_fields s (one_field a t x) = and_from (is_plain (given (text_of s t))) (each_plain (expressions (texts_of_fields s x))) (plain_text s t) (plain_fields s x)
 
 -- ---- patterns
 
@@ -178,38 +179,34 @@ plain_part : (p : PatternPart) → is_plain (part_expr p) ≡ true
 plain_part (Character c) = refl
 plain_part Wildcard = refl
 
-plain_parts : (ps : List PatternPart) → each_plain (exprs (map part_expr ps)) ≡ true
+plain_parts : (ps : List PatternPart) → each_plain (expressions (map part_expr ps)) ≡ true
 plain_parts [] = refl
-plain_parts (p ∷ ps) = and_from (is_plain (part_expr p)) (each_plain (exprs (map part_expr ps))) (plain_part p) (plain_parts ps)
+plain_parts (p ∷ ps) = and_from (is_plain (part_expr p)) (each_plain (expressions (map part_expr ps))) (plain_part p) (plain_parts ps)
 
 plain_pattern : (ps : List PatternPart) → is_plain (pattern_expr ps) ≡ true
 plain_pattern [] = refl
 plain_pattern (p ∷ []) = plain_part p
 plain_pattern (p ∷ q ∷ ps) =
-    and_from (is_plain (part_expr p)) _ (plain_part p) (and_from (is_plain (part_expr q)) (each_plain (exprs (map part_expr ps))) (plain_part q) (plain_parts ps))
+    and_from (is_plain (part_expr p)) _ (plain_part p) (and_from (is_plain (part_expr q)) (each_plain (expressions (map part_expr ps))) (plain_part q) (plain_parts ps))
 
-pub plain_with_pattern : (p : List PatternPart) (es : List Expression) → each_plain (exprs es) ≡ true → each_plain (exprs (with_pattern p es)) ≡ true
+pub plain_with_pattern : (p : List PatternPart) (es : List Expression) → each_plain (expressions es) ≡ true → each_plain (expressions (with_pattern p es)) ≡ true
 plain_with_pattern p [] h = plain_two (name []) (pattern_expr p) refl (plain_pattern p)
 plain_with_pattern p (e ∷ es) h =
-    let q = and_parts (is_plain e) (each_plain (exprs es)) h in
-    and_from (is_plain e) (each_plain (exprs (es ++ pattern_expr p ∷ []))) q.0 (plain_append es (pattern_expr p ∷ []) q.1 (plain_alone (pattern_expr p) (plain_pattern p)))
+    let q = and_parts (is_plain e) (each_plain (expressions es)) h in
+    and_from (is_plain e) (each_plain (expressions (es ++ pattern_expr p ∷ []))) q.0 (plain_append es (pattern_expr p ∷ []) q.1 (plain_alone (pattern_expr p) (plain_pattern p)))
 
 -- ---- literals
-
-plain_bits : (z : ℤ) → is_plain (bits_64 z) ≡ true
-plain_bits (pos n) = refl
-plain_bits (negsuc n) = refl
 
 plain_prefix : (w : ℕ) (o : Option ℕ) → is_plain (prefix_body w o) ≡ true
 plain_prefix w (Some p) = refl
 plain_prefix w None = refl
 
 pub plain_extension : (x : PlainExtension) → is_plain (extension_body x) ≡ true
-plain_extension (DecimalOf z) = plain_alone (bits_64 z) (plain_bits z)
+plain_extension (DecimalOf z) = plain_alone (bits 64 (bits_of 64 z)) refl
 plain_extension (Ipv4Of a p) = plain_two (bits 32 a) (prefix_body 5 p) refl (plain_prefix 5 p)
 plain_extension (Ipv6Of a p) = plain_two (bits 128 a) (prefix_body 7 p) refl (plain_prefix 7 p)
-plain_extension (DatetimeOf z) = plain_alone (bits_64 z) (plain_bits z)
-plain_extension (DurationOf z) = plain_alone (bits_64 z) (plain_bits z)
+plain_extension (DatetimeOf z) = plain_alone (bits 64 (bits_of 64 z)) refl
+plain_extension (DurationOf z) = plain_alone (bits 64 (bits_of 64 z)) refl
 
 -- ---- constructors and sets
 
@@ -219,17 +216,17 @@ plain_none sort h = plain_two (name (codes "none")) sort refl h
 pub plain_some : (e : Expression) → is_plain e ≡ true → is_plain (group (name (codes "some") ∷ e ∷ [])) ≡ true
 plain_some e h = plain_alone e h
 
-pub plain_set : (sort : Expression) (es : List Expression) → is_plain sort ≡ true → each_plain (exprs es) ≡ true → is_plain (set_body sort es) ≡ true
+pub plain_set : (sort : Expression) (es : List Expression) → is_plain sort ≡ true → each_plain (expressions es) ≡ true → is_plain (set_body sort es) ≡ true
 plain_set sort [] h k = plain_two (name (codes "set.empty")) sort refl h
 plain_set sort (e ∷ es) h k =
-    let p = and_parts (is_plain e) (each_plain (exprs es)) k in
+    let p = and_parts (is_plain e) (each_plain (expressions es)) k in
     let q : is_plain (empty_set sort) ≡ true = plain_two (name (codes "set.empty")) sort refl h in
-    and_from (is_plain e) (each_plain (exprs (es ++ empty_set sort ∷ []))) p.0 (plain_append es (empty_set sort ∷ []) p.1 (plain_alone (empty_set sort) q))
+    and_from (is_plain e) (each_plain (expressions (es ++ empty_set sort ∷ []))) p.0 (plain_append es (empty_set sort ∷ []) p.1 (plain_alone (empty_set sort) q))
 
 -- a group under a name
-pub plain_group : (f : List ℕ) (es : List Expression) → is_in f open_selectors ≡ false → each_plain (exprs es) ≡ true → is_plain (group (name f ∷ es)) ≡ true
-plain_group f es h k = and_from (not (is_in f open_selectors)) (each_plain (exprs es)) (ap not h) k
+pub plain_group : (f : List ℕ) (es : List Expression) → is_in f open_selectors ≡ false → each_plain (expressions es) ≡ true → is_plain (group (name f ∷ es)) ≡ true
+plain_group f es h k = and_from (not (is_in f open_selectors)) (each_plain (expressions es)) (ap not h) k
 
-pub plain_record : (n : List ℕ) (es : List Expression) → is_in n open_selectors ≡ false → each_plain (exprs es) ≡ true → is_plain (record_body (name n) es) ≡ true
+pub plain_record : (n : List ℕ) (es : List Expression) → is_in n open_selectors ≡ false → each_plain (expressions es) ≡ true → is_plain (record_body (name n) es) ≡ true
 plain_record n [] h k = refl
 plain_record n (e ∷ es) h k = plain_group n (e ∷ es) h k

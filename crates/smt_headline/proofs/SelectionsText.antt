@@ -4,7 +4,7 @@ use Rattle.std.specs.Prelude.{is_some}
 use Rattle.std.specs.List.{AllByRecursion}
 use Rattle.smt_term.specs.Plain.{PlainType, BoolType, PlainFunction, PlainTerm, terms}
 use Rattle.smt_term.specs.Reached.{reached_terms}
-use Rattle.smt_term.specs.Types.{Typed}
+use Rattle.smt_term.specs.Typing.{Typed}
 use Rattle.smt_term.specs.TypeValues.{Enums}
 use Rattle.smt_sexpr.specs.Reading.{Expression}
 use Rattle.smt_semantics.specs.Script.{Entry, Defined, is_in, built_in_names, names_of}

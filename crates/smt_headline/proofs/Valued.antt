@@ -2,14 +2,17 @@
 use Rattle.std.proofs.Common.{◌≡◌, true, List, [], ◌∷◌, Some, None}
 use Rattle.std.specs.Cmp.{first_so, second_so}
 use Rattle.std.specs.List.{AllByRecursion, list_all}
+use Rattle.std.specs.Option.{option_or}
 use Rattle.smt_term.specs.Plain.{PlainTerm, Application, NoneTerm, LiteralTerm, RecordTerm, SetTerm, SomeTerm, VariableTerm, PlainTerms, no_terms, one_term, PlainFields, no_fields, one_field, RecordType}
-use Rattle.smt_term.specs.Faults.{earlier, is_passed_over, type_fault, operator_fault, term_fault, terms_fault, fields_fault, first_fault}
+use Rattle.smt_term.specs.Faults.{is_passed_over, type_fault, operator_fault, term_fault, terms_fault, fields_fault, first_fault}
 use Rattle.smt_term.specs.Formed.{IsFormedLiteral, IsFormedNode, IsFormed}
 use Rattle.smt_term.specs.Interpretations.{IsGivenOp, IsGiven}
 use Rattle.smt_term.specs.Meaning.{literal_value, meaning}
 use Rattle.smt_term.specs.Reached.{subterms, subterms_of_all, subterms_of_fields, reached_terms}
 use Rattle.smt_term.specs.Tables.{Interpretation}
-use Rattle.smt_term.specs.Types.{type_eq, literal_type, type_of, field_types, types_of, result_type, is_type, typed, typed_all, typed_fields}
+use Rattle.smt_term.specs.Types.{type_eq, literal_type, type_of, field_types, types_of, result_type, is_type}
+use Rattle.smt_term.specs.Typing.{are_elements, typed, typed_all, typed_fields}
+use Rattle.smt_term.proofs.Elements.{typed_elements}
 use Rattle.smt_term.specs.TypeValues.{Enums, IsValue}
 use Rattle.smt_term.proofs.Soundness.{all-front, all-back, all-last, none-first, none-second, not-passed, is_type-some, walked, valued}
 use Rattle.smt_lines.specs.Fine.{IsFineType, IsFineOp, IsFineLiteral, IsFine}
@@ -48,8 +51,8 @@ module _ (enums : Enums) (I : Interpretation) where
     pub is_valued : (t : PlainTerm) → typed t ≡ true → term_fault enums t ≡ None → Formed (subterms t) → AreTyped (subterms t) → Given (subterms t) → IsValued t
     is_valued (Application o ts t) h f w y g =
         let r : result_type o (types_of ts) ≡ Some t = is_type-some (result_type o (types_of ts)) t (second_so (typed_all ts) (is_type (result_type o (types_of ts)) t) h) in
-        let e : earlier (type_fault enums t) (earlier (terms_fault enums ts) (operator_fault enums o (types_of ts))) ≡ None = not-passed (is_passed_over o (types_of ts) t) _ (walked enums o (types_of ts) t r) f in
-        let d : earlier (terms_fault enums ts) (operator_fault enums o (types_of ts)) ≡ None = none-second (type_fault enums t) _ e in
+        let e : option_or (type_fault enums t) (option_or (terms_fault enums ts) (operator_fault enums o (types_of ts))) ≡ None = not-passed (is_passed_over o (types_of ts) t) _ (walked enums o (types_of ts) t r) f in
+        let d : option_or (terms_fault enums ts) (operator_fault enums o (types_of ts)) ≡ None = none-second (type_fault enums t) _ e in
         let k : IsFine enums (Application o ts t) = fine enums (Application o ts t) h f y in (
           are_valued ts (first_so (typed_all ts) (is_type (result_type o (types_of ts)) t) h) (none-first (terms_fault enums ts) (operator_fault enums o (types_of ts)) d)
               (all-front IsFormedNode (subterms_of_all ts) (Application o ts t ∷ []) w) (all-front HasFormedType (subterms_of_all ts) (Application o ts t ∷ []) y) (all-front (IsGiven enums I) (subterms_of_all ts) (Application o ts t ∷ []) g),
@@ -64,9 +67,9 @@ module _ (enums : Enums) (I : Interpretation) where
         have_values fs h (none-second (type_fault enums (RecordType (field_types fs))) (fields_fault enums fs) f)
         (all-front IsFormedNode (subterms_of_fields fs) (RecordTerm fs ∷ []) w) (all-front HasFormedType (subterms_of_fields fs) (RecordTerm fs ∷ []) y) (all-front (IsGiven enums I) (subterms_of_fields fs) (RecordTerm fs ∷ []) g)
     is_valued (SetTerm t ts) h f w y g = (
-      are_valued ts (first_so (typed_all ts) (list_all (type_eq t) (types_of ts)) h) (none-second (type_fault enums t) (terms_fault enums ts) f)
+      are_valued ts (first_so (typed_all ts) (are_elements t ts) h) (none-second (type_fault enums t) (terms_fault enums ts) f)
           (all-front IsFormedNode (subterms_of_all ts) (SetTerm t ts ∷ []) w) (all-front HasFormedType (subterms_of_all ts) (SetTerm t ts ∷ []) y) (all-front (IsGiven enums I) (subterms_of_all ts) (SetTerm t ts ∷ []) g),
-      second_so (typed_all ts) (list_all (type_eq t) (types_of ts)) h,
+      typed_elements t ts (second_so (typed_all ts) (are_elements t ts) h),
     )
     is_valued (SomeTerm t) h f w y g =
         is_valued t h (none-second (type_fault enums (type_of t)) (term_fault enums t) f)

@@ -13,16 +13,17 @@ use Rattle.smt_term.proofs.TermTotal.{terms_decided}
 use Rattle.smt_semantics.specs.ScriptValues.{ScriptValue, BitsOf}
 use Rattle.smt_sexpr.specs.Reading.{Expression}
 use Rattle.smt_bits.specs.Widths.{are_bits, is_width}
-use Rattle.smt_semantics.specs.Script.{State, Defined, name, ◌>>=◌}
+use Rattle.smt_semantics.specs.Script.{State, Defined, name, names_of, ◌>>=◌}
 use Rattle.smt_semantics.specs.Sorts as sorts
 use Rattle.smt_semantics.specs.Sorts.{entries}
+use Rattle.smt_semantics.specs.Value as script
 use Rattle.smt_semantics.specs.Value.{ScriptInterpretation, expression_value}
 use Rattle.smt_semantics.specs.Meanings.{argument_values}
+use Rattle.smt_semantics.proofs.Laid.{bits_have_values}
 use Rattle.smt_lines.specs.Lines.{Tables, name_of_term, bits, Manner, AsItStands, AsLeast, AsFalse, manner}
 use Rattle.smt_lines.specs.Naming.{IsOneToOne, sort_of}
 use Rattle.smt_lines.specs.Entries.{EachEntry, named_text, text_of, given, texts_of, application_lines}
 use Rattle.smt_lines.specs.Fit.{Fit, EachLine, LineStands}
-use Rattle.smt_lines.proofs.Basic.{numeral_digits, numeral_number}
 use Rattle.smt_lines.proofs.Declared.{terms_are_declared}
 use Rattle.smt_lines.proofs.Known.{each_found}
 use Rattle.smt_carrying.specs.Carry.{carry}
@@ -58,7 +59,7 @@ module _ (enums : Enums) (s : Tables) (state : State) (I : Interpretation) where
   arguments (one_term t ts) h = ap₂ (λ (o : Option ScriptValue) (p : Option (List ScriptValue)). o >>= λ v. p >>= λ vs. Some (v ∷ vs)) h.0 (arguments ts h.1)
 
   pub bits_worth : (width number : ℕ) → are_bits width number ≡ true → expression_value carried state (bits width number) ≡ Some (BitsOf width number)
-  bits_worth width number h = rw (numeral_digits number, numeral_number number, h) refl
+  bits_worth width number h = bits_have_values (entries state) (script.meaning carried (names_of state)) width number h
 
 pub bits_fit : (width number : ℕ) → is_width width ≡ true → number < 2 ^ width → are_bits width number ≡ true
 bits_fit width number w h = and_from (is_width width) (nat_lt number (2 ^ width)) w (lt-ltb number (2 ^ width) h)

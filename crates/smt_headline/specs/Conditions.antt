@@ -5,7 +5,8 @@ use Rattle.std.specs.Option.{is_some}
 use Rattle.smt_term.specs.Plain.{PlainType, BoolType, AttributeTypes, PlainTerm, terms}
 use Rattle.smt_term.specs.Faults.{first_fault}
 use Rattle.smt_term.specs.Formed.{IsFormedType, IsFormed, attribute_names}
-use Rattle.smt_term.specs.Types.{attribute_in, typed, Typed}
+use Rattle.smt_term.specs.Types.{attribute_in}
+use Rattle.smt_term.specs.Typing.{typed, Typed}
 use Rattle.smt_term.specs.TypeValues.{Enums}
 use Rattle.smt_lines.specs.Lines.{place_of, Call, PushCall, PopCall, EncodeCall, Encoding, fresh, after_call}
 use Rattle.smt_lines.specs.Rows.{condition}

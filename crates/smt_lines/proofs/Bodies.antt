@@ -1,19 +1,20 @@
 -- The bodies of definitions are known where tables and a state fit.
 use Rattle.std.proofs.Common.{◌≡◌, ℕ, zero, suc, ◌+◌, ◌-◌, ◌^◌, ◌<◌, ◌≤◌, Bool, true, false, List, [], ◌∷◌, ◌++◌, map, length, refl, sym, subst, inl, inr, Option, Some, None, arith}
-use Rattle.std.specs.Prelude.{codes, IsSome, nat_lt, ℤ, pos, negsuc, eqb}
+use Rattle.std.specs.Prelude.{codes, IsSome, nat_lt, eqb}
 use Rattle.std.specs.List.{list_all}
 use Rattle.std.proofs.lemmas.Bool.{and_parts, and_from, ltb-true, false≢true, eqb-true, eqb-false}
+use Rattle.smt_bits.specs.BitVectors.{bits_of}
 use Rattle.smt_term.specs.Plain.{ExtensionKind, IpAddrKind, DecimalKind, DatetimeKind, DurationKind, PlainType, OptionType, BitVecType, ExtensionType, RecordType, AttributeTypes, PlainFunction, ExtensionOp, DatetimeOfBitVecOp, DatetimeValOp, DecimalValOp, DurationOfBitVecOp, DurationValOp, IpAddrV4Op, IpAddrV6Op, IpIsV4Op, IpPrefixV4Op, IpPrefixV6Op, PatternPart, Character, Wildcard, PlainOp, BvnegoOp, ExtOp, OptionGetOp, RecordGetOp, StringLikeOp, UufOp, PlainExtension, DecimalOf, Ipv4Of, Ipv6Of, DatetimeOf, DurationOf, PlainTerms, no_terms, one_term}
 use Rattle.smt_term.specs.TypeValues.{Enums}
 use Rattle.smt_term.specs.Formed.{attribute_names}
 use Rattle.smt_term.specs.Types.{kind_of}
-use Rattle.smt_sexpr.specs.Reading.{Expression}
-use Rattle.smt_semantics.specs.Script.{State, name, group, exprs, is_in, built_in_names, has_name, has_sort, is_sort, knows}
+use Rattle.smt_sexpr.specs.Reading.{Expression, expressions}
+use Rattle.smt_semantics.specs.Script.{State, name, group, is_in, built_in_names, has_name, has_sort, is_sort, knows}
 use Rattle.smt_semantics.specs.Quoting.{part_expr, pattern_expr}
 use Rattle.smt_semantics.specs.Written.{is_name}
 use Rattle.smt_semantics.proofs.Quotes.{patterns_write}
 use Rattle.smt_semantics.specs.Sorts.{bit_sort, option_sort}
-use Rattle.smt_lines.specs.Lines.{Tables, name_of_type, name_of_function, text_of_name, attribute_name, attribute_place, place_of, bits, bits_64, prefix_body, extension_body, encode_head, encode_function, operands, AsItStands, manner, none_body, empty_set, set_body, record_body, first_type}
+use Rattle.smt_lines.specs.Lines.{Tables, name_of_type, name_of_function, text_of_name, attribute_name, attribute_place, place_of, bits, prefix_body, extension_body, encode_head, encode_function, operands, AsItStands, manner, none_body, empty_set, set_body, record_body, first_type}
 use Rattle.smt_lines.specs.Naming.{sort_of}
 use Rattle.smt_lines.specs.Entries.{HasSort, named_text}
 use Rattle.smt_lines.proofs.Making.{functions_are_made}
@@ -109,7 +110,7 @@ part_written : (p : PatternPart) → is_pattern_part p ≡ true → is_written (
 part_written (Character c) h = rw h refl
 part_written Wildcard h = refl
 
-parts_written : (ps : List PatternPart) → list_all is_pattern_part ps ≡ true → are_written (exprs (map part_expr ps)) ≡ true
+parts_written : (ps : List PatternPart) → list_all is_pattern_part ps ≡ true → are_written (expressions (map part_expr ps)) ≡ true
 parts_written [] h = refl
 parts_written (p ∷ ps) h = let q = and_parts (is_pattern_part p) (list_all is_pattern_part ps) h in and_from (is_written (part_expr p)) _ (part_written p q.0) (parts_written ps q.1)
 
@@ -190,10 +191,6 @@ record_good enums s state fit x h es g = go es g (stands_so enums s state fit (R
 
 -- ---- extension literals
 
-bits_64_good : (state : State) (x : ℤ) → GoodText state (bits_64 x)
-bits_64_good state (pos n) = bits_good state 64 n
-bits_64_good state (negsuc n) = bits_good state 64 (2 ^ 64 - suc n)
-
 prefix_4_good : (enums : Enums) (s : Tables) (state : State) → Fit enums s state → (p : Option ℕ) → GoodText state (prefix_body 5 p)
 prefix_4_good enums s state fit (Some p) = some_good enums s state fit (bits 5 p) (bits_good state 5 p)
 prefix_4_good enums s state fit None = none_good enums s state fit (option_sort (bit_sort 5)) (sort_good enums s state fit (OptionType (BitVecType 5)) refl tt)
@@ -203,8 +200,8 @@ prefix_6_good enums s state fit (Some p) = some_good enums s state fit (bits 7 p
 prefix_6_good enums s state fit None = none_good enums s state fit (option_sort (bit_sort 7)) (sort_good enums s state fit (OptionType (BitVecType 7)) refl tt)
 
 pub extension_good : (enums : Enums) (s : Tables) (state : State) → Fit enums s state → (x : PlainExtension) → HasSort s (ExtensionType (kind_of x)) → GoodText state (extension_body x)
-extension_good enums s state fit (DecimalOf x) h = applied_good enums s state fit (codes "Decimal") (bits_64 x ∷ []) (kind_declares enums s state fit DecimalKind h (codes "Decimal") refl) refl (alone state (bits_64 x) (bits_64_good state x))
-extension_good enums s state fit (DatetimeOf x) h = applied_good enums s state fit (codes "Datetime") (bits_64 x ∷ []) (kind_declares enums s state fit DatetimeKind h (codes "Datetime") refl) refl (alone state (bits_64 x) (bits_64_good state x))
-extension_good enums s state fit (DurationOf x) h = applied_good enums s state fit (codes "Duration") (bits_64 x ∷ []) (kind_declares enums s state fit DurationKind h (codes "Duration") refl) refl (alone state (bits_64 x) (bits_64_good state x))
+extension_good enums s state fit (DecimalOf x) h = applied_good enums s state fit (codes "Decimal") (bits 64 (bits_of 64 x) ∷ []) (kind_declares enums s state fit DecimalKind h (codes "Decimal") refl) refl (alone state (bits 64 (bits_of 64 x)) (bits_good state 64 (bits_of 64 x)))
+extension_good enums s state fit (DatetimeOf x) h = applied_good enums s state fit (codes "Datetime") (bits 64 (bits_of 64 x) ∷ []) (kind_declares enums s state fit DatetimeKind h (codes "Datetime") refl) refl (alone state (bits 64 (bits_of 64 x)) (bits_good state 64 (bits_of 64 x)))
+extension_good enums s state fit (DurationOf x) h = applied_good enums s state fit (codes "Duration") (bits 64 (bits_of 64 x) ∷ []) (kind_declares enums s state fit DurationKind h (codes "Duration") refl) refl (alone state (bits 64 (bits_of 64 x)) (bits_good state 64 (bits_of 64 x)))
 extension_good enums s state fit (Ipv4Of a p) h = applied_good enums s state fit (codes "V4") (bits 32 a ∷ prefix_body 5 p ∷ []) (kind_declares enums s state fit IpAddrKind h (codes "V4") refl) refl (pair state (bits 32 a) (prefix_body 5 p) (bits_good state 32 a) (prefix_4_good enums s state fit p))
 extension_good enums s state fit (Ipv6Of a p) h = applied_good enums s state fit (codes "V6") (bits 128 a ∷ prefix_body 7 p ∷ []) (kind_declares enums s state fit IpAddrKind h (codes "V6") refl) refl (pair state (bits 128 a) (prefix_body 7 p) (bits_good state 128 a) (prefix_6_good enums s state fit p))

@@ -9,7 +9,7 @@ use Rattle.smt_lines.specs.Spelling.{numeral}
 use Rattle.smt_lines.specs.Lines.{numbered, kind_name}
 use Rattle.smt_lines.specs.Entries.{AreNumbered, stated_type_name, stated_function_name}
 use Rattle.smt_lines.specs.Growth.{is_drawn, AreDrawn, FunctionNamesDiffer, TypeNamesDiffer, TermNamesDiffer}
-use Rattle.smt_lines.proofs.Numerals.{numerals_differ}
+use Rattle.smt_semantics.proofs.Numerals.{numerals_differ}
 
 -- the key at a place
 key_at : {K : Type 0} → List (K × List ℕ) → ℕ → Option K

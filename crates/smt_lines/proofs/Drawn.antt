@@ -17,11 +17,12 @@ use Rattle.smt_semantics.specs.Meanings.{names_in}
 use Rattle.smt_semantics.specs.Written.{is_name}
 use Rattle.smt_lines.specs.Spelling.{numeral}
 use Rattle.smt_lines.specs.Lines.{Tables, name_of_type, numbered, next_type, member_name, attribute_name, id_name, kind_name, member_constructors, attribute_selectors}
-use Rattle.smt_lines.proofs.Numerals.{numerals_differ}
+use Rattle.smt_semantics.proofs.Numerals.{numerals_differ}
+use Rattle.smt_semantics.proofs.Numbers.{numeral_suits, suits}
 use Rattle.smt_lines.proofs.Making.{lookup_new}
 use Rattle.smt_lines.specs.Command.{all_built}
 use Rattle.smt_lines.specs.Fit.{first, behind_first, number_of, is_old, is_old_sort, is_old_name_in, has_kind, placed, names_of_entity, names_of_type}
-use Rattle.smt_lines.proofs.Basic.{suits, numeral_suits, suits_append, e_name, r_name, leads_numeral, digit_first}
+use Rattle.smt_lines.proofs.Basic.{suits_append, e_name, r_name, leads_numeral, digit_first}
 use Rattle.smt_lines.proofs.Enter.{apart}
 use Rattle.smt_lines.proofs.Datatype.{with_type, are_distinct, is_free, sort_names, IsNew}
 

@@ -1,13 +1,13 @@
 use Rattle.std.proofs.Common.{◌≡◌, List, [], ◌∷◌, refl}
 use Rattle.std.specs.Prelude.{map}
 use Rattle.std.proofs.lemmas.List.{append_assoc}
-use Rattle.smt_sexpr.specs.Reading.{Expression}
-use Rattle.smt_semantics.specs.Script.{name, exprs}
+use Rattle.smt_sexpr.specs.Reading.{Expression, expressions}
+use Rattle.smt_semantics.specs.Script.{name}
 use Rattle.smt_lines.specs.Spelling.{spelled, spelled_others}
 use Rattle.smt_lines.specs.Lines.{after_call}
 use Rattle.smt_lines.specs.Joins.{TextsStand, LinesJoin, CallsJoin}
 
-others_stand : (es : List Expression) → spelled_others (exprs es) ≡ spelled_others (exprs (map (λ x. name (spelled x)) es))
+others_stand : (es : List Expression) → spelled_others (expressions es) ≡ spelled_others (expressions (map (λ x. name (spelled x)) es))
 others_stand [] = refl
 others_stand (e ∷ es) = rw (others_stand es)
 

@@ -11,8 +11,8 @@ use Rattle.smt_term.specs.Types.{type_eq, type_of}
 use Rattle.smt_term.specs.TermOrder.{term_eq}
 use Rattle.smt_term.specs.Interpretations.{function_eq}
 use Rattle.smt_term.proofs.TermTotal.{types_decided, functions_decided, terms_decided}
-use Rattle.smt_sexpr.specs.Reading.{Expression}
-use Rattle.smt_semantics.specs.Script.{State, Entry, name, group, exprs, is_in, names_of, sorts_of, has_name, has_sort, built_in_names, built_in_sorts, is_sort, knows, are_all, each_stated}
+use Rattle.smt_sexpr.specs.Reading.{Expression, expressions}
+use Rattle.smt_semantics.specs.Script.{State, Entry, name, group, is_in, names_of, sorts_of, has_name, has_sort, built_in_names, built_in_sorts, is_sort, knows, are_all, each_stated}
 use Rattle.smt_bits.specs.Widths.{is_width}
 use Rattle.smt_semantics.specs.Written.{is_name}
 use Rattle.smt_lines.specs.Spelling.{numeral}
@@ -22,8 +22,8 @@ use Rattle.smt_lines.specs.Entries.{EachEntry, HasSort, text_of, named_text}
 use Rattle.smt_lines.specs.Command.{is_written, are_written}
 use Rattle.smt_lines.specs.Fine.{IsFineType, IsFine, AreFine}
 use Rattle.smt_lines.specs.Fit.{Fit, TypeStands, FunctionStands, TermStands, declares, is_old_name_in}
-use Rattle.smt_lines.proofs.Basic.{numeral_digits, bv_name}
 use Rattle.smt_semantics.proofs.Results.{or_left, or_right}
+use Rattle.smt_semantics.proofs.Numbers.{numeral_digits, bv_name}
 
 some_same : {A : Type 0} {a b : A} → Some a ≡ Some b → a ≡ b
 some_same h = cc
@@ -129,7 +129,7 @@ TextsAre s (one_term t ts) [] = ⊥
 TextsAre s (one_term t ts) (e ∷ es) = (text_of s t ≡ Some e) × TextsAre s ts es
 
 abbrev pub GoodTexts : State → List Expression → Type 0
-GoodTexts state es = (are_all (each_stated (has_sort state) (has_name state) (exprs es)) ≡ true) × (are_written (exprs es) ≡ true)
+GoodTexts state es = (are_all (each_stated (has_sort state) (has_name state) (expressions es)) ≡ true) × (are_written (expressions es) ≡ true)
 
 pub texts_good : (enums : Enums) (s : Tables) (state : State) → Fit enums s state → (ts : PlainTerms) → AreFine enums ts → (es : List Expression) → TextsAre s ts es → GoodTexts state es
 texts_good enums s state fit no_terms f [] h = (refl, refl)

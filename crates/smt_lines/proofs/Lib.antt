@@ -11,7 +11,6 @@ pub mod Kept
 pub mod Known
 pub mod Levels
 pub mod Making
-pub mod Numerals
 pub mod OfTerms
 pub mod OfTypes
 pub mod Single

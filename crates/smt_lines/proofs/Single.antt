@@ -26,10 +26,11 @@ use Rattle.smt_lines.specs.Naming.{sort_of}
 use Rattle.smt_lines.specs.Growth.{Keeps}
 use Rattle.smt_lines.proofs.Grow.{lookup_append}
 use Rattle.smt_lines.specs.Fit.{PartsStand, EachLine, LineStands, Fit, Steps, StepsOf, TermStands, is_old_name_in}
-use Rattle.smt_lines.proofs.Basic.{numeral_suits, t_name, f_name, leads_alone}
+use Rattle.smt_lines.proofs.Basic.{t_name, f_name, leads_alone}
 use Rattle.smt_lines.proofs.Known.{GoodSort, GoodText}
 use Rattle.smt_lines.proofs.Enter.{More, fit_grows, with_name_grows, all_grow, old_stays, old_sort_stays, fresh_term, fresh_function, sort_stays}
 use Rattle.smt_semantics.proofs.Results.{or_left, or_right}
+use Rattle.smt_semantics.proofs.Numbers.{numeral_suits}
 
 -- ---- steps one after the other
 

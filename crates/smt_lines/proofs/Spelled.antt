@@ -4,21 +4,20 @@ use Rattle.std.specs.Prelude.{codes}
 use Rattle.std.specs.List.{list_all, flat_map}
 use Rattle.std.proofs.lemmas.Bool.{and_parts, and_from, false≢true}
 use Rattle.smt_sexpr.specs.Lexicon.{Bits, Number, Text, Name, is_line_end}
-use Rattle.smt_sexpr.specs.Reading.{Expression, Leaf, Node, Expressions, Nil, Cons}
+use Rattle.smt_sexpr.specs.Reading.{Expression, Leaf, Node, Expressions, Nil, Cons, expressions}
 use Rattle.smt_semantics.specs.Script as script
-use Rattle.smt_semantics.specs.Script.{Command, Holds, IsWhole, name, group, exprs, constructor}
+use Rattle.smt_semantics.specs.Script.{Command, Holds, IsWhole, name, group, constructor}
 use Rattle.smt_semantics.specs.Written.{Writes, IsLine, is_name}
 use Rattle.smt_semantics.specs.Texts.{Part, AreWritten, spaced, ConstructorPart, AreConstructors, constructor_lines, below_each}
 use Rattle.smt_semantics.proofs.Append.{holds_append, whole_append}
-use Rattle.smt_semantics.proofs.Lines.{names_write, numerals_write, brackets_write, comments_are_lines}
+use Rattle.smt_semantics.proofs.Lines.{names_write, brackets_write, comments_are_lines}
 use Rattle.smt_semantics.proofs.First.{assert_line, declare_const_line, define_fun_line, applied_text}
-use Rattle.smt_semantics.proofs.Laid.{groups_write, selectors_write, datatype_line, declare_fun_line, plain_lines}
+use Rattle.smt_semantics.proofs.Laid.{groups_write, selectors_write, datatype_line, declare_fun_line, plain_lines, number_writes}
 use Rattle.smt_semantics.proofs.Quotes.{texts_write}
-use Rattle.smt_lines.specs.Spelling.{numeral, spelled, spelled_others}
+use Rattle.smt_lines.specs.Spelling.{spelled, spelled_others}
 use Rattle.smt_lines.specs.Line.{Constructor, Bare, Fielded, Comment, DeclareDatatype, DeclareConst, DeclareFun, DefineFun, Assert, Push, Pop, in_comment, spelled_selector, spelled_constructor, spelled_constructors, spelled_line, spelled_lines}
 use Rattle.smt_lines.specs.Command.{built, all_built, commands_of, commands, is_written, are_written, is_written_constructor, is_written_line}
 use Rattle.smt_lines.specs.Scripts.{LinesAreLines, LinesHold}
-use Rattle.smt_lines.proofs.Basic.{numeral_digits, numeral_number}
 
 -- ---- expressions
 
@@ -30,7 +29,7 @@ others_are : (es : Expressions) (end : List ℕ) → spelled_others es ++ end �
 others_are Nil end = refl
 others_are (Cons e es) end = ap (λ (t : List ℕ). codes " " ++ t) (append_assoc (spelled e) (spelled_others es) end ∙ ap (λ (t : List ℕ). spelled e ++ t) (others_are es end))
 
-parts_are : (es : Expressions) → exprs (map (λ p. p.expr) (parts es)) ≡ es
+parts_are : (es : Expressions) → expressions (map (λ p. p.expr) (parts es)) ≡ es
 parts_are Nil = refl
 parts_are (Cons e es) = ap (Cons e) (parts_are es)
 
@@ -46,7 +45,7 @@ node e (Cons f es) w v =
 mutual
   pub expressions_write : (e : Expression) → is_written e ≡ true → Writes (spelled e) e
   expressions_write (Leaf (Bits width n)) h = absurd (false≢true h)
-  expressions_write (Leaf (Number n)) h = subst (λ m. Writes (numeral n) (Leaf (Number m))) (numeral_number n) (numerals_write (numeral n) (numeral_digits n))
+  expressions_write (Leaf (Number n)) h = number_writes n
   expressions_write (Leaf (Text cs)) h = texts_write cs h
   expressions_write (Leaf (Name n)) h = names_write n h
   expressions_write (Node Nil) h = brackets_write [] [] tt refl

@@ -7,9 +7,9 @@ use Rattle.std.proofs.lemmas.List.{append-nil}
 use Rattle.std.proofs.lemmas.List.Folds.{list_all-append}
 use Rattle.smt_term.specs.Plain.{PlainTerm, terms}
 use Rattle.smt_term.specs.TypeValues.{Enums}
-use Rattle.smt_sexpr.specs.Reading.{Expression}
+use Rattle.smt_sexpr.specs.Reading.{Expression, expressions}
 use Rattle.smt_semantics.specs.Script as script
-use Rattle.smt_semantics.specs.Script.{Command, State, Builds, Selects, Script, IsWhole, Holds, name, exprs, has_name, has_sort, knows, are_all, each_stated, with_assertion, start, step, run, obey, assertions_of, ◌>>=◌}
+use Rattle.smt_semantics.specs.Script.{Command, State, Builds, Selects, Script, IsWhole, Holds, name, has_name, has_sort, knows, are_all, each_stated, with_assertion, start, step, run, obey, assertions_of, ◌>>=◌}
 use Rattle.smt_semantics.specs.Sorts.{entries}
 use Rattle.smt_semantics.specs.Written.{IsLine, Stands}
 use Rattle.smt_semantics.proofs.First.{option_is_line}
@@ -69,10 +69,10 @@ first_is_line = option_is_line
 abbrev pub with_assertions : List Expression → State → State
 with_assertions es s = record s { last = record s.last { assertions = s.last.assertions ++ es } }
 
-pub asserts_run : (es : List Expression) (s : State) → s.ended ≡ false → are_all (each_stated (has_sort s) (has_name s) (exprs es)) ≡ true → run (commands (map Assert es)) s ≡ Some (with_assertions es s)
+pub asserts_run : (es : List Expression) (s : State) → s.ended ≡ false → are_all (each_stated (has_sort s) (has_name s) (expressions es)) ≡ true → run (commands (map Assert es)) s ≡ Some (with_assertions es s)
 asserts_run [] s e h = ap (λ (t : List Expression). Some (record s { last = record s.last { assertions = t } })) (sym (append-nil s.last.assertions))
 asserts_run (x ∷ es) s e h =
-    let q = and_parts (knows s x) (are_all (each_stated (has_sort s) (has_name s) (exprs es))) h in
+    let q = and_parts (knows s x) (are_all (each_stated (has_sort s) (has_name s) (expressions es))) h in
     let steps : step (script.Assert x) s ≡ Some (with_assertion x s) =
     cond-false s.ended (Some s) (obey (script.Assert x) s) e ∙ cond-true (knows s x) (Some (with_assertion x s)) None q.0 in
     ap (λ (o : Option State). o >>= run (commands (map Assert es))) steps ∙ asserts_run es (with_assertion x s) e q.1
@@ -96,9 +96,9 @@ asserts_fit enums s state fit es =
       term_entries = tt;
     }) fit.old fit.old_sorts
 
-pub asserts_written : (es : List Expression) → are_written (exprs es) ≡ true → list_all is_written_line (map Assert es) ≡ true
+pub asserts_written : (es : List Expression) → are_written (expressions es) ≡ true → list_all is_written_line (map Assert es) ≡ true
 asserts_written [] h = refl
-asserts_written (e ∷ es) h = let q = and_parts (is_written e) (are_written (exprs es)) h in and_from (is_written e) _ q.0 (asserts_written es q.1)
+asserts_written (e ∷ es) h = let q = and_parts (is_written e) (are_written (expressions es)) h in and_from (is_written e) _ q.0 (asserts_written es q.1)
 
 texts_listed : (s : Tables) (ts : List PlainTerm) (es : List Expression) → TextsAre s (terms ts) es → es ≡ map (λ t. given (text_of s t)) ts
 texts_listed s [] [] h = refl

@@ -1,5 +1,6 @@
 -- What stands for terms and types that have entries, the entries' own lines and their names.
 use Rattle.std.specs.Prelude.{◌≡◌, ℕ, suc, ◌-◌, ◌^◌, IsSome, codes, chars, List, [], ◌∷◌, ◌++◌, Option, Some, None}
+use Rattle.std.specs.Option.{option_or}
 use Rattle.smt_term.specs.Plain.{PlainType, OptionType, EntityType, ExtensionType, RecordType, SetType, AttributeTypes, no_attributes, attribute, PlainFunction, PlainOp, UufOp, PlainLiteral, BitVecLiteral, BoolLiteral, EntityLiteral, ExtensionLiteral, StringLiteral, PlainTerm, Application, NoneTerm, LiteralTerm, RecordTerm, SetTerm, SomeTerm, VariableTerm, PlainTerms, no_terms, one_term, PlainFields, no_fields, one_field}
 use Rattle.smt_term.specs.TypeValues.{Enums, members_of}
 use Rattle.smt_term.specs.Types.{type_of}
@@ -24,12 +25,8 @@ abbrev pub named_text : Option (List ℕ) → Option Expression
 named_text (Some n) = Some (name n)
 named_text None = None
 
-abbrev pub either_text : Option Expression → Option Expression → Option Expression
-either_text (Some e) f = Some e
-either_text None f = f
-
 abbrev pub text_of : Tables → PlainTerm → Option Expression
-text_of s (LiteralTerm p) = either_text (inline_text p) (named_text (name_of_term s (LiteralTerm p)))
+text_of s (LiteralTerm p) = option_or (inline_text p) (named_text (name_of_term s (LiteralTerm p)))
 text_of s t = named_text (name_of_term s t)
 
 abbrev pub given : Option Expression → Expression

@@ -1,9 +1,8 @@
 -- What writing adds to the tables: entries behind those that are there, each with the name of its place, and lines as many.
-use Rattle.std.specs.Prelude.{◌≡◌, ℕ, suc, ◌≤◌, ◌<◌, ◌^◌, Bool, true, length, codes, decimal, List, [], ◌∷◌, ◌++◌, Some, is_none}
+use Rattle.std.specs.Prelude.{◌≡◌, ℕ, suc, ◌≤◌, Bool, true, length, codes, List, [], ◌∷◌, ◌++◌, Some, is_none}
 use Rattle.smt_term.specs.Plain.{PlainType, PlainFunction, PlainTerm, PlainTerms}
 use Rattle.smt_term.specs.TypeValues.{Enums}
 use Rattle.smt_lines.specs.Naming.{HasEntry, HasDistinctNames}
-use Rattle.smt_lines.specs.Spelling.{numeral}
 use Rattle.smt_lines.specs.Line.{Line, DeclareDatatype, DeclareConst, DeclareFun, DefineFun}
 use Rattle.smt_lines.specs.Lines.{Tables, no_names, Written, numbered, name_of_term, name_of_type, name_of_function, encode_type, encode_function, encode_term, encode_terms}
 use Rattle.smt_lines.specs.Entries.{AreNumbered, stated_type_name, stated_function_name, undrawn_name}
@@ -72,14 +71,7 @@ pub record Keeps (s u : Tables) : Type 0 where
 abbrev pub NamesStay : Type 0
 NamesStay = (enums : Enums) (s : Tables) (ls : List Line) (u : Tables) → Extends enums s ls u → Keeps s u
 
--- ---- numbers in names
-
--- A number's digits are its own, however large it is; below 10 ^ 64 they are what the program prints.
-abbrev pub NumeralsDiffer : Type 0
-NumeralsDiffer = (m n : ℕ) → numeral m ≡ numeral n → m ≡ n
-
-abbrev pub NumeralsArePrinted : Type 0
-NumeralsArePrinted = (n : ℕ) → n < 10 ^ 64 → numeral n ≡ decimal n
+-- ---- names of entries
 
 -- Functions, and types, that have one name are one.
 abbrev pub FunctionNamesDiffer : Type 0

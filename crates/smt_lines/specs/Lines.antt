@@ -1,8 +1,9 @@
 -- The lines that stand for terms, and the names that they leave.
-use Rattle.std.specs.Prelude.{ℕ, suc, ◌-◌, ◌^◌, Bool, true, false, ◌||◌, if◌then◌else◌, ◌==◌, nat_lt, bytes_eq, codes, chars, ℤ, pos, negsuc, length, map, List, [], ◌∷◌, ◌++◌, Option, Some, None}
+use Rattle.std.specs.Prelude.{ℕ, suc, ◌-◌, ◌^◌, Bool, true, false, ◌||◌, if◌then◌else◌, ◌==◌, nat_lt, bytes_eq, codes, chars, length, map, List, [], ◌∷◌, ◌++◌, Option, Some, None}
 use Rattle.std.specs.List.{flat_map, join_by}
 use Rattle.std.specs.Map.{lookup}
 use Rattle.smt_term.specs.Plain.{ExtensionKind, IpAddrKind, DecimalKind, DatetimeKind, DurationKind, PlainType, OptionType, BitVecType, BoolType, EntityType, ExtensionType, StringType, RecordType, SetType, AttributeTypes, no_attributes, attribute, PlainFunction, ExtensionOp, DatetimeOfBitVecOp, DatetimeValOp, DecimalValOp, DurationOfBitVecOp, DurationValOp, IpAddrV4Op, IpAddrV6Op, IpIsV4Op, IpPrefixV4Op, IpPrefixV6Op, PatternPart, PlainOp, AndOp, BvaddOp, BvlshrOp, BvmulOp, BvnegOp, BvnegoOp, BvsaddoOp, BvsdivOp, BvshlOp, BvsleOp, BvsltOp, BvsmodOp, BvsmuloOp, BvsremOp, BvssuboOp, BvsubOp, BvudivOp, BvuleOp, BvultOp, BvuremOp, EqOp, ExtOp, IteOp, NotOp, OptionGetOp, OrOp, RecordGetOp, SetInterOp, SetMemberOp, SetSubsetOp, StringLikeOp, UufOp, ZeroExtendOp, PlainExtension, DecimalOf, Ipv4Of, Ipv6Of, DatetimeOf, DurationOf, PlainLiteral, BitVecLiteral, BoolLiteral, EntityLiteral, ExtensionLiteral, StringLiteral, PlainTerm, Application, NoneTerm, LiteralTerm, RecordTerm, SetTerm, SomeTerm, VariableTerm, PlainTerms, no_terms, one_term, PlainFields, no_fields, one_field, terms}
+use Rattle.smt_bits.specs.BitVectors.{bits_of}
 pub use Rattle.smt_term.specs.TypeValues.{Enums, members_of}
 use Rattle.smt_term.specs.Types.{type_eq, type_of, literal_type}
 use Rattle.smt_term.specs.Interpretations.{function_eq}
@@ -11,9 +12,11 @@ use Rattle.smt_term.specs.Formed.{attribute_names}
 use Rattle.smt_sexpr.specs.Reading.{Expression, Leaf}
 use Rattle.smt_sexpr.specs.Lexicon.{Number, Text}
 use Rattle.smt_semantics.specs.Script.{name, group}
+pub use Rattle.smt_semantics.specs.Numerals.{numbered}
 use Rattle.smt_semantics.specs.Quoting.{pattern_expr}
 use Rattle.smt_semantics.specs.Sorts.{bool_sort, string_sort, bit_sort, option_sort, set_sort}
-use Rattle.smt_lines.specs.Spelling.{escaped, numeral}
+pub use Rattle.smt_semantics.specs.Texts.{bits}
+use Rattle.smt_lines.specs.Spelling.{escaped}
 use Rattle.smt_lines.specs.Line.{Constructor, Bare, Fielded, Line, Comment, DeclareDatatype, DeclareConst, DeclareFun, DefineFun, Assert, Push, Pop}
 
 -- ---- tables
@@ -35,9 +38,6 @@ name_of_type s t = lookup (type_eq t) s.types
 
 abbrev pub name_of_function : Tables → PlainFunction → Option (List ℕ)
 name_of_function s f = lookup (function_eq f) s.functions
-
-abbrev pub numbered : List ℕ → ℕ → List ℕ
-numbered letter n = letter ++ numeral n
 
 abbrev pub next_term : Tables → List ℕ
 next_term s = numbered (codes "t") (length s.terms)
@@ -187,24 +187,16 @@ encode_function enums f s =
 
 -- ---- literals
 
-abbrev pub bits : (width number : ℕ) → Expression
-bits width number = group (name (codes "_") ∷ name (numbered (codes "bv") number) ∷ Leaf (Number width) ∷ [])
-
--- a signed number of 64 bits
-abbrev pub bits_64 : ℤ → Expression
-bits_64 (pos n) = bits 64 n
-bits_64 (negsuc n) = bits 64 (2 ^ 64 - suc n)
-
 abbrev pub prefix_body : (width : ℕ) → Option ℕ → Expression
 prefix_body width (Some p) = group (name (codes "some") ∷ bits width p ∷ [])
 prefix_body width None = group (name (codes "as") ∷ name (codes "none") ∷ option_sort (bit_sort width) ∷ [])
 
 abbrev pub extension_body : PlainExtension → Expression
-extension_body (DecimalOf x) = group (name (codes "Decimal") ∷ bits_64 x ∷ [])
+extension_body (DecimalOf x) = group (name (codes "Decimal") ∷ bits 64 (bits_of 64 x) ∷ [])
 extension_body (Ipv4Of a p) = group (name (codes "V4") ∷ bits 32 a ∷ prefix_body 5 p ∷ [])
 extension_body (Ipv6Of a p) = group (name (codes "V6") ∷ bits 128 a ∷ prefix_body 7 p ∷ [])
-extension_body (DatetimeOf x) = group (name (codes "Datetime") ∷ bits_64 x ∷ [])
-extension_body (DurationOf x) = group (name (codes "Duration") ∷ bits_64 x ∷ [])
+extension_body (DatetimeOf x) = group (name (codes "Datetime") ∷ bits 64 (bits_of 64 x) ∷ [])
+extension_body (DurationOf x) = group (name (codes "Duration") ∷ bits 64 (bits_of 64 x) ∷ [])
 
 -- an entity of an enum type is a constructor, which has no line
 abbrev pub define_entity : (members : Option (List (List ℕ))) → (type id sort : List ℕ) → Tables → Written Expression

@@ -1,13 +1,9 @@
 -- Expressions, as scripts have them, and their bytes.
-use Rattle.std.specs.Prelude.{ℕ, false, codes, ◌+◌, ◌/◌, ◌^◌, List, [], ◌++◌}
-use Rattle.std.specs.Fmt.{digits_onto}
+use Rattle.std.specs.Prelude.{ℕ, codes, List, [], ◌++◌}
+pub use Rattle.smt_semantics.specs.Numerals.{numeral}
 pub use Rattle.smt_semantics.specs.Quoting.{escaped, quoted_character, quoted}
 use Rattle.smt_sexpr.specs.Lexicon.{Atom, Bits, Name, Number, Text}
 use Rattle.smt_sexpr.specs.Reading.{Expression, Leaf, Node, Expressions, Nil, Cons}
-
--- a number in decimal, however many digits it has
-abbrev pub numeral : ℕ → List ℕ
-numeral n = digits_onto (64 + n / 10 ^ 64) 10 false n []
 
 abbrev pub spelled_atom : Atom → List ℕ
 -- no line has one

@@ -1,4 +1,4 @@
-ghost use Rattle.smt_lines.specs.Growth.{FunctionNamesDiffer, FunctionsGrow, NamesStay, NumeralsArePrinted, NumeralsDiffer, TermListsGrow, TermNamesDiffer, TermsGrow, TypeNamesDiffer, TypesGrow};
+ghost use Rattle.smt_lines.specs.Growth.{FunctionNamesDiffer, FunctionsGrow, NamesStay, TermListsGrow, TermNamesDiffer, TermsGrow, TypeNamesDiffer, TypesGrow};
 
 /// Writing adds entries behind those that are there, each with the name of its place, and takes no name back.
 pub fn tables_grow()
@@ -11,8 +11,6 @@ pub fn tables_grow()
 
 /// Entries have different names.
 pub fn names_differ_by_number()
-    ensures numerals { NumeralsDiffer }
-    ensures printed { NumeralsArePrinted }
     ensures functions { FunctionNamesDiffer }
     ensures types { TypeNamesDiffer }
     ensures terms { TermNamesDiffer }

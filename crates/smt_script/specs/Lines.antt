@@ -1,11 +1,8 @@
 -- The bytes of the lines of a script, as SMT-LIB 2.7 spells commands (chapter 3, Scripts) and
 -- comments (chapter 3, Lexicon). Every line ends with LF.
-use Rattle.std.specs.Prelude.{ℕ, Bool, ◌||◌, if◌then◌else◌, ◌==◌, codes, map, List, [], ◌∷◌, ◌++◌}
+use Rattle.std.specs.Prelude.{ℕ, if◌then◌else◌, codes, map, List, [], ◌∷◌, ◌++◌}
 use Rattle.std.specs.List.{join_by}
-
--- CR or LF: either ends a comment
-abbrev pub is_line_end : ℕ → Bool
-is_line_end b = (b == 10) || (b == 13)
+pub use Rattle.smt_characters.specs.Characters.{is_line_end}
 
 -- Line ends in a comment become spaces.
 abbrev pub in_comment : ℕ → ℕ

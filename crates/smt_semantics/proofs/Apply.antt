@@ -6,8 +6,8 @@ use Rattle.std.proofs.lemmas.Slice.Eq.{bytes_eq-Decides}
 use Rattle.smt_term.specs.Plain.{PatternPart, PlainOp, ZeroExtendOp}
 use Rattle.smt_semantics.specs.ScriptValues.{ScriptValue}
 use Rattle.smt_sexpr.specs.Lexicon.{Name}
-use Rattle.smt_sexpr.specs.Reading.{Expression, Leaf, Expressions}
-use Rattle.smt_semantics.specs.Script.{Entry, Function, Builds, Selects, State, Shape, Applied, shape, bit_literal, qualified, matched, matched_by, exprs, group, name, built_in_names, script_operators, is_in, is_reserved, names_of, look_up, operator_of, ◌>>=◌}
+use Rattle.smt_sexpr.specs.Reading.{Expression, Leaf, Expressions, expressions}
+use Rattle.smt_semantics.specs.Script.{Entry, Function, Builds, Selects, State, Shape, Applied, shape, bit_literal, qualified, matched, matched_by, group, name, built_in_names, script_operators, is_in, is_reserved, names_of, look_up, operator_of, ◌>>=◌}
 use Rattle.smt_semantics.specs.Sorts.{entries, entry_sort, sort_by_operator, applied_sort, shape_sort, each_there, sorts_in, insert_sort, operator_sort, sort_of}
 use Rattle.smt_semantics.specs.Value.{ScriptInterpretation, expression_value, meaning, entry_meaning, evaluate, evaluate_each, first_sort, operator_value, by_operator, applied_value, shape_value, inserted, body_of, of_one, is_built}
 use Rattle.smt_semantics.specs.Meanings.{is_own, argument_values, argument_sorts, OperatorsApply, ConstructorsApply, ConstructorsStand, FunctionsApply, SelectorsApply, ApplicationsHaveSorts, ExtensionsApply, TestsApply, MatchesApply, NonesStand, SetsStand}
@@ -66,10 +66,10 @@ owns f h =
 
 pub operators_apply : OperatorsApply
 operators_apply j s f op es h = (
-  ap (λ (x : Shape). shape_value (entries s) (meaning j (names_of s)) x (first_sort (entries s) (exprs es)) (evaluate_each (entries s) (meaning j (names_of s)) (exprs es))) (operator_applies f op (exprs es) h)
-      ∙ bind_by (argument_values j s es) (applied_value (meaning j (names_of s)) f (first_sort (entries s) (exprs es))) (operator_value op)
-      (λ vs. ap (λ (o : Option PlainOp). by_operator o f vs (meaning j (names_of s) f (first_sort (entries s) (exprs es)) vs)) h),
-  ap (λ (x : Shape). shape_sort (entries s) x (sorts_in (entries s) (exprs es))) (operator_applies f op (exprs es) h)
+  ap (λ (x : Shape). shape_value (entries s) (meaning j (names_of s)) x (first_sort (entries s) (expressions es)) (evaluate_each (entries s) (meaning j (names_of s)) (expressions es))) (operator_applies f op (expressions es) h)
+      ∙ bind_by (argument_values j s es) (applied_value (meaning j (names_of s)) f (first_sort (entries s) (expressions es))) (operator_value op)
+      (λ vs. ap (λ (o : Option PlainOp). by_operator o f vs (meaning j (names_of s) f (first_sort (entries s) (expressions es)) vs)) h),
+  ap (λ (x : Shape). shape_sort (entries s) x (sorts_in (entries s) (expressions es))) (operator_applies f op (expressions es) h)
       ∙ bind_by (argument_sorts s es) (applied_sort (entries s f) f) _
       (λ ss. ap (λ (o : Option PlainOp). sort_by_operator o f ss (entries s f >>= λ y. entry_sort y ss)) h),
 )
@@ -82,12 +82,12 @@ operators_apply j s f op es h = (
 
 -- what a name that isn't built in gives of arguments that have values
 applied : (j : ScriptInterpretation) (s : State) (f : List ℕ) (es : List Expression) (vs : List ScriptValue) → IsOwn f → argument_values j s es ≡ Some vs
-    → expression_value j s (group (name f ∷ es)) ≡ meaning j (names_of s) f (first_sort (entries s) (exprs es)) vs
+    → expression_value j s (group (name f ∷ es)) ≡ meaning j (names_of s) f (first_sort (entries s) (expressions es)) vs
 applied j s f es vs own h =
     let here = entries s in
     let env = meaning j (names_of s) in
-    let first = first_sort here (exprs es) in
-    ap (λ (x : Shape). shape_value here env x first (evaluate_each here env (exprs es))) (own.shape-is (exprs es))
+    let first = first_sort here (expressions es) in
+    ap (λ (x : Shape). shape_value here env x first (evaluate_each here env (expressions es))) (own.shape-is (expressions es))
     ∙ ap (λ (o : Option (List ScriptValue)). o >>= applied_value env f first) h
     ∙ ap (λ (o : Option PlainOp). by_operator o f vs (env f first vs)) own.no-operator
     ∙ cond-false (bytes_eq f (codes "set.insert")) (inserted vs) (env f first vs) own.insert-not
@@ -109,7 +109,7 @@ meaning_is j (d ∷ ds) n x u vs h = elim (cases_Bool (bytes_eq n d.0)) [
 
 pub constructors_apply : ConstructorsApply
 constructors_apply j s c d ps place fields es vs own h k l =
-    applied j s c es vs (owns c own) k ∙ (meaning_is j (names_of s) c (Builds d ps place fields) (first_sort (entries s) (exprs es)) vs h).1 ∙ cond-true (eqb (length vs) (length fields)) _ _ l
+    applied j s c es vs (owns c own) k ∙ (meaning_is j (names_of s) c (Builds d ps place fields) (first_sort (entries s) (expressions es)) vs h).1 ∙ cond-true (eqb (length vs) (length fields)) _ _ l
 
 pub constructors_stand : ConstructorsStand
 constructors_stand j s c d ps place own h =
@@ -121,16 +121,16 @@ one_argument j s e v h = ap (λ (o : Option ScriptValue). each_there (o ∷ []))
 
 pub functions_apply : FunctionsApply
 functions_apply j s f argument sort e v own h k =
-    applied j s f (e ∷ []) (v ∷ []) (owns f own) (one_argument j s e v k) ∙ (meaning_is j (names_of s) f (Function argument sort) (first_sort (entries s) (exprs (e ∷ []))) (v ∷ []) h).1
+    applied j s f (e ∷ []) (v ∷ []) (owns f own) (one_argument j s e v k) ∙ (meaning_is j (names_of s) f (Function argument sort) (first_sort (entries s) (expressions (e ∷ []))) (v ∷ []) h).1
 
 pub selectors_apply : SelectorsApply
 selectors_apply j s f d ps c place field e v own h k =
-    applied j s f (e ∷ []) (v ∷ []) (owns f own) (one_argument j s e v k) ∙ (meaning_is j (names_of s) f (Selects d ps c place field) (first_sort (entries s) (exprs (e ∷ []))) (v ∷ []) h).1
+    applied j s f (e ∷ []) (v ∷ []) (owns f own) (one_argument j s e v k) ∙ (meaning_is j (names_of s) f (Selects d ps c place field) (first_sort (entries s) (expressions (e ∷ []))) (v ∷ []) h).1
 
 pub applications_have_sorts : ApplicationsHaveSorts
 applications_have_sorts s f x es own h =
     let o = owns f own in
-    ap (λ (y : Shape). shape_sort (entries s) y (sorts_in (entries s) (exprs es))) (o.shape-is (exprs es))
+    ap (λ (y : Shape). shape_sort (entries s) y (sorts_in (entries s) (expressions es))) (o.shape-is (expressions es))
     ∙ bind_by (argument_sorts s es) (applied_sort (entries s f) f) (entry_sort x)
     (λ ss. ap (λ (p : Option PlainOp). sort_by_operator p f ss (entries s f >>= λ y. entry_sort y ss)) o.no-operator
     ∙ cond-false (bytes_eq f (codes "set.insert")) (insert_sort ss) (entries s f >>= λ y. entry_sort y ss) o.insert-not
@@ -155,8 +155,8 @@ tests_apply j s c d ps place fields e p n vs h k =
 
 pub matches_apply : MatchesApply
 matches_apply j s e r p h = (
-  ap (λ (o : Option (List PatternPart)). shape_value (entries s) (meaning j (names_of s)) (matched_by o) (first_sort (entries s) (exprs (e ∷ r ∷ []))) (evaluate_each (entries s) (meaning j (names_of s)) (exprs (e ∷ r ∷ [])))) h,
-  ap (λ (o : Option (List PatternPart)). shape_sort (entries s) (matched_by o) (sorts_in (entries s) (exprs (e ∷ r ∷ [])))) h,
+  ap (λ (o : Option (List PatternPart)). shape_value (entries s) (meaning j (names_of s)) (matched_by o) (first_sort (entries s) (expressions (e ∷ r ∷ []))) (evaluate_each (entries s) (meaning j (names_of s)) (expressions (e ∷ r ∷ [])))) h,
+  ap (λ (o : Option (List PatternPart)). shape_sort (entries s) (matched_by o) (sorts_in (entries s) (expressions (e ∷ r ∷ [])))) h,
 )
 
 pub nones_stand : NonesStand

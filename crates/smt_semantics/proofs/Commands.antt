@@ -2,15 +2,15 @@
 use Rattle.std.proofs.Common.{ap₂, ◌≡◌, ℕ, List, [], ◌∷◌, ◌++◌, refl, sym, ap, ◌∙◌, map, Some}
 use Rattle.std.proofs.lemmas.List.{append_cancel_left}
 use Rattle.std.specs.Prelude.{codes, bytes_eq, cond}
-use Rattle.smt_sexpr.specs.Reading.{Expression}
-use Rattle.smt_semantics.specs.Script.{Command, DeclareDatatype, DeclareConst, DefineFun, Assert, DeclareFun, SetLogic, SetOption, CheckSat, GetModel, Reset, Exit, Push, Pop, Constructor, keyword, operands, constructor, datatype, name, exprs, group, stated, Holds, Script, State, run, start}
+use Rattle.smt_sexpr.specs.Reading.{Expression, expressions}
+use Rattle.smt_semantics.specs.Script.{Command, DeclareDatatype, DeclareConst, DefineFun, Assert, DeclareFun, SetLogic, SetOption, CheckSat, GetModel, Reset, Exit, Push, Pop, Constructor, keyword, operands, constructor, datatype, name, group, stated, Holds, Script, State, run, start}
 use Rattle.smt_sexpr.proofs.Trees.{one_reading}
 
-one_group : (es fs : List Expression) → exprs es ≡ exprs fs → es ≡ fs
+one_group : (es fs : List Expression) → expressions es ≡ expressions fs → es ≡ fs
 one_group [] [] h = refl
 one_group [] (f ∷ fs) h = absurd cc
 one_group (e ∷ es) [] h = absurd cc
-one_group (e ∷ es) (f ∷ fs) h = let t : e ≡ f = cc in let u : exprs es ≡ exprs fs = cc in ap₂ (λ (a : Expression) (v : List Expression). a ∷ v) t (one_group es fs u)
+one_group (e ∷ es) (f ∷ fs) h = let t : e ≡ f = cc in let u : expressions es ≡ expressions fs = cc in ap₂ (λ (a : Expression) (v : List Expression). a ∷ v) t (one_group es fs u)
 
 one_map : {X : Type 0} (write : X → Expression) → ((x y : X) → write x ≡ write y → x ≡ y) → (xs ys : List X) → map write xs ≡ map write ys → xs ≡ ys
 one_map write one [] [] h = refl
@@ -30,7 +30,7 @@ one_selector s t h = let e : s.0 ≡ t.0 = cc in let f : s.1 ≡ t.1 = cc in ap�
 one_constructor : (c d : Constructor) → constructor c ≡ constructor d → c ≡ d
 one_constructor c d h =
     let e : c.name ≡ d.name = cc in
-    let f : exprs (map (λ s. group (name s.0 ∷ s.1 ∷ [])) c.selectors) ≡ exprs (map (λ s. group (name s.0 ∷ s.1 ∷ [])) d.selectors) = cc in
+    let f : expressions (map (λ s. group (name s.0 ∷ s.1 ∷ [])) c.selectors) ≡ expressions (map (λ s. group (name s.0 ∷ s.1 ∷ [])) d.selectors) = cc in
     let g = one_map (λ s. group (name s.0 ∷ s.1 ∷ [])) one_selector c.selectors d.selectors (one_group _ _ f) in
     ap₂ (λ (a : List ℕ) (b : List (List ℕ × Expression)). record { name = a; selectors = b }) e g
 
@@ -41,8 +41,8 @@ one_datatype [] (q ∷ qs) (c ∷ cs) ds h = absurd cc
 one_datatype (p ∷ ps) [] cs [] h = absurd cc
 one_datatype (p ∷ ps) [] cs (d ∷ ds) h = absurd cc
 one_datatype (p ∷ ps) (q ∷ qs) cs ds h =
-    let e : exprs (map name (p ∷ ps)) ≡ exprs (map name (q ∷ qs)) = cc in
-    let f : exprs (map constructor cs) ≡ exprs (map constructor ds) = cc in
+    let e : expressions (map name (p ∷ ps)) ≡ expressions (map name (q ∷ qs)) = cc in
+    let f : expressions (map constructor cs) ≡ expressions (map constructor ds) = cc in
     (one_map name one_name (p ∷ ps) (q ∷ qs) (one_group (map name (p ∷ ps)) (map name (q ∷ qs)) e), one_map constructor one_constructor cs ds (one_group (map constructor cs) (map constructor ds) f))
 
 abbrev number : Command → ℕ

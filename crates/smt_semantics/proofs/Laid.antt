@@ -1,18 +1,17 @@
 -- The texts of sorts and expressions, and the lines of all commands, each from its brackets.
-use Rattle.std.proofs.Common.{◌≡◌, ℕ, ◌+◌, ◌*◌, ◌-◌, ◌/◌, ◌%◌, ◌<◌, ◌^◌, Bool, true, ◌&&◌, List, [], ◌∷◌, ◌++◌, map, refl, sym, ap, ◌∙◌, subst, append_assoc, Option, Some, None, arith}
-use Rattle.std.specs.Prelude.{codes, decimal}
-use Rattle.std.specs.List.{list_all, fold}
-use Rattle.std.proofs.lemmas.Bool.{not-true, cond-true, cond-false, and_parts, and_from, agree_below_at}
-use Rattle.std.proofs.lemmas.List.Folds.{list_all-append}
-use Rattle.std.proofs.lemmas.Fmt.{decimal_by_steps_wide}
-use Rattle.smt_sexpr.specs.Lexicon.{is_digit, digit_value, number_in, some_all, is_symbol_byte, is_plain_byte, Number}
+use Rattle.std.proofs.Common.{◌≡◌, ℕ, List, [], ◌∷◌, ◌++◌, map, refl, sym, ap, ◌∙◌, subst, append_assoc, Option, Some, None}
+use Rattle.std.specs.Prelude.{codes}
+use Rattle.std.proofs.lemmas.Bool.{not-true, cond-false}
+use Rattle.smt_sexpr.specs.Lexicon.{Number}
 use Rattle.smt_sexpr.specs.Reading.{Expression, Leaf}
+use Rattle.smt_semantics.specs.Numerals.{numbered, numeral}
 use Rattle.smt_semantics.specs.Script.{Command, DeclareDatatype, DeclareFun, SetLogic, SetOption, CheckSat, GetModel, Reset, Exit, Push, Pop, constructor, group, name, State, start, step, run, ◌>>=◌, obey}
 use Rattle.smt_semantics.specs.Written.{Writes, Item, laid, AreSpread, bracketed, listed, IsName}
 use Rattle.smt_semantics.specs.Texts.{Part, AreWritten, spaced, GroupsWrite, BitsWrite, BitSortsWrite, BitsHaveValues, ConstructorPart, AreConstructors, below_each, constructor_lines, DatatypeLine, SelectorsWrite, DeclareFunLine, SetLogicLine, SetOptionLine, PlainLines, CommandsExtend, AreSorted, OnState, SortedLinesAdd, SortedCommentsAdd}
 use Rattle.smt_semantics.proofs.Append.{holds_append, run_append}
 use Rattle.smt_semantics.proofs.Lines.{brackets_write, names_write, numerals_write, lines_add}
 use Rattle.smt_semantics.proofs.First.{first, next, below, line_of}
+use Rattle.smt_semantics.proofs.Numbers.{bv_name, numeral_digits, numeral_number}
 
 -- ---- any number of arguments
 
@@ -41,86 +40,24 @@ groups_write head h ps gap w v g =
 
 -- ---- numbers
 
-abbrev suits : ℕ → Bool
-suits b = is_symbol_byte b && (is_plain_byte b && is_digit b)
-
-digit_suits : (d : ℕ) → d < 10 → suits (48 + d) ≡ true
-digit_suits d h = agree_below_at (λ n. suits (48 + n)) (λ n. true) 10 d refl h
-
-digit_is : (d : ℕ) → d < 10 → is_digit (48 + d) ≡ true
-digit_is d h = agree_below_at (λ n. is_digit (48 + n)) (λ n. true) 10 d refl h
-
-value_is : (d : ℕ) → d < 10 → digit_value (48 + d) ≡ d
-value_is d h =
-    let e : 48 + d - 48 ≡ d = omega arith in
-    cond-true (is_digit (48 + d)) (48 + d - 48) _ (digit_is d h) ∙ e
-
-fold_last : (f : ℕ → ℕ → ℕ) (b : ℕ) (xs : List ℕ) (x : ℕ) → fold f b (xs ++ (x ∷ [])) ≡ f (fold f b xs) x
-fold_last f b [] x = refl
-fold_last f b (y ∷ xs) x = fold_last f (f b y) xs x
-
-record IsDecimal (n : ℕ) (ds : List ℕ) : Type 0 where
-  suit : list_all suits ds ≡ true
-  some : some_all is_digit ds ≡ true
-  value : number_in 10 ds ≡ n
-
-some_digits : (ds : List ℕ) (d : ℕ) → some_all is_digit ds ≡ true → is_digit d ≡ true → some_all is_digit (ds ++ (d ∷ [])) ≡ true
-some_digits [] d h k = and_from (is_digit d) true k refl
-some_digits (c ∷ cs) d h k =
-    let p = and_parts (is_digit c) (list_all is_digit cs) h in
-    and_from (is_digit c) (list_all is_digit (cs ++ (d ∷ []))) p.0 (list_all-append is_digit cs (d ∷ []) ∙ and_from (list_all is_digit cs) (is_digit d && true) p.1 (and_from (is_digit d) true k refl))
-
-is_decimal : (n : ℕ) → n < 10 ^ 64 → IsDecimal n (decimal n)
-is_decimal n h = decimal_by_steps_wide IsDecimal
-    (λ k l. record { suit = and_from (suits (48 + k)) true (digit_suits k l) refl; some = and_from (is_digit (48 + k)) true (digit_is k l) refl; value = one_digit (digit_value (48 + k)) ∙ value_is k l })
-    (λ k ds l p. (let m : k % 10 < 10 = omega arith in
-    record {
-      suit = list_all-append suits ds ((48 + k % 10) ∷ []) ∙ and_from (list_all suits ds) (suits (48 + k % 10) && true) p.suit (and_from (suits (48 + k % 10)) true (digit_suits (k % 10) m) refl);
-      some = some_digits ds (48 + k % 10) p.some (digit_is (k % 10) m);
-      value = fold_last (λ a d. a * 10 + digit_value d) 0 ds (48 + k % 10) ∙ last_step k (number_in 10 ds) (digit_value (48 + k % 10)) p.value (value_is (k % 10) m);
-    })) n h
-  where
-    one_digit : (x : ℕ) → 0 + x ≡ x
-    one_digit x = omega arith
-
-    last_step : (k a b : ℕ) → a ≡ k / 10 → b ≡ k % 10 → a * 10 + b ≡ k
-    last_step k a b e f = omega arith
-
-each_part : (p q : ℕ → Bool) (bs : List ℕ) → list_all (λ b. p b && q b) bs ≡ true → (list_all p bs ≡ true) × (list_all q bs ≡ true)
-each_part p q [] h = (refl, refl)
-each_part p q (b ∷ bs) h =
-    let x = and_parts (p b && q b) (list_all (λ c. p c && q c) bs) h in
-    let y = and_parts (p b) (q b) x.0 in
-    let z = each_part p q bs x.1 in
-    (and_from (p b) (list_all p bs) y.0 z.0, and_from (q b) (list_all q bs) y.1 z.1)
-
-bit_name : (n : ℕ) → n < 10 ^ 64 → IsName (codes "bv" ++ decimal n)
-bit_name n h =
-    let p = each_part is_symbol_byte (λ b. is_plain_byte b && is_digit b) (decimal n) (is_decimal n h).suit in
-    let q = each_part is_plain_byte is_digit (decimal n) p.1 in
-    and_from (list_all is_symbol_byte (decimal n)) (list_all is_plain_byte (decimal n)) p.0 q.0
-
-number_writes : (n : ℕ) → n < 10 ^ 64 → Writes (decimal n) (Leaf (Number n))
-number_writes n h = let d = is_decimal n h in subst (λ (m : ℕ). Writes (decimal n) (Leaf (Number m))) d.value (numerals_write (decimal n) d.some)
+pub number_writes : (n : ℕ) → Writes (numeral n) (Leaf (Number n))
+number_writes n = subst (λ (m : ℕ). Writes (numeral n) (Leaf (Number m))) (numeral_number n) (numerals_write (numeral n) (numeral_digits n))
 
 abbrev part : List ℕ → Expression → Part
 part t e = record { text = t; expr = e }
 
 pub bits_write : BitsWrite
-bits_write width number h k =
-    let w = groups_write (codes "_") (name (codes "_")) (part (codes "bv" ++ decimal number) (name (codes "bv" ++ decimal number)) ∷ part (decimal width) (Leaf (Number width)) ∷ []) []
-    (names_write (codes "_") refl) (names_write (codes "bv" ++ decimal number) (bit_name number k), (number_writes width h, tt)) refl in
-    w
+bits_write width number =
+    groups_write (codes "_") (name (codes "_")) (part (numbered (codes "bv") number) (name (numbered (codes "bv") number)) ∷ part (numeral width) (Leaf (Number width)) ∷ []) []
+    (names_write (codes "_") refl) (names_write (numbered (codes "bv") number) (bv_name number), (number_writes width, tt)) refl
 
 pub bit_sorts_write : BitSortsWrite
-bit_sorts_write width h =
-    groups_write (codes "_") (name (codes "_")) (part (codes "BitVec") (name (codes "BitVec")) ∷ part (decimal width) (Leaf (Number width)) ∷ []) []
-    (names_write (codes "_") refl) (names_write (codes "BitVec") refl, (number_writes width h, tt)) refl
+bit_sorts_write width =
+    groups_write (codes "_") (name (codes "_")) (part (codes "BitVec") (name (codes "BitVec")) ∷ part (numeral width) (Leaf (Number width)) ∷ []) []
+    (names_write (codes "_") refl) (names_write (codes "BitVec") refl, (number_writes width, tt)) refl
 
 pub bits_have_values : BitsHaveValues
-bits_have_values here env width number h k =
-    let d = is_decimal number h in
-    rw (d.some, d.value, k) refl
+bits_have_values here env width number h = rw (numeral_digits number, numeral_number number, h) refl
 
 -- ---- lines
 

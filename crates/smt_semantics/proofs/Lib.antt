@@ -11,6 +11,7 @@ pub mod Laid
 pub mod Lines
 pub mod LongSampled
 pub mod Numbers
+pub mod Numerals
 pub mod Quotes
 pub mod Ranks
 pub mod Results

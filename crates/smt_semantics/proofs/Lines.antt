@@ -7,8 +7,8 @@ use Rattle.std.proofs.lemmas.List.Concat.{flat_map-append}
 use Rattle.std.proofs.lemmas.List.Folds.{list_all-append}
 use Rattle.std.proofs.lemmas.Bool.{and_parts, and_from, false≢true, or_cases, eqb-true}
 use Rattle.smt_sexpr.specs.Lexicon.{Quoted, Numeral, Text, Number, decoded, number_in, Piece, Space, Open, Close, Comment, Symbol, spelling, spell, each_longest, is_piece, is_symbol, is_plain_symbol, is_symbol_byte, is_space, stops, goes_on, in_script, is_line_end, Token, Begin, token, tokens}
-use Rattle.smt_sexpr.specs.Reading.{Leaf, Expression, brackets, inside}
-use Rattle.smt_semantics.specs.Script.{Command, State, IsWhole, exprs, step, run, start}
+use Rattle.smt_sexpr.specs.Reading.{Leaf, Expression, brackets, inside, expressions}
+use Rattle.smt_semantics.specs.Script.{Command, State, IsWhole, step, run, start}
 use Rattle.smt_semantics.specs.Written.{StringsWrite, NumeralsWrite, is_apart, Writes, Item, is_gap, is_wide_gap, laid, AreSpread, AreItems, IsLine, BracketsWrite, NamesWrite, CommandsAreLines, CommentsAreLines, LinesAdd, CommentsAdd}
 use Rattle.smt_semantics.proofs.Append.{script_append, whole_append, run_append, holds_append}
 use Rattle.smt_semantics.proofs.Commands.{one_list_of_commands}
@@ -71,7 +71,7 @@ record Lays (items : List Item) : Type 0 where
   pieces : List Piece
   spelled : (rest : List Piece) → laid items (spell rest) ≡ spell (pieces ++ rest)
   plain : list_all in_script pieces ≡ true
-  tokens_are : tokens pieces ≡ inside (exprs (map (λ i. i.expr) items))
+  tokens_are : tokens pieces ≡ inside (expressions (map (λ i. i.expr) items))
   longest : (rest : List Piece) → each_longest rest ≡ true → is_apart (spell rest) ≡ true → each_longest (pieces ++ rest) ≡ true
 
 record Spread (items : List Item) : Type 0 where

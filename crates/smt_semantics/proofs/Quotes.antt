@@ -4,13 +4,13 @@ use Rattle.std.specs.Prelude.{codes}
 use Rattle.std.specs.List.{flat_map, list_all}
 use Rattle.std.proofs.lemmas.Bool.{and_parts, and_from}
 use Rattle.smt_sexpr.specs.Lexicon.{Text}
-use Rattle.smt_sexpr.specs.Reading.{Leaf, Expression}
+use Rattle.smt_sexpr.specs.Reading.{Leaf, Expression, expressions}
 use Rattle.smt_sexpr.proofs.Quotes.{undoubled, characters_are, all_read, all_plain}
 use Rattle.smt_semantics.specs.Written.{Writes, between_quotes}
 use Rattle.smt_semantics.specs.Quoting.{quoted, TextsWrite, part_text, part_expr, pattern_text, pattern_expr, PatternsWrite}
 use Rattle.smt_semantics.proofs.Lines.{strings_write, names_write}
 use Rattle.smt_semantics.proofs.Laid.{groups_write}
-use Rattle.smt_semantics.specs.Script.{exprs, group, name, pattern, pattern_part, pattern_parts, ◌>>=◌}
+use Rattle.smt_semantics.specs.Script.{group, name, pattern, pattern_part, pattern_parts, ◌>>=◌}
 use Rattle.smt_semantics.specs.Texts.{Part, AreWritten}
 use Rattle.smt_term.specs.Plain.{PatternPart, Character, Wildcard}
 use Rattle.smt_term.specs.TypeValues.{is_code_point}
@@ -46,13 +46,13 @@ part_is : (p : PatternPart) → pattern_part (part_expr p) ≡ Some (p ∷ [])
 part_is (Character c) = refl
 part_is Wildcard = refl
 
-parts_are : (ps : List PatternPart) → pattern_parts (exprs (map part_expr ps)) ≡ Some ps
+parts_are : (ps : List PatternPart) → pattern_parts (expressions (map part_expr ps)) ≡ Some ps
 parts_are [] = refl
 parts_are (p ∷ ps) =
-    ap (λ (o : Option (List PatternPart)). o >>= λ x. pattern_parts (exprs (map part_expr ps)) >>= λ y. Some (x ++ y)) (part_is p)
+    ap (λ (o : Option (List PatternPart)). o >>= λ x. pattern_parts (expressions (map part_expr ps)) >>= λ y. Some (x ++ y)) (part_is p)
     ∙ ap (λ (o : Option (List PatternPart)). o >>= λ y. Some (p ∷ y)) (parts_are ps)
 
-many : (p q : PatternPart) (ps : List PatternPart) → pattern (pattern_expr (p ∷ q ∷ ps)) ≡ pattern_parts (exprs (map part_expr (p ∷ q ∷ ps)))
+many : (p q : PatternPart) (ps : List PatternPart) → pattern (pattern_expr (p ∷ q ∷ ps)) ≡ pattern_parts (expressions (map part_expr (p ∷ q ∷ ps)))
 many (Character c) q ps = refl
 many Wildcard q ps = refl
 

@@ -2,6 +2,7 @@ pub mod Arithmetic
 pub mod Growth
 pub mod LongSample
 pub mod Meanings
+pub mod Numerals
 pub mod Order
 pub mod Quoting
 pub mod Samples

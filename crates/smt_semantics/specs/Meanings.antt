@@ -3,9 +3,9 @@ use Rattle.std.specs.Prelude.{◌≡◌, ℕ, suc, Bool, true, false, not, ◌&&
 use Rattle.std.specs.List.{list_all, list_any}
 use Rattle.smt_term.specs.Plain.{PatternPart, PlainOp, StringLikeOp, ZeroExtendOp}
 use Rattle.smt_semantics.specs.ScriptValues.{ScriptValue, TruthOf, ConstructorOf, SetOf, ScriptValues, no_script_values}
-use Rattle.smt_sexpr.specs.Reading.{Expression, Leaf}
+use Rattle.smt_sexpr.specs.Reading.{Expression, Leaf, expressions}
 use Rattle.smt_sexpr.specs.Lexicon.{Number}
-use Rattle.smt_semantics.specs.Script.{Command, DeclareDatatype, Reset, Push, Pop, Constructor, Entry, Function, Builds, Selects, State, exprs, group, name, built_in_names, is_in, is_reserved, is_taken, is_taken_sort, is_sort, has_sort, names_of, pattern, operator_of, with_sort, obey, step, ◌>>=◌}
+use Rattle.smt_semantics.specs.Script.{Command, DeclareDatatype, Reset, Push, Pop, Constructor, Entry, Function, Builds, Selects, State, group, name, built_in_names, is_in, is_reserved, is_taken, is_taken_sort, is_sort, has_sort, names_of, pattern, operator_of, with_sort, obey, step, ◌>>=◌}
 use Rattle.smt_semantics.specs.Sorts.{entries, entry_sort, each_there, sorts_in, sort_of, operator_sort, insert_sort}
 use Rattle.smt_semantics.specs.Value.{ScriptInterpretation, expression_value, meaning, evaluate_each, operator_value, script_values, in_table, selected, inserted}
 
@@ -14,10 +14,10 @@ abbrev pub is_own : List ℕ → Bool
 is_own n = not (is_in n built_in_names || is_reserved n)
 
 abbrev pub argument_values : ScriptInterpretation → State → List Expression → Option (List ScriptValue)
-argument_values j s es = each_there (evaluate_each (entries s) (meaning j (names_of s)) (exprs es))
+argument_values j s es = each_there (evaluate_each (entries s) (meaning j (names_of s)) (expressions es))
 
 abbrev pub argument_sorts : State → List Expression → Option (List Expression)
-argument_sorts s es = each_there (sorts_in (entries s) (exprs es))
+argument_sorts s es = each_there (sorts_in (entries s) (expressions es))
 
 -- `(op x ..)`
 abbrev pub OperatorsApply : Type 0

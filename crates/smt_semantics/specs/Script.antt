@@ -2,9 +2,10 @@
 use Rattle.std.specs.Prelude.{◌≡◌, ℕ, suc, Bool, true, false, ◌&&◌, ◌||◌, ◌==◌, IsTrue, if◌then◌else◌, codes, bytes_eq, take, drop, length, map, List, [], ◌∷◌, ◌++◌, Option, Some, None}
 use Rattle.std.specs.List.{list_all, list_any}
 use Rattle.std.specs.Map.{lookup}
+use Rattle.std.specs.Option.{option_and_then, option_or}
 use Rattle.smt_term.specs.Plain.{PatternPart, Character, Wildcard, PlainOp, AndOp, BvaddOp, BvlshrOp, BvmulOp, BvnegOp, BvsaddoOp, BvsdivOp, BvshlOp, BvsleOp, BvsltOp, BvsmodOp, BvsmuloOp, BvsremOp, BvssuboOp, BvsubOp, BvudivOp, BvuleOp, BvultOp, BvuremOp, EqOp, IteOp, NotOp, OrOp, SetInterOp, SetMemberOp, SetSubsetOp}
 use Rattle.smt_sexpr.specs.Lexicon.{Number, Text, some_all, is_digit, number_in, Name, in_script}
-use Rattle.smt_sexpr.specs.Reading.{Expression, Leaf, Node, Expressions, Nil, Cons, Reads}
+use Rattle.smt_sexpr.specs.Reading.{Expression, Leaf, Node, Expressions, Nil, Cons, Reads, expressions}
 use Rattle.smt_bits.specs.Widths.{is_width}
 
 -- ---- commands, as the grammar writes them
@@ -33,12 +34,8 @@ pub data Command : Type 0 where
 abbrev pub name : List ℕ → Expression
 name text = Leaf (Name text)
 
-abbrev pub exprs : List Expression → Expressions
-exprs [] = Nil
-exprs (e ∷ es) = Cons e (exprs es)
-
 abbrev pub group : List Expression → Expression
-group es = Node (exprs es)
+group es = Node (expressions es)
 
 abbrev pub constructor : Constructor → Expression
 constructor c = group (name c.name ∷ map (λ s. group (name s.0 ∷ s.1 ∷ [])) c.selectors)
@@ -203,10 +200,10 @@ abbrev mutual
 
 -- ---- patterns
 
+-- `option_and_then` of std, written between what is asked for first and what is asked for then
 infixl 10 ◌>>=◌
 abbrev pub ◌>>=◌ : {A B : Type 0} → Option A → (A → Option B) → Option B
-(Some x) >>= f = f x
-None >>= f = None
+o >>= f = option_and_then f o
 
 abbrev pub character_in : List ℕ → Option (List PatternPart)
 character_in (c ∷ []) = Some (Character c ∷ [])
@@ -230,13 +227,9 @@ abbrev pub joined_parts : Expression → Option (List PatternPart)
 joined_parts (Node (Cons (Leaf (Name f)) (Cons e (Cons d es)))) = if bytes_eq f (codes "re.++") then pattern_parts (Cons e (Cons d es)) else None
 joined_parts e = None
 
-abbrev pub either : {A : Type 0} → Option A → Option A → Option A
-either (Some x) other = Some x
-either None other = other
-
 -- `(str.to_re "")`, one part, or `(re.++ p q ..)`
 abbrev pub pattern : Expression → Option (List PatternPart)
-pattern e = if is_empty_pattern e then Some [] else either (pattern_part e) (joined_parts e)
+pattern e = if is_empty_pattern e then Some [] else option_or (pattern_part e) (joined_parts e)
 
 -- ---- expressions
 

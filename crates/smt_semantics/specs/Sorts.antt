@@ -5,8 +5,8 @@ use Rattle.smt_term.specs.Plain.{PlainOp, AndOp, BvnegOp, EqOp, IteOp, NotOp, Or
 use Rattle.smt_term.specs.TypeValues.{is_code_point}
 use Rattle.smt_semantics.specs.ScriptValues.{ScriptValue, TruthOf, BitsOf, TextOf, ConstructorOf, SetOf, ScriptValues, no_script_values, one_script_value}
 use Rattle.smt_sexpr.specs.Lexicon.{Atom, Bits, Number, Text, Name}
-use Rattle.smt_sexpr.specs.Reading.{Expression, Leaf, Node, Expressions, Nil, Cons}
-use Rattle.smt_semantics.specs.Script.{name, group, exprs, Entry, Constant, Function, Defined, Builds, Selects, Shape, BitLiteral, Qualified, Applied, Extended, Tested, Matched, Unformed, shape, look_up, operator_of, is_in, names_of, assertions_of, State, ◌>>=◌}
+use Rattle.smt_sexpr.specs.Reading.{Expression, Leaf, Node, Expressions, Nil, Cons, expressions}
+use Rattle.smt_semantics.specs.Script.{name, group, Entry, Constant, Function, Defined, Builds, Selects, Shape, BitLiteral, Qualified, Applied, Extended, Tested, Matched, Unformed, shape, look_up, operator_of, is_in, names_of, assertions_of, State, ◌>>=◌}
 use Rattle.smt_bits.specs.Widths.{are_bits}
 use Rattle.smt_semantics.specs.Arithmetic.{bit_function, bit_test}
 use Rattle.smt_semantics.specs.Order.{ascends}
@@ -194,8 +194,8 @@ insert_sort (s ∷ t ∷ ss) = insert_sort (t ∷ ss) >>= λ u. if_sort (same_so
 abbrev pub entry_sort : Entry → List Expression → Option Expression
 entry_sort (Constant sort) ss = if_sort (length ss == 0) sort
 entry_sort (Defined sort body) ss = if_sort (length ss == 0) sort
-entry_sort (Function argument sort) ss = if_sort (same_sorts (exprs ss) (exprs (argument ∷ []))) sort
-entry_sort (Builds d ps place fields) ss = match_sorts ps (exprs fields) (exprs ss) [] >>= λ table. all_bound ps table >>= λ es. Some (datatype_sort d es)
+entry_sort (Function argument sort) ss = if_sort (same_sorts (expressions ss) (expressions (argument ∷ []))) sort
+entry_sort (Builds d ps place fields) ss = match_sorts ps (expressions fields) (expressions ss) [] >>= λ table. all_bound ps table >>= λ es. Some (datatype_sort d es)
 entry_sort (Selects d ps c place field) [] = None
 entry_sort (Selects d ps c place field) (s ∷ t ∷ ss) = None
 entry_sort (Selects d ps c place field) (s ∷ []) = arguments_of d s >>= λ es. if_sort (length es == length ps) (instance (paired ps es) field)

@@ -1,8 +1,9 @@
 -- The texts of sorts and expressions, and the lines of all commands.
-use Rattle.std.specs.Prelude.{◌≡◌, ℕ, ◌<◌, ◌^◌, decimal, true, not, IsTrue, codes, map, List, [], ◌∷◌, ◌++◌, Option, Some, None}
+use Rattle.std.specs.Prelude.{◌≡◌, ℕ, true, not, IsTrue, codes, map, List, [], ◌∷◌, ◌++◌, Option, Some, None}
 use Rattle.smt_semantics.specs.ScriptValues.{BitsOf}
 use Rattle.smt_sexpr.specs.Lexicon.{Number}
 use Rattle.smt_sexpr.specs.Reading.{Expression, Leaf}
+use Rattle.smt_semantics.specs.Numerals.{numbered, numeral}
 use Rattle.smt_semantics.specs.Script.{Command, Constructor, DeclareDatatype, DeclareFun, SetLogic, SetOption, CheckSat, GetModel, Reset, Exit, Push, Pop, DefineFun, Assert, constructor, group, name, start, State, Script, IsWhole, obey, step}
 use Rattle.smt_bits.specs.Widths.{are_bits}
 use Rattle.smt_semantics.specs.Sorts.{Entries, bit_sort, bool_sort, sort_of}
@@ -32,20 +33,21 @@ GroupsWrite = (head : List ℕ) (h : Expression) (ps : List Part) (gap : List �
 
 -- ---- literals and their sorts
 
-abbrev pub bits_text : ℕ → ℕ → List ℕ
-bits_text width number = codes "(_ bv" ++ (decimal number ++ (codes " " ++ (decimal width ++ codes ")")))
+abbrev pub bits_text : (width number : ℕ) → List ℕ
+bits_text width number = codes "(_ bv" ++ (numeral number ++ (codes " " ++ (numeral width ++ codes ")")))
 
-abbrev pub bits_expr : ℕ → ℕ → Expression
-bits_expr width number = group (name (codes "_") ∷ name (codes "bv" ++ decimal number) ∷ Leaf (Number width) ∷ [])
+-- a literal of bits: `(_ bvX n)`, the number X at n bits (logic QF_BV)
+abbrev pub bits : (width number : ℕ) → Expression
+bits width number = group (name (codes "_") ∷ name (numbered (codes "bv") number) ∷ Leaf (Number width) ∷ [])
 
 abbrev pub BitsWrite : Type 0
-BitsWrite = (width number : ℕ) → width < 10 ^ 64 → number < 10 ^ 64 → Writes (bits_text width number) (bits_expr width number)
+BitsWrite = (width number : ℕ) → Writes (bits_text width number) (bits width number)
 
 abbrev pub BitSortsWrite : Type 0
-BitSortsWrite = (width : ℕ) → width < 10 ^ 64 → Writes (codes "(_ BitVec " ++ (decimal width ++ codes ")")) (bit_sort width)
+BitSortsWrite = (width : ℕ) → Writes (codes "(_ BitVec " ++ (numeral width ++ codes ")")) (bit_sort width)
 
 abbrev pub BitsHaveValues : Type 0
-BitsHaveValues = (here : Entries) (env : Meaning) (width number : ℕ) → number < 10 ^ 64 → are_bits width number ≡ true → evaluate here env (bits_expr width number) ≡ Some (BitsOf width number)
+BitsHaveValues = (here : Entries) (env : Meaning) (width number : ℕ) → are_bits width number ≡ true → evaluate here env (bits width number) ≡ Some (BitsOf width number)
 
 -- ---- lines
 

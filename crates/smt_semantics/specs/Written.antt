@@ -1,5 +1,5 @@
 -- Texts that write an expression, and lines.
-use Rattle.std.specs.Prelude.{◌≡◌, ℕ, ◌<◌, ◌^◌, decimal, Bool, true, false, not, ◌&&◌, ◌||◌, IsTrue, ◌==◌, codes, map, List, [], ◌∷◌, ◌++◌, Some}
+use Rattle.std.specs.Prelude.{◌≡◌, ℕ, Bool, true, false, not, ◌&&◌, ◌||◌, IsTrue, ◌==◌, codes, map, List, [], ◌∷◌, ◌++◌, Some}
 use Rattle.std.specs.List.{flat_map, list_all}
 use Rattle.smt_sexpr.specs.Lexicon.{is_printable, quote_twice, decoded, some_all, is_digit, number_in, Text, Number, Piece, spell, tokens, each_longest, in_script, is_plain_symbol, is_symbol, is_line_end}
 use Rattle.smt_sexpr.specs.Reading.{Leaf, Expression, brackets}
@@ -127,10 +127,6 @@ option_command = DeclareDatatype (codes "Option") (codes "X" ∷ [])
 
 abbrev pub OptionLines : Type 0
 OptionLines = IsLine option_lines (option_command ∷ [])
-
--- a letter and a number are a name, and two numbers are two names
-abbrev pub NumberedNames : Type 0
-NumberedNames = (m n : ℕ) → m < 2 ^ 64 → n < 2 ^ 64 → IsName (codes "t" ++ decimal m) × (codes "t" ++ decimal m ≡ codes "t" ++ decimal n → m ≡ n)
 
 -- ---- what the encoder uses at each line: the rules of declarations are its premises
 

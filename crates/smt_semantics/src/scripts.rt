@@ -1,7 +1,8 @@
 ghost use Rattle.smt_semantics.specs.Growth.{ConstantsExtend, DatatypesDeclare, DatatypesExtend, FunctionsExtend};
+ghost use Rattle.smt_semantics.specs.Numerals.{NumberedNames, NumeralsArePrinted, NumeralsDiffer};
 ghost use Rattle.smt_semantics.specs.Quoting.{PatternsWrite, TextsWrite};
 ghost use Rattle.smt_semantics.specs.Texts.{BitSortsWrite, BitsHaveValues, BitsWrite, CommandsExtend, DatatypeLine, DeclareFunLine, GroupsWrite, PlainLines, SelectorsWrite, SetLogicLine, SetOptionLine, SortedCommentsAdd, SortedLinesAdd};
-ghost use Rattle.smt_semantics.specs.Written.{AppliedText, AssertLine, AssertionsExtend, BracketsWrite, CommandsAreLines, CommentsAdd, CommentsAreLines, CommentsExtend, DeclareConstLine, DefineFunLine, DefinitionsExtend, LinesAdd, NamesWrite, NumberedNames, NumeralsWrite, OneState, OptionLines, StringsWrite};
+ghost use Rattle.smt_semantics.specs.Written.{AppliedText, AssertLine, AssertionsExtend, BracketsWrite, CommandsAreLines, CommentsAdd, CommentsAreLines, CommentsExtend, DeclareConstLine, DefineFunLine, DefinitionsExtend, LinesAdd, NamesWrite, NumeralsWrite, OneState, OptionLines, StringsWrite};
 
 /// A script comes to one state.
 pub fn one_state()
@@ -37,9 +38,11 @@ pub fn first_lines_are_lines()
     ensures option { OptionLines }
 {}
 
-/// Names made of a letter and a number are names, and differ.
+/// Names made of a letter and a number are names, and differ, as numbers do.
 pub fn numbered_names_differ()
-    ensures { NumberedNames }
+    ensures numerals { NumeralsDiffer }
+    ensures printed { NumeralsArePrinted }
+    ensures names { NumberedNames }
 {}
 
 /// A line at the end of a text that stands leaves a text that stands.

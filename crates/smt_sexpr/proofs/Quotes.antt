@@ -8,7 +8,8 @@ use Rattle.std.proofs.lemmas.List.{append-nil}
 use Rattle.std.proofs.lemmas.List.Folds.{list_all-append}
 use Rattle.std.proofs.lemmas.Grind.{flat_map-append}
 use Rattle.smt_sexpr.specs.Lexicon.{Quoted, Word, quote_twice, short_escape, braced_escape, is_printable, is_hexadecimal, digit_value, number_in, escape, decoded, Text}
-use Rattle.smt_sexpr.specs.Quoting.{is_character, escaped, quoted_character, QuotedTextsAreRead}
+use Rattle.smt_characters.specs.Characters.{is_code_point}
+use Rattle.smt_sexpr.specs.Quoting.{escaped, quoted_character, QuotedTextsAreRead}
 use Rattle.smt_sexpr.proofs.Strings.{is_no_quote, twice_none}
 
 -- ---- digits in base 16
@@ -41,20 +42,20 @@ Decodes c ds = (rest : List ℕ) → decoded 0 (behind ds rest) ≡ c ∷ decode
 decodes : (k c : ℕ) (bs rest : List ℕ) → escape (92 ∷ bs) ≡ Some (record { len = suc k; point = c }) → decoded k bs ≡ decoded 0 rest → decoded 0 (92 ∷ bs) ≡ c ∷ decoded 0 rest
 decodes k c bs rest e f = rw e (ap (λ (t : List ℕ). c ∷ t) f)
 
-escape_1 : (a c : ℕ) → list_all is_hexadecimal (a ∷ []) ≡ true → number_in 16 (a ∷ []) ≡ c → is_character c ≡ true → Decodes c (a ∷ [])
+escape_1 : (a c : ℕ) → list_all is_hexadecimal (a ∷ []) ≡ true → number_in 16 (a ∷ []) ≡ c → is_code_point c ≡ true → Decodes c (a ∷ [])
 escape_1 a c h v p rest =
     let bs = behind (a ∷ []) rest in
     let y : braced_escape 1 bs ≡ Some (record { len = 5; point = c }) = rw (h, v, p) refl in
     decodes 4 c (117 ∷ 123 ∷ a ∷ 125 ∷ rest) rest (rw (short_none (a ∷ 125 ∷ rest), y) refl) refl
 
-escape_2 : (a b c : ℕ) → list_all is_hexadecimal (a ∷ b ∷ []) ≡ true → eqb b 125 ≡ false → number_in 16 (a ∷ b ∷ []) ≡ c → is_character c ≡ true → Decodes c (a ∷ b ∷ [])
+escape_2 : (a b c : ℕ) → list_all is_hexadecimal (a ∷ b ∷ []) ≡ true → eqb b 125 ≡ false → number_in 16 (a ∷ b ∷ []) ≡ c → is_code_point c ≡ true → Decodes c (a ∷ b ∷ [])
 escape_2 a b c h h1 v p rest =
     let bs = behind (a ∷ b ∷ []) rest in
     let n1 : braced_escape 1 bs ≡ None = rw h1 refl in
     let y : braced_escape 2 bs ≡ Some (record { len = 6; point = c }) = rw (h, v, p) refl in
     decodes 5 c (117 ∷ 123 ∷ a ∷ b ∷ 125 ∷ rest) rest (rw (short_none (a ∷ b ∷ 125 ∷ rest), n1, y) refl) refl
 
-escape_3 : (a b d c : ℕ) → list_all is_hexadecimal (a ∷ b ∷ d ∷ []) ≡ true → eqb b 125 ≡ false → eqb d 125 ≡ false → number_in 16 (a ∷ b ∷ d ∷ []) ≡ c → is_character c ≡ true → Decodes c (a ∷ b ∷ d ∷ [])
+escape_3 : (a b d c : ℕ) → list_all is_hexadecimal (a ∷ b ∷ d ∷ []) ≡ true → eqb b 125 ≡ false → eqb d 125 ≡ false → number_in 16 (a ∷ b ∷ d ∷ []) ≡ c → is_code_point c ≡ true → Decodes c (a ∷ b ∷ d ∷ [])
 escape_3 a b d c h h1 h2 v p rest =
     let bs = behind (a ∷ b ∷ d ∷ []) rest in
     let n1 : braced_escape 1 bs ≡ None = rw h1 refl in
@@ -62,7 +63,7 @@ escape_3 a b d c h h1 h2 v p rest =
     let y : braced_escape 3 bs ≡ Some (record { len = 7; point = c }) = rw (h, v, p) refl in
     decodes 6 c (117 ∷ 123 ∷ a ∷ b ∷ d ∷ 125 ∷ rest) rest (rw (short_none (a ∷ b ∷ d ∷ 125 ∷ rest), n1, n2, y) refl) refl
 
-escape_4 : (a b d e c : ℕ) → list_all is_hexadecimal (a ∷ b ∷ d ∷ e ∷ []) ≡ true → eqb b 125 ≡ false → eqb d 125 ≡ false → eqb e 125 ≡ false → number_in 16 (a ∷ b ∷ d ∷ e ∷ []) ≡ c → is_character c ≡ true → Decodes c (a ∷ b ∷ d ∷ e ∷ [])
+escape_4 : (a b d e c : ℕ) → list_all is_hexadecimal (a ∷ b ∷ d ∷ e ∷ []) ≡ true → eqb b 125 ≡ false → eqb d 125 ≡ false → eqb e 125 ≡ false → number_in 16 (a ∷ b ∷ d ∷ e ∷ []) ≡ c → is_code_point c ≡ true → Decodes c (a ∷ b ∷ d ∷ e ∷ [])
 escape_4 a b d e c h h1 h2 h3 v p rest =
     let bs = behind (a ∷ b ∷ d ∷ e ∷ []) rest in
     let n1 : braced_escape 1 bs ≡ None = rw h1 refl in
@@ -71,7 +72,7 @@ escape_4 a b d e c h h1 h2 h3 v p rest =
     let y : braced_escape 4 bs ≡ Some (record { len = 8; point = c }) = rw (h, v, p) refl in
     decodes 7 c (117 ∷ 123 ∷ a ∷ b ∷ d ∷ e ∷ 125 ∷ rest) rest (rw (short_none (a ∷ b ∷ d ∷ e ∷ 125 ∷ rest), n1, n2, n3, y) refl) refl
 
-escape_5 : (a b d e f c : ℕ) → list_all is_hexadecimal (a ∷ b ∷ d ∷ e ∷ f ∷ []) ≡ true → eqb b 125 ≡ false → eqb d 125 ≡ false → eqb e 125 ≡ false → eqb f 125 ≡ false → number_in 16 (a ∷ b ∷ d ∷ e ∷ f ∷ []) ≡ c → is_character c ≡ true → Decodes c (a ∷ b ∷ d ∷ e ∷ f ∷ [])
+escape_5 : (a b d e f c : ℕ) → list_all is_hexadecimal (a ∷ b ∷ d ∷ e ∷ f ∷ []) ≡ true → eqb b 125 ≡ false → eqb d 125 ≡ false → eqb e 125 ≡ false → eqb f 125 ≡ false → number_in 16 (a ∷ b ∷ d ∷ e ∷ f ∷ []) ≡ c → is_code_point c ≡ true → Decodes c (a ∷ b ∷ d ∷ e ∷ f ∷ [])
 escape_5 a b d e f c h h1 h2 h3 h4 v p rest =
     let bs = behind (a ∷ b ∷ d ∷ e ∷ f ∷ []) rest in
     let n1 : braced_escape 1 bs ≡ None = rw h1 refl in
@@ -85,7 +86,7 @@ record Writing (c : ℕ) (ds : List ℕ) : Type 0 where
   decodes : Decodes c ds
   printable : list_all is_printable ds ≡ true
 
-writing_1 : (c : ℕ) → eqb (c / 16) 0 ≡ true → is_character c ≡ true → Writing c (digits 16 false c)
+writing_1 : (c : ℕ) → eqb (c / 16) 0 ≡ true → is_code_point c ≡ true → Writing c (digits 16 false c)
 unfolding digits
 writing_1 c e1 p =
     let m0 : c % 16 < 16 = omega arith in
@@ -98,7 +99,7 @@ writing_1 c e1 p =
     let e : ds ≡ digits 16 false c = rw (e1) refl in
     subst (λ (t : List ℕ). Writing c t) e (record { decodes = escape_1 (digit_glyph false (c % 16)) c hex v p; printable = print })
 
-writing_2 : (c : ℕ) → eqb (c / 16) 0 ≡ false → eqb (c / 16 / 16) 0 ≡ true → is_character c ≡ true → Writing c (digits 16 false c)
+writing_2 : (c : ℕ) → eqb (c / 16) 0 ≡ false → eqb (c / 16 / 16) 0 ≡ true → is_code_point c ≡ true → Writing c (digits 16 false c)
 unfolding digits
 writing_2 c e1 e2 p =
     let m0 : c % 16 < 16 = omega arith in
@@ -113,7 +114,7 @@ writing_2 c e1 e2 p =
     let e : ds ≡ digits 16 false c = rw (e1, e2) refl in
     subst (λ (t : List ℕ). Writing c t) e (record { decodes = escape_2 (digit_glyph false (c / 16 % 16)) (digit_glyph false (c % 16)) c hex g0.apart v p; printable = print })
 
-writing_3 : (c : ℕ) → eqb (c / 16) 0 ≡ false → eqb (c / 16 / 16) 0 ≡ false → eqb (c / 16 / 16 / 16) 0 ≡ true → is_character c ≡ true → Writing c (digits 16 false c)
+writing_3 : (c : ℕ) → eqb (c / 16) 0 ≡ false → eqb (c / 16 / 16) 0 ≡ false → eqb (c / 16 / 16 / 16) 0 ≡ true → is_code_point c ≡ true → Writing c (digits 16 false c)
 unfolding digits
 writing_3 c e1 e2 e3 p =
     let m0 : c % 16 < 16 = omega arith in
@@ -130,7 +131,7 @@ writing_3 c e1 e2 e3 p =
     let e : ds ≡ digits 16 false c = rw (e1, e2, e3) refl in
     subst (λ (t : List ℕ). Writing c t) e (record { decodes = escape_3 (digit_glyph false (c / 16 / 16 % 16)) (digit_glyph false (c / 16 % 16)) (digit_glyph false (c % 16)) c hex g1.apart g0.apart v p; printable = print })
 
-writing_4 : (c : ℕ) → eqb (c / 16) 0 ≡ false → eqb (c / 16 / 16) 0 ≡ false → eqb (c / 16 / 16 / 16) 0 ≡ false → eqb (c / 16 / 16 / 16 / 16) 0 ≡ true → is_character c ≡ true → Writing c (digits 16 false c)
+writing_4 : (c : ℕ) → eqb (c / 16) 0 ≡ false → eqb (c / 16 / 16) 0 ≡ false → eqb (c / 16 / 16 / 16) 0 ≡ false → eqb (c / 16 / 16 / 16 / 16) 0 ≡ true → is_code_point c ≡ true → Writing c (digits 16 false c)
 unfolding digits
 writing_4 c e1 e2 e3 e4 p =
     let m0 : c % 16 < 16 = omega arith in
@@ -149,7 +150,7 @@ writing_4 c e1 e2 e3 e4 p =
     let e : ds ≡ digits 16 false c = rw (e1, e2, e3, e4) refl in
     subst (λ (t : List ℕ). Writing c t) e (record { decodes = escape_4 (digit_glyph false (c / 16 / 16 / 16 % 16)) (digit_glyph false (c / 16 / 16 % 16)) (digit_glyph false (c / 16 % 16)) (digit_glyph false (c % 16)) c hex g2.apart g1.apart g0.apart v p; printable = print })
 
-writing_5 : (c : ℕ) → eqb (c / 16) 0 ≡ false → eqb (c / 16 / 16) 0 ≡ false → eqb (c / 16 / 16 / 16) 0 ≡ false → eqb (c / 16 / 16 / 16 / 16) 0 ≡ false → eqb (c / 16 / 16 / 16 / 16 / 16) 0 ≡ true → is_character c ≡ true → Writing c (digits 16 false c)
+writing_5 : (c : ℕ) → eqb (c / 16) 0 ≡ false → eqb (c / 16 / 16) 0 ≡ false → eqb (c / 16 / 16 / 16) 0 ≡ false → eqb (c / 16 / 16 / 16 / 16) 0 ≡ false → eqb (c / 16 / 16 / 16 / 16 / 16) 0 ≡ true → is_code_point c ≡ true → Writing c (digits 16 false c)
 unfolding digits
 writing_5 c e1 e2 e3 e4 e5 p =
     let m0 : c % 16 < 16 = omega arith in
@@ -170,7 +171,7 @@ writing_5 c e1 e2 e3 e4 e5 p =
     let e : ds ≡ digits 16 false c = rw (e1, e2, e3, e4, e5) refl in
     subst (λ (t : List ℕ). Writing c t) e (record { decodes = escape_5 (digit_glyph false (c / 16 / 16 / 16 / 16 % 16)) (digit_glyph false (c / 16 / 16 / 16 % 16)) (digit_glyph false (c / 16 / 16 % 16)) (digit_glyph false (c / 16 % 16)) (digit_glyph false (c % 16)) c hex g3.apart g2.apart g1.apart g0.apart v p; printable = print })
 
-hexadecimal : (c : ℕ) → is_character c ≡ true → Writing c (digits 16 false c)
+hexadecimal : (c : ℕ) → is_code_point c ≡ true → Writing c (digits 16 false c)
 hexadecimal c p = elim (cases_Bool (eqb (c / 16) 0)) [
   | inl e1 ↦ writing_1 c e1 p
   | inr e1 ↦ elim (cases_Bool (eqb (c / 16 / 16) 0)) [
@@ -247,7 +248,7 @@ record IsRead (c : ℕ) : Type 0 where
   read : (rest : List ℕ) → decoded 0 (undoubled c ++ rest) ≡ c ∷ decoded 0 rest
   plain : list_all is_printable (undoubled c) ≡ true
 
-reads : (c : ℕ) → is_character c ≡ true → IsRead c
+reads : (c : ℕ) → is_code_point c ≡ true → IsRead c
 reads c h = elim (cases_Bool (is_printable c && not (eqb c 92))) [
   | inl e ↦ (let p = and_parts (is_printable c) (not (eqb c 92)) e in
       let w : c ∷ [] ≡ undoubled c = sym (cond-true (is_printable c && not (eqb c 92)) (c ∷ []) (escaped c) e) in
@@ -263,16 +264,16 @@ reads c h = elim (cases_Bool (is_printable c && not (eqb c 92))) [
       })
 ]
 
-pub all_read : (cs : List ℕ) → list_all is_character cs ≡ true → decoded 0 (flat_map undoubled cs) ≡ cs
+pub all_read : (cs : List ℕ) → list_all is_code_point cs ≡ true → decoded 0 (flat_map undoubled cs) ≡ cs
 all_read [] h = refl
 all_read (c ∷ cs) h =
-    let p = and_parts (is_character c) (list_all is_character cs) h in
+    let p = and_parts (is_code_point c) (list_all is_code_point cs) h in
     (reads c p.0).read (flat_map undoubled cs) ∙ ap (λ (t : List ℕ). c ∷ t) (all_read cs p.1)
 
-pub all_plain : (cs : List ℕ) → list_all is_character cs ≡ true → list_all is_printable (flat_map undoubled cs) ≡ true
+pub all_plain : (cs : List ℕ) → list_all is_code_point cs ≡ true → list_all is_printable (flat_map undoubled cs) ≡ true
 all_plain [] h = refl
 all_plain (c ∷ cs) h =
-    let p = and_parts (is_character c) (list_all is_character cs) h in
+    let p = and_parts (is_code_point c) (list_all is_code_point cs) h in
     list_all-append is_printable (undoubled c) (flat_map undoubled cs) ∙ and_from (list_all is_printable (undoubled c)) (list_all is_printable (flat_map undoubled cs)) (reads c p.0).plain (all_plain cs p.1)
 
 -- ---- the text

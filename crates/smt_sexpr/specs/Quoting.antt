@@ -1,13 +1,10 @@
 -- How a text stands between quotes in a script (SMT-LIB 2.7, theory UnicodeStrings).
-use Rattle.std.specs.Prelude.{ℕ, Bool, false, ◌&&◌, IsTrue, ◌==◌, nat_le, if◌then◌else◌, codes, List, [], ◌∷◌, ◌++◌}
+use Rattle.std.specs.Prelude.{ℕ, false, ◌&&◌, IsTrue, ◌==◌, nat_le, if◌then◌else◌, codes, List, [], ◌∷◌, ◌++◌}
 use Rattle.std.specs.Fmt.{digits}
 use Rattle.std.specs.List.{flat_map, list_all}
+use Rattle.smt_characters.specs.Characters.{is_code_point}
 use Rattle.smt_sexpr.specs.Lexicon.{Text}
 use Rattle.smt_sexpr.specs.Reading.{Leaf, Reads}
-
--- the code points of that theory
-abbrev pub is_character : ℕ → Bool
-is_character c = nat_le c 196607
 
 -- `\u{..}`, in lower-case hexadecimal without leading zeros
 abbrev pub escaped : ℕ → List ℕ
@@ -26,4 +23,4 @@ quoted characters = codes "\"" ++ (flat_map quoted_character characters ++ codes
 
 -- What quoting gives is read as the one string that was quoted.
 abbrev pub QuotedTextsAreRead : Type 0
-QuotedTextsAreRead = (cs : List ℕ) → IsTrue (list_all is_character cs) → Reads (quoted cs) (Leaf (Text cs) ∷ [])
+QuotedTextsAreRead = (cs : List ℕ) → IsTrue (list_all is_code_point cs) → Reads (quoted cs) (Leaf (Text cs) ∷ [])

@@ -12,6 +12,15 @@ mutual
     Nil : Expressions
     Cons : Expression → Expressions → Expressions
 
+-- the expressions of a list, and then others
+abbrev pub followed_by : List Expression → Expressions → Expressions
+followed_by [] others = others
+followed_by (e ∷ es) others = Cons e (followed_by es others)
+
+-- the expressions of a list
+abbrev pub expressions : List Expression → Expressions
+expressions es = followed_by es Nil
+
 -- the brackets and atoms of an expression
 abbrev mutual
   pub brackets : Expression → List Token

@@ -1,12 +1,12 @@
 -- What an expression of the program says, without where it lies in memory.
-use Rattle.std.specs.Prelude.{◌≡◌, ℕ, List, [], ◌∷◌, map, refl}
+use Rattle.std.specs.Prelude.{◌≡◌, ℕ, List, map, refl}
 use Rattle.std.proofs.Common.{ap, ◌∙◌}
 use Rattle.std.specs.Rc.{rc_str_bytes}
 use Rattle.std.specs.Str.{chars}
 use Rattle.std.specs.declared.alloc.Global.{Global}
 use Rattle.std.specs.declared.rc.RcStr.{RcStr}
 use Rattle.smt_sexpr.specs.Lexicon.{Number, Text, Name}
-use Rattle.smt_sexpr.specs.Reading.{Expression, Leaf, Node, Expressions, Nil, Cons}
+use Rattle.smt_sexpr.specs.Reading.{Expression, Leaf, Node, Expressions, Nil, Cons, expressions}
 use Rattle.smt_sexpr.specs.declared.expression.SExpr.{SExpr, Numeral, String, Symbol, App, App', Row_of-SExpr, end_of-SExpr, more_of-SExpr, items-the_row-SExpr, items_hidden-the_row-SExpr-0}
 use Rattle.smt_sexpr.specs.declared.expression.SExpr.TheBlock.{hidden-the_row-SExpr-0}
 use Rattle.smt_sexpr.specs.declared.expression.SExprs.{SExprs}
@@ -30,15 +30,6 @@ items_of xs = xs.items.items
 -- what they say
 abbrev pub plains : SExprs → List Expression
 plains xs = map plain (items_of xs)
-
--- the expressions of a list, and then others
-abbrev pub followed_by : List Expression → Expressions → Expressions
-followed_by [] others = others
-followed_by (e ∷ es) others = Cons e (followed_by es others)
-
--- the expressions of a list
-abbrev pub expressions : List Expression → Expressions
-expressions es = followed_by es Nil
 
 -- The equations of the view, by which a proof reads it.
 pub plain_row-items : {m : _} (row : Row_of-SExpr m) → plain_row row ≡ expressions (map plain (items-the_row-SExpr m row))

@@ -6,7 +6,8 @@ ghost use Rattle.std.specs.List.{list_all};
 ghost use Rattle.std.specs.Rc.{rc_str_bytes};
 ghost use Rattle.std.specs.Str.{chars};
 ghost use Rattle.std.specs.String.{string_bytes};
-ghost use Rattle.smt_sexpr.specs.Quoting.{is_character, quoted, quoted_character};
+ghost use Rattle.smt_characters.specs.Characters.{is_code_point};
+ghost use Rattle.smt_sexpr.specs.Quoting.{quoted, quoted_character};
 
 use crate::error::SExprParseError;
 use crate::expression::Text;
@@ -17,7 +18,7 @@ const GREATEST: char = '\u{2ffff}';
 
 /// Whether a string of SMT-LIB may hold each character.
 fn is_string(s: &str) -> bool
-    ensures { result ≡ list_all is_character (chars s.now) }
+    ensures { result ≡ list_all is_code_point (chars s.now) }
 {
     s.chars().all(|c| c <= GREATEST)
 }
@@ -61,7 +62,7 @@ fn quoted_text(alloc: Global, s: &str) -> Result<String, AllocError>
 /// `Memory`, where there is none left.
 pub fn quote_string(alloc: Global, s: &str) -> Result<Option<Text>, SExprParseError>
     ensures found { IfOk result (λ o. IfSome o (λ text. rc_str_bytes text ≡ quoted (chars s.now))) }
-    ensures some { IfOk result (λ o. is_some o ≡ list_all is_character (chars s.now)) }
+    ensures some { IfOk result (λ o. is_some o ≡ list_all is_code_point (chars s.now)) }
     ensures error { IfErr result (λ e. e ≡ SExprParseError.Memory) }
 {
     if !is_string(s) {

@@ -10,7 +10,8 @@ use Rattle.smt_term.specs.Meaning.{meaning, meanings, field_meanings, term_value
 use Rattle.smt_term.specs.Operators.{apply_extension, apply}
 use Rattle.smt_term.specs.Reached.{subterms, subterms_of_all, subterms_of_fields, reached_terms, reached_variables, reached_functions, reached_options, reached_selectors, variable_of, function_of, function_of_op, opened_of, opened_of_op, selector_of, selector_of_op, selector_of_extension}
 use Rattle.smt_term.specs.Tables.{Interpretation, value_at}
-use Rattle.smt_term.specs.Types.{type_eq, typed}
+use Rattle.smt_term.specs.Types.{type_eq}
+use Rattle.smt_term.specs.Typing.{typed}
 use Rattle.smt_term.specs.ValueOrder.{set_of}
 use Rattle.smt_term.proofs.Matching.{or_first, or_second}
 use Rattle.smt_term.proofs.Soundness.{all-front, all-back, all-last}

@@ -4,16 +4,17 @@ use Rattle.std.specs.Prelude.{bytes_eq, Option, Some, None, ◌||◌, IsTrue}
 use Rattle.std.specs.Cmp.{first_so, second_so}
 use Rattle.std.specs.List.{AllByRecursion, list_any}
 use Rattle.std.specs.Str.{chars}
+use Rattle.std.specs.Option.{option_or}
 use Rattle.smt_term.specs.Defaults.{default_id, default_value, default_fields, default_interpretation}
-use Rattle.smt_term.specs.Faults.{earlier, entity_type_fault, type_fault, attribute_types_fault, operator_fault, term_fault, terms_fault, fields_fault, first_fault, is_passed_over}
+use Rattle.smt_term.specs.Faults.{entity_type_fault, type_fault, attribute_types_fault, operator_fault, term_fault, terms_fault, fields_fault, first_fault, is_passed_over}
 use Rattle.smt_term.specs.Interpretations.{IsGivenOp, IsGiven, IsInterpretation}
 use Rattle.smt_term.specs.Reached.{subterms, subterms_of_all, subterms_of_fields}
-use Rattle.smt_term.specs.Types.{type_of, field_types, types_of, result_type, is_type, typed, typed_all, typed_fields, type_eq}
+use Rattle.smt_term.specs.Types.{type_of, field_types, types_of, result_type, is_type}
+use Rattle.smt_term.specs.Typing.{are_elements, typed, typed_all, typed_fields}
 use Rattle.smt_term.specs.TypeValues.{Enums, members_of, IsId, IsValue, AreFieldValues}
 use Rattle.smt_bits.proofs.BitRanges.{positive}
 use Rattle.smt_term.proofs.Soundness.{none-first, none-second, not-passed, walked, is_type-some}
 use Rattle.smt_term.proofs.ValueOrder.{bytes_itself}
-use Rattle.std.specs.List.{list_all}
 use Rattle.smt_term.specs.Plain.{IpAddrKind, DecimalKind, DatetimeKind, DurationKind, PlainType, OptionType, BitVecType, BoolType, EntityType, ExtensionType, StringType, RecordType, SetType, AttributeTypes, no_attributes, attribute, IpAddrV4Op, IpAddrV6Op, IpPrefixV4Op, IpPrefixV6Op, PlainOp, ExtOp, OptionGetOp, UufOp, PlainTerm, Application, NoneTerm, LiteralTerm, RecordTerm, SetTerm, SomeTerm, VariableTerm, PlainTerms, no_terms, one_term, PlainFields, no_fields, one_field}
 
 module _ {X : Type 0} (P : X → Type 0) where
@@ -65,13 +66,13 @@ module _ (enums : Enums) where
     given : (t : PlainTerm) → typed t ≡ true → term_fault enums t ≡ None → Given (subterms t)
     given (Application o ts t) h f =
         let r : result_type o (types_of ts) ≡ Some t = is_type-some (result_type o (types_of ts)) t (second_so (typed_all ts) (is_type (result_type o (types_of ts)) t) h) in
-        let e : earlier (type_fault enums t) (earlier (terms_fault enums ts) (operator_fault enums o (types_of ts))) ≡ None = not-passed (is_passed_over o (types_of ts) t) _ (walked enums o (types_of ts) t r) f in
-        let k : earlier (terms_fault enums ts) (operator_fault enums o (types_of ts)) ≡ None = none-second (type_fault enums t) _ e in
+        let e : option_or (type_fault enums t) (option_or (terms_fault enums ts) (operator_fault enums o (types_of ts))) ≡ None = not-passed (is_passed_over o (types_of ts) t) _ (walked enums o (types_of ts) t r) f in
+        let k : option_or (terms_fault enums ts) (operator_fault enums o (types_of ts)) ≡ None = none-second (type_fault enums t) _ e in
         all-join P (subterms_of_all ts) (Application o ts t ∷ []) (all_given ts (first_so (typed_all ts) (is_type (result_type o (types_of ts)) t) h) (none-first (terms_fault enums ts) (operator_fault enums o (types_of ts)) k)) (given_op o (types_of ts) t (none-first (type_fault enums t) _ e) (none-second (terms_fault enums ts) (operator_fault enums o (types_of ts)) k), tt)
     given (NoneTerm t) h f = (tt, tt)
     given (LiteralTerm l) h f = (tt, tt)
     given (RecordTerm fs) h f = all-join P (subterms_of_fields fs) (RecordTerm fs ∷ []) (fields_given fs h (none-second (type_fault enums (RecordType (field_types fs))) (fields_fault enums fs) f)) (tt, tt)
-    given (SetTerm t ts) h f = all-join P (subterms_of_all ts) (SetTerm t ts ∷ []) (all_given ts (first_so (typed_all ts) (list_all (type_eq t) (types_of ts)) h) (none-second (type_fault enums t) (terms_fault enums ts) f)) (tt, tt)
+    given (SetTerm t ts) h f = all-join P (subterms_of_all ts) (SetTerm t ts ∷ []) (all_given ts (first_so (typed_all ts) (are_elements t ts) h) (none-second (type_fault enums t) (terms_fault enums ts) f)) (tt, tt)
     given (SomeTerm t) h f = all-join P (subterms t) (SomeTerm t ∷ []) (given t h (none-second (type_fault enums (type_of t)) (term_fault enums t) f)) (tt, tt)
     given (VariableTerm id t) h f = (is_default t f, tt)
 

@@ -11,19 +11,22 @@ use Rattle.std.specs.formers.vec.Vec as vec
 use denote.Hole.Carrier
 use denote.Hole.Compared
 use mathlib.Core.Former
+use Rattle.smt_term.proofs.PatternOrder.{pattern_cmp-is}
 use Rattle.smt_term.specs.TermOrder.{op_cmp, literal_cmp, term_cmp, terms_cmp}
 use Rattle.smt_term.specs.Types.{type_cmp}
 use Rattle.smt_term.specs.ValueOrder.{text_cmp}
 use Rattle.smt_term.specs.View.{plain_type, plain_op, plain_literal, plain_term, plain_row}
-use Rattle.smt_term.specs.declared.types.TermType.{TermType}
-use Rattle.smt_term.specs.declared.types.TermType.TheVariants.{Bitvec, Bool}
+use Rattle.smt_term.specs.declared.types.TermType.{TermType, Option', Bitvec, Bool, String, Set' as SetOf'}
+use Rattle.smt_term.specs.declared.types.TermType.TheViews as type_views
+use Rattle.smt_term.specs.contracts.types.TermTypeOrd.TheImpl.Laws as type_laws
 use Rattle.smt_term.specs.declared.op.Op.{Op}
-use Rattle.smt_term.specs.declared.op.Op.TheVariants.{And, Bvadd, Bvlshr, Bvmul, Bvneg, Bvnego, Bvsaddo, Bvsdiv, Bvshl, Bvsle, Bvslt, Bvsmod, Bvsmulo, Bvsrem, Bvssubo, Bvsub, Bvudiv, Bvule, Bvult, Bvurem, Eq, Ite, Not, Or, ZeroExtend}
+use Rattle.smt_term.specs.declared.op.Op.TheVariants.{And, Bvadd, Bvlshr, Bvmul, Bvneg, Bvnego, Bvsaddo, Bvsdiv, Bvshl, Bvsle, Bvslt, Bvsmod, Bvsmulo, Bvsrem, Bvssubo, Bvsub, Bvudiv, Bvule, Bvult, Bvurem, Eq, Ite, Not, OptionGet, Or, SetInter, SetMember, SetSubset, StringLike, ZeroExtend}
 use Rattle.smt_term.specs.declared.term.TermPrim.{TermPrim}
-use Rattle.smt_term.specs.declared.term.TermPrim.TheVariants.{Bitvec as BitsLiteral, Bool as TruthLiteral}
-use Rattle.smt_term.specs.declared.term.Term.{Term, App', Prim, Var, Row_of-Term, end_of-Term, more_of-Term}
+use Rattle.smt_term.specs.declared.term.TermPrim.TheVariants.{Bitvec as BitsLiteral, Bool as TruthLiteral, String as TextLiteral}
+use Rattle.smt_term.specs.declared.term.Term.{Term, App', None, Prim, Set', Some', Var, Row_of-Term, end_of-Term, more_of-Term}
 use Rattle.smt_term.specs.declared.term.Term.TheViews as views
 use Rattle.smt_term.specs.declared.term.Term.TheBlock as block
+use Rattle.smt_term.specs.declared.term.TermSet.{TermSet}
 use Rattle.smt_term.specs.declared.term.TermList.{TermList, items-the_row-Term, items_shown-the_row-Term-0}
 use Rattle.smt_term.specs.contracts.types.TermTypeOrd.TheImpl as type_ord
 use Rattle.smt_term.specs.contracts.op.OpOrd.TheImpl as op_ord
@@ -39,9 +42,13 @@ abbrev pub derived_term_cmp : Term → Term → Ordering
 derived_term_cmp = term_ord.ghosts.cmp
 
 pub type_cmp-is : (a b : TermType) → derived_type_cmp a b ≡ type_cmp (plain_type a) (plain_type b)
-type_cmp-is (Bitvec n) (Bitvec m) = refl
-type_cmp-is Bool Bool = refl
-type_cmp-is a b = refl
+unfolding plain_type type_views.out-TermType Carrier.out
+type_cmp-is (Option' p t) (Option' q u) = type_laws.is (Option' p t) (Option' q u) ∙ type_cmp-is t u
+type_cmp-is (Bitvec n) (Bitvec m) = type_laws.is (Bitvec n) (Bitvec m)
+type_cmp-is Bool Bool = type_laws.is Bool Bool
+type_cmp-is String String = type_laws.is String String
+type_cmp-is (SetOf' p t) (SetOf' q u) = type_laws.is (SetOf' p t) (SetOf' q u) ∙ type_cmp-is t u
+type_cmp-is a b = type_laws.is a b
 
 pub op_cmp-is : (a b : Op) → op_ord.ghosts.cmp a b ≡ op_cmp (plain_op a) (plain_op b)
 op_cmp-is And And = refl
@@ -67,13 +74,19 @@ op_cmp-is Bvurem Bvurem = refl
 op_cmp-is Eq Eq = refl
 op_cmp-is Ite Ite = refl
 op_cmp-is Not Not = refl
+op_cmp-is OptionGet OptionGet = refl
 op_cmp-is Or Or = refl
+op_cmp-is SetInter SetInter = refl
+op_cmp-is SetMember SetMember = refl
+op_cmp-is SetSubset SetSubset = refl
+op_cmp-is (StringLike p) (StringLike q) = pattern_cmp-is p q
 op_cmp-is (ZeroExtend k) (ZeroExtend l) = refl
 op_cmp-is a b = refl
 
 pub literal_cmp-is : (a b : TermPrim) → literal_ord.ghosts.cmp a b ≡ literal_cmp (plain_literal a) (plain_literal b)
 literal_cmp-is (BitsLiteral x) (BitsLiteral y) = refl
 literal_cmp-is (TruthLiteral x) (TruthLiteral y) = refl
+literal_cmp-is (TextLiteral x) (TextLiteral y) = refl
 literal_cmp-is a b = refl
 
 -- a list of terms, taken apart into where it lies, its shape and its items
@@ -106,6 +119,26 @@ cmp-App : (o : Op) (p : Blank) (sh : Shape) (row : Row sh) (t : TermType) (o' : 
 unfolding views.out-Term Carrier.out
 cmp-App o p sh row t o' q sh' row' t' = term_laws.is (App' o p sh row t) (App' o' q sh' row' t')
 
+-- the same of sets
+abbrev set_family : TermSet → TermSet → Ordering
+set_family = term_laws.family block.member-TermSet
+
+set_family-is : (x y : TermSet) → set_family x y ≡ slice_cmp derived_term_cmp x.items.value.items y.items.value.items
+unfolding Carrier.out
+set_family-is x y =
+    Compared.compared_is block.the_members (Carrier.Values block.the_members block.the_sigs block.the_carrier) block.the_depth Ordering Equal term_ord.the_step term_laws.local block.member-TermSet x y
+
+abbrev set_made : (p : Blank) (sh : Shape) (row : Row sh) → TermSet
+set_made p sh row = record { items = record { ptr = p.ptr; value = block.shown-the_row-Term-0 sh row } }
+
+set_made-is : (p : Blank) (sh : Shape) (row : Row sh) (q : Blank) (sh' : Shape) (row' : Row sh') → set_family (set_made p sh row) (set_made q sh' row') ≡ slice_cmp derived_term_cmp (items-the_row-Term _ row) (items-the_row-Term _ row')
+set_made-is p sh row q sh' row' =
+    set_family-is (set_made p sh row) (set_made q sh' row') ∙ (ap (λ l. slice_cmp derived_term_cmp l (set_made q sh' row').items.value.items) (items_shown-the_row-Term-0 sh row) ∙ ap (λ l. slice_cmp derived_term_cmp (items-the_row-Term _ row) l) (items_shown-the_row-Term-0 sh' row'))
+
+cmp-Set : (t : TermType) (p : Blank) (sh : Shape) (row : Row sh) (t' : TermType) (q : Blank) (sh' : Shape) (row' : Row sh') → derived_term_cmp (Set' t p sh row) (Set' t' q sh' row') ≡ ordering_then (derived_type_cmp t t') (set_family (set_made p sh row) (set_made q sh' row'))
+unfolding views.out-Term Carrier.out
+cmp-Set t p sh row t' q sh' row' = term_laws.is (Set' t p sh row) (Set' t' q sh' row')
+
 mutual
   unfolding plain_term plain_row views.out-Term Carrier.out
 
@@ -113,7 +146,11 @@ mutual
   pub term_cmp-is : (a b : Term) → derived_term_cmp a b ≡ term_cmp (plain_term a) (plain_term b)
   term_cmp-is (App' o p sh row t) (App' o' q sh' row' t') =
       cmp-App o p sh row t o' q sh' row' t' ∙ (ap (λ r. ordering_then r (ordering_then (family (made p sh row) (made q sh' row')) (derived_type_cmp t t'))) (op_cmp-is o o') ∙ (ap (λ r. ordering_then (op_cmp (plain_op o) (plain_op o')) (ordering_then r (derived_type_cmp t t'))) (family_made-is p sh row q sh' row' ∙ rows_cmp-is row row') ∙ ap (λ r. ordering_then (op_cmp (plain_op o) (plain_op o')) (ordering_then (terms_cmp (plain_row row) (plain_row row')) r)) (type_cmp-is t t')))
+  term_cmp-is (None t) (None u) = term_laws.is (None t) (None u) ∙ type_cmp-is t u
   term_cmp-is (Prim x) (Prim y) = term_laws.is (Prim x) (Prim y) ∙ literal_cmp-is x y
+  term_cmp-is (Set' t p sh row) (Set' t' q sh' row') =
+      cmp-Set t p sh row t' q sh' row' ∙ (ap (λ r. ordering_then r (set_family (set_made p sh row) (set_made q sh' row'))) (type_cmp-is t t') ∙ ap (λ r. ordering_then (type_cmp (plain_type t) (plain_type t')) r) (set_made-is p sh row q sh' row' ∙ rows_cmp-is row row'))
+  term_cmp-is (Some' p x) (Some' q y) = term_laws.is (Some' p x) (Some' q y) ∙ term_cmp-is x y
   term_cmp-is (Var v) (Var w) = term_laws.is (Var v) (Var w) ∙ ap (λ o. ordering_then (text_cmp (rc_str_bytes v.id) (rc_str_bytes w.id)) o) (type_cmp-is v.ty w.ty)
   term_cmp-is a b = term_laws.is a b
 

@@ -2,37 +2,63 @@
 use Rattle.std.proofs.Common.{List, [], ◌∷◌, map, ap}
 use Rattle.std.specs.Rc.{rc_str_bytes}
 use Rattle.std.specs.List.{AllByRecursion}
-use Rattle.smt_term.specs.Formed.{IsFormedLiteral, IsFormedNode, IsFormedType}
-use Rattle.smt_term.specs.Plain.{PlainTerm}
+use Rattle.std.proofs.lemmas.Str.{IsUtf8-string_bytes}
+use Rattle.smt_term.specs.Formed.{IsFormedHere, IsFormedLiteral, IsFormedNode, IsFormedType}
+use Rattle.smt_term.specs.Plain.{PlainType, OptionType, SetType, PlainTerm, Application, NoneTerm, LiteralTerm, RecordTerm, SetTerm, SomeTerm, VariableTerm}
 use Rattle.smt_term.specs.Program.{TablesAreEmpty, TermsAreFormed}
-use Rattle.smt_term.specs.Reached.{subterms, subterms_of_all}
+use Rattle.smt_term.specs.Reached.{subterms, subterms_of_all, subterms_of_fields, types_within}
 use Rattle.smt_term.specs.Types.{literal_type, type_of}
 use Rattle.smt_term.specs.View.{plain_literal, plain_row, plain_term, plain_type}
-use Rattle.smt_term.specs.declared.term.Term.{Term, App', Prim, Var, Row_of-Term, end_of-Term, more_of-Term}
+use Rattle.smt_term.specs.declared.term.Term.{Term, App', None, Prim, Set', Some', Var, Row_of-Term, end_of-Term, more_of-Term}
 use Rattle.smt_term.specs.declared.term.TermPrim.{TermPrim}
-use Rattle.smt_term.specs.declared.term.TermPrim.TheVariants.{Bitvec as BitsLiteral, Bool as TruthLiteral}
-use Rattle.smt_term.specs.declared.types.TermType.{TermType}
-use Rattle.smt_term.specs.declared.types.TermType.TheVariants.{Bitvec, Bool}
+use Rattle.smt_term.specs.declared.term.TermPrim.TheVariants.{Bitvec as BitsLiteral, Bool as TruthLiteral, String as TextLiteral}
+use Rattle.smt_term.specs.declared.types.TermType.{TermType, Option', Bitvec, Bool, String, Set' as SetOf'}
 use Rattle.smt_term.proofs.Defaults.{all-join}
+use Rattle.smt_term.proofs.Soundness.{all-last}
 
 -- a term by itself and its type are formed
 abbrev IsFormedBoth : PlainTerm → Type 0
 IsFormedBoth t = IsFormedNode t × IsFormedType (type_of t)
 
+-- options and sets of a formed type are formed
+formed_option : (t : PlainType) → IsFormedType t → IsFormedType (OptionType t)
+formed_option t h = all-join IsFormedHere (types_within t) _ h (tt, tt)
+
+formed_set : (t : PlainType) → IsFormedType t → IsFormedType (SetType t)
+formed_set t h = all-join IsFormedHere (types_within t) _ h (tt, tt)
+
+-- a term is the last of its subterms
+own : (t : PlainTerm) → AllByRecursion IsFormedBoth (subterms t) → IsFormedType (type_of t)
+own (Application o ts t) h = (all-last IsFormedBoth (subterms_of_all ts) (Application o ts t) h).1
+own (NoneTerm t) h = h.0.1
+own (LiteralTerm l) h = h.0.1
+own (RecordTerm fs) h = (all-last IsFormedBoth (subterms_of_fields fs) (RecordTerm fs) h).1
+own (SetTerm t ts) h = (all-last IsFormedBoth (subterms_of_all ts) (SetTerm t ts) h).1
+own (SomeTerm t) h = (all-last IsFormedBoth (subterms t) (SomeTerm t) h).1
+own (VariableTerm id t) h = h.0.1
+
 formed_type : (t : TermType) → IsFormedType (plain_type t)
+unfolding plain_type
+formed_type (Option' p t) = formed_option (plain_type t) (formed_type t)
 formed_type (Bitvec n) = ((n.at_least_one, n.at_most_128), tt)
 formed_type Bool = (tt, tt)
+formed_type String = (tt, tt)
+formed_type (SetOf' p t) = formed_set (plain_type t) (formed_type t)
 
 formed_literal : (l : TermPrim) → IsFormedLiteral (plain_literal l) × IsFormedType (literal_type (plain_literal l))
 formed_literal (BitsLiteral b) = (b.below_width, ((b.width.at_least_one, b.width.at_most_128), tt))
 formed_literal (TruthLiteral b) = (tt, (tt, tt))
+formed_literal (TextLiteral s) = (IsUtf8-string_bytes s.text.value, (tt, tt))
 
 mutual
   unfolding plain_term plain_row
 
   formed_term : (t : Term) → AllByRecursion IsFormedBoth (subterms (plain_term t))
   formed_term (App' op p shape row type) = all-join IsFormedBoth (subterms_of_all (plain_row row)) _ (formed_row row) ((tt, formed_type type), tt)
+  formed_term (None type) = ((tt, formed_option (plain_type type) (formed_type type)), tt)
   formed_term (Prim literal) = (formed_literal literal, tt)
+  formed_term (Set' element p shape row) = all-join IsFormedBoth (subterms_of_all (plain_row row)) _ (formed_row row) ((tt, formed_set (plain_type element) (formed_type element)), tt)
+  formed_term (Some' p t) = all-join IsFormedBoth (subterms (plain_term t)) _ (formed_term t) ((tt, formed_option (type_of (plain_term t)) (own (plain_term t) (formed_term t))), tt)
   formed_term (Var v) = ((tt, formed_type v.ty), tt)
 
   formed_row : {m : _} (row : Row_of-Term m) → AllByRecursion IsFormedBoth (subterms_of_all (plain_row row))

@@ -15,11 +15,14 @@ use Rattle.smt_term.specs.Operators.{truth, width, number, characters, elements,
 use Rattle.smt_term.specs.Reached.{subterms, subterms_of_all, subterms_of_fields}
 use Rattle.smt_term.specs.Tables.{Interpretation}
 use Rattle.smt_term.specs.TermOrder.{term_cmp}
-use Rattle.smt_term.specs.Types.{inner_type, type_eq, type_of, field_types, types_of, typed, typed_all, typed_fields}
+use Rattle.smt_term.specs.Types.{inner_type, type_eq, type_of, field_types, types_of}
+use Rattle.smt_term.specs.Typing.{are_elements, typed, typed_all, typed_fields}
+use Rattle.smt_term.proofs.Elements.{elements_ascend, typed_elements}
 use Rattle.smt_term.specs.ValueOrder.{value_place, sorted_values, set_of}
-use Rattle.smt_term.proofs.SortedSets.{IsIn, one_list, in-sorted, out-sorted}
+use Rattle.smt_term.proofs.Sorted.{IsIn, one_list}
+use Rattle.smt_term.proofs.SortedSets.{in-sorted, out-sorted}
 use Rattle.smt_term.proofs.SortedValues.{list-values}
-use Rattle.smt_term.proofs.Soundness.{all-front, all-back, all-last}
+use Rattle.smt_term.proofs.Soundness.{all-front, all-back}
 use Rattle.smt_term.proofs.TypeOrder.{eq_same}
 use Rattle.smt_term.specs.Plain.{PlainType, BoolType, RecordType, SetType, AttributeTypes, no_attributes, attribute, PlainExtension, PlainLiteral, BitVecLiteral, BoolLiteral, EntityLiteral, ExtensionLiteral, StringLiteral, PlainTerm, NoneTerm, LiteralTerm, RecordTerm, SetTerm, SomeTerm, PlainTerms, no_terms, one_term, PlainFields, no_fields, one_field, terms, list_of_terms}
 use Rattle.smt_term.specs.Values.{Value, EntityValue, ExtensionValue, NoneValue, SomeValue, RecordValue, FieldValues, no_field_values, one_field_value}
@@ -147,12 +150,12 @@ module _ (I : Interpretation) where
         ap RecordTerm (same_fields fs gs g.0 k.0 g.1 k.1 (all-front IsFormedNode (subterms_of_fields fs) (RecordTerm fs ∷ []) g.2) (all-front IsFormedNode (subterms_of_fields gs) (RecordTerm gs ∷ []) k.2) (ap attributes_of e) (ap fields_of v))
     same (SetTerm a ts) (SetTerm b us) g k e v =
         let p : a ≡ b = ap element_type e in
-        let gs : Goods ts = (g.0, first_so (typed_all ts) (list_all (type_eq a) (types_of ts)) g.1, all-front IsFormedNode (subterms_of_all ts) (SetTerm a ts ∷ []) g.2) in
-        let ks : Goods us = (k.0, first_so (typed_all us) (list_all (type_eq b) (types_of us)) k.1, all-front IsFormedNode (subterms_of_all us) (SetTerm b us ∷ []) k.2) in
-        let ga : Of a ts = second_so (typed_all ts) (list_all (type_eq a) (types_of ts)) g.1 in
-        let kb : Of b us = second_so (typed_all us) (list_all (type_eq b) (types_of us)) k.1 in
+        let gs : Goods ts = (g.0, first_so (typed_all ts) (are_elements a ts) g.1, all-front IsFormedNode (subterms_of_all ts) (SetTerm a ts ∷ []) g.2) in
+        let ks : Goods us = (k.0, first_so (typed_all us) (are_elements b us) k.1, all-front IsFormedNode (subterms_of_all us) (SetTerm b us ∷ []) k.2) in
+        let ga : Of a ts = typed_elements a ts (second_so (typed_all ts) (are_elements a ts) g.1) in
+        let kb : Of b us = typed_elements b us (second_so (typed_all us) (are_elements b us) k.1) in
         let ka : Of a us = subst (λ x. Of x us) (sym p) kb in
-        let q : list_of_terms ts ≡ list_of_terms us = one_list term_cmp terms_total (list_of_terms ts) (list_of_terms us) (all-last IsFormedNode (subterms_of_all ts) (SetTerm a ts) g.2) (all-last IsFormedNode (subterms_of_all us) (SetTerm b us) k.2) (all_in a ts us gs ks ga ka (set_in ts us v)) (all_found (list_of_terms ts) us ks a ka (λ u w s m. in_all a ts u gs w ga s (set_in us ts (sym v) (meaning I u) m))) in
+        let q : list_of_terms ts ≡ list_of_terms us = one_list term_cmp terms_total (list_of_terms ts) (list_of_terms us) (elements_ascend a ts (second_so (typed_all ts) (are_elements a ts) g.1)) (elements_ascend b us (second_so (typed_all us) (are_elements b us) k.1)) (all_in a ts us gs ks ga ka (set_in ts us v)) (all_found (list_of_terms ts) us ks a ka (λ u w s m. in_all a ts u gs w ga s (set_in us ts (sym v) (meaning I u) m))) in
         let r : ts ≡ us = sym (terms-again ts) ∙ (ap terms q ∙ terms-again us) in
         λ i. SetTerm (p i) (r i)
     same (LiteralTerm l) (NoneTerm b) g k e v = absurd (literal_apart l NoneValue refl v)

@@ -3,8 +3,10 @@ use Rattle.std.proofs.Common.{◌≡◌, ℕ, Bool, true, false, List, [], ◌�
 use Rattle.std.specs.Prelude.{Option, Some, None, IfSome}
 use Rattle.std.specs.Cmp.{first_so, second_so}
 use Rattle.std.specs.List.{list_all}
-use Rattle.smt_term.specs.Faults.{Fault, EnumMissingMember, EncodeStringFailed, EncodePatternFailed, earlier, unless, fault_unless, is_string, is_pattern_part, entity_type_fault, entity_fault, literal_fault, attribute_fault, record_get_fault, is_passed_over, type_fault, attribute_types_fault, operator_fault, term_fault, terms_fault, fields_fault, is_about_records}
-use Rattle.smt_term.specs.Types.{type_of, field_types, types_of, attribute_in, attribute_type, result_type, is_type, typed, typed_all, typed_fields, type_eq}
+use Rattle.std.specs.Option.{option_or}
+use Rattle.smt_term.specs.Faults.{Fault, EnumMissingMember, EncodeStringFailed, EncodePatternFailed, unless, fault_unless, is_string, is_pattern_part, entity_type_fault, entity_fault, literal_fault, attribute_fault, record_get_fault, is_passed_over, type_fault, attribute_types_fault, operator_fault, term_fault, terms_fault, fields_fault, is_about_records}
+use Rattle.smt_term.specs.Types.{type_of, field_types, types_of, attribute_in, attribute_type, result_type, is_type}
+use Rattle.smt_term.specs.Typing.{are_elements, typed, typed_all, typed_fields}
 use Rattle.smt_term.specs.TypeValues.{Enums, members_of}
 use Rattle.smt_term.proofs.Soundness.{is_type-some}
 use Rattle.smt_term.specs.Plain.{PlainType, OptionType, EntityType, RecordType, SetType, AttributeTypes, no_attributes, attribute, PlainOp, RecordGetOp, StringLikeOp, UufOp, PlainLiteral, EntityLiteral, StringLiteral, PlainTerm, Application, NoneTerm, LiteralTerm, RecordTerm, SetTerm, SomeTerm, VariableTerm, PlainTerms, no_terms, one_term, PlainFields, no_fields, one_field}
@@ -12,7 +14,7 @@ use Rattle.smt_term.specs.Plain.{PlainType, OptionType, EntityType, RecordType, 
 abbrev IsFine : Option Fault → Type 0
 IsFine o = IfSome o (λ f. is_about_records f ≡ false)
 
-fine_both : (o p : Option Fault) → IsFine o → IsFine p → IsFine (earlier o p)
+fine_both : (o p : Option Fault) → IsFine o → IsFine p → IsFine (option_or o p)
 fine_both None p h g = g
 fine_both (Some f) p h g = h
 
@@ -75,7 +77,7 @@ module _ (enums : Enums) where
     fine (NoneTerm t) h = fine_type t
     fine (LiteralTerm l) h = fine_both (type_fault enums (type_of (LiteralTerm l))) (literal_fault enums l) (fine_type (type_of (LiteralTerm l))) (fine_literal l)
     fine (RecordTerm fs) h = fine_both (type_fault enums (RecordType (field_types fs))) (fields_fault enums fs) (fine_type (RecordType (field_types fs))) (fine_fields fs h)
-    fine (SetTerm t ts) h = fine_both (type_fault enums t) (terms_fault enums ts) (fine_type t) (fine_all ts (first_so (typed_all ts) (list_all (type_eq t) (types_of ts)) h))
+    fine (SetTerm t ts) h = fine_both (type_fault enums t) (terms_fault enums ts) (fine_type t) (fine_all ts (first_so (typed_all ts) (are_elements t ts) h))
     fine (SomeTerm t) h = fine_both (type_fault enums (type_of t)) (term_fault enums t) (fine_type (type_of t)) (fine t h)
     fine (VariableTerm id t) h = fine_type t
 

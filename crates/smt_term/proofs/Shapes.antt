@@ -13,7 +13,9 @@ use Rattle.smt_term.specs.Operators.{truth, width, number, elements, field_value
 use Rattle.smt_term.specs.Reached.{subterms, subterms_of_all, subterms_of_fields}
 use Rattle.smt_term.specs.Shapes.{IsShaped, AreShapedFields}
 use Rattle.smt_term.specs.Tables.{Interpretation, value_at}
-use Rattle.smt_term.specs.Types.{type_eq, literal_type, type_of, field_types, types_of, is_bits, is_set, inner_type, attribute_in, attribute_type, extended_type, bits_and_bits, extension_signature, result_type, is_type, typed, typed_all, typed_fields}
+use Rattle.smt_term.specs.Types.{type_eq, literal_type, type_of, field_types, types_of, is_bits, is_set, inner_type, attribute_in, attribute_type, extended_type, bits_and_bits, extension_signature, result_type, is_type}
+use Rattle.smt_term.specs.Typing.{are_elements, typed, typed_all, typed_fields}
+use Rattle.smt_term.proofs.Elements.{typed_elements}
 use Rattle.smt_term.specs.TypeValues.{Enums, IsValue, AreFieldValues}
 use Rattle.smt_term.specs.ValueOrder.{value_cmp, ascends, list_of_values, sorted_values, set_of}
 use Rattle.smt_term.proofs.SortedValues.{ascends-sorted, all-sorted, all-filtered, list-values}
@@ -210,7 +212,7 @@ module _ (enums : Enums) where
     term_shaped I (RecordTerm fs) h w g =
         all_fields_shaped I fs h (all-front IsFormedNode (subterms_of_fields fs) (RecordTerm fs ∷ []) w) (all-front (IsGiven enums I) (subterms_of_fields fs) (RecordTerm fs ∷ []) g)
     term_shaped I (SetTerm t ts) h w g =
-        set_shaped t (meanings I ts) (elements_shaped I t ts (second_so (typed_all ts) (list_all (type_eq t) (types_of ts)) h) (all_shaped I ts (first_so (typed_all ts) (list_all (type_eq t) (types_of ts)) h) (all-front IsFormedNode (subterms_of_all ts) (SetTerm t ts ∷ []) w) (all-front (IsGiven enums I) (subterms_of_all ts) (SetTerm t ts ∷ []) g)))
+        set_shaped t (meanings I ts) (elements_shaped I t ts (typed_elements t ts (second_so (typed_all ts) (are_elements t ts) h)) (all_shaped I ts (first_so (typed_all ts) (are_elements t ts) h) (all-front IsFormedNode (subterms_of_all ts) (SetTerm t ts ∷ []) w) (all-front (IsGiven enums I) (subterms_of_all ts) (SetTerm t ts ∷ []) g)))
     term_shaped I (SomeTerm t) h w g =
         term_shaped I t h (all-front IsFormedNode (subterms t) (SomeTerm t ∷ []) w) (all-front (IsGiven enums I) (subterms t) (SomeTerm t ∷ []) g)
     term_shaped I (VariableTerm id t) h w g = shaped t (I.variable id t) g.0

@@ -8,14 +8,17 @@ use Rattle.std.specs.Str.{chars}
 use Rattle.std.proofs.lemmas.Bool.{leb-true, leb-false}
 use Rattle.smt_bits.specs.BitVectors as bits
 use Rattle.smt_bits.specs.BitVectors.{signed, bits_of, is_negative}
-use Rattle.smt_term.specs.Faults.{Fault, earlier, unless, fault_unless, is_string, entity_fault, literal_fault, is_passed_over, type_fault, operator_fault, term_fault, terms_fault, fields_fault}
+use Rattle.std.specs.Option.{option_or}
+use Rattle.smt_term.specs.Faults.{Fault, unless, fault_unless, is_string, entity_fault, literal_fault, is_passed_over, type_fault, operator_fault, term_fault, terms_fault, fields_fault}
 use Rattle.smt_term.specs.Formed.{IsFormedLiteral, IsFormedNode}
 use Rattle.smt_term.specs.Interpretations.{IsGivenSelector, IsGivenOp, IsGiven}
 use Rattle.smt_term.specs.Meaning.{literal_value, meaning, meanings, field_meanings}
 use Rattle.smt_term.specs.Operators.{truth, width, number, elements, field_value, attribute_value, intersection, is_member, value_inside, prefix_value, apply_extension, to_bits, apply}
 use Rattle.smt_term.specs.Reached.{subterms, subterms_of_all, subterms_of_fields}
 use Rattle.smt_term.specs.Tables.{Interpretation, value_among, value_at}
-use Rattle.smt_term.specs.Types.{type_eq, literal_type, type_of, field_types, types_of, is_bits, is_set, inner_type, attribute_in, attribute_type, extended_type, bits_and_bits, extension_signature, result_type, is_type, typed, typed_all, typed_fields}
+use Rattle.smt_term.specs.Types.{type_eq, literal_type, type_of, field_types, types_of, is_bits, is_set, inner_type, attribute_in, attribute_type, extended_type, bits_and_bits, extension_signature, result_type, is_type}
+use Rattle.smt_term.specs.Typing.{are_elements, typed, typed_all, typed_fields}
+use Rattle.smt_term.proofs.Elements.{typed_elements}
 use Rattle.smt_term.specs.TypeValues.{Enums, members_of, greatest_code_point, AreCodePoints, IsId, IsLong, IsPrefix, IsValue, AreFieldValues}
 use Rattle.smt_term.specs.ValueOrder.{value_eq, value_cmp, ascends, list_of_values, sorted_values, set_of}
 use Rattle.smt_bits.proofs.BitRanges as ranges
@@ -48,11 +51,11 @@ pub chosen : (b : Bool) (t u : PlainType) → then_some b t ≡ Some u → (b �
 chosen true t u h = (refl, inside t u h)
 chosen false t u h = cc
 
-pub none-first : (f g : Option Fault) → earlier f g ≡ None → f ≡ None
+pub none-first : (f g : Option Fault) → option_or f g ≡ None → f ≡ None
 none-first None g h = refl
 none-first (Some f) g h = cc
 
-pub none-second : (f g : Option Fault) → earlier f g ≡ None → g ≡ None
+pub none-second : (f g : Option Fault) → option_or f g ≡ None → g ≡ None
 none-second None g h = h
 none-second (Some f) g h = cc
 
@@ -290,14 +293,14 @@ module _ (enums : Enums) where
     pub valued : (I : Interpretation) (t : PlainTerm) → typed t ≡ true → term_fault enums t ≡ None → Formed (subterms t) → Given I (subterms t) → IsValue enums (type_of t) (meaning I t)
     valued I (Application o ts t) h f w g =
         let r : result_type o (types_of ts) ≡ Some t = is_type-some (result_type o (types_of ts)) t (second_so (typed_all ts) (is_type (result_type o (types_of ts)) t) h) in
-        let e : earlier (type_fault enums t) (earlier (terms_fault enums ts) (operator_fault enums o (types_of ts))) ≡ None = not-passed (is_passed_over o (types_of ts) t) _ (walked o (types_of ts) t r) f in
+        let e : option_or (type_fault enums t) (option_or (terms_fault enums ts) (operator_fault enums o (types_of ts))) ≡ None = not-passed (is_passed_over o (types_of ts) t) _ (walked o (types_of ts) t r) f in
         applied I o ts t r (all_valued I ts (first_so (typed_all ts) (is_type (result_type o (types_of ts)) t) h) (none-first (terms_fault enums ts) (operator_fault enums o (types_of ts)) (none-second (type_fault enums t) _ e)) (all-front IsFormedNode (subterms_of_all ts) (Application o ts t ∷ []) w) (all-front (IsGiven enums I) (subterms_of_all ts) (Application o ts t ∷ []) g)) (all-last (IsGiven enums I) (subterms_of_all ts) (Application o ts t) g)
     valued I (NoneTerm t) h f w g = tt
     valued I (LiteralTerm l) h f w g = literal_result l (none-second (type_fault enums (literal_type l)) (literal_fault enums l) f) w.0
     valued I (RecordTerm fs) h f w g =
         fields_valued I fs h (none-second (type_fault enums (RecordType (field_types fs))) (fields_fault enums fs) f) (all-front IsFormedNode (subterms_of_fields fs) (RecordTerm fs ∷ []) w) (all-front (IsGiven enums I) (subterms_of_fields fs) (RecordTerm fs ∷ []) g)
     valued I (SetTerm t ts) h f w g =
-        set_value t (meanings I ts) (elements_valued I t ts (second_so (typed_all ts) (list_all (type_eq t) (types_of ts)) h) (all_valued I ts (first_so (typed_all ts) (list_all (type_eq t) (types_of ts)) h) (none-second (type_fault enums t) (terms_fault enums ts) f) (all-front IsFormedNode (subterms_of_all ts) (SetTerm t ts ∷ []) w) (all-front (IsGiven enums I) (subterms_of_all ts) (SetTerm t ts ∷ []) g)))
+        set_value t (meanings I ts) (elements_valued I t ts (typed_elements t ts (second_so (typed_all ts) (are_elements t ts) h)) (all_valued I ts (first_so (typed_all ts) (are_elements t ts) h) (none-second (type_fault enums t) (terms_fault enums ts) f) (all-front IsFormedNode (subterms_of_all ts) (SetTerm t ts ∷ []) w) (all-front (IsGiven enums I) (subterms_of_all ts) (SetTerm t ts ∷ []) g)))
     valued I (SomeTerm t) h f w g =
         valued I t h (none-second (type_fault enums (type_of t)) (term_fault enums t) f) (all-front IsFormedNode (subterms t) (SomeTerm t ∷ []) w) (all-front (IsGiven enums I) (subterms t) (SomeTerm t ∷ []) g)
     valued I (VariableTerm id t) h f w g = g.0

@@ -11,7 +11,9 @@ use Rattle.smt_term.specs.Patterns.{matches}
 use Rattle.smt_term.specs.Reached.{subterms, reached_variables, reached_functions, reached_options, reached_selectors, reached_types}
 use Rattle.smt_term.specs.Tables.{Interpretation}
 use Rattle.smt_term.specs.TermOrder.{term_cmp}
-use Rattle.smt_term.specs.Types.{type_of, result_type, typed}
+use Rattle.smt_term.specs.TermSets.{set_term}
+use Rattle.smt_term.specs.Types.{type_of, result_type}
+use Rattle.smt_term.specs.Typing.{typed}
 use Rattle.smt_term.specs.TypeValues.{Enums, IsExtension, IsValue}
 use Rattle.smt_term.specs.ValueOrder.{value_cmp, ascends, set_of}
 use Rattle.smt_term.specs.Plain.{IpAddrKind, DecimalKind, PlainType, OptionType, BitVecType, BoolType, EntityType, ExtensionType, StringType, RecordType, SetType, no_attributes, attribute, PlainFunction, PatternPart, Character, Wildcard, DatetimeOfBitVecOp, DecimalValOp, IpAddrV4Op, IpAddrV6Op, IpIsV4Op, IpPrefixV4Op, IpPrefixV6Op, PlainOp, AndOp, BvaddOp, BvlshrOp, BvmulOp, BvnegOp, BvnegoOp, BvsaddoOp, BvsdivOp, BvshlOp, BvsleOp, BvsltOp, BvsmodOp, BvsmuloOp, BvsremOp, BvssuboOp, BvsubOp, BvudivOp, BvuleOp, BvultOp, BvuremOp, EqOp, ExtOp, IteOp, NotOp, OptionGetOp, OrOp, RecordGetOp, SetInterOp, SetMemberOp, SetSubsetOp, StringLikeOp, UufOp, ZeroExtendOp, PlainExtension, DecimalOf, Ipv4Of, Ipv6Of, DatetimeOf, BitVecLiteral, EntityLiteral, ExtensionLiteral, StringLiteral, PlainTerm, Application, NoneTerm, LiteralTerm, RecordTerm, SetTerm, SomeTerm, VariableTerm, no_terms, no_fields, one_field, terms}
@@ -207,6 +209,9 @@ pub record TypeRows : Type 0 where
   -- each of these would be typed but for one part
   pub ill_typed : map typed (Application BvaddOp (terms (one_byte 1 ∷ one_byte 2 ∷ [])) bits_16 ∷ SomeTerm ill ∷ RecordTerm (one_field (codes "a") ill no_fields) ∷ SetTerm BoolType (terms (ill ∷ [])) ∷ SetTerm bits_16 (terms (one_byte 1 ∷ [])) ∷ [])
       ≡ false ∷ false ∷ false ∷ false ∷ false ∷ []
+  -- elements that stand twice, or in the other order
+  pub no_sets_of_order : map typed (SetTerm bits_8 (terms (one_byte 1 ∷ one_byte 1 ∷ [])) ∷ SetTerm bits_8 (terms (one_byte 2 ∷ one_byte 1 ∷ [])) ∷ SetTerm bits_8 (terms (one_byte 1 ∷ one_byte 2 ∷ [])) ∷ []) ≡ false ∷ false ∷ true ∷ []
+  pub in_order : set_term bits_8 (one_byte 2 ∷ one_byte 1 ∷ one_byte 2 ∷ []) ≡ SetTerm bits_8 (terms (one_byte 1 ∷ one_byte 2 ∷ []))
   pub well_typed : map typed (Application BvaddOp (terms (one_byte 1 ∷ one_byte 2 ∷ [])) bits_8 ∷ SetTerm bits_8 (terms (one_byte 1 ∷ [])) ∷ NoneTerm bits_8 ∷ []) ≡ true ∷ true ∷ true ∷ []
 
 -- ---- values of types

@@ -1,6 +1,7 @@
 -- The first fault that an encoder meets: a term's type, then its parts in order, then the term itself.
 use Rattle.std.specs.Prelude.{bytes_eq, ℕ, Bool, true, false, not, List, [], ◌∷◌, Option, Some, None}
 use Rattle.std.specs.List.{list_all, list_any}
+use Rattle.std.specs.Option.{option_or}
 use Rattle.std.specs.Str.{chars}
 use Rattle.smt_term.specs.Types.{type_of, types_of, is_bits, attribute_in}
 use Rattle.smt_term.specs.TypeValues.{Enums, members_of, is_code_point}
@@ -22,11 +23,6 @@ is_about_records (MissingTypeEncoding t) = true
 is_about_records (ExpectRecord t) = true
 is_about_records (RecordMissingAttr x) = true
 is_about_records f = false
-
--- the first of two, where there is one
-abbrev pub earlier : Option Fault → Option Fault → Option Fault
-earlier None g = g
-earlier (Some f) g = Some f
 
 abbrev pub unless : Bool → Option Fault → Option Fault
 unless true f = None
@@ -85,11 +81,11 @@ module _ (enums : Enums) where
 
     pub attribute_types_fault : AttributeTypes → Option Fault
     attribute_types_fault no_attributes = None
-    attribute_types_fault (attribute a t x) = earlier (type_fault t) (attribute_types_fault x)
+    attribute_types_fault (attribute a t x) = option_or (type_fault t) (attribute_types_fault x)
 
   -- of an application itself, after its arguments
   abbrev pub operator_fault : PlainOp → List PlainType → Option Fault
-  operator_fault (UufOp f) ts = earlier (type_fault f.argument) (type_fault f.output)
+  operator_fault (UufOp f) ts = option_or (type_fault f.argument) (type_fault f.output)
   operator_fault (StringLikeOp p) ts = fault_unless (list_all is_pattern_part p) (EncodePatternFailed p)
   operator_fault (RecordGetOp x) ts = record_get_fault x ts
   operator_fault o ts = None
@@ -97,22 +93,22 @@ module _ (enums : Enums) where
   abbrev mutual
     pub term_fault : PlainTerm → Option Fault
     term_fault (Application o ts t) =
-        unless (is_passed_over o (types_of ts) t) (earlier (type_fault t) (earlier (terms_fault ts) (operator_fault o (types_of ts))))
+        unless (is_passed_over o (types_of ts) t) (option_or (type_fault t) (option_or (terms_fault ts) (operator_fault o (types_of ts))))
     term_fault (NoneTerm t) = type_fault t
-    term_fault (LiteralTerm l) = earlier (type_fault (type_of (LiteralTerm l))) (literal_fault enums l)
-    term_fault (RecordTerm fs) = earlier (type_fault (type_of (RecordTerm fs))) (fields_fault fs)
-    term_fault (SetTerm t ts) = earlier (type_fault t) (terms_fault ts)
-    term_fault (SomeTerm t) = earlier (type_fault (type_of t)) (term_fault t)
+    term_fault (LiteralTerm l) = option_or (type_fault (type_of (LiteralTerm l))) (literal_fault enums l)
+    term_fault (RecordTerm fs) = option_or (type_fault (type_of (RecordTerm fs))) (fields_fault fs)
+    term_fault (SetTerm t ts) = option_or (type_fault t) (terms_fault ts)
+    term_fault (SomeTerm t) = option_or (type_fault (type_of t)) (term_fault t)
     term_fault (VariableTerm id t) = type_fault t
 
     pub terms_fault : PlainTerms → Option Fault
     terms_fault no_terms = None
-    terms_fault (one_term t ts) = earlier (term_fault t) (terms_fault ts)
+    terms_fault (one_term t ts) = option_or (term_fault t) (terms_fault ts)
 
     pub fields_fault : PlainFields → Option Fault
     fields_fault no_fields = None
-    fields_fault (one_field a t fs) = earlier (term_fault t) (fields_fault fs)
+    fields_fault (one_field a t fs) = option_or (term_fault t) (fields_fault fs)
 
   abbrev pub first_fault : List PlainTerm → Option Fault
   first_fault [] = None
-  first_fault (t ∷ ts) = earlier (term_fault t) (first_fault ts)
+  first_fault (t ∷ ts) = option_or (term_fault t) (first_fault ts)

@@ -1,13 +1,11 @@
--- What the program's types keep of every term: widths, numbers within range, texts in UTF-8, attributes in ascending order,
--- and the elements of a set in the order of terms, which is not the order of their values.
+-- What the program's types keep of every term: widths, numbers within range, texts in UTF-8, attributes in ascending order.
 use Rattle.std.specs.Prelude.{ℕ, ◌^◌, ◌<◌, ◌≤◌, List, [], ◌∷◌, IsTrue, IsUtf8, ⊤}
 use Rattle.std.specs.List.{AllByRecursion}
 use Rattle.smt_term.specs.Reached.{subterms, types_within}
-use Rattle.smt_term.specs.TermOrder.{term_cmp}
 use Rattle.smt_term.specs.Types.{type_of}
 use Rattle.smt_term.specs.TypeValues.{IsExtension}
 use Rattle.smt_term.specs.ValueOrder.{text_cmp, ascends}
-use Rattle.smt_term.specs.Plain.{IpAddrKind, DecimalKind, DatetimeKind, DurationKind, PlainType, BitVecType, RecordType, AttributeTypes, no_attributes, attribute, PlainExtension, DecimalOf, Ipv4Of, Ipv6Of, DatetimeOf, DurationOf, PlainLiteral, BitVecLiteral, BoolLiteral, EntityLiteral, ExtensionLiteral, StringLiteral, PlainTerm, LiteralTerm, SetTerm, list_of_terms}
+use Rattle.smt_term.specs.Plain.{IpAddrKind, DecimalKind, DatetimeKind, DurationKind, PlainType, BitVecType, RecordType, AttributeTypes, no_attributes, attribute, PlainExtension, DecimalOf, Ipv4Of, Ipv6Of, DatetimeOf, DurationOf, PlainLiteral, BitVecLiteral, BoolLiteral, EntityLiteral, ExtensionLiteral, StringLiteral, PlainTerm, LiteralTerm}
 
 abbrev pub attribute_names : AttributeTypes → List (List ℕ)
 attribute_names no_attributes = []
@@ -39,7 +37,6 @@ IsFormedLiteral (StringLiteral s) = IsUtf8 s
 -- one term by itself, and with all its subterms
 abbrev pub IsFormedNode : PlainTerm → Type 0
 IsFormedNode (LiteralTerm l) = IsFormedLiteral l
-IsFormedNode (SetTerm t ts) = IsTrue (ascends term_cmp (list_of_terms ts))
 IsFormedNode t = ⊤
 
 pub record IsFormed (t : PlainTerm) : Type 0 where

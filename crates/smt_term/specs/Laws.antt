@@ -12,7 +12,8 @@ use Rattle.smt_term.specs.Interpretations.{IsInterpretation, Agree, restrict, fu
 use Rattle.smt_term.specs.Meaning.{term_value}
 use Rattle.smt_term.specs.Tables.{Interpretation}
 use Rattle.smt_term.specs.TermOrder.{op_cmp, term_cmp, term_eq}
-use Rattle.smt_term.specs.Types.{type_cmp, type_eq, typed, Typed}
+use Rattle.smt_term.specs.Types.{type_cmp, type_eq}
+use Rattle.smt_term.specs.Typing.{typed, Typed}
 use Rattle.smt_term.specs.TypeValues.{Enums, IsValue}
 use Rattle.smt_term.specs.Plain.{PlainType, PlainFunction, PlainOp, PlainTerm}
 

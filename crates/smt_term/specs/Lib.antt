@@ -19,8 +19,10 @@ pub mod Reached
 pub mod Shapes
 pub mod Tables
 pub mod TermOrder
+pub mod TermSets
 pub mod TypeValues
 pub mod Types
+pub mod Typing
 pub mod ValueOrder
 pub mod Values
 pub mod View

@@ -8,6 +8,7 @@ use Rattle.smt_term.specs.View.{plain_term, plain_type}
 use Rattle.smt_term.specs.contracts.term.TermOrd.TheImpl as term_order
 use Rattle.smt_term.specs.contracts.term.TermPartialEq.TheImpl as term_equality
 use Rattle.smt_term.specs.contracts.types.TermTypeOrd.TheImpl as type_order
+use Rattle.smt_term.specs.contracts.types.TermTypePartialEq.TheImpl as type_equality
 use Rattle.smt_term.specs.declared.enums.EnumTable.{EnumTable}
 use Rattle.smt_term.specs.declared.term.Term.{Term}
 use Rattle.smt_term.specs.declared.types.TermType.{TermType}
@@ -26,6 +27,9 @@ TypesCompareAsPlain = (s t : TermType) → type_order.ghosts.cmp s t ≡ type_cm
 -- two terms are equal exactly where they say the same
 abbrev pub EqualTermsSayTheSame : Type 0
 EqualTermsSayTheSame = (s t : Term) → IsTrue (term_equality.ghosts.eq s t) ↔ (plain_term s ≡ plain_term t)
+
+abbrev pub EqualTypesSayTheSame : Type 0
+EqualTypesSayTheSame = (s t : TermType) → IsTrue (type_equality.ghosts.eq s t) ↔ (plain_type s ≡ plain_type t)
 
 -- No table has an enum type yet.
 abbrev pub TablesAreEmpty : Type 0

@@ -5,7 +5,7 @@ use Rattle.smt_term.specs.Formed.{IsFormed}
 use Rattle.smt_term.specs.Interpretations.{IsInterpretation}
 use Rattle.smt_term.specs.Meaning.{term_value}
 use Rattle.smt_term.specs.Tables.{Interpretation}
-use Rattle.smt_term.specs.Types.{Typed}
+use Rattle.smt_term.specs.Typing.{Typed}
 use Rattle.smt_term.specs.TypeValues.{Enums, IsValue, IsExtension}
 use Rattle.smt_term.specs.ValueOrder.{value_cmp, ascends, list_of_values}
 use Rattle.smt_term.specs.Plain.{PlainType, OptionType, BitVecType, BoolType, EntityType, ExtensionType, StringType, RecordType, SetType, AttributeTypes, no_attributes, attribute, PlainTerm}

@@ -1,9 +1,10 @@
 -- The values of a type.
-use Rattle.std.specs.Prelude.{◌≡◌, ℕ, Bool, nat_le, bytes_eq, ◌^◌, ◌<◌, ◌≤◌, List, ℤ, FitsSigned, Option, Some, None, IfSome, IsTrue, ⊤}
-use Rattle.std.specs.Int.{w64}
+use Rattle.std.specs.Prelude.{◌≡◌, ℕ, bytes_eq, ◌^◌, ◌<◌, ◌≤◌, List, Option, Some, None, IfSome, IsTrue, ⊤}
 use Rattle.std.specs.List.{AllByRecursion, list_any}
 use Rattle.std.specs.Map.{lookup}
 use Rattle.std.specs.Str.{chars}
+pub use Rattle.smt_bits.specs.Longs.{IsLong}
+pub use Rattle.smt_characters.specs.Characters.{greatest_code_point, is_code_point}
 use Rattle.smt_term.specs.ValueOrder.{value_cmp, ascends, list_of_values}
 use Rattle.smt_term.specs.Plain.{ExtensionKind, IpAddrKind, DecimalKind, DatetimeKind, DurationKind, PlainType, OptionType, BitVecType, BoolType, EntityType, ExtensionType, StringType, RecordType, SetType, AttributeTypes, no_attributes, attribute, PlainExtension, DecimalOf, Ipv4Of, Ipv6Of, DatetimeOf, DurationOf}
 use Rattle.smt_term.specs.Values.{Value, BoolValue, BitVecValue, StringValue, EntityValue, ExtensionValue, NoneValue, SomeValue, RecordValue, SetValue, FieldValues, no_field_values, one_field_value}
@@ -16,13 +17,7 @@ Enums = List (List ℕ × List (List ℕ))
 abbrev pub members_of : Enums → List ℕ → Option (List (List ℕ))
 members_of enums e = lookup (bytes_eq e) enums
 
--- the code points of the theory UnicodeStrings
-abbrev pub greatest_code_point : ℕ
-greatest_code_point = 196607
-
-abbrev pub is_code_point : ℕ → Bool
-is_code_point c = nat_le c greatest_code_point
-
+-- the code points of characters
 abbrev pub AreCodePoints : List ℕ → Type 0
 AreCodePoints s = AllByRecursion (λ c. c ≤ greatest_code_point) s
 
@@ -31,10 +26,7 @@ abbrev pub IsId : Option (List (List ℕ)) → List ℕ → Type 0
 IsId None i = AreCodePoints i
 IsId (Some members) i = IsTrue (list_any (λ m. bytes_eq (chars m) i) members)
 
--- a whole number of 64 bits, and prefix bits
-abbrev pub IsLong : ℤ → Type 0
-IsLong z = FitsSigned w64 z
-
+-- the prefix of an address of 2 to the n bits, where it has one: a number of bits below 2 to the n
 abbrev pub IsPrefix : ℕ → Option ℕ → Type 0
 IsPrefix n p = IfSome p (λ k. k < 2 ^ n)
 

@@ -1,12 +1,11 @@
--- The type of a term, and which terms are typed.
-use Rattle.std.specs.Prelude.{◌≡◌, ℕ, ◌+◌, Bool, true, false, ◌&&◌, nat_le, bytes_eq, List, [], ◌∷◌, map, Option, Some, None, IsTrue}
+-- The types of terms and of what operators give.
+use Rattle.std.specs.Prelude.{ℕ, ◌+◌, Bool, true, false, ◌&&◌, nat_le, bytes_eq, List, [], ◌∷◌, map, Option, Some, None}
 use Rattle.std.specs.Bool.{then_some}
-use Rattle.std.specs.List.{list_all}
 use Rattle.std.specs.Ordering.{nat_cmp, ordering_then, is_eq}
 use Rattle.std.specs.declared.cmp.Ordering.{Ordering}
 use Rattle.std.specs.declared.cmp.Ordering.TheVariants.{Less, Equal, Greater}
 use Rattle.smt_term.specs.ValueOrder.{text_cmp}
-use Rattle.smt_term.specs.Plain.{ExtensionKind, IpAddrKind, DecimalKind, DatetimeKind, DurationKind, PlainType, OptionType, BitVecType, BoolType, EntityType, ExtensionType, StringType, RecordType, SetType, AttributeTypes, no_attributes, attribute, ExtensionOp, DatetimeOfBitVecOp, DatetimeValOp, DecimalValOp, DurationOfBitVecOp, DurationValOp, IpAddrV4Op, IpAddrV6Op, IpIsV4Op, IpPrefixV4Op, IpPrefixV6Op, PlainOp, AndOp, BvaddOp, BvlshrOp, BvmulOp, BvnegOp, BvnegoOp, BvsaddoOp, BvsdivOp, BvshlOp, BvsleOp, BvsltOp, BvsmodOp, BvsmuloOp, BvsremOp, BvssuboOp, BvsubOp, BvudivOp, BvuleOp, BvultOp, BvuremOp, EqOp, ExtOp, IteOp, NotOp, OptionGetOp, OrOp, RecordGetOp, SetInterOp, SetMemberOp, SetSubsetOp, StringLikeOp, UufOp, ZeroExtendOp, PlainExtension, DecimalOf, Ipv4Of, Ipv6Of, DatetimeOf, DurationOf, PlainLiteral, BitVecLiteral, BoolLiteral, EntityLiteral, ExtensionLiteral, StringLiteral, PlainTerm, Application, NoneTerm, LiteralTerm, RecordTerm, SetTerm, SomeTerm, VariableTerm, PlainTerms, no_terms, one_term, PlainFields, no_fields, one_field, list_of_terms}
+use Rattle.smt_term.specs.Plain.{ExtensionKind, IpAddrKind, DecimalKind, DatetimeKind, DurationKind, PlainType, OptionType, BitVecType, BoolType, EntityType, ExtensionType, StringType, RecordType, SetType, AttributeTypes, no_attributes, attribute, ExtensionOp, DatetimeOfBitVecOp, DatetimeValOp, DecimalValOp, DurationOfBitVecOp, DurationValOp, IpAddrV4Op, IpAddrV6Op, IpIsV4Op, IpPrefixV4Op, IpPrefixV6Op, PlainOp, AndOp, BvaddOp, BvlshrOp, BvmulOp, BvnegOp, BvnegoOp, BvsaddoOp, BvsdivOp, BvshlOp, BvsleOp, BvsltOp, BvsmodOp, BvsmuloOp, BvsremOp, BvssuboOp, BvsubOp, BvudivOp, BvuleOp, BvultOp, BvuremOp, EqOp, ExtOp, IteOp, NotOp, OptionGetOp, OrOp, RecordGetOp, SetInterOp, SetMemberOp, SetSubsetOp, StringLikeOp, UufOp, ZeroExtendOp, PlainExtension, DecimalOf, Ipv4Of, Ipv6Of, DatetimeOf, DurationOf, PlainLiteral, BitVecLiteral, BoolLiteral, EntityLiteral, ExtensionLiteral, StringLiteral, PlainTerm, Application, NoneTerm, LiteralTerm, RecordTerm, SetTerm, SomeTerm, VariableTerm, PlainTerms, PlainFields, no_fields, one_field, list_of_terms}
 
 -- the place of an extension type, and of a type's kind
 abbrev pub extension_kind_place : ExtensionKind → ℕ
@@ -165,27 +164,3 @@ result_type o ts = None
 abbrev pub is_type : Option PlainType → PlainType → Bool
 is_type None t = false
 is_type (Some u) t = type_eq u t
-
--- a term whose every application has the argument types of its operator and the result type, and whose every set has
--- elements of its element type
-abbrev mutual
-  pub typed : PlainTerm → Bool
-  typed (Application o ts t) = typed_all ts && is_type (result_type o (types_of ts)) t
-  typed (NoneTerm t) = true
-  typed (LiteralTerm l) = true
-  typed (RecordTerm fs) = typed_fields fs
-  typed (SetTerm t ts) = typed_all ts && list_all (type_eq t) (types_of ts)
-  typed (SomeTerm t) = typed t
-  typed (VariableTerm id t) = true
-
-  pub typed_all : PlainTerms → Bool
-  typed_all no_terms = true
-  typed_all (one_term t ts) = typed t && typed_all ts
-
-  pub typed_fields : PlainFields → Bool
-  typed_fields no_fields = true
-  typed_fields (one_field a t fs) = typed t && typed_fields fs
-
-pub record Typed (t : PlainTerm) (ty : PlainType) : Type 0 where
-  pub parts : IsTrue (typed t)
-  pub type : type_of t ≡ ty

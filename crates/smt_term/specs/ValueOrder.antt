@@ -87,10 +87,13 @@ abbrev pub ascends : {K : Type 0} → (K → K → Ordering) → List K → Bool
 ascends cmp [] = true
 ascends cmp (x ∷ xs) = is_below cmp x xs && ascends cmp xs
 
--- the values in order, each once
+-- the items in order, each once
+abbrev pub sorted : {K : Type 0} → (K → K → Ordering) → List K → List K
+sorted cmp [] = []
+sorted cmp (k ∷ ks) = insert_key cmp (sorted cmp ks) k
+
 abbrev pub sorted_values : List Value → List Value
-sorted_values [] = []
-sorted_values (v ∷ vs) = insert_key value_cmp (sorted_values vs) v
+sorted_values vs = sorted value_cmp vs
 
 abbrev pub values : List Value → Values
 values [] = no_values

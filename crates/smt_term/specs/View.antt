@@ -4,21 +4,28 @@ use Rattle.smt_bits.specs.BitVec.{number_of, width_of}
 use Rattle.smt_bits.specs.Width.{bits_in}
 use Rattle.std.proofs.Common.{ap, ◌∙◌}
 use Rattle.std.specs.Rc.{rc_str_bytes}
-use Rattle.smt_term.specs.Plain.{PlainType, BitVecType, BoolType, PlainOp, AndOp, BvaddOp, BvlshrOp, BvmulOp, BvnegOp, BvnegoOp, BvsaddoOp, BvsdivOp, BvshlOp, BvsleOp, BvsltOp, BvsmodOp, BvsmuloOp, BvsremOp, BvssuboOp, BvsubOp, BvudivOp, BvuleOp, BvultOp, BvuremOp, EqOp, IteOp, NotOp, OrOp, ZeroExtendOp, PlainLiteral, BitVecLiteral, BoolLiteral, PlainTerm, Application, LiteralTerm, VariableTerm, PlainTerms, no_terms, one_term, terms}
-use Rattle.smt_term.specs.declared.types.TermType.{TermType}
-use Rattle.smt_term.specs.declared.types.TermType.TheVariants.{Bitvec, Bool}
+use Rattle.std.specs.declared.alloc.Global.{Global}
+use Rattle.std.specs.declared.rc.Rc.{Rc}
+use Rattle.smt_bits.specs.declared.width.Width.{Width}
+use Rattle.smt_term.specs.PatternView.{plain_ord_pattern}
+use Rattle.smt_term.specs.Plain.{PlainType, OptionType, BitVecType, BoolType, StringType, SetType, PlainOp, AndOp, BvaddOp, BvlshrOp, BvmulOp, BvnegOp, BvnegoOp, BvsaddoOp, BvsdivOp, BvshlOp, BvsleOp, BvsltOp, BvsmodOp, BvsmuloOp, BvsremOp, BvssuboOp, BvsubOp, BvudivOp, BvuleOp, BvultOp, BvuremOp, EqOp, IteOp, NotOp, OptionGetOp, OrOp, SetInterOp, SetMemberOp, SetSubsetOp, StringLikeOp, ZeroExtendOp, PlainLiteral, BitVecLiteral, BoolLiteral, StringLiteral, PlainTerm, Application, NoneTerm, LiteralTerm, SetTerm, SomeTerm, VariableTerm, PlainTerms, no_terms, one_term, terms}
+use Rattle.smt_term.specs.declared.types.TermType.{TermType, Option as OptionOf, Option', Bitvec, Bool, String, Set as SetOf, Set' as SetOf'}
 use Rattle.smt_term.specs.declared.op.Op.{Op}
-use Rattle.smt_term.specs.declared.op.Op.TheVariants.{And, Bvadd, Bvlshr, Bvmul, Bvneg, Bvnego, Bvsaddo, Bvsdiv, Bvshl, Bvsle, Bvslt, Bvsmod, Bvsmulo, Bvsrem, Bvssubo, Bvsub, Bvudiv, Bvule, Bvult, Bvurem, Eq, Ite, Not, Or, ZeroExtend}
+use Rattle.smt_term.specs.declared.op.Op.TheVariants.{And, Bvadd, Bvlshr, Bvmul, Bvneg, Bvnego, Bvsaddo, Bvsdiv, Bvshl, Bvsle, Bvslt, Bvsmod, Bvsmulo, Bvsrem, Bvssubo, Bvsub, Bvudiv, Bvule, Bvult, Bvurem, Eq, Ite, Not, OptionGet, Or, SetInter, SetMember, SetSubset, StringLike, ZeroExtend}
 use Rattle.smt_term.specs.declared.term.TermVar.{TermVar}
 use Rattle.smt_term.specs.declared.term.TermPrim.{TermPrim}
-use Rattle.smt_term.specs.declared.term.TermPrim.TheVariants.{Bitvec as BitsLiteral, Bool as TruthLiteral}
-use Rattle.smt_term.specs.declared.term.Term.{Term, App, App', Prim, Var, Row_of-Term, end_of-Term, more_of-Term, items-the_row-Term, items_hidden-the_row-Term-0}
+use Rattle.smt_term.specs.declared.term.TermPrim.TheVariants.{Bitvec as BitsLiteral, Bool as TruthLiteral, String as TextLiteral}
+use Rattle.smt_term.specs.declared.term.Term.{Term, App, App', None, Prim, Set, Set', Some, Some', Var, Row_of-Term, end_of-Term, more_of-Term, items-the_row-Term, items_hidden-the_row-Term-0}
 use Rattle.smt_term.specs.declared.term.TermList.{TermList}
+use Rattle.smt_term.specs.declared.term.TermSet.{TermSet}
 use Rattle.smt_term.specs.declared.term.Term.TheBlock.{hidden-the_row-Term-0}
 
-abbrev pub plain_type : TermType → PlainType
+unfoldable pub plain_type : TermType → PlainType
+plain_type (Option' p t) = OptionType (plain_type t)
 plain_type (Bitvec n) = BitVecType (bits_in n)
 plain_type Bool = BoolType
+plain_type String = StringType
+plain_type (SetOf' p t) = SetType (plain_type t)
 
 abbrev pub plain_op : Op → PlainOp
 plain_op And = AndOp
@@ -44,12 +51,18 @@ plain_op Bvurem = BvuremOp
 plain_op Eq = EqOp
 plain_op Ite = IteOp
 plain_op Not = NotOp
+plain_op OptionGet = OptionGetOp
 plain_op Or = OrOp
+plain_op SetInter = SetInterOp
+plain_op SetMember = SetMemberOp
+plain_op SetSubset = SetSubsetOp
+plain_op (StringLike p) = StringLikeOp (plain_ord_pattern p)
 plain_op (ZeroExtend k) = ZeroExtendOp k
 
 abbrev pub plain_literal : TermPrim → PlainLiteral
 plain_literal (BitsLiteral b) = BitVecLiteral (width_of b) (number_of b)
 plain_literal (TruthLiteral b) = BoolLiteral b
+plain_literal (TextLiteral s) = StringLiteral (rc_str_bytes s)
 
 -- a variable as a term
 abbrev pub plain_variable : TermVar → PlainTerm
@@ -58,7 +71,10 @@ plain_variable v = VariableTerm (rc_str_bytes v.id) (plain_type v.ty)
 unfoldable mutual
   pub plain_term : Term → PlainTerm
   plain_term (App' op p shape row type) = Application (plain_op op) (plain_row row) (plain_type type)
+  plain_term (None type) = NoneTerm (plain_type type)
   plain_term (Prim literal) = LiteralTerm (plain_literal literal)
+  plain_term (Set' element p shape row) = SetTerm (plain_type element) (plain_row row)
+  plain_term (Some' p t) = SomeTerm (plain_term t)
   plain_term (Var v) = plain_variable v
 
   pub plain_row : {m : _} → Row_of-Term m → PlainTerms
@@ -73,7 +89,35 @@ items_of ts = ts.items.value.items
 abbrev pub plain_items : TermList → List PlainTerm
 plain_items ts = map plain_term (items_of ts)
 
+-- the elements of a set
+abbrev pub elements_of : TermSet → List Term
+elements_of ts = ts.items.value.items
+
+-- what the elements of a set say
+abbrev pub plain_elements : TermSet → List PlainTerm
+plain_elements ts = map plain_term (elements_of ts)
+
 -- The equations of the views, by which a proof reads them.
+pub plain_type-Option : (t : Rc TermType Global) → plain_type (OptionOf t) ≡ OptionType (plain_type t.value)
+unfolding plain_type
+plain_type-Option t = refl
+
+pub plain_type-Bitvec : (n : Width) → plain_type (Bitvec n) ≡ BitVecType (bits_in n)
+unfolding plain_type
+plain_type-Bitvec n = refl
+
+pub plain_type-Bool : plain_type Bool ≡ BoolType
+unfolding plain_type
+plain_type-Bool = refl
+
+pub plain_type-String : plain_type String ≡ StringType
+unfolding plain_type
+plain_type-String = refl
+
+pub plain_type-Set : (t : Rc TermType Global) → plain_type (SetOf t) ≡ SetType (plain_type t.value)
+unfolding plain_type
+plain_type-Set t = refl
+
 pub plain_row-items : {m : _} (row : Row_of-Term m) → plain_row row ≡ terms (map plain_term (items-the_row-Term m row))
 unfolding plain_term plain_row
 plain_row-items end_of-Term = refl
@@ -84,12 +128,25 @@ unfolding plain_term plain_row
 plain_term-App op args type =
     ap (λ ts. Application (plain_op op) ts (plain_type type)) (plain_row-items (hidden-the_row-Term-0 args.items.value) ∙ ap (λ l. terms (map plain_term l)) (items_hidden-the_row-Term-0 args.items.value))
 
+pub plain_term-None : (type : TermType) → plain_term (None type) ≡ NoneTerm (plain_type type)
+unfolding plain_term
+plain_term-None type = refl
+
 pub plain_term-Prim : (literal : TermPrim) → plain_term (Prim literal) ≡ LiteralTerm (plain_literal literal)
 unfolding plain_term
 plain_term-Prim literal = refl
+
+pub plain_term-Set : (element : TermType) (ts : TermSet) → plain_term (Set element ts) ≡ SetTerm (plain_type element) (terms (plain_elements ts))
+unfolding plain_term plain_row
+plain_term-Set element ts =
+    ap (SetTerm (plain_type element)) (plain_row-items (hidden-the_row-Term-0 ts.items.value) ∙ ap (λ l. terms (map plain_term l)) (items_hidden-the_row-Term-0 ts.items.value))
+
+pub plain_term-Some : (t : Rc Term Global) → plain_term (Some t) ≡ SomeTerm (plain_term t.value)
+unfolding plain_term
+plain_term-Some t = refl
 
 pub plain_term-Var : (v : TermVar) → plain_term (Var v) ≡ plain_variable v
 unfolding plain_term
 plain_term-Var v = refl
 
-pub ruleset views = (plain_term-App, plain_term-Prim, plain_term-Var)
+pub ruleset views = (plain_type-Option, plain_type-Bitvec, plain_type-Bool, plain_type-String, plain_type-Set, plain_term-App, plain_term-None, plain_term-Prim, plain_term-Set, plain_term-Some, plain_term-Var)

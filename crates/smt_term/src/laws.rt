@@ -4,8 +4,9 @@ ghost use Rattle.smt_term.specs.Literals.{LiteralsAreTheirValues};
 ghost use Rattle.smt_term.specs.PatternOrder.{ElementsCompareAsPlain, EqualElementsSayTheSame, EqualOrdPatternsSayTheSame, EqualPatternsSayTheSame, PatternsCompareAsPlain};
 ghost use Rattle.smt_term.specs.Patterns.{MatchingIsDecided};
 ghost use Rattle.smt_term.specs.Plain.{RoundTrip, terms};
-ghost use Rattle.smt_term.specs.Program.{EqualTermsSayTheSame, TablesAreEmpty, TermsAreFormed, TermsCompareAsPlain, TypesCompareAsPlain};
+ghost use Rattle.smt_term.specs.Program.{EqualTermsSayTheSame, EqualTypesSayTheSame, TablesAreEmpty, TermsAreFormed, TermsCompareAsPlain, TypesCompareAsPlain};
 ghost use Rattle.smt_term.specs.Shapes.{TypedTermsHaveShapes, ValuesAreShaped};
+ghost use Rattle.smt_term.specs.TermSets.{SortedTermsAscend};
 ghost use Rattle.smt_term.specs.ValueOrder.{EqualityIsDecided, OrderIsTotal};
 
 /// A list of terms and its plain form give each other.
@@ -101,9 +102,15 @@ pub fn order_rows()
 pub fn program_terms()
     ensures formed { TermsAreFormed }
     ensures equality { EqualTermsSayTheSame }
+    ensures type_equality { EqualTypesSayTheSame }
     ensures order { TermsCompareAsPlain }
     ensures type_order { TypesCompareAsPlain }
     ensures tables { TablesAreEmpty }
+{}
+
+/// The terms of a list in order ascend, and are those of the list.
+pub fn terms_are_sorted()
+    ensures { SortedTermsAscend }
 {}
 
 /// The program's patterns and their elements compare as what they say, and are equal exactly where they say the same.

@@ -20,7 +20,7 @@ pub use enums::EnumTable;
 pub use error::TermError;
 pub use op::Op;
 pub use pattern::{OrdPattern, Pattern, PatternElem};
-pub use term::{Term, TermList, TermPrim, TermVar};
+pub use term::{Term, TermList, TermPrim, TermSet, TermVar};
 pub use text::Text;
 pub use types::TermType;
 

@@ -4,8 +4,10 @@ ghost use Rattle.smt_term.specs.Names.{op_name};
 ghost use Rattle.smt_term.specs.View.{plain_op};
 
 use crate::error::TermError;
+use crate::pattern::OrdPattern;
 
-/// An operator: a connective of the theory Core, or one of the theory FixedSizeBitVectors and the logic QF_BV.
+/// An operator: of the theories Core, FixedSizeBitVectors and UnicodeStrings, of the logic QF_BV, of options or of finite
+/// sets.
 #[derive(Debug, PartialEq, Eq, PartialOrd, Ord, Drop)]
 pub enum Op {
     /// Conjunction of two Booleans.
@@ -54,8 +56,18 @@ pub enum Op {
     Ite,
     /// Negation, from Bool to Bool.
     Not,
+    /// The value inside an option; of none a value of the inner type that the interpretation gives.
+    OptionGet,
     /// Disjunction of two Booleans.
     Or,
+    /// What is in both of two sets.
+    SetInter,
+    /// Whether a value is in a set.
+    SetMember,
+    /// Whether all of a first set is in a second.
+    SetSubset,
+    /// Whether a text matches this pattern.
+    StringLike(OrdPattern),
     /// The same number with this many bits more.
     ZeroExtend(u32),
 }
@@ -89,7 +101,12 @@ impl Op {
             Op::Eq => "eq",
             Op::Ite => "ite",
             Op::Not => "not",
+            Op::OptionGet => "option.get",
             Op::Or => "or",
+            Op::SetInter => "set.inter",
+            Op::SetMember => "set.member",
+            Op::SetSubset => "set.subset",
+            Op::StringLike(_) => "string.like",
             Op::ZeroExtend(_) => "zero_extend",
         }
     }
@@ -122,7 +139,12 @@ impl Op {
             Op::Eq => Op::Eq,
             Op::Ite => Op::Ite,
             Op::Not => Op::Not,
+            Op::OptionGet => Op::OptionGet,
             Op::Or => Op::Or,
+            Op::SetInter => Op::SetInter,
+            Op::SetMember => Op::SetMember,
+            Op::SetSubset => Op::SetSubset,
+            Op::StringLike(pattern) => Op::StringLike(pattern.share()?),
             Op::ZeroExtend(bits) => Op::ZeroExtend(*bits),
         })
     }

@@ -1,6 +1,7 @@
 // Terms and lists of terms.
 ghost use Rattle.std.specs.Prelude.{◌≡◌, ◌↔◌, [], IfOk, IsTrue, length, map};
-ghost use Rattle.smt_term.specs.View.{items_of, plain_items, plain_literal, plain_term, plain_variable};
+ghost use Rattle.smt_term.specs.TermSets.{sorted_terms};
+ghost use Rattle.smt_term.specs.View.{elements_of, items_of, plain_elements, plain_items, plain_literal, plain_term, plain_variable};
 
 use crate::error::TermError;
 use crate::op::Op;
@@ -8,6 +9,7 @@ use crate::text::{Text, share_text};
 use crate::types::TermType;
 use smt_bits::{BitVec, SIXTY_FOUR};
 use std::alloc::Global;
+use std::collections::BTreeSet;
 use std::rc::Rc;
 
 /// A variable: its id and its type. Two variables of one id and different types are different.
@@ -24,6 +26,8 @@ pub enum TermPrim {
     Bitvec(BitVec),
     /// A truth value.
     Bool(bool),
+    /// A text.
+    String(Text),
 }
 
 /// A term. Terms order by the variants and fields as declared, lists by their first difference.
@@ -36,7 +40,16 @@ pub enum Term {
         args: TermList,
         ret_ty: TermType,
     },
+    /// None of an option, by the type of what it could hold.
+    None(TermType),
     Prim(TermPrim),
+    /// A set of the values of terms of one type.
+    Set {
+        elts_ty: TermType,
+        elts: TermSet,
+    },
+    /// An option that holds the value of a term.
+    Some(Rc<Term>),
     Var(TermVar),
 }
 
@@ -93,6 +106,60 @@ impl TermList {
     }
 }
 
+/// The elements of a set: terms in their order, each once; its holders share them.
+#[derive(Debug, PartialEq, Eq, PartialOrd, Ord, Drop)]
+#[cycle(term)]
+pub struct TermSet {
+    items: Rc<Vec<Term>>,
+}
+
+impl TermSet {
+    /// The set of these terms, which it sorts; of equal ones it keeps one.
+    pub fn new(alloc: Global, items: &[Term]) -> Result<TermSet, TermError>
+        ensures { IfOk result (λ set. plain_elements set ≡ sorted_terms (map plain_term items.now)) }
+    {
+        let mut found = BTreeSet::new(alloc);
+        for item in items {
+            found.insert(item.share()?)?;
+        }
+        let elements = found.into_iter().collect(alloc)?;
+        Ok(TermSet {
+            items: Rc::new(alloc, elements)?,
+        })
+    }
+
+    /// How many elements it has.
+    pub fn len(&self) -> usize
+        ensures { result ≡ length (plain_elements self.now) }
+    {
+        self.items.len()
+    }
+
+    /// Whether it has none.
+    pub fn is_empty(&self) -> bool
+        ensures { IsTrue result ↔ (plain_elements self.now ≡ []) }
+    {
+        self.items.is_empty()
+    }
+
+    /// The elements, in order.
+    pub fn items(&self) -> &[Term]
+        ensures same { result.now ≡ elements_of self.now }
+        ensures plain { map plain_term result.now ≡ plain_elements self.now }
+    {
+        self.items.as_slice()
+    }
+
+    /// An equal set that shares the elements.
+    pub fn share(&self) -> Result<TermSet, TermError>
+        ensures { IfOk result (λ set. plain_elements set ≡ plain_elements self.now) }
+    {
+        Ok(TermSet {
+            items: self.items.clone()?,
+        })
+    }
+}
+
 impl TermPrim {
     /// An equal literal that shares its text.
     pub fn share(&self) -> Result<TermPrim, TermError>
@@ -101,6 +168,7 @@ impl TermPrim {
         match self {
             TermPrim::Bitvec(bits) => Ok(TermPrim::Bitvec(*bits)),
             TermPrim::Bool(truth) => Ok(TermPrim::Bool(*truth)),
+            TermPrim::String(text) => Ok(TermPrim::String(share_text(text)?)),
         }
     }
 }
@@ -128,7 +196,13 @@ impl Term {
                 args: args.share()?,
                 ret_ty: ret_ty.share()?,
             }),
+            Term::None(ty) => Ok(Term::None(ty.share()?)),
             Term::Prim(literal) => Ok(Term::Prim(literal.share()?)),
+            Term::Set { elts_ty, elts } => Ok(Term::Set {
+                elts_ty: elts_ty.share()?,
+                elts: elts.share()?,
+            }),
+            Term::Some(inner) => Ok(Term::Some(inner.clone()?)),
             Term::Var(variable) => Ok(Term::Var(variable.share()?)),
         }
     }
@@ -169,6 +243,19 @@ impl From<BitVec> for Term {
 
     fn from(bits: BitVec) -> Term {
         Term::Prim(TermPrim::Bitvec(bits))
+    }
+}
+
+impl From<Text> for Term {
+    ghost use Rattle.std.specs.Prelude.{◌≡◌};
+    ghost use Rattle.std.specs.Rc.{rc_str_bytes};
+    ghost use Rattle.smt_term.specs.Plain.{LiteralTerm, StringLiteral};
+    ghost use Rattle.smt_term.specs.View.{plain_term};
+
+    ghost from_gives = { λ text term. plain_term term ≡ LiteralTerm (StringLiteral (rc_str_bytes text)) };
+
+    fn from(text: Text) -> Term {
+        Term::Prim(TermPrim::String(text))
     }
 }
 

@@ -5,6 +5,7 @@ use std::alloc::Global;
 use std::test::Fail;
 
 mod patterns;
+mod structures;
 
 /// The type of bitvectors of this width; Bool for 0.
 fn type_of_width(bits: u32) -> TermType {
@@ -88,7 +89,7 @@ fn operators_have_names_and_types(rt: HostRuntime) -> Result<(), Fail> {
         assert_eq!(rt; op.mk_name(), name);
         assert_eq!(rt; op.share()?, op);
         let args = arguments(alloc, widths)?;
-        assert!(rt; op.takes(args.items()), "{name}");
+        assert!(rt; op.takes(args.items()), "{op:?}");
         for bits in [0, 1, 8, 64, 128] {
             let ty = type_of_width(bits);
             let term = Term::App {
@@ -130,10 +131,10 @@ fn literals_have_types(rt: HostRuntime) -> Result<(), Fail> {
             term.has_type(&ty) && !term.has_type(&type_of_width(8)),
             "{term:?}"
         );
-        let Term::Prim(literal) = term else {
+        let Term::Prim(literal) = &term else {
             return Err(Fail::from("a literal is no application"));
         };
-        assert_eq!(rt; literal.share()?, literal);
+        assert_eq!(rt; literal.share()?, *literal);
         assert_eq!(rt; literal.type_of()?, ty);
     }
     let numbers = [

@@ -1,8 +1,13 @@
 // The types of terms, and which terms are typed.
 ghost use Rattle.std.specs.Prelude.{◌≡◌, ◌↔◌, ◌∷◌, [], IfOk, IsTrue, is_some, map, option_map};
+ghost use Rattle.std.specs.List.{list_all};
 ghost use Rattle.smt_bits.specs.Width.{bits_in};
 ghost use Rattle.smt_term.specs.Literals.{is_literal};
-ghost use Rattle.smt_term.specs.Types.{Typed, extended_type, is_type, literal_type, result_type, type_eq, type_of, typed, width_in};
+ghost use Rattle.smt_term.specs.Plain.{OptionType, SetType};
+ghost use Rattle.smt_term.specs.TermOrder.{term_cmp};
+ghost use Rattle.smt_term.specs.Types.{extended_type, inner_type, is_set, is_type, literal_type, result_type, type_eq, type_of, width_in};
+ghost use Rattle.smt_term.specs.Typing.{Typed, typed};
+ghost use Rattle.smt_term.specs.ValueOrder.{ascends, is_below};
 ghost use Rattle.smt_term.specs.View.{plain_literal, plain_op, plain_term, plain_type};
 
 use crate::error::TermError;
@@ -13,13 +18,83 @@ use smt_bits::Width;
 use std::alloc::Global;
 
 impl TermType {
+    // Whether this is the same type.
+    fn is_same_as(&self, other: &TermType) -> bool
+        ensures same { result ≡ type_eq (plain_type self.now) (plain_type other.now) }
+        ensures turned { result ≡ type_eq (plain_type other.now) (plain_type self.now) }
+    {
+        *self == *other
+    }
+
     // How many bits a value has, where it is a bitvector.
     fn width(&self) -> Option<Width>
         ensures { option_map bits_in result ≡ width_in (plain_type self.now) }
     {
         match self {
             TermType::Bitvec { n } => Some(*n),
-            TermType::Bool => None,
+            TermType::Option { .. } | TermType::Bool | TermType::String | TermType::Set { .. } => {
+                None
+            }
+        }
+    }
+
+    // Whether it is that of sets.
+    fn is_set(&self) -> bool
+        ensures { result ≡ is_set (plain_type self.now) }
+    {
+        match self {
+            TermType::Set { .. } => true,
+            TermType::Option { .. } | TermType::Bitvec { .. } | TermType::Bool | TermType::String =>
+                { false }
+        }
+    }
+
+    // Whether it is that of options.
+    fn is_option(&self) -> bool
+        ensures { result ≡ is_some (inner_type (plain_type self.now)) }
+    {
+        match self {
+            TermType::Option { .. } => true,
+            TermType::Bitvec { .. } | TermType::Bool | TermType::String | TermType::Set { .. } => {
+                false
+            }
+        }
+    }
+
+    // Whether it is that of options of values of this type.
+    fn is_option_of(&self, inner: &TermType) -> bool
+        ensures { result ≡ is_type (inner_type (plain_type self.now)) (plain_type inner.now) }
+    {
+        match self {
+            TermType::Option { ty } => ty.is_same_as(inner),
+            TermType::Bitvec { .. } | TermType::Bool | TermType::String | TermType::Set { .. } => {
+                false
+            }
+        }
+    }
+
+    // Whether a type is that of options of this one.
+    fn is_inside(&self, option: &TermType) -> bool
+        ensures same { result ≡ type_eq (OptionType (plain_type self.now)) (plain_type option.now) }
+        ensures turned { result ≡ type_eq (plain_type option.now) (OptionType (plain_type self.now)) }
+    {
+        match option {
+            TermType::Option { ty } => self.is_same_as(ty),
+            TermType::Bitvec { .. } | TermType::Bool | TermType::String | TermType::Set { .. } => {
+                false
+            }
+        }
+    }
+
+    // Whether a type is that of sets of this one.
+    fn is_element_in(&self, set: &TermType) -> bool
+        ensures same { result ≡ type_eq (SetType (plain_type self.now)) (plain_type set.now) }
+        ensures turned { result ≡ type_eq (plain_type set.now) (SetType (plain_type self.now)) }
+    {
+        match set {
+            TermType::Set { ty } => self.is_same_as(ty),
+            TermType::Option { .. } | TermType::Bitvec { .. } | TermType::Bool | TermType::String =>
+                { false }
         }
     }
 }
@@ -32,6 +107,7 @@ impl TermPrim {
         match self {
             TermPrim::Bitvec(bits) => Ok(TermType::Bitvec { n: bits.width() }),
             TermPrim::Bool(_) => Ok(TermType::Bool),
+            TermPrim::String(_) => Ok(TermType::String),
         }
     }
 
@@ -41,29 +117,35 @@ impl TermPrim {
     {
         match self {
             TermPrim::Bitvec(bits) => Some(bits.width()),
-            TermPrim::Bool(_) => None,
+            TermPrim::Bool(_) | TermPrim::String(_) => None,
         }
     }
 
     // Whether this is the literal's type.
     fn is_of_type(&self, ty: &TermType) -> bool
-        ensures { result ≡ type_eq (literal_type (plain_literal self.now)) (plain_type ty.now) }
+        ensures same { result ≡ type_eq (literal_type (plain_literal self.now)) (plain_type ty.now) }
+        ensures turned { result ≡ type_eq (plain_type ty.now) (literal_type (plain_literal self.now)) }
     {
         match self {
-            TermPrim::Bitvec(bits) => TermType::Bitvec { n: bits.width() } == *ty,
-            TermPrim::Bool(_) => TermType::Bool == *ty,
+            TermPrim::Bitvec(bits) => TermType::Bitvec { n: bits.width() }.is_same_as(ty),
+            TermPrim::Bool(_) => TermType::Bool.is_same_as(ty),
+            TermPrim::String(_) => TermType::String.is_same_as(ty),
         }
     }
 }
 
 impl Term {
-    /// The type of the term: of an application the one that it claims.
-    pub fn type_of(&self, _alloc: Global) -> Result<TermType, TermError>
+    /// The type of the term: of an application the one that it claims, of none and of a set by the type that they name, and
+    /// of some by the term that it holds.
+    pub fn type_of(&self, alloc: Global) -> Result<TermType, TermError>
         ensures { IfOk result (λ ty. plain_type ty ≡ type_of (plain_term self.now)) }
     {
         match self {
             Term::App { ret_ty, .. } => Ok(ret_ty.share()?),
+            Term::None(inner) => TermType::option_of(alloc, inner.share()?),
             Term::Prim(literal) => Ok(literal.type_of()?),
+            Term::Set { elts_ty, .. } => TermType::set_of(alloc, elts_ty.share()?),
+            Term::Some(inner) => TermType::option_of(alloc, inner.type_of(alloc)?),
             Term::Var(variable) => Ok(variable.ty.share()?),
         }
     }
@@ -74,11 +156,21 @@ impl Term {
     {
         match self {
             Term::App { .. } | Term::Var(_) => false,
-            Term::Prim(_) => true,
+            Term::None(_) | Term::Prim(_) => true,
+            Term::Set { elts, .. } => {
+                for element in elts.items() {
+                    if !element.is_literal() {
+                        return false;
+                    }
+                }
+                true
+            }
+            Term::Some(inner) => inner.is_literal(),
         }
     }
 
-    /// Whether each application in it has the argument types of its operator and its result type. Takes no memory.
+    /// Whether each application in it has the argument types of its operator and its result type, and each set elements of
+    /// its type, in order. Takes no memory.
     pub fn well_typed(&self) -> bool
         ensures { result ≡ typed (plain_term self.now) }
     {
@@ -92,7 +184,17 @@ impl Term {
                 }
                 op.takes(args) && op.gives(args, ret_ty)
             }
-            Term::Prim(_) | Term::Var(_) => true,
+            Term::None(_) | Term::Prim(_) | Term::Var(_) => true,
+            Term::Set { elts_ty, elts } => {
+                let elements = elts.items();
+                for element in elements {
+                    if !element.well_typed() {
+                        return false;
+                    }
+                }
+                are_of_type(elements, elts_ty) && ascend(elements)
+            }
+            Term::Some(inner) => inner.well_typed(),
         }
     }
 
@@ -109,19 +211,101 @@ impl Term {
     {
         match self {
             Term::App { ret_ty, .. } => ret_ty.width(),
+            Term::None(_) | Term::Set { .. } | Term::Some(_) => None,
             Term::Prim(literal) => literal.width(),
             Term::Var(variable) => variable.ty.width(),
         }
     }
 
-    // Whether this is the term's type.
-    fn is_of_type(&self, ty: &TermType) -> bool
-        ensures { result ≡ type_eq (type_of (plain_term self.now)) (plain_type ty.now) }
+    // Whether it is a set.
+    fn is_set(&self) -> bool
+        ensures { result ≡ is_set (type_of (plain_term self.now)) }
     {
         match self {
-            Term::App { ret_ty, .. } => *ret_ty == *ty,
+            Term::App { ret_ty, .. } => ret_ty.is_set(),
+            Term::None(_) | Term::Prim(_) | Term::Some(_) => false,
+            Term::Set { .. } => true,
+            Term::Var(variable) => variable.ty.is_set(),
+        }
+    }
+
+    // Whether it is an option.
+    fn is_option(&self) -> bool
+        ensures { result ≡ is_some (inner_type (type_of (plain_term self.now))) }
+    {
+        match self {
+            Term::App { ret_ty, .. } => ret_ty.is_option(),
+            Term::None(_) | Term::Some(_) => true,
+            Term::Prim(_) | Term::Set { .. } => false,
+            Term::Var(variable) => variable.ty.is_option(),
+        }
+    }
+
+    // Whether this is the term's type.
+    fn is_of_type(&self, ty: &TermType) -> bool
+        ensures same { result ≡ type_eq (type_of (plain_term self.now)) (plain_type ty.now) }
+        ensures turned { result ≡ type_eq (plain_type ty.now) (type_of (plain_term self.now)) }
+    {
+        match self {
+            Term::App { ret_ty, .. } => ret_ty.is_same_as(ty),
+            Term::None(inner) => inner.is_inside(ty),
             Term::Prim(literal) => literal.is_of_type(ty),
-            Term::Var(variable) => variable.ty == *ty,
+            Term::Set { elts_ty, .. } => elts_ty.is_element_in(ty),
+            Term::Some(inner) => match ty {
+                TermType::Option { ty } => inner.is_of_type(ty),
+                TermType::Bitvec { .. }
+                | TermType::Bool
+                | TermType::String
+                | TermType::Set { .. } => false,
+            },
+            Term::Var(variable) => variable.ty.is_same_as(ty),
+        }
+    }
+
+    // Whether the type is that of options of the term's type.
+    fn is_inside(&self, option: &TermType) -> bool
+        ensures { result ≡ type_eq (OptionType (type_of (plain_term self.now))) (plain_type option.now) }
+    {
+        match option {
+            TermType::Option { ty } => self.is_of_type(ty),
+            TermType::Bitvec { .. } | TermType::Bool | TermType::String | TermType::Set { .. } => {
+                false
+            }
+        }
+    }
+
+    // Whether it is an option of values of this type.
+    fn is_option_of(&self, inner: &TermType) -> bool
+        ensures { result ≡ is_type (inner_type (type_of (plain_term self.now))) (plain_type inner.now) }
+    {
+        match self {
+            Term::App { ret_ty, .. } => ret_ty.is_option_of(inner),
+            Term::None(own) => own.is_same_as(inner),
+            Term::Prim(_) | Term::Set { .. } => false,
+            Term::Some(own) => own.is_of_type(inner),
+            Term::Var(variable) => variable.ty.is_option_of(inner),
+        }
+    }
+
+    // Whether the term is a set of values of this one's type.
+    fn is_element_of(&self, set: &Term) -> bool
+        ensures { result ≡ type_eq (type_of (plain_term set.now)) (SetType (type_of (plain_term self.now))) }
+    {
+        match set {
+            Term::App { ret_ty, .. } => self.is_element_in(ret_ty),
+            Term::None(_) | Term::Prim(_) | Term::Some(_) => false,
+            Term::Set { elts_ty, .. } => self.is_of_type(elts_ty),
+            Term::Var(variable) => self.is_element_in(&variable.ty),
+        }
+    }
+
+    fn is_element_in(&self, set: &TermType) -> bool
+        ensures { result ≡ type_eq (plain_type set.now) (SetType (type_of (plain_term self.now))) }
+    {
+        match set {
+            TermType::Set { ty } => self.is_of_type(ty),
+            TermType::Option { .. } | TermType::Bitvec { .. } | TermType::Bool | TermType::String =>
+                { false }
         }
     }
 
@@ -152,20 +336,91 @@ impl Term {
     fn is_typed_as(&self, other: &Term) -> bool
         ensures { result ≡ type_eq (type_of (plain_term self.now)) (type_of (plain_term other.now)) }
     {
-        match other {
-            Term::App { ret_ty, .. } => self.is_of_type(ret_ty),
-            Term::Prim(literal) => self.is_typed_as_literal(literal),
-            Term::Var(variable) => self.is_of_type(&variable.ty),
+        match self {
+            Term::App { ret_ty, .. } => other.is_of_type(ret_ty),
+            Term::None(inner) => other.is_option_beside(inner),
+            Term::Prim(literal) => other.is_typed_as_literal(literal),
+            Term::Set { elts_ty, .. } => other.is_set_beside(elts_ty),
+            Term::Some(inner) => match other {
+                Term::App { ret_ty, .. } => inner.is_inside(ret_ty),
+                Term::None(ty) => inner.is_of_type(ty),
+                Term::Prim(_) | Term::Set { .. } => false,
+                Term::Some(own) => inner.is_typed_as(own),
+                Term::Var(variable) => inner.is_inside(&variable.ty),
+            },
+            Term::Var(variable) => other.is_of_type(&variable.ty),
+        }
+    }
+
+    // Whether its type is that of options of values of this one.
+    fn is_option_beside(&self, inner: &TermType) -> bool
+        ensures { result ≡ type_eq (OptionType (plain_type inner.now)) (type_of (plain_term self.now)) }
+    {
+        match self {
+            Term::App { ret_ty, .. } => inner.is_inside(ret_ty),
+            Term::None(own) => inner.is_same_as(own),
+            Term::Prim(_) | Term::Set { .. } => false,
+            Term::Some(own) => own.is_of_type(inner),
+            Term::Var(variable) => inner.is_inside(&variable.ty),
+        }
+    }
+
+    // Whether its type is that of sets of values of this one.
+    fn is_set_beside(&self, element: &TermType) -> bool
+        ensures { result ≡ type_eq (SetType (plain_type element.now)) (type_of (plain_term self.now)) }
+    {
+        match self {
+            Term::App { ret_ty, .. } => element.is_element_in(ret_ty),
+            Term::None(_) | Term::Prim(_) | Term::Some(_) => false,
+            Term::Set { elts_ty, .. } => element.is_same_as(elts_ty),
+            Term::Var(variable) => element.is_element_in(&variable.ty),
         }
     }
 
     fn is_typed_as_literal(&self, literal: &TermPrim) -> bool
-        ensures { result ≡ type_eq (type_of (plain_term self.now)) (literal_type (plain_literal literal.now)) }
+        ensures { result ≡ type_eq (literal_type (plain_literal literal.now)) (type_of (plain_term self.now)) }
     {
         match literal {
             TermPrim::Bitvec(bits) => self.is_of_type(&TermType::Bitvec { n: bits.width() }),
             TermPrim::Bool(_) => self.is_of_type(&TermType::Bool),
+            TermPrim::String(_) => self.is_of_type(&TermType::String),
         }
+    }
+}
+
+// Whether each of the terms has this type.
+fn are_of_type(terms: &[Term], ty: &TermType) -> bool
+    ensures { result ≡ list_all (type_eq (plain_type ty.now)) (map type_of (map plain_term terms.now)) }
+{
+    for term in terms {
+        if !term.is_of_type(ty) {
+            return false;
+        }
+    }
+    true
+}
+
+// Whether each of the terms is less than the next one.
+fn ascend(terms: &[Term]) -> bool
+    ensures { result ≡ ascends term_cmp (map plain_term terms.now) }
+{
+    let mut left = terms;
+    while let Some((first, rest)) = left.split_first() {
+        if !is_below(first, rest) {
+            return false;
+        }
+        left = rest;
+    }
+    true
+}
+
+// Whether the term is less than the first of the others, where there is one.
+fn is_below(term: &Term, others: &[Term]) -> bool
+    ensures { result ≡ is_below term_cmp (plain_term term.now) (map plain_term others.now) }
+{
+    match others {
+        [] => true,
+        [next, ..] => term.cmp(next).is_lt(),
     }
 }
 
@@ -187,6 +442,8 @@ impl Op {
     {
         match self {
             Op::Not => a.is_of_type(&TermType::Bool),
+            Op::OptionGet => a.is_option(),
+            Op::StringLike(_) => a.is_of_type(&TermType::String),
             Op::Bvneg | Op::Bvnego => a.width().is_some(),
             Op::ZeroExtend(bits) => a.can_grow_by(*bits),
             _ => false,
@@ -199,7 +456,15 @@ impl Op {
         match self {
             Op::And | Op::Or => a.is_of_type(&TermType::Bool) && b.is_of_type(&TermType::Bool),
             Op::Eq => a.is_typed_as(b),
-            Op::Bvneg | Op::Bvnego | Op::Ite | Op::Not | Op::ZeroExtend(_) => false,
+            Op::SetInter | Op::SetSubset => a.is_set() && a.is_typed_as(b),
+            Op::SetMember => a.is_element_of(b),
+            Op::Bvneg
+            | Op::Bvnego
+            | Op::Ite
+            | Op::Not
+            | Op::OptionGet
+            | Op::StringLike(_)
+            | Op::ZeroExtend(_) => false,
             _ => a.width().is_some() && a.is_typed_as(b),
         }
     }
@@ -232,8 +497,9 @@ impl Op {
     {
         match self {
             Op::Bvneg => a.is_of_type(ty),
+            Op::OptionGet => a.is_option_of(ty),
             Op::ZeroExtend(bits) => a.is_shorter_by(*bits, ty),
-            _ => TermType::Bool == *ty,
+            _ => TermType::Bool.is_same_as(ty),
         }
     }
 
@@ -252,7 +518,8 @@ impl Op {
             | Op::Bvsub
             | Op::Bvudiv
             | Op::Bvurem => a.is_of_type(ty),
-            _ => TermType::Bool == *ty,
+            Op::SetInter => a.is_of_type(ty),
+            _ => TermType::Bool.is_same_as(ty),
         }
     }
 
@@ -262,7 +529,7 @@ impl Op {
     {
         match self {
             Op::Ite => a.is_of_type(ty),
-            _ => TermType::Bool == *ty,
+            _ => TermType::Bool.is_same_as(ty),
         }
     }
 }

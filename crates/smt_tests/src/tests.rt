@@ -1,5 +1,5 @@
 // Whole runs of the program: from words and a job to a script, a line of diagnosis and a status.
-use smt_cli::{MemorySource, Source, run};
+use smt_cli::{EncodeRefusal, MemorySource, Refusal, Source, run};
 use smt_script::{ListSink, MemorySink};
 use smt_term::Text;
 use std::alloc::{AllocError, Global};
@@ -357,6 +357,26 @@ fn words_are_commands(rt: HostRuntime) -> Result<(), Fail> {
     assert!(rt; status == 0 && begun && diag.is_empty());
     let (status, out, diag) = run_on(alloc, &["--version"], b"")?;
     assert!(rt; status == 0 && out.as_slice() == b"smtcli 0.1.0\n".as_slice() && diag.is_empty());
+    Ok(())
+}
+
+/// A refusal of the encoder comes from no job yet, so these are looked at by themselves.
+#[test]
+fn refused_terms_have_a_status_and_a_line(rt: HostRuntime) -> Result<(), Fail> {
+    let rows = [
+        (
+            EncodeRefusal::EncodeStringFailed,
+            "encode refused: EncodeStringFailed\n",
+        ),
+        (
+            EncodeRefusal::EncodePatternFailed,
+            "encode refused: EncodePatternFailed\n",
+        ),
+    ];
+    for (kind, line) in rows {
+        assert_eq!(rt; Refusal::Encode(kind).status(), 4);
+        assert_eq!(rt; Refusal::Encode(kind).line(), line);
+    }
     Ok(())
 }
 

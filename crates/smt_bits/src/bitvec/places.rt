@@ -1,7 +1,7 @@
 //! Operators that move bits to other places: shifts, extraction, concatenation and extension.
 ghost use Rattle.std.specs.Prelude.{◌≡◌, ◌+◌, ◌-◌, ◌≤◌, ◌<◌, ◌⊎◌, IfOk, IfErr, OnOk};
 ghost use Rattle.smt_bits.specs.BitVec.{width_of, number_of, RefusesShift};
-ghost use Rattle.smt_bits.specs.BitVectors.{bvshl, bvlshr, concat, extract, resize};
+ghost use Rattle.smt_bits.specs.BitVectors.{bvshl, bvlshr, concat, extract, greatest_shift, resize};
 ghost use Rattle.smt_bits.specs.Width.{bits_in};
 
 use super::BitVec;
@@ -18,7 +18,7 @@ impl BitVec {
     /// the number of `rhs` is above 4294967295.
     pub fn shl(lhs: &BitVec, rhs: &BitVec) -> Result<BitVec, BitVecError>
         ensures widths { OnOk result (width_of lhs.now ≡ width_of rhs.now) }
-        ensures fits { OnOk result (number_of rhs.now ≤ 4294967295) }
+        ensures fits { OnOk result (number_of rhs.now ≤ greatest_shift) }
         ensures width { IfOk result (λ r. width_of r ≡ width_of lhs.now) }
         ensures value { IfOk result (λ r. number_of r ≡
             bvshl (width_of lhs.now) (number_of lhs.now) (number_of rhs.now)) }
@@ -40,7 +40,7 @@ impl BitVec {
     /// the number of `rhs` is above 4294967295.
     pub fn lshr(lhs: &BitVec, rhs: &BitVec) -> Result<BitVec, BitVecError>
         ensures widths { OnOk result (width_of lhs.now ≡ width_of rhs.now) }
-        ensures fits { OnOk result (number_of rhs.now ≤ 4294967295) }
+        ensures fits { OnOk result (number_of rhs.now ≤ greatest_shift) }
         ensures width { IfOk result (λ r. width_of r ≡ width_of lhs.now) }
         ensures value { IfOk result (λ r. number_of r ≡
             bvlshr (width_of lhs.now) (number_of lhs.now) (number_of rhs.now)) }

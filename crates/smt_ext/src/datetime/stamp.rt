@@ -2,7 +2,8 @@
 #![tactic(auto)]
 
 ghost use Rattle.std.specs.Prelude.{◌≡◌, ◌≤◌};
-ghost use Rattle.smt_ext.specs.DatetimeReading.{Gives, field_at, byte_at, day_at, offset_at, zone_at, fraction_at, clock_at, stamp_at};
+ghost use Rattle.smt_ext.specs.Front.{Gives};
+ghost use Rattle.smt_ext.specs.DatetimeReading.{field_at, day_at, offset_at, zone_at, fraction_at, clock_at, stamp_at};
 
 use crate::digits;
 
@@ -58,23 +59,14 @@ fn field(text: &[u8], places: usize) -> Option<(u64, &[u8])>
     }
 }
 
-// What follows the byte at the front.
-#[tactic(auto, unfolding(crate::specs::DatetimeReading::byte_at))]
-fn behind(text: &[u8], byte: u8) -> Option<&[u8]>
-    ensures { Gives (λ rest. rest.now) result (byte_at byte text.now) }
-{
-    let (first, rest) = text.split_first()?;
-    if *first == byte { Some(rest) } else { None }
-}
-
 #[tactic(auto, unfolding(crate::specs::DatetimeReading::day_at))]
 fn day_of(text: &[u8]) -> Option<(Day, &[u8])>
     ensures { Gives (λ x. (x.0, x.1.now)) result (day_at text.now) }
 {
     let (year, rest) = field(text, 4)?;
-    let rest = behind(rest, b'-')?;
+    let rest = digits::behind(rest, b'-')?;
     let (month, rest) = field(rest, 2)?;
-    let rest = behind(rest, b'-')?;
+    let rest = digits::behind(rest, b'-')?;
     let (day, rest) = field(rest, 2)?;
     Some((Day { year, month, day }, rest))
 }
@@ -117,7 +109,7 @@ fn zone_of(text: &[u8]) -> Option<Zone>
 fn fraction_of(text: &[u8]) -> Option<(Option<u64>, &[u8])>
     ensures { Gives (λ x. (x.0, x.1.now)) result (fraction_at text.now) }
 {
-    let Some(rest) = behind(text, b'.') else {
+    let Some(rest) = digits::behind(text, b'.') else {
         return Some((None, text));
     };
     let (milliseconds, rest) = field(rest, 3)?;
@@ -128,11 +120,11 @@ fn fraction_of(text: &[u8]) -> Option<(Option<u64>, &[u8])>
 fn clock_of(text: &[u8]) -> Option<Clock>
     ensures { result ≡ clock_at text.now }
 {
-    let rest = behind(text, b'T')?;
+    let rest = digits::behind(text, b'T')?;
     let (hour, rest) = field(rest, 2)?;
-    let rest = behind(rest, b':')?;
+    let rest = digits::behind(rest, b':')?;
     let (minute, rest) = field(rest, 2)?;
-    let rest = behind(rest, b':')?;
+    let rest = digits::behind(rest, b':')?;
     let (second, rest) = field(rest, 2)?;
     let (millisecond, rest) = fraction_of(rest)?;
     let zone = zone_of(rest)?;

@@ -1,5 +1,6 @@
 use Rattle.std.proofs.Common.{option_map, rules, ap, sym, ◌∙◌}
-use Rattle.smt_cli.specs.Job.{built_job, job_of_sections, ◌>>=◌}
+use Rattle.smt_semantics.specs.Script.{◌>>=◌}
+use Rattle.smt_cli.specs.Job.{built_job, job_of_sections}
 use Rattle.smt_cli.proofs.Shapes.{sections_few, sections_many}
 use Rattle.smt_cli.proofs.job.job_from.Goals as goal
 use Rattle.smt_cli.proofs.job.job_from.Goals.{in_default-sections-via-then-sections-lt4, in_default-sections-via-else-sections-lt4+else-sections-lt5}

@@ -1,6 +1,7 @@
 use Rattle.std.proofs.Common.{◌∷◌, ap, ◌∙◌, arith}
+use Rattle.smt_semantics.specs.Script.{◌>>=◌}
 use Rattle.smt_term.specs.View.{plain_op, plain_term}
-use Rattle.smt_cli.specs.Job.{◌>>=◌, applied, terms_of}
+use Rattle.smt_cli.specs.Job.{applied, terms_of}
 use Rattle.smt_cli.specs.JobView.{listed}
 use Rattle.smt_cli.proofs.Forms.{form_passes, headed_operator, headed_variable}
 use Rattle.smt_cli.proofs.Giving.{built_from_none}

@@ -1,15 +1,27 @@
-use Rattle.std.proofs.Common.{◌≡◌, ◌≤◌, List, [], ◌∷◌, length, map, refl, arith}
-use Rattle.smt_term.specs.Plain.{PlainType, terms}
-use Rattle.smt_term.specs.View.{plain_term, plain_type}
+use Rattle.std.proofs.Common.{◌≡◌, ◌≤◌, ◌<◌, List, [], ◌∷◌, length, get_or, map, refl, ap, sym, ◌∙◌, arith}
+use Rattle.std.proofs.lemmas.Result.{IfOk-weaker}
+use Rattle.smt_term.specs.Plain.{PlainType, BoolType, no_terms, one_term, terms}
+use Rattle.smt_term.specs.Types.{type_of}
+use Rattle.smt_term.specs.View.{plain_term, plain_type, plain_type-Bool}
 use Rattle.smt_term.specs.declared.term.Term.{Term}
-use Rattle.smt_lines.specs.Lines.{AsItStands, negation_manner}
+use Rattle.smt_lines.specs.Lines.{AsItStands, least_manner, negation_manner}
 use Rattle.smt_encode.proofs.manner.negation_manner.Goals as goal
 
+-- a test of one operand is written by the operand's type
+one : (ts : List Term) (t : Term) (type : PlainType) → 1 ≤ length ts → length ts < 2 → t ≡ get_or ts 0 t → type ≡ BoolType → least_manner (type_of (plain_term t)) ≡ negation_manner (terms (map plain_term ts)) type
+one (a ∷ []) t type l m is same = ap (λ u. least_manner (type_of (plain_term u))) is ∙ sym (ap (negation_manner (one_term (plain_term a) no_terms)) same)
+one [] t type l m is same = absurd (omega (arith, l))
+one (a ∷ b ∷ ts) t type l m is same = absurd (omega (arith, m))
+
+pub returns-in-len1 : goal.returns-in-len1
+returns-in-len1 c =
+    IfOk-weaker c.least_manner.result _ _ (λ m e. e ∙ one c.args.args.now c.operand-item.result (plain_type c.args.ret_ty.now) c.in-len1.len_at_least c.in-len1.len_below c.operand-item.is (ap plain_type c.in-Bool.is ∙ plain_type-Bool)) c.least_manner.ensures
+
 -- a test of two operands and more stands as it is
-many : (ts : List Term) (ty : PlainType) → 2 ≤ length ts → AsItStands ≡ negation_manner (terms (map plain_term ts)) ty
-many (a ∷ b ∷ ts) ty l = refl
-many [] ty l = absurd (omega (arith, l))
-many (a ∷ []) ty l = absurd (omega (arith, l))
+many : (ts : List Term) (type : PlainType) → 2 ≤ length ts → AsItStands ≡ negation_manner (terms (map plain_term ts)) type
+many (a ∷ b ∷ ts) type l = refl
+many [] type l = absurd (omega (arith, l))
+many (a ∷ []) type l = absurd (omega (arith, l))
 
 pub returns-in_default-2 : goal.returns-in_default-2
 returns-in_default-2 c = many c.args.args.now (plain_type c.args.ret_ty.now) c.in_default.len_at_least

@@ -6,7 +6,7 @@ use Rattle.smt_factory.specs.FoldRows.{b, byte}
 use Rattle.smt_factory.specs.StandsFor.{StandsFor}
 use Rattle.smt_factory.proofs.laws.standing_tells_apart.Goals as goal
 use Rattle.smt_term.specs.Defaults.{default_interpretation}
-use Rattle.smt_term.specs.Types.{Typed}
+use Rattle.smt_term.specs.Typing.{Typed}
 use Rattle.smt_term.specs.Plain.{PlainType, BitVecType, BoolType}
 use Rattle.smt_term.specs.Values.{BoolValue}
 

@@ -1,6 +1,5 @@
-use Rattle.smt_lines.proofs.Numerals as numbers
 use Rattle.smt_lines.proofs.Differ as laws
 use Rattle.smt_lines.proofs.names.names_differ_by_number.Goals as goal
 
 pub returns : goal.returns
-returns c = record { numerals = numbers.numerals_differ; printed = numbers.numerals_are_printed; functions = laws.functions_differ; types = laws.types_differ; terms = laws.terms_differ }
+returns c = record { functions = laws.functions_differ; types = laws.types_differ; terms = laws.terms_differ }

@@ -5,7 +5,7 @@ use Rattle.smt_term.specs.Examples.{TypeRows, ValueRows, ReachedRows}
 use Rattle.smt_term.proofs.laws.term_rows.Goals as goal
 
 types : TypeRows
-types = record { of_parts = refl; operators = refl; tests = refl; widths_differ = refl; no_bits = refl; truths = refl; no_truths = refl; negated = refl; chosen = refl; negations = refl; no_negations = refl; wider = refl; members = refl; sets = refl; no_sets = refl; options = refl; attributes = refl; likes = refl; functions = refl; addresses = refl; ill_typed = refl; well_typed = refl }
+types = record { of_parts = refl; operators = refl; tests = refl; widths_differ = refl; no_bits = refl; truths = refl; no_truths = refl; negated = refl; chosen = refl; negations = refl; no_negations = refl; wider = refl; members = refl; sets = refl; no_sets = refl; options = refl; attributes = refl; likes = refl; functions = refl; addresses = refl; ill_typed = refl; no_sets_of_order = refl; in_order = refl; well_typed = refl }
 
 values : ValueRows
 unfolding chars

@@ -4,7 +4,8 @@ use Rattle.smt_term.specs.Interpretations.{IsGiven}
 use Rattle.smt_term.specs.Meaning.{meaning}
 use Rattle.smt_term.specs.Reached.{subterms}
 use Rattle.smt_term.specs.Shapes.{IsShaped}
-use Rattle.smt_term.specs.Types.{typed, type_of}
+use Rattle.smt_term.specs.Types.{type_of}
+use Rattle.smt_term.specs.Typing.{typed}
 use Rattle.smt_term.proofs.Shapes.{shaped, term_shaped}
 use Rattle.smt_term.proofs.Soundness.{all-front}
 use Rattle.smt_term.proofs.laws.typed_terms_have_shapes.Goals as goal

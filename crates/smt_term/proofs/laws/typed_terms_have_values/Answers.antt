@@ -4,7 +4,8 @@ use Rattle.smt_term.specs.Faults.{term_fault}
 use Rattle.smt_term.specs.Interpretations.{IsGiven}
 use Rattle.smt_term.specs.Meaning.{meaning}
 use Rattle.smt_term.specs.Reached.{subterms}
-use Rattle.smt_term.specs.Types.{typed, type_of}
+use Rattle.smt_term.specs.Types.{type_of}
+use Rattle.smt_term.specs.Typing.{typed}
 use Rattle.smt_term.specs.TypeValues.{IsValue}
 use Rattle.smt_term.proofs.Soundness.{all-front, none-first, valued}
 use Rattle.smt_term.proofs.laws.typed_terms_have_values.Goals as goal

@@ -1,10 +1,10 @@
-use Rattle.std.proofs.Common.{map, ap, ◌∙◌}
-use Rattle.std.specs.Io.KnownBytes.{append_known}
+use Rattle.std.proofs.Common.{map, refl}
 use Rattle.std.proofs.lemmas.Result.{on_ok_weaker}
 use Rattle.smt_term.specs.View.{plain_term}
 use Rattle.smt_encode.specs.Encoded.{enums_in}
 use Rattle.smt_encode.proofs.Conditions.{headline, models_make_true}
-use Rattle.smt_encode.proofs.Scripted.{ok_anyway, text_written}
+use Rattle.smt_encode.proofs.Faulted.{named_is_first, ok_without_fault, only_memory}
+use Rattle.smt_encode.proofs.Scripted.{text_written}
 use Rattle.smt_encode.proofs.encoder.Encoder.encode.Goals as goal
 
 pub returns-clause-text : goal.returns-clause-text
@@ -12,7 +12,25 @@ returns-clause-text g c has =
     on_ok_weaker c.put_script-outcome.result (text_written (enums_in c.args.self.now) (map plain_term c.args.terms.now)) (c.put_script-outcome.ensures.lines has)
 
 pub returns-clause-headline : goal.returns-clause-headline
-returns-clause-headline g c typed = ok_anyway c.put_script-outcome.result (headline c.args.self.now.enums.now c.args.terms.now typed)
+returns-clause-headline g c typed =
+    ok_without_fault (enums_in c.args.self.now) (map plain_term c.args.terms.now) c.put_script-outcome.result c.put_script-outcome.ensures.fault (headline c.args.self.now.enums.now c.args.terms.now typed)
 
 pub returns-clause-models : goal.returns-clause-models
-returns-clause-models g c typed = ok_anyway c.put_script-outcome.result (models_make_true c.args.self.now.enums.now c.args.terms.now typed)
+returns-clause-models g c typed =
+    ok_without_fault (enums_in c.args.self.now) (map plain_term c.args.terms.now) c.put_script-outcome.result c.put_script-outcome.ensures.fault (models_make_true c.args.self.now.enums.now c.args.terms.now typed)
+
+pub returns-clause-fault : goal.returns-clause-fault
+returns-clause-fault g c =
+    ok_without_fault (enums_in c.args.self.now) (map plain_term c.args.terms.now) c.put_script-outcome.result c.put_script-outcome.ensures.fault (λ none. none)
+
+pub returns-clause-string : goal.returns-clause-string
+returns-clause-string g c text is =
+    named_is_first (enums_in c.args.self.now) (map plain_term c.args.terms.now) c.put_script-outcome.result c.put_script-outcome.ensures.fault _ _ is refl
+
+pub returns-clause-pattern : goal.returns-clause-pattern
+returns-clause-pattern g c pattern is =
+    named_is_first (enums_in c.args.self.now) (map plain_term c.args.terms.now) c.put_script-outcome.result c.put_script-outcome.ensures.fault _ _ is refl
+
+pub returns-clause-complete : goal.returns-clause-complete
+returns-clause-complete g c unspent none quiet =
+    only_memory (enums_in c.args.self.now) (map plain_term c.args.terms.now) c.put_script-outcome.result c.put_script-outcome.ensures.fault none c.put_script-outcome.ensures.cause.cause c.put_script-outcome.ensures.cause.unspent quiet

@@ -1,7 +1,9 @@
-use Rattle.std.proofs.Common.{◌≡◌, ◌+◌, true, ◌&&◌, refl, sym, ap, ◌∙◌, arith, drop, map}
+use Rattle.std.proofs.Common.{◌+◌, ◌&&◌, refl, sym, ap, ◌∙◌, arith, drop, map}
 use Rattle.smt_term.specs.Types.{is_type, result_type, type_of}
+use Rattle.smt_term.specs.TermOrder.{term_cmp}
+use Rattle.smt_term.specs.ValueOrder.{ascends}
 use Rattle.smt_term.specs.View.{plain_op, plain_term, plain_type}
-use Rattle.smt_term.proofs.TypedArguments.{application_typed, not_given, typed_list, typed_more, typed_none}
+use Rattle.smt_term.proofs.TypedArguments.{application_typed, are_all, not_given, set_typed, typed_list, typed_more, typed_none}
 use Rattle.smt_term.proofs.term.Term.+well_typed.Goals as goal
 
 pub loop-arg-init : goal.loop-arg-init
@@ -33,3 +35,34 @@ returns-else-takes t c =
     let given = is_type (result_type (plain_op c.in-App.op) (map type_of (map plain_term c.items-args.result.now))) (plain_type c.in-App.ret_ty) in
     let none = not_given (result_type (plain_op c.in-App.op) (map type_of (map plain_term c.items-args.result.now))) (plain_type c.in-App.ret_ty) (sym c.takes.ensures ∙ c.if-takes.false) in
     c.if-takes.false ∙ sym (application_typed c.args.self.now c.in-App.op c.in-App.args c.in-App.ret_ty c.items-args.result.now c.in-App.is c.items-args.ensures.plain ∙ ap (λ b. b && given) all ∙ none)
+
+pub returns-then-not-well_typed-2 : goal.returns-then-not-well_typed-2
+returns-then-not-well_typed-2 t c =
+    let items = c.items-elements.result.now in
+    let untyped = sym c.well_typed-in-loop-element.ensures ∙ c.if-not-well_typed-2.true in
+    let left = typed_more items c.loop-element.element-index c.element-item.result c.loop-element-test.true c.element-item.is in
+    let none = sym c.loop-element.invariant ∙ left ∙ ap (λ b. b && typed_list (drop (c.loop-element.element-index + 1) items)) untyped in
+    sym (set_typed c.args.self.now c.in-Set.elts_ty c.in-Set.elts items c.in-Set.is c.items-elements.ensures.plain ∙ ap (λ b. b && (are_all c.in-Set.elts_ty items && ascends term_cmp (map plain_term items))) none)
+
+pub loop-element-preserved : goal.loop-element-preserved
+loop-element-preserved t c =
+    let items = c.items-elements.result.now in
+    let typed = sym c.well_typed-in-loop-element.ensures ∙ c.if-not-well_typed-2.false in
+    let left = typed_more items c.loop-element.element-index c.element-item.result c.loop-element-test.true c.element-item.is in
+    sym (left ∙ ap (λ b. b && typed_list (drop (c.loop-element.element-index + 1) items)) typed) ∙ c.loop-element.invariant
+
+pub returns-then-are_of_type : goal.returns-then-are_of_type
+returns-then-are_of_type t c =
+    let items = c.items-elements.result.now in
+    let all = sym c.loop-element.invariant ∙ typed_none items c.loop-element.element-index (omega (arith, c.loop-element-test.false)) in
+    c.ascend.ensures ∙ sym (set_typed c.args.self.now c.in-Set.elts_ty c.in-Set.elts items c.in-Set.is c.items-elements.ensures.plain
+    ∙ ap (λ b. b && (are_all c.in-Set.elts_ty items && ascends term_cmp (map plain_term items))) all
+    ∙ ap (λ b. b && ascends term_cmp (map plain_term items)) (sym c.are_of_type.ensures ∙ c.if-are_of_type.true))
+
+pub returns-else-are_of_type : goal.returns-else-are_of_type
+returns-else-are_of_type t c =
+    let items = c.items-elements.result.now in
+    let all = sym c.loop-element.invariant ∙ typed_none items c.loop-element.element-index (omega (arith, c.loop-element-test.false)) in
+    c.if-are_of_type.false ∙ sym (set_typed c.args.self.now c.in-Set.elts_ty c.in-Set.elts items c.in-Set.is c.items-elements.ensures.plain
+    ∙ ap (λ b. b && (are_all c.in-Set.elts_ty items && ascends term_cmp (map plain_term items))) all
+    ∙ ap (λ b. b && ascends term_cmp (map plain_term items)) (sym c.are_of_type.ensures ∙ c.if-are_of_type.false))

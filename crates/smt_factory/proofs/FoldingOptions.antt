@@ -1,0 +1,112 @@
+-- What the code's tests of options decide, in the words of the foldings.
+use Rattle.std.proofs.Common.{◌≡◌, true, false, List, [], ◌∷◌, refl, ap, ◌∙◌, sym, subst}
+use Rattle.std.specs.Prelude.{Option, Some, None}
+use Rattle.smt_factory.specs.Applications.{false_term, option_get_of, is_none_of, is_some_of, if_false_of, if_true_of, if_some_of, if_all_some_of, type_inside}
+use Rattle.smt_factory.specs.FoldConnectives.{folded_not}
+use Rattle.smt_factory.specs.FoldEquality.{folded_eq, folded_ite}
+use Rattle.smt_factory.specs.FoldOptions.{folded_option_get, folded_is_none_by_type, none_by_branches, none_by_arguments, none_by_form, folded_is_none, folded_is_some, folded_if_false, folded_if_true, folded_unless, folded_if_some, folded_if_all_some}
+use Rattle.smt_factory.specs.Parts.{held, is_none_term}
+use Rattle.smt_factory.specs.StandsFor.{StandsFor}
+use Rattle.smt_factory.proofs.OptionsStand.{stands_option_get, stands_is_none, stands_is_some, stands_if_false, stands_if_true, stands_if_some, stands_if_all_some}
+use Rattle.smt_term.proofs.TypedArguments.{listed}
+use Rattle.smt_term.specs.Plain.{PlainType, OptionType, IteOp, OptionGetOp, PlainTerm, Application, NoneTerm, SomeTerm, terms}
+use Rattle.smt_term.specs.Types.{inner_type, type_of}
+
+-- ---- what an option holds
+
+pub folded_option_get-held : (t u : PlainTerm) → t ≡ SomeTerm u → folded_option_get t ≡ u
+folded_option_get-held t u e = ap folded_option_get e
+
+inside_of : (ty x : PlainType) → inner_type ty ≡ Some x → type_inside ty ≡ x
+inside_of (OptionType t) x e = cc
+inside_of ty x e = cc
+
+by_type : (t : PlainTerm) (x : PlainType) → inner_type (type_of t) ≡ Some x → (elim (inner_type (type_of t)) [ Some ty ↦ option_get_of t | None ↦ t ]) ≡ Application OptionGetOp (terms (t ∷ [])) x
+by_type t x e = ap (λ (o : Option PlainType). elim o as (λ _. PlainTerm) [ Some ty ↦ option_get_of t | None ↦ t ]) e ∙ ap (Application OptionGetOp (terms (t ∷ []))) (inside_of (type_of t) x e)
+
+pub folded_option_get-option : (t : PlainTerm) (x : PlainType) → held t ≡ None → inner_type (type_of t) ≡ Some x → folded_option_get t ≡ Application OptionGetOp (terms (t ∷ [])) x
+folded_option_get-option (SomeTerm t) x h e = cc
+folded_option_get-option t x h e = by_type t x e
+
+pub folded_option_get-other : (t : PlainTerm) → inner_type (type_of t) ≡ None → folded_option_get t ≡ t
+folded_option_get-other (SomeTerm t) e = cc
+folded_option_get-other t e = ap (λ (o : Option PlainType). elim o as (λ _. PlainTerm) [ Some ty ↦ option_get_of t | None ↦ t ]) e
+
+-- ---- whether an option is none
+
+pub by_branches-some : (g t u a b : PlainTerm) → t ≡ SomeTerm a → u ≡ SomeTerm b → none_by_branches g t u ≡ Some false_term
+by_branches-some g t u a b e d = λ i. none_by_branches g (e i) (d i)
+
+pub by_branches-negated : (g t u a : PlainTerm) → t ≡ SomeTerm a → is_none_term u ≡ true → none_by_branches g t u ≡ Some (folded_not g)
+by_branches-negated g t (NoneTerm ty) a e d = ap (λ x. none_by_branches g x (NoneTerm ty)) e
+by_branches-negated g t u a e d = cc
+
+pub by_branches-guard : (g t u b : PlainTerm) → is_none_term t ≡ true → u ≡ SomeTerm b → none_by_branches g t u ≡ Some g
+by_branches-guard g (NoneTerm ty) u b e d = ap (none_by_branches g (NoneTerm ty)) d
+by_branches-guard g t u b e d = cc
+
+pub by_branches-first : (g t u : PlainTerm) → held u ≡ None → is_none_term u ≡ false → none_by_branches g t u ≡ None
+by_branches-first g t (SomeTerm u) e d = cc
+by_branches-first g t (NoneTerm ty) e d = cc
+by_branches-first g (SomeTerm t) u e d = refl
+by_branches-first g (NoneTerm ty) u e d = refl
+by_branches-first g t u e d = refl
+
+pub by_branches-second : (g t u : PlainTerm) → held t ≡ None → is_none_term t ≡ false → none_by_branches g t u ≡ None
+by_branches-second g (SomeTerm t) u e d = cc
+by_branches-second g (NoneTerm ty) u e d = cc
+by_branches-second g t u e d = refl
+
+pub by_branches-neither : (g t u : PlainTerm) → held t ≡ None → held u ≡ None → none_by_branches g t u ≡ None
+by_branches-neither g (SomeTerm t) u e d = cc
+by_branches-neither g t (SomeTerm u) e d = cc
+by_branches-neither g (NoneTerm ty) u e d = refl
+by_branches-neither g t u e d = refl
+
+pub by_form-choice : (ts : List PlainTerm) (ty : PlainType) → none_by_form (Application IteOp (terms ts) ty) ≡ none_by_arguments ts
+by_form-choice ts ty = ap none_by_arguments (listed ts)
+
+pub by_type-option : (t : PlainTerm) (x : PlainType) → inner_type (type_of t) ≡ Some x → folded_is_none_by_type t ≡ folded_eq t (NoneTerm x)
+by_type-option t x e = ap (λ (o : Option PlainType). elim o as (λ _. PlainTerm) [ Some ty ↦ folded_eq t (NoneTerm ty) | None ↦ false_term ]) e
+
+pub by_type-other : (t : PlainTerm) → inner_type (type_of t) ≡ None → folded_is_none_by_type t ≡ false_term
+by_type-other t e = ap (λ (o : Option PlainType). elim o as (λ _. PlainTerm) [ Some ty ↦ folded_eq t (NoneTerm ty) | None ↦ false_term ]) e
+
+pub is_none-known : (t r : PlainTerm) → none_by_form t ≡ Some r → folded_is_none t ≡ r
+is_none-known t r e = ap (λ (o : Option PlainTerm). elim o as (λ _. PlainTerm) [ Some x ↦ x | None ↦ folded_is_none_by_type t ]) e
+
+pub is_none-unknown : (t : PlainTerm) → none_by_form t ≡ None → folded_is_none t ≡ folded_is_none_by_type t
+is_none-unknown t e = ap (λ (o : Option PlainTerm). elim o as (λ _. PlainTerm) [ Some x ↦ x | None ↦ folded_is_none_by_type t ]) e
+
+-- ---- options by a guard
+
+pub unless-option : (g t : PlainTerm) (x : PlainType) → inner_type (type_of t) ≡ Some x → folded_unless g t ≡ folded_ite g (NoneTerm x) t
+unless-option g t x e = ap (λ (o : Option PlainType). elim o as (λ _. PlainTerm) [ Some ty ↦ folded_ite g (NoneTerm ty) t | None ↦ folded_if_false g t ]) e
+
+pub unless-other : (g t : PlainTerm) → inner_type (type_of t) ≡ None → folded_unless g t ≡ folded_if_false g t
+unless-other g t e = ap (λ (o : Option PlainType). elim o as (λ _. PlainTerm) [ Some ty ↦ folded_ite g (NoneTerm ty) t | None ↦ folded_if_false g t ]) e
+
+-- ---- what is folded stands for what was asked for
+
+pub stands_for_option_get : (r t : PlainTerm) → r ≡ folded_option_get t → StandsFor r (option_get_of t)
+stands_for_option_get r t e = subst (λ (x : PlainTerm). StandsFor x (option_get_of t)) (sym e) (stands_option_get t)
+
+pub stands_for_is_none : (r t : PlainTerm) → r ≡ folded_is_none t → StandsFor r (is_none_of t)
+stands_for_is_none r t e = subst (λ (x : PlainTerm). StandsFor x (is_none_of t)) (sym e) (stands_is_none t)
+
+pub stands_for_is_some : (r t : PlainTerm) → r ≡ folded_is_some t → StandsFor r (is_some_of t)
+stands_for_is_some r t e = subst (λ (x : PlainTerm). StandsFor x (is_some_of t)) (sym e) (stands_is_some t)
+
+pub stands_for_if_false : (r g t : PlainTerm) → r ≡ folded_if_false g t → StandsFor r (if_false_of g t)
+stands_for_if_false r g t e = subst (λ (x : PlainTerm). StandsFor x (if_false_of g t)) (sym e) (stands_if_false g t)
+
+pub stands_for_if_true : (r g t : PlainTerm) → r ≡ folded_if_true g t → StandsFor r (if_true_of g t)
+stands_for_if_true r g t e = subst (λ (x : PlainTerm). StandsFor x (if_true_of g t)) (sym e) (stands_if_true g t)
+
+pub stands_for_if_some : (r g t : PlainTerm) → r ≡ folded_if_some g t → StandsFor r (if_some_of g t)
+stands_for_if_some r g t e = subst (λ (x : PlainTerm). StandsFor x (if_some_of g t)) (sym e) (stands_if_some g t)
+
+pub stands_for_if_all_some : (r : PlainTerm) (gs : List PlainTerm) (t : PlainTerm) → r ≡ folded_if_all_some gs t → StandsFor r (if_all_some_of gs t)
+stands_for_if_all_some r gs t e = subst (λ (x : PlainTerm). StandsFor x (if_all_some_of gs t)) (sym e) (stands_if_all_some gs t)
+
+pub ruleset option_folding = (folded_option_get-held, folded_option_get-option, folded_option_get-other, by_branches-some, by_branches-negated, by_branches-guard, by_branches-first, by_branches-second, by_branches-neither, by_form-choice, by_type-option, by_type-other, is_none-known, is_none-unknown, unless-option, unless-other, stands_for_option_get, stands_for_is_none, stands_for_is_some, stands_for_if_false, stands_for_if_true, stands_for_if_some, stands_for_if_all_some)

@@ -1,0 +1,111 @@
+-- What the code's tests of sets and strings decide, in the words of the foldings.
+use Rattle.std.proofs.Common.{◌≡◌, ℕ, ◌+◌, ◌<◌, ◌≤◌, Bool, true, false, ◌&&◌, ◌||◌, cond, List, [], ◌∷◌, ◌++◌, map, drop, length, get_or, refl, ap, ◌∙◌, sym, subst}
+use Rattle.std.specs.Prelude.{◌↔◌, IsTrue, Option, Some, None, filter}
+use Rattle.std.specs.List.{list_all, list_any}
+use Rattle.std.specs.Str.{chars}
+use Rattle.std.proofs.lemmas.List.{at_drop_more, at_drop_all}
+use Rattle.smt_factory.specs.Applications.{truth_literal, false_term, string_like_of, set_member_of, set_subset_of, set_inter_of, set_is_empty_of, set_intersects_of}
+use Rattle.smt_factory.specs.FoldEquality.{folded_eq}
+use Rattle.smt_factory.specs.FoldSets.{common_set, folded_set_inter, folded_set_intersects, folded_set_is_empty, folded_set_member, folded_set_subset, is_among}
+use Rattle.smt_factory.specs.FoldStrings.{folded_string_like}
+use Rattle.smt_factory.specs.Parts.{element_type, elements_in, is_empty_set, is_set_literal, is_set_term, text_inside}
+use Rattle.smt_factory.specs.StandsFor.{StandsFor}
+use Rattle.smt_factory.proofs.SetsStand.{stands_set_inter, stands_set_intersects, stands_set_is_empty, stands_set_member, stands_set_subset}
+use Rattle.smt_factory.proofs.StringsStand.{stands_string_like}
+use Rattle.smt_term.proofs.DerivedEquality.{eq-is}
+use Rattle.smt_term.proofs.TypedArguments.{listed}
+use Rattle.smt_term.specs.Literals.{is_literal}
+use Rattle.smt_term.specs.Patterns.{matches}
+use Rattle.smt_term.specs.TermOrder.{term_eq}
+use Rattle.smt_term.specs.TermSets.{set_term}
+use Rattle.smt_term.specs.Types.{type_of}
+use Rattle.smt_term.specs.View.{plain_term}
+use Rattle.smt_term.specs.declared.term.Term.{Term}
+use Rattle.smt_term.specs.Plain.{PlainType, PatternPart, StringLiteral, PlainTerm, LiteralTerm, SetTerm, no_terms, one_term, terms}
+
+-- ---- strings
+
+pub folded_string_like-text : (t : PlainTerm) (p : List PatternPart) (s : List ℕ) → t ≡ LiteralTerm (StringLiteral s) → folded_string_like t p ≡ truth_literal (matches p (chars s))
+folded_string_like-text t p s e = ap (λ u. folded_string_like u p) e
+
+pub folded_string_like-other : (t : PlainTerm) (p : List PatternPart) → text_inside t ≡ None → folded_string_like t p ≡ string_like_of t p
+folded_string_like-other (LiteralTerm (StringLiteral s)) p e = cc
+folded_string_like-other t p e = refl
+
+-- ---- what a set is
+
+pub elements_in-set : (ty : PlainType) (ts : List PlainTerm) → elements_in (SetTerm ty (terms ts)) ≡ ts
+elements_in-set ty ts = listed ts
+
+pub empty_set-is : (ty : PlainType) (ts : List PlainTerm) (b : Bool) → IsTrue b ↔ (ts ≡ []) → b ≡ is_empty_set (SetTerm ty (terms ts))
+empty_set-is ty [] b h = h.1 refl
+empty_set-is ty (t ∷ ts) true h = let e : t ∷ ts ≡ [] = h.0 refl in cc
+empty_set-is ty (t ∷ ts) false h = refl
+
+pub set_literal-is : (t : PlainTerm) → is_set_literal t ≡ (is_set_term t && is_literal t)
+set_literal-is (SetTerm ty ts) = refl
+set_literal-is t = refl
+
+pub common_set-set : (ty : PlainType) (ts : List PlainTerm) (u : PlainTerm) → common_set (SetTerm ty (terms ts)) u ≡ set_term ty (filter (is_among (elements_in u)) ts)
+common_set-set ty ts u = ap (λ l. set_term ty (filter (is_among (elements_in u)) l)) (listed ts)
+
+pub is_empty-elements : (t : PlainTerm) → is_set_term t ≡ true → folded_set_is_empty t ≡ truth_literal (is_empty_set t)
+is_empty-elements (SetTerm ty ts) e = refl
+is_empty-elements t e = cc
+
+by_type : (t : PlainTerm) (x : PlainType) → element_type (type_of t) ≡ Some x → (elim (element_type (type_of t)) [ Some ty ↦ folded_eq t (SetTerm ty no_terms) | None ↦ false_term ]) ≡ folded_eq t (SetTerm x no_terms)
+by_type t x e = ap (λ (o : Option PlainType). elim o as (λ _. PlainTerm) [ Some ty ↦ folded_eq t (SetTerm ty no_terms) | None ↦ false_term ]) e
+
+pub is_empty-set : (t : PlainTerm) (x : PlainType) → is_set_term t ≡ false → element_type (type_of t) ≡ Some x → folded_set_is_empty t ≡ folded_eq t (SetTerm x no_terms)
+is_empty-set (SetTerm ty ts) x e d = cc
+is_empty-set t x e d = by_type t x d
+
+pub is_empty-other : (t : PlainTerm) → element_type (type_of t) ≡ None → folded_set_is_empty t ≡ false_term
+is_empty-other (SetTerm ty ts) e = cc
+is_empty-other t e = ap (λ (o : Option PlainType). elim o as (λ _. PlainTerm) [ Some ty ↦ folded_eq t (SetTerm ty no_terms) | None ↦ false_term ]) e
+
+-- ---- lists of terms, by one and the others
+
+module _ (ts : List Term) (i : ℕ) (t : Term) (l : i < length ts) (is : t ≡ get_or ts i t) where
+  pub among_more : (x : PlainTerm) → is_among (map plain_term (drop i ts)) x ≡ (term_eq x (plain_term t) || is_among (map plain_term (drop (i + 1) ts)) x)
+  among_more x = at_drop_more (λ (us : List Term). is_among (map plain_term us) x) ts i t l ∙ ap (λ u. term_eq x (plain_term u) || is_among (map plain_term (drop (i + 1) ts)) x) (sym is)
+
+  pub all_more : (p : PlainTerm → Bool) → list_all p (map plain_term (drop i ts)) ≡ (p (plain_term t) && list_all p (map plain_term (drop (i + 1) ts)))
+  all_more p = at_drop_more (λ (us : List Term). list_all p (map plain_term us)) ts i t l ∙ ap (λ u. p (plain_term u) && list_all p (map plain_term (drop (i + 1) ts))) (sym is)
+
+  pub filter_more : (p : PlainTerm → Bool) → filter p (map plain_term (drop i ts)) ≡ cond (p (plain_term t)) (plain_term t ∷ filter p (map plain_term (drop (i + 1) ts))) (filter p (map plain_term (drop (i + 1) ts)))
+  filter_more p =
+      at_drop_more (λ (us : List Term). filter p (map plain_term us)) ts i t l
+      ∙ ap (λ u. cond (p (plain_term u)) (plain_term u ∷ filter p (map plain_term (drop (i + 1) ts))) (filter p (map plain_term (drop (i + 1) ts)))) (sym is)
+
+module _ (ts : List Term) (i : ℕ) (l : length ts ≤ i) where
+  pub among_none : (x : PlainTerm) → is_among (map plain_term (drop i ts)) x ≡ false
+  among_none x = at_drop_all (λ (us : List Term). is_among (map plain_term us) x) ts i l
+
+  pub all_none : (p : PlainTerm → Bool) → list_all p (map plain_term (drop i ts)) ≡ true
+  all_none p = at_drop_all (λ (us : List Term). list_all p (map plain_term us)) ts i l
+
+  pub filter_none : (p : PlainTerm → Bool) → filter p (map plain_term (drop i ts)) ≡ []
+  filter_none p = at_drop_all (λ (us : List Term). filter p (map plain_term us)) ts i l
+
+-- ---- what is folded stands for what was asked for
+
+pub stands_for_string_like : (r t : PlainTerm) (p : List PatternPart) → r ≡ folded_string_like t p → StandsFor r (string_like_of t p)
+stands_for_string_like r t p e = subst (λ (x : PlainTerm). StandsFor x (string_like_of t p)) (sym e) (stands_string_like t p)
+
+pub stands_for_set_member : (r t u : PlainTerm) → r ≡ folded_set_member t u → StandsFor r (set_member_of t u)
+stands_for_set_member r t u e = subst (λ (x : PlainTerm). StandsFor x (set_member_of t u)) (sym e) (stands_set_member t u)
+
+pub stands_for_set_subset : (r t u : PlainTerm) → r ≡ folded_set_subset t u → StandsFor r (set_subset_of t u)
+stands_for_set_subset r t u e = subst (λ (x : PlainTerm). StandsFor x (set_subset_of t u)) (sym e) (stands_set_subset t u)
+
+pub stands_for_set_inter : (r t u : PlainTerm) → r ≡ folded_set_inter t u → StandsFor r (set_inter_of t u)
+stands_for_set_inter r t u e = subst (λ (x : PlainTerm). StandsFor x (set_inter_of t u)) (sym e) (stands_set_inter t u)
+
+pub stands_for_set_is_empty : (r t : PlainTerm) → r ≡ folded_set_is_empty t → StandsFor r (set_is_empty_of t)
+stands_for_set_is_empty r t e = subst (λ (x : PlainTerm). StandsFor x (set_is_empty_of t)) (sym e) (stands_set_is_empty t)
+
+pub stands_for_set_intersects : (r t u : PlainTerm) → r ≡ folded_set_intersects t u → StandsFor r (set_intersects_of t u)
+stands_for_set_intersects r t u e = subst (λ (x : PlainTerm). StandsFor x (set_intersects_of t u)) (sym e) (stands_set_intersects t u)
+
+pub ruleset set_folding = (eq-is, folded_string_like-text, folded_string_like-other, elements_in-set, set_literal-is, common_set-set, is_empty-elements, is_empty-set, is_empty-other, stands_for_string_like, stands_for_set_member, stands_for_set_subset, stands_for_set_inter, stands_for_set_is_empty, stands_for_set_intersects)
