@@ -9,14 +9,13 @@ use Rattle.smt_term.specs.Plain.{Application, SetTerm, SomeTerm, terms}
 use Rattle.smt_term.specs.Types.{type_of}
 use Rattle.smt_term.specs.View.{plain_items, plain_op, plain_term, plain_term-App, plain_term-None, plain_term-Set, plain_term-Some, plain_term-Var, plain_type}
 use Rattle.smt_lines.specs.Lines.{Enums, name_of_term, define, enter_term, encode_term, encode_terms, encode_type, none_body, set_body}
-use Rattle.smt_lines.proofs.Making.{types_leave}
+use Rattle.smt_lines.proofs.Making.{arguments_leave, elements_leave, inner_leaves, types_leave}
 use Rattle.smt_encode.specs.Encoded.{AreSpelled, enums_in, IsSpelled, Wrote}
 use Rattle.smt_encode.specs.Manners.{body_of, plain_manner}
 use Rattle.smt_encode.specs.Refusals.{fault_of}
 use Rattle.smt_encode.proofs.Applied.{alone_written, parts_written}
 use Rattle.smt_encode.proofs.Faulted.{one_passed, sort_fault}
 use Rattle.smt_encode.proofs.Going.{starts, same_enums, goes_on, ends}
-use Rattle.smt_encode.proofs.Larger.{extent, inner_leaves, parts_leave}
 use Rattle.smt_encode.proofs.Stated.{application_stated, as_some, declared, false_stated, named_unless, named_written, none_stated, set_stated, some_stated, variable_stated}
 use Rattle.smt_encode.proofs.encoder.Encoder.+walk.Goals as goal
 
@@ -59,7 +58,7 @@ encode_new-returns-in_ok-operands-in-App-clause-lines g m c s has absent =
     (c.in_ok-operands-in-App.ensures.lines w.tables sort.0.names) in
     let u = encode_terms enums ts w.tables in
     let how = ap plain_manner (sym c.in-Some-2.is) ∙ c.in_ok-manner-in-App.ensures in
-    let gone : name_of_term u.tables t ≡ None = parts_leave enums t c.items-args.result.now w.tables (ap extent listed) ∙ types_leave enums (type_of t) s t ∙ absent in
+    let gone : name_of_term u.tables t ≡ None = subst (λ k. name_of_term u.tables k ≡ name_of_term w.tables k) (sym listed) (arguments_leave enums (plain_op op) ts type w.tables) ∙ types_leave enums (type_of t) s t ∙ absent in
     parts_written enums t s c.args.self.now c.encode_sort.new.self sort.0 (λ v. encode_terms enums ts v) (λ e es v. define t e (body_of c.in-Some-2.manner (plain_op op) es) v) (application_stated enums t s absent c.in-Some-2.manner op ts type listed how)
     c.encode_terms.new.self c.define_application.new.self parts.0 c.define_application.result
     (c.define_application.ensures.lines u.tables w.made u.made parts.0.names gone (c.as_str.ensures.value ∙ sort.1) parts.1)
@@ -87,7 +86,7 @@ encode_new-returns-in_ok-body-in-Set-clause-lines g m c s has absent =
     let parts = subst (λ (e : Enums). Wrote g.S.Sink.held c.encode_sort-in-Set.new.self c.encode_terms-in-Set.new.self (encode_terms e ts w.tables).lines (encode_terms e ts w.tables).tables × AreSpelled (encode_terms e ts w.tables).made c.in_ok-operands-in-Set.operands.items) known
     (c.in_ok-operands-in-Set.ensures.lines w.tables sort.0.names) in
     let u = encode_terms enums ts w.tables in
-    let gone : name_of_term u.tables t ≡ None = parts_leave enums t c.items.result.now w.tables (ap extent listed) ∙ types_leave enums (type_of t) s t ∙ absent in
+    let gone : name_of_term u.tables t ≡ None = subst (λ k. name_of_term u.tables k ≡ name_of_term w.tables k) (sym listed) (elements_leave enums element ts w.tables) ∙ types_leave enums (type_of t) s t ∙ absent in
     parts_written enums t s c.args.self.now c.encode_sort-in-Set.new.self sort.0 (λ v. encode_terms enums ts v) (λ e es v. define t e (set_body e es) v) (set_stated enums t s absent element ts listed)
     c.encode_terms-in-Set.new.self c.define-in-Set.new.self parts.0 c.define-in-Set.result
     (c.define-in-Set.ensures.lines u.tables w.made (set_body w.made u.made) parts.0.names gone (c.as_str-in-Set-2.ensures.value ∙ sort.1)
@@ -105,7 +104,7 @@ encode_new-returns-in_ok-body-in-Some-clause-lines g m c s has absent =
     let parts = subst (λ (e : Enums). Wrote g.S.Sink.held c.encode_sort-in-Some.new.self c.encode_term.new.self (encode_term e inner w.tables).lines (encode_term e inner w.tables).tables × IsSpelled (encode_term e inner w.tables).made c.in_ok-operand-in-Some.operand) known
     (c.in_ok-operand-in-Some.ensures.lines w.tables sort.0.names) in
     let u = encode_term enums inner w.tables in
-    let gone : name_of_term u.tables t ≡ None = inner_leaves enums t c.deref.result.now w.tables (ap extent listed) ∙ types_leave enums (type_of t) s t ∙ absent in
+    let gone : name_of_term u.tables t ≡ None = subst (λ k. name_of_term u.tables k ≡ name_of_term w.tables k) (sym listed) (inner_leaves enums inner w.tables) ∙ types_leave enums (type_of t) s t ∙ absent in
     parts_written enums t s c.args.self.now c.encode_sort-in-Some.new.self sort.0 (λ v. encode_term enums inner v) (λ e x v. as_some t e x v) (some_stated enums t s absent inner listed)
     c.encode_term.new.self c.define-in-Some.new.self parts.0 c.define-in-Some.result
     (c.define-in-Some.ensures.lines u.tables w.made (group (name (codes "some") ∷ u.made ∷ [])) parts.0.names gone (c.as_str-in-Some.ensures.value ∙ sort.1)
