@@ -1,4 +1,4 @@
-ghost use Rattle.smt_factory.specs.Built.{BuiltTermsStand};
+ghost use Rattle.smt_factory.specs.Built.{BuiltTermsStand, FoldingAddsNoFault};
 ghost use Rattle.smt_factory.specs.FoldRows.{ApartRows, BitsRows, ConnectiveRows, EqualityRows, OptionRows, SetRows, StringRows};
 ghost use Rattle.smt_factory.specs.Laws.{AnswersStandFor, AnyIsTrue, BitsAreFolded, ConnectivesAreFolded, EqualityAndChoiceAreFolded, InterpretationsPass, LiteralsAreEqualByValue, OptionsAreFolded, SetsAreFolded, StandingIsKept, StringLikeIsFolded, TestsAreFolded, ValuesPass};
 
@@ -60,6 +60,11 @@ pub fn options_are_folded()
 /// What is built for a typed term, each application folded after its arguments, stands for it.
 pub fn built_terms_stand()
     ensures { BuiltTermsStand }
+{}
+
+/// What is built for a typed term without fault has no fault: folding drops faults and adds none.
+pub fn folding_adds_no_fault()
+    ensures { FoldingAddsNoFault }
 {}
 
 /// A literal with the operator's value at two literals stands for the application, whoever computed it.
