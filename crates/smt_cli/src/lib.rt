@@ -5,6 +5,7 @@ mod declaration;
 mod expression;
 mod input;
 mod job;
+pub mod laws;
 mod operator;
 mod program;
 mod source;
