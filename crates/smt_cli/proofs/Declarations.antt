@@ -1,6 +1,5 @@
 -- Variables that are declared one behind the other.
-use Rattle.std.proofs.Common.{◌≡◌, ℕ, Bool, true, false, cond, List, [], ◌∷◌, ◌++◌, Option, Some, None, bytes_eq, option_map, refl, sym, ap, ◌∙◌, subst, inl, inr, Ok, Err, Result}
-use Rattle.std.specs.Map.{lookup}
+use Rattle.std.proofs.Common.{◌≡◌, ℕ, Bool, true, false, cond, List, [], ◌∷◌, ◌++◌, Option, Some, None, bytes_eq, option_map, sym, ap, ◌∙◌, subst, inl, inr, Ok, Err, Result}
 use Rattle.std.specs.Prelude.{IsOkUnless, OnOk}
 use Rattle.std.specs.Rc.{rc_str_bytes}
 use Rattle.std.specs.declared.alloc.Global.{Global}
