@@ -1,6 +1,7 @@
 // Every call that allocates, once with ample memory, and the answers of the others at chosen terms.
 use super::*;
-use smt_bits::Width;
+use operators::application;
+use smt_bits::{BitVec, EIGHT, Width};
 use std::alloc::Global;
 use std::rc::Rc;
 use std::test::Fail;
@@ -43,7 +44,7 @@ fn variable(alloc: Global, id: &str, word: &str) -> Result<Term, Fail> {
     }))
 }
 
-/// How many forms a term of a type can have below.
+/// How many forms `term_of` knows.
 const FORMS: usize = 3;
 
 /// A term of a type in one of its forms: a variable, and where it is that of options, sets or texts, none, some and a
@@ -91,18 +92,41 @@ fn literals_in(alloc: Global, words: &str) -> Result<Vec<Term>, Fail> {
     Ok(terms)
 }
 
+/// The term that is spelled: a kind and what is in it, a variable and its type, or a literal.
+fn term(alloc: Global, spelling: &str) -> Result<Term, Fail> {
+    let (kind, rest) = spelling.split_once(' ').unwrap_or((spelling, ""));
+    match kind {
+        "and" | "not" => application(alloc, spelling),
+        "none" => Ok(Term::None(type_named(alloc, rest)?)),
+        "byte" => Ok(Term::from(BitVec::of_nat(EIGHT, rest.parse()?))),
+        "text" => Ok(Term::from(Text::from_str(alloc, rest)?)),
+        "set" => set_of(alloc, "B", literals_in(alloc, rest)?.as_slice()),
+        "some" => some_of(alloc, literal(rest)?),
+        "a" | "b" => variable(alloc, kind, rest),
+        _ => literal(spelling),
+    }
+}
+
+fn terms_in(alloc: Global, spellings: &str) -> Result<Vec<Term>, Fail> {
+    let mut terms = Vec::new(alloc);
+    for spelling in spellings.split(", ") {
+        terms.push(term(alloc, spelling)?)?;
+    }
+    Ok(terms)
+}
+
 /// Whether a term is equal to what it shares, and names this type as its own.
 fn names_type(alloc: Global, term: &Term, ty: &TermType) -> Result<bool, Fail> {
     Ok(term.share()? == *term && term.type_of(alloc)? == *ty)
 }
 
 /// Types of which a term has at most one.
-const TYPES: [&str; 10] = ["B", "1", "8", "64", "128", "S", "O8", "Z8", "ZS", "ZOS"];
+const DISTINCT_TYPES: [&str; 10] = ["B", "1", "8", "64", "128", "S", "O8", "Z8", "ZS", "ZOS"];
 
 /// Whether a term has this type, and none of the others.
 fn has_type_alone(alloc: Global, term: &Term, word: &str) -> Result<bool, Fail> {
     let mut holds = term.has_type(&type_named(alloc, word)?);
-    for other in TYPES {
+    for other in DISTINCT_TYPES {
         holds = holds && term.has_type(&type_named(alloc, other)?) == (other == word);
     }
     Ok(holds)

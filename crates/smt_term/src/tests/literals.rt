@@ -22,6 +22,7 @@ fn bits_have_type(alloc: Global, bits: BitVec, word: &str) -> Result<bool, Fail>
     term_has_type(alloc, &Term::from(bits), word)
 }
 
+/// Whether the term is one of this type, and so is the literal that it holds.
 fn term_has_type(alloc: Global, term: &Term, word: &str) -> Result<bool, Fail> {
     let ty = type_named(alloc, word)?;
     Ok(holds_literal_of(term, &ty)? && is_literal_of(alloc, term, word)?)

@@ -1,5 +1,5 @@
 // Each operator: its name, the arguments that it takes, and the type that it gives them.
-use super::{FORMS, names_type, term_of, type_named};
+use super::{DISTINCT_TYPES, FORMS, names_type, term_of, type_named};
 use crate::*;
 use std::alloc::Global;
 use std::test::Fail;
@@ -156,13 +156,19 @@ fn arguments(alloc: Global, call: &str, forms: usize) -> Result<TermList, Fail> 
     Ok(TermList::new(alloc, args.as_slice())?)
 }
 
-/// A call, claimed to be a truth value.
-pub(super) fn application(alloc: Global, call: &str) -> Result<Term, Fail> {
+/// An application that claims this type.
+pub(super) fn claim(op: &Op, args: &TermList, ty: TermType) -> Result<Term, Fail> {
     Ok(Term::App {
-        op: op_of(alloc, call)?,
-        args: arguments(alloc, call, 0)?,
-        ret_ty: TermType::Bool,
+        op: op.share()?,
+        args: args.share()?,
+        ret_ty: ty,
     })
+}
+
+/// A call of variables that claims to be a truth value.
+pub(super) fn application(alloc: Global, call: &str) -> Result<Term, Fail> {
+    let op = op_of(alloc, call)?;
+    claim(&op, &arguments(alloc, call, 0)?, TermType::Bool)
 }
 
 /// Whether an operator is equal to what it shares, and names itself as the call does.
@@ -170,36 +176,34 @@ fn is_named(op: &Op, call: &str) -> Result<bool, Fail> {
     Ok(op.share()? == *op && op.mk_name() == name_of(call))
 }
 
-/// Types that applications claim to be of.
-const CLAIMED: [&str; 10] = ["B", "1", "8", "64", "128", "S", "O8", "Z8", "ZS", "ZOS"];
+/// Whether a term names the type that it claims, and is typed or not, as it should be.
+fn is_claim(alloc: Global, term: &Term, ty: &TermType, typed: bool) -> Result<bool, Fail> {
+    Ok(
+        names_type(alloc, term, ty)?
+            && term.well_typed() == typed
+            && term.has_type(ty) == typed
+            && !term.is_literal(),
+    )
+}
 
-/// Whether an application that claims this type names it, and is typed or not, as it should be.
+/// Whether an application that claims a type is typed where the operator gives it, and only there.
 fn claim_holds(
     alloc: Global,
     op: &Op,
     args: &TermList,
     claimed: &str,
-    typed: bool,
+    given: &str,
 ) -> Result<bool, Fail> {
     let ty = type_named(alloc, claimed)?;
-    let term = Term::App {
-        op: op.share()?,
-        args: args.share()?,
-        ret_ty: ty.share()?,
-    };
-    Ok(
-        names_type(alloc, &term, &ty)?
-            && term.well_typed() == typed
-            && term.has_type(&ty) == typed
-            && !term.is_literal(),
-    )
+    let term = claim(op, args, ty.share()?)?;
+    is_claim(alloc, &term, &ty, claimed == given)
 }
 
 /// Whether the operator takes the arguments, and gives them this type and no other.
 fn is_typed(alloc: Global, op: &Op, args: &TermList, given: &str) -> Result<bool, Fail> {
     let mut holds = op.takes(args.items());
-    for claimed in CLAIMED {
-        holds = holds && claim_holds(alloc, op, args, claimed, claimed == given)?;
+    for claimed in DISTINCT_TYPES {
+        holds = holds && claim_holds(alloc, op, args, claimed, given)?;
     }
     Ok(holds)
 }

@@ -1,8 +1,6 @@
 // The orders of types, operators and terms.
-use super::operators::application;
-use super::{literal, literals_in, set_of, some_of, type_named, variable};
+use super::{terms_in, type_named};
 use crate::*;
-use smt_bits::{BitVec, EIGHT};
 use std::alloc::Global;
 use std::test::Fail;
 
@@ -19,19 +17,7 @@ fn types_order_by_their_variants(rt: HostRuntime) -> Result<(), Fail> {
     Ok(())
 }
 
-fn type_is_shared(alloc: Global, word: &str) -> Result<bool, Fail> {
-    let ty = type_named(alloc, word)?;
-    Ok(ty.share()? == ty)
-}
-
-#[test]
-fn types_are_shared(rt: HostRuntime) -> Result<(), Fail> {
-    for word in TYPES.split(' ') {
-        assert!(rt; type_is_shared(rt.alloc(), word)?, "{word}");
-    }
-    Ok(())
-}
-
+/// Operators in their order.
 const OPERATORS: [Op; 31] = [
     Op::And,
     Op::Bvadd,
@@ -71,51 +57,14 @@ fn operators_order_by_their_variants(rt: HostRuntime) {
     assert!(rt; OPERATORS.is_sorted_by(|a, b| a < b));
 }
 
-/// Terms in their order, as `spelled` reads them.
-const TERMS: &str = "\
-and B B
-not B
-none B
-byte 255
-7
--5
-false
-true
-text
-text a
-text aa
-text b
-text é
-text \u{2ffff}
-set
-set true false
-some 7
-some true
-a B
-b 64
-b B";
-
-/// The term that a row spells.
-fn spelled(alloc: Global, row: &str) -> Result<Term, Fail> {
-    let (kind, rest) = row.split_once(' ').unwrap_or((row, ""));
-    match kind {
-        "and" | "not" => application(alloc, row),
-        "none" => Ok(Term::None(type_named(alloc, rest)?)),
-        "byte" => Ok(Term::from(BitVec::of_nat(EIGHT, rest.parse()?))),
-        "text" => Ok(Term::from(Text::from_str(alloc, rest)?)),
-        "set" => set_of(alloc, "B", literals_in(alloc, rest)?.as_slice()),
-        "some" => some_of(alloc, literal(rest)?),
-        "a" | "b" => variable(alloc, kind, rest),
-        _ => literal(row),
-    }
-}
+/// Terms in their order.
+const TERMS: &str =
+    "and B B, not B, none B, byte 255, 7, -5, false, true, text, text a, text aa, text b, text é, \
+    text \u{2ffff}, set, set true false, some 7, some true, a B, b 64, b B";
 
 #[test]
 fn terms_order_by_their_variants(rt: HostRuntime) -> Result<(), Fail> {
-    let mut terms = Vec::new(rt.alloc());
-    for row in TERMS.lines() {
-        terms.push(spelled(rt.alloc(), row)?)?;
-    }
+    let terms = terms_in(rt.alloc(), TERMS)?;
     assert!(rt; terms.as_slice().is_sorted_by(|a, b| a < b));
     Ok(())
 }

@@ -1,6 +1,6 @@
 // Terms of each type and form, ill-typed terms, and how sets and lists hold what they were given.
-use super::operators::application;
-use super::{FORMS, is_of_type, literals_in, set_of, some_of, term_of, variable};
+use super::operators::{application, claim};
+use super::{FORMS, is_of_type, literals_in, set_of, some_of, term_of, terms_in, type_named};
 use crate::*;
 use std::alloc::Global;
 use std::test::Fail;
@@ -12,8 +12,14 @@ fn form_has_type(alloc: Global, word: &str, form: usize) -> Result<bool, Fail> {
     Ok(term.is_literal() == literal && is_of_type(alloc, &term, word)?)
 }
 
-fn forms_have_type(alloc: Global, word: &str) -> Result<bool, Fail> {
-    let mut holds = true;
+fn type_is_shared(alloc: Global, word: &str) -> Result<bool, Fail> {
+    let ty = type_named(alloc, word)?;
+    Ok(ty.share()? == ty)
+}
+
+/// Whether the type is equal to what it shares, and each form of its terms has it.
+fn type_holds(alloc: Global, word: &str) -> Result<bool, Fail> {
+    let mut holds = type_is_shared(alloc, word)?;
     for form in 0..FORMS {
         holds = holds && form_has_type(alloc, word, form)?;
     }
@@ -22,55 +28,41 @@ fn forms_have_type(alloc: Global, word: &str) -> Result<bool, Fail> {
 
 #[test]
 fn terms_have_types(rt: HostRuntime) -> Result<(), Fail> {
-    for word in ["B", "S", "O8", "OS", "OOB", "Z8", "ZOS", "OZZB"] {
-        assert!(rt; forms_have_type(rt.alloc(), word)?, "{word}");
+    for word in [
+        "B", "1", "8", "128", "S", "O8", "OS", "OOB", "Z8", "ZOS", "OZZB",
+    ] {
+        assert!(rt; type_holds(rt.alloc(), word)?, "{word}");
     }
     Ok(())
 }
 
 /// Whether a conjunction takes the arguments, and isn't typed itself.
-fn is_wrong_within(args: TermList) -> bool {
-    let taken = Op::And.takes(args.items());
-    let both = Term::App {
-        op: Op::And,
-        args,
-        ret_ty: TermType::Bool,
-    };
-    taken && !both.well_typed() && !both.has_type(&TermType::Bool)
+fn is_wrong_within(alloc: Global, args: &[Term]) -> Result<bool, Fail> {
+    let both = claim(&Op::And, &TermList::new(alloc, args)?, TermType::Bool)?;
+    Ok(Op::And.takes(args) && !both.well_typed() && !both.has_type(&TermType::Bool))
 }
 
-/// An ill-typed term and a variable.
-fn wrong_and_right(alloc: Global) -> Result<(Term, Term), Fail> {
-    Ok((application(alloc, "not 8")?, variable(alloc, "b", "B")?))
+fn arguments_are_wrong(alloc: Global, spellings: &str) -> Result<bool, Fail> {
+    is_wrong_within(alloc, terms_in(alloc, spellings)?.as_slice())
 }
 
-fn wrong_first(alloc: Global) -> Result<TermList, Fail> {
-    let (wrong, b) = wrong_and_right(alloc)?;
-    Ok(TermList::new(alloc, &[wrong, b])?)
-}
-
-fn wrong_last(alloc: Global) -> Result<TermList, Fail> {
-    let (wrong, b) = wrong_and_right(alloc)?;
-    Ok(TermList::new(alloc, &[b, wrong])?)
-}
-
-#[test]
-fn ill_typed_terms_are_found_within(rt: HostRuntime) -> Result<(), Fail> {
-    assert!(rt; is_wrong_within(wrong_first(rt.alloc())?));
-    assert!(rt; is_wrong_within(wrong_last(rt.alloc())?));
-    assert!(rt; wrong_is_found_in_options(rt.alloc())?);
-    assert!(rt; wrong_is_found_in_sets(rt.alloc())?);
-    Ok(())
-}
-
-fn wrong_is_found_in_options(alloc: Global) -> Result<bool, Fail> {
+fn option_is_wrong(alloc: Global) -> Result<bool, Fail> {
     let held = some_of(alloc, application(alloc, "not")?)?;
     Ok(!held.well_typed() && !held.is_literal())
 }
 
-fn wrong_is_found_in_sets(alloc: Global) -> Result<bool, Fail> {
+fn set_is_wrong(alloc: Global) -> Result<bool, Fail> {
     let elements = literals_in(alloc, "2 1 2")?;
     Ok(!set_of(alloc, "B", elements.as_slice())?.well_typed())
+}
+
+#[test]
+fn ill_typed_terms_are_found_within(rt: HostRuntime) -> Result<(), Fail> {
+    assert!(rt; arguments_are_wrong(rt.alloc(), "not 8, b B")?);
+    assert!(rt; arguments_are_wrong(rt.alloc(), "b B, not 8")?);
+    assert!(rt; option_is_wrong(rt.alloc())?);
+    assert!(rt; set_is_wrong(rt.alloc())?);
+    Ok(())
 }
 
 /// Whether the set of the literals holds these, in this order.
@@ -102,8 +94,8 @@ fn list_is(alloc: Global, terms: &[Term]) -> Result<bool, Fail> {
 #[test]
 fn lists_hold_what_they_were_given(rt: HostRuntime) -> Result<(), Fail> {
     assert!(rt; list_is(rt.alloc(), &[])?);
-    let b = variable(rt.alloc(), "b", "B")?;
-    assert!(rt; list_is(rt.alloc(), &[b, Term::from(7), Term::from(true)])?);
+    let terms = terms_in(rt.alloc(), "b B, 7, true")?;
+    assert!(rt; list_is(rt.alloc(), terms.as_slice())?);
     Ok(())
 }
 
