@@ -188,8 +188,13 @@ fn booleans_have_the_stated_lines(rt: HostRuntime) -> Result<(), Fail> {
     assert!(rt; has_lines(alloc, "true", "(assert true)\n")?);
     assert!(rt; has_lines(alloc, "b:Bool,b:Bool,b:Bool,not", TWICE)?);
     assert!(rt; has_lines(alloc, "a\"b\\c\nd\u{7f}\u{e9}\u{4e2d}:Bool", MARKED)?);
+    Ok(())
+}
+
+#[test]
+fn choices_have_the_stated_lines(rt: HostRuntime) -> Result<(), Fail> {
     let choice = "b:Bool,b:Bool,c:Bool,and,c:Bool,or,b:Bool,c:Bool,and,ite";
-    assert!(rt; has_lines(alloc, choice, CHOICE)?);
+    assert!(rt; has_lines(rt.alloc(), choice, CHOICE)?);
     Ok(())
 }
 
@@ -198,7 +203,18 @@ fn bitvectors_have_the_stated_lines(rt: HostRuntime) -> Result<(), Fail> {
     let alloc = rt.alloc();
     assert!(rt; has_lines(alloc, "x:Bool,x,0:8,eq", ONE_NAME)?);
     assert!(rt; has_lines(alloc, "1:64,4294967296:64,bvshl,0:64,eq", SHIFT)?);
-    assert!(rt; has_lines(alloc, OPERATOR_WORDS, OPERATORS)?);
+    Ok(())
+}
+
+#[test]
+fn operators_have_the_names_of_smt_lib(rt: HostRuntime) -> Result<(), Fail> {
+    assert!(rt; has_lines(rt.alloc(), OPERATOR_WORDS, OPERATORS)?);
+    Ok(())
+}
+
+#[test]
+fn negations_have_the_stated_lines(rt: HostRuntime) -> Result<(), Fail> {
+    let alloc = rt.alloc();
     assert!(rt; has_lines(alloc, NEGATION_WORDS, NEGATIONS)?);
     assert!(rt; has_lines(alloc, "b:Bool,bvnego", "(assert false)\n")?);
     Ok(())
