@@ -220,24 +220,27 @@ fn negations_have_the_stated_lines(rt: HostRuntime) -> Result<(), Fail> {
     Ok(())
 }
 
-/// Whether the encoder gave these names to these terms, one each; no name where it gave none.
-fn gives_names(encoder: &Encoder<'_, MemorySink>, terms: &[Term], names: &[Option<&str>]) -> bool {
-    terms.len() == names.len()
-        && terms.iter().zip(names).all(|(term, name)| encoder
-            .name_of_term(term)
-            .map(|found| found.as_str())
-            == *name)
+/// Whether the encoder has this name for the term; None where it has no name.
+fn has_name(encoder: &Encoder<'_, MemorySink>, term: &Term, name: Option<&str>) -> bool {
+    encoder.name_of_term(term).map(|found| found.as_str()) == name
+}
+
+/// Whether the encoder has these names for these terms, one each.
+fn has_names(encoder: &Encoder<'_, MemorySink>, terms: &[Term], names: &[Option<&str>]) -> bool {
+    let mut pairs = terms.iter().zip(names);
+    terms.len() == names.len() && pairs.all(|(term, name)| has_name(encoder, term, *name))
 }
 
 /// Whether an encoder has the names and the lines of `not b`, and is spent by them.
 fn encodes_once(alloc: Global) -> Result<bool, Fail> {
     let asked = terms(alloc, "b:Bool,b:Bool,not,true")?;
+    let names = [Some("t0"), Some("t1"), None];
     let terms = terms(alloc, "b:Bool,not")?;
     let enums = EnumTable::new(alloc);
     let mut encoder = Encoder::new(alloc, &enums, MemorySink::new(alloc, &[], 200)?);
     let outcome = encoder.encode(terms.as_slice());
     let spent = encoder.encode(terms.as_slice()) == Err(EncodeError::Spent);
-    let named = gives_names(&encoder, asked.as_slice(), &[Some("t0"), Some("t1"), None]);
+    let named = has_names(&encoder, asked.as_slice(), &names);
     let sink = encoder.into_script();
     outcome?;
     Ok(spent && named && is_script(sink.bytes(), NOT_B))
