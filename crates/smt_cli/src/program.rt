@@ -1,5 +1,5 @@
 // The run of the program, from its words to its status.
-ghost use Rattle.std.specs.Prelude.{◌≡◌, ◌<◌, ◌⊎◌, ◌↔◌, [], Err, Some, None, IfOk, IfSome, IsErrOf, OnErr, OnOk, length, option_map};
+ghost use Rattle.std.specs.Prelude.{◌≡◌, ◌<◌, ◌⊎◌, ◌↔◌, [], Err, Some, None, IfOk, IfSome, IsErrOf, OnErr, OnOk, option_map};
 ghost use Rattle.std.specs.Io.KnownBytes.{append_known};
 ghost use Rattle.smt_term.specs.Enums.{enums_of};
 ghost use Rattle.smt_term.specs.Faults.{first_fault};
@@ -13,7 +13,7 @@ ghost use Rattle.smt_script.specs.Sink.{Puts, Rose};
 ghost use Rattle.smt_script.specs.Texts.{texts};
 ghost use Rattle.smt_cli.specs.Job.{IsBuiltFrom};
 ghost use Rattle.smt_cli.specs.JobView.{plain_job};
-ghost use Rattle.smt_cli.specs.Run.{commanded, help_text, line_of, status_of, version_text, Answers, HasNoForm, IsAJob, IsDone, IsFaultOf, IsFaulty, IsNoJob, IsTooLong, Prints, Reports};
+ghost use Rattle.smt_cli.specs.Run.{commanded, line_of, status_of, Answers, HasNoForm, IsAJob, IsDone, IsFaultOf, IsFaulty, IsNoJob, IsTooLong, Prints, Reports};
 
 use crate::input::{InputError, read_input};
 use crate::job::{GREATEST_JOB, Job, JobError, read_job};
