@@ -1,7 +1,6 @@
 // The encoder, from terms to the lines of a script.
-ghost use Rattle.std.specs.Prelude.{ℕ, List, ◌≡◌, ◌≤◌, ◌↔◌, ◌++◌, [], ◌∷◌, false, None, Some, IfOk, IfSome, IsOkUnless, OnOk, OnErr, IsTrue, IsErrOf, option_map, map, codes};
+ghost use Rattle.std.specs.Prelude.{List, ◌≡◌, ◌≤◌, ◌↔◌, ◌++◌, [], ◌∷◌, false, None, Some, IfOk, IfSome, IsOkUnless, OnOk, IsTrue, IsErrOf, option_map, map, codes};
 ghost use Rattle.std.specs.Rc.{rc_str_bytes};
-ghost use Rattle.std.specs.String.{string_bytes};
 ghost use Rattle.std.specs.declared.alloc.Global.{Global};
 ghost use Rattle.std.specs.declared.rc.RcStr.{RcStr};
 ghost use Rattle.smt_term.specs.Enums.{enums_of};
@@ -9,7 +8,7 @@ ghost use Rattle.smt_term.specs.Faults.{EncodeStringFailed, EncodePatternFailed,
 ghost use Rattle.smt_term.specs.PatternView.{plain_ord_pattern};
 ghost use Rattle.smt_term.specs.Plain.{LiteralTerm, terms as plain_terms};
 ghost use Rattle.smt_term.specs.Types.{type_of};
-ghost use Rattle.smt_term.specs.View.{plain_op, plain_term, plain_type, plain_literal, plain_variable};
+ghost use Rattle.smt_term.specs.View.{plain_term, plain_type, plain_literal, plain_variable};
 ghost use Rattle.smt_term.specs.declared.pattern.OrdPattern.{OrdPattern};
 ghost use Rattle.smt_sexpr.specs.Reading.{Expression};
 ghost use Rattle.smt_lines.specs.Line.{Comment, DeclareConst, DefineFun, Assert, spelled_line};
@@ -18,19 +17,18 @@ ghost use Rattle.smt_lines.specs.Lines.{Tables, enter_term, name_of_term, next_t
 ghost use Rattle.smt_lines.specs.Text.{names, text};
 ghost use Rattle.smt_headline.specs.Headline.{Headline};
 ghost use Rattle.std.specs.Io.KnownBytes.{append_known};
-ghost use Rattle.smt_encode.specs.Manners.{body_fault, body_of};
 ghost use Rattle.smt_encode.specs.Refusals.{Finds, HaveNoFaults};
 ghost use Rattle.smt_lines.specs.Spelling.{spelled};
 ghost use Rattle.smt_script.specs.Sink.{Rose};
 
 use crate::error::EncodeError;
-use crate::manner::{Manner, body_text, manner_of};
+use crate::manner::{Manner, application_body, least_body, manner_of};
 use crate::spell::{
     as_text, bits_literal, bits_sort, option_sort, quoted_id_text, set_sort, set_text, some_text,
     string_literal, term_name,
 };
 use smt_script::{Sink, SmtLibScript};
-use smt_term::{EnumTable, Op, Term, TermPrim, TermType, TermVar, Text};
+use smt_term::{EnumTable, Term, TermPrim, TermType, TermVar, Text};
 use std::alloc::Global;
 use std::collections::BTreeMap;
 
@@ -305,25 +303,6 @@ impl<S: Sink> Encoder<'_, S> {
         Ok(name)
     }
 
-    /// Defines an application that has no name yet, by the texts of its sort and its operands.
-    fn define_application(
-        &mut self,
-        term: &Term,
-        manner: Manner,
-        op: &Op,
-        sort: &str,
-        operands: Vec<Text>,
-    ) -> Result<Text, EncodeError>
-        requires fault { term_fault (enums_in self.now) (plain_term term.now) ≡ body_fault manner (plain_op op.now) }
-        ensures lines { (s : Tables) (e : Expression) (es : List Expression) → HasNames self.old s → name_of_term s (plain_term term.now) ≡ None → sort.now ≡ spelled e → AreSpelled es operands.items →
-            WritesHere S.held self.old self.new (lines.define (plain_term term.now) e (body_of manner (plain_op op.now) es) s) IsSpelled result }
-        ensures cause { HasCause S.faults S.place self.old self.new result }
-        ensures fault { Finds (body_fault manner (plain_op op.now)) result }
-    {
-        let body = body_text(self.alloc, manner, op, operands)?;
-        self.define(term, sort, body.as_str())
-    }
-
     /// Names a term that has no name yet `false`. It gets no line.
     fn name_false(&mut self, term: &Term) -> Result<Text, EncodeError>
         requires sound { term_fault (enums_in self.now) (plain_term term.now) ≡ None }
@@ -365,11 +344,19 @@ impl<S: Sink> Encoder<'_, S> {
             Term::App { op, args, ret_ty } => {
                 let sort = self.encode_sort(term)?;
                 let args = args.items();
-                let Some(manner) = manner_of(self.alloc, op, args, ret_ty)? else {
-                    return self.name_false(term);
-                };
-                let operands = self.encode_terms(args)?;
-                self.define_application(term, manner, op, sort.as_str(), operands)
+                match manner_of(self.alloc, op, args, ret_ty)? {
+                    Manner::AsItStands => {
+                        let operands = self.encode_terms(args)?;
+                        let body = application_body(self.alloc, op, operands)?;
+                        self.define(term, sort.as_str(), body.as_str())
+                    }
+                    Manner::AsLeast(width) => {
+                        let operands = self.encode_terms(args)?;
+                        let body = least_body(self.alloc, width, operands)?;
+                        self.define(term, sort.as_str(), body.as_str())
+                    }
+                    Manner::AsFalse => self.name_false(term),
+                }
             }
             Term::None(_) => {
                 let sort = self.encode_sort(term)?;
