@@ -50,7 +50,7 @@ pub struct Encoder<'a, S> {
 impl<'a, S> Encoder<'a, S> {
     ghost use Rattle.smt_encode.specs.Encoded.{entry_of, enums_in, is_spent, sink_of, HasNames};
 
-    /// An encoder without names over this sink. Takes no memory.
+    /// An encoder without names over this sink, which has not encoded yet. Takes no memory, and puts nothing.
     pub fn new(alloc: Global, enums: &'a EnumTable, script: S) -> Encoder<'a, S>
         ensures no_names { HasNames result no_names }
         ensures unspent { is_spent result ≡ false }
@@ -67,7 +67,7 @@ impl<'a, S> Encoder<'a, S> {
         }
     }
 
-    /// The sink that it held.
+    /// The sink that it held, with what was put to it, also after an error.
     pub fn into_script(self) -> S
         ensures { result ≡ sink_of self.entry }
     {
@@ -94,7 +94,13 @@ impl<S: Sink> Encoder<'_, S> {
     ghost use Rattle.smt_encode.specs.Encoded.{entry_of, enums_in, is_spent, sink_of, AreBoolean, AreSpelled, HasCause, HasNames, IsSpelled, ModelsMakeTrue, PutsLine, Writes, WritesHere, Wrote};
 
     /// Writes the script of these terms: the declaration of the datatype `Option`, what the terms need, and an
-    /// assertion for each term, in order.
+    /// assertion for each term, in order (commands of SMT-LIB 2.7, chapter 3, Scripts).
+    ///
+    /// What a term needs are the lines of its parts and then its own: `; "id"` and `(declare-const t0 S)` for a
+    /// variable, `(define-fun t0 () S BODY)` for another term that has no inline text, where `t0` is its name and `S`
+    /// its sort. An overflow test of the negation of what is no bitvector is named `false`, without a line. A term that
+    /// has a name already is not written again. A term's assertion is `(assert TEXT)`, where `TEXT` is its name or, of a
+    /// literal, its inline text.
     ///
     /// After Ok the sink got exactly the stated text, and the encoder has its table of names. For Boolean terms
     /// `headline` says what that text means: it is a script by the grammar of SMT-LIB 2.7, its assertions are the
@@ -106,7 +112,9 @@ impl<S: Sink> Encoder<'_, S> {
     /// `Spent` comes exactly from an encoder that has encoded before or refused before, and leaves it as it is. `Io`
     /// comes only where the sink's count of faults rose in this call, or stands at its last value.
     /// `EncodeStringFailed` and `EncodePatternFailed` come only where this is the first fault of the terms, from left
-    /// to right and a term's parts before the term; where the terms have a fault, the answer is never Ok.
+    /// to right and a term's parts before the term; where the terms have a fault, the answer is never Ok. `Memory`
+    /// may come from any encoder that is not spent, where there is no memory left. Each of the four spends the encoder
+    /// and says nothing of what the sink got.
     pub fn encode(&mut self, terms: &[Term]) -> Result<(), EncodeError>
         ensures text { HasNames self.old no_names → OnOk result (S.held (sink_of self.new) ≡ append_known (S.held (sink_of self.old)) (text (enums_in self.old) (map plain_term terms.now))) }
         ensures names { HasNames self.old no_names → OnOk result (HasNames self.new (names (enums_in self.old) (map plain_term terms.now))) }
