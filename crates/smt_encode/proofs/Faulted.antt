@@ -1,4 +1,4 @@
--- The first fault of a term by the faults of its type, its parts and its own line.
+-- The first fault of a term whose type has one, of a list of terms, and in the answer of a whole walk.
 use Rattle.std.proofs.Common.{◌≡◌, Bool, true, false, List, [], ◌∷◌, refl, sym, ap, ◌∙◌, subst, Some, None, Ok, Err, Result}
 use Rattle.std.specs.Prelude.{IsErrOf, IsOkUnless, OnOk}
 use Rattle.std.specs.Option.{option_or}
