@@ -1,4 +1,7 @@
 // Scripts of strings, patterns, options and sets byte for byte, and what is refused of strings and patterns.
+ghost use Rattle.std.specs.Prelude.{◌≡◌};
+ghost use Rattle.smt_term.specs.TypeValues.{is_code_point};
+
 use super::words::{pattern, terms};
 use super::{has_lines, is_script};
 use crate::*;
@@ -119,10 +122,18 @@ fn says(alloc: Global, error: &EncodeError, message: &str) -> Result<bool, Fail>
     Ok(format!(in alloc; "{error}")?.as_str() == message)
 }
 
+/// Whether a character is not above the constant: this is proved to be the rule by which strings are refused.
+fn is_allowed(c: char) -> bool
+    ensures { result ≡ is_code_point c }
+{
+    u32::from(c) <= SMT_LIB_MAX_CODE_POINT
+}
+
 #[test]
 fn characters_above_the_greatest_are_refused(rt: HostRuntime) -> Result<(), Fail> {
     let alloc = rt.alloc();
     assert_eq!(rt; SMT_LIB_MAX_CODE_POINT, 0x2ffff);
+    assert!(rt; is_allowed('\u{2ffff}') && !is_allowed('\u{30000}'));
     let error = EncodeError::EncodeStringFailed(Text::from_str(alloc, "a\u{30000}")?);
     assert!(rt; says(alloc, &error, "a string has a character above U+2FFFF")?);
     assert!(rt; is_refused(alloc, "a\u{30000}:text,a:text,eq", &error, "")?);
