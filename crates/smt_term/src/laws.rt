@@ -1,3 +1,4 @@
+//! Laws of terms, of what they mean and of how they compare, proved with no code.
 ghost use Rattle.smt_term.specs.Examples.{FaultRows, OperatorRows, OrderRows, TermRows};
 ghost use Rattle.smt_term.specs.Laws.{DefaultsAreInterpretations, FunctionEqualityIsDecided, OpEqualityIsDecided, OpOrderIsTotal, ReachedDecides, RestrictionAgrees, TermEqualityIsDecided, TermOrderIsTotal, TypeEqualityIsDecided, TypeOrderIsTotal, TypedTermsGetAttributes, TypedTermsHaveValues, Utf8KeepsOrder};
 ghost use Rattle.smt_term.specs.Literals.{LiteralsAreTheirValues};
