@@ -4,7 +4,7 @@ ghost use Rattle.smt_term.specs.Laws.{DefaultsAreInterpretations, FunctionEquali
 ghost use Rattle.smt_term.specs.Literals.{LiteralsAreTheirValues};
 ghost use Rattle.smt_term.specs.PatternOrder.{ElementsCompareAsPlain, EqualElementsSayTheSame, EqualOrdPatternsSayTheSame, EqualPatternsSayTheSame, PatternsCompareAsPlain};
 ghost use Rattle.smt_term.specs.Patterns.{MatchingIsDecided};
-ghost use Rattle.smt_term.specs.Plain.{RoundTrip, terms};
+ghost use Rattle.smt_term.specs.Plain.{RoundTrip};
 ghost use Rattle.smt_term.specs.Program.{EqualListsSayTheSame, EqualLiteralsSayTheSame, EqualOperatorsSayTheSame, EqualSetsSayTheSame, EqualTermsSayTheSame, EqualTypesSayTheSame, EqualVariablesSayTheSame, ListsCompareAsPlain, LiteralsCompareAsPlain, OperatorsCompareAsPlain, SetsCompareAsPlain, TablesAreEmpty, TermsAreFormed, TermsCompareAsPlain, TypesCompareAsPlain, VariablesCompareAsPlain};
 ghost use Rattle.smt_term.specs.Shapes.{TypedTermsHaveShapes, ValuesAreShaped};
 ghost use Rattle.smt_term.specs.TermSets.{SortedTermsAscend};
