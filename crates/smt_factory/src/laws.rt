@@ -1,9 +1,10 @@
+//! Laws of foldings and of what stands for what, proved with no code.
 ghost use Rattle.smt_factory.specs.Built.{BuiltTermsStand, FoldingAddsNoFault};
 ghost use Rattle.smt_factory.specs.FoldRows.{ApartRows, BitsRows, ConnectiveRows, EqualityRows, OptionRows, SetRows, StringRows};
 ghost use Rattle.smt_factory.specs.Laws.{AnswersStandFor, AnyIsTrue, BitsAreFolded, ConnectivesAreFolded, EqualityAndChoiceAreFolded, InterpretationsPass, LiteralsAreEqualByValue, OptionsAreFolded, SetsAreFolded, StandingIsKept, StringLikeIsFolded, TestsAreFolded, ValuesPass};
 
-/// A term stands for itself, onward, in applications, `some`, records and sets, and in the tests for none and for the empty
-/// set; and an interpretation of terms is one of the terms that stand for them, in which they have the same values.
+/// A term stands for itself, onward, in applications, `some`, records and sets, and in the tests for none and for the
+/// empty set; and an interpretation of terms is one of the terms that stand for them, in which they have the same values.
 pub fn standing_is_kept()
     ensures kept { StandingIsKept }
     ensures interpretations { InterpretationsPass }
@@ -20,8 +21,8 @@ pub fn literals_are_equal_by_value()
     ensures { LiteralsAreEqualByValue }
 {}
 
-/// `not`, `and`, `or`, `implies` and the disjunction of many: what they are folded to stands for them. The last is true where
-/// one of its terms is.
+/// `not`, `and`, `or`, `implies` and the disjunction of many: what they are folded to stands for them. The last is true
+/// where one of its terms is.
 pub fn connectives_are_folded()
     ensures folded { ConnectivesAreFolded }
     ensures any { AnyIsTrue }
