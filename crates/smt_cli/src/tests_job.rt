@@ -83,6 +83,7 @@ fn are_built(alloc: Global, texts: &[&str], expected: &Term) -> Result<bool, Fai
     Ok(true)
 }
 
+/// Texts of which `b` is built.
 const TRUTHS: [&str; 4] = [
     "(var \"b\")",
     "(not (not (var \"b\")))",
@@ -90,12 +91,14 @@ const TRUTHS: [&str; 4] = [
     "(ite (bvult (bv 8 1) (bv 8 2)) (var \"b\") false)",
 ];
 
+/// Texts of which `not b` is built.
 const NEGATIONS: [&str; 3] = [
     "(not (var \"b\"))",
     "(not (not (not (var \"b\"))))",
     "(and (not (var \"b\")) true)",
 ];
 
+/// Texts of which `true` is built.
 const TAUTOLOGIES: [&str; 4] = [
     "true",
     "(or (var \"b\") (not (var \"b\")))",
