@@ -106,22 +106,37 @@ const TAUTOLOGIES: [&str; 4] = [
     "(eq (zero_extend 4 (bv 4 5)) (bv 8 5))",
 ];
 
+fn truths_are_built(alloc: Global) -> Result<bool, Fail> {
+    are_built(alloc, &TRUTHS, &truth(alloc)?)
+}
+
+fn negations_are_built(alloc: Global) -> Result<bool, Fail> {
+    are_built(alloc, &NEGATIONS, &negation(alloc)?)
+}
+
+fn tautologies_are_built(alloc: Global) -> Result<bool, Fail> {
+    are_built(alloc, &TAUTOLOGIES, &Term::from(true))
+}
+
 #[test]
 fn terms_are_folded(rt: HostRuntime) -> Result<(), Fail> {
-    let alloc = rt.alloc();
-    assert!(rt; are_built(alloc, &TRUTHS, &truth(alloc)?)?);
-    assert!(rt; are_built(alloc, &NEGATIONS, &negation(alloc)?)?);
-    assert!(rt; are_built(alloc, &TAUTOLOGIES, &Term::from(true))?);
+    assert!(rt; truths_are_built(rt.alloc())?);
+    assert!(rt; negations_are_built(rt.alloc())?);
+    assert!(rt; tautologies_are_built(rt.alloc())?);
     Ok(())
+}
+
+fn is_false(term: &Term) -> bool {
+    *term == Term::from(false)
 }
 
 /// Whether the terms of a job stand as they are written.
 fn terms_stand_in_order(alloc: Global) -> Result<bool, Fail> {
     let job = job_of(alloc, "false (var \"b\") false")?;
     match job.terms.items() {
-        [first, second, third] => Ok(
-            *first == Term::from(false) && *second == truth(alloc)? && *third == Term::from(false),
-        ),
+        [first, Term::Var(second), third] => {
+            Ok(is_false(first) && is_variable(second, "b", &TermType::Bool) && is_false(third))
+        }
         _ => Ok(false),
     }
 }
