@@ -3,7 +3,7 @@ use Rattle.std.proofs.Common.{◌≡◌, ℕ, ◌<◌, ◌≤◌, true, List, []
 use Rattle.std.specs.Io.KnownBytes.{append_known}
 use Rattle.std.specs.Prelude.{◌⊎◌, IfSome, IsErrOf, OnOk, is_some}
 use Rattle.std.proofs.lemmas.Bool.{false≢true}
-use Rattle.smt_term.specs.Faults.{Fault, first_fault}
+use Rattle.smt_term.specs.Faults.{Fault}
 use Rattle.std.specs.Rc.{rc_str_bytes}
 use Rattle.std.specs.declared.alloc.Global.{Global}
 use Rattle.std.specs.declared.rc.RcStr.{RcStr}
@@ -76,11 +76,6 @@ has_fault (Some bytes) Usage p due = absurd (omega (arith, p))
 has_fault (Some bytes) Source p due = absurd (omega (arith, p))
 has_fault (Some bytes) Sink p due = absurd (omega (arith, p))
 has_fault (Some bytes) Want p due = absurd (omega (arith, p))
-
--- What is found of the terms that are built of a job is found of the job.
-pub fault_found : (left : Option (List ℕ)) (job : PlainJob) (kind : EncodeRefusal) → IfSome left (λ bytes. IsBuiltFrom bytes job) → IsFaultOf kind (first_fault job.enums job.terms) → IfSome left (HasFaultOf kind)
-fault_found None job kind is h = tt
-fault_found (Some bytes) job kind is h = (is.written, is.is_job, subst (λ (j : PlainJob). IsFaultOf kind (first_fault j.enums j.terms)) is.is_built h)
 
 -- what each refusal is due to
 pub due_to : (left : Option (List ℕ)) (r : Refusal) (before now : ℕ) (old new : Option (List ℕ)) (faults faults' : ℕ) → Answers left before now old new faults faults' (Err r) → IsDueTo left r
@@ -157,8 +152,3 @@ pub printed_ok : (result : Result (Unit {0}) Refusal) (left : Option (List ℕ))
     → (AllByRecursion (λ t. Typed t BoolType) job.terms → OnOk result (Headline job.enums job.terms)) → OnOk result (IfSome left (Prints old new))
 printed_ok (Ok u) left job old new is put means = prints left job old new is put means
 printed_ok (Err e) left job old new is put means = tt
-
--- what is built of a job is read from a job
-pub a_job : (left : Option (List ℕ)) (job : PlainJob) → IfSome left (λ bytes. IsBuiltFrom bytes job) → IfSome left IsAJob
-a_job (Some bytes) job is = (is.written, is.is_job)
-a_job None job is = tt

@@ -17,4 +17,6 @@ pub use program::{Command, EncodeRefusal, Refusal, run};
 pub use source::{MemorySource, ReadSource, Source, SourceError, SourceFault};
 
 #[cfg(test)]
+mod tests_job;
+#[cfg(test)]
 mod tests_source;

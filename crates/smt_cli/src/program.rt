@@ -9,7 +9,7 @@ ghost use Rattle.smt_term.specs.Typing.{Typed};
 ghost use Rattle.smt_term.specs.View.{plain_items};
 ghost use Rattle.smt_headline.specs.Headline.{Headline};
 ghost use Rattle.smt_lines.specs.Text.{text};
-ghost use Rattle.smt_script.specs.Sink.{Puts, Rose};
+ghost use Rattle.smt_script.specs.Sink.{Rose};
 ghost use Rattle.smt_script.specs.Texts.{texts};
 ghost use Rattle.smt_cli.specs.Job.{IsBuiltFrom};
 ghost use Rattle.smt_cli.specs.JobView.{plain_job};
