@@ -181,27 +181,50 @@ fn zero_extend_folds(rt: HostRuntime) -> Result<(), Fail> {
     Ok(())
 }
 
+// What the rule of sums gives at two numbers.
+fn sum_by_rule(alloc: Global, a: u128, b: u128) -> Result<Term, TermError> {
+    let sum = BvRule::new(Op::Bvadd, BitVec::add);
+    bvapp_by(alloc, &sum, byte(a), byte(b))
+}
+
+fn difference(alloc: Global, a: u128, b: u128) -> Result<Term, TermError> {
+    bvapp(alloc, Op::Bvsub, &BitVec::sub, byte(a), byte(b))
+}
+
+// What an answer of none gives, whatever the numbers.
+fn overflow_by_none(alloc: Global) -> Result<Term, TermError> {
+    let never = |_: &Int, _: &Int| None;
+    bvso(alloc, Op::Bvsaddo, &never, byte(1), byte(1))
+}
+
 #[test]
 fn calls_answer_at_literals(rt: HostRuntime) -> Result<(), Fail> {
     let alloc = rt.alloc();
-    let sum = BvRule::new(Op::Bvadd, BitVec::add);
-    assert!(rt; bvapp_by(alloc, &sum, byte(255), byte(1))? == byte(0));
-    let difference = bvapp(alloc, Op::Bvsub, &BitVec::sub, byte(3), byte(1))?;
-    assert!(rt; difference == byte(2));
-    let never = |_: &Int, _: &Int| None;
-    let overflow = bvso(alloc, Op::Bvsaddo, &never, byte(1), byte(1))?;
-    assert!(rt; overflow == Term::from(true));
+    assert!(rt; sum_by_rule(alloc, 255, 1)? == byte(0));
+    assert!(rt; difference(alloc, 3, 1)? == byte(2));
+    assert!(rt; overflow_by_none(alloc)? == Term::from(true));
     Ok(())
+}
+
+// The disjunction of the negations of these variables.
+fn any_negated(alloc: Global, ids: &[&str]) -> Result<Term, Fail> {
+    let negated = |t: Term| not(alloc, t);
+    let mut terms = Vec::new(alloc);
+    for id in ids {
+        terms.push(truth(alloc, id)?)?;
+    }
+    Ok(any_true(alloc, &negated, terms.as_slice())?)
+}
+
+fn not_c_or_not_b(alloc: Global) -> Result<Term, Fail> {
+    let not_c = called(alloc, "not c")?;
+    Ok(or(alloc, not_c, called(alloc, "not b")?)?)
 }
 
 #[test]
 fn any_is_folded(rt: HostRuntime) -> Result<(), Fail> {
     let alloc = rt.alloc();
-    let negated = |t: Term| not(alloc, t);
-    assert!(rt; any_true(alloc, &negated, &[])? == Term::from(false));
-    let b = truth(alloc, "b")?;
-    let c = truth(alloc, "c")?;
-    let expected = or(alloc, not(alloc, c.share()?)?, not(alloc, b.share()?)?)?;
-    assert!(rt; any_true(alloc, &negated, &[b, c])? == expected);
+    assert!(rt; any_negated(alloc, &[])? == Term::from(false));
+    assert!(rt; any_negated(alloc, &["b", "c"])? == not_c_or_not_b(alloc)?);
     Ok(())
 }
