@@ -1,6 +1,5 @@
 -- Variables that are declared one behind the other.
-use Rattle.std.proofs.Common.{◌≡◌, ℕ, Bool, true, false, cond, List, [], ◌∷◌, ◌++◌, Option, Some, None, bytes_eq, option_map, refl, sym, ap, ◌∙◌, subst, inl, inr, Ok, Err, Result}
-use Rattle.std.specs.Map.{lookup}
+use Rattle.std.proofs.Common.{◌≡◌, ℕ, Bool, true, false, cond, List, [], ◌∷◌, ◌++◌, Option, Some, None, bytes_eq, option_map, sym, ap, ◌∙◌, subst, inl, inr, Ok, Err, Result}
 use Rattle.std.specs.Prelude.{IsOkUnless, OnOk}
 use Rattle.std.specs.Rc.{rc_str_bytes}
 use Rattle.std.specs.declared.alloc.Global.{Global}
@@ -10,17 +9,12 @@ use Rattle.std.proofs.lemmas.Slice.Eq.{bytes_eq-Decides}
 use Rattle.smt_term.specs.Plain.{PlainType}
 use Rattle.smt_term.specs.View.{plain_type}
 use Rattle.smt_term.specs.declared.types.TermType.{TermType}
-use Rattle.smt_lines.proofs.Making.{lookup_new}
+use Rattle.smt_lines.proofs.Making.{lookup_new, lookup_other}
 use Rattle.smt_cli.specs.Job.{Variables, type_declared}
 use Rattle.smt_cli.specs.JobView.{Declares, DeclaresNext}
 use Rattle.smt_cli.specs.declared.declaration.Declared.{Declared}
 use Rattle.smt_cli.specs.declared.job.JobError.{JobError}
 use Rattle.smt_cli.specs.declared.job.JobError.TheVariants.{TooLarge, BadForm, Memory}
-
--- a test that fails at the last pair passes it over
-lookup_past : {K X : Type 0} (test : K → Bool) (es : List (K × X)) (k : K) (x : X) → test k ≡ false → lookup test (es ++ (k, x) ∷ []) ≡ lookup test es
-lookup_past test [] k x h = rw h refl
-lookup_past test (e ∷ es) k x h = ap (cond (test e.0) (Some e.1)) (lookup_past test es k x h)
 
 other_bytes : (xs ys : List ℕ) → bytes_eq xs ys ≡ false → bytes_eq ys xs ≡ false
 other_bytes xs ys h = elim (cases_Bool (bytes_eq ys xs)) [
@@ -37,7 +31,7 @@ typed_after true key q k type t before vs tied same typed absent had =
     let f : type_declared vs (rc_str_bytes q) ≡ None = ap (type_declared vs) (sym e) ∙ absent in
     ap Some typed ∙ sym (lookup_new (bytes_eq (rc_str_bytes q)) vs k t ((bytes_eq-Decides (rc_str_bytes q) k).1 (sym e)) f)
 typed_after false key q k type t before vs tied same typed absent had =
-    had ∙ sym (lookup_past (bytes_eq (rc_str_bytes q)) vs k t (subst (λ (x : List ℕ). bytes_eq (rc_str_bytes q) x ≡ false) same (other_bytes (rc_str_bytes key) (rc_str_bytes q) tied)))
+    had ∙ sym (lookup_other (bytes_eq (rc_str_bytes q)) vs k t (subst (λ (x : List ℕ). bytes_eq (rc_str_bytes q) x ≡ false) same (other_bytes (rc_str_bytes key) (rc_str_bytes q) tied)))
 
 -- entering a variable that is stated
 pub declares_next : (now : Declared) (vs : Variables) (v : List ℕ × PlainType) (stated : Option (List ℕ × PlainType)) (result : Result (Unit {0}) JobError) → stated ≡ Some v

@@ -1,6 +1,7 @@
 -- What reading a part gives, and what the whole gives.
 use Rattle.std.proofs.Common.{◌≡◌, ℕ, ◌+◌, ◌<◌, ◌≤◌, false, List, [], ◌∷◌, ◌++◌, Option, Some, None, Ok, Err, Result, bytes_eq, drop, get_or, length, map, option_map, refl, sym, ap, ◌∙◌, subst, inl, inr, append_assoc, append-nil}
 use Rattle.std.specs.Prelude.{IsErrAnd, IsErrOf}
+use Rattle.std.specs.Option.{ok_or}
 use Rattle.std.proofs.lemmas.Bool.{cases_Bool}
 use Rattle.std.proofs.lemmas.List.{at_drop_more, at_drop_all, map-append}
 use Rattle.std.proofs.lemmas.Slice.Eq.{bytes_eq-Decides}
@@ -29,6 +30,11 @@ error_gives view view' TooLarge stated inner g f = g
 pub passes_on : {A A' B B' : Type 0} (view : A → B) (view' : A' → B') (r : Result A JobError) (e : JobError) (stated : Option B) (inner : Option B') → IsErrAnd r (λ y. y ≡ e) → Gives view' (Err e) inner → (inner ≡ None → stated ≡ None) → Gives view r stated
 passes_on view view' (Ok x) e stated inner h g f = absurd h
 passes_on view view' (Err y) e stated inner h g f = subst (λ (x : JobError). Gives view (Err x) stated) (sym h) (error_gives view view' e stated inner g f)
+
+-- what a part gives, or else a refusal as ill formed
+pub given_or : {A B : Type 0} (view : A → B) (o : Option A) (r : Result A JobError) (stated : Option B) → r ≡ ok_or o BadForm → stated ≡ option_map view o → Gives view r stated
+given_or view (Some x) r stated p q = subst (λ (y : Result _ JobError). Gives view y stated) (sym p) q
+given_or view None r stated p q = subst (λ (y : Result _ JobError). Gives view y stated) (sym p) q
 
 -- what is refused as ill formed is not stated
 pub bad_form : {A B : Type 0} (view : A → B) (r : Result A JobError) (stated : Option B) → IsErrOf r BadForm → Gives view r stated → stated ≡ None
@@ -77,9 +83,6 @@ module _ (d : Declared) (all : List SExpr) (i : ℕ) (e : SExpr) (g : Declaring 
       as_given BadForm q = q
       as_given Memory q = tt
       as_given TooLarge q = q
-
-pub all_declared : (d : Declared) (all : List SExpr) (i : ℕ) → length all ≤ i → Declaring d (drop i all) all → declared_by [] (listed all) ≡ Some (declarations d.vars)
-all_declared d all i l g = g.whole ∙ at_drop_all (λ xs. declared_by (declarations d.vars) (listed xs)) all i l
 
 -- ---- what is built of what is stated
 

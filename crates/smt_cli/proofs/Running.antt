@@ -3,9 +3,7 @@ use Rattle.std.proofs.Common.{◌≡◌, ℕ, ◌<◌, ◌≤◌, true, List, []
 use Rattle.std.specs.Io.KnownBytes.{append_known}
 use Rattle.std.specs.Prelude.{◌⊎◌, IfSome, IsErrOf, OnOk, is_some}
 use Rattle.std.proofs.lemmas.Bool.{false≢true}
-use Rattle.smt_sexpr.proofs.Trees.{one_reading}
-use Rattle.smt_sexpr.specs.Reading.{Expression}
-use Rattle.smt_term.specs.Faults.{Fault, first_fault}
+use Rattle.smt_term.specs.Faults.{Fault}
 use Rattle.std.specs.Rc.{rc_str_bytes}
 use Rattle.std.specs.declared.alloc.Global.{Global}
 use Rattle.std.specs.declared.rc.RcStr.{RcStr}
@@ -17,10 +15,10 @@ use Rattle.smt_term.specs.Plain.{BoolType}
 use Rattle.smt_term.specs.Typing.{Typed}
 use Rattle.smt_factory.specs.Built.{built}
 use Rattle.smt_cli.proofs.AsWritten.{as_written, built_booleans}
-use Rattle.smt_cli.proofs.TypedJobs.{IsCondition, job_conditions}
+use Rattle.smt_cli.proofs.TypedJobs.{IsCondition, job_conditions, jobs_are_faultless}
 use Rattle.smt_script.specs.Sink.{Rose}
-use Rattle.smt_cli.specs.Job.{IsBuiltFrom, IsJob, PlainJob, built_job, job_of}
-use Rattle.smt_cli.specs.Run.{commanded, fault_of, status_of, Answers, HasFaultOf, HasNoForm, IsAJob, IsDueTo, IsFaultless, IsFaultOf, IsFaulty, IsNoJob, Prints}
+use Rattle.smt_cli.specs.Job.{IsBuiltFrom, PlainJob, built_job}
+use Rattle.smt_cli.specs.Run.{commanded, fault_of, status_of, Answers, HasFaultOf, HasNoForm, IsAJob, IsDueTo, IsFaultOf, IsFaulty, IsNoJob, Prints}
 use Rattle.smt_cli.specs.declared.job.JobError.TheVariants.{TooLarge, BadForm, Memory}
 use Rattle.smt_cli.specs.declared.program.Command.{Command}
 use Rattle.smt_cli.specs.declared.program.Refusal.{Refusal}
@@ -55,18 +53,6 @@ no_job (Some bytes) Source p due = absurd (omega (arith, p))
 no_job (Some bytes) Sink p due = absurd (omega (arith, p))
 no_job (Some bytes) Want p due = absurd (omega (arith, p))
 
--- the job that the first expression states
-abbrev first_stated : List Expression → Option PlainJob
-first_stated [] = None
-first_stated (e ∷ es) = job_of e
-
--- bytes are one job at most
-one_job : (bytes : List ℕ) (j k : PlainJob) → IsJob bytes j → IsJob bytes k → j ≡ k
-one_job bytes j k a b =
-    let e : a.expression ∷ [] ≡ b.expression ∷ [] = one_reading bytes (a.expression ∷ []) (b.expression ∷ []) a.read.reads b.read.reads in
-    let s : Some j ≡ Some k = sym a.stated ∙ ap (λ (es : List Expression). first_stated es) e ∙ b.stated in
-    cc
-
 -- a fault of a kind is a fault
 is_fault : (kind : EncodeRefusal) (fault : Option Fault) → IsFaultOf kind fault → is_some fault ≡ true
 is_fault EncodeStringFailed fault h = ap is_some h.1
@@ -75,11 +61,9 @@ is_fault EncodePatternFailed fault h = ap is_some h.1
 faulty : (bytes : List ℕ) (kind : EncodeRefusal) → HasFaultOf kind bytes → IsFaulty bytes
 faulty bytes kind h = (h.0, h.1, is_fault kind (fault_of h.0) h.2)
 
--- what is built of a job has a fault, or has none
-not_both : (bytes : List ℕ) → IsFaultless bytes → IsFaulty bytes → ⊥
-not_both bytes a b =
-    let e : is_some (fault_of a.0) ≡ true = subst (λ (j : PlainJob). is_some (fault_of j) ≡ true) (one_job bytes b.0 a.0 b.1 a.1) b.2 in
-    false≢true (sym (ap is_some a.2) ∙ e)
+-- no job has one
+no_fault : (bytes : List ℕ) (kind : EncodeRefusal) → HasFaultOf kind bytes → ⊥
+no_fault bytes kind h = false≢true (sym (ap is_some (jobs_are_faultless bytes h.0 h.1)) ∙ is_fault kind (fault_of h.0) h.2)
 
 -- what is due to a fault
 pub has_fault : (left : Option (List ℕ)) (r : Refusal) → status_of r ≡ 4 → IsDueTo left r → IfSome left IsFaulty
@@ -93,24 +77,6 @@ has_fault (Some bytes) Source p due = absurd (omega (arith, p))
 has_fault (Some bytes) Sink p due = absurd (omega (arith, p))
 has_fault (Some bytes) Want p due = absurd (omega (arith, p))
 
--- what is put has no fault
-pub never_faulty : (X : Type 0) (left : Option (List ℕ)) → IfSome left IsFaultless → IfSome left (λ bytes. IsFaulty bytes → X)
-never_faulty X None h = tt
-never_faulty X (Some bytes) h = λ f. absurd (not_both bytes h f)
-
--- What is found of the terms that are built of a job is found of the job.
-faultless : (left : Option (List ℕ)) (job : PlainJob) → IfSome left (λ bytes. IsBuiltFrom bytes job) → first_fault job.enums job.terms ≡ None → IfSome left IsFaultless
-faultless None job is h = tt
-faultless (Some bytes) job is h = (is.written, is.is_job, ap (λ (j : PlainJob). first_fault j.enums j.terms) (sym is.is_built) ∙ h)
-
-pub faultless_ok : (result : Result (Unit {0}) Refusal) (left : Option (List ℕ)) (job : PlainJob) → IfSome left (λ bytes. IsBuiltFrom bytes job) → OnOk result (first_fault job.enums job.terms ≡ None) → OnOk result (IfSome left IsFaultless)
-faultless_ok (Ok u) left job is h = faultless left job is h
-faultless_ok (Err e) left job is h = tt
-
-pub fault_found : (left : Option (List ℕ)) (job : PlainJob) (kind : EncodeRefusal) → IfSome left (λ bytes. IsBuiltFrom bytes job) → IsFaultOf kind (first_fault job.enums job.terms) → IfSome left (HasFaultOf kind)
-fault_found None job kind is h = tt
-fault_found (Some bytes) job kind is h = (is.written, is.is_job, subst (λ (j : PlainJob). IsFaultOf kind (first_fault j.enums j.terms)) is.is_built h)
-
 -- what each refusal is due to
 pub due_to : (left : Option (List ℕ)) (r : Refusal) (before now : ℕ) (old new : Option (List ℕ)) (faults faults' : ℕ) → Answers left before now old new faults faults' (Err r) → IsDueTo left r
 due_to left (Job TooLarge) before now old new faults faults' a = (a.too_large refl).0
@@ -123,31 +89,16 @@ due_to left Sink before now old new faults faults' a = tt
 due_to left Want before now old new faults faults' a = tt
 
 module _ (left : Option (List ℕ)) (r : Refusal) (before now : ℕ) (old new : Option (List ℕ)) (faults faults' : ℕ) (a : Answers left before now old new faults faults' (Err r)) (used : IsErrOf {T = Unit {0}} (Err r) Usage → ⊥) (given : Rose before now → ⊥) where
-  -- a job whose terms have no fault is refused for want of memory alone
-  pub accepted : (Rose faults faults' → ⊥) → IfSome left (λ bytes. IsFaultless bytes → (status_of r ≡ 0) ⊎ (status_of r ≡ 7))
+  -- a job is refused for want of memory alone
+  pub accepted : (Rose faults faults' → ⊥) → IfSome left (λ bytes. IsAJob bytes → (status_of r ≡ 0) ⊎ (status_of r ≡ 7))
   accepted taken = go left r a used
     where
-      go : (left : Option (List ℕ)) (r : Refusal) → Answers left before now old new faults faults' (Err r) → (IsErrOf {T = Unit {0}} (Err r) Usage → ⊥) → IfSome left (λ bytes. IsFaultless bytes → (status_of r ≡ 0) ⊎ (status_of r ≡ 7))
+      go : (left : Option (List ℕ)) (r : Refusal) → Answers left before now old new faults faults' (Err r) → (IsErrOf {T = Unit {0}} (Err r) Usage → ⊥) → IfSome left (λ bytes. IsAJob bytes → (status_of r ≡ 0) ⊎ (status_of r ≡ 7))
       go None r a u = tt
       go (Some bytes) (Job TooLarge) a u = λ j. absurd (omega (arith, j.1.short, (a.too_large refl).0))
       go (Some bytes) (Job BadForm) a u = λ j. absurd ((a.bad_form refl).0.1 j.0 j.1)
       go (Some bytes) (Job Memory) a u = λ j. inr refl
-      go (Some bytes) (Encode kind) a u = λ j. absurd (not_both bytes j (faulty bytes kind (a.encode kind refl)))
-      go (Some bytes) Usage a u = λ j. absurd (u refl)
-      go (Some bytes) Source a u = λ j. absurd (given (a.source refl).0)
-      go (Some bytes) Sink a u = λ j. absurd (taken (a.sink refl))
-      go (Some bytes) Want a u = λ j. inr refl
-
-  -- a job whose terms have a fault is refused with that, but for want of memory
-  pub refused : (Rose faults faults' → ⊥) → IfSome left (λ bytes. IsFaulty bytes → (status_of r ≡ 4) ⊎ (status_of r ≡ 7))
-  refused taken = go left r a used
-    where
-      go : (left : Option (List ℕ)) (r : Refusal) → Answers left before now old new faults faults' (Err r) → (IsErrOf {T = Unit {0}} (Err r) Usage → ⊥) → IfSome left (λ bytes. IsFaulty bytes → (status_of r ≡ 4) ⊎ (status_of r ≡ 7))
-      go None r a u = tt
-      go (Some bytes) (Job TooLarge) a u = λ j. absurd (omega (arith, j.1.short, (a.too_large refl).0))
-      go (Some bytes) (Job BadForm) a u = λ j. absurd ((a.bad_form refl).0.1 j.0 j.1)
-      go (Some bytes) (Job Memory) a u = λ j. inr refl
-      go (Some bytes) (Encode kind) a u = λ j. inl refl
+      go (Some bytes) (Encode kind) a u = λ j. absurd (no_fault bytes kind (a.encode kind refl))
       go (Some bytes) Usage a u = λ j. absurd (u refl)
       go (Some bytes) Source a u = λ j. absurd (given (a.source refl).0)
       go (Some bytes) Sink a u = λ j. absurd (taken (a.sink refl))
@@ -201,8 +152,3 @@ pub printed_ok : (result : Result (Unit {0}) Refusal) (left : Option (List ℕ))
     → (AllByRecursion (λ t. Typed t BoolType) job.terms → OnOk result (Headline job.enums job.terms)) → OnOk result (IfSome left (Prints old new))
 printed_ok (Ok u) left job old new is put means = prints left job old new is put means
 printed_ok (Err e) left job old new is put means = tt
-
--- what is built of a job is read from a job
-pub a_job : (left : Option (List ℕ)) (job : PlainJob) → IfSome left (λ bytes. IsBuiltFrom bytes job) → IfSome left IsAJob
-a_job (Some bytes) job is = (is.written, is.is_job)
-a_job None job is = tt

@@ -1,4 +1,4 @@
--- The terms of a job are typed and formed, and its conditions are Booleans.
+-- The terms of a job are typed and formed and have no fault, and its conditions are Booleans.
 use Rattle.std.proofs.Common.{◌≡◌, ℕ, ◌+◌, ◌^◌, ◌<◌, ◌≤◌, Bool, true, false, cond, List, [], ◌∷◌, ◌++◌, Option, Some, None, codes, bytes_eq, map, refl, ap, ◌∙◌, subst, arith}
 use Rattle.std.specs.Bool.{then_some}
 use Rattle.std.specs.List.{AllByRecursion}
@@ -10,8 +10,9 @@ use Rattle.smt_semantics.specs.Script.{◌>>=◌}
 use Rattle.smt_bits.specs.BitVectors.{bits_of}
 use Rattle.smt_bits.specs.Widths.{are_bits, is_width}
 use Rattle.smt_bits.proofs.BitRanges as ranges
+use Rattle.smt_term.specs.Faults.{attribute_types_fault, first_fault, is_passed_over, operator_fault, term_fault, terms_fault, type_fault, unless}
 use Rattle.smt_term.specs.Formed.{IsFormed, IsFormedNode, IsFormedType}
-use Rattle.smt_term.specs.Plain.{PlainType, BitVecType, BoolType, PlainOp, AndOp, BvaddOp, BvlshrOp, BvmulOp, BvnegOp, BvnegoOp, BvsaddoOp, BvsdivOp, BvshlOp, BvsleOp, BvsltOp, BvsmodOp, BvsmuloOp, BvsremOp, BvssuboOp, BvsubOp, BvudivOp, BvuleOp, BvultOp, BvuremOp, EqOp, IteOp, NotOp, OrOp, ZeroExtendOp, BitVecLiteral, PlainTerm, Application, LiteralTerm, VariableTerm, terms}
+use Rattle.smt_term.specs.Plain.{PlainType, OptionType, RecordType, SetType, AttributeTypes, no_attributes, attribute, RecordGetOp, StringLikeOp, UufOp, BitVecType, BoolType, PlainOp, AndOp, BvaddOp, BvlshrOp, BvmulOp, BvnegOp, BvnegoOp, BvsaddoOp, BvsdivOp, BvshlOp, BvsleOp, BvsltOp, BvsmodOp, BvsmuloOp, BvsremOp, BvssuboOp, BvsubOp, BvudivOp, BvuleOp, BvultOp, BvuremOp, EqOp, IteOp, NotOp, OrOp, ZeroExtendOp, BitVecLiteral, PlainTerm, Application, LiteralTerm, VariableTerm, terms}
 use Rattle.smt_term.specs.Reached.{subterms, subterms_of_all}
 use Rattle.smt_term.specs.Types.{extended_type, result_type, type_eq, type_of, types_of}
 use Rattle.smt_term.specs.Typing.{Typed, typed, typed_all}
@@ -20,8 +21,11 @@ use Rattle.smt_term.proofs.Soundness.{chosen}
 use Rattle.smt_term.proofs.TypeOrder.{eq_same, type_itself}
 use Rattle.smt_term.proofs.TypedArguments.{listed}
 use Rattle.smt_factory.proofs.Standing.{last_type}
+use Rattle.smt_factory.proofs.BuiltFaults.{built_faultless}
+use Rattle.smt_factory.specs.Built.{built}
 use Rattle.smt_factory.specs.Applications.{truth_literal}
 use Rattle.smt_sexpr.specs.Reading.{Expression, Leaf, Node, Expressions, Nil, Cons}
+use Rattle.smt_cli.specs.Run.{fault_of}
 use Rattle.smt_cli.specs.Job.{IsJob, PlainJob, Variables, applied, bits_literal, bits_stated, bits_type, condition_of, conditions_of, declared_by, declared_variable, empty_section, extension_by, extension_stated, first_in, headed_term, job_of_sections, literal_of, long_in, long_of_text, name_in, named_operators, number_in, operator_named, other_terms, section, sole, term_of, terms_of, text_in, type_declared, type_named, type_of_expression, unless_declared, variable_of}
 
 -- ---- what there is of something optional
@@ -102,22 +106,35 @@ all_declared_formed vs (Cons e es) h = bound AreFormed (variable_of vs e) _ (onw
 
 -- ---- terms
 
--- typed and formed
+-- no type has a fault where there are no enum types
+mutual
+  no_type_fault : (t : PlainType) → type_fault [] t ≡ None
+  no_type_fault (OptionType t) = no_type_fault t
+  no_type_fault (RecordType x) = no_attribute_fault x
+  no_type_fault (SetType t) = no_type_fault t
+  no_type_fault t = refl
+
+  no_attribute_fault : (x : AttributeTypes) → attribute_types_fault [] x ≡ None
+  no_attribute_fault no_attributes = refl
+  no_attribute_fault (attribute a t x) = rw (no_type_fault t) (no_attribute_fault x)
+
+-- typed and formed, and without fault
 pub record IsSound (t : PlainTerm) : Type 0 where
   pub is_typed : typed t ≡ true
   pub formed : IsFormed t
+  pub faultless : term_fault [] t ≡ None
 
 abbrev pub AreSound : List PlainTerm → Type 0
 AreSound ts = AllByRecursion IsSound ts
 
 truth_sound : (b : Bool) → IsSound (truth_literal b)
-truth_sound b = record { is_typed = refl; formed = record { literals = (tt, tt); types = (bool_formed, tt) } }
+truth_sound b = record { is_typed = refl; formed = record { literals = (tt, tt); types = (bool_formed, tt) }; faultless = refl }
 
 bits_sound : (w n : ℕ) → 1 ≤ w → w ≤ 128 → n < 2 ^ w → IsSound (LiteralTerm (BitVecLiteral w n))
-bits_sound w n l m h = record { is_typed = refl; formed = record { literals = (h, tt); types = (((l, m), tt), tt) } }
+bits_sound w n l m h = record { is_typed = refl; formed = record { literals = (h, tt); types = (((l, m), tt), tt) }; faultless = refl }
 
 variable_sound : (id : List ℕ) (t : PlainType) → IsFormedType t → IsSound (VariableTerm id t)
-variable_sound id t h = record { is_typed = refl; formed = record { literals = (tt, tt); types = (h, tt) } }
+variable_sound id t h = record { is_typed = refl; formed = record { literals = (tt, tt); types = (h, tt) }; faultless = no_type_fault t }
 
 declared_sound : (vs : Variables) (e : Expression) → AreFormed vs → IfSome (declared_variable vs e) IsSound
 declared_sound vs e h = bound IsSound (text_in e) _ (whichever _ (text_in e) (λ name. bound IsSound (type_declared vs name) _ (onward (type_declared vs name) (declared_formed vs name h) (λ t f. variable_sound name t f))))
@@ -242,6 +259,20 @@ own_types : (ts : List PlainTerm) → AreSound ts → AllByRecursion IsFormedTyp
 own_types [] h = tt
 own_types (t ∷ ts) h = (last_type t h.0.formed, own_types ts h.1)
 
+all_faultless : (ts : List PlainTerm) → AreSound ts → terms_fault [] (terms ts) ≡ None
+all_faultless [] h = refl
+all_faultless (t ∷ ts) h = rw h.0.faultless (all_faultless ts h.1)
+
+no_operator_fault : (o : PlainOp) (us : List PlainType) → is_applied o ≡ true → operator_fault [] o us ≡ None
+no_operator_fault (UufOp f) us a = absurd (cc)
+no_operator_fault (StringLikeOp p) us a = absurd (cc)
+no_operator_fault (RecordGetOp x) us a = absurd (cc)
+no_operator_fault o us a = refl
+
+unless_none : (b : Bool) → unless b None ≡ None
+unless_none true = refl
+unless_none false = refl
+
 -- an operator at sound terms that it takes
 applied_sound : (o : PlainOp) (ts : List PlainTerm) → is_applied o ≡ true → AreSound ts → IfSome (applied o ts) IsSound
 applied_sound o ts a h = go (result_type o (map type_of ts)) refl
@@ -255,6 +286,7 @@ applied_sound o ts a h = go (result_type o (map type_of ts)) refl
         literals = all-join IsFormedNode (subterms_of_all (terms ts)) _ (joined IsFormedNode ts (all_literals ts h)) (tt, tt);
         types = all-join (λ u. IsFormedType (type_of u)) (subterms_of_all (terms ts)) _ (joined (λ u. IsFormedType (type_of u)) ts (all_types ts h)) (given_formed o (map type_of ts) t a (own_types ts h) e, tt);
       };
+      faultless = ap (λ f. unless (is_passed_over o (types_of (terms ts)) t) f) (rw (no_type_fault t, all_faultless ts h) (no_operator_fault o (types_of (terms ts)) a)) ∙ unless_none (is_passed_over o (types_of (terms ts)) t);
     }
     go None e = tt
 
@@ -287,16 +319,17 @@ module _ (vs : Variables) (formed : AreFormed vs) where
 
 -- ---- conditions
 
--- typed as a Boolean, and formed
+-- typed as a Boolean, formed, and without fault
 pub record IsCondition (t : PlainTerm) : Type 0 where
   pub boolean : Typed t BoolType
   pub formed : IsFormed t
+  pub faultless : term_fault [] t ≡ None
 
 chosen_condition : (t : PlainTerm) → IsSound t → IfSome (if type_eq (type_of t) BoolType then Some t else None) IsCondition
 chosen_condition t s = go (type_eq (type_of t) BoolType) refl
   where
     go : (b : Bool) → type_eq (type_of t) BoolType ≡ b → IfSome (if b then Some t else None) IsCondition
-    go true e = record { boolean = record { parts = s.is_typed; type = eq_same (type_of t) BoolType e }; formed = s.formed }
+    go true e = record { boolean = record { parts = s.is_typed; type = eq_same (type_of t) BoolType e }; formed = s.formed; faultless = s.faultless }
     go false e = tt
 
 conditions_sound : (vs : Variables) (es : Expressions) → AreFormed vs → IfSome (conditions_of vs es) (AllByRecursion IsCondition)
@@ -307,8 +340,10 @@ conditions_sound vs (Cons e es) h =
 
 -- ---- jobs
 
-abbrev AreJobConditions : PlainJob → Type 0
-AreJobConditions job = AllByRecursion IsCondition job.terms
+-- conditions, over no enum types
+pub record AreJobConditions (job : PlainJob) : Type 0 where
+  pub conditions : AllByRecursion IsCondition job.terms
+  pub no_enums : job.enums ≡ []
 
 sections_sound : (es : Expressions) → IfSome (job_of_sections es) AreJobConditions
 sections_sound (Cons enums (Cons variables (Cons functions (Cons conditions Nil)))) =
@@ -317,13 +352,26 @@ sections_sound (Cons enums (Cons variables (Cons functions (Cons conditions Nil)
     bound AreJobConditions (empty_section (codes "funs") functions) _ (whichever _ (empty_section (codes "funs") functions) (λ b.
     bound AreJobConditions (section (codes "terms") conditions) _ (whichever _ (section (codes "terms") conditions) (λ ts.
     bound AreJobConditions (declared_by [] vs) _ (onward (declared_by [] vs) (all_declared_formed [] vs tt) (λ declared f.
-    bound AreJobConditions (conditions_of declared ts) _ (onward (conditions_of declared ts) (conditions_sound declared ts f) (λ written c. c))))))))))))
+    bound AreJobConditions (conditions_of declared ts) _ (onward (conditions_of declared ts) (conditions_sound declared ts f) (λ written c. record { conditions = c; no_enums = refl }))))))))))))
 sections_sound Nil = tt
 sections_sound (Cons a Nil) = tt
 sections_sound (Cons a (Cons b Nil)) = tt
 sections_sound (Cons a (Cons b (Cons c Nil))) = tt
 sections_sound (Cons a (Cons b (Cons c (Cons d (Cons e es))))) = tt
 
-pub job_conditions : (bytes : List ℕ) (job : PlainJob) → IsJob bytes job → AllByRecursion IsCondition job.terms
-job_conditions bytes job is =
+job_sound : (bytes : List ℕ) (job : PlainJob) → IsJob bytes job → AreJobConditions job
+job_sound bytes job is =
     subst (λ (o : Option PlainJob). IfSome o AreJobConditions) is.stated (bound AreJobConditions (section (codes "job") is.expression) job_of_sections (whichever _ (section (codes "job") is.expression) sections_sound))
+
+pub job_conditions : (bytes : List ℕ) (job : PlainJob) → IsJob bytes job → AllByRecursion IsCondition job.terms
+job_conditions bytes job is = (job_sound bytes job is).conditions
+
+-- terms that are built of conditions have no fault
+none_built : (ts : List PlainTerm) → AllByRecursion IsCondition ts → first_fault [] (map built ts) ≡ None
+none_built [] h = refl
+none_built (t ∷ ts) h = rw (built_faultless [] t h.0.boolean.parts h.0.faultless) (none_built ts h.1)
+
+pub jobs_are_faultless : (bytes : List ℕ) (job : PlainJob) → IsJob bytes job → fault_of job ≡ None
+jobs_are_faultless bytes job is =
+    let sound = job_sound bytes job is in
+    ap (λ enums. first_fault enums (map built job.terms)) sound.no_enums ∙ none_built job.terms sound.conditions

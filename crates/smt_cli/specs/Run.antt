@@ -89,12 +89,13 @@ IsNoJob bytes = (job : PlainJob) → IsJob bytes job → ⊥
 abbrev pub fault_of : PlainJob → Option Fault
 fault_of job = first_fault job.enums (map built job.terms)
 
--- Some job has these bytes, and what is built of its terms has a fault, or has none.
+-- some job has these bytes, and what is built of its terms has a fault
 abbrev pub IsFaulty : List ℕ → Type 0
 IsFaulty bytes = (job : PlainJob) × IsJob bytes job × IsTrue (is_some (fault_of job))
 
-abbrev pub IsFaultless : List ℕ → Type 0
-IsFaultless bytes = (job : PlainJob) × IsJob bytes job × (fault_of job ≡ None)
+-- What is built of a job has no fault: jobs have no strings, no patterns and no enum types yet.
+abbrev pub JobsAreFaultless : Type 0
+JobsAreFaultless = (bytes : List ℕ) (job : PlainJob) → IsJob bytes job → fault_of job ≡ None
 
 -- the first fault of a job is of this kind
 abbrev pub IsFaultOf : EncodeRefusal → Option Fault → Type 0

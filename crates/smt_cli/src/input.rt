@@ -1,5 +1,5 @@
 // Reading a whole input.
-ghost use Rattle.std.specs.Prelude.{◌≡◌, ◌<◌, ◌≤◌, length, vec_len, IfOk, OnErr, IfSome, IsErrOf, IsOkUnless};
+ghost use Rattle.std.specs.Prelude.{◌≡◌, ◌<◌, ◌≤◌, length, vec_len, IfOk, IfSome, IsErrOf, IsOkUnless};
 ghost use Rattle.smt_script.specs.Sink.{Rose};
 ghost use Rattle.smt_cli.specs.Input.{ReadsAll, ReadsOn};
 
@@ -48,8 +48,13 @@ impl From<AllocError> for InputError {
 
 /// Reads all bytes of a source, at most `greatest`.
 ///
+/// On an error the bytes that came are lost.
+///
+/// # Errors
+///
 /// `TooLarge` comes as soon as more than `greatest` bytes came, so a source with no end is refused
-/// too. On an error the bytes that came are lost.
+/// too. `Fault` comes where the source failed at a read, and `Memory` where there is no memory for
+/// the bytes.
 pub fn read_input<S: Source>(
     alloc: Global,
     source: &mut S,

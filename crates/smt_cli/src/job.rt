@@ -16,10 +16,10 @@ use std::alloc::{AllocError, AllocFailed, Global};
 use thiserror::Error;
 
 /// The longest job, in bytes.
-pub const GREATEST_JOB: usize = 16_777_216;
+pub(crate) const GREATEST_JOB: usize = 16_777_216;
 
 /// How many brackets of a job may be open at a place.
-pub const GREATEST_NESTING: usize = 512;
+pub(crate) const GREATEST_NESTING: usize = 512;
 
 /// Why the bytes are no job.
 #[derive(Clone, Copy, Debug, PartialEq, Eq, Drop, Error)]
@@ -126,15 +126,20 @@ impl VarList {
 /// A job: its enum types, its variables and its terms.
 #[derive(Drop)]
 pub struct Job {
+    /// The enum types that the terms may name. A job that was read has none.
     pub enums: EnumTable,
+    /// The declared variables, in order.
     pub vars: VarList,
+    /// The terms, in order, as they are built.
     pub terms: TermList,
 }
 
 /// Reads a job. Its terms are built as they are read: applications are folded, constants first.
 ///
+/// # Errors
+///
 /// `TooLarge` comes exactly where there are more than 16777216 bytes, `BadForm` only where there are not and no job
-/// has these bytes.
+/// has these bytes. `Memory` comes where there is no memory for the job.
 pub fn read_job(alloc: Global, bytes: &[u8]) -> Result<Job, JobError>
     ensures job { IfOk result (λ job. IsBuiltFrom bytes.now (plain_job job)) }
     ensures too_large { IsErrOf result JobError.TooLarge ↔ (greatest_length < length bytes.now) }

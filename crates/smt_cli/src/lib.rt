@@ -5,6 +5,7 @@ mod declaration;
 mod expression;
 mod input;
 mod job;
+pub mod laws;
 mod operator;
 mod program;
 mod source;
@@ -15,5 +16,7 @@ pub use job::{Job, JobError, VarList, read_job};
 pub use program::{Command, EncodeRefusal, Refusal, run};
 pub use source::{MemorySource, ReadSource, Source, SourceError, SourceFault};
 
+#[cfg(test)]
+mod tests_job;
 #[cfg(test)]
 mod tests_source;

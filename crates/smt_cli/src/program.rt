@@ -1,5 +1,5 @@
 // The run of the program, from its words to its status.
-ghost use Rattle.std.specs.Prelude.{◌≡◌, ◌<◌, ◌⊎◌, ◌↔◌, [], Err, Some, None, IfOk, IfSome, IsErrOf, OnErr, OnOk, length, option_map};
+ghost use Rattle.std.specs.Prelude.{◌≡◌, ◌<◌, ◌⊎◌, ◌↔◌, [], Err, Some, None, IfOk, IfSome, IsErrOf, OnErr, OnOk, option_map};
 ghost use Rattle.std.specs.Io.KnownBytes.{append_known};
 ghost use Rattle.smt_term.specs.Enums.{enums_of};
 ghost use Rattle.smt_term.specs.Faults.{first_fault};
@@ -9,11 +9,11 @@ ghost use Rattle.smt_term.specs.Typing.{Typed};
 ghost use Rattle.smt_term.specs.View.{plain_items};
 ghost use Rattle.smt_headline.specs.Headline.{Headline};
 ghost use Rattle.smt_lines.specs.Text.{text};
-ghost use Rattle.smt_script.specs.Sink.{Puts, Rose};
+ghost use Rattle.smt_script.specs.Sink.{Rose};
 ghost use Rattle.smt_script.specs.Texts.{texts};
 ghost use Rattle.smt_cli.specs.Job.{IsBuiltFrom};
 ghost use Rattle.smt_cli.specs.JobView.{plain_job};
-ghost use Rattle.smt_cli.specs.Run.{commanded, help_text, line_of, status_of, version_text, Answers, HasNoForm, IsAJob, IsDone, IsFaultless, IsFaultOf, IsFaulty, IsNoJob, IsTooLong, Prints, Reports};
+ghost use Rattle.smt_cli.specs.Run.{commanded, line_of, status_of, Answers, HasNoForm, IsAJob, IsDone, IsFaultOf, IsFaulty, IsNoJob, IsTooLong, Prints, Reports};
 
 use crate::input::{InputError, read_input};
 use crate::job::{GREATEST_JOB, Job, JobError, read_job};
@@ -172,7 +172,6 @@ fn read_source<R: Source>(alloc: Global, source: &mut R) -> Result<Job, Refusal>
 fn put_script<W: Sink>(alloc: Global, job: &Job, out: &mut W) -> Result<(), Refusal>
     ensures text { OnOk result (W.held out.new ≡ append_known (W.held out.old) (text (enums_of job.now.enums) (plain_items job.now.terms))) }
     ensures headline { AllByRecursion (λ t. Typed t BoolType) (plain_items job.now.terms) → OnOk result (Headline (enums_of job.now.enums) (plain_items job.now.terms)) }
-    ensures faultless { OnOk result (first_fault (enums_of job.now.enums) (plain_items job.now.terms) ≡ None) }
     ensures fault { (kind : EncodeRefusal) → IsErrOf result (Refusal.Encode kind) → IsFaultOf kind (first_fault (enums_of job.now.enums) (plain_items job.now.terms)) }
     ensures sink { IsErrOf result Refusal.Sink → Rose (W.faults out.old) (W.faults out.new) }
     ensures no_usage { IsErrOf result Refusal.Usage → ⊥ }
@@ -207,7 +206,6 @@ fn print_script<R: Source, W: Sink>(
     ensures answers { Answers (R.left source.old) (R.faults source.old) (R.faults source.new) (W.held out.old) (W.held out.new) (W.faults out.old) (W.faults out.new) result }
     ensures no_usage { IsErrOf result Refusal.Usage → ⊥ }
     ensures read { IsErrOf result Refusal.Sink → IfSome (R.left source.old) IsAJob }
-    ensures faultless { OnOk result (IfSome (R.left source.old) IsFaultless) }
     ensures ended { OnOk result (R.left source.new ≡ option_map (λ _. []) (R.left source.old)) }
 {
     let job = read_source(alloc, source)?;
@@ -225,7 +223,6 @@ fn answer<R: Source, W: Sink>(
     ensures answers { Answers (R.left source.old) (R.faults source.old) (R.faults source.new) (W.held out.old) (W.held out.new) (W.faults out.old) (W.faults out.new) result }
     ensures usage { IsErrOf result Refusal.Usage ↔ (commanded (texts words.now) ≡ None) }
     ensures read { commanded (texts words.now) ≡ Some Command.Script → IsErrOf result Refusal.Sink → IfSome (R.left source.old) IsAJob }
-    ensures faultless { commanded (texts words.now) ≡ Some Command.Script → OnOk result (IfSome (R.left source.old) IsFaultless) }
     ensures ended { commanded (texts words.now) ≡ Some Command.Script → OnOk result (R.left source.new ≡ option_map (λ _. []) (R.left source.old)) }
 {
     match command_of(words) {
@@ -256,9 +253,7 @@ pub fn run<R: Source, W: Sink, D: Sink>(
     ensures sink { result ≡ 6 → Rose (W.faults out.old) (W.faults out.new) }
     ensures untouched { (result ≡ 2) ⊎ ((result ≡ 3) ⊎ (result ≡ 5)) → W.held out.new ≡ W.held out.old }
     ensures accepted { commanded (texts words.now) ≡ Some Command.Script → (Rose (R.faults source.old) (R.faults source.new) → ⊥) → (Rose (W.faults out.old) (W.faults out.new) → ⊥) →
-        IfSome (R.left source.old) (λ bytes. IsFaultless bytes → (result ≡ 0) ⊎ (result ≡ 7)) }
-    ensures faulty { commanded (texts words.now) ≡ Some Command.Script → (Rose (R.faults source.old) (R.faults source.new) → ⊥) → (Rose (W.faults out.old) (W.faults out.new) → ⊥) →
-        IfSome (R.left source.old) (λ bytes. IsFaulty bytes → (result ≡ 4) ⊎ (result ≡ 7)) }
+        IfSome (R.left source.old) (λ bytes. IsAJob bytes → (result ≡ 0) ⊎ (result ≡ 7)) }
     ensures complete { commanded (texts words.now) ≡ Some Command.Script → (Rose (R.faults source.old) (R.faults source.new) → ⊥) →
         IfSome (R.left source.old) (λ bytes. IsNoJob bytes → (result ≡ 3) ⊎ (result ≡ 7)) }
     ensures ended { result ≡ 0 → commanded (texts words.now) ≡ Some Command.Script → R.left source.new ≡ option_map (λ _. []) (R.left source.old) }

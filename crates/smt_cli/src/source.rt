@@ -138,6 +138,10 @@ impl MemorySource {
 
     /// A source of these bytes. The reads whose numbers, counted from 1, are in `fails` are to
     /// fail.
+    ///
+    /// # Errors
+    ///
+    /// `Memory` comes where there is no memory for copies of the bytes and the numbers.
     pub fn new(alloc: Global, bytes: &[u8], fails: &[u64]) -> Result<MemorySource, SourceError>
         ensures unread { IfOk result (λ s. IsUnread s bytes.now fails.now) }
         ensures refusal { IsOkUnless result SourceError.Memory }

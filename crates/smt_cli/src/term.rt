@@ -1,6 +1,5 @@
 // Terms as jobs write them, and as they are built: each application is folded, its operands first.
 ghost use Rattle.std.specs.Prelude.{◌≡◌, ◌≤◌, ◌+◌, List, IfOk, OnOk, length, map, option_map};
-ghost use Rattle.std.specs.Rc.{rc_str_bytes};
 ghost use Rattle.smt_factory.specs.Built.{built};
 ghost use Rattle.smt_sexpr.specs.View.{plain};
 ghost use Rattle.smt_term.specs.Plain.{PlainTerm};
@@ -106,33 +105,22 @@ enum Form {
 fn variable_form(declared: &Declared, operands: &[SExpr]) -> Result<Term, JobError>
     ensures { (vs : Variables) → Declares declared.now vs → Gives plain_term result (option_map built (variable_stated vs (view.listed operands.now))) }
 {
-    match sole(operands) {
-        Some(id) => variable_from(declared, id),
-        None => Err(JobError::BadForm),
-    }
+    variable_from(declared, sole(operands).ok_or(JobError::BadForm)?)
 }
 
 /// The literal that stands behind `bv`.
 fn bits_form(operands: &[SExpr]) -> Result<Term, JobError>
     ensures { Gives plain_term result (option_map built (bits_stated (view.listed operands.now))) }
 {
-    match bits_from(operands) {
-        Some(literal) => Ok(literal),
-        None => Err(JobError::BadForm),
-    }
+    bits_from(operands).ok_or(JobError::BadForm)
 }
 
 /// The literal that stands behind `long`.
 fn long_form(operands: &[SExpr]) -> Result<Term, JobError>
     ensures { Gives plain_term result (option_map built (long_stated (view.listed operands.now))) }
 {
-    match sole(operands) {
-        Some(text) => match long_from(text) {
-            Some(literal) => Ok(literal),
-            None => Err(JobError::BadForm),
-        },
-        None => Err(JobError::BadForm),
-    }
+    let text = sole(operands).ok_or(JobError::BadForm)?;
+    long_from(text).ok_or(JobError::BadForm)
 }
 
 /// The operator of `zero_extend`, by the number that stands first behind it.
@@ -140,26 +128,16 @@ fn extension_form(operands: &[SExpr]) -> Result<Op, JobError>
     ensures stated { Gives plain_op result (extension_stated (view.listed operands.now)) }
     ensures first { OnOk result (1 ≤ length operands.now) }
 {
-    let Some(bits) = operands.first() else {
-        return Err(JobError::BadForm);
-    };
-    let Some(bits) = number_in(bits) else {
-        return Err(JobError::BadForm);
-    };
-    match extension_by(bits) {
-        Some(op) => Ok(op),
-        None => Err(JobError::BadForm),
-    }
+    let first = operands.first().ok_or(JobError::BadForm)?;
+    let bits = number_in(first).ok_or(JobError::BadForm)?;
+    extension_by(bits).ok_or(JobError::BadForm)
 }
 
 /// The operator of another name.
 fn operator_form(name: &str) -> Result<Op, JobError>
     ensures { Gives plain_op result (job.operator_named name.now) }
 {
-    match operator_named(name) {
-        Some(op) => Ok(op),
-        None => Err(JobError::BadForm),
-    }
+    operator_named(name).ok_or(JobError::BadForm)
 }
 
 /// The form of a head and what stands behind it.
@@ -187,23 +165,16 @@ fn form_from(declared: &Declared, items: &[SExpr]) -> Result<Form, JobError>
     ensures stated { (vs : Variables) → Declares declared.now vs → States vs items.now result }
     ensures within { IfOk result (λ form. first_of form ≤ length items.now) }
 {
-    let Some((head, operands)) = items.split_first() else {
-        return Err(JobError::BadForm);
-    };
-    match name_in(head) {
-        Some(head) => headed_form(declared, head.as_str(), operands),
-        None => Err(JobError::BadForm),
-    }
+    let (first, operands) = items.split_first().ok_or(JobError::BadForm)?;
+    let head = name_in(first).ok_or(JobError::BadForm)?;
+    headed_form(declared, head.as_str(), operands)
 }
 
 /// The application of an operator to operands that are built, where it takes them.
 fn application_from(alloc: Global, op: &Op, operands: &[Term]) -> Result<Term, JobError>
     ensures { (written : List PlainTerm) → AreBuilt written operands.now → Gives plain_term result (option_map built (applied (plain_op op.now) written)) }
 {
-    match built_from(alloc, op, operands)? {
-        Some(term) => Ok(term),
-        None => Err(JobError::BadForm),
-    }
+    built_from(alloc, op, operands)?.ok_or(JobError::BadForm)
 }
 
 /// The term that an expression states, as it is built.

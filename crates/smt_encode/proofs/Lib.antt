@@ -4,7 +4,6 @@ pub mod Conditions
 pub mod Faulted
 pub mod Going
 pub mod Heads
-pub mod Larger
 pub mod Lines
 pub mod Numbered
 pub mod Patterned

@@ -1,4 +1,4 @@
--- The texts of patterns, of operands with a pattern, and of sets.
+-- The texts of patterns and of sets.
 use Rattle.std.proofs.Common.{◌≡◌, ℕ, ◌≤◌, Bool, true, false, ◌&&◌, List, [], ◌∷◌, ◌++◌, length, map, refl, sym, ap, ◌∙◌, append-nil, arith}
 use Rattle.std.specs.Prelude.{codes, encode_utf8}
 use Rattle.std.specs.List.{join_by, list_all}
@@ -13,7 +13,7 @@ use Rattle.smt_term.specs.TypeValues.{is_code_point}
 use Rattle.smt_sexpr.specs.Reading.{Expression}
 use Rattle.smt_semantics.specs.Quoting.{part_expr, pattern_expr}
 use Rattle.smt_semantics.specs.Script.{name}
-use Rattle.smt_lines.specs.Lines.{empty_set, set_body, with_pattern}
+use Rattle.smt_lines.specs.Lines.{empty_set, set_body}
 use Rattle.smt_lines.specs.Spelling.{spelled}
 use Rattle.smt_script.specs.Texts.{texts}
 use Rattle.smt_encode.specs.Encoded.{AreSpelled}
@@ -39,24 +39,6 @@ pub alone : (ps : List PatternPart) (t : RcStr Global) → AreSpelled (map part_
 alone (p ∷ []) t shown = cc
 alone [] t shown = absurd (cc)
 alone (p ∷ q ∷ ps) t shown = absurd (cc)
-
--- of no part the empty text
-pub none_of : (ps : List PatternPart) → AreSpelled (map part_expr ps) [] → codes "(str.to_re \"\")" ≡ spelled (pattern_expr ps)
-none_of [] shown = refl
-none_of (p ∷ ps) shown = absurd (cc)
-
--- a pattern behind operands
-pub pattern_behind : (p : List PatternPart) (es : List Expression) (ts us : List (RcStr Global)) (t : RcStr Global) → AreSpelled es ts → 1 ≤ length ts → us ≡ ts ++ t ∷ [] → rc_str_bytes t ≡ spelled (pattern_expr p)
-    → AreSpelled (with_pattern p es) us
-pattern_behind p (e ∷ es) ts us t shown long more same = spelled_more (e ∷ es) (pattern_expr p) ts us t shown more same
-pattern_behind p [] [] us t shown long more same = absurd (omega (arith, long))
-pattern_behind p [] (x ∷ ts) us t shown long more same = absurd (cc)
-
--- a pattern where there are no operands, behind their empty text
-pub pattern_alone : (p : List PatternPart) (es : List Expression) (ts us : List (RcStr Global)) (gap t : RcStr Global) → AreSpelled es ts → ts ≡ [] → us ≡ (ts ++ gap ∷ []) ++ t ∷ [] → rc_str_bytes gap ≡ [] → rc_str_bytes t ≡ spelled (pattern_expr p)
-    → AreSpelled (with_pattern p es) us
-pattern_alone p [] ts us gap t shown none more empty same = ap (map rc_str_bytes) more ∙ ap (λ l. map rc_str_bytes ((l ++ gap ∷ []) ++ t ∷ [])) none ∙ (λ i. empty i ∷ same i ∷ [])
-pattern_alone p (e ∷ es) ts us gap t shown none more empty same = let f : map spelled (e ∷ es) ≡ [] = sym shown ∙ ap (map rc_str_bytes) none in absurd (cc)
 
 -- a set by its elements, one at least
 pub set_spelled : (sort : Expression) (es : List Expression) (ts us : List (RcStr Global)) (empty : RcStr Global) → AreSpelled es ts → 1 ≤ length ts → us ≡ ts ++ empty ∷ [] → rc_str_bytes empty ≡ spelled (empty_set sort)

@@ -57,8 +57,3 @@ text_is enums ts = ap spelled_lines (sym (append-nil (option_line ∷ (encode en
 pub text_written : {S : Type 0} {held : S → Option (List ℕ)} {old new : Encoder S} {s : Tables} (enums : Enums) (ts : List PlainTerm) → Wrote held old new (option_line ∷ (encode enums ts no_names).lines) s
     → held new.script ≡ append_known (held old.script) (text enums ts)
 text_written {held = held} {old} enums ts w = w.held_is ∙ ap (append_known (held old.script)) (text_is enums ts)
-
--- what holds anyway holds on Ok
-pub ok_anyway : {T E P : Type 0} (result : Result T E) → P → OnOk result P
-ok_anyway (Ok x) p = p
-ok_anyway (Err e) p = tt

@@ -16,10 +16,8 @@ use Rattle.smt_lines.specs.Line.{Comment, DeclareConst}
 use Rattle.smt_lines.specs.Lines as lines
 use Rattle.smt_lines.specs.Lines.{Enums, Tables, Written, name_of_term, next_term, quoted_id, enter_term, encode_type, encode_terms, encode_term, define, define_application, manner, none_body, set_body, unless_named, made_of, ◌>>=◌}
 use Rattle.smt_encode.specs.Encoded.{HasNames, IsSpelled, Wrote}
-use Rattle.smt_encode.specs.Manners.{body_of, plain_manner}
+use Rattle.smt_encode.specs.Manners.{application_body, least_body}
 use Rattle.smt_encode.specs.declared.encoder.Encoder.{Encoder}
-use Rattle.smt_encode.specs.declared.manner.Manner.{Manner}
-use Rattle.smt_encode.specs.declared.manner.Manner.TheVariants.{AsItStands, AsLeast}
 use Rattle.smt_encode.proofs.Heads.{head_made}
 use Rattle.smt_encode.proofs.Lines.{nothing_written}
 
@@ -69,11 +67,14 @@ module _ (enums : Enums) (t : PlainTerm) (s : Tables) (absent : name_of_term s t
       → encode_term enums t s ≡ encode_type enums (type_of t) s >>= λ sort v. enter_term t (codes "false") [] v
   false_stated op ts type same how = application_in lines.AsFalse op ts type same how (λ u. encode_type enums (type_of u) s >>= λ sort v. enter_term u (codes "false") [] v) refl
 
-  pub application_stated : (how : Manner) (op : Op) (ts : PlainTerms) (type : PlainType) → t ≡ Application (plain_op op) ts type → plain_manner (Some how) ≡ manner (plain_op op) ts type
-      → encode_term enums t s ≡ encode_type enums (type_of t) s >>= λ sort v. encode_terms enums ts v >>= λ es u. define t sort (body_of how (plain_op op) es) u
-  application_stated AsItStands op ts type same how = application_in lines.AsItStands op ts type same how (λ t. encode_type enums (type_of t) s >>= λ sort v. encode_terms enums ts v >>= λ es u. define t sort (body_of AsItStands (plain_op op) es) u)
+  pub application_stated : (op : Op) (ts : PlainTerms) (type : PlainType) → t ≡ Application (plain_op op) ts type → lines.AsItStands ≡ manner (plain_op op) ts type
+      → encode_term enums t s ≡ encode_type enums (type_of t) s >>= λ sort v. encode_terms enums ts v >>= λ es u. define t sort (application_body (plain_op op) es) u
+  application_stated op ts type same how = application_in lines.AsItStands op ts type same how (λ t. encode_type enums (type_of t) s >>= λ sort v. encode_terms enums ts v >>= λ es u. define t sort (application_body (plain_op op) es) u)
       (λ i. encode_type enums type s >>= λ sort v. encode_terms enums ts v >>= λ es u. head_made enums op ts u i >>= λ head w. define (Application (plain_op op) ts type) sort (group (head ∷ lines.operands (plain_op op) es)) w)
-  application_stated (AsLeast width) op ts type same how = application_in (plain_manner (Some (AsLeast width))) op ts type same how (λ t. encode_type enums (type_of t) s >>= λ sort v. encode_terms enums ts v >>= λ es u. define t sort (body_of (AsLeast width) (plain_op op) es) u) refl
+
+  pub least_stated : (width : ℕ) (op : Op) (ts : PlainTerms) (type : PlainType) → t ≡ Application (plain_op op) ts type → lines.AsLeast width ≡ manner (plain_op op) ts type
+      → encode_term enums t s ≡ encode_type enums (type_of t) s >>= λ sort v. encode_terms enums ts v >>= λ es u. define t sort (least_body width es) u
+  least_stated width op ts type same how = application_in (lines.AsLeast width) op ts type same how (λ t. encode_type enums (type_of t) s >>= λ sort v. encode_terms enums ts v >>= λ es u. define t sort (least_body width es) u) refl
 
 -- ---- a term that has a name
 

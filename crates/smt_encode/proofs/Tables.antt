@@ -21,7 +21,7 @@ use Rattle.smt_term.proofs.DerivedEquality.{term_itself}
 use Rattle.smt_term.proofs.SameTerm.{term_same}
 use Rattle.smt_lines.specs.Lines.{Tables, name_of_term, next_term}
 use Rattle.smt_lines.specs.Spelling.{numeral}
-use Rattle.smt_lines.proofs.Making.{lookup_new}
+use Rattle.smt_lines.proofs.Making.{lookup_new, lookup_other}
 use Rattle.smt_semantics.proofs.Numerals.{numerals_are_printed}
 use Rattle.smt_term.proofs.TermTotal.{terms_decided}
 use Rattle.smt_encode.specs.Encoded.{HasNames}
@@ -37,11 +37,6 @@ drawn n name s small count named =
     named ∙ ap (λ d. codes "t" ++ d) (sym e) ∙ ap (λ m. codes "t" ++ numeral m) count
 
 -- ---- entries
-
--- a test that fails at the last pair passes it over
-pub lookup_past : {K X : Type 0} (test : K → Bool) (es : List (K × X)) (k : K) (x : X) → test k ≡ false → lookup test (es ++ (k, x) ∷ []) ≡ lookup test es
-lookup_past test [] k x h = rw h refl
-lookup_past test (e ∷ es) k x h = ap (cond (test e.0) (Some e.1)) (lookup_past test es k x h)
 
 -- terms that the order holds equal are one term for the tables
 ties : (a b : Term) → is_eq (term_order.ghosts.cmp a b) ≡ true → plain_term a ≡ plain_term b
@@ -64,7 +59,7 @@ named_after true key q t name n before es tied same named absent had =
     let f : lookup (term_eq (plain_term q)) es ≡ None = subst (λ (x : PlainTerm). lookup (term_eq x) es ≡ None) e absent in
     ap Some named ∙ sym (lookup_new (term_eq (plain_term q)) es t n ((terms_decided (plain_term q) t).1 (sym e)) f)
 named_after false key q t name n before es tied same named absent had =
-    had ∙ sym (lookup_past (term_eq (plain_term q)) es t n (subst (λ (x : PlainTerm). term_eq (plain_term q) x ≡ false) same (differs key q tied)))
+    had ∙ sym (lookup_other (term_eq (plain_term q)) es t n (subst (λ (x : PlainTerm). term_eq (plain_term q) x ≡ false) same (differs key q tied)))
 
 -- a table without faults has none when a term without fault is entered
 pub still_sound : (enums : Enums) (old new : BTreeMap Term (RcStr Global)) (key : Term) (t : PlainTerm) (name : RcStr Global) → Updates term_order.ghosts.cmp old new key (Some name)

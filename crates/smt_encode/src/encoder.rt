@@ -1,7 +1,6 @@
 // The encoder, from terms to the lines of a script.
-ghost use Rattle.std.specs.Prelude.{ℕ, List, ◌≡◌, ◌≤◌, ◌↔◌, ◌++◌, [], ◌∷◌, false, None, Some, IfOk, IfSome, IsOkUnless, OnOk, OnErr, IsTrue, IsErrOf, option_map, map, codes};
+ghost use Rattle.std.specs.Prelude.{List, ◌≡◌, ◌≤◌, ◌↔◌, ◌++◌, [], ◌∷◌, false, None, Some, IfOk, IfSome, IsOkUnless, OnOk, IsTrue, IsErrOf, option_map, map, codes};
 ghost use Rattle.std.specs.Rc.{rc_str_bytes};
-ghost use Rattle.std.specs.String.{string_bytes};
 ghost use Rattle.std.specs.declared.alloc.Global.{Global};
 ghost use Rattle.std.specs.declared.rc.RcStr.{RcStr};
 ghost use Rattle.smt_term.specs.Enums.{enums_of};
@@ -9,7 +8,7 @@ ghost use Rattle.smt_term.specs.Faults.{EncodeStringFailed, EncodePatternFailed,
 ghost use Rattle.smt_term.specs.PatternView.{plain_ord_pattern};
 ghost use Rattle.smt_term.specs.Plain.{LiteralTerm, terms as plain_terms};
 ghost use Rattle.smt_term.specs.Types.{type_of};
-ghost use Rattle.smt_term.specs.View.{plain_op, plain_term, plain_type, plain_literal, plain_variable};
+ghost use Rattle.smt_term.specs.View.{plain_term, plain_type, plain_literal, plain_variable};
 ghost use Rattle.smt_term.specs.declared.pattern.OrdPattern.{OrdPattern};
 ghost use Rattle.smt_sexpr.specs.Reading.{Expression};
 ghost use Rattle.smt_lines.specs.Line.{Comment, DeclareConst, DefineFun, Assert, spelled_line};
@@ -18,19 +17,18 @@ ghost use Rattle.smt_lines.specs.Lines.{Tables, enter_term, name_of_term, next_t
 ghost use Rattle.smt_lines.specs.Text.{names, text};
 ghost use Rattle.smt_headline.specs.Headline.{Headline};
 ghost use Rattle.std.specs.Io.KnownBytes.{append_known};
-ghost use Rattle.smt_encode.specs.Manners.{body_fault, body_of};
 ghost use Rattle.smt_encode.specs.Refusals.{Finds, HaveNoFaults};
 ghost use Rattle.smt_lines.specs.Spelling.{spelled};
 ghost use Rattle.smt_script.specs.Sink.{Rose};
 
 use crate::error::EncodeError;
-use crate::manner::{Manner, body_text, manner_of};
+use crate::manner::{Manner, application_body, least_body, manner_of};
 use crate::spell::{
     as_text, bits_literal, bits_sort, option_sort, quoted_id_text, set_sort, set_text, some_text,
     string_literal, term_name,
 };
 use smt_script::{Sink, SmtLibScript};
-use smt_term::{EnumTable, Op, Term, TermPrim, TermType, TermVar, Text};
+use smt_term::{EnumTable, Term, TermPrim, TermType, TermVar, Text};
 use std::alloc::Global;
 use std::collections::BTreeMap;
 
@@ -52,7 +50,7 @@ pub struct Encoder<'a, S> {
 impl<'a, S> Encoder<'a, S> {
     ghost use Rattle.smt_encode.specs.Encoded.{entry_of, enums_in, is_spent, sink_of, HasNames};
 
-    /// An encoder without names over this sink. Takes no memory.
+    /// An encoder without names over this sink, which has not encoded yet. Takes no memory, and puts nothing.
     pub fn new(alloc: Global, enums: &'a EnumTable, script: S) -> Encoder<'a, S>
         ensures no_names { HasNames result no_names }
         ensures unspent { is_spent result ≡ false }
@@ -69,7 +67,7 @@ impl<'a, S> Encoder<'a, S> {
         }
     }
 
-    /// The sink that it held.
+    /// The sink that it held, with what was put to it, also after an error.
     pub fn into_script(self) -> S
         ensures { result ≡ sink_of self.entry }
     {
@@ -96,7 +94,13 @@ impl<S: Sink> Encoder<'_, S> {
     ghost use Rattle.smt_encode.specs.Encoded.{entry_of, enums_in, is_spent, sink_of, AreBoolean, AreSpelled, HasCause, HasNames, IsSpelled, ModelsMakeTrue, PutsLine, Writes, WritesHere, Wrote};
 
     /// Writes the script of these terms: the declaration of the datatype `Option`, what the terms need, and an
-    /// assertion for each term, in order.
+    /// assertion for each term, in order (commands of SMT-LIB 2.7, chapter 3, Scripts).
+    ///
+    /// What a term needs are the lines of its parts and then its own: `; "id"` and `(declare-const t0 S)` for a
+    /// variable, `(define-fun t0 () S BODY)` for another term that has no inline text, where `t0` is its name and `S`
+    /// its sort. An overflow test of the negation of what is no bitvector is named `false`, without a line. A term that
+    /// has a name already is not written again. A term's assertion is `(assert TEXT)`, where `TEXT` is its name or, of a
+    /// literal, its inline text.
     ///
     /// After Ok the sink got exactly the stated text, and the encoder has its table of names. For Boolean terms
     /// `headline` says what that text means: it is a script by the grammar of SMT-LIB 2.7, its assertions are the
@@ -108,7 +112,9 @@ impl<S: Sink> Encoder<'_, S> {
     /// `Spent` comes exactly from an encoder that has encoded before or refused before, and leaves it as it is. `Io`
     /// comes only where the sink's count of faults rose in this call, or stands at its last value.
     /// `EncodeStringFailed` and `EncodePatternFailed` come only where this is the first fault of the terms, from left
-    /// to right and a term's parts before the term; where the terms have a fault, the answer is never Ok.
+    /// to right and a term's parts before the term; where the terms have a fault, the answer is never Ok. `Memory`
+    /// may come from any encoder that is not spent, where there is no memory left. Each of the four spends the encoder
+    /// and says nothing of what the sink got.
     pub fn encode(&mut self, terms: &[Term]) -> Result<(), EncodeError>
         ensures text { HasNames self.old no_names → OnOk result (S.held (sink_of self.new) ≡ append_known (S.held (sink_of self.old)) (text (enums_in self.old) (map plain_term terms.now))) }
         ensures names { HasNames self.old no_names → OnOk result (HasNames self.new (names (enums_in self.old) (map plain_term terms.now))) }
@@ -305,25 +311,6 @@ impl<S: Sink> Encoder<'_, S> {
         Ok(name)
     }
 
-    /// Defines an application that has no name yet, by the texts of its sort and its operands.
-    fn define_application(
-        &mut self,
-        term: &Term,
-        manner: Manner,
-        op: &Op,
-        sort: &str,
-        operands: Vec<Text>,
-    ) -> Result<Text, EncodeError>
-        requires fault { term_fault (enums_in self.now) (plain_term term.now) ≡ body_fault manner (plain_op op.now) }
-        ensures lines { (s : Tables) (e : Expression) (es : List Expression) → HasNames self.old s → name_of_term s (plain_term term.now) ≡ None → sort.now ≡ spelled e → AreSpelled es operands.items →
-            WritesHere S.held self.old self.new (lines.define (plain_term term.now) e (body_of manner (plain_op op.now) es) s) IsSpelled result }
-        ensures cause { HasCause S.faults S.place self.old self.new result }
-        ensures fault { Finds (body_fault manner (plain_op op.now)) result }
-    {
-        let body = body_text(self.alloc, manner, op, operands)?;
-        self.define(term, sort, body.as_str())
-    }
-
     /// Names a term that has no name yet `false`. It gets no line.
     fn name_false(&mut self, term: &Term) -> Result<Text, EncodeError>
         requires sound { term_fault (enums_in self.now) (plain_term term.now) ≡ None }
@@ -365,11 +352,19 @@ impl<S: Sink> Encoder<'_, S> {
             Term::App { op, args, ret_ty } => {
                 let sort = self.encode_sort(term)?;
                 let args = args.items();
-                let Some(manner) = manner_of(self.alloc, op, args, ret_ty)? else {
-                    return self.name_false(term);
-                };
-                let operands = self.encode_terms(args)?;
-                self.define_application(term, manner, op, sort.as_str(), operands)
+                match manner_of(self.alloc, op, args, ret_ty)? {
+                    Manner::AsItStands => {
+                        let operands = self.encode_terms(args)?;
+                        let body = application_body(self.alloc, op, operands)?;
+                        self.define(term, sort.as_str(), body.as_str())
+                    }
+                    Manner::AsLeast(width) => {
+                        let operands = self.encode_terms(args)?;
+                        let body = least_body(self.alloc, width, operands)?;
+                        self.define(term, sort.as_str(), body.as_str())
+                    }
+                    Manner::AsFalse => self.name_false(term),
+                }
             }
             Term::None(_) => {
                 let sort = self.encode_sort(term)?;

@@ -25,7 +25,7 @@ pub enum EncodeError {
     /// An earlier call of this encoder refused, or it has encoded its terms already.
     #[error("the encoder is spent")]
     Spent,
-    /// There was no memory for a name, an entry or, in the sink, for a line.
+    /// There was no memory for a text, a name, an entry or, in the sink, for a line.
     #[error("out of memory for the script")]
     Memory,
 }

@@ -2,8 +2,9 @@
 ghost use Rattle.std.specs.Prelude.{◌≡◌, List, IfOk, OnOk, IsErrOf, map};
 ghost use Rattle.std.specs.Rc.{rc_str_bytes};
 ghost use Rattle.std.specs.String.{string_bytes};
+ghost use Rattle.smt_bits.specs.Width.{bits_in};
 ghost use Rattle.smt_encode.specs.Encoded.{AreSpelled};
-ghost use Rattle.smt_encode.specs.Manners.{body_fault, body_of, pattern_fault, plain_manner};
+ghost use Rattle.smt_encode.specs.Manners.{application_body, least_body, pattern_fault, plain_manner};
 ghost use Rattle.smt_encode.specs.Refusals.{Finds};
 ghost use Rattle.smt_lines.specs.Lines as lines;
 ghost use Rattle.smt_lines.specs.Lines.{manner};
@@ -28,9 +29,11 @@ pub(crate) enum Manner {
     AsItStands,
     /// As the equality of its operand with the least number of this width.
     AsLeast(Width),
+    /// As `false`, without a line.
+    AsFalse,
 }
 
-/// How an application is written, None where it is written as `false`.
+/// How an application is written.
 ///
 /// The overflow of a negation is written without its operator: it overflows exactly at the least number of its width,
 /// and what is no bitvector does not overflow.
@@ -39,73 +42,72 @@ pub(crate) fn manner_of(
     op: &Op,
     args: &[Term],
     ret_ty: &TermType,
-) -> Result<Option<Manner>, TermError>
+) -> Result<Manner, TermError>
     ensures { IfOk result (λ found. plain_manner found ≡ manner (plain_op op.now) (terms (map plain_term args.now)) (plain_type ret_ty.now)) }
 {
     match op {
         Op::Bvnego => negation_manner(alloc, args, ret_ty),
-        _ => Ok(Some(Manner::AsItStands)),
+        _ => Ok(Manner::AsItStands),
     }
 }
 
-// How the overflow of a negation is written: it is a test of one operand.
-fn negation_manner(
-    alloc: Global,
-    args: &[Term],
-    ret_ty: &TermType,
-) -> Result<Option<Manner>, TermError>
+/// How the overflow of a negation is written: it is a test of one operand.
+fn negation_manner(alloc: Global, args: &[Term], ret_ty: &TermType) -> Result<Manner, TermError>
     ensures { IfOk result (λ found. plain_manner found ≡ lines.negation_manner (terms (map plain_term args.now)) (plain_type ret_ty.now)) }
 {
     match ret_ty {
         TermType::Bool => match args {
             [operand] => least_manner(alloc, operand),
-            _ => Ok(Some(Manner::AsItStands)),
+            _ => Ok(Manner::AsItStands),
         },
         TermType::Option { .. }
         | TermType::Bitvec { .. }
         | TermType::String
-        | TermType::Set { .. } => Ok(Some(Manner::AsItStands)),
+        | TermType::Set { .. } => Ok(Manner::AsItStands),
     }
 }
 
-// How the overflow of this operand's negation is written.
-fn least_manner(alloc: Global, operand: &Term) -> Result<Option<Manner>, TermError>
+/// How the overflow of this operand's negation is written.
+fn least_manner(alloc: Global, operand: &Term) -> Result<Manner, TermError>
     ensures { IfOk result (λ found. plain_manner found ≡ lines.least_manner (type_of (plain_term operand.now))) }
 {
     match operand.type_of(alloc)? {
-        TermType::Bitvec { n } => Ok(Some(Manner::AsLeast(n))),
+        TermType::Bitvec { n } => Ok(Manner::AsLeast(n)),
         TermType::Option { .. } | TermType::Bool | TermType::String | TermType::Set { .. } => {
-            Ok(None)
+            Ok(Manner::AsFalse)
         }
     }
 }
 
-/// The body of an application's definition, by the texts of its operands.
-pub(crate) fn body_text(
+/// The body of an application that is written by its operator, by the texts of its operands.
+pub(crate) fn application_body(
     alloc: Global,
-    manner: Manner,
     op: &Op,
     mut operands: Vec<Text>,
 ) -> Result<String, EncodeError>
-    ensures text { (es : List Expression) → AreSpelled es operands.items → IfOk result (λ text. string_bytes text ≡ spelled (body_of manner (plain_op op.now) es)) }
-    ensures fault { Finds (body_fault manner (plain_op op.now)) result }
+    ensures text { (es : List Expression) → AreSpelled es operands.items → IfOk result (λ text. string_bytes text ≡ spelled (application_body (plain_op op.now) es)) }
+    ensures fault { Finds (pattern_fault (plain_op op.now)) result }
     ensures unspent { IsErrOf result EncodeError.Spent → ⊥ }
     ensures no_sink { IsErrOf result EncodeError.Io → ⊥ }
 {
-    match manner {
-        Manner::AsItStands => {
-            push_pattern(alloc, op, &mut operands)?;
-            let head = head_text(alloc, op)?;
-            Ok(application_text(alloc, head.as_str(), operands.as_slice())?)
-        }
-        Manner::AsLeast(width) => {
-            operands.push(bits_literal(alloc, &BitVec::int_min(width))?)?;
-            Ok(application_text(alloc, "=", operands.as_slice())?)
-        }
-    }
+    push_pattern(alloc, op, &mut operands)?;
+    let head = head_text(alloc, op)?;
+    Ok(application_text(alloc, head.as_str(), operands.as_slice())?)
 }
 
-// Puts the pattern of `string.like` behind the operands. Where there are none, their empty text stands before it.
+/// The equality of an operand with the least number of a width, by the texts of the operands.
+pub(crate) fn least_body(
+    alloc: Global,
+    width: Width,
+    mut operands: Vec<Text>,
+) -> Result<String, AllocError>
+    ensures { (es : List Expression) → AreSpelled es operands.items → IfOk result (λ text. string_bytes text ≡ spelled (least_body (bits_in width) es)) }
+{
+    operands.push(bits_literal(alloc, &BitVec::int_min(width))?)?;
+    application_text(alloc, "=", operands.as_slice())
+}
+
+/// Puts the pattern of `string.like` behind the operands. Where there are none, their empty text stands before it.
 fn push_pattern(alloc: Global, op: &Op, operands: &mut Vec<Text>) -> Result<(), EncodeError>
     ensures operands { (es : List Expression) → AreSpelled es operands.old.items → OnOk result (AreSpelled (lines.operands (plain_op op.now) es) operands.new.items) }
     ensures fault { Finds (pattern_fault (plain_op op.now)) result }
@@ -122,7 +124,7 @@ fn push_pattern(alloc: Global, op: &Op, operands: &mut Vec<Text>) -> Result<(), 
     }
 }
 
-// Puts a regular expression behind the operands.
+/// Puts a regular expression behind the operands.
 fn push_expression(
     alloc: Global,
     expression: Text,

@@ -31,7 +31,7 @@ pub(crate) fn pattern_text(alloc: Global, pattern: &OrdPattern) -> Result<Text, 
     }
 }
 
-// The texts of a pattern's elements, in order. None where there is one that no string can have.
+/// The texts of a pattern's elements, in order. None where there is one that no string can have.
 fn part_texts(alloc: Global, elems: &[PatternElem]) -> Result<Option<Vec<Text>>, SExprParseError>
     ensures text { IfOk result (λ found. IfSome found (λ texts. AreSpelled (map part_expr (map plain_part elems.now)) texts.items)) }
     ensures some { IfOk result (λ found. is_some found ≡ list_all is_pattern_part (map plain_part elems.now)) }
@@ -46,7 +46,7 @@ fn part_texts(alloc: Global, elems: &[PatternElem]) -> Result<Option<Vec<Text>>,
     Ok(Some(parts))
 }
 
-// `(re.* re.allchar)` of the wildcard, `(str.to_re "c")` of a character. None of one that no string can have.
+/// `(re.* re.allchar)` of the wildcard, `(str.to_re "c")` of a character. None of one that no string can have.
 fn part_text(alloc: Global, elem: PatternElem) -> Result<Option<Text>, SExprParseError>
     ensures text { IfOk result (λ found. IfSome found (λ text. rc_str_bytes text ≡ spelled (part_expr (plain_part elem)))) }
     ensures some { IfOk result (λ found. is_some found ≡ is_pattern_part (plain_part elem)) }
@@ -57,7 +57,7 @@ fn part_text(alloc: Global, elem: PatternElem) -> Result<Option<Text>, SExprPars
     }
 }
 
-// `(str.to_re "c")`.
+/// `(str.to_re "c")`.
 fn character_text(alloc: Global, c: char) -> Result<Option<Text>, SExprParseError>
     ensures text { IfOk result (λ found. IfSome found (λ text. rc_str_bytes text ≡ spelled (part_expr (Character c)))) }
     ensures some { IfOk result (λ found. is_some found ≡ is_pattern_part (Character c)) }
@@ -70,14 +70,14 @@ fn character_text(alloc: Global, c: char) -> Result<Option<Text>, SExprParseErro
     }
 }
 
-// `(str.to_re x)`.
+/// `(str.to_re x)`.
 fn to_re_text(alloc: Global, operand: Text) -> Result<Text, AllocError>
     ensures { (e : Expression) → rc_str_bytes operand ≡ spelled e → IfOk result (λ text. rc_str_bytes text ≡ spelled (group (name (codes "str.to_re") ∷ e ∷ []))) }
 {
     Text::from_string(application_text(alloc, "str.to_re", &[operand])?)
 }
 
-// The regular expression of some parts by their texts: of none the empty text, of one that one alone.
+/// The regular expression of some parts by their texts: of none the empty text, of one that one alone.
 fn joined_text(alloc: Global, parts: &[Text]) -> Result<Text, AllocError>
     ensures { (ps : List PatternPart) → AreSpelled (map part_expr ps) parts.now → IfOk result (λ text. rc_str_bytes text ≡ spelled (pattern_expr ps)) }
 {

@@ -124,7 +124,7 @@ pub(crate) fn head_text(alloc: Global, op: &Op) -> Result<Text, AllocError>
     }
 }
 
-// `(_ zero_extend k)` (QF_BV).
+/// `(_ zero_extend k)` (QF_BV).
 fn zero_extension(alloc: Global, bits: u32) -> Result<Text, AllocError>
     ensures { IfOk result (λ head. rc_str_bytes head ≡ spelled (head_of (ZeroExtendOp bits))) }
 {

@@ -1,13 +1,13 @@
 // Scripts of chosen terms byte for byte, and what an encoder answers once it is spent.
 use super::*;
-use smt_bits::{BitVec, EIGHT, HUNDRED_TWENTY_EIGHT, SIXTY_FOUR, Width};
 use smt_script::{ListSink, MemorySink};
-use smt_term::{EnumTable, Op, Term, TermList, TermType, TermVar, Text};
+use smt_term::{EnumTable, Term};
 use std::alloc::Global;
-use std::process::Abort;
 use std::test::Fail;
+use words::terms;
 
 mod texts;
+mod words;
 
 /// The declaration of the datatype `Option`, with which each script begins.
 const OPTION: &str = "(declare-datatype Option (par (X) (\n  (none)\n  (some (val X)))))\n";
@@ -20,7 +20,74 @@ const NOT_B: &str = "\
 (assert t1)
 ";
 
-/// The lines of each operator from two bitvectors `x` and `y` to bits, as an equality with `x`, and to truth.
+/// The lines of a choice between a conjunction and a disjunction that has it.
+const CHOICE: &str = "\
+; \"b\"
+(declare-const t0 Bool)
+; \"c\"
+(declare-const t1 Bool)
+(define-fun t2 () Bool (and t0 t1))
+(define-fun t3 () Bool (or t2 t1))
+(define-fun t4 () Bool (ite t0 t3 t2))
+(assert t4)
+";
+
+/// The lines of a variable twice, and of its negation.
+const TWICE: &str = "\
+; \"b\"
+(declare-const t0 Bool)
+(define-fun t1 () Bool (not t0))
+(assert t0)
+(assert t0)
+(assert t1)
+";
+
+/// The lines of a variable whose name has characters that a comment marks.
+const MARKED: &str = "\
+; \"a\\\"b\\\\c\\nd\\u{7f}\u{e9}\u{4e2d}\"
+(declare-const t0 Bool)
+(assert t0)
+";
+
+/// The lines of two variables of one name.
+const ONE_NAME: &str = "\
+; \"x\"
+(declare-const t0 Bool)
+; \"x\"
+(declare-const t1 (_ BitVec 8))
+(define-fun t2 () Bool (= t1 (_ bv0 8)))
+(assert t0)
+(assert t2)
+";
+
+/// The lines of a shift whose distance takes more than 32 bits.
+const SHIFT: &str = "\
+(define-fun t0 () (_ BitVec 64) (bvshl (_ bv1 64) (_ bv4294967296 64)))
+(define-fun t1 () Bool (= t0 (_ bv0 64)))
+(assert t1)
+";
+
+/// Each operator from two bitvectors `x` and `y` to bits, as an equality with `x`, and to truth.
+const OPERATOR_WORDS: &str = "\
+    x,y,bvadd,x,eq,\
+    x,y,bvsub,x,eq,\
+    x,y,bvmul,x,eq,\
+    x,y,bvudiv,x,eq,\
+    x,y,bvurem,x,eq,\
+    x,y,bvsdiv,x,eq,\
+    x,y,bvsrem,x,eq,\
+    x,y,bvsmod,x,eq,\
+    x,y,bvshl,x,eq,\
+    x,y,bvlshr,x,eq,\
+    x,y,bvult,\
+    x,y,bvule,\
+    x,y,bvslt,\
+    x,y,bvsle,\
+    x,y,bvsaddo,\
+    x,y,bvssubo,\
+    x,y,bvsmulo";
+
+/// The lines of `OPERATOR_WORDS`.
 const OPERATORS: &str = "\
 ; \"x\"
 (declare-const t0 (_ BitVec 8))
@@ -72,7 +139,13 @@ const OPERATORS: &str = "\
 (assert t28)
 ";
 
-/// The lines of `bvneg`, and of `bvnego`, `zero_extend` and the greatest number of 128 bits.
+/// `bvneg`, and `bvnego`, `zero_extend` and the greatest number of 128 bits.
+const NEGATION_WORDS: &str = "\
+    x,bvneg,x,eq,\
+    x,bvnego,\
+    x,zero_extend,340282366920938463463374607431768211455:128,eq";
+
+/// The lines of `NEGATION_WORDS`.
 const NEGATIONS: &str = "\
 ; \"x\"
 (declare-const t0 (_ BitVec 8))
@@ -86,200 +159,113 @@ const NEGATIONS: &str = "\
 (assert t5)
 ";
 
-fn variable(alloc: Global, id: &str, ty: TermType) -> Result<Term, Fail> {
-    Ok(Term::from(TermVar {
-        id: Text::from_str(alloc, id)?,
-        ty,
-    }))
+/// Whether these bytes are the declaration of `Option` and these lines.
+fn is_script(bytes: &[u8], lines: &str) -> bool {
+    bytes.strip_prefix(OPTION.as_bytes()) == Some(lines.as_bytes())
 }
 
-fn byte(alloc: Global, id: &str) -> Result<Term, Fail> {
-    variable(alloc, id, TermType::Bitvec { n: EIGHT })
-}
-
-fn bits(width: Width, number: u128) -> Term {
-    Term::from(BitVec::of_nat(width, number))
-}
-
-/// An operator from bitvectors to bitvectors of this width.
-fn to_bits(alloc: Global, op: Op, args: &[Term], n: Width) -> Result<Term, Fail> {
-    Ok(Term::App {
-        op,
-        args: TermList::new(alloc, args)?,
-        ret_ty: TermType::Bitvec { n },
-    })
-}
-
-fn to_bool(alloc: Global, op: Op, args: &[Term]) -> Result<Term, Fail> {
-    Ok(Term::App {
-        op,
-        args: TermList::new(alloc, args)?,
-        ret_ty: TermType::Bool,
-    })
-}
-
-/// These terms have these lines behind the declaration of `Option`.
-fn has_lines(rt: &impl Abort, alloc: Global, terms: &[Term], lines: &str) -> Result<(), Fail> {
+/// Whether these terms have these lines behind the declaration of `Option`.
+fn encodes(alloc: Global, terms: &[Term], lines: &str) -> Result<bool, Fail> {
     let enums = EnumTable::new(alloc);
     let mut encoder = Encoder::new(alloc, &enums, ListSink::new(alloc));
-    assert_eq!(rt; encoder.encode(terms), Ok(()), "{lines}");
+    let outcome = encoder.encode(terms);
     let sink = encoder.into_script();
-    let script = format!(in alloc; "{OPTION}{lines}")?;
-    assert_eq!(rt; sink.bytes(), script.as_bytes(), "{lines}");
-    Ok(())
+    outcome?;
+    Ok(is_script(sink.bytes(), lines))
+}
+
+/// Whether the terms of these words have these lines.
+fn has_lines(alloc: Global, words: &str, lines: &str) -> Result<bool, Fail> {
+    encodes(alloc, terms(alloc, words)?.as_slice(), lines)
 }
 
 #[test]
 fn booleans_have_the_stated_lines(rt: HostRuntime) -> Result<(), Fail> {
     let alloc = rt.alloc();
-    let b = variable(alloc, "b", TermType::Bool)?;
-    let not_b = to_bool(alloc, Op::Not, &[b.share()?])?;
-    let marked = variable(alloc, "a\"b\\c\nd\u{7f}\u{e9}\u{4e2d}", TermType::Bool)?;
     assert_eq!(rt; OPTION.len(), 65);
-    has_lines(&rt, alloc, &[], "")?;
-    has_lines(&rt, alloc, &[not_b.share()?], NOT_B)?;
-    has_lines(&rt, alloc, &[Term::from(true)], "(assert true)\n")?;
-    has_lines(
-        &rt,
-        alloc,
-        &[b.share()?, b, not_b],
-        "; \"b\"\n(declare-const t0 Bool)\n(define-fun t1 () Bool (not t0))\n\
-         (assert t0)\n(assert t0)\n(assert t1)\n",
-    )?;
-    has_lines(
-        &rt,
-        alloc,
-        &[marked],
-        "; \"a\\\"b\\\\c\\nd\\u{7f}\u{e9}\u{4e2d}\"\n(declare-const t0 Bool)\n(assert t0)\n",
-    )
+    assert!(rt; encodes(alloc, &[], "")?);
+    assert!(rt; has_lines(alloc, "b:Bool,not", NOT_B)?);
+    assert!(rt; has_lines(alloc, "true", "(assert true)\n")?);
+    assert!(rt; has_lines(alloc, "b:Bool,b:Bool,b:Bool,not", TWICE)?);
+    assert!(rt; has_lines(alloc, "a\"b\\c\nd\u{7f}\u{e9}\u{4e2d}:Bool", MARKED)?);
+    Ok(())
 }
 
 #[test]
 fn choices_have_the_stated_lines(rt: HostRuntime) -> Result<(), Fail> {
-    let alloc = rt.alloc();
-    let b = variable(alloc, "b", TermType::Bool)?;
-    let c = variable(alloc, "c", TermType::Bool)?;
-    let both = to_bool(alloc, Op::And, &[b.share()?, c.share()?])?;
-    let either = to_bool(alloc, Op::Or, &[both.share()?, c.share()?])?;
-    let chosen = to_bool(alloc, Op::Ite, &[b, either, both])?;
-    has_lines(
-        &rt,
-        alloc,
-        &[chosen],
-        "; \"b\"\n(declare-const t0 Bool)\n; \"c\"\n(declare-const t1 Bool)\n\
-         (define-fun t2 () Bool (and t0 t1))\n(define-fun t3 () Bool (or t2 t1))\n\
-         (define-fun t4 () Bool (ite t0 t3 t2))\n(assert t4)\n",
-    )
+    let choice = "b:Bool,b:Bool,c:Bool,and,c:Bool,or,b:Bool,c:Bool,and,ite";
+    assert!(rt; has_lines(rt.alloc(), choice, CHOICE)?);
+    Ok(())
 }
 
 #[test]
 fn bitvectors_have_the_stated_lines(rt: HostRuntime) -> Result<(), Fail> {
     let alloc = rt.alloc();
-    let of_bool = variable(alloc, "x", TermType::Bool)?;
-    let is_zero = to_bool(alloc, Op::Eq, &[byte(alloc, "x")?, bits(EIGHT, 0)])?;
-    has_lines(
-        &rt,
-        alloc,
-        &[of_bool, is_zero],
-        "; \"x\"\n(declare-const t0 Bool)\n; \"x\"\n(declare-const t1 (_ BitVec 8))\n\
-         (define-fun t2 () Bool (= t1 (_ bv0 8)))\n(assert t0)\n(assert t2)\n",
-    )?;
-    let far = [bits(SIXTY_FOUR, 1), bits(SIXTY_FOUR, 4294967296)];
-    let shifted = to_bits(alloc, Op::Bvshl, &far, SIXTY_FOUR)?;
-    let is_zero = to_bool(alloc, Op::Eq, &[shifted, bits(SIXTY_FOUR, 0)])?;
-    has_lines(
-        &rt,
-        alloc,
-        &[is_zero],
-        "(define-fun t0 () (_ BitVec 64) (bvshl (_ bv1 64) (_ bv4294967296 64)))\n\
-         (define-fun t1 () Bool (= t0 (_ bv0 64)))\n(assert t1)\n",
-    )
+    assert!(rt; has_lines(alloc, "x:Bool,x,0:8,eq", ONE_NAME)?);
+    assert!(rt; has_lines(alloc, "1:64,4294967296:64,bvshl,0:64,eq", SHIFT)?);
+    Ok(())
 }
 
 #[test]
 fn operators_have_the_names_of_smt_lib(rt: HostRuntime) -> Result<(), Fail> {
-    let alloc = rt.alloc();
-    let both = [byte(alloc, "x")?, byte(alloc, "y")?];
-    let mut terms = Vec::new(alloc);
-    for op in [
-        Op::Bvadd,
-        Op::Bvsub,
-        Op::Bvmul,
-        Op::Bvudiv,
-        Op::Bvurem,
-        Op::Bvsdiv,
-        Op::Bvsrem,
-        Op::Bvsmod,
-        Op::Bvshl,
-        Op::Bvlshr,
-    ] {
-        let made = to_bits(alloc, op, &both, EIGHT)?;
-        terms.push(to_bool(alloc, Op::Eq, &[made, byte(alloc, "x")?])?)?;
-    }
-    for op in [
-        Op::Bvult,
-        Op::Bvule,
-        Op::Bvslt,
-        Op::Bvsle,
-        Op::Bvsaddo,
-        Op::Bvssubo,
-        Op::Bvsmulo,
-    ] {
-        terms.push(to_bool(alloc, op, &both)?)?;
-    }
-    has_lines(&rt, alloc, terms.as_slice(), OPERATORS)
+    assert!(rt; has_lines(rt.alloc(), OPERATOR_WORDS, OPERATORS)?);
+    Ok(())
 }
 
 #[test]
 fn negations_have_the_stated_lines(rt: HostRuntime) -> Result<(), Fail> {
     let alloc = rt.alloc();
-    let x = [byte(alloc, "x")?];
-    let negated = to_bits(alloc, Op::Bvneg, &x, EIGHT)?;
-    let extended = to_bits(alloc, Op::ZeroExtend(120), &x, HUNDRED_TWENTY_EIGHT)?;
-    let greatest = bits(HUNDRED_TWENTY_EIGHT, u128::MAX);
-    let terms = [
-        to_bool(alloc, Op::Eq, &[negated, byte(alloc, "x")?])?,
-        to_bool(alloc, Op::Bvnego, &x)?,
-        to_bool(alloc, Op::Eq, &[extended, greatest])?,
-    ];
-    has_lines(&rt, alloc, &terms, NEGATIONS)?;
-    let of_bool = to_bool(alloc, Op::Bvnego, &[variable(alloc, "b", TermType::Bool)?])?;
-    has_lines(&rt, alloc, &[of_bool], "(assert false)\n")
+    assert!(rt; has_lines(alloc, NEGATION_WORDS, NEGATIONS)?);
+    assert!(rt; has_lines(alloc, "b:Bool,bvnego", "(assert false)\n")?);
+    Ok(())
+}
+
+/// Whether the encoder has this name for the term; None where it has no name.
+fn has_name(encoder: &Encoder<'_, MemorySink>, term: &Term, name: Option<&str>) -> bool {
+    encoder.name_of_term(term).map(|found| found.as_str()) == name
+}
+
+/// Whether the encoder has these names for these terms, one each.
+fn has_names(encoder: &Encoder<'_, MemorySink>, terms: &[Term], names: &[Option<&str>]) -> bool {
+    let mut pairs = terms.iter().zip(names);
+    terms.len() == names.len() && pairs.all(|(term, name)| has_name(encoder, term, *name))
+}
+
+/// Whether an encoder has the names and the lines of `not b`, and is spent by them.
+fn encodes_once(alloc: Global) -> Result<bool, Fail> {
+    let asked = terms(alloc, "b:Bool,b:Bool,not,true")?;
+    let names = [Some("t0"), Some("t1"), None];
+    let terms = terms(alloc, "b:Bool,not")?;
+    let enums = EnumTable::new(alloc);
+    let mut encoder = Encoder::new(alloc, &enums, MemorySink::new(alloc, &[], 200)?);
+    let outcome = encoder.encode(terms.as_slice());
+    let spent = encoder.encode(terms.as_slice()) == Err(EncodeError::Spent);
+    let named = has_names(&encoder, asked.as_slice(), &names);
+    let sink = encoder.into_script();
+    outcome?;
+    Ok(spent && named && is_script(sink.bytes(), NOT_B))
+}
+
+/// Whether an encoder whose sink fails at the third put says so, is spent, and has put some of the script.
+fn is_spent_by_its_sink(alloc: Global) -> Result<bool, Fail> {
+    let terms = terms(alloc, "b:Bool")?;
+    let enums = EnumTable::new(alloc);
+    let mut encoder = Encoder::new(alloc, &enums, MemorySink::new(alloc, &[3], 200)?);
+    let failed = encoder.encode(terms.as_slice()) == Err(EncodeError::Io);
+    let spent = encoder.encode(terms.as_slice()) == Err(EncodeError::Spent);
+    let sink = encoder.into_script();
+    let begun = sink.bytes().len() < OPTION.len() && OPTION.as_bytes().starts_with(sink.bytes());
+    Ok(failed && spent && begun)
 }
 
 #[test]
 fn an_encoder_encodes_once(rt: HostRuntime) -> Result<(), Fail> {
-    let alloc = rt.alloc();
-    let b = variable(alloc, "b", TermType::Bool)?;
-    let terms = [to_bool(alloc, Op::Not, &[b.share()?])?];
-    let enums = EnumTable::new(alloc);
-    let mut encoder = Encoder::new(alloc, &enums, MemorySink::new(alloc, &[], 200)?);
-    assert_eq!(rt; encoder.encode(&terms), Ok(()));
-    assert_eq!(rt; encoder.encode(&terms), Err(EncodeError::Spent));
-    let named = |term: &Term, name: &str| {
-        encoder
-            .name_of_term(term)
-            .is_some_and(|found| found.as_str() == name)
-    };
-    assert!(rt; named(&b, "t0"));
-    assert!(rt; named(&terms[0], "t1"));
-    assert!(rt; encoder.name_of_term(&Term::from(true)).is_none());
-    let sink = encoder.into_script();
-    let script = format!(in alloc; "{OPTION}{NOT_B}")?;
-    assert_eq!(rt; sink.bytes(), script.as_bytes());
+    assert!(rt; encodes_once(rt.alloc())?);
     Ok(())
 }
 
 #[test]
 fn a_failing_sink_spends_the_encoder(rt: HostRuntime) -> Result<(), Fail> {
-    let alloc = rt.alloc();
-    let terms = [variable(alloc, "b", TermType::Bool)?];
-    let enums = EnumTable::new(alloc);
-    let mut encoder = Encoder::new(alloc, &enums, MemorySink::new(alloc, &[3], 200)?);
-    assert_eq!(rt; encoder.encode(&terms), Err(EncodeError::Io));
-    assert_eq!(rt; encoder.encode(&terms), Err(EncodeError::Spent));
-    let sink = encoder.into_script();
-    assert!(rt; sink.bytes().len() < OPTION.len());
-    assert!(rt; OPTION.as_bytes().starts_with(sink.bytes()));
+    assert!(rt; is_spent_by_its_sink(rt.alloc())?);
     Ok(())
 }

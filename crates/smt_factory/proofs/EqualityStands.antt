@@ -33,9 +33,6 @@ use Rattle.smt_term.proofs.ValueOrder.{value_same, value_itself}
 use Rattle.smt_term.specs.Plain.{PlainType, OptionType, BoolType, EqOp, IteOp, PlainTerm, Application, NoneTerm, SomeTerm, terms}
 use Rattle.smt_term.specs.Values.{Value, BoolValue, SomeValue}
 
-pub boolean_type : (t : PlainTerm) → is_boolean t ≡ true → type_of t ≡ BoolType
-boolean_type t h = eq_same (type_of t) BoolType h
-
 -- ---- values
 
 pub equal_values : (v w : Value) → v ≡ w → value_eq v w ≡ true

@@ -1,9 +1,8 @@
 -- What the code's tests of sets and strings decide, in the words of the foldings.
-use Rattle.std.proofs.Common.{◌≡◌, ℕ, ◌+◌, ◌<◌, ◌≤◌, Bool, true, false, ◌&&◌, ◌||◌, cond, List, [], ◌∷◌, ◌++◌, map, drop, length, get_or, refl, ap, ◌∙◌, sym, subst}
+use Rattle.std.proofs.Common.{◌≡◌, ℕ, ◌+◌, ◌<◌, Bool, true, false, ◌&&◌, ◌||◌, List, [], ◌∷◌, map, drop, length, get_or, refl, ap, ◌∙◌, sym, subst}
 use Rattle.std.specs.Prelude.{◌↔◌, IsTrue, Option, Some, None, filter}
-use Rattle.std.specs.List.{list_all, list_any}
 use Rattle.std.specs.Str.{chars}
-use Rattle.std.proofs.lemmas.List.{at_drop_more, at_drop_all}
+use Rattle.std.proofs.lemmas.List.{at_drop_more}
 use Rattle.smt_factory.specs.Applications.{truth_literal, false_term, string_like_of, set_member_of, set_subset_of, set_inter_of, set_is_empty_of, set_intersects_of}
 use Rattle.smt_factory.specs.FoldEquality.{folded_eq}
 use Rattle.smt_factory.specs.FoldSets.{common_set, folded_set_inter, folded_set_intersects, folded_set_is_empty, folded_set_member, folded_set_subset, is_among}
@@ -21,7 +20,7 @@ use Rattle.smt_term.specs.TermSets.{set_term}
 use Rattle.smt_term.specs.Types.{type_of}
 use Rattle.smt_term.specs.View.{plain_term}
 use Rattle.smt_term.specs.declared.term.Term.{Term}
-use Rattle.smt_term.specs.Plain.{PlainType, PatternPart, StringLiteral, PlainTerm, LiteralTerm, SetTerm, no_terms, one_term, terms}
+use Rattle.smt_term.specs.Plain.{PlainType, PatternPart, StringLiteral, PlainTerm, LiteralTerm, SetTerm, no_terms, terms}
 
 -- ---- strings
 
@@ -69,24 +68,6 @@ is_empty-other t e = ap (λ (o : Option PlainType). elim o as (λ _. PlainTerm) 
 module _ (ts : List Term) (i : ℕ) (t : Term) (l : i < length ts) (is : t ≡ get_or ts i t) where
   pub among_more : (x : PlainTerm) → is_among (map plain_term (drop i ts)) x ≡ (term_eq x (plain_term t) || is_among (map plain_term (drop (i + 1) ts)) x)
   among_more x = at_drop_more (λ (us : List Term). is_among (map plain_term us) x) ts i t l ∙ ap (λ u. term_eq x (plain_term u) || is_among (map plain_term (drop (i + 1) ts)) x) (sym is)
-
-  pub all_more : (p : PlainTerm → Bool) → list_all p (map plain_term (drop i ts)) ≡ (p (plain_term t) && list_all p (map plain_term (drop (i + 1) ts)))
-  all_more p = at_drop_more (λ (us : List Term). list_all p (map plain_term us)) ts i t l ∙ ap (λ u. p (plain_term u) && list_all p (map plain_term (drop (i + 1) ts))) (sym is)
-
-  pub filter_more : (p : PlainTerm → Bool) → filter p (map plain_term (drop i ts)) ≡ cond (p (plain_term t)) (plain_term t ∷ filter p (map plain_term (drop (i + 1) ts))) (filter p (map plain_term (drop (i + 1) ts)))
-  filter_more p =
-      at_drop_more (λ (us : List Term). filter p (map plain_term us)) ts i t l
-      ∙ ap (λ u. cond (p (plain_term u)) (plain_term u ∷ filter p (map plain_term (drop (i + 1) ts))) (filter p (map plain_term (drop (i + 1) ts)))) (sym is)
-
-module _ (ts : List Term) (i : ℕ) (l : length ts ≤ i) where
-  pub among_none : (x : PlainTerm) → is_among (map plain_term (drop i ts)) x ≡ false
-  among_none x = at_drop_all (λ (us : List Term). is_among (map plain_term us) x) ts i l
-
-  pub all_none : (p : PlainTerm → Bool) → list_all p (map plain_term (drop i ts)) ≡ true
-  all_none p = at_drop_all (λ (us : List Term). list_all p (map plain_term us)) ts i l
-
-  pub filter_none : (p : PlainTerm → Bool) → filter p (map plain_term (drop i ts)) ≡ []
-  filter_none p = at_drop_all (λ (us : List Term). filter p (map plain_term us)) ts i l
 
 -- ---- what is folded stands for what was asked for
 

@@ -1,9 +1,11 @@
 pub mod Answers
 pub mod AnyAnswers
 pub mod BitsStand
+pub mod BuiltFaults
 pub mod BuiltTerms
 pub mod ConnectivesStand
 pub mod EqualityStands
+pub mod FoldedFaults
 pub mod Folding
 pub mod FoldingOptions
 pub mod FoldingSets

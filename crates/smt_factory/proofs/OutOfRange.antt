@@ -1,5 +1,5 @@
 -- Whether a signed result leaves its range, where the machine's numbers of 128 bits may not hold it.
-use Rattle.std.proofs.Common.{◌≡◌, ℕ, zero, suc, ◌-◌, ◌^◌, ◌<◌, ◌≤◌, Bool, true, false, ◌||◌, [], ◌∷◌, Option, Some, None, refl, sym, ap, ◌∙◌, subst, inl, inr, arith}
+use Rattle.std.proofs.Common.{◌≡◌, ℕ, zero, suc, ◌-◌, ◌^◌, ◌<◌, ◌≤◌, Bool, true, false, ◌||◌, Option, Some, None, refl, sym, ap, ◌∙◌, inl, inr, arith}
 use Rattle.std.specs.Prelude.{ℤ, pos, negsuc, neg_ℤ, int_lt, int_le, nat_lt, nat_le, ◌==◌, cond, FitsSigned, SomeIff}
 use Rattle.std.specs.Fn.{FnReturnsAtPair}
 use Rattle.std.specs.Int.{w128}
@@ -11,15 +11,9 @@ use Rattle.smt_bits.specs.BitVec.{number_of, width_of}
 use Rattle.smt_bits.specs.BitVectors as bits
 use Rattle.smt_factory.specs.Applications.{bits_literal, truth_literal, test_of_two}
 use Rattle.smt_factory.specs.FoldBits.{folded_test}
-use Rattle.smt_factory.specs.FoldBy.{literal_of, leaves, IsOverflowBy, TellsOverflow}
-use Rattle.smt_factory.specs.StandsFor.{StandsFor}
+use Rattle.smt_factory.specs.FoldBy.{literal_of, leaves, IsOverflowBy}
 use Rattle.smt_factory.proofs.Answers.{no_test}
-use Rattle.smt_factory.proofs.BitsStand.{test_answered}
-use Rattle.smt_factory.proofs.Standing.{itself}
-use Rattle.smt_term.specs.Operators.{apply}
-use Rattle.smt_term.specs.Tables.{Interpretation}
-use Rattle.smt_term.specs.Plain.{BoolType, PlainOp, PlainTerm}
-use Rattle.smt_term.specs.Values.{BoolValue, BitVecValue}
+use Rattle.smt_term.specs.Plain.{PlainOp, PlainTerm}
 
 -- ---- what the machine's numbers do not hold leaves every range
 
@@ -59,20 +53,6 @@ two_widths o f n a m b h = by (n == m) refl
     by false e = refl
 
 module _ (answers : ℤ → ℤ → Option ℤ → Type 0) (o : PlainOp) where
-  at_one_width : (n a m b : ℕ) (c : Bool) → n ≡ m → ((I : Interpretation) → apply I o BoolType (BitVecValue n a ∷ BitVecValue n b ∷ []) ≡ BoolValue c) → StandsFor (truth_literal c) (test_of_two o (bits_literal n a) (bits_literal m b))
-  at_one_width n a m b c e v = let P : ℕ → Type 0 = λ x. StandsFor (truth_literal c) (test_of_two o (bits_literal n a) (bits_literal x b)) in subst P e (test_answered o n a n b c v)
-
-  pub stands_by_overflow : (t u r : PlainTerm) → TellsOverflow answers o → IsOverflowBy answers o t u r → StandsFor r (test_of_two o t u)
-  stands_by_overflow t u r v (inl (b, a, e)) =
-      let s : StandsFor (truth_literal (leaves (width_of a.left) a.answer)) (test_of_two o (literal_of a.left) (literal_of a.right)) =
-      at_one_width (width_of a.left) (number_of a.left) (width_of a.right) (number_of a.right) (leaves (width_of a.left) a.answer) a.widths (v a.left a.right a.answer a.widths a.gives) in
-      let P : PlainTerm → Type 0 = λ x. StandsFor x (test_of_two o t u) in
-      let B : Bool → Type 0 = λ x. StandsFor (truth_literal x) (test_of_two o t u) in
-      let Q : PlainTerm → Type 0 = λ x. StandsFor (truth_literal (leaves (width_of a.left) a.answer)) (test_of_two o x u) in
-      let R : PlainTerm → Type 0 = λ x. StandsFor (truth_literal (leaves (width_of a.left) a.answer)) (test_of_two o (literal_of a.left) x) in
-      subst P (sym e) (subst B (sym a.tells) (subst Q (sym a.first) (subst R (sym a.second) s)))
-  stands_by_overflow t u r v (inr (w, e)) = let P : PlainTerm → Type 0 = λ x. StandsFor x (test_of_two o t u) in subst P (sym e) (itself (test_of_two o t u))
-
   module _ (f : ℤ → ℤ → ℤ) (exact : (x y : ℤ) (z : Option ℤ) → answers x y z → SomeIff z (FitsSigned w128 (f x y)) (f x y)) where
     abbrev over : ℕ → ℕ → ℕ → Bool
     over n a b = bits.overflows n (f (bits.signed n a) (bits.signed n b))

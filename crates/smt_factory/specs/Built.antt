@@ -1,6 +1,6 @@
 -- What the factory builds for a whole term: each application is folded, its arguments first, and the elements of each set
 -- are put in order anew.
-use Rattle.std.specs.Prelude.{List, [], ◌∷◌}
+use Rattle.std.specs.Prelude.{◌≡◌, IsTrue, List, [], ◌∷◌, None}
 use Rattle.smt_factory.specs.FoldBits.{folded_bvneg, folded_bvnego, folded_zero_extend, folded_bvadd, folded_bvsub, folded_bvmul, folded_bvsdiv, folded_bvudiv, folded_bvsrem, folded_bvsmod, folded_bvurem, folded_bvshl, folded_bvlshr, folded_bvslt, folded_bvsle, folded_bvult, folded_bvule, folded_bvsaddo, folded_bvssubo, folded_bvsmulo}
 use Rattle.smt_factory.specs.FoldConnectives.{folded_not, folded_and, folded_or}
 use Rattle.smt_factory.specs.FoldEquality.{folded_eq, folded_ite}
@@ -8,10 +8,11 @@ use Rattle.smt_factory.specs.FoldOptions.{folded_option_get}
 use Rattle.smt_factory.specs.FoldSets.{folded_set_member, folded_set_subset, folded_set_inter}
 use Rattle.smt_factory.specs.FoldStrings.{folded_string_like}
 use Rattle.smt_factory.specs.StandsFor.{StandsFor}
+use Rattle.smt_term.specs.Faults.{term_fault}
 use Rattle.smt_term.specs.Plain.{PlainType, PlainOp, AndOp, BvaddOp, BvlshrOp, BvmulOp, BvnegOp, BvnegoOp, BvsaddoOp, BvsdivOp, BvshlOp, BvsleOp, BvsltOp, BvsmodOp, BvsmuloOp, BvsremOp, BvssuboOp, BvsubOp, BvudivOp, BvuleOp, BvultOp, BvuremOp, EqOp, IteOp, NotOp, OptionGetOp, OrOp, SetInterOp, SetMemberOp, SetSubsetOp, StringLikeOp, ZeroExtendOp, PlainTerm, Application, NoneTerm, LiteralTerm, RecordTerm, SetTerm, SomeTerm, VariableTerm, PlainTerms, no_terms, one_term, PlainFields, no_fields, one_field, terms}
 use Rattle.smt_term.specs.TermSets.{set_term}
 use Rattle.smt_term.specs.Typing.{typed}
-use Rattle.std.specs.Prelude.{IsTrue}
+use Rattle.smt_term.specs.TypeValues.{Enums}
 
 -- an application by the call of its operator; what no call folds stays
 abbrev pub folded : PlainOp → List PlainTerm → PlainType → PlainTerm
@@ -68,3 +69,7 @@ abbrev mutual
 -- what is built for a typed term stands for it
 abbrev pub BuiltTermsStand : Type 0
 BuiltTermsStand = (t : PlainTerm) → IsTrue (typed t) → StandsFor (built t) t
+
+-- what is built for a typed term without fault has no fault
+abbrev pub FoldingAddsNoFault : Type 0
+FoldingAddsNoFault = (enums : Enums) (t : PlainTerm) → IsTrue (typed t) → term_fault enums t ≡ None → term_fault enums (built t) ≡ None

@@ -1,5 +1,5 @@
 //! The disjunction of what a call answers at each of several terms.
-ghost use Rattle.std.specs.Prelude.{◌≡◌, IfOk, map};
+ghost use Rattle.std.specs.Prelude.{IfOk, map};
 ghost use Rattle.smt_factory.specs.AnyOf.{GivesWhatStandsFor, IsAnyOf};
 ghost use Rattle.smt_factory.specs.Applications.{any_of};
 ghost use Rattle.smt_factory.specs.StandsFor.{StandsFor};
@@ -13,6 +13,9 @@ use std::alloc::Global;
 /// The disjunction of what `f` answers at each of the terms: false, then each answer before what came of those in front.
 ///
 /// Where each answer stands for an original that its term determines, the result stands for the disjunction of these.
+///
+/// # Conditions
+/// `f` may be called at any term.
 ///
 /// # Errors
 /// `Memory`, where there is none for the term, and where `f` answers it.

@@ -23,6 +23,9 @@ use std::alloc::Global;
 /// Two literals where `f` answers give that answer as a literal; all else stays an application. Where the answers on equal
 /// widths are the operator's values, the result stands for the application.
 ///
+/// # Conditions
+/// `f` may be called at any two bitvectors.
+///
 /// # Errors
 /// `Memory`, where there is none for the term.
 pub fn bvapp<F>(alloc: Global, op: Op, f: &F, t1: Term, t2: Term) -> Result<Term, TermError>
@@ -196,6 +199,9 @@ pub fn bvlshr(alloc: Global, t1: Term, t2: Term) -> Result<Term, TermError>
 }
 
 /// The same number with `n` bits more. What is no bitvector stays as it is.
+///
+/// # Conditions
+/// A bitvector has at most 128 bits with the `n` more.
 ///
 /// # Errors
 /// `Memory`, where there is none for the term.

@@ -113,8 +113,9 @@ fn eq_inside(alloc: Global, t1: Term, t2: Term) -> Result<Term, TermError>
 
 /// The second term where the first is true, and else the third.
 ///
-/// Of two `some` it is some of the choice between what they hold. A first that is a literal, or equal branches, give the branch. True, then false gives the first and the other way its
-/// negation. False in the third place gives a conjunction, and true in the second a disjunction.
+/// Of two `some` it is some of the choice between what they hold. A first that is a literal, or equal branches, give the
+/// branch. True, then false gives the first and the other way its negation. False in the third place gives a conjunction,
+/// and true in the second a disjunction.
 ///
 /// # Errors
 /// `Memory`, where there is none for the term.

@@ -1,9 +1,10 @@
-ghost use Rattle.smt_factory.specs.Built.{BuiltTermsStand};
+//! Laws of foldings and of what stands for what, proved with no code.
+ghost use Rattle.smt_factory.specs.Built.{BuiltTermsStand, FoldingAddsNoFault};
 ghost use Rattle.smt_factory.specs.FoldRows.{ApartRows, BitsRows, ConnectiveRows, EqualityRows, OptionRows, SetRows, StringRows};
 ghost use Rattle.smt_factory.specs.Laws.{AnswersStandFor, AnyIsTrue, BitsAreFolded, ConnectivesAreFolded, EqualityAndChoiceAreFolded, InterpretationsPass, LiteralsAreEqualByValue, OptionsAreFolded, SetsAreFolded, StandingIsKept, StringLikeIsFolded, TestsAreFolded, ValuesPass};
 
-/// A term stands for itself, onward, in applications, `some`, records and sets, and in the tests for none and for the empty
-/// set; and an interpretation of terms is one of the terms that stand for them, in which they have the same values.
+/// A term stands for itself, onward, in applications, `some`, records and sets, and in the tests for none and for the
+/// empty set; and an interpretation of terms is one of the terms that stand for them, in which they have the same values.
 pub fn standing_is_kept()
     ensures kept { StandingIsKept }
     ensures interpretations { InterpretationsPass }
@@ -20,8 +21,8 @@ pub fn literals_are_equal_by_value()
     ensures { LiteralsAreEqualByValue }
 {}
 
-/// `not`, `and`, `or`, `implies` and the disjunction of many: what they are folded to stands for them. The last is true where
-/// one of its terms is.
+/// `not`, `and`, `or`, `implies` and the disjunction of many: what they are folded to stands for them. The last is true
+/// where one of its terms is.
 pub fn connectives_are_folded()
     ensures folded { ConnectivesAreFolded }
     ensures any { AnyIsTrue }
@@ -60,6 +61,11 @@ pub fn options_are_folded()
 /// What is built for a typed term, each application folded after its arguments, stands for it.
 pub fn built_terms_stand()
     ensures { BuiltTermsStand }
+{}
+
+/// What is built for a typed term without fault has no fault: folding drops faults and adds none.
+pub fn folding_adds_no_fault()
+    ensures { FoldingAddsNoFault }
 {}
 
 /// A literal with the operator's value at two literals stands for the application, whoever computed it.

@@ -36,8 +36,8 @@ pub fn some_of(alloc: Global, t: Term) -> Result<Term, TermError>
     Ok(Term::Some(Rc::new(alloc, t)?))
 }
 
-/// What an option holds; of none the interpretation's value of the inner type. Of `some` it is what that holds, and what is no
-/// option stays as it is.
+/// What an option holds; of none the interpretation's value of the inner type. Of `some` it is what that holds, and what
+/// is no option stays as it is.
 ///
 /// # Errors
 /// `Memory`, where there is none for the term.

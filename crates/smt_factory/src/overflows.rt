@@ -42,6 +42,9 @@ fn folded_bvnego(alloc: Global, t: Term) -> Result<Term, TermError>
 /// Two literals of one width are folded: to true where `f` answers none or a number outside the range, and else to false.
 /// All else stays an application. Where this is the operator's value, the result stands for the application.
 ///
+/// # Conditions
+/// `f` may be called at any two numbers.
+///
 /// # Errors
 /// `Memory`, where there is none for the term.
 pub fn bvso<F>(alloc: Global, op: Op, f: &F, t1: Term, t2: Term) -> Result<Term, TermError>

@@ -20,6 +20,9 @@ pub struct BvRule<F> {
 
 impl<F: Fn(&BitVec, &BitVec) -> Result<BitVec, BitVecError>> BvRule<F> {
     /// The rule that `f` answers the values of `op`.
+    ///
+    /// # Conditions
+    /// `f` may be called at any two bitvectors, and what it answers at two of one width is the value of `op` there.
     pub fn new(op: Op, f: F) -> BvRule<F>
         requires callable { F.IsAlwaysCallable f }
         requires answers { AnswersValues (FnReturnsAtPair F.Fn f) (plain_op op) }

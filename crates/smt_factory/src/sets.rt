@@ -1,4 +1,4 @@
-//! Sets of the values of terms.
+//! Sets of the values of terms, of cvc5's theory of finite sets.
 #![tactic(auto, using(crate::proofs::FoldingSets::set_folding))]
 
 ghost use Rattle.std.specs.Prelude.{◌≡◌, IfOk, map};

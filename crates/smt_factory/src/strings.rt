@@ -1,4 +1,4 @@
-//! Strings: whether they match a pattern.
+//! Strings of the theory UnicodeStrings: whether they match a pattern.
 #![tactic(auto, using(crate::proofs::FoldingSets::set_folding))]
 
 ghost use Rattle.std.specs.Prelude.{◌≡◌, IfOk, MatchOption, None};

@@ -16,7 +16,7 @@ use Rattle.smt_lines.specs.Made.{TypesAreMade, FunctionsAreMade, TermsAreMade}
 
 -- ---- look-ups behind an entry
 
-lookup_other : {K X : Type 0} (test : K → Bool) (es : List (K × X)) (k : K) (x : X) → test k ≡ false → lookup test (es ++ (k, x) ∷ []) ≡ lookup test es
+pub lookup_other : {K X : Type 0} (test : K → Bool) (es : List (K × X)) (k : K) (x : X) → test k ≡ false → lookup test (es ++ (k, x) ∷ []) ≡ lookup test es
 lookup_other test [] k x h = rw h
 lookup_other test (e ∷ es) k x h = ap (λ o. cond (test e.0) (Some e.1) o) (lookup_other test es k x h)
 
@@ -266,6 +266,14 @@ types_leave enums type s k = with_terms k (type_terms enums type s)
 pub arguments_leave : (enums : Enums) (op : PlainOp) (ts : PlainTerms) (type : PlainType) (s : Tables) → name_of_term (encode_terms enums ts s).tables (Application op ts type) ≡ name_of_term s (Application op ts type)
 arguments_leave enums op ts type s = larger_terms enums ts s (Application op ts type) (omega arith)
 
+-- The elements of a set leave its own entry as it was.
+pub elements_leave : (enums : Enums) (element : PlainType) (ts : PlainTerms) (s : Tables) → name_of_term (encode_terms enums ts s).tables (SetTerm element ts) ≡ name_of_term s (SetTerm element ts)
+elements_leave enums element ts s = larger_terms enums ts s (SetTerm element ts) (omega arith)
+
+-- What an option holds leaves its own entry as it was.
+pub inner_leaves : (enums : Enums) (t : PlainTerm) (s : Tables) → name_of_term (encode_term enums t s).tables (SomeTerm t) ≡ name_of_term s (SomeTerm t)
+inner_leaves enums t s = larger_term enums t s (SomeTerm t) (omega arith)
+
 -- ---- terms have the names that were made
 
 made_term : (t : PlainTerm) (s : Tables) (f : Tables → Written Expression) (o : Option (List ℕ)) → name_of_term s t ≡ o
@@ -303,7 +311,7 @@ made_literal enums (StringLiteral text) s = refl
 pub terms_are_made : TermsAreMade
 terms_are_made enums (Application op ts type) s = made_term (Application op ts type) s _ (name_of_term s (Application op ts type)) refl
     (λ n. made_application enums (manner op ts type) op ts type (λ w. encode_terms enums ts w) _ (encode_type enums type s).tables
-    (with_terms (Application op ts type) (type_terms enums type s) ∙ n) (larger_terms enums ts (encode_type enums type s).tables (Application op ts type) (omega arith)))
+    (with_terms (Application op ts type) (type_terms enums type s) ∙ n) (arguments_leave enums op ts type (encode_type enums type s).tables))
 terms_are_made enums (NoneTerm type) s = made_term (NoneTerm type) s _ (name_of_term s (NoneTerm type)) refl
     (λ n. new_term (NoneTerm type) _ (encode_type enums (OptionType type) s).tables.terms (with_terms (NoneTerm type) (type_terms enums (OptionType type) s) ∙ n))
 terms_are_made enums (LiteralTerm p) s = made_literal enums p s
@@ -311,10 +319,10 @@ terms_are_made enums (RecordTerm fields) s = made_term (RecordTerm fields) s _ (
     (λ n. new_term (RecordTerm fields) _ (encode_fields enums fields (encode_type enums (RecordType (field_types fields)) s).tables).tables.terms (larger_fields enums fields (encode_type enums (RecordType (field_types fields)) s).tables (RecordTerm fields) (omega arith)
     ∙ with_terms (RecordTerm fields) (type_terms enums (RecordType (field_types fields)) s) ∙ n))
 terms_are_made enums (SetTerm element ts) s = made_term (SetTerm element ts) s _ (name_of_term s (SetTerm element ts)) refl
-    (λ n. new_term (SetTerm element ts) _ (encode_terms enums ts (encode_type enums (SetType element) s).tables).tables.terms (larger_terms enums ts (encode_type enums (SetType element) s).tables (SetTerm element ts) (omega arith)
+    (λ n. new_term (SetTerm element ts) _ (encode_terms enums ts (encode_type enums (SetType element) s).tables).tables.terms (elements_leave enums element ts (encode_type enums (SetType element) s).tables
     ∙ with_terms (SetTerm element ts) (type_terms enums (SetType element) s) ∙ n))
 terms_are_made enums (SomeTerm t) s = made_term (SomeTerm t) s _ (name_of_term s (SomeTerm t)) refl
-    (λ n. new_term (SomeTerm t) _ (encode_term enums t (encode_type enums (OptionType (type_of t)) s).tables).tables.terms (larger_term enums t (encode_type enums (OptionType (type_of t)) s).tables (SomeTerm t) (omega arith)
+    (λ n. new_term (SomeTerm t) _ (encode_term enums t (encode_type enums (OptionType (type_of t)) s).tables).tables.terms (inner_leaves enums t (encode_type enums (OptionType (type_of t)) s).tables
     ∙ with_terms (SomeTerm t) (type_terms enums (OptionType (type_of t)) s) ∙ n))
 terms_are_made enums (VariableTerm id type) s = made_term (VariableTerm id type) s _ (name_of_term s (VariableTerm id type)) refl
     (λ n. new_term (VariableTerm id type) _ (encode_type enums type s).tables.terms (with_terms (VariableTerm id type) (type_terms enums type s) ∙ n))

@@ -1,5 +1,6 @@
--- The derived orders of types, operators, literals and terms are the orders of what they say.
-use Rattle.std.proofs.Common.{◌≡◌, refl, ap, ◌∙◌}
+-- The derived orders of types, operators, literals, terms, and of variables and lists of terms are the orders of what they
+-- say.
+use Rattle.std.proofs.Common.{◌≡◌, List, [], ◌∷◌, map, refl, ap, ◌∙◌}
 use Rattle.std.specs.Rc.{rc_str_bytes}
 use Rattle.std.specs.Ordering.{ordering_then}
 use Rattle.std.specs.Cmp.Lexicographic.{slice_cmp}
@@ -12,6 +13,7 @@ use denote.Hole.Carrier
 use denote.Hole.Compared
 use mathlib.Core.Former
 use Rattle.smt_term.proofs.PatternOrder.{pattern_cmp-is}
+use Rattle.smt_term.specs.Program.{ListsCompareAsPlain, SetsCompareAsPlain, VariablesCompareAsPlain}
 use Rattle.smt_term.specs.TermOrder.{op_cmp, literal_cmp, term_cmp, terms_cmp}
 use Rattle.smt_term.specs.Types.{type_cmp}
 use Rattle.smt_term.specs.ValueOrder.{text_cmp}
@@ -160,3 +162,19 @@ mutual
   rows_cmp-is (more_of-Term x r) end_of-Term = refl
   rows_cmp-is (more_of-Term x r) (more_of-Term y s) =
       ap (λ o. ordering_then o (slice_cmp derived_term_cmp (items-the_row-Term _ r) (items-the_row-Term _ s))) (term_cmp-is x y) ∙ ap (λ o. ordering_then (term_cmp (plain_term x) (plain_term y)) o) (rows_cmp-is r s)
+
+pub variable_cmp-is : VariablesCompareAsPlain
+variable_cmp-is v w = ap (λ o. ordering_then (text_cmp (rc_str_bytes v.id) (rc_str_bytes w.id)) o) (type_cmp-is v.ty w.ty)
+
+items_cmp-is : (xs ys : List Term) → slice_cmp derived_term_cmp xs ys ≡ slice_cmp term_cmp (map plain_term xs) (map plain_term ys)
+items_cmp-is [] [] = refl
+items_cmp-is [] (y ∷ ys) = refl
+items_cmp-is (x ∷ xs) [] = refl
+items_cmp-is (x ∷ xs) (y ∷ ys) =
+    ap (λ o. ordering_then o (slice_cmp derived_term_cmp xs ys)) (term_cmp-is x y) ∙ ap (λ o. ordering_then (term_cmp (plain_term x) (plain_term y)) o) (items_cmp-is xs ys)
+
+pub list_cmp-is : ListsCompareAsPlain
+list_cmp-is x y = family-is x y ∙ items_cmp-is x.items.value.items y.items.value.items
+
+pub set_cmp-is : SetsCompareAsPlain
+set_cmp-is x y = set_family-is x y ∙ items_cmp-is x.items.value.items y.items.value.items

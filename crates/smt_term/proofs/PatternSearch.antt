@@ -1,12 +1,12 @@
 -- A pattern is matched from the left: the characters before a wildcard go to the first place where they stand.
 use Rattle.std.proofs.Common.{◌≡◌, ℕ, ◌≤◌, ◌≢◌, Bool, true, false, ◌&&◌, List, [], ◌∷◌, ◌++◌, length, map, append_assoc, length-append, refl, ap, sym, ◌∙◌, arith}
-use Rattle.std.specs.Prelude.{◌==◌, ◌||◌}
+use Rattle.std.specs.Prelude.{◌==◌}
 use Rattle.std.specs.Cmp.{first_so, second_so}
 use Rattle.std.proofs.lemmas.Bool.{eqb-true, eq-eqb, false≢true}
 use Rattle.std.proofs.lemmas.Str.{chars-nil, encodes-chars}
 use Rattle.std.specs.Str.{IsUtf8, chars, encode_utf8_all}
 use Rattle.smt_term.specs.PatternView.{plain_part}
-use Rattle.smt_term.specs.Patterns.{Matches, some_end, matches}
+use Rattle.smt_term.specs.Patterns.{Matches, matches}
 use Rattle.smt_term.specs.PatternSearch.{Passes, IsFront, LeavesText, front_matches}
 use Rattle.smt_term.specs.Plain.{PatternPart, Character, Wildcard}
 use Rattle.smt_term.specs.declared.pattern.Front.{Front}
@@ -99,15 +99,6 @@ first_place p s q r h = both_ways (matches (Wildcard ∷ q) r) (matches (Wildcar
         let e : h.taken ++ r ≡ (f.0 ++ h.taken) ++ g.0 = sym h.characters ∙ (f.2 ∙ (ap (λ l. f.0 ++ l) g.1 ∙ sym (append_assoc f.0 h.taken g.0))) in
         let z : (e : List ℕ) × (r ≡ e ++ g.0) = further_end h.taken (f.0 ++ h.taken) r g.0 (omega (arith, length-append f.0 h.taken)) e in
         ap (λ l. matches (Wildcard ∷ q) l) z.1 ∙ wildcard_takes q z.0 g.0 g.2
-
--- not at this place, so at a later one
-pub place_differs : (p : List PatternPart) (s : List ℕ) (c : ℕ) (r : List ℕ) → matches p s ≡ false → s ≡ c ∷ r → matches (Wildcard ∷ p) s ≡ matches (Wildcard ∷ p) r
-place_differs p s c r h e =
-    ap (λ l. matches (Wildcard ∷ p) l) e ∙ ap (λ b. b || some_end (λ u. matches p u) r) (ap (λ l. matches p l) (sym e) ∙ h)
-
--- nor at the end
-pub place_none : (p : List PatternPart) (s : List ℕ) → matches p s ≡ false → s ≡ [] → matches (Wildcard ∷ p) s ≡ false
-place_none p s h e = ap (λ l. matches (Wildcard ∷ p) l) e ∙ (ap (λ l. matches p l) (sym e) ∙ h)
 
 -- an empty text has no characters, and another has some
 pub no_chars : (text : List ℕ) → length text ≡ 0 → chars text ≡ []

@@ -1,16 +1,32 @@
--- Laws of the program's types and terms: what their code keeps, said of their plain form.
+-- Laws of the program's types and terms, and of what terms are made of: what their code keeps, said of their plain form.
 use Rattle.std.specs.Prelude.{◌≡◌, ◌↔◌, IsTrue, []}
+use Rattle.std.specs.Cmp.Lexicographic.{slice_cmp}
 use Rattle.smt_term.specs.Enums.{enums_of}
 use Rattle.smt_term.specs.Formed.{IsFormed}
-use Rattle.smt_term.specs.TermOrder.{term_cmp}
+use Rattle.smt_term.specs.TermOrder.{op_cmp, literal_cmp, term_cmp}
 use Rattle.smt_term.specs.Types.{type_cmp}
-use Rattle.smt_term.specs.View.{plain_term, plain_type}
+use Rattle.smt_term.specs.View.{plain_elements, plain_items, plain_literal, plain_op, plain_term, plain_type, plain_variable}
+use Rattle.smt_term.specs.contracts.op.OpOrd.TheImpl as op_order
+use Rattle.smt_term.specs.contracts.op.OpPartialEq.TheImpl as op_equality
 use Rattle.smt_term.specs.contracts.term.TermOrd.TheImpl as term_order
 use Rattle.smt_term.specs.contracts.term.TermPartialEq.TheImpl as term_equality
+use Rattle.smt_term.specs.contracts.term.TermPrimOrd.TheImpl as literal_order
+use Rattle.smt_term.specs.contracts.term.TermPrimPartialEq.TheImpl as literal_equality
+use Rattle.smt_term.specs.contracts.term.TermVarOrd.TheImpl as variable_order
+use Rattle.smt_term.specs.contracts.term.TermVarPartialEq.TheImpl as variable_equality
+use Rattle.smt_term.specs.contracts.term.TermListOrd.TheImpl as list_order
+use Rattle.smt_term.specs.contracts.term.TermListPartialEq.TheImpl as list_equality
+use Rattle.smt_term.specs.contracts.term.TermSetOrd.TheImpl as set_order
+use Rattle.smt_term.specs.contracts.term.TermSetPartialEq.TheImpl as set_equality
 use Rattle.smt_term.specs.contracts.types.TermTypeOrd.TheImpl as type_order
 use Rattle.smt_term.specs.contracts.types.TermTypePartialEq.TheImpl as type_equality
 use Rattle.smt_term.specs.declared.enums.EnumTable.{EnumTable}
+use Rattle.smt_term.specs.declared.op.Op.{Op}
 use Rattle.smt_term.specs.declared.term.Term.{Term}
+use Rattle.smt_term.specs.declared.term.TermList.{TermList}
+use Rattle.smt_term.specs.declared.term.TermPrim.{TermPrim}
+use Rattle.smt_term.specs.declared.term.TermSet.{TermSet}
+use Rattle.smt_term.specs.declared.term.TermVar.{TermVar}
 use Rattle.smt_term.specs.declared.types.TermType.{TermType}
 
 -- every term is formed
@@ -24,12 +40,46 @@ TermsCompareAsPlain = (s t : Term) → term_order.ghosts.cmp s t ≡ term_cmp (p
 abbrev pub TypesCompareAsPlain : Type 0
 TypesCompareAsPlain = (s t : TermType) → type_order.ghosts.cmp s t ≡ type_cmp (plain_type s) (plain_type t)
 
+-- the same of operators, literals and variables
+abbrev pub OperatorsCompareAsPlain : Type 0
+OperatorsCompareAsPlain = (o p : Op) → op_order.ghosts.cmp o p ≡ op_cmp (plain_op o) (plain_op p)
+
+abbrev pub LiteralsCompareAsPlain : Type 0
+LiteralsCompareAsPlain = (l m : TermPrim) → literal_order.ghosts.cmp l m ≡ literal_cmp (plain_literal l) (plain_literal m)
+
+abbrev pub VariablesCompareAsPlain : Type 0
+VariablesCompareAsPlain = (v w : TermVar) → variable_order.ghosts.cmp v w ≡ term_cmp (plain_variable v) (plain_variable w)
+
+-- lists and sets compare as lists of what their terms say, by the first difference
+abbrev pub ListsCompareAsPlain : Type 0
+ListsCompareAsPlain = (ts us : TermList) → list_order.ghosts.cmp ts us ≡ slice_cmp term_cmp (plain_items ts) (plain_items us)
+
+abbrev pub SetsCompareAsPlain : Type 0
+SetsCompareAsPlain = (ts us : TermSet) → set_order.ghosts.cmp ts us ≡ slice_cmp term_cmp (plain_elements ts) (plain_elements us)
+
 -- two terms are equal exactly where they say the same
 abbrev pub EqualTermsSayTheSame : Type 0
 EqualTermsSayTheSame = (s t : Term) → IsTrue (term_equality.ghosts.eq s t) ↔ (plain_term s ≡ plain_term t)
 
 abbrev pub EqualTypesSayTheSame : Type 0
 EqualTypesSayTheSame = (s t : TermType) → IsTrue (type_equality.ghosts.eq s t) ↔ (plain_type s ≡ plain_type t)
+
+-- the same of operators, literals and variables
+abbrev pub EqualOperatorsSayTheSame : Type 0
+EqualOperatorsSayTheSame = (o p : Op) → IsTrue (op_equality.ghosts.eq o p) ↔ (plain_op o ≡ plain_op p)
+
+abbrev pub EqualLiteralsSayTheSame : Type 0
+EqualLiteralsSayTheSame = (l m : TermPrim) → IsTrue (literal_equality.ghosts.eq l m) ↔ (plain_literal l ≡ plain_literal m)
+
+abbrev pub EqualVariablesSayTheSame : Type 0
+EqualVariablesSayTheSame = (v w : TermVar) → IsTrue (variable_equality.ghosts.eq v w) ↔ (plain_variable v ≡ plain_variable w)
+
+-- the same of lists and of sets
+abbrev pub EqualListsSayTheSame : Type 0
+EqualListsSayTheSame = (ts us : TermList) → IsTrue (list_equality.ghosts.eq ts us) ↔ (plain_items ts ≡ plain_items us)
+
+abbrev pub EqualSetsSayTheSame : Type 0
+EqualSetsSayTheSame = (ts us : TermSet) → IsTrue (set_equality.ghosts.eq ts us) ↔ (plain_elements ts ≡ plain_elements us)
 
 -- No table has an enum type yet.
 abbrev pub TablesAreEmpty : Type 0

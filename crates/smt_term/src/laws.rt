@@ -1,10 +1,11 @@
+//! Laws of terms, of what they mean and of how they compare, proved with no code.
 ghost use Rattle.smt_term.specs.Examples.{FaultRows, OperatorRows, OrderRows, TermRows};
 ghost use Rattle.smt_term.specs.Laws.{DefaultsAreInterpretations, FunctionEqualityIsDecided, OpEqualityIsDecided, OpOrderIsTotal, ReachedDecides, RestrictionAgrees, TermEqualityIsDecided, TermOrderIsTotal, TypeEqualityIsDecided, TypeOrderIsTotal, TypedTermsGetAttributes, TypedTermsHaveValues, Utf8KeepsOrder};
 ghost use Rattle.smt_term.specs.Literals.{LiteralsAreTheirValues};
 ghost use Rattle.smt_term.specs.PatternOrder.{ElementsCompareAsPlain, EqualElementsSayTheSame, EqualOrdPatternsSayTheSame, EqualPatternsSayTheSame, PatternsCompareAsPlain};
 ghost use Rattle.smt_term.specs.Patterns.{MatchingIsDecided};
-ghost use Rattle.smt_term.specs.Plain.{RoundTrip, terms};
-ghost use Rattle.smt_term.specs.Program.{EqualTermsSayTheSame, EqualTypesSayTheSame, TablesAreEmpty, TermsAreFormed, TermsCompareAsPlain, TypesCompareAsPlain};
+ghost use Rattle.smt_term.specs.Plain.{RoundTrip};
+ghost use Rattle.smt_term.specs.Program.{EqualListsSayTheSame, EqualLiteralsSayTheSame, EqualOperatorsSayTheSame, EqualSetsSayTheSame, EqualTermsSayTheSame, EqualTypesSayTheSame, EqualVariablesSayTheSame, ListsCompareAsPlain, LiteralsCompareAsPlain, OperatorsCompareAsPlain, SetsCompareAsPlain, TablesAreEmpty, TermsAreFormed, TermsCompareAsPlain, TypesCompareAsPlain, VariablesCompareAsPlain};
 ghost use Rattle.smt_term.specs.Shapes.{TypedTermsHaveShapes, ValuesAreShaped};
 ghost use Rattle.smt_term.specs.TermSets.{SortedTermsAscend};
 ghost use Rattle.smt_term.specs.ValueOrder.{EqualityIsDecided, OrderIsTotal};
@@ -106,6 +107,20 @@ pub fn program_terms()
     ensures order { TermsCompareAsPlain }
     ensures type_order { TypesCompareAsPlain }
     ensures tables { TablesAreEmpty }
+{}
+
+/// What the program's terms are made of compares as what it says, and is equal exactly where it says the same.
+pub fn program_parts()
+    ensures op_order { OperatorsCompareAsPlain }
+    ensures op_equality { EqualOperatorsSayTheSame }
+    ensures literal_order { LiteralsCompareAsPlain }
+    ensures literal_equality { EqualLiteralsSayTheSame }
+    ensures variable_order { VariablesCompareAsPlain }
+    ensures variable_equality { EqualVariablesSayTheSame }
+    ensures list_order { ListsCompareAsPlain }
+    ensures list_equality { EqualListsSayTheSame }
+    ensures set_order { SetsCompareAsPlain }
+    ensures set_equality { EqualSetsSayTheSame }
 {}
 
 /// The terms of a list in order ascend, and are those of the list.

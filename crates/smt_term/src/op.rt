@@ -112,6 +112,9 @@ impl Op {
     }
 
     /// An equal operator that shares its parts.
+    ///
+    /// # Errors
+    /// `Memory`, where there is none for the operator.
     pub fn share(&self) -> Result<Op, TermError>
         ensures { IfOk result (λ shared. plain_op shared ≡ plain_op self.now) }
     {

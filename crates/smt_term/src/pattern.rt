@@ -1,4 +1,4 @@
-// Patterns of strings, and which texts they match.
+// Patterns of strings of the theory UnicodeStrings, of SMT-LIB 2.7, and which texts they match.
 ghost use Rattle.std.specs.Prelude.{◌≡◌, ◌≢◌, ◌≤◌, ◌∷◌, [], List, ℕ, IfOk, MatchOption, length, map};
 ghost use Rattle.std.specs.Str.{IsUtf8, chars};
 ghost use Rattle.smt_term.specs.PatternSearch.{IsFront, LeavesText, front_matches, front_size};
@@ -19,14 +19,14 @@ pub enum PatternElem {
     Wildcard,
 }
 
-/// A pattern of strings: its elements in order. Its holders share them.
+/// A pattern of strings of the theory UnicodeStrings, of SMT-LIB 2.7: its elements in order. Its holders share them.
 #[derive(Debug, PartialEq, Eq, Drop)]
 pub struct Pattern {
     elems: Rc<Vec<PatternElem>>,
 }
 
-/// A pattern with an order: patterns order by their first different element, and a pattern stands before the longer
-/// ones that begin with it.
+/// A pattern of strings of the theory UnicodeStrings, of SMT-LIB 2.7, with an order: patterns order by their first
+/// different element, and a pattern stands before the longer ones that begin with it.
 #[derive(Debug, PartialEq, Eq, PartialOrd, Ord, Drop)]
 pub struct OrdPattern {
     elems: Rc<Vec<PatternElem>>,
@@ -34,6 +34,9 @@ pub struct OrdPattern {
 
 impl Pattern {
     /// The pattern of these elements, in this order.
+    ///
+    /// # Errors
+    /// `Memory`, where there is none for the pattern.
     pub fn new(alloc: Global, elems: &[PatternElem]) -> Result<Pattern, TermError>
         ensures { IfOk result (λ pattern. plain_pattern pattern ≡ map plain_part elems.now) }
     {
@@ -44,6 +47,9 @@ impl Pattern {
     }
 
     /// An equal pattern that shares the elements.
+    ///
+    /// # Errors
+    /// `Memory`, where there is none for the pattern.
     pub fn share(&self) -> Result<Pattern, TermError>
         ensures { IfOk result (λ pattern. plain_pattern pattern ≡ plain_pattern self.now) }
     {
@@ -62,6 +68,9 @@ impl OrdPattern {
     }
 
     /// An equal pattern that shares the elements.
+    ///
+    /// # Errors
+    /// `Memory`, where there is none for the pattern.
     pub fn share(&self) -> Result<OrdPattern, TermError>
         ensures { IfOk result (λ pattern. plain_ord_pattern pattern ≡ plain_ord_pattern self.now) }
     {
@@ -84,8 +93,8 @@ impl From<Pattern> for OrdPattern {
 }
 
 impl OrdPattern {
-    /// Whether the whole text is what the elements stand for, one after another. Takes no memory, and at most about as
-    /// many steps as elements times characters.
+    /// Whether the whole text is what the elements stand for, one after another. Takes no memory. A test shows that many
+    /// wildcards take few steps.
     pub fn wildcard_match(&self, s: &str) -> bool
         ensures { result ≡ matches (plain_ord_pattern self.now) (chars s.now) }
     {

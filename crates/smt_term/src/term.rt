@@ -15,7 +15,9 @@ use std::rc::Rc;
 /// A variable: its id and its type. Two variables of one id and different types are different.
 #[derive(Debug, PartialEq, Eq, PartialOrd, Ord, Drop)]
 pub struct TermVar {
+    /// The name by which it is known.
     pub id: Text,
+    /// The type of its values.
     pub ty: TermType,
 }
 
@@ -42,6 +44,7 @@ pub enum Term {
     },
     /// None of an option, by the type of what it could hold.
     None(TermType),
+    /// A literal.
     Prim(TermPrim),
     /// A set of the values of terms of one type.
     Set {
@@ -50,6 +53,7 @@ pub enum Term {
     },
     /// An option that holds the value of a term.
     Some(Rc<Term>),
+    /// A variable.
     Var(TermVar),
 }
 
@@ -62,6 +66,9 @@ pub struct TermList {
 
 impl TermList {
     /// The list of these terms, in this order.
+    ///
+    /// # Errors
+    /// `Memory`, where there is none for the list.
     pub fn new(alloc: Global, items: &[Term]) -> Result<TermList, TermError>
         ensures { IfOk result (λ list. plain_items list ≡ map plain_term items.now) }
     {
@@ -97,6 +104,9 @@ impl TermList {
     }
 
     /// An equal list that shares the terms.
+    ///
+    /// # Errors
+    /// `Memory`, where there is none for the list.
     pub fn share(&self) -> Result<TermList, TermError>
         ensures { IfOk result (λ list. plain_items list ≡ plain_items self.now) }
     {
@@ -115,6 +125,9 @@ pub struct TermSet {
 
 impl TermSet {
     /// The set of these terms, which it sorts; of equal ones it keeps one.
+    ///
+    /// # Errors
+    /// `Memory`, where there is none for the set.
     pub fn new(alloc: Global, items: &[Term]) -> Result<TermSet, TermError>
         ensures { IfOk result (λ set. plain_elements set ≡ sorted_terms (map plain_term items.now)) }
     {
@@ -151,6 +164,9 @@ impl TermSet {
     }
 
     /// An equal set that shares the elements.
+    ///
+    /// # Errors
+    /// `Memory`, where there is none for the set.
     pub fn share(&self) -> Result<TermSet, TermError>
         ensures { IfOk result (λ set. plain_elements set ≡ plain_elements self.now) }
     {
@@ -162,6 +178,9 @@ impl TermSet {
 
 impl TermPrim {
     /// An equal literal that shares its text.
+    ///
+    /// # Errors
+    /// `Memory`, where there is none for the literal.
     pub fn share(&self) -> Result<TermPrim, TermError>
         ensures { IfOk result (λ literal. plain_literal literal ≡ plain_literal self.now) }
     {
@@ -175,6 +194,9 @@ impl TermPrim {
 
 impl TermVar {
     /// An equal variable that shares its id and its type.
+    ///
+    /// # Errors
+    /// `Memory`, where there is none for the variable.
     pub fn share(&self) -> Result<TermVar, TermError>
         ensures { IfOk result (λ variable. plain_variable variable ≡ plain_variable self.now) }
     {
@@ -187,6 +209,9 @@ impl TermVar {
 
 impl Term {
     /// An equal term that shares its parts.
+    ///
+    /// # Errors
+    /// `Memory`, where there is none for the term.
     pub fn share(&self) -> Result<Term, TermError>
         ensures { IfOk result (λ term. plain_term term ≡ plain_term self.now) }
     {

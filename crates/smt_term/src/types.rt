@@ -26,6 +26,9 @@ pub enum TermType {
 
 impl TermType {
     /// The type of sets of values of this type.
+    ///
+    /// # Errors
+    /// `Memory`, where there is none for the type.
     pub fn set_of(alloc: Global, ty: TermType) -> Result<TermType, TermError>
         ensures { IfOk result (λ set. plain_type set ≡ SetType (plain_type ty)) }
     {
@@ -35,6 +38,9 @@ impl TermType {
     }
 
     /// The type of options of values of this type.
+    ///
+    /// # Errors
+    /// `Memory`, where there is none for the type.
     pub fn option_of(alloc: Global, ty: TermType) -> Result<TermType, TermError>
         ensures { IfOk result (λ option. plain_type option ≡ OptionType (plain_type ty)) }
     {
@@ -44,6 +50,9 @@ impl TermType {
     }
 
     /// An equal type that shares its parts.
+    ///
+    /// # Errors
+    /// `Memory`, where there is none for the type.
     pub fn share(&self) -> Result<TermType, TermError>
         ensures { IfOk result (λ shared. plain_type shared ≡ plain_type self.now) }
     {

@@ -101,6 +101,9 @@ impl TermType {
 
 impl TermPrim {
     /// The type of the literal.
+    ///
+    /// # Errors
+    /// `Memory`, where there is none for the type.
     pub fn type_of(&self) -> Result<TermType, TermError>
         ensures { IfOk result (λ ty. plain_type ty ≡ literal_type (plain_literal self.now)) }
     {
@@ -137,6 +140,9 @@ impl TermPrim {
 impl Term {
     /// The type of the term: of an application the one that it claims, of none and of a set by the type that they name, and
     /// of some by the term that it holds.
+    ///
+    /// # Errors
+    /// `Memory`, where there is none for the type.
     pub fn type_of(&self, alloc: Global) -> Result<TermType, TermError>
         ensures { IfOk result (λ ty. plain_type ty ≡ type_of (plain_term self.now)) }
     {

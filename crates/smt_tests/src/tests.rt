@@ -210,45 +210,52 @@ fn jobs_of_bitvectors_have_scripts(rt: HostRuntime) -> Result<(), Fail> {
     Ok(())
 }
 
+/// Terms of a wrong form, beside a variable `x` of 8 bits.
+const NO_TERMS: [&str; 26] = [
+    // widths and numbers
+    "(bvult (bv 0 0) (bv 0 0))",
+    "(bvult (bv 129 0) (bv 129 0))",
+    "(bvult (bv 8 256) (bv 8 0))",
+    "(bvult (bv 8 0 0) (bv 8 0))",
+    "(bvult (bv \"8\" 0) (bv 8 0))",
+    "(bvult (zero_extend 121 (bv 8 0)) (bv 129 0))",
+    "(eq (zero_extend 128 true) true)",
+    "(eq (zero_extend (bv 8 0)) (bv 8 0))",
+    // longs
+    "(eq (long \"+5\") (bv 64 5))",
+    "(eq (long \"\") (bv 64 0))",
+    "(eq (long \"-\") (bv 64 0))",
+    "(eq (long \"9223372036854775808\") (bv 64 0))",
+    "(eq (long \"5 \") (bv 64 5))",
+    "(eq (long 5) (bv 64 5))",
+    // types and counts
+    "(bv 8 1)",
+    "(var \"x\")",
+    "(eq (bv 8 1) (bv 16 1))",
+    "(eq (var \"x\") true)",
+    "(and true (var \"x\"))",
+    "(ite (var \"x\") true false)",
+    "(ite true true)",
+    "(bvult (bv 8 1) (bv 16 1))",
+    "(bvnego true)",
+    "(bvadd (bv 8 1) (bv 8 1))",
+    "(not (bvneg (bv 8 1)))",
+    "(bvxor (bv 8 1) (bv 8 1))",
+];
+
 #[test]
 fn terms_of_no_form_are_refused(rt: HostRuntime) -> Result<(), Fail> {
-    let rows = [
-        // widths and numbers
-        "(bvult (bv 0 0) (bv 0 0))",
-        "(bvult (bv 129 0) (bv 129 0))",
-        "(bvult (bv 8 256) (bv 8 0))",
-        "(bvult (bv 8 0 0) (bv 8 0))",
-        "(bvult (bv \"8\" 0) (bv 8 0))",
-        "(bvult (zero_extend 121 (bv 8 0)) (bv 129 0))",
-        "(eq (zero_extend 128 true) true)",
-        "(eq (zero_extend (bv 8 0)) (bv 8 0))",
-        // longs
-        "(eq (long \"+5\") (bv 64 5))",
-        "(eq (long \"\") (bv 64 0))",
-        "(eq (long \"-\") (bv 64 0))",
-        "(eq (long \"9223372036854775808\") (bv 64 0))",
-        "(eq (long \"5 \") (bv 64 5))",
-        "(eq (long 5) (bv 64 5))",
-        // types and counts
-        "(bv 8 1)",
-        "(var \"x\")",
-        "(eq (bv 8 1) (bv 16 1))",
-        "(eq (var \"x\") true)",
-        "(and true (var \"x\"))",
-        "(ite (var \"x\") true false)",
-        "(ite true true)",
-        "(bvult (bv 8 1) (bv 16 1))",
-        "(bvnego true)",
-        "(bvadd (bv 8 1) (bv 8 1))",
-        "(not (bvneg (bv 8 1)))",
-        "(bvxor (bv 8 1) (bv 8 1))",
-    ];
-    for term in rows {
+    for term in NO_TERMS {
         let job = format!(in rt.alloc();
             "(job (enums) (vars (\"x\" (BitVec 8))) (funs) (terms {term}))"
         )?;
         assert!(rt; is_refused(rt.alloc(), job.as_bytes(), BAD_FORM)?, "{term}");
     }
+    Ok(())
+}
+
+#[test]
+fn types_of_no_form_are_refused(rt: HostRuntime) -> Result<(), Fail> {
     for ty in [
         "(BitVec 0)",
         "(BitVec 129)",

@@ -6,16 +6,26 @@ use smt_script::WriteSink;
 use smt_term::Text;
 use std::alloc::Global;
 use std::env;
-use std::io::BufWriter;
+use std::io::{BufWriter, ErrorKind};
 use std::process::ExitCode;
 
 /// The status of a run that finds no memory for its words or its streams.
 const NO_MEMORY: u8 = 7;
 
 /// The words behind the program's name, None where there is no memory for them.
+///
+/// No word is answered where one is not UTF-8, since such words are no command and no words are none either.
 fn words(rt: &HostRuntime, alloc: Global) -> Option<Vec<Text>> {
     let mut words = Vec::new(alloc);
-    for arg in env::args(rt).ok()?.skip(1) {
+    let args = match env::args(rt) {
+        Ok(args) => args,
+        Err(error) => match error.kind() {
+            // Some word is not UTF-8.
+            ErrorKind::InvalidData => return Some(words),
+            _ => return None,
+        },
+    };
+    for arg in args.skip(1) {
         words.push(Text::from_string(arg).ok()?).ok()?;
     }
     Some(words)

@@ -1,23 +1,31 @@
 // Scripts of strings, patterns, options and sets byte for byte, and what is refused of strings and patterns.
-use super::{OPTION, bits, has_lines, to_bits, to_bool, variable};
+ghost use Rattle.std.specs.Prelude.{◌≡◌};
+ghost use Rattle.smt_term.specs.TypeValues.{is_code_point};
+
+use super::words::{pattern, terms};
+use super::{has_lines, is_script};
 use crate::*;
-use smt_bits::EIGHT;
 use smt_script::MemorySink;
-use smt_term::{
-    EnumTable, Op, OrdPattern, Pattern, PatternElem, Term, TermList, TermSet, TermType, Text,
-};
+use smt_term::{EnumTable, Text};
 use std::alloc::Global;
-use std::process::Abort;
-use std::rc::Rc;
 use std::test::Fail;
 
-/// The lines of an equality of hostile characters and the empty text.
+/// An equality of hostile characters and the empty text.
+const HOSTILE_WORDS: &str = "\"\\\\u{5c}\n\r\0\u{7f}\u{2ffff} ~:text,:text,eq";
+
+/// The lines of `HOSTILE_WORDS`.
 const HOSTILE: &str = "\
 (define-fun t0 () Bool (= \"\"\"\\u{5c}\\u{5c}u{5c}\\u{a}\\u{d}\\u{0}\\u{7f}\\u{2ffff} ~\" \"\"))
 (assert t0)
 ";
 
-/// The lines of an option of bytes, and of what is read of it.
+/// Options of bytes, and what is read of one.
+const OPTION_WORDS: &str = "\
+    7:8,some,byte:none,eq,\
+    byte:none,option.get,7:8,eq,\
+    byte:none,some,option:none,eq";
+
+/// The lines of `OPTION_WORDS`.
 const OPTIONS: &str = "\
 (define-fun t0 () (Option (_ BitVec 8)) (some (_ bv7 8)))
 (define-fun t1 () (Option (_ BitVec 8)) (as none (Option (_ BitVec 8))))
@@ -32,7 +40,13 @@ const OPTIONS: &str = "\
 (assert t7)
 ";
 
-/// The lines of sets of bytes.
+/// Sets of bytes.
+const SET_WORDS: &str = "\
+    7:8,7:8,2:8,7:8,3:set,set.member,\
+    0:set,7:8,2:8,7:8,3:set,set.subset,\
+    7:8,2:8,7:8,3:set,0:set,set.inter,0:set,eq";
+
+/// The lines of `SET_WORDS`.
 const SETS: &str = "\
 (define-fun t0 () (Set (_ BitVec 8)) (set.insert (_ bv2 8) (_ bv7 8) (as set.empty (Set (_ BitVec 8)))))
 (define-fun t1 () Bool (set.member (_ bv7 8) t0))
@@ -45,7 +59,14 @@ const SETS: &str = "\
 (assert t5)
 ";
 
-/// The lines of a text that is like patterns.
+/// A text that is like patterns.
+const PATTERN_WORDS: &str = "\
+    s:String,:like,\
+    s:String,a:like,\
+    s:String,*:like,\
+    s:String,\"*\u{2ffff}:like";
+
+/// The lines of `PATTERN_WORDS`.
 const PATTERNS: &str = "\
 ; \"s\"
 (declare-const t0 String)
@@ -59,128 +80,66 @@ const PATTERNS: &str = "\
 (assert t4)
 ";
 
-fn text(alloc: Global, value: &str) -> Result<Term, Fail> {
-    Ok(Term::from(Text::from_str(alloc, value)?))
-}
-
-fn like(alloc: Global, elems: &[PatternElem]) -> Result<Term, Fail> {
-    let pattern = OrdPattern::from(Pattern::new(alloc, elems)?);
-    let s = variable(alloc, "s", TermType::String)?;
-    to_bool(alloc, Op::StringLike(pattern), &[s])
-}
-
-fn byte_set(alloc: Global, elements: &[Term]) -> Result<Term, Fail> {
-    Ok(Term::Set {
-        elts_ty: TermType::Bitvec { n: EIGHT },
-        elts: TermSet::new(alloc, elements)?,
-    })
-}
-
 #[test]
 fn strings_have_the_stated_lines(rt: HostRuntime) -> Result<(), Fail> {
-    let alloc = rt.alloc();
-    let hostile = text(alloc, "\"\\\\u{5c}\n\r\0\u{7f}\u{2ffff} ~")?;
-    let same = to_bool(alloc, Op::Eq, &[hostile, text(alloc, "")?])?;
-    has_lines(&rt, alloc, &[same], HOSTILE)
+    assert!(rt; has_lines(rt.alloc(), HOSTILE_WORDS, HOSTILE)?);
+    Ok(())
 }
 
 #[test]
 fn options_have_the_stated_lines(rt: HostRuntime) -> Result<(), Fail> {
-    let alloc = rt.alloc();
-    let seven = bits(EIGHT, 7);
-    let nothing = Term::None(TermType::Bitvec { n: EIGHT });
-    let got = to_bits(alloc, Op::OptionGet, &[nothing.share()?], EIGHT)?;
-    let inner = TermType::option_of(alloc, TermType::Bitvec { n: EIGHT })?;
-    let something = Term::Some(Rc::new(alloc, seven.share()?)?);
-    let twice = Term::Some(Rc::new(alloc, nothing.share()?)?);
-    let terms = [
-        to_bool(alloc, Op::Eq, &[something, nothing])?,
-        to_bool(alloc, Op::Eq, &[got, seven])?,
-        to_bool(alloc, Op::Eq, &[twice, Term::None(inner)])?,
-    ];
-    has_lines(&rt, alloc, &terms, OPTIONS)
+    assert!(rt; has_lines(rt.alloc(), OPTION_WORDS, OPTIONS)?);
+    Ok(())
 }
 
 #[test]
 fn sets_have_the_stated_lines(rt: HostRuntime) -> Result<(), Fail> {
-    let alloc = rt.alloc();
-    let two = bits(EIGHT, 2);
-    let seven = bits(EIGHT, 7);
-    let some = byte_set(alloc, &[seven.share()?, two, seven.share()?])?;
-    let none = byte_set(alloc, &[])?;
-    let both = Term::App {
-        op: Op::SetInter,
-        args: TermList::new(alloc, &[some.share()?, none.share()?])?,
-        ret_ty: TermType::set_of(alloc, TermType::Bitvec { n: EIGHT })?,
-    };
-    let terms = [
-        to_bool(alloc, Op::SetMember, &[seven, some.share()?])?,
-        to_bool(alloc, Op::SetSubset, &[none.share()?, some])?,
-        to_bool(alloc, Op::Eq, &[both, none])?,
-    ];
-    has_lines(&rt, alloc, &terms, SETS)
+    assert!(rt; has_lines(rt.alloc(), SET_WORDS, SETS)?);
+    Ok(())
 }
 
 #[test]
 fn patterns_have_the_stated_lines(rt: HostRuntime) -> Result<(), Fail> {
-    let alloc = rt.alloc();
-    let several = [
-        PatternElem::Char('"'),
-        PatternElem::Wildcard,
-        PatternElem::Char('\u{2ffff}'),
-    ];
-    let terms = [
-        like(alloc, &[])?,
-        like(alloc, &[PatternElem::Char('a')])?,
-        like(alloc, &[PatternElem::Wildcard])?,
-        like(alloc, &several)?,
-    ];
-    has_lines(&rt, alloc, &terms, PATTERNS)
+    assert!(rt; has_lines(rt.alloc(), PATTERN_WORDS, PATTERNS)?);
+    Ok(())
 }
 
-/// These terms are refused by this error behind these lines, and the encoder is spent by it.
-fn is_refused(
-    rt: &impl Abort,
-    alloc: Global,
-    terms: &[Term],
-    error: EncodeError,
-    lines: &str,
-) -> Result<(), Fail> {
+/// Whether the terms of these words are refused by this error behind these lines, and the encoder is spent by it.
+fn is_refused(alloc: Global, words: &str, error: &EncodeError, lines: &str) -> Result<bool, Fail> {
+    let terms = terms(alloc, words)?;
     let enums = EnumTable::new(alloc);
     let mut encoder = Encoder::new(alloc, &enums, MemorySink::new(alloc, &[], 200)?);
-    assert_eq!(rt; encoder.encode(terms), Err(error), "{lines}");
-    assert_eq!(rt; encoder.encode(&[]), Err(EncodeError::Spent), "{lines}");
+    let refused = encoder
+        .encode(terms.as_slice())
+        .is_err_and(|found| found == *error);
+    let spent = encoder.encode(&[]) == Err(EncodeError::Spent);
     let sink = encoder.into_script();
-    let script = format!(in alloc; "{OPTION}{lines}")?;
-    assert_eq!(rt; sink.bytes(), script.as_bytes(), "{lines}");
-    Ok(())
+    Ok(refused && spent && is_script(sink.bytes(), lines))
+}
+
+/// Whether this is what the error says.
+fn says(alloc: Global, error: &EncodeError, message: &str) -> Result<bool, Fail> {
+    Ok(format!(in alloc; "{error}")?.as_str() == message)
+}
+
+/// Whether a character is not above the constant: this is proved to be the rule by which strings are refused.
+fn is_allowed(c: char) -> bool
+    ensures { result ≡ is_code_point c }
+{
+    u32::from(c) <= SMT_LIB_MAX_CODE_POINT
 }
 
 #[test]
 fn characters_above_the_greatest_are_refused(rt: HostRuntime) -> Result<(), Fail> {
     let alloc = rt.alloc();
     assert_eq!(rt; SMT_LIB_MAX_CODE_POINT, 0x2ffff);
-    let far = Text::from_str(alloc, "a\u{30000}")?;
-    let literal = Term::from(far.clone()?);
-    let same = to_bool(alloc, Op::Eq, &[literal, text(alloc, "a")?])?;
-    let error = EncodeError::EncodeStringFailed(far);
-    assert_eq!(rt;
-        format!(in alloc; "{error}")?.as_str(),
-        "a string has a character above U+2FFFF"
-    );
-    is_refused(&rt, alloc, &[same], error, "")?;
-    let elems = [PatternElem::Wildcard, PatternElem::Char('\u{30000}')];
-    let pattern = OrdPattern::from(Pattern::new(alloc, &elems)?);
-    let error = EncodeError::EncodePatternFailed(pattern);
-    assert_eq!(rt;
-        format!(in alloc; "{error}")?.as_str(),
-        "a pattern has a character above U+2FFFF"
-    );
-    is_refused(
-        &rt,
-        alloc,
-        &[like(alloc, &elems)?],
-        error,
-        "; \"s\"\n(declare-const t0 String)\n",
-    )
+    assert!(rt; is_allowed('\u{2ffff}') && !is_allowed('\u{30000}'));
+    let error = EncodeError::EncodeStringFailed(Text::from_str(alloc, "a\u{30000}")?);
+    assert!(rt; says(alloc, &error, "a string has a character above U+2FFFF")?);
+    assert!(rt; is_refused(alloc, "a\u{30000}:text,a:text,eq", &error, "")?);
+    let error = EncodeError::EncodePatternFailed(pattern(alloc, "*\u{30000}")?);
+    assert!(rt; says(alloc, &error, "a pattern has a character above U+2FFFF")?);
+    let lines = "; \"s\"\n(declare-const t0 String)\n";
+    assert!(rt; is_refused(alloc, "s:String,*\u{30000}:like", &error, lines)?);
+    Ok(())
 }

@@ -1,6 +1,6 @@
 // Patterns at texts, their order, and each call once.
 use crate::PatternElem::{Char, Wildcard};
-use crate::{OrdPattern, Pattern};
+use crate::{OrdPattern, Pattern, PatternElem};
 use std::alloc::Global;
 use std::test::Fail;
 
@@ -17,50 +17,64 @@ fn pattern(alloc: Global, spelling: &str) -> Result<OrdPattern, Fail> {
     Ok(OrdPattern::from(Pattern::new(alloc, elems.as_slice())?))
 }
 
-/// Patterns, texts, and whether they match.
-const MATCHES: [(&str, &str, bool); 34] = [
-    ("", "", true),
-    ("", "a", false),
-    ("*", "", true),
-    ("*", "anything", true),
-    ("**", "", true),
-    ("a", "a", true),
-    ("a", "", false),
-    ("a", "b", false),
-    ("a", "aa", false),
-    ("ab", "a", false),
-    ("a*", "a", true),
-    ("a*", "abc", true),
-    ("a*", "ba", false),
-    ("*a", "ba", true),
-    ("*a", "ab", false),
-    ("*a", "aba", true),
-    ("a*z", "abz", true),
-    ("a*z", "az", true),
-    ("a*z", "abzc", false),
-    ("a*z", "a", false),
-    ("a*a", "a", false),
-    ("a*b*c", "abbc", true),
-    ("a*b*c", "acbc", true),
-    ("a*b*c", "acb", false),
-    ("*ab*ab*", "aabab", true),
-    ("*ab*ab*", "aabb", false),
-    ("*aab", "aaaab", true),
-    ("a**c", "abc", true),
-    ("+", "*", true),
-    ("+", "a", false),
-    ("a+*", "a*b", true),
-    ("*+*", "ab", false),
-    ("é*😀", "é→😀", true),
-    ("é*😀", "e→😀", false),
-];
+/// Patterns, and behind a slash texts that match them.
+const MATCHED: &str = "\
+/
+*/
+*/anything
+**/
+a/a
+a*/a
+a*/abc
+*a/ba
+*a/aba
+a*z/abz
+a*z/az
+a*b*c/abbc
+a*b*c/acbc
+*ab*ab*/aabab
+*aab/aaaab
+a**c/abc
++/*
+a+*/a*b
+é*😀/é→😀";
+
+/// The same with texts that do not match.
+const DIFFERENT: &str = "\
+/a
+a/
+a/b
+a/aa
+ab/a
+a*/ba
+*a/ab
+a*z/abzc
+a*z/a
+a*a/a
+a*b*c/acb
+*ab*ab*/aabb
++/a
+*+*/ab
+é*😀/e→😀";
+
+/// Whether the text of a row matches the pattern.
+fn matches(alloc: Global, row: &str) -> Result<bool, Fail> {
+    let (spelling, text) = row.split_once('/').unwrap_or((row, ""));
+    Ok(pattern(alloc, spelling)?.wildcard_match(text))
+}
 
 #[test]
 fn patterns_match_texts(rt: HostRuntime) -> Result<(), Fail> {
-    let alloc = rt.alloc();
-    for (spelling, text, expected) in MATCHES {
-        let found = pattern(alloc, spelling)?;
-        assert_eq!(rt; found.wildcard_match(text), expected, "{spelling} {text}");
+    for row in MATCHED.lines() {
+        assert!(rt; matches(rt.alloc(), row)?, "{row}");
+    }
+    Ok(())
+}
+
+#[test]
+fn patterns_differ_from_texts(rt: HostRuntime) -> Result<(), Fail> {
+    for row in DIFFERENT.lines() {
+        assert!(rt; !matches(rt.alloc(), row)?, "{row}");
     }
     Ok(())
 }
@@ -93,15 +107,23 @@ fn patterns_order_by_their_elements(rt: HostRuntime) -> Result<(), Fail> {
     Ok(())
 }
 
+/// Whether a pattern holds its elements, as what it shares does.
+fn holds_elements(given: Pattern, elems: &[PatternElem]) -> Result<bool, Fail> {
+    let shared = given.share()? == given;
+    let ordered = OrdPattern::from(given);
+    Ok(shared && ordered.share()? == ordered && ordered.get_elems() == elems)
+}
+
 #[test]
 fn patterns_hold_their_elements(rt: HostRuntime) -> Result<(), Fail> {
-    let alloc = rt.alloc();
     let elems = [Char('a'), Wildcard, Char('*')];
-    let given = Pattern::new(alloc, &elems)?;
-    assert_eq!(rt; given.share()?, given);
-    assert_ne!(rt; given, Pattern::new(alloc, &[Char('a')])?);
-    let ordered = OrdPattern::from(given);
-    assert_eq!(rt; ordered.share()?, ordered);
-    assert_eq!(rt; ordered.get_elems(), elems.as_slice());
+    assert!(rt; holds_elements(Pattern::new(rt.alloc(), &elems)?, &elems)?);
+    Ok(())
+}
+
+#[test]
+fn patterns_differ_by_their_elements(rt: HostRuntime) -> Result<(), Fail> {
+    let longer = Pattern::new(rt.alloc(), &[Char('a'), Wildcard, Char('*')])?;
+    assert!(rt; longer != Pattern::new(rt.alloc(), &[Char('a')])?);
     Ok(())
 }

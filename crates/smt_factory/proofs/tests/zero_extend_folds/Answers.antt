@@ -1,4 +1,4 @@
-use Rattle.std.proofs.Common.{◌+◌, ◌≤◌, sym, subst, lit≤, arith}
+use Rattle.std.proofs.Common.{◌+◌, ◌≤◌, sym, subst, arith}
 use Rattle.std.specs.Prelude.{IfSome}
 use Rattle.smt_factory.proofs.tests.zero_extend_folds.Goals as goal
 use Rattle.smt_term.specs.Plain.{PlainType}

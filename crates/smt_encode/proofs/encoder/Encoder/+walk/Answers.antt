@@ -3,21 +3,21 @@ use Rattle.std.specs.Prelude.{codes}
 use Rattle.std.specs.Rc.{rc_str_bytes}
 use Rattle.std.proofs.lemmas.List.{at_drop_more, at_drop_all}
 use Rattle.smt_semantics.specs.Script.{group, name}
+use Rattle.smt_bits.specs.Width.{bits_in}
 use Rattle.smt_term.specs.Enums.{enums_of}
 use Rattle.smt_term.specs.Faults.{Fault, term_fault}
 use Rattle.smt_term.specs.Plain.{Application, SetTerm, SomeTerm, terms}
 use Rattle.smt_term.specs.Types.{type_of}
 use Rattle.smt_term.specs.View.{plain_items, plain_op, plain_term, plain_term-App, plain_term-None, plain_term-Set, plain_term-Some, plain_term-Var, plain_type}
 use Rattle.smt_lines.specs.Lines.{Enums, name_of_term, define, enter_term, encode_term, encode_terms, encode_type, none_body, set_body}
-use Rattle.smt_lines.proofs.Making.{types_leave}
+use Rattle.smt_lines.proofs.Making.{arguments_leave, elements_leave, inner_leaves, types_leave}
 use Rattle.smt_encode.specs.Encoded.{AreSpelled, enums_in, IsSpelled, Wrote}
-use Rattle.smt_encode.specs.Manners.{body_of, plain_manner}
+use Rattle.smt_encode.specs.Manners.{application_body, least_body, plain_manner}
 use Rattle.smt_encode.specs.Refusals.{fault_of}
 use Rattle.smt_encode.proofs.Applied.{alone_written, parts_written}
 use Rattle.smt_encode.proofs.Faulted.{one_passed, sort_fault}
 use Rattle.smt_encode.proofs.Going.{starts, same_enums, goes_on, ends}
-use Rattle.smt_encode.proofs.Larger.{extent, inner_leaves, parts_leave}
-use Rattle.smt_encode.proofs.Stated.{application_stated, as_some, declared, false_stated, named_unless, named_written, none_stated, set_stated, some_stated, variable_stated}
+use Rattle.smt_encode.proofs.Stated.{application_stated, as_some, declared, false_stated, least_stated, named_unless, named_written, none_stated, set_stated, some_stated, variable_stated}
 use Rattle.smt_encode.proofs.encoder.Encoder.+walk.Goals as goal
 
 -- ---- one term that has no name yet
@@ -31,8 +31,8 @@ encode_new-returns-in_err-sort-in-App-clause-fault g m c =
     λ f h. sort_fault enums t c.in-App.op (terms (plain_items c.in-App.args)) (plain_type c.in-App.ret_ty) listed f (c.in_err-sort-in-App.ensures.fault f h) in
     search (rules, named)
 
-pub encode_new-returns-in_default-clause-lines : goal.encode_new-returns-in_default-clause-lines
-encode_new-returns-in_default-clause-lines g m c s has absent =
+pub encode_new-returns-in-App-clause-lines : goal.encode_new-returns-in-App-clause-lines
+encode_new-returns-in-App-clause-lines g m c s has absent =
     let enums = enums_in c.args.self.now in
     let t = plain_term c.args.term.now in
     let op = c.in-App.op in
@@ -40,12 +40,12 @@ encode_new-returns-in_default-clause-lines g m c s has absent =
     let ts = terms (map plain_term c.items-args.result.now) in
     let listed : t ≡ Application (plain_op op) ts type = ap plain_term c.in-App.is ∙ plain_term-App op c.in-App.args c.in-App.ret_ty ∙ ap (λ l. Application (plain_op op) (terms l) type) (sym c.items-args.ensures.plain) in
     let sort = c.in_ok-sort-in-App.ensures.lines s has in
-    let how = ap plain_manner (sym c.in_default.is) ∙ c.in_ok-manner-in-App.ensures in
+    let how = ap plain_manner (sym c.in-AsFalse.is) ∙ c.in_ok-manner_of-in-App.ensures in
     alone_written enums t s c.args.self.now c.encode_sort.new.self sort.0 (λ e v. enter_term t (codes "false") [] v) (false_stated enums t s absent op ts type listed how) c.name_false.new.self c.name_false.result
     (c.name_false.ensures.lines (encode_type enums (type_of t) s).tables sort.0.names (types_leave enums (type_of t) s t ∙ absent))
 
-pub encode_new-returns-in_ok-operands-in-App-clause-lines : goal.encode_new-returns-in_ok-operands-in-App-clause-lines
-encode_new-returns-in_ok-operands-in-App-clause-lines g m c s has absent =
+pub encode_new-returns-in-AsItStands-clause-lines : goal.encode_new-returns-in-AsItStands-clause-lines
+encode_new-returns-in-AsItStands-clause-lines g m c s has absent =
     let enums = enums_in c.args.self.now in
     let t = plain_term c.args.term.now in
     let op = c.in-App.op in
@@ -55,27 +55,49 @@ encode_new-returns-in_ok-operands-in-App-clause-lines g m c s has absent =
     let sort = c.in_ok-sort-in-App.ensures.lines s has in
     let w = encode_type enums (type_of t) s in
     let known : enums_in c.encode_sort.new.self ≡ enums = ap (λ e. enums_of e.now) c.in_ok-sort-in-App.ensures.cause.same_enums in
-    let parts = subst (λ (e : Enums). Wrote g.S.Sink.held c.encode_sort.new.self c.encode_terms.new.self (encode_terms e ts w.tables).lines (encode_terms e ts w.tables).tables × AreSpelled (encode_terms e ts w.tables).made c.in_ok-operands-in-App.operands.items) known
-    (c.in_ok-operands-in-App.ensures.lines w.tables sort.0.names) in
+    let parts = subst (λ (e : Enums). Wrote g.S.Sink.held c.encode_sort.new.self c.encode_terms.new.self (encode_terms e ts w.tables).lines (encode_terms e ts w.tables).tables × AreSpelled (encode_terms e ts w.tables).made c.in_ok-operands-in-AsItStands.operands.items) known
+    (c.in_ok-operands-in-AsItStands.ensures.lines w.tables sort.0.names) in
     let u = encode_terms enums ts w.tables in
-    let how = ap plain_manner (sym c.in-Some-2.is) ∙ c.in_ok-manner-in-App.ensures in
-    let gone : name_of_term u.tables t ≡ None = parts_leave enums t c.items-args.result.now w.tables (ap extent listed) ∙ types_leave enums (type_of t) s t ∙ absent in
-    parts_written enums t s c.args.self.now c.encode_sort.new.self sort.0 (λ v. encode_terms enums ts v) (λ e es v. define t e (body_of c.in-Some-2.manner (plain_op op) es) v) (application_stated enums t s absent c.in-Some-2.manner op ts type listed how)
-    c.encode_terms.new.self c.define_application.new.self parts.0 c.define_application.result
-    (c.define_application.ensures.lines u.tables w.made u.made parts.0.names gone (c.as_str.ensures.value ∙ sort.1) parts.1)
+    let how = ap plain_manner (sym c.in-AsItStands.is) ∙ c.in_ok-manner_of-in-App.ensures in
+    let gone : name_of_term u.tables t ≡ None = subst (λ k. name_of_term u.tables k ≡ name_of_term w.tables k) (sym listed) (arguments_leave enums (plain_op op) ts type w.tables) ∙ types_leave enums (type_of t) s t ∙ absent in
+    parts_written enums t s c.args.self.now c.encode_sort.new.self sort.0 (λ v. encode_terms enums ts v) (λ e es v. define t e (application_body (plain_op op) es) v) (application_stated enums t s absent op ts type listed how)
+    c.encode_terms.new.self c.define.new.self parts.0 c.define.result
+    (c.define.ensures.lines u.tables w.made (application_body (plain_op op) u.made) parts.0.names gone (c.as_str.ensures.value ∙ sort.1)
+    (c.as_str-in-AsItStands.ensures.value ∙ c.in_ok-body-in-AsItStands.ensures.text u.made parts.1))
 
-pub encode_new-returns-in_ok-body-in-None-clause-lines : goal.encode_new-returns-in_ok-body-in-None-clause-lines
-encode_new-returns-in_ok-body-in-None-clause-lines g m c s has absent =
+pub encode_new-returns-in-AsLeast-clause-lines : goal.encode_new-returns-in-AsLeast-clause-lines
+encode_new-returns-in-AsLeast-clause-lines g m c s has absent =
+    let enums = enums_in c.args.self.now in
+    let t = plain_term c.args.term.now in
+    let op = c.in-App.op in
+    let type = plain_type c.in-App.ret_ty in
+    let ts = terms (map plain_term c.items-args.result.now) in
+    let listed : t ≡ Application (plain_op op) ts type = ap plain_term c.in-App.is ∙ plain_term-App op c.in-App.args c.in-App.ret_ty ∙ ap (λ l. Application (plain_op op) (terms l) type) (sym c.items-args.ensures.plain) in
+    let sort = c.in_ok-sort-in-App.ensures.lines s has in
+    let w = encode_type enums (type_of t) s in
+    let known : enums_in c.encode_sort.new.self ≡ enums = ap (λ e. enums_of e.now) c.in_ok-sort-in-App.ensures.cause.same_enums in
+    let parts = subst (λ (e : Enums). Wrote g.S.Sink.held c.encode_sort.new.self c.encode_terms-in-AsLeast.new.self (encode_terms e ts w.tables).lines (encode_terms e ts w.tables).tables × AreSpelled (encode_terms e ts w.tables).made c.in_ok-operands-in-AsLeast.operands.items) known
+    (c.in_ok-operands-in-AsLeast.ensures.lines w.tables sort.0.names) in
+    let u = encode_terms enums ts w.tables in
+    let how = ap plain_manner (sym c.in-AsLeast.is) ∙ c.in_ok-manner_of-in-App.ensures in
+    let gone : name_of_term u.tables t ≡ None = subst (λ k. name_of_term u.tables k ≡ name_of_term w.tables k) (sym listed) (arguments_leave enums (plain_op op) ts type w.tables) ∙ types_leave enums (type_of t) s t ∙ absent in
+    parts_written enums t s c.args.self.now c.encode_sort.new.self sort.0 (λ v. encode_terms enums ts v) (λ e es v. define t e (least_body (bits_in c.in-AsLeast.width) es) v) (least_stated enums t s absent (bits_in c.in-AsLeast.width) op ts type listed how)
+    c.encode_terms-in-AsLeast.new.self c.define-in-AsLeast.new.self parts.0 c.define-in-AsLeast.result
+    (c.define-in-AsLeast.ensures.lines u.tables w.made (least_body (bits_in c.in-AsLeast.width) u.made) parts.0.names gone (c.as_str-in-AsLeast.ensures.value ∙ sort.1)
+    (c.as_str-in-AsLeast-2.ensures.value ∙ c.in_ok-body-in-AsLeast.ensures u.made parts.1))
+
+pub encode_new-returns-in-None-clause-lines : goal.encode_new-returns-in-None-clause-lines
+encode_new-returns-in-None-clause-lines g m c s has absent =
     let enums = enums_in c.args.self.now in
     let t = plain_term c.args.term.now in
     let sort = c.in_ok-sort-in-None.ensures.lines s has in
     let w = encode_type enums (type_of t) s in
-    alone_written enums t s c.args.self.now c.encode_sort-in-None.new.self sort.0 (λ e v. define t e (none_body e) v) (none_stated enums t s absent _ (ap plain_term c.in-None.is ∙ plain_term-None c.in-None.field-0)) c.define.new.self c.define.result
-    (c.define.ensures.lines w.tables w.made (none_body w.made) sort.0.names (types_leave enums (type_of t) s t ∙ absent) (c.as_str-in-None-2.ensures.value ∙ sort.1)
+    alone_written enums t s c.args.self.now c.encode_sort-in-None.new.self sort.0 (λ e v. define t e (none_body e) v) (none_stated enums t s absent _ (ap plain_term c.in-None.is ∙ plain_term-None c.in-None.field-0)) c.define-in-None.new.self c.define-in-None.result
+    (c.define-in-None.ensures.lines w.tables w.made (none_body w.made) sort.0.names (types_leave enums (type_of t) s t ∙ absent) (c.as_str-in-None-2.ensures.value ∙ sort.1)
     (c.as_str-in-None-3.ensures.value ∙ c.in_ok-body-in-None.ensures w.made (c.as_str-in-None.ensures.value ∙ sort.1)))
 
-pub encode_new-returns-in_ok-body-in-Set-clause-lines : goal.encode_new-returns-in_ok-body-in-Set-clause-lines
-encode_new-returns-in_ok-body-in-Set-clause-lines g m c s has absent =
+pub encode_new-returns-in-Set-clause-lines : goal.encode_new-returns-in-Set-clause-lines
+encode_new-returns-in-Set-clause-lines g m c s has absent =
     let enums = enums_in c.args.self.now in
     let t = plain_term c.args.term.now in
     let element = plain_type c.in-Set.elts_ty in
@@ -87,14 +109,14 @@ encode_new-returns-in_ok-body-in-Set-clause-lines g m c s has absent =
     let parts = subst (λ (e : Enums). Wrote g.S.Sink.held c.encode_sort-in-Set.new.self c.encode_terms-in-Set.new.self (encode_terms e ts w.tables).lines (encode_terms e ts w.tables).tables × AreSpelled (encode_terms e ts w.tables).made c.in_ok-operands-in-Set.operands.items) known
     (c.in_ok-operands-in-Set.ensures.lines w.tables sort.0.names) in
     let u = encode_terms enums ts w.tables in
-    let gone : name_of_term u.tables t ≡ None = parts_leave enums t c.items.result.now w.tables (ap extent listed) ∙ types_leave enums (type_of t) s t ∙ absent in
+    let gone : name_of_term u.tables t ≡ None = subst (λ k. name_of_term u.tables k ≡ name_of_term w.tables k) (sym listed) (elements_leave enums element ts w.tables) ∙ types_leave enums (type_of t) s t ∙ absent in
     parts_written enums t s c.args.self.now c.encode_sort-in-Set.new.self sort.0 (λ v. encode_terms enums ts v) (λ e es v. define t e (set_body e es) v) (set_stated enums t s absent element ts listed)
     c.encode_terms-in-Set.new.self c.define-in-Set.new.self parts.0 c.define-in-Set.result
     (c.define-in-Set.ensures.lines u.tables w.made (set_body w.made u.made) parts.0.names gone (c.as_str-in-Set-2.ensures.value ∙ sort.1)
     (c.as_str-in-Set-3.ensures.value ∙ c.in_ok-body-in-Set.ensures w.made u.made (c.as_str-in-Set.ensures.value ∙ sort.1) parts.1))
 
-pub encode_new-returns-in_ok-body-in-Some-clause-lines : goal.encode_new-returns-in_ok-body-in-Some-clause-lines
-encode_new-returns-in_ok-body-in-Some-clause-lines g m c s has absent =
+pub encode_new-returns-in-Some-clause-lines : goal.encode_new-returns-in-Some-clause-lines
+encode_new-returns-in-Some-clause-lines g m c s has absent =
     let enums = enums_in c.args.self.now in
     let t = plain_term c.args.term.now in
     let inner = plain_term c.deref.result.now in
@@ -105,14 +127,14 @@ encode_new-returns-in_ok-body-in-Some-clause-lines g m c s has absent =
     let parts = subst (λ (e : Enums). Wrote g.S.Sink.held c.encode_sort-in-Some.new.self c.encode_term.new.self (encode_term e inner w.tables).lines (encode_term e inner w.tables).tables × IsSpelled (encode_term e inner w.tables).made c.in_ok-operand-in-Some.operand) known
     (c.in_ok-operand-in-Some.ensures.lines w.tables sort.0.names) in
     let u = encode_term enums inner w.tables in
-    let gone : name_of_term u.tables t ≡ None = inner_leaves enums t c.deref.result.now w.tables (ap extent listed) ∙ types_leave enums (type_of t) s t ∙ absent in
+    let gone : name_of_term u.tables t ≡ None = subst (λ k. name_of_term u.tables k ≡ name_of_term w.tables k) (sym listed) (inner_leaves enums inner w.tables) ∙ types_leave enums (type_of t) s t ∙ absent in
     parts_written enums t s c.args.self.now c.encode_sort-in-Some.new.self sort.0 (λ v. encode_term enums inner v) (λ e x v. as_some t e x v) (some_stated enums t s absent inner listed)
     c.encode_term.new.self c.define-in-Some.new.self parts.0 c.define-in-Some.result
     (c.define-in-Some.ensures.lines u.tables w.made (group (name (codes "some") ∷ u.made ∷ [])) parts.0.names gone (c.as_str-in-Some.ensures.value ∙ sort.1)
     (c.as_str-in-Some-2.ensures.value ∙ c.in_ok-body-in-Some.ensures u.made parts.1))
 
-pub encode_new-returns-in_ok-sort-in-Var-clause-lines : goal.encode_new-returns-in_ok-sort-in-Var-clause-lines
-encode_new-returns-in_ok-sort-in-Var-clause-lines g m c s has absent =
+pub encode_new-returns-clause-lines : goal.encode_new-returns-clause-lines
+encode_new-returns-clause-lines g m c s has absent =
     let enums = enums_in c.args.self.now in
     let t = plain_term c.args.term.now in
     let v = c.in-Var.variable in
