@@ -37,6 +37,3 @@ pub use overflows::{bvnego, bvsaddo, bvsmulo, bvso, bvssubo};
 pub use rule::{BvRule, bvapp_by};
 pub use sets::{set_inter, set_intersects, set_is_empty, set_member, set_of, set_subset};
 pub use strings::string_like;
-
-#[cfg(test)]
-mod tests;

@@ -1,6 +1,6 @@
 use Rattle.std.proofs.Common.{◌+◌, ◌≤◌, sym, subst, arith}
 use Rattle.std.specs.Prelude.{IfSome}
-use Rattle.smt_factory.proofs.tests.zero_extend_folds.Goals as goal
+use Rattle.smt_tests.proofs.foldings.zero_extend_folds.Goals as goal
 use Rattle.smt_term.specs.Plain.{PlainType}
 use Rattle.smt_term.specs.Types.{width_in}
 

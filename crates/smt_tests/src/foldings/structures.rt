@@ -1,7 +1,7 @@
 // Strings, options and sets: the samples of each call, and calls whose answer depends on what a term says.
 use super::{byte, truth};
-use crate::*;
 use smt_bits::EIGHT;
+use smt_factory::*;
 use smt_term::{OrdPattern, Pattern, PatternElem, Term, TermError, TermType, TermVar, Text};
 use std::alloc::Global;
 use std::test::Fail;

@@ -1,11 +1,11 @@
-// The samples of each call, and each call that allocates once with ample memory.
+// The samples of each call of the factory, and each call that allocates once with ample memory.
 ghost use Rattle.std.specs.Prelude.{◌≡◌};
 ghost use Rattle.smt_term.specs.Plain.{BitVecType};
 ghost use Rattle.smt_term.specs.Types.{type_of};
 ghost use Rattle.smt_term.specs.View.{plain_term};
 
-use super::*;
 use smt_bits::{BitVec, EIGHT, Int, SIXTEEN};
+use smt_factory::*;
 use smt_term::{Op, Term, TermError, TermList, TermType, TermVar, Text};
 use std::alloc::Global;
 use std::test::Fail;
