@@ -1,5 +1,6 @@
 pub mod BitRanges
 pub mod Least
+pub mod Levels
 pub mod Masks
 pub mod Modulus
 pub mod Moved

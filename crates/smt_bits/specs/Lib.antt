@@ -1,6 +1,7 @@
 pub mod BitVec
 pub mod BitVectors
 pub mod Examples
+pub mod Extensions
 pub mod Fin
 pub mod Laws
 pub mod Longs

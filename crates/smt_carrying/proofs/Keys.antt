@@ -12,13 +12,13 @@ use Rattle.smt_term.specs.TermOrder.{term_eq}
 use Rattle.smt_term.specs.TypeValues.{Enums}
 use Rattle.smt_semantics.specs.Script.{name}
 use Rattle.smt_semantics.specs.Sorts.{Entries}
-use Rattle.smt_lines.specs.Lines.{Tables, name_of_type}
-use Rattle.smt_lines.specs.Naming.{type_name, HasEntry, HasDistinctNames, sort_of}
+use Rattle.smt_lines.specs.NameTables.{Tables, name_of_type}
+use Rattle.smt_lines.specs.Naming.{type_name, HasEntry, HasDistinctNames, type_sort}
 use Rattle.smt_carrying.specs.Carry.{key_of}
 use Rattle.smt_term.proofs.TermTotal.{types_decided, functions_decided, terms_decided}
-use Rattle.smt_carrying.specs.Sorts.{IsNamed, IsDeclared}
-use Rattle.smt_carrying.specs.Interpretations.{wrapped_type, type_of_sort, HasNames}
-use Rattle.smt_semantics.specs.Growth.{Constructors}
+use Rattle.smt_carrying.specs.CarriedSorts.{IsNamed, TypeIsDeclared}
+use Rattle.smt_carrying.specs.CarriedInterpretations.{wrapped_type, type_of_sort, TypeIsNamed}
+use Rattle.smt_semantics.specs.DeclarationLines.{Constructors}
 
 module _ {K : Type 0} (test : K → Bool) (k : K) (sound : (x : K) → test x ≡ true → k ≡ x) where
   entry_found : (es : List (K × List ℕ)) (n : List ℕ) → lookup test es ≡ Some n → HasEntry es k n
@@ -56,7 +56,7 @@ module _ (enums : Enums) (s : Tables) (here : Entries) (distinct : HasDistinctNa
       (λ i. option_or (cond (d.not_bool i) (Some BoolType) (cond (d.not_string i) (Some StringType) None)) (key_of s.types n))
       ∙ key_found (type_eq t) t (λ x e. (types_decided t x).0 e) s.types n distinct h
 
-  pub sort_shows : (t : PlainType) → IsDeclared enums s here t → HasNames s t → type_of_sort s (sort_of s t) ≡ Some t
+  pub sort_shows : (t : PlainType) → TypeIsDeclared enums s here t → TypeIsNamed s t → type_of_sort s (type_sort s t) ≡ Some t
   sort_shows (OptionType t) d h = ap (wrapped_type (name (codes "Option"))) (sort_shows t d h)
   sort_shows (BitVecType n) d h = refl
   sort_shows BoolType d h = refl

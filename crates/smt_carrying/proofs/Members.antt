@@ -2,16 +2,14 @@
 use Rattle.std.proofs.Common.{◌≡◌, ℕ, suc, ◌<◌, Bool, true, false, cond, ◌&&◌, ◌||◌, List, [], ◌∷◌, map, refl, sym, ap, ◌∙◌, arith}
 use Rattle.std.specs.Prelude.{IsUtf8, bytes_eq, Some, IfSome}
 use Rattle.std.specs.Str.{chars}
-use Rattle.std.specs.Cmp.{first_so, second_so}
+use Rattle.std.specs.Cmp.{first_so, second_so, nat_cmp_is}
 use Rattle.std.specs.List.{AllByRecursion, list_any}
 use Rattle.std.specs.Map.{lookup}
 use Rattle.std.proofs.lemmas.Map.Text.{is_eq-slice_cmp}
 use Rattle.std.proofs.lemmas.Slice.Eq.{bytes_eq-Decides}
-use Rattle.std.proofs.lemmas.Cmp.{nat_list_cmp_total}
+use Rattle.std.proofs.lemmas.Cmp.{nat_list_cmp_total, nat_cmp_total}
 use Rattle.std.specs.Ordering.{nat_cmp, ordering_reverse, is_eq, is_lt}
-use Rattle.std.specs.Cmp.{nat_cmp_is}
 use Rattle.std.specs.FinMap.{nat_cmp-IsAntisymmetric}
-use Rattle.std.proofs.lemmas.Cmp.{nat_cmp_total}
 use Rattle.smt_carrying.proofs.Orderings.{less_is, nat_less}
 use Rattle.std.specs.declared.cmp.Ordering.{Ordering}
 use Rattle.std.specs.declared.cmp.Ordering.TheVariants.{Less, Equal, Greater}
@@ -19,8 +17,8 @@ use Rattle.smt_term.specs.ValueOrder.{text_cmp, is_below, ascends}
 use Rattle.smt_term.proofs.ValueOrder.{text_same, text_itself}
 use Rattle.smt_term.proofs.Utf8Order.{utf8_order}
 use Rattle.smt_term.specs.TypeValues.{Enums, members_of}
-use Rattle.smt_lines.specs.Lines.{place_of}
-use Rattle.smt_carrying.specs.Order.{AreMembers, AreEnums}
+use Rattle.smt_lines.specs.EntryNames.{place_of}
+use Rattle.smt_carrying.specs.CarriedOrder.{AreMembers, AreEnums}
 
 -- ---- look-ups
 

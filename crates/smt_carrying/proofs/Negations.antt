@@ -14,9 +14,9 @@ use Rattle.smt_term.specs.Operators.{apply}
 use Rattle.smt_term.specs.Tables.{Interpretation}
 use Rattle.smt_term.specs.TypeValues.{IsValue, Enums}
 use Rattle.smt_semantics.specs.Value.{operator_value}
-use Rattle.smt_lines.specs.Lines.{Tables}
+use Rattle.smt_lines.specs.NameTables.{Tables}
 use Rattle.smt_carrying.specs.Carry.{carry}
-use Rattle.smt_carrying.specs.Order.{AreEnums}
+use Rattle.smt_carrying.specs.CarriedOrder.{AreEnums}
 use Rattle.smt_carrying.proofs.Ordered.{same_values}
 
 half_below : (n : ℕ) → 1 ≤ n → 2 ^ (n - 1) < 2 ^ n

@@ -18,23 +18,24 @@ use Rattle.smt_bits.specs.BitVectors.{is_negative, bits_of, signed}
 use Rattle.smt_bits.specs.Widths.{is_width, are_bits}
 use Rattle.smt_bits.proofs.TwosComplement.{signed_has_its_bits}
 use Rattle.smt_sexpr.specs.Lexicon.{Name, Number}
-use Rattle.smt_semantics.specs.Order as script
-use Rattle.smt_semantics.specs.Order.{order}
+use Rattle.smt_semantics.specs.ScriptOrder as script
+use Rattle.smt_semantics.specs.ScriptOrder.{order}
 use Rattle.smt_sexpr.specs.Reading.{Expression, Leaf, Node, Expressions, Nil, Cons}
 use Rattle.smt_semantics.specs.Script.{Entry, Builds, name, ◌>>=◌}
 use Rattle.smt_semantics.specs.Sorts.{Entries, string_sort, bit_sort, same_sort, listed_sorts, paired, instance, fields_at, constructor_fields, has_sort_in, have_sorts_in, all_have_sort_in, option_sort}
-use Rattle.smt_lines.specs.Entries.{sorts_of}
-use Rattle.smt_lines.specs.Lines.{Tables, place_of, member_name}
-use Rattle.smt_lines.specs.Naming.{type_name, sort_of}
+use Rattle.smt_lines.specs.Entries.{attribute_sorts}
+use Rattle.smt_lines.specs.EntryNames.{place_of, member_name}
+use Rattle.smt_lines.specs.NameTables.{Tables}
+use Rattle.smt_lines.specs.Naming.{type_name, type_sort}
 use Rattle.smt_carrying.specs.Carry.{alone, text_at, carry_prefix, carry_extension, carry_entity, carry, carry_values, carry_fields, back_prefix, back_extension, back_entity, back, back_values, back_fields}
-use Rattle.smt_carrying.specs.Order.{AreMembers, AreEnums}
-use Rattle.smt_carrying.specs.Sorts.{member_constructors, entity_constructors, kind_constructors, option_constructors, IsNoDatatype, StandsAlways, IsNamed, IsDeclared, AreDeclared}
+use Rattle.smt_carrying.specs.CarriedOrder.{AreMembers, AreEnums}
+use Rattle.smt_carrying.specs.CarriedSorts.{shown_members, shown_entity, shown_kind, shown_option, IsNoDatatype, DeclaresOption, IsNamed, TypeIsDeclared, AttributesAreDeclared}
 use Rattle.std.specs.Ordering.{is_lt}
 use Rattle.smt_carrying.proofs.Members.{members_found, ascends_chars, behind}
 use Rattle.smt_carrying.proofs.Ordered.{keeps, one_to_one}
 use Rattle.smt_carrying.proofs.Sorted.{fields_themselves, sorted_value}
 use mathlib.Core.Logic.{⊎_elim}
-use Rattle.smt_semantics.specs.Growth.{Constructors, at_place}
+use Rattle.smt_semantics.specs.DeclarationLines.{Constructors, at_place}
 
 -- ---- what a constructor's value shows
 
@@ -131,7 +132,7 @@ the_only n fs (suc p) c fields e = absurd cc
 abbrev OptionPlace : Expression → ℕ → List ℕ → List Expression → Type 0
 OptionPlace sort place c fs = ((place ≡ 0) × (c ≡ codes "none") × (fs ≡ [])) ⊎ ((place ≡ 1) × (c ≡ codes "some") × (fs ≡ sort ∷ []))
 
-option_place : (sort : Expression) (place : ℕ) (c : List ℕ) (fields : List Expression) → at_place option_constructors place ≡ Some (c, fields) → OptionPlace sort place c (map (instance ((codes "X", sort) ∷ [])) fields)
+option_place : (sort : Expression) (place : ℕ) (c : List ℕ) (fields : List Expression) → at_place shown_option place ≡ Some (c, fields) → OptionPlace sort place c (map (instance ((codes "X", sort) ∷ [])) fields)
 option_place sort zero c fields e = let p : (c ≡ codes "none") × (fields ≡ []) = pair_taken (codes "none") c [] fields e in inl (refl, p.0, ap (map (instance ((codes "X", sort) ∷ []))) p.1)
 option_place sort (suc zero) c fields e = let p : (c ≡ codes "some") × (fields ≡ (name (codes "X") ∷ [])) = pair_taken (codes "some") c (name (codes "X") ∷ []) fields e in inr (refl, p.0, ap (map (instance ((codes "X", sort) ∷ []))) p.1)
 option_place sort (suc (suc p)) c fields e = absurd cc
@@ -156,7 +157,7 @@ signed_long a h = by (is_negative 64 a) refl
 
 -- ---- members by their places
 
-member_placed : (n : List ℕ) (start : ℕ) (ms : List (List ℕ)) (place : ℕ) (c : List ℕ) (fields : List Expression) → at_place (member_constructors n start ms) place ≡ Some (c, fields)
+member_placed : (n : List ℕ) (start : ℕ) (ms : List (List ℕ)) (place : ℕ) (c : List ℕ) (fields : List Expression) → at_place (shown_members n start ms) place ≡ Some (c, fields)
     → (place < length ms) × (c ≡ member_name n (start + place)) × (fields ≡ [])
 member_placed n start [] place c fields e = absurd cc
 member_placed n start (m ∷ ms) zero c fields e =
@@ -209,7 +210,7 @@ back_any i (m ∷ ms) h = by (bytes_eq (chars m) i) h (back_any i ms)
     by true e f = refl
     by false e f = f e
 
-module _ (here : Entries) (always : StandsAlways here) where
+module _ (here : Entries) (always : DeclaresOption here) where
   -- ---- bits, texts, prefixes
 
   bits_shown : (w : ℕ) (x : ScriptValue) → has_sort_in here (bit_sort w) x ≡ true → (a : ℕ) × (x ≡ BitsOf w a) × (a < 2 ^ w)
@@ -228,7 +229,7 @@ module _ (here : Entries) (always : StandsAlways here) where
   option_shown sort place c vs h =
       let b : Built here (option_sort sort) place c vs = unbuilt here (option_sort sort) place c vs h in
       let e : b.datatype ≡ codes "Option" = group_at b.datatype (codes "Option") sort Nil b.parameters b.fields b.sorts b.at_sort in
-      let o : (b.parameters ≡ codes "X" ∷ []) × (at_place option_constructors place ≡ Some (c, b.fields)) = always.options.only place c b.fields b.parameters (b.entry ∙ ap (λ d. Some (Builds d b.parameters place b.fields)) e) in
+      let o : (b.parameters ≡ codes "X" ∷ []) × (at_place shown_option place ≡ Some (c, b.fields)) = always.options.only place c b.fields b.parameters (b.entry ∙ ap (λ d. Some (Builds d b.parameters place b.fields)) e) in
       let f : Some (map (instance ((codes "X", sort) ∷ [])) b.fields) ≡ Some b.sorts = (λ i. fields_at (sym e i) (sym o.0 i) b.fields (option_sort sort)) ∙ b.at_sort in
       (map (instance ((codes "X", sort) ∷ [])) b.fields, option_place sort place c b.fields o.1, ap (λ x. have_sorts_in here x vs) (taken (List Expression) (map (instance ((codes "X", sort) ∷ [])) b.fields) b.sorts f) ∙ b.typed)
 
@@ -290,7 +291,7 @@ module _ (here : Entries) (always : StandsAlways here) where
         ap carry_extension (back_is place a.0) ∙ (carry_is (signed 64 a.0) ∙ λ i. ConstructorOf (sym o.0 i) (sym o.1 i) (alone (BitsOf 64 (same i)))),
       )
 
-  ranges_return : (place : ℕ) (c : List ℕ) (vs : ScriptValues) → (f : Fielded here (kind_constructors IpAddrKind) place c vs) → Returns IpAddrKind place c vs
+  ranges_return : (place : ℕ) (c : List ℕ) (vs : ScriptValues) → (f : Fielded here (shown_kind IpAddrKind) place c vs) → Returns IpAddrKind place c vs
   ranges_return zero c vs f =
       let p : (c ≡ codes "V4") × (f.fields ≡ bit_sort 32 ∷ option_sort (bit_sort 5) ∷ []) = pair_taken (codes "V4") c (bit_sort 32 ∷ option_sort (bit_sort 5) ∷ []) f.fields f.stands in
       let n : c ≡ codes "V4" = p.0 in
@@ -303,7 +304,7 @@ module _ (here : Entries) (always : StandsAlways here) where
       subst (λ xs. Returns IpAddrKind 1 c xs) (sym a.2) ((a.3, a.4.1), λ i. ConstructorOf 1 (sym n i) (one_script_value (BitsOf 128 a.0) (alone (sym a.4.0 i))))
   ranges_return (suc (suc p)) c vs f = absurd (let e : None ≡ Some (c, f.fields) = f.stands in cc)
 
-  extension_returns : (kind : ExtensionKind) (place : ℕ) (c : List ℕ) (vs : ScriptValues) → Fielded here (kind_constructors kind) place c vs → Returns kind place c vs
+  extension_returns : (kind : ExtensionKind) (place : ℕ) (c : List ℕ) (vs : ScriptValues) → Fielded here (shown_kind kind) place c vs → Returns kind place c vs
   extension_returns DecimalKind place c vs f = long_returns DecimalKind DecimalOf (codes "Decimal") place c vs (λ p a. refl) (λ z h. h) (λ z. refl) f
   extension_returns DatetimeKind place c vs f = long_returns DatetimeKind DatetimeOf (codes "Datetime") place c vs (λ p a. refl) (λ z h. h) (λ z. refl) f
   extension_returns DurationKind place c vs f = long_returns DurationKind DurationOf (codes "Duration") place c vs (λ p a. refl) (λ z h. h) (λ z. refl) f
@@ -322,7 +323,7 @@ module _ (here : Entries) (always : StandsAlways here) where
       subst (λ z. EntityReturns None e n place c (one_script_value z ys)) (sym t.1)
       (t.0, refl, t.2, λ i. ConstructorOf (sym p i) (sym q i) (one_script_value (TextOf t.0) (sym r i)))
 
-  entity_returns : (members : Option (List (List ℕ))) (n : List ℕ) (place : ℕ) (c : List ℕ) (vs : ScriptValues) (e : List ℕ) → IfSome members AreMembers → Fielded here (entity_constructors members n) place c vs → EntityReturns members e n place c vs
+  entity_returns : (members : Option (List (List ℕ))) (n : List ℕ) (place : ℕ) (c : List ℕ) (vs : ScriptValues) (e : List ℕ) → IfSome members AreMembers → Fielded here (shown_entity members n) place c vs → EntityReturns members e n place c vs
   entity_returns None n place c vs e m f =
       let o : (place ≡ 0) × (c ≡ n) × (f.fields ≡ string_sort ∷ []) = the_only n (string_sort ∷ []) place c f.fields f.stands in
       id_returns n place c vs e o.0 o.1 (subst (λ fs. have_sorts_in here fs vs ≡ true) o.2 f.typed)
@@ -365,7 +366,7 @@ module _ (here : Entries) (always : StandsAlways here) where
     not_truth n cs d h = let z : true ≡ false = sym h ∙ d.not_bool in cc
 
     mutual
-      pub onto : (ty : PlainType) (x : ScriptValue) → IsDeclared enums s here ty → has_sort_in here (sort_of s ty) x ≡ true → Onto ty x
+      pub onto : (ty : PlainType) (x : ScriptValue) → TypeIsDeclared enums s here ty → has_sort_in here (type_sort s ty) x ≡ true → Onto ty x
       onto BoolType (TruthOf b) d h = (tt, refl)
       onto BoolType (ConstructorOf place c vs) d h = absurd (not_named here (codes "Bool") place c vs always.truths h)
       onto BoolType x d h = absurd cc
@@ -380,55 +381,55 @@ module _ (here : Entries) (always : StandsAlways here) where
       onto (EntityType e) (ConstructorOf place c vs) d h =
           entity_onto e place c vs
           (entity_returns (members_of enums e) (type_name s (EntityType e)) place c vs e (members_found enums e good)
-          (named_fields here (type_name s (EntityType e)) (entity_constructors (members_of enums e) (type_name s (EntityType e))) place c vs d h))
-      onto (EntityType e) (TruthOf b) d h = absurd (not_truth (type_name s (EntityType e)) (entity_constructors (members_of enums e) (type_name s (EntityType e))) d h)
-      onto (EntityType e) (TextOf t) d h = absurd (not_text (type_name s (EntityType e)) (entity_constructors (members_of enums e) (type_name s (EntityType e))) (list_all is_code_point t) d h)
+          (named_fields here (type_name s (EntityType e)) (shown_entity (members_of enums e) (type_name s (EntityType e))) place c vs d h))
+      onto (EntityType e) (TruthOf b) d h = absurd (not_truth (type_name s (EntityType e)) (shown_entity (members_of enums e) (type_name s (EntityType e))) d h)
+      onto (EntityType e) (TextOf t) d h = absurd (not_text (type_name s (EntityType e)) (shown_entity (members_of enums e) (type_name s (EntityType e))) (list_all is_code_point t) d h)
       onto (EntityType e) x d h = absurd cc
-      onto (ExtensionType kind) (ConstructorOf place c vs) d h = extension_returns kind place c vs (named_fields here (type_name s (ExtensionType kind)) (kind_constructors kind) place c vs d h)
-      onto (ExtensionType kind) (TruthOf b) d h = absurd (not_truth (type_name s (ExtensionType kind)) (kind_constructors kind) d h)
-      onto (ExtensionType kind) (TextOf t) d h = absurd (not_text (type_name s (ExtensionType kind)) (kind_constructors kind) (list_all is_code_point t) d h)
+      onto (ExtensionType kind) (ConstructorOf place c vs) d h = extension_returns kind place c vs (named_fields here (type_name s (ExtensionType kind)) (shown_kind kind) place c vs d h)
+      onto (ExtensionType kind) (TruthOf b) d h = absurd (not_truth (type_name s (ExtensionType kind)) (shown_kind kind) d h)
+      onto (ExtensionType kind) (TextOf t) d h = absurd (not_text (type_name s (ExtensionType kind)) (shown_kind kind) (list_all is_code_point t) d h)
       onto (ExtensionType kind) x d h = absurd cc
       onto (OptionType t) (ConstructorOf place c no_script_values) d h =
-          let o : (place ≡ 0) × (c ≡ codes "none") = none_shown (sort_of s t) place c h in
+          let o : (place ≡ 0) × (c ≡ codes "none") = none_shown (type_sort s t) place c h in
           (tt, λ i. ConstructorOf (sym o.0 i) (sym o.1 i) no_script_values)
       onto (OptionType t) (ConstructorOf place c (one_script_value y ys)) d h =
-          let o : (place ≡ 1) × (c ≡ codes "some") × (has_sort_in here (sort_of s t) y ≡ true) × (ys ≡ no_script_values) = some_shown (sort_of s t) place c y ys h in
+          let o : (place ≡ 1) × (c ≡ codes "some") × (has_sort_in here (type_sort s t) y ≡ true) × (ys ≡ no_script_values) = some_shown (type_sort s t) place c y ys h in
           let r : Onto t y = onto t y d o.2 in
           (r.0, λ i. ConstructorOf (sym o.0 i) (sym o.1 i) (one_script_value (r.1 i) (sym o.3 i)))
       onto (OptionType t) x d h = absurd cc
       onto (RecordType x) (ConstructorOf place c vs) d h =
-          let f : Fielded here ((type_name s (RecordType x), sorts_of s x) ∷ []) place c vs = named_fields here (type_name s (RecordType x)) ((type_name s (RecordType x), sorts_of s x) ∷ []) place c vs d.0 h in
-          let o : (place ≡ 0) × (c ≡ type_name s (RecordType x)) × (f.fields ≡ sorts_of s x) = the_only (type_name s (RecordType x)) (sorts_of s x) place c f.fields f.stands in
+          let f : Fielded here ((type_name s (RecordType x), attribute_sorts s x) ∷ []) place c vs = named_fields here (type_name s (RecordType x)) ((type_name s (RecordType x), attribute_sorts s x) ∷ []) place c vs d.0 h in
+          let o : (place ≡ 0) × (c ≡ type_name s (RecordType x)) × (f.fields ≡ attribute_sorts s x) = the_only (type_name s (RecordType x)) (attribute_sorts s x) place c f.fields f.stands in
           let r : AreFieldValues enums x (back_fields enums x vs) × (carry_fields enums s x (back_fields enums x vs) ≡ vs) = onto_fields x vs d.1 (subst (λ fs. have_sorts_in here fs vs ≡ true) o.2 f.typed) in
           (r.0, λ i. ConstructorOf (sym o.0 i) (sym o.1 i) (r.1 i))
-      onto (RecordType x) (TruthOf b) d h = absurd (not_truth (type_name s (RecordType x)) ((type_name s (RecordType x), sorts_of s x) ∷ []) d.0 h)
-      onto (RecordType x) (TextOf t) d h = absurd (not_text (type_name s (RecordType x)) ((type_name s (RecordType x), sorts_of s x) ∷ []) (list_all is_code_point t) d.0 h)
+      onto (RecordType x) (TruthOf b) d h = absurd (not_truth (type_name s (RecordType x)) ((type_name s (RecordType x), attribute_sorts s x) ∷ []) d.0 h)
+      onto (RecordType x) (TextOf t) d h = absurd (not_text (type_name s (RecordType x)) ((type_name s (RecordType x), attribute_sorts s x) ∷ []) (list_all is_code_point t) d.0 h)
       onto (RecordType x) v d h = absurd cc
       onto (SetType t) (SetOf vs) d h =
-          let r : AllByRecursion (λ v. IsValue enums t v) (list_of_values (back_values enums t vs)) × (carry_values enums s t (back_values enums t vs) ≡ vs) = onto_each t vs d (first_so (all_have_sort_in here (sort_of s t) vs) (script.ascends vs) h) in
-          ((ascends_back t (back_values enums t vs) r.0 (ap script.ascends r.1 ∙ second_so (all_have_sort_in here (sort_of s t) vs) (script.ascends vs) h), r.0), ap SetOf r.1)
-      onto (SetType t) (ConstructorOf place c vs) d h = absurd (not_grouped here (codes "Set") (sort_of s t) Nil place c vs always.sets h)
+          let r : AllByRecursion (λ v. IsValue enums t v) (list_of_values (back_values enums t vs)) × (carry_values enums s t (back_values enums t vs) ≡ vs) = onto_each t vs d (first_so (all_have_sort_in here (type_sort s t) vs) (script.ascends vs) h) in
+          ((ascends_back t (back_values enums t vs) r.0 (ap script.ascends r.1 ∙ second_so (all_have_sort_in here (type_sort s t) vs) (script.ascends vs) h), r.0), ap SetOf r.1)
+      onto (SetType t) (ConstructorOf place c vs) d h = absurd (not_grouped here (codes "Set") (type_sort s t) Nil place c vs always.sets h)
       onto (SetType t) x d h = absurd cc
 
-      onto_each : (t : PlainType) (vs : ScriptValues) → IsDeclared enums s here t → all_have_sort_in here (sort_of s t) vs ≡ true
+      onto_each : (t : PlainType) (vs : ScriptValues) → TypeIsDeclared enums s here t → all_have_sort_in here (type_sort s t) vs ≡ true
           → AllByRecursion (λ v. IsValue enums t v) (list_of_values (back_values enums t vs)) × (carry_values enums s t (back_values enums t vs) ≡ vs)
       onto_each t no_script_values d h = (tt, refl)
       onto_each t (one_script_value y ys) d h =
-          let p : Onto t y = onto t y d (first_so (has_sort_in here (sort_of s t) y) (all_have_sort_in here (sort_of s t) ys) h) in
-          let r : AllByRecursion (λ v. IsValue enums t v) (list_of_values (back_values enums t ys)) × (carry_values enums s t (back_values enums t ys) ≡ ys) = onto_each t ys d (second_so (has_sort_in here (sort_of s t) y) (all_have_sort_in here (sort_of s t) ys) h) in
+          let p : Onto t y = onto t y d (first_so (has_sort_in here (type_sort s t) y) (all_have_sort_in here (type_sort s t) ys) h) in
+          let r : AllByRecursion (λ v. IsValue enums t v) (list_of_values (back_values enums t ys)) × (carry_values enums s t (back_values enums t ys) ≡ ys) = onto_each t ys d (second_so (has_sort_in here (type_sort s t) y) (all_have_sort_in here (type_sort s t) ys) h) in
           ((p.0, r.0), λ i. one_script_value (p.1 i) (r.1 i))
 
-      onto_fields : (x : AttributeTypes) (vs : ScriptValues) → AreDeclared enums s here x → have_sorts_in here (sorts_of s x) vs ≡ true
+      onto_fields : (x : AttributeTypes) (vs : ScriptValues) → AttributesAreDeclared enums s here x → have_sorts_in here (attribute_sorts s x) vs ≡ true
           → AreFieldValues enums x (back_fields enums x vs) × (carry_fields enums s x (back_fields enums x vs) ≡ vs)
       onto_fields no_attributes no_script_values d h = (tt, refl)
       onto_fields no_attributes (one_script_value y ys) d h = absurd cc
       onto_fields (attribute a t x) no_script_values d h = absurd cc
       onto_fields (attribute a t x) (one_script_value y ys) d h =
-          let p : Onto t y = onto t y d.0 (first_so (has_sort_in here (sort_of s t) y) (have_sorts_in here (sorts_of s x) ys) h) in
-          let r : AreFieldValues enums x (back_fields enums x ys) × (carry_fields enums s x (back_fields enums x ys) ≡ ys) = onto_fields x ys d.1 (second_so (has_sort_in here (sort_of s t) y) (have_sorts_in here (sorts_of s x) ys) h) in
+          let p : Onto t y = onto t y d.0 (first_so (has_sort_in here (type_sort s t) y) (have_sorts_in here (attribute_sorts s x) ys) h) in
+          let r : AreFieldValues enums x (back_fields enums x ys) × (carry_fields enums s x (back_fields enums x ys) ≡ ys) = onto_fields x ys d.1 (second_so (has_sort_in here (type_sort s t) y) (have_sorts_in here (attribute_sorts s x) ys) h) in
           ((refl, p.0, r.0), λ i. one_script_value (p.1 i) (r.1 i))
 
-    pub comes_back : (ty : PlainType) (v : Value) → IsDeclared enums s here ty → IsValue enums ty v → back enums ty (carry enums s ty v) ≡ v
+    pub comes_back : (ty : PlainType) (v : Value) → TypeIsDeclared enums s here ty → IsValue enums ty v → back enums ty (carry enums s ty v) ≡ v
     comes_back ty v d h =
         let r : Onto ty (carry enums s ty v) = onto ty (carry enums s ty v) d (sorted_value here always enums s good ty v d h) in
         (one_to_one enums s good ty (back enums ty (carry enums s ty v)) v r.0 h).0 r.1

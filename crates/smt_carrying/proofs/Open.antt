@@ -1,5 +1,5 @@
 -- Interpretations of a script by the names of what the terms reach.
-use Rattle.std.proofs.Common.{◌≡◌, ℕ, Bool, true, false, ◌&&◌, List, [], ◌∷◌, refl, sym, ◌∙◌, subst}
+use Rattle.std.proofs.Common.{◌≡◌, ℕ, Bool, true, false, ◌&&◌, List, [], ◌∷◌, Option, Some, None, refl, sym, ◌∙◌, subst}
 use Rattle.std.specs.Prelude.{IsTrue}
 use Rattle.std.specs.List.{AllByRecursion}
 use Rattle.std.proofs.lemmas.Bool.{and_from}
@@ -11,12 +11,13 @@ use Rattle.smt_sexpr.specs.Reading.{Expression}
 use Rattle.smt_semantics.specs.Script.{Entry, Constant, Function, Selects, State, names_of}
 use Rattle.smt_semantics.specs.Sorts.{Entries, entries, has_sort_in}
 use Rattle.smt_semantics.specs.Value as script
-use Rattle.smt_semantics.specs.Value.{IsScriptInterpretation, AgreeFor, AgreeAt, AgreeOn, applied_selectors, is_table, are_others, is_entry_given, is_selector_given}
-use Rattle.smt_lines.specs.Naming.{sort_of}
-use Rattle.smt_lines.specs.Lines.{Tables}
-use Rattle.smt_carrying.specs.Operators.{selector_name, selector_constructor}
-use Rattle.smt_carrying.specs.Interpretations.{ip_type, is_range_selector, IsGivenRange, GiveRangeSame, IsScriptGiven, GivesReachedNames, GiveNameSame, AgreeOnNames}
-use Rattle.smt_carrying.specs.Open.{Occurs, IsOpenEntry, IsOpenSelection, GivenNamesInterpret, NamesAgree}
+use Rattle.smt_semantics.specs.Value.{OpenSelector, ValueOfSort, TableOfSelector, open_selector, IsScriptInterpretation, AgreeFor, AgreeAt, AgreeOn, AgreeOnOpen, applied_selectors, is_table, are_others, is_entry_given, is_open_given, is_selector_given}
+use Rattle.smt_lines.specs.Naming.{type_sort}
+use Rattle.smt_lines.specs.NameTables.{Tables}
+use Rattle.smt_lines.specs.EntryNames.{selector_name}
+use Rattle.smt_carrying.specs.CarriedOperators.{selector_constructor}
+use Rattle.smt_carrying.specs.CarriedInterpretations.{ip_type, is_range_selector, IsGivenRange, GiveRangeSame, IsScriptGiven, GivesReachedNames, GiveNameSame, AgreeOnNames}
+use Rattle.smt_carrying.specs.Open.{Occurs, IsOpenEntry, IsOpenHere, IsOpenSelection, GivenNamesInterpret, NamesAgree}
 use Rattle.std.proofs.lemmas.List.Elements.{All-from_recursion}
 
 -- what holds of each holds of one that occurs
@@ -48,14 +49,19 @@ module _ (s : Tables) (ts : List PlainTerm) (state : State) where
         (λ i. is_table (entries state) (v.argument_sorted i) (v.sorted i) (J.functions (v.named i))) ∙ given (Application (UufOp v.function) v.arguments v.type) v.reached
     entry_given n x v = refl
 
-    selector_given : (n : List ℕ) (sort : Expression) (x : Entry) → IsOpenSelection s (reached_terms ts) n sort x → IsTrue (is_selector_given J (entries state) n sort x)
-    selector_given n sort (Selects d [] c place field) v =
+    open_given : (n : List ℕ) (sort : Expression) (d : List ℕ) (ps : List (List ℕ)) (c : List ℕ) (place : ℕ) (field : Expression) (o : Option OpenSelector) → IsOpenHere s (reached_terms ts) n sort d ps c field o
+        → IsTrue (is_open_given J (entries state) n sort (Selects d ps c place field) o)
+    open_given n sort d ps c place field (Some TableOfSelector) v =
         let g : IsGivenRange s (entries state) J v.selector true = range_given s (entries state) J v.selector (is_range_selector v.selector) refl v.ranges (given (Application (ExtOp v.selector) v.arguments v.type) v.reached) in
         (λ i. is_table (entries state) (v.argument_sorted i) (v.sorted i) (J.selectors (v.named i)) && are_others (v.constructs i) (J.selectors (v.named i)).pairs)
-        ∙ and_from (is_table (entries state) (sort_of s ip_type) (sort_of s (extension_signature v.selector).1) (J.selectors (selector_name v.selector))) (are_others (selector_constructor v.selector) (J.selectors (selector_name v.selector)).pairs)
+        ∙ and_from (is_table (entries state) (type_sort s ip_type) (type_sort s (extension_signature v.selector).1) (J.selectors (selector_name v.selector))) (are_others (selector_constructor v.selector) (J.selectors (selector_name v.selector)).pairs)
         g.0 g.1
-    selector_given n sort (Selects d (p ∷ ps) c place field) v =
-        (λ i. is_selector_given J (entries state) n (v.argument_sorted i) (Selects (v.datatype i) (v.parameters i) c place (v.sorted i))) ∙ given (Application OptionGetOp v.arguments v.type) v.reached
+    open_given n sort d ps c place field (Some ValueOfSort) v =
+        (λ i. is_open_given J (entries state) n (v.argument_sorted i) (Selects (v.datatype i) (v.parameters i) c place (v.sorted i)) (Some ValueOfSort)) ∙ given (Application OptionGetOp v.arguments v.type) v.reached
+    open_given n sort d ps c place field None v = refl
+
+    selector_given : (n : List ℕ) (sort : Expression) (x : Entry) → IsOpenSelection s (reached_terms ts) n sort x → IsTrue (is_selector_given J (entries state) n sort x)
+    selector_given n sort (Selects d ps c place field) v = open_given n sort d ps c place field (open_selector n d ps) v
     selector_given n sort x v = refl
 
   module _ (J K : script.ScriptInterpretation) (h : AgreeOnNames s ts J K) where
@@ -67,10 +73,14 @@ module _ (s : Tables) (ts : List PlainTerm) (state : State) where
     entry_agrees n (Function argument sort) v = subst (λ m. J.functions m ≡ K.functions m) (sym v.named) (agreed (Application (UufOp v.function) v.arguments v.type) v.reached)
     entry_agrees n x v = tt
 
-    selector_agrees : (n : List ℕ) (sort : Expression) (x : Entry) → IsOpenSelection s (reached_terms ts) n sort x → AgreeOn J K n sort x
-    selector_agrees n sort (Selects d [] c place field) v =
+    open_agrees : (n : List ℕ) (sort : Expression) (d : List ℕ) (ps : List (List ℕ)) (c : List ℕ) (field : Expression) (o : Option OpenSelector) → IsOpenHere s (reached_terms ts) n sort d ps c field o → AgreeOnOpen J K n sort o
+    open_agrees n sort d ps c field (Some TableOfSelector) v =
         subst (λ m. J.selectors m ≡ K.selectors m) (sym v.named) (range_same J K v.selector (is_range_selector v.selector) v.ranges (agreed (Application (ExtOp v.selector) v.arguments v.type) v.reached))
-    selector_agrees n sort (Selects d (p ∷ ps) c place field) v = subst (λ m. J.options m ≡ K.options m) (sym v.argument_sorted) (agreed (Application OptionGetOp v.arguments v.type) v.reached)
+    open_agrees n sort d ps c field (Some ValueOfSort) v = subst (λ m. J.options m ≡ K.options m) (sym v.argument_sorted) (agreed (Application OptionGetOp v.arguments v.type) v.reached)
+    open_agrees n sort d ps c field None v = tt
+
+    selector_agrees : (n : List ℕ) (sort : Expression) (x : Entry) → IsOpenSelection s (reached_terms ts) n sort x → AgreeOn J K n sort x
+    selector_agrees n sort (Selects d ps c place field) v = open_agrees n sort d ps c field (open_selector n d ps) v
     selector_agrees n sort x v = tt
 
 pub names_interpret : GivenNamesInterpret

@@ -16,11 +16,11 @@ use Rattle.smt_term.specs.TypeValues.{IsValue, Enums}
 use Rattle.smt_term.specs.ValueOrder.{value_eq, set_of}
 use Rattle.smt_term.proofs.TypeOrder.{eq_same}
 use Rattle.smt_semantics.specs.Value.{on_truth, on_truths, on_two, choice, on_bits, extended, on_two_bits, in_set, on_sets, on_text, operator_value}
-use Rattle.smt_semantics.specs.Order as sets
-use Rattle.smt_lines.specs.Lines.{Tables}
+use Rattle.smt_semantics.specs.ScriptOrder as sets
+use Rattle.smt_lines.specs.NameTables.{Tables}
 use Rattle.smt_carrying.specs.Carry.{carry}
-use Rattle.smt_carrying.specs.Order.{AreEnums}
-use Rattle.smt_carrying.specs.Operators.{AreValues, carry_each, is_script_operator}
+use Rattle.smt_carrying.specs.CarriedOrder.{AreEnums}
+use Rattle.smt_carrying.specs.CarriedOperators.{AreValues, carry_each, is_script_operator}
 use Rattle.smt_carrying.proofs.Ordered.{same_values}
 use Rattle.smt_carrying.proofs.Sets.{member_carried, subset_carried, intersected}
 use Rattle.smt_term.proofs.Soundness.{inside, chosen}

@@ -2,7 +2,7 @@
 use Rattle.std.proofs.Common.{◌≡◌, ℕ, suc, ◌-◌, ◌^◌, ◌<◌, true, List, ◌∷◌, map, refl, sym, ap, ◌∙◌, arith}
 use Rattle.std.specs.Prelude.{ℤ, pos, negsuc, codes, Option, Some, None, IfSome}
 use Rattle.std.specs.Str.{chars}
-use Rattle.std.specs.Cmp.{nat_cmp_is}
+use Rattle.std.specs.Cmp.{nat_cmp_is, Equal-is, first_so, second_so}
 use Rattle.std.specs.FinMap.{nat_cmp-IsAntisymmetric}
 use Rattle.std.specs.Option.{option_cmp}
 use Rattle.std.specs.Ordering.{nat_cmp, ordering_then, ordering_reverse, is_eq, is_lt}
@@ -15,20 +15,18 @@ use Rattle.smt_term.specs.Plain.{ExtensionKind, IpAddrKind, DecimalKind, Datetim
 use Rattle.smt_term.specs.Values.{Value, BoolValue, BitVecValue, StringValue, EntityValue, ExtensionValue, NoneValue, SomeValue, RecordValue, SetValue, Values, no_values, one_value, FieldValues, no_field_values, one_field_value}
 use Rattle.smt_semantics.specs.ScriptValues.{ScriptValue, BitsOf, TextOf, ConstructorOf, ScriptValues, no_script_values, one_script_value}
 use Rattle.smt_term.specs.TypeValues.{IsValue, AreFieldValues, IsExtension, IsId, IsLong, Enums, members_of}
-use Rattle.smt_term.specs.ValueOrder.{text_cmp, twos_complement_cmp, extension_cmp, value_cmp, values_cmp, field_values_cmp, list_of_values}
+use Rattle.smt_term.specs.ValueOrder.{text_cmp, twos_complement_cmp, extension_cmp, value_cmp, values_cmp, field_values_cmp, list_of_values, value_eq, ascends}
 use Rattle.std.specs.List.{AllByRecursion}
-use Rattle.smt_term.proofs.ValueOrder.{text_itself}
-use Rattle.std.specs.Cmp.{Equal-is, first_so, second_so}
+use Rattle.smt_term.proofs.ValueOrder.{text_itself, value_same}
 use Rattle.std.proofs.lemmas.Bool.{and_from}
-use Rattle.smt_semantics.specs.Order as script
+use Rattle.smt_semantics.specs.ScriptOrder as script
 use Rattle.smt_semantics.proofs.Ranks.{same_is_equal}
-use Rattle.smt_term.specs.ValueOrder.{value_eq, ascends}
-use Rattle.smt_term.proofs.ValueOrder.{value_same}
-use Rattle.smt_semantics.specs.Order.{order, order_each, same}
-use Rattle.smt_lines.specs.Lines.{Tables, place_of, member_name}
+use Rattle.smt_semantics.specs.ScriptOrder.{order, order_each, same}
+use Rattle.smt_lines.specs.EntryNames.{place_of, member_name}
+use Rattle.smt_lines.specs.NameTables.{Tables}
 use Rattle.smt_lines.specs.Naming.{type_name}
 use Rattle.smt_carrying.specs.Carry.{alone, carry_prefix, carry_extension, carry_entity, carry, carry_values, carry_fields}
-use Rattle.smt_carrying.specs.Order.{AreMembers, AreEnums}
+use Rattle.smt_carrying.specs.CarriedOrder.{AreMembers, AreEnums}
 use Rattle.smt_carrying.proofs.Orderings.{then_none, nat_less}
 use Rattle.smt_carrying.proofs.Members.{members_found, ascends_chars, any_chars, places_ordered}
 

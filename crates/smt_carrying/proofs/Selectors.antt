@@ -14,18 +14,18 @@ use Rattle.smt_term.specs.Tables.{Table, Interpretation, value_among, value_at}
 use Rattle.smt_term.specs.Types.{attribute_in, extension_signature}
 use Rattle.smt_term.specs.TypeValues.{IsValue, AreFieldValues, Enums}
 use Rattle.smt_term.specs.ValueOrder.{value_eq, value_cmp}
-use Rattle.smt_term.proofs.ValueOrder.{value_turned}
+use Rattle.smt_term.proofs.ValueOrder.{value_turned, bytes_itself}
 use Rattle.smt_term.specs.Formed.{attribute_names}
 use Rattle.smt_sexpr.specs.Reading.{Expression}
 use Rattle.smt_semantics.specs.Script.{Builds}
 use Rattle.smt_semantics.specs.Value as script
-use Rattle.smt_semantics.specs.Value.{in_pairs, in_table, selected, is_built, other_value}
-use Rattle.smt_lines.specs.Lines.{Tables, place_of}
+use Rattle.smt_semantics.specs.Value.{in_pairs, in_table, selected, is_built, open_selector, other_value}
+use Rattle.smt_lines.specs.EntryNames.{place_of, selector_name}
+use Rattle.smt_lines.specs.NameTables.{Tables}
 use Rattle.smt_lines.specs.Naming.{type_name}
 use Rattle.smt_carrying.specs.Carry.{carry, carry_fields, carry_prefix, alone}
-use Rattle.smt_carrying.specs.Order.{AreEnums}
-use Rattle.smt_carrying.specs.Operators.{carry_table, selector_constructor, selector_place, is_selector, carry_selector, AreRanges, selector_name}
-use Rattle.smt_term.proofs.ValueOrder.{bytes_itself}
+use Rattle.smt_carrying.specs.CarriedOrder.{AreEnums}
+use Rattle.smt_carrying.specs.CarriedOperators.{carry_table, selector_datatype, selector_constructor, selector_place, is_selector, carry_selector, AreRanges}
 use Rattle.smt_carrying.proofs.Ordered.{same_values}
 
 reversed : (o : Ordering) → is_eq (ordering_reverse o) ≡ is_eq o
@@ -37,9 +37,9 @@ eq_turned : (v w : Value) → value_eq v w ≡ value_eq w v
 eq_turned v w = ap is_eq (value_turned v w) ∙ reversed (value_cmp w v)
 
 -- a constructor's own selector
-selected_own : (j : script.ScriptInterpretation) (n : List ℕ) (ps : List (List ℕ)) (c : List ℕ) (place q : ℕ) (sort : Option Expression) (vs : ScriptValues)
-    → selected j n ps c place sort (ConstructorOf q c vs) ≡ script.value_at place vs
-selected_own j n ps c place q sort vs = ap (λ b. cond b (script.value_at place vs) (other_value j n ps sort (ConstructorOf q c vs))) (bytes_itself c)
+selected_own : (j : script.ScriptInterpretation) (n d : List ℕ) (ps : List (List ℕ)) (c : List ℕ) (place q : ℕ) (sort : Option Expression) (vs : ScriptValues)
+    → selected j n d ps c place sort (ConstructorOf q c vs) ≡ script.value_at place vs
+selected_own j n d ps c place q sort vs = ap (λ b. cond b (script.value_at place vs) (other_value j n (open_selector n d ps) sort (ConstructorOf q c vs))) (bytes_itself c)
 
 module _ (enums : Enums) (s : Tables) where
   field_selected : (x : List ℕ) (shape : AttributeTypes) (fs : FieldValues) (t : PlainType) → AreFieldValues enums shape fs → attribute_in x shape ≡ Some t
@@ -57,19 +57,19 @@ module _ (enums : Enums) (s : Tables) where
       by true false g k again = cc
       by false true g k again = cc
 
-  pub attribute_selected : (j : script.ScriptInterpretation) (n x : List ℕ) (ps : List (List ℕ)) (sort : Option Expression) (shape : AttributeTypes) (t : PlainType) (v : Value)
+  pub attribute_selected : (j : script.ScriptInterpretation) (n x d : List ℕ) (ps : List (List ℕ)) (sort : Option Expression) (shape : AttributeTypes) (t : PlainType) (v : Value)
       → IsValue enums (RecordType shape) v → attribute_in x shape ≡ Some t
-      → selected j n ps (type_name s (RecordType shape)) (place_of x (attribute_names shape)) sort (carry enums s (RecordType shape) v) ≡ Some (carry enums s t (attribute_value x v))
-  attribute_selected j n x ps sort shape t (RecordValue fs) h e =
-      selected_own j n ps (type_name s (RecordType shape)) (place_of x (attribute_names shape)) 0 sort (carry_fields enums s shape fs) ∙ field_selected x shape fs t h e
-  attribute_selected j n x ps sort shape t v h e = absurd h
+      → selected j n d ps (type_name s (RecordType shape)) (place_of x (attribute_names shape)) sort (carry enums s (RecordType shape) v) ≡ Some (carry enums s t (attribute_value x v))
+  attribute_selected j n x d ps sort shape t (RecordValue fs) h e =
+      selected_own j n d ps (type_name s (RecordType shape)) (place_of x (attribute_names shape)) 0 sort (carry_fields enums s shape fs) ∙ field_selected x shape fs t h e
+  attribute_selected j n x d ps sort shape t v h e = absurd h
 
-  pub option_selected : (I : Interpretation) (j : script.ScriptInterpretation) (n p : List ℕ) (sort : Expression) (t : PlainType) (v : Value)
+  pub option_selected : (I : Interpretation) (j : script.ScriptInterpretation) (p : List ℕ) (sort : Expression) (t : PlainType) (v : Value)
       → IsValue enums (OptionType t) v → j.options sort ≡ carry enums s t (I.inside_none t)
-      → selected j n (p ∷ []) (codes "some") 0 (Some sort) (carry enums s (OptionType t) v) ≡ Some (carry enums s t (value_inside (I.inside_none t) v))
-  option_selected I j n p sort t NoneValue h e = ap (λ x. Some x) e
-  option_selected I j n p sort t (SomeValue v) h e = refl
-  option_selected I j n p sort t v h e = absurd h
+      → selected j (codes "val") (codes "Option") (p ∷ []) (codes "some") 0 (Some sort) (carry enums s (OptionType t) v) ≡ Some (carry enums s t (value_inside (I.inside_none t) v))
+  option_selected I j p sort t NoneValue h e = ap (λ x. Some x) e
+  option_selected I j p sort t (SomeValue v) h e = refl
+  option_selected I j p sort t v h e = absurd h
 
   module _ (good : AreEnums enums) (argument output : PlainType) where
     pairs_read : (es : List (Value × Value)) (default v : Value) → AllByRecursion (λ e. IsValue enums argument e.0) es → IsValue enums argument v
@@ -100,7 +100,7 @@ module _ (enums : Enums) (s : Tables) where
 
     pub extension_selected : (o : ExtensionOp) (sort : Expression) (v : Value)
         → is_selector o ≡ true → IsValue enums (extension_signature o).0 v → AreRanges enums (I.other_family o) → j.selectors (selector_name o) ≡ carry_selector enums s I o
-        → selected j (selector_name o) [] (selector_constructor o) (selector_place o) (Some sort) (carry enums s (extension_signature o).0 v) ≡ Some (carry enums s (extension_signature o).1 (apply_extension I o v))
+        → selected j (selector_name o) (selector_datatype o) [] (selector_constructor o) (selector_place o) (Some sort) (carry enums s (extension_signature o).0 v) ≡ Some (carry enums s (extension_signature o).1 (apply_extension I o v))
     extension_selected DatetimeOfBitVecOp sort v o h r e = cc
     extension_selected DurationOfBitVecOp sort v o h r e = cc
     extension_selected IpIsV4Op sort v o h r e = cc

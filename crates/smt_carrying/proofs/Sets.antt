@@ -16,13 +16,13 @@ use Rattle.smt_term.specs.ValueOrder.{value_cmp, is_below, ascends, sorted_value
 use Rattle.smt_term.specs.Operators as terms
 use Rattle.smt_term.proofs.TotalOrder.{values_total}
 use Rattle.smt_term.proofs.SortedValues.{all-sorted}
-use Rattle.smt_semantics.specs.Order as script
-use Rattle.smt_semantics.specs.Order.{order, put}
+use Rattle.smt_semantics.specs.ScriptOrder as script
+use Rattle.smt_semantics.specs.ScriptOrder.{order, put}
 use Rattle.smt_semantics.specs.Script.{◌>>=◌}
 use Rattle.smt_semantics.specs.Value.{inserted, put_into}
-use Rattle.smt_lines.specs.Lines.{Tables}
+use Rattle.smt_lines.specs.NameTables.{Tables}
 use Rattle.smt_carrying.specs.Carry.{carry, carry_values}
-use Rattle.smt_carrying.specs.Order.{AreEnums}
+use Rattle.smt_carrying.specs.CarriedOrder.{AreEnums}
 use Rattle.smt_carrying.proofs.Orderings.{less_is}
 use Rattle.smt_carrying.proofs.Ordered.{keeps, same_values}
 

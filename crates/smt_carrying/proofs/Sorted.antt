@@ -13,20 +13,21 @@ use Rattle.smt_term.specs.TypeValues.{is_code_point, greatest_code_point, IsValu
 use Rattle.smt_term.specs.ValueOrder.{list_of_values}
 use Rattle.smt_bits.specs.Widths.{is_width, are_bits}
 use Rattle.smt_sexpr.specs.Lexicon.{Name}
-use Rattle.smt_semantics.specs.Order as script
+use Rattle.smt_semantics.specs.ScriptOrder as script
 use Rattle.smt_sexpr.specs.Reading.{Expression, Leaf, Node, Expressions, Nil, Cons}
 use Rattle.smt_semantics.specs.Script.{name, ◌>>=◌}
 use Rattle.smt_semantics.specs.Sorts.{Entries, string_sort, bit_sort, same_sort, paired, instance, instances, fields_at, constructor_fields, has_sort_in, have_sorts_in, all_have_sort_in, option_sort}
-use Rattle.smt_lines.specs.Entries.{sorts_of}
-use Rattle.smt_lines.specs.Lines.{Tables, place_of, member_name}
-use Rattle.smt_lines.specs.Naming.{type_name, sort_of}
+use Rattle.smt_lines.specs.Entries.{attribute_sorts}
+use Rattle.smt_lines.specs.EntryNames.{place_of, member_name}
+use Rattle.smt_lines.specs.NameTables.{Tables}
+use Rattle.smt_lines.specs.Naming.{type_name, type_sort}
 use Rattle.smt_carrying.specs.Carry.{alone, carry_prefix, carry_extension, carry_entity, carry, carry_values, carry_fields}
-use Rattle.smt_carrying.specs.Order.{AreEnums}
-use Rattle.smt_carrying.specs.Sorts.{member_constructors, entity_constructors, kind_constructors, option_constructors, IsDatatype, StandsAlways, IsNamed, IsDeclared, AreDeclared}
+use Rattle.smt_carrying.specs.CarriedOrder.{AreEnums}
+use Rattle.smt_carrying.specs.CarriedSorts.{shown_members, shown_entity, shown_kind, shown_option, IsDatatype, DeclaresOption, IsNamed, TypeIsDeclared, AttributesAreDeclared}
 use Rattle.smt_carrying.proofs.Ordered.{stays_sorted}
 use Rattle.smt_term.proofs.ValueOrder.{bytes_itself}
 use Rattle.std.proofs.lemmas.Slice.Eq.{bytes_eq-Decides}
-use Rattle.smt_semantics.specs.Growth.{Constructors, at_place}
+use Rattle.smt_semantics.specs.DeclarationLines.{Constructors, at_place}
 
 -- ---- tests from facts
 
@@ -91,13 +92,13 @@ module _ (here : Entries) where
   -- ---- members
 
   member_at : (n : List ℕ) (from : ℕ) (ms : List (List ℕ)) (i : List ℕ) → list_any (λ m. bytes_eq (chars m) i) ms ≡ true
-      → at_place (member_constructors n from ms) (place_of i (map chars ms)) ≡ Some (member_name n (from + place_of i (map chars ms)), [])
+      → at_place (shown_members n from ms) (place_of i (map chars ms)) ≡ Some (member_name n (from + place_of i (map chars ms)), [])
   member_at n from [] i h = cc
   member_at n from (m ∷ ms) i h = by (bytes_eq i (chars m)) refl (λ e. member_at n (suc from) ms i e)
     where
       by : (b : Bool) → bytes_eq i (chars m) ≡ b
-          → (list_any (λ x. bytes_eq (chars x) i) ms ≡ true → at_place (member_constructors n (suc from) ms) (place_of i (map chars ms)) ≡ Some (member_name n (suc from + place_of i (map chars ms)), []))
-          → at_place (member_constructors n from (m ∷ ms)) (cond b 0 (suc (place_of i (map chars ms)))) ≡ Some (member_name n (from + cond b 0 (suc (place_of i (map chars ms)))), [])
+          → (list_any (λ x. bytes_eq (chars x) i) ms ≡ true → at_place (shown_members n (suc from) ms) (place_of i (map chars ms)) ≡ Some (member_name n (suc from + place_of i (map chars ms)), []))
+          → at_place (shown_members n from (m ∷ ms)) (cond b 0 (suc (place_of i (map chars ms)))) ≡ Some (member_name n (from + cond b 0 (suc (place_of i (map chars ms)))), [])
       by true e again = ap (λ k. Some (member_name n k, [])) (let p : from ≡ from + 0 = omega arith in p)
       by false e again = again (later (bytes_eq (chars m) i) refl) ∙ ap (λ k. Some (member_name n k, [])) (let p : suc from + place_of i (map chars ms) ≡ from + suc (place_of i (map chars ms)) = omega arith in p)
         where
@@ -105,19 +106,19 @@ module _ (here : Entries) where
           later false f = sym (ap (λ b. b || list_any (λ x. bytes_eq (chars x) i) ms) f) ∙ h
           later true f = absurd (let g : chars m ≡ i = (bytes_eq-Decides (chars m) i).0 f in let k : bytes_eq i (chars m) ≡ true = ap (λ x. bytes_eq i x) g ∙ bytes_itself i in let z : true ≡ false = sym k ∙ e in cc)
 
-  entity_sorted : (members : Option (List (List ℕ))) (n i : List ℕ) → IsNamed here n (entity_constructors members n) → IsId members i → has_sort_in here (name n) (carry_entity members n i) ≡ true
-  entity_sorted None n i x h = built_named n (entity_constructors None n) 0 n (string_sort ∷ []) (alone (TextOf i)) x refl (and_from (list_all is_code_point i) true (code_points i h) refl)
+  entity_sorted : (members : Option (List (List ℕ))) (n i : List ℕ) → IsNamed here n (shown_entity members n) → IsId members i → has_sort_in here (name n) (carry_entity members n i) ≡ true
+  entity_sorted None n i x h = built_named n (shown_entity None n) 0 n (string_sort ∷ []) (alone (TextOf i)) x refl (and_from (list_all is_code_point i) true (code_points i h) refl)
   entity_sorted (Some members) n i x h =
-      built_named n (entity_constructors (Some members) n) (place_of i (map chars members)) (member_name n (place_of i (map chars members))) [] no_script_values x
+      built_named n (shown_entity (Some members) n) (place_of i (map chars members)) (member_name n (place_of i (map chars members))) [] no_script_values x
       (member_at n 0 members i h ∙ ap (λ k. Some (member_name n k, [])) (let p : 0 + place_of i (map chars members) ≡ place_of i (map chars members) = omega arith in p)) refl
 
-  module _ (always : StandsAlways here) where
+  module _ (always : DeclaresOption here) where
     pub none_sorted : (sort : Expression) → has_sort_in here (option_sort sort) (ConstructorOf 0 (codes "none") no_script_values) ≡ true
-    none_sorted sort = built (codes "Option") (codes "X" ∷ []) option_constructors 0 (codes "none") [] [] (option_sort sort) no_script_values always.options refl refl refl
+    none_sorted sort = built (codes "Option") (codes "X" ∷ []) shown_option 0 (codes "none") [] [] (option_sort sort) no_script_values always.options refl refl refl
 
     pub some_sorted : (sort : Expression) (x : ScriptValue) → has_sort_in here sort x ≡ true → has_sort_in here (option_sort sort) (ConstructorOf 1 (codes "some") (alone x)) ≡ true
     some_sorted sort x h =
-        built (codes "Option") (codes "X" ∷ []) option_constructors 1 (codes "some") (name (codes "X") ∷ []) (sort ∷ []) (option_sort sort) (alone x) always.options refl refl (and_from (has_sort_in here sort x) true h refl)
+        built (codes "Option") (codes "X" ∷ []) shown_option 1 (codes "some") (name (codes "X") ∷ []) (sort ∷ []) (option_sort sort) (alone x) always.options refl refl (and_from (has_sort_in here sort x) true h refl)
 
     width_itself : (width a : ℕ) → are_bits width a ≡ true → has_sort_in here (bit_sort width) (BitsOf width a) ≡ true
     width_itself width a h = and_from (same_sort (bit_sort width) (bit_sort width)) (are_bits width a) (and_from (width == width) true (eq-eqb width width refl) refl) h
@@ -135,21 +136,21 @@ module _ (here : Entries) where
         and_from (has_sort_in here (bit_sort width) (BitsOf width a)) (have_sorts_in here (option_sort (bit_sort bits) ∷ []) (alone (carry_prefix bits p))) (width_itself width a (bits_from width a w w' h))
         (and_from (has_sort_in here (option_sort (bit_sort bits)) (carry_prefix bits p)) true (prefix_sorted bits p b b' k) refl)
 
-    extension_sorted : (kind : ExtensionKind) (n : List ℕ) (x : PlainExtension) → IsNamed here n (kind_constructors kind) → IsExtension kind x → has_sort_in here (name n) (carry_extension x) ≡ true
-    extension_sorted DecimalKind n (DecimalOf z) d h = built_named n (kind_constructors DecimalKind) 0 (codes "Decimal") (bit_sort 64 ∷ []) (alone (BitsOf 64 (bits_of 64 z))) d refl (long_sorted z)
-    extension_sorted DatetimeKind n (DatetimeOf z) d h = built_named n (kind_constructors DatetimeKind) 0 (codes "Datetime") (bit_sort 64 ∷ []) (alone (BitsOf 64 (bits_of 64 z))) d refl (long_sorted z)
-    extension_sorted DurationKind n (DurationOf z) d h = built_named n (kind_constructors DurationKind) 0 (codes "Duration") (bit_sort 64 ∷ []) (alone (BitsOf 64 (bits_of 64 z))) d refl (long_sorted z)
+    extension_sorted : (kind : ExtensionKind) (n : List ℕ) (x : PlainExtension) → IsNamed here n (shown_kind kind) → IsExtension kind x → has_sort_in here (name n) (carry_extension x) ≡ true
+    extension_sorted DecimalKind n (DecimalOf z) d h = built_named n (shown_kind DecimalKind) 0 (codes "Decimal") (bit_sort 64 ∷ []) (alone (BitsOf 64 (bits_of 64 z))) d refl (long_sorted z)
+    extension_sorted DatetimeKind n (DatetimeOf z) d h = built_named n (shown_kind DatetimeKind) 0 (codes "Datetime") (bit_sort 64 ∷ []) (alone (BitsOf 64 (bits_of 64 z))) d refl (long_sorted z)
+    extension_sorted DurationKind n (DurationOf z) d h = built_named n (shown_kind DurationKind) 0 (codes "Duration") (bit_sort 64 ∷ []) (alone (BitsOf 64 (bits_of 64 z))) d refl (long_sorted z)
     extension_sorted IpAddrKind n (Ipv4Of a p) d h =
-        built_named n (kind_constructors IpAddrKind) 0 (codes "V4") (bit_sort 32 ∷ option_sort (bit_sort 5) ∷ []) (one_script_value (BitsOf 32 a) (alone (carry_prefix 5 p))) d refl
+        built_named n (shown_kind IpAddrKind) 0 (codes "V4") (bit_sort 32 ∷ option_sort (bit_sort 5) ∷ []) (one_script_value (BitsOf 32 a) (alone (carry_prefix 5 p))) d refl
         (address_sorted 32 5 a p (omega arith) (omega arith) (omega arith) (omega arith) h.0 h.1)
     extension_sorted IpAddrKind n (Ipv6Of a p) d h =
-        built_named n (kind_constructors IpAddrKind) 1 (codes "V6") (bit_sort 128 ∷ option_sort (bit_sort 7) ∷ []) (one_script_value (BitsOf 128 a) (alone (carry_prefix 7 p))) d refl
+        built_named n (shown_kind IpAddrKind) 1 (codes "V6") (bit_sort 128 ∷ option_sort (bit_sort 7) ∷ []) (one_script_value (BitsOf 128 a) (alone (carry_prefix 7 p))) d refl
         (address_sorted 128 7 a p (omega arith) (omega arith) (omega arith) (omega arith) h.0 h.1)
     extension_sorted kind n x d h = absurd h
 
     module _ (enums : Enums) (s : Tables) (good : AreEnums enums) where
       mutual
-        pub sorted_value : (ty : PlainType) (v : Value) → IsDeclared enums s here ty → IsValue enums ty v → has_sort_in here (sort_of s ty) (carry enums s ty v) ≡ true
+        pub sorted_value : (ty : PlainType) (v : Value) → TypeIsDeclared enums s here ty → IsValue enums ty v → has_sort_in here (type_sort s ty) (carry enums s ty v) ≡ true
         sorted_value BoolType (BoolValue b) d h = refl
         sorted_value BoolType v d h = absurd h
         sorted_value (BitVecType n) (BitVecValue m a) d h = subst (λ x. has_sort_in here (bit_sort n) (BitsOf x a) ≡ true) (sym h.0) (width_itself n a (bits_from n a d.0 d.1 h.1))
@@ -162,21 +163,21 @@ module _ (here : Entries) where
         sorted_value (EntityType e) v d h = absurd h
         sorted_value (ExtensionType kind) (ExtensionValue x) d h = extension_sorted kind (type_name s (ExtensionType kind)) x d h
         sorted_value (ExtensionType kind) v d h = absurd h
-        sorted_value (OptionType t) NoneValue d h = none_sorted (sort_of s t)
-        sorted_value (OptionType t) (SomeValue v) d h = some_sorted (sort_of s t) (carry enums s t v) (sorted_value t v d h)
+        sorted_value (OptionType t) NoneValue d h = none_sorted (type_sort s t)
+        sorted_value (OptionType t) (SomeValue v) d h = some_sorted (type_sort s t) (carry enums s t v) (sorted_value t v d h)
         sorted_value (OptionType t) v d h = absurd h
         sorted_value (RecordType x) (RecordValue fs) d h =
-            built_named (type_name s (RecordType x)) ((type_name s (RecordType x), sorts_of s x) ∷ []) 0 (type_name s (RecordType x)) (sorts_of s x) (carry_fields enums s x fs) d.0 refl (sorted_fields x fs d.1 h)
+            built_named (type_name s (RecordType x)) ((type_name s (RecordType x), attribute_sorts s x) ∷ []) 0 (type_name s (RecordType x)) (attribute_sorts s x) (carry_fields enums s x fs) d.0 refl (sorted_fields x fs d.1 h)
         sorted_value (RecordType x) v d h = absurd h
-        sorted_value (SetType t) (SetValue vs) d h = and_from (all_have_sort_in here (sort_of s t) (carry_values enums s t vs)) (script.ascends (carry_values enums s t vs)) (sorted_each t vs d h.1) (stays_sorted enums s good t vs h.0 h.1)
+        sorted_value (SetType t) (SetValue vs) d h = and_from (all_have_sort_in here (type_sort s t) (carry_values enums s t vs)) (script.ascends (carry_values enums s t vs)) (sorted_each t vs d h.1) (stays_sorted enums s good t vs h.0 h.1)
         sorted_value (SetType t) v d h = absurd h
 
-        sorted_each : (t : PlainType) (vs : Values) → IsDeclared enums s here t → AllByRecursion (λ v. IsValue enums t v) (list_of_values vs) → all_have_sort_in here (sort_of s t) (carry_values enums s t vs) ≡ true
+        sorted_each : (t : PlainType) (vs : Values) → TypeIsDeclared enums s here t → AllByRecursion (λ v. IsValue enums t v) (list_of_values vs) → all_have_sort_in here (type_sort s t) (carry_values enums s t vs) ≡ true
         sorted_each t no_values d h = refl
-        sorted_each t (one_value v vs) d h = and_from (has_sort_in here (sort_of s t) (carry enums s t v)) (all_have_sort_in here (sort_of s t) (carry_values enums s t vs)) (sorted_value t v d h.0) (sorted_each t vs d h.1)
+        sorted_each t (one_value v vs) d h = and_from (has_sort_in here (type_sort s t) (carry enums s t v)) (all_have_sort_in here (type_sort s t) (carry_values enums s t vs)) (sorted_value t v d h.0) (sorted_each t vs d h.1)
 
-        sorted_fields : (x : AttributeTypes) (fs : FieldValues) → AreDeclared enums s here x → AreFieldValues enums x fs → have_sorts_in here (sorts_of s x) (carry_fields enums s x fs) ≡ true
+        sorted_fields : (x : AttributeTypes) (fs : FieldValues) → AttributesAreDeclared enums s here x → AreFieldValues enums x fs → have_sorts_in here (attribute_sorts s x) (carry_fields enums s x fs) ≡ true
         sorted_fields no_attributes no_field_values d h = refl
         sorted_fields no_attributes fs d h = absurd h
-        sorted_fields (attribute a t x) (one_field_value b v fs) d h = and_from (has_sort_in here (sort_of s t) (carry enums s t v)) (have_sorts_in here (sorts_of s x) (carry_fields enums s x fs)) (sorted_value t v d.0 h.1) (sorted_fields x fs d.1 h.2)
+        sorted_fields (attribute a t x) (one_field_value b v fs) d h = and_from (has_sort_in here (type_sort s t) (carry enums s t v)) (have_sorts_in here (attribute_sorts s x) (carry_fields enums s x fs)) (sorted_value t v d.0 h.1) (sorted_fields x fs d.1 h.2)
         sorted_fields (attribute a t x) fs d h = absurd h

@@ -1,9 +1,8 @@
 -- What carrying asks of a script can be met.
-use Rattle.std.proofs.Common.{◌≡◌, ℕ, zero, suc, ◌+◌, Bool, true, false, cond, List, [], ◌∷◌, ◌++◌, map, refl, sym, ap, ◌∙◌, subst, arith}
+use Rattle.std.proofs.Common.{◌≡◌, ℕ, zero, suc, ◌+◌, Bool, true, false, cond, List, [], ◌∷◌, ◌++◌, map, refl, sym, ap, ◌∙◌, subst, arith, rules}
 use Rattle.std.specs.Prelude.{codes, bytes_eq, Option, Some, None, unwrap_or}
 use Rattle.std.specs.List.{AllByRecursion}
 use Rattle.std.proofs.lemmas.Str.{IsUtf8-from_ascii}
-use Rattle.std.proofs.Common.{rules}
 use Rattle.std.proofs.lemmas.Slice.Eq.{bytes_eq-Decides}
 use Rattle.smt_sexpr.specs.Reading.{Expression}
 use Rattle.smt_semantics.specs.Script.{Constructor, Entry, Builds, Selects, look_up, names_of, names_below}
@@ -11,9 +10,9 @@ use Rattle.smt_semantics.specs.Meanings.{selectors_named, constructors_named}
 use Rattle.smt_semantics.proofs.Grown.{datatypes_declare}
 use Rattle.smt_term.proofs.Soundness.{all-front, all-back}
 use Rattle.smt_semantics.specs.Sorts.{Entries}
-use Rattle.smt_semantics.specs.Growth.{Declares, Constructors, at_place, shown}
-use Rattle.smt_carrying.specs.Sorts.{IsNoDatatype}
-use Rattle.smt_carrying.specs.Standing.{BuildsRightly, option_declared, color_declared, color_state, BuildsOther, DatatypesStand, NewDatatypesStand, ColorsStand}
+use Rattle.smt_semantics.specs.DeclarationLines.{Declares, Constructors, at_place, shown}
+use Rattle.smt_carrying.specs.CarriedSorts.{IsNoDatatype}
+use Rattle.smt_carrying.specs.DeclaredDatatypes.{BuildsRightly, option_declared, color_declared, color_state, BuildsOther, DatatypesAreDeclared, NewDatatypesAreDeclared, ColorsAreDeclared}
 
 -- what holds of each entry holds of the one that a name has
 pub of_entry : (P : List ℕ → Entry → Type 0) (names : List (List ℕ × Entry)) → AllByRecursion (λ p. P p.0 p.1) names → (c : List ℕ) (x : Entry) → look_up c names ≡ Some x → P c x
@@ -41,8 +40,8 @@ declared_at here d ps from (x ∷ cs) h zero c fields e =
 declared_at here d ps from (x ∷ cs) h (suc place) c fields e =
     declared_at here d ps (suc from) cs h.2 place c fields e ∙ ap (λ k. Some (Builds d ps k fields)) (let z : suc from + place ≡ from + suc place = omega arith in z)
 
-pub datatypes_stand : DatatypesStand
-datatypes_stand d ps cs names h k = record {
+pub datatypes_are_declared : DatatypesAreDeclared
+datatypes_are_declared d ps cs names h k = record {
   builds = λ place c fields e. declared_at (λ c. look_up c names) d ps 0 cs h place c fields e ∙ ap (λ n. Some (Builds d ps n fields)) (let z : 0 + place ≡ place = omega arith in z);
   only = λ place c fields qs e. of_entry (BuildsRightly d ps (shown cs)) names k c (Builds d qs place fields) e refl;
 }
@@ -74,9 +73,9 @@ right_others d ps cs (p ∷ names) h = (by p.0 p.1 h.0, right_others d ps cs nam
     by c (Builds e qs place fields) g = λ f. absurd (g f)
     by c x g = tt
 
-pub new_datatypes_stand : NewDatatypesStand
-new_datatypes_stand d ps cs s new h =
-    datatypes_stand d ps cs (constructors_named d ps 0 cs s.last.names ++ names_below s.below) (datatypes_declare d ps cs s new)
+pub new_datatypes_are_declared : NewDatatypesAreDeclared
+new_datatypes_are_declared d ps cs s new h =
+    datatypes_are_declared d ps cs (constructors_named d ps 0 cs s.last.names ++ names_below s.below) (datatypes_declare d ps cs s new)
     (joined (constructors_named d ps 0 cs s.last.names) (names_below s.below)
     (right_constructors d ps (shown cs) 0 cs s.last.names (λ k. ap (at_place (shown cs)) (let z : 0 + k ≡ k = omega arith in z)) (right_others d ps (shown cs) s.last.names (all-front (λ p. BuildsOther d p.1) s.last.names (names_below s.below) h)))
     (right_others d ps (shown cs) (names_below s.below) (all-back (λ p. BuildsOther d p.1) s.last.names (names_below s.below) h)))
@@ -93,11 +92,11 @@ no_datatype d names h c qs place fields e = absurd (let r : (qs ≡ []) × (at_p
 differ : (x y : List ℕ) → bytes_eq x y ≡ false → x ≡ y → ⊥
 differ x y h e = let z : true ≡ false = sym ((bytes_eq-Decides x y).1 e) ∙ h in cc
 
-pub colors_stand : ColorsStand
-colors_stand = (
+pub colors_are_declared : ColorsAreDeclared
+colors_are_declared = (
   (record { ascending = refl; texts = (IsUtf8-from_ascii (codes "a") (search rules), (IsUtf8-from_ascii (codes "b") (search rules), tt)) }, tt),
   record {
-    options = datatypes_stand (codes "Option") (codes "X" ∷ []) option_declared (names_of color_state) (refl, tt, (refl, (refl, tt), tt)) ((λ e. absurd (differ (codes "E0") (codes "Option") refl e)), ((λ e. absurd (differ (codes "E0") (codes "Option") refl e)), (tt, ((λ e. (refl, refl)), ((λ e. (refl, refl)), tt)))));
+    options = datatypes_are_declared (codes "Option") (codes "X" ∷ []) option_declared (names_of color_state) (refl, tt, (refl, (refl, tt), tt)) ((λ e. absurd (differ (codes "E0") (codes "Option") refl e)), ((λ e. absurd (differ (codes "E0") (codes "Option") refl e)), (tt, ((λ e. (refl, refl)), ((λ e. (refl, refl)), tt)))));
     bits = no_datatype (codes "_") (names_of color_state) ((λ e. absurd (differ (codes "E0") (codes "_") refl e)), ((λ e. absurd (differ (codes "E0") (codes "_") refl e)), (tt, ((λ e. absurd (differ (codes "Option") (codes "_") refl e)), ((λ e. absurd (differ (codes "Option") (codes "_") refl e)), tt)))));
     truths = no_datatype (codes "Bool") (names_of color_state) ((λ e. absurd (differ (codes "E0") (codes "Bool") refl e)), ((λ e. absurd (differ (codes "E0") (codes "Bool") refl e)), (tt, ((λ e. absurd (differ (codes "Option") (codes "Bool") refl e)), ((λ e. absurd (differ (codes "Option") (codes "Bool") refl e)), tt)))));
     texts = no_datatype (codes "String") (names_of color_state) ((λ e. absurd (differ (codes "E0") (codes "String") refl e)), ((λ e. absurd (differ (codes "E0") (codes "String") refl e)), (tt, ((λ e. absurd (differ (codes "Option") (codes "String") refl e)), ((λ e. absurd (differ (codes "Option") (codes "String") refl e)), tt)))));
@@ -106,6 +105,6 @@ colors_stand = (
   record {
     not_bool = refl;
     not_string = refl;
-    datatype = datatypes_stand (codes "E0") [] color_declared (names_of color_state) (refl, tt, (refl, tt, tt)) ((λ e. (refl, refl)), ((λ e. (refl, refl)), (tt, ((λ e. absurd (differ (codes "Option") (codes "E0") refl e)), ((λ e. absurd (differ (codes "Option") (codes "E0") refl e)), tt)))));
+    datatype = datatypes_are_declared (codes "E0") [] color_declared (names_of color_state) (refl, tt, (refl, tt, tt)) ((λ e. (refl, refl)), ((λ e. (refl, refl)), (tt, ((λ e. absurd (differ (codes "Option") (codes "E0") refl e)), ((λ e. absurd (differ (codes "Option") (codes "E0") refl e)), tt)))));
   },
 )

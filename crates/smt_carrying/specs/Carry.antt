@@ -5,7 +5,8 @@ use Rattle.smt_term.specs.Plain.{ExtensionKind, IpAddrKind, DecimalKind, Datetim
 use Rattle.smt_term.specs.Values.{Value, BoolValue, BitVecValue, StringValue, EntityValue, ExtensionValue, NoneValue, SomeValue, RecordValue, SetValue, Values, no_values, one_value, FieldValues, no_field_values, one_field_value}
 use Rattle.smt_term.specs.TypeValues.{Enums, members_of}
 use Rattle.smt_semantics.specs.ScriptValues.{ScriptValue, TruthOf, BitsOf, TextOf, ConstructorOf, SetOf, ScriptValues, no_script_values, one_script_value}
-use Rattle.smt_lines.specs.Lines.{Tables, member_name, place_of}
+use Rattle.smt_lines.specs.EntryNames.{place_of, kind_name, v4_name, v6_name, enum_member}
+use Rattle.smt_lines.specs.NameTables.{Tables}
 use Rattle.smt_lines.specs.Naming.{type_name}
 
 -- the key of an entry with this name
@@ -36,17 +37,17 @@ carry_prefix width None = none_carried
 carry_prefix width (Some p) = some_carried (BitsOf width p)
 
 abbrev pub carry_extension : PlainExtension → ScriptValue
-carry_extension (DecimalOf x) = ConstructorOf 0 (codes "Decimal") (alone (BitsOf 64 (bits_of 64 x)))
-carry_extension (Ipv4Of a p) = ConstructorOf 0 (codes "V4") (one_script_value (BitsOf 32 a) (alone (carry_prefix 5 p)))
-carry_extension (Ipv6Of a p) = ConstructorOf 1 (codes "V6") (one_script_value (BitsOf 128 a) (alone (carry_prefix 7 p)))
-carry_extension (DatetimeOf x) = ConstructorOf 0 (codes "Datetime") (alone (BitsOf 64 (bits_of 64 x)))
-carry_extension (DurationOf x) = ConstructorOf 0 (codes "Duration") (alone (BitsOf 64 (bits_of 64 x)))
+carry_extension (DecimalOf x) = ConstructorOf 0 (kind_name DecimalKind) (alone (BitsOf 64 (bits_of 64 x)))
+carry_extension (Ipv4Of a p) = ConstructorOf 0 v4_name (one_script_value (BitsOf 32 a) (alone (carry_prefix 5 p)))
+carry_extension (Ipv6Of a p) = ConstructorOf 1 v6_name (one_script_value (BitsOf 128 a) (alone (carry_prefix 7 p)))
+carry_extension (DatetimeOf x) = ConstructorOf 0 (kind_name DatetimeKind) (alone (BitsOf 64 (bits_of 64 x)))
+carry_extension (DurationOf x) = ConstructorOf 0 (kind_name DurationKind) (alone (BitsOf 64 (bits_of 64 x)))
 
 -- an entity, whose id is a list of characters
 abbrev pub carry_entity : (members : Option (List (List ℕ))) → (sort id : List ℕ) → ScriptValue
 carry_entity None sort id = ConstructorOf 0 sort (alone (TextOf id))
 carry_entity (Some members) sort id =
-    ConstructorOf (place_of id (map chars members)) (member_name sort (place_of id (map chars members))) no_script_values
+    ConstructorOf (place_of id (map chars members)) (enum_member (map chars members) sort id) no_script_values
 
 abbrev mutual
   pub carry : Enums → Tables → PlainType → Value → ScriptValue

@@ -4,11 +4,11 @@ use Rattle.smt_term.specs.Plain.{PlainType, BoolType, EntityType, RecordType, Op
 use Rattle.smt_term.specs.Tables.{Table, Interpretation}
 use Rattle.smt_term.specs.Values.{Value, BoolValue, EntityValue, RecordValue, one_field_value, no_field_values}
 use Rattle.smt_semantics.specs.ScriptValues.{TruthOf, ConstructorOf, no_script_values, one_script_value}
-use Rattle.smt_lines.specs.Naming.{sort_of}
+use Rattle.smt_lines.specs.Naming.{type_sort}
 use Rattle.smt_lines.specs.Text.{names}
 use Rattle.smt_lines.specs.Rows.{not_b, record_term, color_term, colors, split_attribute}
 use Rattle.smt_carrying.specs.Carry.{carry, back}
-use Rattle.smt_carrying.specs.Interpretations.{carry_interpretation, back_interpretation, type_of_sort}
+use Rattle.smt_carrying.specs.CarriedInterpretations.{carry_interpretation, back_interpretation, type_of_sort}
 
 abbrev pub no_entries : Table
 no_entries = record { entries = []; elsewhere = BoolValue false }
@@ -46,4 +46,4 @@ abbrev pub set_of_options : PlainType
 set_of_options = SetType (OptionType (EntityType (codes "Color")))
 
 abbrev pub SortsComeBack : Type 0
-SortsComeBack = type_of_sort (names colors (color_term ∷ [])) (sort_of (names colors (color_term ∷ [])) set_of_options) ≡ Some set_of_options
+SortsComeBack = type_of_sort (names colors (color_term ∷ [])) (type_sort (names colors (color_term ∷ [])) set_of_options) ≡ Some set_of_options

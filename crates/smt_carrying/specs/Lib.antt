@@ -1,8 +1,8 @@
+pub mod CarriedInterpretations
+pub mod CarriedOperators
+pub mod CarriedOrder
+pub mod CarriedSorts
 pub mod Carry
 pub mod CarryRows
-pub mod Interpretations
+pub mod DeclaredDatatypes
 pub mod Open
-pub mod Operators
-pub mod Order
-pub mod Sorts
-pub mod Standing

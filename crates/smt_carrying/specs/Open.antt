@@ -1,6 +1,6 @@
 -- A script whose free names are the names of what the terms reach: its interpretations are those that give each of these
 -- names a value or a table of its sort.
-use Rattle.std.specs.Prelude.{◌≡◌, ◌⊎◌, ℕ, codes, List, [], ◌∷◌, IsTrue, ⊤}
+use Rattle.std.specs.Prelude.{◌≡◌, ◌⊎◌, ℕ, codes, List, [], ◌∷◌, Option, Some, None, IsTrue, ⊤}
 use Rattle.std.specs.List.{AllByRecursion}
 use Rattle.smt_term.specs.Plain.{PlainType, PlainFunction, ExtensionOp, ExtOp, OptionGetOp, UufOp, PlainTerm, PlainTerms, Application, VariableTerm}
 use Rattle.smt_term.specs.Reached.{reached_terms}
@@ -9,11 +9,12 @@ use Rattle.smt_sexpr.specs.Reading.{Expression}
 use Rattle.smt_semantics.specs.Script.{Entry, Constant, Function, Selects, State, name, names_of}
 use Rattle.smt_semantics.specs.Sorts.{entries, option_sort}
 use Rattle.smt_semantics.specs.Value as script
-use Rattle.smt_semantics.specs.Value.{IsScriptInterpretation, AgreeFor, applied_selectors}
-use Rattle.smt_lines.specs.Naming.{sort_of}
-use Rattle.smt_lines.specs.Lines.{Tables}
-use Rattle.smt_carrying.specs.Operators.{selector_name, selector_constructor}
-use Rattle.smt_carrying.specs.Interpretations.{ip_type, is_range_selector, variable_name, function_name, GivesReachedNames, AgreeOnNames}
+use Rattle.smt_semantics.specs.Value.{OpenSelector, ValueOfSort, TableOfSelector, open_selector, IsScriptInterpretation, AgreeFor, applied_selectors}
+use Rattle.smt_lines.specs.Naming.{type_sort}
+use Rattle.smt_lines.specs.NameTables.{Tables}
+use Rattle.smt_lines.specs.EntryNames.{selector_name}
+use Rattle.smt_carrying.specs.CarriedOperators.{selector_constructor}
+use Rattle.smt_carrying.specs.CarriedInterpretations.{ip_type, is_range_selector, variable_name, function_name, GivesReachedNames, AgreeOnNames}
 
 abbrev pub Occurs : PlainTerm → List PlainTerm → Type 0
 Occurs t [] = ⊥
@@ -24,7 +25,7 @@ pub record IsVariable (s : Tables) (us : List PlainTerm) (n : List ℕ) (sort : 
   pub type : PlainType
   pub reached : Occurs (VariableTerm id type) us
   pub named : n ≡ variable_name s id type
-  pub sorted : sort ≡ sort_of s type
+  pub sorted : sort ≡ type_sort s type
 
 pub record IsFunction (s : Tables) (us : List PlainTerm) (n : List ℕ) (argument sort : Expression) : Type 0 where
   pub function : PlainFunction
@@ -32,8 +33,8 @@ pub record IsFunction (s : Tables) (us : List PlainTerm) (n : List ℕ) (argumen
   pub type : PlainType
   pub reached : Occurs (Application (UufOp function) arguments type) us
   pub named : n ≡ function_name s function
-  pub argument_sorted : argument ≡ sort_of s function.argument
-  pub sorted : sort ≡ sort_of s function.output
+  pub argument_sorted : argument ≡ type_sort s function.argument
+  pub sorted : sort ≡ type_sort s function.output
 
 pub record IsRange (s : Tables) (us : List PlainTerm) (n c : List ℕ) (sort field : Expression) : Type 0 where
   pub selector : ExtensionOp
@@ -43,14 +44,14 @@ pub record IsRange (s : Tables) (us : List PlainTerm) (n c : List ℕ) (sort fie
   pub ranges : IsTrue (is_range_selector selector)
   pub named : n ≡ selector_name selector
   pub constructs : c ≡ selector_constructor selector
-  pub argument_sorted : sort ≡ sort_of s ip_type
-  pub sorted : field ≡ sort_of s (extension_signature selector).1
+  pub argument_sorted : sort ≡ type_sort s ip_type
+  pub sorted : field ≡ type_sort s (extension_signature selector).1
 
 pub record IsOption (s : Tables) (us : List PlainTerm) (d : List ℕ) (ps : List (List ℕ)) (sort field : Expression) : Type 0 where
   pub arguments : PlainTerms
   pub type : PlainType
   pub reached : Occurs (Application OptionGetOp arguments type) us
-  pub argument_sorted : sort ≡ option_sort (sort_of s type)
+  pub argument_sorted : sort ≡ option_sort (type_sort s type)
   pub datatype : d ≡ codes "Option"
   pub parameters : ps ≡ codes "X" ∷ []
   pub sorted : field ≡ name (codes "X")
@@ -61,10 +62,14 @@ IsOpenEntry s us n (Constant sort) = IsVariable s us n sort
 IsOpenEntry s us n (Function argument sort) = IsFunction s us n argument sort
 IsOpenEntry s us n x = ⊤
 
--- a selector that is applied and left open is `val` or one of the four of IP ranges
+-- what is left open of a selector stands for what a term reaches: `val` of an option type, or a selector of IP ranges
+abbrev pub IsOpenHere : Tables → List PlainTerm → List ℕ → Expression → (datatype : List ℕ) → (parameters : List (List ℕ)) → (constructor : List ℕ) → (field : Expression) → Option OpenSelector → Type 0
+IsOpenHere s us n sort d ps c field (Some ValueOfSort) = IsOption s us d ps sort field
+IsOpenHere s us n sort d ps c field (Some TableOfSelector) = IsRange s us n c sort field
+IsOpenHere s us n sort d ps c field None = ⊤
+
 abbrev pub IsOpenSelection : Tables → List PlainTerm → List ℕ → Expression → Entry → Type 0
-IsOpenSelection s us n sort (Selects d [] c place field) = IsRange s us n c sort field
-IsOpenSelection s us n sort (Selects d (p ∷ ps) c place field) = IsOption s us d (p ∷ ps) sort field
+IsOpenSelection s us n sort (Selects d ps c place field) = IsOpenHere s us n sort d ps c field (open_selector n d ps)
 IsOpenSelection s us n sort x = ⊤
 
 pub record LeavesOpen (s : Tables) (ts : List PlainTerm) (state : State) : Type 0 where

@@ -1,4 +1,4 @@
-ghost use Rattle.smt_carrying.specs.Operators.{AttributesAreSelected, ConstructorsCommute, ExtensionsAreSelected, InsertionsCommute, NegationsCommute, OperatorsCommute, OptionsAreSelected, TablesAreRead};
+ghost use Rattle.smt_carrying.specs.CarriedOperators.{AttributesAreSelected, ConstructorsCommute, ExtensionsAreSelected, InsertionsCommute, NegationsCommute, OperatorsCommute, OptionsAreSelected, TablesAreRead};
 
 /// An operator of scripts at carried values gives the carried value of what it gives in terms.
 pub fn operators_commute()

@@ -1,16 +1,16 @@
-ghost use Rattle.smt_carrying.specs.Standing.{ColorsStand, DatatypesStand, NewDatatypesStand};
+ghost use Rattle.smt_carrying.specs.DeclaredDatatypes.{ColorsAreDeclared, DatatypesAreDeclared, NewDatatypesAreDeclared};
 
 /// Where constructors are declared, and nothing else builds values of their datatype, the datatype stands.
-pub fn datatypes_stand()
-    ensures { DatatypesStand }
+pub fn datatypes_are_declared()
+    ensures { DatatypesAreDeclared }
 {}
 
 /// What carrying asks of a script is met by options and an enum type.
-pub fn colors_stand()
-    ensures { ColorsStand }
+pub fn colors_are_declared()
+    ensures { ColorsAreDeclared }
 {}
 
 /// A datatype that is declared, where nothing built its values before, stands.
-pub fn new_datatypes_stand()
-    ensures { NewDatatypesStand }
+pub fn new_datatypes_are_declared()
+    ensures { NewDatatypesAreDeclared }
 {}

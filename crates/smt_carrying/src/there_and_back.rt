@@ -1,4 +1,4 @@
-ghost use Rattle.smt_carrying.specs.Interpretations.{BackIsInterpretation, CarriedInterpretationsHaveSorts, CarryingBackAgrees, InterpretationsComeBack};
+ghost use Rattle.smt_carrying.specs.CarriedInterpretations.{BackIsInterpretation, CarriedInterpretationsHaveSorts, CarryingBackAgrees, InterpretationsComeBack};
 ghost use Rattle.smt_carrying.specs.Open.{GivenNamesInterpret, NamesAgree};
 
 /// A carried interpretation gives each name a value or a table of its sort.

@@ -1,5 +1,5 @@
-ghost use Rattle.smt_carrying.specs.Order.{CarryingIsOneToOne, CarryingKeepsOrder, SetsStaySorted};
-ghost use Rattle.smt_carrying.specs.Sorts.{BackUndoesCarrying, CarriedValuesHaveSorts, CarryingIsOnto};
+ghost use Rattle.smt_carrying.specs.CarriedOrder.{CarryingIsOneToOne, CarryingKeepsOrder, SetsStaySorted};
+ghost use Rattle.smt_carrying.specs.CarriedSorts.{BackUndoesCarrying, CarriedValuesHaveSorts, CarryingIsOnto};
 
 /// On the values of one type carrying keeps the order.
 pub fn carrying_keeps_order()

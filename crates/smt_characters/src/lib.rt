@@ -1,2 +1,3 @@
-//! Which numbers are characters of a string of SMT-LIB, and which bytes are digits, or end a line of a script.
+//! Which numbers are characters of a string of SMT-LIB, which bytes are digits or end a line of a script, and which
+//! numbers digits stand for.
 #![tactic(auto)]

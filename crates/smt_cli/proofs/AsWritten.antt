@@ -1,7 +1,7 @@
 -- What a script says of the terms of a job as they are written, and not as they are built.
 use Rattle.std.proofs.Common.{◌≡◌, List, [], ◌∷◌, map, sym, ◌∙◌, subst}
 use Rattle.std.specs.List.{AllByRecursion, AllZip}
-use Rattle.std.specs.Prelude.{◌↔◌, IsTrue}
+use Rattle.std.specs.Prelude.{◌↔◌}
 use Rattle.smt_term.specs.Formed.{IsFormed}
 use Rattle.smt_term.specs.Interpretations.{Agree, GiveSame, GiveSameOp, IsGiven, IsGivenOp, IsInterpretation, IsTable, IsOfOtherFamily, restrict}
 use Rattle.smt_term.specs.Meaning.{term_value}
@@ -9,17 +9,17 @@ use Rattle.smt_term.specs.Plain.{PlainType, ExtensionType, BoolType, IpAddrKind,
 use Rattle.smt_term.specs.Reached.{reached_terms}
 use Rattle.smt_term.specs.Tables.{Interpretation, Table}
 use Rattle.smt_term.specs.Types.{extension_signature}
-use Rattle.smt_term.specs.Typing.{Typed, typed}
+use Rattle.smt_term.specs.Typing.{AreBoolean, AreTyped}
 use Rattle.smt_term.specs.TypeValues.{Enums, IsValue}
 use Rattle.smt_term.proofs.Agreement.{restricted, same_values}
 use Rattle.smt_term.specs.Values.{Value}
 use Rattle.smt_factory.specs.Built.{built}
-use Rattle.smt_factory.specs.StandsFor.{StandsFor}
+use Rattle.smt_factory.specs.Refinement.{Refines}
 use Rattle.smt_factory.proofs.BuiltTerms.{built_stands}
 use Rattle.smt_factory.proofs.Records.{interpretations, values}
 use Rattle.smt_semantics.specs.Value.{IsModel}
-use Rattle.smt_lines.specs.Text.{names}
-use Rattle.smt_carrying.specs.Interpretations.{carry_interpretation}
+use Rattle.smt_lines.specs.Text.{names, text}
+use Rattle.smt_carrying.specs.CarriedInterpretations.{carry_interpretation}
 use Rattle.smt_headline.specs.Headline.{AreTrue, Headline}
 use Rattle.smt_cli.proofs.TypedJobs.{IsCondition}
 
@@ -68,9 +68,9 @@ true_before I J (t ∷ ts) same h = (same.0 ∙ h.0, true_before I J ts same.1 h
 
 module _ (enums : Enums) (I : Interpretation) where
   abbrev AreTypedTerms : List PlainTerm → Type 0
-  AreTypedTerms ts = AllByRecursion (λ t. IsTrue (typed t)) ts
+  AreTypedTerms ts = AreTyped ts
 
-  all_built : (ts : List PlainTerm) → AllByRecursion IsCondition ts → AllZip StandsFor (map built ts) ts
+  all_built : (ts : List PlainTerm) → AllByRecursion IsCondition ts → AllZip Refines (map built ts) ts
   all_built [] h = tt
   all_built (t ∷ ts) h = (built_stands t h.0.boolean.parts, all_built ts h.1)
 
@@ -92,7 +92,7 @@ module _ (enums : Enums) (I : Interpretation) where
       let others : map (term_value I) ts ≡ map (term_value I) us = cc in
       (sym first ∙ h.0, true_together ts us others h.1)
 
-  pub as_written : (ts : List PlainTerm) (headline : Headline enums (map built ts)) → AllByRecursion IsCondition ts → IsInterpretation enums ts I
+  pub as_written : (ts : List PlainTerm) (headline : Headline enums (names enums (map built ts)) (map built ts) (text enums (map built ts))) → AllByRecursion IsCondition ts → IsInterpretation enums ts I
       → AreTrue I ts ↔ IsModel (carry_interpretation enums (names enums (map built ts)) (restrict I (map built ts))) headline.state
   as_written ts headline h given =
       let zip = all_built ts h in
@@ -101,9 +101,9 @@ module _ (enums : Enums) (I : Interpretation) where
       let kept = restrict I (map built ts) in
       let agree = restricted (map built ts) I in
       let alike = same_values I kept (map built ts) agree in
-      let models = headline.true_in kept (agreeing enums I kept (map built ts) agree passed) in
+      let models = headline.represents.true_in kept (agreeing enums I kept (map built ts) agree passed) in
       (λ true. models.0 (true_too I kept (map built ts) alike (true_together ts (map built ts) (sym same) true)), λ model. true_together (map built ts) ts same (true_before I kept (map built ts) alike (models.1 model)))
 
-pub built_booleans : (ts : List PlainTerm) → AllByRecursion IsCondition ts → AllByRecursion (λ t. Typed t BoolType) (map built ts)
+pub built_booleans : (ts : List PlainTerm) → AllByRecursion IsCondition ts → AreBoolean (map built ts)
 built_booleans [] h = tt
 built_booleans (t ∷ ts) h = ((built_stands t h.0.boolean.parts).type BoolType h.0.boolean, built_booleans ts h.1)

@@ -11,7 +11,7 @@ use Rattle.smt_term.specs.View.{plain_type}
 use Rattle.smt_term.specs.declared.types.TermType.{TermType}
 use Rattle.smt_lines.proofs.Making.{lookup_new, lookup_other}
 use Rattle.smt_cli.specs.Job.{Variables, type_declared}
-use Rattle.smt_cli.specs.JobView.{Declares, DeclaresNext}
+use Rattle.smt_cli.specs.JobView.{HasVariables, DeclaresNext}
 use Rattle.smt_cli.specs.declared.declaration.Declared.{Declared}
 use Rattle.smt_cli.specs.declared.job.JobError.{JobError}
 use Rattle.smt_cli.specs.declared.job.JobError.TheVariants.{TooLarge, BadForm, Memory}
@@ -35,7 +35,7 @@ typed_after false key q k type t before vs tied same typed absent had =
 
 -- entering a variable that is stated
 pub declares_next : (now : Declared) (vs : Variables) (v : List ℕ × PlainType) (stated : Option (List ℕ × PlainType)) (result : Result (Unit {0}) JobError) → stated ≡ Some v
-    → OnOk result (Declares now (vs ++ v ∷ [])) → IsOkUnless result Memory → DeclaresNext now vs stated result
+    → OnOk result (HasVariables now (vs ++ v ∷ [])) → IsOkUnless result Memory → DeclaresNext now vs stated result
 declares_next now vs v stated (Ok u) p q r = rw p q
 declares_next now vs v stated (Err Memory) p q r = tt
 declares_next now vs v stated (Err BadForm) p q r = absurd (cc)

@@ -1,13 +1,12 @@
 -- What brackets state, by their head.
 use Rattle.std.proofs.Common.{◌≡◌, ℕ, ◌-◌, ◌<◌, Bool, true, false, List, [], ◌∷◌, Option, Some, None, Ok, Err, Result, codes, drop, take, length, length-drop, map, option_map, refl, sym, ap, ◌∙◌, subst, arith}
-use Rattle.std.specs.List.{AllByRecursion}
 use Rattle.std.proofs.lemmas.List.{take_all}
-use Rattle.std.specs.Prelude.{IfSome, IsErrAnd, IsTrue, if◌then◌else◌, is_some}
+use Rattle.std.specs.Prelude.{IfSome, IsErrAnd, if◌then◌else◌, is_some}
 use Rattle.smt_semantics.specs.Script.{◌>>=◌}
 use Rattle.smt_term.specs.Formed.{IsFormed}
 use Rattle.smt_term.specs.Plain.{PlainType, BoolType, PlainOp, NotOp, PlainTerm, Application, terms}
 use Rattle.smt_term.specs.Types.{result_type, type_eq, type_of}
-use Rattle.smt_term.specs.Typing.{typed}
+use Rattle.smt_term.specs.Typing.{AreTyped}
 use Rattle.smt_term.specs.View.{plain_term, plain_term-Var}
 use Rattle.smt_term.specs.declared.term.Term.{Term, Var}
 use Rattle.smt_term.specs.declared.term.TermVar.{TermVar}
@@ -19,7 +18,7 @@ use Rattle.smt_sexpr.specs.Reading.{Expression, Expressions, Node}
 use Rattle.smt_sexpr.specs.View.{plain}
 use Rattle.smt_sexpr.specs.declared.expression.SExpr.{SExpr}
 use Rattle.smt_cli.specs.Job.{Variables, applied, condition_of, headed_term, name_in, operator_named, other_terms, term_of, terms_of, variable_stated}
-use Rattle.smt_cli.specs.JobView.{AreBuilt, Declares, Gives, HasForm, headed, listed, plain_declaration}
+use Rattle.smt_cli.specs.JobView.{AreBuilt, HasVariables, IsReadAs, HasForm, headed, plain_list, plain_declaration}
 use Rattle.smt_cli.specs.declared.declaration.Declared.{Declared}
 use Rattle.smt_cli.specs.declared.job.JobError.{JobError}
 use Rattle.smt_cli.specs.declared.job.JobError.TheVariants.{TooLarge, BadForm, Memory}
@@ -29,23 +28,23 @@ use Rattle.smt_cli.proofs.TypedJobs.{AreFormed, AreSound, IsSound, term_sound, t
 
 -- ---- errors that are passed on
 
-error_has_form : {A B : Type 0} (view : A → B) (vs : Variables) (stated : Option PlainTerm) (items : List SExpr) (e : JobError) (inner : Option B) → Gives view (Err e) inner → (inner ≡ None → stated ≡ None) → HasForm vs stated items (Err e)
+error_has_form : {A B : Type 0} (view : A → B) (vs : Variables) (stated : Option PlainTerm) (items : List SExpr) (e : JobError) (inner : Option B) → IsReadAs view (Err e) inner → (inner ≡ None → stated ≡ None) → HasForm vs stated items (Err e)
 error_has_form view vs stated items BadForm inner g f = f g
 error_has_form view vs stated items Memory inner g f = tt
 error_has_form view vs stated items TooLarge inner g f = g
 
-pub form_passes : {A B : Type 0} (view : A → B) (vs : Variables) (stated : Option PlainTerm) (items : List SExpr) (r : Result Form JobError) (e : JobError) (inner : Option B) → IsErrAnd r (λ y. y ≡ e) → Gives view (Err e) inner → (inner ≡ None → stated ≡ None) → HasForm vs stated items r
+pub form_passes : {A B : Type 0} (view : A → B) (vs : Variables) (stated : Option PlainTerm) (items : List SExpr) (r : Result Form JobError) (e : JobError) (inner : Option B) → IsErrAnd r (λ y. y ≡ e) → IsReadAs view (Err e) inner → (inner ≡ None → stated ≡ None) → HasForm vs stated items r
 form_passes view vs stated items (Ok x) e inner h g f = absurd h
 form_passes view vs stated items (Err y) e inner h g f = subst (λ (x : JobError). HasForm vs stated items (Err x)) (sym h) (error_has_form view vs stated items e inner g f)
 
-error_gives_form : {A B : Type 0} (view : A → B) (vs : Variables) (stated : Option PlainTerm) (items : List SExpr) (e : JobError) (whole : Option B) → HasForm vs stated items (Err e) → (stated ≡ None → whole ≡ None) → Gives view (Err e) whole
+error_gives_form : {A B : Type 0} (view : A → B) (vs : Variables) (stated : Option PlainTerm) (items : List SExpr) (e : JobError) (whole : Option B) → HasForm vs stated items (Err e) → (stated ≡ None → whole ≡ None) → IsReadAs view (Err e) whole
 error_gives_form view vs stated items BadForm whole g f = f g
 error_gives_form view vs stated items Memory whole g f = tt
 error_gives_form view vs stated items TooLarge whole g f = g
 
-pub passes_form : {A B : Type 0} (view : A → B) (vs : Variables) (stated : Option PlainTerm) (items : List SExpr) (r : Result A JobError) (e : JobError) (whole : Option B) → IsErrAnd r (λ y. y ≡ e) → HasForm vs stated items (Err e) → (stated ≡ None → whole ≡ None) → Gives view r whole
+pub passes_form : {A B : Type 0} (view : A → B) (vs : Variables) (stated : Option PlainTerm) (items : List SExpr) (r : Result A JobError) (e : JobError) (whole : Option B) → IsErrAnd r (λ y. y ≡ e) → HasForm vs stated items (Err e) → (stated ≡ None → whole ≡ None) → IsReadAs view r whole
 passes_form view vs stated items (Ok x) e whole h g f = absurd h
-passes_form view vs stated items (Err y) e whole h g f = subst (λ (x : JobError). Gives view (Err x) whole) (sym h) (error_gives_form view vs stated items e whole g f)
+passes_form view vs stated items (Err y) e whole h g f = subst (λ (x : JobError). IsReadAs view (Err x) whole) (sym h) (error_gives_form view vs stated items e whole g f)
 
 -- ---- heads
 
@@ -56,9 +55,9 @@ pub headed_operator : (vs : Variables) (n : List ℕ) (es : Expressions) (all ot
     → headed_term vs n es all others ≡ (operator_named n >>= λ o. all >>= λ ts. applied o ts)
 headed_operator vs n es all others a b c d = rw (other_text n (codes "var") a, other_text n (codes "bv") b, other_text n (codes "long") c, other_text n (codes "zero_extend") d) refl
 
-pub bracket_headed : (vs : Variables) (items operands : List SExpr) (first : SExpr) (n : List ℕ) → items ≡ first ∷ operands → Some n ≡ name_in (plain first) → term_of vs (Node (listed items)) ≡ headed vs n operands
+pub bracket_headed : (vs : Variables) (items operands : List SExpr) (first : SExpr) (n : List ℕ) → items ≡ first ∷ operands → Some n ≡ name_in (plain first) → term_of vs (Node (plain_list items)) ≡ headed vs n operands
 bracket_headed vs items operands first n p q =
-    ap (λ xs. term_of vs (Node (listed xs))) p ∙ ap (λ o. o >>= λ m. headed_term vs m (listed operands) (terms_of vs (listed operands)) (other_terms vs (listed operands))) (sym q)
+    ap (λ xs. term_of vs (Node (plain_list xs))) p ∙ ap (λ o. o >>= λ m. headed_term vs m (plain_list operands) (terms_of vs (plain_list operands)) (other_terms vs (plain_list operands))) (sym q)
 
 -- ---- applications
 
@@ -78,7 +77,7 @@ all_as_built : (ts : List PlainTerm) → built_all (terms ts) ≡ map built ts
 all_as_built [] = refl
 all_as_built (t ∷ ts) = ap (λ us. built t ∷ us) (all_as_built ts)
 
-types_stay : (ts : List PlainTerm) → AllByRecursion (λ t. IsTrue (typed t)) ts → map type_of (map built ts) ≡ map type_of ts
+types_stay : (ts : List PlainTerm) → AreTyped ts → map type_of (map built ts) ≡ map type_of ts
 types_stay [] h = refl
 types_stay (t ∷ ts) h = (λ i. (same_type (built t) t (built_stands t h.0) h.0).1 i ∷ types_stay ts h.1 i)
 
@@ -98,7 +97,7 @@ types_formed : (vs : List TermVar) → AreFormed (map plain_declaration vs)
 types_formed [] = tt
 types_formed (v ∷ vs) = ((subst (λ (t : PlainTerm). IsFormed t) (plain_term-Var v) (terms_are_formed (Var v))).types.0, types_formed vs)
 
-pub declared_types_formed : (d : Declared) (vs : Variables) → Declares d vs → AreFormed vs
+pub declared_types_formed : (d : Declared) (vs : Variables) → HasVariables d vs → AreFormed vs
 declared_types_formed d vs has = subst (λ (v : Variables). AreFormed v) has.variables (types_formed d.vars.items.items)
 
 found_sound : (o : Option PlainTerm) (t : PlainTerm) → IfSome o IsSound → o ≡ Some t → IsSound t
@@ -109,7 +108,7 @@ all_sound_found : (o : Option (List PlainTerm)) (ts : List PlainTerm) → IfSome
 all_sound_found (Some us) ts h e = (let f : us ≡ ts = cc in subst (λ (x : List PlainTerm). AreSound x) f h)
 all_sound_found None ts h e = absurd (cc)
 
-sound_typed : (ts : List PlainTerm) → AreSound ts → AllByRecursion (λ t. IsTrue (typed t)) ts
+sound_typed : (ts : List PlainTerm) → AreSound ts → AreTyped ts
 sound_typed [] h = tt
 sound_typed (t ∷ ts) h = (h.0.is_typed, sound_typed ts h.1)
 
@@ -139,15 +138,15 @@ module _ (vs : Variables) (formed : AreFormed vs) (e : Expression) (term : Plain
 
 -- ---- applications that are read
 
-pub application_read : (vs : Variables) (e : SExpr) (items : List SExpr) (op : PlainOp) (first : ℕ) (written : List PlainTerm) → plain e ≡ Node (listed items)
-    → term_of vs (Node (listed items)) ≡ (terms_of vs (listed (drop first items)) >>= applied op) → each_of (term_of vs) (listed (drop first items)) ≡ Some written → term_of vs (plain e) ≡ applied op written
+pub application_read : (vs : Variables) (e : SExpr) (items : List SExpr) (op : PlainOp) (first : ℕ) (written : List PlainTerm) → plain e ≡ Node (plain_list items)
+    → term_of vs (Node (plain_list items)) ≡ (terms_of vs (plain_list (drop first items)) >>= applied op) → each_of (term_of vs) (plain_list (drop first items)) ≡ Some written → term_of vs (plain e) ≡ applied op written
 application_read vs e items op first written shape stated whole =
-    ap (term_of vs) shape ∙ stated ∙ ap (λ o. o >>= applied op) (each_term vs (listed (drop first items)) ∙ whole)
+    ap (term_of vs) shape ∙ stated ∙ ap (λ o. o >>= applied op) (each_term vs (plain_list (drop first items)) ∙ whole)
 
-pub application_unread : (vs : Variables) (e : SExpr) (items : List SExpr) (op : PlainOp) (first : ℕ) → plain e ≡ Node (listed items)
-    → term_of vs (Node (listed items)) ≡ (terms_of vs (listed (drop first items)) >>= applied op) → each_of (term_of vs) (listed (drop first items)) ≡ None → term_of vs (plain e) ≡ None
+pub application_unread : (vs : Variables) (e : SExpr) (items : List SExpr) (op : PlainOp) (first : ℕ) → plain e ≡ Node (plain_list items)
+    → term_of vs (Node (plain_list items)) ≡ (terms_of vs (plain_list (drop first items)) >>= applied op) → each_of (term_of vs) (plain_list (drop first items)) ≡ None → term_of vs (plain e) ≡ None
 application_unread vs e items op first shape stated whole =
-    ap (term_of vs) shape ∙ stated ∙ ap (λ o. o >>= applied op) (each_term vs (listed (drop first items)) ∙ whole)
+    ap (term_of vs) shape ∙ stated ∙ ap (λ o. o >>= applied op) (each_term vs (plain_list (drop first items)) ∙ whole)
 
 -- what stands from a place on, to the end
 pub to_the_end : (items : List SExpr) (first : ℕ) → take (length items - first) (drop first items) ≡ drop first items

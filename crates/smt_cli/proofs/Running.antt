@@ -7,12 +7,11 @@ use Rattle.smt_term.specs.Faults.{Fault}
 use Rattle.std.specs.Rc.{rc_str_bytes}
 use Rattle.std.specs.declared.alloc.Global.{Global}
 use Rattle.std.specs.declared.rc.RcStr.{RcStr}
-use Rattle.smt_lines.specs.Text.{text}
-use Rattle.smt_script.specs.Texts.{texts}
+use Rattle.smt_lines.specs.Text.{names, text}
+use Rattle.smt_script.specs.SharedTexts.{texts}
 use Rattle.smt_headline.specs.Headline.{Headline}
 use Rattle.std.specs.List.{AllByRecursion}
-use Rattle.smt_term.specs.Plain.{BoolType}
-use Rattle.smt_term.specs.Typing.{Typed}
+use Rattle.smt_term.specs.Typing.{AreBoolean}
 use Rattle.smt_factory.specs.Built.{built}
 use Rattle.smt_cli.proofs.AsWritten.{as_written, built_booleans}
 use Rattle.smt_cli.proofs.TypedJobs.{IsCondition, job_conditions, jobs_are_faultless}
@@ -37,12 +36,12 @@ unasked [] word w l m p q a b d = absurd (omega (arith, l))
 unasked (x ∷ y ∷ words) word w l m p q a b d = absurd (omega (arith, m))
 
 -- what was read whole has not the form of a job
-pub no_form : (left : Option (List ℕ)) (bytes : List ℕ) → IfSome left (λ all. all ≡ bytes) → HasNoForm bytes → IfSome left HasNoForm
+pub no_form : (remaining : Option (List ℕ)) (bytes : List ℕ) → IfSome remaining (λ all. all ≡ bytes) → HasNoForm bytes → IfSome remaining HasNoForm
 no_form (Some all) bytes p none = subst (λ (b : List ℕ). HasNoForm b) (sym p) none
 no_form None bytes p none = tt
 
 -- what is due to the job is no job
-pub no_job : (left : Option (List ℕ)) (r : Refusal) → status_of r ≡ 3 → IsDueTo left r → IfSome left IsNoJob
+pub no_job : (remaining : Option (List ℕ)) (r : Refusal) → status_of r ≡ 3 → IsDueTo remaining r → IfSome remaining IsNoJob
 no_job None r p due = tt
 no_job (Some bytes) (Job TooLarge) p due = λ job is. omega (arith, is.short, due)
 no_job (Some bytes) (Job BadForm) p due = due.1
@@ -66,7 +65,7 @@ no_fault : (bytes : List ℕ) (kind : EncodeRefusal) → HasFaultOf kind bytes �
 no_fault bytes kind h = false≢true (sym (ap is_some (jobs_are_faultless bytes h.0 h.1)) ∙ is_fault kind (fault_of h.0) h.2)
 
 -- what is due to a fault
-pub has_fault : (left : Option (List ℕ)) (r : Refusal) → status_of r ≡ 4 → IsDueTo left r → IfSome left IsFaulty
+pub has_fault : (remaining : Option (List ℕ)) (r : Refusal) → status_of r ≡ 4 → IsDueTo remaining r → IfSome remaining IsFaulty
 has_fault None r p due = tt
 has_fault (Some bytes) (Encode kind) p due = faulty bytes kind due
 has_fault (Some bytes) (Job TooLarge) p due = absurd (omega (arith, p))
@@ -78,22 +77,22 @@ has_fault (Some bytes) Sink p due = absurd (omega (arith, p))
 has_fault (Some bytes) Want p due = absurd (omega (arith, p))
 
 -- what each refusal is due to
-pub due_to : (left : Option (List ℕ)) (r : Refusal) (before now : ℕ) (old new : Option (List ℕ)) (faults faults' : ℕ) → Answers left before now old new faults faults' (Err r) → IsDueTo left r
-due_to left (Job TooLarge) before now old new faults faults' a = (a.too_large refl).0
-due_to left (Job BadForm) before now old new faults faults' a = (a.bad_form refl).0
-due_to left (Job Memory) before now old new faults faults' a = tt
-due_to left (Encode kind) before now old new faults faults' a = a.encode kind refl
-due_to left Usage before now old new faults faults' a = tt
-due_to left Source before now old new faults faults' a = tt
-due_to left Sink before now old new faults faults' a = tt
-due_to left Want before now old new faults faults' a = tt
+pub due_to : (remaining : Option (List ℕ)) (r : Refusal) (before now : ℕ) (old new : Option (List ℕ)) (faults faults' : ℕ) → Answers remaining before now old new faults faults' (Err r) → IsDueTo remaining r
+due_to remaining (Job TooLarge) before now old new faults faults' a = (a.too_large refl).0
+due_to remaining (Job BadForm) before now old new faults faults' a = (a.bad_form refl).0
+due_to remaining (Job Memory) before now old new faults faults' a = tt
+due_to remaining (Encode kind) before now old new faults faults' a = a.encode kind refl
+due_to remaining Usage before now old new faults faults' a = tt
+due_to remaining Source before now old new faults faults' a = tt
+due_to remaining Sink before now old new faults faults' a = tt
+due_to remaining Want before now old new faults faults' a = tt
 
-module _ (left : Option (List ℕ)) (r : Refusal) (before now : ℕ) (old new : Option (List ℕ)) (faults faults' : ℕ) (a : Answers left before now old new faults faults' (Err r)) (used : IsErrOf {T = Unit {0}} (Err r) Usage → ⊥) (given : Rose before now → ⊥) where
+module _ (remaining : Option (List ℕ)) (r : Refusal) (before now : ℕ) (old new : Option (List ℕ)) (faults faults' : ℕ) (a : Answers remaining before now old new faults faults' (Err r)) (used : IsErrOf {T = Unit {0}} (Err r) Usage → ⊥) (given : Rose before now → ⊥) where
   -- a job is refused for want of memory alone
-  pub accepted : (Rose faults faults' → ⊥) → IfSome left (λ bytes. IsAJob bytes → (status_of r ≡ 0) ⊎ (status_of r ≡ 7))
-  accepted taken = go left r a used
+  pub accepted : (Rose faults faults' → ⊥) → IfSome remaining (λ bytes. IsAJob bytes → (status_of r ≡ 0) ⊎ (status_of r ≡ 7))
+  accepted taken = go remaining r a used
     where
-      go : (left : Option (List ℕ)) (r : Refusal) → Answers left before now old new faults faults' (Err r) → (IsErrOf {T = Unit {0}} (Err r) Usage → ⊥) → IfSome left (λ bytes. IsAJob bytes → (status_of r ≡ 0) ⊎ (status_of r ≡ 7))
+      go : (remaining : Option (List ℕ)) (r : Refusal) → Answers remaining before now old new faults faults' (Err r) → (IsErrOf {T = Unit {0}} (Err r) Usage → ⊥) → IfSome remaining (λ bytes. IsAJob bytes → (status_of r ≡ 0) ⊎ (status_of r ≡ 7))
       go None r a u = tt
       go (Some bytes) (Job TooLarge) a u = λ j. absurd (omega (arith, j.1.short, (a.too_large refl).0))
       go (Some bytes) (Job BadForm) a u = λ j. absurd ((a.bad_form refl).0.1 j.0 j.1)
@@ -105,10 +104,10 @@ module _ (left : Option (List ℕ)) (r : Refusal) (before now : ℕ) (old new : 
       go (Some bytes) Want a u = λ j. inr refl
 
   -- what is no job is refused as such, but for want of memory
-  pub complete : (IsErrOf {T = Unit {0}} (Err r) Sink → IfSome left IsAJob) → IfSome left (λ bytes. IsNoJob bytes → (status_of r ≡ 3) ⊎ (status_of r ≡ 7))
-  complete read = go left r a used read
+  pub complete : (IsErrOf {T = Unit {0}} (Err r) Sink → IfSome remaining IsAJob) → IfSome remaining (λ bytes. IsNoJob bytes → (status_of r ≡ 3) ⊎ (status_of r ≡ 7))
+  complete read = go remaining r a used read
     where
-      go : (left : Option (List ℕ)) (r : Refusal) → Answers left before now old new faults faults' (Err r) → (IsErrOf {T = Unit {0}} (Err r) Usage → ⊥) → (IsErrOf {T = Unit {0}} (Err r) Sink → IfSome left IsAJob) → IfSome left (λ bytes. IsNoJob bytes → (status_of r ≡ 3) ⊎ (status_of r ≡ 7))
+      go : (remaining : Option (List ℕ)) (r : Refusal) → Answers remaining before now old new faults faults' (Err r) → (IsErrOf {T = Unit {0}} (Err r) Usage → ⊥) → (IsErrOf {T = Unit {0}} (Err r) Sink → IfSome remaining IsAJob) → IfSome remaining (λ bytes. IsNoJob bytes → (status_of r ≡ 3) ⊎ (status_of r ≡ 7))
       go None r a u j = tt
       go (Some bytes) (Job TooLarge) a u j = λ none. inl refl
       go (Some bytes) (Job BadForm) a u j = λ none. inl refl
@@ -124,21 +123,21 @@ pub asked_twice : (o : Option Command) (c : Command) → o ≡ Some c → o ≡ 
 asked_twice o c p q = cc
 
 -- no script of what is no job is put
-pub never_done : (X : Type 0) (left : Option (List ℕ)) (old new : Option (List ℕ)) → IfSome left (Prints old new) → IfSome left (λ bytes. IsNoJob bytes → X)
+pub never_done : (X : Type 0) (remaining : Option (List ℕ)) (old new : Option (List ℕ)) → IfSome remaining (Prints old new) → IfSome remaining (λ bytes. IsNoJob bytes → X)
 never_done X None old new p = tt
 never_done X (Some bytes) old new p = λ none. absurd (none p.job p.is_job)
 
 -- what was read whole is a job whose script was put
-prints : (left : Option (List ℕ)) (job : PlainJob) (old new : Option (List ℕ)) → IfSome left (λ bytes. IsBuiltFrom bytes job) → new ≡ append_known old (text job.enums job.terms)
-    → (AllByRecursion (λ t. Typed t BoolType) job.terms → Headline job.enums job.terms) → IfSome left (Prints old new)
+prints : (remaining : Option (List ℕ)) (job : PlainJob) (old new : Option (List ℕ)) → IfSome remaining (λ bytes. IsBuiltFrom bytes job) → new ≡ append_known old (text job.enums job.terms)
+    → (AreBoolean job.terms → Headline job.enums (names job.enums job.terms) job.terms (text job.enums job.terms)) → IfSome remaining (Prints old new)
 prints (Some bytes) job old new is put means = shown job is.is_built put means
   where
     conditions : AllByRecursion IsCondition is.written.terms
     conditions = job_conditions bytes is.written is.is_job
 
-    shown : (j : PlainJob) → j ≡ built_job is.written → new ≡ append_known old (text j.enums j.terms) → (AllByRecursion (λ t. Typed t BoolType) j.terms → Headline j.enums j.terms) → Prints old new bytes
+    shown : (j : PlainJob) → j ≡ built_job is.written → new ≡ append_known old (text j.enums j.terms) → (AreBoolean j.terms → Headline j.enums (names j.enums j.terms) j.terms (text j.enums j.terms)) → Prints old new bytes
     shown j e p m =
-        let mean : Headline is.written.enums (map built is.written.terms) = subst (λ (x : PlainJob). (AllByRecursion (λ t. Typed t BoolType) x.terms → Headline x.enums x.terms)) e m (built_booleans is.written.terms conditions) in
+        let mean : Headline is.written.enums (names is.written.enums (map built is.written.terms)) (map built is.written.terms) (text is.written.enums (map built is.written.terms)) = subst (λ (x : PlainJob). (AreBoolean x.terms → Headline x.enums (names x.enums x.terms) x.terms (text x.enums x.terms))) e m (built_booleans is.written.terms conditions) in
         record {
           job = is.written;
           is_job = is.is_job;
@@ -148,7 +147,7 @@ prints (Some bytes) job old new is put means = shown job is.is_built put means
         }
 prints None job old new is put means = tt
 
-pub printed_ok : (result : Result (Unit {0}) Refusal) (left : Option (List ℕ)) (job : PlainJob) (old new : Option (List ℕ)) → IfSome left (λ bytes. IsBuiltFrom bytes job) → OnOk result (new ≡ append_known old (text job.enums job.terms))
-    → (AllByRecursion (λ t. Typed t BoolType) job.terms → OnOk result (Headline job.enums job.terms)) → OnOk result (IfSome left (Prints old new))
-printed_ok (Ok u) left job old new is put means = prints left job old new is put means
-printed_ok (Err e) left job old new is put means = tt
+pub printed_ok : (result : Result (Unit {0}) Refusal) (remaining : Option (List ℕ)) (job : PlainJob) (old new : Option (List ℕ)) → IfSome remaining (λ bytes. IsBuiltFrom bytes job) → OnOk result (new ≡ append_known old (text job.enums job.terms))
+    → (AreBoolean job.terms → OnOk result (Headline job.enums (names job.enums job.terms) job.terms (text job.enums job.terms))) → OnOk result (IfSome remaining (Prints old new))
+printed_ok (Ok u) remaining job old new is put means = prints remaining job old new is put means
+printed_ok (Err e) remaining job old new is put means = tt

@@ -26,7 +26,7 @@ use Rattle.smt_factory.specs.Built.{built}
 use Rattle.smt_factory.specs.Applications.{truth_literal}
 use Rattle.smt_sexpr.specs.Reading.{Expression, Leaf, Node, Expressions, Nil, Cons}
 use Rattle.smt_cli.specs.Run.{fault_of}
-use Rattle.smt_cli.specs.Job.{IsJob, PlainJob, Variables, applied, bits_literal, bits_stated, bits_type, condition_of, conditions_of, declared_by, declared_variable, empty_section, extension_by, extension_stated, first_in, headed_term, job_of_sections, literal_of, long_in, long_of_text, name_in, named_operators, number_in, operator_named, other_terms, section, sole, term_of, terms_of, text_in, type_declared, type_named, type_of_expression, unless_declared, variable_of}
+use Rattle.smt_cli.specs.Job.{IsJob, PlainJob, Variables, applied, bits_stated_as, bits_stated, bits_type, condition_of, conditions_of, declared_by, declared_variable, empty_section, extension_by, extension_stated, first_in, headed_term, job_of_sections, bits_term, long_in, long_of_text, name_in, named_operators, number_in, operator_named, other_terms, section, sole, term_of, terms_of, text_in, type_declared, type_named, type_of_expression, unless_declared, variable_of}
 
 -- ---- what there is of something optional
 
@@ -139,7 +139,7 @@ variable_sound id t h = record { is_typed = refl; formed = record { literals = (
 declared_sound : (vs : Variables) (e : Expression) → AreFormed vs → IfSome (declared_variable vs e) IsSound
 declared_sound vs e h = bound IsSound (text_in e) _ (whichever _ (text_in e) (λ name. bound IsSound (type_declared vs name) _ (onward (type_declared vs name) (declared_formed vs name h) (λ t f. variable_sound name t f))))
 
-literal_sound : (w n : ℕ) → IfSome (bits_literal w n) IsSound
+literal_sound : (w n : ℕ) → IfSome (bits_stated_as w n) IsSound
 literal_sound w n = go (are_bits w n) refl
   where
     go : (b : Bool) → are_bits w n ≡ b → IfSome (if b then Some (LiteralTerm (BitVecLiteral w n)) else None) IsSound
@@ -300,8 +300,8 @@ module _ (vs : Variables) (formed : AreFormed vs) where
       (bound IsSound (extension_stated es) _ (onward (extension_stated es) (bound _ (first_in es >>= number_in) _ (whichever _ (first_in es >>= number_in) extension_applied)) (λ o a. bound IsSound others _ (onward others g (λ ts s. applied_sound o ts a s)))))
       (bound IsSound (operator_named n) _ (onward (operator_named n) (operators_applied n) (λ o a. bound IsSound all _ (onward all h (λ ts s. applied_sound o ts a s))))))))
 
-  leaf_sound : (o : Option (List ℕ)) → IfSome (o >>= literal_of) IsSound
-  leaf_sound o = bound IsSound o literal_of (whichever _ o (λ n. either IsSound (bytes_eq n (codes "true")) _ _ (truth_sound true) (either IsSound (bytes_eq n (codes "false")) _ _ (truth_sound false) tt)))
+  leaf_sound : (o : Option (List ℕ)) → IfSome (o >>= bits_term) IsSound
+  leaf_sound o = bound IsSound o bits_term (whichever _ o (λ n. either IsSound (bytes_eq n (codes "true")) _ _ (truth_sound true) (either IsSound (bytes_eq n (codes "false")) _ _ (truth_sound false) tt)))
 
   mutual
     pub term_sound : (e : Expression) → IfSome (term_of vs e) IsSound

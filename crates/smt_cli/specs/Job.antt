@@ -4,18 +4,20 @@
 -- `(BitVec N)`, N from 1 to 128. A term is `true`, `false`, `(var "id")` of a declared id, `(bv W N)` with N below 2 to the W,
 -- `(long "-5")` of a number of 64 bits, `(zero_extend N t)`, or `(name t ..)` of another operator that takes terms of these
 -- types. Each term is a Boolean.
-use Rattle.std.specs.Prelude.{ℕ, ◌≤◌, ◌≡◌, ◌==◌, Bool, true, false, not, ◌&&◌, nat_le, ℤ, bytes_eq, codes, if◌then◌else◌, length, map, encode_utf8_all, List, [], ◌∷◌, ◌++◌, Option, Some, None}
+use Rattle.std.specs.Prelude.{ℕ, ◌≤◌, ◌≡◌, ◌==◌, Bool, true, false, not, ◌&&◌, nat_le, ℤ, bytes_eq, codes, if◌then◌else◌, length, map, encode_utf8_all, List, [], ◌∷◌, ◌++◌, Option, Some, None, IfSome}
+use Rattle.std.specs.List.{AllByRecursion}
 use Rattle.std.specs.Map.{lookup}
 use Rattle.smt_bits.specs.BitVectors.{bits_of, overflows}
 use Rattle.smt_bits.specs.Widths.{are_bits, is_width}
-use Rattle.smt_ext.specs.Digits.{is_numeral, number_of, signed}
+use Rattle.smt_ext.specs.Digits.{is_numeral, decimal_number, signed_number}
 use Rattle.smt_factory.specs.Applications.{false_term, true_term}
 use Rattle.smt_factory.specs.Built.{built}
+use Rattle.smt_term.specs.Names.{op_name}
 use Rattle.smt_term.specs.Plain.{PlainType, BitVecType, BoolType, PlainOp, AndOp, BvaddOp, BvlshrOp, BvmulOp, BvnegOp, BvnegoOp, BvsaddoOp, BvsdivOp, BvshlOp, BvsleOp, BvsltOp, BvsmodOp, BvsmuloOp, BvsremOp, BvssuboOp, BvsubOp, BvudivOp, BvuleOp, BvultOp, BvuremOp, EqOp, IteOp, NotOp, OrOp, ZeroExtendOp, BitVecLiteral, PlainTerm, Application, LiteralTerm, VariableTerm, terms}
 use Rattle.smt_term.specs.Types.{result_type, type_eq, type_of}
 use Rattle.smt_term.specs.TypeValues.{Enums}
 use Rattle.smt_sexpr.specs.Lexicon.{Name, Number, Text}
-use Rattle.smt_sexpr.specs.Plain.{IsPlainRead}
+use Rattle.smt_sexpr.specs.PlainTexts.{IsPlainRead}
 use Rattle.smt_sexpr.specs.Reading.{Expression, Leaf, Node, Expressions, Nil, Cons}
 use Rattle.smt_semantics.specs.Script.{◌>>=◌}
 
@@ -86,8 +88,8 @@ declared_by variables (Cons e es) = variable_of variables e >>= λ variable. dec
 
 -- ---- terms that are no applications
 
-abbrev pub literal_of : List ℕ → Option PlainTerm
-literal_of n = if bytes_eq n (codes "true") then Some true_term else (if bytes_eq n (codes "false") then Some false_term else None)
+abbrev pub bits_term : List ℕ → Option PlainTerm
+bits_term n = if bytes_eq n (codes "true") then Some true_term else (if bytes_eq n (codes "false") then Some false_term else None)
 
 abbrev pub declared_variable : Variables → Expression → Option PlainTerm
 declared_variable variables e = text_in e >>= λ name. type_declared variables name >>= λ t. Some (VariableTerm name t)
@@ -96,17 +98,17 @@ abbrev pub variable_stated : Variables → Expressions → Option PlainTerm
 variable_stated variables es = sole es >>= declared_variable variables
 
 -- a width and a number of that width
-abbrev pub bits_literal : (width number : ℕ) → Option PlainTerm
-bits_literal w n = if are_bits w n then Some (LiteralTerm (BitVecLiteral w n)) else None
+abbrev pub bits_stated_as : (width number : ℕ) → Option PlainTerm
+bits_stated_as w n = if are_bits w n then Some (LiteralTerm (BitVecLiteral w n)) else None
 
 abbrev pub bits_stated : Expressions → Option PlainTerm
-bits_stated (Cons width (Cons number Nil)) = number_in width >>= λ w. number_in number >>= λ n. bits_literal w n
+bits_stated (Cons width (Cons number Nil)) = number_in width >>= λ w. number_in number >>= λ n. bits_stated_as w n
 bits_stated es = None
 
 -- a number of 64 bits: a minus where it is negative, and digits
 abbrev pub long_of : (negative : Bool) → (digits : List ℕ) → Option ℤ
 long_of negative digits =
-    if is_numeral digits && not (overflows 64 (signed negative (number_of digits))) then Some (signed negative (number_of digits)) else None
+    if is_numeral digits && not (overflows 64 (signed_number negative (decimal_number digits))) then Some (signed_number negative (decimal_number digits)) else None
 
 abbrev pub long_in : List ℕ → Option ℤ
 long_in [] = None
@@ -123,18 +125,34 @@ long_stated es = sole es >>= long_of_text
 
 -- ---- applications
 
--- operators by their names, but for `zero_extend`, whose number stands before its operand
+-- the operators that jobs call by their names alone: all but the extension, whose number stands before its operand
+abbrev pub job_operators : List PlainOp
+job_operators =
+    NotOp ∷ AndOp ∷ OrOp ∷ EqOp ∷ IteOp
+    ∷ BvnegOp ∷ BvaddOp ∷ BvsubOp ∷ BvmulOp
+    ∷ BvudivOp ∷ BvuremOp ∷ BvsdivOp ∷ BvsremOp ∷ BvsmodOp
+    ∷ BvshlOp ∷ BvlshrOp
+    ∷ BvultOp ∷ BvuleOp ∷ BvsltOp ∷ BvsleOp
+    ∷ BvnegoOp ∷ BvsaddoOp ∷ BvssuboOp ∷ BvsmuloOp ∷ []
+
+-- each operator has in jobs the name that terms have for it
 abbrev pub named_operators : List (List ℕ × PlainOp)
-named_operators =
-    (codes "not", NotOp) ∷ (codes "and", AndOp) ∷ (codes "or", OrOp) ∷ (codes "eq", EqOp) ∷ (codes "ite", IteOp)
-    ∷ (codes "bvneg", BvnegOp) ∷ (codes "bvadd", BvaddOp) ∷ (codes "bvsub", BvsubOp) ∷ (codes "bvmul", BvmulOp)
-    ∷ (codes "bvudiv", BvudivOp) ∷ (codes "bvurem", BvuremOp) ∷ (codes "bvsdiv", BvsdivOp) ∷ (codes "bvsrem", BvsremOp) ∷ (codes "bvsmod", BvsmodOp)
-    ∷ (codes "bvshl", BvshlOp) ∷ (codes "bvlshr", BvlshrOp)
-    ∷ (codes "bvult", BvultOp) ∷ (codes "bvule", BvuleOp) ∷ (codes "bvslt", BvsltOp) ∷ (codes "bvsle", BvsleOp)
-    ∷ (codes "bvnego", BvnegoOp) ∷ (codes "bvsaddo", BvsaddoOp) ∷ (codes "bvssubo", BvssuboOp) ∷ (codes "bvsmulo", BvsmuloOp) ∷ []
+named_operators = map (λ o. (op_name o, o)) job_operators
 
 abbrev pub operator_named : List ℕ → Option PlainOp
 operator_named n = lookup (bytes_eq n) named_operators
+
+-- the name of the extension, which is the same for every number
+abbrev pub extension_name : List ℕ
+extension_name = op_name (ZeroExtendOp 0)
+
+-- A name finds the operator that has it, and no other, and each operator of jobs is found by its name. The name of the
+-- extension finds none of these.
+pub record OperatorsAreFoundByName : Type 0 where
+  pub named : (n : List ℕ) → IfSome (operator_named n) (λ o. op_name o ≡ n)
+  pub found : AllByRecursion (λ o. operator_named (op_name o) ≡ Some o) job_operators
+  pub extension : (k : ℕ) → op_name (ZeroExtendOp k) ≡ extension_name
+  pub extension_alone : operator_named extension_name ≡ None
 
 abbrev pub extension_by : ℕ → Option PlainOp
 extension_by k = if nat_le k 127 then Some (ZeroExtendOp k) else None
@@ -157,12 +175,12 @@ headed_term variables head es all others =
     if bytes_eq head (codes "var") then variable_stated variables es
     else (if bytes_eq head (codes "bv") then bits_stated es
     else (if bytes_eq head (codes "long") then long_stated es
-    else (if bytes_eq head (codes "zero_extend") then (extension_stated es >>= λ o. others >>= λ ts. applied o ts)
+    else (if bytes_eq head extension_name then (extension_stated es >>= λ o. others >>= λ ts. applied o ts)
     else (operator_named head >>= λ o. all >>= λ ts. applied o ts))))
 
 abbrev mutual
   pub term_of : Variables → Expression → Option PlainTerm
-  term_of variables (Leaf a) = name_in (Leaf a) >>= literal_of
+  term_of variables (Leaf a) = name_in (Leaf a) >>= bits_term
   term_of variables (Node Nil) = None
   term_of variables (Node (Cons head es)) = name_in head >>= λ n. headed_term variables n es (terms_of variables es) (other_terms variables es)
 

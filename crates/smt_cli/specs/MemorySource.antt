@@ -9,8 +9,8 @@ abbrev pub bytes_left : MemorySource → List ℕ
 bytes_left s = drop s.at s.bytes.items
 
 -- It tells all bytes that are left.
-abbrev pub memory_left : MemorySource → Option (List ℕ)
-memory_left s = Some (bytes_left s)
+abbrev pub memory_remaining : MemorySource → Option (List ℕ)
+memory_remaining s = Some (bytes_left s)
 
 -- the numbers, from 1, of the reads that are to fail
 abbrev pub source_fails : MemorySource → List ℕ
@@ -26,14 +26,14 @@ memory_faults s = s.faults
 
 -- No byte was given, no read was made, and none has failed.
 pub record IsUnread (s : MemorySource) (bytes fails : List ℕ) : Type 0 where
-  pub left : bytes_left s ≡ bytes
+  pub remaining : bytes_left s ≡ bytes
   pub reads : memory_reads s ≡ 0
   pub faults : memory_faults s ≡ 0
   pub fails_given : source_fails s ≡ fails
 
 -- No later read is to fail.
-abbrev pub memory_gives : MemorySource → Type 0
-memory_gives s = All (λ number. number < counted (memory_reads s)) (source_fails s)
+abbrev pub memory_never_fails : MemorySource → Type 0
+memory_never_fails s = All (λ number. number < counted (memory_reads s)) (source_fails s)
 
 -- The next read is to fail.
 abbrev pub NextFails : MemorySource → Type 0

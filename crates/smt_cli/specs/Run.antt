@@ -7,7 +7,7 @@ use Rattle.smt_term.specs.Interpretations.{IsInterpretation, restrict}
 use Rattle.smt_term.specs.Tables.{Interpretation}
 use Rattle.smt_factory.specs.Built.{built}
 use Rattle.smt_semantics.specs.Value.{IsModel}
-use Rattle.smt_carrying.specs.Interpretations.{carry_interpretation}
+use Rattle.smt_carrying.specs.CarriedInterpretations.{carry_interpretation}
 use Rattle.smt_headline.specs.Headline.{AreTrue, Headline}
 use Rattle.smt_lines.specs.Text.{names, text}
 use Rattle.smt_script.specs.Sink.{Puts, Rose}
@@ -67,15 +67,15 @@ pub record Prints (old new : Option (List ℕ)) (bytes : List ℕ) : Type 0 wher
   pub job : PlainJob
   pub is_job : IsJob bytes job
   pub printed : new ≡ append_known old (text job.enums (map built job.terms))
-  pub means : Headline job.enums (map built job.terms)
+  pub means : Headline job.enums (names job.enums (map built job.terms)) (map built job.terms) (text job.enums (map built job.terms))
   pub true_as_written : (I : Interpretation) → IsInterpretation job.enums job.terms I → AreTrue I job.terms ↔ IsModel (carry_interpretation job.enums (names job.enums (map built job.terms)) (restrict I (map built job.terms))) means.state
 
 -- What was asked for is put, of a source that had this left.
-abbrev pub IsDone : Option Command → (left old new : Option (List ℕ)) → Type 0
-IsDone (Some Script) left old new = IfSome left (Prints old new)
-IsDone (Some Help) left old new = new ≡ append_known old help_text
-IsDone (Some Version) left old new = new ≡ append_known old version_text
-IsDone None left old new = ⊥
+abbrev pub IsDone : Option Command → (remaining old new : Option (List ℕ)) → Type 0
+IsDone (Some Script) remaining old new = IfSome remaining (Prints old new)
+IsDone (Some Help) remaining old new = new ≡ append_known old help_text
+IsDone (Some Version) remaining old new = new ≡ append_known old version_text
+IsDone None remaining old new = ⊥
 
 -- some job has these bytes
 abbrev pub IsAJob : List ℕ → Type 0
@@ -112,28 +112,28 @@ abbrev pub HasNoForm : List ℕ → Type 0
 HasNoForm bytes = (length bytes ≤ greatest_length) × IsNoJob bytes
 
 -- Each refusal has its cause: by what a source had left, its count of faults, and what a sink held and its count.
-pub record Answers (left : Option (List ℕ)) (before now : ℕ) (old new : Option (List ℕ)) (faults faults' : ℕ) (result : Result (Unit {0}) Refusal) : Type 0 where
-  pub too_large : IsErrOf result (Job TooLarge) → IfSome left IsTooLong × (new ≡ old)
-  pub bad_form : IsErrOf result (Job BadForm) → IfSome left HasNoForm × (new ≡ old)
-  pub encode : (kind : EncodeRefusal) → IsErrOf result (Encode kind) → IfSome left (HasFaultOf kind)
+pub record Answers (remaining : Option (List ℕ)) (before now : ℕ) (old new : Option (List ℕ)) (faults faults' : ℕ) (result : Result (Unit {0}) Refusal) : Type 0 where
+  pub too_large : IsErrOf result (Job TooLarge) → IfSome remaining IsTooLong × (new ≡ old)
+  pub bad_form : IsErrOf result (Job BadForm) → IfSome remaining HasNoForm × (new ≡ old)
+  pub encode : (kind : EncodeRefusal) → IsErrOf result (Encode kind) → IfSome remaining (HasFaultOf kind)
   pub source : IsErrOf result Source → Rose before now × (new ≡ old)
   pub sink : IsErrOf result Sink → Rose faults faults'
   pub usage : IsErrOf result Usage → new ≡ old
 
 -- why a job was refused, or its terms, where a source had this left
-abbrev pub IsDueTo : (left : Option (List ℕ)) → Refusal → Type 0
-IsDueTo left (Job TooLarge) = IfSome left IsTooLong
-IsDueTo left (Job BadForm) = IfSome left HasNoForm
-IsDueTo left (Encode kind) = IfSome left (HasFaultOf kind)
-IsDueTo left refusal = ⊤
+abbrev pub IsDueTo : (remaining : Option (List ℕ)) → Refusal → Type 0
+IsDueTo remaining (Job TooLarge) = IfSome remaining IsTooLong
+IsDueTo remaining (Job BadForm) = IfSome remaining HasNoForm
+IsDueTo remaining (Encode kind) = IfSome remaining (HasFaultOf kind)
+IsDueTo remaining refusal = ⊤
 
 -- A status, and what was said: nothing with 0, else the line of a refusal of this status was put, as far as that went.
-pub record Says {S : Type 0} (left : Option (List ℕ)) (held : S → Option (List ℕ)) (faults : S → ℕ) (takes : S → ℕ → Type 0) (place : S → List ℕ) (old new : S) (status : ℕ) : Type 0 where
+pub record Says {S : Type 0} (remaining : Option (List ℕ)) (contents : S → Option (List ℕ)) (faults : S → ℕ) (has_room : S → ℕ → Type 0) (place : S → List ℕ) (old new : S) (status : ℕ) : Type 0 where
   pub refusal : Refusal
   pub status_is : status ≡ status_of refusal
-  pub due_to : IsDueTo left refusal
+  pub due_to : IsDueTo remaining refusal
   pub outcome : Result (Unit {0}) SinkError
-  pub put : Puts held faults takes place old new (line_of refusal) outcome
+  pub put : Puts contents faults has_room place old new (line_of refusal) outcome
 
-abbrev pub Reports : {S : Type 0} → (left : Option (List ℕ)) → (S → Option (List ℕ)) → (S → ℕ) → (S → ℕ → Type 0) → (S → List ℕ) → S → S → ℕ → Type 0
-Reports left held faults takes place old new status = ((status ≡ 0) × (new ≡ old)) ⊎ Says left held faults takes place old new status
+abbrev pub Reports : {S : Type 0} → (remaining : Option (List ℕ)) → (S → Option (List ℕ)) → (S → ℕ) → (S → ℕ → Type 0) → (S → List ℕ) → S → S → ℕ → Type 0
+Reports remaining contents faults has_room place old new status = ((status ≡ 0) × (new ≡ old)) ⊎ Says remaining contents faults has_room place old new status

@@ -6,7 +6,7 @@ ghost use Rattle.smt_sexpr.specs.Reading.{expressions};
 ghost use Rattle.smt_term.specs.View.{plain_type};
 ghost use Rattle.smt_cli.specs.Job.{Variables, bits_type, declared_by, type_declared, type_named, type_of_expression, variable_of};
 ghost use Rattle.smt_cli.specs.JobView as view;
-ghost use Rattle.smt_cli.specs.JobView.{Declares, DeclaresNext, Gives};
+ghost use Rattle.smt_cli.specs.JobView.{HasVariables, DeclaresNext, IsReadAs};
 
 use crate::expression::{name_in, number_in, section, sole, text_in};
 use crate::job::{JobError, VarList};
@@ -58,7 +58,7 @@ pub(crate) struct Declared {
 impl Declared {
     /// No variable. Takes no memory.
     fn new(alloc: Global) -> Declared
-        ensures { Declares result [] }
+        ensures { HasVariables result [] }
     {
         Declared {
             vars: VarList::new(alloc),
@@ -68,15 +68,15 @@ impl Declared {
 
     /// The type of an id, None exactly where it is not declared.
     pub(crate) fn type_of(&self, id: &Text) -> Option<&TermType>
-        ensures { (vs : Variables) → Declares self.now vs → option_map (λ ty. plain_type ty.now) result ≡ type_declared vs (rc_str_bytes id.now) }
+        ensures { (vs : Variables) → HasVariables self.now vs → option_map (λ ty. plain_type ty.now) result ≡ type_declared vs (rc_str_bytes id.now) }
     {
         self.types.get(id)
     }
 
     /// Declares an id that is not declared yet.
     fn enter(&mut self, id: &Text, ty: TermType) -> Result<(), JobError>
-        ensures entered { (vs : Variables) → Declares self.old vs → type_declared vs (rc_str_bytes id.now) ≡ None →
-            OnOk result (Declares self.new (vs ++ (rc_str_bytes id.now, plain_type ty) ∷ [])) }
+        ensures entered { (vs : Variables) → HasVariables self.old vs → type_declared vs (rc_str_bytes id.now) ≡ None →
+            OnOk result (HasVariables self.new (vs ++ (rc_str_bytes id.now, plain_type ty) ∷ [])) }
         ensures refusal { IsOkUnless result JobError.Memory }
     {
         self.types.insert(id.clone()?, ty.share()?)?;
@@ -89,8 +89,8 @@ impl Declared {
 
     /// The id and the type of the variable that an expression states, where the id is not declared yet.
     fn variable_from<'e>(&self, expression: &'e SExpr) -> Option<(&'e Text, TermType)>
-        ensures stated { (vs : Variables) → Declares self.now vs → option_map (λ v. (rc_str_bytes v.0.now, plain_type v.1)) result ≡ variable_of vs (plain expression.now) }
-        ensures undeclared { (vs : Variables) → Declares self.now vs → IfSome result (λ v. type_declared vs (rc_str_bytes v.0.now) ≡ None) }
+        ensures stated { (vs : Variables) → HasVariables self.now vs → option_map (λ v. (rc_str_bytes v.0.now, plain_type v.1)) result ≡ variable_of vs (plain expression.now) }
+        ensures undeclared { (vs : Variables) → HasVariables self.now vs → IfSome result (λ v. type_declared vs (rc_str_bytes v.0.now) ≡ None) }
     {
         let inside = match expression {
             SExpr::App(inside) => inside,
@@ -109,7 +109,7 @@ impl Declared {
 
     /// Declares the variable that an expression states.
     fn declare(&mut self, expression: &SExpr) -> Result<(), JobError>
-        ensures { (vs : Variables) → Declares self.old vs → DeclaresNext self.new vs (variable_of vs (plain expression.now)) result }
+        ensures { (vs : Variables) → HasVariables self.old vs → DeclaresNext self.new vs (variable_of vs (plain expression.now)) result }
     {
         match self.variable_from(expression) {
             Some((id, ty)) => self.enter(id, ty),
@@ -120,8 +120,8 @@ impl Declared {
 
 /// The variables that these expressions state.
 pub(crate) fn declared_from(alloc: Global, declarations: &[SExpr]) -> Result<Declared, JobError>
-    ensures stated { Gives (λ d. view.declarations d.vars) result (declared_by [] (expressions (map plain declarations.now))) }
-    ensures declares { IfOk result (λ d. Declares d (view.declarations d.vars)) }
+    ensures stated { IsReadAs (λ d. view.declarations d.vars) result (declared_by [] (expressions (map plain declarations.now))) }
+    ensures declares { IfOk result (λ d. HasVariables d (view.declarations d.vars)) }
 {
     let mut declared = Declared::new(alloc);
     for declaration in declarations {

@@ -42,7 +42,7 @@ pub(crate) fn number_in(expression: &SExpr) -> Option<u128>
 
 /// The one expression of a list.
 pub(crate) fn sole(items: &[SExpr]) -> Option<&SExpr>
-    ensures { option_map (λ item. plain item.now) result ≡ expressions_in.sole (view.listed items.now) }
+    ensures { option_map (λ item. plain item.now) result ≡ expressions_in.sole (view.plain_list items.now) }
 {
     match items {
         [item] => Some(item),
@@ -52,7 +52,7 @@ pub(crate) fn sole(items: &[SExpr]) -> Option<&SExpr>
 
 /// What stands behind this head in brackets.
 pub(crate) fn section<'e>(head: &str, expression: &'e SExpr) -> Option<&'e [SExpr]>
-    ensures { option_map (λ items. view.listed items.now) result ≡ expressions_in.section head.now (plain expression.now) }
+    ensures { option_map (λ items. view.plain_list items.now) result ≡ expressions_in.section head.now (plain expression.now) }
 {
     let inside = match expression {
         SExpr::App(inside) => inside,

@@ -61,17 +61,17 @@ pub fn read_input<S: Source>(
     greatest: usize,
 ) -> Result<Vec<u8>, InputError>
     ensures all { IfOk result
-        (λ bytes. ReadsAll (S.left source.old) (S.left source.new) bytes.items) }
+        (λ bytes. ReadsAll (S.remaining source.old) (S.remaining source.new) bytes.items) }
     ensures short { IfOk result (λ bytes. vec_len bytes ≤ greatest) }
     ensures too_large { IsErrOf result InputError.TooLarge →
-        IfSome (S.left source.old) (λ left. greatest < length left) }
+        IfSome (S.remaining source.old) (λ left. greatest < length left) }
     ensures cause { IsErrOf result InputError.Fault →
         Rose (S.faults source.old) (S.faults source.new) }
 
     // from a source that certainly fails at no read
-    ensures refusal { S.gives source.old → IfSome (S.left source.old)
+    ensures refusal { S.never_fails source.old → IfSome (S.remaining source.old)
         (λ left. length left ≤ greatest → IsOkUnless result InputError.Memory) }
-    ensures reads { ReadsOn S.left S.faults S.gives S.place source.old source.new }
+    ensures reads { ReadsOn S.remaining S.faults S.never_fails S.place source.old source.new }
 {
     let mut buffer = Vec::from_elem(alloc, 0u8, PIECE)?;
     let piece = buffer.as_mut_slice();

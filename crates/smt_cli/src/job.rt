@@ -5,7 +5,7 @@ ghost use Rattle.smt_sexpr.specs.Reading.{expressions};
 ghost use Rattle.smt_cli.specs.Job as job;
 ghost use Rattle.smt_cli.specs.Job.{IsBuiltFrom, IsJob, PlainJob, built_job, greatest_length, job_of};
 ghost use Rattle.smt_cli.specs.JobView as view;
-ghost use Rattle.smt_cli.specs.JobView.{Gives, plain_declaration, plain_job};
+ghost use Rattle.smt_cli.specs.JobView.{IsReadAs, plain_declaration, plain_job};
 
 use crate::declaration::declared_from;
 use crate::expression::{is_empty_section, section};
@@ -124,7 +124,7 @@ impl VarList {
 }
 
 /// A job: its enum types, its variables and its terms.
-#[derive(Drop)]
+#[derive(Debug, Drop)]
 pub struct Job {
     /// The enum types that the terms may name. A job that was read has none.
     pub enums: EnumTable,
@@ -156,7 +156,7 @@ pub fn read_job(alloc: Global, bytes: &[u8]) -> Result<Job, JobError>
 
 /// The job that an expression states.
 fn job_from(alloc: Global, expression: &SExpr) -> Result<Job, JobError>
-    ensures { Gives plain_job result (option_map built_job (job_of (plain expression.now))) }
+    ensures { IsReadAs plain_job result (option_map built_job (job_of (plain expression.now))) }
 {
     let Some(sections) = section("job", expression) else {
         return Err(JobError::BadForm);
@@ -175,7 +175,7 @@ fn job_of_sections(
     funs: &SExpr,
     terms: &SExpr,
 ) -> Result<Job, JobError>
-    ensures { Gives plain_job result (option_map built_job (job.job_of_sections (expressions (plain enums.now ∷ plain vars.now ∷ plain funs.now ∷ plain terms.now ∷ [])))) }
+    ensures { IsReadAs plain_job result (option_map built_job (job.job_of_sections (expressions (plain enums.now ∷ plain vars.now ∷ plain funs.now ∷ plain terms.now ∷ [])))) }
 {
     if !is_empty_section("enums", enums) {
         return Err(JobError::BadForm);

@@ -3,14 +3,12 @@ ghost use Rattle.std.specs.Prelude.{◌≡◌, ◌<◌, ◌⊎◌, ◌↔◌, []
 ghost use Rattle.std.specs.Io.KnownBytes.{append_known};
 ghost use Rattle.smt_term.specs.Enums.{enums_of};
 ghost use Rattle.smt_term.specs.Faults.{first_fault};
-ghost use Rattle.std.specs.List.{AllByRecursion};
-ghost use Rattle.smt_term.specs.Plain.{BoolType};
-ghost use Rattle.smt_term.specs.Typing.{Typed};
+ghost use Rattle.smt_term.specs.Typing.{AreBoolean};
 ghost use Rattle.smt_term.specs.View.{plain_items};
 ghost use Rattle.smt_headline.specs.Headline.{Headline};
-ghost use Rattle.smt_lines.specs.Text.{text};
+ghost use Rattle.smt_lines.specs.Text.{names, text};
 ghost use Rattle.smt_script.specs.Sink.{Rose};
-ghost use Rattle.smt_script.specs.Texts.{texts};
+ghost use Rattle.smt_script.specs.SharedTexts.{texts};
 ghost use Rattle.smt_cli.specs.Job.{IsBuiltFrom};
 ghost use Rattle.smt_cli.specs.JobView.{plain_job};
 ghost use Rattle.smt_cli.specs.Run.{commanded, line_of, status_of, Answers, HasNoForm, IsAJob, IsDone, IsFaultOf, IsFaulty, IsNoJob, IsTooLong, Prints, Reports};
@@ -134,7 +132,7 @@ fn command_of(words: &[Text]) -> Option<Command>
 
 /// Puts a text.
 fn put_text<W: Sink>(out: &mut W, text: &str) -> Result<(), Refusal>
-    ensures text { OnOk result (W.held out.new ≡ append_known (W.held out.old) text.now) }
+    ensures text { OnOk result (W.contents out.new ≡ append_known (W.contents out.old) text.now) }
     ensures sink { IsErrOf result Refusal.Sink → Rose (W.faults out.old) (W.faults out.new) }
     ensures only { OnErr result ((result ≡ Err Refusal.Sink) ⊎ (result ≡ Err Refusal.Memory)) }
 {
@@ -147,14 +145,14 @@ fn put_text<W: Sink>(out: &mut W, text: &str) -> Result<(), Refusal>
 
 /// Reads the source to its end, and the job that it gave.
 fn read_source<R: Source>(alloc: Global, source: &mut R) -> Result<Job, Refusal>
-    ensures job { IfOk result (λ job. IfSome (R.left source.old) (λ bytes. IsBuiltFrom bytes (plain_job job))) }
-    ensures too_large { IsErrOf result (Refusal.Job JobError.TooLarge) → IfSome (R.left source.old) IsTooLong }
-    ensures bad_form { IsErrOf result (Refusal.Job JobError.BadForm) → IfSome (R.left source.old) HasNoForm }
+    ensures job { IfOk result (λ job. IfSome (R.remaining source.old) (λ bytes. IsBuiltFrom bytes (plain_job job))) }
+    ensures too_large { IsErrOf result (Refusal.Job JobError.TooLarge) → IfSome (R.remaining source.old) IsTooLong }
+    ensures bad_form { IsErrOf result (Refusal.Job JobError.BadForm) → IfSome (R.remaining source.old) HasNoForm }
     ensures source { IsErrOf result Refusal.Source → Rose (R.faults source.old) (R.faults source.new) }
     ensures no_usage { IsErrOf result Refusal.Usage → ⊥ }
     ensures no_sink { IsErrOf result Refusal.Sink → ⊥ }
     ensures no_fault { (kind : EncodeRefusal) → IsErrOf result (Refusal.Encode kind) → ⊥ }
-    ensures ended { OnOk result (R.left source.new ≡ option_map (λ _. []) (R.left source.old)) }
+    ensures ended { OnOk result (R.remaining source.new ≡ option_map (λ _. []) (R.remaining source.old)) }
 {
     let bytes = match read_input(alloc, source, GREATEST_JOB) {
         Ok(bytes) => bytes,
@@ -170,8 +168,8 @@ fn read_source<R: Source>(alloc: Global, source: &mut R) -> Result<Job, Refusal>
 
 /// Puts the script of a job.
 fn put_script<W: Sink>(alloc: Global, job: &Job, out: &mut W) -> Result<(), Refusal>
-    ensures text { OnOk result (W.held out.new ≡ append_known (W.held out.old) (text (enums_of job.now.enums) (plain_items job.now.terms))) }
-    ensures headline { AllByRecursion (λ t. Typed t BoolType) (plain_items job.now.terms) → OnOk result (Headline (enums_of job.now.enums) (plain_items job.now.terms)) }
+    ensures text { OnOk result (W.contents out.new ≡ append_known (W.contents out.old) (text (enums_of job.now.enums) (plain_items job.now.terms))) }
+    ensures headline { AreBoolean (plain_items job.now.terms) → OnOk result (Headline (enums_of job.now.enums) (names (enums_of job.now.enums) (plain_items job.now.terms)) (plain_items job.now.terms) (text (enums_of job.now.enums) (plain_items job.now.terms))) }
     ensures fault { (kind : EncodeRefusal) → IsErrOf result (Refusal.Encode kind) → IsFaultOf kind (first_fault (enums_of job.now.enums) (plain_items job.now.terms)) }
     ensures sink { IsErrOf result Refusal.Sink → Rose (W.faults out.old) (W.faults out.new) }
     ensures no_usage { IsErrOf result Refusal.Usage → ⊥ }
@@ -202,11 +200,11 @@ fn print_script<R: Source, W: Sink>(
     source: &mut R,
     out: &mut W,
 ) -> Result<(), Refusal>
-    ensures done { OnOk result (IfSome (R.left source.old) (Prints (W.held out.old) (W.held out.new))) }
-    ensures answers { Answers (R.left source.old) (R.faults source.old) (R.faults source.new) (W.held out.old) (W.held out.new) (W.faults out.old) (W.faults out.new) result }
+    ensures done { OnOk result (IfSome (R.remaining source.old) (Prints (W.contents out.old) (W.contents out.new))) }
+    ensures answers { Answers (R.remaining source.old) (R.faults source.old) (R.faults source.new) (W.contents out.old) (W.contents out.new) (W.faults out.old) (W.faults out.new) result }
     ensures no_usage { IsErrOf result Refusal.Usage → ⊥ }
-    ensures read { IsErrOf result Refusal.Sink → IfSome (R.left source.old) IsAJob }
-    ensures ended { OnOk result (R.left source.new ≡ option_map (λ _. []) (R.left source.old)) }
+    ensures read { IsErrOf result Refusal.Sink → IfSome (R.remaining source.old) IsAJob }
+    ensures ended { OnOk result (R.remaining source.new ≡ option_map (λ _. []) (R.remaining source.old)) }
 {
     let job = read_source(alloc, source)?;
     put_script(alloc, &job, out)
@@ -219,11 +217,14 @@ fn answer<R: Source, W: Sink>(
     source: &mut R,
     out: &mut W,
 ) -> Result<(), Refusal>
-    ensures done { OnOk result (IsDone (commanded (texts words.now)) (R.left source.old) (W.held out.old) (W.held out.new)) }
-    ensures answers { Answers (R.left source.old) (R.faults source.old) (R.faults source.new) (W.held out.old) (W.held out.new) (W.faults out.old) (W.faults out.new) result }
+    ensures done { OnOk result (IsDone (commanded (texts words.now)) (R.remaining source.old) (W.contents out.old) (W.contents out.new)) }
+    ensures answers { Answers (R.remaining source.old) (R.faults source.old) (R.faults source.new) (W.contents out.old) (W.contents out.new) (W.faults out.old) (W.faults out.new) result }
     ensures usage { IsErrOf result Refusal.Usage ↔ (commanded (texts words.now) ≡ None) }
-    ensures read { commanded (texts words.now) ≡ Some Command.Script → IsErrOf result Refusal.Sink → IfSome (R.left source.old) IsAJob }
-    ensures ended { commanded (texts words.now) ≡ Some Command.Script → OnOk result (R.left source.new ≡ option_map (λ _. []) (R.left source.old)) }
+    ensures read { commanded (texts words.now) ≡ Some Command.Script → IsErrOf result Refusal.Sink → IfSome (R.remaining source.old) IsAJob }
+    ensures ended { commanded (texts words.now) ≡ Some Command.Script → OnOk result (R.remaining source.new ≡ option_map (λ _. []) (R.remaining source.old)) }
+    ensures by_script { OnErr result ((commanded (texts words.now) ≡ Some Command.Script) ⊎ ((result ≡ Err Refusal.Usage) ⊎ ((result ≡ Err Refusal.Sink) ⊎ (result ≡ Err Refusal.Memory)))) }
+    ensures unread { (commanded (texts words.now) ≡ Some Command.Script → ⊥) → source.new ≡ source.old }
+    ensures printed { (commanded (texts words.now) ≡ Some Command.Help) ⊎ (commanded (texts words.now) ≡ Some Command.Version) → OnErr result ((result ≡ Err Refusal.Sink) ⊎ (result ≡ Err Refusal.Memory)) }
 {
     match command_of(words) {
         Some(Command::Script) => print_script(alloc, source, out),
@@ -238,6 +239,9 @@ fn answer<R: Source, W: Sink>(
 /// 0: what was asked for is put to `out`. 2: the words are no command. 3: the job was refused. 4: a term of the job has no
 /// script. 5: the source failed. 6: `out` failed. 7: there was no memory. With 2, 3 and 5 nothing is put to `out`. But for
 /// 0, one line is put to `diag`; whether that went well changes no status.
+///
+/// 3, 4 and 5 come of `script` alone. Other words leave the source as it was, unread. `--help` and `--version` end with 0 or 7,
+/// or with 6 where `out` failed.
 pub fn run<R: Source, W: Sink, D: Sink>(
     alloc: Global,
     words: &[Text],
@@ -245,19 +249,22 @@ pub fn run<R: Source, W: Sink, D: Sink>(
     out: &mut W,
     diag: &mut D,
 ) -> u8
-    ensures done { result ≡ 0 → IsDone (commanded (texts words.now)) (R.left source.old) (W.held out.old) (W.held out.new) }
+    ensures done { result ≡ 0 → IsDone (commanded (texts words.now)) (R.remaining source.old) (W.contents out.old) (W.contents out.new) }
     ensures usage { result ≡ 2 ↔ (commanded (texts words.now) ≡ None) }
-    ensures refused { result ≡ 3 → IfSome (R.left source.old) IsNoJob }
-    ensures fault { result ≡ 4 → IfSome (R.left source.old) IsFaulty }
+    ensures refused { result ≡ 3 → IfSome (R.remaining source.old) IsNoJob }
+    ensures fault { result ≡ 4 → IfSome (R.remaining source.old) IsFaulty }
     ensures source { result ≡ 5 → Rose (R.faults source.old) (R.faults source.new) }
     ensures sink { result ≡ 6 → Rose (W.faults out.old) (W.faults out.new) }
-    ensures untouched { (result ≡ 2) ⊎ ((result ≡ 3) ⊎ (result ≡ 5)) → W.held out.new ≡ W.held out.old }
+    ensures untouched { (result ≡ 2) ⊎ ((result ≡ 3) ⊎ (result ≡ 5)) → W.contents out.new ≡ W.contents out.old }
     ensures accepted { commanded (texts words.now) ≡ Some Command.Script → (Rose (R.faults source.old) (R.faults source.new) → ⊥) → (Rose (W.faults out.old) (W.faults out.new) → ⊥) →
-        IfSome (R.left source.old) (λ bytes. IsAJob bytes → (result ≡ 0) ⊎ (result ≡ 7)) }
+        IfSome (R.remaining source.old) (λ bytes. IsAJob bytes → (result ≡ 0) ⊎ (result ≡ 7)) }
     ensures complete { commanded (texts words.now) ≡ Some Command.Script → (Rose (R.faults source.old) (R.faults source.new) → ⊥) →
-        IfSome (R.left source.old) (λ bytes. IsNoJob bytes → (result ≡ 3) ⊎ (result ≡ 7)) }
-    ensures ended { result ≡ 0 → commanded (texts words.now) ≡ Some Command.Script → R.left source.new ≡ option_map (λ _. []) (R.left source.old) }
-    ensures report { Reports (R.left source.old) D.held D.faults D.takes D.place diag.old diag.new result }
+        IfSome (R.remaining source.old) (λ bytes. IsNoJob bytes → (result ≡ 3) ⊎ (result ≡ 7)) }
+    ensures ended { result ≡ 0 → commanded (texts words.now) ≡ Some Command.Script → R.remaining source.new ≡ option_map (λ _. []) (R.remaining source.old) }
+    ensures by_script { (result ≡ 3) ⊎ ((result ≡ 4) ⊎ (result ≡ 5)) → commanded (texts words.now) ≡ Some Command.Script }
+    ensures unread { (commanded (texts words.now) ≡ Some Command.Script → ⊥) → source.new ≡ source.old }
+    ensures printed { (commanded (texts words.now) ≡ Some Command.Help) ⊎ (commanded (texts words.now) ≡ Some Command.Version) → (Rose (W.faults out.old) (W.faults out.new) → ⊥) → (result ≡ 0) ⊎ (result ≡ 7) }
+    ensures report { Reports (R.remaining source.old) D.contents D.faults D.has_room D.place diag.old diag.new result }
 {
     match answer(alloc, words, source, out) {
         Ok(()) => 0,

@@ -34,13 +34,13 @@ impl From<AllocError> for SourceError {
 /// What gives bytes, piece by piece, up to an end.
 pub trait Source {
     /// The bytes that are left, where it tells them.
-    ghost left: { Self → Option (List ℕ) };
+    ghost remaining: { Self → Option (List ℕ) };
 
     /// How often it has failed. The count stands still at 2^64 - 1.
     ghost faults: { Self → ℕ };
 
     /// It certainly fails at no read.
-    ghost gives: { Self → Type 0 };
+    ghost never_fails: { Self → Type 0 };
 
     /// The references that lead to it, the outermost first.
     ghost place: { Self → List ℕ } = { unreferenced };
@@ -52,16 +52,16 @@ pub trait Source {
     /// or stands at its last value.
     fn read(&mut self, buffer: &mut [u8]) -> Result<usize, SourceFault>
         requires { 0 < length buffer.old }
-        ensures { ReadsNext left faults gives place self.old self.new buffer.new result };
+        ensures { ReadsNext remaining faults never_fails place self.old self.new buffer.new result };
 }
 
 /// A mutable reference to a source is a source with the same meanings.
 impl<S: Source> Source for &mut S {
-    ghost left = { λ s. S.left s.now };
+    ghost remaining = { λ s. S.remaining s.now };
 
     ghost faults = { λ s. S.faults s.now };
 
-    ghost gives = { λ s. S.gives s.now };
+    ghost never_fails = { λ s. S.never_fails s.now };
 
     ghost place = { λ s. s.ghost_name ∷ S.place s.now };
 
@@ -71,7 +71,7 @@ impl<S: Source> Source for &mut S {
 }
 
 /// Reads any reader, tells nothing of what is left, and counts the reads that failed.
-#[derive(Drop)]
+#[derive(Debug, Drop)]
 pub struct ReadSource<R> {
     reader: R,
     faults: u64,
@@ -95,11 +95,11 @@ impl<R: Read> Source for ReadSource<R> {
     ghost use Rattle.smt_script.specs.Sink.{untold, unreferenced};
     ghost use Rattle.smt_cli.specs.Source.{ReadsNext, never_certain, reader_of, read_faults};
 
-    ghost left = { untold };
+    ghost remaining = { untold };
 
     ghost faults = { read_faults };
 
-    ghost gives = { never_certain };
+    ghost never_fails = { never_certain };
 
     /// Reads once. Whatever error the reader gives is a fault.
     fn read(&mut self, buffer: &mut [u8]) -> Result<usize, SourceFault>
@@ -122,7 +122,7 @@ impl<R: Read> Source for ReadSource<R> {
 }
 
 /// Gives the bytes of a list, and fails at chosen reads.
-#[derive(Drop)]
+#[derive(Debug, Drop)]
 pub struct MemorySource {
     bytes: Vec<u8>,
     at: usize,
@@ -158,20 +158,20 @@ impl MemorySource {
 
 impl Source for MemorySource {
     ghost use Rattle.smt_script.specs.Sink.{unreferenced};
-    ghost use Rattle.smt_cli.specs.MemorySource.{memory_left, memory_faults, memory_gives, ReadsInMemory};
+    ghost use Rattle.smt_cli.specs.MemorySource.{memory_remaining, memory_faults, memory_never_fails, ReadsInMemory};
     ghost use Rattle.smt_cli.specs.Source.{ReadsNext};
 
-    ghost left = { memory_left };
+    ghost remaining = { memory_remaining };
 
     ghost faults = { memory_faults };
 
-    ghost gives = { memory_gives };
+    ghost never_fails = { memory_never_fails };
 
     /// Gives as many of the bytes that are left as the buffer takes, or fails where this read is
     /// to fail.
     fn read(&mut self, buffer: &mut [u8]) -> Result<usize, SourceFault>
         requires { 0 < length buffer.old }
-        ensures reads { ReadsNext memory_left memory_faults memory_gives unreferenced self.old
+        ensures reads { ReadsNext memory_remaining memory_faults memory_never_fails unreferenced self.old
             self.new buffer.new result }
         ensures exact { ReadsInMemory self.old self.new buffer.new result }
     {

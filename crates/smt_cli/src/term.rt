@@ -5,9 +5,9 @@ ghost use Rattle.smt_sexpr.specs.View.{plain};
 ghost use Rattle.smt_term.specs.Plain.{PlainTerm};
 ghost use Rattle.smt_term.specs.View.{plain_items, plain_op, plain_term};
 ghost use Rattle.smt_cli.specs.Job as job;
-ghost use Rattle.smt_cli.specs.Job.{Variables, applied, bits_literal, bits_stated, condition_of, conditions_of, declared_variable, extension_by, extension_stated, literal_of, long_in, long_of_text, long_stated, term_of, variable_stated};
+ghost use Rattle.smt_cli.specs.Job.{Variables, applied, bits_stated_as, bits_stated, condition_of, conditions_of, declared_variable, extension_by, extension_stated, bits_term, long_in, long_of_text, long_stated, term_of, variable_stated};
 ghost use Rattle.smt_cli.specs.JobView as view;
-ghost use Rattle.smt_cli.specs.JobView.{AreBuilt, Declares, Gives, States, StatesHeaded, first_of};
+ghost use Rattle.smt_cli.specs.JobView.{AreBuilt, HasVariables, IsReadAs, States, StatesHeaded, first_of};
 
 use crate::declaration::Declared;
 use crate::expression::{name_in, number_in, sole, text_in};
@@ -21,7 +21,7 @@ use std::alloc::Global;
 
 /// A literal by its name.
 fn literal_from(name: &str) -> Result<Term, JobError>
-    ensures { Gives plain_term result (literal_of name.now) }
+    ensures { IsReadAs plain_term result (bits_term name.now) }
 {
     match name {
         "true" => Ok(Term::from(true)),
@@ -32,7 +32,7 @@ fn literal_from(name: &str) -> Result<Term, JobError>
 
 /// The declared variable whose id an expression states.
 fn variable_from(declared: &Declared, expression: &SExpr) -> Result<Term, JobError>
-    ensures { (vs : Variables) → Declares declared.now vs → Gives plain_term result (declared_variable vs (plain expression.now)) }
+    ensures { (vs : Variables) → HasVariables declared.now vs → IsReadAs plain_term result (declared_variable vs (plain expression.now)) }
 {
     let id = text_in(expression).ok_or(JobError::BadForm)?;
     let ty = declared.type_of(id).ok_or(JobError::BadForm)?;
@@ -44,7 +44,7 @@ fn variable_from(declared: &Declared, expression: &SExpr) -> Result<Term, JobErr
 
 /// The literal of a width and a number, where the number is one of that width.
 fn bits_literal(width: u128, number: u128) -> Option<Term>
-    ensures { option_map plain_term result ≡ bits_literal width number }
+    ensures { option_map plain_term result ≡ bits_stated_as width number }
 {
     let width = Width::new(u32::try_from(width).ok()?)?;
     let bits = BitVec::of_nat(width, number);
@@ -57,7 +57,7 @@ fn bits_literal(width: u128, number: u128) -> Option<Term>
 
 /// The literal that a width and a number state.
 fn bits_from(operands: &[SExpr]) -> Option<Term>
-    ensures { option_map plain_term result ≡ bits_stated (view.listed operands.now) }
+    ensures { option_map plain_term result ≡ bits_stated (view.plain_list operands.now) }
 {
     match operands {
         [width, number] => bits_literal(number_in(width)?, number_in(number)?),
@@ -103,21 +103,21 @@ enum Form {
 
 /// The variable that stands behind `var`.
 fn variable_form(declared: &Declared, operands: &[SExpr]) -> Result<Term, JobError>
-    ensures { (vs : Variables) → Declares declared.now vs → Gives plain_term result (option_map built (variable_stated vs (view.listed operands.now))) }
+    ensures { (vs : Variables) → HasVariables declared.now vs → IsReadAs plain_term result (option_map built (variable_stated vs (view.plain_list operands.now))) }
 {
     variable_from(declared, sole(operands).ok_or(JobError::BadForm)?)
 }
 
 /// The literal that stands behind `bv`.
 fn bits_form(operands: &[SExpr]) -> Result<Term, JobError>
-    ensures { Gives plain_term result (option_map built (bits_stated (view.listed operands.now))) }
+    ensures { IsReadAs plain_term result (option_map built (bits_stated (view.plain_list operands.now))) }
 {
     bits_from(operands).ok_or(JobError::BadForm)
 }
 
 /// The literal that stands behind `long`.
 fn long_form(operands: &[SExpr]) -> Result<Term, JobError>
-    ensures { Gives plain_term result (option_map built (long_stated (view.listed operands.now))) }
+    ensures { IsReadAs plain_term result (option_map built (long_stated (view.plain_list operands.now))) }
 {
     let text = sole(operands).ok_or(JobError::BadForm)?;
     long_from(text).ok_or(JobError::BadForm)
@@ -125,7 +125,7 @@ fn long_form(operands: &[SExpr]) -> Result<Term, JobError>
 
 /// The operator of `zero_extend`, by the number that stands first behind it.
 fn extension_form(operands: &[SExpr]) -> Result<Op, JobError>
-    ensures stated { Gives plain_op result (extension_stated (view.listed operands.now)) }
+    ensures stated { IsReadAs plain_op result (extension_stated (view.plain_list operands.now)) }
     ensures first { OnOk result (1 ≤ length operands.now) }
 {
     let first = operands.first().ok_or(JobError::BadForm)?;
@@ -135,14 +135,14 @@ fn extension_form(operands: &[SExpr]) -> Result<Op, JobError>
 
 /// The operator of another name.
 fn operator_form(name: &str) -> Result<Op, JobError>
-    ensures { Gives plain_op result (job.operator_named name.now) }
+    ensures { IsReadAs plain_op result (job.operator_named name.now) }
 {
     operator_named(name).ok_or(JobError::BadForm)
 }
 
 /// The form of a head and what stands behind it.
 fn headed_form(declared: &Declared, head: &str, operands: &[SExpr]) -> Result<Form, JobError>
-    ensures stated { (vs : Variables) → Declares declared.now vs → StatesHeaded vs head.now operands.now result }
+    ensures stated { (vs : Variables) → HasVariables declared.now vs → StatesHeaded vs head.now operands.now result }
     ensures within { IfOk result (λ form. first_of form ≤ 1 + length operands.now) }
 {
     match head {
@@ -162,7 +162,7 @@ fn headed_form(declared: &Declared, head: &str, operands: &[SExpr]) -> Result<Fo
 
 /// The form that brackets with these expressions inside have.
 fn form_from(declared: &Declared, items: &[SExpr]) -> Result<Form, JobError>
-    ensures stated { (vs : Variables) → Declares declared.now vs → States vs items.now result }
+    ensures stated { (vs : Variables) → HasVariables declared.now vs → States vs items.now result }
     ensures within { IfOk result (λ form. first_of form ≤ length items.now) }
 {
     let (first, operands) = items.split_first().ok_or(JobError::BadForm)?;
@@ -172,14 +172,14 @@ fn form_from(declared: &Declared, items: &[SExpr]) -> Result<Form, JobError>
 
 /// The application of an operator to operands that are built, where it takes them.
 fn application_from(alloc: Global, op: &Op, operands: &[Term]) -> Result<Term, JobError>
-    ensures { (written : List PlainTerm) → AreBuilt written operands.now → Gives plain_term result (option_map built (applied (plain_op op.now) written)) }
+    ensures { (written : List PlainTerm) → AreBuilt written operands.now → IsReadAs plain_term result (option_map built (applied (plain_op op.now) written)) }
 {
     built_from(alloc, op, operands)?.ok_or(JobError::BadForm)
 }
 
 /// The term that an expression states, as it is built.
 fn term_from(alloc: Global, declared: &Declared, expression: &SExpr) -> Result<Term, JobError>
-    ensures { (vs : Variables) → Declares declared.now vs → Gives plain_term result (option_map built (term_of vs (plain expression.now))) }
+    ensures { (vs : Variables) → HasVariables declared.now vs → IsReadAs plain_term result (option_map built (term_of vs (plain expression.now))) }
 {
     let items = match expression {
         SExpr::Symbol(name) => return literal_from(name.as_str()),
@@ -201,7 +201,7 @@ fn term_from(alloc: Global, declared: &Declared, expression: &SExpr) -> Result<T
 
 /// The Boolean term that an expression states, as it is built.
 fn condition_from(alloc: Global, declared: &Declared, expression: &SExpr) -> Result<Term, JobError>
-    ensures { (vs : Variables) → Declares declared.now vs → Gives plain_term result (option_map built (condition_of vs (plain expression.now))) }
+    ensures { (vs : Variables) → HasVariables declared.now vs → IsReadAs plain_term result (option_map built (condition_of vs (plain expression.now))) }
 {
     let term = term_from(alloc, declared, expression)?;
     if term.type_of(alloc)? == TermType::Bool {
@@ -217,7 +217,7 @@ pub(crate) fn conditions_from(
     declared: &Declared,
     expressions: &[SExpr],
 ) -> Result<TermList, JobError>
-    ensures { (vs : Variables) → Declares declared.now vs → Gives plain_items result (option_map (map built) (conditions_of vs (view.listed expressions.now))) }
+    ensures { (vs : Variables) → HasVariables declared.now vs → IsReadAs plain_items result (option_map (map built) (conditions_of vs (view.plain_list expressions.now))) }
 {
     let mut terms = Vec::new(alloc);
     for expression in expressions {

@@ -1,18 +1,25 @@
 -- The program's terms are conditions where they are typed as Booleans and have no fault: they are formed.
-use Rattle.std.proofs.Common.{◌≡◌, List, [], ◌∷◌, None, map, sym, subst}
+use Rattle.std.proofs.Common.{◌≡◌, ℕ, List, [], ◌∷◌, ◌++◌, Option, Some, None, map, sym, ap, ◌∙◌, subst}
+use Rattle.std.specs.Prelude.{unwrap_or, Result, Ok, Err, OnOk}
+use Rattle.std.specs.Io.KnownBytes.{append_known}
 use Rattle.std.specs.List.{AllByRecursion}
 use Rattle.smt_term.specs.Enums.{enums_of}
 use Rattle.smt_term.specs.Faults.{first_fault}
 use Rattle.smt_term.specs.Formed.{IsFormed}
+use Rattle.smt_term.specs.Plain.{PlainTerm}
 use Rattle.smt_term.specs.TypeValues.{Enums}
+use Rattle.smt_term.specs.Typing.{AreBoolean}
 use Rattle.smt_term.specs.View.{plain_term}
 use Rattle.smt_term.specs.declared.enums.EnumTable.{EnumTable}
 use Rattle.smt_term.specs.declared.term.Term.{Term}
 use Rattle.smt_term.proofs.FormedTerms.{tables_are_empty, terms_are_formed}
-use Rattle.smt_carrying.specs.Order.{AreEnums}
+use Rattle.smt_lines.specs.NameTables.{Tables}
+use Rattle.smt_lines.specs.Text.{names, text}
+use Rattle.smt_carrying.specs.CarriedOrder.{AreEnums}
 use Rattle.smt_headline.specs.Headline.{Headline}
-use Rattle.smt_headline.proofs.Models.{conditions_are_their_scripts}
-use Rattle.smt_encode.specs.Encoded.{AreBoolean, ModelsMakeTrue}
+use Rattle.smt_headline.proofs.FitKept.{conditions_are_their_scripts}
+use Rattle.smt_encode.specs.Encoded.{HasNames, ModelsMakeTrue, OfNames, OfReceived}
+use Rattle.smt_encode.specs.declared.encoder.Encoder.{Encoder}
 
 all_formed : (ts : List Term) → AllByRecursion IsFormed (map plain_term ts)
 all_formed [] = tt
@@ -21,12 +28,24 @@ all_formed (t ∷ ts) = (terms_are_formed t, all_formed ts)
 are_enums : (table : EnumTable) → AreEnums (enums_of table)
 are_enums table = subst (λ (e : Enums). AreEnums e) (sym (tables_are_empty table)) tt
 
-pub headline : (table : EnumTable) (ts : List Term) → AreBoolean ts → first_fault (enums_of table) (map plain_term ts) ≡ None → Headline (enums_of table) (map plain_term ts)
+pub headline : (table : EnumTable) (ts : List Term) → AreBoolean (map plain_term ts) → first_fault (enums_of table) (map plain_term ts) ≡ None → Headline (enums_of table) (names (enums_of table) (map plain_term ts)) (map plain_term ts) (text (enums_of table) (map plain_term ts))
 headline table ts typed none =
     conditions_are_their_scripts (enums_of table) (map plain_term ts) (are_enums table)
     (record { are_typed = typed; are_formed = all_formed ts; have_no_fault = none })
 
-pub models_make_true : (table : EnumTable) (ts : List Term) → AreBoolean ts → first_fault (enums_of table) (map plain_term ts) ≡ None → ModelsMakeTrue (enums_of table) (map plain_term ts)
+pub models_make_true : (table : EnumTable) (ts : List Term) → AreBoolean (map plain_term ts) → first_fault (enums_of table) (map plain_term ts) ≡ None → ModelsMakeTrue (enums_of table) (map plain_term ts)
 models_make_true table ts typed none =
     let h = headline table ts typed none in
-    record { state = h.state; script = h.script; from_models = h.models; to_models = h.true_in }
+    record { state = h.state; script = h.script; from_models = h.represents.models; to_models = h.represents.true_in }
+
+-- What a text and names say of terms, the bytes that were received say of them with the encoder's names.
+pub received : {S : Type 0} (e : Encoder S) (enums : Enums) (ts : List PlainTerm) (s : Tables) (bytes : List ℕ) (before after : Option (List ℕ)) → after ≡ append_known before bytes → HasNames e s → Headline enums s ts bytes
+    → OfReceived before after (λ got. OfNames e (λ names. Headline enums names ts got))
+received e enums ts s bytes before after put has h old new was is =
+    let known : ◌≡◌ {A = Option (List ℕ)} (Some new) (Some (old ++ bytes)) = sym is ∙ put ∙ ap (λ (o : Option (List ℕ)). append_known o bytes) was in
+    (bytes, ap (λ (o : Option (List ℕ)). unwrap_or o new) known, (s, has, h))
+
+-- what follows from two facts of an answer
+pub on_ok_both : {T E A B C : Type 0} (r : Result T E) → (A → B → C) → OnOk r A → OnOk r B → OnOk r C
+on_ok_both (Ok x) f a b = f a b
+on_ok_both (Err e) f a b = tt

@@ -8,8 +8,9 @@ use Rattle.std.specs.Rc.{rc_str_bytes}
 use Rattle.smt_term.specs.Plain.{PlainTerm}
 use Rattle.smt_term.specs.contracts.term.TermOrd.TheImpl as term_order
 use Rattle.smt_lines.specs.Line.{Line, spelled_line, spelled_lines}
-use Rattle.smt_lines.specs.Lines.{Tables, Written, option_line, ◌>>=◌}
-use Rattle.smt_script.specs.Lines.{declare_datatype_line}
+use Rattle.smt_lines.specs.Lines.{Written, option_line, ◌>>=◌}
+use Rattle.smt_lines.specs.NameTables.{Tables}
+use Rattle.smt_script.specs.ScriptLines.{declare_datatype_line}
 use Rattle.smt_script.proofs.PutsLemmas.{appends_then, appends_nothing}
 use Rattle.smt_encode.specs.Encoded.{HasNames, PutsLine, Wrote}
 use Rattle.smt_encode.specs.declared.encoder.Encoder.{Encoder}
@@ -23,34 +24,34 @@ option_bytes parameter nothing something p q r = rw (p, q, r) refl
 pub lines_append : (ls ms : List Line) → spelled_lines (ls ++ ms) ≡ spelled_lines ls ++ spelled_lines ms
 lines_append ls ms = flat_map-append spelled_line ls ms
 
-module _ {S : Type 0} {held : S → Option (List ℕ)} where
+module _ {S : Type 0} {contents : S → Option (List ℕ)} where
   -- nothing was written
-  pub nothing_written : (e : Encoder S) (s : Tables) → HasNames e s → Wrote held e e [] s
-  nothing_written e s has = record { names = has; held_is = appends_nothing (held e.script) }
+  pub nothing_written : (e : Encoder S) (s : Tables) → HasNames e s → Wrote contents e e [] s
+  nothing_written e s has = record { names = has; held_is = appends_nothing (contents e.script) }
 
   -- lines, and then more lines
-  pub wrote_then : {old mid new : Encoder S} {ls ms : List Line} {s t : Tables} → Wrote held old mid ls s → Wrote held mid new ms t → Wrote held old new (ls ++ ms) t
+  pub wrote_then : {old mid new : Encoder S} {ls ms : List Line} {s t : Tables} → Wrote contents old mid ls s → Wrote contents mid new ms t → Wrote contents old new (ls ++ ms) t
   wrote_then {old} {mid} {new} {ls} {ms} {s} {t} p q = record {
     names = q.names;
-    held_is = appends_then (held old.script) (held mid.script) (held new.script) (spelled_lines ls) (spelled_lines ms) p.held_is q.held_is ∙ ap (append_known (held old.script)) (sym (lines_append ls ms));
+    held_is = appends_then (contents old.script) (contents mid.script) (contents new.script) (spelled_lines ls) (spelled_lines ms) p.held_is q.held_is ∙ ap (append_known (contents old.script)) (sym (lines_append ls ms));
   }
 
   -- what is stated in two steps is written in two steps
-  pub binds : {A B : Type 0} {old mid new : Encoder S} (w : Written A) (f : A → Tables → Written B) → Wrote held old mid w.lines w.tables → Wrote held mid new (f w.made w.tables).lines (f w.made w.tables).tables
-      → Wrote held old new (w >>= f).lines (w >>= f).tables
+  pub binds : {A B : Type 0} {old mid new : Encoder S} (w : Written A) (f : A → Tables → Written B) → Wrote contents old mid w.lines w.tables → Wrote contents mid new (f w.made w.tables).lines (f w.made w.tables).tables
+      → Wrote contents old new (w >>= f).lines (w >>= f).tables
   binds w f p q = wrote_then p q
 
   -- one line that was put
-  pub put : {T : Type 0} {u : T} {old new : Encoder S} {bytes : List ℕ} (line : Line) (s : Tables) → PutsLine held old new bytes (Ok u) → bytes ≡ spelled_line line → HasNames old s → Wrote held old new (line ∷ []) s
+  pub put : {T : Type 0} {u : T} {old new : Encoder S} {bytes : List ℕ} (line : Line) (s : Tables) → PutsLine contents old new bytes (Ok u) → bytes ≡ spelled_line line → HasNames old s → Wrote contents old new (line ∷ []) s
   put {old = old} {new} line s p e has = record {
-    names = record { terms = λ t. ap (λ m. option_map rc_str_bytes (get term_order.ghosts.cmp m t)) p.same_names ∙ has.terms t; count = ap btree_map_len p.same_names ∙ has.count };
-    held_is = p.got ∙ ap (append_known (held old.script)) (e ∙ sym (append-nil (spelled_line line)));
+    names = record { terms = λ t. ap (λ m. option_map rc_str_bytes (get term_order.ghosts.cmp m t)) p.same_names ∙ has.terms t; count = ap btree_map_len p.same_names ∙ has.count; types = has.types; functions = has.functions };
+    held_is = p.got ∙ ap (append_known (contents old.script)) (e ∙ sym (append-nil (spelled_line line)));
   }
 
   -- lines, and then an entry
-  pub wrote_entry : {old mid new : Encoder S} {ls : List Line} {s : Tables} (t : PlainTerm) (name n : List ℕ) → name ≡ n → Wrote held old mid ls s
-      → (HasNames mid s → HasNames new (record s { terms = s.terms ++ (t, name) ∷ [] })) → new.script ≡ mid.script → Wrote held old new ls (record s { terms = s.terms ++ (t, n) ∷ [] })
+  pub wrote_entry : {old mid new : Encoder S} {ls : List Line} {s : Tables} (t : PlainTerm) (name n : List ℕ) → name ≡ n → Wrote contents old mid ls s
+      → (HasNames mid s → HasNames new (record s { terms = s.terms ++ (t, name) ∷ [] })) → new.script ≡ mid.script → Wrote contents old new ls (record s { terms = s.terms ++ (t, n) ∷ [] })
   wrote_entry {old} {mid} {new} {ls} {s} t name n e p enters same = record {
     names = subst (λ (m : List ℕ). HasNames new (record s { terms = s.terms ++ (t, m) ∷ [] })) e (enters p.names);
-    held_is = ap held same ∙ p.held_is;
+    held_is = ap contents same ∙ p.held_is;
   }

@@ -4,10 +4,10 @@ use Rattle.std.proofs.Math.Pow.{pow_mono}
 use Rattle.std.specs.Prelude.{codes, decimal}
 use Rattle.smt_term.specs.Plain.{ZeroExtendOp}
 use Rattle.smt_semantics.specs.Sorts.{bit_sort}
+use Rattle.smt_lines.specs.LineForms.{operator_head}
 use Rattle.smt_lines.specs.Lines.{bits}
 use Rattle.smt_lines.specs.Spelling.{numeral, spelled}
 use Rattle.smt_semantics.proofs.Numerals.{numerals_are_printed}
-use Rattle.smt_encode.specs.Heads.{head_of}
 
 last : (n k : ℕ) → n ≡ k → n < 10 ^ 64 → decimal n ++ codes ")" ≡ (numeral k ++ []) ++ codes ")"
 last n k e small = ap (λ d. d ++ codes ")") (sym (numerals_are_printed n small) ∙ ap numeral e ∙ sym (append-nil (numeral k)))
@@ -15,7 +15,7 @@ last n k e small = ap (λ d. d ++ codes ")") (sym (numerals_are_printed n small)
 pub sort_spelled : (n k : ℕ) → n ≡ k → n < 10 ^ 64 → codes "(_ BitVec " ++ (decimal n ++ codes ")") ≡ spelled (bit_sort k)
 sort_spelled n k e small = ap (λ l. codes "(_ BitVec " ++ l) (last n k e small)
 
-pub extension_spelled : (n : ℕ) → n < 10 ^ 64 → codes "(_ zero_extend " ++ (decimal n ++ codes ")") ≡ spelled (head_of (ZeroExtendOp n))
+pub extension_spelled : (n : ℕ) → n < 10 ^ 64 → codes "(_ zero_extend " ++ (decimal n ++ codes ")") ≡ spelled (operator_head (ZeroExtendOp n))
 extension_spelled n small = ap (λ l. codes "(_ zero_extend " ++ l) (last n n refl small)
 
 pub bits_spelled : (a n b k : ℕ) → a ≡ b → n ≡ k → a < 10 ^ 64 → n < 10 ^ 64 → codes "(_ bv" ++ (decimal a ++ (codes " " ++ (decimal n ++ codes ")"))) ≡ spelled (bits k b)

@@ -11,11 +11,11 @@ use Rattle.std.proofs.lemmas.List.{map-append}
 use Rattle.smt_term.specs.Plain.{PatternPart}
 use Rattle.smt_term.specs.TypeValues.{is_code_point}
 use Rattle.smt_sexpr.specs.Reading.{Expression}
-use Rattle.smt_semantics.specs.Quoting.{part_expr, pattern_expr}
+use Rattle.smt_semantics.specs.WrittenStrings.{part_expr, pattern_expr}
 use Rattle.smt_semantics.specs.Script.{name}
-use Rattle.smt_lines.specs.Lines.{empty_set, set_body}
+use Rattle.smt_lines.specs.LineForms.{empty_set, set_body}
 use Rattle.smt_lines.specs.Spelling.{spelled}
-use Rattle.smt_script.specs.Texts.{texts}
+use Rattle.smt_script.specs.SharedTexts.{texts}
 use Rattle.smt_encode.specs.Encoded.{AreSpelled}
 use Rattle.smt_encode.proofs.Bracketed.{bracketed}
 

@@ -9,7 +9,8 @@ use Rattle.std.proofs.lemmas.List.{map-append}
 use Rattle.smt_term.specs.Plain.{PlainTerm, terms}
 use Rattle.smt_sexpr.specs.Reading.{Expression}
 use Rattle.smt_lines.specs.Line.{Line, Assert, spelled_lines}
-use Rattle.smt_lines.specs.Lines.{Enums, Tables, encode, encode_terms, no_names, option_line}
+use Rattle.smt_lines.specs.Lines.{Enums, encode, encode_terms, option_line}
+use Rattle.smt_lines.specs.NameTables.{Tables, no_names}
 use Rattle.smt_lines.specs.Spelling.{spelled}
 use Rattle.smt_lines.specs.Text.{names, text}
 use Rattle.smt_encode.specs.Encoded.{AreSpelled, Wrote}
@@ -34,18 +35,18 @@ spelled_at (e ∷ es) (t ∷ ts) (suc i) text p l q =
     let s = spelled_at es ts i text (cc) (omega (arith, l)) q in
     record { expression = s.expression; spells = s.spells; behind = one_on e es i s.expression s.behind }
 
-module _ {S : Type 0} {held : S → Option (List ℕ)} where
+module _ {S : Type 0} {contents : S → Option (List ℕ)} where
   -- one assertion more
   pub asserted : {old mid new : Encoder S} (es : List Expression) (i : ℕ) (e : Expression) (s : Tables) → take (i + 1) es ≡ take i es ++ e ∷ []
-      → Wrote held old mid (map Assert (take i es)) s → Wrote held mid new (Assert e ∷ []) s → Wrote held old new (map Assert (take (i + 1) es)) s
+      → Wrote contents old mid (map Assert (take i es)) s → Wrote contents mid new (Assert e ∷ []) s → Wrote contents old new (map Assert (take (i + 1) es)) s
   asserted {old} {mid} {new} es i e s behind p q =
-      subst (λ (ls : List Line). Wrote held old new ls s) (sym (ap (map Assert) behind ∙ map-append Assert (take i es) (e ∷ []))) (wrote_then p q)
+      subst (λ (ls : List Line). Wrote contents old new ls s) (sym (ap (map Assert) behind ∙ map-append Assert (take i es) (e ∷ []))) (wrote_then p q)
 
   -- the three parts of a script
-  pub scripted : {old opened mid : Encoder S} (new : Encoder S) (enums : Enums) (ts : List PlainTerm) → Wrote held old opened (option_line ∷ []) no_names
-      → Wrote held opened mid (encode_terms enums (terms ts) no_names).lines (encode_terms enums (terms ts) no_names).tables
-      → (result : Result (Unit {0}) EncodeError) → OnOk result (Wrote held mid new (map Assert (encode_terms enums (terms ts) no_names).made) (encode_terms enums (terms ts) no_names).tables)
-      → OnOk result (Wrote held old new (option_line ∷ (encode enums ts no_names).lines) (names enums ts))
+  pub scripted : {old opened mid : Encoder S} (new : Encoder S) (enums : Enums) (ts : List PlainTerm) → Wrote contents old opened (option_line ∷ []) no_names
+      → Wrote contents opened mid (encode_terms enums (terms ts) no_names).lines (encode_terms enums (terms ts) no_names).tables
+      → (result : Result (Unit {0}) EncodeError) → OnOk result (Wrote contents mid new (map Assert (encode_terms enums (terms ts) no_names).made) (encode_terms enums (terms ts) no_names).tables)
+      → OnOk result (Wrote contents old new (option_line ∷ (encode enums ts no_names).lines) (names enums ts))
   scripted new enums ts head lines (Ok u) p = wrote_then head (wrote_then lines p)
   scripted new enums ts head lines (Err e) p = tt
 
@@ -54,6 +55,6 @@ text_is : (enums : Enums) (ts : List PlainTerm) → spelled_lines (option_line �
 text_is enums ts = ap spelled_lines (sym (append-nil (option_line ∷ (encode enums ts no_names).lines)))
 
 -- where the lines of a whole script were written, its text was
-pub text_written : {S : Type 0} {held : S → Option (List ℕ)} {old new : Encoder S} {s : Tables} (enums : Enums) (ts : List PlainTerm) → Wrote held old new (option_line ∷ (encode enums ts no_names).lines) s
-    → held new.script ≡ append_known (held old.script) (text enums ts)
-text_written {held = held} {old} enums ts w = w.held_is ∙ ap (append_known (held old.script)) (text_is enums ts)
+pub text_written : {S : Type 0} {contents : S → Option (List ℕ)} {old new : Encoder S} {s : Tables} (enums : Enums) (ts : List PlainTerm) → Wrote contents old new (option_line ∷ (encode enums ts no_names).lines) s
+    → contents new.script ≡ append_known (contents old.script) (text enums ts)
+text_written {contents = contents} {old} enums ts w = w.held_is ∙ ap (append_known (contents old.script)) (text_is enums ts)

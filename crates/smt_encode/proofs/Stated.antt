@@ -1,22 +1,22 @@
 -- What is stated for a term that has no name yet: its sort, then its parts, then its own line; and for one that has a name.
-use Rattle.std.proofs.Common.{◌≡◌, ℕ, List, [], ◌∷◌, refl, sym, ap, ◌∙◌, subst, Option, Some, None}
-use Rattle.std.specs.Prelude.{codes}
+use Rattle.std.proofs.Common.{◌≡◌, ℕ, false, List, [], refl, sym, ap, ◌∙◌, subst, Option, Some, None}
 use Rattle.std.specs.Rc.{rc_str_bytes}
 use Rattle.std.specs.declared.alloc.Global.{Global}
 use Rattle.std.specs.declared.rc.RcStr.{RcStr}
 use Rattle.smt_sexpr.specs.Reading.{Expression}
-use Rattle.smt_semantics.specs.Script.{group, name}
+use Rattle.smt_semantics.specs.Script.{name}
 use Rattle.smt_term.specs.Plain.{PlainType, PlainTerm, PlainTerms, Application, NoneTerm, SetTerm, SomeTerm, VariableTerm}
 use Rattle.smt_term.specs.Types.{type_of}
 use Rattle.smt_term.specs.View.{plain_op, plain_type, plain_term, plain_row, plain_variable}
 use Rattle.smt_term.specs.declared.op.Op.{Op}
 use Rattle.smt_term.specs.declared.term.Term.{Term, App', None as Nothing, Prim, Set', Some', Var}
 use Rattle.smt_term.specs.declared.term.TermPrim.{TermPrim}
-use Rattle.smt_lines.specs.Line.{Comment, DeclareConst}
 use Rattle.smt_lines.specs.Lines as lines
-use Rattle.smt_lines.specs.Lines.{Enums, Tables, Written, name_of_term, next_term, quoted_id, enter_term, encode_type, encode_terms, encode_term, define, define_application, manner, none_body, set_body, unless_named, made_of, ◌>>=◌}
+use Rattle.smt_lines.specs.LineForms.{variable_lines, none_body, set_body, some_body, operator_head, application_body, least_body}
+use Rattle.smt_lines.specs.TermTexts.{bool_name}
+use Rattle.smt_lines.specs.Lines.{Enums, Written, next_term, enter_term, encode_type, encode_terms, encode_term, define, define_application, application_rendering, unless_named, made_of, ◌>>=◌}
+use Rattle.smt_lines.specs.NameTables.{Tables, name_of_term}
 use Rattle.smt_encode.specs.Encoded.{HasNames, IsSpelled, Wrote}
-use Rattle.smt_encode.specs.Manners.{application_body, least_body}
 use Rattle.smt_encode.specs.declared.encoder.Encoder.{Encoder}
 use Rattle.smt_encode.proofs.Heads.{head_made}
 use Rattle.smt_encode.proofs.Lines.{nothing_written}
@@ -24,10 +24,10 @@ use Rattle.smt_encode.proofs.Lines.{nothing_written}
 -- ---- the lines of a term's own, behind those of its sort and its parts
 
 abbrev pub declared : (id : List ℕ) → PlainTerm → (sort : Expression) → Tables → Written Expression
-declared id t sort s = enter_term t (next_term s) (Comment (quoted_id id) ∷ DeclareConst (next_term s) sort ∷ []) s
+declared id t sort s = enter_term t (next_term s) (variable_lines id (next_term s) sort) s
 
 abbrev pub as_some : PlainTerm → (sort inner : Expression) → Tables → Written Expression
-as_some t sort e s = define t sort (group (name (codes "some") ∷ e ∷ [])) s
+as_some t sort e s = define t sort (some_body e) s
 
 -- ---- a term that has no name yet
 
@@ -54,27 +54,27 @@ module _ (enums : Enums) (t : PlainTerm) (s : Tables) (absent : name_of_term s t
 
   -- ---- applications, by their manner
 
-  abbrev in_manner : lines.Manner → Op → PlainTerms → PlainType → PlainTerm → Written Expression
-  in_manner m op ts type u = encode_type enums (type_of u) s >>= λ sort v. define_application enums m (plain_op op) ts type (λ w. encode_terms enums ts w) sort v
+  abbrev in_rendering : lines.Rendering → Op → PlainTerms → PlainType → PlainTerm → Written Expression
+  in_rendering m op ts type u = encode_type enums (type_of u) s >>= λ sort v. define_application enums m (plain_op op) ts type (λ w. encode_terms enums ts w) sort v
 
-  application_in : (m : lines.Manner) (op : Op) (ts : PlainTerms) (type : PlainType) → t ≡ Application (plain_op op) ts type → m ≡ manner (plain_op op) ts type
-      → (stated : PlainTerm → Written Expression) → in_manner m op ts type (Application (plain_op op) ts type) ≡ stated (Application (plain_op op) ts type) → encode_term enums t s ≡ stated t
+  application_in : (m : lines.Rendering) (op : Op) (ts : PlainTerms) (type : PlainType) → t ≡ Application (plain_op op) ts type → m ≡ application_rendering (plain_op op) ts type
+      → (stated : PlainTerm → Written Expression) → in_rendering m op ts type (Application (plain_op op) ts type) ≡ stated (Application (plain_op op) ts type) → encode_term enums t s ≡ stated t
   application_in m op ts type same how stated h = of_form (Application (plain_op op) ts type) stated same
-      (λ none. ap (λ o. unless_named o s (λ u. encode_type enums type u >>= λ sort v. define_application enums (manner (plain_op op) ts type) (plain_op op) ts type (λ w. encode_terms enums ts w) sort v)) none
-      ∙ ap (λ m. in_manner m op ts type (Application (plain_op op) ts type)) (sym how) ∙ h)
+      (λ none. ap (λ o. unless_named o s (λ u. encode_type enums type u >>= λ sort v. define_application enums (application_rendering (plain_op op) ts type) (plain_op op) ts type (λ w. encode_terms enums ts w) sort v)) none
+      ∙ ap (λ m. in_rendering m op ts type (Application (plain_op op) ts type)) (sym how) ∙ h)
 
-  pub false_stated : (op : Op) (ts : PlainTerms) (type : PlainType) → t ≡ Application (plain_op op) ts type → lines.AsFalse ≡ manner (plain_op op) ts type
-      → encode_term enums t s ≡ encode_type enums (type_of t) s >>= λ sort v. enter_term t (codes "false") [] v
-  false_stated op ts type same how = application_in lines.AsFalse op ts type same how (λ u. encode_type enums (type_of u) s >>= λ sort v. enter_term u (codes "false") [] v) refl
+  pub false_stated : (op : Op) (ts : PlainTerms) (type : PlainType) → t ≡ Application (plain_op op) ts type → lines.AsFalse ≡ application_rendering (plain_op op) ts type
+      → encode_term enums t s ≡ encode_type enums (type_of t) s >>= λ sort v. enter_term t (bool_name false) [] v
+  false_stated op ts type same how = application_in lines.AsFalse op ts type same how (λ u. encode_type enums (type_of u) s >>= λ sort v. enter_term u (bool_name false) [] v) refl
 
-  pub application_stated : (op : Op) (ts : PlainTerms) (type : PlainType) → t ≡ Application (plain_op op) ts type → lines.AsItStands ≡ manner (plain_op op) ts type
-      → encode_term enums t s ≡ encode_type enums (type_of t) s >>= λ sort v. encode_terms enums ts v >>= λ es u. define t sort (application_body (plain_op op) es) u
-  application_stated op ts type same how = application_in lines.AsItStands op ts type same how (λ t. encode_type enums (type_of t) s >>= λ sort v. encode_terms enums ts v >>= λ es u. define t sort (application_body (plain_op op) es) u)
-      (λ i. encode_type enums type s >>= λ sort v. encode_terms enums ts v >>= λ es u. head_made enums op ts u i >>= λ head w. define (Application (plain_op op) ts type) sort (group (head ∷ lines.operands (plain_op op) es)) w)
+  pub application_stated : (op : Op) (ts : PlainTerms) (type : PlainType) → t ≡ Application (plain_op op) ts type → lines.AsApplication ≡ application_rendering (plain_op op) ts type
+      → encode_term enums t s ≡ encode_type enums (type_of t) s >>= λ sort v. encode_terms enums ts v >>= λ es u. define t sort (application_body (operator_head (plain_op op)) (plain_op op) es) u
+  application_stated op ts type same how = application_in lines.AsApplication op ts type same how (λ t. encode_type enums (type_of t) s >>= λ sort v. encode_terms enums ts v >>= λ es u. define t sort (application_body (operator_head (plain_op op)) (plain_op op) es) u)
+      (λ i. encode_type enums type s >>= λ sort v. encode_terms enums ts v >>= λ es u. head_made enums op ts u i >>= λ head w. define (Application (plain_op op) ts type) sort (application_body head (plain_op op) es) w)
 
-  pub least_stated : (width : ℕ) (op : Op) (ts : PlainTerms) (type : PlainType) → t ≡ Application (plain_op op) ts type → lines.AsLeast width ≡ manner (plain_op op) ts type
+  pub least_stated : (width : ℕ) (op : Op) (ts : PlainTerms) (type : PlainType) → t ≡ Application (plain_op op) ts type → lines.AsEqualsIntMin width ≡ application_rendering (plain_op op) ts type
       → encode_term enums t s ≡ encode_type enums (type_of t) s >>= λ sort v. encode_terms enums ts v >>= λ es u. define t sort (least_body width es) u
-  least_stated width op ts type same how = application_in (lines.AsLeast width) op ts type same how (λ t. encode_type enums (type_of t) s >>= λ sort v. encode_terms enums ts v >>= λ es u. define t sort (least_body width es) u) refl
+  least_stated width op ts type same how = application_in (lines.AsEqualsIntMin width) op ts type same how (λ t. encode_type enums (type_of t) s >>= λ sort v. encode_terms enums ts v >>= λ es u. define t sort (least_body width es) u) refl
 
 -- ---- a term that has a name
 
@@ -90,7 +90,7 @@ named_unless t h = tt
 named_stated : (enums : Enums) (t : Term) (s : Tables) (n : List ℕ) → IsNamed t → name_of_term s (plain_term t) ≡ Some n → encode_term enums (plain_term t) s ≡ made_of (name n) s
 unfolding plain_term plain_row
 named_stated enums (App' op p shape row type) s n h there =
-    ap (λ o. unless_named o s (λ u. encode_type enums (plain_type type) u >>= λ sort v. define_application enums (manner (plain_op op) (plain_row row) (plain_type type)) (plain_op op) (plain_row row) (plain_type type) (λ w. encode_terms enums (plain_row row) w) sort v)) there
+    ap (λ o. unless_named o s (λ u. encode_type enums (plain_type type) u >>= λ sort v. define_application enums (application_rendering (plain_op op) (plain_row row) (plain_type type)) (plain_op op) (plain_row row) (plain_type type) (λ w. encode_terms enums (plain_row row) w) sort v)) there
 named_stated enums (Nothing type) s n h there =
     ap (λ o. unless_named o s (λ u. encode_type enums (type_of (NoneTerm (plain_type type))) u >>= λ sort v. define (NoneTerm (plain_type type)) sort (none_body sort) v)) there
 named_stated enums (Prim l) s n h there = absurd h
@@ -102,6 +102,6 @@ named_stated enums (Var v) s n h there =
     ap (λ o. unless_named o s (λ u. encode_type enums (plain_type v.ty) u >>= λ sort v'. declared (rc_str_bytes v.id) (plain_variable v) sort v')) there
 
 -- a term that has a name is written by it, and nothing is added
-pub named_written : {S : Type 0} {held : S → Option (List ℕ)} {e : Encoder S} (enums : Enums) (t : Term) (s : Tables) (text : RcStr Global) → HasNames e s → IsNamed t → name_of_term s (plain_term t) ≡ Some (rc_str_bytes text)
-    → Wrote held e e (encode_term enums (plain_term t) s).lines (encode_term enums (plain_term t) s).tables × IsSpelled (encode_term enums (plain_term t) s).made text
+pub named_written : {S : Type 0} {contents : S → Option (List ℕ)} {e : Encoder S} (enums : Enums) (t : Term) (s : Tables) (text : RcStr Global) → HasNames e s → IsNamed t → name_of_term s (plain_term t) ≡ Some (rc_str_bytes text)
+    → Wrote contents e e (encode_term enums (plain_term t) s).lines (encode_term enums (plain_term t) s).tables × IsSpelled (encode_term enums (plain_term t) s).made text
 named_written {e = e} enums t s text has named there = rw (named_stated enums t s (rc_str_bytes text) named there) (nothing_written e s has, refl)

@@ -19,7 +19,8 @@ use Rattle.smt_term.specs.declared.term.Term.{Term}
 use Rattle.smt_term.proofs.DerivedOrder.{term_cmp-is}
 use Rattle.smt_term.proofs.DerivedEquality.{term_itself}
 use Rattle.smt_term.proofs.SameTerm.{term_same}
-use Rattle.smt_lines.specs.Lines.{Tables, name_of_term, next_term}
+use Rattle.smt_lines.specs.Lines.{next_term}
+use Rattle.smt_lines.specs.NameTables.{Tables, name_of_term}
 use Rattle.smt_lines.specs.Spelling.{numeral}
 use Rattle.smt_lines.proofs.Making.{lookup_new, lookup_other}
 use Rattle.smt_semantics.proofs.Numerals.{numerals_are_printed}
@@ -92,4 +93,6 @@ entered old new s t n key name was updates before longer same named absent has =
     record {
       terms = λ q. ap (option_map rc_str_bytes) (updates.0 q) ∙ named_after (is_eq (term_order.ghosts.cmp key q)) key q t name n (get term_order.ghosts.cmp old.terms q) s.terms refl same named absent (has.terms q);
       count = one ∙ ap (λ k. k + 1) has.count ∙ sym (length-append s.terms ((t, n) ∷ []));
+      types = has.types;
+      functions = has.functions;
     }

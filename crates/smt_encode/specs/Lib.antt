@@ -1,5 +1,4 @@
 pub mod Encoded
 pub mod Errors
-pub mod Heads
-pub mod Manners
+pub mod Renderings
 pub mod Refusals

@@ -1,5 +1,5 @@
 // The encoder, from terms to the lines of a script.
-ghost use Rattle.std.specs.Prelude.{List, ◌≡◌, ◌≤◌, ◌↔◌, ◌++◌, [], ◌∷◌, false, None, Some, IfOk, IfSome, IsOkUnless, OnOk, IsTrue, IsErrOf, option_map, map, codes};
+ghost use Rattle.std.specs.Prelude.{List, ◌≡◌, ◌≤◌, ◌↔◌, ◌++◌, [], ◌∷◌, false, None, Some, IfOk, IfSome, IsOkUnless, OnOk, IsTrue, IsErrOf, option_map, map};
 ghost use Rattle.std.specs.Rc.{rc_str_bytes};
 ghost use Rattle.std.specs.declared.alloc.Global.{Global};
 ghost use Rattle.std.specs.declared.rc.RcStr.{RcStr};
@@ -8,12 +8,16 @@ ghost use Rattle.smt_term.specs.Faults.{EncodeStringFailed, EncodePatternFailed,
 ghost use Rattle.smt_term.specs.PatternView.{plain_ord_pattern};
 ghost use Rattle.smt_term.specs.Plain.{LiteralTerm, terms as plain_terms};
 ghost use Rattle.smt_term.specs.Types.{type_of};
+ghost use Rattle.smt_term.specs.Typing.{AreBoolean};
 ghost use Rattle.smt_term.specs.View.{plain_term, plain_type, plain_literal, plain_variable};
 ghost use Rattle.smt_term.specs.declared.pattern.OrdPattern.{OrdPattern};
 ghost use Rattle.smt_sexpr.specs.Reading.{Expression};
 ghost use Rattle.smt_lines.specs.Line.{Comment, DeclareConst, DefineFun, Assert, spelled_line};
 ghost use Rattle.smt_lines.specs.Lines as lines;
-ghost use Rattle.smt_lines.specs.Lines.{Tables, enter_term, name_of_term, next_term, no_names, option_line, quoted_id};
+ghost use Rattle.smt_lines.specs.LineForms.{variable_lines};
+ghost use Rattle.smt_lines.specs.TermTexts.{bool_name};
+ghost use Rattle.smt_lines.specs.Lines.{enter_term, next_term, option_line};
+ghost use Rattle.smt_lines.specs.NameTables.{Tables, name_of_term, no_names};
 ghost use Rattle.smt_lines.specs.Text.{names, text};
 ghost use Rattle.smt_headline.specs.Headline.{Headline};
 ghost use Rattle.std.specs.Io.KnownBytes.{append_known};
@@ -22,7 +26,7 @@ ghost use Rattle.smt_lines.specs.Spelling.{spelled};
 ghost use Rattle.smt_script.specs.Sink.{Rose};
 
 use crate::error::EncodeError;
-use crate::manner::{Manner, application_body, least_body, manner_of};
+use crate::rendering::{Rendering, application_body, least_body, rendering_of};
 use crate::spell::{
     as_text, bits_literal, bits_sort, option_sort, quoted_id_text, set_sort, set_text, some_text,
     string_literal, term_name,
@@ -91,7 +95,7 @@ impl<'a, S> Encoder<'a, S> {
 }
 
 impl<S: Sink> Encoder<'_, S> {
-    ghost use Rattle.smt_encode.specs.Encoded.{entry_of, enums_in, is_spent, sink_of, AreBoolean, AreSpelled, HasCause, HasNames, IsSpelled, ModelsMakeTrue, PutsLine, Writes, WritesHere, Wrote};
+    ghost use Rattle.smt_encode.specs.Encoded.{entry_of, enums_in, is_spent, sink_of, AreSpelled, FaultCounted, HasNames, IsSpelled, ModelsMakeTrue, OfNames, OfReceived, PutsLine, WritesStated, WritesHere, Wrote};
 
     /// Writes the script of these terms: the declaration of the datatype `Option`, what the terms need, and an
     /// assertion for each term, in order (commands of SMT-LIB 2.7, chapter 3, Scripts).
@@ -102,10 +106,11 @@ impl<S: Sink> Encoder<'_, S> {
     /// has a name already is not written again. A term's assertion is `(assert TEXT)`, where `TEXT` is its name or, of a
     /// literal, its inline text.
     ///
-    /// After Ok the sink got exactly the stated text, and the encoder has its table of names. For Boolean terms
-    /// `headline` says what that text means: it is a script by the grammar of SMT-LIB 2.7, its assertions are the
-    /// terms' texts, and its models are exactly the interpretations that make all terms true, which `models` says by
-    /// itself.
+    /// After Ok an encoder without names has put exactly the stated text (`text`), and has its names (`names`). For Boolean
+    /// terms `headline` says what the bytes mean that the sink got in this call, by the names that the encoder has then:
+    /// they are a script by the grammar of SMT-LIB 2.7, each name is declared once and before its use, the assertions are
+    /// the terms' texts in order, and the models are exactly the interpretations that make all terms true. `models` says
+    /// the last by itself, of the stated text.
     ///
     /// # Errors
     ///
@@ -116,10 +121,10 @@ impl<S: Sink> Encoder<'_, S> {
     /// may come from any encoder that is not spent, where there is no memory left. Each of the four spends the encoder
     /// and says nothing of what the sink got.
     pub fn encode(&mut self, terms: &[Term]) -> Result<(), EncodeError>
-        ensures text { HasNames self.old no_names → OnOk result (S.held (sink_of self.new) ≡ append_known (S.held (sink_of self.old)) (text (enums_in self.old) (map plain_term terms.now))) }
+        ensures text { HasNames self.old no_names → OnOk result (S.contents (sink_of self.new) ≡ append_known (S.contents (sink_of self.old)) (text (enums_in self.old) (map plain_term terms.now))) }
         ensures names { HasNames self.old no_names → OnOk result (HasNames self.new (names (enums_in self.old) (map plain_term terms.now))) }
-        ensures headline { AreBoolean terms.now → OnOk result (Headline (enums_in self.old) (map plain_term terms.now)) }
-        ensures models { AreBoolean terms.now → OnOk result (ModelsMakeTrue (enums_in self.old) (map plain_term terms.now)) }
+        ensures headline { HasNames self.old no_names → AreBoolean (map plain_term terms.now) → OnOk result (OfReceived (S.contents (sink_of self.old)) (S.contents (sink_of self.new)) (λ bytes. OfNames self.new (λ names. Headline (enums_in self.old) names (map plain_term terms.now) bytes))) }
+        ensures models { AreBoolean (map plain_term terms.now) → OnOk result (ModelsMakeTrue (enums_in self.old) (map plain_term terms.now)) }
         ensures spent { IsErrOf result EncodeError.Spent ↔ IsTrue (is_spent self.old) }
         ensures unchanged { IsTrue (is_spent self.old) → self.new ≡ self.old }
         ensures once { IsTrue (is_spent self.new) }
@@ -176,8 +181,8 @@ impl<S: Sink> Encoder<'_, S> {
 
     /// Puts a comment.
     fn put_comment(&mut self, text: &str) -> Result<(), EncodeError>
-        ensures line { PutsLine S.held self.old self.new (spelled_line (Comment text.now)) result }
-        ensures cause { HasCause S.faults S.place self.old self.new result }
+        ensures line { PutsLine S.contents self.old self.new (spelled_line (Comment text.now)) result }
+        ensures cause { FaultCounted S.faults S.place self.old self.new result }
         ensures fault { Finds None result }
     {
         self.script.comment(text)?;
@@ -186,8 +191,8 @@ impl<S: Sink> Encoder<'_, S> {
 
     /// Puts the declaration of a constant.
     fn put_constant(&mut self, name: &str, sort: &str) -> Result<(), EncodeError>
-        ensures line { (e : Expression) → sort.now ≡ spelled e → PutsLine S.held self.old self.new (spelled_line (DeclareConst name.now e)) result }
-        ensures cause { HasCause S.faults S.place self.old self.new result }
+        ensures line { (e : Expression) → sort.now ≡ spelled e → PutsLine S.contents self.old self.new (spelled_line (DeclareConst name.now e)) result }
+        ensures cause { FaultCounted S.faults S.place self.old self.new result }
         ensures fault { Finds None result }
     {
         self.script.declare_const(name, sort)?;
@@ -196,8 +201,8 @@ impl<S: Sink> Encoder<'_, S> {
 
     /// Puts the definition of a name.
     fn put_definition(&mut self, name: &str, sort: &str, body: &str) -> Result<(), EncodeError>
-        ensures line { (e b : Expression) → sort.now ≡ spelled e → body.now ≡ spelled b → PutsLine S.held self.old self.new (spelled_line (DefineFun name.now e b)) result }
-        ensures cause { HasCause S.faults S.place self.old self.new result }
+        ensures line { (e b : Expression) → sort.now ≡ spelled e → body.now ≡ spelled b → PutsLine S.contents self.old self.new (spelled_line (DefineFun name.now e b)) result }
+        ensures cause { FaultCounted S.faults S.place self.old self.new result }
         ensures fault { Finds None result }
     {
         self.script.define_fun(name, &[], sort, body)?;
@@ -206,8 +211,8 @@ impl<S: Sink> Encoder<'_, S> {
 
     /// Puts an assertion.
     fn put_assertion(&mut self, text: &str) -> Result<(), EncodeError>
-        ensures line { (e : Expression) → text.now ≡ spelled e → PutsLine S.held self.old self.new (spelled_line (Assert e)) result }
-        ensures cause { HasCause S.faults S.place self.old self.new result }
+        ensures line { (e : Expression) → text.now ≡ spelled e → PutsLine S.contents self.old self.new (spelled_line (Assert e)) result }
+        ensures cause { FaultCounted S.faults S.place self.old self.new result }
         ensures fault { Finds None result }
     {
         self.script.assert(text)?;
@@ -216,8 +221,8 @@ impl<S: Sink> Encoder<'_, S> {
 
     /// Puts the declaration of the datatype `Option`, with which each script begins.
     fn put_option(&mut self) -> Result<(), EncodeError>
-        ensures line { PutsLine S.held self.old self.new (spelled_line option_line) result }
-        ensures cause { HasCause S.faults S.place self.old self.new result }
+        ensures line { PutsLine S.contents self.old self.new (spelled_line option_line) result }
+        ensures cause { FaultCounted S.faults S.place self.old self.new result }
         ensures fault { Finds None result }
     {
         let parameter = Text::from_str(self.alloc, "X")?;
@@ -230,8 +235,8 @@ impl<S: Sink> Encoder<'_, S> {
 
     /// The sort of a type.
     fn encode_type(&mut self, ty: &TermType) -> Result<Text, EncodeError>
-        ensures lines { Writes S.held self.old self.new (lines.encode_type (enums_in self.old) (plain_type ty.now)) IsSpelled result }
-        ensures cause { HasCause S.faults S.place self.old self.new result }
+        ensures lines { WritesStated S.contents self.old self.new (lines.encode_type (enums_in self.old) (plain_type ty.now)) IsSpelled result }
+        ensures cause { FaultCounted S.faults S.place self.old self.new result }
         ensures fault { Finds (type_fault (enums_in self.old) (plain_type ty.now)) result }
     {
         match ty {
@@ -251,8 +256,8 @@ impl<S: Sink> Encoder<'_, S> {
 
     /// The sort of a term.
     fn encode_sort(&mut self, term: &Term) -> Result<Text, EncodeError>
-        ensures lines { Writes S.held self.old self.new (lines.encode_type (enums_in self.old) (type_of (plain_term term.now))) IsSpelled result }
-        ensures cause { HasCause S.faults S.place self.old self.new result }
+        ensures lines { WritesStated S.contents self.old self.new (lines.encode_type (enums_in self.old) (type_of (plain_term term.now))) IsSpelled result }
+        ensures cause { FaultCounted S.faults S.place self.old self.new result }
         ensures fault { Finds (type_fault (enums_in self.old) (type_of (plain_term term.now))) result }
     {
         let ty = term.type_of(self.alloc)?;
@@ -261,8 +266,8 @@ impl<S: Sink> Encoder<'_, S> {
 
     /// The text of a literal.
     fn encode_literal(&mut self, literal: &TermPrim) -> Result<Text, EncodeError>
-        ensures lines { Writes S.held self.old self.new (lines.encode_literal (enums_in self.old) (plain_literal literal.now)) IsSpelled result }
-        ensures cause { HasCause S.faults S.place self.old self.new result }
+        ensures lines { WritesStated S.contents self.old self.new (lines.encode_literal (enums_in self.old) (plain_literal literal.now)) IsSpelled result }
+        ensures cause { FaultCounted S.faults S.place self.old self.new result }
         ensures fault { Finds (term_fault (enums_in self.old) (LiteralTerm (plain_literal literal.now))) result }
     {
         match literal {
@@ -285,8 +290,8 @@ impl<S: Sink> Encoder<'_, S> {
         requires variable { plain_term term.now ≡ plain_variable variable.now }
         requires sound { term_fault (enums_in self.now) (plain_term term.now) ≡ None }
         ensures lines { (s : Tables) (e : Expression) → HasNames self.old s → name_of_term s (plain_term term.now) ≡ None → sort.now ≡ spelled e →
-            WritesHere S.held self.old self.new (enter_term (plain_term term.now) (next_term s) (Comment (quoted_id (rc_str_bytes variable.now.id)) ∷ DeclareConst (next_term s) e ∷ []) s) IsSpelled result }
-        ensures cause { HasCause S.faults S.place self.old self.new result }
+            WritesHere S.contents self.old self.new (enter_term (plain_term term.now) (next_term s) (variable_lines (rc_str_bytes variable.now.id) (next_term s) e) s) IsSpelled result }
+        ensures cause { FaultCounted S.faults S.place self.old self.new result }
         ensures fault { Finds None result }
     {
         let quoted = quoted_id_text(self.alloc, variable.id.as_str())?;
@@ -301,8 +306,8 @@ impl<S: Sink> Encoder<'_, S> {
     fn define(&mut self, term: &Term, sort: &str, body: &str) -> Result<Text, EncodeError>
         requires sound { term_fault (enums_in self.now) (plain_term term.now) ≡ None }
         ensures lines { (s : Tables) (e b : Expression) → HasNames self.old s → name_of_term s (plain_term term.now) ≡ None → sort.now ≡ spelled e → body.now ≡ spelled b →
-            WritesHere S.held self.old self.new (lines.define (plain_term term.now) e b s) IsSpelled result }
-        ensures cause { HasCause S.faults S.place self.old self.new result }
+            WritesHere S.contents self.old self.new (lines.define (plain_term term.now) e b s) IsSpelled result }
+        ensures cause { FaultCounted S.faults S.place self.old self.new result }
         ensures fault { Finds None result }
     {
         let name = self.next_name()?;
@@ -315,8 +320,8 @@ impl<S: Sink> Encoder<'_, S> {
     fn name_false(&mut self, term: &Term) -> Result<Text, EncodeError>
         requires sound { term_fault (enums_in self.now) (plain_term term.now) ≡ None }
         ensures lines { (s : Tables) → HasNames self.old s → name_of_term s (plain_term term.now) ≡ None →
-            WritesHere S.held self.old self.new (enter_term (plain_term term.now) (codes "false") [] s) IsSpelled result }
-        ensures cause { HasCause S.faults S.place self.old self.new result }
+            WritesHere S.contents self.old self.new (enter_term (plain_term term.now) (bool_name false) [] s) IsSpelled result }
+        ensures cause { FaultCounted S.faults S.place self.old self.new result }
         ensures fault { Finds None result }
     {
         let name = Text::from_str(self.alloc, "false")?;
@@ -327,8 +332,8 @@ impl<S: Sink> Encoder<'_, S> {
     /// The text of a term: its name, or the text of a literal, which has none. What has no name yet gets one.
     #[cycle(walk)]
     fn encode_term(&mut self, term: &Term) -> Result<Text, EncodeError>
-        ensures lines { Writes S.held self.old self.new (lines.encode_term (enums_in self.old) (plain_term term.now)) IsSpelled result }
-        ensures cause { HasCause S.faults S.place self.old self.new result }
+        ensures lines { WritesStated S.contents self.old self.new (lines.encode_term (enums_in self.old) (plain_term term.now)) IsSpelled result }
+        ensures cause { FaultCounted S.faults S.place self.old self.new result }
         ensures fault { Finds (term_fault (enums_in self.old) (plain_term term.now)) result }
     {
         if let Term::Prim(literal) = term {
@@ -344,26 +349,26 @@ impl<S: Sink> Encoder<'_, S> {
     #[cycle(walk)]
     fn encode_new(&mut self, term: &Term) -> Result<Text, EncodeError>
         ensures lines { (s : Tables) → HasNames self.old s → name_of_term s (plain_term term.now) ≡ None →
-            WritesHere S.held self.old self.new (lines.encode_term (enums_in self.old) (plain_term term.now) s) IsSpelled result }
-        ensures cause { HasCause S.faults S.place self.old self.new result }
+            WritesHere S.contents self.old self.new (lines.encode_term (enums_in self.old) (plain_term term.now) s) IsSpelled result }
+        ensures cause { FaultCounted S.faults S.place self.old self.new result }
         ensures fault { Finds (term_fault (enums_in self.old) (plain_term term.now)) result }
     {
         match term {
             Term::App { op, args, ret_ty } => {
                 let sort = self.encode_sort(term)?;
                 let args = args.items();
-                match manner_of(self.alloc, op, args, ret_ty)? {
-                    Manner::AsItStands => {
+                match rendering_of(self.alloc, op, args, ret_ty)? {
+                    Rendering::Application => {
                         let operands = self.encode_terms(args)?;
                         let body = application_body(self.alloc, op, operands)?;
                         self.define(term, sort.as_str(), body.as_str())
                     }
-                    Manner::AsLeast(width) => {
+                    Rendering::EqualsIntMin(width) => {
                         let operands = self.encode_terms(args)?;
                         let body = least_body(self.alloc, width, operands)?;
                         self.define(term, sort.as_str(), body.as_str())
                     }
-                    Manner::AsFalse => self.name_false(term),
+                    Rendering::False => self.name_false(term),
                 }
             }
             Term::None(_) => {
@@ -394,8 +399,8 @@ impl<S: Sink> Encoder<'_, S> {
     /// The texts of terms, in order.
     #[cycle(walk)]
     fn encode_terms(&mut self, terms: &[Term]) -> Result<Vec<Text>, EncodeError>
-        ensures lines { Writes S.held self.old self.new (lines.encode_terms (enums_in self.old) (plain_terms (map plain_term terms.now))) (λ es texts. AreSpelled es texts.items) result }
-        ensures cause { HasCause S.faults S.place self.old self.new result }
+        ensures lines { WritesStated S.contents self.old self.new (lines.encode_terms (enums_in self.old) (plain_terms (map plain_term terms.now))) (λ es texts. AreSpelled es texts.items) result }
+        ensures cause { FaultCounted S.faults S.place self.old self.new result }
         ensures fault { Finds (terms_fault (enums_in self.old) (plain_terms (map plain_term terms.now))) result }
     {
         let mut texts = Vec::new(self.alloc);
@@ -407,8 +412,8 @@ impl<S: Sink> Encoder<'_, S> {
 
     /// Puts an assertion for each text, in order.
     fn put_assertions(&mut self, texts: &[Text]) -> Result<(), EncodeError>
-        ensures lines { (s : Tables) (es : List Expression) → HasNames self.old s → AreSpelled es texts.now → OnOk result (Wrote S.held self.old self.new (map Assert es) s) }
-        ensures cause { HasCause S.faults S.place self.old self.new result }
+        ensures lines { (s : Tables) (es : List Expression) → HasNames self.old s → AreSpelled es texts.now → OnOk result (Wrote S.contents self.old self.new (map Assert es) s) }
+        ensures cause { FaultCounted S.faults S.place self.old self.new result }
         ensures fault { Finds None result }
     {
         for text in texts {
@@ -419,8 +424,8 @@ impl<S: Sink> Encoder<'_, S> {
 
     /// Puts the whole script of these terms.
     fn put_script(&mut self, terms: &[Term]) -> Result<(), EncodeError>
-        ensures lines { HasNames self.old no_names → OnOk result (Wrote S.held self.old self.new (option_line ∷ (lines.encode (enums_in self.old) (map plain_term terms.now) no_names).lines) (names (enums_in self.old) (map plain_term terms.now))) }
-        ensures cause { HasCause S.faults S.place self.old self.new result }
+        ensures lines { HasNames self.old no_names → OnOk result (Wrote S.contents self.old self.new (option_line ∷ (lines.encode (enums_in self.old) (map plain_term terms.now) no_names).lines) (names (enums_in self.old) (map plain_term terms.now))) }
+        ensures cause { FaultCounted S.faults S.place self.old self.new result }
         ensures fault { Finds (terms_fault (enums_in self.old) (plain_terms (map plain_term terms.now))) result }
     {
         self.put_option()?;

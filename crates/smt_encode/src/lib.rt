@@ -23,8 +23,8 @@
 
 mod encoder;
 mod error;
-mod manner;
 mod pattern;
+mod rendering;
 mod spell;
 
 pub use encoder::Encoder;

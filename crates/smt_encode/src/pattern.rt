@@ -4,7 +4,7 @@ ghost use Rattle.std.specs.Rc.{rc_str_bytes};
 ghost use Rattle.smt_encode.specs.Encoded.{AreSpelled};
 ghost use Rattle.smt_encode.specs.Refusals.{Finds};
 ghost use Rattle.smt_lines.specs.Spelling.{spelled};
-ghost use Rattle.smt_semantics.specs.Quoting.{part_expr, pattern_expr};
+ghost use Rattle.smt_semantics.specs.WrittenStrings.{part_expr, pattern_expr};
 ghost use Rattle.smt_semantics.specs.Script.{group, name};
 ghost use Rattle.smt_sexpr.specs.Reading.{Expression};
 ghost use Rattle.smt_term.specs.Faults.{EncodePatternFailed, fault_unless, is_pattern_part};

@@ -1,26 +1,24 @@
 // The texts of names, sorts, literals, ids and applications.
-ghost use Rattle.std.specs.Prelude.{◌≡◌, ◌++◌, List, [], ◌∷◌, IfOk, OnOk, IsErrOf, codes, decimal, encode_utf8};
+ghost use Rattle.std.specs.Prelude.{◌≡◌, ◌++◌, List, IfOk, OnOk, IsErrOf, codes, decimal, encode_utf8};
 ghost use Rattle.std.specs.List.{flat_map, join_by};
 ghost use Rattle.std.specs.Rc.{rc_str_bytes};
 ghost use Rattle.std.specs.String.{string_bytes};
 ghost use Rattle.smt_bits.specs.BitVec.{number_of, width_of};
 ghost use Rattle.smt_bits.specs.Width.{bits_in};
-ghost use Rattle.std.specs.Str.{chars};
 ghost use Rattle.smt_encode.specs.Encoded.{AreSpelled};
-ghost use Rattle.smt_encode.specs.Heads.{head_of};
 ghost use Rattle.smt_encode.specs.Refusals.{Finds};
-ghost use Rattle.smt_lines.specs.Spelling.{quoted};
-ghost use Rattle.smt_semantics.specs.Script.{group, name};
+ghost use Rattle.smt_semantics.specs.Meanings.{as_sort};
 ghost use Rattle.smt_semantics.specs.Sorts as sorts;
 ghost use Rattle.smt_sexpr.specs.Reading.{Expression};
 ghost use Rattle.smt_term.specs.Faults.{EncodeStringFailed, fault_unless, is_string};
 ghost use Rattle.smt_lines.specs.Lines as lines;
-ghost use Rattle.smt_lines.specs.Lines.{quoted_id, quoted_id_byte};
+ghost use Rattle.smt_lines.specs.LineForms.{operator_head, quoted_id, quoted_id_byte, set_body, some_body};
+ghost use Rattle.smt_lines.specs.TermTexts.{string_text};
 ghost use Rattle.smt_lines.specs.Spelling.{spelled};
 ghost use Rattle.smt_semantics.specs.Sorts.{bit_sort};
 ghost use Rattle.smt_term.specs.Plain.{ZeroExtendOp};
 ghost use Rattle.smt_term.specs.View.{plain_op};
-ghost use Rattle.smt_script.specs.Texts.{texts};
+ghost use Rattle.smt_script.specs.SharedTexts.{texts};
 
 use crate::error::EncodeError;
 use smt_bits::{BitVec, Width};
@@ -68,7 +66,7 @@ pub(crate) fn set_sort(alloc: Global, inner: Text) -> Result<Text, AllocError>
 
 /// A string between quotes (UnicodeStrings), or its refusal where a character is above `SMT_LIB_MAX_CODE_POINT`.
 pub(crate) fn string_literal(alloc: Global, text: &Text) -> Result<Text, EncodeError>
-    ensures text { IfOk result (λ literal. rc_str_bytes literal ≡ quoted (chars (rc_str_bytes text.now))) }
+    ensures text { IfOk result (λ literal. rc_str_bytes literal ≡ spelled (string_text (rc_str_bytes text.now))) }
     ensures fault { Finds (fault_unless (is_string (rc_str_bytes text.now)) (EncodeStringFailed (rc_str_bytes text.now))) result }
     ensures unspent { IsErrOf result EncodeError.Spent → ⊥ }
     ensures no_sink { IsErrOf result EncodeError.Io → ⊥ }
@@ -81,7 +79,7 @@ pub(crate) fn string_literal(alloc: Global, text: &Text) -> Result<Text, EncodeE
 
 /// `(as WORD S)`: the constant of this name that has this sort.
 pub(crate) fn as_text(alloc: Global, word: &str, sort: &str) -> Result<Text, AllocError>
-    ensures { (e : Expression) → sort.now ≡ spelled e → IfOk result (λ text. rc_str_bytes text ≡ spelled (group (name (codes "as") ∷ name word.now ∷ e ∷ []))) }
+    ensures { (e : Expression) → sort.now ≡ spelled e → IfOk result (λ text. rc_str_bytes text ≡ spelled (as_sort word.now e)) }
 {
     let word = Text::from_str(alloc, word)?;
     let sort = Text::from_str(alloc, sort)?;
@@ -90,7 +88,7 @@ pub(crate) fn as_text(alloc: Global, word: &str, sort: &str) -> Result<Text, All
 
 /// `(some x)`.
 pub(crate) fn some_text(alloc: Global, operand: Text) -> Result<String, AllocError>
-    ensures { (e : Expression) → rc_str_bytes operand ≡ spelled e → IfOk result (λ text. string_bytes text ≡ spelled (group (name (codes "some") ∷ e ∷ []))) }
+    ensures { (e : Expression) → rc_str_bytes operand ≡ spelled e → IfOk result (λ text. string_bytes text ≡ spelled (some_body e)) }
 {
     application_text(alloc, "some", &[operand])
 }
@@ -101,7 +99,7 @@ pub(crate) fn set_text(
     sort: &str,
     mut elements: Vec<Text>,
 ) -> Result<Text, AllocError>
-    ensures { (e : Expression) (es : List Expression) → sort.now ≡ spelled e → AreSpelled es elements.items → IfOk result (λ text. rc_str_bytes text ≡ spelled (lines.set_body e es)) }
+    ensures { (e : Expression) (es : List Expression) → sort.now ≡ spelled e → AreSpelled es elements.items → IfOk result (λ text. rc_str_bytes text ≡ spelled (set_body e es)) }
 {
     let empty = as_text(alloc, "set.empty", sort)?;
     if elements.is_empty() {
@@ -113,7 +111,7 @@ pub(crate) fn set_text(
 
 /// What stands before the operands of an application.
 pub(crate) fn head_text(alloc: Global, op: &Op) -> Result<Text, AllocError>
-    ensures { IfOk result (λ head. rc_str_bytes head ≡ spelled (head_of (plain_op op.now))) }
+    ensures { IfOk result (λ head. rc_str_bytes head ≡ spelled (operator_head (plain_op op.now))) }
 {
     match op {
         Op::Eq => Text::from_str(alloc, "="),
@@ -126,7 +124,7 @@ pub(crate) fn head_text(alloc: Global, op: &Op) -> Result<Text, AllocError>
 
 /// `(_ zero_extend k)` (QF_BV).
 fn zero_extension(alloc: Global, bits: u32) -> Result<Text, AllocError>
-    ensures { IfOk result (λ head. rc_str_bytes head ≡ spelled (head_of (ZeroExtendOp bits))) }
+    ensures { IfOk result (λ head. rc_str_bytes head ≡ spelled (operator_head (ZeroExtendOp bits))) }
 {
     Text::from_string(format!(in alloc; "(_ zero_extend {bits})")?)
 }

@@ -3,7 +3,7 @@ use Rattle.std.proofs.Common.{lit<, ◌≡◌, ℕ, zero, suc, ◌^◌, ◌<◌,
 use Rattle.smt_ext.specs.declared.decimal.DecimalError.{DecimalError}
 use Rattle.smt_ext.specs.declared.decimal.DecimalError.TheVariants.{ParseError, Memory}
 use Rattle.smt_ext.specs.Decimal.{HoldsDecimalText, IsDecimalRefusal, HasDecimalParts, ten_thousandths, IsDecimalText, IsNoDecimal}
-use Rattle.smt_ext.specs.Digits.{is_digit, signed, IsLong}
+use Rattle.smt_ext.specs.Digits.{is_digit, signed_number, IsLong}
 use Rattle.smt_ext.specs.Front.{IsRun, IsSigned}
 use Rattle.smt_ext.proofs.Runs.{one_run, one_sign, sign_of, numeral_unsigned, digits_of_numeral}
 
@@ -24,7 +24,7 @@ one_split text w f x g m n p q =
     (u.0, u.1, t)
 
 -- the value is that of the parts
-value_of_parts : (text w f : List ℕ) (n : Bool) (v : ℤ) → HasDecimalParts text n w f → IsDecimalText text v → v ≡ signed n (ten_thousandths w f)
+value_of_parts : (text w f : List ℕ) (n : Bool) (v : ℤ) → HasDecimalParts text n w f → IsDecimalText text v → v ≡ signed_number n (ten_thousandths w f)
 value_of_parts text w f n v p d =
     let u = one_split text d.whole d.fraction w f d.negative n d.parts p in
     d.number ∙ rw (u.0, u.1, u.2) refl
@@ -33,7 +33,7 @@ pub one_value : (text : List ℕ) (v w : ℤ) → IsDecimalText text v → IsDec
 one_value text v w d e = value_of_parts text e.whole e.fraction e.negative v e.parts d ∙ sym e.number
 
 -- a number with a sign that fits 64 bits is below 2 to the 64
-small : (n : Bool) (t : ℕ) → IsLong (signed n t) → t < 2 ^ 64
+small : (n : Bool) (t : ℕ) → IsLong (signed_number n t) → t < 2 ^ 64
 small true zero h = lit< tt
 small true (suc t) h = omega arith
 small false t h = omega arith
@@ -42,12 +42,12 @@ pub no_decimal_by_size : (text w f : List ℕ) (n : Bool) → HasDecimalParts te
 no_decimal_by_size text w f n p big v d =
     big (small n (ten_thousandths w f) (let e = value_of_parts text w f n v p d in rw (← e) d.fits))
 
-pub no_decimal_by_sign : (text w f : List ℕ) (n : Bool) (t : ℕ) → HasDecimalParts text n w f → t ≡ ten_thousandths w f → (IsLong (signed n t) → ⊥) → IsNoDecimal text
+pub no_decimal_by_sign : (text w f : List ℕ) (n : Bool) (t : ℕ) → HasDecimalParts text n w f → t ≡ ten_thousandths w f → (IsLong (signed_number n t) → ⊥) → IsNoDecimal text
 no_decimal_by_sign text w f n t p e far v d =
     far (let g = value_of_parts text w f n v p d in rw e (rw (← g) d.fits))
 
 -- the parts and their value are the decimal
-pub decimal_is : (text w f : List ℕ) (n : Bool) (v : ℤ) → HasDecimalParts text n w f → v ≡ signed n (ten_thousandths w f) → IsLong v → IsDecimalText text v
+pub decimal_is : (text w f : List ℕ) (n : Bool) (v : ℤ) → HasDecimalParts text n w f → v ≡ signed_number n (ten_thousandths w f) → IsLong v → IsDecimalText text v
 decimal_is text w f n v p e l = record { negative = n; whole = w; fraction = f; parts = p; number = e; fits = l }
 
 pub refusal_of : (text : List ℕ) (e : DecimalError) → HoldsDecimalText text e → IsNoDecimal text → IsDecimalRefusal text e

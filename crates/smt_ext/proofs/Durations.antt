@@ -7,7 +7,7 @@ use Rattle.smt_ext.specs.declared.datetime.span.Fault.{Fault}
 use Rattle.smt_ext.specs.declared.datetime.span.Fault.TheVariants.{Form, NoDigits, OutOfRange}
 use Rattle.smt_ext.specs.declared.datetime.span.TimeUnit.{TimeUnit}
 use Rattle.smt_ext.specs.declared.datetime.span.TimeUnit.TheVariants.{Millisecond, Second, Minute, Hour, FullDay}
-use Rattle.smt_ext.specs.Digits.{is_digit, is_numeral, number_of, minus_if, signed, IsLong}
+use Rattle.smt_ext.specs.Digits.{is_digit, is_numeral, decimal_number, minus_if, signed_number, IsLong}
 use Rattle.smt_ext.specs.Front.{begins_without, IsSigned}
 use Rattle.smt_ext.specs.DurationRefusal.{unit_name, unit_milliseconds, all_units, EndsInPart, HasNoPart, begins_past_ascii, IsSoundPart, IsPartFault, IsFirstFault, HasSum, IsFaultBehindSign, HasFault}
 use Rattle.smt_ext.specs.DurationText.{Parts, part_text, part_number, IsPart, parts_text, parts_number, ArePartsOfDuration, IsDurationText}
@@ -62,7 +62,7 @@ one_sum negative (unit ∷ units) rest m n (inr s) (inr t) =
     let same = one_part unit rest s.0 s.1 t.0 t.1 s.3 t.3 in
     let R : List ℕ → Type 0 = λ v. HasSum negative units v s.2 in
     let more = one_sum negative units t.0 s.2 t.2 (subst R same.0 s.5) t.5 in
-    s.6 ∙ ap₂ (λ (a : ℕ) (d : List ℕ). a + number_of d * unit_milliseconds unit) more same.1 ∙ sym t.6
+    s.6 ∙ ap₂ (λ (a : ℕ) (d : List ℕ). a + decimal_number d * unit_milliseconds unit) more same.1 ∙ sym t.6
 
 -- ---- from a sum to the parts
 
@@ -118,7 +118,7 @@ some_from : (bytes : List ℕ) → eqb (length bytes) 0 ≡ false → 0 < length
 some_from [] h = absurd (false≢true (sym h))
 some_from (b ∷ bs) h = omega arith
 
-pub duration_is : (text rest : List ℕ) (negative : Bool) (n : ℕ) (v : ℤ) → IsSigned text negative rest → eqb (length rest) 0 ≡ false → HasSum negative all_units rest n → IsLong (signed negative n) → v ≡ signed negative n → IsDurationText text v
+pub duration_is : (text rest : List ℕ) (negative : Bool) (n : ℕ) (v : ℤ) → IsSigned text negative rest → eqb (length rest) 0 ≡ false → HasSum negative all_units rest n → IsLong (signed_number negative n) → v ≡ signed_number negative n → IsDurationText text v
 duration_is text rest negative n v sign some s fits e =
     let p = parts_of negative rest n s in
     let l = some_from rest some in
@@ -128,7 +128,7 @@ duration_is text rest negative n v sign some s fits e =
       spelled = sign.whole ∙ ap (λ (x : List ℕ). minus_if negative ++ x) p.1;
       numerals = p.2;
       some_part = (let q = ap length p.1 in omega arith);
-      number = e ∙ ap (signed negative) p.3;
+      number = e ∙ ap (signed_number negative) p.3;
       fits = rw e fits;
     }
 
@@ -247,7 +247,7 @@ nothing_is_last : (g : List ℕ) (l : ℕ) → [] ≡ g ++ (l ∷ []) → ⊥
 nothing_is_last g l e = let q = ap length e in let k = length-append g (l ∷ []) in omega arith
 
 -- one part more
-put_back : (negative : Bool) (unit : TimeUnit) (units : List TimeUnit) (front : List ℕ) (p : Option (List ℕ)) (more : ℕ) → IsPart p → HasNoPart unit front → first_in in_s (reverse front) ≡ true → IsLong (signed negative (part_number p * unit_milliseconds unit)) → HasSum negative units front more → HasSum negative (unit ∷ units) (front ++ part_text (unit_name unit) p) (more + part_number p * unit_milliseconds unit)
+put_back : (negative : Bool) (unit : TimeUnit) (units : List TimeUnit) (front : List ℕ) (p : Option (List ℕ)) (more : ℕ) → IsPart p → HasNoPart unit front → first_in in_s (reverse front) ≡ true → IsLong (signed_number negative (part_number p * unit_milliseconds unit)) → HasSum negative units front more → HasSum negative (unit ∷ units) (front ++ part_text (unit_name unit) p) (more + part_number p * unit_milliseconds unit)
 unfolding HasSum
 put_back negative unit units front None more q n l fits s =
     let z : more + 0 * unit_milliseconds unit ≡ more = omega arith in
@@ -255,15 +255,15 @@ put_back negative unit units front None more q n l fits s =
 put_back negative unit units front (Some ds) more q n l fits s =
     inr (front, ds, more, record { whole = refl; each = digits_of_numeral ds q; longest = no_digit_first (reverse front) l }, record { ascii = ascii_first (reverse front) l; some_digit = some_digits ds q; fits = fits }, s, refl)
 
-less_fits : (negative : Bool) (a b : ℕ) → a ≤ b → IsLong (signed negative b) → IsLong (signed negative a)
+less_fits : (negative : Bool) (a b : ℕ) → a ≤ b → IsLong (signed_number negative b) → IsLong (signed_number negative a)
 less_fits true zero b h l = omega arith
 less_fits true (suc a) zero h l = absurd (omega arith)
 less_fits true (suc a) (suc b) h l = omega arith
 less_fits false a b h l = omega arith
 
-pub sum_of : (negative : Bool) (p : Parts) → ArePartsOfDuration p → IsLong (signed negative (parts_number p)) → HasSum negative all_units (parts_text p) (parts_number p)
+pub sum_of : (negative : Bool) (p : Parts) → ArePartsOfDuration p → IsLong (signed_number negative (parts_number p)) → HasSum negative all_units (parts_text p) (parts_number p)
 sum_of negative p q fits =
-    let part : ℕ → Type 0 = λ a. IsLong (signed negative a) in
+    let part : ℕ → Type 0 = λ a. IsLong (signed_number negative a) in
     let d : part (part_number p.days * 86400000) = less_fits negative _ (parts_number p) (omega arith) fits in
     let h : part (part_number p.hours * 3600000) = less_fits negative _ (parts_number p) (omega arith) fits in
     let m : part (part_number p.minutes * 60000) = less_fits negative _ (parts_number p) (omega arith) fits in
@@ -310,7 +310,7 @@ sum_of_text text rest negative v s d = one_sign text rest (parts_text d.parts) n
 pub no_fault : (text : List ℕ) (v : ℤ) (fault : Fault) → IsDurationText text v → HasFault text fault → ⊥
 no_fault text v fault d f =
     let u = sum_of_text text f.rest f.negative v f.sign d in
-    let long : IsLong (signed d.negative (parts_number d.parts)) = (let e = d.number in rw (← e) d.fits) in
+    let long : IsLong (signed_number d.negative (parts_number d.parts)) = (let e = d.number in rw (← e) d.fits) in
     let s = sum_of d.negative d.parts d.numerals long in
     let P : Bool → Type 0 = λ b. HasSum b all_units (parts_text d.parts) (parts_number d.parts) in
     let Q : List ℕ → Type 0 = λ r. HasSum f.negative all_units r (parts_number d.parts) in
@@ -334,7 +334,7 @@ one_duration text v w d e =
     let P : Bool → Type 0 = λ x. HasSum x all_units (parts_text d.parts) (parts_number d.parts) in
     let Q : List ℕ → Type 0 = λ r. HasSum e.negative all_units r (parts_number d.parts) in
     let same = one_sum e.negative all_units (parts_text e.parts) (parts_number d.parts) (parts_number e.parts) (subst Q u.1 (subst P u.0 a)) b in
-    d.number ∙ ap₂ (λ (x : Bool) (n : ℕ). signed x n) u.0 same ∙ sym e.number
+    d.number ∙ ap₂ (λ (x : Bool) (n : ℕ). signed_number x n) u.0 same ∙ sym e.number
 
 -- ---- a text has one fault at most
 

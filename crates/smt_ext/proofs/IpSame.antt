@@ -20,7 +20,7 @@ use Rattle.smt_ext.specs.IpPrefixBits.{given, has_width}
 use Rattle.smt_ext.specs.IpRanges.{Version4, Version6, Range}
 use Rattle.smt_ext.specs.IpView.{v4_bits, v6_bits, v4_prefix, v6_prefix, v4_range, v6_range, range_of}
 
-same_v4_addr : (a b : IPv4Addr) → number_of (v4_bits a) ≡ number_of (v4_bits b) → a ≡ b
+pub same_v4_addr : (a b : IPv4Addr) → number_of (v4_bits a) ≡ number_of (v4_bits b) → a ≡ b
 same_v4_addr a b e =
     let p = same_bits a.bits b.bits (a.width ∙ sym b.width) e in
     λ i. record {
@@ -28,7 +28,7 @@ same_v4_addr a b e =
       width = is_prop→PathP (λ j. width_of (p j) ≡ 32) (λ j. ℕ_set _ _) a.width b.width i;
     }
 
-same_v6_addr : (a b : IPv6Addr) → number_of (v6_bits a) ≡ number_of (v6_bits b) → a ≡ b
+pub same_v6_addr : (a b : IPv6Addr) → number_of (v6_bits a) ≡ number_of (v6_bits b) → a ≡ b
 same_v6_addr a b e =
     let p = same_bits a.bits b.bits (a.width ∙ sym b.width) e in
     λ i. record {
@@ -45,7 +45,7 @@ same_prefix_bits n (Given a) Absent h k e = absurd cc
 same_prefix_bits n Absent (Given b) h k e = absurd cc
 same_prefix_bits n Absent Absent h k e = refl
 
-same_v4_prefix : (p q : IPv4Prefix) → v4_prefix p ≡ v4_prefix q → p ≡ q
+pub same_v4_prefix : (p q : IPv4Prefix) → v4_prefix p ≡ v4_prefix q → p ≡ q
 same_v4_prefix p q e =
     let s = same_prefix_bits 5 p.bits q.bits p.width q.width e in
     λ i. record {
@@ -53,7 +53,7 @@ same_v4_prefix p q e =
       width = is_prop→PathP (λ j. has_width 5 (s j) ≡ true) (λ j. Bool-set _ _) p.width q.width i;
     }
 
-same_v6_prefix : (p q : IPv6Prefix) → v6_prefix p ≡ v6_prefix q → p ≡ q
+pub same_v6_prefix : (p q : IPv6Prefix) → v6_prefix p ≡ v6_prefix q → p ≡ q
 same_v6_prefix p q e =
     let s = same_prefix_bits 7 p.bits q.bits p.width q.width e in
     λ i. record {
@@ -61,13 +61,13 @@ same_v6_prefix p q e =
       width = is_prop→PathP (λ j. has_width 7 (s j) ≡ true) (λ j. Bool-set _ _) p.width q.width i;
     }
 
-same_v4_range : (a b : CIDRv4) → v4_range a ≡ v4_range b → a ≡ b
+pub same_v4_range : (a b : CIDRv4) → v4_range a ≡ v4_range b → a ≡ b
 same_v4_range a b e =
     let p = same_v4_addr a.addr b.addr (ap (λ (r : Range). r.address) e) in
     let q = same_v4_prefix a.prefix b.prefix (ap (λ (r : Range). r.prefix) e) in
     λ i. record { addr = p i; prefix = q i }
 
-same_v6_range : (a b : CIDRv6) → v6_range a ≡ v6_range b → a ≡ b
+pub same_v6_range : (a b : CIDRv6) → v6_range a ≡ v6_range b → a ≡ b
 same_v6_range a b e =
     let p = same_v6_addr a.addr b.addr (ap (λ (r : Range). r.address) e) in
     let q = same_v6_prefix a.prefix b.prefix (ap (λ (r : Range). r.prefix) e) in

@@ -1,11 +1,10 @@
 -- Where the prefix of a text begins, and that a text writes one range at most.
-use Rattle.std.proofs.Common.{◌≡◌, ◌≢◌, ℕ, suc, ◌<◌, Option, Some, None, List, [], ◌∷◌, ◌++◌, length, get_or, refl, sym, ap, ap₂, ◌∙◌, subst, arith, ◌⊎◌, inl, inr}
+use Rattle.std.proofs.Common.{◌≡◌, ◌≢◌, ℕ, suc, ◌<◌, Option, Some, None, List, [], ◌∷◌, ◌++◌, length, get_or, refl, sym, ap, ap₂, ◌∙◌, subst, arith, ◌⊎◌, inl, inr, lit≤}
 use Rattle.std.proofs.lemmas.Fmt.{decimal_injective}
 use Rattle.smt_ext.specs.IpRanges.{Family, Version4, Version6, Range, address_bits, prefix_of}
 use Rattle.smt_ext.specs.IpReader.{HasNo, WritesParts}
 use Rattle.smt_ext.specs.IpText.{WritesAddress, WritesPrefix, WritesRange, behind_slash}
 use Rattle.smt_ext.proofs.IpGrammar.{HasNo-dotted, HasNo-colon_text, one_dotted, one_colon_text, not_both}
-use Rattle.std.proofs.Common.{lit≤}
 
 pub HasNo-from_places : (byte : ℕ) (xs : List ℕ) → ((i : ℕ) → i < length xs → get_or xs i 0 ≢ byte) → HasNo byte xs
 HasNo-from_places byte [] h = tt

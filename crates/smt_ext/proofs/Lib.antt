@@ -10,8 +10,9 @@ pub mod IpPrinted
 pub mod IpReads
 pub mod IpSame
 pub mod IpSplits
+pub mod Levels
 pub mod Midnights
-pub mod Numbers
 pub mod PrintedDecimals
 pub mod Runs
 pub mod Stamps
+pub mod WorkedDatetimes

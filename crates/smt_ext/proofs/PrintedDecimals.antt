@@ -1,16 +1,15 @@
 -- The printed form of a decimal, and that it is read back.
 use Rattle.std.proofs.Common.{◌≡◌, ℕ, ◌+◌, ◌/◌, ◌%◌, ◌^◌, ◌<◌, ◌≤◌, true, false, List, [], ◌∷◌, ◌++◌, refl, sym, ap, ◌∙◌, inl, inr, arith, length, ℤ, pos, negsuc, lit≤, rules}
-use Rattle.std.specs.Prelude.{unsigned_abs}
-use Rattle.std.specs.Prelude.{int_lt}
+use Rattle.std.specs.Prelude.{unsigned_abs, int_lt}
 use Rattle.std.specs.List.{list_all}
 use Rattle.std.specs.Fmt.{decimal, styled_decimal, format_spec, padded_integral, char_count}
 use Rattle.std.proofs.lemmas.Bool.{cases_lt, ltb-true, false≢true}
 use Rattle.std.proofs.lemmas.Fmt.{decimal_digit, decimal_step, digits_decimal, digits_value-decimal, decimal_nonempty}
 use Rattle.std.proofs.lemmas.Str.Parse.{IsNumeralModel, numerals_by_fold}
 use Rattle.smt_ext.specs.Decimal.{IsDecimalText}
-use Rattle.smt_ext.specs.Digits.{is_digit, is_numeral, padded, signed, IsLong}
+use Rattle.smt_ext.specs.Digits.{is_digit, is_numeral, padded, signed_number, IsLong}
 use Rattle.smt_ext.specs.Printed.{is_below_zero, decimal_text}
-use Rattle.smt_ext.proofs.Numbers.{from_digits}
+use Rattle.smt_characters.proofs.Numbers.{from_digits}
 use Rattle.smt_ext.proofs.Fields.{padded_digits, number-padded}
 
 -- ---- four digits with zeros in front
@@ -53,7 +52,7 @@ pub not_below_zero : (v : ℤ) → int_lt v (pos 0) ≡ false → is_below_zero 
 not_below_zero (pos n) h = refl
 not_below_zero (negsuc n) h = absurd (false≢true (sym h))
 
-pub signed_again : (v : ℤ) → v ≡ signed (is_below_zero v) (unsigned_abs v)
+pub signed_again : (v : ℤ) → v ≡ signed_number (is_below_zero v) (unsigned_abs v)
 signed_again (pos n) = refl
 signed_again (negsuc n) = refl
 
@@ -86,6 +85,6 @@ printed_is_read v h =
         fraction_digits = padded_digits 4 (m % 10000) low;
         places = lit≤ tt;
       };
-      number = signed_again v ∙ ap (signed (is_below_zero v)) (rw (digits_value-decimal model (m / 10000) small, number-padded 4 (m % 10000) low) (omega arith));
+      number = signed_again v ∙ ap (signed_number (is_below_zero v)) (rw (digits_value-decimal model (m / 10000) small, number-padded 4 (m % 10000) low) (omega arith));
       fits = h;
     }

@@ -4,8 +4,9 @@ use Rattle.std.specs.List.{list_all, prefix_len, take_while}
 use Rattle.std.proofs.Math.Numerals.{one-add}
 use Rattle.std.proofs.Math.Seq.{take-append_seam, drop-append_seam}
 use Rattle.std.proofs.lemmas.List.{reverse-reverse, reverse-append, length-reverse, length-drop}
-use Rattle.std.proofs.lemmas.Bool.{and_parts, and_from, cases_Bool, eqb-true, not_from_false, not_from_true, false≢true, leb-true}
+use Rattle.std.proofs.lemmas.Bool.{and_parts, and_from, cases_Bool, eqb-true, not_from_false, not_from_true, false≢true}
 use Rattle.std.proofs.lemmas.List.Folds.{length-prefix_len, list_all-append}
+use Rattle.smt_characters.proofs.Numbers.{digit_range}
 use Rattle.smt_ext.specs.Digits.{is_digit, is_numeral, minus_if}
 use Rattle.smt_ext.specs.Front.{begins_without, IsRun, IsRunAtEnd, IsSigned}
 
@@ -58,9 +59,6 @@ one_run test (x ∷ xs) (y ∷ ys) r s hx hy hr hs e =
     (ap₂ (λ (a : ℕ) (v : List ℕ). a ∷ v) h.0 t.0, t.1)
 
 -- ---- digits and signs
-
-pub digit_range : (b : ℕ) → is_digit b ≡ true → (48 ≤ b) × (b ≤ 57)
-digit_range b h = let p = and_parts _ _ h in (leb-true 48 b p.0, leb-true b 57 p.1)
 
 pub no_minus : (b : ℕ) → is_digit b ≡ true → not (eqb b 45) ≡ true
 no_minus b h = elim (cases_Bool (eqb b 45)) [

@@ -14,7 +14,7 @@ use Rattle.smt_ext.specs.declared.datetime.stamp.Zone.{Zone}
 use Rattle.smt_ext.specs.declared.datetime.stamp.Zone.TheVariants.{Utc, Offset}
 use Rattle.smt_ext.specs.DatetimeReading.{◌>>=◌, is_empty, field_at, day_at, offset_at, zone_at, fraction_behind, fraction_at, clock_at, stamp_at}
 use Rattle.smt_ext.specs.DatetimeText.{day_text, zone_text, fraction_text, clock_text, DayFits, ZoneFits, FractionFits, ClockFits, HasStamp}
-use Rattle.smt_ext.specs.Digits.{is_digit, number_of, padded}
+use Rattle.smt_ext.specs.Digits.{is_digit, decimal_number, padded}
 use Rattle.smt_ext.proofs.Fields.{length-padded, padded_digits, number-padded, number_below, padded-number}
 
 -- ---- tools
@@ -43,12 +43,12 @@ field_takes : (k : ℕ) (text : List ℕ) (x : ℕ × List ℕ) → field_at k t
 unfolding field_at
 field_takes k text x e =
     let front = take k text in
-    let c = chosen_some (eqb (length front) k && list_all is_digit front) (number_of front, drop k text) x e in
+    let c = chosen_some (eqb (length front) k && list_all is_digit front) (decimal_number front, drop k text) x e in
     let a = and_parts (eqb (length front) k) (list_all is_digit front) c.0 in
     let l = eqb-true (length front) k a.0 in
-    let back = ap (λ (n : ℕ). padded n (number_of front)) (sym l) ∙ padded-number front a.1 in
+    let back = ap (λ (n : ℕ). padded n (decimal_number front)) (sym l) ∙ padded-number front a.1 in
     let P : ℕ × List ℕ → Type 0 = λ p. (text ≡ padded k p.0 ++ p.1) × (p.0 < 10 ^ k) in
-    let Q : ℕ → Type 0 = λ n. number_of front < 10 ^ n in
+    let Q : ℕ → Type 0 = λ n. decimal_number front < 10 ^ n in
     subst P c.1 (sym (take-append-drop k text) ∙ ap (λ (v : List ℕ). v ++ drop k text) (sym back), subst Q l (number_below front a.1))
 
 field_again : (k n : ℕ) (rest : List ℕ) → n < 10 ^ k → field_at k (padded k n ++ rest) ≡ Some (n, rest)

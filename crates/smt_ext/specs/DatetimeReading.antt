@@ -7,7 +7,7 @@ use Rattle.smt_ext.specs.declared.datetime.stamp.Clock.{Clock}
 use Rattle.smt_ext.specs.declared.datetime.stamp.Stamp.{Stamp}
 use Rattle.smt_ext.specs.declared.datetime.stamp.Zone.{Zone}
 use Rattle.smt_ext.specs.declared.datetime.stamp.Zone.TheVariants.{Utc, Offset}
-use Rattle.smt_ext.specs.Digits.{is_digit, number_of}
+use Rattle.smt_ext.specs.Digits.{is_digit, decimal_number}
 use Rattle.smt_ext.specs.Front.{byte_at}
 
 -- `option_and_then` of std, written between what is read first and what is read then
@@ -22,7 +22,7 @@ is_empty text = length text == 0
 unfoldable pub field_at : ℕ → List ℕ → Option (ℕ × List ℕ)
 field_at k text =
     if (length (take k text) == k) && list_all is_digit (take k text)
-    then Some (number_of (take k text), drop k text)
+    then Some (decimal_number (take k text), drop k text)
     else None
 
 unfoldable pub day_at : List ℕ → Option (Day × List ℕ)

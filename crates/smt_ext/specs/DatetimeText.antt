@@ -7,7 +7,7 @@ use Rattle.smt_ext.specs.declared.datetime.stamp.Clock.{Clock}
 use Rattle.smt_ext.specs.declared.datetime.stamp.Stamp.{Stamp}
 use Rattle.smt_ext.specs.declared.datetime.stamp.Zone.{Zone}
 use Rattle.smt_ext.specs.declared.datetime.stamp.Zone.TheVariants.{Utc, Offset}
-use Rattle.smt_ext.specs.Digits.{padded, signed, IsLong}
+use Rattle.smt_ext.specs.Digits.{padded, signed_number, IsLong}
 
 -- ---- the shape: YYYY-MM-DD, alone or with Thh:mm:ss, an optional .SSS, and Z or an offset hhmm behind its sign
 
@@ -83,7 +83,7 @@ IsReal s = IsRealDay s.day × IsTrue (is_time s.clock)
 -- how far the local time is ahead of UTC, in milliseconds
 abbrev pub zone_offset : Zone → ℤ
 zone_offset Utc = pos 0
-zone_offset (Offset west hours minutes) = signed west ((hours * 60 + minutes) * 60000)
+zone_offset (Offset west hours minutes) = signed_number west ((hours * 60 + minutes) * 60000)
 
 -- milliseconds since midnight in UTC, of a time that is given locally
 abbrev pub clock_value : Option Clock → ℤ

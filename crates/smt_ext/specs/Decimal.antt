@@ -3,7 +3,7 @@ use Rattle.std.specs.Prelude.{◌≡◌, ℕ, ◌+◌, ◌-◌, ◌*◌, ◌^◌
 use Rattle.std.specs.Rc.{rc_str_bytes}
 use Rattle.smt_ext.specs.declared.decimal.DecimalError.{DecimalError}
 use Rattle.smt_ext.specs.declared.decimal.DecimalError.TheVariants.{ParseError, Memory}
-use Rattle.smt_ext.specs.Digits.{is_numeral, number_of, minus_if, signed, IsLong}
+use Rattle.smt_ext.specs.Digits.{is_numeral, decimal_number, minus_if, signed_number, IsLong}
 
 -- The text is an optional minus, digits, a point, and one to four digits.
 pub record HasDecimalParts (text : List ℕ) (negative : Bool) (whole fraction : List ℕ) : Type 0 where
@@ -14,7 +14,7 @@ pub record HasDecimalParts (text : List ℕ) (negative : Bool) (whole fraction :
 
 -- the digits before and behind the point as a number of ten-thousandths
 abbrev pub ten_thousandths : List ℕ → List ℕ → ℕ
-ten_thousandths whole fraction = number_of whole * 10000 + number_of fraction * 10 ^ (4 - length fraction)
+ten_thousandths whole fraction = decimal_number whole * 10000 + decimal_number fraction * 10 ^ (4 - length fraction)
 
 -- The text is a decimal, and the value is its number times 10000, in 64 bits.
 pub record IsDecimalText (text : List ℕ) (value : ℤ) : Type 0 where
@@ -22,7 +22,7 @@ pub record IsDecimalText (text : List ℕ) (value : ℤ) : Type 0 where
   pub whole : List ℕ
   pub fraction : List ℕ
   pub parts : HasDecimalParts text negative whole fraction
-  pub number : value ≡ signed negative (ten_thousandths whole fraction)
+  pub number : value ≡ signed_number negative (ten_thousandths whole fraction)
   pub fits : IsLong value
 
 -- no value's text

@@ -1,17 +1,8 @@
--- Decimal digits in texts of bytes, and the numbers that they write.
-use Rattle.std.specs.Prelude.{ℕ, zero, suc, ◌+◌, ◌-◌, ◌*◌, ◌/◌, ◌%◌, ◌^◌, Bool, true, false, ◌&&◌, ℤ, pos, neg_ℤ, codes, List, [], ◌∷◌}
-use Rattle.std.specs.List.{fold, list_all}
+-- Numbers in texts of bytes: decimal digits, a fixed count of them, and a sign.
+use Rattle.std.specs.Prelude.{ℕ, zero, suc, ◌+◌, ◌/◌, ◌%◌, ◌^◌, Bool, true, false, ℤ, pos, neg_ℤ, codes, List, [], ◌∷◌}
 pub use Rattle.smt_bits.specs.Longs.{IsLong}
 pub use Rattle.smt_characters.specs.Characters.{is_digit}
-
--- at least one digit, and nothing else
-abbrev pub is_numeral : List ℕ → Bool
-is_numeral [] = false
-is_numeral (b ∷ bs) = is_digit b && list_all is_digit bs
-
--- the number that digits write
-abbrev pub number_of : List ℕ → ℕ
-number_of digits = fold (λ n b. n * 10 + (b - 48)) 0 digits
+pub use Rattle.smt_characters.specs.Digits.{is_numeral, decimal_number}
 
 -- a number below 10 to the k, in k digits
 abbrev pub padded : ℕ → ℕ → List ℕ
@@ -24,6 +15,6 @@ minus_if true = codes "-"
 minus_if false = []
 
 -- the number with its sign
-abbrev pub signed : Bool → ℕ → ℤ
-signed true n = neg_ℤ (pos n)
-signed false n = pos n
+abbrev pub signed_number : Bool → ℕ → ℤ
+signed_number true n = neg_ℤ (pos n)
+signed_number false n = pos n

@@ -8,7 +8,7 @@ use Rattle.smt_ext.specs.declared.datetime.span.Fault.{Fault}
 use Rattle.smt_ext.specs.declared.datetime.span.Fault.TheVariants.{Form, NoDigits, OutOfRange}
 use Rattle.smt_ext.specs.declared.datetime.span.TimeUnit.{TimeUnit}
 use Rattle.smt_ext.specs.declared.datetime.span.TimeUnit.TheVariants.{Millisecond, Second, Minute, Hour, FullDay}
-use Rattle.smt_ext.specs.Digits.{is_digit, number_of, signed, IsLong}
+use Rattle.smt_ext.specs.Digits.{is_digit, decimal_number, signed_number, IsLong}
 use Rattle.smt_ext.specs.Front.{begins_without, IsSigned}
 
 abbrev pub unit_name : TimeUnit → List ℕ
@@ -51,14 +51,14 @@ ends_past_ascii front = begins_past_ascii (reverse front)
 pub record IsSoundPart (negative : Bool) (unit : TimeUnit) (front digits : List ℕ) : Type 0 where
   pub ascii : ends_past_ascii front ≡ false
   pub some_digit : 0 < length digits
-  pub fits : IsLong (signed negative (number_of digits * unit_milliseconds unit))
+  pub fits : IsLong (signed_number negative (decimal_number digits * unit_milliseconds unit))
 
 -- what is wrong with one part: the first of these
 abbrev pub IsPartFault : Bool → TimeUnit → List ℕ → List ℕ → Fault → Type 0
 IsPartFault negative unit front digits Form = IsTrue (ends_past_ascii front)
 IsPartFault negative unit front digits NoDigits = (ends_past_ascii front ≡ false) × (digits ≡ [])
 IsPartFault negative unit front digits OutOfRange = (ends_past_ascii front ≡ false) × (0 < length digits)
-    × (IsLong (signed negative (number_of digits * unit_milliseconds unit)) → ⊥)
+    × (IsLong (signed_number negative (decimal_number digits * unit_milliseconds unit)) → ⊥)
 
 -- the first fault of the parts with these units, then that something is left over
 unfoldable pub IsFirstFault : Bool → List TimeUnit → List ℕ → Fault → Type 0
@@ -76,14 +76,14 @@ HasSum negative (unit ∷ units) rest n =
     (HasNoPart unit rest × HasSum negative units rest n)
     ⊎ ((front : List ℕ) × (digits : List ℕ) × (more : ℕ) × EndsInPart unit rest front digits
     × IsSoundPart negative unit front digits × HasSum negative units front more
-    × (n ≡ more + number_of digits * unit_milliseconds unit))
+    × (n ≡ more + decimal_number digits * unit_milliseconds unit))
 
 -- What is wrong with a text behind its sign: it is empty, or a part has a fault, or the sum leaves 64 bits.
 abbrev pub IsFaultBehindSign : Bool → List ℕ → Fault → Type 0
 IsFaultBehindSign negative rest fault =
     ((rest ≡ []) × (fault ≡ Form))
     ⊎ ((0 < length rest) × IsFirstFault negative all_units rest fault)
-    ⊎ ((n : ℕ) × (0 < length rest) × HasSum negative all_units rest n × (IsLong (signed negative n) → ⊥) × (fault ≡ OutOfRange))
+    ⊎ ((n : ℕ) × (0 < length rest) × HasSum negative all_units rest n × (IsLong (signed_number negative n) → ⊥) × (fault ≡ OutOfRange))
 
 pub record HasFault (text : List ℕ) (fault : Fault) : Type 0 where
   pub negative : Bool

@@ -1,6 +1,6 @@
 -- The texts of durations.
 use Rattle.std.specs.Prelude.{◌≡◌, ℕ, ◌+◌, ◌*◌, ◌<◌, Bool, IsTrue, ℤ, Option, Some, None, codes, length, List, [], ◌++◌}
-use Rattle.smt_ext.specs.Digits.{is_numeral, number_of, minus_if, signed, IsLong}
+use Rattle.smt_ext.specs.Digits.{is_numeral, decimal_number, minus_if, signed_number, IsLong}
 
 -- The digits of each part, as far as it is there.
 pub record Parts : Type 0 where
@@ -17,7 +17,7 @@ part_text unit (Some digits) = digits ++ unit
 
 abbrev pub part_number : Option (List ℕ) → ℕ
 part_number None = 0
-part_number (Some digits) = number_of digits
+part_number (Some digits) = decimal_number digits
 
 abbrev pub IsPart : Option (List ℕ) → Type 0
 IsPart None = Unit {0}
@@ -45,5 +45,5 @@ pub record IsDurationText (text : List ℕ) (value : ℤ) : Type 0 where
   pub spelled : text ≡ minus_if negative ++ parts_text parts
   pub numerals : ArePartsOfDuration parts
   pub some_part : 0 < length (parts_text parts)
-  pub number : value ≡ signed negative (parts_number parts)
+  pub number : value ≡ signed_number negative (parts_number parts)
   pub fits : IsLong value

@@ -26,9 +26,9 @@ pub record IsRunAtEnd (test : ℕ → Bool) (text front run : List ℕ) : Type 0
   pub longest : IsTrue (begins_without test (reverse front))
 
 -- what a function returned, seen by the view, is what reading gives
-abbrev pub Gives : {X Y : Type 0} → (X → Y) → Option X → Option Y → Type 0
-Gives view (Some x) read = read ≡ Some (view x)
-Gives view None read = read ≡ None
+abbrev pub ReadsTo : {X Y : Type 0} → (X → Y) → Option X → Option Y → Type 0
+ReadsTo view (Some x) read = read ≡ Some (view x)
+ReadsTo view None read = read ≡ None
 
 -- what follows this byte
 unfoldable pub byte_at : ℕ → List ℕ → Option (List ℕ)

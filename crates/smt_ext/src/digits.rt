@@ -2,8 +2,8 @@
 ghost use Rattle.std.specs.Prelude.{◌≡◌, ◌^◌, ◌<◌, ◌∷◌, ℕ, List, length, reverse, ◌≤◌, IsTrue, IfSome, IfNone};
 ghost use Rattle.std.specs.List.{list_all, take_while};
 ghost use Rattle.std.specs.Option.{SomeIff};
-ghost use Rattle.smt_ext.specs.Digits.{is_digit, is_numeral, number_of, signed, IsLong};
-ghost use Rattle.smt_ext.specs.Front.{Gives, IsRun, IsRunAtEnd, IsSigned, byte_at};
+ghost use Rattle.smt_ext.specs.Digits.{is_digit, is_numeral, decimal_number, signed_number, IsLong};
+ghost use Rattle.smt_ext.specs.Front.{ReadsTo, IsRun, IsRunAtEnd, IsSigned, byte_at};
 
 // Whether the byte is a decimal digit.
 fn is_decimal(byte: u8) -> bool
@@ -64,7 +64,7 @@ pub fn are_digits(text: &[u8]) -> bool
 /// The number that the digits write, where it is below 2 to the 64.
 pub fn number(digits: &[u8]) -> Option<u64>
     requires { IsTrue (list_all is_digit digits.now) }
-    ensures { SomeIff result (number_of digits.now < 2 ^ 64) (number_of digits.now) }
+    ensures { SomeIff result (decimal_number digits.now < 2 ^ 64) (decimal_number digits.now) }
 {
     let mut value: u64 = 0;
     for digit in digits {
@@ -80,7 +80,7 @@ pub fn number(digits: &[u8]) -> Option<u64>
 pub fn behind(text: &[u8], byte: u8) -> Option<&[u8]>
     ensures found { IfSome result (λ rest. text.now ≡ byte ∷ rest.now) }
     ensures none { IfNone result ((rest : List ℕ) → text.now ≡ byte ∷ rest → ⊥) }
-    ensures read { Gives (λ rest. rest.now) result (byte_at byte text.now) }
+    ensures read { ReadsTo (λ rest. rest.now) result (byte_at byte text.now) }
 {
     let (first, rest) = text.split_first()?;
     if *first == byte { Some(rest) } else { None }
@@ -98,7 +98,7 @@ pub fn split_minus(text: &[u8]) -> (bool, &[u8])
 
 /// The number with its sign, where it fits 64 bits.
 pub fn with_sign(negative: bool, magnitude: u64) -> Option<i64>
-    ensures { SomeIff result (IsLong (signed negative magnitude)) (signed negative magnitude) }
+    ensures { SomeIff result (IsLong (signed_number negative magnitude)) (signed_number negative magnitude) }
 {
     if negative {
         0i64.checked_sub_unsigned(magnitude)

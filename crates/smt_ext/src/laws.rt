@@ -20,6 +20,7 @@ ghost use Rattle.smt_ext.specs.declared.ext.Ext.{Ext as Value};
 use crate::{Datetime, Decimal, Duration, Ext};
 
 pub mod ip;
+pub mod orders;
 
 /// Texts at the limits, and their values.
 pub fn worked_texts()

@@ -6,6 +6,7 @@ mod durations;
 mod ip;
 mod ip_ranges;
 mod ip_texts;
+mod readers;
 
 use super::*;
 use std::alloc::{AllocError, Global};

@@ -10,7 +10,7 @@ use Rattle.smt_bits.specs.BitVectors as bits
 use Rattle.smt_bits.proofs.BitRanges as ranges
 use Rattle.smt_factory.specs.Applications.{truth_literal, bits_literal, bvneg_of, bits_of_two, test_of_two, bvnego_of, wider_type, zero_extend_of}
 use Rattle.smt_factory.specs.FoldBits.{folded_bvneg, folded_bits_where, folded_test, folded_bvnego, folded_zero_extend}
-use Rattle.smt_factory.specs.StandsFor.{StandsFor}
+use Rattle.smt_factory.specs.Refinement.{Refines}
 use Rattle.smt_factory.proofs.ConnectivesStand.{chosen_type, argument, first_argument, second_argument}
 use Rattle.smt_factory.proofs.Least.{overflow_is}
 use Rattle.smt_factory.proofs.Standing.{SameMeaning, SameType, itself, one_of, standing, standing_within}
@@ -31,7 +31,7 @@ use Rattle.smt_term.specs.Values.{Value, BoolValue, BitVecValue}
 -- ---- a literal in place of an application
 
 -- a literal stands for an application of its type and value
-pub literal_standing : (l : PlainLiteral) (u : PlainTerm) → (IsFormed u → IsFormed (LiteralTerm l)) → SameType (LiteralTerm l) u → SameMeaning (LiteralTerm l) u → StandsFor (LiteralTerm l) u
+pub literal_standing : (l : PlainLiteral) (u : PlainTerm) → (IsFormed u → IsFormed (LiteralTerm l)) → SameType (LiteralTerm l) u → SameMeaning (LiteralTerm l) u → Refines (LiteralTerm l) u
 literal_standing l u f y v = standing (LiteralTerm l) u (λ P q h. (q (LiteralTerm l) (refl, refl, refl, refl), tt)) f y v
 
 pub bits_formed : (n a : ℕ) → a < 2 ^ n → IsFormedType (BitVecType n) → IsFormed (bits_literal n a)
@@ -43,7 +43,7 @@ in_width n a h = h.0
 
 -- ---- two literals
 
-answered : (o : PlainOp) (n a m b c : ℕ) → (IsFormed (bits_of_two o (bits_literal n a) (bits_literal m b)) → c < 2 ^ n) → ((I : Interpretation) → apply I o (BitVecType n) (BitVecValue n a ∷ BitVecValue m b ∷ []) ≡ BitVecValue n c) → StandsFor (bits_literal n c) (bits_of_two o (bits_literal n a) (bits_literal m b))
+answered : (o : PlainOp) (n a m b c : ℕ) → (IsFormed (bits_of_two o (bits_literal n a) (bits_literal m b)) → c < 2 ^ n) → ((I : Interpretation) → apply I o (BitVecType n) (BitVecValue n a ∷ BitVecValue m b ∷ []) ≡ BitVecValue n c) → Refines (bits_literal n c) (bits_of_two o (bits_literal n a) (bits_literal m b))
 answered o n a m b c l e =
     literal_standing (BitVecLiteral n c) u
     (λ g. bits_formed n c (l g) (all-last (λ x. IsFormedType (type_of x)) (subterms_of_all (terms (bits_literal n a ∷ bits_literal m b ∷ []))) u g.types))
@@ -52,28 +52,28 @@ answered o n a m b c l e =
     u : PlainTerm
     u = bits_of_two o (bits_literal n a) (bits_literal m b)
 
-pub bits_answered : (o : PlainOp) (n a b c : ℕ) → c < 2 ^ n → ((I : Interpretation) → apply I o (BitVecType n) (BitVecValue n a ∷ BitVecValue n b ∷ []) ≡ BitVecValue n c) → StandsFor (bits_literal n c) (bits_of_two o (bits_literal n a) (bits_literal n b))
+pub bits_answered : (o : PlainOp) (n a b c : ℕ) → c < 2 ^ n → ((I : Interpretation) → apply I o (BitVecType n) (BitVecValue n a ∷ BitVecValue n b ∷ []) ≡ BitVecValue n c) → Refines (bits_literal n c) (bits_of_two o (bits_literal n a) (bits_literal n b))
 bits_answered o n a b c l e = answered o n a n b c (λ f. l) e
 
-pub test_answered : (o : PlainOp) (n a m b : ℕ) (c : Bool) → ((I : Interpretation) → apply I o BoolType (BitVecValue n a ∷ BitVecValue m b ∷ []) ≡ BoolValue c) → StandsFor (truth_literal c) (test_of_two o (bits_literal n a) (bits_literal m b))
+pub test_answered : (o : PlainOp) (n a m b : ℕ) (c : Bool) → ((I : Interpretation) → apply I o BoolType (BitVecValue n a ∷ BitVecValue m b ∷ []) ≡ BoolValue c) → Refines (truth_literal c) (test_of_two o (bits_literal n a) (bits_literal m b))
 test_answered o n a m b c e =
     standing_within (truth_literal c) (test_of_two o (bits_literal n a) (bits_literal m b)) (λ P q h. (q (truth_literal c) tt, tt)) (λ h. (refl, refl)) (λ enums I h g i. sym (e I))
 
 module _ (o : PlainOp) (f : ℕ → ℕ → ℕ → ℕ) (fits : (n a b : ℕ) → a < 2 ^ n → b < 2 ^ n → f n a b < 2 ^ n) (computed : (I : Interpretation) (ty : PlainType) (v w : Value) → apply I o ty (v ∷ w ∷ []) ≡ to_bits f v w) where
-  two_literals : (n a m b : ℕ) → n ≡ m → StandsFor (bits_literal n (f n a b)) (bits_of_two o (bits_literal n a) (bits_literal m b))
+  two_literals : (n a m b : ℕ) → n ≡ m → Refines (bits_literal n (f n a b)) (bits_of_two o (bits_literal n a) (bits_literal m b))
   two_literals n a m b e =
       answered o n a m b (f n a b)
       (λ g. fits n a b (in_width n a (first_argument IsFormedNode o (bits_literal n a) (bits_literal m b) (BitVecType n) g.literals)) (subst (λ k. b < 2 ^ k) (sym e) (in_width m b (second_argument IsFormedNode o (bits_literal n a) (bits_literal m b) (BitVecType n) g.literals))))
       (λ I. computed I (BitVecType n) (BitVecValue n a) (BitVecValue m b))
 
-  pub stands_bits : (taken : ℕ → Bool) (t u : PlainTerm) → StandsFor (folded_bits_where taken o f t u) (bits_of_two o t u)
+  pub stands_bits : (taken : ℕ → Bool) (t u : PlainTerm) → Refines (folded_bits_where taken o f t u) (bits_of_two o t u)
   stands_bits taken (LiteralTerm (BitVecLiteral n a)) (LiteralTerm (BitVecLiteral m b)) =
       one_of (n == m && taken b) (bits_literal n (f n a b)) (bits_of_two o (bits_literal n a) (bits_literal m b)) (bits_of_two o (bits_literal n a) (bits_literal m b)) (λ h. two_literals n a m b (eqb-true n m (first_so (n == m) (taken b) h))) (itself (bits_of_two o (bits_literal n a) (bits_literal m b)))
   stands_bits taken (LiteralTerm (BitVecLiteral n a)) u = itself (bits_of_two o (bits_literal n a) u)
   stands_bits taken t u = itself (bits_of_two o t u)
 
 module _ (o : PlainOp) (f : ℕ → ℕ → ℕ → Bool) (computed : (I : Interpretation) (v w : Value) → apply I o BoolType (v ∷ w ∷ []) ≡ to_truth f v w) where
-  pub stands_test : (t u : PlainTerm) → StandsFor (folded_test o f t u) (test_of_two o t u)
+  pub stands_test : (t u : PlainTerm) → Refines (folded_test o f t u) (test_of_two o t u)
   stands_test (LiteralTerm (BitVecLiteral n a)) (LiteralTerm (BitVecLiteral m b)) =
       one_of (n == m) (truth_literal (f n a b)) (test_of_two o (bits_literal n a) (bits_literal m b)) (test_of_two o (bits_literal n a) (bits_literal m b))
       (λ h. test_answered o n a m b (f n a b) (λ I. computed I (BitVecValue n a) (BitVecValue m b)))
@@ -104,7 +104,7 @@ one_parts o t b a ty h =
     let p : (b ≡ true) × (a ≡ ty) = chosen_type b a ty (second_so (typed t && true) (is_type (then_some b a) ty) h) in
     (first_so (typed t) true (first_so (typed t && true) (is_type (then_some b a) ty) h), p.0, p.1)
 
-bits_back : (t : PlainTerm) (ty : PlainType) → StandsFor t (bvneg_of (Application BvnegOp (one_term t no_terms) ty))
+bits_back : (t : PlainTerm) (ty : PlainType) → Refines t (bvneg_of (Application BvnegOp (one_term t no_terms) ty))
 bits_back t ty =
     standing t u (λ P q h. inner P h) (λ f. record { literals = inner IsFormedNode f.literals; types = inner (λ w. IsFormedType (type_of w)) f.types }) (λ h. ((parts h).0, (parts h).2))
     (λ enums I h f g. bits_twice (type_of t) (meaning I t) (parts h).1 (term_shaped enums I t (parts h).0 (inner IsFormedNode f.literals) (inner (IsGiven enums I) g)))
@@ -121,7 +121,7 @@ bits_back t ty =
     parts : typed (bvneg_of (Application BvnegOp (one_term t no_terms) ty)) ≡ true → (typed t ≡ true) × (is_bits (type_of t) ≡ true) × (type_of t ≡ ty)
     parts h = one_parts BvnegOp t (is_bits (type_of t)) (type_of t) ty (one_parts BvnegOp x (is_bits ty) ty ty h).0
 
-pub stands_bvneg : (t : PlainTerm) → StandsFor (folded_bvneg t) (bvneg_of t)
+pub stands_bvneg : (t : PlainTerm) → Refines (folded_bvneg t) (bvneg_of t)
 stands_bvneg (LiteralTerm (BitVecLiteral n a)) =
     literal_standing (BitVecLiteral n (bits.bvneg n a)) (bvneg_of (bits_literal n a))
     (λ f. bits_formed n (bits.bvneg n a) (ranges.below n (2 ^ n - a)) (all-last (λ x. IsFormedType (type_of x)) (subterms_of_all (terms (bits_literal n a ∷ []))) (bvneg_of (bits_literal n a)) f.types))
@@ -131,7 +131,7 @@ stands_bvneg t = itself (bvneg_of t)
 
 -- ---- the overflow of a negation
 
-pub stands_bvnego : (t : PlainTerm) → StandsFor (folded_bvnego t) (bvnego_of t)
+pub stands_bvnego : (t : PlainTerm) → Refines (folded_bvnego t) (bvnego_of t)
 stands_bvnego (LiteralTerm (BitVecLiteral n a)) =
     standing_within (truth_literal (a == 2 ^ (n - 1))) (bvnego_of (bits_literal n a)) (λ P q h. (q (truth_literal (a == 2 ^ (n - 1))) tt, tt)) (λ h. (refl, refl))
     (λ enums I h f g. (
@@ -145,7 +145,7 @@ not_wider : (k : ℕ) (ty x : PlainType) → is_bits ty ≡ false → is_type (e
 not_wider k (BitVecType n) x e h = cc
 not_wider k ty x e h = cc
 
-no_bits : (k : ℕ) (t : PlainTerm) → is_bits (type_of t) ≡ false → StandsFor t (zero_extend_of k t)
+no_bits : (k : ℕ) (t : PlainTerm) → is_bits (type_of t) ≡ false → Refines t (zero_extend_of k t)
 no_bits k t e =
     standing t (zero_extend_of k t) (λ P q h. inner P h) (λ f. record { literals = inner IsFormedNode f.literals; types = inner (λ w. IsFormedType (type_of w)) f.types }) (λ h. absurd (never h)) (λ enums I h f g. absurd (never h))
   where
@@ -155,14 +155,14 @@ no_bits k t e =
     never : typed (zero_extend_of k t) ≡ true → ⊥
     never h = not_wider k (type_of t) (wider_type k (type_of t)) e (second_so (typed t && true) (is_type (extended_type k (type_of t)) (wider_type k (type_of t))) h)
 
-no_literal : (k : ℕ) (t : PlainTerm) → StandsFor (cond (is_bits (type_of t)) (zero_extend_of k t) t) (zero_extend_of k t)
+no_literal : (k : ℕ) (t : PlainTerm) → Refines (cond (is_bits (type_of t)) (zero_extend_of k t) t) (zero_extend_of k t)
 no_literal k t = by (is_bits (type_of t)) refl
   where
-    by : (b : Bool) → is_bits (type_of t) ≡ b → StandsFor (cond b (zero_extend_of k t) t) (zero_extend_of k t)
+    by : (b : Bool) → is_bits (type_of t) ≡ b → Refines (cond b (zero_extend_of k t) t) (zero_extend_of k t)
     by true e = itself (zero_extend_of k t)
     by false e = no_bits k t e
 
-pub stands_zero_extend : (k : ℕ) (t : PlainTerm) → StandsFor (folded_zero_extend k t) (zero_extend_of k t)
+pub stands_zero_extend : (k : ℕ) (t : PlainTerm) → Refines (folded_zero_extend k t) (zero_extend_of k t)
 stands_zero_extend k (LiteralTerm (BitVecLiteral n a)) =
     literal_standing (BitVecLiteral (n + k) a) (zero_extend_of k (bits_literal n a))
     (λ f. bits_formed (n + k) a (ranges.wider n k a (in_width n a (argument IsFormedNode (ZeroExtendOp k) (bits_literal n a) (BitVecType (n + k)) f.literals))) (all-last (λ x. IsFormedType (type_of x)) (subterms_of_all (terms (bits_literal n a ∷ []))) (zero_extend_of k (bits_literal n a)) f.types))

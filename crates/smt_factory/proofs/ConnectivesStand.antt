@@ -7,7 +7,7 @@ use Rattle.std.specs.List.{AllByRecursion, AllZip, list_any}
 use Rattle.std.proofs.lemmas.Bool.{or_cases}
 use Rattle.smt_factory.specs.Applications.{true_term, false_term, truth_literal, not_of, and_of, or_of, implies_of, any_of_from, any_of}
 use Rattle.smt_factory.specs.FoldConnectives.{folded_not, is_negation, are_opposites, folded_and, folded_or, folded_implies, folded_any_from, folded_any}
-use Rattle.smt_factory.specs.StandsFor.{StandsFor}
+use Rattle.smt_factory.specs.Refinement.{Refines}
 use Rattle.smt_factory.proofs.Standing.{valued, Given, itself, onward, one_of, standing_within, application}
 use Rattle.smt_term.specs.Formed.{IsFormedNode}
 use Rattle.smt_term.specs.Interpretations.{IsGiven}
@@ -18,7 +18,7 @@ use Rattle.smt_term.specs.Shapes.{IsShaped}
 use Rattle.smt_term.specs.Tables.{Interpretation}
 use Rattle.smt_term.specs.TermOrder.{term_eq}
 use Rattle.smt_term.specs.Types.{type_eq, type_of, is_type}
-use Rattle.smt_term.specs.Typing.{typed, Typed}
+use Rattle.smt_term.specs.Typing.{typed, AreBoolean}
 use Rattle.smt_term.specs.TypeValues.{Enums}
 use Rattle.smt_term.proofs.Shapes.{term_shaped}
 use Rattle.smt_term.proofs.Soundness.{all-front, all-back}
@@ -110,7 +110,7 @@ negated_parts t h =
 pub argument : (P : PlainTerm → Type 0) (o : PlainOp) (t : PlainTerm) (ty : PlainType) → AllByRecursion P (subterms (Application o (terms (t ∷ [])) ty)) → AllByRecursion P (subterms t)
 argument P o t ty h = all-front P (subterms t) [] (all-front P (subterms_of_all (terms (t ∷ []))) (Application o (terms (t ∷ [])) ty ∷ []) h)
 
-twice : (t : PlainTerm) (ty : PlainType) → StandsFor t (not_of (Application NotOp (one_term t no_terms) ty))
+twice : (t : PlainTerm) (ty : PlainType) → Refines t (not_of (Application NotOp (one_term t no_terms) ty))
 twice t ty =
     standing_within t (not_of (Application NotOp (one_term t no_terms) ty)) (λ P n h. argument P NotOp t ty (argument P NotOp (Application NotOp (one_term t no_terms) ty) BoolType h)) parts
     (λ enums I h f g. boolean enums I t (parts h).0 (parts h).1 (argument IsFormedNode NotOp t ty (argument IsFormedNode NotOp (Application NotOp (one_term t no_terms) ty) BoolType f.literals)) (argument (IsGiven enums I) NotOp t ty (argument (IsGiven enums I) NotOp (Application NotOp (one_term t no_terms) ty) BoolType g)) ∙ ap BoolValue (not_twice (truth (meaning I t))))
@@ -118,7 +118,7 @@ twice t ty =
     parts : typed (not_of (Application NotOp (one_term t no_terms) ty)) ≡ true → (typed t ≡ true) × (type_of t ≡ BoolType)
     parts h = let a : (typed (Application NotOp (one_term t no_terms) ty) ≡ true) × (ty ≡ BoolType) = negated_parts (Application NotOp (one_term t no_terms) ty) h in negated_parts t (subst (λ y. typed (Application NotOp (one_term t no_terms) y) ≡ true) a.1 a.0)
 
-pub stands_not : (t : PlainTerm) → StandsFor (folded_not t) (not_of t)
+pub stands_not : (t : PlainTerm) → Refines (folded_not t) (not_of t)
 stands_not (LiteralTerm (BoolLiteral b)) = standing_within (truth_literal (not b)) (not_of (truth_literal b)) (λ P n h. (n (truth_literal (not b)) tt, tt)) (λ h. (refl, refl)) (λ enums I h f g. refl)
 stands_not (Application NotOp (one_term t no_terms) ty) = twice t ty
 stands_not t = itself (not_of t)
@@ -161,23 +161,23 @@ module _ (o : PlainOp) (f : Bool → Bool → Bool) (checked : (t u : PlainTerm)
   two_parts : (t u : PlainTerm) → typed (Two t u) ≡ true → BothBoolean t u
   two_parts t u h = both_parts t u (sym (checked t u) ∙ h)
 
-  first_for_two : (t u : PlainTerm) → ((I : Interpretation) → truth (meaning I t) ≡ f (truth (meaning I t)) (truth (meaning I u))) → StandsFor t (Two t u)
+  first_for_two : (t u : PlainTerm) → ((I : Interpretation) → truth (meaning I t) ≡ f (truth (meaning I t)) (truth (meaning I u))) → Refines t (Two t u)
   first_for_two t u e =
       standing_within t (Two t u) (λ P n h. first_argument P o t u BoolType h) (λ h. ((two_parts t u h).first, (two_parts t u h).first_type))
       (λ enums I h g i. boolean enums I t (two_parts t u h).first (two_parts t u h).first_type (first_argument IsFormedNode o t u BoolType g.literals) (first_argument (IsGiven enums I) o t u BoolType i) ∙ (ap BoolValue (e I) ∙ sym (computed I (meaning I t) (meaning I u))))
 
-  second_for_two : (t u : PlainTerm) → ((I : Interpretation) → truth (meaning I u) ≡ f (truth (meaning I t)) (truth (meaning I u))) → StandsFor u (Two t u)
+  second_for_two : (t u : PlainTerm) → ((I : Interpretation) → truth (meaning I u) ≡ f (truth (meaning I t)) (truth (meaning I u))) → Refines u (Two t u)
   second_for_two t u e =
       standing_within u (Two t u) (λ P n h. second_argument P o t u BoolType h) (λ h. ((two_parts t u h).second, (two_parts t u h).second_type))
       (λ enums I h g i. boolean enums I u (two_parts t u h).second (two_parts t u h).second_type (second_argument IsFormedNode o t u BoolType g.literals) (second_argument (IsGiven enums I) o t u BoolType i) ∙ (ap BoolValue (e I) ∙ sym (computed I (meaning I t) (meaning I u))))
 
-  literal_for_two : (b : Bool) (t u : PlainTerm) → ((I : Interpretation) → b ≡ f (truth (meaning I t)) (truth (meaning I u))) → StandsFor (truth_literal b) (Two t u)
+  literal_for_two : (b : Bool) (t u : PlainTerm) → ((I : Interpretation) → b ≡ f (truth (meaning I t)) (truth (meaning I u))) → Refines (truth_literal b) (Two t u)
   literal_for_two b t u e = standing_within (truth_literal b) (Two t u) (λ P n h. (n (truth_literal b) tt, tt)) (λ h. (refl, refl)) (λ enums I h g i. ap BoolValue (e I) ∙ sym (computed I (meaning I t) (meaning I u)))
 
 truth_at : (I : Interpretation) (t u : PlainTerm) → t ≡ u → truth (meaning I t) ≡ truth (meaning I u)
 truth_at I t u e = ap (λ w. truth (meaning I w)) e
 
-pub stands_and : (t u : PlainTerm) → StandsFor (folded_and t u) (and_of t u)
+pub stands_and : (t u : PlainTerm) → Refines (folded_and t u) (and_of t u)
 stands_and t u =
     one_of (term_eq t u || term_eq u true_term) t rest (and_of t u)
     (λ h. ⊎_elim (λ e. first (λ I. and_same (at I t) (at I u) (truth_at I u t (sym (same_term t u e))))) (λ e. first (λ I. and_true (at I t) (at I u) (truth_at I u true_term (same_term u true_term e)))) (or_cases (term_eq t u) (term_eq u true_term) h))
@@ -195,16 +195,16 @@ stands_and t u =
     at : Interpretation → PlainTerm → Bool
     at I w = truth (meaning I w)
 
-    first : ((I : Interpretation) → truth (meaning I t) ≡ (truth (meaning I t) && truth (meaning I u))) → StandsFor t (and_of t u)
+    first : ((I : Interpretation) → truth (meaning I t) ≡ (truth (meaning I t) && truth (meaning I u))) → Refines t (and_of t u)
     first e = first_for_two AndOp (λ x y. x && y) (λ v w. refl) (λ I v w. refl) t u e
 
-    second : ((I : Interpretation) → truth (meaning I u) ≡ (truth (meaning I t) && truth (meaning I u))) → StandsFor u (and_of t u)
+    second : ((I : Interpretation) → truth (meaning I u) ≡ (truth (meaning I t) && truth (meaning I u))) → Refines u (and_of t u)
     second e = second_for_two AndOp (λ x y. x && y) (λ v w. refl) (λ I v w. refl) t u e
 
-    no : ((I : Interpretation) → false ≡ (truth (meaning I t) && truth (meaning I u))) → StandsFor false_term (and_of t u)
+    no : ((I : Interpretation) → false ≡ (truth (meaning I t) && truth (meaning I u))) → Refines false_term (and_of t u)
     no e = literal_for_two AndOp (λ x y. x && y) (λ v w. refl) (λ I v w. refl) false t u e
 
-pub stands_or : (t u : PlainTerm) → StandsFor (folded_or t u) (or_of t u)
+pub stands_or : (t u : PlainTerm) → Refines (folded_or t u) (or_of t u)
 stands_or t u =
     one_of (term_eq t u || term_eq u false_term) t rest (or_of t u)
     (λ h. ⊎_elim (λ e. first (λ I. or_same (at I t) (at I u) (truth_at I u t (sym (same_term t u e))))) (λ e. first (λ I. or_false (at I t) (at I u) (truth_at I u false_term (same_term u false_term e)))) (or_cases (term_eq t u) (term_eq u false_term) h))
@@ -222,30 +222,30 @@ stands_or t u =
     at : Interpretation → PlainTerm → Bool
     at I w = truth (meaning I w)
 
-    first : ((I : Interpretation) → truth (meaning I t) ≡ (truth (meaning I t) || truth (meaning I u))) → StandsFor t (or_of t u)
+    first : ((I : Interpretation) → truth (meaning I t) ≡ (truth (meaning I t) || truth (meaning I u))) → Refines t (or_of t u)
     first e = first_for_two OrOp (λ x y. x || y) (λ v w. refl) (λ I v w. refl) t u e
 
-    second : ((I : Interpretation) → truth (meaning I u) ≡ (truth (meaning I t) || truth (meaning I u))) → StandsFor u (or_of t u)
+    second : ((I : Interpretation) → truth (meaning I u) ≡ (truth (meaning I t) || truth (meaning I u))) → Refines u (or_of t u)
     second e = second_for_two OrOp (λ x y. x || y) (λ v w. refl) (λ I v w. refl) t u e
 
-    no : ((I : Interpretation) → true ≡ (truth (meaning I t) || truth (meaning I u))) → StandsFor true_term (or_of t u)
+    no : ((I : Interpretation) → true ≡ (truth (meaning I t) || truth (meaning I u))) → Refines true_term (or_of t u)
     no e = literal_for_two OrOp (λ x y. x || y) (λ v w. refl) (λ I v w. refl) true t u e
 
 -- ---- implication, and the disjunction of many
 
-pub stands_implies : (t u : PlainTerm) → StandsFor (folded_implies t u) (implies_of t u)
+pub stands_implies : (t u : PlainTerm) → Refines (folded_implies t u) (implies_of t u)
 stands_implies t u =
     onward (folded_implies t u) (or_of (folded_not t) u) (implies_of t u) (stands_or (folded_not t) u)
     (application OrOp (folded_not t ∷ u ∷ []) (not_of t ∷ u ∷ []) BoolType (stands_not t, (itself u, tt)))
 
-any_from : (x y : PlainTerm) (ts us : List PlainTerm) → StandsFor x y → AllZip StandsFor ts us → StandsFor (folded_any_from x ts) (any_of_from y us)
+any_from : (x y : PlainTerm) (ts us : List PlainTerm) → Refines x y → AllZip Refines ts us → Refines (folded_any_from x ts) (any_of_from y us)
 any_from x y [] [] s z = s
 any_from x y [] (u ∷ us) s z = elim z [ ]
 any_from x y (t ∷ ts) [] s z = elim z [ ]
 any_from x y (t ∷ ts) (u ∷ us) s z =
     any_from (folded_or t x) (or_of u y) ts us (onward (folded_or t x) (or_of t x) (or_of u y) (stands_or t x) (application OrOp (t ∷ x ∷ []) (u ∷ y ∷ []) BoolType (z.0, (s, tt)))) z.1
 
-pub stands_any : (ts us : List PlainTerm) → AllZip StandsFor ts us → StandsFor (folded_any ts) (any_of us)
+pub stands_any : (ts us : List PlainTerm) → AllZip Refines ts us → Refines (folded_any ts) (any_of us)
 stands_any ts us z = any_from false_term false_term ts us (itself false_term) z
 
 -- ---- the value of the disjunction of many
@@ -258,7 +258,7 @@ either_turned false y z = refl
 pub is_both_boolean : (t u : PlainTerm) → typed t ≡ true → type_of t ≡ BoolType → typed u ≡ true → type_of u ≡ BoolType → typed (or_of t u) ≡ true
 is_both_boolean t u h e k d = both_true (both_true h (both_true k refl)) (ap (λ b. is_type (then_some b BoolType) BoolType) (both_true ((types_decided (type_of t) BoolType).1 e) ((types_decided (type_of u) BoolType).1 d)))
 
-any_value : (I : Interpretation) (x : PlainTerm) (b : Bool) (ts : List PlainTerm) → typed x ≡ true → type_of x ≡ BoolType → meaning I x ≡ BoolValue b → AllByRecursion (λ t. Typed t BoolType) ts → term_value I (any_of_from x ts) ≡ BoolValue (list_any (λ t. truth (term_value I t)) ts || b)
+any_value : (I : Interpretation) (x : PlainTerm) (b : Bool) (ts : List PlainTerm) → typed x ≡ true → type_of x ≡ BoolType → meaning I x ≡ BoolValue b → AreBoolean ts → term_value I (any_of_from x ts) ≡ BoolValue (list_any (λ t. truth (term_value I t)) ts || b)
 any_value I x b [] h e v a = valued I x h ∙ v
 any_value I x b (t ∷ ts) h e v a =
     let p : truth (meaning I t) ≡ truth (term_value I t) = ap truth (sym (valued I t a.0.parts)) in
@@ -270,5 +270,5 @@ or_nothing : (x : Bool) → (x || false) ≡ x
 or_nothing true = refl
 or_nothing false = refl
 
-pub any_is_true : (I : Interpretation) (ts : List PlainTerm) → AllByRecursion (λ t. Typed t BoolType) ts → term_value I (any_of ts) ≡ BoolValue (list_any (λ t. truth (term_value I t)) ts)
+pub any_is_true : (I : Interpretation) (ts : List PlainTerm) → AreBoolean ts → term_value I (any_of ts) ≡ BoolValue (list_any (λ t. truth (term_value I t)) ts)
 any_is_true I ts a = any_value I false_term false ts refl refl refl a ∙ ap BoolValue (or_nothing (list_any (λ t. truth (term_value I t)) ts))

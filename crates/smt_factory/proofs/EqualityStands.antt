@@ -9,7 +9,7 @@ use Rattle.std.proofs.lemmas.Bool.{or_cases}
 use Rattle.smt_factory.specs.Applications.{true_term, false_term, truth_literal, not_of, and_of, or_of, eq_of, ite_of}
 use Rattle.smt_factory.specs.FoldConnectives.{folded_not, folded_and, folded_or}
 use Rattle.smt_factory.specs.FoldEquality.{is_boolean, folded_eq_inside, folded_eq, folded_ite_inside, folded_ite}
-use Rattle.smt_factory.specs.StandsFor.{StandsFor}
+use Rattle.smt_factory.specs.Refinement.{Refines}
 use Rattle.smt_factory.proofs.ConnectivesStand.{is_both_boolean, chosen_type, same_term, boolean, first_argument, second_argument, stands_not, stands_and, stands_or}
 use Rattle.smt_factory.proofs.Standing.{itself, onward, one_of, standing, standing_within, some, last_of}
 use Rattle.smt_term.specs.Formed.{IsFormedNode, IsFormedType, IsFormed}
@@ -70,10 +70,10 @@ eq_parts t u h =
     let b : (type_eq (type_of t) (type_of u) ≡ true) × (BoolType ≡ BoolType) = chosen_type (type_eq (type_of t) (type_of u)) BoolType BoolType (second_so (typed t && (typed u && true)) (is_type (then_some (type_eq (type_of t) (type_of u)) BoolType) BoolType) h) in
     record { first = first_so (typed t) (typed u && true) a; second = first_so (typed u) true (second_so (typed t) (typed u && true) a); types = eq_same (type_of t) (type_of u) b.0 }
 
-pub literal_for_eq : (b : Bool) (t u : PlainTerm) → ((enums : Enums) (I : Interpretation) → EqParts t u → IsFormed (eq_of t u) → b ≡ value_eq (meaning I t) (meaning I u)) → StandsFor (truth_literal b) (eq_of t u)
+pub literal_for_eq : (b : Bool) (t u : PlainTerm) → ((enums : Enums) (I : Interpretation) → EqParts t u → IsFormed (eq_of t u) → b ≡ value_eq (meaning I t) (meaning I u)) → Refines (truth_literal b) (eq_of t u)
 literal_for_eq b t u e = standing_within (truth_literal b) (eq_of t u) (λ P n h. (n (truth_literal b) tt, tt)) (λ h. (refl, refl)) (λ enums I h f g. ap BoolValue (e enums I (eq_parts t u h) f))
 
-pub equal_for_eq : (t u : PlainTerm) → t ≡ u → StandsFor true_term (eq_of t u)
+pub equal_for_eq : (t u : PlainTerm) → t ≡ u → Refines true_term (eq_of t u)
 equal_for_eq t u e = literal_for_eq true t u (λ enums I p f. sym (equal_values (meaning I t) (meaning I u) (ap (meaning I) e)))
 
 differing : (t u : PlainTerm) → (is_literal t && is_literal u) ≡ true → (t ≡ u → ⊥) → (I : Interpretation) → EqParts t u → IsFormed (eq_of t u) → false ≡ value_eq (meaning I t) (meaning I u)
@@ -84,14 +84,14 @@ differing t u h d I p f = by (value_eq (meaning I t) (meaning I u)) refl
     by true e =
         absurd (d (same I t u (first_so (is_literal t) (is_literal u) h, p.first, first_argument IsFormedNode EqOp t u BoolType f.literals) (second_so (is_literal t) (is_literal u) h, p.second, second_argument IsFormedNode EqOp t u BoolType f.literals) p.types (value_is (meaning I t) (meaning I u) e)))
 
-true_eq : (u : PlainTerm) → StandsFor u (eq_of true_term u)
+true_eq : (u : PlainTerm) → Refines u (eq_of true_term u)
 true_eq u =
     standing_within u (eq_of true_term u) (λ P n h. second_argument P EqOp true_term u BoolType h) (λ h. ((eq_parts true_term u h).second, sym (eq_parts true_term u h).types))
     (λ enums I h f g. (
     let e : meaning I u ≡ BoolValue (truth (meaning I u)) = boolean enums I u (eq_parts true_term u h).second (sym (eq_parts true_term u h).types) (second_argument IsFormedNode EqOp true_term u BoolType f.literals) (second_argument (IsGiven enums I) EqOp true_term u BoolType g) in
     e ∙ (true_is (truth (meaning I u)) ∙ ap (λ v. BoolValue (value_eq (BoolValue true) v)) (sym e))))
 
-eq_true : (t : PlainTerm) → StandsFor t (eq_of t true_term)
+eq_true : (t : PlainTerm) → Refines t (eq_of t true_term)
 eq_true t =
     standing_within t (eq_of t true_term) (λ P n h. first_argument P EqOp t true_term BoolType h) (λ h. ((eq_parts t true_term h).first, (eq_parts t true_term h).types))
     (λ enums I h f g. (
@@ -101,30 +101,30 @@ eq_true t =
 pub not_typed : (t : PlainTerm) → typed t ≡ true → type_of t ≡ BoolType → typed (not_of t) ≡ true
 not_typed t h e = both_true (both_true h refl) (ap (λ b. is_type (then_some b BoolType) BoolType) ((types_decided (type_of t) BoolType).1 e))
 
-false_eq : (u : PlainTerm) → StandsFor (not_of u) (eq_of false_term u)
+false_eq : (u : PlainTerm) → Refines (not_of u) (eq_of false_term u)
 false_eq u =
     standing_within (not_of u) (eq_of false_term u) (λ P n h. all-join P (subterms_of_all (terms (u ∷ []))) (not_of u ∷ []) (all-join P (subterms u) [] (second_argument P EqOp false_term u BoolType h) tt) (n (not_of u) tt, tt)) (λ h. (not_typed u (eq_parts false_term u h).second (sym (eq_parts false_term u h).types), refl))
     (λ enums I h f g. (
     let e : meaning I u ≡ BoolValue (truth (meaning I u)) = boolean enums I u (eq_parts false_term u h).second (sym (eq_parts false_term u h).types) (second_argument IsFormedNode EqOp false_term u BoolType f.literals) (second_argument (IsGiven enums I) EqOp false_term u BoolType g) in
     false_is (truth (meaning I u)) ∙ ap (λ v. BoolValue (value_eq (BoolValue false) v)) (sym e)))
 
-eq_false : (t : PlainTerm) → StandsFor (not_of t) (eq_of t false_term)
+eq_false : (t : PlainTerm) → Refines (not_of t) (eq_of t false_term)
 eq_false t =
     standing_within (not_of t) (eq_of t false_term) (λ P n h. all-join P (subterms_of_all (terms (t ∷ []))) (not_of t ∷ []) (all-join P (subterms t) [] (first_argument P EqOp t false_term BoolType h) tt) (n (not_of t) tt, tt)) (λ h. (not_typed t (eq_parts t false_term h).first (eq_parts t false_term h).types, refl))
     (λ enums I h f g. (
     let e : meaning I t ≡ BoolValue (truth (meaning I t)) = boolean enums I t (eq_parts t false_term h).first (eq_parts t false_term h).types (first_argument IsFormedNode EqOp t false_term BoolType f.literals) (first_argument (IsGiven enums I) EqOp t false_term BoolType g) in
     is_false (truth (meaning I t)) ∙ ap (λ v. BoolValue (value_eq v (BoolValue false))) (sym e)))
 
-false_eq_folded : (u : PlainTerm) → StandsFor (folded_not u) (eq_of false_term u)
+false_eq_folded : (u : PlainTerm) → Refines (folded_not u) (eq_of false_term u)
 false_eq_folded u = onward (folded_not u) (not_of u) (eq_of false_term u) (stands_not u) (false_eq u)
 
-eq_false_folded : (t : PlainTerm) → StandsFor (folded_not t) (eq_of t false_term)
+eq_false_folded : (t : PlainTerm) → Refines (folded_not t) (eq_of t false_term)
 eq_false_folded t = onward (folded_not t) (not_of t) (eq_of t false_term) (stands_not t) (eq_false t)
 
 apart : (t u : PlainTerm) → term_eq t u ≡ false → t ≡ u → ⊥
 apart t u h e = let p : true ≡ false = sym ((terms_decided t u).1 e) ∙ h in cc
 
-stands_eq_inside : (t u : PlainTerm) → StandsFor (folded_eq_inside t u) (eq_of t u)
+stands_eq_inside : (t u : PlainTerm) → Refines (folded_eq_inside t u) (eq_of t u)
 stands_eq_inside t u = by (term_eq t u) refl
   where
     negated_second : PlainTerm
@@ -139,18 +139,18 @@ stands_eq_inside t u = by (term_eq t u) refl
     first_true : PlainTerm
     first_true = cond (term_eq t true_term && is_boolean u) u second_true
 
-    by : (b : Bool) → term_eq t u ≡ b → StandsFor (cond b true_term (cond (is_literal t && is_literal u) false_term first_true)) (eq_of t u)
+    by : (b : Bool) → term_eq t u ≡ b → Refines (cond b true_term (cond (is_literal t && is_literal u) false_term first_true)) (eq_of t u)
     by true e = equal_for_eq t u (same_term t u e)
     by false e =
         one_of (is_literal t && is_literal u) false_term first_true (eq_of t u) (λ h. literal_for_eq false t u (λ enums I p f. differing t u h (apart t u e) I p f))
-        (one_of (term_eq t true_term && is_boolean u) u second_true (eq_of t u) (λ h. subst (λ w. StandsFor u (eq_of w u)) (sym (same_term t true_term (first_so (term_eq t true_term) (is_boolean u) h))) (true_eq u))
-        (one_of (term_eq u true_term && is_boolean t) t negated_first (eq_of t u) (λ h. subst (λ w. StandsFor t (eq_of t w)) (sym (same_term u true_term (first_so (term_eq u true_term) (is_boolean t) h))) (eq_true t))
-        (one_of (term_eq t false_term && is_boolean u) (folded_not u) negated_second (eq_of t u) (λ h. subst (λ w. StandsFor (folded_not u) (eq_of w u)) (sym (same_term t false_term (first_so (term_eq t false_term) (is_boolean u) h))) (false_eq_folded u))
-        (one_of (term_eq u false_term && is_boolean t) (folded_not t) (eq_of t u) (eq_of t u) (λ h. subst (λ w. StandsFor (folded_not t) (eq_of t w)) (sym (same_term u false_term (first_so (term_eq u false_term) (is_boolean t) h))) (eq_false_folded t))
+        (one_of (term_eq t true_term && is_boolean u) u second_true (eq_of t u) (λ h. subst (λ w. Refines u (eq_of w u)) (sym (same_term t true_term (first_so (term_eq t true_term) (is_boolean u) h))) (true_eq u))
+        (one_of (term_eq u true_term && is_boolean t) t negated_first (eq_of t u) (λ h. subst (λ w. Refines t (eq_of t w)) (sym (same_term u true_term (first_so (term_eq u true_term) (is_boolean t) h))) (eq_true t))
+        (one_of (term_eq t false_term && is_boolean u) (folded_not u) negated_second (eq_of t u) (λ h. subst (λ w. Refines (folded_not u) (eq_of w u)) (sym (same_term t false_term (first_so (term_eq t false_term) (is_boolean u) h))) (false_eq_folded u))
+        (one_of (term_eq u false_term && is_boolean t) (folded_not t) (eq_of t u) (eq_of t u) (λ h. subst (λ w. Refines (folded_not t) (eq_of t w)) (sym (same_term u false_term (first_so (term_eq u false_term) (is_boolean t) h))) (eq_false_folded t))
         (itself (eq_of t u))))))
 
 -- two `some` are equal where what they hold is
-inside_for_eq : (t u : PlainTerm) → StandsFor (eq_of t u) (eq_of (SomeTerm t) (SomeTerm u))
+inside_for_eq : (t u : PlainTerm) → Refines (eq_of t u) (eq_of (SomeTerm t) (SomeTerm u))
 inside_for_eq t u =
     standing_within (eq_of t u) (eq_of (SomeTerm t) (SomeTerm u))
     (λ P n h. all-join P (subterms_of_all (terms (t ∷ u ∷ []))) (eq_of t u ∷ [])
@@ -158,7 +158,7 @@ inside_for_eq t u =
     (n (eq_of t u) tt, tt))
     (λ h. (h, refl)) (λ enums I h f g. refl)
 
-pub stands_eq : (t u : PlainTerm) → StandsFor (folded_eq t u) (eq_of t u)
+pub stands_eq : (t u : PlainTerm) → Refines (folded_eq t u) (eq_of t u)
 stands_eq (SomeTerm t) (SomeTerm u) = onward (folded_eq_inside t u) (eq_of t u) (eq_of (SomeTerm t) (SomeTerm u)) (stands_eq_inside t u) (inside_for_eq t u)
 stands_eq (SomeTerm t) (NoneTerm ty) = literal_for_eq false (SomeTerm t) (NoneTerm ty) (λ enums I p f. refl)
 stands_eq (NoneTerm ty) (SomeTerm u) = literal_for_eq false (NoneTerm ty) (SomeTerm u) (λ enums I p f. refl)
@@ -198,17 +198,17 @@ module _ (P : PlainTerm → Type 0) (g t u : PlainTerm) (ty : PlainType) (h : Al
 parts_of : (g t u : PlainTerm) → typed (ite_of g t u) ≡ true → IteParts g t u
 parts_of g t u h = ite_parts g t u (type_of t) h
 
-true_guard : (t u : PlainTerm) → StandsFor t (ite_of true_term t u)
+true_guard : (t u : PlainTerm) → Refines t (ite_of true_term t u)
 true_guard t u = standing_within t (ite_of true_term t u) (λ P n h. of_first P true_term t u (type_of t) h) (λ h. ((parts_of true_term t u h).first, refl)) (λ enums I h f i. refl)
 
-false_guard : (t u : PlainTerm) → StandsFor u (ite_of false_term t u)
+false_guard : (t u : PlainTerm) → Refines u (ite_of false_term t u)
 false_guard t u = standing_within u (ite_of false_term t u) (λ P n h. of_second P false_term t u (type_of t) h) (λ h. ((parts_of false_term t u h).second, sym (parts_of false_term t u h).types)) (λ enums I h f i. refl)
 
 cond_same : (b : Bool) (v w : Value) → v ≡ w → v ≡ cond b v w
 cond_same true v w e = refl
 cond_same false v w e = e
 
-equal_branches : (g t u : PlainTerm) → t ≡ u → StandsFor t (ite_of g t u)
+equal_branches : (g t u : PlainTerm) → t ≡ u → Refines t (ite_of g t u)
 equal_branches g t u e =
     standing_within t (ite_of g t u) (λ P n h. of_first P g t u (type_of t) h) (λ h. ((parts_of g t u h).first, refl)) (λ enums I h f i. cond_same (truth (meaning I g)) (meaning I t) (meaning I u) (ap (meaning I) e))
 
@@ -228,12 +228,12 @@ cond_or : (b x : Bool) → BoolValue (b || x) ≡ cond b (BoolValue true) (BoolV
 cond_or true x = refl
 cond_or false x = refl
 
-guard_itself : (g : PlainTerm) → StandsFor g (ite_of g true_term false_term)
+guard_itself : (g : PlainTerm) → Refines g (ite_of g true_term false_term)
 guard_itself g =
     standing_within g (ite_of g true_term false_term) (λ P n h. of_guard P g true_term false_term BoolType h) (λ h. ((parts_of g true_term false_term h).guard, (parts_of g true_term false_term h).guard_type))
     (λ enums I h f i. boolean enums I g (parts_of g true_term false_term h).guard (parts_of g true_term false_term h).guard_type (of_guard IsFormedNode g true_term false_term BoolType f.literals) (of_guard (IsGiven enums I) g true_term false_term BoolType i) ∙ cond_itself (truth (meaning I g)))
 
-guard_negated : (g : PlainTerm) → StandsFor (not_of g) (ite_of g false_term true_term)
+guard_negated : (g : PlainTerm) → Refines (not_of g) (ite_of g false_term true_term)
 guard_negated g =
     standing_within (not_of g) (ite_of g false_term true_term) (λ P n h. all-join P (subterms_of_all (terms (g ∷ []))) (not_of g ∷ []) (all-join P (subterms g) [] (of_guard P g false_term true_term BoolType h) tt) (n (not_of g) tt, tt))
     (λ h. (not_typed g (parts_of g false_term true_term h).guard (parts_of g false_term true_term h).guard_type, refl)) (λ enums I h f i. cond_not (truth (meaning I g)))
@@ -242,26 +242,26 @@ guard_negated g =
 of_two : (P : PlainTerm → Type 0) (x t u : PlainTerm) → AllByRecursion P (subterms t) → AllByRecursion P (subterms u) → P x → AllByRecursion P (subterms_of_all (terms (t ∷ u ∷ [])) ++ x ∷ [])
 of_two P x t u h k p = all-join P (subterms_of_all (terms (t ∷ u ∷ []))) (x ∷ []) (all-join P (subterms t) (subterms_of_all (terms (u ∷ []))) h (all-join P (subterms u) [] k tt)) (p, tt)
 
-and_for_ite : (g t : PlainTerm) → StandsFor (and_of g t) (ite_of g t false_term)
+and_for_ite : (g t : PlainTerm) → Refines (and_of g t) (ite_of g t false_term)
 and_for_ite g t =
     standing_within (and_of g t) (ite_of g t false_term) (λ P n h. of_two P (and_of g t) g t (of_guard P g t false_term (type_of t) h) (of_first P g t false_term (type_of t) h) (n (and_of g t) tt))
     (λ h. (is_both_boolean g t (parts_of g t false_term h).guard (parts_of g t false_term h).guard_type (parts_of g t false_term h).first (parts_of g t false_term h).types, sym (parts_of g t false_term h).types))
     (λ enums I h f i. cond_and (truth (meaning I g)) (truth (meaning I t)) ∙ ap (λ v. cond (truth (meaning I g)) v (BoolValue false)) (sym (boolean enums I t (parts_of g t false_term h).first (parts_of g t false_term h).types (of_first IsFormedNode g t false_term (type_of t) f.literals) (of_first (IsGiven enums I) g t false_term (type_of t) i))))
 
-or_for_ite : (g u : PlainTerm) → StandsFor (or_of g u) (ite_of g true_term u)
+or_for_ite : (g u : PlainTerm) → Refines (or_of g u) (ite_of g true_term u)
 or_for_ite g u =
     standing_within (or_of g u) (ite_of g true_term u) (λ P n h. of_two P (or_of g u) g u (of_guard P g true_term u BoolType h) (of_second P g true_term u BoolType h) (n (or_of g u) tt))
     (λ h. (is_both_boolean g u (parts_of g true_term u h).guard (parts_of g true_term u h).guard_type (parts_of g true_term u h).second (sym (parts_of g true_term u h).types), refl))
     (λ enums I h f i. cond_or (truth (meaning I g)) (truth (meaning I u)) ∙ ap (λ v. cond (truth (meaning I g)) (BoolValue true) v) (sym (boolean enums I u (parts_of g true_term u h).second (sym (parts_of g true_term u h).types) (of_second IsFormedNode g true_term u BoolType f.literals) (of_second (IsGiven enums I) g true_term u BoolType i))))
 
 -- a choice that stands for one with other branches, where these are literals
-at_branches : (x g t u a b : PlainTerm) → t ≡ a → u ≡ b → StandsFor x (ite_of g a b) → StandsFor x (ite_of g t u)
-at_branches x g t u a b e d s = subst (λ w. StandsFor x (ite_of g w u)) (sym e) (subst (λ w. StandsFor x (ite_of g a w)) (sym d) s)
+at_branches : (x g t u a b : PlainTerm) → t ≡ a → u ≡ b → Refines x (ite_of g a b) → Refines x (ite_of g t u)
+at_branches x g t u a b e d s = subst (λ w. Refines x (ite_of g w u)) (sym e) (subst (λ w. Refines x (ite_of g a w)) (sym d) s)
 
-stands_ite_inside : (g t u : PlainTerm) → StandsFor (folded_ite_inside g t u) (ite_of g t u)
+stands_ite_inside : (g t u : PlainTerm) → Refines (folded_ite_inside g t u) (ite_of g t u)
 stands_ite_inside g t u =
-    one_of (term_eq g true_term || term_eq t u) t guard_false (ite_of g t u) (λ h. ⊎_elim (λ e. subst (λ w. StandsFor t (ite_of w t u)) (sym (same_term g true_term e)) (true_guard t u)) (λ e. equal_branches g t u (same_term t u e)) (or_cases (term_eq g true_term) (term_eq t u) h))
-    (one_of (term_eq g false_term) u guard_alone (ite_of g t u) (λ e. subst (λ w. StandsFor u (ite_of w t u)) (sym (same_term g false_term e)) (false_guard t u))
+    one_of (term_eq g true_term || term_eq t u) t guard_false (ite_of g t u) (λ h. ⊎_elim (λ e. subst (λ w. Refines t (ite_of w t u)) (sym (same_term g true_term e)) (true_guard t u)) (λ e. equal_branches g t u (same_term t u e)) (or_cases (term_eq g true_term) (term_eq t u) h))
+    (one_of (term_eq g false_term) u guard_alone (ite_of g t u) (λ e. subst (λ w. Refines u (ite_of w t u)) (sym (same_term g false_term e)) (false_guard t u))
     (one_of (term_eq t true_term && term_eq u false_term) g turned (ite_of g t u) (λ h. at_branches g g t u true_term false_term (same_term t true_term (first_so (term_eq t true_term) (term_eq u false_term) h)) (same_term u false_term (second_so (term_eq t true_term) (term_eq u false_term) h)) (guard_itself g))
     (one_of (term_eq t false_term && term_eq u true_term) (folded_not g) conjunction (ite_of g t u) (λ h. at_branches (folded_not g) g t u false_term true_term (same_term t false_term (first_so (term_eq t false_term) (term_eq u true_term) h)) (same_term u true_term (second_so (term_eq t false_term) (term_eq u true_term) h)) (onward (folded_not g) (not_of g) (ite_of g false_term true_term) (stands_not g) (guard_negated g)))
     (one_of (term_eq u false_term) (folded_and g t) disjunction (ite_of g t u) (λ e. at_branches (folded_and g t) g t u t false_term refl (same_term u false_term e) (onward (folded_and g t) (and_of g t) (ite_of g t false_term) (stands_and g t) (and_for_ite g t)))
@@ -319,7 +319,7 @@ module _ (g t u : PlainTerm) where
       let p : IteParts g (SomeTerm t) (SomeTerm u) = parts_of g (SomeTerm t) (SomeTerm u) h in
       record { guard = p.guard; first = p.first; second = p.second; guard_type = p.guard_type; types = content (type_of t) (type_of u) p.types }
 
-  inside_for_ite : StandsFor (SomeTerm Inner) Outer
+  inside_for_ite : Refines (SomeTerm Inner) Outer
   inside_for_ite =
       standing (SomeTerm Inner) Outer (λ P q h. inside_subterms P (q Inner (refl, refl, refl, refl)) (q (SomeTerm Inner) (refl, refl, refl, refl)) h)
       (λ f. record {
@@ -328,7 +328,7 @@ module _ (g t u : PlainTerm) where
       })
       (λ h. (ite_typed g t u (inside_parts h), refl)) (λ enums I h f i. some_cond (truth (meaning I g)) (meaning I t) (meaning I u))
 
-pub stands_ite : (g t u : PlainTerm) → StandsFor (folded_ite g t u) (ite_of g t u)
+pub stands_ite : (g t u : PlainTerm) → Refines (folded_ite g t u) (ite_of g t u)
 stands_ite g (SomeTerm t) (SomeTerm u) =
     onward (SomeTerm (folded_ite_inside g t u)) (SomeTerm (ite_of g t u)) (ite_of g (SomeTerm t) (SomeTerm u)) (some (folded_ite_inside g t u) (ite_of g t u) (stands_ite_inside g t u)) (inside_for_ite g t u)
 stands_ite g (SomeTerm t) u = stands_ite_inside g (SomeTerm t) u

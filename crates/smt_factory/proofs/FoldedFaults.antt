@@ -3,6 +3,7 @@ use Rattle.std.proofs.Common.{◌≡◌, ℕ, ◌==◌, Bool, true, false, ◌&&
 use Rattle.std.specs.Prelude.{cond, filter, nat_le, Option, Some, None}
 use Rattle.std.specs.List.{AllByRecursion, list_all}
 use Rattle.std.specs.Option.{option_or, unwrap_or}
+use Rattle.smt_bits.specs.BitVec.{greatest_shift}
 use Rattle.smt_bits.specs.BitVectors as bits
 use Rattle.smt_term.specs.Faults.{Fault, unless, is_passed_over, type_fault, operator_fault, term_fault, terms_fault, fields_fault, literal_fault}
 use Rattle.smt_term.specs.Literals.{is_literal}
@@ -302,8 +303,8 @@ module _ (enums : Enums) where
   faultless_folded BvsdivOp (t ∷ u ∷ []) ty h y f = faultless_bits BvsdivOp (λ ts. refl) (λ b. true) bits.bvsdiv t u h.0 h.1.0
   faultless_folded BvsremOp (t ∷ u ∷ []) ty h y f = faultless_bits BvsremOp (λ ts. refl) (λ b. true) bits.bvsrem t u h.0 h.1.0
   faultless_folded BvsmodOp (t ∷ u ∷ []) ty h y f = faultless_bits BvsmodOp (λ ts. refl) (λ b. true) bits.bvsmod t u h.0 h.1.0
-  faultless_folded BvshlOp (t ∷ u ∷ []) ty h y f = faultless_bits BvshlOp (λ ts. refl) (λ b. nat_le b bits.greatest_shift) bits.bvshl t u h.0 h.1.0
-  faultless_folded BvlshrOp (t ∷ u ∷ []) ty h y f = faultless_bits BvlshrOp (λ ts. refl) (λ b. nat_le b bits.greatest_shift) bits.bvlshr t u h.0 h.1.0
+  faultless_folded BvshlOp (t ∷ u ∷ []) ty h y f = faultless_bits BvshlOp (λ ts. refl) (λ b. nat_le b greatest_shift) bits.bvshl t u h.0 h.1.0
+  faultless_folded BvlshrOp (t ∷ u ∷ []) ty h y f = faultless_bits BvlshrOp (λ ts. refl) (λ b. nat_le b greatest_shift) bits.bvlshr t u h.0 h.1.0
   faultless_folded BvultOp (t ∷ u ∷ []) ty h y f = faultless_test BvultOp (λ ts. refl) bits.bvult t u h.0 h.1.0
   faultless_folded BvuleOp (t ∷ u ∷ []) ty h y f = faultless_test BvuleOp (λ ts. refl) bits.bvule t u h.0 h.1.0
   faultless_folded BvsltOp (t ∷ u ∷ []) ty h y f = faultless_test BvsltOp (λ ts. refl) bits.bvslt t u h.0 h.1.0

@@ -8,7 +8,7 @@ use Rattle.smt_factory.specs.FoldBits.{folded_bvneg, folded_bvnego, folded_zero_
 use Rattle.smt_factory.specs.FoldConnectives.{folded_not, is_negation, folded_and, folded_or, folded_implies}
 use Rattle.smt_factory.specs.FoldEquality.{folded_eq, folded_eq_inside, folded_ite, folded_ite_inside}
 use Rattle.smt_factory.specs.Parts.{are_some, are_some_and_none, held, is_none_term, negated}
-use Rattle.smt_factory.specs.StandsFor.{StandsFor}
+use Rattle.smt_factory.specs.Refinement.{Refines}
 use Rattle.smt_factory.proofs.BitsStand.{stands_bvneg, stands_bvnego, stands_test, stands_zero_extend}
 use Rattle.smt_factory.proofs.ConnectivesStand.{stands_not, stands_and, stands_or, stands_implies}
 use Rattle.smt_factory.proofs.EqualityStands.{stands_eq, stands_ite}
@@ -75,41 +75,41 @@ folded_ite-inside g t u e = refl
 
 -- ---- what is folded stands for what was asked for
 
-pub stands_for_not : (r t : PlainTerm) → r ≡ folded_not t → StandsFor r (not_of t)
-stands_for_not r t e = subst (λ (x : PlainTerm). StandsFor x (not_of t)) (sym e) (stands_not t)
+pub stands_for_not : (r t : PlainTerm) → r ≡ folded_not t → Refines r (not_of t)
+stands_for_not r t e = subst (λ (x : PlainTerm). Refines x (not_of t)) (sym e) (stands_not t)
 
-pub stands_for_and : (r t u : PlainTerm) → r ≡ folded_and t u → StandsFor r (and_of t u)
-stands_for_and r t u e = subst (λ (x : PlainTerm). StandsFor x (and_of t u)) (sym e) (stands_and t u)
+pub stands_for_and : (r t u : PlainTerm) → r ≡ folded_and t u → Refines r (and_of t u)
+stands_for_and r t u e = subst (λ (x : PlainTerm). Refines x (and_of t u)) (sym e) (stands_and t u)
 
-pub stands_for_or : (r t u : PlainTerm) → r ≡ folded_or t u → StandsFor r (or_of t u)
-stands_for_or r t u e = subst (λ (x : PlainTerm). StandsFor x (or_of t u)) (sym e) (stands_or t u)
+pub stands_for_or : (r t u : PlainTerm) → r ≡ folded_or t u → Refines r (or_of t u)
+stands_for_or r t u e = subst (λ (x : PlainTerm). Refines x (or_of t u)) (sym e) (stands_or t u)
 
-pub stands_for_implies : (r t u : PlainTerm) → r ≡ folded_implies t u → StandsFor r (implies_of t u)
-stands_for_implies r t u e = subst (λ (x : PlainTerm). StandsFor x (implies_of t u)) (sym e) (stands_implies t u)
+pub stands_for_implies : (r t u : PlainTerm) → r ≡ folded_implies t u → Refines r (implies_of t u)
+stands_for_implies r t u e = subst (λ (x : PlainTerm). Refines x (implies_of t u)) (sym e) (stands_implies t u)
 
-pub stands_for_eq : (r t u : PlainTerm) → r ≡ folded_eq t u → StandsFor r (eq_of t u)
-stands_for_eq r t u e = subst (λ (x : PlainTerm). StandsFor x (eq_of t u)) (sym e) (stands_eq t u)
+pub stands_for_eq : (r t u : PlainTerm) → r ≡ folded_eq t u → Refines r (eq_of t u)
+stands_for_eq r t u e = subst (λ (x : PlainTerm). Refines x (eq_of t u)) (sym e) (stands_eq t u)
 
-pub stands_for_ite : (r g t u : PlainTerm) → r ≡ folded_ite g t u → StandsFor r (ite_of g t u)
-stands_for_ite r g t u e = subst (λ (x : PlainTerm). StandsFor x (ite_of g t u)) (sym e) (stands_ite g t u)
+pub stands_for_ite : (r g t u : PlainTerm) → r ≡ folded_ite g t u → Refines r (ite_of g t u)
+stands_for_ite r g t u e = subst (λ (x : PlainTerm). Refines x (ite_of g t u)) (sym e) (stands_ite g t u)
 
-pub stands_for_bvneg : (r t : PlainTerm) → r ≡ folded_bvneg t → StandsFor r (bvneg_of t)
-stands_for_bvneg r t e = subst (λ (x : PlainTerm). StandsFor x (bvneg_of t)) (sym e) (stands_bvneg t)
+pub stands_for_bvneg : (r t : PlainTerm) → r ≡ folded_bvneg t → Refines r (bvneg_of t)
+stands_for_bvneg r t e = subst (λ (x : PlainTerm). Refines x (bvneg_of t)) (sym e) (stands_bvneg t)
 
-pub stands_for_bvnego : (r t : PlainTerm) → r ≡ folded_bvnego t → StandsFor r (bvnego_of t)
-stands_for_bvnego r t e = subst (λ (x : PlainTerm). StandsFor x (bvnego_of t)) (sym e) (stands_bvnego t)
+pub stands_for_bvnego : (r t : PlainTerm) → r ≡ folded_bvnego t → Refines r (bvnego_of t)
+stands_for_bvnego r t e = subst (λ (x : PlainTerm). Refines x (bvnego_of t)) (sym e) (stands_bvnego t)
 
-pub stands_for_zero_extend : (r : PlainTerm) (k : ℕ) (t : PlainTerm) → r ≡ folded_zero_extend k t → StandsFor r (zero_extend_of k t)
-stands_for_zero_extend r k t e = subst (λ (x : PlainTerm). StandsFor x (zero_extend_of k t)) (sym e) (stands_zero_extend k t)
+pub stands_for_zero_extend : (r : PlainTerm) (k : ℕ) (t : PlainTerm) → r ≡ folded_zero_extend k t → Refines r (zero_extend_of k t)
+stands_for_zero_extend r k t e = subst (λ (x : PlainTerm). Refines x (zero_extend_of k t)) (sym e) (stands_zero_extend k t)
 
-pub stands_for_bvsaddo : (r t u : PlainTerm) → r ≡ folded_bvsaddo t u → StandsFor r (test_of_two BvsaddoOp t u)
-stands_for_bvsaddo r t u e = subst (λ (x : PlainTerm). StandsFor x (test_of_two BvsaddoOp t u)) (sym e) (stands_test BvsaddoOp bits.bvsaddo (λ I v w. refl) t u)
+pub stands_for_bvsaddo : (r t u : PlainTerm) → r ≡ folded_bvsaddo t u → Refines r (test_of_two BvsaddoOp t u)
+stands_for_bvsaddo r t u e = subst (λ (x : PlainTerm). Refines x (test_of_two BvsaddoOp t u)) (sym e) (stands_test BvsaddoOp bits.bvsaddo (λ I v w. refl) t u)
 
-pub stands_for_bvssubo : (r t u : PlainTerm) → r ≡ folded_bvssubo t u → StandsFor r (test_of_two BvssuboOp t u)
-stands_for_bvssubo r t u e = subst (λ (x : PlainTerm). StandsFor x (test_of_two BvssuboOp t u)) (sym e) (stands_test BvssuboOp bits.bvssubo (λ I v w. refl) t u)
+pub stands_for_bvssubo : (r t u : PlainTerm) → r ≡ folded_bvssubo t u → Refines r (test_of_two BvssuboOp t u)
+stands_for_bvssubo r t u e = subst (λ (x : PlainTerm). Refines x (test_of_two BvssuboOp t u)) (sym e) (stands_test BvssuboOp bits.bvssubo (λ I v w. refl) t u)
 
-pub stands_for_bvsmulo : (r t u : PlainTerm) → r ≡ folded_bvsmulo t u → StandsFor r (test_of_two BvsmuloOp t u)
-stands_for_bvsmulo r t u e = subst (λ (x : PlainTerm). StandsFor x (test_of_two BvsmuloOp t u)) (sym e) (stands_test BvsmuloOp bits.bvsmulo (λ I v w. refl) t u)
+pub stands_for_bvsmulo : (r t u : PlainTerm) → r ≡ folded_bvsmulo t u → Refines r (test_of_two BvsmuloOp t u)
+stands_for_bvsmulo r t u e = subst (λ (x : PlainTerm). Refines x (test_of_two BvsmuloOp t u)) (sym e) (stands_test BvsmuloOp bits.bvsmulo (λ I v w. refl) t u)
 
 -- ---- more places
 

@@ -6,7 +6,7 @@ use Rattle.smt_factory.specs.FoldConnectives.{folded_not}
 use Rattle.smt_factory.specs.FoldEquality.{folded_eq, folded_ite}
 use Rattle.smt_factory.specs.FoldOptions.{folded_option_get, folded_is_none_by_type, none_by_branches, none_by_arguments, none_by_form, folded_is_none, folded_is_some, folded_if_false, folded_if_true, folded_unless, folded_if_some, folded_if_all_some}
 use Rattle.smt_factory.specs.Parts.{held, is_none_term}
-use Rattle.smt_factory.specs.StandsFor.{StandsFor}
+use Rattle.smt_factory.specs.Refinement.{Refines}
 use Rattle.smt_factory.proofs.OptionsStand.{stands_option_get, stands_is_none, stands_is_some, stands_if_false, stands_if_true, stands_if_some, stands_if_all_some}
 use Rattle.smt_term.proofs.TypedArguments.{listed}
 use Rattle.smt_term.specs.Plain.{PlainType, OptionType, IteOp, OptionGetOp, PlainTerm, Application, NoneTerm, SomeTerm, terms}
@@ -88,25 +88,25 @@ unless-other g t e = ap (λ (o : Option PlainType). elim o as (λ _. PlainTerm) 
 
 -- ---- what is folded stands for what was asked for
 
-pub stands_for_option_get : (r t : PlainTerm) → r ≡ folded_option_get t → StandsFor r (option_get_of t)
-stands_for_option_get r t e = subst (λ (x : PlainTerm). StandsFor x (option_get_of t)) (sym e) (stands_option_get t)
+pub stands_for_option_get : (r t : PlainTerm) → r ≡ folded_option_get t → Refines r (option_get_of t)
+stands_for_option_get r t e = subst (λ (x : PlainTerm). Refines x (option_get_of t)) (sym e) (stands_option_get t)
 
-pub stands_for_is_none : (r t : PlainTerm) → r ≡ folded_is_none t → StandsFor r (is_none_of t)
-stands_for_is_none r t e = subst (λ (x : PlainTerm). StandsFor x (is_none_of t)) (sym e) (stands_is_none t)
+pub stands_for_is_none : (r t : PlainTerm) → r ≡ folded_is_none t → Refines r (is_none_of t)
+stands_for_is_none r t e = subst (λ (x : PlainTerm). Refines x (is_none_of t)) (sym e) (stands_is_none t)
 
-pub stands_for_is_some : (r t : PlainTerm) → r ≡ folded_is_some t → StandsFor r (is_some_of t)
-stands_for_is_some r t e = subst (λ (x : PlainTerm). StandsFor x (is_some_of t)) (sym e) (stands_is_some t)
+pub stands_for_is_some : (r t : PlainTerm) → r ≡ folded_is_some t → Refines r (is_some_of t)
+stands_for_is_some r t e = subst (λ (x : PlainTerm). Refines x (is_some_of t)) (sym e) (stands_is_some t)
 
-pub stands_for_if_false : (r g t : PlainTerm) → r ≡ folded_if_false g t → StandsFor r (if_false_of g t)
-stands_for_if_false r g t e = subst (λ (x : PlainTerm). StandsFor x (if_false_of g t)) (sym e) (stands_if_false g t)
+pub stands_for_if_false : (r g t : PlainTerm) → r ≡ folded_if_false g t → Refines r (if_false_of g t)
+stands_for_if_false r g t e = subst (λ (x : PlainTerm). Refines x (if_false_of g t)) (sym e) (stands_if_false g t)
 
-pub stands_for_if_true : (r g t : PlainTerm) → r ≡ folded_if_true g t → StandsFor r (if_true_of g t)
-stands_for_if_true r g t e = subst (λ (x : PlainTerm). StandsFor x (if_true_of g t)) (sym e) (stands_if_true g t)
+pub stands_for_if_true : (r g t : PlainTerm) → r ≡ folded_if_true g t → Refines r (if_true_of g t)
+stands_for_if_true r g t e = subst (λ (x : PlainTerm). Refines x (if_true_of g t)) (sym e) (stands_if_true g t)
 
-pub stands_for_if_some : (r g t : PlainTerm) → r ≡ folded_if_some g t → StandsFor r (if_some_of g t)
-stands_for_if_some r g t e = subst (λ (x : PlainTerm). StandsFor x (if_some_of g t)) (sym e) (stands_if_some g t)
+pub stands_for_if_some : (r g t : PlainTerm) → r ≡ folded_if_some g t → Refines r (if_some_of g t)
+stands_for_if_some r g t e = subst (λ (x : PlainTerm). Refines x (if_some_of g t)) (sym e) (stands_if_some g t)
 
-pub stands_for_if_all_some : (r : PlainTerm) (gs : List PlainTerm) (t : PlainTerm) → r ≡ folded_if_all_some gs t → StandsFor r (if_all_some_of gs t)
-stands_for_if_all_some r gs t e = subst (λ (x : PlainTerm). StandsFor x (if_all_some_of gs t)) (sym e) (stands_if_all_some gs t)
+pub stands_for_if_all_some : (r : PlainTerm) (gs : List PlainTerm) (t : PlainTerm) → r ≡ folded_if_all_some gs t → Refines r (if_all_some_of gs t)
+stands_for_if_all_some r gs t e = subst (λ (x : PlainTerm). Refines x (if_all_some_of gs t)) (sym e) (stands_if_all_some gs t)
 
 pub ruleset option_folding = (folded_option_get-held, folded_option_get-option, folded_option_get-other, by_branches-some, by_branches-negated, by_branches-guard, by_branches-first, by_branches-second, by_branches-neither, by_form-choice, by_type-option, by_type-other, is_none-known, is_none-unknown, unless-option, unless-other, stands_for_option_get, stands_for_is_none, stands_for_is_some, stands_for_if_false, stands_for_if_true, stands_for_if_some, stands_for_if_all_some)

@@ -8,7 +8,7 @@ use Rattle.smt_factory.specs.FoldEquality.{folded_eq}
 use Rattle.smt_factory.specs.FoldSets.{common_set, folded_set_inter, folded_set_intersects, folded_set_is_empty, folded_set_member, folded_set_subset, is_among}
 use Rattle.smt_factory.specs.FoldStrings.{folded_string_like}
 use Rattle.smt_factory.specs.Parts.{element_type, elements_in, is_empty_set, is_set_literal, is_set_term, text_inside}
-use Rattle.smt_factory.specs.StandsFor.{StandsFor}
+use Rattle.smt_factory.specs.Refinement.{Refines}
 use Rattle.smt_factory.proofs.SetsStand.{stands_set_inter, stands_set_intersects, stands_set_is_empty, stands_set_member, stands_set_subset}
 use Rattle.smt_factory.proofs.StringsStand.{stands_string_like}
 use Rattle.smt_term.proofs.DerivedEquality.{eq-is}
@@ -71,22 +71,22 @@ module _ (ts : List Term) (i : ℕ) (t : Term) (l : i < length ts) (is : t ≡ g
 
 -- ---- what is folded stands for what was asked for
 
-pub stands_for_string_like : (r t : PlainTerm) (p : List PatternPart) → r ≡ folded_string_like t p → StandsFor r (string_like_of t p)
-stands_for_string_like r t p e = subst (λ (x : PlainTerm). StandsFor x (string_like_of t p)) (sym e) (stands_string_like t p)
+pub stands_for_string_like : (r t : PlainTerm) (p : List PatternPart) → r ≡ folded_string_like t p → Refines r (string_like_of t p)
+stands_for_string_like r t p e = subst (λ (x : PlainTerm). Refines x (string_like_of t p)) (sym e) (stands_string_like t p)
 
-pub stands_for_set_member : (r t u : PlainTerm) → r ≡ folded_set_member t u → StandsFor r (set_member_of t u)
-stands_for_set_member r t u e = subst (λ (x : PlainTerm). StandsFor x (set_member_of t u)) (sym e) (stands_set_member t u)
+pub stands_for_set_member : (r t u : PlainTerm) → r ≡ folded_set_member t u → Refines r (set_member_of t u)
+stands_for_set_member r t u e = subst (λ (x : PlainTerm). Refines x (set_member_of t u)) (sym e) (stands_set_member t u)
 
-pub stands_for_set_subset : (r t u : PlainTerm) → r ≡ folded_set_subset t u → StandsFor r (set_subset_of t u)
-stands_for_set_subset r t u e = subst (λ (x : PlainTerm). StandsFor x (set_subset_of t u)) (sym e) (stands_set_subset t u)
+pub stands_for_set_subset : (r t u : PlainTerm) → r ≡ folded_set_subset t u → Refines r (set_subset_of t u)
+stands_for_set_subset r t u e = subst (λ (x : PlainTerm). Refines x (set_subset_of t u)) (sym e) (stands_set_subset t u)
 
-pub stands_for_set_inter : (r t u : PlainTerm) → r ≡ folded_set_inter t u → StandsFor r (set_inter_of t u)
-stands_for_set_inter r t u e = subst (λ (x : PlainTerm). StandsFor x (set_inter_of t u)) (sym e) (stands_set_inter t u)
+pub stands_for_set_inter : (r t u : PlainTerm) → r ≡ folded_set_inter t u → Refines r (set_inter_of t u)
+stands_for_set_inter r t u e = subst (λ (x : PlainTerm). Refines x (set_inter_of t u)) (sym e) (stands_set_inter t u)
 
-pub stands_for_set_is_empty : (r t : PlainTerm) → r ≡ folded_set_is_empty t → StandsFor r (set_is_empty_of t)
-stands_for_set_is_empty r t e = subst (λ (x : PlainTerm). StandsFor x (set_is_empty_of t)) (sym e) (stands_set_is_empty t)
+pub stands_for_set_is_empty : (r t : PlainTerm) → r ≡ folded_set_is_empty t → Refines r (set_is_empty_of t)
+stands_for_set_is_empty r t e = subst (λ (x : PlainTerm). Refines x (set_is_empty_of t)) (sym e) (stands_set_is_empty t)
 
-pub stands_for_set_intersects : (r t u : PlainTerm) → r ≡ folded_set_intersects t u → StandsFor r (set_intersects_of t u)
-stands_for_set_intersects r t u e = subst (λ (x : PlainTerm). StandsFor x (set_intersects_of t u)) (sym e) (stands_set_intersects t u)
+pub stands_for_set_intersects : (r t u : PlainTerm) → r ≡ folded_set_intersects t u → Refines r (set_intersects_of t u)
+stands_for_set_intersects r t u e = subst (λ (x : PlainTerm). Refines x (set_intersects_of t u)) (sym e) (stands_set_intersects t u)
 
 pub ruleset set_folding = (eq-is, folded_string_like-text, folded_string_like-other, elements_in-set, set_literal-is, common_set-set, is_empty-elements, is_empty-set, is_empty-other, stands_for_string_like, stands_for_set_member, stands_for_set_subset, stands_for_set_inter, stands_for_set_is_empty, stands_for_set_intersects)

@@ -1,5 +1,7 @@
 pub mod Answers
 pub mod AnyAnswers
+pub mod AnyRows
+pub mod AnyTruth
 pub mod BitsStand
 pub mod BuiltFaults
 pub mod BuiltTerms
@@ -13,8 +15,10 @@ pub mod Least
 pub mod OptionsStand
 pub mod OutOfRange
 pub mod Reaching
+pub mod ReachingLists
 pub mod Records
 pub mod SetLists
+pub mod SetOfElements
 pub mod SetValues
 pub mod SetsKept
 pub mod SetsStand

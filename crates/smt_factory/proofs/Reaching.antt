@@ -3,7 +3,7 @@ use Rattle.std.proofs.Common.{◌≡◌, ℕ, List, [], ◌∷◌, sym, subst}
 use Rattle.std.specs.Prelude.{Option, Some, None, IfSome, Contains}
 use Rattle.std.specs.List.{AllByRecursion, filter_map, cons_option}
 use Rattle.std.proofs.lemmas.List.Elements.{All-contains, All-contains_itself, All-from_recursion, recursion_from_All, Contains-append_left, Contains-append_right, Contains-push}
-use Rattle.smt_factory.specs.StandsFor.{AreAmong}
+use Rattle.smt_factory.specs.Refinement.{AreAmong}
 use Rattle.smt_term.specs.Interpretations.{IsTable, IsSelectorTable, IsGivenSelector, IsGiven}
 use Rattle.smt_term.specs.Reached.{subterms, reached_terms, reached_variables, reached_functions, reached_options, reached_selectors, variable_of, function_of, opened_of, selector_of, selector_of_extension}
 use Rattle.smt_term.specs.Tables.{Interpretation}

@@ -2,7 +2,7 @@
 use Rattle.std.proofs.Common.{◌≡◌, true, List, [], ◌∷◌, refl, ap, ◌∙◌, sym, subst}
 use Rattle.std.specs.Prelude.{Option, IfSome, Contains}
 use Rattle.std.specs.List.{AllByRecursion, AllZip, filter_map}
-use Rattle.smt_factory.specs.StandsFor.{AreAmong, StandsFor}
+use Rattle.smt_factory.specs.Refinement.{AreAmong, Refines}
 use Rattle.smt_factory.proofs.Reaching.{IsBrought, brought_itself, among_brought}
 use Rattle.smt_factory.proofs.Records.{HasFormedType}
 use Rattle.smt_factory.proofs.SetLists.{IsElement, among_them, each_typed, elements_typed, same_meanings, set_typed, unsorted}
@@ -34,7 +34,7 @@ module _ (P : PlainTerm → Type 0) where
   of_last ty ts h = all-last P (subterms_of_all (terms (sorted_terms ts))) (set_term ty ts) h
 
 module _ {Y : Type 0} (f : PlainTerm → Option Y) (one : StandAmong f) where
-  set_among : (ty : PlainType) (ts us : List PlainTerm) → AllZip StandsFor ts us → f (set_term ty ts) ≡ f (set_term ty us) → AreAmong (filter_map f (reached_terms (set_term ty ts ∷ []))) (filter_map f (reached_terms (set_term ty us ∷ [])))
+  set_among : (ty : PlainType) (ts us : List PlainTerm) → AllZip Refines ts us → f (set_term ty ts) ≡ f (set_term ty us) → AreAmong (filter_map f (reached_terms (set_term ty ts ∷ []))) (filter_map f (reached_terms (set_term ty us ∷ [])))
   set_among ty ts us z e =
       let x : PlainTerm = set_term ty us in
       let h : AllByRecursion (IsBrought f x) (subterms x) = brought_itself f x in
@@ -42,7 +42,7 @@ module _ {Y : Type 0} (f : PlainTerm → Option Y) (one : StandAmong f) where
       (subst (λ b. IfSome b (Contains (filter_map f (reached_terms (x ∷ []))))) (sym e) (of_last (IsBrought f x) ty us h))
       (all_through f one (Contains (filter_map f (reached_terms (x ∷ [])))) ts us z (of_elements (IsBrought f x) ty us h)))
 
-elements_kept : (ty : PlainType) (ts us : List PlainTerm) → AllZip StandsFor ts us → AllByRecursion (IsElement ty) us → AllByRecursion (IsElement ty) ts
+elements_kept : (ty : PlainType) (ts us : List PlainTerm) → AllZip Refines ts us → AllByRecursion (IsElement ty) us → AllByRecursion (IsElement ty) ts
 elements_kept ty [] [] z h = tt
 elements_kept ty [] (u ∷ us) z h = elim z [ ]
 elements_kept ty (t ∷ ts) [] z h = elim z [ ]
@@ -52,7 +52,7 @@ elements_kept ty (t ∷ ts) (u ∷ us) z h = let r = same_type t u z.0 h.0.parts
 pub elements_of : (ty : PlainType) (ts : List PlainTerm) → typed (set_term ty ts) ≡ true → AllByRecursion (IsElement ty) ts
 elements_of ty ts h = unsorted (IsElement ty) ts (subst (λ (us : List PlainTerm). AllByRecursion (IsElement ty) us) (listed (sorted_terms ts)) (elements_typed ty (terms (sorted_terms ts)) h))
 
-module _ (ty : PlainType) (ts us : List PlainTerm) (z : AllZip StandsFor ts us) where
+module _ (ty : PlainType) (ts us : List PlainTerm) (z : AllZip Refines ts us) where
   formed : IsFormed (set_term ty us) → IsFormed (set_term ty ts)
   formed f =
       let r = formed_all ts us z (of_elements IsFormedNode ty us f.literals) (of_elements HasFormedType ty us f.types) in
@@ -67,7 +67,7 @@ module _ (ty : PlainType) (ts us : List PlainTerm) (z : AllZip StandsFor ts us) 
       ∙ (ap set_of (meanings_all enums I ts us z (each_typed ty us (elements_of ty us h)) (of_elements IsFormedNode ty us f.literals) (of_elements HasFormedType ty us f.types) (of_elements (IsGiven enums I) ty us g))
       ∙ same_meanings I us (sorted_terms us) (λ w m. in-terms w us m) (λ w m. out-terms w us m))
 
-  pub set_kept : StandsFor (set_term ty ts) (set_term ty us)
+  pub set_kept : Refines (set_term ty ts) (set_term ty us)
   set_kept = record {
     formed = formed;
     type = λ y h. record { parts = kept_typed h.parts; type = h.type };

@@ -13,7 +13,7 @@ use Rattle.smt_factory.specs.Applications.{truth_literal, true_term, false_term,
 use Rattle.smt_factory.specs.FoldConnectives.{folded_not}
 use Rattle.smt_factory.specs.FoldSets.{common_set, folded_set_member, folded_set_subset, folded_set_inter, folded_set_is_empty, folded_set_intersects, is_among}
 use Rattle.smt_factory.specs.Parts.{element_type, elements_in, is_empty_set, is_set_literal}
-use Rattle.smt_factory.specs.StandsFor.{StandsFor}
+use Rattle.smt_factory.specs.Refinement.{Refines}
 use Rattle.smt_factory.proofs.ConnectivesStand.{chosen_type, first_argument, second_argument, same_term, stands_not}
 use Rattle.smt_factory.proofs.EqualityStands.{equal_for_eq, literal_for_eq}
 use Rattle.smt_factory.proofs.Records.{HasFormedType}
@@ -69,12 +69,12 @@ one_element_type a b h = let e : SetType a ≡ SetType b = eq_same (SetType a) (
 
 -- ---- membership
 
-no_member : (t u : PlainTerm) → is_empty_set u ≡ true → StandsFor false_term (set_member_of t u)
+no_member : (t u : PlainTerm) → is_empty_set u ≡ true → Refines false_term (set_member_of t u)
 no_member t (SetTerm ty no_terms) e = truth_standing false (set_member_of t (SetTerm ty no_terms)) refl (λ enums I h f g. refl)
 no_member t (SetTerm ty (one_term u us)) e = cc
 no_member t u e = cc
 
-literal_member : (t u : PlainTerm) → is_literal t ≡ true → is_set_literal u ≡ true → StandsFor (truth_literal (is_among (elements_in u) t)) (set_member_of t u)
+literal_member : (t u : PlainTerm) → is_literal t ≡ true → is_set_literal u ≡ true → Refines (truth_literal (is_among (elements_in u) t)) (set_member_of t u)
 literal_member t (SetTerm ty us) l k =
     truth_standing (is_among (list_of_terms us) t) (set_member_of t (SetTerm ty us)) refl
     (λ enums I h f g. (
@@ -86,7 +86,7 @@ literal_member t (SetTerm ty us) l k =
     (literal_elements ty us k p.second (second_argument IsFormedNode SetMemberOp t (SetTerm ty us) BoolType f.literals)))))
 literal_member t u l k = cc
 
-pub stands_set_member : (t u : PlainTerm) → StandsFor (folded_set_member t u) (set_member_of t u)
+pub stands_set_member : (t u : PlainTerm) → Refines (folded_set_member t u) (set_member_of t u)
 stands_set_member t u =
     one_of (is_empty_set u) false_term (cond (is_literal t && is_set_literal u) (truth_literal (is_among (elements_in u) t)) (set_member_of t u)) (set_member_of t u) (no_member t u)
     (one_of (is_literal t && is_set_literal u) (truth_literal (is_among (elements_in u) t)) (set_member_of t u) (set_member_of t u) (λ h. literal_member t u (first_so (is_literal t) (is_set_literal u) h) (second_so (is_literal t) (is_set_literal u) h))
@@ -94,17 +94,17 @@ stands_set_member t u =
 
 -- ---- subsets
 
-subset_of_itself : (t u : PlainTerm) → t ≡ u → StandsFor true_term (set_subset_of t u)
+subset_of_itself : (t u : PlainTerm) → t ≡ u → Refines true_term (set_subset_of t u)
 subset_of_itself t u e =
-    subst (λ (w : PlainTerm). StandsFor true_term (set_subset_of t w)) e
+    subst (λ (w : PlainTerm). Refines true_term (set_subset_of t w)) e
     (truth_standing true (set_subset_of t t) refl (λ enums I h f g. ap BoolValue (subset_itself (elements (meaning I t)))))
 
-empty_subset : (t u : PlainTerm) → is_empty_set t ≡ true → StandsFor true_term (set_subset_of t u)
+empty_subset : (t u : PlainTerm) → is_empty_set t ≡ true → Refines true_term (set_subset_of t u)
 empty_subset (SetTerm ty no_terms) u e = truth_standing true (set_subset_of (SetTerm ty no_terms) u) refl (λ enums I h f g. refl)
 empty_subset (SetTerm ty (one_term t ts)) u e = cc
 empty_subset t u e = cc
 
-literal_subset : (t u : PlainTerm) → is_set_literal t ≡ true → is_set_literal u ≡ true → StandsFor (truth_literal (list_all (is_among (elements_in u)) (elements_in t))) (set_subset_of t u)
+literal_subset : (t u : PlainTerm) → is_set_literal t ≡ true → is_set_literal u ≡ true → Refines (truth_literal (list_all (is_among (elements_in u)) (elements_in t))) (set_subset_of t u)
 literal_subset (SetTerm a ts) (SetTerm b us) l k =
     truth_standing (list_all (is_among (list_of_terms us)) (list_of_terms ts)) (set_subset_of (SetTerm a ts) (SetTerm b us)) refl
     (λ enums I h f g. (
@@ -115,7 +115,7 @@ literal_subset (SetTerm a ts) (SetTerm b us) l k =
 literal_subset (SetTerm a ts) u l k = cc
 literal_subset t u l k = cc
 
-pub stands_set_subset : (t u : PlainTerm) → StandsFor (folded_set_subset t u) (set_subset_of t u)
+pub stands_set_subset : (t u : PlainTerm) → Refines (folded_set_subset t u) (set_subset_of t u)
 stands_set_subset t u =
     one_of (term_eq t u || is_empty_set t) true_term (cond (is_set_literal t && is_set_literal u) (truth_literal (list_all (is_among (elements_in u)) (elements_in t))) (set_subset_of t u)) (set_subset_of t u)
     (λ h. ⊎_elim (λ e. subset_of_itself t u (same_term t u e)) (λ e. empty_subset t u e) (or_cases (term_eq t u) (is_empty_set t) h))
@@ -125,20 +125,20 @@ stands_set_subset t u =
 
 -- ---- intersection
 
-inter_with_itself : (t u : PlainTerm) → t ≡ u → StandsFor t (set_inter_of t u)
+inter_with_itself : (t u : PlainTerm) → t ≡ u → Refines t (set_inter_of t u)
 inter_with_itself t u e =
-    subst (λ (w : PlainTerm). StandsFor t (set_inter_of t w)) e
+    subst (λ (w : PlainTerm). Refines t (set_inter_of t w)) e
     (standing_within t (set_inter_of t t) (λ P n h. first_argument P SetInterOp t t (type_of t) h) (λ h. ((inter_parts t t h).first, refl))
     (λ enums I h f g. inter_itself (type_of t) (meaning I t) (first_so (is_set (type_of t)) (type_eq (type_of t) (type_of t)) (inter_parts t t h).holds)
     (term_shaped enums I t (inter_parts t t h).first (first_argument IsFormedNode SetInterOp t t (type_of t) f.literals) (first_argument (IsGiven enums I) SetInterOp t t (type_of t) g))))
 
-empty_first : (t u : PlainTerm) → is_empty_set t ≡ true → StandsFor t (set_inter_of t u)
+empty_first : (t u : PlainTerm) → is_empty_set t ≡ true → Refines t (set_inter_of t u)
 empty_first (SetTerm ty no_terms) u e =
     standing_within (SetTerm ty no_terms) (set_inter_of (SetTerm ty no_terms) u) (λ P n h. first_argument P SetInterOp (SetTerm ty no_terms) u (SetType ty) h) (λ h. (refl, refl)) (λ enums I h f g. refl)
 empty_first (SetTerm ty (one_term t ts)) u e = cc
 empty_first t u e = cc
 
-empty_second : (t u : PlainTerm) → is_empty_set u ≡ true → StandsFor u (set_inter_of t u)
+empty_second : (t u : PlainTerm) → is_empty_set u ≡ true → Refines u (set_inter_of t u)
 empty_second t (SetTerm ty no_terms) e =
     standing_within (SetTerm ty no_terms) (set_inter_of t (SetTerm ty no_terms)) (λ P n h. second_argument P SetInterOp t (SetTerm ty no_terms) (type_of t) h)
     (λ h. (refl, sym (eq_same (type_of t) (SetType ty) (second_so (is_set (type_of t)) (type_eq (type_of t) (SetType ty)) (inter_parts t (SetTerm ty no_terms) h).holds))))
@@ -158,7 +158,7 @@ module _ (a : PlainType) (ts : PlainTerms) (b : PlainType) (us : PlainTerms) whe
       let g : AllByRecursion P (subterms_of_all ts) = all-front P (subterms_of_all ts) (SetTerm a ts ∷ []) (first_argument P SetInterOp (SetTerm a ts) (SetTerm b us) (SetType a) h) in
       of_set P a Common p (among_them P Common (list_of_terms ts) (λ z m. (kept (is_among (list_of_terms us)) z (list_of_terms ts) m).0) (subst (λ (xs : PlainTerms). AllByRecursion P (subterms_of_all xs)) (sym (listed_again ts)) g))
 
-  common_stands : are_literals ts ≡ true → are_literals us ≡ true → StandsFor (set_term a Common) Inter
+  common_stands : are_literals ts ≡ true → are_literals us ≡ true → Refines (set_term a Common) Inter
   common_stands l k =
       standing (set_term a Common) Inter (λ P q h. common_subterms P (q (set_term a Common) (refl, refl, refl, refl)) h)
       (λ f. record { literals = common_subterms IsFormedNode tt f.literals; types = common_subterms HasFormedType (last_of HasFormedType Inter f.types) f.types })
@@ -169,12 +169,12 @@ module _ (a : PlainType) (ts : PlainTerms) (b : PlainType) (us : PlainTerms) whe
       common_is I a ts us (literal_elements a ts l p.first (first_argument IsFormedNode SetInterOp (SetTerm a ts) (SetTerm b us) (SetType a) f.literals))
       (subst (λ (y : PlainType). AllByRecursion (IsLiteralElement y) (list_of_terms us)) (sym (one_element_type a b p.holds)) x)))
 
-literal_inter : (t u : PlainTerm) → is_set_literal t ≡ true → is_set_literal u ≡ true → StandsFor (common_set t u) (set_inter_of t u)
+literal_inter : (t u : PlainTerm) → is_set_literal t ≡ true → is_set_literal u ≡ true → Refines (common_set t u) (set_inter_of t u)
 literal_inter (SetTerm a ts) (SetTerm b us) l k = common_stands a ts b us l k
 literal_inter (SetTerm a ts) u l k = cc
 literal_inter t u l k = cc
 
-pub stands_set_inter : (t u : PlainTerm) → StandsFor (folded_set_inter t u) (set_inter_of t u)
+pub stands_set_inter : (t u : PlainTerm) → Refines (folded_set_inter t u) (set_inter_of t u)
 stands_set_inter t u =
     one_of (term_eq t u || is_empty_set t) t second (set_inter_of t u) (λ h. ⊎_elim (λ e. inter_with_itself t u (same_term t u e)) (λ e. empty_first t u e) (or_cases (term_eq t u) (is_empty_set t) h))
     (one_of (is_empty_set u) u both (set_inter_of t u) (empty_second t u)
@@ -206,15 +206,15 @@ not_empty k (x ∷ xs) = by (value_cmp k x)
     by Equal = refl
     by Greater = refl
 
-pub stands_set_is_empty : (t : PlainTerm) → StandsFor (folded_set_is_empty t) (set_is_empty_of t)
+pub stands_set_is_empty : (t : PlainTerm) → Refines (folded_set_is_empty t) (set_is_empty_of t)
 stands_set_is_empty (SetTerm ty no_terms) = equal_for_eq (SetTerm ty no_terms) (SetTerm ty no_terms) refl
 stands_set_is_empty (SetTerm ty (one_term t ts)) = literal_for_eq false (SetTerm ty (one_term t ts)) (SetTerm ty no_terms) (λ enums I p f. not_empty (meaning I t) (sorted_values (meanings I ts)))
 stands_set_is_empty t = test_folded element_type (λ ty. SetTerm ty no_terms) empty_is_made (element_type (type_of t)) t
 
-pub empty_kept : (t u : PlainTerm) → StandsFor t u → StandsFor (set_is_empty_of t) (set_is_empty_of u)
+pub empty_kept : (t u : PlainTerm) → Refines t u → Refines (set_is_empty_of t) (set_is_empty_of u)
 empty_kept = test_kept element_type (λ ty. SetTerm ty no_terms) empty_is_made
 
-pub stands_set_intersects : (t u : PlainTerm) → StandsFor (folded_set_intersects t u) (set_intersects_of t u)
+pub stands_set_intersects : (t u : PlainTerm) → Refines (folded_set_intersects t u) (set_intersects_of t u)
 stands_set_intersects t u =
     let x : PlainTerm = folded_set_is_empty (folded_set_inter t u) in
     let y : PlainTerm = set_is_empty_of (set_inter_of t u) in

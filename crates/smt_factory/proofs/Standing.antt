@@ -5,7 +5,7 @@ use Rattle.std.specs.Cmp.{first_so, second_so}
 use Rattle.std.specs.Cmp.Derive.{both_true}
 use Rattle.std.specs.List.{AllByRecursion, AllZip, filter_map}
 use Rattle.smt_factory.specs.Applications.{truth_literal}
-use Rattle.smt_factory.specs.StandsFor.{AreAmong, StandsFor}
+use Rattle.smt_factory.specs.Refinement.{AreAmong, Refines}
 use Rattle.smt_factory.proofs.Reaching.{AsksNothing, Reaches, IsBrought, brought_itself, among_brought, through, among, interpreted}
 use Rattle.smt_term.specs.Formed.{IsFormedHere, IsFormedType, IsFormedNode, IsFormed}
 use Rattle.smt_term.specs.Interpretations.{IsGiven}
@@ -37,7 +37,7 @@ SameMeaning t u = (enums : Enums) (I : Interpretation) → typed u ≡ true → 
 abbrev pub SameType : PlainTerm → PlainTerm → Type 0
 SameType t u = typed u ≡ true → (typed t ≡ true) × (type_of t ≡ type_of u)
 
-pub standing : (t u : PlainTerm) → Reaches t u → (IsFormed u → IsFormed t) → SameType t u → SameMeaning t u → StandsFor t u
+pub standing : (t u : PlainTerm) → Reaches t u → (IsFormed u → IsFormed t) → SameType t u → SameMeaning t u → Refines t u
 standing t u r f y v = record {
   formed = f;
   type = λ ty h. record { parts = (y h.parts).0; type = (y h.parts).1 ∙ h.type };
@@ -49,10 +49,10 @@ standing t u r f y v = record {
 }
 
 -- the term itself, and onward
-pub itself : (t : PlainTerm) → StandsFor t t
+pub itself : (t : PlainTerm) → Refines t t
 itself t = record { formed = λ f. f; type = λ ty h. h; variables = λ x m. m; functions = λ x m. m; options = λ x m. m; selectors = λ x m. m; value = λ ty enums I f h i. refl }
 
-pub onward : (t u w : PlainTerm) → StandsFor t u → StandsFor u w → StandsFor t w
+pub onward : (t u w : PlainTerm) → Refines t u → Refines u w → Refines t w
 onward t u w a b = record {
   formed = λ f. a.formed (b.formed f);
   type = λ ty h. a.type ty (b.type ty h);
@@ -64,16 +64,16 @@ onward t u w a b = record {
 }
 
 -- what a term that stands for another has
-pub same_type : (t u : PlainTerm) → StandsFor t u → SameType t u
+pub same_type : (t u : PlainTerm) → Refines t u → SameType t u
 same_type t u s h = let y : Typed t (type_of u) = s.type (type_of u) (record { parts = h; type = refl }) in (y.parts, y.type)
 
-pub same_meaning : (t u : PlainTerm) → StandsFor t u → SameMeaning t u
+pub same_meaning : (t u : PlainTerm) → Refines t u → SameMeaning t u
 same_meaning t u s enums I h f g =
     sym (valued I t (same_type t u s h).0) ∙ (s.value (type_of u) enums I f (record { parts = h; type = refl }) (all-join (IsGiven enums I) (subterms u) [] g tt) ∙ valued I u h)
 
 -- ---- a choice between terms
 
-pub one_of : (b : Bool) (x y o : PlainTerm) → (b ≡ true → StandsFor x o) → StandsFor y o → StandsFor (cond b x y) o
+pub one_of : (b : Bool) (x y o : PlainTerm) → (b ≡ true → Refines x o) → Refines y o → Refines (cond b x y) o
 one_of true x y o f g = f refl
 one_of false x y o f g = g
 
@@ -116,17 +116,17 @@ new_type w h = elim h [ ]
 abbrev pub Within : PlainTerm → PlainTerm → Type 1
 Within t u = (P : PlainTerm → Type 0) → ((w : PlainTerm) → IsNew w → P w) → AllByRecursion P (subterms u) → AllByRecursion P (subterms t)
 
-pub standing_within : (t u : PlainTerm) → Within t u → SameType t u → SameMeaning t u → StandsFor t u
+pub standing_within : (t u : PlainTerm) → Within t u → SameType t u → SameMeaning t u → Refines t u
 standing_within t u w y v =
     standing t u (λ P q h. w P (λ x n. q x (new_asks x n)) h) (λ f. record { literals = w IsFormedNode new_formed f.literals; types = w (λ x. IsFormedType (type_of x)) new_type f.types }) y v
 
 -- a truth value for a term
-pub truth_standing : (b : Bool) (u : PlainTerm) → type_of u ≡ BoolType → SameMeaning (truth_literal b) u → StandsFor (truth_literal b) u
+pub truth_standing : (b : Bool) (u : PlainTerm) → type_of u ≡ BoolType → SameMeaning (truth_literal b) u → Refines (truth_literal b) u
 truth_standing b u e v = standing_within (truth_literal b) u (λ P n h. (n (truth_literal b) tt, tt)) (λ h. (refl, sym e)) v
 
 -- ---- applications and `some` of terms that stand for others
 
-pub formed_all : (ts us : List PlainTerm) → AllZip StandsFor ts us → AllByRecursion IsFormedNode (subterms_of_all (terms us)) → AllByRecursion (λ w. IsFormedType (type_of w)) (subterms_of_all (terms us)) → AllByRecursion IsFormedNode (subterms_of_all (terms ts)) × AllByRecursion (λ w. IsFormedType (type_of w)) (subterms_of_all (terms ts))
+pub formed_all : (ts us : List PlainTerm) → AllZip Refines ts us → AllByRecursion IsFormedNode (subterms_of_all (terms us)) → AllByRecursion (λ w. IsFormedType (type_of w)) (subterms_of_all (terms us)) → AllByRecursion IsFormedNode (subterms_of_all (terms ts)) × AllByRecursion (λ w. IsFormedType (type_of w)) (subterms_of_all (terms ts))
 formed_all [] [] z h g = (tt, tt)
 formed_all [] (u ∷ us) z h g = elim z [ ]
 formed_all (t ∷ ts) [] z h g = elim z [ ]
@@ -135,7 +135,7 @@ formed_all (t ∷ ts) (u ∷ us) z h g =
     let r = formed_all ts us z.1 (all-back IsFormedNode (subterms u) (subterms_of_all (terms us)) h) (all-back (λ w. IsFormedType (type_of w)) (subterms u) (subterms_of_all (terms us)) g) in
     (all-join IsFormedNode (subterms t) (subterms_of_all (terms ts)) f.literals r.0, all-join (λ w. IsFormedType (type_of w)) (subterms t) (subterms_of_all (terms ts)) f.types r.1)
 
-pub types_all : (ts us : List PlainTerm) → AllZip StandsFor ts us → typed_all (terms us) ≡ true → (typed_all (terms ts) ≡ true) × (types_of (terms ts) ≡ types_of (terms us))
+pub types_all : (ts us : List PlainTerm) → AllZip Refines ts us → typed_all (terms us) ≡ true → (typed_all (terms ts) ≡ true) × (types_of (terms ts) ≡ types_of (terms us))
 types_all [] [] z h = (refl, refl)
 types_all [] (u ∷ us) z h = elim z [ ]
 types_all (t ∷ ts) [] z h = elim z [ ]
@@ -146,7 +146,7 @@ types_all (t ∷ ts) (u ∷ us) z h =
     let q : types_of (terms ts) ≡ types_of (terms us) = r.1 in
     (both_true a.0 r.0, λ i. p i ∷ q i)
 
-pub meanings_all : (enums : Enums) (I : Interpretation) (ts us : List PlainTerm) → AllZip StandsFor ts us → typed_all (terms us) ≡ true → AllByRecursion IsFormedNode (subterms_of_all (terms us)) → AllByRecursion (λ w. IsFormedType (type_of w)) (subterms_of_all (terms us)) → AllByRecursion (IsGiven enums I) (subterms_of_all (terms us)) → meanings I (terms ts) ≡ meanings I (terms us)
+pub meanings_all : (enums : Enums) (I : Interpretation) (ts us : List PlainTerm) → AllZip Refines ts us → typed_all (terms us) ≡ true → AllByRecursion IsFormedNode (subterms_of_all (terms us)) → AllByRecursion (λ w. IsFormedType (type_of w)) (subterms_of_all (terms us)) → AllByRecursion (IsGiven enums I) (subterms_of_all (terms us)) → meanings I (terms ts) ≡ meanings I (terms us)
 meanings_all enums I [] [] z h f g i = refl
 meanings_all enums I [] (u ∷ us) z h f g i = elim z [ ]
 meanings_all enums I (t ∷ ts) [] z h f g i = elim z [ ]
@@ -157,17 +157,17 @@ meanings_all enums I (t ∷ ts) (u ∷ us) z h f g i =
 
 -- each list of what is reached, for arguments that stand for others
 abbrev pub StandAmong : {Y : Type 0} → (PlainTerm → Option Y) → Type 0
-StandAmong f = (t u : PlainTerm) → StandsFor t u → AreAmong (filter_map f (reached_terms (t ∷ []))) (filter_map f (reached_terms (u ∷ [])))
+StandAmong f = (t u : PlainTerm) → Refines t u → AreAmong (filter_map f (reached_terms (t ∷ []))) (filter_map f (reached_terms (u ∷ [])))
 
 module _ {Y : Type 0} (f : PlainTerm → Option Y) (one : StandAmong f) where
-  pub all_through : (Q : Y → Type 0) (ts us : List PlainTerm) → AllZip StandsFor ts us → AllByRecursion (λ w. IfSome (f w) Q) (subterms_of_all (terms us)) → AllByRecursion (λ w. IfSome (f w) Q) (subterms_of_all (terms ts))
+  pub all_through : (Q : Y → Type 0) (ts us : List PlainTerm) → AllZip Refines ts us → AllByRecursion (λ w. IfSome (f w) Q) (subterms_of_all (terms us)) → AllByRecursion (λ w. IfSome (f w) Q) (subterms_of_all (terms ts))
   all_through Q [] [] z h = tt
   all_through Q [] (u ∷ us) z h = elim z [ ]
   all_through Q (t ∷ ts) [] z h = elim z [ ]
   all_through Q (t ∷ ts) (u ∷ us) z h =
       all-join (λ w. IfSome (f w) Q) (subterms t) (subterms_of_all (terms ts)) (through f Q t u (one t u z.0) (all-front (λ w. IfSome (f w) Q) (subterms u) (subterms_of_all (terms us)) h)) (all_through Q ts us z.1 (all-back (λ w. IfSome (f w) Q) (subterms u) (subterms_of_all (terms us)) h))
 
-  application_among : (o : PlainOp) (ts us : List PlainTerm) (ty : PlainType) → AllZip StandsFor ts us → f (Application o (terms ts) ty) ≡ f (Application o (terms us) ty) → AreAmong (filter_map f (reached_terms (Application o (terms ts) ty ∷ []))) (filter_map f (reached_terms (Application o (terms us) ty ∷ [])))
+  application_among : (o : PlainOp) (ts us : List PlainTerm) (ty : PlainType) → AllZip Refines ts us → f (Application o (terms ts) ty) ≡ f (Application o (terms us) ty) → AreAmong (filter_map f (reached_terms (Application o (terms ts) ty ∷ []))) (filter_map f (reached_terms (Application o (terms us) ty ∷ [])))
   application_among o ts us ty z e =
       let x : PlainTerm = Application o (terms us) ty in
       let y : PlainTerm = Application o (terms ts) ty in
@@ -176,14 +176,14 @@ module _ {Y : Type 0} (f : PlainTerm → Option Y) (one : StandAmong f) where
       (all_through (Contains (filter_map f (reached_terms (x ∷ [])))) ts us z (all-front (IsBrought f x) (subterms_of_all (terms us)) (x ∷ []) h))
       (subst (λ b. IfSome b (Contains (filter_map f (reached_terms (x ∷ []))))) (sym e) (all-last (IsBrought f x) (subterms_of_all (terms us)) x h), tt))
 
-  some_among : (t u : PlainTerm) → StandsFor t u → f (SomeTerm t) ≡ f (SomeTerm u) → AreAmong (filter_map f (reached_terms (SomeTerm t ∷ []))) (filter_map f (reached_terms (SomeTerm u ∷ [])))
+  some_among : (t u : PlainTerm) → Refines t u → f (SomeTerm t) ≡ f (SomeTerm u) → AreAmong (filter_map f (reached_terms (SomeTerm t ∷ []))) (filter_map f (reached_terms (SomeTerm u ∷ [])))
   some_among t u s e =
       let h : AllByRecursion (IsBrought f (SomeTerm u)) (subterms (SomeTerm u)) = brought_itself f (SomeTerm u) in
       among_brought f (SomeTerm t) (SomeTerm u) (all-join (IsBrought f (SomeTerm u)) (subterms t) (SomeTerm t ∷ [])
       (through f (Contains (filter_map f (reached_terms (SomeTerm u ∷ [])))) t u (one t u s) (all-front (IsBrought f (SomeTerm u)) (subterms u) (SomeTerm u ∷ []) h))
       (subst (λ b. IfSome b (Contains (filter_map f (reached_terms (SomeTerm u ∷ []))))) (sym e) (all-last (IsBrought f (SomeTerm u)) (subterms u) (SomeTerm u) h), tt))
 
-pub application : (o : PlainOp) (ts us : List PlainTerm) (ty : PlainType) → AllZip StandsFor ts us → StandsFor (Application o (terms ts) ty) (Application o (terms us) ty)
+pub application : (o : PlainOp) (ts us : List PlainTerm) (ty : PlainType) → AllZip Refines ts us → Refines (Application o (terms ts) ty) (Application o (terms us) ty)
 application o ts us ty z = record {
   formed = λ f. (
       let r = formed_all ts us z (all-front IsFormedNode (subterms_of_all (terms us)) (Application o (terms us) ty ∷ []) f.literals) (all-front (λ w. IsFormedType (type_of w)) (subterms_of_all (terms us)) (Application o (terms us) ty ∷ []) f.types) in
@@ -221,7 +221,7 @@ module _ (P : PlainTerm → Type 0) where
 pub last_type : (t : PlainTerm) → IsFormed t → IsFormedType (type_of t)
 last_type t f = last_of (λ w. IsFormedType (type_of w)) t f.types
 
-pub some : (t u : PlainTerm) → StandsFor t u → StandsFor (SomeTerm t) (SomeTerm u)
+pub some : (t u : PlainTerm) → Refines t u → Refines (SomeTerm t) (SomeTerm u)
 some t u s = record {
   formed = λ f. (
       let g : IsFormed t = s.formed (record { literals = all-front IsFormedNode (subterms u) (SomeTerm u ∷ []) f.literals; types = all-front (λ w. IsFormedType (type_of w)) (subterms u) (SomeTerm u ∷ []) f.types }) in

@@ -5,7 +5,7 @@ use Rattle.std.specs.Prelude.{Option, Some, None}
 use Rattle.std.specs.List.{AllByRecursion}
 use Rattle.smt_factory.specs.Applications.{false_term, eq_of, never_of}
 use Rattle.smt_factory.specs.FoldEquality.{folded_eq}
-use Rattle.smt_factory.specs.StandsFor.{StandsFor}
+use Rattle.smt_factory.specs.Refinement.{Refines}
 use Rattle.smt_factory.proofs.ConnectivesStand.{argument, first_argument, negated_parts}
 use Rattle.smt_factory.proofs.EqualityStands.{equal_values, eq_parts, stands_eq}
 use Rattle.smt_factory.proofs.Reaching.{AsksNothing, Reaches, among}
@@ -21,7 +21,7 @@ use Rattle.smt_term.specs.Plain.{PlainType, BoolType, EqOp, NotOp, PlainTerm, te
 use Rattle.smt_term.specs.Values.{BoolValue}
 
 -- a term is itself
-pub stands_never : (t : PlainTerm) → StandsFor false_term (never_of t)
+pub stands_never : (t : PlainTerm) → Refines false_term (never_of t)
 stands_never t = truth_standing false (never_of t) refl (λ enums I h f g. ap (λ b. BoolValue (not b)) (sym (equal_values (meaning I t) (meaning I t) refl)))
 
 -- what is made of a part of a type: a term by itself that asks for nothing
@@ -46,7 +46,7 @@ module _ (part : PlainType → Option PlainType) (made : PlainType → PlainTerm
   test_typed (Some x) t h = (eq_parts t (made x) h).first
   test_typed None t h = (eq_parts t t (negated_parts (eq_of t t) h).0).first
 
-  pub test_folded : (o : Option PlainType) (t : PlainTerm) → StandsFor (elim o [ Some x ↦ folded_eq t (made x) | None ↦ false_term ]) (test_at o t)
+  pub test_folded : (o : Option PlainType) (t : PlainTerm) → Refines (elim o [ Some x ↦ folded_eq t (made x) | None ↦ false_term ]) (test_at o t)
   test_folded (Some x) t = stands_eq t (made x)
   test_folded None t = stands_never t
 
@@ -74,11 +74,11 @@ module _ (part : PlainType → Option PlainType) (made : PlainType → PlainTerm
 
   -- ---- terms that stand for others
 
-  kept_at : (o : Option PlainType) (t u : PlainTerm) → StandsFor t u → StandsFor (test_at o t) (test_at o u)
+  kept_at : (o : Option PlainType) (t u : PlainTerm) → Refines t u → Refines (test_at o t) (test_at o u)
   kept_at (Some x) t u s = application EqOp (t ∷ made x ∷ []) (u ∷ made x ∷ []) BoolType (s, (itself (made x), tt))
   kept_at None t u s = application NotOp (eq_of t t ∷ []) (eq_of u u ∷ []) BoolType (application EqOp (t ∷ t ∷ []) (u ∷ u ∷ []) BoolType (s, (s, tt)), tt)
 
-  test_of_untyped : (t u : PlainTerm) → typed u ≡ false → StandsFor t u → StandsFor (test t) (test u)
+  test_of_untyped : (t u : PlainTerm) → typed u ≡ false → Refines t u → Refines (test t) (test u)
   test_of_untyped t u e s = record {
     formed = λ f. test_formed t (s.formed (record { literals = inside_test IsFormedNode (part (type_of u)) u f.literals; types = inside_test HasFormedType (part (type_of u)) u f.types }));
     type = λ ty h. absurd (never h.parts);
@@ -96,10 +96,10 @@ module _ (part : PlainType → Option PlainType) (made : PlainType → PlainTerm
       back P q h = inside_test P (part (type_of u)) u h
 
   -- the test of a term that stands for another stands for the other's
-  pub test_kept : (t u : PlainTerm) → StandsFor t u → StandsFor (test t) (test u)
+  pub test_kept : (t u : PlainTerm) → Refines t u → Refines (test t) (test u)
   test_kept t u s = by (typed u) refl
     where
-      by : (b : Bool) → typed u ≡ b → StandsFor (test_at (part (type_of t)) t) (test_at (part (type_of u)) u)
+      by : (b : Bool) → typed u ≡ b → Refines (test_at (part (type_of t)) t) (test_at (part (type_of u)) u)
       by true e =
-          subst (λ (o : Option PlainType). StandsFor (test_at o t) (test_at (part (type_of u)) u)) (sym (ap part (same_type t u s e).1)) (kept_at (part (type_of u)) t u s)
+          subst (λ (o : Option PlainType). Refines (test_at o t) (test_at (part (type_of u)) u)) (sym (ap part (same_type t u s e).1)) (kept_at (part (type_of u)) t u s)
       by false e = test_of_untyped t u e s

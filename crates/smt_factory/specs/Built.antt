@@ -7,7 +7,7 @@ use Rattle.smt_factory.specs.FoldEquality.{folded_eq, folded_ite}
 use Rattle.smt_factory.specs.FoldOptions.{folded_option_get}
 use Rattle.smt_factory.specs.FoldSets.{folded_set_member, folded_set_subset, folded_set_inter}
 use Rattle.smt_factory.specs.FoldStrings.{folded_string_like}
-use Rattle.smt_factory.specs.StandsFor.{StandsFor}
+use Rattle.smt_factory.specs.Refinement.{Refines}
 use Rattle.smt_term.specs.Faults.{term_fault}
 use Rattle.smt_term.specs.Plain.{PlainType, PlainOp, AndOp, BvaddOp, BvlshrOp, BvmulOp, BvnegOp, BvnegoOp, BvsaddoOp, BvsdivOp, BvshlOp, BvsleOp, BvsltOp, BvsmodOp, BvsmuloOp, BvsremOp, BvssuboOp, BvsubOp, BvudivOp, BvuleOp, BvultOp, BvuremOp, EqOp, IteOp, NotOp, OptionGetOp, OrOp, SetInterOp, SetMemberOp, SetSubsetOp, StringLikeOp, ZeroExtendOp, PlainTerm, Application, NoneTerm, LiteralTerm, RecordTerm, SetTerm, SomeTerm, VariableTerm, PlainTerms, no_terms, one_term, PlainFields, no_fields, one_field, terms}
 use Rattle.smt_term.specs.TermSets.{set_term}
@@ -67,8 +67,8 @@ abbrev mutual
   built_fields (one_field a t fs) = one_field a (built t) (built_fields fs)
 
 -- what is built for a typed term stands for it
-abbrev pub BuiltTermsStand : Type 0
-BuiltTermsStand = (t : PlainTerm) → IsTrue (typed t) → StandsFor (built t) t
+abbrev pub BuiltTermsRefine : Type 0
+BuiltTermsRefine = (t : PlainTerm) → IsTrue (typed t) → Refines (built t) t
 
 -- what is built for a typed term without fault has no fault
 abbrev pub FoldingAddsNoFault : Type 0

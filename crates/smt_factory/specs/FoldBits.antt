@@ -1,6 +1,7 @@
 -- The folding of the operators on bits: literals are computed with, and all else stays an application.
 use Rattle.std.specs.Prelude.{ℕ, ◌+◌, ◌-◌, ◌^◌, Bool, true, cond, ◌&&◌, ◌==◌, nat_le}
 use Rattle.std.specs.Option.{unwrap_or}
+use Rattle.smt_bits.specs.BitVec.{greatest_shift}
 use Rattle.smt_bits.specs.BitVectors as bits
 use Rattle.smt_factory.specs.Applications.{truth_literal, bits_literal, bvneg_of, bits_of_two, test_of_two, bvnego_of, zero_extend_of}
 use Rattle.smt_factory.specs.Parts.{negated_bits}
@@ -24,7 +25,7 @@ folded_bits o f = folded_bits_where (λ b. true) o f
 
 -- a shift by a number of 32 bits
 abbrev pub folded_shift : PlainOp → (ℕ → ℕ → ℕ → ℕ) → PlainTerm → PlainTerm → PlainTerm
-folded_shift o f = folded_bits_where (λ b. nat_le b bits.greatest_shift) o f
+folded_shift o f = folded_bits_where (λ b. nat_le b greatest_shift) o f
 
 -- a test of two literals of one width
 abbrev pub folded_test : PlainOp → (ℕ → ℕ → ℕ → Bool) → PlainTerm → PlainTerm → PlainTerm

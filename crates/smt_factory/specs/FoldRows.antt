@@ -1,5 +1,6 @@
 -- Worked examples of folding.
-use Rattle.std.specs.Prelude.{◌≡◌, ℕ, Bool, true, false, List, [], ◌∷◌, map, codes}
+use Rattle.std.specs.Prelude.{◌≡◌, ℕ, Bool, true, false, List, [], ◌∷◌, map, codes, Ok}
+use Rattle.smt_factory.specs.AnyOf.{IsTrueWhereOneIs}
 use Rattle.smt_factory.specs.Applications.{truth_literal, true_term, false_term, bits_literal, not_of, implies_of, and_of, or_of, eq_of, ite_of, any_of, bvneg_of, bits_of_two, test_of_two, bvnego_of, zero_extend_of, string_like_of, set_member_of, set_subset_of, set_inter_of, set_is_empty_of, set_intersects_of, option_get_of, is_none_of, is_some_of, if_false_of, if_true_of, if_some_of, any_none_of, if_all_some_of}
 use Rattle.smt_factory.specs.FoldBits.{folded_bvneg, folded_bvnego, folded_zero_extend, folded_bvadd, folded_bvsub, folded_bvmul, folded_bvsdiv, folded_bvudiv, folded_bvsrem, folded_bvsmod, folded_bvurem, folded_bvshl, folded_bvlshr, folded_bvslt, folded_bvsle, folded_bvult, folded_bvule, folded_bvsaddo, folded_bvssubo, folded_bvsmulo}
 use Rattle.smt_factory.specs.FoldConnectives.{folded_not, are_opposites, folded_and, folded_or, folded_implies, folded_any}
@@ -7,11 +8,13 @@ use Rattle.smt_factory.specs.FoldEquality.{folded_eq, folded_ite}
 use Rattle.smt_factory.specs.FoldOptions.{folded_option_get, folded_is_none, folded_is_some, folded_if_false, folded_if_true, folded_if_some, folded_any_none, folded_if_all_some}
 use Rattle.smt_factory.specs.FoldSets.{folded_set_member, folded_set_subset, folded_set_inter, folded_set_is_empty, folded_set_intersects}
 use Rattle.smt_factory.specs.FoldStrings.{folded_string_like}
-use Rattle.smt_factory.specs.StandsFor.{StandsFor}
+use Rattle.smt_factory.specs.SetOf.{IsSetOf}
+use Rattle.smt_factory.specs.Refinement.{Refines}
 use Rattle.smt_term.specs.Meaning.{term_value}
 use Rattle.smt_term.specs.Tables.{Interpretation}
 use Rattle.smt_term.specs.TermSets.{set_term}
-use Rattle.smt_term.specs.Values.{BoolValue, BitVecValue, NoneValue, SomeValue}
+use Rattle.smt_term.specs.ValueOrder.{values}
+use Rattle.smt_term.specs.Values.{BoolValue, BitVecValue, NoneValue, SetValue, SomeValue}
 use Rattle.smt_term.specs.Plain.{OptionType, BitVecType, BoolType, SetType, StringType, PatternPart, Character, Wildcard, BvaddOp, BvlshrOp, BvshlOp, BvsubOp, BvultOp, IteOp, StringLiteral, PlainTerm, Application, NoneTerm, LiteralTerm, SetTerm, SomeTerm, VariableTerm, terms}
 
 -- variables
@@ -142,6 +145,10 @@ pub record SetRows : Type 0 where
       ≡ BoolValue true ∷ BoolValue false ∷ BoolValue false ∷ BoolValue true ∷ BoolValue false ∷ []
   pub applied_inter : (I : Interpretation) → term_value I (set_inter_of (bytes (1 ∷ 2 ∷ [])) (bytes (2 ∷ 3 ∷ []))) ≡ term_value I (bytes (2 ∷ []))
   pub each_once : bytes (2 ∷ 1 ∷ 2 ∷ []) ≡ SetTerm (BitVecType 8) (terms (byte 1 ∷ byte 2 ∷ []))
+  -- the set of 2, 1 and 2, and its value; a set that lacks 2 is not that of 1 and 2
+  pub set_of_bytes : IsSetOf (BitVecType 8) (byte 2 ∷ byte 1 ∷ byte 2 ∷ []) (bytes (2 ∷ 1 ∷ 2 ∷ []))
+  pub value_of_bytes : (I : Interpretation) → term_value I (bytes (2 ∷ 1 ∷ 2 ∷ [])) ≡ SetValue (values (BitVecValue 8 1 ∷ BitVecValue 8 2 ∷ []))
+  pub set_lacks_one : IsSetOf (BitVecType 8) (byte 1 ∷ byte 2 ∷ []) (bytes (1 ∷ [])) → ⊥
   -- of {}, {1} and {1, 2}; and where the term or an element is no literal
   pub member : map (folded_set_member (byte 2)) (bytes [] ∷ bytes (1 ∷ []) ∷ bytes (1 ∷ 2 ∷ []) ∷ []) ≡ truths (false ∷ false ∷ true ∷ [])
   pub member_stays : map (folded_set_member x) (bytes [] ∷ bytes (1 ∷ []) ∷ []) ≡ false_term ∷ set_member_of x (bytes (1 ∷ [])) ∷ []
@@ -197,8 +204,13 @@ pub record OptionRows : Type 0 where
   pub any_none : map folded_any_none ([] ∷ (SomeTerm b ∷ []) ∷ (SomeTerm b ∷ no_truth ∷ []) ∷ (o ∷ []) ∷ (o ∷ p ∷ []) ∷ []) ≡ false_term ∷ false_term ∷ true_term ∷ eq_of o no_truth ∷ or_of (eq_of p no_truth) (eq_of o no_truth) ∷ []
   pub if_all_some : folded_if_all_some [] b ∷ folded_if_all_some (no_truth ∷ []) b ∷ folded_if_all_some (o ∷ []) p ∷ [] ≡ SomeTerm b ∷ no_truth ∷ ite_of (eq_of o no_truth) no_truth p ∷ []
 
--- what does not stand for a term: another value, another type, and a variable that the original does not reach
+-- the disjunction of the terms themselves, which is what a call answers that gives each term back: false and true give true,
+-- and not false
+pub record AnyRows : Type 0 where
+  pub one_is_true : IsTrueWhereOneIs (λ t r. r ≡ Ok t) (truths (false ∷ true ∷ [])) true_term
+  pub not_false : IsTrueWhereOneIs (λ t r. r ≡ Ok t) (truths (false ∷ true ∷ [])) false_term → ⊥
+
 pub record ApartRows : Type 0 where
-  pub values : StandsFor true_term b → ⊥
-  pub types : StandsFor (byte 1) true_term → ⊥
-  pub reached : StandsFor (and_of b false_term) false_term → ⊥
+  pub values : Refines true_term b → ⊥
+  pub types : Refines (byte 1) true_term → ⊥
+  pub reached : Refines (and_of b false_term) false_term → ⊥

@@ -8,7 +8,7 @@ use Rattle.smt_factory.specs.FoldEquality.{folded_eq, folded_ite}
 use Rattle.smt_factory.specs.FoldOptions.{folded_option_get, folded_is_none, folded_is_some, folded_if_false, folded_if_true, folded_if_some, folded_any_none, folded_if_all_some}
 use Rattle.smt_factory.specs.FoldSets.{folded_set_member, folded_set_subset, folded_set_inter, folded_set_is_empty, folded_set_intersects}
 use Rattle.smt_factory.specs.FoldStrings.{folded_string_like}
-use Rattle.smt_factory.specs.StandsFor.{StandsFor, FieldsStandFor}
+use Rattle.smt_factory.specs.Refinement.{Refines, FieldsRefine}
 use Rattle.smt_term.specs.Formed.{IsFormed}
 use Rattle.smt_term.specs.Interpretations.{IsInterpretation}
 use Rattle.smt_term.specs.Literals.{is_literal}
@@ -16,29 +16,29 @@ use Rattle.smt_term.specs.Meaning.{term_value}
 use Rattle.smt_term.specs.Operators.{truth, apply}
 use Rattle.smt_term.specs.Tables.{Interpretation}
 use Rattle.smt_term.specs.TermSets.{set_term}
-use Rattle.smt_term.specs.Typing.{typed, Typed}
+use Rattle.smt_term.specs.Typing.{typed, Typed, AreBoolean}
 use Rattle.smt_term.specs.TypeValues.{Enums}
 use Rattle.smt_term.specs.Plain.{PlainType, BitVecType, BoolType, PatternPart, PlainOp, BvaddOp, BvlshrOp, BvmulOp, BvsaddoOp, BvsdivOp, BvshlOp, BvsleOp, BvsltOp, BvsmodOp, BvsmuloOp, BvsremOp, BvssuboOp, BvsubOp, BvudivOp, BvuleOp, BvultOp, BvuremOp, PlainTerm, Application, RecordTerm, SomeTerm, PlainFields, terms}
 use Rattle.smt_term.specs.Values.{BoolValue, BitVecValue}
 
 -- standing for is an order that applications, `some`, records and sets keep, and the tests for none and for the empty set
-pub record StandingIsKept : Type 0 where
-  pub itself : (t : PlainTerm) → StandsFor t t
-  pub onward : (t u w : PlainTerm) → StandsFor t u → StandsFor u w → StandsFor t w
-  pub application : (o : PlainOp) (ts us : List PlainTerm) (ty : PlainType) → AllZip StandsFor ts us → StandsFor (Application o (terms ts) ty) (Application o (terms us) ty)
-  pub some : (t u : PlainTerm) → StandsFor t u → StandsFor (SomeTerm t) (SomeTerm u)
-  pub fields : (fs gs : PlainFields) → FieldsStandFor fs gs → StandsFor (RecordTerm fs) (RecordTerm gs)
-  pub set : (ty : PlainType) (ts us : List PlainTerm) → AllZip StandsFor ts us → StandsFor (set_term ty ts) (set_term ty us)
-  pub is_none : (t u : PlainTerm) → StandsFor t u → StandsFor (is_none_of t) (is_none_of u)
-  pub is_empty : (t u : PlainTerm) → StandsFor t u → StandsFor (set_is_empty_of t) (set_is_empty_of u)
+pub record RefinementIsKept : Type 0 where
+  pub itself : (t : PlainTerm) → Refines t t
+  pub onward : (t u w : PlainTerm) → Refines t u → Refines u w → Refines t w
+  pub application : (o : PlainOp) (ts us : List PlainTerm) (ty : PlainType) → AllZip Refines ts us → Refines (Application o (terms ts) ty) (Application o (terms us) ty)
+  pub some : (t u : PlainTerm) → Refines t u → Refines (SomeTerm t) (SomeTerm u)
+  pub fields : (fs gs : PlainFields) → FieldsRefine fs gs → Refines (RecordTerm fs) (RecordTerm gs)
+  pub set : (ty : PlainType) (ts us : List PlainTerm) → AllZip Refines ts us → Refines (set_term ty ts) (set_term ty us)
+  pub is_none : (t u : PlainTerm) → Refines t u → Refines (is_none_of t) (is_none_of u)
+  pub is_empty : (t u : PlainTerm) → Refines t u → Refines (set_is_empty_of t) (set_is_empty_of u)
 
 -- an interpretation of terms is one of the terms that stand for them
 abbrev pub InterpretationsPass : Type 0
-InterpretationsPass = (enums : Enums) (I : Interpretation) (ts us : List PlainTerm) → AllZip StandsFor ts us → IsInterpretation enums us I → IsInterpretation enums ts I
+InterpretationsPass = (enums : Enums) (I : Interpretation) (ts us : List PlainTerm) → AllZip Refines ts us → IsInterpretation enums us I → IsInterpretation enums ts I
 
 -- formed and typed terms have in every interpretation the values of the terms that stand for them
 abbrev pub ValuesPass : Type 0
-ValuesPass = (enums : Enums) (I : Interpretation) (ts us : List PlainTerm) → AllZip StandsFor ts us → AllByRecursion IsFormed us → AllByRecursion (λ u. IsTrue (typed u)) us → IsInterpretation enums us I → map (term_value I) ts ≡ map (term_value I) us
+ValuesPass = (enums : Enums) (I : Interpretation) (ts us : List PlainTerm) → AllZip Refines ts us → AllByRecursion IsFormed us → AllByRecursion (λ u. IsTrue (typed u)) us → IsInterpretation enums us I → map (term_value I) ts ≡ map (term_value I) us
 
 -- two literals of one type are equal exactly where their values are
 abbrev pub LiteralsAreEqualByValue : Type 0
@@ -46,71 +46,71 @@ LiteralsAreEqualByValue = (I : Interpretation) (t u : PlainTerm) (ty : PlainType
 
 -- the connectives
 pub record ConnectivesAreFolded : Type 0 where
-  pub not : (t : PlainTerm) → StandsFor (folded_not t) (not_of t)
-  pub and : (t u : PlainTerm) → StandsFor (folded_and t u) (and_of t u)
-  pub or : (t u : PlainTerm) → StandsFor (folded_or t u) (or_of t u)
-  pub implies : (t u : PlainTerm) → StandsFor (folded_implies t u) (implies_of t u)
-  pub any : (ts us : List PlainTerm) → AllZip StandsFor ts us → StandsFor (folded_any ts) (any_of us)
+  pub not : (t : PlainTerm) → Refines (folded_not t) (not_of t)
+  pub and : (t u : PlainTerm) → Refines (folded_and t u) (and_of t u)
+  pub or : (t u : PlainTerm) → Refines (folded_or t u) (or_of t u)
+  pub implies : (t u : PlainTerm) → Refines (folded_implies t u) (implies_of t u)
+  pub any : (ts us : List PlainTerm) → AllZip Refines ts us → Refines (folded_any ts) (any_of us)
 
 -- the disjunction of many is true where one of them is
 abbrev pub AnyIsTrue : Type 0
-AnyIsTrue = (I : Interpretation) (ts : List PlainTerm) → AllByRecursion (λ t. Typed t BoolType) ts → term_value I (any_of ts) ≡ BoolValue (list_any (λ t. truth (term_value I t)) ts)
+AnyIsTrue = (I : Interpretation) (ts : List PlainTerm) → AreBoolean ts → term_value I (any_of ts) ≡ BoolValue (list_any (λ t. truth (term_value I t)) ts)
 
 -- equality and choice
 pub record EqualityAndChoiceAreFolded : Type 0 where
-  pub eq : (t u : PlainTerm) → StandsFor (folded_eq t u) (eq_of t u)
-  pub ite : (g t u : PlainTerm) → StandsFor (folded_ite g t u) (ite_of g t u)
+  pub eq : (t u : PlainTerm) → Refines (folded_eq t u) (eq_of t u)
+  pub ite : (g t u : PlainTerm) → Refines (folded_ite g t u) (ite_of g t u)
 
 -- operators from bits to bits
 pub record BitsAreFolded : Type 0 where
-  pub bvneg : (t : PlainTerm) → StandsFor (folded_bvneg t) (bvneg_of t)
-  pub bvadd : (t u : PlainTerm) → StandsFor (folded_bvadd t u) (bits_of_two BvaddOp t u)
-  pub bvsub : (t u : PlainTerm) → StandsFor (folded_bvsub t u) (bits_of_two BvsubOp t u)
-  pub bvmul : (t u : PlainTerm) → StandsFor (folded_bvmul t u) (bits_of_two BvmulOp t u)
-  pub bvsdiv : (t u : PlainTerm) → StandsFor (folded_bvsdiv t u) (bits_of_two BvsdivOp t u)
-  pub bvudiv : (t u : PlainTerm) → StandsFor (folded_bvudiv t u) (bits_of_two BvudivOp t u)
-  pub bvsrem : (t u : PlainTerm) → StandsFor (folded_bvsrem t u) (bits_of_two BvsremOp t u)
-  pub bvsmod : (t u : PlainTerm) → StandsFor (folded_bvsmod t u) (bits_of_two BvsmodOp t u)
-  pub bvurem : (t u : PlainTerm) → StandsFor (folded_bvurem t u) (bits_of_two BvuremOp t u)
-  pub bvshl : (t u : PlainTerm) → StandsFor (folded_bvshl t u) (bits_of_two BvshlOp t u)
-  pub bvlshr : (t u : PlainTerm) → StandsFor (folded_bvlshr t u) (bits_of_two BvlshrOp t u)
-  pub zero_extend : (k : ℕ) (t : PlainTerm) → StandsFor (folded_zero_extend k t) (zero_extend_of k t)
+  pub bvneg : (t : PlainTerm) → Refines (folded_bvneg t) (bvneg_of t)
+  pub bvadd : (t u : PlainTerm) → Refines (folded_bvadd t u) (bits_of_two BvaddOp t u)
+  pub bvsub : (t u : PlainTerm) → Refines (folded_bvsub t u) (bits_of_two BvsubOp t u)
+  pub bvmul : (t u : PlainTerm) → Refines (folded_bvmul t u) (bits_of_two BvmulOp t u)
+  pub bvsdiv : (t u : PlainTerm) → Refines (folded_bvsdiv t u) (bits_of_two BvsdivOp t u)
+  pub bvudiv : (t u : PlainTerm) → Refines (folded_bvudiv t u) (bits_of_two BvudivOp t u)
+  pub bvsrem : (t u : PlainTerm) → Refines (folded_bvsrem t u) (bits_of_two BvsremOp t u)
+  pub bvsmod : (t u : PlainTerm) → Refines (folded_bvsmod t u) (bits_of_two BvsmodOp t u)
+  pub bvurem : (t u : PlainTerm) → Refines (folded_bvurem t u) (bits_of_two BvuremOp t u)
+  pub bvshl : (t u : PlainTerm) → Refines (folded_bvshl t u) (bits_of_two BvshlOp t u)
+  pub bvlshr : (t u : PlainTerm) → Refines (folded_bvlshr t u) (bits_of_two BvlshrOp t u)
+  pub zero_extend : (k : ℕ) (t : PlainTerm) → Refines (folded_zero_extend k t) (zero_extend_of k t)
 
 -- tests of bits
 pub record TestsAreFolded : Type 0 where
-  pub bvslt : (t u : PlainTerm) → StandsFor (folded_bvslt t u) (test_of_two BvsltOp t u)
-  pub bvsle : (t u : PlainTerm) → StandsFor (folded_bvsle t u) (test_of_two BvsleOp t u)
-  pub bvult : (t u : PlainTerm) → StandsFor (folded_bvult t u) (test_of_two BvultOp t u)
-  pub bvule : (t u : PlainTerm) → StandsFor (folded_bvule t u) (test_of_two BvuleOp t u)
-  pub bvnego : (t : PlainTerm) → StandsFor (folded_bvnego t) (bvnego_of t)
-  pub bvsaddo : (t u : PlainTerm) → StandsFor (folded_bvsaddo t u) (test_of_two BvsaddoOp t u)
-  pub bvssubo : (t u : PlainTerm) → StandsFor (folded_bvssubo t u) (test_of_two BvssuboOp t u)
-  pub bvsmulo : (t u : PlainTerm) → StandsFor (folded_bvsmulo t u) (test_of_two BvsmuloOp t u)
+  pub bvslt : (t u : PlainTerm) → Refines (folded_bvslt t u) (test_of_two BvsltOp t u)
+  pub bvsle : (t u : PlainTerm) → Refines (folded_bvsle t u) (test_of_two BvsleOp t u)
+  pub bvult : (t u : PlainTerm) → Refines (folded_bvult t u) (test_of_two BvultOp t u)
+  pub bvule : (t u : PlainTerm) → Refines (folded_bvule t u) (test_of_two BvuleOp t u)
+  pub bvnego : (t : PlainTerm) → Refines (folded_bvnego t) (bvnego_of t)
+  pub bvsaddo : (t u : PlainTerm) → Refines (folded_bvsaddo t u) (test_of_two BvsaddoOp t u)
+  pub bvssubo : (t u : PlainTerm) → Refines (folded_bvssubo t u) (test_of_two BvssuboOp t u)
+  pub bvsmulo : (t u : PlainTerm) → Refines (folded_bvsmulo t u) (test_of_two BvsmuloOp t u)
 
 -- the match of a string with a pattern
 abbrev pub StringLikeIsFolded : Type 0
-StringLikeIsFolded = (t : PlainTerm) (p : List PatternPart) → StandsFor (folded_string_like t p) (string_like_of t p)
+StringLikeIsFolded = (t : PlainTerm) (p : List PatternPart) → Refines (folded_string_like t p) (string_like_of t p)
 
 -- the calls on sets
 pub record SetsAreFolded : Type 0 where
-  pub set_member : (t u : PlainTerm) → StandsFor (folded_set_member t u) (set_member_of t u)
-  pub set_subset : (t u : PlainTerm) → StandsFor (folded_set_subset t u) (set_subset_of t u)
-  pub set_inter : (t u : PlainTerm) → StandsFor (folded_set_inter t u) (set_inter_of t u)
-  pub set_is_empty : (t : PlainTerm) → StandsFor (folded_set_is_empty t) (set_is_empty_of t)
-  pub set_intersects : (t u : PlainTerm) → StandsFor (folded_set_intersects t u) (set_intersects_of t u)
+  pub set_member : (t u : PlainTerm) → Refines (folded_set_member t u) (set_member_of t u)
+  pub set_subset : (t u : PlainTerm) → Refines (folded_set_subset t u) (set_subset_of t u)
+  pub set_inter : (t u : PlainTerm) → Refines (folded_set_inter t u) (set_inter_of t u)
+  pub set_is_empty : (t : PlainTerm) → Refines (folded_set_is_empty t) (set_is_empty_of t)
+  pub set_intersects : (t u : PlainTerm) → Refines (folded_set_intersects t u) (set_intersects_of t u)
 
 -- the calls on options
 pub record OptionsAreFolded : Type 0 where
-  pub option_get : (t : PlainTerm) → StandsFor (folded_option_get t) (option_get_of t)
-  pub is_none : (t : PlainTerm) → StandsFor (folded_is_none t) (is_none_of t)
-  pub is_some : (t : PlainTerm) → StandsFor (folded_is_some t) (is_some_of t)
-  pub if_false : (g t : PlainTerm) → StandsFor (folded_if_false g t) (if_false_of g t)
-  pub if_true : (g t : PlainTerm) → StandsFor (folded_if_true g t) (if_true_of g t)
-  pub if_some : (g t : PlainTerm) → StandsFor (folded_if_some g t) (if_some_of g t)
-  pub any_none : (gs : List PlainTerm) → StandsFor (folded_any_none gs) (any_none_of gs)
-  pub if_all_some : (gs : List PlainTerm) (t : PlainTerm) → StandsFor (folded_if_all_some gs t) (if_all_some_of gs t)
+  pub option_get : (t : PlainTerm) → Refines (folded_option_get t) (option_get_of t)
+  pub is_none : (t : PlainTerm) → Refines (folded_is_none t) (is_none_of t)
+  pub is_some : (t : PlainTerm) → Refines (folded_is_some t) (is_some_of t)
+  pub if_false : (g t : PlainTerm) → Refines (folded_if_false g t) (if_false_of g t)
+  pub if_true : (g t : PlainTerm) → Refines (folded_if_true g t) (if_true_of g t)
+  pub if_some : (g t : PlainTerm) → Refines (folded_if_some g t) (if_some_of g t)
+  pub any_none : (gs : List PlainTerm) → Refines (folded_any_none gs) (any_none_of gs)
+  pub if_all_some : (gs : List PlainTerm) (t : PlainTerm) → Refines (folded_if_all_some gs t) (if_all_some_of gs t)
 
 -- what has the operator's value at two literals stands for the application, whoever computed it
-pub record AnswersStandFor : Type 0 where
-  pub bits : (o : PlainOp) (n a b c : ℕ) → c < 2 ^ n → ((I : Interpretation) → apply I o (BitVecType n) (BitVecValue n a ∷ BitVecValue n b ∷ []) ≡ BitVecValue n c) → StandsFor (bits_literal n c) (bits_of_two o (bits_literal n a) (bits_literal n b))
-  pub test : (o : PlainOp) (n a m b : ℕ) (c : Bool) → ((I : Interpretation) → apply I o BoolType (BitVecValue n a ∷ BitVecValue m b ∷ []) ≡ BoolValue c) → StandsFor (truth_literal c) (test_of_two o (bits_literal n a) (bits_literal m b))
+pub record AnswersRefine : Type 0 where
+  pub bits : (o : PlainOp) (n a b c : ℕ) → c < 2 ^ n → ((I : Interpretation) → apply I o (BitVecType n) (BitVecValue n a ∷ BitVecValue n b ∷ []) ≡ BitVecValue n c) → Refines (bits_literal n c) (bits_of_two o (bits_literal n a) (bits_literal n b))
+  pub test : (o : PlainOp) (n a m b : ℕ) (c : Bool) → ((I : Interpretation) → apply I o BoolType (BitVecValue n a ∷ BitVecValue m b ∷ []) ≡ BoolValue c) → Refines (truth_literal c) (test_of_two o (bits_literal n a) (bits_literal m b))

@@ -11,4 +11,5 @@ pub mod FoldSets
 pub mod FoldStrings
 pub mod Laws
 pub mod Parts
-pub mod StandsFor
+pub mod Refinement
+pub mod SetOf

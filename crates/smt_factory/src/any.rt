@@ -1,8 +1,9 @@
 //! The disjunction of what a call answers at each of several terms.
+ghost use Rattle.std.specs.List.{AllByRecursion};
 ghost use Rattle.std.specs.Prelude.{IfOk, map};
-ghost use Rattle.smt_factory.specs.AnyOf.{GivesWhatStandsFor, IsAnyOf};
+ghost use Rattle.smt_factory.specs.AnyOf.{GivesBooleans, GivesRefinements, IsAnyOf, IsTrueWhereOneIs};
 ghost use Rattle.smt_factory.specs.Applications.{any_of};
-ghost use Rattle.smt_factory.specs.StandsFor.{StandsFor};
+ghost use Rattle.smt_factory.specs.Refinement.{Refines};
 ghost use Rattle.smt_term.specs.Plain.{PlainTerm};
 ghost use Rattle.smt_term.specs.View.{plain_term};
 
@@ -12,7 +13,8 @@ use std::alloc::Global;
 
 /// The disjunction of what `f` answers at each of the terms: false, then each answer before what came of those in front.
 ///
-/// Where each answer stands for an original that its term determines, the result stands for the disjunction of these.
+/// Where each answer stands for an original that its term determines, the result stands for the disjunction of these. Where
+/// each is a typed Boolean term, so is the result, and it is true exactly where one of them is.
 ///
 /// # Conditions
 /// `f` may be called at any term.
@@ -24,8 +26,10 @@ where
     F: Fn(Term) -> Result<Term, TermError>,
     requires { F.IsAlwaysCallable f.now }
     ensures folded { IfOk result (λ r. IsAnyOf (F.post f.now) (map plain_term ts.now) (plain_term r)) }
-    ensures stands { (original : PlainTerm → PlainTerm) → GivesWhatStandsFor (F.post f.now) original →
-        IfOk result (λ r. StandsFor (plain_term r) (any_of (map original (map plain_term ts.now)))) }
+    ensures refines { (original : PlainTerm → PlainTerm) → GivesRefinements (F.post f.now) original →
+        IfOk result (λ r. Refines (plain_term r) (any_of (map original (map plain_term ts.now)))) }
+    ensures truth { AllByRecursion (GivesBooleans (F.post f.now)) (map plain_term ts.now) →
+        IfOk result (λ r. IsTrueWhereOneIs (F.post f.now) (map plain_term ts.now) (plain_term r)) }
 {
     let mut any = Term::from(false);
     for t in ts {

@@ -7,7 +7,7 @@ ghost use Rattle.smt_factory.specs.Applications.{bits_of_two, bvneg_of, zero_ext
 ghost use Rattle.smt_factory.specs.FoldBits.{folded_bvadd, folded_bvlshr, folded_bvmul, folded_bvneg, folded_bvsdiv, folded_bvshl, folded_bvsmod, folded_bvsrem, folded_bvsub, folded_bvudiv, folded_bvurem, folded_zero_extend};
 ghost use Rattle.smt_factory.specs.FoldBy.{AnswersValues, IsFoldedBy};
 ghost use Rattle.smt_factory.specs.Parts.{negated_bits};
-ghost use Rattle.smt_factory.specs.StandsFor.{StandsFor};
+ghost use Rattle.smt_factory.specs.Refinement.{Refines};
 ghost use Rattle.smt_term.specs.Plain.{BvaddOp, BvlshrOp, BvmulOp, BvsdivOp, BvshlOp, BvsmodOp, BvsremOp, BvsubOp, BvudivOp, BvuremOp};
 ghost use Rattle.smt_term.specs.Types.{type_of, width_in};
 ghost use Rattle.smt_term.specs.View.{plain_op, plain_term};
@@ -33,7 +33,7 @@ where
     F: Fn(&BitVec, &BitVec) -> Result<BitVec, BitVecError>,
     requires { F.IsAlwaysCallable f.now }
     ensures folded { IfOk result (λ r. IsFoldedBy (FnReturnsAtPair F.Fn f.now) (plain_op op) (plain_term t1) (plain_term t2) (plain_term r)) }
-    ensures stands { AnswersValues (FnReturnsAtPair F.Fn f.now) (plain_op op) → IfOk result (λ r. StandsFor (plain_term r) (bits_of_two (plain_op op) (plain_term t1) (plain_term t2))) }
+    ensures refines { AnswersValues (FnReturnsAtPair F.Fn f.now) (plain_op op) → IfOk result (λ r. Refines (plain_term r) (bits_of_two (plain_op op) (plain_term t1) (plain_term t2))) }
 {
     match answer(f, &t1, &t2) {
         Some(bits) => Ok(Term::from(bits)),
@@ -55,7 +55,7 @@ fn of_two(alloc: Global, op: Op, t1: Term, t2: Term) -> Result<Term, TermError>
 /// `Memory`, where there is none for the term.
 pub fn bvneg(alloc: Global, t: Term) -> Result<Term, TermError>
     ensures folded { IfOk result (λ r. plain_term r ≡ folded_bvneg (plain_term t)) }
-    ensures stands { IfOk result (λ r. StandsFor (plain_term r) (bvneg_of (plain_term t))) }
+    ensures refines { IfOk result (λ r. Refines (plain_term r) (bvneg_of (plain_term t))) }
 {
     folded_bvneg(alloc, t)
 }
@@ -94,7 +94,7 @@ fn negated_bits(t: &Term) -> Option<&Term>
 /// `Memory`, where there is none for the term.
 pub fn bvadd(alloc: Global, t1: Term, t2: Term) -> Result<Term, TermError>
     ensures folded { IfOk result (λ r. plain_term r ≡ folded_bvadd (plain_term t1) (plain_term t2)) }
-    ensures stands { IfOk result (λ r. StandsFor (plain_term r) (bits_of_two BvaddOp (plain_term t1) (plain_term t2))) }
+    ensures refines { IfOk result (λ r. Refines (plain_term r) (bits_of_two BvaddOp (plain_term t1) (plain_term t2))) }
 {
     bvapp(alloc, Op::Bvadd, &BitVec::add, t1, t2)
 }
@@ -105,7 +105,7 @@ pub fn bvadd(alloc: Global, t1: Term, t2: Term) -> Result<Term, TermError>
 /// `Memory`, where there is none for the term.
 pub fn bvsub(alloc: Global, t1: Term, t2: Term) -> Result<Term, TermError>
     ensures folded { IfOk result (λ r. plain_term r ≡ folded_bvsub (plain_term t1) (plain_term t2)) }
-    ensures stands { IfOk result (λ r. StandsFor (plain_term r) (bits_of_two BvsubOp (plain_term t1) (plain_term t2))) }
+    ensures refines { IfOk result (λ r. Refines (plain_term r) (bits_of_two BvsubOp (plain_term t1) (plain_term t2))) }
 {
     bvapp(alloc, Op::Bvsub, &BitVec::sub, t1, t2)
 }
@@ -116,7 +116,7 @@ pub fn bvsub(alloc: Global, t1: Term, t2: Term) -> Result<Term, TermError>
 /// `Memory`, where there is none for the term.
 pub fn bvmul(alloc: Global, t1: Term, t2: Term) -> Result<Term, TermError>
     ensures folded { IfOk result (λ r. plain_term r ≡ folded_bvmul (plain_term t1) (plain_term t2)) }
-    ensures stands { IfOk result (λ r. StandsFor (plain_term r) (bits_of_two BvmulOp (plain_term t1) (plain_term t2))) }
+    ensures refines { IfOk result (λ r. Refines (plain_term r) (bits_of_two BvmulOp (plain_term t1) (plain_term t2))) }
 {
     bvapp(alloc, Op::Bvmul, &BitVec::mul, t1, t2)
 }
@@ -127,7 +127,7 @@ pub fn bvmul(alloc: Global, t1: Term, t2: Term) -> Result<Term, TermError>
 /// `Memory`, where there is none for the term.
 pub fn bvsdiv(alloc: Global, t1: Term, t2: Term) -> Result<Term, TermError>
     ensures folded { IfOk result (λ r. plain_term r ≡ folded_bvsdiv (plain_term t1) (plain_term t2)) }
-    ensures stands { IfOk result (λ r. StandsFor (plain_term r) (bits_of_two BvsdivOp (plain_term t1) (plain_term t2))) }
+    ensures refines { IfOk result (λ r. Refines (plain_term r) (bits_of_two BvsdivOp (plain_term t1) (plain_term t2))) }
 {
     bvapp(alloc, Op::Bvsdiv, &BitVec::sdiv, t1, t2)
 }
@@ -138,7 +138,7 @@ pub fn bvsdiv(alloc: Global, t1: Term, t2: Term) -> Result<Term, TermError>
 /// `Memory`, where there is none for the term.
 pub fn bvudiv(alloc: Global, t1: Term, t2: Term) -> Result<Term, TermError>
     ensures folded { IfOk result (λ r. plain_term r ≡ folded_bvudiv (plain_term t1) (plain_term t2)) }
-    ensures stands { IfOk result (λ r. StandsFor (plain_term r) (bits_of_two BvudivOp (plain_term t1) (plain_term t2))) }
+    ensures refines { IfOk result (λ r. Refines (plain_term r) (bits_of_two BvudivOp (plain_term t1) (plain_term t2))) }
 {
     bvapp(alloc, Op::Bvudiv, &BitVec::udiv, t1, t2)
 }
@@ -149,7 +149,7 @@ pub fn bvudiv(alloc: Global, t1: Term, t2: Term) -> Result<Term, TermError>
 /// `Memory`, where there is none for the term.
 pub fn bvsrem(alloc: Global, t1: Term, t2: Term) -> Result<Term, TermError>
     ensures folded { IfOk result (λ r. plain_term r ≡ folded_bvsrem (plain_term t1) (plain_term t2)) }
-    ensures stands { IfOk result (λ r. StandsFor (plain_term r) (bits_of_two BvsremOp (plain_term t1) (plain_term t2))) }
+    ensures refines { IfOk result (λ r. Refines (plain_term r) (bits_of_two BvsremOp (plain_term t1) (plain_term t2))) }
 {
     bvapp(alloc, Op::Bvsrem, &BitVec::srem, t1, t2)
 }
@@ -160,7 +160,7 @@ pub fn bvsrem(alloc: Global, t1: Term, t2: Term) -> Result<Term, TermError>
 /// `Memory`, where there is none for the term.
 pub fn bvsmod(alloc: Global, t1: Term, t2: Term) -> Result<Term, TermError>
     ensures folded { IfOk result (λ r. plain_term r ≡ folded_bvsmod (plain_term t1) (plain_term t2)) }
-    ensures stands { IfOk result (λ r. StandsFor (plain_term r) (bits_of_two BvsmodOp (plain_term t1) (plain_term t2))) }
+    ensures refines { IfOk result (λ r. Refines (plain_term r) (bits_of_two BvsmodOp (plain_term t1) (plain_term t2))) }
 {
     bvapp(alloc, Op::Bvsmod, &BitVec::smod, t1, t2)
 }
@@ -171,7 +171,7 @@ pub fn bvsmod(alloc: Global, t1: Term, t2: Term) -> Result<Term, TermError>
 /// `Memory`, where there is none for the term.
 pub fn bvurem(alloc: Global, t1: Term, t2: Term) -> Result<Term, TermError>
     ensures folded { IfOk result (λ r. plain_term r ≡ folded_bvurem (plain_term t1) (plain_term t2)) }
-    ensures stands { IfOk result (λ r. StandsFor (plain_term r) (bits_of_two BvuremOp (plain_term t1) (plain_term t2))) }
+    ensures refines { IfOk result (λ r. Refines (plain_term r) (bits_of_two BvuremOp (plain_term t1) (plain_term t2))) }
 {
     bvapp(alloc, Op::Bvurem, &BitVec::urem, t1, t2)
 }
@@ -182,7 +182,7 @@ pub fn bvurem(alloc: Global, t1: Term, t2: Term) -> Result<Term, TermError>
 /// `Memory`, where there is none for the term.
 pub fn bvshl(alloc: Global, t1: Term, t2: Term) -> Result<Term, TermError>
     ensures folded { IfOk result (λ r. plain_term r ≡ folded_bvshl (plain_term t1) (plain_term t2)) }
-    ensures stands { IfOk result (λ r. StandsFor (plain_term r) (bits_of_two BvshlOp (plain_term t1) (plain_term t2))) }
+    ensures refines { IfOk result (λ r. Refines (plain_term r) (bits_of_two BvshlOp (plain_term t1) (plain_term t2))) }
 {
     bvapp(alloc, Op::Bvshl, &BitVec::shl, t1, t2)
 }
@@ -193,7 +193,7 @@ pub fn bvshl(alloc: Global, t1: Term, t2: Term) -> Result<Term, TermError>
 /// `Memory`, where there is none for the term.
 pub fn bvlshr(alloc: Global, t1: Term, t2: Term) -> Result<Term, TermError>
     ensures folded { IfOk result (λ r. plain_term r ≡ folded_bvlshr (plain_term t1) (plain_term t2)) }
-    ensures stands { IfOk result (λ r. StandsFor (plain_term r) (bits_of_two BvlshrOp (plain_term t1) (plain_term t2))) }
+    ensures refines { IfOk result (λ r. Refines (plain_term r) (bits_of_two BvlshrOp (plain_term t1) (plain_term t2))) }
 {
     bvapp(alloc, Op::Bvlshr, &BitVec::lshr, t1, t2)
 }
@@ -208,7 +208,7 @@ pub fn bvlshr(alloc: Global, t1: Term, t2: Term) -> Result<Term, TermError>
 pub fn zero_extend(alloc: Global, n: u32, t: Term) -> Result<Term, TermError>
     requires { IfSome (width_in (type_of (plain_term t))) (λ width. width + n ≤ 128) }
     ensures folded { IfOk result (λ r. plain_term r ≡ folded_zero_extend n (plain_term t)) }
-    ensures stands { IfOk result (λ r. StandsFor (plain_term r) (zero_extend_of n (plain_term t))) }
+    ensures refines { IfOk result (λ r. Refines (plain_term r) (zero_extend_of n (plain_term t))) }
 {
     folded_zero_extend(alloc, n, t)
 }

@@ -4,7 +4,7 @@ ghost use Rattle.std.specs.Prelude.{◌≡◌, IfOk};
 ghost use Rattle.smt_factory.specs.Applications.{test_of_two};
 ghost use Rattle.smt_factory.specs.FoldBits.{folded_bvsle, folded_bvslt, folded_bvule, folded_bvult};
 ghost use Rattle.smt_factory.specs.FoldBy.{IsTestedBy};
-ghost use Rattle.smt_factory.specs.StandsFor.{StandsFor};
+ghost use Rattle.smt_factory.specs.Refinement.{Refines};
 ghost use Rattle.smt_term.specs.Plain.{BvsleOp, BvsltOp, BvuleOp, BvultOp};
 ghost use Rattle.smt_term.specs.View.{plain_op, plain_term};
 
@@ -33,7 +33,7 @@ where
 /// `Memory`, where there is none for the term.
 pub fn bvslt(alloc: Global, t1: Term, t2: Term) -> Result<Term, TermError>
     ensures folded { IfOk result (λ r. plain_term r ≡ folded_bvslt (plain_term t1) (plain_term t2)) }
-    ensures stands { IfOk result (λ r. StandsFor (plain_term r) (test_of_two BvsltOp (plain_term t1) (plain_term t2))) }
+    ensures refines { IfOk result (λ r. Refines (plain_term r) (test_of_two BvsltOp (plain_term t1) (plain_term t2))) }
 {
     test(alloc, Op::Bvslt, &BitVec::slt, t1, t2)
 }
@@ -44,7 +44,7 @@ pub fn bvslt(alloc: Global, t1: Term, t2: Term) -> Result<Term, TermError>
 /// `Memory`, where there is none for the term.
 pub fn bvsle(alloc: Global, t1: Term, t2: Term) -> Result<Term, TermError>
     ensures folded { IfOk result (λ r. plain_term r ≡ folded_bvsle (plain_term t1) (plain_term t2)) }
-    ensures stands { IfOk result (λ r. StandsFor (plain_term r) (test_of_two BvsleOp (plain_term t1) (plain_term t2))) }
+    ensures refines { IfOk result (λ r. Refines (plain_term r) (test_of_two BvsleOp (plain_term t1) (plain_term t2))) }
 {
     test(alloc, Op::Bvsle, &BitVec::sle, t1, t2)
 }
@@ -55,7 +55,7 @@ pub fn bvsle(alloc: Global, t1: Term, t2: Term) -> Result<Term, TermError>
 /// `Memory`, where there is none for the term.
 pub fn bvult(alloc: Global, t1: Term, t2: Term) -> Result<Term, TermError>
     ensures folded { IfOk result (λ r. plain_term r ≡ folded_bvult (plain_term t1) (plain_term t2)) }
-    ensures stands { IfOk result (λ r. StandsFor (plain_term r) (test_of_two BvultOp (plain_term t1) (plain_term t2))) }
+    ensures refines { IfOk result (λ r. Refines (plain_term r) (test_of_two BvultOp (plain_term t1) (plain_term t2))) }
 {
     test(alloc, Op::Bvult, &BitVec::ult, t1, t2)
 }
@@ -66,7 +66,7 @@ pub fn bvult(alloc: Global, t1: Term, t2: Term) -> Result<Term, TermError>
 /// `Memory`, where there is none for the term.
 pub fn bvule(alloc: Global, t1: Term, t2: Term) -> Result<Term, TermError>
     ensures folded { IfOk result (λ r. plain_term r ≡ folded_bvule (plain_term t1) (plain_term t2)) }
-    ensures stands { IfOk result (λ r. StandsFor (plain_term r) (test_of_two BvuleOp (plain_term t1) (plain_term t2))) }
+    ensures refines { IfOk result (λ r. Refines (plain_term r) (test_of_two BvuleOp (plain_term t1) (plain_term t2))) }
 {
     test(alloc, Op::Bvule, &BitVec::ule, t1, t2)
 }

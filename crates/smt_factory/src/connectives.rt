@@ -3,7 +3,7 @@ ghost use Rattle.std.specs.Prelude.{◌≡◌, IfOk, MatchOption, None, Some};
 ghost use Rattle.smt_factory.specs.Applications.{and_of, implies_of, not_of, or_of};
 ghost use Rattle.smt_factory.specs.FoldConnectives.{are_opposites, is_negation, folded_and, folded_implies, folded_not, folded_or};
 ghost use Rattle.smt_factory.specs.Parts.{negated};
-ghost use Rattle.smt_factory.specs.StandsFor.{StandsFor};
+ghost use Rattle.smt_factory.specs.Refinement.{Refines};
 ghost use Rattle.smt_term.specs.View.{plain_term};
 
 use crate::application::truth_application;
@@ -48,7 +48,7 @@ pub fn opposites(t1: &Term, t2: &Term) -> bool
 /// `Memory`, where there is none for the term.
 pub fn not(alloc: Global, t: Term) -> Result<Term, TermError>
     ensures folded { IfOk result (λ r. plain_term r ≡ folded_not (plain_term t)) }
-    ensures stands { IfOk result (λ r. StandsFor (plain_term r) (not_of (plain_term t))) }
+    ensures refines { IfOk result (λ r. Refines (plain_term r) (not_of (plain_term t))) }
 {
     folded_not(alloc, t)
 }
@@ -78,7 +78,7 @@ fn folded_not(alloc: Global, t: Term) -> Result<Term, TermError>
 /// `Memory`, where there is none for the term.
 pub fn and(alloc: Global, t1: Term, t2: Term) -> Result<Term, TermError>
     ensures folded { IfOk result (λ r. plain_term r ≡ folded_and (plain_term t1) (plain_term t2)) }
-    ensures stands { IfOk result (λ r. StandsFor (plain_term r) (and_of (plain_term t1) (plain_term t2))) }
+    ensures refines { IfOk result (λ r. Refines (plain_term r) (and_of (plain_term t1) (plain_term t2))) }
 {
     folded_and(alloc, t1, t2)
 }
@@ -108,7 +108,7 @@ fn folded_and(alloc: Global, t1: Term, t2: Term) -> Result<Term, TermError>
 /// `Memory`, where there is none for the term.
 pub fn or(alloc: Global, t1: Term, t2: Term) -> Result<Term, TermError>
     ensures folded { IfOk result (λ r. plain_term r ≡ folded_or (plain_term t1) (plain_term t2)) }
-    ensures stands { IfOk result (λ r. StandsFor (plain_term r) (or_of (plain_term t1) (plain_term t2))) }
+    ensures refines { IfOk result (λ r. Refines (plain_term r) (or_of (plain_term t1) (plain_term t2))) }
 {
     folded_or(alloc, t1, t2)
 }
@@ -135,7 +135,7 @@ fn folded_or(alloc: Global, t1: Term, t2: Term) -> Result<Term, TermError>
 /// `Memory`, where there is none for the term.
 pub fn implies(alloc: Global, t1: Term, t2: Term) -> Result<Term, TermError>
     ensures folded { IfOk result (λ r. plain_term r ≡ folded_implies (plain_term t1) (plain_term t2)) }
-    ensures stands { IfOk result (λ r. StandsFor (plain_term r) (implies_of (plain_term t1) (plain_term t2))) }
+    ensures refines { IfOk result (λ r. Refines (plain_term r) (implies_of (plain_term t1) (plain_term t2))) }
 {
     or(alloc, not(alloc, t1)?, t2)
 }

@@ -4,7 +4,7 @@
 ghost use Rattle.std.specs.Prelude.{◌≡◌, ◌&&◌, IfOk};
 ghost use Rattle.smt_factory.specs.Applications.{eq_of, ite_of, truth_literal};
 ghost use Rattle.smt_factory.specs.FoldEquality.{folded_eq, folded_eq_inside, folded_ite, folded_ite_inside, is_boolean};
-ghost use Rattle.smt_factory.specs.StandsFor.{StandsFor};
+ghost use Rattle.smt_factory.specs.Refinement.{Refines};
 ghost use Rattle.smt_term.specs.Plain.{BoolType};
 ghost use Rattle.smt_term.specs.TermOrder.{term_eq};
 ghost use Rattle.smt_term.specs.Types.{literal_type, type_eq};
@@ -68,7 +68,7 @@ fn is_beside_boolean(truth: bool, t1: &Term, t2: &Term) -> bool
 /// `Memory`, where there is none for the term.
 pub fn eq(alloc: Global, t1: Term, t2: Term) -> Result<Term, TermError>
     ensures folded { IfOk result (λ r. plain_term r ≡ folded_eq (plain_term t1) (plain_term t2)) }
-    ensures stands { IfOk result (λ r. StandsFor (plain_term r) (eq_of (plain_term t1) (plain_term t2))) }
+    ensures refines { IfOk result (λ r. Refines (plain_term r) (eq_of (plain_term t1) (plain_term t2))) }
 {
     folded_eq(alloc, t1, t2)
 }
@@ -121,7 +121,7 @@ fn eq_inside(alloc: Global, t1: Term, t2: Term) -> Result<Term, TermError>
 /// `Memory`, where there is none for the term.
 pub fn ite(alloc: Global, t1: Term, t2: Term, t3: Term) -> Result<Term, TermError>
     ensures folded { IfOk result (λ r. plain_term r ≡ folded_ite (plain_term t1) (plain_term t2) (plain_term t3)) }
-    ensures stands { IfOk result (λ r. StandsFor (plain_term r) (ite_of (plain_term t1) (plain_term t2) (plain_term t3))) }
+    ensures refines { IfOk result (λ r. Refines (plain_term r) (ite_of (plain_term t1) (plain_term t2) (plain_term t3))) }
 {
     if let Some((held2, held3)) = both_held(&t2, &t3) {
         return some_of(

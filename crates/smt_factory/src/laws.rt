@@ -1,18 +1,18 @@
 //! Laws of foldings and of what stands for what, proved with no code.
-ghost use Rattle.smt_factory.specs.Built.{BuiltTermsStand, FoldingAddsNoFault};
-ghost use Rattle.smt_factory.specs.FoldRows.{ApartRows, BitsRows, ConnectiveRows, EqualityRows, OptionRows, SetRows, StringRows};
-ghost use Rattle.smt_factory.specs.Laws.{AnswersStandFor, AnyIsTrue, BitsAreFolded, ConnectivesAreFolded, EqualityAndChoiceAreFolded, InterpretationsPass, LiteralsAreEqualByValue, OptionsAreFolded, SetsAreFolded, StandingIsKept, StringLikeIsFolded, TestsAreFolded, ValuesPass};
+ghost use Rattle.smt_factory.specs.Built.{BuiltTermsRefine, FoldingAddsNoFault};
+ghost use Rattle.smt_factory.specs.FoldRows.{AnyRows, ApartRows, BitsRows, ConnectiveRows, EqualityRows, OptionRows, SetRows, StringRows};
+ghost use Rattle.smt_factory.specs.Laws.{AnswersRefine, AnyIsTrue, BitsAreFolded, ConnectivesAreFolded, EqualityAndChoiceAreFolded, InterpretationsPass, LiteralsAreEqualByValue, OptionsAreFolded, SetsAreFolded, RefinementIsKept, StringLikeIsFolded, TestsAreFolded, ValuesPass};
 
 /// A term stands for itself, onward, in applications, `some`, records and sets, and in the tests for none and for the
 /// empty set; and an interpretation of terms is one of the terms that stand for them, in which they have the same values.
-pub fn standing_is_kept()
-    ensures kept { StandingIsKept }
+pub fn refinement_is_kept()
+    ensures kept { RefinementIsKept }
     ensures interpretations { InterpretationsPass }
     ensures values { ValuesPass }
 {}
 
 /// A term of another value, of another type, or that reaches a variable more, does not stand for a term.
-pub fn standing_tells_apart()
+pub fn refinement_tells_apart()
     ensures { ApartRows }
 {}
 
@@ -59,8 +59,8 @@ pub fn options_are_folded()
 {}
 
 /// What is built for a typed term, each application folded after its arguments, stands for it.
-pub fn built_terms_stand()
-    ensures { BuiltTermsStand }
+pub fn built_terms_refine()
+    ensures { BuiltTermsRefine }
 {}
 
 /// What is built for a typed term without fault has no fault: folding drops faults and adds none.
@@ -69,13 +69,14 @@ pub fn folding_adds_no_fault()
 {}
 
 /// A literal with the operator's value at two literals stands for the application, whoever computed it.
-pub fn answers_stand()
-    ensures { AnswersStandFor }
+pub fn answers_refine()
+    ensures { AnswersRefine }
 {}
 
 /// Foldings of chosen terms.
 pub fn fold_rows()
     ensures connectives { ConnectiveRows }
+    ensures any { AnyRows }
     ensures equality { EqualityRows }
     ensures bits { BitsRows }
     ensures strings { StringRows }

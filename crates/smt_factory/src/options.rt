@@ -4,7 +4,7 @@
 ghost use Rattle.std.specs.Prelude.{◌≡◌, IfOk, MatchOption, None, Some, map};
 ghost use Rattle.smt_factory.specs.Applications.{any_none_of, if_all_some_of, if_false_of, if_some_of, if_true_of, is_none_of, is_some_of, option_get_of};
 ghost use Rattle.smt_factory.specs.FoldOptions.{folded_any_none, folded_if_all_some, folded_if_false, folded_if_some, folded_if_true, folded_is_none, folded_is_none_by_type, folded_is_some, folded_option_get, folded_unless, none_by_arguments, none_by_branches, none_by_form};
-ghost use Rattle.smt_factory.specs.StandsFor.{StandsFor};
+ghost use Rattle.smt_factory.specs.Refinement.{Refines};
 ghost use Rattle.smt_term.specs.Plain.{NoneTerm, SomeTerm};
 ghost use Rattle.smt_term.specs.View.{plain_items, plain_term, plain_type};
 
@@ -43,7 +43,7 @@ pub fn some_of(alloc: Global, t: Term) -> Result<Term, TermError>
 /// `Memory`, where there is none for the term.
 pub fn option_get(alloc: Global, t: Term) -> Result<Term, TermError>
     ensures folded { IfOk result (λ r. plain_term r ≡ folded_option_get (plain_term t)) }
-    ensures stands { IfOk result (λ r. StandsFor (plain_term r) (option_get_of (plain_term t))) }
+    ensures refines { IfOk result (λ r. Refines (plain_term r) (option_get_of (plain_term t))) }
 {
     folded_option_get(alloc, t)
 }
@@ -136,7 +136,7 @@ fn none_by_type(alloc: Global, t: Term) -> Result<Term, TermError>
 /// `Memory`, where there is none for the term.
 pub fn is_none(alloc: Global, t: Term) -> Result<Term, TermError>
     ensures folded { IfOk result (λ r. plain_term r ≡ folded_is_none (plain_term t)) }
-    ensures stands { IfOk result (λ r. StandsFor (plain_term r) (is_none_of (plain_term t))) }
+    ensures refines { IfOk result (λ r. Refines (plain_term r) (is_none_of (plain_term t))) }
 {
     folded_is_none(alloc, t)
 }
@@ -157,7 +157,7 @@ fn folded_is_none(alloc: Global, t: Term) -> Result<Term, TermError>
 /// `Memory`, where there is none for the term.
 pub fn is_some(alloc: Global, t: Term) -> Result<Term, TermError>
     ensures folded { IfOk result (λ r. plain_term r ≡ folded_is_some (plain_term t)) }
-    ensures stands { IfOk result (λ r. StandsFor (plain_term r) (is_some_of (plain_term t))) }
+    ensures refines { IfOk result (λ r. Refines (plain_term r) (is_some_of (plain_term t))) }
 {
     not(alloc, is_none(alloc, t)?)
 }
@@ -168,7 +168,7 @@ pub fn is_some(alloc: Global, t: Term) -> Result<Term, TermError>
 /// `Memory`, where there is none for the term.
 pub fn if_false(alloc: Global, g: Term, t: Term) -> Result<Term, TermError>
     ensures folded { IfOk result (λ r. plain_term r ≡ folded_if_false (plain_term g) (plain_term t)) }
-    ensures stands { IfOk result (λ r. StandsFor (plain_term r) (if_false_of (plain_term g) (plain_term t))) }
+    ensures refines { IfOk result (λ r. Refines (plain_term r) (if_false_of (plain_term g) (plain_term t))) }
 {
     let none = none_of(t.type_of(alloc)?);
     ite(alloc, g, none, some_of(alloc, t)?)
@@ -180,7 +180,7 @@ pub fn if_false(alloc: Global, g: Term, t: Term) -> Result<Term, TermError>
 /// `Memory`, where there is none for the term.
 pub fn if_true(alloc: Global, g: Term, t: Term) -> Result<Term, TermError>
     ensures folded { IfOk result (λ r. plain_term r ≡ folded_if_true (plain_term g) (plain_term t)) }
-    ensures stands { IfOk result (λ r. StandsFor (plain_term r) (if_true_of (plain_term g) (plain_term t))) }
+    ensures refines { IfOk result (λ r. Refines (plain_term r) (if_true_of (plain_term g) (plain_term t))) }
 {
     let none = none_of(t.type_of(alloc)?);
     ite(alloc, g, some_of(alloc, t)?, none)
@@ -202,7 +202,7 @@ fn unless(alloc: Global, g: Term, t: Term) -> Result<Term, TermError>
 /// `Memory`, where there is none for the term.
 pub fn if_some(alloc: Global, g: Term, t: Term) -> Result<Term, TermError>
     ensures folded { IfOk result (λ r. plain_term r ≡ folded_if_some (plain_term g) (plain_term t)) }
-    ensures stands { IfOk result (λ r. StandsFor (plain_term r) (if_some_of (plain_term g) (plain_term t))) }
+    ensures refines { IfOk result (λ r. Refines (plain_term r) (if_some_of (plain_term g) (plain_term t))) }
 {
     folded_if_some(alloc, g, t)
 }
@@ -220,7 +220,7 @@ fn folded_if_some(alloc: Global, g: Term, t: Term) -> Result<Term, TermError>
 /// `Memory`, where there is none for the term.
 pub fn any_none(alloc: Global, gs: &[Term]) -> Result<Term, TermError>
     ensures folded { IfOk result (λ r. plain_term r ≡ folded_any_none (map plain_term gs.now)) }
-    ensures stands { IfOk result (λ r. StandsFor (plain_term r) (any_none_of (map plain_term gs.now))) }
+    ensures refines { IfOk result (λ r. Refines (plain_term r) (any_none_of (map plain_term gs.now))) }
 {
     let is_none_here = |t: Term| is_none(alloc, t);
     any_true(alloc, &is_none_here, gs)
@@ -232,7 +232,7 @@ pub fn any_none(alloc: Global, gs: &[Term]) -> Result<Term, TermError>
 /// `Memory`, where there is none for the term.
 pub fn if_all_some(alloc: Global, gs: &[Term], t: Term) -> Result<Term, TermError>
     ensures folded { IfOk result (λ r. plain_term r ≡ folded_if_all_some (map plain_term gs.now) (plain_term t)) }
-    ensures stands { IfOk result (λ r. StandsFor (plain_term r) (if_all_some_of (map plain_term gs.now) (plain_term t))) }
+    ensures refines { IfOk result (λ r. Refines (plain_term r) (if_all_some_of (map plain_term gs.now) (plain_term t))) }
 {
     folded_if_all_some(alloc, gs, t)
 }

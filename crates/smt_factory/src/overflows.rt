@@ -5,7 +5,7 @@ ghost use Rattle.std.specs.Int.{w128};
 ghost use Rattle.smt_factory.specs.Applications.{bvnego_of, test_of_two};
 ghost use Rattle.smt_factory.specs.FoldBits.{folded_bvnego, folded_bvsaddo, folded_bvsmulo, folded_bvssubo};
 ghost use Rattle.smt_factory.specs.FoldBy.{IsOverflowBy, LeavesAt, NotTwoLiterals, OfTwoWidths, TellsOverflow, leaves};
-ghost use Rattle.smt_factory.specs.StandsFor.{StandsFor};
+ghost use Rattle.smt_factory.specs.Refinement.{Refines};
 ghost use Rattle.smt_bits.specs.Width.{bits_in};
 ghost use Rattle.smt_term.specs.Plain.{BvsaddoOp, BvsmuloOp, BvssuboOp};
 ghost use Rattle.smt_term.specs.View.{plain_op, plain_term};
@@ -22,7 +22,7 @@ use std::alloc::Global;
 /// `Memory`, where there is none for the term.
 pub fn bvnego(alloc: Global, t: Term) -> Result<Term, TermError>
     ensures folded { IfOk result (λ r. plain_term r ≡ folded_bvnego (plain_term t)) }
-    ensures stands { IfOk result (λ r. StandsFor (plain_term r) (bvnego_of (plain_term t))) }
+    ensures refines { IfOk result (λ r. Refines (plain_term r) (bvnego_of (plain_term t))) }
 {
     folded_bvnego(alloc, t)
 }
@@ -52,7 +52,7 @@ where
     F: Fn(&Int, &Int) -> Option<Int>,
     requires { F.IsAlwaysCallable f.now }
     ensures folded { IfOk result (λ r. IsOverflowBy (FnReturnsAtPair F.Fn f.now) (plain_op op) (plain_term t1) (plain_term t2) (plain_term r)) }
-    ensures stands { TellsOverflow (FnReturnsAtPair F.Fn f.now) (plain_op op) → IfOk result (λ r. StandsFor (plain_term r) (test_of_two (plain_op op) (plain_term t1) (plain_term t2))) }
+    ensures refines { TellsOverflow (FnReturnsAtPair F.Fn f.now) (plain_op op) → IfOk result (λ r. Refines (plain_term r) (test_of_two (plain_op op) (plain_term t1) (plain_term t2))) }
 {
     match overflow(f, &t1, &t2) {
         Some(leaves) => Ok(Term::from(leaves)),
@@ -98,7 +98,7 @@ fn leaves(width: Width, answer: Option<Int>) -> bool
 /// `Memory`, where there is none for the term.
 pub fn bvsaddo(alloc: Global, t1: Term, t2: Term) -> Result<Term, TermError>
     ensures folded { IfOk result (λ r. plain_term r ≡ folded_bvsaddo (plain_term t1) (plain_term t2)) }
-    ensures stands { IfOk result (λ r. StandsFor (plain_term r) (test_of_two BvsaddoOp (plain_term t1) (plain_term t2))) }
+    ensures refines { IfOk result (λ r. Refines (plain_term r) (test_of_two BvsaddoOp (plain_term t1) (plain_term t2))) }
 {
     bvso(alloc, Op::Bvsaddo, &exact_sum, t1, t2)
 }
@@ -116,7 +116,7 @@ fn exact_sum(lhs: &Int, rhs: &Int) -> Option<Int>
 /// `Memory`, where there is none for the term.
 pub fn bvssubo(alloc: Global, t1: Term, t2: Term) -> Result<Term, TermError>
     ensures folded { IfOk result (λ r. plain_term r ≡ folded_bvssubo (plain_term t1) (plain_term t2)) }
-    ensures stands { IfOk result (λ r. StandsFor (plain_term r) (test_of_two BvssuboOp (plain_term t1) (plain_term t2))) }
+    ensures refines { IfOk result (λ r. Refines (plain_term r) (test_of_two BvssuboOp (plain_term t1) (plain_term t2))) }
 {
     bvso(alloc, Op::Bvssubo, &exact_difference, t1, t2)
 }
@@ -134,7 +134,7 @@ fn exact_difference(lhs: &Int, rhs: &Int) -> Option<Int>
 /// `Memory`, where there is none for the term.
 pub fn bvsmulo(alloc: Global, t1: Term, t2: Term) -> Result<Term, TermError>
     ensures folded { IfOk result (λ r. plain_term r ≡ folded_bvsmulo (plain_term t1) (plain_term t2)) }
-    ensures stands { IfOk result (λ r. StandsFor (plain_term r) (test_of_two BvsmuloOp (plain_term t1) (plain_term t2))) }
+    ensures refines { IfOk result (λ r. Refines (plain_term r) (test_of_two BvsmuloOp (plain_term t1) (plain_term t2))) }
 {
     bvso(alloc, Op::Bvsmulo, &exact_product, t1, t2)
 }

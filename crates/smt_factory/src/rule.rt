@@ -3,7 +3,7 @@ ghost use Rattle.std.specs.Fn.{FnReturnsAtPair};
 ghost use Rattle.std.specs.Prelude.{◌≡◌, IfOk};
 ghost use Rattle.smt_factory.specs.Applications.{bits_of_two};
 ghost use Rattle.smt_factory.specs.FoldBy.{AnswersValues, IsFoldedBy};
-ghost use Rattle.smt_factory.specs.StandsFor.{StandsFor};
+ghost use Rattle.smt_factory.specs.Refinement.{Refines};
 ghost use Rattle.smt_term.specs.View.{plain_op, plain_term};
 
 use crate::bits::bvapp;
@@ -12,7 +12,7 @@ use smt_term::{Op, Term, TermError};
 use std::alloc::Global;
 
 /// An operator from bits to bits, and a call that answers its value at two bitvectors of one width or refuses.
-#[derive(Drop)]
+#[derive(Debug, Drop)]
 pub struct BvRule<F> {
     op: Op,
     f: F,
@@ -45,7 +45,7 @@ where
     requires callable { F.IsAlwaysCallable rule.now.f }
     requires answers { AnswersValues (FnReturnsAtPair F.Fn rule.now.f) (plain_op rule.now.op) }
     ensures folded { IfOk result (λ r. IsFoldedBy (FnReturnsAtPair F.Fn rule.now.f) (plain_op rule.now.op) (plain_term t1) (plain_term t2) (plain_term r)) }
-    ensures stands { IfOk result (λ r. StandsFor (plain_term r) (bits_of_two (plain_op rule.now.op) (plain_term t1) (plain_term t2))) }
+    ensures refines { IfOk result (λ r. Refines (plain_term r) (bits_of_two (plain_op rule.now.op) (plain_term t1) (plain_term t2))) }
 {
     bvapp(alloc, rule.op.share()?, &rule.f, t1, t2)
 }

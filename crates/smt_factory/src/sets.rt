@@ -6,8 +6,10 @@ ghost use Rattle.std.specs.List.{filter, list_all};
 ghost use Rattle.smt_factory.specs.Applications.{set_inter_of, set_intersects_of, set_is_empty_of, set_member_of, set_subset_of};
 ghost use Rattle.smt_factory.specs.FoldSets.{common_set, folded_set_inter, folded_set_intersects, folded_set_is_empty, folded_set_member, folded_set_subset, is_among};
 ghost use Rattle.smt_factory.specs.Parts.{elements_in, is_empty_set, is_set_literal, is_set_term};
-ghost use Rattle.smt_factory.specs.StandsFor.{StandsFor};
+ghost use Rattle.smt_factory.specs.SetOf.{IsSetOf};
+ghost use Rattle.smt_factory.specs.Refinement.{Refines};
 ghost use Rattle.smt_term.specs.TermSets.{set_term};
+ghost use Rattle.smt_term.specs.Typing.{AreOfType};
 ghost use Rattle.smt_term.specs.View.{plain_term, plain_type};
 
 use crate::application::{application, truth_application};
@@ -19,11 +21,15 @@ use std::alloc::Global;
 
 /// The set of the values of these terms, which are of this type. Its elements stand in the order of terms, each once.
 ///
+/// Where each of the terms is typed and of this type, so is the set, and its value is the set of their values.
+///
 /// # Errors
 /// `Memory`, where there is none for the term.
 #[tactic(auto, using(crate::proofs::Folding::matching, crate::proofs::FoldingSets::set_folding))]
 pub fn set_of(alloc: Global, ts: &[Term], elts_ty: TermType) -> Result<Term, TermError>
-    ensures { IfOk result (λ r. plain_term r ≡ set_term (plain_type elts_ty) (map plain_term ts.now)) }
+    ensures folded { IfOk result (λ r. plain_term r ≡ set_term (plain_type elts_ty) (map plain_term ts.now)) }
+    ensures set { AreOfType (plain_type elts_ty) (map plain_term ts.now) →
+        IfOk result (λ r. IsSetOf (plain_type elts_ty) (map plain_term ts.now) (plain_term r)) }
 {
     let elts = TermSet::new(alloc, ts)?;
     Ok(Term::Set { elts_ty, elts })
@@ -100,7 +106,7 @@ fn are_among(subs: &[Term], ts: &[Term]) -> bool
 /// `Memory`, where there is none for the term.
 pub fn set_member(alloc: Global, t: Term, ts: Term) -> Result<Term, TermError>
     ensures folded { IfOk result (λ r. plain_term r ≡ folded_set_member (plain_term t) (plain_term ts)) }
-    ensures stands { IfOk result (λ r. StandsFor (plain_term r) (set_member_of (plain_term t) (plain_term ts))) }
+    ensures refines { IfOk result (λ r. Refines (plain_term r) (set_member_of (plain_term t) (plain_term ts))) }
 {
     folded_set_member(alloc, t, ts)
 }
@@ -124,7 +130,7 @@ fn folded_set_member(alloc: Global, t: Term, ts: Term) -> Result<Term, TermError
 /// `Memory`, where there is none for the term.
 pub fn set_subset(alloc: Global, sub: Term, sup: Term) -> Result<Term, TermError>
     ensures folded { IfOk result (λ r. plain_term r ≡ folded_set_subset (plain_term sub) (plain_term sup)) }
-    ensures stands { IfOk result (λ r. StandsFor (plain_term r) (set_subset_of (plain_term sub) (plain_term sup))) }
+    ensures refines { IfOk result (λ r. Refines (plain_term r) (set_subset_of (plain_term sub) (plain_term sup))) }
 {
     folded_set_subset(alloc, sub, sup)
 }
@@ -180,7 +186,7 @@ fn common_set(alloc: Global, ts1: &Term, ts2: &Term) -> Result<Term, TermError>
 /// `Memory`, where there is none for the term.
 pub fn set_inter(alloc: Global, ts1: Term, ts2: Term) -> Result<Term, TermError>
     ensures folded { IfOk result (λ r. plain_term r ≡ folded_set_inter (plain_term ts1) (plain_term ts2)) }
-    ensures stands { IfOk result (λ r. StandsFor (plain_term r) (set_inter_of (plain_term ts1) (plain_term ts2))) }
+    ensures refines { IfOk result (λ r. Refines (plain_term r) (set_inter_of (plain_term ts1) (plain_term ts2))) }
 {
     folded_set_inter(alloc, ts1, ts2)
 }
@@ -210,7 +216,7 @@ fn folded_set_inter(alloc: Global, ts1: Term, ts2: Term) -> Result<Term, TermErr
 /// `Memory`, where there is none for the term.
 pub fn set_is_empty(alloc: Global, t: Term) -> Result<Term, TermError>
     ensures folded { IfOk result (λ r. plain_term r ≡ folded_set_is_empty (plain_term t)) }
-    ensures stands { IfOk result (λ r. StandsFor (plain_term r) (set_is_empty_of (plain_term t))) }
+    ensures refines { IfOk result (λ r. Refines (plain_term r) (set_is_empty_of (plain_term t))) }
 {
     folded_set_is_empty(alloc, t)
 }
@@ -237,7 +243,7 @@ fn folded_set_is_empty(alloc: Global, t: Term) -> Result<Term, TermError>
 /// `Memory`, where there is none for the term.
 pub fn set_intersects(alloc: Global, ts1: Term, ts2: Term) -> Result<Term, TermError>
     ensures folded { IfOk result (λ r. plain_term r ≡ folded_set_intersects (plain_term ts1) (plain_term ts2)) }
-    ensures stands { IfOk result (λ r. StandsFor (plain_term r) (set_intersects_of (plain_term ts1) (plain_term ts2))) }
+    ensures refines { IfOk result (λ r. Refines (plain_term r) (set_intersects_of (plain_term ts1) (plain_term ts2))) }
 {
     not(alloc, set_is_empty(alloc, set_inter(alloc, ts1, ts2)?)?)
 }

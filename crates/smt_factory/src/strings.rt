@@ -6,7 +6,7 @@ ghost use Rattle.std.specs.Rc.{rc_str_bytes};
 ghost use Rattle.smt_factory.specs.Applications.{string_like_of};
 ghost use Rattle.smt_factory.specs.FoldStrings.{folded_string_like};
 ghost use Rattle.smt_factory.specs.Parts.{text_inside};
-ghost use Rattle.smt_factory.specs.StandsFor.{StandsFor};
+ghost use Rattle.smt_factory.specs.Refinement.{Refines};
 ghost use Rattle.smt_term.specs.PatternView.{plain_ord_pattern};
 ghost use Rattle.smt_term.specs.Plain.{LiteralTerm, StringLiteral};
 ghost use Rattle.smt_term.specs.View.{plain_literal, plain_term};
@@ -44,7 +44,7 @@ fn literal_text(literal: &TermPrim) -> Option<&Text>
 /// `Memory`, where there is none for the term.
 pub fn string_like(alloc: Global, t: Term, p: OrdPattern) -> Result<Term, TermError>
     ensures folded { IfOk result (λ r. plain_term r ≡ folded_string_like (plain_term t) (plain_ord_pattern p)) }
-    ensures stands { IfOk result (λ r. StandsFor (plain_term r) (string_like_of (plain_term t) (plain_ord_pattern p))) }
+    ensures refines { IfOk result (λ r. Refines (plain_term r) (string_like_of (plain_term t) (plain_ord_pattern p))) }
 {
     if let Some(text) = text_inside(&t) {
         return Ok(Term::from(p.wildcard_match(text)));

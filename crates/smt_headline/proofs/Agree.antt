@@ -7,7 +7,7 @@ use Rattle.std.proofs.lemmas.Bool.{ltb-true, ltb-false, lt-ltb, le-ltb}
 use Rattle.smt_term.specs.Plain.{PlainType, no_attributes, attribute}
 use Rattle.smt_term.specs.Types.{attribute_in}
 use Rattle.smt_term.specs.Formed.{attribute_names}
-use Rattle.smt_lines.specs.Lines.{place_of}
+use Rattle.smt_lines.specs.EntryNames.{place_of}
 use Rattle.smt_headline.specs.Conditions.{PlacesAreFound, AttributesAreFound}
 
 one_less : (a b : ℕ) → nat_lt (suc a) (suc b) ≡ nat_lt a b

@@ -14,26 +14,30 @@ use Rattle.smt_term.specs.Values.{Value}
 use Rattle.smt_term.proofs.TypeOrder.{eq_same}
 use Rattle.smt_term.specs.Formed.{attribute_names}
 use Rattle.smt_semantics.specs.ScriptValues.{ScriptValue, BitsOf}
-use Rattle.smt_sexpr.specs.Lexicon.{Number}
-use Rattle.smt_sexpr.specs.Reading.{Expression, Leaf}
+use Rattle.smt_sexpr.specs.Reading.{Expression}
+use Rattle.smt_semantics.specs.ScriptOperators.{script_name}
 use Rattle.smt_semantics.specs.Script.{State, Selects, Function, name, group, pattern, operator_of, ◌>>=◌}
 use Rattle.smt_semantics.specs.Sorts as sorts
 use Rattle.smt_semantics.specs.Sorts.{entries}
-use Rattle.smt_semantics.specs.Growth.{DeclaresSelectors}
+use Rattle.smt_semantics.specs.DeclarationLines.{DeclaresSelectors}
 use Rattle.smt_semantics.specs.Value.{ScriptInterpretation, expression_value, operator_value, in_table, selected, is_built}
 use Rattle.smt_semantics.specs.Value as script
 use Rattle.smt_semantics.specs.Meanings.{argument_values}
 use Rattle.smt_semantics.proofs.Apply.{operators_apply, functions_apply, selectors_apply, extensions_apply, matches_apply}
-use Rattle.smt_semantics.specs.Quoting.{pattern_expr}
-use Rattle.smt_lines.specs.Lines.{Tables, name_of_type, name_of_function, text_of_name, attribute_name, attribute_place, attribute_selectors, place_of, bits, least_manner}
-use Rattle.smt_lines.specs.Naming.{sort_of, type_name}
-use Rattle.smt_lines.specs.Entries.{HasSort, text_of, given, texts_of, sorts_of, application_lines}
-use Rattle.smt_lines.specs.Fine.{IsFineType}
-use Rattle.smt_lines.specs.Fit.{EachLine, LineStands}
+use Rattle.smt_semantics.specs.WrittenStrings.{pattern_expr}
+use Rattle.smt_lines.specs.LineForms.{attribute_selectors, application_body, least_body, operator_head}
+use Rattle.smt_lines.specs.EntryNames.{attribute_name, place_of}
+use Rattle.smt_lines.specs.Lines.{attribute_place, bits, least_rendering}
+use Rattle.smt_lines.specs.NameTables.{Tables, name_of_type, name_of_function, text_of_name}
+use Rattle.smt_lines.specs.Naming.{type_sort, type_name}
+use Rattle.smt_lines.specs.Entries.{TypeHasEntries, text_or_nothing, texts_of, attribute_sorts, application_lines}
+use Rattle.smt_lines.specs.TermTexts.{text_of}
+use Rattle.smt_lines.specs.Encodable.{IsEncodableType}
+use Rattle.smt_lines.specs.Fit.{EachLine, LineIsDeclared}
 use Rattle.smt_lines.proofs.Declared.{types_are_declared, functions_are_declared}
 use Rattle.smt_carrying.specs.Carry.{carry}
-use Rattle.smt_carrying.specs.Interpretations.{carry_function, carry_inside}
-use Rattle.smt_carrying.specs.Operators.{AreValues, is_script_operator}
+use Rattle.smt_carrying.specs.CarriedInterpretations.{carry_function, carry_inside}
+use Rattle.smt_carrying.specs.CarriedOperators.{AreValues, is_script_operator}
 use Rattle.smt_carrying.proofs.Keys.{function_keyed, sort_shows}
 use Rattle.smt_carrying.proofs.Negations.{negated}
 use Rattle.smt_carrying.proofs.Operators.{commutes}
@@ -65,24 +69,24 @@ module _ (enums : Enums) (s : Tables) (state : State) (I : Interpretation) (x : 
 
   -- ---- the forms with an index or a pattern
 
-  pub extended : (k : ℕ) (t : PlainTerm) (type : PlainType) → result_type (ZeroExtendOp k) (type_of t ∷ []) ≡ Some type → IsValue enums (type_of t) (meaning I t) → Has (given (text_of s t)) (type_of t) (meaning I t)
-      → Has (group (group (name (codes "_") ∷ name (codes "zero_extend") ∷ Leaf (Number k) ∷ []) ∷ given (text_of s t) ∷ [])) type (apply I (ZeroExtendOp k) type (meaning I t ∷ []))
+  pub extended : (k : ℕ) (t : PlainTerm) (type : PlainType) → result_type (ZeroExtendOp k) (type_of t ∷ []) ≡ Some type → IsValue enums (type_of t) (meaning I t) → Has (text_or_nothing (text_of s t)) (type_of t) (meaning I t)
+      → Has (application_body (operator_head (ZeroExtendOp k)) (ZeroExtendOp k) (text_or_nothing (text_of s t) ∷ [])) type (apply I (ZeroExtendOp k) type (meaning I t ∷ []))
   extended k t type r v a =
-      (extensions_apply J state k (given (text_of s t))).0
+      (extensions_apply J state k (text_or_nothing (text_of s t))).0
       ∙ ap (λ (q : Option ScriptValue). q >>= λ w. operator_value (ZeroExtendOp k) (w ∷ [])) a
       ∙ commutes enums s x.enum_types I (ZeroExtendOp k) type (type_of t ∷ []) (meaning I t ∷ []) refl (v, tt) r
 
-  pub matched : (p : List PatternPart) (t : PlainTerm) (type : PlainType) → pattern (pattern_expr p) ≡ Some p → result_type (StringLikeOp p) (type_of t ∷ []) ≡ Some type → IsValue enums (type_of t) (meaning I t) → Has (given (text_of s t)) (type_of t) (meaning I t)
-      → Has (group (name (codes "str.in_re") ∷ given (text_of s t) ∷ pattern_expr p ∷ [])) type (apply I (StringLikeOp p) type (meaning I t ∷ []))
+  pub matched : (p : List PatternPart) (t : PlainTerm) (type : PlainType) → pattern (pattern_expr p) ≡ Some p → result_type (StringLikeOp p) (type_of t ∷ []) ≡ Some type → IsValue enums (type_of t) (meaning I t) → Has (text_or_nothing (text_of s t)) (type_of t) (meaning I t)
+      → Has (application_body (operator_head (StringLikeOp p)) (StringLikeOp p) (text_or_nothing (text_of s t) ∷ [])) type (apply I (StringLikeOp p) type (meaning I t ∷ []))
   matched p t type h r v a =
-      (matches_apply J state (given (text_of s t)) (pattern_expr p) p h).0
+      (matches_apply J state (text_or_nothing (text_of s t)) (pattern_expr p) p h).0
       ∙ ap (λ (q : Option ScriptValue). q >>= λ w. operator_value (StringLikeOp p) (w ∷ [])) a
       ∙ commutes enums s x.enum_types I (StringLikeOp p) type (type_of t ∷ []) (meaning I t ∷ []) refl (v, tt) r
 
   -- ---- functions
 
   pub function : (f : PlainFunction) (t : PlainTerm) (type : PlainType) → result_type (UufOp f) (type_of t ∷ []) ≡ Some type → AllByRecursion (λ e. IsValue enums f.argument e.0) (I.function f).entries → IsSome (name_of_function s f)
-      → IsValue enums (type_of t) (meaning I t) → Has (given (text_of s t)) (type_of t) (meaning I t) → Has (group (name (text_of_name (name_of_function s f)) ∷ given (text_of s t) ∷ [])) type (value_at (I.function f) (meaning I t))
+      → IsValue enums (type_of t) (meaning I t) → Has (text_or_nothing (text_of s t)) (type_of t) (meaning I t) → Has (group (name (text_of_name (name_of_function s f)) ∷ text_or_nothing (text_of s t) ∷ [])) type (value_at (I.function f) (meaning I t))
   function f t type r keys there v a =
       let n = text_of_name (name_of_function s f) in
       let e : name_of_function s f ≡ Some n = some_there (name_of_function s f) there in
@@ -90,7 +94,7 @@ module _ (enums : Enums) (s : Tables) (state : State) (I : Interpretation) (x : 
       let c : (type_eq (type_of t) f.argument ≡ true) × (f.output ≡ type) = chosen (type_eq (type_of t) f.argument) f.output type r in
       let q : type_of t ≡ f.argument = eq_same (type_of t) f.argument c.0 in
       let k = ap (carry_function enums s I) (function_keyed s f n x.one_to_one.functions e) in
-      functions_apply J state n (sort_of s f.argument) (sort_of s f.output) (given (text_of s t)) (carry enums s (type_of t) (meaning I t)) (x.last.own n (Function (sort_of s f.argument) (sort_of s f.output)) d) d a
+      functions_apply J state n (type_sort s f.argument) (type_sort s f.output) (text_or_nothing (text_of s t)) (carry enums s (type_of t) (meaning I t)) (x.last.own n (Function (type_sort s f.argument) (type_sort s f.output)) d) d a
       ∙ ap (λ (table : script.Table). Some (in_table table (carry enums s (type_of t) (meaning I t)))) k
       ∙ ap (λ (u : PlainType). Some (in_table (carry_function enums s I (Some f)) (carry enums s u (meaning I t)))) q
       ∙ ap (λ (w : ScriptValue). Some w) (table_read enums s x.enum_types f.argument f.output (I.function f) (meaning I t) keys (subst (λ u. IsValue enums u (meaning I t)) q v))
@@ -110,7 +114,7 @@ module _ (enums : Enums) (s : Tables) (state : State) (I : Interpretation) (x : 
       let r = selector_there n (suc from) es place lt' h.1 in
       (r.0, subst (λ k. entries state (attribute_name n k) ≡ Some (Selects n [] n k r.0)) z r.1)
 
-  sorts_counted : (fs : AttributeTypes) → length (sorts_of s fs) ≡ length (attribute_names fs)
+  sorts_counted : (fs : AttributeTypes) → length (attribute_sorts s fs) ≡ length (attribute_names fs)
   sorts_counted no_attributes = refl
   sorts_counted (attribute a t fs) = ap suc (sorts_counted fs)
 
@@ -121,40 +125,40 @@ module _ (enums : Enums) (s : Tables) (state : State) (I : Interpretation) (x : 
       let place = place_of a (attribute_names fs) in
       let d = (types_are_declared enums s state (RecordType fs) n x.fit (some_there (name_of_type s (RecordType fs)) there)).0.1.0.1.1 in
       let lt : place < length (attribute_names fs) = ltb-true place (length (attribute_names fs)) (attributes_found a fs ∙ ap is_some r) in
-      let lt' : place < length (sorts_of s fs) = subst (λ k. place < k) (sym (sorts_counted fs)) lt in
-      let q = selector_there n 0 (sorts_of s fs) place lt' d in
+      let lt' : place < length (attribute_sorts s fs) = subst (λ k. place < k) (sym (sorts_counted fs)) lt in
+      let q = selector_there n 0 (attribute_sorts s fs) place lt' d in
       let z : 0 + place ≡ place = omega arith in
       let entry = subst (λ k. entries state (attribute_name n k) ≡ Some (Selects n [] n k q.0)) z q.1 in
       selectors_apply J state (attribute_name n place) n [] n place q.0 e (carry enums s (RecordType fs) w) (x.last.own (attribute_name n place) (Selects n [] n place q.0) entry) entry h
-      ∙ attribute_selected enums s J (attribute_name n place) a [] (sorts.sort_of state e) fs type w v r
+      ∙ attribute_selected enums s J (attribute_name n place) a n [] (sorts.expression_sort state e) fs type w v r
 
-  pub attribute_of : (a : List ℕ) (t : PlainTerm) (u type : PlainType) → type_of t ≡ u → attribute_type a u ≡ Some type → IsSome (name_of_type s (type_of t)) → IsValue enums (type_of t) (meaning I t) → Has (given (text_of s t)) (type_of t) (meaning I t)
-      → Has (group (name (attribute_name (type_name s (type_of t)) (attribute_place a (type_of t))) ∷ given (text_of s t) ∷ [])) type (attribute_value a (meaning I t))
+  pub attribute_of : (a : List ℕ) (t : PlainTerm) (u type : PlainType) → type_of t ≡ u → attribute_type a u ≡ Some type → IsSome (name_of_type s (type_of t)) → IsValue enums (type_of t) (meaning I t) → Has (text_or_nothing (text_of s t)) (type_of t) (meaning I t)
+      → Has (group (name (attribute_name (type_name s (type_of t)) (attribute_place a (type_of t))) ∷ text_or_nothing (text_of s t) ∷ [])) type (attribute_value a (meaning I t))
   attribute_of a t (RecordType fs) type e r there v h =
-      subst (λ u. Has (group (name (attribute_name (type_name s u) (attribute_place a u)) ∷ given (text_of s t) ∷ [])) type (attribute_value a (meaning I t))) (sym e)
-      (attribute_worth a fs type (given (text_of s t)) (meaning I t) r (subst (λ u. IsSome (name_of_type s u)) e there) (subst (λ u. IsValue enums u (meaning I t)) e v) (subst (λ u. Has (given (text_of s t)) u (meaning I t)) e h))
+      subst (λ u. Has (group (name (attribute_name (type_name s u) (attribute_place a u)) ∷ text_or_nothing (text_of s t) ∷ [])) type (attribute_value a (meaning I t))) (sym e)
+      (attribute_worth a fs type (text_or_nothing (text_of s t)) (meaning I t) r (subst (λ u. IsSome (name_of_type s u)) e there) (subst (λ u. IsValue enums u (meaning I t)) e v) (subst (λ u. Has (text_or_nothing (text_of s t)) u (meaning I t)) e h))
   attribute_of a t u type e r there v h = cc
 
   -- ---- options
 
-  inside_worth : (type : PlainType) (e : Expression) (w : Value) → IsFineType type → HasSort s type → sorts.sort_of state e ≡ Some (sort_of s (OptionType type)) → IsValue enums (OptionType type) w → Has e (OptionType type) w
+  inside_worth : (type : PlainType) (e : Expression) (w : Value) → IsEncodableType enums type → TypeHasEntries s type → sorts.expression_sort state e ≡ Some (type_sort s (OptionType type)) → IsValue enums (OptionType type) w → Has e (OptionType type) w
       → Has (group (name (codes "val") ∷ e ∷ [])) type (value_inside (I.inside_none type) w)
   inside_worth type e w fine sort q v h =
-      let entry = x.fit.option_stands.1.2.1.0 in
+      let entry = x.fit.option_is_declared.1.2.1.0 in
       let declared = type_stands enums s state x.fit type fine sort in
       let shows = sort_shows enums s (entries state) x.one_to_one.types (OptionType type) declared (names_there enums s state x.fit type sort) in
       selectors_apply J state (codes "val") (codes "Option") (codes "X" ∷ []) (codes "some") 0 (name (codes "X")) e (carry enums s (OptionType type) w) refl entry h
-      ∙ ap (λ (o : Option Expression). selected J (codes "val") (codes "X" ∷ []) (codes "some") 0 o (carry enums s (OptionType type) w)) q
-      ∙ option_selected enums s I J (codes "val") (codes "X") (sort_of s (OptionType type)) type w v (ap (carry_inside enums s I) shows)
+      ∙ ap (λ (o : Option Expression). selected J (codes "val") (codes "Option") (codes "X" ∷ []) (codes "some") 0 o (carry enums s (OptionType type) w)) q
+      ∙ option_selected enums s I J (codes "X") (type_sort s (OptionType type)) type w v (ap (carry_inside enums s I) shows)
 
-  pub inside_of : (t : PlainTerm) (u type : PlainType) → type_of t ≡ u → inner_type u ≡ Some type → IsFineType type → HasSort s type → IsSome (text_of s t) → IsValue enums (type_of t) (meaning I t) → Has (given (text_of s t)) (type_of t) (meaning I t)
-      → Has (group (name (codes "val") ∷ given (text_of s t) ∷ [])) type (value_inside (I.inside_none type) (meaning I t))
+  pub inside_of : (t : PlainTerm) (u type : PlainType) → type_of t ≡ u → inner_type u ≡ Some type → IsEncodableType enums type → TypeHasEntries s type → IsSome (text_of s t) → IsValue enums (type_of t) (meaning I t) → Has (text_or_nothing (text_of s t)) (type_of t) (meaning I t)
+      → Has (group (name (codes "val") ∷ text_or_nothing (text_of s t) ∷ [])) type (value_inside (I.inside_none type) (meaning I t))
   inside_of t (OptionType u) type e r fine sort there v h =
       let q : OptionType u ≡ OptionType type = ap OptionType (inside u type r) in
       let l : type_of t ≡ OptionType type = e ∙ q in
-      inside_worth type (given (text_of s t)) (meaning I t) fine sort
-      (text_sorted enums s state I x t (subst IsEntered (sym l) tt) there ∙ ap (λ u. Some (sort_of s u)) l)
-      (subst (λ u. IsValue enums u (meaning I t)) l v) (subst (λ u. Has (given (text_of s t)) u (meaning I t)) l h)
+      inside_worth type (text_or_nothing (text_of s t)) (meaning I t) fine sort
+      (text_sorted enums s state I x t (subst IsEntered (sym l) tt) there ∙ ap (λ u. Some (type_sort s u)) l)
+      (subst (λ u. IsValue enums u (meaning I t)) l v) (subst (λ u. Has (text_or_nothing (text_of s t)) u (meaning I t)) l h)
   inside_of t u type e r fine sort there v h = cc
 
   -- ---- the overflow of a negation
@@ -162,14 +166,14 @@ module _ (enums : Enums) (s : Tables) (state : State) (I : Interpretation) (x : 
   two_values : (e f : Expression) (a b : ScriptValue) → expression_value J state e ≡ Some a → expression_value J state f ≡ Some b → argument_values J state (e ∷ f ∷ []) ≡ Some (a ∷ b ∷ [])
   two_values e f a b h k = ap₂ (λ (o p : Option ScriptValue). sorts.each_there (o ∷ p ∷ [])) h k
 
-  pub negation : (t : PlainTerm) (u : PlainType) (n : List ℕ) → is_bits u ≡ true → IsFineType u → EachLine (LineStands state) (application_lines enums s (least_manner u) BvnegoOp (one_term t no_terms) BoolType n)
-      → IsValue enums u (meaning I t) → Has (given (text_of s t)) u (meaning I t) → Has (name n) BoolType (apply I BvnegoOp BoolType (meaning I t ∷ []))
+  pub negation : (t : PlainTerm) (u : PlainType) (n : List ℕ) → is_bits u ≡ true → IsEncodableType enums u → EachLine (LineIsDeclared state) (application_lines enums s (least_rendering u) BvnegoOp (one_term t no_terms) BoolType n)
+      → IsValue enums u (meaning I t) → Has (text_or_nothing (text_of s t)) u (meaning I t) → Has (name n) BoolType (apply I BvnegoOp BoolType (meaning I t ∷ []))
   negation t (BitVecType w) n b fine h v k =
       let one : 1 ≤ w = leb-true 1 w (and_parts (nat_le 1 w) (nat_le w 128) fine).0 in
       let z : w - 1 < w = omega arith in
       let least : Expression = bits w (2 ^ (w - 1)) in
-      from_body enums s state I x n (sort_of s BoolType) (group (name (codes "=") ∷ given (text_of s t) ∷ least ∷ [])) (Some (carry enums s BoolType (apply I BvnegoOp BoolType (meaning I t ∷ [])))) h.0
-      ((operators_apply J state (codes "=") EqOp (given (text_of s t) ∷ least ∷ []) refl).0
-      ∙ ap (λ (q : Option (List ScriptValue)). q >>= operator_value EqOp) (two_values (given (text_of s t)) least (carry enums s (BitVecType w) (meaning I t)) (BitsOf w (2 ^ (w - 1))) k (bits_worth enums s state I w (2 ^ (w - 1)) (bits_fit w (2 ^ (w - 1)) fine (pow-lt z))))
+      from_body enums s state I x n (type_sort s BoolType) (least_body w (text_or_nothing (text_of s t) ∷ [])) (Some (carry enums s BoolType (apply I BvnegoOp BoolType (meaning I t ∷ [])))) h.0
+      ((operators_apply J state (script_name EqOp) EqOp (text_or_nothing (text_of s t) ∷ least ∷ []) refl).0
+      ∙ ap (λ (q : Option (List ScriptValue)). q >>= operator_value EqOp) (two_values (text_or_nothing (text_of s t)) least (carry enums s (BitVecType w) (meaning I t)) (BitsOf w (2 ^ (w - 1))) k (bits_worth enums s state I w (2 ^ (w - 1)) (bits_fit w (2 ^ (w - 1)) fine (pow-lt z))))
       ∙ negated enums s x.enum_types I w (meaning I t) one v)
   negation t u n b fine h v k = cc

@@ -18,17 +18,19 @@ use Rattle.smt_semantics.specs.Value.{ScriptInterpretation, IsScriptInterpretati
 use Rattle.smt_semantics.proofs.Commands.{one_state}
 use Rattle.smt_lines.specs.Naming.{HasDistinctNames}
 use Rattle.smt_lines.specs.Rows.{bool_variable, not_b}
-use Rattle.smt_lines.specs.Scripts.{Stated}
+use Rattle.smt_lines.specs.Lines.{EncodeCall}
+use Rattle.smt_lines.specs.NameTables.{Tables}
 use Rattle.smt_lines.specs.Text.{text, names}
 use Rattle.smt_carrying.specs.Carry.{back}
 use Rattle.smt_carrying.proofs.Onto.{onto}
 use Rattle.smt_headline.specs.Conditions.{AreConditions}
 use Rattle.smt_headline.specs.Example.{NegationIsItsScript, true_term}
+use Rattle.smt_headline.specs.Fits.{Fits, new_stages, stages_after_calls}
 use Rattle.smt_headline.specs.Headline.{AreTexts, HaveTermValues, AreTrue, Headline}
-use Rattle.smt_headline.proofs.FineTerms.{conditions_are_scripts}
-use Rattle.smt_headline.proofs.Models.{truth_carried, conditions_are_their_scripts}
+use Rattle.smt_headline.proofs.FitKept.{conditions_are_their_scripts, stated_calls_fit}
+use Rattle.smt_headline.proofs.Models.{truth_carried}
 use Rattle.smt_headline.proofs.SelectionsGiven.{interpretations_give_reached}
-use Rattle.smt_headline.proofs.Types.{always_stands}
+use Rattle.smt_headline.proofs.Types.{option_is_declared}
 
 condition : AreConditions [] (not_b ∷ [])
 unfolding chars
@@ -38,11 +40,14 @@ condition = record {
   have_no_fault = refl;
 }
 
-headline : Headline [] (not_b ∷ [])
+abbrev T : Tables
+T = names [] (not_b ∷ [])
+
+headline : Headline [] T (not_b ∷ []) (text [] (not_b ∷ []))
 headline = conditions_are_their_scripts [] (not_b ∷ []) tt condition
 
-stated : Stated [] (not_b ∷ [])
-stated = conditions_are_scripts [] (not_b ∷ []) condition
+fits : Fits [] (text [] (not_b ∷ [])) (stages_after_calls [] (EncodeCall (not_b ∷ []) ∷ []) new_stages)
+fits = stated_calls_fit [] (EncodeCall (not_b ∷ []) ∷ []) tt (condition, tt)
 
 -- ---- truth
 
@@ -60,16 +65,17 @@ true_in I g = (λ k. negated (I.variable (codes "b") BoolType) g.0 k.0, λ e. (a
 -- ---- models
 
 -- t0 has a truth
-given_truth : (state : State) → stated.state ≡ state → (J : ScriptInterpretation) → IsScriptInterpretation J state → J.constants (codes "t0") ≡ TruthOf (truth (back [] BoolType (J.constants (codes "t0"))))
-given_truth state e J g =
-    let given = interpretations_give_reached [] (not_b ∷ []) stated condition tt J (subst (λ (u : State). IsScriptInterpretation J u) (sym e) g) in
-    let o = onto (entries stated.state) (always_stands [] (names [] (not_b ∷ [])) stated.state stated.fits) [] (names [] (not_b ∷ [])) tt BoolType (J.constants (codes "t0")) tt given.0 in
-    sym o.1 ∙ (truth_carried [] (names [] (not_b ∷ [])) (back [] BoolType (J.constants (codes "t0"))) o.0).0
+given_truth : (J : ScriptInterpretation) → IsScriptInterpretation J fits.state → J.constants (codes "t0") ≡ TruthOf (truth (back [] BoolType (J.constants (codes "t0"))))
+given_truth J g =
+    let given = interpretations_give_reached [] (text [] (not_b ∷ [])) (record { tables = T; terms = not_b ∷ [] }) fits.state tt fits.now fits.script.script J g in
+    let o = onto (entries fits.state) (option_is_declared [] T fits.state fits.now.declared) [] T tt BoolType (J.constants (codes "t0")) tt given.0 in
+    sym o.1 ∙ (truth_carried [] T (back [] BoolType (J.constants (codes "t0"))) o.0).0
 
 models : (J : ScriptInterpretation) → IsScriptInterpretation J headline.state → IsModel J headline.state ↔ (J.constants (codes "t0") ≡ TruthOf false)
 models J g =
-    let truth_is = given_truth headline.state (one_state (text [] (not_b ∷ [])) stated.state headline.state stated.stands.script headline.script.script) J g in
-    let m = headline.models J g in (
+    let same = one_state (text [] (not_b ∷ [])) headline.state fits.state headline.script.script fits.script.script in
+    let truth_is = given_truth J (subst (λ (u : State). IsScriptInterpretation J u) same g) in
+    let m = headline.represents.models J g in (
       λ k. truth_is ∙ ap TruthOf (is_false (truth (back [] BoolType (J.constants (codes "t0")))) (m.0 k).0),
       λ e. m.1 (ap (λ (v : ScriptValue). BoolValue (not (truth (back [] BoolType v)))) e, tt),
     )
@@ -105,11 +111,11 @@ other_worth I J h = false≢true (ap is_true h.0)
 pub negation_is_its_script : NegationIsItsScript
 negation_is_its_script = record {
   condition = condition;
-  text = refl;
+  bytes = refl;
   headline = headline;
   models = models;
   true_in = true_in;
-  free = headline.free;
+  free = headline.represents.free;
   goes = λ I e. rw e refl;
   comes = λ J e. rw e refl;
   in_order = (refl, (refl, tt));

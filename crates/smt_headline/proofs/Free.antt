@@ -1,18 +1,14 @@
 -- Names that a script leaves free.
-use Rattle.std.proofs.Common.{subst, sym}
-use Rattle.smt_term.specs.Plain.{PlainOp, UufOp, PlainType, PlainTerm, Application, VariableTerm, terms}
+use Rattle.smt_term.specs.Plain.{PlainOp, UufOp, PlainType, PlainTerm, Application, VariableTerm}
 use Rattle.smt_term.specs.Reached.{reached_terms}
 use Rattle.smt_term.specs.TypeValues.{Enums}
 use Rattle.smt_semantics.specs.Script.{State}
 use Rattle.smt_semantics.specs.Sorts.{entries}
-use Rattle.smt_lines.specs.Lines.{Tables, no_names}
-use Rattle.smt_lines.specs.Naming.{HasDistinctNames}
-use Rattle.smt_lines.proofs.Grow.{terms_grow}
-use Rattle.smt_lines.proofs.Differ.{types_differ, functions_differ}
+use Rattle.smt_lines.specs.NameTables.{Tables}
 use Rattle.smt_lines.specs.Fit.{Fit}
 use Rattle.smt_lines.proofs.Declared.{terms_are_declared, functions_are_declared}
-use Rattle.smt_carrying.specs.Interpretations.{variable_name, function_name, IsOpNamed, IsTermNamed}
-use Rattle.smt_headline.specs.Standing.{IsOpOpen, IsOpen, ReachedAreOpen, NamesDiffer}
+use Rattle.smt_carrying.specs.CarriedInterpretations.{variable_name, function_name, IsOpNamed, IsTermNamed}
+use Rattle.smt_headline.specs.Reached.{IsOpOpen, IsOpen, ReachedAreOpen}
 use Rattle.smt_carrying.proofs.Open.{every}
 
 module _ (enums : Enums) (s : Tables) (state : State) (fit : Fit enums s state) where
@@ -31,8 +27,3 @@ module _ (enums : Enums) (s : Tables) (state : State) (fit : Fit enums s state) 
 
 pub reached_are_open : ReachedAreOpen
 reached_are_open enums s state ts fit h = every (IsTermNamed enums s (entries state)) (IsOpen s (entries state)) (λ t k. term_open enums s state fit t k) (reached_terms ts) h.named
-
-pub names_differ : NamesDiffer
-names_differ enums ts =
-    let g = terms_grow enums (terms ts) no_names in
-    (subst HasDistinctNames (sym g.types) (types_differ g.new_types g.type_names), subst HasDistinctNames (sym g.functions) (functions_differ g.new_functions g.function_names))

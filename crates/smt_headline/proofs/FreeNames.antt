@@ -9,13 +9,13 @@ use Rattle.smt_term.specs.Reached.{variable_of, function_of, function_of_op, rea
 use Rattle.smt_semantics.specs.Script.{Entry, Constant, Function, Defined, Builds, Selects, State, is_in, names_of, look_up}
 use Rattle.smt_semantics.specs.Sorts.{entries}
 use Rattle.smt_semantics.specs.Value.{free_in, free_names}
-use Rattle.smt_lines.specs.Naming.{sort_of}
-use Rattle.smt_lines.specs.Lines.{Tables}
-use Rattle.smt_carrying.specs.Interpretations.{variable_name, function_name}
+use Rattle.smt_lines.specs.Naming.{type_sort}
+use Rattle.smt_lines.specs.NameTables.{Tables}
+use Rattle.smt_carrying.specs.CarriedInterpretations.{variable_name, function_name}
 use Rattle.smt_carrying.specs.Open.{Occurs, IsOpenEntry}
 use Rattle.smt_term.proofs.ValueOrder.{bytes_itself}
 use Rattle.smt_headline.specs.Headline.{reached_names}
-use Rattle.smt_headline.specs.Standing.{IsOpOpen, IsOpen}
+use Rattle.smt_headline.specs.Reached.{IsOpOpen, IsOpen}
 use Rattle.smt_headline.proofs.Lasting.{some_entry}
 use Rattle.smt_semantics.proofs.Results.{or_left, or_right}
 use Rattle.smt_carrying.proofs.Open.{at_term}
@@ -142,14 +142,14 @@ IsLeft state n = (y : Entry) × IsFree y × (entries state n ≡ Some y)
 
 -- a term that brings a variable, or a function, is one
 open_variable : (s : Tables) (state : State) (t : PlainTerm) (v : List ℕ × PlainType) → variable_of t ≡ Some v → IsOpen s (entries state) t → IsLeft state (variable_named s v)
-open_variable s state (VariableTerm id type) v e h = subst (λ (w : List ℕ × PlainType). IsLeft state (variable_named s w)) (inside (id, type) v e) (Constant (sort_of s type), tt, h)
+open_variable s state (VariableTerm id type) v e h = subst (λ (w : List ℕ × PlainType). IsLeft state (variable_named s w)) (inside (id, type) v e) (Constant (type_sort s type), tt, h)
   where
     inside : (v w : List ℕ × PlainType) → Some v ≡ Some w → v ≡ w
     inside v w e = ap (λ (o : Option (List ℕ × PlainType)). unwrap_or o v) e
 open_variable s state t v e h = absurd (let z : None ≡ Some v = e in cc)
 
 open_op : (s : Tables) (state : State) (op : PlainOp) (f : PlainFunction) → function_of_op op ≡ Some f → IsOpOpen s (entries state) op → IsLeft state (function_name s f)
-open_op s state (UufOp g) f e h = subst (λ (k : PlainFunction). IsLeft state (function_name s k)) (inside g f e) (Function (sort_of s g.argument) (sort_of s g.output), tt, h)
+open_op s state (UufOp g) f e h = subst (λ (k : PlainFunction). IsLeft state (function_name s k)) (inside g f e) (Function (type_sort s g.argument) (type_sort s g.output), tt, h)
   where
     inside : (g f : PlainFunction) → Some g ≡ Some f → g ≡ f
     inside g f e = ap (λ (o : Option PlainFunction). unwrap_or o g) e

@@ -8,22 +8,22 @@ use Rattle.smt_term.specs.Reached.{reached_terms}
 use Rattle.smt_semantics.specs.Script.{Constant, Function, State, names_of}
 use Rattle.smt_semantics.specs.Sorts.{entries}
 use Rattle.smt_semantics.specs.Value.{ScriptInterpretation, IsScriptInterpretation, is_entry_given}
-use Rattle.smt_lines.specs.Naming.{sort_of}
-use Rattle.smt_lines.specs.Lines.{Tables}
-use Rattle.smt_carrying.specs.Interpretations.{variable_name, function_name}
+use Rattle.smt_lines.specs.Naming.{type_sort}
+use Rattle.smt_lines.specs.NameTables.{Tables}
+use Rattle.smt_carrying.specs.CarriedInterpretations.{variable_name, function_name}
 use Rattle.smt_carrying.proofs.Standing.{of_entry}
-use Rattle.smt_headline.specs.Standing.{IsOpOpen, IsOpen, IsOpGiven, IsNameGiven, InterpretationsGiveNames}
+use Rattle.smt_headline.specs.Reached.{IsOpOpen, IsOpen, IsOpGiven, IsNameGiven, InterpretationsGiveNames}
 
 module _ (s : Tables) (state : State) (J : ScriptInterpretation) (h : IsScriptInterpretation J state) where
   all_given : AllByRecursion (λ p. IsTrue (is_entry_given J (entries state) p.0 p.1)) (names_of state)
   all_given = recursion_from_All (λ p. IsTrue (is_entry_given J (entries state) p.0 p.1)) (names_of state) h.declared
 
   op_given : (op : PlainOp) → IsOpOpen s (entries state) op → IsOpGiven s (entries state) J op
-  op_given (UufOp f) o = of_entry (λ n x. IsTrue (is_entry_given J (entries state) n x)) (names_of state) all_given (function_name s f) (Function (sort_of s f.argument) (sort_of s f.output)) o
+  op_given (UufOp f) o = of_entry (λ n x. IsTrue (is_entry_given J (entries state) n x)) (names_of state) all_given (function_name s f) (Function (type_sort s f.argument) (type_sort s f.output)) o
   op_given op o = tt
 
   name_given : (t : PlainTerm) → IsOpen s (entries state) t → IsNameGiven s (entries state) J t
-  name_given (VariableTerm id t) o = of_entry (λ n x. IsTrue (is_entry_given J (entries state) n x)) (names_of state) all_given (variable_name s id t) (Constant (sort_of s t)) o
+  name_given (VariableTerm id t) o = of_entry (λ n x. IsTrue (is_entry_given J (entries state) n x)) (names_of state) all_given (variable_name s id t) (Constant (type_sort s t)) o
   name_given (Application op ts t) o = op_given op o
   name_given t o = tt
 

@@ -5,7 +5,7 @@ use Rattle.std.specs.Cmp.{first_so, second_so}
 use Rattle.std.specs.List.{AllByRecursion, list_all}
 use Rattle.std.specs.Ordering.{is_eq}
 use Rattle.std.proofs.lemmas.Bool.{ltb-true, eq-eqb, eqb-true}
-use Rattle.smt_term.specs.Plain.{IpAddrKind, DecimalKind, DatetimeKind, DurationKind, PlainType, OptionType, BoolType, EntityType, ExtensionType, RecordType, SetType, PlainOp, AndOp, BvaddOp, BvlshrOp, BvmulOp, BvnegOp, BvnegoOp, BvsaddoOp, BvsdivOp, BvshlOp, BvsleOp, BvsltOp, BvsmodOp, BvsmuloOp, BvsremOp, BvssuboOp, BvsubOp, BvudivOp, BvuleOp, BvultOp, BvuremOp, EqOp, ExtOp, IteOp, NotOp, OptionGetOp, OrOp, RecordGetOp, SetInterOp, SetMemberOp, SetSubsetOp, StringLikeOp, UufOp, ZeroExtendOp, PlainExtension, DecimalOf, Ipv4Of, Ipv6Of, DatetimeOf, DurationOf, PlainLiteral, BitVecLiteral, BoolLiteral, EntityLiteral, ExtensionLiteral, StringLiteral, PlainTerm, Application, NoneTerm, LiteralTerm, RecordTerm, SetTerm, SomeTerm, VariableTerm, PlainTerms, no_terms, one_term, PlainFields, no_fields, one_field}
+use Rattle.smt_term.specs.Plain.{IpAddrKind, DecimalKind, DatetimeKind, DurationKind, PlainType, OptionType, BoolType, EntityType, ExtensionType, RecordType, SetType, PlainOp, BvnegoOp, ExtOp, OptionGetOp, RecordGetOp, StringLikeOp, UufOp, ZeroExtendOp, PlainExtension, DecimalOf, Ipv4Of, Ipv6Of, DatetimeOf, DurationOf, PlainLiteral, BitVecLiteral, BoolLiteral, EntityLiteral, ExtensionLiteral, StringLiteral, PlainTerm, Application, NoneTerm, LiteralTerm, RecordTerm, SetTerm, SomeTerm, VariableTerm, PlainTerms, no_terms, one_term, PlainFields, no_fields, one_field}
 use Rattle.smt_term.specs.Meaning.{literal_value, meaning, meanings, field_meanings}
 use Rattle.smt_term.specs.Operators.{apply}
 use Rattle.smt_term.specs.Reached.{subterms, subterms_of_all, subterms_of_fields}
@@ -19,35 +19,40 @@ use Rattle.smt_term.proofs.Utf8Order.{utf8_order}
 use Rattle.smt_semantics.specs.ScriptValues.{ScriptValue, TextOf, ConstructorOf, SetOf, ScriptValues, no_script_values, one_script_value}
 use Rattle.smt_sexpr.specs.Lexicon.{Text}
 use Rattle.smt_sexpr.specs.Reading.{Expression, Leaf}
+use Rattle.smt_semantics.specs.ScriptOperators.{script_name}
 use Rattle.smt_semantics.specs.Script.{State, Builds, Defined, Constant, name, group, ◌>>=◌}
 use Rattle.smt_semantics.specs.Sorts.{entries, string_sort, each_there}
 use Rattle.smt_semantics.specs.Value.{ScriptInterpretation, expression_value, script_values, inserted}
 use Rattle.smt_semantics.specs.Meanings.{argument_values, is_own}
-use Rattle.smt_semantics.proofs.Apply.{constructors_apply, constructors_stand, nones_stand, sets_stand}
+use Rattle.smt_semantics.proofs.Apply.{constructors_apply, bare_constructors_have_values, nones_have_values, sets_have_values}
 use Rattle.smt_semantics.proofs.Quotes.{patterns_write}
-use Rattle.smt_lines.specs.Lines.{Tables, member_name, place_of, name_of_term, name_of_type, extension_body, operands, none_body, set_body, record_body, empty_set, negation_manner}
-use Rattle.smt_lines.specs.Naming.{sort_of, type_name}
-use Rattle.smt_lines.specs.Entries.{HasSort, HaveTexts, HaveFieldTexts, HasFunction, text_of, given, texts_of, texts_of_fields, sorts_of, head_of, term_lines, application_lines, entity_literal_lines}
-use Rattle.smt_lines.specs.Fit.{EachLine, LineStands, HasRecord}
+use Rattle.smt_lines.specs.LineForms.{extension_body, none_body, set_body, record_body, empty_set, application_body}
+use Rattle.smt_lines.specs.EntryNames.{member_name, place_of}
+use Rattle.smt_lines.specs.Lines.{negation_rendering}
+use Rattle.smt_lines.specs.NameTables.{Tables, name_of_term, name_of_type}
+use Rattle.smt_lines.specs.Naming.{type_sort, type_name}
+use Rattle.smt_lines.specs.Entries.{TypeHasEntries, HaveTexts, HaveFieldTexts, HasFunction, text_or_nothing, texts_of, texts_of_fields, attribute_sorts, application_head, term_lines, application_lines, entity_literal_lines}
+use Rattle.smt_lines.specs.TermTexts.{text_of}
+use Rattle.smt_lines.specs.Fit.{EachLine, LineIsDeclared, HasRecord}
 use Rattle.smt_lines.proofs.Declared.{terms_are_declared, types_are_declared}
 use Rattle.smt_carrying.specs.Carry.{carry, carry_entity, carry_fields}
-use Rattle.smt_carrying.specs.Interpretations.{carry_constant}
-use Rattle.smt_carrying.specs.Operators.{carry_each}
-use Rattle.smt_carrying.specs.Order.{AreMembers}
-use Rattle.smt_carrying.specs.Sorts.{member_constructors, entity_constructors, IsNamed}
+use Rattle.smt_carrying.specs.CarriedInterpretations.{carry_constant}
+use Rattle.smt_carrying.specs.CarriedOperators.{carry_each}
+use Rattle.smt_carrying.specs.CarriedOrder.{AreMembers}
+use Rattle.smt_carrying.specs.CarriedSorts.{shown_members, shown_entity, IsNamed}
 use Rattle.smt_carrying.proofs.Keys.{term_keyed}
 use Rattle.smt_carrying.proofs.Members.{tests_same, members_found}
 use Rattle.smt_carrying.proofs.Sets.{insertions}
-use Rattle.smt_headline.specs.Texts.{HasText}
+use Rattle.smt_headline.specs.TextValues.{HasText}
 use Rattle.smt_headline.proofs.Applied.{operator, extended, matched, function, attribute_of, inside_of, negation}
-use Rattle.smt_headline.proofs.Distinct.{MemberNamed}
+use Rattle.smt_headline.specs.Fits.{IsMemberName}
 use Rattle.smt_headline.proofs.Extensions.{built, none_there, some_entry, extension_worth, body_worth}
 use Rattle.smt_headline.proofs.Named.{all_append, own, some_there, text_sort}
 use Rattle.smt_headline.proofs.Types.{type_stands, selectors_shown}
 use Rattle.smt_headline.proofs.Valued.{IsValued, AreValued, HaveValues}
 use Rattle.smt_headline.proofs.Worth.{Follows, carried, Worth, AreWorth, IsEntered, bits_worth, bits_fit, from_body, name_good, some_text, by_name, text_sorted}
 use Rattle.smt_term.proofs.Soundness.{chosen}
-use Rattle.smt_semantics.specs.Growth.{at_place}
+use Rattle.smt_semantics.specs.DeclarationLines.{at_place}
 
 none_is : (t : PlainType) → None ≡ Some t → ⊥
 none_is t h = cc
@@ -69,7 +74,7 @@ place_of_chars : (i : List ℕ) (ms : List (List ℕ)) → IsUtf8 i → AllByRec
 place_of_chars i [] h k = refl
 place_of_chars i (m ∷ ms) h k = let e = same_chars i m h k.0 in let r = place_of_chars i ms h k.1 in λ z. if e z then 0 else suc (r z)
 
-member_at : (d : List ℕ) (from : ℕ) (ms : List (List ℕ)) (place : ℕ) → place < length ms → at_place (member_constructors d from ms) place ≡ Some (member_name d (from + place), [])
+member_at : (d : List ℕ) (from : ℕ) (ms : List (List ℕ)) (place : ℕ) → place < length ms → at_place (shown_members d from ms) place ≡ Some (member_name d (from + place), [])
 member_at d from [] place lt = absurd (omega arith)
 member_at d from (m ∷ ms) zero lt = let z : from ≡ from + zero = omega arith in ap (λ (k : ℕ). Some (member_name d k, [])) z
 member_at d from (m ∷ ms) (suc place) lt =
@@ -86,35 +91,9 @@ module _ (enums : Enums) (s : Tables) (state : State) (I : Interpretation) (x : 
 
   -- ---- applications
 
-  applied : (op : PlainOp) (ts : PlainTerms) (type : PlainType) → stands_as_it_is op ≡ true → IsValued enums I (Application op ts type) → HaveTexts s ts → HasFunction s op → HasRecord s op ts → HasSort s type → AreWorth enums s state I ts
-      → Has (group (head_of enums s op ts ∷ operands op (texts_of s ts))) type (apply I op type (meanings I ts))
-  applied AndOp ts type o k h f r q a = operator enums s state I x (codes "and") AndOp ts type refl refl k.1 k.0 a
-  applied BvaddOp ts type o k h f r q a = operator enums s state I x (codes "bvadd") BvaddOp ts type refl refl k.1 k.0 a
-  applied BvlshrOp ts type o k h f r q a = operator enums s state I x (codes "bvlshr") BvlshrOp ts type refl refl k.1 k.0 a
-  applied BvmulOp ts type o k h f r q a = operator enums s state I x (codes "bvmul") BvmulOp ts type refl refl k.1 k.0 a
-  applied BvnegOp ts type o k h f r q a = operator enums s state I x (codes "bvneg") BvnegOp ts type refl refl k.1 k.0 a
+  applied : (op : PlainOp) (ts : PlainTerms) (type : PlainType) → stands_as_it_is op ≡ true → IsValued enums I (Application op ts type) → HaveTexts s ts → HasFunction s op → HasRecord s op ts → TypeHasEntries s type → AreWorth enums s state I ts
+      → Has (application_body (application_head enums s op ts) op (texts_of s ts)) type (apply I op type (meanings I ts))
   applied BvnegoOp ts type o k h f r q a = absurd cc
-  applied BvsaddoOp ts type o k h f r q a = operator enums s state I x (codes "bvsaddo") BvsaddoOp ts type refl refl k.1 k.0 a
-  applied BvsdivOp ts type o k h f r q a = operator enums s state I x (codes "bvsdiv") BvsdivOp ts type refl refl k.1 k.0 a
-  applied BvshlOp ts type o k h f r q a = operator enums s state I x (codes "bvshl") BvshlOp ts type refl refl k.1 k.0 a
-  applied BvsleOp ts type o k h f r q a = operator enums s state I x (codes "bvsle") BvsleOp ts type refl refl k.1 k.0 a
-  applied BvsltOp ts type o k h f r q a = operator enums s state I x (codes "bvslt") BvsltOp ts type refl refl k.1 k.0 a
-  applied BvsmodOp ts type o k h f r q a = operator enums s state I x (codes "bvsmod") BvsmodOp ts type refl refl k.1 k.0 a
-  applied BvsmuloOp ts type o k h f r q a = operator enums s state I x (codes "bvsmulo") BvsmuloOp ts type refl refl k.1 k.0 a
-  applied BvsremOp ts type o k h f r q a = operator enums s state I x (codes "bvsrem") BvsremOp ts type refl refl k.1 k.0 a
-  applied BvssuboOp ts type o k h f r q a = operator enums s state I x (codes "bvssubo") BvssuboOp ts type refl refl k.1 k.0 a
-  applied BvsubOp ts type o k h f r q a = operator enums s state I x (codes "bvsub") BvsubOp ts type refl refl k.1 k.0 a
-  applied BvudivOp ts type o k h f r q a = operator enums s state I x (codes "bvudiv") BvudivOp ts type refl refl k.1 k.0 a
-  applied BvuleOp ts type o k h f r q a = operator enums s state I x (codes "bvule") BvuleOp ts type refl refl k.1 k.0 a
-  applied BvultOp ts type o k h f r q a = operator enums s state I x (codes "bvult") BvultOp ts type refl refl k.1 k.0 a
-  applied BvuremOp ts type o k h f r q a = operator enums s state I x (codes "bvurem") BvuremOp ts type refl refl k.1 k.0 a
-  applied EqOp ts type o k h f r q a = operator enums s state I x (codes "=") EqOp ts type refl refl k.1 k.0 a
-  applied IteOp ts type o k h f r q a = operator enums s state I x (codes "ite") IteOp ts type refl refl k.1 k.0 a
-  applied NotOp ts type o k h f r q a = operator enums s state I x (codes "not") NotOp ts type refl refl k.1 k.0 a
-  applied OrOp ts type o k h f r q a = operator enums s state I x (codes "or") OrOp ts type refl refl k.1 k.0 a
-  applied SetInterOp ts type o k h f r q a = operator enums s state I x (codes "set.inter") SetInterOp ts type refl refl k.1 k.0 a
-  applied SetMemberOp ts type o k h f r q a = operator enums s state I x (codes "set.member") SetMemberOp ts type refl refl k.1 k.0 a
-  applied SetSubsetOp ts type o k h f r q a = operator enums s state I x (codes "set.subset") SetSubsetOp ts type refl refl k.1 k.0 a
   applied (ZeroExtendOp n) no_terms type o k h f r q a = absurd (none_is type k.1)
   applied (ZeroExtendOp n) (one_term t no_terms) type o k h f r q a = extended enums s state I x n t type k.1 k.0.1 a.0
   applied (ZeroExtendOp n) (one_term t (one_term u ts)) type o k h f r q a = absurd (none_is type k.1)
@@ -135,28 +114,30 @@ module _ (enums : Enums) (s : Tables) (state : State) (I : Interpretation) (x : 
   applied (ExtOp e) (one_term t no_terms) type o k h f r q a =
       let c : (type_eq (type_of t) (extension_signature e).0 ≡ true) × ((extension_signature e).1 ≡ type) = chosen (type_eq (type_of t) (extension_signature e).0) (extension_signature e).1 type k.1 in
       let same : type_of t ≡ (extension_signature e).0 = eq_same (type_of t) (extension_signature e).0 c.0 in
-      subst (λ u. Has (group (head_of enums s (ExtOp e) (one_term t no_terms) ∷ given (text_of s t) ∷ [])) u (apply I (ExtOp e) type (meaning I t ∷ []))) c.1
-      (extension_worth enums s state I x e (given (text_of s t)) (meaning I t) k.2 (subst (HasSort s) same (text_sort enums s state x.fit t h.0)) (subst (HasSort s) (sym c.1) q)
-      (λ entered. (sort_of s (type_of t), text_sorted enums s state I x t (subst IsEntered (sym same) entered) h.0))
-      (subst (λ u. IsValue enums u (meaning I t)) same k.0.1) (subst (λ u. Has (given (text_of s t)) u (meaning I t)) same a.0))
+      subst (λ u. Has (group (application_head enums s (ExtOp e) (one_term t no_terms) ∷ text_or_nothing (text_of s t) ∷ [])) u (apply I (ExtOp e) type (meaning I t ∷ []))) c.1
+      (extension_worth enums s state I x e (text_or_nothing (text_of s t)) (meaning I t) k.2 (subst (TypeHasEntries s) same (text_sort enums s state x.fit t h.0)) (subst (TypeHasEntries s) (sym c.1) q)
+      (λ entered. (type_sort s (type_of t), text_sorted enums s state I x t (subst IsEntered (sym same) entered) h.0))
+      (subst (λ u. IsValue enums u (meaning I t)) same k.0.1) (subst (λ u. Has (text_or_nothing (text_of s t)) u (meaning I t)) same a.0))
   applied (ExtOp e) (one_term t (one_term u ts)) type o k h f r q a = absurd (none_is type k.1)
+  -- each other operator is one of a theory
+  applied op ts type o k h f r q a = operator enums s state I x (script_name op) op ts type refl refl k.1 k.0 a
 
-  application : (op : PlainOp) (ts : PlainTerms) (type : PlainType) (n : List ℕ) → EachLine (LineStands state) (term_lines enums s (Application op ts type) n) → IsValued enums I (Application op ts type) → HaveTexts s ts → HasFunction s op → HasRecord s op ts → HasSort s type → AreWorth enums s state I ts
+  application : (op : PlainOp) (ts : PlainTerms) (type : PlainType) (n : List ℕ) → EachLine (LineIsDeclared state) (term_lines enums s (Application op ts type) n) → IsValued enums I (Application op ts type) → HaveTexts s ts → HasFunction s op → HasRecord s op ts → TypeHasEntries s type → AreWorth enums s state I ts
       → Has (name n) type (apply I op type (meanings I ts))
   application BvnegoOp no_terms type n l k h f r q a = absurd (none_is type k.1)
   application BvnegoOp (one_term t no_terms) type n l k h f r q a =
       let c : (is_bits (type_of t) ≡ true) × (BoolType ≡ type) = chosen (is_bits (type_of t)) BoolType type k.1 in
       subst (λ u. Has (name n) u (apply I BvnegoOp u (meaning I t ∷ []))) c.1
       (negation enums s state I x t (type_of t) n c.0 k.0.2
-      (subst (λ u. EachLine (LineStands state) (application_lines enums s (negation_manner (one_term t no_terms) u) BvnegoOp (one_term t no_terms) u n)) (sym c.1) l) k.0.1 a.0)
+      (subst (λ u. EachLine (LineIsDeclared state) (application_lines enums s (negation_rendering (one_term t no_terms) u) BvnegoOp (one_term t no_terms) u n)) (sym c.1) l) k.0.1 a.0)
   application BvnegoOp (one_term t (one_term u ts)) type n l k h f r q a = absurd (none_is type k.1)
   application op ts type n l k h f r q a =
-      from_body enums s state I x n (sort_of s type) (group (head_of enums s op ts ∷ operands op (texts_of s ts))) (Some (carry enums s type (apply I op type (meanings I ts)))) l.0 (applied op ts type refl k h f r q a)
+      from_body enums s state I x n (type_sort s type) (application_body (application_head enums s op ts) op (texts_of s ts)) (Some (carry enums s type (apply I op type (meanings I ts)))) l.0 (applied op ts type refl k h f r q a)
 
   -- ---- literals
 
-  entity_worth : (o : Option (List (List ℕ))) (type id n : List ℕ) → IsNamed (entries state) (type_name s (EntityType type)) (entity_constructors o (type_name s (EntityType type))) → EachLine (LineStands state) (entity_literal_lines o (type_name s (EntityType type)) id n)
-      → MemberNamed o s type id n → IfSome o AreMembers → IsUtf8 id → expression_value J state (name n) ≡ Some (carry_entity o (type_name s (EntityType type)) (chars id))
+  entity_worth : (o : Option (List (List ℕ))) (type id n : List ℕ) → IsNamed (entries state) (type_name s (EntityType type)) (shown_entity o (type_name s (EntityType type))) → EachLine (LineIsDeclared state) (entity_literal_lines o (type_name s (EntityType type)) id n)
+      → IsMemberName o s type id n → IfSome o AreMembers → IsUtf8 id → expression_value J state (name n) ≡ Some (carry_entity o (type_name s (EntityType type)) (chars id))
   entity_worth None type id n d l m g u =
       let c = type_name s (EntityType type) in
       from_body enums s state I x n (name c) (group (name c ∷ Leaf (Text (chars id)) ∷ [])) (Some (carry_entity None c (chars id))) l.0
@@ -168,10 +149,10 @@ module _ (enums : Enums) (s : Tables) (state : State) (I : Interpretation) (x : 
       let z : 0 + place ≡ place = omega arith in
       let entry : entries state (member_name c place) ≡ Some (Builds c [] place []) = d.datatype.builds place (member_name c place) [] (at ∙ ap (λ (k : ℕ). Some (member_name c k, [])) z) in
       ap (λ (l : List ℕ). expression_value J state (name l)) m.1
-      ∙ constructors_stand J state (member_name c place) c [] place (x.last.own (member_name c place) (Builds c [] place []) entry) entry
+      ∙ bare_constructors_have_values J state (member_name c place) c [] place (x.last.own (member_name c place) (Builds c [] place []) entry) entry
       ∙ ap (λ (k : ℕ). Some (ConstructorOf k (member_name c k) no_script_values)) (sym (place_of_chars id ms u g.texts))
 
-  extension_literal : (y : PlainExtension) (n : List ℕ) (sort : Expression) → entries state n ≡ Some (Defined sort (extension_body y)) → IsValue enums (literal_type (ExtensionLiteral y)) (ExtensionValue y) → HasSort s (ExtensionType (kind_of y))
+  extension_literal : (y : PlainExtension) (n : List ℕ) (sort : Expression) → entries state n ≡ Some (Defined sort (extension_body y)) → IsValue enums (literal_type (ExtensionLiteral y)) (ExtensionValue y) → TypeHasEntries s (ExtensionType (kind_of y))
       → Has (name n) (literal_type (ExtensionLiteral y)) (ExtensionValue y)
   extension_literal (DecimalOf z) n sort h v k = from_body enums s state I x n sort (extension_body (DecimalOf z)) _ h (body_worth enums s state I x (DecimalOf z) DecimalKind v k)
   extension_literal (Ipv4Of a p) n sort h v k = from_body enums s state I x n sort (extension_body (Ipv4Of a p)) _ h (body_worth enums s state I x (Ipv4Of a p) IpAddrKind v k)
@@ -179,7 +160,7 @@ module _ (enums : Enums) (s : Tables) (state : State) (I : Interpretation) (x : 
   extension_literal (DatetimeOf z) n sort h v k = from_body enums s state I x n sort (extension_body (DatetimeOf z)) _ h (body_worth enums s state I x (DatetimeOf z) DatetimeKind v k)
   extension_literal (DurationOf z) n sort h v k = from_body enums s state I x n sort (extension_body (DurationOf z)) _ h (body_worth enums s state I x (DurationOf z) DurationKind v k)
 
-  literal_worth : (l : PlainLiteral) → IsValued enums I (LiteralTerm l) → IsSome (text_of s (LiteralTerm l)) → Has (given (text_of s (LiteralTerm l))) (literal_type l) (literal_value l)
+  literal_worth : (l : PlainLiteral) → IsValued enums I (LiteralTerm l) → IsSome (text_of s (LiteralTerm l)) → Has (text_or_nothing (text_of s (LiteralTerm l))) (literal_type l) (literal_value l)
   literal_worth (BitVecLiteral w n) k h = bits_worth enums s state I w n (bits_fit w n k.3 k.1)
   literal_worth (BoolLiteral true) k h = refl
   literal_worth (BoolLiteral false) k h = refl
@@ -188,7 +169,7 @@ module _ (enums : Enums) (s : Tables) (state : State) (I : Interpretation) (x : 
       let t = LiteralTerm (EntityLiteral type id) in
       by_name enums s state I x (λ e. expression_value J state e ≡ Some (carry_entity (members_of enums type) (type_name s (EntityType type)) (chars id))) t _ refl h
       (λ n q. (let d = terms_are_declared enums s state t n x.fit q in
-      entity_worth (members_of enums type) type id n (type_stands enums s state x.fit (EntityType type) tt d.2) d.0 (name_good enums s state I x t n q) (members_found enums type x.enum_types) k.1))
+      entity_worth (members_of enums type) type id n (type_stands enums s state x.fit (EntityType type) k.3 d.2) d.0 (name_good enums s state I x t n q) (members_found enums type x.enum_types) k.1))
   literal_worth (ExtensionLiteral y) k h =
       let t = LiteralTerm (ExtensionLiteral y) in
       by_name enums s state I x (λ e. Has e (literal_type (ExtensionLiteral y)) (ExtensionValue y)) t _ refl h
@@ -198,7 +179,7 @@ module _ (enums : Enums) (s : Tables) (state : State) (I : Interpretation) (x : 
 
   abbrev AreFieldsWorth : PlainFields → Type 0
   AreFieldsWorth no_fields = Unit {0}
-  AreFieldsWorth (one_field a t fs) = Has (given (text_of s t)) (type_of t) (meaning I t) × AreFieldsWorth fs
+  AreFieldsWorth (one_field a t fs) = Has (text_or_nothing (text_of s t)) (type_of t) (meaning I t) × AreFieldsWorth fs
 
   abbrev listed : PlainFields → List ScriptValue
   listed no_fields = []
@@ -212,27 +193,35 @@ module _ (enums : Enums) (s : Tables) (state : State) (I : Interpretation) (x : 
   field_arguments no_fields h = refl
   field_arguments (one_field a t fs) h = ap₂ (λ (o : Option ScriptValue) (p : Option (List ScriptValue)). o >>= λ v. p >>= λ vs. Some (v ∷ vs)) h.0 (field_arguments fs h.1)
 
-  fields_counted : (fs : PlainFields) → length (listed fs) ≡ length (sorts_of s (field_types fs))
+  fields_counted : (fs : PlainFields) → length (listed fs) ≡ length (attribute_sorts s (field_types fs))
   fields_counted no_fields = refl
   fields_counted (one_field a t fs) = ap suc (fields_counted fs)
 
   built_record : (fs : PlainFields) (n : List ℕ) (sorts : List Expression) → is_own n ≡ true → entries state n ≡ Some (Builds n [] 0 sorts) → (length (listed fs) == length sorts) ≡ true → AreFieldsWorth fs
       → expression_value J state (record_body (name n) (texts_of_fields s fs)) ≡ Some (ConstructorOf 0 n (script_values (listed fs)))
-  built_record no_fields n [] own h l a = constructors_stand J state n n [] 0 own h
+  built_record no_fields n [] own h l a = bare_constructors_have_values J state n n [] 0 own h
   built_record no_fields n (e ∷ es) own h l a = absurd (none_as_many (length es) l)
-  built_record (one_field c t fs) n sorts own h l a = constructors_apply J state n n [] 0 sorts (texts_of_fields s (one_field c t fs)) (listed (one_field c t fs)) own h (field_arguments (one_field c t fs) a) l
+  built_record (one_field c t fs) n sorts own h l a = constructors_apply J state n n [] 0 sorts (text_or_nothing (text_of s t)) (texts_of_fields s fs) (listed (one_field c t fs)) own h (field_arguments (one_field c t fs) a) l
 
-  record_worth : (fs : PlainFields) → HasSort s (RecordType (field_types fs)) → AreFieldsWorth fs → Has (record_body (name (type_name s (RecordType (field_types fs)))) (texts_of_fields s fs)) (RecordType (field_types fs)) (RecordValue (field_meanings I fs))
+  record_worth : (fs : PlainFields) → TypeHasEntries s (RecordType (field_types fs)) → AreFieldsWorth fs → Has (record_body (name (type_name s (RecordType (field_types fs)))) (texts_of_fields s fs)) (RecordType (field_types fs)) (RecordValue (field_meanings I fs))
   record_worth fs sort a =
       let u = RecordType (field_types fs) in
       let n = type_name s u in
-      let es = sorts_of s (field_types fs) in
+      let es = attribute_sorts s (field_types fs) in
       let d = (types_are_declared enums s state u n x.fit (some_there (name_of_type s u) sort)).0.1.0.1.0 in
       let entry = subst (λ (fields : List Expression). entries state n ≡ Some (Builds n [] 0 fields)) (selectors_shown enums s state x.fit n 0 es) d in
       built_record fs n es (x.last.own n (Builds n [] 0 es) entry) entry (eq-eqb (length (listed fs)) (length es) (fields_counted fs)) a
       ∙ ap (λ (vs : ScriptValues). Some (ConstructorOf 0 n vs)) (fields_listed fs)
 
   -- ---- sets
+
+  empty_worth : (sort : Expression) → expression_value J state (empty_set sort) ≡ Some (SetOf no_script_values)
+  empty_worth sort = (sets_have_values J state sort sort sort []).0
+
+  -- an element before others, and last a set
+  insertion_worth : (sort e : Expression) (es : List Expression) (f : Expression) → expression_value J state (group (name (codes "set.insert") ∷ e ∷ (es ++ f ∷ []))) ≡ (argument_values J state (e ∷ (es ++ f ∷ [])) >>= inserted)
+  insertion_worth sort e [] f = (sets_have_values J state sort e f []).1
+  insertion_worth sort e (d ∷ es) f = (sets_have_values J state sort e d (es ++ f ∷ [])).1
 
   arguments_then : (ts : PlainTerms) (e : Expression) (v : ScriptValue) → AreWorth enums s state I ts → expression_value J state e ≡ Some v → argument_values J state (texts_of s ts ++ e ∷ []) ≡ Some (carry_each enums s (types_of ts) (meanings I ts) ++ v ∷ [])
   arguments_then no_terms e v a h = ap (λ (o : Option ScriptValue). each_there (o ∷ [])) h
@@ -245,35 +234,35 @@ module _ (enums : Enums) (s : Tables) (state : State) (I : Interpretation) (x : 
       let r = elements u ts (second_so (type_eq u (type_of t)) (list_all (type_eq u) (types_of ts)) h) k.3 in
       (ap₂ (λ (y : PlainType) (vs : List ScriptValue). carry enums s y (meaning I t) ∷ vs) (sym e) r.0, (subst (λ y. IsValue enums y (meaning I t)) (sym e) k.1, r.1))
 
-  set_worth : (u : PlainType) (ts : PlainTerms) → list_all (type_eq u) (types_of ts) ≡ true → AreValued enums I ts → AreWorth enums s state I ts → Has (set_body (sort_of s (SetType u)) (texts_of s ts)) (SetType u) (set_of (meanings I ts))
-  set_worth u no_terms h k a = (sets_stand J state (sort_of s (SetType u)) []).0 ∙ insertions enums s x.enum_types u [] tt
+  set_worth : (u : PlainType) (ts : PlainTerms) → list_all (type_eq u) (types_of ts) ≡ true → AreValued enums I ts → AreWorth enums s state I ts → Has (set_body (type_sort s (SetType u)) (texts_of s ts)) (SetType u) (set_of (meanings I ts))
+  set_worth u no_terms h k a = empty_worth (type_sort s (SetType u)) ∙ insertions enums s x.enum_types u [] tt
   set_worth u (one_term t ts) h k a =
-      let sort = sort_of s (SetType u) in
+      let sort = type_sort s (SetType u) in
       let r = elements u (one_term t ts) h k in
-      (sets_stand J state sort (texts_of s (one_term t ts) ++ empty_set sort ∷ [])).1
-      ∙ ap (λ (o : Option (List ScriptValue)). o >>= inserted) (arguments_then (one_term t ts) (empty_set sort) (SetOf no_script_values) a (sets_stand J state sort []).0)
+      insertion_worth sort (text_or_nothing (text_of s t)) (texts_of s ts) (empty_set sort)
+      ∙ ap (λ (o : Option (List ScriptValue)). o >>= inserted) (arguments_then (one_term t ts) (empty_set sort) (SetOf no_script_values) a (empty_worth sort))
       ∙ ap (λ (vs : List ScriptValue). inserted (vs ++ SetOf no_script_values ∷ [])) r.0
       ∙ insertions enums s x.enum_types u (meanings I (one_term t ts)) r.1
 
   -- ---- variables
 
-  variable_worth : (id : List ℕ) (type : PlainType) (n : List ℕ) → name_of_term s (VariableTerm id type) ≡ Some n → entries state n ≡ Some (Constant (sort_of s type)) → Has (name n) type (I.variable id type)
+  variable_worth : (id : List ℕ) (type : PlainType) (n : List ℕ) → name_of_term s (VariableTerm id type) ≡ Some n → entries state n ≡ Some (Constant (type_sort s type)) → Has (name n) type (I.variable id type)
   variable_worth id type n q h =
-      (x.last.constants n (sort_of s type) h).0 ∙ ap (λ (o : Option PlainTerm). Some (carry_constant enums s I o)) (term_keyed s (VariableTerm id type) n x.one_to_one.terms q)
+      (x.last.constants n (type_sort s type) h).0 ∙ ap (λ (o : Option PlainTerm). Some (carry_constant enums s I o)) (term_keyed s (VariableTerm id type) n x.one_to_one.terms q)
 
   -- ---- all terms
 
   mutual
-    pub worth : (t : PlainTerm) → IsValued enums I t → IsSome (text_of s t) → Has (given (text_of s t)) (type_of t) (meaning I t)
+    pub worth : (t : PlainTerm) → IsValued enums I t → IsSome (text_of s t) → Has (text_or_nothing (text_of s t)) (type_of t) (meaning I t)
     worth (Application op ts type) k h =
         by_name enums s state I x (λ e. Has e type (apply I op type (meanings I ts))) (Application op ts type) _ refl h
         (λ n q. (let d = terms_are_declared enums s state (Application op ts type) n x.fit q in
         application op ts type n d.0 k d.1.0.0 d.1.0.1 d.1.1 d.2 (all_worth ts k.0 d.1.0.0)))
     worth (NoneTerm type) k h =
         by_name enums s state I x (λ e. Has e (OptionType type) NoneValue) (NoneTerm type) _ refl h
-        (λ n q. (let sort = sort_of s (OptionType type) in
+        (λ n q. (let sort = type_sort s (OptionType type) in
         from_body enums s state I x n sort (none_body sort) _ (terms_are_declared enums s state (NoneTerm type) n x.fit q).0.0
-        (nones_stand J state (codes "Option") (codes "X" ∷ []) 0 sort (none_there enums s state I x))))
+        (nones_have_values J state (codes "Option") (codes "X" ∷ []) 0 sort (none_there enums s state I x))))
     worth (LiteralTerm l) k h = literal_worth l k h
     worth (RecordTerm fs) k h =
         by_name enums s state I x (λ e. Has e (RecordType (field_types fs)) (RecordValue (field_meanings I fs))) (RecordTerm fs) _ refl h
@@ -287,7 +276,7 @@ module _ (enums : Enums) (s : Tables) (state : State) (I : Interpretation) (x : 
         by_name enums s state I x (λ e. Has e (OptionType (type_of t)) (SomeValue (meaning I t))) (SomeTerm t) _ refl h
         (λ n q. (let d = terms_are_declared enums s state (SomeTerm t) n x.fit q in
         from_body enums s state I x n _ _ _ d.0.0
-        (built enums s state I x (codes "some") (codes "Option") (codes "X" ∷ []) 1 (name (codes "X")) (given (text_of s t)) (carry enums s (type_of t) (meaning I t)) (some_entry enums s state I x) (worth t k d.1.0))))
+        (built enums s state I x (codes "some") (codes "Option") (codes "X" ∷ []) 1 (name (codes "X")) (text_or_nothing (text_of s t)) (carry enums s (type_of t) (meaning I t)) (some_entry enums s state I x) (worth t k d.1.0))))
     worth (VariableTerm id type) k h =
         by_name enums s state I x (λ e. Has e type (I.variable id type)) (VariableTerm id type) _ refl h
         (λ n q. variable_worth id type n q (terms_are_declared enums s state (VariableTerm id type) n x.fit q).0.1.0)
@@ -303,7 +292,7 @@ module _ (enums : Enums) (s : Tables) (state : State) (I : Interpretation) (x : 
   -- ---- all that they reach
 
   has_text : (t : PlainTerm) → IsValued enums I t → IsSome (text_of s t) → HasText enums s state I t
-  has_text t k h = record { text = given (text_of s t); stands = some_text (text_of s t) h; value = worth t k h }
+  has_text t k h = record { text = text_or_nothing (text_of s t); is_text = some_text (text_of s t) h; value = worth t k h }
 
   abbrev All : List PlainTerm → Type 0
   All ts = AllByRecursion (HasText enums s state I) ts

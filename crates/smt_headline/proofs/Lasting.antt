@@ -1,26 +1,16 @@
 -- Names keep what their commands give them.
 use Rattle.std.proofs.Common.{◌≡◌, ◌⊎◌, ℕ, suc, Bool, true, false, not, ◌&&◌, ◌||◌, eqb, cond, List, [], ◌∷◌, map, length, refl, sym, ◌∙◌, subst, inl, inr, Option, Some, None}
 use Rattle.std.specs.Prelude.{bytes_eq}
-use Rattle.std.specs.List.{AllByRecursion, list_any}
 use Rattle.std.proofs.lemmas.Bool.{or_parts}
 use Rattle.std.proofs.lemmas.Slice.Eq.{bytes_eq-Decides}
 use Rattle.smt_sexpr.specs.Reading.{Expression}
-use Rattle.smt_semantics.specs.Script.{Command, DeclareDatatype, DeclareConst, DefineFun, Assert, DeclareFun, Reset, Exit, Push, Pop, Constructor, Entry, Constant, Function, Defined, Builds, Selects, State, name, start, built_in_names, is_in, is_reserved, has_name, is_taken, is_taken_sort, is_sort, has_sort, knows, names_of, look_up, declare, declare_selectors, declare_constructors, with_name, with_sort, with_assertion, obey, step, run, ◌>>=◌}
-use Rattle.smt_semantics.specs.Sorts.{entries, sort_of}
+use Rattle.smt_semantics.specs.Script.{Command, DeclareDatatype, DeclareConst, DefineFun, Assert, DeclareFun, SetLogic, SetOption, Reset, Exit, Push, Pop, Constructor, Entry, Constant, Function, Defined, Builds, Selects, State, name, start, built_in_names, is_in, is_reserved, has_name, is_taken, is_new_datatype, is_simple_symbol, is_sort, has_sort, knows, names_of, look_up, declare, declare_selectors, declare_constructors, with_level, with_name, with_sort, with_assertion, obey, step, ◌>>=◌}
+use Rattle.smt_semantics.specs.Sorts.{entries, expression_sort}
 use Rattle.smt_semantics.specs.Value.{ScriptInterpretation, expression_value}
 use Rattle.smt_semantics.specs.Meanings.{is_own}
 use Rattle.smt_semantics.proofs.Keeps.{steps_keep_values, names_have_values}
-use Rattle.smt_term.specs.Plain.{PlainTerm}
-use Rattle.smt_term.specs.Reached.{reached_terms}
-use Rattle.smt_lines.specs.Line as lines
-use Rattle.smt_lines.specs.Line.{Line}
-use Rattle.smt_lines.specs.Lines.{Tables, no_names, option_line, encode}
-use Rattle.smt_lines.specs.Text.{names}
-use Rattle.smt_lines.specs.Command.{commands}
-use Rattle.smt_lines.specs.Fit.{EachLine}
-use Rattle.smt_headline.specs.Texts.{NamesLast, StatedNamesLast}
-use Rattle.smt_headline.proofs.Open.{lines_origins}
-use Rattle.smt_headline.proofs.Origins.{OriginOf}
+use Rattle.smt_headline.specs.TextValues.{NamesLast, ScriptNamesLast}
+use Rattle.smt_headline.proofs.EachState.{IsWithin, not_reset, not_pop, script_has}
 use Rattle.smt_semantics.proofs.Results.{some_is, if_so, bind_gives, or_right}
 
 -- ---- names that a command adds
@@ -87,13 +77,6 @@ constructors_add d ps place (c ∷ cs) s t e =
     adds_then IsBuilt s p.0 t (declare_adds IsBuilt c.name x tt s p.0 p.1)
     (adds_then IsBuilt p.0 q.0 t (selectors_add d ps c.name 0 c.selectors p.0 q.0 q.1) (constructors_add d ps (suc place) cs q.0 t q.2))
 
--- a command within one level
-abbrev pub IsWithin : Command → Type 0
-IsWithin Reset = ⊥
-IsWithin Push = ⊥
-IsWithin Pop = ⊥
-IsWithin c = Unit {0}
-
 -- what a command declares
 abbrev MadeBy : Command → List ℕ → Entry → Type 0
 MadeBy (DefineFun n sort body) m y = (n ≡ m) × (Defined sort body ≡ y)
@@ -102,7 +85,7 @@ MadeBy c m y = IsBuilt m y
 
 obey_adds : (c : Command) → IsWithin c → (s t : State) → obey c s ≡ Some t → Adds (MadeBy c) s t
 obey_adds (DeclareDatatype d ps cs) k s t e =
-    let o = passed (is_taken_sort s d || list_any (is_taken_sort s) ps) (declare_constructors d ps 0 cs s >>= λ u. Some (with_sort d (length ps) u)) t e in
+    let o = if_so (is_new_datatype s d ps cs) (declare_constructors d ps 0 cs s >>= λ u. Some (with_sort d (length ps) u)) t e in
     let p = bind_gives (declare_constructors d ps 0 cs s) (λ u. Some (with_sort d (length ps) u)) t o.1 in
     subst (λ (u : State). Adds IsBuilt s u) (some_is (with_sort d (length ps) p.0) t p.2) (constructors_add d ps 0 cs s p.0 p.1)
 obey_adds (DeclareConst n sort) k s t e = declare_adds (MadeBy (DeclareConst n sort)) n (Constant sort) (refl, refl) s t (if_so (is_sort (has_sort s) sort) (declare n (Constant sort) s) t e).1
@@ -113,6 +96,8 @@ obey_adds Reset k s t e = absurd k
 obey_adds Push k s t e = absurd k
 obey_adds Pop k s t e = absurd k
 obey_adds Exit k s t e = subst (λ (u : State). Adds IsBuilt s u) (some_is (record s { ended = true }) t e) (λ m y h. inl h)
+obey_adds (SetLogic l) k s t e = adds_none IsBuilt s t (some_is s t (if_so (is_simple_symbol l) (Some s) t e).1)
+obey_adds (SetOption o v) k s t e = adds_none IsBuilt s t (some_is s t (if_so (is_simple_symbol o) (Some s) t e).1)
 obey_adds c k s t e = adds_none IsBuilt s t (some_is s t e)
 
 -- ---- what they are worth
@@ -128,12 +113,6 @@ known_name n x (d ∷ ds) h = by (bytes_eq n d.0) (known_name n x ds) h
 knows_name : (s : State) (n : List ℕ) (x : Entry) → entries s n ≡ Some x → knows s (name n) ≡ true
 knows_name s n x h = or_right (is_in n built_in_names) (is_in n (map (λ p. p.0) (names_of s))) (known_name n x (names_of s) h)
 
-not_reset : (c : Command) → IsWithin c → c ≡ Reset → ⊥
-not_reset c k e = subst IsWithin e k
-
-not_pop : (c : Command) → IsWithin c → c ≡ Pop → ⊥
-not_pop c k e = subst IsWithin e k
-
 guard : (a b : Bool) (o : Option State) (t : State) → cond (a && b) o None ≡ Some t → b ≡ true
 guard true true o t h = refl
 guard true false o t h = absurd cc
@@ -141,10 +120,10 @@ guard false b o t h = absurd cc
 
 module _ (j : ScriptInterpretation) where
   abbrev HasBody : State → List ℕ → Expression → Expression → Type 0
-  HasBody s n sort body = (knows s body ≡ true) × (expression_value j s (name n) ≡ expression_value j s body) × (sort_of s (name n) ≡ Some sort)
+  HasBody s n sort body = (knows s body ≡ true) × (expression_value j s (name n) ≡ expression_value j s body) × (expression_sort s (name n) ≡ Some sort)
 
   abbrev HasValue : State → List ℕ → Expression → Type 0
-  HasValue s n sort = (expression_value j s (name n) ≡ Some (j.constants n)) × (sort_of s (name n) ≡ Some sort)
+  HasValue s n sort = (expression_value j s (name n) ≡ Some (j.constants n)) × (expression_sort s (name n) ≡ Some sort)
 
   new_body : (c : Command) → IsWithin c → (s t : State) → s.ended ≡ false → step c s ≡ Some t → obey c s ≡ Some t → (n : List ℕ) (sort body : Expression) → MadeBy c n (Defined sort body) → HasBody t n sort body
   new_body (DefineFun m sort' body') k s t running h e n sort body made =
@@ -202,44 +181,20 @@ module _ (j : ScriptInterpretation) where
         ];
       }
 
-  step_lasts : (c : Command) → IsWithin c → (s t : State) → step c s ≡ Some t → NamesLast j s → NamesLast j t
-  step_lasts c k s t h old = by s.ended refl h
-    where
-      by : (b : Bool) → s.ended ≡ b → cond b (Some s) (obey c s) ≡ Some t → NamesLast j t
-      by true e g = subst (λ (u : State). NamesLast j u) (some_is s t g) old
-      by false e g = obey_lasts c k s t e h g old
-
-  -- What commands within one level leave.
-  pub run_lasts : (cs : List Command) → AllByRecursion IsWithin cs → (s t : State) → run cs s ≡ Some t → NamesLast j s → NamesLast j t
-  run_lasts [] k s t h old = subst (λ (u : State). NamesLast j u) (some_is s t h) old
-  run_lasts (c ∷ cs) k s t h old =
-      let p = bind_gives (step c s) (run cs) t h in
-      run_lasts cs k.1 p.0 t p.2 (step_lasts c k.0 s p.0 p.1 old)
-
   none_there : (n : List ℕ) (x : Entry) → entries start n ≡ Some x → ⊥
   none_there n x h = cc
 
-  pub start_lasts : NamesLast j start
+  start_lasts : NamesLast j start
   start_lasts = record {
     own = λ n x h. absurd (none_there n x h);
     bodies = λ n sort body h. absurd (none_there n (Defined sort body) h);
     constants = λ n sort h. absurd (none_there n (Constant sort) h);
   }
 
--- ---- the stated text
+  -- a level that is opened has the names of those below it
+  level_lasts : (s : State) → NamesLast j s → NamesLast j (with_level s)
+  level_lasts s h = record { own = h.own; bodies = h.bodies; constants = h.constants }
 
-within_lines : (us : List PlainTerm) (s : Tables) (ls : List Line) → EachLine (OriginOf us s) ls → AllByRecursion IsWithin (commands ls)
-within_lines us s [] h = tt
-within_lines us s (lines.Comment x ∷ ls) h = within_lines us s ls h.1
-within_lines us s (lines.DeclareDatatype n ps cs ∷ ls) h = (tt, within_lines us s ls h.1)
-within_lines us s (lines.DeclareConst n sort ∷ ls) h = (tt, within_lines us s ls h.1)
-within_lines us s (lines.DeclareFun n argument sort ∷ ls) h = (tt, within_lines us s ls h.1)
-within_lines us s (lines.DefineFun n sort body ∷ ls) h = (tt, within_lines us s ls h.1)
-within_lines us s (lines.Assert e ∷ ls) h = (tt, within_lines us s ls h.1)
-within_lines us s (lines.Push ∷ ls) h = absurd h.0
-within_lines us s (lines.Pop ∷ ls) h = absurd h.0
-
-pub stated_names_last : StatedNamesLast
-stated_names_last enums ts x j =
-    let ls : List Line = option_line ∷ (encode enums ts no_names).lines in
-    run_lasts j (commands ls) (within_lines (reached_terms ts) (names enums ts) ls (lines_origins enums ts)) start x.state x.runs (start_lasts j)
+-- Names last in each script.
+pub script_names_last : ScriptNamesLast
+script_names_last text state j x = script_has (NamesLast j) (start_lasts j) (level_lasts j) (λ c k s t r h e old. obey_lasts j c k s t r h e old) text state x

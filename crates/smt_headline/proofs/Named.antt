@@ -1,26 +1,25 @@
 -- What terms reach has names.
-use Rattle.std.proofs.Common.{◌≡◌, ◌⊎◌, ℕ, List, [], ◌∷◌, ◌++◌, refl, ap, subst, inl, inr, Option, Some, None}
-use Rattle.std.specs.Prelude.{IsSome, is_some}
+use Rattle.std.proofs.Common.{◌≡◌, ◌⊎◌, ℕ, List, [], ◌∷◌, ◌++◌, refl, subst, inl, inr, Option, Some, None}
+use Rattle.std.specs.Prelude.{IsSome}
 use Rattle.std.specs.List.{AllByRecursion}
 use Rattle.std.proofs.lemmas.Bool.{false≢true}
-use Rattle.smt_term.specs.Plain.{PlainType, OptionType, BitVecType, BoolType, EntityType, ExtensionType, StringType, RecordType, SetType, IpAddrV4Op, IpAddrV6Op, IpPrefixV4Op, IpPrefixV6Op, PlainOp, ExtOp, OptionGetOp, UufOp, BitVecLiteral, BoolLiteral, EntityLiteral, ExtensionLiteral, StringLiteral, PlainTerm, Application, NoneTerm, LiteralTerm, RecordTerm, SetTerm, SomeTerm, VariableTerm, PlainTerms, no_terms, one_term, PlainFields, no_fields, one_field, terms}
+use Rattle.smt_term.specs.Plain.{PlainType, OptionType, BitVecType, BoolType, EntityType, ExtensionType, StringType, RecordType, SetType, IpAddrV4Op, IpAddrV6Op, IpPrefixV4Op, IpPrefixV6Op, PlainOp, ExtOp, OptionGetOp, UufOp, BitVecLiteral, BoolLiteral, EntityLiteral, ExtensionLiteral, StringLiteral, PlainTerm, Application, NoneTerm, LiteralTerm, RecordTerm, SetTerm, SomeTerm, VariableTerm, PlainTerms, no_terms, one_term, PlainFields, no_fields, one_field}
 use Rattle.smt_term.specs.Reached.{subterms, subterms_of_all, subterms_of_fields, reached_terms}
 use Rattle.smt_term.specs.TypeValues.{Enums}
 use Rattle.smt_term.specs.Types.{type_of}
-use Rattle.smt_sexpr.specs.Reading.{Expression}
 use Rattle.smt_semantics.specs.Script.{State}
 use Rattle.smt_semantics.specs.Sorts.{entries}
-use Rattle.smt_lines.specs.Lines.{Tables, no_names, name_of_term, name_of_function, text_of_name, encode_terms, first_type}
-use Rattle.smt_lines.specs.Entries.{HasSort, HaveTexts, HaveFieldTexts, HasFunction, text_of, named_text}
-use Rattle.smt_lines.specs.Fine.{IsFineType, IsFine, AreFine, AreFineFields, IsFineOp}
-use Rattle.smt_lines.specs.Fit.{Fit, PartsStand}
-use Rattle.smt_lines.proofs.Known.{TextsAre}
+use Rattle.smt_lines.specs.Lines.{first_type}
+use Rattle.smt_lines.specs.NameTables.{Tables, name_of_term, name_of_function, text_of_name}
+use Rattle.smt_lines.specs.Entries.{TypeHasEntries, HaveTexts, HaveFieldTexts, HasFunction}
+use Rattle.smt_lines.specs.TermTexts.{text_of, named_text}
+use Rattle.smt_lines.specs.Encodable.{IsEncodableType, IsEncodable, AreEncodable, AreEncodableFields, IsEncodableOp}
+use Rattle.smt_lines.specs.Fit.{Fit, PartsHaveEntries}
 use Rattle.smt_lines.proofs.Declared.{terms_are_declared, functions_are_declared}
-use Rattle.smt_lines.proofs.OfTerms.{texts_are}
-use Rattle.smt_carrying.specs.Interpretations.{HasNames, IsOpNamed, IsTermNamed, ip_type}
-use Rattle.smt_carrying.specs.Sorts.{IsDeclared}
-use Rattle.smt_headline.specs.Standing.{TermsAreNamed, NamesStand}
-use Rattle.smt_headline.proofs.Types.{always_stands, there, type_stands}
+use Rattle.smt_carrying.specs.CarriedInterpretations.{TypeIsNamed, IsOpNamed, IsTermNamed, ip_type}
+use Rattle.smt_carrying.specs.CarriedSorts.{TypeIsDeclared}
+use Rattle.smt_headline.specs.Reached.{TermsAreNamed, ReachedIsDeclared}
+use Rattle.smt_headline.proofs.Types.{option_is_declared, there, type_stands}
 
 pub all_append : {A : Type 0} (P : A → Type 0) (xs ys : List A) → AllByRecursion P xs → AllByRecursion P ys → AllByRecursion P (xs ++ ys)
 all_append P [] ys h k = k
@@ -39,10 +38,10 @@ module _ (enums : Enums) (s : Tables) (state : State) (fit : Fit enums s state) 
   Named us = AllByRecursion (IsTermNamed enums s (entries state)) us
 
   -- an entry's parts have names
-  pub own : (t : PlainTerm) → IsSome (named_text (name_of_term s t)) → PartsStand s t × HasSort s (type_of t)
+  pub own : (t : PlainTerm) → IsSome (named_text (name_of_term s t)) → PartsHaveEntries s t × TypeHasEntries s (type_of t)
   own t h = let d = terms_are_declared enums s state t (text_of_name (name_of_term s t)) fit (named_there (name_of_term s t) h) in (d.1, d.2)
 
-  pub text_sort : (t : PlainTerm) → IsSome (text_of s t) → HasSort s (type_of t)
+  pub text_sort : (t : PlainTerm) → IsSome (text_of s t) → TypeHasEntries s (type_of t)
   text_sort (LiteralTerm (BitVecLiteral w n)) h = tt
   text_sort (LiteralTerm (BoolLiteral b)) h = tt
   text_sort (LiteralTerm (StringLiteral x)) h = tt
@@ -55,11 +54,11 @@ module _ (enums : Enums) (s : Tables) (state : State) (fit : Fit enums s state) 
   text_sort (SomeTerm t) h = (own (SomeTerm t) h).1
   text_sort (VariableTerm id type) h = (own (VariableTerm id type) h).1
 
-  first_sort : (ts : PlainTerms) → HaveTexts s ts → HasSort s (first_type ts)
+  first_sort : (ts : PlainTerms) → HaveTexts s ts → TypeHasEntries s (first_type ts)
   first_sort no_terms h = tt
   first_sort (one_term t ts) h = text_sort t h.0
 
-  pub names_there : (t : PlainType) → HasSort s t → HasNames s t
+  pub names_there : (t : PlainType) → TypeHasEntries s t → TypeIsNamed s t
   names_there (OptionType t) h = names_there t h
   names_there (BitVecType w) h = tt
   names_there BoolType h = tt
@@ -69,11 +68,11 @@ module _ (enums : Enums) (s : Tables) (state : State) (fit : Fit enums s state) 
   names_there (RecordType x) h = there enums s state fit (RecordType x) _ refl h
   names_there (SetType t) h = names_there t h
 
-  range_named : (ts : PlainTerms) (type : PlainType) → HaveTexts s ts → HasSort s type → (first_type ts ≡ ip_type) ⊎ (type ≡ ip_type) → IsDeclared enums s (entries state) ip_type
-  range_named ts type h k (inl e) = type_stands enums s state fit ip_type tt (subst (HasSort s) e (first_sort ts h))
-  range_named ts type h k (inr e) = type_stands enums s state fit ip_type tt (subst (HasSort s) e k)
+  range_named : (ts : PlainTerms) (type : PlainType) → HaveTexts s ts → TypeHasEntries s type → (first_type ts ≡ ip_type) ⊎ (type ≡ ip_type) → TypeIsDeclared enums s (entries state) ip_type
+  range_named ts type h k (inl e) = type_stands enums s state fit ip_type tt (subst (TypeHasEntries s) e (first_sort ts h))
+  range_named ts type h k (inr e) = type_stands enums s state fit ip_type tt (subst (TypeHasEntries s) e k)
 
-  op_named : (op : PlainOp) (ts : PlainTerms) (type : PlainType) → IsFineType type → IsFineOp op ts type → HaveTexts s ts → HasFunction s op → HasSort s type → IsOpNamed enums s (entries state) op type
+  op_named : (op : PlainOp) (ts : PlainTerms) (type : PlainType) → IsEncodableType enums type → IsEncodableOp enums op ts type → HaveTexts s ts → HasFunction s op → TypeHasEntries s type → IsOpNamed enums s (entries state) op type
   op_named (UufOp f) ts type g o h k sort =
       let e = some_there (name_of_function s f) k in
       let d = functions_are_declared enums s state f (text_of_name (name_of_function s f)) fit e in
@@ -86,7 +85,7 @@ module _ (enums : Enums) (s : Tables) (state : State) (fit : Fit enums s state) 
   op_named op ts type g o h k sort = tt
 
   mutual
-    term_named : (t : PlainTerm) → IsFine enums t → IsSome (text_of s t) → Named (subterms t)
+    term_named : (t : PlainTerm) → IsEncodable enums t → IsSome (text_of s t) → Named (subterms t)
     term_named (Application op ts type) f h =
         let p = own (Application op ts type) h in
         all_append (IsTermNamed enums s (entries state)) (subterms_of_all ts) (Application op ts type ∷ []) (terms_named ts f.1 p.0.0.0) (op_named op ts type f.0 f.2 p.0.0.0 p.0.0.1 p.1, tt)
@@ -104,11 +103,11 @@ module _ (enums : Enums) (s : Tables) (state : State) (fit : Fit enums s state) 
     term_named (VariableTerm id type) f h =
         ((named_there (name_of_term s (VariableTerm id type)) h, type_stands enums s state fit type f (own (VariableTerm id type) h).1), tt)
 
-    terms_named : (ts : PlainTerms) → AreFine enums ts → HaveTexts s ts → Named (subterms_of_all ts)
+    terms_named : (ts : PlainTerms) → AreEncodable enums ts → HaveTexts s ts → Named (subterms_of_all ts)
     terms_named no_terms f h = tt
     terms_named (one_term t ts) f h = all_append (IsTermNamed enums s (entries state)) (subterms t) (subterms_of_all ts) (term_named t f.0 h.0) (terms_named ts f.1 h.1)
 
-    fields_named : (x : PlainFields) → AreFineFields enums x → HaveFieldTexts s x → Named (subterms_of_fields x)
+    fields_named : (x : PlainFields) → AreEncodableFields enums x → HaveFieldTexts s x → Named (subterms_of_fields x)
     fields_named no_fields f h = tt
     fields_named (one_field a t x) f h = all_append (IsTermNamed enums s (entries state)) (subterms t) (subterms_of_fields x) (term_named t f.0 h.0) (fields_named x f.1 h.1)
 
@@ -117,18 +116,6 @@ terms_are_named enums s state [] fit f h = tt
 terms_are_named enums s state (t ∷ ts) fit f h =
     all_append (IsTermNamed enums s (entries state)) (subterms t) (reached_terms ts) (term_named enums s state fit t f.0 h.0) (terms_are_named enums s state ts fit f.1 h.1)
 
-pub texts_there : (s : Tables) (ts : List PlainTerm) (es : List Expression) → TextsAre s (terms ts) es → AllByRecursion (λ t. IsSome (text_of s t)) ts
-texts_there s [] es h = tt
-texts_there s (t ∷ ts) [] h = absurd h
-texts_there s (t ∷ ts) (e ∷ es) h = (ap is_some h.0, texts_there s ts es h.1)
-
-pub names_stand : NamesStand
-names_stand enums ts state fit f e o =
-    let made = encode_terms enums (terms ts) no_names in
-    let u : Tables = made.tables in
-    record {
-      enum_types = e;
-      always = always_stands enums u state fit;
-      one_to_one = o;
-      named = terms_are_named enums u state ts fit f (texts_there u ts made.made (texts_are enums (terms ts) no_names));
-    }
+pub reached_is_declared : ReachedIsDeclared
+reached_is_declared enums s ts state fit f e o h =
+    record { enum_types = e; always = option_is_declared enums s state fit; one_to_one = o; named = terms_are_named enums s state ts fit f h }

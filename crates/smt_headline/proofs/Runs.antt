@@ -1,18 +1,19 @@
 -- What holds of each entry that a script declares.
 use Rattle.std.proofs.Common.{◌≡◌, ℕ, suc, Bool, true, false, ◌&&◌, ◌||◌, eqb, cond, List, [], ◌∷◌, map, length, subst, Some}
-use Rattle.std.specs.List.{AllByRecursion, list_any}
+use Rattle.std.specs.List.{AllByRecursion}
 use Rattle.smt_sexpr.specs.Reading.{Expression}
-use Rattle.smt_semantics.specs.Script.{Command, DeclareDatatype, DeclareConst, DefineFun, Assert, DeclareFun, Reset, Exit, Push, Pop, Constructor, Entry, Constant, Function, Defined, Builds, Selects, State, is_in, is_taken, is_taken_sort, is_sort, has_sort, names_of, declare, declare_selectors, declare_constructors, with_name, with_sort, with_assertion, obey, step, run, knows, ◌>>=◌}
+use Rattle.smt_semantics.specs.Script.{Command, DeclareDatatype, DeclareConst, DefineFun, Assert, DeclareFun, SetLogic, SetOption, Reset, Exit, Push, Pop, Constructor, Entry, Constant, Function, Defined, Builds, Selects, State, is_in, is_taken, is_new_datatype, is_simple_symbol, is_sort, has_sort, names_of, declare, declare_selectors, declare_constructors, with_name, with_sort, with_assertion, obey, step, run, knows, ◌>>=◌}
 use Rattle.smt_semantics.proofs.Results.{some_is, if_not, if_so, bind_gives}
 
--- a property of entries that those with a body, constructors and selectors have
-module _ (P : List ℕ → Entry → Type 0) (bodies : (n : List ℕ) (sort body : Expression) → P n (Defined sort body)) (builders : (n d : List ℕ) (ps : List (List ℕ)) (place : ℕ) (fields : List Expression) → P n (Builds d ps place fields)) (selectors : (n d : List ℕ) (ps : List (List ℕ)) (c : List ℕ) (place : ℕ) (field : Expression) → P n (Selects d ps c place field)) where
+-- a property of entries that constructors and selectors have
+module _ (P : List ℕ → Entry → Type 0) (builders : (n d : List ℕ) (ps : List (List ℕ)) (place : ℕ) (fields : List Expression) → P n (Builds d ps place fields)) (selectors : (n d : List ℕ) (ps : List (List ℕ)) (c : List ℕ) (place : ℕ) (field : Expression) → P n (Selects d ps c place field)) where
   abbrev pub Each : State → Type 0
   Each s = AllByRecursion (λ p. P p.0 p.1) (names_of s)
 
   -- a command of one level that declares what has the property
   abbrev pub Declares : Command → Type 0
   Declares (DeclareConst n sort) = P n (Constant sort)
+  Declares (DefineFun n sort body) = P n (Defined sort body)
   Declares (DeclareFun n argument sort) = P n (Function argument sort)
   Declares Reset = ⊥
   Declares Push = ⊥
@@ -42,16 +43,18 @@ module _ (P : List ℕ → Entry → Type 0) (bodies : (n : List ℕ) (sort body
 
   obey_each : (c : Command) → Declares c → (s t : State) → Each s → obey c s ≡ Some t → Each t
   obey_each (DeclareDatatype d ps cs) k s t h e =
-      let p = bind_gives (declare_constructors d ps 0 cs s) (λ u. Some (with_sort d (length ps) u)) t (if_not (is_taken_sort s d || list_any (is_taken_sort s) ps) (declare_constructors d ps 0 cs s >>= λ u. Some (with_sort d (length ps) u)) t e).1 in
+      let p = bind_gives (declare_constructors d ps 0 cs s) (λ u. Some (with_sort d (length ps) u)) t (if_so (is_new_datatype s d ps cs) (declare_constructors d ps 0 cs s >>= λ u. Some (with_sort d (length ps) u)) t e).1 in
       to (with_sort d (length ps) p.0) t (some_is (with_sort d (length ps) p.0) t p.2) (constructors_each d ps 0 cs s p.0 h p.1)
   obey_each (DeclareConst n sort) k s t h e = declare_each n (Constant sort) k s t h (if_so (is_sort (has_sort s) sort) (declare n (Constant sort) s) t e).1
-  obey_each (DefineFun n sort body) k s t h e = declare_each n (Defined sort body) (bodies n sort body) s t h (if_so (is_sort (has_sort s) sort && knows s body) (declare n (Defined sort body) s) t e).1
+  obey_each (DefineFun n sort body) k s t h e = declare_each n (Defined sort body) k s t h (if_so (is_sort (has_sort s) sort && knows s body) (declare n (Defined sort body) s) t e).1
   obey_each (Assert x) k s t h e = to (with_assertion x s) t (some_is (with_assertion x s) t (if_so (knows s x) (Some (with_assertion x s)) t e).1) h
   obey_each (DeclareFun f a sort) k s t h e = declare_each f (Function a sort) k s t h (if_so (is_sort (has_sort s) a && is_sort (has_sort s) sort) (declare f (Function a sort) s) t e).1
   obey_each Reset k s t h e = absurd k
   obey_each Push k s t h e = absurd k
   obey_each Pop k s t h e = absurd k
   obey_each Exit k s t h e = to (record s { ended = true }) t (some_is (record s { ended = true }) t e) h
+  obey_each (SetLogic l) k s t h e = to s t (some_is s t (if_so (is_simple_symbol l) (Some s) t e).1) h
+  obey_each (SetOption o v) k s t h e = to s t (some_is s t (if_so (is_simple_symbol o) (Some s) t e).1) h
   obey_each c k s t h e = to s t (some_is s t e) h
 
   step_each : (c : Command) → Declares c → (s t : State) → Each s → step c s ≡ Some t → Each t

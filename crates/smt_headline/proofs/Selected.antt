@@ -1,17 +1,19 @@
 -- Which selectors the expressions of a script apply.
-use Rattle.std.proofs.Common.{◌≡◌, ℕ, Bool, true, false, ◌&&◌, cond, List, [], ◌∷◌, ◌++◌, map, refl, ap, ◌∙◌, Option, Some, None}
+use Rattle.std.proofs.Common.{◌≡◌, ℕ, Bool, true, false, ◌&&◌, cond, List, [], ◌∷◌, ◌++◌, map, refl, sym, ap, ◌∙◌, Option, Some, None}
 use Rattle.std.specs.Prelude.{bytes_eq, codes, take, drop}
 use Rattle.smt_term.specs.Plain.{BitVecLiteral, BoolLiteral, EntityLiteral, ExtensionLiteral, StringLiteral, PlainTerm, Application, NoneTerm, LiteralTerm, RecordTerm, SetTerm, SomeTerm, VariableTerm}
 use Rattle.smt_sexpr.specs.Lexicon.{is_digit, some_all, number_in}
 use Rattle.smt_sexpr.specs.Reading.{Expression}
-use Rattle.smt_semantics.specs.Script.{BitLiteral, Unformed}
+use Rattle.smt_semantics.specs.Script.{BitLiteral, Unformed, assertions_of, name}
 use Rattle.smt_semantics.specs.Sorts.{Entries, entries, sort_in}
-use Rattle.smt_semantics.specs.Script.{name}
 use Rattle.smt_semantics.specs.Value.{Selection, shape_selection, selections, selections_in}
-use Rattle.smt_lines.specs.Lines.{Tables, name_of_term, numbered, bits}
-use Rattle.smt_lines.specs.Entries.{given, named_text, text_of}
-use Rattle.smt_lines.specs.Text.{names}
-use Rattle.smt_headline.specs.Standing.{AssertionsSelectNothing}
+use Rattle.smt_semantics.specs.Numerals.{numbered}
+use Rattle.smt_lines.specs.Lines.{bits}
+use Rattle.smt_lines.specs.NameTables.{Tables, name_of_term}
+use Rattle.smt_lines.specs.Entries.{text_or_nothing}
+use Rattle.smt_lines.specs.TermTexts.{named_text, text_of}
+use Rattle.smt_headline.specs.Headline.{AreTexts}
+use Rattle.smt_headline.specs.Reached.{AssertionsSelectNothing}
 
 module _ (here : Entries) where
   literal_selects : (b : Bool) (w n : ℕ) (sort : Option Expression) → shape_selection here (cond b (BitLiteral w n) Unformed) sort ++ [] ≡ []
@@ -23,12 +25,12 @@ module _ (here : Entries) where
       let m : List ℕ = numbered (codes "bv") n in
       literal_selects (bytes_eq (take 2 m) (codes "bv") && some_all is_digit (drop 2 m)) w (number_in 10 (drop 2 m)) (sort_in here (name m))
 
-  named_selects : (o : Option (List ℕ)) → selections here (given (named_text o)) ≡ []
+  named_selects : (o : Option (List ℕ)) → selections here (text_or_nothing (named_text o)) ≡ []
   named_selects (Some n) = refl
   named_selects None = refl
 
   -- what stands for a term applies no selector
-  pub text_selects : (s : Tables) (t : PlainTerm) → selections here (given (text_of s t)) ≡ []
+  pub text_selects : (s : Tables) (t : PlainTerm) → selections here (text_or_nothing (text_of s t)) ≡ []
   text_selects s (LiteralTerm (BitVecLiteral w n)) = bits_select w n
   text_selects s (LiteralTerm (BoolLiteral true)) = refl
   text_selects s (LiteralTerm (BoolLiteral false)) = refl
@@ -42,9 +44,16 @@ module _ (here : Entries) where
   text_selects s (SomeTerm t) = named_selects (name_of_term s (SomeTerm t))
   text_selects s (VariableTerm id type) = named_selects (name_of_term s (VariableTerm id type))
 
-  texts_select : (s : Tables) (ts : List PlainTerm) → selections_in here (map (λ t. given (text_of s t)) ts) ≡ []
+  texts_select : (s : Tables) (ts : List PlainTerm) → selections_in here (map (λ t. text_or_nothing (text_of s t)) ts) ≡ []
   texts_select s [] = refl
-  texts_select s (t ∷ ts) = ap (λ (l : List Selection). l ++ selections_in here (map (λ t. given (text_of s t)) ts)) (text_selects s t) ∙ texts_select s ts
+  texts_select s (t ∷ ts) = ap (λ (l : List Selection). l ++ selections_in here (map (λ t. text_or_nothing (text_of s t)) ts)) (text_selects s t) ∙ texts_select s ts
+
+-- expressions that are texts are these
+listed : (s : Tables) (ts : List PlainTerm) (es : List Expression) → AreTexts s ts es → es ≡ map (λ t. text_or_nothing (text_of s t)) ts
+listed s [] [] h = refl
+listed s [] (e ∷ es) h = absurd h
+listed s (t ∷ ts) [] h = absurd h
+listed s (t ∷ ts) (e ∷ es) h = let a = ap text_or_nothing h.0 in let b = listed s ts es h.1 in λ i. sym a i ∷ b i
 
 pub assertions_select_nothing : AssertionsSelectNothing
-assertions_select_nothing enums ts x = ap (selections_in (entries x.state)) x.assertions ∙ texts_select (entries x.state) (names enums ts) ts
+assertions_select_nothing enums x state f = ap (selections_in (entries state)) (listed x.tables x.terms (assertions_of state) f.assertions) ∙ texts_select (entries state) x.tables x.terms

@@ -1,6 +1,6 @@
 -- What a term leaves to the interpretation, and that no other application begins with a selector that is left open.
-use Rattle.std.proofs.Common.{◌≡◌, ℕ, Bool, true, false, not, List, [], ◌∷◌, ◌++◌, refl, sym, ap, subst, Option, Some, None}
-use Rattle.std.specs.Prelude.{codes}
+use Rattle.std.proofs.Common.{◌≡◌, ℕ, ◌-◌, ◌^◌, Bool, true, false, not, List, [], ◌∷◌, refl, sym, ap, subst, Option, Some, None}
+use Rattle.std.specs.Prelude.{codes, IsSome}
 use Rattle.std.proofs.lemmas.Bool.{and_from, false≢true}
 use Rattle.smt_term.specs.Plain.{IpAddrKind, DecimalKind, DatetimeKind, DurationKind, PlainType, OptionType, BitVecType, BoolType, EntityType, ExtensionType, StringType, RecordType, SetType, PlainFunction, ExtensionOp, IpAddrV4Op, IpAddrV6Op, IpPrefixV4Op, IpPrefixV6Op, PlainOp, BvnegoOp, ExtOp, OptionGetOp, RecordGetOp, StringLikeOp, UufOp, PlainTerm, Application, PlainTerms}
 use Rattle.smt_term.specs.Types.{extension_signature, type_eq}
@@ -8,15 +8,18 @@ use Rattle.smt_term.specs.TypeValues.{Enums}
 use Rattle.smt_term.specs.Interpretations.{function_eq}
 use Rattle.smt_term.proofs.TermTotal.{types_decided, functions_decided}
 use Rattle.smt_sexpr.specs.Reading.{Expression, expressions}
-use Rattle.smt_semantics.specs.Script.{Entry, Selects, name, group, is_in}
+use Rattle.smt_semantics.specs.Script.{Entry, Selects, name, is_in}
 use Rattle.smt_semantics.specs.Value.{Selection}
 use Rattle.smt_semantics.specs.Sorts.{option_sort}
-use Rattle.smt_lines.specs.Lines.{Tables, name_of_type, name_of_function, text_of_name, attribute_name, attribute_place, bits, operands, AsLeast, manner, first_type}
-use Rattle.smt_lines.specs.Naming.{type_name, sort_of}
-use Rattle.smt_lines.specs.Entries.{EachEntry, texts_of, head_of, stated_type_name, stated_function_name}
+use Rattle.smt_lines.specs.LineForms.{operands, application_body, least_body}
+use Rattle.smt_lines.specs.EntryNames.{attribute_name, selector_name, stated_type_name, stated_function_name}
+use Rattle.smt_lines.specs.Lines.{attribute_place, bits, AsEqualsIntMin, application_rendering, first_type}
+use Rattle.smt_lines.specs.NameTables.{Tables, name_of_type, name_of_function, text_of_name}
+use Rattle.smt_lines.specs.Naming.{type_sort}
+use Rattle.smt_lines.specs.Entries.{EachEntry, texts_of, application_head}
 use Rattle.smt_lines.proofs.Known.{each_found}
-use Rattle.smt_carrying.specs.Interpretations.{ip_type, is_range_selector}
-use Rattle.smt_carrying.specs.Operators.{selector_name, selector_constructor, selector_place}
+use Rattle.smt_carrying.specs.CarriedInterpretations.{ip_type, is_range_selector}
+use Rattle.smt_carrying.specs.CarriedOperators.{selector_constructor, selector_place}
 use Rattle.smt_headline.proofs.SelectionsPlain.{open_selectors, is_plain_head, is_plain, each_plain, plain_append, plain_texts, plain_with_pattern}
 
 -- ---- the selections of terms
@@ -25,13 +28,13 @@ abbrev pub option_entry : Entry
 option_entry = Selects (codes "Option") (codes "X" ∷ []) (codes "some") 0 (name (codes "X"))
 
 abbrev pub option_selection : Tables → PlainType → Selection
-option_selection s type = record { selector = codes "val"; entry = option_entry; sort = option_sort (sort_of s type) }
+option_selection s type = record { selector = codes "val"; entry = option_entry; sort = option_sort (type_sort s type) }
 
 abbrev pub range_entry : Tables → ExtensionOp → Entry
-range_entry s o = Selects (type_name s ip_type) [] (selector_constructor o) (selector_place o) (sort_of s (extension_signature o).1)
+range_entry s o = Selects (codes "IPAddr") [] (selector_constructor o) (selector_place o) (type_sort s (extension_signature o).1)
 
 abbrev pub range_selection : Tables → ExtensionOp → Selection
-range_selection s o = record { selector = selector_name o; entry = range_entry s o; sort = sort_of s ip_type }
+range_selection s o = record { selector = selector_name o; entry = range_entry s o; sort = type_sort s ip_type }
 
 abbrev pub range_selections : Tables → ExtensionOp → Bool → List Selection
 range_selections s o true = range_selection s o ∷ []
@@ -87,6 +90,11 @@ attribute_is_no_selector (RecordType x) k place = refl
 attribute_is_no_selector (SetType t) k place = refl
 
 module _ (s : Tables) (counted : AreTypesCounted s) (called : AreFunctionsCounted s) where
+  -- the type of IP ranges has its own name
+  pub ranges_named : (o : Option (List ℕ)) → name_of_type s ip_type ≡ o → IsSome o → text_of_name o ≡ codes "IPAddr"
+  ranges_named None e h = absurd (false≢true h)
+  ranges_named (Some n) e h = (each_found (λ t n. (k : ℕ) × (n ≡ stated_type_name t k)) (type_eq ip_type) ip_type (λ l q. (types_decided ip_type l).0 q) s.types n e counted).1
+
   pub type_apart : (t : PlainType) (o : Option (List ℕ)) → name_of_type s t ≡ o → is_in (text_of_name o) open_selectors ≡ false
   type_apart t None e = refl
   type_apart t (Some n) e =
@@ -107,7 +115,7 @@ module _ (s : Tables) (counted : AreTypesCounted s) (called : AreFunctionsCounte
 
   -- ---- applications without a selector that is left open
 
-  plain_op : (enums : Enums) (op : PlainOp) (ts : PlainTerms) → is_selecting op ≡ false → is_plain_head (head_of enums s op ts) ≡ true
+  plain_op : (enums : Enums) (op : PlainOp) (ts : PlainTerms) → is_selecting op ≡ false → is_plain_head (application_head enums s op ts) ≡ true
   plain_op enums (UufOp f) ts h = ap not (function_apart f (name_of_function s f) refl)
   plain_op enums (RecordGetOp a) ts h = ap not (attribute_apart (first_type ts) (attribute_place a (first_type ts)) (name_of_type s (first_type ts)) refl)
   plain_op enums OptionGetOp ts h = absurd (false≢true (sym h))
@@ -121,13 +129,13 @@ module _ (s : Tables) (counted : AreTypesCounted s) (called : AreFunctionsCounte
   plain_operands (StringLikeOp p) es h = plain_with_pattern p es h
   plain_operands op es h = h
 
-  pub plain_application : (enums : Enums) (op : PlainOp) (ts : PlainTerms) → is_selecting op ≡ false → is_plain (group (head_of enums s op ts ∷ operands op (texts_of s ts))) ≡ true
+  pub plain_application : (enums : Enums) (op : PlainOp) (ts : PlainTerms) → is_selecting op ≡ false → is_plain (application_body (application_head enums s op ts) op (texts_of s ts)) ≡ true
   plain_application enums op ts h =
-      and_from (is_plain_head (head_of enums s op ts)) (each_plain (expressions (operands op (texts_of s ts)))) (plain_op enums op ts h) (plain_operands op (texts_of s ts) (plain_texts s ts))
+      and_from (is_plain_head (application_head enums s op ts)) (each_plain (expressions (operands op (texts_of s ts)))) (plain_op enums op ts h) (plain_operands op (texts_of s ts) (plain_texts s ts))
 
-  pub plain_least : (ts : PlainTerms) (w n : ℕ) → is_plain (group (name (codes "=") ∷ (texts_of s ts ++ bits w n ∷ []))) ≡ true
-  plain_least ts w n = plain_append (texts_of s ts) (bits w n ∷ []) (plain_texts s ts) refl
+  pub plain_least : (ts : PlainTerms) (w : ℕ) → is_plain (least_body w (texts_of s ts)) ≡ true
+  plain_least ts w = plain_append (texts_of s ts) (bits w (2 ^ (w - 1)) ∷ []) (plain_texts s ts) refl
 
-pub least_selects : (s : Tables) (op : PlainOp) (ts : PlainTerms) (type : PlainType) (w : ℕ) → manner op ts type ≡ AsLeast w → op_selections s op type ≡ []
+pub least_selects : (s : Tables) (op : PlainOp) (ts : PlainTerms) (type : PlainType) (w : ℕ) → application_rendering op ts type ≡ AsEqualsIntMin w → op_selections s op type ≡ []
 least_selects s BvnegoOp ts type w e = refl
 least_selects s op ts type w e = absurd cc

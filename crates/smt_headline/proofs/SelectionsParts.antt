@@ -10,9 +10,10 @@ use Rattle.smt_term.specs.Types.{types_of, result_type, is_type}
 use Rattle.smt_term.specs.Typing.{are_elements, typed, typed_all, typed_fields}
 use Rattle.smt_term.specs.TypeValues.{Enums}
 use Rattle.smt_semantics.specs.Script.{State}
-use Rattle.smt_lines.specs.Lines.{Tables, name_of_term}
-use Rattle.smt_lines.specs.Entries.{HaveTexts, HaveFieldTexts, named_text, text_of}
-use Rattle.smt_lines.specs.Fit.{Fit, PartsStand}
+use Rattle.smt_lines.specs.NameTables.{Tables, name_of_term}
+use Rattle.smt_lines.specs.Entries.{HaveTexts, HaveFieldTexts}
+use Rattle.smt_lines.specs.TermTexts.{named_text, text_of}
+use Rattle.smt_lines.specs.Fit.{Fit, PartsHaveEntries}
 use Rattle.smt_lines.proofs.Declared.{terms_are_declared}
 
 -- typed, and with a text
@@ -33,7 +34,7 @@ module _ (enums : Enums) (s : Tables) (state : State) (fit : Fit enums s state) 
   Sound us = AllByRecursion (IsSound s) us
 
   -- an entry's parts stand
-  own : (t : PlainTerm) → IsSome (named_text (name_of_term s t)) → PartsStand s t
+  own : (t : PlainTerm) → IsSome (named_text (name_of_term s t)) → PartsHaveEntries s t
   own t h = let p = named_if (name_of_term s t) h in (terms_are_declared enums s state t p.0 fit p.1).1
 
   mutual

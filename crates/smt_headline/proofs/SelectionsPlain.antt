@@ -1,19 +1,21 @@
 -- Expressions without a head that may be left open apply no selector that is.
-use Rattle.std.proofs.Common.{◌≡◌, ℕ, Bool, true, false, not, ◌&&◌, cond, List, [], ◌∷◌, ◌++◌, refl, sym, ap, ap₂, ◌∙◌, Option, Some, None}
+use Rattle.std.proofs.Common.{◌≡◌, ℕ, Bool, true, false, not, ◌&&◌, cond, List, [], ◌∷◌, ◌++◌, refl, ap, ap₂, ◌∙◌, Option, Some, None}
 use Rattle.std.specs.Prelude.{codes, bytes_eq, take, drop, map}
 use Rattle.std.proofs.lemmas.Bool.{and_parts, and_from, false≢true, or_parts}
 use Rattle.smt_bits.specs.BitVectors.{bits_of}
 use Rattle.smt_term.specs.Plain.{PlainType, OptionType, BitVecType, BoolType, EntityType, ExtensionType, StringType, RecordType, SetType, PatternPart, Character, Wildcard, PlainExtension, DecimalOf, Ipv4Of, Ipv6Of, DatetimeOf, DurationOf, BitVecLiteral, BoolLiteral, EntityLiteral, ExtensionLiteral, StringLiteral, PlainTerm, Application, NoneTerm, LiteralTerm, RecordTerm, SetTerm, SomeTerm, VariableTerm, PlainTerms, no_terms, one_term, PlainFields, no_fields, one_field}
-use Rattle.smt_sexpr.specs.Lexicon.{Bits, Number, Text, Name, is_digit, some_all, number_in}
+use Rattle.smt_sexpr.specs.Lexicon.{Number, Name, is_digit, some_all, number_in}
 use Rattle.smt_sexpr.specs.Reading.{Expression, Leaf, Node, Expressions, Nil, Cons, expressions}
-use Rattle.smt_semantics.specs.Script.{Entry, Constant, Function, Defined, Builds, Selects, BitLiteral, Applied, Extended, Tested, Unformed, name, group, is_in, bit_literal, qualified, matched_by, matched, indexed, shape, pattern}
+use Rattle.smt_semantics.specs.Script.{Entry, Constant, Function, Defined, Builds, Selects, BitLiteral, Applied, Extended, Tested, Unformed, name, group, is_in, bit_literal, qualified, matched_by, matched, indexed, insertion, shape, pattern}
 use Rattle.smt_semantics.specs.Sorts.{Entries}
-use Rattle.smt_semantics.specs.Value.{Selection, range_selectors, selection_if, selection, shape_selection, first_sort, selections, each_selections}
-use Rattle.smt_semantics.specs.Quoting.{part_expr, pattern_expr}
-use Rattle.smt_lines.specs.Lines.{Tables, name_of_term, bits, prefix_body, extension_body, with_pattern, none_body, empty_set, set_body, record_body}
-use Rattle.smt_lines.specs.Naming.{sort_of}
-use Rattle.smt_lines.specs.Entries.{given, named_text, text_of, texts_of, texts_of_fields}
-use Rattle.smt_headline.proofs.SelectionsRuns.{IsInside}
+use Rattle.smt_semantics.specs.Value.{OpenSelector, ValueOfSort, TableOfSelector, open_selector, Selection, range_selectors, selection_if, selection, shape_selection, first_sort, selections, each_selections}
+use Rattle.smt_semantics.specs.WrittenStrings.{part_expr, pattern_expr}
+use Rattle.smt_lines.specs.LineForms.{prefix_body, extension_body, with_pattern, none_body, empty_set, set_body, record_body, some_body}
+use Rattle.smt_lines.specs.Lines.{bits}
+use Rattle.smt_lines.specs.NameTables.{Tables, name_of_term}
+use Rattle.smt_lines.specs.Naming.{type_sort}
+use Rattle.smt_lines.specs.Entries.{text_or_nothing, texts_of, texts_of_fields}
+use Rattle.smt_lines.specs.TermTexts.{named_text, text_of}
 
 -- the selectors that may be left open
 abbrev pub open_selectors : List (List ℕ)
@@ -38,11 +40,18 @@ negated : (b : Bool) → not b ≡ true → b ≡ false
 negated true h = absurd (false≢true h)
 negated false h = refl
 
--- the only selector of datatypes with parameters is `val`
-abbrev pub HasOneInside : Entries → Type 0
-HasOneInside here = (n d : List ℕ) (ps : List (List ℕ)) (c : List ℕ) (place : ℕ) (field : Expression) → here n ≡ Some (Selects d ps c place field) → IsInside ps n
+never : (a : Bool) (o : OpenSelector) → cond (a && false) (Some o) None ≡ None
+never true o = refl
+never false o = refl
 
-module _ (here : Entries) (one : HasOneInside here) where
+-- no other selector is left open
+closed : (f d : List ℕ) (ps : List (List ℕ)) → is_in f open_selectors ≡ false → open_selector f d ps ≡ None
+closed f d [] h =
+    ap (λ (b : Bool). cond (bytes_eq d (codes "IPAddr") && b) (Some TableOfSelector) None) (or_parts (bytes_eq f (codes "val")) (is_in f range_selectors) h).1 ∙ never (bytes_eq d (codes "IPAddr")) TableOfSelector
+closed f d (p ∷ ps) h =
+    ap (λ (b : Bool). cond (bytes_eq d (codes "Option") && b) (Some ValueOfSort) None) (or_parts (bytes_eq f (codes "val")) (is_in f range_selectors) h).0 ∙ never (bytes_eq d (codes "Option")) ValueOfSort
+
+module _ (here : Entries) where
   bits_select : (es : Expressions) (sort : Option Expression) → shape_selection here (bit_literal es) sort ≡ []
   bits_select (Cons (Leaf (Name n)) (Cons (Leaf (Number w)) Nil)) sort = by (bytes_eq (take 2 n) (codes "bv") && some_all is_digit (drop 2 n))
     where
@@ -83,31 +92,34 @@ module _ (here : Entries) (one : HasOneInside here) where
   other_selects f h (Some sort) (Some (Function a s)) e = refl
   other_selects f h (Some sort) (Some (Defined s b)) e = refl
   other_selects f h (Some sort) (Some (Builds d ps place fields)) e = refl
-  other_selects f h (Some sort) (Some (Selects d [] c place field)) e =
-      ap (λ (b : Bool). selection_if b (record { selector = f; entry = Selects d [] c place field; sort = sort })) (or_parts (bytes_eq f (codes "val")) (is_in f range_selectors) h).1
-  other_selects f h (Some sort) (Some (Selects d (p ∷ ps) c place field)) e =
-      absurd (false≢true (sym h ∙ ap (λ m. is_in m open_selectors) (one f d (p ∷ ps) c place field e)))
+  other_selects f h (Some sort) (Some (Selects d ps c place field)) e =
+      ap (λ (o : Option OpenSelector). selection_if o (record { selector = f; entry = Selects d ps c place field; sort = sort })) (closed f d ps h)
 
-  head_selects : (f : List ℕ) → is_in f open_selectors ≡ false → (es : Expressions) (sort : Option Expression) → shape_selection here (shape (Leaf (Name f)) es) sort ≡ []
-  head_selects f h es sort = by (bytes_eq f (codes "_")) (bytes_eq f (codes "as")) (bytes_eq f (codes "str.in_re"))
+  inserts : (es : Expressions) (sort : Option Expression) → shape_selection here (insertion es) sort ≡ []
+  inserts Nil sort = refl
+  inserts (Cons e es) sort = other_selects (codes "set.insert") refl sort (here (codes "set.insert")) refl
+
+  head_selects : (f : List ℕ) → is_in f open_selectors ≡ false → (e : Expression) (es : Expressions) (sort : Option Expression) → shape_selection here (shape (Leaf (Name f)) (Cons e es)) sort ≡ []
+  head_selects f h e es sort = by (bytes_eq f (codes "_")) (bytes_eq f (codes "as")) (bytes_eq f (codes "str.in_re")) (bytes_eq f (codes "set.insert"))
     where
-      by : (a b c : Bool) → shape_selection here (cond a (bit_literal es) (cond b (qualified es) (cond c (matched es) (Applied f)))) sort ≡ []
-      by true b c = bits_select es sort
-      by false true c = qualified_selects es sort
-      by false false true = matched_selects es sort
-      by false false false = other_selects f h sort (here f) refl
+      by : (a b c d : Bool) → shape_selection here (cond a (bit_literal (Cons e es)) (cond b (qualified (Cons e es)) (cond c (matched (Cons e es)) (cond d (insertion es) (Applied f))))) sort ≡ []
+      by true b c d = bits_select (Cons e es) sort
+      by false true c d = qualified_selects (Cons e es) sort
+      by false false true d = matched_selects (Cons e es) sort
+      by false false false true = inserts es sort
+      by false false false false = other_selects f h sort (here f) refl
 
   plain_head_selects : (e : Expression) → is_plain_head e ≡ true → (es : Expressions) (sort : Option Expression) → shape_selection here (shape e es) sort ≡ []
-  plain_head_selects (Leaf (Name f)) h es sort = head_selects f (negated (is_in f open_selectors) h) es sort
-  plain_head_selects (Leaf (Bits w n)) h es sort = refl
-  plain_head_selects (Leaf (Number n)) h es sort = refl
-  plain_head_selects (Leaf (Text t)) h es sort = refl
-  plain_head_selects (Node (Cons (Leaf (Name f)) fs)) h es sort = by (bytes_eq f (codes "_"))
+  plain_head_selects (Leaf (Name f)) h Nil sort = refl
+  plain_head_selects (Leaf (Name f)) h (Cons e es) sort = head_selects f (negated (is_in f open_selectors) h) e es sort
+  plain_head_selects (Node (Cons (Leaf (Name f)) fs)) h Nil sort = refl
+  plain_head_selects (Node (Cons (Leaf (Name f)) fs)) h (Cons e es) sort = by (bytes_eq f (codes "_"))
     where
       by : (b : Bool) → shape_selection here (cond b (indexed fs) Unformed) sort ≡ []
       by true = indexed_selects fs sort
       by false = refl
-  plain_head_selects (Node fs) h es sort = refl
+  plain_head_selects e h Nil sort = refl
+  plain_head_selects e h (Cons d es) sort = refl
 
   mutual
     pub plain_selects : (e : Expression) → is_plain e ≡ true → selections here e ≡ []
@@ -137,22 +149,22 @@ plain_two e f h k = and_from (is_plain e) (is_plain f && true) h (and_from (is_p
 plain_alone : (e : Expression) → is_plain e ≡ true → each_plain (expressions (e ∷ [])) ≡ true
 plain_alone e h = and_from (is_plain e) true h refl
 
-pub plain_sort : (s : Tables) (t : PlainType) → is_plain (sort_of s t) ≡ true
-plain_sort s (OptionType t) = plain_alone (sort_of s t) (plain_sort s t)
+pub plain_sort : (s : Tables) (t : PlainType) → is_plain (type_sort s t) ≡ true
+plain_sort s (OptionType t) = plain_alone (type_sort s t) (plain_sort s t)
 plain_sort s (BitVecType w) = refl
 plain_sort s BoolType = refl
 plain_sort s (EntityType type) = refl
 plain_sort s (ExtensionType kind) = refl
 plain_sort s StringType = refl
 plain_sort s (RecordType x) = refl
-plain_sort s (SetType t) = plain_alone (sort_of s t) (plain_sort s t)
+plain_sort s (SetType t) = plain_alone (type_sort s t) (plain_sort s t)
 
-plain_name : (o : Option (List ℕ)) → is_plain (given (named_text o)) ≡ true
+plain_name : (o : Option (List ℕ)) → is_plain (text_or_nothing (named_text o)) ≡ true
 plain_name (Some n) = refl
 plain_name None = refl
 
 -- what stands for a term
-pub plain_text : (s : Tables) (t : PlainTerm) → is_plain (given (text_of s t)) ≡ true
+pub plain_text : (s : Tables) (t : PlainTerm) → is_plain (text_or_nothing (text_of s t)) ≡ true
 plain_text s (LiteralTerm (BitVecLiteral w n)) = refl
 plain_text s (LiteralTerm (BoolLiteral b)) = refl
 plain_text s (LiteralTerm (StringLiteral x)) = refl
@@ -167,11 +179,11 @@ plain_text s (VariableTerm id type) = plain_name (name_of_term s (VariableTerm i
 
 pub plain_texts : (s : Tables) (ts : PlainTerms) → each_plain (expressions (texts_of s ts)) ≡ true
 plain_texts s no_terms = refl
-plain_texts s (one_term t ts) = and_from (is_plain (given (text_of s t))) (each_plain (expressions (texts_of s ts))) (plain_text s t) (plain_texts s ts)
+plain_texts s (one_term t ts) = and_from (is_plain (text_or_nothing (text_of s t))) (each_plain (expressions (texts_of s ts))) (plain_text s t) (plain_texts s ts)
 
 pub plain_fields : (s : Tables) (x : PlainFields) → each_plain (expressions (texts_of_fields s x)) ≡ true
 plain_fields s no_fields = refl
-plain_fields s (one_field a t x) = and_from (is_plain (given (text_of s t))) (each_plain (expressions (texts_of_fields s x))) (plain_text s t) (plain_fields s x)
+plain_fields s (one_field a t x) = and_from (is_plain (text_or_nothing (text_of s t))) (each_plain (expressions (texts_of_fields s x))) (plain_text s t) (plain_fields s x)
 
 -- ---- patterns
 
@@ -213,7 +225,7 @@ plain_extension (DurationOf z) = plain_alone (bits 64 (bits_of 64 z)) refl
 pub plain_none : (sort : Expression) → is_plain sort ≡ true → is_plain (none_body sort) ≡ true
 plain_none sort h = plain_two (name (codes "none")) sort refl h
 
-pub plain_some : (e : Expression) → is_plain e ≡ true → is_plain (group (name (codes "some") ∷ e ∷ [])) ≡ true
+pub plain_some : (e : Expression) → is_plain e ≡ true → is_plain (some_body e) ≡ true
 plain_some e h = plain_alone e h
 
 pub plain_set : (sort : Expression) (es : List Expression) → is_plain sort ≡ true → each_plain (expressions es) ≡ true → is_plain (set_body sort es) ≡ true

@@ -8,21 +8,23 @@ use Rattle.smt_term.specs.TypeValues.{Enums, members_of}
 use Rattle.smt_sexpr.specs.Reading.{Expression}
 use Rattle.smt_semantics.specs.Script.{Constructor, Builds, State}
 use Rattle.smt_semantics.specs.Sorts.{Entries, entries}
-use Rattle.smt_semantics.specs.Growth.{Declares, Constructors, shown}
+use Rattle.smt_semantics.specs.DeclarationLines.{Declares, Constructors, shown}
 use Rattle.smt_bits.specs.Widths.{is_width}
 use Rattle.smt_lines.specs.Line as line
 use Rattle.smt_lines.specs.Line.{Line, Bare, Fielded, DeclareDatatype}
+use Rattle.smt_lines.specs.LineForms as forms
 use Rattle.smt_lines.specs.Lines as lines
-use Rattle.smt_lines.specs.Lines.{Tables, name_of_type, member_name, attribute_selectors, entity_lines}
-use Rattle.smt_lines.specs.Entries.{HasSort, HaveSorts, sorts_of}
+use Rattle.smt_lines.specs.LineForms.{attribute_selectors, entity_lines}
+use Rattle.smt_lines.specs.NameTables.{Tables, name_of_type, text_of_name}
+use Rattle.smt_lines.specs.Entries.{TypeHasEntries, AttributesHaveEntries, attribute_sorts}
 use Rattle.smt_lines.specs.Naming.{type_name}
 use Rattle.smt_lines.specs.Command.{all_built}
-use Rattle.smt_lines.specs.Fine.{IsFineType, AreFineTypes}
-use Rattle.smt_lines.specs.Fit.{Fit, EachLine, LineStands, BuildsOnly, declares_sort, is_old_sort_in}
+use Rattle.smt_lines.specs.Encodable.{IsEncodableType, AreEncodableTypes}
+use Rattle.smt_lines.specs.Fit.{Fit, EachLine, LineIsDeclared, BuildsOnly, declares_sort, is_old_sort_in}
 use Rattle.smt_lines.proofs.Datatype.{undeclared}
 use Rattle.smt_lines.proofs.Declared.{types_are_declared}
-use Rattle.smt_carrying.specs.Sorts.{entity_constructors, kind_constructors, IsDatatype, IsNoDatatype, IsNamed, IsDeclared, AreDeclared}
-use Rattle.smt_headline.specs.Standing.{AlwaysStands, TypesStand}
+use Rattle.smt_carrying.specs.CarriedSorts.{shown_entity, shown_kind, IsDatatype, IsNoDatatype, IsNamed, TypeIsDeclared, AttributesAreDeclared}
+use Rattle.smt_headline.specs.Reached.{OptionIsDeclared, NamedTypesAreDeclared}
 use Rattle.smt_carrying.proofs.Standing.{declared_at}
 
 -- ---- a datatype that is declared
@@ -38,9 +40,9 @@ datatype_from here d ps cs h k = record {
 no_datatype : (enums : Enums) (s : Tables) (state : State) → Fit enums s state → (d : List ℕ) → is_old_sort_in s d ≡ false → IsNoDatatype (entries state) d
 no_datatype enums s state fit d new c qs place fields e = false≢true (sym (undeclared enums s state fit d new) ∙ fit.rooted d c qs place fields e)
 
-pub always_stands : AlwaysStands
-always_stands enums s state fit = record {
-  options = datatype_from (entries state) (codes "Option") (codes "X" ∷ []) (all_built lines.option_constructors) fit.option_stands.1 fit.option_stands.3;
+pub option_is_declared : OptionIsDeclared
+option_is_declared enums s state fit = record {
+  options = datatype_from (entries state) (codes "Option") (codes "X" ∷ []) (all_built lines.option_constructors) fit.option_is_declared.1 fit.option_is_declared.3;
   bits = no_datatype enums s state fit (codes "_") refl;
   truths = no_datatype enums s state fit (codes "Bool") refl;
   texts = no_datatype enums s state fit (codes "String") refl;
@@ -56,7 +58,7 @@ module _ (enums : Enums) (s : Tables) (state : State) (fit : Fit enums s state) 
     | inr q ↦ q
   ]
 
-  named : (n : List ℕ) (cs : List line.Constructor) (ks : Constructors) → LineStands state (DeclareDatatype n [] cs) → shown (all_built cs) ≡ ks → IsNamed (entries state) n ks
+  named : (n : List ℕ) (cs : List line.Constructor) (ks : Constructors) → LineIsDeclared state (DeclareDatatype n [] cs) → shown (all_built cs) ≡ ks → IsNamed (entries state) n ks
   named n cs ks h e = record {
     not_bool = not_old n (codes "Bool") h.2 refl;
     not_string = not_old n (codes "String") h.2 refl;
@@ -67,19 +69,19 @@ module _ (enums : Enums) (s : Tables) (state : State) (fit : Fit enums s state) 
   selectors_shown n place [] = refl
   selectors_shown n place (e ∷ es) = ap (λ (l : List Expression). e ∷ l) (selectors_shown n (suc place) es)
 
-  entity_stands : (o : Option (List (List ℕ))) (type n : List ℕ) → EachLine (LineStands state) (entity_lines o type n) → IsNamed (entries state) n (entity_constructors o n)
-  entity_stands None type n h = named n (lines.entity_constructors None n) (entity_constructors None n) h.1.0 refl
-  entity_stands (Some ms) type n h = named n (lines.member_constructors n 0 ms) (entity_constructors (Some ms) n) h.1.0 refl
+  entity_stands : (o : Option (List (List ℕ))) (type n : List ℕ) → EachLine (LineIsDeclared state) (entity_lines o type n) → IsNamed (entries state) n (shown_entity o n)
+  entity_stands None type n h = named n (forms.entity_constructors None n) (shown_entity None n) h.1.0 refl
+  entity_stands (Some ms) type n h = named n (forms.member_constructors n 0 ms) (shown_entity (Some ms) n) h.1.0 refl
 
   pub there : (t : PlainType) (o : Option (List ℕ)) → name_of_type s t ≡ o → IsSome o → name_of_type s t ≡ Some (type_name s t)
-  there t (Some n) e h = e ∙ ap (λ (p : Option (List ℕ)). Some (lines.text_of_name p)) (sym e)
+  there t (Some n) e h = e ∙ ap (λ (p : Option (List ℕ)). Some (text_of_name p)) (sym e)
   there t None e h = absurd (false≢true h)
 
   width_in : (w : ℕ) → is_width w ≡ true → (1 ≤ w) × (w ≤ 128)
   width_in w h = let p = and_parts (nat_le 1 w) (nat_le w 128) h in (leb-true 1 w p.0, leb-true w 128 p.1)
 
   mutual
-    pub type_stands : (t : PlainType) → IsFineType t → HasSort s t → IsDeclared enums s (entries state) t
+    pub type_stands : (t : PlainType) → IsEncodableType enums t → TypeHasEntries s t → TypeIsDeclared enums s (entries state) t
     type_stands (OptionType t) f h = type_stands t f h
     type_stands (BitVecType w) f h = width_in w f
     type_stands BoolType f h = tt
@@ -88,19 +90,19 @@ module _ (enums : Enums) (s : Tables) (state : State) (fit : Fit enums s state) 
         entity_stands (members_of enums type) type (type_name s (EntityType type)) (types_are_declared enums s state (EntityType type) (type_name s (EntityType type)) fit e).0
     type_stands (ExtensionType kind) f h =
         let e = there (ExtensionType kind) (name_of_type s (ExtensionType kind)) refl h in
-        named (type_name s (ExtensionType kind)) (lines.kind_constructors kind) (kind_constructors kind) (types_are_declared enums s state (ExtensionType kind) (type_name s (ExtensionType kind)) fit e).0.0 refl
+        named (type_name s (ExtensionType kind)) (forms.kind_constructors kind) (shown_kind kind) (types_are_declared enums s state (ExtensionType kind) (type_name s (ExtensionType kind)) fit e).0.0 refl
     type_stands StringType f h = tt
     type_stands (RecordType x) f h =
         let n = type_name s (RecordType x) in
         let e = there (RecordType x) (name_of_type s (RecordType x)) refl h in
         let p = types_are_declared enums s state (RecordType x) n fit e in
-        let q = selectors_shown n 0 (sorts_of s x) in
-        (named n (Fielded n (attribute_selectors n 0 (sorts_of s x)) ∷ []) ((n, sorts_of s x) ∷ []) p.0.1.0 (λ i. (n, q i) ∷ []), types_stand_in x f p.1)
+        let q = selectors_shown n 0 (attribute_sorts s x) in
+        (named n (Fielded n (attribute_selectors n 0 (attribute_sorts s x)) ∷ []) ((n, attribute_sorts s x) ∷ []) p.0.1.0 (λ i. (n, q i) ∷ []), types_stand_in x f p.1)
     type_stands (SetType t) f h = type_stands t f h
 
-    pub types_stand_in : (x : AttributeTypes) → AreFineTypes x → HaveSorts s x → AreDeclared enums s (entries state) x
+    pub types_stand_in : (x : AttributeTypes) → AreEncodableTypes enums x → AttributesHaveEntries s x → AttributesAreDeclared enums s (entries state) x
     types_stand_in no_attributes f h = tt
     types_stand_in (attribute a t x) f h = (type_stands t f.0 h.0, types_stand_in x f.1 h.1)
 
-pub types_stand : TypesStand
-types_stand enums s state t fit f h = type_stands enums s state fit t f h
+pub named_types_are_declared : NamedTypesAreDeclared
+named_types_are_declared enums s state t fit f h = type_stands enums s state fit t f h

@@ -4,7 +4,7 @@ use Rattle.std.specs.Cmp.{first_so, second_so}
 use Rattle.std.specs.List.{AllByRecursion, list_all}
 use Rattle.std.specs.Option.{option_or}
 use Rattle.smt_term.specs.Plain.{PlainTerm, Application, NoneTerm, LiteralTerm, RecordTerm, SetTerm, SomeTerm, VariableTerm, PlainTerms, no_terms, one_term, PlainFields, no_fields, one_field, RecordType}
-use Rattle.smt_term.specs.Faults.{is_passed_over, type_fault, operator_fault, term_fault, terms_fault, fields_fault, first_fault}
+use Rattle.smt_term.specs.Faults.{is_passed_over, type_fault, literal_fault, operator_fault, term_fault, terms_fault, fields_fault, first_fault}
 use Rattle.smt_term.specs.Formed.{IsFormedLiteral, IsFormedNode, IsFormed}
 use Rattle.smt_term.specs.Interpretations.{IsGivenOp, IsGiven}
 use Rattle.smt_term.specs.Meaning.{literal_value, meaning}
@@ -15,16 +15,16 @@ use Rattle.smt_term.specs.Typing.{are_elements, typed, typed_all, typed_fields}
 use Rattle.smt_term.proofs.Elements.{typed_elements}
 use Rattle.smt_term.specs.TypeValues.{Enums, IsValue}
 use Rattle.smt_term.proofs.Soundness.{all-front, all-back, all-last, none-first, none-second, not-passed, is_type-some, walked, valued}
-use Rattle.smt_lines.specs.Fine.{IsFineType, IsFineOp, IsFineLiteral, IsFine}
-use Rattle.smt_headline.proofs.FineTerms.{HasFormedType, fine, fine_own}
+use Rattle.smt_lines.specs.Encodable.{IsEncodableType, IsEncodableOp, IsEncodableLiteral, IsEncodable}
+use Rattle.smt_headline.proofs.FineTerms.{no_type_fault, HasFormedType, fine, fine_own}
 
 module _ (enums : Enums) (I : Interpretation) where
   abbrev mutual
     -- a term by which a script's value can be followed
     pub IsValued : PlainTerm → Type 0
-    IsValued (Application o ts t) = AreValued ts × (result_type o (types_of ts) ≡ Some t) × IsGivenOp enums I o t × IsFineOp o ts t × IsFineType t
+    IsValued (Application o ts t) = AreValued ts × (result_type o (types_of ts) ≡ Some t) × IsGivenOp enums I o t × IsEncodableOp enums o ts t × IsEncodableType enums t
     IsValued (NoneTerm t) = Unit {0}
-    IsValued (LiteralTerm l) = IsFineLiteral enums l × IsFormedLiteral l × IsValue enums (literal_type l) (literal_value l) × IsFineType (literal_type l)
+    IsValued (LiteralTerm l) = IsEncodableLiteral enums l × IsFormedLiteral l × IsValue enums (literal_type l) (literal_value l) × IsEncodableType enums (literal_type l)
     IsValued (RecordTerm fs) = HaveValues fs
     IsValued (SetTerm t ts) = AreValued ts × (list_all (type_eq t) (types_of ts) ≡ true)
     IsValued (SomeTerm t) = IsValued t
@@ -32,7 +32,7 @@ module _ (enums : Enums) (I : Interpretation) where
 
     pub AreValued : PlainTerms → Type 0
     AreValued no_terms = Unit {0}
-    AreValued (one_term t ts) = IsValued t × IsValue enums (type_of t) (meaning I t) × IsFineType (type_of t) × AreValued ts
+    AreValued (one_term t ts) = IsValued t × IsValue enums (type_of t) (meaning I t) × IsEncodableType enums (type_of t) × AreValued ts
 
     pub HaveValues : PlainFields → Type 0
     HaveValues no_fields = Unit {0}
@@ -53,7 +53,7 @@ module _ (enums : Enums) (I : Interpretation) where
         let r : result_type o (types_of ts) ≡ Some t = is_type-some (result_type o (types_of ts)) t (second_so (typed_all ts) (is_type (result_type o (types_of ts)) t) h) in
         let e : option_or (type_fault enums t) (option_or (terms_fault enums ts) (operator_fault enums o (types_of ts))) ≡ None = not-passed (is_passed_over o (types_of ts) t) _ (walked enums o (types_of ts) t r) f in
         let d : option_or (terms_fault enums ts) (operator_fault enums o (types_of ts)) ≡ None = none-second (type_fault enums t) _ e in
-        let k : IsFine enums (Application o ts t) = fine enums (Application o ts t) h f y in (
+        let k : IsEncodable enums (Application o ts t) = fine enums (Application o ts t) h f y in (
           are_valued ts (first_so (typed_all ts) (is_type (result_type o (types_of ts)) t) h) (none-first (terms_fault enums ts) (operator_fault enums o (types_of ts)) d)
               (all-front IsFormedNode (subterms_of_all ts) (Application o ts t ∷ []) w) (all-front HasFormedType (subterms_of_all ts) (Application o ts t ∷ []) y) (all-front (IsGiven enums I) (subterms_of_all ts) (Application o ts t ∷ []) g),
           r,
@@ -62,7 +62,7 @@ module _ (enums : Enums) (I : Interpretation) where
           k.0,
         )
     is_valued (NoneTerm t) h f w y g = tt
-    is_valued (LiteralTerm l) h f w y g = (fine enums (LiteralTerm l) h f y, w.0, valued enums I (LiteralTerm l) h f w g, fine_own (LiteralTerm l) y)
+    is_valued (LiteralTerm l) h f w y g = (fine enums (LiteralTerm l) h f y, w.0, valued enums I (LiteralTerm l) h f w g, fine_own enums (LiteralTerm l) (none-first (type_fault enums (type_of (LiteralTerm l))) (literal_fault enums l) f) y)
     is_valued (RecordTerm fs) h f w y g =
         have_values fs h (none-second (type_fault enums (RecordType (field_types fs))) (fields_fault enums fs) f)
         (all-front IsFormedNode (subterms_of_fields fs) (RecordTerm fs ∷ []) w) (all-front HasFormedType (subterms_of_fields fs) (RecordTerm fs ∷ []) y) (all-front (IsGiven enums I) (subterms_of_fields fs) (RecordTerm fs ∷ []) g)
@@ -86,7 +86,7 @@ module _ (enums : Enums) (I : Interpretation) where
         let d = all-front (IsGiven enums I) (subterms t) (subterms_of_all ts) g in (
           is_valued t a b c z d,
           valued enums I t a b c d,
-          fine_own t z,
+          fine_own enums t (no_type_fault enums t a b) z,
           are_valued ts (second_so (typed t) (typed_all ts) h) (none-second (term_fault enums t) (terms_fault enums ts) f)
               (all-back IsFormedNode (subterms t) (subterms_of_all ts) w) (all-back HasFormedType (subterms t) (subterms_of_all ts) y) (all-back (IsGiven enums I) (subterms t) (subterms_of_all ts) g),
         )

@@ -2,7 +2,7 @@
 use Rattle.std.proofs.Common.{◌≡◌, ℕ, true, List, ◌∷◌, refl, ap₂, ◌∙◌, Option, Some, None}
 use Rattle.std.specs.Prelude.{IsSome, nat_lt, ◌^◌, ◌<◌}
 use Rattle.std.proofs.lemmas.Bool.{false≢true, and_from, lt-ltb}
-use Rattle.smt_term.specs.Plain.{PlainType, OptionType, ExtensionType, PlainOp, BitVecLiteral, BoolLiteral, EntityLiteral, ExtensionLiteral, StringLiteral, PlainTerm, Application, NoneTerm, LiteralTerm, RecordTerm, SetTerm, SomeTerm, VariableTerm, PlainTerms, no_terms, one_term}
+use Rattle.smt_term.specs.Plain.{ExtensionKind, PlainType, OptionType, ExtensionType, PlainOp, BitVecLiteral, BoolLiteral, EntityLiteral, ExtensionLiteral, StringLiteral, PlainTerm, Application, NoneTerm, LiteralTerm, RecordTerm, SetTerm, SomeTerm, VariableTerm, PlainTerms, no_terms, one_term}
 use Rattle.smt_term.specs.Meaning.{meaning, meanings}
 use Rattle.smt_term.specs.Tables.{Interpretation}
 use Rattle.smt_term.specs.Types.{type_of, types_of}
@@ -20,26 +20,30 @@ use Rattle.smt_semantics.specs.Value as script
 use Rattle.smt_semantics.specs.Value.{ScriptInterpretation, expression_value}
 use Rattle.smt_semantics.specs.Meanings.{argument_values}
 use Rattle.smt_semantics.proofs.Laid.{bits_have_values}
-use Rattle.smt_lines.specs.Lines.{Tables, name_of_term, bits, Manner, AsItStands, AsLeast, AsFalse, manner}
-use Rattle.smt_lines.specs.Naming.{IsOneToOne, sort_of}
-use Rattle.smt_lines.specs.Entries.{EachEntry, named_text, text_of, given, texts_of, application_lines}
-use Rattle.smt_lines.specs.Fit.{Fit, EachLine, LineStands}
+use Rattle.smt_lines.specs.EntryNames.{kind_name}
+use Rattle.smt_lines.specs.Lines.{bits, Rendering, AsApplication, AsEqualsIntMin, AsFalse, application_rendering}
+use Rattle.smt_lines.specs.NameTables.{Tables, name_of_term}
+use Rattle.smt_lines.specs.Naming.{IsOneToOne, type_sort, type_name}
+use Rattle.smt_lines.specs.Entries.{EachEntry, TypeHasEntries, text_or_nothing, texts_of, application_lines}
+use Rattle.smt_lines.specs.TermTexts.{named_text, text_of}
+use Rattle.smt_lines.specs.Fit.{Fit, EachLine, LineIsDeclared}
 use Rattle.smt_lines.proofs.Declared.{terms_are_declared}
 use Rattle.smt_lines.proofs.Known.{each_found}
 use Rattle.smt_carrying.specs.Carry.{carry}
-use Rattle.smt_carrying.specs.Interpretations.{carry_interpretation}
-use Rattle.smt_carrying.specs.Operators.{carry_each}
-use Rattle.smt_carrying.specs.Order.{AreEnums}
-use Rattle.smt_headline.specs.Texts.{NamesLast}
-use Rattle.smt_headline.proofs.Distinct.{NameGood}
+use Rattle.smt_carrying.specs.CarriedInterpretations.{carry_interpretation}
+use Rattle.smt_carrying.specs.CarriedOperators.{carry_each}
+use Rattle.smt_carrying.specs.CarriedOrder.{AreEnums}
+use Rattle.smt_headline.specs.Fits.{IsNamedRightly}
+use Rattle.smt_headline.specs.TextValues.{NamesLast}
 
--- What the values of texts are followed by: tables and a state that fit, and names that differ and last.
+-- What the values of texts follow from: tables and a state that fit, and names that differ and last.
 pub record Follows (enums : Enums) (s : Tables) (state : State) (I : Interpretation) : Type 0 where
   pub fit : Fit enums s state
   pub one_to_one : IsOneToOne s
   pub enum_types : AreEnums enums
-  pub named : EachEntry (NameGood enums s) s.terms
+  pub named : EachEntry (IsNamedRightly enums s) s.terms
   pub last : NamesLast (carry_interpretation enums s I) state
+  pub kinds : (kind : ExtensionKind) → TypeHasEntries s (ExtensionType kind) → type_name s (ExtensionType kind) ≡ kind_name kind
 
 module _ (enums : Enums) (s : Tables) (state : State) (I : Interpretation) where
   abbrev pub carried : ScriptInterpretation
@@ -52,7 +56,7 @@ module _ (enums : Enums) (s : Tables) (state : State) (I : Interpretation) where
   -- the texts of terms have their values
   abbrev pub AreWorth : PlainTerms → Type 0
   AreWorth no_terms = Unit {0}
-  AreWorth (one_term t ts) = Worth (given (text_of s t)) (type_of t) (meaning I t) × AreWorth ts
+  AreWorth (one_term t ts) = Worth (text_or_nothing (text_of s t)) (type_of t) (meaning I t) × AreWorth ts
 
   pub arguments : (ts : PlainTerms) → AreWorth ts → argument_values carried state (texts_of s ts) ≡ Some (carry_each enums s (types_of ts) (meanings I ts))
   arguments no_terms h = refl
@@ -64,7 +68,7 @@ module _ (enums : Enums) (s : Tables) (state : State) (I : Interpretation) where
 pub bits_fit : (width number : ℕ) → is_width width ≡ true → number < 2 ^ width → are_bits width number ≡ true
 bits_fit width number w h = and_from (is_width width) (nat_lt number (2 ^ width)) w (lt-ltb number (2 ^ width) h)
 
-pub some_text : (o : Option Expression) → IsSome o → o ≡ Some (given o)
+pub some_text : (o : Option Expression) → IsSome o → o ≡ Some (text_or_nothing o)
 some_text (Some e) h = refl
 some_text None h = absurd (false≢true h)
 
@@ -78,36 +82,36 @@ module _ (enums : Enums) (s : Tables) (state : State) (I : Interpretation) (x : 
   pub from_body : (n : List ℕ) (sort body : Expression) (o : Option ScriptValue) → entries state n ≡ Some (Defined sort body) → expression_value (carried enums s state I) state body ≡ o → expression_value (carried enums s state I) state (name n) ≡ o
   from_body n sort body o h k = (x.last.bodies n sort body h).1 ∙ k
 
-  pub name_good : (t : PlainTerm) (n : List ℕ) → name_of_term s t ≡ Some n → NameGood enums s t n
-  name_good t n h = each_found (NameGood enums s) (term_eq t) t (λ l q. (terms_decided t l).0 q) s.terms n h x.named
+  pub name_good : (t : PlainTerm) (n : List ℕ) → name_of_term s t ≡ Some n → IsNamedRightly enums s t n
+  name_good t n h = each_found (IsNamedRightly enums s) (term_eq t) t (λ l q. (terms_decided t l).0 q) s.terms n h x.named
 
   -- an entry's text is its name
-  pub by_name : (P : Expression → Type 0) (t : PlainTerm) (o : Option (List ℕ)) → name_of_term s t ≡ o → IsSome (named_text o) → ((n : List ℕ) → name_of_term s t ≡ Some n → P (name n)) → P (given (named_text o))
+  pub by_name : (P : Expression → Type 0) (t : PlainTerm) (o : Option (List ℕ)) → name_of_term s t ≡ o → IsSome (named_text o) → ((n : List ℕ) → name_of_term s t ≡ Some n → P (name n)) → P (text_or_nothing (named_text o))
   by_name P t (Some n) e h f = f n e
   by_name P t None e h f = absurd (false≢true h)
 
-  application_sorted : (m : Manner) (op : PlainOp) (ts : PlainTerms) (type : PlainType) (n : List ℕ) → (m ≡ AsFalse → ⊥) → EachLine (LineStands state) (application_lines enums s m op ts type n) → sorts.sort_of state (name n) ≡ Some (sort_of s type)
-  application_sorted AsItStands op ts type n k h = (x.last.bodies n _ _ h.0).2
-  application_sorted (AsLeast w) op ts type n k h = (x.last.bodies n _ _ h.0).2
+  application_sorted : (m : Rendering) (op : PlainOp) (ts : PlainTerms) (type : PlainType) (n : List ℕ) → (m ≡ AsFalse → ⊥) → EachLine (LineIsDeclared state) (application_lines enums s m op ts type n) → sorts.expression_sort state (name n) ≡ Some (type_sort s type)
+  application_sorted AsApplication op ts type n k h = (x.last.bodies n _ _ h.0).2
+  application_sorted (AsEqualsIntMin w) op ts type n k h = (x.last.bodies n _ _ h.0).2
   application_sorted AsFalse op ts type n k h = absurd (k refl)
 
   -- The text of a term of such a type has the type's sort.
-  pub text_sorted : (t : PlainTerm) → IsEntered (type_of t) → IsSome (text_of s t) → sorts.sort_of state (given (text_of s t)) ≡ Some (sort_of s (type_of t))
+  pub text_sorted : (t : PlainTerm) → IsEntered (type_of t) → IsSome (text_of s t) → sorts.expression_sort state (text_or_nothing (text_of s t)) ≡ Some (type_sort s (type_of t))
   text_sorted (LiteralTerm (BitVecLiteral w n)) k h = absurd k
   text_sorted (LiteralTerm (BoolLiteral b)) k h = absurd k
   text_sorted (LiteralTerm (StringLiteral y)) k h = absurd k
   text_sorted (LiteralTerm (EntityLiteral type id)) k h = absurd k
   text_sorted (LiteralTerm (ExtensionLiteral y)) k h =
       let t = LiteralTerm (ExtensionLiteral y) in
-      by_name (λ e. sorts.sort_of state e ≡ Some (sort_of s (type_of t))) t _ refl h (λ n q. (x.last.bodies n _ _ (terms_are_declared enums s state t n x.fit q).0.0).2)
+      by_name (λ e. sorts.expression_sort state e ≡ Some (type_sort s (type_of t))) t _ refl h (λ n q. (x.last.bodies n _ _ (terms_are_declared enums s state t n x.fit q).0.0).2)
   text_sorted (Application op ts type) k h =
       let t = Application op ts type in
-      by_name (λ e. sorts.sort_of state e ≡ Some (sort_of s type)) t _ refl h (λ n q. application_sorted (manner op ts type) op ts type n (name_good t n q) (terms_are_declared enums s state t n x.fit q).0)
+      by_name (λ e. sorts.expression_sort state e ≡ Some (type_sort s type)) t _ refl h (λ n q. application_sorted (application_rendering op ts type) op ts type n (name_good t n q) (terms_are_declared enums s state t n x.fit q).0)
   text_sorted (NoneTerm type) k h =
-      by_name (λ e. sorts.sort_of state e ≡ Some (sort_of s (OptionType type))) (NoneTerm type) _ refl h (λ n q. (x.last.bodies n _ _ (terms_are_declared enums s state (NoneTerm type) n x.fit q).0.0).2)
+      by_name (λ e. sorts.expression_sort state e ≡ Some (type_sort s (OptionType type))) (NoneTerm type) _ refl h (λ n q. (x.last.bodies n _ _ (terms_are_declared enums s state (NoneTerm type) n x.fit q).0.0).2)
   text_sorted (RecordTerm fs) k h = absurd k
   text_sorted (SetTerm element ts) k h = absurd k
   text_sorted (SomeTerm u) k h =
-      by_name (λ e. sorts.sort_of state e ≡ Some (sort_of s (type_of (SomeTerm u)))) (SomeTerm u) _ refl h (λ n q. (x.last.bodies n _ _ (terms_are_declared enums s state (SomeTerm u) n x.fit q).0.0).2)
+      by_name (λ e. sorts.expression_sort state e ≡ Some (type_sort s (type_of (SomeTerm u)))) (SomeTerm u) _ refl h (λ n q. (x.last.bodies n _ _ (terms_are_declared enums s state (SomeTerm u) n x.fit q).0.0).2)
   text_sorted (VariableTerm id type) k h =
-      by_name (λ e. sorts.sort_of state e ≡ Some (sort_of s type)) (VariableTerm id type) _ refl h (λ n q. (x.last.constants n _ (terms_are_declared enums s state (VariableTerm id type) n x.fit q).0.1.0).1)
+      by_name (λ e. sorts.expression_sort state e ≡ Some (type_sort s type)) (VariableTerm id type) _ refl h (λ n q. (x.last.constants n _ (terms_are_declared enums s state (VariableTerm id type) n x.fit q).0.1.0).1)

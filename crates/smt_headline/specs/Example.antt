@@ -9,8 +9,8 @@ use Rattle.smt_semantics.specs.Script.{start, name, is_in}
 use Rattle.smt_semantics.specs.Value.{ScriptInterpretation, IsScriptInterpretation, IsModel, free_names}
 use Rattle.smt_lines.specs.Naming.{HasDistinctNames}
 use Rattle.smt_lines.specs.Rows.{bool_variable, not_b, Negation}
-use Rattle.smt_lines.specs.Text.{names}
-use Rattle.smt_carrying.specs.Interpretations.{carry_interpretation, back_interpretation}
+use Rattle.smt_lines.specs.Text.{names, text}
+use Rattle.smt_carrying.specs.CarriedInterpretations.{carry_interpretation, back_interpretation}
 use Rattle.smt_headline.specs.Conditions.{AreConditions}
 use Rattle.smt_headline.specs.Headline.{AreTexts, HaveTermValues, AreTrue, Headline}
 
@@ -20,8 +20,8 @@ true_term = LiteralTerm (BoolLiteral true)
 pub record NegationIsItsScript : Type 0 where
   pub condition : AreConditions [] (not_b ∷ [])
   -- The text, byte for byte: b is t0, and its negation t1, which is asserted.
-  pub text : Negation
-  pub headline : Headline [] (not_b ∷ [])
+  pub bytes : Negation
+  pub headline : Headline [] (names [] (not_b ∷ [])) (not_b ∷ []) (text [] (not_b ∷ []))
   -- The models are exactly the script's interpretations that give t0 the value false,
   pub models : (J : ScriptInterpretation) → IsScriptInterpretation J headline.state → IsModel J headline.state ↔ (J.constants (codes "t0") ≡ TruthOf false)
   -- and the term is true in exactly the interpretations that give b the value false.

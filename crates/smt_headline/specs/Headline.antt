@@ -1,4 +1,4 @@
--- The main theorem: the text of conditions is a script, and its models are exactly the interpretations that make them all true.
+-- What the main theorem says: bytes are a script, and its models are exactly the interpretations that make all terms true.
 use Rattle.std.specs.Prelude.{◌≡◌, ◌↔◌, ℕ, true, IsTrue, map, List, [], ◌∷◌, ◌++◌, Some, ⊤}
 use Rattle.std.specs.List.{AllByRecursion}
 use Rattle.smt_term.specs.Plain.{PlainTerm}
@@ -14,14 +14,11 @@ use Rattle.smt_sexpr.specs.Reading.{Expression}
 use Rattle.smt_semantics.specs.Script.{State, is_in, assertions_of}
 use Rattle.smt_semantics.specs.ScriptValues.{TruthOf}
 use Rattle.smt_semantics.specs.Value.{ScriptInterpretation, IsScriptInterpretation, AgreeFor, IsModel, expression_value, free_names}
-use Rattle.smt_semantics.specs.Written.{Stands}
-use Rattle.smt_lines.specs.Entries.{text_of}
-use Rattle.smt_lines.specs.Lines.{Tables}
+use Rattle.smt_semantics.specs.Written.{IsOpenScript}
+use Rattle.smt_lines.specs.TermTexts.{text_of}
+use Rattle.smt_lines.specs.NameTables.{Tables}
 use Rattle.smt_lines.specs.Naming.{IsOneToOne}
-use Rattle.smt_lines.specs.Text.{text, names}
-use Rattle.smt_carrying.specs.Interpretations.{carry_interpretation, back_interpretation, variable_name, function_name}
-use Rattle.smt_carrying.specs.Order.{AreEnums}
-use Rattle.smt_headline.specs.Conditions.{AreConditions}
+use Rattle.smt_carrying.specs.CarriedInterpretations.{carry_interpretation, back_interpretation, variable_name, function_name}
 
 -- one expression for each term, at its place: the term's text
 abbrev pub AreTexts : Tables → List PlainTerm → List Expression → Type 0
@@ -43,29 +40,31 @@ reached_names s ts = map (λ v. variable_name s v.0 v.1) (reached_variables ts) 
 abbrev pub AreTrue : Interpretation → List PlainTerm → Type 0
 AreTrue I ts = AllByRecursion (λ t. term_value I t ≡ BoolValue true) ts
 
-pub record Headline (enums : Enums) (ts : List PlainTerm) : Type 0 where
-  -- what the text comes to
-  pub state : State
-  -- The text is a whole script by the grammar, which declares each name once, before its use.
-  pub script : Stands (text enums ts) state
-  -- It has one assertion for each term, in order: the term's text.
-  pub assertions : AreTexts (names enums ts) ts (assertions_of state)
+-- What the state of a script is for terms, with the names that were given for them.
+pub record Represents (enums : Enums) (s : Tables) (ts : List PlainTerm) (state : State) : Type 0 where
+  -- There is one assertion for each term, in order: the term's text.
+  pub assertions : AreTexts s ts (assertions_of state)
   -- In each of the tables two keys have two names.
-  pub one_to_one : IsOneToOne (names enums ts)
+  pub one_to_one : IsOneToOne s
   -- The script's free names are exactly those of the variables and functions that the terms reach.
-  pub free : (n : List ℕ) → IsTrue (is_in n (free_names state)) ↔ IsTrue (is_in n (reached_names (names enums ts) ts))
+  pub free : (n : List ℕ) → IsTrue (is_in n (free_names state)) ↔ IsTrue (is_in n (reached_names s ts))
   -- An interpretation of the terms, carried over, is one of the script, and each assertion has its term's value in it.
-  pub carried : (I : Interpretation) → IsInterpretation enums ts I → IsScriptInterpretation (carry_interpretation enums (names enums ts) I) state
-  pub values : (I : Interpretation) → IsInterpretation enums ts I → HaveTermValues I (carry_interpretation enums (names enums ts) I) state ts (assertions_of state)
+  pub carried : (I : Interpretation) → IsInterpretation enums ts I → IsScriptInterpretation (carry_interpretation enums s I) state
+  pub values : (I : Interpretation) → IsInterpretation enums ts I → HaveTermValues I (carry_interpretation enums s I) state ts (assertions_of state)
   -- An interpretation of the script comes back as one of the terms, which is carried to it again.
-  pub back : (J : ScriptInterpretation) → IsScriptInterpretation J state → IsInterpretation enums ts (back_interpretation enums (names enums ts) J)
-  pub again : (J : ScriptInterpretation) → IsScriptInterpretation J state → AgreeFor (carry_interpretation enums (names enums ts) (back_interpretation enums (names enums ts) J)) J state
+  pub back : (J : ScriptInterpretation) → IsScriptInterpretation J state → IsInterpretation enums ts (back_interpretation enums s J)
+  pub again : (J : ScriptInterpretation) → IsScriptInterpretation J state → AgreeFor (carry_interpretation enums s (back_interpretation enums s J)) J state
   -- So the models are exactly the interpretations that make all terms true.
-  pub models : (J : ScriptInterpretation) → IsScriptInterpretation J state → IsModel J state ↔ AreTrue (back_interpretation enums (names enums ts) J) ts
-  pub true_in : (I : Interpretation) → IsInterpretation enums ts I → AreTrue I ts ↔ IsModel (carry_interpretation enums (names enums ts) I) state
+  pub models : (J : ScriptInterpretation) → IsScriptInterpretation J state → IsModel J state ↔ AreTrue (back_interpretation enums s J) ts
+  pub true_in : (I : Interpretation) → IsInterpretation enums ts I → AreTrue I ts ↔ IsModel (carry_interpretation enums s I) state
+
+-- What bytes say of terms, with the names that were given for them.
+pub record Headline (enums : Enums) (s : Tables) (ts : List PlainTerm) (bytes : List ℕ) : Type 0 where
+  -- what the bytes come to
+  pub state : State
+  -- The bytes are a whole script by the grammar, which declares each name once, before its use.
+  pub script : IsOpenScript bytes state
+  -- Its state represents the terms.
+  pub represents : Represents enums s ts state
   -- The terms have an interpretation.
   pub interpreted : IsInterpretation enums ts (default_interpretation enums)
-
--- Conditions: typed Boolean terms, formed and without fault, over enum types whose members ascend.
-abbrev pub ConditionsAreTheirScripts : Type 0
-ConditionsAreTheirScripts = (enums : Enums) (ts : List PlainTerm) → AreEnums enums → AreConditions enums ts → Headline enums ts

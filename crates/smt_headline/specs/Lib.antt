@@ -1,6 +1,8 @@
 pub mod Conditions
 pub mod Example
+pub mod Fits
 pub mod Headline
+pub mod Reached
 pub mod Selections
-pub mod Standing
-pub mod Texts
+pub mod Stated
+pub mod TextValues

@@ -4,30 +4,29 @@ use Rattle.std.specs.Prelude.{◌≡◌, ℕ, codes, map, List, [], ◌∷◌, u
 use Rattle.smt_term.specs.Plain.{OptionType, BoolType, OptionGetOp, PlainTerm, VariableTerm}
 use Rattle.smt_term.specs.TypeValues.{Enums}
 use Rattle.smt_sexpr.specs.Reading.{Expression}
-use Rattle.smt_semantics.specs.Script.{name, start, run}
+use Rattle.smt_semantics.specs.Script.{State, Script, name, start, run}
 use Rattle.smt_semantics.specs.Sorts.{entries, bool_sort, option_sort}
 use Rattle.smt_semantics.specs.Value.{ScriptInterpretation, IsScriptInterpretation, applied_selectors}
 use Rattle.smt_lines.specs.Command.{commands}
-use Rattle.smt_lines.specs.Lines.{no_names, encode, option_line}
+use Rattle.smt_lines.specs.Lines.{encode, option_line}
+use Rattle.smt_lines.specs.NameTables.{no_names}
 use Rattle.smt_lines.specs.Rows.{unary, condition}
-use Rattle.smt_lines.specs.Scripts.{Stated}
-use Rattle.smt_lines.specs.Text.{names}
-use Rattle.smt_carrying.specs.Interpretations.{GivesReachedNames}
+use Rattle.smt_carrying.specs.CarriedInterpretations.{GivesReachedNames}
 use Rattle.smt_carrying.specs.Open.{LeavesOpen}
-use Rattle.smt_carrying.specs.Order.{AreEnums}
-use Rattle.smt_headline.specs.Conditions.{AreConditions}
+use Rattle.smt_carrying.specs.CarriedOrder.{AreEnums}
+use Rattle.smt_headline.specs.Fits.{Stage, FitsAt}
 
 -- ---- the laws
 
--- What the text of conditions leaves to an interpretation is what they reach: variables, functions, and selectors at the sorts
--- that they are applied to.
+-- What a script that fits a stage leaves to an interpretation is what the terms reach: variables, functions, and selectors at
+-- the sorts that they are applied to.
 abbrev pub SelectorsAreOpen : Type 0
-SelectorsAreOpen = (enums : Enums) (ts : List PlainTerm) (x : Stated enums ts) → AreConditions enums ts → AreEnums enums → LeavesOpen (names enums ts) ts x.state
+SelectorsAreOpen = (enums : Enums) (text : List ℕ) (x : Stage) (state : State) → FitsAt enums x state → Script text state → LeavesOpen x.tables x.terms state
 
--- An interpretation of that text gives values and tables to all of this.
+-- An interpretation of that script gives values and tables to all of this.
 abbrev pub InterpretationsGiveReached : Type 0
-InterpretationsGiveReached = (enums : Enums) (ts : List PlainTerm) (x : Stated enums ts) → AreConditions enums ts → AreEnums enums → (J : ScriptInterpretation) → IsScriptInterpretation J x.state
-    → GivesReachedNames (names enums ts) (entries x.state) ts J
+InterpretationsGiveReached = (enums : Enums) (text : List ℕ) (x : Stage) (state : State) → AreEnums enums → FitsAt enums x state → Script text state → (J : ScriptInterpretation) → IsScriptInterpretation J state
+    → GivesReachedNames x.tables (entries state) x.terms J
 
 -- ---- examples
 

@@ -1,13 +1,13 @@
 ghost use Rattle.smt_headline.specs.Example.{NegationIsItsScript};
-ghost use Rattle.smt_headline.specs.Headline.{ConditionsAreTheirScripts};
-ghost use Rattle.smt_headline.specs.Texts.{ReachedHaveTexts, StatedNamesLast};
+ghost use Rattle.smt_headline.specs.Stated.{ConditionsAreTheirScripts, StatedCallsFit};
+ghost use Rattle.smt_headline.specs.TextValues.{ReachedHaveTexts, ScriptNamesLast};
 
-/// In the stated text each name has what its line gives it.
+/// In each script each name has what its command gives it.
 pub fn names_last()
-    ensures { StatedNamesLast }
+    ensures { ScriptNamesLast }
 {}
 
-/// In each interpretation, carried over, the text of all that conditions reach has the carried value.
+/// In each interpretation, carried over, the text of all that the terms of a fitting stage reach has the carried value.
 pub fn reached_have_texts()
     ensures { ReachedHaveTexts }
 {}
@@ -16,6 +16,11 @@ pub fn reached_have_texts()
 /// interpretations that make the conditions true, carried over by the one-to-one table of names.
 pub fn conditions_are_their_scripts()
     ensures { ConditionsAreTheirScripts }
+{}
+
+/// The stated text of a list of calls fits what they leave.
+pub fn stated_calls_fit()
+    ensures { StatedCallsFit }
 {}
 
 /// The negation of one variable: its script, whose models give the variable the value false.

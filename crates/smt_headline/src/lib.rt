@@ -1,4 +1,5 @@
-//! The main theorem: the stated script of conditions has exactly the interpretations as models that make them all true.
+//! The main theorem: wherever a script, the terms that are encoded in it and the names that were given for them fit, the
+//! script has exactly those interpretations as models that make all these terms true.
 #![tactic(auto)]
 
 pub mod conditions;

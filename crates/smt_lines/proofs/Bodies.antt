@@ -1,5 +1,5 @@
 -- The bodies of definitions are known where tables and a state fit.
-use Rattle.std.proofs.Common.{◌≡◌, ℕ, zero, suc, ◌+◌, ◌-◌, ◌^◌, ◌<◌, ◌≤◌, Bool, true, false, List, [], ◌∷◌, ◌++◌, map, length, refl, sym, subst, inl, inr, Option, Some, None, arith}
+use Rattle.std.proofs.Common.{◌≡◌, ℕ, zero, suc, ◌+◌, ◌-◌, ◌^◌, ◌<◌, ◌≤◌, Bool, true, false, List, [], ◌∷◌, map, length, refl, sym, subst, inl, inr, Option, Some, None, arith}
 use Rattle.std.specs.Prelude.{codes, IsSome, nat_lt, eqb}
 use Rattle.std.specs.List.{list_all}
 use Rattle.std.proofs.lemmas.Bool.{and_parts, and_from, ltb-true, false≢true, eqb-true, eqb-false}
@@ -10,36 +10,40 @@ use Rattle.smt_term.specs.Formed.{attribute_names}
 use Rattle.smt_term.specs.Types.{kind_of}
 use Rattle.smt_sexpr.specs.Reading.{Expression, expressions}
 use Rattle.smt_semantics.specs.Script.{State, name, group, is_in, built_in_names, has_name, has_sort, is_sort, knows}
-use Rattle.smt_semantics.specs.Quoting.{part_expr, pattern_expr}
+use Rattle.smt_semantics.specs.WrittenStrings.{part_expr, pattern_expr}
 use Rattle.smt_semantics.specs.Written.{is_name}
 use Rattle.smt_semantics.proofs.Quotes.{patterns_write}
 use Rattle.smt_semantics.specs.Sorts.{bit_sort, option_sort}
-use Rattle.smt_lines.specs.Lines.{Tables, name_of_type, name_of_function, text_of_name, attribute_name, attribute_place, place_of, bits, prefix_body, extension_body, encode_head, encode_function, operands, AsItStands, manner, none_body, empty_set, set_body, record_body, first_type}
-use Rattle.smt_lines.specs.Naming.{sort_of}
-use Rattle.smt_lines.specs.Entries.{HasSort, named_text}
+use Rattle.smt_lines.specs.LineForms.{prefix_body, extension_body, none_body, empty_set, set_body, record_body, application_body, least_body, some_body}
+use Rattle.smt_lines.specs.EntryNames.{attribute_name, place_of}
+use Rattle.smt_lines.specs.Lines.{attribute_place, bits, encode_head, encode_function, AsApplication, application_rendering, first_type}
+use Rattle.smt_lines.specs.NameTables.{Tables, name_of_type, name_of_function, text_of_name}
+use Rattle.smt_lines.specs.Naming.{type_sort}
+use Rattle.smt_lines.specs.Entries.{TypeHasEntries}
+use Rattle.smt_lines.specs.TermTexts.{named_text}
 use Rattle.smt_lines.proofs.Making.{functions_are_made}
 use Rattle.smt_lines.specs.Command.{is_written, are_written}
-use Rattle.smt_lines.specs.Fine.{IsFineOp, IsLeast, AreFine, kind_of_op}
-use Rattle.smt_lines.specs.Fit.{Fit, TypeStands, declares, kind_names, placed}
+use Rattle.smt_lines.specs.Encodable.{HasArgument, IsEncodableOp, IsLeast, AreEncodable, kind_of_op}
+use Rattle.smt_lines.specs.Fit.{Fit, TypeEntryIsDeclared, declares, kind_names, placed}
 use Rattle.smt_lines.proofs.Known.{GoodSort, GoodText, GoodTexts, TextsAre, sort_good, text_good, texts_good, more_good, applied_good, one_passes, type_stands, function_stands, bits_good}
 use Rattle.smt_term.specs.Faults.{is_pattern_part}
 use Rattle.smt_semantics.proofs.Results.{or_right}
 
 -- ---- entries of types
 
-pub stands : (enums : Enums) (s : Tables) (state : State) → Fit enums s state → (t : PlainType) → (o : Option (List ℕ)) → name_of_type s t ≡ o → IsSome o → TypeStands enums state t (text_of_name o)
+pub stands : (enums : Enums) (s : Tables) (state : State) → Fit enums s state → (t : PlainType) → (o : Option (List ℕ)) → name_of_type s t ≡ o → IsSome o → TypeEntryIsDeclared enums state t (text_of_name o)
 stands enums s state fit t None e h = absurd (false≢true h)
 stands enums s state fit t (Some n) e h = type_stands enums s state fit t n e
 
-pub stands_so : (enums : Enums) (s : Tables) (state : State) → Fit enums s state → (t : PlainType) → IsSome (name_of_type s t) → TypeStands enums state t (text_of_name (name_of_type s t))
+pub stands_so : (enums : Enums) (s : Tables) (state : State) → Fit enums s state → (t : PlainType) → IsSome (name_of_type s t) → TypeEntryIsDeclared enums state t (text_of_name (name_of_type s t))
 stands_so enums s state fit t h = stands enums s state fit t (name_of_type s t) refl h
 
-pub first_has_sort : (enums : Enums) (s : Tables) (state : State) → Fit enums s state → (ts : PlainTerms) → AreFine enums ts → (es : List Expression) → TextsAre s ts es → HasSort s (first_type ts)
+pub first_has_sort : (enums : Enums) (s : Tables) (state : State) → Fit enums s state → (ts : PlainTerms) → AreEncodable enums ts → (es : List Expression) → TextsAre s ts es → TypeHasEntries s (first_type ts)
 first_has_sort enums s state fit no_terms f es h = tt
 first_has_sort enums s state fit (one_term t ts) f [] h = absurd h
 first_has_sort enums s state fit (one_term t ts) f (e ∷ es) h = (text_good enums s state fit t f.0 e h.0).1
 
-kind_declares : (enums : Enums) (s : Tables) (state : State) → Fit enums s state → (k : ExtensionKind) → HasSort s (ExtensionType k) → (n : List ℕ) → is_in n (kind_names k) ≡ true → declares state n ≡ true
+kind_declares : (enums : Enums) (s : Tables) (state : State) → Fit enums s state → (k : ExtensionKind) → TypeHasEntries s (ExtensionType k) → (n : List ℕ) → is_in n (kind_names k) ≡ true → declares state n ≡ true
 kind_declares enums s state fit k h n i = one_passes (declares state) n (kind_names k) (stands_so enums s state fit (ExtensionType k) h).declared i
 
 abbrev pub one_good : State → Expression → Type 0
@@ -56,20 +60,20 @@ pair state e f g h = let r = alone state f h in (and_from (knows state e) _ g.0 
 pub option_good : (enums : Enums) (s : Tables) (state : State) → Fit enums s state → (n : List ℕ) → is_in n (codes "none" ∷ codes "some" ∷ codes "val" ∷ []) ≡ true → declares state n ≡ true
 option_good enums s state fit n h = one_passes (declares state) n (codes "none" ∷ codes "some" ∷ codes "val" ∷ []) fit.builds h
 
-extension_op_good : (enums : Enums) (s : Tables) (state : State) → Fit enums s state → (x : ExtensionOp) → HasSort s (ExtensionType (kind_of_op x)) → (ts : PlainTerms) (es : List Expression) → GoodTexts state es
-    → GoodText state (group ((encode_head enums (ExtOp x) ts s).made ∷ es))
-extension_op_good enums s state fit DatetimeOfBitVecOp h ts es g = applied_good enums s state fit (codes "Datetime") es (kind_declares enums s state fit DatetimeKind h (codes "Datetime") refl) refl g
-extension_op_good enums s state fit DatetimeValOp h ts es g = applied_good enums s state fit (codes "datetimeVal") es (kind_declares enums s state fit DatetimeKind h (codes "datetimeVal") refl) refl g
-extension_op_good enums s state fit DecimalValOp h ts es g = applied_good enums s state fit (codes "decimalVal") es (kind_declares enums s state fit DecimalKind h (codes "decimalVal") refl) refl g
-extension_op_good enums s state fit DurationOfBitVecOp h ts es g = applied_good enums s state fit (codes "Duration") es (kind_declares enums s state fit DurationKind h (codes "Duration") refl) refl g
-extension_op_good enums s state fit DurationValOp h ts es g = applied_good enums s state fit (codes "durationVal") es (kind_declares enums s state fit DurationKind h (codes "durationVal") refl) refl g
-extension_op_good enums s state fit IpAddrV4Op h ts es g = applied_good enums s state fit (codes "addrV4") es (kind_declares enums s state fit IpAddrKind h (codes "addrV4") refl) refl g
-extension_op_good enums s state fit IpAddrV6Op h ts es g = applied_good enums s state fit (codes "addrV6") es (kind_declares enums s state fit IpAddrKind h (codes "addrV6") refl) refl g
-extension_op_good enums s state fit IpIsV4Op h ts es g =
+extension_op_good : (enums : Enums) (s : Tables) (state : State) → Fit enums s state → (x : ExtensionOp) → TypeHasEntries s (ExtensionType (kind_of_op x)) → (ts : PlainTerms) (e : Expression) (es : List Expression) → GoodTexts state (e ∷ es)
+    → GoodText state (group ((encode_head enums (ExtOp x) ts s).made ∷ e ∷ es))
+extension_op_good enums s state fit DatetimeOfBitVecOp h ts e es g = applied_good enums s state fit (codes "Datetime") e es (kind_declares enums s state fit DatetimeKind h (codes "Datetime") refl) refl g
+extension_op_good enums s state fit DatetimeValOp h ts e es g = applied_good enums s state fit (codes "datetimeVal") e es (kind_declares enums s state fit DatetimeKind h (codes "datetimeVal") refl) refl g
+extension_op_good enums s state fit DecimalValOp h ts e es g = applied_good enums s state fit (codes "decimalVal") e es (kind_declares enums s state fit DecimalKind h (codes "decimalVal") refl) refl g
+extension_op_good enums s state fit DurationOfBitVecOp h ts e es g = applied_good enums s state fit (codes "Duration") e es (kind_declares enums s state fit DurationKind h (codes "Duration") refl) refl g
+extension_op_good enums s state fit DurationValOp h ts e es g = applied_good enums s state fit (codes "durationVal") e es (kind_declares enums s state fit DurationKind h (codes "durationVal") refl) refl g
+extension_op_good enums s state fit IpAddrV4Op h ts e es g = applied_good enums s state fit (codes "addrV4") e es (kind_declares enums s state fit IpAddrKind h (codes "addrV4") refl) refl g
+extension_op_good enums s state fit IpAddrV6Op h ts e es g = applied_good enums s state fit (codes "addrV6") e es (kind_declares enums s state fit IpAddrKind h (codes "addrV6") refl) refl g
+extension_op_good enums s state fit IpIsV4Op h ts e es g =
     let d : has_name state (codes "V4") ≡ true = kind_declares enums s state fit IpAddrKind h (codes "V4") refl in
     (and_from (has_name state (codes "V4")) _ d g.0, g.1)
-extension_op_good enums s state fit IpPrefixV4Op h ts es g = applied_good enums s state fit (codes "prefixV4") es (kind_declares enums s state fit IpAddrKind h (codes "prefixV4") refl) refl g
-extension_op_good enums s state fit IpPrefixV6Op h ts es g = applied_good enums s state fit (codes "prefixV6") es (kind_declares enums s state fit IpAddrKind h (codes "prefixV6") refl) refl g
+extension_op_good enums s state fit IpPrefixV4Op h ts e es g = applied_good enums s state fit (codes "prefixV4") e es (kind_declares enums s state fit IpAddrKind h (codes "prefixV4") refl) refl g
+extension_op_good enums s state fit IpPrefixV6Op h ts e es g = applied_good enums s state fit (codes "prefixV6") e es (kind_declares enums s state fit IpAddrKind h (codes "prefixV6") refl) refl g
 
 pub placed_passes : (p : List ℕ → Bool) (f : ℕ → List ℕ) (place count i : ℕ) → list_all p (placed f place count) ≡ true → place ≤ i → i < place + count → p (f i) ≡ true
 placed_passes p f place zero i h l m = absurd (impossible place i l m)
@@ -87,22 +91,22 @@ placed_passes p f place (suc count) i h l m =
         next : (place i : ℕ) → place ≤ i → (place ≡ i → ⊥) → suc place ≤ i
         next place i l n = omega arith
 
-record_get_good : (enums : Enums) (s : Tables) (state : State) → Fit enums s state → (a : List ℕ) (x : AttributeTypes) (t : PlainType) → t ≡ RecordType x → HasSort s t
-    → nat_lt (place_of a (attribute_names x)) (length (attribute_names x)) ≡ true → (es : List Expression) → GoodTexts state es
-    → GoodText state (group (name (attribute_name (text_of_name (name_of_type s t)) (attribute_place a t)) ∷ es))
-record_get_good enums s state fit a x t e h l es g =
-    subst (λ u. GoodText state (group (name (attribute_name (text_of_name (name_of_type s u)) (attribute_place a u)) ∷ es))) (sym e)
-    (at (stands_so enums s state fit (RecordType x) (subst (λ u. HasSort s u) e h)))
+record_get_good : (enums : Enums) (s : Tables) (state : State) → Fit enums s state → (a : List ℕ) (x : AttributeTypes) (t : PlainType) → t ≡ RecordType x → TypeHasEntries s t
+    → nat_lt (place_of a (attribute_names x)) (length (attribute_names x)) ≡ true → (y : Expression) (es : List Expression) → GoodTexts state (y ∷ es)
+    → GoodText state (group (name (attribute_name (text_of_name (name_of_type s t)) (attribute_place a t)) ∷ y ∷ es))
+record_get_good enums s state fit a x t e h l y es g =
+    subst (λ u. GoodText state (group (name (attribute_name (text_of_name (name_of_type s u)) (attribute_place a u)) ∷ y ∷ es))) (sym e)
+    (at (stands_so enums s state fit (RecordType x) (subst (λ u. TypeHasEntries s u) e h)))
   where
-    at : TypeStands enums state (RecordType x) (text_of_name (name_of_type s (RecordType x))) → GoodText state (group (name (attribute_name (text_of_name (name_of_type s (RecordType x))) (place_of a (attribute_names x))) ∷ es))
-    at y =
+    at : TypeEntryIsDeclared enums state (RecordType x) (text_of_name (name_of_type s (RecordType x))) → GoodText state (group (name (attribute_name (text_of_name (name_of_type s (RecordType x))) (place_of a (attribute_names x))) ∷ y ∷ es))
+    at z =
         let n = text_of_name (name_of_type s (RecordType x)) in
         let c = length (attribute_names x) in
         let i = place_of a (attribute_names x) in
         let k : i < 0 + c = let m = ltb-true i c l in omega arith in
-        let d = (and_parts (declares state n) (list_all (declares state) (placed (attribute_name n) 0 c)) y.declared).1 in
-        let w = (and_parts (is_name n) (list_all is_name (placed (attribute_name n) 0 c)) y.names).1 in
-        applied_good enums s state fit (attribute_name n i) es (placed_passes (declares state) (attribute_name n) 0 c i d (omega arith) k) (placed_passes is_name (attribute_name n) 0 c i w (omega arith) k) g
+        let d = (and_parts (declares state n) (list_all (declares state) (placed (attribute_name n) 0 c)) z.declared).1 in
+        let w = (and_parts (is_name n) (list_all is_name (placed (attribute_name n) 0 c)) z.names).1 in
+        applied_good enums s state fit (attribute_name n i) y es (placed_passes (declares state) (attribute_name n) 0 c i d (omega arith) k) (placed_passes is_name (attribute_name n) 0 c i w (omega arith) k) g
 
 -- ---- patterns
 
@@ -125,41 +129,43 @@ like_good state e ps h g =
 
 -- ---- applications
 
-function_good : (enums : Enums) (s : Tables) (state : State) → Fit enums s state → (f : PlainFunction) (o : Option (List ℕ)) → name_of_function s f ≡ o → (head : Expression) → named_text o ≡ Some head → (es : List Expression) → GoodTexts state es → GoodText state (group (head ∷ es))
-function_good enums s state fit f None q head h es g = absurd (none h)
+function_good : (enums : Enums) (s : Tables) (state : State) → Fit enums s state → (f : PlainFunction) (o : Option (List ℕ)) → name_of_function s f ≡ o → (head : Expression) → named_text o ≡ Some head → (e : Expression) (es : List Expression) → GoodTexts state (e ∷ es) → GoodText state (group (head ∷ e ∷ es))
+function_good enums s state fit f None q head h e es g = absurd (none h)
   where
     none : None ≡ Some head → ⊥
     none h = cc
-function_good enums s state fit f (Some n) q head h es g =
+function_good enums s state fit f (Some n) q head h e es g =
     let y = function_stands enums s state fit f n q in
-    let e : name n ≡ head = same h in
-    subst (λ x. GoodText state (group (x ∷ es))) e (applied_good enums s state fit n es y.declared y.name g)
+    let i : name n ≡ head = same h in
+    subst (λ x. GoodText state (group (x ∷ e ∷ es))) i (applied_good enums s state fit n e es y.declared y.name g)
   where
     same : Some (name n) ≡ Some head → name n ≡ head
     same h = cc
 
-pub body_good : (enums : Enums) (s : Tables) (op : PlainOp) (ts : PlainTerms) (type : PlainType) (es : List Expression) → manner op ts type ≡ AsItStands → IsFineOp op ts type → AreFine enums ts
-    → TextsAre (encode_head enums op ts s).tables ts es → HasSort (encode_head enums op ts s).tables type
-    → (state : State) → Fit enums (encode_head enums op ts s).tables state → GoodText state (group ((encode_head enums op ts s).made ∷ operands op es))
-body_good enums s BvnegoOp ts type es m f a h k state fit = absurd (subst IsLeast m f)
-body_good enums s (ExtOp x) ts type es m (inl e) a h k state fit =
-    extension_op_good enums s state fit x (subst (λ t. HasSort s t) e (first_has_sort enums s state fit ts a es h)) ts es (texts_good enums s state fit ts a es h)
-body_good enums s (ExtOp x) ts type es m (inr e) a h k state fit =
-    extension_op_good enums s state fit x (subst (λ t. HasSort s t) e k) ts es (texts_good enums s state fit ts a es h)
-body_good enums s OptionGetOp ts type es m f a h k state fit = applied_good enums s state fit (codes "val") es (option_good enums s state fit (codes "val") refl) refl (texts_good enums s state fit ts a es h)
-body_good enums s (RecordGetOp b) ts type es m f a h k state fit =
-    record_get_good enums s state fit b f.0 (first_type ts) f.1 (first_has_sort enums s state fit ts a es h) f.2 es (texts_good enums s state fit ts a es h)
-body_good enums s (StringLikeOp p) no_terms type es m f a h k state fit = absurd f.0
-body_good enums s (StringLikeOp p) (one_term t no_terms) type [] m f a h k state fit = absurd h
-body_good enums s (StringLikeOp p) (one_term t no_terms) type (e ∷ []) m f a h k state fit = like_good state e p f.1 (text_good enums s state fit t a.0 e h.0).0
-body_good enums s (StringLikeOp p) (one_term t no_terms) type (e ∷ d ∷ es) m f a h k state fit = absurd h.1
-body_good enums s (StringLikeOp p) (one_term t (one_term u ts)) type es m f a h k state fit = absurd f.0
-body_good enums s (UufOp g) ts type es m f a h k state fit =
-    function_good enums (encode_function enums g s).tables state fit g (name_of_function (encode_function enums g s).tables g) refl (encode_function enums g s).made (functions_are_made enums g s) es (texts_good enums (encode_function enums g s).tables state fit ts a es h)
-body_good enums s op ts type es m f a h k state fit = texts_good enums s state fit ts a es h
+pub body_good : (enums : Enums) (s : Tables) (op : PlainOp) (ts : PlainTerms) (type : PlainType) (es : List Expression) → application_rendering op ts type ≡ AsApplication → IsEncodableOp enums op ts type → HasArgument ts → AreEncodable enums ts
+    → TextsAre (encode_head enums op ts s).tables ts es → TypeHasEntries (encode_head enums op ts s).tables type
+    → (state : State) → Fit enums (encode_head enums op ts s).tables state → GoodText state (application_body (encode_head enums op ts s).made op es)
+body_good enums s op no_terms type es m f i a h k state fit = absurd i
+body_good enums s op (one_term t ts) type [] m f i a h k state fit = absurd h
+body_good enums s BvnegoOp (one_term t ts) type (e ∷ es) m f i a h k state fit = absurd (subst IsLeast m f)
+body_good enums s (ExtOp x) (one_term t ts) type (e ∷ es) m (inl p) i a h k state fit =
+    extension_op_good enums s state fit x (subst (λ u. TypeHasEntries s u) p (first_has_sort enums s state fit (one_term t ts) a (e ∷ es) h)) (one_term t ts) e es (texts_good enums s state fit (one_term t ts) a (e ∷ es) h)
+body_good enums s (ExtOp x) (one_term t ts) type (e ∷ es) m (inr p) i a h k state fit =
+    extension_op_good enums s state fit x (subst (λ u. TypeHasEntries s u) p k) (one_term t ts) e es (texts_good enums s state fit (one_term t ts) a (e ∷ es) h)
+body_good enums s OptionGetOp (one_term t ts) type (e ∷ es) m f i a h k state fit = applied_good enums s state fit (codes "val") e es (option_good enums s state fit (codes "val") refl) refl (texts_good enums s state fit (one_term t ts) a (e ∷ es) h)
+body_good enums s (RecordGetOp b) (one_term t ts) type (e ∷ es) m f i a h k state fit =
+    record_get_good enums s state fit b f.0 (first_type (one_term t ts)) f.1 (first_has_sort enums s state fit (one_term t ts) a (e ∷ es) h) f.2 e es (texts_good enums s state fit (one_term t ts) a (e ∷ es) h)
+body_good enums s (StringLikeOp p) (one_term t no_terms) type (e ∷ []) m f i a h k state fit = like_good state e p f.1 (text_good enums s state fit t a.0 e h.0).0
+body_good enums s (StringLikeOp p) (one_term t no_terms) type (e ∷ d ∷ es) m f i a h k state fit = absurd h.1
+body_good enums s (StringLikeOp p) (one_term t (one_term u ts)) type (e ∷ es) m f i a h k state fit = absurd f.0
+body_good enums s (UufOp g) (one_term t ts) type (e ∷ es) m f i a h k state fit =
+    let u : Tables = (encode_function enums g s).tables in
+    function_good enums u state fit g (name_of_function u g) refl (encode_function enums g s).made (functions_are_made enums g s) e es (texts_good enums u state fit (one_term t ts) a (e ∷ es) h)
+body_good enums s op (one_term t ts) type (e ∷ es) m f i a h k state fit = texts_good enums s state fit (one_term t ts) a (e ∷ es) h
 
-pub least_good : (state : State) (width : ℕ) (es : List Expression) → GoodTexts state es → GoodText state (group (name (codes "=") ∷ (es ++ bits width (2 ^ (width - 1)) ∷ [])))
-least_good state width es g = more_good state es (bits width (2 ^ (width - 1)) ∷ []) g (alone state (bits width (2 ^ (width - 1))) (bits_good state width (2 ^ (width - 1))))
+pub least_good : (state : State) (width : ℕ) (es : List Expression) → GoodTexts state es → GoodText state (least_body width es)
+least_good state width [] g = alone state (bits width (2 ^ (width - 1))) (bits_good state width (2 ^ (width - 1)))
+least_good state width (e ∷ es) g = more_good state (e ∷ es) (bits width (2 ^ (width - 1)) ∷ []) g (alone state (bits width (2 ^ (width - 1))) (bits_good state width (2 ^ (width - 1))))
 
 -- ---- the other bodies
 
@@ -168,26 +174,27 @@ none_good enums s state fit sort g =
     let d : has_name state (codes "none") ≡ true = option_good enums s state fit (codes "none") refl in
     (and_from (has_name state (codes "none")) (is_sort (has_sort state) sort) d g.0, and_from (is_written sort) true g.1 refl)
 
-pub some_good : (enums : Enums) (s : Tables) (state : State) → Fit enums s state → (e : Expression) → GoodText state e → GoodText state (group (name (codes "some") ∷ e ∷ []))
-some_good enums s state fit e g = applied_good enums s state fit (codes "some") (e ∷ []) (option_good enums s state fit (codes "some") refl) refl (alone state e g)
+pub some_good : (enums : Enums) (s : Tables) (state : State) → Fit enums s state → (e : Expression) → GoodText state e → GoodText state (some_body e)
+some_good enums s state fit e g = applied_good enums s state fit (codes "some") e [] (option_good enums s state fit (codes "some") refl) refl (alone state e g)
 
 empty_good : (state : State) (sort : Expression) → GoodSort state sort → GoodText state (empty_set sort)
 empty_good state sort g = (g.0, and_from (is_written sort) true g.1 refl)
 
 pub set_good : (state : State) (sort : Expression) (es : List Expression) → GoodSort state sort → GoodTexts state es → GoodText state (set_body sort es)
 set_good state sort [] g h = empty_good state sort g
-set_good state sort (e ∷ es) g h = more_good state (e ∷ es) (empty_set sort ∷ []) h (alone state (empty_set sort) (empty_good state sort g))
+set_good state sort (e ∷ []) g h = more_good state (e ∷ []) (empty_set sort ∷ []) h (alone state (empty_set sort) (empty_good state sort g))
+set_good state sort (e ∷ f ∷ es) g h = more_good state (e ∷ f ∷ es) (empty_set sort ∷ []) h (alone state (empty_set sort) (empty_good state sort g))
 
-pub record_good : (enums : Enums) (s : Tables) (state : State) → Fit enums s state → (x : AttributeTypes) → HasSort s (RecordType x) → (es : List Expression) → GoodTexts state es → GoodText state (record_body (sort_of s (RecordType x)) es)
+pub record_good : (enums : Enums) (s : Tables) (state : State) → Fit enums s state → (x : AttributeTypes) → TypeHasEntries s (RecordType x) → (es : List Expression) → GoodTexts state es → GoodText state (record_body (type_sort s (RecordType x)) es)
 record_good enums s state fit x h es g = go es g (stands_so enums s state fit (RecordType x) h)
   where
-    go : (es : List Expression) → GoodTexts state es → TypeStands enums state (RecordType x) (text_of_name (name_of_type s (RecordType x))) → GoodText state (record_body (name (text_of_name (name_of_type s (RecordType x)))) es)
+    go : (es : List Expression) → GoodTexts state es → TypeEntryIsDeclared enums state (RecordType x) (text_of_name (name_of_type s (RecordType x))) → GoodText state (record_body (name (text_of_name (name_of_type s (RecordType x)))) es)
     go [] g y =
         let n = text_of_name (name_of_type s (RecordType x)) in
         (or_right (is_in n built_in_names) (declares state n) (and_parts (declares state n) _ y.declared).0, y.name)
     go (e ∷ es) g y =
         let n = text_of_name (name_of_type s (RecordType x)) in
-        applied_good enums s state fit n (e ∷ es) (and_parts (declares state n) _ y.declared).0 y.name g
+        applied_good enums s state fit n e es (and_parts (declares state n) _ y.declared).0 y.name g
 
 -- ---- extension literals
 
@@ -199,9 +206,9 @@ prefix_6_good : (enums : Enums) (s : Tables) (state : State) → Fit enums s sta
 prefix_6_good enums s state fit (Some p) = some_good enums s state fit (bits 7 p) (bits_good state 7 p)
 prefix_6_good enums s state fit None = none_good enums s state fit (option_sort (bit_sort 7)) (sort_good enums s state fit (OptionType (BitVecType 7)) refl tt)
 
-pub extension_good : (enums : Enums) (s : Tables) (state : State) → Fit enums s state → (x : PlainExtension) → HasSort s (ExtensionType (kind_of x)) → GoodText state (extension_body x)
-extension_good enums s state fit (DecimalOf x) h = applied_good enums s state fit (codes "Decimal") (bits 64 (bits_of 64 x) ∷ []) (kind_declares enums s state fit DecimalKind h (codes "Decimal") refl) refl (alone state (bits 64 (bits_of 64 x)) (bits_good state 64 (bits_of 64 x)))
-extension_good enums s state fit (DatetimeOf x) h = applied_good enums s state fit (codes "Datetime") (bits 64 (bits_of 64 x) ∷ []) (kind_declares enums s state fit DatetimeKind h (codes "Datetime") refl) refl (alone state (bits 64 (bits_of 64 x)) (bits_good state 64 (bits_of 64 x)))
-extension_good enums s state fit (DurationOf x) h = applied_good enums s state fit (codes "Duration") (bits 64 (bits_of 64 x) ∷ []) (kind_declares enums s state fit DurationKind h (codes "Duration") refl) refl (alone state (bits 64 (bits_of 64 x)) (bits_good state 64 (bits_of 64 x)))
-extension_good enums s state fit (Ipv4Of a p) h = applied_good enums s state fit (codes "V4") (bits 32 a ∷ prefix_body 5 p ∷ []) (kind_declares enums s state fit IpAddrKind h (codes "V4") refl) refl (pair state (bits 32 a) (prefix_body 5 p) (bits_good state 32 a) (prefix_4_good enums s state fit p))
-extension_good enums s state fit (Ipv6Of a p) h = applied_good enums s state fit (codes "V6") (bits 128 a ∷ prefix_body 7 p ∷ []) (kind_declares enums s state fit IpAddrKind h (codes "V6") refl) refl (pair state (bits 128 a) (prefix_body 7 p) (bits_good state 128 a) (prefix_6_good enums s state fit p))
+pub extension_good : (enums : Enums) (s : Tables) (state : State) → Fit enums s state → (x : PlainExtension) → TypeHasEntries s (ExtensionType (kind_of x)) → GoodText state (extension_body x)
+extension_good enums s state fit (DecimalOf x) h = applied_good enums s state fit (codes "Decimal") (bits 64 (bits_of 64 x)) [] (kind_declares enums s state fit DecimalKind h (codes "Decimal") refl) refl (alone state (bits 64 (bits_of 64 x)) (bits_good state 64 (bits_of 64 x)))
+extension_good enums s state fit (DatetimeOf x) h = applied_good enums s state fit (codes "Datetime") (bits 64 (bits_of 64 x)) [] (kind_declares enums s state fit DatetimeKind h (codes "Datetime") refl) refl (alone state (bits 64 (bits_of 64 x)) (bits_good state 64 (bits_of 64 x)))
+extension_good enums s state fit (DurationOf x) h = applied_good enums s state fit (codes "Duration") (bits 64 (bits_of 64 x)) [] (kind_declares enums s state fit DurationKind h (codes "Duration") refl) refl (alone state (bits 64 (bits_of 64 x)) (bits_good state 64 (bits_of 64 x)))
+extension_good enums s state fit (Ipv4Of a p) h = applied_good enums s state fit (codes "V4") (bits 32 a) (prefix_body 5 p ∷ []) (kind_declares enums s state fit IpAddrKind h (codes "V4") refl) refl (pair state (bits 32 a) (prefix_body 5 p) (bits_good state 32 a) (prefix_4_good enums s state fit p))
+extension_good enums s state fit (Ipv6Of a p) h = applied_good enums s state fit (codes "V6") (bits 128 a) (prefix_body 7 p ∷ []) (kind_declares enums s state fit IpAddrKind h (codes "V6") refl) refl (pair state (bits 128 a) (prefix_body 7 p) (bits_good state 128 a) (prefix_6_good enums s state fit p))

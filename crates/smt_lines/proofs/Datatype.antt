@@ -11,9 +11,9 @@ use Rattle.smt_term.specs.TypeValues.{Enums}
 use Rattle.smt_term.specs.Types.{type_eq}
 use Rattle.smt_sexpr.specs.Reading.{Expression}
 use Rattle.smt_semantics.specs.Script as script
-use Rattle.smt_semantics.specs.Script.{Constructor, Entry, Builds, Selects, State, is_in, is_reserved, is_taken, is_taken_sort, names_of, names_below, sorts_of, has_sort, is_sort, built_in_names, built_in_sorts, with_sort, obey, run, step, ◌>>=◌}
+use Rattle.smt_semantics.specs.Script.{Constructor, Entry, Builds, Selects, State, are_distinct, has_constructor, is_in, is_reserved, is_taken, is_taken_sort, names_of, names_below, declared_sorts, has_sort, is_sort, built_in_names, built_in_sorts, with_sort, obey, run, step, ◌>>=◌}
 use Rattle.smt_semantics.specs.Meanings.{names_in, selectors_named, constructors_named, are_new, are_fields}
-use Rattle.smt_semantics.specs.Growth.{with_datatype}
+use Rattle.smt_semantics.specs.DeclarationLines.{with_datatype}
 use Rattle.smt_semantics.specs.Written.{is_name}
 use Rattle.smt_semantics.proofs.Grown.{constructors_append, datatypes_declare}
 use Rattle.smt_lines.proofs.Kept.{datatype_kept, datatype_only, datatype_rooted}
@@ -21,11 +21,11 @@ use Rattle.smt_semantics.proofs.Keeps.{sort_still_known}
 use Rattle.smt_semantics.proofs.Datatypes.{datatypes_leave}
 use Rattle.smt_lines.specs.Line as line
 use Rattle.smt_lines.specs.Line.{Line, Comment, DeclareDatatype}
-use Rattle.smt_lines.specs.Entries.{TypePartsStand, type_lines}
-use Rattle.smt_lines.specs.Lines.{Tables}
+use Rattle.smt_lines.specs.Entries.{TypePartsHaveEntries, type_lines}
+use Rattle.smt_lines.specs.NameTables.{Tables}
 use Rattle.smt_lines.proofs.Grow.{lookup_append}
 use Rattle.smt_lines.specs.Command.{all_built, is_written_constructor}
-use Rattle.smt_lines.specs.Fit.{EachLine, LineStands, Fit, Steps, declares, declares_sort, names_of_type, is_old_name_in, is_old_sort_in}
+use Rattle.smt_lines.specs.Fit.{IsKindNamed, EachLine, LineIsDeclared, Fit, Steps, declares, declares_sort, names_of_type, is_old_name_in, is_old_sort_in}
 use Rattle.smt_lines.proofs.Known.{one_passes}
 use Rattle.smt_lines.proofs.Enter.{More, fit_grows, all_grow, old_stays, old_sort_stays, fresh_from}
 use Rattle.smt_lines.proofs.Single.{step_runs}
@@ -95,10 +95,6 @@ more_type s t n = record {
   names = λ u m h. lookup_append (type_eq u) s.types ((t, n) ∷ []) m h;
 }
 
-abbrev pub are_distinct : List (List ℕ) → Bool
-are_distinct [] = true
-are_distinct (n ∷ ns) = not (is_in n ns) && are_distinct ns
-
 -- neither built in nor reserved
 abbrev pub is_free : List ℕ → Bool
 is_free n = not (is_in n built_in_names) && not (is_reserved n)
@@ -118,6 +114,7 @@ pub record IsNew (enums : Enums) (s : Tables) (t : PlainType) (d : List ℕ) : T
   pub new : list_all (λ n. not (is_old_name_in s n)) (names_of_type enums t d) ≡ true
   pub old : list_all (is_old_name_in (with_type t d s)) (names_of_type enums t d) ≡ true
   pub distinct : are_distinct (names_of_type enums t d) ≡ true
+  pub kind : IsKindNamed t d
 
 no : (b : Bool) → not b ≡ true → b ≡ false
 no true h = absurd (false≢true h)
@@ -145,25 +142,25 @@ map_append (x ∷ xs) ys = ap (λ (t : List (List ℕ)). x.0 ∷ t) (map_append 
 
 pub undeclared : (enums : Enums) (s : Tables) (state : State) → Fit enums s state → (d : List ℕ) → is_old_sort_in s d ≡ false → declares_sort state d ≡ false
 undeclared enums s state fit d new = elim (cases_Bool (declares_sort state d)) [
-  | inl h ↦ absurd (false≢true (sym new ∙ one_passes (is_old_sort_in s) d (map (λ p. p.0) (sorts_of state)) (mapped_sorts (is_old_sort_in s) (sorts_of state) fit.old_sorts) h))
+  | inl h ↦ absurd (false≢true (sym new ∙ one_passes (is_old_sort_in s) d (map (λ p. p.0) (declared_sorts state)) (mapped_sorts (is_old_sort_in s) (declared_sorts state) fit.old_sorts) h))
   | inr h ↦ h
 ]
 
 fresh_sort : (enums : Enums) (s : Tables) (state : State) → Fit enums s state → (d : List ℕ) → is_in d sort_names ≡ false → is_reserved d ≡ false → is_old_sort_in s d ≡ false → is_taken_sort state d ≡ false
 fresh_sort enums s state fit d free unreserved new =
-    let there : is_in d (map (λ p. p.0) (sorts_of state)) ≡ false = undeclared enums s state fit d new in
+    let there : is_in d (map (λ p. p.0) (declared_sorts state)) ≡ false = undeclared enums s state fit d new in
     let parts = or_false (bytes_eq d (codes "BitVec")) (is_in d (map (λ p. p.0) built_in_sorts)) free in
-    or_from (is_in d (codes "BitVec" ∷ map (λ p. p.0) (sorts_of state ++ built_in_sorts))) (is_reserved d)
+    or_from (is_in d (codes "BitVec" ∷ map (λ p. p.0) (declared_sorts state ++ built_in_sorts))) (is_reserved d)
     (or_from (bytes_eq d (codes "BitVec")) _ parts.0
-    (ap (is_in d) (map_append (sorts_of state) built_in_sorts) ∙ list_any-append (bytes_eq d) (map (λ p. p.0) (sorts_of state)) (map (λ p. p.0) built_in_sorts)
-    ∙ or_from (is_in d (map (λ p. p.0) (sorts_of state))) _ there parts.1)) unreserved
+    (ap (is_in d) (map_append (declared_sorts state) built_in_sorts) ∙ list_any-append (bytes_eq d) (map (λ p. p.0) (declared_sorts state)) (map (λ p. p.0) built_in_sorts)
+    ∙ or_from (is_in d (map (λ p. p.0) (declared_sorts state))) _ there parts.1)) unreserved
   where
     or_false : (a b : Bool) → (a || b) ≡ false → (a ≡ false) × (b ≡ false)
     or_false true b h = absurd (false≢true (sym h))
     or_false false b h = (refl, h)
 
 type_fits : (enums : Enums) (s : Tables) (state : State) → Fit enums s state → (t : PlainType) (d : List ℕ) → IsNew enums s t d → (cs : List Constructor) → names_in cs ≡ names_of_type enums t d
-    → are_new state (names_in cs) ≡ true → TypePartsStand s t → EachLine (LineStands (with_datatype d cs state)) (type_lines enums s t d)
+    → are_new state (names_in cs) ≡ true → TypePartsHaveEntries s t → EachLine (LineIsDeclared (with_datatype d cs state)) (type_lines enums s t d)
     → Fit enums (with_type t d s) (with_datatype d cs state)
 type_fits enums s state fit t d new cs e news parts own =
     let u = with_type t d s in
@@ -187,6 +184,7 @@ type_fits enums s state fit t d new cs e news parts own =
           name = new.name;
           declared = declared;
           names = new.names;
+          kind = new.kind;
         },
         tt,
       );
@@ -210,30 +208,31 @@ type_fits enums s state fit t d new cs e news parts own =
     })
     (ap (list_all (λ p. is_old_name_in u p.0)) same
     ∙ con_all (is_old_name_in u) d [] 0 cs (names_of state) (subst (λ ns. list_all (is_old_name_in u) ns ≡ true) (sym e) new.old) (all_grow _ _ (λ x. old_stays s u m x.0) (names_of state) fit.old))
-    (and_from (is_old_sort_in u d) _ new.sort_old (all_grow _ _ (λ x. old_sort_stays s u m x.0) (sorts_of state) fit.old_sorts))
+    (and_from (is_old_sort_in u d) _ new.sort_old (all_grow _ _ (λ x. old_sort_stays s u m x.0) (declared_sorts state) fit.old_sorts))
 
 -- ---- its line
 
-pub type_line : (enums : Enums) (s : Tables) (t : PlainType) (d : List ℕ) → IsNew enums s t d → (cs : List line.Constructor) → names_in (all_built cs) ≡ names_of_type enums t d
+pub type_line : (enums : Enums) (s : Tables) (t : PlainType) (d : List ℕ) → IsNew enums s t d → (cs : List line.Constructor) → names_in (all_built cs) ≡ names_of_type enums t d → has_constructor (all_built cs) ≡ true
     → ((state : State) → Fit enums s state → (list_all (λ c. are_fields state [] c.selectors) (all_built cs) ≡ true) × (list_all is_written_constructor cs ≡ true))
-    → TypePartsStand s t → ((P : Line → Type 0) → ((text : List ℕ) → P (Comment text)) → P (DeclareDatatype d [] cs) → EachLine P (type_lines enums s t d))
+    → TypePartsHaveEntries s t → ((P : Line → Type 0) → ((text : List ℕ) → P (Comment text)) → P (DeclareDatatype d [] cs) → EachLine P (type_lines enums s t d))
     → Steps enums s (DeclareDatatype d [] cs ∷ []) (with_type t d s)
-type_line enums s t d new cs e good parts own state fit =
+type_line enums s t d new cs e some good parts own state fit =
     let g = good state fit in
     let after = with_datatype d (all_built cs) state in
     let news : are_new state (names_in (all_built cs)) ≡ true = ap (are_new state) e ∙ all_new enums s state fit (names_of_type enums t d) new.free new.new new.distinct in
-    let here : LineStands after (DeclareDatatype d [] cs) =
+    let here : LineIsDeclared after (DeclareDatatype d [] cs) =
     (or_left (bytes_eq d d && true) (has_sort state d 0) (and_from (bytes_eq d d) true ((bytes_eq-Decides d d).1 refl) refl), datatypes_declare d [] (all_built cs) state news, or_left (bytes_eq d d) (declares_sort state d) ((bytes_eq-Decides d d).1 refl), datatype_only state d (all_built cs) fit.rooted (undeclared enums s state fit d new.sort_new)) in
     record {
       after = after;
       runs = step_runs (script.DeclareDatatype d [] (all_built cs)) state after fit.running
           (datatypes_leave d [] (all_built cs) state
-          (or_from (is_taken_sort state d) false (fresh_sort enums s state fit d new.sort_free new.sort_unreserved new.sort_new) refl)
+          (and_from (not (is_taken_sort state d || false)) (true && has_constructor (all_built cs))
+          (ap not (or_from (is_taken_sort state d) false (fresh_sort enums s state fit d new.sort_free new.sort_unreserved new.sort_new) refl)) some)
           news g.0);
-      fits = type_fits enums s state fit t d new (all_built cs) e news parts (own (LineStands after) (λ text. tt) here);
+      fits = type_fits enums s state fit t d new (all_built cs) e news parts (own (LineIsDeclared after) (λ text. tt) here);
       written = and_from (is_name d && list_all is_written_constructor cs) true (and_from (is_name d) (list_all is_written_constructor cs) new.name g.1) refl;
       kept = datatype_kept state d (all_built cs) (undeclared enums s state fit d new.sort_new) news;
-      stand = (here, tt);
+      lines_are_declared = (here, tt);
       same_below = refl;
       same_assertions = refl;
     }

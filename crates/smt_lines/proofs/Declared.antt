@@ -1,6 +1,6 @@
 -- What a state that fits declares.
-use Rattle.std.proofs.Common.{◌≡◌, ℕ, List, [], ◌∷◌, ◌++◌, refl, sym, ap, ◌∙◌, subst, Option, Some, None}
-use Rattle.std.specs.Prelude.{codes, IsSome, is_some, ◌-◌, ◌^◌}
+use Rattle.std.proofs.Common.{◌≡◌, ℕ, List, [], ◌∷◌, refl, sym, ap, ◌∙◌, subst, Option, Some, None}
+use Rattle.std.specs.Prelude.{IsSome, is_some}
 use Rattle.std.proofs.lemmas.Bool.{false≢true}
 use Rattle.smt_term.specs.Plain.{PlainType, OptionType, EntityType, RecordType, SetType, AttributeTypes, no_attributes, attribute, PlainOp, RecordGetOp, UufOp, BitVecLiteral, BoolLiteral, EntityLiteral, ExtensionLiteral, StringLiteral, PlainTerm, Application, NoneTerm, LiteralTerm, RecordTerm, SetTerm, SomeTerm, VariableTerm, PlainTerms, no_terms, one_term, PlainFields, no_fields, one_field}
 use Rattle.smt_term.specs.TypeValues.{Enums, members_of}
@@ -10,14 +10,18 @@ use Rattle.smt_term.specs.Interpretations.{function_eq}
 use Rattle.smt_term.specs.Formed.{attribute_names}
 use Rattle.smt_term.proofs.TermTotal.{types_decided, functions_decided, terms_decided}
 use Rattle.smt_sexpr.specs.Reading.{Expression}
-use Rattle.smt_semantics.specs.Script.{name, group}
-use Rattle.smt_lines.specs.Line.{Comment, DeclareConst, DeclareFun, DefineFun}
-use Rattle.smt_lines.specs.Lines.{Tables, name_of_type, name_of_function, text_of_name, attribute_name, attribute_place, bits, extension_body, operands, Manner, AsItStands, AsLeast, AsFalse, manner, none_body, set_body, record_body, record_lines, quoted_id, first_type}
-use Rattle.smt_lines.specs.Naming.{sort_of}
-use Rattle.smt_lines.specs.Entries.{HasSort, HaveSorts, HaveTexts, HaveFieldTexts, HasFunction, TypePartsStand, text_of, given, texts_of, texts_of_fields, sorts_of, head_of, term_lines, type_lines, function_lines, application_lines, entity_literal_lines}
-use Rattle.smt_lines.specs.Growth.{Keeps}
+use Rattle.smt_semantics.specs.Script.{name}
+use Rattle.smt_lines.specs.Line.{Comment, DeclareFun, DefineFun}
+use Rattle.smt_lines.specs.LineForms.{extension_body, none_body, set_body, record_body, record_lines, application_body, least_body, some_body, variable_lines}
+use Rattle.smt_lines.specs.EntryNames.{attribute_name}
+use Rattle.smt_lines.specs.Lines.{attribute_place, Rendering, AsApplication, AsEqualsIntMin, AsFalse, application_rendering, first_type}
+use Rattle.smt_lines.specs.NameTables.{Tables, name_of_type, name_of_function, text_of_name}
+use Rattle.smt_lines.specs.Naming.{type_sort}
+use Rattle.smt_lines.specs.Entries.{TypeHasEntries, AttributesHaveEntries, HaveTexts, HaveFieldTexts, HasFunction, TypePartsHaveEntries, text_or_nothing, texts_of, texts_of_fields, attribute_sorts, application_head, term_lines, type_lines, function_lines, application_lines, entity_literal_lines}
+use Rattle.smt_lines.specs.TermTexts.{text_of}
+use Rattle.smt_lines.specs.TableGrowth.{Keeps}
 use Rattle.smt_lines.proofs.Stays.{texts_stay, sorts_stay}
-use Rattle.smt_lines.specs.Fit.{EachLine, LineStands, HasRecord, PartsStand, TypeEntry, FunctionEntry, TermEntry}
+use Rattle.smt_lines.specs.Fit.{EachLine, LineIsDeclared, HasRecord, PartsHaveEntries, TypeEntry, FunctionEntry, TermEntry}
 use Rattle.smt_lines.specs.Scripts.{TermsAreDeclared, TypesAreDeclared, FunctionsAreDeclared}
 use Rattle.smt_lines.proofs.Known.{each_found}
 use Rattle.smt_lines.proofs.Enter.{has_stays}
@@ -35,23 +39,23 @@ kept_texts r s k no_terms h = (refl, tt)
 kept_texts r s k (one_term t ts) h =
     let x = kept_text r s k t (text_of r t) refl h.0 in let a = x.0 in
     let y = kept_texts r s k ts h.1 in let b = y.0 in
-    (λ i. given (a i) ∷ b i, (x.1, y.1))
+    (λ i. text_or_nothing (a i) ∷ b i, (x.1, y.1))
 
 kept_fields : (r s : Tables) → Keeps r s → (x : PlainFields) → HaveFieldTexts r x → (texts_of_fields r x ≡ texts_of_fields s x) × HaveFieldTexts s x
 kept_fields r s k no_fields h = (refl, tt)
 kept_fields r s k (one_field c t x) h =
     let y = kept_text r s k t (text_of r t) refl h.0 in let a = y.0 in
     let z = kept_fields r s k x h.1 in let b = z.0 in
-    (λ i. given (a i) ∷ b i, (y.1, z.1))
+    (λ i. text_or_nothing (a i) ∷ b i, (y.1, z.1))
 
-kept_sorts : (r s : Tables) → Keeps r s → (x : AttributeTypes) → HaveSorts r x → (sorts_of r x ≡ sorts_of s x) × HaveSorts s x
+kept_sorts : (r s : Tables) → Keeps r s → (x : AttributeTypes) → AttributesHaveEntries r x → (attribute_sorts r x ≡ attribute_sorts s x) × AttributesHaveEntries s x
 kept_sorts r s k no_attributes h = (refl, tt)
 kept_sorts r s k (attribute c t x) h =
     let a = sorts_stay r s t k h.0 in
     let z = kept_sorts r s k x h.1 in let b = z.0 in
     (λ i. sym a i ∷ b i, (has_stays r s k.types t h.0, z.1))
 
-kept_head : (enums : Enums) (r s : Tables) → Keeps r s → (op : PlainOp) (ts : PlainTerms) → HasFunction r op → HasRecord r op ts → (head_of enums r op ts ≡ head_of enums s op ts) × HasFunction s op × HasRecord s op ts
+kept_head : (enums : Enums) (r s : Tables) → Keeps r s → (op : PlainOp) (ts : PlainTerms) → HasFunction r op → HasRecord r op ts → (application_head enums r op ts ≡ application_head enums s op ts) × HasFunction s op × HasRecord s op ts
 kept_head enums r s k (UufOp f) ts h g =
     let x = kept_name (name_of_function r f) (name_of_function s f) (k.functions f) h in (ap (λ o. name (text_of_name o)) x.0, x.1, tt)
 kept_head enums r s k (RecordGetOp a) ts h g =
@@ -59,20 +63,20 @@ kept_head enums r s k (RecordGetOp a) ts h g =
     (ap (λ o. name (attribute_name (text_of_name o) (attribute_place a (first_type ts)))) x.0, tt, x.1)
 kept_head enums r s k op ts h g = (refl, tt, tt)
 
-kept_application : (enums : Enums) (r s : Tables) (m : Manner) (op : PlainOp) (ts : PlainTerms) (type : PlainType) (n : List ℕ) → sort_of r type ≡ sort_of s type → texts_of r ts ≡ texts_of s ts → head_of enums r op ts ≡ head_of enums s op ts
+kept_application : (enums : Enums) (r s : Tables) (m : Rendering) (op : PlainOp) (ts : PlainTerms) (type : PlainType) (n : List ℕ) → type_sort r type ≡ type_sort s type → texts_of r ts ≡ texts_of s ts → application_head enums r op ts ≡ application_head enums s op ts
     → application_lines enums r m op ts type n ≡ application_lines enums s m op ts type n
-kept_application enums r s AsItStands op ts type n p q h = λ i. DefineFun n (p i) (group (h i ∷ operands op (q i))) ∷ []
-kept_application enums r s (AsLeast width) op ts type n p q h = λ i. DefineFun n (p i) (group (name (codes "=") ∷ (q i ++ bits width (2 ^ (width - 1)) ∷ []))) ∷ []
+kept_application enums r s AsApplication op ts type n p q h = λ i. DefineFun n (p i) (application_body (h i) op (q i)) ∷ []
+kept_application enums r s (AsEqualsIntMin width) op ts type n p q h = λ i. DefineFun n (p i) (least_body width (q i)) ∷ []
 kept_application enums r s AsFalse op ts type n p q h = refl
 
 kept_entity : (o : Option (List (List ℕ))) (a b id n : List ℕ) → a ≡ b → entity_literal_lines o a id n ≡ entity_literal_lines o b id n
 kept_entity o a b id n e = ap (λ c. entity_literal_lines o c id n) e
 
-kept_lines : (enums : Enums) (r s : Tables) → Keeps r s → (t : PlainTerm) (n : List ℕ) → PartsStand r t → HasSort r (type_of t) → (term_lines enums r t n ≡ term_lines enums s t n) × PartsStand s t
+kept_lines : (enums : Enums) (r s : Tables) → Keeps r s → (t : PlainTerm) (n : List ℕ) → PartsHaveEntries r t → TypeHasEntries r (type_of t) → (term_lines enums r t n ≡ term_lines enums s t n) × PartsHaveEntries s t
 kept_lines enums r s k (Application op ts type) n p h =
     let x = kept_texts r s k ts p.0.0 in
     let y = kept_head enums r s k op ts p.0.1 p.1 in
-    (kept_application enums r s (manner op ts type) op ts type n (sym (sorts_stay r s type k h)) x.0 y.0, ((x.1, y.1), y.2))
+    (kept_application enums r s (application_rendering op ts type) op ts type n (sym (sorts_stay r s type k h)) x.0 y.0, ((x.1, y.1), y.2))
 kept_lines enums r s k (NoneTerm type) n p h = (ap (λ (e : Expression). DefineFun n e (none_body e) ∷ []) (sym (sorts_stay r s (OptionType type) k h)), (tt, tt))
 kept_lines enums r s k (LiteralTerm (BitVecLiteral w m)) n p h = (refl, (tt, tt))
 kept_lines enums r s k (LiteralTerm (BoolLiteral b)) n p h = (refl, (tt, tt))
@@ -92,16 +96,16 @@ kept_lines enums r s k (SetTerm element ts) n p h =
 kept_lines enums r s k (SomeTerm t) n p h =
     let a = sym (sorts_stay r s (type_of (SomeTerm t)) k h) in
     let y = kept_text r s k t (text_of r t) refl p.0 in let b = y.0 in
-    (λ i. DefineFun n (a i) (group (name (codes "some") ∷ given (b i) ∷ [])) ∷ [], (y.1, tt))
-kept_lines enums r s k (VariableTerm id type) n p h = (ap (λ (e : Expression). Comment (quoted_id id) ∷ DeclareConst n e ∷ []) (sym (sorts_stay r s type k h)), (tt, tt))
+    (λ i. DefineFun n (a i) (some_body (text_or_nothing (b i))) ∷ [], (y.1, tt))
+kept_lines enums r s k (VariableTerm id type) n p h = (ap (λ (e : Expression). variable_lines id n e) (sym (sorts_stay r s type k h)), (tt, tt))
 
 pub terms_are_declared : TermsAreDeclared
 terms_are_declared enums s state t n fit h =
     let e = each_found (TermEntry enums s state) (term_eq t) t (λ l q. (terms_decided t l).0 q) s.terms n h fit.term_entries in
     let x = kept_lines enums e.tables s e.keeps t n e.parts.0 e.parts.1 in
-    (subst (λ ls. EachLine (LineStands state) ls) x.0 e.lines, x.1, has_stays e.tables s e.keeps.types (type_of t) e.parts.1)
+    (subst (λ ls. EachLine (LineIsDeclared state) ls) x.0 e.lines, x.1, has_stays e.tables s e.keeps.types (type_of t) e.parts.1)
 
-kept_type : (enums : Enums) (r s : Tables) → Keeps r s → (t : PlainType) (n : List ℕ) → TypePartsStand r t → (type_lines enums r t n ≡ type_lines enums s t n) × TypePartsStand s t
+kept_type : (enums : Enums) (r s : Tables) → Keeps r s → (t : PlainType) (n : List ℕ) → TypePartsHaveEntries r t → (type_lines enums r t n ≡ type_lines enums s t n) × TypePartsHaveEntries s t
 kept_type enums r s k (RecordType x) n p = let y = kept_sorts r s k x p in (ap (λ (ss : List Expression). record_lines (attribute_names x) n ss) y.0, y.1)
 kept_type enums r s k t n p = (refl, tt)
 
@@ -109,7 +113,7 @@ pub types_are_declared : TypesAreDeclared
 types_are_declared enums s state t n fit h =
     let e = each_found (TypeEntry enums s state) (type_eq t) t (λ l q. (types_decided t l).0 q) s.types n h fit.type_entries in
     let x = kept_type enums e.tables s e.keeps t n e.parts in
-    (subst (λ ls. EachLine (LineStands state) ls) x.0 e.lines, x.1)
+    (subst (λ ls. EachLine (LineIsDeclared state) ls) x.0 e.lines, x.1)
 
 pub functions_are_declared : FunctionsAreDeclared
 functions_are_declared enums s state f n fit h =
@@ -117,4 +121,4 @@ functions_are_declared enums s state f n fit h =
     let a = sym (sorts_stay e.tables s f.argument e.keeps e.parts.0) in
     let b = sym (sorts_stay e.tables s f.output e.keeps e.parts.1) in
     let x : function_lines e.tables f n ≡ function_lines s f n = λ i. Comment f.id ∷ DeclareFun n (a i) (b i) ∷ [] in
-    (subst (λ ls. EachLine (LineStands state) ls) x e.lines, has_stays e.tables s e.keeps.types f.argument e.parts.0, has_stays e.tables s e.keeps.types f.output e.parts.1)
+    (subst (λ ls. EachLine (LineIsDeclared state) ls) x e.lines, has_stays e.tables s e.keeps.types f.argument e.parts.0, has_stays e.tables s e.keeps.types f.output e.parts.1)

@@ -6,9 +6,9 @@ use Rattle.smt_term.specs.Plain.{PlainType, OptionType, BitVecType, BoolType, En
 use Rattle.smt_term.specs.TypeValues.{Enums}
 use Rattle.smt_lines.specs.Naming.{HasEntry}
 use Rattle.smt_lines.specs.Spelling.{numeral}
-use Rattle.smt_lines.specs.Lines.{numbered, kind_name}
-use Rattle.smt_lines.specs.Entries.{AreNumbered, stated_type_name, stated_function_name}
-use Rattle.smt_lines.specs.Growth.{is_drawn, AreDrawn, FunctionNamesDiffer, TypeNamesDiffer, TermNamesDiffer}
+use Rattle.smt_lines.specs.EntryNames.{kind_name, stated_term_name, stated_type_name, stated_function_name}
+use Rattle.smt_lines.specs.Entries.{AreNumbered}
+use Rattle.smt_lines.specs.TableGrowth.{is_drawn, AreDrawn, FunctionNamesDiffer, TypeNamesDiffer, TermNamesDiffer}
 use Rattle.smt_semantics.proofs.Numerals.{numerals_differ}
 
 -- the key at a place
@@ -32,16 +32,16 @@ found f start (e ∷ es) k n h (inr p) =
     (suc r.0, r.1 ∙ ap (f k) z, r.2)
 
 found_drawn : (enums : Enums) (start : ℕ) (es : List (PlainTerm × List ℕ)) (t : PlainTerm) (n : List ℕ)
-    → is_drawn enums t ≡ true → AreDrawn enums start es → HasEntry es t n → (i : ℕ) × (n ≡ numbered (codes "t") (start + i)) × (key_at es i ≡ Some t)
+    → is_drawn enums t ≡ true → AreDrawn enums start es → HasEntry es t n → (i : ℕ) × (n ≡ stated_term_name (start + i)) × (key_at es i ≡ Some t)
 unfolding key_at
 found_drawn enums start [] t n d h p = absurd p
 found_drawn enums start (e ∷ es) t n d h (inl p) =
     let z : start ≡ start + 0 = omega arith in
-    (0, sym p.1 ∙ h.0 (ap (is_drawn enums) p.0 ∙ d) ∙ ap (numbered (codes "t")) z, ap Some p.0)
+    (0, sym p.1 ∙ h.0 (ap (is_drawn enums) p.0 ∙ d) ∙ ap stated_term_name z, ap Some p.0)
 found_drawn enums start (e ∷ es) t n d h (inr p) =
     let r = found_drawn enums (suc start) es t n d h.1 p in
     let z : suc start + r.0 ≡ start + suc r.0 = omega arith in
-    (suc r.0, r.1 ∙ ap (numbered (codes "t")) z, r.2)
+    (suc r.0, r.1 ∙ ap stated_term_name z, r.2)
 
 -- the same place, the same key
 at_one_place : {K : Type 0} (es : List (K × List ℕ)) (i j : ℕ) (k l : K) → i ≡ j → key_at es i ≡ Some k → key_at es j ≡ Some l → k ≡ l

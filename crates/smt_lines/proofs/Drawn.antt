@@ -1,5 +1,5 @@
 -- The names that types are given are new.
-use Rattle.std.proofs.Common.{◌≡◌, ℕ, zero, suc, ◌+◌, ◌≤◌, Bool, true, false, not, ◌||◌, List, [], ◌∷◌, ◌++◌, map, length, take, refl, ap, ◌∙◌, subst, inl, inr, Option, Some, None, arith}
+use Rattle.std.proofs.Common.{◌≡◌, ℕ, zero, suc, ◌+◌, ◌≤◌, Bool, true, false, not, ◌||◌, List, [], ◌∷◌, ◌++◌, map, length, refl, ap, ◌∙◌, subst, inl, inr, Option, Some, None, arith}
 use Rattle.std.specs.Prelude.{codes, bytes_eq, nat_lt, ◌==◌, is_some}
 use Rattle.std.specs.List.{list_all}
 use Rattle.std.proofs.lemmas.Bool.{and_from, or_from, cases_Bool, lt-ltb, le-ltb}
@@ -12,29 +12,33 @@ use Rattle.smt_term.specs.Formed.{attribute_names}
 use Rattle.smt_term.proofs.TermTotal.{types_decided}
 use Rattle.smt_sexpr.specs.Lexicon.{is_digit}
 use Rattle.smt_sexpr.specs.Reading.{Expression}
-use Rattle.smt_semantics.specs.Script.{is_in, is_reserved, built_in_names}
+use Rattle.smt_semantics.specs.Script.{are_distinct, is_in, is_keyword, is_for_solvers, is_reserved, built_in_names}
 use Rattle.smt_semantics.specs.Meanings.{names_in}
 use Rattle.smt_semantics.specs.Written.{is_name}
 use Rattle.smt_lines.specs.Spelling.{numeral}
-use Rattle.smt_lines.specs.Lines.{Tables, name_of_type, numbered, next_type, member_name, attribute_name, id_name, kind_name, member_constructors, attribute_selectors}
+use Rattle.smt_lines.specs.LineForms.{member_constructors, attribute_selectors}
+use Rattle.smt_lines.specs.EntryNames.{member_name, attribute_name, id_name, kind_name}
+use Rattle.smt_semantics.specs.Numerals.{numbered}
+use Rattle.smt_lines.specs.Lines.{next_entity, next_record}
+use Rattle.smt_lines.specs.NameTables.{Tables, name_of_type}
 use Rattle.smt_semantics.proofs.Numerals.{numerals_differ}
 use Rattle.smt_semantics.proofs.Numbers.{numeral_suits, suits}
 use Rattle.smt_lines.proofs.Making.{lookup_new}
 use Rattle.smt_lines.specs.Command.{all_built}
-use Rattle.smt_lines.specs.Fit.{first, behind_first, number_of, is_old, is_old_sort, is_old_name_in, has_kind, placed, names_of_entity, names_of_type}
+use Rattle.smt_lines.specs.Fit.{IsKindNamed, first, behind_first, drawn_number, is_old, is_old_sort, is_old_name_in, has_kind, placed, names_of_entity, names_of_type}
 use Rattle.smt_lines.proofs.Basic.{suits_append, e_name, r_name, leads_numeral, digit_first}
-use Rattle.smt_lines.proofs.Enter.{apart}
-use Rattle.smt_lines.proofs.Datatype.{with_type, are_distinct, is_free, sort_names, IsNew}
+use Rattle.smt_lines.proofs.Enter.{apart, unreserved}
+use Rattle.smt_lines.proofs.Datatype.{with_type, is_free, sort_names, IsNew}
 
 -- A name with the letter of a type, and a number.
 pub record IsDrawn (n : List ℕ) (k : ℕ) : Type 0 where
   pub no_term : (first n == 116) ≡ false
   pub no_function : (first n == 102) ≡ false
   pub letter : ((first n == 69) || (first n == 82)) ≡ true
-  pub number : number_of n ≡ k
+  pub number : drawn_number n ≡ k
   pub digit : is_digit (first (behind_first n)) ≡ true
   pub name : is_name n ≡ true
-  pub colon : bytes_eq (take 1 n) (codes ":") ≡ false
+  pub begins : (is_keyword n || is_for_solvers n) ≡ false
 
 drawn_e : (k : ℕ) (tail : List ℕ) → is_digit (first tail) ≡ false → list_all suits tail ≡ true → IsDrawn (69 ∷ (numeral k ++ tail)) k
 drawn_e k tail h s = record {
@@ -44,7 +48,7 @@ drawn_e k tail h s = record {
   number = leads_numeral k tail h;
   digit = digit_first k tail;
   name = e_name (numeral k ++ tail) (suits_append (numeral k) tail (numeral_suits k) s);
-  colon = refl;
+  begins = refl;
 }
 
 drawn_r : (k : ℕ) (tail : List ℕ) → is_digit (first tail) ≡ false → list_all suits tail ≡ true → IsDrawn (82 ∷ (numeral k ++ tail)) k
@@ -55,7 +59,7 @@ drawn_r k tail h s = record {
   number = leads_numeral k tail h;
   digit = digit_first k tail;
   name = r_name (numeral k ++ tail) (suits_append (numeral k) tail (numeral_suits k) s);
-  colon = refl;
+  begins = refl;
 }
 
 drawn_e_alone : (k : ℕ) → IsDrawn (69 ∷ numeral k) k
@@ -70,11 +74,8 @@ old_is a b c kinds n k d = rw (d.no_term, d.no_function, d.letter, d.number) ref
 old_sort_is : (c : ℕ) (kinds : ExtensionKind → Bool) (n : List ℕ) (k : ℕ) → IsDrawn n k → is_old_sort c kinds n ≡ nat_lt k c
 old_sort_is c kinds n k d = rw (d.letter, d.number) refl
 
-unreserved : (n : List ℕ) (k : ℕ) → IsDrawn n k → is_reserved n ≡ false
-unreserved n k d = or_from (is_in n (codes "_" ∷ codes "as" ∷ [])) (bytes_eq (take 1 n) (codes ":")) (apart n (codes "_" ∷ codes "as" ∷ []) refl d.digit) d.colon
-
 free : (n : List ℕ) (k : ℕ) → IsDrawn n k → is_free n ≡ true
-free n k d = and_from (not (is_in n built_in_names)) (not (is_reserved n)) (ap not (apart n built_in_names refl d.digit)) (ap not (unreserved n k d))
+free n k d = and_from (not (is_in n built_in_names)) (not (is_reserved n)) (ap not (apart n built_in_names refl d.digit)) (ap not (unreserved n d.digit d.begins))
 
 abbrev pub AllDrawn : ℕ → List (List ℕ) → Type 0
 AllDrawn k [] = Unit {0}
@@ -87,15 +88,15 @@ all_pass p k f (n ∷ ns) h = and_from (p n) (list_all p ns) (f n h.0) (all_pass
 not_below : (k c : ℕ) → c ≤ k → nat_lt k c ≡ false
 not_below k c h = le-ltb k c h
 
-drawn_new : (enums : Enums) (s : Tables) (t : PlainType) (d : List ℕ) → IsDrawn d (length s.types) → AllDrawn (length s.types) (names_of_type enums t d) → are_distinct (names_of_type enums t d) ≡ true → IsNew enums s t d
-drawn_new enums s t d i all distinct =
+drawn_new : (enums : Enums) (s : Tables) (t : PlainType) (d : List ℕ) → IsDrawn d (length s.types) → AllDrawn (length s.types) (names_of_type enums t d) → are_distinct (names_of_type enums t d) ≡ true → IsKindNamed t d → IsNew enums s t d
+drawn_new enums s t d i all distinct kind =
     let k = length s.types in
     let u = with_type t d s in
     let less : nat_lt k (length u.types) ≡ true = let one : List (PlainType × List ℕ) = (t, d) ∷ [] in let a = length-append s.types one in let b : length one ≡ 1 = refl in lt-ltb k (length u.types) (omega arith) in
     record {
       name = i.name;
       sort_free = apart d sort_names refl i.digit;
-      sort_unreserved = unreserved d k i;
+      sort_unreserved = unreserved d i.digit i.begins;
       sort_new = old_sort_is k (has_kind s) d k i ∙ not_below k k (omega arith);
       sort_old = old_sort_is (length u.types) (has_kind u) d k i ∙ less;
       names = all_pass is_name k (λ n x. x.name) (names_of_type enums t d) all;
@@ -103,6 +104,7 @@ drawn_new enums s t d i all distinct =
       new = all_pass (λ n. not (is_old_name_in s n)) k (λ n x. ap not (old_is (length s.terms) (length s.functions) k (has_kind s) n k x ∙ not_below k k (omega arith))) (names_of_type enums t d) all;
       old = all_pass (is_old_name_in u) k (λ n x. old_is (length s.terms) (length s.functions) (length u.types) (has_kind u) n k x ∙ less) (names_of_type enums t d) all;
       distinct = distinct;
+      kind = kind;
     }
 
 -- ---- different names
@@ -149,9 +151,9 @@ entity_distinct : (o : Option (List (List ℕ))) (d : List ℕ) → are_distinct
 entity_distinct None d = and_from (not (bytes_eq d (id_name d) || false)) true (ap not (or_from (bytes_eq d (id_name d)) false (bytes_differ d (id_name d) (longer_differ d 95 (codes "eid"))) refl)) refl
 entity_distinct (Some members) d = distinct_placed (member_name d) (members_differ d) 0 (length members)
 
-pub entity_new : (enums : Enums) (type : List ℕ) (s : Tables) → IsNew enums s (EntityType type) (next_type (codes "E") s)
-entity_new enums type s = drawn_new enums s (EntityType type) (next_type (codes "E") s) (drawn_e_alone (length s.types))
-    (entity_drawn (members_of enums type) (length s.types)) (entity_distinct (members_of enums type) (next_type (codes "E") s))
+pub entity_new : (enums : Enums) (type : List ℕ) (s : Tables) → IsNew enums s (EntityType type) (next_entity s)
+entity_new enums type s = drawn_new enums s (EntityType type) (next_entity s) (drawn_e_alone (length s.types))
+    (entity_drawn (members_of enums type) (length s.types)) (entity_distinct (members_of enums type) (next_entity s)) tt
 
 pub members_named : (d : List ℕ) (p : ℕ) (ms : List (List ℕ)) → names_in (all_built (member_constructors d p ms)) ≡ placed (member_name d) p (length ms)
 members_named d p [] = refl
@@ -159,23 +161,23 @@ members_named d p (m ∷ ms) = ap (λ (t : List (List ℕ)). member_name d p ∷
 
 -- ---- records
 
-pub record_new : (enums : Enums) (x : AttributeTypes) (s : Tables) → IsNew enums s (RecordType x) (next_type (codes "R") s)
+pub record_new : (enums : Enums) (x : AttributeTypes) (s : Tables) → IsNew enums s (RecordType x) (next_record s)
 record_new enums x s =
     let k = length s.types in
-    let d : List ℕ = next_type (codes "R") s in
+    let d : List ℕ = next_record s in
     let c = length (attribute_names x) in
     drawn_new enums s (RecordType x) d (drawn_r_alone k)
     (drawn_r_alone k, all_placed k (attribute_name d) (λ i. drawn_r k (numbered (codes "_a") i) refl (numeral_suits i)) 0 c)
     (and_from (not (is_in d (placed (attribute_name d) 0 c))) (are_distinct (placed (attribute_name d) 0 c))
-    (ap not (not_placed d (attribute_name d) 0 c (λ i l. longer_differ d 95 (97 ∷ numeral i)))) (distinct_placed (attribute_name d) (attributes_differ d) 0 c))
+    (ap not (not_placed d (attribute_name d) 0 c (λ i l. longer_differ d 95 (97 ∷ numeral i)))) (distinct_placed (attribute_name d) (attributes_differ d) 0 c)) tt
 
-pub selector_is_name : (s : Tables) (i : ℕ) → is_name (attribute_name (next_type (codes "R") s) i) ≡ true
+pub selector_is_name : (s : Tables) (i : ℕ) → is_name (attribute_name (next_record s) i) ≡ true
 selector_is_name s i = (drawn_r (length s.types) (numbered (codes "_a") i) refl (numeral_suits i)).name
 
-pub member_is_name : (s : Tables) (i : ℕ) → is_name (member_name (next_type (codes "E") s) i) ≡ true
+pub member_is_name : (s : Tables) (i : ℕ) → is_name (member_name (next_entity s) i) ≡ true
 member_is_name s i = (drawn_e (length s.types) (numbered (codes "_m") i) refl (numeral_suits i)).name
 
-pub id_is_name : (s : Tables) → is_name (id_name (next_type (codes "E") s)) ≡ true
+pub id_is_name : (s : Tables) → is_name (id_name (next_entity s)) ≡ true
 id_is_name s = (drawn_e (length s.types) (codes "_eid") refl refl).name
 
 pub selectors_named_so : (d : List ℕ) (p : ℕ) (sorts : List Expression) → map (λ x. x.0) (attribute_selectors d p sorts) ≡ placed (attribute_name d) p (length sorts)
@@ -188,7 +190,7 @@ pub kind_new : (enums : Enums) (k : ExtensionKind) (s : Tables) → name_of_type
 kind_new enums k s none = go k (ap is_some none) (ap is_some (lookup_new (type_eq (ExtensionType k)) s.types (ExtensionType k) (kind_name k) ((types_decided (ExtensionType k) (ExtensionType k)).1 refl) none))
   where
     go : (k : ExtensionKind) → has_kind s k ≡ false → has_kind (with_type (ExtensionType k) (kind_name k) s) k ≡ true → IsNew enums s (ExtensionType k) (kind_name k)
-    go IpAddrKind f t = record { name = refl; sort_free = refl; sort_unreserved = refl; sort_new = rw f refl; sort_old = rw t refl; names = refl; free = refl; new = rw f refl; old = rw t refl; distinct = refl }
-    go DecimalKind f t = record { name = refl; sort_free = refl; sort_unreserved = refl; sort_new = rw f refl; sort_old = rw t refl; names = refl; free = refl; new = rw f refl; old = rw t refl; distinct = refl }
-    go DatetimeKind f t = record { name = refl; sort_free = refl; sort_unreserved = refl; sort_new = rw f refl; sort_old = rw t refl; names = refl; free = refl; new = rw f refl; old = rw t refl; distinct = refl }
-    go DurationKind f t = record { name = refl; sort_free = refl; sort_unreserved = refl; sort_new = rw f refl; sort_old = rw t refl; names = refl; free = refl; new = rw f refl; old = rw t refl; distinct = refl }
+    go IpAddrKind f t = record { name = refl; sort_free = refl; sort_unreserved = refl; sort_new = rw f refl; sort_old = rw t refl; names = refl; free = refl; new = rw f refl; old = rw t refl; distinct = refl; kind = refl }
+    go DecimalKind f t = record { name = refl; sort_free = refl; sort_unreserved = refl; sort_new = rw f refl; sort_old = rw t refl; names = refl; free = refl; new = rw f refl; old = rw t refl; distinct = refl; kind = refl }
+    go DatetimeKind f t = record { name = refl; sort_free = refl; sort_unreserved = refl; sort_new = rw f refl; sort_old = rw t refl; names = refl; free = refl; new = rw f refl; old = rw t refl; distinct = refl; kind = refl }
+    go DurationKind f t = record { name = refl; sort_free = refl; sort_unreserved = refl; sort_new = rw f refl; sort_old = rw t refl; names = refl; free = refl; new = rw f refl; old = rw t refl; distinct = refl; kind = refl }

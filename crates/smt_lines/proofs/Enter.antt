@@ -1,5 +1,5 @@
 -- What one more declaration leaves.
-use Rattle.std.proofs.Common.{◌≡◌, ℕ, ◌≤◌, Bool, true, false, not, ◌&&◌, ◌||◌, cond, List, [], ◌∷◌, ◌++◌, length, take, refl, sym, ap, ◌∙◌, subst, inl, inr, Option, Some, None, arith}
+use Rattle.std.proofs.Common.{◌≡◌, ℕ, ◌≤◌, Bool, true, false, not, ◌&&◌, ◌||◌, cond, List, [], ◌∷◌, ◌++◌, length, refl, sym, ap, ◌∙◌, subst, inl, inr, Option, Some, None, arith}
 use Rattle.std.specs.Prelude.{codes, bytes_eq, nat_lt, is_some, if◌then◌else◌, ◌==◌}
 use Rattle.std.specs.List.{list_all}
 use Rattle.std.proofs.lemmas.Bool.{and_parts, and_from, or_cases, or_from, cases_Bool, false≢true, lt-ltb, ltb-true, le-ltb}
@@ -11,15 +11,17 @@ use Rattle.smt_term.specs.Types.{type_eq, type_of}
 use Rattle.smt_term.specs.TermOrder.{term_eq}
 use Rattle.smt_term.specs.Interpretations.{function_eq}
 use Rattle.smt_sexpr.specs.Lexicon.{is_digit}
-use Rattle.smt_semantics.specs.Script.{State, Entry, is_in, is_reserved, is_taken, names_of, sorts_of, has_name, has_sort, built_in_names, with_name}
+use Rattle.smt_semantics.specs.Script.{State, Entry, is_in, reserved_words, is_keyword, is_for_solvers, is_reserved, is_taken, names_of, declared_sorts, has_name, has_sort, built_in_names, with_name}
 use Rattle.smt_lines.specs.Spelling.{numeral}
 use Rattle.smt_lines.specs.Line.{Line}
-use Rattle.smt_lines.specs.Lines.{Tables, next_term, next_function, kind_name, name_of_type, option_line}
-use Rattle.smt_lines.specs.Entries.{EachEntry, HasSort}
+use Rattle.smt_lines.specs.EntryNames.{kind_name}
+use Rattle.smt_lines.specs.Lines.{next_term, next_function, option_line}
+use Rattle.smt_lines.specs.NameTables.{Tables, name_of_type}
+use Rattle.smt_lines.specs.Entries.{EachEntry, TypeHasEntries}
 use Rattle.smt_lines.proofs.Grow.{lookup_append}
-use Rattle.smt_lines.specs.Growth.{Keeps}
+use Rattle.smt_lines.specs.TableGrowth.{Keeps}
 use Rattle.smt_lines.proofs.Kept.{BuildsNone, name_builds, name_kept, line_stays, lines_stay}
-use Rattle.smt_lines.specs.Fit.{IsRooted, Kept, EntryOf, TypeEntry, FunctionEntry, TermEntry, Fit, TypeStands, FunctionStands, TermStands, declares, first, behind_first, number_of, is_old, is_old_name_in, is_old_sort_in, of_kinds, kind_names, has_kind, names_of_type, option_names}
+use Rattle.smt_lines.specs.Fit.{IsRooted, Kept, EntryOf, TypeEntry, FunctionEntry, TermEntry, Fit, TypeEntryIsDeclared, FunctionEntryIsDeclared, TermEntryIsDeclared, declares, first, behind_first, drawn_number, is_old, is_old_name_in, is_old_sort_in, of_kinds, kind_names, has_kind, names_of_type, option_names}
 use Rattle.smt_lines.proofs.Basic.{leads_alone, digit_first}
 use Rattle.smt_lines.proofs.Known.{each_append, each_map, one_passes, is_declared_old}
 use Rattle.smt_semantics.proofs.Results.{or_left, or_right}
@@ -70,16 +72,16 @@ kinds_grow test k l f h =
 old_stays_at : (a b c d e f : ℕ) (k l : ExtensionKind → Bool) → a ≤ d → b ≤ e → c ≤ f → ((x : ExtensionKind) → k x ≡ true → l x ≡ true) → (n : List ℕ) → is_old a b c k n ≡ true → is_old d e f l n ≡ true
 old_stays_at a b c d e f k l p q r g n h =
     let test : ExtensionKind → Bool = λ x. is_in n (kind_names x) in
-    cond_grows (first n == 116) (nat_lt (number_of n) a)
-    (if first n == 102 then nat_lt (number_of n) b else (if (first n == 69) || (first n == 82) then nat_lt (number_of n) c else (is_in n option_names || of_kinds test k)))
-    (nat_lt (number_of n) d)
-    (if first n == 102 then nat_lt (number_of n) e else (if (first n == 69) || (first n == 82) then nat_lt (number_of n) f else (is_in n option_names || of_kinds test l)))
-    (lt_grows (number_of n) a d p)
-    (cond_grows (first n == 102) (nat_lt (number_of n) b) (if (first n == 69) || (first n == 82) then nat_lt (number_of n) c else (is_in n option_names || of_kinds test k))
-    (nat_lt (number_of n) e) (if (first n == 69) || (first n == 82) then nat_lt (number_of n) f else (is_in n option_names || of_kinds test l))
-    (lt_grows (number_of n) b e q)
-    (cond_grows ((first n == 69) || (first n == 82)) (nat_lt (number_of n) c) (is_in n option_names || of_kinds test k) (nat_lt (number_of n) f) (is_in n option_names || of_kinds test l)
-    (lt_grows (number_of n) c f r)
+    cond_grows (first n == 116) (nat_lt (drawn_number n) a)
+    (if first n == 102 then nat_lt (drawn_number n) b else (if (first n == 69) || (first n == 82) then nat_lt (drawn_number n) c else (is_in n option_names || of_kinds test k)))
+    (nat_lt (drawn_number n) d)
+    (if first n == 102 then nat_lt (drawn_number n) e else (if (first n == 69) || (first n == 82) then nat_lt (drawn_number n) f else (is_in n option_names || of_kinds test l)))
+    (lt_grows (drawn_number n) a d p)
+    (cond_grows (first n == 102) (nat_lt (drawn_number n) b) (if (first n == 69) || (first n == 82) then nat_lt (drawn_number n) c else (is_in n option_names || of_kinds test k))
+    (nat_lt (drawn_number n) e) (if (first n == 69) || (first n == 82) then nat_lt (drawn_number n) f else (is_in n option_names || of_kinds test l))
+    (lt_grows (drawn_number n) b e q)
+    (cond_grows ((first n == 69) || (first n == 82)) (nat_lt (drawn_number n) c) (is_in n option_names || of_kinds test k) (nat_lt (drawn_number n) f) (is_in n option_names || of_kinds test l)
+    (lt_grows (drawn_number n) c f r)
     (or_grows (is_in n option_names) (of_kinds test k) (is_in n option_names) (of_kinds test l) (λ x. x) (kinds_grow test k l g)))) h
 
 pub old_stays : (s u : Tables) → More s u → (n : List ℕ) → is_old_name_in s n ≡ true → is_old_name_in u n ≡ true
@@ -88,15 +90,15 @@ old_stays s u m n h = old_stays_at _ _ _ _ _ _ (has_kind s) (has_kind u) m.terms
 pub old_sort_stays : (s u : Tables) → More s u → (n : List ℕ) → is_old_sort_in s n ≡ true → is_old_sort_in u n ≡ true
 old_sort_stays s u m n h =
     let test : ExtensionKind → Bool = λ x. bytes_eq n (kind_name x) in
-    cond_grows ((first n == 69) || (first n == 82)) (nat_lt (number_of n) (length s.types)) (bytes_eq n (codes "Option") || of_kinds test (has_kind s))
-    (nat_lt (number_of n) (length u.types)) (bytes_eq n (codes "Option") || of_kinds test (has_kind u))
-    (lt_grows (number_of n) (length s.types) (length u.types) m.types)
+    cond_grows ((first n == 69) || (first n == 82)) (nat_lt (drawn_number n) (length s.types)) (bytes_eq n (codes "Option") || of_kinds test (has_kind s))
+    (nat_lt (drawn_number n) (length u.types)) (bytes_eq n (codes "Option") || of_kinds test (has_kind u))
+    (lt_grows (drawn_number n) (length s.types) (length u.types) m.types)
     (or_grows (bytes_eq n (codes "Option")) (of_kinds test (has_kind s)) (bytes_eq n (codes "Option")) (of_kinds test (has_kind u)) (λ x. x) (kinds_grow test (has_kind s) (has_kind u) (kind_stays s u m))) h
 
 abbrev pub TypeNamesStay : Tables → Tables → Type 0
 TypeNamesStay s u = (t : PlainType) (n : List ℕ) → name_of_type s t ≡ Some n → name_of_type u t ≡ Some n
 
-pub has_stays : (s u : Tables) → TypeNamesStay s u → (t : PlainType) → HasSort s t → HasSort u t
+pub has_stays : (s u : Tables) → TypeNamesStay s u → (t : PlainType) → TypeHasEntries s t → TypeHasEntries u t
 has_stays s u m (OptionType t) h = has_stays s u m t h
 has_stays s u m (BitVecType width) h = tt
 has_stays s u m BoolType h = tt
@@ -106,7 +108,7 @@ has_stays s u m StringType h = tt
 has_stays s u m (RecordType x) h = some_there _ _ (m (RecordType x)) h
 has_stays s u m (SetType t) h = has_stays s u m t h
 
-pub sort_stays : (s u : Tables) → More s u → (t : PlainType) → HasSort s t → HasSort u t
+pub sort_stays : (s u : Tables) → More s u → (t : PlainType) → TypeHasEntries s t → TypeHasEntries u t
 sort_stays s u m t h = has_stays s u m.names t h
 
 -- ---- states with more
@@ -118,18 +120,19 @@ pub record Grows (state after : State) : Type 0 where
   pub sorts : (n : List ℕ) (k : ℕ) → has_sort state n k ≡ true → has_sort after n k ≡ true
   pub rooted : IsRooted state → IsRooted after
 
-type_stays : (enums : Enums) (state after : State) → Grows state after → (t : PlainType) (n : List ℕ) → TypeStands enums state t n → TypeStands enums after t n
+type_stays : (enums : Enums) (state after : State) → Grows state after → (t : PlainType) (n : List ℕ) → TypeEntryIsDeclared enums state t n → TypeEntryIsDeclared enums after t n
 type_stays enums state after g t n h = record {
   sort = g.sorts n 0 h.sort;
   name = h.name;
   declared = all_grow (declares state) (declares after) g.names (names_of_type enums t n) h.declared;
   names = h.names;
+  kind = h.kind;
 }
 
-function_stays : (state after : State) → Grows state after → (f : PlainFunction) (n : List ℕ) → FunctionStands state f n → FunctionStands after f n
+function_stays : (state after : State) → Grows state after → (f : PlainFunction) (n : List ℕ) → FunctionEntryIsDeclared state f n → FunctionEntryIsDeclared after f n
 function_stays state after g f n h = record { declared = g.names n h.declared; name = h.name }
 
-term_stays : (s u : Tables) → More s u → (state after : State) → Grows state after → (t : PlainTerm) (n : List ℕ) → TermStands s state t n → TermStands u after t n
+term_stays : (s u : Tables) → More s u → (state after : State) → Grows state after → (t : PlainTerm) (n : List ℕ) → TermEntryIsDeclared s state t n → TermEntryIsDeclared u after t n
 term_stays s u m state after g t n h = record {
   declared = or_grows (is_in n built_in_names) (declares state n) (is_in n built_in_names) (declares after n) (λ x. x) (g.names n) h.declared;
   name = h.name;
@@ -140,15 +143,15 @@ term_stays s u m state after g t n h = record {
 pub record Behind (enums : Enums) (s u : Tables) (after : State) : Type 0 where
   pub new_types : List (PlainType × List ℕ)
   pub types_are : u.types ≡ s.types ++ new_types
-  pub types : EachEntry (TypeStands enums after) new_types
+  pub types : EachEntry (TypeEntryIsDeclared enums after) new_types
   pub type_entries : EachEntry (TypeEntry enums u after) new_types
   pub new_functions : List (PlainFunction × List ℕ)
   pub functions_are : u.functions ≡ s.functions ++ new_functions
-  pub functions : EachEntry (FunctionStands after) new_functions
+  pub functions : EachEntry (FunctionEntryIsDeclared after) new_functions
   pub function_entries : EachEntry (FunctionEntry u after) new_functions
   pub new_terms : List (PlainTerm × List ℕ)
   pub terms_are : u.terms ≡ s.terms ++ new_terms
-  pub terms : EachEntry (TermStands u after) new_terms
+  pub terms : EachEntry (TermEntryIsDeclared u after) new_terms
   pub term_entries : EachEntry (TermEntry enums u after) new_terms
 
 longer : {X : Type 0} (xs ys zs : List X) → zs ≡ xs ++ ys → length xs ≤ length zs
@@ -186,7 +189,7 @@ entry_stays lines_of Parts s u state after k g e = record {
 
 -- Where more is declared and entered, tables and state still fit.
 pub fit_grows : (enums : Enums) (s u : Tables) (state after : State) → Fit enums s state → Grows state after → Behind enums s u after
-    → list_all (λ p. is_old_name_in u p.0) (names_of after) ≡ true → list_all (λ p. is_old_sort_in u p.0) (sorts_of after) ≡ true → Fit enums u after
+    → list_all (λ p. is_old_name_in u p.0) (names_of after) ≡ true → list_all (λ p. is_old_sort_in u p.0) (declared_sorts after) ≡ true → Fit enums u after
 fit_grows enums s u state after fit g b old sorts =
     let m = more_from enums s u after b in
     let k = keeps_from enums s u after b in
@@ -194,17 +197,17 @@ fit_grows enums s u state after fit g b old sorts =
       running = g.ended ∙ fit.running;
       option = g.sorts (codes "Option") 1 fit.option;
       builds = all_grow (declares state) (declares after) g.names option_names fit.builds;
-      types = rw b.types_are (each_append (TypeStands enums after) s.types b.new_types (each_map (TypeStands enums state) (TypeStands enums after) (type_stays enums state after g) s.types fit.types) b.types);
-      functions = rw b.functions_are (each_append (FunctionStands after) s.functions b.new_functions (each_map (FunctionStands state) (FunctionStands after) (function_stays state after g) s.functions fit.functions) b.functions);
-      terms = subst (λ es. EachEntry (TermStands u after) es) (sym b.terms_are)
-          (each_append (TermStands u after) s.terms b.new_terms (each_map (TermStands s state) (TermStands u after) (term_stays s u m state after g) s.terms fit.terms) b.terms);
+      types = rw b.types_are (each_append (TypeEntryIsDeclared enums after) s.types b.new_types (each_map (TypeEntryIsDeclared enums state) (TypeEntryIsDeclared enums after) (type_stays enums state after g) s.types fit.types) b.types);
+      functions = rw b.functions_are (each_append (FunctionEntryIsDeclared after) s.functions b.new_functions (each_map (FunctionEntryIsDeclared state) (FunctionEntryIsDeclared after) (function_stays state after g) s.functions fit.functions) b.functions);
+      terms = subst (λ es. EachEntry (TermEntryIsDeclared u after) es) (sym b.terms_are)
+          (each_append (TermEntryIsDeclared u after) s.terms b.new_terms (each_map (TermEntryIsDeclared s state) (TermEntryIsDeclared u after) (term_stays s u m state after g) s.terms fit.terms) b.terms);
       type_entries = subst (λ es. EachEntry (TypeEntry enums u after) es) (sym b.types_are) (each_append (TypeEntry enums u after) s.types b.new_types
           (each_map (TypeEntry enums s state) (TypeEntry enums u after) (λ t n e. entry_stays _ _ s u state after k g.kept e) s.types fit.type_entries) b.type_entries);
       function_entries = subst (λ es. EachEntry (FunctionEntry u after) es) (sym b.functions_are) (each_append (FunctionEntry u after) s.functions b.new_functions
           (each_map (FunctionEntry s state) (FunctionEntry u after) (λ t n e. entry_stays _ _ s u state after k g.kept e) s.functions fit.function_entries) b.function_entries);
       term_entries = subst (λ es. EachEntry (TermEntry enums u after) es) (sym b.terms_are) (each_append (TermEntry enums u after) s.terms b.new_terms
           (each_map (TermEntry enums s state) (TermEntry enums u after) (λ t n e. entry_stays _ _ s u state after k g.kept e) s.terms fit.term_entries) b.term_entries);
-      option_stands = line_stays state after g.kept option_line fit.option_stands;
+      option_is_declared = line_stays state after g.kept option_line fit.option_is_declared;
       rooted = g.rooted fit.rooted;
       old = old;
       old_sorts = sorts;
@@ -239,9 +242,12 @@ apart n ns h d = elim (cases_Bool (is_in n ns)) [
   | inr k ↦ k
 ]
 
-pub fresh_drawn : (enums : Enums) (s : Tables) (state : State) → Fit enums s state → (n : List ℕ) → is_old_name_in s n ≡ false → is_digit (first (behind_first n)) ≡ true → bytes_eq (take 1 n) (codes ":") ≡ false → is_taken state n ≡ false
-fresh_drawn enums s state fit n old d c =
-    fresh_from enums s state fit n old (apart n built_in_names refl d) (or_from (is_in n (codes "_" ∷ codes "as" ∷ [])) (bytes_eq (take 1 n) (codes ":")) (apart n (codes "_" ∷ codes "as" ∷ []) refl d) c)
+-- a name with a digit behind its first byte is no reserved word, and one that begins with a letter is none of the others
+pub unreserved : (n : List ℕ) → is_digit (first (behind_first n)) ≡ true → (is_keyword n || is_for_solvers n) ≡ false → is_reserved n ≡ false
+unreserved n d c = or_from (is_in n reserved_words) (is_keyword n || is_for_solvers n) (apart n reserved_words refl d) c
+
+pub fresh_drawn : (enums : Enums) (s : Tables) (state : State) → Fit enums s state → (n : List ℕ) → is_old_name_in s n ≡ false → is_digit (first (behind_first n)) ≡ true → (is_keyword n || is_for_solvers n) ≡ false → is_taken state n ≡ false
+fresh_drawn enums s state fit n old d c = fresh_from enums s state fit n old (apart n built_in_names refl d) (unreserved n d c)
 
 below : (n : ℕ) → nat_lt n n ≡ false
 below n = le-ltb n n (omega arith)

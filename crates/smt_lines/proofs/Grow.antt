@@ -1,5 +1,5 @@
 use Rattle.std.proofs.Common.{◌≡◌, ℕ, suc, ◌+◌, ◌≤◌, true, false, List, [], ◌∷◌, ◌++◌, length, refl, subst, arith, Option, Some, None}
-use Rattle.std.specs.Prelude.{Bool, codes, cond}
+use Rattle.std.specs.Prelude.{Bool, cond}
 use Rattle.std.specs.Map.{lookup}
 use Rattle.std.proofs.lemmas.List.{append-nil, append_assoc, length-append}
 use Rattle.smt_term.specs.Plain.{PlainType, OptionType, BitVecType, BoolType, EntityType, ExtensionType, StringType, RecordType, SetType, AttributeTypes, no_attributes, attribute, PlainFunction, PlainOp, UufOp, ExtensionKind, PlainLiteral, BitVecLiteral, BoolLiteral, EntityLiteral, ExtensionLiteral, StringLiteral, PlainTerm, Application, NoneTerm, LiteralTerm, RecordTerm, SetTerm, SomeTerm, VariableTerm, PlainTerms, no_terms, one_term, PlainFields, no_fields, one_field}
@@ -7,9 +7,12 @@ use Rattle.smt_term.specs.TypeValues.{Enums, members_of}
 use Rattle.smt_term.specs.Types.{kind_of, type_of, field_types}
 use Rattle.smt_sexpr.specs.Reading.{Expression}
 use Rattle.smt_lines.specs.Line.{Line, Comment, DeclareDatatype, DeclareConst, DeclareFun, DefineFun, Assert, Push, Pop}
-use Rattle.smt_lines.specs.Lines.{Tables, Written, unless_named, define, define_entity, encode_type, encode_attributes, encode_function, encode_literal, encode_head, encode_term, encode_terms, encode_fields, define_application, Manner, AsItStands, AsLeast, AsFalse, manner, declare_kind, declare_record, entity_lines, next_type, next_function, next_term, enter_type, enter_function, enter_term}
-use Rattle.smt_lines.specs.Entries.{AreNumbered, stated_type_name, stated_function_name}
-use Rattle.smt_lines.specs.Growth.{datatypes, declared_functions, definitions, is_drawn, AreDrawn, Extends, Grown, NamesStay}
+use Rattle.smt_lines.specs.LineForms.{entity_lines}
+use Rattle.smt_lines.specs.EntryNames.{stated_type_name, stated_function_name}
+use Rattle.smt_lines.specs.Lines.{Written, unless_named, define, define_entity, encode_type, encode_attributes, encode_function, encode_literal, encode_head, encode_term, encode_terms, encode_fields, define_application, Rendering, AsApplication, AsEqualsIntMin, AsFalse, application_rendering, declare_kind, declare_record, next_function, next_term, enter_type, enter_function, enter_term, next_entity}
+use Rattle.smt_lines.specs.NameTables.{Tables}
+use Rattle.smt_lines.specs.Entries.{AreNumbered}
+use Rattle.smt_lines.specs.TableGrowth.{datatypes, declared_functions, definitions, is_drawn, AreDrawn, Extends, Grown, NamesStay}
 
 -- ---- counts and numbers of joined lists
 
@@ -185,9 +188,9 @@ comments enums text s ls u h = record {
 -- ---- types
 
 entity_grows : (enums : Enums) (o : Option (List (List ℕ))) (type : List ℕ) (s : Tables)
-    → Grown enums s (enter_type (EntityType type) (next_type (codes "E") s) (entity_lines o type (next_type (codes "E") s)) s)
-entity_grows enums None type s = enters_type enums (EntityType type) (next_type (codes "E") s) _ s refl refl refl refl
-entity_grows enums (Some members) type s = enters_type enums (EntityType type) (next_type (codes "E") s) _ s refl refl refl refl
+    → Grown enums s (enter_type (EntityType type) (next_entity s) (entity_lines o type (next_entity s)) s)
+entity_grows enums None type s = enters_type enums (EntityType type) (next_entity s) _ s refl refl refl refl
+entity_grows enums (Some members) type s = enters_type enums (EntityType type) (next_entity s) _ s refl refl refl refl
 
 kind_grows : (enums : Enums) (kind : ExtensionKind) (s : Tables) → Grown enums s (declare_kind kind s)
 kind_grows enums kind s = enters_type enums (ExtensionType kind) _ _ s refl refl refl refl
@@ -238,12 +241,12 @@ pub head_grows : (enums : Enums) (op : PlainOp) (ts : PlainTerms) (s : Tables) �
 head_grows enums (UufOp f) ts s = function_grows enums f s
 head_grows enums op ts s = stays enums s
 
-application_grows : (enums : Enums) (m : Manner) (op : PlainOp) (ts : PlainTerms) (type : PlainType) (arguments : Tables → Written (List Expression)) (sort : Expression) (s : Tables)
-    → manner op ts type ≡ m → ((u : Tables) → Grown enums u (arguments u))
+application_grows : (enums : Enums) (m : Rendering) (op : PlainOp) (ts : PlainTerms) (type : PlainType) (arguments : Tables → Written (List Expression)) (sort : Expression) (s : Tables)
+    → application_rendering op ts type ≡ m → ((u : Tables) → Grown enums u (arguments u))
     → Grown enums s (define_application enums m op ts type arguments sort s)
-application_grows enums AsItStands op ts type arguments sort s e h =
+application_grows enums AsApplication op ts type arguments sort s e h =
     then enums (h s) (then enums (head_grows enums op ts _) (defines enums (Application op ts type) _ _ _))
-application_grows enums (AsLeast width) op ts type arguments sort s e h = then enums (h s) (defines enums (Application op ts type) _ _ _)
+application_grows enums (AsEqualsIntMin width) op ts type arguments sort s e h = then enums (h s) (defines enums (Application op ts type) _ _ _)
 application_grows enums AsFalse op ts type arguments sort s e h =
     enters_term enums (Application op ts type) _ [] s (λ d. absurd (differ (rw e at d))) refl refl (omega arith)
   where
@@ -254,7 +257,7 @@ mutual
   pub term_grows : (enums : Enums) (t : PlainTerm) (s : Tables) → Grown enums s (encode_term enums t s)
   term_grows enums (Application op ts type) s = unless enums _ s _
       (λ u. then enums (type_grows enums type u)
-      (application_grows enums (manner op ts type) op ts type (λ w. encode_terms enums ts w) _ _ refl (λ w. terms_grow enums ts w)))
+      (application_grows enums (application_rendering op ts type) op ts type (λ w. encode_terms enums ts w) _ _ refl (λ w. terms_grow enums ts w)))
   term_grows enums (NoneTerm type) s = unless enums _ s _
       (λ u. then enums (type_grows enums (OptionType type) u) (defines enums (NoneTerm type) _ _ _))
   term_grows enums (LiteralTerm p) s = literal_grows enums p s

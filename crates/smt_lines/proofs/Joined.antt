@@ -5,13 +5,13 @@ use Rattle.smt_sexpr.specs.Reading.{Expression, expressions}
 use Rattle.smt_semantics.specs.Script.{name}
 use Rattle.smt_lines.specs.Spelling.{spelled, spelled_others}
 use Rattle.smt_lines.specs.Lines.{after_call}
-use Rattle.smt_lines.specs.Joins.{TextsStand, LinesJoin, CallsJoin}
+use Rattle.smt_lines.specs.Joins.{TextsReplaceExpressions, LinesJoin, CallsJoin}
 
 others_stand : (es : List Expression) → spelled_others (expressions es) ≡ spelled_others (expressions (map (λ x. name (spelled x)) es))
 others_stand [] = refl
 others_stand (e ∷ es) = rw (others_stand es)
 
-pub texts_stand : TextsStand
+pub texts_stand : TextsReplaceExpressions
 texts_stand e [] = refl
 texts_stand e (f ∷ es) = rw (others_stand es)
 

@@ -8,11 +8,11 @@ use Rattle.smt_sexpr.specs.Reading.{Expression}
 use Rattle.smt_semantics.specs.Script.{Constructor, Entry, Builds, Selects, State, is_in, is_reserved, is_taken, names_of, names_below, has_name, has_sort, look_up, built_in_names, with_name}
 use Rattle.smt_semantics.specs.Sorts.{Entries, entries}
 use Rattle.smt_semantics.specs.Meanings.{names_in, are_new, selectors_named, constructors_named}
-use Rattle.smt_semantics.specs.Growth.{with_datatype, Declares, DeclaresSelectors, shown, at_place}
+use Rattle.smt_semantics.specs.DeclarationLines.{with_datatype, Declares, DeclaresSelectors, shown, at_place}
 use Rattle.smt_semantics.proofs.Grown.{constructors_append, constructors_other}
 use Rattle.smt_lines.specs.Line.{Line, Comment, DeclareDatatype, DeclareConst, DeclareFun, DefineFun, Assert, Push, Pop}
 use Rattle.smt_lines.specs.Command.{all_built}
-use Rattle.smt_lines.specs.Fit.{declares, declares_sort, BuildsOnly, IsRooted, Kept, LineStands, EachLine}
+use Rattle.smt_lines.specs.Fit.{declares, declares_sort, BuildsOnly, IsRooted, Kept, LineIsDeclared, EachLine}
 use Rattle.smt_lines.proofs.Known.{one_passes}
 use Rattle.smt_semantics.proofs.Results.{or_left, or_right}
 
@@ -189,7 +189,7 @@ declares_stay : (f g : Entries) → ((n : List ℕ) (x : Entry) → f n ≡ Some
 declares_stay f g k d ps place [] h = tt
 declares_stay f g k d ps place (c ∷ cs) h = (k c.name _ h.0, selectors_stay f g k d ps c.name 0 c.selectors h.1, declares_stay f g k d ps (suc place) cs h.2)
 
-pub line_stays : (s t : State) → Kept s t → (l : Line) → LineStands s l → LineStands t l
+pub line_stays : (s t : State) → Kept s t → (l : Line) → LineIsDeclared s l → LineIsDeclared t l
 line_stays s t k (Comment x) h = tt
 line_stays s t k (DeclareDatatype n ps cs) h = (k.sort n (length ps) h.0, declares_stay (entries s) (entries t) k.entry n ps 0 (all_built cs) h.1, k.declared n h.2, λ place c fields qs e. h.3 place c fields qs (k.built n c qs place fields h.2 e))
 line_stays s t k (DeclareConst n sort) h = k.entry n _ h
@@ -199,7 +199,7 @@ line_stays s t k (Assert e) h = tt
 line_stays s t k Push h = tt
 line_stays s t k Pop h = tt
 
-pub lines_stay : (s t : State) → Kept s t → (ls : List Line) → EachLine (LineStands s) ls → EachLine (LineStands t) ls
+pub lines_stay : (s t : State) → Kept s t → (ls : List Line) → EachLine (LineIsDeclared s) ls → EachLine (LineIsDeclared t) ls
 lines_stay s t k [] h = tt
 lines_stay s t k (l ∷ ls) h = (line_stays s t k l h.0, lines_stay s t k ls h.1)
 

@@ -12,16 +12,18 @@ use Rattle.smt_term.specs.TermOrder.{term_eq}
 use Rattle.smt_term.specs.Interpretations.{function_eq}
 use Rattle.smt_term.proofs.TermTotal.{types_decided, functions_decided, terms_decided}
 use Rattle.smt_sexpr.specs.Reading.{Expression, expressions}
-use Rattle.smt_semantics.specs.Script.{State, Entry, name, group, is_in, names_of, sorts_of, has_name, has_sort, built_in_names, built_in_sorts, is_sort, knows, are_all, each_stated}
+use Rattle.smt_semantics.specs.Script.{State, Entry, name, group, is_in, names_of, declared_sorts, has_name, has_sort, built_in_names, built_in_sorts, is_sort, knows, are_all, each_stated}
 use Rattle.smt_bits.specs.Widths.{is_width}
 use Rattle.smt_semantics.specs.Written.{is_name}
 use Rattle.smt_lines.specs.Spelling.{numeral}
-use Rattle.smt_lines.specs.Lines.{Tables, name_of_term, name_of_type, name_of_function, text_of_name, bits}
-use Rattle.smt_lines.specs.Naming.{sort_of}
-use Rattle.smt_lines.specs.Entries.{EachEntry, HasSort, text_of, named_text}
+use Rattle.smt_lines.specs.Lines.{bits}
+use Rattle.smt_lines.specs.NameTables.{Tables, name_of_term, name_of_type, name_of_function, text_of_name}
+use Rattle.smt_lines.specs.Naming.{type_sort}
+use Rattle.smt_lines.specs.Entries.{EachEntry, TypeHasEntries}
+use Rattle.smt_lines.specs.TermTexts.{text_of, named_text}
 use Rattle.smt_lines.specs.Command.{is_written, are_written}
-use Rattle.smt_lines.specs.Fine.{IsFineType, IsFine, AreFine}
-use Rattle.smt_lines.specs.Fit.{Fit, TypeStands, FunctionStands, TermStands, declares, is_old_name_in}
+use Rattle.smt_lines.specs.Encodable.{IsEncodableType, IsEncodable, AreEncodable}
+use Rattle.smt_lines.specs.Fit.{Fit, TypeEntryIsDeclared, FunctionEntryIsDeclared, TermEntryIsDeclared, declares, is_old_name_in}
 use Rattle.smt_semantics.proofs.Results.{or_left, or_right}
 use Rattle.smt_semantics.proofs.Numbers.{numeral_digits, bv_name}
 
@@ -49,14 +51,14 @@ pub each_map : {K : Type 0} (P Q : K → List ℕ → Type 0) → ((k : K) (n : 
 each_map P Q f [] a = tt
 each_map P Q f (x ∷ xs) a = (f x.0 x.1 a.0, each_map P Q f xs a.1)
 
-pub type_stands : (enums : Enums) (s : Tables) (state : State) → Fit enums s state → (t : PlainType) (n : List ℕ) → name_of_type s t ≡ Some n → TypeStands enums state t n
-type_stands enums s state fit t n h = each_found (TypeStands enums state) (type_eq t) t (λ l q. (types_decided t l).0 q) s.types n h fit.types
+pub type_stands : (enums : Enums) (s : Tables) (state : State) → Fit enums s state → (t : PlainType) (n : List ℕ) → name_of_type s t ≡ Some n → TypeEntryIsDeclared enums state t n
+type_stands enums s state fit t n h = each_found (TypeEntryIsDeclared enums state) (type_eq t) t (λ l q. (types_decided t l).0 q) s.types n h fit.types
 
-pub function_stands : (enums : Enums) (s : Tables) (state : State) → Fit enums s state → (f : PlainFunction) (n : List ℕ) → name_of_function s f ≡ Some n → FunctionStands state f n
-function_stands enums s state fit f n h = each_found (FunctionStands state) (function_eq f) f (λ l q. (functions_decided f l).0 q) s.functions n h fit.functions
+pub function_stands : (enums : Enums) (s : Tables) (state : State) → Fit enums s state → (f : PlainFunction) (n : List ℕ) → name_of_function s f ≡ Some n → FunctionEntryIsDeclared state f n
+function_stands enums s state fit f n h = each_found (FunctionEntryIsDeclared state) (function_eq f) f (λ l q. (functions_decided f l).0 q) s.functions n h fit.functions
 
-pub term_stands : (enums : Enums) (s : Tables) (state : State) → Fit enums s state → (t : PlainTerm) (n : List ℕ) → name_of_term s t ≡ Some n → TermStands s state t n
-term_stands enums s state fit t n h = each_found (TermStands s state) (term_eq t) t (λ l q. (terms_decided t l).0 q) s.terms n h fit.terms
+pub term_stands : (enums : Enums) (s : Tables) (state : State) → Fit enums s state → (t : PlainTerm) (n : List ℕ) → name_of_term s t ≡ Some n → TermEntryIsDeclared s state t n
+term_stands enums s state fit t n h = each_found (TermEntryIsDeclared s state) (term_eq t) t (λ l q. (terms_decided t l).0 q) s.terms n h fit.terms
 
 -- ---- sorts
 
@@ -65,7 +67,7 @@ any_behind p [] ys h = h
 any_behind p (x ∷ xs) ys h = or_right (p x) (list_any p (xs ++ ys)) (any_behind p xs ys h)
 
 built_in_sort : (state : State) (n : List ℕ) (k : ℕ) → list_any (λ p. bytes_eq n p.0 && (p.1 == k)) built_in_sorts ≡ true → has_sort state n k ≡ true
-built_in_sort state n k h = any_behind _ (sorts_of state) built_in_sorts h
+built_in_sort state n k h = any_behind _ (declared_sorts state) built_in_sorts h
 
 abbrev pub GoodSort : State → Expression → Type 0
 GoodSort state e = (is_sort (has_sort state) e ≡ true) × (is_written e ≡ true)
@@ -74,16 +76,16 @@ named_sort : (t : PlainType) (enums : Enums) (s : Tables) (state : State) → Fi
 named_sort t enums s state fit None e h = absurd (false≢true h)
 named_sort t enums s state fit (Some n) e h = let p = type_stands enums s state fit t n e in (p.sort, p.name)
 
-pub sort_good : (enums : Enums) (s : Tables) (state : State) → Fit enums s state → (t : PlainType) → IsFineType t → HasSort s t → GoodSort state (sort_of s t)
+pub sort_good : (enums : Enums) (s : Tables) (state : State) → Fit enums s state → (t : PlainType) → IsEncodableType enums t → TypeHasEntries s t → GoodSort state (type_sort s t)
 sort_good enums s state fit (OptionType t) f h =
     let g = sort_good enums s state fit t f h in (
-      and_from (has_sort state (codes "Option") 1) (is_sort (has_sort state) (sort_of s t) && true) fit.option (and_from (is_sort (has_sort state) (sort_of s t)) true g.0 refl),
-      and_from (is_written (sort_of s t)) true g.1 refl,
+      and_from (has_sort state (codes "Option") 1) (is_sort (has_sort state) (type_sort s t) && true) fit.option (and_from (is_sort (has_sort state) (type_sort s t)) true g.0 refl),
+      and_from (is_written (type_sort s t)) true g.1 refl,
     )
 sort_good enums s state fit (SetType t) f h =
     let g = sort_good enums s state fit t f h in (
-      and_from (has_sort state (codes "Set") 1) (is_sort (has_sort state) (sort_of s t) && true) (built_in_sort state (codes "Set") 1 refl) (and_from (is_sort (has_sort state) (sort_of s t)) true g.0 refl),
-      and_from (is_written (sort_of s t)) true g.1 refl,
+      and_from (has_sort state (codes "Set") 1) (is_sort (has_sort state) (type_sort s t) && true) (built_in_sort state (codes "Set") 1 refl) (and_from (is_sort (has_sort state) (type_sort s t)) true g.0 refl),
+      and_from (is_written (type_sort s t)) true g.1 refl,
     )
 sort_good enums s state fit (BitVecType width) f h = (or_left (is_width width) _ f, refl)
 sort_good enums s state fit BoolType f h = (built_in_sort state (codes "Bool") 0 refl, refl)
@@ -100,13 +102,13 @@ GoodText state e = (knows state e ≡ true) × (is_written e ≡ true)
 pub bits_good : (state : State) (width number : ℕ) → GoodText state (bits width number)
 bits_good state width number = (rw (numeral_digits number) refl, and_from (is_name (codes "bv" ++ numeral number)) true (bv_name number) refl)
 
-named_text_good : (t : PlainTerm) (enums : Enums) (s : Tables) (state : State) → Fit enums s state → (o : Option (List ℕ)) → name_of_term s t ≡ o → (e : Expression) → named_text o ≡ Some e → GoodText state e × HasSort s (type_of t)
+named_text_good : (t : PlainTerm) (enums : Enums) (s : Tables) (state : State) → Fit enums s state → (o : Option (List ℕ)) → name_of_term s t ≡ o → (e : Expression) → named_text o ≡ Some e → GoodText state e × TypeHasEntries s (type_of t)
 named_text_good t enums s state fit None q e h = absurd (none_is h)
 named_text_good t enums s state fit (Some n) q e h =
     let p = term_stands enums s state fit t n q in
     (subst (λ f. GoodText state f) (some_same h) (p.declared, p.name), p.sort)
 
-pub text_good : (enums : Enums) (s : Tables) (state : State) → Fit enums s state → (t : PlainTerm) → IsFine enums t → (e : Expression) → text_of s t ≡ Some e → GoodText state e × HasSort s (type_of t)
+pub text_good : (enums : Enums) (s : Tables) (state : State) → Fit enums s state → (t : PlainTerm) → IsEncodable enums t → (e : Expression) → text_of s t ≡ Some e → GoodText state e × TypeHasEntries s (type_of t)
 text_good enums s state fit (LiteralTerm (BitVecLiteral width number)) f e h = (subst (λ x. GoodText state x) (some_same h) (bits_good state width number), tt)
 text_good enums s state fit (LiteralTerm (BoolLiteral true)) f e h = (subst (λ x. GoodText state x) (some_same h) (refl, refl), tt)
 text_good enums s state fit (LiteralTerm (BoolLiteral false)) f e h = (subst (λ x. GoodText state x) (some_same h) (refl, refl), tt)
@@ -131,7 +133,7 @@ TextsAre s (one_term t ts) (e ∷ es) = (text_of s t ≡ Some e) × TextsAre s t
 abbrev pub GoodTexts : State → List Expression → Type 0
 GoodTexts state es = (are_all (each_stated (has_sort state) (has_name state) (expressions es)) ≡ true) × (are_written (expressions es) ≡ true)
 
-pub texts_good : (enums : Enums) (s : Tables) (state : State) → Fit enums s state → (ts : PlainTerms) → AreFine enums ts → (es : List Expression) → TextsAre s ts es → GoodTexts state es
+pub texts_good : (enums : Enums) (s : Tables) (state : State) → Fit enums s state → (ts : PlainTerms) → AreEncodable enums ts → (es : List Expression) → TextsAre s ts es → GoodTexts state es
 texts_good enums s state fit no_terms f [] h = (refl, refl)
 texts_good enums s state fit no_terms f (e ∷ es) h = absurd h
 texts_good enums s state fit (one_term t ts) f [] h = absurd h
@@ -173,10 +175,11 @@ is_other enums s state fit n m h k = elim (cases_Bool (bytes_eq n m)) [
   | inr e ↦ e
 ]
 
-pub applied_good : (enums : Enums) (s : Tables) (state : State) → Fit enums s state → (f : List ℕ) (es : List Expression) → declares state f ≡ true → is_name f ≡ true → GoodTexts state es → GoodText state (group (name f ∷ es))
-applied_good enums s state fit f es d n g =
+pub applied_good : (enums : Enums) (s : Tables) (state : State) → Fit enums s state → (f : List ℕ) (e : Expression) (es : List Expression) → declares state f ≡ true → is_name f ≡ true → GoodTexts state (e ∷ es) → GoodText state (group (name f ∷ e ∷ es))
+applied_good enums s state fit f e es d n g =
     let a = is_other enums s state fit f (codes "_") d refl in
     let b = is_other enums s state fit f (codes "as") d refl in
     let c = is_other enums s state fit f (codes "str.in_re") d refl in
+    let i = is_other enums s state fit f (codes "set.insert") d refl in
     let has : has_name state f ≡ true = or_right (is_in f built_in_names) (declares state f) d in
-    (rw (a, b, c) (and_from (has_name state f) _ has g.0), and_from (is_name f) _ n g.1)
+    (rw (a, b, c, i) (and_from (has_name state f) _ has g.0), and_from (is_name f) _ n g.1)

@@ -9,9 +9,10 @@ use Rattle.smt_term.proofs.TermTotal.{types_decided, functions_decided, terms_de
 use Rattle.smt_sexpr.specs.Reading.{Expression}
 use Rattle.smt_semantics.specs.Script.{name}
 use Rattle.smt_semantics.specs.Sorts.{option_sort, set_sort}
-use Rattle.smt_lines.specs.Lines.{Tables, Written, unless_named, name_of_term, name_of_type, name_of_function, text_of_name, encode_type, encode_attributes, encode_function, encode_literal, encode_head, encode_term, encode_terms, encode_fields, define_application, define_entity, Manner, AsItStands, AsLeast, AsFalse, manner}
+use Rattle.smt_lines.specs.Lines.{Written, unless_named, encode_type, encode_attributes, encode_function, encode_literal, encode_head, encode_term, encode_terms, encode_fields, define_application, define_entity, Rendering, AsApplication, AsEqualsIntMin, AsFalse, application_rendering}
+use Rattle.smt_lines.specs.NameTables.{Tables, name_of_term, name_of_type, name_of_function, text_of_name}
 use Rattle.smt_lines.specs.Naming.{type_name}
-use Rattle.smt_lines.specs.Entries.{text_of, named_text}
+use Rattle.smt_lines.specs.TermTexts.{text_of, named_text}
 use Rattle.smt_lines.specs.Made.{TypesAreMade, FunctionsAreMade, TermsAreMade}
 
 -- ---- look-ups behind an entry
@@ -210,13 +211,13 @@ unless_term k None s f h = h
 with_terms : (k : PlainTerm) {es fs : List (PlainTerm × List ℕ)} → es ≡ fs → lookup (term_eq k) es ≡ lookup (term_eq k) fs
 with_terms k h = ap (lookup (term_eq k)) h
 
-larger_application : (enums : Enums) (m : Manner) (op : PlainOp) (ts : PlainTerms) (type : PlainType) (arguments : Tables → Written (List Expression)) (sort : Expression) (s : Tables) (k : PlainTerm)
+larger_application : (enums : Enums) (m : Rendering) (op : PlainOp) (ts : PlainTerms) (type : PlainType) (arguments : Tables → Written (List Expression)) (sort : Expression) (s : Tables) (k : PlainTerm)
     → extent (Application op ts type) < extent k → name_of_term (arguments s).tables k ≡ name_of_term s k
     → name_of_term (define_application enums m op ts type arguments sort s).tables k ≡ name_of_term s k
-larger_application enums AsItStands op ts type arguments sort s k h a =
+larger_application enums AsApplication op ts type arguments sort s k h a =
     entered_term k (Application op ts type) _ _ h
     ∙ with_terms k (head_terms enums op ts (arguments s).tables) ∙ a
-larger_application enums (AsLeast width) op ts type arguments sort s k h a = entered_term k (Application op ts type) _ _ h ∙ a
+larger_application enums (AsEqualsIntMin width) op ts type arguments sort s k h a = entered_term k (Application op ts type) _ _ h ∙ a
 larger_application enums AsFalse op ts type arguments sort s k h a = entered_term k (Application op ts type) _ _ h
 
 larger_entity : (o : Option (List (List ℕ))) (type id sort : List ℕ) (s : Tables) (k : PlainTerm)
@@ -236,7 +237,7 @@ larger_literal enums (StringLiteral text) s k h = refl
 mutual
   larger_term : (enums : Enums) (t : PlainTerm) (s : Tables) (k : PlainTerm) → extent t < extent k → name_of_term (encode_term enums t s).tables k ≡ name_of_term s k
   larger_term enums (Application op ts type) s k h = unless_term k (name_of_term s (Application op ts type)) s _
-      (larger_application enums (manner op ts type) op ts type (λ w. encode_terms enums ts w) (encode_type enums type s).made (encode_type enums type s).tables k h (larger_terms enums ts (encode_type enums type s).tables k (omega arith))
+      (larger_application enums (application_rendering op ts type) op ts type (λ w. encode_terms enums ts w) (encode_type enums type s).made (encode_type enums type s).tables k h (larger_terms enums ts (encode_type enums type s).tables k (omega arith))
       ∙ with_terms k (type_terms enums type s))
   larger_term enums (NoneTerm type) s k h = unless_term k (name_of_term s (NoneTerm type)) s _
       (entered_term k (NoneTerm type) _ _ h ∙ with_terms k (type_terms enums (OptionType type) s))
@@ -285,13 +286,13 @@ made_term t s f None e h = h e
 new_term : (t : PlainTerm) (n : List ℕ) (es : List (PlainTerm × List ℕ)) → lookup (term_eq t) es ≡ None → named_text (lookup (term_eq t) (es ++ (t, n) ∷ [])) ≡ Some (name n)
 new_term t n es h = ap named_text (lookup_new (term_eq t) es t n ((terms_decided t t).1 refl) h)
 
-made_application : (enums : Enums) (m : Manner) (op : PlainOp) (ts : PlainTerms) (type : PlainType) (arguments : Tables → Written (List Expression)) (sort : Expression) (s : Tables)
+made_application : (enums : Enums) (m : Rendering) (op : PlainOp) (ts : PlainTerms) (type : PlainType) (arguments : Tables → Written (List Expression)) (sort : Expression) (s : Tables)
     → name_of_term s (Application op ts type) ≡ None → name_of_term (arguments s).tables (Application op ts type) ≡ name_of_term s (Application op ts type)
     → named_text (name_of_term (define_application enums m op ts type arguments sort s).tables (Application op ts type)) ≡ Some (define_application enums m op ts type arguments sort s).made
-made_application enums AsItStands op ts type arguments sort s n a =
+made_application enums AsApplication op ts type arguments sort s n a =
     new_term (Application op ts type) _ (encode_head enums op ts (arguments s).tables).tables.terms
     (with_terms (Application op ts type) (head_terms enums op ts (arguments s).tables) ∙ a ∙ n)
-made_application enums (AsLeast width) op ts type arguments sort s n a = new_term (Application op ts type) _ (arguments s).tables.terms (a ∙ n)
+made_application enums (AsEqualsIntMin width) op ts type arguments sort s n a = new_term (Application op ts type) _ (arguments s).tables.terms (a ∙ n)
 made_application enums AsFalse op ts type arguments sort s n a = new_term (Application op ts type) _ s.terms n
 
 made_entity : (o : Option (List (List ℕ))) (type id sort : List ℕ) (s : Tables) → name_of_term s (LiteralTerm (EntityLiteral type id)) ≡ None
@@ -310,7 +311,7 @@ made_literal enums (StringLiteral text) s = refl
 
 pub terms_are_made : TermsAreMade
 terms_are_made enums (Application op ts type) s = made_term (Application op ts type) s _ (name_of_term s (Application op ts type)) refl
-    (λ n. made_application enums (manner op ts type) op ts type (λ w. encode_terms enums ts w) _ (encode_type enums type s).tables
+    (λ n. made_application enums (application_rendering op ts type) op ts type (λ w. encode_terms enums ts w) _ (encode_type enums type s).tables
     (with_terms (Application op ts type) (type_terms enums type s) ∙ n) (arguments_leave enums op ts type (encode_type enums type s).tables))
 terms_are_made enums (NoneTerm type) s = made_term (NoneTerm type) s _ (name_of_term s (NoneTerm type)) refl
     (λ n. new_term (NoneTerm type) _ (encode_type enums (OptionType type) s).tables.terms (with_terms (NoneTerm type) (type_terms enums (OptionType type) s) ∙ n))

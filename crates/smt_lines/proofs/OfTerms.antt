@@ -1,8 +1,8 @@
 -- The steps of terms.
-use Rattle.std.proofs.Common.{◌≡◌, ℕ, ◌+◌, ◌-◌, ◌^◌, ◌<◌, true, List, [], ◌∷◌, ◌++◌, length, refl, sym, ap, ◌∙◌, subst, Option, Some, None, arith}
-use Rattle.std.specs.Prelude.{codes, chars, IsSome, is_some, nat_lt}
+use Rattle.std.proofs.Common.{◌≡◌, ℕ, ◌+◌, ◌<◌, true, List, [], ◌∷◌, ◌++◌, length, refl, sym, ap, ◌∙◌, subst, Option, Some, None, arith}
+use Rattle.std.specs.Prelude.{chars, IsSome, is_some, nat_lt}
 use Rattle.std.specs.List.{list_all}
-use Rattle.std.proofs.lemmas.Bool.{and_parts, ltb-true}
+use Rattle.std.proofs.lemmas.Bool.{and_parts, false≢true, ltb-true}
 use Rattle.smt_term.specs.Plain.{PlainType, OptionType, EntityType, ExtensionType, RecordType, SetType, PlainOp, BvnegoOp, RecordGetOp, UufOp, PlainLiteral, BitVecLiteral, BoolLiteral, EntityLiteral, ExtensionLiteral, StringLiteral, PlainTerm, Application, NoneTerm, LiteralTerm, RecordTerm, SetTerm, SomeTerm, VariableTerm, PlainTerms, no_terms, one_term, PlainFields, no_fields, one_field}
 use Rattle.smt_term.specs.TypeValues.{Enums, members_of}
 use Rattle.smt_term.specs.Types.{type_of, field_types, kind_of}
@@ -10,15 +10,19 @@ use Rattle.smt_sexpr.specs.Lexicon.{Text}
 use Rattle.smt_sexpr.specs.Reading.{Expression, Leaf}
 use Rattle.smt_semantics.specs.Script.{State, name, group, is_in, built_in_names}
 use Rattle.smt_semantics.specs.Written.{is_name}
-use Rattle.smt_lines.specs.Lines.{name_of_function, encode_function, bits, operands, extension_body, Tables, name_of_term, name_of_type, text_of_name, member_name, place_of, define_entity, encode_type, encode_literal, encode_head, encode_term, encode_terms, encode_fields, define_application, Manner, AsItStands, AsLeast, AsFalse, manner, define, enter_term, next_term, quoted_id, none_body, set_body, record_body, ◌>>=◌}
-use Rattle.smt_lines.specs.Line.{Comment, DeclareConst, DefineFun}
-use Rattle.smt_lines.specs.Entries.{HasSort, texts_of, texts_of_fields, given, named_text, HaveTexts, HaveFieldTexts, HasFunction, head_of, application_lines, entity_literal_lines}
-use Rattle.smt_lines.specs.Growth.{Keeps}
+use Rattle.smt_lines.specs.LineForms.{extension_body, quoted_id, none_body, set_body, record_body, application_body, least_body, some_body, variable_lines}
+use Rattle.smt_lines.specs.EntryNames.{member_name, place_of, enum_member}
+use Rattle.smt_lines.specs.Lines.{encode_function, define_entity, encode_type, encode_literal, encode_head, encode_term, encode_terms, encode_fields, define_application, Rendering, AsApplication, AsEqualsIntMin, AsFalse, application_rendering, define, enter_term, next_term, ◌>>=◌}
+use Rattle.smt_lines.specs.NameTables.{name_of_function, Tables, name_of_term, name_of_type, text_of_name}
+use Rattle.smt_lines.specs.Line.{DefineFun}
+use Rattle.smt_lines.specs.Entries.{TypeHasEntries, texts_of, texts_of_fields, text_or_nothing, HaveTexts, HaveFieldTexts, HasFunction, application_head, application_lines, entity_literal_lines}
+use Rattle.smt_lines.specs.TermTexts.{named_text}
+use Rattle.smt_lines.specs.TableGrowth.{Keeps}
 use Rattle.smt_lines.proofs.Grow.{terms_grow, term_grows, fields_grow, head_grows, names_stay}
 use Rattle.smt_lines.proofs.Making.{terms_are_made, functions_are_made}
 use Rattle.smt_lines.proofs.Stays.{texts_stay}
-use Rattle.smt_lines.specs.Fine.{IsFineType, IsFineOp, IsLeast, IsFineId, IsFineLiteral, IsFine, AreFine, AreFineFields}
-use Rattle.smt_lines.specs.Fit.{HasRecord, EachLine, LineStands, Fit, Steps, StepsOf, declares, placed, names_of_entity}
+use Rattle.smt_lines.specs.Encodable.{HasMember, HasArgument, IsEncodableType, IsEncodableOp, IsLeast, IsEncodableId, IsEncodableLiteral, IsEncodable, AreEncodable, AreEncodableFields}
+use Rattle.smt_lines.specs.Fit.{HasRecord, EachLine, LineIsDeclared, Fit, Steps, StepsOf, declares, placed, names_of_entity}
 use Rattle.smt_lines.proofs.Known.{GoodSort, GoodText, GoodTexts, TextsAre, text_good, texts_good, applied_good}
 use Rattle.smt_lines.proofs.Kept.{itself_kept}
 use Rattle.smt_lines.proofs.Enter.{keeps_then}
@@ -45,7 +49,7 @@ abbrev pub terms_in : PlainFields → PlainTerms
 terms_in no_fields = no_terms
 terms_in (one_field a t x) = one_term t (terms_in x)
 
-fine_in : (enums : Enums) (x : PlainFields) → AreFineFields enums x → AreFine enums (terms_in x)
+fine_in : (enums : Enums) (x : PlainFields) → AreEncodableFields enums x → AreEncodable enums (terms_in x)
 fine_in enums no_fields f = tt
 fine_in enums (one_field a t x) f = (f.0, fine_in enums x f.1)
 
@@ -59,9 +63,9 @@ fields_are enums (one_field a t x) s =
 -- ---- names that have no line
 
 -- no fine application is written as `false`
-pub not_false : (op : PlainOp) (ts : PlainTerms) (type : PlainType) → manner op ts type ≡ AsFalse → IsFineOp op ts type → ⊥
-not_false BvnegoOp ts type e f = subst IsLeast e f
-not_false op ts type e f = absurd cc
+pub not_false : (enums : Enums) (op : PlainOp) (ts : PlainTerms) (type : PlainType) → application_rendering op ts type ≡ AsFalse → IsEncodableOp enums op ts type → ⊥
+not_false enums BvnegoOp ts type e f = subst IsLeast e f
+not_false enums op ts type e f = absurd cc
 
 texts_listed_so : (s : Tables) (ts : PlainTerms) (es : List Expression) → TextsAre s ts es → (texts_of s ts ≡ es) × HaveTexts s ts
 texts_listed_so s no_terms [] h = (refl, tt)
@@ -69,7 +73,7 @@ texts_listed_so s no_terms (e ∷ es) h = absurd h
 texts_listed_so s (one_term t ts) [] h = absurd h
 texts_listed_so s (one_term t ts) (e ∷ es) h =
     let a = h.0 in let r = texts_listed_so s ts es h.1 in let b = r.0 in
-    (λ i. given (a i) ∷ b i, (ap is_some a, r.1))
+    (λ i. text_or_nothing (a i) ∷ b i, (ap is_some a, r.1))
 
 fields_listed : (s : Tables) (x : PlainFields) (es : List Expression) → TextsAre s (terms_in x) es → (texts_of_fields s x ≡ es) × HaveFieldTexts s x
 fields_listed s no_fields [] h = (refl, tt)
@@ -77,7 +81,7 @@ fields_listed s no_fields (e ∷ es) h = absurd h
 fields_listed s (one_field a t x) [] h = absurd h
 fields_listed s (one_field a t x) (e ∷ es) h =
     let p = h.0 in let r = fields_listed s x es h.1 in let b = r.0 in
-    (λ i. given (p i) ∷ b i, (ap is_some p, r.1))
+    (λ i. text_or_nothing (p i) ∷ b i, (ap is_some p, r.1))
 
 named_is : (o : Option (List ℕ)) (e : Expression) → named_text o ≡ Some e → (name (text_of_name o) ≡ e) × IsSome o
 named_is (Some n) e h = (cc, refl)
@@ -86,16 +90,16 @@ named_is None e h = absurd (none h)
     none : None ≡ Some e → ⊥
     none h = cc
 
-head_is : (enums : Enums) (op : PlainOp) (ts : PlainTerms) (w : Tables) → (head_of enums (encode_head enums op ts w).tables op ts ≡ (encode_head enums op ts w).made) × HasFunction (encode_head enums op ts w).tables op
+head_is : (enums : Enums) (op : PlainOp) (ts : PlainTerms) (w : Tables) → (application_head enums (encode_head enums op ts w).tables op ts ≡ (encode_head enums op ts w).made) × HasFunction (encode_head enums op ts w).tables op
 head_is enums (UufOp f) ts w = named_is (name_of_function (encode_function enums f w).tables f) (encode_function enums f w).made (functions_are_made enums f w)
 head_is enums op ts w = (refl, tt)
 
-least_function : (op : PlainOp) (ts : PlainTerms) (type : PlainType) (width : ℕ) (w : Tables) → manner op ts type ≡ AsLeast width → HasFunction w op
+least_function : (op : PlainOp) (ts : PlainTerms) (type : PlainType) (width : ℕ) (w : Tables) → application_rendering op ts type ≡ AsEqualsIntMin width → HasFunction w op
 least_function (UufOp f) ts type width w e = absurd cc
 least_function op ts type width w e = tt
 
 member_stands : (enums : Enums) (s : Tables) (type id : List ℕ) (members : List (List ℕ)) → members_of enums type ≡ Some members → nat_lt (place_of id members) (length members) ≡ true → IsSome (name_of_type s (EntityType type))
-    → Steps enums s [] (record s { terms = s.terms ++ (LiteralTerm (EntityLiteral type id), member_name (text_of_name (name_of_type s (EntityType type))) (place_of id members)) ∷ [] })
+    → Steps enums s [] (record s { terms = s.terms ++ (LiteralTerm (EntityLiteral type id), enum_member members (text_of_name (name_of_type s (EntityType type))) id) ∷ [] })
 member_stands enums s type id members e l h state fit =
     let n = text_of_name (name_of_type s (EntityType type)) in
     let i = place_of id members in
@@ -112,35 +116,41 @@ member_stands enums s type id members e l h state fit =
         declared = or_right (is_in (member_name n i) built_in_names) (declares state (member_name n i)) (placed_passes (declares state) (member_name n) 0 c i d (omega arith) k);
         name = placed_passes is_name (member_name n) 0 c i w (omega arith) k;
         sort = h;
-      }) (tt, tt) (subst (λ o. EachLine (LineStands state) (entity_literal_lines o n id (member_name n i))) (sym e) tt);
+      }) (tt, tt) (subst (λ o. EachLine (LineIsDeclared state) (entity_literal_lines o n id (member_name n i))) (sym e) tt);
       written = refl;
       kept = itself_kept state;
-      stand = tt;
+      lines_are_declared = tt;
       same_below = refl;
       same_assertions = refl;
     }
 
 -- ---- literals
 
-entity_good : (enums : Enums) (s : Tables) (type id : List ℕ) → members_of enums type ≡ None → IsSome (name_of_type s (EntityType type)) → IsFineId None id → (state : State) → Fit enums s state
-    → GoodSort state (name (text_of_name (name_of_type s (EntityType type)))) × GoodText state (group (name (text_of_name (name_of_type s (EntityType type))) ∷ Leaf (Text (chars id)) ∷ [])) × HasSort s (EntityType type)
+entity_good : (enums : Enums) (s : Tables) (type id : List ℕ) → members_of enums type ≡ None → IsSome (name_of_type s (EntityType type)) → IsEncodableId None id → (state : State) → Fit enums s state
+    → GoodSort state (name (text_of_name (name_of_type s (EntityType type)))) × GoodText state (group (name (text_of_name (name_of_type s (EntityType type))) ∷ Leaf (Text (chars id)) ∷ [])) × TypeHasEntries s (EntityType type)
 entity_good enums s type id e h f state fit =
     let n = text_of_name (name_of_type s (EntityType type)) in
     let y = stands_so enums s state fit (EntityType type) h in
     let d : list_all (declares state) (names_of_entity None n) ≡ true = subst (λ o. list_all (declares state) (names_of_entity o n) ≡ true) e y.declared in
     let es = Leaf (Text (chars id)) ∷ [] in
     let g : GoodTexts state es = (refl, rw f refl) in
-    ((y.sort, y.name), applied_good enums s state fit n es (and_parts (declares state n) _ d).0 y.name g, h)
+    ((y.sort, y.name), applied_good enums s state fit n (Leaf (Text (chars id))) [] (and_parts (declares state n) _ d).0 y.name g, h)
 
-entity_steps : (enums : Enums) (o : Option (List (List ℕ))) (type id : List ℕ) (s : Tables) → members_of enums type ≡ o → IsFineId o id → IsSome (name_of_type s (EntityType type)) → StepsOf enums s (define_entity o type id (text_of_name (name_of_type s (EntityType type))) s)
+entity_steps : (enums : Enums) (o : Option (List (List ℕ))) (type id : List ℕ) (s : Tables) → members_of enums type ≡ o → IsEncodableId o id → IsSome (name_of_type s (EntityType type)) → StepsOf enums s (define_entity o type id (text_of_name (name_of_type s (EntityType type))) s)
 entity_steps enums None type id s e f h = define_steps enums (LiteralTerm (EntityLiteral type id)) _ _ s (λ state fit. entity_good enums s type id e h f state fit) (λ state fit. (tt, tt)) (ap (λ o. entity_literal_lines o (text_of_name (name_of_type s (EntityType type))) id (next_term s)) e)
 entity_steps enums (Some members) type id s e f h = member_stands enums s type id members e f h
 
-literals_step : (enums : Enums) (p : PlainLiteral) (s : Tables) → IsFineLiteral enums p → StepsOf enums s (encode_literal enums p s)
+-- an enum type of which there is a member has one
+of_fine_id : (o : Option (List (List ℕ))) (id : List ℕ) → IsEncodableId o id → HasMember o
+of_fine_id None id f = tt
+of_fine_id (Some []) id f = false≢true f
+of_fine_id (Some (m ∷ ms)) id f = tt
+
+literals_step : (enums : Enums) (p : PlainLiteral) (s : Tables) → IsEncodableLiteral enums p → StepsOf enums s (encode_literal enums p s)
 literals_step enums (BitVecLiteral width number) s f = no_step enums s
 literals_step enums (BoolLiteral b) s f = no_step enums s
 literals_step enums (EntityLiteral type id) s f = unless_steps enums (name_of_term s (LiteralTerm (EntityLiteral type id))) s _
-    (steps_then enums (types_step enums (EntityType type) s tt)
+    (steps_then enums (types_step enums (EntityType type) s (of_fine_id (members_of enums type) id f))
     (entity_steps enums (members_of enums type) type id (encode_type enums (EntityType type) s).tables refl f (sort_later enums (EntityType type) s (encode_type enums (EntityType type) s).tables (itself (encode_type enums (EntityType type) s).tables)).0))
 literals_step enums (ExtensionLiteral x) s f = unless_steps enums (name_of_term s (LiteralTerm (ExtensionLiteral x))) s _
     (steps_then enums (types_step enums (ExtensionType (kind_of x)) s tt)
@@ -155,22 +165,22 @@ literals_step enums (StringLiteral text) s f = no_step enums s
 
 -- ---- applications
 
-heads_step : (enums : Enums) (op : PlainOp) (ts : PlainTerms) (type : PlainType) (s : Tables) → IsFineOp op ts type → StepsOf enums s (encode_head enums op ts s)
+heads_step : (enums : Enums) (op : PlainOp) (ts : PlainTerms) (type : PlainType) (s : Tables) → IsEncodableOp enums op ts type → StepsOf enums s (encode_head enums op ts s)
 heads_step enums (UufOp f) ts type s h = functions_step enums f s h.0 h.1
 heads_step enums op ts type s h = no_step enums s
 
-record_there : (enums : Enums) (op : PlainOp) (ts : PlainTerms) (type : PlainType) (s : Tables) (state : State) → Fit enums s state → AreFine enums ts → IsFineOp op ts type → (es : List Expression) → TextsAre s ts es → HasRecord s op ts
+record_there : (enums : Enums) (op : PlainOp) (ts : PlainTerms) (type : PlainType) (s : Tables) (state : State) → Fit enums s state → AreEncodable enums ts → IsEncodableOp enums op ts type → (es : List Expression) → TextsAre s ts es → HasRecord s op ts
 record_there enums (RecordGetOp b) ts type s state fit a o es h =
-    subst (λ t. IsSome (name_of_type s t)) (sym o.1) (subst (λ t. HasSort s t) o.1 (first_has_sort enums s state fit ts a es h))
+    subst (λ t. IsSome (name_of_type s t)) (sym o.1) (subst (λ t. TypeHasEntries s t) o.1 (first_has_sort enums s state fit ts a es h))
 record_there enums op ts type s state fit a o es h = tt
 
-same_line : (op : PlainOp) {n : List ℕ} {a b c d : Expression} {es fs : List Expression} → a ≡ b → c ≡ d → es ≡ fs → DefineFun n a (group (c ∷ operands op es)) ∷ [] ≡ DefineFun n b (group (d ∷ operands op fs)) ∷ []
-same_line op {n} p q r = λ i. DefineFun n (p i) (group (q i ∷ operands op (r i))) ∷ []
+same_line : (op : PlainOp) {n : List ℕ} {a b c d : Expression} {es fs : List Expression} → a ≡ b → c ≡ d → es ≡ fs → DefineFun n a (application_body c op es) ∷ [] ≡ DefineFun n b (application_body d op fs) ∷ []
+same_line op {n} p q r = λ i. DefineFun n (p i) (application_body (q i) op (r i)) ∷ []
 
-applications_step : (enums : Enums) (m : Manner) (op : PlainOp) (ts : PlainTerms) (type : PlainType) (s : Tables) → manner op ts type ≡ m → IsFineType type → AreFine enums ts → IsFineOp op ts type
+applications_step : (enums : Enums) (m : Rendering) (op : PlainOp) (ts : PlainTerms) (type : PlainType) (s : Tables) → application_rendering op ts type ≡ m → IsEncodableType enums type → AreEncodable enums ts → IsEncodableOp enums op ts type → HasArgument ts
     → StepsOf enums (encode_type enums type s).tables (encode_terms enums ts (encode_type enums type s).tables)
     → StepsOf enums (encode_type enums type s).tables (define_application enums m op ts type (λ w. encode_terms enums ts w) (encode_type enums type s).made (encode_type enums type s).tables)
-applications_step enums AsItStands op ts type s e f a o arguments =
+applications_step enums AsApplication op ts type s e f a o some arguments =
     let u : Tables = (encode_type enums type s).tables in
     let w : Tables = (encode_terms enums ts u).tables in
     let v : Tables = (encode_head enums op ts w).tables in
@@ -186,9 +196,9 @@ applications_step enums AsItStands op ts type s e f a o arguments =
     steps_then enums arguments (steps_then enums (heads_step enums op ts type w o)
     (define_steps enums (Application op ts type) (encode_type enums type s).made _ v
     (λ state fit. let h = (sort_later enums type s v k).0 in
-    (good_later enums type s v k f state fit, body_good enums w op ts type es e o a (texts_keep w v k2 ts es (texts_are enums ts u)) h state fit, h))
+    (good_later enums type s v k f state fit, body_good enums w op ts type es e o some a (texts_keep w v k2 ts es (texts_are enums ts u)) h state fit, h))
     (λ state fit. ((have, (head_is enums op ts w).1), record_there enums op ts type v state fit a o es (texts_keep w v k2 ts es (texts_are enums ts u)))) (ap (λ m. application_lines enums v m op ts type (next_term v)) e ∙ same_line op p q r)))
-applications_step enums (AsLeast width) op ts type s e f a o arguments =
+applications_step enums (AsEqualsIntMin width) op ts type s e f a o some arguments =
     let u : Tables = (encode_type enums type s).tables in
     let w : Tables = (encode_terms enums ts u).tables in
     let es : List Expression = (encode_terms enums ts u).made in
@@ -200,12 +210,12 @@ applications_step enums (AsLeast width) op ts type s e f a o arguments =
     (define_steps enums (Application op ts type) (encode_type enums type s).made _ w
     (λ state fit. let h = (sort_later enums type s w k).0 in
     (good_later enums type s w k f state fit, least_good state width es (texts_good enums w state fit ts a es (texts_are enums ts u)), h))
-    (λ state fit. ((listed.1, least_function op ts type width w e), record_there enums op ts type w state fit a o es (texts_are enums ts u))) (ap (λ m. application_lines enums w m op ts type (next_term w)) e ∙ (λ i. DefineFun (next_term w) (p i) (group (name (codes "=") ∷ (r i ++ bits width (2 ^ (width - 1)) ∷ []))) ∷ [])))
-applications_step enums AsFalse op ts type s e f a o arguments = absurd (not_false op ts type e o)
+    (λ state fit. ((listed.1, least_function op ts type width w e), record_there enums op ts type w state fit a o es (texts_are enums ts u))) (ap (λ m. application_lines enums w m op ts type (next_term w)) e ∙ (λ i. DefineFun (next_term w) (p i) (least_body width (r i)) ∷ [])))
+applications_step enums AsFalse op ts type s e f a o some arguments = absurd (not_false enums op ts type e o)
 
 -- ---- terms
 
-none_steps : (enums : Enums) (type : PlainType) (s : Tables) → IsFineType type
+none_steps : (enums : Enums) (type : PlainType) (s : Tables) → IsEncodableType enums type
     → Steps enums s ((encode_type enums (OptionType type) s).lines ++ (define (NoneTerm type) (encode_type enums (OptionType type) s).made (none_body (encode_type enums (OptionType type) s).made) (encode_type enums (OptionType type) s).tables).lines)
     (define (NoneTerm type) (encode_type enums (OptionType type) s).made (none_body (encode_type enums (OptionType type) s).made) (encode_type enums (OptionType type) s).tables).tables
 none_steps enums type s f =
@@ -216,16 +226,16 @@ none_steps enums type s f =
     (g, none_good enums u state fit (encode_type enums (OptionType type) s).made g, (sort_later enums (OptionType type) s u (itself u)).0)) (λ state fit. (tt, tt))
     (ap (λ (e : Expression). DefineFun (next_term u) e (none_body e) ∷ []) (sort_later enums (OptionType type) s u (itself u)).1))
 
-variable_steps : (enums : Enums) (id : List ℕ) (type : PlainType) (s : Tables) → IsFineType type
-    → StepsOf enums s (encode_type enums type s >>= λ sort v. enter_term (VariableTerm id type) (next_term v) (Comment (quoted_id id) ∷ DeclareConst (next_term v) sort ∷ []) v)
+variable_steps : (enums : Enums) (id : List ℕ) (type : PlainType) (s : Tables) → IsEncodableType enums type
+    → StepsOf enums s (encode_type enums type s >>= λ sort v. enter_term (VariableTerm id type) (next_term v) (variable_lines id (next_term v) sort) v)
 variable_steps enums id type s f =
     let u : Tables = (encode_type enums type s).tables in
     steps_then enums (types_step enums type s f)
     (constant_steps enums (VariableTerm id type) (quoted_id id) (encode_type enums type s).made u
     (λ state fit. (good_later enums type s u (itself u) f state fit, (sort_later enums type s u (itself u)).0)) (λ state fit. (tt, tt))
-    (ap (λ (e : Expression). Comment (quoted_id id) ∷ DeclareConst (next_term u) e ∷ []) (sort_later enums type s u (itself u)).1))
+    (ap (λ (e : Expression). variable_lines id (next_term u) e) (sort_later enums type s u (itself u)).1))
 
-record_steps : (enums : Enums) (x : PlainFields) (s : Tables) → IsFineType (RecordType (field_types x)) → AreFineFields enums x
+record_steps : (enums : Enums) (x : PlainFields) (s : Tables) → IsEncodableType enums (RecordType (field_types x)) → AreEncodableFields enums x
     → StepsOf enums (encode_fields enums x (encode_type enums (RecordType (field_types x)) s).tables).tables
     (define (RecordTerm x) (encode_type enums (RecordType (field_types x)) s).made
     (record_body (encode_type enums (RecordType (field_types x)) s).made (encode_fields enums x (encode_type enums (RecordType (field_types x)) s).tables).made)
@@ -248,7 +258,7 @@ record_steps enums x s f g =
     ))
     (λ state fit. (listed.1, tt)) (λ i. DefineFun (next_term w) (p i) (record_body (p i) (r i)) ∷ [])
 
-set_steps : (enums : Enums) (element : PlainType) (ts : PlainTerms) (s : Tables) → IsFineType element → AreFine enums ts
+set_steps : (enums : Enums) (element : PlainType) (ts : PlainTerms) (s : Tables) → IsEncodableType enums element → AreEncodable enums ts
     → StepsOf enums (encode_terms enums ts (encode_type enums (SetType element) s).tables).tables
     (define (SetTerm element ts) (encode_type enums (SetType element) s).made
     (set_body (encode_type enums (SetType element) s).made (encode_terms enums ts (encode_type enums (SetType element) s).tables).made)
@@ -268,10 +278,10 @@ set_steps enums element ts s f g =
     (y, set_good state sort es y (texts_good enums w state fit ts g es (texts_are enums ts u)), (sort_later enums t s w k).0))
     (λ state fit. (listed.1, tt)) (λ i. DefineFun (next_term w) (p i) (set_body (p i) (r i)) ∷ [])
 
-some_steps : (enums : Enums) (t : PlainTerm) (s : Tables) → IsFineType (type_of t) → IsFine enums t
+some_steps : (enums : Enums) (t : PlainTerm) (s : Tables) → IsEncodableType enums (type_of t) → IsEncodable enums t
     → StepsOf enums (encode_term enums t (encode_type enums (OptionType (type_of t)) s).tables).tables
     (define (SomeTerm t) (encode_type enums (OptionType (type_of t)) s).made
-    (group (name (codes "some") ∷ (encode_term enums t (encode_type enums (OptionType (type_of t)) s).tables).made ∷ []))
+    (some_body (encode_term enums t (encode_type enums (OptionType (type_of t)) s).tables).made)
     (encode_term enums t (encode_type enums (OptionType (type_of t)) s).tables).tables)
 some_steps enums t s f g =
     let o : PlainType = OptionType (type_of t) in
@@ -281,15 +291,15 @@ some_steps enums t s f g =
     let k = names_stay enums u (encode_term enums t u).lines w (term_grows enums t u) in
     let made = terms_are_made enums t u in
     let p = (sort_later enums o s w k).1 in
-    define_steps enums (SomeTerm t) (encode_type enums o s).made (group (name (codes "some") ∷ e ∷ [])) w
+    define_steps enums (SomeTerm t) (encode_type enums o s).made (some_body e) w
     (λ state fit. (good_later enums o s w k f state fit, some_good enums w state fit e (text_good enums w state fit t g e (terms_are_made enums t u)).0, (sort_later enums o s w k).0))
-    (λ state fit. (ap is_some made, tt)) (λ i. DefineFun (next_term w) (p i) (group (name (codes "some") ∷ given (made i) ∷ [])) ∷ [])
+    (λ state fit. (ap is_some made, tt)) (λ i. DefineFun (next_term w) (p i) (some_body (text_or_nothing (made i))) ∷ [])
 
 mutual
-  pub terms_step : (enums : Enums) (t : PlainTerm) (s : Tables) → IsFine enums t → StepsOf enums s (encode_term enums t s)
+  pub terms_step : (enums : Enums) (t : PlainTerm) (s : Tables) → IsEncodable enums t → StepsOf enums s (encode_term enums t s)
   terms_step enums (Application op ts type) s f = unless_steps enums (name_of_term s (Application op ts type)) s _
       (steps_then enums (types_step enums type s f.0)
-      (applications_step enums (manner op ts type) op ts type s refl f.0 f.1 f.2 (each_step enums ts (encode_type enums type s).tables f.1)))
+      (applications_step enums (application_rendering op ts type) op ts type s refl f.0 f.1 f.2 f.3 (each_step enums ts (encode_type enums type s).tables f.1)))
   terms_step enums (NoneTerm type) s f = unless_steps enums (name_of_term s (NoneTerm type)) s _ (none_steps enums type s f)
   terms_step enums (LiteralTerm p) s f = literals_step enums p s f
   terms_step enums (RecordTerm x) s f = unless_steps enums (name_of_term s (RecordTerm x)) s _
@@ -303,10 +313,10 @@ mutual
       (steps_then enums (terms_step enums t (encode_type enums (OptionType (type_of t)) s).tables f.1) (some_steps enums t s f.0 f.1)))
   terms_step enums (VariableTerm id type) s f = unless_steps enums (name_of_term s (VariableTerm id type)) s _ (variable_steps enums id type s f)
 
-  pub each_step : (enums : Enums) (ts : PlainTerms) (s : Tables) → AreFine enums ts → StepsOf enums s (encode_terms enums ts s)
+  pub each_step : (enums : Enums) (ts : PlainTerms) (s : Tables) → AreEncodable enums ts → StepsOf enums s (encode_terms enums ts s)
   each_step enums no_terms s f = no_step enums s
   each_step enums (one_term t ts) s f = steps_then enums (terms_step enums t s f.0) (steps_then enums (each_step enums ts _ f.1) (no_step enums _))
 
-  pub fields_step : (enums : Enums) (x : PlainFields) (s : Tables) → AreFineFields enums x → StepsOf enums s (encode_fields enums x s)
+  pub fields_step : (enums : Enums) (x : PlainFields) (s : Tables) → AreEncodableFields enums x → StepsOf enums s (encode_fields enums x s)
   fields_step enums no_fields s f = no_step enums s
   fields_step enums (one_field a t x) s f = steps_then enums (terms_step enums t s f.0) (steps_then enums (fields_step enums x _ f.1) (no_step enums _))

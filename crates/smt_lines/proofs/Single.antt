@@ -18,14 +18,15 @@ use Rattle.smt_semantics.specs.Written.{is_name}
 use Rattle.smt_semantics.proofs.Append.{run_append}
 use Rattle.smt_lines.specs.Spelling.{numeral}
 use Rattle.smt_lines.specs.Line.{Line, Comment, DeclareConst, DeclareFun, DefineFun}
-use Rattle.smt_lines.specs.Lines.{Tables, Written, next_term, next_function, define, enter_term, enter_function, unless_named}
-use Rattle.smt_lines.specs.Entries.{HasSort, term_lines, function_lines}
+use Rattle.smt_lines.specs.Lines.{Written, next_term, next_function, define, enter_term, enter_function, unless_named}
+use Rattle.smt_lines.specs.NameTables.{Tables}
+use Rattle.smt_lines.specs.Entries.{TypeHasEntries, term_lines, function_lines}
 use Rattle.smt_lines.specs.Command.{commands, is_written, is_written_line}
 use Rattle.smt_lines.proofs.Kept.{BuildsNone, itself_kept, kept_then, name_kept, name_there, lines_stay, lines_append}
-use Rattle.smt_lines.specs.Naming.{sort_of}
-use Rattle.smt_lines.specs.Growth.{Keeps}
+use Rattle.smt_lines.specs.Naming.{type_sort}
+use Rattle.smt_lines.specs.TableGrowth.{Keeps}
 use Rattle.smt_lines.proofs.Grow.{lookup_append}
-use Rattle.smt_lines.specs.Fit.{PartsStand, EachLine, LineStands, Fit, Steps, StepsOf, TermStands, is_old_name_in}
+use Rattle.smt_lines.specs.Fit.{PartsHaveEntries, EachLine, LineIsDeclared, Fit, Steps, StepsOf, TermEntryIsDeclared, is_old_name_in}
 use Rattle.smt_lines.proofs.Basic.{t_name, f_name, leads_alone}
 use Rattle.smt_lines.proofs.Known.{GoodSort, GoodText}
 use Rattle.smt_lines.proofs.Enter.{More, fit_grows, with_name_grows, all_grow, old_stays, old_sort_stays, fresh_term, fresh_function, sort_stays}
@@ -42,7 +43,7 @@ pub runs_then : (cs ds : List Command) (s t u : State) → run cs s ≡ Some t �
 runs_then cs ds s t u a b = run_append cs ds s ∙ ap (λ (o : Option State). o >>= run ds) a ∙ b
 
 pub no_step : (enums : Enums) (s : Tables) → Steps enums s [] s
-no_step enums s state fit = record { after = state; runs = refl; fits = fit; written = refl; kept = itself_kept state; stand = tt; same_below = refl; same_assertions = refl }
+no_step enums s state fit = record { after = state; runs = refl; fits = fit; written = refl; kept = itself_kept state; lines_are_declared = tt; same_below = refl; same_assertions = refl }
 
 pub steps_then : (enums : Enums) {s : Tables} {ls : List Line} {u : Tables} {ms : List Line} {v : Tables} → Steps enums s ls u → Steps enums u ms v → Steps enums s (ls ++ ms) v
 steps_then enums {s} {ls} {u} {ms} {v} a b state fit =
@@ -54,7 +55,7 @@ steps_then enums {s} {ls} {u} {ms} {v} a b state fit =
       fits = y.fits;
       written = list_all-append is_written_line ls ms ∙ and_from (list_all is_written_line ls) (list_all is_written_line ms) x.written y.written;
       kept = kept_then state x.after y.after x.kept y.kept;
-      stand = lines_append (LineStands y.after) ls ms (lines_stay x.after y.after y.kept ls x.stand) y.stand;
+      lines_are_declared = lines_append (LineIsDeclared y.after) ls ms (lines_stay x.after y.after y.kept ls x.lines_are_declared) y.lines_are_declared;
       same_below = y.same_below ∙ x.same_below;
       same_assertions = y.same_assertions ∙ x.same_assertions;
     }
@@ -62,7 +63,7 @@ steps_then enums {s} {ls} {u} {ms} {v} a b state fit =
 pub comment_first : (enums : Enums) (text : List ℕ) (s : Tables) (ls : List Line) (u : Tables) → Steps enums s ls u → Steps enums s (Comment text ∷ ls) u
 comment_first enums text s ls u a state fit =
     let x = a state fit in
-    record { after = x.after; runs = x.runs; fits = x.fits; written = x.written; kept = x.kept; stand = (tt, x.stand); same_below = x.same_below; same_assertions = x.same_assertions }
+    record { after = x.after; runs = x.runs; fits = x.fits; written = x.written; kept = x.kept; lines_are_declared = (tt, x.lines_are_declared); same_below = x.same_below; same_assertions = x.same_assertions }
 
 pub unless_steps : (enums : Enums) (o : Option (List ℕ)) (s : Tables) (f : Tables → Written Expression) → StepsOf enums s (f s) → StepsOf enums s (unless_named o s f)
 unless_steps enums (Some n) s f h = no_step enums s
@@ -109,7 +110,7 @@ keeps_function s f n = record {
 }
 
 -- a term whose name is there already
-pub known_term : (enums : Enums) (s : Tables) (state : State) → Fit enums s state → (t : PlainTerm) (n : List ℕ) → TermStands s state t n → PartsStand s t → EachLine (LineStands state) (term_lines enums s t n) → Fit enums (with_term t n s) state
+pub known_term : (enums : Enums) (s : Tables) (state : State) → Fit enums s state → (t : PlainTerm) (n : List ℕ) → TermEntryIsDeclared s state t n → PartsHaveEntries s t → EachLine (LineIsDeclared state) (term_lines enums s t n) → Fit enums (with_term t n s) state
 known_term enums s state fit t n h parts own =
     let m = more_term s t n in
     fit_grows enums s (with_term t n s) state state fit (record { ended = refl; kept = itself_kept state; names = λ x k. k; sorts = λ x k r. r; rooted = λ r. r })
@@ -128,9 +129,9 @@ known_term enums s state fit t n h parts own =
       term_entries = (record { tables = s; keeps = keeps_term s t n; parts = (parts, h.sort); lines = own }, tt);
     })
     (all_grow _ _ (λ x. old_stays s (with_term t n s) m x.0) (names_of state) fit.old)
-    (all_grow _ _ (λ x. old_sort_stays s (with_term t n s) m x.0) (script.sorts_of state) fit.old_sorts)
+    (all_grow _ _ (λ x. old_sort_stays s (with_term t n s) m x.0) (script.declared_sorts state) fit.old_sorts)
 
-pub fit_term : (enums : Enums) (s : Tables) (state : State) → Fit enums s state → (t : PlainTerm) (entry : Entry) → BuildsNone entry → HasSort s (type_of t) → PartsStand s t → EachLine (LineStands (with_name (next_term s) entry state)) (term_lines enums s t (next_term s)) → Fit enums (with_term t (next_term s) s) (with_name (next_term s) entry state)
+pub fit_term : (enums : Enums) (s : Tables) (state : State) → Fit enums s state → (t : PlainTerm) (entry : Entry) → BuildsNone entry → TypeHasEntries s (type_of t) → PartsHaveEntries s t → EachLine (LineIsDeclared (with_name (next_term s) entry state)) (term_lines enums s t (next_term s)) → Fit enums (with_term t (next_term s) s) (with_name (next_term s) entry state)
 fit_term enums s state fit t entry none sort parts own =
     let n = next_term s in
     let u = with_term t n s in
@@ -158,9 +159,9 @@ fit_term enums s state fit t entry none sort parts own =
       term_entries = (record { tables = s; keeps = keeps_term s t n; parts = (parts, sort); lines = own }, tt);
     })
     (and_from (is_old_name_in u n) _ (in_longer s.terms (t, n) _ (leads_alone (length s.terms))) (all_grow _ _ (λ x. old_stays s u m x.0) (names_of state) fit.old))
-    (all_grow _ _ (λ x. old_sort_stays s u m x.0) (script.sorts_of state) fit.old_sorts)
+    (all_grow _ _ (λ x. old_sort_stays s u m x.0) (script.declared_sorts state) fit.old_sorts)
 
-pub fit_function : (enums : Enums) (s : Tables) (state : State) → Fit enums s state → (f : PlainFunction) (entry : Entry) → BuildsNone entry → HasSort s f.argument × HasSort s f.output → EachLine (LineStands (with_name (next_function s) entry state)) (function_lines s f (next_function s)) → Fit enums (with_function f (next_function s) s) (with_name (next_function s) entry state)
+pub fit_function : (enums : Enums) (s : Tables) (state : State) → Fit enums s state → (f : PlainFunction) (entry : Entry) → BuildsNone entry → TypeHasEntries s f.argument × TypeHasEntries s f.output → EachLine (LineIsDeclared (with_name (next_function s) entry state)) (function_lines s f (next_function s)) → Fit enums (with_function f (next_function s) s) (with_name (next_function s) entry state)
 fit_function enums s state fit f entry none parts own =
     let n = next_function s in
     let u = with_function f n s in
@@ -192,12 +193,12 @@ fit_function enums s state fit f entry none parts own =
       term_entries = tt;
     })
     (and_from (is_old_name_in u n) _ (in_longer s.functions (f, n) _ (leads_alone (length s.functions))) (all_grow _ _ (λ x. old_stays s u m x.0) (names_of state) fit.old))
-    (all_grow _ _ (λ x. old_sort_stays s u m x.0) (script.sorts_of state) fit.old_sorts)
+    (all_grow _ _ (λ x. old_sort_stays s u m x.0) (script.declared_sorts state) fit.old_sorts)
 
 -- ---- the lines of definitions, constants and functions
 
 pub define_steps : (enums : Enums) (t : PlainTerm) (sort body : Expression) (s : Tables)
-    → ((state : State) → Fit enums s state → GoodSort state sort × GoodText state body × HasSort s (type_of t)) → ((state : State) → Fit enums s state → PartsStand s t) → term_lines enums s t (next_term s) ≡ DefineFun (next_term s) sort body ∷ [] → StepsOf enums s (define t sort body s)
+    → ((state : State) → Fit enums s state → GoodSort state sort × GoodText state body × TypeHasEntries s (type_of t)) → ((state : State) → Fit enums s state → PartsHaveEntries s t) → term_lines enums s t (next_term s) ≡ DefineFun (next_term s) sort body ∷ [] → StepsOf enums s (define t sort body s)
 define_steps enums t sort body s good parts own state fit =
     let n = next_term s in
     let g = good state fit in
@@ -206,16 +207,16 @@ define_steps enums t sort body s good parts own state fit =
     record {
       after = next;
       runs = step_runs (script.DefineFun n sort body) state next fit.running (cond-true (is_sort (has_sort state) sort && knows state body) (declare n (Defined sort body) state) None known ∙ declared_is n (Defined sort body) state (fresh_term enums s state fit));
-      fits = fit_term enums s state fit t (Defined sort body) (λ d qs place fields e. cc) g.2 (parts state fit) (subst (λ ls. EachLine (LineStands next) ls) (sym own) (name_there state n (Defined sort body), tt));
+      fits = fit_term enums s state fit t (Defined sort body) (λ d qs place fields e. cc) g.2 (parts state fit) (subst (λ ls. EachLine (LineIsDeclared next) ls) (sym own) (name_there state n (Defined sort body), tt));
       written = and_from (is_name n && is_written sort && is_written body) true (and_from (is_name n && is_written sort) (is_written body) (and_from (is_name n) (is_written sort) (t_name (numeral (length s.terms)) (numeral_suits (length s.terms))) g.0.1) g.1.1) refl;
       kept = name_kept state n (Defined sort body) (λ d qs place fields e. cc) (fresh_term enums s state fit);
-      stand = (name_there state n (Defined sort body), tt);
+      lines_are_declared = (name_there state n (Defined sort body), tt);
       same_below = refl;
       same_assertions = refl;
     }
 
 pub constant_steps : (enums : Enums) (t : PlainTerm) (text : List ℕ) (sort : Expression) (s : Tables)
-    → ((state : State) → Fit enums s state → GoodSort state sort × HasSort s (type_of t)) → ((state : State) → Fit enums s state → PartsStand s t) → term_lines enums s t (next_term s) ≡ Comment text ∷ DeclareConst (next_term s) sort ∷ [] → StepsOf enums s (enter_term t (next_term s) (Comment text ∷ DeclareConst (next_term s) sort ∷ []) s)
+    → ((state : State) → Fit enums s state → GoodSort state sort × TypeHasEntries s (type_of t)) → ((state : State) → Fit enums s state → PartsHaveEntries s t) → term_lines enums s t (next_term s) ≡ Comment text ∷ DeclareConst (next_term s) sort ∷ [] → StepsOf enums s (enter_term t (next_term s) (Comment text ∷ DeclareConst (next_term s) sort ∷ []) s)
 constant_steps enums t text sort s good parts own state fit =
     let n = next_term s in
     let g = good state fit in
@@ -223,16 +224,16 @@ constant_steps enums t text sort s good parts own state fit =
     record {
       after = next;
       runs = step_runs (script.DeclareConst n sort) state next fit.running (cond-true (is_sort (has_sort state) sort) (declare n (Constant sort) state) None g.0.0 ∙ declared_is n (Constant sort) state (fresh_term enums s state fit));
-      fits = fit_term enums s state fit t (Constant sort) (λ d qs place fields e. cc) g.1 (parts state fit) (subst (λ ls. EachLine (LineStands next) ls) (sym own) (tt, (name_there state n (Constant sort), tt)));
+      fits = fit_term enums s state fit t (Constant sort) (λ d qs place fields e. cc) g.1 (parts state fit) (subst (λ ls. EachLine (LineIsDeclared next) ls) (sym own) (tt, (name_there state n (Constant sort), tt)));
       written = and_from (is_name n && is_written sort) true (and_from (is_name n) (is_written sort) (t_name (numeral (length s.terms)) (numeral_suits (length s.terms))) g.0.1) refl;
       kept = name_kept state n (Constant sort) (λ d qs place fields e. cc) (fresh_term enums s state fit);
-      stand = (tt, (name_there state n (Constant sort), tt));
+      lines_are_declared = (tt, (name_there state n (Constant sort), tt));
       same_below = refl;
       same_assertions = refl;
     }
 
 pub function_steps : (enums : Enums) (f : PlainFunction) (argument sort : Expression) (s : Tables)
-    → ((state : State) → Fit enums s state → GoodSort state argument × GoodSort state sort) → HasSort s f.argument × (sort_of s f.argument ≡ argument) → HasSort s f.output × (sort_of s f.output ≡ sort) → StepsOf enums s (enter_function f (next_function s) (DeclareFun (next_function s) argument sort ∷ []) s)
+    → ((state : State) → Fit enums s state → GoodSort state argument × GoodSort state sort) → TypeHasEntries s f.argument × (type_sort s f.argument ≡ argument) → TypeHasEntries s f.output × (type_sort s f.output ≡ sort) → StepsOf enums s (enter_function f (next_function s) (DeclareFun (next_function s) argument sort ∷ []) s)
 function_steps enums f argument sort s good a b state fit =
     let n = next_function s in
     let g = good state fit in
@@ -244,7 +245,7 @@ function_steps enums f argument sort s good a b state fit =
       fits = fit_function enums s state fit f (Function argument sort) (λ d qs place fields e. cc) (a.0, b.0) (tt, (name_there state n (Function argument sort) ∙ (λ i. Some (Function (sym a.1 i) (sym b.1 i))), tt));
       written = and_from (is_name n && is_written argument && is_written sort) true (and_from (is_name n && is_written argument) (is_written sort) (and_from (is_name n) (is_written argument) (f_name (numeral (length s.functions)) (numeral_suits (length s.functions))) g.0.1) g.1.1) refl;
       kept = name_kept state n (Function argument sort) (λ d qs place fields e. cc) (fresh_function enums s state fit);
-      stand = (name_there state n (Function argument sort), tt);
+      lines_are_declared = (name_there state n (Function argument sort), tt);
       same_below = refl;
       same_assertions = refl;
     }

@@ -6,9 +6,9 @@ use Rattle.std.proofs.lemmas.Bool.{and_parts, and_from, false≢true}
 use Rattle.smt_sexpr.specs.Lexicon.{Bits, Number, Text, Name, is_line_end}
 use Rattle.smt_sexpr.specs.Reading.{Expression, Leaf, Node, Expressions, Nil, Cons, expressions}
 use Rattle.smt_semantics.specs.Script as script
-use Rattle.smt_semantics.specs.Script.{Command, Holds, IsWhole, name, group, constructor}
-use Rattle.smt_semantics.specs.Written.{Writes, IsLine, is_name}
-use Rattle.smt_semantics.specs.Texts.{Part, AreWritten, spaced, ConstructorPart, AreConstructors, constructor_lines, below_each}
+use Rattle.smt_semantics.specs.Script.{Command, Holds, HasWholeLines, name, group, constructor}
+use Rattle.smt_semantics.specs.Written.{ReadsAs, IsLine, is_name}
+use Rattle.smt_semantics.specs.CommandLines.{Part, AreWritten, spaced, ConstructorPart, AreConstructors, constructor_lines, below_each}
 use Rattle.smt_semantics.proofs.Append.{holds_append, whole_append}
 use Rattle.smt_semantics.proofs.Lines.{names_write, brackets_write, comments_are_lines}
 use Rattle.smt_semantics.proofs.First.{assert_line, declare_const_line, define_fun_line, applied_text}
@@ -33,17 +33,17 @@ parts_are : (es : Expressions) → expressions (map (λ p. p.expr) (parts es)) �
 parts_are Nil = refl
 parts_are (Cons e es) = ap (Cons e) (parts_are es)
 
-node : (e : Expression) (es : Expressions) → Writes (spelled e) e → AreWritten (parts es) → Writes (spelled (Node (Cons e es))) (Node (Cons e es))
-node e Nil w v = subst (λ (t : List ℕ). Writes (codes "(" ++ t) (Node (Cons e Nil))) (sym (append_assoc (spelled e) (codes " ") (codes ")"))) (groups_write (spelled e) e [] (codes " ") w tt refl)
+node : (e : Expression) (es : Expressions) → ReadsAs (spelled e) e → AreWritten (parts es) → ReadsAs (spelled (Node (Cons e es))) (Node (Cons e es))
+node e Nil w v = subst (λ (t : List ℕ). ReadsAs (codes "(" ++ t) (Node (Cons e Nil))) (sym (append_assoc (spelled e) (codes " ") (codes ")"))) (groups_write (spelled e) e [] (codes " ") w tt refl)
 node e (Cons f es) w v =
     let texts : spaced (parts (Cons f es)) (codes ")") ≡ codes " " ++ (spelled f ++ spelled_others es) ++ codes ")" =
     ap (λ (t : List ℕ). codes " " ++ t) (sym (append_assoc (spelled f) (spelled_others es) (codes ")") ∙ ap (λ (t : List ℕ). spelled f ++ t) (others_are es (codes ")")))) in
-    subst (λ (t : List ℕ). Writes (codes "(" ++ t) (Node (Cons e (Cons f es)))) (ap (λ (t : List ℕ). spelled e ++ t) texts ∙ sym (append_assoc (spelled e) (codes " " ++ (spelled f ++ spelled_others es)) (codes ")")))
-    (subst (λ (x : Expressions). Writes (codes "(" ++ (spelled e ++ spaced (parts (Cons f es)) (codes ")"))) (Node (Cons e x))) (parts_are (Cons f es))
+    subst (λ (t : List ℕ). ReadsAs (codes "(" ++ t) (Node (Cons e (Cons f es)))) (ap (λ (t : List ℕ). spelled e ++ t) texts ∙ sym (append_assoc (spelled e) (codes " " ++ (spelled f ++ spelled_others es)) (codes ")")))
+    (subst (λ (x : Expressions). ReadsAs (codes "(" ++ (spelled e ++ spaced (parts (Cons f es)) (codes ")"))) (Node (Cons e x))) (parts_are (Cons f es))
     (groups_write (spelled e) e (parts (Cons f es)) [] w v refl))
 
 mutual
-  pub expressions_write : (e : Expression) → is_written e ≡ true → Writes (spelled e) e
+  pub expressions_write : (e : Expression) → is_written e ≡ true → ReadsAs (spelled e) e
   expressions_write (Leaf (Bits width n)) h = absurd (false≢true h)
   expressions_write (Leaf (Number n)) h = number_writes n
   expressions_write (Leaf (Text cs)) h = texts_write cs h
@@ -57,10 +57,10 @@ mutual
 
 -- ---- constructors
 
-selector_writes : (x : List ℕ × Expression) → (is_name x.0 && is_written x.1) ≡ true → Writes (spelled_selector x) (group (name x.0 ∷ x.1 ∷ []))
+selector_writes : (x : List ℕ × Expression) → (is_name x.0 && is_written x.1) ≡ true → ReadsAs (spelled_selector x) (group (name x.0 ∷ x.1 ∷ []))
 selector_writes x h = let q = and_parts (is_name x.0) (is_written x.1) h in
     let texts : codes "(" ++ x.0 ++ codes " " ++ spelled x.1 ++ codes ")" ≡ spelled_selector x = simp append_assoc in
-    subst (λ (t : List ℕ). Writes t (group (name x.0 ∷ x.1 ∷ []))) texts (applied_text x.0 (spelled x.1) x.1 q.0 (expressions_write x.1 q.1))
+    subst (λ (t : List ℕ). ReadsAs t (group (name x.0 ∷ x.1 ∷ []))) texts (applied_text x.0 (spelled x.1) x.1 q.0 (expressions_write x.1 q.1))
 
 abbrev selector_parts : List (List ℕ × Expression) → List Part
 selector_parts [] = []
@@ -80,13 +80,13 @@ spaced_selectors (x ∷ xs) end =
     let rest = flat_map (λ y. codes " " ++ spelled_selector y) xs in
     ap (λ (t : List ℕ). codes " " ++ t) (append_assoc (spelled_selector x) rest end ∙ ap (λ (t : List ℕ). spelled_selector x ++ t) (spaced_selectors xs end))
 
-constructor_writes : (c : Constructor) → is_written_constructor c ≡ true → Writes (spelled_constructor c) (constructor (built c))
+constructor_writes : (c : Constructor) → is_written_constructor c ≡ true → ReadsAs (spelled_constructor c) (constructor (built c))
 constructor_writes (Bare n) h = selectors_write (record { name = n; selectors = [] }) [] [] h tt refl refl
 constructor_writes (Fielded n []) h = selectors_write (record { name = n; selectors = [] }) [] (codes " ") (and_parts (is_name n) true h).0 tt refl refl
 constructor_writes (Fielded n (x ∷ xs)) h =
     let q = and_parts (is_name n) (list_all (λ x. is_name x.0 && is_written x.1) (x ∷ xs)) h in
     let rest = flat_map (λ y. codes " " ++ spelled_selector y) xs in
-    subst (λ (t : List ℕ). Writes (codes "(" ++ (n ++ (codes " " ++ t))) (constructor (built (Fielded n (x ∷ xs)))))
+    subst (λ (t : List ℕ). ReadsAs (codes "(" ++ (n ++ (codes " " ++ t))) (constructor (built (Fielded n (x ∷ xs)))))
     (ap (λ (t : List ℕ). spelled_selector x ++ t) (sym (spaced_selectors xs (codes ")"))) ∙ sym (append_assoc (spelled_selector x) rest (codes ")")))
     (selectors_write (record { name = n; selectors = x ∷ xs }) (selector_parts (x ∷ xs)) [] q.0 (selectors_written (x ∷ xs) q.1) refl (selector_parts_are (x ∷ xs)))
 
@@ -156,14 +156,14 @@ lines_are_lines (Assert e) h =
 lines_are_lines Push h = plain_lines.4
 lines_are_lines Pop h = plain_lines.5
 
-whole_line : (line : List ℕ) (cs : List Command) → IsLine line cs → IsWhole line
-whole_line line cs h = subst IsWhole (sym h.ends.1) (whole h.ends.0)
+pub whole_line : (line : List ℕ) (cs : List Command) → IsLine line cs → HasWholeLines line
+whole_line line cs h = subst HasWholeLines (sym h.ends.1) (whole h.ends.0)
   where
-    whole : (front : List ℕ) → IsWhole (front ++ codes "\n")
+    whole : (front : List ℕ) → HasWholeLines (front ++ codes "\n")
     whole [] = ([], refl)
     whole (b ∷ front) = (b ∷ front, refl)
 
-pub one_holds : (line rest : List ℕ) (cs ds : List Command) → IsLine line cs → Holds rest ds × IsWhole rest → Holds (line ++ rest) (cs ++ ds) × IsWhole (line ++ rest)
+pub one_holds : (line rest : List ℕ) (cs ds : List Command) → IsLine line cs → Holds rest ds × HasWholeLines rest → Holds (line ++ rest) (cs ++ ds) × HasWholeLines (line ++ rest)
 one_holds line rest cs ds l r = let w = whole_line line cs l in (holds_append line rest cs ds w l.holds r.0, whole_append line rest w r.1)
 
 pub lines_hold : LinesHold

@@ -7,9 +7,11 @@ use Rattle.smt_term.proofs.TermTotal.{types_decided}
 use Rattle.smt_sexpr.specs.Reading.{Expression}
 use Rattle.smt_semantics.specs.Script.{name}
 use Rattle.smt_semantics.specs.Sorts.{option_sort, set_sort}
-use Rattle.smt_lines.specs.Lines.{Tables, Written, unless_named, name_of_term, name_of_type, text_of_name, encode_attributes, encode_term, encode_terms}
-use Rattle.smt_lines.specs.Entries.{named_text, given}
-use Rattle.smt_lines.specs.Made.{TermListsAreMade, TextsStay, SortsStay, SortsStand}
+use Rattle.smt_lines.specs.Lines.{Written, unless_named, encode_attributes, encode_term, encode_terms}
+use Rattle.smt_lines.specs.NameTables.{Tables, name_of_term, name_of_type, text_of_name}
+use Rattle.smt_lines.specs.Entries.{text_or_nothing}
+use Rattle.smt_lines.specs.TermTexts.{named_text}
+use Rattle.smt_lines.specs.Made.{TermListsAreMade, TextsStay, SortsStay, WrittenTypesHaveEntries}
 use Rattle.smt_lines.proofs.Grow.{terms_grow, names_stay}
 use Rattle.smt_lines.proofs.Making.{terms_are_made, lookup_new, larger_attributes, less}
 
@@ -43,7 +45,7 @@ term_lists_are_made enums (one_term t ts) s =
     let k = names_stay enums u (encode_terms enums ts u).lines w (terms_grow enums ts u) in
     let a = texts_stay u w t (encode_term enums t s).made k (terms_are_made enums t s) in
     let b = term_lists_are_made enums ts u in
-    λ i. given (a i) ∷ b i
+    λ i. text_or_nothing (a i) ∷ b i
 
 -- ---- sorts
 
@@ -72,7 +74,7 @@ stands t s f None e h = h e
 stands_new : (t : PlainType) (n : List ℕ) (s : Tables) → name_of_type s t ≡ None → IsSome (lookup (type_eq t) (s.types ++ (t, n) ∷ []))
 stands_new t n s h = ap is_some (lookup_new (type_eq t) s.types t n ((types_decided t t).1 refl) h)
 
-pub sorts_stand : SortsStand
+pub sorts_stand : WrittenTypesHaveEntries
 sorts_stand enums (OptionType t) s = sorts_stand enums t s
 sorts_stand enums (BitVecType width) s = tt
 sorts_stand enums BoolType s = tt

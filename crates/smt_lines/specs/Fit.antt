@@ -8,15 +8,18 @@ use Rattle.smt_term.specs.Types.{type_of}
 use Rattle.smt_term.specs.Formed.{attribute_names}
 use Rattle.smt_sexpr.specs.Lexicon.{is_digit}
 use Rattle.smt_sexpr.specs.Reading.{Expression}
-use Rattle.smt_semantics.specs.Script.{Constructor, Entry, Constant, Function, Defined, Builds, State, is_in, names_of, sorts_of, has_name, has_sort, run}
+use Rattle.smt_semantics.specs.Script.{Constructor, Entry, Constant, Function, Defined, Builds, State, is_in, names_of, declared_sorts, has_name, has_sort, run}
 use Rattle.smt_semantics.specs.Meanings.{names_in}
 use Rattle.smt_semantics.specs.Written.{is_name}
 use Rattle.smt_lines.specs.Line.{Line, DeclareDatatype, DeclareConst, DeclareFun, DefineFun}
 use Rattle.smt_semantics.specs.Sorts.{Entries, entries}
-use Rattle.smt_semantics.specs.Growth.{shown, at_place, Declares}
-use Rattle.smt_lines.specs.Lines.{Tables, Written, name_of_type, member_name, attribute_name, id_name, kind_name, kind_constructors, option_line, first_type}
-use Rattle.smt_lines.specs.Entries.{EachEntry, HasSort, type_lines, function_lines, term_lines, TypePartsStand, TermPartsStand}
-use Rattle.smt_lines.specs.Growth.{Keeps}
+use Rattle.smt_semantics.specs.DeclarationLines.{shown, at_place, Declares}
+use Rattle.smt_lines.specs.LineForms.{kind_constructors}
+use Rattle.smt_lines.specs.EntryNames.{member_name, attribute_name, id_name, kind_name}
+use Rattle.smt_lines.specs.Lines.{Written, option_line, first_type}
+use Rattle.smt_lines.specs.NameTables.{Tables, name_of_type}
+use Rattle.smt_lines.specs.Entries.{EachEntry, TypeHasEntries, type_lines, function_lines, term_lines, TypePartsHaveEntries, TermPartsHaveEntries}
+use Rattle.smt_lines.specs.TableGrowth.{Keeps}
 use Rattle.smt_lines.specs.Command.{all_built, commands, is_written_line}
 
 -- ---- the names that a type's entry declares
@@ -54,8 +57,8 @@ abbrev pub leading : ℕ → List ℕ → ℕ
 leading n [] = n
 leading n (d ∷ ds) = if is_digit d then leading (n * 10 + (d - 48)) ds else n
 
-abbrev pub number_of : List ℕ → ℕ
-number_of n = leading 0 (behind_first n)
+abbrev pub drawn_number : List ℕ → ℕ
+drawn_number n = leading 0 (behind_first n)
 
 abbrev pub has_kind : Tables → ExtensionKind → Bool
 has_kind s kind = is_some (name_of_type s (ExtensionType kind))
@@ -70,14 +73,14 @@ of_kinds test kinds =
 
 abbrev pub is_old : (terms functions types : ℕ) → (ExtensionKind → Bool) → List ℕ → Bool
 is_old terms functions types kinds n =
-    if first n == 116 then nat_lt (number_of n) terms
-    else (if first n == 102 then nat_lt (number_of n) functions
-    else (if (first n == 69) || (first n == 82) then nat_lt (number_of n) types
+    if first n == 116 then nat_lt (drawn_number n) terms
+    else (if first n == 102 then nat_lt (drawn_number n) functions
+    else (if (first n == 69) || (first n == 82) then nat_lt (drawn_number n) types
     else (is_in n option_names || of_kinds (λ k. is_in n (kind_names k)) kinds)))
 
 abbrev pub is_old_sort : (types : ℕ) → (ExtensionKind → Bool) → List ℕ → Bool
 is_old_sort types kinds n =
-    if (first n == 69) || (first n == 82) then nat_lt (number_of n) types
+    if (first n == 69) || (first n == 82) then nat_lt (drawn_number n) types
     else (bytes_eq n (codes "Option") || of_kinds (λ k. bytes_eq n (kind_name k)) kinds)
 
 abbrev pub is_old_name_in : Tables → List ℕ → Bool
@@ -91,23 +94,29 @@ is_old_sort_in s n = is_old_sort (length s.types) (has_kind s) n
 abbrev pub declares : State → List ℕ → Bool
 declares state n = is_in n (map (λ p. p.0) (names_of state))
 
-pub record TypeStands (enums : Enums) (state : State) (t : PlainType) (n : List ℕ) : Type 0 where
+-- an extension type has the name of its kind
+abbrev pub IsKindNamed : PlainType → List ℕ → Type 0
+IsKindNamed (ExtensionType kind) n = n ≡ kind_name kind
+IsKindNamed t n = Unit {0}
+
+pub record TypeEntryIsDeclared (enums : Enums) (state : State) (t : PlainType) (n : List ℕ) : Type 0 where
   pub sort : has_sort state n 0 ≡ true
   pub name : is_name n ≡ true
   pub declared : list_all (declares state) (names_of_type enums t n) ≡ true
   pub names : list_all is_name (names_of_type enums t n) ≡ true
+  pub kind : IsKindNamed t n
 
-pub record FunctionStands (state : State) (f : PlainFunction) (n : List ℕ) : Type 0 where
+pub record FunctionEntryIsDeclared (state : State) (f : PlainFunction) (n : List ℕ) : Type 0 where
   pub declared : declares state n ≡ true
   pub name : is_name n ≡ true
 
-pub record TermStands (s : Tables) (state : State) (t : PlainTerm) (n : List ℕ) : Type 0 where
+pub record TermEntryIsDeclared (s : Tables) (state : State) (t : PlainTerm) (n : List ℕ) : Type 0 where
   pub declared : has_name state n ≡ true
   pub name : is_name n ≡ true
-  pub sort : HasSort s (type_of t)
+  pub sort : TypeHasEntries s (type_of t)
 
 abbrev pub declares_sort : State → List ℕ → Bool
-declares_sort state d = is_in d (map (λ p. p.0) (sorts_of state))
+declares_sort state d = is_in d (map (λ p. p.0) (declared_sorts state))
 
 -- What builds values of a datatype is one of these constructors, at its place.
 abbrev pub BuildsOnly : Entries → List ℕ → List (List ℕ) → List Constructor → Type 0
@@ -118,12 +127,12 @@ abbrev pub IsRooted : State → Type 0
 IsRooted state = (d c : List ℕ) (qs : List (List ℕ)) (place : ℕ) (fields : List Expression) → entries state c ≡ Some (Builds d qs place fields) → declares_sort state d ≡ true
 
 -- What a line declares is there, with all that the line says of it; and of a datatype nothing else.
-abbrev pub LineStands : State → Line → Type 0
-LineStands state (DeclareDatatype n ps cs) = (has_sort state n (length ps) ≡ true) × Declares (entries state) n ps 0 (all_built cs) × (declares_sort state n ≡ true) × BuildsOnly (entries state) n ps (all_built cs)
-LineStands state (DeclareConst n sort) = entries state n ≡ Some (Constant sort)
-LineStands state (DeclareFun n argument sort) = entries state n ≡ Some (Function argument sort)
-LineStands state (DefineFun n sort body) = entries state n ≡ Some (Defined sort body)
-LineStands state l = Unit {0}
+abbrev pub LineIsDeclared : State → Line → Type 0
+LineIsDeclared state (DeclareDatatype n ps cs) = (has_sort state n (length ps) ≡ true) × Declares (entries state) n ps 0 (all_built cs) × (declares_sort state n ≡ true) × BuildsOnly (entries state) n ps (all_built cs)
+LineIsDeclared state (DeclareConst n sort) = entries state n ≡ Some (Constant sort)
+LineIsDeclared state (DeclareFun n argument sort) = entries state n ≡ Some (Function argument sort)
+LineIsDeclared state (DefineFun n sort body) = entries state n ≡ Some (Defined sort body)
+LineIsDeclared state l = Unit {0}
 
 abbrev pub EachLine : (Line → Type 0) → List Line → Type 0
 EachLine P [] = Unit {0}
@@ -134,44 +143,44 @@ pub record EntryOf (lines_of : Tables → List Line) (Parts : Tables → Type 0)
   pub tables : Tables
   pub keeps : Keeps tables s
   pub parts : Parts tables
-  pub lines : EachLine (LineStands state) (lines_of tables)
+  pub lines : EachLine (LineIsDeclared state) (lines_of tables)
 
 abbrev pub TypeEntry : Enums → Tables → State → PlainType → List ℕ → Type 0
-TypeEntry enums s state t n = EntryOf (λ r. type_lines enums r t n) (λ r. TypePartsStand r t) s state
+TypeEntry enums s state t n = EntryOf (λ r. type_lines enums r t n) (λ r. TypePartsHaveEntries r t) s state
 
 abbrev pub FunctionEntry : Tables → State → PlainFunction → List ℕ → Type 0
-FunctionEntry s state f n = EntryOf (λ r. function_lines r f n) (λ r. HasSort r f.argument × HasSort r f.output) s state
+FunctionEntry s state f n = EntryOf (λ r. function_lines r f n) (λ r. TypeHasEntries r f.argument × TypeHasEntries r f.output) s state
 
 -- the record type whose selector an application is written with
 abbrev pub HasRecord : Tables → PlainOp → PlainTerms → Type 0
 HasRecord s (RecordGetOp a) ts = IsSome (name_of_type s (first_type ts))
 HasRecord s op ts = Unit {0}
 
-abbrev pub RecordStands : Tables → PlainTerm → Type 0
-RecordStands s (Application op ts type) = HasRecord s op ts
-RecordStands s t = Unit {0}
+abbrev pub RecordHasEntry : Tables → PlainTerm → Type 0
+RecordHasEntry s (Application op ts type) = HasRecord s op ts
+RecordHasEntry s t = Unit {0}
 
 -- the parts of a term have names, and so has its type
-abbrev pub PartsStand : Tables → PlainTerm → Type 0
-PartsStand s t = TermPartsStand s t × RecordStands s t
+abbrev pub PartsHaveEntries : Tables → PlainTerm → Type 0
+PartsHaveEntries s t = TermPartsHaveEntries s t × RecordHasEntry s t
 
 abbrev pub TermEntry : Enums → Tables → State → PlainTerm → List ℕ → Type 0
-TermEntry enums s state t n = EntryOf (λ r. term_lines enums r t n) (λ r. PartsStand r t × HasSort r (type_of t)) s state
+TermEntry enums s state t n = EntryOf (λ r. term_lines enums r t n) (λ r. PartsHaveEntries r t × TypeHasEntries r (type_of t)) s state
 
 pub record Fit (enums : Enums) (s : Tables) (state : State) : Type 0 where
   pub running : state.ended ≡ false
   pub option : has_sort state (codes "Option") 1 ≡ true
   pub builds : list_all (declares state) option_names ≡ true
-  pub types : EachEntry (TypeStands enums state) s.types
-  pub functions : EachEntry (FunctionStands state) s.functions
-  pub terms : EachEntry (TermStands s state) s.terms
+  pub types : EachEntry (TypeEntryIsDeclared enums state) s.types
+  pub functions : EachEntry (FunctionEntryIsDeclared state) s.functions
+  pub terms : EachEntry (TermEntryIsDeclared s state) s.terms
   pub type_entries : EachEntry (TypeEntry enums s state) s.types
   pub function_entries : EachEntry (FunctionEntry s state) s.functions
   pub term_entries : EachEntry (TermEntry enums s state) s.terms
-  pub option_stands : LineStands state option_line
+  pub option_is_declared : LineIsDeclared state option_line
   pub rooted : IsRooted state
   pub old : list_all (λ p. is_old_name_in s p.0) (names_of state) ≡ true
-  pub old_sorts : list_all (λ p. is_old_sort_in s p.0) (sorts_of state) ≡ true
+  pub old_sorts : list_all (λ p. is_old_sort_in s p.0) (declared_sorts state) ≡ true
 
 -- What is declared stays, and of a datatype that is declared nothing more is built.
 pub record Kept (state after : State) : Type 0 where
@@ -187,7 +196,7 @@ pub record Reach (enums : Enums) (state : State) (ls : List Line) (u : Tables) :
   pub fits : Fit enums u after
   pub written : list_all is_written_line ls ≡ true
   pub kept : Kept state after
-  pub stand : EachLine (LineStands after) ls
+  pub lines_are_declared : EachLine (LineIsDeclared after) ls
   pub same_below : after.below ≡ state.below
   pub same_assertions : after.last.assertions ≡ state.last.assertions
 

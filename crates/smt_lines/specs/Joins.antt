@@ -8,8 +8,8 @@ use Rattle.smt_term.specs.TypeValues.{Enums}
 use Rattle.smt_lines.specs.Line.{Line, spelled_lines}
 
 -- what is written in place of an expression is its text alone
-abbrev pub TextsStand : Type 0
-TextsStand = (e : Expression) (es : List Expression) → spelled (group (e ∷ es)) ≡ spelled (group (name (spelled e) ∷ map (λ x. name (spelled x)) es))
+abbrev pub TextsReplaceExpressions : Type 0
+TextsReplaceExpressions = (e : Expression) (es : List Expression) → spelled (group (e ∷ es)) ≡ spelled (group (name (spelled e) ∷ map (λ x. name (spelled x)) es))
 
 abbrev pub LinesJoin : Type 0
 LinesJoin = (ls ms : List Line) → spelled_lines (ls ++ ms) ≡ spelled_lines ls ++ spelled_lines ms

@@ -1,53 +1,36 @@
 -- The lines that stand for terms, and the names that they leave.
-use Rattle.std.specs.Prelude.{ℕ, suc, ◌-◌, ◌^◌, Bool, true, false, ◌||◌, if◌then◌else◌, ◌==◌, nat_lt, bytes_eq, codes, chars, length, map, List, [], ◌∷◌, ◌++◌, Option, Some, None}
-use Rattle.std.specs.List.{flat_map, join_by}
-use Rattle.std.specs.Map.{lookup}
-use Rattle.smt_term.specs.Plain.{ExtensionKind, IpAddrKind, DecimalKind, DatetimeKind, DurationKind, PlainType, OptionType, BitVecType, BoolType, EntityType, ExtensionType, StringType, RecordType, SetType, AttributeTypes, no_attributes, attribute, PlainFunction, ExtensionOp, DatetimeOfBitVecOp, DatetimeValOp, DecimalValOp, DurationOfBitVecOp, DurationValOp, IpAddrV4Op, IpAddrV6Op, IpIsV4Op, IpPrefixV4Op, IpPrefixV6Op, PatternPart, PlainOp, AndOp, BvaddOp, BvlshrOp, BvmulOp, BvnegOp, BvnegoOp, BvsaddoOp, BvsdivOp, BvshlOp, BvsleOp, BvsltOp, BvsmodOp, BvsmuloOp, BvsremOp, BvssuboOp, BvsubOp, BvudivOp, BvuleOp, BvultOp, BvuremOp, EqOp, ExtOp, IteOp, NotOp, OptionGetOp, OrOp, RecordGetOp, SetInterOp, SetMemberOp, SetSubsetOp, StringLikeOp, UufOp, ZeroExtendOp, PlainExtension, DecimalOf, Ipv4Of, Ipv6Of, DatetimeOf, DurationOf, PlainLiteral, BitVecLiteral, BoolLiteral, EntityLiteral, ExtensionLiteral, StringLiteral, PlainTerm, Application, NoneTerm, LiteralTerm, RecordTerm, SetTerm, SomeTerm, VariableTerm, PlainTerms, no_terms, one_term, PlainFields, no_fields, one_field, terms}
-use Rattle.smt_bits.specs.BitVectors.{bits_of}
+use Rattle.std.specs.Prelude.{ℕ, Bool, true, false, codes, length, map, List, [], ◌∷◌, ◌++◌, Option, Some, None}
+use Rattle.smt_term.specs.Plain.{ExtensionKind, PlainType, OptionType, BitVecType, BoolType, EntityType, ExtensionType, StringType, RecordType, SetType, AttributeTypes, no_attributes, attribute, PlainFunction, PlainOp, BvnegoOp, RecordGetOp, UufOp, PlainLiteral, BitVecLiteral, BoolLiteral, EntityLiteral, ExtensionLiteral, StringLiteral, PlainTerm, Application, NoneTerm, LiteralTerm, RecordTerm, SetTerm, SomeTerm, VariableTerm, PlainTerms, no_terms, one_term, PlainFields, no_fields, one_field, terms}
 pub use Rattle.smt_term.specs.TypeValues.{Enums, members_of}
-use Rattle.smt_term.specs.Types.{type_eq, type_of, literal_type}
-use Rattle.smt_term.specs.Interpretations.{function_eq}
-use Rattle.smt_term.specs.TermOrder.{term_eq}
+use Rattle.smt_term.specs.Types.{type_of, literal_type}
 use Rattle.smt_term.specs.Formed.{attribute_names}
-use Rattle.smt_sexpr.specs.Reading.{Expression, Leaf}
-use Rattle.smt_sexpr.specs.Lexicon.{Number, Text}
-use Rattle.smt_semantics.specs.Script.{name, group}
-pub use Rattle.smt_semantics.specs.Numerals.{numbered}
-use Rattle.smt_semantics.specs.Quoting.{pattern_expr}
+use Rattle.smt_sexpr.specs.Reading.{Expression}
+use Rattle.smt_semantics.specs.Script.{name}
 use Rattle.smt_semantics.specs.Sorts.{bool_sort, string_sort, bit_sort, option_sort, set_sort}
-pub use Rattle.smt_semantics.specs.Texts.{bits}
-use Rattle.smt_lines.specs.Spelling.{escaped}
-use Rattle.smt_lines.specs.Line.{Constructor, Bare, Fielded, Line, Comment, DeclareDatatype, DeclareConst, DeclareFun, DefineFun, Assert, Push, Pop}
+pub use Rattle.smt_semantics.specs.CommandLines.{bits}
+use Rattle.smt_lines.specs.LineForms.{entity_lines, record_lines, kind_lines, function_heading, function_declaration, variable_lines, some_body, none_body, set_body, record_body, entity_body, extension_body, operator_head, application_body, least_body}
+use Rattle.smt_lines.specs.EntryNames.{attribute_name, place_of, kind_name, stated_term_name, stated_function_name, stated_entity_name, stated_record_name, enum_member}
+use Rattle.smt_lines.specs.TermTexts.{bool_name, bool_text, string_text}
+use Rattle.smt_lines.specs.NameTables.{Tables, no_names, name_of_term, name_of_type, name_of_function, text_of_name}
+use Rattle.smt_lines.specs.Line.{Constructor, Bare, Fielded, Line, DeclareDatatype, DefineFun, Assert, Push, Pop}
 
--- ---- tables
+-- ---- the names that come next
 
--- what has a name, in the order in which the names were given
-pub record Tables : Type 0 where
-  pub terms : List (PlainTerm × List ℕ)
-  pub types : List (PlainType × List ℕ)
-  pub functions : List (PlainFunction × List ℕ)
-
-abbrev pub no_names : Tables
-no_names = record { terms = []; types = []; functions = [] }
-
-abbrev pub name_of_term : Tables → PlainTerm → Option (List ℕ)
-name_of_term s t = lookup (term_eq t) s.terms
-
-abbrev pub name_of_type : Tables → PlainType → Option (List ℕ)
-name_of_type s t = lookup (type_eq t) s.types
-
-abbrev pub name_of_function : Tables → PlainFunction → Option (List ℕ)
-name_of_function s f = lookup (function_eq f) s.functions
-
+-- the name of the next entry of a term
 abbrev pub next_term : Tables → List ℕ
-next_term s = numbered (codes "t") (length s.terms)
+next_term s = stated_term_name (length s.terms)
 
+-- the name of the next entry of a function
 abbrev pub next_function : Tables → List ℕ
-next_function s = numbered (codes "f") (length s.functions)
+next_function s = stated_function_name (length s.functions)
 
--- entity, record and extension types are counted together
-abbrev pub next_type : List ℕ → Tables → List ℕ
-next_type letter s = numbered letter (length s.types)
+-- The name of the next entry, where it is an entity type's. Entity, record and extension types are counted together.
+abbrev pub next_entity : Tables → List ℕ
+next_entity s = stated_entity_name (length s.types)
+
+-- the name of the next entry, where it is a record type's
+abbrev pub next_record : Tables → List ℕ
+next_record s = stated_record_name (length s.types)
 
 -- ---- what is written on the way
 
@@ -85,76 +68,21 @@ enter_term t n ls s = record { made = name n; lines = ls; tables = record s { te
 abbrev pub define : PlainTerm → (sort body : Expression) → Tables → Written Expression
 define t sort body s = enter_term t (next_term s) (DefineFun (next_term s) sort body ∷ []) s
 
--- ---- names of constructors and selectors
-
--- the constructor of a member of an enum type, by the member's place
-abbrev pub member_name : (type : List ℕ) → ℕ → List ℕ
-member_name type place = type ++ numbered (codes "_m") place
-
--- the selector of an attribute, by the attribute's place
-abbrev pub attribute_name : (type : List ℕ) → ℕ → List ℕ
-attribute_name type place = type ++ numbered (codes "_a") place
-
-abbrev pub id_name : (type : List ℕ) → List ℕ
-id_name type = type ++ codes "_eid"
-
--- the place of the first text that is the same; past the last where there is none
-abbrev pub place_of : List ℕ → List (List ℕ) → ℕ
-place_of text [] = 0
-place_of text (x ∷ xs) = if bytes_eq text x then 0 else suc (place_of text xs)
-
 -- ---- sorts
 
--- constructors without fields, numbered from a place on
-abbrev pub member_constructors : (type : List ℕ) → ℕ → List (List ℕ) → List Constructor
-member_constructors type place [] = []
-member_constructors type place (m ∷ ms) = Bare (member_name type place) ∷ member_constructors type (suc place) ms
-
-abbrev pub entity_constructors : (members : Option (List (List ℕ))) → (type : List ℕ) → List Constructor
-entity_constructors None type = Fielded type ((id_name type, string_sort) ∷ []) ∷ []
-entity_constructors (Some members) type = member_constructors type 0 members
-
-abbrev pub attribute_selectors : (type : List ℕ) → ℕ → List Expression → List (List ℕ × Expression)
-attribute_selectors type place [] = []
-attribute_selectors type place (sort ∷ sorts) = (attribute_name type place, sort) ∷ attribute_selectors type (suc place) sorts
-
-abbrev pub listed : List (List ℕ) → List ℕ
-listed texts = join_by (λ x. x) (codes ", ") texts
-
-abbrev pub entity_lines : (members : Option (List (List ℕ))) → (type sort : List ℕ) → List Line
-entity_lines None type sort =
-    Comment type ∷ DeclareDatatype sort [] (entity_constructors None sort) ∷ []
-entity_lines (Some members) type sort =
-    Comment (type ++ (codes "::[" ++ (listed members ++ codes "]"))) ∷ DeclareDatatype sort [] (entity_constructors (Some members) sort) ∷ []
-
-abbrev pub record_lines : (attributes : List (List ℕ)) → (sort : List ℕ) → List Expression → List Line
-record_lines attributes sort sorts =
-    Comment (codes "{" ++ (listed attributes ++ codes "}")) ∷ DeclareDatatype sort [] (Fielded sort (attribute_selectors sort 0 sorts) ∷ []) ∷ []
-
-abbrev pub kind_name : ExtensionKind → List ℕ
-kind_name IpAddrKind = codes "IPAddr"
-kind_name DecimalKind = codes "Decimal"
-kind_name DatetimeKind = codes "Datetime"
-kind_name DurationKind = codes "Duration"
-
-abbrev pub kind_constructors : ExtensionKind → List Constructor
-kind_constructors IpAddrKind =
-    Fielded (codes "V4") ((codes "addrV4", bit_sort 32) ∷ (codes "prefixV4", option_sort (bit_sort 5)) ∷ [])
-    ∷ Fielded (codes "V6") ((codes "addrV6", bit_sort 128) ∷ (codes "prefixV6", option_sort (bit_sort 7)) ∷ []) ∷ []
-kind_constructors DecimalKind = Fielded (codes "Decimal") ((codes "decimalVal", bit_sort 64) ∷ []) ∷ []
-kind_constructors DatetimeKind = Fielded (codes "Datetime") ((codes "datetimeVal", bit_sort 64) ∷ []) ∷ []
-kind_constructors DurationKind = Fielded (codes "Duration") ((codes "durationVal", bit_sort 64) ∷ []) ∷ []
-
+-- an entity type that has no entry yet, by its lines
 abbrev pub declare_entity : Enums → (type : List ℕ) → Tables → Written Expression
 declare_entity enums type s =
-    enter_type (EntityType type) (next_type (codes "E") s) (entity_lines (members_of enums type) type (next_type (codes "E") s)) s
+    enter_type (EntityType type) (next_entity s) (entity_lines (members_of enums type) type (next_entity s)) s
 
+-- an extension type that has no entry yet
 abbrev pub declare_kind : ExtensionKind → Tables → Written Expression
-declare_kind kind s = enter_type (ExtensionType kind) (kind_name kind) (DeclareDatatype (kind_name kind) [] (kind_constructors kind) ∷ []) s
+declare_kind kind s = enter_type (ExtensionType kind) (kind_name kind) (kind_lines kind (kind_name kind)) s
 
+-- a record type that has no entry yet, by the sorts of its attributes
 abbrev pub declare_record : AttributeTypes → List Expression → Tables → Written Expression
 declare_record attributes sorts s =
-    enter_type (RecordType attributes) (next_type (codes "R") s) (record_lines (attribute_names attributes) (next_type (codes "R") s) sorts) s
+    enter_type (RecordType attributes) (next_record s) (record_lines (attribute_names attributes) (next_record s) sorts) s
 
 abbrev mutual
   pub encode_type : Enums → PlainType → Tables → Written Expression
@@ -180,43 +108,23 @@ abbrev mutual
 abbrev pub encode_function : Enums → PlainFunction → Tables → Written Expression
 encode_function enums f s =
     unless_named (name_of_function s f) s
-    (λ u. behind (Comment f.id ∷ [])
+    (λ u. behind (function_heading f.id)
     (encode_type enums f.argument u >>= λ argument v.
     encode_type enums f.output v >>= λ output w.
-    enter_function f (next_function w) (DeclareFun (next_function w) argument output ∷ []) w))
+    enter_function f (next_function w) (function_declaration (next_function w) argument output) w))
 
 -- ---- literals
-
-abbrev pub prefix_body : (width : ℕ) → Option ℕ → Expression
-prefix_body width (Some p) = group (name (codes "some") ∷ bits width p ∷ [])
-prefix_body width None = group (name (codes "as") ∷ name (codes "none") ∷ option_sort (bit_sort width) ∷ [])
-
-abbrev pub extension_body : PlainExtension → Expression
-extension_body (DecimalOf x) = group (name (codes "Decimal") ∷ bits 64 (bits_of 64 x) ∷ [])
-extension_body (Ipv4Of a p) = group (name (codes "V4") ∷ bits 32 a ∷ prefix_body 5 p ∷ [])
-extension_body (Ipv6Of a p) = group (name (codes "V6") ∷ bits 128 a ∷ prefix_body 7 p ∷ [])
-extension_body (DatetimeOf x) = group (name (codes "Datetime") ∷ bits 64 (bits_of 64 x) ∷ [])
-extension_body (DurationOf x) = group (name (codes "Duration") ∷ bits 64 (bits_of 64 x) ∷ [])
 
 -- an entity of an enum type is a constructor, which has no line
 abbrev pub define_entity : (members : Option (List (List ℕ))) → (type id sort : List ℕ) → Tables → Written Expression
 define_entity (Some members) type id sort s =
-    enter_term (LiteralTerm (EntityLiteral type id)) (member_name sort (place_of id members)) [] s
+    enter_term (LiteralTerm (EntityLiteral type id)) (enum_member members sort id) [] s
 define_entity None type id sort s =
-    define (LiteralTerm (EntityLiteral type id)) (name sort) (group (name sort ∷ Leaf (Text (chars id)) ∷ [])) s
-
--- the text of an atom that is a name
-abbrev pub text_of_name : Option (List ℕ) → List ℕ
-text_of_name (Some n) = n
-text_of_name None = []
-
-abbrev pub bool_name : Bool → List ℕ
-bool_name true = codes "true"
-bool_name false = codes "false"
+    define (LiteralTerm (EntityLiteral type id)) (name sort) (entity_body sort id) s
 
 abbrev pub encode_literal : Enums → PlainLiteral → Tables → Written Expression
 encode_literal enums (BitVecLiteral width number) s = made_of (bits width number) s
-encode_literal enums (BoolLiteral b) s = made_of (name (bool_name b)) s
+encode_literal enums (BoolLiteral b) s = made_of (bool_text b) s
 encode_literal enums (EntityLiteral type id) s =
     unless_named (name_of_term s (LiteralTerm (EntityLiteral type id))) s
     (λ u. encode_type enums (EntityType type) u >>= λ sort v.
@@ -225,21 +133,9 @@ encode_literal enums (ExtensionLiteral x) s =
     unless_named (name_of_term s (LiteralTerm (ExtensionLiteral x))) s
     (λ u. encode_type enums (literal_type (ExtensionLiteral x)) u >>= λ sort v.
     define (LiteralTerm (ExtensionLiteral x)) sort (extension_body x) v)
-encode_literal enums (StringLiteral text) s = made_of (Leaf (Text (chars text))) s
+encode_literal enums (StringLiteral text) s = made_of (string_text text) s
 
 -- ---- operators
-
-abbrev pub extension_op_head : ExtensionOp → Expression
-extension_op_head DatetimeOfBitVecOp = name (codes "Datetime")
-extension_op_head DatetimeValOp = name (codes "datetimeVal")
-extension_op_head DecimalValOp = name (codes "decimalVal")
-extension_op_head DurationOfBitVecOp = name (codes "Duration")
-extension_op_head DurationValOp = name (codes "durationVal")
-extension_op_head IpAddrV4Op = name (codes "addrV4")
-extension_op_head IpAddrV6Op = name (codes "addrV6")
-extension_op_head IpIsV4Op = group (name (codes "_") ∷ name (codes "is") ∷ name (codes "V4") ∷ [])
-extension_op_head IpPrefixV4Op = name (codes "prefixV4")
-extension_op_head IpPrefixV6Op = name (codes "prefixV6")
 
 -- the type of the first term, and Bool where there is none
 abbrev pub first_type : PlainTerms → PlainType
@@ -253,115 +149,47 @@ attribute_place a t = 0
 
 -- what an application begins with; a function may have to be declared for it
 abbrev pub encode_head : Enums → PlainOp → PlainTerms → Tables → Written Expression
-encode_head enums AndOp ts s = made_of (name (codes "and")) s
-encode_head enums BvaddOp ts s = made_of (name (codes "bvadd")) s
-encode_head enums BvlshrOp ts s = made_of (name (codes "bvlshr")) s
-encode_head enums BvmulOp ts s = made_of (name (codes "bvmul")) s
-encode_head enums BvnegOp ts s = made_of (name (codes "bvneg")) s
-encode_head enums BvnegoOp ts s = made_of (name (codes "bvnego")) s
-encode_head enums BvsaddoOp ts s = made_of (name (codes "bvsaddo")) s
-encode_head enums BvsdivOp ts s = made_of (name (codes "bvsdiv")) s
-encode_head enums BvshlOp ts s = made_of (name (codes "bvshl")) s
-encode_head enums BvsleOp ts s = made_of (name (codes "bvsle")) s
-encode_head enums BvsltOp ts s = made_of (name (codes "bvslt")) s
-encode_head enums BvsmodOp ts s = made_of (name (codes "bvsmod")) s
-encode_head enums BvsmuloOp ts s = made_of (name (codes "bvsmulo")) s
-encode_head enums BvsremOp ts s = made_of (name (codes "bvsrem")) s
-encode_head enums BvssuboOp ts s = made_of (name (codes "bvssubo")) s
-encode_head enums BvsubOp ts s = made_of (name (codes "bvsub")) s
-encode_head enums BvudivOp ts s = made_of (name (codes "bvudiv")) s
-encode_head enums BvuleOp ts s = made_of (name (codes "bvule")) s
-encode_head enums BvultOp ts s = made_of (name (codes "bvult")) s
-encode_head enums BvuremOp ts s = made_of (name (codes "bvurem")) s
-encode_head enums EqOp ts s = made_of (name (codes "=")) s
-encode_head enums (ExtOp x) ts s = made_of (extension_op_head x) s
-encode_head enums IteOp ts s = made_of (name (codes "ite")) s
-encode_head enums NotOp ts s = made_of (name (codes "not")) s
-encode_head enums OptionGetOp ts s = made_of (name (codes "val")) s
-encode_head enums OrOp ts s = made_of (name (codes "or")) s
 encode_head enums (RecordGetOp a) ts s =
     made_of (name (attribute_name (text_of_name (name_of_type s (first_type ts))) (attribute_place a (first_type ts)))) s
-encode_head enums SetInterOp ts s = made_of (name (codes "set.inter")) s
-encode_head enums SetMemberOp ts s = made_of (name (codes "set.member")) s
-encode_head enums SetSubsetOp ts s = made_of (name (codes "set.subset")) s
-encode_head enums (StringLikeOp p) ts s = made_of (name (codes "str.in_re")) s
 encode_head enums (UufOp f) ts s = encode_function enums f s
-encode_head enums (ZeroExtendOp n) ts s =
-    made_of (group (name (codes "_") ∷ name (codes "zero_extend") ∷ Leaf (Number n) ∷ [])) s
-
--- A pattern stands behind the arguments; where there are none, their empty text stands before it.
-abbrev pub with_pattern : List PatternPart → List Expression → List Expression
-with_pattern p [] = name [] ∷ pattern_expr p ∷ []
-with_pattern p (e ∷ es) = e ∷ (es ++ pattern_expr p ∷ [])
-
-abbrev pub operands : PlainOp → List Expression → List Expression
-operands (StringLikeOp p) es = with_pattern p es
-operands op es = es
+encode_head enums op ts s = made_of (operator_head op) s
 
 -- How an application is written: as it stands, as an equality with the least number of its width, or as `false`.
-pub data Manner : Type 0 where
-  AsItStands : Manner
-  AsLeast : (width : ℕ) → Manner
-  AsFalse : Manner
+pub data Rendering : Type 0 where
+  AsApplication : Rendering
+  AsEqualsIntMin : (width : ℕ) → Rendering
+  AsFalse : Rendering
 
-abbrev pub least_manner : PlainType → Manner
-least_manner (BitVecType width) = AsLeast width
-least_manner t = AsFalse
+abbrev pub least_rendering : PlainType → Rendering
+least_rendering (BitVecType width) = AsEqualsIntMin width
+least_rendering t = AsFalse
 
-abbrev pub negation_manner : PlainTerms → PlainType → Manner
-negation_manner (one_term t no_terms) BoolType = least_manner (type_of t)
-negation_manner ts type = AsItStands
+abbrev pub negation_rendering : PlainTerms → PlainType → Rendering
+negation_rendering (one_term t no_terms) BoolType = least_rendering (type_of t)
+negation_rendering ts type = AsApplication
 
-abbrev pub manner : PlainOp → PlainTerms → PlainType → Manner
-manner BvnegoOp ts type = negation_manner ts type
-manner op ts type = AsItStands
+abbrev pub application_rendering : PlainOp → PlainTerms → PlainType → Rendering
+application_rendering BvnegoOp ts type = negation_rendering ts type
+application_rendering op ts type = AsApplication
 
 -- The application's own line, once its sort is written; `arguments` writes what stands for its arguments.
-abbrev pub define_application : Enums → Manner → PlainOp → PlainTerms → PlainType → (arguments : Tables → Written (List Expression)) → (sort : Expression) → Tables → Written Expression
-define_application enums AsItStands op ts type arguments sort s =
+abbrev pub define_application : Enums → Rendering → PlainOp → PlainTerms → PlainType → (arguments : Tables → Written (List Expression)) → (sort : Expression) → Tables → Written Expression
+define_application enums AsApplication op ts type arguments sort s =
     arguments s >>= λ es u. encode_head enums op ts u >>= λ head v.
-    define (Application op ts type) sort (group (head ∷ operands op es)) v
-define_application enums (AsLeast width) op ts type arguments sort s =
+    define (Application op ts type) sort (application_body head op es) v
+define_application enums (AsEqualsIntMin width) op ts type arguments sort s =
     arguments s >>= λ es u.
-    define (Application op ts type) sort (group (name (codes "=") ∷ (es ++ bits width (2 ^ (width - 1)) ∷ []))) u
-define_application enums AsFalse op ts type arguments sort s = enter_term (Application op ts type) (codes "false") [] s
+    define (Application op ts type) sort (least_body width es) u
+define_application enums AsFalse op ts type arguments sort s = enter_term (Application op ts type) (bool_name false) [] s
 
 -- ---- terms
-
--- a character of a variable's id between quotes, a byte
-abbrev pub quoted_id_byte : ℕ → List ℕ
-quoted_id_byte b =
-    if b == 0 then codes "\\0"
-    else (if b == 9 then codes "\\t"
-    else (if b == 10 then codes "\\n"
-    else (if b == 13 then codes "\\r"
-    else (if b == 34 then codes "\\\""
-    else (if b == 92 then codes "\\\\"
-    else (if nat_lt b 32 || (b == 127) then escaped b else b ∷ []))))))
-
-abbrev pub quoted_id : List ℕ → List ℕ
-quoted_id id = codes "\"" ++ (flat_map quoted_id_byte id ++ codes "\"")
-
-abbrev pub none_body : (sort : Expression) → Expression
-none_body sort = group (name (codes "as") ∷ name (codes "none") ∷ sort ∷ [])
-
-abbrev pub empty_set : (sort : Expression) → Expression
-empty_set sort = group (name (codes "as") ∷ name (codes "set.empty") ∷ sort ∷ [])
-
-abbrev pub set_body : (sort : Expression) → List Expression → Expression
-set_body sort [] = empty_set sort
-set_body sort (e ∷ es) = group (name (codes "set.insert") ∷ e ∷ (es ++ empty_set sort ∷ []))
-
-abbrev pub record_body : (sort : Expression) → List Expression → Expression
-record_body sort [] = sort
-record_body sort (e ∷ es) = group (sort ∷ e ∷ es)
 
 abbrev mutual
   pub encode_term : Enums → PlainTerm → Tables → Written Expression
   encode_term enums (Application op ts type) s =
       unless_named (name_of_term s (Application op ts type)) s
       (λ u. encode_type enums type u >>= λ sort v.
-      define_application enums (manner op ts type) op ts type (λ w. encode_terms enums ts w) sort v)
+      define_application enums (application_rendering op ts type) op ts type (λ w. encode_terms enums ts w) sort v)
   encode_term enums (NoneTerm type) s =
       unless_named (name_of_term s (NoneTerm type)) s
       (λ u. encode_type enums (OptionType type) u >>= λ sort v. define (NoneTerm type) sort (none_body sort) v)
@@ -377,11 +205,11 @@ abbrev mutual
   encode_term enums (SomeTerm t) s =
       unless_named (name_of_term s (SomeTerm t)) s
       (λ u. encode_type enums (type_of (SomeTerm t)) u >>= λ sort v.
-      encode_term enums t v >>= λ e w. define (SomeTerm t) sort (group (name (codes "some") ∷ e ∷ [])) w)
+      encode_term enums t v >>= λ e w. define (SomeTerm t) sort (some_body e) w)
   encode_term enums (VariableTerm id type) s =
       unless_named (name_of_term s (VariableTerm id type)) s
       (λ u. encode_type enums type u >>= λ sort v.
-      enter_term (VariableTerm id type) (next_term v) (Comment (quoted_id id) ∷ DeclareConst (next_term v) sort ∷ []) v)
+      enter_term (VariableTerm id type) (next_term v) (variable_lines id (next_term v) sort) v)
 
   pub encode_terms : Enums → PlainTerms → Tables → Written (List Expression)
   encode_terms enums no_terms s = made_of [] s

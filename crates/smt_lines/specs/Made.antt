@@ -3,13 +3,15 @@ use Rattle.std.specs.Prelude.{◌≡◌, Some}
 use Rattle.smt_term.specs.Plain.{PlainType, PlainFunction, PlainTerm, PlainTerms}
 use Rattle.smt_term.specs.TypeValues.{Enums}
 use Rattle.smt_sexpr.specs.Reading.{Expression}
-use Rattle.smt_lines.specs.Lines.{Tables, name_of_function, encode_type, encode_function, encode_term, encode_terms}
-use Rattle.smt_lines.specs.Naming.{sort_of}
-use Rattle.smt_lines.specs.Entries.{text_of, texts_of, named_text, HasSort}
-use Rattle.smt_lines.specs.Growth.{Keeps}
+use Rattle.smt_lines.specs.Lines.{encode_type, encode_function, encode_term, encode_terms}
+use Rattle.smt_lines.specs.NameTables.{Tables, name_of_function}
+use Rattle.smt_lines.specs.Naming.{type_sort}
+use Rattle.smt_lines.specs.Entries.{texts_of, TypeHasEntries}
+use Rattle.smt_lines.specs.TermTexts.{text_of, named_text}
+use Rattle.smt_lines.specs.TableGrowth.{Keeps}
 
 abbrev pub TypesAreMade : Type 0
-TypesAreMade = (enums : Enums) (t : PlainType) (s : Tables) → sort_of (encode_type enums t s).tables t ≡ (encode_type enums t s).made
+TypesAreMade = (enums : Enums) (t : PlainType) (s : Tables) → type_sort (encode_type enums t s).tables t ≡ (encode_type enums t s).made
 
 abbrev pub FunctionsAreMade : Type 0
 FunctionsAreMade = (enums : Enums) (f : PlainFunction) (s : Tables)
@@ -26,8 +28,8 @@ abbrev pub TextsStay : Type 0
 TextsStay = (s u : Tables) (t : PlainTerm) (e : Expression) → Keeps s u → text_of s t ≡ Some e → text_of u t ≡ Some e
 
 abbrev pub SortsStay : Type 0
-SortsStay = (s u : Tables) (t : PlainType) → Keeps s u → HasSort s t → sort_of u t ≡ sort_of s t
+SortsStay = (s u : Tables) (t : PlainType) → Keeps s u → TypeHasEntries s t → type_sort u t ≡ type_sort s t
 
 -- each type that was written has its sort
-abbrev pub SortsStand : Type 0
-SortsStand = (enums : Enums) (t : PlainType) (s : Tables) → HasSort (encode_type enums t s).tables t
+abbrev pub WrittenTypesHaveEntries : Type 0
+WrittenTypesHaveEntries = (enums : Enums) (t : PlainType) (s : Tables) → TypeHasEntries (encode_type enums t s).tables t

@@ -4,21 +4,21 @@ use Rattle.smt_term.specs.Plain.{PlainType, OptionType, BitVecType, BoolType, En
 use Rattle.smt_sexpr.specs.Reading.{Expression}
 use Rattle.smt_semantics.specs.Script.{name}
 use Rattle.smt_semantics.specs.Sorts.{bool_sort, string_sort, bit_sort, option_sort, set_sort}
-use Rattle.smt_lines.specs.Lines.{Tables, name_of_type, text_of_name}
+use Rattle.smt_lines.specs.NameTables.{Tables, name_of_type, text_of_name}
 
 abbrev pub type_name : Tables → PlainType → List ℕ
 type_name s t = text_of_name (name_of_type s t)
 
 -- the sort of a type, where its parts have names
-abbrev pub sort_of : Tables → PlainType → Expression
-sort_of s (OptionType t) = option_sort (sort_of s t)
-sort_of s (BitVecType width) = bit_sort width
-sort_of s BoolType = bool_sort
-sort_of s (EntityType type) = name (type_name s (EntityType type))
-sort_of s (ExtensionType kind) = name (type_name s (ExtensionType kind))
-sort_of s StringType = string_sort
-sort_of s (RecordType attributes) = name (type_name s (RecordType attributes))
-sort_of s (SetType t) = set_sort (sort_of s t)
+abbrev pub type_sort : Tables → PlainType → Expression
+type_sort s (OptionType t) = option_sort (type_sort s t)
+type_sort s (BitVecType width) = bit_sort width
+type_sort s BoolType = bool_sort
+type_sort s (EntityType type) = name (type_name s (EntityType type))
+type_sort s (ExtensionType kind) = name (type_name s (ExtensionType kind))
+type_sort s StringType = string_sort
+type_sort s (RecordType attributes) = name (type_name s (RecordType attributes))
+type_sort s (SetType t) = set_sort (type_sort s t)
 
 abbrev pub HasEntry : {K : Type 0} → List (K × List ℕ) → K → List ℕ → Type 0
 HasEntry {K} [] k n = ⊥

@@ -3,7 +3,8 @@ use Rattle.std.specs.Prelude.{ℕ, List, [], ◌∷◌}
 use Rattle.smt_term.specs.Plain.{PlainTerm}
 use Rattle.smt_term.specs.TypeValues.{Enums}
 use Rattle.smt_lines.specs.Line.{spelled_lines}
-use Rattle.smt_lines.specs.Lines.{Tables, Call, EncodeCall, fresh, lines_of_calls, after_calls}
+use Rattle.smt_lines.specs.Lines.{Call, EncodeCall, fresh, lines_of_calls, after_calls}
+use Rattle.smt_lines.specs.NameTables.{Tables}
 
 abbrev pub text_of_calls : Enums → List Call → List ℕ
 text_of_calls enums cs = spelled_lines (lines_of_calls enums cs fresh)

@@ -1,4 +1,4 @@
-ghost use Rattle.smt_lines.specs.Growth.{FunctionNamesDiffer, FunctionsGrow, NamesStay, TermListsGrow, TermNamesDiffer, TermsGrow, TypeNamesDiffer, TypesGrow};
+ghost use Rattle.smt_lines.specs.TableGrowth.{FunctionNamesDiffer, FunctionsGrow, NamesStay, TermListsGrow, TermNamesDiffer, TermsGrow, TypeNamesDiffer, TypesGrow};
 
 /// Writing adds entries behind those that are there, each with the name of its place, and takes no name back.
 pub fn tables_grow()

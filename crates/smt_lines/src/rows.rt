@@ -1,7 +1,7 @@
 ghost use Rattle.smt_lines.specs.Every.{EveryOperator};
 ghost use Rattle.smt_lines.specs.Hostile.{HostileTexts};
 ghost use Rattle.smt_lines.specs.Rows.{Condition, EmptyRecord, EnumMember, HostileFunction, HostileVariable, Levels, Negation, NoTerm, RecordOfOne, Repeated, Shifted, TrueTerm, TwoOfOneId};
-ghost use Rattle.smt_lines.specs.Scripts.{ConditionIsFine};
+ghost use Rattle.smt_lines.specs.Scripts.{ConditionIsEncodable};
 
 /// What is written for a few terms.
 pub fn worked_rows()
@@ -35,6 +35,6 @@ pub fn hostile_texts()
 {}
 
 /// A term that meets the premise.
-pub fn a_fine_term()
-    ensures { ConditionIsFine }
+pub fn an_encodable_condition()
+    ensures { ConditionIsEncodable }
 {}

@@ -1,4 +1,4 @@
-ghost use Rattle.smt_lines.specs.Scripts.{CallsAreScripts, ExpressionsWrite, FunctionsAreDeclared, LinesAreLines, LinesHold, TermsAreDeclared, TermsStep, TextsAreScripts, TypesAreDeclared, TypesStep};
+ghost use Rattle.smt_lines.specs.Scripts.{ExpressionsWrite, FunctionsAreDeclared, LinesAreLines, LinesHold, TermsAreDeclared, TermsStep, TypesAreDeclared, TypesStep};
 
 /// What is spelled is read as it was.
 pub fn what_is_spelled_is_read()
@@ -11,16 +11,6 @@ pub fn what_is_spelled_is_read()
 pub fn lines_can_be_obeyed()
     ensures types { TypesStep }
     ensures terms { TermsStep }
-{}
-
-/// The stated text is a script, whose assertions are the texts of the terms.
-pub fn stated_text()
-    ensures { TextsAreScripts }
-{}
-
-/// The same for a list of calls, with levels.
-pub fn stated_calls()
-    ensures { CallsAreScripts }
 {}
 
 /// A state that fits declares what the entries of the tables say.

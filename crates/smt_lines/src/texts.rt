@@ -1,9 +1,9 @@
-ghost use Rattle.smt_lines.specs.Joins.{CallsJoin, LinesJoin, TextsStand};
-ghost use Rattle.smt_lines.specs.Made.{FunctionsAreMade, SortsStand, SortsStay, TermListsAreMade, TermsAreMade, TextsStay, TypesAreMade};
+ghost use Rattle.smt_lines.specs.Joins.{CallsJoin, LinesJoin, TextsReplaceExpressions};
+ghost use Rattle.smt_lines.specs.Made.{FunctionsAreMade, WrittenTypesHaveEntries, SortsStay, TermListsAreMade, TermsAreMade, TextsStay, TypesAreMade};
 
 /// Texts stand for expressions, and calls one after the other write their lines so.
 pub fn texts_and_lines_join()
-    ensures texts { TextsStand }
+    ensures texts { TextsReplaceExpressions }
     ensures lines { LinesJoin }
     ensures calls { CallsJoin }
 {}
@@ -20,5 +20,5 @@ pub fn texts_and_sorts_stay()
     ensures lists { TermListsAreMade }
     ensures texts { TextsStay }
     ensures sorts { SortsStay }
-    ensures stand { SortsStand }
+    ensures written { WrittenTypesHaveEntries }
 {}

@@ -9,8 +9,8 @@ use Rattle.std.proofs.lemmas.Bool.Decides.{nat_tests}
 use Rattle.std.proofs.lemmas.List.{take_all}
 use Rattle.std.proofs.lemmas.List.Sums.{fails_before_first}
 use Rattle.std.proofs.lemmas.List.Quantifiers.{position-Some}
-use Rattle.smt_script.specs.Lines.{is_line_end, in_comment, sorted_variable, spaced, datatype_body}
-use Rattle.smt_script.specs.Texts.{texts, text_pair, text_pairs, joined}
+use Rattle.smt_script.specs.ScriptLines.{is_line_end, in_comment, sorted_variable, spaced, datatype_body}
+use Rattle.smt_script.specs.SharedTexts.{texts, text_pair, text_pairs, joined}
 
 -- ---- texts one behind the other
 

@@ -1,5 +1,5 @@
-pub mod Sink
-pub mod Lines
-pub mod Texts
 pub mod Memory
+pub mod ScriptLines
+pub mod SharedTexts
+pub mod Sink
 pub mod Writer

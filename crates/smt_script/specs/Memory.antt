@@ -10,8 +10,8 @@ abbrev pub memory_bytes : MemorySink → List ℕ
 memory_bytes s = s.bytes.items
 
 -- It tells all bytes that it holds.
-abbrev pub memory_held : MemorySink → Option (List ℕ)
-memory_held s = Some (memory_bytes s)
+abbrev pub memory_contents : MemorySink → Option (List ℕ)
+memory_contents s = Some (memory_bytes s)
 
 -- how many bytes it holds at most
 abbrev pub memory_room : MemorySink → ℕ
@@ -42,8 +42,8 @@ pub record IsFresh (s : MemorySink) (fails : List ℕ) (room : ℕ) : Type 0 whe
   pub room_given : memory_room s ≡ room
 
 -- It has room for this many bytes more, and no later put is to fail.
-abbrev pub memory_takes : MemorySink → ℕ → Type 0
-memory_takes s n = All (λ number. number < counted (memory_puts s)) (memory_fails s) × (length (memory_bytes s) + n ≤ memory_room s)
+abbrev pub memory_has_room : MemorySink → ℕ → Type 0
+memory_has_room s n = All (λ number. number < counted (memory_puts s)) (memory_fails s) × (length (memory_bytes s) + n ≤ memory_room s)
 
 -- The next put is to fail.
 abbrev pub IsToFail : MemorySink → Type 0

@@ -15,19 +15,19 @@ pub record AppendsPart (old new : Option (List ℕ)) (bytes : List ℕ) : Type 0
   pub whole : part ++ rest ≡ bytes
   pub appended : new ≡ append_known old part
 
--- These bytes are put, where a sink holds `held`, has failed `faults` times, certainly takes
--- `takes` and stands at `place`.
-pub record Puts {S T : Type 0} (held : S → Option (List ℕ)) (faults : S → ℕ) (takes : S → ℕ → Type 0) (place : S → List ℕ) (old new : S) (bytes : List ℕ) (result : Result T SinkError) : Type 0 where
+-- These bytes are put, where a sink holds `contents`, has failed `faults` times, certainly takes
+-- `has_room` and stands at `place`.
+pub record Puts {S T : Type 0} (contents : S → Option (List ℕ)) (faults : S → ℕ) (has_room : S → ℕ → Type 0) (place : S → List ℕ) (old new : S) (bytes : List ℕ) (result : Result T SinkError) : Type 0 where
   -- Ok appended all of them
-  pub ok : OnOk result (held new ≡ append_known (held old) bytes)
+  pub ok : OnOk result (contents new ≡ append_known (contents old) bytes)
   -- an error appended a first part of them
-  pub err : OnErr result (AppendsPart (held old) (held new) bytes)
+  pub err : OnErr result (AppendsPart (contents old) (contents new) bytes)
   -- the count of faults never falls
   pub later : faults old ≤ faults new
   -- a fault comes only where the count rose
   pub cause : IsErrOf result Fault → Rose (faults old) (faults new)
   -- a sink that certainly takes these and n bytes more took these, and takes the n
-  pub room : (n : ℕ) → takes old (length bytes + n) → IsOk result × takes new n
+  pub room : (n : ℕ) → has_room old (length bytes + n) → IsOk result × has_room new n
   -- the same references lead to it
   pub same_place : place new ≡ place old
 

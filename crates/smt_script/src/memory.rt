@@ -1,11 +1,11 @@
 // Sinks in memory.
-ghost use Rattle.std.specs.Prelude.{ℕ, List, ◌≡◌, ◌+◌, ◌≤◌, [], IfOk, OnErr, IsOkUnless, vec_len, vec_capacity};
+ghost use Rattle.std.specs.Prelude.{◌≡◌, ◌≤◌, [], IfOk, OnErr, IsOkUnless, vec_len, vec_capacity};
 
 use crate::sink::{Sink, SinkError};
 use std::alloc::Global;
 
 /// Takes bytes up to a room that is reserved, and fails at chosen puts.
-#[derive(Drop)]
+#[derive(Debug, Drop)]
 pub struct MemorySink {
     bytes: Vec<u8>,
     fails: Vec<u64>,
@@ -50,17 +50,17 @@ impl MemorySink {
 
 impl Sink for MemorySink {
     ghost use Rattle.smt_script.specs.Sink.{Puts, unreferenced};
-    ghost use Rattle.smt_script.specs.Memory.{memory_held, memory_faults, memory_takes, PutsInMemory};
+    ghost use Rattle.smt_script.specs.Memory.{memory_contents, memory_faults, memory_has_room, PutsInMemory};
 
-    ghost held = { memory_held };
+    ghost contents = { memory_contents };
 
     ghost faults = { memory_faults };
 
-    ghost takes = { memory_takes };
+    ghost has_room = { memory_has_room };
 
     /// Appends the bytes that fit, or none where this put is to fail. It takes no memory.
     fn put(&mut self, bytes: &[u8]) -> Result<(), SinkError>
-        ensures puts { Puts memory_held memory_faults memory_takes unreferenced self.old self.new
+        ensures puts { Puts memory_contents memory_faults memory_has_room unreferenced self.old self.new
             bytes.now result }
         ensures exact { PutsInMemory self.old self.new bytes.now result }
     {
@@ -81,7 +81,7 @@ impl Sink for MemorySink {
 }
 
 /// Takes bytes as long as there is memory.
-#[derive(Drop)]
+#[derive(Debug, Drop)]
 pub struct ListSink {
     bytes: Vec<u8>,
 }
@@ -110,11 +110,11 @@ impl Sink for ListSink {
     ghost use Rattle.smt_script.specs.Sink.{Puts, faultless, uncertain, unreferenced};
     ghost use Rattle.smt_script.specs.Memory.{list_bytes, list_held};
 
-    ghost held = { list_held };
+    ghost contents = { list_held };
 
     ghost faults = { faultless };
 
-    ghost takes = { uncertain };
+    ghost has_room = { uncertain };
 
     /// Appends all bytes, or none where there is no memory for them.
     fn put(&mut self, bytes: &[u8]) -> Result<(), SinkError>

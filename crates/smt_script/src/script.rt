@@ -2,8 +2,8 @@
 ghost use Rattle.std.specs.Prelude.{◌≡◌, ◌↔◌, [], codes, map, position, IsTrue};
 ghost use Rattle.std.specs.List.{join_by};
 ghost use Rattle.smt_script.specs.Sink.{Puts};
-ghost use Rattle.smt_script.specs.Lines.{is_line_end, in_comment, spaced, sorted_variable, datatype_body, constructor_lines, comment_line, assert_line, define_fun_line, declare_const_line, declare_datatype_line};
-ghost use Rattle.smt_script.specs.Texts.{joined, texts, text_pairs};
+ghost use Rattle.smt_script.specs.ScriptLines.{is_line_end, in_comment, spaced, sorted_variable, datatype_body, constructor_lines, comment_line, assert_line, define_fun_line, declare_const_line, declare_datatype_line};
+ghost use Rattle.smt_script.specs.SharedTexts.{joined, texts, text_pairs};
 
 use crate::sink::{Sink, SinkError};
 use std::rc::RcStr;
@@ -13,7 +13,7 @@ pub type Text = RcStr;
 
 /// Puts these texts, one behind the other.
 fn put_all<S: Sink>(sink: &mut S, pieces: &[&str]) -> Result<(), SinkError>
-    ensures { Puts S.held S.faults S.takes S.place sink.old sink.new
+    ensures { Puts S.contents S.faults S.has_room S.place sink.old sink.new
         (joined (λ p. p.now) pieces.now) result }
 {
     for piece in pieces {
@@ -31,7 +31,7 @@ fn line_end(text: &[u8]) -> Option<usize>
 
 /// Puts a text whose line ends become spaces.
 fn put_on_one_line<S: Sink>(sink: &mut S, text: &[u8]) -> Result<(), SinkError>
-    ensures { Puts S.held S.faults S.takes S.place sink.old sink.new
+    ensures { Puts S.contents S.faults S.has_room S.place sink.old sink.new
         (map in_comment text.now) result }
 {
     let mut left = text;
@@ -45,7 +45,7 @@ fn put_on_one_line<S: Sink>(sink: &mut S, text: &[u8]) -> Result<(), SinkError>
 
 /// Puts these texts with the separator between each two.
 fn put_joined<S: Sink>(sink: &mut S, separator: &str, items: &[Text]) -> Result<(), SinkError>
-    ensures { Puts S.held S.faults S.takes S.place sink.old sink.new
+    ensures { Puts S.contents S.faults S.has_room S.place sink.old sink.new
         (join_by (λ x. x) separator.now (texts items.now)) result }
 {
     let mut gap = "";
@@ -58,7 +58,7 @@ fn put_joined<S: Sink>(sink: &mut S, separator: &str, items: &[Text]) -> Result<
 
 /// Puts these sorted variables with a space between each two.
 fn put_variables<S: Sink>(sink: &mut S, variables: &[(Text, Text)]) -> Result<(), SinkError>
-    ensures { Puts S.held S.faults S.takes S.place sink.old sink.new
+    ensures { Puts S.contents S.faults S.has_room S.place sink.old sink.new
         (join_by sorted_variable (codes " ") (text_pairs variables.now)) result }
 {
     let mut gap = "";
@@ -71,7 +71,7 @@ fn put_variables<S: Sink>(sink: &mut S, variables: &[(Text, Text)]) -> Result<()
 
 /// Puts the constructors in brackets, each on a line of its own.
 fn put_constructors<S: Sink>(sink: &mut S, constructors: &[Text]) -> Result<(), SinkError>
-    ensures { Puts S.held S.faults S.takes S.place sink.old sink.new
+    ensures { Puts S.contents S.faults S.has_room S.place sink.old sink.new
         (datatype_body [] (constructor_lines (texts constructors.now))) result }
 {
     sink.put(b"(\n  ")?;
@@ -96,7 +96,7 @@ fn put_datatype<S: Sink>(
     params: &[Text],
     constructors: &[Text],
 ) -> Result<(), SinkError>
-    ensures { Puts S.held S.faults S.takes S.place sink.old sink.new
+    ensures { Puts S.contents S.faults S.has_room S.place sink.old sink.new
         (datatype_body (spaced (texts params.now)) (constructor_lines (texts constructors.now))) result }
 {
     if is_blank(params) {
@@ -120,7 +120,7 @@ pub trait SmtLibScript: Sink {
     /// `; COMMENT`, each CR and LF in the text replaced by a space, since either would end the
     /// comment (SMT-LIB 2.7, chapter 3, Lexicon).
     fn comment(&mut self, comment: &str) -> Result<(), SinkError>
-        ensures { Puts Self.held Self.faults Self.takes Self.place self.old self.new
+        ensures { Puts Self.contents Self.faults Self.has_room Self.place self.old self.new
             (comment_line comment.now) result }
     {
         self.put(b"; ")?;
@@ -130,7 +130,7 @@ pub trait SmtLibScript: Sink {
 
     /// `(assert EXPR)`.
     fn assert(&mut self, expr: &str) -> Result<(), SinkError>
-        ensures { Puts Self.held Self.faults Self.takes Self.place self.old self.new
+        ensures { Puts Self.contents Self.faults Self.has_room Self.place self.old self.new
             (assert_line expr.now) result }
     {
         put_all(self, &["(assert ", expr, ")\n"])
@@ -144,7 +144,7 @@ pub trait SmtLibScript: Sink {
         ty: &str,
         expr: &str,
     ) -> Result<(), SinkError>
-        ensures { Puts Self.held Self.faults Self.takes Self.place self.old self.new
+        ensures { Puts Self.contents Self.faults Self.has_room Self.place self.old self.new
             (define_fun_line id.now (text_pairs args.now) ty.now expr.now) result }
     {
         put_all(self, &["(define-fun ", id, " ("])?;
@@ -154,7 +154,7 @@ pub trait SmtLibScript: Sink {
 
     /// `(declare-const ID TY)`.
     fn declare_const(&mut self, id: &str, ty: &str) -> Result<(), SinkError>
-        ensures { Puts Self.held Self.faults Self.takes Self.place self.old self.new
+        ensures { Puts Self.contents Self.faults Self.has_room Self.place self.old self.new
             (declare_const_line id.now ty.now) result }
     {
         put_all(self, &["(declare-const ", id, " ", ty, ")\n"])
@@ -169,7 +169,7 @@ pub trait SmtLibScript: Sink {
         params: &[Text],
         constructors: &[Text],
     ) -> Result<(), SinkError>
-        ensures { Puts Self.held Self.faults Self.takes Self.place self.old self.new
+        ensures { Puts Self.contents Self.faults Self.has_room Self.place self.old self.new
             (declare_datatype_line id.now (texts params.now) (texts constructors.now)) result }
     {
         put_all(self, &["(declare-datatype ", id, " "])?;

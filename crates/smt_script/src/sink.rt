@@ -18,13 +18,13 @@ pub enum SinkError {
 /// What takes bytes, piece by piece.
 pub trait Sink {
     /// The bytes that it holds, where it tells them.
-    ghost held: { Self → Option (List ℕ) };
+    ghost contents: { Self → Option (List ℕ) };
 
     /// How often it has failed. The count stands still at 2^64 - 1.
     ghost faults: { Self → ℕ };
 
     /// It certainly takes this many bytes more, in whatever pieces.
-    ghost takes: { Self → ℕ → Type 0 };
+    ghost has_room: { Self → ℕ → Type 0 };
 
     /// The references that lead to it, the outermost first.
     ghost place: { Self → List ℕ } = { unreferenced };
@@ -34,16 +34,16 @@ pub trait Sink {
     /// `Fault` comes only where the sink's count of faults rose in this call, or stands at its last
     /// value. `Memory` may come at any put, unless the sink certainly takes the bytes.
     fn put(&mut self, bytes: &[u8]) -> Result<(), SinkError>
-        ensures { Puts held faults takes place self.old self.new bytes.now result };
+        ensures { Puts contents faults has_room place self.old self.new bytes.now result };
 }
 
 /// A mutable reference to a sink is a sink with the same meanings.
 impl<S: Sink> Sink for &mut S {
-    ghost held = { λ s. S.held s.now };
+    ghost contents = { λ s. S.contents s.now };
 
     ghost faults = { λ s. S.faults s.now };
 
-    ghost takes = { λ s. S.takes s.now };
+    ghost has_room = { λ s. S.has_room s.now };
 
     ghost place = { λ s. s.ghost_name ∷ S.place s.now };
 

@@ -6,7 +6,7 @@ use crate::sink::{Sink, SinkError};
 use std::io::Write;
 
 /// Writes to any writer, tells nothing of what it wrote, and counts the puts that failed.
-#[derive(Drop)]
+#[derive(Debug, Drop)]
 pub struct WriteSink<W> {
     writer: W,
     faults: u64,
@@ -28,11 +28,11 @@ impl<W: Write> Sink for WriteSink<W> {
     ghost use Rattle.smt_script.specs.Sink.{Puts, untold, uncertain, unreferenced};
     ghost use Rattle.smt_script.specs.Writer.{writer_of, write_faults};
 
-    ghost held = { untold };
+    ghost contents = { untold };
 
     ghost faults = { write_faults };
 
-    ghost takes = { uncertain };
+    ghost has_room = { uncertain };
 
     /// Writes all bytes, and flushes where they end with LF. A write that takes nothing of bytes
     /// that are left is a fault.

@@ -6,8 +6,9 @@ use Rattle.std.proofs.lemmas.List.{append-nil, map-append}
 use Rattle.std.proofs.lemmas.List.Concat.{flat_map-append}
 use Rattle.std.proofs.lemmas.List.Folds.{list_all-append}
 use Rattle.std.proofs.lemmas.Bool.{and_parts, and_from, false≢true}
-use Rattle.smt_sexpr.specs.Lexicon.{Token, Piece, Space, Comment, Open, Close, Quoted, Binary, Hexadecimal, Numeral, Symbol, spelling, spell, some_all, is_piece, goes_on, stops, each_longest, quote_twice, IsCutInto, token, is_line_end, is_binary, is_hexadecimal, is_digit, is_symbol_byte, in_script}
-use Rattle.smt_semantics.specs.Script.{Command, State, Holds, Script, IsWhole, stated, step, run, start, ◌>>=◌}
+use Rattle.std.specs.Str.{is_utf8}
+use Rattle.smt_sexpr.specs.Lexicon.{is_symbol, Token, Piece, Space, Comment, Open, Close, Quoted, Binary, Hexadecimal, Numeral, Symbol, spelling, spell, some_all, is_piece, goes_on, stops, each_longest, quote_twice, IsCutInto, token, is_line_end, is_binary, is_hexadecimal, is_digit, is_symbol_byte, in_script}
+use Rattle.smt_semantics.specs.Script.{Command, State, Holds, Script, HasWholeLines, stated, step, run, start, ◌>>=◌}
 use Rattle.smt_sexpr.specs.Reading.{Expression, Reads, brackets}
 
 -- the last byte of a list, or 0
@@ -47,7 +48,7 @@ ends_anywhere (Hexadecimal (c ∷ ds)) b h e = absurd (false≢true (ap is_hexad
 ends_anywhere (Hexadecimal []) b h e = absurd (false≢true h)
 ends_anywhere (Numeral ds) b h e = absurd (false≢true (ap is_digit (sym e) ∙ some_passes is_digit ds h))
 ends_anywhere (Symbol []) b h e = absurd (false≢true h)
-ends_anywhere (Symbol (c ∷ cs)) b h e = absurd (false≢true (ap is_symbol_byte (sym e) ∙ (let p = and_parts (not (is_digit c)) (some_all is_symbol_byte (c ∷ cs)) h in some_passes is_symbol_byte (c ∷ cs) p.1)))
+ends_anywhere (Symbol (c ∷ cs)) b h e = absurd (false≢true (ap is_symbol_byte (sym e) ∙ (let p = and_parts (not (is_digit c)) (some_all is_symbol_byte (c ∷ cs)) (and_parts (is_symbol (c ∷ cs)) (is_utf8 (c ∷ cs)) h).0 in some_passes is_symbol_byte (c ∷ cs) p.1)))
 
 -- nothing, or a last line that is whole
 abbrev pub Ends : List ℕ → Type 0
@@ -95,26 +96,26 @@ cut_append (x ∷ xs) ys h k ends =
 
 -- ---- texts
 
-Ends-from_whole : (bs : List ℕ) → IsWhole bs → Ends bs
+Ends-from_whole : (bs : List ℕ) → HasWholeLines bs → Ends bs
 unfolding last
 Ends-from_whole [] w = inl refl
 Ends-from_whole (b ∷ bs) w = inr (ap last w.1 ∙ last-append w.0 10 [])
 
-cuts_append : (a b : List ℕ) (xs ys : List Piece) → IsWhole a → IsCutInto a xs → IsCutInto b ys → IsCutInto (a ++ b) (xs ++ ys)
+cuts_append : (a b : List ℕ) (xs ys : List Piece) → HasWholeLines a → IsCutInto a xs → IsCutInto b ys → IsCutInto (a ++ b) (xs ++ ys)
 cuts_append a b xs ys whole p q = record {
   spelled = rw (p.spelled, q.spelled) (sym (flat_map-append spelling xs ys));
   longest = cut_append xs ys p.longest q.longest (subst Ends p.spelled (Ends-from_whole a whole));
 }
 
 -- A whole text and a text behind it read as the one and then the other.
-pub reads_append : (a b : List ℕ) (es fs : List Expression) → IsWhole a → Reads a es → Reads b fs → Reads (a ++ b) (es ++ fs)
+pub reads_append : (a b : List ℕ) (es fs : List Expression) → HasWholeLines a → Reads a es → Reads b fs → Reads (a ++ b) (es ++ fs)
 reads_append a b es fs whole p q = record {
   pieces = p.pieces ++ q.pieces;
   cut = cuts_append a b p.pieces q.pieces whole p.cut q.cut;
   tokens_are = flat_map-append token p.pieces q.pieces ∙ ap₂ (λ (x y : List Token). x ++ y) p.tokens_are q.tokens_are ∙ sym (flat_map-append brackets es fs);
 }
 
-pub holds_append : (a b : List ℕ) (cs ds : List Command) → IsWhole a → Holds a cs → Holds b ds → Holds (a ++ b) (cs ++ ds)
+pub holds_append : (a b : List ℕ) (cs ds : List Command) → HasWholeLines a → Holds a cs → Holds b ds → Holds (a ++ b) (cs ++ ds)
 unfolding reads_append
 holds_append a b cs ds whole p q = record {
   reads = record {
@@ -125,7 +126,7 @@ holds_append a b cs ds whole p q = record {
   plain = list_all-append in_script p.reads.pieces q.reads.pieces ∙ and_from (list_all in_script p.reads.pieces) (list_all in_script q.reads.pieces) p.plain q.plain;
 }
 
-pub whole_append : (a b : List ℕ) → IsWhole a → IsWhole b → IsWhole (a ++ b)
+pub whole_append : (a b : List ℕ) → HasWholeLines a → HasWholeLines b → HasWholeLines (a ++ b)
 whole_append [] b p q = q
 whole_append (x ∷ a) [] p q = rw (append-nil a) p
 whole_append (x ∷ a) (c ∷ b) p q = ((x ∷ a) ++ q.0, ap (λ (t : List ℕ). (x ∷ a) ++ t) q.1 ∙ sym (append_assoc (x ∷ a) q.0 (10 ∷ [])))
@@ -139,7 +140,7 @@ run_append [] ds s = refl
 run_append (c ∷ cs) ds s = bind_after (step c s) (run (cs ++ ds)) (run cs) (run ds) (λ t. run_append cs ds t)
 
 -- One more command, or none, after a whole text.
-pub script_append : (a b : List ℕ) (s : State) (ds : List Command) (t : State) → IsWhole a → Script a s → Holds b ds → run ds s ≡ Some t → Script (a ++ b) t
+pub script_append : (a b : List ℕ) (s : State) (ds : List Command) (t : State) → HasWholeLines a → Script a s → Holds b ds → run ds s ≡ Some t → Script (a ++ b) t
 script_append a b s ds t whole p q r = record {
   commands = p.commands ++ ds;
   holds = holds_append a b p.commands ds whole p.holds q;

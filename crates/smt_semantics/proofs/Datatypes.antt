@@ -1,11 +1,11 @@
 -- What a datatype leaves, and what a level.
 use Rattle.std.proofs.Common.{◌≡◌, ℕ, suc, Bool, true, false, not, ◌&&◌, ◌||◌, eqb, List, [], ◌∷◌, ◌++◌, map, length, refl, sym, ap, ◌∙◌, inl, inr, Option, Some, None}
 use Rattle.std.specs.Prelude.{bytes_eq}
-use Rattle.std.specs.List.{list_all, list_any}
+use Rattle.std.specs.List.{list_all}
 use Rattle.std.proofs.lemmas.Bool.{not-true, and_parts, and_from, cond-true, cond-false, or_parts, cases_Bool, false≢true}
 use Rattle.std.proofs.lemmas.Slice.Eq.{bytes_eq-Decides}
 use Rattle.smt_sexpr.specs.Reading.{Expression}
-use Rattle.smt_semantics.specs.Script.{Command, DeclareDatatype, DeclareConst, DefineFun, Assert, DeclareFun, Reset, Exit, Push, Pop, Constructor, Entry, Constant, Function, Defined, Builds, Selects, State, built_in_names, is_in, is_reserved, has_name, is_taken, is_taken_sort, is_sort, has_sort, names_of, declare, declare_selectors, declare_constructors, with_name, with_sort, with_assertion, obey, knows, ◌>>=◌}
+use Rattle.smt_semantics.specs.Script.{Command, DeclareDatatype, DeclareConst, DefineFun, Assert, DeclareFun, SetLogic, SetOption, is_simple_symbol, Reset, Exit, Push, Pop, Constructor, Entry, Constant, Function, Defined, Builds, Selects, State, built_in_names, is_in, is_reserved, has_name, is_taken, is_new_datatype, is_sort, has_sort, names_of, declare, declare_selectors, declare_constructors, with_name, with_sort, with_assertion, obey, knows, ◌>>=◌}
 use Rattle.smt_semantics.specs.Meanings.{selectors_named, constructors_named, with_names, names_in, are_new, are_fields, DatatypesLeave, StepsKeepLevels, PopsGiveBack}
 use Rattle.smt_semantics.proofs.Results.{some_is, if_not, if_so, bind_gives}
 
@@ -69,7 +69,7 @@ constructors_leave d ps place (c ∷ cs) s h k =
 
 pub datatypes_leave : DatatypesLeave
 datatypes_leave d ps cs s h k l =
-    cond-false (is_taken_sort s d || list_any (is_taken_sort s) ps) None (declare_constructors d ps 0 cs s >>= λ t. Some (with_sort d (length ps) t)) h
+    cond-true (is_new_datatype s d ps cs) (declare_constructors d ps 0 cs s >>= λ t. Some (with_sort d (length ps) t)) None h
     ∙ ap (λ (o : Option State). o >>= λ t. Some (with_sort d (length ps) t)) (constructors_leave d ps 0 cs s k l)
 
 pub pops_give_back : PopsGiveBack
@@ -97,11 +97,13 @@ constructors_below d ps place (c ∷ cs) s t h =
 
 obey_below : (c : Command) (s t : State) → (c ≡ Reset → ⊥) → (c ≡ Push → ⊥) → (c ≡ Pop → ⊥) → obey c s ≡ Some t → t.below ≡ s.below
 obey_below (DeclareDatatype d ps cs) s t r v w h =
-    let p = bind_gives (declare_constructors d ps 0 cs s) (λ u. Some (with_sort d (length ps) u)) t (if_not (is_taken_sort s d || list_any (is_taken_sort s) ps) (declare_constructors d ps 0 cs s >>= λ u. Some (with_sort d (length ps) u)) t h).1 in
+    let p = bind_gives (declare_constructors d ps 0 cs s) (λ u. Some (with_sort d (length ps) u)) t (if_so (is_new_datatype s d ps cs) (declare_constructors d ps 0 cs s >>= λ u. Some (with_sort d (length ps) u)) t h).1 in
     ap (λ (u : State). u.below) (sym (some_is (with_sort d (length ps) p.0) t p.2)) ∙ constructors_below d ps 0 cs s p.0 p.1
 obey_below (DeclareConst n sort) s t r v w h = declare_below n (Constant sort) s t (if_so (is_sort (has_sort s) sort) (declare n (Constant sort) s) t h).1
 obey_below (DefineFun n sort body) s t r v w h = declare_below n (Defined sort body) s t (if_so (is_sort (has_sort s) sort && knows s body) (declare n (Defined sort body) s) t h).1
 obey_below (Assert e) s t r v w h = ap (λ (u : State). u.below) (sym (some_is (with_assertion e s) t (if_so (knows s e) (Some (with_assertion e s)) t h).1))
+obey_below (SetLogic l) s t r v w h = ap (λ (u : State). u.below) (sym (some_is s t (if_so (is_simple_symbol l) (Some s) t h).1))
+obey_below (SetOption o x) s t r v w h = ap (λ (u : State). u.below) (sym (some_is s t (if_so (is_simple_symbol o) (Some s) t h).1))
 obey_below (DeclareFun f a sort) s t r v w h = declare_below f (Function a sort) s t (if_so (is_sort (has_sort s) a && is_sort (has_sort s) sort) (declare f (Function a sort) s) t h).1
 obey_below Reset s t r v w h = absurd (r refl)
 obey_below Push s t r v w h = absurd (v refl)

@@ -1,8 +1,8 @@
 -- What each line leaves of a text that stands.
-use Rattle.std.proofs.Common.{◌≡◌, ℕ, true, not, ◌&&◌, List, ◌∙◌, Some, None}
+use Rattle.std.proofs.Common.{◌≡◌, ℕ, true, not, ◌&&◌, List, map, ◌∙◌, Some, None}
 use Rattle.std.proofs.lemmas.Bool.{not-true, and_from, cond-true, cond-false}
-use Rattle.smt_semantics.specs.Script.{State, Entry, Defined, DefineFun, Assert, step, obey, declare, is_taken, has_sort, is_sort, knows, with_name, with_assertion}
-use Rattle.smt_semantics.specs.Written.{DefinitionsExtend, AssertionsExtend, CommentsExtend}
+use Rattle.smt_semantics.specs.Script.{State, Entry, Defined, DefineFun, Assert, step, obey, declare, is_taken, has_sort, is_sort, knows, with_name, with_assertion, stated}
+use Rattle.smt_semantics.specs.Written.{OpenScriptsAreWhole, DefinitionsExtend, AssertionsExtend, CommentsExtend}
 use Rattle.smt_semantics.proofs.Lines.{lines_add, comments_add, comments_are_lines}
 use Rattle.smt_semantics.proofs.First.{define_fun_line, assert_line}
 
@@ -30,3 +30,6 @@ pub comments_extend : CommentsExtend
 comments_extend text comment s stands h =
     let after = comments_add text _ s stands.whole stands.script (comments_are_lines comment h) in
     record { whole = after.1; script = after.0; running = stands.running }
+
+pub open_scripts_are_whole : OpenScriptsAreWhole
+open_scripts_are_whole text s stands = record { expressions_in = map stated stands.script.commands; reads = stands.script.holds.reads; lines = stands.whole }

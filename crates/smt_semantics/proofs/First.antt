@@ -3,7 +3,7 @@ use Rattle.std.proofs.Common.{◌≡◌, ℕ, List, [], ◌∷◌, ◌++◌, ref
 use Rattle.std.specs.Prelude.{codes}
 use Rattle.smt_sexpr.specs.Reading.{Expression}
 use Rattle.smt_semantics.specs.Script.{Command, DeclareConst, DefineFun, Assert, group, name, stated}
-use Rattle.smt_semantics.specs.Written.{Writes, Item, bracketed, listed, IsLine, DeclareConstLine, DefineFunLine, AssertLine, AppliedText, OptionLines, option_lines, option_command}
+use Rattle.smt_semantics.specs.Written.{ReadsAs, Item, bracketed, listed, IsLine, DeclareConstLine, DefineFunLine, AssertLine, AppliedText, OptionLines, option_lines, option_command}
 use Rattle.smt_semantics.proofs.Lines.{brackets_write, names_write, commands_are_lines}
 
 -- behind nothing, a space, or a line feed and two spaces
@@ -17,7 +17,7 @@ abbrev pub below : List ℕ → Expression → Item
 below t e = record { gap = codes "\n  "; text = t; expr = e }
 
 -- a line is cut where its text ends
-pub line_of : (line text : List ℕ) (c : Command) → Writes text (stated c) → text ++ codes "\n" ≡ line → IsLine line (c ∷ [])
+pub line_of : (line text : List ℕ) (c : Command) → ReadsAs text (stated c) → text ++ codes "\n" ≡ line → IsLine line (c ∷ [])
 line_of line text c w e = subst (λ (l : List ℕ). IsLine l (c ∷ [])) e (commands_are_lines text c w)
 
 pub assert_line : AssertLine
@@ -44,7 +44,7 @@ pub applied_text : AppliedText
 applied_text f x e h w =
     let items = first f (name f) ∷ next x e ∷ [] in
     let texts : bracketed items [] ≡ codes "(" ++ f ++ codes " " ++ x ++ codes ")" = simp append_assoc in
-    subst (λ (t : List ℕ). Writes t (group (name f ∷ e ∷ []))) texts (brackets_write items [] (refl, names_write f h, (refl, w, tt)) refl)
+    subst (λ (t : List ℕ). ReadsAs t (group (name f ∷ e ∷ []))) texts (brackets_write items [] (refl, names_write f h, (refl, w, tt)) refl)
 
 pub option_is_line : OptionLines
 option_is_line =
@@ -52,22 +52,22 @@ option_is_line =
     (brackets_write items [] (refl, names_write (codes "declare-datatype") refl, (refl, names_write (codes "Option") refl, (refl, par, tt))) refl)
     refl
   where
-    selector : Writes (codes "(val X)") (group (name (codes "val") ∷ name (codes "X") ∷ []))
+    selector : ReadsAs (codes "(val X)") (group (name (codes "val") ∷ name (codes "X") ∷ []))
     selector = brackets_write (first (codes "val") (name (codes "val")) ∷ next (codes "X") (name (codes "X")) ∷ []) [] (refl, names_write (codes "val") refl, (refl, names_write (codes "X") refl, tt)) refl
 
-    none-text : Writes (codes "(none)") (group (name (codes "none") ∷ []))
+    none-text : ReadsAs (codes "(none)") (group (name (codes "none") ∷ []))
     none-text = brackets_write (first (codes "none") (name (codes "none")) ∷ []) [] (refl, names_write (codes "none") refl, tt) refl
 
-    some-text : Writes (codes "(some (val X))") (group (name (codes "some") ∷ group (name (codes "val") ∷ name (codes "X") ∷ []) ∷ []))
+    some-text : ReadsAs (codes "(some (val X))") (group (name (codes "some") ∷ group (name (codes "val") ∷ name (codes "X") ∷ []) ∷ []))
     some-text = brackets_write (first (codes "some") (name (codes "some")) ∷ next (codes "(val X)") (group (name (codes "val") ∷ name (codes "X") ∷ [])) ∷ []) [] (refl, names_write (codes "some") refl, (refl, selector, tt)) refl
 
     constructors : List Item
     constructors = below (codes "(none)") (group (name (codes "none") ∷ [])) ∷ below (codes "(some (val X))") (group (name (codes "some") ∷ group (name (codes "val") ∷ name (codes "X") ∷ []) ∷ [])) ∷ []
 
-    two : Writes (bracketed constructors []) (listed constructors)
+    two : ReadsAs (bracketed constructors []) (listed constructors)
     two = brackets_write constructors [] (refl, none-text, (refl, some-text, tt)) refl
 
-    par : Writes (bracketed (first (codes "par") (name (codes "par")) ∷ next (codes "(X)") (group (name (codes "X") ∷ [])) ∷ next (bracketed constructors []) (listed constructors) ∷ []) []) (group (name (codes "par") ∷ group (name (codes "X") ∷ []) ∷ listed constructors ∷ []))
+    par : ReadsAs (bracketed (first (codes "par") (name (codes "par")) ∷ next (codes "(X)") (group (name (codes "X") ∷ [])) ∷ next (bracketed constructors []) (listed constructors) ∷ []) []) (group (name (codes "par") ∷ group (name (codes "X") ∷ []) ∷ listed constructors ∷ []))
     par = brackets_write (first (codes "par") (name (codes "par")) ∷ next (codes "(X)") (group (name (codes "X") ∷ [])) ∷ next (bracketed constructors []) (listed constructors) ∷ []) [] (refl, names_write (codes "par") refl, (refl, brackets_write (first (codes "X") (name (codes "X")) ∷ []) [] (refl, names_write (codes "X") refl, tt) refl, (refl, two, tt))) refl
 
     par-text : List ℕ

@@ -1,5 +1,5 @@
 -- What a script's assertions are worth lies in its free names.
-use Rattle.std.proofs.Common.{◌≡◌, ℕ, true, cond, List, [], ◌∷◌, ◌++◌, refl, sym, ap, ap₂, ◌∙◌, subst, inl, inr, Option, Some, None, Bool, false}
+use Rattle.std.proofs.Common.{◌≡◌, ℕ, true, cond, List, [], ◌∷◌, ◌++◌, refl, sym, ap, ap₂, ◌∙◌, subst, inl, inr, Option, Some, None}
 use Rattle.std.specs.Prelude.{bytes_eq}
 use Rattle.std.specs.List.{AllByRecursion}
 use Rattle.std.proofs.lemmas.Bool.{cases_Bool, cond-true, cond-false}
@@ -8,9 +8,9 @@ use Rattle.std.proofs.lemmas.Slice.Eq.{bytes_eq-Decides}
 use Rattle.smt_semantics.specs.ScriptValues.{ScriptValue, TruthOf, ConstructorOf}
 use Rattle.smt_sexpr.specs.Lexicon.{Bits, Number, Text, Name}
 use Rattle.smt_sexpr.specs.Reading.{Expression, Leaf, Node, Expressions, Nil, Cons}
-use Rattle.smt_semantics.specs.Script.{Entry, Constant, Function, Defined, Builds, Selects, State, Shape, BitLiteral, Qualified, Applied, Extended, Tested, Matched, Unformed, shape, look_up, operator_of, names_of, assertions_of, ◌>>=◌, is_in}
+use Rattle.smt_semantics.specs.Script.{Entry, Constant, Function, Defined, Builds, Selects, State, Shape, BitLiteral, Qualified, Applied, Extended, Tested, Matched, Unformed, shape, look_up, operator_of, names_of, assertions_of, ◌>>=◌}
 use Rattle.smt_semantics.specs.Sorts.{Entries, entries, each_there}
-use Rattle.smt_semantics.specs.Value.{ScriptInterpretation, Table, Meaning, Selection, in_table, of_one, value_at, other_value, range_selectors, read_other, selection_if, selected, by_operator, applied_value, constant, qualified_value, shape_value, first_sort, evaluate, evaluate_each, entry_meaning, body_of, meaning, expression_value, selection, shape_selection, selections, each_selections, selections_in, body_selections, applied_selectors, AgreeAt, AgreeOn, FreeNamesDecide}
+use Rattle.smt_semantics.specs.Value.{ScriptInterpretation, Table, Meaning, Selection, in_table, of_one, value_at, OpenSelector, ValueOfSort, TableOfSelector, open_selector, other_value, selection_if, selected, by_operator, applied_value, constant, qualified_value, shape_value, first_sort, evaluate, evaluate_each, entry_meaning, body_of, meaning, expression_value, selection, shape_selection, selections, each_selections, selections_in, body_selections, applied_selectors, AgreeAt, AgreeOn, AgreeOnOpen, FreeNamesDecide}
 
 abbrev OnAll : ScriptInterpretation → ScriptInterpretation → List Selection → Type 0
 OnAll j k xs = AllByRecursion (λ p. AgreeOn j k p.selector p.sort p.entry) xs
@@ -56,18 +56,22 @@ mutual
       ap₂ (λ (o : Option ScriptValue) (os : List (Option ScriptValue)). o ∷ os) (same_there j k here p q h e b.0) (same_each j k here p q h es b.1)
 
 -- a selector gives the same where it is applied
-same_selected : (j k : ScriptInterpretation) (n d : List ℕ) (ps : List (List ℕ)) (c : List ℕ) (place : ℕ) (field : Expression) (s : Option Expression) (v : ScriptValue) → OnAll j k (selection n s (Some (Selects d ps c place field))) → selected j n ps c place s v ≡ selected k n ps c place s v
-same_selected j k n d ps c place field s (ConstructorOf p e vs) a = ap (λ (o : Option ScriptValue). cond (bytes_eq c e) (value_at place vs) o) (others ps s a)
+same_other : (j k : ScriptInterpretation) (n : List ℕ) (o : Option OpenSelector) (x : Entry) (s : Option Expression) (v : ScriptValue)
+    → ((sort : Expression) → s ≡ Some sort → AllByRecursion (λ p. AgreeOnOpen j k n sort o) (selection_if o (record { selector = n; entry = x; sort = sort }))) → other_value j n o s v ≡ other_value k n o s v
+same_other j k n None x s v h = refl
+same_other j k n (Some ValueOfSort) x None v h = refl
+same_other j k n (Some TableOfSelector) x None v h = refl
+same_other j k n (Some ValueOfSort) x (Some sort) v h = ap Some (h sort refl).0
+same_other j k n (Some TableOfSelector) x (Some sort) v h = ap (λ (t : Table). Some (in_table t v)) (h sort refl).0
+
+same_selected : (j k : ScriptInterpretation) (n d : List ℕ) (ps : List (List ℕ)) (c : List ℕ) (place : ℕ) (field : Expression) (s : Option Expression) (v : ScriptValue) → OnAll j k (selection n s (Some (Selects d ps c place field))) → selected j n d ps c place s v ≡ selected k n d ps c place s v
+same_selected j k n d ps c place field s (ConstructorOf p e vs) a =
+    ap (λ (o : Option ScriptValue). cond (bytes_eq c e) (value_at place vs) o) (same_other j k n (open_selector n d ps) (Selects d ps c place field) s (ConstructorOf p e vs) (λ sort i. on_open sort (open_selector n d ps) refl (subst (λ t. OnAll j k (selection n t (Some (Selects d ps c place field)))) i a)))
   where
-    others : (qs : List (List ℕ)) (t : Option Expression) → OnAll j k (selection n t (Some (Selects d qs c place field))) → other_value j n qs t (ConstructorOf p e vs) ≡ other_value k n qs t (ConstructorOf p e vs)
-    others [] None b = refl
-    others (q ∷ qs) None b = refl
-    others [] (Some sort) b = by_range (is_in n range_selectors) b
-      where
-        by_range : (r : Bool) → OnAll j k (selection_if r (record { selector = n; entry = Selects d [] c place field; sort = sort })) → read_other r (j.selectors n) (ConstructorOf p e vs) ≡ read_other r (k.selectors n) (ConstructorOf p e vs)
-        by_range true a = ap (λ (t : Table). Some (in_table t (ConstructorOf p e vs))) a.0
-        by_range false a = refl
-    others (q ∷ qs) (Some sort) b = ap Some b.0
+    on_open : (sort : Expression) (o : Option OpenSelector) → open_selector n d ps ≡ o → OnAll j k (selection_if o (record { selector = n; entry = Selects d ps c place field; sort = sort }))
+        → AllByRecursion (λ p. AgreeOnOpen j k n sort o) (selection_if o (record { selector = n; entry = Selects d ps c place field; sort = sort }))
+    on_open sort None i b = tt
+    on_open sort (Some o) i b = (subst (λ q. AgreeOnOpen j k n sort q) i b.0, tt)
 same_selected j k n d ps c place field s v a = refl
 
 of_one_same : (f g : ScriptValue → Option ScriptValue) → ((v : ScriptValue) → f v ≡ g v) → (vs : List ScriptValue) → of_one f vs ≡ of_one g vs
@@ -80,7 +84,7 @@ same_entry j k n b c (Constant sort) s vs e h a = ap (λ (v : ScriptValue). entr
 same_entry j k n b c (Defined sort body) s vs e h a = ap (λ (o : Option ScriptValue). entry_meaning j n o (Defined sort body) s vs) e
 same_entry j k n b c (Function argument sort) s vs e h a = ap (λ (t : Table). of_one (λ v. Some (in_table t v)) vs) h
 same_entry j k n b c (Builds d ps place fields) s vs e h a = refl
-same_entry j k n b c (Selects d ps f place field) s vs e h a = of_one_same (selected j n ps f place s) (selected k n ps f place s) (λ v. same_selected j k n d ps f place field s v a) vs
+same_entry j k n b c (Selects d ps f place field) s vs e h a = of_one_same (selected j n d ps f place s) (selected k n d ps f place s) (λ v. same_selected j k n d ps f place field s v a) vs
 
 mean_same : (j k : ScriptInterpretation) (ds : List (List ℕ × Entry)) → AllByRecursion (λ p. AgreeAt j k p.0 p.1) ds → OnAll j k (body_selections ds) → MeanSame j k (λ m. look_up m ds) (meaning j ds) (meaning k ds)
 mean_same j k [] h b f s vs a = refl

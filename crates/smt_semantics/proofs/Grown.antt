@@ -1,12 +1,12 @@
 -- What the lines of declarations leave of a text that stands.
-use Rattle.std.proofs.Common.{◌≡◌, ℕ, suc, Bool, true, false, not, ◌&&◌, ◌||◌, List, [], ◌∷◌, ◌++◌, map, refl, ap, ◌∙◌, Some, None}
+use Rattle.std.proofs.Common.{◌≡◌, ℕ, suc, true, false, not, ◌&&◌, List, [], ◌∷◌, ◌++◌, map, refl, ap, ◌∙◌, Some, None}
 use Rattle.std.specs.Prelude.{bytes_eq}
 use Rattle.std.proofs.lemmas.Bool.{not-true, and_parts, cond-true, cond-false, or_parts}
 use Rattle.std.proofs.lemmas.Slice.Eq.{bytes_eq-Decides}
 use Rattle.smt_sexpr.specs.Reading.{Expression}
-use Rattle.smt_semantics.specs.Script.{Constructor, Entry, Constant, Function, Builds, Selects, State, DeclareConst, DeclareFun, DeclareDatatype, declare, look_up, is_in, has_sort, is_sort, is_taken, is_taken_sort, with_name, names_below}
+use Rattle.smt_semantics.specs.Script.{Constructor, Entry, Constant, Function, Builds, Selects, State, DeclareConst, DeclareFun, DeclareDatatype, declare, look_up, is_in, has_sort, is_sort, is_taken, with_name, names_below}
 use Rattle.smt_semantics.specs.Meanings.{selectors_named, constructors_named, names_in, are_new}
-use Rattle.smt_semantics.specs.Growth.{ConstantsExtend, FunctionsExtend, DatatypesExtend, DeclaresSelectors, Declares, DatatypesDeclare, with_datatype}
+use Rattle.smt_semantics.specs.DeclarationLines.{ConstantsExtend, FunctionsExtend, DatatypesExtend, DeclaresSelectors, Declares, DatatypesDeclare, with_datatype}
 use Rattle.smt_semantics.proofs.First.{declare_const_line}
 use Rattle.smt_semantics.proofs.Laid.{declare_fun_line, datatype_line, commands_extend}
 use Rattle.smt_semantics.proofs.Datatypes.{datatypes_leave}
@@ -24,13 +24,10 @@ functions_extend text f argument sort s a x stands name-is w v fresh known =
     commands_extend text _ (DeclareFun f a x) s (with_name f (Function a x) s) stands (declare_fun_line f argument sort a x name-is w v)
     (cond-true (is_sort (has_sort s) a && is_sort (has_sort s) x) (declare f (Function a x) s) None known ∙ declares f (Function a x) s fresh) stands.running
 
-no_others : (b : Bool) → not b ≡ true → (b || false) ≡ false
-no_others b h = rw (not-true b h) refl
-
 pub datatypes_extend : DatatypesExtend
 datatypes_extend text d cs s stands name-is w fresh new known =
     commands_extend text _ (DeclareDatatype d [] (map (λ c. c.built) cs)) s (with_datatype d (map (λ c. c.built) cs) s) stands (datatype_line d cs name-is w)
-    (datatypes_leave d [] (map (λ c. c.built) cs) s (no_others (is_taken_sort s d) fresh) new known) stands.running
+    (datatypes_leave d [] (map (λ c. c.built) cs) s fresh new known) stands.running
 
 -- ---- what is there then
 

@@ -1,15 +1,14 @@
 -- What a command leaves has the values and the sorts of what was there before it.
 use Rattle.std.proofs.Common.{◌≡◌, ◌⊎◌, ℕ, suc, Bool, true, false, ◌&&◌, ◌||◌, eqb, cond, List, [], ◌∷◌, map, length, refl, sym, ap, ap₂, ◌∙◌, subst, inl, inr, Option, Some, None}
 use Rattle.std.specs.Prelude.{codes, bytes_eq}
-use Rattle.std.specs.List.{list_any}
 use Rattle.std.proofs.lemmas.Bool.{and_parts, and_from, or_cases, or_parts, cases_Bool, false≢true}
 use Rattle.std.proofs.lemmas.Slice.Eq.{bytes_eq-Decides}
 use Rattle.smt_term.specs.Plain.{StringLikeOp, ZeroExtendOp}
 use Rattle.smt_semantics.specs.ScriptValues.{ScriptValue}
 use Rattle.smt_sexpr.specs.Lexicon.{Bits, Number, Text, Name}
 use Rattle.smt_sexpr.specs.Reading.{Expression, Leaf, Node, Expressions, Nil, Cons}
-use Rattle.smt_semantics.specs.Script.{Command, DeclareDatatype, DeclareConst, DefineFun, Assert, DeclareFun, Reset, Exit, Push, Pop, Function, obey, Constructor, Entry, Constant, Defined, Builds, Selects, State, step, declare, declare_selectors, declare_constructors, with_name, with_sort, with_assertion, with_level, has_name, has_sort, is_taken, is_taken_sort, is_reserved, is_in, is_sort, are_sorts, is_bit_sort, count, is_first, are_all, is_stated, each_stated, knows, Shape, BitLiteral, Qualified, Applied, Extended, Tested, Matched, Unformed, shape, shape_is_known, built_in_names, names_of, look_up, operator_of, ◌>>=◌}
-use Rattle.smt_semantics.specs.Sorts.{Entries, entries, entry_sort, applied_sort, named_sort, qualified_sort, tested_sort, operator_sort, shape_sort, sort_in, sorts_in, sort_of, each_there, first_there}
+use Rattle.smt_semantics.specs.Script.{Command, DeclareDatatype, DeclareConst, DefineFun, Assert, DeclareFun, SetLogic, SetOption, is_simple_symbol, Reset, Exit, Push, Pop, Function, obey, Constructor, Entry, Constant, Defined, Builds, Selects, State, step, declare, declare_selectors, declare_constructors, with_name, with_sort, with_assertion, with_level, has_name, has_sort, is_taken, is_new_datatype, is_reserved, is_in, is_sort, are_sorts, is_bit_sort, count, is_first, are_all, is_stated, each_stated, knows, Shape, BitLiteral, Qualified, Applied, Extended, Tested, Matched, Unformed, shape, shape_is_known, built_in_names, names_of, look_up, operator_of, ◌>>=◌}
+use Rattle.smt_semantics.specs.Sorts.{Entries, entries, entry_sort, applied_sort, named_sort, qualified_sort, tested_sort, operator_sort, shape_sort, sort_in, sorts_in, expression_sort, each_there, first_there}
 use Rattle.smt_semantics.specs.Value.{ScriptInterpretation, Meaning, by_operator, applied_value, constant, qualified_value, is_built, of_one, operator_value, evaluate, evaluate_each, first_sort, shape_value, meaning, entry_meaning, body_of, StepsKeepValues, NamesHaveValues}
 use Rattle.smt_semantics.proofs.Results.{or_left, or_right, some_is, if_not, if_so, bind_gives}
 
@@ -228,13 +227,15 @@ more_sorts n d k parameters s h = or_right (bytes_eq n d && eqb parameters k) (h
 
 obey_keeps : (j : ScriptInterpretation) (c : Command) (s t : State) → (c ≡ Reset → ⊥) → (c ≡ Pop → ⊥) → obey c s ≡ Some t → Keeps j s t
 obey_keeps j (DeclareDatatype d ps cs) s t r v h =
-    let p = if_not (is_taken_sort s d || list_any (is_taken_sort s) ps) (declare_constructors d ps 0 cs s >>= λ u. Some (with_sort d (length ps) u)) t h in
+    let p = if_so (is_new_datatype s d ps cs) (declare_constructors d ps 0 cs s >>= λ u. Some (with_sort d (length ps) u)) t h in
     let q = bind_gives (declare_constructors d ps 0 cs s) (λ u. Some (with_sort d (length ps) u)) t p.1 in
     keeps_then j s q.0 t (constructors_keep j d ps 0 cs s q.0 q.1) (subst (λ (u : State). Keeps j q.0 u) (some_is (with_sort d (length ps) q.0) t q.2) (keeps_itself j q.0 (with_sort d (length ps) q.0) refl (λ n k e. more_sorts n d k (length ps) q.0 e)))
 obey_keeps j (DeclareConst n sort) s t r v h = declare_keeps j n (Constant sort) s t (if_so (is_sort (has_sort s) sort) (declare n (Constant sort) s) t h).1
 obey_keeps j (DefineFun n sort body) s t r v h = declare_keeps j n (Defined sort body) s t (if_so (is_sort (has_sort s) sort && knows s body) (declare n (Defined sort body) s) t h).1
 obey_keeps j (Assert e) s t r v h =
     subst (λ (u : State). Keeps j s u) (some_is (with_assertion e s) t (if_so (knows s e) (Some (with_assertion e s)) t h).1) (keeps_itself j s (with_assertion e s) refl (λ n k i. i))
+obey_keeps j (SetLogic l) s t r v h = same_state j s t (some_is s t (if_so (is_simple_symbol l) (Some s) t h).1)
+obey_keeps j (SetOption o x) s t r v h = same_state j s t (some_is s t (if_so (is_simple_symbol o) (Some s) t h).1)
 obey_keeps j (DeclareFun f a sort) s t r v h = declare_keeps j f (Function a sort) s t (if_so (is_sort (has_sort s) a && is_sort (has_sort s) sort) (declare f (Function a sort) s) t h).1
 obey_keeps j Reset s t r v h = absurd (r refl)
 obey_keeps j Pop s t r v h = absurd (v refl)
@@ -269,7 +270,7 @@ bytes_same n = (bytes_eq-Decides n n).1 refl
 record IsNew (j : ScriptInterpretation) (n : List ℕ) (entry : Entry) (s t : State) : Type 0 where
   there : has_name t n ≡ true
   value : constant (meaning j (names_of t)) n ≡ entry_meaning j n (evaluate (entries s) (meaning j (names_of s)) (body_of entry)) entry None []
-  sort : sort_of t (Leaf (Name n)) ≡ entry_sort entry []
+  sort : expression_sort t (Leaf (Name n)) ≡ entry_sort entry []
 
 new_name : (j : ScriptInterpretation) (n : List ℕ) (entry : Entry) (s t : State) → declare n entry s ≡ Some t → IsNew j n entry s t
 new_name j n entry s t h =

@@ -6,8 +6,8 @@ use Rattle.smt_sexpr.specs.Lexicon.{Number}
 use Rattle.smt_sexpr.specs.Reading.{Expression, Leaf}
 use Rattle.smt_semantics.specs.Numerals.{numbered, numeral}
 use Rattle.smt_semantics.specs.Script.{Command, DeclareDatatype, DeclareFun, SetLogic, SetOption, CheckSat, GetModel, Reset, Exit, Push, Pop, constructor, group, name, State, start, step, run, ◌>>=◌, obey}
-use Rattle.smt_semantics.specs.Written.{Writes, Item, laid, AreSpread, bracketed, listed, IsName}
-use Rattle.smt_semantics.specs.Texts.{Part, AreWritten, spaced, GroupsWrite, BitsWrite, BitSortsWrite, BitsHaveValues, ConstructorPart, AreConstructors, below_each, constructor_lines, DatatypeLine, SelectorsWrite, DeclareFunLine, SetLogicLine, SetOptionLine, PlainLines, CommandsExtend, AreSorted, OnState, SortedLinesAdd, SortedCommentsAdd}
+use Rattle.smt_semantics.specs.Written.{ReadsAs, Item, laid, AreSpread, bracketed, listed, IsName}
+use Rattle.smt_semantics.specs.CommandLines.{Part, AreWritten, spaced, GroupsWrite, BitsWrite, BitSortsWrite, BitsHaveValues, ConstructorPart, AreConstructors, below_each, constructor_lines, DatatypeLine, SelectorsWrite, DeclareFunLine, SetLogicLine, SetOptionLine, PlainLines, CommandsExtend, AreSorted, OnState, SortedLinesAdd, SortedCommentsAdd}
 use Rattle.smt_semantics.proofs.Append.{holds_append, run_append}
 use Rattle.smt_semantics.proofs.Lines.{brackets_write, names_write, numerals_write, lines_add}
 use Rattle.smt_semantics.proofs.First.{first, next, below, line_of}
@@ -35,13 +35,13 @@ groups_write head h ps gap w v g =
     let items = first head h ∷ spread ps in
     let e : bracketed items gap ≡ codes "(" ++ (head ++ spaced ps (gap ++ codes ")")) = ap (λ (t : List ℕ). codes "(" ++ (head ++ t)) (laid_spread ps (gap ++ codes ")")) in
     let f : listed items ≡ group (h ∷ map (λ p. p.expr) ps) = ap (λ (es : List Expression). group (h ∷ es)) (spread_exprs ps) in
-    subst (λ (t : List ℕ). Writes t (group (h ∷ map (λ p. p.expr) ps))) e
-    (subst (λ (x : Expression). Writes (bracketed items gap) x) f (brackets_write items gap (refl, w, are_spread ps v) g))
+    subst (λ (t : List ℕ). ReadsAs t (group (h ∷ map (λ p. p.expr) ps))) e
+    (subst (λ (x : Expression). ReadsAs (bracketed items gap) x) f (brackets_write items gap (refl, w, are_spread ps v) g))
 
 -- ---- numbers
 
-pub number_writes : (n : ℕ) → Writes (numeral n) (Leaf (Number n))
-number_writes n = subst (λ (m : ℕ). Writes (numeral n) (Leaf (Number m))) (numeral_number n) (numerals_write (numeral n) (numeral_digits n))
+pub number_writes : (n : ℕ) → ReadsAs (numeral n) (Leaf (Number n))
+number_writes n = subst (λ (m : ℕ). ReadsAs (numeral n) (Leaf (Number m))) (numeral_number n) (numerals_write (numeral n) (numeral_digits n))
 
 abbrev part : List ℕ → Expression → Part
 part t e = record { text = t; expr = e }
@@ -84,11 +84,11 @@ lines_append : (cs : List ConstructorPart) (a b : List ℕ) → constructor_line
 lines_append [] a b = refl
 lines_append (c ∷ cs) a b = below_append (c ∷ cs) a b
 
-constructors_write : (cs : List ConstructorPart) → AreConstructors cs → Writes (codes "(" ++ constructor_lines cs (codes ")")) (group (map constructor (map (λ c. c.built) cs)))
+constructors_write : (cs : List ConstructorPart) → AreConstructors cs → ReadsAs (codes "(" ++ constructor_lines cs (codes ")")) (group (map constructor (map (λ c. c.built) cs)))
 constructors_write [] h = brackets_write [] (codes "\n  ") tt refl
 constructors_write (c ∷ cs) h =
-    subst (λ (t : List ℕ). Writes t (group (map constructor (map (λ x. x.built) (c ∷ cs))))) (ap (λ (t : List ℕ). codes "(" ++ t) (laid_below (c ∷ cs) (codes ")")))
-    (subst (λ (es : List Expression). Writes (bracketed (below_parts (c ∷ cs)) []) (group es)) (below_exprs (c ∷ cs))
+    subst (λ (t : List ℕ). ReadsAs t (group (map constructor (map (λ x. x.built) (c ∷ cs))))) (ap (λ (t : List ℕ). codes "(" ++ t) (laid_below (c ∷ cs) (codes ")")))
+    (subst (λ (es : List Expression). ReadsAs (bracketed (below_parts (c ∷ cs)) []) (group es)) (below_exprs (c ∷ cs))
     (brackets_write (below_parts (c ∷ cs)) [] (refl, h.0, below_spread cs h.1) refl))
 
 pub datatype_line : DatatypeLine
@@ -103,7 +103,7 @@ datatype_line d cs h k =
 
 pub selectors_write : SelectorsWrite
 selectors_write c ps gap h w g e =
-    subst (λ (es : List Expression). Writes (codes "(" ++ (c.name ++ spaced ps (gap ++ codes ")"))) (group (name c.name ∷ es))) e (groups_write c.name (name c.name) ps gap (names_write c.name h) w g)
+    subst (λ (es : List Expression). ReadsAs (codes "(" ++ (c.name ++ spaced ps (gap ++ codes ")"))) (group (name c.name ∷ es))) e (groups_write c.name (name c.name) ps gap (names_write c.name h) w g)
 
 pub declare_fun_line : DeclareFunLine
 declare_fun_line f argument sort a s h w v =
@@ -122,10 +122,10 @@ set_logic_line l h = line_of _ _ (SetLogic l) (groups_write (codes "set-logic") 
 pub set_option_line : SetOptionLine
 set_option_line o v e h w = line_of _ _ (SetOption o e) (groups_write (codes "set-option") (name (codes "set-option")) (part (codes ":" ++ o) (name (codes ":" ++ o)) ∷ part v e ∷ []) [] (names_write (codes "set-option") refl) (names_write (codes ":" ++ o) h, (w, tt)) refl) (simp append_assoc)
 
-alone : (word : List ℕ) → IsName word → Writes (codes "(" ++ (word ++ codes ")")) (group (name word ∷ []))
+alone : (word : List ℕ) → IsName word → ReadsAs (codes "(" ++ (word ++ codes ")")) (group (name word ∷ []))
 alone word h = groups_write word (name word) [] [] (names_write word h) tt refl
 
-by_one : (word : List ℕ) → IsName word → Writes (codes "(" ++ (word ++ codes " 1)")) (group (name word ∷ Leaf (Number 1) ∷ []))
+by_one : (word : List ℕ) → IsName word → ReadsAs (codes "(" ++ (word ++ codes " 1)")) (group (name word ∷ Leaf (Number 1) ∷ []))
 by_one word h = groups_write word (name word) (part (codes "1") (Leaf (Number 1)) ∷ []) [] (names_write word h) (numerals_write (codes "1") refl, tt) refl
 
 pub plain_lines : PlainLines

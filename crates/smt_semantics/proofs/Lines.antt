@@ -6,12 +6,14 @@ use Rattle.std.proofs.lemmas.List.{append-nil}
 use Rattle.std.proofs.lemmas.List.Concat.{flat_map-append}
 use Rattle.std.proofs.lemmas.List.Folds.{list_all-append}
 use Rattle.std.proofs.lemmas.Bool.{and_parts, and_from, false≢true, or_cases, eqb-true}
+use Rattle.std.specs.Str.{is_utf8}
 use Rattle.smt_sexpr.specs.Lexicon.{Quoted, Numeral, Text, Number, decoded, number_in, Piece, Space, Open, Close, Comment, Symbol, spelling, spell, each_longest, is_piece, is_symbol, is_plain_symbol, is_symbol_byte, is_space, stops, goes_on, in_script, is_line_end, Token, Begin, token, tokens}
 use Rattle.smt_sexpr.specs.Reading.{Leaf, Expression, brackets, inside, expressions}
-use Rattle.smt_semantics.specs.Script.{Command, State, IsWhole, step, run, start}
-use Rattle.smt_semantics.specs.Written.{StringsWrite, NumeralsWrite, is_apart, Writes, Item, is_gap, is_wide_gap, laid, AreSpread, AreItems, IsLine, BracketsWrite, NamesWrite, CommandsAreLines, CommentsAreLines, LinesAdd, CommentsAdd}
+use Rattle.smt_semantics.specs.Script.{Command, State, HasWholeLines, step, run, start}
+use Rattle.smt_semantics.specs.Written.{StringsWrite, NumeralsWrite, is_apart, ReadsAs, Item, is_gap, is_wide_gap, laid, AreSpread, AreItems, IsLine, BracketsWrite, NamesWrite, CommandsAreLines, CommentsAreLines, LinesAdd, CommentsAdd}
 use Rattle.smt_semantics.proofs.Append.{script_append, whole_append, run_append, holds_append}
 use Rattle.smt_semantics.proofs.Commands.{one_list_of_commands}
+use Rattle.smt_semantics.proofs.Symbols.{plain_utf8}
 
 -- ---- white space
 
@@ -78,7 +80,7 @@ record Spread (items : List Item) : Type 0 where
   lays : Lays items
   apart : (rest : List Piece) → is_apart (spell rest) ≡ true → is_apart (spell (lays.pieces ++ rest)) ≡ true
 
-lays_more : (i : Item) (items : List Item) → is_gap i.gap ≡ true → Writes i.text i.expr → Spread items → Lays (i ∷ items)
+lays_more : (i : Item) (items : List Item) → is_gap i.gap ≡ true → ReadsAs i.text i.expr → Spread items → Lays (i ∷ items)
 lays_more i items h w s = record {
   pieces = spaces i.gap ++ (w.pieces ++ s.lays.pieces);
   spelled = λ rest. rw (append_assoc (spaces i.gap) (w.pieces ++ s.lays.pieces) rest, spell_spaces i.gap ((w.pieces ++ s.lays.pieces) ++ rest), append_assoc w.pieces s.lays.pieces rest, flat_map-append spelling w.pieces (s.lays.pieces ++ rest), ← w.spelled, ← (s.lays.spelled rest)) refl;
@@ -153,7 +155,7 @@ names_write n h =
       spelled = sym (append-nil n);
       plain = and_from (is_plain_symbol n) true p.1 refl;
       tokens_are = refl;
-      longest = λ rest k a. and_from (is_symbol n) (stops (Symbol n) (spell rest) && each_longest rest) p.0 (and_from (stops (Symbol n) (spell rest)) (each_longest rest) (symbol_stops n (spell rest) a) k);
+      longest = λ rest k a. and_from (is_symbol n && is_utf8 n) (stops (Symbol n) (spell rest) && each_longest rest) (and_from (is_symbol n) (is_utf8 n) p.0 (plain_utf8 n p.1)) (and_from (stops (Symbol n) (spell rest)) (each_longest rest) (symbol_stops n (spell rest) a) k);
     }
 
 apart_stops : (x : Piece) → ((b : ℕ) (rest : List ℕ) → is_apart (b ∷ rest) ≡ true → goes_on x b ≡ false) → (rest : List ℕ) → is_apart rest ≡ true → stops x rest ≡ true
@@ -161,7 +163,7 @@ apart_stops x h [] a = refl
 apart_stops x h (b ∷ rest) a = ap not (h b rest a)
 
 -- a piece that white space and brackets end is a text of its own
-piece_writes : (x : Piece) (e : Expression) → is_piece x ≡ true → in_script x ≡ true → token x ≡ brackets e → ((b : ℕ) (rest : List ℕ) → is_apart (b ∷ rest) ≡ true → goes_on x b ≡ false) → Writes (spelling x) e
+piece_writes : (x : Piece) (e : Expression) → is_piece x ≡ true → in_script x ≡ true → token x ≡ brackets e → ((b : ℕ) (rest : List ℕ) → is_apart (b ∷ rest) ≡ true → goes_on x b ≡ false) → ReadsAs (spelling x) e
 piece_writes x e h p t stop = record {
   pieces = x ∷ [];
   spelled = sym (append-nil (spelling x));
@@ -219,7 +221,7 @@ comments_are_lines text h = record {
   };
 }
 
-line_is_whole : (line : List ℕ) (cs : List Command) → IsLine line cs → IsWhole line
+line_is_whole : (line : List ℕ) (cs : List Command) → IsLine line cs → HasWholeLines line
 line_is_whole [] cs h = tt
 line_is_whole (b ∷ line) cs h = h.ends
 

@@ -1,39 +1,15 @@
 -- A long script, line by line.
-use Rattle.std.proofs.Common.{◌≡◌, ℕ, List, [], ◌∷◌, ◌++◌, refl, Some}
-use Rattle.std.specs.Prelude.{codes, not, IsTrue}
-use Rattle.std.specs.List.{list_all}
-use Rattle.smt_sexpr.specs.Lexicon.{Number, Text, is_line_end}
-use Rattle.smt_sexpr.specs.Reading.{Expression, Leaf}
-use Rattle.smt_semantics.specs.Script.{Command, DeclareConst, DeclareFun, DefineFun, Assert, State, IsWhole, group, name, start, step}
-use Rattle.smt_semantics.specs.Written.{IsLine, option_lines, option_command}
-use Rattle.smt_semantics.specs.Texts.{Part, SortedScript, IsSortedCommand}
+use Rattle.std.proofs.Common.{[], ◌∷◌, refl}
+use Rattle.std.specs.Prelude.{codes}
+use Rattle.smt_sexpr.specs.Lexicon.{Number, Text}
+use Rattle.smt_sexpr.specs.Reading.{Leaf}
+use Rattle.smt_semantics.specs.Script.{DeclareConst, DeclareFun, DefineFun, Assert, group, name, start}
+use Rattle.smt_semantics.specs.Written.{option_lines, option_command}
 use Rattle.smt_semantics.specs.LongSample.{LongSampleIsScript}
-use Rattle.smt_semantics.proofs.Append.{whole_append}
-use Rattle.smt_semantics.proofs.Lines.{brackets_write, names_write, numerals_write, strings_write, commands_are_lines, comments_are_lines}
+use Rattle.smt_semantics.proofs.Lines.{brackets_write, names_write, numerals_write, strings_write, commands_are_lines}
 use Rattle.smt_semantics.proofs.First.{option_is_line}
-use Rattle.smt_semantics.proofs.Laid.{groups_write, selectors_write, datatype_line, sorted_lines_add, sorted_comments_add}
-
-abbrev part : List ℕ → Expression → Part
-part t e = record { text = t; expr = e }
-
-record Goes (text : List ℕ) (s : State) : Type 0 where
-  whole : IsWhole text
-  sorted : SortedScript text s
-
-line_whole : (line : List ℕ) (cs : List Command) → IsLine line cs → IsWhole line
-line_whole [] cs h = tt
-line_whole (b ∷ line) cs h = h.ends
-
-goes : (text line : List ℕ) (c : Command) (s t : State) → Goes text s → IsLine line (c ∷ []) → step c s ≡ Some t → IsSortedCommand s c → Goes (text ++ line) t
-goes text line c s t g h e k = record { whole = whole_append text line g.whole (line_whole line (c ∷ []) h); sorted = sorted_lines_add text line c s t g.whole g.sorted h e k }
-
-comment_goes : (text comment : List ℕ) (s : State) → Goes text s → IsTrue (list_all (λ b. not (is_line_end b)) comment) → Goes (text ++ (codes ";" ++ comment ++ codes "\n")) s
-comment_goes text comment s g h =
-    let l = comments_are_lines comment h in
-    record { whole = whole_append text _ g.whole (line_whole _ [] l); sorted = sorted_comments_add text _ s g.whole g.sorted l }
-
-begins : Goes [] start
-begins = record { whole = tt; sorted = record { script = record { commands = []; holds = record { reads = record { pieces = []; cut = record { spelled = refl; longest = refl }; tokens_are = refl }; plain = refl }; runs = refl }; sorted = tt } }
+use Rattle.smt_semantics.proofs.Going.{part, goes, comment_goes, begins}
+use Rattle.smt_semantics.proofs.Laid.{groups_write, selectors_write, datatype_line}
 
 pub long_sample_is_script : LongSampleIsScript
 long_sample_is_script =

@@ -6,27 +6,27 @@ use Rattle.std.proofs.lemmas.Bool.{and_parts, and_from}
 use Rattle.smt_sexpr.specs.Lexicon.{Text}
 use Rattle.smt_sexpr.specs.Reading.{Leaf, Expression, expressions}
 use Rattle.smt_sexpr.proofs.Quotes.{undoubled, characters_are, all_read, all_plain}
-use Rattle.smt_semantics.specs.Written.{Writes, between_quotes}
-use Rattle.smt_semantics.specs.Quoting.{quoted, TextsWrite, part_text, part_expr, pattern_text, pattern_expr, PatternsWrite}
+use Rattle.smt_semantics.specs.Written.{ReadsAs, between_quotes}
+use Rattle.smt_semantics.specs.WrittenStrings.{quoted, TextsWrite, part_text, part_expr, pattern_text, pattern_expr, PatternsWrite}
 use Rattle.smt_semantics.proofs.Lines.{strings_write, names_write}
 use Rattle.smt_semantics.proofs.Laid.{groups_write}
 use Rattle.smt_semantics.specs.Script.{group, name, pattern, pattern_part, pattern_parts, ◌>>=◌}
-use Rattle.smt_semantics.specs.Texts.{Part, AreWritten}
+use Rattle.smt_semantics.specs.CommandLines.{Part, AreWritten}
 use Rattle.smt_term.specs.Plain.{PatternPart, Character, Wildcard}
 use Rattle.smt_term.specs.TypeValues.{is_code_point}
 use Rattle.smt_term.specs.Faults.{is_pattern_part}
 
 pub texts_write : TextsWrite
 texts_write cs h =
-    subst (λ (t : List ℕ). Writes (codes "\"" ++ (t ++ codes "\"")) (Leaf (Text cs))) (sym (characters_are cs))
-    (subst (λ (t : List ℕ). Writes (between_quotes (flat_map undoubled cs)) (Leaf (Text t))) (all_read cs h) (strings_write (flat_map undoubled cs) (all_plain cs h)))
+    subst (λ (t : List ℕ). ReadsAs (codes "\"" ++ (t ++ codes "\"")) (Leaf (Text cs))) (sym (characters_are cs))
+    (subst (λ (t : List ℕ). ReadsAs (between_quotes (flat_map undoubled cs)) (Leaf (Text t))) (all_read cs h) (strings_write (flat_map undoubled cs) (all_plain cs h)))
 
 -- ---- patterns
 
 abbrev part : PatternPart → Part
 part p = record { text = part_text p; expr = part_expr p }
 
-part_writes : (p : PatternPart) → is_pattern_part p ≡ true → Writes (part_text p) (part_expr p)
+part_writes : (p : PatternPart) → is_pattern_part p ≡ true → ReadsAs (part_text p) (part_expr p)
 part_writes (Character c) h =
     groups_write (codes "str.to_re") (name (codes "str.to_re")) (record { text = quoted (c ∷ []); expr = Leaf (Text (c ∷ [])) } ∷ []) []
     (names_write (codes "str.to_re") refl) (texts_write (c ∷ []) (and_from (is_code_point c) true h refl), tt) refl
@@ -64,7 +64,7 @@ pub patterns_write : PatternsWrite
 patterns_write [] h = (groups_write (codes "str.to_re") (name (codes "str.to_re")) (record { text = codes "\"\""; expr = Leaf (Text []) } ∷ []) [] (names_write (codes "str.to_re") refl) (texts_write [] refl, tt) refl, refl)
 patterns_write (p ∷ []) h = (part_writes p (and_parts (is_pattern_part p) true h).0, alone_is p)
 patterns_write (p ∷ q ∷ ps) h = (
-  subst (λ (es : List Expression). Writes (pattern_text (p ∷ q ∷ ps)) (group (name (codes "re.++") ∷ es))) (part_exprs (p ∷ q ∷ ps))
+  subst (λ (es : List Expression). ReadsAs (pattern_text (p ∷ q ∷ ps)) (group (name (codes "re.++") ∷ es))) (part_exprs (p ∷ q ∷ ps))
       (groups_write (codes "re.++") (name (codes "re.++")) (map part (p ∷ q ∷ ps)) [] (names_write (codes "re.++") refl) (parts_write (p ∷ q ∷ ps) h) refl),
   many p q ps ∙ parts_are (p ∷ q ∷ ps),
 )

@@ -1,21 +1,26 @@
 -- What is a script, and what is none.
-use Rattle.std.proofs.Common.{◌≡◌, ℕ, eqb, cond, Bool, true, false, List, [], ◌∷◌, ◌++◌, refl, sym, ap₂, ◌∙◌, subst, Option, Some, None, inl, inr}
+use Rattle.std.proofs.Common.{◌≡◌, ℕ, eqb, cond, Bool, true, false, List, [], ◌∷◌, ◌++◌, refl, sym, ap, ap₂, ◌∙◌, subst, Option, Some, None, inl, inr}
 use Rattle.std.specs.Prelude.{codes, IsTrue, bytes_eq, unwrap_or}
 use Rattle.std.proofs.lemmas.Bool.{cases_Bool, cond-true, cond-false, false≢true, eqb-true}
 use Rattle.std.proofs.lemmas.Slice.Eq.{bytes_eq-Decides}
 use Rattle.std.proofs.lemmas.List.Elements.{All-from_recursion, recursion_from_All}
+use Rattle.std.specs.Str.{is_utf8, chars}
+use Rattle.std.specs.Char.{encode_utf8}
 use Rattle.smt_semantics.specs.ScriptValues.{ScriptValue, TruthOf, ConstructorOf, ScriptValues, no_script_values, one_script_value}
-use Rattle.smt_sexpr.specs.Reading.{Expression}
-use Rattle.smt_semantics.specs.Script.{Entry, Constant, Defined, Builds, Selects, State, Script, DeclareDatatype, DeclareConst, DefineFun, Assert, Push, Pop, start, run, name, group, names_of, assertions_of, look_up}
-use Rattle.smt_semantics.specs.Sorts.{IsWellSorted, IsBodyWellSorted, sort_of, bool_sort, has_sort_in, have_sorts_in, constructor_fields, entries}
-use Rattle.smt_semantics.specs.Order.{same}
+use Rattle.smt_sexpr.specs.Lexicon.{Piece, Space, Open, Close, Quoted, Numeral, Symbol, Text}
+use Rattle.smt_sexpr.specs.Reading.{Expression, Leaf}
+use Rattle.smt_semantics.specs.Script.{Entry, Constant, Defined, Builds, Selects, State, Script, Holds, Command, DeclareDatatype, DeclareConst, DefineFun, Assert, Push, Pop, start, run, name, group, names_of, assertions_of, look_up}
+use Rattle.smt_semantics.specs.Sorts.{bool_sort, string_sort, same_sort, has_sort_in, have_sorts_in, constructor_fields, entries}
+use Rattle.smt_semantics.specs.ScriptOrder.{same}
 use Rattle.smt_semantics.specs.Value.{ScriptInterpretation, IsScriptInterpretation, IsModel, expression_value, is_entry_given, is_selector_given, applied_selectors}
-use Rattle.smt_semantics.specs.Written.{is_name, option_lines, option_command, IsLine, Stands, Writes}
-use Rattle.smt_semantics.specs.Samples.{SampleIsScript, EnumSampleIsScript, RecordSampleIsScript, LevelSampleIsScript, UseBeforeDeclarationIsNone, TwiceDeclaredIsNone, BuiltInDeclaredIsNone, EscapesDecode, OperatorsGive, SelectorsSampled}
+use Rattle.smt_semantics.specs.Written.{is_name, option_lines, option_command, IsLine, ReadsAs}
+use Rattle.smt_semantics.specs.CommandLines.{AreSorted, SortedScript}
+use Rattle.smt_semantics.specs.Samples.{SampleIsScript, EnumSampleIsScript, RecordSampleIsScript, LevelSampleIsScript, SortedSamples, gone_sample, body_sample, UseBeforeDeclarationIsNone, TwiceDeclaredIsNone, BuiltInDeclaredIsNone, EscapesDecode, OperatorsGive, SelectorsSampled}
+use Rattle.smt_semantics.proofs.Commands.{one_list_of_commands}
 use Rattle.smt_semantics.proofs.Lines.{lines_add, comments_add, names_write, comments_are_lines}
 use Rattle.smt_semantics.proofs.First.{declare_const_line, define_fun_line, assert_line, applied_text, option_is_line}
-use Rattle.smt_semantics.proofs.Laid.{groups_write, selectors_write, datatype_line, plain_lines, commands_extend}
-use Rattle.smt_semantics.proofs.Extend.{comments_extend}
+use Rattle.smt_semantics.proofs.Going.{goes, comment_goes, begins}
+use Rattle.smt_semantics.proofs.Laid.{groups_write, selectors_write, datatype_line, plain_lines}
 use Rattle.smt_semantics.proofs.Ranks.{same_is_equal}
 
 nothing : Script [] start
@@ -46,7 +51,8 @@ twice_declared s h =
     none_is t e = cc
 
 pub escapes_decode : EscapesDecode
-escapes_decode = (refl, refl, record { spaces = refl; digits = refl; hexadecimal = refl; symbols = refl; no_pieces = refl; spelled = refl; longest = refl; cut_short = refl; tokens_of = refl; last_escape = refl; in_scripts = refl; in_no_script = refl })
+unfolding is_utf8 chars encode_utf8
+escapes_decode = (refl, refl, record { spaces = refl; digits = refl; hexadecimal = refl; symbols = refl; utf8 = refl; no_pieces = refl; spelled = refl; longest = refl; cut_short = refl; tokens_of = refl; last_escape = refl; in_scripts = refl; in_no_script = refl })
 
 last_state : State
 last_state = record {
@@ -73,16 +79,13 @@ sample_is_script =
 
 -- ---- more samples
 
-begins : Stands [] start
-begins = record { whole = tt; script = nothing; running = refl }
-
 none_is : (t : State) → None ≡ Some t → ⊥
 none_is t e = cc
 
-named : (n : List ℕ) → IsTrue (is_name n) → Writes n (name n)
+named : (n : List ℕ) → IsTrue (is_name n) → ReadsAs n (name n)
 named n h = names_write n h
 
-equation : (a b : List ℕ) → IsTrue (is_name a) → IsTrue (is_name b) → Writes (codes "(" ++ (codes "=" ++ (codes " " ++ (a ++ (codes " " ++ (b ++ codes ")")))))) (group (name (codes "=") ∷ name a ∷ name b ∷ []))
+equation : (a b : List ℕ) → IsTrue (is_name a) → IsTrue (is_name b) → ReadsAs (codes "(" ++ (codes "=" ++ (codes " " ++ (a ++ (codes " " ++ (b ++ codes ")")))))) (group (name (codes "=") ∷ name a ∷ name b ∷ []))
 equation a b h k = groups_write (codes "=") (name (codes "=")) (record { text = a; expr = name a } ∷ record { text = b; expr = name b } ∷ []) [] (names_write (codes "=") refl) (names_write a h, (names_write b k, tt)) refl
 
 enum_line : IsLine (codes "(declare-datatype E0 (\n  (E0_m0)\n  (E0_m1)))\n") (DeclareDatatype (codes "E0") [] (record { name = codes "E0_m0"; selectors = [] } ∷ record { name = codes "E0_m1"; selectors = [] } ∷ []) ∷ [])
@@ -115,21 +118,15 @@ second = ConstructorOf 1 (codes "E0_m1") no_script_values
 pub enum_sample_is_script : EnumSampleIsScript
 unfolding enum_state second
 enum_sample_is_script =
-    let a = commands_extend [] option_lines option_command start _ begins option_is_line refl refl in
-    let b = comments_extend _ (codes " Color::[a, b]") _ a refl in
-    let c = commands_extend _ (codes "(declare-datatype E0 (\n  (E0_m0)\n  (E0_m1)))\n") _ _ _ b enum_line refl refl in
-    let d = comments_extend _ (codes " \"c\"") _ c refl in
-    let e = commands_extend _ (codes "(declare-const t0 E0)\n") _ _ _ d (declare_const_line (codes "t0") (codes "E0") (name (codes "E0")) refl (names_write (codes "E0") refl)) refl refl in
-    let f = commands_extend _ (codes "(define-fun t2 () Bool (= t0 E0_m1))\n") _ _ _ e (define_fun_line (codes "t2") (codes "Bool") (codes "(= t0 E0_m1)") (name (codes "Bool")) _ refl (names_write (codes "Bool") refl) (equation (codes "t0") (codes "E0_m1") refl refl)) refl refl in
-    let g = commands_extend _ (codes "(assert t2)\n") _ _ _ f (assert_line (codes "t2") (name (codes "t2")) (names_write (codes "t2") refl)) refl refl in
-    (enum_state, g.script, refl, sorted, λ j h. only j h, λ j h. (interprets j h, All-from_recursion (λ x. expression_value j enum_state x ≡ Some (TruthOf true)) (assertions_of enum_state) (rw h refl, tt)))
+    let a = goes [] option_lines option_command start _ begins option_is_line refl tt in
+    let b = comment_goes _ (codes " Color::[a, b]") _ a refl in
+    let c = goes _ (codes "(declare-datatype E0 (\n  (E0_m0)\n  (E0_m1)))\n") _ _ _ b enum_line refl tt in
+    let d = comment_goes _ (codes " \"c\"") _ c refl in
+    let e = goes _ (codes "(declare-const t0 E0)\n") _ _ _ d (declare_const_line (codes "t0") (codes "E0") (name (codes "E0")) refl (names_write (codes "E0") refl)) refl tt in
+    let f = goes _ (codes "(define-fun t2 () Bool (= t0 E0_m1))\n") _ _ _ e (define_fun_line (codes "t2") (codes "Bool") (codes "(= t0 E0_m1)") (name (codes "Bool")) _ refl (names_write (codes "Bool") refl) (equation (codes "t0") (codes "E0_m1") refl refl)) refl refl in
+    let g = goes _ (codes "(assert t2)\n") _ _ _ f (assert_line (codes "t2") (name (codes "t2")) (names_write (codes "t2") refl)) refl refl in
+    (enum_state, g.sorted, refl, λ j h. only j h, λ j h. (interprets j h, All-from_recursion (λ x. expression_value j enum_state x ≡ Some (TruthOf true)) (assertions_of enum_state) (rw h refl, tt)))
   where
-    sorted : IsWellSorted enum_state
-    sorted = record {
-      bodies = All-from_recursion (λ p. IsBodyWellSorted enum_state p) (names_of enum_state) (refl, (tt, (tt, (tt, (tt, (tt, (tt, tt)))))));
-      assertions = All-from_recursion (λ e. sort_of enum_state e ≡ Some bool_sort) (assertions_of enum_state) (refl, tt);
-    }
-
     only : (j : ScriptInterpretation) → IsModel j enum_state → j.constants (codes "t0") ≡ second
     only j h = (same_is_equal (j.constants (codes "t0")) second).0 (truth_is (same (j.constants (codes "t0")) second) (recursion_from_All (λ x. expression_value j enum_state x ≡ Some (TruthOf true)) (assertions_of enum_state) h).0)
 
@@ -225,22 +222,16 @@ one_record v h = absurd (false≢true h)
 pub record_sample_is_script : RecordSampleIsScript
 unfolding record_state the_record
 record_sample_is_script =
-    let a = commands_extend [] option_lines option_command start _ begins option_is_line refl refl in
-    let b = comments_extend _ (codes " {}") _ a refl in
-    let c = commands_extend _ (codes "(declare-datatype R0 (\n  (R0 )))\n") _ _ _ b record_line refl refl in
-    let d = comments_extend _ (codes " \"r\"") _ c refl in
-    let e = commands_extend _ (codes "(declare-const t0 R0)\n") _ _ _ d (declare_const_line (codes "t0") (codes "R0") (name (codes "R0")) refl (names_write (codes "R0") refl)) refl refl in
-    let f = commands_extend _ (codes "(define-fun t1 () R0 R0)\n") _ _ _ e (define_fun_line (codes "t1") (codes "R0") (codes "R0") (name (codes "R0")) _ refl (names_write (codes "R0") refl) (names_write (codes "R0") refl)) refl refl in
-    let g = commands_extend _ (codes "(define-fun t2 () Bool (= t0 t1))\n") _ _ _ f (define_fun_line (codes "t2") (codes "Bool") (codes "(= t0 t1)") (name (codes "Bool")) _ refl (names_write (codes "Bool") refl) (equation (codes "t0") (codes "t1") refl refl)) refl refl in
-    let i = commands_extend _ (codes "(assert t2)\n") _ _ _ g (assert_line (codes "t2") (name (codes "t2")) (names_write (codes "t2") refl)) refl refl in
-    (record_state, i.script, refl, sorted, λ j h. interprets j h, λ j h. every j h)
+    let a = goes [] option_lines option_command start _ begins option_is_line refl tt in
+    let b = comment_goes _ (codes " {}") _ a refl in
+    let c = goes _ (codes "(declare-datatype R0 (\n  (R0 )))\n") _ _ _ b record_line refl tt in
+    let d = comment_goes _ (codes " \"r\"") _ c refl in
+    let e = goes _ (codes "(declare-const t0 R0)\n") _ _ _ d (declare_const_line (codes "t0") (codes "R0") (name (codes "R0")) refl (names_write (codes "R0") refl)) refl tt in
+    let f = goes _ (codes "(define-fun t1 () R0 R0)\n") _ _ _ e (define_fun_line (codes "t1") (codes "R0") (codes "R0") (name (codes "R0")) _ refl (names_write (codes "R0") refl) (names_write (codes "R0") refl)) refl refl in
+    let g = goes _ (codes "(define-fun t2 () Bool (= t0 t1))\n") _ _ _ f (define_fun_line (codes "t2") (codes "Bool") (codes "(= t0 t1)") (name (codes "Bool")) _ refl (names_write (codes "Bool") refl) (equation (codes "t0") (codes "t1") refl refl)) refl refl in
+    let i = goes _ (codes "(assert t2)\n") _ _ _ g (assert_line (codes "t2") (name (codes "t2")) (names_write (codes "t2") refl)) refl refl in
+    (record_state, i.sorted, refl, λ j h. interprets j h, λ j h. every j h)
   where
-    sorted : IsWellSorted record_state
-    sorted = record {
-      bodies = All-from_recursion (λ p. IsBodyWellSorted record_state p) (names_of record_state) (refl, (refl, (tt, (tt, (tt, (tt, (tt, tt)))))));
-      assertions = All-from_recursion (λ e. sort_of record_state e ≡ Some bool_sort) (assertions_of record_state) (refl, tt);
-    }
-
     interprets : (j : ScriptInterpretation) → j.constants (codes "t0") ≡ the_record → IsScriptInterpretation j record_state
     interprets j h = record {
       declared = All-from_recursion (λ p. IsTrue (is_entry_given j (entries record_state) p.0 p.1)) (names_of record_state) (refl, (refl, (rw h refl, (refl, (refl, (refl, (refl, tt)))))));
@@ -266,24 +257,67 @@ level_state = record {
 pub level_sample_is_script : LevelSampleIsScript
 unfolding level_state
 level_sample_is_script =
-    let a = commands_extend [] option_lines option_command start _ begins option_is_line refl refl in
-    let b = comments_extend _ (codes " \"b\"") _ a refl in
-    let c = commands_extend _ (codes "(declare-const t0 Bool)\n") _ _ _ b (declare_const_line (codes "t0") (codes "Bool") (name (codes "Bool")) refl (names_write (codes "Bool") refl)) refl refl in
-    let d = commands_extend _ (codes "(assert t0)\n") _ _ _ c (assert_line (codes "t0") (name (codes "t0")) (names_write (codes "t0") refl)) refl refl in
-    let e = commands_extend _ (codes "(push 1)\n") _ _ _ d plain_lines.4 refl refl in
-    let f = commands_extend _ (codes "(define-fun t1 () Bool (not t0))\n") _ _ _ e (define_fun_line (codes "t1") (codes "Bool") (codes "(not t0)") (name (codes "Bool")) _ refl (names_write (codes "Bool") refl) (applied_text (codes "not") (codes "t0") (name (codes "t0")) refl (names_write (codes "t0") refl))) refl refl in
-    let g = commands_extend _ (codes "(assert t1)\n") _ _ _ f (assert_line (codes "t1") (name (codes "t1")) (names_write (codes "t1") refl)) refl refl in
-    let h = commands_extend _ (codes "(pop 1)\n") _ _ _ g plain_lines.5 refl refl in
-    let i = comments_extend _ (codes " \"c\"") _ h refl in
-    let k = commands_extend _ (codes "(declare-const t1 Bool)\n") _ _ _ i (declare_const_line (codes "t1") (codes "Bool") (name (codes "Bool")) refl (names_write (codes "Bool") refl)) refl refl in
-    let l = commands_extend _ (codes "(assert t1)\n") _ _ _ k (assert_line (codes "t1") (name (codes "t1")) (names_write (codes "t1") refl)) refl refl in
-    (level_state, l.script, refl, sorted, λ t p. none_is t ((lines_add _ (codes "(pop 1)\n") Pop level_state t l.whole l.script plain_lines.5).1 p))
+    let a = goes [] option_lines option_command start _ begins option_is_line refl tt in
+    let b = comment_goes _ (codes " \"b\"") _ a refl in
+    let c = goes _ (codes "(declare-const t0 Bool)\n") _ _ _ b (declare_const_line (codes "t0") (codes "Bool") (name (codes "Bool")) refl (names_write (codes "Bool") refl)) refl tt in
+    let d = goes _ (codes "(assert t0)\n") _ _ _ c (assert_line (codes "t0") (name (codes "t0")) (names_write (codes "t0") refl)) refl refl in
+    let e = goes _ (codes "(push 1)\n") _ _ _ d plain_lines.4 refl tt in
+    let f = goes _ (codes "(define-fun t1 () Bool (not t0))\n") _ _ _ e (define_fun_line (codes "t1") (codes "Bool") (codes "(not t0)") (name (codes "Bool")) _ refl (names_write (codes "Bool") refl) (applied_text (codes "not") (codes "t0") (name (codes "t0")) refl (names_write (codes "t0") refl))) refl refl in
+    let g = goes _ (codes "(assert t1)\n") _ _ _ f (assert_line (codes "t1") (name (codes "t1")) (names_write (codes "t1") refl)) refl refl in
+    let h = goes _ (codes "(pop 1)\n") _ _ _ g plain_lines.5 refl tt in
+    let i = comment_goes _ (codes " \"c\"") _ h refl in
+    let k = goes _ (codes "(declare-const t1 Bool)\n") _ _ _ i (declare_const_line (codes "t1") (codes "Bool") (name (codes "Bool")) refl (names_write (codes "Bool") refl)) refl tt in
+    let l = goes _ (codes "(assert t1)\n") _ _ _ k (assert_line (codes "t1") (name (codes "t1")) (names_write (codes "t1") refl)) refl refl in
+    (level_state, l.sorted, refl, λ t p. none_is t ((lines_add _ (codes "(pop 1)\n") Pop level_state t l.whole l.sorted.script plain_lines.5).1 p))
+
+abbrev gone_pieces : List ℕ → List Piece
+gone_pieces sort =
+    Open ∷ Symbol (codes "push") ∷ Space 32 ∷ Numeral (codes "1") ∷ Close ∷ Space 10
+    ∷ Open ∷ Symbol (codes "declare-const") ∷ Space 32 ∷ Symbol (codes "t0") ∷ Space 32 ∷ Symbol sort ∷ Close ∷ Space 10
+    ∷ Open ∷ Symbol (codes "assert") ∷ Space 32 ∷ Symbol (codes "t0") ∷ Close ∷ Space 10
+    ∷ Open ∷ Symbol (codes "pop") ∷ Space 32 ∷ Numeral (codes "1") ∷ Close ∷ Space 10 ∷ []
+
+abbrev gone_commands : List ℕ → List Command
+gone_commands sort = Push ∷ DeclareConst (codes "t0") (name sort) ∷ Assert (name (codes "t0")) ∷ Pop ∷ []
+
+truths_hold : Holds (gone_sample (codes "Bool")) (gone_commands (codes "Bool"))
+unfolding is_utf8 chars encode_utf8
+truths_hold = record { reads = record { pieces = gone_pieces (codes "Bool"); cut = record { spelled = refl; longest = refl }; tokens_are = refl }; plain = refl }
+
+texts_hold : Holds (gone_sample (codes "String")) (gone_commands (codes "String"))
+unfolding is_utf8 chars encode_utf8
+texts_hold = record { reads = record { pieces = gone_pieces (codes "String"); cut = record { spelled = refl; longest = refl }; tokens_are = refl }; plain = refl }
+
+abbrev body_command : Command
+body_command = DefineFun (codes "t0") bool_sort (Leaf (Text []))
+
+body_holds : Holds body_sample (body_command ∷ [])
+unfolding is_utf8 chars encode_utf8
+body_holds = record {
+  reads = record {
+    pieces = Open ∷ Symbol (codes "define-fun") ∷ Space 32 ∷ Symbol (codes "t0") ∷ Space 32 ∷ Open ∷ Close ∷ Space 32 ∷ Symbol (codes "Bool") ∷ Space 32 ∷ Quoted [] ∷ Close ∷ Space 10 ∷ [];
+    cut = record { spelled = refl; longest = refl };
+    tokens_are = refl;
+  };
+  plain = refl;
+}
+
+pub sorted_samples : SortedSamples
+sorted_samples = record {
+  sorted = record { script = record { commands = gone_commands (codes "Bool"); holds = truths_hold; runs = refl }; sorted = (tt, (tt, (refl, (tt, tt)))) };
+  ill_sorted = (
+    record { commands = gone_commands (codes "String"); holds = texts_hold; runs = refl },
+    λ s h. text_is_truth (are_sorted (gone_sample (codes "String")) (gone_commands (codes "String")) s texts_hold h).1.1.0,
+  );
+  body = (_, (record { commands = body_command ∷ []; holds = body_holds; runs = refl }, λ s h. text_is_truth (are_sorted body_sample (body_command ∷ []) s body_holds h).0));
+}
   where
-    sorted : IsWellSorted level_state
-    sorted = record {
-      bodies = All-from_recursion (λ p. IsBodyWellSorted level_state p) (names_of level_state) (tt, (tt, (tt, (tt, (tt, tt)))));
-      assertions = All-from_recursion (λ e. sort_of level_state e ≡ Some bool_sort) (assertions_of level_state) (refl, (refl, tt));
-    }
+    -- a text has one list of commands
+    are_sorted : (text : List ℕ) (cs : List Command) (s : State) → Holds text cs → SortedScript text s → AreSorted cs start
+    are_sorted text cs s p h = subst (λ (ds : List Command). AreSorted ds start) (one_list_of_commands text h.script.commands cs h.script.holds p) h.sorted
+
+    text_is_truth : Some string_sort ≡ Some bool_sort → ⊥
+    text_is_truth e = false≢true (ap (λ (o : Option Expression). elim o [ Some sort ↦ same_sort sort bool_sort | None ↦ false ]) e)
 
 asserted : (s : State) → run (Assert (name (codes "true")) ∷ Push ∷ Assert (name (codes "false")) ∷ Push ∷ Assert (name (codes "true")) ∷ []) start ≡ Some s
     → assertions_of s ≡ name (codes "true") ∷ name (codes "false") ∷ name (codes "true") ∷ []

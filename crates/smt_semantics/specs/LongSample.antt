@@ -3,7 +3,7 @@ use Rattle.std.specs.Prelude.{◌≡◌, ℕ, codes, List, [], ◌∷◌, ◌++�
 use Rattle.smt_semantics.specs.Script.{State, name, assertions_of}
 use Rattle.smt_semantics.specs.Value.{free_names}
 use Rattle.smt_semantics.specs.Written.{option_lines}
-use Rattle.smt_semantics.specs.Texts.{SortedScript}
+use Rattle.smt_semantics.specs.CommandLines.{SortedScript}
 
 abbrev pub long_sample : List ℕ
 long_sample = option_lines

@@ -1,15 +1,16 @@
 -- What declared names and operators give where they are applied, and what a datatype leaves.
-use Rattle.std.specs.Prelude.{◌≡◌, ℕ, suc, Bool, true, false, not, ◌&&◌, ◌||◌, ◌==◌, codes, bytes_eq, length, map, List, [], ◌∷◌, ◌++◌, Option, Some}
-use Rattle.std.specs.List.{list_all, list_any}
+use Rattle.std.specs.Prelude.{◌≡◌, ℕ, suc, Bool, true, not, ◌&&◌, ◌||◌, ◌==◌, codes, bytes_eq, length, map, List, [], ◌∷◌, ◌++◌, Option, Some}
+use Rattle.std.specs.List.{list_all, AllByRecursion}
 use Rattle.smt_term.specs.Plain.{PatternPart, PlainOp, StringLikeOp, ZeroExtendOp}
 use Rattle.smt_semantics.specs.ScriptValues.{ScriptValue, TruthOf, ConstructorOf, SetOf, ScriptValues, no_script_values}
 use Rattle.smt_sexpr.specs.Reading.{Expression, Leaf, expressions}
 use Rattle.smt_sexpr.specs.Lexicon.{Number}
-use Rattle.smt_semantics.specs.Script.{Command, DeclareDatatype, Reset, Push, Pop, Constructor, Entry, Function, Builds, Selects, State, group, name, built_in_names, is_in, is_reserved, is_taken, is_taken_sort, is_sort, has_sort, names_of, pattern, operator_of, with_sort, obey, step, ◌>>=◌}
-use Rattle.smt_semantics.specs.Sorts.{entries, entry_sort, each_there, sorts_in, sort_of, operator_sort, insert_sort}
+use Rattle.smt_semantics.specs.ScriptOperators.{script_name, theory_operators}
+use Rattle.smt_semantics.specs.Script.{Command, DeclareDatatype, Reset, Push, Pop, Constructor, Entry, Function, Builds, Selects, State, group, name, built_in_names, is_in, is_reserved, is_taken, is_new_datatype, is_sort, has_sort, names_of, pattern, operator_of, with_sort, obey, step, ◌>>=◌}
+use Rattle.smt_semantics.specs.Sorts.{entries, entry_sort, each_there, sorts_in, expression_sort, operator_sort, insert_sort}
 use Rattle.smt_semantics.specs.Value.{ScriptInterpretation, expression_value, meaning, evaluate_each, operator_value, script_values, in_table, selected, inserted}
 
--- neither built in nor a word of the grammar
+-- neither built in nor reserved
 abbrev pub is_own : List ℕ → Bool
 is_own n = not (is_in n built_in_names || is_reserved n)
 
@@ -19,20 +20,25 @@ argument_values j s es = each_there (evaluate_each (entries s) (meaning j (names
 abbrev pub argument_sorts : State → List Expression → Option (List Expression)
 argument_sorts s es = each_there (sorts_in (entries s) (expressions es))
 
+-- Each operator of a theory is found by its name, and what is found by a name has that name.
+pub record OperatorsAreFoundBySpelling : Type 0 where
+  pub found : AllByRecursion (λ op. operator_of (script_name op) ≡ Some op) theory_operators
+  pub spelled : (n : List ℕ) (op : PlainOp) → operator_of n ≡ Some op → n ≡ script_name op
+
 -- `(op x ..)`
 abbrev pub OperatorsApply : Type 0
 OperatorsApply = (j : ScriptInterpretation) (s : State) (f : List ℕ) (op : PlainOp) (es : List Expression) → operator_of f ≡ Some op
-    → (expression_value j s (group (name f ∷ es)) ≡ (argument_values j s es >>= operator_value op)) × (sort_of s (group (name f ∷ es)) ≡ (argument_sorts s es >>= operator_sort op))
+    → (expression_value j s (group (name f ∷ es)) ≡ (argument_values j s es >>= operator_value op)) × (expression_sort s (group (name f ∷ es)) ≡ (argument_sorts s es >>= operator_sort op))
 
 -- `(c x ..)` for a constructor, `(f x)` for a function, `(s x)` for a selector
 abbrev pub ConstructorsApply : Type 0
-ConstructorsApply = (j : ScriptInterpretation) (s : State) (c d : List ℕ) (ps : List (List ℕ)) (place : ℕ) (fields es : List Expression) (vs : List ScriptValue) → is_own c ≡ true
-    → entries s c ≡ Some (Builds d ps place fields) → argument_values j s es ≡ Some vs → (length vs == length fields) ≡ true
-    → expression_value j s (group (name c ∷ es)) ≡ Some (ConstructorOf place c (script_values vs))
+ConstructorsApply = (j : ScriptInterpretation) (s : State) (c d : List ℕ) (ps : List (List ℕ)) (place : ℕ) (fields : List Expression) (e : Expression) (es : List Expression) (vs : List ScriptValue) → is_own c ≡ true
+    → entries s c ≡ Some (Builds d ps place fields) → argument_values j s (e ∷ es) ≡ Some vs → (length vs == length fields) ≡ true
+    → expression_value j s (group (name c ∷ e ∷ es)) ≡ Some (ConstructorOf place c (script_values vs))
 
 -- a constructor without arguments, by its name alone
-abbrev pub ConstructorsStand : Type 0
-ConstructorsStand = (j : ScriptInterpretation) (s : State) (c d : List ℕ) (ps : List (List ℕ)) (place : ℕ) → is_own c ≡ true
+abbrev pub BareConstructorsHaveValues : Type 0
+BareConstructorsHaveValues = (j : ScriptInterpretation) (s : State) (c d : List ℕ) (ps : List (List ℕ)) (place : ℕ) → is_own c ≡ true
     → entries s c ≡ Some (Builds d ps place []) → expression_value j s (name c) ≡ Some (ConstructorOf place c (script_values []))
 
 abbrev pub FunctionsApply : Type 0
@@ -41,12 +47,12 @@ FunctionsApply = (j : ScriptInterpretation) (s : State) (f : List ℕ) (argument
 
 abbrev pub SelectorsApply : Type 0
 SelectorsApply = (j : ScriptInterpretation) (s : State) (f d : List ℕ) (ps : List (List ℕ)) (c : List ℕ) (place : ℕ) (field e : Expression) (v : ScriptValue) → is_own f ≡ true
-    → entries s f ≡ Some (Selects d ps c place field) → expression_value j s e ≡ Some v → expression_value j s (group (name f ∷ e ∷ [])) ≡ selected j f ps c place (sort_of s e) v
+    → entries s f ≡ Some (Selects d ps c place field) → expression_value j s e ≡ Some v → expression_value j s (group (name f ∷ e ∷ [])) ≡ selected j f d ps c place (expression_sort s e) v
 
 -- the sort of an application
 abbrev pub ApplicationsHaveSorts : Type 0
-ApplicationsHaveSorts = (s : State) (f : List ℕ) (x : Entry) (es : List Expression) → is_own f ≡ true → entries s f ≡ Some x
-    → sort_of s (group (name f ∷ es)) ≡ (argument_sorts s es >>= entry_sort x)
+ApplicationsHaveSorts = (s : State) (f : List ℕ) (x : Entry) (e : Expression) (es : List Expression) → is_own f ≡ true → entries s f ≡ Some x
+    → expression_sort s (group (name f ∷ e ∷ es)) ≡ (argument_sorts s (e ∷ es) >>= entry_sort x)
 
 -- ---- what a datatype leaves
 
@@ -77,7 +83,7 @@ are_fields s ps xs = list_all (λ x. is_sort (λ n k. has_sort s n k || (is_in n
 
 abbrev pub DatatypesLeave : Type 0
 DatatypesLeave = (d : List ℕ) (ps : List (List ℕ)) (cs : List Constructor) (s : State)
-    → (is_taken_sort s d || list_any (is_taken_sort s) ps) ≡ false → are_new s (names_in cs) ≡ true → list_all (λ c. are_fields s ps c.selectors) cs ≡ true
+    → is_new_datatype s d ps cs ≡ true → are_new s (names_in cs) ≡ true → list_all (λ c. are_fields s ps c.selectors) cs ≡ true
     → obey (DeclareDatatype d ps cs) s ≡ Some (with_sort d (length ps) (with_names (constructors_named d ps 0 cs s.last.names) s))
 
 -- ---- levels
@@ -92,9 +98,15 @@ PopsGiveBack = (s t : State) → t.below ≡ s.last ∷ s.below → t.ended ≡ 
 
 -- ---- the other forms
 
-abbrev pub indexed_by : List ℕ → Expression → Expression → Expression
-indexed_by f index e = group (group (name (codes "_") ∷ name f ∷ index ∷ []) ∷ e ∷ [])
+-- `(_ f index)`
+abbrev pub indexed_name : List ℕ → Expression → Expression
+indexed_name f index = group (name (codes "_") ∷ name f ∷ index ∷ [])
 
+-- `((_ f index) e)`
+abbrev pub indexed_by : List ℕ → Expression → Expression → Expression
+indexed_by f index e = group (indexed_name f index ∷ e ∷ [])
+
+-- `(as c sort)`
 abbrev pub as_sort : List ℕ → Expression → Expression
 as_sort c sort = group (name (codes "as") ∷ name c ∷ sort ∷ [])
 
@@ -102,7 +114,7 @@ as_sort c sort = group (name (codes "as") ∷ name c ∷ sort ∷ [])
 abbrev pub ExtensionsApply : Type 0
 ExtensionsApply = (j : ScriptInterpretation) (s : State) (k : ℕ) (e : Expression)
     → (expression_value j s (indexed_by (codes "zero_extend") (Leaf (Number k)) e) ≡ (expression_value j s e >>= λ v. operator_value (ZeroExtendOp k) (v ∷ [])))
-    × (sort_of s (indexed_by (codes "zero_extend") (Leaf (Number k)) e) ≡ (sort_of s e >>= λ t. operator_sort (ZeroExtendOp k) (t ∷ [])))
+    × (expression_sort s (indexed_by (codes "zero_extend") (Leaf (Number k)) e) ≡ (expression_sort s e >>= λ t. operator_sort (ZeroExtendOp k) (t ∷ [])))
 
 -- `((_ is c) x)`
 abbrev pub TestsApply : Type 0
@@ -113,15 +125,15 @@ TestsApply = (j : ScriptInterpretation) (s : State) (c d : List ℕ) (ps : List 
 abbrev pub MatchesApply : Type 0
 MatchesApply = (j : ScriptInterpretation) (s : State) (e r : Expression) (p : List PatternPart) → pattern r ≡ Some p
     → (expression_value j s (group (name (codes "str.in_re") ∷ e ∷ r ∷ [])) ≡ (expression_value j s e >>= λ v. operator_value (StringLikeOp p) (v ∷ [])))
-    × (sort_of s (group (name (codes "str.in_re") ∷ e ∷ r ∷ [])) ≡ (sort_of s e >>= λ t. operator_sort (StringLikeOp p) (t ∷ [])))
+    × (expression_sort s (group (name (codes "str.in_re") ∷ e ∷ r ∷ [])) ≡ (expression_sort s e >>= λ t. operator_sort (StringLikeOp p) (t ∷ [])))
 
 -- `(as none S)`, `(as set.empty S)`, `(set.insert x .. s)`
-abbrev pub NonesStand : Type 0
-NonesStand = (j : ScriptInterpretation) (s : State) (d : List ℕ) (ps : List (List ℕ)) (place : ℕ) (sort : Expression)
+abbrev pub NonesHaveValues : Type 0
+NonesHaveValues = (j : ScriptInterpretation) (s : State) (d : List ℕ) (ps : List (List ℕ)) (place : ℕ) (sort : Expression)
     → entries s (codes "none") ≡ Some (Builds d ps place []) → expression_value j s (as_sort (codes "none") sort) ≡ Some (ConstructorOf place (codes "none") no_script_values)
 
-abbrev pub SetsStand : Type 0
-SetsStand = (j : ScriptInterpretation) (s : State) (sort : Expression) (es : List Expression)
+abbrev pub SetsHaveValues : Type 0
+SetsHaveValues = (j : ScriptInterpretation) (s : State) (sort x y : Expression) (es : List Expression)
     → (expression_value j s (as_sort (codes "set.empty") sort) ≡ Some (SetOf no_script_values))
-    × (expression_value j s (group (name (codes "set.insert") ∷ es)) ≡ (argument_values j s es >>= inserted))
-    × (sort_of s (group (name (codes "set.insert") ∷ es)) ≡ (argument_sorts s es >>= insert_sort))
+    × (expression_value j s (group (name (codes "set.insert") ∷ x ∷ y ∷ es)) ≡ (argument_values j s (x ∷ y ∷ es) >>= inserted))
+    × (expression_sort s (group (name (codes "set.insert") ∷ x ∷ y ∷ es)) ≡ (argument_sorts s (x ∷ y ∷ es) >>= insert_sort))

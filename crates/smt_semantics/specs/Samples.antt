@@ -4,10 +4,10 @@ use Rattle.smt_semantics.specs.ScriptValues.{ScriptValue, TruthOf, BitsOf, TextO
 use Rattle.smt_sexpr.specs.Lexicon.{is_space, is_digit, is_hexadecimal, Piece, Space, Comment, Open, Close, Quoted, Binary, Hexadecimal, Numeral, Symbol, is_symbol, is_piece, spell, each_longest, decoded, Bits, Number, Text, Name, Begin, End, Word, tokens, in_script}
 use Rattle.smt_sexpr.specs.Reading.{Expression, Leaf}
 use Rattle.smt_semantics.specs.Script.{State, Script, Command, DeclareDatatype, DeclareConst, DefineFun, Assert, DeclareFun, Reset, Exit, Push, Pop, Builds, start, empty_level, run, name, group, look_up, assertions_of}
-use Rattle.smt_semantics.specs.Sorts.{Entries, IsWellSorted, bit_sort, bool_sort, string_sort, set_sort, option_sort, sort_in, has_sort_in}
+use Rattle.smt_semantics.specs.Sorts.{Entries, bit_sort, bool_sort, string_sort, set_sort, option_sort, sort_in, has_sort_in}
 use Rattle.smt_semantics.specs.Value.{Table, ScriptInterpretation, Meaning, IsScriptInterpretation, IsModel, applied_selectors, in_table, expression_value, evaluate, is_table, is_other}
 use Rattle.smt_semantics.specs.Written.{option_lines, option_command}
-use Rattle.smt_semantics.specs.Texts.{AreSorted}
+use Rattle.smt_semantics.specs.CommandLines.{AreSorted, SortedScript}
 use Rattle.smt_semantics.specs.Meanings.{indexed_by}
 
 abbrev pub sample : List ℕ
@@ -26,7 +26,7 @@ enum_sample = option_lines ++ (codes "; Color::[a, b]\n" ++ (codes "(declare-dat
 
 -- its models are just those in which t0 is that member, and one is there
 abbrev pub EnumSampleIsScript : Type 0
-EnumSampleIsScript = (s : State) × Script enum_sample s × (assertions_of s ≡ name (codes "t2") ∷ []) × IsWellSorted s
+EnumSampleIsScript = (s : State) × SortedScript enum_sample s × (assertions_of s ≡ name (codes "t2") ∷ [])
     × ((j : ScriptInterpretation) → IsModel j s → j.constants (codes "t0") ≡ ConstructorOf 1 (codes "E0_m1") no_script_values)
     × ((j : ScriptInterpretation) → j.constants (codes "t0") ≡ ConstructorOf 1 (codes "E0_m1") no_script_values → IsScriptInterpretation j s × IsModel j s)
 
@@ -36,7 +36,7 @@ record_sample = option_lines ++ (codes "; {}\n" ++ (codes "(declare-datatype R0 
     ++ (codes "(declare-const t0 R0)\n" ++ (codes "(define-fun t1 () R0 R0)\n" ++ (codes "(define-fun t2 () Bool (= t0 t1))\n" ++ codes "(assert t2)\n"))))))
 
 abbrev pub RecordSampleIsScript : Type 0
-RecordSampleIsScript = (s : State) × Script record_sample s × (assertions_of s ≡ name (codes "t2") ∷ []) × IsWellSorted s
+RecordSampleIsScript = (s : State) × SortedScript record_sample s × (assertions_of s ≡ name (codes "t2") ∷ [])
     × ((j : ScriptInterpretation) → j.constants (codes "t0") ≡ ConstructorOf 0 (codes "R0") no_script_values → IsScriptInterpretation j s)
     × ((j : ScriptInterpretation) → IsScriptInterpretation j s → (j.constants (codes "t0") ≡ ConstructorOf 0 (codes "R0") no_script_values) × IsModel j s)
 
@@ -46,8 +46,27 @@ level_sample = option_lines ++ (codes "; \"b\"\n" ++ (codes "(declare-const t0 B
     ++ (codes "(assert t1)\n" ++ (codes "(pop 1)\n" ++ (codes "; \"c\"\n" ++ (codes "(declare-const t1 Bool)\n" ++ codes "(assert t1)\n")))))))))
 
 abbrev pub LevelSampleIsScript : Type 0
-LevelSampleIsScript = (s : State) × Script level_sample s × (assertions_of s ≡ name (codes "t0") ∷ name (codes "t1") ∷ []) × IsWellSorted s
+LevelSampleIsScript = (s : State) × SortedScript level_sample s × (assertions_of s ≡ name (codes "t0") ∷ name (codes "t1") ∷ [])
     × ((t : State) → Script (level_sample ++ codes "(pop 1)\n") t → ⊥)
+
+-- a constant of this sort and an assertion on it, in a level that goes
+abbrev pub gone_sample : List ℕ → List ℕ
+gone_sample sort = codes "(push 1)\n" ++ (codes "(declare-const t0 " ++ (sort ++ (codes ")\n" ++ (codes "(assert t0)\n" ++ codes "(pop 1)\n"))))
+
+-- a definition whose body is of another sort
+abbrev pub body_sample : List ℕ
+body_sample = codes "(define-fun t0 () Bool \"\")\n"
+
+-- a script that comes to this state, and is not well sorted
+abbrev pub IsIllSorted : List ℕ → State → Type 0
+IsIllSorted text s = Script text s × ((t : State) → SortedScript text t → ⊥)
+
+pub record SortedSamples : Type 0 where
+  -- Both leave nothing, so the last state does not tell which one is well sorted. The assertion on a Bool is, though its
+  -- constant is gone at the end. The assertion on a String is not, though it is gone itself.
+  pub sorted : SortedScript (gone_sample (codes "Bool")) start
+  pub ill_sorted : IsIllSorted (gone_sample (codes "String")) start
+  pub body : (s : State) × IsIllSorted body_sample s
 
 -- a name that nothing declares is used
 abbrev pub UseBeforeDeclarationIsNone : Type 0
@@ -79,7 +98,7 @@ pub record CommandRows : Type 0 where
       ≡ true ∷ true ∷ true ∷ true ∷ true ∷ []
   -- a name declared twice, also by another command or in one datatype; a sort declared twice
   pub twice : map is_obeyed ((declare_x ∷ declare_x ∷ []) ∷ (declare_x ∷ DeclareFun (codes "x") bool_sort bool_sort ∷ []) ∷ (declare_x ∷ Push ∷ declare_x ∷ [])
-      ∷ (twice_c ∷ []) ∷ (declare_d [] ∷ DeclareDatatype (codes "d") [] [] ∷ []) ∷ [])
+      ∷ (twice_c ∷ []) ∷ (declare_d [] ∷ DeclareDatatype (codes "d") [] (record { name = codes "e"; selectors = [] } ∷ []) ∷ []) ∷ [])
       ≡ false ∷ false ∷ false ∷ false ∷ false ∷ []
   -- a name that is not there yet, or no longer: in a body, in its own body, in its own datatype, behind `pop`
   pub absent : map is_obeyed ((DefineFun (codes "f") bool_sort (name (codes "x")) ∷ []) ∷ (DefineFun (codes "f") bool_sort (name (codes "f")) ∷ [])
@@ -114,6 +133,8 @@ pub record LexiconRows : Type 0 where
   pub digits : map is_digit (codes "/09:") ≡ false ∷ true ∷ true ∷ false ∷ []
   pub hexadecimal : map is_hexadecimal (codes "09afAF/:@G`g") ≡ true ∷ true ∷ true ∷ true ∷ true ∷ true ∷ false ∷ false ∷ false ∷ false ∷ false ∷ false ∷ []
   pub symbols : map is_symbol (codes "a1" ∷ codes "<=" ∷ codes "1a" ∷ [] ∷ codes "a b" ∷ codes "a;" ∷ codes "a\"" ∷ codes "a(" ∷ []) ≡ true ∷ true ∷ false ∷ false ∷ false ∷ false ∷ false ∷ false ∷ []
+  -- a symbol is UTF-8: e with an accent is two bytes, of which one alone is none
+  pub utf8 : map is_piece (Symbol (195 ∷ 169 ∷ []) ∷ Symbol (97 ∷ 195 ∷ 169 ∷ 49 ∷ []) ∷ Symbol (195 ∷ []) ∷ Symbol (233 ∷ []) ∷ Symbol (97 ∷ 255 ∷ []) ∷ []) ≡ true ∷ true ∷ false ∷ false ∷ false ∷ []
   pub no_pieces : map is_piece (Space 11 ∷ Comment (codes "x\n") ∷ Comment (codes "x\r") ∷ Binary [] ∷ Binary (codes "2") ∷ Hexadecimal (codes "g") ∷ Numeral [] ∷ []) ≡ false ∷ false ∷ false ∷ false ∷ false ∷ false ∷ false ∷ []
   pub spelled : spell mixed_pieces ≡ codes ";x\n(\"a\"\"b\"#b01 #xfFs)"
   pub longest : map each_longest (mixed_pieces ∷ (Comment (codes "x") ∷ Space 13 ∷ []) ∷ (Symbol (codes "a") ∷ Quoted (codes "b") ∷ []) ∷ []) ≡ true ∷ true ∷ true ∷ []
@@ -138,41 +159,41 @@ nothing_there n = None
 abbrev pub nothing_meant : Meaning
 nothing_meant n s vs = None
 
-abbrev pub apply : List ℕ → List Expression → Expression
-apply f es = group (name f ∷ es)
+abbrev pub sample_application : List ℕ → List Expression → Expression
+sample_application f es = group (name f ∷ es)
 
-abbrev pub bits : List ℕ → ℕ → Expression
-bits number width = group (name (codes "_") ∷ name number ∷ Leaf (Number width) ∷ [])
+abbrev pub sample_bits : List ℕ → ℕ → Expression
+sample_bits number width = group (name (codes "_") ∷ name number ∷ Leaf (Number width) ∷ [])
 
-abbrev pub Gives : Expression → Option ScriptValue → Type 0
-Gives e v = evaluate nothing_there nothing_meant e ≡ v
+abbrev pub SampleHasValue : Expression → Option ScriptValue → Type 0
+SampleHasValue e v = evaluate nothing_there nothing_meant e ≡ v
 
 abbrev pub Yes : Expression → Type 0
-Yes e = Gives e (Some (TruthOf true))
+Yes e = SampleHasValue e (Some (TruthOf true))
 
 abbrev pub No : Expression → Type 0
-No e = Gives e (Some (TruthOf false))
+No e = SampleHasValue e (Some (TruthOf false))
 
 abbrev pub two : List ℕ → List ℕ → List ℕ → Expression
-two f a b = apply f (bits a 8 ∷ bits b 8 ∷ [])
+two f a b = sample_application f (sample_bits a 8 ∷ sample_bits b 8 ∷ [])
 
 abbrev pub character : ℕ → Expression
-character c = apply (codes "str.to_re") (Leaf (Text (c ∷ [])) ∷ [])
+character c = sample_application (codes "str.to_re") (Leaf (Text (c ∷ [])) ∷ [])
 
 abbrev pub wildcard : Expression
-wildcard = apply (codes "re.*") (name (codes "re.allchar") ∷ [])
+wildcard = sample_application (codes "re.*") (name (codes "re.allchar") ∷ [])
 
 abbrev pub like : List ℕ → Expression → Expression
-like text r = apply (codes "str.in_re") (Leaf (Text text) ∷ r ∷ [])
+like text r = sample_application (codes "str.in_re") (Leaf (Text text) ∷ r ∷ [])
 
 abbrev pub empty_set : Expression
-empty_set = apply (codes "as") (name (codes "set.empty") ∷ apply (codes "Set") (name (codes "Bool") ∷ []) ∷ [])
+empty_set = sample_application (codes "as") (name (codes "set.empty") ∷ sample_application (codes "Set") (name (codes "Bool") ∷ []) ∷ [])
 
 abbrev pub truths : List ℕ → Expression → Expression → Expression
-truths f a b = apply f (a ∷ b ∷ [])
+truths f a b = sample_application f (a ∷ b ∷ [])
 
 abbrev pub set_of : List Expression → Expression
-set_of es = apply (codes "set.insert") (es ++ empty_set ∷ [])
+set_of es = sample_application (codes "set.insert") (es ++ empty_set ∷ [])
 
 abbrev pub t : Expression
 t = name (codes "true")
@@ -194,11 +215,11 @@ abbrev pub a_table : Table
 a_table = record { pairs = (TruthOf true, BitsOf 8 1) ∷ (TruthOf true, BitsOf 8 2) ∷ []; default = BitsOf 8 3 }
 
 pub record ScriptValueRows : Type 0 where
-  pub negated : values (apply (codes "not") (t ∷ []) ∷ apply (codes "not") (f ∷ []) ∷ []) ≡ truths_are (false ∷ true ∷ [])
+  pub negated : values (sample_application (codes "not") (t ∷ []) ∷ sample_application (codes "not") (f ∷ []) ∷ []) ≡ truths_are (false ∷ true ∷ [])
   pub both : values (truths (codes "and") t t ∷ truths (codes "and") t f ∷ truths (codes "and") f t ∷ truths (codes "and") f f ∷ []) ≡ truths_are (true ∷ false ∷ false ∷ false ∷ [])
   pub either : values (truths (codes "or") t t ∷ truths (codes "or") t f ∷ truths (codes "or") f t ∷ truths (codes "or") f f ∷ []) ≡ truths_are (true ∷ true ∷ true ∷ false ∷ [])
   pub equal : values (truths (codes "=") (word (codes "a")) (word (codes "a")) ∷ truths (codes "=") (word (codes "a")) (word (codes "b")) ∷ []) ≡ truths_are (true ∷ false ∷ [])
-  pub chosen : values (apply (codes "ite") (t ∷ word (codes "a") ∷ word (codes "b") ∷ []) ∷ apply (codes "ite") (f ∷ word (codes "a") ∷ word (codes "b") ∷ []) ∷ []) ≡ Some (TextOf (codes "a")) ∷ Some (TextOf (codes "b")) ∷ []
+  pub chosen : values (sample_application (codes "ite") (t ∷ word (codes "a") ∷ word (codes "b") ∷ []) ∷ sample_application (codes "ite") (f ∷ word (codes "a") ∷ word (codes "b") ∷ []) ∷ []) ≡ Some (TextOf (codes "a")) ∷ Some (TextOf (codes "b")) ∷ []
   -- at two equal numbers, and at 3 and -7
   pub equal_bits : values (map (λ o. two o (codes "bv3") (codes "bv3")) (codes "bvult" ∷ codes "bvule" ∷ codes "bvslt" ∷ codes "bvsle" ∷ [])) ≡ truths_are (false ∷ true ∷ false ∷ true ∷ [])
   pub signed_bits : values (map (λ o. two o (codes "bv3") (codes "bv249")) (codes "bvult" ∷ codes "bvule" ∷ codes "bvslt" ∷ codes "bvsle" ∷ [])) ≡ truths_are (true ∷ true ∷ false ∷ false ∷ [])
@@ -206,7 +227,7 @@ pub record ScriptValueRows : Type 0 where
   pub subsets : values (truths (codes "set.subset") (set_of (t ∷ [])) (set_of (t ∷ f ∷ [])) ∷ truths (codes "set.subset") (set_of (t ∷ f ∷ [])) (set_of (t ∷ [])) ∷ []) ≡ truths_are (true ∷ false ∷ [])
   pub common : values (truths (codes "set.inter") (set_of (t ∷ f ∷ [])) (set_of (t ∷ [])) ∷ []) ≡ Some (SetOf (one_script_value (TruthOf true) no_script_values)) ∷ []
   -- a wrong number of arguments, or arguments of another kind
-  pub nothing : values (apply (codes "and") (t ∷ []) ∷ truths (codes "and") t (word (codes "a")) ∷ truths (codes "bvadd") (bits (codes "bv1") 8) (bits (codes "bv1") 16) ∷ bits (codes "bv0") 129 ∷ name (codes "x") ∷ []) ≡ None ∷ None ∷ None ∷ None ∷ None ∷ []
+  pub nothing : values (sample_application (codes "and") (t ∷ []) ∷ truths (codes "and") t (word (codes "a")) ∷ truths (codes "bvadd") (sample_bits (codes "bv1") 8) (sample_bits (codes "bv1") 16) ∷ sample_bits (codes "bv0") 129 ∷ name (codes "x") ∷ []) ≡ None ∷ None ∷ None ∷ None ∷ None ∷ []
   pub looked_up : map (in_table a_table) (TruthOf true ∷ TruthOf false ∷ []) ≡ BitsOf 8 1 ∷ BitsOf 8 3 ∷ []
 
 -- ---- sorts
@@ -227,9 +248,9 @@ abbrev pub are_tables : List (List (ScriptValue × ScriptValue)) → ScriptValue
 are_tables ps default = map (λ p. is_table nothing_there bool_sort (bit_sort 8) (record { pairs = p; default = default })) ps
 
 pub record SortRows : Type 0 where
-  pub sorted : map (sort_in nothing_there) (two (codes "bvadd") (codes "bv1") (codes "bv2") ∷ two (codes "bvult") (codes "bv1") (codes "bv2") ∷ truths (codes "=") t f ∷ word [] ∷ set_of (t ∷ []) ∷ truths (codes "set.member") t empty_set ∷ indexed_by (codes "zero_extend") (Leaf (Number 8)) (bits (codes "bv1") 8) ∷ [])
+  pub sorted : map (sort_in nothing_there) (two (codes "bvadd") (codes "bv1") (codes "bv2") ∷ two (codes "bvult") (codes "bv1") (codes "bv2") ∷ truths (codes "=") t f ∷ word [] ∷ set_of (t ∷ []) ∷ truths (codes "set.member") t empty_set ∷ indexed_by (codes "zero_extend") (Leaf (Number 8)) (sample_bits (codes "bv1") 8) ∷ [])
       ≡ Some (bit_sort 8) ∷ Some bool_sort ∷ Some bool_sort ∷ Some string_sort ∷ Some (set_sort bool_sort) ∷ Some bool_sort ∷ Some (bit_sort 16) ∷ []
-  pub ill_sorted : map (sort_in nothing_there) (truths (codes "bvadd") (bits (codes "bv1") 8) (bits (codes "bv1") 16) ∷ truths (codes "=") t (word []) ∷ truths (codes "and") t (word []) ∷ apply (codes "and") (t ∷ []) ∷ truths (codes "set.member") (word []) empty_set ∷ bits (codes "bv256") 8 ∷ name (codes "x") ∷ [])
+  pub ill_sorted : map (sort_in nothing_there) (truths (codes "bvadd") (sample_bits (codes "bv1") 8) (sample_bits (codes "bv1") 16) ∷ truths (codes "=") t (word []) ∷ truths (codes "and") t (word []) ∷ sample_application (codes "and") (t ∷ []) ∷ truths (codes "set.member") (word []) empty_set ∷ sample_bits (codes "bv256") 8 ∷ name (codes "x") ∷ [])
       ≡ None ∷ None ∷ None ∷ None ∷ None ∷ None ∷ None ∷ []
   pub of_bits : are_of (bit_sort 8) (BitsOf 8 255 ∷ BitsOf 8 256 ∷ BitsOf 16 1 ∷ TruthOf true ∷ []) ≡ true ∷ false ∷ false ∷ false ∷ []
   pub of_text : are_of string_sort (TextOf (196607 ∷ []) ∷ TextOf (196608 ∷ []) ∷ []) ≡ true ∷ false ∷ []
@@ -244,20 +265,20 @@ pub record SortRows : Type 0 where
 
 -- 249 is -7, 253 is -3
 abbrev pub OperatorsGive : Type 0
-OperatorsGive = Gives (two (codes "bvadd") (codes "bv255") (codes "bv1")) (Some (BitsOf 8 0)) × Gives (two (codes "bvsub") (codes "bv0") (codes "bv1")) (Some (BitsOf 8 255)) × Gives (two (codes "bvmul") (codes "bv16") (codes "bv17")) (Some (BitsOf 8 16))
-    × Gives (two (codes "bvudiv") (codes "bv7") (codes "bv0")) (Some (BitsOf 8 255)) × Gives (two (codes "bvurem") (codes "bv7") (codes "bv0")) (Some (BitsOf 8 7))
-    × Gives (two (codes "bvsdiv") (codes "bv249") (codes "bv3")) (Some (BitsOf 8 254)) × Gives (two (codes "bvsdiv") (codes "bv249") (codes "bv0")) (Some (BitsOf 8 1)) × Gives (two (codes "bvsrem") (codes "bv249") (codes "bv3")) (Some (BitsOf 8 255))
-    × Gives (two (codes "bvsmod") (codes "bv249") (codes "bv3")) (Some (BitsOf 8 2)) × Gives (two (codes "bvsmod") (codes "bv7") (codes "bv253")) (Some (BitsOf 8 254)) × Gives (two (codes "bvsmod") (codes "bv249") (codes "bv253")) (Some (BitsOf 8 255)) × Gives (two (codes "bvsmod") (codes "bv249") (codes "bv0")) (Some (BitsOf 8 249))
-    × Gives (two (codes "bvshl") (codes "bv3") (codes "bv7")) (Some (BitsOf 8 128)) × Gives (two (codes "bvlshr") (codes "bv128") (codes "bv7")) (Some (BitsOf 8 1)) × Gives (two (codes "bvlshr") (codes "bv128") (codes "bv8")) (Some (BitsOf 8 0))
-    × Gives (apply (codes "bvshl") (bits (codes "bv1") 64 ∷ bits (codes "bv4294967296") 64 ∷ [])) (Some (BitsOf 64 0))
+OperatorsGive = SampleHasValue (two (codes "bvadd") (codes "bv255") (codes "bv1")) (Some (BitsOf 8 0)) × SampleHasValue (two (codes "bvsub") (codes "bv0") (codes "bv1")) (Some (BitsOf 8 255)) × SampleHasValue (two (codes "bvmul") (codes "bv16") (codes "bv17")) (Some (BitsOf 8 16))
+    × SampleHasValue (two (codes "bvudiv") (codes "bv7") (codes "bv0")) (Some (BitsOf 8 255)) × SampleHasValue (two (codes "bvurem") (codes "bv7") (codes "bv0")) (Some (BitsOf 8 7))
+    × SampleHasValue (two (codes "bvsdiv") (codes "bv249") (codes "bv3")) (Some (BitsOf 8 254)) × SampleHasValue (two (codes "bvsdiv") (codes "bv249") (codes "bv0")) (Some (BitsOf 8 1)) × SampleHasValue (two (codes "bvsrem") (codes "bv249") (codes "bv3")) (Some (BitsOf 8 255))
+    × SampleHasValue (two (codes "bvsmod") (codes "bv249") (codes "bv3")) (Some (BitsOf 8 2)) × SampleHasValue (two (codes "bvsmod") (codes "bv7") (codes "bv253")) (Some (BitsOf 8 254)) × SampleHasValue (two (codes "bvsmod") (codes "bv249") (codes "bv253")) (Some (BitsOf 8 255)) × SampleHasValue (two (codes "bvsmod") (codes "bv249") (codes "bv0")) (Some (BitsOf 8 249))
+    × SampleHasValue (two (codes "bvshl") (codes "bv3") (codes "bv7")) (Some (BitsOf 8 128)) × SampleHasValue (two (codes "bvlshr") (codes "bv128") (codes "bv7")) (Some (BitsOf 8 1)) × SampleHasValue (two (codes "bvlshr") (codes "bv128") (codes "bv8")) (Some (BitsOf 8 0))
+    × SampleHasValue (sample_application (codes "bvshl") (sample_bits (codes "bv1") 64 ∷ sample_bits (codes "bv4294967296") 64 ∷ [])) (Some (BitsOf 64 0))
     × Yes (two (codes "bvslt") (codes "bv255") (codes "bv0")) × No (two (codes "bvult") (codes "bv255") (codes "bv0")) × Yes (two (codes "bvsle") (codes "bv128") (codes "bv127")) × Yes (two (codes "bvsaddo") (codes "bv127") (codes "bv1")) × No (two (codes "bvsaddo") (codes "bv127") (codes "bv255"))
     × Yes (two (codes "bvssubo") (codes "bv128") (codes "bv1")) × Yes (two (codes "bvsmulo") (codes "bv128") (codes "bv255")) × No (two (codes "bvsmulo") (codes "bv128") (codes "bv1"))
-    × Gives (group (group (name (codes "_") ∷ name (codes "zero_extend") ∷ Leaf (Number 8) ∷ []) ∷ bits (codes "bv5") 8 ∷ [])) (Some (BitsOf 16 5))
-    × Gives (apply (codes "bvneg") (bits (codes "bv1") 8 ∷ [])) (Some (BitsOf 8 255)) × Gives (bits (codes "bv256") 8) None
-    × Yes (like (codes "abz") (apply (codes "re.++") (character 97 ∷ wildcard ∷ character 122 ∷ []))) × No (like (codes "ab") (apply (codes "re.++") (character 97 ∷ wildcard ∷ character 122 ∷ [])))
-    × Yes (like [] (apply (codes "str.to_re") (Leaf (Text []) ∷ []))) × Yes (like (codes "a") (character 97)) × Yes (like [] wildcard)
-    × Yes (apply (codes "set.subset") (empty_set ∷ apply (codes "set.insert") (name (codes "true") ∷ empty_set ∷ []) ∷ []))
-    × Gives (apply (codes "set.insert") (name (codes "true") ∷ name (codes "false") ∷ name (codes "true") ∷ empty_set ∷ [])) (Some (SetOf (one_script_value (TruthOf false) (one_script_value (TruthOf true) no_script_values))))
+    × SampleHasValue (group (group (name (codes "_") ∷ name (codes "zero_extend") ∷ Leaf (Number 8) ∷ []) ∷ sample_bits (codes "bv5") 8 ∷ [])) (Some (BitsOf 16 5))
+    × SampleHasValue (sample_application (codes "bvneg") (sample_bits (codes "bv1") 8 ∷ [])) (Some (BitsOf 8 255)) × SampleHasValue (sample_bits (codes "bv256") 8) None
+    × Yes (like (codes "abz") (sample_application (codes "re.++") (character 97 ∷ wildcard ∷ character 122 ∷ []))) × No (like (codes "ab") (sample_application (codes "re.++") (character 97 ∷ wildcard ∷ character 122 ∷ [])))
+    × Yes (like [] (sample_application (codes "str.to_re") (Leaf (Text []) ∷ []))) × Yes (like (codes "a") (character 97)) × Yes (like [] wildcard)
+    × Yes (sample_application (codes "set.subset") (empty_set ∷ sample_application (codes "set.insert") (name (codes "true") ∷ empty_set ∷ []) ∷ []))
+    × SampleHasValue (sample_application (codes "set.insert") (name (codes "true") ∷ name (codes "false") ∷ name (codes "true") ∷ empty_set ∷ [])) (Some (SetOf (one_script_value (TruthOf false) (one_script_value (TruthOf true) no_script_values))))
     × ScriptValueRows × SortRows
 
 -- ---- selectors on another constructor's values
@@ -272,10 +293,10 @@ address_command = DeclareDatatype (codes "IPAddr") []
 
 abbrev pub address_commands : List Command
 address_commands = option_command ∷ address_command ∷ DeclareConst (codes "t0") (name (codes "IPAddr"))
-    ∷ DefineFun (codes "t1") (prefix_sort 5) (apply (codes "prefixV4") (name (codes "t0") ∷ []))
-    ∷ DefineFun (codes "t2") (bit_sort 5) (apply (codes "val") (name (codes "t1") ∷ []))
+    ∷ DefineFun (codes "t1") (prefix_sort 5) (sample_application (codes "prefixV4") (name (codes "t0") ∷ []))
+    ∷ DefineFun (codes "t2") (bit_sort 5) (sample_application (codes "val") (name (codes "t1") ∷ []))
     ∷ DefineFun (codes "t3") bool_sort (indexed_by (codes "is") (name (codes "V4")) (name (codes "t0")))
-    ∷ DefineFun (codes "t4") (prefix_sort 5) (apply (codes "some") (name (codes "t2") ∷ [])) ∷ Assert (name (codes "t3")) ∷ []
+    ∷ DefineFun (codes "t4") (prefix_sort 5) (sample_application (codes "some") (name (codes "t2") ∷ [])) ∷ Assert (name (codes "t3")) ∷ []
 
 abbrev pub v4 : ℕ → ScriptValue → ScriptValue
 v4 address prefix = ConstructorOf 0 (codes "V4") (one_script_value (BitsOf 32 address) (one_script_value prefix no_script_values))

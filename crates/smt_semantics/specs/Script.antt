@@ -1,12 +1,13 @@
 -- Commands, what they declare, and what a script comes to.
-use Rattle.std.specs.Prelude.{◌≡◌, ℕ, suc, Bool, true, false, ◌&&◌, ◌||◌, ◌==◌, IsTrue, if◌then◌else◌, codes, bytes_eq, take, drop, length, map, List, [], ◌∷◌, ◌++◌, Option, Some, None}
+use Rattle.std.specs.Prelude.{◌≡◌, ℕ, suc, Bool, true, false, not, ◌&&◌, ◌||◌, ◌==◌, IsTrue, if◌then◌else◌, codes, bytes_eq, take, drop, length, map, List, [], ◌∷◌, ◌++◌, Option, Some, None}
 use Rattle.std.specs.List.{list_all, list_any}
 use Rattle.std.specs.Map.{lookup}
 use Rattle.std.specs.Option.{option_and_then, option_or}
-use Rattle.smt_term.specs.Plain.{PatternPart, Character, Wildcard, PlainOp, AndOp, BvaddOp, BvlshrOp, BvmulOp, BvnegOp, BvsaddoOp, BvsdivOp, BvshlOp, BvsleOp, BvsltOp, BvsmodOp, BvsmuloOp, BvsremOp, BvssuboOp, BvsubOp, BvudivOp, BvuleOp, BvultOp, BvuremOp, EqOp, IteOp, NotOp, OrOp, SetInterOp, SetMemberOp, SetSubsetOp}
-use Rattle.smt_sexpr.specs.Lexicon.{Number, Text, some_all, is_digit, number_in, Name, in_script}
+use Rattle.smt_term.specs.Plain.{PatternPart, Character, Wildcard, PlainOp}
+use Rattle.smt_sexpr.specs.Lexicon.{Number, Text, some_all, is_digit, is_symbol, number_in, Name, in_script}
 use Rattle.smt_sexpr.specs.Reading.{Expression, Leaf, Node, Expressions, Nil, Cons, Reads, expressions}
 use Rattle.smt_bits.specs.Widths.{is_width}
+use Rattle.smt_semantics.specs.ScriptOperators.{script_name, theory_operators}
 
 -- ---- commands, as the grammar writes them
 
@@ -122,8 +123,8 @@ assertions_below [] = []
 assertions_below (l ∷ ls) = assertions_below ls ++ l.assertions
 
 -- what is declared in all levels, the newest first
-abbrev pub sorts_of : State → List (List ℕ × ℕ)
-sorts_of s = s.last.sorts ++ sorts_below s.below
+abbrev pub declared_sorts : State → List (List ℕ × ℕ)
+declared_sorts s = s.last.sorts ++ sorts_below s.below
 
 abbrev pub names_of : State → List (List ℕ × Entry)
 names_of s = s.last.names ++ names_below s.below
@@ -135,16 +136,9 @@ assertions_of s = assertions_below s.below ++ s.last.assertions
 abbrev pub is_in : List ℕ → List (List ℕ) → Bool
 is_in n ns = list_any (bytes_eq n) ns
 
--- the operators that a name stands for
+-- the operators that a name stands for, each with its name
 abbrev pub script_operators : List (List ℕ × PlainOp)
-script_operators =
-    (codes "not", NotOp) ∷ (codes "and", AndOp) ∷ (codes "or", OrOp) ∷ (codes "=", EqOp) ∷ (codes "ite", IteOp)
-    ∷ (codes "bvneg", BvnegOp) ∷ (codes "bvadd", BvaddOp) ∷ (codes "bvsub", BvsubOp) ∷ (codes "bvmul", BvmulOp)
-    ∷ (codes "bvudiv", BvudivOp) ∷ (codes "bvurem", BvuremOp) ∷ (codes "bvsdiv", BvsdivOp) ∷ (codes "bvsrem", BvsremOp) ∷ (codes "bvsmod", BvsmodOp)
-    ∷ (codes "bvshl", BvshlOp) ∷ (codes "bvlshr", BvlshrOp)
-    ∷ (codes "bvult", BvultOp) ∷ (codes "bvule", BvuleOp) ∷ (codes "bvslt", BvsltOp) ∷ (codes "bvsle", BvsleOp)
-    ∷ (codes "bvsaddo", BvsaddoOp) ∷ (codes "bvssubo", BvssuboOp) ∷ (codes "bvsmulo", BvsmuloOp)
-    ∷ (codes "set.member", SetMemberOp) ∷ (codes "set.subset", SetSubsetOp) ∷ (codes "set.inter", SetInterOp) ∷ []
+script_operators = map (λ op. (script_name op, op)) theory_operators
 
 -- the first thing that a table has for a name
 abbrev pub look_up : {A : Type 0} → List ℕ → List (List ℕ × A) → Option A
@@ -161,23 +155,60 @@ built_in_names =
 abbrev pub built_in_sorts : List (List ℕ × ℕ)
 built_in_sorts = (codes "Bool", 0) ∷ (codes "String", 0) ∷ (codes "Set", 1) ∷ []
 
--- two words of the grammar, and the keywords
+-- The reserved words of SMT-LIB 2.7 (chapter "The SMT-LIB Language", "Lexicon"): the general ones, and the commands' names.
+abbrev pub reserved_words : List (List ℕ)
+reserved_words =
+    codes "_" ∷ codes "as" ∷ codes "!" ∷ codes "BINARY" ∷ codes "DECIMAL" ∷ codes "HEXADECIMAL" ∷ codes "NUMERAL" ∷ codes "STRING"
+    ∷ codes "exists" ∷ codes "forall" ∷ codes "lambda" ∷ codes "let" ∷ codes "match" ∷ codes "par"
+    ∷ codes "assert" ∷ codes "check-sat" ∷ codes "check-sat-assuming" ∷ codes "declare-const" ∷ codes "declare-datatype" ∷ codes "declare-datatypes"
+    ∷ codes "declare-fun" ∷ codes "declare-sort" ∷ codes "declare-sort-parameter" ∷ codes "define-const" ∷ codes "define-fun" ∷ codes "define-fun-rec"
+    ∷ codes "define-funs-rec" ∷ codes "define-sort" ∷ codes "echo" ∷ codes "exit" ∷ codes "get-assertions" ∷ codes "get-assignment" ∷ codes "get-info"
+    ∷ codes "get-model" ∷ codes "get-option" ∷ codes "get-proof" ∷ codes "get-unsat-assumptions" ∷ codes "get-unsat-core" ∷ codes "get-value" ∷ codes "pop"
+    ∷ codes "push" ∷ codes "reset" ∷ codes "reset-assertions" ∷ codes "set-info" ∷ codes "set-logic" ∷ codes "set-option" ∷ []
+
+-- a keyword begins with a colon
+abbrev pub is_keyword : List ℕ → Bool
+is_keyword n = bytes_eq (take 1 n) (codes ":")
+
+-- a symbol that is kept for solvers begins with a dot or an at sign
+abbrev pub is_for_solvers : List ℕ → Bool
+is_for_solvers n = bytes_eq (take 1 n) (codes ".") || bytes_eq (take 1 n) (codes "@")
+
+-- a name that no script may declare, in any kind
 abbrev pub is_reserved : List ℕ → Bool
-is_reserved n = is_in n (codes "_" ∷ codes "as" ∷ []) || bytes_eq (take 1 n) (codes ":")
+is_reserved n = is_in n reserved_words || (is_keyword n || is_for_solvers n)
+
+-- a symbol that is neither a reserved word nor a keyword
+abbrev pub is_simple_symbol : List ℕ → Bool
+is_simple_symbol n = is_symbol n && not (is_in n reserved_words || is_keyword n)
 
 abbrev pub has_name : State → List ℕ → Bool
 has_name s n = is_in n built_in_names || is_in n (map (λ p. p.0) (names_of s))
 
 -- a sort of this many parameters is there
 abbrev pub has_sort : State → List ℕ → ℕ → Bool
-has_sort s n count = list_any (λ p. bytes_eq n p.0 && (p.1 == count)) (sorts_of s ++ built_in_sorts)
+has_sort s n count = list_any (λ p. bytes_eq n p.0 && (p.1 == count)) (declared_sorts s ++ built_in_sorts)
 
 -- a name that can't be declared, in its kind
 abbrev pub is_taken : State → List ℕ → Bool
 is_taken s n = has_name s n || is_reserved n
 
 abbrev pub is_taken_sort : State → List ℕ → Bool
-is_taken_sort s n = is_in n (codes "BitVec" ∷ map (λ p. p.0) (sorts_of s ++ built_in_sorts)) || is_reserved n
+is_taken_sort s n = is_in n (codes "BitVec" ∷ map (λ p. p.0) (declared_sorts s ++ built_in_sorts)) || is_reserved n
+
+-- no name stands twice
+abbrev pub are_distinct : List (List ℕ) → Bool
+are_distinct [] = true
+are_distinct (n ∷ ns) = not (is_in n ns) && are_distinct ns
+
+-- a datatype has at least one
+abbrev pub has_constructor : List Constructor → Bool
+has_constructor [] = false
+has_constructor (c ∷ cs) = true
+
+-- a datatype that can be declared: its name and its parameters are not taken, no parameter stands twice, and it has a constructor
+abbrev pub is_new_datatype : State → List ℕ → List (List ℕ) → List Constructor → Bool
+is_new_datatype s d ps cs = not (is_taken_sort s d || list_any (is_taken_sort s) ps) && (are_distinct ps && has_constructor cs)
 
 abbrev pub count : Expressions → ℕ
 count Nil = 0
@@ -271,11 +302,19 @@ indexed (Cons (Leaf (Name f)) (Cons (Leaf (Number bits)) Nil)) = if bytes_eq f (
 indexed (Cons (Leaf (Name f)) (Cons (Leaf (Name c)) Nil)) = if bytes_eq f (codes "is") then Tested c else Unformed
 indexed es = Unformed
 
+-- `(set.insert x .. s)` behind its first argument: an element and a set are the least
+abbrev pub insertion : Expressions → Shape
+insertion Nil = Unformed
+insertion (Cons e es) = Applied (codes "set.insert")
+
+-- A head stands before at least one more expression.
 abbrev pub shape : Expression → Expressions → Shape
-shape (Leaf (Name f)) es =
-    if bytes_eq f (codes "_") then bit_literal es
-    else (if bytes_eq f (codes "as") then qualified es else (if bytes_eq f (codes "str.in_re") then matched es else Applied f))
-shape (Node (Cons (Leaf (Name f)) fs)) es = if bytes_eq f (codes "_") then indexed fs else Unformed
+shape head Nil = Unformed
+shape (Leaf (Name f)) (Cons e es) =
+    if bytes_eq f (codes "_") then bit_literal (Cons e es)
+    else (if bytes_eq f (codes "as") then qualified (Cons e es)
+    else (if bytes_eq f (codes "str.in_re") then matched (Cons e es) else (if bytes_eq f (codes "set.insert") then insertion es else Applied f)))
+shape (Node (Cons (Leaf (Name f)) fs)) (Cons e es) = if bytes_eq f (codes "_") then indexed fs else Unformed
 shape e es = Unformed
 
 abbrev pub is_first : List Bool → Bool
@@ -324,6 +363,7 @@ with_assertion e s = record s { last = record s.last { assertions = s.last.asser
 abbrev pub with_level : State → State
 with_level s = record s { last = empty_level; below = s.last ∷ s.below }
 
+-- a name is declared where it is neither taken nor reserved
 abbrev pub declare : List ℕ → Entry → State → Option State
 declare n entry s = if is_taken s n then None else Some (with_name n entry s)
 
@@ -348,16 +388,16 @@ without_level s (l ∷ ls) = Some (record s { last = l; below = ls })
 -- what a command leaves, or nothing where it breaks the rules of declarations
 abbrev pub obey : Command → State → Option State
 obey (DeclareDatatype d ps cs) s =
-    if is_taken_sort s d || list_any (is_taken_sort s) ps then None
-    else (declare_constructors d ps 0 cs s >>= λ t. Some (with_sort d (length ps) t))
+    if is_new_datatype s d ps cs then (declare_constructors d ps 0 cs s >>= λ t. Some (with_sort d (length ps) t)) else None
 obey (DeclareConst c sort) s = if is_sort (has_sort s) sort then declare c (Constant sort) s else None
 obey (DefineFun f sort body) s =
     if is_sort (has_sort s) sort && knows s body then declare f (Defined sort body) s else None
 obey (Assert e) s = if knows s e then Some (with_assertion e s) else None
 obey (DeclareFun f argument sort) s =
     if is_sort (has_sort s) argument && is_sort (has_sort s) sort then declare f (Function argument sort) s else None
-obey (SetLogic l) s = Some s
-obey (SetOption o v) s = Some s
+-- a logic is a simple symbol, and an option a colon before one
+obey (SetLogic l) s = if is_simple_symbol l then Some s else None
+obey (SetOption o v) s = if is_simple_symbol o then Some s else None
 obey CheckSat s = Some s
 obey GetModel s = Some s
 obey Reset s = Some start
@@ -384,7 +424,13 @@ pub record Script (bytes : List ℕ) (state : State) : Type 0 where
   pub holds : Holds bytes commands
   pub runs : run commands start ≡ Some state
 
--- empty, or ends with a line feed
-abbrev pub IsWhole : List ℕ → Type 0
-IsWhole [] = Unit {0}
-IsWhole (b ∷ bs) = (front : List ℕ) × (b ∷ bs ≡ front ++ 10 ∷ [])
+-- Each line of the text ends with a line feed: the text is empty, or ends with one.
+abbrev pub HasWholeLines : List ℕ → Type 0
+HasWholeLines [] = Unit {0}
+HasWholeLines (b ∷ bs) = (front : List ℕ) × (b ∷ bs ≡ front ++ 10 ∷ [])
+
+-- The text is read as S-expressions, and its lines are whole.
+pub record IsWhole (bytes : List ℕ) : Type 0 where
+  pub expressions_in : List Expression
+  pub reads : Reads bytes expressions_in
+  pub lines : HasWholeLines bytes

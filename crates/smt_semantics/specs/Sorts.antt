@@ -1,15 +1,15 @@
 -- The sorts of expressions, and of values. A sort is an expression.
-use Rattle.std.specs.Prelude.{◌≡◌, ℕ, ◌+◌, Bool, true, false, ◌&&◌, ◌==◌, nat_le, if◌then◌else◌, codes, bytes_eq, length, map, List, [], ◌∷◌, Option, Some, None, is_some, IsTrue, All}
+use Rattle.std.specs.Prelude.{ℕ, ◌+◌, Bool, true, false, ◌&&◌, ◌==◌, nat_le, if◌then◌else◌, codes, bytes_eq, length, map, List, [], ◌∷◌, Option, Some, None, is_some, IsTrue}
 use Rattle.std.specs.List.{list_all}
 use Rattle.smt_term.specs.Plain.{PlainOp, AndOp, BvnegOp, EqOp, IteOp, NotOp, OrOp, SetInterOp, SetMemberOp, SetSubsetOp, StringLikeOp, ZeroExtendOp}
 use Rattle.smt_term.specs.TypeValues.{is_code_point}
 use Rattle.smt_semantics.specs.ScriptValues.{ScriptValue, TruthOf, BitsOf, TextOf, ConstructorOf, SetOf, ScriptValues, no_script_values, one_script_value}
 use Rattle.smt_sexpr.specs.Lexicon.{Atom, Bits, Number, Text, Name}
 use Rattle.smt_sexpr.specs.Reading.{Expression, Leaf, Node, Expressions, Nil, Cons, expressions}
-use Rattle.smt_semantics.specs.Script.{name, group, Entry, Constant, Function, Defined, Builds, Selects, Shape, BitLiteral, Qualified, Applied, Extended, Tested, Matched, Unformed, shape, look_up, operator_of, is_in, names_of, assertions_of, State, ◌>>=◌}
+use Rattle.smt_semantics.specs.Script.{name, group, Entry, Constant, Function, Defined, Builds, Selects, Shape, BitLiteral, Qualified, Applied, Extended, Tested, Matched, Unformed, shape, look_up, operator_of, is_in, names_of, State, ◌>>=◌}
 use Rattle.smt_bits.specs.Widths.{are_bits}
 use Rattle.smt_semantics.specs.Arithmetic.{bit_function, bit_test}
-use Rattle.smt_semantics.specs.Order.{ascends}
+use Rattle.smt_semantics.specs.ScriptOrder.{ascends}
 
 -- ---- sorts as they are written
 
@@ -52,9 +52,9 @@ datatype_sort d [] = name d
 datatype_sort d (s ∷ ss) = group (name d ∷ s ∷ ss)
 
 -- the width of a sort of bits, the element of a sort of sets
-abbrev pub width_of : Expression → Option ℕ
-width_of (Node (Cons (Leaf (Name u)) (Cons (Leaf (Name b)) (Cons (Leaf (Number width)) Nil)))) = if bytes_eq u (codes "_") && bytes_eq b (codes "BitVec") then Some width else None
-width_of e = None
+abbrev pub sort_width : Expression → Option ℕ
+sort_width (Node (Cons (Leaf (Name u)) (Cons (Leaf (Name b)) (Cons (Leaf (Number width)) Nil)))) = if bytes_eq u (codes "_") && bytes_eq b (codes "BitVec") then Some width else None
+sort_width e = None
 
 abbrev pub element_of : Expression → Option Expression
 element_of (Node (Cons (Leaf (Name f)) (Cons e Nil))) = if bytes_eq f (codes "Set") then Some e else None
@@ -128,7 +128,7 @@ abbrev pub two_widths : Option ℕ → Option ℕ → Option ℕ
 two_widths v w = v >>= λ m. w >>= λ n. if m == n then Some m else None
 
 abbrev pub bits_sort : Bool → Bool → List Expression → Option Expression
-bits_sort result_bits result_truth (s ∷ t ∷ []) = two_widths (width_of s) (width_of t) >>= λ w. if result_bits then Some (bit_sort w) else (if result_truth then Some bool_sort else None)
+bits_sort result_bits result_truth (s ∷ t ∷ []) = two_widths (sort_width s) (sort_width t) >>= λ w. if result_bits then Some (bit_sort w) else (if result_truth then Some bool_sort else None)
 bits_sort result_bits result_truth ss = None
 
 abbrev pub if_sort : Bool → Expression → Option Expression
@@ -151,11 +151,11 @@ choice_sort (b ∷ s ∷ t ∷ []) = if_sort (same_sort b bool_sort && same_sort
 choice_sort ss = None
 
 abbrev pub negated_sort : List Expression → Option Expression
-negated_sort (s ∷ []) = width_of s >>= λ w. Some s
+negated_sort (s ∷ []) = sort_width s >>= λ w. Some s
 negated_sort ss = None
 
 abbrev pub extended_sort : ℕ → List Expression → Option Expression
-extended_sort k (s ∷ []) = width_of s >>= λ w. if_sort (nat_le (w + k) 128) (bit_sort (w + k))
+extended_sort k (s ∷ []) = sort_width s >>= λ w. if_sort (nat_le (w + k) 128) (bit_sort (w + k))
 extended_sort k ss = None
 
 abbrev pub member_sort : List Expression → Option Expression
@@ -252,17 +252,8 @@ abbrev mutual
   sorts_in here Nil = []
   sorts_in here (Cons e es) = sort_in here e ∷ sorts_in here es
 
-abbrev pub sort_of : State → Expression → Option Expression
-sort_of s e = sort_in (entries s) e
-
-abbrev pub IsBodyWellSorted : State → List ℕ × Entry → Type 0
-IsBodyWellSorted s (n, Defined sort body) = sort_of s body ≡ Some sort
-IsBodyWellSorted s (n, x) = Unit {0}
-
--- Each body has its definition's sort, and each assertion the sort Bool.
-pub record IsWellSorted (s : State) : Type 0 where
-  pub bodies : All (λ p. IsBodyWellSorted s p) (names_of s)
-  pub assertions : All (λ e. sort_of s e ≡ Some bool_sort) (assertions_of s)
+abbrev pub expression_sort : State → Expression → Option Expression
+expression_sort s e = sort_in (entries s) e
 
 -- ---- the sorts of values
 
@@ -289,5 +280,5 @@ abbrev mutual
   all_have_sort_in here s no_script_values = true
   all_have_sort_in here s (one_script_value v vs) = has_sort_in here s v && all_have_sort_in here s vs
 
-abbrev pub HasSort : State → Expression → ScriptValue → Type 0
-HasSort s sort v = IsTrue (has_sort_in (entries s) sort v)
+abbrev pub IsOfSort : State → Expression → ScriptValue → Type 0
+IsOfSort s sort v = IsTrue (has_sort_in (entries s) sort v)

@@ -8,9 +8,9 @@ use Rattle.smt_bits.specs.BitVectors.{bvneg}
 use Rattle.smt_bits.specs.Widths.{are_bits}
 use Rattle.smt_semantics.specs.Arithmetic.{bit_function, bit_test}
 use Rattle.smt_term.specs.Patterns.{matches}
-use Rattle.smt_semantics.specs.Order.{same, put, is_member, is_subset, intersection}
+use Rattle.smt_semantics.specs.ScriptOrder.{same, put, is_member, is_subset, intersection}
 use Rattle.smt_semantics.specs.Script.{DefineFun, DeclareConst, name, knows, is_in, Shape, BitLiteral, Qualified, Applied, Extended, Tested, Matched, Unformed, shape, Entry, Constant, Function, Defined, Builds, Selects, Reset, Pop, State, names_of, assertions_of, look_up, operator_of, ◌>>=◌, step, Command}
-use Rattle.smt_semantics.specs.Sorts.{Entries, entries, sort_in, sort_of, arguments_of, each_there, first_there, instance, paired, has_sort_in}
+use Rattle.smt_semantics.specs.Sorts.{Entries, entries, sort_in, expression_sort, arguments_of, each_there, first_there, instance, paired, has_sort_in}
 
 -- ---- operators
 
@@ -99,9 +99,9 @@ pub record Table : Type 0 where
 pub record ScriptInterpretation : Type 0 where
   pub constants : List ℕ → ScriptValue
   pub functions : List ℕ → Table
-  -- what a selector of a datatype with parameters gives of another constructor's value: by the sort that it is applied to
+  -- what `val` gives of `none`: by the sort that it is applied to
   pub options : Expression → ScriptValue
-  -- the same of a datatype without parameters: by the selector
+  -- what a selector of IP ranges gives of the other family's values: by the selector
   pub selectors : List ℕ → Table
 
 abbrev pub in_pairs : ScriptValue → List (ScriptValue × ScriptValue) → ScriptValue → ScriptValue
@@ -130,23 +130,35 @@ abbrev pub of_one : (ScriptValue → Option ScriptValue) → List ScriptValue �
 of_one f (v ∷ []) = f v
 of_one f vs = None
 
--- the selectors of IP ranges, the one datatype without parameters that is stated with two constructors that have fields
+-- ---- selectors at values of other constructors
+
+-- What an interpretation gives for a selector at another constructor's value.
+pub data OpenSelector : Type 0 where
+  -- one value for each sort that the selector is applied to
+  ValueOfSort : OpenSelector
+  -- a table of the selector's own
+  TableOfSelector : OpenSelector
+
+-- the selectors of IP ranges
 abbrev pub range_selectors : List (List ℕ)
 range_selectors = codes "addrV4" ∷ codes "prefixV4" ∷ codes "addrV6" ∷ codes "prefixV6" ∷ []
 
-abbrev pub read_other : Bool → Table → ScriptValue → Option ScriptValue
-read_other true table v = Some (in_table table v)
-read_other false table v = None
+-- `val` of the datatype `Option` and the selectors of IP ranges are left open, by the selector's name, its datatype and
+-- that one's parameters. Any other selector has no value there.
+abbrev pub open_selector : (selector datatype : List ℕ) → (parameters : List (List ℕ)) → Option OpenSelector
+open_selector f d [] = if bytes_eq d (codes "IPAddr") && is_in f range_selectors then Some TableOfSelector else None
+open_selector f d (p ∷ ps) = if bytes_eq d (codes "Option") && bytes_eq f (codes "val") then Some ValueOfSort else None
 
-abbrev pub other_value : ScriptInterpretation → List ℕ → List (List ℕ) → Option Expression → ScriptValue → Option ScriptValue
-other_value j n ps None v = None
-other_value j n [] (Some sort) v = read_other (is_in n range_selectors) (j.selectors n) v
-other_value j n (p ∷ ps) (Some sort) v = Some (j.options sort)
+-- what an interpretation gives for a selector that is applied to another constructor's value, of this sort
+abbrev pub other_value : ScriptInterpretation → List ℕ → Option OpenSelector → Option Expression → ScriptValue → Option ScriptValue
+other_value j n (Some ValueOfSort) (Some sort) v = Some (j.options sort)
+other_value j n (Some TableOfSelector) (Some sort) v = Some (in_table (j.selectors n) v)
+other_value j n o sort v = None
 
--- a selector, at an argument of this sort
-abbrev pub selected : ScriptInterpretation → List ℕ → List (List ℕ) → List ℕ → ℕ → Option Expression → ScriptValue → Option ScriptValue
-selected j n ps c place sort (ConstructorOf p d vs) = if bytes_eq c d then value_at place vs else other_value j n ps sort (ConstructorOf p d vs)
-selected j n ps c place sort v = None
+-- a selector of this datatype and constructor, at an argument of this sort
+abbrev pub selected : ScriptInterpretation → (selector datatype : List ℕ) → (parameters : List (List ℕ)) → (constructor : List ℕ) → (place : ℕ) → Option Expression → ScriptValue → Option ScriptValue
+selected j n d ps c place sort (ConstructorOf p e vs) = if bytes_eq c e then value_at place vs else other_value j n (open_selector n d ps) sort (ConstructorOf p e vs)
+selected j n d ps c place sort v = None
 
 -- Names, applied to arguments: the name, the first argument's sort, the arguments.
 abbrev pub Meaning : Type 0
@@ -204,7 +216,7 @@ entry_meaning j n body (Constant sort) s vs = if_alone vs (Some (j.constants n))
 entry_meaning j n body (Defined sort e) s vs = if_alone vs body
 entry_meaning j n body (Function argument sort) s vs = of_one (λ v. Some (in_table (j.functions n) v)) vs
 entry_meaning j n body (Builds d ps place fields) s vs = if length vs == length fields then Some (ConstructorOf place n (script_values vs)) else None
-entry_meaning j n body (Selects d ps c place field) s vs = of_one (selected j n ps c place s) vs
+entry_meaning j n body (Selects d ps c place field) s vs = of_one (selected j n d ps c place s) vs
 
 abbrev pub body_of : Entry → Expression
 body_of (Defined sort body) = body
@@ -239,13 +251,14 @@ pub record Selection : Type 0 where
   pub entry : Entry
   pub sort : Expression
 
-abbrev pub selection_if : Bool → Selection → List Selection
-selection_if true x = x ∷ []
-selection_if false x = []
+-- a selector that is left open
+abbrev pub selection_if : Option OpenSelector → Selection → List Selection
+selection_if (Some o) x = x ∷ []
+selection_if None x = []
 
+-- a name that stands for such a selector
 abbrev pub selection_of : List ℕ → Expression → Option Entry → List Selection
-selection_of f sort (Some (Selects d [] c place field)) = selection_if (is_in f range_selectors) (record { selector = f; entry = Selects d [] c place field; sort = sort })
-selection_of f sort (Some (Selects d (p ∷ ps) c place field)) = record { selector = f; entry = Selects d (p ∷ ps) c place field; sort = sort } ∷ []
+selection_of f sort (Some (Selects d ps c place field)) = selection_if (open_selector f d ps) (record { selector = f; entry = Selects d ps c place field; sort = sort })
 selection_of f sort x = []
 
 abbrev pub selection : List ℕ → Option Expression → Option Entry → List Selection
@@ -275,7 +288,7 @@ abbrev pub body_selections : List (List ℕ × Entry) → List Selection
 body_selections [] = []
 body_selections (d ∷ older) = selections (λ m. look_up m older) (body_of d.1) ++ body_selections older
 
--- the selectors that a defined or asserted expression applies, each with the sort that it is applied to
+-- the open selectors that a defined or asserted expression applies, each with the sort that it is applied to
 abbrev pub applied_selectors : State → List Selection
 applied_selectors s = body_selections (names_of s) ++ selections_in (entries s) (assertions_of s)
 
@@ -305,9 +318,14 @@ abbrev pub are_others : List ℕ → List (ScriptValue × ScriptValue) → Bool
 are_others c [] = true
 are_others c (p ∷ ps) = is_other c p.0 && are_others c ps
 
+-- a value or a table is given for a selector that is left open
+abbrev pub is_open_given : ScriptInterpretation → Entries → List ℕ → Expression → Entry → Option OpenSelector → Bool
+is_open_given j here n sort (Selects d ps c place field) (Some ValueOfSort) = elim (arguments_of d sort) [ Some es ↦ has_sort_in here (instance (paired ps es) field) (j.options sort) | None ↦ true ]
+is_open_given j here n sort (Selects d ps c place field) (Some TableOfSelector) = is_table here sort field (j.selectors n) && are_others c (j.selectors n).pairs
+is_open_given j here n sort x o = true
+
 abbrev pub is_selector_given : ScriptInterpretation → Entries → List ℕ → Expression → Entry → Bool
-is_selector_given j here n sort (Selects d [] c place field) = is_table here sort field (j.selectors n) && are_others c (j.selectors n).pairs
-is_selector_given j here n sort (Selects d (p ∷ ps) c place field) = elim (arguments_of d sort) [ Some es ↦ has_sort_in here (instance (paired (p ∷ ps) es) field) (j.options sort) | None ↦ true ]
+is_selector_given j here n sort (Selects d ps c place field) = is_open_given j here n sort (Selects d ps c place field) (open_selector n d ps)
 is_selector_given j here n sort x = true
 
 -- J gives each free name of the script a value or a table of its sort.
@@ -322,9 +340,14 @@ AgreeAt j k n (Constant sort) = j.constants n ≡ k.constants n
 AgreeAt j k n (Function argument sort) = j.functions n ≡ k.functions n
 AgreeAt j k n x = Unit {0}
 
+-- both give the same for a selector that is left open
+abbrev pub AgreeOnOpen : ScriptInterpretation → ScriptInterpretation → List ℕ → Expression → Option OpenSelector → Type 0
+AgreeOnOpen j k n sort (Some ValueOfSort) = j.options sort ≡ k.options sort
+AgreeOnOpen j k n sort (Some TableOfSelector) = j.selectors n ≡ k.selectors n
+AgreeOnOpen j k n sort None = Unit {0}
+
 abbrev pub AgreeOn : ScriptInterpretation → ScriptInterpretation → List ℕ → Expression → Entry → Type 0
-AgreeOn j k n sort (Selects d [] c place field) = j.selectors n ≡ k.selectors n
-AgreeOn j k n sort (Selects d (p ∷ ps) c place field) = j.options sort ≡ k.options sort
+AgreeOn j k n sort (Selects d ps c place field) = AgreeOnOpen j k n sort (open_selector n d ps)
 AgreeOn j k n sort x = Unit {0}
 
 -- Both give the script's free names the same.
@@ -337,13 +360,13 @@ pub record AgreeFor (j k : ScriptInterpretation) (s : State) : Type 0 where
 -- What a command but `reset` and `(pop 1)` leaves has the values and the sorts of what was there before it.
 abbrev pub StepsKeepValues : Type 0
 StepsKeepValues = (j : ScriptInterpretation) (c : Command) (s t : State) (e : Expression) → (c ≡ Reset → ⊥) → (c ≡ Pop → ⊥) → step c s ≡ Some t → knows s e ≡ true
-    → (knows t e ≡ true) × (expression_value j t e ≡ expression_value j s e) × (sort_of t e ≡ sort_of s e)
+    → (knows t e ≡ true) × (expression_value j t e ≡ expression_value j s e) × (expression_sort t e ≡ expression_sort s e)
 
 -- A defined name has its body's value, a declared one the value that the interpretation gives it.
 abbrev pub NamesHaveValues : Type 0
 NamesHaveValues = (j : ScriptInterpretation) (n : List ℕ) (sort body : Expression) (s t : State) → s.ended ≡ false
-    → (step (DefineFun n sort body) s ≡ Some t → (knows t (name n) ≡ true) × (expression_value j t (name n) ≡ expression_value j s body) × (sort_of t (name n) ≡ Some sort))
-    × (step (DeclareConst n sort) s ≡ Some t → (knows t (name n) ≡ true) × (expression_value j t (name n) ≡ Some (j.constants n)) × (sort_of t (name n) ≡ Some sort))
+    → (step (DefineFun n sort body) s ≡ Some t → (knows t (name n) ≡ true) × (expression_value j t (name n) ≡ expression_value j s body) × (expression_sort t (name n) ≡ Some sort))
+    × (step (DeclareConst n sort) s ≡ Some t → (knows t (name n) ≡ true) × (expression_value j t (name n) ≡ Some (j.constants n)) × (expression_sort t (name n) ≡ Some sort))
 
 -- What a script's assertions are worth lies in its free names.
 abbrev pub FreeNamesDecide : Type 0

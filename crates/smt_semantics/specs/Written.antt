@@ -3,7 +3,7 @@ use Rattle.std.specs.Prelude.{◌≡◌, ℕ, Bool, true, false, not, ◌&&◌, 
 use Rattle.std.specs.List.{flat_map, list_all}
 use Rattle.smt_sexpr.specs.Lexicon.{is_printable, quote_twice, decoded, some_all, is_digit, number_in, Text, Number, Piece, spell, tokens, each_longest, in_script, is_plain_symbol, is_symbol, is_line_end}
 use Rattle.smt_sexpr.specs.Reading.{Leaf, Expression, brackets}
-use Rattle.smt_semantics.specs.Script.{Defined, is_taken, has_sort, is_sort, knows, with_name, with_assertion, Command, DeclareDatatype, DeclareConst, DefineFun, Assert, State, Script, Holds, IsWhole, group, name, stated, step}
+use Rattle.smt_semantics.specs.Script.{Defined, is_taken, has_sort, is_sort, knows, with_name, with_assertion, Command, DeclareDatatype, DeclareConst, DefineFun, Assert, State, Script, Holds, HasWholeLines, IsWhole, group, name, stated, step}
 
 -- nothing, white space or a bracket
 abbrev pub is_apart : List ℕ → Bool
@@ -11,7 +11,7 @@ is_apart [] = true
 is_apart (b ∷ rest) = (b == 32) || (b == 10) || (b == 40) || (b == 41)
 
 -- The text is read as this expression, wherever white space or a bracket follows.
-pub record Writes (text : List ℕ) (e : Expression) : Type 0 where
+pub record ReadsAs (text : List ℕ) (e : Expression) : Type 0 where
   pub pieces : List Piece
   pub spelled : text ≡ spell pieces
   pub plain : IsTrue (list_all in_script pieces)
@@ -39,12 +39,12 @@ laid (i ∷ is) end = i.gap ++ (i.text ++ laid is end)
 
 abbrev pub AreSpread : List Item → Type 0
 AreSpread [] = Unit {0}
-AreSpread (i ∷ is) = IsTrue (is_wide_gap i.gap) × Writes i.text i.expr × AreSpread is
+AreSpread (i ∷ is) = IsTrue (is_wide_gap i.gap) × ReadsAs i.text i.expr × AreSpread is
 
 -- white space may stand before the first, and stands before each other
 abbrev pub AreItems : List Item → Type 0
 AreItems [] = Unit {0}
-AreItems (i ∷ is) = IsTrue (is_gap i.gap) × Writes i.text i.expr × AreSpread is
+AreItems (i ∷ is) = IsTrue (is_gap i.gap) × ReadsAs i.text i.expr × AreSpread is
 
 abbrev pub bracketed : List Item → List ℕ → List ℕ
 bracketed items gap = codes "(" ++ laid items (gap ++ codes ")")
@@ -64,35 +64,35 @@ pub record IsLine (line : List ℕ) (commands : List Command) : Type 0 where
 -- ---- the laws
 
 abbrev pub BracketsWrite : Type 0
-BracketsWrite = (items : List Item) (gap : List ℕ) → AreItems items → IsTrue (is_gap gap) → Writes (bracketed items gap) (listed items)
+BracketsWrite = (items : List Item) (gap : List ℕ) → AreItems items → IsTrue (is_gap gap) → ReadsAs (bracketed items gap) (listed items)
 
 abbrev pub NamesWrite : Type 0
-NamesWrite = (n : List ℕ) → IsTrue (is_name n) → Writes n (name n)
+NamesWrite = (n : List ℕ) → IsTrue (is_name n) → ReadsAs n (name n)
 
 -- a string, each quote in it twice
 abbrev pub between_quotes : List ℕ → List ℕ
 between_quotes text = codes "\"" ++ flat_map quote_twice text ++ codes "\""
 
 abbrev pub StringsWrite : Type 0
-StringsWrite = (text : List ℕ) → IsTrue (list_all is_printable text) → Writes (between_quotes text) (Leaf (Text (decoded 0 text)))
+StringsWrite = (text : List ℕ) → IsTrue (list_all is_printable text) → ReadsAs (between_quotes text) (Leaf (Text (decoded 0 text)))
 
 abbrev pub NumeralsWrite : Type 0
-NumeralsWrite = (digits : List ℕ) → IsTrue (some_all is_digit digits) → Writes digits (Leaf (Number (number_in 10 digits)))
+NumeralsWrite = (digits : List ℕ) → IsTrue (some_all is_digit digits) → ReadsAs digits (Leaf (Number (number_in 10 digits)))
 
 -- a command's text and a line feed
 abbrev pub CommandsAreLines : Type 0
-CommandsAreLines = (text : List ℕ) (c : Command) → Writes text (stated c) → IsLine (text ++ codes "\n") (c ∷ [])
+CommandsAreLines = (text : List ℕ) (c : Command) → ReadsAs text (stated c) → IsLine (text ++ codes "\n") (c ∷ [])
 
 abbrev pub CommentsAreLines : Type 0
 CommentsAreLines = (text : List ℕ) → IsTrue (list_all (λ b. not (is_line_end b)) text) → IsLine (codes ";" ++ text ++ codes "\n") []
 
 -- A line behind a whole script adds its command to what the script comes to, and nothing else.
 abbrev pub LinesAdd : Type 0
-LinesAdd = (text line : List ℕ) (c : Command) (s t : State) → IsWhole text → Script text s → IsLine line (c ∷ [])
-    → (step c s ≡ Some t → Script (text ++ line) t × IsWhole (text ++ line)) × (Script (text ++ line) t → step c s ≡ Some t)
+LinesAdd = (text line : List ℕ) (c : Command) (s t : State) → HasWholeLines text → Script text s → IsLine line (c ∷ [])
+    → (step c s ≡ Some t → Script (text ++ line) t × HasWholeLines (text ++ line)) × (Script (text ++ line) t → step c s ≡ Some t)
 
 abbrev pub CommentsAdd : Type 0
-CommentsAdd = (text line : List ℕ) (s : State) → IsWhole text → Script text s → IsLine line [] → Script (text ++ line) s × IsWhole (text ++ line)
+CommentsAdd = (text line : List ℕ) (s : State) → HasWholeLines text → Script text s → IsLine line [] → Script (text ++ line) s × HasWholeLines (text ++ line)
 
 abbrev pub OneState : Type 0
 OneState = (bytes : List ℕ) (s t : State) → Script bytes s → Script bytes t → s ≡ t
@@ -103,19 +103,19 @@ abbrev pub IsName : List ℕ → Type 0
 IsName n = IsTrue (is_name n)
 
 abbrev pub DeclareConstLine : Type 0
-DeclareConstLine = (n sort : List ℕ) (s : Expression) → IsName n → Writes sort s
+DeclareConstLine = (n sort : List ℕ) (s : Expression) → IsName n → ReadsAs sort s
     → IsLine (codes "(declare-const " ++ n ++ codes " " ++ sort ++ codes ")\n") (DeclareConst n s ∷ [])
 
 abbrev pub DefineFunLine : Type 0
-DefineFunLine = (n sort body : List ℕ) (s b : Expression) → IsName n → Writes sort s → Writes body b
+DefineFunLine = (n sort body : List ℕ) (s b : Expression) → IsName n → ReadsAs sort s → ReadsAs body b
     → IsLine (codes "(define-fun " ++ n ++ codes " () " ++ sort ++ codes " " ++ body ++ codes ")\n") (DefineFun n s b ∷ [])
 
 abbrev pub AssertLine : Type 0
-AssertLine = (e : List ℕ) (x : Expression) → Writes e x → IsLine (codes "(assert " ++ e ++ codes ")\n") (Assert x ∷ [])
+AssertLine = (e : List ℕ) (x : Expression) → ReadsAs e x → IsLine (codes "(assert " ++ e ++ codes ")\n") (Assert x ∷ [])
 
 -- an operator of one argument
 abbrev pub AppliedText : Type 0
-AppliedText = (f x : List ℕ) (e : Expression) → IsName f → Writes x e → Writes (codes "(" ++ f ++ codes " " ++ x ++ codes ")") (group (name f ∷ e ∷ []))
+AppliedText = (f x : List ℕ) (e : Expression) → IsName f → ReadsAs x e → ReadsAs (codes "(" ++ f ++ codes " " ++ x ++ codes ")") (group (name f ∷ e ∷ []))
 
 -- the first lines of each script
 abbrev pub option_lines : List ℕ
@@ -130,21 +130,25 @@ OptionLines = IsLine option_lines (option_command ∷ [])
 
 -- ---- what the encoder uses at each line: the rules of declarations are its premises
 
--- a text that is a whole script, which comes to s, and can go on
-pub record Stands (text : List ℕ) (s : State) : Type 0 where
-  pub whole : IsWhole text
+-- a text with whole lines that is a script, comes to s, and can go on
+pub record IsOpenScript (text : List ℕ) (s : State) : Type 0 where
+  pub whole : HasWholeLines text
   pub script : Script text s
   pub running : IsTrue (not s.ended)
 
+-- An open script is whole.
+abbrev pub OpenScriptsAreWhole : Type 0
+OpenScriptsAreWhole = (text : List ℕ) (s : State) → IsOpenScript text s → IsWhole text
+
 abbrev pub DefinitionsExtend : Type 0
-DefinitionsExtend = (text n sort body : List ℕ) (s : State) (x b : Expression) → Stands text s → IsName n → Writes sort x → Writes body b
+DefinitionsExtend = (text n sort body : List ℕ) (s : State) (x b : Expression) → IsOpenScript text s → IsName n → ReadsAs sort x → ReadsAs body b
     → IsTrue (not (is_taken s n)) → IsTrue (is_sort (has_sort s) x) → IsTrue (knows s b)
-    → Stands (text ++ (codes "(define-fun " ++ n ++ codes " () " ++ sort ++ codes " " ++ body ++ codes ")\n")) (with_name n (Defined x b) s)
+    → IsOpenScript (text ++ (codes "(define-fun " ++ n ++ codes " () " ++ sort ++ codes " " ++ body ++ codes ")\n")) (with_name n (Defined x b) s)
 
 abbrev pub AssertionsExtend : Type 0
-AssertionsExtend = (text e : List ℕ) (s : State) (x : Expression) → Stands text s → Writes e x → IsTrue (knows s x)
-    → Stands (text ++ (codes "(assert " ++ e ++ codes ")\n")) (with_assertion x s)
+AssertionsExtend = (text e : List ℕ) (s : State) (x : Expression) → IsOpenScript text s → ReadsAs e x → IsTrue (knows s x)
+    → IsOpenScript (text ++ (codes "(assert " ++ e ++ codes ")\n")) (with_assertion x s)
 
 abbrev pub CommentsExtend : Type 0
-CommentsExtend = (text comment : List ℕ) (s : State) → Stands text s → IsTrue (list_all (λ b. not (is_line_end b)) comment)
-    → Stands (text ++ (codes ";" ++ comment ++ codes "\n")) s
+CommentsExtend = (text comment : List ℕ) (s : State) → IsOpenScript text s → IsTrue (list_all (λ b. not (is_line_end b)) comment)
+    → IsOpenScript (text ++ (codes ";" ++ comment ++ codes "\n")) s

@@ -1,5 +1,5 @@
-ghost use Rattle.smt_semantics.specs.Meanings.{ApplicationsHaveSorts, ConstructorsApply, ConstructorsStand, DatatypesLeave, ExtensionsApply, FunctionsApply, MatchesApply, NonesStand, OperatorsApply, PopsGiveBack, SelectorsApply, SetsStand, StepsKeepLevels, TestsApply};
-ghost use Rattle.smt_semantics.specs.Order.{OrderIsTotal, PutsKeepSets, SameIsEqual};
+ghost use Rattle.smt_semantics.specs.Meanings.{ApplicationsHaveSorts, ConstructorsApply, BareConstructorsHaveValues, DatatypesLeave, ExtensionsApply, FunctionsApply, MatchesApply, NonesHaveValues, OperatorsApply, OperatorsAreFoundBySpelling, PopsGiveBack, SelectorsApply, SetsHaveValues, StepsKeepLevels, TestsApply};
+ghost use Rattle.smt_semantics.specs.ScriptOrder.{OrderIsTotal, PutsKeepSets, SameIsEqual};
 ghost use Rattle.smt_semantics.specs.Value.{FreeNamesDecide, NamesHaveValues, StepsKeepValues};
 
 /// What a command leaves has the values of what was there before it, and a new name has its own.
@@ -16,19 +16,24 @@ pub fn script_values_are_ordered()
     ensures sets { PutsKeepSets }
 {}
 
+/// Operators and their names in scripts are one to one.
+pub fn operators_are_found_by_spelling()
+    ensures { OperatorsAreFoundBySpelling }
+{}
+
 /// What operators and declared names give where they are applied.
 pub fn applications_have_values()
     ensures operators { OperatorsApply }
     ensures constructors { ConstructorsApply }
-    ensures standing { ConstructorsStand }
+    ensures standing { BareConstructorsHaveValues }
     ensures functions { FunctionsApply }
     ensures selectors { SelectorsApply }
     ensures sorts { ApplicationsHaveSorts }
     ensures extensions { ExtensionsApply }
     ensures tests { TestsApply }
     ensures matching { MatchesApply }
-    ensures nones { NonesStand }
-    ensures sets { SetsStand }
+    ensures nones { NonesHaveValues }
+    ensures sets { SetsHaveValues }
 {}
 
 /// What a datatype leaves, and what a level.

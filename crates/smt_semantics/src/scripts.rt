@@ -1,8 +1,8 @@
-ghost use Rattle.smt_semantics.specs.Growth.{ConstantsExtend, DatatypesDeclare, DatatypesExtend, FunctionsExtend};
+ghost use Rattle.smt_semantics.specs.DeclarationLines.{ConstantsExtend, DatatypesDeclare, DatatypesExtend, FunctionsExtend};
 ghost use Rattle.smt_semantics.specs.Numerals.{NumberedNames, NumeralsArePrinted, NumeralsDiffer};
-ghost use Rattle.smt_semantics.specs.Quoting.{PatternsWrite, TextsWrite};
-ghost use Rattle.smt_semantics.specs.Texts.{BitSortsWrite, BitsHaveValues, BitsWrite, CommandsExtend, DatatypeLine, DeclareFunLine, GroupsWrite, PlainLines, SelectorsWrite, SetLogicLine, SetOptionLine, SortedCommentsAdd, SortedLinesAdd};
-ghost use Rattle.smt_semantics.specs.Written.{AppliedText, AssertLine, AssertionsExtend, BracketsWrite, CommandsAreLines, CommentsAdd, CommentsAreLines, CommentsExtend, DeclareConstLine, DefineFunLine, DefinitionsExtend, LinesAdd, NamesWrite, NumeralsWrite, OneState, OptionLines, StringsWrite};
+ghost use Rattle.smt_semantics.specs.WrittenStrings.{PatternsWrite, TextsWrite};
+ghost use Rattle.smt_semantics.specs.CommandLines.{BitSortsWrite, BitsHaveValues, BitsWrite, CommandsExtend, DatatypeLine, DeclareFunLine, GroupsWrite, PlainLines, SelectorsWrite, SetLogicLine, SetOptionLine, SortedCommentsAdd, SortedLinesAdd};
+ghost use Rattle.smt_semantics.specs.Written.{AppliedText, AssertLine, AssertionsExtend, BracketsWrite, CommandsAreLines, CommentsAdd, CommentsAreLines, CommentsExtend, DeclareConstLine, DefineFunLine, DefinitionsExtend, LinesAdd, NamesWrite, NumeralsWrite, OneState, OptionLines, OpenScriptsAreWhole, StringsWrite};
 
 /// A script comes to one state.
 pub fn one_state()
@@ -47,6 +47,7 @@ pub fn numbered_names_differ()
 
 /// A line at the end of a text that stands leaves a text that stands.
 pub fn lines_extend()
+    ensures whole { OpenScriptsAreWhole }
     ensures definition { DefinitionsExtend }
     ensures assertion { AssertionsExtend }
     ensures comment { CommentsExtend }

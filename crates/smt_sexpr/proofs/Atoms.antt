@@ -1,16 +1,17 @@
 -- The atom at the front of a text: which one stands there, and where there is none.
 use Rattle.std.proofs.Common.{inl, inr, ◌⊎◌, subst, ◌≡◌, ℕ, ◌^◌, ◌<◌, ◌≤◌, Bool, true, false, not, ◌||◌, eqb, List, [], ◌∷◌, ◌++◌, refl, sym, ap, ◌∙◌, append_assoc, arith, length}
 use Rattle.std.specs.List.{flat_map, list_all}
-use Rattle.std.specs.Str.{chars}
+use Rattle.std.specs.Str.{chars, is_utf8}
+use Rattle.std.proofs.lemmas.Str.{is_utf8-from_IsUtf8}
 use Rattle.std.proofs.lemmas.Bool.{and_parts, and_from, false≢true, eqb-true, or_parts, or_cases, not-true, not-false, not_from_false, both_ways}
 use Rattle.std.proofs.lemmas.Bool.Decides.{nat_tests}
 use Rattle.smt_sexpr.specs.Lexicon.{Piece, Space, Comment, Open, Close, Quoted, Binary, Hexadecimal, Numeral, Symbol, Atom, Number, Text, Name, Word, token, spelling, some_all, is_symbol, is_piece, goes_on, stops, quote_twice, is_digit, is_symbol_byte, ends_symbol, is_space, number_in}
 use Rattle.smt_sexpr.specs.Reading.{Leaf, Node}
 use Rattle.smt_sexpr.specs.Front.{BeginsWithAtom, BeginsWithNone, IsQuoted, begins_no_symbol, begins_number}
-use Rattle.smt_sexpr.specs.Plain.{IsPlainText, is_plain_text_byte, IsSmallAtom}
+use Rattle.smt_sexpr.specs.PlainTexts.{IsPlainText, is_plain_text_byte, IsSmallAtom}
 use Rattle.smt_sexpr.proofs.Unique.{ends_run, head_is, kind, kind_is, kind_space, number, first_one, begins}
-use Rattle.smt_sexpr.proofs.Runs.{IsRun}
-use Rattle.smt_sexpr.proofs.PlainText.{plain_decoded, plain_chars}
+use Rattle.smt_sexpr.proofs.Runs.{IsRun, plain_front}
+use Rattle.smt_sexpr.proofs.PlainText.{plain_decoded, plain_chars, plain_utf8}
 use Rattle.smt_sexpr.proofs.Strings.{quoted_plain}
 
 -- ---- pieces with a token
@@ -95,10 +96,10 @@ first_no_digit src (b ∷ bs) rest e h l p =
     let none : begins_no_symbol (b ∷ (bs ++ rest)) ≡ false = sym (ap begins_no_symbol e) ∙ h in
     and_from (not (is_digit b)) (some_all is_symbol_byte (b ∷ bs)) (not_from_false (is_digit b) (or_parts (eqb b 40 || eqb b 34) (is_digit b) none).1) p
 
-pub symbol_begins : (src name rest : List ℕ) → IsRun is_symbol_byte src name rest → 0 < length name → begins_no_symbol src ≡ false → BeginsWithAtom src (Name name) rest
-symbol_begins src name rest r l h = record {
+pub symbol_begins : (src name rest : List ℕ) → IsRun is_symbol_byte src name rest → 0 < length name → begins_no_symbol src ≡ false → IsPlainText src → BeginsWithAtom src (Name name) rest
+symbol_begins src name rest r l h plain = record {
   piece = Symbol name;
-  is_one = first_no_digit src name rest r.whole h l r.each;
+  is_one = and_from (is_symbol name) (is_utf8 name) (first_no_digit src name rest r.whole h l r.each) (is_utf8-from_IsUtf8 name (plain_utf8 name (plain_front src name rest r.whole plain)));
   longest = stops_run (Symbol name) rest r.ends;
   token_is = refl;
   spelled = r.whole;

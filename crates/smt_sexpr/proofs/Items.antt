@@ -3,7 +3,7 @@ use Rattle.std.proofs.Common.{ap₂, ◌≡◌, ℕ, ◌-◌, ◌≤◌, List, [
 use Rattle.smt_sexpr.specs.Lexicon.{Atom}
 use Rattle.smt_sexpr.specs.Reading.{Expression, Leaf, Node, Expressions, Nil, Cons, followed_by, expressions}
 use Rattle.smt_sexpr.specs.Front.{BeginsWithAtom, Begins, BeginsInside, BeginsWithNone, InsideIsNone, skip_space}
-use Rattle.smt_sexpr.specs.Plain.{IsPlainText}
+use Rattle.smt_sexpr.specs.PlainTexts.{IsPlainText}
 use Rattle.smt_sexpr.proofs.Unique.{begins, head_is, kind, nothing_is}
 use Rattle.smt_sexpr.proofs.Atoms.{atom_kind, none_from, one_atom}
 

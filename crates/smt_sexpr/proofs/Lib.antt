@@ -1,7 +1,6 @@
 pub mod Atoms
 pub mod Characters
 pub mod Items
-pub mod Numbers
 pub mod PlainText
 pub mod Quotes
 pub mod Readings

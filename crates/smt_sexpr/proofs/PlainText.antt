@@ -8,7 +8,7 @@ use Rattle.std.proofs.lemmas.Bool.Decides.{nat_tests}
 use Rattle.std.proofs.lemmas.Str.Ascii.{IsAscii-cons, IsAscii-nil}
 use Rattle.std.proofs.lemmas.Str.{IsUtf8-from_ascii, chars-IsAscii}
 use Rattle.smt_sexpr.specs.Lexicon.{decoded, escape, Escape}
-use Rattle.smt_sexpr.specs.Plain.{is_plain_text_byte, IsPlainText}
+use Rattle.smt_sexpr.specs.PlainTexts.{is_plain_text_byte, IsPlainText}
 
 plain_small : (b : ℕ) → is_plain_text_byte b ≡ true → b < 128
 plain_small b h = grind (arith, nat_tests)

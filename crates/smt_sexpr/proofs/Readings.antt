@@ -4,7 +4,7 @@ use Rattle.std.proofs.lemmas.Bool.{and_parts, and_from, cases_Bool, false≢true
 use Rattle.smt_sexpr.specs.Lexicon.{Piece, Space, Comment, Open, Close, Quoted, Binary, Hexadecimal, Numeral, Symbol, Token, Begin, End, Word, IsCutInto, is_piece, is_space, stops, spelling, spell, each_longest, token, tokens}
 use Rattle.smt_sexpr.specs.Reading.{Expression, Leaf, Node, Expressions, Nil, Cons, brackets, inside, Reads}
 use Rattle.smt_sexpr.specs.Front.{Begins, BeginsInside, BeginsWithNone, skip_space}
-use Rattle.smt_sexpr.specs.Plain.{IsPlainText, IsPlainRead, nesting, deepest, HasSmallNumerals, HaveSmallNumerals}
+use Rattle.smt_sexpr.specs.PlainTexts.{IsPlainText, IsPlainRead, nesting, deepest, HasSmallNumerals, HaveSmallNumerals}
 use Rattle.smt_sexpr.proofs.Unique.{kind, kind_is, kind_space, number}
 use Rattle.smt_sexpr.proofs.Runs.{plain_parts}
 use Rattle.smt_sexpr.proofs.Items.{one_item}

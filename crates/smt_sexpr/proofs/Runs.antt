@@ -6,7 +6,7 @@ use Rattle.std.proofs.lemmas.Bool.{and_parts, and_from, cases_Bool, eqb-true, no
 use Rattle.std.proofs.lemmas.List.Folds.{length-prefix_len, list_all-append}
 use Rattle.smt_sexpr.specs.Lexicon.{is_space}
 use Rattle.smt_sexpr.specs.Front.{skip_space}
-use Rattle.smt_sexpr.specs.Plain.{is_plain_text_byte, IsPlainText}
+use Rattle.smt_sexpr.specs.PlainTexts.{is_plain_text_byte, IsPlainText}
 use Rattle.smt_sexpr.proofs.Unique.{ends_run}
 
 pub record IsRun (test : ℕ → Bool) (bytes front back : List ℕ) : Type 0 where

@@ -6,7 +6,7 @@ use Rattle.std.proofs.lemmas.List.Folds.{list_all-append}
 use Rattle.std.proofs.lemmas.List.Concat.{flat_map-append}
 use Rattle.smt_sexpr.specs.Lexicon.{Quoted, quote_twice, stops}
 use Rattle.smt_sexpr.specs.Front.{IsQuoted}
-use Rattle.smt_sexpr.specs.Plain.{is_plain_text_byte, IsPlainText}
+use Rattle.smt_sexpr.specs.PlainTexts.{is_plain_text_byte, IsPlainText}
 use Rattle.smt_sexpr.proofs.Unique.{ends_run, head_is, not_sooner, twice_quote, twice_other}
 use Rattle.smt_sexpr.proofs.Runs.{IsRun, plain_back, plain_front, plain_parts}
 

@@ -4,6 +4,7 @@ use Rattle.std.specs.Prelude.{codes}
 use Rattle.std.specs.List.{flat_map, list_all}
 use Rattle.std.proofs.lemmas.List.{append_cancel_left}
 use Rattle.std.proofs.lemmas.Bool.{and_parts, false≢true, not_from_true, eqb-true, eq-eqb, cases_Bool, or_cases, cond-true, cond-false, not-true}
+use Rattle.std.specs.Str.{is_utf8}
 use Rattle.smt_sexpr.specs.Lexicon.{Piece, Space, Comment, Open, Close, Quoted, Binary, Hexadecimal, Numeral, Symbol, spelling, spell, some_all, is_symbol, is_piece, goes_on, stops, each_longest, quote_twice, is_line_end, is_binary, is_hexadecimal, is_digit, is_symbol_byte, is_space}
 
 pub head_is : (a b : ℕ) (xs ys : List ℕ) → a ∷ xs ≡ b ∷ ys → (a ≡ b) × (xs ≡ ys)
@@ -119,7 +120,7 @@ kind_is (Numeral []) r h = absurd (false≢true h)
 kind_is (Numeral (d ∷ ds)) r h = cond-true (is_digit d) 7 _ (and_parts (is_digit d) (list_all is_digit ds) h).0
 kind_is (Symbol []) r h = absurd (false≢true h)
 kind_is (Symbol (c ∷ cs)) r h =
-    let p = and_parts (not (is_digit c)) (some_all is_symbol_byte (c ∷ cs)) h in
+    let p = and_parts (not (is_digit c)) (some_all is_symbol_byte (c ∷ cs)) (and_parts (is_symbol (c ∷ cs)) (is_utf8 (c ∷ cs)) h).0 in
     cond-false (is_digit c) 7 _ (not-true (is_digit c) p.0) ∙ cond-true (is_symbol_byte c) 8 _ (and_parts (is_symbol_byte c) (list_all is_symbol_byte cs) p.1).0
 
 -- ---- the first piece
@@ -154,7 +155,7 @@ same_kind (Hexadecimal a) (Hexadecimal b) r s n hx hy hr hs e =
 same_kind (Numeral a) (Numeral b) r s n hx hy hr hs e =
     let t = one_run is_digit a b r s (all_of_some is_digit a hx) (all_of_some is_digit b hy) (run_ends (Numeral a) r hr) (run_ends (Numeral b) s hs) e in (ap Numeral t.0, t.1)
 same_kind (Symbol a) (Symbol b) r s n hx hy hr hs e =
-    let t = one_run is_symbol_byte a b r s (all_of_symbol a hx) (all_of_symbol b hy) (run_ends (Symbol a) r hr) (run_ends (Symbol b) s hs) e in (ap Symbol t.0, t.1)
+    let t = one_run is_symbol_byte a b r s (all_of_symbol a (and_parts (is_symbol a) (is_utf8 a) hx).0) (all_of_symbol b (and_parts (is_symbol b) (is_utf8 b) hy).0) (run_ends (Symbol a) r hr) (run_ends (Symbol b) s hs) e in (ap Symbol t.0, t.1)
 same_kind x y r s n hx hy hr hs e = absurd (cc)
 
 pub first_one : (x y : Piece) (r s : List ℕ) → is_piece x ≡ true → is_piece y ≡ true → stops x r ≡ true → stops y s ≡ true → spelling x ++ r ≡ spelling y ++ s → (x ≡ y) × (r ≡ s)

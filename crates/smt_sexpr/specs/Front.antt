@@ -3,7 +3,7 @@ use Rattle.std.specs.Prelude.{◌≡◌, ℕ, ◌-◌, ◌<◌, Bool, false, ◌
 use Rattle.std.specs.List.{flat_map}
 use Rattle.smt_sexpr.specs.Lexicon.{Piece, Quoted, Atom, Word, is_piece, stops, spelling, token, is_space, is_digit, quote_twice}
 use Rattle.smt_sexpr.specs.Reading.{Expression, Leaf, Node, Expressions, Nil, Cons}
-use Rattle.smt_sexpr.specs.Plain.{IsSmallAtom}
+use Rattle.smt_sexpr.specs.PlainTexts.{IsSmallAtom}
 
 -- What a reader gave, unless memory ran out: a value of which P holds ..
 abbrev pub IfRead : {X E : Type 0} → Result (Option X) E → (X → Type 0) → Type 0

@@ -1,6 +1,6 @@
 pub mod Front
 pub mod Lexicon
-pub mod Plain
+pub mod PlainTexts
 pub mod Quoting
 pub mod Reading
 pub mod View

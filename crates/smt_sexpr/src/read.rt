@@ -3,7 +3,7 @@
 
 ghost use Rattle.std.specs.Prelude.{◌≡◌, ◌<◌, [], ◌∷◌, length, IfOk, IfErr, IfSome, IfNone};
 ghost use Rattle.smt_sexpr.specs.Front.{Begins, BeginsInside, BeginsWithNone, IfRead, IfUnread, InsideIsNone, skip_space};
-ghost use Rattle.smt_sexpr.specs.Plain.{IsPlainText, IsPlainRead};
+ghost use Rattle.smt_sexpr.specs.PlainTexts.{IsPlainText, IsPlainRead};
 ghost use Rattle.smt_sexpr.specs.Reading.{Expression, Reads, expressions};
 ghost use Rattle.smt_sexpr.specs.View.{plain, plains};
 

@@ -10,7 +10,7 @@ use Rattle.smt_term.specs.Faults.{entity_type_fault, type_fault, attribute_types
 use Rattle.smt_term.specs.Interpretations.{IsGivenOp, IsGiven, IsInterpretation}
 use Rattle.smt_term.specs.Reached.{subterms, subterms_of_all, subterms_of_fields}
 use Rattle.smt_term.specs.Types.{type_of, field_types, types_of, result_type, is_type}
-use Rattle.smt_term.specs.Typing.{are_elements, typed, typed_all, typed_fields}
+use Rattle.smt_term.specs.Typing.{are_elements, typed, typed_all, typed_fields, AreTyped}
 use Rattle.smt_term.specs.TypeValues.{Enums, members_of, IsId, IsValue, AreFieldValues}
 use Rattle.smt_bits.proofs.BitRanges.{positive}
 use Rattle.smt_term.proofs.Soundness.{none-first, none-second, not-passed, walked, is_type-some}
@@ -84,6 +84,6 @@ module _ (enums : Enums) where
     fields_given no_fields h f = tt
     fields_given (one_field a t fs) h f = all-join P (subterms t) (subterms_of_fields fs) (given t (first_so (typed t) (typed_fields fs) h) (none-first (term_fault enums t) (fields_fault enums fs) f)) (fields_given fs (second_so (typed t) (typed_fields fs) h) (none-second (term_fault enums t) (fields_fault enums fs) f))
 
-  pub interpreted : (ts : List PlainTerm) → AllByRecursion (λ t. IsTrue (typed t)) ts → first_fault enums ts ≡ None → IsInterpretation enums ts (default_interpretation enums)
+  pub interpreted : (ts : List PlainTerm) → AreTyped ts → first_fault enums ts ≡ None → IsInterpretation enums ts (default_interpretation enums)
   interpreted [] h f = tt
   interpreted (t ∷ ts) h f = all-join P (subterms t) _ (given t h.0 (none-first (term_fault enums t) (first_fault enums ts) f)) (interpreted ts h.1 (none-second (term_fault enums t) (first_fault enums ts) f))

@@ -1,13 +1,19 @@
 -- The derived orders and equalities of patterns are those of what they say.
-use Rattle.std.proofs.Common.{◌≡◌, true, List, [], ◌∷◌, map, refl, ap, ◌∙◌}
+use Rattle.std.proofs.Common.{◌≡◌, ◌↔◌, Bool, IsTrue, Equal, true, List, [], ◌∷◌, map, refl, sym, ap, ◌∙◌}
+use Rattle.std.specs.Cmp.{Equal-is}
 use Rattle.std.specs.Cmp.Lexicographic.{slice_cmp, pointwise, pointwise_decides}
-use Rattle.std.specs.Ordering.{ordering_then}
+use Rattle.std.specs.Ordering.{ordering_then, is_eq}
+use Rattle.std.specs.declared.cmp.Ordering.{Ordering}
 use Rattle.std.proofs.lemmas.Bool.{eqb-true, eq-eqb}
-use Rattle.smt_term.specs.PatternOrder.{ElementsCompareAsPlain, PatternsCompareAsPlain, EqualElementsSayTheSame, EqualPatternsSayTheSame, EqualOrdPatternsSayTheSame}
+use Rattle.smt_term.specs.PatternOrder.{ElementsCompareAsPlain, PatternsCompareAsPlain, EqualElementsSayTheSame, EqualPatternsSayTheSame, EqualOrdPatternsSayTheSame, LevelElementsAreEqual, LevelPatternsAreEqual}
 use Rattle.smt_term.specs.PatternView.{plain_part}
 use Rattle.smt_term.specs.TermOrder.{part_cmp}
 use Rattle.smt_term.specs.contracts.pattern.PatternElemOrd.TheImpl as element_order
 use Rattle.smt_term.specs.contracts.pattern.PatternElemPartialEq.TheImpl as element_equality
+use Rattle.smt_term.specs.contracts.pattern.OrdPatternOrd.TheImpl as pattern_order
+use Rattle.smt_term.specs.contracts.pattern.OrdPatternOrd.TheImpl.Laws as pattern_laws
+use Rattle.smt_term.specs.contracts.pattern.OrdPatternPartialEq.TheImpl as pattern_equality
+use Rattle.smt_term.specs.contracts.pattern.PatternElemOrd.TheImpl.Laws as element_laws
 use Rattle.smt_term.specs.declared.pattern.PatternElem.{PatternElem}
 use Rattle.smt_term.specs.declared.pattern.PatternElem.TheVariants.{Char, Wildcard}
 
@@ -63,3 +69,13 @@ pattern_eq-is p q = elements_eq p.elems.value.items q.elems.value.items
 
 pub ord_pattern_eq-is : EqualOrdPatternsSayTheSame
 ord_pattern_eq-is p q = elements_eq p.elems.value.items q.elems.value.items
+
+-- what an order holds level is equal, where the test of equality asks the order
+level_is_eq : (equal : Bool) (o : Ordering) → equal ≡ is_eq o → (o ≡ Equal) ↔ IsTrue equal
+level_is_eq equal o m = (λ h. m ∙ ap is_eq h, λ k. (Equal-is o).0 (sym m ∙ k))
+
+pub level_elements : LevelElementsAreEqual
+level_elements a b = level_is_eq (element_equality.ghosts.eq a b) (element_order.ghosts.cmp a b) (element_laws.matches_eq-law a b)
+
+pub level_patterns : LevelPatternsAreEqual
+level_patterns p q = level_is_eq (pattern_equality.ghosts.eq p q) (pattern_order.ghosts.cmp p q) (pattern_laws.matches_eq-law p q)

@@ -6,13 +6,13 @@ use Rattle.std.specs.Ordering.{nat_cmp, ordering_then}
 use Rattle.std.specs.declared.cmp.Ordering.TheVariants.{Equal}
 use Rattle.smt_term.specs.Interpretations.{extension_op_place}
 use Rattle.smt_term.specs.Plain.{PlainFunction, ExtensionOp, DatetimeOfBitVecOp, DatetimeValOp, DecimalValOp, DurationOfBitVecOp, DurationValOp, IpAddrV4Op, IpAddrV6Op, IpIsV4Op, IpPrefixV4Op, IpPrefixV6Op, PatternPart, Character, Wildcard, PlainOp, AndOp, BvaddOp, BvlshrOp, BvmulOp, BvnegOp, BvnegoOp, BvsaddoOp, BvsdivOp, BvshlOp, BvsleOp, BvsltOp, BvsmodOp, BvsmuloOp, BvsremOp, BvssuboOp, BvsubOp, BvudivOp, BvuleOp, BvultOp, BvuremOp, EqOp, ExtOp, IteOp, NotOp, OptionGetOp, OrOp, RecordGetOp, SetInterOp, SetMemberOp, SetSubsetOp, StringLikeOp, UufOp, ZeroExtendOp, PlainExtension, DecimalOf, Ipv4Of, Ipv6Of, DatetimeOf, DurationOf, PlainLiteral, BitVecLiteral, BoolLiteral, EntityLiteral, ExtensionLiteral, StringLiteral, PlainTerm, Application, NoneTerm, LiteralTerm, RecordTerm, SetTerm, SomeTerm, VariableTerm, PlainTerms, no_terms, one_term, PlainFields, no_fields, one_field}
-use Rattle.smt_term.specs.TermOrder.{part_cmp, function_cmp, op_place, op_fields_cmp, op_cmp, prefix_literal_cmp, extension_literal_cmp, literal_cmp, term_cmp, terms_cmp, fields_cmp}
+use Rattle.smt_term.specs.TermOrder.{part_cmp, function_cmp, op_place, op_fields_cmp, op_cmp, prefix_cmp, extension_literal_cmp, literal_cmp, term_cmp, terms_cmp, fields_cmp}
 use Rattle.smt_term.specs.Types.{type_cmp}
 use Rattle.smt_term.specs.ValueOrder.{text_cmp}
 use Rattle.smt_term.proofs.TypeOrder.{type_same}
 use Rattle.smt_term.proofs.ValueOrder.{text_same, bool_same, then_equal}
 
-part_same : (x y : PatternPart) → part_cmp x y ≡ Equal → x ≡ y
+pub part_same : (x y : PatternPart) → part_cmp x y ≡ Equal → x ≡ y
 part_same (Character c) (Character d) h = ap Character (nat_cmp-IsAntisymmetric c d h)
 part_same (Character c) Wildcard h = cc
 part_same Wildcard (Character d) h = cc
@@ -80,15 +80,15 @@ op_alike o p h g = cc
 pub op_same : (o p : PlainOp) → op_cmp o p ≡ Equal → o ≡ p
 op_same o p h = let e = then_equal (nat_cmp (op_place o) (op_place p)) (op_fields_cmp o p) h in op_alike o p e.0 e.1
 
-prefix_same : (p q : Option ℕ) → prefix_literal_cmp p q ≡ Equal → p ≡ q
+prefix_same : (p q : Option ℕ) → prefix_cmp p q ≡ Equal → p ≡ q
 prefix_same (Some a) (Some b) h = ap Some (nat_cmp-IsAntisymmetric a b h)
 prefix_same (Some a) None h = cc
 prefix_same None (Some b) h = cc
 prefix_same None None h = refl
 
-range_same : (a b : ℕ) (p q : Option ℕ) → ordering_then (nat_cmp a b) (prefix_literal_cmp p q) ≡ Equal → (a ≡ b) × (p ≡ q)
+range_same : (a b : ℕ) (p q : Option ℕ) → ordering_then (nat_cmp a b) (prefix_cmp p q) ≡ Equal → (a ≡ b) × (p ≡ q)
 range_same a b p q h =
-    let e : (nat_cmp a b ≡ Equal) × (prefix_literal_cmp p q ≡ Equal) = then_equal (nat_cmp a b) (prefix_literal_cmp p q) h in
+    let e : (nat_cmp a b ≡ Equal) × (prefix_cmp p q ≡ Equal) = then_equal (nat_cmp a b) (prefix_cmp p q) h in
     (nat_cmp-IsAntisymmetric a b e.0, prefix_same p q e.1)
 
 extension_same : (x y : PlainExtension) → extension_literal_cmp x y ≡ Equal → x ≡ y

@@ -3,20 +3,19 @@ use Rattle.std.proofs.Common.{◌≡◌, ℕ, ◌<◌, ◌≤◌, ◌&&◌, Bool
 use Rattle.std.specs.Prelude.{Option, Some, None, nat_le, nat_lt, bytes_eq}
 use Rattle.std.specs.Cmp.{IsTotalOrder, Equal-is, first_so, second_so}
 use Rattle.std.specs.Cmp.Derive.{both_true}
-use Rattle.std.specs.FinMap.{nat_cmp-IsAntisymmetric}
-use Rattle.std.specs.Cmp.Lexicographic.{slice_cmp}
+use Rattle.std.specs.FinMap.{nat_cmp-IsAntisymmetric, slice_cmp-IsAntisymmetric}
 use Rattle.std.specs.Ordering.{nat_cmp, ordering_then, ordering_reverse, is_eq}
 use Rattle.std.specs.declared.cmp.Ordering.TheVariants.{Less, Equal}
 use Rattle.std.proofs.lemmas.Bool.{leb-true, lt-ltb}
 use Rattle.std.proofs.lemmas.Cmp.{int_cmp_total, lists_total}
 use Rattle.std.proofs.lemmas.Slice.Eq.{bytes_eq-Decides}
 use Rattle.smt_term.specs.Interpretations.{extension_op_place, function_eq}
-use Rattle.smt_term.specs.Laws.{TypeEqualityIsDecided, FunctionEqualityIsDecided, OpEqualityIsDecided, TermEqualityIsDecided}
+use Rattle.smt_term.specs.Laws.{TypeEqualityIsDecided, FunctionEqualityIsDecided, PartOrderIsTotal, PartEqualityIsDecided, PatternOrderIsTotal, PatternEqualityIsDecided, OpEqualityIsDecided, TermEqualityIsDecided}
 use Rattle.smt_term.specs.Plain.{PlainType, OptionType, BitVecType, BoolType, EntityType, ExtensionType, StringType, RecordType, SetType, AttributeTypes, no_attributes, attribute, PlainFunction, PatternPart, Character, Wildcard, PlainOp, AndOp, ExtOp, RecordGetOp, StringLikeOp, UufOp, ZeroExtendOp, PlainExtension, DecimalOf, Ipv4Of, Ipv6Of, DatetimeOf, DurationOf, PlainLiteral, BitVecLiteral, BoolLiteral, EntityLiteral, ExtensionLiteral, StringLiteral, PlainTerm, Application, NoneTerm, LiteralTerm, RecordTerm, SetTerm, SomeTerm, VariableTerm, PlainTerms, no_terms, one_term, PlainFields, no_fields, one_field}
-use Rattle.smt_term.specs.TermOrder.{part_cmp, function_cmp, op_place, op_fields_cmp, op_cmp, prefix_literal_cmp, extension_literal_place, extension_literal_cmp, literal_place, literal_cmp, term_place, term_cmp, terms_cmp, fields_cmp, term_eq}
+use Rattle.smt_term.specs.TermOrder.{part_cmp, pattern_cmp, function_cmp, op_place, op_fields_cmp, op_cmp, prefix_cmp, extension_literal_place, extension_literal_cmp, literal_place, literal_cmp, term_place, term_cmp, terms_cmp, fields_cmp, term_eq}
 use Rattle.smt_term.specs.Types.{extension_kind_place, type_place, type_cmp, attribute_types_cmp, type_eq}
 use Rattle.smt_term.specs.ValueOrder.{text_cmp}
-use Rattle.smt_term.proofs.SameTerm.{op_same, term_same, terms_same}
+use Rattle.smt_term.proofs.SameTerm.{part_same, op_same, term_same, terms_same}
 use Rattle.smt_term.proofs.TotalOrder.{then_chain, named_chain, nat_less, text_less, bool_less}
 use Rattle.smt_term.proofs.TypeOrder.{type_same, type_itself, eq_same}
 use Rattle.smt_term.proofs.ValueOrder.{then_both, nat_turned, text_turned, text_same, bytes_itself, bool_turned, own_turn}
@@ -115,7 +114,7 @@ functions_decided f g = (sound, λ e. sym (ap (λ x. function_eq f x) e) ∙ bot
         let c : f.output ≡ g.output = eq_same f.output g.output q.1 in
         λ i. record { id = a i; argument = b i; output = c i }
 
--- ---- operators
+-- ---- patterns and operators
 
 part_turned : (x y : PatternPart) → part_cmp x y ≡ ordering_reverse (part_cmp y x)
 part_turned (Character c) (Character d) = nat_turned c d
@@ -136,8 +135,18 @@ part_level (Character c) Wildcard z h = cc
 part_level Wildcard (Character d) z h = cc
 part_level Wildcard Wildcard z h = refl
 
-patterns_total : IsTotalOrder (slice_cmp part_cmp)
-patterns_total = lists_total (record { antisymm = part_turned; trans = part_less; congr = part_level })
+pub parts_total : PartOrderIsTotal
+parts_total = record { antisymm = part_turned; trans = part_less; congr = part_level }
+
+pub parts_decided : PartEqualityIsDecided
+parts_decided x y = (λ h. part_same x y ((Equal-is (part_cmp x y)).0 h), λ e. sym (ap (λ z. is_eq (part_cmp x z)) e) ∙ ap is_eq (own_turn (part_cmp x x) (part_turned x x)))
+
+pub patterns_total : PatternOrderIsTotal
+patterns_total = lists_total parts_total
+
+pub patterns_decided : PatternEqualityIsDecided
+patterns_decided p q =
+    (λ h. slice_cmp-IsAntisymmetric part_same p q ((Equal-is (pattern_cmp p q)).0 h), λ e. sym (ap (λ r. is_eq (pattern_cmp p r)) e) ∙ ap is_eq (own_turn (pattern_cmp p p) (patterns_total.antisymm p p)))
 
 op_fields_turned : (o p : PlainOp) → op_fields_cmp o p ≡ ordering_reverse (op_fields_cmp p o)
 op_fields_turned (ExtOp o) (ExtOp p) = nat_turned (extension_op_place o) (extension_op_place p)
@@ -170,20 +179,20 @@ ops_decided o p = (λ h. op_same o p ((Equal-is (op_cmp o p)).0 h), λ e. sym (a
 
 -- ---- literals
 
-prefix_turned : (p q : Option ℕ) → prefix_literal_cmp p q ≡ ordering_reverse (prefix_literal_cmp q p)
+prefix_turned : (p q : Option ℕ) → prefix_cmp p q ≡ ordering_reverse (prefix_cmp q p)
 prefix_turned (Some a) (Some b) = nat_turned a b
 prefix_turned (Some a) None = refl
 prefix_turned None (Some b) = refl
 prefix_turned None None = refl
 
-prefix_less : (p q r : Option ℕ) → prefix_literal_cmp p q ≡ Less → prefix_literal_cmp q r ≡ Less → prefix_literal_cmp p r ≡ Less
+prefix_less : (p q r : Option ℕ) → prefix_cmp p q ≡ Less → prefix_cmp q r ≡ Less → prefix_cmp p r ≡ Less
 prefix_less (Some a) (Some b) (Some c) h g = nat_less a b c h g
 prefix_less (Some a) q None h g = refl
 prefix_less (Some a) None (Some c) h g = cc
 prefix_less None (Some b) r h g = cc
 prefix_less None None r h g = cc
 
-range_less : (a b c : ℕ) (p q r : Option ℕ) → ordering_then (nat_cmp a b) (prefix_literal_cmp p q) ≡ Less → ordering_then (nat_cmp b c) (prefix_literal_cmp q r) ≡ Less → ordering_then (nat_cmp a c) (prefix_literal_cmp p r) ≡ Less
+range_less : (a b c : ℕ) (p q r : Option ℕ) → ordering_then (nat_cmp a b) (prefix_cmp p q) ≡ Less → ordering_then (nat_cmp b c) (prefix_cmp q r) ≡ Less → ordering_then (nat_cmp a c) (prefix_cmp p r) ≡ Less
 range_less a b c p q r h g = then_chain nat_cmp nat_cmp-IsAntisymmetric a b c _ _ _ (nat_less a b c) (prefix_less p q r) h g
 
 extension_turned : (x y : PlainExtension) → extension_literal_cmp x y ≡ ordering_reverse (extension_literal_cmp y x)

@@ -11,11 +11,11 @@ use Rattle.smt_term.specs.Formed.{IsFormed}
 use Rattle.smt_term.specs.Interpretations.{IsInterpretation, Agree, restrict, function_eq}
 use Rattle.smt_term.specs.Meaning.{term_value}
 use Rattle.smt_term.specs.Tables.{Interpretation}
-use Rattle.smt_term.specs.TermOrder.{op_cmp, term_cmp, term_eq}
+use Rattle.smt_term.specs.TermOrder.{part_cmp, pattern_cmp, op_cmp, term_cmp, term_eq}
 use Rattle.smt_term.specs.Types.{type_cmp, type_eq}
-use Rattle.smt_term.specs.Typing.{typed, Typed}
+use Rattle.smt_term.specs.Typing.{typed, Typed, AreTyped}
 use Rattle.smt_term.specs.TypeValues.{Enums, IsValue}
-use Rattle.smt_term.specs.Plain.{PlainType, PlainFunction, PlainOp, PlainTerm}
+use Rattle.smt_term.specs.Plain.{PatternPart, PlainType, PlainFunction, PlainOp, PlainTerm}
 
 -- a typed term without fault has in every interpretation a value of its type
 abbrev pub TypedTermsHaveValues : Type 0
@@ -23,7 +23,7 @@ TypedTermsHaveValues = (enums : Enums) (I : Interpretation) (t : PlainTerm) (ty 
 
 -- typed terms without fault have an interpretation: the one of default values
 abbrev pub DefaultsAreInterpretations : Type 0
-DefaultsAreInterpretations = (enums : Enums) (ts : List PlainTerm) → AllByRecursion (λ t. IsTrue (typed t)) ts → first_fault enums ts ≡ None → IsInterpretation enums ts (default_interpretation enums)
+DefaultsAreInterpretations = (enums : Enums) (ts : List PlainTerm) → AreTyped ts → first_fault enums ts ≡ None → IsInterpretation enums ts (default_interpretation enums)
 
 -- a value depends on nothing but what the term reaches
 abbrev pub ReachedDecides : Type 0
@@ -41,9 +41,15 @@ Utf8KeepsOrder = (s t : List ℕ) → IsUtf8 s → IsUtf8 t → text_cmp s t ≡
 abbrev pub TypedTermsGetAttributes : Type 0
 TypedTermsGetAttributes = (enums : Enums) (t : PlainTerm) → IsTrue (typed t) → IfSome (term_fault enums t) (λ f. is_about_records f ≡ false)
 
--- the orders of types, operators and terms are total
+-- the orders of types, of patterns and their parts, of operators and of terms are total
 abbrev pub TypeOrderIsTotal : Type 0
 TypeOrderIsTotal = IsTotalOrder type_cmp
+
+abbrev pub PartOrderIsTotal : Type 0
+PartOrderIsTotal = IsTotalOrder part_cmp
+
+abbrev pub PatternOrderIsTotal : Type 0
+PatternOrderIsTotal = IsTotalOrder pattern_cmp
 
 abbrev pub OpOrderIsTotal : Type 0
 OpOrderIsTotal = IsTotalOrder op_cmp
@@ -57,6 +63,12 @@ TypeEqualityIsDecided = (t u : PlainType) → Decides (type_eq t u) (t ≡ u)
 
 abbrev pub FunctionEqualityIsDecided : Type 0
 FunctionEqualityIsDecided = (f g : PlainFunction) → Decides (function_eq f g) (f ≡ g)
+
+abbrev pub PartEqualityIsDecided : Type 0
+PartEqualityIsDecided = (x y : PatternPart) → Decides (is_eq (part_cmp x y)) (x ≡ y)
+
+abbrev pub PatternEqualityIsDecided : Type 0
+PatternEqualityIsDecided = (p q : List PatternPart) → Decides (is_eq (pattern_cmp p q)) (p ≡ q)
 
 abbrev pub OpEqualityIsDecided : Type 0
 OpEqualityIsDecided = (o p : PlainOp) → Decides (is_eq (op_cmp o p)) (o ≡ p)

@@ -1,8 +1,9 @@
 -- Laws of the program's patterns: their order and their equality, said of their plain form.
 use Rattle.std.specs.Prelude.{◌≡◌, ◌↔◌, IsTrue}
-use Rattle.std.specs.Cmp.Lexicographic.{slice_cmp}
+use Rattle.std.specs.Cmp.{IsTotalOrder}
+use Rattle.std.specs.declared.cmp.Ordering.TheVariants.{Equal}
 use Rattle.smt_term.specs.PatternView.{plain_part, plain_pattern, plain_ord_pattern}
-use Rattle.smt_term.specs.TermOrder.{part_cmp}
+use Rattle.smt_term.specs.TermOrder.{part_cmp, pattern_cmp}
 use Rattle.smt_term.specs.contracts.pattern.OrdPatternOrd.TheImpl as pattern_order
 use Rattle.smt_term.specs.contracts.pattern.OrdPatternPartialEq.TheImpl as ord_pattern_equality
 use Rattle.smt_term.specs.contracts.pattern.PatternElemOrd.TheImpl as element_order
@@ -18,7 +19,7 @@ ElementsCompareAsPlain = (a b : PatternElem) → element_order.ghosts.cmp a b �
 
 -- patterns compare as lists of their parts, by the first difference
 abbrev pub PatternsCompareAsPlain : Type 0
-PatternsCompareAsPlain = (p q : OrdPattern) → pattern_order.ghosts.cmp p q ≡ slice_cmp part_cmp (plain_ord_pattern p) (plain_ord_pattern q)
+PatternsCompareAsPlain = (p q : OrdPattern) → pattern_order.ghosts.cmp p q ≡ pattern_cmp (plain_ord_pattern p) (plain_ord_pattern q)
 
 -- two elements are equal exactly where they say the same
 abbrev pub EqualElementsSayTheSame : Type 0
@@ -31,3 +32,17 @@ EqualPatternsSayTheSame = (p q : Pattern) → IsTrue (pattern_equality.ghosts.eq
 -- the same of patterns with an order
 abbrev pub EqualOrdPatternsSayTheSame : Type 0
 EqualOrdPatternsSayTheSame = (p q : OrdPattern) → IsTrue (ord_pattern_equality.ghosts.eq p q) ↔ (plain_ord_pattern p ≡ plain_ord_pattern q)
+
+-- the order of elements is total, and holds two level exactly where they are equal
+abbrev pub ElementOrderIsTotal : Type 0
+ElementOrderIsTotal = IsTotalOrder element_order.ghosts.cmp
+
+abbrev pub LevelElementsAreEqual : Type 0
+LevelElementsAreEqual = (a b : PatternElem) → (element_order.ghosts.cmp a b ≡ Equal) ↔ IsTrue (element_equality.ghosts.eq a b)
+
+-- the same of patterns
+abbrev pub OrdPatternOrderIsTotal : Type 0
+OrdPatternOrderIsTotal = IsTotalOrder pattern_order.ghosts.cmp
+
+abbrev pub LevelPatternsAreEqual : Type 0
+LevelPatternsAreEqual = (p q : OrdPattern) → (pattern_order.ghosts.cmp p q ≡ Equal) ↔ IsTrue (ord_pattern_equality.ghosts.eq p q)

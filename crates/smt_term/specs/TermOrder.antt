@@ -1,19 +1,25 @@
 -- The order of operators, literals and terms: by the variants and fields as declared, lists by their first difference.
-use Rattle.std.specs.Prelude.{ℕ, Bool, Option, Some, None}
+use Rattle.std.specs.Prelude.{ℕ, Bool, List}
 use Rattle.std.specs.Cmp.Lexicographic.{slice_cmp}
-use Rattle.std.specs.Ordering.{nat_cmp, bool_cmp, int_cmp, ordering_then, is_eq}
+use Rattle.std.specs.Ordering.{nat_cmp, bool_cmp, ordering_then, is_eq}
 use Rattle.std.specs.declared.cmp.Ordering.{Ordering}
 use Rattle.std.specs.declared.cmp.Ordering.TheVariants.{Less, Equal, Greater}
+pub use Rattle.smt_bits.specs.Extensions.{extension_literal_cmp, extension_literal_place, prefix_cmp}
 use Rattle.smt_term.specs.Interpretations.{extension_op_place}
 use Rattle.smt_term.specs.Types.{type_cmp}
 use Rattle.smt_term.specs.ValueOrder.{text_cmp}
-use Rattle.smt_term.specs.Plain.{PlainFunction, PatternPart, Character, Wildcard, PlainOp, AndOp, BvaddOp, BvlshrOp, BvmulOp, BvnegOp, BvnegoOp, BvsaddoOp, BvsdivOp, BvshlOp, BvsleOp, BvsltOp, BvsmodOp, BvsmuloOp, BvsremOp, BvssuboOp, BvsubOp, BvudivOp, BvuleOp, BvultOp, BvuremOp, EqOp, ExtOp, IteOp, NotOp, OptionGetOp, OrOp, RecordGetOp, SetInterOp, SetMemberOp, SetSubsetOp, StringLikeOp, UufOp, ZeroExtendOp, PlainExtension, DecimalOf, Ipv4Of, Ipv6Of, DatetimeOf, DurationOf, PlainLiteral, BitVecLiteral, BoolLiteral, EntityLiteral, ExtensionLiteral, StringLiteral, PlainTerm, Application, NoneTerm, LiteralTerm, RecordTerm, SetTerm, SomeTerm, VariableTerm, PlainTerms, no_terms, one_term, PlainFields, no_fields, one_field}
+use Rattle.smt_term.specs.Plain.{PlainFunction, PatternPart, Character, Wildcard, PlainOp, AndOp, BvaddOp, BvlshrOp, BvmulOp, BvnegOp, BvnegoOp, BvsaddoOp, BvsdivOp, BvshlOp, BvsleOp, BvsltOp, BvsmodOp, BvsmuloOp, BvsremOp, BvssuboOp, BvsubOp, BvudivOp, BvuleOp, BvultOp, BvuremOp, EqOp, ExtOp, IteOp, NotOp, OptionGetOp, OrOp, RecordGetOp, SetInterOp, SetMemberOp, SetSubsetOp, StringLikeOp, UufOp, ZeroExtendOp, PlainLiteral, BitVecLiteral, BoolLiteral, EntityLiteral, ExtensionLiteral, StringLiteral, PlainTerm, Application, NoneTerm, LiteralTerm, RecordTerm, SetTerm, SomeTerm, VariableTerm, PlainTerms, no_terms, one_term, PlainFields, no_fields, one_field}
 
+-- characters by their code point, and the wildcard behind them
 abbrev pub part_cmp : PatternPart → PatternPart → Ordering
 part_cmp (Character c) (Character d) = nat_cmp c d
 part_cmp (Character c) Wildcard = Less
 part_cmp Wildcard (Character d) = Greater
 part_cmp Wildcard Wildcard = Equal
+
+-- patterns by their first different part, and a pattern before the longer ones that begin with it
+abbrev pub pattern_cmp : List PatternPart → List PatternPart → Ordering
+pattern_cmp p q = slice_cmp part_cmp p q
 
 abbrev pub function_cmp : PlainFunction → PlainFunction → Ordering
 function_cmp f g = ordering_then (text_cmp f.id g.id) (ordering_then (type_cmp f.argument g.argument) (type_cmp f.output g.output))
@@ -58,36 +64,13 @@ op_place (ZeroExtendOp k) = 32
 abbrev pub op_fields_cmp : PlainOp → PlainOp → Ordering
 op_fields_cmp (ExtOp o) (ExtOp p) = nat_cmp (extension_op_place o) (extension_op_place p)
 op_fields_cmp (RecordGetOp x) (RecordGetOp y) = text_cmp x y
-op_fields_cmp (StringLikeOp p) (StringLikeOp q) = slice_cmp part_cmp p q
+op_fields_cmp (StringLikeOp p) (StringLikeOp q) = pattern_cmp p q
 op_fields_cmp (UufOp f) (UufOp g) = function_cmp f g
 op_fields_cmp (ZeroExtendOp k) (ZeroExtendOp l) = nat_cmp k l
 op_fields_cmp o p = Equal
 
 abbrev pub op_cmp : PlainOp → PlainOp → Ordering
 op_cmp o p = ordering_then (nat_cmp (op_place o) (op_place p)) (op_fields_cmp o p)
-
--- prefixes by their number, and no prefix last: the other way than in the order of values
-abbrev pub prefix_literal_cmp : Option ℕ → Option ℕ → Ordering
-prefix_literal_cmp (Some p) (Some q) = nat_cmp p q
-prefix_literal_cmp (Some p) None = Less
-prefix_literal_cmp None (Some q) = Greater
-prefix_literal_cmp None None = Equal
-
--- the place of an extension literal's variant; IP ranges are one variant, in which the family V4 comes first
-abbrev pub extension_literal_place : PlainExtension → ℕ
-extension_literal_place (DecimalOf z) = 0
-extension_literal_place (Ipv4Of a p) = 1
-extension_literal_place (Ipv6Of a p) = 2
-extension_literal_place (DatetimeOf z) = 3
-extension_literal_place (DurationOf z) = 4
-
-abbrev pub extension_literal_cmp : PlainExtension → PlainExtension → Ordering
-extension_literal_cmp (DecimalOf x) (DecimalOf y) = int_cmp x y
-extension_literal_cmp (Ipv4Of a p) (Ipv4Of b q) = ordering_then (nat_cmp a b) (prefix_literal_cmp p q)
-extension_literal_cmp (Ipv6Of a p) (Ipv6Of b q) = ordering_then (nat_cmp a b) (prefix_literal_cmp p q)
-extension_literal_cmp (DatetimeOf x) (DatetimeOf y) = int_cmp x y
-extension_literal_cmp (DurationOf x) (DurationOf y) = int_cmp x y
-extension_literal_cmp x y = nat_cmp (extension_literal_place x) (extension_literal_place y)
 
 abbrev pub literal_place : PlainLiteral → ℕ
 literal_place (BitVecLiteral n a) = 0

@@ -1,10 +1,10 @@
 -- Which terms are typed.
-use Rattle.std.specs.Prelude.{◌≡◌, Bool, true, ◌&&◌, IsTrue}
-use Rattle.std.specs.List.{list_all}
+use Rattle.std.specs.Prelude.{◌≡◌, Bool, true, ◌&&◌, IsTrue, List}
+use Rattle.std.specs.List.{AllByRecursion, list_all}
 use Rattle.smt_term.specs.TermOrder.{term_cmp}
 use Rattle.smt_term.specs.Types.{is_type, result_type, type_eq, type_of, types_of}
 use Rattle.smt_term.specs.ValueOrder.{ascends}
-use Rattle.smt_term.specs.Plain.{PlainType, PlainTerm, Application, NoneTerm, LiteralTerm, RecordTerm, SetTerm, SomeTerm, VariableTerm, PlainTerms, no_terms, one_term, PlainFields, no_fields, one_field, list_of_terms}
+use Rattle.smt_term.specs.Plain.{PlainType, BoolType, PlainTerm, Application, NoneTerm, LiteralTerm, RecordTerm, SetTerm, SomeTerm, VariableTerm, PlainTerms, no_terms, one_term, PlainFields, no_fields, one_field, list_of_terms}
 
 -- the elements of a set: each is of the element type, and each stands once, in the order of terms
 abbrev pub are_elements : PlainType → PlainTerms → Bool
@@ -33,3 +33,15 @@ abbrev mutual
 pub record Typed (t : PlainTerm) (ty : PlainType) : Type 0 where
   pub parts : IsTrue (typed t)
   pub type : type_of t ≡ ty
+
+-- each term is typed with this type
+abbrev pub AreOfType : PlainType → List PlainTerm → Type 0
+AreOfType ty ts = AllByRecursion (λ t. Typed t ty) ts
+
+-- each term is typed as a Boolean
+abbrev pub AreBoolean : List PlainTerm → Type 0
+AreBoolean ts = AreOfType BoolType ts
+
+-- each term is typed
+abbrev pub AreTyped : List PlainTerm → Type 0
+AreTyped ts = AllByRecursion (λ t. IsTrue (typed t)) ts

@@ -8,7 +8,7 @@ use std::rc::Rc;
 
 /// Entity types whose entities are listed by name, each with its members in the order of their bytes.
 /// Nothing enters one yet, so that every table is empty.
-#[derive(Drop)]
+#[derive(Debug, Drop)]
 pub struct EnumTable {
     types: BTreeMap<Text, Rc<Vec<Text>>>,
     ghost empty: { types.entries ≡ [] },

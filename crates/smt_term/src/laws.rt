@@ -1,8 +1,8 @@
 //! Laws of terms, of what they mean and of how they compare, proved with no code.
 ghost use Rattle.smt_term.specs.Examples.{FaultRows, OperatorRows, OrderRows, TermRows};
-ghost use Rattle.smt_term.specs.Laws.{DefaultsAreInterpretations, FunctionEqualityIsDecided, OpEqualityIsDecided, OpOrderIsTotal, ReachedDecides, RestrictionAgrees, TermEqualityIsDecided, TermOrderIsTotal, TypeEqualityIsDecided, TypeOrderIsTotal, TypedTermsGetAttributes, TypedTermsHaveValues, Utf8KeepsOrder};
+ghost use Rattle.smt_term.specs.Laws.{DefaultsAreInterpretations, FunctionEqualityIsDecided, OpEqualityIsDecided, OpOrderIsTotal, PartEqualityIsDecided, PartOrderIsTotal, PatternEqualityIsDecided, PatternOrderIsTotal, ReachedDecides, RestrictionAgrees, TermEqualityIsDecided, TermOrderIsTotal, TypeEqualityIsDecided, TypeOrderIsTotal, TypedTermsGetAttributes, TypedTermsHaveValues, Utf8KeepsOrder};
 ghost use Rattle.smt_term.specs.Literals.{LiteralsAreTheirValues};
-ghost use Rattle.smt_term.specs.PatternOrder.{ElementsCompareAsPlain, EqualElementsSayTheSame, EqualOrdPatternsSayTheSame, EqualPatternsSayTheSame, PatternsCompareAsPlain};
+ghost use Rattle.smt_term.specs.PatternOrder.{ElementOrderIsTotal, ElementsCompareAsPlain, EqualElementsSayTheSame, EqualOrdPatternsSayTheSame, EqualPatternsSayTheSame, LevelElementsAreEqual, LevelPatternsAreEqual, OrdPatternOrderIsTotal, PatternsCompareAsPlain};
 ghost use Rattle.smt_term.specs.Patterns.{MatchingIsDecided};
 ghost use Rattle.smt_term.specs.Plain.{RoundTrip};
 ghost use Rattle.smt_term.specs.Program.{EqualListsSayTheSame, EqualLiteralsSayTheSame, EqualOperatorsSayTheSame, EqualSetsSayTheSame, EqualTermsSayTheSame, EqualTypesSayTheSame, EqualVariablesSayTheSame, ListsCompareAsPlain, LiteralsCompareAsPlain, OperatorsCompareAsPlain, SetsCompareAsPlain, TablesAreEmpty, TermsAreFormed, TermsCompareAsPlain, TypesCompareAsPlain, VariablesCompareAsPlain};
@@ -21,17 +21,22 @@ pub fn values_are_compared()
     ensures order { OrderIsTotal }
 {}
 
-/// The orders of types, operators and terms are total.
+/// The orders of types, of patterns and their parts, of operators and of terms are total.
 pub fn orders_are_total()
     ensures types { TypeOrderIsTotal }
+    ensures parts { PartOrderIsTotal }
+    ensures patterns { PatternOrderIsTotal }
     ensures operators { OpOrderIsTotal }
     ensures terms { TermOrderIsTotal }
 {}
 
-/// Types, functions, operators and terms that the tests hold equal are equal, and each is equal to itself.
+/// Types, functions, patterns and their parts, operators and terms that the tests hold equal are equal, and each is
+/// equal to itself.
 pub fn equality_is_decided()
     ensures types { TypeEqualityIsDecided }
     ensures functions { FunctionEqualityIsDecided }
+    ensures parts { PartEqualityIsDecided }
+    ensures patterns { PatternEqualityIsDecided }
     ensures operators { OpEqualityIsDecided }
     ensures terms { TermEqualityIsDecided }
 {}
@@ -135,4 +140,12 @@ pub fn program_patterns()
     ensures element_equality { EqualElementsSayTheSame }
     ensures equality { EqualPatternsSayTheSame }
     ensures ordered_equality { EqualOrdPatternsSayTheSame }
+{}
+
+/// The orders of the program's patterns and of their elements are total, and hold two level exactly where they are equal.
+pub fn patterns_are_ordered()
+    ensures elements { ElementOrderIsTotal }
+    ensures level_elements { LevelElementsAreEqual }
+    ensures patterns { OrdPatternOrderIsTotal }
+    ensures level_patterns { LevelPatternsAreEqual }
 {}

@@ -1,8 +1,8 @@
 //! The sum of the parts that stand in a duration's text.
-ghost use Rattle.std.specs.Prelude.{◌≡◌, ℕ, ◌+◌, ◌*◌, ◌<◌, ◌∷◌, List, length, reverse, IsTrue, IfOk, IfErr, IfSome, IfNone};
+ghost use Rattle.std.specs.Prelude.{◌≡◌, ℕ, ◌+◌, ◌*◌, ◌<◌, ◌∷◌, List, IsTrue, IfOk, IfErr, IfSome, IfNone};
 ghost use Rattle.std.specs.List.{list_all};
 ghost use Rattle.std.specs.Option.{SomeIff};
-ghost use Rattle.smt_ext.specs.Digits.{is_digit, number_of, signed, IsLong};
+ghost use Rattle.smt_ext.specs.Digits.{is_digit, decimal_number, signed_number, IsLong};
 ghost use Rattle.smt_ext.specs.DurationRefusal.{unit_name, unit_milliseconds, EndsInPart, HasNoPart, ends_past_ascii, IsSoundPart, IsPartFault, IsFirstFault, HasSum, all_units, HasFault};
 ghost use Rattle.smt_ext.specs.DurationText.{IsDurationText};
 
@@ -86,9 +86,9 @@ fn ends_outside_ascii(text: &[u8]) -> bool
 // The milliseconds of a part, where they fit 64 bits with the sign.
 fn milliseconds_of(negative: bool, unit: TimeUnit, digits: &[u8]) -> Option<u64>
     requires { IsTrue (list_all is_digit digits.now) }
-    ensures value { IfSome result (λ n. n ≡ number_of digits.now * unit_milliseconds unit) }
-    ensures fits { IfSome result (λ n. IsLong (signed negative (number_of digits.now * unit_milliseconds unit))) }
-    ensures none { IfNone result (IsLong (signed negative (number_of digits.now * unit_milliseconds unit)) → ⊥) }
+    ensures value { IfSome result (λ n. n ≡ decimal_number digits.now * unit_milliseconds unit) }
+    ensures fits { IfSome result (λ n. IsLong (signed_number negative (decimal_number digits.now * unit_milliseconds unit))) }
+    ensures none { IfNone result (IsLong (signed_number negative (decimal_number digits.now * unit_milliseconds unit)) → ⊥) }
 {
     let magnitude = digits::number(digits)?.checked_mul(unit.milliseconds())?;
     digits::with_sign(negative, magnitude)?;
@@ -99,7 +99,7 @@ fn milliseconds_of(negative: bool, unit: TimeUnit, digits: &[u8]) -> Option<u64>
 fn part_value(negative: bool, unit: TimeUnit, front: &[u8], digits: &[u8]) -> Result<u64, Fault>
     requires { IsTrue (list_all is_digit digits.now) }
     ensures sound { IfOk result (λ n. IsSoundPart negative unit front.now digits.now) }
-    ensures value { IfOk result (λ n. n ≡ number_of digits.now * unit_milliseconds unit) }
+    ensures value { IfOk result (λ n. n ≡ decimal_number digits.now * unit_milliseconds unit) }
     ensures fault { IfErr result (λ f. IsPartFault negative unit front.now digits.now f) }
 {
     if ends_outside_ascii(front) {
@@ -153,7 +153,7 @@ fn sum_of_parts(negative: bool, text: &[u8]) -> Result<u128, Fault>
 
 // The sum with its sign, where it fits 64 bits.
 fn signed_sum(negative: bool, total: u128) -> Option<i64>
-    ensures { SomeIff result (IsLong (signed negative total)) (signed negative total) }
+    ensures { SomeIff result (IsLong (signed_number negative total)) (signed_number negative total) }
 {
     digits::with_sign(negative, u64::try_from(total).ok()?)
 }

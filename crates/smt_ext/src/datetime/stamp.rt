@@ -2,7 +2,7 @@
 #![tactic(auto)]
 
 ghost use Rattle.std.specs.Prelude.{◌≡◌, ◌≤◌};
-ghost use Rattle.smt_ext.specs.Front.{Gives};
+ghost use Rattle.smt_ext.specs.Front.{ReadsTo};
 ghost use Rattle.smt_ext.specs.DatetimeReading.{field_at, day_at, offset_at, zone_at, fraction_at, clock_at, stamp_at};
 
 use crate::digits;
@@ -49,7 +49,7 @@ pub struct Stamp {
 #[tactic(auto, unfolding(crate::specs::DatetimeReading::field_at))]
 fn field(text: &[u8], places: usize) -> Option<(u64, &[u8])>
     requires { places ≤ 4 }
-    ensures { Gives (λ x. (x.0, x.1.now)) result (field_at places text.now) }
+    ensures { ReadsTo (λ x. (x.0, x.1.now)) result (field_at places text.now) }
 {
     let (front, rest) = text.split_at_checked(places)?;
     if digits::all_digits(front) {
@@ -61,7 +61,7 @@ fn field(text: &[u8], places: usize) -> Option<(u64, &[u8])>
 
 #[tactic(auto, unfolding(crate::specs::DatetimeReading::day_at))]
 fn day_of(text: &[u8]) -> Option<(Day, &[u8])>
-    ensures { Gives (λ x. (x.0, x.1.now)) result (day_at text.now) }
+    ensures { ReadsTo (λ x. (x.0, x.1.now)) result (day_at text.now) }
 {
     let (year, rest) = field(text, 4)?;
     let rest = digits::behind(rest, b'-')?;
@@ -107,7 +107,7 @@ fn zone_of(text: &[u8]) -> Option<Zone>
 
 #[tactic(auto, unfolding(crate::specs::DatetimeReading::fraction_at))]
 fn fraction_of(text: &[u8]) -> Option<(Option<u64>, &[u8])>
-    ensures { Gives (λ x. (x.0, x.1.now)) result (fraction_at text.now) }
+    ensures { ReadsTo (λ x. (x.0, x.1.now)) result (fraction_at text.now) }
 {
     let Some(rest) = digits::behind(text, b'.') else {
         return Some((None, text));

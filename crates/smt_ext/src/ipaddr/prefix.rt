@@ -1,7 +1,7 @@
 //! Prefixes of both families.
-ghost use Rattle.std.specs.Prelude.{◌≡◌, ◌≢◌, ◌≤◌, ◌<◌, ◌↔◌, ◌==◌, true, Some, None, IsNone, IfSome, unwrap_or, option_map, option_copied};
+ghost use Rattle.std.specs.Prelude.{◌≡◌, ◌≢◌, ◌≤◌, ◌<◌, ◌↔◌, ◌==◌, true, Some, None, IsNone, IfSome, unwrap_or, option_copied};
 ghost use Rattle.std.specs.Option.{IsSomeAnd};
-ghost use Rattle.smt_bits.specs.BitVec.{width_of, number_of};
+ghost use Rattle.smt_bits.specs.BitVec.{width_of};
 ghost use Rattle.smt_bits.specs.Width.{bits_in};
 ghost use Rattle.smt_ext.specs.IpPrefixBits.{given, has_width};
 ghost use Rattle.smt_ext.specs.IpRanges.{prefix_of};

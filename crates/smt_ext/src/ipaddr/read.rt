@@ -1,5 +1,5 @@
 //! Texts to ranges. std reads the addresses.
-ghost use Rattle.std.specs.Prelude.{◌≡◌, ℕ, ◌≤◌, ◌++◌, Option, List, IfSome, IfNone, decimal, option_copied};
+ghost use Rattle.std.specs.Prelude.{◌≡◌, ℕ, ◌≤◌, ◌++◌, Option, IfSome, IfNone, decimal, option_copied};
 ghost use Rattle.smt_bits.specs.BitVec.{number_of};
 ghost use Rattle.smt_ext.specs.IpRanges.{Version4, Version6, Range, prefix_of};
 ghost use Rattle.smt_ext.specs.IpText.{IsDotted, IsColonText, WritesPrefix, WritesRange, behind_slash};

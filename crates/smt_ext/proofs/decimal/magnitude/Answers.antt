@@ -1,5 +1,5 @@
 use Rattle.std.proofs.Common.{arith, length, ◌-◌}
-use Rattle.smt_ext.specs.Digits.{number_of}
+use Rattle.smt_ext.specs.Digits.{decimal_number}
 use Rattle.smt_ext.proofs.Fields.{at_least_itself}
 use Rattle.smt_ext.proofs.decimal.magnitude.Goals as goal
 
@@ -7,6 +7,6 @@ use Rattle.smt_ext.proofs.decimal.magnitude.Goals as goal
 pub returns-in_err-number-2 : goal.returns-in_err-number-2
 returns-in_err-number-2 c =
     rw c.from_residual-in_err-number-2.ensures (λ small. (
-    let more = at_least_itself (number_of c.args.fraction.now) (4 - length c.args.fraction.now) in
+    let more = at_least_itself (decimal_number c.args.fraction.now) (4 - length c.args.fraction.now) in
     c.in_err-number-2.ensures (omega arith)
     ))

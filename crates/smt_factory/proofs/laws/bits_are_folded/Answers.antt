@@ -1,5 +1,6 @@
 use Rattle.std.proofs.Common.{true, refl}
 use Rattle.std.specs.Prelude.{nat_le}
+use Rattle.smt_bits.specs.BitVec.{greatest_shift}
 use Rattle.smt_bits.specs.BitVectors as bits
 use Rattle.smt_bits.proofs.BitRanges as ranges
 use Rattle.smt_factory.proofs.BitsStand.{stands_bits, stands_bvneg, stands_zero_extend}
@@ -17,7 +18,7 @@ returns c = record {
   bvsrem = stands_bits BvsremOp bits.bvsrem ranges.bvsrem-below (λ I ty v w. refl) (λ b. true);
   bvsmod = stands_bits BvsmodOp bits.bvsmod ranges.bvsmod-below (λ I ty v w. refl) (λ b. true);
   bvurem = stands_bits BvuremOp bits.bvurem ranges.bvurem-below (λ I ty v w. refl) (λ b. true);
-  bvshl = stands_bits BvshlOp bits.bvshl ranges.bvshl-below (λ I ty v w. refl) (λ b. nat_le b bits.greatest_shift);
-  bvlshr = stands_bits BvlshrOp bits.bvlshr ranges.bvlshr-below (λ I ty v w. refl) (λ b. nat_le b bits.greatest_shift);
+  bvshl = stands_bits BvshlOp bits.bvshl ranges.bvshl-below (λ I ty v w. refl) (λ b. nat_le b greatest_shift);
+  bvlshr = stands_bits BvlshrOp bits.bvlshr ranges.bvlshr-below (λ I ty v w. refl) (λ b. nat_le b greatest_shift);
   zero_extend = stands_zero_extend;
 }

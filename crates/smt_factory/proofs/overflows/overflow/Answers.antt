@@ -1,9 +1,8 @@
-use Rattle.std.proofs.Common.{◌≡◌, ap, ◌∙◌, sym, refl, inl, arith}
+use Rattle.std.proofs.Common.{◌≡◌, ap, ◌∙◌, sym, refl, inl, arith, rules}
 use Rattle.std.specs.Prelude.{FitsSigned}
 use Rattle.std.specs.Int.{w128}
 use Rattle.std.proofs.lemmas.Fn.{says_at_two}
 use Rattle.std.proofs.lemmas.Int.{to_z-of_z}
-use Rattle.std.proofs.Common.{rules}
 use Rattle.smt_bits.specs.BitVec.{number_of, width_of}
 use Rattle.smt_bits.specs.BitVectors.{signed}
 use Rattle.smt_factory.specs.FoldBy.{leaves}

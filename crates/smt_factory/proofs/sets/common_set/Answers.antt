@@ -17,4 +17,4 @@ returns-in_ok-share-in-Set c =
     let items : map plain_term c.as_slice.result.now ≡ filter (is_among (elements_in u)) (plain_elements c.in-Set.elts) =
     ap (map plain_term) c.as_slice.ensures.value ∙ (c.in_ok-kept-in-Set.ensures ∙ (λ i. filter (is_among (c.elements_in.ensures i)) (c.items.ensures.plain i))) in
     IfOk-weaker c.set_of.result (λ r. plain_term r ≡ set_term (plain_type c.in_ok-share-in-Set.field-0) (map plain_term c.as_slice.result.now)) (λ r. plain_term r ≡ common_set (plain_term c.args.ts1.now) u)
-    (λ r h. h ∙ ((λ i. set_term (ty i) (items i)) ∙ sym (ap (λ t. common_set t u) e ∙ common_set-set (plain_type c.in-Set.elts_ty) (plain_elements c.in-Set.elts) u))) c.set_of.ensures
+    (λ r h. h ∙ ((λ i. set_term (ty i) (items i)) ∙ sym (ap (λ t. common_set t u) e ∙ common_set-set (plain_type c.in-Set.elts_ty) (plain_elements c.in-Set.elts) u))) c.set_of.ensures.folded

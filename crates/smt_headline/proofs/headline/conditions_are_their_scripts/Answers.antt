@@ -1,4 +1,4 @@
-use Rattle.smt_headline.proofs.Models as laws
+use Rattle.smt_headline.proofs.FitKept as laws
 use Rattle.smt_headline.proofs.headline.conditions_are_their_scripts.Goals as goal
 
 pub returns : goal.returns

@@ -2,4 +2,4 @@ use Rattle.smt_headline.proofs.Lasting as laws
 use Rattle.smt_headline.proofs.headline.names_last.Goals as goal
 
 pub returns : goal.returns
-returns c = laws.stated_names_last
+returns c = laws.script_names_last

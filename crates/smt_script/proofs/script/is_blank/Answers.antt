@@ -1,5 +1,5 @@
 use Rattle.std.proofs.lemmas.List.{length-map}
-use Rattle.smt_script.specs.Texts.{texts}
+use Rattle.smt_script.specs.SharedTexts.{texts}
 use Rattle.smt_script.proofs.LinesLemmas.{spaced-two}
 use Rattle.smt_script.proofs.script.is_blank.Goals as goal
 

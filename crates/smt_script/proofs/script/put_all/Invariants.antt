@@ -1,7 +1,7 @@
 use Rattle.std.proofs.Common.{drop}
-use Rattle.smt_script.specs.Texts.{joined}
+use Rattle.smt_script.specs.SharedTexts.{joined}
 use Rattle.smt_script.proofs.PutsLemmas.{Going}
 use Rattle.smt_script.proofs.script.put_all.Given as goal
 
 abbrev pub invariant-loop-piece : goal.invariant-loop-piece
-invariant-loop-piece g l = Going g.S.Sink.held g.S.Sink.faults g.S.Sink.takes g.S.Sink.place l.initial.sink l.sink (joined (λ p. p.now) (drop l.piece-index l.pieces)) (joined (λ p. p.now) l.pieces)
+invariant-loop-piece g l = Going g.S.Sink.contents g.S.Sink.faults g.S.Sink.has_room g.S.Sink.place l.initial.sink l.sink (joined (λ p. p.now) (drop l.piece-index l.pieces)) (joined (λ p. p.now) l.pieces)

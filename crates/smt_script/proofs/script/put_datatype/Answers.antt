@@ -1,6 +1,6 @@
 -- Parameters that are not blank stand before the constructors.
-use Rattle.smt_script.specs.Lines.{constructor_lines}
-use Rattle.smt_script.specs.Texts.{texts}
+use Rattle.smt_script.specs.ScriptLines.{constructor_lines}
+use Rattle.smt_script.specs.SharedTexts.{texts}
 use Rattle.smt_script.proofs.LinesLemmas.{datatype_body-parts}
 use Rattle.smt_script.proofs.PutsLemmas.{exits, along, then, stops}
 use Rattle.smt_script.proofs.script.put_datatype.Goals as goal

@@ -1,7 +1,7 @@
 use denote.Text.{Utf8}
 use denote.Shadow.{shadow}
 use Rattle.std.proofs.Common.{drop, []}
-use Rattle.smt_script.specs.Texts.{texts}
+use Rattle.smt_script.specs.SharedTexts.{texts}
 use Rattle.smt_script.proofs.LinesLemmas.{joined_from}
 use Rattle.smt_script.proofs.PutsLemmas.{Going}
 use Rattle.smt_script.proofs.script.put_joined.Given as goal
@@ -9,6 +9,6 @@ use Rattle.smt_script.proofs.script.put_joined.Given as goal
 abbrev pub invariant-loop-item : goal.invariant-loop-item
 invariant-loop-item g l = record {
   is_text : shadow (Utf8 l.gap);
-  going : Going g.S.Sink.held g.S.Sink.faults g.S.Sink.takes g.S.Sink.place l.fn.sink l.sink
+  going : Going g.S.Sink.contents g.S.Sink.faults g.S.Sink.has_room g.S.Sink.place l.fn.sink l.sink
       (joined_from (λ x. x) l.gap l.separator (texts (drop l.item-index l.items))) (joined_from (λ x. x) [] l.separator (texts l.items));
 }

@@ -1,5 +1,5 @@
 use Rattle.std.proofs.Common.{◌∙◌, ap, map, refl, sym}
-use Rattle.smt_script.specs.Lines.{in_comment}
+use Rattle.smt_script.specs.ScriptLines.{in_comment}
 use Rattle.smt_script.proofs.LinesLemmas.{line_end-Some, line_end-None, drop_to_end}
 use Rattle.smt_script.proofs.PutsLemmas.{exits, goes_on, goes_wrong, goes_last, leaves}
 use Rattle.smt_script.proofs.script.put_on_one_line.Goals as goal

@@ -1,6 +1,6 @@
 use Rattle.std.proofs.Common.{codes, rules}
-use Rattle.smt_script.specs.Lines.{sorted_variable}
-use Rattle.smt_script.specs.Texts.{text_pairs}
+use Rattle.smt_script.specs.ScriptLines.{sorted_variable}
+use Rattle.smt_script.specs.SharedTexts.{text_pairs}
 use Rattle.smt_script.proofs.LinesLemmas.{joined_from-start, variables-drop}
 use Rattle.smt_script.proofs.PutsLemmas.{exits, along, goes_on, goes_wrong}
 use Rattle.smt_script.proofs.script.put_variables.Goals as goal

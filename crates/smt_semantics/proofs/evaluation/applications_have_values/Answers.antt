@@ -5,13 +5,13 @@ pub returns : goal.returns
 returns c = record {
   operators = laws.operators_apply;
   constructors = laws.constructors_apply;
-  standing = laws.constructors_stand;
+  standing = laws.bare_constructors_have_values;
   functions = laws.functions_apply;
   selectors = laws.selectors_apply;
   sorts = laws.applications_have_sorts;
   extensions = laws.extensions_apply;
   tests = laws.tests_apply;
   matching = laws.matches_apply;
-  nones = laws.nones_stand;
-  sets = laws.sets_stand;
+  nones = laws.nones_have_values;
+  sets = laws.sets_have_values;
 }

@@ -2,4 +2,4 @@ use Rattle.smt_semantics.proofs.Extend as laws
 use Rattle.smt_semantics.proofs.scripts.lines_extend.Goals as goal
 
 pub returns : goal.returns
-returns c = record { definition = laws.definitions_extend; assertion = laws.assertions_extend; comment = laws.comments_extend }
+returns c = record { whole = laws.open_scripts_are_whole; definition = laws.definitions_extend; assertion = laws.assertions_extend; comment = laws.comments_extend }

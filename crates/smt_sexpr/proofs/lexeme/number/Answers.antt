@@ -1,6 +1,6 @@
 use Rattle.std.proofs.Common.{arith, get_or}
 use Rattle.smt_sexpr.specs.Lexicon.{number_in}
-use Rattle.smt_sexpr.proofs.Numbers.{at_least, digit_at, digit_range}
+use Rattle.smt_characters.proofs.Numbers.{at_least, digit_at, digit_range}
 use Rattle.smt_sexpr.proofs.lexeme.number.Goals as goal
 
 pub returns-in_err-checked_mul : goal.returns-in_err-checked_mul

@@ -24,6 +24,6 @@ returns-clause-found c =
     let text = rw c.unwrap.ensures at c.from_utf8.ensures.cases in
     let some = some_from c.split_at.result.0.now (sym c.if-is_empty.ensures) in
     λ depth. rw plain-Symbol (
-      subst (λ v. BeginsWithAtom c.args.src.now (Name v) c.split_at.result.1.now) (sym (c.in_ok-text.ensures.ok ∙ text.0)) (symbol_begins _ _ _ r some c.requires.no_other),
+      subst (λ v. BeginsWithAtom c.args.src.now (Name v) c.split_at.result.1.now) (sym (c.in_ok-text.ensures.ok ∙ text.0)) (symbol_begins _ _ _ r some c.requires.no_other c.requires.is_plain),
       tt,
     )

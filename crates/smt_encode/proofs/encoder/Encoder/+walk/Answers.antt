@@ -1,18 +1,20 @@
 use Rattle.std.proofs.Common.{◌≡◌, ◌+◌, None, Some, [], ◌∷◌, drop, map, refl, arith, rules, ap, sym, subst, ◌∙◌, option_map}
-use Rattle.std.specs.Prelude.{codes}
+use Rattle.std.specs.Prelude.{false}
 use Rattle.std.specs.Rc.{rc_str_bytes}
 use Rattle.std.proofs.lemmas.List.{at_drop_more, at_drop_all}
-use Rattle.smt_semantics.specs.Script.{group, name}
 use Rattle.smt_bits.specs.Width.{bits_in}
 use Rattle.smt_term.specs.Enums.{enums_of}
 use Rattle.smt_term.specs.Faults.{Fault, term_fault}
 use Rattle.smt_term.specs.Plain.{Application, SetTerm, SomeTerm, terms}
 use Rattle.smt_term.specs.Types.{type_of}
 use Rattle.smt_term.specs.View.{plain_items, plain_op, plain_term, plain_term-App, plain_term-None, plain_term-Set, plain_term-Some, plain_term-Var, plain_type}
-use Rattle.smt_lines.specs.Lines.{Enums, name_of_term, define, enter_term, encode_term, encode_terms, encode_type, none_body, set_body}
+use Rattle.smt_lines.specs.LineForms.{none_body, set_body, some_body, operator_head, application_body, least_body}
+use Rattle.smt_lines.specs.TermTexts.{bool_name}
+use Rattle.smt_lines.specs.Lines.{Enums, define, enter_term, encode_term, encode_terms, encode_type}
+use Rattle.smt_lines.specs.NameTables.{name_of_term}
 use Rattle.smt_lines.proofs.Making.{arguments_leave, elements_leave, inner_leaves, types_leave}
 use Rattle.smt_encode.specs.Encoded.{AreSpelled, enums_in, IsSpelled, Wrote}
-use Rattle.smt_encode.specs.Manners.{application_body, least_body, plain_manner}
+use Rattle.smt_encode.specs.Renderings.{plain_rendering}
 use Rattle.smt_encode.specs.Refusals.{fault_of}
 use Rattle.smt_encode.proofs.Applied.{alone_written, parts_written}
 use Rattle.smt_encode.proofs.Faulted.{one_passed, sort_fault}
@@ -40,12 +42,12 @@ encode_new-returns-in-App-clause-lines g m c s has absent =
     let ts = terms (map plain_term c.items-args.result.now) in
     let listed : t ≡ Application (plain_op op) ts type = ap plain_term c.in-App.is ∙ plain_term-App op c.in-App.args c.in-App.ret_ty ∙ ap (λ l. Application (plain_op op) (terms l) type) (sym c.items-args.ensures.plain) in
     let sort = c.in_ok-sort-in-App.ensures.lines s has in
-    let how = ap plain_manner (sym c.in-AsFalse.is) ∙ c.in_ok-manner_of-in-App.ensures in
-    alone_written enums t s c.args.self.now c.encode_sort.new.self sort.0 (λ e v. enter_term t (codes "false") [] v) (false_stated enums t s absent op ts type listed how) c.name_false.new.self c.name_false.result
+    let how = ap plain_rendering (sym c.in-False.is) ∙ c.in_ok-rendering_of-in-App.ensures in
+    alone_written enums t s c.args.self.now c.encode_sort.new.self sort.0 (λ e v. enter_term t (bool_name false) [] v) (false_stated enums t s absent op ts type listed how) c.name_false.new.self c.name_false.result
     (c.name_false.ensures.lines (encode_type enums (type_of t) s).tables sort.0.names (types_leave enums (type_of t) s t ∙ absent))
 
-pub encode_new-returns-in-AsItStands-clause-lines : goal.encode_new-returns-in-AsItStands-clause-lines
-encode_new-returns-in-AsItStands-clause-lines g m c s has absent =
+pub encode_new-returns-in-Application-clause-lines : goal.encode_new-returns-in-Application-clause-lines
+encode_new-returns-in-Application-clause-lines g m c s has absent =
     let enums = enums_in c.args.self.now in
     let t = plain_term c.args.term.now in
     let op = c.in-App.op in
@@ -55,18 +57,18 @@ encode_new-returns-in-AsItStands-clause-lines g m c s has absent =
     let sort = c.in_ok-sort-in-App.ensures.lines s has in
     let w = encode_type enums (type_of t) s in
     let known : enums_in c.encode_sort.new.self ≡ enums = ap (λ e. enums_of e.now) c.in_ok-sort-in-App.ensures.cause.same_enums in
-    let parts = subst (λ (e : Enums). Wrote g.S.Sink.held c.encode_sort.new.self c.encode_terms.new.self (encode_terms e ts w.tables).lines (encode_terms e ts w.tables).tables × AreSpelled (encode_terms e ts w.tables).made c.in_ok-operands-in-AsItStands.operands.items) known
-    (c.in_ok-operands-in-AsItStands.ensures.lines w.tables sort.0.names) in
+    let parts = subst (λ (e : Enums). Wrote g.S.Sink.contents c.encode_sort.new.self c.encode_terms.new.self (encode_terms e ts w.tables).lines (encode_terms e ts w.tables).tables × AreSpelled (encode_terms e ts w.tables).made c.in_ok-operands-in-Application.operands.items) known
+    (c.in_ok-operands-in-Application.ensures.lines w.tables sort.0.names) in
     let u = encode_terms enums ts w.tables in
-    let how = ap plain_manner (sym c.in-AsItStands.is) ∙ c.in_ok-manner_of-in-App.ensures in
+    let how = ap plain_rendering (sym c.in-Application.is) ∙ c.in_ok-rendering_of-in-App.ensures in
     let gone : name_of_term u.tables t ≡ None = subst (λ k. name_of_term u.tables k ≡ name_of_term w.tables k) (sym listed) (arguments_leave enums (plain_op op) ts type w.tables) ∙ types_leave enums (type_of t) s t ∙ absent in
-    parts_written enums t s c.args.self.now c.encode_sort.new.self sort.0 (λ v. encode_terms enums ts v) (λ e es v. define t e (application_body (plain_op op) es) v) (application_stated enums t s absent op ts type listed how)
+    parts_written enums t s c.args.self.now c.encode_sort.new.self sort.0 (λ v. encode_terms enums ts v) (λ e es v. define t e (application_body (operator_head (plain_op op)) (plain_op op) es) v) (application_stated enums t s absent op ts type listed how)
     c.encode_terms.new.self c.define.new.self parts.0 c.define.result
-    (c.define.ensures.lines u.tables w.made (application_body (plain_op op) u.made) parts.0.names gone (c.as_str.ensures.value ∙ sort.1)
-    (c.as_str-in-AsItStands.ensures.value ∙ c.in_ok-body-in-AsItStands.ensures.text u.made parts.1))
+    (c.define.ensures.lines u.tables w.made (application_body (operator_head (plain_op op)) (plain_op op) u.made) parts.0.names gone (c.as_str.ensures.value ∙ sort.1)
+    (c.as_str-in-Application.ensures.value ∙ c.in_ok-body-in-Application.ensures.text u.made parts.1))
 
-pub encode_new-returns-in-AsLeast-clause-lines : goal.encode_new-returns-in-AsLeast-clause-lines
-encode_new-returns-in-AsLeast-clause-lines g m c s has absent =
+pub encode_new-returns-in-EqualsIntMin-clause-lines : goal.encode_new-returns-in-EqualsIntMin-clause-lines
+encode_new-returns-in-EqualsIntMin-clause-lines g m c s has absent =
     let enums = enums_in c.args.self.now in
     let t = plain_term c.args.term.now in
     let op = c.in-App.op in
@@ -76,15 +78,15 @@ encode_new-returns-in-AsLeast-clause-lines g m c s has absent =
     let sort = c.in_ok-sort-in-App.ensures.lines s has in
     let w = encode_type enums (type_of t) s in
     let known : enums_in c.encode_sort.new.self ≡ enums = ap (λ e. enums_of e.now) c.in_ok-sort-in-App.ensures.cause.same_enums in
-    let parts = subst (λ (e : Enums). Wrote g.S.Sink.held c.encode_sort.new.self c.encode_terms-in-AsLeast.new.self (encode_terms e ts w.tables).lines (encode_terms e ts w.tables).tables × AreSpelled (encode_terms e ts w.tables).made c.in_ok-operands-in-AsLeast.operands.items) known
-    (c.in_ok-operands-in-AsLeast.ensures.lines w.tables sort.0.names) in
+    let parts = subst (λ (e : Enums). Wrote g.S.Sink.contents c.encode_sort.new.self c.encode_terms-in-EqualsIntMin.new.self (encode_terms e ts w.tables).lines (encode_terms e ts w.tables).tables × AreSpelled (encode_terms e ts w.tables).made c.in_ok-operands-in-EqualsIntMin.operands.items) known
+    (c.in_ok-operands-in-EqualsIntMin.ensures.lines w.tables sort.0.names) in
     let u = encode_terms enums ts w.tables in
-    let how = ap plain_manner (sym c.in-AsLeast.is) ∙ c.in_ok-manner_of-in-App.ensures in
+    let how = ap plain_rendering (sym c.in-EqualsIntMin.is) ∙ c.in_ok-rendering_of-in-App.ensures in
     let gone : name_of_term u.tables t ≡ None = subst (λ k. name_of_term u.tables k ≡ name_of_term w.tables k) (sym listed) (arguments_leave enums (plain_op op) ts type w.tables) ∙ types_leave enums (type_of t) s t ∙ absent in
-    parts_written enums t s c.args.self.now c.encode_sort.new.self sort.0 (λ v. encode_terms enums ts v) (λ e es v. define t e (least_body (bits_in c.in-AsLeast.width) es) v) (least_stated enums t s absent (bits_in c.in-AsLeast.width) op ts type listed how)
-    c.encode_terms-in-AsLeast.new.self c.define-in-AsLeast.new.self parts.0 c.define-in-AsLeast.result
-    (c.define-in-AsLeast.ensures.lines u.tables w.made (least_body (bits_in c.in-AsLeast.width) u.made) parts.0.names gone (c.as_str-in-AsLeast.ensures.value ∙ sort.1)
-    (c.as_str-in-AsLeast-2.ensures.value ∙ c.in_ok-body-in-AsLeast.ensures u.made parts.1))
+    parts_written enums t s c.args.self.now c.encode_sort.new.self sort.0 (λ v. encode_terms enums ts v) (λ e es v. define t e (least_body (bits_in c.in-EqualsIntMin.width) es) v) (least_stated enums t s absent (bits_in c.in-EqualsIntMin.width) op ts type listed how)
+    c.encode_terms-in-EqualsIntMin.new.self c.define-in-EqualsIntMin.new.self parts.0 c.define-in-EqualsIntMin.result
+    (c.define-in-EqualsIntMin.ensures.lines u.tables w.made (least_body (bits_in c.in-EqualsIntMin.width) u.made) parts.0.names gone (c.as_str-in-EqualsIntMin.ensures.value ∙ sort.1)
+    (c.as_str-in-EqualsIntMin-2.ensures.value ∙ c.in_ok-body-in-EqualsIntMin.ensures u.made parts.1))
 
 pub encode_new-returns-in-None-clause-lines : goal.encode_new-returns-in-None-clause-lines
 encode_new-returns-in-None-clause-lines g m c s has absent =
@@ -106,7 +108,7 @@ encode_new-returns-in-Set-clause-lines g m c s has absent =
     let sort = c.in_ok-sort-in-Set.ensures.lines s has in
     let w = encode_type enums (type_of t) s in
     let known : enums_in c.encode_sort-in-Set.new.self ≡ enums = ap (λ e. enums_of e.now) c.in_ok-sort-in-Set.ensures.cause.same_enums in
-    let parts = subst (λ (e : Enums). Wrote g.S.Sink.held c.encode_sort-in-Set.new.self c.encode_terms-in-Set.new.self (encode_terms e ts w.tables).lines (encode_terms e ts w.tables).tables × AreSpelled (encode_terms e ts w.tables).made c.in_ok-operands-in-Set.operands.items) known
+    let parts = subst (λ (e : Enums). Wrote g.S.Sink.contents c.encode_sort-in-Set.new.self c.encode_terms-in-Set.new.self (encode_terms e ts w.tables).lines (encode_terms e ts w.tables).tables × AreSpelled (encode_terms e ts w.tables).made c.in_ok-operands-in-Set.operands.items) known
     (c.in_ok-operands-in-Set.ensures.lines w.tables sort.0.names) in
     let u = encode_terms enums ts w.tables in
     let gone : name_of_term u.tables t ≡ None = subst (λ k. name_of_term u.tables k ≡ name_of_term w.tables k) (sym listed) (elements_leave enums element ts w.tables) ∙ types_leave enums (type_of t) s t ∙ absent in
@@ -124,13 +126,13 @@ encode_new-returns-in-Some-clause-lines g m c s has absent =
     let sort = c.in_ok-sort-in-Some.ensures.lines s has in
     let w = encode_type enums (type_of t) s in
     let known : enums_in c.encode_sort-in-Some.new.self ≡ enums = ap (λ e. enums_of e.now) c.in_ok-sort-in-Some.ensures.cause.same_enums in
-    let parts = subst (λ (e : Enums). Wrote g.S.Sink.held c.encode_sort-in-Some.new.self c.encode_term.new.self (encode_term e inner w.tables).lines (encode_term e inner w.tables).tables × IsSpelled (encode_term e inner w.tables).made c.in_ok-operand-in-Some.operand) known
+    let parts = subst (λ (e : Enums). Wrote g.S.Sink.contents c.encode_sort-in-Some.new.self c.encode_term.new.self (encode_term e inner w.tables).lines (encode_term e inner w.tables).tables × IsSpelled (encode_term e inner w.tables).made c.in_ok-operand-in-Some.operand) known
     (c.in_ok-operand-in-Some.ensures.lines w.tables sort.0.names) in
     let u = encode_term enums inner w.tables in
     let gone : name_of_term u.tables t ≡ None = subst (λ k. name_of_term u.tables k ≡ name_of_term w.tables k) (sym listed) (inner_leaves enums inner w.tables) ∙ types_leave enums (type_of t) s t ∙ absent in
     parts_written enums t s c.args.self.now c.encode_sort-in-Some.new.self sort.0 (λ v. encode_term enums inner v) (λ e x v. as_some t e x v) (some_stated enums t s absent inner listed)
     c.encode_term.new.self c.define-in-Some.new.self parts.0 c.define-in-Some.result
-    (c.define-in-Some.ensures.lines u.tables w.made (group (name (codes "some") ∷ u.made ∷ [])) parts.0.names gone (c.as_str-in-Some.ensures.value ∙ sort.1)
+    (c.define-in-Some.ensures.lines u.tables w.made (some_body u.made) parts.0.names gone (c.as_str-in-Some.ensures.value ∙ sort.1)
     (c.as_str-in-Some-2.ensures.value ∙ c.in_ok-body-in-Some.ensures u.made parts.1))
 
 pub encode_new-returns-clause-lines : goal.encode_new-returns-clause-lines

@@ -5,6 +5,6 @@ use Rattle.smt_encode.proofs.encoder.Encoder.put_option.Goals as goal
 
 pub returns-clause-line : goal.returns-clause-line
 returns-clause-line g c = record {
-  got = c.in_ok-declare_datatype.ensures.ok ∙ ap (append_known (g.S.Sink.held c.args.self.now.script)) (option_bytes _ _ _ c.in_ok-parameter.ensures.ok c.in_ok-none.ensures.ok c.in_ok-some.ensures.ok);
+  got = c.in_ok-declare_datatype.ensures.ok ∙ ap (append_known (g.S.Sink.contents c.args.self.now.script)) (option_bytes _ _ _ c.in_ok-parameter.ensures.ok c.in_ok-none.ensures.ok c.in_ok-some.ensures.ok);
   same_names = refl;
 }

@@ -1,7 +1,6 @@
 use Rattle.std.proofs.Common.{Bor, ℤ, pos, w64, FitsSigned, rules, ◌≡◌, ℕ, ◌/◌, ◌%◌, List, ◌∷◌, ◌++◌, ap, ap₂, ◌∙◌, sym, subst, arith}
-use Rattle.std.specs.Prelude.{unsigned_abs}
+use Rattle.std.specs.Prelude.{unsigned_abs, int_lt}
 use Rattle.std.proofs.lemmas.Int.{to_z-of_z}
-use Rattle.std.specs.Prelude.{int_lt}
 use Rattle.std.specs.Fmt.{decimal, styled_decimal, HasWritten}
 use Rattle.smt_ext.specs.Digits.{minus_if, padded}
 use Rattle.smt_ext.specs.Printed.{is_below_zero}

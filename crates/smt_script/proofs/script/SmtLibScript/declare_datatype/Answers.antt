@@ -1,6 +1,6 @@
 -- The line is its head, the datatype and its end.
-use Rattle.smt_script.specs.Lines.{spaced, constructor_lines, datatype_body}
-use Rattle.smt_script.specs.Texts.{texts}
+use Rattle.smt_script.specs.ScriptLines.{spaced, constructor_lines, datatype_body}
+use Rattle.smt_script.specs.SharedTexts.{texts}
 use Rattle.smt_script.proofs.LinesLemmas.{declare_datatype_line-parts}
 use Rattle.smt_script.proofs.PutsLemmas.{exits, along, then, stops}
 use Rattle.smt_script.proofs.script.SmtLibScript.declare_datatype.Goals as goal

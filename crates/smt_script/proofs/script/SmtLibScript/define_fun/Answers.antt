@@ -1,8 +1,8 @@
 -- The line is its head, the arguments, and their sort and value.
 use Rattle.std.proofs.Common.{codes}
 use Rattle.std.specs.List.{join_by}
-use Rattle.smt_script.specs.Lines.{sorted_variable}
-use Rattle.smt_script.specs.Texts.{text_pairs}
+use Rattle.smt_script.specs.ScriptLines.{sorted_variable}
+use Rattle.smt_script.specs.SharedTexts.{text_pairs}
 use Rattle.smt_script.proofs.LinesLemmas.{define_fun_line-parts}
 use Rattle.smt_script.proofs.PutsLemmas.{exits, along, then, stops}
 use Rattle.smt_script.proofs.script.SmtLibScript.define_fun.Goals as goal

@@ -1,0 +1,56 @@
+-- That what carrying asks of a script can be met, and is met by what its declarations leave.
+use Rattle.std.specs.Prelude.{◌≡◌, ℕ, true, codes, length, List, [], ◌∷◌, Some, unwrap_or, ⊤}
+use Rattle.std.specs.List.{AllByRecursion}
+use Rattle.smt_term.specs.Plain.{OptionType, EntityType}
+use Rattle.smt_term.specs.TypeValues.{Enums}
+use Rattle.smt_semantics.specs.Script.{Constructor, DeclareDatatype, Entry, Builds, State, start, run, look_up, names_of, with_sort}
+use Rattle.smt_semantics.specs.Meanings.{constructors_named, with_names, names_in, are_new}
+use Rattle.smt_semantics.specs.Sorts.{entries}
+use Rattle.smt_semantics.specs.DeclarationLines.{Constructors, shown, at_place, Declares}
+use Rattle.smt_lines.specs.Command.{all_built}
+use Rattle.smt_lines.specs.Lines.{option_constructors}
+use Rattle.smt_lines.specs.NameTables.{Tables}
+use Rattle.smt_carrying.specs.CarriedOrder.{AreEnums}
+use Rattle.smt_carrying.specs.CarriedSorts.{IsDatatype, DeclaresOption, TypeIsDeclared}
+
+-- ---- datatypes from declarations
+
+-- an entry builds values of the datatype as its declaration says, or not at all
+abbrev pub BuildsRightly : List ℕ → List (List ℕ) → Constructors → List ℕ → Entry → Type 0
+BuildsRightly d ps cs c (Builds e qs place fields) = e ≡ d → (qs ≡ ps) × (at_place cs place ≡ Some (c, fields))
+BuildsRightly d ps cs c x = ⊤
+
+-- Where the constructors are declared, and nothing else builds values of the datatype, the datatype stands.
+abbrev pub DatatypesAreDeclared : Type 0
+DatatypesAreDeclared = (d : List ℕ) (ps : List (List ℕ)) (cs : List Constructor) (names : List (List ℕ × Entry)) → Declares (λ c. look_up c names) d ps 0 cs
+    → AllByRecursion (λ p. BuildsRightly d ps (shown cs) p.0 p.1) names → IsDatatype (λ c. look_up c names) d ps (shown cs)
+
+-- no entry builds values of the datatype
+abbrev pub BuildsOther : List ℕ → Entry → Type 0
+BuildsOther d (Builds e qs place fields) = e ≡ d → ⊥
+BuildsOther d x = ⊤
+
+-- A datatype that is declared, where nothing built its values before, stands.
+abbrev pub NewDatatypesAreDeclared : Type 0
+NewDatatypesAreDeclared = (d : List ℕ) (ps : List (List ℕ)) (cs : List Constructor) (s : State) → are_new s (names_in cs) ≡ true
+    → AllByRecursion (λ p. BuildsOther d p.1) (names_of s) → IsDatatype (entries (with_sort d (length ps) (with_names (constructors_named d ps 0 cs s.last.names) s))) d ps (shown cs)
+
+-- ---- an example: options and an enum type
+
+abbrev pub colors : Enums
+colors = (codes "Color", codes "a" ∷ codes "b" ∷ []) ∷ []
+
+abbrev pub color_tables : Tables
+color_tables = record { terms = []; types = (EntityType (codes "Color"), codes "E0") ∷ []; functions = [] }
+
+abbrev pub option_declared : List Constructor
+option_declared = all_built option_constructors
+
+abbrev pub color_declared : List Constructor
+color_declared = record { name = codes "E0_m0"; selectors = [] } ∷ record { name = codes "E0_m1"; selectors = [] } ∷ []
+
+abbrev pub color_state : State
+color_state = unwrap_or (run (DeclareDatatype (codes "Option") (codes "X" ∷ []) option_declared ∷ DeclareDatatype (codes "E0") [] color_declared ∷ []) start) start
+
+abbrev pub ColorsAreDeclared : Type 0
+ColorsAreDeclared = AreEnums colors × DeclaresOption (entries color_state) × TypeIsDeclared colors color_tables (entries color_state) (OptionType (EntityType (codes "Color")))

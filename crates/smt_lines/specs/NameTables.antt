@@ -1,0 +1,30 @@
+-- Tables of the names that were given to terms, types and functions.
+use Rattle.std.specs.Prelude.{ℕ, List, [], Option, Some, None}
+use Rattle.std.specs.Map.{lookup}
+use Rattle.smt_term.specs.Plain.{PlainType, PlainFunction, PlainTerm}
+use Rattle.smt_term.specs.Types.{type_eq}
+use Rattle.smt_term.specs.Interpretations.{function_eq}
+use Rattle.smt_term.specs.TermOrder.{term_eq}
+
+-- what has a name, in the order in which the names were given
+pub record Tables : Type 0 where
+  pub terms : List (PlainTerm × List ℕ)
+  pub types : List (PlainType × List ℕ)
+  pub functions : List (PlainFunction × List ℕ)
+
+abbrev pub no_names : Tables
+no_names = record { terms = []; types = []; functions = [] }
+
+abbrev pub name_of_term : Tables → PlainTerm → Option (List ℕ)
+name_of_term s t = lookup (term_eq t) s.terms
+
+abbrev pub name_of_type : Tables → PlainType → Option (List ℕ)
+name_of_type s t = lookup (type_eq t) s.types
+
+abbrev pub name_of_function : Tables → PlainFunction → Option (List ℕ)
+name_of_function s f = lookup (function_eq f) s.functions
+
+-- the text of an atom that is a name
+abbrev pub text_of_name : Option (List ℕ) → List ℕ
+text_of_name (Some n) = n
+text_of_name None = []

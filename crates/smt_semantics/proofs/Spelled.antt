@@ -1,0 +1,26 @@
+-- Operators are found by their names in scripts.
+use Rattle.std.proofs.Common.{◌≡◌, ℕ, List, [], ◌∷◌, map, sym, ap, ◌∙◌, inl, inr, Option, Some, rules}
+use Rattle.std.specs.Prelude.{bytes_eq}
+use Rattle.std.proofs.lemmas.Bool.{cond-true, cond-false, cases_Bool}
+use Rattle.std.proofs.lemmas.Slice.Eq.{bytes_eq-Decides}
+use Rattle.smt_term.specs.Plain.{PlainOp}
+use Rattle.smt_semantics.specs.ScriptOperators.{script_name, theory_operators}
+use Rattle.smt_semantics.specs.Script.{look_up}
+use Rattle.smt_semantics.specs.Meanings.{OperatorsAreFoundBySpelling}
+
+-- what is found by a name in a list of operators has that name
+spelled_in : (ops : List PlainOp) (n : List ℕ) (op : PlainOp) → look_up n (map (λ o. (script_name o, o)) ops) ≡ Some op → n ≡ script_name op
+spelled_in [] n op h = absurd cc
+spelled_in (o ∷ ops) n op h = elim (cases_Bool (bytes_eq n (script_name o))) [
+  | inl e ↦ (bytes_eq-Decides n (script_name o)).0 e ∙ ap script_name (found o op (sym (cond-true (bytes_eq n (script_name o)) (Some o) rest e) ∙ h))
+  | inr e ↦ spelled_in ops n op (sym (cond-false (bytes_eq n (script_name o)) (Some o) rest e) ∙ h)
+]
+  where
+    rest : Option PlainOp
+    rest = look_up n (map (λ p. (script_name p, p)) ops)
+
+    found : (a b : PlainOp) → Some a ≡ Some b → a ≡ b
+    found a b e = cc
+
+pub operators_are_found_by_spelling : OperatorsAreFoundBySpelling
+operators_are_found_by_spelling = record { found = search rules; spelled = spelled_in theory_operators }
