@@ -41,7 +41,7 @@ pub record IsDatatype (here : Entries) (d : List ℕ) (ps : List (List ℕ)) (cs
 abbrev pub IsNoDatatype : Entries → List ℕ → Type 0
 IsNoDatatype here d = (c : List ℕ) (qs : List (List ℕ)) (place : ℕ) (fields : List Expression) → here c ≡ Some (Builds d qs place fields) → ⊥
 
--- What stands in every script: options, and no datatype by the name of a sort that is built in.
+-- What every script of terms declares: options, and no datatype by the name of a sort that is built in.
 pub record DeclaresOption (here : Entries) : Type 0 where
   pub options : IsDatatype here (codes "Option") (codes "X" ∷ []) shown_option
   pub bits : IsNoDatatype here (codes "_")

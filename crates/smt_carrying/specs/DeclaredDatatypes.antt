@@ -20,7 +20,7 @@ abbrev pub BuildsRightly : List ℕ → List (List ℕ) → Constructors → Lis
 BuildsRightly d ps cs c (Builds e qs place fields) = e ≡ d → (qs ≡ ps) × (at_place cs place ≡ Some (c, fields))
 BuildsRightly d ps cs c x = ⊤
 
--- Where the constructors are declared, and nothing else builds values of the datatype, the datatype stands.
+-- Where the constructors are declared, and nothing else builds values of the datatype, it is declared as carrying asks.
 abbrev pub DatatypesAreDeclared : Type 0
 DatatypesAreDeclared = (d : List ℕ) (ps : List (List ℕ)) (cs : List Constructor) (names : List (List ℕ × Entry)) → Declares (λ c. look_up c names) d ps 0 cs
     → AllByRecursion (λ p. BuildsRightly d ps (shown cs) p.0 p.1) names → IsDatatype (λ c. look_up c names) d ps (shown cs)
@@ -30,7 +30,7 @@ abbrev pub BuildsOther : List ℕ → Entry → Type 0
 BuildsOther d (Builds e qs place fields) = e ≡ d → ⊥
 BuildsOther d x = ⊤
 
--- A datatype that is declared, where nothing built its values before, stands.
+-- So it is of a datatype whose line is obeyed where nothing built its values before.
 abbrev pub NewDatatypesAreDeclared : Type 0
 NewDatatypesAreDeclared = (d : List ℕ) (ps : List (List ℕ)) (cs : List Constructor) (s : State) → are_new s (names_in cs) ≡ true
     → AllByRecursion (λ p. BuildsOther d p.1) (names_of s) → IsDatatype (entries (with_sort d (length ps) (with_names (constructors_named d ps 0 cs s.last.names) s))) d ps (shown cs)

@@ -1,6 +1,6 @@
 ghost use Rattle.smt_carrying.specs.DeclaredDatatypes.{ColorsAreDeclared, DatatypesAreDeclared, NewDatatypesAreDeclared};
 
-/// Where constructors are declared, and nothing else builds values of their datatype, the datatype stands.
+/// Where constructors are declared, and nothing else builds values of their datatype, it is declared as carrying asks.
 pub fn datatypes_are_declared()
     ensures { DatatypesAreDeclared }
 {}
@@ -10,7 +10,7 @@ pub fn colors_are_declared()
     ensures { ColorsAreDeclared }
 {}
 
-/// A datatype that is declared, where nothing built its values before, stands.
+/// So it is of a datatype whose line is obeyed where nothing built its values before.
 pub fn new_datatypes_are_declared()
     ensures { NewDatatypesAreDeclared }
 {}

@@ -18,7 +18,7 @@ use Rattle.smt_lines.specs.Text.{names, text}
 use Rattle.smt_carrying.specs.CarriedOrder.{AreEnums}
 use Rattle.smt_headline.specs.Headline.{Headline}
 use Rattle.smt_headline.proofs.FitKept.{conditions_are_their_scripts}
-use Rattle.smt_encode.specs.Encoded.{HasNames, ModelsMakeTrue, OfNames, OfReceived}
+use Rattle.smt_encode.specs.Encoded.{HasNames, OfNames, OfReceived}
 use Rattle.smt_encode.specs.declared.encoder.Encoder.{Encoder}
 
 all_formed : (ts : List Term) → AllByRecursion IsFormed (map plain_term ts)
@@ -32,11 +32,6 @@ pub headline : (table : EnumTable) (ts : List Term) → AreBoolean (map plain_te
 headline table ts typed none =
     conditions_are_their_scripts (enums_of table) (map plain_term ts) (are_enums table)
     (record { are_typed = typed; are_formed = all_formed ts; have_no_fault = none })
-
-pub models_make_true : (table : EnumTable) (ts : List Term) → AreBoolean (map plain_term ts) → first_fault (enums_of table) (map plain_term ts) ≡ None → ModelsMakeTrue (enums_of table) (map plain_term ts)
-models_make_true table ts typed none =
-    let h = headline table ts typed none in
-    record { state = h.state; script = h.script; from_models = h.represents.models; to_models = h.represents.true_in }
 
 -- What a text and names say of terms, the bytes that were received say of them with the encoder's names.
 pub received : {S : Type 0} (e : Encoder S) (enums : Enums) (ts : List PlainTerm) (s : Tables) (bytes : List ℕ) (before after : Option (List ℕ)) → after ≡ append_known before bytes → HasNames e s → Headline enums s ts bytes

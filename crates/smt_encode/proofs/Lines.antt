@@ -27,13 +27,13 @@ lines_append ls ms = flat_map-append spelled_line ls ms
 module _ {S : Type 0} {contents : S → Option (List ℕ)} where
   -- nothing was written
   pub nothing_written : (e : Encoder S) (s : Tables) → HasNames e s → Wrote contents e e [] s
-  nothing_written e s has = record { names = has; held_is = appends_nothing (contents e.script) }
+  nothing_written e s has = record { names = has; contents_are = appends_nothing (contents e.script) }
 
   -- lines, and then more lines
   pub wrote_then : {old mid new : Encoder S} {ls ms : List Line} {s t : Tables} → Wrote contents old mid ls s → Wrote contents mid new ms t → Wrote contents old new (ls ++ ms) t
   wrote_then {old} {mid} {new} {ls} {ms} {s} {t} p q = record {
     names = q.names;
-    held_is = appends_then (contents old.script) (contents mid.script) (contents new.script) (spelled_lines ls) (spelled_lines ms) p.held_is q.held_is ∙ ap (append_known (contents old.script)) (sym (lines_append ls ms));
+    contents_are = appends_then (contents old.script) (contents mid.script) (contents new.script) (spelled_lines ls) (spelled_lines ms) p.contents_are q.contents_are ∙ ap (append_known (contents old.script)) (sym (lines_append ls ms));
   }
 
   -- what is stated in two steps is written in two steps
@@ -45,7 +45,7 @@ module _ {S : Type 0} {contents : S → Option (List ℕ)} where
   pub put : {T : Type 0} {u : T} {old new : Encoder S} {bytes : List ℕ} (line : Line) (s : Tables) → PutsLine contents old new bytes (Ok u) → bytes ≡ spelled_line line → HasNames old s → Wrote contents old new (line ∷ []) s
   put {old = old} {new} line s p e has = record {
     names = record { terms = λ t. ap (λ m. option_map rc_str_bytes (get term_order.ghosts.cmp m t)) p.same_names ∙ has.terms t; count = ap btree_map_len p.same_names ∙ has.count; types = has.types; functions = has.functions };
-    held_is = p.got ∙ ap (append_known (contents old.script)) (e ∙ sym (append-nil (spelled_line line)));
+    contents_are = p.got ∙ ap (append_known (contents old.script)) (e ∙ sym (append-nil (spelled_line line)));
   }
 
   -- lines, and then an entry
@@ -53,5 +53,5 @@ module _ {S : Type 0} {contents : S → Option (List ℕ)} where
       → (HasNames mid s → HasNames new (record s { terms = s.terms ++ (t, name) ∷ [] })) → new.script ≡ mid.script → Wrote contents old new ls (record s { terms = s.terms ++ (t, n) ∷ [] })
   wrote_entry {old} {mid} {new} {ls} {s} t name n e p enters same = record {
     names = subst (λ (m : List ℕ). HasNames new (record s { terms = s.terms ++ (t, m) ∷ [] })) e (enters p.names);
-    held_is = ap contents same ∙ p.held_is;
+    contents_are = ap contents same ∙ p.contents_are;
   }

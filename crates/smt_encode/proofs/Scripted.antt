@@ -57,4 +57,4 @@ text_is enums ts = ap spelled_lines (sym (append-nil (option_line ∷ (encode en
 -- where the lines of a whole script were written, its text was
 pub text_written : {S : Type 0} {contents : S → Option (List ℕ)} {old new : Encoder S} {s : Tables} (enums : Enums) (ts : List PlainTerm) → Wrote contents old new (option_line ∷ (encode enums ts no_names).lines) s
     → contents new.script ≡ append_known (contents old.script) (text enums ts)
-text_written {contents = contents} {old} enums ts w = w.held_is ∙ ap (append_known (contents old.script)) (text_is enums ts)
+text_written {contents = contents} {old} enums ts w = w.contents_are ∙ ap (append_known (contents old.script)) (text_is enums ts)

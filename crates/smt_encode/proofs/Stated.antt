@@ -52,7 +52,7 @@ module _ (enums : Enums) (t : PlainTerm) (s : Tables) (absent : name_of_term s t
   set_stated element ts same = of_form (SetTerm element ts) (λ u. encode_type enums (type_of u) s >>= λ sort v. encode_terms enums ts v >>= λ es w. define u sort (set_body sort es) w) same
       (λ none. ap (λ o. unless_named o s (λ u. encode_type enums (type_of (SetTerm element ts)) u >>= λ sort v. encode_terms enums ts v >>= λ es w. define (SetTerm element ts) sort (set_body sort es) w)) none)
 
-  -- ---- applications, by their manner
+  -- ---- applications, by their rendering
 
   abbrev in_rendering : lines.Rendering → Op → PlainTerms → PlainType → PlainTerm → Written Expression
   in_rendering m op ts type u = encode_type enums (type_of u) s >>= λ sort v. define_application enums m (plain_op op) ts type (λ w. encode_terms enums ts w) sort v

@@ -1,29 +1,21 @@
 -- What an encoder's tables hold, and what a call leaves of an encoder and its sink.
-use Rattle.std.specs.Prelude.{ℕ, ◌≡◌, ◌≤◌, ◌↔◌, List, [], ◌++◌, Bool, ◌||◌, Option, Some, option_map, Result, IfOk, OnOk, IsErrOf, length, map}
+use Rattle.std.specs.Prelude.{ℕ, ◌≡◌, ◌≤◌, List, [], ◌++◌, Bool, ◌||◌, Option, Some, option_map, Result, IfOk, OnOk, IsErrOf, length, map}
 use Rattle.std.specs.BTreeMap.{get, btree_map_len}
 use Rattle.std.specs.Io.KnownBytes.{append_known}
 use Rattle.std.specs.Rc.{rc_str_bytes}
 use Rattle.std.specs.declared.alloc.Global.{Global}
 use Rattle.std.specs.declared.rc.RcStr.{RcStr}
 use Rattle.smt_term.specs.Enums.{enums_of}
-use Rattle.smt_term.specs.Interpretations.{IsInterpretation}
-use Rattle.smt_term.specs.Plain.{PlainTerm}
-use Rattle.smt_term.specs.Tables.{Interpretation}
 use Rattle.smt_term.specs.TypeValues.{Enums}
 use Rattle.smt_term.specs.View.{plain_term}
 use Rattle.smt_term.specs.contracts.term.TermOrd.TheImpl as term_order
 use Rattle.smt_term.specs.declared.term.Term.{Term}
 use Rattle.smt_sexpr.specs.Reading.{Expression}
-use Rattle.smt_semantics.specs.Script.{State}
-use Rattle.smt_semantics.specs.Value.{ScriptInterpretation, IsModel, IsScriptInterpretation}
-use Rattle.smt_semantics.specs.Written.{IsOpenScript}
 use Rattle.smt_lines.specs.Line.{Line, spelled_lines}
 use Rattle.smt_lines.specs.Lines.{Written}
 use Rattle.smt_lines.specs.NameTables.{Tables, name_of_term}
 use Rattle.smt_lines.specs.Spelling.{spelled}
 use Rattle.smt_lines.specs.Text.{names, text}
-use Rattle.smt_carrying.specs.CarriedInterpretations.{back_interpretation, carry_interpretation}
-use Rattle.smt_headline.specs.Headline.{AreTrue}
 use Rattle.smt_script.specs.Sink.{Rose}
 use Rattle.smt_encode.specs.declared.encoder.Encoder.{Encoder}
 use Rattle.smt_encode.specs.declared.error.EncodeError.{EncodeError}
@@ -44,14 +36,6 @@ is_spent e = e.begun || e.failed
 -- the name that an encoder's table of terms has for a term
 abbrev pub entry_of : {S : Type 0} → Encoder S → Term → Option (List ℕ)
 entry_of e t = option_map rc_str_bytes (get term_order.ghosts.cmp e.terms t)
-
--- The text is a script. What an interpretation of the script comes back as makes every term true exactly where it is a
--- model, and an interpretation of the terms makes every term true exactly where it is carried to a model.
-pub record ModelsMakeTrue (enums : Enums) (ts : List PlainTerm) : Type 0 where
-  pub state : State
-  pub script : IsOpenScript (text enums ts) state
-  pub from_models : (J : ScriptInterpretation) → IsScriptInterpretation J state → IsModel J state ↔ AreTrue (back_interpretation enums (names enums ts) J) ts
-  pub to_models : (I : Interpretation) → IsInterpretation enums ts I → AreTrue I ts ↔ IsModel (carry_interpretation enums (names enums ts) I) state
 
 -- The encoder's names are these: its table has the names of these tables for terms, and as many. Types and functions have none yet.
 pub record HasNames {S : Type 0} (e : Encoder S) (s : Tables) : Type 0 where
@@ -79,7 +63,7 @@ AreSpelled es texts = map rc_str_bytes texts ≡ map spelled es
 -- The sink got these lines, and the encoder has the names of these tables.
 pub record Wrote {S : Type 0} (contents : S → Option (List ℕ)) (old new : Encoder S) (lines : List Line) (tables : Tables) : Type 0 where
   pub names : HasNames new tables
-  pub held_is : contents new.script ≡ append_known (contents old.script) (spelled_lines lines)
+  pub contents_are : contents new.script ≡ append_known (contents old.script) (spelled_lines lines)
 
 -- On Ok the sink got this line. The tables stay as they were.
 pub record PutsLine {S T : Type 0} (contents : S → Option (List ℕ)) (old new : Encoder S) (line : List ℕ) (result : Result T EncodeError) : Type 0 where

@@ -8,7 +8,7 @@ use Rattle.smt_lines.specs.Lines as lines
 use Rattle.smt_encode.specs.declared.rendering.Rendering.{Rendering}
 use Rattle.smt_encode.specs.declared.rendering.Rendering.TheVariants.{False, Application, EqualsIntMin}
 
--- a manner of the program as the stated lines have it
+-- a rendering of the program as the stated lines have it
 abbrev pub plain_rendering : Rendering → lines.Rendering
 plain_rendering Application = lines.AsApplication
 plain_rendering (EqualsIntMin width) = lines.AsEqualsIntMin (bits_in width)

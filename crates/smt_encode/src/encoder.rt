@@ -95,7 +95,7 @@ impl<'a, S> Encoder<'a, S> {
 }
 
 impl<S: Sink> Encoder<'_, S> {
-    ghost use Rattle.smt_encode.specs.Encoded.{entry_of, enums_in, is_spent, sink_of, AreSpelled, FaultCounted, HasNames, IsSpelled, ModelsMakeTrue, OfNames, OfReceived, PutsLine, WritesStated, WritesHere, Wrote};
+    ghost use Rattle.smt_encode.specs.Encoded.{entry_of, enums_in, is_spent, sink_of, AreSpelled, FaultCounted, HasNames, IsSpelled, OfNames, OfReceived, PutsLine, WritesStated, WritesHere, Wrote};
 
     /// Writes the script of these terms: the declaration of the datatype `Option`, what the terms need, and an
     /// assertion for each term, in order (commands of SMT-LIB 2.7, chapter 3, Scripts).
@@ -110,7 +110,7 @@ impl<S: Sink> Encoder<'_, S> {
     /// terms `headline` says what the bytes mean that the sink got in this call, by the names that the encoder has then:
     /// they are a script by the grammar of SMT-LIB 2.7, each name is declared once and before its use, the assertions are
     /// the terms' texts in order, and the models are exactly the interpretations that make all terms true. `models` says
-    /// the last by itself, of the stated text.
+    /// the same of the stated text and its names, of any encoder that answers Ok.
     ///
     /// # Errors
     ///
@@ -124,7 +124,7 @@ impl<S: Sink> Encoder<'_, S> {
         ensures text { HasNames self.old no_names → OnOk result (S.contents (sink_of self.new) ≡ append_known (S.contents (sink_of self.old)) (text (enums_in self.old) (map plain_term terms.now))) }
         ensures names { HasNames self.old no_names → OnOk result (HasNames self.new (names (enums_in self.old) (map plain_term terms.now))) }
         ensures headline { HasNames self.old no_names → AreBoolean (map plain_term terms.now) → OnOk result (OfReceived (S.contents (sink_of self.old)) (S.contents (sink_of self.new)) (λ bytes. OfNames self.new (λ names. Headline (enums_in self.old) names (map plain_term terms.now) bytes))) }
-        ensures models { AreBoolean (map plain_term terms.now) → OnOk result (ModelsMakeTrue (enums_in self.old) (map plain_term terms.now)) }
+        ensures models { AreBoolean (map plain_term terms.now) → OnOk result (Headline (enums_in self.old) (names (enums_in self.old) (map plain_term terms.now)) (map plain_term terms.now) (text (enums_in self.old) (map plain_term terms.now))) }
         ensures spent { IsErrOf result EncodeError.Spent ↔ IsTrue (is_spent self.old) }
         ensures unchanged { IsTrue (is_spent self.old) → self.new ≡ self.old }
         ensures once { IsTrue (is_spent self.new) }

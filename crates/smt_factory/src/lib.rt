@@ -3,8 +3,8 @@
 //! A call does not always build the application that it is asked for: `and(b, not b)` is `false`. What it gives
 //! is said by a function of plain terms (`specs/FoldConnectives.antt`, `FoldEquality.antt`, `FoldBits.antt`,
 //! `FoldStrings.antt`, `FoldSets.antt`, `FoldOptions.antt`), and that the result may take the application's place by
-//! one word, `StandsFor` of `specs/StandsFor.antt`. A call with many exits has a private one beside it that folds,
-//! so that what stands for what is shown once and not at each exit.
+//! one word, `Refines` of `specs/Refinement.antt`. A call with many exits has a private one beside it that folds,
+//! so that this is shown once and not at each exit.
 #![tactic(auto, using(crate::proofs::Folding::folding))]
 
 mod any;

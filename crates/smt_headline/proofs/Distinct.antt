@@ -103,10 +103,10 @@ module _ (enums : Enums) (s : Tables) (numbered_types : EachEntry (λ t n. (k : 
         within = g.2;
       }
 
-  manner_false : (m : Rendering) → is_none (undrawn_rendering m) ≡ false → m ≡ AsFalse
-  manner_false AsApplication h = absurd (false≢true (sym h))
-  manner_false (AsEqualsIntMin w) h = absurd (false≢true (sym h))
-  manner_false AsFalse h = refl
+  rendered_false : (m : Rendering) → is_none (undrawn_rendering m) ≡ false → m ≡ AsFalse
+  rendered_false AsApplication h = absurd (false≢true (sym h))
+  rendered_false (AsEqualsIntMin w) h = absurd (false≢true (sym h))
+  rendered_false AsFalse h = refl
 
   member : (t : PlainTerm) (n : List ℕ) → IsNamedRightly enums s t n → is_drawn enums t ≡ false → IsMember enums s t n
   member (LiteralTerm (EntityLiteral type id)) n g d = entity_member (members_of enums type) type id n refl g d
@@ -114,7 +114,7 @@ module _ (enums : Enums) (s : Tables) (numbered_types : EachEntry (λ t n. (k : 
   member (LiteralTerm (BoolLiteral b)) n g d = absurd (false≢true (sym d))
   member (LiteralTerm (StringLiteral x)) n g d = absurd (false≢true (sym d))
   member (LiteralTerm (ExtensionLiteral x)) n g d = absurd (false≢true (sym d))
-  member (Application op ts type) n g d = absurd (g (manner_false (application_rendering op ts type) d))
+  member (Application op ts type) n g d = absurd (g (rendered_false (application_rendering op ts type) d))
   member (NoneTerm type) n g d = absurd (false≢true (sym d))
   member (RecordTerm x) n g d = absurd (false≢true (sym d))
   member (SetTerm t ts) n g d = absurd (false≢true (sym d))

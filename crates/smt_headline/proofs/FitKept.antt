@@ -3,7 +3,7 @@ use Rattle.std.proofs.Common.{◌≡◌, ℕ, Bool, true, false, not, List, [], 
 use Rattle.std.specs.Option.{option_and_then}
 use Rattle.std.proofs.lemmas.List.{append-nil}
 use Rattle.std.proofs.lemmas.List.Elements.{All-from_recursion}
-use Rattle.smt_term.specs.Plain.{PlainTerm}
+use Rattle.smt_term.specs.Plain.{PlainTerm, terms}
 use Rattle.smt_term.specs.TypeValues.{Enums}
 use Rattle.smt_term.proofs.Defaults.{interpreted}
 use Rattle.smt_semantics.specs.Script as script
@@ -16,6 +16,7 @@ use Rattle.smt_lines.specs.Line.{Line, Push, Pop, spelled_lines}
 use Rattle.smt_lines.specs.Lines.{Call, PushCall, PopCall, EncodeCall, Encoding, after_call, beginning, encode, lines_of_call, lines_of_calls, option_line}
 use Rattle.smt_lines.specs.NameTables.{no_names}
 use Rattle.smt_lines.specs.Text.{text}
+use Rattle.smt_lines.proofs.Grow.{terms_grow}
 use Rattle.smt_lines.proofs.Joined.{lines_join}
 use Rattle.smt_lines.proofs.Levels.{HoldsWhole, terms_run}
 use Rattle.smt_lines.proofs.Single.{step_runs}
@@ -23,7 +24,7 @@ use Rattle.smt_lines.proofs.Spelled.{lines_hold, one_holds, whole_line}
 use Rattle.smt_lines.proofs.Whole.{begun, first_runs, first_is_line}
 use Rattle.smt_carrying.specs.CarriedOrder.{AreEnums}
 use Rattle.smt_headline.specs.Conditions.{AreConditions, AreCallsOfConditions}
-use Rattle.smt_headline.specs.Fits.{Stage, Stages, new_stages, encoding_of, stages_after, stages_after_calls, FitsAt, FitBelow, FitsNow, Fits, FittingTextsRepresent, EmptyTextFits, CallsKeepFit, CallListsKeepFit, IdleLinesKeepFit, CommentsKeepFit, TheseAreIdle}
+use Rattle.smt_headline.specs.Fits.{Stage, Stages, new_stages, encoding_of, stages_after, stages_after_calls, FitsAt, FitBelow, FitsNow, GoesOn, IsAbove, AreAbove, Fits, FittingTextsRepresent, EmptyTextFits, CallsKeepFit, CallListsKeepFit, IdleLinesKeepFit, CommentsKeepFit, TheseAreIdle}
 use Rattle.smt_headline.specs.Headline.{Represents}
 use Rattle.smt_headline.specs.Stated.{ConditionsAreTheirScripts, StatedCallsFit}
 use Rattle.smt_headline.proofs.FineTerms.{conditions_are_fine, parts_typed}
@@ -60,6 +61,33 @@ fitting_texts_represent enums text x f = by x.begun f.now
     by false g =
         subst (λ (y : Stage). Represents enums y.tables y.terms f.state) (sym g.0) (subst (λ (s : State). Represents enums no_names [] s) (sym g.1) (nothing_represents enums))
 
+-- ---- stages above one another
+
+goes_on : {A : Type 0} (xs : List A) → GoesOn xs xs
+goes_on xs = ([], sym (append-nil xs))
+
+goes_further : {A : Type 0} (xs ys zs : List A) → GoesOn xs ys → GoesOn ys zs → GoesOn xs zs
+goes_further {A} xs ys zs a b = (a.0 ++ b.0, b.1 ∙ ap (λ (l : List A). l ++ b.0) a.1 ∙ append_assoc xs a.0 b.0)
+
+-- a stage is above itself
+is_above : (x : Stage) → IsAbove x x
+is_above x = record { terms = goes_on x.terms; named_terms = goes_on x.tables.terms; named_types = goes_on x.tables.types; named_functions = goes_on x.tables.functions }
+
+-- what is encoded goes on above the stages below
+encoded_above : (enums : Enums) (ts : List PlainTerm) (x : Stage) (below : List Stage) → AreAbove x below → AreAbove (record { tables = (encode enums ts x.tables).tables; terms = x.terms ++ ts }) below
+encoded_above enums ts x [] h = tt
+encoded_above enums ts x (y ∷ ys) h =
+    let g = terms_grow enums (terms ts) x.tables in
+    let u = (encode enums ts x.tables).tables in (
+      record {
+        terms = goes_further y.terms x.terms (x.terms ++ ts) h.0.terms (ts, refl);
+        named_terms = goes_further y.tables.terms x.tables.terms u.terms h.0.named_terms (g.new_terms, g.terms);
+        named_types = goes_further y.tables.types x.tables.types u.types h.0.named_types (g.new_types, g.types);
+        named_functions = goes_further y.tables.functions x.tables.functions u.functions h.0.named_functions (g.new_functions, g.functions);
+      },
+      h.1,
+    )
+
 -- ---- texts that go on
 
 stands_then : (text : List ℕ) (state : State) (ls : List Line) (after : State) → IsOpenScript text state → HoldsWhole ls → run (commands ls) state ≡ Some after → not after.ended ≡ true → IsOpenScript (text ++ spelled_lines ls) after
@@ -82,6 +110,7 @@ begins enums text now below false f = record {
   state = begun;
   script = stands_then text start (option_line ∷ []) begun (subst (IsOpenScript text) f.now.1 f.script) (one_holds _ [] _ [] first_is_line (lines_hold [] refl)) first_runs refl;
   enum_types = f.enum_types;
+  levels = f.levels;
   now = subst (λ (y : Stage). FitsAt enums y begun) (sym f.now.0) (begun_fits_stage enums);
   below = subst (λ (s : State). FitBelow enums below s.below) f.now.1 f.below;
 }
@@ -96,6 +125,7 @@ push_fits enums text now below f =
       state = with_level f.state;
       script = stands_then text f.state (Push ∷ []) (with_level f.state) f.script (lines_hold (Push ∷ []) refl) (step_runs script.Push f.state (with_level f.state) running refl) f.script.running;
       enum_types = f.enum_types;
+      levels = (is_above now, f.levels);
       now = level_fits_stage enums now f.state f.now;
       below = (back_fits_stage enums now f.state f.now, f.below);
     }
@@ -113,6 +143,7 @@ pop_fits enums text now y below f = go f.state.below refl f.below
           state = back_at l ls;
           script = stands_then text f.state (Pop ∷ []) (back_at l ls) f.script (lines_hold (Pop ∷ []) refl) (step_runs script.Pop f.state (back_at l ls) running gives) refl;
           enum_types = f.enum_types;
+          levels = f.levels.1;
           now = k.0;
           below = k.1;
         }
@@ -125,6 +156,7 @@ terms_fit enums text now below ts f c =
       state = r.after;
       script = stands_then text f.state (encode enums ts now.tables).lines r.after f.script r.holds r.runs (ap not r.fits.running);
       enum_types = f.enum_types;
+      levels = encoded_above enums ts now below f.levels;
       now = encode_fits enums now f.state ts f.now c r;
       below = subst (FitBelow enums below) (sym r.same_below) f.below;
     }
@@ -153,6 +185,7 @@ empty_text_fits enums good = record {
   state = start;
   script = record { whole = tt; script = record { commands = []; holds = (lines_hold [] refl).0; runs = refl }; running = refl };
   enum_types = good;
+  levels = tt;
   now = (refl, refl);
   below = tt;
 }
@@ -196,6 +229,7 @@ idle_lines_keep_fit enums text line x c f i l = record {
   state = f.state;
   script = stays_so text line f.state f.state c refl f.script l (i f.state);
   enum_types = f.enum_types;
+  levels = f.levels;
   now = f.now;
   below = f.below;
 }
@@ -209,6 +243,7 @@ comments_keep_fit enums text line x f l = record {
     running = f.script.running;
   };
   enum_types = f.enum_types;
+  levels = f.levels;
   now = f.now;
   below = f.below;
 }

@@ -8,7 +8,7 @@ use Rattle.smt_lines.specs.NameTables.{Tables}
 use Rattle.smt_lines.specs.Fit.{Fit}
 use Rattle.smt_lines.proofs.Declared.{terms_are_declared, functions_are_declared}
 use Rattle.smt_carrying.specs.CarriedInterpretations.{variable_name, function_name, IsOpNamed, IsTermNamed}
-use Rattle.smt_headline.specs.Reached.{IsOpOpen, IsOpen, ReachedAreOpen}
+use Rattle.smt_headline.specs.FittingStates.{IsOpOpen, IsOpen, ReachedAreOpen}
 use Rattle.smt_carrying.proofs.Open.{every}
 
 module _ (enums : Enums) (s : Tables) (state : State) (fit : Fit enums s state) where

@@ -15,7 +15,7 @@ use Rattle.smt_carrying.specs.CarriedInterpretations.{variable_name, function_na
 use Rattle.smt_carrying.specs.Open.{Occurs, IsOpenEntry}
 use Rattle.smt_term.proofs.ValueOrder.{bytes_itself}
 use Rattle.smt_headline.specs.Headline.{reached_names}
-use Rattle.smt_headline.specs.Reached.{IsOpOpen, IsOpen}
+use Rattle.smt_headline.specs.FittingStates.{IsOpOpen, IsOpen}
 use Rattle.smt_headline.proofs.Lasting.{some_entry}
 use Rattle.smt_semantics.proofs.Results.{or_left, or_right}
 use Rattle.smt_carrying.proofs.Open.{at_term}

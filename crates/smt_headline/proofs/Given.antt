@@ -12,7 +12,7 @@ use Rattle.smt_lines.specs.Naming.{type_sort}
 use Rattle.smt_lines.specs.NameTables.{Tables}
 use Rattle.smt_carrying.specs.CarriedInterpretations.{variable_name, function_name}
 use Rattle.smt_carrying.proofs.Standing.{of_entry}
-use Rattle.smt_headline.specs.Reached.{IsOpOpen, IsOpen, IsOpGiven, IsNameGiven, InterpretationsGiveNames}
+use Rattle.smt_headline.specs.FittingStates.{IsOpOpen, IsOpen, IsOpGiven, IsNameGiven, InterpretationsGiveNames}
 
 module _ (s : Tables) (state : State) (J : ScriptInterpretation) (h : IsScriptInterpretation J state) where
   all_given : AllByRecursion (λ p. IsTrue (is_entry_given J (entries state) p.0 p.1)) (names_of state)

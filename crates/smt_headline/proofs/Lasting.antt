@@ -4,7 +4,7 @@ use Rattle.std.specs.Prelude.{bytes_eq}
 use Rattle.std.proofs.lemmas.Bool.{or_parts}
 use Rattle.std.proofs.lemmas.Slice.Eq.{bytes_eq-Decides}
 use Rattle.smt_sexpr.specs.Reading.{Expression}
-use Rattle.smt_semantics.specs.Script.{Command, DeclareDatatype, DeclareConst, DefineFun, Assert, DeclareFun, SetLogic, SetOption, Reset, Exit, Push, Pop, Constructor, Entry, Constant, Function, Defined, Builds, Selects, State, name, start, built_in_names, is_in, is_reserved, has_name, is_taken, is_new_datatype, is_simple_symbol, is_sort, has_sort, knows, names_of, look_up, declare, declare_selectors, declare_constructors, with_level, with_name, with_sort, with_assertion, obey, step, ◌>>=◌}
+use Rattle.smt_semantics.specs.Script.{Command, DeclareDatatype, DeclareConst, DefineFun, Assert, DeclareFun, SetLogic, SetOption, Reset, Exit, Push, Pop, Constructor, Entry, Constant, Function, Defined, Builds, Selects, State, name, start, built_in_names, is_in, is_reserved, has_name, is_taken, is_new_datatype, is_simple_symbol, is_attribute_value, is_sort, has_sort, knows, names_of, look_up, declare, declare_selectors, declare_constructors, with_level, with_name, with_sort, with_assertion, obey, step, ◌>>=◌}
 use Rattle.smt_semantics.specs.Sorts.{entries, expression_sort}
 use Rattle.smt_semantics.specs.Value.{ScriptInterpretation, expression_value}
 use Rattle.smt_semantics.specs.Meanings.{is_own}
@@ -97,7 +97,7 @@ obey_adds Push k s t e = absurd k
 obey_adds Pop k s t e = absurd k
 obey_adds Exit k s t e = subst (λ (u : State). Adds IsBuilt s u) (some_is (record s { ended = true }) t e) (λ m y h. inl h)
 obey_adds (SetLogic l) k s t e = adds_none IsBuilt s t (some_is s t (if_so (is_simple_symbol l) (Some s) t e).1)
-obey_adds (SetOption o v) k s t e = adds_none IsBuilt s t (some_is s t (if_so (is_simple_symbol o) (Some s) t e).1)
+obey_adds (SetOption o v) k s t e = adds_none IsBuilt s t (some_is s t (if_so (is_simple_symbol o && is_attribute_value v) (Some s) t e).1)
 obey_adds c k s t e = adds_none IsBuilt s t (some_is s t e)
 
 -- ---- what they are worth

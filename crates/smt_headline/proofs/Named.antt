@@ -18,7 +18,7 @@ use Rattle.smt_lines.specs.Fit.{Fit, PartsHaveEntries}
 use Rattle.smt_lines.proofs.Declared.{terms_are_declared, functions_are_declared}
 use Rattle.smt_carrying.specs.CarriedInterpretations.{TypeIsNamed, IsOpNamed, IsTermNamed, ip_type}
 use Rattle.smt_carrying.specs.CarriedSorts.{TypeIsDeclared}
-use Rattle.smt_headline.specs.Reached.{TermsAreNamed, ReachedIsDeclared}
+use Rattle.smt_headline.specs.FittingStates.{TermsAreNamed, ReachedIsDeclared}
 use Rattle.smt_headline.proofs.Types.{option_is_declared, there, type_stands}
 
 pub all_append : {A : Type 0} (P : A → Type 0) (xs ys : List A) → AllByRecursion P xs → AllByRecursion P ys → AllByRecursion P (xs ++ ys)

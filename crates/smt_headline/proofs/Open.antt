@@ -9,7 +9,7 @@ use Rattle.smt_semantics.specs.Script.{Entry, Constant, Function, Defined, Build
 use Rattle.smt_lines.specs.NameTables.{Tables, text_of_name}
 use Rattle.smt_carrying.specs.Open.{IsVariable, IsFunction, IsOpenEntry}
 use Rattle.smt_headline.specs.Fits.{VariableOrigin, FunctionOrigin, BelongsToAnEntry}
-use Rattle.smt_headline.specs.Reached.{NamesAreOpen}
+use Rattle.smt_headline.specs.FittingStates.{NamesAreOpen}
 
 module _ (enums : Enums) (us : List PlainTerm) (s : Tables) where
   variable_open : (n : List ℕ) (sort : Expression) → VariableOrigin us s n sort → IsVariable s us n sort

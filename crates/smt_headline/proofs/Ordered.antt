@@ -4,7 +4,7 @@ use Rattle.std.specs.Prelude.{bytes_eq}
 use Rattle.std.proofs.lemmas.Bool.{and_parts, cases_Bool, cond-true, cond-false, false≢true, or_parts}
 use Rattle.std.proofs.lemmas.Slice.Eq.{bytes_eq-Decides}
 use Rattle.smt_sexpr.specs.Reading.{Expression}
-use Rattle.smt_semantics.specs.Script.{Command, DeclareDatatype, DeclareConst, DefineFun, Assert, DeclareFun, SetLogic, SetOption, Reset, Exit, Push, Pop, Constructor, Entry, Constant, Function, Defined, Builds, Selects, State, Script, is_in, is_taken, is_new_datatype, is_simple_symbol, is_reserved, is_sort, has_sort, has_name, is_stated, built_in_names, look_up, names_of, declare, declare_selectors, declare_constructors, with_name, with_sort, with_assertion, obey, step, knows, ◌>>=◌}
+use Rattle.smt_semantics.specs.Script.{Command, DeclareDatatype, DeclareConst, DefineFun, Assert, DeclareFun, SetLogic, SetOption, Reset, Exit, Push, Pop, Constructor, Entry, Constant, Function, Defined, Builds, Selects, State, Script, is_in, is_taken, is_new_datatype, is_simple_symbol, is_attribute_value, is_reserved, is_sort, has_sort, has_name, is_stated, built_in_names, look_up, names_of, declare, declare_selectors, declare_constructors, with_name, with_sort, with_assertion, obey, step, knows, ◌>>=◌}
 use Rattle.smt_semantics.specs.Meanings.{is_own}
 use Rattle.smt_semantics.specs.Sorts.{Entries}
 use Rattle.smt_semantics.proofs.Results.{some_is, if_not, if_so, bind_gives}
@@ -79,7 +79,7 @@ obey_stands Push k s t r g e h = absurd k
 obey_stands Pop k s t r g e h = absurd k
 obey_stands Exit k s t r g e h = to (record s { ended = true }) t (some_is (record s { ended = true }) t e) h
 obey_stands (SetLogic l) k s t r g e h = to s t (some_is s t (if_so (is_simple_symbol l) (Some s) t e).1) h
-obey_stands (SetOption o v) k s t r g e h = to s t (some_is s t (if_so (is_simple_symbol o) (Some s) t e).1) h
+obey_stands (SetOption o v) k s t r g e h = to s t (some_is s t (if_so (is_simple_symbol o && is_attribute_value v) (Some s) t e).1) h
 obey_stands c k s t r g e h = to s t (some_is s t e) h
 
 -- What a script declares stands in order.

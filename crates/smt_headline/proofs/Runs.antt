@@ -2,7 +2,7 @@
 use Rattle.std.proofs.Common.{◌≡◌, ℕ, suc, Bool, true, false, ◌&&◌, ◌||◌, eqb, cond, List, [], ◌∷◌, map, length, subst, Some}
 use Rattle.std.specs.List.{AllByRecursion}
 use Rattle.smt_sexpr.specs.Reading.{Expression}
-use Rattle.smt_semantics.specs.Script.{Command, DeclareDatatype, DeclareConst, DefineFun, Assert, DeclareFun, SetLogic, SetOption, Reset, Exit, Push, Pop, Constructor, Entry, Constant, Function, Defined, Builds, Selects, State, is_in, is_taken, is_new_datatype, is_simple_symbol, is_sort, has_sort, names_of, declare, declare_selectors, declare_constructors, with_name, with_sort, with_assertion, obey, step, run, knows, ◌>>=◌}
+use Rattle.smt_semantics.specs.Script.{Command, DeclareDatatype, DeclareConst, DefineFun, Assert, DeclareFun, SetLogic, SetOption, Reset, Exit, Push, Pop, Constructor, Entry, Constant, Function, Defined, Builds, Selects, State, is_in, is_taken, is_new_datatype, is_simple_symbol, is_attribute_value, is_sort, has_sort, names_of, declare, declare_selectors, declare_constructors, with_name, with_sort, with_assertion, obey, step, run, knows, ◌>>=◌}
 use Rattle.smt_semantics.proofs.Results.{some_is, if_not, if_so, bind_gives}
 
 -- a property of entries that constructors and selectors have
@@ -54,7 +54,7 @@ module _ (P : List ℕ → Entry → Type 0) (builders : (n d : List ℕ) (ps : 
   obey_each Pop k s t h e = absurd k
   obey_each Exit k s t h e = to (record s { ended = true }) t (some_is (record s { ended = true }) t e) h
   obey_each (SetLogic l) k s t h e = to s t (some_is s t (if_so (is_simple_symbol l) (Some s) t e).1) h
-  obey_each (SetOption o v) k s t h e = to s t (some_is s t (if_so (is_simple_symbol o) (Some s) t e).1) h
+  obey_each (SetOption o v) k s t h e = to s t (some_is s t (if_so (is_simple_symbol o && is_attribute_value v) (Some s) t e).1) h
   obey_each c k s t h e = to s t (some_is s t e) h
 
   step_each : (c : Command) → Declares c → (s t : State) → Each s → step c s ≡ Some t → Each t

@@ -13,7 +13,7 @@ use Rattle.smt_lines.specs.NameTables.{Tables, name_of_term}
 use Rattle.smt_lines.specs.Entries.{text_or_nothing}
 use Rattle.smt_lines.specs.TermTexts.{named_text, text_of}
 use Rattle.smt_headline.specs.Headline.{AreTexts}
-use Rattle.smt_headline.specs.Reached.{AssertionsSelectNothing}
+use Rattle.smt_headline.specs.FittingStates.{AssertionsSelectNothing}
 
 module _ (here : Entries) where
   literal_selects : (b : Bool) (w n : ℕ) (sort : Option Expression) → shape_selection here (cond b (BitLiteral w n) Unformed) sort ++ [] ≡ []

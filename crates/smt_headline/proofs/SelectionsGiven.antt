@@ -21,7 +21,7 @@ use Rattle.smt_lines.specs.EntryNames.{selector_name}
 use Rattle.smt_carrying.specs.CarriedOperators.{selector_constructor}
 use Rattle.smt_headline.specs.Fits.{HasDefinition, Stage, FitsAt}
 use Rattle.smt_headline.specs.Selections.{InterpretationsGiveReached}
-use Rattle.smt_headline.specs.Reached.{IsOpGiven, IsNameGiven}
+use Rattle.smt_headline.specs.FittingStates.{IsOpGiven, IsNameGiven}
 use Rattle.smt_headline.proofs.Free.{reached_are_open}
 use Rattle.smt_headline.proofs.Given.{interpretations_give_names}
 use Rattle.smt_headline.proofs.Models.{stands}

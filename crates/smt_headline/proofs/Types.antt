@@ -24,7 +24,7 @@ use Rattle.smt_lines.specs.Fit.{Fit, EachLine, LineIsDeclared, BuildsOnly, decla
 use Rattle.smt_lines.proofs.Datatype.{undeclared}
 use Rattle.smt_lines.proofs.Declared.{types_are_declared}
 use Rattle.smt_carrying.specs.CarriedSorts.{shown_entity, shown_kind, IsDatatype, IsNoDatatype, IsNamed, TypeIsDeclared, AttributesAreDeclared}
-use Rattle.smt_headline.specs.Reached.{OptionIsDeclared, NamedTypesAreDeclared}
+use Rattle.smt_headline.specs.FittingStates.{OptionIsDeclared, NamedTypesAreDeclared}
 use Rattle.smt_carrying.proofs.Standing.{declared_at}
 
 -- ---- a datatype that is declared

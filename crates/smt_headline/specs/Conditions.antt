@@ -1,4 +1,4 @@
--- What is typed and formed and has no fault is fine.
+-- Conditions: what is typed as Boolean, is formed and has no fault. It can be encoded.
 use Rattle.std.specs.Prelude.{◌≡◌, ℕ, nat_lt, bytes_eq, length, List, [], ◌∷◌, None, IsTrue}
 use Rattle.std.specs.List.{AllByRecursion, list_any}
 use Rattle.std.specs.Option.{is_some}

@@ -131,7 +131,8 @@ pub record DefinitionOrigin (enums : Enums) (us : List PlainTerm) (s : Tables) (
   pub named : name_of_term s term ≡ Some n
   pub defined : HasDefinition enums term
 
--- What is declared is an entry's. Of constructors and selectors `Fit` says so by their names.
+-- A constant, a function and a defined name are an entry's. What builds a value or selects a part of one is left to `Fit`:
+-- it builds a value of a datatype that is declared, and its name is numbered below the count of the entries.
 abbrev pub BelongsToAnEntry : Enums → List PlainTerm → Tables → List ℕ → Entry → Type 0
 BelongsToAnEntry enums us s n (Constant sort) = VariableOrigin us s n sort
 BelongsToAnEntry enums us s n (Function argument sort) = FunctionOrigin us s n argument sort
@@ -152,12 +153,29 @@ pub record FitsAt (enums : Enums) (x : Stage) (state : State) : Type 0 where
   pub drawn : NamesAreDrawn enums x.tables
   -- What is stated for the entries, from the names of their parts, is declared, and `Option`; the parts have entries here too.
   pub declared : Fit enums x.tables state
-  -- Nothing else is declared.
+  -- No other constant, function or defined name is declared.
   pub only : AllByRecursion (λ p. BelongsToAnEntry enums (reached_terms x.terms) x.tables p.0 p.1) (names_of state)
 
 -- ---- all levels
 
--- as many stages as levels, each of which fits
+-- a list that goes on behind another
+abbrev pub GoesOn : {A : Type 0} → List A → List A → Type 0
+GoesOn {A} xs ys = (more : List A) × (ys ≡ xs ++ more)
+
+-- An upper stage has all that the lower one has, and more behind it: the entries and the terms of its own level. So what is
+-- named at a level stays named above it, and the parts of an entry have entries at its level or below it.
+pub record IsAbove (upper lower : Stage) : Type 0 where
+  pub terms : GoesOn lower.terms upper.terms
+  pub named_terms : GoesOn lower.tables.terms upper.tables.terms
+  pub named_types : GoesOn lower.tables.types upper.tables.types
+  pub named_functions : GoesOn lower.tables.functions upper.tables.functions
+
+-- each stage is above the next
+abbrev pub AreAbove : Stage → List Stage → Type 0
+AreAbove x [] = ⊤
+AreAbove x (y ∷ ys) = IsAbove x y × AreAbove y ys
+
+-- There are as many stages as levels, each of which fits.
 abbrev pub FitBelow : Enums → List Stage → List Level → Type 0
 FitBelow enums [] [] = ⊤
 FitBelow enums (x ∷ xs) (l ∷ ls) = FitsAt enums x (back_at l ls) × FitBelow enums xs ls
@@ -174,6 +192,7 @@ pub record Fits (enums : Enums) (text : List ℕ) (x : Stages) : Type 0 where
   pub script : IsOpenScript text state
   -- The members of each enum type ascend.
   pub enum_types : AreEnums enums
+  pub levels : AreAbove x.now x.below
   pub now : FitsNow enums x.begun x.now state
   pub below : FitBelow enums x.below state.below
 

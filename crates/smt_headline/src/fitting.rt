@@ -1,5 +1,5 @@
 ghost use Rattle.smt_headline.specs.Fits.{CallListsKeepFit, CallsKeepFit, CommentsKeepFit, DrawnNamesDiffer, EmptyTextFits, FittingTextsRepresent, IdleLinesKeepFit, KeysAreSound, TheseAreIdle};
-ghost use Rattle.smt_headline.specs.Reached.{OptionIsDeclared, AssertionsSelectNothing, FittingStagesDeclare, InterpretationsGiveNames, NamesAreOpen, ReachedIsDeclared, ReachedAreOpen, TermsAreNamed, NamedTypesAreDeclared};
+ghost use Rattle.smt_headline.specs.FittingStates.{OptionIsDeclared, AssertionsSelectNothing, FittingStagesDeclare, InterpretationsGiveNames, NamesAreOpen, ReachedIsDeclared, ReachedAreOpen, TermsAreNamed, NamedTypesAreDeclared};
 
 /// The law behind the main theorem: wherever a script, the terms that are encoded in it and their names fit, its state
 /// represents the terms.

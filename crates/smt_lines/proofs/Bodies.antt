@@ -24,10 +24,11 @@ use Rattle.smt_lines.specs.TermTexts.{named_text}
 use Rattle.smt_lines.proofs.Making.{functions_are_made}
 use Rattle.smt_lines.specs.Command.{is_written, are_written}
 use Rattle.smt_lines.specs.Encodable.{HasArgument, IsEncodableOp, IsLeast, AreEncodable, kind_of_op}
-use Rattle.smt_lines.specs.Fit.{Fit, TypeEntryIsDeclared, declares, kind_names, placed}
+use Rattle.smt_lines.specs.Fit.{Fit, TypeEntryIsDeclared, declares, kind_names, option_names}
 use Rattle.smt_lines.proofs.Known.{GoodSort, GoodText, GoodTexts, TextsAre, sort_good, text_good, texts_good, more_good, applied_good, one_passes, type_stands, function_stands, bits_good}
 use Rattle.smt_term.specs.Faults.{is_pattern_part}
 use Rattle.smt_semantics.proofs.Results.{or_right}
+use Rattle.smt_lines.proofs.TypeNames.{placed, names_listed}
 
 -- ---- entries of types
 
@@ -44,7 +45,7 @@ first_has_sort enums s state fit (one_term t ts) f [] h = absurd h
 first_has_sort enums s state fit (one_term t ts) f (e ∷ es) h = (text_good enums s state fit t f.0 e h.0).1
 
 kind_declares : (enums : Enums) (s : Tables) (state : State) → Fit enums s state → (k : ExtensionKind) → TypeHasEntries s (ExtensionType k) → (n : List ℕ) → is_in n (kind_names k) ≡ true → declares state n ≡ true
-kind_declares enums s state fit k h n i = one_passes (declares state) n (kind_names k) (stands_so enums s state fit (ExtensionType k) h).declared i
+kind_declares enums s state fit k h n i = one_passes (declares state) n (kind_names k) (subst (λ ns. list_all (declares state) ns ≡ true) (names_listed enums (ExtensionType k) (text_of_name (name_of_type s (ExtensionType k)))) (stands_so enums s state fit (ExtensionType k) h).declared) i
 
 abbrev pub one_good : State → Expression → Type 0
 one_good state e = GoodTexts state (e ∷ [])
@@ -57,8 +58,8 @@ pair state e f g h = let r = alone state f h in (and_from (knows state e) _ g.0 
 
 -- ---- operators
 
-pub option_good : (enums : Enums) (s : Tables) (state : State) → Fit enums s state → (n : List ℕ) → is_in n (codes "none" ∷ codes "some" ∷ codes "val" ∷ []) ≡ true → declares state n ≡ true
-option_good enums s state fit n h = one_passes (declares state) n (codes "none" ∷ codes "some" ∷ codes "val" ∷ []) fit.builds h
+pub option_good : (enums : Enums) (s : Tables) (state : State) → Fit enums s state → (n : List ℕ) → is_in n option_names ≡ true → declares state n ≡ true
+option_good enums s state fit n h = one_passes (declares state) n option_names fit.builds h
 
 extension_op_good : (enums : Enums) (s : Tables) (state : State) → Fit enums s state → (x : ExtensionOp) → TypeHasEntries s (ExtensionType (kind_of_op x)) → (ts : PlainTerms) (e : Expression) (es : List Expression) → GoodTexts state (e ∷ es)
     → GoodText state (group ((encode_head enums (ExtOp x) ts s).made ∷ e ∷ es))
@@ -104,8 +105,9 @@ record_get_good enums s state fit a x t e h l y es g =
         let c = length (attribute_names x) in
         let i = place_of a (attribute_names x) in
         let k : i < 0 + c = let m = ltb-true i c l in omega arith in
-        let d = (and_parts (declares state n) (list_all (declares state) (placed (attribute_name n) 0 c)) z.declared).1 in
-        let w = (and_parts (is_name n) (list_all is_name (placed (attribute_name n) 0 c)) z.names).1 in
+        let e = names_listed enums (RecordType x) n in
+        let d = (and_parts (declares state n) (list_all (declares state) (placed (attribute_name n) 0 c)) (subst (λ ns. list_all (declares state) ns ≡ true) e z.declared)).1 in
+        let w = (and_parts (is_name n) (list_all is_name (placed (attribute_name n) 0 c)) (subst (λ ns. list_all is_name ns ≡ true) e z.names)).1 in
         applied_good enums s state fit (attribute_name n i) y es (placed_passes (declares state) (attribute_name n) 0 c i d (omega arith) k) (placed_passes is_name (attribute_name n) 0 c i w (omega arith) k) g
 
 -- ---- patterns

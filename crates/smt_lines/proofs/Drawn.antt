@@ -1,5 +1,5 @@
 -- The names that types are given are new.
-use Rattle.std.proofs.Common.{◌≡◌, ℕ, zero, suc, ◌+◌, ◌≤◌, Bool, true, false, not, ◌||◌, List, [], ◌∷◌, ◌++◌, map, length, refl, ap, ◌∙◌, subst, inl, inr, Option, Some, None, arith}
+use Rattle.std.proofs.Common.{◌≡◌, ℕ, zero, suc, ◌+◌, ◌≤◌, Bool, true, false, not, ◌||◌, List, [], ◌∷◌, ◌++◌, length, refl, sym, ap, ◌∙◌, subst, inl, inr, Option, Some, None, arith}
 use Rattle.std.specs.Prelude.{codes, bytes_eq, nat_lt, ◌==◌, is_some}
 use Rattle.std.specs.List.{list_all}
 use Rattle.std.proofs.lemmas.Bool.{and_from, or_from, cases_Bool, lt-ltb, le-ltb}
@@ -11,12 +11,9 @@ use Rattle.smt_term.specs.Types.{type_eq}
 use Rattle.smt_term.specs.Formed.{attribute_names}
 use Rattle.smt_term.proofs.TermTotal.{types_decided}
 use Rattle.smt_sexpr.specs.Lexicon.{is_digit}
-use Rattle.smt_sexpr.specs.Reading.{Expression}
 use Rattle.smt_semantics.specs.Script.{are_distinct, is_in, is_keyword, is_for_solvers, is_reserved, built_in_names}
-use Rattle.smt_semantics.specs.Meanings.{names_in}
 use Rattle.smt_semantics.specs.Written.{is_name}
 use Rattle.smt_lines.specs.Spelling.{numeral}
-use Rattle.smt_lines.specs.LineForms.{member_constructors, attribute_selectors}
 use Rattle.smt_lines.specs.EntryNames.{member_name, attribute_name, id_name, kind_name}
 use Rattle.smt_semantics.specs.Numerals.{numbered}
 use Rattle.smt_lines.specs.Lines.{next_entity, next_record}
@@ -24,8 +21,8 @@ use Rattle.smt_lines.specs.NameTables.{Tables, name_of_type}
 use Rattle.smt_semantics.proofs.Numerals.{numerals_differ}
 use Rattle.smt_semantics.proofs.Numbers.{numeral_suits, suits}
 use Rattle.smt_lines.proofs.Making.{lookup_new}
-use Rattle.smt_lines.specs.Command.{all_built}
-use Rattle.smt_lines.specs.Fit.{IsKindNamed, first, behind_first, drawn_number, is_old, is_old_sort, is_old_name_in, has_kind, placed, names_of_entity, names_of_type}
+use Rattle.smt_lines.specs.Fit.{IsKindNamed, first, behind_first, drawn_number, is_old, is_old_sort, is_old_name_in, has_kind, names_of_type}
+use Rattle.smt_lines.proofs.TypeNames.{placed, listed_entity, listed, names_listed}
 use Rattle.smt_lines.proofs.Basic.{suits_append, e_name, r_name, leads_numeral, digit_first}
 use Rattle.smt_lines.proofs.Enter.{apart, unreserved}
 use Rattle.smt_lines.proofs.Datatype.{with_type, is_free, sort_names, IsNew}
@@ -88,9 +85,11 @@ all_pass p k f (n ∷ ns) h = and_from (p n) (list_all p ns) (f n h.0) (all_pass
 not_below : (k c : ℕ) → c ≤ k → nat_lt k c ≡ false
 not_below k c h = le-ltb k c h
 
-drawn_new : (enums : Enums) (s : Tables) (t : PlainType) (d : List ℕ) → IsDrawn d (length s.types) → AllDrawn (length s.types) (names_of_type enums t d) → are_distinct (names_of_type enums t d) ≡ true → IsKindNamed t d → IsNew enums s t d
-drawn_new enums s t d i all distinct kind =
+drawn_new : (enums : Enums) (s : Tables) (t : PlainType) (d : List ℕ) → IsDrawn d (length s.types) → AllDrawn (length s.types) (listed enums t d) → are_distinct (listed enums t d) ≡ true → IsKindNamed t d → IsNew enums s t d
+drawn_new enums s t d i each different kind =
     let k = length s.types in
+    let e = sym (names_listed enums t d) in
+    let all : AllDrawn k (names_of_type enums t d) = subst (AllDrawn k) e each in
     let u = with_type t d s in
     let less : nat_lt k (length u.types) ≡ true = let one : List (PlainType × List ℕ) = (t, d) ∷ [] in let a = length-append s.types one in let b : length one ≡ 1 = refl in lt-ltb k (length u.types) (omega arith) in
     record {
@@ -103,7 +102,7 @@ drawn_new enums s t d i all distinct kind =
       free = all_pass is_free k (λ n x. free n k x) (names_of_type enums t d) all;
       new = all_pass (λ n. not (is_old_name_in s n)) k (λ n x. ap not (old_is (length s.terms) (length s.functions) k (has_kind s) n k x ∙ not_below k k (omega arith))) (names_of_type enums t d) all;
       old = all_pass (is_old_name_in u) k (λ n x. old_is (length s.terms) (length s.functions) (length u.types) (has_kind u) n k x ∙ less) (names_of_type enums t d) all;
-      distinct = distinct;
+      distinct = subst (λ ns. are_distinct ns ≡ true) e different;
       kind = kind;
     }
 
@@ -143,21 +142,17 @@ all_placed k f h p (suc c) = (h p, all_placed k f h (suc p) c)
 
 -- ---- entities
 
-entity_drawn : (o : Option (List (List ℕ))) (k : ℕ) → AllDrawn k (names_of_entity o (69 ∷ numeral k))
+entity_drawn : (o : Option (List (List ℕ))) (k : ℕ) → AllDrawn k (listed_entity o (69 ∷ numeral k))
 entity_drawn None k = (drawn_e_alone k, (drawn_e k (codes "_eid") refl refl, tt))
 entity_drawn (Some members) k = all_placed k (member_name (69 ∷ numeral k)) (λ i. drawn_e k (numbered (codes "_m") i) refl (numeral_suits i)) 0 (length members)
 
-entity_distinct : (o : Option (List (List ℕ))) (d : List ℕ) → are_distinct (names_of_entity o d) ≡ true
+entity_distinct : (o : Option (List (List ℕ))) (d : List ℕ) → are_distinct (listed_entity o d) ≡ true
 entity_distinct None d = and_from (not (bytes_eq d (id_name d) || false)) true (ap not (or_from (bytes_eq d (id_name d)) false (bytes_differ d (id_name d) (longer_differ d 95 (codes "eid"))) refl)) refl
 entity_distinct (Some members) d = distinct_placed (member_name d) (members_differ d) 0 (length members)
 
 pub entity_new : (enums : Enums) (type : List ℕ) (s : Tables) → IsNew enums s (EntityType type) (next_entity s)
 entity_new enums type s = drawn_new enums s (EntityType type) (next_entity s) (drawn_e_alone (length s.types))
     (entity_drawn (members_of enums type) (length s.types)) (entity_distinct (members_of enums type) (next_entity s)) tt
-
-pub members_named : (d : List ℕ) (p : ℕ) (ms : List (List ℕ)) → names_in (all_built (member_constructors d p ms)) ≡ placed (member_name d) p (length ms)
-members_named d p [] = refl
-members_named d p (m ∷ ms) = ap (λ (t : List (List ℕ)). member_name d p ∷ t) (members_named d (suc p) ms)
 
 -- ---- records
 
@@ -179,10 +174,6 @@ member_is_name s i = (drawn_e (length s.types) (numbered (codes "_m") i) refl (n
 
 pub id_is_name : (s : Tables) → is_name (id_name (next_entity s)) ≡ true
 id_is_name s = (drawn_e (length s.types) (codes "_eid") refl refl).name
-
-pub selectors_named_so : (d : List ℕ) (p : ℕ) (sorts : List Expression) → map (λ x. x.0) (attribute_selectors d p sorts) ≡ placed (attribute_name d) p (length sorts)
-selectors_named_so d p [] = refl
-selectors_named_so d p (sort ∷ sorts) = ap (λ (t : List (List ℕ)). attribute_name d p ∷ t) (selectors_named_so d (suc p) sorts)
 
 -- ---- kinds
 

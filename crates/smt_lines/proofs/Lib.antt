@@ -16,4 +16,5 @@ pub mod OfTypes
 pub mod Single
 pub mod Spelled
 pub mod Stays
+pub mod TypeNames
 pub mod Whole

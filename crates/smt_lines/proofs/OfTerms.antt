@@ -22,7 +22,7 @@ use Rattle.smt_lines.proofs.Grow.{terms_grow, term_grows, fields_grow, head_grow
 use Rattle.smt_lines.proofs.Making.{terms_are_made, functions_are_made}
 use Rattle.smt_lines.proofs.Stays.{texts_stay}
 use Rattle.smt_lines.specs.Encodable.{HasMember, HasArgument, IsEncodableType, IsEncodableOp, IsLeast, IsEncodableId, IsEncodableLiteral, IsEncodable, AreEncodable, AreEncodableFields}
-use Rattle.smt_lines.specs.Fit.{HasRecord, EachLine, LineIsDeclared, Fit, Steps, StepsOf, declares, placed, names_of_entity}
+use Rattle.smt_lines.specs.Fit.{HasRecord, EachLine, LineIsDeclared, Fit, Steps, StepsOf, declares, names_of_type}
 use Rattle.smt_lines.proofs.Known.{GoodSort, GoodText, GoodTexts, TextsAre, text_good, texts_good, applied_good}
 use Rattle.smt_lines.proofs.Kept.{itself_kept}
 use Rattle.smt_lines.proofs.Enter.{keeps_then}
@@ -30,6 +30,7 @@ use Rattle.smt_lines.proofs.Single.{no_step, steps_then, unless_steps, define_st
 use Rattle.smt_lines.proofs.OfTypes.{types_step, functions_step, sort_later, good_later, itself}
 use Rattle.smt_lines.proofs.Bodies.{first_has_sort, stands_so, placed_passes, body_good, least_good, none_good, some_good, set_good, record_good, extension_good}
 use Rattle.smt_semantics.proofs.Results.{or_right}
+use Rattle.smt_lines.proofs.TypeNames.{placed, listed_entity, names_listed}
 
 pub texts_keep : (s u : Tables) → Keeps s u → (ts : PlainTerms) (es : List Expression) → TextsAre s ts es → TextsAre u ts es
 texts_keep s u k no_terms [] h = tt
@@ -106,7 +107,7 @@ member_stands enums s type id members e l h state fit =
     let c = length members in
     let y = stands_so enums s state fit (EntityType type) h in
     let k : i < 0 + c = let m = ltb-true i c l in omega arith in
-    let names : names_of_entity (members_of enums type) n ≡ placed (member_name n) 0 c = ap (λ o. names_of_entity o n) e in
+    let names : names_of_type enums (EntityType type) n ≡ placed (member_name n) 0 c = names_listed enums (EntityType type) n ∙ ap (λ o. listed_entity o n) e in
     let d : list_all (declares state) (placed (member_name n) 0 c) ≡ true = subst (λ ns. list_all (declares state) ns ≡ true) names y.declared in
     let w : list_all is_name (placed (member_name n) 0 c) ≡ true = subst (λ ns. list_all is_name ns ≡ true) names y.names in
     record {
@@ -131,7 +132,7 @@ entity_good : (enums : Enums) (s : Tables) (type id : List ℕ) → members_of e
 entity_good enums s type id e h f state fit =
     let n = text_of_name (name_of_type s (EntityType type)) in
     let y = stands_so enums s state fit (EntityType type) h in
-    let d : list_all (declares state) (names_of_entity None n) ≡ true = subst (λ o. list_all (declares state) (names_of_entity o n) ≡ true) e y.declared in
+    let d : list_all (declares state) (listed_entity None n) ≡ true = subst (λ ns. list_all (declares state) ns ≡ true) (names_listed enums (EntityType type) n ∙ ap (λ o. listed_entity o n) e) y.declared in
     let es = Leaf (Text (chars id)) ∷ [] in
     let g : GoodTexts state es = (refl, rw f refl) in
     ((y.sort, y.name), applied_good enums s state fit n (Leaf (Text (chars id))) [] (and_parts (declares state n) _ d).0 y.name g, h)

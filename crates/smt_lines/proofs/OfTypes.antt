@@ -1,9 +1,8 @@
 -- The steps of types and of functions.
-use Rattle.std.proofs.Common.{◌≡◌, ℕ, suc, true, ◌&&◌, List, [], ◌∷◌, map, length, refl, sym, ap, ◌∙◌, subst, Option, Some, None}
+use Rattle.std.proofs.Common.{◌≡◌, ℕ, suc, true, ◌&&◌, List, [], ◌∷◌, length, refl, sym, ap, ◌∙◌, subst, Option, Some, None}
 use Rattle.std.specs.Prelude.{codes}
 use Rattle.std.specs.List.{list_all}
 use Rattle.std.proofs.lemmas.Bool.{and_from}
-use Rattle.std.proofs.lemmas.List.{append-nil}
 use Rattle.smt_term.specs.Plain.{ExtensionKind, IpAddrKind, DecimalKind, DatetimeKind, DurationKind, PlainType, OptionType, BitVecType, BoolType, EntityType, ExtensionType, StringType, RecordType, SetType, AttributeTypes, no_attributes, attribute, PlainFunction}
 use Rattle.smt_term.specs.TypeValues.{Enums, members_of}
 use Rattle.smt_term.specs.Formed.{attribute_names}
@@ -25,12 +24,13 @@ use Rattle.smt_lines.proofs.Making.{types_are_made}
 use Rattle.smt_lines.proofs.Stays.{sorts_stay, sorts_stand}
 use Rattle.smt_lines.specs.Command.{all_built, is_written, is_written_constructor}
 use Rattle.smt_lines.specs.Encodable.{HasMember, IsEncodableType, AreEncodableTypes}
-use Rattle.smt_lines.specs.Fit.{EachLine, Fit, Steps, StepsOf, placed, names_of_entity}
+use Rattle.smt_lines.specs.Fit.{EachLine, Fit, Steps, StepsOf}
 use Rattle.smt_lines.proofs.Known.{GoodSort, sort_good}
 use Rattle.smt_lines.proofs.Enter.{has_stays}
 use Rattle.smt_lines.proofs.Single.{no_step, steps_then, comment_first, unless_steps, function_steps}
 use Rattle.smt_lines.proofs.Datatype.{with_type, type_line, field_sort}
-use Rattle.smt_lines.proofs.Drawn.{entity_new, record_new, kind_new, members_named, selectors_named_so, selector_is_name, member_is_name, id_is_name}
+use Rattle.smt_lines.proofs.Drawn.{entity_new, record_new, kind_new, selector_is_name, member_is_name, id_is_name}
+use Rattle.smt_lines.proofs.TypeNames.{listed_entity, members_named, record_listed, names_listed}
 
 -- ---- entities
 
@@ -53,13 +53,13 @@ entity_steps enums type s some = go (members_of enums type) refl
     d = next_entity s
 
     go : (o : Option (List (List ℕ))) → o ≡ members_of enums type → Steps enums s (entity_lines o type (next_entity s)) (with_type (EntityType type) (next_entity s) s)
-    go None e = comment_first enums _ s _ _ (type_line enums s (EntityType type) (next_entity s) (entity_new enums type s) _ (ap (λ o. names_of_entity o (next_entity s)) e) refl
+    go None e = comment_first enums _ s _ _ (type_line enums s (EntityType type) (next_entity s) (entity_new enums type s) _ (ap (λ o. listed_entity o (next_entity s)) e ∙ sym (names_listed enums (EntityType type) (next_entity s))) refl
         (λ state fit. let g = sort_good enums s state fit StringType tt tt in (
           rw (field_sort state (name (codes "String")) g.0) refl,
           rw ((entity_new enums type s).name, id_is_name s) refl,
         )) tt (λ P c h. subst (λ o. EachLine P (entity_lines o type (next_entity s))) e (c _, (h, tt))))
     go (Some members) e = comment_first enums _ s _ _ (type_line enums s (EntityType type) (next_entity s) (entity_new enums type s) _
-        (members_named (next_entity s) 0 members ∙ ap (λ o. names_of_entity o (next_entity s)) e) (has_first (next_entity s) 0 members (subst HasMember (sym e) some))
+        (members_named (next_entity s) 0 members ∙ ap (λ o. listed_entity o (next_entity s)) e ∙ sym (names_listed enums (EntityType type) (next_entity s))) (has_first (next_entity s) 0 members (subst HasMember (sym e) some))
         (λ state fit. (member_fields state (next_entity s) 0 members, members_written s 0 members)) tt (λ P c h. subst (λ o. EachLine P (entity_lines o type (next_entity s))) e (c _, (h, tt))))
 
 -- ---- kinds
@@ -79,7 +79,7 @@ has_kind_constructor DatetimeKind = refl
 has_kind_constructor DurationKind = refl
 
 kind_steps : (enums : Enums) (k : ExtensionKind) (s : Tables) → name_of_type s (ExtensionType k) ≡ None → StepsOf enums s (declare_kind k s)
-kind_steps enums k s none = type_line enums s (ExtensionType k) (kind_name k) (kind_new enums k s none) (kind_constructors k) refl (has_kind_constructor k) (λ state fit. kind_fields enums k s state fit) tt (λ P c h. (h, tt))
+kind_steps enums k s none = type_line enums s (ExtensionType k) (kind_name k) (kind_new enums k s none) (kind_constructors k) (sym (names_listed enums (ExtensionType k) (kind_name k))) (has_kind_constructor k) (λ state fit. kind_fields enums k s state fit) tt (λ P c h. (h, tt))
 
 -- ---- records
 
@@ -132,7 +132,7 @@ record_steps : (enums : Enums) (x : AttributeTypes) (sorts : List Expression) (s
 record_steps enums x sorts s f h =
     let d : List ℕ = next_record s in
     comment_first enums _ s _ _ (type_line enums s (RecordType x) d (record_new enums x s) (Fielded d (attribute_selectors d 0 sorts) ∷ [])
-    (ap (λ (t : List (List ℕ)). d ∷ t) (append-nil (map (λ y. y.0) (attribute_selectors d 0 sorts)) ∙ selectors_named_so d 0 sorts ∙ ap (placed (attribute_name d) 0) (as_many s x sorts h))) refl
+    (record_listed d sorts _ (as_many s x sorts h) ∙ sym (names_listed enums (RecordType x) d)) refl
     (λ state fit. let r = fields_are enums s state fit x f sorts h 0 in
     (rw r.0 refl, rw ((record_new enums x s).name, r.1) refl))
     (sorts_stand_for s x sorts h) (λ P c y. (c _, (subst (λ (ss : List Expression). P (DeclareDatatype d [] (Fielded d (attribute_selectors d 0 ss) ∷ []))) (sym (sorts_are_so s x sorts h)) y, tt))))

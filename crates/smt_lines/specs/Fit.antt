@@ -1,12 +1,11 @@
 -- When tables and the state of a script belong together, as far as the next line needs it: what entries name is declared,
 -- and nothing is declared that a later entry is named.
-use Rattle.std.specs.Prelude.{◌≡◌, ℕ, zero, suc, ◌+◌, ◌-◌, ◌*◌, Bool, true, false, ◌&&◌, ◌||◌, if◌then◌else◌, ◌==◌, nat_lt, bytes_eq, is_some, IsSome, codes, length, map, List, [], ◌∷◌, Option, Some, None}
-use Rattle.std.specs.List.{list_all}
-use Rattle.smt_term.specs.Plain.{ExtensionKind, IpAddrKind, DecimalKind, DatetimeKind, DurationKind, PlainType, EntityType, ExtensionType, RecordType, PlainFunction, PlainOp, RecordGetOp, PlainTerm, Application, PlainTerms}
-use Rattle.smt_term.specs.TypeValues.{Enums, members_of}
+use Rattle.std.specs.Prelude.{◌≡◌, ℕ, Bool, true, false, ◌&&◌, ◌||◌, if◌then◌else◌, ◌==◌, nat_lt, bytes_eq, is_some, IsSome, codes, length, map, List, [], ◌∷◌, Some}
+use Rattle.std.specs.List.{list_all, flat_map, take_while}
+use Rattle.smt_term.specs.Plain.{ExtensionKind, IpAddrKind, DecimalKind, DatetimeKind, DurationKind, PlainType, ExtensionType, PlainFunction, PlainOp, RecordGetOp, PlainTerm, Application, PlainTerms}
+use Rattle.smt_term.specs.TypeValues.{Enums}
 use Rattle.smt_term.specs.Types.{type_of}
-use Rattle.smt_term.specs.Formed.{attribute_names}
-use Rattle.smt_sexpr.specs.Lexicon.{is_digit}
+use Rattle.smt_sexpr.specs.Lexicon.{is_digit, number_in}
 use Rattle.smt_sexpr.specs.Reading.{Expression}
 use Rattle.smt_semantics.specs.Script.{Constructor, Entry, Constant, Function, Defined, Builds, State, is_in, names_of, declared_sorts, has_name, has_sort, run}
 use Rattle.smt_semantics.specs.Meanings.{names_in}
@@ -15,32 +14,31 @@ use Rattle.smt_lines.specs.Line.{Line, DeclareDatatype, DeclareConst, DeclareFun
 use Rattle.smt_semantics.specs.Sorts.{Entries, entries}
 use Rattle.smt_semantics.specs.DeclarationLines.{shown, at_place, Declares}
 use Rattle.smt_lines.specs.LineForms.{kind_constructors}
-use Rattle.smt_lines.specs.EntryNames.{member_name, attribute_name, id_name, kind_name}
+use Rattle.smt_lines.specs.EntryNames.{kind_name}
 use Rattle.smt_lines.specs.Lines.{Written, option_line, first_type}
-use Rattle.smt_lines.specs.NameTables.{Tables, name_of_type}
+use Rattle.smt_lines.specs.NameTables.{Tables, no_names, name_of_type}
 use Rattle.smt_lines.specs.Entries.{EachEntry, TypeHasEntries, type_lines, function_lines, term_lines, TypePartsHaveEntries, TermPartsHaveEntries}
 use Rattle.smt_lines.specs.TableGrowth.{Keeps}
 use Rattle.smt_lines.specs.Command.{all_built, commands, is_written_line}
 
 -- ---- the names that a type's entry declares
 
--- names that are made of places, so many from one on
-abbrev pub placed : (ℕ → List ℕ) → (place count : ℕ) → List (List ℕ)
-placed f place zero = []
-placed f place (suc count) = f place ∷ placed f (suc place) count
+-- the constructors and selectors of the datatype that a line declares
+abbrev pub names_of_line : Line → List (List ℕ)
+names_of_line (DeclareDatatype n ps cs) = names_in (all_built cs)
+names_of_line l = []
 
-abbrev pub names_of_entity : Option (List (List ℕ)) → List ℕ → List (List ℕ)
-names_of_entity None n = n ∷ id_name n ∷ []
-names_of_entity (Some members) n = placed (member_name n) 0 (length members)
+-- The names that the lines of a type's entry declare. Empty tables do, since the sorts of fields are no part of their names.
+abbrev pub names_of_type : Enums → PlainType → List ℕ → List (List ℕ)
+names_of_type enums t n = flat_map names_of_line (type_lines enums no_names t n)
 
+-- the constructors and selectors of an extension type
 abbrev pub kind_names : ExtensionKind → List (List ℕ)
 kind_names kind = names_in (all_built (kind_constructors kind))
 
-abbrev pub names_of_type : Enums → PlainType → List ℕ → List (List ℕ)
-names_of_type enums (EntityType type) n = names_of_entity (members_of enums type) n
-names_of_type enums (ExtensionType kind) n = kind_names kind
-names_of_type enums (RecordType attributes) n = n ∷ placed (attribute_name n) 0 (length (attribute_names attributes))
-names_of_type enums t n = []
+-- the constructors and the selector of options
+abbrev pub option_names : List (List ℕ)
+option_names = names_of_line option_line
 
 -- ---- names of entries that are there: drawn before the next, or those of a kind that has an entry
 
@@ -52,19 +50,12 @@ abbrev pub behind_first : List ℕ → List ℕ
 behind_first [] = []
 behind_first (c ∷ cs) = cs
 
--- the number that digits at the front stand for
-abbrev pub leading : ℕ → List ℕ → ℕ
-leading n [] = n
-leading n (d ∷ ds) = if is_digit d then leading (n * 10 + (d - 48)) ds else n
-
+-- the number that the digits behind the letter stand for
 abbrev pub drawn_number : List ℕ → ℕ
-drawn_number n = leading 0 (behind_first n)
+drawn_number n = number_in 10 (take_while is_digit (behind_first n))
 
 abbrev pub has_kind : Tables → ExtensionKind → Bool
 has_kind s kind = is_some (name_of_type s (ExtensionType kind))
-
-abbrev pub option_names : List (List ℕ)
-option_names = codes "none" ∷ codes "some" ∷ codes "val" ∷ []
 
 -- a kind that passes a test has an entry
 abbrev pub of_kinds : (test kinds : ExtensionKind → Bool) → Bool

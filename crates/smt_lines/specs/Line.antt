@@ -1,6 +1,7 @@
 -- The lines of a script, and their bytes.
-use Rattle.std.specs.Prelude.{ℕ, ◌||◌, if◌then◌else◌, ◌==◌, codes, map, List, [], ◌∷◌, ◌++◌}
+use Rattle.std.specs.Prelude.{ℕ, if◌then◌else◌, codes, map, List, [], ◌∷◌, ◌++◌}
 use Rattle.std.specs.List.{flat_map, join_by}
+use Rattle.smt_sexpr.specs.Lexicon.{is_line_end}
 use Rattle.smt_sexpr.specs.Reading.{Expression}
 use Rattle.smt_lines.specs.Spelling.{spelled}
 
@@ -21,7 +22,7 @@ pub data Line : Type 0 where
 
 -- line ends become spaces
 abbrev pub in_comment : ℕ → ℕ
-in_comment b = if (b == 10) || (b == 13) then 32 else b
+in_comment b = if is_line_end b then 32 else b
 
 abbrev pub spelled_selector : (List ℕ × Expression) → List ℕ
 spelled_selector x = codes "(" ++ (x.0 ++ (codes " " ++ (spelled x.1 ++ codes ")")))

@@ -70,5 +70,5 @@ abbrev pub list_bytes : ListSink → List ℕ
 list_bytes s = s.bytes.items
 
 -- It tells all bytes that it holds.
-abbrev pub list_held : ListSink → Option (List ℕ)
-list_held s = Some (list_bytes s)
+abbrev pub list_contents : ListSink → Option (List ℕ)
+list_contents s = Some (list_bytes s)

@@ -108,9 +108,9 @@ impl ListSink {
 
 impl Sink for ListSink {
     ghost use Rattle.smt_script.specs.Sink.{Puts, faultless, uncertain, unreferenced};
-    ghost use Rattle.smt_script.specs.Memory.{list_bytes, list_held};
+    ghost use Rattle.smt_script.specs.Memory.{list_bytes, list_contents};
 
-    ghost contents = { list_held };
+    ghost contents = { list_contents };
 
     ghost faults = { faultless };
 
@@ -118,7 +118,7 @@ impl Sink for ListSink {
 
     /// Appends all bytes, or none where there is no memory for them.
     fn put(&mut self, bytes: &[u8]) -> Result<(), SinkError>
-        ensures puts { Puts list_held faultless uncertain unreferenced self.old self.new
+        ensures puts { Puts list_contents faultless uncertain unreferenced self.old self.new
             bytes.now result }
         ensures refusal { IsOkUnless result SinkError.Memory }
         ensures unchanged { OnErr result (list_bytes self.new ≡ list_bytes self.old) }

@@ -5,7 +5,7 @@ use Rattle.std.specs.List.{list_all}
 use Rattle.std.proofs.lemmas.Bool.{not-true, and_parts, and_from, cond-true, cond-false, or_parts, cases_Bool, false≢true}
 use Rattle.std.proofs.lemmas.Slice.Eq.{bytes_eq-Decides}
 use Rattle.smt_sexpr.specs.Reading.{Expression}
-use Rattle.smt_semantics.specs.Script.{Command, DeclareDatatype, DeclareConst, DefineFun, Assert, DeclareFun, SetLogic, SetOption, is_simple_symbol, Reset, Exit, Push, Pop, Constructor, Entry, Constant, Function, Defined, Builds, Selects, State, built_in_names, is_in, is_reserved, has_name, is_taken, is_new_datatype, is_sort, has_sort, names_of, declare, declare_selectors, declare_constructors, with_name, with_sort, with_assertion, obey, knows, ◌>>=◌}
+use Rattle.smt_semantics.specs.Script.{Command, DeclareDatatype, DeclareConst, DefineFun, Assert, DeclareFun, SetLogic, SetOption, is_simple_symbol, is_attribute_value, Reset, Exit, Push, Pop, Constructor, Entry, Constant, Function, Defined, Builds, Selects, State, built_in_names, is_in, is_reserved, has_name, is_taken, is_new_datatype, is_sort, has_sort, names_of, declare, declare_selectors, declare_constructors, with_name, with_sort, with_assertion, obey, knows, ◌>>=◌}
 use Rattle.smt_semantics.specs.Meanings.{selectors_named, constructors_named, with_names, names_in, are_new, are_fields, DatatypesLeave, StepsKeepLevels, PopsGiveBack}
 use Rattle.smt_semantics.proofs.Results.{some_is, if_not, if_so, bind_gives}
 
@@ -103,7 +103,7 @@ obey_below (DeclareConst n sort) s t r v w h = declare_below n (Constant sort) s
 obey_below (DefineFun n sort body) s t r v w h = declare_below n (Defined sort body) s t (if_so (is_sort (has_sort s) sort && knows s body) (declare n (Defined sort body) s) t h).1
 obey_below (Assert e) s t r v w h = ap (λ (u : State). u.below) (sym (some_is (with_assertion e s) t (if_so (knows s e) (Some (with_assertion e s)) t h).1))
 obey_below (SetLogic l) s t r v w h = ap (λ (u : State). u.below) (sym (some_is s t (if_so (is_simple_symbol l) (Some s) t h).1))
-obey_below (SetOption o x) s t r v w h = ap (λ (u : State). u.below) (sym (some_is s t (if_so (is_simple_symbol o) (Some s) t h).1))
+obey_below (SetOption o x) s t r v w h = ap (λ (u : State). u.below) (sym (some_is s t (if_so (is_simple_symbol o && is_attribute_value x) (Some s) t h).1))
 obey_below (DeclareFun f a sort) s t r v w h = declare_below f (Function a sort) s t (if_so (is_sort (has_sort s) a && is_sort (has_sort s) sort) (declare f (Function a sort) s) t h).1
 obey_below Reset s t r v w h = absurd (r refl)
 obey_below Push s t r v w h = absurd (v refl)

@@ -1,4 +1,4 @@
--- What each line leaves of a text that stands.
+-- What each line leaves of an open script.
 use Rattle.std.proofs.Common.{◌≡◌, ℕ, true, not, ◌&&◌, List, map, ◌∙◌, Some, None}
 use Rattle.std.proofs.lemmas.Bool.{not-true, and_from, cond-true, cond-false}
 use Rattle.smt_semantics.specs.Script.{State, Entry, Defined, DefineFun, Assert, step, obey, declare, is_taken, has_sort, is_sort, knows, with_name, with_assertion, stated}

@@ -1,4 +1,4 @@
--- What the lines of declarations leave of a text that stands.
+-- What the lines of declarations leave of an open script.
 use Rattle.std.proofs.Common.{◌≡◌, ℕ, suc, true, false, not, ◌&&◌, List, [], ◌∷◌, ◌++◌, map, refl, ap, ◌∙◌, Some, None}
 use Rattle.std.specs.Prelude.{bytes_eq}
 use Rattle.std.proofs.lemmas.Bool.{not-true, and_parts, cond-true, cond-false, or_parts}

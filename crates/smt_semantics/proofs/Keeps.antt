@@ -7,7 +7,7 @@ use Rattle.smt_term.specs.Plain.{StringLikeOp, ZeroExtendOp}
 use Rattle.smt_semantics.specs.ScriptValues.{ScriptValue}
 use Rattle.smt_sexpr.specs.Lexicon.{Bits, Number, Text, Name}
 use Rattle.smt_sexpr.specs.Reading.{Expression, Leaf, Node, Expressions, Nil, Cons}
-use Rattle.smt_semantics.specs.Script.{Command, DeclareDatatype, DeclareConst, DefineFun, Assert, DeclareFun, SetLogic, SetOption, is_simple_symbol, Reset, Exit, Push, Pop, Function, obey, Constructor, Entry, Constant, Defined, Builds, Selects, State, step, declare, declare_selectors, declare_constructors, with_name, with_sort, with_assertion, with_level, has_name, has_sort, is_taken, is_new_datatype, is_reserved, is_in, is_sort, are_sorts, is_bit_sort, count, is_first, are_all, is_stated, each_stated, knows, Shape, BitLiteral, Qualified, Applied, Extended, Tested, Matched, Unformed, shape, shape_is_known, built_in_names, names_of, look_up, operator_of, ◌>>=◌}
+use Rattle.smt_semantics.specs.Script.{Command, DeclareDatatype, DeclareConst, DefineFun, Assert, DeclareFun, SetLogic, SetOption, is_simple_symbol, is_attribute_value, Reset, Exit, Push, Pop, Function, obey, Constructor, Entry, Constant, Defined, Builds, Selects, State, step, declare, declare_selectors, declare_constructors, with_name, with_sort, with_assertion, with_level, has_name, has_sort, is_taken, is_new_datatype, is_reserved, is_in, is_sort, are_sorts, is_bit_sort, count, is_first, are_all, is_stated, each_stated, knows, Shape, BitLiteral, Qualified, Applied, Extended, Tested, Matched, Unformed, shape, shape_is_known, built_in_names, names_of, look_up, operator_of, ◌>>=◌}
 use Rattle.smt_semantics.specs.Sorts.{Entries, entries, entry_sort, applied_sort, named_sort, qualified_sort, tested_sort, operator_sort, shape_sort, sort_in, sorts_in, expression_sort, each_there, first_there}
 use Rattle.smt_semantics.specs.Value.{ScriptInterpretation, Meaning, by_operator, applied_value, constant, qualified_value, is_built, of_one, operator_value, evaluate, evaluate_each, first_sort, shape_value, meaning, entry_meaning, body_of, StepsKeepValues, NamesHaveValues}
 use Rattle.smt_semantics.proofs.Results.{or_left, or_right, some_is, if_not, if_so, bind_gives}
@@ -235,7 +235,7 @@ obey_keeps j (DefineFun n sort body) s t r v h = declare_keeps j n (Defined sort
 obey_keeps j (Assert e) s t r v h =
     subst (λ (u : State). Keeps j s u) (some_is (with_assertion e s) t (if_so (knows s e) (Some (with_assertion e s)) t h).1) (keeps_itself j s (with_assertion e s) refl (λ n k i. i))
 obey_keeps j (SetLogic l) s t r v h = same_state j s t (some_is s t (if_so (is_simple_symbol l) (Some s) t h).1)
-obey_keeps j (SetOption o x) s t r v h = same_state j s t (some_is s t (if_so (is_simple_symbol o) (Some s) t h).1)
+obey_keeps j (SetOption o x) s t r v h = same_state j s t (some_is s t (if_so (is_simple_symbol o && is_attribute_value x) (Some s) t h).1)
 obey_keeps j (DeclareFun f a sort) s t r v h = declare_keeps j f (Function a sort) s t (if_so (is_sort (has_sort s) a && is_sort (has_sort s) sort) (declare f (Function a sort) s) t h).1
 obey_keeps j Reset s t r v h = absurd (r refl)
 obey_keeps j Pop s t r v h = absurd (v refl)

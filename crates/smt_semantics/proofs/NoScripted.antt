@@ -168,7 +168,7 @@ no_scripts = record {
 }
 
 pub no_commands : NoCommands
-no_commands = record { heads = refl; records = refl; insertions = refl; datatypes = refl; count = (refl, refl); words = refl; solvers = refl; others = refl; logics = refl; options = refl }
+no_commands = record { heads = refl; records = refl; insertions = refl; datatypes = refl; count = (refl, refl); words = refl; solvers = refl; others = refl; logics = refl; options = refl; option_values = refl }
 
 -- ---- whole texts
 

@@ -92,7 +92,7 @@ abbrev pub PlainLines : Type 0
 PlainLines = IsLine (codes "(check-sat)\n") (CheckSat ∷ []) × IsLine (codes "(get-model)\n") (GetModel ∷ []) × IsLine (codes "(reset)\n") (Reset ∷ [])
     × IsLine (codes "(exit)\n") (Exit ∷ []) × IsLine (codes "(push 1)\n") (Push ∷ []) × IsLine (codes "(pop 1)\n") (Pop ∷ [])
 
--- a line at the end of a text that stands, whose command is obeyed, leaves a text that stands
+-- a line at the end of an open script, whose command is obeyed, leaves an open script
 abbrev pub CommandsExtend : Type 0
 CommandsExtend = (text line : List ℕ) (c : Command) (s t : State) → IsOpenScript text s → IsLine line (c ∷ []) → obey c s ≡ Some t → IsTrue (not t.ended) → IsOpenScript (text ++ line) t
 

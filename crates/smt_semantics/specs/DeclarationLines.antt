@@ -1,4 +1,4 @@
--- What the lines of declarations leave of a text that stands.
+-- What the lines of declarations leave of an open script.
 use Rattle.std.specs.Prelude.{◌≡◌, ℕ, zero, suc, true, not, ◌&&◌, IsTrue, codes, length, map, List, [], ◌∷◌, ◌++◌, Option, Some, None}
 use Rattle.std.specs.List.{list_all}
 use Rattle.smt_sexpr.specs.Reading.{Expression}

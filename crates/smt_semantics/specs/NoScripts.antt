@@ -1,7 +1,7 @@
 -- Samples of texts that are no scripts, each beside one that is, and of whole texts.
 use Rattle.std.specs.Prelude.{◌≡◌, ℕ, Bool, true, false, codes, length, map, List, [], ◌∷◌, ◌++◌}
 use Rattle.std.specs.List.{list_all, list_any}
-use Rattle.smt_sexpr.specs.Lexicon.{Number}
+use Rattle.smt_sexpr.specs.Lexicon.{Number, Text}
 use Rattle.smt_sexpr.specs.Reading.{Expression, Leaf}
 use Rattle.smt_semantics.specs.Script.{State, Script, IsWhole, Command, DeclareDatatype, DeclareConst, DefineFun, Assert, DeclareFun, SetLogic, SetOption, Constructor, reserved_words, are_distinct, name, group}
 use Rattle.smt_semantics.specs.Sorts.{bool_sort}
@@ -82,6 +82,9 @@ pub record NoCommands : Type 0 where
   pub others : map is_declared_anyhow (codes "x" ∷ codes "x.y" ∷ codes "x@" ∷ codes "asserted" ∷ codes "let!" ∷ codes "Par" ∷ codes "!x" ∷ []) ≡ true ∷ true ∷ true ∷ true ∷ true ∷ true ∷ true ∷ []
   pub logics : map (λ l. is_obeyed (SetLogic l ∷ [])) (codes "QF_BV" ∷ codes "ALL" ∷ codes "par" ∷ codes "check-sat" ∷ codes ":ALL" ∷ []) ≡ true ∷ true ∷ false ∷ false ∷ false ∷ []
   pub options : map (λ o. is_obeyed (SetOption o t ∷ [])) (codes "produce-models" ∷ [] ∷ codes ":x" ∷ codes "0" ∷ codes "let" ∷ []) ≡ true ∷ false ∷ false ∷ false ∷ false ∷ []
+  -- A keyword or a reserved word alone is no value of an option; in brackets it is.
+  pub option_values : map (λ v. is_obeyed (SetOption (codes "x") v ∷ [])) (t ∷ Leaf (Number 1) ∷ Leaf (Text (codes "x")) ∷ group (name (codes "let") ∷ []) ∷ name (codes ":true") ∷ name (codes "let") ∷ [])
+      ≡ true ∷ true ∷ true ∷ true ∷ false ∷ false ∷ []
 
 -- ---- whole texts
 

@@ -182,6 +182,11 @@ is_reserved n = is_in n reserved_words || (is_keyword n || is_for_solvers n)
 abbrev pub is_simple_symbol : List ℕ → Bool
 is_simple_symbol n = is_symbol n && not (is_in n reserved_words || is_keyword n)
 
+-- The value of an attribute is a constant, a simple symbol, or an S-expression in brackets.
+abbrev pub is_attribute_value : Expression → Bool
+is_attribute_value (Leaf (Name n)) = is_simple_symbol n
+is_attribute_value e = true
+
 abbrev pub has_name : State → List ℕ → Bool
 has_name s n = is_in n built_in_names || is_in n (map (λ p. p.0) (names_of s))
 
@@ -395,9 +400,9 @@ obey (DefineFun f sort body) s =
 obey (Assert e) s = if knows s e then Some (with_assertion e s) else None
 obey (DeclareFun f argument sort) s =
     if is_sort (has_sort s) argument && is_sort (has_sort s) sort then declare f (Function argument sort) s else None
--- a logic is a simple symbol, and an option a colon before one
+-- a logic is a simple symbol, and an option a colon before one, with the value of an attribute
 obey (SetLogic l) s = if is_simple_symbol l then Some s else None
-obey (SetOption o v) s = if is_simple_symbol o then Some s else None
+obey (SetOption o v) s = if is_simple_symbol o && is_attribute_value v then Some s else None
 obey CheckSat s = Some s
 obey GetModel s = Some s
 obey Reset s = Some start

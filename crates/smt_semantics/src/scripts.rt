@@ -45,7 +45,7 @@ pub fn numbered_names_differ()
     ensures names { NumberedNames }
 {}
 
-/// A line at the end of a text that stands leaves a text that stands.
+/// A line at the end of an open script leaves an open script.
 pub fn lines_extend()
     ensures whole { OpenScriptsAreWhole }
     ensures definition { DefinitionsExtend }
@@ -76,7 +76,7 @@ pub fn quoted_texts_are_read()
     ensures patterns { PatternsWrite }
 {}
 
-/// What the lines of declarations leave of a text that stands.
+/// What the lines of declarations leave of an open script.
 pub fn declarations_extend()
     ensures constants { ConstantsExtend }
     ensures functions { FunctionsExtend }

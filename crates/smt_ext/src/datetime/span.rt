@@ -9,7 +9,7 @@ ghost use Rattle.smt_ext.specs.DurationText.{IsDurationText};
 use crate::digits;
 
 /// What is wrong with a text that is no duration.
-#[derive(Clone, Copy)]
+#[derive(Clone, Copy, Debug)]
 pub enum Fault {
     /// It has another form.
     Form,
@@ -20,7 +20,7 @@ pub enum Fault {
 }
 
 /// The units of a duration's parts.
-#[derive(Clone, Copy)]
+#[derive(Clone, Copy, Debug)]
 pub enum TimeUnit {
     Millisecond,
     Second,

@@ -8,7 +8,7 @@ ghost use Rattle.smt_ext.specs.DatetimeReading.{field_at, day_at, offset_at, zon
 use crate::digits;
 
 /// A date as it is written.
-#[derive(Clone, Copy)]
+#[derive(Clone, Copy, Debug)]
 pub struct Day {
     pub year: u64,
     pub month: u64,
@@ -16,7 +16,7 @@ pub struct Day {
 }
 
 /// What stands behind a time.
-#[derive(Clone, Copy)]
+#[derive(Clone, Copy, Debug)]
 pub enum Zone {
     /// `Z`.
     Utc,
@@ -29,7 +29,7 @@ pub enum Zone {
 }
 
 /// A time of day as it is written.
-#[derive(Clone, Copy)]
+#[derive(Clone, Copy, Debug)]
 pub struct Clock {
     pub hour: u64,
     pub minute: u64,
@@ -39,7 +39,7 @@ pub struct Clock {
 }
 
 /// A datetime as it is written.
-#[derive(Clone, Copy)]
+#[derive(Clone, Copy, Debug)]
 pub struct Stamp {
     pub day: Day,
     pub clock: Option<Clock>,

@@ -3,7 +3,7 @@ use Rattle.std.proofs.lemmas.Result.{on_ok_weaker}
 use Rattle.smt_term.specs.View.{plain_term}
 use Rattle.smt_lines.specs.Text.{names, text}
 use Rattle.smt_encode.specs.Encoded.{enums_in}
-use Rattle.smt_encode.proofs.Conditions.{headline, models_make_true, on_ok_both, received}
+use Rattle.smt_encode.proofs.Conditions.{headline, on_ok_both, received}
 use Rattle.smt_encode.proofs.Faulted.{named_is_first, ok_without_fault, only_memory}
 use Rattle.smt_encode.proofs.Scripted.{text_written}
 use Rattle.smt_encode.proofs.encoder.Encoder.encode.Goals as goal
@@ -23,7 +23,7 @@ returns-clause-headline g c has typed =
 
 pub returns-clause-models : goal.returns-clause-models
 returns-clause-models g c typed =
-    ok_without_fault (enums_in c.args.self.now) (map plain_term c.args.terms.now) c.put_script-outcome.result c.put_script-outcome.ensures.fault (models_make_true c.args.self.now.enums.now c.args.terms.now typed)
+    ok_without_fault (enums_in c.args.self.now) (map plain_term c.args.terms.now) c.put_script-outcome.result c.put_script-outcome.ensures.fault (headline c.args.self.now.enums.now c.args.terms.now typed)
 
 pub returns-clause-fault : goal.returns-clause-fault
 returns-clause-fault g c =
