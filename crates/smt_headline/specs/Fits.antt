@@ -131,8 +131,7 @@ pub record DefinitionOrigin (enums : Enums) (us : List PlainTerm) (s : Tables) (
   pub named : name_of_term s term ≡ Some n
   pub defined : HasDefinition enums term
 
--- A constant, a function and a defined name are an entry's. What builds a value or selects a part of one is left to `Fit`:
--- it builds a value of a datatype that is declared, and its name is numbered below the count of the entries.
+-- A constant, a function and a defined name are an entry's, for what is reached. `Fit` says whose constructors and selectors are.
 abbrev pub BelongsToAnEntry : Enums → List PlainTerm → Tables → List ℕ → Entry → Type 0
 BelongsToAnEntry enums us s n (Constant sort) = VariableOrigin us s n sort
 BelongsToAnEntry enums us s n (Function argument sort) = FunctionOrigin us s n argument sort
@@ -151,9 +150,10 @@ pub record FitsAt (enums : Enums) (x : Stage) (state : State) : Type 0 where
   pub reached : KeysAreReached x.terms x.tables
   -- Names are drawn by the places of the entries.
   pub drawn : NamesAreDrawn enums x.tables
-  -- What is stated for the entries, from the names of their parts, is declared, and `Option`; the parts have entries here too.
+  -- What is stated for the entries, from the names of their parts, is declared, and `Option`, and no other name and no other
+  -- datatype is; the parts have entries here too.
   pub declared : Fit enums x.tables state
-  -- No other constant, function or defined name is declared.
+  -- What is declared as a constant, as a function or with a body is for what is reached.
   pub only : AllByRecursion (λ p. BelongsToAnEntry enums (reached_terms x.terms) x.tables p.0 p.1) (names_of state)
 
 -- ---- all levels

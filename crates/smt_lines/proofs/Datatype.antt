@@ -25,8 +25,9 @@ use Rattle.smt_lines.specs.Entries.{TypePartsHaveEntries, type_lines}
 use Rattle.smt_lines.specs.NameTables.{Tables}
 use Rattle.smt_lines.proofs.Grow.{lookup_append}
 use Rattle.smt_lines.specs.Command.{all_built, is_written_constructor}
-use Rattle.smt_lines.specs.Fit.{IsKindNamed, EachLine, LineIsDeclared, Fit, Steps, declares, declares_sort, names_of_type, is_old_name_in, is_old_sort_in}
+use Rattle.smt_lines.specs.Fit.{IsKindNamed, EachLine, LineIsDeclared, Fit, Steps, declares, declares_sort, names_of_type, is_old_name_in, is_old_sort_in, is_name_of_entry, is_sort_of_entry}
 use Rattle.smt_lines.proofs.Known.{one_passes}
+use Rattle.smt_lines.proofs.OnlyEntries.{as_is, name_stays, sort_stays_so, names_are_entrys, sort_is_entrys}
 use Rattle.smt_lines.proofs.Enter.{More, fit_grows, all_grow, old_stays, old_sort_stays, fresh_from}
 use Rattle.smt_lines.proofs.Single.{step_runs}
 use Rattle.smt_semantics.proofs.Results.{or_left, or_right}
@@ -209,6 +210,10 @@ type_fits enums s state fit t d new cs e news parts own =
     (ap (list_all (λ p. is_old_name_in u p.0)) same
     ∙ con_all (is_old_name_in u) d [] 0 cs (names_of state) (subst (λ ns. list_all (is_old_name_in u) ns ≡ true) (sym e) new.old) (all_grow _ _ (λ x. old_stays s u m x.0) (names_of state) fit.old))
     (and_from (is_old_sort_in u d) _ new.sort_old (all_grow _ _ (λ x. old_sort_stays s u m x.0) (declared_sorts state) fit.old_sorts))
+    (ap (list_all (λ p. is_name_of_entry enums u p.0)) same
+    ∙ con_all (is_name_of_entry enums u) d [] 0 cs (names_of state) (subst (λ ns. list_all (is_name_of_entry enums u) ns ≡ true) (sym e) (names_are_entrys enums s t d))
+    (all_grow _ _ (λ x. name_stays enums s u ((t, d) ∷ [], refl) (as_is s.functions) (as_is s.terms) x.0) (names_of state) fit.only_names))
+    (and_from (is_sort_of_entry u d) _ (sort_is_entrys s t d) (all_grow _ _ (λ x. sort_stays_so s u ((t, d) ∷ [], refl) x.0) (declared_sorts state) fit.only_sorts))
 
 -- ---- its line
 

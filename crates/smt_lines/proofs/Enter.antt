@@ -21,7 +21,7 @@ use Rattle.smt_lines.specs.Entries.{EachEntry, TypeHasEntries}
 use Rattle.smt_lines.proofs.Grow.{lookup_append}
 use Rattle.smt_lines.specs.TableGrowth.{Keeps}
 use Rattle.smt_lines.proofs.Kept.{BuildsNone, name_builds, name_kept, line_stays, lines_stay}
-use Rattle.smt_lines.specs.Fit.{IsRooted, Kept, EntryOf, TypeEntry, FunctionEntry, TermEntry, Fit, TypeEntryIsDeclared, FunctionEntryIsDeclared, TermEntryIsDeclared, declares, first, behind_first, drawn_number, is_old, is_old_name_in, is_old_sort_in, of_kinds, kind_names, has_kind, names_of_type, option_names}
+use Rattle.smt_lines.specs.Fit.{IsRooted, Kept, EntryOf, TypeEntry, FunctionEntry, TermEntry, Fit, TypeEntryIsDeclared, FunctionEntryIsDeclared, TermEntryIsDeclared, declares, first, behind_first, drawn_number, is_old, is_old_name_in, is_old_sort_in, of_kinds, kind_names, has_kind, names_of_type, option_names, is_name_of_entry, is_sort_of_entry}
 use Rattle.smt_lines.proofs.Basic.{leads_alone, digit_first}
 use Rattle.smt_lines.proofs.Known.{each_append, each_map, one_passes, is_declared_old}
 use Rattle.smt_semantics.proofs.Results.{or_left, or_right}
@@ -189,8 +189,9 @@ entry_stays lines_of Parts s u state after k g e = record {
 
 -- Where more is declared and entered, tables and state still fit.
 pub fit_grows : (enums : Enums) (s u : Tables) (state after : State) → Fit enums s state → Grows state after → Behind enums s u after
-    → list_all (λ p. is_old_name_in u p.0) (names_of after) ≡ true → list_all (λ p. is_old_sort_in u p.0) (declared_sorts after) ≡ true → Fit enums u after
-fit_grows enums s u state after fit g b old sorts =
+    → list_all (λ p. is_old_name_in u p.0) (names_of after) ≡ true → list_all (λ p. is_old_sort_in u p.0) (declared_sorts after) ≡ true
+    → list_all (λ p. is_name_of_entry enums u p.0) (names_of after) ≡ true → list_all (λ p. is_sort_of_entry u p.0) (declared_sorts after) ≡ true → Fit enums u after
+fit_grows enums s u state after fit g b old sorts only_names only_sorts =
     let m = more_from enums s u after b in
     let k = keeps_from enums s u after b in
     record {
@@ -211,6 +212,8 @@ fit_grows enums s u state after fit g b old sorts =
       rooted = g.rooted fit.rooted;
       old = old;
       old_sorts = sorts;
+      only_names = only_names;
+      only_sorts = only_sorts;
     }
 
 -- ---- one more name

@@ -41,11 +41,11 @@ nothing_behind enums s after = record {
 }
 
 pub level_fits : (enums : Enums) (s : Tables) (state : State) → Fit enums s state → Fit enums s (with_level state)
-level_fits enums s state fit = fit_grows enums s s state (with_level state) fit (record { ended = refl; kept = record { entry = λ n x h. h; sort = λ n k h. h; declared = λ d h. h; built = λ d c qs place fields h e. e }; names = λ n h. h; sorts = λ n k h. h; rooted = λ r. r }) (nothing_behind enums s (with_level state)) fit.old fit.old_sorts
+level_fits enums s state fit = fit_grows enums s s state (with_level state) fit (record { ended = refl; kept = record { entry = λ n x h. h; sort = λ n k h. h; declared = λ d h. h; built = λ d c qs place fields h e. e }; names = λ n h. h; sorts = λ n k h. h; rooted = λ r. r }) (nothing_behind enums s (with_level state)) fit.old fit.old_sorts fit.only_names fit.only_sorts
 
 pub back_fits : (enums : Enums) (s : Tables) (state : State) → Fit enums s state → Fit enums s (back_at state.last state.below)
 back_fits enums s state fit =
-    fit_grows enums s s state (back_at state.last state.below) fit (record { ended = sym fit.running; kept = record { entry = λ n x h. h; sort = λ n k h. h; declared = λ d h. h; built = λ d c qs place fields h e. e }; names = λ n h. h; sorts = λ n k h. h; rooted = λ r. r }) (nothing_behind enums s (back_at state.last state.below)) fit.old fit.old_sorts
+    fit_grows enums s s state (back_at state.last state.below) fit (record { ended = sym fit.running; kept = record { entry = λ n x h. h; sort = λ n k h. h; declared = λ d h. h; built = λ d c qs place fields h e. e }; names = λ n h. h; sorts = λ n k h. h; rooted = λ r. r }) (nothing_behind enums s (back_at state.last state.below)) fit.old fit.old_sorts fit.only_names fit.only_sorts
 
 abbrev pub HoldsWhole : List Line → Type 0
 HoldsWhole ls = Holds (spelled_lines ls) (commands ls) × HasWholeLines (spelled_lines ls)

@@ -13,6 +13,7 @@ pub mod Levels
 pub mod Making
 pub mod OfTerms
 pub mod OfTypes
+pub mod OnlyEntries
 pub mod Single
 pub mod Spelled
 pub mod Stays

@@ -26,9 +26,10 @@ use Rattle.smt_lines.proofs.Kept.{BuildsNone, itself_kept, kept_then, name_kept,
 use Rattle.smt_lines.specs.Naming.{type_sort}
 use Rattle.smt_lines.specs.TableGrowth.{Keeps}
 use Rattle.smt_lines.proofs.Grow.{lookup_append}
-use Rattle.smt_lines.specs.Fit.{PartsHaveEntries, EachLine, LineIsDeclared, Fit, Steps, StepsOf, TermEntryIsDeclared, is_old_name_in}
+use Rattle.smt_lines.specs.Fit.{PartsHaveEntries, EachLine, LineIsDeclared, Fit, Steps, StepsOf, TermEntryIsDeclared, is_old_name_in, is_name_of_entry}
 use Rattle.smt_lines.proofs.Basic.{t_name, f_name, leads_alone}
 use Rattle.smt_lines.proofs.Known.{GoodSort, GoodText}
+use Rattle.smt_lines.proofs.OnlyEntries.{as_is, name_stays, term_is_entrys, function_is_entrys}
 use Rattle.smt_lines.proofs.Enter.{More, fit_grows, with_name_grows, all_grow, old_stays, old_sort_stays, fresh_term, fresh_function, sort_stays}
 use Rattle.smt_semantics.proofs.Results.{or_left, or_right}
 use Rattle.smt_semantics.proofs.Numbers.{numeral_suits}
@@ -130,6 +131,7 @@ known_term enums s state fit t n h parts own =
     })
     (all_grow _ _ (λ x. old_stays s (with_term t n s) m x.0) (names_of state) fit.old)
     (all_grow _ _ (λ x. old_sort_stays s (with_term t n s) m x.0) (script.declared_sorts state) fit.old_sorts)
+    (all_grow _ _ (λ x. name_stays enums s (with_term t n s) (as_is s.types) (as_is s.functions) ((t, n) ∷ [], refl) x.0) (names_of state) fit.only_names) fit.only_sorts
 
 pub fit_term : (enums : Enums) (s : Tables) (state : State) → Fit enums s state → (t : PlainTerm) (entry : Entry) → BuildsNone entry → TypeHasEntries s (type_of t) → PartsHaveEntries s t → EachLine (LineIsDeclared (with_name (next_term s) entry state)) (term_lines enums s t (next_term s)) → Fit enums (with_term t (next_term s) s) (with_name (next_term s) entry state)
 fit_term enums s state fit t entry none sort parts own =
@@ -160,6 +162,7 @@ fit_term enums s state fit t entry none sort parts own =
     })
     (and_from (is_old_name_in u n) _ (in_longer s.terms (t, n) _ (leads_alone (length s.terms))) (all_grow _ _ (λ x. old_stays s u m x.0) (names_of state) fit.old))
     (all_grow _ _ (λ x. old_sort_stays s u m x.0) (script.declared_sorts state) fit.old_sorts)
+    (and_from (is_name_of_entry enums u n) _ (term_is_entrys enums s t n) (all_grow _ _ (λ x. name_stays enums s u (as_is s.types) (as_is s.functions) ((t, n) ∷ [], refl) x.0) (names_of state) fit.only_names)) fit.only_sorts
 
 pub fit_function : (enums : Enums) (s : Tables) (state : State) → Fit enums s state → (f : PlainFunction) (entry : Entry) → BuildsNone entry → TypeHasEntries s f.argument × TypeHasEntries s f.output → EachLine (LineIsDeclared (with_name (next_function s) entry state)) (function_lines s f (next_function s)) → Fit enums (with_function f (next_function s) s) (with_name (next_function s) entry state)
 fit_function enums s state fit f entry none parts own =
@@ -194,6 +197,7 @@ fit_function enums s state fit f entry none parts own =
     })
     (and_from (is_old_name_in u n) _ (in_longer s.functions (f, n) _ (leads_alone (length s.functions))) (all_grow _ _ (λ x. old_stays s u m x.0) (names_of state) fit.old))
     (all_grow _ _ (λ x. old_sort_stays s u m x.0) (script.declared_sorts state) fit.old_sorts)
+    (and_from (is_name_of_entry enums u n) _ (function_is_entrys enums s f n) (all_grow _ _ (λ x. name_stays enums s u (as_is s.types) ((f, n) ∷ [], refl) (as_is s.terms) x.0) (names_of state) fit.only_names)) fit.only_sorts
 
 -- ---- the lines of definitions, constants and functions
 

@@ -51,7 +51,7 @@ begun_stands : LineIsDeclared begun option_line
 begun_stands = (refl, (refl, tt, (refl, (refl, tt), tt)), refl, begun_only)
 
 pub begun_fits : (enums : Enums) → Fit enums no_names begun
-begun_fits enums = record { running = refl; option = refl; builds = refl; types = tt; functions = tt; terms = tt; type_entries = tt; function_entries = tt; term_entries = tt; option_is_declared = begun_stands; rooted = begun_rooted; old = refl; old_sorts = refl }
+begun_fits enums = record { running = refl; option = refl; builds = refl; types = tt; functions = tt; terms = tt; type_entries = tt; function_entries = tt; term_entries = tt; option_is_declared = begun_stands; rooted = begun_rooted; old = refl; old_sorts = refl; only_names = refl; only_sorts = refl }
 
 pub first_is_line : IsLine (spelled_line option_line) (commands_of option_line)
 first_is_line = option_is_line
@@ -86,7 +86,7 @@ asserts_fit enums s state fit es =
       terms_are = rw append-nil;
       terms = tt;
       term_entries = tt;
-    }) fit.old fit.old_sorts
+    }) fit.old fit.old_sorts fit.only_names fit.only_sorts
 
 pub asserts_written : (es : List Expression) → are_written (expressions es) ≡ true → list_all is_written_line (map Assert es) ≡ true
 asserts_written [] h = refl

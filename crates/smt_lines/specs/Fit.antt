@@ -1,7 +1,7 @@
 -- When tables and the state of a script belong together, as far as the next line needs it: what entries name is declared,
 -- and nothing is declared that a later entry is named.
 use Rattle.std.specs.Prelude.{◌≡◌, ℕ, Bool, true, false, ◌&&◌, ◌||◌, if◌then◌else◌, ◌==◌, nat_lt, bytes_eq, is_some, IsSome, codes, length, map, List, [], ◌∷◌, Some}
-use Rattle.std.specs.List.{list_all, flat_map, take_while}
+use Rattle.std.specs.List.{list_all, list_any, flat_map, take_while}
 use Rattle.smt_term.specs.Plain.{ExtensionKind, IpAddrKind, DecimalKind, DatetimeKind, DurationKind, PlainType, ExtensionType, PlainFunction, PlainOp, RecordGetOp, PlainTerm, Application, PlainTerms}
 use Rattle.smt_term.specs.TypeValues.{Enums}
 use Rattle.smt_term.specs.Types.{type_of}
@@ -79,6 +79,24 @@ is_old_name_in s n = is_old (length s.terms) (length s.functions) (length s.type
 
 abbrev pub is_old_sort_in : Tables → List ℕ → Bool
 is_old_sort_in s n = is_old_sort (length s.types) (has_kind s) n
+
+-- ---- names of entries, exactly
+
+-- a type's entry whose lines declare the name
+abbrev pub declares_by_entry : Enums → List ℕ → PlainType × List ℕ → Bool
+declares_by_entry enums n e = is_in n (names_of_type enums e.0 e.1)
+
+-- an entry of the name
+abbrev pub has_entry_name : {K : Type 0} → List ℕ → K × List ℕ → Bool
+has_entry_name {K} n e = bytes_eq n e.1
+
+-- a constructor or selector of options or of a type's entry, or the name of a function's entry or a term's
+abbrev pub is_name_of_entry : Enums → Tables → List ℕ → Bool
+is_name_of_entry enums s n = is_in n option_names || (list_any (declares_by_entry enums n) s.types || (list_any (has_entry_name n) s.functions || list_any (has_entry_name n) s.terms))
+
+-- the datatype of options or of a type's entry
+abbrev pub is_sort_of_entry : Tables → List ℕ → Bool
+is_sort_of_entry s n = bytes_eq n (codes "Option") || list_any (has_entry_name n) s.types
 
 -- ---- the facts
 
@@ -172,6 +190,9 @@ pub record Fit (enums : Enums) (s : Tables) (state : State) : Type 0 where
   pub rooted : IsRooted state
   pub old : list_all (λ p. is_old_name_in s p.0) (names_of state) ≡ true
   pub old_sorts : list_all (λ p. is_old_sort_in s p.0) (declared_sorts state) ≡ true
+  -- Nothing else is declared.
+  pub only_names : list_all (λ p. is_name_of_entry enums s p.0) (names_of state) ≡ true
+  pub only_sorts : list_all (λ p. is_sort_of_entry s p.0) (declared_sorts state) ≡ true
 
 -- What is declared stays, and of a datatype that is declared nothing more is built.
 pub record Kept (state after : State) : Type 0 where
