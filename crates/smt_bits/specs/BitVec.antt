@@ -1,5 +1,6 @@
 -- What contracts see of a bitvector: its width and its number.
 use Rattle.std.specs.Prelude.{◌≡◌, ◌≢◌, ℕ, ◌<◌}
+use Rattle.smt_arithmetic.specs.Shifts.{greatest_shift}
 use Rattle.smt_bits.specs.declared.bitvec.BitVec.{BitVec}
 use Rattle.smt_bits.specs.declared.error.BvCall.{BvCall}
 use Rattle.smt_bits.specs.declared.error.BitVecError.{BitVecError}
@@ -16,10 +17,6 @@ number_of b = b.number
 -- a call refuses for its widths: they differ, and the refusal names the call
 abbrev pub IsMismatch : BvCall → BitVec → BitVec → BitVecError → Type 0
 IsMismatch call lhs rhs e = (e ≡ MismatchedWidths call) × (width_of lhs ≢ width_of rhs)
-
--- the greatest number of places that `shl` and `lshr` take: of 32 bits; the shifts of the standard take any number
-abbrev pub greatest_shift : ℕ
-greatest_shift = 4294967295
 
 -- a shift refuses: for its widths, and where they are equal for a number of places above the greatest one
 abbrev pub RefusesShift : BvCall → BitVec → BitVec → BitVecError → Type 0

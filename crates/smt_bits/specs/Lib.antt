@@ -1,10 +1,4 @@
 pub mod BitVec
-pub mod BitVectors
-pub mod Examples
-pub mod Extensions
 pub mod Fin
-pub mod Laws
-pub mod Longs
 pub mod Printed
 pub mod Width
-pub mod Widths

@@ -3,7 +3,6 @@ ghost use Rattle.std.specs.Prelude.{◌≡◌, ◌==◌, ◌&&◌, ◌∷◌, �
 ghost use Rattle.std.specs.Cmp.{IsTotalOrder};
 ghost use Rattle.std.specs.Ordering.{nat_cmp, ordering_then};
 ghost use Rattle.std.specs.declared.cmp.Ordering.TheVariants.{Equal};
-ghost use Rattle.smt_bits.specs.Examples.{BitVectorRows};
 ghost use Rattle.smt_bits.specs.BitVec.{width_of, number_of};
 ghost use Rattle.smt_bits.specs.Fin.{bound_of, value_of};
 ghost use Rattle.smt_bits.specs.Width.{bits_in};
@@ -11,30 +10,12 @@ ghost use Rattle.smt_bits.specs.declared.bitvec.BitVec.{BitVec as Bits};
 ghost use Rattle.smt_bits.specs.declared.error.BvCall.{BvCall as Call};
 ghost use Rattle.smt_bits.specs.declared.fin.Fin.{Fin as Bounded};
 ghost use Rattle.smt_bits.specs.declared.width.Width.{Width as Widths};
-ghost use Rattle.smt_bits.specs.Laws.{SignedHasItsBits, BitsAreTakenIntoRange, DivisionRoundsTowardZero, ModulusHasDivisorsSign};
 
 use crate::{
     BitVec, BvCall, EIGHT, FIVE, Fin, HUNDRED_TWENTY, HUNDRED_TWENTY_EIGHT, ONE, SEVEN, SIXTEEN,
     SIXTY_FOUR, THIRTY_TWO, TWO, Width,
 };
 use std::hash::Hash;
-
-/// Operators on bitvectors at chosen numbers.
-pub fn bit_vector_rows()
-    ensures { BitVectorRows }
-{}
-
-/// Two's complement values and their bits give each other, within the signed range.
-pub fn signed_values_have_their_bits()
-    ensures bits { SignedHasItsBits }
-    ensures range { BitsAreTakenIntoRange }
-{}
-
-/// The signed quotient and remainder round toward 0, and the modulus has the divisor's sign.
-pub fn signed_divisions_round()
-    ensures quotient { DivisionRoundsTowardZero }
-    ensures modulus { ModulusHasDivisorsSign }
-{}
 
 /// Bitvectors are ordered by width, then by number, and are equal where both are.
 pub fn bitvectors_are_ordered()

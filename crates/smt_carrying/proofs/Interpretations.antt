@@ -4,15 +4,15 @@ use Rattle.std.specs.Prelude.{not, codes, IsTrue}
 use Rattle.std.specs.List.{AllByRecursion, list_any}
 use Rattle.std.specs.Cmp.{first_so, second_so}
 use Rattle.std.proofs.lemmas.Bool.{and_from, and_parts}
-use Rattle.smt_term.specs.Plain.{PlainType, PlainFunction, ExtensionOp, IpAddrV4Op, IpAddrV6Op, IpPrefixV4Op, IpPrefixV6Op, PlainOp, ExtOp, OptionGetOp, UufOp, PlainTerm, Application, VariableTerm, Ipv4Of, Ipv6Of}
-use Rattle.smt_term.specs.Values.{Value, ExtensionValue}
+use Rattle.smt_meaning.specs.Plain.{PlainType, PlainFunction, ExtensionOp, IpAddrV4Op, IpAddrV6Op, IpPrefixV4Op, IpPrefixV6Op, PlainOp, ExtOp, OptionGetOp, UufOp, PlainTerm, Application, VariableTerm, Ipv4Of, Ipv6Of}
+use Rattle.smt_meaning.specs.Values.{Value, ExtensionValue}
 use Rattle.smt_semantics.specs.ScriptValues.{ScriptValue}
-use Rattle.smt_term.specs.Interpretations.{AreDistinct, IsOfOtherFamily, IsSelectorTable, IsGivenOp, IsGiven, IsInterpretation, GiveSameOp, GiveSame, Agree}
-use Rattle.smt_term.specs.Reached.{reached_terms}
-use Rattle.smt_term.specs.Tables.{Table, Interpretation}
-use Rattle.smt_term.specs.Types.{extension_signature}
-use Rattle.smt_term.specs.TypeValues.{IsValue, Enums}
-use Rattle.smt_term.specs.ValueOrder.{value_eq}
+use Rattle.smt_meaning.specs.Interpretations.{AreDistinct, IsOfOtherFamily, IsSelectorTable, IsGivenOp, IsGiven, IsInterpretation, GiveSameOp, GiveSame, Agree}
+use Rattle.smt_meaning.specs.Reached.{reached_terms}
+use Rattle.smt_meaning.specs.Tables.{Table, Interpretation}
+use Rattle.smt_meaning.specs.Types.{extension_signature}
+use Rattle.smt_meaning.specs.TypeValues.{IsValue, Enums}
+use Rattle.smt_meaning.specs.ValueOrder.{value_eq}
 use Rattle.smt_semantics.specs.Script.{name}
 use Rattle.smt_semantics.specs.Sorts.{Entries, has_sort_in, option_sort}
 use Rattle.smt_semantics.specs.Value as script

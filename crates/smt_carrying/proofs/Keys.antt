@@ -5,17 +5,17 @@ use Rattle.std.specs.Map.{lookup}
 use Rattle.std.proofs.lemmas.Slice.Eq.{bytes_eq-Decides}
 use Rattle.std.specs.Option.{option_or}
 use mathlib.Core.Logic.{⊎_elim}
-use Rattle.smt_term.specs.Plain.{PlainType, OptionType, BitVecType, BoolType, EntityType, ExtensionType, StringType, RecordType, SetType, PlainFunction, PlainTerm}
-use Rattle.smt_term.specs.Types.{type_eq}
-use Rattle.smt_term.specs.Interpretations.{function_eq}
-use Rattle.smt_term.specs.TermOrder.{term_eq}
-use Rattle.smt_term.specs.TypeValues.{Enums}
+use Rattle.smt_meaning.specs.Plain.{PlainType, OptionType, BitVecType, BoolType, EntityType, ExtensionType, StringType, RecordType, SetType, PlainFunction, PlainTerm}
+use Rattle.smt_meaning.specs.Types.{type_eq}
+use Rattle.smt_meaning.specs.Interpretations.{function_eq}
+use Rattle.smt_meaning.specs.TermOrder.{term_eq}
+use Rattle.smt_meaning.specs.TypeValues.{Enums}
 use Rattle.smt_semantics.specs.Script.{name}
 use Rattle.smt_semantics.specs.Sorts.{Entries}
 use Rattle.smt_lines.specs.NameTables.{Tables, name_of_type}
 use Rattle.smt_lines.specs.Naming.{type_name, HasEntry, HasDistinctNames, type_sort}
 use Rattle.smt_carrying.specs.Carry.{key_of}
-use Rattle.smt_term.proofs.TermTotal.{types_decided, functions_decided, terms_decided}
+use Rattle.smt_meaning.proofs.TermTotal.{types_decided, functions_decided, terms_decided}
 use Rattle.smt_carrying.specs.CarriedSorts.{IsNamed, TypeIsDeclared}
 use Rattle.smt_carrying.specs.CarriedInterpretations.{wrapped_type, type_of_sort, TypeIsNamed}
 use Rattle.smt_semantics.specs.DeclarationLines.{Constructors}

@@ -13,10 +13,10 @@ use Rattle.std.specs.FinMap.{nat_cmp-IsAntisymmetric}
 use Rattle.smt_carrying.proofs.Orderings.{less_is, nat_less}
 use Rattle.std.specs.declared.cmp.Ordering.{Ordering}
 use Rattle.std.specs.declared.cmp.Ordering.TheVariants.{Less, Equal, Greater}
-use Rattle.smt_term.specs.ValueOrder.{text_cmp, is_below, ascends}
-use Rattle.smt_term.proofs.ValueOrder.{text_same, text_itself}
-use Rattle.smt_term.proofs.Utf8Order.{utf8_order}
-use Rattle.smt_term.specs.TypeValues.{Enums, members_of}
+use Rattle.smt_meaning.specs.ValueOrder.{text_cmp, is_below, ascends}
+use Rattle.smt_meaning.proofs.ValueOrder.{text_same, text_itself}
+use Rattle.smt_meaning.proofs.Utf8Order.{utf8_order}
+use Rattle.smt_meaning.specs.TypeValues.{Enums, members_of}
 use Rattle.smt_lines.specs.EntryNames.{place_of}
 use Rattle.smt_carrying.specs.CarriedOrder.{AreMembers, AreEnums}
 

@@ -3,16 +3,16 @@ use Rattle.std.proofs.Common.{◌≡◌, ℕ, ◌-◌, ◌^◌, ◌<◌, ◌≤�
 use Rattle.std.specs.Prelude.{Some}
 use Rattle.std.proofs.Math.Pow.{pow-lt}
 use Rattle.std.specs.Cmp.{nat_cmp_is, unsigned_ties}
-use Rattle.smt_term.specs.Plain.{BitVecType, BoolType, EqOp, BvnegoOp}
-use Rattle.smt_term.specs.Values.{Value, BitVecValue}
+use Rattle.smt_meaning.specs.Plain.{BitVecType, BoolType, EqOp, BvnegoOp}
+use Rattle.smt_meaning.specs.Values.{Value, BitVecValue}
 use Rattle.smt_semantics.specs.ScriptValues.{TruthOf, BitsOf}
 use Rattle.std.specs.Ordering.{nat_cmp, ordering_then, is_eq}
 use Rattle.std.specs.declared.cmp.Ordering.TheVariants.{Equal}
-use Rattle.smt_bits.specs.BitVectors as bits
-use Rattle.smt_bits.proofs.Least.{overflow_is}
-use Rattle.smt_term.specs.Operators.{apply}
-use Rattle.smt_term.specs.Tables.{Interpretation}
-use Rattle.smt_term.specs.TypeValues.{IsValue, Enums}
+use Rattle.smt_arithmetic.specs.BitVectors as bits
+use Rattle.smt_arithmetic.proofs.Least.{overflow_is}
+use Rattle.smt_meaning.specs.Operators.{apply}
+use Rattle.smt_meaning.specs.Tables.{Interpretation}
+use Rattle.smt_meaning.specs.TypeValues.{IsValue, Enums}
 use Rattle.smt_semantics.specs.Value.{operator_value}
 use Rattle.smt_lines.specs.NameTables.{Tables}
 use Rattle.smt_carrying.specs.Carry.{carry}

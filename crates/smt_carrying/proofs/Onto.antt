@@ -8,19 +8,19 @@ use Rattle.std.specs.Cmp.Derive.{both_true}
 use Rattle.std.specs.declared.cmp.Ordering.TheVariants.{Less, Equal}
 use Rattle.std.proofs.lemmas.Bool.{leb-true, leb-false, ltb-true, eqb-true}
 use Rattle.std.proofs.lemmas.Slice.Eq.{bytes_eq-Decides}
-use Rattle.smt_term.specs.Plain.{ExtensionKind, IpAddrKind, DecimalKind, DatetimeKind, DurationKind, PlainType, OptionType, BitVecType, BoolType, EntityType, ExtensionType, StringType, RecordType, SetType, AttributeTypes, no_attributes, attribute, PlainExtension, DecimalOf, DatetimeOf, DurationOf}
-use Rattle.smt_term.specs.Values.{Value, EntityValue, Values, no_values, one_value}
+use Rattle.smt_meaning.specs.Plain.{ExtensionKind, IpAddrKind, DecimalKind, DatetimeKind, DurationKind, PlainType, OptionType, BitVecType, BoolType, EntityType, ExtensionType, StringType, RecordType, SetType, AttributeTypes, no_attributes, attribute, PlainExtension, DecimalOf, DatetimeOf, DurationOf}
+use Rattle.smt_meaning.specs.Values.{Value, EntityValue, Values, no_values, one_value}
 use Rattle.smt_semantics.specs.ScriptValues.{ScriptValue, TruthOf, BitsOf, TextOf, ConstructorOf, SetOf, ScriptValues, no_script_values, one_script_value}
-use Rattle.smt_term.specs.TypeValues.{is_code_point, greatest_code_point, IsValue, AreFieldValues, IsExtension, IsId, IsLong, IsPrefix, AreCodePoints, Enums, members_of}
-use Rattle.smt_term.specs.ValueOrder.{list_of_values, text_cmp, value_cmp, ascends, is_below}
-use Rattle.smt_term.proofs.ValueOrder.{text_itself, bytes_itself}
-use Rattle.smt_bits.specs.BitVectors.{is_negative, bits_of, signed}
-use Rattle.smt_bits.specs.Widths.{is_width, are_bits}
-use Rattle.smt_bits.proofs.TwosComplement.{signed_has_its_bits}
-use Rattle.smt_sexpr.specs.Lexicon.{Name, Number}
+use Rattle.smt_meaning.specs.TypeValues.{is_code_point, greatest_code_point, IsValue, AreFieldValues, IsExtension, IsId, IsLong, IsPrefix, AreCodePoints, Enums, members_of}
+use Rattle.smt_meaning.specs.ValueOrder.{list_of_values, text_cmp, value_cmp, ascends, is_below}
+use Rattle.smt_meaning.proofs.ValueOrder.{text_itself, bytes_itself}
+use Rattle.smt_arithmetic.specs.BitVectors.{is_negative, bits_of, signed}
+use Rattle.smt_arithmetic.specs.Widths.{is_width, are_bits}
+use Rattle.smt_arithmetic.proofs.TwosComplement.{signed_has_its_bits}
+use Rattle.smt_lexicon.specs.Lexicon.{Name, Number}
 use Rattle.smt_semantics.specs.ScriptOrder as script
 use Rattle.smt_semantics.specs.ScriptOrder.{order}
-use Rattle.smt_sexpr.specs.Reading.{Expression, Leaf, Node, Expressions, Nil, Cons}
+use Rattle.smt_lexicon.specs.Reading.{Expression, Leaf, Node, Expressions, Nil, Cons}
 use Rattle.smt_semantics.specs.Script.{Entry, Builds, name, ◌>>=◌}
 use Rattle.smt_semantics.specs.Sorts.{Entries, string_sort, bit_sort, same_sort, listed_sorts, paired, instance, fields_at, constructor_fields, has_sort_in, have_sorts_in, all_have_sort_in, option_sort}
 use Rattle.smt_lines.specs.Entries.{attribute_sorts}

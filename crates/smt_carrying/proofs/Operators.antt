@@ -4,17 +4,17 @@ use Rattle.std.specs.Prelude.{not, nat_le, Option, Some, None}
 use Rattle.std.specs.Bool.{then_some}
 use Rattle.std.specs.Cmp.{first_so, second_so}
 use Rattle.std.proofs.lemmas.Bool.{eq-eqb}
-use Rattle.smt_term.specs.Plain.{PlainType, BitVecType, BoolType, StringType, SetType, PlainOp, AndOp, BvaddOp, BvlshrOp, BvmulOp, BvnegOp, BvnegoOp, BvsaddoOp, BvsdivOp, BvshlOp, BvsleOp, BvsltOp, BvsmodOp, BvsmuloOp, BvsremOp, BvssuboOp, BvsubOp, BvudivOp, BvuleOp, BvultOp, BvuremOp, EqOp, ExtOp, IteOp, NotOp, OptionGetOp, OrOp, RecordGetOp, SetInterOp, SetMemberOp, SetSubsetOp, StringLikeOp, UufOp, ZeroExtendOp, PatternPart}
-use Rattle.smt_term.specs.Values.{Value, BoolValue, BitVecValue, StringValue, SetValue}
+use Rattle.smt_meaning.specs.Plain.{PlainType, BitVecType, BoolType, StringType, SetType, PlainOp, AndOp, BvaddOp, BvlshrOp, BvmulOp, BvnegOp, BvnegoOp, BvsaddoOp, BvsdivOp, BvshlOp, BvsleOp, BvsltOp, BvsmodOp, BvsmuloOp, BvsremOp, BvssuboOp, BvsubOp, BvudivOp, BvuleOp, BvultOp, BvuremOp, EqOp, ExtOp, IteOp, NotOp, OptionGetOp, OrOp, RecordGetOp, SetInterOp, SetMemberOp, SetSubsetOp, StringLikeOp, UufOp, ZeroExtendOp, PatternPart}
+use Rattle.smt_meaning.specs.Values.{Value, BoolValue, BitVecValue, StringValue, SetValue}
 use Rattle.smt_semantics.specs.ScriptValues.{TruthOf, BitsOf, SetOf}
-use Rattle.smt_bits.specs.BitVectors as bits
-use Rattle.smt_term.specs.Operators.{truth, to_bits, to_truth, elements, is_member, is_subset, intersection, characters, apply}
-use Rattle.smt_term.specs.Patterns.{matches}
-use Rattle.smt_term.specs.Tables.{Interpretation}
-use Rattle.smt_term.specs.Types.{type_eq, is_bits, is_set, bits_and_bits, extended_type, result_type}
-use Rattle.smt_term.specs.TypeValues.{IsValue, Enums}
-use Rattle.smt_term.specs.ValueOrder.{value_eq, set_of}
-use Rattle.smt_term.proofs.TypeOrder.{eq_same}
+use Rattle.smt_arithmetic.specs.BitVectors as bits
+use Rattle.smt_meaning.specs.Operators.{truth, to_bits, to_truth, elements, is_member, is_subset, intersection, characters, apply}
+use Rattle.smt_meaning.specs.Patterns.{matches}
+use Rattle.smt_meaning.specs.Tables.{Interpretation}
+use Rattle.smt_meaning.specs.Types.{type_eq, is_bits, is_set, bits_and_bits, extended_type, result_type}
+use Rattle.smt_meaning.specs.TypeValues.{IsValue, Enums}
+use Rattle.smt_meaning.specs.ValueOrder.{value_eq, set_of}
+use Rattle.smt_meaning.proofs.TypeOrder.{eq_same}
 use Rattle.smt_semantics.specs.Value.{on_truth, on_truths, on_two, choice, on_bits, extended, on_two_bits, in_set, on_sets, on_text, operator_value}
 use Rattle.smt_semantics.specs.ScriptOrder as sets
 use Rattle.smt_lines.specs.NameTables.{Tables}
@@ -23,7 +23,7 @@ use Rattle.smt_carrying.specs.CarriedOrder.{AreEnums}
 use Rattle.smt_carrying.specs.CarriedOperators.{AreValues, carry_each, is_script_operator}
 use Rattle.smt_carrying.proofs.Ordered.{same_values}
 use Rattle.smt_carrying.proofs.Sets.{member_carried, subset_carried, intersected}
-use Rattle.smt_term.proofs.Soundness.{inside, chosen}
+use Rattle.smt_meaning.proofs.Soundness.{inside, chosen}
 
 module _ (enums : Enums) (T : List PlainType → List Value → Type 0) where
   unary : ((vs : List Value) → T [] vs) → ((t u : PlainType) (tys : List PlainType) (vs : List Value) → T (t ∷ u ∷ tys) vs)

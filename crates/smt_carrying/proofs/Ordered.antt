@@ -9,15 +9,15 @@ use Rattle.std.specs.Ordering.{nat_cmp, ordering_then, ordering_reverse, is_eq, 
 use Rattle.std.specs.declared.cmp.Ordering.{Ordering}
 use Rattle.std.specs.declared.cmp.Ordering.TheVariants.{Less, Equal, Greater}
 use Rattle.std.proofs.lemmas.Cmp.{nat_cmp_total}
-use Rattle.smt_bits.specs.BitVectors.{bits_of}
-use Rattle.smt_bits.proofs.TwosComplement.{bits_of-pos, bits_of-negsuc}
-use Rattle.smt_term.specs.Plain.{ExtensionKind, IpAddrKind, DecimalKind, DatetimeKind, DurationKind, PlainType, OptionType, BitVecType, BoolType, EntityType, ExtensionType, StringType, RecordType, SetType, AttributeTypes, no_attributes, attribute, PlainExtension, DecimalOf, Ipv4Of, Ipv6Of, DatetimeOf, DurationOf}
-use Rattle.smt_term.specs.Values.{Value, BoolValue, BitVecValue, StringValue, EntityValue, ExtensionValue, NoneValue, SomeValue, RecordValue, SetValue, Values, no_values, one_value, FieldValues, no_field_values, one_field_value}
+use Rattle.smt_arithmetic.specs.BitVectors.{bits_of}
+use Rattle.smt_arithmetic.proofs.TwosComplement.{bits_of-pos, bits_of-negsuc}
+use Rattle.smt_meaning.specs.Plain.{ExtensionKind, IpAddrKind, DecimalKind, DatetimeKind, DurationKind, PlainType, OptionType, BitVecType, BoolType, EntityType, ExtensionType, StringType, RecordType, SetType, AttributeTypes, no_attributes, attribute, PlainExtension, DecimalOf, Ipv4Of, Ipv6Of, DatetimeOf, DurationOf}
+use Rattle.smt_meaning.specs.Values.{Value, BoolValue, BitVecValue, StringValue, EntityValue, ExtensionValue, NoneValue, SomeValue, RecordValue, SetValue, Values, no_values, one_value, FieldValues, no_field_values, one_field_value}
 use Rattle.smt_semantics.specs.ScriptValues.{ScriptValue, BitsOf, TextOf, ConstructorOf, ScriptValues, no_script_values, one_script_value}
-use Rattle.smt_term.specs.TypeValues.{IsValue, AreFieldValues, IsExtension, IsId, IsLong, Enums, members_of}
-use Rattle.smt_term.specs.ValueOrder.{text_cmp, twos_complement_cmp, extension_cmp, value_cmp, values_cmp, field_values_cmp, list_of_values, value_eq, ascends}
+use Rattle.smt_meaning.specs.TypeValues.{IsValue, AreFieldValues, IsExtension, IsId, IsLong, Enums, members_of}
+use Rattle.smt_meaning.specs.ValueOrder.{text_cmp, twos_complement_cmp, extension_cmp, value_cmp, values_cmp, field_values_cmp, list_of_values, value_eq, ascends}
 use Rattle.std.specs.List.{AllByRecursion}
-use Rattle.smt_term.proofs.ValueOrder.{text_itself, value_same}
+use Rattle.smt_meaning.proofs.ValueOrder.{text_itself, value_same}
 use Rattle.std.proofs.lemmas.Bool.{and_from}
 use Rattle.smt_semantics.specs.ScriptOrder as script
 use Rattle.smt_semantics.proofs.Ranks.{same_is_equal}

@@ -5,18 +5,18 @@ use Rattle.std.specs.List.{AllByRecursion}
 use Rattle.std.specs.Ordering.{ordering_reverse, is_eq}
 use Rattle.std.specs.declared.cmp.Ordering.{Ordering}
 use Rattle.std.specs.declared.cmp.Ordering.TheVariants.{Less, Equal, Greater}
-use Rattle.smt_term.specs.Plain.{IpAddrKind, DatetimeKind, DurationKind, PlainType, OptionType, BitVecType, BoolType, ExtensionType, RecordType, AttributeTypes, no_attributes, attribute, ExtensionOp, DatetimeOfBitVecOp, DatetimeValOp, DecimalValOp, DurationOfBitVecOp, DurationValOp, IpAddrV4Op, IpAddrV6Op, IpIsV4Op, IpPrefixV4Op, IpPrefixV6Op, DecimalOf, Ipv4Of, Ipv6Of, DatetimeOf, DurationOf}
-use Rattle.smt_term.specs.Values.{Value, BitVecValue, ExtensionValue, NoneValue, SomeValue, RecordValue, FieldValues, no_field_values, one_field_value}
+use Rattle.smt_meaning.specs.Plain.{IpAddrKind, DatetimeKind, DurationKind, PlainType, OptionType, BitVecType, BoolType, ExtensionType, RecordType, AttributeTypes, no_attributes, attribute, ExtensionOp, DatetimeOfBitVecOp, DatetimeValOp, DecimalValOp, DurationOfBitVecOp, DurationValOp, IpAddrV4Op, IpAddrV6Op, IpIsV4Op, IpPrefixV4Op, IpPrefixV6Op, DecimalOf, Ipv4Of, Ipv6Of, DatetimeOf, DurationOf}
+use Rattle.smt_meaning.specs.Values.{Value, BitVecValue, ExtensionValue, NoneValue, SomeValue, RecordValue, FieldValues, no_field_values, one_field_value}
 use Rattle.smt_semantics.specs.ScriptValues.{BitsOf, ConstructorOf, ScriptValues}
-use Rattle.smt_bits.proofs.TwosComplement.{signed_has_its_bits}
-use Rattle.smt_term.specs.Operators.{field_value, attribute_value, value_inside, prefix_value, apply_extension}
-use Rattle.smt_term.specs.Tables.{Table, Interpretation, value_among, value_at}
-use Rattle.smt_term.specs.Types.{attribute_in, extension_signature}
-use Rattle.smt_term.specs.TypeValues.{IsValue, AreFieldValues, Enums}
-use Rattle.smt_term.specs.ValueOrder.{value_eq, value_cmp}
-use Rattle.smt_term.proofs.ValueOrder.{value_turned, bytes_itself}
-use Rattle.smt_term.specs.Formed.{attribute_names}
-use Rattle.smt_sexpr.specs.Reading.{Expression}
+use Rattle.smt_arithmetic.proofs.TwosComplement.{signed_has_its_bits}
+use Rattle.smt_meaning.specs.Operators.{field_value, attribute_value, value_inside, prefix_value, apply_extension}
+use Rattle.smt_meaning.specs.Tables.{Table, Interpretation, value_among, value_at}
+use Rattle.smt_meaning.specs.Types.{attribute_in, extension_signature}
+use Rattle.smt_meaning.specs.TypeValues.{IsValue, AreFieldValues, Enums}
+use Rattle.smt_meaning.specs.ValueOrder.{value_eq, value_cmp}
+use Rattle.smt_meaning.proofs.ValueOrder.{value_turned, bytes_itself}
+use Rattle.smt_meaning.specs.Formed.{attribute_names}
+use Rattle.smt_lexicon.specs.Reading.{Expression}
 use Rattle.smt_semantics.specs.Script.{Builds}
 use Rattle.smt_semantics.specs.Value as script
 use Rattle.smt_semantics.specs.Value.{in_pairs, in_table, selected, is_built, open_selector, other_value}

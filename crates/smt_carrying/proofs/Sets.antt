@@ -8,14 +8,14 @@ use Rattle.std.specs.List.{AllByRecursion, filter}
 use Rattle.std.specs.Ordering.{match_ordering, is_lt}
 use Rattle.std.specs.declared.cmp.Ordering.{Ordering}
 use Rattle.std.specs.declared.cmp.Ordering.TheVariants.{Less, Equal, Greater}
-use Rattle.smt_term.specs.Plain.{PlainType, SetType}
-use Rattle.smt_term.specs.Values.{Value, Values, no_values, one_value}
+use Rattle.smt_meaning.specs.Plain.{PlainType, SetType}
+use Rattle.smt_meaning.specs.Values.{Value, Values, no_values, one_value}
 use Rattle.smt_semantics.specs.ScriptValues.{ScriptValue, SetOf, no_script_values, one_script_value}
-use Rattle.smt_term.specs.TypeValues.{IsValue, Enums}
-use Rattle.smt_term.specs.ValueOrder.{value_cmp, is_below, ascends, sorted_values, values, list_of_values, set_of}
-use Rattle.smt_term.specs.Operators as terms
-use Rattle.smt_term.proofs.TotalOrder.{values_total}
-use Rattle.smt_term.proofs.SortedValues.{all-sorted}
+use Rattle.smt_meaning.specs.TypeValues.{IsValue, Enums}
+use Rattle.smt_meaning.specs.ValueOrder.{value_cmp, is_below, ascends, sorted_values, values, list_of_values, set_of}
+use Rattle.smt_meaning.specs.Operators as terms
+use Rattle.smt_meaning.proofs.TotalOrder.{values_total}
+use Rattle.smt_meaning.proofs.SortedValues.{all-sorted}
 use Rattle.smt_semantics.specs.ScriptOrder as script
 use Rattle.smt_semantics.specs.ScriptOrder.{order, put}
 use Rattle.smt_semantics.specs.Script.{◌>>=◌}

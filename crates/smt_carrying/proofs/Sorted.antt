@@ -4,17 +4,17 @@ use Rattle.std.specs.Prelude.{codes, bytes_eq, nat_le, nat_lt, ◌==◌, ℤ, Op
 use Rattle.std.specs.Str.{chars}
 use Rattle.std.specs.List.{AllByRecursion, list_all, list_any}
 use Rattle.std.proofs.lemmas.Bool.{leb-false, ltb-false, eq-eqb, and_from}
-use Rattle.smt_bits.specs.BitVectors.{bits_of}
-use Rattle.smt_bits.proofs.BitRanges.{bits_of-below}
-use Rattle.smt_term.specs.Plain.{ExtensionKind, IpAddrKind, DecimalKind, DatetimeKind, DurationKind, PlainType, OptionType, BitVecType, BoolType, EntityType, ExtensionType, StringType, RecordType, SetType, AttributeTypes, no_attributes, attribute, PlainExtension, DecimalOf, Ipv4Of, Ipv6Of, DatetimeOf, DurationOf}
-use Rattle.smt_term.specs.Values.{Value, BoolValue, BitVecValue, StringValue, EntityValue, ExtensionValue, NoneValue, SomeValue, RecordValue, SetValue, Values, no_values, one_value, FieldValues, no_field_values, one_field_value}
+use Rattle.smt_arithmetic.specs.BitVectors.{bits_of}
+use Rattle.smt_arithmetic.proofs.BitRanges.{bits_of-below}
+use Rattle.smt_meaning.specs.Plain.{ExtensionKind, IpAddrKind, DecimalKind, DatetimeKind, DurationKind, PlainType, OptionType, BitVecType, BoolType, EntityType, ExtensionType, StringType, RecordType, SetType, AttributeTypes, no_attributes, attribute, PlainExtension, DecimalOf, Ipv4Of, Ipv6Of, DatetimeOf, DurationOf}
+use Rattle.smt_meaning.specs.Values.{Value, BoolValue, BitVecValue, StringValue, EntityValue, ExtensionValue, NoneValue, SomeValue, RecordValue, SetValue, Values, no_values, one_value, FieldValues, no_field_values, one_field_value}
 use Rattle.smt_semantics.specs.ScriptValues.{ScriptValue, BitsOf, TextOf, ConstructorOf, ScriptValues, no_script_values, one_script_value}
-use Rattle.smt_term.specs.TypeValues.{is_code_point, greatest_code_point, IsValue, AreFieldValues, IsExtension, IsId, IsPrefix, AreCodePoints, Enums, members_of}
-use Rattle.smt_term.specs.ValueOrder.{list_of_values}
-use Rattle.smt_bits.specs.Widths.{is_width, are_bits}
-use Rattle.smt_sexpr.specs.Lexicon.{Name}
+use Rattle.smt_meaning.specs.TypeValues.{is_code_point, greatest_code_point, IsValue, AreFieldValues, IsExtension, IsId, IsPrefix, AreCodePoints, Enums, members_of}
+use Rattle.smt_meaning.specs.ValueOrder.{list_of_values}
+use Rattle.smt_arithmetic.specs.Widths.{is_width, are_bits}
+use Rattle.smt_lexicon.specs.Lexicon.{Name}
 use Rattle.smt_semantics.specs.ScriptOrder as script
-use Rattle.smt_sexpr.specs.Reading.{Expression, Leaf, Node, Expressions, Nil, Cons}
+use Rattle.smt_lexicon.specs.Reading.{Expression, Leaf, Node, Expressions, Nil, Cons}
 use Rattle.smt_semantics.specs.Script.{name, ◌>>=◌}
 use Rattle.smt_semantics.specs.Sorts.{Entries, string_sort, bit_sort, same_sort, paired, instance, instances, fields_at, constructor_fields, has_sort_in, have_sorts_in, all_have_sort_in, option_sort}
 use Rattle.smt_lines.specs.Entries.{attribute_sorts}
@@ -25,7 +25,7 @@ use Rattle.smt_carrying.specs.Carry.{alone, carry_prefix, carry_extension, carry
 use Rattle.smt_carrying.specs.CarriedOrder.{AreEnums}
 use Rattle.smt_carrying.specs.CarriedSorts.{shown_members, shown_entity, shown_kind, shown_option, IsDatatype, DeclaresOption, IsNamed, TypeIsDeclared, AttributesAreDeclared}
 use Rattle.smt_carrying.proofs.Ordered.{stays_sorted}
-use Rattle.smt_term.proofs.ValueOrder.{bytes_itself}
+use Rattle.smt_meaning.proofs.ValueOrder.{bytes_itself}
 use Rattle.std.proofs.lemmas.Slice.Eq.{bytes_eq-Decides}
 use Rattle.smt_semantics.specs.DeclarationLines.{Constructors, at_place}
 

@@ -4,11 +4,11 @@ use Rattle.std.specs.Prelude.{codes, bytes_eq, Option, Some, None, unwrap_or}
 use Rattle.std.specs.List.{AllByRecursion}
 use Rattle.std.proofs.lemmas.Str.{IsUtf8-from_ascii}
 use Rattle.std.proofs.lemmas.Slice.Eq.{bytes_eq-Decides}
-use Rattle.smt_sexpr.specs.Reading.{Expression}
+use Rattle.smt_lexicon.specs.Reading.{Expression}
 use Rattle.smt_semantics.specs.Script.{Constructor, Entry, Builds, Selects, look_up, names_of, names_below}
 use Rattle.smt_semantics.specs.Meanings.{selectors_named, constructors_named}
 use Rattle.smt_semantics.proofs.Grown.{datatypes_declare}
-use Rattle.smt_term.proofs.Soundness.{all-front, all-back}
+use Rattle.smt_meaning.proofs.Soundness.{all-front, all-back}
 use Rattle.smt_semantics.specs.Sorts.{Entries}
 use Rattle.smt_semantics.specs.DeclarationLines.{Declares, Constructors, at_place, shown}
 use Rattle.smt_carrying.specs.CarriedSorts.{IsNoDatatype}

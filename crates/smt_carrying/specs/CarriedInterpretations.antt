@@ -2,15 +2,15 @@
 use Rattle.std.specs.Prelude.{◌≡◌, ℕ, Bool, true, false, ◌&&◌, bytes_eq, codes, if◌then◌else◌, map, List, [], Option, Some, None, IsTrue, ⊤}
 use Rattle.std.specs.List.{AllByRecursion}
 use Rattle.std.specs.Option.{is_some, option_or}
-use Rattle.smt_term.specs.Plain.{IpAddrKind, PlainType, OptionType, BitVecType, BoolType, EntityType, ExtensionType, StringType, RecordType, SetType, PlainFunction, ExtensionOp, IpAddrV4Op, IpAddrV6Op, IpPrefixV4Op, IpPrefixV6Op, PlainOp, ExtOp, OptionGetOp, UufOp, PlainTerm, Application, VariableTerm}
+use Rattle.smt_meaning.specs.Plain.{IpAddrKind, PlainType, OptionType, BitVecType, BoolType, EntityType, ExtensionType, StringType, RecordType, SetType, PlainFunction, ExtensionOp, IpAddrV4Op, IpAddrV6Op, IpPrefixV4Op, IpPrefixV6Op, PlainOp, ExtOp, OptionGetOp, UufOp, PlainTerm, Application, VariableTerm}
 use Rattle.smt_semantics.specs.ScriptValues.{ScriptValue}
-use Rattle.smt_term.specs.Interpretations.{IsInterpretation, Agree}
-use Rattle.smt_term.specs.Reached.{reached_terms, selector_of_extension}
-use Rattle.smt_term.specs.Tables.{Table, Interpretation}
-use Rattle.smt_term.specs.Types.{extension_signature}
-use Rattle.smt_term.specs.TypeValues.{Enums}
-use Rattle.smt_sexpr.specs.Lexicon.{Name, Number}
-use Rattle.smt_sexpr.specs.Reading.{Expression, Leaf, Node, Nil, Cons}
+use Rattle.smt_meaning.specs.Interpretations.{IsInterpretation, Agree}
+use Rattle.smt_meaning.specs.Reached.{reached_terms, selector_of_extension}
+use Rattle.smt_meaning.specs.Tables.{Table, Interpretation}
+use Rattle.smt_meaning.specs.Types.{extension_signature}
+use Rattle.smt_meaning.specs.TypeValues.{Enums}
+use Rattle.smt_lexicon.specs.Lexicon.{Name, Number}
+use Rattle.smt_lexicon.specs.Reading.{Expression, Leaf, Node, Nil, Cons}
 use Rattle.smt_semantics.specs.Sorts.{Entries, has_sort_in, option_sort}
 use Rattle.smt_semantics.specs.Value as script
 use Rattle.smt_semantics.specs.Value.{is_table, are_others}

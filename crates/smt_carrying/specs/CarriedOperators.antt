@@ -1,16 +1,16 @@
 -- Operators of terms and of scripts give what is carried of one another.
 use Rattle.std.specs.Prelude.{◌≡◌, ℕ, ◌-◌, ◌^◌, ◌≤◌, Bool, true, false, codes, map, List, [], ◌∷◌, ◌++◌, Option, Some, IsTrue, ⊤}
 use Rattle.std.specs.List.{AllByRecursion}
-use Rattle.smt_term.specs.Plain.{IpAddrKind, DecimalKind, DatetimeKind, DurationKind, PlainType, OptionType, BitVecType, BoolType, ExtensionType, SetType, RecordType, AttributeTypes, ExtensionOp, DatetimeOfBitVecOp, DatetimeValOp, DecimalValOp, DurationOfBitVecOp, DurationValOp, IpAddrV4Op, IpAddrV6Op, IpIsV4Op, IpPrefixV4Op, IpPrefixV6Op, PlainOp, BvnegoOp, EqOp, ExtOp, OptionGetOp, RecordGetOp, UufOp}
-use Rattle.smt_term.specs.Values.{Value}
+use Rattle.smt_meaning.specs.Plain.{IpAddrKind, DecimalKind, DatetimeKind, DurationKind, PlainType, OptionType, BitVecType, BoolType, ExtensionType, SetType, RecordType, AttributeTypes, ExtensionOp, DatetimeOfBitVecOp, DatetimeValOp, DecimalValOp, DurationOfBitVecOp, DurationValOp, IpAddrV4Op, IpAddrV6Op, IpIsV4Op, IpPrefixV4Op, IpPrefixV6Op, PlainOp, BvnegoOp, EqOp, ExtOp, OptionGetOp, RecordGetOp, UufOp}
+use Rattle.smt_meaning.specs.Values.{Value}
 use Rattle.smt_semantics.specs.ScriptValues.{ScriptValue, BitsOf, SetOf, ConstructorOf, no_script_values}
-use Rattle.smt_term.specs.Types.{result_type, attribute_in, extension_signature}
-use Rattle.smt_term.specs.TypeValues.{IsValue, Enums}
-use Rattle.smt_term.specs.ValueOrder.{set_of}
-use Rattle.smt_term.specs.Tables.{Table, Interpretation, value_at}
-use Rattle.smt_term.specs.Operators.{apply, apply_extension, attribute_value, value_inside}
-use Rattle.smt_term.specs.Formed.{attribute_names}
-use Rattle.smt_sexpr.specs.Reading.{Expression}
+use Rattle.smt_meaning.specs.Types.{result_type, attribute_in, extension_signature}
+use Rattle.smt_meaning.specs.TypeValues.{IsValue, Enums}
+use Rattle.smt_meaning.specs.ValueOrder.{set_of}
+use Rattle.smt_meaning.specs.Tables.{Table, Interpretation, value_at}
+use Rattle.smt_meaning.specs.Operators.{apply, apply_extension, attribute_value, value_inside}
+use Rattle.smt_meaning.specs.Formed.{attribute_names}
+use Rattle.smt_lexicon.specs.Reading.{Expression}
 use Rattle.smt_semantics.specs.Script.{Builds}
 use Rattle.smt_semantics.specs.Value as script
 use Rattle.smt_semantics.specs.Value.{operator_value, inserted, in_table, selected, is_built}

@@ -1,10 +1,10 @@
 -- Carrying keeps the order of the values of one type.
 use Rattle.std.specs.Prelude.{◌≡◌, ℕ, List, IsTrue, IsUtf8}
 use Rattle.std.specs.List.{AllByRecursion}
-use Rattle.smt_term.specs.Plain.{PlainType, SetType}
-use Rattle.smt_term.specs.Values.{Value, SetValue, Values}
-use Rattle.smt_term.specs.TypeValues.{IsValue, Enums}
-use Rattle.smt_term.specs.ValueOrder.{text_cmp, value_cmp, value_eq, ascends}
+use Rattle.smt_meaning.specs.Plain.{PlainType, SetType}
+use Rattle.smt_meaning.specs.Values.{Value, SetValue, Values}
+use Rattle.smt_meaning.specs.TypeValues.{IsValue, Enums}
+use Rattle.smt_meaning.specs.ValueOrder.{text_cmp, value_cmp, value_eq, ascends}
 use Rattle.smt_semantics.specs.ScriptOrder.{order, same}
 use Rattle.smt_semantics.specs.ScriptOrder as script
 use Rattle.smt_lines.specs.NameTables.{Tables}

@@ -1,10 +1,10 @@
 -- The sorts of types in a script, what it declares for them, and the values of these sorts carried back.
 use Rattle.std.specs.Prelude.{◌≡◌, ℕ, ◌≤◌, false, bytes_eq, codes, List, [], ◌∷◌, Option, Some, IsTrue, ⊤}
-use Rattle.smt_term.specs.Plain.{ExtensionKind, PlainType, OptionType, BitVecType, BoolType, EntityType, ExtensionType, StringType, RecordType, SetType, AttributeTypes, no_attributes, attribute}
-use Rattle.smt_term.specs.Values.{Value}
+use Rattle.smt_meaning.specs.Plain.{ExtensionKind, PlainType, OptionType, BitVecType, BoolType, EntityType, ExtensionType, StringType, RecordType, SetType, AttributeTypes, no_attributes, attribute}
+use Rattle.smt_meaning.specs.Values.{Value}
 use Rattle.smt_semantics.specs.ScriptValues.{ScriptValue}
-use Rattle.smt_term.specs.TypeValues.{IsValue, Enums, members_of}
-use Rattle.smt_sexpr.specs.Reading.{Expression}
+use Rattle.smt_meaning.specs.TypeValues.{IsValue, Enums, members_of}
+use Rattle.smt_lexicon.specs.Reading.{Expression}
 use Rattle.smt_semantics.specs.Script.{Builds}
 use Rattle.smt_semantics.specs.Sorts.{Entries, has_sort_in}
 use Rattle.smt_lines.specs.NameTables.{Tables}

@@ -1,9 +1,9 @@
 -- Values of terms carried to values of a script, and back.
 use Rattle.std.specs.Prelude.{ℕ, zero, suc, pos, false, if◌then◌else◌, bytes_eq, codes, chars, map, List, [], ◌∷◌, Option, Some, None}
-use Rattle.smt_bits.specs.BitVectors.{bits_of, signed}
-use Rattle.smt_term.specs.Plain.{ExtensionKind, IpAddrKind, DecimalKind, DatetimeKind, DurationKind, PlainType, OptionType, BitVecType, BoolType, EntityType, ExtensionType, StringType, RecordType, SetType, AttributeTypes, attribute, PlainExtension, DecimalOf, Ipv4Of, Ipv6Of, DatetimeOf, DurationOf}
-use Rattle.smt_term.specs.Values.{Value, BoolValue, BitVecValue, StringValue, EntityValue, ExtensionValue, NoneValue, SomeValue, RecordValue, SetValue, Values, no_values, one_value, FieldValues, no_field_values, one_field_value}
-use Rattle.smt_term.specs.TypeValues.{Enums, members_of}
+use Rattle.smt_arithmetic.specs.BitVectors.{bits_of, signed}
+use Rattle.smt_meaning.specs.Plain.{ExtensionKind, IpAddrKind, DecimalKind, DatetimeKind, DurationKind, PlainType, OptionType, BitVecType, BoolType, EntityType, ExtensionType, StringType, RecordType, SetType, AttributeTypes, attribute, PlainExtension, DecimalOf, Ipv4Of, Ipv6Of, DatetimeOf, DurationOf}
+use Rattle.smt_meaning.specs.Values.{Value, BoolValue, BitVecValue, StringValue, EntityValue, ExtensionValue, NoneValue, SomeValue, RecordValue, SetValue, Values, no_values, one_value, FieldValues, no_field_values, one_field_value}
+use Rattle.smt_meaning.specs.TypeValues.{Enums, members_of}
 use Rattle.smt_semantics.specs.ScriptValues.{ScriptValue, TruthOf, BitsOf, TextOf, ConstructorOf, SetOf, ScriptValues, no_script_values, one_script_value}
 use Rattle.smt_lines.specs.EntryNames.{place_of, kind_name, v4_name, v6_name, enum_member}
 use Rattle.smt_lines.specs.NameTables.{Tables}

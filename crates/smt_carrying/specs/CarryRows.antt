@@ -1,8 +1,8 @@
 -- Values and interpretations that are carried.
 use Rattle.std.specs.Prelude.{◌≡◌, ℕ, codes, true, false, Some, List, [], ◌∷◌}
-use Rattle.smt_term.specs.Plain.{PlainType, BoolType, EntityType, RecordType, OptionType, SetType, no_attributes, attribute}
-use Rattle.smt_term.specs.Tables.{Table, Interpretation}
-use Rattle.smt_term.specs.Values.{Value, BoolValue, EntityValue, RecordValue, one_field_value, no_field_values}
+use Rattle.smt_meaning.specs.Plain.{PlainType, BoolType, EntityType, RecordType, OptionType, SetType, no_attributes, attribute}
+use Rattle.smt_meaning.specs.Tables.{Table, Interpretation}
+use Rattle.smt_meaning.specs.Values.{Value, BoolValue, EntityValue, RecordValue, one_field_value, no_field_values}
 use Rattle.smt_semantics.specs.ScriptValues.{TruthOf, ConstructorOf, no_script_values, one_script_value}
 use Rattle.smt_lines.specs.Naming.{type_sort}
 use Rattle.smt_lines.specs.Text.{names}

@@ -1,8 +1,8 @@
 -- That what carrying asks of a script can be met, and is met by what its declarations leave.
 use Rattle.std.specs.Prelude.{◌≡◌, ℕ, true, codes, length, List, [], ◌∷◌, Some, unwrap_or, ⊤}
 use Rattle.std.specs.List.{AllByRecursion}
-use Rattle.smt_term.specs.Plain.{OptionType, EntityType}
-use Rattle.smt_term.specs.TypeValues.{Enums}
+use Rattle.smt_meaning.specs.Plain.{OptionType, EntityType}
+use Rattle.smt_meaning.specs.TypeValues.{Enums}
 use Rattle.smt_semantics.specs.Script.{Constructor, DeclareDatatype, Entry, Builds, State, start, run, look_up, names_of, with_sort}
 use Rattle.smt_semantics.specs.Meanings.{constructors_named, with_names, names_in, are_new}
 use Rattle.smt_semantics.specs.Sorts.{entries}

@@ -2,10 +2,10 @@
 -- names a value or a table of its sort.
 use Rattle.std.specs.Prelude.{◌≡◌, ◌⊎◌, ℕ, codes, List, [], ◌∷◌, Option, Some, None, IsTrue, ⊤}
 use Rattle.std.specs.List.{AllByRecursion}
-use Rattle.smt_term.specs.Plain.{PlainType, PlainFunction, ExtensionOp, ExtOp, OptionGetOp, UufOp, PlainTerm, PlainTerms, Application, VariableTerm}
-use Rattle.smt_term.specs.Reached.{reached_terms}
-use Rattle.smt_term.specs.Types.{extension_signature}
-use Rattle.smt_sexpr.specs.Reading.{Expression}
+use Rattle.smt_meaning.specs.Plain.{PlainType, PlainFunction, ExtensionOp, ExtOp, OptionGetOp, UufOp, PlainTerm, PlainTerms, Application, VariableTerm}
+use Rattle.smt_meaning.specs.Reached.{reached_terms}
+use Rattle.smt_meaning.specs.Types.{extension_signature}
+use Rattle.smt_lexicon.specs.Reading.{Expression}
 use Rattle.smt_semantics.specs.Script.{Entry, Constant, Function, Selects, State, name, names_of}
 use Rattle.smt_semantics.specs.Sorts.{entries, option_sort}
 use Rattle.smt_semantics.specs.Value as script

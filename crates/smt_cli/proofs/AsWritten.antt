@@ -2,21 +2,21 @@
 use Rattle.std.proofs.Common.{◌≡◌, List, [], ◌∷◌, map, sym, ◌∙◌, subst}
 use Rattle.std.specs.List.{AllByRecursion, AllZip}
 use Rattle.std.specs.Prelude.{◌↔◌}
-use Rattle.smt_term.specs.Formed.{IsFormed}
-use Rattle.smt_term.specs.Interpretations.{Agree, GiveSame, GiveSameOp, IsGiven, IsGivenOp, IsInterpretation, IsTable, IsOfOtherFamily, restrict}
-use Rattle.smt_term.specs.Meaning.{term_value}
-use Rattle.smt_term.specs.Plain.{PlainType, ExtensionType, BoolType, IpAddrKind, ExtensionOp, IpAddrV4Op, IpAddrV6Op, IpPrefixV4Op, IpPrefixV6Op, PlainOp, ExtOp, OptionGetOp, UufOp, PlainTerm, Application, VariableTerm}
-use Rattle.smt_term.specs.Reached.{reached_terms}
-use Rattle.smt_term.specs.Tables.{Interpretation, Table}
-use Rattle.smt_term.specs.Types.{extension_signature}
-use Rattle.smt_term.specs.Typing.{AreBoolean, AreTyped}
-use Rattle.smt_term.specs.TypeValues.{Enums, IsValue}
-use Rattle.smt_term.proofs.Agreement.{restricted, same_values}
-use Rattle.smt_term.specs.Values.{Value}
-use Rattle.smt_factory.specs.Built.{built}
-use Rattle.smt_factory.specs.Refinement.{Refines}
-use Rattle.smt_factory.proofs.BuiltTerms.{built_stands}
-use Rattle.smt_factory.proofs.Records.{interpretations, values}
+use Rattle.smt_meaning.specs.Formed.{IsFormed}
+use Rattle.smt_meaning.specs.Interpretations.{Agree, GiveSame, GiveSameOp, IsGiven, IsGivenOp, IsInterpretation, IsTable, IsOfOtherFamily, restrict}
+use Rattle.smt_meaning.specs.Meaning.{term_value}
+use Rattle.smt_meaning.specs.Plain.{PlainType, ExtensionType, BoolType, IpAddrKind, ExtensionOp, IpAddrV4Op, IpAddrV6Op, IpPrefixV4Op, IpPrefixV6Op, PlainOp, ExtOp, OptionGetOp, UufOp, PlainTerm, Application, VariableTerm}
+use Rattle.smt_meaning.specs.Reached.{reached_terms}
+use Rattle.smt_meaning.specs.Tables.{Interpretation, Table}
+use Rattle.smt_meaning.specs.Types.{extension_signature}
+use Rattle.smt_meaning.specs.Typing.{AreBoolean, AreTyped}
+use Rattle.smt_meaning.specs.TypeValues.{Enums, IsValue}
+use Rattle.smt_meaning.proofs.Agreement.{restricted, same_values}
+use Rattle.smt_meaning.specs.Values.{Value}
+use Rattle.smt_folding.specs.Built.{built}
+use Rattle.smt_folding.specs.Refinement.{Refines}
+use Rattle.smt_folding.proofs.BuiltTerms.{built_stands}
+use Rattle.smt_folding.proofs.Records.{interpretations, values}
 use Rattle.smt_semantics.specs.Value.{IsModel}
 use Rattle.smt_lines.specs.Text.{names, text}
 use Rattle.smt_carrying.specs.CarriedInterpretations.{carry_interpretation}

@@ -6,7 +6,7 @@ use Rattle.std.specs.declared.alloc.Global.{Global}
 use Rattle.std.specs.declared.rc.RcStr.{RcStr}
 use Rattle.std.proofs.lemmas.Bool.{cases_Bool, false≢true}
 use Rattle.std.proofs.lemmas.Slice.Eq.{bytes_eq-Decides}
-use Rattle.smt_term.specs.Plain.{PlainType}
+use Rattle.smt_meaning.specs.Plain.{PlainType}
 use Rattle.smt_term.specs.View.{plain_type}
 use Rattle.smt_term.specs.declared.types.TermType.{TermType}
 use Rattle.smt_lines.proofs.Making.{lookup_new, lookup_other}

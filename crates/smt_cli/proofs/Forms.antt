@@ -3,18 +3,18 @@ use Rattle.std.proofs.Common.{◌≡◌, ℕ, ◌-◌, ◌<◌, Bool, true, fals
 use Rattle.std.proofs.lemmas.List.{take_all}
 use Rattle.std.specs.Prelude.{IfSome, IsErrAnd, if◌then◌else◌, is_some}
 use Rattle.smt_semantics.specs.Script.{◌>>=◌}
-use Rattle.smt_term.specs.Formed.{IsFormed}
-use Rattle.smt_term.specs.Plain.{PlainType, BoolType, PlainOp, NotOp, PlainTerm, Application, terms}
-use Rattle.smt_term.specs.Types.{result_type, type_eq, type_of}
-use Rattle.smt_term.specs.Typing.{AreTyped}
+use Rattle.smt_meaning.specs.Formed.{IsFormed}
+use Rattle.smt_meaning.specs.Plain.{PlainType, BoolType, PlainOp, NotOp, PlainTerm, Application, terms}
+use Rattle.smt_meaning.specs.Types.{result_type, type_eq, type_of}
+use Rattle.smt_meaning.specs.Typing.{AreTyped}
 use Rattle.smt_term.specs.View.{plain_term, plain_term-Var}
 use Rattle.smt_term.specs.declared.term.Term.{Term, Var}
 use Rattle.smt_term.specs.declared.term.TermVar.{TermVar}
 use Rattle.smt_term.proofs.FormedTerms.{terms_are_formed}
-use Rattle.smt_factory.specs.Built.{built, built_all, folded}
-use Rattle.smt_factory.proofs.BuiltTerms.{built_stands}
-use Rattle.smt_factory.proofs.Standing.{same_type}
-use Rattle.smt_sexpr.specs.Reading.{Expression, Expressions, Node}
+use Rattle.smt_folding.specs.Built.{built, built_all, folded}
+use Rattle.smt_folding.proofs.BuiltTerms.{built_stands}
+use Rattle.smt_folding.proofs.Standing.{same_type}
+use Rattle.smt_lexicon.specs.Reading.{Expression, Expressions, Node}
 use Rattle.smt_sexpr.specs.View.{plain}
 use Rattle.smt_sexpr.specs.declared.expression.SExpr.{SExpr}
 use Rattle.smt_cli.specs.Job.{Variables, applied, condition_of, headed_term, name_in, operator_named, other_terms, term_of, terms_of, variable_stated}

@@ -6,11 +6,11 @@ use Rattle.std.proofs.lemmas.Bool.{cases_Bool}
 use Rattle.std.proofs.lemmas.List.{at_drop_more, at_drop_all, map-append}
 use Rattle.std.proofs.lemmas.Slice.Eq.{bytes_eq-Decides}
 use Rattle.smt_semantics.specs.Script.{◌>>=◌}
-use Rattle.smt_factory.specs.Built.{built}
-use Rattle.smt_term.specs.Plain.{PlainTerm, PlainType}
+use Rattle.smt_folding.specs.Built.{built}
+use Rattle.smt_meaning.specs.Plain.{PlainTerm, PlainType}
 use Rattle.smt_term.specs.View.{plain_term}
 use Rattle.smt_term.specs.declared.term.Term.{Term}
-use Rattle.smt_sexpr.specs.Reading.{Expression, Expressions, Nil, Cons}
+use Rattle.smt_lexicon.specs.Reading.{Expression, Expressions, Nil, Cons}
 use Rattle.smt_sexpr.specs.View.{plain}
 use Rattle.smt_sexpr.specs.declared.expression.SExpr.{SExpr}
 use Rattle.smt_cli.specs.Job.{Variables, condition_of, conditions_of, declared_by, term_of, terms_of, variable_of}

@@ -3,8 +3,8 @@ use Rattle.std.proofs.Common.{◌≡◌, ℕ, Bool, true, false, List, [], ◌�
 use Rattle.std.specs.Prelude.{IfSome, Option, Some, if◌then◌else◌}
 use Rattle.std.specs.Map.{lookup}
 use Rattle.std.proofs.lemmas.Slice.Eq.{bytes_eq-Decides}
-use Rattle.smt_term.specs.Names.{op_name}
-use Rattle.smt_term.specs.Plain.{PlainOp}
+use Rattle.smt_meaning.specs.Names.{op_name}
+use Rattle.smt_meaning.specs.Plain.{PlainOp}
 use Rattle.smt_cli.specs.Job.{OperatorsAreFoundByName, job_operators}
 
 first_has : (n : List ℕ) (o : PlainOp) (b : Bool) (others : Option PlainOp) → bytes_eq n (op_name o) ≡ b → IfSome others (λ p. op_name p ≡ n) → IfSome (if b then Some o else others) (λ p. op_name p ≡ n)

@@ -3,7 +3,7 @@ use Rattle.std.proofs.Common.{◌≡◌, ℕ, ◌<◌, ◌≤◌, true, List, []
 use Rattle.std.specs.Io.KnownBytes.{append_known}
 use Rattle.std.specs.Prelude.{◌⊎◌, IfSome, IsErrOf, OnOk, is_some}
 use Rattle.std.proofs.lemmas.Bool.{false≢true}
-use Rattle.smt_term.specs.Faults.{Fault}
+use Rattle.smt_meaning.specs.Faults.{Fault}
 use Rattle.std.specs.Rc.{rc_str_bytes}
 use Rattle.std.specs.declared.alloc.Global.{Global}
 use Rattle.std.specs.declared.rc.RcStr.{RcStr}
@@ -11,8 +11,8 @@ use Rattle.smt_lines.specs.Text.{names, text}
 use Rattle.smt_script.specs.SharedTexts.{texts}
 use Rattle.smt_headline.specs.Headline.{Headline}
 use Rattle.std.specs.List.{AllByRecursion}
-use Rattle.smt_term.specs.Typing.{AreBoolean}
-use Rattle.smt_factory.specs.Built.{built}
+use Rattle.smt_meaning.specs.Typing.{AreBoolean}
+use Rattle.smt_folding.specs.Built.{built}
 use Rattle.smt_cli.proofs.AsWritten.{as_written, built_booleans}
 use Rattle.smt_cli.proofs.TypedJobs.{IsCondition, job_conditions, jobs_are_faultless}
 use Rattle.smt_script.specs.Sink.{Rose}

@@ -6,8 +6,8 @@ use Rattle.std.proofs.lemmas.Str.{IsUtf8-string_bytes, encodes-chars}
 use Rattle.std.specs.Rc.{rc_str_bytes}
 use Rattle.std.specs.declared.alloc.Global.{Global}
 use Rattle.std.specs.declared.rc.RcStr.{RcStr}
-use Rattle.smt_term.specs.Plain.{PlainType}
-use Rattle.smt_sexpr.specs.Reading.{Expression, Node, Nil, Cons}
+use Rattle.smt_meaning.specs.Plain.{PlainType}
+use Rattle.smt_lexicon.specs.Reading.{Expression, Node, Nil, Cons}
 use Rattle.smt_sexpr.specs.View.{items_of, plain, plain-App, plain-String}
 use Rattle.smt_sexpr.specs.declared.expression.SExpr.{SExpr, App, String}
 use Rattle.smt_sexpr.specs.declared.expression.SExprs.{SExprs}

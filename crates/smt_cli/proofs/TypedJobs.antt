@@ -7,24 +7,24 @@ use Rattle.std.specs.Ordering.{is_eq}
 use Rattle.std.specs.Prelude.{if◌then◌else◌, nat_le, nat_lt, IfSome}
 use Rattle.std.proofs.lemmas.Bool.{and_parts, leb-true, ltb-true}
 use Rattle.smt_semantics.specs.Script.{◌>>=◌}
-use Rattle.smt_bits.specs.BitVectors.{bits_of}
-use Rattle.smt_bits.specs.Widths.{are_bits, is_width}
-use Rattle.smt_bits.proofs.BitRanges as ranges
-use Rattle.smt_term.specs.Faults.{attribute_types_fault, first_fault, is_passed_over, operator_fault, term_fault, terms_fault, type_fault, unless}
-use Rattle.smt_term.specs.Formed.{IsFormed, IsFormedNode, IsFormedType}
-use Rattle.smt_term.specs.Plain.{PlainType, OptionType, RecordType, SetType, AttributeTypes, no_attributes, attribute, RecordGetOp, StringLikeOp, UufOp, BitVecType, BoolType, PlainOp, AndOp, BvaddOp, BvlshrOp, BvmulOp, BvnegOp, BvnegoOp, BvsaddoOp, BvsdivOp, BvshlOp, BvsleOp, BvsltOp, BvsmodOp, BvsmuloOp, BvsremOp, BvssuboOp, BvsubOp, BvudivOp, BvuleOp, BvultOp, BvuremOp, EqOp, IteOp, NotOp, OrOp, ZeroExtendOp, BitVecLiteral, PlainTerm, Application, LiteralTerm, VariableTerm, terms}
-use Rattle.smt_term.specs.Reached.{subterms, subterms_of_all}
-use Rattle.smt_term.specs.Types.{extended_type, result_type, type_eq, type_of, types_of}
-use Rattle.smt_term.specs.Typing.{Typed, typed, typed_all}
-use Rattle.smt_term.proofs.Defaults.{all-join}
-use Rattle.smt_term.proofs.Soundness.{chosen}
-use Rattle.smt_term.proofs.TypeOrder.{eq_same, type_itself}
-use Rattle.smt_term.proofs.TypedArguments.{listed}
-use Rattle.smt_factory.proofs.Standing.{last_type}
-use Rattle.smt_factory.proofs.BuiltFaults.{built_faultless}
-use Rattle.smt_factory.specs.Built.{built}
-use Rattle.smt_factory.specs.Applications.{truth_literal}
-use Rattle.smt_sexpr.specs.Reading.{Expression, Leaf, Node, Expressions, Nil, Cons}
+use Rattle.smt_arithmetic.specs.BitVectors.{bits_of}
+use Rattle.smt_arithmetic.specs.Widths.{are_bits, is_width}
+use Rattle.smt_arithmetic.proofs.BitRanges as ranges
+use Rattle.smt_meaning.specs.Faults.{attribute_types_fault, first_fault, is_passed_over, operator_fault, term_fault, terms_fault, type_fault, unless}
+use Rattle.smt_meaning.specs.Formed.{IsFormed, IsFormedNode, IsFormedType}
+use Rattle.smt_meaning.specs.Plain.{PlainType, OptionType, RecordType, SetType, AttributeTypes, no_attributes, attribute, RecordGetOp, StringLikeOp, UufOp, BitVecType, BoolType, PlainOp, AndOp, BvaddOp, BvlshrOp, BvmulOp, BvnegOp, BvnegoOp, BvsaddoOp, BvsdivOp, BvshlOp, BvsleOp, BvsltOp, BvsmodOp, BvsmuloOp, BvsremOp, BvssuboOp, BvsubOp, BvudivOp, BvuleOp, BvultOp, BvuremOp, EqOp, IteOp, NotOp, OrOp, ZeroExtendOp, BitVecLiteral, PlainTerm, Application, LiteralTerm, VariableTerm, terms}
+use Rattle.smt_meaning.specs.Reached.{subterms, subterms_of_all}
+use Rattle.smt_meaning.specs.Types.{extended_type, result_type, type_eq, type_of, types_of}
+use Rattle.smt_meaning.specs.Typing.{Typed, typed, typed_all}
+use Rattle.smt_meaning.proofs.Defaults.{all-join}
+use Rattle.smt_meaning.proofs.Soundness.{chosen}
+use Rattle.smt_meaning.proofs.TypeOrder.{eq_same, type_itself}
+use Rattle.smt_meaning.proofs.Listed.{listed}
+use Rattle.smt_folding.proofs.Standing.{last_type}
+use Rattle.smt_folding.proofs.BuiltFaults.{built_faultless}
+use Rattle.smt_folding.specs.Built.{built}
+use Rattle.smt_folding.specs.Applications.{truth_literal}
+use Rattle.smt_lexicon.specs.Reading.{Expression, Leaf, Node, Expressions, Nil, Cons}
 use Rattle.smt_cli.specs.Run.{fault_of}
 use Rattle.smt_cli.specs.Job.{IsJob, PlainJob, Variables, applied, bits_stated_as, bits_stated, bits_type, condition_of, conditions_of, declared_by, declared_variable, empty_section, extension_by, extension_stated, first_in, headed_term, job_of_sections, bits_term, long_in, long_of_text, name_in, named_operators, number_in, operator_named, other_terms, section, sole, term_of, terms_of, text_in, type_declared, type_named, type_of_expression, unless_declared, variable_of}
 

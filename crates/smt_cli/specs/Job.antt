@@ -7,18 +7,18 @@
 use Rattle.std.specs.Prelude.{ℕ, ◌≤◌, ◌≡◌, ◌==◌, Bool, true, false, not, ◌&&◌, nat_le, ℤ, bytes_eq, codes, if◌then◌else◌, length, map, encode_utf8_all, List, [], ◌∷◌, ◌++◌, Option, Some, None, IfSome}
 use Rattle.std.specs.List.{AllByRecursion}
 use Rattle.std.specs.Map.{lookup}
-use Rattle.smt_bits.specs.BitVectors.{bits_of, overflows}
-use Rattle.smt_bits.specs.Widths.{are_bits, is_width}
+use Rattle.smt_arithmetic.specs.BitVectors.{bits_of, overflows}
+use Rattle.smt_arithmetic.specs.Widths.{are_bits, is_width}
 use Rattle.smt_ext.specs.Digits.{is_numeral, decimal_number, signed_number}
-use Rattle.smt_factory.specs.Applications.{false_term, true_term}
-use Rattle.smt_factory.specs.Built.{built}
-use Rattle.smt_term.specs.Names.{op_name}
-use Rattle.smt_term.specs.Plain.{PlainType, BitVecType, BoolType, PlainOp, AndOp, BvaddOp, BvlshrOp, BvmulOp, BvnegOp, BvnegoOp, BvsaddoOp, BvsdivOp, BvshlOp, BvsleOp, BvsltOp, BvsmodOp, BvsmuloOp, BvsremOp, BvssuboOp, BvsubOp, BvudivOp, BvuleOp, BvultOp, BvuremOp, EqOp, IteOp, NotOp, OrOp, ZeroExtendOp, BitVecLiteral, PlainTerm, Application, LiteralTerm, VariableTerm, terms}
-use Rattle.smt_term.specs.Types.{result_type, type_eq, type_of}
-use Rattle.smt_term.specs.TypeValues.{Enums}
-use Rattle.smt_sexpr.specs.Lexicon.{Name, Number, Text}
-use Rattle.smt_sexpr.specs.PlainTexts.{IsPlainRead}
-use Rattle.smt_sexpr.specs.Reading.{Expression, Leaf, Node, Expressions, Nil, Cons}
+use Rattle.smt_folding.specs.Applications.{false_term, true_term}
+use Rattle.smt_folding.specs.Built.{built}
+use Rattle.smt_meaning.specs.Names.{op_name}
+use Rattle.smt_meaning.specs.Plain.{PlainType, BitVecType, BoolType, PlainOp, AndOp, BvaddOp, BvlshrOp, BvmulOp, BvnegOp, BvnegoOp, BvsaddoOp, BvsdivOp, BvshlOp, BvsleOp, BvsltOp, BvsmodOp, BvsmuloOp, BvsremOp, BvssuboOp, BvsubOp, BvudivOp, BvuleOp, BvultOp, BvuremOp, EqOp, IteOp, NotOp, OrOp, ZeroExtendOp, BitVecLiteral, PlainTerm, Application, LiteralTerm, VariableTerm, terms}
+use Rattle.smt_meaning.specs.Types.{result_type, type_eq, type_of}
+use Rattle.smt_meaning.specs.TypeValues.{Enums}
+use Rattle.smt_lexicon.specs.Lexicon.{Name, Number, Text}
+use Rattle.smt_lexicon.specs.PlainTexts.{IsPlainRead}
+use Rattle.smt_lexicon.specs.Reading.{Expression, Leaf, Node, Expressions, Nil, Cons}
 use Rattle.smt_semantics.specs.Script.{◌>>=◌}
 
 -- a job without where it lies in memory: its enum types, the declared variables with their types, and its terms as written

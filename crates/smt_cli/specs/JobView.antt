@@ -2,9 +2,9 @@
 use Rattle.std.specs.Prelude.{ℕ, ◌≡◌, ◌≤◌, drop, length, List, [], ◌∷◌, ◌++◌, map, option_map, Option, Some, None, Ok, Err, Result, ⊤}
 use Rattle.std.specs.Rc.{rc_str_bytes}
 use Rattle.smt_term.specs.Enums.{enums_of}
-use Rattle.smt_factory.specs.Built.{built}
-use Rattle.smt_term.specs.Plain.{PlainTerm, PlainType}
-use Rattle.smt_term.specs.Typing.{AreTyped}
+use Rattle.smt_folding.specs.Built.{built}
+use Rattle.smt_meaning.specs.Plain.{PlainTerm, PlainType}
+use Rattle.smt_meaning.specs.Typing.{AreTyped}
 use Rattle.smt_term.specs.View.{plain_items, plain_op, plain_term, plain_type}
 use Rattle.smt_term.specs.declared.term.Term.{Term}
 use Rattle.smt_term.specs.declared.term.TermVar.{TermVar}
@@ -15,7 +15,7 @@ use Rattle.std.specs.declared.cmp.Ordering.{Ordering}
 use Rattle.std.specs.declared.alloc.Global.{Global}
 use Rattle.std.specs.declared.rc.RcStr.{RcStr}
 use Rattle.smt_semantics.specs.Script.{◌>>=◌}
-use Rattle.smt_sexpr.specs.Reading.{Expressions, Node, expressions}
+use Rattle.smt_lexicon.specs.Reading.{Expressions, Node, expressions}
 use Rattle.smt_sexpr.specs.View.{plain}
 use Rattle.smt_sexpr.specs.declared.expression.SExpr.{SExpr}
 use Rattle.smt_cli.specs.Job.{PlainJob, Variables, applied, headed_term, other_terms, term_of, terms_of, type_declared}

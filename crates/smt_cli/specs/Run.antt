@@ -1,11 +1,11 @@
 -- What a run is asked for, what it does, and what it says.
 use Rattle.std.specs.Prelude.{ℕ, ◌≡◌, ◌↔◌, ◌≤◌, ◌<◌, ◌⊎◌, ⊤, length, map, if◌then◌else◌, bytes_eq, codes, IfSome, IsErrOf, IsTrue, is_some, List, [], ◌∷◌, Option, Some, None, Result}
 use Rattle.std.specs.Io.KnownBytes.{append_known}
-use Rattle.smt_term.specs.Faults.{Fault, EncodeStringFailed as StringFault, EncodePatternFailed as PatternFault, first_fault}
-use Rattle.smt_term.specs.Plain.{PatternPart}
-use Rattle.smt_term.specs.Interpretations.{IsInterpretation, restrict}
-use Rattle.smt_term.specs.Tables.{Interpretation}
-use Rattle.smt_factory.specs.Built.{built}
+use Rattle.smt_meaning.specs.Faults.{Fault, EncodeStringFailed as StringFault, EncodePatternFailed as PatternFault, first_fault}
+use Rattle.smt_meaning.specs.Plain.{PatternPart}
+use Rattle.smt_meaning.specs.Interpretations.{IsInterpretation, restrict}
+use Rattle.smt_meaning.specs.Tables.{Interpretation}
+use Rattle.smt_folding.specs.Built.{built}
 use Rattle.smt_semantics.specs.Value.{IsModel}
 use Rattle.smt_carrying.specs.CarriedInterpretations.{carry_interpretation}
 use Rattle.smt_headline.specs.Headline.{AreTrue, Headline}

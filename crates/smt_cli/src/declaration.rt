@@ -2,7 +2,7 @@
 ghost use Rattle.std.specs.Prelude.{◌≡◌, ◌++◌, ◌∷◌, [], None, IfOk, IfSome, OnOk, IsOkUnless, map, option_map};
 ghost use Rattle.std.specs.Rc.{rc_str_bytes};
 ghost use Rattle.smt_sexpr.specs.View.{plain};
-ghost use Rattle.smt_sexpr.specs.Reading.{expressions};
+ghost use Rattle.smt_lexicon.specs.Reading.{expressions};
 ghost use Rattle.smt_term.specs.View.{plain_type};
 ghost use Rattle.smt_cli.specs.Job.{Variables, bits_type, declared_by, type_declared, type_named, type_of_expression, variable_of};
 ghost use Rattle.smt_cli.specs.JobView as view;

@@ -1,7 +1,7 @@
 // The parts of expressions that jobs are made of.
 ghost use Rattle.std.specs.Prelude.{◌≡◌, None, Some, if◌then◌else◌, option_map};
 ghost use Rattle.std.specs.Rc.{rc_str_bytes};
-ghost use Rattle.smt_sexpr.specs.Reading.{Nil};
+ghost use Rattle.smt_lexicon.specs.Reading.{Nil};
 ghost use Rattle.smt_sexpr.specs.View.{plain};
 ghost use Rattle.smt_cli.specs.Job as expressions_in;
 ghost use Rattle.smt_cli.specs.Job.{empty_section};

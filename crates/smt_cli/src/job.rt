@@ -1,7 +1,7 @@
 // Jobs: declarations and terms in one S-expression.
 ghost use Rattle.std.specs.Prelude.{◌≡◌, ◌<◌, ◌↔◌, ◌++◌, ◌∷◌, [], IfOk, OnOk, OnErr, IsErrOf, map, option_map, length};
 ghost use Rattle.smt_sexpr.specs.View.{plain};
-ghost use Rattle.smt_sexpr.specs.Reading.{expressions};
+ghost use Rattle.smt_lexicon.specs.Reading.{expressions};
 ghost use Rattle.smt_cli.specs.Job as job;
 ghost use Rattle.smt_cli.specs.Job.{IsBuiltFrom, IsJob, PlainJob, built_job, greatest_length, job_of};
 ghost use Rattle.smt_cli.specs.JobView as view;

@@ -1,8 +1,8 @@
 // Operators by their names, and what is built for them.
 ghost use Rattle.std.specs.Prelude.{◌≡◌, ◌∷◌, [], Some, IfOk, IsTrue, is_some, map, option_map};
-ghost use Rattle.smt_factory.specs.Built.{folded};
-ghost use Rattle.smt_term.specs.Plain.{PlainType};
-ghost use Rattle.smt_term.specs.Types.{result_type, type_of};
+ghost use Rattle.smt_folding.specs.Built.{folded};
+ghost use Rattle.smt_meaning.specs.Plain.{PlainType};
+ghost use Rattle.smt_meaning.specs.Types.{result_type, type_of};
 ghost use Rattle.smt_term.specs.View.{plain_op, plain_term};
 ghost use Rattle.smt_cli.specs.Job.{operator_named};
 

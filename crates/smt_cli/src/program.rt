@@ -2,8 +2,8 @@
 ghost use Rattle.std.specs.Prelude.{◌≡◌, ◌<◌, ◌⊎◌, ◌↔◌, [], Err, Some, None, IfOk, IfSome, IsErrOf, OnErr, OnOk, option_map};
 ghost use Rattle.std.specs.Io.KnownBytes.{append_known};
 ghost use Rattle.smt_term.specs.Enums.{enums_of};
-ghost use Rattle.smt_term.specs.Faults.{first_fault};
-ghost use Rattle.smt_term.specs.Typing.{AreBoolean};
+ghost use Rattle.smt_meaning.specs.Faults.{first_fault};
+ghost use Rattle.smt_meaning.specs.Typing.{AreBoolean};
 ghost use Rattle.smt_term.specs.View.{plain_items};
 ghost use Rattle.smt_headline.specs.Headline.{Headline};
 ghost use Rattle.smt_lines.specs.Text.{names, text};

@@ -1,8 +1,8 @@
 // Terms as jobs write them, and as they are built: each application is folded, its operands first.
 ghost use Rattle.std.specs.Prelude.{◌≡◌, ◌≤◌, ◌+◌, List, IfOk, OnOk, length, map, option_map};
-ghost use Rattle.smt_factory.specs.Built.{built};
+ghost use Rattle.smt_folding.specs.Built.{built};
 ghost use Rattle.smt_sexpr.specs.View.{plain};
-ghost use Rattle.smt_term.specs.Plain.{PlainTerm};
+ghost use Rattle.smt_meaning.specs.Plain.{PlainTerm};
 ghost use Rattle.smt_term.specs.View.{plain_items, plain_op, plain_term};
 ghost use Rattle.smt_cli.specs.Job as job;
 ghost use Rattle.smt_cli.specs.Job.{Variables, applied, bits_stated_as, bits_stated, condition_of, conditions_of, declared_variable, extension_by, extension_stated, bits_term, long_in, long_of_text, long_stated, term_of, variable_stated};

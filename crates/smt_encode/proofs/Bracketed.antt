@@ -2,7 +2,7 @@
 use Rattle.std.proofs.Common.{◌≡◌, ℕ, List, [], ◌∷◌, ◌++◌, map, refl, sym, ap, ◌∙◌, append_assoc}
 use Rattle.std.specs.Prelude.{codes}
 use Rattle.std.specs.List.{flat_map, join_by}
-use Rattle.smt_sexpr.specs.Reading.{Expression, expressions}
+use Rattle.smt_lexicon.specs.Reading.{Expression, expressions}
 use Rattle.smt_semantics.specs.Script.{group}
 use Rattle.smt_lines.specs.Spelling.{spelled, spelled_others, spelled_operands}
 

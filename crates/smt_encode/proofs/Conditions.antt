@@ -4,11 +4,11 @@ use Rattle.std.specs.Prelude.{unwrap_or, Result, Ok, Err, OnOk}
 use Rattle.std.specs.Io.KnownBytes.{append_known}
 use Rattle.std.specs.List.{AllByRecursion}
 use Rattle.smt_term.specs.Enums.{enums_of}
-use Rattle.smt_term.specs.Faults.{first_fault}
-use Rattle.smt_term.specs.Formed.{IsFormed}
-use Rattle.smt_term.specs.Plain.{PlainTerm}
-use Rattle.smt_term.specs.TypeValues.{Enums}
-use Rattle.smt_term.specs.Typing.{AreBoolean}
+use Rattle.smt_meaning.specs.Faults.{first_fault}
+use Rattle.smt_meaning.specs.Formed.{IsFormed}
+use Rattle.smt_meaning.specs.Plain.{PlainTerm}
+use Rattle.smt_meaning.specs.TypeValues.{Enums}
+use Rattle.smt_meaning.specs.Typing.{AreBoolean}
 use Rattle.smt_term.specs.View.{plain_term}
 use Rattle.smt_term.specs.declared.enums.EnumTable.{EnumTable}
 use Rattle.smt_term.specs.declared.term.Term.{Term}

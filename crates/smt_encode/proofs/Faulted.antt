@@ -2,10 +2,10 @@
 use Rattle.std.proofs.Common.{◌≡◌, Bool, true, false, List, [], ◌∷◌, refl, sym, ap, ◌∙◌, subst, Some, None, Ok, Err, Result}
 use Rattle.std.specs.Prelude.{IsErrOf, IsOkUnless, OnOk}
 use Rattle.std.specs.Option.{option_or}
-use Rattle.smt_term.specs.Faults.{Fault, first_fault, is_passed_over, operator_fault, term_fault, terms_fault, type_fault, unless}
-use Rattle.smt_term.specs.Plain.{PlainType, BoolType, PlainOp, BvnegoOp, PlainTerm, PlainTerms, terms, Application}
-use Rattle.smt_term.specs.TypeValues.{Enums}
-use Rattle.smt_term.specs.Types.{type_of, types_of}
+use Rattle.smt_meaning.specs.Faults.{Fault, first_fault, is_passed_over, operator_fault, term_fault, terms_fault, type_fault, unless}
+use Rattle.smt_meaning.specs.Plain.{PlainType, BoolType, PlainOp, BvnegoOp, PlainTerm, PlainTerms, terms, Application}
+use Rattle.smt_meaning.specs.TypeValues.{Enums}
+use Rattle.smt_meaning.specs.Types.{type_of, types_of}
 use Rattle.smt_term.specs.View.{plain_op}
 use Rattle.smt_term.specs.declared.op.Op.{Op}
 use Rattle.smt_encode.specs.Refusals.{Finds, fault_of}

@@ -4,8 +4,8 @@ use Rattle.std.specs.Rc.{rc_str_bytes}
 use Rattle.std.specs.declared.alloc.Global.{Global}
 use Rattle.std.specs.declared.rc.RcStr.{RcStr}
 use Rattle.std.proofs.lemmas.List.{map-append}
-use Rattle.smt_sexpr.specs.Reading.{Expression}
-use Rattle.smt_term.specs.Plain.{PlainTerm, terms}
+use Rattle.smt_lexicon.specs.Reading.{Expression}
+use Rattle.smt_meaning.specs.Plain.{PlainTerm, terms}
 use Rattle.smt_lines.specs.Line.{Line}
 use Rattle.smt_lines.specs.Lines.{Enums, Written, encode_term, encode_terms}
 use Rattle.smt_lines.specs.NameTables.{Tables}

@@ -1,6 +1,6 @@
 -- What is stated of an operator that the program has: its head is written by itself, without a line.
 use Rattle.std.proofs.Common.{◌≡◌, refl}
-use Rattle.smt_term.specs.Plain.{PlainTerms}
+use Rattle.smt_meaning.specs.Plain.{PlainTerms}
 use Rattle.smt_term.specs.View.{plain_op}
 use Rattle.smt_term.specs.declared.op.Op.{Op}
 use Rattle.smt_term.specs.declared.op.Op.TheVariants.{And}

@@ -5,7 +5,7 @@ use Rattle.std.specs.Io.KnownBytes.{append_known}
 use Rattle.std.specs.BTreeMap.{get, btree_map_len}
 use Rattle.std.specs.Prelude.{codes, option_map}
 use Rattle.std.specs.Rc.{rc_str_bytes}
-use Rattle.smt_term.specs.Plain.{PlainTerm}
+use Rattle.smt_meaning.specs.Plain.{PlainTerm}
 use Rattle.smt_term.specs.contracts.term.TermOrd.TheImpl as term_order
 use Rattle.smt_lines.specs.Line.{Line, spelled_line, spelled_lines}
 use Rattle.smt_lines.specs.Lines.{Written, option_line, ◌>>=◌}

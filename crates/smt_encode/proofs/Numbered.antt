@@ -2,7 +2,7 @@
 use Rattle.std.proofs.Common.{◌≡◌, ℕ, ◌^◌, ◌<◌, ◌≤◌, ◌++◌, [], refl, sym, ap, ◌∙◌, append_assoc, append-nil, arith}
 use Rattle.std.proofs.Math.Pow.{pow_mono}
 use Rattle.std.specs.Prelude.{codes, decimal}
-use Rattle.smt_term.specs.Plain.{ZeroExtendOp}
+use Rattle.smt_meaning.specs.Plain.{ZeroExtendOp}
 use Rattle.smt_semantics.specs.Sorts.{bit_sort}
 use Rattle.smt_lines.specs.LineForms.{operator_head}
 use Rattle.smt_lines.specs.Lines.{bits}

@@ -8,9 +8,9 @@ use Rattle.std.specs.Rc.{rc_str_bytes}
 use Rattle.std.specs.declared.alloc.Global.{Global}
 use Rattle.std.specs.declared.rc.RcStr.{RcStr}
 use Rattle.std.proofs.lemmas.List.{map-append}
-use Rattle.smt_term.specs.Plain.{PatternPart}
-use Rattle.smt_term.specs.TypeValues.{is_code_point}
-use Rattle.smt_sexpr.specs.Reading.{Expression}
+use Rattle.smt_meaning.specs.Plain.{PatternPart}
+use Rattle.smt_meaning.specs.TypeValues.{is_code_point}
+use Rattle.smt_lexicon.specs.Reading.{Expression}
 use Rattle.smt_semantics.specs.WrittenStrings.{part_expr, pattern_expr}
 use Rattle.smt_semantics.specs.Script.{name}
 use Rattle.smt_lines.specs.LineForms.{empty_set, set_body}

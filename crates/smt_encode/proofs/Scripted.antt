@@ -6,8 +6,8 @@ use Rattle.std.specs.Rc.{rc_str_bytes}
 use Rattle.std.specs.declared.alloc.Global.{Global}
 use Rattle.std.specs.declared.rc.RcStr.{RcStr}
 use Rattle.std.proofs.lemmas.List.{map-append}
-use Rattle.smt_term.specs.Plain.{PlainTerm, terms}
-use Rattle.smt_sexpr.specs.Reading.{Expression}
+use Rattle.smt_meaning.specs.Plain.{PlainTerm, terms}
+use Rattle.smt_lexicon.specs.Reading.{Expression}
 use Rattle.smt_lines.specs.Line.{Line, Assert, spelled_lines}
 use Rattle.smt_lines.specs.Lines.{Enums, encode, encode_terms, option_line}
 use Rattle.smt_lines.specs.NameTables.{Tables, no_names}

@@ -3,10 +3,10 @@ use Rattle.std.proofs.Common.{◌≡◌, ℕ, false, List, [], refl, sym, ap, �
 use Rattle.std.specs.Rc.{rc_str_bytes}
 use Rattle.std.specs.declared.alloc.Global.{Global}
 use Rattle.std.specs.declared.rc.RcStr.{RcStr}
-use Rattle.smt_sexpr.specs.Reading.{Expression}
+use Rattle.smt_lexicon.specs.Reading.{Expression}
 use Rattle.smt_semantics.specs.Script.{name}
-use Rattle.smt_term.specs.Plain.{PlainType, PlainTerm, PlainTerms, Application, NoneTerm, SetTerm, SomeTerm, VariableTerm}
-use Rattle.smt_term.specs.Types.{type_of}
+use Rattle.smt_meaning.specs.Plain.{PlainType, PlainTerm, PlainTerms, Application, NoneTerm, SetTerm, SomeTerm, VariableTerm}
+use Rattle.smt_meaning.specs.Types.{type_of}
 use Rattle.smt_term.specs.View.{plain_op, plain_type, plain_term, plain_row, plain_variable}
 use Rattle.smt_term.specs.declared.op.Op.{Op}
 use Rattle.smt_term.specs.declared.term.Term.{Term, App', None as Nothing, Prim, Set', Some', Var}

@@ -9,22 +9,22 @@ use Rattle.std.specs.Rc.{rc_str_bytes}
 use Rattle.std.specs.declared.alloc.Global.{Global}
 use Rattle.std.specs.declared.rc.RcStr.{RcStr}
 use Rattle.std.proofs.lemmas.Bool.{cases_Bool, false≢true}
-use Rattle.smt_term.specs.Faults.{term_fault}
-use Rattle.smt_term.specs.Plain.{PlainTerm}
-use Rattle.smt_term.specs.TermOrder.{term_cmp, term_eq}
-use Rattle.smt_term.specs.TypeValues.{Enums}
+use Rattle.smt_meaning.specs.Faults.{term_fault}
+use Rattle.smt_meaning.specs.Plain.{PlainTerm}
+use Rattle.smt_meaning.specs.TermOrder.{term_cmp, term_eq}
+use Rattle.smt_meaning.specs.TypeValues.{Enums}
 use Rattle.smt_term.specs.View.{plain_term}
 use Rattle.smt_term.specs.contracts.term.TermOrd.TheImpl as term_order
 use Rattle.smt_term.specs.declared.term.Term.{Term}
 use Rattle.smt_term.proofs.DerivedOrder.{term_cmp-is}
 use Rattle.smt_term.proofs.DerivedEquality.{term_itself}
-use Rattle.smt_term.proofs.SameTerm.{term_same}
+use Rattle.smt_meaning.proofs.SameTerm.{term_same}
 use Rattle.smt_lines.specs.Lines.{next_term}
 use Rattle.smt_lines.specs.NameTables.{Tables, name_of_term}
 use Rattle.smt_lines.specs.Spelling.{numeral}
 use Rattle.smt_lines.proofs.Making.{lookup_new, lookup_other}
 use Rattle.smt_semantics.proofs.Numerals.{numerals_are_printed}
-use Rattle.smt_term.proofs.TermTotal.{terms_decided}
+use Rattle.smt_meaning.proofs.TermTotal.{terms_decided}
 use Rattle.smt_encode.specs.Encoded.{HasNames}
 use Rattle.smt_encode.specs.Refusals.{HaveNoFaults}
 use Rattle.smt_encode.specs.declared.encoder.Encoder.{Encoder}

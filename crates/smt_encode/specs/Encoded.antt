@@ -6,11 +6,11 @@ use Rattle.std.specs.Rc.{rc_str_bytes}
 use Rattle.std.specs.declared.alloc.Global.{Global}
 use Rattle.std.specs.declared.rc.RcStr.{RcStr}
 use Rattle.smt_term.specs.Enums.{enums_of}
-use Rattle.smt_term.specs.TypeValues.{Enums}
+use Rattle.smt_meaning.specs.TypeValues.{Enums}
 use Rattle.smt_term.specs.View.{plain_term}
 use Rattle.smt_term.specs.contracts.term.TermOrd.TheImpl as term_order
 use Rattle.smt_term.specs.declared.term.Term.{Term}
-use Rattle.smt_sexpr.specs.Reading.{Expression}
+use Rattle.smt_lexicon.specs.Reading.{Expression}
 use Rattle.smt_lines.specs.Line.{Line, spelled_lines}
 use Rattle.smt_lines.specs.Lines.{Written}
 use Rattle.smt_lines.specs.NameTables.{Tables, name_of_term}

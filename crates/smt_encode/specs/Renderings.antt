@@ -2,8 +2,8 @@
 use Rattle.std.specs.Prelude.{Option, None}
 use Rattle.smt_bits.specs.Width.{bits_in}
 use Rattle.std.specs.List.{list_all}
-use Rattle.smt_term.specs.Faults.{Fault, EncodePatternFailed, fault_unless, is_pattern_part}
-use Rattle.smt_term.specs.Plain.{PlainOp, StringLikeOp}
+use Rattle.smt_meaning.specs.Faults.{Fault, EncodePatternFailed, fault_unless, is_pattern_part}
+use Rattle.smt_meaning.specs.Plain.{PlainOp, StringLikeOp}
 use Rattle.smt_lines.specs.Lines as lines
 use Rattle.smt_encode.specs.declared.rendering.Rendering.{Rendering}
 use Rattle.smt_encode.specs.declared.rendering.Rendering.TheVariants.{False, Application, EqualsIntMin}

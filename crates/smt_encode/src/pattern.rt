@@ -6,10 +6,10 @@ ghost use Rattle.smt_encode.specs.Refusals.{Finds};
 ghost use Rattle.smt_lines.specs.Spelling.{spelled};
 ghost use Rattle.smt_semantics.specs.WrittenStrings.{part_expr, pattern_expr};
 ghost use Rattle.smt_semantics.specs.Script.{group, name};
-ghost use Rattle.smt_sexpr.specs.Reading.{Expression};
-ghost use Rattle.smt_term.specs.Faults.{EncodePatternFailed, fault_unless, is_pattern_part};
+ghost use Rattle.smt_lexicon.specs.Reading.{Expression};
+ghost use Rattle.smt_meaning.specs.Faults.{EncodePatternFailed, fault_unless, is_pattern_part};
 ghost use Rattle.smt_term.specs.PatternView.{plain_ord_pattern, plain_part};
-ghost use Rattle.smt_term.specs.Plain.{Character, PatternPart};
+ghost use Rattle.smt_meaning.specs.Plain.{Character, PatternPart};
 ghost use Rattle.std.specs.List.{list_all};
 
 use crate::error::EncodeError;

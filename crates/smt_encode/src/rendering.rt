@@ -11,10 +11,10 @@ ghost use Rattle.smt_lines.specs.LineForms.{application_body, least_body, operat
 ghost use Rattle.smt_lines.specs.Lines as lines;
 ghost use Rattle.smt_lines.specs.Lines.{application_rendering};
 ghost use Rattle.smt_lines.specs.Spelling.{spelled};
-ghost use Rattle.smt_sexpr.specs.Reading.{Expression};
+ghost use Rattle.smt_lexicon.specs.Reading.{Expression};
 ghost use Rattle.smt_semantics.specs.WrittenStrings.{pattern_expr};
-ghost use Rattle.smt_term.specs.Plain.{PatternPart, terms};
-ghost use Rattle.smt_term.specs.Types.{type_of};
+ghost use Rattle.smt_meaning.specs.Plain.{PatternPart, terms};
+ghost use Rattle.smt_meaning.specs.Types.{type_of};
 ghost use Rattle.smt_term.specs.View.{plain_op, plain_term, plain_type};
 
 use crate::error::EncodeError;

@@ -9,14 +9,14 @@ ghost use Rattle.smt_encode.specs.Encoded.{AreSpelled};
 ghost use Rattle.smt_encode.specs.Refusals.{Finds};
 ghost use Rattle.smt_semantics.specs.Meanings.{as_sort};
 ghost use Rattle.smt_semantics.specs.Sorts as sorts;
-ghost use Rattle.smt_sexpr.specs.Reading.{Expression};
-ghost use Rattle.smt_term.specs.Faults.{EncodeStringFailed, fault_unless, is_string};
+ghost use Rattle.smt_lexicon.specs.Reading.{Expression};
+ghost use Rattle.smt_meaning.specs.Faults.{EncodeStringFailed, fault_unless, is_string};
 ghost use Rattle.smt_lines.specs.Lines as lines;
 ghost use Rattle.smt_lines.specs.LineForms.{operator_head, quoted_id, quoted_id_byte, set_body, some_body};
 ghost use Rattle.smt_lines.specs.TermTexts.{string_text};
 ghost use Rattle.smt_lines.specs.Spelling.{spelled};
 ghost use Rattle.smt_semantics.specs.Sorts.{bit_sort};
-ghost use Rattle.smt_term.specs.Plain.{ZeroExtendOp};
+ghost use Rattle.smt_meaning.specs.Plain.{ZeroExtendOp};
 ghost use Rattle.smt_term.specs.View.{plain_op};
 ghost use Rattle.smt_script.specs.SharedTexts.{texts};
 

@@ -1,6 +1,6 @@
 -- Numbers in texts of bytes: decimal digits, a fixed count of them, and a sign.
 use Rattle.std.specs.Prelude.{ℕ, zero, suc, ◌+◌, ◌/◌, ◌%◌, ◌^◌, Bool, true, false, ℤ, pos, neg_ℤ, codes, List, [], ◌∷◌}
-pub use Rattle.smt_bits.specs.Longs.{IsLong}
+pub use Rattle.smt_arithmetic.specs.Longs.{IsLong}
 pub use Rattle.smt_characters.specs.Characters.{is_digit}
 pub use Rattle.smt_characters.specs.Digits.{is_numeral, decimal_number}
 

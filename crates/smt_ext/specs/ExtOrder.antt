@@ -1,7 +1,7 @@
 -- The order of the values of the four types.
 use Rattle.std.specs.Prelude.{◌≡◌}
 use Rattle.std.specs.declared.cmp.Ordering.{Ordering}
-use Rattle.smt_bits.specs.Extensions.{PlainExtension, DecimalOf, DatetimeOf, DurationOf, extension_literal_cmp}
+use Rattle.smt_arithmetic.specs.Extensions.{PlainExtension, DecimalOf, DatetimeOf, DurationOf, extension_literal_cmp}
 use Rattle.smt_ext.specs.declared.ext.Ext.{Ext}
 use Rattle.smt_ext.specs.declared.ext.Ext.TheVariants.{Decimal, Ipaddr, Datetime, Duration}
 use Rattle.smt_ext.specs.IpOrder.{plain_range}

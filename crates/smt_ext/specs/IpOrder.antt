@@ -1,7 +1,7 @@
 -- The order of IP ranges.
 use Rattle.std.specs.declared.cmp.Ordering.{Ordering}
-use Rattle.smt_bits.specs.Extensions.{PlainExtension, Ipv4Of, Ipv6Of, extension_literal_cmp}
-pub use Rattle.smt_bits.specs.Extensions.{prefix_cmp}
+use Rattle.smt_arithmetic.specs.Extensions.{PlainExtension, Ipv4Of, Ipv6Of, extension_literal_cmp}
+pub use Rattle.smt_arithmetic.specs.Extensions.{prefix_cmp}
 use Rattle.smt_ext.specs.IpRanges.{Version4, Version6, Range}
 
 -- the range as a value of extension types

@@ -7,20 +7,20 @@ use Rattle.std.proofs.lemmas.Bool.{eqb-true, eq-eqb, false≢true}
 use Rattle.smt_bits.specs.BitVec.{number_of, width_of}
 use Rattle.smt_bits.specs.declared.bitvec.BitVec.{BitVec}
 use Rattle.smt_bits.specs.declared.error.BitVecError.{BitVecError}
-use Rattle.smt_factory.specs.Applications.{bits_literal, bits_of_two, test_of_two}
-use Rattle.smt_factory.specs.FoldBits.{folded_test}
+use Rattle.smt_folding.specs.Applications.{bits_literal, bits_of_two, test_of_two}
+use Rattle.smt_folding.specs.FoldBits.{folded_test}
 use Rattle.smt_factory.specs.FoldBy.{literal_of, NotTwoLiterals, IsFoldedBy, IsValue, AnswersValues, value_at}
-use Rattle.smt_factory.specs.Refinement.{Refines}
-use Rattle.smt_factory.proofs.BitsStand.{literal_standing, bits_formed, bits_answered}
-use Rattle.smt_factory.proofs.ConnectivesStand.{chosen_type}
-use Rattle.smt_factory.proofs.Standing.{itself}
-use Rattle.smt_term.specs.Operators.{apply, number, width}
-use Rattle.smt_term.specs.Tables.{Interpretation}
-use Rattle.smt_term.specs.Types.{bits_and_bits, is_type, result_type, type_eq}
-use Rattle.smt_term.specs.Typing.{typed}
-use Rattle.smt_term.proofs.TypeOrder.{eq_same}
-use Rattle.smt_term.specs.Plain.{BitVecType, BoolType, PlainOp, BvaddOp, BvlshrOp, BvmulOp, BvsaddoOp, BvsdivOp, BvshlOp, BvsleOp, BvsltOp, BvsmodOp, BvsmuloOp, BvsremOp, BvssuboOp, BvsubOp, BvudivOp, BvuleOp, BvultOp, BvuremOp, EqOp, BitVecLiteral, PlainTerm, LiteralTerm}
-use Rattle.smt_term.specs.Values.{Value, BitVecValue}
+use Rattle.smt_folding.specs.Refinement.{Refines}
+use Rattle.smt_folding.proofs.BitsStand.{literal_standing, bits_formed, bits_answered}
+use Rattle.smt_folding.proofs.ConnectivesStand.{chosen_type}
+use Rattle.smt_folding.proofs.Standing.{itself}
+use Rattle.smt_meaning.specs.Operators.{apply, number, width}
+use Rattle.smt_meaning.specs.Tables.{Interpretation}
+use Rattle.smt_meaning.specs.Types.{bits_and_bits, is_type, result_type, type_eq}
+use Rattle.smt_meaning.specs.Typing.{typed}
+use Rattle.smt_meaning.proofs.TypeOrder.{eq_same}
+use Rattle.smt_meaning.specs.Plain.{BitVecType, BoolType, PlainOp, BvaddOp, BvlshrOp, BvmulOp, BvsaddoOp, BvsdivOp, BvshlOp, BvsleOp, BvsltOp, BvsmodOp, BvsmuloOp, BvsremOp, BvssuboOp, BvsubOp, BvudivOp, BvuleOp, BvultOp, BvuremOp, EqOp, BitVecLiteral, PlainTerm, LiteralTerm}
+use Rattle.smt_meaning.specs.Values.{Value, BitVecValue}
 
 -- ---- typed applications from bits to bits have arguments of one width
 

@@ -4,11 +4,11 @@ use Rattle.std.specs.Prelude.{Result, Ok}
 use Rattle.std.specs.List.{AllZip}
 use Rattle.std.proofs.lemmas.List.{at_drop_more, at_drop_all}
 use Rattle.smt_factory.specs.AnyOf.{IsAnswer, IsAnyOf, GivesRefinements}
-use Rattle.smt_factory.specs.Applications.{any_of}
-use Rattle.smt_factory.specs.FoldConnectives.{folded_or, folded_any, folded_any_from}
-use Rattle.smt_factory.specs.Refinement.{Refines}
-use Rattle.smt_factory.proofs.ConnectivesStand.{stands_any}
-use Rattle.smt_term.specs.Plain.{PlainTerm}
+use Rattle.smt_folding.specs.Applications.{any_of}
+use Rattle.smt_folding.specs.FoldConnectives.{folded_or, folded_any, folded_any_from}
+use Rattle.smt_folding.specs.Refinement.{Refines}
+use Rattle.smt_folding.proofs.ConnectivesStand.{stands_any}
+use Rattle.smt_meaning.specs.Plain.{PlainTerm}
 use Rattle.smt_term.specs.View.{plain_term}
 use Rattle.smt_term.specs.declared.error.TermError.{TermError}
 use Rattle.smt_term.specs.declared.term.Term.{Term}

@@ -3,18 +3,19 @@ use Rattle.std.proofs.Common.{◌≡◌, Bool, true, false, List, [], ◌∷◌,
 use Rattle.std.specs.Prelude.{Ok, Result}
 use Rattle.std.specs.List.{AllZip, list_any}
 use Rattle.smt_factory.specs.AnyOf.{IsAnswer, GivesBooleans, IsTrueWhereOneIs}
-use Rattle.smt_factory.specs.Applications.{false_term, true_term, truth_literal}
-use Rattle.smt_factory.specs.FoldRows.{AnyRows, truths}
+use Rattle.smt_folding.specs.Applications.{false_term, true_term, truth_literal}
+use Rattle.smt_factory.specs.AnyRows.{AnyRows}
+use Rattle.smt_folding.specs.FoldRows.{truths}
 use Rattle.smt_factory.proofs.AnyTruth.{true_where_one_is}
-use Rattle.smt_term.specs.Defaults.{default_interpretation}
-use Rattle.smt_term.specs.Interpretations.{IsInterpretation}
-use Rattle.smt_term.specs.Meaning.{term_value}
-use Rattle.smt_term.specs.Operators.{truth}
-use Rattle.smt_term.specs.Plain.{BoolType, PlainTerm}
-use Rattle.smt_term.specs.Tables.{Interpretation}
-use Rattle.smt_term.specs.Typing.{Typed}
-use Rattle.smt_term.specs.TypeValues.{Enums}
-use Rattle.smt_term.specs.Values.{BoolValue}
+use Rattle.smt_meaning.specs.Defaults.{default_interpretation}
+use Rattle.smt_meaning.specs.Interpretations.{IsInterpretation}
+use Rattle.smt_meaning.specs.Meaning.{term_value}
+use Rattle.smt_meaning.specs.Operators.{truth}
+use Rattle.smt_meaning.specs.Plain.{BoolType, PlainTerm}
+use Rattle.smt_meaning.specs.Tables.{Interpretation}
+use Rattle.smt_meaning.specs.Typing.{Typed}
+use Rattle.smt_meaning.specs.TypeValues.{Enums}
+use Rattle.smt_meaning.specs.Values.{BoolValue}
 use Rattle.smt_term.specs.View.{plain_term, plain_term-Prim}
 use Rattle.smt_term.specs.declared.error.TermError.{TermError}
 use Rattle.smt_term.specs.declared.term.Term.{Term, Prim}

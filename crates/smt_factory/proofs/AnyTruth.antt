@@ -3,24 +3,24 @@ use Rattle.std.proofs.Common.{List, [], ◌∷◌, refl, ◌∙◌, sym, subst}
 use Rattle.std.specs.Prelude.{Result}
 use Rattle.std.specs.List.{AllByRecursion, AllZip}
 use Rattle.smt_factory.specs.AnyOf.{IsAnswer, GivesBooleans, IsAnyOf, IsTrueWhereOneIs}
-use Rattle.smt_factory.specs.Applications.{any_of, any_of_from, false_term, or_of}
-use Rattle.smt_factory.specs.Refinement.{Refines}
-use Rattle.smt_factory.proofs.ConnectivesStand.{any_is_true, is_both_boolean, stands_any}
-use Rattle.smt_factory.proofs.ReachingLists.{ReachesOnly, all_reached, reach_no_more, stands_within}
-use Rattle.smt_factory.proofs.Records.{HasFormedType}
-use Rattle.smt_factory.proofs.Standing.{itself}
-use Rattle.smt_term.specs.Formed.{IsFormedNode, IsFormed}
-use Rattle.smt_term.specs.Interpretations.{IsGiven, IsInterpretation}
-use Rattle.smt_term.specs.Plain.{BoolType, PlainTerm, terms}
-use Rattle.smt_term.specs.Reached.{subterms, subterms_of_all}
-use Rattle.smt_term.specs.Tables.{Interpretation}
-use Rattle.smt_term.specs.Typing.{Typed, AreBoolean}
-use Rattle.smt_term.specs.TypeValues.{Enums}
+use Rattle.smt_folding.specs.Applications.{any_of, any_of_from, false_term, or_of}
+use Rattle.smt_folding.specs.Refinement.{Refines}
+use Rattle.smt_folding.proofs.ConnectivesStand.{any_is_true, is_both_boolean, stands_any}
+use Rattle.smt_folding.proofs.ReachingLists.{ReachesOnly, all_reached, reach_no_more, stands_within}
+use Rattle.smt_folding.proofs.Records.{HasFormedType}
+use Rattle.smt_folding.proofs.Standing.{itself}
+use Rattle.smt_meaning.specs.Formed.{IsFormedNode, IsFormed}
+use Rattle.smt_meaning.specs.Interpretations.{IsGiven, IsInterpretation}
+use Rattle.smt_meaning.specs.Plain.{BoolType, PlainTerm, terms}
+use Rattle.smt_meaning.specs.Reached.{subterms, subterms_of_all}
+use Rattle.smt_meaning.specs.Tables.{Interpretation}
+use Rattle.smt_meaning.specs.Typing.{Typed, AreBoolean}
+use Rattle.smt_meaning.specs.TypeValues.{Enums}
 use Rattle.smt_term.specs.declared.error.TermError.{TermError}
 use Rattle.smt_term.specs.declared.term.Term.{Term}
-use Rattle.smt_term.proofs.Defaults.{all-join}
+use Rattle.smt_meaning.proofs.Defaults.{all-join}
 use Rattle.smt_term.proofs.FormedTerms.{terms_are_formed}
-use Rattle.smt_term.proofs.Soundness.{all-front, all-back}
+use Rattle.smt_meaning.proofs.Soundness.{all-front, all-back}
 
 -- ---- the disjunction of Boolean terms
 

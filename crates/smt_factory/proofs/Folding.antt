@@ -1,19 +1,19 @@
 -- What the code's tests decide, in the words of the foldings.
 use Rattle.std.proofs.Common.{◌≡◌, ℕ, ◌+◌, ◌%◌, ◌^◌, ◌<◌, true, false, None, Some, refl, ap, ◌∙◌, sym, subst}
 use Rattle.std.proofs.Math.Nat.{mod-eq_of_lt}
-use Rattle.smt_bits.specs.BitVectors as bits
-use Rattle.smt_bits.proofs.BitRanges as ranges
-use Rattle.smt_factory.specs.Applications.{false_term, not_of, and_of, or_of, implies_of, eq_of, ite_of, bvneg_of, bvnego_of, test_of_two, zero_extend_of}
-use Rattle.smt_factory.specs.FoldBits.{folded_bvneg, folded_bvnego, folded_zero_extend, folded_bvsaddo, folded_bvssubo, folded_bvsmulo}
-use Rattle.smt_factory.specs.FoldConnectives.{folded_not, is_negation, folded_and, folded_or, folded_implies}
-use Rattle.smt_factory.specs.FoldEquality.{folded_eq, folded_eq_inside, folded_ite, folded_ite_inside}
-use Rattle.smt_factory.specs.Parts.{are_some, are_some_and_none, held, is_none_term, negated}
-use Rattle.smt_factory.specs.Refinement.{Refines}
-use Rattle.smt_factory.proofs.BitsStand.{stands_bvneg, stands_bvnego, stands_test, stands_zero_extend}
-use Rattle.smt_factory.proofs.ConnectivesStand.{stands_not, stands_and, stands_or, stands_implies}
-use Rattle.smt_factory.proofs.EqualityStands.{stands_eq, stands_ite}
-use Rattle.smt_term.specs.Plain.{BvsaddoOp, BvsmuloOp, BvssuboOp, NotOp, PlainTerm, Application, NoneTerm, SomeTerm, no_terms, one_term}
-use Rattle.smt_term.specs.TermOrder.{term_eq}
+use Rattle.smt_arithmetic.specs.BitVectors as bits
+use Rattle.smt_arithmetic.proofs.BitRanges as ranges
+use Rattle.smt_folding.specs.Applications.{false_term, not_of, and_of, or_of, implies_of, eq_of, ite_of, bvneg_of, bvnego_of, test_of_two, zero_extend_of}
+use Rattle.smt_folding.specs.FoldBits.{folded_bvneg, folded_bvnego, folded_zero_extend, folded_bvsaddo, folded_bvssubo, folded_bvsmulo}
+use Rattle.smt_folding.specs.FoldConnectives.{folded_not, is_negation, folded_and, folded_or, folded_implies}
+use Rattle.smt_folding.specs.FoldEquality.{folded_eq, folded_eq_inside, folded_ite, folded_ite_inside}
+use Rattle.smt_folding.specs.Parts.{are_some, are_some_and_none, held, is_none_term, negated}
+use Rattle.smt_folding.specs.Refinement.{Refines}
+use Rattle.smt_folding.proofs.BitsStand.{stands_bvneg, stands_bvnego, stands_test, stands_zero_extend}
+use Rattle.smt_folding.proofs.ConnectivesStand.{stands_not, stands_and, stands_or, stands_implies}
+use Rattle.smt_folding.proofs.EqualityStands.{stands_eq, stands_ite}
+use Rattle.smt_meaning.specs.Plain.{BvsaddoOp, BvsmuloOp, BvssuboOp, NotOp, PlainTerm, Application, NoneTerm, SomeTerm, no_terms, one_term}
+use Rattle.smt_meaning.specs.TermOrder.{term_eq}
 use Rattle.smt_term.specs.View.{views, plain_term-App, plain_type-Option, plain_type-Bitvec, plain_type-Bool, plain_type-String, plain_type-Set}
 use Rattle.smt_term.proofs.DerivedEquality.{eq-is}
 

@@ -1,16 +1,16 @@
 -- What the code's tests of options decide, in the words of the foldings.
 use Rattle.std.proofs.Common.{◌≡◌, true, false, List, [], ◌∷◌, refl, ap, ◌∙◌, sym, subst}
 use Rattle.std.specs.Prelude.{Option, Some, None}
-use Rattle.smt_factory.specs.Applications.{false_term, option_get_of, is_none_of, is_some_of, if_false_of, if_true_of, if_some_of, if_all_some_of, type_inside}
-use Rattle.smt_factory.specs.FoldConnectives.{folded_not}
-use Rattle.smt_factory.specs.FoldEquality.{folded_eq, folded_ite}
-use Rattle.smt_factory.specs.FoldOptions.{folded_option_get, folded_is_none_by_type, none_by_branches, none_by_arguments, none_by_form, folded_is_none, folded_is_some, folded_if_false, folded_if_true, folded_unless, folded_if_some, folded_if_all_some}
-use Rattle.smt_factory.specs.Parts.{held, is_none_term}
-use Rattle.smt_factory.specs.Refinement.{Refines}
-use Rattle.smt_factory.proofs.OptionsStand.{stands_option_get, stands_is_none, stands_is_some, stands_if_false, stands_if_true, stands_if_some, stands_if_all_some}
-use Rattle.smt_term.proofs.TypedArguments.{listed}
-use Rattle.smt_term.specs.Plain.{PlainType, OptionType, IteOp, OptionGetOp, PlainTerm, Application, NoneTerm, SomeTerm, terms}
-use Rattle.smt_term.specs.Types.{inner_type, type_of}
+use Rattle.smt_folding.specs.Applications.{false_term, option_get_of, is_none_of, is_some_of, if_false_of, if_true_of, if_some_of, if_all_some_of, type_inside}
+use Rattle.smt_folding.specs.FoldConnectives.{folded_not}
+use Rattle.smt_folding.specs.FoldEquality.{folded_eq, folded_ite}
+use Rattle.smt_folding.specs.FoldOptions.{folded_option_get, folded_is_none_by_type, none_by_branches, none_by_arguments, none_by_form, folded_is_none, folded_is_some, folded_if_false, folded_if_true, folded_unless, folded_if_some, folded_if_all_some}
+use Rattle.smt_folding.specs.Parts.{held, is_none_term}
+use Rattle.smt_folding.specs.Refinement.{Refines}
+use Rattle.smt_folding.proofs.OptionsStand.{stands_option_get, stands_is_none, stands_is_some, stands_if_false, stands_if_true, stands_if_some, stands_if_all_some}
+use Rattle.smt_meaning.proofs.Listed.{listed}
+use Rattle.smt_meaning.specs.Plain.{PlainType, OptionType, IteOp, OptionGetOp, PlainTerm, Application, NoneTerm, SomeTerm, terms}
+use Rattle.smt_meaning.specs.Types.{inner_type, type_of}
 
 -- ---- what an option holds
 

@@ -3,24 +3,24 @@ use Rattle.std.proofs.Common.{◌≡◌, ℕ, ◌+◌, ◌<◌, Bool, true, fals
 use Rattle.std.specs.Prelude.{◌↔◌, IsTrue, Option, Some, None, filter}
 use Rattle.std.specs.Str.{chars}
 use Rattle.std.proofs.lemmas.List.{at_drop_more}
-use Rattle.smt_factory.specs.Applications.{truth_literal, false_term, string_like_of, set_member_of, set_subset_of, set_inter_of, set_is_empty_of, set_intersects_of}
-use Rattle.smt_factory.specs.FoldEquality.{folded_eq}
-use Rattle.smt_factory.specs.FoldSets.{common_set, folded_set_inter, folded_set_intersects, folded_set_is_empty, folded_set_member, folded_set_subset, is_among}
-use Rattle.smt_factory.specs.FoldStrings.{folded_string_like}
-use Rattle.smt_factory.specs.Parts.{element_type, elements_in, is_empty_set, is_set_literal, is_set_term, text_inside}
-use Rattle.smt_factory.specs.Refinement.{Refines}
-use Rattle.smt_factory.proofs.SetsStand.{stands_set_inter, stands_set_intersects, stands_set_is_empty, stands_set_member, stands_set_subset}
-use Rattle.smt_factory.proofs.StringsStand.{stands_string_like}
+use Rattle.smt_folding.specs.Applications.{truth_literal, false_term, string_like_of, set_member_of, set_subset_of, set_inter_of, set_is_empty_of, set_intersects_of}
+use Rattle.smt_folding.specs.FoldEquality.{folded_eq}
+use Rattle.smt_folding.specs.FoldSets.{common_set, folded_set_inter, folded_set_intersects, folded_set_is_empty, folded_set_member, folded_set_subset, is_among}
+use Rattle.smt_folding.specs.FoldStrings.{folded_string_like}
+use Rattle.smt_folding.specs.Parts.{element_type, elements_in, is_empty_set, is_set_literal, is_set_term, text_inside}
+use Rattle.smt_folding.specs.Refinement.{Refines}
+use Rattle.smt_folding.proofs.SetsStand.{stands_set_inter, stands_set_intersects, stands_set_is_empty, stands_set_member, stands_set_subset}
+use Rattle.smt_folding.proofs.StringsStand.{stands_string_like}
 use Rattle.smt_term.proofs.DerivedEquality.{eq-is}
-use Rattle.smt_term.proofs.TypedArguments.{listed}
-use Rattle.smt_term.specs.Literals.{is_literal}
-use Rattle.smt_term.specs.Patterns.{matches}
-use Rattle.smt_term.specs.TermOrder.{term_eq}
-use Rattle.smt_term.specs.TermSets.{set_term}
-use Rattle.smt_term.specs.Types.{type_of}
+use Rattle.smt_meaning.proofs.Listed.{listed}
+use Rattle.smt_meaning.specs.Literals.{is_literal}
+use Rattle.smt_meaning.specs.Patterns.{matches}
+use Rattle.smt_meaning.specs.TermOrder.{term_eq}
+use Rattle.smt_meaning.specs.TermSets.{set_term}
+use Rattle.smt_meaning.specs.Types.{type_of}
 use Rattle.smt_term.specs.View.{plain_term}
 use Rattle.smt_term.specs.declared.term.Term.{Term}
-use Rattle.smt_term.specs.Plain.{PlainType, PatternPart, StringLiteral, PlainTerm, LiteralTerm, SetTerm, no_terms, terms}
+use Rattle.smt_meaning.specs.Plain.{PlainType, PatternPart, StringLiteral, PlainTerm, LiteralTerm, SetTerm, no_terms, terms}
 
 -- ---- strings
 

@@ -8,12 +8,12 @@ use denote.Ref.{Bor}
 use Rattle.std.proofs.lemmas.Bool.{leb-false, ltb-false, eq-eqb, eqb-true}
 use Rattle.std.proofs.Math.Pow.{pow_mono}
 use Rattle.smt_bits.specs.BitVec.{number_of, width_of}
-use Rattle.smt_bits.specs.BitVectors as bits
-use Rattle.smt_factory.specs.Applications.{bits_literal, truth_literal, test_of_two}
-use Rattle.smt_factory.specs.FoldBits.{folded_test}
+use Rattle.smt_arithmetic.specs.BitVectors as bits
+use Rattle.smt_folding.specs.Applications.{bits_literal, truth_literal, test_of_two}
+use Rattle.smt_folding.specs.FoldBits.{folded_test}
 use Rattle.smt_factory.specs.FoldBy.{literal_of, leaves, IsOverflowBy}
 use Rattle.smt_factory.proofs.Answers.{no_test}
-use Rattle.smt_term.specs.Plain.{PlainOp, PlainTerm}
+use Rattle.smt_meaning.specs.Plain.{PlainOp, PlainTerm}
 
 -- ---- what the machine's numbers do not hold leaves every range
 

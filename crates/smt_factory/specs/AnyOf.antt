@@ -1,16 +1,16 @@
 -- The disjunction of what a call answers at each of several terms.
 use Rattle.std.specs.Prelude.{◌≡◌, List, [], ◌∷◌, Result, Ok}
 use Rattle.std.specs.List.{AllZip, list_any}
-use Rattle.smt_factory.specs.FoldConnectives.{folded_any}
-use Rattle.smt_factory.specs.Refinement.{ReachNoMore, Refines}
-use Rattle.smt_term.specs.Interpretations.{IsInterpretation}
-use Rattle.smt_term.specs.Meaning.{term_value}
-use Rattle.smt_term.specs.Operators.{truth}
-use Rattle.smt_term.specs.Plain.{BoolType, PlainTerm}
-use Rattle.smt_term.specs.Tables.{Interpretation}
-use Rattle.smt_term.specs.Typing.{Typed}
-use Rattle.smt_term.specs.TypeValues.{Enums}
-use Rattle.smt_term.specs.Values.{BoolValue}
+use Rattle.smt_folding.specs.FoldConnectives.{folded_any}
+use Rattle.smt_folding.specs.Refinement.{ReachNoMore, Refines}
+use Rattle.smt_meaning.specs.Interpretations.{IsInterpretation}
+use Rattle.smt_meaning.specs.Meaning.{term_value}
+use Rattle.smt_meaning.specs.Operators.{truth}
+use Rattle.smt_meaning.specs.Plain.{BoolType, PlainTerm}
+use Rattle.smt_meaning.specs.Tables.{Interpretation}
+use Rattle.smt_meaning.specs.Typing.{Typed}
+use Rattle.smt_meaning.specs.TypeValues.{Enums}
+use Rattle.smt_meaning.specs.Values.{BoolValue}
 use Rattle.smt_term.specs.View.{plain_term}
 use Rattle.smt_term.specs.declared.error.TermError.{TermError}
 use Rattle.smt_term.specs.declared.term.Term.{Term}

@@ -1,15 +1,15 @@
 -- The folding of operators whose value at literals another call answers.
 use Rattle.std.specs.Prelude.{◌≡◌, ◌≢◌, ◌⊎◌, ℤ, ℕ, Bool, true, [], ◌∷◌, Option, Some, None, Result, Ok, Err}
 use Rattle.smt_bits.specs.BitVec.{number_of, width_of}
-use Rattle.smt_bits.specs.BitVectors as bits
+use Rattle.smt_arithmetic.specs.BitVectors as bits
 use Rattle.smt_bits.specs.declared.bitvec.BitVec.{BitVec}
 use Rattle.smt_bits.specs.declared.error.BitVecError.{BitVecError}
-use Rattle.smt_factory.specs.Applications.{truth_literal, bits_literal, bits_of_two, test_of_two}
-use Rattle.smt_factory.specs.Parts.{bits_inside}
-use Rattle.smt_term.specs.Operators.{apply, number, width}
-use Rattle.smt_term.specs.Tables.{Interpretation}
-use Rattle.smt_term.specs.Plain.{BitVecType, BoolType, PlainOp, PlainTerm}
-use Rattle.smt_term.specs.Values.{Value, BoolValue, BitVecValue}
+use Rattle.smt_folding.specs.Applications.{truth_literal, bits_literal, bits_of_two, test_of_two}
+use Rattle.smt_folding.specs.Parts.{bits_inside}
+use Rattle.smt_meaning.specs.Operators.{apply, number, width}
+use Rattle.smt_meaning.specs.Tables.{Interpretation}
+use Rattle.smt_meaning.specs.Plain.{BitVecType, BoolType, PlainOp, PlainTerm}
+use Rattle.smt_meaning.specs.Values.{Value, BoolValue, BitVecValue}
 
 -- the literal with a bitvector's width and number
 abbrev pub literal_of : BitVec → PlainTerm

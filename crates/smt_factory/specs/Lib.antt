@@ -1,15 +1,3 @@
 pub mod AnyOf
-pub mod Applications
-pub mod Built
-pub mod FoldBits
+pub mod AnyRows
 pub mod FoldBy
-pub mod FoldConnectives
-pub mod FoldEquality
-pub mod FoldOptions
-pub mod FoldRows
-pub mod FoldSets
-pub mod FoldStrings
-pub mod Laws
-pub mod Parts
-pub mod Refinement
-pub mod SetOf

@@ -2,9 +2,9 @@
 ghost use Rattle.std.specs.List.{AllByRecursion};
 ghost use Rattle.std.specs.Prelude.{IfOk, map};
 ghost use Rattle.smt_factory.specs.AnyOf.{GivesBooleans, GivesRefinements, IsAnyOf, IsTrueWhereOneIs};
-ghost use Rattle.smt_factory.specs.Applications.{any_of};
-ghost use Rattle.smt_factory.specs.Refinement.{Refines};
-ghost use Rattle.smt_term.specs.Plain.{PlainTerm};
+ghost use Rattle.smt_folding.specs.Applications.{any_of};
+ghost use Rattle.smt_folding.specs.Refinement.{Refines};
+ghost use Rattle.smt_meaning.specs.Plain.{PlainTerm};
 ghost use Rattle.smt_term.specs.View.{plain_term};
 
 use crate::connectives::or;

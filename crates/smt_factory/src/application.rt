@@ -1,6 +1,6 @@
 //! Applications as calls are asked for them.
 ghost use Rattle.std.specs.Prelude.{◌≡◌, IfOk, map};
-ghost use Rattle.smt_term.specs.Plain.{Application, BoolType, terms};
+ghost use Rattle.smt_meaning.specs.Plain.{Application, BoolType, terms};
 ghost use Rattle.smt_term.specs.View.{plain_op, plain_term, plain_type};
 
 use smt_term::{Op, Term, TermError, TermList, TermType};

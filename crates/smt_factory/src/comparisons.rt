@@ -1,11 +1,11 @@
 //! Comparisons of bits, of the theory FixedSizeBitVectors and the logic QF_BV.
 ghost use Rattle.std.specs.Fn.{FnReturnsAtPair};
 ghost use Rattle.std.specs.Prelude.{◌≡◌, IfOk};
-ghost use Rattle.smt_factory.specs.Applications.{test_of_two};
-ghost use Rattle.smt_factory.specs.FoldBits.{folded_bvsle, folded_bvslt, folded_bvule, folded_bvult};
+ghost use Rattle.smt_folding.specs.Applications.{test_of_two};
+ghost use Rattle.smt_folding.specs.FoldBits.{folded_bvsle, folded_bvslt, folded_bvule, folded_bvult};
 ghost use Rattle.smt_factory.specs.FoldBy.{IsTestedBy};
-ghost use Rattle.smt_factory.specs.Refinement.{Refines};
-ghost use Rattle.smt_term.specs.Plain.{BvsleOp, BvsltOp, BvuleOp, BvultOp};
+ghost use Rattle.smt_folding.specs.Refinement.{Refines};
+ghost use Rattle.smt_meaning.specs.Plain.{BvsleOp, BvsltOp, BvuleOp, BvultOp};
 ghost use Rattle.smt_term.specs.View.{plain_op, plain_term};
 
 use crate::application::truth_application;

@@ -1,9 +1,9 @@
 //! The connectives of the theory Core.
 ghost use Rattle.std.specs.Prelude.{◌≡◌, IfOk, MatchOption, None, Some};
-ghost use Rattle.smt_factory.specs.Applications.{and_of, implies_of, not_of, or_of};
-ghost use Rattle.smt_factory.specs.FoldConnectives.{are_opposites, is_negation, folded_and, folded_implies, folded_not, folded_or};
-ghost use Rattle.smt_factory.specs.Parts.{negated};
-ghost use Rattle.smt_factory.specs.Refinement.{Refines};
+ghost use Rattle.smt_folding.specs.Applications.{and_of, implies_of, not_of, or_of};
+ghost use Rattle.smt_folding.specs.FoldConnectives.{are_opposites, is_negation, folded_and, folded_implies, folded_not, folded_or};
+ghost use Rattle.smt_folding.specs.Parts.{negated};
+ghost use Rattle.smt_folding.specs.Refinement.{Refines};
 ghost use Rattle.smt_term.specs.View.{plain_term};
 
 use crate::application::truth_application;

@@ -2,12 +2,12 @@
 #![tactic(auto, using(crate::proofs::Folding::folding, crate::proofs::Folding::choosing))]
 
 ghost use Rattle.std.specs.Prelude.{◌≡◌, ◌&&◌, IfOk};
-ghost use Rattle.smt_factory.specs.Applications.{eq_of, ite_of, truth_literal};
-ghost use Rattle.smt_factory.specs.FoldEquality.{folded_eq, folded_eq_inside, folded_ite, folded_ite_inside, is_boolean};
-ghost use Rattle.smt_factory.specs.Refinement.{Refines};
-ghost use Rattle.smt_term.specs.Plain.{BoolType};
-ghost use Rattle.smt_term.specs.TermOrder.{term_eq};
-ghost use Rattle.smt_term.specs.Types.{literal_type, type_eq};
+ghost use Rattle.smt_folding.specs.Applications.{eq_of, ite_of, truth_literal};
+ghost use Rattle.smt_folding.specs.FoldEquality.{folded_eq, folded_eq_inside, folded_ite, folded_ite_inside, is_boolean};
+ghost use Rattle.smt_folding.specs.Refinement.{Refines};
+ghost use Rattle.smt_meaning.specs.Plain.{BoolType};
+ghost use Rattle.smt_meaning.specs.TermOrder.{term_eq};
+ghost use Rattle.smt_meaning.specs.Types.{literal_type, type_eq};
 ghost use Rattle.smt_term.specs.View.{plain_literal, plain_term, plain_type};
 
 use crate::application::{application, truth_application};

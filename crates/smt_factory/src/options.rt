@@ -2,10 +2,10 @@
 #![tactic(auto, using(crate::proofs::FoldingOptions::option_folding))]
 
 ghost use Rattle.std.specs.Prelude.{◌≡◌, IfOk, MatchOption, None, Some, map};
-ghost use Rattle.smt_factory.specs.Applications.{any_none_of, if_all_some_of, if_false_of, if_some_of, if_true_of, is_none_of, is_some_of, option_get_of};
-ghost use Rattle.smt_factory.specs.FoldOptions.{folded_any_none, folded_if_all_some, folded_if_false, folded_if_some, folded_if_true, folded_is_none, folded_is_none_by_type, folded_is_some, folded_option_get, folded_unless, none_by_arguments, none_by_branches, none_by_form};
-ghost use Rattle.smt_factory.specs.Refinement.{Refines};
-ghost use Rattle.smt_term.specs.Plain.{NoneTerm, SomeTerm};
+ghost use Rattle.smt_folding.specs.Applications.{any_none_of, if_all_some_of, if_false_of, if_some_of, if_true_of, is_none_of, is_some_of, option_get_of};
+ghost use Rattle.smt_folding.specs.FoldOptions.{folded_any_none, folded_if_all_some, folded_if_false, folded_if_some, folded_if_true, folded_is_none, folded_is_none_by_type, folded_is_some, folded_option_get, folded_unless, none_by_arguments, none_by_branches, none_by_form};
+ghost use Rattle.smt_folding.specs.Refinement.{Refines};
+ghost use Rattle.smt_meaning.specs.Plain.{NoneTerm, SomeTerm};
 ghost use Rattle.smt_term.specs.View.{plain_items, plain_term, plain_type};
 
 use crate::any::any_true;

@@ -2,12 +2,12 @@
 ghost use Rattle.std.specs.Fn.{FnReturnsAtPair};
 ghost use Rattle.std.specs.Prelude.{◌≡◌, ◌⊎◌, ◌+ℤ◌, ◌-ℤ◌, ◌*ℤ◌, FitsSigned, IfOk, MatchOption, SomeIff};
 ghost use Rattle.std.specs.Int.{w128};
-ghost use Rattle.smt_factory.specs.Applications.{bvnego_of, test_of_two};
-ghost use Rattle.smt_factory.specs.FoldBits.{folded_bvnego, folded_bvsaddo, folded_bvsmulo, folded_bvssubo};
+ghost use Rattle.smt_folding.specs.Applications.{bvnego_of, test_of_two};
+ghost use Rattle.smt_folding.specs.FoldBits.{folded_bvnego, folded_bvsaddo, folded_bvsmulo, folded_bvssubo};
 ghost use Rattle.smt_factory.specs.FoldBy.{IsOverflowBy, LeavesAt, NotTwoLiterals, OfTwoWidths, TellsOverflow, leaves};
-ghost use Rattle.smt_factory.specs.Refinement.{Refines};
+ghost use Rattle.smt_folding.specs.Refinement.{Refines};
 ghost use Rattle.smt_bits.specs.Width.{bits_in};
-ghost use Rattle.smt_term.specs.Plain.{BvsaddoOp, BvsmuloOp, BvssuboOp};
+ghost use Rattle.smt_meaning.specs.Plain.{BvsaddoOp, BvsmuloOp, BvssuboOp};
 ghost use Rattle.smt_term.specs.View.{plain_op, plain_term};
 
 use crate::application::truth_application;

@@ -4,12 +4,12 @@
 ghost use Rattle.std.specs.Fn.{FnReturnsAtPair};
 ghost use Rattle.std.specs.Prelude.{◌≡◌, false, IfOk, MatchOption, None, Ok, Some};
 ghost use Rattle.smt_bits.specs.BitVec.{number_of, width_of};
-ghost use Rattle.smt_factory.specs.Applications.{truth_literal};
+ghost use Rattle.smt_folding.specs.Applications.{truth_literal};
 ghost use Rattle.smt_factory.specs.FoldBy.{AnswersAt, RefusesAt, literal_of};
-ghost use Rattle.smt_factory.specs.Parts.{are_some, are_some_and_none, bits_inside, element_type, held, is_none_term, only_one};
-ghost use Rattle.smt_term.specs.Plain.{BitVecLiteral, LiteralTerm, SomeTerm};
-ghost use Rattle.smt_term.specs.TermOrder.{term_eq};
-ghost use Rattle.smt_term.specs.Types.{inner_type, type_of};
+ghost use Rattle.smt_folding.specs.Parts.{are_some, are_some_and_none, bits_inside, element_type, held, is_none_term, only_one};
+ghost use Rattle.smt_meaning.specs.Plain.{BitVecLiteral, LiteralTerm, SomeTerm};
+ghost use Rattle.smt_meaning.specs.TermOrder.{term_eq};
+ghost use Rattle.smt_meaning.specs.Types.{inner_type, type_of};
 ghost use Rattle.smt_term.specs.View.{plain_items, plain_literal, plain_term, plain_type};
 
 use smt_bits::{BitVec, BitVecError};

@@ -1,9 +1,9 @@
 //! Operators from bits to bits together with the call that answers their values.
 ghost use Rattle.std.specs.Fn.{FnReturnsAtPair};
 ghost use Rattle.std.specs.Prelude.{◌≡◌, IfOk};
-ghost use Rattle.smt_factory.specs.Applications.{bits_of_two};
+ghost use Rattle.smt_folding.specs.Applications.{bits_of_two};
 ghost use Rattle.smt_factory.specs.FoldBy.{AnswersValues, IsFoldedBy};
-ghost use Rattle.smt_factory.specs.Refinement.{Refines};
+ghost use Rattle.smt_folding.specs.Refinement.{Refines};
 ghost use Rattle.smt_term.specs.View.{plain_op, plain_term};
 
 use crate::bits::bvapp;

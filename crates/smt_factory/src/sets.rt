@@ -3,13 +3,13 @@
 
 ghost use Rattle.std.specs.Prelude.{◌≡◌, IfOk, map};
 ghost use Rattle.std.specs.List.{filter, list_all};
-ghost use Rattle.smt_factory.specs.Applications.{set_inter_of, set_intersects_of, set_is_empty_of, set_member_of, set_subset_of};
-ghost use Rattle.smt_factory.specs.FoldSets.{common_set, folded_set_inter, folded_set_intersects, folded_set_is_empty, folded_set_member, folded_set_subset, is_among};
-ghost use Rattle.smt_factory.specs.Parts.{elements_in, is_empty_set, is_set_literal, is_set_term};
-ghost use Rattle.smt_factory.specs.SetOf.{IsSetOf};
-ghost use Rattle.smt_factory.specs.Refinement.{Refines};
-ghost use Rattle.smt_term.specs.TermSets.{set_term};
-ghost use Rattle.smt_term.specs.Typing.{AreOfType};
+ghost use Rattle.smt_folding.specs.Applications.{set_inter_of, set_intersects_of, set_is_empty_of, set_member_of, set_subset_of};
+ghost use Rattle.smt_folding.specs.FoldSets.{common_set, folded_set_inter, folded_set_intersects, folded_set_is_empty, folded_set_member, folded_set_subset, is_among};
+ghost use Rattle.smt_folding.specs.Parts.{elements_in, is_empty_set, is_set_literal, is_set_term};
+ghost use Rattle.smt_folding.specs.SetOf.{IsSetOf};
+ghost use Rattle.smt_folding.specs.Refinement.{Refines};
+ghost use Rattle.smt_meaning.specs.TermSets.{set_term};
+ghost use Rattle.smt_meaning.specs.Typing.{AreOfType};
 ghost use Rattle.smt_term.specs.View.{plain_term, plain_type};
 
 use crate::application::{application, truth_application};

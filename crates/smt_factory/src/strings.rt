@@ -3,12 +3,12 @@
 
 ghost use Rattle.std.specs.Prelude.{◌≡◌, IfOk, MatchOption, None};
 ghost use Rattle.std.specs.Rc.{rc_str_bytes};
-ghost use Rattle.smt_factory.specs.Applications.{string_like_of};
-ghost use Rattle.smt_factory.specs.FoldStrings.{folded_string_like};
-ghost use Rattle.smt_factory.specs.Parts.{text_inside};
-ghost use Rattle.smt_factory.specs.Refinement.{Refines};
+ghost use Rattle.smt_folding.specs.Applications.{string_like_of};
+ghost use Rattle.smt_folding.specs.FoldStrings.{folded_string_like};
+ghost use Rattle.smt_folding.specs.Parts.{text_inside};
+ghost use Rattle.smt_folding.specs.Refinement.{Refines};
 ghost use Rattle.smt_term.specs.PatternView.{plain_ord_pattern};
-ghost use Rattle.smt_term.specs.Plain.{LiteralTerm, StringLiteral};
+ghost use Rattle.smt_meaning.specs.Plain.{LiteralTerm, StringLiteral};
 ghost use Rattle.smt_term.specs.View.{plain_literal, plain_term};
 
 use crate::application::truth_application;

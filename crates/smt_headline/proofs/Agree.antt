@@ -4,9 +4,9 @@ use Rattle.std.specs.Prelude.{nat_lt, bytes_eq, ◌||◌, if◌then◌else◌, O
 use Rattle.std.specs.List.{list_any}
 use Rattle.std.specs.Option.{is_some}
 use Rattle.std.proofs.lemmas.Bool.{ltb-true, ltb-false, lt-ltb, le-ltb}
-use Rattle.smt_term.specs.Plain.{PlainType, no_attributes, attribute}
-use Rattle.smt_term.specs.Types.{attribute_in}
-use Rattle.smt_term.specs.Formed.{attribute_names}
+use Rattle.smt_meaning.specs.Plain.{PlainType, no_attributes, attribute}
+use Rattle.smt_meaning.specs.Types.{attribute_in}
+use Rattle.smt_meaning.specs.Formed.{attribute_names}
 use Rattle.smt_lines.specs.EntryNames.{place_of}
 use Rattle.smt_headline.specs.Conditions.{PlacesAreFound, AttributesAreFound}
 

@@ -4,17 +4,17 @@ use Rattle.std.specs.Prelude.{codes, IsSome, is_some, nat_le}
 use Rattle.std.specs.List.{AllByRecursion}
 use Rattle.std.proofs.lemmas.Bool.{and_parts, leb-true, ltb-true}
 use Rattle.std.proofs.Math.Pow.{pow-lt}
-use Rattle.smt_term.specs.Plain.{PlainType, OptionType, BitVecType, BoolType, RecordType, AttributeTypes, no_attributes, attribute, PatternPart, PlainOp, BvnegoOp, EqOp, StringLikeOp, UufOp, ZeroExtendOp, PlainFunction, PlainTerm, PlainTerms, no_terms, one_term}
-use Rattle.smt_term.specs.Meaning.{meaning, meanings}
-use Rattle.smt_term.specs.Operators.{apply, attribute_value, value_inside}
-use Rattle.smt_term.specs.Tables.{Interpretation, value_at}
-use Rattle.smt_term.specs.Types.{type_of, types_of, type_eq, is_bits, inner_type, attribute_type, attribute_in, result_type}
-use Rattle.smt_term.specs.TypeValues.{IsValue, Enums}
-use Rattle.smt_term.specs.Values.{Value}
-use Rattle.smt_term.proofs.TypeOrder.{eq_same}
-use Rattle.smt_term.specs.Formed.{attribute_names}
+use Rattle.smt_meaning.specs.Plain.{PlainType, OptionType, BitVecType, BoolType, RecordType, AttributeTypes, no_attributes, attribute, PatternPart, PlainOp, BvnegoOp, EqOp, StringLikeOp, UufOp, ZeroExtendOp, PlainFunction, PlainTerm, PlainTerms, no_terms, one_term}
+use Rattle.smt_meaning.specs.Meaning.{meaning, meanings}
+use Rattle.smt_meaning.specs.Operators.{apply, attribute_value, value_inside}
+use Rattle.smt_meaning.specs.Tables.{Interpretation, value_at}
+use Rattle.smt_meaning.specs.Types.{type_of, types_of, type_eq, is_bits, inner_type, attribute_type, attribute_in, result_type}
+use Rattle.smt_meaning.specs.TypeValues.{IsValue, Enums}
+use Rattle.smt_meaning.specs.Values.{Value}
+use Rattle.smt_meaning.proofs.TypeOrder.{eq_same}
+use Rattle.smt_meaning.specs.Formed.{attribute_names}
 use Rattle.smt_semantics.specs.ScriptValues.{ScriptValue, BitsOf}
-use Rattle.smt_sexpr.specs.Reading.{Expression}
+use Rattle.smt_lexicon.specs.Reading.{Expression}
 use Rattle.smt_semantics.specs.ScriptOperators.{script_name}
 use Rattle.smt_semantics.specs.Script.{State, Selects, Function, name, group, pattern, operator_of, ◌>>=◌}
 use Rattle.smt_semantics.specs.Sorts as sorts
@@ -47,7 +47,7 @@ use Rattle.smt_headline.proofs.Named.{some_there, names_there}
 use Rattle.smt_headline.proofs.Types.{type_stands}
 use Rattle.smt_headline.proofs.Valued.{AreValued}
 use Rattle.smt_headline.proofs.Worth.{Follows, carried, Worth, AreWorth, IsEntered, arguments, bits_worth, bits_fit, from_body, text_sorted}
-use Rattle.smt_term.proofs.Soundness.{inside, chosen}
+use Rattle.smt_meaning.proofs.Soundness.{inside, chosen}
 
 values : (enums : Enums) (I : Interpretation) (ts : PlainTerms) → AreValued enums I ts → AreValues enums (types_of ts) (meanings I ts)
 values enums I no_terms h = tt

@@ -3,14 +3,14 @@ use Rattle.std.proofs.Common.{◌≡◌, ℕ, ◌+◌, ◌-◌, ◌<◌, Option,
 use Rattle.std.proofs.lemmas.Bool.{false≢true}
 use Rattle.std.specs.Prelude.{◌↔◌, codes}
 use Rattle.std.specs.Str.{chars}
-use Rattle.smt_term.specs.Plain.{BoolType}
-use Rattle.smt_term.specs.Interpretations.{IsInterpretation}
-use Rattle.smt_term.specs.Operators.{truth}
-use Rattle.smt_term.specs.Tables.{Interpretation}
-use Rattle.smt_term.specs.TypeValues.{IsValue}
-use Rattle.smt_term.specs.Values.{Value, BoolValue}
-use Rattle.smt_sexpr.specs.Lexicon.{Name}
-use Rattle.smt_sexpr.specs.Reading.{Expression, Leaf}
+use Rattle.smt_meaning.specs.Plain.{BoolType}
+use Rattle.smt_meaning.specs.Interpretations.{IsInterpretation}
+use Rattle.smt_meaning.specs.Operators.{truth}
+use Rattle.smt_meaning.specs.Tables.{Interpretation}
+use Rattle.smt_meaning.specs.TypeValues.{IsValue}
+use Rattle.smt_meaning.specs.Values.{Value, BoolValue}
+use Rattle.smt_lexicon.specs.Lexicon.{Name}
+use Rattle.smt_lexicon.specs.Reading.{Expression, Leaf}
 use Rattle.smt_semantics.specs.ScriptValues.{ScriptValue, TruthOf}
 use Rattle.smt_semantics.specs.Script.{State, start, name}
 use Rattle.smt_semantics.specs.Sorts.{entries}

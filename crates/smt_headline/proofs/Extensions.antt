@@ -2,18 +2,18 @@
 use Rattle.std.proofs.Common.{◌≡◌, ℕ, true, List, [], ◌∷◌, refl, ap, ap₂, ◌∙◌, Option, Some, None, subst}
 use Rattle.std.specs.Prelude.{codes, ℤ}
 use Rattle.std.specs.List.{AllByRecursion}
-use Rattle.smt_term.specs.Plain.{ExtensionKind, IpAddrKind, DecimalKind, DatetimeKind, DurationKind, PlainType, BitVecType, ExtensionType, ExtensionOp, DatetimeOfBitVecOp, DatetimeValOp, DecimalValOp, DurationOfBitVecOp, DurationValOp, IpAddrV4Op, IpAddrV6Op, IpIsV4Op, IpPrefixV4Op, IpPrefixV6Op, PlainExtension, DecimalOf, Ipv4Of, Ipv6Of, DatetimeOf, DurationOf}
-use Rattle.smt_term.specs.Interpretations.{IsGivenSelector, IsOfOtherFamily, empty_table}
-use Rattle.smt_term.specs.Operators.{apply_extension}
-use Rattle.smt_term.specs.Tables.{Interpretation}
-use Rattle.smt_term.specs.Types.{extension_signature}
-use Rattle.smt_term.specs.TypeValues.{IsValue, IsExtension, IsPrefix, Enums}
-use Rattle.smt_term.specs.Values.{Value, ExtensionValue}
+use Rattle.smt_meaning.specs.Plain.{ExtensionKind, IpAddrKind, DecimalKind, DatetimeKind, DurationKind, PlainType, BitVecType, ExtensionType, ExtensionOp, DatetimeOfBitVecOp, DatetimeValOp, DecimalValOp, DurationOfBitVecOp, DurationValOp, IpAddrV4Op, IpAddrV6Op, IpIsV4Op, IpPrefixV4Op, IpPrefixV6Op, PlainExtension, DecimalOf, Ipv4Of, Ipv6Of, DatetimeOf, DurationOf}
+use Rattle.smt_meaning.specs.Interpretations.{IsGivenSelector, IsOfOtherFamily, empty_table}
+use Rattle.smt_meaning.specs.Operators.{apply_extension}
+use Rattle.smt_meaning.specs.Tables.{Interpretation}
+use Rattle.smt_meaning.specs.Types.{extension_signature}
+use Rattle.smt_meaning.specs.TypeValues.{IsValue, IsExtension, IsPrefix, Enums}
+use Rattle.smt_meaning.specs.Values.{Value, ExtensionValue}
 use Rattle.smt_semantics.specs.ScriptValues.{ScriptValue, BitsOf, ConstructorOf}
-use Rattle.smt_sexpr.specs.Reading.{Expression}
-use Rattle.smt_bits.specs.Widths.{is_width}
-use Rattle.smt_bits.specs.BitVectors.{bits_of}
-use Rattle.smt_bits.proofs.BitRanges.{bits_of-below}
+use Rattle.smt_lexicon.specs.Reading.{Expression}
+use Rattle.smt_arithmetic.specs.Widths.{is_width}
+use Rattle.smt_arithmetic.specs.BitVectors.{bits_of}
+use Rattle.smt_arithmetic.proofs.BitRanges.{bits_of-below}
 use Rattle.smt_semantics.specs.Script.{State, Builds, Selects, name, group}
 use Rattle.smt_semantics.specs.Sorts as sorts
 use Rattle.smt_semantics.specs.Sorts.{entries, bit_sort, option_sort}

@@ -5,16 +5,16 @@ use Rattle.std.specs.Cmp.{first_so, second_so}
 use Rattle.std.specs.List.{AllByRecursion, list_all, list_any}
 use Rattle.std.specs.Option.{is_some, option_or}
 use Rattle.std.proofs.lemmas.Bool.{le-leb}
-use Rattle.smt_term.specs.Plain.{PlainType, OptionType, BitVecType, BoolType, EntityType, ExtensionType, RecordType, SetType, AttributeTypes, no_attributes, attribute, ExtensionOp, DatetimeOfBitVecOp, DatetimeValOp, DecimalValOp, DurationOfBitVecOp, DurationValOp, IpAddrV4Op, IpAddrV6Op, IpIsV4Op, IpPrefixV4Op, IpPrefixV6Op, PlainOp, AndOp, BvnegoOp, ExtOp, RecordGetOp, StringLikeOp, UufOp, PlainLiteral, EntityLiteral, StringLiteral, PlainTerm, Application, NoneTerm, LiteralTerm, RecordTerm, SetTerm, SomeTerm, VariableTerm, PlainTerms, no_terms, one_term, PlainFields, no_fields, one_field, terms}
-use Rattle.smt_bits.specs.Widths.{is_width}
-use Rattle.smt_term.specs.Faults.{Fault, fault_unless, is_string, is_pattern_part, entity_fault, entity_type_fault, literal_fault, is_passed_over, type_fault, attribute_types_fault, operator_fault, term_fault, terms_fault, fields_fault, first_fault}
-use Rattle.smt_term.specs.Formed.{IsFormedHere, IsFormedType}
-use Rattle.smt_term.specs.Reached.{subterms, subterms_of_all, subterms_of_fields, types_within, types_within_attributes}
-use Rattle.smt_term.specs.Types.{type_eq, type_of, field_types, types_of, is_bits, attribute_type, extension_signature, result_type, is_type}
-use Rattle.smt_term.specs.Typing.{are_elements, typed, typed_all, typed_fields, AreBoolean}
-use Rattle.smt_term.proofs.Soundness.{all-front, all-back, all-last, none-first, none-second, not-passed, is_type-some, walked, chosen}
-use Rattle.smt_term.proofs.TypeOrder.{eq_same}
-use Rattle.smt_term.specs.TypeValues.{Enums, members_of}
+use Rattle.smt_meaning.specs.Plain.{PlainType, OptionType, BitVecType, BoolType, EntityType, ExtensionType, RecordType, SetType, AttributeTypes, no_attributes, attribute, ExtensionOp, DatetimeOfBitVecOp, DatetimeValOp, DecimalValOp, DurationOfBitVecOp, DurationValOp, IpAddrV4Op, IpAddrV6Op, IpIsV4Op, IpPrefixV4Op, IpPrefixV6Op, PlainOp, AndOp, BvnegoOp, ExtOp, RecordGetOp, StringLikeOp, UufOp, PlainLiteral, EntityLiteral, StringLiteral, PlainTerm, Application, NoneTerm, LiteralTerm, RecordTerm, SetTerm, SomeTerm, VariableTerm, PlainTerms, no_terms, one_term, PlainFields, no_fields, one_field, terms}
+use Rattle.smt_arithmetic.specs.Widths.{is_width}
+use Rattle.smt_meaning.specs.Faults.{Fault, fault_unless, is_string, is_pattern_part, entity_fault, entity_type_fault, literal_fault, is_passed_over, type_fault, attribute_types_fault, operator_fault, term_fault, terms_fault, fields_fault, first_fault}
+use Rattle.smt_meaning.specs.Formed.{IsFormedHere, IsFormedType}
+use Rattle.smt_meaning.specs.Reached.{subterms, subterms_of_all, subterms_of_fields, types_within, types_within_attributes}
+use Rattle.smt_meaning.specs.Types.{type_eq, type_of, field_types, types_of, is_bits, attribute_type, extension_signature, result_type, is_type}
+use Rattle.smt_meaning.specs.Typing.{are_elements, typed, typed_all, typed_fields, AreBoolean}
+use Rattle.smt_meaning.proofs.Soundness.{all-front, all-back, all-last, none-first, none-second, not-passed, is_type-some, walked, chosen}
+use Rattle.smt_meaning.proofs.TypeOrder.{eq_same}
+use Rattle.smt_meaning.specs.TypeValues.{Enums, members_of}
 use Rattle.smt_lines.specs.Lines.{least_rendering, negation_rendering}
 use Rattle.smt_lines.specs.Encodable.{HasMember, HasArgument, IsEncodableType, AreEncodableTypes, IsEncodableId, IsEncodableLiteral, kind_of_op, IsLeast, IsEncodableOp, IsEncodable, AreEncodable, AreEncodableFields}
 use Rattle.smt_headline.specs.Conditions.{FormedTypesAreEncodable, TypedTermsAreEncodable, TypedListsAreEncodable, AreConditions}

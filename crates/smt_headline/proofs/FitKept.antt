@@ -3,9 +3,9 @@ use Rattle.std.proofs.Common.{◌≡◌, ℕ, Bool, true, false, not, List, [], 
 use Rattle.std.specs.Option.{option_and_then}
 use Rattle.std.proofs.lemmas.List.{append-nil}
 use Rattle.std.proofs.lemmas.List.Elements.{All-from_recursion}
-use Rattle.smt_term.specs.Plain.{PlainTerm, terms}
-use Rattle.smt_term.specs.TypeValues.{Enums}
-use Rattle.smt_term.proofs.Defaults.{interpreted}
+use Rattle.smt_meaning.specs.Plain.{PlainTerm, terms}
+use Rattle.smt_meaning.specs.TypeValues.{Enums}
+use Rattle.smt_meaning.proofs.Defaults.{interpreted}
 use Rattle.smt_semantics.specs.Script as script
 use Rattle.smt_semantics.specs.Script.{Command, Level, State, Script, HasWholeLines, start, step, run, obey, with_level, without_level}
 use Rattle.smt_semantics.specs.Written.{IsLine, IsOpenScript}

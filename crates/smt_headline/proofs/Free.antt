@@ -1,7 +1,7 @@
 -- Names that a script leaves free.
-use Rattle.smt_term.specs.Plain.{PlainOp, UufOp, PlainType, PlainTerm, Application, VariableTerm}
-use Rattle.smt_term.specs.Reached.{reached_terms}
-use Rattle.smt_term.specs.TypeValues.{Enums}
+use Rattle.smt_meaning.specs.Plain.{PlainOp, UufOp, PlainType, PlainTerm, Application, VariableTerm}
+use Rattle.smt_meaning.specs.Reached.{reached_terms}
+use Rattle.smt_meaning.specs.TypeValues.{Enums}
 use Rattle.smt_semantics.specs.Script.{State}
 use Rattle.smt_semantics.specs.Sorts.{entries}
 use Rattle.smt_lines.specs.NameTables.{Tables}

@@ -4,8 +4,8 @@ use Rattle.std.specs.Prelude.{◌↔◌, bytes_eq, IsTrue, unwrap_or}
 use Rattle.std.specs.List.{AllByRecursion, filter_map, cons_option}
 use Rattle.std.proofs.lemmas.Bool.{or_cases}
 use Rattle.std.proofs.lemmas.Slice.Eq.{bytes_eq-Decides}
-use Rattle.smt_term.specs.Plain.{PlainType, PlainFunction, PlainOp, UufOp, PlainTerm, Application, VariableTerm}
-use Rattle.smt_term.specs.Reached.{variable_of, function_of, function_of_op, reached_terms, reached_variables, reached_functions}
+use Rattle.smt_meaning.specs.Plain.{PlainType, PlainFunction, PlainOp, UufOp, PlainTerm, Application, VariableTerm}
+use Rattle.smt_meaning.specs.Reached.{variable_of, function_of, function_of_op, reached_terms, reached_variables, reached_functions}
 use Rattle.smt_semantics.specs.Script.{Entry, Constant, Function, Defined, Builds, Selects, State, is_in, names_of, look_up}
 use Rattle.smt_semantics.specs.Sorts.{entries}
 use Rattle.smt_semantics.specs.Value.{free_in, free_names}
@@ -13,7 +13,7 @@ use Rattle.smt_lines.specs.Naming.{type_sort}
 use Rattle.smt_lines.specs.NameTables.{Tables}
 use Rattle.smt_carrying.specs.CarriedInterpretations.{variable_name, function_name}
 use Rattle.smt_carrying.specs.Open.{Occurs, IsOpenEntry}
-use Rattle.smt_term.proofs.ValueOrder.{bytes_itself}
+use Rattle.smt_meaning.proofs.ValueOrder.{bytes_itself}
 use Rattle.smt_headline.specs.Headline.{reached_names}
 use Rattle.smt_headline.specs.FittingStates.{IsOpOpen, IsOpen}
 use Rattle.smt_headline.proofs.Lasting.{some_entry}

@@ -3,8 +3,8 @@ use Rattle.std.proofs.Common.{List, [], ◌∷◌}
 use Rattle.std.specs.Prelude.{IsTrue}
 use Rattle.std.specs.List.{AllByRecursion}
 use Rattle.std.proofs.lemmas.List.Elements.{recursion_from_All}
-use Rattle.smt_term.specs.Plain.{PlainOp, UufOp, PlainTerm, Application, VariableTerm}
-use Rattle.smt_term.specs.Reached.{reached_terms}
+use Rattle.smt_meaning.specs.Plain.{PlainOp, UufOp, PlainTerm, Application, VariableTerm}
+use Rattle.smt_meaning.specs.Reached.{reached_terms}
 use Rattle.smt_semantics.specs.Script.{Constant, Function, State, names_of}
 use Rattle.smt_semantics.specs.Sorts.{entries}
 use Rattle.smt_semantics.specs.Value.{ScriptInterpretation, IsScriptInterpretation, is_entry_given}

@@ -5,20 +5,20 @@ use Rattle.std.specs.Cmp.{first_so, second_so}
 use Rattle.std.specs.List.{AllByRecursion, list_all}
 use Rattle.std.specs.Ordering.{is_eq}
 use Rattle.std.proofs.lemmas.Bool.{ltb-true, eq-eqb, eqb-true}
-use Rattle.smt_term.specs.Plain.{IpAddrKind, DecimalKind, DatetimeKind, DurationKind, PlainType, OptionType, BoolType, EntityType, ExtensionType, RecordType, SetType, PlainOp, BvnegoOp, ExtOp, OptionGetOp, RecordGetOp, StringLikeOp, UufOp, ZeroExtendOp, PlainExtension, DecimalOf, Ipv4Of, Ipv6Of, DatetimeOf, DurationOf, PlainLiteral, BitVecLiteral, BoolLiteral, EntityLiteral, ExtensionLiteral, StringLiteral, PlainTerm, Application, NoneTerm, LiteralTerm, RecordTerm, SetTerm, SomeTerm, VariableTerm, PlainTerms, no_terms, one_term, PlainFields, no_fields, one_field}
-use Rattle.smt_term.specs.Meaning.{literal_value, meaning, meanings, field_meanings}
-use Rattle.smt_term.specs.Operators.{apply}
-use Rattle.smt_term.specs.Reached.{subterms, subterms_of_all, subterms_of_fields}
-use Rattle.smt_term.specs.Tables.{Interpretation}
-use Rattle.smt_term.specs.Types.{type_eq, literal_type, type_of, field_types, types_of, is_bits, extension_signature, kind_of}
-use Rattle.smt_term.specs.TypeValues.{IsValue, Enums, members_of}
-use Rattle.smt_term.specs.Values.{Value, ExtensionValue, NoneValue, SomeValue, RecordValue}
-use Rattle.smt_term.specs.ValueOrder.{set_of}
-use Rattle.smt_term.proofs.TypeOrder.{eq_same}
-use Rattle.smt_term.proofs.Utf8Order.{utf8_order}
+use Rattle.smt_meaning.specs.Plain.{IpAddrKind, DecimalKind, DatetimeKind, DurationKind, PlainType, OptionType, BoolType, EntityType, ExtensionType, RecordType, SetType, PlainOp, BvnegoOp, ExtOp, OptionGetOp, RecordGetOp, StringLikeOp, UufOp, ZeroExtendOp, PlainExtension, DecimalOf, Ipv4Of, Ipv6Of, DatetimeOf, DurationOf, PlainLiteral, BitVecLiteral, BoolLiteral, EntityLiteral, ExtensionLiteral, StringLiteral, PlainTerm, Application, NoneTerm, LiteralTerm, RecordTerm, SetTerm, SomeTerm, VariableTerm, PlainTerms, no_terms, one_term, PlainFields, no_fields, one_field}
+use Rattle.smt_meaning.specs.Meaning.{literal_value, meaning, meanings, field_meanings}
+use Rattle.smt_meaning.specs.Operators.{apply}
+use Rattle.smt_meaning.specs.Reached.{subterms, subterms_of_all, subterms_of_fields}
+use Rattle.smt_meaning.specs.Tables.{Interpretation}
+use Rattle.smt_meaning.specs.Types.{type_eq, literal_type, type_of, field_types, types_of, is_bits, extension_signature, kind_of}
+use Rattle.smt_meaning.specs.TypeValues.{IsValue, Enums, members_of}
+use Rattle.smt_meaning.specs.Values.{Value, ExtensionValue, NoneValue, SomeValue, RecordValue}
+use Rattle.smt_meaning.specs.ValueOrder.{set_of}
+use Rattle.smt_meaning.proofs.TypeOrder.{eq_same}
+use Rattle.smt_meaning.proofs.Utf8Order.{utf8_order}
 use Rattle.smt_semantics.specs.ScriptValues.{ScriptValue, TextOf, ConstructorOf, SetOf, ScriptValues, no_script_values, one_script_value}
-use Rattle.smt_sexpr.specs.Lexicon.{Text}
-use Rattle.smt_sexpr.specs.Reading.{Expression, Leaf}
+use Rattle.smt_lexicon.specs.Lexicon.{Text}
+use Rattle.smt_lexicon.specs.Reading.{Expression, Leaf}
 use Rattle.smt_semantics.specs.ScriptOperators.{script_name}
 use Rattle.smt_semantics.specs.Script.{State, Builds, Defined, Constant, name, group, ◌>>=◌}
 use Rattle.smt_semantics.specs.Sorts.{entries, string_sort, each_there}
@@ -51,7 +51,7 @@ use Rattle.smt_headline.proofs.Named.{all_append, own, some_there, text_sort}
 use Rattle.smt_headline.proofs.Types.{type_stands, selectors_shown}
 use Rattle.smt_headline.proofs.Valued.{IsValued, AreValued, HaveValues}
 use Rattle.smt_headline.proofs.Worth.{Follows, carried, Worth, AreWorth, IsEntered, bits_worth, bits_fit, from_body, name_good, some_text, by_name, text_sorted}
-use Rattle.smt_term.proofs.Soundness.{chosen}
+use Rattle.smt_meaning.proofs.Soundness.{chosen}
 use Rattle.smt_semantics.specs.DeclarationLines.{at_place}
 
 none_is : (t : PlainType) → None ≡ Some t → ⊥

@@ -3,13 +3,13 @@ use Rattle.std.proofs.Common.{◌≡◌, true, List, [], ◌∷◌, ◌++◌, No
 use Rattle.std.specs.Cmp.{first_so, second_so}
 use Rattle.std.specs.List.{AllByRecursion}
 use Rattle.std.specs.Option.{option_or}
-use Rattle.smt_term.specs.Faults.{is_passed_over, type_fault, operator_fault, term_fault, terms_fault, fields_fault, first_fault}
-use Rattle.smt_term.specs.Plain.{RecordType, PlainTerm, Application, NoneTerm, LiteralTerm, RecordTerm, SetTerm, SomeTerm, VariableTerm, PlainTerms, no_terms, one_term, PlainFields, no_fields, one_field}
-use Rattle.smt_term.specs.Reached.{subterms, subterms_of_all, subterms_of_fields, reached_terms}
-use Rattle.smt_term.specs.Types.{type_of, field_types, types_of, result_type, is_type}
-use Rattle.smt_term.specs.Typing.{are_elements, typed, typed_all, typed_fields}
-use Rattle.smt_term.specs.TypeValues.{Enums}
-use Rattle.smt_term.proofs.Soundness.{none-first, none-second, not-passed, is_type-some, walked}
+use Rattle.smt_meaning.specs.Faults.{is_passed_over, type_fault, operator_fault, term_fault, terms_fault, fields_fault, first_fault}
+use Rattle.smt_meaning.specs.Plain.{RecordType, PlainTerm, Application, NoneTerm, LiteralTerm, RecordTerm, SetTerm, SomeTerm, VariableTerm, PlainTerms, no_terms, one_term, PlainFields, no_fields, one_field}
+use Rattle.smt_meaning.specs.Reached.{subterms, subterms_of_all, subterms_of_fields, reached_terms}
+use Rattle.smt_meaning.specs.Types.{type_of, field_types, types_of, result_type, is_type}
+use Rattle.smt_meaning.specs.Typing.{are_elements, typed, typed_all, typed_fields}
+use Rattle.smt_meaning.specs.TypeValues.{Enums}
+use Rattle.smt_meaning.proofs.Soundness.{none-first, none-second, not-passed, is_type-some, walked}
 use Rattle.smt_lines.proofs.Known.{each_map}
 use Rattle.smt_carrying.proofs.Open.{at_term}
 use Rattle.smt_headline.specs.Fits.{KeysAreSound, IsSoundTerm}

@@ -3,7 +3,7 @@ use Rattle.std.proofs.Common.{◌≡◌, ◌⊎◌, ℕ, suc, Bool, true, false,
 use Rattle.std.specs.Prelude.{bytes_eq}
 use Rattle.std.proofs.lemmas.Bool.{or_parts}
 use Rattle.std.proofs.lemmas.Slice.Eq.{bytes_eq-Decides}
-use Rattle.smt_sexpr.specs.Reading.{Expression}
+use Rattle.smt_lexicon.specs.Reading.{Expression}
 use Rattle.smt_semantics.specs.Script.{Command, DeclareDatatype, DeclareConst, DefineFun, Assert, DeclareFun, SetLogic, SetOption, Reset, Exit, Push, Pop, Constructor, Entry, Constant, Function, Defined, Builds, Selects, State, name, start, built_in_names, is_in, is_reserved, has_name, is_taken, is_new_datatype, is_simple_symbol, is_attribute_value, is_sort, has_sort, knows, names_of, look_up, declare, declare_selectors, declare_constructors, with_level, with_name, with_sort, with_assertion, obey, step, ◌>>=◌}
 use Rattle.smt_semantics.specs.Sorts.{entries, expression_sort}
 use Rattle.smt_semantics.specs.Value.{ScriptInterpretation, expression_value}

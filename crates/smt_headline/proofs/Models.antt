@@ -3,17 +3,17 @@ use Rattle.std.proofs.Common.{◌≡◌, Bool, true, false, cond, List, [], ◌�
 use Rattle.std.specs.Prelude.{ℕ, ◌↔◌, IsSome, is_some}
 use Rattle.std.specs.List.{AllByRecursion}
 use Rattle.std.proofs.lemmas.List.Elements.{All-from_recursion, recursion_from_All}
-use Rattle.smt_term.specs.Plain.{PlainType, BoolType, PlainTerm}
-use Rattle.smt_term.specs.Interpretations.{IsInterpretation}
-use Rattle.smt_term.specs.Meaning.{meaning, term_value}
-use Rattle.smt_term.specs.Operators.{truth}
-use Rattle.smt_term.specs.Reached.{subterms, reached_terms}
-use Rattle.smt_term.specs.Tables.{Interpretation}
-use Rattle.smt_term.specs.Types.{type_of}
-use Rattle.smt_term.specs.Typing.{typed, Typed, AreBoolean}
-use Rattle.smt_term.specs.TypeValues.{IsValue, Enums}
-use Rattle.smt_term.specs.Values.{Value, BoolValue}
-use Rattle.smt_sexpr.specs.Reading.{Expression}
+use Rattle.smt_meaning.specs.Plain.{PlainType, BoolType, PlainTerm}
+use Rattle.smt_meaning.specs.Interpretations.{IsInterpretation}
+use Rattle.smt_meaning.specs.Meaning.{meaning, term_value}
+use Rattle.smt_meaning.specs.Operators.{truth}
+use Rattle.smt_meaning.specs.Reached.{subterms, reached_terms}
+use Rattle.smt_meaning.specs.Tables.{Interpretation}
+use Rattle.smt_meaning.specs.Types.{type_of}
+use Rattle.smt_meaning.specs.Typing.{typed, Typed, AreBoolean}
+use Rattle.smt_meaning.specs.TypeValues.{IsValue, Enums}
+use Rattle.smt_meaning.specs.Values.{Value, BoolValue}
+use Rattle.smt_lexicon.specs.Reading.{Expression}
 use Rattle.smt_semantics.specs.Script.{State, Script, assertions_of}
 use Rattle.smt_semantics.specs.ScriptValues.{ScriptValue, TruthOf}
 use Rattle.smt_semantics.specs.Sorts.{entries}

@@ -1,10 +1,10 @@
 -- What is declared and left open is a variable or a function that is reached.
 use Rattle.std.proofs.Common.{ℕ, List, [], ◌∷◌, sym, ap}
 use Rattle.std.specs.List.{AllByRecursion}
-use Rattle.smt_term.specs.Plain.{PlainTerm}
-use Rattle.smt_term.specs.Reached.{reached_terms}
-use Rattle.smt_term.specs.TypeValues.{Enums}
-use Rattle.smt_sexpr.specs.Reading.{Expression}
+use Rattle.smt_meaning.specs.Plain.{PlainTerm}
+use Rattle.smt_meaning.specs.Reached.{reached_terms}
+use Rattle.smt_meaning.specs.TypeValues.{Enums}
+use Rattle.smt_lexicon.specs.Reading.{Expression}
 use Rattle.smt_semantics.specs.Script.{Entry, Constant, Function, Defined, Builds, Selects, names_of}
 use Rattle.smt_lines.specs.NameTables.{Tables, text_of_name}
 use Rattle.smt_carrying.specs.Open.{IsVariable, IsFunction, IsOpenEntry}

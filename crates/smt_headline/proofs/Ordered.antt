@@ -3,7 +3,7 @@ use Rattle.std.proofs.Common.{◌≡◌, ℕ, suc, Bool, true, false, not, ◌&&
 use Rattle.std.specs.Prelude.{bytes_eq}
 use Rattle.std.proofs.lemmas.Bool.{and_parts, cases_Bool, cond-true, cond-false, false≢true, or_parts}
 use Rattle.std.proofs.lemmas.Slice.Eq.{bytes_eq-Decides}
-use Rattle.smt_sexpr.specs.Reading.{Expression}
+use Rattle.smt_lexicon.specs.Reading.{Expression}
 use Rattle.smt_semantics.specs.Script.{Command, DeclareDatatype, DeclareConst, DefineFun, Assert, DeclareFun, SetLogic, SetOption, Reset, Exit, Push, Pop, Constructor, Entry, Constant, Function, Defined, Builds, Selects, State, Script, is_in, is_taken, is_new_datatype, is_simple_symbol, is_attribute_value, is_reserved, is_sort, has_sort, has_name, is_stated, built_in_names, look_up, names_of, declare, declare_selectors, declare_constructors, with_name, with_sort, with_assertion, obey, step, knows, ◌>>=◌}
 use Rattle.smt_semantics.specs.Meanings.{is_own}
 use Rattle.smt_semantics.specs.Sorts.{Entries}

@@ -15,12 +15,12 @@ use Rattle.smt_lines.specs.LineForms.{entity_lines, variable_lines}
 use Rattle.smt_lines.specs.Lines.{Written, next_term, next_function, unless_named, define_entity, encode_type, encode_attributes, encode_function, encode_literal, encode_head, Rendering, AsApplication, AsEqualsIntMin, AsFalse, application_rendering, define_application, encode_term, encode_terms, encode_fields, encode}
 use Rattle.smt_lines.specs.NameTables.{Tables, name_of_term, name_of_type, name_of_function}
 use Rattle.smt_semantics.specs.Script.{name}
-use Rattle.smt_sexpr.specs.Reading.{Expression}
-use Rattle.smt_term.proofs.Soundness.{all-front, all-back}
-use Rattle.smt_term.specs.Plain.{PlainType, OptionType, BitVecType, BoolType, EntityType, ExtensionType, StringType, RecordType, SetType, AttributeTypes, no_attributes, attribute, PlainFunction, PlainOp, UufOp, PlainLiteral, BitVecLiteral, BoolLiteral, EntityLiteral, ExtensionLiteral, StringLiteral, PlainTerm, Application, NoneTerm, LiteralTerm, RecordTerm, SetTerm, SomeTerm, VariableTerm, PlainTerms, no_terms, one_term, PlainFields, no_fields, one_field, terms}
-use Rattle.smt_term.specs.Reached.{subterms, subterms_of_all, subterms_of_fields}
-use Rattle.smt_term.specs.TypeValues.{Enums, members_of}
-use Rattle.smt_term.specs.Types.{type_of, literal_type}
+use Rattle.smt_lexicon.specs.Reading.{Expression}
+use Rattle.smt_meaning.proofs.Soundness.{all-front, all-back}
+use Rattle.smt_meaning.specs.Plain.{PlainType, OptionType, BitVecType, BoolType, EntityType, ExtensionType, StringType, RecordType, SetType, AttributeTypes, no_attributes, attribute, PlainFunction, PlainOp, UufOp, PlainLiteral, BitVecLiteral, BoolLiteral, EntityLiteral, ExtensionLiteral, StringLiteral, PlainTerm, Application, NoneTerm, LiteralTerm, RecordTerm, SetTerm, SomeTerm, VariableTerm, PlainTerms, no_terms, one_term, PlainFields, no_fields, one_field, terms}
+use Rattle.smt_meaning.specs.Reached.{subterms, subterms_of_all, subterms_of_fields}
+use Rattle.smt_meaning.specs.TypeValues.{Enums, members_of}
+use Rattle.smt_meaning.specs.Types.{type_of, literal_type}
 use Rattle.std.proofs.Common.{◌≡◌, ℕ, List, [], ◌∷◌, ◌++◌, map, refl, sym, Option, Some, None, ◌∙◌}
 use Rattle.std.specs.List.{AllByRecursion}
 use Rattle.smt_headline.specs.Fits.{HasDefinition, DefinitionOrigin, VariableOrigin, FunctionOrigin}

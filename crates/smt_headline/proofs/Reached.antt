@@ -3,11 +3,11 @@ use Rattle.std.proofs.Common.{◌≡◌, ◌⊎◌, List, [], ◌∷◌, ◌++�
 use Rattle.std.specs.List.{AllByRecursion, filter_map, flat_map, cons_option}
 use Rattle.std.proofs.lemmas.List.Concat.{flat_map-append}
 use Rattle.std.proofs.lemmas.List.Elements.{filter_map-append}
-use Rattle.smt_term.specs.Plain.{PlainType, PlainFunction, UufOp, PlainTerm, Application, NoneTerm, LiteralTerm, RecordTerm, SetTerm, SomeTerm, VariableTerm, terms}
-use Rattle.smt_term.specs.Reached.{subterms, subterms_of_all, types_within, function_of, reached_terms, reached_functions, reached_types}
-use Rattle.smt_term.specs.TypeValues.{Enums}
-use Rattle.smt_term.specs.Types.{type_of}
-use Rattle.smt_term.proofs.Soundness.{all-front, all-back}
+use Rattle.smt_meaning.specs.Plain.{PlainType, PlainFunction, UufOp, PlainTerm, Application, NoneTerm, LiteralTerm, RecordTerm, SetTerm, SomeTerm, VariableTerm, terms}
+use Rattle.smt_meaning.specs.Reached.{subterms, subterms_of_all, types_within, function_of, reached_terms, reached_functions, reached_types}
+use Rattle.smt_meaning.specs.TypeValues.{Enums}
+use Rattle.smt_meaning.specs.Types.{type_of}
+use Rattle.smt_meaning.proofs.Soundness.{all-front, all-back}
 use Rattle.smt_carrying.specs.Open.{Occurs}
 use Rattle.smt_headline.specs.Fits.{IsAmong}
 use Rattle.smt_headline.proofs.Keys.{IsKey}

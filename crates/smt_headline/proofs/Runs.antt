@@ -1,7 +1,7 @@
 -- What holds of each entry that a script declares.
 use Rattle.std.proofs.Common.{◌≡◌, ℕ, suc, Bool, true, false, ◌&&◌, ◌||◌, eqb, cond, List, [], ◌∷◌, map, length, subst, Some}
 use Rattle.std.specs.List.{AllByRecursion}
-use Rattle.smt_sexpr.specs.Reading.{Expression}
+use Rattle.smt_lexicon.specs.Reading.{Expression}
 use Rattle.smt_semantics.specs.Script.{Command, DeclareDatatype, DeclareConst, DefineFun, Assert, DeclareFun, SetLogic, SetOption, Reset, Exit, Push, Pop, Constructor, Entry, Constant, Function, Defined, Builds, Selects, State, is_in, is_taken, is_new_datatype, is_simple_symbol, is_attribute_value, is_sort, has_sort, names_of, declare, declare_selectors, declare_constructors, with_name, with_sort, with_assertion, obey, step, run, knows, ◌>>=◌}
 use Rattle.smt_semantics.proofs.Results.{some_is, if_not, if_so, bind_gives}
 

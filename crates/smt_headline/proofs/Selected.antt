@@ -1,9 +1,9 @@
 -- Which selectors the expressions of a script apply.
 use Rattle.std.proofs.Common.{◌≡◌, ℕ, Bool, true, false, ◌&&◌, cond, List, [], ◌∷◌, ◌++◌, map, refl, sym, ap, ◌∙◌, Option, Some, None}
 use Rattle.std.specs.Prelude.{bytes_eq, codes, take, drop}
-use Rattle.smt_term.specs.Plain.{BitVecLiteral, BoolLiteral, EntityLiteral, ExtensionLiteral, StringLiteral, PlainTerm, Application, NoneTerm, LiteralTerm, RecordTerm, SetTerm, SomeTerm, VariableTerm}
-use Rattle.smt_sexpr.specs.Lexicon.{is_digit, some_all, number_in}
-use Rattle.smt_sexpr.specs.Reading.{Expression}
+use Rattle.smt_meaning.specs.Plain.{BitVecLiteral, BoolLiteral, EntityLiteral, ExtensionLiteral, StringLiteral, PlainTerm, Application, NoneTerm, LiteralTerm, RecordTerm, SetTerm, SomeTerm, VariableTerm}
+use Rattle.smt_lexicon.specs.Lexicon.{is_digit, some_all, number_in}
+use Rattle.smt_lexicon.specs.Reading.{Expression}
 use Rattle.smt_semantics.specs.Script.{BitLiteral, Unformed, assertions_of, name}
 use Rattle.smt_semantics.specs.Sorts.{Entries, entries, sort_in}
 use Rattle.smt_semantics.specs.Value.{Selection, shape_selection, selections, selections_in}

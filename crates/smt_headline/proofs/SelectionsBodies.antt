@@ -3,13 +3,13 @@ use Rattle.std.proofs.Common.{◌≡◌, ℕ, Bool, true, false, ◌&&◌, ◌||
 use Rattle.std.specs.Prelude.{bytes_eq, codes, IsSome, unwrap_or}
 use Rattle.std.specs.Cmp.{second_so}
 use Rattle.std.proofs.lemmas.Bool.{and_parts, false≢true, cond-false, or_parts}
-use Rattle.smt_term.specs.Plain.{IpAddrKind, PlainType, OptionType, BoolType, EntityType, ExtensionType, SetType, ExtensionOp, IpAddrV4Op, IpAddrV6Op, IpPrefixV4Op, IpPrefixV6Op, PlainOp, BvnegoOp, ExtOp, OptionGetOp, BitVecLiteral, BoolLiteral, EntityLiteral, ExtensionLiteral, StringLiteral, PlainTerm, Application, NoneTerm, LiteralTerm, RecordTerm, SetTerm, SomeTerm, VariableTerm, PlainTerms, no_terms, one_term}
-use Rattle.smt_term.specs.Types.{type_eq, inner_type, types_of, extension_signature, result_type, is_type, type_of}
-use Rattle.smt_term.specs.Typing.{typed_all}
-use Rattle.smt_term.proofs.Soundness.{is_type-some, chosen}
-use Rattle.smt_term.proofs.TypeOrder.{eq_same}
-use Rattle.smt_term.specs.TypeValues.{Enums, members_of}
-use Rattle.smt_sexpr.specs.Reading.{Expression, expressions}
+use Rattle.smt_meaning.specs.Plain.{IpAddrKind, PlainType, OptionType, BoolType, EntityType, ExtensionType, SetType, ExtensionOp, IpAddrV4Op, IpAddrV6Op, IpPrefixV4Op, IpPrefixV6Op, PlainOp, BvnegoOp, ExtOp, OptionGetOp, BitVecLiteral, BoolLiteral, EntityLiteral, ExtensionLiteral, StringLiteral, PlainTerm, Application, NoneTerm, LiteralTerm, RecordTerm, SetTerm, SomeTerm, VariableTerm, PlainTerms, no_terms, one_term}
+use Rattle.smt_meaning.specs.Types.{type_eq, inner_type, types_of, extension_signature, result_type, is_type, type_of}
+use Rattle.smt_meaning.specs.Typing.{typed_all}
+use Rattle.smt_meaning.proofs.Soundness.{is_type-some, chosen}
+use Rattle.smt_meaning.proofs.TypeOrder.{eq_same}
+use Rattle.smt_meaning.specs.TypeValues.{Enums, members_of}
+use Rattle.smt_lexicon.specs.Reading.{Expression, expressions}
 use Rattle.smt_semantics.specs.Script.{Entry, Defined, Shape, Applied, State, name, group, is_in, built_in_names, shape, is_stated, shape_is_known, each_stated, look_up, ◌>>=◌}
 use Rattle.smt_semantics.specs.Sorts.{Entries, entries, bool_sort, entry_sort, named_sort, sort_in, option_sort}
 use Rattle.smt_semantics.specs.Value.{Selection, selection, selection_of, shape_selection, selections}

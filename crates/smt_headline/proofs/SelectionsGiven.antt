@@ -4,12 +4,12 @@ use Rattle.std.specs.Prelude.{bytes_eq, IsTrue, unwrap_or}
 use Rattle.std.specs.List.{AllByRecursion}
 use Rattle.std.proofs.lemmas.Bool.{and_parts, false≢true}
 use Rattle.std.proofs.lemmas.List.Elements.{recursion_from_All}
-use Rattle.smt_term.specs.Plain.{PlainType, ExtensionOp, IpAddrV4Op, IpAddrV6Op, IpPrefixV4Op, IpPrefixV6Op, PlainOp, ExtOp, OptionGetOp, UufOp, PlainTerm, Application, VariableTerm, PlainTerms}
-use Rattle.smt_term.specs.Reached.{reached_terms}
-use Rattle.smt_term.specs.Types.{extension_signature}
-use Rattle.smt_term.proofs.Soundness.{all-front, all-back}
-use Rattle.smt_term.specs.TypeValues.{Enums}
-use Rattle.smt_sexpr.specs.Reading.{Expression}
+use Rattle.smt_meaning.specs.Plain.{PlainType, ExtensionOp, IpAddrV4Op, IpAddrV6Op, IpPrefixV4Op, IpPrefixV6Op, PlainOp, ExtOp, OptionGetOp, UufOp, PlainTerm, Application, VariableTerm, PlainTerms}
+use Rattle.smt_meaning.specs.Reached.{reached_terms}
+use Rattle.smt_meaning.specs.Types.{extension_signature}
+use Rattle.smt_meaning.proofs.Soundness.{all-front, all-back}
+use Rattle.smt_meaning.specs.TypeValues.{Enums}
+use Rattle.smt_lexicon.specs.Reading.{Expression}
 use Rattle.smt_semantics.specs.Script.{Defined, State, Script, look_up, assertions_of, names_of}
 use Rattle.smt_semantics.specs.Sorts.{entries}
 use Rattle.smt_semantics.specs.Value.{ScriptInterpretation, IsScriptInterpretation, Selection, selections, selections_in, body_of, body_selections, applied_selectors, is_selector_given, is_table, are_others}

@@ -2,12 +2,12 @@
 use Rattle.std.proofs.Common.{◌≡◌, ℕ, ◌-◌, ◌^◌, Bool, true, false, not, List, [], ◌∷◌, refl, sym, ap, subst, Option, Some, None}
 use Rattle.std.specs.Prelude.{codes, IsSome}
 use Rattle.std.proofs.lemmas.Bool.{and_from, false≢true}
-use Rattle.smt_term.specs.Plain.{IpAddrKind, DecimalKind, DatetimeKind, DurationKind, PlainType, OptionType, BitVecType, BoolType, EntityType, ExtensionType, StringType, RecordType, SetType, PlainFunction, ExtensionOp, IpAddrV4Op, IpAddrV6Op, IpPrefixV4Op, IpPrefixV6Op, PlainOp, BvnegoOp, ExtOp, OptionGetOp, RecordGetOp, StringLikeOp, UufOp, PlainTerm, Application, PlainTerms}
-use Rattle.smt_term.specs.Types.{extension_signature, type_eq}
-use Rattle.smt_term.specs.TypeValues.{Enums}
-use Rattle.smt_term.specs.Interpretations.{function_eq}
-use Rattle.smt_term.proofs.TermTotal.{types_decided, functions_decided}
-use Rattle.smt_sexpr.specs.Reading.{Expression, expressions}
+use Rattle.smt_meaning.specs.Plain.{IpAddrKind, DecimalKind, DatetimeKind, DurationKind, PlainType, OptionType, BitVecType, BoolType, EntityType, ExtensionType, StringType, RecordType, SetType, PlainFunction, ExtensionOp, IpAddrV4Op, IpAddrV6Op, IpPrefixV4Op, IpPrefixV6Op, PlainOp, BvnegoOp, ExtOp, OptionGetOp, RecordGetOp, StringLikeOp, UufOp, PlainTerm, Application, PlainTerms}
+use Rattle.smt_meaning.specs.Types.{extension_signature, type_eq}
+use Rattle.smt_meaning.specs.TypeValues.{Enums}
+use Rattle.smt_meaning.specs.Interpretations.{function_eq}
+use Rattle.smt_meaning.proofs.TermTotal.{types_decided, functions_decided}
+use Rattle.smt_lexicon.specs.Reading.{Expression, expressions}
 use Rattle.smt_semantics.specs.Script.{Entry, Selects, name, is_in}
 use Rattle.smt_semantics.specs.Value.{Selection}
 use Rattle.smt_semantics.specs.Sorts.{option_sort}

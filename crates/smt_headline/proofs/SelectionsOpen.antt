@@ -2,9 +2,9 @@
 use Rattle.std.proofs.Common.{◌≡◌, ℕ, Bool, true, false, List, [], ◌∷◌, ◌++◌, refl, sym, subst, Some}
 use Rattle.std.specs.List.{AllByRecursion}
 use Rattle.std.proofs.lemmas.Bool.{false≢true}
-use Rattle.smt_term.specs.Plain.{PlainType, ExtensionOp, IpAddrV4Op, IpAddrV6Op, IpPrefixV4Op, IpPrefixV6Op, PlainOp, ExtOp, OptionGetOp, PlainTerm, Application, PlainTerms}
-use Rattle.smt_term.specs.Reached.{reached_terms}
-use Rattle.smt_term.specs.TypeValues.{Enums}
+use Rattle.smt_meaning.specs.Plain.{PlainType, ExtensionOp, IpAddrV4Op, IpAddrV6Op, IpPrefixV4Op, IpPrefixV6Op, PlainOp, ExtOp, OptionGetOp, PlainTerm, Application, PlainTerms}
+use Rattle.smt_meaning.specs.Reached.{reached_terms}
+use Rattle.smt_meaning.specs.TypeValues.{Enums}
 use Rattle.smt_semantics.specs.Script.{Entry, Defined, State, Script, names_of}
 use Rattle.smt_semantics.specs.Sorts.{entries}
 use Rattle.smt_semantics.specs.Value.{Selection, selections, body_of, body_selections}

@@ -4,11 +4,11 @@ use Rattle.std.specs.Prelude.{IsSome}
 use Rattle.std.specs.Cmp.{first_so, second_so}
 use Rattle.std.specs.List.{AllByRecursion}
 use Rattle.std.proofs.lemmas.Bool.{false≢true}
-use Rattle.smt_term.specs.Plain.{PlainTerm, Application, NoneTerm, LiteralTerm, RecordTerm, SetTerm, SomeTerm, VariableTerm, PlainTerms, no_terms, one_term, PlainFields, no_fields, one_field}
-use Rattle.smt_term.specs.Reached.{subterms, subterms_of_all, subterms_of_fields, reached_terms}
-use Rattle.smt_term.specs.Types.{types_of, result_type, is_type}
-use Rattle.smt_term.specs.Typing.{are_elements, typed, typed_all, typed_fields}
-use Rattle.smt_term.specs.TypeValues.{Enums}
+use Rattle.smt_meaning.specs.Plain.{PlainTerm, Application, NoneTerm, LiteralTerm, RecordTerm, SetTerm, SomeTerm, VariableTerm, PlainTerms, no_terms, one_term, PlainFields, no_fields, one_field}
+use Rattle.smt_meaning.specs.Reached.{subterms, subterms_of_all, subterms_of_fields, reached_terms}
+use Rattle.smt_meaning.specs.Types.{types_of, result_type, is_type}
+use Rattle.smt_meaning.specs.Typing.{are_elements, typed, typed_all, typed_fields}
+use Rattle.smt_meaning.specs.TypeValues.{Enums}
 use Rattle.smt_semantics.specs.Script.{State}
 use Rattle.smt_lines.specs.NameTables.{Tables, name_of_term}
 use Rattle.smt_lines.specs.Entries.{HaveTexts, HaveFieldTexts}

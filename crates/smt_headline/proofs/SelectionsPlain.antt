@@ -2,10 +2,10 @@
 use Rattle.std.proofs.Common.{◌≡◌, ℕ, Bool, true, false, not, ◌&&◌, cond, List, [], ◌∷◌, ◌++◌, refl, ap, ap₂, ◌∙◌, Option, Some, None}
 use Rattle.std.specs.Prelude.{codes, bytes_eq, take, drop, map}
 use Rattle.std.proofs.lemmas.Bool.{and_parts, and_from, false≢true, or_parts}
-use Rattle.smt_bits.specs.BitVectors.{bits_of}
-use Rattle.smt_term.specs.Plain.{PlainType, OptionType, BitVecType, BoolType, EntityType, ExtensionType, StringType, RecordType, SetType, PatternPart, Character, Wildcard, PlainExtension, DecimalOf, Ipv4Of, Ipv6Of, DatetimeOf, DurationOf, BitVecLiteral, BoolLiteral, EntityLiteral, ExtensionLiteral, StringLiteral, PlainTerm, Application, NoneTerm, LiteralTerm, RecordTerm, SetTerm, SomeTerm, VariableTerm, PlainTerms, no_terms, one_term, PlainFields, no_fields, one_field}
-use Rattle.smt_sexpr.specs.Lexicon.{Number, Name, is_digit, some_all, number_in}
-use Rattle.smt_sexpr.specs.Reading.{Expression, Leaf, Node, Expressions, Nil, Cons, expressions}
+use Rattle.smt_arithmetic.specs.BitVectors.{bits_of}
+use Rattle.smt_meaning.specs.Plain.{PlainType, OptionType, BitVecType, BoolType, EntityType, ExtensionType, StringType, RecordType, SetType, PatternPart, Character, Wildcard, PlainExtension, DecimalOf, Ipv4Of, Ipv6Of, DatetimeOf, DurationOf, BitVecLiteral, BoolLiteral, EntityLiteral, ExtensionLiteral, StringLiteral, PlainTerm, Application, NoneTerm, LiteralTerm, RecordTerm, SetTerm, SomeTerm, VariableTerm, PlainTerms, no_terms, one_term, PlainFields, no_fields, one_field}
+use Rattle.smt_lexicon.specs.Lexicon.{Number, Name, is_digit, some_all, number_in}
+use Rattle.smt_lexicon.specs.Reading.{Expression, Leaf, Node, Expressions, Nil, Cons, expressions}
 use Rattle.smt_semantics.specs.Script.{Entry, Constant, Function, Defined, Builds, Selects, BitLiteral, Applied, Extended, Tested, Unformed, name, group, is_in, bit_literal, qualified, matched_by, matched, indexed, insertion, shape, pattern}
 use Rattle.smt_semantics.specs.Sorts.{Entries}
 use Rattle.smt_semantics.specs.Value.{OpenSelector, ValueOfSort, TableOfSelector, open_selector, Selection, range_selectors, selection_if, selection, shape_selection, first_sort, selections, each_selections}

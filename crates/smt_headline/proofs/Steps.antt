@@ -3,13 +3,13 @@ use Rattle.std.proofs.Common.{◌≡◌, ℕ, suc, ◌+◌, List, [], ◌∷◌,
 use Rattle.std.specs.List.{AllByRecursion}
 use Rattle.std.specs.Option.{option_or}
 use Rattle.std.proofs.lemmas.List.{append-nil}
-use Rattle.smt_term.specs.Faults.{Fault, first_fault, term_fault}
-use Rattle.smt_term.specs.Formed.{IsFormed}
-use Rattle.smt_term.specs.Typing.{Typed}
-use Rattle.smt_term.specs.Plain.{BoolType, UufOp, PlainTerm, Application, VariableTerm, terms}
-use Rattle.smt_term.specs.Reached.{reached_terms}
-use Rattle.smt_term.specs.TypeValues.{Enums}
-use Rattle.smt_sexpr.specs.Reading.{Expression}
+use Rattle.smt_meaning.specs.Faults.{Fault, first_fault, term_fault}
+use Rattle.smt_meaning.specs.Formed.{IsFormed}
+use Rattle.smt_meaning.specs.Typing.{Typed}
+use Rattle.smt_meaning.specs.Plain.{BoolType, UufOp, PlainTerm, Application, VariableTerm, terms}
+use Rattle.smt_meaning.specs.Reached.{reached_terms}
+use Rattle.smt_meaning.specs.TypeValues.{Enums}
+use Rattle.smt_lexicon.specs.Reading.{Expression}
 use Rattle.smt_semantics.specs.Script.{Entry, Constant, Function, Defined, Builds, Selects, Level, State, names_of, assertions_of, assertions_below, with_level}
 use Rattle.smt_lines.specs.EntryNames.{stated_type_name, stated_function_name}
 use Rattle.smt_lines.specs.Calls.{back_at}

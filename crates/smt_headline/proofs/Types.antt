@@ -3,13 +3,13 @@ use Rattle.std.proofs.Common.{◌≡◌, ℕ, suc, ◌+◌, ◌≤◌, true, fal
 use Rattle.std.specs.Prelude.{codes, bytes_eq, IsSome, nat_le}
 use Rattle.std.proofs.lemmas.Bool.{and_parts, cases_Bool, false≢true, leb-true}
 use Rattle.std.proofs.lemmas.Slice.Eq.{bytes_eq-Decides}
-use Rattle.smt_term.specs.Plain.{PlainType, OptionType, BitVecType, BoolType, EntityType, ExtensionType, StringType, RecordType, SetType, AttributeTypes, no_attributes, attribute}
-use Rattle.smt_term.specs.TypeValues.{Enums, members_of}
-use Rattle.smt_sexpr.specs.Reading.{Expression}
+use Rattle.smt_meaning.specs.Plain.{PlainType, OptionType, BitVecType, BoolType, EntityType, ExtensionType, StringType, RecordType, SetType, AttributeTypes, no_attributes, attribute}
+use Rattle.smt_meaning.specs.TypeValues.{Enums, members_of}
+use Rattle.smt_lexicon.specs.Reading.{Expression}
 use Rattle.smt_semantics.specs.Script.{Constructor, Builds, State}
 use Rattle.smt_semantics.specs.Sorts.{Entries, entries}
 use Rattle.smt_semantics.specs.DeclarationLines.{Declares, Constructors, shown}
-use Rattle.smt_bits.specs.Widths.{is_width}
+use Rattle.smt_arithmetic.specs.Widths.{is_width}
 use Rattle.smt_lines.specs.Line as line
 use Rattle.smt_lines.specs.Line.{Line, Bare, Fielded, DeclareDatatype}
 use Rattle.smt_lines.specs.LineForms as forms

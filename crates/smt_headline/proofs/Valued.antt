@@ -3,18 +3,18 @@ use Rattle.std.proofs.Common.{◌≡◌, true, List, [], ◌∷◌, Some, None}
 use Rattle.std.specs.Cmp.{first_so, second_so}
 use Rattle.std.specs.List.{AllByRecursion, list_all}
 use Rattle.std.specs.Option.{option_or}
-use Rattle.smt_term.specs.Plain.{PlainTerm, Application, NoneTerm, LiteralTerm, RecordTerm, SetTerm, SomeTerm, VariableTerm, PlainTerms, no_terms, one_term, PlainFields, no_fields, one_field, RecordType}
-use Rattle.smt_term.specs.Faults.{is_passed_over, type_fault, literal_fault, operator_fault, term_fault, terms_fault, fields_fault, first_fault}
-use Rattle.smt_term.specs.Formed.{IsFormedLiteral, IsFormedNode, IsFormed}
-use Rattle.smt_term.specs.Interpretations.{IsGivenOp, IsGiven}
-use Rattle.smt_term.specs.Meaning.{literal_value, meaning}
-use Rattle.smt_term.specs.Reached.{subterms, subterms_of_all, subterms_of_fields, reached_terms}
-use Rattle.smt_term.specs.Tables.{Interpretation}
-use Rattle.smt_term.specs.Types.{type_eq, literal_type, type_of, field_types, types_of, result_type, is_type}
-use Rattle.smt_term.specs.Typing.{are_elements, typed, typed_all, typed_fields}
-use Rattle.smt_term.proofs.Elements.{typed_elements}
-use Rattle.smt_term.specs.TypeValues.{Enums, IsValue}
-use Rattle.smt_term.proofs.Soundness.{all-front, all-back, all-last, none-first, none-second, not-passed, is_type-some, walked, valued}
+use Rattle.smt_meaning.specs.Plain.{PlainTerm, Application, NoneTerm, LiteralTerm, RecordTerm, SetTerm, SomeTerm, VariableTerm, PlainTerms, no_terms, one_term, PlainFields, no_fields, one_field, RecordType}
+use Rattle.smt_meaning.specs.Faults.{is_passed_over, type_fault, literal_fault, operator_fault, term_fault, terms_fault, fields_fault, first_fault}
+use Rattle.smt_meaning.specs.Formed.{IsFormedLiteral, IsFormedNode, IsFormed}
+use Rattle.smt_meaning.specs.Interpretations.{IsGivenOp, IsGiven}
+use Rattle.smt_meaning.specs.Meaning.{literal_value, meaning}
+use Rattle.smt_meaning.specs.Reached.{subterms, subterms_of_all, subterms_of_fields, reached_terms}
+use Rattle.smt_meaning.specs.Tables.{Interpretation}
+use Rattle.smt_meaning.specs.Types.{type_eq, literal_type, type_of, field_types, types_of, result_type, is_type}
+use Rattle.smt_meaning.specs.Typing.{are_elements, typed, typed_all, typed_fields}
+use Rattle.smt_meaning.proofs.Elements.{typed_elements}
+use Rattle.smt_meaning.specs.TypeValues.{Enums, IsValue}
+use Rattle.smt_meaning.proofs.Soundness.{all-front, all-back, all-last, none-first, none-second, not-passed, is_type-some, walked, valued}
 use Rattle.smt_lines.specs.Encodable.{IsEncodableType, IsEncodableOp, IsEncodableLiteral, IsEncodable}
 use Rattle.smt_headline.proofs.FineTerms.{no_type_fault, HasFormedType, fine, fine_own}
 

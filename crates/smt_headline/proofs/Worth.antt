@@ -2,17 +2,17 @@
 use Rattle.std.proofs.Common.{◌≡◌, ℕ, true, List, ◌∷◌, refl, ap₂, ◌∙◌, Option, Some, None}
 use Rattle.std.specs.Prelude.{IsSome, nat_lt, ◌^◌, ◌<◌}
 use Rattle.std.proofs.lemmas.Bool.{false≢true, and_from, lt-ltb}
-use Rattle.smt_term.specs.Plain.{ExtensionKind, PlainType, OptionType, ExtensionType, PlainOp, BitVecLiteral, BoolLiteral, EntityLiteral, ExtensionLiteral, StringLiteral, PlainTerm, Application, NoneTerm, LiteralTerm, RecordTerm, SetTerm, SomeTerm, VariableTerm, PlainTerms, no_terms, one_term}
-use Rattle.smt_term.specs.Meaning.{meaning, meanings}
-use Rattle.smt_term.specs.Tables.{Interpretation}
-use Rattle.smt_term.specs.Types.{type_of, types_of}
-use Rattle.smt_term.specs.Values.{Value}
-use Rattle.smt_term.specs.TypeValues.{Enums}
-use Rattle.smt_term.specs.TermOrder.{term_eq}
-use Rattle.smt_term.proofs.TermTotal.{terms_decided}
+use Rattle.smt_meaning.specs.Plain.{ExtensionKind, PlainType, OptionType, ExtensionType, PlainOp, BitVecLiteral, BoolLiteral, EntityLiteral, ExtensionLiteral, StringLiteral, PlainTerm, Application, NoneTerm, LiteralTerm, RecordTerm, SetTerm, SomeTerm, VariableTerm, PlainTerms, no_terms, one_term}
+use Rattle.smt_meaning.specs.Meaning.{meaning, meanings}
+use Rattle.smt_meaning.specs.Tables.{Interpretation}
+use Rattle.smt_meaning.specs.Types.{type_of, types_of}
+use Rattle.smt_meaning.specs.Values.{Value}
+use Rattle.smt_meaning.specs.TypeValues.{Enums}
+use Rattle.smt_meaning.specs.TermOrder.{term_eq}
+use Rattle.smt_meaning.proofs.TermTotal.{terms_decided}
 use Rattle.smt_semantics.specs.ScriptValues.{ScriptValue, BitsOf}
-use Rattle.smt_sexpr.specs.Reading.{Expression}
-use Rattle.smt_bits.specs.Widths.{are_bits, is_width}
+use Rattle.smt_lexicon.specs.Reading.{Expression}
+use Rattle.smt_arithmetic.specs.Widths.{are_bits, is_width}
 use Rattle.smt_semantics.specs.Script.{State, Defined, name, names_of, ◌>>=◌}
 use Rattle.smt_semantics.specs.Sorts as sorts
 use Rattle.smt_semantics.specs.Sorts.{entries}

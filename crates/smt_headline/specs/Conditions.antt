@@ -2,12 +2,12 @@
 use Rattle.std.specs.Prelude.{◌≡◌, ℕ, nat_lt, bytes_eq, length, List, [], ◌∷◌, None, IsTrue}
 use Rattle.std.specs.List.{AllByRecursion, list_any}
 use Rattle.std.specs.Option.{is_some}
-use Rattle.smt_term.specs.Plain.{PlainType, AttributeTypes, PlainTerm, terms}
-use Rattle.smt_term.specs.Faults.{type_fault, first_fault}
-use Rattle.smt_term.specs.Formed.{IsFormedType, IsFormed, attribute_names}
-use Rattle.smt_term.specs.Types.{attribute_in}
-use Rattle.smt_term.specs.Typing.{typed, AreBoolean, AreTyped}
-use Rattle.smt_term.specs.TypeValues.{Enums}
+use Rattle.smt_meaning.specs.Plain.{PlainType, AttributeTypes, PlainTerm, terms}
+use Rattle.smt_meaning.specs.Faults.{type_fault, first_fault}
+use Rattle.smt_meaning.specs.Formed.{IsFormedType, IsFormed, attribute_names}
+use Rattle.smt_meaning.specs.Types.{attribute_in}
+use Rattle.smt_meaning.specs.Typing.{typed, AreBoolean, AreTyped}
+use Rattle.smt_meaning.specs.TypeValues.{Enums}
 use Rattle.smt_lines.specs.EntryNames.{place_of}
 use Rattle.smt_lines.specs.Lines.{Call, PushCall, PopCall, EncodeCall, Encoding, after_call}
 use Rattle.smt_lines.specs.Rows.{condition}

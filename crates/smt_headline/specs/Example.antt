@@ -1,9 +1,9 @@
 -- A worked example: a Boolean variable b, and the condition that it is false.
 use Rattle.std.specs.Prelude.{◌≡◌, ◌↔◌, ℕ, codes, true, false, List, [], ◌∷◌, IsTrue}
-use Rattle.smt_term.specs.Plain.{BoolType, BoolLiteral, PlainTerm, LiteralTerm}
-use Rattle.smt_term.specs.Interpretations.{IsInterpretation}
-use Rattle.smt_term.specs.Tables.{Interpretation}
-use Rattle.smt_term.specs.Values.{BoolValue}
+use Rattle.smt_meaning.specs.Plain.{BoolType, BoolLiteral, PlainTerm, LiteralTerm}
+use Rattle.smt_meaning.specs.Interpretations.{IsInterpretation}
+use Rattle.smt_meaning.specs.Tables.{Interpretation}
+use Rattle.smt_meaning.specs.Values.{BoolValue}
 use Rattle.smt_semantics.specs.ScriptValues.{TruthOf}
 use Rattle.smt_semantics.specs.Script.{start, name, is_in}
 use Rattle.smt_semantics.specs.Value.{ScriptInterpretation, IsScriptInterpretation, IsModel, free_names}

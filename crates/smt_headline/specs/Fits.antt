@@ -2,12 +2,12 @@
 -- that this is kept by each line that is stated, and is all that the main theorem needs.
 use Rattle.std.specs.Prelude.{◌≡◌, ◌⊎◌, ℕ, Bool, true, false, nat_lt, codes, length, map, List, [], ◌∷◌, ◌++◌, Option, Some, None, ⊤}
 use Rattle.std.specs.List.{AllByRecursion}
-use Rattle.smt_term.specs.Plain.{PlainType, EntityType, PlainFunction, UufOp, EntityLiteral, ExtensionLiteral, PlainTerm, Application, LiteralTerm, VariableTerm, PlainTerms}
-use Rattle.smt_term.specs.Reached.{reached_terms, reached_functions, reached_types}
-use Rattle.smt_term.specs.Faults.{term_fault}
-use Rattle.smt_term.specs.Typing.{typed}
-use Rattle.smt_term.specs.TypeValues.{Enums, members_of}
-use Rattle.smt_sexpr.specs.Reading.{Expression}
+use Rattle.smt_meaning.specs.Plain.{PlainType, EntityType, PlainFunction, UufOp, EntityLiteral, ExtensionLiteral, PlainTerm, Application, LiteralTerm, VariableTerm, PlainTerms}
+use Rattle.smt_meaning.specs.Reached.{reached_terms, reached_functions, reached_types}
+use Rattle.smt_meaning.specs.Faults.{term_fault}
+use Rattle.smt_meaning.specs.Typing.{typed}
+use Rattle.smt_meaning.specs.TypeValues.{Enums, members_of}
+use Rattle.smt_lexicon.specs.Reading.{Expression}
 use Rattle.smt_semantics.specs.Script.{Command, SetLogic, CheckSat, GetModel, Entry, Constant, Function, Defined, Level, State, start, step, names_of, assertions_of}
 use Rattle.smt_semantics.specs.Written.{IsLine, IsOpenScript}
 use Rattle.smt_lines.specs.Line.{spelled_lines}

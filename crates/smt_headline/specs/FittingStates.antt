@@ -1,9 +1,9 @@
 -- What a state that fits the tables gives to carrying.
 use Rattle.std.specs.Prelude.{◌≡◌, List, [], Some, IsSome, IsTrue, ⊤}
 use Rattle.std.specs.List.{AllByRecursion}
-use Rattle.smt_term.specs.Plain.{PlainType, PlainOp, UufOp, PlainTerm, Application, VariableTerm, terms}
-use Rattle.smt_term.specs.Reached.{reached_terms}
-use Rattle.smt_term.specs.TypeValues.{Enums}
+use Rattle.smt_meaning.specs.Plain.{PlainType, PlainOp, UufOp, PlainTerm, Application, VariableTerm, terms}
+use Rattle.smt_meaning.specs.Reached.{reached_terms}
+use Rattle.smt_meaning.specs.TypeValues.{Enums}
 use Rattle.smt_semantics.specs.Script.{Constant, Function, State, names_of, assertions_of}
 use Rattle.smt_semantics.specs.Sorts.{Entries, entries, has_sort_in}
 use Rattle.smt_semantics.specs.Value.{ScriptInterpretation, IsScriptInterpretation, is_table, selections_in}

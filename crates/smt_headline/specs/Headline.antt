@@ -1,16 +1,16 @@
 -- What the main theorem says: bytes are a script, and its models are exactly the interpretations that make all terms true.
 use Rattle.std.specs.Prelude.{◌≡◌, ◌↔◌, ℕ, true, IsTrue, map, List, [], ◌∷◌, ◌++◌, Some, ⊤}
 use Rattle.std.specs.List.{AllByRecursion}
-use Rattle.smt_term.specs.Plain.{PlainTerm}
-use Rattle.smt_term.specs.Defaults.{default_interpretation}
-use Rattle.smt_term.specs.Interpretations.{IsInterpretation}
-use Rattle.smt_term.specs.Meaning.{term_value}
-use Rattle.smt_term.specs.Operators.{truth}
-use Rattle.smt_term.specs.Reached.{reached_variables, reached_functions}
-use Rattle.smt_term.specs.Tables.{Interpretation}
-use Rattle.smt_term.specs.Values.{BoolValue}
-use Rattle.smt_term.specs.TypeValues.{Enums}
-use Rattle.smt_sexpr.specs.Reading.{Expression}
+use Rattle.smt_meaning.specs.Plain.{PlainTerm}
+use Rattle.smt_meaning.specs.Defaults.{default_interpretation}
+use Rattle.smt_meaning.specs.Interpretations.{IsInterpretation}
+use Rattle.smt_meaning.specs.Meaning.{term_value}
+use Rattle.smt_meaning.specs.Operators.{truth}
+use Rattle.smt_meaning.specs.Reached.{reached_variables, reached_functions}
+use Rattle.smt_meaning.specs.Tables.{Interpretation}
+use Rattle.smt_meaning.specs.Values.{BoolValue}
+use Rattle.smt_meaning.specs.TypeValues.{Enums}
+use Rattle.smt_lexicon.specs.Reading.{Expression}
 use Rattle.smt_semantics.specs.Script.{State, is_in, assertions_of}
 use Rattle.smt_semantics.specs.ScriptValues.{TruthOf}
 use Rattle.smt_semantics.specs.Value.{ScriptInterpretation, IsScriptInterpretation, AgreeFor, IsModel, expression_value, free_names}

@@ -1,9 +1,9 @@
 -- SMT-LIB leaves a selector at a value of another constructor to the interpretation. The selectors that the text of conditions
 -- leaves open so are those that the conditions leave to theirs.
 use Rattle.std.specs.Prelude.{◌≡◌, ℕ, codes, map, List, [], ◌∷◌, unwrap_or}
-use Rattle.smt_term.specs.Plain.{OptionType, BoolType, OptionGetOp, PlainTerm, VariableTerm}
-use Rattle.smt_term.specs.TypeValues.{Enums}
-use Rattle.smt_sexpr.specs.Reading.{Expression}
+use Rattle.smt_meaning.specs.Plain.{OptionType, BoolType, OptionGetOp, PlainTerm, VariableTerm}
+use Rattle.smt_meaning.specs.TypeValues.{Enums}
+use Rattle.smt_lexicon.specs.Reading.{Expression}
 use Rattle.smt_semantics.specs.Script.{State, Script, name, start, run}
 use Rattle.smt_semantics.specs.Sorts.{entries, bool_sort, option_sort}
 use Rattle.smt_semantics.specs.Value.{ScriptInterpretation, IsScriptInterpretation, applied_selectors}

@@ -1,7 +1,7 @@
 -- The main theorem of stated texts.
 use Rattle.std.specs.Prelude.{List}
-use Rattle.smt_term.specs.Plain.{PlainTerm}
-use Rattle.smt_term.specs.TypeValues.{Enums}
+use Rattle.smt_meaning.specs.Plain.{PlainTerm}
+use Rattle.smt_meaning.specs.TypeValues.{Enums}
 use Rattle.smt_lines.specs.Lines.{Call, fresh}
 use Rattle.smt_lines.specs.Text.{text, names, text_of_calls}
 use Rattle.smt_carrying.specs.CarriedOrder.{AreEnums}

@@ -5,7 +5,7 @@ use Rattle.std.specs.List.{fold, list_all, prefix_len, take_while}
 use Rattle.std.proofs.lemmas.Bool.{and_parts, and_from, cond-true, cond-false}
 use Rattle.std.proofs.lemmas.List.{append-nil}
 use Rattle.std.proofs.lemmas.List.Folds.{list_all-append}
-use Rattle.smt_sexpr.specs.Lexicon.{is_digit, digit_value, number_in, some_all}
+use Rattle.smt_lexicon.specs.Lexicon.{is_digit, digit_value, number_in, some_all}
 use Rattle.smt_semantics.specs.Written.{is_name}
 use Rattle.smt_semantics.proofs.Numerals.{back, value}
 use Rattle.smt_semantics.proofs.Numbers.{some_list, numeral_digits, suits, both_all}

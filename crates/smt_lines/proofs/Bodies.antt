@@ -3,12 +3,12 @@ use Rattle.std.proofs.Common.{◌≡◌, ℕ, zero, suc, ◌+◌, ◌-◌, ◌^�
 use Rattle.std.specs.Prelude.{codes, IsSome, nat_lt, eqb}
 use Rattle.std.specs.List.{list_all}
 use Rattle.std.proofs.lemmas.Bool.{and_parts, and_from, ltb-true, false≢true, eqb-true, eqb-false}
-use Rattle.smt_bits.specs.BitVectors.{bits_of}
-use Rattle.smt_term.specs.Plain.{ExtensionKind, IpAddrKind, DecimalKind, DatetimeKind, DurationKind, PlainType, OptionType, BitVecType, ExtensionType, RecordType, AttributeTypes, PlainFunction, ExtensionOp, DatetimeOfBitVecOp, DatetimeValOp, DecimalValOp, DurationOfBitVecOp, DurationValOp, IpAddrV4Op, IpAddrV6Op, IpIsV4Op, IpPrefixV4Op, IpPrefixV6Op, PatternPart, Character, Wildcard, PlainOp, BvnegoOp, ExtOp, OptionGetOp, RecordGetOp, StringLikeOp, UufOp, PlainExtension, DecimalOf, Ipv4Of, Ipv6Of, DatetimeOf, DurationOf, PlainTerms, no_terms, one_term}
-use Rattle.smt_term.specs.TypeValues.{Enums}
-use Rattle.smt_term.specs.Formed.{attribute_names}
-use Rattle.smt_term.specs.Types.{kind_of}
-use Rattle.smt_sexpr.specs.Reading.{Expression, expressions}
+use Rattle.smt_arithmetic.specs.BitVectors.{bits_of}
+use Rattle.smt_meaning.specs.Plain.{ExtensionKind, IpAddrKind, DecimalKind, DatetimeKind, DurationKind, PlainType, OptionType, BitVecType, ExtensionType, RecordType, AttributeTypes, PlainFunction, ExtensionOp, DatetimeOfBitVecOp, DatetimeValOp, DecimalValOp, DurationOfBitVecOp, DurationValOp, IpAddrV4Op, IpAddrV6Op, IpIsV4Op, IpPrefixV4Op, IpPrefixV6Op, PatternPart, Character, Wildcard, PlainOp, BvnegoOp, ExtOp, OptionGetOp, RecordGetOp, StringLikeOp, UufOp, PlainExtension, DecimalOf, Ipv4Of, Ipv6Of, DatetimeOf, DurationOf, PlainTerms, no_terms, one_term}
+use Rattle.smt_meaning.specs.TypeValues.{Enums}
+use Rattle.smt_meaning.specs.Formed.{attribute_names}
+use Rattle.smt_meaning.specs.Types.{kind_of}
+use Rattle.smt_lexicon.specs.Reading.{Expression, expressions}
 use Rattle.smt_semantics.specs.Script.{State, name, group, is_in, built_in_names, has_name, has_sort, is_sort, knows}
 use Rattle.smt_semantics.specs.WrittenStrings.{part_expr, pattern_expr}
 use Rattle.smt_semantics.specs.Written.{is_name}
@@ -26,7 +26,7 @@ use Rattle.smt_lines.specs.Command.{is_written, are_written}
 use Rattle.smt_lines.specs.Encodable.{HasArgument, IsEncodableOp, IsLeast, AreEncodable, kind_of_op}
 use Rattle.smt_lines.specs.Fit.{Fit, TypeEntryIsDeclared, declares, kind_names, option_names}
 use Rattle.smt_lines.proofs.Known.{GoodSort, GoodText, GoodTexts, TextsAre, sort_good, text_good, texts_good, more_good, applied_good, one_passes, type_stands, function_stands, bits_good}
-use Rattle.smt_term.specs.Faults.{is_pattern_part}
+use Rattle.smt_meaning.specs.Faults.{is_pattern_part}
 use Rattle.smt_semantics.proofs.Results.{or_right}
 use Rattle.smt_lines.proofs.TypeNames.{placed, names_listed}
 

@@ -2,14 +2,14 @@
 use Rattle.std.proofs.Common.{◌≡◌, ℕ, List, [], ◌∷◌, refl, sym, ap, ◌∙◌, subst, Option, Some, None}
 use Rattle.std.specs.Prelude.{IsSome, is_some}
 use Rattle.std.proofs.lemmas.Bool.{false≢true}
-use Rattle.smt_term.specs.Plain.{PlainType, OptionType, EntityType, RecordType, SetType, AttributeTypes, no_attributes, attribute, PlainOp, RecordGetOp, UufOp, BitVecLiteral, BoolLiteral, EntityLiteral, ExtensionLiteral, StringLiteral, PlainTerm, Application, NoneTerm, LiteralTerm, RecordTerm, SetTerm, SomeTerm, VariableTerm, PlainTerms, no_terms, one_term, PlainFields, no_fields, one_field}
-use Rattle.smt_term.specs.TypeValues.{Enums, members_of}
-use Rattle.smt_term.specs.Types.{type_eq, type_of}
-use Rattle.smt_term.specs.TermOrder.{term_eq}
-use Rattle.smt_term.specs.Interpretations.{function_eq}
-use Rattle.smt_term.specs.Formed.{attribute_names}
-use Rattle.smt_term.proofs.TermTotal.{types_decided, functions_decided, terms_decided}
-use Rattle.smt_sexpr.specs.Reading.{Expression}
+use Rattle.smt_meaning.specs.Plain.{PlainType, OptionType, EntityType, RecordType, SetType, AttributeTypes, no_attributes, attribute, PlainOp, RecordGetOp, UufOp, BitVecLiteral, BoolLiteral, EntityLiteral, ExtensionLiteral, StringLiteral, PlainTerm, Application, NoneTerm, LiteralTerm, RecordTerm, SetTerm, SomeTerm, VariableTerm, PlainTerms, no_terms, one_term, PlainFields, no_fields, one_field}
+use Rattle.smt_meaning.specs.TypeValues.{Enums, members_of}
+use Rattle.smt_meaning.specs.Types.{type_eq, type_of}
+use Rattle.smt_meaning.specs.TermOrder.{term_eq}
+use Rattle.smt_meaning.specs.Interpretations.{function_eq}
+use Rattle.smt_meaning.specs.Formed.{attribute_names}
+use Rattle.smt_meaning.proofs.TermTotal.{types_decided, functions_decided, terms_decided}
+use Rattle.smt_lexicon.specs.Reading.{Expression}
 use Rattle.smt_semantics.specs.Script.{name}
 use Rattle.smt_lines.specs.Line.{Comment, DeclareFun, DefineFun}
 use Rattle.smt_lines.specs.LineForms.{extension_body, none_body, set_body, record_body, record_lines, application_body, least_body, some_body, variable_lines}

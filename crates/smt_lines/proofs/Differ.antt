@@ -2,8 +2,8 @@ use Rattle.std.proofs.Common.{◌≡◌, ℕ, zero, suc, ◌+◌, true, cond, Li
 use Rattle.std.specs.Prelude.{codes, ◌⊎◌, nat_eq}
 use Rattle.std.proofs.Math.Logic.{inl, inr}
 use Rattle.std.proofs.lemmas.List.{append_cancel_left}
-use Rattle.smt_term.specs.Plain.{PlainType, OptionType, BitVecType, BoolType, EntityType, ExtensionType, StringType, RecordType, SetType, PlainTerm, ExtensionKind, IpAddrKind, DecimalKind, DatetimeKind, DurationKind}
-use Rattle.smt_term.specs.TypeValues.{Enums}
+use Rattle.smt_meaning.specs.Plain.{PlainType, OptionType, BitVecType, BoolType, EntityType, ExtensionType, StringType, RecordType, SetType, PlainTerm, ExtensionKind, IpAddrKind, DecimalKind, DatetimeKind, DurationKind}
+use Rattle.smt_meaning.specs.TypeValues.{Enums}
 use Rattle.smt_lines.specs.Naming.{HasEntry}
 use Rattle.smt_lines.specs.Spelling.{numeral}
 use Rattle.smt_lines.specs.EntryNames.{kind_name, stated_term_name, stated_type_name, stated_function_name}

@@ -5,12 +5,12 @@ use Rattle.std.specs.List.{list_all}
 use Rattle.std.proofs.lemmas.Bool.{and_from, or_from, cases_Bool, lt-ltb, le-ltb}
 use Rattle.std.proofs.lemmas.List.{append-nil, length-append, append_cancel_left}
 use Rattle.std.proofs.lemmas.Slice.Eq.{bytes_eq-Decides}
-use Rattle.smt_term.specs.Plain.{ExtensionKind, IpAddrKind, DecimalKind, DatetimeKind, DurationKind, PlainType, EntityType, ExtensionType, RecordType, AttributeTypes}
-use Rattle.smt_term.specs.TypeValues.{Enums, members_of}
-use Rattle.smt_term.specs.Types.{type_eq}
-use Rattle.smt_term.specs.Formed.{attribute_names}
-use Rattle.smt_term.proofs.TermTotal.{types_decided}
-use Rattle.smt_sexpr.specs.Lexicon.{is_digit}
+use Rattle.smt_meaning.specs.Plain.{ExtensionKind, IpAddrKind, DecimalKind, DatetimeKind, DurationKind, PlainType, EntityType, ExtensionType, RecordType, AttributeTypes}
+use Rattle.smt_meaning.specs.TypeValues.{Enums, members_of}
+use Rattle.smt_meaning.specs.Types.{type_eq}
+use Rattle.smt_meaning.specs.Formed.{attribute_names}
+use Rattle.smt_meaning.proofs.TermTotal.{types_decided}
+use Rattle.smt_lexicon.specs.Lexicon.{is_digit}
 use Rattle.smt_semantics.specs.Script.{are_distinct, is_in, is_keyword, is_for_solvers, is_reserved, built_in_names}
 use Rattle.smt_semantics.specs.Written.{is_name}
 use Rattle.smt_lines.specs.Spelling.{numeral}

@@ -5,12 +5,12 @@ use Rattle.std.specs.List.{list_all}
 use Rattle.std.proofs.lemmas.Bool.{and_parts, and_from, or_cases, or_from, cases_Bool, false≢true, lt-ltb, ltb-true, le-ltb}
 use Rattle.std.proofs.lemmas.List.{append-nil, length-append}
 use Rattle.std.proofs.lemmas.Slice.Eq.{bytes_eq-Decides}
-use Rattle.smt_term.specs.Plain.{ExtensionKind, IpAddrKind, DecimalKind, DatetimeKind, DurationKind, PlainType, OptionType, BitVecType, BoolType, EntityType, ExtensionType, StringType, RecordType, SetType, PlainFunction, PlainTerm}
-use Rattle.smt_term.specs.TypeValues.{Enums}
-use Rattle.smt_term.specs.Types.{type_eq, type_of}
-use Rattle.smt_term.specs.TermOrder.{term_eq}
-use Rattle.smt_term.specs.Interpretations.{function_eq}
-use Rattle.smt_sexpr.specs.Lexicon.{is_digit}
+use Rattle.smt_meaning.specs.Plain.{ExtensionKind, IpAddrKind, DecimalKind, DatetimeKind, DurationKind, PlainType, OptionType, BitVecType, BoolType, EntityType, ExtensionType, StringType, RecordType, SetType, PlainFunction, PlainTerm}
+use Rattle.smt_meaning.specs.TypeValues.{Enums}
+use Rattle.smt_meaning.specs.Types.{type_eq, type_of}
+use Rattle.smt_meaning.specs.TermOrder.{term_eq}
+use Rattle.smt_meaning.specs.Interpretations.{function_eq}
+use Rattle.smt_lexicon.specs.Lexicon.{is_digit}
 use Rattle.smt_semantics.specs.Script.{State, Entry, is_in, reserved_words, is_keyword, is_for_solvers, is_reserved, is_taken, names_of, declared_sorts, has_name, has_sort, built_in_names, with_name}
 use Rattle.smt_lines.specs.Spelling.{numeral}
 use Rattle.smt_lines.specs.Line.{Line}

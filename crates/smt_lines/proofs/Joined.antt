@@ -1,7 +1,7 @@
 use Rattle.std.proofs.Common.{◌≡◌, List, [], ◌∷◌, refl}
 use Rattle.std.specs.Prelude.{map}
 use Rattle.std.proofs.lemmas.List.{append_assoc}
-use Rattle.smt_sexpr.specs.Reading.{Expression, expressions}
+use Rattle.smt_lexicon.specs.Reading.{Expression, expressions}
 use Rattle.smt_semantics.specs.Script.{name}
 use Rattle.smt_lines.specs.Spelling.{spelled, spelled_others}
 use Rattle.smt_lines.specs.Lines.{after_call}

@@ -1,12 +1,12 @@
 use Rattle.std.proofs.Common.{◌≡◌, ℕ, suc, ◌+◌, ◌<◌, Bool, true, false, cond, List, [], ◌∷◌, ◌++◌, Option, Some, None, refl, ap, ◌∙◌, arith}
 use Rattle.std.specs.Map.{lookup}
-use Rattle.smt_term.specs.Plain.{PlainType, OptionType, BitVecType, BoolType, EntityType, ExtensionType, StringType, RecordType, SetType, AttributeTypes, no_attributes, attribute, PlainFunction, PlainOp, UufOp, PlainLiteral, BitVecLiteral, BoolLiteral, EntityLiteral, ExtensionLiteral, StringLiteral, PlainTerm, Application, NoneTerm, LiteralTerm, RecordTerm, SetTerm, SomeTerm, VariableTerm, PlainTerms, no_terms, one_term, PlainFields, no_fields, one_field}
-use Rattle.smt_term.specs.TypeValues.{Enums, members_of}
-use Rattle.smt_term.specs.Types.{type_eq, kind_of, type_of, field_types}
-use Rattle.smt_term.specs.Interpretations.{function_eq}
-use Rattle.smt_term.specs.TermOrder.{term_eq}
-use Rattle.smt_term.proofs.TermTotal.{types_decided, functions_decided, terms_decided}
-use Rattle.smt_sexpr.specs.Reading.{Expression}
+use Rattle.smt_meaning.specs.Plain.{PlainType, OptionType, BitVecType, BoolType, EntityType, ExtensionType, StringType, RecordType, SetType, AttributeTypes, no_attributes, attribute, PlainFunction, PlainOp, UufOp, PlainLiteral, BitVecLiteral, BoolLiteral, EntityLiteral, ExtensionLiteral, StringLiteral, PlainTerm, Application, NoneTerm, LiteralTerm, RecordTerm, SetTerm, SomeTerm, VariableTerm, PlainTerms, no_terms, one_term, PlainFields, no_fields, one_field}
+use Rattle.smt_meaning.specs.TypeValues.{Enums, members_of}
+use Rattle.smt_meaning.specs.Types.{type_eq, kind_of, type_of, field_types}
+use Rattle.smt_meaning.specs.Interpretations.{function_eq}
+use Rattle.smt_meaning.specs.TermOrder.{term_eq}
+use Rattle.smt_meaning.proofs.TermTotal.{types_decided, functions_decided, terms_decided}
+use Rattle.smt_lexicon.specs.Reading.{Expression}
 use Rattle.smt_semantics.specs.Script.{name}
 use Rattle.smt_semantics.specs.Sorts.{option_sort, set_sort}
 use Rattle.smt_lines.specs.Lines.{Written, unless_named, encode_type, encode_attributes, encode_function, encode_literal, encode_head, encode_term, encode_terms, encode_fields, define_application, define_entity, Rendering, AsApplication, AsEqualsIntMin, AsFalse, application_rendering}

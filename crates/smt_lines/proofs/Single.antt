@@ -6,12 +6,12 @@ use Rattle.std.proofs.lemmas.Bool.{and_from, cond-true, cond-false, lt-ltb}
 use Rattle.std.proofs.lemmas.List.{append-nil, append_assoc, length-append}
 use Rattle.std.proofs.lemmas.List.Folds.{list_all-append}
 use Rattle.std.proofs.lemmas.Slice.Eq.{bytes_eq-Decides}
-use Rattle.smt_term.specs.Plain.{PlainFunction, PlainTerm}
-use Rattle.smt_term.specs.TypeValues.{Enums}
-use Rattle.smt_term.specs.Types.{type_of}
-use Rattle.smt_term.specs.TermOrder.{term_eq}
-use Rattle.smt_term.specs.Interpretations.{function_eq}
-use Rattle.smt_sexpr.specs.Reading.{Expression}
+use Rattle.smt_meaning.specs.Plain.{PlainFunction, PlainTerm}
+use Rattle.smt_meaning.specs.TypeValues.{Enums}
+use Rattle.smt_meaning.specs.Types.{type_of}
+use Rattle.smt_meaning.specs.TermOrder.{term_eq}
+use Rattle.smt_meaning.specs.Interpretations.{function_eq}
+use Rattle.smt_lexicon.specs.Reading.{Expression}
 use Rattle.smt_semantics.specs.Script as script
 use Rattle.smt_semantics.specs.Script.{Command, State, Entry, Constant, Function, Defined, is_taken, names_of, has_sort, is_sort, knows, declare, with_name, obey, step, run, is_in, built_in_names, ◌>>=◌}
 use Rattle.smt_semantics.specs.Written.{is_name}

@@ -3,8 +3,8 @@ use Rattle.std.proofs.Common.{◌≡◌, ℕ, Bool, true, false, not, ◌&&◌, 
 use Rattle.std.specs.Prelude.{codes}
 use Rattle.std.specs.List.{list_all, flat_map}
 use Rattle.std.proofs.lemmas.Bool.{and_parts, and_from, false≢true}
-use Rattle.smt_sexpr.specs.Lexicon.{Bits, Number, Text, Name, is_line_end}
-use Rattle.smt_sexpr.specs.Reading.{Expression, Leaf, Node, Expressions, Nil, Cons, expressions}
+use Rattle.smt_lexicon.specs.Lexicon.{Bits, Number, Text, Name, is_line_end}
+use Rattle.smt_lexicon.specs.Reading.{Expression, Leaf, Node, Expressions, Nil, Cons, expressions}
 use Rattle.smt_semantics.specs.Script as script
 use Rattle.smt_semantics.specs.Script.{Command, Holds, HasWholeLines, name, group, constructor}
 use Rattle.smt_semantics.specs.Written.{ReadsAs, IsLine, is_name}

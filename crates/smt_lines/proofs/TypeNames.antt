@@ -2,10 +2,10 @@
 use Rattle.std.proofs.Common.{◌≡◌, ℕ, zero, suc, List, [], ◌∷◌, ◌++◌, map, length, refl, ap, ◌∙◌, Option, Some, None}
 use Rattle.std.specs.List.{flat_map}
 use Rattle.std.proofs.lemmas.List.{append-nil}
-use Rattle.smt_term.specs.Plain.{PlainType, EntityType, ExtensionType, RecordType, AttributeTypes, no_attributes, attribute}
-use Rattle.smt_term.specs.TypeValues.{Enums, members_of}
-use Rattle.smt_term.specs.Formed.{attribute_names}
-use Rattle.smt_sexpr.specs.Reading.{Expression}
+use Rattle.smt_meaning.specs.Plain.{PlainType, EntityType, ExtensionType, RecordType, AttributeTypes, no_attributes, attribute}
+use Rattle.smt_meaning.specs.TypeValues.{Enums, members_of}
+use Rattle.smt_meaning.specs.Formed.{attribute_names}
+use Rattle.smt_lexicon.specs.Reading.{Expression}
 use Rattle.smt_semantics.specs.Meanings.{names_in}
 use Rattle.smt_lines.specs.LineForms.{member_constructors, attribute_selectors, entity_lines}
 use Rattle.smt_lines.specs.EntryNames.{member_name, attribute_name, id_name}

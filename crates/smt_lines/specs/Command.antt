@@ -1,13 +1,13 @@
 -- The commands of lines, and lines that are read as they are written.
 use Rattle.std.specs.Prelude.{Bool, true, false, ◌&&◌, List, [], ◌∷◌}
 use Rattle.std.specs.List.{flat_map, list_all}
-use Rattle.smt_sexpr.specs.Lexicon.{Atom, Bits, Number, Text, Name}
-use Rattle.smt_sexpr.specs.Reading.{Expression, Leaf, Node, Expressions, Nil, Cons}
+use Rattle.smt_lexicon.specs.Lexicon.{Atom, Bits, Number, Text, Name}
+use Rattle.smt_lexicon.specs.Reading.{Expression, Leaf, Node, Expressions, Nil, Cons}
 use Rattle.smt_semantics.specs.Script as script
 use Rattle.smt_semantics.specs.Script.{Command}
 use Rattle.smt_semantics.specs.Written.{is_name}
 use Rattle.smt_lines.specs.Line.{Constructor, Bare, Fielded, Line, Comment, DeclareDatatype, DeclareConst, DeclareFun, DefineFun, Assert, Push, Pop}
-use Rattle.smt_term.specs.TypeValues.{is_code_point}
+use Rattle.smt_meaning.specs.TypeValues.{is_code_point}
 
 abbrev pub built : Constructor → script.Constructor
 built (Bare n) = record { name = n; selectors = [] }

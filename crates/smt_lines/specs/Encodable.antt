@@ -1,14 +1,14 @@
 -- Terms for which lines are a script: what typed terms without fault are.
 use Rattle.std.specs.Prelude.{◌≡◌, ◌⊎◌, ℕ, true, nat_lt, chars, length, List, [], Option, Some, None}
 use Rattle.std.specs.List.{list_all}
-use Rattle.smt_term.specs.Plain.{ExtensionKind, IpAddrKind, DecimalKind, DatetimeKind, DurationKind, PlainType, OptionType, BitVecType, EntityType, ExtensionType, RecordType, SetType, AttributeTypes, no_attributes, attribute, ExtensionOp, DatetimeOfBitVecOp, DatetimeValOp, DecimalValOp, DurationOfBitVecOp, DurationValOp, IpAddrV4Op, IpAddrV6Op, IpIsV4Op, IpPrefixV4Op, IpPrefixV6Op, PlainOp, BvnegoOp, ExtOp, RecordGetOp, StringLikeOp, UufOp, PlainLiteral, EntityLiteral, StringLiteral, PlainTerm, Application, NoneTerm, LiteralTerm, RecordTerm, SetTerm, SomeTerm, VariableTerm, PlainTerms, no_terms, one_term, PlainFields, no_fields, one_field}
-use Rattle.smt_term.specs.TypeValues.{Enums, members_of, is_code_point}
-use Rattle.smt_term.specs.Types.{type_of}
-use Rattle.smt_term.specs.Formed.{attribute_names}
-use Rattle.smt_bits.specs.Widths.{is_width}
+use Rattle.smt_meaning.specs.Plain.{ExtensionKind, IpAddrKind, DecimalKind, DatetimeKind, DurationKind, PlainType, OptionType, BitVecType, EntityType, ExtensionType, RecordType, SetType, AttributeTypes, no_attributes, attribute, ExtensionOp, DatetimeOfBitVecOp, DatetimeValOp, DecimalValOp, DurationOfBitVecOp, DurationValOp, IpAddrV4Op, IpAddrV6Op, IpIsV4Op, IpPrefixV4Op, IpPrefixV6Op, PlainOp, BvnegoOp, ExtOp, RecordGetOp, StringLikeOp, UufOp, PlainLiteral, EntityLiteral, StringLiteral, PlainTerm, Application, NoneTerm, LiteralTerm, RecordTerm, SetTerm, SomeTerm, VariableTerm, PlainTerms, no_terms, one_term, PlainFields, no_fields, one_field}
+use Rattle.smt_meaning.specs.TypeValues.{Enums, members_of, is_code_point}
+use Rattle.smt_meaning.specs.Types.{type_of}
+use Rattle.smt_meaning.specs.Formed.{attribute_names}
+use Rattle.smt_arithmetic.specs.Widths.{is_width}
 use Rattle.smt_lines.specs.EntryNames.{place_of}
 use Rattle.smt_lines.specs.Lines.{Rendering, AsApplication, AsEqualsIntMin, AsFalse, application_rendering, first_type}
-use Rattle.smt_term.specs.Faults.{is_pattern_part}
+use Rattle.smt_meaning.specs.Faults.{is_pattern_part}
 
 -- an enum type has a member, since a datatype has a constructor
 abbrev pub HasMember : Option (List (List ℕ)) → Type 0

@@ -1,10 +1,10 @@
 -- What stands for terms and types that have entries, the entries' own lines and their names.
 use Rattle.std.specs.Prelude.{◌≡◌, ℕ, suc, false, IsSome, List, [], ◌∷◌, ◌++◌, Option, Some, None}
-use Rattle.smt_term.specs.Plain.{PlainType, OptionType, EntityType, ExtensionType, RecordType, SetType, AttributeTypes, no_attributes, attribute, PlainFunction, PlainOp, UufOp, PlainLiteral, EntityLiteral, ExtensionLiteral, PlainTerm, Application, NoneTerm, LiteralTerm, RecordTerm, SetTerm, SomeTerm, VariableTerm, PlainTerms, no_terms, one_term, PlainFields, no_fields, one_field}
-use Rattle.smt_term.specs.TypeValues.{Enums, members_of}
-use Rattle.smt_term.specs.Types.{type_of}
-use Rattle.smt_term.specs.Formed.{attribute_names}
-use Rattle.smt_sexpr.specs.Reading.{Expression}
+use Rattle.smt_meaning.specs.Plain.{PlainType, OptionType, EntityType, ExtensionType, RecordType, SetType, AttributeTypes, no_attributes, attribute, PlainFunction, PlainOp, UufOp, PlainLiteral, EntityLiteral, ExtensionLiteral, PlainTerm, Application, NoneTerm, LiteralTerm, RecordTerm, SetTerm, SomeTerm, VariableTerm, PlainTerms, no_terms, one_term, PlainFields, no_fields, one_field}
+use Rattle.smt_meaning.specs.TypeValues.{Enums, members_of}
+use Rattle.smt_meaning.specs.Types.{type_of}
+use Rattle.smt_meaning.specs.Formed.{attribute_names}
+use Rattle.smt_lexicon.specs.Reading.{Expression}
 use Rattle.smt_semantics.specs.Script.{name}
 use Rattle.smt_lines.specs.Line.{Line, DefineFun}
 use Rattle.smt_lines.specs.LineForms.{entity_lines, record_lines, kind_lines, function_heading, function_declaration, variable_lines, some_body, none_body, set_body, record_body, entity_body, extension_body, application_body, least_body}

@@ -1,6 +1,6 @@
 -- The names of entries, and those of constructors and selectors.
 use Rattle.std.specs.Prelude.{ℕ, suc, if◌then◌else◌, bytes_eq, codes, List, [], ◌∷◌, ◌++◌}
-use Rattle.smt_term.specs.Plain.{ExtensionKind, IpAddrKind, DecimalKind, DatetimeKind, DurationKind, PlainType, ExtensionType, RecordType, ExtensionOp, DatetimeValOp, DecimalValOp, DurationValOp, IpAddrV4Op, IpAddrV6Op, IpPrefixV4Op, IpPrefixV6Op}
+use Rattle.smt_meaning.specs.Plain.{ExtensionKind, IpAddrKind, DecimalKind, DatetimeKind, DurationKind, PlainType, ExtensionType, RecordType, ExtensionOp, DatetimeValOp, DecimalValOp, DurationValOp, IpAddrV4Op, IpAddrV6Op, IpPrefixV4Op, IpPrefixV6Op}
 use Rattle.smt_semantics.specs.Numerals.{numbered}
 
 -- ---- names of entries, a letter and the place of the entry in its table

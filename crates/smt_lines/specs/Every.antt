@@ -1,7 +1,7 @@
 -- Terms with every operator, type and literal, and the bytes that are written for them.
 use Rattle.std.specs.Prelude.{◌≡◌, pos, negsuc, codes, Some, None, List, [], ◌∷◌}
-use Rattle.smt_term.specs.Plain.{PlainTerm, IpAddrKind, DecimalKind, DatetimeKind, DurationKind, OptionType, BitVecType, BoolType, EntityType, ExtensionType, StringType, RecordType, SetType, no_attributes, attribute, DatetimeOfBitVecOp, DatetimeValOp, DecimalValOp, DurationOfBitVecOp, DurationValOp, IpAddrV4Op, IpAddrV6Op, IpIsV4Op, IpPrefixV4Op, IpPrefixV6Op, Character, Wildcard, AndOp, BvaddOp, BvlshrOp, BvmulOp, BvnegOp, BvnegoOp, BvsaddoOp, BvsdivOp, BvshlOp, BvsleOp, BvsltOp, BvsmodOp, BvsmuloOp, BvsremOp, BvssuboOp, BvsubOp, BvudivOp, BvuleOp, BvultOp, BvuremOp, EqOp, ExtOp, IteOp, NotOp, OptionGetOp, OrOp, RecordGetOp, SetInterOp, SetMemberOp, SetSubsetOp, StringLikeOp, UufOp, ZeroExtendOp, DecimalOf, Ipv4Of, Ipv6Of, DatetimeOf, DurationOf, BitVecLiteral, EntityLiteral, ExtensionLiteral, StringLiteral, Application, NoneTerm, LiteralTerm, RecordTerm, SetTerm, SomeTerm, VariableTerm, no_terms, one_term, no_fields, one_field}
-use Rattle.smt_term.specs.TypeValues.{Enums}
+use Rattle.smt_meaning.specs.Plain.{PlainTerm, IpAddrKind, DecimalKind, DatetimeKind, DurationKind, OptionType, BitVecType, BoolType, EntityType, ExtensionType, StringType, RecordType, SetType, no_attributes, attribute, DatetimeOfBitVecOp, DatetimeValOp, DecimalValOp, DurationOfBitVecOp, DurationValOp, IpAddrV4Op, IpAddrV6Op, IpIsV4Op, IpPrefixV4Op, IpPrefixV6Op, Character, Wildcard, AndOp, BvaddOp, BvlshrOp, BvmulOp, BvnegOp, BvnegoOp, BvsaddoOp, BvsdivOp, BvshlOp, BvsleOp, BvsltOp, BvsmodOp, BvsmuloOp, BvsremOp, BvssuboOp, BvsubOp, BvudivOp, BvuleOp, BvultOp, BvuremOp, EqOp, ExtOp, IteOp, NotOp, OptionGetOp, OrOp, RecordGetOp, SetInterOp, SetMemberOp, SetSubsetOp, StringLikeOp, UufOp, ZeroExtendOp, DecimalOf, Ipv4Of, Ipv6Of, DatetimeOf, DurationOf, BitVecLiteral, EntityLiteral, ExtensionLiteral, StringLiteral, Application, NoneTerm, LiteralTerm, RecordTerm, SetTerm, SomeTerm, VariableTerm, no_terms, one_term, no_fields, one_field}
+use Rattle.smt_meaning.specs.TypeValues.{Enums}
 use Rattle.smt_lines.specs.Text.{text}
 
 abbrev pub enums : Enums

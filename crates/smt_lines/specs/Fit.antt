@@ -2,11 +2,11 @@
 -- and nothing is declared that a later entry is named.
 use Rattle.std.specs.Prelude.{◌≡◌, ℕ, Bool, true, false, ◌&&◌, ◌||◌, if◌then◌else◌, ◌==◌, nat_lt, bytes_eq, is_some, IsSome, codes, length, map, List, [], ◌∷◌, Some}
 use Rattle.std.specs.List.{list_all, list_any, flat_map, take_while}
-use Rattle.smt_term.specs.Plain.{ExtensionKind, IpAddrKind, DecimalKind, DatetimeKind, DurationKind, PlainType, ExtensionType, PlainFunction, PlainOp, RecordGetOp, PlainTerm, Application, PlainTerms}
-use Rattle.smt_term.specs.TypeValues.{Enums}
-use Rattle.smt_term.specs.Types.{type_of}
-use Rattle.smt_sexpr.specs.Lexicon.{is_digit, number_in}
-use Rattle.smt_sexpr.specs.Reading.{Expression}
+use Rattle.smt_meaning.specs.Plain.{ExtensionKind, IpAddrKind, DecimalKind, DatetimeKind, DurationKind, PlainType, ExtensionType, PlainFunction, PlainOp, RecordGetOp, PlainTerm, Application, PlainTerms}
+use Rattle.smt_meaning.specs.TypeValues.{Enums}
+use Rattle.smt_meaning.specs.Types.{type_of}
+use Rattle.smt_lexicon.specs.Lexicon.{is_digit, number_in}
+use Rattle.smt_lexicon.specs.Reading.{Expression}
 use Rattle.smt_semantics.specs.Script.{Constructor, Entry, Constant, Function, Defined, Builds, State, is_in, names_of, declared_sorts, has_name, has_sort, run}
 use Rattle.smt_semantics.specs.Meanings.{names_in}
 use Rattle.smt_semantics.specs.Written.{is_name}

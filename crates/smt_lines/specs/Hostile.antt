@@ -1,7 +1,7 @@
 -- Terms with every operator, type and literal, and the bytes that are written for them.
 use Rattle.std.specs.Prelude.{◌≡◌, negsuc, codes, Some, List, [], ◌∷◌, ◌++◌}
-use Rattle.smt_term.specs.Plain.{PlainTerm, IpAddrKind, DecimalKind, DurationKind, OptionType, BitVecType, BoolType, EntityType, ExtensionType, StringType, RecordType, SetType, no_attributes, attribute, IpIsV4Op, Character, Wildcard, BvmulOp, BvultOp, EqOp, ExtOp, OptionGetOp, RecordGetOp, SetMemberOp, StringLikeOp, UufOp, DecimalOf, Ipv6Of, DurationOf, BitVecLiteral, EntityLiteral, ExtensionLiteral, StringLiteral, Application, NoneTerm, LiteralTerm, RecordTerm, SetTerm, SomeTerm, VariableTerm, no_terms, one_term, no_fields, one_field}
-use Rattle.smt_term.specs.TypeValues.{Enums}
+use Rattle.smt_meaning.specs.Plain.{PlainTerm, IpAddrKind, DecimalKind, DurationKind, OptionType, BitVecType, BoolType, EntityType, ExtensionType, StringType, RecordType, SetType, no_attributes, attribute, IpIsV4Op, Character, Wildcard, BvmulOp, BvultOp, EqOp, ExtOp, OptionGetOp, RecordGetOp, SetMemberOp, StringLikeOp, UufOp, DecimalOf, Ipv6Of, DurationOf, BitVecLiteral, EntityLiteral, ExtensionLiteral, StringLiteral, Application, NoneTerm, LiteralTerm, RecordTerm, SetTerm, SomeTerm, VariableTerm, no_terms, one_term, no_fields, one_field}
+use Rattle.smt_meaning.specs.TypeValues.{Enums}
 use Rattle.smt_lines.specs.Text.{text}
 
 abbrev pub enums : Enums

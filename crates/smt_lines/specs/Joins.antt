@@ -1,10 +1,10 @@
 -- Laws of the bytes of expressions and of calls.
 use Rattle.std.specs.Prelude.{◌≡◌, map, List, ◌∷◌, ◌++◌}
-use Rattle.smt_sexpr.specs.Reading.{Expression}
+use Rattle.smt_lexicon.specs.Reading.{Expression}
 use Rattle.smt_semantics.specs.Script.{name, group}
 use Rattle.smt_lines.specs.Spelling.{spelled}
 use Rattle.smt_lines.specs.Lines.{Call, Encoding, after_calls, lines_of_calls}
-use Rattle.smt_term.specs.TypeValues.{Enums}
+use Rattle.smt_meaning.specs.TypeValues.{Enums}
 use Rattle.smt_lines.specs.Line.{Line, spelled_lines}
 
 -- what is written in place of an expression is its text alone

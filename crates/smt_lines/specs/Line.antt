@@ -1,8 +1,8 @@
 -- The lines of a script, and their bytes.
 use Rattle.std.specs.Prelude.{ℕ, if◌then◌else◌, codes, map, List, [], ◌∷◌, ◌++◌}
 use Rattle.std.specs.List.{flat_map, join_by}
-use Rattle.smt_sexpr.specs.Lexicon.{is_line_end}
-use Rattle.smt_sexpr.specs.Reading.{Expression}
+use Rattle.smt_lexicon.specs.Lexicon.{is_line_end}
+use Rattle.smt_lexicon.specs.Reading.{Expression}
 use Rattle.smt_lines.specs.Spelling.{spelled}
 
 pub data Constructor : Type 0 where

@@ -2,10 +2,10 @@
 -- terms one after the other and what an entry of a table has as its own lines are both made of these.
 use Rattle.std.specs.Prelude.{ℕ, suc, ◌-◌, ◌^◌, ◌||◌, if◌then◌else◌, ◌==◌, nat_lt, codes, List, [], ◌∷◌, ◌++◌, Option, Some, None}
 use Rattle.std.specs.List.{flat_map, join_by}
-use Rattle.smt_bits.specs.BitVectors.{bits_of}
-use Rattle.smt_term.specs.Plain.{ExtensionKind, IpAddrKind, DecimalKind, DatetimeKind, DurationKind, ExtensionOp, DatetimeOfBitVecOp, DatetimeValOp, DecimalValOp, DurationOfBitVecOp, DurationValOp, IpAddrV4Op, IpAddrV6Op, IpIsV4Op, IpPrefixV4Op, IpPrefixV6Op, PatternPart, PlainOp, EqOp, ExtOp, StringLikeOp, ZeroExtendOp, PlainExtension, DecimalOf, Ipv4Of, Ipv6Of, DatetimeOf, DurationOf}
-use Rattle.smt_sexpr.specs.Reading.{Expression, Leaf}
-use Rattle.smt_sexpr.specs.Lexicon.{Number}
+use Rattle.smt_arithmetic.specs.BitVectors.{bits_of}
+use Rattle.smt_meaning.specs.Plain.{ExtensionKind, IpAddrKind, DecimalKind, DatetimeKind, DurationKind, ExtensionOp, DatetimeOfBitVecOp, DatetimeValOp, DecimalValOp, DurationOfBitVecOp, DurationValOp, IpAddrV4Op, IpAddrV6Op, IpIsV4Op, IpPrefixV4Op, IpPrefixV6Op, PatternPart, PlainOp, EqOp, ExtOp, StringLikeOp, ZeroExtendOp, PlainExtension, DecimalOf, Ipv4Of, Ipv6Of, DatetimeOf, DurationOf}
+use Rattle.smt_lexicon.specs.Reading.{Expression, Leaf}
+use Rattle.smt_lexicon.specs.Lexicon.{Number}
 use Rattle.smt_semantics.specs.Meanings.{as_sort, indexed_name}
 use Rattle.smt_semantics.specs.ScriptOperators.{script_name}
 use Rattle.smt_semantics.specs.WrittenStrings.{pattern_expr}

@@ -1,8 +1,8 @@
 -- What was made for a type or a term is what the tables give for it afterwards.
 use Rattle.std.specs.Prelude.{◌≡◌, Some}
-use Rattle.smt_term.specs.Plain.{PlainType, PlainFunction, PlainTerm, PlainTerms}
-use Rattle.smt_term.specs.TypeValues.{Enums}
-use Rattle.smt_sexpr.specs.Reading.{Expression}
+use Rattle.smt_meaning.specs.Plain.{PlainType, PlainFunction, PlainTerm, PlainTerms}
+use Rattle.smt_meaning.specs.TypeValues.{Enums}
+use Rattle.smt_lexicon.specs.Reading.{Expression}
 use Rattle.smt_lines.specs.Lines.{encode_type, encode_function, encode_term, encode_terms}
 use Rattle.smt_lines.specs.NameTables.{Tables, name_of_function}
 use Rattle.smt_lines.specs.Naming.{type_sort}

@@ -1,10 +1,10 @@
 -- Tables of the names that were given to terms, types and functions.
 use Rattle.std.specs.Prelude.{ℕ, List, [], Option, Some, None}
 use Rattle.std.specs.Map.{lookup}
-use Rattle.smt_term.specs.Plain.{PlainType, PlainFunction, PlainTerm}
-use Rattle.smt_term.specs.Types.{type_eq}
-use Rattle.smt_term.specs.Interpretations.{function_eq}
-use Rattle.smt_term.specs.TermOrder.{term_eq}
+use Rattle.smt_meaning.specs.Plain.{PlainType, PlainFunction, PlainTerm}
+use Rattle.smt_meaning.specs.Types.{type_eq}
+use Rattle.smt_meaning.specs.Interpretations.{function_eq}
+use Rattle.smt_meaning.specs.TermOrder.{term_eq}
 
 -- what has a name, in the order in which the names were given
 pub record Tables : Type 0 where

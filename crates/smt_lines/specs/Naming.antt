@@ -1,7 +1,7 @@
 -- The sorts that tables name, and tables whose names differ.
 use Rattle.std.specs.Prelude.{◌≡◌, ◌⊎◌, ℕ, List, [], ◌∷◌}
-use Rattle.smt_term.specs.Plain.{PlainType, OptionType, BitVecType, BoolType, EntityType, ExtensionType, StringType, RecordType, SetType}
-use Rattle.smt_sexpr.specs.Reading.{Expression}
+use Rattle.smt_meaning.specs.Plain.{PlainType, OptionType, BitVecType, BoolType, EntityType, ExtensionType, StringType, RecordType, SetType}
+use Rattle.smt_lexicon.specs.Reading.{Expression}
 use Rattle.smt_semantics.specs.Script.{name}
 use Rattle.smt_semantics.specs.Sorts.{bool_sort, string_sort, bit_sort, option_sort, set_sort}
 use Rattle.smt_lines.specs.NameTables.{Tables, name_of_type, text_of_name}

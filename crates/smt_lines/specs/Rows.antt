@@ -1,7 +1,7 @@
 -- Terms, and the bytes that are written for them.
 use Rattle.std.specs.Prelude.{◌≡◌, ℕ, codes, true, List, [], ◌∷◌, ◌++◌}
-use Rattle.smt_term.specs.Plain.{IpAddrKind, DatetimeKind, PlainType, BitVecType, BoolType, EntityType, ExtensionType, StringType, RecordType, SetType, no_attributes, attribute, IpAddrV4Op, IpIsV4Op, DatetimeValOp, Character, Wildcard, PlainOp, AndOp, BvlshrOp, BvshlOp, BvsltOp, EqOp, ExtOp, NotOp, RecordGetOp, SetMemberOp, StringLikeOp, UufOp, BitVecLiteral, BoolLiteral, EntityLiteral, StringLiteral, PlainTerm, Application, LiteralTerm, RecordTerm, VariableTerm, no_terms, one_term, no_fields}
-use Rattle.smt_term.specs.TypeValues.{Enums}
+use Rattle.smt_meaning.specs.Plain.{IpAddrKind, DatetimeKind, PlainType, BitVecType, BoolType, EntityType, ExtensionType, StringType, RecordType, SetType, no_attributes, attribute, IpAddrV4Op, IpIsV4Op, DatetimeValOp, Character, Wildcard, PlainOp, AndOp, BvlshrOp, BvshlOp, BvsltOp, EqOp, ExtOp, NotOp, RecordGetOp, SetMemberOp, StringLikeOp, UufOp, BitVecLiteral, BoolLiteral, EntityLiteral, StringLiteral, PlainTerm, Application, LiteralTerm, RecordTerm, VariableTerm, no_terms, one_term, no_fields}
+use Rattle.smt_meaning.specs.TypeValues.{Enums}
 use Rattle.smt_lines.specs.Lines.{PushCall, PopCall, EncodeCall}
 use Rattle.smt_lines.specs.Text.{text, text_of_calls}
 

@@ -1,10 +1,10 @@
 -- The laws of stated lines.
 use Rattle.std.specs.Prelude.{◌≡◌, ℕ, true, List, [], ◌∷◌, Some}
 use Rattle.std.specs.List.{list_all}
-use Rattle.smt_term.specs.Plain.{PlainType, PlainFunction, PlainTerm, terms}
-use Rattle.smt_term.specs.TypeValues.{Enums}
-use Rattle.smt_term.specs.Types.{type_of}
-use Rattle.smt_sexpr.specs.Reading.{Expression}
+use Rattle.smt_meaning.specs.Plain.{PlainType, PlainFunction, PlainTerm, terms}
+use Rattle.smt_meaning.specs.TypeValues.{Enums}
+use Rattle.smt_meaning.specs.Types.{type_of}
+use Rattle.smt_lexicon.specs.Reading.{Expression}
 use Rattle.smt_semantics.specs.Script.{State, HasWholeLines, Holds}
 use Rattle.smt_semantics.specs.Written.{ReadsAs, IsLine}
 use Rattle.smt_lines.specs.Spelling.{spelled}

@@ -2,8 +2,8 @@
 use Rattle.std.specs.Prelude.{ℕ, codes, List, [], ◌++◌}
 pub use Rattle.smt_semantics.specs.Numerals.{numeral}
 pub use Rattle.smt_semantics.specs.WrittenStrings.{escaped, quoted_character, quoted}
-use Rattle.smt_sexpr.specs.Lexicon.{Atom, Bits, Name, Number, Text}
-use Rattle.smt_sexpr.specs.Reading.{Expression, Leaf, Node, Expressions, Nil, Cons}
+use Rattle.smt_lexicon.specs.Lexicon.{Atom, Bits, Name, Number, Text}
+use Rattle.smt_lexicon.specs.Reading.{Expression, Leaf, Node, Expressions, Nil, Cons}
 
 abbrev pub spelled_atom : Atom → List ℕ
 -- no line has one

@@ -1,7 +1,7 @@
 -- What writing adds to the tables: entries behind those that are there, each with the name of its place, and lines as many.
 use Rattle.std.specs.Prelude.{◌≡◌, ℕ, suc, ◌≤◌, Bool, true, length, List, [], ◌∷◌, ◌++◌, Some, is_none}
-use Rattle.smt_term.specs.Plain.{PlainType, PlainFunction, PlainTerm, PlainTerms}
-use Rattle.smt_term.specs.TypeValues.{Enums}
+use Rattle.smt_meaning.specs.Plain.{PlainType, PlainFunction, PlainTerm, PlainTerms}
+use Rattle.smt_meaning.specs.TypeValues.{Enums}
 use Rattle.smt_lines.specs.EntryNames.{stated_term_name, stated_type_name, stated_function_name}
 use Rattle.smt_lines.specs.Naming.{HasEntry, HasDistinctNames}
 use Rattle.smt_lines.specs.Line.{Line, DeclareDatatype, DeclareConst, DeclareFun, DefineFun}

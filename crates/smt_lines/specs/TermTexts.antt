@@ -1,9 +1,9 @@
 -- The expression by which a script has a term: the name of its entry, or the text of a literal that needs none.
 use Rattle.std.specs.Prelude.{ℕ, Bool, true, false, codes, chars, List, Option, Some, None}
 use Rattle.std.specs.Option.{option_or}
-use Rattle.smt_term.specs.Plain.{PlainLiteral, BitVecLiteral, BoolLiteral, StringLiteral, PlainTerm, LiteralTerm}
-use Rattle.smt_sexpr.specs.Reading.{Expression, Leaf}
-use Rattle.smt_sexpr.specs.Lexicon.{Text}
+use Rattle.smt_meaning.specs.Plain.{PlainLiteral, BitVecLiteral, BoolLiteral, StringLiteral, PlainTerm, LiteralTerm}
+use Rattle.smt_lexicon.specs.Reading.{Expression, Leaf}
+use Rattle.smt_lexicon.specs.Lexicon.{Text}
 use Rattle.smt_semantics.specs.Script.{name}
 use Rattle.smt_semantics.specs.CommandLines.{bits}
 use Rattle.smt_lines.specs.NameTables.{Tables, name_of_term}

@@ -1,7 +1,7 @@
 -- The bytes and the names that calls of an encoder come to.
 use Rattle.std.specs.Prelude.{ℕ, List, [], ◌∷◌}
-use Rattle.smt_term.specs.Plain.{PlainTerm}
-use Rattle.smt_term.specs.TypeValues.{Enums}
+use Rattle.smt_meaning.specs.Plain.{PlainTerm}
+use Rattle.smt_meaning.specs.TypeValues.{Enums}
 use Rattle.smt_lines.specs.Line.{spelled_lines}
 use Rattle.smt_lines.specs.Lines.{Call, EncodeCall, fresh, lines_of_calls, after_calls}
 use Rattle.smt_lines.specs.NameTables.{Tables}

@@ -7,9 +7,9 @@ use Rattle.std.proofs.lemmas.List.Concat.{flat_map-append}
 use Rattle.std.proofs.lemmas.List.Folds.{list_all-append}
 use Rattle.std.proofs.lemmas.Bool.{and_parts, and_from, false≢true}
 use Rattle.std.specs.Str.{is_utf8}
-use Rattle.smt_sexpr.specs.Lexicon.{is_symbol, Token, Piece, Space, Comment, Open, Close, Quoted, Binary, Hexadecimal, Numeral, Symbol, spelling, spell, some_all, is_piece, goes_on, stops, each_longest, quote_twice, IsCutInto, token, is_line_end, is_binary, is_hexadecimal, is_digit, is_symbol_byte, in_script}
+use Rattle.smt_lexicon.specs.Lexicon.{is_symbol, Token, Piece, Space, Comment, Open, Close, Quoted, Binary, Hexadecimal, Numeral, Symbol, spelling, spell, some_all, is_piece, goes_on, stops, each_longest, quote_twice, IsCutInto, token, is_line_end, is_binary, is_hexadecimal, is_digit, is_symbol_byte, in_script}
 use Rattle.smt_semantics.specs.Script.{Command, State, Holds, Script, HasWholeLines, stated, step, run, start, ◌>>=◌}
-use Rattle.smt_sexpr.specs.Reading.{Expression, Reads, brackets}
+use Rattle.smt_lexicon.specs.Reading.{Expression, Reads, brackets}
 
 -- the last byte of a list, or 0
 pub last : List ℕ → ℕ

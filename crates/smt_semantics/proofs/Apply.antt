@@ -3,10 +3,10 @@ use Rattle.std.proofs.Common.{◌≡◌, ℕ, true, false, ◌||◌, eqb, List, 
 use Rattle.std.specs.Prelude.{codes, bytes_eq}
 use Rattle.std.proofs.lemmas.Bool.{not-true, cond-true, cond-false, or_parts, cases_Bool}
 use Rattle.std.proofs.lemmas.Slice.Eq.{bytes_eq-Decides}
-use Rattle.smt_term.specs.Plain.{PatternPart, PlainOp, NotOp, ZeroExtendOp}
+use Rattle.smt_meaning.specs.Plain.{PatternPart, PlainOp, NotOp, ZeroExtendOp}
 use Rattle.smt_semantics.specs.ScriptValues.{ScriptValue}
-use Rattle.smt_sexpr.specs.Lexicon.{Name}
-use Rattle.smt_sexpr.specs.Reading.{Expression, Leaf, Expressions, Cons, expressions}
+use Rattle.smt_lexicon.specs.Lexicon.{Name}
+use Rattle.smt_lexicon.specs.Reading.{Expression, Leaf, Expressions, Cons, expressions}
 use Rattle.smt_semantics.specs.Script.{Entry, Function, Builds, Selects, State, Shape, Applied, shape, bit_literal, qualified, insertion, matched, matched_by, group, name, built_in_names, script_operators, is_in, is_reserved, reserved_words, names_of, look_up, operator_of, ◌>>=◌}
 use Rattle.smt_semantics.specs.Sorts.{entries, entry_sort, sort_by_operator, applied_sort, shape_sort, each_there, sorts_in, insert_sort, operator_sort, expression_sort}
 use Rattle.smt_semantics.specs.Value.{ScriptInterpretation, expression_value, meaning, entry_meaning, evaluate, evaluate_each, first_sort, operator_value, by_operator, applied_value, shape_value, inserted, body_of, of_one, is_built}

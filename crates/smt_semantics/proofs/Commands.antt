@@ -2,9 +2,9 @@
 use Rattle.std.proofs.Common.{ap₂, ◌≡◌, ℕ, List, [], ◌∷◌, ◌++◌, refl, sym, ap, ◌∙◌, map, Some}
 use Rattle.std.proofs.lemmas.List.{append_cancel_left}
 use Rattle.std.specs.Prelude.{codes, bytes_eq, cond}
-use Rattle.smt_sexpr.specs.Reading.{Expression, expressions}
+use Rattle.smt_lexicon.specs.Reading.{Expression, expressions}
 use Rattle.smt_semantics.specs.Script.{Command, DeclareDatatype, DeclareConst, DefineFun, Assert, DeclareFun, SetLogic, SetOption, CheckSat, GetModel, Reset, Exit, Push, Pop, Constructor, keyword, operands, constructor, datatype, name, group, stated, Holds, Script, State, run, start}
-use Rattle.smt_sexpr.proofs.Trees.{one_reading}
+use Rattle.smt_lexicon.proofs.Trees.{one_reading}
 
 one_group : (es fs : List Expression) → expressions es ≡ expressions fs → es ≡ fs
 one_group [] [] h = refl

@@ -4,7 +4,7 @@ use Rattle.std.specs.Prelude.{bytes_eq}
 use Rattle.std.specs.List.{list_all}
 use Rattle.std.proofs.lemmas.Bool.{not-true, and_parts, and_from, cond-true, cond-false, or_parts, cases_Bool, false≢true}
 use Rattle.std.proofs.lemmas.Slice.Eq.{bytes_eq-Decides}
-use Rattle.smt_sexpr.specs.Reading.{Expression}
+use Rattle.smt_lexicon.specs.Reading.{Expression}
 use Rattle.smt_semantics.specs.Script.{Command, DeclareDatatype, DeclareConst, DefineFun, Assert, DeclareFun, SetLogic, SetOption, is_simple_symbol, is_attribute_value, Reset, Exit, Push, Pop, Constructor, Entry, Constant, Function, Defined, Builds, Selects, State, built_in_names, is_in, is_reserved, has_name, is_taken, is_new_datatype, is_sort, has_sort, names_of, declare, declare_selectors, declare_constructors, with_name, with_sort, with_assertion, obey, knows, ◌>>=◌}
 use Rattle.smt_semantics.specs.Meanings.{selectors_named, constructors_named, with_names, names_in, are_new, are_fields, DatatypesLeave, StepsKeepLevels, PopsGiveBack}
 use Rattle.smt_semantics.proofs.Results.{some_is, if_not, if_so, bind_gives}

@@ -1,7 +1,7 @@
 -- The lines of the first commands, each from its brackets.
 use Rattle.std.proofs.Common.{◌≡◌, ℕ, List, [], ◌∷◌, ◌++◌, refl, subst, append_assoc}
 use Rattle.std.specs.Prelude.{codes}
-use Rattle.smt_sexpr.specs.Reading.{Expression}
+use Rattle.smt_lexicon.specs.Reading.{Expression}
 use Rattle.smt_semantics.specs.Script.{Command, DeclareConst, DefineFun, Assert, group, name, stated}
 use Rattle.smt_semantics.specs.Written.{ReadsAs, Item, bracketed, listed, IsLine, DeclareConstLine, DefineFunLine, AssertLine, AppliedText, OptionLines, option_lines, option_command}
 use Rattle.smt_semantics.proofs.Lines.{brackets_write, names_write, commands_are_lines}

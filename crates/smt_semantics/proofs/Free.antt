@@ -6,8 +6,8 @@ use Rattle.std.proofs.lemmas.Bool.{cases_Bool, cond-true, cond-false}
 use Rattle.std.proofs.lemmas.List.Elements.{All-from_recursion, recursion_from_All}
 use Rattle.std.proofs.lemmas.Slice.Eq.{bytes_eq-Decides}
 use Rattle.smt_semantics.specs.ScriptValues.{ScriptValue, TruthOf, ConstructorOf}
-use Rattle.smt_sexpr.specs.Lexicon.{Bits, Number, Text, Name}
-use Rattle.smt_sexpr.specs.Reading.{Expression, Leaf, Node, Expressions, Nil, Cons}
+use Rattle.smt_lexicon.specs.Lexicon.{Bits, Number, Text, Name}
+use Rattle.smt_lexicon.specs.Reading.{Expression, Leaf, Node, Expressions, Nil, Cons}
 use Rattle.smt_semantics.specs.Script.{Entry, Constant, Function, Defined, Builds, Selects, State, Shape, BitLiteral, Qualified, Applied, Extended, Tested, Matched, Unformed, shape, look_up, operator_of, names_of, assertions_of, ◌>>=◌}
 use Rattle.smt_semantics.specs.Sorts.{Entries, entries, each_there}
 use Rattle.smt_semantics.specs.Value.{ScriptInterpretation, Table, Meaning, Selection, in_table, of_one, value_at, OpenSelector, ValueOfSort, TableOfSelector, open_selector, other_value, selection_if, selected, by_operator, applied_value, constant, qualified_value, shape_value, first_sort, evaluate, evaluate_each, entry_meaning, body_of, meaning, expression_value, selection, shape_selection, selections, each_selections, selections_in, body_selections, applied_selectors, AgreeAt, AgreeOn, AgreeOnOpen, FreeNamesDecide}

@@ -2,8 +2,8 @@
 use Rattle.std.proofs.Common.{◌≡◌, ℕ, List, [], ◌∷◌, ◌++◌, refl, Some}
 use Rattle.std.specs.Prelude.{codes, not, IsTrue}
 use Rattle.std.specs.List.{list_all}
-use Rattle.smt_sexpr.specs.Lexicon.{is_line_end}
-use Rattle.smt_sexpr.specs.Reading.{Expression}
+use Rattle.smt_lexicon.specs.Lexicon.{is_line_end}
+use Rattle.smt_lexicon.specs.Reading.{Expression}
 use Rattle.smt_semantics.specs.Script.{Command, State, HasWholeLines, start, step}
 use Rattle.smt_semantics.specs.Written.{IsLine}
 use Rattle.smt_semantics.specs.CommandLines.{Part, SortedScript, IsSortedCommand}

@@ -3,7 +3,7 @@ use Rattle.std.proofs.Common.{◌≡◌, ℕ, suc, true, false, not, ◌&&◌, L
 use Rattle.std.specs.Prelude.{bytes_eq}
 use Rattle.std.proofs.lemmas.Bool.{not-true, and_parts, cond-true, cond-false, or_parts}
 use Rattle.std.proofs.lemmas.Slice.Eq.{bytes_eq-Decides}
-use Rattle.smt_sexpr.specs.Reading.{Expression}
+use Rattle.smt_lexicon.specs.Reading.{Expression}
 use Rattle.smt_semantics.specs.Script.{Constructor, Entry, Constant, Function, Builds, Selects, State, DeclareConst, DeclareFun, DeclareDatatype, declare, look_up, is_in, has_sort, is_sort, is_taken, with_name, names_below}
 use Rattle.smt_semantics.specs.Meanings.{selectors_named, constructors_named, names_in, are_new}
 use Rattle.smt_semantics.specs.DeclarationLines.{ConstantsExtend, FunctionsExtend, DatatypesExtend, DeclaresSelectors, Declares, DatatypesDeclare, with_datatype}

@@ -3,10 +3,10 @@ use Rattle.std.proofs.Common.{◌≡◌, ◌⊎◌, ℕ, suc, Bool, true, false,
 use Rattle.std.specs.Prelude.{codes, bytes_eq}
 use Rattle.std.proofs.lemmas.Bool.{and_parts, and_from, or_cases, or_parts, cases_Bool, false≢true}
 use Rattle.std.proofs.lemmas.Slice.Eq.{bytes_eq-Decides}
-use Rattle.smt_term.specs.Plain.{StringLikeOp, ZeroExtendOp}
+use Rattle.smt_meaning.specs.Plain.{StringLikeOp, ZeroExtendOp}
 use Rattle.smt_semantics.specs.ScriptValues.{ScriptValue}
-use Rattle.smt_sexpr.specs.Lexicon.{Bits, Number, Text, Name}
-use Rattle.smt_sexpr.specs.Reading.{Expression, Leaf, Node, Expressions, Nil, Cons}
+use Rattle.smt_lexicon.specs.Lexicon.{Bits, Number, Text, Name}
+use Rattle.smt_lexicon.specs.Reading.{Expression, Leaf, Node, Expressions, Nil, Cons}
 use Rattle.smt_semantics.specs.Script.{Command, DeclareDatatype, DeclareConst, DefineFun, Assert, DeclareFun, SetLogic, SetOption, is_simple_symbol, is_attribute_value, Reset, Exit, Push, Pop, Function, obey, Constructor, Entry, Constant, Defined, Builds, Selects, State, step, declare, declare_selectors, declare_constructors, with_name, with_sort, with_assertion, with_level, has_name, has_sort, is_taken, is_new_datatype, is_reserved, is_in, is_sort, are_sorts, is_bit_sort, count, is_first, are_all, is_stated, each_stated, knows, Shape, BitLiteral, Qualified, Applied, Extended, Tested, Matched, Unformed, shape, shape_is_known, built_in_names, names_of, look_up, operator_of, ◌>>=◌}
 use Rattle.smt_semantics.specs.Sorts.{Entries, entries, entry_sort, applied_sort, named_sort, qualified_sort, tested_sort, operator_sort, shape_sort, sort_in, sorts_in, expression_sort, each_there, first_there}
 use Rattle.smt_semantics.specs.Value.{ScriptInterpretation, Meaning, by_operator, applied_value, constant, qualified_value, is_built, of_one, operator_value, evaluate, evaluate_each, first_sort, shape_value, meaning, entry_meaning, body_of, StepsKeepValues, NamesHaveValues}

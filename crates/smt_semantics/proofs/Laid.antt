@@ -2,8 +2,8 @@
 use Rattle.std.proofs.Common.{◌≡◌, ℕ, List, [], ◌∷◌, ◌++◌, map, refl, sym, ap, ◌∙◌, subst, append_assoc, Option, Some, None}
 use Rattle.std.specs.Prelude.{codes}
 use Rattle.std.proofs.lemmas.Bool.{not-true, cond-false}
-use Rattle.smt_sexpr.specs.Lexicon.{Number}
-use Rattle.smt_sexpr.specs.Reading.{Expression, Leaf}
+use Rattle.smt_lexicon.specs.Lexicon.{Number}
+use Rattle.smt_lexicon.specs.Reading.{Expression, Leaf}
 use Rattle.smt_semantics.specs.Numerals.{numbered, numeral}
 use Rattle.smt_semantics.specs.Script.{Command, DeclareDatatype, DeclareFun, SetLogic, SetOption, CheckSat, GetModel, Reset, Exit, Push, Pop, constructor, group, name, State, start, step, run, ◌>>=◌, obey}
 use Rattle.smt_semantics.specs.Written.{ReadsAs, Item, laid, AreSpread, bracketed, listed, IsName}

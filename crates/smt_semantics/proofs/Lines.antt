@@ -7,8 +7,8 @@ use Rattle.std.proofs.lemmas.List.Concat.{flat_map-append}
 use Rattle.std.proofs.lemmas.List.Folds.{list_all-append}
 use Rattle.std.proofs.lemmas.Bool.{and_parts, and_from, false≢true, or_cases, eqb-true}
 use Rattle.std.specs.Str.{is_utf8}
-use Rattle.smt_sexpr.specs.Lexicon.{Quoted, Numeral, Text, Number, decoded, number_in, Piece, Space, Open, Close, Comment, Symbol, spelling, spell, each_longest, is_piece, is_symbol, is_plain_symbol, is_symbol_byte, is_space, stops, goes_on, in_script, is_line_end, Token, Begin, token, tokens}
-use Rattle.smt_sexpr.specs.Reading.{Leaf, Expression, brackets, inside, expressions}
+use Rattle.smt_lexicon.specs.Lexicon.{Quoted, Numeral, Text, Number, decoded, number_in, Piece, Space, Open, Close, Comment, Symbol, spelling, spell, each_longest, is_piece, is_symbol, is_plain_symbol, is_symbol_byte, is_space, stops, goes_on, in_script, is_line_end, Token, Begin, token, tokens}
+use Rattle.smt_lexicon.specs.Reading.{Leaf, Expression, brackets, inside, expressions}
 use Rattle.smt_semantics.specs.Script.{Command, State, HasWholeLines, step, run, start}
 use Rattle.smt_semantics.specs.Written.{StringsWrite, NumeralsWrite, is_apart, ReadsAs, Item, is_gap, is_wide_gap, laid, AreSpread, AreItems, IsLine, BracketsWrite, NamesWrite, CommandsAreLines, CommentsAreLines, LinesAdd, CommentsAdd}
 use Rattle.smt_semantics.proofs.Append.{script_append, whole_append, run_append, holds_append}

@@ -1,8 +1,8 @@
 -- A long script, line by line.
 use Rattle.std.proofs.Common.{[], ◌∷◌, refl}
 use Rattle.std.specs.Prelude.{codes}
-use Rattle.smt_sexpr.specs.Lexicon.{Number, Text}
-use Rattle.smt_sexpr.specs.Reading.{Leaf}
+use Rattle.smt_lexicon.specs.Lexicon.{Number, Text}
+use Rattle.smt_lexicon.specs.Reading.{Leaf}
 use Rattle.smt_semantics.specs.Script.{DeclareConst, DeclareFun, DefineFun, Assert, group, name, start}
 use Rattle.smt_semantics.specs.Written.{option_lines, option_command}
 use Rattle.smt_semantics.specs.LongSample.{LongSampleIsScript}

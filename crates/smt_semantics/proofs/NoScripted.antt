@@ -5,14 +5,14 @@ use Rattle.std.specs.List.{flat_map}
 use Rattle.std.proofs.lemmas.Bool.{false≢true}
 use Rattle.std.specs.Str.{is_utf8, chars}
 use Rattle.std.specs.Char.{encode_utf8}
-use Rattle.smt_sexpr.specs.Lexicon.{Comment, Open, Close, Quoted, Space, Symbol, Text, Token, Begin, End, tokens}
-use Rattle.smt_sexpr.specs.Reading.{Expression, Leaf, Node, Reads, brackets, inside}
+use Rattle.smt_lexicon.specs.Lexicon.{Comment, Open, Close, Quoted, Space, Symbol, Text, Token, Begin, End, tokens}
+use Rattle.smt_lexicon.specs.Reading.{Expression, Leaf, Node, Reads, brackets, inside}
 use Rattle.smt_semantics.specs.Script.{State, Command, DeclareDatatype, DeclareConst, DefineFun, Assert, DeclareFun, SetLogic, SetOption, CheckSat, GetModel, Reset, Exit, Push, Pop, constructor, start, step, name, group, stated, is_keyword}
 use Rattle.smt_semantics.specs.Written.{IsLine, ReadsAs}
 use Rattle.smt_semantics.specs.CommandLines.{ConstructorPart}
 use Rattle.smt_semantics.specs.NoScripts.{IsNoScript, IsScript, NoScripts, NoCommands, WholeTexts, bare}
-use Rattle.smt_sexpr.proofs.Trees.{one_reading}
-use Rattle.smt_sexpr.proofs.Unique.{one_cut}
+use Rattle.smt_lexicon.proofs.Trees.{one_reading}
+use Rattle.smt_lexicon.proofs.Unique.{one_cut}
 use Rattle.smt_semantics.proofs.Lines.{lines_add, names_write, commands_are_lines}
 use Rattle.smt_semantics.proofs.First.{declare_const_line, assert_line}
 use Rattle.smt_semantics.proofs.Going.{part, begins}

@@ -5,7 +5,7 @@ use Rattle.std.specs.Fmt.{digits_onto, digit_glyph}
 use Rattle.std.specs.List.{list_all, fold}
 use Rattle.std.proofs.lemmas.Bool.{and_parts, and_from, cond-true, agree_below_at}
 use Rattle.std.proofs.lemmas.List.{append_cancel_left}
-use Rattle.smt_sexpr.specs.Lexicon.{is_digit, some_all, is_symbol_byte, is_plain_byte, number_in, digit_value}
+use Rattle.smt_lexicon.specs.Lexicon.{is_digit, some_all, is_symbol_byte, is_plain_byte, number_in, digit_value}
 use Rattle.smt_semantics.specs.Numerals.{numeral, NumberedNames}
 use Rattle.smt_semantics.specs.Written.{is_name}
 use Rattle.smt_semantics.proofs.Numerals.{back, value, numerals_differ}

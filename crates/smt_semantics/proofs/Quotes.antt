@@ -3,18 +3,18 @@ use Rattle.std.proofs.Common.{◌≡◌, ℕ, true, List, [], ◌∷◌, ◌++�
 use Rattle.std.specs.Prelude.{codes}
 use Rattle.std.specs.List.{flat_map, list_all}
 use Rattle.std.proofs.lemmas.Bool.{and_parts, and_from}
-use Rattle.smt_sexpr.specs.Lexicon.{Text}
-use Rattle.smt_sexpr.specs.Reading.{Leaf, Expression, expressions}
-use Rattle.smt_sexpr.proofs.Quotes.{undoubled, characters_are, all_read, all_plain}
+use Rattle.smt_lexicon.specs.Lexicon.{Text}
+use Rattle.smt_lexicon.specs.Reading.{Leaf, Expression, expressions}
+use Rattle.smt_lexicon.proofs.Quotes.{undoubled, characters_are, all_read, all_plain}
 use Rattle.smt_semantics.specs.Written.{ReadsAs, between_quotes}
 use Rattle.smt_semantics.specs.WrittenStrings.{quoted, TextsWrite, part_text, part_expr, pattern_text, pattern_expr, PatternsWrite}
 use Rattle.smt_semantics.proofs.Lines.{strings_write, names_write}
 use Rattle.smt_semantics.proofs.Laid.{groups_write}
 use Rattle.smt_semantics.specs.Script.{group, name, pattern, pattern_part, pattern_parts, ◌>>=◌}
 use Rattle.smt_semantics.specs.CommandLines.{Part, AreWritten}
-use Rattle.smt_term.specs.Plain.{PatternPart, Character, Wildcard}
-use Rattle.smt_term.specs.TypeValues.{is_code_point}
-use Rattle.smt_term.specs.Faults.{is_pattern_part}
+use Rattle.smt_meaning.specs.Plain.{PatternPart, Character, Wildcard}
+use Rattle.smt_meaning.specs.TypeValues.{is_code_point}
+use Rattle.smt_meaning.specs.Faults.{is_pattern_part}
 
 pub texts_write : TextsWrite
 texts_write cs h =

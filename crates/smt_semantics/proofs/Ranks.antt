@@ -7,9 +7,9 @@ use Rattle.std.specs.Ordering.{nat_cmp, ordering_then, ordering_reverse, match_o
 use Rattle.std.specs.declared.cmp.Ordering.{Ordering}
 use Rattle.std.specs.declared.cmp.Ordering.TheVariants.{Less, Equal, Greater}
 use Rattle.std.proofs.lemmas.Bool.{leb-true, lt-ltb, and_parts, and_from}
-use Rattle.smt_term.specs.ValueOrder.{text_cmp}
-use Rattle.smt_term.proofs.TotalOrder.{then_chain, nat_less, text_less, bool_less}
-use Rattle.smt_term.proofs.ValueOrder.{then_equal, then_both, text_same, bool_same, nat_turned, text_turned, bool_turned, own_turn}
+use Rattle.smt_meaning.specs.ValueOrder.{text_cmp}
+use Rattle.smt_meaning.proofs.TotalOrder.{then_chain, nat_less, text_less, bool_less}
+use Rattle.smt_meaning.proofs.ValueOrder.{then_equal, then_both, text_same, bool_same, nat_turned, text_turned, bool_turned, own_turn}
 use Rattle.smt_semantics.specs.ScriptValues.{ScriptValue, TruthOf, BitsOf, TextOf, ConstructorOf, SetOf, ScriptValues, no_script_values, one_script_value}
 use Rattle.smt_semantics.specs.ScriptOrder.{kind, order, order_each, same, SameIsEqual, put, is_member, ascends, ascends_from, OrderIsTotal, PutsKeepSets}
 

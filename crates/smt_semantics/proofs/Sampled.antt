@@ -7,8 +7,8 @@ use Rattle.std.proofs.lemmas.List.Elements.{All-from_recursion, recursion_from_A
 use Rattle.std.specs.Str.{is_utf8, chars}
 use Rattle.std.specs.Char.{encode_utf8}
 use Rattle.smt_semantics.specs.ScriptValues.{ScriptValue, TruthOf, ConstructorOf, ScriptValues, no_script_values, one_script_value}
-use Rattle.smt_sexpr.specs.Lexicon.{Piece, Space, Open, Close, Quoted, Numeral, Symbol, Text}
-use Rattle.smt_sexpr.specs.Reading.{Expression, Leaf}
+use Rattle.smt_lexicon.specs.Lexicon.{Piece, Space, Open, Close, Quoted, Numeral, Symbol, Text}
+use Rattle.smt_lexicon.specs.Reading.{Expression, Leaf}
 use Rattle.smt_semantics.specs.Script.{Entry, Constant, Defined, Builds, Selects, State, Script, Holds, Command, DeclareDatatype, DeclareConst, DefineFun, Assert, Push, Pop, start, run, name, group, names_of, assertions_of, look_up}
 use Rattle.smt_semantics.specs.Sorts.{bool_sort, string_sort, same_sort, has_sort_in, have_sorts_in, constructor_fields, entries}
 use Rattle.smt_semantics.specs.ScriptOrder.{same}

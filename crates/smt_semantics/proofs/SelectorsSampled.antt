@@ -2,8 +2,8 @@
 use Rattle.std.proofs.Common.{◌≡◌, ℕ, true, false, List, [], ◌∷◌, refl, Some}
 use Rattle.std.specs.Prelude.{codes, IsTrue}
 use Rattle.std.proofs.lemmas.List.Elements.{All-from_recursion}
-use Rattle.smt_sexpr.specs.Lexicon.{Text}
-use Rattle.smt_sexpr.specs.Reading.{Expression, Leaf}
+use Rattle.smt_lexicon.specs.Lexicon.{Text}
+use Rattle.smt_lexicon.specs.Reading.{Expression, Leaf}
 use Rattle.smt_semantics.specs.ScriptValues.{TruthOf}
 use Rattle.smt_semantics.specs.Script.{Constructor, constructor, Constant, Builds, Selects, State, DeclareDatatype, DeclareConst, start, name, group, names_of, assertions_of}
 use Rattle.smt_semantics.specs.Sorts.{entries}

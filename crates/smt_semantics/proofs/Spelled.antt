@@ -3,7 +3,7 @@ use Rattle.std.proofs.Common.{◌≡◌, ℕ, List, [], ◌∷◌, map, sym, ap,
 use Rattle.std.specs.Prelude.{bytes_eq}
 use Rattle.std.proofs.lemmas.Bool.{cond-true, cond-false, cases_Bool}
 use Rattle.std.proofs.lemmas.Slice.Eq.{bytes_eq-Decides}
-use Rattle.smt_term.specs.Plain.{PlainOp}
+use Rattle.smt_meaning.specs.Plain.{PlainOp}
 use Rattle.smt_semantics.specs.ScriptOperators.{script_name, theory_operators}
 use Rattle.smt_semantics.specs.Script.{look_up}
 use Rattle.smt_semantics.specs.Meanings.{OperatorsAreFoundBySpelling}

@@ -7,7 +7,7 @@ use Rattle.std.proofs.lemmas.Bool.{and_parts, or_cases, false≢true, eqb-true, 
 use Rattle.std.proofs.lemmas.Bool.Decides.{nat_tests}
 use Rattle.std.proofs.lemmas.Str.Ascii.{IsAscii-cons, IsAscii-nil}
 use Rattle.std.proofs.lemmas.Str.{IsUtf8-from_ascii, is_utf8-from_IsUtf8}
-use Rattle.smt_sexpr.specs.Lexicon.{is_digit, is_letter, is_plain_byte, is_plain_symbol}
+use Rattle.smt_lexicon.specs.Lexicon.{is_digit, is_letter, is_plain_byte, is_plain_symbol}
 
 among_small : (b : ℕ) (cs : List ℕ) → list_all (λ c. nat_lt c 128) cs ≡ true → list_any (λ c. eqb b c) cs ≡ true → b < 128
 among_small b [] h e = absurd (false≢true e)

@@ -1,7 +1,7 @@
 -- Which operators on bits take two numbers of one width, and what they compute.
 use Rattle.std.specs.Prelude.{ℕ, Bool, Option, Some, None}
-use Rattle.smt_bits.specs.BitVectors.{bvadd, bvsub, bvmul, bvudiv, bvurem, bvsdiv, bvsrem, bvsmod, bvshl, bvlshr, bvult, bvule, bvslt, bvsle, bvsaddo, bvssubo, bvsmulo}
-use Rattle.smt_term.specs.Plain.{PlainOp, BvaddOp, BvlshrOp, BvmulOp, BvsaddoOp, BvsdivOp, BvshlOp, BvsleOp, BvsltOp, BvsmodOp, BvsmuloOp, BvsremOp, BvssuboOp, BvsubOp, BvudivOp, BvuleOp, BvultOp, BvuremOp}
+use Rattle.smt_arithmetic.specs.BitVectors.{bvadd, bvsub, bvmul, bvudiv, bvurem, bvsdiv, bvsrem, bvsmod, bvshl, bvlshr, bvult, bvule, bvslt, bvsle, bvsaddo, bvssubo, bvsmulo}
+use Rattle.smt_meaning.specs.Plain.{PlainOp, BvaddOp, BvlshrOp, BvmulOp, BvsaddoOp, BvsdivOp, BvshlOp, BvsleOp, BvsltOp, BvsmodOp, BvsmuloOp, BvsremOp, BvssuboOp, BvsubOp, BvudivOp, BvuleOp, BvultOp, BvuremOp}
 
 -- the operators from two numbers of a width to one of it
 abbrev pub bit_function : PlainOp → Option (ℕ → ℕ → ℕ → ℕ)

@@ -1,11 +1,11 @@
 -- The texts of sorts and expressions, and the lines of all commands.
 use Rattle.std.specs.Prelude.{◌≡◌, ℕ, true, not, IsTrue, codes, map, List, [], ◌∷◌, ◌++◌, Option, Some, None}
 use Rattle.smt_semantics.specs.ScriptValues.{BitsOf}
-use Rattle.smt_sexpr.specs.Lexicon.{Number}
-use Rattle.smt_sexpr.specs.Reading.{Expression, Leaf}
+use Rattle.smt_lexicon.specs.Lexicon.{Number}
+use Rattle.smt_lexicon.specs.Reading.{Expression, Leaf}
 use Rattle.smt_semantics.specs.Numerals.{numbered, numeral}
 use Rattle.smt_semantics.specs.Script.{Command, Constructor, DeclareDatatype, DeclareFun, SetLogic, SetOption, CheckSat, GetModel, Reset, Exit, Push, Pop, DefineFun, Assert, constructor, group, name, start, State, Script, HasWholeLines, obey, step}
-use Rattle.smt_bits.specs.Widths.{are_bits}
+use Rattle.smt_arithmetic.specs.Widths.{are_bits}
 use Rattle.smt_semantics.specs.Sorts.{Entries, bit_sort, bool_sort, expression_sort}
 use Rattle.smt_semantics.specs.Value.{Meaning, evaluate}
 use Rattle.smt_semantics.specs.Written.{ReadsAs, IsLine, IsName, is_gap, IsOpenScript}

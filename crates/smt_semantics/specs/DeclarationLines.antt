@@ -1,7 +1,7 @@
 -- What the lines of declarations leave of an open script.
 use Rattle.std.specs.Prelude.{◌≡◌, ℕ, zero, suc, true, not, ◌&&◌, IsTrue, codes, length, map, List, [], ◌∷◌, ◌++◌, Option, Some, None}
 use Rattle.std.specs.List.{list_all}
-use Rattle.smt_sexpr.specs.Reading.{Expression}
+use Rattle.smt_lexicon.specs.Reading.{Expression}
 use Rattle.smt_semantics.specs.Script.{Constructor, Constant, Function, Builds, Selects, State, has_sort, is_sort, is_taken, is_new_datatype, with_name, with_sort}
 use Rattle.smt_semantics.specs.Sorts.{Entries, entries}
 use Rattle.smt_semantics.specs.Written.{ReadsAs, IsName, IsOpenScript}

@@ -1,10 +1,10 @@
 -- What declared names and operators give where they are applied, and what a datatype leaves.
 use Rattle.std.specs.Prelude.{◌≡◌, ℕ, suc, Bool, true, not, ◌&&◌, ◌||◌, ◌==◌, codes, bytes_eq, length, map, List, [], ◌∷◌, ◌++◌, Option, Some}
 use Rattle.std.specs.List.{list_all, AllByRecursion}
-use Rattle.smt_term.specs.Plain.{PatternPart, PlainOp, StringLikeOp, ZeroExtendOp}
+use Rattle.smt_meaning.specs.Plain.{PatternPart, PlainOp, StringLikeOp, ZeroExtendOp}
 use Rattle.smt_semantics.specs.ScriptValues.{ScriptValue, TruthOf, ConstructorOf, SetOf, ScriptValues, no_script_values}
-use Rattle.smt_sexpr.specs.Reading.{Expression, Leaf, expressions}
-use Rattle.smt_sexpr.specs.Lexicon.{Number}
+use Rattle.smt_lexicon.specs.Reading.{Expression, Leaf, expressions}
+use Rattle.smt_lexicon.specs.Lexicon.{Number}
 use Rattle.smt_semantics.specs.ScriptOperators.{script_name, theory_operators}
 use Rattle.smt_semantics.specs.Script.{Command, DeclareDatatype, Reset, Push, Pop, Constructor, Entry, Function, Builds, Selects, State, group, name, built_in_names, is_in, is_reserved, is_taken, is_new_datatype, is_sort, has_sort, names_of, pattern, operator_of, with_sort, obey, step, ◌>>=◌}
 use Rattle.smt_semantics.specs.Sorts.{entries, entry_sort, each_there, sorts_in, expression_sort, operator_sort, insert_sort}

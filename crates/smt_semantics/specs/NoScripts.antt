@@ -1,8 +1,8 @@
 -- Samples of texts that are no scripts, each beside one that is, and of whole texts.
 use Rattle.std.specs.Prelude.{◌≡◌, ℕ, Bool, true, false, codes, length, map, List, [], ◌∷◌, ◌++◌}
 use Rattle.std.specs.List.{list_all, list_any}
-use Rattle.smt_sexpr.specs.Lexicon.{Number, Text}
-use Rattle.smt_sexpr.specs.Reading.{Expression, Leaf}
+use Rattle.smt_lexicon.specs.Lexicon.{Number, Text}
+use Rattle.smt_lexicon.specs.Reading.{Expression, Leaf}
 use Rattle.smt_semantics.specs.Script.{State, Script, IsWhole, Command, DeclareDatatype, DeclareConst, DefineFun, Assert, DeclareFun, SetLogic, SetOption, Constructor, reserved_words, are_distinct, name, group}
 use Rattle.smt_semantics.specs.Sorts.{bool_sort}
 use Rattle.smt_semantics.specs.Samples.{is_obeyed, declare_x, sample_application, set_of, empty_set, truths, t}

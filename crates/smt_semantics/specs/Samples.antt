@@ -1,8 +1,8 @@
 -- Samples of what is a script and what is none.
 use Rattle.std.specs.Prelude.{◌≡◌, ℕ, Bool, true, false, codes, map, List, [], ◌∷◌, ◌++◌, Option, Some, None, is_some}
 use Rattle.smt_semantics.specs.ScriptValues.{ScriptValue, TruthOf, BitsOf, TextOf, ConstructorOf, SetOf, no_script_values, one_script_value}
-use Rattle.smt_sexpr.specs.Lexicon.{is_space, is_digit, is_hexadecimal, Piece, Space, Comment, Open, Close, Quoted, Binary, Hexadecimal, Numeral, Symbol, is_symbol, is_piece, spell, each_longest, decoded, Bits, Number, Text, Name, Begin, End, Word, tokens, in_script}
-use Rattle.smt_sexpr.specs.Reading.{Expression, Leaf}
+use Rattle.smt_lexicon.specs.Lexicon.{is_space, is_digit, is_hexadecimal, Piece, Space, Comment, Open, Close, Quoted, Binary, Hexadecimal, Numeral, Symbol, is_symbol, is_piece, spell, each_longest, decoded, Bits, Number, Text, Name, Begin, End, Word, tokens, in_script}
+use Rattle.smt_lexicon.specs.Reading.{Expression, Leaf}
 use Rattle.smt_semantics.specs.Script.{State, Script, Command, DeclareDatatype, DeclareConst, DefineFun, Assert, DeclareFun, Reset, Exit, Push, Pop, Builds, start, empty_level, run, name, group, look_up, assertions_of}
 use Rattle.smt_semantics.specs.Sorts.{Entries, bit_sort, bool_sort, string_sort, set_sort, option_sort, sort_in, has_sort_in}
 use Rattle.smt_semantics.specs.Value.{Table, ScriptInterpretation, Meaning, IsScriptInterpretation, IsModel, applied_selectors, in_table, expression_value, evaluate, is_table, is_other}

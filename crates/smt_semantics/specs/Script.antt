@@ -3,10 +3,10 @@ use Rattle.std.specs.Prelude.{◌≡◌, ℕ, suc, Bool, true, false, not, ◌&&
 use Rattle.std.specs.List.{list_all, list_any}
 use Rattle.std.specs.Map.{lookup}
 use Rattle.std.specs.Option.{option_and_then, option_or}
-use Rattle.smt_term.specs.Plain.{PatternPart, Character, Wildcard, PlainOp}
-use Rattle.smt_sexpr.specs.Lexicon.{Number, Text, some_all, is_digit, is_symbol, number_in, Name, in_script}
-use Rattle.smt_sexpr.specs.Reading.{Expression, Leaf, Node, Expressions, Nil, Cons, Reads, expressions}
-use Rattle.smt_bits.specs.Widths.{is_width}
+use Rattle.smt_meaning.specs.Plain.{PatternPart, Character, Wildcard, PlainOp}
+use Rattle.smt_lexicon.specs.Lexicon.{Number, Text, some_all, is_digit, is_symbol, number_in, Name, in_script}
+use Rattle.smt_lexicon.specs.Reading.{Expression, Leaf, Node, Expressions, Nil, Cons, Reads, expressions}
+use Rattle.smt_arithmetic.specs.Widths.{is_width}
 use Rattle.smt_semantics.specs.ScriptOperators.{script_name, theory_operators}
 
 -- ---- commands, as the grammar writes them

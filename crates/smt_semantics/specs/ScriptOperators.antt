@@ -1,7 +1,7 @@
 -- How scripts spell operators, and the operators of the theories.
 use Rattle.std.specs.Prelude.{ℕ, codes, List, [], ◌∷◌}
-use Rattle.smt_term.specs.Names.{op_name}
-use Rattle.smt_term.specs.Plain.{PlainOp, AndOp, BvaddOp, BvlshrOp, BvmulOp, BvnegOp, BvsaddoOp, BvsdivOp, BvshlOp, BvsleOp, BvsltOp, BvsmodOp, BvsmuloOp, BvsremOp, BvssuboOp, BvsubOp, BvudivOp, BvuleOp, BvultOp, BvuremOp, EqOp, IteOp, NotOp, OptionGetOp, OrOp, SetInterOp, SetMemberOp, SetSubsetOp, StringLikeOp}
+use Rattle.smt_meaning.specs.Names.{op_name}
+use Rattle.smt_meaning.specs.Plain.{PlainOp, AndOp, BvaddOp, BvlshrOp, BvmulOp, BvnegOp, BvsaddoOp, BvsdivOp, BvshlOp, BvsleOp, BvsltOp, BvsmodOp, BvsmuloOp, BvsremOp, BvssuboOp, BvsubOp, BvudivOp, BvuleOp, BvultOp, BvuremOp, EqOp, IteOp, NotOp, OptionGetOp, OrOp, SetInterOp, SetMemberOp, SetSubsetOp, StringLikeOp}
 
 -- The name by which a script calls an operator: its own, but for `=` (Core), `str.in_re` (UnicodeStrings) and the
 -- selector of the datatype Option.

@@ -1,13 +1,13 @@
 -- The sorts of expressions, and of values. A sort is an expression.
 use Rattle.std.specs.Prelude.{ℕ, ◌+◌, Bool, true, false, ◌&&◌, ◌==◌, nat_le, if◌then◌else◌, codes, bytes_eq, length, map, List, [], ◌∷◌, Option, Some, None, is_some, IsTrue}
 use Rattle.std.specs.List.{list_all}
-use Rattle.smt_term.specs.Plain.{PlainOp, AndOp, BvnegOp, EqOp, IteOp, NotOp, OrOp, SetInterOp, SetMemberOp, SetSubsetOp, StringLikeOp, ZeroExtendOp}
-use Rattle.smt_term.specs.TypeValues.{is_code_point}
+use Rattle.smt_meaning.specs.Plain.{PlainOp, AndOp, BvnegOp, EqOp, IteOp, NotOp, OrOp, SetInterOp, SetMemberOp, SetSubsetOp, StringLikeOp, ZeroExtendOp}
+use Rattle.smt_meaning.specs.TypeValues.{is_code_point}
 use Rattle.smt_semantics.specs.ScriptValues.{ScriptValue, TruthOf, BitsOf, TextOf, ConstructorOf, SetOf, ScriptValues, no_script_values, one_script_value}
-use Rattle.smt_sexpr.specs.Lexicon.{Atom, Bits, Number, Text, Name}
-use Rattle.smt_sexpr.specs.Reading.{Expression, Leaf, Node, Expressions, Nil, Cons, expressions}
+use Rattle.smt_lexicon.specs.Lexicon.{Atom, Bits, Number, Text, Name}
+use Rattle.smt_lexicon.specs.Reading.{Expression, Leaf, Node, Expressions, Nil, Cons, expressions}
 use Rattle.smt_semantics.specs.Script.{name, group, Entry, Constant, Function, Defined, Builds, Selects, Shape, BitLiteral, Qualified, Applied, Extended, Tested, Matched, Unformed, shape, look_up, operator_of, is_in, names_of, State, ◌>>=◌}
-use Rattle.smt_bits.specs.Widths.{are_bits}
+use Rattle.smt_arithmetic.specs.Widths.{are_bits}
 use Rattle.smt_semantics.specs.Arithmetic.{bit_function, bit_test}
 use Rattle.smt_semantics.specs.ScriptOrder.{ascends}
 

@@ -1,13 +1,13 @@
 -- The values of expressions in a script.
 use Rattle.std.specs.Prelude.{◌≡◌, ℕ, zero, suc, ◌+◌, Bool, true, false, not, ◌&&◌, ◌||◌, ◌==◌, nat_le, if◌then◌else◌, codes, bytes_eq, length, List, [], ◌∷◌, ◌++◌, Option, Some, None, All, IsTrue}
-use Rattle.smt_term.specs.Plain.{PlainOp, AndOp, BvnegOp, EqOp, IteOp, NotOp, OrOp, SetInterOp, SetMemberOp, SetSubsetOp, StringLikeOp, ZeroExtendOp}
+use Rattle.smt_meaning.specs.Plain.{PlainOp, AndOp, BvnegOp, EqOp, IteOp, NotOp, OrOp, SetInterOp, SetMemberOp, SetSubsetOp, StringLikeOp, ZeroExtendOp}
 use Rattle.smt_semantics.specs.ScriptValues.{ScriptValue, TruthOf, BitsOf, TextOf, ConstructorOf, SetOf, ScriptValues, no_script_values, one_script_value}
-use Rattle.smt_sexpr.specs.Lexicon.{Text, Name}
-use Rattle.smt_sexpr.specs.Reading.{Expression, Leaf, Node, Expressions, Nil, Cons}
-use Rattle.smt_bits.specs.BitVectors.{bvneg}
-use Rattle.smt_bits.specs.Widths.{are_bits}
+use Rattle.smt_lexicon.specs.Lexicon.{Text, Name}
+use Rattle.smt_lexicon.specs.Reading.{Expression, Leaf, Node, Expressions, Nil, Cons}
+use Rattle.smt_arithmetic.specs.BitVectors.{bvneg}
+use Rattle.smt_arithmetic.specs.Widths.{are_bits}
 use Rattle.smt_semantics.specs.Arithmetic.{bit_function, bit_test}
-use Rattle.smt_term.specs.Patterns.{matches}
+use Rattle.smt_meaning.specs.Patterns.{matches}
 use Rattle.smt_semantics.specs.ScriptOrder.{same, put, is_member, is_subset, intersection}
 use Rattle.smt_semantics.specs.Script.{DefineFun, DeclareConst, name, knows, is_in, Shape, BitLiteral, Qualified, Applied, Extended, Tested, Matched, Unformed, shape, Entry, Constant, Function, Defined, Builds, Selects, Reset, Pop, State, names_of, assertions_of, look_up, operator_of, ◌>>=◌, step, Command}
 use Rattle.smt_semantics.specs.Sorts.{Entries, entries, sort_in, expression_sort, arguments_of, each_there, first_there, instance, paired, has_sort_in}

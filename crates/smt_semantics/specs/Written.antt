@@ -1,8 +1,8 @@
 -- Texts that write an expression, and lines.
 use Rattle.std.specs.Prelude.{◌≡◌, ℕ, Bool, true, false, not, ◌&&◌, ◌||◌, IsTrue, ◌==◌, codes, map, List, [], ◌∷◌, ◌++◌, Some}
 use Rattle.std.specs.List.{flat_map, list_all}
-use Rattle.smt_sexpr.specs.Lexicon.{is_printable, quote_twice, decoded, some_all, is_digit, number_in, Text, Number, Piece, spell, tokens, each_longest, in_script, is_plain_symbol, is_symbol, is_line_end}
-use Rattle.smt_sexpr.specs.Reading.{Leaf, Expression, brackets}
+use Rattle.smt_lexicon.specs.Lexicon.{is_printable, quote_twice, decoded, some_all, is_digit, number_in, Text, Number, Piece, spell, tokens, each_longest, in_script, is_plain_symbol, is_symbol, is_line_end}
+use Rattle.smt_lexicon.specs.Reading.{Leaf, Expression, brackets}
 use Rattle.smt_semantics.specs.Script.{Defined, is_taken, has_sort, is_sort, knows, with_name, with_assertion, Command, DeclareDatatype, DeclareConst, DefineFun, Assert, State, Script, Holds, HasWholeLines, IsWhole, group, name, stated, step}
 
 -- nothing, white space or a bracket

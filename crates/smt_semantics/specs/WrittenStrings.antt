@@ -1,14 +1,14 @@
 -- How code points are written in a string, and patterns.
 use Rattle.std.specs.Prelude.{◌≡◌, ℕ, IsTrue, Some, map, codes, List, [], ◌∷◌, ◌++◌}
 use Rattle.std.specs.List.{list_all}
-use Rattle.smt_term.specs.Faults.{is_pattern_part}
-use Rattle.smt_term.specs.TypeValues.{is_code_point}
-use Rattle.smt_term.specs.Plain.{PatternPart, Character, Wildcard}
+use Rattle.smt_meaning.specs.Faults.{is_pattern_part}
+use Rattle.smt_meaning.specs.TypeValues.{is_code_point}
+use Rattle.smt_meaning.specs.Plain.{PatternPart, Character, Wildcard}
 use Rattle.smt_semantics.specs.Script.{group, name, pattern}
 use Rattle.smt_semantics.specs.CommandLines.{spaced}
-use Rattle.smt_sexpr.specs.Lexicon.{Text}
-pub use Rattle.smt_sexpr.specs.Quoting.{escaped, quoted_character, quoted}
-use Rattle.smt_sexpr.specs.Reading.{Expression, Leaf}
+use Rattle.smt_lexicon.specs.Lexicon.{Text}
+pub use Rattle.smt_lexicon.specs.Quoting.{escaped, quoted_character, quoted}
+use Rattle.smt_lexicon.specs.Reading.{Expression, Leaf}
 use Rattle.smt_semantics.specs.Written.{ReadsAs}
 
 -- What is written of code points up to 196607 is read as these.

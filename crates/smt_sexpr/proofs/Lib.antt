@@ -1,11 +1,1 @@
-pub mod Atoms
-pub mod Characters
-pub mod Items
-pub mod PlainText
-pub mod Quotes
-pub mod Readings
-pub mod Runs
 pub mod Same
-pub mod Strings
-pub mod Trees
-pub mod Unique

@@ -1,6 +1,1 @@
-pub mod Front
-pub mod Lexicon
-pub mod PlainTexts
-pub mod Quoting
-pub mod Reading
 pub mod View

@@ -5,8 +5,8 @@ use Rattle.std.specs.Rc.{rc_str_bytes}
 use Rattle.std.specs.Str.{chars}
 use Rattle.std.specs.declared.alloc.Global.{Global}
 use Rattle.std.specs.declared.rc.RcStr.{RcStr}
-use Rattle.smt_sexpr.specs.Lexicon.{Number, Text, Name}
-use Rattle.smt_sexpr.specs.Reading.{Expression, Leaf, Node, Expressions, Nil, Cons, expressions}
+use Rattle.smt_lexicon.specs.Lexicon.{Number, Text, Name}
+use Rattle.smt_lexicon.specs.Reading.{Expression, Leaf, Node, Expressions, Nil, Cons, expressions}
 use Rattle.smt_sexpr.specs.declared.expression.SExpr.{SExpr, Numeral, String, Symbol, App, App', Row_of-SExpr, end_of-SExpr, more_of-SExpr, items-the_row-SExpr, items_hidden-the_row-SExpr-0}
 use Rattle.smt_sexpr.specs.declared.expression.SExpr.TheBlock.{hidden-the_row-SExpr-0}
 use Rattle.smt_sexpr.specs.declared.expression.SExprs.{SExprs}

@@ -5,9 +5,9 @@ ghost use Rattle.std.specs.Prelude.{◌≡◌, ℕ, ◌^◌, ◌<◌, ◌∷◌,
 ghost use Rattle.std.specs.List.{list_all, take_while};
 ghost use Rattle.std.specs.Option.{SomeIff};
 ghost use Rattle.std.specs.String.{string_bytes};
-ghost use Rattle.smt_sexpr.specs.Front.{Begins, BeginsWithNone, IfRead, IfUnread, IsQuoted, begins_no_symbol, begins_number, skip_space};
-ghost use Rattle.smt_sexpr.specs.Lexicon.{is_space, is_digit, is_symbol_byte, number_in};
-ghost use Rattle.smt_sexpr.specs.PlainTexts.{IsPlainText, is_plain_text_byte};
+ghost use Rattle.smt_lexicon.specs.Front.{Begins, BeginsWithNone, IfRead, IfUnread, IsQuoted, begins_no_symbol, begins_number, skip_space};
+ghost use Rattle.smt_lexicon.specs.Lexicon.{is_space, is_digit, is_symbol_byte, number_in};
+ghost use Rattle.smt_lexicon.specs.PlainTexts.{IsPlainText, is_plain_text_byte};
 ghost use Rattle.smt_sexpr.specs.View.{plain};
 
 use crate::error::SExprParseError;

@@ -7,7 +7,7 @@ ghost use Rattle.std.specs.Rc.{rc_str_bytes};
 ghost use Rattle.std.specs.Str.{chars};
 ghost use Rattle.std.specs.String.{string_bytes};
 ghost use Rattle.smt_characters.specs.Characters.{is_code_point};
-ghost use Rattle.smt_sexpr.specs.Quoting.{quoted, quoted_character};
+ghost use Rattle.smt_lexicon.specs.Quoting.{quoted, quoted_character};
 
 use crate::error::SExprParseError;
 use crate::expression::Text;

@@ -2,9 +2,9 @@
 #![tactic(auto, using(crate::specs::View::views))]
 
 ghost use Rattle.std.specs.Prelude.{◌≡◌, ◌<◌, [], ◌∷◌, length, IfOk, IfErr, IfSome, IfNone};
-ghost use Rattle.smt_sexpr.specs.Front.{Begins, BeginsInside, BeginsWithNone, IfRead, IfUnread, InsideIsNone, skip_space};
-ghost use Rattle.smt_sexpr.specs.PlainTexts.{IsPlainText, IsPlainRead};
-ghost use Rattle.smt_sexpr.specs.Reading.{Expression, Reads, expressions};
+ghost use Rattle.smt_lexicon.specs.Front.{Begins, BeginsInside, BeginsWithNone, IfRead, IfUnread, InsideIsNone, skip_space};
+ghost use Rattle.smt_lexicon.specs.PlainTexts.{IsPlainText, IsPlainRead};
+ghost use Rattle.smt_lexicon.specs.Reading.{Expression, Reads, expressions};
 ghost use Rattle.smt_sexpr.specs.View.{plain, plains};
 
 use crate::error::SExprParseError;

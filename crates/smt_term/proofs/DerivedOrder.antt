@@ -14,9 +14,9 @@ use denote.Hole.Compared
 use mathlib.Core.Former
 use Rattle.smt_term.proofs.PatternOrder.{pattern_cmp-is}
 use Rattle.smt_term.specs.Program.{ListsCompareAsPlain, SetsCompareAsPlain, VariablesCompareAsPlain}
-use Rattle.smt_term.specs.TermOrder.{op_cmp, literal_cmp, term_cmp, terms_cmp}
-use Rattle.smt_term.specs.Types.{type_cmp}
-use Rattle.smt_term.specs.ValueOrder.{text_cmp}
+use Rattle.smt_meaning.specs.TermOrder.{op_cmp, literal_cmp, term_cmp, terms_cmp}
+use Rattle.smt_meaning.specs.Types.{type_cmp}
+use Rattle.smt_meaning.specs.ValueOrder.{text_cmp}
 use Rattle.smt_term.specs.View.{plain_type, plain_op, plain_literal, plain_term, plain_row}
 use Rattle.smt_term.specs.declared.types.TermType.{TermType, Option', Bitvec, Bool, String, Set' as SetOf'}
 use Rattle.smt_term.specs.declared.types.TermType.TheViews as type_views

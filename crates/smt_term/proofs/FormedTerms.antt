@@ -3,18 +3,18 @@ use Rattle.std.proofs.Common.{List, [], ◌∷◌, map, ap}
 use Rattle.std.specs.Rc.{rc_str_bytes}
 use Rattle.std.specs.List.{AllByRecursion}
 use Rattle.std.proofs.lemmas.Str.{IsUtf8-string_bytes}
-use Rattle.smt_term.specs.Formed.{IsFormedHere, IsFormedLiteral, IsFormedNode, IsFormedType}
-use Rattle.smt_term.specs.Plain.{PlainType, OptionType, SetType, PlainTerm, Application, NoneTerm, LiteralTerm, RecordTerm, SetTerm, SomeTerm, VariableTerm}
+use Rattle.smt_meaning.specs.Formed.{IsFormedHere, IsFormedLiteral, IsFormedNode, IsFormedType}
+use Rattle.smt_meaning.specs.Plain.{PlainType, OptionType, SetType, PlainTerm, Application, NoneTerm, LiteralTerm, RecordTerm, SetTerm, SomeTerm, VariableTerm}
 use Rattle.smt_term.specs.Program.{TablesAreEmpty, TermsAreFormed}
-use Rattle.smt_term.specs.Reached.{subterms, subterms_of_all, subterms_of_fields, types_within}
-use Rattle.smt_term.specs.Types.{literal_type, type_of}
+use Rattle.smt_meaning.specs.Reached.{subterms, subterms_of_all, subterms_of_fields, types_within}
+use Rattle.smt_meaning.specs.Types.{literal_type, type_of}
 use Rattle.smt_term.specs.View.{plain_literal, plain_row, plain_term, plain_type}
 use Rattle.smt_term.specs.declared.term.Term.{Term, App', None, Prim, Set', Some', Var, Row_of-Term, end_of-Term, more_of-Term}
 use Rattle.smt_term.specs.declared.term.TermPrim.{TermPrim}
 use Rattle.smt_term.specs.declared.term.TermPrim.TheVariants.{Bitvec as BitsLiteral, Bool as TruthLiteral, String as TextLiteral}
 use Rattle.smt_term.specs.declared.types.TermType.{TermType, Option', Bitvec, Bool, String, Set' as SetOf'}
-use Rattle.smt_term.proofs.Defaults.{all-join}
-use Rattle.smt_term.proofs.Soundness.{all-last}
+use Rattle.smt_meaning.proofs.Defaults.{all-join}
+use Rattle.smt_meaning.proofs.Soundness.{all-last}
 
 -- a term by itself and its type are formed
 abbrev IsFormedBoth : PlainTerm → Type 0

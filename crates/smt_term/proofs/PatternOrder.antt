@@ -7,7 +7,7 @@ use Rattle.std.specs.declared.cmp.Ordering.{Ordering}
 use Rattle.std.proofs.lemmas.Bool.{eqb-true, eq-eqb}
 use Rattle.smt_term.specs.PatternOrder.{ElementsCompareAsPlain, PatternsCompareAsPlain, EqualElementsSayTheSame, EqualPatternsSayTheSame, EqualOrdPatternsSayTheSame, LevelElementsAreEqual, LevelPatternsAreEqual}
 use Rattle.smt_term.specs.PatternView.{plain_part}
-use Rattle.smt_term.specs.TermOrder.{part_cmp}
+use Rattle.smt_meaning.specs.TermOrder.{part_cmp}
 use Rattle.smt_term.specs.contracts.pattern.PatternElemOrd.TheImpl as element_order
 use Rattle.smt_term.specs.contracts.pattern.PatternElemPartialEq.TheImpl as element_equality
 use Rattle.smt_term.specs.contracts.pattern.OrdPatternOrd.TheImpl as pattern_order

@@ -6,13 +6,13 @@ use Rattle.std.proofs.lemmas.Bool.{eqb-true, eq-eqb, false≢true}
 use Rattle.std.proofs.lemmas.Str.{chars-nil, encodes-chars}
 use Rattle.std.specs.Str.{IsUtf8, chars, encode_utf8_all}
 use Rattle.smt_term.specs.PatternView.{plain_part}
-use Rattle.smt_term.specs.Patterns.{Matches, matches}
+use Rattle.smt_meaning.specs.Patterns.{Matches, matches}
 use Rattle.smt_term.specs.PatternSearch.{Passes, IsFront, LeavesText, front_matches}
-use Rattle.smt_term.specs.Plain.{PatternPart, Character, Wildcard}
+use Rattle.smt_meaning.specs.Plain.{PatternPart, Character, Wildcard}
 use Rattle.smt_term.specs.declared.pattern.Front.{Front}
 use Rattle.smt_term.specs.declared.pattern.Front.TheVariants.{Continues, Differs, Ends}
 use Rattle.smt_term.specs.declared.pattern.PatternElem.{PatternElem}
-use Rattle.smt_term.proofs.Matching.{matched, matching}
+use Rattle.smt_meaning.proofs.Matching.{matched, matching}
 
 -- nothing is taken yet
 pub passes_none : (p : List PatternPart) (s : List ℕ) → Passes p s p s

@@ -4,15 +4,15 @@ use Rattle.std.specs.Cmp.{Equal-is}
 use Rattle.std.specs.Ordering.{is_eq, ordering_reverse}
 use Rattle.std.specs.declared.cmp.Ordering.{Ordering}
 use Rattle.std.specs.declared.cmp.Ordering.TheVariants.{Less, Equal, Greater}
-use Rattle.smt_term.specs.Plain.{PlainType}
-use Rattle.smt_term.specs.Types.{type_cmp, type_eq}
+use Rattle.smt_meaning.specs.Plain.{PlainType}
+use Rattle.smt_meaning.specs.Types.{type_cmp, type_eq}
 use Rattle.smt_term.specs.View.{plain_type}
 use Rattle.smt_term.specs.declared.types.TermType.{TermType}
 use Rattle.smt_term.specs.contracts.types.TermTypePartialEq.TheImpl as type_equality
 use Rattle.smt_term.specs.contracts.types.TermTypeOrd.TheImpl.Laws as type_laws
 use Rattle.smt_term.proofs.DerivedOrder.{type_cmp-is}
-use Rattle.smt_term.proofs.TermTotal.{types_total}
-use Rattle.smt_term.proofs.TypeOrder.{type_same, type_itself}
+use Rattle.smt_meaning.proofs.TermTotal.{types_total}
+use Rattle.smt_meaning.proofs.TypeOrder.{type_same, type_itself}
 
 -- the derived test is the test on what they say
 pub type_eq-is : (a b : TermType) → type_equality.ghosts.eq a b ≡ type_eq (plain_type a) (plain_type b)

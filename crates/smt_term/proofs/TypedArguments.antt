@@ -5,13 +5,14 @@ use Rattle.std.specs.Prelude.{◌≢◌, ◌⊎◌, IsTrue, is_some}
 use mathlib.Core.Logic.{⊎_elim}
 use Rattle.std.specs.Bool.{then_some}
 use Rattle.std.proofs.lemmas.Bool.{false≢true}
-use Rattle.smt_term.specs.Plain.{PlainType, BoolType, PlainOp, NotOp, PlainTerm, Application, SetTerm, list_of_terms, terms}
-use Rattle.smt_term.specs.Types.{is_type, result_type, type_eq, type_of, types_of}
-use Rattle.smt_term.specs.TermOrder.{term_cmp}
-use Rattle.smt_term.specs.Typing.{typed, typed_all}
-use Rattle.smt_term.specs.ValueOrder.{ascends, is_below}
+use Rattle.smt_meaning.specs.Plain.{PlainType, BoolType, PlainOp, NotOp, PlainTerm, Application, SetTerm, list_of_terms, terms}
+use Rattle.smt_meaning.specs.Types.{is_type, result_type, type_eq, type_of, types_of}
+use Rattle.smt_meaning.specs.TermOrder.{term_cmp}
+use Rattle.smt_meaning.specs.Typing.{typed, typed_all}
+use Rattle.smt_meaning.specs.ValueOrder.{ascends, is_below}
 use Rattle.std.specs.Ordering.{is_lt}
 use Rattle.std.specs.List.{list_all}
+use Rattle.smt_meaning.proofs.Listed.{listed}
 use Rattle.smt_term.specs.View.{plain_elements, plain_items, plain_op, plain_term, plain_term-App, plain_term-Set, plain_type}
 use Rattle.smt_term.specs.declared.op.Op.{Op}
 use Rattle.smt_term.specs.declared.op.Op.TheVariants.{And, Bvadd, Bvlshr, Bvmul, Bvneg, Bvnego, Bvsaddo, Bvsdiv, Bvshl, Bvsle, Bvslt, Bvsmod, Bvsmulo, Bvsrem, Bvssubo, Bvsub, Bvudiv, Bvule, Bvult, Bvurem, Eq, Ite, Not, OptionGet, Or, SetInter, SetMember, SetSubset, StringLike, ZeroExtend}
@@ -19,11 +20,6 @@ use Rattle.smt_term.specs.declared.term.Term.{Term, App, Set}
 use Rattle.smt_term.specs.declared.term.TermSet.{TermSet}
 use Rattle.smt_term.specs.declared.term.TermList.{TermList}
 use Rattle.smt_term.specs.declared.types.TermType.{TermType}
-
--- the terms of a list, as a list
-pub listed : (ts : List PlainTerm) → list_of_terms (terms ts) ≡ ts
-listed [] = refl
-listed (t ∷ ts) = ap (λ us. t ∷ us) (listed ts)
 
 types_listed : (ts : List PlainTerm) → types_of (terms ts) ≡ map type_of ts
 types_listed [] = refl

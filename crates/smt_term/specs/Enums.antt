@@ -1,7 +1,7 @@
 -- What a table of enum types says.
 use Rattle.std.specs.Prelude.{map}
 use Rattle.std.specs.Rc.{rc_str_bytes}
-use Rattle.smt_term.specs.TypeValues.{Enums}
+use Rattle.smt_meaning.specs.TypeValues.{Enums}
 use Rattle.smt_term.specs.declared.enums.EnumTable.{EnumTable}
 
 -- the enum types, each with its members

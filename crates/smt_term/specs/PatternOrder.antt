@@ -3,7 +3,7 @@ use Rattle.std.specs.Prelude.{◌≡◌, ◌↔◌, IsTrue}
 use Rattle.std.specs.Cmp.{IsTotalOrder}
 use Rattle.std.specs.declared.cmp.Ordering.TheVariants.{Equal}
 use Rattle.smt_term.specs.PatternView.{plain_part, plain_pattern, plain_ord_pattern}
-use Rattle.smt_term.specs.TermOrder.{part_cmp, pattern_cmp}
+use Rattle.smt_meaning.specs.TermOrder.{part_cmp, pattern_cmp}
 use Rattle.smt_term.specs.contracts.pattern.OrdPatternOrd.TheImpl as pattern_order
 use Rattle.smt_term.specs.contracts.pattern.OrdPatternPartialEq.TheImpl as ord_pattern_equality
 use Rattle.smt_term.specs.contracts.pattern.PatternElemOrd.TheImpl as element_order

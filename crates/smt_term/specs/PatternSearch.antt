@@ -1,9 +1,9 @@
 -- What the search of a pattern in a text finds: how the text compares with the characters before a wildcard.
 use Rattle.std.specs.Prelude.{◌≡◌, ℕ, ◌+◌, Bool, true, false, List, ◌∷◌, ◌++◌, length, map}
 use Rattle.std.specs.Str.{IsUtf8, chars}
-use Rattle.smt_term.specs.Patterns.{matches}
+use Rattle.smt_meaning.specs.Patterns.{matches}
 use Rattle.smt_term.specs.PatternView.{plain_part}
-use Rattle.smt_term.specs.Plain.{PatternPart, Character, Wildcard}
+use Rattle.smt_meaning.specs.Plain.{PatternPart, Character, Wildcard}
 use Rattle.smt_term.specs.declared.pattern.Front.{Front}
 use Rattle.smt_term.specs.declared.pattern.Front.TheVariants.{Continues, Differs, Ends}
 

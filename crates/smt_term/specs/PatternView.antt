@@ -1,6 +1,6 @@
 -- The plain form of the program's patterns.
 use Rattle.std.specs.Prelude.{List, map}
-use Rattle.smt_term.specs.Plain.{PatternPart, Character, Wildcard}
+use Rattle.smt_meaning.specs.Plain.{PatternPart, Character, Wildcard}
 use Rattle.smt_term.specs.declared.pattern.OrdPattern.{OrdPattern}
 use Rattle.smt_term.specs.declared.pattern.Pattern.{Pattern}
 use Rattle.smt_term.specs.declared.pattern.PatternElem.{PatternElem}

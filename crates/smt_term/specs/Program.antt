@@ -2,9 +2,9 @@
 use Rattle.std.specs.Prelude.{◌≡◌, ◌↔◌, IsTrue, []}
 use Rattle.std.specs.Cmp.Lexicographic.{slice_cmp}
 use Rattle.smt_term.specs.Enums.{enums_of}
-use Rattle.smt_term.specs.Formed.{IsFormed}
-use Rattle.smt_term.specs.TermOrder.{op_cmp, literal_cmp, term_cmp}
-use Rattle.smt_term.specs.Types.{type_cmp}
+use Rattle.smt_meaning.specs.Formed.{IsFormed}
+use Rattle.smt_meaning.specs.TermOrder.{op_cmp, literal_cmp, term_cmp}
+use Rattle.smt_meaning.specs.Types.{type_cmp}
 use Rattle.smt_term.specs.View.{plain_elements, plain_items, plain_literal, plain_op, plain_term, plain_type, plain_variable}
 use Rattle.smt_term.specs.contracts.op.OpOrd.TheImpl as op_order
 use Rattle.smt_term.specs.contracts.op.OpPartialEq.TheImpl as op_equality

@@ -1,6 +1,6 @@
 // The operators of applications.
 ghost use Rattle.std.specs.Prelude.{◌≡◌, IfOk};
-ghost use Rattle.smt_term.specs.Names.{op_name};
+ghost use Rattle.smt_meaning.specs.Names.{op_name};
 ghost use Rattle.smt_term.specs.View.{plain_op};
 
 use crate::error::TermError;

@@ -3,8 +3,8 @@ ghost use Rattle.std.specs.Prelude.{◌≡◌, ◌≢◌, ◌≤◌, ◌∷◌, 
 ghost use Rattle.std.specs.Str.{IsUtf8, chars};
 ghost use Rattle.smt_term.specs.PatternSearch.{IsFront, LeavesText, front_matches, front_size};
 ghost use Rattle.smt_term.specs.PatternView.{plain_ord_pattern, plain_part, plain_pattern};
-ghost use Rattle.smt_term.specs.Patterns.{matches};
-ghost use Rattle.smt_term.specs.Plain.{Wildcard};
+ghost use Rattle.smt_meaning.specs.Patterns.{matches};
+ghost use Rattle.smt_meaning.specs.Plain.{Wildcard};
 
 use crate::error::TermError;
 use std::alloc::Global;

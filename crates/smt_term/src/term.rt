@@ -1,6 +1,6 @@
 // Terms and lists of terms.
 ghost use Rattle.std.specs.Prelude.{◌≡◌, ◌↔◌, [], IfOk, IsTrue, length, map};
-ghost use Rattle.smt_term.specs.TermSets.{sorted_terms};
+ghost use Rattle.smt_meaning.specs.TermSets.{sorted_terms};
 ghost use Rattle.smt_term.specs.View.{elements_of, items_of, plain_elements, plain_items, plain_literal, plain_term, plain_variable};
 
 use crate::error::TermError;
@@ -235,7 +235,7 @@ impl Term {
 
 impl From<bool> for Term {
     ghost use Rattle.std.specs.Prelude.{◌≡◌};
-    ghost use Rattle.smt_term.specs.Plain.{BoolLiteral, LiteralTerm};
+    ghost use Rattle.smt_meaning.specs.Plain.{BoolLiteral, LiteralTerm};
     ghost use Rattle.smt_term.specs.View.{plain_term};
 
     ghost from_gives = { λ truth term. plain_term term ≡ LiteralTerm (BoolLiteral truth) };
@@ -247,8 +247,8 @@ impl From<bool> for Term {
 
 impl From<i64> for Term {
     ghost use Rattle.std.specs.Prelude.{◌≡◌};
-    ghost use Rattle.smt_bits.specs.BitVectors.{bits_of};
-    ghost use Rattle.smt_term.specs.Plain.{BitVecLiteral, LiteralTerm};
+    ghost use Rattle.smt_arithmetic.specs.BitVectors.{bits_of};
+    ghost use Rattle.smt_meaning.specs.Plain.{BitVecLiteral, LiteralTerm};
     ghost use Rattle.smt_term.specs.View.{plain_term};
 
     ghost from_gives = { λ number term. plain_term term ≡ LiteralTerm (BitVecLiteral 64 (bits_of 64 number)) };
@@ -261,7 +261,7 @@ impl From<i64> for Term {
 impl From<BitVec> for Term {
     ghost use Rattle.std.specs.Prelude.{◌≡◌};
     ghost use Rattle.smt_bits.specs.BitVec.{number_of, width_of};
-    ghost use Rattle.smt_term.specs.Plain.{BitVecLiteral, LiteralTerm};
+    ghost use Rattle.smt_meaning.specs.Plain.{BitVecLiteral, LiteralTerm};
     ghost use Rattle.smt_term.specs.View.{plain_term};
 
     ghost from_gives = { λ bits term. plain_term term ≡ LiteralTerm (BitVecLiteral (width_of bits) (number_of bits)) };
@@ -274,7 +274,7 @@ impl From<BitVec> for Term {
 impl From<Text> for Term {
     ghost use Rattle.std.specs.Prelude.{◌≡◌};
     ghost use Rattle.std.specs.Rc.{rc_str_bytes};
-    ghost use Rattle.smt_term.specs.Plain.{LiteralTerm, StringLiteral};
+    ghost use Rattle.smt_meaning.specs.Plain.{LiteralTerm, StringLiteral};
     ghost use Rattle.smt_term.specs.View.{plain_term};
 
     ghost from_gives = { λ text term. plain_term term ≡ LiteralTerm (StringLiteral (rc_str_bytes text)) };

@@ -1,6 +1,6 @@
 // The types of terms.
 ghost use Rattle.std.specs.Prelude.{◌≡◌, IfOk};
-ghost use Rattle.smt_term.specs.Plain.{OptionType, SetType};
+ghost use Rattle.smt_meaning.specs.Plain.{OptionType, SetType};
 ghost use Rattle.smt_term.specs.View.{plain_type};
 
 use crate::error::TermError;

@@ -2,12 +2,12 @@
 ghost use Rattle.std.specs.Prelude.{◌≡◌, ◌↔◌, ◌∷◌, [], IfOk, IsTrue, is_some, map, option_map};
 ghost use Rattle.std.specs.List.{list_all};
 ghost use Rattle.smt_bits.specs.Width.{bits_in};
-ghost use Rattle.smt_term.specs.Literals.{is_literal};
-ghost use Rattle.smt_term.specs.Plain.{OptionType, SetType};
-ghost use Rattle.smt_term.specs.TermOrder.{term_cmp};
-ghost use Rattle.smt_term.specs.Types.{extended_type, inner_type, is_set, is_type, literal_type, result_type, type_eq, type_of, width_in};
-ghost use Rattle.smt_term.specs.Typing.{Typed, typed};
-ghost use Rattle.smt_term.specs.ValueOrder.{ascends, is_below};
+ghost use Rattle.smt_meaning.specs.Literals.{is_literal};
+ghost use Rattle.smt_meaning.specs.Plain.{OptionType, SetType};
+ghost use Rattle.smt_meaning.specs.TermOrder.{term_cmp};
+ghost use Rattle.smt_meaning.specs.Types.{extended_type, inner_type, is_set, is_type, literal_type, result_type, type_eq, type_of, width_in};
+ghost use Rattle.smt_meaning.specs.Typing.{Typed, typed};
+ghost use Rattle.smt_meaning.specs.ValueOrder.{ascends, is_below};
 ghost use Rattle.smt_term.specs.View.{plain_literal, plain_op, plain_term, plain_type};
 
 use crate::error::TermError;

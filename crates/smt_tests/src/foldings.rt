@@ -1,7 +1,7 @@
 // The samples of each call of the factory, and each call that allocates once with ample memory.
 ghost use Rattle.std.specs.Prelude.{◌≡◌};
-ghost use Rattle.smt_term.specs.Plain.{BitVecType};
-ghost use Rattle.smt_term.specs.Types.{type_of};
+ghost use Rattle.smt_meaning.specs.Plain.{BitVecType};
+ghost use Rattle.smt_meaning.specs.Types.{type_of};
 ghost use Rattle.smt_term.specs.View.{plain_term};
 
 use smt_bits::{BitVec, EIGHT, Int, SIXTEEN};

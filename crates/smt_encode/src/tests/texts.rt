@@ -1,6 +1,6 @@
 // Scripts of strings, patterns, options and sets byte for byte, and what is refused of strings and patterns.
 ghost use Rattle.std.specs.Prelude.{◌≡◌};
-ghost use Rattle.smt_term.specs.TypeValues.{is_code_point};
+ghost use Rattle.smt_meaning.specs.TypeValues.{is_code_point};
 
 use super::words::{pattern, terms};
 use super::{has_lines, is_script};

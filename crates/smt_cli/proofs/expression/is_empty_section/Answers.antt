@@ -1,7 +1,7 @@
 use Rattle.std.proofs.Common.{Some, None, ap, sym, ◌∙◌}
 use Rattle.std.specs.Prelude.{if◌then◌else◌}
 use Rattle.smt_semantics.specs.Script.{◌>>=◌}
-use Rattle.smt_sexpr.specs.Reading.{Nil}
+use Rattle.smt_lexicon.specs.Reading.{Nil}
 use Rattle.smt_cli.specs.Job.{nothing_in}
 use Rattle.smt_cli.proofs.Shapes.{nothing_listed}
 use Rattle.smt_cli.proofs.expression.is_empty_section.Goals as goal

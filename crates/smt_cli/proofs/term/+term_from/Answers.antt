@@ -1,8 +1,8 @@
 use Rattle.std.proofs.Common.{rules, refl, Option, ◌-◌, drop, take, length, map, option_map, arith, ap, sym, ◌∙◌, subst}
-use Rattle.smt_term.specs.Plain.{PlainTerm}
+use Rattle.smt_meaning.specs.Plain.{PlainTerm}
 use Rattle.smt_term.specs.View.{plain_op, plain_term}
-use Rattle.smt_factory.specs.Built.{built}
-use Rattle.smt_sexpr.specs.Reading.{Node}
+use Rattle.smt_folding.specs.Built.{built}
+use Rattle.smt_lexicon.specs.Reading.{Node}
 use Rattle.smt_cli.specs.Job.{applied, term_of}
 use Rattle.smt_term.specs.declared.op.Op.{Op}
 use Rattle.smt_cli.specs.JobView.{IsReadAs, IsForm, plain_list}

@@ -1,7 +1,7 @@
 use Rattle.std.proofs.Common.{sym, ap, ◌∙◌}
 use Rattle.smt_term.proofs.SameType.{type_eq-is}
-use Rattle.smt_term.specs.Plain.{BoolType}
-use Rattle.smt_term.specs.Types.{type_eq}
+use Rattle.smt_meaning.specs.Plain.{BoolType}
+use Rattle.smt_meaning.specs.Types.{type_eq}
 use Rattle.smt_term.specs.View.{plain_term, plain_type}
 use Rattle.smt_term.specs.declared.types.TermType.{Bool}
 use Rattle.smt_sexpr.specs.View.{plain}

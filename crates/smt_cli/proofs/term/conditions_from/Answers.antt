@@ -1,6 +1,6 @@
 use Rattle.std.proofs.Common.{Some, map, option_map, arith, ap, sym, ◌∙◌}
 use Rattle.smt_term.specs.View.{plain_items, plain_term}
-use Rattle.smt_factory.specs.Built.{built}
+use Rattle.smt_folding.specs.Built.{built}
 use Rattle.smt_cli.specs.Job.{condition_of}
 use Rattle.smt_cli.specs.JobView.{plain_list}
 use Rattle.smt_cli.proofs.Giving.{all_read, built_from_none, each_condition, not_read, passes_on, reads_on}

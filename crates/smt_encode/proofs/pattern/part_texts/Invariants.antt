@@ -3,7 +3,7 @@ use Rattle.std.specs.List.{list_all}
 use Rattle.std.specs.Rc.{rc_str_bytes}
 use Rattle.smt_semantics.specs.WrittenStrings.{part_expr}
 use Rattle.smt_lines.specs.Spelling.{spelled}
-use Rattle.smt_term.specs.Faults.{is_pattern_part}
+use Rattle.smt_meaning.specs.Faults.{is_pattern_part}
 use Rattle.smt_term.specs.PatternView.{plain_part}
 use Rattle.smt_encode.proofs.pattern.part_texts.Given as goal
 

@@ -1,7 +1,7 @@
 use Rattle.std.proofs.Common.{◌≡◌, ◌≤◌, ◌<◌, List, [], ◌∷◌, length, get_or, map, refl, ap, sym, ◌∙◌, arith}
 use Rattle.std.proofs.lemmas.Result.{IfOk-weaker}
-use Rattle.smt_term.specs.Plain.{PlainType, BoolType, no_terms, one_term, terms}
-use Rattle.smt_term.specs.Types.{type_of}
+use Rattle.smt_meaning.specs.Plain.{PlainType, BoolType, no_terms, one_term, terms}
+use Rattle.smt_meaning.specs.Types.{type_of}
 use Rattle.smt_term.specs.View.{plain_term, plain_type, plain_type-Bool}
 use Rattle.smt_term.specs.declared.term.Term.{Term}
 use Rattle.smt_lines.specs.Lines.{AsApplication, least_rendering, negation_rendering}

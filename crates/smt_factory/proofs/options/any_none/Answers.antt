@@ -1,6 +1,6 @@
 use Rattle.std.proofs.Common.{rules}
 use Rattle.std.proofs.lemmas.Result.{IfOk-weaker}
-use Rattle.smt_factory.specs.FoldOptions.{folded_is_none}
+use Rattle.smt_folding.specs.FoldOptions.{folded_is_none}
 use Rattle.smt_factory.proofs.AnyAnswers.{any_folded}
 use Rattle.smt_factory.proofs.options.any_none.Goals as goal
 

@@ -1,7 +1,7 @@
 use Rattle.std.proofs.lemmas.Result.{IfOk-weaker}
-use Rattle.smt_factory.specs.Applications.{if_some_of}
-use Rattle.smt_factory.specs.FoldOptions.{folded_if_some}
-use Rattle.smt_factory.specs.Refinement.{Refines}
+use Rattle.smt_folding.specs.Applications.{if_some_of}
+use Rattle.smt_folding.specs.FoldOptions.{folded_if_some}
+use Rattle.smt_folding.specs.Refinement.{Refines}
 use Rattle.smt_factory.proofs.FoldingOptions.{stands_for_if_some}
 use Rattle.smt_factory.proofs.options.if_some.Goals as goal
 use Rattle.smt_term.specs.View.{plain_term}

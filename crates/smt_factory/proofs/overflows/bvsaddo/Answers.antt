@@ -1,11 +1,11 @@
 use Rattle.std.proofs.Common.{◌≡◌, rules}
 use Rattle.std.specs.Prelude.{◌+ℤ◌}
 use Rattle.std.proofs.lemmas.Result.{IfOk-weaker}
-use Rattle.smt_factory.specs.FoldBits.{folded_bvsaddo}
+use Rattle.smt_folding.specs.FoldBits.{folded_bvsaddo}
 use Rattle.smt_factory.proofs.Folding.{stands_for_bvsaddo}
 use Rattle.smt_factory.proofs.OutOfRange.{overflow_by}
 use Rattle.smt_factory.proofs.overflows.bvsaddo.Goals as goal
-use Rattle.smt_term.specs.Plain.{BvsaddoOp}
+use Rattle.smt_meaning.specs.Plain.{BvsaddoOp}
 use Rattle.smt_term.specs.View.{plain_term}
 
 pub returns-clause-folded : goal.returns-clause-folded

@@ -1,11 +1,11 @@
 use Rattle.std.proofs.Common.{◌≡◌, rules}
 use Rattle.std.specs.Prelude.{◌-ℤ◌}
 use Rattle.std.proofs.lemmas.Result.{IfOk-weaker}
-use Rattle.smt_factory.specs.FoldBits.{folded_bvssubo}
+use Rattle.smt_folding.specs.FoldBits.{folded_bvssubo}
 use Rattle.smt_factory.proofs.Folding.{stands_for_bvssubo}
 use Rattle.smt_factory.proofs.OutOfRange.{overflow_by}
 use Rattle.smt_factory.proofs.overflows.bvssubo.Goals as goal
-use Rattle.smt_term.specs.Plain.{BvssuboOp}
+use Rattle.smt_meaning.specs.Plain.{BvssuboOp}
 use Rattle.smt_term.specs.View.{plain_term}
 
 pub returns-clause-folded : goal.returns-clause-folded

@@ -4,7 +4,7 @@ use Rattle.std.specs.Int.{w128}
 use Rattle.std.proofs.lemmas.Fn.{says_at_two}
 use Rattle.std.proofs.lemmas.Int.{to_z-of_z}
 use Rattle.smt_bits.specs.BitVec.{number_of, width_of}
-use Rattle.smt_bits.specs.BitVectors.{signed}
+use Rattle.smt_arithmetic.specs.BitVectors.{signed}
 use Rattle.smt_factory.specs.FoldBy.{leaves}
 use Rattle.smt_factory.proofs.OutOfRange.{pair_moved}
 use Rattle.smt_factory.proofs.overflows.overflow.Goals as goal

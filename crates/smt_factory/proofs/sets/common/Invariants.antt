@@ -1,6 +1,6 @@
 use Rattle.std.proofs.Common.{◌≡◌, ◌++◌, drop, map}
 use Rattle.std.specs.List.{filter}
-use Rattle.smt_factory.specs.FoldSets.{is_among}
+use Rattle.smt_folding.specs.FoldSets.{is_among}
 use Rattle.smt_term.specs.View.{plain_term}
 use Rattle.smt_factory.proofs.sets.common.Given as goal
 

@@ -1,12 +1,12 @@
 use Rattle.std.proofs.Common.{◌≡◌, map, ap, ◌∙◌, sym}
 use Rattle.std.proofs.lemmas.Result.{IfOk-weaker}
 use Rattle.std.specs.List.{filter}
-use Rattle.smt_factory.specs.FoldSets.{common_set, is_among}
-use Rattle.smt_factory.specs.Parts.{elements_in}
+use Rattle.smt_folding.specs.FoldSets.{common_set, is_among}
+use Rattle.smt_folding.specs.Parts.{elements_in}
 use Rattle.smt_factory.proofs.FoldingSets.{common_set-set}
 use Rattle.smt_factory.proofs.sets.common_set.Goals as goal
-use Rattle.smt_term.specs.Plain.{PlainTerm, SetTerm, terms}
-use Rattle.smt_term.specs.TermSets.{set_term}
+use Rattle.smt_meaning.specs.Plain.{PlainTerm, SetTerm, terms}
+use Rattle.smt_meaning.specs.TermSets.{set_term}
 use Rattle.smt_term.specs.View.{plain_elements, plain_term, plain_term-Set, plain_type}
 
 pub returns-in_ok-share-in-Set : goal.returns-in_ok-share-in-Set

@@ -1,8 +1,8 @@
 use Rattle.std.proofs.Common.{◌≡◌, ap, ◌∙◌, sym}
-use Rattle.smt_factory.specs.Parts.{elements_in}
+use Rattle.smt_folding.specs.Parts.{elements_in}
 use Rattle.smt_factory.proofs.FoldingSets.{elements_in-set}
 use Rattle.smt_factory.proofs.sets.elements_in.Goals as goal
-use Rattle.smt_term.specs.Plain.{SetTerm, terms}
+use Rattle.smt_meaning.specs.Plain.{SetTerm, terms}
 use Rattle.smt_term.specs.View.{plain_elements, plain_term, plain_term-Set, plain_type}
 
 pub returns-in-Set : goal.returns-in-Set

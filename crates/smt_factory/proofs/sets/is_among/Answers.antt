@@ -1,10 +1,10 @@
 use Rattle.std.proofs.Common.{◌≡◌, ◌+◌, ◌||◌, true, false, drop, map, ap, ◌∙◌, sym, arith}
 use Rattle.std.proofs.lemmas.Grind.{common_steps}
-use Rattle.smt_factory.specs.FoldSets.{is_among}
+use Rattle.smt_folding.specs.FoldSets.{is_among}
 use Rattle.smt_factory.proofs.FoldingSets.{among_more}
 use Rattle.smt_factory.proofs.sets.is_among.Goals as goal
 use Rattle.smt_term.proofs.DerivedEquality.{eq-is}
-use Rattle.smt_term.specs.TermOrder.{term_eq}
+use Rattle.smt_meaning.specs.TermOrder.{term_eq}
 use Rattle.smt_term.specs.View.{plain_term}
 
 pub returns-then-eq : goal.returns-then-eq

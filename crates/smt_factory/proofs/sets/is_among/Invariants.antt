@@ -1,5 +1,5 @@
 use Rattle.std.proofs.Common.{◌≡◌, drop, map}
-use Rattle.smt_factory.specs.FoldSets.{is_among}
+use Rattle.smt_folding.specs.FoldSets.{is_among}
 use Rattle.smt_term.specs.View.{plain_term}
 use Rattle.smt_factory.proofs.sets.is_among.Given as goal
 

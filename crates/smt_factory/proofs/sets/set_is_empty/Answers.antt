@@ -1,8 +1,8 @@
 use Rattle.std.proofs.lemmas.Result.{IfOk-weaker}
 use Rattle.std.specs.Prelude.{◌≡◌}
-use Rattle.smt_factory.specs.Applications.{set_is_empty_of}
-use Rattle.smt_factory.specs.FoldSets.{folded_set_is_empty}
-use Rattle.smt_factory.specs.Refinement.{Refines}
+use Rattle.smt_folding.specs.Applications.{set_is_empty_of}
+use Rattle.smt_folding.specs.FoldSets.{folded_set_is_empty}
+use Rattle.smt_folding.specs.Refinement.{Refines}
 use Rattle.smt_factory.proofs.FoldingSets.{stands_for_set_is_empty}
 use Rattle.smt_factory.proofs.sets.set_is_empty.Goals as goal
 use Rattle.smt_term.specs.View.{plain_term}

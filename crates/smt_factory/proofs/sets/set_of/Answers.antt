@@ -1,7 +1,7 @@
 use Rattle.std.proofs.Common.{map, ap, ◌∙◌}
-use Rattle.smt_factory.proofs.SetOfElements.{set_of_elements}
+use Rattle.smt_folding.proofs.SetOfElements.{set_of_elements}
 use Rattle.smt_factory.proofs.sets.set_of.Goals as goal
-use Rattle.smt_term.specs.Plain.{SetTerm, terms}
+use Rattle.smt_meaning.specs.Plain.{SetTerm, terms}
 use Rattle.smt_term.specs.View.{plain_term-Set, plain_term, plain_type}
 
 pub returns-clause-set : goal.returns-clause-set

@@ -1,5 +1,5 @@
 use Rattle.std.proofs.Common.{refl}
-use Rattle.smt_term.specs.Plain.{IpAddrKind, DatetimeKind, ExtensionType, StringType, attribute, no_attributes}
+use Rattle.smt_meaning.specs.Plain.{IpAddrKind, DatetimeKind, ExtensionType, StringType, attribute, no_attributes}
 use Rattle.std.specs.Prelude.{codes}
 use Rattle.smt_lines.proofs.rows.an_encodable_condition.Goals as goal
 

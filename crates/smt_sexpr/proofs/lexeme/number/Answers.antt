@@ -1,5 +1,5 @@
 use Rattle.std.proofs.Common.{arith, get_or}
-use Rattle.smt_sexpr.specs.Lexicon.{number_in}
+use Rattle.smt_lexicon.specs.Lexicon.{number_in}
 use Rattle.smt_characters.proofs.Numbers.{at_least, digit_at, digit_range}
 use Rattle.smt_sexpr.proofs.lexeme.number.Goals as goal
 

@@ -1,5 +1,5 @@
 use Rattle.std.proofs.Common.{◌≡◌, ◌^◌, ◌<◌, drop}
-use Rattle.smt_sexpr.specs.Lexicon.{number_in}
+use Rattle.smt_lexicon.specs.Lexicon.{number_in}
 use Rattle.smt_characters.proofs.Numbers.{from_digits}
 use Rattle.smt_sexpr.proofs.lexeme.number.Given as goal
 

@@ -1,4 +1,4 @@
-use Rattle.smt_sexpr.proofs.PlainText.{text_of_plain}
+use Rattle.smt_lexicon.proofs.PlainText.{text_of_plain}
 use Rattle.smt_sexpr.proofs.lexeme.push_plain.Goals as goal
 
 pub unwrap-requires : goal.unwrap-requires

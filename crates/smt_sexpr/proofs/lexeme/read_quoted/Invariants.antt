@@ -1,8 +1,8 @@
 use Rattle.std.proofs.Common.{◌≡◌, ◌++◌, length}
 use Rattle.std.specs.List.{flat_map}
 use Rattle.std.specs.String.{string_bytes}
-use Rattle.smt_sexpr.specs.Lexicon.{quote_twice}
-use Rattle.smt_sexpr.specs.PlainTexts.{IsPlainText}
+use Rattle.smt_lexicon.specs.Lexicon.{quote_twice}
+use Rattle.smt_lexicon.specs.PlainTexts.{IsPlainText}
 use Rattle.smt_sexpr.proofs.lexeme.read_quoted.Given as goal
 
 abbrev pub invariant-loop-text : goal.invariant-loop-text

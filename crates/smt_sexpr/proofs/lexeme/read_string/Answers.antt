@@ -1,8 +1,8 @@
 use Rattle.std.proofs.Common.{ap}
 use Rattle.std.specs.Str.{chars}
 use Rattle.smt_sexpr.specs.View.{plain-String}
-use Rattle.smt_sexpr.proofs.Atoms.{string_begins, string_none}
-use Rattle.smt_sexpr.proofs.Strings.{quoted_rest}
+use Rattle.smt_lexicon.proofs.Atoms.{string_begins, string_none}
+use Rattle.smt_lexicon.proofs.Strings.{quoted_rest}
 use Rattle.smt_sexpr.proofs.lexeme.read_string.Goals as goal
 
 pub returns-in_default-clause-none : goal.returns-in_default-clause-none

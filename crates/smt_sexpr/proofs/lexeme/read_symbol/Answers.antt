@@ -1,10 +1,10 @@
 use Rattle.std.proofs.Common.{sym, ◌∙◌, subst}
-use Rattle.smt_sexpr.specs.Front.{BeginsWithAtom}
-use Rattle.smt_sexpr.specs.Lexicon.{Name, is_symbol_byte}
+use Rattle.smt_lexicon.specs.Front.{BeginsWithAtom}
+use Rattle.smt_lexicon.specs.Lexicon.{Name, is_symbol_byte}
 use Rattle.smt_sexpr.specs.View.{plain-Symbol}
-use Rattle.smt_sexpr.proofs.Atoms.{symbol_begins, symbol_none}
-use Rattle.smt_sexpr.proofs.PlainText.{text_of_plain}
-use Rattle.smt_sexpr.proofs.Runs.{IsRun, run_at, plain_front, empty_from, some_from}
+use Rattle.smt_lexicon.proofs.Atoms.{symbol_begins, symbol_none}
+use Rattle.smt_lexicon.proofs.PlainText.{text_of_plain}
+use Rattle.smt_lexicon.proofs.Runs.{IsRun, run_at, plain_front, empty_from, some_from}
 use Rattle.smt_sexpr.proofs.lexeme.read_symbol.Goals as goal
 
 pub returns-then-is_empty-clause-none : goal.returns-then-is_empty-clause-none

@@ -4,7 +4,7 @@ use Rattle.std.specs.String.{string_bytes}
 use Rattle.std.proofs.lemmas.Iterator.{YieldsList-from_chars}
 use Rattle.std.proofs.lemmas.Iterator.Consumers.{YieldsList-turn, YieldsList-end}
 use Rattle.std.proofs.lemmas.List.{length_push}
-use Rattle.smt_sexpr.proofs.Characters.{next_character, closed}
+use Rattle.smt_lexicon.proofs.Characters.{next_character, closed}
 use Rattle.smt_sexpr.proofs.quote.quoted_text.Goals as goal
 
 pub loop-c-preserved : goal.loop-c-preserved

@@ -1,9 +1,9 @@
 use Rattle.std.proofs.Common.{◌<◌, ◌∷◌, ◌∙◌, ℕ, ap, arith, length}
-use Rattle.smt_sexpr.specs.Front.{skip_space}
-use Rattle.smt_sexpr.specs.PlainTexts.{IsPlainText}
+use Rattle.smt_lexicon.specs.Front.{skip_space}
+use Rattle.smt_lexicon.specs.PlainTexts.{IsPlainText}
 use Rattle.smt_sexpr.specs.View.{plains}
-use Rattle.smt_sexpr.proofs.Items.{inside_none, none_at_end, none_inside, none_yet, one_read_more, too_deep}
-use Rattle.smt_sexpr.proofs.Runs.{empty_length, length-skip_space, plain_skip}
+use Rattle.smt_lexicon.proofs.Items.{inside_none, none_at_end, none_inside, none_yet, one_read_more, too_deep}
+use Rattle.smt_lexicon.proofs.Runs.{empty_length, length-skip_space, plain_skip}
 use Rattle.smt_sexpr.proofs.read.+reader.Goals as goal
 
 pub read_item-returns-in_default-clause-none : goal.read_item-returns-in_default-clause-none

@@ -1,7 +1,7 @@
 use Rattle.std.proofs.Common.{◌+◌, ◌*◌, length}
-use Rattle.smt_sexpr.specs.Front.{skip_space}
+use Rattle.smt_lexicon.specs.Front.{skip_space}
 use Rattle.smt_sexpr.specs.View.{plains}
-use Rattle.smt_sexpr.proofs.Items.{AreReadSoFar}
+use Rattle.smt_lexicon.proofs.Items.{AreReadSoFar}
 use Rattle.smt_sexpr.proofs.read.+reader.Given as goal
 
 abbrev pub decreases-read_item : goal.decreases-read_item

@@ -1,9 +1,9 @@
 use Rattle.std.proofs.Common.{◌∙◌, ap, sym, subst, eqb, length}
 use Rattle.std.proofs.lemmas.Bool.{true≢false}
-use Rattle.smt_sexpr.specs.Front.{Begins, BeginsWithNone}
+use Rattle.smt_lexicon.specs.Front.{Begins, BeginsWithNone}
 use Rattle.smt_sexpr.specs.View.{plain}
-use Rattle.smt_sexpr.proofs.Readings.{more_behind, none_reads, one_expression, read_is}
-use Rattle.smt_sexpr.proofs.Runs.{empty_from, plain_skip}
+use Rattle.smt_lexicon.proofs.Readings.{more_behind, none_reads, one_expression, read_is}
+use Rattle.smt_lexicon.proofs.Runs.{empty_from, plain_skip}
 use Rattle.smt_sexpr.proofs.read.read_plain.Goals as goal
 
 pub read_item-requires : goal.read_item-requires

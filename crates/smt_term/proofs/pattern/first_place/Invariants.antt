@@ -1,8 +1,8 @@
 use Rattle.std.proofs.Common.{◌≡◌, ◌∷◌, length, map}
 use Rattle.std.specs.Str.{IsUtf8, chars}
-use Rattle.smt_term.specs.Patterns.{matches}
+use Rattle.smt_meaning.specs.Patterns.{matches}
 use Rattle.smt_term.specs.PatternView.{plain_part}
-use Rattle.smt_term.specs.Plain.{Wildcard}
+use Rattle.smt_meaning.specs.Plain.{Wildcard}
 use Rattle.smt_term.proofs.pattern.first_place.Given as goal
 
 -- the elements stand at no place before the start

@@ -1,9 +1,9 @@
 use Rattle.std.proofs.Common.{◌≡◌, [], ◌∷◌, length, map, ap, ◌∙◌, sym}
 use Rattle.std.proofs.lemmas.Bool.{eqb-true}
 use Rattle.std.specs.Str.{chars}
-use Rattle.smt_term.specs.Patterns.{matches}
+use Rattle.smt_meaning.specs.Patterns.{matches}
 use Rattle.smt_term.specs.PatternView.{plain_part}
-use Rattle.smt_term.specs.Plain.{Character, Wildcard}
+use Rattle.smt_meaning.specs.Plain.{Character, Wildcard}
 use Rattle.smt_term.proofs.PatternSearch.{differs, no_chars, no_parts, passed_matches, passes_as, passes_more, passes_none, some_chars}
 use Rattle.smt_term.proofs.pattern.front_of.Goals as goal
 

@@ -1,7 +1,7 @@
 use Rattle.std.proofs.Common.{refl, sym, ap, ◌∙◌}
 use Rattle.smt_semantics.specs.Sorts.{bit_sort, bool_sort, option_sort, set_sort, string_sort}
 use Rattle.smt_bits.specs.Width.{bits_in}
-use Rattle.smt_term.specs.Plain.{OptionType, SetType}
+use Rattle.smt_meaning.specs.Plain.{OptionType, SetType}
 use Rattle.smt_term.specs.View.{plain_type, plain_type-Bitvec, plain_type-Bool, plain_type-Option, plain_type-Set, plain_type-String}
 use Rattle.smt_lines.specs.Lines.{encode_type}
 use Rattle.smt_encode.specs.Encoded.{enums_in}

@@ -4,9 +4,9 @@ use Rattle.std.specs.Rc.{rc_str_bytes}
 use Rattle.std.proofs.lemmas.List.{at_drop_more, at_drop_all}
 use Rattle.smt_bits.specs.Width.{bits_in}
 use Rattle.smt_term.specs.Enums.{enums_of}
-use Rattle.smt_term.specs.Faults.{Fault, term_fault}
-use Rattle.smt_term.specs.Plain.{Application, SetTerm, SomeTerm, terms}
-use Rattle.smt_term.specs.Types.{type_of}
+use Rattle.smt_meaning.specs.Faults.{Fault, term_fault}
+use Rattle.smt_meaning.specs.Plain.{Application, SetTerm, SomeTerm, terms}
+use Rattle.smt_meaning.specs.Types.{type_of}
 use Rattle.smt_term.specs.View.{plain_items, plain_op, plain_term, plain_term-App, plain_term-None, plain_term-Set, plain_term-Some, plain_term-Var, plain_type}
 use Rattle.smt_lines.specs.LineForms.{none_body, set_body, some_body, operator_head, application_body, least_body}
 use Rattle.smt_lines.specs.TermTexts.{bool_name}

@@ -1,6 +1,6 @@
 use Rattle.std.proofs.Common.{◌≡◌, Ok, drop, map}
-use Rattle.smt_term.specs.Faults.{terms_fault}
-use Rattle.smt_term.specs.Plain.{terms}
+use Rattle.smt_meaning.specs.Faults.{terms_fault}
+use Rattle.smt_meaning.specs.Plain.{terms}
 use Rattle.smt_term.specs.View.{plain_term}
 use Rattle.smt_lines.specs.NameTables.{Tables}
 use Rattle.smt_encode.specs.Encoded.{enums_in, FaultCounted, HasNames}

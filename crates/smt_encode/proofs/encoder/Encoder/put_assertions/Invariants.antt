@@ -1,5 +1,5 @@
 use Rattle.std.proofs.Common.{Ok, List, map, take}
-use Rattle.smt_sexpr.specs.Reading.{Expression}
+use Rattle.smt_lexicon.specs.Reading.{Expression}
 use Rattle.smt_lines.specs.Line.{Assert}
 use Rattle.smt_lines.specs.NameTables.{Tables}
 use Rattle.smt_encode.specs.Encoded.{AreSpelled, FaultCounted, HasNames, Wrote}

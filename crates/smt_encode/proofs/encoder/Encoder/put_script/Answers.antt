@@ -1,7 +1,7 @@
 use Rattle.std.proofs.Common.{◌≡◌, refl, ap, subst, map, ◌∙◌}
 use Rattle.std.specs.Rc.{rc_str_bytes}
 use Rattle.smt_term.specs.Enums.{enums_of}
-use Rattle.smt_term.specs.Plain.{terms}
+use Rattle.smt_meaning.specs.Plain.{terms}
 use Rattle.smt_term.specs.View.{plain_term}
 use Rattle.smt_lines.specs.Lines.{Enums, encode_terms, option_line}
 use Rattle.smt_lines.specs.NameTables.{no_names}

@@ -1,6 +1,6 @@
 use Rattle.std.proofs.Common.{◌≡◌, map, ap, ◌∙◌}
 use Rattle.std.specs.Str.{chars}
-use Rattle.smt_term.specs.Patterns.{matches}
+use Rattle.smt_meaning.specs.Patterns.{matches}
 use Rattle.smt_term.specs.PatternView.{plain_part}
 use Rattle.smt_term.proofs.PatternSearch.{front_decides, front_text}
 use Rattle.smt_term.proofs.pattern.OrdPattern.wildcard_match.Goals as goal

@@ -1,6 +1,6 @@
 use Rattle.std.proofs.Common.{◌≡◌}
 use Rattle.std.specs.Str.{chars}
-use Rattle.smt_term.specs.Patterns.{matches}
+use Rattle.smt_meaning.specs.Patterns.{matches}
 use Rattle.smt_term.specs.PatternSearch.{LeavesText, front_matches, front_size}
 use Rattle.smt_term.specs.PatternView.{plain_ord_pattern}
 use Rattle.smt_term.proofs.pattern.OrdPattern.wildcard_match.Given as goal

@@ -1,0 +1,8 @@
+use Rattle.smt_folding.proofs.ConnectivesStand.{stands_not, stands_and, stands_or, stands_implies, stands_any, any_is_true}
+use Rattle.smt_folding.proofs.laws.connectives_are_folded.Goals as goal
+
+pub returns-clause-folded : goal.returns-clause-folded
+returns-clause-folded c = record { not = stands_not; and = stands_and; or = stands_or; implies = stands_implies; any = stands_any }
+
+pub returns-clause-any : goal.returns-clause-any
+returns-clause-any c = any_is_true

@@ -1,0 +1,75 @@
+-- What the factory builds for a whole term: each application is folded, its arguments first, and the elements of each set
+-- are put in order anew.
+use Rattle.std.specs.Prelude.{◌≡◌, IsTrue, List, [], ◌∷◌, None}
+use Rattle.smt_folding.specs.FoldBits.{folded_bvneg, folded_bvnego, folded_zero_extend, folded_bvadd, folded_bvsub, folded_bvmul, folded_bvsdiv, folded_bvudiv, folded_bvsrem, folded_bvsmod, folded_bvurem, folded_bvshl, folded_bvlshr, folded_bvslt, folded_bvsle, folded_bvult, folded_bvule, folded_bvsaddo, folded_bvssubo, folded_bvsmulo}
+use Rattle.smt_folding.specs.FoldConnectives.{folded_not, folded_and, folded_or}
+use Rattle.smt_folding.specs.FoldEquality.{folded_eq, folded_ite}
+use Rattle.smt_folding.specs.FoldOptions.{folded_option_get}
+use Rattle.smt_folding.specs.FoldSets.{folded_set_member, folded_set_subset, folded_set_inter}
+use Rattle.smt_folding.specs.FoldStrings.{folded_string_like}
+use Rattle.smt_folding.specs.Refinement.{Refines}
+use Rattle.smt_meaning.specs.Faults.{term_fault}
+use Rattle.smt_meaning.specs.Plain.{PlainType, PlainOp, AndOp, BvaddOp, BvlshrOp, BvmulOp, BvnegOp, BvnegoOp, BvsaddoOp, BvsdivOp, BvshlOp, BvsleOp, BvsltOp, BvsmodOp, BvsmuloOp, BvsremOp, BvssuboOp, BvsubOp, BvudivOp, BvuleOp, BvultOp, BvuremOp, EqOp, IteOp, NotOp, OptionGetOp, OrOp, SetInterOp, SetMemberOp, SetSubsetOp, StringLikeOp, ZeroExtendOp, PlainTerm, Application, NoneTerm, LiteralTerm, RecordTerm, SetTerm, SomeTerm, VariableTerm, PlainTerms, no_terms, one_term, PlainFields, no_fields, one_field, terms}
+use Rattle.smt_meaning.specs.TermSets.{set_term}
+use Rattle.smt_meaning.specs.Typing.{typed}
+use Rattle.smt_meaning.specs.TypeValues.{Enums}
+
+-- an application by the call of its operator; what no call folds stays
+abbrev pub folded : PlainOp → List PlainTerm → PlainType → PlainTerm
+folded NotOp (t ∷ []) ty = folded_not t
+folded AndOp (t ∷ u ∷ []) ty = folded_and t u
+folded OrOp (t ∷ u ∷ []) ty = folded_or t u
+folded EqOp (t ∷ u ∷ []) ty = folded_eq t u
+folded IteOp (g ∷ t ∷ u ∷ []) ty = folded_ite g t u
+folded BvnegOp (t ∷ []) ty = folded_bvneg t
+folded BvaddOp (t ∷ u ∷ []) ty = folded_bvadd t u
+folded BvsubOp (t ∷ u ∷ []) ty = folded_bvsub t u
+folded BvmulOp (t ∷ u ∷ []) ty = folded_bvmul t u
+folded BvudivOp (t ∷ u ∷ []) ty = folded_bvudiv t u
+folded BvuremOp (t ∷ u ∷ []) ty = folded_bvurem t u
+folded BvsdivOp (t ∷ u ∷ []) ty = folded_bvsdiv t u
+folded BvsremOp (t ∷ u ∷ []) ty = folded_bvsrem t u
+folded BvsmodOp (t ∷ u ∷ []) ty = folded_bvsmod t u
+folded BvshlOp (t ∷ u ∷ []) ty = folded_bvshl t u
+folded BvlshrOp (t ∷ u ∷ []) ty = folded_bvlshr t u
+folded BvultOp (t ∷ u ∷ []) ty = folded_bvult t u
+folded BvuleOp (t ∷ u ∷ []) ty = folded_bvule t u
+folded BvsltOp (t ∷ u ∷ []) ty = folded_bvslt t u
+folded BvsleOp (t ∷ u ∷ []) ty = folded_bvsle t u
+folded BvnegoOp (t ∷ []) ty = folded_bvnego t
+folded BvsaddoOp (t ∷ u ∷ []) ty = folded_bvsaddo t u
+folded BvssuboOp (t ∷ u ∷ []) ty = folded_bvssubo t u
+folded BvsmuloOp (t ∷ u ∷ []) ty = folded_bvsmulo t u
+folded (ZeroExtendOp k) (t ∷ []) ty = folded_zero_extend k t
+folded SetMemberOp (t ∷ u ∷ []) ty = folded_set_member t u
+folded SetSubsetOp (t ∷ u ∷ []) ty = folded_set_subset t u
+folded SetInterOp (t ∷ u ∷ []) ty = folded_set_inter t u
+folded OptionGetOp (t ∷ []) ty = folded_option_get t
+folded (StringLikeOp p) (t ∷ []) ty = folded_string_like t p
+folded o ts ty = Application o (terms ts) ty
+
+abbrev mutual
+  pub built : PlainTerm → PlainTerm
+  built (Application o ts ty) = folded o (built_all ts) ty
+  built (NoneTerm ty) = NoneTerm ty
+  built (LiteralTerm l) = LiteralTerm l
+  built (RecordTerm fs) = RecordTerm (built_fields fs)
+  built (SetTerm ty ts) = set_term ty (built_all ts)
+  built (SomeTerm t) = SomeTerm (built t)
+  built (VariableTerm id ty) = VariableTerm id ty
+
+  pub built_all : PlainTerms → List PlainTerm
+  built_all no_terms = []
+  built_all (one_term t ts) = built t ∷ built_all ts
+
+  pub built_fields : PlainFields → PlainFields
+  built_fields no_fields = no_fields
+  built_fields (one_field a t fs) = one_field a (built t) (built_fields fs)
+
+-- what is built for a typed term stands for it
+abbrev pub BuiltTermsRefine : Type 0
+BuiltTermsRefine = (t : PlainTerm) → IsTrue (typed t) → Refines (built t) t
+
+-- what is built for a typed term without fault has no fault
+abbrev pub FoldingAddsNoFault : Type 0
+FoldingAddsNoFault = (enums : Enums) (t : PlainTerm) → IsTrue (typed t) → term_fault enums t ≡ None → term_fault enums (built t) ≡ None

@@ -1,0 +1,209 @@
+-- Worked examples of folding.
+use Rattle.std.specs.Prelude.{◌≡◌, ℕ, Bool, true, false, List, [], ◌∷◌, map, codes, Ok}
+use Rattle.smt_folding.specs.Applications.{truth_literal, true_term, false_term, bits_literal, not_of, implies_of, and_of, or_of, eq_of, ite_of, any_of, bvneg_of, bits_of_two, test_of_two, bvnego_of, zero_extend_of, string_like_of, set_member_of, set_subset_of, set_inter_of, set_is_empty_of, set_intersects_of, option_get_of, is_none_of, is_some_of, if_false_of, if_true_of, if_some_of, any_none_of, if_all_some_of}
+use Rattle.smt_folding.specs.FoldBits.{folded_bvneg, folded_bvnego, folded_zero_extend, folded_bvadd, folded_bvsub, folded_bvmul, folded_bvsdiv, folded_bvudiv, folded_bvsrem, folded_bvsmod, folded_bvurem, folded_bvshl, folded_bvlshr, folded_bvslt, folded_bvsle, folded_bvult, folded_bvule, folded_bvsaddo, folded_bvssubo, folded_bvsmulo}
+use Rattle.smt_folding.specs.FoldConnectives.{folded_not, are_opposites, folded_and, folded_or, folded_implies, folded_any}
+use Rattle.smt_folding.specs.FoldEquality.{folded_eq, folded_ite}
+use Rattle.smt_folding.specs.FoldOptions.{folded_option_get, folded_is_none, folded_is_some, folded_if_false, folded_if_true, folded_if_some, folded_any_none, folded_if_all_some}
+use Rattle.smt_folding.specs.FoldSets.{folded_set_member, folded_set_subset, folded_set_inter, folded_set_is_empty, folded_set_intersects}
+use Rattle.smt_folding.specs.FoldStrings.{folded_string_like}
+use Rattle.smt_folding.specs.SetOf.{IsSetOf}
+use Rattle.smt_folding.specs.Refinement.{Refines}
+use Rattle.smt_meaning.specs.Meaning.{term_value}
+use Rattle.smt_meaning.specs.Tables.{Interpretation}
+use Rattle.smt_meaning.specs.TermSets.{set_term}
+use Rattle.smt_meaning.specs.ValueOrder.{values}
+use Rattle.smt_meaning.specs.Values.{BoolValue, BitVecValue, NoneValue, SetValue, SomeValue}
+use Rattle.smt_meaning.specs.Plain.{OptionType, BitVecType, BoolType, SetType, StringType, PatternPart, Character, Wildcard, BvaddOp, BvlshrOp, BvshlOp, BvsubOp, BvultOp, IteOp, StringLiteral, PlainTerm, Application, NoneTerm, LiteralTerm, SetTerm, SomeTerm, VariableTerm, terms}
+
+-- variables
+abbrev pub b : PlainTerm
+b = VariableTerm (codes "b") BoolType
+
+abbrev pub c : PlainTerm
+c = VariableTerm (codes "c") BoolType
+
+abbrev pub x : PlainTerm
+x = VariableTerm (codes "x") (BitVecType 8)
+
+abbrev pub byte : ℕ → PlainTerm
+byte a = bits_literal 8 a
+
+-- what each of these folds two literals of 8 bits to
+abbrev pub at_bytes : List (PlainTerm → PlainTerm → PlainTerm) → ℕ → ℕ → List PlainTerm
+at_bytes fs a b = map (λ f. f (byte a) (byte b)) fs
+
+abbrev pub bit_foldings : List (PlainTerm → PlainTerm → PlainTerm)
+bit_foldings = folded_bvadd ∷ folded_bvsub ∷ folded_bvmul ∷ folded_bvudiv ∷ folded_bvurem ∷ folded_bvsdiv ∷ folded_bvsrem ∷ folded_bvsmod ∷ folded_bvshl ∷ folded_bvlshr ∷ []
+
+abbrev pub test_foldings : List (PlainTerm → PlainTerm → PlainTerm)
+test_foldings = folded_bvult ∷ folded_bvule ∷ folded_bvslt ∷ folded_bvsle ∷ folded_bvsaddo ∷ folded_bvssubo ∷ folded_bvsmulo ∷ []
+
+abbrev pub truths : List Bool → List PlainTerm
+truths bs = map truth_literal bs
+
+pub record ConnectiveRows : Type 0 where
+  -- the applications themselves, by their values, which are false where a term is not typed
+  pub applied : (I : Interpretation) → map (term_value I) (not_of false_term ∷ and_of true_term false_term ∷ or_of true_term false_term ∷ implies_of true_term false_term ∷ implies_of false_term true_term ∷ eq_of (byte 1) (byte 1) ∷ any_of (false_term ∷ true_term ∷ []) ∷ [])
+      ≡ BoolValue true ∷ BoolValue false ∷ BoolValue true ∷ BoolValue false ∷ BoolValue true ∷ BoolValue true ∷ BoolValue true ∷ []
+  pub applied_bits : (I : Interpretation) → map (term_value I) (ite_of true_term (byte 1) (byte 2) ∷ ite_of false_term (byte 1) (byte 2) ∷ bvneg_of (byte 1) ∷ bits_of_two BvsubOp (byte 0) (byte 2) ∷ test_of_two BvultOp (byte 1) (byte 2) ∷ test_of_two BvultOp (byte 2) (byte 1) ∷ bvnego_of (byte 128) ∷ zero_extend_of 8 (byte 5) ∷ [])
+      ≡ BitVecValue 8 1 ∷ BitVecValue 8 2 ∷ BitVecValue 8 255 ∷ BitVecValue 8 254 ∷ BoolValue true ∷ BoolValue false ∷ BoolValue true ∷ BitVecValue 16 5 ∷ []
+  pub double_negation : folded_not (folded_not b) ≡ b
+  pub opposites : are_opposites b (not_of b) ≡ true
+  pub opposites_turned : are_opposites (not_of b) b ≡ true
+  pub opposite_negations : are_opposites (not_of (not_of b)) (not_of b) ≡ true
+  pub no_opposites : are_opposites b c ≡ false
+  pub no_contradiction : folded_and b (folded_not b) ≡ false_term
+  pub and_stays : folded_and b c ≡ and_of b c
+  pub excluded_middle : folded_or b (folded_not b) ≡ true_term
+  pub from_false : folded_implies false_term b ≡ true_term
+  -- equal terms, `true` on either side, `false` on either side
+  pub and_of_known : folded_and b b ∷ folded_and b true_term ∷ folded_and true_term b ∷ folded_and b false_term ∷ folded_and false_term b ∷ [] ≡ b ∷ b ∷ b ∷ false_term ∷ false_term ∷ []
+  pub or_of_known : folded_or b b ∷ folded_or b false_term ∷ folded_or false_term b ∷ folded_or b true_term ∷ folded_or true_term b ∷ [] ≡ b ∷ b ∷ b ∷ true_term ∷ true_term ∷ []
+  pub not_of_known : folded_not true_term ∷ folded_not false_term ∷ folded_not b ∷ [] ≡ false_term ∷ true_term ∷ not_of b ∷ []
+  pub stays : folded_or b c ∷ folded_implies b c ∷ [] ≡ or_of b c ∷ implies_of b c ∷ []
+  pub any_of_none : folded_any [] ≡ false_term
+  pub any_in_turn : folded_any (b ∷ c ∷ []) ≡ or_of c b
+  pub any_true : folded_any (b ∷ true_term ∷ c ∷ []) ≡ true_term
+
+pub record EqualityRows : Type 0 where
+  pub eq_true : folded_eq true_term b ≡ b
+  pub eq_false : folded_eq b false_term ≡ not_of b
+  pub eq_literals : folded_eq (byte 1) (byte 2) ≡ false_term
+  pub eq_inside : folded_eq (SomeTerm true_term) (SomeTerm b) ≡ b
+  pub eq_none : folded_eq (SomeTerm x) (NoneTerm (BitVecType 8)) ≡ false_term
+  pub eq_stays : folded_eq x (byte 1) ≡ eq_of x (byte 1)
+  pub eq_same : folded_eq x x ∷ folded_eq b true_term ∷ folded_eq false_term b ∷ folded_eq (NoneTerm BoolType) (SomeTerm b) ∷ [] ≡ true_term ∷ b ∷ not_of b ∷ false_term ∷ []
+  -- the guard is known, or both branches are one
+  pub ite_known : folded_ite true_term x (byte 1) ∷ folded_ite false_term x (byte 1) ∷ folded_ite b x x ∷ [] ≡ x ∷ byte 1 ∷ x ∷ []
+  pub ite_stays : folded_ite b x (byte 1) ≡ ite_of b x (byte 1)
+  pub ite_guard : folded_ite b true_term false_term ≡ b
+  pub ite_negated : folded_ite b false_term true_term ≡ not_of b
+  pub ite_and : folded_ite b c false_term ≡ and_of b c
+  pub ite_or : folded_ite b true_term c ≡ or_of b c
+  pub ite_inside : folded_ite b (SomeTerm x) (SomeTerm (byte 1)) ≡ SomeTerm (ite_of b x (byte 1))
+
+pub record BitsRows : Type 0 where
+  pub negation : folded_bvneg (byte 1) ≡ byte 255
+  pub negation_twice : folded_bvneg (folded_bvneg x) ≡ x
+  pub sum : folded_bvadd (byte 255) (byte 1) ≡ byte 0
+  -- 249 is -7
+  pub each : at_bytes bit_foldings 249 3 ≡ map byte (252 ∷ 246 ∷ 235 ∷ 83 ∷ 0 ∷ 254 ∷ 255 ∷ 2 ∷ 200 ∷ 31 ∷ [])
+  pub each_test : at_bytes test_foldings 128 255 ≡ truths (true ∷ true ∷ true ∷ true ∷ true ∷ false ∷ true ∷ [])
+  pub each_test_of_equal : at_bytes test_foldings 16 16 ≡ truths (false ∷ true ∷ false ∷ true ∷ false ∷ false ∷ true ∷ [])
+  pub each_test_of_small : at_bytes test_foldings 2 3 ≡ truths (true ∷ true ∷ true ∷ true ∷ false ∷ false ∷ false ∷ [])
+  pub each_test_of_least : at_bytes test_foldings 128 2 ≡ truths (false ∷ false ∷ true ∷ true ∷ false ∷ true ∷ true ∷ [])
+  pub sum_stays : folded_bvadd x (byte 1) ≡ bits_of_two BvaddOp x (byte 1)
+  pub widths_differ : folded_bvadd (byte 1) (bits_literal 16 1) ≡ bits_of_two BvaddOp (byte 1) (bits_literal 16 1)
+  pub shift : folded_bvshl (bits_literal 64 1) (bits_literal 64 4294967295) ≡ bits_literal 64 0
+  pub far_shift : folded_bvshl (bits_literal 64 1) (bits_literal 64 4294967296) ≡ bits_of_two BvshlOp (bits_literal 64 1) (bits_literal 64 4294967296)
+  pub far_shift_right : folded_bvlshr (bits_literal 64 1) (bits_literal 64 4294967296) ≡ bits_of_two BvlshrOp (bits_literal 64 1) (bits_literal 64 4294967296)
+  pub less : folded_bvslt (byte 255) (byte 0) ≡ true_term
+  pub less_unsigned : folded_bvult (byte 255) (byte 0) ≡ false_term
+  pub less_stays : folded_bvult (byte 1) (bits_literal 16 1) ≡ test_of_two BvultOp (byte 1) (bits_literal 16 1)
+  pub least : folded_bvnego (byte 128) ≡ true_term
+  pub not_least : folded_bvnego (byte 127) ≡ false_term
+  pub sum_overflows : folded_bvsaddo (byte 127) (byte 1) ≡ true_term
+  pub difference_overflows : folded_bvssubo (byte 128) (byte 1) ≡ true_term
+  pub product_overflows : folded_bvsmulo (byte 16) (byte 8) ≡ true_term
+  pub extended : folded_zero_extend 8 (byte 5) ≡ bits_literal 16 5
+  pub extended_stays : folded_zero_extend 8 x ≡ zero_extend_of 8 x
+  pub no_bits : folded_zero_extend 8 b ≡ b
+
+-- a pattern that takes a character, any text and a character; a literal and a variable
+abbrev pub a_star_z : List PatternPart
+a_star_z = Character 97 ∷ Wildcard ∷ Character 122 ∷ []
+
+abbrev pub text : List ℕ → PlainTerm
+text s = LiteralTerm (StringLiteral s)
+
+abbrev pub y : PlainTerm
+y = VariableTerm (codes "y") StringType
+
+pub record StringRows : Type 0 where
+  pub applied : (I : Interpretation) → map (term_value I) (string_like_of (text (codes "abz")) a_star_z ∷ string_like_of (text (codes "az!")) a_star_z ∷ []) ≡ BoolValue true ∷ BoolValue false ∷ []
+  pub matched : map (λ s. folded_string_like (text s) a_star_z) (codes "abz" ∷ codes "az" ∷ codes "ab" ∷ codes "abzy" ∷ []) ≡ truths (true ∷ true ∷ false ∷ false ∷ [])
+  pub empty : folded_string_like (text []) [] ∷ folded_string_like (text (codes "a")) [] ∷ [] ≡ truths (true ∷ false ∷ [])
+  pub stays : folded_string_like y a_star_z ≡ string_like_of y a_star_z
+
+-- sets of bytes: of literals, of a variable, and a variable
+abbrev pub bytes : List ℕ → PlainTerm
+bytes ns = set_term (BitVecType 8) (map byte ns)
+
+abbrev pub of_x : PlainTerm
+of_x = set_term (BitVecType 8) (x ∷ [])
+
+abbrev pub s : PlainTerm
+s = VariableTerm (codes "s") (SetType (BitVecType 8))
+
+pub record SetRows : Type 0 where
+  pub applied : (I : Interpretation) → map (term_value I) (set_member_of (byte 1) (bytes (1 ∷ 2 ∷ [])) ∷ set_member_of (byte 3) (bytes (1 ∷ 2 ∷ [])) ∷ set_subset_of (bytes (1 ∷ [])) (bytes (1 ∷ 2 ∷ [])) ∷ set_subset_of (bytes (1 ∷ 2 ∷ [])) (bytes (1 ∷ [])) ∷ [])
+      ≡ BoolValue true ∷ BoolValue false ∷ BoolValue true ∷ BoolValue false ∷ []
+  -- what is no set is not empty
+  pub applied_empty : (I : Interpretation) → map (term_value I) (set_is_empty_of (bytes []) ∷ set_is_empty_of (bytes (1 ∷ [])) ∷ set_is_empty_of true_term ∷ set_intersects_of (bytes (1 ∷ 2 ∷ [])) (bytes (2 ∷ 3 ∷ [])) ∷ set_intersects_of (bytes (1 ∷ [])) (bytes (2 ∷ [])) ∷ [])
+      ≡ BoolValue true ∷ BoolValue false ∷ BoolValue false ∷ BoolValue true ∷ BoolValue false ∷ []
+  pub applied_inter : (I : Interpretation) → term_value I (set_inter_of (bytes (1 ∷ 2 ∷ [])) (bytes (2 ∷ 3 ∷ []))) ≡ term_value I (bytes (2 ∷ []))
+  pub each_once : bytes (2 ∷ 1 ∷ 2 ∷ []) ≡ SetTerm (BitVecType 8) (terms (byte 1 ∷ byte 2 ∷ []))
+  -- the set of 2, 1 and 2, and its value; a set that lacks 2 is not that of 1 and 2
+  pub set_of_bytes : IsSetOf (BitVecType 8) (byte 2 ∷ byte 1 ∷ byte 2 ∷ []) (bytes (2 ∷ 1 ∷ 2 ∷ []))
+  pub value_of_bytes : (I : Interpretation) → term_value I (bytes (2 ∷ 1 ∷ 2 ∷ [])) ≡ SetValue (values (BitVecValue 8 1 ∷ BitVecValue 8 2 ∷ []))
+  pub set_lacks_one : IsSetOf (BitVecType 8) (byte 1 ∷ byte 2 ∷ []) (bytes (1 ∷ [])) → ⊥
+  -- of {}, {1} and {1, 2}; and where the term or an element is no literal
+  pub member : map (folded_set_member (byte 2)) (bytes [] ∷ bytes (1 ∷ []) ∷ bytes (1 ∷ 2 ∷ []) ∷ []) ≡ truths (false ∷ false ∷ true ∷ [])
+  pub member_stays : map (folded_set_member x) (bytes [] ∷ bytes (1 ∷ []) ∷ []) ≡ false_term ∷ set_member_of x (bytes (1 ∷ [])) ∷ []
+  pub member_of_unknown : map (folded_set_member (byte 1)) (of_x ∷ s ∷ []) ≡ set_member_of (byte 1) of_x ∷ set_member_of (byte 1) s ∷ []
+  pub subset : folded_set_subset (bytes []) s ∷ folded_set_subset s s ∷ folded_set_subset (bytes (1 ∷ [])) (bytes (1 ∷ 2 ∷ [])) ∷ folded_set_subset (bytes (1 ∷ 2 ∷ [])) (bytes (1 ∷ [])) ∷ folded_set_subset (bytes (1 ∷ [])) (bytes []) ∷ []
+      ≡ truths (true ∷ true ∷ true ∷ false ∷ false ∷ [])
+  pub subset_stays : folded_set_subset s (bytes []) ∷ folded_set_subset of_x (bytes (1 ∷ [])) ∷ [] ≡ set_subset_of s (bytes []) ∷ set_subset_of of_x (bytes (1 ∷ [])) ∷ []
+  pub inter : folded_set_inter (bytes (1 ∷ [])) (bytes (1 ∷ 2 ∷ [])) ∷ folded_set_inter (bytes (1 ∷ 2 ∷ [])) (bytes (2 ∷ 3 ∷ [])) ∷ folded_set_inter (bytes (1 ∷ [])) (bytes (2 ∷ [])) ∷ [] ≡ bytes (1 ∷ []) ∷ bytes (2 ∷ []) ∷ bytes [] ∷ []
+  pub inter_known : folded_set_inter s s ∷ folded_set_inter (bytes []) s ∷ folded_set_inter s (bytes []) ∷ [] ≡ s ∷ bytes [] ∷ bytes [] ∷ []
+  -- two empty sets: the first; literals of two types: with the first's
+  pub inter_first : folded_set_inter (bytes []) (set_term BoolType []) ∷ folded_set_inter (bytes (1 ∷ [])) (set_term BoolType (byte 1 ∷ [])) ∷ [] ≡ bytes [] ∷ bytes (1 ∷ []) ∷ []
+  pub inter_stays : folded_set_inter s (bytes (1 ∷ [])) ∷ folded_set_inter of_x (bytes (1 ∷ [])) ∷ [] ≡ set_inter_of s (bytes (1 ∷ [])) ∷ set_inter_of of_x (bytes (1 ∷ [])) ∷ []
+  pub is_empty : map folded_set_is_empty (bytes [] ∷ bytes (1 ∷ []) ∷ of_x ∷ b ∷ []) ≡ truths (true ∷ false ∷ false ∷ false ∷ [])
+  pub is_empty_stays : folded_set_is_empty s ≡ eq_of s (bytes [])
+  pub intersect : folded_set_intersects (bytes (1 ∷ [])) (bytes (1 ∷ [])) ∷ folded_set_intersects (bytes (1 ∷ [])) (bytes (2 ∷ [])) ∷ folded_set_intersects s (bytes []) ∷ [] ≡ truths (true ∷ false ∷ false ∷ [])
+  pub intersect_stays : folded_set_intersects s s ≡ not_of (eq_of s (bytes []))
+
+-- options of truth values
+abbrev pub no_truth : PlainTerm
+no_truth = NoneTerm BoolType
+
+abbrev pub o : PlainTerm
+o = VariableTerm (codes "o") (OptionType BoolType)
+
+abbrev pub p : PlainTerm
+p = VariableTerm (codes "p") (OptionType BoolType)
+
+-- a choice between options
+abbrev pub choice : List PlainTerm → PlainTerm
+choice ts = Application IteOp (terms ts) (OptionType BoolType)
+
+pub record OptionRows : Type 0 where
+  -- what is no option is not none
+  pub applied : (I : Interpretation) → map (term_value I) (is_none_of no_truth ∷ is_none_of (SomeTerm true_term) ∷ is_none_of true_term ∷ is_some_of no_truth ∷ is_some_of (SomeTerm true_term) ∷ any_none_of [] ∷ any_none_of (SomeTerm true_term ∷ no_truth ∷ []) ∷ option_get_of (SomeTerm true_term) ∷ [])
+      ≡ BoolValue true ∷ BoolValue false ∷ BoolValue false ∷ BoolValue false ∷ BoolValue true ∷ BoolValue false ∷ BoolValue true ∷ BoolValue true ∷ []
+  pub applied_guards : (I : Interpretation) → map (term_value I) (if_false_of true_term true_term ∷ if_false_of false_term true_term ∷ if_true_of true_term true_term ∷ if_true_of false_term true_term ∷ if_some_of no_truth true_term ∷ if_some_of (SomeTerm false_term) true_term ∷ if_some_of true_term (SomeTerm true_term) ∷ if_all_some_of (no_truth ∷ []) true_term ∷ if_all_some_of [] true_term ∷ [])
+      ≡ NoneValue ∷ SomeValue (BoolValue true) ∷ SomeValue (BoolValue true) ∷ NoneValue ∷ NoneValue ∷ SomeValue (BoolValue true) ∷ SomeValue (BoolValue true) ∷ NoneValue ∷ SomeValue (BoolValue true) ∷ []
+  pub held : folded_option_get (SomeTerm (byte 1)) ∷ folded_option_get b ∷ folded_option_get o ∷ folded_option_get no_truth ∷ [] ≡ byte 1 ∷ b ∷ option_get_of o ∷ option_get_of no_truth ∷ []
+  pub is_none : map folded_is_none (no_truth ∷ SomeTerm b ∷ b ∷ []) ≡ truths (true ∷ false ∷ false ∷ [])
+  pub is_none_stays : folded_is_none o ≡ eq_of o no_truth
+  -- a choice of some and some, some and none, none and some, and none and none
+  pub is_none_of_choices : map (λ ts. folded_is_none (choice (c ∷ ts))) ((SomeTerm b ∷ SomeTerm b ∷ []) ∷ (SomeTerm b ∷ no_truth ∷ []) ∷ (no_truth ∷ SomeTerm b ∷ []) ∷ (no_truth ∷ no_truth ∷ []) ∷ [])
+      ≡ false_term ∷ not_of c ∷ c ∷ eq_of (choice (c ∷ no_truth ∷ no_truth ∷ [])) no_truth ∷ []
+  -- one branch of which nothing is known, other counts of arguments, and a choice of no option type
+  pub other_choices : map (λ ts. folded_is_none (choice ts)) ((c ∷ SomeTerm b ∷ o ∷ []) ∷ (SomeTerm b ∷ SomeTerm b ∷ []) ∷ (c ∷ SomeTerm b ∷ SomeTerm b ∷ b ∷ []) ∷ [])
+      ≡ eq_of (choice (c ∷ SomeTerm b ∷ o ∷ [])) no_truth ∷ eq_of (choice (SomeTerm b ∷ SomeTerm b ∷ [])) no_truth ∷ eq_of (choice (c ∷ SomeTerm b ∷ SomeTerm b ∷ b ∷ [])) no_truth ∷ []
+  pub choice_of_no_option : folded_is_none (ite_of c x (byte 1)) ≡ false_term
+  pub is_some : map folded_is_some (no_truth ∷ SomeTerm b ∷ o ∷ []) ≡ false_term ∷ true_term ∷ not_of (eq_of o no_truth) ∷ []
+  pub guarded : folded_if_true true_term b ∷ folded_if_true false_term b ∷ folded_if_false true_term b ∷ folded_if_false false_term b ∷ [] ≡ SomeTerm b ∷ no_truth ∷ no_truth ∷ SomeTerm b ∷ []
+  pub guarded_stays : folded_if_true c b ∷ folded_if_false c b ∷ [] ≡ ite_of c (SomeTerm b) no_truth ∷ ite_of c no_truth (SomeTerm b) ∷ []
+  pub if_some : folded_if_some (SomeTerm b) c ∷ folded_if_some no_truth c ∷ folded_if_some (SomeTerm b) p ∷ folded_if_some no_truth p ∷ [] ≡ SomeTerm c ∷ no_truth ∷ p ∷ no_truth ∷ []
+  pub if_some_stays : folded_if_some o c ∷ folded_if_some o p ∷ [] ≡ ite_of (eq_of o no_truth) no_truth (SomeTerm c) ∷ ite_of (eq_of o no_truth) no_truth p ∷ []
+  pub any_none : map folded_any_none ([] ∷ (SomeTerm b ∷ []) ∷ (SomeTerm b ∷ no_truth ∷ []) ∷ (o ∷ []) ∷ (o ∷ p ∷ []) ∷ []) ≡ false_term ∷ false_term ∷ true_term ∷ eq_of o no_truth ∷ or_of (eq_of p no_truth) (eq_of o no_truth) ∷ []
+  pub if_all_some : folded_if_all_some [] b ∷ folded_if_all_some (no_truth ∷ []) b ∷ folded_if_all_some (o ∷ []) p ∷ [] ≡ SomeTerm b ∷ no_truth ∷ ite_of (eq_of o no_truth) no_truth p ∷ []
+
+pub record ApartRows : Type 0 where
+  pub values : Refines true_term b → ⊥
+  pub types : Refines (byte 1) true_term → ⊥
+  pub reached : Refines (and_of b false_term) false_term → ⊥

@@ -1,0 +1,116 @@
+-- Laws of standing for an application, and that each folding stands for the application that it was asked for.
+use Rattle.std.specs.Prelude.{◌≡◌, ◌↔◌, ℕ, ◌^◌, ◌<◌, Bool, List, [], ◌∷◌, map, IsTrue}
+use Rattle.std.specs.List.{AllByRecursion, AllZip, list_any}
+use Rattle.smt_folding.specs.Applications.{truth_literal, bits_literal, not_of, and_of, or_of, implies_of, eq_of, ite_of, any_of, bvneg_of, bits_of_two, test_of_two, bvnego_of, zero_extend_of, string_like_of, set_member_of, set_subset_of, set_inter_of, set_is_empty_of, set_intersects_of, option_get_of, is_none_of, is_some_of, if_false_of, if_true_of, if_some_of, any_none_of, if_all_some_of}
+use Rattle.smt_folding.specs.FoldBits.{folded_bvneg, folded_bvnego, folded_zero_extend, folded_bvadd, folded_bvsub, folded_bvmul, folded_bvsdiv, folded_bvudiv, folded_bvsrem, folded_bvsmod, folded_bvurem, folded_bvshl, folded_bvlshr, folded_bvslt, folded_bvsle, folded_bvult, folded_bvule, folded_bvsaddo, folded_bvssubo, folded_bvsmulo}
+use Rattle.smt_folding.specs.FoldConnectives.{folded_not, folded_and, folded_or, folded_implies, folded_any}
+use Rattle.smt_folding.specs.FoldEquality.{folded_eq, folded_ite}
+use Rattle.smt_folding.specs.FoldOptions.{folded_option_get, folded_is_none, folded_is_some, folded_if_false, folded_if_true, folded_if_some, folded_any_none, folded_if_all_some}
+use Rattle.smt_folding.specs.FoldSets.{folded_set_member, folded_set_subset, folded_set_inter, folded_set_is_empty, folded_set_intersects}
+use Rattle.smt_folding.specs.FoldStrings.{folded_string_like}
+use Rattle.smt_folding.specs.Refinement.{Refines, FieldsRefine}
+use Rattle.smt_meaning.specs.Formed.{IsFormed}
+use Rattle.smt_meaning.specs.Interpretations.{IsInterpretation}
+use Rattle.smt_meaning.specs.Literals.{is_literal}
+use Rattle.smt_meaning.specs.Meaning.{term_value}
+use Rattle.smt_meaning.specs.Operators.{truth, apply}
+use Rattle.smt_meaning.specs.Tables.{Interpretation}
+use Rattle.smt_meaning.specs.TermSets.{set_term}
+use Rattle.smt_meaning.specs.Typing.{typed, Typed, AreBoolean}
+use Rattle.smt_meaning.specs.TypeValues.{Enums}
+use Rattle.smt_meaning.specs.Plain.{PlainType, BitVecType, BoolType, PatternPart, PlainOp, BvaddOp, BvlshrOp, BvmulOp, BvsaddoOp, BvsdivOp, BvshlOp, BvsleOp, BvsltOp, BvsmodOp, BvsmuloOp, BvsremOp, BvssuboOp, BvsubOp, BvudivOp, BvuleOp, BvultOp, BvuremOp, PlainTerm, Application, RecordTerm, SomeTerm, PlainFields, terms}
+use Rattle.smt_meaning.specs.Values.{BoolValue, BitVecValue}
+
+-- standing for is an order that applications, `some`, records and sets keep, and the tests for none and for the empty set
+pub record RefinementIsKept : Type 0 where
+  pub itself : (t : PlainTerm) → Refines t t
+  pub onward : (t u w : PlainTerm) → Refines t u → Refines u w → Refines t w
+  pub application : (o : PlainOp) (ts us : List PlainTerm) (ty : PlainType) → AllZip Refines ts us → Refines (Application o (terms ts) ty) (Application o (terms us) ty)
+  pub some : (t u : PlainTerm) → Refines t u → Refines (SomeTerm t) (SomeTerm u)
+  pub fields : (fs gs : PlainFields) → FieldsRefine fs gs → Refines (RecordTerm fs) (RecordTerm gs)
+  pub set : (ty : PlainType) (ts us : List PlainTerm) → AllZip Refines ts us → Refines (set_term ty ts) (set_term ty us)
+  pub is_none : (t u : PlainTerm) → Refines t u → Refines (is_none_of t) (is_none_of u)
+  pub is_empty : (t u : PlainTerm) → Refines t u → Refines (set_is_empty_of t) (set_is_empty_of u)
+
+-- an interpretation of terms is one of the terms that stand for them
+abbrev pub InterpretationsPass : Type 0
+InterpretationsPass = (enums : Enums) (I : Interpretation) (ts us : List PlainTerm) → AllZip Refines ts us → IsInterpretation enums us I → IsInterpretation enums ts I
+
+-- formed and typed terms have in every interpretation the values of the terms that stand for them
+abbrev pub ValuesPass : Type 0
+ValuesPass = (enums : Enums) (I : Interpretation) (ts us : List PlainTerm) → AllZip Refines ts us → AllByRecursion IsFormed us → AllByRecursion (λ u. IsTrue (typed u)) us → IsInterpretation enums us I → map (term_value I) ts ≡ map (term_value I) us
+
+-- two literals of one type are equal exactly where their values are
+abbrev pub LiteralsAreEqualByValue : Type 0
+LiteralsAreEqualByValue = (I : Interpretation) (t u : PlainTerm) (ty : PlainType) → IsTrue (is_literal t) → IsTrue (is_literal u) → Typed t ty → Typed u ty → IsFormed t → IsFormed u → (t ≡ u) ↔ (term_value I t ≡ term_value I u)
+
+-- the connectives
+pub record ConnectivesAreFolded : Type 0 where
+  pub not : (t : PlainTerm) → Refines (folded_not t) (not_of t)
+  pub and : (t u : PlainTerm) → Refines (folded_and t u) (and_of t u)
+  pub or : (t u : PlainTerm) → Refines (folded_or t u) (or_of t u)
+  pub implies : (t u : PlainTerm) → Refines (folded_implies t u) (implies_of t u)
+  pub any : (ts us : List PlainTerm) → AllZip Refines ts us → Refines (folded_any ts) (any_of us)
+
+-- the disjunction of many is true where one of them is
+abbrev pub AnyIsTrue : Type 0
+AnyIsTrue = (I : Interpretation) (ts : List PlainTerm) → AreBoolean ts → term_value I (any_of ts) ≡ BoolValue (list_any (λ t. truth (term_value I t)) ts)
+
+-- equality and choice
+pub record EqualityAndChoiceAreFolded : Type 0 where
+  pub eq : (t u : PlainTerm) → Refines (folded_eq t u) (eq_of t u)
+  pub ite : (g t u : PlainTerm) → Refines (folded_ite g t u) (ite_of g t u)
+
+-- operators from bits to bits
+pub record BitsAreFolded : Type 0 where
+  pub bvneg : (t : PlainTerm) → Refines (folded_bvneg t) (bvneg_of t)
+  pub bvadd : (t u : PlainTerm) → Refines (folded_bvadd t u) (bits_of_two BvaddOp t u)
+  pub bvsub : (t u : PlainTerm) → Refines (folded_bvsub t u) (bits_of_two BvsubOp t u)
+  pub bvmul : (t u : PlainTerm) → Refines (folded_bvmul t u) (bits_of_two BvmulOp t u)
+  pub bvsdiv : (t u : PlainTerm) → Refines (folded_bvsdiv t u) (bits_of_two BvsdivOp t u)
+  pub bvudiv : (t u : PlainTerm) → Refines (folded_bvudiv t u) (bits_of_two BvudivOp t u)
+  pub bvsrem : (t u : PlainTerm) → Refines (folded_bvsrem t u) (bits_of_two BvsremOp t u)
+  pub bvsmod : (t u : PlainTerm) → Refines (folded_bvsmod t u) (bits_of_two BvsmodOp t u)
+  pub bvurem : (t u : PlainTerm) → Refines (folded_bvurem t u) (bits_of_two BvuremOp t u)
+  pub bvshl : (t u : PlainTerm) → Refines (folded_bvshl t u) (bits_of_two BvshlOp t u)
+  pub bvlshr : (t u : PlainTerm) → Refines (folded_bvlshr t u) (bits_of_two BvlshrOp t u)
+  pub zero_extend : (k : ℕ) (t : PlainTerm) → Refines (folded_zero_extend k t) (zero_extend_of k t)
+
+-- tests of bits
+pub record TestsAreFolded : Type 0 where
+  pub bvslt : (t u : PlainTerm) → Refines (folded_bvslt t u) (test_of_two BvsltOp t u)
+  pub bvsle : (t u : PlainTerm) → Refines (folded_bvsle t u) (test_of_two BvsleOp t u)
+  pub bvult : (t u : PlainTerm) → Refines (folded_bvult t u) (test_of_two BvultOp t u)
+  pub bvule : (t u : PlainTerm) → Refines (folded_bvule t u) (test_of_two BvuleOp t u)
+  pub bvnego : (t : PlainTerm) → Refines (folded_bvnego t) (bvnego_of t)
+  pub bvsaddo : (t u : PlainTerm) → Refines (folded_bvsaddo t u) (test_of_two BvsaddoOp t u)
+  pub bvssubo : (t u : PlainTerm) → Refines (folded_bvssubo t u) (test_of_two BvssuboOp t u)
+  pub bvsmulo : (t u : PlainTerm) → Refines (folded_bvsmulo t u) (test_of_two BvsmuloOp t u)
+
+-- the match of a string with a pattern
+abbrev pub StringLikeIsFolded : Type 0
+StringLikeIsFolded = (t : PlainTerm) (p : List PatternPart) → Refines (folded_string_like t p) (string_like_of t p)
+
+-- the calls on sets
+pub record SetsAreFolded : Type 0 where
+  pub set_member : (t u : PlainTerm) → Refines (folded_set_member t u) (set_member_of t u)
+  pub set_subset : (t u : PlainTerm) → Refines (folded_set_subset t u) (set_subset_of t u)
+  pub set_inter : (t u : PlainTerm) → Refines (folded_set_inter t u) (set_inter_of t u)
+  pub set_is_empty : (t : PlainTerm) → Refines (folded_set_is_empty t) (set_is_empty_of t)
+  pub set_intersects : (t u : PlainTerm) → Refines (folded_set_intersects t u) (set_intersects_of t u)
+
+-- the calls on options
+pub record OptionsAreFolded : Type 0 where
+  pub option_get : (t : PlainTerm) → Refines (folded_option_get t) (option_get_of t)
+  pub is_none : (t : PlainTerm) → Refines (folded_is_none t) (is_none_of t)
+  pub is_some : (t : PlainTerm) → Refines (folded_is_some t) (is_some_of t)
+  pub if_false : (g t : PlainTerm) → Refines (folded_if_false g t) (if_false_of g t)
+  pub if_true : (g t : PlainTerm) → Refines (folded_if_true g t) (if_true_of g t)
+  pub if_some : (g t : PlainTerm) → Refines (folded_if_some g t) (if_some_of g t)
+  pub any_none : (gs : List PlainTerm) → Refines (folded_any_none gs) (any_none_of gs)
+  pub if_all_some : (gs : List PlainTerm) (t : PlainTerm) → Refines (folded_if_all_some gs t) (if_all_some_of gs t)
+
+-- what has the operator's value at two literals stands for the application, whoever computed it
+pub record AnswersRefine : Type 0 where
+  pub bits : (o : PlainOp) (n a b c : ℕ) → c < 2 ^ n → ((I : Interpretation) → apply I o (BitVecType n) (BitVecValue n a ∷ BitVecValue n b ∷ []) ≡ BitVecValue n c) → Refines (bits_literal n c) (bits_of_two o (bits_literal n a) (bits_literal n b))
+  pub test : (o : PlainOp) (n a m b : ℕ) (c : Bool) → ((I : Interpretation) → apply I o BoolType (BitVecValue n a ∷ BitVecValue m b ∷ []) ≡ BoolValue c) → Refines (truth_literal c) (test_of_two o (bits_literal n a) (bits_literal m b))

@@ -1,0 +1,13 @@
+pub mod Applications
+pub mod Built
+pub mod FoldBits
+pub mod FoldConnectives
+pub mod FoldEquality
+pub mod FoldOptions
+pub mod FoldRows
+pub mod FoldSets
+pub mod FoldStrings
+pub mod Laws
+pub mod Parts
+pub mod Refinement
+pub mod SetOf

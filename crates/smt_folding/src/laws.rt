@@ -1,0 +1,84 @@
+//! Laws of foldings and of what stands for what, proved with no code.
+ghost use Rattle.smt_folding.specs.Built.{BuiltTermsRefine, FoldingAddsNoFault};
+ghost use Rattle.smt_folding.specs.FoldRows.{ApartRows, BitsRows, ConnectiveRows, EqualityRows, OptionRows, SetRows, StringRows};
+ghost use Rattle.smt_folding.specs.Laws.{AnswersRefine, AnyIsTrue, BitsAreFolded, ConnectivesAreFolded, EqualityAndChoiceAreFolded, InterpretationsPass, LiteralsAreEqualByValue, OptionsAreFolded, SetsAreFolded, RefinementIsKept, StringLikeIsFolded, TestsAreFolded, ValuesPass};
+
+/// A term stands for itself, onward, in applications, `some`, records and sets, and in the tests for none and for the
+/// empty set; and an interpretation of terms is one of the terms that stand for them, in which they have the same values.
+pub fn refinement_is_kept()
+    ensures kept { RefinementIsKept }
+    ensures interpretations { InterpretationsPass }
+    ensures values { ValuesPass }
+{}
+
+/// A term of another value, of another type, or that reaches a variable more, does not stand for a term.
+pub fn refinement_tells_apart()
+    ensures { ApartRows }
+{}
+
+/// Two literals of one type are equal exactly where their values are.
+pub fn literals_are_equal_by_value()
+    ensures { LiteralsAreEqualByValue }
+{}
+
+/// `not`, `and`, `or`, `implies` and the disjunction of many: what they are folded to stands for them. The last is true
+/// where one of its terms is.
+pub fn connectives_are_folded()
+    ensures folded { ConnectivesAreFolded }
+    ensures any { AnyIsTrue }
+{}
+
+/// `eq` and `ite`: what they are folded to stands for them.
+pub fn equality_and_choice_are_folded()
+    ensures { EqualityAndChoiceAreFolded }
+{}
+
+/// The operators from bits to bits: what they are folded to stands for them.
+pub fn bits_are_folded()
+    ensures { BitsAreFolded }
+{}
+
+/// The tests of bits: what they are folded to stands for them.
+pub fn tests_are_folded()
+    ensures { TestsAreFolded }
+{}
+
+/// `string_like`: what it is folded to stands for it.
+pub fn strings_are_folded()
+    ensures { StringLikeIsFolded }
+{}
+
+/// The calls on sets: what they are folded to stands for them.
+pub fn sets_are_folded()
+    ensures { SetsAreFolded }
+{}
+
+/// The calls on options: what they are folded to stands for them.
+pub fn options_are_folded()
+    ensures { OptionsAreFolded }
+{}
+
+/// What is built for a typed term, each application folded after its arguments, stands for it.
+pub fn built_terms_refine()
+    ensures { BuiltTermsRefine }
+{}
+
+/// What is built for a typed term without fault has no fault: folding drops faults and adds none.
+pub fn folding_adds_no_fault()
+    ensures { FoldingAddsNoFault }
+{}
+
+/// A literal with the operator's value at two literals stands for the application, whoever computed it.
+pub fn answers_refine()
+    ensures { AnswersRefine }
+{}
+
+/// Foldings of chosen terms.
+pub fn fold_rows()
+    ensures connectives { ConnectiveRows }
+    ensures equality { EqualityRows }
+    ensures bits { BitsRows }
+    ensures strings { StringRows }
+    ensures sets { SetRows }
+    ensures options { OptionRows }
+{}

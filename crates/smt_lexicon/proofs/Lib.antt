@@ -1,0 +1,10 @@
+pub mod Atoms
+pub mod Characters
+pub mod Items
+pub mod PlainText
+pub mod Quotes
+pub mod Readings
+pub mod Runs
+pub mod Strings
+pub mod Trees
+pub mod Unique

@@ -1,0 +1,41 @@
+-- S-expressions: brackets and atoms.
+use Rattle.std.specs.Prelude.{◌≡◌, ℕ, List, [], ◌∷◌, ◌++◌}
+use Rattle.std.specs.List.{flat_map}
+use Rattle.smt_lexicon.specs.Lexicon.{Piece, Token, Begin, End, Word, Atom, IsCutInto, tokens}
+
+mutual
+  pub data Expression : Type 0 where
+    Leaf : Atom → Expression
+    Node : Expressions → Expression
+
+  pub data Expressions : Type 0 where
+    Nil : Expressions
+    Cons : Expression → Expressions → Expressions
+
+-- the expressions of a list, and then others
+abbrev pub followed_by : List Expression → Expressions → Expressions
+followed_by [] others = others
+followed_by (e ∷ es) others = Cons e (followed_by es others)
+
+-- the expressions of a list
+abbrev pub expressions : List Expression → Expressions
+expressions es = followed_by es Nil
+
+-- the brackets and atoms of an expression
+abbrev mutual
+  pub brackets : Expression → List Token
+  brackets (Leaf a) = Word a ∷ []
+  brackets (Node es) = Begin ∷ (inside es ++ End ∷ [])
+
+  pub inside : Expressions → List Token
+  inside Nil = []
+  inside (Cons e es) = brackets e ++ inside es
+
+-- The tokens of the text are these expressions.
+pub record Reads (bytes : List ℕ) (es : List Expression) : Type 0 where
+  pub pieces : List Piece
+  pub cut : IsCutInto bytes pieces
+  pub tokens_are : tokens pieces ≡ flat_map brackets es
+
+abbrev pub OneReading : Type 0
+OneReading = (bytes : List ℕ) (es fs : List Expression) → Reads bytes es → Reads bytes fs → es ≡ fs

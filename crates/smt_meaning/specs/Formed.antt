@@ -1,0 +1,44 @@
+-- What the program's types keep of every term: widths, numbers within range, texts in UTF-8, attributes in ascending order.
+use Rattle.std.specs.Prelude.{ℕ, ◌^◌, ◌<◌, ◌≤◌, List, [], ◌∷◌, IsTrue, IsUtf8, ⊤}
+use Rattle.std.specs.List.{AllByRecursion}
+use Rattle.smt_meaning.specs.Reached.{subterms, types_within}
+use Rattle.smt_meaning.specs.Types.{type_of}
+use Rattle.smt_meaning.specs.TypeValues.{IsExtension}
+use Rattle.smt_meaning.specs.ValueOrder.{text_cmp, ascends}
+use Rattle.smt_meaning.specs.Plain.{IpAddrKind, DecimalKind, DatetimeKind, DurationKind, PlainType, BitVecType, RecordType, AttributeTypes, no_attributes, attribute, PlainExtension, DecimalOf, Ipv4Of, Ipv6Of, DatetimeOf, DurationOf, PlainLiteral, BitVecLiteral, BoolLiteral, EntityLiteral, ExtensionLiteral, StringLiteral, PlainTerm, LiteralTerm}
+
+abbrev pub attribute_names : AttributeTypes → List (List ℕ)
+attribute_names no_attributes = []
+attribute_names (attribute a t x) = a ∷ attribute_names x
+
+-- one type by itself, and with all types inside it
+abbrev pub IsFormedHere : PlainType → Type 0
+IsFormedHere (BitVecType n) = (1 ≤ n) × (n ≤ 128)
+IsFormedHere (RecordType x) = IsTrue (ascends text_cmp (attribute_names x))
+IsFormedHere t = ⊤
+
+abbrev pub IsFormedType : PlainType → Type 0
+IsFormedType t = AllByRecursion IsFormedHere (types_within t)
+
+abbrev pub IsFormedExtension : PlainExtension → Type 0
+IsFormedExtension (DecimalOf z) = IsExtension DecimalKind (DecimalOf z)
+IsFormedExtension (Ipv4Of a p) = IsExtension IpAddrKind (Ipv4Of a p)
+IsFormedExtension (Ipv6Of a p) = IsExtension IpAddrKind (Ipv6Of a p)
+IsFormedExtension (DatetimeOf z) = IsExtension DatetimeKind (DatetimeOf z)
+IsFormedExtension (DurationOf z) = IsExtension DurationKind (DurationOf z)
+
+abbrev pub IsFormedLiteral : PlainLiteral → Type 0
+IsFormedLiteral (BitVecLiteral n a) = a < 2 ^ n
+IsFormedLiteral (BoolLiteral b) = ⊤
+IsFormedLiteral (EntityLiteral e i) = IsUtf8 i
+IsFormedLiteral (ExtensionLiteral x) = IsFormedExtension x
+IsFormedLiteral (StringLiteral s) = IsUtf8 s
+
+-- one term by itself, and with all its subterms
+abbrev pub IsFormedNode : PlainTerm → Type 0
+IsFormedNode (LiteralTerm l) = IsFormedLiteral l
+IsFormedNode t = ⊤
+
+pub record IsFormed (t : PlainTerm) : Type 0 where
+  pub literals : AllByRecursion IsFormedNode (subterms t)
+  pub types : AllByRecursion (λ u. IsFormedType (type_of u)) (subterms t)

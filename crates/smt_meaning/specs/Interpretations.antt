@@ -1,0 +1,102 @@
+-- The interpretations of a list of terms.
+use Rattle.std.specs.Prelude.{bytes_eq, ◌≡◌, ℕ, ◌==◌, Bool, false, cond, ◌&&◌, List, [], ◌∷◌, map, ⊤, IfSome, IsFalse}
+use Rattle.std.specs.List.{AllByRecursion, list_any}
+use Rattle.smt_meaning.specs.Reached.{selector_of_extension, reached_terms, reached_variables, reached_functions, reached_options, reached_selectors}
+use Rattle.smt_meaning.specs.Tables.{Table, Interpretation}
+use Rattle.smt_meaning.specs.Types.{type_eq, extension_signature}
+use Rattle.smt_meaning.specs.TypeValues.{Enums, IsValue}
+use Rattle.smt_meaning.specs.ValueOrder.{value_eq}
+use Rattle.smt_meaning.specs.Plain.{IpAddrKind, PlainType, ExtensionType, PlainFunction, ExtensionOp, DatetimeOfBitVecOp, DatetimeValOp, DecimalValOp, DurationOfBitVecOp, DurationValOp, IpAddrV4Op, IpAddrV6Op, IpIsV4Op, IpPrefixV4Op, IpPrefixV6Op, PlainOp, ExtOp, OptionGetOp, UufOp, PlainTerm, Application, VariableTerm, Ipv4Of, Ipv6Of}
+use Rattle.smt_meaning.specs.Values.{Value, BoolValue, ExtensionValue}
+
+abbrev pub AreDistinct : List Value → Type 0
+AreDistinct [] = ⊤
+AreDistinct (v ∷ vs) = IsFalse (list_any (value_eq v) vs) × AreDistinct vs
+
+-- a table from the keys that P takes to the values of a type
+pub record IsTable (P : Value → Type 0) (enums : Enums) (out : PlainType) (table : Table) : Type 0 where
+  pub keys : AllByRecursion (λ e. P e.0) table.entries
+  pub distinct : AreDistinct (map (λ e. e.0) table.entries)
+  pub answers : AllByRecursion (λ e. IsValue enums out e.1) table.entries
+  pub elsewhere : IsValue enums out table.elsewhere
+
+-- an IP range of the family to which the selector does not belong
+abbrev pub IsOfOtherFamily : ExtensionOp → Value → Type 0
+IsOfOtherFamily IpAddrV4Op (ExtensionValue (Ipv6Of a p)) = ⊤
+IsOfOtherFamily IpPrefixV4Op (ExtensionValue (Ipv6Of a p)) = ⊤
+IsOfOtherFamily IpAddrV6Op (ExtensionValue (Ipv4Of a p)) = ⊤
+IsOfOtherFamily IpPrefixV6Op (ExtensionValue (Ipv4Of a p)) = ⊤
+IsOfOtherFamily o v = ⊥
+
+abbrev pub IsSelectorTable : Enums → Interpretation → ExtensionOp → Type 0
+IsSelectorTable enums I o = IsTable (λ v. IsOfOtherFamily o v × IsValue enums (ExtensionType IpAddrKind) v) enums (extension_signature o).1 (I.other_family o)
+
+abbrev pub IsGivenSelector : Enums → Interpretation → ExtensionOp → Type 0
+IsGivenSelector enums I IpAddrV4Op = IsSelectorTable enums I IpAddrV4Op
+IsGivenSelector enums I IpAddrV6Op = IsSelectorTable enums I IpAddrV6Op
+IsGivenSelector enums I IpPrefixV4Op = IsSelectorTable enums I IpPrefixV4Op
+IsGivenSelector enums I IpPrefixV6Op = IsSelectorTable enums I IpPrefixV6Op
+IsGivenSelector enums I o = ⊤
+
+-- I gives a function its table, `option.get` its value at none, and a selector its table for the other family
+abbrev pub IsGivenOp : Enums → Interpretation → PlainOp → PlainType → Type 0
+IsGivenOp enums I (UufOp f) t = IsTable (IsValue enums f.argument) enums f.output (I.function f)
+IsGivenOp enums I OptionGetOp t = IsValue enums t (I.inside_none t)
+IsGivenOp enums I (ExtOp o) t = IsGivenSelector enums I o
+IsGivenOp enums I o t = ⊤
+
+-- I gives what one term asks of it: a variable its value
+abbrev pub IsGiven : Enums → Interpretation → PlainTerm → Type 0
+IsGiven enums I (VariableTerm id t) = IsValue enums t (I.variable id t)
+IsGiven enums I (Application o ts t) = IsGivenOp enums I o t
+IsGiven enums I t = ⊤
+
+-- I gives values of their types to all that the terms reach
+abbrev pub IsInterpretation : Enums → List PlainTerm → Interpretation → Type 0
+IsInterpretation enums ts I = AllByRecursion (IsGiven enums I) (reached_terms ts)
+
+-- I and J give a term the same
+abbrev pub GiveSameOp : Interpretation → Interpretation → PlainOp → PlainType → Type 0
+GiveSameOp I J (UufOp f) t = I.function f ≡ J.function f
+GiveSameOp I J OptionGetOp t = I.inside_none t ≡ J.inside_none t
+GiveSameOp I J (ExtOp o) t = IfSome (selector_of_extension o) (λ s. I.other_family s ≡ J.other_family s)
+GiveSameOp I J o t = ⊤
+
+abbrev pub GiveSame : Interpretation → Interpretation → PlainTerm → Type 0
+GiveSame I J (VariableTerm id t) = I.variable id t ≡ J.variable id t
+GiveSame I J (Application o ts t) = GiveSameOp I J o t
+GiveSame I J t = ⊤
+
+-- I and J agree on all that the terms reach
+abbrev pub Agree : List PlainTerm → Interpretation → Interpretation → Type 0
+Agree ts I J = AllByRecursion (GiveSame I J) (reached_terms ts)
+
+-- equality of functions and of selectors, as tests
+abbrev pub function_eq : PlainFunction → PlainFunction → Bool
+function_eq f g = bytes_eq f.id g.id && (type_eq f.argument g.argument && type_eq f.output g.output)
+
+abbrev pub extension_op_place : ExtensionOp → ℕ
+extension_op_place DatetimeOfBitVecOp = 0
+extension_op_place DatetimeValOp = 1
+extension_op_place DecimalValOp = 2
+extension_op_place DurationOfBitVecOp = 3
+extension_op_place DurationValOp = 4
+extension_op_place IpAddrV4Op = 5
+extension_op_place IpAddrV6Op = 6
+extension_op_place IpIsV4Op = 7
+extension_op_place IpPrefixV4Op = 8
+extension_op_place IpPrefixV6Op = 9
+
+abbrev pub selector_eq : ExtensionOp → ExtensionOp → Bool
+selector_eq o p = extension_op_place o == extension_op_place p
+
+-- what stands where the terms reach nothing
+abbrev pub nothing : Value
+nothing = BoolValue false
+
+abbrev pub empty_table : Table
+empty_table = record { entries = []; elsewhere = nothing }
+
+-- what the terms reach of I
+abbrev pub restrict : Interpretation → List PlainTerm → Interpretation
+restrict I ts = record { variable = λ id t. cond (list_any (λ x. bytes_eq x.0 id && type_eq x.1 t) (reached_variables ts)) (I.variable id t) nothing; function = λ f. cond (list_any (function_eq f) (reached_functions ts)) (I.function f) empty_table; inside_none = λ t. cond (list_any (type_eq t) (reached_options ts)) (I.inside_none t) nothing; other_family = λ o. cond (list_any (selector_eq o) (reached_selectors ts)) (I.other_family o) empty_table }

@@ -1,0 +1,40 @@
+-- The value of a term in an interpretation.
+use Rattle.std.specs.Prelude.{false, List, [], ◌∷◌, cond}
+use Rattle.std.specs.Str.{chars}
+use Rattle.smt_meaning.specs.Operators.{apply}
+use Rattle.smt_meaning.specs.Tables.{Interpretation}
+use Rattle.smt_meaning.specs.Typing.{typed}
+use Rattle.smt_meaning.specs.ValueOrder.{set_of}
+use Rattle.smt_meaning.specs.Plain.{PlainLiteral, BitVecLiteral, BoolLiteral, EntityLiteral, ExtensionLiteral, StringLiteral, PlainTerm, Application, NoneTerm, LiteralTerm, RecordTerm, SetTerm, SomeTerm, VariableTerm, PlainTerms, no_terms, one_term, PlainFields, no_fields, one_field}
+use Rattle.smt_meaning.specs.Values.{Value, BoolValue, BitVecValue, StringValue, EntityValue, ExtensionValue, NoneValue, SomeValue, RecordValue, FieldValues, no_field_values, one_field_value}
+
+-- a literal is its own value: a text is the list of the code points that its bytes spell
+abbrev pub literal_value : PlainLiteral → Value
+literal_value (BitVecLiteral n a) = BitVecValue n a
+literal_value (BoolLiteral b) = BoolValue b
+literal_value (EntityLiteral e i) = EntityValue e (chars i)
+literal_value (ExtensionLiteral x) = ExtensionValue x
+literal_value (StringLiteral s) = StringValue (chars s)
+
+-- the value of a typed term
+abbrev mutual
+  pub meaning : Interpretation → PlainTerm → Value
+  meaning I (Application o ts t) = apply I o t (meanings I ts)
+  meaning I (NoneTerm t) = NoneValue
+  meaning I (LiteralTerm l) = literal_value l
+  meaning I (RecordTerm fs) = RecordValue (field_meanings I fs)
+  meaning I (SetTerm t ts) = set_of (meanings I ts)
+  meaning I (SomeTerm t) = SomeValue (meaning I t)
+  meaning I (VariableTerm id t) = I.variable id t
+
+  pub meanings : Interpretation → PlainTerms → List Value
+  meanings I no_terms = []
+  meanings I (one_term t ts) = meaning I t ∷ meanings I ts
+
+  pub field_meanings : Interpretation → PlainFields → FieldValues
+  field_meanings I no_fields = no_field_values
+  field_meanings I (one_field a t fs) = one_field_value a (meaning I t) (field_meanings I fs)
+
+-- the value of a term: false where it is not typed
+abbrev pub term_value : Interpretation → PlainTerm → Value
+term_value I t = cond (typed t) (meaning I t) (BoolValue false)

@@ -1,0 +1,121 @@
+-- The value of each operator.
+use Rattle.std.specs.Prelude.{ℕ, bytes_eq, ◌+◌, Bool, true, false, cond, not, ◌&&◌, ◌||◌, List, [], ◌∷◌, filter, Option, Some, None}
+use Rattle.std.specs.List.{list_any, list_all}
+use Rattle.smt_arithmetic.specs.BitVectors as bits
+use Rattle.smt_arithmetic.specs.BitVectors.{signed, bits_of}
+use Rattle.smt_meaning.specs.Patterns.{matches}
+use Rattle.smt_meaning.specs.Tables.{Interpretation, value_at}
+use Rattle.smt_meaning.specs.ValueOrder.{value_eq, list_of_values, set_of}
+use Rattle.smt_meaning.specs.Plain.{PlainType, ExtensionOp, DatetimeOfBitVecOp, DatetimeValOp, DecimalValOp, DurationOfBitVecOp, DurationValOp, IpAddrV4Op, IpAddrV6Op, IpIsV4Op, IpPrefixV4Op, IpPrefixV6Op, PlainOp, AndOp, BvaddOp, BvlshrOp, BvmulOp, BvnegOp, BvnegoOp, BvsaddoOp, BvsdivOp, BvshlOp, BvsleOp, BvsltOp, BvsmodOp, BvsmuloOp, BvsremOp, BvssuboOp, BvsubOp, BvudivOp, BvuleOp, BvultOp, BvuremOp, EqOp, ExtOp, IteOp, NotOp, OptionGetOp, OrOp, RecordGetOp, SetInterOp, SetMemberOp, SetSubsetOp, StringLikeOp, UufOp, ZeroExtendOp, DecimalOf, Ipv4Of, Ipv6Of, DatetimeOf, DurationOf}
+use Rattle.smt_meaning.specs.Values.{Value, BoolValue, BitVecValue, StringValue, ExtensionValue, NoneValue, SomeValue, RecordValue, SetValue, FieldValues, no_field_values, one_field_value}
+
+-- what a value holds, where it is of the kind
+abbrev pub truth : Value → Bool
+truth (BoolValue b) = b
+truth v = false
+
+abbrev pub width : Value → ℕ
+width (BitVecValue n a) = n
+width v = 0
+
+abbrev pub number : Value → ℕ
+number (BitVecValue n a) = a
+number v = 0
+
+abbrev pub characters : Value → List ℕ
+characters (StringValue s) = s
+characters v = []
+
+abbrev pub elements : Value → List Value
+elements (SetValue vs) = list_of_values vs
+elements v = []
+
+abbrev pub field_value : List ℕ → FieldValues → Value
+field_value x no_field_values = BoolValue false
+field_value x (one_field_value a v fs) = elim (bytes_eq x a) [ true ↦ v | false ↦ field_value x fs ]
+
+abbrev pub attribute_value : List ℕ → Value → Value
+attribute_value x (RecordValue fs) = field_value x fs
+attribute_value x v = BoolValue false
+
+-- sets by their elements (the theory of finite sets of cvc5)
+abbrev pub is_member : Value → List Value → Bool
+is_member v vs = list_any (value_eq v) vs
+
+abbrev pub is_subset : List Value → List Value → Bool
+is_subset vs ws = list_all (λ v. is_member v ws) vs
+
+abbrev pub intersection : List Value → List Value → List Value
+intersection vs ws = filter (λ v. is_member v ws) vs
+
+-- the value inside an option, or what stands for it at none
+abbrev pub value_inside : Value → Value → Value
+value_inside default (SomeValue v) = v
+value_inside default v = default
+
+-- prefix bits as an option
+abbrev pub prefix_value : ℕ → Option ℕ → Value
+prefix_value n None = NoneValue
+prefix_value n (Some p) = SomeValue (BitVecValue n p)
+
+-- operators of the extension types; a selector at the other family is the interpretation's
+abbrev pub apply_extension : Interpretation → ExtensionOp → Value → Value
+apply_extension I DecimalValOp (ExtensionValue (DecimalOf z)) = BitVecValue 64 (bits_of 64 z)
+apply_extension I DatetimeValOp (ExtensionValue (DatetimeOf z)) = BitVecValue 64 (bits_of 64 z)
+apply_extension I DurationValOp (ExtensionValue (DurationOf z)) = BitVecValue 64 (bits_of 64 z)
+apply_extension I DatetimeOfBitVecOp v = ExtensionValue (DatetimeOf (signed 64 (number v)))
+apply_extension I DurationOfBitVecOp v = ExtensionValue (DurationOf (signed 64 (number v)))
+apply_extension I IpIsV4Op (ExtensionValue (Ipv4Of a p)) = BoolValue true
+apply_extension I IpAddrV4Op (ExtensionValue (Ipv4Of a p)) = BitVecValue 32 a
+apply_extension I IpPrefixV4Op (ExtensionValue (Ipv4Of a p)) = prefix_value 5 p
+apply_extension I IpAddrV6Op (ExtensionValue (Ipv6Of a p)) = BitVecValue 128 a
+apply_extension I IpPrefixV6Op (ExtensionValue (Ipv6Of a p)) = prefix_value 7 p
+apply_extension I IpAddrV4Op v = value_at (I.other_family IpAddrV4Op) v
+apply_extension I IpAddrV6Op v = value_at (I.other_family IpAddrV6Op) v
+apply_extension I IpPrefixV4Op v = value_at (I.other_family IpPrefixV4Op) v
+apply_extension I IpPrefixV6Op v = value_at (I.other_family IpPrefixV6Op) v
+apply_extension I o v = BoolValue false
+
+-- the bits and the truth that an operation on bits gives
+abbrev pub to_bits : (ℕ → ℕ → ℕ → ℕ) → Value → Value → Value
+to_bits f a b = BitVecValue (width a) (f (width a) (number a) (number b))
+
+abbrev pub to_truth : (ℕ → ℕ → ℕ → Bool) → Value → Value → Value
+to_truth f a b = BoolValue (f (width a) (number a) (number b))
+
+-- the value of an operator with this result type at these arguments
+abbrev pub apply : Interpretation → PlainOp → PlainType → List Value → Value
+apply I NotOp t (a ∷ []) = BoolValue (not (truth a))
+apply I AndOp t (a ∷ b ∷ []) = BoolValue (truth a && truth b)
+apply I OrOp t (a ∷ b ∷ []) = BoolValue (truth a || truth b)
+apply I EqOp t (a ∷ b ∷ []) = BoolValue (value_eq a b)
+apply I IteOp t (g ∷ a ∷ b ∷ []) = cond (truth g) a b
+apply I (UufOp f) t (a ∷ []) = value_at (I.function f) a
+apply I BvnegOp t (a ∷ []) = BitVecValue (width a) (bits.bvneg (width a) (number a))
+apply I BvaddOp t (a ∷ b ∷ []) = to_bits bits.bvadd a b
+apply I BvsubOp t (a ∷ b ∷ []) = to_bits bits.bvsub a b
+apply I BvmulOp t (a ∷ b ∷ []) = to_bits bits.bvmul a b
+apply I BvudivOp t (a ∷ b ∷ []) = to_bits bits.bvudiv a b
+apply I BvuremOp t (a ∷ b ∷ []) = to_bits bits.bvurem a b
+apply I BvsdivOp t (a ∷ b ∷ []) = to_bits bits.bvsdiv a b
+apply I BvsremOp t (a ∷ b ∷ []) = to_bits bits.bvsrem a b
+apply I BvsmodOp t (a ∷ b ∷ []) = to_bits bits.bvsmod a b
+apply I BvshlOp t (a ∷ b ∷ []) = to_bits bits.bvshl a b
+apply I BvlshrOp t (a ∷ b ∷ []) = to_bits bits.bvlshr a b
+apply I BvultOp t (a ∷ b ∷ []) = to_truth bits.bvult a b
+apply I BvuleOp t (a ∷ b ∷ []) = to_truth bits.bvule a b
+apply I BvsltOp t (a ∷ b ∷ []) = to_truth bits.bvslt a b
+apply I BvsleOp t (a ∷ b ∷ []) = to_truth bits.bvsle a b
+apply I BvnegoOp t (a ∷ []) = BoolValue (bits.bvnego (width a) (number a))
+apply I BvsaddoOp t (a ∷ b ∷ []) = to_truth bits.bvsaddo a b
+apply I BvssuboOp t (a ∷ b ∷ []) = to_truth bits.bvssubo a b
+apply I BvsmuloOp t (a ∷ b ∷ []) = to_truth bits.bvsmulo a b
+apply I (ZeroExtendOp k) t (a ∷ []) = BitVecValue (width a + k) (number a)
+apply I SetMemberOp t (a ∷ s ∷ []) = BoolValue (is_member a (elements s))
+apply I SetSubsetOp t (r ∷ s ∷ []) = BoolValue (is_subset (elements r) (elements s))
+apply I SetInterOp t (r ∷ s ∷ []) = set_of (intersection (elements r) (elements s))
+apply I OptionGetOp t (a ∷ []) = value_inside (I.inside_none t) a
+apply I (RecordGetOp x) t (a ∷ []) = attribute_value x a
+apply I (StringLikeOp p) t (a ∷ []) = BoolValue (matches p (characters a))
+apply I (ExtOp o) t (a ∷ []) = apply_extension I o a
+apply I o t vs = BoolValue false

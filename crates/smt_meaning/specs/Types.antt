@@ -1,0 +1,166 @@
+-- The types of terms and of what operators give.
+use Rattle.std.specs.Prelude.{ℕ, ◌+◌, Bool, true, false, ◌&&◌, nat_le, bytes_eq, List, [], ◌∷◌, map, Option, Some, None}
+use Rattle.std.specs.Bool.{then_some}
+use Rattle.std.specs.Ordering.{nat_cmp, ordering_then, is_eq}
+use Rattle.std.specs.declared.cmp.Ordering.{Ordering}
+use Rattle.std.specs.declared.cmp.Ordering.TheVariants.{Less, Equal, Greater}
+use Rattle.smt_meaning.specs.ValueOrder.{text_cmp}
+use Rattle.smt_meaning.specs.Plain.{ExtensionKind, IpAddrKind, DecimalKind, DatetimeKind, DurationKind, PlainType, OptionType, BitVecType, BoolType, EntityType, ExtensionType, StringType, RecordType, SetType, AttributeTypes, no_attributes, attribute, ExtensionOp, DatetimeOfBitVecOp, DatetimeValOp, DecimalValOp, DurationOfBitVecOp, DurationValOp, IpAddrV4Op, IpAddrV6Op, IpIsV4Op, IpPrefixV4Op, IpPrefixV6Op, PlainOp, AndOp, BvaddOp, BvlshrOp, BvmulOp, BvnegOp, BvnegoOp, BvsaddoOp, BvsdivOp, BvshlOp, BvsleOp, BvsltOp, BvsmodOp, BvsmuloOp, BvsremOp, BvssuboOp, BvsubOp, BvudivOp, BvuleOp, BvultOp, BvuremOp, EqOp, ExtOp, IteOp, NotOp, OptionGetOp, OrOp, RecordGetOp, SetInterOp, SetMemberOp, SetSubsetOp, StringLikeOp, UufOp, ZeroExtendOp, PlainExtension, DecimalOf, Ipv4Of, Ipv6Of, DatetimeOf, DurationOf, PlainLiteral, BitVecLiteral, BoolLiteral, EntityLiteral, ExtensionLiteral, StringLiteral, PlainTerm, Application, NoneTerm, LiteralTerm, RecordTerm, SetTerm, SomeTerm, VariableTerm, PlainTerms, PlainFields, no_fields, one_field, list_of_terms}
+
+-- the place of an extension type, and of a type's kind
+abbrev pub extension_kind_place : ExtensionKind → ℕ
+extension_kind_place IpAddrKind = 0
+extension_kind_place DecimalKind = 1
+extension_kind_place DatetimeKind = 2
+extension_kind_place DurationKind = 3
+
+abbrev pub type_place : PlainType → ℕ
+type_place (OptionType t) = 0
+type_place (BitVecType n) = 1
+type_place BoolType = 2
+type_place (EntityType e) = 3
+type_place (ExtensionType k) = 4
+type_place StringType = 5
+type_place (RecordType fs) = 6
+type_place (SetType t) = 7
+
+-- the order of types, by kind and then part by part
+abbrev mutual
+  pub type_cmp : PlainType → PlainType → Ordering
+  type_cmp (OptionType t) (OptionType u) = type_cmp t u
+  type_cmp (BitVecType n) (BitVecType m) = nat_cmp n m
+  type_cmp (EntityType e) (EntityType f) = text_cmp e f
+  type_cmp (ExtensionType k) (ExtensionType l) = nat_cmp (extension_kind_place k) (extension_kind_place l)
+  type_cmp (RecordType x) (RecordType y) = attribute_types_cmp x y
+  type_cmp (SetType t) (SetType u) = type_cmp t u
+  type_cmp t u = nat_cmp (type_place t) (type_place u)
+
+  pub attribute_types_cmp : AttributeTypes → AttributeTypes → Ordering
+  attribute_types_cmp no_attributes no_attributes = Equal
+  attribute_types_cmp no_attributes (attribute b u y) = Less
+  attribute_types_cmp (attribute a t x) no_attributes = Greater
+  attribute_types_cmp (attribute a t x) (attribute b u y) = ordering_then (ordering_then (text_cmp a b) (type_cmp t u)) (attribute_types_cmp x y)
+
+-- equality of types, as a test
+abbrev pub type_eq : PlainType → PlainType → Bool
+type_eq t u = is_eq (type_cmp t u)
+
+-- the extension type of a value
+abbrev pub kind_of : PlainExtension → ExtensionKind
+kind_of (DecimalOf z) = DecimalKind
+kind_of (Ipv4Of a p) = IpAddrKind
+kind_of (Ipv6Of a p) = IpAddrKind
+kind_of (DatetimeOf z) = DatetimeKind
+kind_of (DurationOf z) = DurationKind
+
+abbrev pub literal_type : PlainLiteral → PlainType
+literal_type (BitVecLiteral n a) = BitVecType n
+literal_type (BoolLiteral b) = BoolType
+literal_type (EntityLiteral e i) = EntityType e
+literal_type (ExtensionLiteral x) = ExtensionType (kind_of x)
+literal_type (StringLiteral s) = StringType
+
+-- the type of a term: an application's as it stands
+abbrev mutual
+  pub type_of : PlainTerm → PlainType
+  type_of (Application o ts t) = t
+  type_of (NoneTerm t) = OptionType t
+  type_of (LiteralTerm l) = literal_type l
+  type_of (RecordTerm fs) = RecordType (field_types fs)
+  type_of (SetTerm t ts) = SetType t
+  type_of (SomeTerm t) = OptionType (type_of t)
+  type_of (VariableTerm id t) = t
+
+  pub field_types : PlainFields → AttributeTypes
+  field_types no_fields = no_attributes
+  field_types (one_field a t fs) = attribute a (type_of t) (field_types fs)
+
+abbrev pub types_of : PlainTerms → List PlainType
+types_of ts = map type_of (list_of_terms ts)
+
+-- the parts of types
+abbrev pub is_bits : PlainType → Bool
+is_bits (BitVecType n) = true
+is_bits t = false
+
+abbrev pub width_in : PlainType → Option ℕ
+width_in (BitVecType n) = Some n
+width_in t = None
+
+abbrev pub is_set : PlainType → Bool
+is_set (SetType t) = true
+is_set t = false
+
+abbrev pub inner_type : PlainType → Option PlainType
+inner_type (OptionType t) = Some t
+inner_type t = None
+
+abbrev pub attribute_in : List ℕ → AttributeTypes → Option PlainType
+attribute_in x no_attributes = None
+attribute_in x (attribute a t fs) = elim (bytes_eq x a) [ true ↦ Some t | false ↦ attribute_in x fs ]
+
+abbrev pub attribute_type : List ℕ → PlainType → Option PlainType
+attribute_type x (RecordType fs) = attribute_in x fs
+attribute_type x t = None
+
+abbrev pub extended_type : ℕ → PlainType → Option PlainType
+extended_type k (BitVecType n) = then_some (nat_le (n + k) 128) (BitVecType (n + k))
+extended_type k t = None
+
+-- results of operators on bitvectors of one width
+abbrev pub bits_and_bits : PlainType → PlainType → Bool
+bits_and_bits t u = is_bits t && type_eq t u
+
+-- the selectors and constructors of extension types
+abbrev pub extension_signature : ExtensionOp → (PlainType × PlainType)
+extension_signature DatetimeOfBitVecOp = (BitVecType 64, ExtensionType DatetimeKind)
+extension_signature DatetimeValOp = (ExtensionType DatetimeKind, BitVecType 64)
+extension_signature DecimalValOp = (ExtensionType DecimalKind, BitVecType 64)
+extension_signature DurationOfBitVecOp = (BitVecType 64, ExtensionType DurationKind)
+extension_signature DurationValOp = (ExtensionType DurationKind, BitVecType 64)
+extension_signature IpAddrV4Op = (ExtensionType IpAddrKind, BitVecType 32)
+extension_signature IpAddrV6Op = (ExtensionType IpAddrKind, BitVecType 128)
+extension_signature IpIsV4Op = (ExtensionType IpAddrKind, BoolType)
+extension_signature IpPrefixV4Op = (ExtensionType IpAddrKind, OptionType (BitVecType 5))
+extension_signature IpPrefixV6Op = (ExtensionType IpAddrKind, OptionType (BitVecType 7))
+
+-- the type that an operator gives to arguments of these types, or none where it does not take them
+abbrev pub result_type : PlainOp → List PlainType → Option PlainType
+result_type NotOp (t ∷ []) = then_some (type_eq t BoolType) BoolType
+result_type AndOp (t ∷ u ∷ []) = then_some (type_eq t BoolType && type_eq u BoolType) BoolType
+result_type OrOp (t ∷ u ∷ []) = then_some (type_eq t BoolType && type_eq u BoolType) BoolType
+result_type EqOp (t ∷ u ∷ []) = then_some (type_eq t u) BoolType
+result_type IteOp (g ∷ t ∷ u ∷ []) = then_some (type_eq g BoolType && type_eq t u) t
+result_type (UufOp f) (t ∷ []) = then_some (type_eq t f.argument) f.output
+result_type BvnegOp (t ∷ []) = then_some (is_bits t) t
+result_type BvaddOp (t ∷ u ∷ []) = then_some (bits_and_bits t u) t
+result_type BvsubOp (t ∷ u ∷ []) = then_some (bits_and_bits t u) t
+result_type BvmulOp (t ∷ u ∷ []) = then_some (bits_and_bits t u) t
+result_type BvudivOp (t ∷ u ∷ []) = then_some (bits_and_bits t u) t
+result_type BvuremOp (t ∷ u ∷ []) = then_some (bits_and_bits t u) t
+result_type BvsdivOp (t ∷ u ∷ []) = then_some (bits_and_bits t u) t
+result_type BvsremOp (t ∷ u ∷ []) = then_some (bits_and_bits t u) t
+result_type BvsmodOp (t ∷ u ∷ []) = then_some (bits_and_bits t u) t
+result_type BvshlOp (t ∷ u ∷ []) = then_some (bits_and_bits t u) t
+result_type BvlshrOp (t ∷ u ∷ []) = then_some (bits_and_bits t u) t
+result_type BvultOp (t ∷ u ∷ []) = then_some (bits_and_bits t u) BoolType
+result_type BvuleOp (t ∷ u ∷ []) = then_some (bits_and_bits t u) BoolType
+result_type BvsltOp (t ∷ u ∷ []) = then_some (bits_and_bits t u) BoolType
+result_type BvsleOp (t ∷ u ∷ []) = then_some (bits_and_bits t u) BoolType
+result_type BvnegoOp (t ∷ []) = then_some (is_bits t) BoolType
+result_type BvsaddoOp (t ∷ u ∷ []) = then_some (bits_and_bits t u) BoolType
+result_type BvssuboOp (t ∷ u ∷ []) = then_some (bits_and_bits t u) BoolType
+result_type BvsmuloOp (t ∷ u ∷ []) = then_some (bits_and_bits t u) BoolType
+result_type (ZeroExtendOp k) (t ∷ []) = extended_type k t
+result_type SetMemberOp (t ∷ u ∷ []) = then_some (type_eq u (SetType t)) BoolType
+result_type SetSubsetOp (t ∷ u ∷ []) = then_some (is_set t && type_eq t u) BoolType
+result_type SetInterOp (t ∷ u ∷ []) = then_some (is_set t && type_eq t u) t
+result_type OptionGetOp (t ∷ []) = inner_type t
+result_type (RecordGetOp x) (t ∷ []) = attribute_type x t
+result_type (StringLikeOp p) (t ∷ []) = then_some (type_eq t StringType) BoolType
+result_type (ExtOp o) (t ∷ []) = then_some (type_eq t (extension_signature o).0) (extension_signature o).1
+result_type o ts = None
+
+abbrev pub is_type : Option PlainType → PlainType → Bool
+is_type None t = false
+is_type (Some u) t = type_eq u t

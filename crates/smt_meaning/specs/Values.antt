@@ -1,0 +1,25 @@
+-- The values of terms.
+use Rattle.std.specs.Prelude.{ℕ, Bool, List}
+use Rattle.smt_meaning.specs.Plain.{PlainExtension}
+
+-- A value, as terms have it. Strings and ids are lists of code points. The order of values goes by kind in the order
+-- of these constructors, and then part by part.
+mutual
+  pub data Value : Type 0 where
+    BoolValue : Bool → Value
+    BitVecValue : (width number : ℕ) → Value
+    StringValue : List ℕ → Value
+    EntityValue : (type id : List ℕ) → Value
+    ExtensionValue : PlainExtension → Value
+    NoneValue : Value
+    SomeValue : Value → Value
+    RecordValue : FieldValues → Value
+    SetValue : Values → Value
+
+  pub data Values : Type 0 where
+    no_values : Values
+    one_value : Value → Values → Values
+
+  pub data FieldValues : Type 0 where
+    no_field_values : FieldValues
+    one_field_value : (attribute : List ℕ) → Value → FieldValues → FieldValues
