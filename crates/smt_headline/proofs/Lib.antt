@@ -1,7 +1,6 @@
 pub mod Agree
 pub mod Applied
 pub mod Distinct
-pub mod EachState
 pub mod Example
 pub mod Extensions
 pub mod FineTerms

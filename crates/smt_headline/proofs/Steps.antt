@@ -101,15 +101,14 @@ names_drawn enums s ls u d g m = record {
 
 -- ---- what is declared
 
-commands_declare : (enums : Enums) (us : List PlainTerm) (s : Tables) (ls : List Line) → EachLine (OriginOf enums us s) ls
-    → AllByRecursion (Declares (BelongsToAnEntry enums us s) (λ n d ps place fields. tt) (λ n d ps c place field. tt)) (commands ls)
+commands_declare : (enums : Enums) (us : List PlainTerm) (s : Tables) (ls : List Line) → EachLine (OriginOf enums us s) ls → AllByRecursion (Declares (BelongsToAnEntry enums us s)) (commands ls)
 commands_declare enums us s [] h = tt
 commands_declare enums us s (Comment x ∷ ls) h = commands_declare enums us s ls h.1
-commands_declare enums us s (DeclareDatatype n ps cs ∷ ls) h = (tt, commands_declare enums us s ls h.1)
-commands_declare enums us s (DeclareConst n sort ∷ ls) h = (h.0, commands_declare enums us s ls h.1)
-commands_declare enums us s (DeclareFun n a sort ∷ ls) h = (h.0, commands_declare enums us s ls h.1)
-commands_declare enums us s (DefineFun n sort body ∷ ls) h = (h.0, commands_declare enums us s ls h.1)
-commands_declare enums us s (Assert e ∷ ls) h = (tt, commands_declare enums us s ls h.1)
+commands_declare enums us s (DeclareDatatype n ps cs ∷ ls) h = (λ state. (λ u n place fields. tt, λ u n c place field. tt, λ u. tt), commands_declare enums us s ls h.1)
+commands_declare enums us s (DeclareConst n sort ∷ ls) h = (λ state. h.0, commands_declare enums us s ls h.1)
+commands_declare enums us s (DeclareFun n a sort ∷ ls) h = (λ state. h.0, commands_declare enums us s ls h.1)
+commands_declare enums us s (DefineFun n sort body ∷ ls) h = (λ state. h.0, commands_declare enums us s ls h.1)
+commands_declare enums us s (Assert e ∷ ls) h = (λ state. tt, commands_declare enums us s ls h.1)
 commands_declare enums us s (Push ∷ ls) h = absurd h.0
 commands_declare enums us s (Pop ∷ ls) h = absurd h.0
 
@@ -184,7 +183,7 @@ encode_fits enums x state ts f conditions r =
       reached = record { terms = parts.1; functions = good.functions; types = good.types };
       drawn = names_drawn enums x.tables made.lines u f.drawn grown parts.0;
       declared = r.fits;
-      only = run_each (BelongsToAnEntry enums (reached_terms all) u) (λ n d ps place fields. tt) (λ n d ps c place field. tt) (commands (encode enums ts x.tables).lines)
+      only = run_each (BelongsToAnEntry enums (reached_terms all) u) (commands (encode enums ts x.tables).lines)
           (commands_declare enums (reached_terms all) u (encode enums ts x.tables).lines lines) state r.after (entries_last enums x.terms ts x.tables u k (names_of state) f.only) r.runs;
     }
   where

@@ -5,9 +5,9 @@ use Rattle.std.specs.List.{list_all}
 use Rattle.std.proofs.lemmas.Bool.{not-true, and_parts, and_from, cond-true, cond-false, or_parts, cases_Bool, false≢true}
 use Rattle.std.proofs.lemmas.Slice.Eq.{bytes_eq-Decides}
 use Rattle.smt_lexicon.specs.Reading.{Expression}
-use Rattle.smt_semantics.specs.Script.{Command, DeclareDatatype, DeclareConst, DefineFun, Assert, DeclareFun, SetLogic, SetOption, is_simple_symbol, is_attribute_value, Reset, Exit, Push, Pop, Constructor, Entry, Constant, Function, Defined, Builds, Selects, State, built_in_names, is_in, is_reserved, has_name, is_taken, is_new_datatype, is_sort, has_sort, names_of, declare, declare_selectors, declare_constructors, with_name, with_sort, with_assertion, obey, knows, ◌>>=◌}
+use Rattle.smt_semantics.specs.Script.{Constructor, Entry, Builds, Selects, State, built_in_names, is_in, is_reserved, has_name, is_taken, is_new_datatype, is_sort, has_sort, names_of, declare, declare_selectors, declare_constructors, with_name, with_sort, ◌>>=◌}
 use Rattle.smt_semantics.specs.Meanings.{selectors_named, constructors_named, with_names, names_in, are_new, are_fields, DatatypesLeave, StepsKeepLevels, PopsGiveBack}
-use Rattle.smt_semantics.proofs.Results.{some_is, if_not, if_so, bind_gives}
+use Rattle.smt_semantics.proofs.CommandInduction.{Change, AddsLevel, changed, IsAllowed, adds_such, stepped}
 
 not_both : (m n : List ℕ) → bytes_eq m n ≡ false → bytes_eq n m ≡ false
 not_both m n h = elim (cases_Bool (bytes_eq n m)) [
@@ -77,42 +77,13 @@ pops_give_back s t h k = rw (h, k) refl
 
 -- ---- levels
 
-declare_below : (n : List ℕ) (x : Entry) (s t : State) → declare n x s ≡ Some t → t.below ≡ s.below
-declare_below n x s t h = ap (λ (u : State). u.below) (sym (some_is (with_name n x s) t (if_not (is_taken s n) (Some (with_name n x s)) t h).1))
-
-selectors_below : (d : List ℕ) (ps : List (List ℕ)) (c : List ℕ) (place : ℕ) (xs : List (List ℕ × Expression)) (s t : State) → declare_selectors d ps c place xs s ≡ Some t → t.below ≡ s.below
-selectors_below d ps c place [] s t h = ap (λ (u : State). u.below) (sym (some_is s t h))
-selectors_below d ps c place (x ∷ xs) s t h =
-    let e = Selects d ps c place x.1 in
-    let p = bind_gives (declare x.0 e s) (declare_selectors d ps c (suc place) xs) t (if_so (is_sort (λ n i. has_sort s n i || (is_in n ps && eqb i 0)) x.1) (declare x.0 e s >>= declare_selectors d ps c (suc place) xs) t h).1 in
-    selectors_below d ps c (suc place) xs p.0 t p.2 ∙ declare_below x.0 e s p.0 p.1
-
-constructors_below : (d : List ℕ) (ps : List (List ℕ)) (place : ℕ) (cs : List Constructor) (s t : State) → declare_constructors d ps place cs s ≡ Some t → t.below ≡ s.below
-constructors_below d ps place [] s t h = ap (λ (u : State). u.below) (sym (some_is s t h))
-constructors_below d ps place (c ∷ cs) s t h =
-    let x = Builds d ps place (map (λ y. y.1) c.selectors) in
-    let p = bind_gives (declare c.name x s) (λ u. declare_selectors d ps c.name 0 c.selectors u >>= declare_constructors d ps (suc place) cs) t h in
-    let q = bind_gives (declare_selectors d ps c.name 0 c.selectors p.0) (declare_constructors d ps (suc place) cs) t p.2 in
-    constructors_below d ps (suc place) cs q.0 t q.2 ∙ selectors_below d ps c.name 0 c.selectors p.0 q.0 q.1 ∙ declare_below c.name x s p.0 p.1
-
-obey_below : (c : Command) (s t : State) → (c ≡ Reset → ⊥) → (c ≡ Push → ⊥) → (c ≡ Pop → ⊥) → obey c s ≡ Some t → t.below ≡ s.below
-obey_below (DeclareDatatype d ps cs) s t r v w h =
-    let p = bind_gives (declare_constructors d ps 0 cs s) (λ u. Some (with_sort d (length ps) u)) t (if_so (is_new_datatype s d ps cs) (declare_constructors d ps 0 cs s >>= λ u. Some (with_sort d (length ps) u)) t h).1 in
-    ap (λ (u : State). u.below) (sym (some_is (with_sort d (length ps) p.0) t p.2)) ∙ constructors_below d ps 0 cs s p.0 p.1
-obey_below (DeclareConst n sort) s t r v w h = declare_below n (Constant sort) s t (if_so (is_sort (has_sort s) sort) (declare n (Constant sort) s) t h).1
-obey_below (DefineFun n sort body) s t r v w h = declare_below n (Defined sort body) s t (if_so (is_sort (has_sort s) sort && knows s body) (declare n (Defined sort body) s) t h).1
-obey_below (Assert e) s t r v w h = ap (λ (u : State). u.below) (sym (some_is (with_assertion e s) t (if_so (knows s e) (Some (with_assertion e s)) t h).1))
-obey_below (SetLogic l) s t r v w h = ap (λ (u : State). u.below) (sym (some_is s t (if_so (is_simple_symbol l) (Some s) t h).1))
-obey_below (SetOption o x) s t r v w h = ap (λ (u : State). u.below) (sym (some_is s t (if_so (is_simple_symbol o && is_attribute_value x) (Some s) t h).1))
-obey_below (DeclareFun f a sort) s t r v w h = declare_below f (Function a sort) s t (if_so (is_sort (has_sort s) a && is_sort (has_sort s) sort) (declare f (Function a sort) s) t h).1
-obey_below Reset s t r v w h = absurd (r refl)
-obey_below Push s t r v w h = absurd (v refl)
-obey_below Pop s t r v w h = absurd (w refl)
-obey_below Exit s t r v w h = ap (λ (u : State). u.below) (sym (some_is (record s { ended = true }) t h))
-obey_below c s t r v w h = ap (λ (u : State). u.below) (sym (some_is s t h))
+-- a change within one level
+abbrev IsWithin : State → Change → Type 0
+IsWithin s x = x ≡ AddsLevel → ⊥
 
 pub steps_keep_levels : StepsKeepLevels
-steps_keep_levels c s t r v w h = elim (cases_Bool s.ended) [
-  | inl e ↦ ap (λ (u : State). u.below) (sym (some_is s t (sym (cond-true s.ended (Some s) (obey c s) e) ∙ h)))
-  | inr e ↦ obey_below c s t r v w (sym (cond-false s.ended (Some s) (obey c s) e) ∙ h)
-]
+steps_keep_levels c s t r v w h = stepped IsWithin (λ u. u.below ≡ s.below) kept c s t (adds_such IsWithin c r w (λ u x q e. v (q e)) s) h refl
+  where
+    kept : (x : Change) (u : State) → IsWithin u x → IsAllowed u x → u.below ≡ s.below → (changed x u).below ≡ s.below
+    kept AddsLevel u a allowed e = absurd (a refl)
+    kept x u a allowed e = e

@@ -1,5 +1,5 @@
 -- What a command leaves has the values and the sorts of what was there before it.
-use Rattle.std.proofs.Common.{◌≡◌, ◌⊎◌, ℕ, suc, Bool, true, false, ◌&&◌, ◌||◌, eqb, cond, List, [], ◌∷◌, map, length, refl, sym, ap, ap₂, ◌∙◌, subst, inl, inr, Option, Some, None}
+use Rattle.std.proofs.Common.{◌≡◌, ℕ, Bool, true, false, ◌&&◌, ◌||◌, eqb, List, [], ◌∷◌, map, refl, sym, ap, ap₂, ◌∙◌, subst, inl, inr, Option, Some, None}
 use Rattle.std.specs.Prelude.{codes, bytes_eq}
 use Rattle.std.proofs.lemmas.Bool.{and_parts, and_from, or_cases, or_parts, cases_Bool, false≢true}
 use Rattle.std.proofs.lemmas.Slice.Eq.{bytes_eq-Decides}
@@ -7,10 +7,11 @@ use Rattle.smt_meaning.specs.Plain.{StringLikeOp, ZeroExtendOp}
 use Rattle.smt_semantics.specs.ScriptValues.{ScriptValue}
 use Rattle.smt_lexicon.specs.Lexicon.{Bits, Number, Text, Name}
 use Rattle.smt_lexicon.specs.Reading.{Expression, Leaf, Node, Expressions, Nil, Cons}
-use Rattle.smt_semantics.specs.Script.{Command, DeclareDatatype, DeclareConst, DefineFun, Assert, DeclareFun, SetLogic, SetOption, is_simple_symbol, is_attribute_value, Reset, Exit, Push, Pop, Function, obey, Constructor, Entry, Constant, Defined, Builds, Selects, State, step, declare, declare_selectors, declare_constructors, with_name, with_sort, with_assertion, with_level, has_name, has_sort, is_taken, is_new_datatype, is_reserved, is_in, is_sort, are_sorts, is_bit_sort, count, is_first, are_all, is_stated, each_stated, knows, Shape, BitLiteral, Qualified, Applied, Extended, Tested, Matched, Unformed, shape, shape_is_known, built_in_names, names_of, look_up, operator_of, ◌>>=◌}
+use Rattle.smt_semantics.specs.Script.{Command, DeclareConst, DefineFun, obey, Entry, Constant, Defined, State, step, name, declare, with_name, with_sort, has_name, has_sort, is_taken, is_reserved, is_in, is_sort, are_sorts, is_bit_sort, count, is_first, are_all, is_stated, each_stated, knows, Shape, BitLiteral, Qualified, Applied, Extended, Tested, Matched, Unformed, shape, shape_is_known, built_in_names, names_of, look_up, operator_of, ◌>>=◌}
 use Rattle.smt_semantics.specs.Sorts.{Entries, entries, entry_sort, applied_sort, named_sort, qualified_sort, tested_sort, operator_sort, shape_sort, sort_in, sorts_in, expression_sort, each_there, first_there}
-use Rattle.smt_semantics.specs.Value.{ScriptInterpretation, Meaning, by_operator, applied_value, constant, qualified_value, is_built, of_one, operator_value, evaluate, evaluate_each, first_sort, shape_value, meaning, entry_meaning, body_of, StepsKeepValues, NamesHaveValues}
-use Rattle.smt_semantics.proofs.Results.{or_left, or_right, some_is, if_not, if_so, bind_gives}
+use Rattle.smt_semantics.specs.Value.{ScriptInterpretation, Meaning, by_operator, applied_value, constant, qualified_value, is_built, of_one, operator_value, evaluate, evaluate_each, first_sort, shape_value, meaning, entry_meaning, body_of, expression_value, StepsKeepValues, NamesHaveValues}
+use Rattle.smt_semantics.proofs.CommandInduction.{Change, AddsName, AddsSort, changed, IsAllowed, Any, adds_such, step_is, stepped}
+use Rattle.smt_semantics.proofs.Results.{or_left, or_right, some_is, if_not, if_so}
 
 bind_same : {A B : Type 0} (o : Option A) (f g : A → Option B) → ((a : A) → f a ≡ g a) → (o >>= f) ≡ (o >>= g)
 bind_same (Some a) f g h = h a
@@ -166,9 +167,6 @@ keeps_itself j s t e k = record {
   };
 }
 
-same_state : (j : ScriptInterpretation) (s t : State) → s ≡ t → Keeps j s t
-same_state j s t e = subst (λ (u : State). Keeps j s u) e (keeps_itself j s s refl (λ n k h. h))
-
 keeps_then : (j : ScriptInterpretation) (s t u : State) → Keeps j s t → Keeps j t u → Keeps j s u
 keeps_then j s t u p q = record {
   sorts = λ n k h. q.sorts n k (p.sorts n k h);
@@ -179,11 +177,6 @@ keeps_then j s t u p q = record {
   };
 }
 
-declared_is : (n : List ℕ) (entry : Entry) (s t : State) → declare n entry s ≡ Some t → (has_name s n ≡ false) × (with_name n entry s ≡ t)
-declared_is n entry s t h =
-    let p = if_not (is_taken s n) (Some (with_name n entry s)) t h in
-    ((or_parts (has_name s n) (is_reserved n) p.0).0, some_is (with_name n entry s) t p.1)
-
 -- a name that is there is not the new one
 not_new : (s : State) (m n : List ℕ) → has_name s m ≡ true → has_name s n ≡ false → bytes_eq m n ≡ false
 not_new s m n h k = elim (cases_Bool (bytes_eq m n)) [
@@ -191,75 +184,43 @@ not_new s m n h k = elim (cases_Bool (bytes_eq m n)) [
   | inr e ↦ e
 ]
 
-declare_keeps : (j : ScriptInterpretation) (n : List ℕ) (entry : Entry) (s t : State) → declare n entry s ≡ Some t → Keeps j s t
-declare_keeps j n entry s t h =
-    let p = declared_is n entry s t h in
-    subst (λ (u : State). Keeps j s u) p.1 (record {
-      sorts = λ m k e. e;
-      there = λ m k. elim (or_cases (is_in m built_in_names) (is_in m (map (λ q. q.0) (names_of s))) k) [
-        | inl e ↦ or_left (is_in m built_in_names) _ e
-        | inr e ↦ or_right (is_in m built_in_names) (bytes_eq m n || is_in m (map (λ q. q.0) (names_of s))) (or_right (bytes_eq m n) (is_in m (map (λ q. q.0) (names_of s))) e)
-      ];
-      same = record {
-        entry = λ m k. rw (not_new s m n k p.0) refl;
-        value = λ m k x vs. rw (not_new s m n k p.0) refl;
-      };
-    })
+-- a name that is not taken is not there
+not_there : (s : State) (n : List ℕ) → is_taken s n ≡ false → has_name s n ≡ false
+not_there s n h = (or_parts (has_name s n) (is_reserved n) h).0
 
-selectors_keep : (j : ScriptInterpretation) (d : List ℕ) (ps : List (List ℕ)) (c : List ℕ) (place : ℕ) (xs : List (List ℕ × Expression)) (s t : State) → declare_selectors d ps c place xs s ≡ Some t → Keeps j s t
-selectors_keep j d ps c place [] s t h = same_state j s t (some_is s t h)
-selectors_keep j d ps c place (x ∷ xs) s t h =
-    let p = if_so (is_sort (λ n k. has_sort s n k || (is_in n ps && (eqb k 0))) x.1) (declare x.0 (Selects d ps c place x.1) s >>= declare_selectors d ps c (suc place) xs) t h in
-    let q = bind_gives (declare x.0 (Selects d ps c place x.1) s) (declare_selectors d ps c (suc place) xs) t p.1 in
-    keeps_then j s q.0 t (declare_keeps j x.0 (Selects d ps c place x.1) s q.0 q.1) (selectors_keep j d ps c (suc place) xs q.0 t q.2)
+change_keeps : (j : ScriptInterpretation) (x : Change) (s : State) → IsAllowed s x → Keeps j s (changed x s)
+change_keeps j (AddsName n entry) s allowed = record {
+  sorts = λ m k e. e;
+  there = λ m k. elim (or_cases (is_in m built_in_names) (is_in m (map (λ q. q.0) (names_of s))) k) [
+    | inl e ↦ or_left (is_in m built_in_names) _ e
+    | inr e ↦ or_right (is_in m built_in_names) (bytes_eq m n || is_in m (map (λ q. q.0) (names_of s))) (or_right (bytes_eq m n) (is_in m (map (λ q. q.0) (names_of s))) e)
+  ];
+  same = record {
+    entry = λ m k. rw (not_new s m n k (not_there s n allowed.0)) refl;
+    value = λ m k x vs. rw (not_new s m n k (not_there s n allowed.0)) refl;
+  };
+}
+change_keeps j (AddsSort d parameters) s allowed = keeps_itself j s (with_sort d parameters s) refl (λ n k h. or_right (bytes_eq n d && eqb parameters k) (has_sort s n k) h)
+change_keeps j x s allowed = keeps_itself j s (changed x s) refl (λ n k h. h)
 
-constructors_keep : (j : ScriptInterpretation) (d : List ℕ) (ps : List (List ℕ)) (place : ℕ) (cs : List Constructor) (s t : State) → declare_constructors d ps place cs s ≡ Some t → Keeps j s t
-constructors_keep j d ps place [] s t h = same_state j s t (some_is s t h)
-constructors_keep j d ps place (c ∷ cs) s t h =
-    let x = Builds d ps place (map (λ y. y.1) c.selectors) in
-    let p = bind_gives (declare c.name x s) (λ u. declare_selectors d ps c.name 0 c.selectors u >>= declare_constructors d ps (suc place) cs) t h in
-    let q = bind_gives (declare_selectors d ps c.name 0 c.selectors p.0) (declare_constructors d ps (suc place) cs) t p.2 in
-    keeps_then j s p.0 t (declare_keeps j c.name x s p.0 p.1)
-    (keeps_then j p.0 q.0 t (selectors_keep j d ps c.name 0 c.selectors p.0 q.0 q.1) (constructors_keep j d ps (suc place) cs q.0 t q.2))
+-- what is kept of an expression that is known
+abbrev pub KeepsValue : ScriptInterpretation → State → State → Expression → Type 0
+KeepsValue j s t e = (knows t e ≡ true) × (expression_value j t e ≡ expression_value j s e) × (expression_sort t e ≡ expression_sort s e)
 
-more_sorts : (n d : List ℕ) (k parameters : ℕ) (s : State) → has_sort s n k ≡ true → has_sort (with_sort d parameters s) n k ≡ true
-more_sorts n d k parameters s h = or_right (bytes_eq n d && eqb parameters k) (has_sort s n k) h
+keeps_value : (j : ScriptInterpretation) (s t : State) (e : Expression) → Keeps j s t → knows s e ≡ true → KeepsValue j s t e
+keeps_value j s t e keeps k = (
+  still_known (has_sort s) (has_sort t) (has_name s) (has_name t) keeps.sorts keeps.there e k,
+  same_value (has_sort s) (has_name s) (entries t) (entries s) (meaning j (names_of t)) (meaning j (names_of s)) keeps.same e k,
+  same_sort_in (has_sort s) (has_name s) (entries t) (entries s) keeps.same.entry e k,
+)
 
-obey_keeps : (j : ScriptInterpretation) (c : Command) (s t : State) → (c ≡ Reset → ⊥) → (c ≡ Pop → ⊥) → obey c s ≡ Some t → Keeps j s t
-obey_keeps j (DeclareDatatype d ps cs) s t r v h =
-    let p = if_so (is_new_datatype s d ps cs) (declare_constructors d ps 0 cs s >>= λ u. Some (with_sort d (length ps) u)) t h in
-    let q = bind_gives (declare_constructors d ps 0 cs s) (λ u. Some (with_sort d (length ps) u)) t p.1 in
-    keeps_then j s q.0 t (constructors_keep j d ps 0 cs s q.0 q.1) (subst (λ (u : State). Keeps j q.0 u) (some_is (with_sort d (length ps) q.0) t q.2) (keeps_itself j q.0 (with_sort d (length ps) q.0) refl (λ n k e. more_sorts n d k (length ps) q.0 e)))
-obey_keeps j (DeclareConst n sort) s t r v h = declare_keeps j n (Constant sort) s t (if_so (is_sort (has_sort s) sort) (declare n (Constant sort) s) t h).1
-obey_keeps j (DefineFun n sort body) s t r v h = declare_keeps j n (Defined sort body) s t (if_so (is_sort (has_sort s) sort && knows s body) (declare n (Defined sort body) s) t h).1
-obey_keeps j (Assert e) s t r v h =
-    subst (λ (u : State). Keeps j s u) (some_is (with_assertion e s) t (if_so (knows s e) (Some (with_assertion e s)) t h).1) (keeps_itself j s (with_assertion e s) refl (λ n k i. i))
-obey_keeps j (SetLogic l) s t r v h = same_state j s t (some_is s t (if_so (is_simple_symbol l) (Some s) t h).1)
-obey_keeps j (SetOption o x) s t r v h = same_state j s t (some_is s t (if_so (is_simple_symbol o && is_attribute_value x) (Some s) t h).1)
-obey_keeps j (DeclareFun f a sort) s t r v h = declare_keeps j f (Function a sort) s t (if_so (is_sort (has_sort s) a && is_sort (has_sort s) sort) (declare f (Function a sort) s) t h).1
-obey_keeps j Reset s t r v h = absurd (r refl)
-obey_keeps j Pop s t r v h = absurd (v refl)
-obey_keeps j Push s t r v h = subst (λ (u : State). Keeps j s u) (some_is (with_level s) t h) (keeps_itself j s (with_level s) refl (λ n k i. i))
-obey_keeps j Exit s t r v h = subst (λ (u : State). Keeps j s u) (some_is (record s { ended = true }) t h) (keeps_itself j s (record s { ended = true }) refl (λ n k i. i))
-obey_keeps j c s t r v h = same_state j s t (some_is s t h)
-
-if_either : (b : Bool) (o p : Option State) (t : State) → cond b o p ≡ Some t → ((b ≡ true) × (o ≡ Some t)) ⊎ ((b ≡ false) × (p ≡ Some t))
-if_either true o p t h = inl (refl, h)
-if_either false o p t h = inr (refl, h)
-
-step_keeps : (j : ScriptInterpretation) (c : Command) (s t : State) → (c ≡ Reset → ⊥) → (c ≡ Pop → ⊥) → step c s ≡ Some t → Keeps j s t
-step_keeps j c s t r v h = elim (if_either s.ended (Some s) (obey c s) t h) [
-  | inl p ↦ same_state j s t (some_is s t p.1)
-  | inr p ↦ obey_keeps j c s t r v p.1
-]
+pub changes_keep_values : (j : ScriptInterpretation) (x : Change) (s : State) (e : Expression) → IsAllowed s x → knows s e ≡ true → KeepsValue j s (changed x s) e
+changes_keep_values j x s e allowed k = keeps_value j s (changed x s) e (change_keeps j x s allowed) k
 
 pub steps_keep_values : StepsKeepValues
 steps_keep_values j c s t e r v h k =
-    let keeps = step_keeps j c s t r v h in (
-      still_known (has_sort s) (has_sort t) (has_name s) (has_name t) keeps.sorts keeps.there e k,
-      same_value (has_sort s) (has_name s) (entries t) (entries s) (meaning j (names_of t)) (meaning j (names_of s)) keeps.same e k,
-      same_sort_in (has_sort s) (has_name s) (entries t) (entries s) keeps.same.entry e k,
-    )
+    let kept : (x : Change) (u : State) → Any u x → IsAllowed u x → Keeps j s u → Keeps j s (changed x u) = λ x u a allowed keeps. keeps_then j s u (changed x u) keeps (change_keeps j x u allowed) in
+    keeps_value j s t e (stepped Any (Keeps j s) kept c s t (adds_such Any c r v (λ u x q. tt) s) h (keeps_itself j s s refl (λ n i p. p))) k
 
 -- ---- the new name
 
@@ -267,31 +228,33 @@ steps_keep_values j c s t e r v h k =
 bytes_same : (n : List ℕ) → bytes_eq n n ≡ true
 bytes_same n = (bytes_eq-Decides n n).1 refl
 
-record IsNew (j : ScriptInterpretation) (n : List ℕ) (entry : Entry) (s t : State) : Type 0 where
-  there : has_name t n ≡ true
-  value : constant (meaning j (names_of t)) n ≡ entry_meaning j n (evaluate (entries s) (meaning j (names_of s)) (body_of entry)) entry None []
-  sort : expression_sort t (Leaf (Name n)) ≡ entry_sort entry []
+-- what a new name is worth
+pub record IsNew (j : ScriptInterpretation) (n : List ℕ) (entry : Entry) (s t : State) : Type 0 where
+  pub there : knows t (name n) ≡ true
+  pub value : expression_value j t (name n) ≡ entry_meaning j n (expression_value j s (body_of entry)) entry None []
+  pub sort : expression_sort t (name n) ≡ entry_sort entry []
 
-new_name : (j : ScriptInterpretation) (n : List ℕ) (entry : Entry) (s t : State) → declare n entry s ≡ Some t → IsNew j n entry s t
-new_name j n entry s t h =
-    let p = declared_is n entry s t h in
-    let b = or_parts (is_in n built_in_names) (is_in n (map (λ q. q.0) (names_of s))) p.0 in
+pub new_name : (j : ScriptInterpretation) (n : List ℕ) (entry : Entry) (s : State) → is_taken s n ≡ false → IsNew j n entry s (with_name n entry s)
+new_name j n entry s h =
+    let b = or_parts (is_in n built_in_names) (is_in n (map (λ q. q.0) (names_of s))) (not_there s n h) in
     let c = or_parts (bytes_eq n (codes "true")) _ b.0 in
     let d = or_parts (bytes_eq n (codes "false")) _ c.1 in
-    subst (λ (u : State). IsNew j n entry s u) p.1 (record {
+    record {
       there = or_right (is_in n built_in_names) (bytes_eq n n || is_in n (map (λ q. q.0) (names_of s))) (or_left (bytes_eq n n) (is_in n (map (λ q. q.0) (names_of s))) (bytes_same n));
       value = rw (c.0, d.0, bytes_same n) refl;
       sort = rw (c.0, d.0, bytes_same n) refl;
-    })
+    }
+
+declared : (j : ScriptInterpretation) (n : List ℕ) (entry : Entry) (s t : State) → declare n entry s ≡ Some t → IsNew j n entry s t
+declared j n entry s t h =
+    let p = if_not (is_taken s n) (Some (with_name n entry s)) t h in
+    subst (λ (u : State). IsNew j n entry s u) (some_is (with_name n entry s) t p.1) (new_name j n entry s p.0)
 
 not_ended : (c : Command) (s t : State) → s.ended ≡ false → step c s ≡ Some t → obey c s ≡ Some t
-not_ended c s t e h = elim (if_either s.ended (Some s) (obey c s) t h) [
-  | inl p ↦ absurd (false≢true (sym e ∙ p.0))
-  | inr p ↦ p.1
-]
+not_ended c s t e h = elim (step_is c s t h) [ inl p ↦ absurd (false≢true (sym e ∙ p.0)) | inr p ↦ p.1 ]
 
 pub names_have_values : NamesHaveValues
 names_have_values j n sort body s t e = (
-  λ h. (let new = new_name j n (Defined sort body) s t (if_so (is_sort (has_sort s) sort && knows s body) (declare n (Defined sort body) s) t (not_ended (DefineFun n sort body) s t e h)).1 in (new.there, new.value, new.sort)),
-  λ h. (let new = new_name j n (Constant sort) s t (if_so (is_sort (has_sort s) sort) (declare n (Constant sort) s) t (not_ended (DeclareConst n sort) s t e h)).1 in (new.there, new.value, new.sort)),
+  λ h. (let new = declared j n (Defined sort body) s t (if_so (is_sort (has_sort s) sort && knows s body) (declare n (Defined sort body) s) t (not_ended (DefineFun n sort body) s t e h)).1 in (new.there, new.value, new.sort)),
+  λ h. (let new = declared j n (Constant sort) s t (if_so (is_sort (has_sort s) sort) (declare n (Constant sort) s) t (not_ended (DeclareConst n sort) s t e h)).1 in (new.there, new.value, new.sort)),
 )

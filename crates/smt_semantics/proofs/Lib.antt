@@ -1,5 +1,6 @@
 pub mod Append
 pub mod Apply
+pub mod CommandInduction
 pub mod Commands
 pub mod Datatypes
 pub mod Extend

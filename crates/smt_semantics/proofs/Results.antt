@@ -1,5 +1,5 @@
 -- What gave a state, and tests that hold by one of their parts.
-use Rattle.std.proofs.Common.{◌≡◌, Bool, true, false, ◌||◌, cond, refl, Option, Some, None}
+use Rattle.std.proofs.Common.{◌≡◌, ◌⊎◌, Bool, true, false, ◌||◌, cond, refl, inl, inr, Option, Some, None}
 use Rattle.smt_semantics.specs.Script.{State, ◌>>=◌}
 
 pub or_left : (a b : Bool) → a ≡ true → (a || b) ≡ true
@@ -20,6 +20,10 @@ if_not false o t h = (refl, h)
 pub if_so : (b : Bool) (o : Option State) (t : State) → cond b o None ≡ Some t → (b ≡ true) × (o ≡ Some t)
 if_so true o t h = (refl, h)
 if_so false o t h = absurd cc
+
+pub if_either : (b : Bool) (o p : Option State) (t : State) → cond b o p ≡ Some t → ((b ≡ true) × (o ≡ Some t)) ⊎ ((b ≡ false) × (p ≡ Some t))
+if_either true o p t h = inl (refl, h)
+if_either false o p t h = inr (refl, h)
 
 pub bind_gives : (o : Option State) (f : State → Option State) (u : State) → (o >>= f) ≡ Some u → (t : State) × (o ≡ Some t) × (f t ≡ Some u)
 bind_gives (Some t) f u h = (t, refl, h)
