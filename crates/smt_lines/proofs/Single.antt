@@ -2,7 +2,7 @@
 use Rattle.std.proofs.Common.{◌≡◌, ℕ, true, false, ◌&&◌, List, [], ◌∷◌, ◌++◌, length, refl, sym, ap, ◌∙◌, subst, Option, Some, None, arith}
 use Rattle.std.specs.Prelude.{bytes_eq, nat_lt}
 use Rattle.std.specs.List.{list_all}
-use Rattle.std.proofs.lemmas.Bool.{and_from, cond-true, cond-false, lt-ltb}
+use Rattle.std.proofs.lemmas.Bool.{and_from, cond-true, lt-ltb}
 use Rattle.std.proofs.lemmas.List.{append-nil, append_assoc, length-append}
 use Rattle.std.proofs.lemmas.List.Folds.{list_all-append}
 use Rattle.std.proofs.lemmas.Slice.Eq.{bytes_eq-Decides}
@@ -31,7 +31,8 @@ use Rattle.smt_lines.proofs.Basic.{t_name, f_name, leads_alone}
 use Rattle.smt_lines.proofs.Known.{GoodSort, GoodText}
 use Rattle.smt_lines.proofs.OnlyEntries.{as_is, name_stays, term_is_entrys, function_is_entrys}
 use Rattle.smt_lines.proofs.Enter.{More, fit_grows, with_name_grows, all_grow, old_stays, old_sort_stays, fresh_term, fresh_function, sort_stays}
-use Rattle.smt_semantics.proofs.Results.{or_left, or_right}
+use Rattle.smt_semantics.proofs.CommandInduction.{steps_to}
+use Rattle.smt_semantics.proofs.Results.{or_left, or_right, declares}
 use Rattle.smt_semantics.proofs.Numbers.{numeral_suits}
 
 -- ---- steps one after the other
@@ -73,10 +74,7 @@ unless_steps enums None s f h = h
 -- ---- one line
 
 pub step_runs : (c : Command) (s t : State) → s.ended ≡ false → obey c s ≡ Some t → run (c ∷ []) s ≡ Some t
-step_runs c s t e o = ap (λ (x : Option State). x >>= run []) (cond-false s.ended (Some s) (obey c s) e ∙ o)
-
-declared_is : (n : List ℕ) (entry : Entry) (s : State) → is_taken s n ≡ false → declare n entry s ≡ Some (with_name n entry s)
-declared_is n entry s h = cond-false (is_taken s n) None (Some (with_name n entry s)) h
+step_runs c s t e o = ap (λ (x : Option State). x >>= run []) (steps_to c s t e o)
 
 in_longer : {X : Type 0} (xs : List X) (x : X) (k : ℕ) → k ≡ length xs → nat_lt k (length (xs ++ x ∷ [])) ≡ true
 in_longer xs x k e = let a = length-append xs (x ∷ []) in let b : length (x ∷ []) ≡ 1 = refl in lt-ltb k (length (xs ++ x ∷ [])) (omega arith)
@@ -210,7 +208,7 @@ define_steps enums t sort body s good parts own state fit =
     let known = and_from (is_sort (has_sort state) sort) (knows state body) g.0.0 g.1.0 in
     record {
       after = next;
-      runs = step_runs (script.DefineFun n sort body) state next fit.running (cond-true (is_sort (has_sort state) sort && knows state body) (declare n (Defined sort body) state) None known ∙ declared_is n (Defined sort body) state (fresh_term enums s state fit));
+      runs = step_runs (script.DefineFun n sort body) state next fit.running (cond-true (is_sort (has_sort state) sort && knows state body) (declare n (Defined sort body) state) None known ∙ declares n (Defined sort body) state (fresh_term enums s state fit));
       fits = fit_term enums s state fit t (Defined sort body) (λ d qs place fields e. cc) g.2 (parts state fit) (subst (λ ls. EachLine (LineIsDeclared next) ls) (sym own) (name_there state n (Defined sort body), tt));
       written = and_from (is_name n && is_written sort && is_written body) true (and_from (is_name n && is_written sort) (is_written body) (and_from (is_name n) (is_written sort) (t_name (numeral (length s.terms)) (numeral_suits (length s.terms))) g.0.1) g.1.1) refl;
       kept = name_kept state n (Defined sort body) (λ d qs place fields e. cc) (fresh_term enums s state fit);
@@ -227,7 +225,7 @@ constant_steps enums t text sort s good parts own state fit =
     let next = with_name n (Constant sort) state in
     record {
       after = next;
-      runs = step_runs (script.DeclareConst n sort) state next fit.running (cond-true (is_sort (has_sort state) sort) (declare n (Constant sort) state) None g.0.0 ∙ declared_is n (Constant sort) state (fresh_term enums s state fit));
+      runs = step_runs (script.DeclareConst n sort) state next fit.running (cond-true (is_sort (has_sort state) sort) (declare n (Constant sort) state) None g.0.0 ∙ declares n (Constant sort) state (fresh_term enums s state fit));
       fits = fit_term enums s state fit t (Constant sort) (λ d qs place fields e. cc) g.1 (parts state fit) (subst (λ ls. EachLine (LineIsDeclared next) ls) (sym own) (tt, (name_there state n (Constant sort), tt)));
       written = and_from (is_name n && is_written sort) true (and_from (is_name n) (is_written sort) (t_name (numeral (length s.terms)) (numeral_suits (length s.terms))) g.0.1) refl;
       kept = name_kept state n (Constant sort) (λ d qs place fields e. cc) (fresh_term enums s state fit);
@@ -245,7 +243,7 @@ function_steps enums f argument sort s good a b state fit =
     let known = and_from (is_sort (has_sort state) argument) (is_sort (has_sort state) sort) g.0.0 g.1.0 in
     record {
       after = next;
-      runs = step_runs (script.DeclareFun n argument sort) state next fit.running (cond-true (is_sort (has_sort state) argument && is_sort (has_sort state) sort) (declare n (Function argument sort) state) None known ∙ declared_is n (Function argument sort) state (fresh_function enums s state fit));
+      runs = step_runs (script.DeclareFun n argument sort) state next fit.running (cond-true (is_sort (has_sort state) argument && is_sort (has_sort state) sort) (declare n (Function argument sort) state) None known ∙ declares n (Function argument sort) state (fresh_function enums s state fit));
       fits = fit_function enums s state fit f (Function argument sort) (λ d qs place fields e. cc) (a.0, b.0) (tt, (name_there state n (Function argument sort) ∙ (λ i. Some (Function (sym a.1 i) (sym b.1 i))), tt));
       written = and_from (is_name n && is_written argument && is_written sort) true (and_from (is_name n && is_written argument) (is_written sort) (and_from (is_name n) (is_written argument) (f_name (numeral (length s.functions)) (numeral_suits (length s.functions))) g.0.1) g.1.1) refl;
       kept = name_kept state n (Function argument sort) (λ d qs place fields e. cc) (fresh_function enums s state fit);

@@ -2,7 +2,7 @@
 use Rattle.std.proofs.Common.{◌≡◌, true, false, List, [], ◌∷◌, ◌++◌, map, refl, sym, ap, ◌∙◌, Option, Some, None, append_assoc}
 use Rattle.std.specs.Prelude.{bytes_eq, codes}
 use Rattle.std.specs.List.{list_all}
-use Rattle.std.proofs.lemmas.Bool.{and_parts, and_from, cond-true, cond-false}
+use Rattle.std.proofs.lemmas.Bool.{and_parts, and_from, cond-true}
 use Rattle.std.proofs.lemmas.List.{append-nil}
 use Rattle.smt_meaning.specs.TypeValues.{Enums}
 use Rattle.smt_lexicon.specs.Reading.{Expression, expressions}
@@ -10,6 +10,7 @@ use Rattle.smt_semantics.specs.Script as script
 use Rattle.smt_semantics.specs.Script.{Command, State, Builds, Selects, Script, HasWholeLines, Holds, name, has_name, has_sort, knows, are_all, each_stated, with_assertion, start, step, run, obey, assertions_of, ◌>>=◌}
 use Rattle.smt_semantics.specs.Sorts.{entries}
 use Rattle.smt_semantics.specs.Written.{IsLine}
+use Rattle.smt_semantics.proofs.CommandInduction.{steps_to}
 use Rattle.smt_semantics.proofs.First.{option_is_line}
 use Rattle.smt_lines.specs.Line.{Assert, spelled_line}
 use Rattle.smt_lines.specs.Lines.{option_line, option_constructors}
@@ -65,8 +66,7 @@ pub asserts_run : (es : List Expression) (s : State) → s.ended ≡ false → a
 asserts_run [] s e h = ap (λ (t : List Expression). Some (record s { last = record s.last { assertions = t } })) (sym (append-nil s.last.assertions))
 asserts_run (x ∷ es) s e h =
     let q = and_parts (knows s x) (are_all (each_stated (has_sort s) (has_name s) (expressions es))) h in
-    let steps : step (script.Assert x) s ≡ Some (with_assertion x s) =
-    cond-false s.ended (Some s) (obey (script.Assert x) s) e ∙ cond-true (knows s x) (Some (with_assertion x s)) None q.0 in
+    let steps = steps_to (script.Assert x) s (with_assertion x s) e (cond-true (knows s x) (Some (with_assertion x s)) None q.0) in
     ap (λ (o : Option State). o >>= run (commands (map Assert es))) steps ∙ asserts_run es (with_assertion x s) e q.1
     ∙ ap (λ (t : List Expression). Some (record s { last = record s.last { assertions = t } })) (append_assoc s.last.assertions (x ∷ []) es)
 

@@ -1,6 +1,6 @@
 -- What every change of a state keeps holds of the states that commands leave: the one induction over commands.
-use Rattle.std.proofs.Common.{◌≡◌, ◌⊎◌, ℕ, suc, Bool, true, false, ◌&&◌, ◌||◌, eqb, List, [], ◌∷◌, map, length, refl, ap, subst, inl, inr, Some}
-use Rattle.std.proofs.lemmas.Bool.{and_parts}
+use Rattle.std.proofs.Common.{◌≡◌, ◌⊎◌, ℕ, suc, Bool, true, false, ◌&&◌, ◌||◌, eqb, List, [], ◌∷◌, map, length, refl, ap, ◌∙◌, subst, inl, inr, Some}
+use Rattle.std.proofs.lemmas.Bool.{and_parts, cond-false}
 use Rattle.smt_lexicon.specs.Reading.{Expression}
 use Rattle.smt_semantics.specs.Script.{Command, DeclareDatatype, DeclareConst, DefineFun, Assert, DeclareFun, SetLogic, SetOption, CheckSat, GetModel, Reset, Exit, Push, Pop, Constructor, Entry, Constant, Function, Defined, Builds, Selects, Level, State, Script, start, is_in, is_taken, is_new_datatype, is_simple_symbol, is_attribute_value, is_sort, has_sort, knows, declare, declare_selectors, declare_constructors, with_name, with_sort, with_assertion, with_level, without_level, obey, step, run, ◌>>=◌}
 use Rattle.smt_semantics.proofs.Results.{some_is, if_not, if_so, if_either, bind_gives}
@@ -75,6 +75,9 @@ adds_such A c r p f s = tt
 -- Behind `exit` a state stays, before it a command is obeyed.
 pub step_is : (c : Command) (s t : State) → step c s ≡ Some t → ((s.ended ≡ true) × (Some s ≡ Some t)) ⊎ ((s.ended ≡ false) × (obey c s ≡ Some t))
 step_is c s t h = if_either s.ended (Some s) (obey c s) t h
+
+pub steps_to : (c : Command) (s t : State) → s.ended ≡ false → obey c s ≡ Some t → step c s ≡ Some t
+steps_to c s t running e = cond-false s.ended (Some s) (obey c s) running ∙ e
 
 -- A property of states that each change keeps.
 module _ (A : State → Change → Type 0) (P : State → Type 0) (kept : (x : Change) (s : State) → A s x → IsAllowed s x → P s → P (changed x s)) where

@@ -1,10 +1,11 @@
 -- Expressions state one list of commands, so a script comes to one state.
-use Rattle.std.proofs.Common.{ap₂, ◌≡◌, ℕ, List, [], ◌∷◌, ◌++◌, refl, sym, ap, ◌∙◌, map, Some}
+use Rattle.std.proofs.Common.{ap₂, ◌≡◌, ℕ, List, [], ◌∷◌, ◌++◌, refl, sym, ap, ◌∙◌, map}
 use Rattle.std.proofs.lemmas.List.{append_cancel_left}
 use Rattle.std.specs.Prelude.{codes, bytes_eq, cond}
 use Rattle.smt_lexicon.specs.Reading.{Expression, expressions}
 use Rattle.smt_semantics.specs.Script.{Command, DeclareDatatype, DeclareConst, DefineFun, Assert, DeclareFun, SetLogic, SetOption, CheckSat, GetModel, Reset, Exit, Push, Pop, Constructor, keyword, operands, constructor, datatype, name, group, stated, Holds, Script, State, run, start}
 use Rattle.smt_lexicon.proofs.Trees.{one_reading}
+use Rattle.smt_semantics.proofs.Results.{some_is}
 
 one_group : (es fs : List Expression) → expressions es ≡ expressions fs → es ≡ fs
 one_group [] [] h = refl
@@ -111,9 +112,6 @@ one_statement c d h =
 
 pub one_list_of_commands : (bytes : List ℕ) (cs ds : List Command) → Holds bytes cs → Holds bytes ds → cs ≡ ds
 one_list_of_commands bytes cs ds p q = one_map stated one_statement cs ds (one_reading bytes (map stated cs) (map stated ds) p.reads q.reads)
-
-some_is : (s t : State) → Some s ≡ Some t → s ≡ t
-some_is s t h = cc
 
 -- A script comes to one state.
 pub one_state : (bytes : List ℕ) (s t : State) → Script bytes s → Script bytes t → s ≡ t

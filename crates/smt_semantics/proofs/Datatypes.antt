@@ -2,12 +2,13 @@
 use Rattle.std.proofs.Common.{◌≡◌, ℕ, suc, Bool, true, false, not, ◌&&◌, ◌||◌, eqb, List, [], ◌∷◌, ◌++◌, map, length, refl, sym, ap, ◌∙◌, inl, inr, Option, Some, None}
 use Rattle.std.specs.Prelude.{bytes_eq}
 use Rattle.std.specs.List.{list_all}
-use Rattle.std.proofs.lemmas.Bool.{not-true, and_parts, and_from, cond-true, cond-false, or_parts, cases_Bool, false≢true}
+use Rattle.std.proofs.lemmas.Bool.{not-true, and_parts, and_from, cond-true, or_parts, cases_Bool, false≢true}
 use Rattle.std.proofs.lemmas.Slice.Eq.{bytes_eq-Decides}
 use Rattle.smt_lexicon.specs.Reading.{Expression}
 use Rattle.smt_semantics.specs.Script.{Constructor, Entry, Builds, Selects, State, built_in_names, is_in, is_reserved, has_name, is_taken, is_new_datatype, is_sort, has_sort, names_of, declare, declare_selectors, declare_constructors, with_name, with_sort, ◌>>=◌}
 use Rattle.smt_semantics.specs.Meanings.{selectors_named, constructors_named, with_names, names_in, are_new, are_fields, DatatypesLeave, StepsKeepLevels, PopsGiveBack}
 use Rattle.smt_semantics.proofs.CommandInduction.{Change, AddsLevel, changed, IsAllowed, adds_such, stepped}
+use Rattle.smt_semantics.proofs.Results.{declares}
 
 not_both : (m n : List ℕ) → bytes_eq m n ≡ false → bytes_eq n m ≡ false
 not_both m n h = elim (cases_Bool (bytes_eq n m)) [
@@ -39,7 +40,7 @@ declared : (n : List ℕ) (x : Entry) (s : State) (ns : List (List ℕ)) → are
 declared n x s ns h =
     let p = and_parts (not (is_taken s n)) (not (is_in n ns) && are_new s ns) h in
     let q = and_parts (not (is_in n ns)) (are_new s ns) p.1 in
-    (cond-false (is_taken s n) None (Some (with_name n x s)) (not-true (is_taken s n) p.0), still_new n x s ns (not-true (is_in n ns) q.0) q.1)
+    (declares n x s (not-true (is_taken s n) p.0), still_new n x s ns (not-true (is_in n ns) q.0) q.1)
 
 selectors_leave : (d : List ℕ) (ps : List (List ℕ)) (c : List ℕ) (place : ℕ) (xs : List (List ℕ × Expression)) (ns : List (List ℕ)) (s : State)
     → are_new s (map (λ x. x.0) xs ++ ns) ≡ true → are_fields s ps xs ≡ true

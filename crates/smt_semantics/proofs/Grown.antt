@@ -10,19 +10,17 @@ use Rattle.smt_semantics.specs.DeclarationLines.{ConstantsExtend, FunctionsExten
 use Rattle.smt_semantics.proofs.First.{declare_const_line}
 use Rattle.smt_semantics.proofs.Laid.{declare_fun_line, datatype_line, commands_extend}
 use Rattle.smt_semantics.proofs.Datatypes.{datatypes_leave}
-
-declares : (n : List ℕ) (entry : Entry) (s : State) → not (is_taken s n) ≡ true → declare n entry s ≡ Some (with_name n entry s)
-declares n entry s h = cond-false (is_taken s n) None (Some (with_name n entry s)) (not-true (is_taken s n) h)
+use Rattle.smt_semantics.proofs.Results.{declares}
 
 pub constants_extend : ConstantsExtend
 constants_extend text n sort s x stands name-is w fresh known =
     commands_extend text _ (DeclareConst n x) s (with_name n (Constant x) s) stands (declare_const_line n sort x name-is w)
-    (cond-true (is_sort (has_sort s) x) (declare n (Constant x) s) None known ∙ declares n (Constant x) s fresh) stands.running
+    (cond-true (is_sort (has_sort s) x) (declare n (Constant x) s) None known ∙ declares n (Constant x) s (not-true (is_taken s n) fresh)) stands.running
 
 pub functions_extend : FunctionsExtend
 functions_extend text f argument sort s a x stands name-is w v fresh known =
     commands_extend text _ (DeclareFun f a x) s (with_name f (Function a x) s) stands (declare_fun_line f argument sort a x name-is w v)
-    (cond-true (is_sort (has_sort s) a && is_sort (has_sort s) x) (declare f (Function a x) s) None known ∙ declares f (Function a x) s fresh) stands.running
+    (cond-true (is_sort (has_sort s) a && is_sort (has_sort s) x) (declare f (Function a x) s) None known ∙ declares f (Function a x) s (not-true (is_taken s f) fresh)) stands.running
 
 pub datatypes_extend : DatatypesExtend
 datatypes_extend text d cs s stands name-is w fresh new known =

@@ -1,13 +1,14 @@
 -- The texts of sorts and expressions, and the lines of all commands, each from its brackets.
 use Rattle.std.proofs.Common.{◌≡◌, ℕ, List, [], ◌∷◌, ◌++◌, map, refl, sym, ap, ◌∙◌, subst, append_assoc, Option, Some, None}
 use Rattle.std.specs.Prelude.{codes}
-use Rattle.std.proofs.lemmas.Bool.{not-true, cond-false}
+use Rattle.std.proofs.lemmas.Bool.{not-true}
 use Rattle.smt_lexicon.specs.Lexicon.{Number}
 use Rattle.smt_lexicon.specs.Reading.{Expression, Leaf}
 use Rattle.smt_semantics.specs.Numerals.{numbered, numeral}
-use Rattle.smt_semantics.specs.Script.{Command, DeclareDatatype, DeclareFun, SetLogic, SetOption, CheckSat, GetModel, Reset, Exit, Push, Pop, constructor, group, name, State, start, step, run, ◌>>=◌, obey}
+use Rattle.smt_semantics.specs.Script.{Command, DeclareDatatype, DeclareFun, SetLogic, SetOption, CheckSat, GetModel, Reset, Exit, Push, Pop, constructor, group, name, State, HasWholeLines, Holds, start, step, run}
 use Rattle.smt_semantics.specs.Written.{ReadsAs, Item, laid, AreSpread, bracketed, listed, IsName}
-use Rattle.smt_semantics.specs.CommandLines.{Part, AreWritten, spaced, GroupsWrite, BitsWrite, BitSortsWrite, BitsHaveValues, ConstructorPart, AreConstructors, below_each, constructor_lines, DatatypeLine, SelectorsWrite, DeclareFunLine, SetLogicLine, SetOptionLine, PlainLines, CommandsExtend, AreSorted, OnState, SortedLinesAdd, SortedCommentsAdd}
+use Rattle.smt_semantics.specs.CommandLines.{Part, AreWritten, spaced, GroupsWrite, BitsWrite, BitSortsWrite, BitsHaveValues, ConstructorPart, AreConstructors, below_each, constructor_lines, DatatypeLine, SelectorsWrite, DeclareFunLine, SetLogicLine, SetOptionLine, PlainLines, CommandsExtend, AreSorted, OnState, SortedScript, SortedLinesAdd, SortedCommentsAdd}
+use Rattle.smt_semantics.proofs.CommandInduction.{steps_to, run_keeps}
 use Rattle.smt_semantics.proofs.Append.{holds_append, run_append}
 use Rattle.smt_semantics.proofs.Lines.{brackets_write, names_write, numerals_write, lines_add}
 use Rattle.smt_semantics.proofs.First.{first, next, below, line_of}
@@ -140,43 +141,33 @@ plain_lines = (
 
 pub commands_extend : CommandsExtend
 commands_extend text line c s t stands is-line obeys goes-on =
-    let steps : step c s ≡ Some t = cond-false s.ended (Some s) (obey c s) (not-true s.ended stands.running) ∙ obeys in
-    let after = (lines_add text line c s t stands.whole stands.script is-line).0 steps in
+    let after = (lines_add text line c s t stands.whole stands.script is-line).0 (steps_to c s t (not-true s.ended stands.running) obeys) in
     record { whole = after.1; script = after.0; running = goes-on }
 
 -- ---- well-sorted scripts
 
-some_is : (s t : State) → Some s ≡ Some t → s ≡ t
-some_is s t h = cc
-
-carried : (P Q : State → Type 0) (f : State → Option State) (o : Option State) (t : State) → ((u : State) → P u → f u ≡ Some t → Q u) → OnState P o → (o >>= f) ≡ Some t → OnState Q o
-carried P Q f None t g h e = h
-carried P Q f (Some u) t g h e = g u h e
-
 more_sorted : (cs ds : List Command) (s t : State) → AreSorted cs s → run cs s ≡ Some t → AreSorted ds t → AreSorted (cs ++ ds) s
-more_sorted [] ds s t h e k = subst (λ (u : State). AreSorted ds u) (some_is t s (sym e)) k
-more_sorted (c ∷ cs) ds s t h e k = (h.0, carried (AreSorted cs) (AreSorted (cs ++ ds)) (run cs) (step c s) t (λ u i f. more_sorted cs ds u t i f k) h.1 e)
+more_sorted cs ds s t h e k = (run_keeps (λ bs u. AreSorted bs u × (AreSorted (bs ++ ds) u → AreSorted (cs ++ ds) s)) one cs s t e (h, λ all. all)).1 k
+  where
+    one : (c : Command) (bs : List Command) (u v : State) → step c u ≡ Some v → AreSorted (c ∷ bs) u × (AreSorted (c ∷ bs ++ ds) u → AreSorted (cs ++ ds) s) → AreSorted bs v × (AreSorted (bs ++ ds) v → AreSorted (cs ++ ds) s)
+    one c bs u v f p = (subst (OnState (AreSorted bs)) f p.0.1, λ all. p.1 (p.0.0, subst (OnState (AreSorted (bs ++ ds))) (sym f) all))
 
 sorted_from : (o : Option State) (t : State) → o ≡ Some t → OnState (AreSorted []) o
 sorted_from None t h = absurd cc
 sorted_from (Some s) t h = tt
 
-pub sorted_lines_add : SortedLinesAdd
-sorted_lines_add text line c s t whole sorted is-line steps is-sorted = record {
+sorted_append : (text line : List ℕ) (s : State) (ds : List Command) (t : State) → HasWholeLines text → SortedScript text s → Holds line ds → run ds s ≡ Some t → AreSorted ds s → SortedScript (text ++ line) t
+sorted_append text line s ds t whole sorted holds runs are-sorted = record {
   script = record {
-    commands = sorted.script.commands ++ c ∷ [];
-    holds = holds_append text line sorted.script.commands (c ∷ []) whole sorted.script.holds is-line.holds;
-    runs = run_append sorted.script.commands (c ∷ []) start ∙ (rw sorted.script.runs (rw steps refl));
+    commands = sorted.script.commands ++ ds;
+    holds = holds_append text line sorted.script.commands ds whole sorted.script.holds holds;
+    runs = run_append sorted.script.commands ds start ∙ (rw sorted.script.runs runs);
   };
-  sorted = more_sorted sorted.script.commands (c ∷ []) start s sorted.sorted sorted.script.runs (is-sorted, sorted_from (step c s) t steps);
+  sorted = more_sorted sorted.script.commands ds start s sorted.sorted sorted.script.runs are-sorted;
 }
 
+pub sorted_lines_add : SortedLinesAdd
+sorted_lines_add text line c s t whole sorted is-line steps is-sorted = sorted_append text line s (c ∷ []) t whole sorted is-line.holds (rw steps refl) (is-sorted, sorted_from (step c s) t steps)
+
 pub sorted_comments_add : SortedCommentsAdd
-sorted_comments_add text line s whole sorted is-line = record {
-  script = record {
-    commands = sorted.script.commands ++ [];
-    holds = holds_append text line sorted.script.commands [] whole sorted.script.holds is-line.holds;
-    runs = run_append sorted.script.commands [] start ∙ (rw sorted.script.runs refl);
-  };
-  sorted = more_sorted sorted.script.commands [] start s sorted.sorted sorted.script.runs tt;
-}
+sorted_comments_add text line s whole sorted is-line = sorted_append text line s [] s whole sorted is-line.holds refl tt

@@ -1,6 +1,7 @@
 -- What gave a state, and tests that hold by one of their parts.
-use Rattle.std.proofs.Common.{◌≡◌, ◌⊎◌, Bool, true, false, ◌||◌, cond, refl, inl, inr, Option, Some, None}
-use Rattle.smt_semantics.specs.Script.{State, ◌>>=◌}
+use Rattle.std.proofs.Common.{◌≡◌, ◌⊎◌, ℕ, Bool, true, false, ◌||◌, cond, List, refl, inl, inr, Option, Some, None}
+use Rattle.std.proofs.lemmas.Bool.{cond-false}
+use Rattle.smt_semantics.specs.Script.{Entry, State, is_taken, declare, with_name, ◌>>=◌}
 
 pub or_left : (a b : Bool) → a ≡ true → (a || b) ≡ true
 or_left a b e = rw e refl
@@ -28,3 +29,7 @@ if_either false o p t h = inr (refl, h)
 pub bind_gives : (o : Option State) (f : State → Option State) (u : State) → (o >>= f) ≡ Some u → (t : State) × (o ≡ Some t) × (f t ≡ Some u)
 bind_gives (Some t) f u h = (t, refl, h)
 bind_gives None f u h = absurd cc
+
+-- a name that is not taken can be declared
+pub declares : (n : List ℕ) (entry : Entry) (s : State) → is_taken s n ≡ false → declare n entry s ≡ Some (with_name n entry s)
+declares n entry s h = cond-false (is_taken s n) None (Some (with_name n entry s)) h
