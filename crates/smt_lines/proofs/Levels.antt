@@ -19,7 +19,7 @@ use Rattle.smt_lines.proofs.Known.{texts_good}
 use Rattle.smt_lines.proofs.Enter.{Behind, fit_grows}
 use Rattle.smt_semantics.proofs.Append.{holds_append, whole_append}
 use Rattle.smt_lines.proofs.Joined.{lines_join}
-use Rattle.smt_lines.proofs.Single.{commands_append, runs_then}
+use Rattle.smt_lines.proofs.Single.{commands_append, run_then}
 use Rattle.smt_lines.proofs.OfTerms.{each_step, texts_are}
 use Rattle.smt_lines.proofs.Spelled.{lines_hold}
 use Rattle.smt_lines.proofs.Whole.{with_assertions, asserts_run, asserts_fit, asserts_written}
@@ -58,9 +58,6 @@ holds_then ls ms a b =
           (subst (λ (y : List Command). Holds (spelled_lines ls ++ spelled_lines ms) y) (sym cs) (holds_append (spelled_lines ls) (spelled_lines ms) (commands ls) (commands ms) a.1 a.0 b.0)),
       subst HasWholeLines (sym bytes) (whole_append (spelled_lines ls) (spelled_lines ms) a.1 b.1),
     )
-
-pub run_then : (ls ms : List Line) (s t u : State) → run (commands ls) s ≡ Some t → run (commands ms) t ≡ Some u → run (commands (ls ++ ms)) s ≡ Some u
-run_then ls ms s t u a b = ap (λ (cs : List Command). run cs s) (commands_append ls ms) ∙ runs_then (commands ls) (commands ms) s t u a b
 
 -- ---- a list of terms
 

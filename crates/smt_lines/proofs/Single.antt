@@ -15,7 +15,7 @@ use Rattle.smt_lexicon.specs.Reading.{Expression}
 use Rattle.smt_semantics.specs.Script as script
 use Rattle.smt_semantics.specs.Script.{Command, State, Entry, Constant, Function, Defined, is_taken, names_of, has_sort, is_sort, knows, declare, with_name, obey, step, run, is_in, built_in_names, ◌>>=◌}
 use Rattle.smt_semantics.specs.Written.{is_name}
-use Rattle.smt_semantics.proofs.Append.{run_append}
+use Rattle.smt_semantics.proofs.Append.{runs_then}
 use Rattle.smt_lines.specs.Spelling.{numeral}
 use Rattle.smt_lines.specs.Line.{Line, Comment, DeclareConst, DeclareFun, DefineFun}
 use Rattle.smt_lines.specs.Lines.{Written, next_term, next_function, define, enter_term, enter_function, unless_named}
@@ -41,8 +41,8 @@ pub commands_append : (ls ms : List Line) → commands (ls ++ ms) ≡ commands l
 commands_append [] ms = refl
 commands_append (l ∷ ls) ms = rw (commands_append ls ms, append_assoc)
 
-pub runs_then : (cs ds : List Command) (s t u : State) → run cs s ≡ Some t → run ds t ≡ Some u → run (cs ++ ds) s ≡ Some u
-runs_then cs ds s t u a b = run_append cs ds s ∙ ap (λ (o : Option State). o >>= run ds) a ∙ b
+pub run_then : (ls ms : List Line) (s t u : State) → run (commands ls) s ≡ Some t → run (commands ms) t ≡ Some u → run (commands (ls ++ ms)) s ≡ Some u
+run_then ls ms s t u a b = ap (λ (cs : List Command). run cs s) (commands_append ls ms) ∙ runs_then (commands ls) (commands ms) s t u a b
 
 pub no_step : (enums : Enums) (s : Tables) → Steps enums s [] s
 no_step enums s state fit = record { after = state; runs = refl; fits = fit; written = refl; kept = itself_kept state; lines_are_declared = tt; same_below = refl; same_assertions = refl }
@@ -53,7 +53,7 @@ steps_then enums {s} {ls} {u} {ms} {v} a b state fit =
     let y = b x.after x.fits in
     record {
       after = y.after;
-      runs = ap (λ cs. run cs state) (commands_append ls ms) ∙ runs_then (commands ls) (commands ms) state x.after y.after x.runs y.runs;
+      runs = run_then ls ms state x.after y.after x.runs y.runs;
       fits = y.fits;
       written = list_all-append is_written_line ls ms ∙ and_from (list_all is_written_line ls) (list_all is_written_line ms) x.written y.written;
       kept = kept_then state x.after y.after x.kept y.kept;

@@ -139,10 +139,13 @@ pub run_append : (cs ds : List Command) (s : State) → run (cs ++ ds) s ≡ (ru
 run_append [] ds s = refl
 run_append (c ∷ cs) ds s = bind_after (step c s) (run (cs ++ ds)) (run cs) (run ds) (λ t. run_append cs ds t)
 
+pub runs_then : (cs ds : List Command) (s t u : State) → run cs s ≡ Some t → run ds t ≡ Some u → run (cs ++ ds) s ≡ Some u
+runs_then cs ds s t u a b = run_append cs ds s ∙ ap (λ (o : Option State). o >>= run ds) a ∙ b
+
 -- One more command, or none, after a whole text.
 pub script_append : (a b : List ℕ) (s : State) (ds : List Command) (t : State) → HasWholeLines a → Script a s → Holds b ds → run ds s ≡ Some t → Script (a ++ b) t
 script_append a b s ds t whole p q r = record {
   commands = p.commands ++ ds;
   holds = holds_append a b p.commands ds whole p.holds q;
-  runs = run_append p.commands ds start ∙ (rw p.runs r);
+  runs = runs_then p.commands ds start s t p.runs r;
 }

@@ -7,7 +7,7 @@ use Rattle.smt_semantics.proofs.Results.{some_is, if_not, if_so, if_either, bind
 
 -- ---- changes
 
--- what a command adds to a state: all but `reset` and `pop` do nothing else
+-- one change that a command makes to a state; `reset` and `pop` take away instead
 pub data Change : Type 0 where
   AddsName : (name : List ℕ) → (entry : Entry) → Change
   AddsSort : (name : List ℕ) → (parameters : ℕ) → Change
@@ -38,10 +38,11 @@ IsAllowed s (AddsAssertion e) = knows s e ≡ true
 IsAllowed s AddsLevel = s.ended ≡ false
 IsAllowed s Ends = Unit {0}
 
+-- any change
 abbrev pub Any : State → Change → Type 0
 Any s x = Unit {0}
 
--- A command adds only, and what it adds has a property in the state that it is added to.
+-- A command takes nothing away, and each change that it makes has the property in the state that it changes.
 abbrev pub Adds : (State → Change → Type 0) → State → Command → Type 0
 Adds A s (DeclareDatatype d ps cs) =
     ((u : State) (n : List ℕ) (place : ℕ) (fields : List Expression) → A u (AddsName n (Builds d ps place fields)))
@@ -57,7 +58,7 @@ Adds A s Reset = ⊥
 Adds A s Pop = ⊥
 Adds A s c = Unit {0}
 
--- So do all commands but `reset` and `pop` if each change has the property, where only `push` adds a level.
+-- So it is for all commands but `reset` and `pop` where each change has the property; only `push` adds a level.
 pub adds_such : (A : State → Change → Type 0) (c : Command) → (c ≡ Reset → ⊥) → (c ≡ Pop → ⊥) → ((s : State) (x : Change) → (x ≡ AddsLevel → c ≡ Push) → A s x) → (s : State) → Adds A s c
 adds_such A (DeclareDatatype d ps cs) r p f s = (λ u n place fields. f u _ (λ e. absurd cc), λ u n c place field. f u _ (λ e. absurd cc), λ u. f u _ (λ e. absurd cc))
 adds_such A (DeclareConst n sort) r p f s = f s (AddsName n (Constant sort)) (λ e. absurd cc)
@@ -72,7 +73,7 @@ adds_such A c r p f s = tt
 
 -- ---- one command
 
--- Behind `exit` a state stays, before it a command is obeyed.
+-- Behind an `exit` a state stays as it is, and before it a command is obeyed.
 pub step_is : (c : Command) (s t : State) → step c s ≡ Some t → ((s.ended ≡ true) × (Some s ≡ Some t)) ⊎ ((s.ended ≡ false) × (obey c s ≡ Some t))
 step_is c s t h = if_either s.ended (Some s) (obey c s) t h
 
@@ -127,13 +128,13 @@ module _ (A : State → Change → Type 0) (P : State → Type 0) (kept : (x : C
   obeyed Reset s t a running e h = absurd a
   obeyed Pop s t a running e h = absurd a
 
-  -- A command that adds only keeps it.
+  -- A command that takes nothing away keeps it.
   pub stepped : (c : Command) (s t : State) → Adds A s c → step c s ≡ Some t → P s → P t
   stepped c s t a e h = elim (step_is c s t e) [ inl p ↦ given s t p.1 h | inr p ↦ obeyed c s t a p.0 p.1 h ]
 
 -- ---- levels
 
--- A property that the first state has and that each change keeps: what a `pop` would give back has it too.
+-- A property that the first state has and that each change keeps: each command keeps it, with what a `pop` would give back.
 module _ (A : State → Change → Type 0) (P : State → Type 0) (first : P start) (kept : (x : Change) (s : State) → A s x → IsAllowed s x → P s → P (changed x s)) where
   -- each state that pops would give back has it
   abbrev pub Below : List Level → Type 0
@@ -151,7 +152,7 @@ module _ (A : State → Change → Type 0) (P : State → Type 0) (first : P sta
   popped s t running [] h e = absurd cc
   popped s t running (l ∷ ls) h e = subst Deep (some_is (record { last = l; below = ls; ended = false }) t (subst (λ (b : Bool). Some (record { last = l; below = ls; ended = b }) ≡ Some t) running e)) h
 
-  -- A command keeps it.
+  -- Each command keeps it, `reset` and `pop` by themselves.
   pub stepped_deep : (c : Command) (s t : State) → ((c ≡ Reset → ⊥) → (c ≡ Pop → ⊥) → Adds A s c) → step c s ≡ Some t → Deep s → Deep t
   stepped_deep Reset s t a e h = elim (step_is Reset s t e) [ inl p ↦ subst Deep (some_is s t p.1) h | inr p ↦ subst Deep (some_is start t p.1) (first, tt) ]
   stepped_deep Pop s t a e h = elim (step_is Pop s t e) [ inl p ↦ subst Deep (some_is s t p.1) h | inr p ↦ popped s t p.0 s.below h.1 p.1 ]

@@ -9,7 +9,7 @@ use Rattle.smt_semantics.specs.Script.{Command, DeclareDatatype, DeclareFun, Set
 use Rattle.smt_semantics.specs.Written.{ReadsAs, Item, laid, AreSpread, bracketed, listed, IsName}
 use Rattle.smt_semantics.specs.CommandLines.{Part, AreWritten, spaced, GroupsWrite, BitsWrite, BitSortsWrite, BitsHaveValues, ConstructorPart, AreConstructors, below_each, constructor_lines, DatatypeLine, SelectorsWrite, DeclareFunLine, SetLogicLine, SetOptionLine, PlainLines, CommandsExtend, AreSorted, OnState, SortedScript, SortedLinesAdd, SortedCommentsAdd}
 use Rattle.smt_semantics.proofs.CommandInduction.{steps_to, run_keeps}
-use Rattle.smt_semantics.proofs.Append.{holds_append, run_append}
+use Rattle.smt_semantics.proofs.Append.{holds_append, runs_then}
 use Rattle.smt_semantics.proofs.Lines.{brackets_write, names_write, numerals_write, lines_add}
 use Rattle.smt_semantics.proofs.First.{first, next, below, line_of}
 use Rattle.smt_semantics.proofs.Numbers.{bv_name, numeral_digits, numeral_number}
@@ -161,7 +161,7 @@ sorted_append text line s ds t whole sorted holds runs are-sorted = record {
   script = record {
     commands = sorted.script.commands ++ ds;
     holds = holds_append text line sorted.script.commands ds whole sorted.script.holds holds;
-    runs = run_append sorted.script.commands ds start ∙ (rw sorted.script.runs runs);
+    runs = runs_then sorted.script.commands ds start s t sorted.script.runs runs;
   };
   sorted = more_sorted sorted.script.commands ds start s sorted.sorted sorted.script.runs are-sorted;
 }
