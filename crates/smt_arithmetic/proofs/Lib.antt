@@ -1,3 +1,4 @@
+pub mod BitOperators
 pub mod BitRanges
 pub mod Least
 pub mod Masks

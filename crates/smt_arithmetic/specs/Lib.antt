@@ -1,3 +1,4 @@
+pub mod BitOperators
 pub mod BitVectors
 pub mod Examples
 pub mod Extensions

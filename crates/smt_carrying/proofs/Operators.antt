@@ -4,7 +4,8 @@ use Rattle.std.specs.Prelude.{not, nat_le, Option, Some, None}
 use Rattle.std.specs.Bool.{then_some}
 use Rattle.std.specs.Cmp.{first_so, second_so}
 use Rattle.std.proofs.lemmas.Bool.{eq-eqb}
-use Rattle.smt_meaning.specs.Plain.{PlainType, BitVecType, BoolType, StringType, SetType, PlainOp, AndOp, BvaddOp, BvlshrOp, BvmulOp, BvnegOp, BvnegoOp, BvsaddoOp, BvsdivOp, BvshlOp, BvsleOp, BvsltOp, BvsmodOp, BvsmuloOp, BvsremOp, BvssuboOp, BvsubOp, BvudivOp, BvuleOp, BvultOp, BvuremOp, EqOp, ExtOp, IteOp, NotOp, OptionGetOp, OrOp, RecordGetOp, SetInterOp, SetMemberOp, SetSubsetOp, StringLikeOp, UufOp, ZeroExtendOp, PatternPart}
+use Rattle.smt_arithmetic.specs.BitOperators.{bits_entry, test_entry, overflow_entry}
+use Rattle.smt_meaning.specs.Plain.{PlainType, BitVecType, BoolType, StringType, SetType, PlainOp, AndOp, BvnegOp, BvnegoOp, EqOp, ExtOp, IteOp, NotOp, OptionGetOp, OrOp, RecordGetOp, SetInterOp, SetMemberOp, SetSubsetOp, StringLikeOp, UufOp, ZeroExtendOp, PatternPart, BitsOp, TestOp, OverflowOp}
 use Rattle.smt_meaning.specs.Values.{Value, BoolValue, BitVecValue, StringValue, SetValue}
 use Rattle.smt_semantics.specs.ScriptValues.{TruthOf, BitsOf, SetOf}
 use Rattle.smt_arithmetic.specs.BitVectors as bits
@@ -233,23 +234,9 @@ module _ (enums : Enums) (s : Tables) (good : AreEnums enums) where
   commutes I IteOp ty tys vs o a = ternary enums (Goal I IteOp ty) (λ ws r. cc) (λ t ws r. cc) (λ t u ws r. cc) (λ t u x y us ws r. cc) (λ g t u b v w h k l r. choice_case g t u ty b v w h r) tys vs a
   commutes I BvnegOp ty tys vs o a = unary enums (Goal I BvnegOp ty) (λ ws r. cc) (λ t u us ws r. cc) (λ t v h r. negated_case t ty v h r I) tys vs a
   commutes I (ZeroExtendOp n) ty tys vs o a = unary enums (Goal I (ZeroExtendOp n) ty) (λ ws r. cc) (λ t u us ws r. cc) (λ t v h r. extended_case n t ty v h r I) tys vs a
-  commutes I BvaddOp ty tys vs o a = binary enums (Goal I BvaddOp ty) (λ ws r. cc) (λ t ws r. cc) (λ t u x us ws r. cc) (λ t u v w h k r. bits_case bits.bvadd None t u ty v w h k r) tys vs a
-  commutes I BvsubOp ty tys vs o a = binary enums (Goal I BvsubOp ty) (λ ws r. cc) (λ t ws r. cc) (λ t u x us ws r. cc) (λ t u v w h k r. bits_case bits.bvsub None t u ty v w h k r) tys vs a
-  commutes I BvmulOp ty tys vs o a = binary enums (Goal I BvmulOp ty) (λ ws r. cc) (λ t ws r. cc) (λ t u x us ws r. cc) (λ t u v w h k r. bits_case bits.bvmul None t u ty v w h k r) tys vs a
-  commutes I BvudivOp ty tys vs o a = binary enums (Goal I BvudivOp ty) (λ ws r. cc) (λ t ws r. cc) (λ t u x us ws r. cc) (λ t u v w h k r. bits_case bits.bvudiv None t u ty v w h k r) tys vs a
-  commutes I BvuremOp ty tys vs o a = binary enums (Goal I BvuremOp ty) (λ ws r. cc) (λ t ws r. cc) (λ t u x us ws r. cc) (λ t u v w h k r. bits_case bits.bvurem None t u ty v w h k r) tys vs a
-  commutes I BvsdivOp ty tys vs o a = binary enums (Goal I BvsdivOp ty) (λ ws r. cc) (λ t ws r. cc) (λ t u x us ws r. cc) (λ t u v w h k r. bits_case bits.bvsdiv None t u ty v w h k r) tys vs a
-  commutes I BvsremOp ty tys vs o a = binary enums (Goal I BvsremOp ty) (λ ws r. cc) (λ t ws r. cc) (λ t u x us ws r. cc) (λ t u v w h k r. bits_case bits.bvsrem None t u ty v w h k r) tys vs a
-  commutes I BvsmodOp ty tys vs o a = binary enums (Goal I BvsmodOp ty) (λ ws r. cc) (λ t ws r. cc) (λ t u x us ws r. cc) (λ t u v w h k r. bits_case bits.bvsmod None t u ty v w h k r) tys vs a
-  commutes I BvshlOp ty tys vs o a = binary enums (Goal I BvshlOp ty) (λ ws r. cc) (λ t ws r. cc) (λ t u x us ws r. cc) (λ t u v w h k r. bits_case bits.bvshl None t u ty v w h k r) tys vs a
-  commutes I BvlshrOp ty tys vs o a = binary enums (Goal I BvlshrOp ty) (λ ws r. cc) (λ t ws r. cc) (λ t u x us ws r. cc) (λ t u v w h k r. bits_case bits.bvlshr None t u ty v w h k r) tys vs a
-  commutes I BvultOp ty tys vs o a = binary enums (Goal I BvultOp ty) (λ ws r. cc) (λ t ws r. cc) (λ t u x us ws r. cc) (λ t u v w h k r. test_case bits.bvult t u ty v w h k r) tys vs a
-  commutes I BvuleOp ty tys vs o a = binary enums (Goal I BvuleOp ty) (λ ws r. cc) (λ t ws r. cc) (λ t u x us ws r. cc) (λ t u v w h k r. test_case bits.bvule t u ty v w h k r) tys vs a
-  commutes I BvsltOp ty tys vs o a = binary enums (Goal I BvsltOp ty) (λ ws r. cc) (λ t ws r. cc) (λ t u x us ws r. cc) (λ t u v w h k r. test_case bits.bvslt t u ty v w h k r) tys vs a
-  commutes I BvsleOp ty tys vs o a = binary enums (Goal I BvsleOp ty) (λ ws r. cc) (λ t ws r. cc) (λ t u x us ws r. cc) (λ t u v w h k r. test_case bits.bvsle t u ty v w h k r) tys vs a
-  commutes I BvsaddoOp ty tys vs o a = binary enums (Goal I BvsaddoOp ty) (λ ws r. cc) (λ t ws r. cc) (λ t u x us ws r. cc) (λ t u v w h k r. test_case bits.bvsaddo t u ty v w h k r) tys vs a
-  commutes I BvssuboOp ty tys vs o a = binary enums (Goal I BvssuboOp ty) (λ ws r. cc) (λ t ws r. cc) (λ t u x us ws r. cc) (λ t u v w h k r. test_case bits.bvssubo t u ty v w h k r) tys vs a
-  commutes I BvsmuloOp ty tys vs o a = binary enums (Goal I BvsmuloOp ty) (λ ws r. cc) (λ t ws r. cc) (λ t u x us ws r. cc) (λ t u v w h k r. test_case bits.bvsmulo t u ty v w h k r) tys vs a
+  commutes I (BitsOp b) ty tys vs o a = binary enums (Goal I (BitsOp b) ty) (λ ws r. cc) (λ t ws r. cc) (λ t u x us ws r. cc) (λ t u v w h k r. bits_case (bits_entry b).function None t u ty v w h k r) tys vs a
+  commutes I (TestOp b) ty tys vs o a = binary enums (Goal I (TestOp b) ty) (λ ws r. cc) (λ t ws r. cc) (λ t u x us ws r. cc) (λ t u v w h k r. test_case (test_entry b).function t u ty v w h k r) tys vs a
+  commutes I (OverflowOp b) ty tys vs o a = binary enums (Goal I (OverflowOp b) ty) (λ ws r. cc) (λ t ws r. cc) (λ t u x us ws r. cc) (λ t u v w h k r. test_case (overflow_entry b).function t u ty v w h k r) tys vs a
   commutes I SetMemberOp ty tys vs o a = binary enums (Goal I SetMemberOp ty) (λ ws r. cc) (λ t ws r. cc) (λ t u x us ws r. cc) (λ t u v w h k r. member_case t u ty v w h k r) tys vs a
   commutes I SetSubsetOp ty tys vs o a = binary enums (Goal I SetSubsetOp ty) (λ ws r. cc) (λ t ws r. cc) (λ t u x us ws r. cc) (λ t u v w h k r. subset_case t u ty v w h k r) tys vs a
   commutes I SetInterOp ty tys vs o a = binary enums (Goal I SetInterOp ty) (λ ws r. cc) (λ t ws r. cc) (λ t u x us ws r. cc) (λ t u v w h k r. intersection_case t u ty v w h k r) tys vs a

@@ -6,10 +6,12 @@ use Rattle.std.specs.Cmp.{first_so, second_so}
 use Rattle.std.specs.List.{AllByRecursion}
 use Rattle.std.proofs.Math.Nat.{mod_self, mod-eq_of_lt}
 use Rattle.std.proofs.lemmas.Bool.{eqb-true}
+use Rattle.smt_arithmetic.specs.BitOperators.{BitsOperator, TestOperator, OverflowOperator, bits_entry, test_entry, overflow_entry}
 use Rattle.smt_arithmetic.specs.BitVectors as bits
+use Rattle.smt_arithmetic.proofs.BitOperators.{bits_entry-below}
 use Rattle.smt_arithmetic.proofs.BitRanges as ranges
 use Rattle.smt_folding.specs.Applications.{truth_literal, bits_literal, bvneg_of, bits_of_two, test_of_two, bvnego_of, wider_type, zero_extend_of}
-use Rattle.smt_folding.specs.FoldBits.{folded_bvneg, folded_bits_where, folded_test, folded_bvnego, folded_zero_extend}
+use Rattle.smt_folding.specs.FoldBits.{folded_bits, folded_bvneg, folded_bvnego, folded_overflow, folded_test, folded_test_by, folded_zero_extend, takes_right}
 use Rattle.smt_folding.specs.Refinement.{Refines}
 use Rattle.smt_folding.proofs.ConnectivesStand.{chosen_type, argument, first_argument, second_argument}
 use Rattle.smt_folding.proofs.Least.{overflow_is}
@@ -25,7 +27,7 @@ use Rattle.smt_meaning.specs.Types.{type_of, is_bits, extended_type, is_type}
 use Rattle.smt_meaning.specs.Typing.{typed}
 use Rattle.smt_meaning.proofs.Shapes.{term_shaped}
 use Rattle.smt_meaning.proofs.Soundness.{all-last}
-use Rattle.smt_meaning.specs.Plain.{PlainType, BitVecType, BoolType, PlainOp, BvnegOp, BvnegoOp, ZeroExtendOp, PlainLiteral, BitVecLiteral, PlainTerm, Application, LiteralTerm, no_terms, one_term, terms}
+use Rattle.smt_meaning.specs.Plain.{PlainType, BitVecType, BoolType, PlainOp, BitsOp, BvnegOp, BvnegoOp, OverflowOp, TestOp, ZeroExtendOp, PlainLiteral, BitVecLiteral, PlainTerm, Application, LiteralTerm, no_terms, one_term, terms}
 use Rattle.smt_meaning.specs.Values.{Value, BoolValue, BitVecValue}
 
 -- ---- a literal in place of an application
@@ -59,27 +61,33 @@ pub test_answered : (o : PlainOp) (n a m b : ℕ) (c : Bool) → ((I : Interpret
 test_answered o n a m b c e =
     standing_within (truth_literal c) (test_of_two o (bits_literal n a) (bits_literal m b)) (λ P q h. (q (truth_literal c) tt, tt)) (λ h. (refl, refl)) (λ enums I h g i. sym (e I))
 
-module _ (o : PlainOp) (f : ℕ → ℕ → ℕ → ℕ) (fits : (n a b : ℕ) → a < 2 ^ n → b < 2 ^ n → f n a b < 2 ^ n) (computed : (I : Interpretation) (ty : PlainType) (v w : Value) → apply I o ty (v ∷ w ∷ []) ≡ to_bits f v w) where
-  two_literals : (n a m b : ℕ) → n ≡ m → Refines (bits_literal n (f n a b)) (bits_of_two o (bits_literal n a) (bits_literal m b))
-  two_literals n a m b e =
-      answered o n a m b (f n a b)
-      (λ g. fits n a b (in_width n a (first_argument IsFormedNode o (bits_literal n a) (bits_literal m b) (BitVecType n) g.literals)) (subst (λ k. b < 2 ^ k) (sym e) (in_width m b (second_argument IsFormedNode o (bits_literal n a) (bits_literal m b) (BitVecType n) g.literals))))
-      (λ I. computed I (BitVecType n) (BitVecValue n a) (BitVecValue m b))
+two_literals : (o : BitsOperator) (n a m b : ℕ) → n ≡ m → Refines (bits_literal n ((bits_entry o).function n a b)) (bits_of_two (BitsOp o) (bits_literal n a) (bits_literal m b))
+two_literals o n a m b e =
+    answered (BitsOp o) n a m b ((bits_entry o).function n a b)
+    (λ g. bits_entry-below o n a b (in_width n a (first_argument IsFormedNode (BitsOp o) (bits_literal n a) (bits_literal m b) (BitVecType n) g.literals)) (subst (λ k. b < 2 ^ k) (sym e) (in_width m b (second_argument IsFormedNode (BitsOp o) (bits_literal n a) (bits_literal m b) (BitVecType n) g.literals))))
+    (λ I. refl)
 
-  pub stands_bits : (taken : ℕ → Bool) (t u : PlainTerm) → Refines (folded_bits_where taken o f t u) (bits_of_two o t u)
-  stands_bits taken (LiteralTerm (BitVecLiteral n a)) (LiteralTerm (BitVecLiteral m b)) =
-      one_of (n == m && taken b) (bits_literal n (f n a b)) (bits_of_two o (bits_literal n a) (bits_literal m b)) (bits_of_two o (bits_literal n a) (bits_literal m b)) (λ h. two_literals n a m b (eqb-true n m (first_so (n == m) (taken b) h))) (itself (bits_of_two o (bits_literal n a) (bits_literal m b)))
-  stands_bits taken (LiteralTerm (BitVecLiteral n a)) u = itself (bits_of_two o (bits_literal n a) u)
-  stands_bits taken t u = itself (bits_of_two o t u)
+pub stands_bits : (o : BitsOperator) (t u : PlainTerm) → Refines (folded_bits o t u) (bits_of_two (BitsOp o) t u)
+stands_bits o (LiteralTerm (BitVecLiteral n a)) (LiteralTerm (BitVecLiteral m b)) =
+    one_of (n == m && takes_right o b) (bits_literal n ((bits_entry o).function n a b)) (bits_of_two (BitsOp o) (bits_literal n a) (bits_literal m b)) (bits_of_two (BitsOp o) (bits_literal n a) (bits_literal m b))
+    (λ h. two_literals o n a m b (eqb-true n m (first_so (n == m) (takes_right o b) h))) (itself (bits_of_two (BitsOp o) (bits_literal n a) (bits_literal m b)))
+stands_bits o (LiteralTerm (BitVecLiteral n a)) u = itself (bits_of_two (BitsOp o) (bits_literal n a) u)
+stands_bits o t u = itself (bits_of_two (BitsOp o) t u)
 
 module _ (o : PlainOp) (f : ℕ → ℕ → ℕ → Bool) (computed : (I : Interpretation) (v w : Value) → apply I o BoolType (v ∷ w ∷ []) ≡ to_truth f v w) where
-  pub stands_test : (t u : PlainTerm) → Refines (folded_test o f t u) (test_of_two o t u)
-  stands_test (LiteralTerm (BitVecLiteral n a)) (LiteralTerm (BitVecLiteral m b)) =
+  stands_test_by : (t u : PlainTerm) → Refines (folded_test_by o f t u) (test_of_two o t u)
+  stands_test_by (LiteralTerm (BitVecLiteral n a)) (LiteralTerm (BitVecLiteral m b)) =
       one_of (n == m) (truth_literal (f n a b)) (test_of_two o (bits_literal n a) (bits_literal m b)) (test_of_two o (bits_literal n a) (bits_literal m b))
       (λ h. test_answered o n a m b (f n a b) (λ I. computed I (BitVecValue n a) (BitVecValue m b)))
       (itself (test_of_two o (bits_literal n a) (bits_literal m b)))
-  stands_test (LiteralTerm (BitVecLiteral n a)) u = itself (test_of_two o (bits_literal n a) u)
-  stands_test t u = itself (test_of_two o t u)
+  stands_test_by (LiteralTerm (BitVecLiteral n a)) u = itself (test_of_two o (bits_literal n a) u)
+  stands_test_by t u = itself (test_of_two o t u)
+
+pub stands_test : (o : TestOperator) (t u : PlainTerm) → Refines (folded_test o t u) (test_of_two (TestOp o) t u)
+stands_test o = stands_test_by (TestOp o) (test_entry o).function (λ I v w. refl)
+
+pub stands_overflow : (o : OverflowOperator) (t u : PlainTerm) → Refines (folded_overflow o t u) (test_of_two (OverflowOp o) t u)
+stands_overflow o = stands_test_by (OverflowOp o) (overflow_entry o).function (λ I v w. refl)
 
 -- ---- negation
 

@@ -4,10 +4,7 @@ use Rattle.std.specs.Prelude.{nat_le}
 use Rattle.std.specs.Bool.{then_some}
 use Rattle.std.specs.Cmp.{first_so, second_so}
 use Rattle.std.specs.List.{AllZip}
-use Rattle.smt_arithmetic.specs.Shifts.{greatest_shift}
-use Rattle.smt_arithmetic.specs.BitVectors as bits
-use Rattle.smt_arithmetic.proofs.BitRanges as ranges
-use Rattle.smt_meaning.specs.Plain.{PlainType, OptionType, BitVecType, BoolType, PlainOp, AndOp, BvaddOp, BvlshrOp, BvmulOp, BvnegOp, BvnegoOp, BvsaddoOp, BvsdivOp, BvshlOp, BvsleOp, BvsltOp, BvsmodOp, BvsmuloOp, BvsremOp, BvssuboOp, BvsubOp, BvudivOp, BvuleOp, BvultOp, BvuremOp, EqOp, IteOp, NotOp, OptionGetOp, OrOp, SetInterOp, SetMemberOp, SetSubsetOp, StringLikeOp, ZeroExtendOp, PlainTerm, Application, NoneTerm, LiteralTerm, RecordTerm, SetTerm, SomeTerm, VariableTerm, PlainTerms, no_terms, one_term, PlainFields, no_fields, one_field, list_of_terms, terms}
+use Rattle.smt_meaning.specs.Plain.{PlainType, OptionType, BitVecType, BoolType, PlainOp, AndOp, BvnegOp, BvnegoOp, EqOp, IteOp, NotOp, OptionGetOp, OrOp, SetInterOp, SetMemberOp, SetSubsetOp, StringLikeOp, ZeroExtendOp, PlainTerm, Application, NoneTerm, LiteralTerm, RecordTerm, SetTerm, SomeTerm, VariableTerm, PlainTerms, no_terms, one_term, PlainFields, no_fields, one_field, list_of_terms, terms, BitsOp, TestOp, OverflowOp}
 use Rattle.smt_meaning.specs.TermSets.{set_term}
 use Rattle.smt_meaning.specs.Types.{extended_type, inner_type, is_type, result_type, type_of, types_of}
 use Rattle.smt_meaning.specs.Typing.{are_elements, typed, typed_all, typed_fields}
@@ -17,7 +14,7 @@ use Rattle.smt_folding.specs.Built.{built, built_all, built_fields, folded}
 use Rattle.smt_folding.specs.FoldBits.{folded_zero_extend}
 use Rattle.smt_folding.specs.FoldOptions.{folded_option_get}
 use Rattle.smt_folding.specs.Refinement.{Refines, FieldsRefine}
-use Rattle.smt_folding.proofs.BitsStand.{stands_bits, stands_bvneg, stands_bvnego, stands_test, stands_zero_extend}
+use Rattle.smt_folding.proofs.BitsStand.{stands_bits, stands_bvneg, stands_bvnego, stands_overflow, stands_test, stands_zero_extend}
 use Rattle.smt_folding.proofs.ConnectivesStand.{chosen_type, stands_and, stands_not, stands_or}
 use Rattle.smt_folding.proofs.EqualityStands.{stands_eq, stands_ite}
 use Rattle.smt_folding.proofs.OptionsStand.{stands_option_get}
@@ -49,23 +46,9 @@ folded_stands OrOp (t ∷ u ∷ []) ty h = with_type OrOp (t ∷ u ∷ []) _ Boo
 folded_stands EqOp (t ∷ u ∷ []) ty h = with_type EqOp (t ∷ u ∷ []) _ BoolType ty _ h (stands_eq t u)
 folded_stands IteOp (g ∷ t ∷ u ∷ []) ty h = with_type IteOp (g ∷ t ∷ u ∷ []) _ (type_of t) ty _ h (stands_ite g t u)
 folded_stands BvnegOp (t ∷ []) ty h = with_type BvnegOp (t ∷ []) _ (type_of t) ty _ h (stands_bvneg t)
-folded_stands BvaddOp (t ∷ u ∷ []) ty h = with_type BvaddOp (t ∷ u ∷ []) _ (type_of t) ty _ h (stands_bits BvaddOp bits.bvadd ranges.bvadd-below (λ I ty v w. refl) (λ b. true) t u)
-folded_stands BvsubOp (t ∷ u ∷ []) ty h = with_type BvsubOp (t ∷ u ∷ []) _ (type_of t) ty _ h (stands_bits BvsubOp bits.bvsub ranges.bvsub-below (λ I ty v w. refl) (λ b. true) t u)
-folded_stands BvmulOp (t ∷ u ∷ []) ty h = with_type BvmulOp (t ∷ u ∷ []) _ (type_of t) ty _ h (stands_bits BvmulOp bits.bvmul ranges.bvmul-below (λ I ty v w. refl) (λ b. true) t u)
-folded_stands BvudivOp (t ∷ u ∷ []) ty h = with_type BvudivOp (t ∷ u ∷ []) _ (type_of t) ty _ h (stands_bits BvudivOp bits.bvudiv ranges.bvudiv-below (λ I ty v w. refl) (λ b. true) t u)
-folded_stands BvuremOp (t ∷ u ∷ []) ty h = with_type BvuremOp (t ∷ u ∷ []) _ (type_of t) ty _ h (stands_bits BvuremOp bits.bvurem ranges.bvurem-below (λ I ty v w. refl) (λ b. true) t u)
-folded_stands BvsdivOp (t ∷ u ∷ []) ty h = with_type BvsdivOp (t ∷ u ∷ []) _ (type_of t) ty _ h (stands_bits BvsdivOp bits.bvsdiv ranges.bvsdiv-below (λ I ty v w. refl) (λ b. true) t u)
-folded_stands BvsremOp (t ∷ u ∷ []) ty h = with_type BvsremOp (t ∷ u ∷ []) _ (type_of t) ty _ h (stands_bits BvsremOp bits.bvsrem ranges.bvsrem-below (λ I ty v w. refl) (λ b. true) t u)
-folded_stands BvsmodOp (t ∷ u ∷ []) ty h = with_type BvsmodOp (t ∷ u ∷ []) _ (type_of t) ty _ h (stands_bits BvsmodOp bits.bvsmod ranges.bvsmod-below (λ I ty v w. refl) (λ b. true) t u)
-folded_stands BvshlOp (t ∷ u ∷ []) ty h = with_type BvshlOp (t ∷ u ∷ []) _ (type_of t) ty _ h (stands_bits BvshlOp bits.bvshl ranges.bvshl-below (λ I ty v w. refl) (λ b. nat_le b greatest_shift) t u)
-folded_stands BvlshrOp (t ∷ u ∷ []) ty h = with_type BvlshrOp (t ∷ u ∷ []) _ (type_of t) ty _ h (stands_bits BvlshrOp bits.bvlshr ranges.bvlshr-below (λ I ty v w. refl) (λ b. nat_le b greatest_shift) t u)
-folded_stands BvultOp (t ∷ u ∷ []) ty h = with_type BvultOp (t ∷ u ∷ []) _ BoolType ty _ h (stands_test BvultOp bits.bvult (λ I v w. refl) t u)
-folded_stands BvuleOp (t ∷ u ∷ []) ty h = with_type BvuleOp (t ∷ u ∷ []) _ BoolType ty _ h (stands_test BvuleOp bits.bvule (λ I v w. refl) t u)
-folded_stands BvsltOp (t ∷ u ∷ []) ty h = with_type BvsltOp (t ∷ u ∷ []) _ BoolType ty _ h (stands_test BvsltOp bits.bvslt (λ I v w. refl) t u)
-folded_stands BvsleOp (t ∷ u ∷ []) ty h = with_type BvsleOp (t ∷ u ∷ []) _ BoolType ty _ h (stands_test BvsleOp bits.bvsle (λ I v w. refl) t u)
-folded_stands BvsaddoOp (t ∷ u ∷ []) ty h = with_type BvsaddoOp (t ∷ u ∷ []) _ BoolType ty _ h (stands_test BvsaddoOp bits.bvsaddo (λ I v w. refl) t u)
-folded_stands BvssuboOp (t ∷ u ∷ []) ty h = with_type BvssuboOp (t ∷ u ∷ []) _ BoolType ty _ h (stands_test BvssuboOp bits.bvssubo (λ I v w. refl) t u)
-folded_stands BvsmuloOp (t ∷ u ∷ []) ty h = with_type BvsmuloOp (t ∷ u ∷ []) _ BoolType ty _ h (stands_test BvsmuloOp bits.bvsmulo (λ I v w. refl) t u)
+folded_stands (BitsOp o) (t ∷ u ∷ []) ty h = with_type (BitsOp o) (t ∷ u ∷ []) _ (type_of t) ty _ h (stands_bits o t u)
+folded_stands (TestOp o) (t ∷ u ∷ []) ty h = with_type (TestOp o) (t ∷ u ∷ []) _ BoolType ty _ h (stands_test o t u)
+folded_stands (OverflowOp o) (t ∷ u ∷ []) ty h = with_type (OverflowOp o) (t ∷ u ∷ []) _ BoolType ty _ h (stands_overflow o t u)
 folded_stands BvnegoOp (t ∷ []) ty h = with_type BvnegoOp (t ∷ []) _ BoolType ty _ h (stands_bvnego t)
 folded_stands (ZeroExtendOp k) (t ∷ []) ty h =
     subst (λ (r : PlainType). Refines (folded_zero_extend k t) (Application (ZeroExtendOp k) (terms (t ∷ [])) r)) (wider k (type_of t) ty (second_so (typed_all (terms (t ∷ []))) (is_type (extended_type k (type_of t)) ty) h)) (stands_zero_extend k t)

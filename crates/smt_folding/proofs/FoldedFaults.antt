@@ -3,11 +3,10 @@ use Rattle.std.proofs.Common.{◌≡◌, ℕ, ◌==◌, Bool, true, false, ◌&&
 use Rattle.std.specs.Prelude.{cond, filter, nat_le, Option, Some, None}
 use Rattle.std.specs.List.{AllByRecursion, list_all}
 use Rattle.std.specs.Option.{option_or, unwrap_or}
-use Rattle.smt_arithmetic.specs.Shifts.{greatest_shift}
-use Rattle.smt_arithmetic.specs.BitVectors as bits
+use Rattle.smt_arithmetic.specs.BitOperators.{BitsOperator, bits_entry, test_entry, overflow_entry}
 use Rattle.smt_meaning.specs.Faults.{Fault, unless, is_passed_over, type_fault, operator_fault, term_fault, terms_fault, fields_fault, literal_fault}
 use Rattle.smt_meaning.specs.Literals.{is_literal}
-use Rattle.smt_meaning.specs.Plain.{PlainType, OptionType, BitVecType, BoolType, PatternPart, PlainOp, AndOp, BvaddOp, BvlshrOp, BvmulOp, BvnegOp, BvnegoOp, BvsaddoOp, BvsdivOp, BvshlOp, BvsleOp, BvsltOp, BvsmodOp, BvsmuloOp, BvsremOp, BvssuboOp, BvsubOp, BvudivOp, BvuleOp, BvultOp, BvuremOp, EqOp, IteOp, NotOp, OptionGetOp, OrOp, SetInterOp, SetMemberOp, SetSubsetOp, StringLikeOp, ZeroExtendOp, BitVecLiteral, BoolLiteral, StringLiteral, PlainTerm, Application, NoneTerm, LiteralTerm, RecordTerm, SetTerm, SomeTerm, VariableTerm, PlainTerms, no_terms, one_term, list_of_terms, terms}
+use Rattle.smt_meaning.specs.Plain.{PlainType, OptionType, BitVecType, BoolType, PatternPart, PlainOp, AndOp, BvnegOp, BvnegoOp, EqOp, IteOp, NotOp, OptionGetOp, OrOp, SetInterOp, SetMemberOp, SetSubsetOp, StringLikeOp, ZeroExtendOp, BitVecLiteral, BoolLiteral, StringLiteral, PlainTerm, Application, NoneTerm, LiteralTerm, RecordTerm, SetTerm, SomeTerm, VariableTerm, PlainTerms, no_terms, one_term, list_of_terms, terms, BitsOp, TestOp, OverflowOp}
 use Rattle.smt_meaning.specs.TermOrder.{term_eq}
 use Rattle.smt_meaning.specs.TermSets.{set_term, sorted_terms}
 use Rattle.smt_meaning.specs.Types.{inner_type, is_bits, type_of, types_of}
@@ -16,7 +15,7 @@ use Rattle.smt_meaning.proofs.Soundness.{none-first, none-second}
 use Rattle.smt_meaning.proofs.SortedSets.{all-terms}
 use Rattle.smt_folding.specs.Applications.{true_term, false_term, truth_literal, bits_literal, not_of, and_of, or_of, eq_of, ite_of, bits_of_two, test_of_two, bvneg_of, zero_extend_of, set_member_of, set_subset_of, set_inter_of, option_get_of, type_inside, wider_type}
 use Rattle.smt_folding.specs.Built.{folded}
-use Rattle.smt_folding.specs.FoldBits.{folded_bits_where, folded_bvneg, folded_bvnego, folded_test, folded_zero_extend}
+use Rattle.smt_folding.specs.FoldBits.{folded_bits, folded_bvneg, folded_bvnego, folded_test_by, folded_zero_extend, takes_right}
 use Rattle.smt_folding.specs.FoldConnectives.{are_opposites, folded_and, folded_not, folded_or}
 use Rattle.smt_folding.specs.FoldEquality.{folded_eq, folded_eq_inside, folded_ite, folded_ite_inside, is_boolean}
 use Rattle.smt_folding.specs.FoldOptions.{folded_option_get}
@@ -218,18 +217,18 @@ module _ (enums : Enums) where
     faultless_bits_of_two : (t u : PlainTerm) → IsFaultless t → IsFaultless u → IsFaultless (bits_of_two o t u)
     faultless_bits_of_two t u h k = faultless_application o (t ∷ u ∷ []) (type_of t) (h, (k, tt)) (faultless_type t h) (own (type_of t ∷ type_of u ∷ []))
 
-    faultless_bits : (taken : ℕ → Bool) (f : ℕ → ℕ → ℕ → ℕ) (t u : PlainTerm) → IsFaultless t → IsFaultless u → IsFaultless (folded_bits_where taken o f t u)
-    faultless_bits taken f (LiteralTerm (BitVecLiteral n a)) (LiteralTerm (BitVecLiteral m b)) h k =
-        one_of (n == m && taken b) (bits_literal n (f n a b)) (bits_of_two o (bits_literal n a) (bits_literal m b)) refl (faultless_bits_of_two (bits_literal n a) (bits_literal m b) h k)
-    faultless_bits taken f t u h k = faultless_bits_of_two t u h k
-
     faultless_test_of_two : (t u : PlainTerm) → IsFaultless t → IsFaultless u → IsFaultless (test_of_two o t u)
     faultless_test_of_two t u h k = faultless_application o (t ∷ u ∷ []) BoolType (h, (k, tt)) refl (own (type_of t ∷ type_of u ∷ []))
 
-    faultless_test : (f : ℕ → ℕ → ℕ → Bool) (t u : PlainTerm) → IsFaultless t → IsFaultless u → IsFaultless (folded_test o f t u)
+    faultless_test : (f : ℕ → ℕ → ℕ → Bool) (t u : PlainTerm) → IsFaultless t → IsFaultless u → IsFaultless (folded_test_by o f t u)
     faultless_test f (LiteralTerm (BitVecLiteral n a)) (LiteralTerm (BitVecLiteral m b)) h k =
         one_of (n == m) (truth_literal (f n a b)) (test_of_two o (bits_literal n a) (bits_literal m b)) refl (faultless_test_of_two (bits_literal n a) (bits_literal m b) h k)
     faultless_test f t u h k = faultless_test_of_two t u h k
+
+  faultless_bits : (o : BitsOperator) (t u : PlainTerm) → IsFaultless t → IsFaultless u → IsFaultless (folded_bits o t u)
+  faultless_bits o (LiteralTerm (BitVecLiteral n a)) (LiteralTerm (BitVecLiteral m b)) h k =
+      one_of (n == m && takes_right o b) (bits_literal n ((bits_entry o).function n a b)) (bits_of_two (BitsOp o) (bits_literal n a) (bits_literal m b)) refl (faultless_bits_of_two (BitsOp o) (λ ts. refl) (bits_literal n a) (bits_literal m b) h k)
+  faultless_bits o t u h k = faultless_bits_of_two (BitsOp o) (λ ts. refl) t u h k
 
   faultless_bvnego : (t : PlainTerm) → IsFaultless t → IsFaultless (folded_bvnego t)
   faultless_bvnego (LiteralTerm (BitVecLiteral n a)) h = refl
@@ -295,24 +294,10 @@ module _ (enums : Enums) where
   faultless_folded EqOp (t ∷ u ∷ []) ty h y f = faultless_eq t u h.0 h.1.0
   faultless_folded IteOp (g ∷ t ∷ u ∷ []) ty h y f = faultless_ite g t u h.0 h.1.0 h.1.1.0
   faultless_folded BvnegOp (t ∷ []) ty h y f = faultless_bvneg t h.0
-  faultless_folded BvaddOp (t ∷ u ∷ []) ty h y f = faultless_bits BvaddOp (λ ts. refl) (λ b. true) bits.bvadd t u h.0 h.1.0
-  faultless_folded BvsubOp (t ∷ u ∷ []) ty h y f = faultless_bits BvsubOp (λ ts. refl) (λ b. true) bits.bvsub t u h.0 h.1.0
-  faultless_folded BvmulOp (t ∷ u ∷ []) ty h y f = faultless_bits BvmulOp (λ ts. refl) (λ b. true) bits.bvmul t u h.0 h.1.0
-  faultless_folded BvudivOp (t ∷ u ∷ []) ty h y f = faultless_bits BvudivOp (λ ts. refl) (λ b. true) bits.bvudiv t u h.0 h.1.0
-  faultless_folded BvuremOp (t ∷ u ∷ []) ty h y f = faultless_bits BvuremOp (λ ts. refl) (λ b. true) bits.bvurem t u h.0 h.1.0
-  faultless_folded BvsdivOp (t ∷ u ∷ []) ty h y f = faultless_bits BvsdivOp (λ ts. refl) (λ b. true) bits.bvsdiv t u h.0 h.1.0
-  faultless_folded BvsremOp (t ∷ u ∷ []) ty h y f = faultless_bits BvsremOp (λ ts. refl) (λ b. true) bits.bvsrem t u h.0 h.1.0
-  faultless_folded BvsmodOp (t ∷ u ∷ []) ty h y f = faultless_bits BvsmodOp (λ ts. refl) (λ b. true) bits.bvsmod t u h.0 h.1.0
-  faultless_folded BvshlOp (t ∷ u ∷ []) ty h y f = faultless_bits BvshlOp (λ ts. refl) (λ b. nat_le b greatest_shift) bits.bvshl t u h.0 h.1.0
-  faultless_folded BvlshrOp (t ∷ u ∷ []) ty h y f = faultless_bits BvlshrOp (λ ts. refl) (λ b. nat_le b greatest_shift) bits.bvlshr t u h.0 h.1.0
-  faultless_folded BvultOp (t ∷ u ∷ []) ty h y f = faultless_test BvultOp (λ ts. refl) bits.bvult t u h.0 h.1.0
-  faultless_folded BvuleOp (t ∷ u ∷ []) ty h y f = faultless_test BvuleOp (λ ts. refl) bits.bvule t u h.0 h.1.0
-  faultless_folded BvsltOp (t ∷ u ∷ []) ty h y f = faultless_test BvsltOp (λ ts. refl) bits.bvslt t u h.0 h.1.0
-  faultless_folded BvsleOp (t ∷ u ∷ []) ty h y f = faultless_test BvsleOp (λ ts. refl) bits.bvsle t u h.0 h.1.0
+  faultless_folded (BitsOp o) (t ∷ u ∷ []) ty h y f = faultless_bits o t u h.0 h.1.0
+  faultless_folded (TestOp o) (t ∷ u ∷ []) ty h y f = faultless_test (TestOp o) (λ ts. refl) (test_entry o).function t u h.0 h.1.0
+  faultless_folded (OverflowOp o) (t ∷ u ∷ []) ty h y f = faultless_test (OverflowOp o) (λ ts. refl) (overflow_entry o).function t u h.0 h.1.0
   faultless_folded BvnegoOp (t ∷ []) ty h y f = faultless_bvnego t h.0
-  faultless_folded BvsaddoOp (t ∷ u ∷ []) ty h y f = faultless_test BvsaddoOp (λ ts. refl) bits.bvsaddo t u h.0 h.1.0
-  faultless_folded BvssuboOp (t ∷ u ∷ []) ty h y f = faultless_test BvssuboOp (λ ts. refl) bits.bvssubo t u h.0 h.1.0
-  faultless_folded BvsmuloOp (t ∷ u ∷ []) ty h y f = faultless_test BvsmuloOp (λ ts. refl) bits.bvsmulo t u h.0 h.1.0
   faultless_folded (ZeroExtendOp k) (t ∷ []) ty h y f = faultless_zero_extend k t h.0
   faultless_folded SetMemberOp (t ∷ u ∷ []) ty h y f = faultless_set_member t u h.0 h.1.0
   faultless_folded SetSubsetOp (t ∷ u ∷ []) ty h y f = faultless_set_subset t u h.0 h.1.0

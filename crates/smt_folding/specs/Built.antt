@@ -1,7 +1,7 @@
 -- What the factory builds for a whole term: each application is folded, its arguments first, and the elements of each set
 -- are put in order anew.
 use Rattle.std.specs.Prelude.{◌≡◌, IsTrue, List, [], ◌∷◌, None}
-use Rattle.smt_folding.specs.FoldBits.{folded_bvneg, folded_bvnego, folded_zero_extend, folded_bvadd, folded_bvsub, folded_bvmul, folded_bvsdiv, folded_bvudiv, folded_bvsrem, folded_bvsmod, folded_bvurem, folded_bvshl, folded_bvlshr, folded_bvslt, folded_bvsle, folded_bvult, folded_bvule, folded_bvsaddo, folded_bvssubo, folded_bvsmulo}
+use Rattle.smt_folding.specs.FoldBits.{folded_bits, folded_bvneg, folded_bvnego, folded_overflow, folded_test, folded_zero_extend}
 use Rattle.smt_folding.specs.FoldConnectives.{folded_not, folded_and, folded_or}
 use Rattle.smt_folding.specs.FoldEquality.{folded_eq, folded_ite}
 use Rattle.smt_folding.specs.FoldOptions.{folded_option_get}
@@ -9,7 +9,7 @@ use Rattle.smt_folding.specs.FoldSets.{folded_set_member, folded_set_subset, fol
 use Rattle.smt_folding.specs.FoldStrings.{folded_string_like}
 use Rattle.smt_folding.specs.Refinement.{Refines}
 use Rattle.smt_meaning.specs.Faults.{term_fault}
-use Rattle.smt_meaning.specs.Plain.{PlainType, PlainOp, AndOp, BvaddOp, BvlshrOp, BvmulOp, BvnegOp, BvnegoOp, BvsaddoOp, BvsdivOp, BvshlOp, BvsleOp, BvsltOp, BvsmodOp, BvsmuloOp, BvsremOp, BvssuboOp, BvsubOp, BvudivOp, BvuleOp, BvultOp, BvuremOp, EqOp, IteOp, NotOp, OptionGetOp, OrOp, SetInterOp, SetMemberOp, SetSubsetOp, StringLikeOp, ZeroExtendOp, PlainTerm, Application, NoneTerm, LiteralTerm, RecordTerm, SetTerm, SomeTerm, VariableTerm, PlainTerms, no_terms, one_term, PlainFields, no_fields, one_field, terms}
+use Rattle.smt_meaning.specs.Plain.{PlainType, PlainOp, AndOp, BvnegOp, BvnegoOp, EqOp, IteOp, NotOp, OptionGetOp, OrOp, SetInterOp, SetMemberOp, SetSubsetOp, StringLikeOp, ZeroExtendOp, PlainTerm, Application, NoneTerm, LiteralTerm, RecordTerm, SetTerm, SomeTerm, VariableTerm, PlainTerms, no_terms, one_term, PlainFields, no_fields, one_field, terms, BitsOp, TestOp, OverflowOp}
 use Rattle.smt_meaning.specs.TermSets.{set_term}
 use Rattle.smt_meaning.specs.Typing.{typed}
 use Rattle.smt_meaning.specs.TypeValues.{Enums}
@@ -22,24 +22,10 @@ folded OrOp (t ∷ u ∷ []) ty = folded_or t u
 folded EqOp (t ∷ u ∷ []) ty = folded_eq t u
 folded IteOp (g ∷ t ∷ u ∷ []) ty = folded_ite g t u
 folded BvnegOp (t ∷ []) ty = folded_bvneg t
-folded BvaddOp (t ∷ u ∷ []) ty = folded_bvadd t u
-folded BvsubOp (t ∷ u ∷ []) ty = folded_bvsub t u
-folded BvmulOp (t ∷ u ∷ []) ty = folded_bvmul t u
-folded BvudivOp (t ∷ u ∷ []) ty = folded_bvudiv t u
-folded BvuremOp (t ∷ u ∷ []) ty = folded_bvurem t u
-folded BvsdivOp (t ∷ u ∷ []) ty = folded_bvsdiv t u
-folded BvsremOp (t ∷ u ∷ []) ty = folded_bvsrem t u
-folded BvsmodOp (t ∷ u ∷ []) ty = folded_bvsmod t u
-folded BvshlOp (t ∷ u ∷ []) ty = folded_bvshl t u
-folded BvlshrOp (t ∷ u ∷ []) ty = folded_bvlshr t u
-folded BvultOp (t ∷ u ∷ []) ty = folded_bvult t u
-folded BvuleOp (t ∷ u ∷ []) ty = folded_bvule t u
-folded BvsltOp (t ∷ u ∷ []) ty = folded_bvslt t u
-folded BvsleOp (t ∷ u ∷ []) ty = folded_bvsle t u
+folded (BitsOp o) (t ∷ u ∷ []) ty = folded_bits o t u
+folded (TestOp o) (t ∷ u ∷ []) ty = folded_test o t u
+folded (OverflowOp o) (t ∷ u ∷ []) ty = folded_overflow o t u
 folded BvnegoOp (t ∷ []) ty = folded_bvnego t
-folded BvsaddoOp (t ∷ u ∷ []) ty = folded_bvsaddo t u
-folded BvssuboOp (t ∷ u ∷ []) ty = folded_bvssubo t u
-folded BvsmuloOp (t ∷ u ∷ []) ty = folded_bvsmulo t u
 folded (ZeroExtendOp k) (t ∷ []) ty = folded_zero_extend k t
 folded SetMemberOp (t ∷ u ∷ []) ty = folded_set_member t u
 folded SetSubsetOp (t ∷ u ∷ []) ty = folded_set_subset t u

@@ -1,7 +1,8 @@
 -- Worked examples of folding.
-use Rattle.std.specs.Prelude.{◌≡◌, ℕ, Bool, true, false, List, [], ◌∷◌, map, codes, Ok}
+use Rattle.std.specs.Prelude.{◌≡◌, ℕ, Bool, true, false, List, [], ◌∷◌, ◌++◌, map, codes}
 use Rattle.smt_folding.specs.Applications.{truth_literal, true_term, false_term, bits_literal, not_of, implies_of, and_of, or_of, eq_of, ite_of, any_of, bvneg_of, bits_of_two, test_of_two, bvnego_of, zero_extend_of, string_like_of, set_member_of, set_subset_of, set_inter_of, set_is_empty_of, set_intersects_of, option_get_of, is_none_of, is_some_of, if_false_of, if_true_of, if_some_of, any_none_of, if_all_some_of}
-use Rattle.smt_folding.specs.FoldBits.{folded_bvneg, folded_bvnego, folded_zero_extend, folded_bvadd, folded_bvsub, folded_bvmul, folded_bvsdiv, folded_bvudiv, folded_bvsrem, folded_bvsmod, folded_bvurem, folded_bvshl, folded_bvlshr, folded_bvslt, folded_bvsle, folded_bvult, folded_bvule, folded_bvsaddo, folded_bvssubo, folded_bvsmulo}
+use Rattle.smt_arithmetic.specs.BitOperators.{BvaddOp, BvlshrOp, BvshlOp, BvsubOp, BvsltOp, BvultOp, BvsaddoOp, BvsmuloOp, BvssuboOp, bits_operators, test_operators, overflow_operators}
+use Rattle.smt_folding.specs.FoldBits.{folded_bits, folded_bvneg, folded_bvnego, folded_overflow, folded_test, folded_zero_extend}
 use Rattle.smt_folding.specs.FoldConnectives.{folded_not, are_opposites, folded_and, folded_or, folded_implies, folded_any}
 use Rattle.smt_folding.specs.FoldEquality.{folded_eq, folded_ite}
 use Rattle.smt_folding.specs.FoldOptions.{folded_option_get, folded_is_none, folded_is_some, folded_if_false, folded_if_true, folded_if_some, folded_any_none, folded_if_all_some}
@@ -14,7 +15,7 @@ use Rattle.smt_meaning.specs.Tables.{Interpretation}
 use Rattle.smt_meaning.specs.TermSets.{set_term}
 use Rattle.smt_meaning.specs.ValueOrder.{values}
 use Rattle.smt_meaning.specs.Values.{BoolValue, BitVecValue, NoneValue, SetValue, SomeValue}
-use Rattle.smt_meaning.specs.Plain.{OptionType, BitVecType, BoolType, SetType, StringType, PatternPart, Character, Wildcard, BvaddOp, BvlshrOp, BvshlOp, BvsubOp, BvultOp, IteOp, StringLiteral, PlainTerm, Application, NoneTerm, LiteralTerm, SetTerm, SomeTerm, VariableTerm, terms}
+use Rattle.smt_meaning.specs.Plain.{OptionType, BitVecType, BoolType, SetType, StringType, PatternPart, Character, Wildcard, IteOp, StringLiteral, PlainTerm, Application, NoneTerm, LiteralTerm, SetTerm, SomeTerm, VariableTerm, terms, BitsOp, TestOp, OverflowOp}
 
 -- variables
 abbrev pub b : PlainTerm
@@ -34,10 +35,10 @@ abbrev pub at_bytes : List (PlainTerm → PlainTerm → PlainTerm) → ℕ → �
 at_bytes fs a b = map (λ f. f (byte a) (byte b)) fs
 
 abbrev pub bit_foldings : List (PlainTerm → PlainTerm → PlainTerm)
-bit_foldings = folded_bvadd ∷ folded_bvsub ∷ folded_bvmul ∷ folded_bvudiv ∷ folded_bvurem ∷ folded_bvsdiv ∷ folded_bvsrem ∷ folded_bvsmod ∷ folded_bvshl ∷ folded_bvlshr ∷ []
+bit_foldings = map folded_bits bits_operators
 
 abbrev pub test_foldings : List (PlainTerm → PlainTerm → PlainTerm)
-test_foldings = folded_bvult ∷ folded_bvule ∷ folded_bvslt ∷ folded_bvsle ∷ folded_bvsaddo ∷ folded_bvssubo ∷ folded_bvsmulo ∷ []
+test_foldings = map folded_test test_operators ++ map folded_overflow overflow_operators
 
 abbrev pub truths : List Bool → List PlainTerm
 truths bs = map truth_literal bs
@@ -46,7 +47,7 @@ pub record ConnectiveRows : Type 0 where
   -- the applications themselves, by their values, which are false where a term is not typed
   pub applied : (I : Interpretation) → map (term_value I) (not_of false_term ∷ and_of true_term false_term ∷ or_of true_term false_term ∷ implies_of true_term false_term ∷ implies_of false_term true_term ∷ eq_of (byte 1) (byte 1) ∷ any_of (false_term ∷ true_term ∷ []) ∷ [])
       ≡ BoolValue true ∷ BoolValue false ∷ BoolValue true ∷ BoolValue false ∷ BoolValue true ∷ BoolValue true ∷ BoolValue true ∷ []
-  pub applied_bits : (I : Interpretation) → map (term_value I) (ite_of true_term (byte 1) (byte 2) ∷ ite_of false_term (byte 1) (byte 2) ∷ bvneg_of (byte 1) ∷ bits_of_two BvsubOp (byte 0) (byte 2) ∷ test_of_two BvultOp (byte 1) (byte 2) ∷ test_of_two BvultOp (byte 2) (byte 1) ∷ bvnego_of (byte 128) ∷ zero_extend_of 8 (byte 5) ∷ [])
+  pub applied_bits : (I : Interpretation) → map (term_value I) (ite_of true_term (byte 1) (byte 2) ∷ ite_of false_term (byte 1) (byte 2) ∷ bvneg_of (byte 1) ∷ bits_of_two (BitsOp BvsubOp) (byte 0) (byte 2) ∷ test_of_two (TestOp BvultOp) (byte 1) (byte 2) ∷ test_of_two (TestOp BvultOp) (byte 2) (byte 1) ∷ bvnego_of (byte 128) ∷ zero_extend_of 8 (byte 5) ∷ [])
       ≡ BitVecValue 8 1 ∷ BitVecValue 8 2 ∷ BitVecValue 8 255 ∷ BitVecValue 8 254 ∷ BoolValue true ∷ BoolValue false ∷ BoolValue true ∷ BitVecValue 16 5 ∷ []
   pub double_negation : folded_not (folded_not b) ≡ b
   pub opposites : are_opposites b (not_of b) ≡ true
@@ -86,26 +87,26 @@ pub record EqualityRows : Type 0 where
 pub record BitsRows : Type 0 where
   pub negation : folded_bvneg (byte 1) ≡ byte 255
   pub negation_twice : folded_bvneg (folded_bvneg x) ≡ x
-  pub sum : folded_bvadd (byte 255) (byte 1) ≡ byte 0
+  pub sum : folded_bits BvaddOp (byte 255) (byte 1) ≡ byte 0
   -- 249 is -7
-  pub each : at_bytes bit_foldings 249 3 ≡ map byte (252 ∷ 246 ∷ 235 ∷ 83 ∷ 0 ∷ 254 ∷ 255 ∷ 2 ∷ 200 ∷ 31 ∷ [])
-  pub each_test : at_bytes test_foldings 128 255 ≡ truths (true ∷ true ∷ true ∷ true ∷ true ∷ false ∷ true ∷ [])
-  pub each_test_of_equal : at_bytes test_foldings 16 16 ≡ truths (false ∷ true ∷ false ∷ true ∷ false ∷ false ∷ true ∷ [])
+  pub each : at_bytes bit_foldings 249 3 ≡ map byte (252 ∷ 31 ∷ 235 ∷ 254 ∷ 200 ∷ 2 ∷ 255 ∷ 246 ∷ 83 ∷ 0 ∷ [])
+  pub each_test : at_bytes test_foldings 128 255 ≡ truths (true ∷ true ∷ true ∷ true ∷ true ∷ true ∷ false ∷ [])
+  pub each_test_of_equal : at_bytes test_foldings 16 16 ≡ truths (true ∷ false ∷ true ∷ false ∷ false ∷ true ∷ false ∷ [])
   pub each_test_of_small : at_bytes test_foldings 2 3 ≡ truths (true ∷ true ∷ true ∷ true ∷ false ∷ false ∷ false ∷ [])
-  pub each_test_of_least : at_bytes test_foldings 128 2 ≡ truths (false ∷ false ∷ true ∷ true ∷ false ∷ true ∷ true ∷ [])
-  pub sum_stays : folded_bvadd x (byte 1) ≡ bits_of_two BvaddOp x (byte 1)
-  pub widths_differ : folded_bvadd (byte 1) (bits_literal 16 1) ≡ bits_of_two BvaddOp (byte 1) (bits_literal 16 1)
-  pub shift : folded_bvshl (bits_literal 64 1) (bits_literal 64 4294967295) ≡ bits_literal 64 0
-  pub far_shift : folded_bvshl (bits_literal 64 1) (bits_literal 64 4294967296) ≡ bits_of_two BvshlOp (bits_literal 64 1) (bits_literal 64 4294967296)
-  pub far_shift_right : folded_bvlshr (bits_literal 64 1) (bits_literal 64 4294967296) ≡ bits_of_two BvlshrOp (bits_literal 64 1) (bits_literal 64 4294967296)
-  pub less : folded_bvslt (byte 255) (byte 0) ≡ true_term
-  pub less_unsigned : folded_bvult (byte 255) (byte 0) ≡ false_term
-  pub less_stays : folded_bvult (byte 1) (bits_literal 16 1) ≡ test_of_two BvultOp (byte 1) (bits_literal 16 1)
+  pub each_test_of_least : at_bytes test_foldings 128 2 ≡ truths (true ∷ true ∷ false ∷ false ∷ false ∷ true ∷ true ∷ [])
+  pub sum_stays : folded_bits BvaddOp x (byte 1) ≡ bits_of_two (BitsOp BvaddOp) x (byte 1)
+  pub widths_differ : folded_bits BvaddOp (byte 1) (bits_literal 16 1) ≡ bits_of_two (BitsOp BvaddOp) (byte 1) (bits_literal 16 1)
+  pub shift : folded_bits BvshlOp (bits_literal 64 1) (bits_literal 64 4294967295) ≡ bits_literal 64 0
+  pub far_shift : folded_bits BvshlOp (bits_literal 64 1) (bits_literal 64 4294967296) ≡ bits_of_two (BitsOp BvshlOp) (bits_literal 64 1) (bits_literal 64 4294967296)
+  pub far_shift_right : folded_bits BvlshrOp (bits_literal 64 1) (bits_literal 64 4294967296) ≡ bits_of_two (BitsOp BvlshrOp) (bits_literal 64 1) (bits_literal 64 4294967296)
+  pub less : folded_test BvsltOp (byte 255) (byte 0) ≡ true_term
+  pub less_unsigned : folded_test BvultOp (byte 255) (byte 0) ≡ false_term
+  pub less_stays : folded_test BvultOp (byte 1) (bits_literal 16 1) ≡ test_of_two (TestOp BvultOp) (byte 1) (bits_literal 16 1)
   pub least : folded_bvnego (byte 128) ≡ true_term
   pub not_least : folded_bvnego (byte 127) ≡ false_term
-  pub sum_overflows : folded_bvsaddo (byte 127) (byte 1) ≡ true_term
-  pub difference_overflows : folded_bvssubo (byte 128) (byte 1) ≡ true_term
-  pub product_overflows : folded_bvsmulo (byte 16) (byte 8) ≡ true_term
+  pub sum_overflows : folded_overflow BvsaddoOp (byte 127) (byte 1) ≡ true_term
+  pub difference_overflows : folded_overflow BvssuboOp (byte 128) (byte 1) ≡ true_term
+  pub product_overflows : folded_overflow BvsmuloOp (byte 16) (byte 8) ≡ true_term
   pub extended : folded_zero_extend 8 (byte 5) ≡ bits_literal 16 5
   pub extended_stays : folded_zero_extend 8 x ≡ zero_extend_of 8 x
   pub no_bits : folded_zero_extend 8 b ≡ b

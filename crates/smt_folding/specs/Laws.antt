@@ -2,7 +2,8 @@
 use Rattle.std.specs.Prelude.{◌≡◌, ◌↔◌, ℕ, ◌^◌, ◌<◌, Bool, List, [], ◌∷◌, map, IsTrue}
 use Rattle.std.specs.List.{AllByRecursion, AllZip, list_any}
 use Rattle.smt_folding.specs.Applications.{truth_literal, bits_literal, not_of, and_of, or_of, implies_of, eq_of, ite_of, any_of, bvneg_of, bits_of_two, test_of_two, bvnego_of, zero_extend_of, string_like_of, set_member_of, set_subset_of, set_inter_of, set_is_empty_of, set_intersects_of, option_get_of, is_none_of, is_some_of, if_false_of, if_true_of, if_some_of, any_none_of, if_all_some_of}
-use Rattle.smt_folding.specs.FoldBits.{folded_bvneg, folded_bvnego, folded_zero_extend, folded_bvadd, folded_bvsub, folded_bvmul, folded_bvsdiv, folded_bvudiv, folded_bvsrem, folded_bvsmod, folded_bvurem, folded_bvshl, folded_bvlshr, folded_bvslt, folded_bvsle, folded_bvult, folded_bvule, folded_bvsaddo, folded_bvssubo, folded_bvsmulo}
+use Rattle.smt_arithmetic.specs.BitOperators.{BitsOperator, TestOperator, OverflowOperator}
+use Rattle.smt_folding.specs.FoldBits.{folded_bits, folded_bvneg, folded_bvnego, folded_overflow, folded_test, folded_zero_extend}
 use Rattle.smt_folding.specs.FoldConnectives.{folded_not, folded_and, folded_or, folded_implies, folded_any}
 use Rattle.smt_folding.specs.FoldEquality.{folded_eq, folded_ite}
 use Rattle.smt_folding.specs.FoldOptions.{folded_option_get, folded_is_none, folded_is_some, folded_if_false, folded_if_true, folded_if_some, folded_any_none, folded_if_all_some}
@@ -18,7 +19,7 @@ use Rattle.smt_meaning.specs.Tables.{Interpretation}
 use Rattle.smt_meaning.specs.TermSets.{set_term}
 use Rattle.smt_meaning.specs.Typing.{typed, Typed, AreBoolean}
 use Rattle.smt_meaning.specs.TypeValues.{Enums}
-use Rattle.smt_meaning.specs.Plain.{PlainType, BitVecType, BoolType, PatternPart, PlainOp, BvaddOp, BvlshrOp, BvmulOp, BvsaddoOp, BvsdivOp, BvshlOp, BvsleOp, BvsltOp, BvsmodOp, BvsmuloOp, BvsremOp, BvssuboOp, BvsubOp, BvudivOp, BvuleOp, BvultOp, BvuremOp, PlainTerm, Application, RecordTerm, SomeTerm, PlainFields, terms}
+use Rattle.smt_meaning.specs.Plain.{PlainType, BitVecType, BoolType, PatternPart, PlainOp, PlainTerm, Application, RecordTerm, SomeTerm, PlainFields, terms, BitsOp, TestOp, OverflowOp}
 use Rattle.smt_meaning.specs.Values.{BoolValue, BitVecValue}
 
 -- standing for is an order that applications, `some`, records and sets keep, and the tests for none and for the empty set
@@ -64,28 +65,14 @@ pub record EqualityAndChoiceAreFolded : Type 0 where
 -- operators from bits to bits
 pub record BitsAreFolded : Type 0 where
   pub bvneg : (t : PlainTerm) → Refines (folded_bvneg t) (bvneg_of t)
-  pub bvadd : (t u : PlainTerm) → Refines (folded_bvadd t u) (bits_of_two BvaddOp t u)
-  pub bvsub : (t u : PlainTerm) → Refines (folded_bvsub t u) (bits_of_two BvsubOp t u)
-  pub bvmul : (t u : PlainTerm) → Refines (folded_bvmul t u) (bits_of_two BvmulOp t u)
-  pub bvsdiv : (t u : PlainTerm) → Refines (folded_bvsdiv t u) (bits_of_two BvsdivOp t u)
-  pub bvudiv : (t u : PlainTerm) → Refines (folded_bvudiv t u) (bits_of_two BvudivOp t u)
-  pub bvsrem : (t u : PlainTerm) → Refines (folded_bvsrem t u) (bits_of_two BvsremOp t u)
-  pub bvsmod : (t u : PlainTerm) → Refines (folded_bvsmod t u) (bits_of_two BvsmodOp t u)
-  pub bvurem : (t u : PlainTerm) → Refines (folded_bvurem t u) (bits_of_two BvuremOp t u)
-  pub bvshl : (t u : PlainTerm) → Refines (folded_bvshl t u) (bits_of_two BvshlOp t u)
-  pub bvlshr : (t u : PlainTerm) → Refines (folded_bvlshr t u) (bits_of_two BvlshrOp t u)
+  pub bits : (o : BitsOperator) (t u : PlainTerm) → Refines (folded_bits o t u) (bits_of_two (BitsOp o) t u)
   pub zero_extend : (k : ℕ) (t : PlainTerm) → Refines (folded_zero_extend k t) (zero_extend_of k t)
 
 -- tests of bits
 pub record TestsAreFolded : Type 0 where
-  pub bvslt : (t u : PlainTerm) → Refines (folded_bvslt t u) (test_of_two BvsltOp t u)
-  pub bvsle : (t u : PlainTerm) → Refines (folded_bvsle t u) (test_of_two BvsleOp t u)
-  pub bvult : (t u : PlainTerm) → Refines (folded_bvult t u) (test_of_two BvultOp t u)
-  pub bvule : (t u : PlainTerm) → Refines (folded_bvule t u) (test_of_two BvuleOp t u)
+  pub test : (o : TestOperator) (t u : PlainTerm) → Refines (folded_test o t u) (test_of_two (TestOp o) t u)
+  pub overflow : (o : OverflowOperator) (t u : PlainTerm) → Refines (folded_overflow o t u) (test_of_two (OverflowOp o) t u)
   pub bvnego : (t : PlainTerm) → Refines (folded_bvnego t) (bvnego_of t)
-  pub bvsaddo : (t u : PlainTerm) → Refines (folded_bvsaddo t u) (test_of_two BvsaddoOp t u)
-  pub bvssubo : (t u : PlainTerm) → Refines (folded_bvssubo t u) (test_of_two BvssuboOp t u)
-  pub bvsmulo : (t u : PlainTerm) → Refines (folded_bvsmulo t u) (test_of_two BvsmuloOp t u)
 
 -- the match of a string with a pattern
 abbrev pub StringLikeIsFolded : Type 0

@@ -5,7 +5,9 @@ use Rattle.std.specs.Cmp.{first_so, second_so}
 use Rattle.std.specs.List.{AllByRecursion, list_all}
 use Rattle.std.specs.Ordering.{is_eq}
 use Rattle.std.proofs.lemmas.Bool.{ltb-true, eq-eqb, eqb-true}
-use Rattle.smt_meaning.specs.Plain.{IpAddrKind, DecimalKind, DatetimeKind, DurationKind, PlainType, OptionType, BoolType, EntityType, ExtensionType, RecordType, SetType, PlainOp, BvnegoOp, ExtOp, OptionGetOp, RecordGetOp, StringLikeOp, UufOp, ZeroExtendOp, PlainExtension, DecimalOf, Ipv4Of, Ipv6Of, DatetimeOf, DurationOf, PlainLiteral, BitVecLiteral, BoolLiteral, EntityLiteral, ExtensionLiteral, StringLiteral, PlainTerm, Application, NoneTerm, LiteralTerm, RecordTerm, SetTerm, SomeTerm, VariableTerm, PlainTerms, no_terms, one_term, PlainFields, no_fields, one_field}
+use Rattle.smt_arithmetic.specs.BitOperators.{bits_entry, test_entry, overflow_entry}
+use Rattle.smt_semantics.proofs.Spelled.{bits_found, test_found, overflow_found}
+use Rattle.smt_meaning.specs.Plain.{IpAddrKind, DecimalKind, DatetimeKind, DurationKind, PlainType, OptionType, BoolType, EntityType, ExtensionType, RecordType, SetType, PlainOp, BvnegoOp, ExtOp, OptionGetOp, RecordGetOp, StringLikeOp, UufOp, ZeroExtendOp, PlainExtension, DecimalOf, Ipv4Of, Ipv6Of, DatetimeOf, DurationOf, PlainLiteral, BitVecLiteral, BoolLiteral, EntityLiteral, ExtensionLiteral, StringLiteral, PlainTerm, Application, NoneTerm, LiteralTerm, RecordTerm, SetTerm, SomeTerm, VariableTerm, PlainTerms, no_terms, one_term, PlainFields, no_fields, one_field, BitsOp, TestOp, OverflowOp}
 use Rattle.smt_meaning.specs.Meaning.{literal_value, meaning, meanings, field_meanings}
 use Rattle.smt_meaning.specs.Operators.{apply}
 use Rattle.smt_meaning.specs.Reached.{subterms, subterms_of_all, subterms_of_fields}
@@ -120,6 +122,9 @@ module _ (enums : Enums) (s : Tables) (state : State) (I : Interpretation) (x : 
       (subst (λ u. IsValue enums u (meaning I t)) same k.0.1) (subst (λ u. Has (text_or_nothing (text_of s t)) u (meaning I t)) same a.0))
   applied (ExtOp e) (one_term t (one_term u ts)) type o k h f r q a = absurd (none_is type k.1)
   -- each other operator is one of a theory
+  applied (BitsOp b) ts type o k h f r q a = operator enums s state I x (bits_entry b).name (BitsOp b) ts type (bits_found b) refl k.1 k.0 a
+  applied (TestOp b) ts type o k h f r q a = operator enums s state I x (test_entry b).name (TestOp b) ts type (test_found b) refl k.1 k.0 a
+  applied (OverflowOp b) ts type o k h f r q a = operator enums s state I x (overflow_entry b).name (OverflowOp b) ts type (overflow_found b) refl k.1 k.0 a
   applied op ts type o k h f r q a = operator enums s state I x (script_name op) op ts type refl refl k.1 k.0 a
 
   application : (op : PlainOp) (ts : PlainTerms) (type : PlainType) (n : List ℕ) → EachLine (LineIsDeclared state) (term_lines enums s (Application op ts type) n) → IsValued enums I (Application op ts type) → HaveTexts s ts → HasFunction s op → HasRecord s op ts → TypeHasEntries s type → AreWorth enums s state I ts

@@ -2,7 +2,9 @@
 use Rattle.std.proofs.Common.{◌≡◌, ℕ, ◌-◌, ◌^◌, Bool, true, false, not, List, [], ◌∷◌, refl, sym, ap, subst, Option, Some, None}
 use Rattle.std.specs.Prelude.{codes, IsSome}
 use Rattle.std.proofs.lemmas.Bool.{and_from, false≢true}
-use Rattle.smt_meaning.specs.Plain.{IpAddrKind, DecimalKind, DatetimeKind, DurationKind, PlainType, OptionType, BitVecType, BoolType, EntityType, ExtensionType, StringType, RecordType, SetType, PlainFunction, ExtensionOp, IpAddrV4Op, IpAddrV6Op, IpPrefixV4Op, IpPrefixV6Op, PlainOp, BvnegoOp, ExtOp, OptionGetOp, RecordGetOp, StringLikeOp, UufOp, PlainTerm, Application, PlainTerms}
+use Rattle.smt_arithmetic.specs.BitOperators.{bits_entry, test_entry, overflow_entry}
+use Rattle.smt_arithmetic.proofs.BitOperators.{each_bits, each_test, each_overflow}
+use Rattle.smt_meaning.specs.Plain.{IpAddrKind, DecimalKind, DatetimeKind, DurationKind, PlainType, OptionType, BitVecType, BoolType, EntityType, ExtensionType, StringType, RecordType, SetType, PlainFunction, ExtensionOp, IpAddrV4Op, IpAddrV6Op, IpPrefixV4Op, IpPrefixV6Op, PlainOp, BvnegoOp, ExtOp, OptionGetOp, RecordGetOp, StringLikeOp, UufOp, PlainTerm, Application, PlainTerms, BitsOp, TestOp, OverflowOp}
 use Rattle.smt_meaning.specs.Types.{extension_signature, type_eq}
 use Rattle.smt_meaning.specs.TypeValues.{Enums}
 use Rattle.smt_meaning.specs.Interpretations.{function_eq}
@@ -123,6 +125,9 @@ module _ (s : Tables) (counted : AreTypesCounted s) (called : AreFunctionsCounte
   plain_op enums (ExtOp IpAddrV6Op) ts h = absurd (false≢true (sym h))
   plain_op enums (ExtOp IpPrefixV4Op) ts h = absurd (false≢true (sym h))
   plain_op enums (ExtOp IpPrefixV6Op) ts h = absurd (false≢true (sym h))
+  plain_op enums (BitsOp o) ts h = each_bits (λ b. is_plain_head (name (bits_entry b).name) ≡ true) (refl, (refl, (refl, (refl, (refl, (refl, (refl, (refl, (refl, (refl, tt)))))))))) o
+  plain_op enums (TestOp o) ts h = each_test (λ b. is_plain_head (name (test_entry b).name) ≡ true) (refl, (refl, (refl, (refl, tt)))) o
+  plain_op enums (OverflowOp o) ts h = each_overflow (λ b. is_plain_head (name (overflow_entry b).name) ≡ true) (refl, (refl, (refl, tt))) o
   plain_op enums op ts h = refl
 
   plain_operands : (op : PlainOp) (es : List Expression) → each_plain (expressions es) ≡ true → each_plain (expressions (operands op es)) ≡ true

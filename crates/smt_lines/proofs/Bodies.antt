@@ -1,15 +1,17 @@
 -- The bodies of definitions are known where tables and a state fit.
 use Rattle.std.proofs.Common.{◌≡◌, ℕ, zero, suc, ◌+◌, ◌-◌, ◌^◌, ◌<◌, ◌≤◌, Bool, true, false, List, [], ◌∷◌, map, length, refl, sym, subst, inl, inr, Option, Some, None, arith}
-use Rattle.std.specs.Prelude.{codes, IsSome, nat_lt, eqb}
+use Rattle.std.specs.Prelude.{codes, IsSome, nat_lt, eqb, bytes_eq}
 use Rattle.std.specs.List.{list_all}
 use Rattle.std.proofs.lemmas.Bool.{and_parts, and_from, ltb-true, false≢true, eqb-true, eqb-false}
+use Rattle.smt_arithmetic.specs.BitOperators.{BitsOperator, TestOperator, OverflowOperator, bits_entry, test_entry, overflow_entry}
 use Rattle.smt_arithmetic.specs.BitVectors.{bits_of}
-use Rattle.smt_meaning.specs.Plain.{ExtensionKind, IpAddrKind, DecimalKind, DatetimeKind, DurationKind, PlainType, OptionType, BitVecType, ExtensionType, RecordType, AttributeTypes, PlainFunction, ExtensionOp, DatetimeOfBitVecOp, DatetimeValOp, DecimalValOp, DurationOfBitVecOp, DurationValOp, IpAddrV4Op, IpAddrV6Op, IpIsV4Op, IpPrefixV4Op, IpPrefixV6Op, PatternPart, Character, Wildcard, PlainOp, BvnegoOp, ExtOp, OptionGetOp, RecordGetOp, StringLikeOp, UufOp, PlainExtension, DecimalOf, Ipv4Of, Ipv6Of, DatetimeOf, DurationOf, PlainTerms, no_terms, one_term}
+use Rattle.smt_arithmetic.proofs.BitOperators.{each_bits, each_test, each_overflow}
+use Rattle.smt_meaning.specs.Plain.{ExtensionKind, IpAddrKind, DecimalKind, DatetimeKind, DurationKind, PlainType, OptionType, BitVecType, ExtensionType, RecordType, AttributeTypes, PlainFunction, ExtensionOp, DatetimeOfBitVecOp, DatetimeValOp, DecimalValOp, DurationOfBitVecOp, DurationValOp, IpAddrV4Op, IpAddrV6Op, IpIsV4Op, IpPrefixV4Op, IpPrefixV6Op, PatternPart, Character, Wildcard, PlainOp, BvnegoOp, ExtOp, OptionGetOp, RecordGetOp, StringLikeOp, UufOp, PlainExtension, DecimalOf, Ipv4Of, Ipv6Of, DatetimeOf, DurationOf, PlainTerms, no_terms, one_term, BitsOp, TestOp, OverflowOp}
 use Rattle.smt_meaning.specs.TypeValues.{Enums}
 use Rattle.smt_meaning.specs.Formed.{attribute_names}
 use Rattle.smt_meaning.specs.Types.{kind_of}
 use Rattle.smt_lexicon.specs.Reading.{Expression, expressions}
-use Rattle.smt_semantics.specs.Script.{State, name, group, is_in, built_in_names, has_name, has_sort, is_sort, knows}
+use Rattle.smt_semantics.specs.Script.{State, name, names_of, group, is_in, built_in_names, has_name, has_sort, is_sort, knows}
 use Rattle.smt_semantics.specs.WrittenStrings.{part_expr, pattern_expr}
 use Rattle.smt_semantics.specs.Written.{is_name}
 use Rattle.smt_semantics.proofs.Quotes.{patterns_write}
@@ -27,7 +29,7 @@ use Rattle.smt_lines.specs.Encodable.{HasArgument, IsEncodableOp, IsLeast, AreEn
 use Rattle.smt_lines.specs.Fit.{Fit, TypeEntryIsDeclared, declares, kind_names, option_names}
 use Rattle.smt_lines.proofs.Known.{GoodSort, GoodText, GoodTexts, TextsAre, sort_good, text_good, texts_good, more_good, applied_good, one_passes, type_stands, function_stands, bits_good}
 use Rattle.smt_meaning.specs.Faults.{is_pattern_part}
-use Rattle.smt_semantics.proofs.Results.{or_right}
+use Rattle.smt_semantics.proofs.Results.{or_left, or_right}
 use Rattle.smt_lines.proofs.TypeNames.{placed, names_listed}
 
 -- ---- entries of types
@@ -144,6 +146,33 @@ function_good enums s state fit f (Some n) q head h e es g =
     same : Some (name n) ≡ Some head → name n ≡ head
     same h = cc
 
+-- a name that stands for an operator of a theory by itself, and begins none of the other forms of applications
+record IsOperatorName (n : List ℕ) : Type 0 where
+  known : is_in n built_in_names ≡ true
+  no_index : bytes_eq n (codes "_") ≡ false
+  no_sort : bytes_eq n (codes "as") ≡ false
+  no_pattern : bytes_eq n (codes "str.in_re") ≡ false
+  no_set : bytes_eq n (codes "set.insert") ≡ false
+  named : is_name n ≡ true
+
+operator_good : (state : State) (n : List ℕ) (e : Expression) (es : List Expression) → IsOperatorName n → GoodTexts state (e ∷ es) → GoodText state (group (name n ∷ e ∷ es))
+operator_good state n e es o g =
+    let a = o.no_index in
+    let b = o.no_sort in
+    let c = o.no_pattern in
+    let i = o.no_set in
+    let has : has_name state n ≡ true = or_left (is_in n built_in_names) (is_in n (map (λ p. p.0) (names_of state))) o.known in
+    (rw (a, b, c, i) (and_from (has_name state n) _ has g.0), and_from (is_name n) _ o.named g.1)
+
+bits_name : (o : BitsOperator) → IsOperatorName (bits_entry o).name
+bits_name = each_bits (λ o. IsOperatorName (bits_entry o).name) (record { known = refl; no_index = refl; no_sort = refl; no_pattern = refl; no_set = refl; named = refl }, (record { known = refl; no_index = refl; no_sort = refl; no_pattern = refl; no_set = refl; named = refl }, (record { known = refl; no_index = refl; no_sort = refl; no_pattern = refl; no_set = refl; named = refl }, (record { known = refl; no_index = refl; no_sort = refl; no_pattern = refl; no_set = refl; named = refl }, (record { known = refl; no_index = refl; no_sort = refl; no_pattern = refl; no_set = refl; named = refl }, (record { known = refl; no_index = refl; no_sort = refl; no_pattern = refl; no_set = refl; named = refl }, (record { known = refl; no_index = refl; no_sort = refl; no_pattern = refl; no_set = refl; named = refl }, (record { known = refl; no_index = refl; no_sort = refl; no_pattern = refl; no_set = refl; named = refl }, (record { known = refl; no_index = refl; no_sort = refl; no_pattern = refl; no_set = refl; named = refl }, (record { known = refl; no_index = refl; no_sort = refl; no_pattern = refl; no_set = refl; named = refl }, tt))))))))))
+
+test_name : (o : TestOperator) → IsOperatorName (test_entry o).name
+test_name = each_test (λ o. IsOperatorName (test_entry o).name) (record { known = refl; no_index = refl; no_sort = refl; no_pattern = refl; no_set = refl; named = refl }, (record { known = refl; no_index = refl; no_sort = refl; no_pattern = refl; no_set = refl; named = refl }, (record { known = refl; no_index = refl; no_sort = refl; no_pattern = refl; no_set = refl; named = refl }, (record { known = refl; no_index = refl; no_sort = refl; no_pattern = refl; no_set = refl; named = refl }, tt))))
+
+overflow_name : (o : OverflowOperator) → IsOperatorName (overflow_entry o).name
+overflow_name = each_overflow (λ o. IsOperatorName (overflow_entry o).name) (record { known = refl; no_index = refl; no_sort = refl; no_pattern = refl; no_set = refl; named = refl }, (record { known = refl; no_index = refl; no_sort = refl; no_pattern = refl; no_set = refl; named = refl }, (record { known = refl; no_index = refl; no_sort = refl; no_pattern = refl; no_set = refl; named = refl }, tt)))
+
 pub body_good : (enums : Enums) (s : Tables) (op : PlainOp) (ts : PlainTerms) (type : PlainType) (es : List Expression) → application_rendering op ts type ≡ AsApplication → IsEncodableOp enums op ts type → HasArgument ts → AreEncodable enums ts
     → TextsAre (encode_head enums op ts s).tables ts es → TypeHasEntries (encode_head enums op ts s).tables type
     → (state : State) → Fit enums (encode_head enums op ts s).tables state → GoodText state (application_body (encode_head enums op ts s).made op es)
@@ -163,6 +192,9 @@ body_good enums s (StringLikeOp p) (one_term t (one_term u ts)) type (e ∷ es) 
 body_good enums s (UufOp g) (one_term t ts) type (e ∷ es) m f i a h k state fit =
     let u : Tables = (encode_function enums g s).tables in
     function_good enums u state fit g (name_of_function u g) refl (encode_function enums g s).made (functions_are_made enums g s) e es (texts_good enums u state fit (one_term t ts) a (e ∷ es) h)
+body_good enums s (BitsOp o) (one_term t ts) type (e ∷ es) m f i a h k state fit = operator_good state (bits_entry o).name e es (bits_name o) (texts_good enums s state fit (one_term t ts) a (e ∷ es) h)
+body_good enums s (TestOp o) (one_term t ts) type (e ∷ es) m f i a h k state fit = operator_good state (test_entry o).name e es (test_name o) (texts_good enums s state fit (one_term t ts) a (e ∷ es) h)
+body_good enums s (OverflowOp o) (one_term t ts) type (e ∷ es) m f i a h k state fit = operator_good state (overflow_entry o).name e es (overflow_name o) (texts_good enums s state fit (one_term t ts) a (e ∷ es) h)
 body_good enums s op (one_term t ts) type (e ∷ es) m f i a h k state fit = texts_good enums s state fit (one_term t ts) a (e ∷ es) h
 
 pub least_good : (state : State) (width : ℕ) (es : List Expression) → GoodTexts state es → GoodText state (least_body width es)

@@ -1,6 +1,7 @@
 -- Terms with every operator, type and literal, and the bytes that are written for them.
 use Rattle.std.specs.Prelude.{◌≡◌, pos, negsuc, codes, Some, None, List, [], ◌∷◌}
-use Rattle.smt_meaning.specs.Plain.{PlainTerm, IpAddrKind, DecimalKind, DatetimeKind, DurationKind, OptionType, BitVecType, BoolType, EntityType, ExtensionType, StringType, RecordType, SetType, no_attributes, attribute, DatetimeOfBitVecOp, DatetimeValOp, DecimalValOp, DurationOfBitVecOp, DurationValOp, IpAddrV4Op, IpAddrV6Op, IpIsV4Op, IpPrefixV4Op, IpPrefixV6Op, Character, Wildcard, AndOp, BvaddOp, BvlshrOp, BvmulOp, BvnegOp, BvnegoOp, BvsaddoOp, BvsdivOp, BvshlOp, BvsleOp, BvsltOp, BvsmodOp, BvsmuloOp, BvsremOp, BvssuboOp, BvsubOp, BvudivOp, BvuleOp, BvultOp, BvuremOp, EqOp, ExtOp, IteOp, NotOp, OptionGetOp, OrOp, RecordGetOp, SetInterOp, SetMemberOp, SetSubsetOp, StringLikeOp, UufOp, ZeroExtendOp, DecimalOf, Ipv4Of, Ipv6Of, DatetimeOf, DurationOf, BitVecLiteral, EntityLiteral, ExtensionLiteral, StringLiteral, Application, NoneTerm, LiteralTerm, RecordTerm, SetTerm, SomeTerm, VariableTerm, no_terms, one_term, no_fields, one_field}
+use Rattle.smt_arithmetic.specs.BitOperators.{BvaddOp, BvlshrOp, BvmulOp, BvsdivOp, BvshlOp, BvsmodOp, BvsremOp, BvsubOp, BvudivOp, BvuremOp, BvsleOp, BvsltOp, BvuleOp, BvultOp, BvsaddoOp, BvsmuloOp, BvssuboOp}
+use Rattle.smt_meaning.specs.Plain.{PlainTerm, IpAddrKind, DecimalKind, DatetimeKind, DurationKind, OptionType, BitVecType, BoolType, EntityType, ExtensionType, StringType, RecordType, SetType, no_attributes, attribute, DatetimeOfBitVecOp, DatetimeValOp, DecimalValOp, DurationOfBitVecOp, DurationValOp, IpAddrV4Op, IpAddrV6Op, IpIsV4Op, IpPrefixV4Op, IpPrefixV6Op, Character, Wildcard, AndOp, BvnegOp, BvnegoOp, EqOp, ExtOp, IteOp, NotOp, OptionGetOp, OrOp, RecordGetOp, SetInterOp, SetMemberOp, SetSubsetOp, StringLikeOp, UufOp, ZeroExtendOp, DecimalOf, Ipv4Of, Ipv6Of, DatetimeOf, DurationOf, BitVecLiteral, EntityLiteral, ExtensionLiteral, StringLiteral, Application, NoneTerm, LiteralTerm, RecordTerm, SetTerm, SomeTerm, VariableTerm, no_terms, one_term, no_fields, one_field, BitsOp, TestOp, OverflowOp}
 use Rattle.smt_meaning.specs.TypeValues.{Enums}
 use Rattle.smt_lines.specs.Text.{text}
 
@@ -17,31 +18,31 @@ abbrev pub term_2 : PlainTerm
 term_2 = (Application (UufOp (record { id = (codes "f"); argument = (EntityType (codes "User")); output = BoolType })) (one_term (LiteralTerm (EntityLiteral (codes "User") (codes "al\"ice"))) no_terms) BoolType)
 
 abbrev pub term_3 : PlainTerm
-term_3 = (Application BvsltOp (one_term (Application BvaddOp (one_term (VariableTerm (codes "x") (BitVecType 64)) (one_term (VariableTerm (codes "y") (BitVecType 64)) no_terms)) (BitVecType 64)) (one_term (Application BvsubOp (one_term (VariableTerm (codes "x") (BitVecType 64)) (one_term (VariableTerm (codes "y") (BitVecType 64)) no_terms)) (BitVecType 64)) no_terms)) BoolType)
+term_3 = (Application (TestOp BvsltOp) (one_term (Application (BitsOp BvaddOp) (one_term (VariableTerm (codes "x") (BitVecType 64)) (one_term (VariableTerm (codes "y") (BitVecType 64)) no_terms)) (BitVecType 64)) (one_term (Application (BitsOp BvsubOp) (one_term (VariableTerm (codes "x") (BitVecType 64)) (one_term (VariableTerm (codes "y") (BitVecType 64)) no_terms)) (BitVecType 64)) no_terms)) BoolType)
 
 abbrev pub term_4 : PlainTerm
-term_4 = (Application BvsleOp (one_term (Application BvmulOp (one_term (VariableTerm (codes "x") (BitVecType 64)) (one_term (VariableTerm (codes "y") (BitVecType 64)) no_terms)) (BitVecType 64)) (one_term (Application BvudivOp (one_term (VariableTerm (codes "x") (BitVecType 64)) (one_term (VariableTerm (codes "y") (BitVecType 64)) no_terms)) (BitVecType 64)) no_terms)) BoolType)
+term_4 = (Application (TestOp BvsleOp) (one_term (Application (BitsOp BvmulOp) (one_term (VariableTerm (codes "x") (BitVecType 64)) (one_term (VariableTerm (codes "y") (BitVecType 64)) no_terms)) (BitVecType 64)) (one_term (Application (BitsOp BvudivOp) (one_term (VariableTerm (codes "x") (BitVecType 64)) (one_term (VariableTerm (codes "y") (BitVecType 64)) no_terms)) (BitVecType 64)) no_terms)) BoolType)
 
 abbrev pub term_5 : PlainTerm
-term_5 = (Application BvultOp (one_term (Application BvuremOp (one_term (VariableTerm (codes "x") (BitVecType 64)) (one_term (VariableTerm (codes "y") (BitVecType 64)) no_terms)) (BitVecType 64)) (one_term (Application BvsdivOp (one_term (VariableTerm (codes "x") (BitVecType 64)) (one_term (VariableTerm (codes "y") (BitVecType 64)) no_terms)) (BitVecType 64)) no_terms)) BoolType)
+term_5 = (Application (TestOp BvultOp) (one_term (Application (BitsOp BvuremOp) (one_term (VariableTerm (codes "x") (BitVecType 64)) (one_term (VariableTerm (codes "y") (BitVecType 64)) no_terms)) (BitVecType 64)) (one_term (Application (BitsOp BvsdivOp) (one_term (VariableTerm (codes "x") (BitVecType 64)) (one_term (VariableTerm (codes "y") (BitVecType 64)) no_terms)) (BitVecType 64)) no_terms)) BoolType)
 
 abbrev pub term_6 : PlainTerm
-term_6 = (Application BvuleOp (one_term (Application BvsremOp (one_term (VariableTerm (codes "x") (BitVecType 64)) (one_term (VariableTerm (codes "y") (BitVecType 64)) no_terms)) (BitVecType 64)) (one_term (Application BvsmodOp (one_term (VariableTerm (codes "x") (BitVecType 64)) (one_term (VariableTerm (codes "y") (BitVecType 64)) no_terms)) (BitVecType 64)) no_terms)) BoolType)
+term_6 = (Application (TestOp BvuleOp) (one_term (Application (BitsOp BvsremOp) (one_term (VariableTerm (codes "x") (BitVecType 64)) (one_term (VariableTerm (codes "y") (BitVecType 64)) no_terms)) (BitVecType 64)) (one_term (Application (BitsOp BvsmodOp) (one_term (VariableTerm (codes "x") (BitVecType 64)) (one_term (VariableTerm (codes "y") (BitVecType 64)) no_terms)) (BitVecType 64)) no_terms)) BoolType)
 
 abbrev pub term_7 : PlainTerm
-term_7 = (Application EqOp (one_term (Application BvshlOp (one_term (VariableTerm (codes "x") (BitVecType 64)) (one_term (VariableTerm (codes "y") (BitVecType 64)) no_terms)) (BitVecType 64)) (one_term (Application BvlshrOp (one_term (VariableTerm (codes "x") (BitVecType 64)) (one_term (VariableTerm (codes "y") (BitVecType 64)) no_terms)) (BitVecType 64)) no_terms)) BoolType)
+term_7 = (Application EqOp (one_term (Application (BitsOp BvshlOp) (one_term (VariableTerm (codes "x") (BitVecType 64)) (one_term (VariableTerm (codes "y") (BitVecType 64)) no_terms)) (BitVecType 64)) (one_term (Application (BitsOp BvlshrOp) (one_term (VariableTerm (codes "x") (BitVecType 64)) (one_term (VariableTerm (codes "y") (BitVecType 64)) no_terms)) (BitVecType 64)) no_terms)) BoolType)
 
 abbrev pub term_8 : PlainTerm
 term_8 = (Application BvnegoOp (one_term (VariableTerm (codes "x") (BitVecType 64)) no_terms) BoolType)
 
 abbrev pub term_9 : PlainTerm
-term_9 = (Application BvsaddoOp (one_term (VariableTerm (codes "x") (BitVecType 64)) (one_term (VariableTerm (codes "y") (BitVecType 64)) no_terms)) BoolType)
+term_9 = (Application (OverflowOp BvsaddoOp) (one_term (VariableTerm (codes "x") (BitVecType 64)) (one_term (VariableTerm (codes "y") (BitVecType 64)) no_terms)) BoolType)
 
 abbrev pub term_10 : PlainTerm
-term_10 = (Application BvssuboOp (one_term (VariableTerm (codes "x") (BitVecType 64)) (one_term (VariableTerm (codes "y") (BitVecType 64)) no_terms)) BoolType)
+term_10 = (Application (OverflowOp BvssuboOp) (one_term (VariableTerm (codes "x") (BitVecType 64)) (one_term (VariableTerm (codes "y") (BitVecType 64)) no_terms)) BoolType)
 
 abbrev pub term_11 : PlainTerm
-term_11 = (Application BvsmuloOp (one_term (VariableTerm (codes "x") (BitVecType 64)) (one_term (VariableTerm (codes "y") (BitVecType 64)) no_terms)) BoolType)
+term_11 = (Application (OverflowOp BvsmuloOp) (one_term (VariableTerm (codes "x") (BitVecType 64)) (one_term (VariableTerm (codes "y") (BitVecType 64)) no_terms)) BoolType)
 
 abbrev pub term_12 : PlainTerm
 term_12 = (Application EqOp (one_term (Application (ZeroExtendOp 64) (one_term (VariableTerm (codes "x") (BitVecType 64)) no_terms) (BitVecType 128)) (one_term (LiteralTerm (BitVecLiteral 128 5)) no_terms)) BoolType)
@@ -83,7 +84,7 @@ abbrev pub term_24 : PlainTerm
 term_24 = (Application (StringLikeOp (Character 97 ∷ Character 34 ∷ Character 92 ∷ Character 92 ∷ Wildcard ∷ Character 233 ∷ [])) (one_term (VariableTerm (codes "str") StringType) no_terms) BoolType)
 
 abbrev pub term_25 : PlainTerm
-term_25 = (Application BvsltOp (one_term (Application (ExtOp DecimalValOp) (one_term (VariableTerm (codes "d") (ExtensionType DecimalKind)) no_terms) (BitVecType 64)) (one_term (LiteralTerm (BitVecLiteral 64 0)) no_terms)) BoolType)
+term_25 = (Application (TestOp BvsltOp) (one_term (Application (ExtOp DecimalValOp) (one_term (VariableTerm (codes "d") (ExtensionType DecimalKind)) no_terms) (BitVecType 64)) (one_term (LiteralTerm (BitVecLiteral 64 0)) no_terms)) BoolType)
 
 abbrev pub term_26 : PlainTerm
 term_26 = (Application EqOp (one_term (VariableTerm (codes "d") (ExtensionType DecimalKind)) (one_term (LiteralTerm (ExtensionLiteral (DecimalOf (negsuc 14999)))) no_terms)) BoolType)

@@ -1,6 +1,7 @@
 -- Terms with every operator, type and literal, and the bytes that are written for them.
 use Rattle.std.specs.Prelude.{◌≡◌, negsuc, codes, Some, List, [], ◌∷◌, ◌++◌}
-use Rattle.smt_meaning.specs.Plain.{PlainTerm, IpAddrKind, DecimalKind, DurationKind, OptionType, BitVecType, BoolType, EntityType, ExtensionType, StringType, RecordType, SetType, no_attributes, attribute, IpIsV4Op, Character, Wildcard, BvmulOp, BvultOp, EqOp, ExtOp, OptionGetOp, RecordGetOp, SetMemberOp, StringLikeOp, UufOp, DecimalOf, Ipv6Of, DurationOf, BitVecLiteral, EntityLiteral, ExtensionLiteral, StringLiteral, Application, NoneTerm, LiteralTerm, RecordTerm, SetTerm, SomeTerm, VariableTerm, no_terms, one_term, no_fields, one_field}
+use Rattle.smt_arithmetic.specs.BitOperators.{BvmulOp, BvultOp}
+use Rattle.smt_meaning.specs.Plain.{PlainTerm, IpAddrKind, DecimalKind, DurationKind, OptionType, BitVecType, BoolType, EntityType, ExtensionType, StringType, RecordType, SetType, no_attributes, attribute, IpIsV4Op, Character, Wildcard, EqOp, ExtOp, OptionGetOp, RecordGetOp, SetMemberOp, StringLikeOp, UufOp, DecimalOf, Ipv6Of, DurationOf, BitVecLiteral, EntityLiteral, ExtensionLiteral, StringLiteral, Application, NoneTerm, LiteralTerm, RecordTerm, SetTerm, SomeTerm, VariableTerm, no_terms, one_term, no_fields, one_field, BitsOp, TestOp}
 use Rattle.smt_meaning.specs.TypeValues.{Enums}
 use Rattle.smt_lines.specs.Text.{text}
 
@@ -44,7 +45,7 @@ abbrev pub term_11 : PlainTerm
 term_11 = (Application EqOp (one_term (VariableTerm (codes "r") (RecordType (attribute (98 ∷ 13 ∷ 10 ∷ 99 ∷ []) (RecordType (attribute (codes "") (SetType (EntityType (codes "Z"))) no_attributes)) (attribute (195 ∷ 169 ∷ []) (OptionType (ExtensionType DecimalKind)) no_attributes)))) (one_term (RecordTerm (one_field (98 ∷ 13 ∷ 10 ∷ 99 ∷ []) (RecordTerm (one_field (codes "") (SetTerm (EntityType (codes "Z")) no_terms) no_fields)) (one_field (195 ∷ 169 ∷ []) (NoneTerm (ExtensionType DecimalKind)) no_fields))) no_terms)) BoolType)
 
 abbrev pub term_12 : PlainTerm
-term_12 = (Application BvultOp (one_term (Application BvmulOp (one_term (VariableTerm (codes "n") (BitVecType 128)) (one_term (LiteralTerm (BitVecLiteral 128 340282366920938463463374607431768211455)) no_terms)) (BitVecType 128)) (one_term (LiteralTerm (BitVecLiteral 128 0)) no_terms)) BoolType)
+term_12 = (Application (TestOp BvultOp) (one_term (Application (BitsOp BvmulOp) (one_term (VariableTerm (codes "n") (BitVecType 128)) (one_term (LiteralTerm (BitVecLiteral 128 340282366920938463463374607431768211455)) no_terms)) (BitVecType 128)) (one_term (LiteralTerm (BitVecLiteral 128 0)) no_terms)) BoolType)
 
 abbrev pub term_13 : PlainTerm
 term_13 = (Application (StringLikeOp (Wildcard ∷ Character 92 ∷ Wildcard ∷ Character 34 ∷ Character 0 ∷ Character 196607 ∷ [])) (one_term (VariableTerm (codes "") StringType) no_terms) BoolType)

@@ -1,6 +1,7 @@
 -- Terms, and the bytes that are written for them.
 use Rattle.std.specs.Prelude.{◌≡◌, ℕ, codes, true, List, [], ◌∷◌, ◌++◌}
-use Rattle.smt_meaning.specs.Plain.{IpAddrKind, DatetimeKind, PlainType, BitVecType, BoolType, EntityType, ExtensionType, StringType, RecordType, SetType, no_attributes, attribute, IpAddrV4Op, IpIsV4Op, DatetimeValOp, Character, Wildcard, PlainOp, AndOp, BvlshrOp, BvshlOp, BvsltOp, EqOp, ExtOp, NotOp, RecordGetOp, SetMemberOp, StringLikeOp, UufOp, BitVecLiteral, BoolLiteral, EntityLiteral, StringLiteral, PlainTerm, Application, LiteralTerm, RecordTerm, VariableTerm, no_terms, one_term, no_fields}
+use Rattle.smt_arithmetic.specs.BitOperators.{BvlshrOp, BvshlOp, BvsltOp}
+use Rattle.smt_meaning.specs.Plain.{IpAddrKind, DatetimeKind, PlainType, BitVecType, BoolType, EntityType, ExtensionType, StringType, RecordType, SetType, no_attributes, attribute, IpAddrV4Op, IpIsV4Op, DatetimeValOp, Character, Wildcard, PlainOp, AndOp, EqOp, ExtOp, NotOp, RecordGetOp, SetMemberOp, StringLikeOp, UufOp, BitVecLiteral, BoolLiteral, EntityLiteral, StringLiteral, PlainTerm, Application, LiteralTerm, RecordTerm, VariableTerm, no_terms, one_term, no_fields, BitsOp, TestOp}
 use Rattle.smt_meaning.specs.TypeValues.{Enums}
 use Rattle.smt_lines.specs.Lines.{PushCall, PopCall, EncodeCall}
 use Rattle.smt_lines.specs.Text.{text, text_of_calls}
@@ -63,7 +64,7 @@ EnumMember = text colors (color_term ∷ [])
     ≡ head ++ codes "; Color::[a, b]\n(declare-datatype E0 (\n  (E0_m0)\n  (E0_m1)))\n; \"c\"\n(declare-const t0 E0)\n(define-fun t2 () Bool (= t0 E0_m1))\n(assert t2)\n"
 
 abbrev pub Shifted : Type 0
-Shifted = text [] (binary EqOp (binary BvshlOp (number 64 1) (number 64 4294967296) (BitVecType 64)) (number 64 0) BoolType ∷ [])
+Shifted = text [] (binary EqOp (binary (BitsOp BvshlOp) (number 64 1) (number 64 4294967296) (BitVecType 64)) (number 64 0) BoolType ∷ [])
     ≡ head ++ codes "(define-fun t0 () (_ BitVec 64) (bvshl (_ bv1 64) (_ bv4294967296 64)))\n(define-fun t1 () Bool (= t0 (_ bv0 64)))\n(assert t1)\n"
 
 abbrev pub EmptyRecord : Type 0
@@ -100,10 +101,10 @@ has_vpn = binary SetMemberOp (LiteralTerm (StringLiteral (codes "vpn"))) user_ta
 
 abbrev pub from_ten : PlainTerm
 from_ten = binary AndOp (unary (ExtOp IpIsV4Op) source BoolType)
-    (binary EqOp (binary BvlshrOp (unary (ExtOp IpAddrV4Op) source (BitVecType 32)) (number 32 24) (BitVecType 32)) (number 32 10) BoolType) BoolType
+    (binary EqOp (binary (BitsOp BvlshrOp) (unary (ExtOp IpAddrV4Op) source (BitVecType 32)) (number 32 24) (BitVecType 32)) (number 32 10) BoolType) BoolType
 
 abbrev pub joined_early : PlainTerm
-joined_early = binary BvsltOp (unary (ExtOp DatetimeValOp) (unary (RecordGetOp (codes "joined")) user_attributes (ExtensionType DatetimeKind)) (BitVecType 64))
+joined_early = binary (TestOp BvsltOp) (unary (ExtOp DatetimeValOp) (unary (RecordGetOp (codes "joined")) user_attributes (ExtensionType DatetimeKind)) (BitVecType 64))
     (number 64 1728950400000) BoolType
 
 abbrev pub condition : List PlainTerm

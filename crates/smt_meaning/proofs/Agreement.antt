@@ -17,7 +17,7 @@ use Rattle.smt_meaning.proofs.Matching.{or_first, or_second}
 use Rattle.smt_meaning.proofs.Soundness.{all-front, all-back, all-last}
 use Rattle.smt_meaning.proofs.TypeOrder.{type_itself}
 use Rattle.smt_meaning.proofs.ValueOrder.{bytes_itself}
-use Rattle.smt_meaning.specs.Plain.{PlainType, PlainTerm, Application, NoneTerm, LiteralTerm, RecordTerm, SetTerm, SomeTerm, VariableTerm, PlainTerms, no_terms, one_term, PlainFields, no_fields, one_field, PlainFunction, ExtensionOp, DatetimeValOp, DecimalValOp, DurationValOp, IpAddrV4Op, IpAddrV6Op, IpIsV4Op, IpPrefixV4Op, IpPrefixV6Op, PlainOp, AndOp, BvaddOp, BvlshrOp, BvmulOp, BvnegOp, BvnegoOp, BvsaddoOp, BvsdivOp, BvshlOp, BvsleOp, BvsltOp, BvsmodOp, BvsmuloOp, BvsremOp, BvssuboOp, BvsubOp, BvudivOp, BvuleOp, BvultOp, BvuremOp, EqOp, ExtOp, IteOp, NotOp, OptionGetOp, OrOp, RecordGetOp, SetInterOp, SetMemberOp, SetSubsetOp, StringLikeOp, UufOp, ZeroExtendOp, DecimalOf, Ipv4Of, Ipv6Of, DatetimeOf, DurationOf}
+use Rattle.smt_meaning.specs.Plain.{PlainType, PlainTerm, Application, NoneTerm, LiteralTerm, RecordTerm, SetTerm, SomeTerm, VariableTerm, PlainTerms, no_terms, one_term, PlainFields, no_fields, one_field, PlainFunction, ExtensionOp, DatetimeValOp, DecimalValOp, DurationValOp, IpAddrV4Op, IpAddrV6Op, IpIsV4Op, IpPrefixV4Op, IpPrefixV6Op, PlainOp, AndOp, BvnegOp, BvnegoOp, EqOp, ExtOp, IteOp, NotOp, OptionGetOp, OrOp, RecordGetOp, SetInterOp, SetMemberOp, SetSubsetOp, StringLikeOp, UufOp, ZeroExtendOp, DecimalOf, Ipv4Of, Ipv6Of, DatetimeOf, DurationOf, BitsOp, TestOp, OverflowOp}
 use Rattle.smt_meaning.specs.Values.{Value, BoolValue, ExtensionValue, SomeValue, RecordValue, one_field_value}
 
 module _ (I J : Interpretation) where
@@ -42,27 +42,13 @@ module _ (I J : Interpretation) where
   apply_same (ExtOp o) t (a ∷ []) h = extension_same o a h
   apply_same NotOp t (a ∷ []) h = refl
   apply_same BvnegOp t (a ∷ []) h = refl
+  apply_same (BitsOp o) t (a ∷ b ∷ []) h = refl
+  apply_same (TestOp o) t (a ∷ b ∷ []) h = refl
+  apply_same (OverflowOp o) t (a ∷ b ∷ []) h = refl
   apply_same BvnegoOp t (a ∷ []) h = refl
   apply_same AndOp t (a ∷ b ∷ []) h = refl
   apply_same OrOp t (a ∷ b ∷ []) h = refl
   apply_same EqOp t (a ∷ b ∷ []) h = refl
-  apply_same BvaddOp t (a ∷ b ∷ []) h = refl
-  apply_same BvsubOp t (a ∷ b ∷ []) h = refl
-  apply_same BvmulOp t (a ∷ b ∷ []) h = refl
-  apply_same BvudivOp t (a ∷ b ∷ []) h = refl
-  apply_same BvuremOp t (a ∷ b ∷ []) h = refl
-  apply_same BvsdivOp t (a ∷ b ∷ []) h = refl
-  apply_same BvsremOp t (a ∷ b ∷ []) h = refl
-  apply_same BvsmodOp t (a ∷ b ∷ []) h = refl
-  apply_same BvshlOp t (a ∷ b ∷ []) h = refl
-  apply_same BvlshrOp t (a ∷ b ∷ []) h = refl
-  apply_same BvultOp t (a ∷ b ∷ []) h = refl
-  apply_same BvuleOp t (a ∷ b ∷ []) h = refl
-  apply_same BvsltOp t (a ∷ b ∷ []) h = refl
-  apply_same BvsleOp t (a ∷ b ∷ []) h = refl
-  apply_same BvsaddoOp t (a ∷ b ∷ []) h = refl
-  apply_same BvssuboOp t (a ∷ b ∷ []) h = refl
-  apply_same BvsmuloOp t (a ∷ b ∷ []) h = refl
   apply_same SetMemberOp t (a ∷ b ∷ []) h = refl
   apply_same SetSubsetOp t (a ∷ b ∷ []) h = refl
   apply_same SetInterOp t (a ∷ b ∷ []) h = refl

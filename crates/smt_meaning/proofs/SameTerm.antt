@@ -1,11 +1,12 @@
 -- Operators, literals and terms that the order holds equal are equal.
-use Rattle.std.proofs.Common.{◌≡◌, ℕ, refl, ap}
+use Rattle.std.proofs.Common.{◌≡◌, ℕ, refl, ap, sym, ◌∙◌}
 use Rattle.std.specs.Prelude.{Option, Some, None}
 use Rattle.std.specs.FinMap.{nat_cmp-IsAntisymmetric, int_cmp-IsAntisymmetric, slice_cmp-IsAntisymmetric}
 use Rattle.std.specs.Ordering.{nat_cmp, ordering_then}
 use Rattle.std.specs.declared.cmp.Ordering.TheVariants.{Equal}
 use Rattle.smt_meaning.specs.Interpretations.{extension_op_place}
-use Rattle.smt_meaning.specs.Plain.{PlainFunction, ExtensionOp, DatetimeOfBitVecOp, DatetimeValOp, DecimalValOp, DurationOfBitVecOp, DurationValOp, IpAddrV4Op, IpAddrV6Op, IpIsV4Op, IpPrefixV4Op, IpPrefixV6Op, PatternPart, Character, Wildcard, PlainOp, AndOp, BvaddOp, BvlshrOp, BvmulOp, BvnegOp, BvnegoOp, BvsaddoOp, BvsdivOp, BvshlOp, BvsleOp, BvsltOp, BvsmodOp, BvsmuloOp, BvsremOp, BvssuboOp, BvsubOp, BvudivOp, BvuleOp, BvultOp, BvuremOp, EqOp, ExtOp, IteOp, NotOp, OptionGetOp, OrOp, RecordGetOp, SetInterOp, SetMemberOp, SetSubsetOp, StringLikeOp, UufOp, ZeroExtendOp, PlainExtension, DecimalOf, Ipv4Of, Ipv6Of, DatetimeOf, DurationOf, PlainLiteral, BitVecLiteral, BoolLiteral, EntityLiteral, ExtensionLiteral, StringLiteral, PlainTerm, Application, NoneTerm, LiteralTerm, RecordTerm, SetTerm, SomeTerm, VariableTerm, PlainTerms, no_terms, one_term, PlainFields, no_fields, one_field}
+use Rattle.smt_arithmetic.proofs.BitOperators.{OperatorClass, InNone, InBits, InTests, InOverflows, class_at, bits_class, test_class, overflow_class, bits_same, test_same, overflow_same}
+use Rattle.smt_meaning.specs.Plain.{PlainFunction, ExtensionOp, DatetimeOfBitVecOp, DatetimeValOp, DecimalValOp, DurationOfBitVecOp, DurationValOp, IpAddrV4Op, IpAddrV6Op, IpIsV4Op, IpPrefixV4Op, IpPrefixV6Op, PatternPart, Character, Wildcard, PlainOp, AndOp, BvnegOp, BvnegoOp, EqOp, ExtOp, IteOp, NotOp, OptionGetOp, OrOp, RecordGetOp, SetInterOp, SetMemberOp, SetSubsetOp, StringLikeOp, UufOp, ZeroExtendOp, PlainExtension, DecimalOf, Ipv4Of, Ipv6Of, DatetimeOf, DurationOf, PlainLiteral, BitVecLiteral, BoolLiteral, EntityLiteral, ExtensionLiteral, StringLiteral, PlainTerm, Application, NoneTerm, LiteralTerm, RecordTerm, SetTerm, SomeTerm, VariableTerm, PlainTerms, no_terms, one_term, PlainFields, no_fields, one_field, BitsOp, TestOp, OverflowOp}
 use Rattle.smt_meaning.specs.TermOrder.{part_cmp, function_cmp, op_place, op_fields_cmp, op_cmp, prefix_cmp, extension_literal_cmp, literal_cmp, term_cmp, terms_cmp, fields_cmp}
 use Rattle.smt_meaning.specs.Types.{type_cmp}
 use Rattle.smt_meaning.specs.ValueOrder.{text_cmp}
@@ -40,28 +41,30 @@ extension_op_same IpPrefixV4Op IpPrefixV4Op h = refl
 extension_op_same IpPrefixV6Op IpPrefixV6Op h = refl
 extension_op_same o p h = cc
 
+-- the class of an operator on two bitvectors, which its place tells
+abbrev class_of : PlainOp → OperatorClass
+class_of (BitsOp o) = InBits
+class_of (TestOp o) = InTests
+class_of (OverflowOp o) = InOverflows
+class_of o = InNone
+
+placed : (o : PlainOp) → class_at (op_place o) ≡ class_of o
+placed (BitsOp o) = bits_class o
+placed (TestOp o) = test_class o
+placed (OverflowOp o) = overflow_class o
+placed o = refl
+
+one_class : (o p : PlainOp) → nat_cmp (op_place o) (op_place p) ≡ Equal → class_of o ≡ class_of p
+one_class o p h = sym (placed o) ∙ (ap class_at (nat_cmp-IsAntisymmetric (op_place o) (op_place p) h) ∙ placed p)
+
 -- operators of one variant with equal fields
 op_alike : (o p : PlainOp) → nat_cmp (op_place o) (op_place p) ≡ Equal → op_fields_cmp o p ≡ Equal → o ≡ p
 op_alike AndOp AndOp h g = refl
-op_alike BvaddOp BvaddOp h g = refl
-op_alike BvlshrOp BvlshrOp h g = refl
-op_alike BvmulOp BvmulOp h g = refl
+op_alike (BitsOp o) (BitsOp p) h g = ap BitsOp (bits_same o p h)
+op_alike (TestOp o) (TestOp p) h g = ap TestOp (test_same o p h)
+op_alike (OverflowOp o) (OverflowOp p) h g = ap OverflowOp (overflow_same o p h)
 op_alike BvnegOp BvnegOp h g = refl
 op_alike BvnegoOp BvnegoOp h g = refl
-op_alike BvsaddoOp BvsaddoOp h g = refl
-op_alike BvsdivOp BvsdivOp h g = refl
-op_alike BvshlOp BvshlOp h g = refl
-op_alike BvsleOp BvsleOp h g = refl
-op_alike BvsltOp BvsltOp h g = refl
-op_alike BvsmodOp BvsmodOp h g = refl
-op_alike BvsmuloOp BvsmuloOp h g = refl
-op_alike BvsremOp BvsremOp h g = refl
-op_alike BvssuboOp BvssuboOp h g = refl
-op_alike BvsubOp BvsubOp h g = refl
-op_alike BvudivOp BvudivOp h g = refl
-op_alike BvuleOp BvuleOp h g = refl
-op_alike BvultOp BvultOp h g = refl
-op_alike BvuremOp BvuremOp h g = refl
 op_alike EqOp EqOp h g = refl
 op_alike (ExtOp o) (ExtOp p) h g = ap ExtOp (extension_op_same o p g)
 op_alike IteOp IteOp h g = refl
@@ -75,7 +78,7 @@ op_alike SetSubsetOp SetSubsetOp h g = refl
 op_alike (StringLikeOp p) (StringLikeOp q) h g = ap StringLikeOp (slice_cmp-IsAntisymmetric part_same p q g)
 op_alike (UufOp f) (UufOp k) h g = ap UufOp (function_same f k g)
 op_alike (ZeroExtendOp k) (ZeroExtendOp l) h g = ap ZeroExtendOp (nat_cmp-IsAntisymmetric k l g)
-op_alike o p h g = cc
+op_alike o p h g = let k : class_of o ≡ class_of p = one_class o p h in cc
 
 pub op_same : (o p : PlainOp) → op_cmp o p ≡ Equal → o ≡ p
 op_same o p h = let e = then_equal (nat_cmp (op_place o) (op_place p)) (op_fields_cmp o p) h in op_alike o p e.0 e.1

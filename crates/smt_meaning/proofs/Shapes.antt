@@ -5,6 +5,8 @@ use Rattle.std.specs.Bool.{then_some}
 use Rattle.std.specs.Cmp.{first_so, second_so}
 use Rattle.std.specs.List.{AllByRecursion, list_all}
 use Rattle.smt_arithmetic.specs.BitVectors as bits
+use Rattle.smt_arithmetic.specs.BitOperators.{bits_entry, test_entry, overflow_entry}
+use Rattle.smt_arithmetic.proofs.BitOperators.{bits_entry-below}
 use Rattle.smt_arithmetic.proofs.BitRanges as ranges
 use Rattle.smt_meaning.specs.Formed.{IsFormedLiteral, IsFormedNode}
 use Rattle.smt_meaning.specs.Interpretations.{IsGivenOp, IsGiven}
@@ -21,7 +23,7 @@ use Rattle.smt_meaning.specs.ValueOrder.{value_cmp, ascends, list_of_values, sor
 use Rattle.smt_meaning.proofs.SortedValues.{ascends-sorted, all-sorted, all-filtered, list-values}
 use Rattle.smt_meaning.proofs.Soundness.{all-front, all-back, all-last, inside, chosen, is_type-some, AreBelow, bits_result, negated_at, looked_up, extension_result}
 use Rattle.smt_meaning.proofs.TypeOrder.{eq_same}
-use Rattle.smt_meaning.specs.Plain.{PlainType, OptionType, BitVecType, BoolType, EntityType, ExtensionType, StringType, RecordType, SetType, AttributeTypes, no_attributes, attribute, ExtensionOp, DatetimeOfBitVecOp, DatetimeValOp, DecimalValOp, DurationOfBitVecOp, DurationValOp, IpAddrV4Op, IpAddrV6Op, IpIsV4Op, IpPrefixV4Op, IpPrefixV6Op, PlainOp, AndOp, BvaddOp, BvlshrOp, BvmulOp, BvnegOp, BvnegoOp, BvsaddoOp, BvsdivOp, BvshlOp, BvsleOp, BvsltOp, BvsmodOp, BvsmuloOp, BvsremOp, BvssuboOp, BvsubOp, BvudivOp, BvuleOp, BvultOp, BvuremOp, EqOp, ExtOp, IteOp, NotOp, OptionGetOp, OrOp, RecordGetOp, SetInterOp, SetMemberOp, SetSubsetOp, StringLikeOp, UufOp, ZeroExtendOp, DecimalOf, Ipv4Of, Ipv6Of, DatetimeOf, DurationOf, PlainLiteral, BitVecLiteral, BoolLiteral, EntityLiteral, ExtensionLiteral, StringLiteral, PlainTerm, Application, NoneTerm, LiteralTerm, RecordTerm, SetTerm, SomeTerm, VariableTerm, PlainTerms, no_terms, one_term, PlainFields, no_fields, one_field}
+use Rattle.smt_meaning.specs.Plain.{PlainType, OptionType, BitVecType, BoolType, EntityType, ExtensionType, StringType, RecordType, SetType, AttributeTypes, no_attributes, attribute, ExtensionOp, DatetimeOfBitVecOp, DatetimeValOp, DecimalValOp, DurationOfBitVecOp, DurationValOp, IpAddrV4Op, IpAddrV6Op, IpIsV4Op, IpPrefixV4Op, IpPrefixV6Op, PlainOp, AndOp, BvnegOp, BvnegoOp, EqOp, ExtOp, IteOp, NotOp, OptionGetOp, OrOp, RecordGetOp, SetInterOp, SetMemberOp, SetSubsetOp, StringLikeOp, UufOp, ZeroExtendOp, DecimalOf, Ipv4Of, Ipv6Of, DatetimeOf, DurationOf, PlainLiteral, BitVecLiteral, BoolLiteral, EntityLiteral, ExtensionLiteral, StringLiteral, PlainTerm, Application, NoneTerm, LiteralTerm, RecordTerm, SetTerm, SomeTerm, VariableTerm, PlainTerms, no_terms, one_term, PlainFields, no_fields, one_field, BitsOp, TestOp, OverflowOp}
 use Rattle.smt_meaning.specs.Values.{Value, BoolValue, BitVecValue, StringValue, EntityValue, ExtensionValue, NoneValue, SomeValue, RecordValue, SetValue, FieldValues, no_field_values, one_field_value}
 
 pub all-become : {X : Type 0} (P Q : X → Type 0) → ((x : X) → P x → Q x) → (xs : List X) → AllByRecursion P xs → AllByRecursion Q xs
@@ -157,24 +159,10 @@ module _ (enums : Enums) where
   applied_shaped I BvnegOp (one_term a no_terms) ty h k g =
       let e : (is_bits (type_of a) ≡ true) × (type_of a ≡ ty) = chosen (is_bits (type_of a)) (type_of a) ty h in
       subst (λ x. IsShaped x (BitVecValue (width (meaning I a)) (bits.bvneg (width (meaning I a)) (number (meaning I a))))) e.1 (shaped (type_of a) (BitVecValue (width (meaning I a)) (bits.bvneg (width (meaning I a)) (number (meaning I a)))) (negated_at enums (type_of a) (meaning I a) e.0 (bits_value (type_of a) (meaning I a) e.0 k.0)))
+  applied_shaped I (BitsOp o) (one_term a (one_term b no_terms)) ty h k g = bits_shaped (bits_entry o).function (bits_entry-below o) (type_of a) (type_of b) ty (meaning I a) (meaning I b) h k.0 k.1.0
+  applied_shaped I (TestOp o) (one_term a (one_term b no_terms)) ty h k g = truth_shaped (bits_and_bits (type_of a) (type_of b)) ty _ h
+  applied_shaped I (OverflowOp o) (one_term a (one_term b no_terms)) ty h k g = truth_shaped (bits_and_bits (type_of a) (type_of b)) ty _ h
   applied_shaped I BvnegoOp (one_term a no_terms) ty h k g = truth_shaped (is_bits (type_of a)) ty _ h
-  applied_shaped I BvaddOp (one_term a (one_term b no_terms)) ty h k g = bits_shaped bits.bvadd ranges.bvadd-below (type_of a) (type_of b) ty (meaning I a) (meaning I b) h k.0 k.1.0
-  applied_shaped I BvsubOp (one_term a (one_term b no_terms)) ty h k g = bits_shaped bits.bvsub ranges.bvsub-below (type_of a) (type_of b) ty (meaning I a) (meaning I b) h k.0 k.1.0
-  applied_shaped I BvmulOp (one_term a (one_term b no_terms)) ty h k g = bits_shaped bits.bvmul ranges.bvmul-below (type_of a) (type_of b) ty (meaning I a) (meaning I b) h k.0 k.1.0
-  applied_shaped I BvudivOp (one_term a (one_term b no_terms)) ty h k g = bits_shaped bits.bvudiv ranges.bvudiv-below (type_of a) (type_of b) ty (meaning I a) (meaning I b) h k.0 k.1.0
-  applied_shaped I BvuremOp (one_term a (one_term b no_terms)) ty h k g = bits_shaped bits.bvurem ranges.bvurem-below (type_of a) (type_of b) ty (meaning I a) (meaning I b) h k.0 k.1.0
-  applied_shaped I BvsdivOp (one_term a (one_term b no_terms)) ty h k g = bits_shaped bits.bvsdiv ranges.bvsdiv-below (type_of a) (type_of b) ty (meaning I a) (meaning I b) h k.0 k.1.0
-  applied_shaped I BvsremOp (one_term a (one_term b no_terms)) ty h k g = bits_shaped bits.bvsrem ranges.bvsrem-below (type_of a) (type_of b) ty (meaning I a) (meaning I b) h k.0 k.1.0
-  applied_shaped I BvsmodOp (one_term a (one_term b no_terms)) ty h k g = bits_shaped bits.bvsmod ranges.bvsmod-below (type_of a) (type_of b) ty (meaning I a) (meaning I b) h k.0 k.1.0
-  applied_shaped I BvshlOp (one_term a (one_term b no_terms)) ty h k g = bits_shaped bits.bvshl ranges.bvshl-below (type_of a) (type_of b) ty (meaning I a) (meaning I b) h k.0 k.1.0
-  applied_shaped I BvlshrOp (one_term a (one_term b no_terms)) ty h k g = bits_shaped bits.bvlshr ranges.bvlshr-below (type_of a) (type_of b) ty (meaning I a) (meaning I b) h k.0 k.1.0
-  applied_shaped I BvultOp (one_term a (one_term b no_terms)) ty h k g = truth_shaped (bits_and_bits (type_of a) (type_of b)) ty _ h
-  applied_shaped I BvuleOp (one_term a (one_term b no_terms)) ty h k g = truth_shaped (bits_and_bits (type_of a) (type_of b)) ty _ h
-  applied_shaped I BvsltOp (one_term a (one_term b no_terms)) ty h k g = truth_shaped (bits_and_bits (type_of a) (type_of b)) ty _ h
-  applied_shaped I BvsleOp (one_term a (one_term b no_terms)) ty h k g = truth_shaped (bits_and_bits (type_of a) (type_of b)) ty _ h
-  applied_shaped I BvsaddoOp (one_term a (one_term b no_terms)) ty h k g = truth_shaped (bits_and_bits (type_of a) (type_of b)) ty _ h
-  applied_shaped I BvssuboOp (one_term a (one_term b no_terms)) ty h k g = truth_shaped (bits_and_bits (type_of a) (type_of b)) ty _ h
-  applied_shaped I BvsmuloOp (one_term a (one_term b no_terms)) ty h k g = truth_shaped (bits_and_bits (type_of a) (type_of b)) ty _ h
   applied_shaped I (ZeroExtendOp n) (one_term a no_terms) ty h k g = extended_shaped n (type_of a) ty (meaning I a) h k.0
   applied_shaped I SetMemberOp (one_term a (one_term b no_terms)) ty h k g = truth_shaped (type_eq (type_of b) (SetType (type_of a))) ty _ h
   applied_shaped I SetSubsetOp (one_term a (one_term b no_terms)) ty h k g = truth_shaped (is_set (type_of a) && type_eq (type_of a) (type_of b)) ty _ h

@@ -21,13 +21,15 @@ use Rattle.smt_meaning.specs.Typing.{are_elements, typed, typed_all, typed_field
 use Rattle.smt_meaning.proofs.Elements.{typed_elements}
 use Rattle.smt_meaning.specs.TypeValues.{Enums, members_of, greatest_code_point, AreCodePoints, IsId, IsLong, IsPrefix, IsValue, AreFieldValues}
 use Rattle.smt_meaning.specs.ValueOrder.{value_eq, value_cmp, ascends, list_of_values, sorted_values, set_of}
+use Rattle.smt_arithmetic.specs.BitOperators.{bits_entry, test_entry, overflow_entry}
+use Rattle.smt_arithmetic.proofs.BitOperators.{bits_entry-below}
 use Rattle.smt_arithmetic.proofs.BitRanges as ranges
 use Rattle.smt_meaning.proofs.Matching.{or_second}
 use Rattle.smt_meaning.proofs.SortedValues.{ascends-sorted, all-sorted, all-filtered, list-values}
 use Rattle.smt_meaning.proofs.TypeOrder.{eq_same}
 use Rattle.smt_meaning.proofs.ValueOrder.{bytes_itself}
 use Rattle.std.proofs.lemmas.Slice.Eq.{bytes_eq-Decides}
-use Rattle.smt_meaning.specs.Plain.{PlainType, OptionType, BitVecType, BoolType, StringType, RecordType, SetType, AttributeTypes, no_attributes, attribute, ExtensionOp, DatetimeOfBitVecOp, DatetimeValOp, DecimalValOp, DurationOfBitVecOp, DurationValOp, IpAddrV4Op, IpAddrV6Op, IpIsV4Op, IpPrefixV4Op, IpPrefixV6Op, PlainOp, AndOp, BvaddOp, BvlshrOp, BvmulOp, BvnegOp, BvnegoOp, BvsaddoOp, BvsdivOp, BvshlOp, BvsleOp, BvsltOp, BvsmodOp, BvsmuloOp, BvsremOp, BvssuboOp, BvsubOp, BvudivOp, BvuleOp, BvultOp, BvuremOp, EqOp, ExtOp, IteOp, NotOp, OptionGetOp, OrOp, RecordGetOp, SetInterOp, SetMemberOp, SetSubsetOp, StringLikeOp, UufOp, ZeroExtendOp, DecimalOf, Ipv4Of, Ipv6Of, DatetimeOf, DurationOf, PlainLiteral, BitVecLiteral, BoolLiteral, EntityLiteral, ExtensionLiteral, StringLiteral, PlainTerm, Application, NoneTerm, LiteralTerm, RecordTerm, SetTerm, SomeTerm, VariableTerm, PlainTerms, no_terms, one_term, PlainFields, no_fields, one_field}
+use Rattle.smt_meaning.specs.Plain.{PlainType, OptionType, BitVecType, BoolType, StringType, RecordType, SetType, AttributeTypes, no_attributes, attribute, ExtensionOp, DatetimeOfBitVecOp, DatetimeValOp, DecimalValOp, DurationOfBitVecOp, DurationValOp, IpAddrV4Op, IpAddrV6Op, IpIsV4Op, IpPrefixV4Op, IpPrefixV6Op, PlainOp, AndOp, BvnegOp, BvnegoOp, EqOp, ExtOp, IteOp, NotOp, OptionGetOp, OrOp, RecordGetOp, SetInterOp, SetMemberOp, SetSubsetOp, StringLikeOp, UufOp, ZeroExtendOp, DecimalOf, Ipv4Of, Ipv6Of, DatetimeOf, DurationOf, PlainLiteral, BitVecLiteral, BoolLiteral, EntityLiteral, ExtensionLiteral, StringLiteral, PlainTerm, Application, NoneTerm, LiteralTerm, RecordTerm, SetTerm, SomeTerm, VariableTerm, PlainTerms, no_terms, one_term, PlainFields, no_fields, one_field, BitsOp, TestOp, OverflowOp}
 use Rattle.smt_meaning.specs.Values.{Value, BoolValue, BitVecValue, ExtensionValue, NoneValue, SomeValue, RecordValue, SetValue, FieldValues, no_field_values, one_field_value}
 
 -- ---- lists and options
@@ -223,24 +225,10 @@ module _ (enums : Enums) where
   applied I BvnegOp (one_term a no_terms) ty h k g =
       let e : (is_bits (type_of a) ≡ true) × (type_of a ≡ ty) = chosen (is_bits (type_of a)) (type_of a) ty h in
       subst (λ x. IsValue enums x (BitVecValue (width (meaning I a)) (bits.bvneg (width (meaning I a)) (number (meaning I a))))) e.1 (negated_at (type_of a) (meaning I a) e.0 k.0)
+  applied I (BitsOp o) (one_term a (one_term b no_terms)) ty h k g = bits_result (bits_entry o).function (bits_entry-below o) (type_of a) (type_of b) ty (meaning I a) (meaning I b) h k.0 k.1.0
+  applied I (TestOp o) (one_term a (one_term b no_terms)) ty h k g = truth_result (bits_and_bits (type_of a) (type_of b)) ty _ h
+  applied I (OverflowOp o) (one_term a (one_term b no_terms)) ty h k g = truth_result (bits_and_bits (type_of a) (type_of b)) ty _ h
   applied I BvnegoOp (one_term a no_terms) ty h k g = truth_result (is_bits (type_of a)) ty _ h
-  applied I BvaddOp (one_term a (one_term b no_terms)) ty h k g = bits_result bits.bvadd ranges.bvadd-below (type_of a) (type_of b) ty (meaning I a) (meaning I b) h k.0 k.1.0
-  applied I BvsubOp (one_term a (one_term b no_terms)) ty h k g = bits_result bits.bvsub ranges.bvsub-below (type_of a) (type_of b) ty (meaning I a) (meaning I b) h k.0 k.1.0
-  applied I BvmulOp (one_term a (one_term b no_terms)) ty h k g = bits_result bits.bvmul ranges.bvmul-below (type_of a) (type_of b) ty (meaning I a) (meaning I b) h k.0 k.1.0
-  applied I BvudivOp (one_term a (one_term b no_terms)) ty h k g = bits_result bits.bvudiv ranges.bvudiv-below (type_of a) (type_of b) ty (meaning I a) (meaning I b) h k.0 k.1.0
-  applied I BvuremOp (one_term a (one_term b no_terms)) ty h k g = bits_result bits.bvurem ranges.bvurem-below (type_of a) (type_of b) ty (meaning I a) (meaning I b) h k.0 k.1.0
-  applied I BvsdivOp (one_term a (one_term b no_terms)) ty h k g = bits_result bits.bvsdiv ranges.bvsdiv-below (type_of a) (type_of b) ty (meaning I a) (meaning I b) h k.0 k.1.0
-  applied I BvsremOp (one_term a (one_term b no_terms)) ty h k g = bits_result bits.bvsrem ranges.bvsrem-below (type_of a) (type_of b) ty (meaning I a) (meaning I b) h k.0 k.1.0
-  applied I BvsmodOp (one_term a (one_term b no_terms)) ty h k g = bits_result bits.bvsmod ranges.bvsmod-below (type_of a) (type_of b) ty (meaning I a) (meaning I b) h k.0 k.1.0
-  applied I BvshlOp (one_term a (one_term b no_terms)) ty h k g = bits_result bits.bvshl ranges.bvshl-below (type_of a) (type_of b) ty (meaning I a) (meaning I b) h k.0 k.1.0
-  applied I BvlshrOp (one_term a (one_term b no_terms)) ty h k g = bits_result bits.bvlshr ranges.bvlshr-below (type_of a) (type_of b) ty (meaning I a) (meaning I b) h k.0 k.1.0
-  applied I BvultOp (one_term a (one_term b no_terms)) ty h k g = truth_result (bits_and_bits (type_of a) (type_of b)) ty _ h
-  applied I BvuleOp (one_term a (one_term b no_terms)) ty h k g = truth_result (bits_and_bits (type_of a) (type_of b)) ty _ h
-  applied I BvsltOp (one_term a (one_term b no_terms)) ty h k g = truth_result (bits_and_bits (type_of a) (type_of b)) ty _ h
-  applied I BvsleOp (one_term a (one_term b no_terms)) ty h k g = truth_result (bits_and_bits (type_of a) (type_of b)) ty _ h
-  applied I BvsaddoOp (one_term a (one_term b no_terms)) ty h k g = truth_result (bits_and_bits (type_of a) (type_of b)) ty _ h
-  applied I BvssuboOp (one_term a (one_term b no_terms)) ty h k g = truth_result (bits_and_bits (type_of a) (type_of b)) ty _ h
-  applied I BvsmuloOp (one_term a (one_term b no_terms)) ty h k g = truth_result (bits_and_bits (type_of a) (type_of b)) ty _ h
   applied I (ZeroExtendOp n) (one_term a no_terms) ty h k g = extended_result n (type_of a) ty (meaning I a) h k.0
   applied I SetMemberOp (one_term a (one_term b no_terms)) ty h k g = truth_result (type_eq (type_of b) (SetType (type_of a))) ty _ h
   applied I SetSubsetOp (one_term a (one_term b no_terms)) ty h k g = truth_result (is_set (type_of a) && type_eq (type_of a) (type_of b)) ty _ h

@@ -16,7 +16,8 @@ use Rattle.smt_meaning.specs.Types.{type_of, result_type}
 use Rattle.smt_meaning.specs.Typing.{typed}
 use Rattle.smt_meaning.specs.TypeValues.{Enums, IsExtension, IsValue}
 use Rattle.smt_meaning.specs.ValueOrder.{value_cmp, ascends, set_of}
-use Rattle.smt_meaning.specs.Plain.{IpAddrKind, DecimalKind, PlainType, OptionType, BitVecType, BoolType, EntityType, ExtensionType, StringType, RecordType, SetType, no_attributes, attribute, PlainFunction, PatternPart, Character, Wildcard, DatetimeOfBitVecOp, DecimalValOp, IpAddrV4Op, IpAddrV6Op, IpIsV4Op, IpPrefixV4Op, IpPrefixV6Op, PlainOp, AndOp, BvaddOp, BvlshrOp, BvmulOp, BvnegOp, BvnegoOp, BvsaddoOp, BvsdivOp, BvshlOp, BvsleOp, BvsltOp, BvsmodOp, BvsmuloOp, BvsremOp, BvssuboOp, BvsubOp, BvudivOp, BvuleOp, BvultOp, BvuremOp, EqOp, ExtOp, IteOp, NotOp, OptionGetOp, OrOp, RecordGetOp, SetInterOp, SetMemberOp, SetSubsetOp, StringLikeOp, UufOp, ZeroExtendOp, PlainExtension, DecimalOf, Ipv4Of, Ipv6Of, DatetimeOf, BitVecLiteral, EntityLiteral, ExtensionLiteral, StringLiteral, PlainTerm, Application, NoneTerm, LiteralTerm, RecordTerm, SetTerm, SomeTerm, VariableTerm, no_terms, no_fields, one_field, terms}
+use Rattle.smt_arithmetic.specs.BitOperators.{BvaddOp, BvshlOp, bits_operators, test_operators, overflow_operators}
+use Rattle.smt_meaning.specs.Plain.{IpAddrKind, DecimalKind, PlainType, OptionType, BitVecType, BoolType, EntityType, ExtensionType, StringType, RecordType, SetType, no_attributes, attribute, PlainFunction, PatternPart, Character, Wildcard, DatetimeOfBitVecOp, DecimalValOp, IpAddrV4Op, IpAddrV6Op, IpIsV4Op, IpPrefixV4Op, IpPrefixV6Op, PlainOp, AndOp, BvnegOp, BvnegoOp, EqOp, ExtOp, IteOp, NotOp, OptionGetOp, OrOp, RecordGetOp, SetInterOp, SetMemberOp, SetSubsetOp, StringLikeOp, UufOp, ZeroExtendOp, PlainExtension, DecimalOf, Ipv4Of, Ipv6Of, DatetimeOf, BitVecLiteral, EntityLiteral, ExtensionLiteral, StringLiteral, PlainTerm, Application, NoneTerm, LiteralTerm, RecordTerm, SetTerm, SomeTerm, VariableTerm, no_terms, no_fields, one_field, terms, BitsOp, TestOp, OverflowOp}
 use Rattle.smt_meaning.specs.Values.{Value, BoolValue, BitVecValue, StringValue, EntityValue, ExtensionValue, NoneValue, SomeValue, RecordValue, SetValue, one_value, no_values, one_field_value, no_field_values}
 
 -- patterns and sets
@@ -43,10 +44,10 @@ abbrev pub no : Value
 no = BoolValue false
 
 abbrev pub bit_operators : List PlainOp
-bit_operators = BvaddOp ∷ BvsubOp ∷ BvmulOp ∷ BvudivOp ∷ BvuremOp ∷ BvsdivOp ∷ BvsremOp ∷ BvsmodOp ∷ BvshlOp ∷ BvlshrOp ∷ []
+bit_operators = map BitsOp bits_operators
 
 abbrev pub bit_tests : List PlainOp
-bit_tests = BvultOp ∷ BvuleOp ∷ BvsltOp ∷ BvsleOp ∷ BvsaddoOp ∷ BvssuboOp ∷ BvsmuloOp ∷ []
+bit_tests = map TestOp test_operators ++ map OverflowOp overflow_operators
 
 -- the values of operators at two values
 abbrev pub at_two : List PlainOp → Value → Value → List Value
@@ -82,11 +83,11 @@ pub record OperatorRows : Type 0 where
   pub neither : at_two (AndOp ∷ OrOp ∷ EqOp ∷ []) no no ≡ no ∷ no ∷ yes ∷ []
   pub choices : map (λ g. apply sevens IteOp BoolType (g ∷ byte 1 ∷ byte 2 ∷ [])) (yes ∷ no ∷ []) ≡ byte 1 ∷ byte 2 ∷ []
   -- 249 is -7
-  pub bits : at_two bit_operators (byte 249) (byte 3) ≡ map byte (252 ∷ 246 ∷ 235 ∷ 83 ∷ 0 ∷ 254 ∷ 255 ∷ 2 ∷ 200 ∷ 31 ∷ [])
-  pub less : at_two bit_tests (byte 3) (byte 249) ≡ yes ∷ yes ∷ no ∷ no ∷ no ∷ no ∷ no ∷ []
-  pub equal : at_two bit_tests (byte 16) (byte 16) ≡ no ∷ yes ∷ no ∷ yes ∷ no ∷ no ∷ yes ∷ []
-  pub least : at_two bit_tests (byte 128) (byte 2) ≡ no ∷ no ∷ yes ∷ yes ∷ no ∷ yes ∷ yes ∷ []
-  pub least_less_one : at_two bit_tests (byte 128) (byte 255) ≡ yes ∷ yes ∷ yes ∷ yes ∷ yes ∷ no ∷ yes ∷ []
+  pub bits : at_two bit_operators (byte 249) (byte 3) ≡ map byte (252 ∷ 31 ∷ 235 ∷ 254 ∷ 200 ∷ 2 ∷ 255 ∷ 246 ∷ 83 ∷ 0 ∷ [])
+  pub less : at_two bit_tests (byte 3) (byte 249) ≡ no ∷ no ∷ yes ∷ yes ∷ no ∷ no ∷ no ∷ []
+  pub equal : at_two bit_tests (byte 16) (byte 16) ≡ yes ∷ no ∷ yes ∷ no ∷ no ∷ yes ∷ no ∷ []
+  pub least : at_two bit_tests (byte 128) (byte 2) ≡ yes ∷ yes ∷ no ∷ no ∷ no ∷ yes ∷ yes ∷ []
+  pub least_less_one : at_two bit_tests (byte 128) (byte 255) ≡ yes ∷ yes ∷ yes ∷ yes ∷ yes ∷ yes ∷ no ∷ []
   pub small : at_two bit_tests (byte 2) (byte 3) ≡ yes ∷ yes ∷ yes ∷ yes ∷ no ∷ no ∷ no ∷ []
   pub negations : at_each BvnegOp (byte 1 ∷ byte 128 ∷ []) ≡ byte 255 ∷ byte 128 ∷ []
   pub negations_overflow : at_each BvnegoOp (byte 127 ∷ byte 128 ∷ []) ≡ no ∷ yes ∷ []
@@ -207,12 +208,12 @@ pub record TypeRows : Type 0 where
   pub addresses : results (ExtOp IpAddrV4Op ∷ ExtOp IpAddrV6Op ∷ ExtOp IpIsV4Op ∷ ExtOp IpPrefixV4Op ∷ ExtOp IpPrefixV6Op ∷ ExtOp DecimalValOp ∷ []) (ExtensionType IpAddrKind ∷ [])
       ≡ Some (BitVecType 32) ∷ Some (BitVecType 128) ∷ Some BoolType ∷ Some (OptionType (BitVecType 5)) ∷ Some (OptionType (BitVecType 7)) ∷ None ∷ []
   -- each of these would be typed but for one part
-  pub ill_typed : map typed (Application BvaddOp (terms (one_byte 1 ∷ one_byte 2 ∷ [])) bits_16 ∷ SomeTerm ill ∷ RecordTerm (one_field (codes "a") ill no_fields) ∷ SetTerm BoolType (terms (ill ∷ [])) ∷ SetTerm bits_16 (terms (one_byte 1 ∷ [])) ∷ [])
+  pub ill_typed : map typed (Application (BitsOp BvaddOp) (terms (one_byte 1 ∷ one_byte 2 ∷ [])) bits_16 ∷ SomeTerm ill ∷ RecordTerm (one_field (codes "a") ill no_fields) ∷ SetTerm BoolType (terms (ill ∷ [])) ∷ SetTerm bits_16 (terms (one_byte 1 ∷ [])) ∷ [])
       ≡ false ∷ false ∷ false ∷ false ∷ false ∷ []
   -- elements that stand twice, or in the other order
   pub no_sets_of_order : map typed (SetTerm bits_8 (terms (one_byte 1 ∷ one_byte 1 ∷ [])) ∷ SetTerm bits_8 (terms (one_byte 2 ∷ one_byte 1 ∷ [])) ∷ SetTerm bits_8 (terms (one_byte 1 ∷ one_byte 2 ∷ [])) ∷ []) ≡ false ∷ false ∷ true ∷ []
   pub in_order : set_term bits_8 (one_byte 2 ∷ one_byte 1 ∷ one_byte 2 ∷ []) ≡ SetTerm bits_8 (terms (one_byte 1 ∷ one_byte 2 ∷ []))
-  pub well_typed : map typed (Application BvaddOp (terms (one_byte 1 ∷ one_byte 2 ∷ [])) bits_8 ∷ SetTerm bits_8 (terms (one_byte 1 ∷ [])) ∷ NoneTerm bits_8 ∷ []) ≡ true ∷ true ∷ true ∷ []
+  pub well_typed : map typed (Application (BitsOp BvaddOp) (terms (one_byte 1 ∷ one_byte 2 ∷ [])) bits_8 ∷ SetTerm bits_8 (terms (one_byte 1 ∷ [])) ∷ NoneTerm bits_8 ∷ []) ≡ true ∷ true ∷ true ∷ []
 
 -- ---- values of types
 
@@ -306,7 +307,7 @@ pub record TermRows : Type 0 where
   pub negation : term_value sevens (Application NotOp (terms (variable (codes "b") BoolType ∷ [])) BoolType) ≡ BoolValue false
   pub ill_typed : typed (Application AndOp (terms (variable (codes "b") BoolType ∷ [])) BoolType) ≡ false
   pub ill_typed_value : term_value sevens (SomeTerm (Application AndOp (terms (variable (codes "b") BoolType ∷ [])) BoolType)) ≡ BoolValue false
-  pub shifted : term_value sevens (eq (Application BvshlOp (terms (LiteralTerm (BitVecLiteral 64 1) ∷ LiteralTerm (BitVecLiteral 64 4294967296) ∷ [])) (BitVecType 64)) (LiteralTerm (BitVecLiteral 64 0))) ≡ BoolValue true
+  pub shifted : term_value sevens (eq (Application (BitsOp BvshlOp) (terms (LiteralTerm (BitVecLiteral 64 1) ∷ LiteralTerm (BitVecLiteral 64 4294967296) ∷ [])) (BitVecType 64)) (LiteralTerm (BitVecLiteral 64 0))) ≡ BoolValue true
   pub past_ascii : term_value sevens (text last_character) ≡ StringValue (196607 ∷ [])
   pub too_wide : typed (Application (ZeroExtendOp 100) (terms (LiteralTerm (BitVecLiteral 64 1) ∷ [])) (BitVecType 164)) ≡ false
 

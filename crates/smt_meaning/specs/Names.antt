@@ -1,29 +1,16 @@
 -- The names of operators, by which jobs and messages call them.
 use Rattle.std.specs.Prelude.{ℕ, List, codes}
-use Rattle.smt_meaning.specs.Plain.{PlainOp, AndOp, BvaddOp, BvlshrOp, BvmulOp, BvnegOp, BvnegoOp, BvsaddoOp, BvsdivOp, BvshlOp, BvsleOp, BvsltOp, BvsmodOp, BvsmuloOp, BvsremOp, BvssuboOp, BvsubOp, BvudivOp, BvuleOp, BvultOp, BvuremOp, EqOp, ExtOp, IteOp, NotOp, OptionGetOp, OrOp, RecordGetOp, SetInterOp, SetMemberOp, SetSubsetOp, StringLikeOp, UufOp, ZeroExtendOp}
+use Rattle.smt_arithmetic.specs.BitOperators.{bits_entry, test_entry, overflow_entry}
+use Rattle.smt_meaning.specs.Plain.{PlainOp, AndOp, BvnegOp, BvnegoOp, EqOp, ExtOp, IteOp, NotOp, OptionGetOp, OrOp, RecordGetOp, SetInterOp, SetMemberOp, SetSubsetOp, StringLikeOp, UufOp, ZeroExtendOp, BitsOp, TestOp, OverflowOp}
 
 -- one name for all operators of the extension types
 abbrev pub op_name : PlainOp → List ℕ
 op_name AndOp = codes "and"
-op_name BvaddOp = codes "bvadd"
-op_name BvlshrOp = codes "bvlshr"
-op_name BvmulOp = codes "bvmul"
+op_name (BitsOp o) = (bits_entry o).name
+op_name (TestOp o) = (test_entry o).name
+op_name (OverflowOp o) = (overflow_entry o).name
 op_name BvnegOp = codes "bvneg"
 op_name BvnegoOp = codes "bvnego"
-op_name BvsaddoOp = codes "bvsaddo"
-op_name BvsdivOp = codes "bvsdiv"
-op_name BvshlOp = codes "bvshl"
-op_name BvsleOp = codes "bvsle"
-op_name BvsltOp = codes "bvslt"
-op_name BvsmodOp = codes "bvsmod"
-op_name BvsmuloOp = codes "bvsmulo"
-op_name BvsremOp = codes "bvsrem"
-op_name BvssuboOp = codes "bvssubo"
-op_name BvsubOp = codes "bvsub"
-op_name BvudivOp = codes "bvudiv"
-op_name BvuleOp = codes "bvule"
-op_name BvultOp = codes "bvult"
-op_name BvuremOp = codes "bvurem"
 op_name EqOp = codes "eq"
 op_name (ExtOp o) = codes "ext"
 op_name IteOp = codes "ite"

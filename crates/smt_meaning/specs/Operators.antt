@@ -1,12 +1,13 @@
 -- The value of each operator.
 use Rattle.std.specs.Prelude.{ℕ, bytes_eq, ◌+◌, Bool, true, false, cond, not, ◌&&◌, ◌||◌, List, [], ◌∷◌, filter, Option, Some, None}
 use Rattle.std.specs.List.{list_any, list_all}
+use Rattle.smt_arithmetic.specs.BitOperators.{bits_entry, test_entry, overflow_entry}
 use Rattle.smt_arithmetic.specs.BitVectors as bits
 use Rattle.smt_arithmetic.specs.BitVectors.{signed, bits_of}
 use Rattle.smt_meaning.specs.Patterns.{matches}
 use Rattle.smt_meaning.specs.Tables.{Interpretation, value_at}
 use Rattle.smt_meaning.specs.ValueOrder.{value_eq, list_of_values, set_of}
-use Rattle.smt_meaning.specs.Plain.{PlainType, ExtensionOp, DatetimeOfBitVecOp, DatetimeValOp, DecimalValOp, DurationOfBitVecOp, DurationValOp, IpAddrV4Op, IpAddrV6Op, IpIsV4Op, IpPrefixV4Op, IpPrefixV6Op, PlainOp, AndOp, BvaddOp, BvlshrOp, BvmulOp, BvnegOp, BvnegoOp, BvsaddoOp, BvsdivOp, BvshlOp, BvsleOp, BvsltOp, BvsmodOp, BvsmuloOp, BvsremOp, BvssuboOp, BvsubOp, BvudivOp, BvuleOp, BvultOp, BvuremOp, EqOp, ExtOp, IteOp, NotOp, OptionGetOp, OrOp, RecordGetOp, SetInterOp, SetMemberOp, SetSubsetOp, StringLikeOp, UufOp, ZeroExtendOp, DecimalOf, Ipv4Of, Ipv6Of, DatetimeOf, DurationOf}
+use Rattle.smt_meaning.specs.Plain.{PlainType, ExtensionOp, DatetimeOfBitVecOp, DatetimeValOp, DecimalValOp, DurationOfBitVecOp, DurationValOp, IpAddrV4Op, IpAddrV6Op, IpIsV4Op, IpPrefixV4Op, IpPrefixV6Op, PlainOp, AndOp, BvnegOp, BvnegoOp, EqOp, ExtOp, IteOp, NotOp, OptionGetOp, OrOp, RecordGetOp, SetInterOp, SetMemberOp, SetSubsetOp, StringLikeOp, UufOp, ZeroExtendOp, DecimalOf, Ipv4Of, Ipv6Of, DatetimeOf, DurationOf, BitsOp, TestOp, OverflowOp}
 use Rattle.smt_meaning.specs.Values.{Value, BoolValue, BitVecValue, StringValue, ExtensionValue, NoneValue, SomeValue, RecordValue, SetValue, FieldValues, no_field_values, one_field_value}
 
 -- what a value holds, where it is of the kind
@@ -92,24 +93,10 @@ apply I EqOp t (a ∷ b ∷ []) = BoolValue (value_eq a b)
 apply I IteOp t (g ∷ a ∷ b ∷ []) = cond (truth g) a b
 apply I (UufOp f) t (a ∷ []) = value_at (I.function f) a
 apply I BvnegOp t (a ∷ []) = BitVecValue (width a) (bits.bvneg (width a) (number a))
-apply I BvaddOp t (a ∷ b ∷ []) = to_bits bits.bvadd a b
-apply I BvsubOp t (a ∷ b ∷ []) = to_bits bits.bvsub a b
-apply I BvmulOp t (a ∷ b ∷ []) = to_bits bits.bvmul a b
-apply I BvudivOp t (a ∷ b ∷ []) = to_bits bits.bvudiv a b
-apply I BvuremOp t (a ∷ b ∷ []) = to_bits bits.bvurem a b
-apply I BvsdivOp t (a ∷ b ∷ []) = to_bits bits.bvsdiv a b
-apply I BvsremOp t (a ∷ b ∷ []) = to_bits bits.bvsrem a b
-apply I BvsmodOp t (a ∷ b ∷ []) = to_bits bits.bvsmod a b
-apply I BvshlOp t (a ∷ b ∷ []) = to_bits bits.bvshl a b
-apply I BvlshrOp t (a ∷ b ∷ []) = to_bits bits.bvlshr a b
-apply I BvultOp t (a ∷ b ∷ []) = to_truth bits.bvult a b
-apply I BvuleOp t (a ∷ b ∷ []) = to_truth bits.bvule a b
-apply I BvsltOp t (a ∷ b ∷ []) = to_truth bits.bvslt a b
-apply I BvsleOp t (a ∷ b ∷ []) = to_truth bits.bvsle a b
+apply I (BitsOp o) t (a ∷ b ∷ []) = to_bits (bits_entry o).function a b
+apply I (TestOp o) t (a ∷ b ∷ []) = to_truth (test_entry o).function a b
+apply I (OverflowOp o) t (a ∷ b ∷ []) = to_truth (overflow_entry o).function a b
 apply I BvnegoOp t (a ∷ []) = BoolValue (bits.bvnego (width a) (number a))
-apply I BvsaddoOp t (a ∷ b ∷ []) = to_truth bits.bvsaddo a b
-apply I BvssuboOp t (a ∷ b ∷ []) = to_truth bits.bvssubo a b
-apply I BvsmuloOp t (a ∷ b ∷ []) = to_truth bits.bvsmulo a b
 apply I (ZeroExtendOp k) t (a ∷ []) = BitVecValue (width a + k) (number a)
 apply I SetMemberOp t (a ∷ s ∷ []) = BoolValue (is_member a (elements s))
 apply I SetSubsetOp t (r ∷ s ∷ []) = BoolValue (is_subset (elements r) (elements s))

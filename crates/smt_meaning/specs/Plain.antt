@@ -1,5 +1,6 @@
 -- Types, operators and terms without where they lie in memory. A text is the list of its UTF-8 bytes.
 use Rattle.std.specs.Prelude.{◌≡◌, ℕ, Bool, List, [], ◌∷◌}
+pub use Rattle.smt_arithmetic.specs.BitOperators.{BitsOperator, TestOperator, OverflowOperator}
 pub use Rattle.smt_arithmetic.specs.Extensions.{PlainExtension, DecimalOf, Ipv4Of, Ipv6Of, DatetimeOf, DurationOf}
 
 pub data ExtensionKind : Type 0 where
@@ -47,38 +48,25 @@ pub data PatternPart : Type 0 where
   Character : ℕ → PatternPart
   Wildcard : PatternPart
 
+-- an operator; those of two bitvectors stand in three classes
 pub data PlainOp : Type 0 where
   AndOp : PlainOp
-  BvaddOp : PlainOp
-  BvlshrOp : PlainOp
-  BvmulOp : PlainOp
+  BitsOp : BitsOperator → PlainOp
   BvnegOp : PlainOp
   BvnegoOp : PlainOp
-  BvsaddoOp : PlainOp
-  BvsdivOp : PlainOp
-  BvshlOp : PlainOp
-  BvsleOp : PlainOp
-  BvsltOp : PlainOp
-  BvsmodOp : PlainOp
-  BvsmuloOp : PlainOp
-  BvsremOp : PlainOp
-  BvssuboOp : PlainOp
-  BvsubOp : PlainOp
-  BvudivOp : PlainOp
-  BvuleOp : PlainOp
-  BvultOp : PlainOp
-  BvuremOp : PlainOp
   EqOp : PlainOp
   ExtOp : ExtensionOp → PlainOp
   IteOp : PlainOp
   NotOp : PlainOp
   OptionGetOp : PlainOp
   OrOp : PlainOp
+  OverflowOp : OverflowOperator → PlainOp
   RecordGetOp : (attribute : List ℕ) → PlainOp
   SetInterOp : PlainOp
   SetMemberOp : PlainOp
   SetSubsetOp : PlainOp
   StringLikeOp : List PatternPart → PlainOp
+  TestOp : TestOperator → PlainOp
   UufOp : PlainFunction → PlainOp
   ZeroExtendOp : (bits : ℕ) → PlainOp
 

@@ -5,10 +5,11 @@ use Rattle.std.specs.Ordering.{nat_cmp, bool_cmp, ordering_then, is_eq}
 use Rattle.std.specs.declared.cmp.Ordering.{Ordering}
 use Rattle.std.specs.declared.cmp.Ordering.TheVariants.{Less, Equal, Greater}
 pub use Rattle.smt_arithmetic.specs.Extensions.{extension_literal_cmp, extension_literal_place, prefix_cmp}
+use Rattle.smt_arithmetic.specs.BitOperators.{bits_entry, test_entry, overflow_entry}
 use Rattle.smt_meaning.specs.Interpretations.{extension_op_place}
 use Rattle.smt_meaning.specs.Types.{type_cmp}
 use Rattle.smt_meaning.specs.ValueOrder.{text_cmp}
-use Rattle.smt_meaning.specs.Plain.{PlainFunction, PatternPart, Character, Wildcard, PlainOp, AndOp, BvaddOp, BvlshrOp, BvmulOp, BvnegOp, BvnegoOp, BvsaddoOp, BvsdivOp, BvshlOp, BvsleOp, BvsltOp, BvsmodOp, BvsmuloOp, BvsremOp, BvssuboOp, BvsubOp, BvudivOp, BvuleOp, BvultOp, BvuremOp, EqOp, ExtOp, IteOp, NotOp, OptionGetOp, OrOp, RecordGetOp, SetInterOp, SetMemberOp, SetSubsetOp, StringLikeOp, UufOp, ZeroExtendOp, PlainLiteral, BitVecLiteral, BoolLiteral, EntityLiteral, ExtensionLiteral, StringLiteral, PlainTerm, Application, NoneTerm, LiteralTerm, RecordTerm, SetTerm, SomeTerm, VariableTerm, PlainTerms, no_terms, one_term, PlainFields, no_fields, one_field}
+use Rattle.smt_meaning.specs.Plain.{PlainFunction, PatternPart, Character, Wildcard, PlainOp, AndOp, BvnegOp, BvnegoOp, EqOp, ExtOp, IteOp, NotOp, OptionGetOp, OrOp, RecordGetOp, SetInterOp, SetMemberOp, SetSubsetOp, StringLikeOp, UufOp, ZeroExtendOp, PlainLiteral, BitVecLiteral, BoolLiteral, EntityLiteral, ExtensionLiteral, StringLiteral, PlainTerm, Application, NoneTerm, LiteralTerm, RecordTerm, SetTerm, SomeTerm, VariableTerm, PlainTerms, no_terms, one_term, PlainFields, no_fields, one_field, BitsOp, TestOp, OverflowOp}
 
 -- characters by their code point, and the wildcard behind them
 abbrev pub part_cmp : PatternPart → PatternPart → Ordering
@@ -24,28 +25,14 @@ pattern_cmp p q = slice_cmp part_cmp p q
 abbrev pub function_cmp : PlainFunction → PlainFunction → Ordering
 function_cmp f g = ordering_then (text_cmp f.id g.id) (ordering_then (type_cmp f.argument g.argument) (type_cmp f.output g.output))
 
--- the place of an operator's variant
+-- the place of an operator: they stand in the order of their names in the program
 abbrev pub op_place : PlainOp → ℕ
 op_place AndOp = 0
-op_place BvaddOp = 1
-op_place BvlshrOp = 2
-op_place BvmulOp = 3
+op_place (BitsOp o) = (bits_entry o).place
+op_place (TestOp o) = (test_entry o).place
+op_place (OverflowOp o) = (overflow_entry o).place
 op_place BvnegOp = 4
 op_place BvnegoOp = 5
-op_place BvsaddoOp = 6
-op_place BvsdivOp = 7
-op_place BvshlOp = 8
-op_place BvsleOp = 9
-op_place BvsltOp = 10
-op_place BvsmodOp = 11
-op_place BvsmuloOp = 12
-op_place BvsremOp = 13
-op_place BvssuboOp = 14
-op_place BvsubOp = 15
-op_place BvudivOp = 16
-op_place BvuleOp = 17
-op_place BvultOp = 18
-op_place BvuremOp = 19
 op_place EqOp = 20
 op_place (ExtOp o) = 21
 op_place IteOp = 22

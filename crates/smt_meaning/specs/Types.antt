@@ -5,7 +5,7 @@ use Rattle.std.specs.Ordering.{nat_cmp, ordering_then, is_eq}
 use Rattle.std.specs.declared.cmp.Ordering.{Ordering}
 use Rattle.std.specs.declared.cmp.Ordering.TheVariants.{Less, Equal, Greater}
 use Rattle.smt_meaning.specs.ValueOrder.{text_cmp}
-use Rattle.smt_meaning.specs.Plain.{ExtensionKind, IpAddrKind, DecimalKind, DatetimeKind, DurationKind, PlainType, OptionType, BitVecType, BoolType, EntityType, ExtensionType, StringType, RecordType, SetType, AttributeTypes, no_attributes, attribute, ExtensionOp, DatetimeOfBitVecOp, DatetimeValOp, DecimalValOp, DurationOfBitVecOp, DurationValOp, IpAddrV4Op, IpAddrV6Op, IpIsV4Op, IpPrefixV4Op, IpPrefixV6Op, PlainOp, AndOp, BvaddOp, BvlshrOp, BvmulOp, BvnegOp, BvnegoOp, BvsaddoOp, BvsdivOp, BvshlOp, BvsleOp, BvsltOp, BvsmodOp, BvsmuloOp, BvsremOp, BvssuboOp, BvsubOp, BvudivOp, BvuleOp, BvultOp, BvuremOp, EqOp, ExtOp, IteOp, NotOp, OptionGetOp, OrOp, RecordGetOp, SetInterOp, SetMemberOp, SetSubsetOp, StringLikeOp, UufOp, ZeroExtendOp, PlainExtension, DecimalOf, Ipv4Of, Ipv6Of, DatetimeOf, DurationOf, PlainLiteral, BitVecLiteral, BoolLiteral, EntityLiteral, ExtensionLiteral, StringLiteral, PlainTerm, Application, NoneTerm, LiteralTerm, RecordTerm, SetTerm, SomeTerm, VariableTerm, PlainTerms, PlainFields, no_fields, one_field, list_of_terms}
+use Rattle.smt_meaning.specs.Plain.{ExtensionKind, IpAddrKind, DecimalKind, DatetimeKind, DurationKind, PlainType, OptionType, BitVecType, BoolType, EntityType, ExtensionType, StringType, RecordType, SetType, AttributeTypes, no_attributes, attribute, ExtensionOp, DatetimeOfBitVecOp, DatetimeValOp, DecimalValOp, DurationOfBitVecOp, DurationValOp, IpAddrV4Op, IpAddrV6Op, IpIsV4Op, IpPrefixV4Op, IpPrefixV6Op, PlainOp, AndOp, BvnegOp, BvnegoOp, EqOp, ExtOp, IteOp, NotOp, OptionGetOp, OrOp, RecordGetOp, SetInterOp, SetMemberOp, SetSubsetOp, StringLikeOp, UufOp, ZeroExtendOp, PlainExtension, DecimalOf, Ipv4Of, Ipv6Of, DatetimeOf, DurationOf, PlainLiteral, BitVecLiteral, BoolLiteral, EntityLiteral, ExtensionLiteral, StringLiteral, PlainTerm, Application, NoneTerm, LiteralTerm, RecordTerm, SetTerm, SomeTerm, VariableTerm, PlainTerms, PlainFields, no_fields, one_field, list_of_terms, BitsOp, TestOp, OverflowOp}
 
 -- the place of an extension type, and of a type's kind
 abbrev pub extension_kind_place : ExtensionKind → ℕ
@@ -133,24 +133,10 @@ result_type EqOp (t ∷ u ∷ []) = then_some (type_eq t u) BoolType
 result_type IteOp (g ∷ t ∷ u ∷ []) = then_some (type_eq g BoolType && type_eq t u) t
 result_type (UufOp f) (t ∷ []) = then_some (type_eq t f.argument) f.output
 result_type BvnegOp (t ∷ []) = then_some (is_bits t) t
-result_type BvaddOp (t ∷ u ∷ []) = then_some (bits_and_bits t u) t
-result_type BvsubOp (t ∷ u ∷ []) = then_some (bits_and_bits t u) t
-result_type BvmulOp (t ∷ u ∷ []) = then_some (bits_and_bits t u) t
-result_type BvudivOp (t ∷ u ∷ []) = then_some (bits_and_bits t u) t
-result_type BvuremOp (t ∷ u ∷ []) = then_some (bits_and_bits t u) t
-result_type BvsdivOp (t ∷ u ∷ []) = then_some (bits_and_bits t u) t
-result_type BvsremOp (t ∷ u ∷ []) = then_some (bits_and_bits t u) t
-result_type BvsmodOp (t ∷ u ∷ []) = then_some (bits_and_bits t u) t
-result_type BvshlOp (t ∷ u ∷ []) = then_some (bits_and_bits t u) t
-result_type BvlshrOp (t ∷ u ∷ []) = then_some (bits_and_bits t u) t
-result_type BvultOp (t ∷ u ∷ []) = then_some (bits_and_bits t u) BoolType
-result_type BvuleOp (t ∷ u ∷ []) = then_some (bits_and_bits t u) BoolType
-result_type BvsltOp (t ∷ u ∷ []) = then_some (bits_and_bits t u) BoolType
-result_type BvsleOp (t ∷ u ∷ []) = then_some (bits_and_bits t u) BoolType
+result_type (BitsOp o) (t ∷ u ∷ []) = then_some (bits_and_bits t u) t
+result_type (TestOp o) (t ∷ u ∷ []) = then_some (bits_and_bits t u) BoolType
+result_type (OverflowOp o) (t ∷ u ∷ []) = then_some (bits_and_bits t u) BoolType
 result_type BvnegoOp (t ∷ []) = then_some (is_bits t) BoolType
-result_type BvsaddoOp (t ∷ u ∷ []) = then_some (bits_and_bits t u) BoolType
-result_type BvssuboOp (t ∷ u ∷ []) = then_some (bits_and_bits t u) BoolType
-result_type BvsmuloOp (t ∷ u ∷ []) = then_some (bits_and_bits t u) BoolType
 result_type (ZeroExtendOp k) (t ∷ []) = extended_type k t
 result_type SetMemberOp (t ∷ u ∷ []) = then_some (type_eq u (SetType t)) BoolType
 result_type SetSubsetOp (t ∷ u ∷ []) = then_some (is_set t && type_eq t u) BoolType

@@ -1,11 +1,13 @@
 -- Operators are found by their names in scripts.
-use Rattle.std.proofs.Common.{◌≡◌, ℕ, List, [], ◌∷◌, map, sym, ap, ◌∙◌, inl, inr, Option, Some, rules}
+use Rattle.std.proofs.Common.{◌≡◌, ℕ, refl, List, [], ◌∷◌, map, sym, ap, ◌∙◌, inl, inr, Option, Some, rules}
 use Rattle.std.specs.Prelude.{bytes_eq}
 use Rattle.std.proofs.lemmas.Bool.{cond-true, cond-false, cases_Bool}
 use Rattle.std.proofs.lemmas.Slice.Eq.{bytes_eq-Decides}
-use Rattle.smt_meaning.specs.Plain.{PlainOp}
+use Rattle.smt_arithmetic.specs.BitOperators.{BitsOperator, TestOperator, OverflowOperator, bits_entry, test_entry, overflow_entry}
+use Rattle.smt_arithmetic.proofs.BitOperators.{each_bits, each_test, each_overflow}
+use Rattle.smt_meaning.specs.Plain.{PlainOp, BitsOp, TestOp, OverflowOp}
 use Rattle.smt_semantics.specs.ScriptOperators.{script_name, theory_operators}
-use Rattle.smt_semantics.specs.Script.{look_up}
+use Rattle.smt_semantics.specs.Script.{look_up, operator_of}
 use Rattle.smt_semantics.specs.Meanings.{OperatorsAreFoundBySpelling}
 
 -- what is found by a name in a list of operators has that name
@@ -24,3 +26,13 @@ spelled_in (o ∷ ops) n op h = elim (cases_Bool (bytes_eq n (script_name o))) [
 
 pub operators_are_found_by_spelling : OperatorsAreFoundBySpelling
 operators_are_found_by_spelling = record { found = search rules; spelled = spelled_in theory_operators }
+
+-- each operator of two bitvectors is found by its name
+pub bits_found : (o : BitsOperator) → operator_of (bits_entry o).name ≡ Some (BitsOp o)
+bits_found = each_bits (λ o. operator_of (bits_entry o).name ≡ Some (BitsOp o)) (refl, (refl, (refl, (refl, (refl, (refl, (refl, (refl, (refl, (refl, tt))))))))))
+
+pub test_found : (o : TestOperator) → operator_of (test_entry o).name ≡ Some (TestOp o)
+test_found = each_test (λ o. operator_of (test_entry o).name ≡ Some (TestOp o)) (refl, (refl, (refl, (refl, tt))))
+
+pub overflow_found : (o : OverflowOperator) → operator_of (overflow_entry o).name ≡ Some (OverflowOp o)
+overflow_found = each_overflow (λ o. operator_of (overflow_entry o).name ≡ Some (OverflowOp o)) (refl, (refl, (refl, tt)))

@@ -1,7 +1,8 @@
 -- How scripts spell operators, and the operators of the theories.
-use Rattle.std.specs.Prelude.{ℕ, codes, List, [], ◌∷◌}
+use Rattle.std.specs.Prelude.{ℕ, codes, List, [], ◌∷◌, ◌++◌, map}
+use Rattle.smt_arithmetic.specs.BitOperators.{bits_operators, test_operators, overflow_operators}
 use Rattle.smt_meaning.specs.Names.{op_name}
-use Rattle.smt_meaning.specs.Plain.{PlainOp, AndOp, BvaddOp, BvlshrOp, BvmulOp, BvnegOp, BvsaddoOp, BvsdivOp, BvshlOp, BvsleOp, BvsltOp, BvsmodOp, BvsmuloOp, BvsremOp, BvssuboOp, BvsubOp, BvudivOp, BvuleOp, BvultOp, BvuremOp, EqOp, IteOp, NotOp, OptionGetOp, OrOp, SetInterOp, SetMemberOp, SetSubsetOp, StringLikeOp}
+use Rattle.smt_meaning.specs.Plain.{PlainOp, AndOp, BvnegOp, EqOp, IteOp, NotOp, OptionGetOp, OrOp, SetInterOp, SetMemberOp, SetSubsetOp, StringLikeOp, BitsOp, TestOp, OverflowOp}
 
 -- The name by which a script calls an operator: its own, but for `=` (Core), `str.in_re` (UnicodeStrings) and the
 -- selector of the datatype Option.
@@ -14,7 +15,5 @@ script_name op = op_name op
 -- the operators of Core, of FixedSizeBitVectors and QF_BV and of finite sets that a name alone stands for
 abbrev pub theory_operators : List PlainOp
 theory_operators =
-    NotOp ∷ AndOp ∷ OrOp ∷ EqOp ∷ IteOp
-    ∷ BvnegOp ∷ BvaddOp ∷ BvsubOp ∷ BvmulOp ∷ BvudivOp ∷ BvuremOp ∷ BvsdivOp ∷ BvsremOp ∷ BvsmodOp ∷ BvshlOp ∷ BvlshrOp
-    ∷ BvultOp ∷ BvuleOp ∷ BvsltOp ∷ BvsleOp ∷ BvsaddoOp ∷ BvssuboOp ∷ BvsmuloOp
-    ∷ SetMemberOp ∷ SetSubsetOp ∷ SetInterOp ∷ []
+    NotOp ∷ AndOp ∷ OrOp ∷ EqOp ∷ IteOp ∷ BvnegOp
+    ∷ map BitsOp bits_operators ++ (map TestOp test_operators ++ (map OverflowOp overflow_operators ++ SetMemberOp ∷ SetSubsetOp ∷ SetInterOp ∷ []))

@@ -22,7 +22,7 @@ use Rattle.smt_term.specs.declared.types.TermType.{TermType, Option', Bitvec, Bo
 use Rattle.smt_term.specs.declared.types.TermType.TheViews as type_views
 use Rattle.smt_term.specs.contracts.types.TermTypeOrd.TheImpl.Laws as type_laws
 use Rattle.smt_term.specs.declared.op.Op.{Op}
-use Rattle.smt_term.specs.declared.op.Op.TheVariants.{And, Bvadd, Bvlshr, Bvmul, Bvneg, Bvnego, Bvsaddo, Bvsdiv, Bvshl, Bvsle, Bvslt, Bvsmod, Bvsmulo, Bvsrem, Bvssubo, Bvsub, Bvudiv, Bvule, Bvult, Bvurem, Eq, Ite, Not, OptionGet, Or, SetInter, SetMember, SetSubset, StringLike, ZeroExtend}
+use Rattle.smt_term.specs.declared.op.Op.TheVariants.{And, StringLike}
 use Rattle.smt_term.specs.declared.term.TermPrim.{TermPrim}
 use Rattle.smt_term.specs.declared.term.TermPrim.TheVariants.{Bitvec as BitsLiteral, Bool as TruthLiteral, String as TextLiteral}
 use Rattle.smt_term.specs.declared.term.Term.{Term, App', None, Prim, Set', Some', Var, Row_of-Term, end_of-Term, more_of-Term}
@@ -53,36 +53,8 @@ type_cmp-is (SetOf' p t) (SetOf' q u) = type_laws.is (SetOf' p t) (SetOf' q u) �
 type_cmp-is a b = type_laws.is a b
 
 pub op_cmp-is : (a b : Op) → op_ord.ghosts.cmp a b ≡ op_cmp (plain_op a) (plain_op b)
-op_cmp-is And And = refl
-op_cmp-is Bvadd Bvadd = refl
-op_cmp-is Bvlshr Bvlshr = refl
-op_cmp-is Bvmul Bvmul = refl
-op_cmp-is Bvneg Bvneg = refl
-op_cmp-is Bvnego Bvnego = refl
-op_cmp-is Bvsaddo Bvsaddo = refl
-op_cmp-is Bvsdiv Bvsdiv = refl
-op_cmp-is Bvshl Bvshl = refl
-op_cmp-is Bvsle Bvsle = refl
-op_cmp-is Bvslt Bvslt = refl
-op_cmp-is Bvsmod Bvsmod = refl
-op_cmp-is Bvsmulo Bvsmulo = refl
-op_cmp-is Bvsrem Bvsrem = refl
-op_cmp-is Bvssubo Bvssubo = refl
-op_cmp-is Bvsub Bvsub = refl
-op_cmp-is Bvudiv Bvudiv = refl
-op_cmp-is Bvule Bvule = refl
-op_cmp-is Bvult Bvult = refl
-op_cmp-is Bvurem Bvurem = refl
-op_cmp-is Eq Eq = refl
-op_cmp-is Ite Ite = refl
-op_cmp-is Not Not = refl
-op_cmp-is OptionGet OptionGet = refl
-op_cmp-is Or Or = refl
-op_cmp-is SetInter SetInter = refl
-op_cmp-is SetMember SetMember = refl
-op_cmp-is SetSubset SetSubset = refl
 op_cmp-is (StringLike p) (StringLike q) = pattern_cmp-is p q
-op_cmp-is (ZeroExtend k) (ZeroExtend l) = refl
+op_cmp-is a And = refl
 op_cmp-is a b = refl
 
 pub literal_cmp-is : (a b : TermPrim) → literal_ord.ghosts.cmp a b ≡ literal_cmp (plain_literal a) (plain_literal b)

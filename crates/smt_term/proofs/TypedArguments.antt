@@ -2,10 +2,9 @@
 use Rattle.std.proofs.Common.{◌≡◌, ℕ, ◌+◌, ◌<◌, ◌≤◌, Bool, true, false, ◌&&◌, List, [], ◌∷◌, Option, Some, None, length, get_or, map, drop, refl, sym, ap, ◌∙◌, arith}
 use Rattle.std.proofs.lemmas.List.{at_drop_more, at_drop_all}
 use Rattle.std.specs.Prelude.{◌≢◌, ◌⊎◌, IsTrue, is_some}
-use mathlib.Core.Logic.{⊎_elim}
 use Rattle.std.specs.Bool.{then_some}
 use Rattle.std.proofs.lemmas.Bool.{false≢true}
-use Rattle.smt_meaning.specs.Plain.{PlainType, BoolType, PlainOp, NotOp, PlainTerm, Application, SetTerm, list_of_terms, terms}
+use Rattle.smt_meaning.specs.Plain.{PlainType, BoolType, PlainOp, BitsOp, TestOp, OverflowOp, NotOp, PlainTerm, Application, SetTerm, list_of_terms, terms}
 use Rattle.smt_meaning.specs.Types.{is_type, result_type, type_eq, type_of, types_of}
 use Rattle.smt_meaning.specs.TermOrder.{term_cmp}
 use Rattle.smt_meaning.specs.Typing.{typed, typed_all}
@@ -15,7 +14,9 @@ use Rattle.std.specs.List.{list_all}
 use Rattle.smt_meaning.proofs.Listed.{listed}
 use Rattle.smt_term.specs.View.{plain_elements, plain_items, plain_op, plain_term, plain_term-App, plain_term-Set, plain_type}
 use Rattle.smt_term.specs.declared.op.Op.{Op}
-use Rattle.smt_term.specs.declared.op.Op.TheVariants.{And, Bvadd, Bvlshr, Bvmul, Bvneg, Bvnego, Bvsaddo, Bvsdiv, Bvshl, Bvsle, Bvslt, Bvsmod, Bvsmulo, Bvsrem, Bvssubo, Bvsub, Bvudiv, Bvule, Bvult, Bvurem, Eq, Ite, Not, OptionGet, Or, SetInter, SetMember, SetSubset, StringLike, ZeroExtend}
+use Rattle.smt_term.specs.OpClass.{class_of}
+use Rattle.smt_term.specs.declared.op.Op.TheVariants.{And, Eq, Or, SetInter, SetMember, SetSubset}
+use Rattle.smt_term.specs.declared.op.OpClass.TheVariants.{Bits, Test, Other}
 use Rattle.smt_term.specs.declared.term.Term.{Term, App, Set}
 use Rattle.smt_term.specs.declared.term.TermSet.{TermSet}
 use Rattle.smt_term.specs.declared.term.TermList.{TermList}
@@ -63,72 +64,25 @@ then_given : (b : Bool) (r ty : PlainType) → IsTrue (is_some (then_some b r)) 
 then_given true r ty h = refl
 then_given false r ty h = absurd (false≢true h)
 
--- of two arguments an operator gives a truth value, if it does not give the type of the first
-pub truth_given : (o : Op) (t u ty : PlainType) → o ≢ Bvadd → o ≢ Bvlshr → o ≢ Bvmul → o ≢ Bvsdiv → o ≢ Bvshl → o ≢ Bvsmod → o ≢ Bvsrem → o ≢ Bvsub → o ≢ Bvudiv → o ≢ Bvurem → o ≢ SetInter → IsTrue (is_some (result_type (plain_op o) (t ∷ u ∷ []))) → type_eq BoolType ty ≡ is_type (result_type (plain_op o) (t ∷ u ∷ [])) ty
-truth_given And t u ty n0 n1 n2 n3 n4 n5 n6 n7 n8 n9 n10 h = then_given _ BoolType ty h
-truth_given Bvadd t u ty n0 n1 n2 n3 n4 n5 n6 n7 n8 n9 n10 h = absurd (n0 refl)
-truth_given Bvlshr t u ty n0 n1 n2 n3 n4 n5 n6 n7 n8 n9 n10 h = absurd (n1 refl)
-truth_given Bvmul t u ty n0 n1 n2 n3 n4 n5 n6 n7 n8 n9 n10 h = absurd (n2 refl)
-truth_given Bvneg t u ty n0 n1 n2 n3 n4 n5 n6 n7 n8 n9 n10 h = absurd (false≢true h)
-truth_given Bvnego t u ty n0 n1 n2 n3 n4 n5 n6 n7 n8 n9 n10 h = absurd (false≢true h)
-truth_given Bvsaddo t u ty n0 n1 n2 n3 n4 n5 n6 n7 n8 n9 n10 h = then_given _ BoolType ty h
-truth_given Bvsdiv t u ty n0 n1 n2 n3 n4 n5 n6 n7 n8 n9 n10 h = absurd (n3 refl)
-truth_given Bvshl t u ty n0 n1 n2 n3 n4 n5 n6 n7 n8 n9 n10 h = absurd (n4 refl)
-truth_given Bvsle t u ty n0 n1 n2 n3 n4 n5 n6 n7 n8 n9 n10 h = then_given _ BoolType ty h
-truth_given Bvslt t u ty n0 n1 n2 n3 n4 n5 n6 n7 n8 n9 n10 h = then_given _ BoolType ty h
-truth_given Bvsmod t u ty n0 n1 n2 n3 n4 n5 n6 n7 n8 n9 n10 h = absurd (n5 refl)
-truth_given Bvsmulo t u ty n0 n1 n2 n3 n4 n5 n6 n7 n8 n9 n10 h = then_given _ BoolType ty h
-truth_given Bvsrem t u ty n0 n1 n2 n3 n4 n5 n6 n7 n8 n9 n10 h = absurd (n6 refl)
-truth_given Bvssubo t u ty n0 n1 n2 n3 n4 n5 n6 n7 n8 n9 n10 h = then_given _ BoolType ty h
-truth_given Bvsub t u ty n0 n1 n2 n3 n4 n5 n6 n7 n8 n9 n10 h = absurd (n7 refl)
-truth_given Bvudiv t u ty n0 n1 n2 n3 n4 n5 n6 n7 n8 n9 n10 h = absurd (n8 refl)
-truth_given Bvule t u ty n0 n1 n2 n3 n4 n5 n6 n7 n8 n9 n10 h = then_given _ BoolType ty h
-truth_given Bvult t u ty n0 n1 n2 n3 n4 n5 n6 n7 n8 n9 n10 h = then_given _ BoolType ty h
-truth_given Bvurem t u ty n0 n1 n2 n3 n4 n5 n6 n7 n8 n9 n10 h = absurd (n9 refl)
-truth_given Eq t u ty n0 n1 n2 n3 n4 n5 n6 n7 n8 n9 n10 h = then_given _ BoolType ty h
-truth_given Ite t u ty n0 n1 n2 n3 n4 n5 n6 n7 n8 n9 n10 h = absurd (false≢true h)
-truth_given Not t u ty n0 n1 n2 n3 n4 n5 n6 n7 n8 n9 n10 h = absurd (false≢true h)
-truth_given OptionGet t u ty n0 n1 n2 n3 n4 n5 n6 n7 n8 n9 n10 h = absurd (false≢true h)
-truth_given Or t u ty n0 n1 n2 n3 n4 n5 n6 n7 n8 n9 n10 h = then_given _ BoolType ty h
-truth_given SetInter t u ty n0 n1 n2 n3 n4 n5 n6 n7 n8 n9 n10 h = absurd (n10 refl)
-truth_given SetMember t u ty n0 n1 n2 n3 n4 n5 n6 n7 n8 n9 n10 h = then_given _ BoolType ty h
-truth_given SetSubset t u ty n0 n1 n2 n3 n4 n5 n6 n7 n8 n9 n10 h = then_given _ BoolType ty h
-truth_given (StringLike p) t u ty n0 n1 n2 n3 n4 n5 n6 n7 n8 n9 n10 h = absurd (false≢true h)
-truth_given (ZeroExtend k) t u ty n0 n1 n2 n3 n4 n5 n6 n7 n8 n9 n10 h = absurd (false≢true h)
+-- of two bitvectors an operator gives the type of the first, or a truth value
+pub bits_given : (o : PlainOp) (t u ty : PlainType) → class_of o ≡ Bits → IsTrue (is_some (result_type o (t ∷ u ∷ []))) → type_eq t ty ≡ is_type (result_type o (t ∷ u ∷ [])) ty
+bits_given (BitsOp o) t u ty c h = then_given _ t ty h
+bits_given o t u ty c h = cc
 
--- the operators on two bitvectors that give one
-abbrev gives_bits : Op → Bool
-gives_bits Bvadd = true
-gives_bits Bvlshr = true
-gives_bits Bvmul = true
-gives_bits Bvsdiv = true
-gives_bits Bvshl = true
-gives_bits Bvsmod = true
-gives_bits Bvsrem = true
-gives_bits Bvsub = true
-gives_bits Bvudiv = true
-gives_bits Bvurem = true
-gives_bits o = false
+pub test_given : (o : PlainOp) (t u ty : PlainType) → class_of o ≡ Test → IsTrue (is_some (result_type o (t ∷ u ∷ []))) → type_eq BoolType ty ≡ is_type (result_type o (t ∷ u ∷ [])) ty
+test_given (TestOp o) t u ty c h = then_given _ BoolType ty h
+test_given (OverflowOp o) t u ty c h = then_given _ BoolType ty h
+test_given o t u ty c h = cc
 
-are_listed : (o : Op) → (o ≡ Bvadd) ⊎ ((o ≡ Bvlshr) ⊎ ((o ≡ Bvmul) ⊎ ((o ≡ Bvsdiv) ⊎ ((o ≡ Bvshl) ⊎ ((o ≡ Bvsmod) ⊎ ((o ≡ Bvsrem) ⊎ ((o ≡ Bvsub) ⊎ ((o ≡ Bvudiv) ⊎ (o ≡ Bvurem))))))))) → gives_bits o ≡ true
-are_listed o = ⊎_elim (λ e. ap gives_bits e) (⊎_elim (λ e. ap gives_bits e) (⊎_elim (λ e. ap gives_bits e) (⊎_elim (λ e. ap gives_bits e) (⊎_elim (λ e. ap gives_bits e) (⊎_elim (λ e. ap gives_bits e) (⊎_elim (λ e. ap gives_bits e) (⊎_elim (λ e. ap gives_bits e) (⊎_elim (λ e. ap gives_bits e) (λ e. ap gives_bits e)))))))))
-
-kept : (o : Op) (t u ty : PlainType) → gives_bits o ≡ true → IsTrue (is_some (result_type (plain_op o) (t ∷ u ∷ []))) → type_eq t ty ≡ is_type (result_type (plain_op o) (t ∷ u ∷ [])) ty
-kept Bvadd t u ty k h = then_given _ t ty h
-kept Bvlshr t u ty k h = then_given _ t ty h
-kept Bvmul t u ty k h = then_given _ t ty h
-kept Bvsdiv t u ty k h = then_given _ t ty h
-kept Bvshl t u ty k h = then_given _ t ty h
-kept Bvsmod t u ty k h = then_given _ t ty h
-kept Bvsrem t u ty k h = then_given _ t ty h
-kept Bvsub t u ty k h = then_given _ t ty h
-kept Bvudiv t u ty k h = then_given _ t ty h
-kept Bvurem t u ty k h = then_given _ t ty h
-kept o t u ty k h = absurd (false≢true k)
-
--- they give the type of the first
-pub bits_given : (o : Op) (t u ty : PlainType) → (o ≡ Bvadd) ⊎ ((o ≡ Bvlshr) ⊎ ((o ≡ Bvmul) ⊎ ((o ≡ Bvsdiv) ⊎ ((o ≡ Bvshl) ⊎ ((o ≡ Bvsmod) ⊎ ((o ≡ Bvsrem) ⊎ ((o ≡ Bvsub) ⊎ ((o ≡ Bvudiv) ⊎ (o ≡ Bvurem))))))))) → IsTrue (is_some (result_type (plain_op o) (t ∷ u ∷ []))) → type_eq t ty ≡ is_type (result_type (plain_op o) (t ∷ u ∷ [])) ty
-bits_given o t u ty k h = kept o t u ty (are_listed o k) h
+-- any other gives a truth value of two arguments, where it takes them, but for the intersection
+pub truth_given : (o : Op) (t u ty : PlainType) → class_of (plain_op o) ≡ Other → o ≢ SetInter → IsTrue (is_some (result_type (plain_op o) (t ∷ u ∷ []))) → type_eq BoolType ty ≡ is_type (result_type (plain_op o) (t ∷ u ∷ [])) ty
+truth_given And t u ty c n h = then_given _ BoolType ty h
+truth_given Or t u ty c n h = then_given _ BoolType ty h
+truth_given Eq t u ty c n h = then_given _ BoolType ty h
+truth_given SetInter t u ty c n h = absurd (n refl)
+truth_given SetMember t u ty c n h = then_given _ BoolType ty h
+truth_given SetSubset t u ty c n h = then_given _ BoolType ty h
+truth_given o t u ty c n h = cc
 
 -- each term is of the type
 abbrev pub are_all : TermType → List Term → Bool

@@ -1,4 +1,5 @@
 pub mod Enums
+pub mod OpClass
 pub mod PatternOrder
 pub mod PatternSearch
 pub mod PatternView

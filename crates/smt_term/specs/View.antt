@@ -8,7 +8,8 @@ use Rattle.std.specs.declared.alloc.Global.{Global}
 use Rattle.std.specs.declared.rc.Rc.{Rc}
 use Rattle.smt_bits.specs.declared.width.Width.{Width}
 use Rattle.smt_term.specs.PatternView.{plain_ord_pattern}
-use Rattle.smt_meaning.specs.Plain.{PlainType, OptionType, BitVecType, BoolType, StringType, SetType, PlainOp, AndOp, BvaddOp, BvlshrOp, BvmulOp, BvnegOp, BvnegoOp, BvsaddoOp, BvsdivOp, BvshlOp, BvsleOp, BvsltOp, BvsmodOp, BvsmuloOp, BvsremOp, BvssuboOp, BvsubOp, BvudivOp, BvuleOp, BvultOp, BvuremOp, EqOp, IteOp, NotOp, OptionGetOp, OrOp, SetInterOp, SetMemberOp, SetSubsetOp, StringLikeOp, ZeroExtendOp, PlainLiteral, BitVecLiteral, BoolLiteral, StringLiteral, PlainTerm, Application, NoneTerm, LiteralTerm, SetTerm, SomeTerm, VariableTerm, PlainTerms, no_terms, one_term, terms}
+use Rattle.smt_arithmetic.specs.BitOperators.{BvaddOp, BvlshrOp, BvmulOp, BvsdivOp, BvshlOp, BvsmodOp, BvsremOp, BvsubOp, BvudivOp, BvuremOp, BvsleOp, BvsltOp, BvuleOp, BvultOp, BvsaddoOp, BvsmuloOp, BvssuboOp}
+use Rattle.smt_meaning.specs.Plain.{PlainType, OptionType, BitVecType, BoolType, StringType, SetType, PlainOp, AndOp, BvnegOp, BvnegoOp, EqOp, IteOp, NotOp, OptionGetOp, OrOp, SetInterOp, SetMemberOp, SetSubsetOp, StringLikeOp, ZeroExtendOp, PlainLiteral, BitVecLiteral, BoolLiteral, StringLiteral, PlainTerm, Application, NoneTerm, LiteralTerm, SetTerm, SomeTerm, VariableTerm, PlainTerms, no_terms, one_term, terms, BitsOp, TestOp, OverflowOp}
 use Rattle.smt_term.specs.declared.types.TermType.{TermType, Option as OptionOf, Option', Bitvec, Bool, String, Set as SetOf, Set' as SetOf'}
 use Rattle.smt_term.specs.declared.op.Op.{Op}
 use Rattle.smt_term.specs.declared.op.Op.TheVariants.{And, Bvadd, Bvlshr, Bvmul, Bvneg, Bvnego, Bvsaddo, Bvsdiv, Bvshl, Bvsle, Bvslt, Bvsmod, Bvsmulo, Bvsrem, Bvssubo, Bvsub, Bvudiv, Bvule, Bvult, Bvurem, Eq, Ite, Not, OptionGet, Or, SetInter, SetMember, SetSubset, StringLike, ZeroExtend}
@@ -29,25 +30,25 @@ plain_type (SetOf' p t) = SetType (plain_type t)
 
 abbrev pub plain_op : Op → PlainOp
 plain_op And = AndOp
-plain_op Bvadd = BvaddOp
-plain_op Bvlshr = BvlshrOp
-plain_op Bvmul = BvmulOp
+plain_op Bvadd = BitsOp BvaddOp
+plain_op Bvlshr = BitsOp BvlshrOp
+plain_op Bvmul = BitsOp BvmulOp
 plain_op Bvneg = BvnegOp
 plain_op Bvnego = BvnegoOp
-plain_op Bvsaddo = BvsaddoOp
-plain_op Bvsdiv = BvsdivOp
-plain_op Bvshl = BvshlOp
-plain_op Bvsle = BvsleOp
-plain_op Bvslt = BvsltOp
-plain_op Bvsmod = BvsmodOp
-plain_op Bvsmulo = BvsmuloOp
-plain_op Bvsrem = BvsremOp
-plain_op Bvssubo = BvssuboOp
-plain_op Bvsub = BvsubOp
-plain_op Bvudiv = BvudivOp
-plain_op Bvule = BvuleOp
-plain_op Bvult = BvultOp
-plain_op Bvurem = BvuremOp
+plain_op Bvsaddo = OverflowOp BvsaddoOp
+plain_op Bvsdiv = BitsOp BvsdivOp
+plain_op Bvshl = BitsOp BvshlOp
+plain_op Bvsle = TestOp BvsleOp
+plain_op Bvslt = TestOp BvsltOp
+plain_op Bvsmod = BitsOp BvsmodOp
+plain_op Bvsmulo = OverflowOp BvsmuloOp
+plain_op Bvsrem = BitsOp BvsremOp
+plain_op Bvssubo = OverflowOp BvssuboOp
+plain_op Bvsub = BitsOp BvsubOp
+plain_op Bvudiv = BitsOp BvudivOp
+plain_op Bvule = TestOp BvuleOp
+plain_op Bvult = TestOp BvultOp
+plain_op Bvurem = BitsOp BvuremOp
 plain_op Eq = EqOp
 plain_op Ite = IteOp
 plain_op Not = NotOp

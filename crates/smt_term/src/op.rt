@@ -1,6 +1,7 @@
 // The operators of applications.
 ghost use Rattle.std.specs.Prelude.{◌≡◌, IfOk};
 ghost use Rattle.smt_meaning.specs.Names.{op_name};
+ghost use Rattle.smt_term.specs.OpClass.{class_of};
 ghost use Rattle.smt_term.specs.View.{plain_op};
 
 use crate::error::TermError;
@@ -72,7 +73,56 @@ pub enum Op {
     ZeroExtend(u32),
 }
 
+/// The class of an operator, by which it is typed.
+#[derive(Clone, Copy)]
+pub(crate) enum OpClass {
+    /// From two bitvectors of one width to one.
+    Bits,
+    /// A test of two bitvectors of one width: a comparison, or whether a result leaves the signed range.
+    Test,
+    /// Any other.
+    Other,
+}
+
 impl Op {
+    /// The class of the operator.
+    pub(crate) fn class(&self) -> OpClass
+        ensures { result ≡ class_of (plain_op self.now) }
+    {
+        match self {
+            Op::Bvadd
+            | Op::Bvlshr
+            | Op::Bvmul
+            | Op::Bvsdiv
+            | Op::Bvshl
+            | Op::Bvsmod
+            | Op::Bvsrem
+            | Op::Bvsub
+            | Op::Bvudiv
+            | Op::Bvurem => OpClass::Bits,
+            Op::Bvsle
+            | Op::Bvslt
+            | Op::Bvule
+            | Op::Bvult
+            | Op::Bvsaddo
+            | Op::Bvsmulo
+            | Op::Bvssubo => OpClass::Test,
+            Op::And
+            | Op::Bvneg
+            | Op::Bvnego
+            | Op::Eq
+            | Op::Ite
+            | Op::Not
+            | Op::OptionGet
+            | Op::Or
+            | Op::SetInter
+            | Op::SetMember
+            | Op::SetSubset
+            | Op::StringLike(_)
+            | Op::ZeroExtend(_) => OpClass::Other,
+        }
+    }
+
     /// The name of the operator, by which jobs and messages call it.
     pub fn mk_name(&self) -> &'static str
         ensures { result.now ≡ op_name (plain_op self.now) }

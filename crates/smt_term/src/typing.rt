@@ -11,7 +11,7 @@ ghost use Rattle.smt_meaning.specs.ValueOrder.{ascends, is_below};
 ghost use Rattle.smt_term.specs.View.{plain_literal, plain_op, plain_term, plain_type};
 
 use crate::error::TermError;
-use crate::op::Op;
+use crate::op::{Op, OpClass};
 use crate::term::{Term, TermPrim};
 use crate::types::TermType;
 use smt_bits::Width;
@@ -459,19 +459,15 @@ impl Op {
     fn takes_two(&self, a: &Term, b: &Term) -> bool
         ensures { result ≡ is_some (result_type (plain_op self.now) (type_of (plain_term a.now) ∷ type_of (plain_term b.now) ∷ [])) }
     {
-        match self {
-            Op::And | Op::Or => a.is_of_type(&TermType::Bool) && b.is_of_type(&TermType::Bool),
-            Op::Eq => a.is_typed_as(b),
-            Op::SetInter | Op::SetSubset => a.is_set() && a.is_typed_as(b),
-            Op::SetMember => a.is_element_of(b),
-            Op::Bvneg
-            | Op::Bvnego
-            | Op::Ite
-            | Op::Not
-            | Op::OptionGet
-            | Op::StringLike(_)
-            | Op::ZeroExtend(_) => false,
-            _ => a.width().is_some() && a.is_typed_as(b),
+        match self.class() {
+            OpClass::Bits | OpClass::Test => a.width().is_some() && a.is_typed_as(b),
+            OpClass::Other => match self {
+                Op::And | Op::Or => a.is_of_type(&TermType::Bool) && b.is_of_type(&TermType::Bool),
+                Op::Eq => a.is_typed_as(b),
+                Op::SetInter | Op::SetSubset => a.is_set() && a.is_typed_as(b),
+                Op::SetMember => a.is_element_of(b),
+                _ => false,
+            },
         }
     }
 
@@ -513,19 +509,13 @@ impl Op {
         ensures { IsTrue (is_some (result_type (plain_op self.now) (type_of (plain_term a.now) ∷ type_of (plain_term b.now) ∷ []))) →
             result ≡ is_type (result_type (plain_op self.now) (type_of (plain_term a.now) ∷ type_of (plain_term b.now) ∷ [])) (plain_type ty.now) }
     {
-        match self {
-            Op::Bvadd
-            | Op::Bvlshr
-            | Op::Bvmul
-            | Op::Bvsdiv
-            | Op::Bvshl
-            | Op::Bvsmod
-            | Op::Bvsrem
-            | Op::Bvsub
-            | Op::Bvudiv
-            | Op::Bvurem => a.is_of_type(ty),
-            Op::SetInter => a.is_of_type(ty),
-            _ => TermType::Bool.is_same_as(ty),
+        match self.class() {
+            OpClass::Bits => a.is_of_type(ty),
+            OpClass::Test => TermType::Bool.is_same_as(ty),
+            OpClass::Other => match self {
+                Op::SetInter => a.is_of_type(ty),
+                _ => TermType::Bool.is_same_as(ty),
+            },
         }
     }
 
