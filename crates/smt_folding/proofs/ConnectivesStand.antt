@@ -3,12 +3,14 @@ use Rattle.std.proofs.Common.{◌≡◌, Bool, true, false, not, ◌&&◌, ◌||
 use Rattle.std.specs.Bool.{then_some}
 use Rattle.std.specs.Cmp.{first_so, second_so}
 use Rattle.std.specs.Cmp.Derive.{both_true}
-use Rattle.std.specs.List.{AllByRecursion, AllZip, list_any}
+use Rattle.std.specs.List.{AllByRecursion, list_any}
 use Rattle.std.proofs.lemmas.Bool.{or_cases}
-use Rattle.smt_folding.specs.Applications.{true_term, false_term, truth_literal, not_of, and_of, or_of, implies_of, any_of_from, any_of}
-use Rattle.smt_folding.specs.FoldConnectives.{folded_not, is_negation, are_opposites, folded_and, folded_or, folded_implies, folded_any_from, folded_any}
+use Rattle.smt_folding.specs.Applications.{true_term, false_term, truth_literal, not_of, and_of, or_of}
+use Rattle.smt_folding.specs.Builder.{applied}
+use Rattle.smt_folding.specs.Composites.{any_of, any_of_from}
+use Rattle.smt_folding.specs.FoldConnectives.{folded_not, is_negation, are_opposites, folded_and, folded_or}
 use Rattle.smt_folding.specs.Refinement.{Refines}
-use Rattle.smt_folding.proofs.Standing.{valued, Given, itself, onward, one_of, standing_within, application}
+use Rattle.smt_folding.proofs.Standing.{valued, Given, itself, one_of, standing_within}
 use Rattle.smt_meaning.specs.Formed.{IsFormedNode}
 use Rattle.smt_meaning.specs.Interpretations.{IsGiven}
 use Rattle.smt_meaning.specs.Meaning.{meaning, term_value}
@@ -231,23 +233,6 @@ stands_or t u =
     no : ((I : Interpretation) → true ≡ (truth (meaning I t) || truth (meaning I u))) → Refines true_term (or_of t u)
     no e = literal_for_two OrOp (λ x y. x || y) (λ v w. refl) (λ I v w. refl) true t u e
 
--- ---- implication, and the disjunction of many
-
-pub stands_implies : (t u : PlainTerm) → Refines (folded_implies t u) (implies_of t u)
-stands_implies t u =
-    onward (folded_implies t u) (or_of (folded_not t) u) (implies_of t u) (stands_or (folded_not t) u)
-    (application OrOp (folded_not t ∷ u ∷ []) (not_of t ∷ u ∷ []) BoolType (stands_not t, (itself u, tt)))
-
-any_from : (x y : PlainTerm) (ts us : List PlainTerm) → Refines x y → AllZip Refines ts us → Refines (folded_any_from x ts) (any_of_from y us)
-any_from x y [] [] s z = s
-any_from x y [] (u ∷ us) s z = elim z [ ]
-any_from x y (t ∷ ts) [] s z = elim z [ ]
-any_from x y (t ∷ ts) (u ∷ us) s z =
-    any_from (folded_or t x) (or_of u y) ts us (onward (folded_or t x) (or_of t x) (or_of u y) (stands_or t x) (application OrOp (t ∷ x ∷ []) (u ∷ y ∷ []) BoolType (z.0, (s, tt)))) z.1
-
-pub stands_any : (ts us : List PlainTerm) → AllZip Refines ts us → Refines (folded_any ts) (any_of us)
-stands_any ts us z = any_from false_term false_term ts us (itself false_term) z
-
 -- ---- the value of the disjunction of many
 
 either_turned : (x y z : Bool) → (y || (x || z)) ≡ ((x || y) || z)
@@ -258,7 +243,7 @@ either_turned false y z = refl
 pub is_both_boolean : (t u : PlainTerm) → typed t ≡ true → type_of t ≡ BoolType → typed u ≡ true → type_of u ≡ BoolType → typed (or_of t u) ≡ true
 is_both_boolean t u h e k d = both_true (both_true h (both_true k refl)) (ap (λ b. is_type (then_some b BoolType) BoolType) (both_true ((types_decided (type_of t) BoolType).1 e) ((types_decided (type_of u) BoolType).1 d)))
 
-any_value : (I : Interpretation) (x : PlainTerm) (b : Bool) (ts : List PlainTerm) → typed x ≡ true → type_of x ≡ BoolType → meaning I x ≡ BoolValue b → AreBoolean ts → term_value I (any_of_from x ts) ≡ BoolValue (list_any (λ t. truth (term_value I t)) ts || b)
+any_value : (I : Interpretation) (x : PlainTerm) (b : Bool) (ts : List PlainTerm) → typed x ≡ true → type_of x ≡ BoolType → meaning I x ≡ BoolValue b → AreBoolean ts → term_value I (any_of_from applied x ts) ≡ BoolValue (list_any (λ t. truth (term_value I t)) ts || b)
 any_value I x b [] h e v a = valued I x h ∙ v
 any_value I x b (t ∷ ts) h e v a =
     let p : truth (meaning I t) ≡ truth (term_value I t) = ap truth (sym (valued I t a.0.parts)) in
@@ -270,5 +255,5 @@ or_nothing : (x : Bool) → (x || false) ≡ x
 or_nothing true = refl
 or_nothing false = refl
 
-pub any_is_true : (I : Interpretation) (ts : List PlainTerm) → AreBoolean ts → term_value I (any_of ts) ≡ BoolValue (list_any (λ t. truth (term_value I t)) ts)
+pub any_is_true : (I : Interpretation) (ts : List PlainTerm) → AreBoolean ts → term_value I (any_of applied ts) ≡ BoolValue (list_any (λ t. truth (term_value I t)) ts)
 any_is_true I ts a = any_value I false_term false ts refl refl refl a ∙ ap BoolValue (or_nothing (list_any (λ t. truth (term_value I t)) ts))

@@ -1,9 +1,12 @@
 pub mod BitsStand
 pub mod BuiltFaults
 pub mod BuiltTerms
+pub mod CompositesKeep
+pub mod CompositesStand
 pub mod ConnectivesStand
 pub mod EqualityStands
 pub mod FoldedFaults
+pub mod FoldingsKeep
 pub mod Least
 pub mod OptionsStand
 pub mod Reaching

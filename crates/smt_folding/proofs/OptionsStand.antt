@@ -4,15 +4,16 @@ use Rattle.std.specs.Prelude.{cond, Option, Some, None}
 use Rattle.std.specs.Bool.{then_some}
 use Rattle.std.specs.Cmp.{first_so, second_so}
 use Rattle.std.specs.List.{AllByRecursion, AllZip}
-use Rattle.smt_folding.specs.Applications.{false_term, not_of, ite_of, option_get_of, is_none_of, is_some_of, if_false_of, if_true_of, unless_of, if_some_of, any_none_of, if_all_some_of, type_inside}
+use Rattle.smt_folding.specs.Applications.{false_term, not_of, option_get_of, type_inside}
+use Rattle.smt_folding.specs.Builder.{applied, folding}
+use Rattle.smt_folding.specs.Composites.{is_none, none_by_type}
 use Rattle.smt_folding.specs.FoldConnectives.{folded_not}
-use Rattle.smt_folding.specs.FoldEquality.{folded_ite}
-use Rattle.smt_folding.specs.FoldOptions.{folded_option_get, folded_is_none_by_type, folded_is_none, folded_is_some, folded_if_false, folded_if_true, folded_unless, folded_if_some, folded_any_none, folded_if_all_some}
+use Rattle.smt_folding.specs.FoldOptions.{folded_option_get}
 use Rattle.smt_folding.specs.Refinement.{Refines}
-use Rattle.smt_folding.proofs.ConnectivesStand.{argument, boolean, chosen_type, stands_any, stands_not}
-use Rattle.smt_folding.proofs.EqualityStands.{IteParts, equal_for_eq, ite_parts, literal_for_eq, not_typed, of_guard, stands_ite}
+use Rattle.smt_folding.proofs.ConnectivesStand.{argument, boolean, chosen_type, stands_not}
+use Rattle.smt_folding.proofs.EqualityStands.{IteParts, equal_for_eq, ite_parts, literal_for_eq, not_typed, of_guard}
 use Rattle.smt_folding.proofs.Records.{HasFormedType}
-use Rattle.smt_folding.proofs.Standing.{application, itself, onward, standing, standing_within}
+use Rattle.smt_folding.proofs.Standing.{itself, onward, standing, standing_within}
 use Rattle.smt_folding.proofs.TypeTests.{IsMade, inside_test, stands_never, test_at, test_folded, test_is_truth, test_kept, test_typed}
 use Rattle.smt_meaning.specs.Formed.{IsFormedNode, IsFormedType}
 use Rattle.smt_meaning.specs.Interpretations.{IsGiven}
@@ -121,10 +122,10 @@ module _ (g t u : PlainTerm) (ty : PlainType) where
       (λ h. ((choice_parts h).guard, (choice_parts h).guard_type ∙ sym (test_is_truth inner_type NoneTerm none_is_made (inner_type ty) Choice)))
       (λ enums I h f i. boolean enums I g (choice_parts h).guard (choice_parts h).guard_type (in_guard IsFormedNode f.literals) (in_guard (IsGiven enums I) i) ∙ none_value x (BoolValue (truth (meaning I g))) I e h (v I))
 
-  by_type_stands : Refines (folded_is_none_by_type Choice) (is_none_of Choice)
+  by_type_stands : Refines (none_by_type folding Choice) (is_none applied Choice)
   by_type_stands = test_folded inner_type NoneTerm none_is_made (inner_type ty) Choice
 
-none_of_choice : (g t u : PlainTerm) (ty : PlainType) → Refines (folded_is_none (Application IteOp (terms (g ∷ t ∷ u ∷ [])) ty)) (is_none_of (Application IteOp (terms (g ∷ t ∷ u ∷ [])) ty))
+none_of_choice : (g t u : PlainTerm) (ty : PlainType) → Refines (is_none folding (Application IteOp (terms (g ∷ t ∷ u ∷ [])) ty)) (is_none applied (Application IteOp (terms (g ∷ t ∷ u ∷ [])) ty))
 none_of_choice g (SomeTerm t) (SomeTerm u) ty = two_some_stand g (SomeTerm t) (SomeTerm u) ty (inner_type ty) (λ I. two_some (truth (meaning I g)) (meaning I t) (meaning I u))
 none_of_choice g (SomeTerm t) (NoneTerm x) ty = negated_guard_stands g (SomeTerm t) (NoneTerm x) ty (type_of t) refl (λ I. some_else_none (truth (meaning I g)) (meaning I t))
 none_of_choice g (NoneTerm x) (SomeTerm u) ty = guard_stands g (NoneTerm x) (SomeTerm u) ty x refl (λ I. none_else_some (truth (meaning I g)) (meaning I u))
@@ -132,51 +133,12 @@ none_of_choice g (SomeTerm t) u ty = by_type_stands g (SomeTerm t) u ty
 none_of_choice g (NoneTerm x) u ty = by_type_stands g (NoneTerm x) u ty
 none_of_choice g t u ty = by_type_stands g t u ty
 
-pub stands_is_none : (t : PlainTerm) → Refines (folded_is_none t) (is_none_of t)
+pub stands_is_none : (t : PlainTerm) → Refines (is_none folding t) (is_none applied t)
 stands_is_none (NoneTerm ty) = equal_for_eq (NoneTerm ty) (NoneTerm ty) refl
 stands_is_none (SomeTerm t) = literal_for_eq false (SomeTerm t) (NoneTerm (type_of t)) (λ enums I p f. refl)
 stands_is_none (Application IteOp (one_term g (one_term t (one_term u no_terms))) ty) = none_of_choice g t u ty
 stands_is_none t = test_folded inner_type NoneTerm none_is_made (inner_type (type_of t)) t
 
 -- the test of a term that stands for another
-pub none_kept : (t u : PlainTerm) → Refines t u → Refines (is_none_of t) (is_none_of u)
+pub none_kept : (t u : PlainTerm) → Refines t u → Refines (is_none applied t) (is_none applied u)
 none_kept = test_kept inner_type NoneTerm none_is_made
-
-pub stands_is_some : (t : PlainTerm) → Refines (folded_is_some t) (is_some_of t)
-stands_is_some t =
-    onward (folded_is_some t) (not_of (folded_is_none t)) (is_some_of t) (stands_not (folded_is_none t)) (application NotOp (folded_is_none t ∷ []) (is_none_of t ∷ []) BoolType (stands_is_none t, tt))
-
--- ---- options by a guard
-
-pub stands_if_false : (g t : PlainTerm) → Refines (folded_if_false g t) (if_false_of g t)
-stands_if_false g t = stands_ite g (NoneTerm (type_of t)) (SomeTerm t)
-
-pub stands_if_true : (g t : PlainTerm) → Refines (folded_if_true g t) (if_true_of g t)
-stands_if_true g t = stands_ite g (SomeTerm t) (NoneTerm (type_of t))
-
--- a folded choice whose guard stands for another
-guarded : (g x t u : PlainTerm) → Refines g x → Refines (folded_ite g t u) (ite_of x t u)
-guarded g x t u s =
-    onward (folded_ite g t u) (ite_of g t u) (ite_of x t u) (stands_ite g t u) (application IteOp (g ∷ t ∷ u ∷ []) (x ∷ t ∷ u ∷ []) (type_of t) (s, (itself t, (itself u, tt))))
-
-stands_unless : (g x t : PlainTerm) → Refines g x → Refines (folded_unless g t) (unless_of x t)
-stands_unless g x t s = by (inner_type (type_of t))
-  where
-    by : (o : Option PlainType) → Refines (elim o [ Some ty ↦ folded_ite g (NoneTerm ty) t | None ↦ folded_if_false g t ]) (elim o [ Some ty ↦ ite_of x (NoneTerm ty) t | None ↦ if_false_of x t ])
-    by (Some ty) = guarded g x (NoneTerm ty) t s
-    by None = guarded g x (NoneTerm (type_of t)) (SomeTerm t) s
-
-pub stands_if_some : (g t : PlainTerm) → Refines (folded_if_some g t) (if_some_of g t)
-stands_if_some g t = stands_unless (folded_is_none g) (is_none_of g) t (stands_is_none g)
-
--- ---- lists of options
-
-each_none : (gs : List PlainTerm) → AllZip Refines (map folded_is_none gs) (map is_none_of gs)
-each_none [] = tt
-each_none (g ∷ gs) = (stands_is_none g, each_none gs)
-
-pub stands_any_none : (gs : List PlainTerm) → Refines (folded_any_none gs) (any_none_of gs)
-stands_any_none gs = stands_any (map folded_is_none gs) (map is_none_of gs) (each_none gs)
-
-pub stands_if_all_some : (gs : List PlainTerm) (t : PlainTerm) → Refines (folded_if_all_some gs t) (if_all_some_of gs t)
-stands_if_all_some gs t = stands_unless (folded_any_none gs) (any_none_of gs) t (stands_any_none gs)

@@ -9,9 +9,10 @@ use Rattle.std.specs.Ordering.{match_ordering}
 use Rattle.std.specs.declared.cmp.Ordering.{Ordering}
 use Rattle.std.specs.declared.cmp.Ordering.TheVariants.{Less, Equal, Greater}
 use Rattle.std.proofs.lemmas.Bool.{or_cases}
-use Rattle.smt_folding.specs.Applications.{truth_literal, true_term, false_term, not_of, set_member_of, set_subset_of, set_inter_of, set_is_empty_of, set_intersects_of}
-use Rattle.smt_folding.specs.FoldConnectives.{folded_not}
-use Rattle.smt_folding.specs.FoldSets.{common_set, folded_set_member, folded_set_subset, folded_set_inter, folded_set_is_empty, folded_set_intersects, is_among}
+use Rattle.smt_folding.specs.Applications.{truth_literal, true_term, false_term, set_member_of, set_subset_of, set_inter_of}
+use Rattle.smt_folding.specs.Builder.{applied, folding}
+use Rattle.smt_folding.specs.Composites.{set_is_empty}
+use Rattle.smt_folding.specs.FoldSets.{common_set, folded_set_member, folded_set_subset, folded_set_inter, is_among}
 use Rattle.smt_folding.specs.Parts.{element_type, elements_in, is_empty_set, is_set_literal}
 use Rattle.smt_folding.specs.Refinement.{Refines}
 use Rattle.smt_folding.proofs.ConnectivesStand.{chosen_type, first_argument, second_argument, same_term, stands_not}
@@ -206,17 +207,10 @@ not_empty k (x ∷ xs) = by (value_cmp k x)
     by Equal = refl
     by Greater = refl
 
-pub stands_set_is_empty : (t : PlainTerm) → Refines (folded_set_is_empty t) (set_is_empty_of t)
+pub stands_set_is_empty : (t : PlainTerm) → Refines (set_is_empty folding t) (set_is_empty applied t)
 stands_set_is_empty (SetTerm ty no_terms) = equal_for_eq (SetTerm ty no_terms) (SetTerm ty no_terms) refl
 stands_set_is_empty (SetTerm ty (one_term t ts)) = literal_for_eq false (SetTerm ty (one_term t ts)) (SetTerm ty no_terms) (λ enums I p f. not_empty (meaning I t) (sorted_values (meanings I ts)))
 stands_set_is_empty t = test_folded element_type (λ ty. SetTerm ty no_terms) empty_is_made (element_type (type_of t)) t
 
-pub empty_kept : (t u : PlainTerm) → Refines t u → Refines (set_is_empty_of t) (set_is_empty_of u)
+pub empty_kept : (t u : PlainTerm) → Refines t u → Refines (set_is_empty applied t) (set_is_empty applied u)
 empty_kept = test_kept element_type (λ ty. SetTerm ty no_terms) empty_is_made
-
-pub stands_set_intersects : (t u : PlainTerm) → Refines (folded_set_intersects t u) (set_intersects_of t u)
-stands_set_intersects t u =
-    let x : PlainTerm = folded_set_is_empty (folded_set_inter t u) in
-    let y : PlainTerm = set_is_empty_of (set_inter_of t u) in
-    onward (folded_not x) (not_of x) (set_intersects_of t u) (stands_not x)
-    (application NotOp (x ∷ []) (y ∷ []) BoolType (onward x (set_is_empty_of (folded_set_inter t u)) y (stands_set_is_empty (folded_set_inter t u)) (empty_kept (folded_set_inter t u) (set_inter_of t u) (stands_set_inter t u)), tt))

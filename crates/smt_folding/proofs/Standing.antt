@@ -11,7 +11,7 @@ use Rattle.smt_meaning.specs.Formed.{IsFormedHere, IsFormedType, IsFormedNode, I
 use Rattle.smt_meaning.specs.Interpretations.{IsGiven}
 use Rattle.smt_meaning.specs.Meaning.{meaning, meanings, term_value}
 use Rattle.smt_meaning.specs.Operators.{apply}
-use Rattle.smt_meaning.specs.Reached.{subterms, subterms_of_all, subterms_of_fields, reached_terms, types_within, variable_of, function_of, opened_of, selector_of}
+use Rattle.smt_meaning.specs.Reached.{subterms, subterms_of_all, subterms_of_fields, reached_terms, types_within, variable_of, function_of, opened_of, opened_of_op, selector_of}
 use Rattle.smt_meaning.specs.Tables.{Interpretation}
 use Rattle.smt_meaning.specs.Types.{type_of, types_of, result_type, is_type}
 use Rattle.smt_meaning.specs.Typing.{typed, typed_all, Typed}
@@ -167,14 +167,14 @@ module _ {Y : Type 0} (f : PlainTerm → Option Y) (one : StandAmong f) where
   all_through Q (t ∷ ts) (u ∷ us) z h =
       all-join (λ w. IfSome (f w) Q) (subterms t) (subterms_of_all (terms ts)) (through f Q t u (one t u z.0) (all-front (λ w. IfSome (f w) Q) (subterms u) (subterms_of_all (terms us)) h)) (all_through Q ts us z.1 (all-back (λ w. IfSome (f w) Q) (subterms u) (subterms_of_all (terms us)) h))
 
-  application_among : (o : PlainOp) (ts us : List PlainTerm) (ty : PlainType) → AllZip Refines ts us → f (Application o (terms ts) ty) ≡ f (Application o (terms us) ty) → AreAmong (filter_map f (reached_terms (Application o (terms ts) ty ∷ []))) (filter_map f (reached_terms (Application o (terms us) ty ∷ [])))
-  application_among o ts us ty z e =
-      let x : PlainTerm = Application o (terms us) ty in
-      let y : PlainTerm = Application o (terms ts) ty in
+  application_among : (o : PlainOp) (ts us : List PlainTerm) (a b : PlainType) → AllZip Refines ts us → f (Application o (terms ts) a) ≡ f (Application o (terms us) b) → AreAmong (filter_map f (reached_terms (Application o (terms ts) a ∷ []))) (filter_map f (reached_terms (Application o (terms us) b ∷ [])))
+  application_among o ts us a b z e =
+      let x : PlainTerm = Application o (terms us) b in
+      let y : PlainTerm = Application o (terms ts) a in
       let h : AllByRecursion (IsBrought f x) (subterms x) = brought_itself f x in
       among_brought f y x (all-join (IsBrought f x) (subterms_of_all (terms ts)) (y ∷ [])
       (all_through (Contains (filter_map f (reached_terms (x ∷ [])))) ts us z (all-front (IsBrought f x) (subterms_of_all (terms us)) (x ∷ []) h))
-      (subst (λ b. IfSome b (Contains (filter_map f (reached_terms (x ∷ []))))) (sym e) (all-last (IsBrought f x) (subterms_of_all (terms us)) x h), tt))
+      (subst (λ o. IfSome o (Contains (filter_map f (reached_terms (x ∷ []))))) (sym e) (all-last (IsBrought f x) (subterms_of_all (terms us)) x h), tt))
 
   some_among : (t u : PlainTerm) → Refines t u → f (SomeTerm t) ≡ f (SomeTerm u) → AreAmong (filter_map f (reached_terms (SomeTerm t ∷ []))) (filter_map f (reached_terms (SomeTerm u ∷ [])))
   some_among t u s e =
@@ -192,10 +192,10 @@ application o ts us ty z = record {
       let a : typed_all (terms us) ≡ true = first_so (typed_all (terms us)) (is_type (result_type o (types_of (terms us))) ty) h.parts in
       let r = types_all ts us z a in
       record { parts = both_true r.0 (ap (λ l. is_type (result_type o l) ty) r.1 ∙ second_so (typed_all (terms us)) (is_type (result_type o (types_of (terms us))) ty) h.parts); type = h.type });
-  variables = application_among variable_of (λ t u s. s.variables) o ts us ty z refl;
-  functions = application_among function_of (λ t u s. s.functions) o ts us ty z refl;
-  options = application_among opened_of (λ t u s. s.options) o ts us ty z refl;
-  selectors = application_among selector_of (λ t u s. s.selectors) o ts us ty z refl;
+  variables = application_among variable_of (λ t u s. s.variables) o ts us ty ty z refl;
+  functions = application_among function_of (λ t u s. s.functions) o ts us ty ty z refl;
+  options = application_among opened_of (λ t u s. s.options) o ts us ty ty z refl;
+  selectors = application_among selector_of (λ t u s. s.selectors) o ts us ty ty z refl;
   value = λ y enums I f h i. (
       let a : typed_all (terms us) ≡ true = first_so (typed_all (terms us)) (is_type (result_type o (types_of (terms us))) ty) h.parts in
       let r = types_all ts us z a in
@@ -235,3 +235,30 @@ some t u s = record {
       let r = same_type t u s h.parts in
       valued I (SomeTerm t) r.0 ∙ (ap SomeValue (same_meaning t u s enums I h.parts (record { literals = all-front IsFormedNode (subterms u) (SomeTerm u ∷ []) f.literals; types = all-front (λ w. IsFormedType (type_of w)) (subterms u) (SomeTerm u ∷ []) f.types }) (all-front (IsGiven enums I) (subterms u) (SomeTerm u ∷ []) (all-front (IsGiven enums I) (subterms (SomeTerm u)) [] i))) ∙ sym (valued I (SomeTerm u) h.parts)));
 }
+
+-- ---- applications whose type goes by their arguments
+
+-- The types agree where the arguments are typed. Where they are not, the application asks for the same by either type.
+module _ (o : PlainOp) (ts us : List PlainTerm) (a b : PlainType) (z : AllZip Refines ts us) (asked : opened_of_op o a ≡ opened_of_op o b) (formed_type : AllByRecursion (λ w. IsFormedType (type_of w)) (subterms_of_all (terms ts)) → IsFormedType a) where
+  untyped_application : typed_all (terms us) ≡ false → Refines (Application o (terms ts) a) (Application o (terms us) b)
+  untyped_application e = record {
+    formed = λ f. (
+        let r = formed_all ts us z (all-front IsFormedNode (subterms_of_all (terms us)) (Application o (terms us) b ∷ []) f.literals) (all-front (λ w. IsFormedType (type_of w)) (subterms_of_all (terms us)) (Application o (terms us) b ∷ []) f.types) in
+        record { literals = all-join IsFormedNode (subterms_of_all (terms ts)) (Application o (terms ts) a ∷ []) r.0 (tt, tt); types = all-join (λ w. IsFormedType (type_of w)) (subterms_of_all (terms ts)) (Application o (terms ts) a ∷ []) r.1 (formed_type r.1, tt) });
+    type = λ y h. absurd (never h.parts);
+    variables = application_among variable_of (λ t u s. s.variables) o ts us a b z refl;
+    functions = application_among function_of (λ t u s. s.functions) o ts us a b z refl;
+    options = application_among opened_of (λ t u s. s.options) o ts us a b z asked;
+    selectors = application_among selector_of (λ t u s. s.selectors) o ts us a b z refl;
+    value = λ y enums I f h i. absurd (never h.parts);
+  }
+    where
+      never : typed (Application o (terms us) b) ≡ true → ⊥
+      never h = let k : true ≡ false = sym (first_so (typed_all (terms us)) (is_type (result_type o (types_of (terms us))) b) h) ∙ e in cc
+
+  pub application_by_arguments : (typed_all (terms us) ≡ true → a ≡ b) → Refines (Application o (terms ts) a) (Application o (terms us) b)
+  application_by_arguments same = by (typed_all (terms us)) refl
+    where
+      by : (x : Bool) → typed_all (terms us) ≡ x → Refines (Application o (terms ts) a) (Application o (terms us) b)
+      by true e = subst (λ (r : PlainType). Refines (Application o (terms ts) r) (Application o (terms us) b)) (sym (same e)) (application o ts us b z)
+      by false e = untyped_application e

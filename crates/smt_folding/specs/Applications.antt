@@ -1,8 +1,7 @@
 -- The applications that calls of the factory are asked for, before any folding.
-use Rattle.std.specs.Prelude.{ℕ, ◌+◌, Bool, true, false, List, [], ◌∷◌, map, Some, None}
-use Rattle.smt_folding.specs.Parts.{element_type}
-use Rattle.smt_meaning.specs.Types.{inner_type, type_of}
-use Rattle.smt_meaning.specs.Plain.{PlainType, OptionType, BitVecType, BoolType, PatternPart, PlainOp, AndOp, BvnegOp, BvnegoOp, EqOp, IteOp, NotOp, OptionGetOp, OrOp, SetInterOp, SetMemberOp, SetSubsetOp, StringLikeOp, ZeroExtendOp, BitVecLiteral, BoolLiteral, PlainTerm, Application, NoneTerm, LiteralTerm, SetTerm, SomeTerm, no_terms, terms}
+use Rattle.std.specs.Prelude.{ℕ, ◌+◌, Bool, true, false, List, [], ◌∷◌}
+use Rattle.smt_meaning.specs.Types.{type_of}
+use Rattle.smt_meaning.specs.Plain.{PlainType, OptionType, BitVecType, BoolType, PatternPart, PlainOp, AndOp, BvnegOp, BvnegoOp, EqOp, IteOp, NotOp, OptionGetOp, OrOp, SetInterOp, SetMemberOp, SetSubsetOp, StringLikeOp, ZeroExtendOp, BitVecLiteral, BoolLiteral, PlainTerm, Application, LiteralTerm, terms}
 
 -- literals
 abbrev pub truth_literal : Bool → PlainTerm
@@ -27,22 +26,15 @@ and_of t u = Application AndOp (terms (t ∷ u ∷ [])) BoolType
 abbrev pub or_of : PlainTerm → PlainTerm → PlainTerm
 or_of t u = Application OrOp (terms (t ∷ u ∷ [])) BoolType
 
-abbrev pub implies_of : PlainTerm → PlainTerm → PlainTerm
-implies_of t u = or_of (not_of t) u
-
 abbrev pub eq_of : PlainTerm → PlainTerm → PlainTerm
 eq_of t u = Application EqOp (terms (t ∷ u ∷ [])) BoolType
 
+-- false, said of a term: that it is not itself
+abbrev pub never_of : PlainTerm → PlainTerm
+never_of t = not_of (eq_of t t)
+
 abbrev pub ite_of : (guard : PlainTerm) → PlainTerm → PlainTerm → PlainTerm
 ite_of g t u = Application IteOp (terms (g ∷ t ∷ u ∷ [])) (type_of t)
-
--- the disjunction of terms: each before what came of those in front of it
-abbrev pub any_of_from : PlainTerm → List PlainTerm → PlainTerm
-any_of_from so_far [] = so_far
-any_of_from so_far (t ∷ ts) = any_of_from (or_of t so_far) ts
-
-abbrev pub any_of : List PlainTerm → PlainTerm
-any_of ts = any_of_from false_term ts
 
 -- operators from bits to bits of the same width, and tests of bits
 abbrev pub bvneg_of : PlainTerm → PlainTerm
@@ -79,18 +71,6 @@ set_subset_of t u = Application SetSubsetOp (terms (t ∷ u ∷ [])) BoolType
 abbrev pub set_inter_of : PlainTerm → PlainTerm → PlainTerm
 set_inter_of t u = Application SetInterOp (terms (t ∷ u ∷ [])) (type_of t)
 
--- false, said of a term: that it is not itself
-abbrev pub never_of : PlainTerm → PlainTerm
-never_of t = not_of (eq_of t t)
-
--- a set is empty where it is the empty set of its elements' type; what is no set never is
-abbrev pub set_is_empty_of : PlainTerm → PlainTerm
-set_is_empty_of t = elim (element_type (type_of t)) [ Some ty ↦ eq_of t (SetTerm ty no_terms) | None ↦ never_of t ]
-
--- two sets intersect where their intersection is not empty
-abbrev pub set_intersects_of : PlainTerm → PlainTerm → PlainTerm
-set_intersects_of t u = not_of (set_is_empty_of (set_inter_of t u))
-
 -- the type inside an option type; another type stays
 abbrev pub type_inside : PlainType → PlainType
 type_inside (OptionType t) = t
@@ -99,31 +79,3 @@ type_inside t = t
 -- options
 abbrev pub option_get_of : PlainTerm → PlainTerm
 option_get_of t = Application OptionGetOp (terms (t ∷ [])) (type_inside (type_of t))
-
--- an option is none where it is the none of its type; what is no option never is
-abbrev pub is_none_of : PlainTerm → PlainTerm
-is_none_of t = elim (inner_type (type_of t)) [ Some ty ↦ eq_of t (NoneTerm ty) | None ↦ never_of t ]
-
-abbrev pub is_some_of : PlainTerm → PlainTerm
-is_some_of t = not_of (is_none_of t)
-
--- some of the term where the guard is false, or where it is true, and else none
-abbrev pub if_false_of : (guard : PlainTerm) → PlainTerm → PlainTerm
-if_false_of g t = ite_of g (NoneTerm (type_of t)) (SomeTerm t)
-
-abbrev pub if_true_of : (guard : PlainTerm) → PlainTerm → PlainTerm
-if_true_of g t = ite_of g (SomeTerm t) (NoneTerm (type_of t))
-
--- where the guard is false an option itself, and some of another term; else none
-abbrev pub unless_of : (guard : PlainTerm) → PlainTerm → PlainTerm
-unless_of g t = elim (inner_type (type_of t)) [ Some ty ↦ ite_of g (NoneTerm ty) t | None ↦ if_false_of g t ]
-
-abbrev pub if_some_of : PlainTerm → PlainTerm → PlainTerm
-if_some_of g t = unless_of (is_none_of g) t
-
--- one of the terms is none
-abbrev pub any_none_of : List PlainTerm → PlainTerm
-any_none_of gs = any_of (map is_none_of gs)
-
-abbrev pub if_all_some_of : List PlainTerm → PlainTerm → PlainTerm
-if_all_some_of gs t = unless_of (any_none_of gs) t

@@ -1,5 +1,5 @@
 -- The folding of the connectives: the cases of each in the order in which they are tried.
-use Rattle.std.specs.Prelude.{Bool, false, cond, not, ◌||◌, List, [], ◌∷◌}
+use Rattle.std.specs.Prelude.{Bool, false, cond, not, ◌||◌}
 use Rattle.std.specs.Option.{option_map_or, unwrap_or}
 use Rattle.smt_folding.specs.Applications.{true_term, false_term, truth_literal, not_of, and_of, or_of}
 use Rattle.smt_folding.specs.Parts.{negated}
@@ -32,14 +32,3 @@ folded_or t u =
     cond (term_eq t u || term_eq u false_term) t
     (cond (term_eq t false_term) u
     (cond (term_eq t true_term || (term_eq u true_term || are_opposites t u)) true_term (or_of t u)))
-
-abbrev pub folded_implies : PlainTerm → PlainTerm → PlainTerm
-folded_implies t u = folded_or (folded_not t) u
-
--- the disjunction of terms, from false on: each is put before what came of those in front of it
-abbrev pub folded_any_from : PlainTerm → List PlainTerm → PlainTerm
-folded_any_from so_far [] = so_far
-folded_any_from so_far (t ∷ ts) = folded_any_from (folded_or t so_far) ts
-
-abbrev pub folded_any : List PlainTerm → PlainTerm
-folded_any ts = folded_any_from false_term ts

@@ -1,12 +1,14 @@
 -- Worked examples of folding.
 use Rattle.std.specs.Prelude.{◌≡◌, ℕ, Bool, true, false, List, [], ◌∷◌, ◌++◌, map, codes}
-use Rattle.smt_folding.specs.Applications.{truth_literal, true_term, false_term, bits_literal, not_of, implies_of, and_of, or_of, eq_of, ite_of, any_of, bvneg_of, bits_of_two, test_of_two, bvnego_of, zero_extend_of, string_like_of, set_member_of, set_subset_of, set_inter_of, set_is_empty_of, set_intersects_of, option_get_of, is_none_of, is_some_of, if_false_of, if_true_of, if_some_of, any_none_of, if_all_some_of}
 use Rattle.smt_arithmetic.specs.BitOperators.{BvaddOp, BvlshrOp, BvshlOp, BvsubOp, BvsltOp, BvultOp, BvsaddoOp, BvsmuloOp, BvssuboOp, bits_operators, test_operators, overflow_operators}
+use Rattle.smt_folding.specs.Applications.{truth_literal, true_term, false_term, bits_literal, not_of, and_of, or_of, eq_of, ite_of, bvneg_of, bits_of_two, test_of_two, bvnego_of, zero_extend_of, string_like_of, set_member_of, set_subset_of, set_inter_of, option_get_of}
+use Rattle.smt_folding.specs.Builder.{applied, folding}
+use Rattle.smt_folding.specs.Composites.{any_none, any_of, if_all_some, if_false, if_some, if_true, implies, is_none, is_some, set_intersects, set_is_empty}
 use Rattle.smt_folding.specs.FoldBits.{folded_bits, folded_bvneg, folded_bvnego, folded_overflow, folded_test, folded_zero_extend}
-use Rattle.smt_folding.specs.FoldConnectives.{folded_not, are_opposites, folded_and, folded_or, folded_implies, folded_any}
+use Rattle.smt_folding.specs.FoldConnectives.{folded_not, are_opposites, folded_and, folded_or}
 use Rattle.smt_folding.specs.FoldEquality.{folded_eq, folded_ite}
-use Rattle.smt_folding.specs.FoldOptions.{folded_option_get, folded_is_none, folded_is_some, folded_if_false, folded_if_true, folded_if_some, folded_any_none, folded_if_all_some}
-use Rattle.smt_folding.specs.FoldSets.{folded_set_member, folded_set_subset, folded_set_inter, folded_set_is_empty, folded_set_intersects}
+use Rattle.smt_folding.specs.FoldOptions.{folded_option_get}
+use Rattle.smt_folding.specs.FoldSets.{folded_set_member, folded_set_subset, folded_set_inter}
 use Rattle.smt_folding.specs.FoldStrings.{folded_string_like}
 use Rattle.smt_folding.specs.SetOf.{IsSetOf}
 use Rattle.smt_folding.specs.Refinement.{Refines}
@@ -45,7 +47,7 @@ truths bs = map truth_literal bs
 
 pub record ConnectiveRows : Type 0 where
   -- the applications themselves, by their values, which are false where a term is not typed
-  pub applied : (I : Interpretation) → map (term_value I) (not_of false_term ∷ and_of true_term false_term ∷ or_of true_term false_term ∷ implies_of true_term false_term ∷ implies_of false_term true_term ∷ eq_of (byte 1) (byte 1) ∷ any_of (false_term ∷ true_term ∷ []) ∷ [])
+  pub applied_values : (I : Interpretation) → map (term_value I) (not_of false_term ∷ and_of true_term false_term ∷ or_of true_term false_term ∷ implies applied true_term false_term ∷ implies applied false_term true_term ∷ eq_of (byte 1) (byte 1) ∷ any_of applied (false_term ∷ true_term ∷ []) ∷ [])
       ≡ BoolValue true ∷ BoolValue false ∷ BoolValue true ∷ BoolValue false ∷ BoolValue true ∷ BoolValue true ∷ BoolValue true ∷ []
   pub applied_bits : (I : Interpretation) → map (term_value I) (ite_of true_term (byte 1) (byte 2) ∷ ite_of false_term (byte 1) (byte 2) ∷ bvneg_of (byte 1) ∷ bits_of_two (BitsOp BvsubOp) (byte 0) (byte 2) ∷ test_of_two (TestOp BvultOp) (byte 1) (byte 2) ∷ test_of_two (TestOp BvultOp) (byte 2) (byte 1) ∷ bvnego_of (byte 128) ∷ zero_extend_of 8 (byte 5) ∷ [])
       ≡ BitVecValue 8 1 ∷ BitVecValue 8 2 ∷ BitVecValue 8 255 ∷ BitVecValue 8 254 ∷ BoolValue true ∷ BoolValue false ∷ BoolValue true ∷ BitVecValue 16 5 ∷ []
@@ -57,15 +59,15 @@ pub record ConnectiveRows : Type 0 where
   pub no_contradiction : folded_and b (folded_not b) ≡ false_term
   pub and_stays : folded_and b c ≡ and_of b c
   pub excluded_middle : folded_or b (folded_not b) ≡ true_term
-  pub from_false : folded_implies false_term b ≡ true_term
+  pub from_false : implies folding false_term b ≡ true_term
   -- equal terms, `true` on either side, `false` on either side
   pub and_of_known : folded_and b b ∷ folded_and b true_term ∷ folded_and true_term b ∷ folded_and b false_term ∷ folded_and false_term b ∷ [] ≡ b ∷ b ∷ b ∷ false_term ∷ false_term ∷ []
   pub or_of_known : folded_or b b ∷ folded_or b false_term ∷ folded_or false_term b ∷ folded_or b true_term ∷ folded_or true_term b ∷ [] ≡ b ∷ b ∷ b ∷ true_term ∷ true_term ∷ []
   pub not_of_known : folded_not true_term ∷ folded_not false_term ∷ folded_not b ∷ [] ≡ false_term ∷ true_term ∷ not_of b ∷ []
-  pub stays : folded_or b c ∷ folded_implies b c ∷ [] ≡ or_of b c ∷ implies_of b c ∷ []
-  pub any_of_none : folded_any [] ≡ false_term
-  pub any_in_turn : folded_any (b ∷ c ∷ []) ≡ or_of c b
-  pub any_true : folded_any (b ∷ true_term ∷ c ∷ []) ≡ true_term
+  pub stays : folded_or b c ∷ implies folding b c ∷ [] ≡ or_of b c ∷ implies applied b c ∷ []
+  pub any_of_none : any_of folding [] ≡ false_term
+  pub any_in_turn : any_of folding (b ∷ c ∷ []) ≡ or_of c b
+  pub any_true : any_of folding (b ∷ true_term ∷ c ∷ []) ≡ true_term
 
 pub record EqualityRows : Type 0 where
   pub eq_true : folded_eq true_term b ≡ b
@@ -122,7 +124,7 @@ abbrev pub y : PlainTerm
 y = VariableTerm (codes "y") StringType
 
 pub record StringRows : Type 0 where
-  pub applied : (I : Interpretation) → map (term_value I) (string_like_of (text (codes "abz")) a_star_z ∷ string_like_of (text (codes "az!")) a_star_z ∷ []) ≡ BoolValue true ∷ BoolValue false ∷ []
+  pub applied_values : (I : Interpretation) → map (term_value I) (string_like_of (text (codes "abz")) a_star_z ∷ string_like_of (text (codes "az!")) a_star_z ∷ []) ≡ BoolValue true ∷ BoolValue false ∷ []
   pub matched : map (λ s. folded_string_like (text s) a_star_z) (codes "abz" ∷ codes "az" ∷ codes "ab" ∷ codes "abzy" ∷ []) ≡ truths (true ∷ true ∷ false ∷ false ∷ [])
   pub empty : folded_string_like (text []) [] ∷ folded_string_like (text (codes "a")) [] ∷ [] ≡ truths (true ∷ false ∷ [])
   pub stays : folded_string_like y a_star_z ≡ string_like_of y a_star_z
@@ -138,10 +140,10 @@ abbrev pub s : PlainTerm
 s = VariableTerm (codes "s") (SetType (BitVecType 8))
 
 pub record SetRows : Type 0 where
-  pub applied : (I : Interpretation) → map (term_value I) (set_member_of (byte 1) (bytes (1 ∷ 2 ∷ [])) ∷ set_member_of (byte 3) (bytes (1 ∷ 2 ∷ [])) ∷ set_subset_of (bytes (1 ∷ [])) (bytes (1 ∷ 2 ∷ [])) ∷ set_subset_of (bytes (1 ∷ 2 ∷ [])) (bytes (1 ∷ [])) ∷ [])
+  pub applied_values : (I : Interpretation) → map (term_value I) (set_member_of (byte 1) (bytes (1 ∷ 2 ∷ [])) ∷ set_member_of (byte 3) (bytes (1 ∷ 2 ∷ [])) ∷ set_subset_of (bytes (1 ∷ [])) (bytes (1 ∷ 2 ∷ [])) ∷ set_subset_of (bytes (1 ∷ 2 ∷ [])) (bytes (1 ∷ [])) ∷ [])
       ≡ BoolValue true ∷ BoolValue false ∷ BoolValue true ∷ BoolValue false ∷ []
   -- what is no set is not empty
-  pub applied_empty : (I : Interpretation) → map (term_value I) (set_is_empty_of (bytes []) ∷ set_is_empty_of (bytes (1 ∷ [])) ∷ set_is_empty_of true_term ∷ set_intersects_of (bytes (1 ∷ 2 ∷ [])) (bytes (2 ∷ 3 ∷ [])) ∷ set_intersects_of (bytes (1 ∷ [])) (bytes (2 ∷ [])) ∷ [])
+  pub applied_empty : (I : Interpretation) → map (term_value I) (set_is_empty applied (bytes []) ∷ set_is_empty applied (bytes (1 ∷ [])) ∷ set_is_empty applied true_term ∷ set_intersects applied (bytes (1 ∷ 2 ∷ [])) (bytes (2 ∷ 3 ∷ [])) ∷ set_intersects applied (bytes (1 ∷ [])) (bytes (2 ∷ [])) ∷ [])
       ≡ BoolValue true ∷ BoolValue false ∷ BoolValue false ∷ BoolValue true ∷ BoolValue false ∷ []
   pub applied_inter : (I : Interpretation) → term_value I (set_inter_of (bytes (1 ∷ 2 ∷ [])) (bytes (2 ∷ 3 ∷ []))) ≡ term_value I (bytes (2 ∷ []))
   pub each_once : bytes (2 ∷ 1 ∷ 2 ∷ []) ≡ SetTerm (BitVecType 8) (terms (byte 1 ∷ byte 2 ∷ []))
@@ -161,10 +163,10 @@ pub record SetRows : Type 0 where
   -- two empty sets: the first; literals of two types: with the first's
   pub inter_first : folded_set_inter (bytes []) (set_term BoolType []) ∷ folded_set_inter (bytes (1 ∷ [])) (set_term BoolType (byte 1 ∷ [])) ∷ [] ≡ bytes [] ∷ bytes (1 ∷ []) ∷ []
   pub inter_stays : folded_set_inter s (bytes (1 ∷ [])) ∷ folded_set_inter of_x (bytes (1 ∷ [])) ∷ [] ≡ set_inter_of s (bytes (1 ∷ [])) ∷ set_inter_of of_x (bytes (1 ∷ [])) ∷ []
-  pub is_empty : map folded_set_is_empty (bytes [] ∷ bytes (1 ∷ []) ∷ of_x ∷ b ∷ []) ≡ truths (true ∷ false ∷ false ∷ false ∷ [])
-  pub is_empty_stays : folded_set_is_empty s ≡ eq_of s (bytes [])
-  pub intersect : folded_set_intersects (bytes (1 ∷ [])) (bytes (1 ∷ [])) ∷ folded_set_intersects (bytes (1 ∷ [])) (bytes (2 ∷ [])) ∷ folded_set_intersects s (bytes []) ∷ [] ≡ truths (true ∷ false ∷ false ∷ [])
-  pub intersect_stays : folded_set_intersects s s ≡ not_of (eq_of s (bytes []))
+  pub is_empty : map (set_is_empty folding) (bytes [] ∷ bytes (1 ∷ []) ∷ of_x ∷ b ∷ []) ≡ truths (true ∷ false ∷ false ∷ false ∷ [])
+  pub is_empty_stays : set_is_empty folding s ≡ eq_of s (bytes [])
+  pub intersect : set_intersects folding (bytes (1 ∷ [])) (bytes (1 ∷ [])) ∷ set_intersects folding (bytes (1 ∷ [])) (bytes (2 ∷ [])) ∷ set_intersects folding s (bytes []) ∷ [] ≡ truths (true ∷ false ∷ false ∷ [])
+  pub intersect_stays : set_intersects folding s s ≡ not_of (eq_of s (bytes []))
 
 -- options of truth values
 abbrev pub no_truth : PlainTerm
@@ -182,27 +184,27 @@ choice ts = Application IteOp (terms ts) (OptionType BoolType)
 
 pub record OptionRows : Type 0 where
   -- what is no option is not none
-  pub applied : (I : Interpretation) → map (term_value I) (is_none_of no_truth ∷ is_none_of (SomeTerm true_term) ∷ is_none_of true_term ∷ is_some_of no_truth ∷ is_some_of (SomeTerm true_term) ∷ any_none_of [] ∷ any_none_of (SomeTerm true_term ∷ no_truth ∷ []) ∷ option_get_of (SomeTerm true_term) ∷ [])
+  pub applied_values : (I : Interpretation) → map (term_value I) (is_none applied no_truth ∷ is_none applied (SomeTerm true_term) ∷ is_none applied true_term ∷ is_some applied no_truth ∷ is_some applied (SomeTerm true_term) ∷ any_none applied [] ∷ any_none applied (SomeTerm true_term ∷ no_truth ∷ []) ∷ option_get_of (SomeTerm true_term) ∷ [])
       ≡ BoolValue true ∷ BoolValue false ∷ BoolValue false ∷ BoolValue false ∷ BoolValue true ∷ BoolValue false ∷ BoolValue true ∷ BoolValue true ∷ []
-  pub applied_guards : (I : Interpretation) → map (term_value I) (if_false_of true_term true_term ∷ if_false_of false_term true_term ∷ if_true_of true_term true_term ∷ if_true_of false_term true_term ∷ if_some_of no_truth true_term ∷ if_some_of (SomeTerm false_term) true_term ∷ if_some_of true_term (SomeTerm true_term) ∷ if_all_some_of (no_truth ∷ []) true_term ∷ if_all_some_of [] true_term ∷ [])
+  pub applied_guards : (I : Interpretation) → map (term_value I) (if_false applied true_term true_term ∷ if_false applied false_term true_term ∷ if_true applied true_term true_term ∷ if_true applied false_term true_term ∷ if_some applied no_truth true_term ∷ if_some applied (SomeTerm false_term) true_term ∷ if_some applied true_term (SomeTerm true_term) ∷ if_all_some applied (no_truth ∷ []) true_term ∷ if_all_some applied [] true_term ∷ [])
       ≡ NoneValue ∷ SomeValue (BoolValue true) ∷ SomeValue (BoolValue true) ∷ NoneValue ∷ NoneValue ∷ SomeValue (BoolValue true) ∷ SomeValue (BoolValue true) ∷ NoneValue ∷ SomeValue (BoolValue true) ∷ []
   pub held : folded_option_get (SomeTerm (byte 1)) ∷ folded_option_get b ∷ folded_option_get o ∷ folded_option_get no_truth ∷ [] ≡ byte 1 ∷ b ∷ option_get_of o ∷ option_get_of no_truth ∷ []
-  pub is_none : map folded_is_none (no_truth ∷ SomeTerm b ∷ b ∷ []) ≡ truths (true ∷ false ∷ false ∷ [])
-  pub is_none_stays : folded_is_none o ≡ eq_of o no_truth
+  pub is_none_known : map (is_none folding) (no_truth ∷ SomeTerm b ∷ b ∷ []) ≡ truths (true ∷ false ∷ false ∷ [])
+  pub is_none_stays : is_none folding o ≡ eq_of o no_truth
   -- a choice of some and some, some and none, none and some, and none and none
-  pub is_none_of_choices : map (λ ts. folded_is_none (choice (c ∷ ts))) ((SomeTerm b ∷ SomeTerm b ∷ []) ∷ (SomeTerm b ∷ no_truth ∷ []) ∷ (no_truth ∷ SomeTerm b ∷ []) ∷ (no_truth ∷ no_truth ∷ []) ∷ [])
+  pub is_none_of_choices : map (λ ts. is_none folding (choice (c ∷ ts))) ((SomeTerm b ∷ SomeTerm b ∷ []) ∷ (SomeTerm b ∷ no_truth ∷ []) ∷ (no_truth ∷ SomeTerm b ∷ []) ∷ (no_truth ∷ no_truth ∷ []) ∷ [])
       ≡ false_term ∷ not_of c ∷ c ∷ eq_of (choice (c ∷ no_truth ∷ no_truth ∷ [])) no_truth ∷ []
   -- one branch of which nothing is known, other counts of arguments, and a choice of no option type
-  pub other_choices : map (λ ts. folded_is_none (choice ts)) ((c ∷ SomeTerm b ∷ o ∷ []) ∷ (SomeTerm b ∷ SomeTerm b ∷ []) ∷ (c ∷ SomeTerm b ∷ SomeTerm b ∷ b ∷ []) ∷ [])
+  pub other_choices : map (λ ts. is_none folding (choice ts)) ((c ∷ SomeTerm b ∷ o ∷ []) ∷ (SomeTerm b ∷ SomeTerm b ∷ []) ∷ (c ∷ SomeTerm b ∷ SomeTerm b ∷ b ∷ []) ∷ [])
       ≡ eq_of (choice (c ∷ SomeTerm b ∷ o ∷ [])) no_truth ∷ eq_of (choice (SomeTerm b ∷ SomeTerm b ∷ [])) no_truth ∷ eq_of (choice (c ∷ SomeTerm b ∷ SomeTerm b ∷ b ∷ [])) no_truth ∷ []
-  pub choice_of_no_option : folded_is_none (ite_of c x (byte 1)) ≡ false_term
-  pub is_some : map folded_is_some (no_truth ∷ SomeTerm b ∷ o ∷ []) ≡ false_term ∷ true_term ∷ not_of (eq_of o no_truth) ∷ []
-  pub guarded : folded_if_true true_term b ∷ folded_if_true false_term b ∷ folded_if_false true_term b ∷ folded_if_false false_term b ∷ [] ≡ SomeTerm b ∷ no_truth ∷ no_truth ∷ SomeTerm b ∷ []
-  pub guarded_stays : folded_if_true c b ∷ folded_if_false c b ∷ [] ≡ ite_of c (SomeTerm b) no_truth ∷ ite_of c no_truth (SomeTerm b) ∷ []
-  pub if_some : folded_if_some (SomeTerm b) c ∷ folded_if_some no_truth c ∷ folded_if_some (SomeTerm b) p ∷ folded_if_some no_truth p ∷ [] ≡ SomeTerm c ∷ no_truth ∷ p ∷ no_truth ∷ []
-  pub if_some_stays : folded_if_some o c ∷ folded_if_some o p ∷ [] ≡ ite_of (eq_of o no_truth) no_truth (SomeTerm c) ∷ ite_of (eq_of o no_truth) no_truth p ∷ []
-  pub any_none : map folded_any_none ([] ∷ (SomeTerm b ∷ []) ∷ (SomeTerm b ∷ no_truth ∷ []) ∷ (o ∷ []) ∷ (o ∷ p ∷ []) ∷ []) ≡ false_term ∷ false_term ∷ true_term ∷ eq_of o no_truth ∷ or_of (eq_of p no_truth) (eq_of o no_truth) ∷ []
-  pub if_all_some : folded_if_all_some [] b ∷ folded_if_all_some (no_truth ∷ []) b ∷ folded_if_all_some (o ∷ []) p ∷ [] ≡ SomeTerm b ∷ no_truth ∷ ite_of (eq_of o no_truth) no_truth p ∷ []
+  pub choice_of_no_option : is_none folding (ite_of c x (byte 1)) ≡ false_term
+  pub is_some_known : map (is_some folding) (no_truth ∷ SomeTerm b ∷ o ∷ []) ≡ false_term ∷ true_term ∷ not_of (eq_of o no_truth) ∷ []
+  pub guarded : if_true folding true_term b ∷ if_true folding false_term b ∷ if_false folding true_term b ∷ if_false folding false_term b ∷ [] ≡ SomeTerm b ∷ no_truth ∷ no_truth ∷ SomeTerm b ∷ []
+  pub guarded_stays : if_true folding c b ∷ if_false folding c b ∷ [] ≡ ite_of c (SomeTerm b) no_truth ∷ ite_of c no_truth (SomeTerm b) ∷ []
+  pub if_some_known : if_some folding (SomeTerm b) c ∷ if_some folding no_truth c ∷ if_some folding (SomeTerm b) p ∷ if_some folding no_truth p ∷ [] ≡ SomeTerm c ∷ no_truth ∷ p ∷ no_truth ∷ []
+  pub if_some_stays : if_some folding o c ∷ if_some folding o p ∷ [] ≡ ite_of (eq_of o no_truth) no_truth (SomeTerm c) ∷ ite_of (eq_of o no_truth) no_truth p ∷ []
+  pub any_none_known : map (any_none folding) ([] ∷ (SomeTerm b ∷ []) ∷ (SomeTerm b ∷ no_truth ∷ []) ∷ (o ∷ []) ∷ (o ∷ p ∷ []) ∷ []) ≡ false_term ∷ false_term ∷ true_term ∷ eq_of o no_truth ∷ or_of (eq_of p no_truth) (eq_of o no_truth) ∷ []
+  pub if_all_some_known : if_all_some folding [] b ∷ if_all_some folding (no_truth ∷ []) b ∷ if_all_some folding (o ∷ []) p ∷ [] ≡ SomeTerm b ∷ no_truth ∷ ite_of (eq_of o no_truth) no_truth p ∷ []
 
 pub record ApartRows : Type 0 where
   pub values : Refines true_term b → ⊥

@@ -1,15 +1,12 @@
 -- The folding of the calls on sets: the cases of each in the order in which they are tried.
-use Rattle.std.specs.Prelude.{Bool, cond, ◌&&◌, ◌||◌, List, filter, Some, None}
+use Rattle.std.specs.Prelude.{Bool, cond, ◌&&◌, ◌||◌, List, filter, Option, Some, None}
 use Rattle.std.specs.List.{list_all, list_any}
 use Rattle.smt_folding.specs.Applications.{truth_literal, true_term, false_term, set_member_of, set_subset_of, set_inter_of}
-use Rattle.smt_folding.specs.FoldConnectives.{folded_not}
-use Rattle.smt_folding.specs.FoldEquality.{folded_eq}
-use Rattle.smt_folding.specs.Parts.{element_type, elements_in, is_empty_set, is_set_literal}
+use Rattle.smt_folding.specs.Parts.{elements_in, is_empty_set, is_set_literal}
 use Rattle.smt_meaning.specs.Literals.{is_literal}
 use Rattle.smt_meaning.specs.TermOrder.{term_eq}
 use Rattle.smt_meaning.specs.TermSets.{set_term}
-use Rattle.smt_meaning.specs.Types.{type_of}
-use Rattle.smt_meaning.specs.Plain.{PlainTerm, SetTerm, no_terms, list_of_terms}
+use Rattle.smt_meaning.specs.Plain.{PlainTerm, SetTerm, list_of_terms}
 
 -- the term is one of a list
 abbrev pub is_among : List PlainTerm → PlainTerm → Bool
@@ -39,10 +36,7 @@ folded_set_inter t u =
     (cond (is_empty_set u) u
     (cond (is_set_literal t && is_set_literal u) (common_set t u) (set_inter_of t u)))
 
--- a set given by its elements: whether it has none; another set: whether it is the empty one; no set: false
-abbrev pub folded_set_is_empty : PlainTerm → PlainTerm
-folded_set_is_empty (SetTerm ty ts) = truth_literal (is_empty_set (SetTerm ty ts))
-folded_set_is_empty t = elim (element_type (type_of t)) [ Some ty ↦ folded_eq t (SetTerm ty no_terms) | None ↦ false_term ]
-
-abbrev pub folded_set_intersects : PlainTerm → PlainTerm → PlainTerm
-folded_set_intersects t u = folded_not (folded_set_is_empty (folded_set_inter t u))
+-- whether a set is empty, where its form tells: a set given by its elements
+abbrev pub empty_by_form : PlainTerm → Option PlainTerm
+empty_by_form (SetTerm ty ts) = Some (truth_literal (is_empty_set (SetTerm ty ts)))
+empty_by_form t = None

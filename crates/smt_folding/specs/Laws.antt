@@ -1,13 +1,15 @@
 -- Laws of standing for an application, and that each folding stands for the application that it was asked for.
 use Rattle.std.specs.Prelude.{◌≡◌, ◌↔◌, ℕ, ◌^◌, ◌<◌, Bool, List, [], ◌∷◌, map, IsTrue}
 use Rattle.std.specs.List.{AllByRecursion, AllZip, list_any}
-use Rattle.smt_folding.specs.Applications.{truth_literal, bits_literal, not_of, and_of, or_of, implies_of, eq_of, ite_of, any_of, bvneg_of, bits_of_two, test_of_two, bvnego_of, zero_extend_of, string_like_of, set_member_of, set_subset_of, set_inter_of, set_is_empty_of, set_intersects_of, option_get_of, is_none_of, is_some_of, if_false_of, if_true_of, if_some_of, any_none_of, if_all_some_of}
 use Rattle.smt_arithmetic.specs.BitOperators.{BitsOperator, TestOperator, OverflowOperator}
+use Rattle.smt_folding.specs.Applications.{truth_literal, bits_literal, not_of, and_of, or_of, eq_of, ite_of, bvneg_of, bits_of_two, test_of_two, bvnego_of, zero_extend_of, string_like_of, set_member_of, set_subset_of, set_inter_of, option_get_of}
+use Rattle.smt_folding.specs.Builder.{applied, folding}
+use Rattle.smt_folding.specs.Composites.{any_none, any_of, if_all_some, if_false, if_some, if_true, implies, is_none, is_some, set_intersects, set_is_empty}
 use Rattle.smt_folding.specs.FoldBits.{folded_bits, folded_bvneg, folded_bvnego, folded_overflow, folded_test, folded_zero_extend}
-use Rattle.smt_folding.specs.FoldConnectives.{folded_not, folded_and, folded_or, folded_implies, folded_any}
+use Rattle.smt_folding.specs.FoldConnectives.{folded_not, folded_and, folded_or}
 use Rattle.smt_folding.specs.FoldEquality.{folded_eq, folded_ite}
-use Rattle.smt_folding.specs.FoldOptions.{folded_option_get, folded_is_none, folded_is_some, folded_if_false, folded_if_true, folded_if_some, folded_any_none, folded_if_all_some}
-use Rattle.smt_folding.specs.FoldSets.{folded_set_member, folded_set_subset, folded_set_inter, folded_set_is_empty, folded_set_intersects}
+use Rattle.smt_folding.specs.FoldOptions.{folded_option_get}
+use Rattle.smt_folding.specs.FoldSets.{folded_set_member, folded_set_subset, folded_set_inter}
 use Rattle.smt_folding.specs.FoldStrings.{folded_string_like}
 use Rattle.smt_folding.specs.Refinement.{Refines, FieldsRefine}
 use Rattle.smt_meaning.specs.Formed.{IsFormed}
@@ -30,8 +32,8 @@ pub record RefinementIsKept : Type 0 where
   pub some : (t u : PlainTerm) → Refines t u → Refines (SomeTerm t) (SomeTerm u)
   pub fields : (fs gs : PlainFields) → FieldsRefine fs gs → Refines (RecordTerm fs) (RecordTerm gs)
   pub set : (ty : PlainType) (ts us : List PlainTerm) → AllZip Refines ts us → Refines (set_term ty ts) (set_term ty us)
-  pub is_none : (t u : PlainTerm) → Refines t u → Refines (is_none_of t) (is_none_of u)
-  pub is_empty : (t u : PlainTerm) → Refines t u → Refines (set_is_empty_of t) (set_is_empty_of u)
+  pub is_none : (t u : PlainTerm) → Refines t u → Refines (is_none applied t) (is_none applied u)
+  pub is_empty : (t u : PlainTerm) → Refines t u → Refines (set_is_empty applied t) (set_is_empty applied u)
 
 -- an interpretation of terms is one of the terms that stand for them
 abbrev pub InterpretationsPass : Type 0
@@ -50,12 +52,12 @@ pub record ConnectivesAreFolded : Type 0 where
   pub not : (t : PlainTerm) → Refines (folded_not t) (not_of t)
   pub and : (t u : PlainTerm) → Refines (folded_and t u) (and_of t u)
   pub or : (t u : PlainTerm) → Refines (folded_or t u) (or_of t u)
-  pub implies : (t u : PlainTerm) → Refines (folded_implies t u) (implies_of t u)
-  pub any : (ts us : List PlainTerm) → AllZip Refines ts us → Refines (folded_any ts) (any_of us)
+  pub implies : (t u : PlainTerm) → Refines (implies folding t u) (implies applied t u)
+  pub any : (ts us : List PlainTerm) → AllZip Refines ts us → Refines (any_of folding ts) (any_of applied us)
 
 -- the disjunction of many is true where one of them is
 abbrev pub AnyIsTrue : Type 0
-AnyIsTrue = (I : Interpretation) (ts : List PlainTerm) → AreBoolean ts → term_value I (any_of ts) ≡ BoolValue (list_any (λ t. truth (term_value I t)) ts)
+AnyIsTrue = (I : Interpretation) (ts : List PlainTerm) → AreBoolean ts → term_value I (any_of applied ts) ≡ BoolValue (list_any (λ t. truth (term_value I t)) ts)
 
 -- equality and choice
 pub record EqualityAndChoiceAreFolded : Type 0 where
@@ -83,19 +85,19 @@ pub record SetsAreFolded : Type 0 where
   pub set_member : (t u : PlainTerm) → Refines (folded_set_member t u) (set_member_of t u)
   pub set_subset : (t u : PlainTerm) → Refines (folded_set_subset t u) (set_subset_of t u)
   pub set_inter : (t u : PlainTerm) → Refines (folded_set_inter t u) (set_inter_of t u)
-  pub set_is_empty : (t : PlainTerm) → Refines (folded_set_is_empty t) (set_is_empty_of t)
-  pub set_intersects : (t u : PlainTerm) → Refines (folded_set_intersects t u) (set_intersects_of t u)
+  pub set_is_empty : (t : PlainTerm) → Refines (set_is_empty folding t) (set_is_empty applied t)
+  pub set_intersects : (t u : PlainTerm) → Refines (set_intersects folding t u) (set_intersects applied t u)
 
 -- the calls on options
 pub record OptionsAreFolded : Type 0 where
   pub option_get : (t : PlainTerm) → Refines (folded_option_get t) (option_get_of t)
-  pub is_none : (t : PlainTerm) → Refines (folded_is_none t) (is_none_of t)
-  pub is_some : (t : PlainTerm) → Refines (folded_is_some t) (is_some_of t)
-  pub if_false : (g t : PlainTerm) → Refines (folded_if_false g t) (if_false_of g t)
-  pub if_true : (g t : PlainTerm) → Refines (folded_if_true g t) (if_true_of g t)
-  pub if_some : (g t : PlainTerm) → Refines (folded_if_some g t) (if_some_of g t)
-  pub any_none : (gs : List PlainTerm) → Refines (folded_any_none gs) (any_none_of gs)
-  pub if_all_some : (gs : List PlainTerm) (t : PlainTerm) → Refines (folded_if_all_some gs t) (if_all_some_of gs t)
+  pub is_none : (t : PlainTerm) → Refines (is_none folding t) (is_none applied t)
+  pub is_some : (t : PlainTerm) → Refines (is_some folding t) (is_some applied t)
+  pub if_false : (g t : PlainTerm) → Refines (if_false folding g t) (if_false applied g t)
+  pub if_true : (g t : PlainTerm) → Refines (if_true folding g t) (if_true applied g t)
+  pub if_some : (g t : PlainTerm) → Refines (if_some folding g t) (if_some applied g t)
+  pub any_none : (gs : List PlainTerm) → Refines (any_none folding gs) (any_none applied gs)
+  pub if_all_some : (gs : List PlainTerm) (t : PlainTerm) → Refines (if_all_some folding gs t) (if_all_some applied gs t)
 
 -- what has the operator's value at two literals stands for the application, whoever computed it
 pub record AnswersRefine : Type 0 where

@@ -1,5 +1,8 @@
 pub mod Applications
+pub mod Builder
 pub mod Built
+pub mod Composites
+pub mod Congruence
 pub mod FoldBits
 pub mod FoldConnectives
 pub mod FoldEquality

@@ -1,5 +1,6 @@
 //! Laws of foldings and of what stands for what, proved with no code.
 ghost use Rattle.smt_folding.specs.Built.{BuiltTermsRefine, FoldingAddsNoFault};
+ghost use Rattle.smt_folding.specs.Congruence.{Congruence};
 ghost use Rattle.smt_folding.specs.FoldRows.{ApartRows, BitsRows, ConnectiveRows, EqualityRows, OptionRows, SetRows, StringRows};
 ghost use Rattle.smt_folding.specs.Laws.{AnswersRefine, AnyIsTrue, BitsAreFolded, ConnectivesAreFolded, EqualityAndChoiceAreFolded, InterpretationsPass, LiteralsAreEqualByValue, OptionsAreFolded, SetsAreFolded, RefinementIsKept, StringLikeIsFolded, TestsAreFolded, ValuesPass};
 
@@ -56,6 +57,12 @@ pub fn sets_are_folded()
 /// The calls on options: what they are folded to stands for them.
 pub fn options_are_folded()
     ensures { OptionsAreFolded }
+{}
+
+/// Each construction of the foldings, at terms that stand for others, stands for the application to those. So does what is
+/// made of them.
+pub fn foldings_are_congruent()
+    ensures { Congruence }
 {}
 
 /// What is built for a typed term, each application folded after its arguments, stands for it.

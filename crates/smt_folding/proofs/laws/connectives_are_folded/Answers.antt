@@ -1,4 +1,5 @@
-use Rattle.smt_folding.proofs.ConnectivesStand.{stands_not, stands_and, stands_or, stands_implies, stands_any, any_is_true}
+use Rattle.smt_folding.proofs.CompositesStand.{stands_any, stands_implies}
+use Rattle.smt_folding.proofs.ConnectivesStand.{stands_not, stands_and, stands_or, any_is_true}
 use Rattle.smt_folding.proofs.laws.connectives_are_folded.Goals as goal
 
 pub returns-clause-folded : goal.returns-clause-folded

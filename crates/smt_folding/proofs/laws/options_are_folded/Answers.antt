@@ -1,4 +1,5 @@
-use Rattle.smt_folding.proofs.OptionsStand.{stands_option_get, stands_is_none, stands_is_some, stands_if_false, stands_if_true, stands_if_some, stands_any_none, stands_if_all_some}
+use Rattle.smt_folding.proofs.CompositesStand.{stands_any_none, stands_if_all_some, stands_if_false, stands_if_some, stands_if_true, stands_is_some}
+use Rattle.smt_folding.proofs.OptionsStand.{stands_option_get, stands_is_none}
 use Rattle.smt_folding.proofs.laws.options_are_folded.Goals as goal
 
 pub returns : goal.returns

@@ -1,4 +1,5 @@
-use Rattle.smt_folding.proofs.SetsStand.{stands_set_member, stands_set_subset, stands_set_inter, stands_set_is_empty, stands_set_intersects}
+use Rattle.smt_folding.proofs.CompositesStand.{stands_set_intersects}
+use Rattle.smt_folding.proofs.SetsStand.{stands_set_member, stands_set_subset, stands_set_inter, stands_set_is_empty}
 use Rattle.smt_folding.proofs.laws.sets_are_folded.Goals as goal
 
 pub returns : goal.returns

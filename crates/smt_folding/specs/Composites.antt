@@ -1,0 +1,70 @@
+-- The calls that are made of other calls, each written once: `applied` gives the application that is asked for, `folding` what
+-- the call gives.
+use Rattle.std.specs.Prelude.{List, [], ◌∷◌, map, Some, None}
+use Rattle.smt_folding.specs.Applications.{false_term}
+use Rattle.smt_folding.specs.Builder.{Builder}
+use Rattle.smt_folding.specs.Parts.{element_type}
+use Rattle.smt_meaning.specs.Types.{inner_type, type_of}
+use Rattle.smt_meaning.specs.Plain.{PlainType, PlainTerm, NoneTerm, SetTerm, SomeTerm, no_terms}
+
+-- ---- connectives
+
+-- the second holds where the first does
+abbrev pub implies : Builder → PlainTerm → PlainTerm → PlainTerm
+implies b t u = b.or (b.not t) u
+
+-- the disjunction of terms, from false on: each is put before what came of those in front of it
+abbrev pub any_of_from : Builder → PlainTerm → List PlainTerm → PlainTerm
+any_of_from b so_far [] = so_far
+any_of_from b so_far (t ∷ ts) = any_of_from b (b.or t so_far) ts
+
+abbrev pub any_of : Builder → List PlainTerm → PlainTerm
+any_of b ts = any_of_from b false_term ts
+
+-- ---- sets
+
+-- a set is empty where it is the empty set of its elements' type; what is no set never is
+abbrev pub empty_by_type : Builder → PlainTerm → PlainTerm
+empty_by_type b t = elim (element_type (type_of t)) [ Some ty ↦ b.eq t (SetTerm ty no_terms) | None ↦ b.never t ]
+
+-- whether a set is empty: by its form where that tells, and else by its type
+abbrev pub set_is_empty : Builder → PlainTerm → PlainTerm
+set_is_empty b t = elim (b.empty_by_form t) [ Some x ↦ x | None ↦ empty_by_type b t ]
+
+-- two sets intersect where their intersection is not empty
+abbrev pub set_intersects : Builder → PlainTerm → PlainTerm → PlainTerm
+set_intersects b t u = b.not (set_is_empty b (b.set_inter t u))
+
+-- ---- options
+
+-- an option is none where it is the none of its type; what is no option never is
+abbrev pub none_by_type : Builder → PlainTerm → PlainTerm
+none_by_type b t = elim (inner_type (type_of t)) [ Some ty ↦ b.eq t (NoneTerm ty) | None ↦ b.never t ]
+
+-- whether an option is none: by its form where that tells, and else by its type
+abbrev pub is_none : Builder → PlainTerm → PlainTerm
+is_none b t = elim (b.none_by_form t) [ Some x ↦ x | None ↦ none_by_type b t ]
+
+abbrev pub is_some : Builder → PlainTerm → PlainTerm
+is_some b t = b.not (is_none b t)
+
+-- some of the term where the guard is false, or where it is true, and else none
+abbrev pub if_false : Builder → (guard : PlainTerm) → PlainTerm → PlainTerm
+if_false b g t = b.ite g (NoneTerm (type_of t)) (SomeTerm t)
+
+abbrev pub if_true : Builder → (guard : PlainTerm) → PlainTerm → PlainTerm
+if_true b g t = b.ite g (SomeTerm t) (NoneTerm (type_of t))
+
+-- where the guard is false an option itself, and some of another term; else none
+abbrev pub unless : Builder → (guard : PlainTerm) → PlainTerm → PlainTerm
+unless b g t = elim (inner_type (type_of t)) [ Some ty ↦ b.ite g (NoneTerm ty) t | None ↦ if_false b g t ]
+
+abbrev pub if_some : Builder → PlainTerm → PlainTerm → PlainTerm
+if_some b g t = unless b (is_none b g) t
+
+-- one of the terms is none
+abbrev pub any_none : Builder → List PlainTerm → PlainTerm
+any_none b gs = any_of b (map (is_none b) gs)
+
+abbrev pub if_all_some : Builder → List PlainTerm → PlainTerm → PlainTerm
+if_all_some b gs t = unless b (any_none b gs) t
