@@ -3,14 +3,14 @@ use Rattle.std.proofs.Common.{◌≡◌, ℕ, ◌+◌, ◌%◌, ◌^◌, ◌<◌
 use Rattle.std.proofs.Math.Nat.{mod-eq_of_lt}
 use Rattle.smt_arithmetic.specs.BitVectors as bits
 use Rattle.smt_arithmetic.proofs.BitRanges as ranges
-use Rattle.smt_folding.specs.Applications.{false_term, not_of, and_of, or_of, implies_of, eq_of, ite_of, bvneg_of, bvnego_of, test_of_two, zero_extend_of}
+use Rattle.smt_folding.specs.Applications.{false_term, not_of, and_of, or_of, eq_of, ite_of, bvneg_of, bvnego_of, test_of_two, zero_extend_of}
 use Rattle.smt_folding.specs.FoldBits.{folded_bvneg, folded_bvnego, folded_zero_extend, folded_bvsaddo, folded_bvssubo, folded_bvsmulo}
-use Rattle.smt_folding.specs.FoldConnectives.{folded_not, is_negation, folded_and, folded_or, folded_implies}
+use Rattle.smt_folding.specs.FoldConnectives.{folded_not, is_negation, folded_and, folded_or}
 use Rattle.smt_folding.specs.FoldEquality.{folded_eq, folded_eq_inside, folded_ite, folded_ite_inside}
 use Rattle.smt_folding.specs.Parts.{are_some, are_some_and_none, held, is_none_term, negated}
 use Rattle.smt_folding.specs.Refinement.{Refines}
 use Rattle.smt_folding.proofs.BitsStand.{stands_bvneg, stands_bvnego, stands_test, stands_zero_extend}
-use Rattle.smt_folding.proofs.ConnectivesStand.{stands_not, stands_and, stands_or, stands_implies}
+use Rattle.smt_folding.proofs.ConnectivesStand.{stands_not, stands_and, stands_or}
 use Rattle.smt_folding.proofs.EqualityStands.{stands_eq, stands_ite}
 use Rattle.smt_meaning.specs.Plain.{BvsaddoOp, BvsmuloOp, BvssuboOp, NotOp, PlainTerm, Application, NoneTerm, SomeTerm, no_terms, one_term}
 use Rattle.smt_meaning.specs.TermOrder.{term_eq}
@@ -84,9 +84,6 @@ stands_for_and r t u e = subst (λ (x : PlainTerm). Refines x (and_of t u)) (sym
 pub stands_for_or : (r t u : PlainTerm) → r ≡ folded_or t u → Refines r (or_of t u)
 stands_for_or r t u e = subst (λ (x : PlainTerm). Refines x (or_of t u)) (sym e) (stands_or t u)
 
-pub stands_for_implies : (r t u : PlainTerm) → r ≡ folded_implies t u → Refines r (implies_of t u)
-stands_for_implies r t u e = subst (λ (x : PlainTerm). Refines x (implies_of t u)) (sym e) (stands_implies t u)
-
 pub stands_for_eq : (r t u : PlainTerm) → r ≡ folded_eq t u → Refines r (eq_of t u)
 stands_for_eq r t u e = subst (λ (x : PlainTerm). Refines x (eq_of t u)) (sym e) (stands_eq t u)
 
@@ -117,7 +114,7 @@ stands_for_bvsmulo r t u e = subst (λ (x : PlainTerm). Refines x (test_of_two B
 pub same_extended : (n k w a : ℕ) → a < 2 ^ n → w ≡ n + k → a % 2 ^ w ≡ a
 same_extended n k w a l e = ap (λ x. a % 2 ^ x) e ∙ mod-eq_of_lt (ranges.wider n k a l)
 
-pub ruleset folding = (plain_term-App, plain_type-Bool, eq-is, is_negation-some, stands_for_not, stands_for_and, stands_for_or, stands_for_implies, stands_for_eq, stands_for_ite, stands_for_bvneg, stands_for_bvnego, stands_for_zero_extend)
+pub ruleset folding = (plain_term-App, plain_type-Bool, eq-is, is_negation-some, stands_for_not, stands_for_and, stands_for_or, stands_for_eq, stands_for_ite, stands_for_bvneg, stands_for_bvnego, stands_for_zero_extend)
 
 -- for what matches on terms, and on types
 pub ruleset matching = (views, is_negation-some, are_some-first, are_some-second, some_and_none-some, some_and_none-other)

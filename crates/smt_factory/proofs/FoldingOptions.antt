@@ -1,13 +1,15 @@
 -- What the code's tests of options decide, in the words of the foldings.
 use Rattle.std.proofs.Common.{◌≡◌, true, false, List, [], ◌∷◌, refl, ap, ◌∙◌, sym, subst}
 use Rattle.std.specs.Prelude.{Option, Some, None}
-use Rattle.smt_folding.specs.Applications.{false_term, option_get_of, is_none_of, is_some_of, if_false_of, if_true_of, if_some_of, if_all_some_of, type_inside}
+use Rattle.smt_folding.specs.Applications.{false_term, option_get_of, type_inside}
+use Rattle.smt_folding.specs.Builder.{applied, folding}
+use Rattle.smt_folding.specs.Composites.{if_false, is_none, none_by_type, unless}
 use Rattle.smt_folding.specs.FoldConnectives.{folded_not}
 use Rattle.smt_folding.specs.FoldEquality.{folded_eq, folded_ite}
-use Rattle.smt_folding.specs.FoldOptions.{folded_option_get, folded_is_none_by_type, none_by_branches, none_by_arguments, none_by_form, folded_is_none, folded_is_some, folded_if_false, folded_if_true, folded_unless, folded_if_some, folded_if_all_some}
+use Rattle.smt_folding.specs.FoldOptions.{folded_option_get, none_by_branches, none_by_arguments, none_by_form}
 use Rattle.smt_folding.specs.Parts.{held, is_none_term}
 use Rattle.smt_folding.specs.Refinement.{Refines}
-use Rattle.smt_folding.proofs.OptionsStand.{stands_option_get, stands_is_none, stands_is_some, stands_if_false, stands_if_true, stands_if_some, stands_if_all_some}
+use Rattle.smt_folding.proofs.OptionsStand.{stands_option_get, stands_is_none}
 use Rattle.smt_meaning.proofs.Listed.{listed}
 use Rattle.smt_meaning.specs.Plain.{PlainType, OptionType, IteOp, OptionGetOp, PlainTerm, Application, NoneTerm, SomeTerm, terms}
 use Rattle.smt_meaning.specs.Types.{inner_type, type_of}
@@ -66,47 +68,32 @@ by_branches-neither g t u e d = refl
 pub by_form-choice : (ts : List PlainTerm) (ty : PlainType) → none_by_form (Application IteOp (terms ts) ty) ≡ none_by_arguments ts
 by_form-choice ts ty = ap none_by_arguments (listed ts)
 
-pub by_type-option : (t : PlainTerm) (x : PlainType) → inner_type (type_of t) ≡ Some x → folded_is_none_by_type t ≡ folded_eq t (NoneTerm x)
+pub by_type-option : (t : PlainTerm) (x : PlainType) → inner_type (type_of t) ≡ Some x → none_by_type folding t ≡ folded_eq t (NoneTerm x)
 by_type-option t x e = ap (λ (o : Option PlainType). elim o as (λ _. PlainTerm) [ Some ty ↦ folded_eq t (NoneTerm ty) | None ↦ false_term ]) e
 
-pub by_type-other : (t : PlainTerm) → inner_type (type_of t) ≡ None → folded_is_none_by_type t ≡ false_term
+pub by_type-other : (t : PlainTerm) → inner_type (type_of t) ≡ None → none_by_type folding t ≡ false_term
 by_type-other t e = ap (λ (o : Option PlainType). elim o as (λ _. PlainTerm) [ Some ty ↦ folded_eq t (NoneTerm ty) | None ↦ false_term ]) e
 
-pub is_none-known : (t r : PlainTerm) → none_by_form t ≡ Some r → folded_is_none t ≡ r
-is_none-known t r e = ap (λ (o : Option PlainTerm). elim o as (λ _. PlainTerm) [ Some x ↦ x | None ↦ folded_is_none_by_type t ]) e
+pub is_none-known : (t r : PlainTerm) → none_by_form t ≡ Some r → is_none folding t ≡ r
+is_none-known t r e = ap (λ (o : Option PlainTerm). elim o as (λ _. PlainTerm) [ Some x ↦ x | None ↦ none_by_type folding t ]) e
 
-pub is_none-unknown : (t : PlainTerm) → none_by_form t ≡ None → folded_is_none t ≡ folded_is_none_by_type t
-is_none-unknown t e = ap (λ (o : Option PlainTerm). elim o as (λ _. PlainTerm) [ Some x ↦ x | None ↦ folded_is_none_by_type t ]) e
+pub is_none-unknown : (t : PlainTerm) → none_by_form t ≡ None → is_none folding t ≡ none_by_type folding t
+is_none-unknown t e = ap (λ (o : Option PlainTerm). elim o as (λ _. PlainTerm) [ Some x ↦ x | None ↦ none_by_type folding t ]) e
 
 -- ---- options by a guard
 
-pub unless-option : (g t : PlainTerm) (x : PlainType) → inner_type (type_of t) ≡ Some x → folded_unless g t ≡ folded_ite g (NoneTerm x) t
-unless-option g t x e = ap (λ (o : Option PlainType). elim o as (λ _. PlainTerm) [ Some ty ↦ folded_ite g (NoneTerm ty) t | None ↦ folded_if_false g t ]) e
+pub unless-option : (g t : PlainTerm) (x : PlainType) → inner_type (type_of t) ≡ Some x → unless folding g t ≡ folded_ite g (NoneTerm x) t
+unless-option g t x e = ap (λ (o : Option PlainType). elim o as (λ _. PlainTerm) [ Some ty ↦ folded_ite g (NoneTerm ty) t | None ↦ if_false folding g t ]) e
 
-pub unless-other : (g t : PlainTerm) → inner_type (type_of t) ≡ None → folded_unless g t ≡ folded_if_false g t
-unless-other g t e = ap (λ (o : Option PlainType). elim o as (λ _. PlainTerm) [ Some ty ↦ folded_ite g (NoneTerm ty) t | None ↦ folded_if_false g t ]) e
+pub unless-other : (g t : PlainTerm) → inner_type (type_of t) ≡ None → unless folding g t ≡ if_false folding g t
+unless-other g t e = ap (λ (o : Option PlainType). elim o as (λ _. PlainTerm) [ Some ty ↦ folded_ite g (NoneTerm ty) t | None ↦ if_false folding g t ]) e
 
 -- ---- what is folded stands for what was asked for
 
 pub stands_for_option_get : (r t : PlainTerm) → r ≡ folded_option_get t → Refines r (option_get_of t)
 stands_for_option_get r t e = subst (λ (x : PlainTerm). Refines x (option_get_of t)) (sym e) (stands_option_get t)
 
-pub stands_for_is_none : (r t : PlainTerm) → r ≡ folded_is_none t → Refines r (is_none_of t)
-stands_for_is_none r t e = subst (λ (x : PlainTerm). Refines x (is_none_of t)) (sym e) (stands_is_none t)
+pub stands_for_is_none : (r t : PlainTerm) → r ≡ is_none folding t → Refines r (is_none applied t)
+stands_for_is_none r t e = subst (λ (x : PlainTerm). Refines x (is_none applied t)) (sym e) (stands_is_none t)
 
-pub stands_for_is_some : (r t : PlainTerm) → r ≡ folded_is_some t → Refines r (is_some_of t)
-stands_for_is_some r t e = subst (λ (x : PlainTerm). Refines x (is_some_of t)) (sym e) (stands_is_some t)
-
-pub stands_for_if_false : (r g t : PlainTerm) → r ≡ folded_if_false g t → Refines r (if_false_of g t)
-stands_for_if_false r g t e = subst (λ (x : PlainTerm). Refines x (if_false_of g t)) (sym e) (stands_if_false g t)
-
-pub stands_for_if_true : (r g t : PlainTerm) → r ≡ folded_if_true g t → Refines r (if_true_of g t)
-stands_for_if_true r g t e = subst (λ (x : PlainTerm). Refines x (if_true_of g t)) (sym e) (stands_if_true g t)
-
-pub stands_for_if_some : (r g t : PlainTerm) → r ≡ folded_if_some g t → Refines r (if_some_of g t)
-stands_for_if_some r g t e = subst (λ (x : PlainTerm). Refines x (if_some_of g t)) (sym e) (stands_if_some g t)
-
-pub stands_for_if_all_some : (r : PlainTerm) (gs : List PlainTerm) (t : PlainTerm) → r ≡ folded_if_all_some gs t → Refines r (if_all_some_of gs t)
-stands_for_if_all_some r gs t e = subst (λ (x : PlainTerm). Refines x (if_all_some_of gs t)) (sym e) (stands_if_all_some gs t)
-
-pub ruleset option_folding = (folded_option_get-held, folded_option_get-option, folded_option_get-other, by_branches-some, by_branches-negated, by_branches-guard, by_branches-first, by_branches-second, by_branches-neither, by_form-choice, by_type-option, by_type-other, is_none-known, is_none-unknown, unless-option, unless-other, stands_for_option_get, stands_for_is_none, stands_for_is_some, stands_for_if_false, stands_for_if_true, stands_for_if_some, stands_for_if_all_some)
+pub ruleset option_folding = (folded_option_get-held, folded_option_get-option, folded_option_get-other, by_branches-some, by_branches-negated, by_branches-guard, by_branches-first, by_branches-second, by_branches-neither, by_form-choice, by_type-option, by_type-other, is_none-known, is_none-unknown, unless-option, unless-other, stands_for_option_get, stands_for_is_none)

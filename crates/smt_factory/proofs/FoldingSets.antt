@@ -3,13 +3,15 @@ use Rattle.std.proofs.Common.{◌≡◌, ℕ, ◌+◌, ◌<◌, Bool, true, fals
 use Rattle.std.specs.Prelude.{◌↔◌, IsTrue, Option, Some, None, filter}
 use Rattle.std.specs.Str.{chars}
 use Rattle.std.proofs.lemmas.List.{at_drop_more}
-use Rattle.smt_folding.specs.Applications.{truth_literal, false_term, string_like_of, set_member_of, set_subset_of, set_inter_of, set_is_empty_of, set_intersects_of}
+use Rattle.smt_folding.specs.Applications.{truth_literal, false_term, string_like_of, set_member_of, set_subset_of, set_inter_of}
+use Rattle.smt_folding.specs.Builder.{applied, folding}
+use Rattle.smt_folding.specs.Composites.{set_is_empty}
 use Rattle.smt_folding.specs.FoldEquality.{folded_eq}
-use Rattle.smt_folding.specs.FoldSets.{common_set, folded_set_inter, folded_set_intersects, folded_set_is_empty, folded_set_member, folded_set_subset, is_among}
+use Rattle.smt_folding.specs.FoldSets.{common_set, folded_set_inter, folded_set_member, folded_set_subset, is_among}
 use Rattle.smt_folding.specs.FoldStrings.{folded_string_like}
 use Rattle.smt_folding.specs.Parts.{element_type, elements_in, is_empty_set, is_set_literal, is_set_term, text_inside}
 use Rattle.smt_folding.specs.Refinement.{Refines}
-use Rattle.smt_folding.proofs.SetsStand.{stands_set_inter, stands_set_intersects, stands_set_is_empty, stands_set_member, stands_set_subset}
+use Rattle.smt_folding.proofs.SetsStand.{stands_set_inter, stands_set_is_empty, stands_set_member, stands_set_subset}
 use Rattle.smt_folding.proofs.StringsStand.{stands_string_like}
 use Rattle.smt_term.proofs.DerivedEquality.{eq-is}
 use Rattle.smt_meaning.proofs.Listed.{listed}
@@ -48,18 +50,18 @@ set_literal-is t = refl
 pub common_set-set : (ty : PlainType) (ts : List PlainTerm) (u : PlainTerm) → common_set (SetTerm ty (terms ts)) u ≡ set_term ty (filter (is_among (elements_in u)) ts)
 common_set-set ty ts u = ap (λ l. set_term ty (filter (is_among (elements_in u)) l)) (listed ts)
 
-pub is_empty-elements : (t : PlainTerm) → is_set_term t ≡ true → folded_set_is_empty t ≡ truth_literal (is_empty_set t)
+pub is_empty-elements : (t : PlainTerm) → is_set_term t ≡ true → set_is_empty folding t ≡ truth_literal (is_empty_set t)
 is_empty-elements (SetTerm ty ts) e = refl
 is_empty-elements t e = cc
 
 by_type : (t : PlainTerm) (x : PlainType) → element_type (type_of t) ≡ Some x → (elim (element_type (type_of t)) [ Some ty ↦ folded_eq t (SetTerm ty no_terms) | None ↦ false_term ]) ≡ folded_eq t (SetTerm x no_terms)
 by_type t x e = ap (λ (o : Option PlainType). elim o as (λ _. PlainTerm) [ Some ty ↦ folded_eq t (SetTerm ty no_terms) | None ↦ false_term ]) e
 
-pub is_empty-set : (t : PlainTerm) (x : PlainType) → is_set_term t ≡ false → element_type (type_of t) ≡ Some x → folded_set_is_empty t ≡ folded_eq t (SetTerm x no_terms)
+pub is_empty-set : (t : PlainTerm) (x : PlainType) → is_set_term t ≡ false → element_type (type_of t) ≡ Some x → set_is_empty folding t ≡ folded_eq t (SetTerm x no_terms)
 is_empty-set (SetTerm ty ts) x e d = cc
 is_empty-set t x e d = by_type t x d
 
-pub is_empty-other : (t : PlainTerm) → element_type (type_of t) ≡ None → folded_set_is_empty t ≡ false_term
+pub is_empty-other : (t : PlainTerm) → element_type (type_of t) ≡ None → set_is_empty folding t ≡ false_term
 is_empty-other (SetTerm ty ts) e = cc
 is_empty-other t e = ap (λ (o : Option PlainType). elim o as (λ _. PlainTerm) [ Some ty ↦ folded_eq t (SetTerm ty no_terms) | None ↦ false_term ]) e
 
@@ -83,10 +85,7 @@ stands_for_set_subset r t u e = subst (λ (x : PlainTerm). Refines x (set_subset
 pub stands_for_set_inter : (r t u : PlainTerm) → r ≡ folded_set_inter t u → Refines r (set_inter_of t u)
 stands_for_set_inter r t u e = subst (λ (x : PlainTerm). Refines x (set_inter_of t u)) (sym e) (stands_set_inter t u)
 
-pub stands_for_set_is_empty : (r t : PlainTerm) → r ≡ folded_set_is_empty t → Refines r (set_is_empty_of t)
-stands_for_set_is_empty r t e = subst (λ (x : PlainTerm). Refines x (set_is_empty_of t)) (sym e) (stands_set_is_empty t)
+pub stands_for_set_is_empty : (r t : PlainTerm) → r ≡ set_is_empty folding t → Refines r (set_is_empty applied t)
+stands_for_set_is_empty r t e = subst (λ (x : PlainTerm). Refines x (set_is_empty applied t)) (sym e) (stands_set_is_empty t)
 
-pub stands_for_set_intersects : (r t u : PlainTerm) → r ≡ folded_set_intersects t u → Refines r (set_intersects_of t u)
-stands_for_set_intersects r t u e = subst (λ (x : PlainTerm). Refines x (set_intersects_of t u)) (sym e) (stands_set_intersects t u)
-
-pub ruleset set_folding = (eq-is, folded_string_like-text, folded_string_like-other, elements_in-set, set_literal-is, common_set-set, is_empty-elements, is_empty-set, is_empty-other, stands_for_string_like, stands_for_set_member, stands_for_set_subset, stands_for_set_inter, stands_for_set_is_empty, stands_for_set_intersects)
+pub ruleset set_folding = (eq-is, folded_string_like-text, folded_string_like-other, elements_in-set, set_literal-is, common_set-set, is_empty-elements, is_empty-set, is_empty-other, stands_for_string_like, stands_for_set_member, stands_for_set_subset, stands_for_set_inter, stands_for_set_is_empty)

@@ -1,7 +1,8 @@
 -- The disjunction of what a call answers at each of several terms.
 use Rattle.std.specs.Prelude.{◌≡◌, List, [], ◌∷◌, Result, Ok}
 use Rattle.std.specs.List.{AllZip, list_any}
-use Rattle.smt_folding.specs.FoldConnectives.{folded_any}
+use Rattle.smt_folding.specs.Builder.{folding}
+use Rattle.smt_folding.specs.Composites.{any_of}
 use Rattle.smt_folding.specs.Refinement.{ReachNoMore, Refines}
 use Rattle.smt_meaning.specs.Interpretations.{IsInterpretation}
 use Rattle.smt_meaning.specs.Meaning.{term_value}
@@ -27,7 +28,7 @@ pub record IsAnswer (answers : Term → Result Term TermError → Type 0) (t u :
 pub record IsAnyOf (answers : Term → Result Term TermError → Type 0) (ts : List PlainTerm) (r : PlainTerm) : Type 0 where
   pub given : List PlainTerm
   pub each : AllZip (IsAnswer answers) ts given
-  pub folded : r ≡ folded_any given
+  pub folded : r ≡ any_of folding given
 
 -- what the call answers at a term stands for the original of that term
 abbrev pub GivesRefinements : (Term → Result Term TermError → Type 0) → (PlainTerm → PlainTerm) → Type 0

@@ -2,7 +2,8 @@
 ghost use Rattle.std.specs.List.{AllByRecursion};
 ghost use Rattle.std.specs.Prelude.{IfOk, map};
 ghost use Rattle.smt_factory.specs.AnyOf.{GivesBooleans, GivesRefinements, IsAnyOf, IsTrueWhereOneIs};
-ghost use Rattle.smt_folding.specs.Applications.{any_of};
+ghost use Rattle.smt_folding.specs.Builder.{applied};
+ghost use Rattle.smt_folding.specs.Composites.{any_of};
 ghost use Rattle.smt_folding.specs.Refinement.{Refines};
 ghost use Rattle.smt_meaning.specs.Plain.{PlainTerm};
 ghost use Rattle.smt_term.specs.View.{plain_term};
@@ -27,7 +28,7 @@ where
     requires { F.IsAlwaysCallable f.now }
     ensures folded { IfOk result (λ r. IsAnyOf (F.post f.now) (map plain_term ts.now) (plain_term r)) }
     ensures refines { (original : PlainTerm → PlainTerm) → GivesRefinements (F.post f.now) original →
-        IfOk result (λ r. Refines (plain_term r) (any_of (map original (map plain_term ts.now)))) }
+        IfOk result (λ r. Refines (plain_term r) (any_of applied (map original (map plain_term ts.now)))) }
     ensures truth { AllByRecursion (GivesBooleans (F.post f.now)) (map plain_term ts.now) →
         IfOk result (λ r. IsTrueWhereOneIs (F.post f.now) (map plain_term ts.now) (plain_term r)) }
 {

@@ -1,7 +1,11 @@
 //! The connectives of the theory Core.
+#![tactic(auto, using(crate::proofs::Folding::folding, crate::proofs::Composites::composites))]
+
 ghost use Rattle.std.specs.Prelude.{◌≡◌, IfOk, MatchOption, None, Some};
-ghost use Rattle.smt_folding.specs.Applications.{and_of, implies_of, not_of, or_of};
-ghost use Rattle.smt_folding.specs.FoldConnectives.{are_opposites, is_negation, folded_and, folded_implies, folded_not, folded_or};
+ghost use Rattle.smt_folding.specs.Applications.{and_of, not_of, or_of};
+ghost use Rattle.smt_folding.specs.Builder.{applied, folding};
+ghost use Rattle.smt_folding.specs.Composites.{implies};
+ghost use Rattle.smt_folding.specs.FoldConnectives.{are_opposites, is_negation, folded_and, folded_not, folded_or};
 ghost use Rattle.smt_folding.specs.Parts.{negated};
 ghost use Rattle.smt_folding.specs.Refinement.{Refines};
 ghost use Rattle.smt_term.specs.View.{plain_term};
@@ -134,8 +138,8 @@ fn folded_or(alloc: Global, t1: Term, t2: Term) -> Result<Term, TermError>
 /// # Errors
 /// `Memory`, where there is none for the term.
 pub fn implies(alloc: Global, t1: Term, t2: Term) -> Result<Term, TermError>
-    ensures folded { IfOk result (λ r. plain_term r ≡ folded_implies (plain_term t1) (plain_term t2)) }
-    ensures refines { IfOk result (λ r. Refines (plain_term r) (implies_of (plain_term t1) (plain_term t2))) }
+    ensures folded { IfOk result (λ r. plain_term r ≡ implies folding (plain_term t1) (plain_term t2)) }
+    ensures refines { IfOk result (λ r. Refines (plain_term r) (implies applied (plain_term t1) (plain_term t2))) }
 {
     or(alloc, not(alloc, t1)?, t2)
 }

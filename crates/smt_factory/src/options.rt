@@ -1,9 +1,11 @@
 //! Options: none, some, and what they hold.
-#![tactic(auto, using(crate::proofs::FoldingOptions::option_folding))]
+#![tactic(auto, using(crate::proofs::FoldingOptions::option_folding, crate::proofs::Composites::composites))]
 
 ghost use Rattle.std.specs.Prelude.{◌≡◌, IfOk, MatchOption, None, Some, map};
-ghost use Rattle.smt_folding.specs.Applications.{any_none_of, if_all_some_of, if_false_of, if_some_of, if_true_of, is_none_of, is_some_of, option_get_of};
-ghost use Rattle.smt_folding.specs.FoldOptions.{folded_any_none, folded_if_all_some, folded_if_false, folded_if_some, folded_if_true, folded_is_none, folded_is_none_by_type, folded_is_some, folded_option_get, folded_unless, none_by_arguments, none_by_branches, none_by_form};
+ghost use Rattle.smt_folding.specs.Applications.{option_get_of};
+ghost use Rattle.smt_folding.specs.Builder.{applied, folding};
+ghost use Rattle.smt_folding.specs.Composites.{any_none, if_all_some, if_false, if_some, if_true, is_none, is_some, none_by_type, unless};
+ghost use Rattle.smt_folding.specs.FoldOptions.{folded_option_get, none_by_arguments, none_by_branches, none_by_form};
 ghost use Rattle.smt_folding.specs.Refinement.{Refines};
 ghost use Rattle.smt_meaning.specs.Plain.{NoneTerm, SomeTerm};
 ghost use Rattle.smt_term.specs.View.{plain_items, plain_term, plain_type};
@@ -119,7 +121,7 @@ fn none_by_branches(
 
 // Whether a term equals the none of its type; false for what is no option.
 fn none_by_type(alloc: Global, t: Term) -> Result<Term, TermError>
-    ensures { IfOk result (λ r. plain_term r ≡ folded_is_none_by_type (plain_term t)) }
+    ensures { IfOk result (λ r. plain_term r ≡ none_by_type folding (plain_term t)) }
 {
     match inner_type(alloc, &t)? {
         Some(ty) => eq(alloc, t, none_of(ty)),
@@ -135,15 +137,15 @@ fn none_by_type(alloc: Global, t: Term) -> Result<Term, TermError>
 /// # Errors
 /// `Memory`, where there is none for the term.
 pub fn is_none(alloc: Global, t: Term) -> Result<Term, TermError>
-    ensures folded { IfOk result (λ r. plain_term r ≡ folded_is_none (plain_term t)) }
-    ensures refines { IfOk result (λ r. Refines (plain_term r) (is_none_of (plain_term t))) }
+    ensures folded { IfOk result (λ r. plain_term r ≡ is_none folding (plain_term t)) }
+    ensures refines { IfOk result (λ r. Refines (plain_term r) (is_none applied (plain_term t))) }
 {
     folded_is_none(alloc, t)
 }
 
 // Whether an option is none, folded.
 fn folded_is_none(alloc: Global, t: Term) -> Result<Term, TermError>
-    ensures { IfOk result (λ r. plain_term r ≡ folded_is_none (plain_term t)) }
+    ensures { IfOk result (λ r. plain_term r ≡ is_none folding (plain_term t)) }
 {
     match none_by_form(alloc, &t)? {
         Some(known) => Ok(known),
@@ -156,8 +158,8 @@ fn folded_is_none(alloc: Global, t: Term) -> Result<Term, TermError>
 /// # Errors
 /// `Memory`, where there is none for the term.
 pub fn is_some(alloc: Global, t: Term) -> Result<Term, TermError>
-    ensures folded { IfOk result (λ r. plain_term r ≡ folded_is_some (plain_term t)) }
-    ensures refines { IfOk result (λ r. Refines (plain_term r) (is_some_of (plain_term t))) }
+    ensures folded { IfOk result (λ r. plain_term r ≡ is_some folding (plain_term t)) }
+    ensures refines { IfOk result (λ r. Refines (plain_term r) (is_some applied (plain_term t))) }
 {
     not(alloc, is_none(alloc, t)?)
 }
@@ -167,8 +169,8 @@ pub fn is_some(alloc: Global, t: Term) -> Result<Term, TermError>
 /// # Errors
 /// `Memory`, where there is none for the term.
 pub fn if_false(alloc: Global, g: Term, t: Term) -> Result<Term, TermError>
-    ensures folded { IfOk result (λ r. plain_term r ≡ folded_if_false (plain_term g) (plain_term t)) }
-    ensures refines { IfOk result (λ r. Refines (plain_term r) (if_false_of (plain_term g) (plain_term t))) }
+    ensures folded { IfOk result (λ r. plain_term r ≡ if_false folding (plain_term g) (plain_term t)) }
+    ensures refines { IfOk result (λ r. Refines (plain_term r) (if_false applied (plain_term g) (plain_term t))) }
 {
     let none = none_of(t.type_of(alloc)?);
     ite(alloc, g, none, some_of(alloc, t)?)
@@ -179,8 +181,8 @@ pub fn if_false(alloc: Global, g: Term, t: Term) -> Result<Term, TermError>
 /// # Errors
 /// `Memory`, where there is none for the term.
 pub fn if_true(alloc: Global, g: Term, t: Term) -> Result<Term, TermError>
-    ensures folded { IfOk result (λ r. plain_term r ≡ folded_if_true (plain_term g) (plain_term t)) }
-    ensures refines { IfOk result (λ r. Refines (plain_term r) (if_true_of (plain_term g) (plain_term t))) }
+    ensures folded { IfOk result (λ r. plain_term r ≡ if_true folding (plain_term g) (plain_term t)) }
+    ensures refines { IfOk result (λ r. Refines (plain_term r) (if_true applied (plain_term g) (plain_term t))) }
 {
     let none = none_of(t.type_of(alloc)?);
     ite(alloc, g, some_of(alloc, t)?, none)
@@ -188,7 +190,7 @@ pub fn if_true(alloc: Global, g: Term, t: Term) -> Result<Term, TermError>
 
 // Where the guard is false an option itself, and some of another term; else none.
 fn unless(alloc: Global, g: Term, t: Term) -> Result<Term, TermError>
-    ensures { IfOk result (λ r. plain_term r ≡ folded_unless (plain_term g) (plain_term t)) }
+    ensures { IfOk result (λ r. plain_term r ≡ unless folding (plain_term g) (plain_term t)) }
 {
     match inner_type(alloc, &t)? {
         Some(ty) => ite(alloc, g, none_of(ty), t),
@@ -201,15 +203,8 @@ fn unless(alloc: Global, g: Term, t: Term) -> Result<Term, TermError>
 /// # Errors
 /// `Memory`, where there is none for the term.
 pub fn if_some(alloc: Global, g: Term, t: Term) -> Result<Term, TermError>
-    ensures folded { IfOk result (λ r. plain_term r ≡ folded_if_some (plain_term g) (plain_term t)) }
-    ensures refines { IfOk result (λ r. Refines (plain_term r) (if_some_of (plain_term g) (plain_term t))) }
-{
-    folded_if_some(alloc, g, t)
-}
-
-// The option, folded.
-fn folded_if_some(alloc: Global, g: Term, t: Term) -> Result<Term, TermError>
-    ensures { IfOk result (λ r. plain_term r ≡ folded_if_some (plain_term g) (plain_term t)) }
+    ensures folded { IfOk result (λ r. plain_term r ≡ if_some folding (plain_term g) (plain_term t)) }
+    ensures refines { IfOk result (λ r. Refines (plain_term r) (if_some applied (plain_term g) (plain_term t))) }
 {
     unless(alloc, is_none(alloc, g)?, t)
 }
@@ -219,8 +214,8 @@ fn folded_if_some(alloc: Global, g: Term, t: Term) -> Result<Term, TermError>
 /// # Errors
 /// `Memory`, where there is none for the term.
 pub fn any_none(alloc: Global, gs: &[Term]) -> Result<Term, TermError>
-    ensures folded { IfOk result (λ r. plain_term r ≡ folded_any_none (map plain_term gs.now)) }
-    ensures refines { IfOk result (λ r. Refines (plain_term r) (any_none_of (map plain_term gs.now))) }
+    ensures folded { IfOk result (λ r. plain_term r ≡ any_none folding (map plain_term gs.now)) }
+    ensures refines { IfOk result (λ r. Refines (plain_term r) (any_none applied (map plain_term gs.now))) }
 {
     let is_none_here = |t: Term| is_none(alloc, t);
     any_true(alloc, &is_none_here, gs)
@@ -231,15 +226,8 @@ pub fn any_none(alloc: Global, gs: &[Term]) -> Result<Term, TermError>
 /// # Errors
 /// `Memory`, where there is none for the term.
 pub fn if_all_some(alloc: Global, gs: &[Term], t: Term) -> Result<Term, TermError>
-    ensures folded { IfOk result (λ r. plain_term r ≡ folded_if_all_some (map plain_term gs.now) (plain_term t)) }
-    ensures refines { IfOk result (λ r. Refines (plain_term r) (if_all_some_of (map plain_term gs.now) (plain_term t))) }
-{
-    folded_if_all_some(alloc, gs, t)
-}
-
-// The option, folded.
-fn folded_if_all_some(alloc: Global, gs: &[Term], t: Term) -> Result<Term, TermError>
-    ensures { IfOk result (λ r. plain_term r ≡ folded_if_all_some (map plain_term gs.now) (plain_term t)) }
+    ensures folded { IfOk result (λ r. plain_term r ≡ if_all_some folding (map plain_term gs.now) (plain_term t)) }
+    ensures refines { IfOk result (λ r. Refines (plain_term r) (if_all_some applied (map plain_term gs.now) (plain_term t))) }
 {
     unless(alloc, any_none(alloc, gs)?, t)
 }

@@ -1,10 +1,12 @@
 //! Sets of the values of terms, of cvc5's theory of finite sets.
-#![tactic(auto, using(crate::proofs::FoldingSets::set_folding))]
+#![tactic(auto, using(crate::proofs::FoldingSets::set_folding, crate::proofs::Composites::composites))]
 
 ghost use Rattle.std.specs.Prelude.{◌≡◌, IfOk, map};
 ghost use Rattle.std.specs.List.{filter, list_all};
-ghost use Rattle.smt_folding.specs.Applications.{set_inter_of, set_intersects_of, set_is_empty_of, set_member_of, set_subset_of};
-ghost use Rattle.smt_folding.specs.FoldSets.{common_set, folded_set_inter, folded_set_intersects, folded_set_is_empty, folded_set_member, folded_set_subset, is_among};
+ghost use Rattle.smt_folding.specs.Applications.{set_inter_of, set_member_of, set_subset_of};
+ghost use Rattle.smt_folding.specs.Builder.{applied, folding};
+ghost use Rattle.smt_folding.specs.Composites.{set_intersects, set_is_empty};
+ghost use Rattle.smt_folding.specs.FoldSets.{common_set, folded_set_inter, folded_set_member, folded_set_subset, is_among};
 ghost use Rattle.smt_folding.specs.Parts.{elements_in, is_empty_set, is_set_literal, is_set_term};
 ghost use Rattle.smt_folding.specs.SetOf.{IsSetOf};
 ghost use Rattle.smt_folding.specs.Refinement.{Refines};
@@ -215,15 +217,15 @@ fn folded_set_inter(alloc: Global, ts1: Term, ts2: Term) -> Result<Term, TermErr
 /// # Errors
 /// `Memory`, where there is none for the term.
 pub fn set_is_empty(alloc: Global, t: Term) -> Result<Term, TermError>
-    ensures folded { IfOk result (λ r. plain_term r ≡ folded_set_is_empty (plain_term t)) }
-    ensures refines { IfOk result (λ r. Refines (plain_term r) (set_is_empty_of (plain_term t))) }
+    ensures folded { IfOk result (λ r. plain_term r ≡ set_is_empty folding (plain_term t)) }
+    ensures refines { IfOk result (λ r. Refines (plain_term r) (set_is_empty applied (plain_term t))) }
 {
     folded_set_is_empty(alloc, t)
 }
 
 // Whether a set is empty, folded.
 fn folded_set_is_empty(alloc: Global, t: Term) -> Result<Term, TermError>
-    ensures { IfOk result (λ r. plain_term r ≡ folded_set_is_empty (plain_term t)) }
+    ensures { IfOk result (λ r. plain_term r ≡ set_is_empty folding (plain_term t)) }
 {
     if is_set_term(&t) {
         return Ok(Term::from(is_empty_set(&t)));
@@ -242,8 +244,8 @@ fn folded_set_is_empty(alloc: Global, t: Term) -> Result<Term, TermError>
 /// # Errors
 /// `Memory`, where there is none for the term.
 pub fn set_intersects(alloc: Global, ts1: Term, ts2: Term) -> Result<Term, TermError>
-    ensures folded { IfOk result (λ r. plain_term r ≡ folded_set_intersects (plain_term ts1) (plain_term ts2)) }
-    ensures refines { IfOk result (λ r. Refines (plain_term r) (set_intersects_of (plain_term ts1) (plain_term ts2))) }
+    ensures folded { IfOk result (λ r. plain_term r ≡ set_intersects folding (plain_term ts1) (plain_term ts2)) }
+    ensures refines { IfOk result (λ r. Refines (plain_term r) (set_intersects applied (plain_term ts1) (plain_term ts2))) }
 {
     not(alloc, set_is_empty(alloc, set_inter(alloc, ts1, ts2)?)?)
 }
