@@ -12,7 +12,7 @@ use Rattle.smt_arithmetic.specs.Widths.{are_bits, is_width}
 use Rattle.smt_arithmetic.proofs.BitRanges as ranges
 use Rattle.smt_meaning.specs.Faults.{attribute_types_fault, first_fault, is_passed_over, operator_fault, term_fault, terms_fault, type_fault, unless}
 use Rattle.smt_meaning.specs.Formed.{IsFormed, IsFormedNode, IsFormedType}
-use Rattle.smt_meaning.specs.Plain.{PlainType, OptionType, RecordType, SetType, AttributeTypes, no_attributes, attribute, RecordGetOp, StringLikeOp, UufOp, BitVecType, BoolType, PlainOp, AndOp, BvaddOp, BvlshrOp, BvmulOp, BvnegOp, BvnegoOp, BvsaddoOp, BvsdivOp, BvshlOp, BvsleOp, BvsltOp, BvsmodOp, BvsmuloOp, BvsremOp, BvssuboOp, BvsubOp, BvudivOp, BvuleOp, BvultOp, BvuremOp, EqOp, IteOp, NotOp, OrOp, ZeroExtendOp, BitVecLiteral, PlainTerm, Application, LiteralTerm, VariableTerm, terms}
+use Rattle.smt_meaning.specs.Plain.{PlainType, OptionType, RecordType, SetType, AttributeTypes, no_attributes, attribute, RecordGetOp, StringLikeOp, UufOp, BitVecType, BoolType, PlainOp, AndOp, BvnegOp, BvnegoOp, EqOp, IteOp, NotOp, OrOp, ZeroExtendOp, BitVecLiteral, PlainTerm, Application, LiteralTerm, VariableTerm, terms, BitsOp, TestOp, OverflowOp}
 use Rattle.smt_meaning.specs.Reached.{subterms, subterms_of_all}
 use Rattle.smt_meaning.specs.Types.{extended_type, result_type, type_eq, type_of, types_of}
 use Rattle.smt_meaning.specs.Typing.{Typed, typed, typed_all}
@@ -169,24 +169,10 @@ is_applied OrOp = true
 is_applied EqOp = true
 is_applied IteOp = true
 is_applied BvnegOp = true
-is_applied BvaddOp = true
-is_applied BvsubOp = true
-is_applied BvmulOp = true
-is_applied BvudivOp = true
-is_applied BvuremOp = true
-is_applied BvsdivOp = true
-is_applied BvsremOp = true
-is_applied BvsmodOp = true
-is_applied BvshlOp = true
-is_applied BvlshrOp = true
-is_applied BvultOp = true
-is_applied BvuleOp = true
-is_applied BvsltOp = true
-is_applied BvsleOp = true
 is_applied BvnegoOp = true
-is_applied BvsaddoOp = true
-is_applied BvssuboOp = true
-is_applied BvsmuloOp = true
+is_applied (BitsOp o) = true
+is_applied (TestOp o) = true
+is_applied (OverflowOp o) = true
 is_applied (ZeroExtendOp k) = true
 is_applied o = false
 
@@ -218,23 +204,9 @@ given_formed (ZeroExtendOp k) (u ∷ []) t a f h = wider_given k u t f.0 h
 given_formed AndOp (u ∷ w ∷ []) t a f h = truth_given _ t h
 given_formed OrOp (u ∷ w ∷ []) t a f h = truth_given _ t h
 given_formed EqOp (u ∷ w ∷ []) t a f h = truth_given _ t h
-given_formed BvultOp (u ∷ w ∷ []) t a f h = truth_given _ t h
-given_formed BvuleOp (u ∷ w ∷ []) t a f h = truth_given _ t h
-given_formed BvsltOp (u ∷ w ∷ []) t a f h = truth_given _ t h
-given_formed BvsleOp (u ∷ w ∷ []) t a f h = truth_given _ t h
-given_formed BvsaddoOp (u ∷ w ∷ []) t a f h = truth_given _ t h
-given_formed BvssuboOp (u ∷ w ∷ []) t a f h = truth_given _ t h
-given_formed BvsmuloOp (u ∷ w ∷ []) t a f h = truth_given _ t h
-given_formed BvaddOp (u ∷ w ∷ []) t a f h = same_given _ u t f.0 h
-given_formed BvsubOp (u ∷ w ∷ []) t a f h = same_given _ u t f.0 h
-given_formed BvmulOp (u ∷ w ∷ []) t a f h = same_given _ u t f.0 h
-given_formed BvudivOp (u ∷ w ∷ []) t a f h = same_given _ u t f.0 h
-given_formed BvuremOp (u ∷ w ∷ []) t a f h = same_given _ u t f.0 h
-given_formed BvsdivOp (u ∷ w ∷ []) t a f h = same_given _ u t f.0 h
-given_formed BvsremOp (u ∷ w ∷ []) t a f h = same_given _ u t f.0 h
-given_formed BvsmodOp (u ∷ w ∷ []) t a f h = same_given _ u t f.0 h
-given_formed BvshlOp (u ∷ w ∷ []) t a f h = same_given _ u t f.0 h
-given_formed BvlshrOp (u ∷ w ∷ []) t a f h = same_given _ u t f.0 h
+given_formed (BitsOp o) (u ∷ w ∷ []) t a f h = same_given _ u t f.0 h
+given_formed (TestOp o) (u ∷ w ∷ []) t a f h = truth_given _ t h
+given_formed (OverflowOp o) (u ∷ w ∷ []) t a f h = truth_given _ t h
 given_formed IteOp (g ∷ u ∷ w ∷ []) t a f h = same_given _ u t f.1.0 h
 given_formed o us t a f h = absurd (cc)
 

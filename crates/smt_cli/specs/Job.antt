@@ -13,7 +13,8 @@ use Rattle.smt_ext.specs.Digits.{is_numeral, decimal_number, signed_number}
 use Rattle.smt_folding.specs.Applications.{false_term, true_term}
 use Rattle.smt_folding.specs.Built.{built}
 use Rattle.smt_meaning.specs.Names.{op_name}
-use Rattle.smt_meaning.specs.Plain.{PlainType, BitVecType, BoolType, PlainOp, AndOp, BvaddOp, BvlshrOp, BvmulOp, BvnegOp, BvnegoOp, BvsaddoOp, BvsdivOp, BvshlOp, BvsleOp, BvsltOp, BvsmodOp, BvsmuloOp, BvsremOp, BvssuboOp, BvsubOp, BvudivOp, BvuleOp, BvultOp, BvuremOp, EqOp, IteOp, NotOp, OrOp, ZeroExtendOp, BitVecLiteral, PlainTerm, Application, LiteralTerm, VariableTerm, terms}
+use Rattle.smt_arithmetic.specs.BitOperators.{bits_operators, test_operators, overflow_operators}
+use Rattle.smt_meaning.specs.Plain.{PlainType, BitVecType, BoolType, PlainOp, AndOp, BvnegOp, BvnegoOp, EqOp, IteOp, NotOp, OrOp, ZeroExtendOp, BitVecLiteral, PlainTerm, Application, LiteralTerm, VariableTerm, terms, BitsOp, TestOp, OverflowOp}
 use Rattle.smt_meaning.specs.Types.{result_type, type_eq, type_of}
 use Rattle.smt_meaning.specs.TypeValues.{Enums}
 use Rattle.smt_lexicon.specs.Lexicon.{Name, Number, Text}
@@ -128,12 +129,8 @@ long_stated es = sole es >>= long_of_text
 -- the operators that jobs call by their names alone: all but the extension, whose number stands before its operand
 abbrev pub job_operators : List PlainOp
 job_operators =
-    NotOp ∷ AndOp ∷ OrOp ∷ EqOp ∷ IteOp
-    ∷ BvnegOp ∷ BvaddOp ∷ BvsubOp ∷ BvmulOp
-    ∷ BvudivOp ∷ BvuremOp ∷ BvsdivOp ∷ BvsremOp ∷ BvsmodOp
-    ∷ BvshlOp ∷ BvlshrOp
-    ∷ BvultOp ∷ BvuleOp ∷ BvsltOp ∷ BvsleOp
-    ∷ BvnegoOp ∷ BvsaddoOp ∷ BvssuboOp ∷ BvsmuloOp ∷ []
+    NotOp ∷ AndOp ∷ OrOp ∷ EqOp ∷ IteOp ∷ BvnegOp ∷ BvnegoOp
+    ∷ map BitsOp bits_operators ++ (map TestOp test_operators ++ map OverflowOp overflow_operators)
 
 -- each operator has in jobs the name that terms have for it
 abbrev pub named_operators : List (List ℕ × PlainOp)

@@ -8,7 +8,7 @@ use Rattle.smt_bits.specs.BitVec.{number_of, width_of}
 use Rattle.smt_bits.specs.declared.bitvec.BitVec.{BitVec}
 use Rattle.smt_bits.specs.declared.error.BitVecError.{BitVecError}
 use Rattle.smt_folding.specs.Applications.{bits_literal, bits_of_two, test_of_two}
-use Rattle.smt_folding.specs.FoldBits.{folded_test}
+use Rattle.smt_folding.specs.FoldBits.{folded_test_by}
 use Rattle.smt_factory.specs.FoldBy.{literal_of, NotTwoLiterals, IsFoldedBy, IsValue, AnswersValues, value_at}
 use Rattle.smt_folding.specs.Refinement.{Refines}
 use Rattle.smt_folding.proofs.BitsStand.{literal_standing, bits_formed, bits_answered}
@@ -19,7 +19,7 @@ use Rattle.smt_meaning.specs.Tables.{Interpretation}
 use Rattle.smt_meaning.specs.Types.{bits_and_bits, is_type, result_type, type_eq}
 use Rattle.smt_meaning.specs.Typing.{typed}
 use Rattle.smt_meaning.proofs.TypeOrder.{eq_same}
-use Rattle.smt_meaning.specs.Plain.{BitVecType, BoolType, PlainOp, BvaddOp, BvlshrOp, BvmulOp, BvsaddoOp, BvsdivOp, BvshlOp, BvsleOp, BvsltOp, BvsmodOp, BvsmuloOp, BvsremOp, BvssuboOp, BvsubOp, BvudivOp, BvuleOp, BvultOp, BvuremOp, EqOp, BitVecLiteral, PlainTerm, LiteralTerm}
+use Rattle.smt_meaning.specs.Plain.{BitVecType, BoolType, PlainOp, EqOp, BitVecLiteral, PlainTerm, LiteralTerm, BitsOp, TestOp, OverflowOp}
 use Rattle.smt_meaning.specs.Values.{Value, BitVecValue}
 
 -- ---- typed applications from bits to bits have arguments of one width
@@ -31,24 +31,10 @@ no_truth : (b : Bool) (n m : ℕ) → is_type (then_some b BoolType) (BitVecType
 no_truth b n m h = let e : BoolType ≡ BitVecType n = (chosen_type b BoolType (BitVecType n) h).1 in cc
 
 widths_agree : (o : PlainOp) (n m : ℕ) → is_type (result_type o (BitVecType n ∷ BitVecType m ∷ [])) (BitVecType n) ≡ true → n ≡ m
-widths_agree BvaddOp n m h = one_width n m h
-widths_agree BvsubOp n m h = one_width n m h
-widths_agree BvmulOp n m h = one_width n m h
-widths_agree BvudivOp n m h = one_width n m h
-widths_agree BvuremOp n m h = one_width n m h
-widths_agree BvsdivOp n m h = one_width n m h
-widths_agree BvsremOp n m h = one_width n m h
-widths_agree BvsmodOp n m h = one_width n m h
-widths_agree BvshlOp n m h = one_width n m h
-widths_agree BvlshrOp n m h = one_width n m h
+widths_agree (BitsOp o) n m h = one_width n m h
+widths_agree (TestOp o) n m h = no_truth (bits_and_bits (BitVecType n) (BitVecType m)) n m h
+widths_agree (OverflowOp o) n m h = no_truth (bits_and_bits (BitVecType n) (BitVecType m)) n m h
 widths_agree EqOp n m h = no_truth (type_eq (BitVecType n) (BitVecType m)) n m h
-widths_agree BvultOp n m h = no_truth (bits_and_bits (BitVecType n) (BitVecType m)) n m h
-widths_agree BvuleOp n m h = no_truth (bits_and_bits (BitVecType n) (BitVecType m)) n m h
-widths_agree BvsltOp n m h = no_truth (bits_and_bits (BitVecType n) (BitVecType m)) n m h
-widths_agree BvsleOp n m h = no_truth (bits_and_bits (BitVecType n) (BitVecType m)) n m h
-widths_agree BvsaddoOp n m h = no_truth (bits_and_bits (BitVecType n) (BitVecType m)) n m h
-widths_agree BvssuboOp n m h = no_truth (bits_and_bits (BitVecType n) (BitVecType m)) n m h
-widths_agree BvsmuloOp n m h = no_truth (bits_and_bits (BitVecType n) (BitVecType m)) n m h
 widths_agree o n m h = cc
 
 -- ---- an answer in place of an application
@@ -91,7 +77,7 @@ stands_by answers o t u r v (inr (w, e)) = let P : PlainTerm → Type 0 = λ x. 
 
 -- ---- a test at what is no two literals
 
-pub no_test : (o : PlainOp) (f : ℕ → ℕ → ℕ → Bool) (t u : PlainTerm) → NotTwoLiterals t u → folded_test o f t u ≡ test_of_two o t u
+pub no_test : (o : PlainOp) (f : ℕ → ℕ → ℕ → Bool) (t u : PlainTerm) → NotTwoLiterals t u → folded_test_by o f t u ≡ test_of_two o t u
 no_test o f (LiteralTerm (BitVecLiteral n a)) (LiteralTerm (BitVecLiteral m b)) (inl e) = cc
 no_test o f (LiteralTerm (BitVecLiteral n a)) (LiteralTerm (BitVecLiteral m b)) (inr e) = cc
 no_test o f (LiteralTerm (BitVecLiteral n a)) u e = refl

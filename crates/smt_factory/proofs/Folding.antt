@@ -1,18 +1,18 @@
 -- What the code's tests decide, in the words of the foldings.
 use Rattle.std.proofs.Common.{◌≡◌, ℕ, ◌+◌, ◌%◌, ◌^◌, ◌<◌, true, false, None, Some, refl, ap, ◌∙◌, sym, subst}
 use Rattle.std.proofs.Math.Nat.{mod-eq_of_lt}
-use Rattle.smt_arithmetic.specs.BitVectors as bits
+use Rattle.smt_arithmetic.specs.BitOperators.{OverflowOperator}
 use Rattle.smt_arithmetic.proofs.BitRanges as ranges
 use Rattle.smt_folding.specs.Applications.{false_term, not_of, and_of, or_of, eq_of, ite_of, bvneg_of, bvnego_of, test_of_two, zero_extend_of}
-use Rattle.smt_folding.specs.FoldBits.{folded_bvneg, folded_bvnego, folded_zero_extend, folded_bvsaddo, folded_bvssubo, folded_bvsmulo}
+use Rattle.smt_folding.specs.FoldBits.{folded_bvneg, folded_bvnego, folded_overflow, folded_zero_extend}
 use Rattle.smt_folding.specs.FoldConnectives.{folded_not, is_negation, folded_and, folded_or}
 use Rattle.smt_folding.specs.FoldEquality.{folded_eq, folded_eq_inside, folded_ite, folded_ite_inside}
 use Rattle.smt_folding.specs.Parts.{are_some, are_some_and_none, held, is_none_term, negated}
 use Rattle.smt_folding.specs.Refinement.{Refines}
-use Rattle.smt_folding.proofs.BitsStand.{stands_bvneg, stands_bvnego, stands_test, stands_zero_extend}
+use Rattle.smt_folding.proofs.BitsStand.{stands_bvneg, stands_bvnego, stands_overflow, stands_zero_extend}
 use Rattle.smt_folding.proofs.ConnectivesStand.{stands_not, stands_and, stands_or}
 use Rattle.smt_folding.proofs.EqualityStands.{stands_eq, stands_ite}
-use Rattle.smt_meaning.specs.Plain.{BvsaddoOp, BvsmuloOp, BvssuboOp, NotOp, PlainTerm, Application, NoneTerm, SomeTerm, no_terms, one_term}
+use Rattle.smt_meaning.specs.Plain.{NotOp, PlainTerm, Application, NoneTerm, SomeTerm, no_terms, one_term, OverflowOp}
 use Rattle.smt_meaning.specs.TermOrder.{term_eq}
 use Rattle.smt_term.specs.View.{views, plain_term-App, plain_type-Option, plain_type-Bitvec, plain_type-Bool, plain_type-String, plain_type-Set}
 use Rattle.smt_term.proofs.DerivedEquality.{eq-is}
@@ -99,14 +99,8 @@ stands_for_bvnego r t e = subst (λ (x : PlainTerm). Refines x (bvnego_of t)) (s
 pub stands_for_zero_extend : (r : PlainTerm) (k : ℕ) (t : PlainTerm) → r ≡ folded_zero_extend k t → Refines r (zero_extend_of k t)
 stands_for_zero_extend r k t e = subst (λ (x : PlainTerm). Refines x (zero_extend_of k t)) (sym e) (stands_zero_extend k t)
 
-pub stands_for_bvsaddo : (r t u : PlainTerm) → r ≡ folded_bvsaddo t u → Refines r (test_of_two BvsaddoOp t u)
-stands_for_bvsaddo r t u e = subst (λ (x : PlainTerm). Refines x (test_of_two BvsaddoOp t u)) (sym e) (stands_test BvsaddoOp bits.bvsaddo (λ I v w. refl) t u)
-
-pub stands_for_bvssubo : (r t u : PlainTerm) → r ≡ folded_bvssubo t u → Refines r (test_of_two BvssuboOp t u)
-stands_for_bvssubo r t u e = subst (λ (x : PlainTerm). Refines x (test_of_two BvssuboOp t u)) (sym e) (stands_test BvssuboOp bits.bvssubo (λ I v w. refl) t u)
-
-pub stands_for_bvsmulo : (r t u : PlainTerm) → r ≡ folded_bvsmulo t u → Refines r (test_of_two BvsmuloOp t u)
-stands_for_bvsmulo r t u e = subst (λ (x : PlainTerm). Refines x (test_of_two BvsmuloOp t u)) (sym e) (stands_test BvsmuloOp bits.bvsmulo (λ I v w. refl) t u)
+pub stands_for_overflow : (o : OverflowOperator) (r t u : PlainTerm) → r ≡ folded_overflow o t u → Refines r (test_of_two (OverflowOp o) t u)
+stands_for_overflow o r t u e = subst (λ (x : PlainTerm). Refines x (test_of_two (OverflowOp o) t u)) (sym e) (stands_overflow o t u)
 
 -- ---- more places
 

@@ -4,13 +4,14 @@ ghost use Rattle.std.specs.Prelude.{◌≡◌, ◌+◌, ◌≤◌, IfOk, IfSome,
 ghost use Rattle.smt_bits.specs.BitVec.{number_of, width_of};
 ghost use Rattle.smt_bits.specs.Width.{bits_in};
 ghost use Rattle.smt_folding.specs.Applications.{bits_of_two, bvneg_of, zero_extend_of};
-ghost use Rattle.smt_folding.specs.FoldBits.{folded_bvadd, folded_bvlshr, folded_bvmul, folded_bvneg, folded_bvsdiv, folded_bvshl, folded_bvsmod, folded_bvsrem, folded_bvsub, folded_bvudiv, folded_bvurem, folded_zero_extend};
+ghost use Rattle.smt_folding.specs.FoldBits.{folded_bits, folded_bvneg, folded_zero_extend};
 ghost use Rattle.smt_factory.specs.FoldBy.{AnswersValues, IsFoldedBy};
 ghost use Rattle.smt_folding.specs.Parts.{negated_bits};
 ghost use Rattle.smt_folding.specs.Refinement.{Refines};
-ghost use Rattle.smt_meaning.specs.Plain.{BvaddOp, BvlshrOp, BvmulOp, BvsdivOp, BvshlOp, BvsmodOp, BvsremOp, BvsubOp, BvudivOp, BvuremOp};
+ghost use Rattle.smt_meaning.specs.Plain.{BitsOp};
 ghost use Rattle.smt_meaning.specs.Types.{type_of, width_in};
 ghost use Rattle.smt_term.specs.View.{plain_op, plain_term};
+ghost use Rattle.smt_arithmetic.specs.BitOperators.{BvaddOp, BvlshrOp, BvmulOp, BvsdivOp, BvshlOp, BvsmodOp, BvsremOp, BvsubOp, BvudivOp, BvuremOp};
 
 use crate::application::application;
 use crate::parts::{answer, bits_inside, only_one};
@@ -93,8 +94,8 @@ fn negated_bits(t: &Term) -> Option<&Term>
 /// # Errors
 /// `Memory`, where there is none for the term.
 pub fn bvadd(alloc: Global, t1: Term, t2: Term) -> Result<Term, TermError>
-    ensures folded { IfOk result (λ r. plain_term r ≡ folded_bvadd (plain_term t1) (plain_term t2)) }
-    ensures refines { IfOk result (λ r. Refines (plain_term r) (bits_of_two BvaddOp (plain_term t1) (plain_term t2))) }
+    ensures folded { IfOk result (λ r. plain_term r ≡ folded_bits BvaddOp (plain_term t1) (plain_term t2)) }
+    ensures refines { IfOk result (λ r. Refines (plain_term r) (bits_of_two (BitsOp BvaddOp) (plain_term t1) (plain_term t2))) }
 {
     bvapp(alloc, Op::Bvadd, &BitVec::add, t1, t2)
 }
@@ -104,8 +105,8 @@ pub fn bvadd(alloc: Global, t1: Term, t2: Term) -> Result<Term, TermError>
 /// # Errors
 /// `Memory`, where there is none for the term.
 pub fn bvsub(alloc: Global, t1: Term, t2: Term) -> Result<Term, TermError>
-    ensures folded { IfOk result (λ r. plain_term r ≡ folded_bvsub (plain_term t1) (plain_term t2)) }
-    ensures refines { IfOk result (λ r. Refines (plain_term r) (bits_of_two BvsubOp (plain_term t1) (plain_term t2))) }
+    ensures folded { IfOk result (λ r. plain_term r ≡ folded_bits BvsubOp (plain_term t1) (plain_term t2)) }
+    ensures refines { IfOk result (λ r. Refines (plain_term r) (bits_of_two (BitsOp BvsubOp) (plain_term t1) (plain_term t2))) }
 {
     bvapp(alloc, Op::Bvsub, &BitVec::sub, t1, t2)
 }
@@ -115,8 +116,8 @@ pub fn bvsub(alloc: Global, t1: Term, t2: Term) -> Result<Term, TermError>
 /// # Errors
 /// `Memory`, where there is none for the term.
 pub fn bvmul(alloc: Global, t1: Term, t2: Term) -> Result<Term, TermError>
-    ensures folded { IfOk result (λ r. plain_term r ≡ folded_bvmul (plain_term t1) (plain_term t2)) }
-    ensures refines { IfOk result (λ r. Refines (plain_term r) (bits_of_two BvmulOp (plain_term t1) (plain_term t2))) }
+    ensures folded { IfOk result (λ r. plain_term r ≡ folded_bits BvmulOp (plain_term t1) (plain_term t2)) }
+    ensures refines { IfOk result (λ r. Refines (plain_term r) (bits_of_two (BitsOp BvmulOp) (plain_term t1) (plain_term t2))) }
 {
     bvapp(alloc, Op::Bvmul, &BitVec::mul, t1, t2)
 }
@@ -126,8 +127,8 @@ pub fn bvmul(alloc: Global, t1: Term, t2: Term) -> Result<Term, TermError>
 /// # Errors
 /// `Memory`, where there is none for the term.
 pub fn bvsdiv(alloc: Global, t1: Term, t2: Term) -> Result<Term, TermError>
-    ensures folded { IfOk result (λ r. plain_term r ≡ folded_bvsdiv (plain_term t1) (plain_term t2)) }
-    ensures refines { IfOk result (λ r. Refines (plain_term r) (bits_of_two BvsdivOp (plain_term t1) (plain_term t2))) }
+    ensures folded { IfOk result (λ r. plain_term r ≡ folded_bits BvsdivOp (plain_term t1) (plain_term t2)) }
+    ensures refines { IfOk result (λ r. Refines (plain_term r) (bits_of_two (BitsOp BvsdivOp) (plain_term t1) (plain_term t2))) }
 {
     bvapp(alloc, Op::Bvsdiv, &BitVec::sdiv, t1, t2)
 }
@@ -137,8 +138,8 @@ pub fn bvsdiv(alloc: Global, t1: Term, t2: Term) -> Result<Term, TermError>
 /// # Errors
 /// `Memory`, where there is none for the term.
 pub fn bvudiv(alloc: Global, t1: Term, t2: Term) -> Result<Term, TermError>
-    ensures folded { IfOk result (λ r. plain_term r ≡ folded_bvudiv (plain_term t1) (plain_term t2)) }
-    ensures refines { IfOk result (λ r. Refines (plain_term r) (bits_of_two BvudivOp (plain_term t1) (plain_term t2))) }
+    ensures folded { IfOk result (λ r. plain_term r ≡ folded_bits BvudivOp (plain_term t1) (plain_term t2)) }
+    ensures refines { IfOk result (λ r. Refines (plain_term r) (bits_of_two (BitsOp BvudivOp) (plain_term t1) (plain_term t2))) }
 {
     bvapp(alloc, Op::Bvudiv, &BitVec::udiv, t1, t2)
 }
@@ -148,8 +149,8 @@ pub fn bvudiv(alloc: Global, t1: Term, t2: Term) -> Result<Term, TermError>
 /// # Errors
 /// `Memory`, where there is none for the term.
 pub fn bvsrem(alloc: Global, t1: Term, t2: Term) -> Result<Term, TermError>
-    ensures folded { IfOk result (λ r. plain_term r ≡ folded_bvsrem (plain_term t1) (plain_term t2)) }
-    ensures refines { IfOk result (λ r. Refines (plain_term r) (bits_of_two BvsremOp (plain_term t1) (plain_term t2))) }
+    ensures folded { IfOk result (λ r. plain_term r ≡ folded_bits BvsremOp (plain_term t1) (plain_term t2)) }
+    ensures refines { IfOk result (λ r. Refines (plain_term r) (bits_of_two (BitsOp BvsremOp) (plain_term t1) (plain_term t2))) }
 {
     bvapp(alloc, Op::Bvsrem, &BitVec::srem, t1, t2)
 }
@@ -159,8 +160,8 @@ pub fn bvsrem(alloc: Global, t1: Term, t2: Term) -> Result<Term, TermError>
 /// # Errors
 /// `Memory`, where there is none for the term.
 pub fn bvsmod(alloc: Global, t1: Term, t2: Term) -> Result<Term, TermError>
-    ensures folded { IfOk result (λ r. plain_term r ≡ folded_bvsmod (plain_term t1) (plain_term t2)) }
-    ensures refines { IfOk result (λ r. Refines (plain_term r) (bits_of_two BvsmodOp (plain_term t1) (plain_term t2))) }
+    ensures folded { IfOk result (λ r. plain_term r ≡ folded_bits BvsmodOp (plain_term t1) (plain_term t2)) }
+    ensures refines { IfOk result (λ r. Refines (plain_term r) (bits_of_two (BitsOp BvsmodOp) (plain_term t1) (plain_term t2))) }
 {
     bvapp(alloc, Op::Bvsmod, &BitVec::smod, t1, t2)
 }
@@ -170,8 +171,8 @@ pub fn bvsmod(alloc: Global, t1: Term, t2: Term) -> Result<Term, TermError>
 /// # Errors
 /// `Memory`, where there is none for the term.
 pub fn bvurem(alloc: Global, t1: Term, t2: Term) -> Result<Term, TermError>
-    ensures folded { IfOk result (λ r. plain_term r ≡ folded_bvurem (plain_term t1) (plain_term t2)) }
-    ensures refines { IfOk result (λ r. Refines (plain_term r) (bits_of_two BvuremOp (plain_term t1) (plain_term t2))) }
+    ensures folded { IfOk result (λ r. plain_term r ≡ folded_bits BvuremOp (plain_term t1) (plain_term t2)) }
+    ensures refines { IfOk result (λ r. Refines (plain_term r) (bits_of_two (BitsOp BvuremOp) (plain_term t1) (plain_term t2))) }
 {
     bvapp(alloc, Op::Bvurem, &BitVec::urem, t1, t2)
 }
@@ -181,8 +182,8 @@ pub fn bvurem(alloc: Global, t1: Term, t2: Term) -> Result<Term, TermError>
 /// # Errors
 /// `Memory`, where there is none for the term.
 pub fn bvshl(alloc: Global, t1: Term, t2: Term) -> Result<Term, TermError>
-    ensures folded { IfOk result (λ r. plain_term r ≡ folded_bvshl (plain_term t1) (plain_term t2)) }
-    ensures refines { IfOk result (λ r. Refines (plain_term r) (bits_of_two BvshlOp (plain_term t1) (plain_term t2))) }
+    ensures folded { IfOk result (λ r. plain_term r ≡ folded_bits BvshlOp (plain_term t1) (plain_term t2)) }
+    ensures refines { IfOk result (λ r. Refines (plain_term r) (bits_of_two (BitsOp BvshlOp) (plain_term t1) (plain_term t2))) }
 {
     bvapp(alloc, Op::Bvshl, &BitVec::shl, t1, t2)
 }
@@ -192,8 +193,8 @@ pub fn bvshl(alloc: Global, t1: Term, t2: Term) -> Result<Term, TermError>
 /// # Errors
 /// `Memory`, where there is none for the term.
 pub fn bvlshr(alloc: Global, t1: Term, t2: Term) -> Result<Term, TermError>
-    ensures folded { IfOk result (λ r. plain_term r ≡ folded_bvlshr (plain_term t1) (plain_term t2)) }
-    ensures refines { IfOk result (λ r. Refines (plain_term r) (bits_of_two BvlshrOp (plain_term t1) (plain_term t2))) }
+    ensures folded { IfOk result (λ r. plain_term r ≡ folded_bits BvlshrOp (plain_term t1) (plain_term t2)) }
+    ensures refines { IfOk result (λ r. Refines (plain_term r) (bits_of_two (BitsOp BvlshrOp) (plain_term t1) (plain_term t2))) }
 {
     bvapp(alloc, Op::Bvlshr, &BitVec::lshr, t1, t2)
 }

@@ -2,11 +2,12 @@
 ghost use Rattle.std.specs.Fn.{FnReturnsAtPair};
 ghost use Rattle.std.specs.Prelude.{◌≡◌, IfOk};
 ghost use Rattle.smt_folding.specs.Applications.{test_of_two};
-ghost use Rattle.smt_folding.specs.FoldBits.{folded_bvsle, folded_bvslt, folded_bvule, folded_bvult};
+ghost use Rattle.smt_folding.specs.FoldBits.{folded_test};
 ghost use Rattle.smt_factory.specs.FoldBy.{IsTestedBy};
 ghost use Rattle.smt_folding.specs.Refinement.{Refines};
-ghost use Rattle.smt_meaning.specs.Plain.{BvsleOp, BvsltOp, BvuleOp, BvultOp};
+ghost use Rattle.smt_meaning.specs.Plain.{TestOp};
 ghost use Rattle.smt_term.specs.View.{plain_op, plain_term};
+ghost use Rattle.smt_arithmetic.specs.BitOperators.{BvsleOp, BvsltOp, BvuleOp, BvultOp};
 
 use crate::application::truth_application;
 use crate::parts::answer;
@@ -32,8 +33,8 @@ where
 /// # Errors
 /// `Memory`, where there is none for the term.
 pub fn bvslt(alloc: Global, t1: Term, t2: Term) -> Result<Term, TermError>
-    ensures folded { IfOk result (λ r. plain_term r ≡ folded_bvslt (plain_term t1) (plain_term t2)) }
-    ensures refines { IfOk result (λ r. Refines (plain_term r) (test_of_two BvsltOp (plain_term t1) (plain_term t2))) }
+    ensures folded { IfOk result (λ r. plain_term r ≡ folded_test BvsltOp (plain_term t1) (plain_term t2)) }
+    ensures refines { IfOk result (λ r. Refines (plain_term r) (test_of_two (TestOp BvsltOp) (plain_term t1) (plain_term t2))) }
 {
     test(alloc, Op::Bvslt, &BitVec::slt, t1, t2)
 }
@@ -43,8 +44,8 @@ pub fn bvslt(alloc: Global, t1: Term, t2: Term) -> Result<Term, TermError>
 /// # Errors
 /// `Memory`, where there is none for the term.
 pub fn bvsle(alloc: Global, t1: Term, t2: Term) -> Result<Term, TermError>
-    ensures folded { IfOk result (λ r. plain_term r ≡ folded_bvsle (plain_term t1) (plain_term t2)) }
-    ensures refines { IfOk result (λ r. Refines (plain_term r) (test_of_two BvsleOp (plain_term t1) (plain_term t2))) }
+    ensures folded { IfOk result (λ r. plain_term r ≡ folded_test BvsleOp (plain_term t1) (plain_term t2)) }
+    ensures refines { IfOk result (λ r. Refines (plain_term r) (test_of_two (TestOp BvsleOp) (plain_term t1) (plain_term t2))) }
 {
     test(alloc, Op::Bvsle, &BitVec::sle, t1, t2)
 }
@@ -54,8 +55,8 @@ pub fn bvsle(alloc: Global, t1: Term, t2: Term) -> Result<Term, TermError>
 /// # Errors
 /// `Memory`, where there is none for the term.
 pub fn bvult(alloc: Global, t1: Term, t2: Term) -> Result<Term, TermError>
-    ensures folded { IfOk result (λ r. plain_term r ≡ folded_bvult (plain_term t1) (plain_term t2)) }
-    ensures refines { IfOk result (λ r. Refines (plain_term r) (test_of_two BvultOp (plain_term t1) (plain_term t2))) }
+    ensures folded { IfOk result (λ r. plain_term r ≡ folded_test BvultOp (plain_term t1) (plain_term t2)) }
+    ensures refines { IfOk result (λ r. Refines (plain_term r) (test_of_two (TestOp BvultOp) (plain_term t1) (plain_term t2))) }
 {
     test(alloc, Op::Bvult, &BitVec::ult, t1, t2)
 }
@@ -65,8 +66,8 @@ pub fn bvult(alloc: Global, t1: Term, t2: Term) -> Result<Term, TermError>
 /// # Errors
 /// `Memory`, where there is none for the term.
 pub fn bvule(alloc: Global, t1: Term, t2: Term) -> Result<Term, TermError>
-    ensures folded { IfOk result (λ r. plain_term r ≡ folded_bvule (plain_term t1) (plain_term t2)) }
-    ensures refines { IfOk result (λ r. Refines (plain_term r) (test_of_two BvuleOp (plain_term t1) (plain_term t2))) }
+    ensures folded { IfOk result (λ r. plain_term r ≡ folded_test BvuleOp (plain_term t1) (plain_term t2)) }
+    ensures refines { IfOk result (λ r. Refines (plain_term r) (test_of_two (TestOp BvuleOp) (plain_term t1) (plain_term t2))) }
 {
     test(alloc, Op::Bvule, &BitVec::ule, t1, t2)
 }

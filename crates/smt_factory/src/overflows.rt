@@ -3,12 +3,13 @@ ghost use Rattle.std.specs.Fn.{FnReturnsAtPair};
 ghost use Rattle.std.specs.Prelude.{◌≡◌, ◌⊎◌, ◌+ℤ◌, ◌-ℤ◌, ◌*ℤ◌, FitsSigned, IfOk, MatchOption, SomeIff};
 ghost use Rattle.std.specs.Int.{w128};
 ghost use Rattle.smt_folding.specs.Applications.{bvnego_of, test_of_two};
-ghost use Rattle.smt_folding.specs.FoldBits.{folded_bvnego, folded_bvsaddo, folded_bvsmulo, folded_bvssubo};
+ghost use Rattle.smt_folding.specs.FoldBits.{folded_bvnego, folded_overflow};
 ghost use Rattle.smt_factory.specs.FoldBy.{IsOverflowBy, LeavesAt, NotTwoLiterals, OfTwoWidths, TellsOverflow, leaves};
 ghost use Rattle.smt_folding.specs.Refinement.{Refines};
 ghost use Rattle.smt_bits.specs.Width.{bits_in};
-ghost use Rattle.smt_meaning.specs.Plain.{BvsaddoOp, BvsmuloOp, BvssuboOp};
+ghost use Rattle.smt_meaning.specs.Plain.{OverflowOp};
 ghost use Rattle.smt_term.specs.View.{plain_op, plain_term};
+ghost use Rattle.smt_arithmetic.specs.BitOperators.{BvsaddoOp, BvsmuloOp, BvssuboOp};
 
 use crate::application::truth_application;
 use crate::parts::bits_inside;
@@ -97,8 +98,8 @@ fn leaves(width: Width, answer: Option<Int>) -> bool
 /// # Errors
 /// `Memory`, where there is none for the term.
 pub fn bvsaddo(alloc: Global, t1: Term, t2: Term) -> Result<Term, TermError>
-    ensures folded { IfOk result (λ r. plain_term r ≡ folded_bvsaddo (plain_term t1) (plain_term t2)) }
-    ensures refines { IfOk result (λ r. Refines (plain_term r) (test_of_two BvsaddoOp (plain_term t1) (plain_term t2))) }
+    ensures folded { IfOk result (λ r. plain_term r ≡ folded_overflow BvsaddoOp (plain_term t1) (plain_term t2)) }
+    ensures refines { IfOk result (λ r. Refines (plain_term r) (test_of_two (OverflowOp BvsaddoOp) (plain_term t1) (plain_term t2))) }
 {
     bvso(alloc, Op::Bvsaddo, &exact_sum, t1, t2)
 }
@@ -115,8 +116,8 @@ fn exact_sum(lhs: &Int, rhs: &Int) -> Option<Int>
 /// # Errors
 /// `Memory`, where there is none for the term.
 pub fn bvssubo(alloc: Global, t1: Term, t2: Term) -> Result<Term, TermError>
-    ensures folded { IfOk result (λ r. plain_term r ≡ folded_bvssubo (plain_term t1) (plain_term t2)) }
-    ensures refines { IfOk result (λ r. Refines (plain_term r) (test_of_two BvssuboOp (plain_term t1) (plain_term t2))) }
+    ensures folded { IfOk result (λ r. plain_term r ≡ folded_overflow BvssuboOp (plain_term t1) (plain_term t2)) }
+    ensures refines { IfOk result (λ r. Refines (plain_term r) (test_of_two (OverflowOp BvssuboOp) (plain_term t1) (plain_term t2))) }
 {
     bvso(alloc, Op::Bvssubo, &exact_difference, t1, t2)
 }
@@ -133,8 +134,8 @@ fn exact_difference(lhs: &Int, rhs: &Int) -> Option<Int>
 /// # Errors
 /// `Memory`, where there is none for the term.
 pub fn bvsmulo(alloc: Global, t1: Term, t2: Term) -> Result<Term, TermError>
-    ensures folded { IfOk result (λ r. plain_term r ≡ folded_bvsmulo (plain_term t1) (plain_term t2)) }
-    ensures refines { IfOk result (λ r. Refines (plain_term r) (test_of_two BvsmuloOp (plain_term t1) (plain_term t2))) }
+    ensures folded { IfOk result (λ r. plain_term r ≡ folded_overflow BvsmuloOp (plain_term t1) (plain_term t2)) }
+    ensures refines { IfOk result (λ r. Refines (plain_term r) (test_of_two (OverflowOp BvsmuloOp) (plain_term t1) (plain_term t2))) }
 {
     bvso(alloc, Op::Bvsmulo, &exact_product, t1, t2)
 }
