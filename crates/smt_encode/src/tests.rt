@@ -246,6 +246,14 @@ fn encodes_once(alloc: Global) -> Result<bool, Fail> {
     Ok(spent && named && is_script(sink.bytes(), NOT_B))
 }
 
+/// The sink of an encoder of its own that has encoded these terms. On an error the encoder is dropped with its sink.
+fn encoded(alloc: Global, terms: &[Term]) -> Result<MemorySink, Fail> {
+    let enums = EnumTable::new(alloc);
+    let mut encoder = Encoder::new(alloc, &enums, MemorySink::new(alloc, &[], 200)?);
+    encoder.encode(terms)?;
+    Ok(encoder.into_script())
+}
+
 /// Whether an encoder whose sink fails at the third put says so, is spent, and has put some of the script.
 fn is_spent_by_its_sink(alloc: Global) -> Result<bool, Fail> {
     let terms = terms(alloc, "b:Bool")?;
@@ -256,6 +264,15 @@ fn is_spent_by_its_sink(alloc: Global) -> Result<bool, Fail> {
     let sink = encoder.into_script();
     let begun = sink.bytes().len() < OPTION.len() && OPTION.as_bytes().starts_with(sink.bytes());
     Ok(failed && spent && begun)
+}
+
+#[test]
+fn an_encoder_is_dropped_at_an_error(rt: HostRuntime) -> Result<(), Fail> {
+    let alloc = rt.alloc();
+    let sink = encoded(alloc, terms(alloc, "b:Bool,not")?.as_slice())?;
+    assert!(rt; is_script(sink.bytes(), NOT_B));
+    assert!(rt; encoded(alloc, terms(alloc, "a\u{30000}:text,a:text,eq")?.as_slice()).is_err());
+    Ok(())
 }
 
 #[test]
