@@ -1,6 +1,6 @@
 -- The program's terms are conditions where they are typed as Booleans and have no fault: they are formed.
 use Rattle.std.proofs.Common.{◌≡◌, ℕ, List, [], ◌∷◌, ◌++◌, Option, Some, None, map, sym, ap, ◌∙◌, subst}
-use Rattle.std.specs.Prelude.{unwrap_or, Result, Ok, Err, OnOk}
+use Rattle.std.specs.Prelude.{unwrap_or}
 use Rattle.std.specs.Io.KnownBytes.{append_known}
 use Rattle.std.specs.List.{AllByRecursion}
 use Rattle.smt_term.specs.Enums.{enums_of}
@@ -39,8 +39,3 @@ pub received : {S : Type 0} (e : Encoder S) (enums : Enums) (ts : List PlainTerm
 received e enums ts s bytes before after put has h old new was is =
     let known : ◌≡◌ {A = Option (List ℕ)} (Some new) (Some (old ++ bytes)) = sym is ∙ put ∙ ap (λ (o : Option (List ℕ)). append_known o bytes) was in
     (bytes, ap (λ (o : Option (List ℕ)). unwrap_or o new) known, (s, has, h))
-
--- what follows from two facts of an answer
-pub on_ok_both : {T E A B C : Type 0} (r : Result T E) → (A → B → C) → OnOk r A → OnOk r B → OnOk r C
-on_ok_both (Ok x) f a b = f a b
-on_ok_both (Err e) f a b = tt

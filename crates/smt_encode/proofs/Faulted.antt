@@ -1,31 +1,68 @@
--- The first fault of a term whose type has one, of a list of terms, and in the answer of a whole walk.
-use Rattle.std.proofs.Common.{◌≡◌, Bool, true, false, List, [], ◌∷◌, refl, sym, ap, ◌∙◌, subst, Some, None, Ok, Err, Result}
-use Rattle.std.specs.Prelude.{IsErrOf, IsOkUnless, OnOk}
+-- Errors inside and the faults that they name: of an application's arguments, of a list of terms, and in the answer of a whole walk.
+use Rattle.std.proofs.Common.{◌≡◌, ℕ, Bool, false, List, [], ◌∷◌, refl, sym, ap, ◌∙◌, subst, None, Some, Ok, Err, Result}
+use Rattle.std.specs.Prelude.{IsErrOf, OnOk}
+use Rattle.std.specs.Result.{IsErrAnd}
 use Rattle.std.specs.Option.{option_or}
-use Rattle.smt_meaning.specs.Faults.{Fault, first_fault, is_passed_over, operator_fault, term_fault, terms_fault, type_fault, unless}
-use Rattle.smt_meaning.specs.Plain.{PlainType, BoolType, PlainOp, BvnegoOp, PlainTerm, PlainTerms, terms, Application}
-use Rattle.smt_meaning.specs.TypeValues.{Enums}
+use Rattle.std.specs.Rc.{rc_str_bytes}
+use Rattle.std.specs.declared.alloc.Global.{Global}
+use Rattle.std.specs.declared.rc.RcStr.{RcStr}
+use Rattle.smt_meaning.specs.Faults.{Fault, EncodeStringFailed, EncodePatternFailed, first_fault, is_passed_over, operator_fault, term_fault, terms_fault, type_fault, unless}
+use Rattle.smt_meaning.specs.Plain.{Application, BitVecType, BoolType, BvnegoOp, no_terms, one_term, PlainOp, PlainTerm, PlainTerms, PlainType, terms}
 use Rattle.smt_meaning.specs.Types.{type_of, types_of}
-use Rattle.smt_term.specs.View.{plain_op}
-use Rattle.smt_term.specs.declared.op.Op.{Op}
-use Rattle.smt_encode.specs.Refusals.{Finds, fault_of}
+use Rattle.smt_meaning.specs.TypeValues.{Enums}
+use Rattle.smt_lines.specs.Lines.{AsApplication, application_rendering, least_rendering}
+use Rattle.smt_script.specs.Sink.{Rose}
+use Rattle.smt_script.specs.declared.sink.SinkError.TheVariants.{Fault as Failed, Memory as NoRoom}
+use Rattle.smt_term.specs.PatternView.{plain_ord_pattern}
+use Rattle.smt_term.specs.declared.pattern.OrdPattern.{OrdPattern}
+use Rattle.smt_encode.specs.Errors.{encode_error}
+use Rattle.smt_encode.specs.Refusals.{write_fault, Finds, HasCause, IsComplete}
 use Rattle.smt_encode.specs.declared.error.EncodeError.{EncodeError}
-use Rattle.smt_encode.specs.declared.error.EncodeError.TheVariants.{Io, EncodeStringFailed, EncodePatternFailed, Spent, Memory}
+use Rattle.smt_encode.specs.declared.error.EncodeError.TheVariants.{Io, Spent, Memory, EncodeStringFailed as StringRefused, EncodePatternFailed as PatternRefused}
+use Rattle.smt_encode.specs.declared.error.TextError.TheVariants.{StringFailed, PatternFailed, Memory as NoMemory}
+use Rattle.smt_encode.specs.declared.error.WriteError.{WriteError}
+use Rattle.smt_encode.specs.declared.error.WriteError.TheVariants.{Sink, Text}
+
+-- ---- errors
+
+-- what Ok says, where the answer is Ok
+pub at_ok : {T E P : Type 0} (r : Result T E) (x : T) → r ≡ Ok x → OnOk r P → P
+at_ok {T} {E} {P} r x is h = subst (λ (q : Result T E). OnOk q P) is h
+
+-- the sink's fault alone is `Io`
+pub failed_is_io : (e : WriteError) → encode_error e ≡ Io → e ≡ Sink Failed
+failed_is_io (Sink Failed) is = refl
+failed_is_io (Sink NoRoom) is = absurd (cc)
+failed_is_io (Text (StringFailed s)) is = absurd (cc)
+failed_is_io (Text (PatternFailed p)) is = absurd (cc)
+failed_is_io (Text NoMemory) is = absurd (cc)
+
+-- what was begun does not say that it was spent
+pub never_spent : (e : WriteError) → encode_error e ≡ Spent → ⊥
+never_spent (Sink Failed) is = cc
+never_spent (Sink NoRoom) is = cc
+never_spent (Text (StringFailed s)) is = cc
+never_spent (Text (PatternFailed p)) is = cc
+never_spent (Text NoMemory) is = cc
+
+-- ---- terms
+
+-- what is written by its operator is not passed over
+is_entered : (o : PlainOp) (ts : PlainTerms) (type : PlainType) → AsApplication ≡ application_rendering o ts type → is_passed_over o (types_of ts) type ≡ false
+is_entered BvnegoOp (one_term t no_terms) BoolType how = absurd (other (type_of t) how)
+  where
+    other : (type : PlainType) → AsApplication ≡ least_rendering type → ⊥
+    other (BitVecType width) h = cc
+    other type h = cc
+is_entered o ts type how = refl
 
 module _ (enums : Enums) where
-  -- a test that is passed over is a Boolean, whose type has no fault
-  passed_type : (o : PlainOp) (ts : List PlainType) (type : PlainType) → is_passed_over o ts type ≡ true → type_fault enums type ≡ None
-  passed_type BvnegoOp (t ∷ []) BoolType h = refl
-  passed_type o ts type h = absurd (cc)
-
-  -- a fault of an application's type is the application's
-  pub sort_fault : (t : PlainTerm) (op : Op) (ts : PlainTerms) (type : PlainType) → t ≡ Application (plain_op op) ts type → (f : Fault) → type_fault enums (type_of t) ≡ Some f → term_fault enums t ≡ Some f
-  sort_fault t op ts type same f = subst (λ (u : PlainTerm). type_fault enums (type_of u) ≡ Some f → term_fault enums u ≡ Some f) (sym same) (here (is_passed_over (plain_op op) (types_of ts) type) refl)
-    where
-      here : (b : Bool) → is_passed_over (plain_op op) (types_of ts) type ≡ b → type_fault enums type ≡ Some f
-          → unless b (option_or (type_fault enums type) (option_or (terms_fault enums ts) (operator_fault enums (plain_op op) (types_of ts)))) ≡ Some f
-      here true passed h = sym (passed_type (plain_op op) (types_of ts) type passed) ∙ h
-      here false passed h = ap (λ o. option_or o (option_or (terms_fault enums ts) (operator_fault enums (plain_op op) (types_of ts)))) h
+  -- a fault of the arguments is the application's
+  pub arguments_fault : (o : PlainOp) (ts : PlainTerms) (type : PlainType) → AsApplication ≡ application_rendering o ts type → type_fault enums type ≡ None → (f : Fault) → terms_fault enums ts ≡ Some f → term_fault enums (Application o ts type) ≡ Some f
+  arguments_fault o ts type how none f h =
+      ap (λ b. unless b (option_or (type_fault enums type) (option_or (terms_fault enums ts) (operator_fault enums o (types_of ts))))) (is_entered o ts type how)
+      ∙ ap (λ p. option_or p (option_or (terms_fault enums ts) (operator_fault enums o (types_of ts)))) none
+      ∙ ap (λ p. option_or p (operator_fault enums o (types_of ts))) h
 
   -- ---- lists
 
@@ -39,27 +76,52 @@ module _ (enums : Enums) where
 
   -- ---- answers of a whole walk
 
-  module _ (ts : List PlainTerm) {T : Type 0} (result : Result T EncodeError) (walked : Finds (terms_fault enums (terms ts)) result) where
-    -- on Ok there is no fault
-    pub ok_without_fault : {P : Type 0} → (first_fault enums ts ≡ None → P) → OnOk result P
-    ok_without_fault = here result walked
-      where
-        here : {P : Type 0} (r : Result T EncodeError) → Finds (terms_fault enums (terms ts)) r → (first_fault enums ts ≡ None → P) → OnOk r P
-        here (Ok x) h k = k (first_is ts ∙ h)
-        here (Err e) h k = tt
+  -- on Ok there is no fault
+  pub ok_without_fault : {T : Type 0} (ts : List PlainTerm) (walk : Result T WriteError) (x : T) → walk ≡ Ok x → Finds write_fault (terms_fault enums (terms ts)) walk → first_fault enums ts ≡ None
+  ok_without_fault {T} ts walk x is walked = first_is ts ∙ subst (λ (r : Result T WriteError). Finds write_fault (terms_fault enums (terms ts)) r) is walked
 
-    -- a refusal that names a fault names the first one
-    pub named_is_first : (e : EncodeError) (f : Fault) → result ≡ Err e → fault_of e ≡ Some f → first_fault enums ts ≡ Some f
-    named_is_first e f is names = first_is ts ∙ subst (λ (r : Result T EncodeError). Finds (terms_fault enums (terms ts)) r) is walked f names
+  -- a refusal of a string names the first fault
+  pub string_is_first : (ts : List PlainTerm) (e : WriteError) (text : RcStr Global) → ((f : Fault) → write_fault e ≡ Some f → terms_fault enums (terms ts) ≡ Some f) → encode_error e ≡ StringRefused text
+      → first_fault enums ts ≡ Some (EncodeStringFailed (rc_str_bytes text))
+  string_is_first ts (Sink Failed) text h is = absurd (cc)
+  string_is_first ts (Sink NoRoom) text h is = absurd (cc)
+  string_is_first ts (Text (StringFailed s)) text h is = first_is ts ∙ h (EncodeStringFailed (rc_str_bytes text)) (cc)
+  string_is_first ts (Text (PatternFailed p)) text h is = absurd (cc)
+  string_is_first ts (Text NoMemory) text h is = absurd (cc)
 
-    -- without a fault of the terms or the sink there is one refusal
-    pub only_memory : {P : Type 0} → first_fault enums ts ≡ None → (IsErrOf result Io → P) → (IsErrOf result Spent → ⊥) → (P → ⊥) → IsOkUnless result Memory
-    only_memory none = here result walked (sym (first_is ts) ∙ none)
-      where
-        here : {P : Type 0} (r : Result T EncodeError) → Finds (terms_fault enums (terms ts)) r → terms_fault enums (terms ts) ≡ None → (IsErrOf r Io → P) → (IsErrOf r Spent → ⊥) → (P → ⊥) → IsOkUnless r Memory
-        here (Ok x) h none io spent quiet = tt
-        here (Err Io) h none io spent quiet = absurd (quiet (io refl))
-        here (Err (EncodeStringFailed text)) h none io spent quiet = let f = sym none ∙ h _ refl in absurd (cc)
-        here (Err (EncodePatternFailed p)) h none io spent quiet = let f = sym none ∙ h _ refl in absurd (cc)
-        here (Err Spent) h none io spent quiet = absurd (spent refl)
-        here (Err Memory) h none io spent quiet = refl
+  -- and so does one of a pattern
+  pub pattern_is_first : (ts : List PlainTerm) (e : WriteError) (p : OrdPattern) → ((f : Fault) → write_fault e ≡ Some f → terms_fault enums (terms ts) ≡ Some f) → encode_error e ≡ PatternRefused p
+      → first_fault enums ts ≡ Some (EncodePatternFailed (plain_ord_pattern p))
+  pattern_is_first ts (Sink Failed) p h is = absurd (cc)
+  pattern_is_first ts (Sink NoRoom) p h is = absurd (cc)
+  pattern_is_first ts (Text (StringFailed s)) p h is = absurd (cc)
+  pattern_is_first ts (Text (PatternFailed q)) p h is = first_is ts ∙ h (EncodePatternFailed (plain_ord_pattern p)) (cc)
+  pattern_is_first ts (Text NoMemory) p h is = absurd (cc)
+
+  -- without a fault of the terms or the sink there is one refusal
+  pub only_memory : {P : Type 0} (ts : List PlainTerm) (e : WriteError) → ((f : Fault) → write_fault e ≡ Some f → terms_fault enums (terms ts) ≡ Some f) → first_fault enums ts ≡ None → (e ≡ Sink Failed → P) → (P → ⊥) → encode_error e ≡ Memory
+  only_memory ts (Sink Failed) h none failed quiet = absurd (quiet (failed refl))
+  only_memory ts (Sink NoRoom) h none failed quiet = refl
+  only_memory ts (Text (StringFailed s)) h none failed quiet = let f = sym none ∙ first_is ts ∙ h _ refl in absurd (cc)
+  only_memory ts (Text (PatternFailed p)) h none failed quiet = let f = sym none ∙ first_is ts ∙ h _ refl in absurd (cc)
+  only_memory ts (Text NoMemory) h none failed quiet = refl
+
+  -- ---- an error of the walk, handed on
+
+  names_first : {T : Type 0} (ts : List PlainTerm) (walk : Result T WriteError) (e : WriteError) → walk ≡ Err e → Finds write_fault (terms_fault enums (terms ts)) walk
+      → (f : Fault) → write_fault e ≡ Some f → terms_fault enums (terms ts) ≡ Some f
+  names_first {T} ts walk e is walked = subst (λ (r : Result T WriteError). Finds write_fault (terms_fault enums (terms ts)) r) is walked
+
+  module _ (ts : List PlainTerm) {T U : Type 0} {before after : ℕ} (walk : Result T WriteError) (e : WriteError) (is : walk ≡ Err e)
+      (walked : Finds write_fault (terms_fault enums (terms ts)) walk) (rose : IsErrOf walk (Sink Failed) → Rose before after) where
+    pub has_cause : (result : Result U EncodeError) → IsErrAnd result (λ y. y ≡ encode_error e) → HasCause before after (first_fault enums ts) result
+    has_cause (Ok x) same = absurd same
+    has_cause (Err y) same = record {
+      io = λ i. rose (is ∙ ap Err (failed_is_io e (sym same ∙ cc)));
+      string = λ text i. string_is_first ts e text (names_first ts walk e is walked) (sym same ∙ cc);
+      pattern = λ p i. pattern_is_first ts e p (names_first ts walk e is walked) (sym same ∙ cc);
+    }
+
+    pub is_complete : {spent : Bool} (result : Result U EncodeError) → IsErrAnd result (λ y. y ≡ encode_error e) → IsComplete spent before after (first_fault enums ts) result
+    is_complete (Ok x) same = absurd same
+    is_complete (Err y) same = record { faultless = tt; answered = λ unspent none quiet. same ∙ only_memory ts e (names_first ts walk e is walked) none (λ f. rose (is ∙ ap Err f)) quiet }

@@ -1,4 +1,3 @@
-pub mod Applied
 pub mod Bracketed
 pub mod Conditions
 pub mod Faulted

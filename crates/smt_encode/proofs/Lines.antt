@@ -2,18 +2,17 @@
 use Rattle.std.proofs.Common.{◌≡◌, ℕ, List, [], ◌∷◌, ◌++◌, refl, sym, ap, ◌∙◌, subst, append-nil, Option, Ok}
 use Rattle.std.proofs.lemmas.Grind.{flat_map-append}
 use Rattle.std.specs.Io.KnownBytes.{append_known}
-use Rattle.std.specs.BTreeMap.{get, btree_map_len}
-use Rattle.std.specs.Prelude.{codes, option_map}
-use Rattle.std.specs.Rc.{rc_str_bytes}
+use Rattle.std.specs.Prelude.{codes}
 use Rattle.smt_meaning.specs.Plain.{PlainTerm}
-use Rattle.smt_term.specs.contracts.term.TermOrd.TheImpl as term_order
 use Rattle.smt_lines.specs.Line.{Line, spelled_line, spelled_lines}
 use Rattle.smt_lines.specs.Lines.{Written, option_line, ◌>>=◌}
 use Rattle.smt_lines.specs.NameTables.{Tables}
 use Rattle.smt_script.specs.ScriptLines.{declare_datatype_line}
 use Rattle.smt_script.proofs.PutsLemmas.{appends_then, appends_nothing}
 use Rattle.smt_encode.specs.Encoded.{HasNames, PutsLine, Wrote}
+use Rattle.smt_encode.specs.Names.{AreTables}
 use Rattle.smt_encode.specs.declared.encoder.Encoder.{Encoder}
+use Rattle.smt_encode.specs.declared.names.Names.{Names}
 
 -- the line that declares `Option`
 pub option_bytes : (parameter nothing something : List ℕ) → parameter ≡ codes "X" → nothing ≡ codes "(none)" → something ≡ codes "(some (val X))"
@@ -42,16 +41,8 @@ module _ {S : Type 0} {contents : S → Option (List ℕ)} where
   binds w f p q = wrote_then p q
 
   -- one line that was put
-  pub put : {T : Type 0} {u : T} {old new : Encoder S} {bytes : List ℕ} (line : Line) (s : Tables) → PutsLine contents old new bytes (Ok u) → bytes ≡ spelled_line line → HasNames old s → Wrote contents old new (line ∷ []) s
+  pub put : {T E : Type 0} {u : T} {old new : Encoder S} {bytes : List ℕ} (line : Line) (s : Tables) → PutsLine {T = T} {E = E} contents old new bytes (Ok u) → bytes ≡ spelled_line line → HasNames old s → Wrote contents old new (line ∷ []) s
   put {old = old} {new} line s p e has = record {
-    names = record { terms = λ t. ap (λ m. option_map rc_str_bytes (get term_order.ghosts.cmp m t)) p.same_names ∙ has.terms t; count = ap btree_map_len p.same_names ∙ has.count; types = has.types; functions = has.functions };
+    names = subst (λ (n : Names). AreTables n s) (sym p.same_names) has;
     contents_are = p.got ∙ ap (append_known (contents old.script)) (e ∙ sym (append-nil (spelled_line line)));
-  }
-
-  -- lines, and then an entry
-  pub wrote_entry : {old mid new : Encoder S} {ls : List Line} {s : Tables} (t : PlainTerm) (name n : List ℕ) → name ≡ n → Wrote contents old mid ls s
-      → (HasNames mid s → HasNames new (record s { terms = s.terms ++ (t, name) ∷ [] })) → new.script ≡ mid.script → Wrote contents old new ls (record s { terms = s.terms ++ (t, n) ∷ [] })
-  wrote_entry {old} {mid} {new} {ls} {s} t name n e p enters same = record {
-    names = subst (λ (m : List ℕ). HasNames new (record s { terms = s.terms ++ (t, m) ∷ [] })) e (enters p.names);
-    contents_are = ap contents same ∙ p.contents_are;
   }

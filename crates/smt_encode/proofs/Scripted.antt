@@ -1,6 +1,5 @@
 -- A whole script: the declaration of `Option`, the terms' lines, and an assertion for each term.
-use Rattle.std.proofs.Common.{◌≡◌, ℕ, zero, suc, ◌+◌, ◌<◌, List, [], ◌∷◌, ◌++◌, length, take, get_or, map, refl, sym, ap, ◌∙◌, subst, append-nil, add-one, arith, Option, Ok, Err, Result}
-use Rattle.std.specs.Prelude.{OnOk}
+use Rattle.std.proofs.Common.{◌≡◌, ℕ, zero, suc, ◌+◌, ◌<◌, List, [], ◌∷◌, ◌++◌, length, take, get_or, map, refl, sym, ap, ◌∙◌, subst, append-nil, add-one, arith, Option}
 use Rattle.std.specs.Io.KnownBytes.{append_known}
 use Rattle.std.specs.Rc.{rc_str_bytes}
 use Rattle.std.specs.declared.alloc.Global.{Global}
@@ -15,7 +14,6 @@ use Rattle.smt_lines.specs.Spelling.{spelled}
 use Rattle.smt_lines.specs.Text.{names, text}
 use Rattle.smt_encode.specs.Encoded.{AreSpelled, Wrote}
 use Rattle.smt_encode.specs.declared.encoder.Encoder.{Encoder}
-use Rattle.smt_encode.specs.declared.error.EncodeError.{EncodeError}
 use Rattle.smt_encode.proofs.Lines.{wrote_then}
 
 -- the expression that a text spells, behind those before it
@@ -45,10 +43,9 @@ module _ {S : Type 0} {contents : S → Option (List ℕ)} where
   -- the three parts of a script
   pub scripted : {old opened mid : Encoder S} (new : Encoder S) (enums : Enums) (ts : List PlainTerm) → Wrote contents old opened (option_line ∷ []) no_names
       → Wrote contents opened mid (encode_terms enums (terms ts) no_names).lines (encode_terms enums (terms ts) no_names).tables
-      → (result : Result (Unit {0}) EncodeError) → OnOk result (Wrote contents mid new (map Assert (encode_terms enums (terms ts) no_names).made) (encode_terms enums (terms ts) no_names).tables)
-      → OnOk result (Wrote contents old new (option_line ∷ (encode enums ts no_names).lines) (names enums ts))
-  scripted new enums ts head lines (Ok u) p = wrote_then head (wrote_then lines p)
-  scripted new enums ts head lines (Err e) p = tt
+      → Wrote contents mid new (map Assert (encode_terms enums (terms ts) no_names).made) (encode_terms enums (terms ts) no_names).tables
+      → Wrote contents old new (option_line ∷ (encode enums ts no_names).lines) (names enums ts)
+  scripted new enums ts head lines p = wrote_then head (wrote_then lines p)
 
 -- the lines of a whole script are its text
 text_is : (enums : Enums) (ts : List PlainTerm) → spelled_lines (option_line ∷ (encode enums ts no_names).lines) ≡ text enums ts

@@ -1,4 +1,4 @@
--- The encoder's table of terms, and the tables that the stated lines speak of.
+-- The names of terms, and the tables that the stated lines speak of.
 use Rattle.std.proofs.Common.{◌≡◌, ℕ, ◌+◌, ◌<◌, ◌^◌, Bool, true, false, cond, List, [], ◌∷◌, ◌++◌, length, Option, Some, None, refl, sym, ap, ◌∙◌, subst, inl, inr, arith, length-append}
 use Rattle.std.specs.Prelude.{codes, decimal, option_map, is_none, is_some, Result, Ok, Err, OnOk, OnErr, if◌then◌else◌}
 use Rattle.std.specs.Cmp.{Equal-is}
@@ -25,9 +25,9 @@ use Rattle.smt_lines.specs.Spelling.{numeral}
 use Rattle.smt_lines.proofs.Making.{lookup_new, lookup_other}
 use Rattle.smt_semantics.proofs.Numerals.{numerals_are_printed}
 use Rattle.smt_meaning.proofs.TermTotal.{terms_decided}
-use Rattle.smt_encode.specs.Encoded.{HasNames}
-use Rattle.smt_encode.specs.Refusals.{HaveNoFaults}
-use Rattle.smt_encode.specs.declared.encoder.Encoder.{Encoder}
+use Rattle.smt_encode.specs.Faultless.{HaveNoFaults}
+use Rattle.smt_encode.specs.Names.{AreTables}
+use Rattle.smt_encode.specs.declared.names.Names.{Names}
 
 -- ---- names
 
@@ -82,10 +82,10 @@ nothing_there None p e f = refl
 nothing_there (Some x) p e f = cc
 
 -- a term that had no name has this one, and all others have what they had
-pub entered : {S : Type 0} (old new : Encoder S) (s : Tables) (t : PlainTerm) (n : List ℕ) (key : Term) (name : RcStr Global) (was : Option (RcStr Global))
+pub entered : (old new : Names) (s : Tables) (t : PlainTerm) (n : List ℕ) (key : Term) (name : RcStr Global) (was : Option (RcStr Global))
     → Updates term_order.ghosts.cmp old.terms new.terms key (Some name) → was ≡ get term_order.ghosts.cmp old.terms key
     → btree_map_len new.terms ≡ btree_map_len old.terms + (if is_some was then 0 else 1)
-    → plain_term key ≡ t → rc_str_bytes name ≡ n → name_of_term s t ≡ None → HasNames old s → HasNames new (record s { terms = s.terms ++ (t, n) ∷ [] })
+    → plain_term key ≡ t → rc_str_bytes name ≡ n → name_of_term s t ≡ None → AreTables old s → AreTables new (record s { terms = s.terms ++ (t, n) ∷ [] })
 entered old new s t n key name was updates before longer same named absent has =
     let none : name_of_term s (plain_term key) ≡ None = ap (name_of_term s) same ∙ absent in
     let missing : was ≡ None = before ∙ nothing_there (get term_order.ghosts.cmp old.terms key) (name_of_term s (plain_term key)) (has.terms key) none in

@@ -1,9 +1,20 @@
--- Errors of the sink as errors of the encoder.
-use Rattle.smt_script.specs.declared.sink.SinkError.{SinkError}
-use Rattle.smt_script.specs.declared.sink.SinkError.TheVariants.{Fault, Memory}
+-- Errors inside as errors of the encoder.
+use Rattle.smt_script.specs.declared.sink.SinkError.TheVariants.{Fault, Memory as NoRoom}
 use Rattle.smt_encode.specs.declared.error.EncodeError.{EncodeError}
-use Rattle.smt_encode.specs.declared.error.EncodeError.TheVariants.{Io, Memory as Want}
+use Rattle.smt_encode.specs.declared.error.EncodeError.TheVariants.{Io, EncodeStringFailed, EncodePatternFailed, Memory}
+use Rattle.smt_encode.specs.declared.error.TextError.{TextError}
+use Rattle.smt_encode.specs.declared.error.TextError.TheVariants.{StringFailed, PatternFailed, Memory as NoMemory}
+use Rattle.smt_encode.specs.declared.error.WriteError.{WriteError}
+use Rattle.smt_encode.specs.declared.error.WriteError.TheVariants.{Sink, Text}
 
-abbrev pub encode_error : SinkError → EncodeError
-encode_error Fault = Io
-encode_error Memory = Want
+-- a term without a text
+abbrev pub refusal_of : TextError → EncodeError
+refusal_of (StringFailed text) = EncodeStringFailed text
+refusal_of (PatternFailed pattern) = EncodePatternFailed pattern
+refusal_of NoMemory = Memory
+
+-- terms that were not written
+abbrev pub encode_error : WriteError → EncodeError
+encode_error (Sink Fault) = Io
+encode_error (Sink NoRoom) = Memory
+encode_error (Text error) = refusal_of error

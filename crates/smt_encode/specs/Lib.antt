@@ -1,4 +1,7 @@
 pub mod Encoded
+pub mod Entries
 pub mod Errors
-pub mod Renderings
+pub mod Faultless
+pub mod Names
 pub mod Refusals
+pub mod Renderings

@@ -1,54 +1,46 @@
 // The encoder, from terms to the lines of a script.
-ghost use Rattle.std.specs.Prelude.{List, ◌≡◌, ◌≤◌, ◌↔◌, ◌++◌, [], ◌∷◌, false, None, Some, IfOk, IfSome, IsOkUnless, OnOk, IsTrue, IsErrOf, option_map, map};
+ghost use Rattle.std.specs.Prelude.{List, ◌≡◌, ◌∷◌, false, None, IfOk, OnOk, option_map, map};
 ghost use Rattle.std.specs.Rc.{rc_str_bytes};
-ghost use Rattle.std.specs.declared.alloc.Global.{Global};
-ghost use Rattle.std.specs.declared.rc.RcStr.{RcStr};
 ghost use Rattle.smt_term.specs.Enums.{enums_of};
-ghost use Rattle.smt_meaning.specs.Faults.{EncodeStringFailed, EncodePatternFailed, first_fault, term_fault, terms_fault, type_fault};
-ghost use Rattle.smt_term.specs.PatternView.{plain_ord_pattern};
-ghost use Rattle.smt_meaning.specs.Plain.{LiteralTerm, terms as plain_terms};
+ghost use Rattle.smt_meaning.specs.Faults.{first_fault, term_fault, terms_fault, type_fault};
+ghost use Rattle.smt_meaning.specs.Plain.{Application, LiteralTerm, terms as plain_terms};
 ghost use Rattle.smt_meaning.specs.Types.{type_of};
 ghost use Rattle.smt_meaning.specs.Typing.{AreBoolean};
-ghost use Rattle.smt_term.specs.View.{plain_term, plain_type, plain_literal, plain_variable};
-ghost use Rattle.smt_term.specs.declared.pattern.OrdPattern.{OrdPattern};
+ghost use Rattle.smt_term.specs.View.{plain_literal, plain_op, plain_term, plain_type};
 ghost use Rattle.smt_lexicon.specs.Reading.{Expression};
-ghost use Rattle.smt_lines.specs.Line.{Comment, DeclareConst, DefineFun, Assert, spelled_line};
+ghost use Rattle.smt_lines.specs.Line.{Assert, spelled_line};
 ghost use Rattle.smt_lines.specs.Lines as lines;
-ghost use Rattle.smt_lines.specs.LineForms.{variable_lines};
-ghost use Rattle.smt_lines.specs.TermTexts.{bool_name};
-ghost use Rattle.smt_lines.specs.Lines.{enter_term, next_term, option_line};
+ghost use Rattle.smt_lines.specs.Lines.{application_rendering, option_line};
 ghost use Rattle.smt_lines.specs.NameTables.{Tables, name_of_term, no_names};
 ghost use Rattle.smt_lines.specs.Text.{names, text};
 ghost use Rattle.smt_headline.specs.Headline.{Headline};
-ghost use Rattle.std.specs.Io.KnownBytes.{append_known};
-ghost use Rattle.smt_encode.specs.Refusals.{Finds, HaveNoFaults};
+ghost use Rattle.smt_encode.specs.Entries.{application_entry, enter_by, entry_name, term_entry, IsEntered, PlainEntry, SaysEntry};
+ghost use Rattle.smt_encode.specs.Refusals.{text_fault, write_fault, Finds, HasCause, IsComplete};
 ghost use Rattle.smt_lines.specs.Spelling.{spelled};
-ghost use Rattle.smt_script.specs.Sink.{Rose};
 
-use crate::error::EncodeError;
+use crate::entry::Entry;
+use crate::error::{EncodeError, TextError, WriteError};
+use crate::names::Names;
 use crate::rendering::{Rendering, application_body, least_body, rendering_of};
 use crate::spell::{
     as_text, bits_literal, bits_sort, option_sort, quoted_id_text, set_sort, set_text, some_text,
-    string_literal, term_name,
+    string_literal,
 };
-use smt_script::{Sink, SmtLibScript};
-use smt_term::{EnumTable, Term, TermPrim, TermType, TermVar, Text};
-use std::alloc::Global;
-use std::collections::BTreeMap;
+use smt_script::{Sink, SinkError, SmtLibScript};
+use smt_term::{EnumTable, Op, Term, TermError, TermPrim, TermType, Text};
+use std::alloc::{AllocError, Global};
 
 /// Writes terms as lines of a script, and keeps the names under which it wrote them.
 ///
 /// Each term that has no inline text gets one name, under which it is declared or defined once. An encoder
-/// encodes one list of terms; after that, and after an error, it is spent. It is let go by `into_script`, which gives
-/// its sink back. No term of its table has a fault, so that a term whose name it finds there needs no second look.
+/// encodes one list of terms; after that, and after an error, it is spent. `into_script` gives its sink back.
+#[derive(Drop)]
 pub struct Encoder<'a, S> {
     alloc: Global,
-    enums: &'a EnumTable,
-    terms: BTreeMap<Term, Text>,
+    names: Names<'a>,
     script: S,
     begun: bool,
     failed: bool,
-    ghost sound: { HaveNoFaults (enums_of enums.now) terms },
 }
 
 impl<'a, S> Encoder<'a, S> {
@@ -63,8 +55,7 @@ impl<'a, S> Encoder<'a, S> {
     {
         Encoder {
             alloc,
-            enums,
-            terms: BTreeMap::new(alloc),
+            names: Names::new(alloc, enums),
             script,
             begun: false,
             failed: false,
@@ -75,27 +66,19 @@ impl<'a, S> Encoder<'a, S> {
     pub fn into_script(self) -> S
         ensures { result ≡ sink_of self.entry }
     {
-        let Encoder {
-            alloc: _,
-            enums: _,
-            terms: _,
-            script,
-            begun: _,
-            failed: _,
-        } = self;
-        script
+        self.script
     }
 
     /// The name under which a term is declared or defined, None exactly where it has none. Takes no memory.
     pub fn name_of_term(&self, term: &Term) -> Option<&Text>
         ensures { option_map (λ name. rc_str_bytes name.now) result ≡ entry_of self.now term.now }
     {
-        self.terms.get(term)
+        self.names.find(term)
     }
 }
 
 impl<S: Sink> Encoder<'_, S> {
-    ghost use Rattle.smt_encode.specs.Encoded.{entry_of, enums_in, is_spent, sink_of, AreSpelled, FaultCounted, HasNames, IsSpelled, OfNames, OfReceived, PutsLine, WritesStated, WritesHere, Wrote};
+    ghost use Rattle.smt_encode.specs.Encoded.{enums_in, is_spent, sink_of, AreSpelled, FaultCounted, HasNames, IsSpelled, Keeps, OfNames, OfReceived, PutsLine, Spends, WritesHere, WritesStated, Wrote, WroteText};
 
     /// Writes the script of these terms: the declaration of the datatype `Option`, what the terms need, and an
     /// assertion for each term, in order (commands of SMT-LIB 2.7, chapter 3, Scripts).
@@ -106,7 +89,7 @@ impl<S: Sink> Encoder<'_, S> {
     /// has a name already is not written again. A term's assertion is `(assert TEXT)`, where `TEXT` is its name or, of a
     /// literal, its inline text.
     ///
-    /// After Ok an encoder without names has put exactly the stated text (`text`), and has its names (`names`). For Boolean
+    /// After Ok an encoder without names has put exactly the stated text, and has its names (`stated`). For Boolean
     /// terms `headline` says what the bytes mean that the sink got in this call, by the names that the encoder has then:
     /// they are a script by the grammar of SMT-LIB 2.7, each name is declared once and before its use, the assertions are
     /// the terms' texts in order, and the models are exactly the interpretations that make all terms true. `models` says
@@ -121,21 +104,13 @@ impl<S: Sink> Encoder<'_, S> {
     /// may come from any encoder that is not spent, where there is no memory left. Each of the four spends the encoder
     /// and says nothing of what the sink got.
     pub fn encode(&mut self, terms: &[Term]) -> Result<(), EncodeError>
-        ensures text { HasNames self.old no_names → OnOk result (S.contents (sink_of self.new) ≡ append_known (S.contents (sink_of self.old)) (text (enums_in self.old) (map plain_term terms.now))) }
-        ensures names { HasNames self.old no_names → OnOk result (HasNames self.new (names (enums_in self.old) (map plain_term terms.now))) }
+        ensures stated { HasNames self.old no_names → OnOk result (WroteText S.contents self.old self.new (map plain_term terms.now)) }
         ensures headline { HasNames self.old no_names → AreBoolean (map plain_term terms.now) → OnOk result (OfReceived (S.contents (sink_of self.old)) (S.contents (sink_of self.new)) (λ bytes. OfNames self.new (λ names. Headline (enums_in self.old) names (map plain_term terms.now) bytes))) }
         ensures models { AreBoolean (map plain_term terms.now) → OnOk result (Headline (enums_in self.old) (names (enums_in self.old) (map plain_term terms.now)) (map plain_term terms.now) (text (enums_in self.old) (map plain_term terms.now))) }
-        ensures spent { IsErrOf result EncodeError.Spent ↔ IsTrue (is_spent self.old) }
-        ensures unchanged { IsTrue (is_spent self.old) → self.new ≡ self.old }
-        ensures once { IsTrue (is_spent self.new) }
-        ensures io { IsErrOf result EncodeError.Io → Rose (S.faults (sink_of self.old)) (S.faults (sink_of self.new)) }
-        ensures string { (text : RcStr Global) → IsErrOf result (EncodeError.EncodeStringFailed text) → first_fault (enums_in self.old) (map plain_term terms.now) ≡ Some (EncodeStringFailed (rc_str_bytes text)) }
-        ensures pattern { (pattern : OrdPattern) → IsErrOf result (EncodeError.EncodePatternFailed pattern) → first_fault (enums_in self.old) (map plain_term terms.now) ≡ Some (EncodePatternFailed (plain_ord_pattern pattern)) }
-        ensures fault { OnOk result (first_fault (enums_in self.old) (map plain_term terms.now) ≡ None) }
-        ensures complete { is_spent self.old ≡ false → first_fault (enums_in self.old) (map plain_term terms.now) ≡ None → (Rose (S.faults (sink_of self.old)) (S.faults (sink_of self.new)) → ⊥) → IsOkUnless result EncodeError.Memory }
-        ensures later { S.faults (sink_of self.old) ≤ S.faults (sink_of self.new) }
-        ensures sink { S.place (sink_of self.new) ≡ S.place (sink_of self.old) }
-        ensures enums { enums_in self.new ≡ enums_in self.old }
+        ensures spent { Spends self.old self.new result }
+        ensures refused { HasCause (S.faults (sink_of self.old)) (S.faults (sink_of self.new)) (first_fault (enums_in self.old) (map plain_term terms.now)) result }
+        ensures complete { IsComplete (is_spent self.old) (S.faults (sink_of self.old)) (S.faults (sink_of self.new)) (first_fault (enums_in self.old) (map plain_term terms.now)) result }
+        ensures kept { Keeps S.faults S.place self.old self.new }
     {
         if self.begun || self.failed {
             return Err(EncodeError::Spent);
@@ -143,87 +118,14 @@ impl<S: Sink> Encoder<'_, S> {
         let outcome = self.put_script(terms);
         self.begun = true;
         self.failed = outcome.is_err();
-        outcome
-    }
-
-    /// The name that a term has already, shared. A term that has one has no fault.
-    fn known(&self, term: &Term) -> Result<Option<Text>, EncodeError>
-        ensures known { IfOk result (λ name. option_map rc_str_bytes name ≡ entry_of self.now term.now) }
-        ensures sound { IfOk result (λ found. IfSome found (λ _. term_fault (enums_in self.now) (plain_term term.now) ≡ None)) }
-        ensures refusal { IsOkUnless result EncodeError.Memory }
-    {
-        match self.terms.get(term) {
-            Some(name) => Ok(Some(name.clone()?)),
-            None => Ok(None),
-        }
-    }
-
-    /// The name of the next entry of the table of terms.
-    fn next_name(&self) -> Result<Text, EncodeError>
-        ensures name { (s : Tables) → HasNames self.now s → IfOk result (λ name. rc_str_bytes name ≡ next_term s) }
-        ensures refusal { IsOkUnless result EncodeError.Memory }
-    {
-        Ok(term_name(self.alloc, self.terms.len())?)
-    }
-
-    /// Enters a term that has no name yet, and no fault.
-    fn enter(&mut self, term: &Term, name: &Text) -> Result<(), EncodeError>
-        requires sound { term_fault (enums_in self.now) (plain_term term.now) ≡ None }
-        ensures names { (s : Tables) → HasNames self.old s → name_of_term s (plain_term term.now) ≡ None →
-            OnOk result (HasNames self.new (record s { terms = s.terms ++ (plain_term term.now, rc_str_bytes name.now) ∷ [] })) }
-        ensures sink { self.new.script ≡ self.old.script }
-        ensures enums { self.new.enums ≡ self.old.enums }
-        ensures refusal { IsOkUnless result EncodeError.Memory }
-    {
-        self.terms.insert(term.share()?, name.clone()?)?;
-        Ok(())
-    }
-
-    /// Puts a comment.
-    fn put_comment(&mut self, text: &str) -> Result<(), EncodeError>
-        ensures line { PutsLine S.contents self.old self.new (spelled_line (Comment text.now)) result }
-        ensures cause { FaultCounted S.faults S.place self.old self.new result }
-        ensures fault { Finds None result }
-    {
-        self.script.comment(text)?;
-        Ok(())
-    }
-
-    /// Puts the declaration of a constant.
-    fn put_constant(&mut self, name: &str, sort: &str) -> Result<(), EncodeError>
-        ensures line { (e : Expression) → sort.now ≡ spelled e → PutsLine S.contents self.old self.new (spelled_line (DeclareConst name.now e)) result }
-        ensures cause { FaultCounted S.faults S.place self.old self.new result }
-        ensures fault { Finds None result }
-    {
-        self.script.declare_const(name, sort)?;
-        Ok(())
-    }
-
-    /// Puts the definition of a name.
-    fn put_definition(&mut self, name: &str, sort: &str, body: &str) -> Result<(), EncodeError>
-        ensures line { (e b : Expression) → sort.now ≡ spelled e → body.now ≡ spelled b → PutsLine S.contents self.old self.new (spelled_line (DefineFun name.now e b)) result }
-        ensures cause { FaultCounted S.faults S.place self.old self.new result }
-        ensures fault { Finds None result }
-    {
-        self.script.define_fun(name, &[], sort, body)?;
-        Ok(())
-    }
-
-    /// Puts an assertion.
-    fn put_assertion(&mut self, text: &str) -> Result<(), EncodeError>
-        ensures line { (e : Expression) → text.now ≡ spelled e → PutsLine S.contents self.old self.new (spelled_line (Assert e)) result }
-        ensures cause { FaultCounted S.faults S.place self.old self.new result }
-        ensures fault { Finds None result }
-    {
-        self.script.assert(text)?;
-        Ok(())
+        Ok(outcome?)
     }
 
     /// Puts the declaration of the datatype `Option`, with which each script begins.
-    fn put_option(&mut self) -> Result<(), EncodeError>
+    fn put_option(&mut self) -> Result<(), WriteError>
         ensures line { PutsLine S.contents self.old self.new (spelled_line option_line) result }
-        ensures cause { FaultCounted S.faults S.place self.old self.new result }
-        ensures fault { Finds None result }
+        ensures cause { FaultCounted S.faults S.place (WriteError.Sink SinkError.Fault) self.old self.new result }
+        ensures fault { Finds write_fault None result }
     {
         let parameter = Text::from_str(self.alloc, "X")?;
         let none = Text::from_str(self.alloc, "(none)")?;
@@ -234,41 +136,38 @@ impl<S: Sink> Encoder<'_, S> {
     }
 
     /// The sort of a type.
-    fn encode_type(&mut self, ty: &TermType) -> Result<Text, EncodeError>
-        ensures lines { WritesStated S.contents self.old self.new (lines.encode_type (enums_in self.old) (plain_type ty.now)) IsSpelled result }
-        ensures cause { FaultCounted S.faults S.place self.old self.new result }
-        ensures fault { Finds (type_fault (enums_in self.old) (plain_type ty.now)) result }
+    fn encode_type(&self, ty: &TermType) -> Result<Text, AllocError>
+        ensures lines { WritesStated S.contents self.now self.now (lines.encode_type (enums_in self.now) (plain_type ty.now)) IsSpelled result }
+        ensures fault { OnOk result (type_fault (enums_in self.now) (plain_type ty.now) ≡ None) }
     {
         match ty {
             TermType::Option { ty } => {
                 let inner = self.encode_type(ty)?;
-                Ok(option_sort(self.alloc, inner)?)
+                option_sort(self.alloc, inner)
             }
-            TermType::Bitvec { n } => Ok(bits_sort(self.alloc, *n)?),
-            TermType::Bool => Ok(Text::from_str(self.alloc, "Bool")?),
-            TermType::String => Ok(Text::from_str(self.alloc, "String")?),
+            TermType::Bitvec { n } => bits_sort(self.alloc, *n),
+            TermType::Bool => Text::from_str(self.alloc, "Bool"),
+            TermType::String => Text::from_str(self.alloc, "String"),
             TermType::Set { ty } => {
                 let inner = self.encode_type(ty)?;
-                Ok(set_sort(self.alloc, inner)?)
+                set_sort(self.alloc, inner)
             }
         }
     }
 
     /// The sort of a term.
-    fn encode_sort(&mut self, term: &Term) -> Result<Text, EncodeError>
-        ensures lines { WritesStated S.contents self.old self.new (lines.encode_type (enums_in self.old) (type_of (plain_term term.now))) IsSpelled result }
-        ensures cause { FaultCounted S.faults S.place self.old self.new result }
-        ensures fault { Finds (type_fault (enums_in self.old) (type_of (plain_term term.now))) result }
+    fn encode_sort(&self, term: &Term) -> Result<Text, TermError>
+        ensures lines { WritesStated S.contents self.now self.now (lines.encode_type (enums_in self.now) (type_of (plain_term term.now))) IsSpelled result }
+        ensures fault { OnOk result (type_fault (enums_in self.now) (type_of (plain_term term.now)) ≡ None) }
     {
         let ty = term.type_of(self.alloc)?;
-        self.encode_type(&ty)
+        Ok(self.encode_type(&ty)?)
     }
 
     /// The text of a literal.
-    fn encode_literal(&mut self, literal: &TermPrim) -> Result<Text, EncodeError>
-        ensures lines { WritesStated S.contents self.old self.new (lines.encode_literal (enums_in self.old) (plain_literal literal.now)) IsSpelled result }
-        ensures cause { FaultCounted S.faults S.place self.old self.new result }
-        ensures fault { Finds (term_fault (enums_in self.old) (LiteralTerm (plain_literal literal.now))) result }
+    fn encode_literal(&self, literal: &TermPrim) -> Result<Text, TextError>
+        ensures lines { WritesStated S.contents self.now self.now (lines.encode_literal (enums_in self.now) (plain_literal literal.now)) IsSpelled result }
+        ensures fault { Finds text_fault (term_fault (enums_in self.now) (LiteralTerm (plain_literal literal.now))) result }
     {
         match literal {
             TermPrim::Bitvec(bits) => Ok(bits_literal(self.alloc, bits)?),
@@ -280,128 +179,96 @@ impl<S: Sink> Encoder<'_, S> {
         }
     }
 
-    /// Declares a variable that has no name yet.
-    fn declare_variable(
-        &mut self,
-        term: &Term,
-        sort: &str,
-        variable: &TermVar,
-    ) -> Result<Text, EncodeError>
-        requires variable { plain_term term.now ≡ plain_variable variable.now }
-        requires sound { term_fault (enums_in self.now) (plain_term term.now) ≡ None }
-        ensures lines { (s : Tables) (e : Expression) → HasNames self.old s → name_of_term s (plain_term term.now) ≡ None → sort.now ≡ spelled e →
-            WritesHere S.contents self.old self.new (enter_term (plain_term term.now) (next_term s) (variable_lines (rc_str_bytes variable.now.id) (next_term s) e) s) IsSpelled result }
-        ensures cause { FaultCounted S.faults S.place self.old self.new result }
-        ensures fault { Finds None result }
-    {
-        let quoted = quoted_id_text(self.alloc, variable.id.as_str())?;
-        let name = self.next_name()?;
-        self.put_comment(quoted.as_str())?;
-        self.put_constant(name.as_str(), sort)?;
-        self.enter(term, &name)?;
-        Ok(name)
-    }
-
-    /// Defines a term that has no name yet, by its body.
-    fn define(&mut self, term: &Term, sort: &str, body: &str) -> Result<Text, EncodeError>
-        requires sound { term_fault (enums_in self.now) (plain_term term.now) ≡ None }
-        ensures lines { (s : Tables) (e b : Expression) → HasNames self.old s → name_of_term s (plain_term term.now) ≡ None → sort.now ≡ spelled e → body.now ≡ spelled b →
-            WritesHere S.contents self.old self.new (lines.define (plain_term term.now) e b s) IsSpelled result }
-        ensures cause { FaultCounted S.faults S.place self.old self.new result }
-        ensures fault { Finds None result }
-    {
-        let name = self.next_name()?;
-        self.put_definition(name.as_str(), sort, body)?;
-        self.enter(term, &name)?;
-        Ok(name)
-    }
-
-    /// Names a term that has no name yet `false`. It gets no line.
-    fn name_false(&mut self, term: &Term) -> Result<Text, EncodeError>
-        requires sound { term_fault (enums_in self.now) (plain_term term.now) ≡ None }
-        ensures lines { (s : Tables) → HasNames self.old s → name_of_term s (plain_term term.now) ≡ None →
-            WritesHere S.contents self.old self.new (enter_term (plain_term term.now) (bool_name false) [] s) IsSpelled result }
-        ensures cause { FaultCounted S.faults S.place self.old self.new result }
-        ensures fault { Finds None result }
-    {
-        let name = Text::from_str(self.alloc, "false")?;
-        self.enter(term, &name)?;
-        Ok(name)
-    }
-
     /// The text of a term: its name, or the text of a literal, which has none. What has no name yet gets one.
     #[cycle(walk)]
-    fn encode_term(&mut self, term: &Term) -> Result<Text, EncodeError>
+    fn encode_term(&mut self, term: &Term) -> Result<Text, WriteError>
         ensures lines { WritesStated S.contents self.old self.new (lines.encode_term (enums_in self.old) (plain_term term.now)) IsSpelled result }
-        ensures cause { FaultCounted S.faults S.place self.old self.new result }
-        ensures fault { Finds (term_fault (enums_in self.old) (plain_term term.now)) result }
+        ensures cause { FaultCounted S.faults S.place (WriteError.Sink SinkError.Fault) self.old self.new result }
+        ensures fault { Finds write_fault (term_fault (enums_in self.old) (plain_term term.now)) result }
     {
         if let Term::Prim(literal) = term {
-            return self.encode_literal(literal);
+            return Ok(self.encode_literal(literal)?);
         }
-        match self.known(term)? {
-            Some(name) => Ok(name),
+        match self.names.find(term) {
+            Some(name) => Ok(name.clone()?),
             None => self.encode_new(term),
         }
     }
 
     /// Gives a term its name, by its lines: its sort first, then its parts in order, then its own line.
     #[cycle(walk)]
-    fn encode_new(&mut self, term: &Term) -> Result<Text, EncodeError>
+    fn encode_new(&mut self, term: &Term) -> Result<Text, WriteError>
+        requires entered { IsEntered term.now }
         ensures lines { (s : Tables) → HasNames self.old s → name_of_term s (plain_term term.now) ≡ None →
             WritesHere S.contents self.old self.new (lines.encode_term (enums_in self.old) (plain_term term.now) s) IsSpelled result }
-        ensures cause { FaultCounted S.faults S.place self.old self.new result }
-        ensures fault { Finds (term_fault (enums_in self.old) (plain_term term.now)) result }
+        ensures cause { FaultCounted S.faults S.place (WriteError.Sink SinkError.Fault) self.old self.new result }
+        ensures fault { Finds write_fault (term_fault (enums_in self.old) (plain_term term.now)) result }
+    {
+        let sort = self.encode_sort(term)?;
+        let entry = self.encode_parts(term, sort.as_str())?;
+        self.enter(term, sort.as_str(), &entry)
+    }
+
+    /// How a term is entered, behind the lines of its parts in order.
+    #[cycle(walk)]
+    fn encode_parts(&mut self, term: &Term, sort: &str) -> Result<Entry, WriteError>
+        requires entered { IsEntered term.now }
+        ensures lines { (s : Tables) (e : Expression) → HasNames self.old s → sort.now ≡ spelled e →
+            WritesHere S.contents self.old self.new (term_entry (enums_in self.old) (plain_term term.now) e s) SaysEntry result }
+        ensures cause { FaultCounted S.faults S.place (WriteError.Sink SinkError.Fault) self.old self.new result }
+        ensures fault { type_fault (enums_in self.old) (type_of (plain_term term.now)) ≡ None → Finds write_fault (term_fault (enums_in self.old) (plain_term term.now)) result }
     {
         match term {
-            Term::App { op, args, ret_ty } => {
-                let sort = self.encode_sort(term)?;
-                let args = args.items();
-                match rendering_of(self.alloc, op, args, ret_ty)? {
-                    Rendering::Application => {
-                        let operands = self.encode_terms(args)?;
-                        let body = application_body(self.alloc, op, operands)?;
-                        self.define(term, sort.as_str(), body.as_str())
-                    }
-                    Rendering::EqualsIntMin(width) => {
-                        let operands = self.encode_terms(args)?;
-                        let body = least_body(self.alloc, width, operands)?;
-                        self.define(term, sort.as_str(), body.as_str())
-                    }
-                    Rendering::False => self.name_false(term),
-                }
-            }
-            Term::None(_) => {
-                let sort = self.encode_sort(term)?;
-                let body = as_text(self.alloc, "none", sort.as_str())?;
-                self.define(term, sort.as_str(), body.as_str())
-            }
-            Term::Prim(literal) => self.encode_literal(literal),
+            Term::App { op, args, ret_ty } => self.encode_application(op, args.items(), ret_ty),
+            Term::None(_) => Ok(Entry::Body(as_text(self.alloc, "none", sort)?)),
+            // A literal has no entry.
+            Term::Prim(_) => unreachable!(),
             Term::Set { elts, .. } => {
-                let sort = self.encode_sort(term)?;
-                let operands = self.encode_terms(elts.items())?;
-                let body = set_text(self.alloc, sort.as_str(), operands)?;
-                self.define(term, sort.as_str(), body.as_str())
+                let elements = self.encode_terms(elts.items())?;
+                Ok(Entry::Body(set_text(self.alloc, sort, elements)?))
             }
             Term::Some(inner) => {
-                let sort = self.encode_sort(term)?;
                 let operand = self.encode_term(inner)?;
-                let body = some_text(self.alloc, operand)?;
-                self.define(term, sort.as_str(), body.as_str())
+                Ok(Entry::Body(some_text(self.alloc, operand)?))
             }
             Term::Var(variable) => {
-                let sort = self.encode_sort(term)?;
-                self.declare_variable(term, sort.as_str(), variable)
+                let comment = quoted_id_text(self.alloc, variable.id.as_str())?;
+                Ok(Entry::Constant(comment))
             }
+        }
+    }
+
+    /// How an application is entered, behind the lines of its arguments in order.
+    #[cycle(walk)]
+    fn encode_application(
+        &mut self,
+        op: &Op,
+        args: &[Term],
+        ret_ty: &TermType,
+    ) -> Result<Entry, WriteError>
+        ensures lines { WritesStated S.contents self.old self.new (application_entry (enums_in self.old) (application_rendering (plain_op op.now) (plain_terms (map plain_term args.now)) (plain_type ret_ty.now)) (plain_op op.now) (plain_terms (map plain_term args.now))) SaysEntry result }
+        ensures cause { FaultCounted S.faults S.place (WriteError.Sink SinkError.Fault) self.old self.new result }
+        ensures fault { type_fault (enums_in self.old) (plain_type ret_ty.now) ≡ None → Finds write_fault (term_fault (enums_in self.old) (Application (plain_op op.now) (plain_terms (map plain_term args.now)) (plain_type ret_ty.now))) result }
+    {
+        match rendering_of(self.alloc, op, args, ret_ty)? {
+            Rendering::Application => {
+                let operands = self.encode_terms(args)?;
+                Ok(Entry::Body(application_body(self.alloc, op, operands)?))
+            }
+            Rendering::EqualsIntMin(width) => {
+                let operands = self.encode_terms(args)?;
+                Ok(Entry::Body(least_body(self.alloc, width, operands)?))
+            }
+            Rendering::False => Ok(Entry::False),
         }
     }
 
     /// The texts of terms, in order.
     #[cycle(walk)]
-    fn encode_terms(&mut self, terms: &[Term]) -> Result<Vec<Text>, EncodeError>
+    fn encode_terms(&mut self, terms: &[Term]) -> Result<Vec<Text>, WriteError>
         ensures lines { WritesStated S.contents self.old self.new (lines.encode_terms (enums_in self.old) (plain_terms (map plain_term terms.now))) (λ es texts. AreSpelled es texts.items) result }
-        ensures cause { FaultCounted S.faults S.place self.old self.new result }
-        ensures fault { Finds (terms_fault (enums_in self.old) (plain_terms (map plain_term terms.now))) result }
+        ensures cause { FaultCounted S.faults S.place (WriteError.Sink SinkError.Fault) self.old self.new result }
+        ensures fault { Finds write_fault (terms_fault (enums_in self.old) (plain_terms (map plain_term terms.now))) result }
     {
         let mut texts = Vec::new(self.alloc);
         for term in terms {
@@ -410,26 +277,49 @@ impl<S: Sink> Encoder<'_, S> {
         Ok(texts)
     }
 
+    /// Puts the lines of a term that has no name yet, and enters it.
+    fn enter(&mut self, term: &Term, sort: &str, entry: &Entry) -> Result<Text, WriteError>
+        requires sound { term_fault (enums_in self.old) (plain_term term.now) ≡ None }
+        ensures lines { (s : Tables) (e : Expression) (p : PlainEntry) → HasNames self.old s → name_of_term s (plain_term term.now) ≡ None → sort.now ≡ spelled e → SaysEntry p entry.now →
+            WritesHere S.contents self.old self.new (enter_by p (plain_term term.now) e s) IsSpelled result }
+        ensures cause { FaultCounted S.faults S.place (WriteError.Sink SinkError.Fault) self.old self.new result }
+        ensures fault { Finds write_fault None result }
+    {
+        let name = self.name_for(entry)?;
+        entry.put(&mut self.script, name.as_str(), sort)?;
+        self.names.enter(term, &name)?;
+        Ok(name)
+    }
+
+    /// The name of an entry.
+    fn name_for(&self, entry: &Entry) -> Result<Text, AllocError>
+        ensures { (s : Tables) (p : PlainEntry) → HasNames self.now s → SaysEntry p entry.now → IfOk result (λ name. rc_str_bytes name ≡ entry_name p s) }
+    {
+        match entry {
+            Entry::Constant(_) | Entry::Body(_) => self.names.next(),
+            Entry::False => Text::from_str(self.alloc, "false"),
+        }
+    }
+
     /// Puts an assertion for each text, in order.
-    fn put_assertions(&mut self, texts: &[Text]) -> Result<(), EncodeError>
+    fn put_assertions(&mut self, texts: &[Text]) -> Result<(), SinkError>
         ensures lines { (s : Tables) (es : List Expression) → HasNames self.old s → AreSpelled es texts.now → OnOk result (Wrote S.contents self.old self.new (map Assert es) s) }
-        ensures cause { FaultCounted S.faults S.place self.old self.new result }
-        ensures fault { Finds None result }
+        ensures cause { FaultCounted S.faults S.place SinkError.Fault self.old self.new result }
     {
         for text in texts {
-            self.put_assertion(text.as_str())?;
+            self.script.assert(text.as_str())?;
         }
         Ok(())
     }
 
     /// Puts the whole script of these terms.
-    fn put_script(&mut self, terms: &[Term]) -> Result<(), EncodeError>
+    fn put_script(&mut self, terms: &[Term]) -> Result<(), WriteError>
         ensures lines { HasNames self.old no_names → OnOk result (Wrote S.contents self.old self.new (option_line ∷ (lines.encode (enums_in self.old) (map plain_term terms.now) no_names).lines) (names (enums_in self.old) (map plain_term terms.now))) }
-        ensures cause { FaultCounted S.faults S.place self.old self.new result }
-        ensures fault { Finds (terms_fault (enums_in self.old) (plain_terms (map plain_term terms.now))) result }
+        ensures cause { FaultCounted S.faults S.place (WriteError.Sink SinkError.Fault) self.old self.new result }
+        ensures fault { Finds write_fault (terms_fault (enums_in self.old) (plain_terms (map plain_term terms.now))) result }
     {
         self.put_option()?;
         let texts = self.encode_terms(terms)?;
-        self.put_assertions(texts.as_slice())
+        Ok(self.put_assertions(texts.as_slice())?)
     }
 }

@@ -30,64 +30,140 @@ pub enum EncodeError {
     Memory,
 }
 
-impl From<SinkError> for EncodeError {
+/// Why there is no text of a literal or an application.
+#[derive(Debug, PartialEq, Eq, Drop)]
+pub(crate) enum TextError {
+    /// This string literal has a character above `SMT_LIB_MAX_CODE_POINT`.
+    StringFailed(Text),
+    /// This pattern has a character above `SMT_LIB_MAX_CODE_POINT`.
+    PatternFailed(OrdPattern),
+    /// There was no memory.
+    Memory,
+}
+
+/// Why terms were not written.
+#[derive(Debug, PartialEq, Eq, Drop)]
+pub(crate) enum WriteError {
+    /// The sink did not take a line.
+    Sink(SinkError),
+    /// There was no text for a line, or no memory for a name.
+    Text(TextError),
+}
+
+impl From<WriteError> for EncodeError {
     ghost use Rattle.std.specs.Prelude.{◌≡◌};
     ghost use Rattle.smt_encode.specs.Errors.{encode_error};
 
-    ghost from_gives = { λ sink_error error. error ≡ encode_error sink_error };
+    ghost from_gives = { λ inner error. error ≡ encode_error inner };
 
-    fn from(error: SinkError) -> EncodeError {
+    fn from(error: WriteError) -> EncodeError {
         match error {
-            SinkError::Fault => EncodeError::Io,
-            SinkError::Memory => EncodeError::Memory,
+            WriteError::Sink(SinkError::Fault) => EncodeError::Io,
+            WriteError::Sink(SinkError::Memory) => EncodeError::Memory,
+            WriteError::Text(TextError::StringFailed(text)) => {
+                EncodeError::EncodeStringFailed(text)
+            }
+            WriteError::Text(TextError::PatternFailed(pattern)) => {
+                EncodeError::EncodePatternFailed(pattern)
+            }
+            WriteError::Text(TextError::Memory) => EncodeError::Memory,
         }
     }
 }
 
-impl From<TermError> for EncodeError {
+impl From<SinkError> for WriteError {
     ghost use Rattle.std.specs.Prelude.{◌≡◌};
-    ghost use Rattle.smt_encode.specs.declared.error.EncodeError.TheVariants.{Memory};
+    ghost use Rattle.smt_encode.specs.declared.error.WriteError.TheVariants.{Sink};
+
+    ghost from_gives = { λ inner error. error ≡ Sink inner };
+
+    fn from(error: SinkError) -> WriteError {
+        WriteError::Sink(error)
+    }
+}
+
+impl From<TextError> for WriteError {
+    ghost use Rattle.std.specs.Prelude.{◌≡◌};
+    ghost use Rattle.smt_encode.specs.declared.error.WriteError.TheVariants.{Text};
+
+    ghost from_gives = { λ inner error. error ≡ Text inner };
+
+    fn from(error: TextError) -> WriteError {
+        WriteError::Text(error)
+    }
+}
+
+impl From<SExprParseError> for TextError {
+    ghost use Rattle.std.specs.Prelude.{◌≡◌};
+    ghost use Rattle.smt_encode.specs.declared.error.TextError.TheVariants.{Memory};
 
     ghost from_gives = { λ _ error. error ≡ Memory };
 
-    fn from(error: TermError) -> EncodeError {
+    fn from(error: SExprParseError) -> TextError {
         match error {
-            TermError::Memory => EncodeError::Memory,
+            SExprParseError::Memory => TextError::Memory,
         }
     }
 }
 
-impl From<SExprParseError> for EncodeError {
+impl From<AllocError> for TextError {
     ghost use Rattle.std.specs.Prelude.{◌≡◌};
-    ghost use Rattle.smt_encode.specs.declared.error.EncodeError.TheVariants.{Memory};
+    ghost use Rattle.smt_encode.specs.declared.error.TextError.TheVariants.{Memory};
 
     ghost from_gives = { λ _ error. error ≡ Memory };
 
-    fn from(error: SExprParseError) -> EncodeError {
+    fn from(_error: AllocError) -> TextError {
+        TextError::Memory
+    }
+}
+
+impl From<TermError> for TextError {
+    ghost use Rattle.std.specs.Prelude.{◌≡◌};
+    ghost use Rattle.smt_encode.specs.declared.error.TextError.TheVariants.{Memory};
+
+    ghost from_gives = { λ _ error. error ≡ Memory };
+
+    fn from(error: TermError) -> TextError {
         match error {
-            SExprParseError::Memory => EncodeError::Memory,
+            TermError::Memory => TextError::Memory,
         }
     }
 }
 
-impl From<AllocError> for EncodeError {
+impl From<TermError> for WriteError {
     ghost use Rattle.std.specs.Prelude.{◌≡◌};
-    ghost use Rattle.smt_encode.specs.declared.error.EncodeError.TheVariants.{Memory};
+    ghost use Rattle.smt_encode.specs.declared.error.TextError.TheVariants.{Memory};
+    ghost use Rattle.smt_encode.specs.declared.error.WriteError.TheVariants.{Text};
 
-    ghost from_gives = { λ _ error. error ≡ Memory };
+    ghost from_gives = { λ _ error. error ≡ Text Memory };
 
-    fn from(_error: AllocError) -> EncodeError {
-        EncodeError::Memory
+    fn from(error: TermError) -> WriteError {
+        match error {
+            TermError::Memory => WriteError::Text(TextError::Memory),
+        }
     }
 }
 
-impl<T: Drop> From<AllocFailed<T>> for EncodeError {
+impl From<AllocError> for WriteError {
     ghost use Rattle.std.specs.Prelude.{◌≡◌};
-    ghost use Rattle.smt_encode.specs.declared.error.EncodeError.TheVariants.{Memory};
+    ghost use Rattle.smt_encode.specs.declared.error.TextError.TheVariants.{Memory};
+    ghost use Rattle.smt_encode.specs.declared.error.WriteError.TheVariants.{Text};
 
-    ghost from_gives = { λ _ error. error ≡ Memory };
+    ghost from_gives = { λ _ error. error ≡ Text Memory };
 
-    fn from(_error: AllocFailed<T>) -> EncodeError {
-        EncodeError::Memory
+    fn from(_error: AllocError) -> WriteError {
+        WriteError::Text(TextError::Memory)
+    }
+}
+
+impl<T: Drop> From<AllocFailed<T>> for WriteError {
+    ghost use Rattle.std.specs.Prelude.{◌≡◌};
+    ghost use Rattle.smt_encode.specs.declared.error.TextError.TheVariants.{Memory};
+    ghost use Rattle.smt_encode.specs.declared.error.WriteError.TheVariants.{Text};
+
+    ghost from_gives = { λ _ error. error ≡ Text Memory };
+
+    fn from(_error: AllocFailed<T>) -> WriteError {
+        WriteError::Text(TextError::Memory)
     }
 }

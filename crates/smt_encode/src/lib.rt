@@ -22,7 +22,9 @@
 #![tactic(auto, using(smt_term::specs::View::views))]
 
 mod encoder;
+mod entry;
 mod error;
+mod names;
 mod pattern;
 mod rendering;
 mod spell;

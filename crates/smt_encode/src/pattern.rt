@@ -1,8 +1,8 @@
 // The texts of patterns, as regular expressions of the theory UnicodeStrings.
-ghost use Rattle.std.specs.Prelude.{◌≡◌, List, [], ◌∷◌, codes, IfOk, IfSome, IsErrOf, is_some, map};
+ghost use Rattle.std.specs.Prelude.{◌≡◌, List, [], ◌∷◌, codes, IfOk, IfSome, is_some, map};
 ghost use Rattle.std.specs.Rc.{rc_str_bytes};
 ghost use Rattle.smt_encode.specs.Encoded.{AreSpelled};
-ghost use Rattle.smt_encode.specs.Refusals.{Finds};
+ghost use Rattle.smt_encode.specs.Refusals.{text_fault, Finds};
 ghost use Rattle.smt_lines.specs.Spelling.{spelled};
 ghost use Rattle.smt_semantics.specs.WrittenStrings.{part_expr, pattern_expr};
 ghost use Rattle.smt_semantics.specs.Script.{group, name};
@@ -12,22 +12,20 @@ ghost use Rattle.smt_term.specs.PatternView.{plain_ord_pattern, plain_part};
 ghost use Rattle.smt_meaning.specs.Plain.{Character, PatternPart};
 ghost use Rattle.std.specs.List.{list_all};
 
-use crate::error::EncodeError;
+use crate::error::TextError;
 use crate::spell::application_text;
 use smt_sexpr::{SExprParseError, quote_string};
 use smt_term::{OrdPattern, PatternElem, Text};
 use std::alloc::{AllocError, Global};
 
 /// The regular expression of a pattern, or its refusal where a character is above `SMT_LIB_MAX_CODE_POINT`.
-pub(crate) fn pattern_text(alloc: Global, pattern: &OrdPattern) -> Result<Text, EncodeError>
+pub(crate) fn pattern_text(alloc: Global, pattern: &OrdPattern) -> Result<Text, TextError>
     ensures text { IfOk result (λ text. rc_str_bytes text ≡ spelled (pattern_expr (plain_ord_pattern pattern.now))) }
-    ensures fault { Finds (fault_unless (list_all is_pattern_part (plain_ord_pattern pattern.now)) (EncodePatternFailed (plain_ord_pattern pattern.now))) result }
-    ensures unspent { IsErrOf result EncodeError.Spent → ⊥ }
-    ensures no_sink { IsErrOf result EncodeError.Io → ⊥ }
+    ensures fault { Finds text_fault (fault_unless (list_all is_pattern_part (plain_ord_pattern pattern.now)) (EncodePatternFailed (plain_ord_pattern pattern.now))) result }
 {
     match part_texts(alloc, pattern.get_elems())? {
         Some(parts) => Ok(joined_text(alloc, parts.as_slice())?),
-        None => Err(EncodeError::EncodePatternFailed(pattern.share()?)),
+        None => Err(TextError::PatternFailed(pattern.share()?)),
     }
 }
 

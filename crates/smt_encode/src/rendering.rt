@@ -1,11 +1,11 @@
 // How an application is written: as it stands, as an equality, or as `false`.
-ghost use Rattle.std.specs.Prelude.{◌≡◌, List, IfOk, OnOk, IsErrOf, map};
+ghost use Rattle.std.specs.Prelude.{◌≡◌, List, IfOk, OnOk, map};
 ghost use Rattle.std.specs.Rc.{rc_str_bytes};
 ghost use Rattle.std.specs.String.{string_bytes};
 ghost use Rattle.smt_bits.specs.Width.{bits_in};
 ghost use Rattle.smt_encode.specs.Encoded.{AreSpelled};
 ghost use Rattle.smt_encode.specs.Renderings.{pattern_fault, plain_rendering};
-ghost use Rattle.smt_encode.specs.Refusals.{Finds};
+ghost use Rattle.smt_encode.specs.Refusals.{text_fault, Finds};
 ghost use Rattle.smt_lines.specs.LineForms as forms;
 ghost use Rattle.smt_lines.specs.LineForms.{application_body, least_body, operator_head, with_pattern};
 ghost use Rattle.smt_lines.specs.Lines as lines;
@@ -17,7 +17,7 @@ ghost use Rattle.smt_meaning.specs.Plain.{PatternPart, terms};
 ghost use Rattle.smt_meaning.specs.Types.{type_of};
 ghost use Rattle.smt_term.specs.View.{plain_op, plain_term, plain_type};
 
-use crate::error::EncodeError;
+use crate::error::TextError;
 use crate::pattern::pattern_text;
 use crate::spell::{application_text, bits_literal, head_text};
 use smt_bits::{BitVec, Width};
@@ -90,11 +90,9 @@ pub(crate) fn application_body(
     alloc: Global,
     op: &Op,
     mut operands: Vec<Text>,
-) -> Result<String, EncodeError>
+) -> Result<String, TextError>
     ensures text { (es : List Expression) → AreSpelled es operands.items → IfOk result (λ text. string_bytes text ≡ spelled (application_body (operator_head (plain_op op.now)) (plain_op op.now) es)) }
-    ensures fault { Finds (pattern_fault (plain_op op.now)) result }
-    ensures unspent { IsErrOf result EncodeError.Spent → ⊥ }
-    ensures no_sink { IsErrOf result EncodeError.Io → ⊥ }
+    ensures fault { Finds text_fault (pattern_fault (plain_op op.now)) result }
 {
     push_pattern(alloc, op, &mut operands)?;
     let head = head_text(alloc, op)?;
@@ -114,11 +112,9 @@ pub(crate) fn least_body(
 }
 
 /// Puts the pattern of `string.like` behind the operands. Where there are none, their empty text stands before it.
-fn push_pattern(alloc: Global, op: &Op, operands: &mut Vec<Text>) -> Result<(), EncodeError>
+fn push_pattern(alloc: Global, op: &Op, operands: &mut Vec<Text>) -> Result<(), TextError>
     ensures operands { (es : List Expression) → AreSpelled es operands.old.items → OnOk result (AreSpelled (forms.operands (plain_op op.now) es) operands.new.items) }
-    ensures fault { Finds (pattern_fault (plain_op op.now)) result }
-    ensures unspent { IsErrOf result EncodeError.Spent → ⊥ }
-    ensures no_sink { IsErrOf result EncodeError.Io → ⊥ }
+    ensures fault { Finds text_fault (pattern_fault (plain_op op.now)) result }
 {
     match op {
         Op::StringLike(pattern) => {

@@ -1,12 +1,12 @@
 // The texts of names, sorts, literals, ids and applications.
-ghost use Rattle.std.specs.Prelude.{◌≡◌, ◌++◌, List, IfOk, OnOk, IsErrOf, codes, decimal, encode_utf8};
+ghost use Rattle.std.specs.Prelude.{◌≡◌, ◌++◌, List, IfOk, OnOk, codes, decimal, encode_utf8};
 ghost use Rattle.std.specs.List.{flat_map, join_by};
 ghost use Rattle.std.specs.Rc.{rc_str_bytes};
 ghost use Rattle.std.specs.String.{string_bytes};
 ghost use Rattle.smt_bits.specs.BitVec.{number_of, width_of};
 ghost use Rattle.smt_bits.specs.Width.{bits_in};
 ghost use Rattle.smt_encode.specs.Encoded.{AreSpelled};
-ghost use Rattle.smt_encode.specs.Refusals.{Finds};
+ghost use Rattle.smt_encode.specs.Refusals.{text_fault, Finds};
 ghost use Rattle.smt_semantics.specs.Meanings.{as_sort};
 ghost use Rattle.smt_semantics.specs.Sorts as sorts;
 ghost use Rattle.smt_lexicon.specs.Reading.{Expression};
@@ -20,7 +20,7 @@ ghost use Rattle.smt_meaning.specs.Plain.{ZeroExtendOp};
 ghost use Rattle.smt_term.specs.View.{plain_op};
 ghost use Rattle.smt_script.specs.SharedTexts.{texts};
 
-use crate::error::EncodeError;
+use crate::error::TextError;
 use smt_bits::{BitVec, Width};
 use smt_sexpr::quote_string;
 use smt_term::{Op, Text};
@@ -65,25 +65,23 @@ pub(crate) fn set_sort(alloc: Global, inner: Text) -> Result<Text, AllocError>
 }
 
 /// A string between quotes (UnicodeStrings), or its refusal where a character is above `SMT_LIB_MAX_CODE_POINT`.
-pub(crate) fn string_literal(alloc: Global, text: &Text) -> Result<Text, EncodeError>
+pub(crate) fn string_literal(alloc: Global, text: &Text) -> Result<Text, TextError>
     ensures text { IfOk result (λ literal. rc_str_bytes literal ≡ spelled (string_text (rc_str_bytes text.now))) }
-    ensures fault { Finds (fault_unless (is_string (rc_str_bytes text.now)) (EncodeStringFailed (rc_str_bytes text.now))) result }
-    ensures unspent { IsErrOf result EncodeError.Spent → ⊥ }
-    ensures no_sink { IsErrOf result EncodeError.Io → ⊥ }
+    ensures fault { Finds text_fault (fault_unless (is_string (rc_str_bytes text.now)) (EncodeStringFailed (rc_str_bytes text.now))) result }
 {
     match quote_string(alloc, text.as_str())? {
         Some(literal) => Ok(literal),
-        None => Err(EncodeError::EncodeStringFailed(text.clone()?)),
+        None => Err(TextError::StringFailed(text.clone()?)),
     }
 }
 
 /// `(as WORD S)`: the constant of this name that has this sort.
-pub(crate) fn as_text(alloc: Global, word: &str, sort: &str) -> Result<Text, AllocError>
-    ensures { (e : Expression) → sort.now ≡ spelled e → IfOk result (λ text. rc_str_bytes text ≡ spelled (as_sort word.now e)) }
+pub(crate) fn as_text(alloc: Global, word: &str, sort: &str) -> Result<String, AllocError>
+    ensures { (e : Expression) → sort.now ≡ spelled e → IfOk result (λ text. string_bytes text ≡ spelled (as_sort word.now e)) }
 {
     let word = Text::from_str(alloc, word)?;
     let sort = Text::from_str(alloc, sort)?;
-    Text::from_string(application_text(alloc, "as", &[word, sort])?)
+    application_text(alloc, "as", &[word, sort])
 }
 
 /// `(some x)`.
@@ -98,15 +96,15 @@ pub(crate) fn set_text(
     alloc: Global,
     sort: &str,
     mut elements: Vec<Text>,
-) -> Result<Text, AllocError>
-    ensures { (e : Expression) (es : List Expression) → sort.now ≡ spelled e → AreSpelled es elements.items → IfOk result (λ text. rc_str_bytes text ≡ spelled (set_body e es)) }
+) -> Result<String, AllocError>
+    ensures { (e : Expression) (es : List Expression) → sort.now ≡ spelled e → AreSpelled es elements.items → IfOk result (λ text. string_bytes text ≡ spelled (set_body e es)) }
 {
     let empty = as_text(alloc, "set.empty", sort)?;
     if elements.is_empty() {
         return Ok(empty);
     }
-    elements.push(empty)?;
-    Text::from_string(application_text(alloc, "set.insert", elements.as_slice())?)
+    elements.push(Text::from_string(empty)?)?;
+    application_text(alloc, "set.insert", elements.as_slice())
 }
 
 /// What stands before the operands of an application.

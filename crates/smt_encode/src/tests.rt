@@ -246,6 +246,20 @@ fn encodes_once(alloc: Global) -> Result<bool, Fail> {
     Ok(spent && named && is_script(sink.bytes(), NOT_B))
 }
 
+/// The sink, with the script of these terms. On an error the encoder is let go with it.
+fn encoded(alloc: Global, sink: MemorySink, terms: &[Term]) -> Result<MemorySink, EncodeError> {
+    let enums = EnumTable::new(alloc);
+    let mut encoder = Encoder::new(alloc, &enums, sink);
+    encoder.encode(terms)?;
+    Ok(encoder.into_script())
+}
+
+/// Puts the script of these terms to a sink of the caller's.
+fn encode_to(alloc: Global, sink: &mut MemorySink, terms: &[Term]) -> Result<(), EncodeError> {
+    let enums = EnumTable::new(alloc);
+    Encoder::new(alloc, &enums, sink).encode(terms)
+}
+
 /// Whether an encoder whose sink fails at the third put says so, is spent, and has put some of the script.
 fn is_spent_by_its_sink(alloc: Global) -> Result<bool, Fail> {
     let terms = terms(alloc, "b:Bool")?;
@@ -256,6 +270,22 @@ fn is_spent_by_its_sink(alloc: Global) -> Result<bool, Fail> {
     let sink = encoder.into_script();
     let begun = sink.bytes().len() < OPTION.len() && OPTION.as_bytes().starts_with(sink.bytes());
     Ok(failed && spent && begun)
+}
+
+#[test]
+fn an_encoder_is_let_go_at_an_error(rt: HostRuntime) -> Result<(), Fail> {
+    let alloc = rt.alloc();
+    let good = terms(alloc, "b:Bool,not")?;
+    let sink = encoded(alloc, MemorySink::new(alloc, &[], 200)?, good.as_slice())?;
+    assert!(rt; is_script(sink.bytes(), NOT_B));
+    let failing = MemorySink::new(alloc, &[3], 200)?;
+    assert!(rt;
+        encoded(alloc, failing, good.as_slice()).is_err_and(|error| error == EncodeError::Io)
+    );
+    let mut sink = MemorySink::new(alloc, &[], 200)?;
+    encode_to(alloc, &mut sink, good.as_slice())?;
+    assert!(rt; is_script(sink.bytes(), NOT_B));
+    Ok(())
 }
 
 #[test]

@@ -1,156 +1,85 @@
-use Rattle.std.proofs.Common.{◌≡◌, ◌+◌, None, Some, [], ◌∷◌, drop, map, refl, arith, rules, ap, sym, subst, ◌∙◌, option_map}
-use Rattle.std.specs.Prelude.{false}
-use Rattle.std.specs.Rc.{rc_str_bytes}
+use Rattle.std.proofs.Common.{◌≡◌, ◌+◌, None, Some, [], ◌∷◌, drop, map, refl, arith, rules, ap, sym, subst, ◌∙◌}
 use Rattle.std.proofs.lemmas.List.{at_drop_more, at_drop_all}
-use Rattle.smt_bits.specs.Width.{bits_in}
-use Rattle.smt_term.specs.Enums.{enums_of}
 use Rattle.smt_meaning.specs.Faults.{Fault, term_fault}
 use Rattle.smt_meaning.specs.Plain.{Application, SetTerm, SomeTerm, terms}
 use Rattle.smt_meaning.specs.Types.{type_of}
-use Rattle.smt_term.specs.View.{plain_items, plain_op, plain_term, plain_term-App, plain_term-None, plain_term-Set, plain_term-Some, plain_term-Var, plain_type}
-use Rattle.smt_lines.specs.LineForms.{none_body, set_body, some_body, operator_head, application_body, least_body}
-use Rattle.smt_lines.specs.TermTexts.{bool_name}
-use Rattle.smt_lines.specs.Lines.{Enums, define, enter_term, encode_term, encode_terms, encode_type}
-use Rattle.smt_lines.specs.NameTables.{name_of_term}
-use Rattle.smt_lines.proofs.Making.{arguments_leave, elements_leave, inner_leaves, types_leave}
-use Rattle.smt_encode.specs.Encoded.{AreSpelled, enums_in, IsSpelled, Wrote}
+use Rattle.smt_term.specs.View.{plain_op, plain_term, plain_term-None, plain_term-Set, plain_term-Some, plain_term-Var, plain_type, plain_variable}
+use Rattle.smt_lines.specs.LineForms.{quoted_id, set_body, some_body}
+use Rattle.smt_lines.specs.Lines.{Enums, encode_term, encode_terms, encode_type, made_of}
+use Rattle.smt_lines.proofs.Making.{types_leave}
+use Rattle.smt_encode.specs.Encoded.{enums_in}
+use Rattle.smt_encode.specs.Entries.{term_entry, ByBody}
+use Rattle.smt_encode.specs.Refusals.{write_fault}
 use Rattle.smt_encode.specs.Renderings.{plain_rendering}
-use Rattle.smt_encode.specs.Refusals.{fault_of}
-use Rattle.smt_encode.proofs.Applied.{alone_written, parts_written}
-use Rattle.smt_encode.proofs.Faulted.{one_passed, sort_fault}
+use Rattle.smt_encode.proofs.Faulted.{arguments_fault, one_passed}
 use Rattle.smt_encode.proofs.Going.{starts, same_enums, goes_on, ends}
-use Rattle.smt_encode.proofs.Stated.{application_stated, as_some, declared, false_stated, least_stated, named_unless, named_written, none_stated, set_stated, some_stated, variable_stated}
+use Rattle.smt_encode.proofs.Lines.{binds, nothing_written}
+use Rattle.smt_encode.proofs.Stated.{entered_unless, entered_written, named_written, of_form, parts_leave}
 use Rattle.smt_encode.proofs.encoder.Encoder.+walk.Goals as goal
 
+-- ---- one term
+
+pub encode_term-returns-in_ok-clone-in-Some-clause-lines : goal.encode_term-returns-in_ok-clone-in-Some-clause-lines
+encode_term-returns-in_ok-clone-in-Some-clause-lines g m c s has =
+    let there = sym (has.terms c.args.term.now) ∙ sym c.in-Some.ensures.name ∙ ap Some (sym c.in_ok-clone-in-Some.ensures.cases) in
+    named_written (enums_in c.args.self.now) c.args.term.now s c.in_ok-clone-in-Some.field-0 has (entered_unless c.args.term.now c.in_default.not-Prim) there
+
 -- ---- one term that has no name yet
-
-pub encode_new-returns-in_err-sort-in-App-clause-fault : goal.encode_new-returns-in_err-sort-in-App-clause-fault
-encode_new-returns-in_err-sort-in-App-clause-fault g m c =
-    let enums = enums_in c.args.self.now in
-    let t = plain_term c.args.term.now in
-    let listed : t ≡ Application (plain_op c.in-App.op) (terms (plain_items c.in-App.args)) (plain_type c.in-App.ret_ty) = ap plain_term c.in-App.is ∙ plain_term-App c.in-App.op c.in-App.args c.in-App.ret_ty in
-    let named : (f : Fault) → fault_of c.in_err-sort-in-App.field-0.0 ≡ Some f → term_fault enums t ≡ Some f =
-    λ f h. sort_fault enums t c.in-App.op (terms (plain_items c.in-App.args)) (plain_type c.in-App.ret_ty) listed f (c.in_err-sort-in-App.ensures.fault f h) in
-    search (rules, named)
-
-pub encode_new-returns-in-App-clause-lines : goal.encode_new-returns-in-App-clause-lines
-encode_new-returns-in-App-clause-lines g m c s has absent =
-    let enums = enums_in c.args.self.now in
-    let t = plain_term c.args.term.now in
-    let op = c.in-App.op in
-    let type = plain_type c.in-App.ret_ty in
-    let ts = terms (map plain_term c.items-args.result.now) in
-    let listed : t ≡ Application (plain_op op) ts type = ap plain_term c.in-App.is ∙ plain_term-App op c.in-App.args c.in-App.ret_ty ∙ ap (λ l. Application (plain_op op) (terms l) type) (sym c.items-args.ensures.plain) in
-    let sort = c.in_ok-sort-in-App.ensures.lines s has in
-    let how = ap plain_rendering (sym c.in-False.is) ∙ c.in_ok-rendering_of-in-App.ensures in
-    alone_written enums t s c.args.self.now c.encode_sort.new.self sort.0 (λ e v. enter_term t (bool_name false) [] v) (false_stated enums t s absent op ts type listed how) c.name_false.new.self c.name_false.result
-    (c.name_false.ensures.lines (encode_type enums (type_of t) s).tables sort.0.names (types_leave enums (type_of t) s t ∙ absent))
-
-pub encode_new-returns-in-Application-clause-lines : goal.encode_new-returns-in-Application-clause-lines
-encode_new-returns-in-Application-clause-lines g m c s has absent =
-    let enums = enums_in c.args.self.now in
-    let t = plain_term c.args.term.now in
-    let op = c.in-App.op in
-    let type = plain_type c.in-App.ret_ty in
-    let ts = terms (map plain_term c.items-args.result.now) in
-    let listed : t ≡ Application (plain_op op) ts type = ap plain_term c.in-App.is ∙ plain_term-App op c.in-App.args c.in-App.ret_ty ∙ ap (λ l. Application (plain_op op) (terms l) type) (sym c.items-args.ensures.plain) in
-    let sort = c.in_ok-sort-in-App.ensures.lines s has in
-    let w = encode_type enums (type_of t) s in
-    let known : enums_in c.encode_sort.new.self ≡ enums = ap (λ e. enums_of e.now) c.in_ok-sort-in-App.ensures.cause.same_enums in
-    let parts = subst (λ (e : Enums). Wrote g.S.Sink.contents c.encode_sort.new.self c.encode_terms.new.self (encode_terms e ts w.tables).lines (encode_terms e ts w.tables).tables × AreSpelled (encode_terms e ts w.tables).made c.in_ok-operands-in-Application.operands.items) known
-    (c.in_ok-operands-in-Application.ensures.lines w.tables sort.0.names) in
-    let u = encode_terms enums ts w.tables in
-    let how = ap plain_rendering (sym c.in-Application.is) ∙ c.in_ok-rendering_of-in-App.ensures in
-    let gone : name_of_term u.tables t ≡ None = subst (λ k. name_of_term u.tables k ≡ name_of_term w.tables k) (sym listed) (arguments_leave enums (plain_op op) ts type w.tables) ∙ types_leave enums (type_of t) s t ∙ absent in
-    parts_written enums t s c.args.self.now c.encode_sort.new.self sort.0 (λ v. encode_terms enums ts v) (λ e es v. define t e (application_body (operator_head (plain_op op)) (plain_op op) es) v) (application_stated enums t s absent op ts type listed how)
-    c.encode_terms.new.self c.define.new.self parts.0 c.define.result
-    (c.define.ensures.lines u.tables w.made (application_body (operator_head (plain_op op)) (plain_op op) u.made) parts.0.names gone (c.as_str.ensures.value ∙ sort.1)
-    (c.as_str-in-Application.ensures.value ∙ c.in_ok-body-in-Application.ensures.text u.made parts.1))
-
-pub encode_new-returns-in-EqualsIntMin-clause-lines : goal.encode_new-returns-in-EqualsIntMin-clause-lines
-encode_new-returns-in-EqualsIntMin-clause-lines g m c s has absent =
-    let enums = enums_in c.args.self.now in
-    let t = plain_term c.args.term.now in
-    let op = c.in-App.op in
-    let type = plain_type c.in-App.ret_ty in
-    let ts = terms (map plain_term c.items-args.result.now) in
-    let listed : t ≡ Application (plain_op op) ts type = ap plain_term c.in-App.is ∙ plain_term-App op c.in-App.args c.in-App.ret_ty ∙ ap (λ l. Application (plain_op op) (terms l) type) (sym c.items-args.ensures.plain) in
-    let sort = c.in_ok-sort-in-App.ensures.lines s has in
-    let w = encode_type enums (type_of t) s in
-    let known : enums_in c.encode_sort.new.self ≡ enums = ap (λ e. enums_of e.now) c.in_ok-sort-in-App.ensures.cause.same_enums in
-    let parts = subst (λ (e : Enums). Wrote g.S.Sink.contents c.encode_sort.new.self c.encode_terms-in-EqualsIntMin.new.self (encode_terms e ts w.tables).lines (encode_terms e ts w.tables).tables × AreSpelled (encode_terms e ts w.tables).made c.in_ok-operands-in-EqualsIntMin.operands.items) known
-    (c.in_ok-operands-in-EqualsIntMin.ensures.lines w.tables sort.0.names) in
-    let u = encode_terms enums ts w.tables in
-    let how = ap plain_rendering (sym c.in-EqualsIntMin.is) ∙ c.in_ok-rendering_of-in-App.ensures in
-    let gone : name_of_term u.tables t ≡ None = subst (λ k. name_of_term u.tables k ≡ name_of_term w.tables k) (sym listed) (arguments_leave enums (plain_op op) ts type w.tables) ∙ types_leave enums (type_of t) s t ∙ absent in
-    parts_written enums t s c.args.self.now c.encode_sort.new.self sort.0 (λ v. encode_terms enums ts v) (λ e es v. define t e (least_body (bits_in c.in-EqualsIntMin.width) es) v) (least_stated enums t s absent (bits_in c.in-EqualsIntMin.width) op ts type listed how)
-    c.encode_terms-in-EqualsIntMin.new.self c.define-in-EqualsIntMin.new.self parts.0 c.define-in-EqualsIntMin.result
-    (c.define-in-EqualsIntMin.ensures.lines u.tables w.made (least_body (bits_in c.in-EqualsIntMin.width) u.made) parts.0.names gone (c.as_str-in-EqualsIntMin.ensures.value ∙ sort.1)
-    (c.as_str-in-EqualsIntMin-2.ensures.value ∙ c.in_ok-body-in-EqualsIntMin.ensures u.made parts.1))
-
-pub encode_new-returns-in-None-clause-lines : goal.encode_new-returns-in-None-clause-lines
-encode_new-returns-in-None-clause-lines g m c s has absent =
-    let enums = enums_in c.args.self.now in
-    let t = plain_term c.args.term.now in
-    let sort = c.in_ok-sort-in-None.ensures.lines s has in
-    let w = encode_type enums (type_of t) s in
-    alone_written enums t s c.args.self.now c.encode_sort-in-None.new.self sort.0 (λ e v. define t e (none_body e) v) (none_stated enums t s absent _ (ap plain_term c.in-None.is ∙ plain_term-None c.in-None.field-0)) c.define-in-None.new.self c.define-in-None.result
-    (c.define-in-None.ensures.lines w.tables w.made (none_body w.made) sort.0.names (types_leave enums (type_of t) s t ∙ absent) (c.as_str-in-None-2.ensures.value ∙ sort.1)
-    (c.as_str-in-None-3.ensures.value ∙ c.in_ok-body-in-None.ensures w.made (c.as_str-in-None.ensures.value ∙ sort.1)))
-
-pub encode_new-returns-in-Set-clause-lines : goal.encode_new-returns-in-Set-clause-lines
-encode_new-returns-in-Set-clause-lines g m c s has absent =
-    let enums = enums_in c.args.self.now in
-    let t = plain_term c.args.term.now in
-    let element = plain_type c.in-Set.elts_ty in
-    let ts = terms (map plain_term c.items.result.now) in
-    let listed : t ≡ SetTerm element ts = ap plain_term c.in-Set.is ∙ plain_term-Set c.in-Set.elts_ty c.in-Set.elts ∙ ap (λ l. SetTerm element (terms l)) (sym c.items.ensures.plain) in
-    let sort = c.in_ok-sort-in-Set.ensures.lines s has in
-    let w = encode_type enums (type_of t) s in
-    let known : enums_in c.encode_sort-in-Set.new.self ≡ enums = ap (λ e. enums_of e.now) c.in_ok-sort-in-Set.ensures.cause.same_enums in
-    let parts = subst (λ (e : Enums). Wrote g.S.Sink.contents c.encode_sort-in-Set.new.self c.encode_terms-in-Set.new.self (encode_terms e ts w.tables).lines (encode_terms e ts w.tables).tables × AreSpelled (encode_terms e ts w.tables).made c.in_ok-operands-in-Set.operands.items) known
-    (c.in_ok-operands-in-Set.ensures.lines w.tables sort.0.names) in
-    let u = encode_terms enums ts w.tables in
-    let gone : name_of_term u.tables t ≡ None = subst (λ k. name_of_term u.tables k ≡ name_of_term w.tables k) (sym listed) (elements_leave enums element ts w.tables) ∙ types_leave enums (type_of t) s t ∙ absent in
-    parts_written enums t s c.args.self.now c.encode_sort-in-Set.new.self sort.0 (λ v. encode_terms enums ts v) (λ e es v. define t e (set_body e es) v) (set_stated enums t s absent element ts listed)
-    c.encode_terms-in-Set.new.self c.define-in-Set.new.self parts.0 c.define-in-Set.result
-    (c.define-in-Set.ensures.lines u.tables w.made (set_body w.made u.made) parts.0.names gone (c.as_str-in-Set-2.ensures.value ∙ sort.1)
-    (c.as_str-in-Set-3.ensures.value ∙ c.in_ok-body-in-Set.ensures w.made u.made (c.as_str-in-Set.ensures.value ∙ sort.1) parts.1))
-
-pub encode_new-returns-in-Some-clause-lines : goal.encode_new-returns-in-Some-clause-lines
-encode_new-returns-in-Some-clause-lines g m c s has absent =
-    let enums = enums_in c.args.self.now in
-    let t = plain_term c.args.term.now in
-    let inner = plain_term c.deref.result.now in
-    let listed : t ≡ SomeTerm inner = ap plain_term c.in-Some.is ∙ plain_term-Some c.in-Some.inner ∙ ap (λ u. SomeTerm (plain_term u)) (sym c.deref.ensures) in
-    let sort = c.in_ok-sort-in-Some.ensures.lines s has in
-    let w = encode_type enums (type_of t) s in
-    let known : enums_in c.encode_sort-in-Some.new.self ≡ enums = ap (λ e. enums_of e.now) c.in_ok-sort-in-Some.ensures.cause.same_enums in
-    let parts = subst (λ (e : Enums). Wrote g.S.Sink.contents c.encode_sort-in-Some.new.self c.encode_term.new.self (encode_term e inner w.tables).lines (encode_term e inner w.tables).tables × IsSpelled (encode_term e inner w.tables).made c.in_ok-operand-in-Some.operand) known
-    (c.in_ok-operand-in-Some.ensures.lines w.tables sort.0.names) in
-    let u = encode_term enums inner w.tables in
-    let gone : name_of_term u.tables t ≡ None = subst (λ k. name_of_term u.tables k ≡ name_of_term w.tables k) (sym listed) (inner_leaves enums inner w.tables) ∙ types_leave enums (type_of t) s t ∙ absent in
-    parts_written enums t s c.args.self.now c.encode_sort-in-Some.new.self sort.0 (λ v. encode_term enums inner v) (λ e x v. as_some t e x v) (some_stated enums t s absent inner listed)
-    c.encode_term.new.self c.define-in-Some.new.self parts.0 c.define-in-Some.result
-    (c.define-in-Some.ensures.lines u.tables w.made (some_body u.made) parts.0.names gone (c.as_str-in-Some.ensures.value ∙ sort.1)
-    (c.as_str-in-Some-2.ensures.value ∙ c.in_ok-body-in-Some.ensures u.made parts.1))
 
 pub encode_new-returns-clause-lines : goal.encode_new-returns-clause-lines
 encode_new-returns-clause-lines g m c s has absent =
     let enums = enums_in c.args.self.now in
-    let t = plain_term c.args.term.now in
-    let v = c.in-Var.variable in
-    let sort = c.in_ok-sort-in-Var.ensures.lines s has in
-    let w = encode_type enums (type_of t) s in
-    alone_written enums t s c.args.self.now c.encode_sort-in-Var.new.self sort.0 (λ e u. declared (rc_str_bytes v.id) t e u) (variable_stated enums t s absent (rc_str_bytes v.id) (plain_type v.ty) (ap plain_term c.in-Var.is ∙ plain_term-Var v)) c.declare_variable.new.self c.declare_variable.result
-    (c.declare_variable.ensures.lines w.tables w.made sort.0.names (types_leave enums (type_of t) s t ∙ absent) (c.as_str-in-Var.ensures.value ∙ sort.1))
+    let t = c.args.term.now in
+    let w = encode_type enums (type_of (plain_term t)) s in
+    let v = term_entry enums (plain_term t) w.made w.tables in
+    let sort = c.in_ok-sort.ensures.lines s has in
+    let parts = c.in_ok-entry.ensures.lines w.tables w.made sort.0.names (c.as_str.ensures.value ∙ sort.1) in
+    let gone = parts_leave enums t w.made w.tables c.requires.entered ∙ types_leave enums (type_of (plain_term t)) s (plain_term t) ∙ absent in
+    entered_written enums t s c.requires.entered absent c.args.self.now c.encode_parts.new.self c.enter.new.self sort.0 parts.0 c.enter.result
+    (c.enter.ensures.lines v.tables w.made v.made parts.0.names gone (c.as_str-2.ensures.value ∙ sort.1) parts.1)
 
--- ---- one term
+-- ---- how a term is entered
 
-pub encode_term-returns-in-Some-clause-lines : goal.encode_term-returns-in-Some-clause-lines
-encode_term-returns-in-Some-clause-lines g m c s has =
-    let there = sym (has.terms c.args.term.now) ∙ sym c.in_ok-name.ensures.known ∙ ap (option_map rc_str_bytes) c.in-Some.is in
-    named_written (enums_in c.args.self.now) c.args.term.now s c.in-Some.name has (named_unless c.args.term.now c.in_default.not-Prim) there
+pub encode_parts-returns-in_ok-as_text-in-None-clause-lines : goal.encode_parts-returns-in_ok-as_text-in-None-clause-lines
+encode_parts-returns-in_ok-as_text-in-None-clause-lines g m c s e has spells =
+    of_form (enums_in c.args.self.now) (plain_term c.args.term.now) _ e s _ (ap plain_term c.in-None.is ∙ plain_term-None c.in-None.field-0) (nothing_written c.args.self.now s has, c.in_ok-as_text-in-None.ensures e spells)
+
+pub encode_parts-returns-in_ok-set_text-in-Set-clause-lines : goal.encode_parts-returns-in_ok-set_text-in-Set-clause-lines
+encode_parts-returns-in_ok-set_text-in-Set-clause-lines g m c s e has spells =
+    let enums = enums_in c.args.self.now in
+    let element = plain_type c.in-Set.elts_ty in
+    let ts = terms (map plain_term c.items-in-Set.result.now) in
+    let listed = ap plain_term c.in-Set.is ∙ plain_term-Set c.in-Set.elts_ty c.in-Set.elts ∙ ap (λ l. SetTerm element (terms l)) (sym c.items-in-Set.ensures.plain) in
+    let parts = c.in_ok-elements-in-Set.ensures.lines s has in
+    let w = encode_terms enums ts s in
+    of_form enums (plain_term c.args.term.now) (SetTerm element ts) e s _ listed
+    (binds w (λ es u. made_of (ByBody (set_body e es)) u) parts.0 (nothing_written c.encode_terms.new.self w.tables parts.0.names), c.in_ok-set_text-in-Set.ensures e w.made spells parts.1)
+
+pub encode_parts-returns-in_ok-some_text-in-Some-clause-lines : goal.encode_parts-returns-in_ok-some_text-in-Some-clause-lines
+encode_parts-returns-in_ok-some_text-in-Some-clause-lines g m c s e has spells =
+    let enums = enums_in c.args.self.now in
+    let inner = plain_term c.deref.result.now in
+    let listed = ap plain_term c.in-Some.is ∙ plain_term-Some c.in-Some.inner ∙ ap (λ u. SomeTerm (plain_term u)) (sym c.deref.ensures) in
+    let parts = c.in_ok-operand-in-Some.ensures.lines s has in
+    let w = encode_term enums inner s in
+    of_form enums (plain_term c.args.term.now) (SomeTerm inner) e s _ listed
+    (binds w (λ x u. made_of (ByBody (some_body x)) u) parts.0 (nothing_written c.encode_term.new.self w.tables parts.0.names), c.in_ok-some_text-in-Some.ensures w.made parts.1)
+
+pub encode_parts-returns-in_ok-comment-in-Var-clause-lines : goal.encode_parts-returns-in_ok-comment-in-Var-clause-lines
+encode_parts-returns-in_ok-comment-in-Var-clause-lines g m c s e has spells =
+    of_form (enums_in c.args.self.now) (plain_term c.args.term.now) (plain_variable c.in-Var.variable) e s _ (ap plain_term c.in-Var.is ∙ plain_term-Var c.in-Var.variable)
+    (nothing_written c.args.self.now s has, c.in_ok-comment-in-Var.ensures ∙ ap quoted_id c.as_str.ensures.value)
+
+pub encode_application-returns-in_err-operands-in-Application-clause-fault : goal.encode_application-returns-in_err-operands-in-Application-clause-fault
+encode_application-returns-in_err-operands-in-Application-clause-fault g m c none =
+    let enums = enums_in c.args.self.now in
+    let o = plain_op c.args.op.now in
+    let ts = terms (map plain_term c.args.args.now) in
+    let type = plain_type c.args.ret_ty.now in
+    let how = ap plain_rendering (sym c.in-Application.is) ∙ c.in_ok-rendering_of.ensures in
+    let named : (f : Fault) → write_fault c.in_err-operands-in-Application.field-0.0 ≡ Some f → term_fault enums (Application o ts type) ≡ Some f =
+    λ f h. arguments_fault enums o ts type how none f (c.in_err-operands-in-Application.ensures.fault f h) in
+    search (rules, named)
 
 -- ---- the terms of a list
 
@@ -165,9 +94,9 @@ encode_terms-loop-term-preserved g m c =
       going = λ s has.
           let going = c.loop-term.invariant.going s has in
           goes_on (plain_term c.term-item.result) c.in_ok-encode_term.field-0 this c.in_ok-push.ensures.items going
-          (same_enums (plain_term c.term-item.result) c.in_ok-encode_term.field-0 going.tables (ap (λ e. enums_of e.now) c.loop-term.invariant.cause.same_enums) (c.in_ok-encode_term.ensures.lines going.tables going.wrote.names));
+          (same_enums (plain_term c.term-item.result) c.in_ok-encode_term.field-0 going.tables c.loop-term.invariant.cause.kept.enums (c.in_ok-encode_term.ensures.lines going.tables going.wrote.names));
       fault = one_passed (enums_in c.args.self.now) _ _ (map plain_term c.args.terms.now) (plain_term c.term-item.result) this
-          (subst (λ (e : Enums). term_fault e (plain_term c.term-item.result) ≡ None) (ap (λ e. enums_of e.now) c.loop-term.invariant.cause.same_enums) c.in_ok-encode_term.ensures.fault) c.loop-term.invariant.fault;
+          (subst (λ (e : Enums). term_fault e (plain_term c.term-item.result) ≡ None) c.loop-term.invariant.cause.kept.enums c.in_ok-encode_term.ensures.fault) c.loop-term.invariant.fault;
     }
 
 pub encode_terms-returns-clause-lines : goal.encode_terms-returns-clause-lines
