@@ -6,4 +6,5 @@ pub mod OperatorNames
 pub mod ReadsLemmas
 pub mod Running
 pub mod Shapes
+pub mod Statuses
 pub mod TypedJobs

@@ -8,15 +8,12 @@ mod job;
 pub mod laws;
 mod operator;
 mod program;
+mod refusal;
 mod source;
 mod term;
 
 pub use input::{InputError, read_input};
 pub use job::{Job, JobError, VarList, read_job};
-pub use program::{Command, EncodeRefusal, Refusal, run};
+pub use program::{Command, run};
+pub use refusal::{EncodeRefusal, JobRefusal, Refusal};
 pub use source::{MemorySource, ReadSource, Source, SourceError, SourceFault};
-
-#[cfg(test)]
-mod tests_job;
-#[cfg(test)]
-mod tests_source;

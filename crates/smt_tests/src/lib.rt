@@ -1,8 +1,16 @@
-//! Tests that cross the crates, and those of the calls of `smt_factory`: where a crate has many proofs, its tests are proved
-//! sooner outside.
+//! Tests that cross the crates, and those of the public calls of `smt_factory` and `smt_cli`: where a crate has many proofs, its
+//! tests are proved sooner outside.
 #![tactic(auto, using(smt_term::specs::View::views))]
 
 #[cfg(test)]
 mod foldings;
 #[cfg(test)]
-mod tests;
+mod jobs;
+#[cfg(test)]
+mod refusals;
+#[cfg(test)]
+mod runs;
+#[cfg(test)]
+mod scripts;
+#[cfg(test)]
+mod sources;

@@ -1,16 +1,13 @@
 //! `smtcli`: the script of a job, or why there is none.
 #![tactic(auto)]
 
-use smt_cli::{ReadSource, run};
+use smt_cli::{ReadSource, Refusal, run};
 use smt_script::WriteSink;
 use smt_term::Text;
 use std::alloc::Global;
 use std::env;
 use std::io::{BufWriter, ErrorKind};
 use std::process::ExitCode;
-
-/// The status of a run that finds no memory for its words or its streams.
-const NO_MEMORY: u8 = 7;
 
 /// The words behind the program's name, None where there is no memory for them.
 ///
@@ -31,14 +28,19 @@ fn words(rt: &HostRuntime, alloc: Global) -> Option<Vec<Text>> {
     Some(words)
 }
 
+/// How the program ends where it finds no memory for its words or its streams.
+fn no_memory() -> ExitCode {
+    ExitCode::from(Refusal::Memory.status())
+}
+
 fn main(rt: HostRuntime) -> ExitCode {
     let alloc = rt.alloc();
     let Some(words) = words(&rt, alloc) else {
-        return ExitCode::from(NO_MEMORY);
+        return no_memory();
     };
     let mut source = ReadSource::new(rt.stdin());
     let Ok(stdout) = BufWriter::new(alloc, rt.stdout()) else {
-        return ExitCode::from(NO_MEMORY);
+        return no_memory();
     };
     let mut out = WriteSink::new(stdout);
     let mut diag = WriteSink::new(rt.stderr());

@@ -1,8 +1,12 @@
-use crate::job::{GREATEST_JOB, Job, JobError, read_job};
+// What is read of jobs: their variables, and their terms as they are built.
 use smt_bits::EIGHT;
+use smt_cli::{Job, JobError, read_job};
 use smt_term::{Op, Term, TermList, TermType, TermVar, Text};
 use std::alloc::Global;
 use std::test::Fail;
+
+/// The most bytes that a job may have.
+const GREATEST_JOB: usize = 16_777_216;
 
 /// Whether the bytes are a job with no variable and no term.
 fn is_empty_job(alloc: Global, bytes: &[u8]) -> Result<bool, Fail> {

@@ -1,7 +1,7 @@
+// Sources, and whole inputs that are read of them.
 ghost use Rattle.std.specs.Prelude.{◌≡◌, ◌≤◌, length, MatchResult};
 
-use crate::input::{InputError, read_input};
-use crate::source::{MemorySource, ReadSource, Source, SourceFault};
+use smt_cli::{InputError, MemorySource, ReadSource, Source, SourceFault, read_input};
 use std::alloc::Global;
 use std::io::{self, Read};
 use std::test::Fail;

@@ -1,0 +1,67 @@
+-- What is said of a refusal, and which refusal an error becomes.
+use Rattle.std.specs.Prelude.{ℕ, List, codes}
+use Rattle.smt_script.specs.declared.sink.SinkError.{SinkError}
+use Rattle.smt_script.specs.declared.sink.SinkError.TheVariants.{Fault as SinkFault, Memory as SinkWant}
+use Rattle.smt_cli.specs.declared.input.InputError.{InputError}
+use Rattle.smt_cli.specs.declared.input.InputError.TheVariants.{Fault as InputFault, TooLarge as InputTooLarge, Memory as InputWant}
+use Rattle.smt_cli.specs.declared.job.JobError.{JobError}
+use Rattle.smt_cli.specs.declared.job.JobError.TheVariants.{TooLarge as JobTooLarge, BadForm as JobBadForm, Memory as JobWant}
+use Rattle.smt_cli.specs.declared.refusal.EncodeRefusal.TheVariants.{EncodeStringFailed, EncodePatternFailed}
+use Rattle.smt_cli.specs.declared.refusal.JobRefusal.TheVariants.{TooLarge, BadForm}
+use Rattle.smt_cli.specs.declared.refusal.PrintRefusal.{PrintRefusal}
+use Rattle.smt_cli.specs.declared.refusal.PrintRefusal.TheVariants.{Encode as PrintEncode, Sink as PrintSink, Memory as PrintWant}
+use Rattle.smt_cli.specs.declared.refusal.ReadRefusal.{ReadRefusal}
+use Rattle.smt_cli.specs.declared.refusal.ReadRefusal.TheVariants.{Job as ReadJob, Source as ReadSource, Memory as ReadWant}
+use Rattle.smt_cli.specs.declared.refusal.Refusal.{Refusal}
+use Rattle.smt_cli.specs.declared.refusal.Refusal.TheVariants.{Usage, Job, Encode, Source, Sink, Memory}
+
+-- the status of a refusal
+abbrev pub status_of : Refusal → ℕ
+status_of Usage = 2
+status_of (Job why) = 3
+status_of (Encode why) = 4
+status_of Source = 5
+status_of Sink = 6
+status_of Memory = 7
+
+-- what is said of a refusal
+abbrev pub line_of : Refusal → List ℕ
+line_of Usage = codes "usage: smtcli script\n"
+line_of (Job TooLarge) = codes "job refused: TooLarge\n"
+line_of (Job BadForm) = codes "job refused: BadForm\n"
+line_of (Encode EncodeStringFailed) = codes "encode refused: EncodeStringFailed\n"
+line_of (Encode EncodePatternFailed) = codes "encode refused: EncodePatternFailed\n"
+line_of Source = codes "source fault\n"
+line_of Sink = codes "sink fault\n"
+line_of Memory = codes "memory\n"
+
+-- ---- which refusal an error becomes
+
+-- of the bytes of a job
+abbrev pub input_refusal : InputError → ReadRefusal
+input_refusal InputTooLarge = ReadJob TooLarge
+input_refusal InputFault = ReadSource
+input_refusal InputWant = ReadWant
+
+-- of a job
+abbrev pub job_refusal : JobError → ReadRefusal
+job_refusal JobTooLarge = ReadJob TooLarge
+job_refusal JobBadForm = ReadJob BadForm
+job_refusal JobWant = ReadWant
+
+-- of a run, where no job was read
+abbrev pub read_refusal : ReadRefusal → Refusal
+read_refusal (ReadJob why) = Job why
+read_refusal ReadSource = Source
+read_refusal ReadWant = Memory
+
+-- of a run, where no script was printed
+abbrev pub print_refusal : PrintRefusal → Refusal
+print_refusal (PrintEncode why) = Encode why
+print_refusal PrintSink = Sink
+print_refusal PrintWant = Memory
+
+-- of a run, where a text was not put
+abbrev pub sink_refusal : SinkError → Refusal
+sink_refusal SinkFault = Sink
+sink_refusal SinkWant = Memory

@@ -1,0 +1,174 @@
+// Why a run is refused, and why its reading or its printing is.
+ghost use Rattle.std.specs.Prelude.{◌≡◌};
+ghost use Rattle.smt_cli.specs.Refusal.{line_of, status_of};
+
+use crate::input::InputError;
+use crate::job::JobError;
+use smt_script::SinkError;
+
+/// Why a run was not done.
+#[derive(Clone, Copy, Debug, PartialEq, Eq, Drop)]
+pub enum Refusal {
+    /// The words are no command.
+    Usage,
+    /// The bytes are no job.
+    Job(JobRefusal),
+    /// A term of the job has no script.
+    Encode(EncodeRefusal),
+    /// The source failed.
+    Source,
+    /// The sink failed.
+    Sink,
+    /// There was no memory.
+    Memory,
+}
+
+/// Why bytes are no job.
+#[derive(Clone, Copy, Debug, PartialEq, Eq, Drop)]
+pub enum JobRefusal {
+    /// There are more than 16777216 bytes.
+    TooLarge,
+    /// The bytes are no job of declarations and typed Boolean terms.
+    BadForm,
+}
+
+/// Why a term has no script.
+#[derive(Clone, Copy, Debug, PartialEq, Eq, Drop)]
+pub enum EncodeRefusal {
+    /// A string has a character above 196607.
+    EncodeStringFailed,
+    /// A pattern has a character above 196607.
+    EncodePatternFailed,
+}
+
+impl Refusal {
+    /// The status with which the program ends.
+    pub fn status(self) -> u8
+        ensures { result ≡ status_of self }
+    {
+        match self {
+            Refusal::Usage => 2,
+            Refusal::Job(_) => 3,
+            Refusal::Encode(_) => 4,
+            Refusal::Source => 5,
+            Refusal::Sink => 6,
+            Refusal::Memory => 7,
+        }
+    }
+
+    /// The line that the program says of it, with its LF.
+    pub fn line(self) -> &'static str
+        ensures { result.now ≡ line_of self }
+    {
+        match self {
+            Refusal::Usage => "usage: smtcli script\n",
+            Refusal::Job(JobRefusal::TooLarge) => "job refused: TooLarge\n",
+            Refusal::Job(JobRefusal::BadForm) => "job refused: BadForm\n",
+            Refusal::Encode(EncodeRefusal::EncodeStringFailed) => {
+                "encode refused: EncodeStringFailed\n"
+            }
+            Refusal::Encode(EncodeRefusal::EncodePatternFailed) => {
+                "encode refused: EncodePatternFailed\n"
+            }
+            Refusal::Source => "source fault\n",
+            Refusal::Sink => "sink fault\n",
+            Refusal::Memory => "memory\n",
+        }
+    }
+}
+
+/// Why no job was read.
+#[derive(Clone, Copy, Debug, Drop)]
+pub(crate) enum ReadRefusal {
+    /// The bytes are no job.
+    Job(JobRefusal),
+    /// The source failed.
+    Source,
+    /// There was no memory.
+    Memory,
+}
+
+impl From<InputError> for ReadRefusal {
+    ghost use Rattle.std.specs.Prelude.{◌≡◌};
+    ghost use Rattle.smt_cli.specs.Refusal.{input_refusal};
+
+    ghost from_gives = { λ error refusal. refusal ≡ input_refusal error };
+
+    fn from(error: InputError) -> ReadRefusal {
+        match error {
+            InputError::TooLarge => ReadRefusal::Job(JobRefusal::TooLarge),
+            InputError::Fault => ReadRefusal::Source,
+            InputError::Memory => ReadRefusal::Memory,
+        }
+    }
+}
+
+impl From<JobError> for ReadRefusal {
+    ghost use Rattle.std.specs.Prelude.{◌≡◌};
+    ghost use Rattle.smt_cli.specs.Refusal.{job_refusal};
+
+    ghost from_gives = { λ error refusal. refusal ≡ job_refusal error };
+
+    fn from(error: JobError) -> ReadRefusal {
+        match error {
+            JobError::TooLarge => ReadRefusal::Job(JobRefusal::TooLarge),
+            JobError::BadForm => ReadRefusal::Job(JobRefusal::BadForm),
+            JobError::Memory => ReadRefusal::Memory,
+        }
+    }
+}
+
+impl From<ReadRefusal> for Refusal {
+    ghost use Rattle.std.specs.Prelude.{◌≡◌};
+    ghost use Rattle.smt_cli.specs.Refusal.{read_refusal};
+
+    ghost from_gives = { λ why refusal. refusal ≡ read_refusal why };
+
+    fn from(why: ReadRefusal) -> Refusal {
+        match why {
+            ReadRefusal::Job(why) => Refusal::Job(why),
+            ReadRefusal::Source => Refusal::Source,
+            ReadRefusal::Memory => Refusal::Memory,
+        }
+    }
+}
+
+/// Why no script was printed.
+#[derive(Clone, Copy, Debug, Drop)]
+pub(crate) enum PrintRefusal {
+    /// A term has no script.
+    Encode(EncodeRefusal),
+    /// The sink failed.
+    Sink,
+    /// There was no memory.
+    Memory,
+}
+
+impl From<PrintRefusal> for Refusal {
+    ghost use Rattle.std.specs.Prelude.{◌≡◌};
+    ghost use Rattle.smt_cli.specs.Refusal.{print_refusal};
+
+    ghost from_gives = { λ why refusal. refusal ≡ print_refusal why };
+
+    fn from(why: PrintRefusal) -> Refusal {
+        match why {
+            PrintRefusal::Encode(why) => Refusal::Encode(why),
+            PrintRefusal::Sink => Refusal::Sink,
+            PrintRefusal::Memory => Refusal::Memory,
+        }
+    }
+}
+
+impl From<SinkError> for Refusal {
+    ghost use Rattle.std.specs.Prelude.{◌≡◌};
+    ghost use Rattle.smt_cli.specs.Refusal.{sink_refusal};
+
+    ghost from_gives = { λ error refusal. refusal ≡ sink_refusal error };
+
+    fn from(error: SinkError) -> Refusal {
+        match error {
+            SinkError::Fault => Refusal::Sink,
+            SinkError::Memory => Refusal::Memory,
+        }
+    }
+}
