@@ -8,7 +8,7 @@ use Rattle.std.specs.Rc.{rc_str_bytes}
 use Rattle.std.specs.declared.alloc.Global.{Global}
 use Rattle.std.specs.declared.rc.RcStr.{RcStr}
 use Rattle.smt_lines.specs.Text.{names, text}
-use Rattle.smt_script.specs.SharedTexts.{texts}
+use Rattle.smt_characters.specs.SharedTexts.{texts}
 use Rattle.smt_headline.specs.Headline.{Headline}
 use Rattle.std.specs.List.{AllByRecursion}
 use Rattle.smt_meaning.specs.Typing.{AreBoolean}

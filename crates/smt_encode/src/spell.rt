@@ -18,7 +18,7 @@ ghost use Rattle.smt_lines.specs.Spelling.{spelled};
 ghost use Rattle.smt_semantics.specs.Sorts.{bit_sort};
 ghost use Rattle.smt_meaning.specs.Plain.{ZeroExtendOp};
 ghost use Rattle.smt_term.specs.View.{plain_op};
-ghost use Rattle.smt_script.specs.SharedTexts.{texts};
+ghost use Rattle.smt_characters.specs.SharedTexts.{texts};
 
 use crate::error::EncodeError;
 use smt_bits::{BitVec, Width};

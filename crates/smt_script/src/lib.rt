@@ -4,7 +4,7 @@
 //! SMT-LIB 2.7 spells commands (chapter 3, Scripts) and comments (chapter 3, Lexicon).
 //!
 //! What a put leaves, and when it may fail, is one word for every sink and every line, `Puts` of
-//! `specs/Sink.antt`; the bytes of each line stand in `specs/ScriptLines.antt`.
+//! `specs/Sink.antt`; the bytes of each line stand in `specs/LineTexts.antt` of `smt_characters`.
 #![tactic(auto)]
 
 mod memory;

@@ -1,5 +1,5 @@
 ghost use Rattle.std.specs.Prelude.{◌++◌, ◌≡◌, IsOk, codes, length};
-ghost use Rattle.smt_script.specs.ScriptLines.{declare_const_line};
+ghost use Rattle.smt_characters.specs.LineTexts.{declare_const_text};
 ghost use Rattle.smt_script.specs.Memory.{memory_bytes, memory_has_room};
 
 use super::*;
@@ -89,9 +89,9 @@ fn lines_are_spelled(rt: HostRuntime) -> Result<(), Fail> {
 
 /// In a sink with room a line is put, whatever the allocator does.
 fn declare_in_room(sink: &mut MemorySink, id: &str) -> Result<(), SinkError>
-    requires { memory_has_room sink.old (length (declare_const_line id.now (codes "Bool"))) }
+    requires { memory_has_room sink.old (length (declare_const_text id.now (codes "Bool"))) }
     ensures room { IsOk result }
-    ensures bytes { memory_bytes sink.new ≡ memory_bytes sink.old ++ declare_const_line id.now (codes "Bool") }
+    ensures bytes { memory_bytes sink.new ≡ memory_bytes sink.old ++ declare_const_text id.now (codes "Bool") }
 {
     sink.declare_const(id, "Bool")
 }

@@ -3,8 +3,8 @@ use denote.Shadow.{shadow}
 use Rattle.std.proofs.Common.{◌≡◌, ◌++◌, drop, []}
 use Rattle.std.specs.Prelude.{codes}
 use Rattle.std.specs.String.{string_bytes}
-use Rattle.smt_script.specs.SharedTexts.{texts}
-use Rattle.smt_script.proofs.LinesLemmas.{joined_from}
+use Rattle.smt_characters.specs.SharedTexts.{texts}
+use Rattle.smt_characters.proofs.Joined.{joined_from}
 use Rattle.smt_encode.proofs.spell.push_spaced.Given as goal
 
 -- what is written so far and what is left are all
