@@ -1,4 +1,6 @@
 pub mod Characters
 pub mod Digits
+pub mod Escapes
 pub mod LineTexts
+pub mod Quoting
 pub mod SharedTexts

@@ -9,7 +9,7 @@ use Rattle.std.proofs.lemmas.Str.{encode_ascii}
 use Rattle.std.specs.Char.{IsNotAsciiControl}
 use Rattle.std.specs.Prelude.{nat_lt, encode_utf8_all}
 use Rattle.std.specs.List.{flat_map}
-use Rattle.smt_lines.specs.LineForms.{quoted_id_byte}
+use Rattle.smt_characters.specs.Quoting.{quoted_id_byte}
 
 -- a byte that is neither a control nor a quote nor a backslash is written as it is
 pub plain_byte : (b : ℕ) → 32 ≤ b → b ≢ 34 → b ≢ 92 → b ≢ 127 → quoted_id_byte b ≡ b ∷ []

@@ -3,6 +3,7 @@ ghost use Rattle.std.specs.Prelude.{◌≡◌, ◌++◌, List, IfOk, OnOk, IsErr
 ghost use Rattle.std.specs.List.{flat_map, join_by};
 ghost use Rattle.std.specs.Rc.{rc_str_bytes};
 ghost use Rattle.std.specs.String.{string_bytes};
+ghost use Rattle.smt_characters.specs.Quoting.{quoted_id, quoted_id_byte};
 ghost use Rattle.smt_bits.specs.BitVec.{number_of, width_of};
 ghost use Rattle.smt_bits.specs.Width.{bits_in};
 ghost use Rattle.smt_encode.specs.Encoded.{AreSpelled};
@@ -12,7 +13,7 @@ ghost use Rattle.smt_semantics.specs.Sorts as sorts;
 ghost use Rattle.smt_lexicon.specs.Reading.{Expression};
 ghost use Rattle.smt_meaning.specs.Faults.{EncodeStringFailed, fault_unless, is_string};
 ghost use Rattle.smt_lines.specs.Lines as lines;
-ghost use Rattle.smt_lines.specs.LineForms.{operator_head, quoted_id, quoted_id_byte, set_body, some_body};
+ghost use Rattle.smt_lines.specs.LineForms.{operator_head, set_body, some_body};
 ghost use Rattle.smt_lines.specs.TermTexts.{string_text};
 ghost use Rattle.smt_lines.specs.Spelling.{spelled};
 ghost use Rattle.smt_semantics.specs.Sorts.{bit_sort};

@@ -7,7 +7,7 @@ use Rattle.std.proofs.lemmas.Str.{encodes-chars}
 use Rattle.std.specs.Prelude.{codes, encode_utf8_all}
 use Rattle.std.specs.Str.{chars}
 use Rattle.std.specs.List.{flat_map}
-use Rattle.smt_lines.specs.LineForms.{quoted_id_byte}
+use Rattle.smt_characters.specs.Quoting.{quoted_id_byte}
 use Rattle.smt_encode.proofs.Quoted.{next_character}
 use Rattle.smt_encode.proofs.spell.quoted_id_text.Goals as goal
 

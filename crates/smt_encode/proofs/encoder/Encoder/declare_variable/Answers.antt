@@ -2,7 +2,7 @@ use Rattle.std.proofs.Common.{ap, ◌∙◌}
 use Rattle.std.specs.Rc.{rc_str_bytes}
 use Rattle.smt_term.specs.View.{plain_term}
 use Rattle.smt_lines.specs.Line.{Comment, DeclareConst, spelled_line}
-use Rattle.smt_lines.specs.LineForms.{quoted_id}
+use Rattle.smt_characters.specs.Quoting.{quoted_id}
 use Rattle.smt_lines.specs.Lines.{next_term}
 use Rattle.smt_encode.proofs.Lines.{put, wrote_entry, wrote_then}
 use Rattle.smt_encode.proofs.encoder.Encoder.declare_variable.Goals as goal
