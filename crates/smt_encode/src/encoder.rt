@@ -28,11 +28,12 @@ ghost use Rattle.smt_script.specs.Sink.{Rose};
 use crate::error::EncodeError;
 use crate::rendering::{Rendering, application_body, least_body, rendering_of};
 use crate::spell::{
-    as_text, bits_literal, bits_sort, option_sort, quoted_id_text, set_sort, set_text, some_text,
-    string_literal, term_name,
+    as_text, bits_literal, bits_sort, option_sort, set_sort, set_text, some_text, string_literal,
+    term_name,
 };
 use smt_script::{Sink, SmtLibScript};
 use smt_term::{EnumTable, Term, TermPrim, TermType, TermVar, Text};
+use smt_text::quote_id;
 use std::alloc::Global;
 use std::collections::BTreeMap;
 
@@ -294,7 +295,7 @@ impl<S: Sink> Encoder<'_, S> {
         ensures cause { FaultCounted S.faults S.place self.old self.new result }
         ensures fault { Finds None result }
     {
-        let quoted = quoted_id_text(self.alloc, variable.id.as_str())?;
+        let quoted = quote_id(self.alloc, variable.id.as_str())?;
         let name = self.next_name()?;
         self.put_comment(quoted.as_str())?;
         self.put_constant(name.as_str(), sort)?;

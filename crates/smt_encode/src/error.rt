@@ -2,7 +2,6 @@
 ghost use Rattle.std.specs.Prelude.{◌≡◌};
 
 use smt_script::SinkError;
-use smt_sexpr::SExprParseError;
 use smt_term::{OrdPattern, TermError, Text};
 use std::alloc::{AllocError, AllocFailed};
 use thiserror::Error;
@@ -53,19 +52,6 @@ impl From<TermError> for EncodeError {
     fn from(error: TermError) -> EncodeError {
         match error {
             TermError::Memory => EncodeError::Memory,
-        }
-    }
-}
-
-impl From<SExprParseError> for EncodeError {
-    ghost use Rattle.std.specs.Prelude.{◌≡◌};
-    ghost use Rattle.smt_encode.specs.declared.error.EncodeError.TheVariants.{Memory};
-
-    ghost from_gives = { λ _ error. error ≡ Memory };
-
-    fn from(error: SExprParseError) -> EncodeError {
-        match error {
-            SExprParseError::Memory => EncodeError::Memory,
         }
     }
 }

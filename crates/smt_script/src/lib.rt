@@ -15,6 +15,7 @@ mod tests;
 mod writer;
 
 pub use memory::{ListSink, MemorySink};
-pub use script::{SmtLibScript, Text};
+pub use script::SmtLibScript;
 pub use sink::{Sink, SinkError};
+pub use smt_text::Text;
 pub use writer::WriteSink;

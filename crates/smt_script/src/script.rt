@@ -7,10 +7,7 @@ ghost use Rattle.smt_characters.specs.LineTexts.{in_comment, spaced, sorted_name
 ghost use Rattle.smt_characters.specs.SharedTexts.{joined, texts, text_pairs};
 
 use crate::sink::{Sink, SinkError};
-use std::rc::RcStr;
-
-/// A text that its holders share.
-pub type Text = RcStr;
+use smt_text::Text;
 
 /// Puts these texts, one behind the other.
 fn put_all<S: Sink>(sink: &mut S, pieces: &[&str]) -> Result<(), SinkError>

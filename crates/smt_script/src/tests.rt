@@ -5,7 +5,6 @@ ghost use Rattle.smt_script.specs.Memory.{memory_bytes, memory_has_room};
 use super::*;
 use std::alloc::{AllocError, Global};
 use std::io::{self, Write};
-use std::rc::RcStr;
 use std::test::Fail;
 
 /// What `put_lines` puts, as the table of lines spells it.
@@ -25,18 +24,15 @@ const LINES: &str = "\
 fn texts(alloc: Global, items: &[&str]) -> Result<Vec<Text>, AllocError> {
     let mut texts = Vec::new(alloc);
     for item in items {
-        texts.push(RcStr::from_str(alloc, item)?)?;
+        texts.push(Text::from_str(alloc, item)?)?;
     }
     Ok(texts)
 }
 
 fn arguments(alloc: Global) -> Result<Vec<(Text, Text)>, AllocError> {
     let mut arguments = Vec::new(alloc);
-    arguments.push((RcStr::from_str(alloc, "x")?, RcStr::from_str(alloc, "Int")?))?;
-    arguments.push((
-        RcStr::from_str(alloc, "y")?,
-        RcStr::from_str(alloc, "Bool")?,
-    ))?;
+    arguments.push((Text::from_str(alloc, "x")?, Text::from_str(alloc, "Int")?))?;
+    arguments.push((Text::from_str(alloc, "y")?, Text::from_str(alloc, "Bool")?))?;
     Ok(arguments)
 }
 
@@ -56,11 +52,8 @@ fn put_lines<S: Sink>(sink: &mut S, alloc: Global) -> Result<(), Fail> {
     let parameters = texts(alloc, &["X"])?;
     let constructors = texts(alloc, &["(none)", "(some (val X))"])?;
     let mut arguments = Vec::new(alloc);
-    arguments.push((RcStr::from_str(alloc, "x")?, RcStr::from_str(alloc, "Int")?))?;
-    arguments.push((
-        RcStr::from_str(alloc, "y")?,
-        RcStr::from_str(alloc, "Bool")?,
-    ))?;
+    arguments.push((Text::from_str(alloc, "x")?, Text::from_str(alloc, "Int")?))?;
+    arguments.push((Text::from_str(alloc, "y")?, Text::from_str(alloc, "Bool")?))?;
     sink.declare_datatype("Option", parameters.as_slice(), constructors.as_slice())?;
     sink.comment("\"b\"")?;
     sink.declare_const("t0", "Bool")?;
