@@ -1,5 +1,6 @@
--- Digits, and the numbers that they stand for: in the numerals of scripts (chapter 3, Lexicon) and in the texts of extension values.
-use Rattle.std.specs.Prelude.{ℕ, ◌+◌, ◌-◌, ◌*◌, Bool, false, ◌&&◌, if◌then◌else◌, nat_le, List, [], ◌∷◌}
+-- Digits and signs, and the numbers that they stand for: in the numerals of scripts (chapter 3, Lexicon) and in the texts of
+-- extension values.
+use Rattle.std.specs.Prelude.{ℕ, zero, suc, ◌+◌, ◌-◌, ◌*◌, ◌/◌, ◌%◌, ◌^◌, ℤ, pos, neg_ℤ, Bool, true, false, ◌&&◌, if◌then◌else◌, nat_le, codes, List, [], ◌∷◌}
 use Rattle.std.specs.List.{fold, list_all}
 use Rattle.smt_characters.specs.Characters.{is_digit}
 
@@ -23,3 +24,18 @@ number_in base digits = fold (λ n d. n * base + digit_value d) 0 digits
 -- the number that decimal digits stand for
 abbrev pub decimal_number : List ℕ → ℕ
 decimal_number digits = number_in 10 digits
+
+-- a number below 10 to the k, in k digits
+abbrev pub padded : ℕ → ℕ → List ℕ
+padded zero n = []
+padded (suc k) n = (48 + n / 10 ^ k) ∷ padded k (n % 10 ^ k)
+
+-- a minus where the number is negative
+abbrev pub minus_if : Bool → List ℕ
+minus_if true = codes "-"
+minus_if false = []
+
+-- the number with its sign
+abbrev pub signed_number : Bool → ℕ → ℤ
+signed_number true n = neg_ℤ (pos n)
+signed_number false n = pos n

@@ -10,7 +10,7 @@ use Rattle.smt_meaning.specs.Typing.{AreBoolean}
 use Rattle.smt_folding.specs.Built.{built}
 use Rattle.smt_headline.specs.Headline.{Headline}
 use Rattle.smt_lines.specs.Text.{names, text}
-use Rattle.smt_script.specs.SharedTexts.{texts}
+use Rattle.smt_characters.specs.SharedTexts.{texts}
 use Rattle.smt_cli.proofs.AsWritten.{as_written, built_booleans}
 use Rattle.smt_cli.proofs.Giving.{other_text}
 use Rattle.smt_cli.proofs.TypedJobs.{IsCondition, job_conditions}

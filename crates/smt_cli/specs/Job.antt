@@ -9,7 +9,7 @@ use Rattle.std.specs.List.{AllByRecursion}
 use Rattle.std.specs.Map.{lookup}
 use Rattle.smt_arithmetic.specs.BitVectors.{bits_of, overflows}
 use Rattle.smt_arithmetic.specs.Widths.{are_bits, is_width}
-use Rattle.smt_ext.specs.Digits.{is_numeral, decimal_number, signed_number}
+use Rattle.smt_characters.specs.Digits.{is_numeral, decimal_number, signed_number}
 use Rattle.smt_folding.specs.Applications.{false_term, true_term}
 use Rattle.smt_folding.specs.Built.{built}
 use Rattle.smt_meaning.specs.Names.{op_name}

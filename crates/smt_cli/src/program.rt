@@ -8,7 +8,7 @@ ghost use Rattle.smt_term.specs.View.{plain_items};
 ghost use Rattle.smt_headline.specs.Headline.{Headline};
 ghost use Rattle.smt_lines.specs.Text.{names, text};
 ghost use Rattle.smt_script.specs.Sink.{Rose};
-ghost use Rattle.smt_script.specs.SharedTexts.{texts};
+ghost use Rattle.smt_characters.specs.SharedTexts.{texts};
 ghost use Rattle.smt_cli.specs.Job.{IsBuiltFrom};
 ghost use Rattle.smt_cli.specs.JobView.{plain_job};
 ghost use Rattle.smt_cli.specs.Run.{commanded, HasCause, HasPrintCause, HasReadCause, IsComplete, IsDone, IsJustified, LeavesOutput, Reports};

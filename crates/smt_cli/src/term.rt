@@ -14,9 +14,9 @@ use crate::expression::{name_in, number_in, sole, text_in};
 use crate::job::JobError;
 use crate::operator::{built_from, operator_named};
 use smt_bits::{BitVec, Width};
-use smt_ext::digits;
 use smt_sexpr::SExpr;
 use smt_term::{Op, Term, TermList, TermType, TermVar};
+use smt_text::digits;
 use std::alloc::Global;
 
 /// A literal by its name.

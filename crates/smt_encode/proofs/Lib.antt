@@ -6,7 +6,6 @@ pub mod Heads
 pub mod Lines
 pub mod Numbered
 pub mod Patterned
-pub mod Quoted
 pub mod Scripted
 pub mod Sorts
 pub mod Stated

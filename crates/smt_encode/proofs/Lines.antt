@@ -7,7 +7,7 @@ use Rattle.smt_meaning.specs.Plain.{PlainTerm}
 use Rattle.smt_lines.specs.Line.{Line, spelled_line, spelled_lines}
 use Rattle.smt_lines.specs.Lines.{Written, option_line, ◌>>=◌}
 use Rattle.smt_lines.specs.NameTables.{Tables}
-use Rattle.smt_script.specs.ScriptLines.{declare_datatype_line}
+use Rattle.smt_characters.specs.LineTexts.{declare_datatype_text}
 use Rattle.smt_script.proofs.PutsLemmas.{appends_then, appends_nothing}
 use Rattle.smt_encode.specs.Encoded.{HasNames, PutsLine, Wrote}
 use Rattle.smt_encode.specs.Names.{AreTables}
@@ -16,7 +16,7 @@ use Rattle.smt_encode.specs.declared.names.Names.{Names}
 
 -- the line that declares `Option`
 pub option_bytes : (parameter nothing something : List ℕ) → parameter ≡ codes "X" → nothing ≡ codes "(none)" → something ≡ codes "(some (val X))"
-    → declare_datatype_line (codes "Option") (parameter ∷ []) (nothing ∷ something ∷ []) ≡ spelled_line option_line
+    → declare_datatype_text (codes "Option") (parameter ∷ []) (nothing ∷ something ∷ []) ≡ spelled_line option_line
 option_bytes parameter nothing something p q r = rw (p, q, r) refl
 
 -- lines one behind the other

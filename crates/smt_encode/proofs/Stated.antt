@@ -13,7 +13,8 @@ use Rattle.smt_term.specs.declared.op.Op.{Op}
 use Rattle.smt_term.specs.declared.term.Term.{Term, App', None as Nothing, Prim, Set', Some', Var}
 use Rattle.smt_term.specs.declared.term.TermPrim.{TermPrim}
 use Rattle.smt_lines.specs.Line.{DefineFun, DeclareConst, Comment, spelled_line, spelled_lines}
-use Rattle.smt_lines.specs.LineForms.{quoted_id, variable_lines, none_body, set_body, some_body, operator_head, application_body, least_body}
+use Rattle.smt_characters.specs.Quoting.{quoted_id}
+use Rattle.smt_lines.specs.LineForms.{variable_lines, none_body, set_body, some_body, operator_head, application_body, least_body}
 use Rattle.smt_lines.specs.Lines.{Enums, Rendering, AsApplication, AsEqualsIntMin, AsFalse, Written, next_term, enter_term, encode_type, encode_terms, encode_term, define, define_application, application_rendering, unless_named, made_of, behind, ◌>>=◌}
 use Rattle.smt_lines.specs.NameTables.{Tables, name_of_term}
 use Rattle.smt_lines.specs.Spelling.{spelled}

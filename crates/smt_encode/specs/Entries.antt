@@ -5,7 +5,8 @@ use Rattle.smt_meaning.specs.Plain.{PlainType, PlainOp, PlainTerm, PlainTerms, A
 use Rattle.smt_term.specs.declared.term.Term.{Term, Prim}
 use Rattle.smt_lexicon.specs.Reading.{Expression}
 use Rattle.smt_lines.specs.Line.{Line, DefineFun}
-use Rattle.smt_lines.specs.LineForms.{application_body, least_body, none_body, operator_head, quoted_id, record_body, set_body, some_body, variable_lines}
+use Rattle.smt_characters.specs.Quoting.{quoted_id}
+use Rattle.smt_lines.specs.LineForms.{application_body, least_body, none_body, operator_head, record_body, set_body, some_body, variable_lines}
 use Rattle.smt_lines.specs.Lines.{Enums, Written, Rendering, AsApplication, AsEqualsIntMin, AsFalse, application_rendering, encode_fields, encode_literal, encode_term, encode_terms, enter_term, made_of, next_term, ◌>>=◌}
 use Rattle.smt_lines.specs.NameTables.{Tables}
 use Rattle.smt_lines.specs.Spelling.{spelled}

@@ -23,11 +23,11 @@ use crate::error::{EncodeError, TextError, WriteError};
 use crate::names::Names;
 use crate::rendering::{Rendering, application_body, least_body, rendering_of};
 use crate::spell::{
-    as_text, bits_literal, bits_sort, option_sort, quoted_id_text, set_sort, set_text, some_text,
-    string_literal,
+    as_text, bits_literal, bits_sort, option_sort, set_sort, set_text, some_text, string_literal,
 };
 use smt_script::{Sink, SinkError, SmtLibScript};
 use smt_term::{EnumTable, Op, Term, TermError, TermPrim, TermType, Text};
+use smt_text::quote_id;
 use std::alloc::{AllocError, Global};
 
 /// Writes terms as lines of a script, and keeps the names under which it wrote them.
@@ -232,7 +232,7 @@ impl<S: Sink> Encoder<'_, S> {
                 Ok(Entry::Body(some_text(self.alloc, operand)?))
             }
             Term::Var(variable) => {
-                let comment = quoted_id_text(self.alloc, variable.id.as_str())?;
+                let comment = quote_id(self.alloc, variable.id.as_str())?;
                 Ok(Entry::Constant(comment))
             }
         }

@@ -2,7 +2,6 @@
 ghost use Rattle.std.specs.Prelude.{◌≡◌};
 
 use smt_script::SinkError;
-use smt_sexpr::SExprParseError;
 use smt_term::{OrdPattern, TermError, Text};
 use std::alloc::{AllocError, AllocFailed};
 use thiserror::Error;
@@ -71,6 +70,19 @@ impl From<WriteError> for EncodeError {
     }
 }
 
+impl From<TermError> for EncodeError {
+    ghost use Rattle.std.specs.Prelude.{◌≡◌};
+    ghost use Rattle.smt_encode.specs.declared.error.EncodeError.TheVariants.{Memory};
+
+    ghost from_gives = { λ _ error. error ≡ Memory };
+
+    fn from(error: TermError) -> EncodeError {
+        match error {
+            TermError::Memory => EncodeError::Memory,
+        }
+    }
+}
+
 impl From<SinkError> for WriteError {
     ghost use Rattle.std.specs.Prelude.{◌≡◌};
     ghost use Rattle.smt_encode.specs.declared.error.WriteError.TheVariants.{Sink};
@@ -90,19 +102,6 @@ impl From<TextError> for WriteError {
 
     fn from(error: TextError) -> WriteError {
         WriteError::Text(error)
-    }
-}
-
-impl From<SExprParseError> for TextError {
-    ghost use Rattle.std.specs.Prelude.{◌≡◌};
-    ghost use Rattle.smt_encode.specs.declared.error.TextError.TheVariants.{Memory};
-
-    ghost from_gives = { λ _ error. error ≡ Memory };
-
-    fn from(error: SExprParseError) -> TextError {
-        match error {
-            SExprParseError::Memory => TextError::Memory,
-        }
     }
 }
 

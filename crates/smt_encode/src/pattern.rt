@@ -14,8 +14,8 @@ ghost use Rattle.std.specs.List.{list_all};
 
 use crate::error::TextError;
 use crate::spell::application_text;
-use smt_sexpr::{SExprParseError, quote_string};
 use smt_term::{OrdPattern, PatternElem, Text};
+use smt_text::quote_string;
 use std::alloc::{AllocError, Global};
 
 /// The regular expression of a pattern, or its refusal where a character is above `SMT_LIB_MAX_CODE_POINT`.
@@ -30,7 +30,7 @@ pub(crate) fn pattern_text(alloc: Global, pattern: &OrdPattern) -> Result<Text, 
 }
 
 /// The texts of a pattern's elements, in order. None where there is one that no string can have.
-fn part_texts(alloc: Global, elems: &[PatternElem]) -> Result<Option<Vec<Text>>, SExprParseError>
+fn part_texts(alloc: Global, elems: &[PatternElem]) -> Result<Option<Vec<Text>>, AllocError>
     ensures text { IfOk result (λ found. IfSome found (λ texts. AreSpelled (map part_expr (map plain_part elems.now)) texts.items)) }
     ensures some { IfOk result (λ found. is_some found ≡ list_all is_pattern_part (map plain_part elems.now)) }
 {
@@ -45,7 +45,7 @@ fn part_texts(alloc: Global, elems: &[PatternElem]) -> Result<Option<Vec<Text>>,
 }
 
 /// `(re.* re.allchar)` of the wildcard, `(str.to_re "c")` of a character. None of one that no string can have.
-fn part_text(alloc: Global, elem: PatternElem) -> Result<Option<Text>, SExprParseError>
+fn part_text(alloc: Global, elem: PatternElem) -> Result<Option<Text>, AllocError>
     ensures text { IfOk result (λ found. IfSome found (λ text. rc_str_bytes text ≡ spelled (part_expr (plain_part elem)))) }
     ensures some { IfOk result (λ found. is_some found ≡ is_pattern_part (plain_part elem)) }
 {
@@ -56,7 +56,7 @@ fn part_text(alloc: Global, elem: PatternElem) -> Result<Option<Text>, SExprPars
 }
 
 /// `(str.to_re "c")`.
-fn character_text(alloc: Global, c: char) -> Result<Option<Text>, SExprParseError>
+fn character_text(alloc: Global, c: char) -> Result<Option<Text>, AllocError>
     ensures text { IfOk result (λ found. IfSome found (λ text. rc_str_bytes text ≡ spelled (part_expr (Character c)))) }
     ensures some { IfOk result (λ found. is_some found ≡ is_pattern_part (Character c)) }
 {

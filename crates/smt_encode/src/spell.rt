@@ -1,6 +1,6 @@
 // The texts of names, sorts, literals, ids and applications.
-ghost use Rattle.std.specs.Prelude.{◌≡◌, ◌++◌, List, IfOk, OnOk, codes, decimal, encode_utf8};
-ghost use Rattle.std.specs.List.{flat_map, join_by};
+ghost use Rattle.std.specs.Prelude.{◌≡◌, ◌++◌, List, IfOk, OnOk, codes, decimal};
+ghost use Rattle.std.specs.List.{join_by};
 ghost use Rattle.std.specs.Rc.{rc_str_bytes};
 ghost use Rattle.std.specs.String.{string_bytes};
 ghost use Rattle.smt_bits.specs.BitVec.{number_of, width_of};
@@ -12,18 +12,18 @@ ghost use Rattle.smt_semantics.specs.Sorts as sorts;
 ghost use Rattle.smt_lexicon.specs.Reading.{Expression};
 ghost use Rattle.smt_meaning.specs.Faults.{EncodeStringFailed, fault_unless, is_string};
 ghost use Rattle.smt_lines.specs.Lines as lines;
-ghost use Rattle.smt_lines.specs.LineForms.{operator_head, quoted_id, quoted_id_byte, set_body, some_body};
+ghost use Rattle.smt_lines.specs.LineForms.{operator_head, set_body, some_body};
 ghost use Rattle.smt_lines.specs.TermTexts.{string_text};
 ghost use Rattle.smt_lines.specs.Spelling.{spelled};
 ghost use Rattle.smt_semantics.specs.Sorts.{bit_sort};
 ghost use Rattle.smt_meaning.specs.Plain.{ZeroExtendOp};
 ghost use Rattle.smt_term.specs.View.{plain_op};
-ghost use Rattle.smt_script.specs.SharedTexts.{texts};
+ghost use Rattle.smt_characters.specs.SharedTexts.{texts};
 
 use crate::error::TextError;
 use smt_bits::{BitVec, Width};
-use smt_sexpr::quote_string;
 use smt_term::{Op, Text};
+use smt_text::{push_spaced, quote_string};
 use std::alloc::{AllocError, Global};
 
 /// `tm`, the name of the entry at place `place` of the table of terms.
@@ -125,53 +125,6 @@ fn zero_extension(alloc: Global, bits: u32) -> Result<Text, AllocError>
     ensures { IfOk result (λ head. rc_str_bytes head ≡ spelled (operator_head (ZeroExtendOp bits))) }
 {
     Text::from_string(format!(in alloc; "(_ zero_extend {bits})")?)
-}
-
-/// Appends a character of an id: the quote, the backslash and the controls of ASCII by an escape.
-fn push_escaped(quoted: &mut String, c: char) -> Result<(), AllocError>
-    ensures { OnOk result (string_bytes quoted.new ≡ string_bytes quoted.old ++ flat_map quoted_id_byte (encode_utf8 c)) }
-{
-    match c {
-        '\0' => quoted.push_str("\\0"),
-        '\t' => quoted.push_str("\\t"),
-        '\n' => quoted.push_str("\\n"),
-        '\r' => quoted.push_str("\\r"),
-        '"' => quoted.push_str("\\\""),
-        '\\' => quoted.push_str("\\\\"),
-        _ => {
-            if c.is_ascii_control() {
-                let code = u32::from(c);
-                write!(quoted, "\\u{{{code:x}}}")
-            } else {
-                quoted.push(c)
-            }
-        }
-    }
-}
-
-/// An id between quotes, on one line.
-pub(crate) fn quoted_id_text(alloc: Global, id: &str) -> Result<String, AllocError>
-    ensures { IfOk result (λ quoted. string_bytes quoted ≡ quoted_id id.now) }
-{
-    let mut quoted = String::from_str(alloc, "\"")?;
-    for c in id.chars() {
-        push_escaped(&mut quoted, c)?;
-    }
-    quoted.push('"')?;
-    Ok(quoted)
-}
-
-/// Appends texts with a space between each two.
-fn push_spaced(text: &mut String, operands: &[Text]) -> Result<(), AllocError>
-    ensures { OnOk result (string_bytes text.new ≡ string_bytes text.old ++ join_by (λ x. x) (codes " ") (texts operands.now)) }
-{
-    let mut gap = "";
-    for operand in operands {
-        text.push_str(gap)?;
-        text.push_str(operand.as_str())?;
-        gap = " ";
-    }
-    Ok(())
 }
 
 /// `(HEAD x y)`: the operands behind the head, with a space between each two. The space behind the head stays

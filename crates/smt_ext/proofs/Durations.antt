@@ -7,11 +7,13 @@ use Rattle.smt_ext.specs.declared.datetime.span.Fault.{Fault}
 use Rattle.smt_ext.specs.declared.datetime.span.Fault.TheVariants.{Form, NoDigits, OutOfRange}
 use Rattle.smt_ext.specs.declared.datetime.span.TimeUnit.{TimeUnit}
 use Rattle.smt_ext.specs.declared.datetime.span.TimeUnit.TheVariants.{Millisecond, Second, Minute, Hour, FullDay}
-use Rattle.smt_ext.specs.Digits.{is_digit, is_numeral, decimal_number, minus_if, signed_number, IsLong}
-use Rattle.smt_ext.specs.Front.{begins_without, IsSigned}
+use Rattle.smt_characters.specs.Characters.{is_digit}
+use Rattle.smt_characters.specs.Digits.{is_numeral, decimal_number, minus_if, signed_number}
+use Rattle.smt_arithmetic.specs.Longs.{IsLong}
+use Rattle.smt_characters.specs.Front.{begins_without, IsSigned}
 use Rattle.smt_ext.specs.DurationRefusal.{unit_name, unit_milliseconds, all_units, EndsInPart, HasNoPart, begins_past_ascii, IsSoundPart, IsPartFault, IsFirstFault, HasSum, IsFaultBehindSign, HasFault}
 use Rattle.smt_ext.specs.DurationText.{Parts, part_text, part_number, IsPart, parts_text, parts_number, ArePartsOfDuration, IsDurationText}
-use Rattle.smt_ext.proofs.Runs.{one_run, one_sign, sign_of, numeral_unsigned, digits_of_numeral, list_all-reverse, head_is}
+use Rattle.smt_characters.proofs.Runs.{one_run, one_sign, sign_of, numeral_unsigned, digits_of_numeral, list_all-reverse, head_is}
 
 -- ---- one part is found in one way
 

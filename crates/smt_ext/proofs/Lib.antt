@@ -2,7 +2,6 @@ pub mod Choices
 pub mod Datetimes
 pub mod Decimals
 pub mod Durations
-pub mod Fields
 pub mod IpContained
 pub mod IpCounts
 pub mod IpGrammar
@@ -13,6 +12,5 @@ pub mod IpSplits
 pub mod Levels
 pub mod Midnights
 pub mod PrintedDecimals
-pub mod Runs
 pub mod Stamps
 pub mod WorkedDatetimes

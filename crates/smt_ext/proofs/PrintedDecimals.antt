@@ -7,10 +7,12 @@ use Rattle.std.proofs.lemmas.Bool.{cases_lt, ltb-true, false≢true}
 use Rattle.std.proofs.lemmas.Fmt.{decimal_digit, decimal_step, digits_decimal, digits_value-decimal, decimal_nonempty}
 use Rattle.std.proofs.lemmas.Str.Parse.{IsNumeralModel, numerals_by_fold}
 use Rattle.smt_ext.specs.Decimal.{IsDecimalText}
-use Rattle.smt_ext.specs.Digits.{is_digit, is_numeral, padded, signed_number, IsLong}
+use Rattle.smt_characters.specs.Characters.{is_digit}
+use Rattle.smt_characters.specs.Digits.{is_numeral, padded, signed_number}
+use Rattle.smt_arithmetic.specs.Longs.{IsLong}
 use Rattle.smt_ext.specs.Printed.{is_below_zero, decimal_text}
 use Rattle.smt_characters.proofs.Numbers.{from_digits}
-use Rattle.smt_ext.proofs.Fields.{padded_digits, number-padded}
+use Rattle.smt_characters.proofs.Fields.{padded_digits, number-padded}
 
 -- ---- four digits with zeros in front
 

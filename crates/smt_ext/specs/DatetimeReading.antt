@@ -7,8 +7,9 @@ use Rattle.smt_ext.specs.declared.datetime.stamp.Clock.{Clock}
 use Rattle.smt_ext.specs.declared.datetime.stamp.Stamp.{Stamp}
 use Rattle.smt_ext.specs.declared.datetime.stamp.Zone.{Zone}
 use Rattle.smt_ext.specs.declared.datetime.stamp.Zone.TheVariants.{Utc, Offset}
-use Rattle.smt_ext.specs.Digits.{is_digit, decimal_number}
-use Rattle.smt_ext.specs.Front.{byte_at}
+use Rattle.smt_characters.specs.Characters.{is_digit}
+use Rattle.smt_characters.specs.Digits.{decimal_number}
+use Rattle.smt_characters.specs.Front.{byte_at}
 
 -- `option_and_then` of std, written between what is read first and what is read then
 infixl 10 ◌>>=◌

@@ -2,13 +2,11 @@ pub mod DatetimeReading
 pub mod DatetimeRefusal
 pub mod DatetimeText
 pub mod Decimal
-pub mod Digits
 pub mod DurationRefusal
 pub mod DurationText
 pub mod Examples
 pub mod ExtOrder
 pub mod Extensions
-pub mod Front
 pub mod IpExamples
 pub mod IpOrder
 pub mod IpPrefixBits

@@ -2,7 +2,7 @@
 ghost use Rattle.std.specs.Prelude.{◌≡◌, ◌↔◌, ℤ, pos, ◌+ℤ◌, ◌-ℤ◌, ◌≤ℤ◌, ◌<ℤ◌, IsSome, IfSome, IsSomeAnd, IfOk, IfErr, IsOkAnd};
 ghost use Rattle.smt_ext.specs.DatetimeRefusal.{HoldsText, IsDatetimeRefusal};
 ghost use Rattle.smt_ext.specs.DatetimeText.{IsDatetimeText};
-ghost use Rattle.smt_ext.specs.Digits.{IsLong};
+ghost use Rattle.smt_arithmetic.specs.Longs.{IsLong};
 ghost use Rattle.smt_ext.specs.DurationRefusal.{IsDurationRefusal};
 ghost use Rattle.smt_ext.specs.DurationText.{IsDurationText};
 ghost use Rattle.smt_ext.specs.Milliseconds.{datetime_value, duration_value, time_of_day, day_start, whole_seconds, whole_minutes, whole_hours, whole_days};
@@ -12,8 +12,8 @@ mod moment;
 mod span;
 mod stamp;
 
-use crate::text::Text;
 pub use error::DatetimeError;
+use smt_text::Text;
 use span::Fault;
 use std::alloc::Global;
 

@@ -1,12 +1,11 @@
 //! Decimal numbers with four digits behind the point.
 ghost use Rattle.std.specs.Prelude.{◌≡◌, ℕ, ℤ, ◌-◌, ◌^◌, ◌<◌, ◌≤◌, Bool, List, length, IsTrue, Some, IfOk, IfErr, IsOkAnd, IfSome, IfNone};
 ghost use Rattle.std.specs.Option.{SomeIff};
-ghost use Rattle.smt_ext.specs.Digits.{is_numeral};
+ghost use Rattle.smt_characters.specs.Digits.{is_numeral};
 ghost use Rattle.smt_ext.specs.Decimal.{HasDecimalParts, ten_thousandths, IsDecimalText, IsNoDecimal, HoldsDecimalText, IsDecimalRefusal};
 ghost use Rattle.smt_ext.specs.Printed.{decimal_text};
 
-use crate::digits;
-use crate::text::Text;
+use smt_text::{Text, digits};
 use std::alloc::Global;
 use std::fmt;
 use thiserror::Error;

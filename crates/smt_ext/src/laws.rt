@@ -4,7 +4,7 @@ ghost use Rattle.std.specs.Ordering.{int_cmp};
 ghost use Rattle.smt_ext.specs.DatetimeRefusal.{IsMisshapen, IsUnreal};
 ghost use Rattle.smt_ext.specs.DatetimeText.{IsDatetimeText};
 ghost use Rattle.smt_ext.specs.Decimal.{IsDecimalText};
-ghost use Rattle.smt_ext.specs.Digits.{IsLong};
+ghost use Rattle.smt_arithmetic.specs.Longs.{IsLong};
 ghost use Rattle.smt_ext.specs.DurationRefusal.{HasFault};
 ghost use Rattle.smt_ext.specs.DurationText.{IsDurationText};
 ghost use Rattle.smt_ext.specs.Examples.{WorkedTexts};

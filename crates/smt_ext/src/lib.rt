@@ -6,11 +6,9 @@
 
 mod datetime;
 mod decimal;
-pub mod digits;
 mod ext;
 mod ipaddr;
 pub mod laws;
-mod text;
 
 pub use datetime::{Datetime, DatetimeError, Duration};
 pub use decimal::{Decimal, DecimalError};
@@ -22,7 +20,7 @@ pub use ipaddr::prefix::{IPv4Prefix, IPv6Prefix};
 pub use ipaddr::ranges::{
     loop_back_cidr_v4, loop_back_cidr_v6, multicast_cidr_v4, multicast_cidr_v6,
 };
-pub use text::Text;
+pub use smt_text::Text;
 
 #[cfg(test)]
 mod tests;

@@ -9,8 +9,10 @@ use Rattle.smt_lexicon.specs.Lexicon.{Piece, Space, Comment, Open, Close, Quoted
 use Rattle.smt_lexicon.specs.Reading.{Leaf, Node}
 use Rattle.smt_lexicon.specs.Front.{BeginsWithAtom, BeginsWithNone, IsQuoted, begins_no_symbol, begins_number}
 use Rattle.smt_lexicon.specs.PlainTexts.{IsPlainText, is_plain_text_byte, IsSmallAtom}
-use Rattle.smt_lexicon.proofs.Unique.{ends_run, head_is, kind, kind_is, kind_space, number, first_one, begins}
-use Rattle.smt_lexicon.proofs.Runs.{IsRun, plain_front}
+use Rattle.smt_characters.specs.Front.{begins_without, IsRun}
+use Rattle.smt_characters.proofs.Runs.{head_is}
+use Rattle.smt_lexicon.proofs.Unique.{kind, kind_is, kind_space, number, first_one, begins}
+use Rattle.smt_lexicon.proofs.Runs.{plain_front}
 use Rattle.smt_lexicon.proofs.PlainText.{plain_decoded, plain_chars, plain_utf8}
 use Rattle.smt_lexicon.proofs.Strings.{quoted_plain}
 
@@ -53,8 +55,7 @@ some_all_from : (test : ℕ → Bool) (bs : List ℕ) → 0 < length bs → list
 some_all_from test [] l h = absurd (omega arith)
 some_all_from test (b ∷ bs) l h = h
 
-stops_run : (x : Piece) (rest : List ℕ) → ends_run (goes_on x) rest ≡ true → stops x rest ≡ true
-unfolding ends_run
+stops_run : (x : Piece) (rest : List ℕ) → begins_without (goes_on x) rest ≡ true → stops x rest ≡ true
 stops_run x [] h = refl
 stops_run x (b ∷ bs) h = h
 
@@ -64,7 +65,7 @@ pub numeral_begins : (src digits rest : List ℕ) → IsRun is_digit src digits 
 numeral_begins src digits rest r l = record {
   piece = Numeral digits;
   is_one = some_all_from is_digit digits l r.each;
-  longest = stops_run (Numeral digits) rest r.ends;
+  longest = stops_run (Numeral digits) rest r.longest;
   token_is = refl;
   spelled = r.whole;
 }
@@ -82,10 +83,9 @@ numeral_none src digits rest r l h big depth =
     (λ inner e. no_bracket_at_digit src inner h e)
 
 pub digits_some : (src digits rest : List ℕ) → IsRun is_digit src digits rest → begins_number src ≡ true → 0 < length digits
-unfolding ends_run
 digits_some [] digits rest r h = absurd (false≢true h)
 digits_some (b ∷ bs) [] [] r h = absurd (let e = r.whole in cc)
-digits_some (b ∷ bs) [] (c ∷ cs) r h = absurd (false≢true (sym (ap not (ap is_digit (sym (head_is b c bs cs r.whole).0) ∙ h)) ∙ r.ends))
+digits_some (b ∷ bs) [] (c ∷ cs) r h = absurd (false≢true (sym (ap not (ap is_digit (sym (head_is b c bs cs r.whole).0) ∙ h)) ∙ r.longest))
 digits_some (b ∷ bs) (d ∷ ds) rest r h = omega arith
 
 -- ---- symbols
@@ -100,7 +100,7 @@ pub symbol_begins : (src name rest : List ℕ) → IsRun is_symbol_byte src name
 symbol_begins src name rest r l h plain = record {
   piece = Symbol name;
   is_one = and_from (is_symbol name) (is_utf8 name) (first_no_digit src name rest r.whole h l r.each) (is_utf8-from_IsUtf8 name (plain_utf8 name (plain_front src name rest r.whole plain)));
-  longest = stops_run (Symbol name) rest r.ends;
+  longest = stops_run (Symbol name) rest r.longest;
   token_is = refl;
   spelled = r.whole;
 }
@@ -134,14 +134,13 @@ ends_by b h o q p = elim (or_cases _ (eqb b 35) (not-false (ends_symbol b) h)) [
 ]
 
 no_atom : (bytes back : List ℕ) → IsRun is_symbol_byte bytes [] back → begins_no_symbol bytes ≡ false → IsPlainText bytes → (a : Atom) (s : List ℕ) → BeginsWithAtom bytes a s → ⊥
-unfolding ends_run
 no_atom [] back r h p a s b = begins b.piece s b.is_one b.spelled
 no_atom (c ∷ cs) [] r h p a s b = (let e = r.whole in cc)
 no_atom (c ∷ cs) (d ∷ ds) r h p a s b =
     let same : d ≡ c = sym (head_is c d cs ds r.whole).0 in
     let parts = or_parts (eqb c 40 || eqb c 34) (is_digit c) h in
     let either = or_parts (eqb c 40) (eqb c 34) parts.0 in
-    let ended : is_symbol_byte c ≡ false = ap is_symbol_byte (sym same) ∙ not-true (is_symbol_byte d) r.ends in
+    let ended : is_symbol_byte c ≡ false = ap is_symbol_byte (sym same) ∙ not-true (is_symbol_byte d) r.longest in
     let k = atom_kind (c ∷ cs) a s b in
     elim (ends_by c ended either.0 either.1 (and_parts (is_plain_text_byte c) (list_all is_plain_text_byte cs) p).0) [
       | inl e ↦ (let z = kind_space c cs e in omega arith)

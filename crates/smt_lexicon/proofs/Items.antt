@@ -4,7 +4,8 @@ use Rattle.smt_lexicon.specs.Lexicon.{Atom}
 use Rattle.smt_lexicon.specs.Reading.{Expression, Leaf, Node, Expressions, Nil, Cons, followed_by, expressions}
 use Rattle.smt_lexicon.specs.Front.{BeginsWithAtom, Begins, BeginsInside, BeginsWithNone, InsideIsNone, skip_space}
 use Rattle.smt_lexicon.specs.PlainTexts.{IsPlainText}
-use Rattle.smt_lexicon.proofs.Unique.{begins, head_is, kind, nothing_is}
+use Rattle.smt_characters.proofs.Runs.{head_is, nothing_is}
+use Rattle.smt_lexicon.proofs.Unique.{begins, kind}
 use Rattle.smt_lexicon.proofs.Atoms.{atom_kind, none_from, one_atom}
 
 -- no expression begins with a closing bracket

@@ -1,5 +1,4 @@
 pub mod Atoms
-pub mod Characters
 pub mod Items
 pub mod PlainText
 pub mod Quotes

@@ -7,7 +7,7 @@ use Rattle.std.proofs.lemmas.Bool.{and_parts}
 use Rattle.std.proofs.lemmas.Bool.Decides.{nat_tests}
 use Rattle.std.proofs.lemmas.Str.Ascii.{IsAscii-cons, IsAscii-nil}
 use Rattle.std.proofs.lemmas.Str.{IsUtf8-from_ascii, chars-IsAscii}
-use Rattle.smt_lexicon.specs.Lexicon.{decoded, escape, Escape}
+use Rattle.smt_characters.specs.Escapes.{decoded, escape, Escape}
 use Rattle.smt_lexicon.specs.PlainTexts.{is_plain_text_byte, IsPlainText}
 
 plain_small : (b : ℕ) → is_plain_text_byte b ≡ true → b < 128

@@ -7,9 +7,12 @@ use Rattle.std.proofs.lemmas.Bool.{and_parts, and_from, cases_Bool, cond-true, c
 use Rattle.std.proofs.lemmas.List.{append-nil}
 use Rattle.std.proofs.lemmas.List.Folds.{list_all-append}
 use Rattle.std.proofs.lemmas.Grind.{flat_map-append}
-use Rattle.smt_lexicon.specs.Lexicon.{Quoted, Word, quote_twice, short_escape, braced_escape, is_printable, is_hexadecimal, digit_value, number_in, escape, decoded, Text}
-use Rattle.smt_characters.specs.Characters.{is_code_point}
-use Rattle.smt_lexicon.specs.Quoting.{escaped, quoted_character, QuotedTextsAreRead}
+use Rattle.smt_characters.specs.Characters.{is_code_point, is_hexadecimal, is_printable}
+use Rattle.smt_characters.specs.Digits.{digit_value, number_in}
+use Rattle.smt_characters.specs.Escapes.{escaped, short_escape, braced_escape, escape, decoded}
+use Rattle.smt_characters.specs.Quoting.{quote_twice, quoted_character}
+use Rattle.smt_lexicon.specs.Lexicon.{Quoted, Word, Text}
+use Rattle.smt_lexicon.specs.Quoting.{QuotedTextsAreRead}
 use Rattle.smt_lexicon.proofs.Strings.{is_no_quote, twice_none}
 
 -- ---- digits in base 16

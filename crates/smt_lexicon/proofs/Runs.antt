@@ -1,4 +1,4 @@
--- The longest run of bytes that pass a test, and what stands behind it.
+-- White space, plain texts and their parts, and what their lengths tell.
 use Rattle.std.proofs.Common.{inl, inr, ◌≡◌, ℕ, ◌<◌, ◌≤◌, Bool, true, false, eqb, List, [], ◌∷◌, ◌++◌, refl, sym, ap, ◌∙◌, take, drop, length, arith, length-append}
 use Rattle.std.specs.List.{list_all, prefix_len, take_while}
 use Rattle.std.proofs.Math.Numerals.{one-add}
@@ -7,40 +7,6 @@ use Rattle.std.proofs.lemmas.List.Folds.{length-prefix_len, list_all-append}
 use Rattle.smt_lexicon.specs.Lexicon.{is_space}
 use Rattle.smt_lexicon.specs.Front.{skip_space}
 use Rattle.smt_lexicon.specs.PlainTexts.{is_plain_text_byte, IsPlainText}
-use Rattle.smt_lexicon.proofs.Unique.{ends_run}
-
-pub record IsRun (test : ℕ → Bool) (bytes front back : List ℕ) : Type 0 where
-  pub whole : bytes ≡ front ++ back
-  pub each : list_all test front ≡ true
-  pub ends : ends_run test back ≡ true
-
-one_longer : (test : ℕ → Bool) (b : ℕ) (bytes front back : List ℕ) → test b ≡ true → IsRun test bytes front back → IsRun test (b ∷ bytes) (b ∷ front) back
-one_longer test b bytes front back h r = record {
-  whole = ap (λ (v : List ℕ). b ∷ v) r.whole;
-  each = and_from (test b) (list_all test front) h r.each;
-  ends = r.ends;
-}
-
-none_here : (test : ℕ → Bool) (b : ℕ) (bytes : List ℕ) → test b ≡ false → IsRun test (b ∷ bytes) [] (b ∷ bytes)
-unfolding ends_run
-none_here test b bytes h = record { whole = refl; each = refl; ends = not_from_false (test b) h }
-
-none_left : (test : ℕ → Bool) → IsRun test [] [] []
-unfolding ends_run
-none_left test = record { whole = refl; each = refl; ends = refl }
-
-front_run : (test : ℕ → Bool) (bytes : List ℕ) → IsRun test bytes (take (prefix_len test bytes) bytes) (drop (prefix_len test bytes) bytes)
-front_run test [] = none_left test
-front_run test (b ∷ bytes) = elim (cases_Bool (test b)) [
-  | inl h ↦ rw (h, one-add (prefix_len test bytes)) (one_longer test b bytes _ _ h (front_run test bytes))
-  | inr h ↦ rw h (none_here test b bytes h)
-]
-
--- What is split at the length of a run is the run and the rest.
-pub run_at : (test : ℕ → Bool) (bytes front back : List ℕ) (n : ℕ) → n ≡ length (take_while test bytes) → front ≡ take n bytes → back ≡ drop n bytes → IsRun test bytes front back
-run_at test bytes front back n h f b =
-    let e : n ≡ prefix_len test bytes = h ∙ length-prefix_len test bytes in
-    rw (f, b, e) (front_run test bytes)
 
 pub skip_space_is : (bytes : List ℕ) → skip_space bytes ≡ drop (length (take_while is_space bytes)) bytes
 skip_space_is bytes = by_prefix bytes ∙ ap (λ n. drop n bytes) (sym (length-prefix_len is_space bytes))

@@ -7,8 +7,10 @@ use Rattle.std.proofs.lemmas.List.Concat.{flat_map-append}
 use Rattle.smt_lexicon.specs.Lexicon.{Quoted, quote_twice, stops}
 use Rattle.smt_lexicon.specs.Front.{IsQuoted}
 use Rattle.smt_lexicon.specs.PlainTexts.{is_plain_text_byte, IsPlainText}
-use Rattle.smt_lexicon.proofs.Unique.{ends_run, head_is, not_sooner, twice_quote, twice_other}
-use Rattle.smt_lexicon.proofs.Runs.{IsRun, plain_back, plain_front, plain_parts}
+use Rattle.smt_characters.specs.Front.{begins_without, IsRun}
+use Rattle.smt_characters.proofs.Runs.{head_is}
+use Rattle.smt_lexicon.proofs.Unique.{not_sooner, twice_quote, twice_other}
+use Rattle.smt_lexicon.proofs.Runs.{plain_back, plain_front, plain_parts}
 
 abbrev pub is_no_quote : ℕ → Bool
 is_no_quote b = not (eqb b 34)
@@ -36,21 +38,18 @@ quoted_more src text text' text'' rest run quote after more e r q a f g =
     ∙ sym (append_assoc (flat_map quote_twice (text ++ run)) (34 ∷ 34 ∷ []) more)
     ∙ ap (λ v. v ++ more) (sym (flat_map-append quote_twice (text ++ run) (34 ∷ [])) ∙ ap (flat_map quote_twice) (sym (g ∙ ap (λ v. v ++ 34 ∷ []) f)))
 
-closed_from : (after : List ℕ) → ((more : List ℕ) → after ≡ 34 ∷ more → ⊥) → ends_run (λ b. eqb b 34) after ≡ true
-unfolding ends_run
+closed_from : (after : List ℕ) → ((more : List ℕ) → after ≡ 34 ∷ more → ⊥) → begins_without (λ b. eqb b 34) after ≡ true
 closed_from [] h = refl
 closed_from (b ∷ bs) h = elim (cases_Bool (eqb b 34)) [
   | inl e ↦ absurd (h bs (ap (λ (v : ℕ). v ∷ bs) (eqb-true b 34 e)))
   | inr e ↦ not_from_false (eqb b 34) e
 ]
 
-stops_from : (text rest : List ℕ) → ends_run (λ b. eqb b 34) rest ≡ true → stops (Quoted text) rest ≡ true
-unfolding ends_run
+stops_from : (text rest : List ℕ) → begins_without (λ b. eqb b 34) rest ≡ true → stops (Quoted text) rest ≡ true
 stops_from text [] h = refl
 stops_from text (b ∷ bs) h = h
 
-ends_from : (text rest : List ℕ) → stops (Quoted text) rest ≡ true → ends_run (λ b. eqb b 34) rest ≡ true
-unfolding ends_run
+ends_from : (text rest : List ℕ) → stops (Quoted text) rest ≡ true → begins_without (λ b. eqb b 34) rest ≡ true
 ends_from text [] h = refl
 ends_from text (b ∷ bs) h = h
 
@@ -62,7 +61,7 @@ quoted_ends src text text' rest run quote after e r q n f = record {
 }
 
 -- no string ends where only a run is left
-no_end : (text run other rest : List ℕ) → list_all is_no_quote run ≡ true → ends_run (λ b. eqb b 34) rest ≡ true → flat_map quote_twice text ++ run ≡ flat_map quote_twice other ++ (34 ∷ rest) → ⊥
+no_end : (text run other rest : List ℕ) → list_all is_no_quote run ≡ true → begins_without (λ b. eqb b 34) rest ≡ true → flat_map quote_twice text ++ run ≡ flat_map quote_twice other ++ (34 ∷ rest) → ⊥
 no_end [] run other rest h s e =
     false≢true (sym (and_right (list_all is_no_quote (flat_map quote_twice other)) (list_all is_no_quote (34 ∷ rest)) refl) ∙ sym (list_all-append is_no_quote (flat_map quote_twice other) (34 ∷ rest)) ∙ ap (list_all is_no_quote) (sym e) ∙ h)
 no_end (x ∷ xs) run [] rest h s e = not_sooner x xs rest run s (sym e)
@@ -82,11 +81,10 @@ no_end (x ∷ xs) run (y ∷ ys) rest h s e =
 
 -- a run ends at a quote, or with the text
 run_to_end : (rest run quote : List ℕ) → IsRun is_no_quote rest run quote → ((after : List ℕ) → quote ≡ 34 ∷ after → ⊥) → quote ≡ []
-unfolding ends_run
 run_to_end rest run [] r h = refl
 run_to_end rest run (b ∷ bs) r h = elim (cases_Bool (eqb b 34)) [
   | inl e ↦ absurd (h bs (ap (λ (v : ℕ). v ∷ bs) (eqb-true b 34 e)))
-  | inr e ↦ absurd (false≢true (ap (λ t. not (not t)) (sym e) ∙ r.ends))
+  | inr e ↦ absurd (false≢true (ap (λ t. not (not t)) (sym e) ∙ r.longest))
 ]
 
 -- where no quote is left, there is no string

@@ -5,33 +5,9 @@ use Rattle.std.specs.List.{flat_map, list_all}
 use Rattle.std.proofs.lemmas.List.{append_cancel_left}
 use Rattle.std.proofs.lemmas.Bool.{and_parts, false≢true, not_from_true, eqb-true, eq-eqb, cases_Bool, or_cases, cond-true, cond-false, not-true}
 use Rattle.std.specs.Str.{is_utf8}
+use Rattle.smt_characters.specs.Front.{begins_without}
+use Rattle.smt_characters.proofs.Runs.{head_is, nothing_is, one_run}
 use Rattle.smt_lexicon.specs.Lexicon.{Piece, Space, Comment, Open, Close, Quoted, Binary, Hexadecimal, Numeral, Symbol, spelling, spell, some_all, is_symbol, is_piece, goes_on, stops, each_longest, quote_twice, is_line_end, is_binary, is_hexadecimal, is_digit, is_symbol_byte, is_space}
-
-pub head_is : (a b : ℕ) (xs ys : List ℕ) → a ∷ xs ≡ b ∷ ys → (a ≡ b) × (xs ≡ ys)
-head_is a b xs ys e = (cc, cc)
-
-pub nothing_is : (b : ℕ) (bs : List ℕ) → [] ≡ b ∷ bs → ⊥
-nothing_is b bs e = cc
-
--- the first byte after a run does not belong to it
-unfoldable pub ends_run : (ℕ → Bool) → List ℕ → Bool
-ends_run test [] = true
-ends_run test (b ∷ bs) = not (test b)
-
--- two runs at one place are one
-pub one_run : (test : ℕ → Bool) (xs ys r s : List ℕ) → list_all test xs ≡ true → list_all test ys ≡ true → ends_run test r ≡ true → ends_run test s ≡ true → xs ++ r ≡ ys ++ s → (xs ≡ ys) × (r ≡ s)
-unfolding ends_run
-one_run test [] [] r s hx hy hr hs e = (refl, e)
-one_run test [] (y ∷ ys) [] s hx hy hr hs e = absurd (nothing_is y (ys ++ s) e)
-one_run test [] (y ∷ ys) (b ∷ r) s hx hy hr hs e =
-    absurd (false≢true (sym (not_from_true (test y) (and_parts (test y) (list_all test ys) hy).0) ∙ ap (λ n. not (test n)) (sym (head_is b y r (ys ++ s) e).0) ∙ hr))
-one_run test (x ∷ xs) [] r [] hx hy hr hs e = absurd (nothing_is x (xs ++ r) (sym e))
-one_run test (x ∷ xs) [] r (b ∷ s) hx hy hr hs e =
-    absurd (false≢true (sym (not_from_true (test x) (and_parts (test x) (list_all test xs) hx).0) ∙ ap (λ n. not (test n)) (head_is x b (xs ++ r) s e).0 ∙ hs))
-one_run test (x ∷ xs) (y ∷ ys) r s hx hy hr hs e =
-    let h = head_is x y (xs ++ r) (ys ++ s) e in
-    let t = one_run test xs ys r s (and_parts (test x) (list_all test xs) hx).1 (and_parts (test y) (list_all test ys) hy).1 hr hs h.1 in
-    (ap₂ (λ (a : ℕ) (v : List ℕ). a ∷ v) h.0 t.0, t.1)
 
 -- ---- strings
 
@@ -42,18 +18,17 @@ pub twice_other : (y : ℕ) (ys t : List ℕ) → eqb y 34 ≡ false → flat_ma
 twice_other y ys t e = rw e refl
 
 -- a string doesn't end before the other does
-pub not_sooner : (y : ℕ) (ys r t : List ℕ) → ends_run (λ b. eqb b 34) r ≡ true → 34 ∷ r ≡ flat_map quote_twice (y ∷ ys) ++ t → ⊥
-unfolding ends_run
+pub not_sooner : (y : ℕ) (ys r t : List ℕ) → begins_without (λ b. eqb b 34) r ≡ true → 34 ∷ r ≡ flat_map quote_twice (y ∷ ys) ++ t → ⊥
 not_sooner y ys r t hr e = elim (cases_Bool (eqb y 34)) [
   | inl q ↦ two r hr (head_is 34 34 r (34 ∷ (flat_map quote_twice ys ++ t)) (e ∙ twice_quote y ys t q)).1
   | inr q ↦ (let h = head_is 34 y r (flat_map quote_twice ys ++ t) (e ∙ twice_other y ys t q) in false≢true (sym q ∙ eq-eqb y 34 (sym h.0)))
 ]
   where
-    two : (s : List ℕ) → ends_run (λ b. eqb b 34) s ≡ true → s ≡ 34 ∷ (flat_map quote_twice ys ++ t) → ⊥
+    two : (s : List ℕ) → begins_without (λ b. eqb b 34) s ≡ true → s ≡ 34 ∷ (flat_map quote_twice ys ++ t) → ⊥
     two [] h f = cc
     two (b ∷ s) h f = false≢true (ap (λ n. not (eqb n 34)) (sym (head_is b 34 s (flat_map quote_twice ys ++ t) f).0) ∙ h)
 
-pub one_string : (xs ys r s : List ℕ) → ends_run (λ b. eqb b 34) r ≡ true → ends_run (λ b. eqb b 34) s ≡ true → flat_map quote_twice xs ++ (34 ∷ r) ≡ flat_map quote_twice ys ++ (34 ∷ s) → (xs ≡ ys) × (r ≡ s)
+pub one_string : (xs ys r s : List ℕ) → begins_without (λ b. eqb b 34) r ≡ true → begins_without (λ b. eqb b 34) s ≡ true → flat_map quote_twice xs ++ (34 ∷ r) ≡ flat_map quote_twice ys ++ (34 ∷ s) → (xs ≡ ys) × (r ≡ s)
 one_string [] [] r s hr hs e = (refl, (head_is 34 34 r s e).1)
 one_string [] (y ∷ ys) r s hr hs e = absurd (not_sooner y ys r (34 ∷ s) hr e)
 one_string (x ∷ xs) [] r s hr hs e = absurd (not_sooner x xs s (34 ∷ r) hs (sym e))
@@ -133,8 +108,7 @@ all_of_symbol : (bs : List ℕ) → is_symbol bs ≡ true → list_all is_symbol
 all_of_symbol [] h = refl
 all_of_symbol (b ∷ bs) h = (and_parts (not (is_digit b)) (some_all is_symbol_byte (b ∷ bs)) h).1
 
-run_ends : (x : Piece) (r : List ℕ) → stops x r ≡ true → ends_run (goes_on x) r ≡ true
-unfolding ends_run
+run_ends : (x : Piece) (r : List ℕ) → stops x r ≡ true → begins_without (goes_on x) r ≡ true
 run_ends x [] h = refl
 run_ends x (b ∷ r) h = h
 

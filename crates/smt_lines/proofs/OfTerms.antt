@@ -3,6 +3,7 @@ use Rattle.std.proofs.Common.{◌≡◌, ℕ, ◌+◌, ◌<◌, true, List, [], 
 use Rattle.std.specs.Prelude.{chars, IsSome, is_some, nat_lt}
 use Rattle.std.specs.List.{list_all}
 use Rattle.std.proofs.lemmas.Bool.{and_parts, false≢true, ltb-true}
+use Rattle.smt_characters.specs.Quoting.{quoted_id}
 use Rattle.smt_meaning.specs.Plain.{PlainType, OptionType, EntityType, ExtensionType, RecordType, SetType, PlainOp, BvnegoOp, RecordGetOp, UufOp, PlainLiteral, BitVecLiteral, BoolLiteral, EntityLiteral, ExtensionLiteral, StringLiteral, PlainTerm, Application, NoneTerm, LiteralTerm, RecordTerm, SetTerm, SomeTerm, VariableTerm, PlainTerms, no_terms, one_term, PlainFields, no_fields, one_field}
 use Rattle.smt_meaning.specs.TypeValues.{Enums, members_of}
 use Rattle.smt_meaning.specs.Types.{type_of, field_types, kind_of}
@@ -10,7 +11,7 @@ use Rattle.smt_lexicon.specs.Lexicon.{Text}
 use Rattle.smt_lexicon.specs.Reading.{Expression, Leaf}
 use Rattle.smt_semantics.specs.Script.{State, name, group, is_in, built_in_names}
 use Rattle.smt_semantics.specs.Written.{is_name}
-use Rattle.smt_lines.specs.LineForms.{extension_body, quoted_id, none_body, set_body, record_body, application_body, least_body, some_body, variable_lines}
+use Rattle.smt_lines.specs.LineForms.{extension_body, none_body, set_body, record_body, application_body, least_body, some_body, variable_lines}
 use Rattle.smt_lines.specs.EntryNames.{member_name, place_of, enum_member}
 use Rattle.smt_lines.specs.Lines.{encode_function, define_entity, encode_type, encode_literal, encode_head, encode_term, encode_terms, encode_fields, define_application, Rendering, AsApplication, AsEqualsIntMin, AsFalse, application_rendering, define, enter_term, next_term, ◌>>=◌}
 use Rattle.smt_lines.specs.NameTables.{name_of_function, Tables, name_of_term, name_of_type, text_of_name}

@@ -3,7 +3,10 @@ use Rattle.std.proofs.Common.{◌≡◌, ℕ, Bool, true, false, not, ◌&&◌, 
 use Rattle.std.specs.Prelude.{codes}
 use Rattle.std.specs.List.{list_all, flat_map}
 use Rattle.std.proofs.lemmas.Bool.{and_parts, and_from, false≢true}
-use Rattle.smt_lexicon.specs.Lexicon.{Bits, Number, Text, Name, is_line_end}
+use Rattle.smt_characters.specs.Characters.{is_line_end}
+use Rattle.smt_characters.specs.LineTexts as texts
+use Rattle.smt_characters.specs.LineTexts.{in_comment, sorted_name}
+use Rattle.smt_lexicon.specs.Lexicon.{Bits, Number, Text, Name}
 use Rattle.smt_lexicon.specs.Reading.{Expression, Leaf, Node, Expressions, Nil, Cons, expressions}
 use Rattle.smt_semantics.specs.Script as script
 use Rattle.smt_semantics.specs.Script.{Command, Holds, HasWholeLines, name, group, constructor}
@@ -15,7 +18,7 @@ use Rattle.smt_semantics.proofs.First.{assert_line, declare_const_line, define_f
 use Rattle.smt_semantics.proofs.Laid.{groups_write, selectors_write, datatype_line, declare_fun_line, plain_lines, number_writes}
 use Rattle.smt_semantics.proofs.Quotes.{texts_write}
 use Rattle.smt_lines.specs.Spelling.{spelled, spelled_others}
-use Rattle.smt_lines.specs.Line.{Constructor, Bare, Fielded, Comment, DeclareDatatype, DeclareConst, DeclareFun, DefineFun, Assert, Push, Pop, in_comment, spelled_selector, spelled_constructor, spelled_constructors, spelled_line, spelled_lines}
+use Rattle.smt_lines.specs.Line.{Constructor, Bare, Fielded, Comment, DeclareDatatype, DeclareConst, DeclareFun, DefineFun, Assert, Push, Pop, spelled_selector, spelled_constructor, spelled_line, spelled_lines}
 use Rattle.smt_lines.specs.Command.{built, all_built, commands_of, commands, is_written, are_written, is_written_constructor, is_written_line}
 use Rattle.smt_lines.specs.Scripts.{LinesAreLines, LinesHold}
 
@@ -57,14 +60,14 @@ mutual
 
 -- ---- constructors
 
-selector_writes : (x : List ℕ × Expression) → (is_name x.0 && is_written x.1) ≡ true → ReadsAs (spelled_selector x) (group (name x.0 ∷ x.1 ∷ []))
+selector_writes : (x : List ℕ × Expression) → (is_name x.0 && is_written x.1) ≡ true → ReadsAs (sorted_name (spelled_selector x)) (group (name x.0 ∷ x.1 ∷ []))
 selector_writes x h = let q = and_parts (is_name x.0) (is_written x.1) h in
-    let texts : codes "(" ++ x.0 ++ codes " " ++ spelled x.1 ++ codes ")" ≡ spelled_selector x = simp append_assoc in
+    let texts : codes "(" ++ x.0 ++ codes " " ++ spelled x.1 ++ codes ")" ≡ sorted_name (spelled_selector x) = simp append_assoc in
     subst (λ (t : List ℕ). ReadsAs t (group (name x.0 ∷ x.1 ∷ []))) texts (applied_text x.0 (spelled x.1) x.1 q.0 (expressions_write x.1 q.1))
 
 abbrev selector_parts : List (List ℕ × Expression) → List Part
 selector_parts [] = []
-selector_parts (x ∷ xs) = record { text = spelled_selector x; expr = group (name x.0 ∷ x.1 ∷ []) } ∷ selector_parts xs
+selector_parts (x ∷ xs) = record { text = sorted_name (spelled_selector x); expr = group (name x.0 ∷ x.1 ∷ []) } ∷ selector_parts xs
 
 selector_parts_are : (xs : List (List ℕ × Expression)) → map (λ p. p.expr) (selector_parts xs) ≡ map (λ s. group (name s.0 ∷ s.1 ∷ [])) xs
 selector_parts_are [] = refl
@@ -74,20 +77,20 @@ selectors_written : (xs : List (List ℕ × Expression)) → list_all (λ x. is_
 selectors_written [] h = tt
 selectors_written (x ∷ xs) h = let q = and_parts (is_name x.0 && is_written x.1) _ h in (selector_writes x q.0, selectors_written xs q.1)
 
-spaced_selectors : (xs : List (List ℕ × Expression)) (end : List ℕ) → flat_map (λ y. codes " " ++ spelled_selector y) xs ++ end ≡ spaced (selector_parts xs) end
+spaced_selectors : (xs : List (List ℕ × Expression)) (end : List ℕ) → flat_map (λ y. codes " " ++ sorted_name y) (map spelled_selector xs) ++ end ≡ spaced (selector_parts xs) end
 spaced_selectors [] end = refl
 spaced_selectors (x ∷ xs) end =
-    let rest = flat_map (λ y. codes " " ++ spelled_selector y) xs in
-    ap (λ (t : List ℕ). codes " " ++ t) (append_assoc (spelled_selector x) rest end ∙ ap (λ (t : List ℕ). spelled_selector x ++ t) (spaced_selectors xs end))
+    let rest = flat_map (λ y. codes " " ++ sorted_name y) (map spelled_selector xs) in
+    ap (λ (t : List ℕ). codes " " ++ t) (append_assoc (sorted_name (spelled_selector x)) rest end ∙ ap (λ (t : List ℕ). sorted_name (spelled_selector x) ++ t) (spaced_selectors xs end))
 
 constructor_writes : (c : Constructor) → is_written_constructor c ≡ true → ReadsAs (spelled_constructor c) (constructor (built c))
 constructor_writes (Bare n) h = selectors_write (record { name = n; selectors = [] }) [] [] h tt refl refl
 constructor_writes (Fielded n []) h = selectors_write (record { name = n; selectors = [] }) [] (codes " ") (and_parts (is_name n) true h).0 tt refl refl
 constructor_writes (Fielded n (x ∷ xs)) h =
     let q = and_parts (is_name n) (list_all (λ x. is_name x.0 && is_written x.1) (x ∷ xs)) h in
-    let rest = flat_map (λ y. codes " " ++ spelled_selector y) xs in
+    let rest = flat_map (λ y. codes " " ++ sorted_name y) (map spelled_selector xs) in
     subst (λ (t : List ℕ). ReadsAs (codes "(" ++ (n ++ (codes " " ++ t))) (constructor (built (Fielded n (x ∷ xs)))))
-    (ap (λ (t : List ℕ). spelled_selector x ++ t) (sym (spaced_selectors xs (codes ")"))) ∙ sym (append_assoc (spelled_selector x) rest (codes ")")))
+    (ap (λ (t : List ℕ). sorted_name (spelled_selector x) ++ t) (sym (spaced_selectors xs (codes ")"))) ∙ sym (append_assoc (sorted_name (spelled_selector x)) rest (codes ")")))
     (selectors_write (record { name = n; selectors = x ∷ xs }) (selector_parts (x ∷ xs)) [] q.0 (selectors_written (x ∷ xs) q.1) refl (selector_parts_are (x ∷ xs)))
 
 abbrev constructor_parts : List Constructor → List ConstructorPart
@@ -102,13 +105,13 @@ constructors_written : (cs : List Constructor) → list_all is_written_construct
 constructors_written [] h = tt
 constructors_written (c ∷ cs) h = let q = and_parts (is_written_constructor c) _ h in (constructor_writes c q.0, constructors_written cs q.1)
 
-below_are : (cs : List Constructor) (end : List ℕ) → flat_map (λ y. codes "\n  " ++ spelled_constructor y) cs ++ end ≡ below_each (constructor_parts cs) end
+below_are : (cs : List Constructor) (end : List ℕ) → flat_map (λ y. codes "\n  " ++ y) (map spelled_constructor cs) ++ end ≡ below_each (constructor_parts cs) end
 below_are [] end = refl
 below_are (c ∷ cs) end =
-    let rest = flat_map (λ y. codes "\n  " ++ spelled_constructor y) cs in
+    let rest = flat_map (λ y. codes "\n  " ++ y) (map spelled_constructor cs) in
     ap (λ (t : List ℕ). codes "\n  " ++ t) (append_assoc (spelled_constructor c) rest end ∙ ap (λ (t : List ℕ). spelled_constructor c ++ t) (below_are cs end))
 
-constructors_are : (cs : List Constructor) (end : List ℕ) → spelled_constructors cs ++ end ≡ constructor_lines (constructor_parts cs) end
+constructors_are : (cs : List Constructor) (end : List ℕ) → texts.constructor_lines (map spelled_constructor cs) ++ end ≡ constructor_lines (constructor_parts cs) end
 constructors_are [] end = refl
 constructors_are (c ∷ cs) end = below_are (c ∷ cs) end
 
@@ -116,10 +119,10 @@ constructors_are (c ∷ cs) end = below_are (c ∷ cs) end
 
 datatype_is_line : (n : List ℕ) (cs : List Constructor) → is_name n ≡ true → list_all is_written_constructor cs ≡ true → IsLine (spelled_line (DeclareDatatype n [] cs)) (script.DeclareDatatype n [] (all_built cs) ∷ [])
 datatype_is_line n cs h k =
-    let inner = spelled_constructors cs in
-    let texts : constructor_lines (constructor_parts cs) (codes "))\n") ≡ (inner ++ codes ")") ++ codes ")\n" =
+    let inner = texts.constructor_lines (map spelled_constructor cs) in
+    let bytes : constructor_lines (constructor_parts cs) (codes "))\n") ≡ (inner ++ codes ")") ++ codes ")\n" =
     sym (constructors_are cs (codes "))\n")) ∙ sym (append_assoc inner (codes ")") (codes ")\n")) in
-    subst (λ (t : List ℕ). IsLine (codes "(declare-datatype " ++ (n ++ (codes " (" ++ t))) (script.DeclareDatatype n [] (all_built cs) ∷ [])) texts
+    subst (λ (t : List ℕ). IsLine (codes "(declare-datatype " ++ (n ++ (codes " (" ++ t))) (script.DeclareDatatype n [] (all_built cs) ∷ [])) bytes
     (subst (λ (t : List script.Constructor). IsLine (codes "(declare-datatype " ++ (n ++ (codes " (" ++ constructor_lines (constructor_parts cs) (codes "))\n")))) (script.DeclareDatatype n [] t ∷ [])) (constructor_parts_are cs)
     (datatype_line n (constructor_parts cs) h (constructors_written cs k)))
 

@@ -1,7 +1,8 @@
 -- How lines and the bodies of definitions are written, from the names and the texts of their parts. What is written for
 -- terms one after the other and what an entry of a table has as its own lines are both made of these.
-use Rattle.std.specs.Prelude.{ℕ, suc, ◌-◌, ◌^◌, ◌||◌, if◌then◌else◌, ◌==◌, nat_lt, codes, List, [], ◌∷◌, ◌++◌, Option, Some, None}
-use Rattle.std.specs.List.{flat_map, join_by}
+use Rattle.std.specs.Prelude.{ℕ, suc, ◌-◌, ◌^◌, codes, List, [], ◌∷◌, ◌++◌, Option, Some, None}
+use Rattle.std.specs.List.{join_by}
+use Rattle.smt_characters.specs.Quoting.{quoted_id}
 use Rattle.smt_arithmetic.specs.BitVectors.{bits_of}
 use Rattle.smt_meaning.specs.Plain.{ExtensionKind, IpAddrKind, DecimalKind, DatetimeKind, DurationKind, ExtensionOp, DatetimeOfBitVecOp, DatetimeValOp, DecimalValOp, DurationOfBitVecOp, DurationValOp, IpAddrV4Op, IpAddrV6Op, IpIsV4Op, IpPrefixV4Op, IpPrefixV6Op, PatternPart, PlainOp, EqOp, ExtOp, StringLikeOp, ZeroExtendOp, PlainExtension, DecimalOf, Ipv4Of, Ipv6Of, DatetimeOf, DurationOf}
 use Rattle.smt_lexicon.specs.Reading.{Expression, Leaf}
@@ -12,7 +13,6 @@ use Rattle.smt_semantics.specs.WrittenStrings.{pattern_expr}
 use Rattle.smt_semantics.specs.Script.{name, group}
 use Rattle.smt_semantics.specs.Sorts.{string_sort, bit_sort, option_sort}
 use Rattle.smt_semantics.specs.CommandLines.{bits}
-use Rattle.smt_lines.specs.Spelling.{escaped}
 use Rattle.smt_lines.specs.EntryNames.{member_name, attribute_name, id_name, kind_name, v4_name, v6_name, selector_name}
 use Rattle.smt_lines.specs.TermTexts.{string_text}
 use Rattle.smt_lines.specs.Line.{Constructor, Bare, Fielded, Line, Comment, DeclareDatatype, DeclareConst, DeclareFun}
@@ -72,21 +72,6 @@ function_heading id = Comment id ∷ []
 -- the declaration of a function, behind the lines of its types
 abbrev pub function_declaration : (name : List ℕ) → (argument sort : Expression) → List Line
 function_declaration n argument sort = DeclareFun n argument sort ∷ []
-
--- a character of a variable's id between quotes, a byte
-abbrev pub quoted_id_byte : ℕ → List ℕ
-quoted_id_byte b =
-    if b == 0 then codes "\\0"
-    else (if b == 9 then codes "\\t"
-    else (if b == 10 then codes "\\n"
-    else (if b == 13 then codes "\\r"
-    else (if b == 34 then codes "\\\""
-    else (if b == 92 then codes "\\\\"
-    else (if nat_lt b 32 || (b == 127) then escaped b else b ∷ []))))))
-
--- a variable's id between quotes
-abbrev pub quoted_id : List ℕ → List ℕ
-quoted_id id = codes "\"" ++ (flat_map quoted_id_byte id ++ codes "\"")
 
 -- a variable: its id in a comment, and its declaration
 abbrev pub variable_lines : (id name : List ℕ) → (sort : Expression) → List Line

@@ -1,7 +1,7 @@
 -- Expressions, as scripts have them, and their bytes.
 use Rattle.std.specs.Prelude.{ℕ, codes, List, [], ◌++◌}
 pub use Rattle.smt_semantics.specs.Numerals.{numeral}
-pub use Rattle.smt_semantics.specs.WrittenStrings.{escaped, quoted_character, quoted}
+use Rattle.smt_characters.specs.Quoting.{quoted}
 use Rattle.smt_lexicon.specs.Lexicon.{Atom, Bits, Name, Number, Text}
 use Rattle.smt_lexicon.specs.Reading.{Expression, Leaf, Node, Expressions, Nil, Cons}
 

@@ -4,7 +4,7 @@
 //! SMT-LIB 2.7 spells commands (chapter 3, Scripts) and comments (chapter 3, Lexicon).
 //!
 //! What a put leaves, and when it may fail, is one word for every sink and every line, `Puts` of
-//! `specs/Sink.antt`; the bytes of each line stand in `specs/ScriptLines.antt`.
+//! `specs/Sink.antt`; the bytes of each line stand in `specs/LineTexts.antt` of `smt_characters`.
 #![tactic(auto)]
 
 mod memory;
@@ -15,6 +15,7 @@ mod tests;
 mod writer;
 
 pub use memory::{ListSink, MemorySink};
-pub use script::{SmtLibScript, Text};
+pub use script::SmtLibScript;
 pub use sink::{Sink, SinkError};
+pub use smt_text::Text;
 pub use writer::WriteSink;

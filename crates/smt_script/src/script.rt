@@ -1,15 +1,13 @@
 // The lines of a script, put to any sink.
-ghost use Rattle.std.specs.Prelude.{◌≡◌, ◌↔◌, [], codes, map, position, IsTrue};
+ghost use Rattle.std.specs.Prelude.{◌≡◌, ◌↔◌, [], map, position, IsTrue};
 ghost use Rattle.std.specs.List.{join_by};
 ghost use Rattle.smt_script.specs.Sink.{Puts};
-ghost use Rattle.smt_script.specs.ScriptLines.{is_line_end, in_comment, spaced, sorted_variable, datatype_body, constructor_lines, comment_line, assert_line, define_fun_line, declare_const_line, declare_datatype_line};
-ghost use Rattle.smt_script.specs.SharedTexts.{joined, texts, text_pairs};
+ghost use Rattle.smt_characters.specs.Characters.{is_line_end};
+ghost use Rattle.smt_characters.specs.LineTexts.{in_comment, spaced, sorted_names, datatype_body, constructor_lines, comment_text, assert_text, define_fun_text, declare_const_text, declare_datatype_text};
+ghost use Rattle.smt_characters.specs.SharedTexts.{joined, texts, text_pairs};
 
 use crate::sink::{Sink, SinkError};
-use std::rc::RcStr;
-
-/// A text that its holders share.
-pub type Text = RcStr;
+use smt_text::Text;
 
 /// Puts these texts, one behind the other.
 fn put_all<S: Sink>(sink: &mut S, pieces: &[&str]) -> Result<(), SinkError>
@@ -59,7 +57,7 @@ fn put_joined<S: Sink>(sink: &mut S, separator: &str, items: &[Text]) -> Result<
 /// Puts these sorted variables with a space between each two.
 fn put_variables<S: Sink>(sink: &mut S, variables: &[(Text, Text)]) -> Result<(), SinkError>
     ensures { Puts S.contents S.faults S.has_room S.place sink.old sink.new
-        (join_by sorted_variable (codes " ") (text_pairs variables.now)) result }
+        (sorted_names (text_pairs variables.now)) result }
 {
     let mut gap = "";
     for (name, sort) in variables {
@@ -121,7 +119,7 @@ pub trait SmtLibScript: Sink {
     /// comment (SMT-LIB 2.7, chapter 3, Lexicon).
     fn comment(&mut self, comment: &str) -> Result<(), SinkError>
         ensures { Puts Self.contents Self.faults Self.has_room Self.place self.old self.new
-            (comment_line comment.now) result }
+            (comment_text comment.now) result }
     {
         self.put(b"; ")?;
         put_on_one_line(self, comment.as_bytes())?;
@@ -131,7 +129,7 @@ pub trait SmtLibScript: Sink {
     /// `(assert EXPR)`.
     fn assert(&mut self, expr: &str) -> Result<(), SinkError>
         ensures { Puts Self.contents Self.faults Self.has_room Self.place self.old self.new
-            (assert_line expr.now) result }
+            (assert_text expr.now) result }
     {
         put_all(self, &["(assert ", expr, ")\n"])
     }
@@ -145,7 +143,7 @@ pub trait SmtLibScript: Sink {
         expr: &str,
     ) -> Result<(), SinkError>
         ensures { Puts Self.contents Self.faults Self.has_room Self.place self.old self.new
-            (define_fun_line id.now (text_pairs args.now) ty.now expr.now) result }
+            (define_fun_text id.now (text_pairs args.now) ty.now expr.now) result }
     {
         put_all(self, &["(define-fun ", id, " ("])?;
         put_variables(self, args)?;
@@ -155,7 +153,7 @@ pub trait SmtLibScript: Sink {
     /// `(declare-const ID TY)`.
     fn declare_const(&mut self, id: &str, ty: &str) -> Result<(), SinkError>
         ensures { Puts Self.contents Self.faults Self.has_room Self.place self.old self.new
-            (declare_const_line id.now ty.now) result }
+            (declare_const_text id.now ty.now) result }
     {
         put_all(self, &["(declare-const ", id, " ", ty, ")\n"])
     }
@@ -170,7 +168,7 @@ pub trait SmtLibScript: Sink {
         constructors: &[Text],
     ) -> Result<(), SinkError>
         ensures { Puts Self.contents Self.faults Self.has_room Self.place self.old self.new
-            (declare_datatype_line id.now (texts params.now) (texts constructors.now)) result }
+            (declare_datatype_text id.now (texts params.now) (texts constructors.now)) result }
     {
         put_all(self, &["(declare-datatype ", id, " "])?;
         put_datatype(self, params, constructors)?;

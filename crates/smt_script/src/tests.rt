@@ -1,11 +1,10 @@
 ghost use Rattle.std.specs.Prelude.{◌++◌, ◌≡◌, IsOk, codes, length};
-ghost use Rattle.smt_script.specs.ScriptLines.{declare_const_line};
+ghost use Rattle.smt_characters.specs.LineTexts.{declare_const_text};
 ghost use Rattle.smt_script.specs.Memory.{memory_bytes, memory_has_room};
 
 use super::*;
 use std::alloc::{AllocError, Global};
 use std::io::{self, Write};
-use std::rc::RcStr;
 use std::test::Fail;
 
 /// What `put_lines` puts, as the table of lines spells it.
@@ -25,18 +24,15 @@ const LINES: &str = "\
 fn texts(alloc: Global, items: &[&str]) -> Result<Vec<Text>, AllocError> {
     let mut texts = Vec::new(alloc);
     for item in items {
-        texts.push(RcStr::from_str(alloc, item)?)?;
+        texts.push(Text::from_str(alloc, item)?)?;
     }
     Ok(texts)
 }
 
 fn arguments(alloc: Global) -> Result<Vec<(Text, Text)>, AllocError> {
     let mut arguments = Vec::new(alloc);
-    arguments.push((RcStr::from_str(alloc, "x")?, RcStr::from_str(alloc, "Int")?))?;
-    arguments.push((
-        RcStr::from_str(alloc, "y")?,
-        RcStr::from_str(alloc, "Bool")?,
-    ))?;
+    arguments.push((Text::from_str(alloc, "x")?, Text::from_str(alloc, "Int")?))?;
+    arguments.push((Text::from_str(alloc, "y")?, Text::from_str(alloc, "Bool")?))?;
     Ok(arguments)
 }
 
@@ -56,11 +52,8 @@ fn put_lines<S: Sink>(sink: &mut S, alloc: Global) -> Result<(), Fail> {
     let parameters = texts(alloc, &["X"])?;
     let constructors = texts(alloc, &["(none)", "(some (val X))"])?;
     let mut arguments = Vec::new(alloc);
-    arguments.push((RcStr::from_str(alloc, "x")?, RcStr::from_str(alloc, "Int")?))?;
-    arguments.push((
-        RcStr::from_str(alloc, "y")?,
-        RcStr::from_str(alloc, "Bool")?,
-    ))?;
+    arguments.push((Text::from_str(alloc, "x")?, Text::from_str(alloc, "Int")?))?;
+    arguments.push((Text::from_str(alloc, "y")?, Text::from_str(alloc, "Bool")?))?;
     sink.declare_datatype("Option", parameters.as_slice(), constructors.as_slice())?;
     sink.comment("\"b\"")?;
     sink.declare_const("t0", "Bool")?;
@@ -89,9 +82,9 @@ fn lines_are_spelled(rt: HostRuntime) -> Result<(), Fail> {
 
 /// In a sink with room a line is put, whatever the allocator does.
 fn declare_in_room(sink: &mut MemorySink, id: &str) -> Result<(), SinkError>
-    requires { memory_has_room sink.old (length (declare_const_line id.now (codes "Bool"))) }
+    requires { memory_has_room sink.old (length (declare_const_text id.now (codes "Bool"))) }
     ensures room { IsOk result }
-    ensures bytes { memory_bytes sink.new ≡ memory_bytes sink.old ++ declare_const_line id.now (codes "Bool") }
+    ensures bytes { memory_bytes sink.new ≡ memory_bytes sink.old ++ declare_const_text id.now (codes "Bool") }
 {
     sink.declare_const(id, "Bool")
 }

@@ -4,11 +4,8 @@
 ghost use Rattle.std.specs.Prelude.{◌≡◌, [], ◌∷◌, ◌++◌, length, OnOk, OnErr};
 ghost use Rattle.smt_sexpr.specs.View.{plain, plains, items_of};
 
+use smt_text::Text;
 use std::alloc::{AllocError, Global};
-use std::rc::RcStr;
-
-/// A text that is shared, not copied.
-pub type Text = RcStr;
 
 /// An expression between brackets and spaces (SMT-LIB 2.7, S-expressions).
 #[derive(Debug, PartialEq, Eq, Drop)]

@@ -1,17 +1,18 @@
 //! Strings, numerals and symbols at the front of a text.
 #![tactic(auto, using(crate::specs::View::views))]
 
-ghost use Rattle.std.specs.Prelude.{◌≡◌, ℕ, ◌^◌, ◌<◌, ◌∷◌, ◌++◌, List, length, not, true, false, ◌==◌, IsTrue, OnOk, IfSome, IfNone};
+ghost use Rattle.std.specs.Prelude.{◌≡◌, ℕ, ◌<◌, ◌∷◌, ◌++◌, List, length, not, true, false, ◌==◌, OnOk, IfSome, IfNone};
 ghost use Rattle.std.specs.List.{list_all, take_while};
-ghost use Rattle.std.specs.Option.{SomeIff};
 ghost use Rattle.std.specs.String.{string_bytes};
 ghost use Rattle.smt_lexicon.specs.Front.{Begins, BeginsWithNone, IfRead, IfUnread, IsQuoted, begins_no_symbol, begins_number, skip_space};
-ghost use Rattle.smt_lexicon.specs.Lexicon.{is_space, is_digit, is_symbol_byte, number_in};
+ghost use Rattle.smt_lexicon.specs.Lexicon.{is_space, is_symbol_byte};
 ghost use Rattle.smt_lexicon.specs.PlainTexts.{IsPlainText, is_plain_text_byte};
 ghost use Rattle.smt_sexpr.specs.View.{plain};
 
 use crate::error::SExprParseError;
-use crate::expression::{SExpr, Text};
+use crate::expression::SExpr;
+use smt_text::Text;
+use smt_text::digits::{behind, split_digits, wide_number};
 use std::alloc::{AllocError, Global};
 use std::str;
 
@@ -39,12 +40,6 @@ fn is_white_space(byte: u8) -> bool
     matches!(byte, b' ' | b'\t' | b'\n' | b'\r' | b'\x0c')
 }
 
-fn is_decimal(byte: u8) -> bool
-    ensures { result ≡ is_digit byte }
-{
-    byte.is_ascii_digit()
-}
-
 fn goes_on_symbol(byte: u8) -> bool
     ensures { result ≡ is_symbol_byte byte }
 {
@@ -55,12 +50,6 @@ fn space_len(src: &[u8]) -> usize
     ensures { result ≡ length (take_while is_space src.now) }
 {
     src.iter().take_while(|byte| is_white_space(**byte)).count()
-}
-
-fn digits_len(src: &[u8]) -> usize
-    ensures { result ≡ length (take_while is_digit src.now) }
-{
-    src.iter().take_while(|byte| is_decimal(**byte)).count()
 }
 
 fn symbol_len(src: &[u8]) -> usize
@@ -83,29 +72,6 @@ pub fn without_space(src: &[u8]) -> &[u8]
     src.split_at(space_len(src)).1
 }
 
-/// What follows the byte, where the text begins with it.
-pub fn behind(src: &[u8], byte: u8) -> Option<&[u8]>
-    ensures found { IfSome result (λ rest. src.now ≡ byte ∷ rest.now) }
-    ensures none { IfNone result ((rest : List ℕ) → src.now ≡ byte ∷ rest → ⊥) }
-{
-    let (first, rest) = src.split_first()?;
-    if *first == byte { Some(rest) } else { None }
-}
-
-/// The number that the digits write, where it is below 2 to the 128.
-fn number(digits: &[u8]) -> Option<u128>
-    requires { IsTrue (list_all is_digit digits.now) }
-    ensures { SomeIff result (number_in 10 digits.now < 2 ^ 128) (number_in 10 digits.now) }
-{
-    let mut value: u128 = 0;
-    for digit in digits {
-        value = value
-            .checked_mul(10)?
-            .checked_add(u128::from(*digit - b'0'))?;
-    }
-    Some(value)
-}
-
 /// The numeral at the front of a text, and what follows it.
 pub fn read_numeral(src: &[u8]) -> Option<(SExpr, &[u8])>
     requires { begins_number src.now ≡ true }
@@ -114,8 +80,8 @@ pub fn read_numeral(src: &[u8]) -> Option<(SExpr, &[u8])>
     ensures rest_plain { IsPlainText src.now → IfSome result (λ x. IsPlainText x.1.now) }
     ensures shorter { IfSome result (λ x. length x.1.now < length src.now) }
 {
-    let (digits, rest) = src.split_at(digits_len(src));
-    let value = number(digits)?;
+    let (digits, rest) = split_digits(src);
+    let value = wide_number(digits)?;
     Some((SExpr::Numeral(value), rest))
 }
 

@@ -9,6 +9,7 @@ pub mod quote;
 pub mod read;
 
 pub use error::SExprParseError;
-pub use expression::{SExpr, SExprs, Text};
+pub use expression::{SExpr, SExprs};
 pub use quote::quote_string;
 pub use read::read_plain;
+pub use smt_text::Text;

@@ -1,54 +1,16 @@
 //! The text between quotes, as a script has it.
 #![tactic(auto)]
 
-ghost use Rattle.std.specs.Prelude.{◌≡◌, ◌++◌, IfOk, IfErr, IfSome, OnOk, is_some};
+ghost use Rattle.std.specs.Prelude.{◌≡◌, IfOk, IfErr, IfSome, is_some};
 ghost use Rattle.std.specs.List.{list_all};
 ghost use Rattle.std.specs.Rc.{rc_str_bytes};
 ghost use Rattle.std.specs.Str.{chars};
-ghost use Rattle.std.specs.String.{string_bytes};
 ghost use Rattle.smt_characters.specs.Characters.{is_code_point};
-ghost use Rattle.smt_lexicon.specs.Quoting.{quoted, quoted_character};
+ghost use Rattle.smt_characters.specs.Quoting.{quoted};
 
 use crate::error::SExprParseError;
-use crate::expression::Text;
-use std::alloc::{AllocError, Global};
-
-// The greatest code point of the theory UnicodeStrings.
-const GREATEST: char = '\u{2ffff}';
-
-/// Whether a string of SMT-LIB may hold each character.
-fn is_string(s: &str) -> bool
-    ensures { result ≡ list_all is_code_point (chars s.now) }
-{
-    s.chars().all(|c| c <= GREATEST)
-}
-
-/// Appends a character as it stands between quotes.
-fn push_quoted(text: &mut String, c: char) -> Result<(), AllocError>
-    ensures { OnOk result (string_bytes text.new ≡ string_bytes text.old ++ quoted_character c) }
-{
-    match c {
-        '"' => text.push_str("\"\""),
-        '\\' => text.push_str("\\u{5c}"),
-        ' '..='~' => text.push(c),
-        _ => {
-            let code = u32::from(c);
-            write!(text, "\\u{{{code:x}}}")
-        }
-    }
-}
-
-/// The characters between two quotes.
-fn quoted_text(alloc: Global, s: &str) -> Result<String, AllocError>
-    ensures { IfOk result (λ text. string_bytes text ≡ quoted (chars s.now)) }
-{
-    let mut text = String::from_str(alloc, "\"")?;
-    for c in s.chars() {
-        push_quoted(&mut text, c)?;
-    }
-    text.push('"')?;
-    Ok(text)
-}
+use smt_text::Text;
+use std::alloc::Global;
 
 /// The text between quotes, as a script has it (SMT-LIB 2.7, theory UnicodeStrings), or `None` where a character is above
 /// 196607: no string of that theory holds one.
@@ -65,12 +27,5 @@ pub fn quote_string(alloc: Global, s: &str) -> Result<Option<Text>, SExprParseEr
     ensures some { IfOk result (λ o. is_some o ≡ list_all is_code_point (chars s.now)) }
     ensures error { IfErr result (λ e. e ≡ SExprParseError.Memory) }
 {
-    if !is_string(s) {
-        return Ok(None);
-    }
-    let text = quoted_text(alloc, s)?;
-    Ok(Some(Text::from_string(text)?))
+    Ok(smt_text::quote_string(alloc, s)?)
 }
-
-#[cfg(test)]
-mod tests;

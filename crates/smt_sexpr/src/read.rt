@@ -9,7 +9,8 @@ ghost use Rattle.smt_sexpr.specs.View.{plain, plains};
 
 use crate::error::SExprParseError;
 use crate::expression::{SExpr, SExprs};
-use crate::lexeme::{behind, is_plain_text, read_numeral, read_string, read_symbol, without_space};
+use crate::lexeme::{is_plain_text, read_numeral, read_string, read_symbol, without_space};
+use smt_text::digits::behind;
 use std::alloc::Global;
 
 /// The expression at the front of a text, and what follows it.

@@ -1,7 +1,7 @@
 // The enum types that an encoder reads of its environment.
 ghost use Rattle.std.specs.Prelude.{◌≡◌, []};
 
-use crate::text::Text;
+use smt_text::Text;
 use std::alloc::Global;
 use std::collections::BTreeMap;
 use std::rc::Rc;

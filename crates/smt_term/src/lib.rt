@@ -12,7 +12,6 @@ pub mod laws;
 mod op;
 mod pattern;
 mod term;
-mod text;
 mod types;
 mod typing;
 
@@ -20,8 +19,8 @@ pub use enums::EnumTable;
 pub use error::TermError;
 pub use op::Op;
 pub use pattern::{OrdPattern, Pattern, PatternElem};
+pub use smt_text::Text;
 pub use term::{Term, TermList, TermPrim, TermSet, TermVar};
-pub use text::Text;
 pub use types::TermType;
 
 #[cfg(test)]

@@ -5,9 +5,9 @@ ghost use Rattle.smt_term.specs.View.{elements_of, items_of, plain_elements, pla
 
 use crate::error::TermError;
 use crate::op::Op;
-use crate::text::{Text, share_text};
 use crate::types::TermType;
 use smt_bits::{BitVec, SIXTY_FOUR};
+use smt_text::{Text, share_text};
 use std::alloc::Global;
 use std::collections::BTreeSet;
 use std::rc::Rc;

@@ -1,6 +1,6 @@
 //! Why a text is no datetime or no duration.
 
-use crate::text::Text;
+use smt_text::Text;
 use thiserror::Error;
 
 /// Why a text is no datetime or no duration.

@@ -2,10 +2,10 @@
 #![tactic(auto)]
 
 ghost use Rattle.std.specs.Prelude.{◌≡◌, ◌≤◌};
-ghost use Rattle.smt_ext.specs.Front.{ReadsTo};
+ghost use Rattle.smt_characters.specs.Front.{ReadsTo};
 ghost use Rattle.smt_ext.specs.DatetimeReading.{field_at, day_at, offset_at, zone_at, fraction_at, clock_at, stamp_at};
 
-use crate::digits;
+use smt_text::digits;
 
 /// A date as it is written.
 #[derive(Clone, Copy, Debug)]

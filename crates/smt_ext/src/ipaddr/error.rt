@@ -1,7 +1,7 @@
 //! Why an IP range is refused.
 
-use crate::text::Text;
 use smt_bits::BitVecError;
+use smt_text::Text;
 use std::alloc::AllocError;
 use thiserror::Error;
 

@@ -9,7 +9,7 @@ use super::error::IPError;
 use super::prefix::{IPv4Prefix, IPv6Prefix};
 use super::ranges::{loop_back_cidr_v4, loop_back_cidr_v6, multicast_cidr_v4, multicast_cidr_v6};
 use super::read::read_range;
-use crate::text::Text;
+use smt_text::Text;
 use std::alloc::Global;
 
 /// An IPv4 range: the addresses that share the first bits of `addr`, as many as `prefix` says.

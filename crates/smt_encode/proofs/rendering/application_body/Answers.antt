@@ -2,7 +2,7 @@ use Rattle.std.proofs.Common.{ap, map, ◌∙◌}
 use Rattle.std.specs.Rc.{rc_str_bytes}
 use Rattle.smt_term.specs.View.{plain_op}
 use Rattle.smt_lines.specs.LineForms.{operands, operator_head}
-use Rattle.smt_script.specs.SharedTexts.{texts}
+use Rattle.smt_characters.specs.SharedTexts.{texts}
 use Rattle.smt_encode.proofs.Bracketed.{bracketed}
 use Rattle.smt_encode.proofs.rendering.application_body.Goals as goal
 

@@ -4,7 +4,7 @@ use Rattle.std.specs.Prelude.{codes}
 use Rattle.smt_semantics.specs.Script.{name}
 use Rattle.smt_lines.specs.Lines.{bits}
 use Rattle.smt_lines.specs.Spelling.{spelled}
-use Rattle.smt_script.specs.SharedTexts.{texts}
+use Rattle.smt_characters.specs.SharedTexts.{texts}
 use Rattle.smt_bits.specs.Width.{bits_in}
 use Rattle.smt_encode.proofs.Bracketed.{bracketed}
 use Rattle.smt_encode.proofs.Patterned.{spelled_more}

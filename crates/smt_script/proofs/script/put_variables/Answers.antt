@@ -1,18 +1,19 @@
 use Rattle.std.proofs.Common.{codes, rules}
-use Rattle.smt_script.specs.ScriptLines.{sorted_variable}
-use Rattle.smt_script.specs.SharedTexts.{text_pairs}
-use Rattle.smt_script.proofs.LinesLemmas.{joined_from-start, variables-drop}
+use Rattle.smt_characters.specs.LineTexts.{sorted_name}
+use Rattle.smt_characters.specs.SharedTexts.{text_pairs}
+use Rattle.smt_characters.proofs.Joined.{joined_from-start}
+use Rattle.smt_characters.proofs.LineTexts.{sorted_names-drop}
 use Rattle.smt_script.proofs.PutsLemmas.{exits, along, goes_on, goes_wrong}
 use Rattle.smt_script.proofs.script.put_variables.Goals as goal
 
 pub returns-in_err-put_all : goal.returns-in_err-put_all
 returns-in_err-put_all g c =
-    let step = variables-drop _ _ _ _ _ _ c.loop-name-test.true c.as_str.ensures.value c.as_str-in-loop-name.ensures.value c.loop-name-item.is in
-    exits c.from_residual.ensures.1 (along (joined_from-start sorted_variable (codes " ") (text_pairs c.args.variables.now)) (goes_wrong _ _ c.loop-name.invariant.going step c.in_err-put_all.ensures))
+    let step = sorted_names-drop _ _ _ _ _ _ c.loop-name-test.true c.as_str.ensures.value c.as_str-in-loop-name.ensures.value c.loop-name-item.is in
+    exits c.from_residual.ensures.1 (along (joined_from-start sorted_name (codes " ") (text_pairs c.args.variables.now)) (goes_wrong _ _ c.loop-name.invariant.going step c.in_err-put_all.ensures))
 
 pub loop-name-preserved : goal.loop-name-preserved
 loop-name-preserved g c = record {
   is_text = search rules;
   going = goes_on _ _ c.loop-name.invariant.going
-      (variables-drop _ _ _ _ _ _ c.loop-name-test.true c.as_str.ensures.value c.as_str-in-loop-name.ensures.value c.loop-name-item.is) c.in_ok-put_all.ensures;
+      (sorted_names-drop _ _ _ _ _ _ c.loop-name-test.true c.as_str.ensures.value c.as_str-in-loop-name.ensures.value c.loop-name-item.is) c.in_ok-put_all.ensures;
 }

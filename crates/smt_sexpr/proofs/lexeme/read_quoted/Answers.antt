@@ -1,6 +1,6 @@
 use Rattle.std.proofs.Common.{◌∙◌, ◌++◌, ap, arith}
 use Rattle.std.specs.String.{string_bytes}
-use Rattle.smt_lexicon.proofs.Runs.{run_at}
+use Rattle.smt_characters.proofs.Runs.{run_at}
 use Rattle.smt_lexicon.proofs.Strings.{is_no_quote, quoted_none, quoted_ends, quoted_more, plain_more}
 use Rattle.smt_sexpr.proofs.lexeme.read_quoted.Goals as goal
 

@@ -4,7 +4,9 @@ use Rattle.smt_lexicon.specs.Lexicon.{Name, is_symbol_byte}
 use Rattle.smt_sexpr.specs.View.{plain-Symbol}
 use Rattle.smt_lexicon.proofs.Atoms.{symbol_begins, symbol_none}
 use Rattle.smt_lexicon.proofs.PlainText.{text_of_plain}
-use Rattle.smt_lexicon.proofs.Runs.{IsRun, run_at, plain_front, empty_from, some_from}
+use Rattle.smt_characters.specs.Front.{IsRun}
+use Rattle.smt_characters.proofs.Runs.{run_at}
+use Rattle.smt_lexicon.proofs.Runs.{plain_front, empty_from, some_from}
 use Rattle.smt_sexpr.proofs.lexeme.read_symbol.Goals as goal
 
 pub returns-then-is_empty-clause-none : goal.returns-then-is_empty-clause-none

@@ -4,7 +4,8 @@ use Rattle.smt_meaning.specs.Faults.{Fault, term_fault}
 use Rattle.smt_meaning.specs.Plain.{Application, SetTerm, SomeTerm, terms}
 use Rattle.smt_meaning.specs.Types.{type_of}
 use Rattle.smt_term.specs.View.{plain_op, plain_term, plain_term-None, plain_term-Set, plain_term-Some, plain_term-Var, plain_type, plain_variable}
-use Rattle.smt_lines.specs.LineForms.{quoted_id, set_body, some_body}
+use Rattle.smt_characters.specs.Quoting.{quoted_id}
+use Rattle.smt_lines.specs.LineForms.{set_body, some_body}
 use Rattle.smt_lines.specs.Lines.{Enums, encode_term, encode_terms, encode_type, made_of}
 use Rattle.smt_lines.proofs.Making.{types_leave}
 use Rattle.smt_encode.specs.Encoded.{enums_in}

@@ -1,23 +1,21 @@
 -- The line is its head, the arguments, and their sort and value.
-use Rattle.std.proofs.Common.{codes}
-use Rattle.std.specs.List.{join_by}
-use Rattle.smt_script.specs.ScriptLines.{sorted_variable}
-use Rattle.smt_script.specs.SharedTexts.{text_pairs}
-use Rattle.smt_script.proofs.LinesLemmas.{define_fun_line-parts}
+use Rattle.smt_characters.specs.LineTexts.{sorted_names}
+use Rattle.smt_characters.specs.SharedTexts.{text_pairs}
+use Rattle.smt_characters.proofs.LineTexts.{define_fun_text-parts}
 use Rattle.smt_script.proofs.PutsLemmas.{exits, along, then, stops}
 use Rattle.smt_script.proofs.script.SmtLibScript.define_fun.Goals as goal
 
 pub returns-in_err-put_all : goal.returns-in_err-put_all
 returns-in_err-put_all g c =
-    let args = join_by sorted_variable (codes " ") (text_pairs c.args.args.now) in
-    exits c.from_residual.ensures.1 (along (define_fun_line-parts c.args.id.now args c.args.ty.now c.args.expr.now) (stops _ c.in_err-put_all.ensures))
+    let args = sorted_names (text_pairs c.args.args.now) in
+    exits c.from_residual.ensures.1 (along (define_fun_text-parts c.args.id.now args c.args.ty.now c.args.expr.now) (stops _ c.in_err-put_all.ensures))
 
 pub returns-in_err-put_variables : goal.returns-in_err-put_variables
 returns-in_err-put_variables g c =
-    let args = join_by sorted_variable (codes " ") (text_pairs c.args.args.now) in
-    exits c.from_residual-in_err-put_variables.ensures.1 (along (define_fun_line-parts c.args.id.now args c.args.ty.now c.args.expr.now) (then _ c.in_ok-put_all.ensures (stops _ c.in_err-put_variables.ensures)))
+    let args = sorted_names (text_pairs c.args.args.now) in
+    exits c.from_residual-in_err-put_variables.ensures.1 (along (define_fun_text-parts c.args.id.now args c.args.ty.now c.args.expr.now) (then _ c.in_ok-put_all.ensures (stops _ c.in_err-put_variables.ensures)))
 
 pub returns : goal.returns
 returns g c =
-    let args = join_by sorted_variable (codes " ") (text_pairs c.args.args.now) in
-    along (define_fun_line-parts c.args.id.now args c.args.ty.now c.args.expr.now) (then _ c.in_ok-put_all.ensures (then _ c.in_ok-put_variables.ensures c.put_all-2.ensures))
+    let args = sorted_names (text_pairs c.args.args.now) in
+    along (define_fun_text-parts c.args.id.now args c.args.ty.now c.args.expr.now) (then _ c.in_ok-put_all.ensures (then _ c.in_ok-put_variables.ensures c.put_all-2.ensures))

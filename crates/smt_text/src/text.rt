@@ -1,0 +1,32 @@
+// Shared texts, and texts with a space between each two.
+ghost use Rattle.std.specs.Prelude.{◌≡◌, ◌++◌, IfOk, OnOk};
+ghost use Rattle.std.specs.Rc.{rc_str_bytes};
+ghost use Rattle.std.specs.String.{string_bytes};
+ghost use Rattle.smt_characters.specs.LineTexts.{spaced};
+ghost use Rattle.smt_characters.specs.SharedTexts.{texts};
+
+use std::alloc::AllocError;
+use std::rc::RcStr;
+
+/// A text in UTF-8 that its holders share.
+pub type Text = RcStr;
+
+/// A text that shares the bytes of `text`.
+pub fn share_text(text: &Text) -> Result<Text, AllocError>
+    ensures { IfOk result (λ shared. rc_str_bytes shared ≡ rc_str_bytes text.now) }
+{
+    Ok(text.clone()?)
+}
+
+/// Appends texts with a space between each two.
+pub fn push_spaced(text: &mut String, pieces: &[Text]) -> Result<(), AllocError>
+    ensures { OnOk result (string_bytes text.new ≡ string_bytes text.old ++ spaced (texts pieces.now)) }
+{
+    let mut gap = "";
+    for piece in pieces {
+        text.push_str(gap)?;
+        text.push_str(piece.as_str())?;
+        gap = " ";
+    }
+    Ok(())
+}
