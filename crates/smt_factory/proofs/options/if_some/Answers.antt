@@ -6,4 +6,7 @@ use Rattle.smt_factory.proofs.options.if_some.Goals as goal
 use Rattle.smt_term.specs.View.{plain_term}
 
 pub returns-clause-refines : goal.returns-clause-refines
-returns-clause-refines c = answer_stands (λ b. if_some b (plain_term c.args.g) (plain_term c.args.t)) (stands_if_some _ _) _ (search rules)
+returns-clause-refines c =
+    let g = plain_term c.args.g in
+    let t = plain_term c.args.t in
+    answer_stands (λ b. if_some b g t) (stands_if_some g t) _ (search rules)
