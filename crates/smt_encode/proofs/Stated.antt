@@ -19,7 +19,7 @@ use Rattle.smt_lines.specs.Lines.{Enums, Rendering, AsApplication, AsEqualsIntMi
 use Rattle.smt_lines.specs.NameTables.{Tables, name_of_term}
 use Rattle.smt_lines.specs.Spelling.{spelled}
 use Rattle.smt_lines.proofs.Making.{arguments_leave, elements_leave, inner_leaves}
-use Rattle.smt_script.specs.ScriptLines.{comment_line, declare_const_line, define_fun_line}
+use Rattle.smt_characters.specs.LineTexts.{comment_text, declare_const_text, define_fun_text}
 use Rattle.smt_encode.specs.Encoded.{HasNames, IsSpelled, WritesHere, Wrote}
 use Rattle.smt_encode.specs.Entries.{application_entry, enter_by, entry_bytes, entry_lines, term_entry, IsEntered, PlainEntry, ByBody, ByConstant, ByFalse, SaysEntry}
 use Rattle.smt_encode.specs.declared.encoder.Encoder.{Encoder}
@@ -104,9 +104,9 @@ entered_written enums t s h none old mid new sort parts (Err e) p = tt
 -- the bytes of an entry are its lines
 pub entry_spelled : (p : PlainEntry) (entry : Entry) (name n sort : List ℕ) (e : Expression) → SaysEntry p entry → name ≡ n → sort ≡ spelled e → entry_bytes entry name sort ≡ spelled_lines (entry_lines p n e)
 entry_spelled (ByConstant id) (Constant comment) name n sort e says named spells =
-    (λ i. comment_line (says i) ++ declare_const_line (named i) (spells i)) ∙ ap (λ l. spelled_line (Comment (quoted_id id)) ++ l) (sym (append-nil (spelled_line (DeclareConst n e))))
+    (λ i. comment_text (says i) ++ declare_const_text (named i) (spells i)) ∙ ap (λ l. spelled_line (Comment (quoted_id id)) ++ l) (sym (append-nil (spelled_line (DeclareConst n e))))
 entry_spelled (ByBody body) (Body text) name n sort e says named spells =
-    (λ i. define_fun_line (named i) [] (spells i) (says i)) ∙ sym (append-nil (spelled_line (DefineFun n e body)))
+    (λ i. define_fun_text (named i) [] (spells i) (says i)) ∙ sym (append-nil (spelled_line (DefineFun n e body)))
 entry_spelled ByFalse False name n sort e says named spells = refl
 entry_spelled (ByConstant id) (Body text) name n sort e says named spells = absurd says
 entry_spelled (ByConstant id) False name n sort e says named spells = absurd says

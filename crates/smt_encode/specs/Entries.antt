@@ -11,7 +11,7 @@ use Rattle.smt_lines.specs.Lines.{Enums, Written, Rendering, AsApplication, AsEq
 use Rattle.smt_lines.specs.NameTables.{Tables}
 use Rattle.smt_lines.specs.Spelling.{spelled}
 use Rattle.smt_lines.specs.TermTexts.{bool_name}
-use Rattle.smt_script.specs.ScriptLines.{comment_line, declare_const_line, define_fun_line}
+use Rattle.smt_characters.specs.LineTexts.{comment_text, declare_const_text, define_fun_text}
 use Rattle.smt_encode.specs.declared.entry.Entry.{Entry}
 use Rattle.smt_encode.specs.declared.entry.Entry.TheVariants.{Body, Constant, False}
 
@@ -73,6 +73,6 @@ SaysEntry p entry = ⊥
 
 -- the bytes of an entry's lines, by the name and the sort
 abbrev pub entry_bytes : Entry → (name sort : List ℕ) → List ℕ
-entry_bytes (Constant comment) n sort = comment_line (string_bytes comment) ++ declare_const_line n sort
-entry_bytes (Body text) n sort = define_fun_line n [] sort (string_bytes text)
+entry_bytes (Constant comment) n sort = comment_text (string_bytes comment) ++ declare_const_text n sort
+entry_bytes (Body text) n sort = define_fun_text n [] sort (string_bytes text)
 entry_bytes False n sort = []
