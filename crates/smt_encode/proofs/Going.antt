@@ -10,7 +10,8 @@ use Rattle.smt_lines.specs.Line.{Line}
 use Rattle.smt_lines.specs.Lines.{Enums, Written, encode_term, encode_terms}
 use Rattle.smt_lines.specs.NameTables.{Tables}
 use Rattle.smt_lines.specs.Spelling.{spelled}
-use Rattle.smt_encode.specs.Encoded.{AreSpelled, HasNames, IsSpelled, Wrote}
+use Rattle.smt_encode.specs.Encoded.{HasNames}
+use Rattle.smt_encode.specs.Steps.{AreSpelled, IsSpelled, Wrote}
 use Rattle.smt_encode.specs.declared.encoder.Encoder.{Encoder}
 use Rattle.smt_encode.proofs.Lines.{nothing_written, wrote_then}
 

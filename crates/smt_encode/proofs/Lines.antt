@@ -9,7 +9,8 @@ use Rattle.smt_lines.specs.Lines.{Written, option_line, ◌>>=◌}
 use Rattle.smt_lines.specs.NameTables.{Tables}
 use Rattle.smt_characters.specs.LineTexts.{declare_datatype_text}
 use Rattle.smt_script.proofs.PutsLemmas.{appends_then, appends_nothing}
-use Rattle.smt_encode.specs.Encoded.{HasNames, PutsLine, Wrote}
+use Rattle.smt_encode.specs.Encoded.{HasNames}
+use Rattle.smt_encode.specs.Steps.{PutsLine, Wrote}
 use Rattle.smt_encode.specs.Names.{AreTables}
 use Rattle.smt_encode.specs.declared.encoder.Encoder.{Encoder}
 use Rattle.smt_encode.specs.declared.names.Names.{Names}

@@ -16,7 +16,7 @@ use Rattle.smt_semantics.specs.Script.{name}
 use Rattle.smt_lines.specs.LineForms.{empty_set, set_body}
 use Rattle.smt_lines.specs.Spelling.{spelled}
 use Rattle.smt_characters.specs.SharedTexts.{texts}
-use Rattle.smt_encode.specs.Encoded.{AreSpelled}
+use Rattle.smt_encode.specs.Steps.{AreSpelled}
 use Rattle.smt_encode.proofs.Bracketed.{bracketed}
 
 -- one text more, and one expression more

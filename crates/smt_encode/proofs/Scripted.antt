@@ -12,7 +12,7 @@ use Rattle.smt_lines.specs.Lines.{Enums, encode, encode_terms, option_line}
 use Rattle.smt_lines.specs.NameTables.{Tables, no_names}
 use Rattle.smt_lines.specs.Spelling.{spelled}
 use Rattle.smt_lines.specs.Text.{names, text}
-use Rattle.smt_encode.specs.Encoded.{AreSpelled, Wrote}
+use Rattle.smt_encode.specs.Steps.{AreSpelled, Wrote}
 use Rattle.smt_encode.specs.declared.encoder.Encoder.{Encoder}
 use Rattle.smt_encode.proofs.Lines.{wrote_then}
 

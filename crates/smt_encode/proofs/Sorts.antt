@@ -8,7 +8,8 @@ use Rattle.smt_lexicon.specs.Reading.{Expression}
 use Rattle.smt_lines.specs.Lines.{Enums, Written, encode_type, made_of, ◌>>=◌}
 use Rattle.smt_lines.specs.NameTables.{Tables}
 use Rattle.smt_lines.specs.Spelling.{spelled}
-use Rattle.smt_encode.specs.Encoded.{HasNames, IsSpelled, Wrote}
+use Rattle.smt_encode.specs.Encoded.{HasNames}
+use Rattle.smt_encode.specs.Steps.{IsSpelled, Wrote}
 use Rattle.smt_encode.specs.declared.encoder.Encoder.{Encoder}
 use Rattle.smt_encode.proofs.Lines.{binds, nothing_written}
 

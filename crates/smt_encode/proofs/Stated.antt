@@ -20,7 +20,8 @@ use Rattle.smt_lines.specs.NameTables.{Tables, name_of_term}
 use Rattle.smt_lines.specs.Spelling.{spelled}
 use Rattle.smt_lines.proofs.Making.{arguments_leave, elements_leave, inner_leaves}
 use Rattle.smt_characters.specs.LineTexts.{comment_text, declare_const_text, define_fun_text}
-use Rattle.smt_encode.specs.Encoded.{HasNames, IsSpelled, WritesHere, Wrote}
+use Rattle.smt_encode.specs.Encoded.{HasNames}
+use Rattle.smt_encode.specs.Steps.{IsSpelled, WritesHere, Wrote}
 use Rattle.smt_encode.specs.Entries.{application_entry, enter_by, entry_bytes, entry_lines, term_entry, IsEntered, PlainEntry, ByBody, ByConstant, ByFalse, SaysEntry}
 use Rattle.smt_encode.specs.declared.encoder.Encoder.{Encoder}
 use Rattle.smt_encode.specs.declared.entry.Entry.{Entry}

@@ -5,3 +5,4 @@ pub mod Faultless
 pub mod Names
 pub mod Refusals
 pub mod Renderings
+pub mod Steps

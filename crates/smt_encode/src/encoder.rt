@@ -78,7 +78,8 @@ impl<'a, S> Encoder<'a, S> {
 }
 
 impl<S: Sink> Encoder<'_, S> {
-    ghost use Rattle.smt_encode.specs.Encoded.{enums_in, is_spent, sink_of, AreSpelled, FaultCounted, HasNames, IsSpelled, Keeps, OfNames, OfReceived, PutsLine, Spends, WritesHere, WritesStated, Wrote, WroteText};
+    ghost use Rattle.smt_encode.specs.Encoded.{enums_in, is_spent, sink_of, HasNames, Keeps, OfNames, OfReceived, Spends, WroteText};
+    ghost use Rattle.smt_encode.specs.Steps.{AreSpelled, FaultCounted, IsSpelled, PutsLine, WritesHere, WritesStated, Wrote};
 
     /// Writes the script of these terms: the declaration of the datatype `Option`, what the terms need, and an
     /// assertion for each term, in order (commands of SMT-LIB 2.7, chapter 3, Scripts).

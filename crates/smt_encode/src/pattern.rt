@@ -1,7 +1,7 @@
 // The texts of patterns, as regular expressions of the theory UnicodeStrings.
 ghost use Rattle.std.specs.Prelude.{◌≡◌, List, [], ◌∷◌, codes, IfOk, IfSome, is_some, map};
 ghost use Rattle.std.specs.Rc.{rc_str_bytes};
-ghost use Rattle.smt_encode.specs.Encoded.{AreSpelled};
+ghost use Rattle.smt_encode.specs.Steps.{AreSpelled};
 ghost use Rattle.smt_encode.specs.Refusals.{text_fault, Finds};
 ghost use Rattle.smt_lines.specs.Spelling.{spelled};
 ghost use Rattle.smt_semantics.specs.WrittenStrings.{part_expr, pattern_expr};

@@ -3,7 +3,7 @@ ghost use Rattle.std.specs.Prelude.{◌≡◌, List, IfOk, OnOk, map};
 ghost use Rattle.std.specs.Rc.{rc_str_bytes};
 ghost use Rattle.std.specs.String.{string_bytes};
 ghost use Rattle.smt_bits.specs.Width.{bits_in};
-ghost use Rattle.smt_encode.specs.Encoded.{AreSpelled};
+ghost use Rattle.smt_encode.specs.Steps.{AreSpelled};
 ghost use Rattle.smt_encode.specs.Renderings.{pattern_fault, plain_rendering};
 ghost use Rattle.smt_encode.specs.Refusals.{text_fault, Finds};
 ghost use Rattle.smt_lines.specs.LineForms as forms;

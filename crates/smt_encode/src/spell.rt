@@ -5,7 +5,7 @@ ghost use Rattle.std.specs.Rc.{rc_str_bytes};
 ghost use Rattle.std.specs.String.{string_bytes};
 ghost use Rattle.smt_bits.specs.BitVec.{number_of, width_of};
 ghost use Rattle.smt_bits.specs.Width.{bits_in};
-ghost use Rattle.smt_encode.specs.Encoded.{AreSpelled};
+ghost use Rattle.smt_encode.specs.Steps.{AreSpelled};
 ghost use Rattle.smt_encode.specs.Refusals.{text_fault, Finds};
 ghost use Rattle.smt_semantics.specs.Meanings.{as_sort};
 ghost use Rattle.smt_semantics.specs.Sorts as sorts;

@@ -3,7 +3,8 @@ use Rattle.smt_meaning.specs.Faults.{terms_fault}
 use Rattle.smt_meaning.specs.Plain.{terms}
 use Rattle.smt_term.specs.View.{plain_term}
 use Rattle.smt_lines.specs.NameTables.{Tables}
-use Rattle.smt_encode.specs.Encoded.{enums_in, FaultCounted, HasNames}
+use Rattle.smt_encode.specs.Encoded.{enums_in, HasNames}
+use Rattle.smt_encode.specs.Steps.{FaultCounted}
 use Rattle.smt_script.specs.declared.sink.SinkError.TheVariants.{Fault}
 use Rattle.smt_encode.specs.declared.error.WriteError.TheVariants.{Sink}
 use Rattle.smt_encode.proofs.Going.{Going}

@@ -4,7 +4,8 @@ use Rattle.smt_meaning.specs.Plain.{terms}
 use Rattle.smt_term.specs.View.{plain_term}
 use Rattle.smt_lines.specs.Lines.{Enums, encode_terms, option_line}
 use Rattle.smt_lines.specs.NameTables.{no_names}
-use Rattle.smt_encode.specs.Encoded.{AreSpelled, enums_in, Wrote}
+use Rattle.smt_encode.specs.Encoded.{enums_in}
+use Rattle.smt_encode.specs.Steps.{AreSpelled, Wrote}
 use Rattle.smt_encode.proofs.Lines.{put}
 use Rattle.smt_encode.proofs.Scripted.{scripted}
 use Rattle.smt_encode.proofs.encoder.Encoder.put_script.Goals as goal

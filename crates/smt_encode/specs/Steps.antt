@@ -1,0 +1,45 @@
+-- What the private calls of an encoder leave: lines that the sink got, and the names afterwards.
+use Rattle.std.specs.Prelude.{ℕ, ◌≡◌, List, Option, Result, IfOk, OnOk, IsErrOf, map}
+use Rattle.std.specs.Io.KnownBytes.{append_known}
+use Rattle.std.specs.Rc.{rc_str_bytes}
+use Rattle.std.specs.declared.alloc.Global.{Global}
+use Rattle.std.specs.declared.rc.RcStr.{RcStr}
+use Rattle.smt_lexicon.specs.Reading.{Expression}
+use Rattle.smt_lines.specs.Line.{Line, spelled_lines}
+use Rattle.smt_lines.specs.Lines.{Written}
+use Rattle.smt_lines.specs.NameTables.{Tables}
+use Rattle.smt_lines.specs.Spelling.{spelled}
+use Rattle.smt_script.specs.Sink.{Rose}
+use Rattle.smt_encode.specs.declared.encoder.Encoder.{Encoder}
+use Rattle.smt_encode.specs.Encoded.{HasNames, Keeps}
+
+-- a text is the spelling of an expression
+abbrev pub IsSpelled : Expression → RcStr Global → Type 0
+IsSpelled expression text = rc_str_bytes text ≡ spelled expression
+
+-- texts are the spellings of expressions, in order
+abbrev pub AreSpelled : List Expression → List (RcStr Global) → Type 0
+AreSpelled es texts = map rc_str_bytes texts ≡ map spelled es
+
+-- The sink got these lines, and the encoder has the names of these tables.
+pub record Wrote {S : Type 0} (contents : S → Option (List ℕ)) (old new : Encoder S) (lines : List Line) (tables : Tables) : Type 0 where
+  pub names : HasNames new tables
+  pub contents_are : contents new.script ≡ append_known (contents old.script) (spelled_lines lines)
+
+-- On Ok the sink got this line. The names stay as they were.
+pub record PutsLine {S T E : Type 0} (contents : S → Option (List ℕ)) (old new : Encoder S) (line : List ℕ) (result : Result T E) : Type 0 where
+  pub got : OnOk result (contents new.script ≡ append_known (contents old.script) line)
+  pub same_names : new.names ≡ old.names
+
+-- Where a call on an encoder answered Ok, it wrote what is stated, and its answer shows what was made.
+abbrev pub WritesHere : {S A T E : Type 0} → (S → Option (List ℕ)) → Encoder S → Encoder S → Written A → (A → T → Type 0) → Result T E → Type 0
+WritesHere contents old new w Shows result = IfOk result (λ x. Wrote contents old new w.lines w.tables × Shows w.made x)
+
+-- The same of what is stated for the tables before the call, whichever tables are the encoder's names.
+abbrev pub WritesStated : {S A T E : Type 0} → (S → Option (List ℕ)) → Encoder S → Encoder S → (Tables → Written A) → (A → T → Type 0) → Result T E → Type 0
+WritesStated contents old new stated Shows result = (s : Tables) → HasNames old s → WritesHere contents old new (stated s) Shows result
+
+-- This error comes only where the sink's count of faults rose. The encoder keeps what a call keeps.
+pub record FaultCounted {S T E : Type 0} (faults : S → ℕ) (place : S → List ℕ) (fault : E) (old new : Encoder S) (result : Result T E) : Type 0 where
+  pub kept : Keeps faults place old new
+  pub cause : IsErrOf result fault → Rose (faults old.script) (faults new.script)
