@@ -1,4 +1,4 @@
-use Rattle.std.proofs.Common.{◌≡◌, ◌++◌, [], sym, ap, ◌∙◌}
+use Rattle.std.proofs.Common.{◌++◌, [], sym, ap, ◌∙◌}
 use Rattle.smt_script.specs.ScriptLines.{comment_line, declare_const_line, define_fun_line}
 use Rattle.smt_script.proofs.PutsLemmas.{along, exits, stops, then}
 use Rattle.smt_encode.specs.Entries.{entry_bytes}
