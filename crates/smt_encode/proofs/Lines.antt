@@ -3,7 +3,6 @@ use Rattle.std.proofs.Common.{◌≡◌, ℕ, List, [], ◌∷◌, ◌++◌, ref
 use Rattle.std.proofs.lemmas.Grind.{flat_map-append}
 use Rattle.std.specs.Io.KnownBytes.{append_known}
 use Rattle.std.specs.Prelude.{codes}
-use Rattle.smt_meaning.specs.Plain.{PlainTerm}
 use Rattle.smt_lines.specs.Line.{Line, spelled_line, spelled_lines}
 use Rattle.smt_lines.specs.Lines.{Written, option_line, ◌>>=◌}
 use Rattle.smt_lines.specs.NameTables.{Tables}

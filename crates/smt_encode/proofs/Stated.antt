@@ -1,7 +1,6 @@
 -- What is stated of a term: of one that has no name yet by its sort, its entry and its own lines; of one that has a name by that.
-use Rattle.std.proofs.Common.{◌≡◌, ℕ, List, [], ◌∷◌, ◌++◌, refl, sym, ap, ◌∙◌, subst, append-nil, Option, Some, None, Ok, Err, Result}
+use Rattle.std.proofs.Common.{◌≡◌, ℕ, List, [], ◌++◌, refl, sym, ap, ◌∙◌, subst, append-nil, Option, Some, None, Ok, Err, Result}
 use Rattle.std.specs.Rc.{rc_str_bytes}
-use Rattle.std.specs.String.{string_bytes}
 use Rattle.std.specs.declared.alloc.Global.{Global}
 use Rattle.std.specs.declared.rc.RcStr.{RcStr}
 use Rattle.smt_lexicon.specs.Reading.{Expression}

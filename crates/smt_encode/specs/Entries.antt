@@ -1,7 +1,7 @@
 -- How terms are entered: what is known of a term's own line before it has its name.
 use Rattle.std.specs.Prelude.{ℕ, ◌≡◌, List, [], ◌∷◌, ◌++◌, false}
 use Rattle.std.specs.String.{string_bytes}
-use Rattle.smt_meaning.specs.Plain.{PlainType, PlainOp, PlainTerm, PlainTerms, Application, NoneTerm, LiteralTerm, RecordTerm, SetTerm, SomeTerm, VariableTerm}
+use Rattle.smt_meaning.specs.Plain.{PlainOp, PlainTerm, PlainTerms, Application, NoneTerm, LiteralTerm, RecordTerm, SetTerm, SomeTerm, VariableTerm}
 use Rattle.smt_term.specs.declared.term.Term.{Term, Prim}
 use Rattle.smt_lexicon.specs.Reading.{Expression}
 use Rattle.smt_lines.specs.Line.{Line, DefineFun}

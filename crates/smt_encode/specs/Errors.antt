@@ -1,4 +1,5 @@
--- Errors inside as errors of the encoder.
+-- Errors of sinks and of texts as errors of the encoder.
+use Rattle.smt_script.specs.declared.sink.SinkError.{SinkError}
 use Rattle.smt_script.specs.declared.sink.SinkError.TheVariants.{Fault, Memory as NoRoom}
 use Rattle.smt_encode.specs.declared.error.EncodeError.{EncodeError}
 use Rattle.smt_encode.specs.declared.error.EncodeError.TheVariants.{Io, EncodeStringFailed, EncodePatternFailed, Memory}
@@ -6,6 +7,11 @@ use Rattle.smt_encode.specs.declared.error.TextError.{TextError}
 use Rattle.smt_encode.specs.declared.error.TextError.TheVariants.{StringFailed, PatternFailed, Memory as NoMemory}
 use Rattle.smt_encode.specs.declared.error.WriteError.{WriteError}
 use Rattle.smt_encode.specs.declared.error.WriteError.TheVariants.{Sink, Text}
+
+-- a sink that did not take a line
+abbrev pub refusal_at : SinkError → EncodeError
+refusal_at Fault = Io
+refusal_at NoRoom = Memory
 
 -- a term without a text
 abbrev pub refusal_of : TextError → EncodeError
@@ -15,6 +21,5 @@ refusal_of NoMemory = Memory
 
 -- terms that were not written
 abbrev pub encode_error : WriteError → EncodeError
-encode_error (Sink Fault) = Io
-encode_error (Sink NoRoom) = Memory
+encode_error (Sink error) = refusal_at error
 encode_error (Text error) = refusal_of error

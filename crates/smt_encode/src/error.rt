@@ -57,8 +57,7 @@ impl From<WriteError> for EncodeError {
 
     fn from(error: WriteError) -> EncodeError {
         match error {
-            WriteError::Sink(SinkError::Fault) => EncodeError::Io,
-            WriteError::Sink(SinkError::Memory) => EncodeError::Memory,
+            WriteError::Sink(error) => EncodeError::from(error),
             WriteError::Text(TextError::StringFailed(text)) => {
                 EncodeError::EncodeStringFailed(text)
             }
@@ -66,6 +65,20 @@ impl From<WriteError> for EncodeError {
                 EncodeError::EncodePatternFailed(pattern)
             }
             WriteError::Text(TextError::Memory) => EncodeError::Memory,
+        }
+    }
+}
+
+impl From<SinkError> for EncodeError {
+    ghost use Rattle.std.specs.Prelude.{◌≡◌};
+    ghost use Rattle.smt_encode.specs.Errors.{refusal_at};
+
+    ghost from_gives = { λ inner error. error ≡ refusal_at inner };
+
+    fn from(error: SinkError) -> EncodeError {
+        match error {
+            SinkError::Fault => EncodeError::Io,
+            SinkError::Memory => EncodeError::Memory,
         }
     }
 }
@@ -80,6 +93,28 @@ impl From<TermError> for EncodeError {
         match error {
             TermError::Memory => EncodeError::Memory,
         }
+    }
+}
+
+impl From<AllocError> for EncodeError {
+    ghost use Rattle.std.specs.Prelude.{◌≡◌};
+    ghost use Rattle.smt_encode.specs.declared.error.EncodeError.TheVariants.{Memory};
+
+    ghost from_gives = { λ _ error. error ≡ Memory };
+
+    fn from(_error: AllocError) -> EncodeError {
+        EncodeError::Memory
+    }
+}
+
+impl<T: Drop> From<AllocFailed<T>> for EncodeError {
+    ghost use Rattle.std.specs.Prelude.{◌≡◌};
+    ghost use Rattle.smt_encode.specs.declared.error.EncodeError.TheVariants.{Memory};
+
+    ghost from_gives = { λ _ error. error ≡ Memory };
+
+    fn from(_error: AllocFailed<T>) -> EncodeError {
+        EncodeError::Memory
     }
 }
 

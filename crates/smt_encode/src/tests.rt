@@ -246,10 +246,10 @@ fn encodes_once(alloc: Global) -> Result<bool, Fail> {
     Ok(spent && named && is_script(sink.bytes(), NOT_B))
 }
 
-/// The sink, with the script of these terms. On an error the encoder is let go with it.
-fn encoded(alloc: Global, sink: MemorySink, terms: &[Term]) -> Result<MemorySink, EncodeError> {
+/// A sink that fails at these puts, with the script of these terms. On an error the encoder is let go with it.
+fn encoded(alloc: Global, fails: &[u64], terms: &[Term]) -> Result<MemorySink, EncodeError> {
     let enums = EnumTable::new(alloc);
-    let mut encoder = Encoder::new(alloc, &enums, sink);
+    let mut encoder = Encoder::new(alloc, &enums, MemorySink::new(alloc, fails, 200)?);
     encoder.encode(terms)?;
     Ok(encoder.into_script())
 }
@@ -275,15 +275,13 @@ fn is_spent_by_its_sink(alloc: Global) -> Result<bool, Fail> {
 #[test]
 fn an_encoder_is_let_go_at_an_error(rt: HostRuntime) -> Result<(), Fail> {
     let alloc = rt.alloc();
-    let good = terms(alloc, "b:Bool,not")?;
-    let sink = encoded(alloc, MemorySink::new(alloc, &[], 200)?, good.as_slice())?;
+    let terms = terms(alloc, "b:Bool,not")?;
+    let sink = encoded(alloc, &[], terms.as_slice())?;
     assert!(rt; is_script(sink.bytes(), NOT_B));
-    let failing = MemorySink::new(alloc, &[3], 200)?;
-    assert!(rt;
-        encoded(alloc, failing, good.as_slice()).is_err_and(|error| error == EncodeError::Io)
-    );
+    let failed = encoded(alloc, &[3], terms.as_slice());
+    assert!(rt; failed.is_err_and(|error| error == EncodeError::Io));
     let mut sink = MemorySink::new(alloc, &[], 200)?;
-    encode_to(alloc, &mut sink, good.as_slice())?;
+    encode_to(alloc, &mut sink, terms.as_slice())?;
     assert!(rt; is_script(sink.bytes(), NOT_B));
     Ok(())
 }

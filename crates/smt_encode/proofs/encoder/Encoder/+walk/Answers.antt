@@ -1,4 +1,4 @@
-use Rattle.std.proofs.Common.{◌≡◌, ◌+◌, None, Some, [], ◌∷◌, drop, map, refl, arith, rules, ap, sym, subst, ◌∙◌}
+use Rattle.std.proofs.Common.{◌≡◌, ◌+◌, None, Some, ◌∷◌, drop, map, refl, arith, rules, ap, sym, subst, ◌∙◌}
 use Rattle.std.proofs.lemmas.List.{at_drop_more, at_drop_all}
 use Rattle.smt_meaning.specs.Faults.{Fault, term_fault}
 use Rattle.smt_meaning.specs.Plain.{Application, SetTerm, SomeTerm, terms}

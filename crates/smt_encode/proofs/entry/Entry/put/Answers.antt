@@ -1,4 +1,4 @@
-use Rattle.std.proofs.Common.{◌≡◌, ◌++◌, [], sym, ap, ◌∙◌}
+use Rattle.std.proofs.Common.{◌++◌, [], sym, ap, ◌∙◌}
 use Rattle.smt_characters.specs.LineTexts.{comment_text, declare_const_text, define_fun_text}
 use Rattle.smt_script.proofs.PutsLemmas.{along, exits, stops, then}
 use Rattle.smt_encode.specs.Entries.{entry_bytes}
