@@ -15,7 +15,7 @@ use Rattle.smt_lines.specs.Line.{Line, spelled_lines}
 use Rattle.smt_lines.specs.Lines.{Written}
 use Rattle.smt_lines.specs.NameTables.{Tables, name_of_term}
 use Rattle.smt_lines.specs.Spelling.{spelled}
-use Rattle.smt_lines.specs.Text.{names, text}
+use Rattle.smt_lines.specs.Text.{text}
 use Rattle.smt_script.specs.Sink.{Rose}
 use Rattle.smt_encode.specs.declared.encoder.Encoder.{Encoder}
 use Rattle.smt_encode.specs.declared.error.EncodeError.{EncodeError}
