@@ -1,8 +1,8 @@
 -- White space, plain texts and their parts, and what their lengths tell.
-use Rattle.std.proofs.Common.{inl, inr, ◌≡◌, ℕ, ◌<◌, ◌≤◌, Bool, true, false, eqb, List, [], ◌∷◌, ◌++◌, refl, sym, ap, ◌∙◌, take, drop, length, arith, length-append}
+use Rattle.std.proofs.Common.{inl, inr, ◌≡◌, ℕ, ◌<◌, ◌≤◌, true, false, eqb, List, [], ◌∷◌, ◌++◌, refl, sym, ap, ◌∙◌, drop, length, arith, length-append}
 use Rattle.std.specs.List.{list_all, prefix_len, take_while}
 use Rattle.std.proofs.Math.Numerals.{one-add}
-use Rattle.std.proofs.lemmas.Bool.{and_parts, and_from, cases_Bool, eqb-true, not_from_false, true≢false}
+use Rattle.std.proofs.lemmas.Bool.{and_parts, cases_Bool, eqb-true, true≢false}
 use Rattle.std.proofs.lemmas.List.Folds.{length-prefix_len, list_all-append}
 use Rattle.smt_lexicon.specs.Lexicon.{is_space}
 use Rattle.smt_lexicon.specs.Front.{skip_space}

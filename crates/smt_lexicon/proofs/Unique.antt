@@ -3,10 +3,10 @@ use Rattle.std.proofs.Common.{ap₂, inl, inr, ◌≡◌, ℕ, Bool, true, false
 use Rattle.std.specs.Prelude.{codes}
 use Rattle.std.specs.List.{flat_map, list_all}
 use Rattle.std.proofs.lemmas.List.{append_cancel_left}
-use Rattle.std.proofs.lemmas.Bool.{and_parts, false≢true, not_from_true, eqb-true, eq-eqb, cases_Bool, or_cases, cond-true, cond-false, not-true}
+use Rattle.std.proofs.lemmas.Bool.{and_parts, false≢true, eqb-true, eq-eqb, cases_Bool, or_cases, cond-true, cond-false, not-true}
 use Rattle.std.specs.Str.{is_utf8}
 use Rattle.smt_characters.specs.Front.{begins_without}
-use Rattle.smt_characters.proofs.Runs.{head_is, nothing_is, one_run}
+use Rattle.smt_characters.proofs.Runs.{head_is, one_run}
 use Rattle.smt_lexicon.specs.Lexicon.{Piece, Space, Comment, Open, Close, Quoted, Binary, Hexadecimal, Numeral, Symbol, spelling, spell, some_all, is_symbol, is_piece, goes_on, stops, each_longest, quote_twice, is_line_end, is_binary, is_hexadecimal, is_digit, is_symbol_byte, is_space}
 
 -- ---- strings

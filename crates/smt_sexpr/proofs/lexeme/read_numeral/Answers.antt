@@ -1,6 +1,6 @@
 use Rattle.std.proofs.Common.{sym, subst, arith}
 use Rattle.smt_lexicon.specs.Front.{BeginsWithAtom}
-use Rattle.smt_lexicon.specs.Lexicon.{Number, is_digit}
+use Rattle.smt_lexicon.specs.Lexicon.{Number}
 use Rattle.smt_sexpr.specs.View.{plain-Numeral}
 use Rattle.smt_lexicon.proofs.Atoms.{digits_some, numeral_begins, numeral_none}
 use Rattle.smt_sexpr.proofs.lexeme.read_numeral.Goals as goal
