@@ -1,12 +1,12 @@
 -- The foldings, at terms that stand for others, stand for the applications to those.
-use Rattle.std.proofs.Common.{◌≡◌, ℕ, ◌+◌, Bool, true, ◌&&◌, List, [], ◌∷◌, refl, ap, ◌∙◌, sym, subst}
-use Rattle.std.specs.Prelude.{cond, nat_le, Option, Some, None}
+use Rattle.std.proofs.Common.{◌≡◌, ℕ, true, [], ◌∷◌, refl, ap, ◌∙◌, sym, subst}
+use Rattle.std.specs.Prelude.{cond, nat_le, Some, None}
 use Rattle.std.specs.Cmp.{first_so, second_so}
 use Rattle.std.specs.List.{AllByRecursion}
 use Rattle.smt_arithmetic.specs.Shifts.{greatest_shift}
 use Rattle.smt_arithmetic.specs.BitVectors as bits
 use Rattle.smt_arithmetic.proofs.BitRanges as ranges
-use Rattle.smt_folding.specs.Applications.{false_term, bits_of_two, bvneg_of, ite_of, never_of, eq_of, option_get_of, set_inter_of, test_of_two, type_inside, wider_type, zero_extend_of}
+use Rattle.smt_folding.specs.Applications.{bits_of_two, bvneg_of, ite_of, option_get_of, test_of_two, type_inside, wider_type, zero_extend_of}
 use Rattle.smt_folding.specs.Builder.{applied, folding}
 use Rattle.smt_folding.specs.Composites.{is_none, set_is_empty}
 use Rattle.smt_folding.specs.Congruence.{Congruence, RefinesWithType}
