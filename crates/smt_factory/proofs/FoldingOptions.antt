@@ -2,14 +2,14 @@
 use Rattle.std.proofs.Common.{◌≡◌, true, false, List, [], ◌∷◌, refl, ap, ◌∙◌, sym, subst}
 use Rattle.std.specs.Prelude.{Option, Some, None}
 use Rattle.smt_folding.specs.Applications.{false_term, option_get_of, type_inside}
-use Rattle.smt_folding.specs.Builder.{applied, folding}
+use Rattle.smt_folding.specs.Builder.{folding}
 use Rattle.smt_folding.specs.Composites.{if_false, is_none, none_by_type, unless}
 use Rattle.smt_folding.specs.FoldConnectives.{folded_not}
 use Rattle.smt_folding.specs.FoldEquality.{folded_eq, folded_ite}
 use Rattle.smt_folding.specs.FoldOptions.{folded_option_get, none_by_branches, none_by_arguments, none_by_form}
 use Rattle.smt_folding.specs.Parts.{held, is_none_term}
 use Rattle.smt_folding.specs.Refinement.{Refines}
-use Rattle.smt_folding.proofs.OptionsStand.{stands_option_get, stands_is_none}
+use Rattle.smt_folding.proofs.OptionsStand.{stands_option_get}
 use Rattle.smt_meaning.proofs.Listed.{listed}
 use Rattle.smt_meaning.specs.Plain.{PlainType, OptionType, IteOp, OptionGetOp, PlainTerm, Application, NoneTerm, SomeTerm, terms}
 use Rattle.smt_meaning.specs.Types.{inner_type, type_of}
@@ -93,7 +93,4 @@ unless-other g t e = ap (λ (o : Option PlainType). elim o as (λ _. PlainTerm) 
 pub stands_for_option_get : (r t : PlainTerm) → r ≡ folded_option_get t → Refines r (option_get_of t)
 stands_for_option_get r t e = subst (λ (x : PlainTerm). Refines x (option_get_of t)) (sym e) (stands_option_get t)
 
-pub stands_for_is_none : (r t : PlainTerm) → r ≡ is_none folding t → Refines r (is_none applied t)
-stands_for_is_none r t e = subst (λ (x : PlainTerm). Refines x (is_none applied t)) (sym e) (stands_is_none t)
-
-pub ruleset option_folding = (folded_option_get-held, folded_option_get-option, folded_option_get-other, by_branches-some, by_branches-negated, by_branches-guard, by_branches-first, by_branches-second, by_branches-neither, by_form-choice, by_type-option, by_type-other, is_none-known, is_none-unknown, unless-option, unless-other, stands_for_option_get, stands_for_is_none)
+pub ruleset option_folding = (folded_option_get-held, folded_option_get-option, folded_option_get-other, by_branches-some, by_branches-negated, by_branches-guard, by_branches-first, by_branches-second, by_branches-neither, by_form-choice, by_type-option, by_type-other, is_none-known, is_none-unknown, unless-option, unless-other, stands_for_option_get)

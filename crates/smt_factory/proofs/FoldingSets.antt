@@ -4,14 +4,14 @@ use Rattle.std.specs.Prelude.{◌↔◌, IsTrue, Option, Some, None, filter}
 use Rattle.std.specs.Str.{chars}
 use Rattle.std.proofs.lemmas.List.{at_drop_more}
 use Rattle.smt_folding.specs.Applications.{truth_literal, false_term, string_like_of, set_member_of, set_subset_of, set_inter_of}
-use Rattle.smt_folding.specs.Builder.{applied, folding}
+use Rattle.smt_folding.specs.Builder.{folding}
 use Rattle.smt_folding.specs.Composites.{set_is_empty}
 use Rattle.smt_folding.specs.FoldEquality.{folded_eq}
 use Rattle.smt_folding.specs.FoldSets.{common_set, folded_set_inter, folded_set_member, folded_set_subset, is_among}
 use Rattle.smt_folding.specs.FoldStrings.{folded_string_like}
 use Rattle.smt_folding.specs.Parts.{element_type, elements_in, is_empty_set, is_set_literal, is_set_term, text_inside}
 use Rattle.smt_folding.specs.Refinement.{Refines}
-use Rattle.smt_folding.proofs.SetsStand.{stands_set_inter, stands_set_is_empty, stands_set_member, stands_set_subset}
+use Rattle.smt_folding.proofs.SetsStand.{stands_set_inter, stands_set_member, stands_set_subset}
 use Rattle.smt_folding.proofs.StringsStand.{stands_string_like}
 use Rattle.smt_term.proofs.DerivedEquality.{eq-is}
 use Rattle.smt_meaning.proofs.Listed.{listed}
@@ -85,7 +85,4 @@ stands_for_set_subset r t u e = subst (λ (x : PlainTerm). Refines x (set_subset
 pub stands_for_set_inter : (r t u : PlainTerm) → r ≡ folded_set_inter t u → Refines r (set_inter_of t u)
 stands_for_set_inter r t u e = subst (λ (x : PlainTerm). Refines x (set_inter_of t u)) (sym e) (stands_set_inter t u)
 
-pub stands_for_set_is_empty : (r t : PlainTerm) → r ≡ set_is_empty folding t → Refines r (set_is_empty applied t)
-stands_for_set_is_empty r t e = subst (λ (x : PlainTerm). Refines x (set_is_empty applied t)) (sym e) (stands_set_is_empty t)
-
-pub ruleset set_folding = (eq-is, folded_string_like-text, folded_string_like-other, elements_in-set, set_literal-is, common_set-set, is_empty-elements, is_empty-set, is_empty-other, stands_for_string_like, stands_for_set_member, stands_for_set_subset, stands_for_set_inter, stands_for_set_is_empty)
+pub ruleset set_folding = (eq-is, folded_string_like-text, folded_string_like-other, elements_in-set, set_literal-is, common_set-set, is_empty-elements, is_empty-set, is_empty-other, stands_for_string_like, stands_for_set_member, stands_for_set_subset, stands_for_set_inter)

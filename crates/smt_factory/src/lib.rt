@@ -1,10 +1,11 @@
 //! The folding factory: what a call that builds a term for an operator gives, where it folds constants.
 //!
 //! A call does not always build the application that it is asked for: `and(b, not b)` is `false`. What it gives
-//! is said by a function of plain terms (`specs/FoldConnectives.antt`, `FoldEquality.antt`, `FoldBits.antt`,
-//! `FoldStrings.antt`, `FoldSets.antt`, `FoldOptions.antt`), and that the result may take the application's place by
-//! one word, `Refines` of `specs/Refinement.antt`. A call with many exits has a private one beside it that folds,
-//! so that this is shown once and not at each exit.
+//! is said by a function of plain terms (`FoldConnectives`, `FoldEquality`, `FoldBits`, `FoldStrings`, `FoldSets`
+//! and `FoldOptions` of `smt_folding`), and that the result may take the application's place by one word, `Refines`. A
+//! call that is made of other calls is defined once (`Composites`), over who builds: `folding` gives the term, `applied`
+//! the application. A call with many exits has a private one beside it that folds, so that this is shown once and not at
+//! each exit.
 #![tactic(auto, using(crate::proofs::Folding::folding))]
 
 mod any;

@@ -1,6 +1,6 @@
 -- The calls that are made of other calls, by two builders of which the first builds what stands for what the second builds.
 -- Each follows its definition.
-use Rattle.std.proofs.Common.{◌≡◌, List, [], ◌∷◌, map, refl, ap, sym, subst}
+use Rattle.std.proofs.Common.{◌≡◌, List, [], ◌∷◌, map, refl, subst}
 use Rattle.std.specs.Prelude.{Option, Some, None}
 use Rattle.std.specs.List.{AllZip}
 use Rattle.smt_folding.specs.Applications.{false_term}

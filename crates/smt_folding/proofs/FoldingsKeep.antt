@@ -1,9 +1,9 @@
 -- The foldings, at terms that stand for others, stand for the applications to those.
-use Rattle.std.proofs.Common.{◌≡◌, ℕ, ◌+◌, Bool, true, ◌&&◌, List, [], ◌∷◌, refl, ap, ◌∙◌, sym, subst}
-use Rattle.std.specs.Prelude.{cond, Option, Some, None}
+use Rattle.std.proofs.Common.{◌≡◌, ℕ, true, [], ◌∷◌, refl, ap, ◌∙◌, sym, subst}
+use Rattle.std.specs.Prelude.{cond, Some, None}
 use Rattle.std.specs.Cmp.{first_so, second_so}
 use Rattle.std.specs.List.{AllByRecursion}
-use Rattle.smt_folding.specs.Applications.{false_term, bits_of_two, bvneg_of, ite_of, never_of, eq_of, option_get_of, set_inter_of, test_of_two, type_inside, wider_type, zero_extend_of}
+use Rattle.smt_folding.specs.Applications.{bits_of_two, bvneg_of, ite_of, option_get_of, test_of_two, type_inside, wider_type, zero_extend_of}
 use Rattle.smt_folding.specs.Builder.{applied, folding}
 use Rattle.smt_folding.specs.Composites.{is_none, set_is_empty}
 use Rattle.smt_folding.specs.Congruence.{Congruence, RefinesWithType}

@@ -1,9 +1,9 @@
 -- The foldings of the calls on options stand for them.
-use Rattle.std.proofs.Common.{◌≡◌, Bool, true, false, not, ◌&&◌, List, [], ◌∷◌, map, refl, ap, ◌∙◌, sym, subst}
+use Rattle.std.proofs.Common.{◌≡◌, Bool, true, false, not, ◌&&◌, [], ◌∷◌, refl, ap, ◌∙◌, sym, subst}
 use Rattle.std.specs.Prelude.{cond, Option, Some, None}
 use Rattle.std.specs.Bool.{then_some}
 use Rattle.std.specs.Cmp.{first_so, second_so}
-use Rattle.std.specs.List.{AllByRecursion, AllZip}
+use Rattle.std.specs.List.{AllByRecursion}
 use Rattle.smt_folding.specs.Applications.{false_term, not_of, option_get_of, type_inside}
 use Rattle.smt_folding.specs.Builder.{applied, folding}
 use Rattle.smt_folding.specs.Composites.{is_none, none_by_type}
@@ -26,7 +26,7 @@ use Rattle.smt_meaning.specs.Typing.{typed}
 use Rattle.smt_meaning.specs.ValueOrder.{value_eq}
 use Rattle.smt_meaning.proofs.Defaults.{all-join}
 use Rattle.smt_meaning.proofs.Soundness.{all-front, inside}
-use Rattle.smt_meaning.specs.Plain.{PlainType, OptionType, BoolType, IteOp, NotOp, OptionGetOp, PlainTerm, Application, NoneTerm, SomeTerm, no_terms, one_term, terms}
+use Rattle.smt_meaning.specs.Plain.{PlainType, OptionType, BoolType, IteOp, OptionGetOp, PlainTerm, Application, NoneTerm, SomeTerm, no_terms, one_term, terms}
 use Rattle.smt_meaning.specs.Values.{Value, BoolValue, NoneValue, SomeValue}
 
 -- ---- what an option holds

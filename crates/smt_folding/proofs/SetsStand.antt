@@ -15,13 +15,13 @@ use Rattle.smt_folding.specs.Composites.{set_is_empty}
 use Rattle.smt_folding.specs.FoldSets.{common_set, folded_set_member, folded_set_subset, folded_set_inter, is_among}
 use Rattle.smt_folding.specs.Parts.{element_type, elements_in, is_empty_set, is_set_literal}
 use Rattle.smt_folding.specs.Refinement.{Refines}
-use Rattle.smt_folding.proofs.ConnectivesStand.{chosen_type, first_argument, second_argument, same_term, stands_not}
+use Rattle.smt_folding.proofs.ConnectivesStand.{chosen_type, first_argument, second_argument, same_term}
 use Rattle.smt_folding.proofs.EqualityStands.{equal_for_eq, literal_for_eq}
 use Rattle.smt_folding.proofs.Records.{HasFormedType}
 use Rattle.smt_folding.proofs.SetLists.{IsElement, among_them, elements_typed, filtered, kept, listed_again, set_typed}
 use Rattle.smt_folding.proofs.SetValues.{IsLiteralElement, among_is, common_is, inter_itself, literal_elements, none_common, subset_is, subset_itself}
 use Rattle.smt_folding.proofs.SetsKept.{of_set}
-use Rattle.smt_folding.proofs.Standing.{application, itself, last_of, one_of, onward, standing, standing_within, truth_standing}
+use Rattle.smt_folding.proofs.Standing.{application, itself, last_of, one_of, standing, standing_within, truth_standing}
 use Rattle.smt_folding.proofs.TypeTests.{IsMade, test_folded, test_kept}
 use Rattle.smt_meaning.specs.Formed.{IsFormedNode, IsFormedType}
 use Rattle.smt_meaning.specs.Interpretations.{IsGiven}
@@ -37,7 +37,7 @@ use Rattle.smt_meaning.specs.ValueOrder.{set_of, sorted_values, value_cmp, value
 use Rattle.smt_meaning.proofs.Shapes.{term_shaped}
 use Rattle.smt_meaning.proofs.Soundness.{all-front, inside}
 use Rattle.smt_meaning.proofs.TypeOrder.{eq_same}
-use Rattle.smt_meaning.specs.Plain.{PlainType, BoolType, SetType, NotOp, SetInterOp, SetMemberOp, SetSubsetOp, PlainTerm, SetTerm, PlainTerms, no_terms, one_term, list_of_terms}
+use Rattle.smt_meaning.specs.Plain.{PlainType, BoolType, SetType, SetInterOp, SetMemberOp, SetSubsetOp, PlainTerm, SetTerm, PlainTerms, no_terms, one_term, list_of_terms}
 use Rattle.smt_meaning.specs.Values.{Value, BoolValue, SetValue, no_values}
 
 -- ---- parts

@@ -1,4 +1,5 @@
--- What builds terms, as the calls that are made of other calls see it: by applications as they are asked for, or by foldings.
+-- What builds terms: by applications as they are asked for, or by foldings. The calls that are made of other calls (`Composites`)
+-- are written over it.
 use Rattle.std.specs.Prelude.{ℕ, List, Option, None}
 use Rattle.smt_arithmetic.specs.BitOperators.{BitsOperator, TestOperator, OverflowOperator}
 use Rattle.smt_folding.specs.Applications.{false_term, not_of, and_of, or_of, eq_of, ite_of, never_of, bvneg_of, bits_of_two, test_of_two, bvnego_of, zero_extend_of, string_like_of, set_member_of, set_subset_of, set_inter_of, option_get_of}
@@ -10,7 +11,8 @@ use Rattle.smt_folding.specs.FoldSets.{folded_set_member, folded_set_subset, fol
 use Rattle.smt_folding.specs.FoldStrings.{folded_string_like}
 use Rattle.smt_meaning.specs.Plain.{PatternPart, PlainTerm, BitsOp, TestOp, OverflowOp}
 
--- the operators with a call of their own. A literal, `some` and none are the same whoever builds, so they are not among these.
+-- What the composites are made of: a field for each operator, by the name of its call. Literals, `some` and none are the same
+-- whoever builds, so they are not among these.
 pub record Builder : Type 0 where
   pub not : PlainTerm → PlainTerm
   pub and : PlainTerm → PlainTerm → PlainTerm

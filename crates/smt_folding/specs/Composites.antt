@@ -5,7 +5,7 @@ use Rattle.smt_folding.specs.Applications.{false_term}
 use Rattle.smt_folding.specs.Builder.{Builder}
 use Rattle.smt_folding.specs.Parts.{element_type}
 use Rattle.smt_meaning.specs.Types.{inner_type, type_of}
-use Rattle.smt_meaning.specs.Plain.{PlainType, PlainTerm, NoneTerm, SetTerm, SomeTerm, no_terms}
+use Rattle.smt_meaning.specs.Plain.{PlainTerm, NoneTerm, SetTerm, SomeTerm, no_terms}
 
 -- ---- connectives
 
