@@ -1,4 +1,4 @@
-//! Values from outside, refusals, printed text, and one call of each public function.
+//! Decimals, datetimes, durations and IP ranges: values from outside, refusals, printed text, and one call of each public function.
 
 mod datetimes;
 mod decimals;
@@ -8,9 +8,8 @@ mod ip_ranges;
 mod ip_texts;
 mod readers;
 
-use super::*;
+use smt_ext::{Datetime, DatetimeError, Decimal, DecimalError, Duration, Text};
 use std::alloc::{AllocError, Global};
-use std::process::Abort;
 use std::test::Fail;
 
 fn no_decimal(alloc: Global, text: &str) -> Result<DecimalError, AllocError> {

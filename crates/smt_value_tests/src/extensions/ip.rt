@@ -2,8 +2,11 @@
 
 use super::ip_ranges::{INSIDE, OUTSIDE};
 use super::ip_texts::{REFUSED, V4, V6};
-use crate::*;
 use smt_bits::{BitVec, BitVecError, FIVE, HUNDRED_TWENTY_EIGHT, SEVEN, THIRTY_TWO, Width};
+use smt_ext::{
+    CIDRv4, CIDRv6, IPError, IPNet, IPv4Addr, IPv4Prefix, IPv6Addr, IPv6Prefix, Text,
+    loop_back_cidr_v4, loop_back_cidr_v6, multicast_cidr_v4, multicast_cidr_v6,
+};
 use std::alloc::Global;
 use std::process::Abort;
 use std::test::Fail;

@@ -1,8 +1,11 @@
 //! The readers of values of all four types, each on a text that it takes and on one that it refuses.
 
 use super::{misshapen, no_decimal};
-use crate::*;
 use smt_bits::{BitVec, FIVE, THIRTY_TWO};
+use smt_ext::{
+    CIDRv4, Datetime, DatetimeError, Decimal, Duration, Ext, ExtParseError, IPError, IPNet,
+    IPv4Addr, IPv4Prefix, Text,
+};
 use std::test::Fail;
 
 #[test]
