@@ -21,6 +21,3 @@ pub use ipaddr::ranges::{
     loop_back_cidr_v4, loop_back_cidr_v6, multicast_cidr_v4, multicast_cidr_v6,
 };
 pub use smt_text::Text;
-
-#[cfg(test)]
-mod tests;
