@@ -1,7 +1,7 @@
 -- What a run is asked for and does.
-use Rattle.std.proofs.Common.{◌≡◌, ℕ, ◌<◌, ◌≤◌, List, [], ◌∷◌, map, Option, Some, None, codes, length, get_or, refl, sym, ap, ◌∙◌, subst, arith}
+use Rattle.std.proofs.Common.{◌≡◌, ℕ, ◌<◌, ◌≤◌, List, [], ◌∷◌, map, Option, Some, None, Ok, Err, Result, codes, length, get_or, refl, sym, ap, ◌∙◌, subst, arith}
 use Rattle.std.specs.Io.KnownBytes.{append_known}
-use Rattle.std.specs.Prelude.{IfSome}
+use Rattle.std.specs.Prelude.{IfErr, IfSome, IsErrAnd}
 use Rattle.std.specs.Rc.{rc_str_bytes}
 use Rattle.std.specs.declared.alloc.Global.{Global}
 use Rattle.std.specs.declared.rc.RcStr.{RcStr}
@@ -14,8 +14,12 @@ use Rattle.smt_characters.specs.SharedTexts.{texts}
 use Rattle.smt_cli.proofs.AsWritten.{as_written, built_booleans}
 use Rattle.smt_cli.proofs.Giving.{other_text}
 use Rattle.smt_cli.proofs.TypedJobs.{IsCondition, job_conditions}
-use Rattle.smt_cli.specs.Job.{IsBuiltFrom, PlainJob, built_job}
-use Rattle.smt_cli.specs.Run.{commanded, HasNoForm, Prints}
+use Rattle.smt_cli.specs.Job.{IsBuiltFrom, PlainJob, built_job, greatest_length}
+use Rattle.smt_cli.specs.Refusal.{job_refusal}
+use Rattle.smt_cli.specs.Run.{commanded, HasNoForm, HasReadCause, IsNoJob, Prints}
+use Rattle.smt_cli.specs.declared.job.JobError.{JobError}
+use Rattle.smt_cli.specs.declared.job.JobError.TheVariants.{TooLarge as JobTooLarge, BadForm as JobBadForm, Memory as JobWant}
+use Rattle.smt_cli.specs.declared.refusal.ReadRefusal.{ReadRefusal}
 
 -- a word that is no command
 pub unasked : (words : List (RcStr Global)) (word : RcStr Global) (w : List ℕ) → 1 ≤ length words → length words < 2 → word ≡ get_or words 0 word → w ≡ rc_str_bytes word
@@ -30,6 +34,15 @@ unasked (x ∷ y ∷ words) word w l m p q a b d = absurd (omega (arith, m))
 pub no_form : (remaining : Option (List ℕ)) (bytes : List ℕ) → IfSome remaining (λ all. all ≡ bytes) → HasNoForm bytes → IfSome remaining HasNoForm
 no_form (Some all) bytes p none = subst (λ (b : List ℕ). HasNoForm b) (sym p) none
 no_form None bytes p none = tt
+
+-- what was read whole and is no job is refused as such
+pub job_unread : {T : Type 0} (result : Result T ReadRefusal) (error : JobError) (remaining : Option (List ℕ)) (source_failed : Type 0) (all bytes : List ℕ) → IsErrAnd result (λ r. r ≡ job_refusal error) → IfSome remaining (λ told. told ≡ all) → bytes ≡ all
+    → length bytes ≤ greatest_length → (error ≡ JobTooLarge → greatest_length < length bytes) → (error ≡ JobBadForm → IsNoJob bytes) → IfErr result (HasReadCause remaining source_failed)
+job_unread (Ok job) error remaining source_failed all bytes e whole same short long none = tt
+job_unread (Err r) JobTooLarge remaining source_failed all bytes e whole same short long none = absurd (omega (arith, short, long refl))
+job_unread (Err r) JobBadForm remaining source_failed all bytes e whole same short long none =
+    subst (λ (x : ReadRefusal). HasReadCause remaining source_failed x) (sym e) (no_form remaining all whole (subst (λ (b : List ℕ). HasNoForm b) same (short, none refl)))
+job_unread (Err r) JobWant remaining source_failed all bytes e whole same short long none = subst (λ (x : ReadRefusal). HasReadCause remaining source_failed x) (sym e) tt
 
 -- what was read whole is a job whose script was put
 pub prints : (remaining : Option (List ℕ)) (job : PlainJob) (old new : Option (List ℕ)) → IfSome remaining (λ bytes. IsBuiltFrom bytes job) → new ≡ append_known old (text job.enums job.terms)
@@ -50,3 +63,7 @@ prints (Some bytes) job old new is put means = shown job is.is_built put means
           true_as_written = λ I given. as_written is.written.enums I is.written.terms mean conditions given;
         }
 prints None job old new is put means = tt
+
+-- what a text was put as
+pub text_put : (old new : Option (List ℕ)) (bytes text : List ℕ) → new ≡ append_known old bytes → bytes ≡ text → new ≡ append_known old text
+text_put old new bytes text put same = put ∙ ap (append_known old) same

@@ -98,7 +98,7 @@ IsTooLong bytes = greatest_length < length bytes
 abbrev pub HasNoForm : List ℕ → Type 0
 HasNoForm bytes = (length bytes ≤ greatest_length) × IsNoJob bytes
 
--- ---- why a refusal comes: `source_failed` and `sink_failed` say that the count of faults rose
+-- ---- why a refusal comes: `source_failed` and `sink_failed` are the facts that their counts of faults rose
 
 -- why no job was read
 abbrev pub HasReadCause : (remaining : Option (List ℕ)) → (source_failed : Type 0) → ReadRefusal → Type 0
@@ -145,7 +145,7 @@ LeavesOutput old new refusal = ⊤
 
 -- ---- what a status says
 
--- Each status but 0, 2 and 7 has its cause, and with 2, 3 and 5 nothing was put.
+-- 3, 4, 5 and 6 have their causes, and 3, 4 and 5 come of `script` alone. With 2, 3 and 5 nothing was put.
 pub record IsJustified (command : Option Command) (remaining : Option (List ℕ)) (source_failed sink_failed : Type 0) (old new : Option (List ℕ)) (status : ℕ) : Type 0 where
   pub no_job : status ≡ 3 → IfSome remaining IsNoJob
   pub fault : status ≡ 4 → IfSome remaining IsFaulty
@@ -154,7 +154,8 @@ pub record IsJustified (command : Option Command) (remaining : Option (List ℕ)
   pub by_script : (status ≡ 3) ⊎ ((status ≡ 4) ⊎ (status ≡ 5)) → command ≡ Some Script
   pub untouched : (status ≡ 2) ⊎ ((status ≡ 3) ⊎ (status ≡ 5)) → new ≡ old
 
--- But for want of memory, and where nothing failed: a job is printed, what is no job is refused as such, and a text is printed.
+-- But for want of memory, and where nothing failed, the script of a job is printed, what is no job is refused as such, and the
+-- text of another word is printed.
 pub record IsComplete (command : Option Command) (remaining : Option (List ℕ)) (source_failed sink_failed : Type 0) (status : ℕ) : Type 0 where
   pub accepted : command ≡ Some Script → ¬ source_failed → ¬ sink_failed → IfSome remaining (λ bytes. IsAJob bytes → (status ≡ 0) ⊎ (status ≡ 7))
   pub rejected : command ≡ Some Script → ¬ source_failed → IfSome remaining (λ bytes. IsNoJob bytes → (status ≡ 3) ⊎ (status ≡ 7))
