@@ -23,6 +23,3 @@ pub use pattern::{OrdPattern, Pattern, PatternElem};
 pub use term::{Term, TermList, TermPrim, TermSet, TermVar};
 pub use text::Text;
 pub use types::TermType;
-
-#[cfg(test)]
-mod tests;
