@@ -22,6 +22,3 @@ pub use pattern::{OrdPattern, Pattern, PatternElem};
 pub use smt_text::Text;
 pub use term::{Term, TermList, TermPrim, TermSet, TermVar};
 pub use types::TermType;
-
-#[cfg(test)]
-mod tests;

@@ -4,3 +4,5 @@
 
 #[cfg(test)]
 mod extensions;
+#[cfg(test)]
+mod terms;

@@ -1,7 +1,8 @@
-// Terms of each type and form, ill-typed terms, and how sets and lists hold what they were given.
+//! Terms of each type and form, ill-typed terms, and how sets and lists hold what they were given.
+
 use super::operators::{application, claim};
 use super::{FORMS, is_of_type, literals_in, set_of, some_of, term_of, terms_in, type_named};
-use crate::*;
+use smt_term::{Op, Term, TermList, TermSet, TermType, TermVar, Text};
 use std::alloc::Global;
 use std::test::Fail;
 

@@ -1,7 +1,8 @@
-// Literals: their types and values.
+//! Literals: their types and values.
+
 use super::{is_of_type, literal, literals_in, set_of, some_of, type_named};
-use crate::*;
 use smt_bits::{BitVec, HUNDRED_TWENTY_EIGHT, ONE, SIXTY_FOUR};
+use smt_term::{Term, TermPrim, TermType};
 use std::alloc::Global;
 use std::test::Fail;
 

@@ -1,6 +1,7 @@
-// Patterns at texts, their order, and each call once.
-use crate::PatternElem::{Char, Wildcard};
-use crate::{OrdPattern, Pattern, PatternElem};
+//! Patterns at texts, their order, and each call once.
+
+use smt_term::PatternElem::{Char, Wildcard};
+use smt_term::{OrdPattern, Pattern, PatternElem};
 use std::alloc::Global;
 use std::test::Fail;
 

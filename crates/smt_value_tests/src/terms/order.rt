@@ -1,6 +1,7 @@
-// The orders of types, operators and terms.
+//! The orders of types, operators and terms.
+
 use super::{terms_in, type_named};
-use crate::*;
+use smt_term::Op;
 use std::alloc::Global;
 use std::test::Fail;
 

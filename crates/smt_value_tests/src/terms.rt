@@ -1,7 +1,8 @@
-// Every call that allocates, once with ample memory, and the answers of the others at chosen terms.
-use super::*;
+//! Terms: every call that allocates, once with ample memory, and the answers of the others at chosen terms.
+
 use operators::application;
 use smt_bits::{BitVec, EIGHT, Width};
+use smt_term::{Term, TermSet, TermType, TermVar, Text};
 use std::alloc::Global;
 use std::rc::Rc;
 use std::test::Fail;

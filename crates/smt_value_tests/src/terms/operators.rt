@@ -1,6 +1,7 @@
-// Each operator: its name, the arguments that it takes, and the type that it gives them.
+//! Each operator: its name, the arguments that it takes, and the type that it gives them.
+
 use super::{DISTINCT_TYPES, FORMS, names_type, term_of, type_named};
-use crate::*;
+use smt_term::{Op, OrdPattern, Pattern, PatternElem, Term, TermList, TermType};
 use std::alloc::Global;
 use std::test::Fail;
 
