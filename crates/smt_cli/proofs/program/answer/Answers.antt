@@ -1,5 +1,5 @@
 use Rattle.std.proofs.Common.{◌≡◌, Option, Some, subst}
-use Rattle.smt_script.specs.SharedTexts.{texts}
+use Rattle.smt_characters.specs.SharedTexts.{texts}
 use Rattle.smt_cli.specs.JobView.{plain_job}
 use Rattle.smt_cli.specs.Run.{commanded, help_text, version_text, IsDone}
 use Rattle.smt_cli.specs.declared.program.Command.{Command}
@@ -13,18 +13,18 @@ returns-in_ok-put_script-in-Some-Script-clause-done g c =
     let read = c.in_ok-job-in-Some-Script.ensures in
     let put = c.in_ok-put_script-in-Some-Script.ensures in
     subst (λ (o : Option Command). IsDone o (g.R.Source.remaining c.args.source.now) (g.R.Source.remaining c.read_source.new.source) (g.W.Sink.contents c.args.out.now) (g.W.Sink.contents c.put_script.new.out)) asked
-      (record { prints = prints _ (plain_job c.in_ok-job-in-Some-Script.job) _ _ read.job put.text put.headline; ended = read.ended })
+    (record { prints = prints _ (plain_job c.in_ok-job-in-Some-Script.job) _ _ read.job put.text put.headline; ended = read.ended })
 
 pub returns-in_ok-put-in-Some-Help-clause-done : goal.returns-in_ok-put-in-Some-Help-clause-done
 returns-in_ok-put-in-Some-Help-clause-done g c =
     let asked : Some Help ≡ commanded (texts c.args.words.now) = cc in
     let held = g.W.Sink.contents c.args.out.now in
     subst (λ (o : Option Command). IsDone o (g.R.Source.remaining c.args.source.now) (g.R.Source.remaining c.args.source.now) held (g.W.Sink.contents c.put.new.self)) asked
-      (text_put held _ c.as_bytes.result.now help_text c.in_ok-put-in-Some-Help.ensures.ok c.as_bytes.ensures.value)
+    (text_put held _ c.as_bytes.result.now help_text c.in_ok-put-in-Some-Help.ensures.ok c.as_bytes.ensures.value)
 
 pub returns-in_ok-put-in-Some-Version-clause-done : goal.returns-in_ok-put-in-Some-Version-clause-done
 returns-in_ok-put-in-Some-Version-clause-done g c =
     let asked : Some Version ≡ commanded (texts c.args.words.now) = cc in
     let held = g.W.Sink.contents c.args.out.now in
     subst (λ (o : Option Command). IsDone o (g.R.Source.remaining c.args.source.now) (g.R.Source.remaining c.args.source.now) held (g.W.Sink.contents c.put-in-Some-Version.new.self)) asked
-      (text_put held _ c.as_bytes-in-Some-Version.result.now version_text c.in_ok-put-in-Some-Version.ensures.ok c.as_bytes-in-Some-Version.ensures.value)
+    (text_put held _ c.as_bytes-in-Some-Version.result.now version_text c.in_ok-put-in-Some-Version.ensures.ok c.as_bytes-in-Some-Version.ensures.value)

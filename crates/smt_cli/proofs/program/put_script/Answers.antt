@@ -8,4 +8,4 @@ pub returns-in-Err-EncodePatternFailed-clause-refused : goal.returns-in-Err-Enco
 returns-in-Err-EncodePatternFailed-clause-refused g c =
     let pattern = c.in-Err-EncodePatternFailed.field-0-0 in
     let failed : c.encode-outcome.result ≡ Err (EncodePatternFailed pattern) = search rules in
-    (plain_ord_pattern pattern, sym (ap₂ first_fault c.new-encoder.ensures.enums c.items.ensures.plain) ∙ c.encode-outcome.ensures.pattern pattern failed)
+    (plain_ord_pattern pattern, sym (ap₂ first_fault c.new-encoder.ensures.enums c.items.ensures.plain) ∙ c.encode-outcome.ensures.refused.pattern pattern failed)

@@ -1,5 +1,5 @@
 use Rattle.std.proofs.Common.{ℕ, refl, sym, subst}
-use Rattle.smt_script.specs.SharedTexts.{texts}
+use Rattle.smt_characters.specs.SharedTexts.{texts}
 use Rattle.smt_script.specs.Sink.{Rose}
 use Rattle.smt_cli.specs.Run.{commanded, IsComplete}
 use Rattle.smt_cli.proofs.Statuses.{done_complete, refused_complete}
