@@ -3,7 +3,7 @@
 //!
 //! A [`BitVec`] is a [`Width`] and a number below 2 to that width. Contracts see it by `width_of`
 //! and `number_of`, and say of each operation which function of whole numbers it computes
-//! (`specs/BitVectors.antt`). No call takes memory.
+//! (`BitVectors` of `smt_arithmetic`). No call takes memory.
 #![tactic(auto)]
 
 mod bitvec;

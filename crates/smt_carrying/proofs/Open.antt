@@ -11,7 +11,7 @@ use Rattle.smt_lexicon.specs.Reading.{Expression}
 use Rattle.smt_semantics.specs.Script.{Entry, Constant, Function, Selects, State, names_of}
 use Rattle.smt_semantics.specs.Sorts.{Entries, entries, has_sort_in}
 use Rattle.smt_semantics.specs.Value as script
-use Rattle.smt_semantics.specs.Value.{OpenSelector, ValueOfSort, TableOfSelector, open_selector, IsScriptInterpretation, AgreeFor, AgreeAt, AgreeOn, AgreeOnOpen, applied_selectors, is_table, are_others, is_entry_given, is_open_given, is_selector_given}
+use Rattle.smt_semantics.specs.Value.{OpenSelector, ValueOfSort, TableOfSelector, open_selector, AgreeAt, AgreeOn, AgreeOnOpen, applied_selectors, is_table, are_others, is_entry_given, is_open_given, is_selector_given}
 use Rattle.smt_lines.specs.Naming.{type_sort}
 use Rattle.smt_lines.specs.NameTables.{Tables}
 use Rattle.smt_lines.specs.EntryNames.{selector_name}

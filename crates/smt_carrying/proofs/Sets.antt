@@ -17,7 +17,7 @@ use Rattle.smt_meaning.specs.Operators as terms
 use Rattle.smt_meaning.proofs.TotalOrder.{values_total}
 use Rattle.smt_meaning.proofs.SortedValues.{all-sorted}
 use Rattle.smt_semantics.specs.ScriptOrder as script
-use Rattle.smt_semantics.specs.ScriptOrder.{order, put}
+use Rattle.smt_semantics.specs.ScriptOrder.{put}
 use Rattle.smt_semantics.specs.Script.{◌>>=◌}
 use Rattle.smt_semantics.specs.Value.{inserted, put_into}
 use Rattle.smt_lines.specs.NameTables.{Tables}

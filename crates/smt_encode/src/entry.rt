@@ -1,5 +1,4 @@
 // How terms are entered, and an entry's own lines.
-ghost use Rattle.std.specs.Prelude.{◌≡◌};
 ghost use Rattle.smt_script.specs.Sink.{Puts};
 
 use smt_script::{Sink, SinkError, SmtLibScript};

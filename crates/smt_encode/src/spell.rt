@@ -1,5 +1,5 @@
 // The texts of names, sorts, literals, ids and applications.
-ghost use Rattle.std.specs.Prelude.{◌≡◌, ◌++◌, List, IfOk, OnOk, codes, decimal};
+ghost use Rattle.std.specs.Prelude.{◌≡◌, ◌++◌, List, IfOk, codes, decimal};
 ghost use Rattle.std.specs.List.{join_by};
 ghost use Rattle.std.specs.Rc.{rc_str_bytes};
 ghost use Rattle.std.specs.String.{string_bytes};

@@ -19,7 +19,7 @@ use Rattle.smt_folding.proofs.Standing.{SameMeaning, SameType, itself, one_of, s
 use Rattle.smt_meaning.specs.Formed.{IsFormedType, IsFormedNode, IsFormed}
 use Rattle.smt_meaning.specs.Interpretations.{IsGiven}
 use Rattle.smt_meaning.specs.Meaning.{meaning}
-use Rattle.smt_meaning.specs.Operators.{width, number, to_bits, to_truth, apply}
+use Rattle.smt_meaning.specs.Operators.{width, number, to_truth, apply}
 use Rattle.smt_meaning.specs.Reached.{subterms, subterms_of_all}
 use Rattle.smt_meaning.specs.Shapes.{IsShaped}
 use Rattle.smt_meaning.specs.Tables.{Interpretation}

@@ -1,6 +1,6 @@
 -- What a call folds to has no fault where the arguments of the call have none.
 use Rattle.std.proofs.Common.{◌≡◌, ℕ, ◌==◌, Bool, true, false, ◌&&◌, ◌||◌, List, [], ◌∷◌, refl}
-use Rattle.std.specs.Prelude.{cond, filter, nat_le, Option, Some, None}
+use Rattle.std.specs.Prelude.{cond, filter, Option, Some, None}
 use Rattle.std.specs.List.{AllByRecursion, list_all}
 use Rattle.std.specs.Option.{option_or, unwrap_or}
 use Rattle.smt_arithmetic.specs.BitOperators.{BitsOperator, bits_entry, test_entry, overflow_entry}

@@ -21,7 +21,7 @@ use Rattle.smt_folding.proofs.Records.{HasFormedType}
 use Rattle.smt_folding.proofs.SetLists.{IsElement, among_them, elements_typed, filtered, kept, listed_again, set_typed}
 use Rattle.smt_folding.proofs.SetValues.{IsLiteralElement, among_is, common_is, inter_itself, literal_elements, none_common, subset_is, subset_itself}
 use Rattle.smt_folding.proofs.SetsKept.{of_set}
-use Rattle.smt_folding.proofs.Standing.{application, itself, last_of, one_of, standing, standing_within, truth_standing}
+use Rattle.smt_folding.proofs.Standing.{itself, last_of, one_of, standing, standing_within, truth_standing}
 use Rattle.smt_folding.proofs.TypeTests.{IsMade, test_folded, test_kept}
 use Rattle.smt_meaning.specs.Formed.{IsFormedNode, IsFormedType}
 use Rattle.smt_meaning.specs.Interpretations.{IsGiven}

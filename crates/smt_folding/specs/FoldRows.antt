@@ -17,7 +17,7 @@ use Rattle.smt_meaning.specs.Tables.{Interpretation}
 use Rattle.smt_meaning.specs.TermSets.{set_term}
 use Rattle.smt_meaning.specs.ValueOrder.{values}
 use Rattle.smt_meaning.specs.Values.{BoolValue, BitVecValue, NoneValue, SetValue, SomeValue}
-use Rattle.smt_meaning.specs.Plain.{OptionType, BitVecType, BoolType, SetType, StringType, PatternPart, Character, Wildcard, IteOp, StringLiteral, PlainTerm, Application, NoneTerm, LiteralTerm, SetTerm, SomeTerm, VariableTerm, terms, BitsOp, TestOp, OverflowOp}
+use Rattle.smt_meaning.specs.Plain.{OptionType, BitVecType, BoolType, SetType, StringType, PatternPart, Character, Wildcard, IteOp, StringLiteral, PlainTerm, Application, NoneTerm, LiteralTerm, SetTerm, SomeTerm, VariableTerm, terms, BitsOp, TestOp}
 
 -- variables
 abbrev pub b : PlainTerm

@@ -20,7 +20,7 @@ use Rattle.smt_semantics.specs.Script.{State, Selects, Function, name, group, pa
 use Rattle.smt_semantics.specs.Sorts as sorts
 use Rattle.smt_semantics.specs.Sorts.{entries}
 use Rattle.smt_semantics.specs.DeclarationLines.{DeclaresSelectors}
-use Rattle.smt_semantics.specs.Value.{ScriptInterpretation, expression_value, operator_value, in_table, selected, is_built}
+use Rattle.smt_semantics.specs.Value.{ScriptInterpretation, expression_value, operator_value, in_table, selected}
 use Rattle.smt_semantics.specs.Value as script
 use Rattle.smt_semantics.specs.Meanings.{argument_values}
 use Rattle.smt_semantics.proofs.Apply.{operators_apply, functions_apply, selectors_apply, extensions_apply, matches_apply}

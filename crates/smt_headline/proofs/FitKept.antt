@@ -7,7 +7,7 @@ use Rattle.smt_meaning.specs.Plain.{PlainTerm, terms}
 use Rattle.smt_meaning.specs.TypeValues.{Enums}
 use Rattle.smt_meaning.proofs.Defaults.{interpreted}
 use Rattle.smt_semantics.specs.Script as script
-use Rattle.smt_semantics.specs.Script.{Command, Level, State, Script, HasWholeLines, start, step, run, obey, with_level, without_level}
+use Rattle.smt_semantics.specs.Script.{Command, Level, State, Script, start, step, run, obey, with_level, without_level}
 use Rattle.smt_semantics.specs.Written.{IsLine, IsOpenScript}
 use Rattle.smt_semantics.proofs.Append.{script_append, whole_append}
 use Rattle.smt_lines.specs.Calls.{HasBelow, back_at}

@@ -11,7 +11,7 @@ use Rattle.smt_semantics.specs.Sorts.{Entries, entries}
 use Rattle.smt_semantics.specs.DeclarationLines.{Declares, Constructors, shown}
 use Rattle.smt_arithmetic.specs.Widths.{is_width}
 use Rattle.smt_lines.specs.Line as line
-use Rattle.smt_lines.specs.Line.{Line, Bare, Fielded, DeclareDatatype}
+use Rattle.smt_lines.specs.Line.{Fielded, DeclareDatatype}
 use Rattle.smt_lines.specs.LineForms as forms
 use Rattle.smt_lines.specs.Lines as lines
 use Rattle.smt_lines.specs.LineForms.{attribute_selectors, entity_lines}

@@ -11,7 +11,7 @@ use Rattle.smt_meaning.specs.TypeValues.{Enums}
 use Rattle.smt_meaning.specs.Types.{type_eq}
 use Rattle.smt_lexicon.specs.Reading.{Expression}
 use Rattle.smt_semantics.specs.Script as script
-use Rattle.smt_semantics.specs.Script.{Constructor, Entry, Builds, Selects, State, are_distinct, has_constructor, is_in, is_reserved, is_taken, is_taken_sort, names_of, names_below, declared_sorts, has_sort, is_sort, built_in_names, built_in_sorts, with_sort, obey, run, step, ◌>>=◌}
+use Rattle.smt_semantics.specs.Script.{Constructor, Entry, Builds, Selects, State, are_distinct, has_constructor, is_in, is_reserved, is_taken, is_taken_sort, names_of, names_below, declared_sorts, has_sort, is_sort, built_in_names, built_in_sorts}
 use Rattle.smt_semantics.specs.Meanings.{names_in, selectors_named, constructors_named, are_new, are_fields}
 use Rattle.smt_semantics.specs.DeclarationLines.{with_datatype}
 use Rattle.smt_semantics.specs.Written.{is_name}

@@ -13,7 +13,7 @@ use Rattle.smt_meaning.specs.TermOrder.{term_eq}
 use Rattle.smt_meaning.specs.Interpretations.{function_eq}
 use Rattle.smt_lexicon.specs.Reading.{Expression}
 use Rattle.smt_semantics.specs.Script as script
-use Rattle.smt_semantics.specs.Script.{Command, State, Entry, Constant, Function, Defined, is_taken, names_of, has_sort, is_sort, knows, declare, with_name, obey, step, run, is_in, built_in_names, ◌>>=◌}
+use Rattle.smt_semantics.specs.Script.{Command, State, Entry, Constant, Function, Defined, names_of, has_sort, is_sort, knows, declare, with_name, obey, run, is_in, built_in_names, ◌>>=◌}
 use Rattle.smt_semantics.specs.Written.{is_name}
 use Rattle.smt_semantics.proofs.Append.{runs_then}
 use Rattle.smt_lines.specs.Spelling.{numeral}

@@ -7,7 +7,7 @@ use Rattle.std.proofs.lemmas.List.{append-nil}
 use Rattle.smt_meaning.specs.TypeValues.{Enums}
 use Rattle.smt_lexicon.specs.Reading.{Expression, expressions}
 use Rattle.smt_semantics.specs.Script as script
-use Rattle.smt_semantics.specs.Script.{Command, State, Builds, Selects, Script, HasWholeLines, Holds, name, has_name, has_sort, knows, are_all, each_stated, with_assertion, start, step, run, obey, assertions_of, ◌>>=◌}
+use Rattle.smt_semantics.specs.Script.{State, Builds, Selects, name, has_name, has_sort, knows, are_all, each_stated, with_assertion, start, run, ◌>>=◌}
 use Rattle.smt_semantics.specs.Sorts.{entries}
 use Rattle.smt_semantics.specs.Written.{IsLine}
 use Rattle.smt_semantics.proofs.CommandInduction.{steps_to}

@@ -1,6 +1,6 @@
 -- The default values are values of their types, and give an interpretation.
 use Rattle.std.proofs.Common.{◌≡◌, ℕ, true, List, [], ◌∷◌, ◌++◌, refl, ap, arith}
-use Rattle.std.specs.Prelude.{bytes_eq, Option, Some, None, ◌||◌, IsTrue}
+use Rattle.std.specs.Prelude.{bytes_eq, Option, Some, None, ◌||◌}
 use Rattle.std.specs.Cmp.{first_so, second_so}
 use Rattle.std.specs.List.{AllByRecursion, list_any}
 use Rattle.std.specs.Str.{chars}

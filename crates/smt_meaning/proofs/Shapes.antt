@@ -5,7 +5,7 @@ use Rattle.std.specs.Bool.{then_some}
 use Rattle.std.specs.Cmp.{first_so, second_so}
 use Rattle.std.specs.List.{AllByRecursion, list_all}
 use Rattle.smt_arithmetic.specs.BitVectors as bits
-use Rattle.smt_arithmetic.specs.BitOperators.{bits_entry, test_entry, overflow_entry}
+use Rattle.smt_arithmetic.specs.BitOperators.{bits_entry}
 use Rattle.smt_arithmetic.proofs.BitOperators.{bits_entry-below}
 use Rattle.smt_arithmetic.proofs.BitRanges as ranges
 use Rattle.smt_meaning.specs.Formed.{IsFormedLiteral, IsFormedNode}

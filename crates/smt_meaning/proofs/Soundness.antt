@@ -7,7 +7,7 @@ use Rattle.std.specs.List.{AllByRecursion, list_all, list_any}
 use Rattle.std.specs.Str.{chars}
 use Rattle.std.proofs.lemmas.Bool.{leb-true, leb-false}
 use Rattle.smt_arithmetic.specs.BitVectors as bits
-use Rattle.smt_arithmetic.specs.BitVectors.{signed, bits_of, is_negative}
+use Rattle.smt_arithmetic.specs.BitVectors.{signed, is_negative}
 use Rattle.std.specs.Option.{option_or}
 use Rattle.smt_meaning.specs.Faults.{Fault, unless, fault_unless, is_string, entity_fault, literal_fault, is_passed_over, type_fault, operator_fault, term_fault, terms_fault, fields_fault}
 use Rattle.smt_meaning.specs.Formed.{IsFormedLiteral, IsFormedNode}
@@ -21,7 +21,7 @@ use Rattle.smt_meaning.specs.Typing.{are_elements, typed, typed_all, typed_field
 use Rattle.smt_meaning.proofs.Elements.{typed_elements}
 use Rattle.smt_meaning.specs.TypeValues.{Enums, members_of, greatest_code_point, AreCodePoints, IsId, IsLong, IsPrefix, IsValue, AreFieldValues}
 use Rattle.smt_meaning.specs.ValueOrder.{value_eq, value_cmp, ascends, list_of_values, sorted_values, set_of}
-use Rattle.smt_arithmetic.specs.BitOperators.{bits_entry, test_entry, overflow_entry}
+use Rattle.smt_arithmetic.specs.BitOperators.{bits_entry}
 use Rattle.smt_arithmetic.proofs.BitOperators.{bits_entry-below}
 use Rattle.smt_arithmetic.proofs.BitRanges as ranges
 use Rattle.smt_meaning.proofs.Matching.{or_second}

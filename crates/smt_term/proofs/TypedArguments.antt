@@ -1,10 +1,10 @@
 -- What the tests of typing decide, in the words of the plain form.
 use Rattle.std.proofs.Common.{◌≡◌, ℕ, ◌+◌, ◌<◌, ◌≤◌, Bool, true, false, ◌&&◌, List, [], ◌∷◌, Option, Some, None, length, get_or, map, drop, refl, sym, ap, ◌∙◌, arith}
 use Rattle.std.proofs.lemmas.List.{at_drop_more, at_drop_all}
-use Rattle.std.specs.Prelude.{◌≢◌, ◌⊎◌, IsTrue, is_some}
+use Rattle.std.specs.Prelude.{◌≢◌, IsTrue, is_some}
 use Rattle.std.specs.Bool.{then_some}
 use Rattle.std.proofs.lemmas.Bool.{false≢true}
-use Rattle.smt_meaning.specs.Plain.{PlainType, BoolType, PlainOp, BitsOp, TestOp, OverflowOp, NotOp, PlainTerm, Application, SetTerm, list_of_terms, terms}
+use Rattle.smt_meaning.specs.Plain.{PlainType, BoolType, PlainOp, BitsOp, TestOp, OverflowOp, NotOp, PlainTerm, Application, SetTerm, terms}
 use Rattle.smt_meaning.specs.Types.{is_type, result_type, type_eq, type_of, types_of}
 use Rattle.smt_meaning.specs.TermOrder.{term_cmp}
 use Rattle.smt_meaning.specs.Typing.{typed, typed_all}

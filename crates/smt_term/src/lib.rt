@@ -1,9 +1,9 @@
-//! Typed terms of policies: their types, operators, literals and lists, with what they mean.
+//! Typed terms of policies: their types, operators, literals and lists.
 //!
-//! Contracts speak of terms by their plain form (`specs/Plain.antt`), which says what a value says and not
+//! Contracts speak of terms by their plain form (`Plain` of `smt_meaning`), which says what a value says and not
 //! where it lies in memory: `plain_term`, `plain_type` and their kin of `specs/View.antt` give it. What a
-//! plain term means stands beside it: its type in `Types`, its value in `Meaning`, what it reaches in
-//! `Reached`, its interpretations in `Interpretations`.
+//! plain term means stands beside the plain form, in `smt_meaning`: its type in `Types`, its value in `Meaning`,
+//! what it reaches in `Reached`, its interpretations in `Interpretations`.
 #![tactic(auto, using(crate::specs::View::views))]
 
 mod enums;
