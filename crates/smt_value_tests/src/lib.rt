@@ -3,6 +3,8 @@
 #![tactic(auto)]
 
 #[cfg(test)]
+mod bitvectors;
+#[cfg(test)]
 mod extensions;
 #[cfg(test)]
 mod terms;
