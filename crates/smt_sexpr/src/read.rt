@@ -106,6 +106,3 @@ pub fn read_plain(
         Ok(None)
     }
 }
-
-#[cfg(test)]
-mod tests;

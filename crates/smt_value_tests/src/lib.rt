@@ -8,3 +8,5 @@ mod bitvectors;
 mod extensions;
 #[cfg(test)]
 mod terms;
+#[cfg(test)]
+mod texts;
