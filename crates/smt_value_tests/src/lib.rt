@@ -7,6 +7,8 @@ mod bitvectors;
 #[cfg(test)]
 mod extensions;
 #[cfg(test)]
+mod scripts;
+#[cfg(test)]
 mod terms;
 #[cfg(test)]
 mod texts;
