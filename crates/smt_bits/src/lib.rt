@@ -21,6 +21,3 @@ pub use width::{
     EIGHT, FIVE, HUNDRED_TWENTY, HUNDRED_TWENTY_EIGHT, ONE, SEVEN, SIXTEEN, SIXTY_FOUR, THIRTY_TWO,
     TWO, Width,
 };
-
-#[cfg(test)]
-mod tests;

@@ -10,8 +10,6 @@
 mod memory;
 mod script;
 mod sink;
-#[cfg(test)]
-mod tests;
 mod writer;
 
 pub use memory::{ListSink, MemorySink};

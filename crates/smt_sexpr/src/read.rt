@@ -107,6 +107,3 @@ pub fn read_plain(
         Ok(None)
     }
 }
-
-#[cfg(test)]
-mod tests;

@@ -62,6 +62,3 @@ pub fn quote_string(alloc: Global, s: &str) -> Result<Option<Text>, AllocError>
     let text = quoted_text(alloc, s)?;
     Ok(Some(Text::from_string(text)?))
 }
-
-#[cfg(test)]
-mod tests;

@@ -3,6 +3,12 @@
 #![tactic(auto)]
 
 #[cfg(test)]
+mod bitvectors;
+#[cfg(test)]
 mod extensions;
 #[cfg(test)]
+mod scripts;
+#[cfg(test)]
 mod terms;
+#[cfg(test)]
+mod texts;

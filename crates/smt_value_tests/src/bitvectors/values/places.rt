@@ -1,7 +1,7 @@
 //! Shifts and concatenations.
 
 use super::Row;
-use crate::BvCall;
+use smt_bits::BvCall;
 
 pub const SHL: [Row; 24] = [
     (1, 1, 1, 0),

@@ -1,4 +1,7 @@
-use super::*;
+//! Texts that hold one expression, texts that do not, and lists of expressions.
+
+use smt_sexpr::{SExpr, SExprs, read_plain};
+use std::alloc::Global;
 use std::test::Fail;
 
 // A text, the depth that is allowed, and what is read, as `{:?}` prints it.

@@ -1,4 +1,6 @@
-use super::*;
+//! Texts between quotes.
+
+use smt_sexpr::quote_string;
 use std::test::Fail;
 
 // A text and what stands for it in a script (SMT-LIB 2.7, theory UnicodeStrings).

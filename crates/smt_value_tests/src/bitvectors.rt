@@ -1,8 +1,11 @@
-//! Values from outside, printed text, and one call of each public function.
+//! Bitvectors: values from outside, printed text, and one call of each public function.
 
 mod values;
 
-use super::*;
+use smt_bits::{
+    BitVec, BitVecError, BvCall, EIGHT, Fin, HUNDRED_TWENTY_EIGHT, ONE, SIXTEEN, SIXTY_FOUR, TWO,
+    Width, nat,
+};
 use std::process::Abort;
 use std::test::Fail;
 use values::{Row, arithmetic, comparisons, places, quotients};

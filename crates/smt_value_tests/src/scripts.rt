@@ -1,8 +1,10 @@
+//! The lines of a script over each sink, and sinks and writers that fail.
+
 ghost use Rattle.std.specs.Prelude.{◌++◌, ◌≡◌, IsOk, codes, length};
 ghost use Rattle.smt_characters.specs.LineTexts.{declare_const_text};
 ghost use Rattle.smt_script.specs.Memory.{memory_bytes, memory_has_room};
 
-use super::*;
+use smt_script::{ListSink, MemorySink, Sink, SinkError, SmtLibScript, Text, WriteSink};
 use std::alloc::{AllocError, Global};
 use std::io::{self, Write};
 use std::test::Fail;

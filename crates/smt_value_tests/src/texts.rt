@@ -1,0 +1,4 @@
+//! S-expressions and texts between quotes, as a script has them.
+
+mod quoting;
+mod reading;
