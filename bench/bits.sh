@@ -1,16 +1,19 @@
 #!/bin/sh
 # Speed of the operators of smt_bits at 64 and 128 bits, beside the same loops over u64 and u128 in Rust,
-# which are left out where rustc is missing. The crate is copied to a temporary folder, proved and built there.
+# which are left out where rustc is missing. The crate and the one below it are copied to a temporary folder, proved and
+# built there.
 set -e
 top=$(cd "$(dirname "$0")/.." && pwd)
 work=$(mktemp -d)
 trap 'rm -rf "$work"' EXIT
 
 mkdir -p "$work/repo/crates/bits_bench/src"
-cp -r "$top/crates/smt_bits" "$work/repo/crates/smt_bits"
-rm -rf "$work/repo/crates/smt_bits/out"
+for crate in smt_arithmetic smt_bits; do
+    cp -r "$top/crates/$crate" "$work/repo/crates/$crate"
+    rm -rf "$work/repo/crates/$crate/out"
+done
 cp "$top/bench/bits/main.rt.txt" "$work/repo/crates/bits_bench/src/main.rt"
-printf 'smt_bits: thiserror\nbits_bench: smt_bits anyhow\n' >"$work/repo/crates.txt"
+printf 'smt_arithmetic:\nsmt_bits: smt_arithmetic thiserror\nbits_bench: smt_bits anyhow\n' >"$work/repo/crates.txt"
 (cd "$work/repo" && git init -q && cd crates/bits_bench && rt run --jobs 1) >"$work/proved" 2>"$work/log" || {
     grep -E "error\[|no proof|not-proved" "$work/log" >&2
     exit 1

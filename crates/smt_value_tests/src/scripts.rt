@@ -7,6 +7,11 @@ ghost use Rattle.smt_script.specs.Memory.{memory_bytes, memory_has_room};
 use smt_script::{ListSink, MemorySink, Sink, SinkError, SmtLibScript, Text, WriteSink};
 use std::alloc::{AllocError, Global};
 use std::io::{self, Write};
+<<<<<<< HEAD
+=======
+use std::process::Abort;
+use std::rc::RcStr;
+>>>>>>> tests
 use std::test::Fail;
 
 /// What `put_lines` puts, as the table of lines spells it.
@@ -53,9 +58,13 @@ fn put_datatypes<S: Sink>(sink: &mut S, alloc: Global) -> Result<(), Fail> {
 fn put_lines<S: Sink>(sink: &mut S, alloc: Global) -> Result<(), Fail> {
     let parameters = texts(alloc, &["X"])?;
     let constructors = texts(alloc, &["(none)", "(some (val X))"])?;
+<<<<<<< HEAD
     let mut arguments = Vec::new(alloc);
     arguments.push((Text::from_str(alloc, "x")?, Text::from_str(alloc, "Int")?))?;
     arguments.push((Text::from_str(alloc, "y")?, Text::from_str(alloc, "Bool")?))?;
+=======
+    let arguments = arguments(alloc)?;
+>>>>>>> tests
     sink.declare_datatype("Option", parameters.as_slice(), constructors.as_slice())?;
     sink.comment("\"b\"")?;
     sink.declare_const("t0", "Bool")?;
@@ -91,16 +100,25 @@ fn declare_in_room(sink: &mut MemorySink, id: &str) -> Result<(), SinkError>
     sink.declare_const(id, "Bool")
 }
 
+/// The second put and the fourth are planned to fail.
+fn puts_fail_as_planned(rt: &impl Abort, alloc: Global) -> Result<(), Fail> {
+    let mut planned = MemorySink::new(alloc, &[2, 4], 10)?;
+    for (bytes, want) in [
+        ("ab", Ok(())),
+        ("cd", Err(SinkError::Fault)),
+        ("ef", Ok(())),
+        ("gh", Err(SinkError::Fault)),
+    ] {
+        assert_eq!(rt; planned.put(bytes.as_bytes()), want, "{bytes}");
+    }
+    assert_eq!(rt; planned.bytes(), b"abef".as_slice());
+    Ok(())
+}
+
 #[test]
 fn memory_sinks_fail(rt: HostRuntime) -> Result<(), Fail> {
-    let alloc = rt.alloc();
-    let mut planned = MemorySink::new(alloc, &[2, 4], 10)?;
-    assert_eq!(rt; planned.put(b"ab"), Ok(()));
-    assert_eq!(rt; planned.put(b"cd"), Err(SinkError::Fault));
-    assert_eq!(rt; planned.put(b"ef"), Ok(()));
-    assert_eq!(rt; planned.put(b"gh"), Err(SinkError::Fault));
-    assert_eq!(rt; planned.bytes(), b"abef".as_slice());
-    let mut small = MemorySink::new(alloc, &[], 30)?;
+    puts_fail_as_planned(&rt, rt.alloc())?;
+    let mut small = MemorySink::new(rt.alloc(), &[], 30)?;
     assert_eq!(rt; declare_in_room(&mut small, "t0"), Ok(()));
     assert_eq!(rt; small.assert("t0"), Err(SinkError::Fault));
     assert_eq!(rt;
