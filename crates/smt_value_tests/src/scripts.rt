@@ -7,11 +7,7 @@ ghost use Rattle.smt_script.specs.Memory.{memory_bytes, memory_has_room};
 use smt_script::{ListSink, MemorySink, Sink, SinkError, SmtLibScript, Text, WriteSink};
 use std::alloc::{AllocError, Global};
 use std::io::{self, Write};
-<<<<<<< HEAD
-=======
 use std::process::Abort;
-use std::rc::RcStr;
->>>>>>> tests
 use std::test::Fail;
 
 /// What `put_lines` puts, as the table of lines spells it.
@@ -58,13 +54,7 @@ fn put_datatypes<S: Sink>(sink: &mut S, alloc: Global) -> Result<(), Fail> {
 fn put_lines<S: Sink>(sink: &mut S, alloc: Global) -> Result<(), Fail> {
     let parameters = texts(alloc, &["X"])?;
     let constructors = texts(alloc, &["(none)", "(some (val X))"])?;
-<<<<<<< HEAD
-    let mut arguments = Vec::new(alloc);
-    arguments.push((Text::from_str(alloc, "x")?, Text::from_str(alloc, "Int")?))?;
-    arguments.push((Text::from_str(alloc, "y")?, Text::from_str(alloc, "Bool")?))?;
-=======
     let arguments = arguments(alloc)?;
->>>>>>> tests
     sink.declare_datatype("Option", parameters.as_slice(), constructors.as_slice())?;
     sink.comment("\"b\"")?;
     sink.declare_const("t0", "Bool")?;
