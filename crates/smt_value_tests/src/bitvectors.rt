@@ -73,7 +73,7 @@ fn divided(lhs: &BitVec, rhs: &BitVec) -> Result<[u128; 5], BitVecError> {
 
 #[test]
 fn divisions_agree_at_zero_and_at_each_sign(rt: HostRuntime) -> Result<(), Fail> {
-    for (width, lhs, rhs, want) in quotients::DIVISIONS {
+    for &(width, lhs, rhs, want) in &quotients::DIVISIONS {
         let found = divided(&bits(width, lhs)?, &bits(width, rhs)?);
         assert_eq!(rt; found, Ok(want), "{width} {lhs} {rhs}");
     }
@@ -93,7 +93,7 @@ fn joined(high: &BitVec, low: &BitVec) -> Result<[u128; 3], BitVecError> {
 
 #[test]
 fn joined_bits_are_extracted(rt: HostRuntime) -> Result<(), Fail> {
-    for (width, lhs, rhs, want) in places::CONCAT {
+    for &(width, lhs, rhs, want) in &places::CONCAT {
         let found = joined(&bits(width, lhs)?, &bits(width, rhs)?);
         assert_eq!(rt; found, Ok([want, lhs, rhs]), "{width} {lhs} {rhs}");
     }
@@ -102,7 +102,7 @@ fn joined_bits_are_extracted(rt: HostRuntime) -> Result<(), Fail> {
 
 #[test]
 fn far_shifts_are_refused(rt: HostRuntime) -> Result<(), Fail> {
-    for (call, width, lhs, rhs) in places::TOO_FAR {
+    for &(call, width, lhs, rhs) in &places::TOO_FAR {
         let found = answer(call, &bits(width, lhs)?, &bits(width, rhs)?);
         assert_eq!(rt;
             found,

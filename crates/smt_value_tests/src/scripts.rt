@@ -32,38 +32,48 @@ fn texts(alloc: Global, items: &[&str]) -> Result<Vec<Text>, AllocError> {
     Ok(texts)
 }
 
-fn arguments(alloc: Global) -> Result<Vec<(Text, Text)>, AllocError> {
-    let mut arguments = Vec::new(alloc);
-    arguments.push((Text::from_str(alloc, "x")?, Text::from_str(alloc, "Int")?))?;
-    arguments.push((Text::from_str(alloc, "y")?, Text::from_str(alloc, "Bool")?))?;
-    Ok(arguments)
-}
-
-/// Datatypes whose parameters are one empty text, and two.
-fn put_datatypes<S: Sink>(sink: &mut S, alloc: Global) -> Result<(), Fail> {
-    let constructor = texts(alloc, &["(c)"])?;
-    sink.declare_datatype("D", texts(alloc, &[""])?.as_slice(), constructor.as_slice())?;
-    sink.declare_datatype(
-        "D",
-        texts(alloc, &["", ""])?.as_slice(),
-        constructor.as_slice(),
-    )?;
+fn declare_datatype<S: Sink>(
+    sink: &mut S,
+    alloc: Global,
+    id: &str,
+    parameters: &[&str],
+    constructors: &[&str],
+) -> Result<(), Fail> {
+    let parameters = texts(alloc, parameters)?;
+    let constructors = texts(alloc, constructors)?;
+    sink.declare_datatype(id, parameters.as_slice(), constructors.as_slice())?;
     Ok(())
 }
 
-fn put_lines<S: Sink>(sink: &mut S, alloc: Global) -> Result<(), Fail> {
-    let parameters = texts(alloc, &["X"])?;
-    let constructors = texts(alloc, &["(none)", "(some (val X))"])?;
-    let arguments = arguments(alloc)?;
-    sink.declare_datatype("Option", parameters.as_slice(), constructors.as_slice())?;
+fn argument(alloc: Global, id: &str, sort: &str) -> Result<(Text, Text), AllocError> {
+    Ok((Text::from_str(alloc, id)?, Text::from_str(alloc, sort)?))
+}
+
+/// A function of two arguments, which gives the first.
+fn define_first<S: Sink>(sink: &mut S, alloc: Global) -> Result<(), Fail> {
+    let mut arguments = Vec::new(alloc);
+    arguments.push(argument(alloc, "x", "Int")?)?;
+    arguments.push(argument(alloc, "y", "Bool")?)?;
+    sink.define_fun("f", arguments.as_slice(), "Int", "x")?;
+    Ok(())
+}
+
+/// The lines of a variable and of its negation.
+fn put_negation<S: Sink>(sink: &mut S) -> Result<(), SinkError> {
     sink.comment("\"b\"")?;
     sink.declare_const("t0", "Bool")?;
     sink.define_fun("t1", &[], "Bool", "(not t0)")?;
-    sink.assert("t1")?;
-    sink.declare_datatype("E0", &[], &[])?;
+    sink.assert("t1")
+}
+
+fn put_lines<S: Sink>(sink: &mut S, alloc: Global) -> Result<(), Fail> {
+    declare_datatype(sink, alloc, "Option", &["X"], &["(none)", "(some (val X))"])?;
+    put_negation(sink)?;
+    declare_datatype(sink, alloc, "E0", &[], &[])?;
     sink.comment("a\r\nb\nc")?;
-    sink.define_fun("f", arguments.as_slice(), "Int", "x")?;
-    put_datatypes(sink, alloc)
+    define_first(sink, alloc)?;
+    declare_datatype(sink, alloc, "D", &[""], &["(c)"])?;
+    declare_datatype(sink, alloc, "D", &["", ""], &["(c)"])
 }
 
 #[test]
@@ -93,7 +103,7 @@ fn declare_in_room(sink: &mut MemorySink, id: &str) -> Result<(), SinkError>
 /// The second put and the fourth are planned to fail.
 fn puts_fail_as_planned(rt: &impl Abort, alloc: Global) -> Result<(), Fail> {
     let mut planned = MemorySink::new(alloc, &[2, 4], 10)?;
-    for (bytes, want) in [
+    for &(bytes, want) in &[
         ("ab", Ok(())),
         ("cd", Err(SinkError::Fault)),
         ("ef", Ok(())),

@@ -127,7 +127,7 @@ const DISTINCT_TYPES: [&str; 10] = ["B", "1", "8", "64", "128", "S", "O8", "Z8",
 /// Whether a term has this type, and none of the others.
 fn has_type_alone(alloc: Global, term: &Term, word: &str) -> Result<bool, Fail> {
     let mut holds = term.has_type(&type_named(alloc, word)?);
-    for other in DISTINCT_TYPES {
+    for &other in &DISTINCT_TYPES {
         holds = holds && term.has_type(&type_named(alloc, other)?) == (other == word);
     }
     Ok(holds)

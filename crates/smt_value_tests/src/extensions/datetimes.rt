@@ -41,13 +41,13 @@ fn datetimes_agree_with_outside_values(rt: HostRuntime) -> Result<(), Fail> {
 
 #[test]
 fn worked_datetimes(rt: HostRuntime) -> Result<(), Fail> {
-    for (text, value) in [
+    for &(text, value) in &[
         ("2024-10-15T11:38:02.101-1134", 1729033922101),
         ("2022-10-10", 1665360000000),
     ] {
         assert!(rt; is_read(rt.alloc(), text, value), "{text}");
     }
-    for text in ["2016-12-31T23:59:60Z", "2016-01-01T00:00:00+2400"] {
+    for &text in &["2016-12-31T23:59:60Z", "2016-01-01T00:00:00+2400"] {
         assert!(rt; is_misshapen(rt.alloc(), text)?, "{text}");
     }
     assert!(rt; is_unreal(rt.alloc(), "2023-02-29"));

@@ -38,13 +38,13 @@ fn is_printed(alloc: Global, value: i64, want: &str) -> Result<bool, AllocError>
 
 #[test]
 fn worked_decimals(rt: HostRuntime) -> Result<(), Fail> {
-    for (text, value) in [("-922337203685477.5808", i64::MIN), ("-0.0001", -1)] {
+    for &(text, value) in &[("-922337203685477.5808", i64::MIN), ("-0.0001", -1)] {
         assert!(rt; is_read(rt.alloc(), text, value), "{text}");
     }
-    for text in ["922337203685477.5808", "+1.0", "1.23456", ".12", "12"] {
+    for &text in &["922337203685477.5808", "+1.0", "1.23456", ".12", "12"] {
         assert!(rt; is_refused(rt.alloc(), text)?, "{text}");
     }
-    for (value, want) in [
+    for &(value, want) in &[
         (i64::MIN, "-922337203685477.5808"),
         (-1, "-0.0001"),
         (0, "0.0000"),

@@ -47,12 +47,12 @@ fn durations_agree_with_outside_values(rt: HostRuntime) -> Result<(), Fail> {
 
 #[test]
 fn worked_durations(rt: HostRuntime) -> Result<(), Fail> {
-    for (text, value) in [("-0h2s1ms", -2001), ("-9223372036854775808ms", i64::MIN)] {
+    for &(text, value) in &[("-0h2s1ms", -2001), ("-9223372036854775808ms", i64::MIN)] {
         assert!(rt; is_read(rt.alloc(), text, value), "{text}");
     }
     assert!(rt; is_out_of_range(rt.alloc(), "1d9223372036854775807ms"));
     assert!(rt; is_without_digits(rt.alloc(), "d"));
-    for text in ["1s1d", "-", ""] {
+    for &text in &["1s1d", "-", ""] {
         assert!(rt; is_misshapen(rt.alloc(), text)?, "{text}");
     }
     Ok(())

@@ -96,10 +96,10 @@ fn containment_agrees_with_outside_values(rt: HostRuntime) -> Result<(), Fail> {
     for row in OUTSIDE.lines() {
         assert!(rt; !lies_in(rt.alloc(), row)?, "{row}");
     }
-    for row in ["10.0.0.0/29 10.0.0.1/24", "1.2.3.4 0.0.0.0/0"] {
+    for &row in &["10.0.0.0/29 10.0.0.1/24", "1.2.3.4 0.0.0.0/0"] {
         assert!(rt; lies_in(rt.alloc(), row)?, "{row}");
     }
-    for row in ["0.0.0.0/0 1.2.3.4", ":: 0.0.0.0"] {
+    for &row in &["0.0.0.0/0 1.2.3.4", ":: 0.0.0.0"] {
         assert!(rt; !lies_in(rt.alloc(), row)?, "{row}");
     }
     Ok(())
@@ -107,7 +107,7 @@ fn containment_agrees_with_outside_values(rt: HostRuntime) -> Result<(), Fail> {
 
 #[test]
 fn worked_texts(rt: HostRuntime) -> Result<(), Fail> {
-    for text in [
+    for &text in &[
         "::/00",
         "127.3.4.1/33",
         "::1.2.3.4",
@@ -148,10 +148,10 @@ const KINDS: [(&str, [bool; 4]); 8] = [
 
 #[test]
 fn kinds_of_ranges(rt: HostRuntime) -> Result<(), Fail> {
-    for (text, want) in KINDS {
+    for &(text, want) in &KINDS {
         assert_eq!(rt; kinds(rt.alloc(), text), Ok(want), "{text}");
     }
-    for (net, text) in [
+    for &(net, text) in &[
         (IPNet::default(), "0.0.0.0"),
         (loop_back_cidr_v4(), "127.0.0.0/8"),
         (loop_back_cidr_v6(), "::1"),
@@ -201,10 +201,10 @@ fn parts_of_ranges(rt: HostRuntime) -> Result<(), Fail> {
     assert!(rt; IPv6Prefix::try_from_bitvec(Some(five)).is_none());
     assert!(rt; v4_address_holds(short)?);
     assert!(rt; v6_address_holds(long)?);
-    for bits in [None, Some(five)] {
+    for &bits in &[None, Some(five)] {
         assert!(rt; v4_prefix_holds(bits)?);
     }
-    for bits in [None, Some(seven)] {
+    for &bits in &[None, Some(seven)] {
         assert!(rt; v6_prefix_holds(bits)?);
     }
     assert!(rt; prefixes_are_ordered(five, seven));

@@ -41,7 +41,7 @@ fn greatest() -> BitVec {
 
 #[test]
 fn literals_have_types(rt: HostRuntime) -> Result<(), Fail> {
-    for row in ["7 64", "-5 64", "false B", "true B"] {
+    for &row in &["7 64", "-5 64", "false B", "true B"] {
         assert!(rt; row_has_type(rt.alloc(), row)?, "{row}");
     }
     assert!(rt; bits_have_type(rt.alloc(), BitVec::of_nat(ONE, 1), "1")?);

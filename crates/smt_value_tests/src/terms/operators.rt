@@ -203,7 +203,7 @@ fn claim_holds(
 /// Whether the operator takes the arguments, and gives them this type and no other.
 fn is_typed(alloc: Global, op: &Op, args: &TermList, given: &str) -> Result<bool, Fail> {
     let mut holds = op.takes(args.items());
-    for claimed in DISTINCT_TYPES {
+    for &claimed in &DISTINCT_TYPES {
         holds = holds && claim_holds(alloc, op, args, claimed, given)?;
     }
     Ok(holds)

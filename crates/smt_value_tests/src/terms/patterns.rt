@@ -98,7 +98,7 @@ fn many_wildcards_take_few_steps(rt: HostRuntime) -> Result<(), Fail> {
 fn patterns_order_by_their_elements(rt: HostRuntime) -> Result<(), Fail> {
     let alloc = rt.alloc();
     let mut all = Vec::new(alloc);
-    for spelling in [
+    for &spelling in &[
         "", "+", "a", "a+", "ab", "a*", "a*b", "b", "é", "😀", "*", "*a",
     ] {
         all.push(pattern(alloc, spelling)?)?;

@@ -1,6 +1,7 @@
 //! Texts between quotes.
 
 use smt_sexpr::quote_string;
+use std::alloc::Global;
 use std::test::Fail;
 
 // A text and what stands for it in a script (SMT-LIB 2.7, theory UnicodeStrings).
@@ -24,20 +25,24 @@ const QUOTED: [(&str, &str); 15] = [
 
 const NOT_QUOTED: [&str; 3] = ["\u{30000}", "a\u{30000}", "\u{10ffff}\""];
 
+/// Whether the text is quoted so, or not at all.
+fn is_quoted(alloc: Global, text: &str, want: Option<&str>) -> Result<bool, Fail> {
+    let quoted = quote_string(alloc, text)?;
+    Ok(quoted.as_ref().map(|text| text.as_str()) == want)
+}
+
 #[test]
 fn quotes_each_character(rt: HostRuntime) -> Result<(), Fail> {
-    for (text, want) in QUOTED {
-        let quoted = quote_string(rt.alloc(), text)?;
-        let found = quoted.as_ref().map(|text| text.as_str());
-        assert_eq!(rt; found, Some(want), "at {text:?}");
+    for &(text, want) in &QUOTED {
+        assert!(rt; is_quoted(rt.alloc(), text, Some(want))?, "at {text:?}");
     }
     Ok(())
 }
 
 #[test]
 fn quotes_no_character_above_the_theory(rt: HostRuntime) -> Result<(), Fail> {
-    for text in NOT_QUOTED {
-        assert_eq!(rt; quote_string(rt.alloc(), text)?, None, "at {text:?}");
+    for &text in &NOT_QUOTED {
+        assert!(rt; is_quoted(rt.alloc(), text, None)?, "at {text:?}");
     }
     Ok(())
 }
