@@ -1,0 +1,4 @@
+pub mod Distinct
+pub mod Fitting
+pub mod Places
+pub mod Whole

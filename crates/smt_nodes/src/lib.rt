@@ -1,0 +1,2 @@
+//! Nodes.
+#![tactic(auto)]
