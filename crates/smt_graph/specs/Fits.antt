@@ -1,5 +1,5 @@
 -- When a node fits the nodes before it.
-use Rattle.std.specs.Prelude.{ℕ, Bool, true, false, ◌&&◌, List, [], ◌∷◌, length, nat_eq, nat_lt, None, Some, is_some, unwrap_or}
+use Rattle.std.specs.Prelude.{ℕ, Bool, true, false, ◌&&◌, List, [], ◌∷◌, length, nat_lt, None, Some, is_some, unwrap_or}
 use Rattle.std.specs.List.{list_all}
 use Rattle.smt_meaning.specs.Plain.{OptionType, RecordType, UufOp, PlainTerm}
 use Rattle.smt_meaning.specs.TermOrder.{term_cmp}
@@ -16,6 +16,11 @@ abbrev pub is_term : Meaning → Bool
 is_term (TermMeaning t) = true
 is_term m = false
 
+abbrev pub same_length : {A B : Type 0} → List A → List B → Bool
+same_length [] [] = true
+same_length (x ∷ xs) (y ∷ ys) = same_length xs ys
+same_length xs ys = false
+
 -- the parts have the number and the kinds that the label wants
 abbrev pub has_kinds : PlainLabel → List Meaning → Bool
 has_kinds OptionLabel (TypeMeaning t ∷ []) = true
@@ -24,14 +29,14 @@ has_kinds BoolLabel [] = true
 has_kinds (EntityLabel e) [] = true
 has_kinds (ExtensionLabel k) [] = true
 has_kinds StringLabel [] = true
-has_kinds (RecordLabel names) ms = list_all is_type ms && nat_eq (length names) (length ms)
+has_kinds (RecordLabel names) ms = list_all is_type ms && same_length names ms
 has_kinds SetLabel (TypeMeaning t ∷ []) = true
 has_kinds (FunctionLabel id) (TypeMeaning t ∷ TypeMeaning u ∷ []) = true
 has_kinds (ApplicationLabel o) (TypeMeaning t ∷ ms) = list_all is_term ms
 has_kinds CallLabel (TypeMeaning t ∷ FunctionMeaning f ∷ ms) = list_all is_term ms
 has_kinds NoneLabel (TypeMeaning t ∷ []) = true
 has_kinds (LiteralLabel l) (TypeMeaning t ∷ []) = true
-has_kinds (RecordOfLabel names) (TypeMeaning t ∷ ms) = list_all is_term ms && nat_eq (length names) (length ms)
+has_kinds (RecordOfLabel names) (TypeMeaning t ∷ ms) = list_all is_term ms && same_length names ms
 has_kinds SetOfLabel (TypeMeaning t ∷ ms) = list_all is_term ms
 has_kinds SomeLabel (TypeMeaning t ∷ TermMeaning u ∷ []) = true
 has_kinds (VariableLabel id) (TypeMeaning t ∷ []) = true
