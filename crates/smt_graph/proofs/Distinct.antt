@@ -8,7 +8,7 @@ use Rattle.smt_graph.specs.Meanings.{all_found, found, meaning_at, meaning_of, m
 use Rattle.smt_graph.specs.Nodes.{PlainLabel, PlainNode, Meaning}
 use Rattle.smt_graph.proofs.Fitting.{fitting}
 use Rattle.smt_graph.proofs.Places.{all_stay, as_many, found_split, found_stays, found_within, get_older, get_split, last_has, map_back, meaning_stays, meanings_grow, some_same, then_back}
-use Rattle.smt_graph.proofs.Whole.{label_in, parts_in, whole}
+use Rattle.smt_graph.proofs.Whole.{whole}
 
 -- a node stands for this at this place, by what its parts stand for
 pub record Stands (ns : List PlainNode) (i : ℕ) (n : PlainNode) : Type 0 where

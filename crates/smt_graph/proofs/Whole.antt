@@ -9,69 +9,8 @@ use Rattle.smt_meaning.specs.ValueOrder.{ascends, text_cmp}
 use Rattle.smt_meaning.proofs.TermTotal.{types_decided}
 use Rattle.smt_graph.specs.Meanings.{attributes_in, fields_in, only_if, stands_for, term_made, terms_in, typed_as}
 use Rattle.smt_graph.specs.Nodes.{PlainLabel, OptionLabel, BitVecLabel, BoolLabel, EntityLabel, ExtensionLabel, StringLabel, RecordLabel, SetLabel, FunctionLabel, ApplicationLabel, CallLabel, NoneLabel, LiteralLabel, RecordOfLabel, SetOfLabel, SomeLabel, VariableLabel, Meaning, TypeMeaning, FunctionMeaning, TermMeaning}
+use Rattle.smt_graph.specs.Parts.{field_names, field_terms, label_in, names_in, parts_in, term_label, term_parts, types_in}
 use Rattle.smt_graph.proofs.Places.{map_back, only_back, some_same, test_back, then_back}
-
--- the attributes of a record type and what they have, and the same of a record
-abbrev names_in : AttributeTypes → List (List ℕ)
-names_in no_attributes = []
-names_in (attribute a t x) = a ∷ names_in x
-
-abbrev types_in : AttributeTypes → List Meaning
-types_in no_attributes = []
-types_in (attribute a t x) = TypeMeaning t ∷ types_in x
-
-abbrev field_names : PlainFields → List (List ℕ)
-field_names no_fields = []
-field_names (one_field a t x) = a ∷ field_names x
-
-abbrev field_terms : PlainFields → List Meaning
-field_terms no_fields = []
-field_terms (one_field a t x) = TermMeaning t ∷ field_terms x
-
--- the label of a type and of a term, and what its parts stand for, behind the type where it is a term
-abbrev type_label : PlainType → PlainLabel
-type_label (OptionType t) = OptionLabel
-type_label (BitVecType n) = BitVecLabel n
-type_label BoolType = BoolLabel
-type_label (EntityType e) = EntityLabel e
-type_label (ExtensionType k) = ExtensionLabel k
-type_label StringType = StringLabel
-type_label (RecordType x) = RecordLabel (names_in x)
-type_label (SetType t) = SetLabel
-
-abbrev type_parts : PlainType → List Meaning
-type_parts (OptionType t) = TypeMeaning t ∷ []
-type_parts (RecordType x) = types_in x
-type_parts (SetType t) = TypeMeaning t ∷ []
-type_parts t = []
-
-abbrev term_label : PlainTerm → PlainLabel
-term_label (Application (UufOp f) ts t) = CallLabel
-term_label (Application o ts t) = ApplicationLabel o
-term_label (NoneTerm t) = NoneLabel
-term_label (LiteralTerm l) = LiteralLabel l
-term_label (RecordTerm x) = RecordOfLabel (field_names x)
-term_label (SetTerm t ts) = SetOfLabel
-term_label (SomeTerm t) = SomeLabel
-term_label (VariableTerm id t) = VariableLabel id
-
-abbrev term_parts : PlainTerm → List Meaning
-term_parts (Application (UufOp f) ts t) = FunctionMeaning f ∷ map TermMeaning (list_of_terms ts)
-term_parts (Application o ts t) = map TermMeaning (list_of_terms ts)
-term_parts (RecordTerm x) = field_terms x
-term_parts (SetTerm t ts) = map TermMeaning (list_of_terms ts)
-term_parts (SomeTerm t) = TermMeaning t ∷ []
-term_parts t = []
-
-abbrev pub label_in : Meaning → PlainLabel
-label_in (TypeMeaning t) = type_label t
-label_in (FunctionMeaning f) = FunctionLabel f.id
-label_in (TermMeaning t) = term_label t
-
-abbrev pub parts_in : Meaning → List Meaning
-parts_in (TypeMeaning t) = type_parts t
-parts_in (FunctionMeaning f) = TypeMeaning f.argument ∷ TypeMeaning f.output ∷ []
-parts_in (TermMeaning t) = TypeMeaning (type_of t) ∷ term_parts t
 
 -- it is whole: label and parts are those of what it stands for
 abbrev IsWhole : PlainLabel → List Meaning → Meaning → Type 0

@@ -2,8 +2,9 @@
 use Rattle.std.specs.Prelude.{◌≡◌, ℕ, ◌++◌, ◌<◌, List, [], ◌∷◌, Some, is_some, length}
 use Rattle.smt_graph.specs.Fits.{fits}
 use Rattle.smt_graph.specs.Graphs.{Graph}
-use Rattle.smt_graph.specs.Meanings.{meaning_at, meaning_of, meanings}
-use Rattle.smt_graph.specs.Nodes.{Meaning, PlainNode}
+use Rattle.smt_graph.specs.Meanings.{meaning_at, meaning_of, meanings, stands_for}
+use Rattle.smt_graph.specs.Nodes.{Meaning, PlainLabel, PlainNode}
+use Rattle.smt_graph.specs.Parts.{label_in, parts_in}
 
 -- a node fits exactly where it has a meaning
 abbrev pub FittingNodesHaveMeanings : Type 0
@@ -22,3 +23,7 @@ OlderMeaningsStay = (ns : List PlainNode) (n : PlainNode) (i : ℕ) → i < leng
 
 abbrev pub TheLastHasItsMeaning : Type 0
 TheLastHasItsMeaning = (ns : List PlainNode) (n : PlainNode) → meaning_at (ns ++ n ∷ []) (length ns) ≡ meaning_of (meanings ns) n
+
+-- what something stands for determines its label and what its parts stand for
+abbrev pub MeaningsDetermineParts : Type 0
+MeaningsDetermineParts = (l : PlainLabel) (ms : List Meaning) (m : Meaning) → stands_for l ms ≡ Some m → (l ≡ label_in m) × (ms ≡ parts_in m)

@@ -4,3 +4,4 @@ pub mod Graphs
 pub mod Laws
 pub mod Meanings
 pub mod Nodes
+pub mod Parts

@@ -1,6 +1,6 @@
 //! Laws of numbered nodes, proved with no code.
 ghost use Rattle.smt_graph.specs.Examples.{NodeRows};
-ghost use Rattle.smt_graph.specs.Laws.{FittingNodesHaveMeanings, OlderMeaningsStay, PlacesDiffer, PlacesHaveMeanings, TheLastHasItsMeaning};
+ghost use Rattle.smt_graph.specs.Laws.{FittingNodesHaveMeanings, MeaningsDetermineParts, OlderMeaningsStay, PlacesDiffer, PlacesHaveMeanings, TheLastHasItsMeaning};
 
 /// What chosen nodes stand for, and nodes that do not fit, one for each reason.
 pub fn node_rows()
@@ -22,4 +22,9 @@ pub fn places_differ_in_meaning()
 pub fn added_nodes_keep_meanings()
     ensures kept { OlderMeaningsStay }
     ensures last { TheLastHasItsMeaning }
+{}
+
+/// What a node stands for determines its label and what its parts stand for.
+pub fn meanings_determine_parts()
+    ensures { MeaningsDetermineParts }
 {}

@@ -1,0 +1,200 @@
+// Nodes that stand for different things, by number.
+ghost use Rattle.std.specs.Prelude.{◌≡◌, ◌↔◌, ◌∷◌, [], IfOk, IsTrue, OnOk, is_some, length, list_all, map, option_map, slice_get};
+ghost use Rattle.smt_graph.specs.Fits.{fits};
+ghost use Rattle.smt_graph.specs.Graphs.{Graph};
+ghost use Rattle.smt_nodes.specs.Index.{IsIndex};
+ghost use Rattle.smt_nodes.specs.View.{place_of, plain_node};
+
+use crate::id::NodeId;
+use crate::node::{Label, Node};
+use crate::table::Table;
+use smt_term::{TermError, TermPrim};
+use std::alloc::Global;
+use std::collections::BTreeMap;
+
+/// A list of nodes that each fit the nodes before it, and that each stand for something else.
+#[derive(Drop)]
+pub struct Interner {
+    pub(crate) alloc: Global,
+    table: Table,
+    ghost graph: { Graph (map plain_node table.nodes.items) },
+    ghost index: { IsIndex table.nodes.items table.ids },
+}
+
+impl Interner {
+    ghost use Rattle.smt_nodes.specs.Interned.{meaning_for, meaning_in, nodes_of, GrowsFor, KeepsMeanings};
+
+    /// An interner without nodes. Takes no memory.
+    pub fn new(alloc: Global) -> Interner
+        ensures { nodes_of result ≡ [] }
+    {
+        Interner {
+            alloc,
+            table: Table {
+                nodes: Vec::new(alloc),
+                ids: BTreeMap::new(alloc),
+            },
+        }
+    }
+
+    /// How many nodes it has.
+    pub fn len(&self) -> usize
+        ensures { result ≡ length (nodes_of self.now) }
+    {
+        self.table.nodes.len()
+    }
+
+    /// Whether it has none.
+    pub fn is_empty(&self) -> bool
+        ensures { IsTrue result ↔ (nodes_of self.now ≡ []) }
+    {
+        self.table.nodes.is_empty()
+    }
+
+    /// The node of a number, None exactly where its place is not below the length. Takes no memory.
+    pub fn node(&self, id: NodeId) -> Option<&Node>
+        ensures { option_map (λ node. plain_node node.now) result ≡ slice_get (nodes_of self.now) (place_of id) }
+    {
+        self.table.nodes.get(id.place)
+    }
+
+    /// The number that stands for what the node stands for. Where there is none, the node is entered.
+    ///
+    /// # Errors
+    /// `Memory`, where there is none for the node.
+    pub fn add(&mut self, node: Node) -> Result<NodeId, TermError>
+        requires { IsTrue (fits (nodes_of self.old) (plain_node node)) }
+        ensures meaning { IfOk result (λ id. meaning_in self.new id ≡ meaning_for self.old (plain_node node)) }
+        ensures kept { KeepsMeanings self.old self.new }
+        ensures grown { OnOk result (GrowsFor self.old self.new (plain_node node)) }
+    {
+        if let Some(id) = self.table.ids.get(&node) {
+            return Ok(*id);
+        }
+        let id = NodeId {
+            place: self.table.nodes.len(),
+        };
+        let key = node.share()?;
+        self.table.enter(key, node, id)?;
+        Ok(id)
+    }
+
+    /// Whether the node fits: its parts stand for things of the number and kinds that its label wants, and the first part
+    /// of a term is the type that the term has; the elements of a set ascend in the order of terms. Takes no memory.
+    pub fn fits(&self, node: &Node) -> bool
+        ensures { result ≡ fits (nodes_of self.now) (plain_node node.now) }
+    {
+        let parts = node.parts.items();
+        match &node.label {
+            Label::TBitvec(_) | Label::TBool | Label::TString => parts.is_empty(),
+            Label::TOption | Label::TSet => match parts {
+                [inner] => self.is_type(*inner),
+                _ => false,
+            },
+            label => match parts {
+                [ty, others @ ..] => self.fits_term(label, *ty, others),
+                [] => false,
+            },
+        }
+    }
+
+    // Whether a term's label fits its type and its other parts.
+    fn fits_term(&self, label: &Label, ty: NodeId, others: &[NodeId]) -> bool {
+        match label {
+            Label::App(_) => self.is_type(ty) && self.are_terms(others),
+            Label::NoneOf => self.is_option(ty) && others.is_empty(),
+            Label::Prim(literal) => self.is_type_of(ty, literal) && others.is_empty(),
+            Label::SetOf => self.is_set(ty) && self.are_terms(others) && self.ascend(others),
+            Label::SomeOf => match others {
+                [inner] => self.is_option_of(ty, *inner),
+                _ => false,
+            },
+            Label::Var(_) => self.is_type(ty) && others.is_empty(),
+            Label::TOption | Label::TBitvec(_) | Label::TBool | Label::TString | Label::TSet =>
+                false,
+        }
+    }
+
+    // The label of a number's node.
+    pub(crate) fn label(&self, id: NodeId) -> Option<&Label> {
+        match self.node(id) {
+            Some(node) => Some(&node.label),
+            None => None,
+        }
+    }
+
+    // The parts of a number's node, none where it has no node.
+    pub(crate) fn parts(&self, id: NodeId) -> &[NodeId] {
+        match self.node(id) {
+            Some(node) => node.parts.items(),
+            None => &[],
+        }
+    }
+
+    fn is_type(&self, id: NodeId) -> bool {
+        match self.label(id) {
+            Some(
+                Label::TOption | Label::TBitvec(_) | Label::TBool | Label::TString | Label::TSet,
+            ) => true,
+            _ => false,
+        }
+    }
+
+    fn is_term(&self, id: NodeId) -> bool {
+        match self.label(id) {
+            Some(
+                Label::App(_)
+                | Label::NoneOf
+                | Label::Prim(_)
+                | Label::SetOf
+                | Label::SomeOf
+                | Label::Var(_),
+            ) => true,
+            _ => false,
+        }
+    }
+
+    fn are_terms(&self, ids: &[NodeId]) -> bool {
+        for id in ids {
+            if !self.is_term(*id) {
+                return false;
+            }
+        }
+        true
+    }
+
+    fn is_option(&self, id: NodeId) -> bool {
+        match self.label(id) {
+            Some(Label::TOption) => true,
+            _ => false,
+        }
+    }
+
+    fn is_set(&self, id: NodeId) -> bool {
+        match self.label(id) {
+            Some(Label::TSet) => true,
+            _ => false,
+        }
+    }
+
+    // Whether this is the literal's type.
+    fn is_type_of(&self, ty: NodeId, literal: &TermPrim) -> bool {
+        match (literal, self.label(ty)) {
+            (TermPrim::Bitvec(bits), Some(Label::TBitvec(width))) => bits.width() == *width,
+            (TermPrim::Bool(_), Some(Label::TBool)) => true,
+            (TermPrim::String(_), Some(Label::TString)) => true,
+            _ => false,
+        }
+    }
+
+    // Whether the type is that of options of the term's.
+    fn is_option_of(&self, ty: NodeId, term: NodeId) -> bool {
+        if !(self.is_option(ty) && self.is_term(term)) {
+            return false;
+        }
+        match (self.parts(ty), self.parts(term)) {
+            ([inner, ..], [own, ..]) => *inner == *own,
+            _ => false,
+        }
+    }
+}
