@@ -1,12 +1,14 @@
 -- In a graph every place has a meaning, and no two have one.
 use Rattle.std.proofs.Common.{◌≡◌, ℕ, is_some, ◌+◌, ◌<◌, List, [], ◌∷◌, ◌++◌, length, refl, sym, ap, ◌∙◌, ◌⊎◌, inl, inr, arith, subst}
 use Rattle.std.proofs.lemmas.Option.{get_or_from_slice_get, slice_get-get_or, slice_get_within}
+use Rattle.std.specs.List.{AllByRecursion}
 use Rattle.std.specs.Prelude.{true, Contains, IsTrue, Option, Some, None, get_or, option_and_then, option_map, slice_get}
 use Rattle.smt_graph.specs.Fits.{fits}
-use Rattle.smt_graph.specs.Graphs.{Graph, empty, grown}
+use Rattle.smt_graph.specs.Graphs.{IsGraph}
 use Rattle.smt_graph.specs.Meanings.{all_found, found, meaning_at, meaning_of, meanings, stands_for}
 use Rattle.smt_graph.specs.Nodes.{PlainLabel, PlainNode, Meaning}
 use Rattle.smt_graph.proofs.Fitting.{fitting}
+use Rattle.smt_graph.proofs.Growth.{Graph, by_nodes, contains_at, empty, grown, node_within}
 use Rattle.smt_graph.proofs.Places.{all_stay, as_many, found_split, found_stays, found_within, get_older, get_split, last_has, map_back, meaning_stays, meanings_grow, some_same, then_back}
 use Rattle.smt_graph.proofs.Whole.{whole}
 
@@ -17,6 +19,7 @@ pub record Stands (ns : List PlainNode) (i : ℕ) (n : PlainNode) : Type 0 where
   pub found_parts : all_found (meanings ns) n.parts ≡ Some parts
   pub label : stands_for n.label parts ≡ Some meaning
   pub here : meaning_at ns i ≡ Some meaning
+  pub earlier : AllByRecursion (λ p. p < i) n.parts
 
 stay : (ns : List PlainNode) (n : PlainNode) (i : ℕ) (m : PlainNode) → Stands ns i m → Stands (ns ++ n ∷ []) i m
 stay ns n i m s =
@@ -26,6 +29,7 @@ stay ns n i m s =
       found_parts = ap (λ ms. all_found ms m.parts) (meanings_grow ns n) ∙ all_stay (meanings ns) _ m.parts s.parts s.found_parts;
       label = s.label;
       here = meaning_stays ns n i s.meaning s.here;
+      earlier = s.earlier;
     }
 
 some_of : {A : Type 0} (o : Option A) → IsTrue (is_some o) → (x : A) × (o ≡ Some x)
@@ -34,6 +38,14 @@ some_of None h = absurd (cc)
 
 pub fit_has : (ns : List PlainNode) (n : PlainNode) → IsTrue (fits ns n) → (m : Meaning) × (meaning_of (meanings ns) n ≡ Some m)
 fit_has ns n h = some_of (meaning_of (meanings ns) n) (fitting ns n ∙ h)
+
+parts_earlier : (ns : List PlainNode) (is : List ℕ) (ms : List Meaning) → all_found (meanings ns) is ≡ Some ms → AllByRecursion (λ p. p < length ns) is
+parts_earlier ns [] ms h = tt
+parts_earlier ns (i ∷ is) ms h =
+    let (m, e, d) = then_back (λ m. option_map (λ rest. m ∷ rest) (all_found (meanings ns) is)) (found (meanings ns) i) ms h in
+    let (rest, f, g) = map_back (λ rest. m ∷ rest) (all_found (meanings ns) is) ms d in
+    let b : i < length (meanings ns) = found_within (meanings ns) i m e in
+    (omega (arith, as_many ns), parts_earlier ns is rest f)
 
 last_stands : (ns : List PlainNode) (n : PlainNode) → IsTrue (fits ns n) → Stands (ns ++ n ∷ []) (length ns) n
 last_stands ns n h =
@@ -45,19 +57,16 @@ last_stands ns n h =
       found_parts = ap (λ ms. all_found ms n.parts) (meanings_grow ns n) ∙ all_stay (meanings ns) _ n.parts ps f;
       label = k;
       here = last_has ns n ∙ e;
+      earlier = parts_earlier ns n.parts ps f;
     }
 
 -- each node of a graph stands for something at its place
-pub stands : (ns : List PlainNode) → Graph ns → (i : ℕ) (n : PlainNode) → slice_get ns i ≡ Some n → Stands ns i n
+stands : (ns : List PlainNode) → Graph ns → (i : ℕ) (n : PlainNode) → slice_get ns i ≡ Some n → Stands ns i n
 stands _ empty i n h = absurd (cc)
 stands _ (grown ns k g f new) i n h =
     elim (get_split ns k i n h) [ inl e ↦ stay ns k i n (stands ns g i n e) | inr e ↦ let P : ℕ → PlainNode → Type 0 = λ j m. Stands (ns ++ k ∷ []) j m in subst (λ j. P j n) (sym e.0) (subst (P (length ns)) e.1 (last_stands ns k f)) ]
 
-node_within : (ns : List PlainNode) (i : ℕ) → i < length ns → (n : PlainNode) × (slice_get ns i ≡ Some n)
-node_within [] i h = absurd (omega arith)
-node_within (n ∷ ns) i h = (get_or (n ∷ ns) i n, slice_get-get_or (n ∷ ns) i n h)
-
-pub have_meanings : (ns : List PlainNode) → Graph ns → (i : ℕ) → i < length ns → (m : Meaning) × (meaning_at ns i ≡ Some m)
+have_meanings : (ns : List PlainNode) → Graph ns → (i : ℕ) → i < length ns → (m : Meaning) × (meaning_at ns i ≡ Some m)
 have_meanings ns g i h =
     let (n, e) = node_within ns i h in let s : Stands ns i n = stands ns g i n e in (s.meaning, s.here)
 
@@ -100,18 +109,15 @@ same_node ns d n k j m s h e =
     let places : k.parts ≡ n.parts = same_places (meanings ns) d k.parts n.parts ps (s.found_parts ∙ ap Some parts) f in
     λ x. record { label = same x; parts = places x }
 
-contains_at : (ns : List PlainNode) (j : ℕ) (n : PlainNode) → slice_get ns j ≡ Some n → Contains ns n
-contains_at ns j n h = (j, slice_get_within ns j n h, get_or_from_slice_get ns j n n h)
-
 -- no new node has the meaning of an older place
-pub new_meaning : (ns : List PlainNode) → Graph ns → Differ (meanings ns) → (n : PlainNode) → ¬ Contains ns n → (j : ℕ) (m : Meaning) → meaning_at ns j ≡ Some m → meaning_of (meanings ns) n ≡ Some m → ⊥
+new_meaning : (ns : List PlainNode) → Graph ns → Differ (meanings ns) → (n : PlainNode) → ¬ Contains ns n → (j : ℕ) (m : Meaning) → meaning_at ns j ≡ Some m → meaning_of (meanings ns) n ≡ Some m → ⊥
 new_meaning ns g d n new j m h e =
     let b : j < length (meanings ns) = found_within (meanings ns) j m h in
     let (k, q) = node_within ns j (omega (arith, as_many ns)) in
     let same : k ≡ n = same_node ns d n k j m (stands ns g j k q) h e in
     new (contains_at ns j n (q ∙ ap Some same))
 
-pub differ : (ns : List PlainNode) → Graph ns → (i j : ℕ) (m : Meaning) → meaning_at ns i ≡ Some m → meaning_at ns j ≡ Some m → i ≡ j
+differ : (ns : List PlainNode) → Graph ns → (i j : ℕ) (m : Meaning) → meaning_at ns i ≡ Some m → meaning_at ns j ≡ Some m → i ≡ j
 differ _ empty i j m h k = absurd (cc)
 differ _ (grown ns n g f new) i j m h k =
     let h' : found (meanings ns ++ meaning_of (meanings ns) n ∷ []) i ≡ Some m = sym (ap (λ ms. found ms i) (meanings_grow ns n)) ∙ h in
@@ -120,3 +126,13 @@ differ _ (grown ns n g f new) i j m h k =
       inl a ↦ elim (found_split (meanings ns) (meaning_of (meanings ns) n) j m k') [ inl b ↦ differ ns g i j m a b | inr b ↦ absurd (new_meaning ns g (differ ns g) n new i m a b.1) ]
     | inr a ↦ elim (found_split (meanings ns) (meaning_of (meanings ns) n) j m k') [ inl b ↦ absurd (new_meaning ns g (differ ns g) n new j m b a.1) | inr b ↦ a.0 ∙ sym b.0 ]
     ]
+
+-- the same of graphs
+pub node_stands : (ns : List PlainNode) → IsGraph ns → (i : ℕ) (n : PlainNode) → slice_get ns i ≡ Some n → Stands ns i n
+node_stands ns g i n h = stands ns (by_nodes ns g) i n h
+
+pub places_differ : (ns : List PlainNode) → IsGraph ns → (i j : ℕ) (m : Meaning) → meaning_at ns i ≡ Some m → meaning_at ns j ≡ Some m → i ≡ j
+places_differ ns g i j m h k = differ ns (by_nodes ns g) i j m h k
+
+pub places_mean : (ns : List PlainNode) → IsGraph ns → (i : ℕ) → i < length ns → (m : Meaning) × (meaning_at ns i ≡ Some m)
+places_mean ns g i h = have_meanings ns (by_nodes ns g) i h

@@ -1,6 +1,6 @@
 //! Laws of numbered nodes, proved with no code.
 ghost use Rattle.smt_graph.specs.Examples.{NodeRows};
-ghost use Rattle.smt_graph.specs.Laws.{FittingNodesHaveMeanings, MeaningsDetermineParts, OlderMeaningsStay, PlacesDiffer, PlacesHaveMeanings, TheLastHasItsMeaning};
+ghost use Rattle.smt_graph.specs.Laws.{FittingNodesHaveMeanings, GraphsGrow, MeaningsDetermineParts, OlderMeaningsStay, PlacesDiffer, PlacesHaveMeanings, TheLastHasItsMeaning};
 
 /// What chosen nodes stand for, and nodes that do not fit, one for each reason.
 pub fn node_rows()
@@ -27,4 +27,9 @@ pub fn added_nodes_keep_meanings()
 /// What a node stands for determines its label and what its parts stand for.
 pub fn meanings_determine_parts()
     ensures { MeaningsDetermineParts }
+{}
+
+/// The list without nodes is a graph, and so is a graph with one node more that fits and is new.
+pub fn graphs_grow()
+    ensures { GraphsGrow }
 {}

@@ -1,9 +1,14 @@
 // Nodes that stand for different things, by number.
-ghost use Rattle.std.specs.Prelude.{◌≡◌, ◌↔◌, ◌∷◌, [], IfOk, IsTrue, OnOk, is_some, length, list_all, map, option_map, slice_get};
+ghost use Rattle.std.specs.Prelude.{◌≡◌, ◌↔◌, ◌<◌, ◌∷◌, [], All, IfOk, IfSome, IsTrue, OnOk, Some, is_some, length, map, option_and_then, option_map, slice_get};
+ghost use Rattle.std.specs.List.{list_all};
 ghost use Rattle.smt_graph.specs.Fits.{fits};
 ghost use Rattle.smt_graph.specs.Graphs.{Graph};
+ghost use Rattle.smt_graph.specs.Meanings.{all_found, meaning_at, meanings, stands_for};
+ghost use Rattle.smt_graph.specs.Parts.{label_in, parts_in};
 ghost use Rattle.smt_nodes.specs.Index.{IsIndex};
-ghost use Rattle.smt_nodes.specs.View.{place_of, plain_node};
+ghost use Rattle.smt_nodes.specs.Kinds.{is_option_at, is_option_of_at, is_set_at, is_term_at, is_type_at, is_type_of_at};
+ghost use Rattle.smt_nodes.specs.View.{place_of, places_of, plain_label, plain_node};
+ghost use Rattle.smt_term.specs.View.{plain_literal};
 
 use crate::id::NodeId;
 use crate::node::{Label, Node};
@@ -99,24 +104,29 @@ impl Interner {
     }
 
     // Whether a term's label fits its type and its other parts.
-    fn fits_term(&self, label: &Label, ty: NodeId, others: &[NodeId]) -> bool {
+    fn fits_term(&self, label: &Label, ty: NodeId, others: &[NodeId]) -> bool
+        ensures { result ≡ is_some (option_and_then (stands_for (plain_label label.now)) (all_found (meanings (nodes_of self.now)) (place_of ty ∷ places_of others.now))) }
+    {
         match label {
             Label::App(_) => self.is_type(ty) && self.are_terms(others),
-            Label::NoneOf => self.is_option(ty) && others.is_empty(),
-            Label::Prim(literal) => self.is_type_of(ty, literal) && others.is_empty(),
             Label::SetOf => self.is_set(ty) && self.are_terms(others) && self.ascend(others),
             Label::SomeOf => match others {
                 [inner] => self.is_option_of(ty, *inner),
                 _ => false,
             },
-            Label::Var(_) => self.is_type(ty) && others.is_empty(),
-            Label::TOption | Label::TBitvec(_) | Label::TBool | Label::TString | Label::TSet =>
-                false,
+            Label::NoneOf => others.is_empty() && self.is_option(ty),
+            Label::Prim(literal) => others.is_empty() && self.is_type_of(ty, literal),
+            Label::Var(_) => others.is_empty() && self.is_type(ty),
+            Label::TOption | Label::TBitvec(_) | Label::TBool | Label::TString | Label::TSet => {
+                false
+            }
         }
     }
 
     // The label of a number's node.
-    pub(crate) fn label(&self, id: NodeId) -> Option<&Label> {
+    pub(crate) fn label(&self, id: NodeId) -> Option<&Label>
+        ensures { option_map (λ label. plain_label label.now) result ≡ option_map label_in (meaning_in self.now id) }
+    {
         match self.node(id) {
             Some(node) => Some(&node.label),
             None => None,
@@ -124,37 +134,37 @@ impl Interner {
     }
 
     // The parts of a number's node, none where it has no node.
-    pub(crate) fn parts(&self, id: NodeId) -> &[NodeId] {
+    pub(crate) fn parts(&self, id: NodeId) -> &[NodeId]
+        ensures found { IfSome (meaning_in self.now id) (λ m. all_found (meanings (nodes_of self.now)) (places_of result.now) ≡ Some (parts_in m)) }
+        ensures earlier { All (λ part. part < place_of id) (places_of result.now) }
+    {
         match self.node(id) {
             Some(node) => node.parts.items(),
             None => &[],
         }
     }
 
-    fn is_type(&self, id: NodeId) -> bool {
+    fn is_type(&self, id: NodeId) -> bool
+        ensures { result ≡ is_type_at (meaning_in self.now id) }
+    {
         match self.label(id) {
-            Some(
-                Label::TOption | Label::TBitvec(_) | Label::TBool | Label::TString | Label::TSet,
-            ) => true,
-            _ => false,
+            Some(label) => label.is_type(),
+            None => false,
         }
     }
 
-    fn is_term(&self, id: NodeId) -> bool {
+    fn is_term(&self, id: NodeId) -> bool
+        ensures { result ≡ is_term_at (meaning_in self.now id) }
+    {
         match self.label(id) {
-            Some(
-                Label::App(_)
-                | Label::NoneOf
-                | Label::Prim(_)
-                | Label::SetOf
-                | Label::SomeOf
-                | Label::Var(_),
-            ) => true,
-            _ => false,
+            Some(label) => label.is_term(),
+            None => false,
         }
     }
 
-    fn are_terms(&self, ids: &[NodeId]) -> bool {
+    fn are_terms(&self, ids: &[NodeId]) -> bool
+        ensures { result ≡ list_all (λ place. is_term_at (meaning_at (nodes_of self.now) place)) (places_of ids.now) }
+    {
         for id in ids {
             if !self.is_term(*id) {
                 return false;
@@ -163,14 +173,18 @@ impl Interner {
         true
     }
 
-    fn is_option(&self, id: NodeId) -> bool {
+    fn is_option(&self, id: NodeId) -> bool
+        ensures { result ≡ is_option_at (meaning_in self.now id) }
+    {
         match self.label(id) {
             Some(Label::TOption) => true,
             _ => false,
         }
     }
 
-    fn is_set(&self, id: NodeId) -> bool {
+    fn is_set(&self, id: NodeId) -> bool
+        ensures { result ≡ is_set_at (meaning_in self.now id) }
+    {
         match self.label(id) {
             Some(Label::TSet) => true,
             _ => false,
@@ -178,18 +192,20 @@ impl Interner {
     }
 
     // Whether this is the literal's type.
-    fn is_type_of(&self, ty: NodeId, literal: &TermPrim) -> bool {
-        match (literal, self.label(ty)) {
-            (TermPrim::Bitvec(bits), Some(Label::TBitvec(width))) => bits.width() == *width,
-            (TermPrim::Bool(_), Some(Label::TBool)) => true,
-            (TermPrim::String(_), Some(Label::TString)) => true,
-            _ => false,
+    fn is_type_of(&self, ty: NodeId, literal: &TermPrim) -> bool
+        ensures { result ≡ is_type_of_at (plain_literal literal.now) (meaning_in self.now ty) }
+    {
+        match self.label(ty) {
+            Some(label) => label.is_type_of(literal),
+            None => false,
         }
     }
 
     // Whether the type is that of options of the term's.
-    fn is_option_of(&self, ty: NodeId, term: NodeId) -> bool {
-        if !(self.is_option(ty) && self.is_term(term)) {
+    fn is_option_of(&self, ty: NodeId, term: NodeId) -> bool
+        ensures { result ≡ is_option_of_at (meaning_in self.now ty) (meaning_in self.now term) }
+    {
+        if !self.is_option(ty) || !self.is_term(term) {
             return false;
         }
         match (self.parts(ty), self.parts(term)) {

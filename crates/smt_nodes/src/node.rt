@@ -1,6 +1,7 @@
 // Nodes and their labels.
 ghost use Rattle.std.specs.Prelude.{◌≡◌, IfOk};
 ghost use Rattle.smt_nodes.specs.View.{plain_label, plain_node};
+ghost use Rattle.smt_term.specs.View.{plain_literal};
 
 use crate::id::IdList;
 use smt_bits::Width;
@@ -43,6 +44,52 @@ pub struct Node {
 }
 
 impl Label {
+    ghost use Rattle.smt_nodes.specs.Kinds.{is_literal_label, is_term_label, is_type_label};
+
+    /// Whether it is that of a type.
+    pub(crate) fn is_type(&self) -> bool
+        ensures { result ≡ is_type_label (plain_label self.now) }
+    {
+        match self {
+            Label::TOption | Label::TBitvec(_) | Label::TBool | Label::TString | Label::TSet => {
+                true
+            }
+            Label::App(_)
+            | Label::NoneOf
+            | Label::Prim(_)
+            | Label::SetOf
+            | Label::SomeOf
+            | Label::Var(_) => false,
+        }
+    }
+
+    /// Whether it is that of a term.
+    pub(crate) fn is_term(&self) -> bool
+        ensures { result ≡ is_term_label (plain_label self.now) }
+    {
+        !self.is_type()
+    }
+
+    /// Whether it is that of the literal's type.
+    pub(crate) fn is_type_of(&self, literal: &TermPrim) -> bool
+        ensures { result ≡ is_literal_label (plain_literal literal.now) (plain_label self.now) }
+    {
+        match literal {
+            TermPrim::Bitvec(bits) => match self {
+                Label::TBitvec(width) => bits.width() == *width,
+                _ => false,
+            },
+            TermPrim::Bool(_) => match self {
+                Label::TBool => true,
+                _ => false,
+            },
+            TermPrim::String(_) => match self {
+                Label::TString => true,
+                _ => false,
+            },
+        }
+    }
+
     /// An equal label that shares its text.
     ///
     /// # Errors

@@ -16,14 +16,14 @@ pub(crate) enum Difference {
 }
 
 /// The first difference of two lists of numbers.
-pub(crate) fn difference(xs: &[NodeId], ys: &[NodeId]) -> Difference {
+pub(crate) fn first_difference(xs: &[NodeId], ys: &[NodeId]) -> Difference {
     match (xs, ys) {
         ([], []) => Difference::Nowhere,
         ([], [_, ..]) => Difference::Length(Ordering::Less),
         ([_, ..], []) => Difference::Length(Ordering::Greater),
         ([x, xs @ ..], [y, ys @ ..]) => {
             if *x == *y {
-                difference(xs, ys)
+                first_difference(xs, ys)
             } else {
                 Difference::At(*x, *y)
             }
@@ -62,13 +62,13 @@ impl Interner {
         let (xs, ys) = (self.parts(a), self.parts(b));
         match label {
             Label::App(_) | Label::SomeOf => match (xs, ys) {
-                ([t, xs @ ..], [u, ys @ ..]) => match difference(xs, ys) {
-                    Difference::Nowhere => difference(&[*t], &[*u]),
+                ([t, xs @ ..], [u, ys @ ..]) => match first_difference(xs, ys) {
+                    Difference::Nowhere => first_difference(&[*t], &[*u]),
                     other => other,
                 },
                 _ => Difference::Nowhere,
             },
-            _ => difference(xs, ys),
+            _ => first_difference(xs, ys),
         }
     }
 }
