@@ -136,3 +136,21 @@ places_differ ns g i j m h k = differ ns (by_nodes ns g) i j m h k
 
 pub places_mean : (ns : List PlainNode) → IsGraph ns → (i : ℕ) → i < length ns → (m : Meaning) × (meaning_at ns i ≡ Some m)
 places_mean ns g i h = have_meanings ns (by_nodes ns g) i h
+
+-- no node that is new has the meaning of a place
+pub no_older : (ns : List PlainNode) → IsGraph ns → (n : PlainNode) → ¬ Contains ns n → (j : ℕ) (m : Meaning) → meaning_at ns j ≡ Some m → meaning_of (meanings ns) n ≡ Some m → ⊥
+no_older ns g n new j m h e = new_meaning ns (by_nodes ns g) (places_differ ns g) n new j m h e
+
+none_is_not : (n : PlainNode) → None ≡ Some n → ⊥
+none_is_not n e = cc
+
+past : (ns : List PlainNode) (i : ℕ) → slice_get ns i ≡ None → (o : Option Meaning) → meaning_at ns i ≡ o → o ≡ None
+past ns i h None e = refl
+past ns i h (Some m) e =
+    let b : i < length (meanings ns) = found_within (meanings ns) i m e in
+    let (n, f) = node_within ns i (omega (arith, as_many ns)) in
+    absurd (none_is_not n (sym h ∙ f))
+
+-- where there is no node, nothing is meant
+pub nothing_past : (ns : List PlainNode) (i : ℕ) → slice_get ns i ≡ None → meaning_at ns i ≡ None
+nothing_past ns i h = past ns i h (meaning_at ns i) refl

@@ -1,0 +1,4 @@
+pub mod Fitting
+pub mod Labels
+pub mod Levels
+pub mod Tables

@@ -1,5 +1,5 @@
 -- What the nodes of an interner stand for.
-use Rattle.std.specs.Prelude.{◌≡◌, ◌⊎◌, ℕ, ◌+◌, List, map, None, Option, Some, length}
+use Rattle.std.specs.Prelude.{◌≡◌, ◌⊎◌, ◌++◌, List, [], ◌∷◌, map, Option, Some}
 use Rattle.smt_graph.specs.Meanings.{meaning_at, meaning_of, meanings}
 use Rattle.smt_graph.specs.Nodes.{Meaning, PlainNode}
 use Rattle.smt_nodes.specs.View.{place_of, plain_node}
@@ -21,8 +21,10 @@ meaning_for i n = meaning_of (meanings (nodes_of i)) n
 abbrev pub KeepsMeanings : Interner → Interner → Type 0
 KeepsMeanings i j = (id : NodeId) (m : Meaning) → meaning_in i id ≡ Some m → meaning_in j id ≡ Some m
 
--- there is one node more where none stood for this, and else none
+-- some number stands for what the node would stand for
+abbrev pub IsKnown : Interner → PlainNode → Type 0
+IsKnown i n = (id : NodeId) × (m : Meaning) × (meaning_in i id ≡ Some m) × (meaning_for i n ≡ Some m)
+
+-- there is one node more, this one, where no number stood for what it stands for; and else none
 abbrev pub GrowsFor : Interner → Interner → PlainNode → Type 0
-GrowsFor i j n =
-    ((length (nodes_of j) ≡ length (nodes_of i) + 1) × ((id : NodeId) → meaning_in i id ≡ meaning_for i n → meaning_for i n ≡ None))
-    ⊎ ((length (nodes_of j) ≡ length (nodes_of i)) × ((id : NodeId) × (meaning_in i id ≡ meaning_for i n)))
+GrowsFor i j n = ((nodes_of j ≡ nodes_of i ++ n ∷ []) × ¬ IsKnown i n) ⊎ ((nodes_of j ≡ nodes_of i) × IsKnown i n)

@@ -1,4 +1,5 @@
 pub mod Index
 pub mod Interned
 pub mod Kinds
+pub mod Order
 pub mod View

@@ -1,8 +1,10 @@
 // Nodes that stand for different things, by number.
-ghost use Rattle.std.specs.Prelude.{◌≡◌, ◌↔◌, ◌<◌, ◌∷◌, [], All, IfOk, IfSome, IsTrue, OnOk, Some, is_some, length, map, option_and_then, option_map, slice_get};
-ghost use Rattle.std.specs.List.{list_all};
-ghost use Rattle.smt_graph.specs.Fits.{fits};
-ghost use Rattle.smt_graph.specs.Graphs.{Graph};
+ghost use Rattle.std.specs.Prelude.{ℕ, List, ◌≡◌, ◌↔◌, ◌<◌, ◌∷◌, [], IfOk, IfSome, IsTrue, OnOk, Some, is_some, length, map, option_and_then, option_map, slice_get};
+ghost use Rattle.std.specs.List.{AllByRecursion, list_all};
+ghost use Rattle.smt_graph.specs.Fits.{applies_no_function, fits};
+ghost use Rattle.smt_graph.specs.Nodes.{ApplicationLabel, LiteralLabel, NoneLabel, SetOfLabel, SomeLabel, VariableLabel};
+ghost use Rattle.smt_meaning.specs.Plain.{PlainOp};
+ghost use Rattle.smt_graph.specs.Graphs.{IsGraph};
 ghost use Rattle.smt_graph.specs.Meanings.{all_found, meaning_at, meanings, stands_for};
 ghost use Rattle.smt_graph.specs.Parts.{label_in, parts_in};
 ghost use Rattle.smt_nodes.specs.Index.{IsIndex};
@@ -22,7 +24,7 @@ use std::collections::BTreeMap;
 pub struct Interner {
     pub(crate) alloc: Global,
     table: Table,
-    ghost graph: { Graph (map plain_node table.nodes.items) },
+    ghost graph: { IsGraph (map plain_node table.nodes.items) },
     ghost index: { IsIndex table.nodes.items table.ids },
 }
 
@@ -108,18 +110,64 @@ impl Interner {
         ensures { result ≡ is_some (option_and_then (stands_for (plain_label label.now)) (all_found (meanings (nodes_of self.now)) (place_of ty ∷ places_of others.now))) }
     {
         match label {
-            Label::App(_) => self.is_type(ty) && self.are_terms(others),
-            Label::SetOf => self.is_set(ty) && self.are_terms(others) && self.ascend(others),
-            Label::SomeOf => match others {
-                [inner] => self.is_option_of(ty, *inner),
-                _ => false,
-            },
-            Label::NoneOf => others.is_empty() && self.is_option(ty),
-            Label::Prim(literal) => others.is_empty() && self.is_type_of(ty, literal),
-            Label::Var(_) => others.is_empty() && self.is_type(ty),
+            Label::App(_) => self.fits_application(ty, others),
+            Label::SetOf => self.fits_set(ty, others),
+            Label::SomeOf => self.fits_some(ty, others),
+            Label::NoneOf => self.fits_none(ty, others),
+            Label::Prim(literal) => self.fits_literal(literal, ty, others),
+            Label::Var(_) => self.fits_variable(ty, others),
             Label::TOption | Label::TBitvec(_) | Label::TBool | Label::TString | Label::TSet => {
                 false
             }
+        }
+    }
+
+    fn fits_application(&self, ty: NodeId, others: &[NodeId]) -> bool
+        ensures { (o : PlainOp) → IsTrue (applies_no_function (ApplicationLabel o)) → result ≡ is_some (option_and_then (stands_for (ApplicationLabel o)) (all_found (meanings (nodes_of self.now)) (place_of ty ∷ places_of others.now))) }
+    {
+        self.is_type(ty) && self.are_terms(others)
+    }
+
+    fn fits_set(&self, ty: NodeId, others: &[NodeId]) -> bool
+        ensures { result ≡ is_some (option_and_then (stands_for SetOfLabel) (all_found (meanings (nodes_of self.now)) (place_of ty ∷ places_of others.now))) }
+    {
+        self.is_set(ty) && self.are_terms(others) && self.ascend(others)
+    }
+
+    fn fits_some(&self, ty: NodeId, others: &[NodeId]) -> bool
+        ensures { result ≡ is_some (option_and_then (stands_for SomeLabel) (all_found (meanings (nodes_of self.now)) (place_of ty ∷ places_of others.now))) }
+    {
+        match others {
+            [] => false,
+            [inner] => self.is_option_of(ty, *inner),
+            [_, _, ..] => false,
+        }
+    }
+
+    fn fits_none(&self, ty: NodeId, others: &[NodeId]) -> bool
+        ensures { result ≡ is_some (option_and_then (stands_for NoneLabel) (all_found (meanings (nodes_of self.now)) (place_of ty ∷ places_of others.now))) }
+    {
+        match others {
+            [] => self.is_option(ty),
+            [_, ..] => false,
+        }
+    }
+
+    fn fits_literal(&self, literal: &TermPrim, ty: NodeId, others: &[NodeId]) -> bool
+        ensures { result ≡ is_some (option_and_then (stands_for (LiteralLabel (plain_literal literal.now))) (all_found (meanings (nodes_of self.now)) (place_of ty ∷ places_of others.now))) }
+    {
+        match others {
+            [] => self.is_type_of(ty, literal),
+            [_, ..] => false,
+        }
+    }
+
+    fn fits_variable(&self, ty: NodeId, others: &[NodeId]) -> bool
+        ensures { (id : List ℕ) → result ≡ is_some (option_and_then (stands_for (VariableLabel id)) (all_found (meanings (nodes_of self.now)) (place_of ty ∷ places_of others.now))) }
+    {
+        match others {
+            [] => self.is_type(ty),
+            [_, ..] => false,
         }
     }
 
@@ -136,7 +184,7 @@ impl Interner {
     // The parts of a number's node, none where it has no node.
     pub(crate) fn parts(&self, id: NodeId) -> &[NodeId]
         ensures found { IfSome (meaning_in self.now id) (λ m. all_found (meanings (nodes_of self.now)) (places_of result.now) ≡ Some (parts_in m)) }
-        ensures earlier { All (λ part. part < place_of id) (places_of result.now) }
+        ensures earlier { AllByRecursion (λ part. part < place_of id) (places_of result.now) }
     {
         match self.node(id) {
             Some(node) => node.parts.items(),
