@@ -1,5 +1,5 @@
 -- When labels of the program fit what stands at the places of their parts.
-use Rattle.std.proofs.Common.{◌≡◌, ℕ, Bool, true, false, List, [], ◌∷◌, get_or, map, refl, sym, ap, ◌∙◌, subst}
+use Rattle.std.proofs.Common.{◌≡◌, ℕ, ◌<◌, ◌≤◌, Bool, true, false, List, [], ◌∷◌, get_or, length, arith, map, refl, sym, ap, ◌∙◌, subst}
 use Rattle.std.specs.Bool.{one_answer}
 use Rattle.std.specs.Cmp.{unsigned_Decides}
 use Rattle.std.specs.List.{list_all}
@@ -204,3 +204,44 @@ some_many_at (Some m) (Some n) (Some k) (Some ms) = refl
 
 pub some_many : (ms : List (Option Meaning)) (i j k : ℕ) (is : List ℕ) → false ≡ is_some (option_and_then (stands_for SomeLabel) (all_found ms (i ∷ j ∷ k ∷ is)))
 some_many ms i j k is = some_many_at (found ms i) (found ms j) (found ms k) (all_found ms is)
+
+-- ---- the same by lists of numbers
+abbrev Fits : PlainLabel → List (Option Meaning) → ℕ → List NodeId → Bool
+Fits l ms i ids = is_some (option_and_then (stands_for l) (all_found ms (i ∷ places_of ids)))
+
+pub none_of_none : (ms : List (Option Meaning)) (i : ℕ) (ids : List NodeId) → length ids < 1 → is_option_at (found ms i) ≡ Fits NoneLabel ms i ids
+none_of_none ms i [] h = none_fits ms i
+none_of_none ms i (x ∷ ids) h = absurd (omega arith)
+
+pub none_of_more : (ms : List (Option Meaning)) (i : ℕ) (ids : List NodeId) → 1 ≤ length ids → false ≡ Fits NoneLabel ms i ids
+none_of_more ms i [] h = absurd (omega arith)
+none_of_more ms i (x ∷ ids) h = none_many ms i (place_of x) (places_of ids)
+
+pub literal_of_more : (ms : List (Option Meaning)) (l : PlainLiteral) (i : ℕ) (ids : List NodeId) → 1 ≤ length ids → false ≡ Fits (LiteralLabel l) ms i ids
+literal_of_more ms l i [] h = absurd (omega arith)
+literal_of_more ms l i (x ∷ ids) h = literal_many ms l i (place_of x) (places_of ids)
+
+pub literal_of_none : (ms : List (Option Meaning)) (l : PlainLiteral) (i : ℕ) (ids : List NodeId) → length ids < 1 → is_type_of_at l (found ms i) ≡ Fits (LiteralLabel l) ms i ids
+literal_of_none ms l i [] h = literal_fits ms l i
+literal_of_none ms l i (x ∷ ids) h = absurd (omega arith)
+
+pub variable_of_none : (ms : List (Option Meaning)) (id : List ℕ) (i : ℕ) (ids : List NodeId) → length ids < 1 → is_type_at (found ms i) ≡ Fits (VariableLabel id) ms i ids
+variable_of_none ms id i [] h = variable_fits ms id i
+variable_of_none ms id i (x ∷ ids) h = absurd (omega arith)
+
+pub variable_of_more : (ms : List (Option Meaning)) (id : List ℕ) (i : ℕ) (ids : List NodeId) → 1 ≤ length ids → false ≡ Fits (VariableLabel id) ms i ids
+variable_of_more ms id i [] h = absurd (omega arith)
+variable_of_more ms id i (x ∷ ids) h = variable_many ms id i (place_of x) (places_of ids)
+
+pub some_of_more : (ms : List (Option Meaning)) (i : ℕ) (ids : List NodeId) → 2 ≤ length ids → false ≡ Fits SomeLabel ms i ids
+some_of_more ms i [] h = absurd (omega arith)
+some_of_more ms i (x ∷ []) h = absurd (omega arith)
+some_of_more ms i (x ∷ y ∷ ids) h = some_many ms i (place_of x) (place_of y) (places_of ids)
+
+-- an application, where its first part is a type
+pub app_then : (ms : List (Option Meaning)) (o : PlainOp) → applies_no_function (ApplicationLabel o) ≡ true → (i : ℕ) (is : List ℕ) → is_type_at (found ms i) ≡ true → list_all (λ i. is_term_at (found ms i)) is ≡ is_some (option_and_then (stands_for (ApplicationLabel o)) (all_found ms (i ∷ is)))
+app_then ms o n i is h = sym (ap (λ b. b && list_all (λ i. is_term_at (found ms i)) is) h) ∙ app_fits ms o n i is
+
+-- a set, where its first part is a type of sets
+pub set_then : (ms : List (Option Meaning)) (i : ℕ) (is : List ℕ) (c : Bool) → IfSome (option_and_then terms_in (all_found ms is)) (λ ts. c ≡ ascends term_cmp ts) → is_set_at (found ms i) ≡ true → list_all (λ i. is_term_at (found ms i)) is ≡ true → c ≡ is_some (option_and_then (stands_for SetOfLabel) (all_found ms (i ∷ is)))
+set_then ms i is c e h k = sym (ap (λ b. b && list_all (λ i. is_term_at (found ms i)) is && c) h ∙ ap (λ b. b && c) k) ∙ set_fits ms i is c e

@@ -1,8 +1,9 @@
 // The order of types and of terms, by their nodes.
 ghost use Rattle.std.specs.Prelude.{◌≡◌, IfSome, IsTrue, Some};
-ghost use Rattle.smt_graph.specs.Nodes.{Meaning, SomeLabel};
+ghost use Rattle.smt_graph.specs.Nodes.{Meaning, SomeLabel, TermMeaning};
+ghost use Rattle.smt_meaning.specs.Plain.{PlainTerm};
 ghost use Rattle.smt_meaning.specs.TermOrder.{term_cmp};
-ghost use Rattle.smt_meaning.specs.ValueOrder.{ascends};
+ghost use Rattle.smt_meaning.specs.ValueOrder.{ascends, is_below};
 ghost use Rattle.smt_graph.specs.Meanings.{meanings};
 ghost use Rattle.smt_nodes.specs.Kinds.{terms_at};
 ghost use Rattle.smt_nodes.specs.Order.{are_alike, difference_of, meaning_cmp, parts_apart};
@@ -87,12 +88,19 @@ impl Interner {
     pub(crate) fn ascend(&self, ids: &[NodeId]) -> bool
         ensures { IfSome (terms_at (meanings (nodes_of self.now)) (places_of ids.now)) (λ terms. result ≡ ascends term_cmp terms) }
     {
-        match ids {
-            [first, others @ ..] => match others {
-                [next, ..] => self.compare(*first, *next).is_lt() && self.ascend(others),
-                [] => true,
-            },
-            [] => true,
+        match ids.split_first() {
+            Some((first, others)) => self.is_below(*first, others) && self.ascend(others),
+            None => true,
+        }
+    }
+
+    // Whether a term is less than the first of the others, where there is one.
+    fn is_below(&self, term: NodeId, others: &[NodeId]) -> bool
+        ensures { (t : PlainTerm) → meaning_in self.now term ≡ Some (TermMeaning t) → IfSome (terms_at (meanings (nodes_of self.now)) (places_of others.now)) (λ terms. result ≡ is_below term_cmp t terms) }
+    {
+        match others.split_first() {
+            Some((next, _)) => self.compare(term, *next).is_lt(),
+            None => true,
         }
     }
 
