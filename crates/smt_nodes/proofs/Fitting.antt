@@ -3,23 +3,28 @@ use Rattle.std.proofs.Common.{◌≡◌, ℕ, ◌<◌, ◌≤◌, Bool, true, fa
 use Rattle.std.specs.Bool.{one_answer}
 use Rattle.std.specs.Cmp.{unsigned_Decides}
 use Rattle.std.specs.List.{list_all}
-use Rattle.std.specs.Prelude.{◌&&◌, Decides, IfSome, Option, Some, None, eqb, is_some, option_and_then, option_map, unwrap_or}
+use Rattle.std.specs.Prelude.{◌&&◌, ◌↔◌, Decides, IsTrue, IfSome, Option, Some, None, eqb, is_some, option_and_then, option_map, unwrap_or}
 use Rattle.smt_meaning.specs.Plain.{PlainType, OptionType, SetType, PlainLiteral, PlainOp, PlainTerm}
 use Rattle.smt_meaning.specs.TermOrder.{term_cmp}
 use Rattle.smt_meaning.specs.Types.{inner_type, is_set, literal_type, type_eq, type_of}
 use Rattle.smt_meaning.specs.ValueOrder.{ascends}
 use Rattle.smt_meaning.proofs.TermTotal.{types_decided}
-use Rattle.smt_graph.specs.Fits.{applies_no_function, fits_parts, is_term}
+use Rattle.smt_graph.specs.Fits.{applies_no_function, fits, fits_parts, is_term}
 use Rattle.smt_graph.specs.Graphs.{IsGraph}
 use Rattle.smt_graph.specs.Meanings.{all_found, found, meaning_at, meanings, stands_for, terms_in}
 use Rattle.smt_graph.specs.Nodes.{PlainLabel, OptionLabel, BitVecLabel, BoolLabel, StringLabel, SetLabel, ApplicationLabel, NoneLabel, LiteralLabel, SetOfLabel, SomeLabel, VariableLabel, PlainNode, Meaning, TypeMeaning, FunctionMeaning, TermMeaning}
 use Rattle.smt_graph.specs.Parts.{parts_in, term_parts}
 use Rattle.smt_graph.proofs.Distinct.{places_differ}
-use Rattle.smt_graph.proofs.Fitting.{are_terms, parts_fit}
+use Rattle.smt_graph.proofs.Fitting.{are_terms, fitting, parts_fit}
 use Rattle.smt_graph.proofs.Places.{map_back, some_same, then_back}
-use Rattle.smt_nodes.specs.Kinds.{is_option_at, is_option_of_at, is_set_at, is_term_at, is_type_at, is_type_of_at}
-use Rattle.smt_nodes.specs.View.{place_of, places_of, plain_label}
+use Rattle.smt_nodes.specs.Kinds.{ascend_at, is_option_at, is_option_of_at, is_set_at, is_term_at, is_type_at, is_type_of_at, terms_at}
+use Rattle.smt_nodes.specs.View.{ids_of, place_of, places_of, plain_label, plain_node}
+use Rattle.smt_nodes.specs.declared.node.Label.{Label}
+use Rattle.smt_nodes.specs.declared.node.Node.{Node}
 use Rattle.smt_nodes.specs.declared.id.NodeId.{NodeId}
+use Rattle.smt_term.specs.View.{plain_op}
+use Rattle.smt_term.specs.declared.op.Op.{Op}
+use Rattle.smt_term.specs.declared.op.Op.TheVariants.{And}
 
 -- ---- what is found first
 pub first_found : (ms : List (Option Meaning)) (xs : List NodeId) (d : NodeId) (m : Meaning) (ps : List Meaning) → all_found ms (places_of xs) ≡ Some (m ∷ ps) → found ms (place_of (get_or xs 0 d)) ≡ Some m
@@ -87,28 +92,48 @@ pub app_fits : (ms : List (Option Meaning)) (o : PlainOp) → applies_no_functio
     → (is_type_at (found ms i) && list_all (λ i. is_term_at (found ms i)) is) ≡ is_some (option_and_then (stands_for (ApplicationLabel o)) (all_found ms (i ∷ is)))
 app_fits ms o n i is = app_at o n (found ms i) (all_found ms is) (list_all (λ i. is_term_at (found ms i)) is) (listed ms is)
 
-set_tests : (s k c : Bool) (z : Option (List PlainTerm)) → is_some z ≡ k → IfSome z (λ ts. c ≡ ascends term_cmp ts) → (s && k && c) ≡ (k && s && true && ascends term_cmp (unwrap_or z []) && true)
-set_tests true k c None h e = subst (λ k. (true && k && c) ≡ (k && true && true && true && true)) h refl
-set_tests false k c None h e = subst (λ k. false ≡ (k && false && true && true && true)) h refl
-set_tests true k c (Some ts) h e = subst (λ k. (true && k && c) ≡ (k && true && true && ascends term_cmp ts && true)) h (e ∙ fourth_of_five (ascends term_cmp ts))
-set_tests false k c (Some ts) h e = subst (λ k. false ≡ (k && false && true && ascends term_cmp ts && true)) h refl
+-- a set, by whether its elements ascend
+set_tests : (s k : Bool) (z : Option (List PlainTerm)) → is_some z ≡ k → (s && ascend_at z) ≡ (k && s && true && ascends term_cmp (unwrap_or z []) && true)
+set_tests true k None h = subst (λ k. false ≡ (k && true && true && true && true)) h refl
+set_tests false k None h = subst (λ k. false ≡ (k && false && true && true && true)) h refl
+set_tests true k (Some ts) h = subst (λ k. ascends term_cmp ts ≡ (k && true && true && ascends term_cmp ts && true)) h (fourth_of_five (ascends term_cmp ts))
+set_tests false k (Some ts) h = subst (λ k. false ≡ (k && false && true && ascends term_cmp ts && true)) h refl
 
-none_holds : (s c : Bool) → (s && false && c) ≡ false
-none_holds true c = refl
-none_holds false c = refl
+none_holds : (s : Bool) → (s && false) ≡ false
+none_holds true = refl
+none_holds false = refl
 
-set_at : (x : Option Meaning) (y : Option (List Meaning)) (b c : Bool) → b ≡ elim y [ None ↦ false | Some ps ↦ list_all is_term ps ] → IfSome (option_and_then terms_in y) (λ ts. c ≡ ascends term_cmp ts)
-    → (is_set_at x && b && c) ≡ is_some (option_and_then (stands_for SetOfLabel) (option_and_then (λ m. option_map (λ rest. m ∷ rest) y) x))
-set_at None y b c h e = refl
-set_at (Some (TypeMeaning t)) None b c h e = ap (λ b. is_set t && b && c) h ∙ none_holds (is_set t) c
-set_at (Some (TypeMeaning t)) (Some ps) b c h e =
-    ap (λ b. is_set t && b && c) h ∙ (set_tests (is_set t) (list_all is_term ps) c (terms_in ps) (are_terms ps) e ∙ sym (parts_fit SetOfLabel (TypeMeaning t ∷ ps)))
-set_at (Some m) None b c h e = refl
-set_at (Some m) (Some ps) b c h e = refl
+set_at : (x : Option Meaning) (y : Option (List Meaning)) → (is_set_at x && ascend_at (option_and_then terms_in y)) ≡ is_some (option_and_then (stands_for SetOfLabel) (option_and_then (λ m. option_map (λ rest. m ∷ rest) y) x))
+set_at None y = refl
+set_at (Some (TypeMeaning t)) None = none_holds (is_set t)
+set_at (Some (TypeMeaning t)) (Some ps) = set_tests (is_set t) (list_all is_term ps) (terms_in ps) (are_terms ps) ∙ sym (parts_fit SetOfLabel (TypeMeaning t ∷ ps))
+set_at (Some m) None = refl
+set_at (Some m) (Some ps) = refl
 
-pub set_fits : (ms : List (Option Meaning)) (i : ℕ) (is : List ℕ) (c : Bool) → IfSome (option_and_then terms_in (all_found ms is)) (λ ts. c ≡ ascends term_cmp ts)
-    → (is_set_at (found ms i) && list_all (λ i. is_term_at (found ms i)) is && c) ≡ is_some (option_and_then (stands_for SetOfLabel) (all_found ms (i ∷ is)))
-set_fits ms i is c e = set_at (found ms i) (all_found ms is) (list_all (λ i. is_term_at (found ms i)) is) c (listed ms is) e
+pub set_fits : (ms : List (Option Meaning)) (i : ℕ) (is : List ℕ) → (is_set_at (found ms i) && ascend_at (terms_at ms is)) ≡ is_some (option_and_then (stands_for SetOfLabel) (all_found ms (i ∷ is)))
+set_fits ms i is = set_at (found ms i) (all_found ms is)
+
+-- the terms at some places
+some_terms : (y : Option (List Meaning)) → is_some (option_and_then terms_in y) ≡ elim y [ None ↦ false | Some ps ↦ list_all is_term ps ]
+some_terms None = refl
+some_terms (Some ps) = are_terms ps
+
+terms_listed : (ms : List (Option Meaning)) (is : List ℕ) → is_some (terms_at ms is) ≡ list_all (λ i. is_term_at (found ms i)) is
+terms_listed ms is = some_terms (all_found ms is) ∙ sym (listed ms is)
+
+ascend_by : (z : Option (List PlainTerm)) (k c : Bool) → is_some z ≡ k → k ≡ true → IfSome z (λ ts. c ≡ ascends term_cmp ts) → c ≡ ascend_at z
+ascend_by None k c h e f = absurd (cc)
+ascend_by (Some ts) k c h e f = f
+
+pub elements_then : (ms : List (Option Meaning)) (is : List ℕ) (c : Bool) → list_all (λ i. is_term_at (found ms i)) is ≡ true → IfSome (terms_at ms is) (λ ts. c ≡ ascends term_cmp ts) → c ≡ ascend_at (terms_at ms is)
+elements_then ms is c e f = ascend_by (terms_at ms is) (list_all (λ i. is_term_at (found ms i)) is) c (terms_listed ms is) e f
+
+not_there : (z : Option (List PlainTerm)) (k : Bool) → is_some z ≡ k → k ≡ false → false ≡ ascend_at z
+not_there None k h e = refl
+not_there (Some ts) k h e = absurd (cc)
+
+pub elements_else : (ms : List (Option Meaning)) (is : List ℕ) → list_all (λ i. is_term_at (found ms i)) is ≡ false → false ≡ ascend_at (terms_at ms is)
+elements_else ms is e = not_there (terms_at ms is) (list_all (λ i. is_term_at (found ms i)) is) (terms_listed ms is) e
 
 -- ---- labels with a type alone
 none_at : (x : Option Meaning) → is_option_at x ≡ is_some (option_and_then (stands_for NoneLabel) (option_and_then (λ m. Some (m ∷ [])) x))
@@ -206,42 +231,138 @@ pub some_many : (ms : List (Option Meaning)) (i j k : ℕ) (is : List ℕ) → f
 some_many ms i j k is = some_many_at (found ms i) (found ms j) (found ms k) (all_found ms is)
 
 -- ---- the same by lists of numbers
-abbrev Fits : PlainLabel → List (Option Meaning) → ℕ → List NodeId → Bool
-Fits l ms i ids = is_some (option_and_then (stands_for l) (all_found ms (i ∷ places_of ids)))
+abbrev pub Fits : PlainLabel → List (Option Meaning) → List NodeId → Bool
+Fits l ms ids = is_some (option_and_then (stands_for l) (all_found ms (places_of ids)))
 
-pub none_of_none : (ms : List (Option Meaning)) (i : ℕ) (ids : List NodeId) → length ids < 1 → is_option_at (found ms i) ≡ Fits NoneLabel ms i ids
-none_of_none ms i [] h = none_fits ms i
-none_of_none ms i (x ∷ ids) h = absurd (omega arith)
+-- what holds of a list with one number, and of longer ones
+one_of : (l : PlainLabel) (ms : List (Option Meaning)) (test : Option Meaning → Bool) → ((i : ℕ) → test (found ms i) ≡ is_some (option_and_then (stands_for l) (all_found ms (i ∷ [])))) → (ids : List NodeId) (d : NodeId) → 1 ≤ length ids → length ids < 2 → test (found ms (place_of (get_or ids 0 d))) ≡ Fits l ms ids
+one_of l ms test f [] d h k = absurd (omega arith)
+one_of l ms test f (x ∷ []) d h k = f (place_of x)
+one_of l ms test f (x ∷ y ∷ ids) d h k = absurd (omega arith)
 
-pub none_of_more : (ms : List (Option Meaning)) (i : ℕ) (ids : List NodeId) → 1 ≤ length ids → false ≡ Fits NoneLabel ms i ids
-none_of_more ms i [] h = absurd (omega arith)
-none_of_more ms i (x ∷ ids) h = none_many ms i (place_of x) (places_of ids)
+more_of : (l : PlainLabel) → Single l → (ms : List (Option Meaning)) (ids : List NodeId) → 2 ≤ length ids → false ≡ Fits l ms ids
+more_of l s ms [] h = absurd (omega arith)
+more_of l s ms (x ∷ []) h = absurd (omega arith)
+more_of l s ms (x ∷ y ∷ ids) h = single l s ms (place_of x) (place_of y) (places_of ids)
 
-pub literal_of_more : (ms : List (Option Meaning)) (l : PlainLiteral) (i : ℕ) (ids : List NodeId) → 1 ≤ length ids → false ≡ Fits (LiteralLabel l) ms i ids
-literal_of_more ms l i [] h = absurd (omega arith)
-literal_of_more ms l i (x ∷ ids) h = literal_many ms l i (place_of x) (places_of ids)
+pub none_of_one : (ms : List (Option Meaning)) (ids : List NodeId) (d : NodeId) → 1 ≤ length ids → length ids < 2 → is_option_at (found ms (place_of (get_or ids 0 d))) ≡ Fits NoneLabel ms ids
+none_of_one ms ids d h k = one_of NoneLabel ms is_option_at (none_fits ms) ids d h k
 
-pub literal_of_none : (ms : List (Option Meaning)) (l : PlainLiteral) (i : ℕ) (ids : List NodeId) → length ids < 1 → is_type_of_at l (found ms i) ≡ Fits (LiteralLabel l) ms i ids
-literal_of_none ms l i [] h = literal_fits ms l i
-literal_of_none ms l i (x ∷ ids) h = absurd (omega arith)
+pub none_of_more : (ms : List (Option Meaning)) (ids : List NodeId) → 2 ≤ length ids → false ≡ Fits NoneLabel ms ids
+none_of_more ms ids h = more_of NoneLabel none_single ms ids h
 
-pub variable_of_none : (ms : List (Option Meaning)) (id : List ℕ) (i : ℕ) (ids : List NodeId) → length ids < 1 → is_type_at (found ms i) ≡ Fits (VariableLabel id) ms i ids
-variable_of_none ms id i [] h = variable_fits ms id i
-variable_of_none ms id i (x ∷ ids) h = absurd (omega arith)
+pub literal_of_one : (l : PlainLiteral) (ms : List (Option Meaning)) (ids : List NodeId) (d : NodeId) → 1 ≤ length ids → length ids < 2 → is_type_of_at l (found ms (place_of (get_or ids 0 d))) ≡ Fits (LiteralLabel l) ms ids
+literal_of_one l ms ids d h k = one_of (LiteralLabel l) ms (is_type_of_at l) (literal_fits ms l) ids d h k
 
-pub variable_of_more : (ms : List (Option Meaning)) (id : List ℕ) (i : ℕ) (ids : List NodeId) → 1 ≤ length ids → false ≡ Fits (VariableLabel id) ms i ids
-variable_of_more ms id i [] h = absurd (omega arith)
-variable_of_more ms id i (x ∷ ids) h = variable_many ms id i (place_of x) (places_of ids)
+pub literal_of_more : (l : PlainLiteral) (ms : List (Option Meaning)) (ids : List NodeId) → 2 ≤ length ids → false ≡ Fits (LiteralLabel l) ms ids
+literal_of_more l ms ids h = more_of (LiteralLabel l) (literal_single l) ms ids h
 
-pub some_of_more : (ms : List (Option Meaning)) (i : ℕ) (ids : List NodeId) → 2 ≤ length ids → false ≡ Fits SomeLabel ms i ids
-some_of_more ms i [] h = absurd (omega arith)
-some_of_more ms i (x ∷ []) h = absurd (omega arith)
-some_of_more ms i (x ∷ y ∷ ids) h = some_many ms i (place_of x) (place_of y) (places_of ids)
+pub variable_of_one : (id : List ℕ) (ms : List (Option Meaning)) (ids : List NodeId) (d : NodeId) → 1 ≤ length ids → length ids < 2 → is_type_at (found ms (place_of (get_or ids 0 d))) ≡ Fits (VariableLabel id) ms ids
+variable_of_one id ms ids d h k = one_of (VariableLabel id) ms is_type_at (variable_fits ms id) ids d h k
 
--- an application, where its first part is a type
+pub variable_of_more : (id : List ℕ) (ms : List (Option Meaning)) (ids : List NodeId) → 2 ≤ length ids → false ≡ Fits (VariableLabel id) ms ids
+variable_of_more id ms ids h = more_of (VariableLabel id) (variable_single id) ms ids h
+
+-- types around a type
+option_at : (x : Option Meaning) → is_type_at x ≡ is_some (option_and_then (stands_for OptionLabel) (option_and_then (λ m. Some (m ∷ [])) x))
+option_at None = refl
+option_at (Some (TypeMeaning t)) = refl
+option_at (Some m) = refl
+
+setting_at : (x : Option Meaning) → is_type_at x ≡ is_some (option_and_then (stands_for SetLabel) (option_and_then (λ m. Some (m ∷ [])) x))
+setting_at None = refl
+setting_at (Some (TypeMeaning t)) = refl
+setting_at (Some m) = refl
+
+option_single : Single OptionLabel
+option_single (TypeMeaning t) n ms = refl
+option_single m n ms = refl
+
+setting_single : Single SetLabel
+setting_single (TypeMeaning t) n ms = refl
+setting_single m n ms = refl
+
+pub option_of_one : (ms : List (Option Meaning)) (ids : List NodeId) (d : NodeId) → 1 ≤ length ids → length ids < 2 → is_type_at (found ms (place_of (get_or ids 0 d))) ≡ Fits OptionLabel ms ids
+option_of_one ms ids d h k = one_of OptionLabel ms is_type_at (λ i. option_at (found ms i)) ids d h k
+
+pub option_of_more : (ms : List (Option Meaning)) (ids : List NodeId) → 2 ≤ length ids → false ≡ Fits OptionLabel ms ids
+option_of_more ms ids h = more_of OptionLabel option_single ms ids h
+
+pub set_of_one : (ms : List (Option Meaning)) (ids : List NodeId) (d : NodeId) → 1 ≤ length ids → length ids < 2 → is_type_at (found ms (place_of (get_or ids 0 d))) ≡ Fits SetLabel ms ids
+set_of_one ms ids d h k = one_of SetLabel ms is_type_at (λ i. setting_at (found ms i)) ids d h k
+
+pub set_of_more : (ms : List (Option Meaning)) (ids : List NodeId) → 2 ≤ length ids → false ≡ Fits SetLabel ms ids
+set_of_more ms ids h = more_of SetLabel setting_single ms ids h
+
+-- some
+pub some_of_one : (ms : List (Option Meaning)) (ids : List NodeId) → 1 ≤ length ids → length ids < 2 → false ≡ Fits SomeLabel ms ids
+some_of_one ms [] h k = absurd (omega arith)
+some_of_one ms (x ∷ []) h k = some_few ms (place_of x)
+some_of_one ms (x ∷ y ∷ ids) h k = absurd (omega arith)
+
+pub some_of_two : (ms : List (Option Meaning)) (ids : List NodeId) (d e : NodeId) → 2 ≤ length ids → length ids < 3 → is_option_of_at (found ms (place_of (get_or ids 0 d))) (found ms (place_of (get_or ids 1 e))) ≡ Fits SomeLabel ms ids
+some_of_two ms [] d e h k = absurd (omega arith)
+some_of_two ms (x ∷ []) d e h k = absurd (omega arith)
+some_of_two ms (x ∷ y ∷ []) d e h k = some_fits ms (place_of x) (place_of y)
+some_of_two ms (x ∷ y ∷ z ∷ ids) d e h k = absurd (omega arith)
+
+pub some_of_more : (ms : List (Option Meaning)) (ids : List NodeId) → 3 ≤ length ids → false ≡ Fits SomeLabel ms ids
+some_of_more ms [] h = absurd (omega arith)
+some_of_more ms (x ∷ []) h = absurd (omega arith)
+some_of_more ms (x ∷ y ∷ []) h = absurd (omega arith)
+some_of_more ms (x ∷ y ∷ z ∷ ids) h = some_many ms (place_of x) (place_of y) (place_of z) (places_of ids)
+
+-- types without parts
+abbrev pub stands_alone : PlainLabel → Bool
+stands_alone (BitVecLabel n) = true
+stands_alone BoolLabel = true
+stands_alone StringLabel = true
+stands_alone l = false
+
+alone_none : (l : PlainLabel) → stands_alone l ≡ true → (ms : List (Option Meaning)) → true ≡ is_some (option_and_then (stands_for l) (all_found ms []))
+alone_none (BitVecLabel n) h ms = refl
+alone_none BoolLabel h ms = refl
+alone_none StringLabel h ms = refl
+alone_none l h ms = cc
+
+alone_at : (l : PlainLabel) → stands_alone l ≡ true → (x : Option Meaning) (y : Option (List Meaning)) → false ≡ is_some (option_and_then (stands_for l) (option_and_then (λ m. option_map (λ rest. m ∷ rest) y) x))
+alone_at l h None y = refl
+alone_at l h (Some m) None = refl
+alone_at (BitVecLabel n) h (Some (TypeMeaning t)) (Some ms) = refl
+alone_at BoolLabel h (Some (TypeMeaning t)) (Some ms) = refl
+alone_at StringLabel h (Some (TypeMeaning t)) (Some ms) = refl
+alone_at (BitVecLabel n) h (Some m) (Some ms) = refl
+alone_at BoolLabel h (Some m) (Some ms) = refl
+alone_at StringLabel h (Some m) (Some ms) = refl
+alone_at l h (Some m) (Some ms) = cc
+
+pub alone_of_none : (l : PlainLabel) → stands_alone l ≡ true → (ms : List (Option Meaning)) (ids : List NodeId) → length ids < 1 → true ≡ Fits l ms ids
+alone_of_none l h ms [] k = alone_none l h ms
+alone_of_none l h ms (x ∷ ids) k = absurd (omega arith)
+
+pub alone_of_more : (l : PlainLabel) → stands_alone l ≡ true → (ms : List (Option Meaning)) (ids : List NodeId) → 1 ≤ length ids → false ≡ Fits l ms ids
+alone_of_more l h ms [] k = absurd (omega arith)
+alone_of_more l h ms (x ∷ ids) k = alone_at l h (found ms (place_of x)) (all_found ms (places_of ids))
+
+-- an application and a set, where the first part is a type
 pub app_then : (ms : List (Option Meaning)) (o : PlainOp) → applies_no_function (ApplicationLabel o) ≡ true → (i : ℕ) (is : List ℕ) → is_type_at (found ms i) ≡ true → list_all (λ i. is_term_at (found ms i)) is ≡ is_some (option_and_then (stands_for (ApplicationLabel o)) (all_found ms (i ∷ is)))
 app_then ms o n i is h = sym (ap (λ b. b && list_all (λ i. is_term_at (found ms i)) is) h) ∙ app_fits ms o n i is
 
--- a set, where its first part is a type of sets
-pub set_then : (ms : List (Option Meaning)) (i : ℕ) (is : List ℕ) (c : Bool) → IfSome (option_and_then terms_in (all_found ms is)) (λ ts. c ≡ ascends term_cmp ts) → is_set_at (found ms i) ≡ true → list_all (λ i. is_term_at (found ms i)) is ≡ true → c ≡ is_some (option_and_then (stands_for SetOfLabel) (all_found ms (i ∷ is)))
-set_then ms i is c e h k = sym (ap (λ b. b && list_all (λ i. is_term_at (found ms i)) is && c) h ∙ ap (λ b. b && c) k) ∙ set_fits ms i is c e
+pub app_else : (ms : List (Option Meaning)) (o : PlainOp) → applies_no_function (ApplicationLabel o) ≡ true → (i : ℕ) (is : List ℕ) → is_type_at (found ms i) ≡ false → false ≡ is_some (option_and_then (stands_for (ApplicationLabel o)) (all_found ms (i ∷ is)))
+app_else ms o n i is h = sym (ap (λ b. b && list_all (λ i. is_term_at (found ms i)) is) h) ∙ app_fits ms o n i is
+
+pub set_then : (ms : List (Option Meaning)) (i : ℕ) (is : List ℕ) → is_set_at (found ms i) ≡ true → ascend_at (terms_at ms is) ≡ is_some (option_and_then (stands_for SetOfLabel) (all_found ms (i ∷ is)))
+set_then ms i is h = sym (ap (λ b. b && ascend_at (terms_at ms is)) h) ∙ set_fits ms i is
+
+pub set_else : (ms : List (Option Meaning)) (i : ℕ) (is : List ℕ) → is_set_at (found ms i) ≡ false → false ≡ is_some (option_and_then (stands_for SetOfLabel) (all_found ms (i ∷ is)))
+set_else ms i is h = sym (ap (λ b. b && ascend_at (terms_at ms is)) h) ∙ set_fits ms i is
+
+-- no operator of the program is an uninterpreted function
+pub no_function : (o : Op) → applies_no_function (ApplicationLabel (plain_op o)) ≡ true
+no_function And = refl
+no_function o = refl
+
+-- ---- nodes
+pub fits_by : (ns : List PlainNode) (n : Node) (l : Label) (ids : List NodeId) (r : Bool) → n.label ≡ l → ids ≡ ids_of n.parts → r ≡ Fits (plain_label l) (meanings ns) ids → r ≡ fits ns (plain_node n)
+fits_by ns n l ids r e d h =
+    h ∙ (ap (Fits (plain_label l) (meanings ns)) d ∙ (ap (λ l. Fits (plain_label l) (meanings ns) (ids_of n.parts)) (sym e) ∙ fitting ns (plain_node n)))

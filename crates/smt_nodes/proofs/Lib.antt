@@ -1,3 +1,4 @@
+pub mod Ascending
 pub mod Comparing
 pub mod Fitting
 pub mod Labels

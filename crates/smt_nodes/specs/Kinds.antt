@@ -1,6 +1,8 @@
 -- What stands at a place, by its kind and its type.
 use Rattle.std.specs.Prelude.{ℕ, Bool, true, false, List, Option, Some, None, is_some, nat_eq, option_and_then}
 use Rattle.smt_meaning.specs.Plain.{OptionType, PlainLiteral, BitVecLiteral, BoolLiteral, StringLiteral, PlainTerm}
+use Rattle.smt_meaning.specs.TermOrder.{term_cmp}
+use Rattle.smt_meaning.specs.ValueOrder.{ascends}
 use Rattle.smt_meaning.specs.Types.{inner_type, is_set, literal_type, type_eq, type_of}
 use Rattle.smt_graph.specs.Meanings.{all_found, terms_in}
 use Rattle.smt_graph.specs.Nodes.{PlainLabel, OptionLabel, BitVecLabel, BoolLabel, EntityLabel, ExtensionLabel, StringLabel, RecordLabel, SetLabel, FunctionLabel, Meaning, TypeMeaning, TermMeaning}
@@ -65,3 +67,8 @@ is_option_of_at m n = false
 -- the terms at these places, none where one of them has no term
 abbrev pub terms_at : List (Option Meaning) → List ℕ → Option (List PlainTerm)
 terms_at ms is = option_and_then terms_in (all_found ms is)
+
+-- there are terms, and they ascend
+abbrev pub ascend_at : Option (List PlainTerm) → Bool
+ascend_at None = false
+ascend_at (Some ts) = ascends term_cmp ts

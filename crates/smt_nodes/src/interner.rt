@@ -2,13 +2,13 @@
 ghost use Rattle.std.specs.Prelude.{ℕ, List, ◌≡◌, ◌↔◌, ◌<◌, ◌∷◌, [], IfOk, IfSome, IsTrue, OnOk, Some, is_some, length, map, option_and_then, option_map, slice_get};
 ghost use Rattle.std.specs.List.{AllByRecursion, list_all};
 ghost use Rattle.smt_graph.specs.Fits.{applies_no_function, fits};
-ghost use Rattle.smt_graph.specs.Nodes.{ApplicationLabel, LiteralLabel, NoneLabel, SetOfLabel, SomeLabel, VariableLabel};
+ghost use Rattle.smt_graph.specs.Nodes.{ApplicationLabel, BitVecLabel, BoolLabel, LiteralLabel, NoneLabel, OptionLabel, SetLabel, SetOfLabel, SomeLabel, StringLabel, VariableLabel};
 ghost use Rattle.smt_meaning.specs.Plain.{PlainOp};
 ghost use Rattle.smt_graph.specs.Graphs.{IsGraph};
 ghost use Rattle.smt_graph.specs.Meanings.{all_found, meaning_at, meanings, stands_for};
 ghost use Rattle.smt_graph.specs.Parts.{label_in, parts_in};
 ghost use Rattle.smt_nodes.specs.Index.{IsIndex};
-ghost use Rattle.smt_nodes.specs.Kinds.{is_option_at, is_option_of_at, is_set_at, is_term_at, is_type_at, is_type_of_at};
+ghost use Rattle.smt_nodes.specs.Kinds.{ascend_at, is_option_at, is_option_of_at, is_set_at, is_term_at, is_type_at, is_type_of_at, terms_at};
 ghost use Rattle.smt_nodes.specs.View.{place_of, places_of, plain_label, plain_node};
 ghost use Rattle.smt_term.specs.View.{plain_literal};
 
@@ -93,82 +93,108 @@ impl Interner {
     {
         let parts = node.parts.items();
         match &node.label {
-            Label::TBitvec(_) | Label::TBool | Label::TString => parts.is_empty(),
-            Label::TOption | Label::TSet => match parts {
-                [inner] => self.is_type(*inner),
-                _ => false,
-            },
-            label => match parts {
-                [ty, others @ ..] => self.fits_term(label, *ty, others),
-                [] => false,
-            },
+            Label::TOption => self.fits_around_type(parts),
+            Label::TBitvec(_) => self.fits_alone(parts),
+            Label::TBool => self.fits_alone(parts),
+            Label::TString => self.fits_alone(parts),
+            Label::TSet => self.fits_around_type(parts),
+            Label::App(_) => self.fits_application(parts),
+            Label::NoneOf => self.fits_none(parts),
+            Label::Prim(literal) => self.fits_literal(literal, parts),
+            Label::SetOf => self.fits_set(parts),
+            Label::SomeOf => self.fits_some(parts),
+            Label::Var(_) => self.fits_variable(parts),
         }
     }
 
-    // Whether a term's label fits its type and its other parts.
-    fn fits_term(&self, label: &Label, ty: NodeId, others: &[NodeId]) -> bool
-        ensures { result ≡ is_some (option_and_then (stands_for (plain_label label.now)) (all_found (meanings (nodes_of self.now)) (place_of ty ∷ places_of others.now))) }
+    // Whether these are the parts of a type that has none.
+    fn fits_alone(&self, parts: &[NodeId]) -> bool
+        ensures bits { (n : ℕ) → result ≡ is_some (option_and_then (stands_for (BitVecLabel n)) (all_found (meanings (nodes_of self.now)) (places_of parts.now))) }
+        ensures truths { result ≡ is_some (option_and_then (stands_for BoolLabel) (all_found (meanings (nodes_of self.now)) (places_of parts.now))) }
+        ensures texts { result ≡ is_some (option_and_then (stands_for StringLabel) (all_found (meanings (nodes_of self.now)) (places_of parts.now))) }
     {
-        match label {
-            Label::App(_) => self.fits_application(ty, others),
-            Label::SetOf => self.fits_set(ty, others),
-            Label::SomeOf => self.fits_some(ty, others),
-            Label::NoneOf => self.fits_none(ty, others),
-            Label::Prim(literal) => self.fits_literal(literal, ty, others),
-            Label::Var(_) => self.fits_variable(ty, others),
-            Label::TOption | Label::TBitvec(_) | Label::TBool | Label::TString | Label::TSet => {
-                false
-            }
+        match parts {
+            [] => true,
+            [_, ..] => false,
         }
     }
 
-    fn fits_application(&self, ty: NodeId, others: &[NodeId]) -> bool
-        ensures { (o : PlainOp) → IsTrue (applies_no_function (ApplicationLabel o)) → result ≡ is_some (option_and_then (stands_for (ApplicationLabel o)) (all_found (meanings (nodes_of self.now)) (place_of ty ∷ places_of others.now))) }
+    // Whether these are the parts of a type that has a type inside it.
+    fn fits_around_type(&self, parts: &[NodeId]) -> bool
+        ensures option { result ≡ is_some (option_and_then (stands_for OptionLabel) (all_found (meanings (nodes_of self.now)) (places_of parts.now))) }
+        ensures set { result ≡ is_some (option_and_then (stands_for SetLabel) (all_found (meanings (nodes_of self.now)) (places_of parts.now))) }
     {
-        self.is_type(ty) && self.are_terms(others)
-    }
-
-    fn fits_set(&self, ty: NodeId, others: &[NodeId]) -> bool
-        ensures { result ≡ is_some (option_and_then (stands_for SetOfLabel) (all_found (meanings (nodes_of self.now)) (place_of ty ∷ places_of others.now))) }
-    {
-        self.is_set(ty) && self.are_terms(others) && self.ascend(others)
-    }
-
-    fn fits_some(&self, ty: NodeId, others: &[NodeId]) -> bool
-        ensures { result ≡ is_some (option_and_then (stands_for SomeLabel) (all_found (meanings (nodes_of self.now)) (place_of ty ∷ places_of others.now))) }
-    {
-        match others {
+        match parts {
             [] => false,
-            [inner] => self.is_option_of(ty, *inner),
+            [inner] => self.is_type(*inner),
             [_, _, ..] => false,
         }
     }
 
-    fn fits_none(&self, ty: NodeId, others: &[NodeId]) -> bool
-        ensures { result ≡ is_some (option_and_then (stands_for NoneLabel) (all_found (meanings (nodes_of self.now)) (place_of ty ∷ places_of others.now))) }
+    fn fits_application(&self, parts: &[NodeId]) -> bool
+        ensures { (o : PlainOp) → IsTrue (applies_no_function (ApplicationLabel o)) → result ≡ is_some (option_and_then (stands_for (ApplicationLabel o)) (all_found (meanings (nodes_of self.now)) (places_of parts.now))) }
     {
-        match others {
-            [] => self.is_option(ty),
-            [_, ..] => false,
+        match parts.split_first() {
+            Some((ty, args)) => self.is_type(*ty) && self.are_terms(args),
+            None => false,
         }
     }
 
-    fn fits_literal(&self, literal: &TermPrim, ty: NodeId, others: &[NodeId]) -> bool
-        ensures { result ≡ is_some (option_and_then (stands_for (LiteralLabel (plain_literal literal.now))) (all_found (meanings (nodes_of self.now)) (place_of ty ∷ places_of others.now))) }
+    fn fits_set(&self, parts: &[NodeId]) -> bool
+        ensures { result ≡ is_some (option_and_then (stands_for SetOfLabel) (all_found (meanings (nodes_of self.now)) (places_of parts.now))) }
     {
-        match others {
-            [] => self.is_type_of(ty, literal),
-            [_, ..] => false,
+        match parts.split_first() {
+            Some((ty, elements)) => self.is_set(*ty) && self.are_elements(elements),
+            None => false,
         }
     }
 
-    fn fits_variable(&self, ty: NodeId, others: &[NodeId]) -> bool
-        ensures { (id : List ℕ) → result ≡ is_some (option_and_then (stands_for (VariableLabel id)) (all_found (meanings (nodes_of self.now)) (place_of ty ∷ places_of others.now))) }
+    fn fits_some(&self, parts: &[NodeId]) -> bool
+        ensures { result ≡ is_some (option_and_then (stands_for SomeLabel) (all_found (meanings (nodes_of self.now)) (places_of parts.now))) }
     {
-        match others {
-            [] => self.is_type(ty),
-            [_, ..] => false,
+        match parts {
+            [] => false,
+            [_] => false,
+            [ty, inner] => self.is_option_of(*ty, *inner),
+            [_, _, _, ..] => false,
         }
+    }
+
+    fn fits_none(&self, parts: &[NodeId]) -> bool
+        ensures { result ≡ is_some (option_and_then (stands_for NoneLabel) (all_found (meanings (nodes_of self.now)) (places_of parts.now))) }
+    {
+        match parts {
+            [] => false,
+            [ty] => self.is_option(*ty),
+            [_, _, ..] => false,
+        }
+    }
+
+    fn fits_literal(&self, literal: &TermPrim, parts: &[NodeId]) -> bool
+        ensures { result ≡ is_some (option_and_then (stands_for (LiteralLabel (plain_literal literal.now))) (all_found (meanings (nodes_of self.now)) (places_of parts.now))) }
+    {
+        match parts {
+            [] => false,
+            [ty] => self.is_type_of(*ty, literal),
+            [_, _, ..] => false,
+        }
+    }
+
+    fn fits_variable(&self, parts: &[NodeId]) -> bool
+        ensures { (id : List ℕ) → result ≡ is_some (option_and_then (stands_for (VariableLabel id)) (all_found (meanings (nodes_of self.now)) (places_of parts.now))) }
+    {
+        match parts {
+            [] => false,
+            [ty] => self.is_type(*ty),
+            [_, _, ..] => false,
+        }
+    }
+
+    // Whether these are terms in ascending order.
+    fn are_elements(&self, ids: &[NodeId]) -> bool
+        ensures { result ≡ ascend_at (terms_at (meanings (nodes_of self.now)) (places_of ids.now)) }
+    {
+        self.are_terms(ids) && self.ascend(ids)
     }
 
     // The label of a number's node.
