@@ -28,3 +28,7 @@ IsKnown i n = (id : NodeId) × (m : Meaning) × (meaning_in i id ≡ Some m) × 
 -- there is one node more, this one, where no number stood for what it stands for; and else none
 abbrev pub GrowsFor : Interner → Interner → PlainNode → Type 0
 GrowsFor i j n = ((nodes_of j ≡ nodes_of i ++ n ∷ []) × ¬ IsKnown i n) ⊎ ((nodes_of j ≡ nodes_of i) × IsKnown i n)
+
+-- the number stands for something
+abbrev pub IsMeant : Interner → NodeId → Type 0
+IsMeant i id = (m : Meaning) × (meaning_in i id ≡ Some m)
