@@ -1,5 +1,7 @@
 -- What nodes of terms stand for, by what their parts stand for.
-use Rattle.std.proofs.Common.{◌≡◌, ℕ, List, [], ◌∷◌, ◌++◌, map, true, refl, sym, ap, ◌∙◌, subst}
+use Rattle.std.proofs.Common.{◌≡◌, ℕ, ◌+◌, ◌<◌, List, [], ◌∷◌, ◌++◌, add-one, get_or, length, map, take, true, refl, sym, ap, ◌∙◌, subst}
+use Rattle.std.proofs.Math.Seq.{take-suc}
+use Rattle.std.proofs.lemmas.List.{map-append}
 use Rattle.std.specs.Bool.{then_some}
 use Rattle.std.specs.Prelude.{Bool, Result, Ok, Err, IfOk, Option, Some, None, option_and_then, option_map}
 use Rattle.smt_meaning.specs.Plain.{PlainType, OptionType, SetType, PlainLiteral, PlainTerm, Application, NoneTerm, LiteralTerm, SetTerm, SomeTerm, VariableTerm, terms}
@@ -11,7 +13,8 @@ use Rattle.smt_graph.specs.Meanings.{all_found, found, meaning_at, meanings, sta
 use Rattle.smt_graph.specs.Nodes.{NoneLabel, LiteralLabel, SetOfLabel, SomeLabel, VariableLabel, PlainNode, Meaning, TypeMeaning, TermMeaning}
 use Rattle.smt_graph.proofs.Places.{map_back, some_same, test_back, then_back}
 use Rattle.smt_graph.proofs.Whole.{typed_back}
-use Rattle.smt_term.specs.View.{plain_op}
+use Rattle.smt_term.specs.View.{plain_op, plain_term}
+use Rattle.smt_term.specs.declared.term.Term.{Term}
 use Rattle.smt_term.specs.declared.op.Op.{Op}
 use Rattle.smt_term.specs.declared.op.Op.TheVariants.{And}
 use Rattle.smt_nodes.specs.View.{place_of, places_of, plain_label}
@@ -84,3 +87,13 @@ set_means t ts m h =
     let made : then_some (ascends term_cmp ts) (SetTerm t (terms ts)) ≡ Some u = sym (ap (option_and_then (λ ts. then_some (ascends term_cmp ts) (SetTerm t (terms ts)))) (are_terms_in ts)) ∙ e in
     let (b, c) = test_back (ascends term_cmp ts) (SetTerm t (terms ts)) u made in
     ap (λ u. Some (TermMeaning u)) c ∙ ap Some k
+
+-- one number more, for the next term
+pub pushed : (ns : List PlainNode) (parts more : List NodeId) (part : NodeId) (m : Meaning) (ts : List Term) (i : ℕ) (t : Term) → more ≡ parts ++ part ∷ []
+    → all_found (meanings ns) (places_of parts) ≡ Some (m ∷ map TermMeaning (map plain_term (take i ts))) → meaning_at ns (place_of part) ≡ Some (TermMeaning (plain_term t)) → i < length ts → t ≡ get_or ts i t
+    → all_found (meanings ns) (places_of more) ≡ Some (m ∷ map TermMeaning (map plain_term (take (i + 1) ts)))
+pushed ns parts more part m ts i t e h k b s =
+    let one : take (i + 1) ts ≡ take i ts ++ t ∷ [] = ap (λ n. take n ts) (add-one i) ∙ (take-suc ts i t b ∙ ap (λ t. take i ts ++ t ∷ []) (sym s)) in
+    let terms : map TermMeaning (map plain_term (take (i + 1) ts)) ≡ map TermMeaning (map plain_term (take i ts)) ++ TermMeaning (plain_term t) ∷ [] =
+      ap (λ l. map TermMeaning (map plain_term l)) one ∙ (ap (map TermMeaning) (map-append plain_term (take i ts) (t ∷ [])) ∙ map-append TermMeaning (map plain_term (take i ts)) (plain_term t ∷ [])) in
+    ap (all_found (meanings ns)) (ap places_of e ∙ map-append place_of parts (part ∷ [])) ∙ (more_found (meanings ns) (places_of parts) _ (place_of part) (TermMeaning (plain_term t)) h k ∙ ap (λ l. Some (m ∷ l)) (sym terms))
