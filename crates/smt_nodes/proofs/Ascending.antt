@@ -1,5 +1,5 @@
 -- Terms at places that ascend.
-use Rattle.std.proofs.Common.{◌≡◌, ℕ, Bool, true, false, List, [], ◌∷◌, refl, sym, ap, ◌∙◌, subst}
+use Rattle.std.proofs.Common.{◌≡◌, Bool, true, false, List, ◌∷◌, refl, sym, ap, ◌∙◌, subst}
 use Rattle.std.specs.Ordering.{is_lt}
 use Rattle.std.specs.Prelude.{◌&&◌, IfSome, Option, Some, None, option_and_then, option_map}
 use Rattle.std.specs.declared.cmp.Ordering.{Ordering}
@@ -7,7 +7,7 @@ use Rattle.smt_meaning.specs.Plain.{PlainTerm}
 use Rattle.smt_meaning.specs.TermOrder.{term_cmp}
 use Rattle.smt_meaning.specs.ValueOrder.{ascends, is_below}
 use Rattle.smt_graph.specs.Meanings.{all_found, found, terms_in}
-use Rattle.smt_graph.specs.Nodes.{Meaning, TypeMeaning, FunctionMeaning, TermMeaning}
+use Rattle.smt_graph.specs.Nodes.{Meaning, TermMeaning}
 use Rattle.smt_nodes.specs.Kinds.{terms_at}
 use Rattle.smt_nodes.specs.View.{place_of, places_of}
 use Rattle.smt_nodes.specs.declared.id.NodeId.{NodeId}

@@ -5,7 +5,7 @@ use Rattle.std.specs.Cmp.{Equal-is, unsigned_Decides}
 use Rattle.std.specs.Cmp.Lexicographic.{slice_cmp}
 use Rattle.std.specs.List.{AllByRecursion}
 use Rattle.std.specs.Ordering.{is_eq, nat_cmp, ordering_then}
-use Rattle.std.specs.Prelude.{◌&&◌, IsTrue, Option, Some, None, eqb, nat_eq, option_and_then, option_map, slice_get}
+use Rattle.std.specs.Prelude.{◌&&◌, IsTrue, Option, Some, eqb, option_and_then, option_map, slice_get}
 use Rattle.std.specs.declared.cmp.Ordering.{Ordering}
 use Rattle.std.specs.declared.cmp.Ordering.TheVariants.{Less, Equal, Greater}
 use Rattle.smt_meaning.specs.Plain.{PlainType, OptionType, BitVecType, BoolType, StringType, SetType, PlainLiteral, PlainOp, UufOp, PlainTerm, Application, NoneTerm, LiteralTerm, SetTerm, SomeTerm, VariableTerm, terms}
@@ -201,8 +201,8 @@ one_step ns g x y xs ys m n o true e p q a s =
     subst (λ c. O (ordering_then c o)) (sym lev) s
 one_step ns g x y xs ys m n o false e p q a s =
     let apart : ¬ (meaning_cmp m n ≡ Equal) = λ h. (let same : m ≡ n = level_same m n a h in
-        let at : place_of x ≡ place_of y = places_differ ns g (place_of x) (place_of y) m p (q ∙ ap Some (sym same)) in
-        false≢true (sym e ∙ (unsigned_Decides (place_of x) (place_of y)).1 at)) in
+    let at : place_of x ≡ place_of y = places_differ ns g (place_of x) (place_of y) m p (q ∙ ap Some (sym same)) in
+    false≢true (sym e ∙ (unsigned_Decides (place_of x) (place_of y)).1 at)) in
     let O : Ordering → Type 0 = Outcome (meanings ns) (At x y) in
     subst O (then_first (meaning_cmp m n) o apart) (differing x y m n p q a (meaning_cmp m n) refl apart)
 
@@ -250,7 +250,7 @@ type_last ns g l r (x ∷ xs) (y ∷ ys) t u ps qs p q a b =
     let one : all_found (meanings ns) (places_of (x ∷ [])) ≡ Some (t ∷ []) = ap (option_and_then (λ m. Some (m ∷ []))) (e ∙ ap Some mt) in
     let two : all_found (meanings ns) (places_of (y ∷ [])) ≡ Some (u ∷ []) = ap (option_and_then (λ m. Some (m ∷ []))) (e' ∙ ap Some nu) in
     let whole : Outcome (meanings ns) (or_else (difference_of xs ys) (difference_of (x ∷ []) (y ∷ []))) (ordering_then (slice_cmp meaning_cmp ps qs) (slice_cmp meaning_cmp (t ∷ []) (u ∷ []))) =
-      or_outcome (meanings ns) (difference_of xs ys) (difference_of (x ∷ []) (y ∷ [])) _ _ (outcome ns g xs ys ps qs (f ∙ ap Some rest) (f' ∙ ap Some rest') b) (outcome ns g (x ∷ []) (y ∷ []) (t ∷ []) (u ∷ []) one two (ap (λ b. b && true) a)) in
+    or_outcome (meanings ns) (difference_of xs ys) (difference_of (x ∷ []) (y ∷ [])) _ _ (outcome ns g xs ys ps qs (f ∙ ap Some rest) (f' ∙ ap Some rest') b) (outcome ns g (x ∷ []) (y ∷ []) (t ∷ []) (u ∷ []) one two (ap (λ b. b && true) a)) in
     subst (λ d. Outcome (meanings ns) d (ordering_then (slice_cmp meaning_cmp ps qs) (slice_cmp meaning_cmp (t ∷ []) (u ∷ [])))) (sym (r xs ys x y)) whole
 
 all_alike : (ts us : List PlainTerm) → alike_lists (map TermMeaning ts) (map TermMeaning us) ≡ true
@@ -294,9 +294,9 @@ compared ns g i j first second a b m n e f h =
     record {
       apart = λ d. then_first (label_cmp l k) (parts_cmp l s.parts r.parts) d ∙ sym both;
       same = λ d.
-        let O : Ordering → Type 0 = Outcome (meanings ns) (parts_apart l (ids_of first.parts) (ids_of second.parts)) in
-        let whole : meaning_cmp m n ≡ parts_cmp l s.parts r.parts = both ∙ ap (λ c. ordering_then c (parts_cmp l s.parts r.parts)) d in
-        subst O (sym whole) (parts_outcome ns g l k s.parts r.parts m n one two (label_same first.label second.label d) (ids_of first.parts) (ids_of second.parts) s.found_parts r.found_parts);
+          let O : Ordering → Type 0 = Outcome (meanings ns) (parts_apart l (ids_of first.parts) (ids_of second.parts)) in
+          let whole : meaning_cmp m n ≡ parts_cmp l s.parts r.parts = both ∙ ap (λ c. ordering_then c (parts_cmp l s.parts r.parts)) d in
+          subst O (sym whole) (parts_outcome ns g l k s.parts r.parts m n one two (label_same first.label second.label d) (ids_of first.parts) (ids_of second.parts) s.found_parts r.found_parts);
     }
 
 pub at_nowhere : (ms : List (Option Meaning)) (d : Difference) (o : Ordering) → Outcome ms d o → Nowhere ≡ d → Equal ≡ o

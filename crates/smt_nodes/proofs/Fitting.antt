@@ -1,22 +1,22 @@
 -- When labels of the program fit what stands at the places of their parts.
-use Rattle.std.proofs.Common.{◌≡◌, ℕ, ◌<◌, ◌≤◌, Bool, true, false, List, [], ◌∷◌, get_or, length, arith, map, refl, sym, ap, ◌∙◌, subst}
+use Rattle.std.proofs.Common.{◌≡◌, ℕ, ◌<◌, ◌≤◌, Bool, true, false, List, [], ◌∷◌, get_or, length, arith, refl, sym, ap, ◌∙◌, subst}
 use Rattle.std.specs.Bool.{one_answer}
 use Rattle.std.specs.Cmp.{unsigned_Decides}
 use Rattle.std.specs.List.{list_all}
-use Rattle.std.specs.Prelude.{◌&&◌, ◌↔◌, Decides, IsTrue, IfSome, Option, Some, None, eqb, is_some, option_and_then, option_map, unwrap_or}
-use Rattle.smt_meaning.specs.Plain.{PlainType, OptionType, SetType, PlainLiteral, PlainOp, PlainTerm}
+use Rattle.std.specs.Prelude.{◌&&◌, Decides, IfSome, Option, Some, None, eqb, is_some, option_and_then, option_map, unwrap_or}
+use Rattle.smt_meaning.specs.Plain.{OptionType, PlainLiteral, PlainOp, PlainTerm}
 use Rattle.smt_meaning.specs.TermOrder.{term_cmp}
 use Rattle.smt_meaning.specs.Types.{inner_type, is_set, literal_type, type_eq, type_of}
 use Rattle.smt_meaning.specs.ValueOrder.{ascends}
 use Rattle.smt_meaning.proofs.TermTotal.{types_decided}
-use Rattle.smt_graph.specs.Fits.{applies_no_function, fits, fits_parts, is_term}
+use Rattle.smt_graph.specs.Fits.{applies_no_function, fits, is_term}
 use Rattle.smt_graph.specs.Graphs.{IsGraph}
 use Rattle.smt_graph.specs.Meanings.{all_found, found, meaning_at, meanings, stands_for, terms_in}
-use Rattle.smt_graph.specs.Nodes.{PlainLabel, OptionLabel, BitVecLabel, BoolLabel, StringLabel, SetLabel, ApplicationLabel, NoneLabel, LiteralLabel, SetOfLabel, SomeLabel, VariableLabel, PlainNode, Meaning, TypeMeaning, FunctionMeaning, TermMeaning}
+use Rattle.smt_graph.specs.Nodes.{PlainLabel, OptionLabel, BitVecLabel, BoolLabel, StringLabel, SetLabel, ApplicationLabel, NoneLabel, LiteralLabel, SetOfLabel, SomeLabel, VariableLabel, PlainNode, Meaning, TypeMeaning, TermMeaning}
 use Rattle.smt_graph.specs.Parts.{parts_in, term_parts}
 use Rattle.smt_graph.proofs.Distinct.{places_differ}
 use Rattle.smt_graph.proofs.Fitting.{are_terms, fitting, parts_fit}
-use Rattle.smt_graph.proofs.Places.{map_back, some_same, then_back}
+use Rattle.smt_graph.proofs.Places.{map_back, then_back}
 use Rattle.smt_nodes.specs.Kinds.{ascend_at, is_option_at, is_option_of_at, is_set_at, is_term_at, is_type_at, is_type_of_at, terms_at}
 use Rattle.smt_nodes.specs.View.{ids_of, place_of, places_of, plain_label, plain_node}
 use Rattle.smt_nodes.specs.declared.node.Label.{Label}
@@ -49,11 +49,12 @@ option_held ns g (Some (TypeMeaning (OptionType t))) (Some (TermMeaning u)) xs y
     let b : meaning_at ns j ≡ Some (TypeMeaning (type_of u)) = first_found (meanings ns) ys d (TypeMeaning (type_of u)) (term_parts u) f in
     one_answer (eqb i j) (type_eq (OptionType (type_of u)) (OptionType t)) (eqb_decides i j) (
       λ q. (let same : OptionType (type_of u) ≡ OptionType t = (types_decided (OptionType (type_of u)) (OptionType t)).0 q in
-        let inner : type_of u ≡ t = cc in
-        places_differ ns g i j (TypeMeaning t) a (b ∙ ap (λ v. Some (TypeMeaning v)) inner)),
+          let inner : type_of u ≡ t = cc in
+          places_differ ns g i j (TypeMeaning t) a (b ∙ ap (λ v. Some (TypeMeaning v)) inner)),
       λ q. (let same : Some (TypeMeaning t) ≡ Some (TypeMeaning (type_of u)) = sym a ∙ (ap (meaning_at ns) q ∙ b) in
-        let inner : type_of u ≡ t = cc in
-        (types_decided (OptionType (type_of u)) (OptionType t)).1 (ap OptionType inner)))
+          let inner : type_of u ≡ t = cc in
+          (types_decided (OptionType (type_of u)) (OptionType t)).1 (ap OptionType inner)),
+    )
 option_held ns g o p xs ys d h k e f = absurd (cc)
 
 -- ---- labels at what is found; the tests of a label, where some hold

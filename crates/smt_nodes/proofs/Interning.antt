@@ -1,15 +1,15 @@
 -- What nodes of terms stand for, by what their parts stand for.
-use Rattle.std.proofs.Common.{◌≡◌, ℕ, ◌+◌, ◌<◌, List, [], ◌∷◌, ◌++◌, add-one, get_or, length, map, take, true, refl, sym, ap, ◌∙◌, subst}
+use Rattle.std.proofs.Common.{◌≡◌, ℕ, ◌+◌, ◌<◌, List, [], ◌∷◌, ◌++◌, add-one, get_or, length, map, take, true, refl, sym, ap, ◌∙◌}
 use Rattle.std.proofs.Math.Seq.{take-suc}
 use Rattle.std.proofs.lemmas.List.{map-append}
 use Rattle.std.specs.Bool.{then_some}
-use Rattle.std.specs.Prelude.{Bool, Result, Ok, Err, IfOk, Option, Some, None, option_and_then, option_map}
+use Rattle.std.specs.Prelude.{Result, Ok, Err, IfOk, Option, Some, option_and_then, option_map}
 use Rattle.smt_meaning.specs.Plain.{PlainType, OptionType, SetType, PlainLiteral, PlainTerm, Application, NoneTerm, LiteralTerm, SetTerm, SomeTerm, VariableTerm, terms}
 use Rattle.smt_meaning.specs.TermOrder.{term_cmp}
 use Rattle.smt_meaning.specs.Types.{literal_type, type_eq, type_of}
 use Rattle.smt_meaning.specs.ValueOrder.{ascends}
 use Rattle.smt_meaning.proofs.TermTotal.{types_decided}
-use Rattle.smt_graph.specs.Meanings.{all_found, found, meaning_at, meanings, stands_for, term_made, terms_in, typed_as}
+use Rattle.smt_graph.specs.Meanings.{all_found, found, meaning_at, meanings, stands_for, terms_in, typed_as}
 use Rattle.smt_graph.specs.Nodes.{NoneLabel, LiteralLabel, SetOfLabel, SomeLabel, VariableLabel, PlainNode, Meaning, TypeMeaning, TermMeaning}
 use Rattle.smt_graph.proofs.Places.{map_back, some_same, test_back, then_back}
 use Rattle.smt_graph.proofs.Whole.{typed_back}
@@ -95,5 +95,5 @@ pub pushed : (ns : List PlainNode) (parts more : List NodeId) (part : NodeId) (m
 pushed ns parts more part m ts i t e h k b s =
     let one : take (i + 1) ts ≡ take i ts ++ t ∷ [] = ap (λ n. take n ts) (add-one i) ∙ (take-suc ts i t b ∙ ap (λ t. take i ts ++ t ∷ []) (sym s)) in
     let terms : map TermMeaning (map plain_term (take (i + 1) ts)) ≡ map TermMeaning (map plain_term (take i ts)) ++ TermMeaning (plain_term t) ∷ [] =
-      ap (λ l. map TermMeaning (map plain_term l)) one ∙ (ap (map TermMeaning) (map-append plain_term (take i ts) (t ∷ [])) ∙ map-append TermMeaning (map plain_term (take i ts)) (plain_term t ∷ [])) in
+    ap (λ l. map TermMeaning (map plain_term l)) one ∙ (ap (map TermMeaning) (map-append plain_term (take i ts) (t ∷ [])) ∙ map-append TermMeaning (map plain_term (take i ts)) (plain_term t ∷ [])) in
     ap (all_found (meanings ns)) (ap places_of e ∙ map-append place_of parts (part ∷ [])) ∙ (more_found (meanings ns) (places_of parts) _ (place_of part) (TermMeaning (plain_term t)) h k ∙ ap (λ l. Some (m ∷ l)) (sym terms))

@@ -1,10 +1,10 @@
 -- The labels and parts of nodes, by what they stand for.
-use Rattle.std.proofs.Common.{◌≡◌, ℕ, ◌<◌, List, [], ◌∷◌, Option, Some, None, refl, sym, ap, ◌∙◌, subst}
+use Rattle.std.proofs.Common.{◌≡◌, ℕ, ◌<◌, List, [], Option, Some, None, sym, ap, ◌∙◌, subst}
 use Rattle.std.specs.List.{AllByRecursion}
 use Rattle.std.specs.Prelude.{IfSome, option_and_then, option_map, slice_get}
 use Rattle.smt_graph.specs.Graphs.{IsGraph}
 use Rattle.smt_graph.specs.Meanings.{all_found, meaning_at, meaning_of, meanings, stands_for}
-use Rattle.smt_graph.specs.Nodes.{PlainLabel, PlainNode, Meaning}
+use Rattle.smt_graph.specs.Nodes.{PlainNode, Meaning}
 use Rattle.smt_graph.specs.Parts.{label_in, parts_in}
 use Rattle.smt_graph.proofs.Distinct.{Stands, node_stands, nothing_past}
 use Rattle.smt_graph.proofs.Whole.{whole}

@@ -1,5 +1,5 @@
 -- Nodes that the derived order holds equal say the same, and the other way round.
-use Rattle.std.proofs.Common.{◌≡◌, ℕ, List, [], ◌∷◌, map, true, refl, sym, ap, ◌∙◌}
+use Rattle.std.proofs.Common.{◌≡◌, ℕ, List, [], ◌∷◌, true, refl, sym, ap, ◌∙◌}
 use Rattle.std.specs.Cmp.{Equal-is, nat_cmp_is}
 use Rattle.std.specs.Cmp.Lexicographic.{slice_cmp}
 use Rattle.std.specs.FinMap.{nat_cmp-IsAntisymmetric}
@@ -117,5 +117,5 @@ node_same a b h =
 pub node_equal : (a b : Node) → plain_node a ≡ plain_node b → is_eq (node_order.ghosts.cmp a b) ≡ true
 node_equal a b h =
     let own : node_cmp (plain_node a) (plain_node a) ≡ Equal =
-      ap (λ o. ordering_then o (text_cmp (places_of (ids_of a.parts)) (places_of (ids_of a.parts)))) (label_itself a.label) ∙ text_itself (places_of (ids_of a.parts)) in
+    ap (λ o. ordering_then o (text_cmp (places_of (ids_of a.parts)) (places_of (ids_of a.parts)))) (label_itself a.label) ∙ text_itself (places_of (ids_of a.parts)) in
     ap is_eq (node_cmp-is a b ∙ (sym (ap (node_cmp (plain_node a)) h) ∙ own))

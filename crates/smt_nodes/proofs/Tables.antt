@@ -1,8 +1,8 @@
 -- The table of an interner: what it finds, and what it finds after one node more.
-use Rattle.std.proofs.Common.{◌≡◌, ℕ, ◌+◌, ◌<◌, Bool, true, false, cond, List, [], ◌∷◌, ◌++◌, length, map, get_or, Option, Some, None, refl, sym, ap, ◌∙◌, subst, ◌⊎◌, inl, inr, arith, length-append}
+use Rattle.std.proofs.Common.{◌≡◌, ℕ, ◌<◌, Bool, true, false, cond, List, [], ◌∷◌, ◌++◌, length, map, get_or, Option, Some, None, refl, sym, ap, ◌∙◌, subst, ◌⊎◌, inl, inr, arith, length-append}
 use Rattle.std.proofs.lemmas.Bool.{false≢true}
 use Rattle.std.proofs.lemmas.List.{length-map, map-append}
-use Rattle.std.specs.BTreeMap.{is_at, IsUnchanged}
+use Rattle.std.specs.BTreeMap.{is_at}
 use Rattle.std.specs.Map.{lookup}
 use Rattle.std.specs.Prelude.{Result, Ok, Err, OnErr, OnOk}
 use Rattle.std.proofs.lemmas.Option.{slice_get-get_or, slice_get-map}
@@ -56,22 +56,22 @@ pub entered : (nodes : List Node) (ids more : BTreeMap Node NodeId) (key node : 
 entered nodes ids more key node id x u last same =
     record {
       within = λ q i h. elim (look (is_eq (node_order.ghosts.cmp key q)) id i (get node_order.ghosts.cmp ids q) (sym (u.0 q) ∙ h)) [
-        inl e ↦ (let p : place_of id ≡ place_of i = ap place_of e.1 in omega (arith, length-append nodes (node ∷ [])))
-      | inr e ↦ (let p : place_of i < length nodes = x.within q i e.1 in omega (arith, length-append nodes (node ∷ [])))
+        | inl e ↦ (let p : place_of id ≡ place_of i = ap place_of e.1 in omega (arith, length-append nodes (node ∷ [])))
+        | inr e ↦ (let p : place_of i < length nodes = x.within q i e.1 in omega (arith, length-append nodes (node ∷ [])))
       ];
       found = λ q i h n a. elim (look (is_eq (node_order.ghosts.cmp key q)) id i (get node_order.ghosts.cmp ids q) (sym (u.0 q) ∙ h)) [
-        inl e ↦ (let at : place_of i ≡ length nodes = sym (ap place_of e.1) ∙ last in
-          let n_is : node ≡ n = some_same node n (sym (get_last nodes node) ∙ (ap (slice_get (nodes ++ node ∷ [])) (sym at) ∙ a)) in
-          node_equal q n (sym (node_same key q e.0) ∙ (same ∙ ap plain_node n_is)))
-      | inr e ↦ x.found q i e.1 n (sym (get_older nodes (node ∷ []) (place_of i) (x.within q i e.1)) ∙ a)
+        | inl e ↦ (let at : place_of i ≡ length nodes = sym (ap place_of e.1) ∙ last in
+            let n_is : node ≡ n = some_same node n (sym (get_last nodes node) ∙ (ap (slice_get (nodes ++ node ∷ [])) (sym at) ∙ a)) in
+            node_equal q n (sym (node_same key q e.0) ∙ (same ∙ ap plain_node n_is)))
+        | inr e ↦ x.found q i e.1 n (sym (get_older nodes (node ∷ []) (place_of i) (x.within q i e.1)) ∙ a)
       ];
       missing = λ q h c.
-        let e = lack (is_eq (node_order.ghosts.cmp key q)) id (get node_order.ghosts.cmp ids q) (sym (u.0 q) ∙ h) in
-        let (j, a) = place_in (map plain_node (nodes ++ node ∷ [])) (plain_node q) c in
-        elim (get_split (map plain_node nodes) (plain_node node) j (plain_node q) (ap (λ l. slice_get l j) (sym (map-append plain_node nodes (node ∷ []))) ∙ a)) [
-          inl b ↦ x.missing q e.1 (contains_at (map plain_node nodes) j (plain_node q) b)
-        | inr b ↦ absurd (false≢true (sym e.0 ∙ node_equal key q (same ∙ b.1)))
-        ];
+          let e = lack (is_eq (node_order.ghosts.cmp key q)) id (get node_order.ghosts.cmp ids q) (sym (u.0 q) ∙ h) in
+          let (j, a) = place_in (map plain_node (nodes ++ node ∷ [])) (plain_node q) c in
+          elim (get_split (map plain_node nodes) (plain_node node) j (plain_node q) (ap (λ l. slice_get l j) (sym (map-append plain_node nodes (node ∷ []))) ∙ a)) [
+            | inl b ↦ x.missing q e.1 (contains_at (map plain_node nodes) j (plain_node q) b)
+            | inr b ↦ absurd (false≢true (sym e.0 ∙ node_equal key q (same ∙ b.1)))
+          ];
     }
 
 -- ---- the nodes after a node is entered

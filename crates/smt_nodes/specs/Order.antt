@@ -1,10 +1,10 @@
 -- The order of types and of terms, and where lists of numbers first differ.
-use Rattle.std.specs.Prelude.{ℕ, Bool, true, false, nat_eq, List, [], ◌∷◌, Option, Some, None}
+use Rattle.std.specs.Prelude.{Bool, true, false, nat_eq, List, [], ◌∷◌}
 use Rattle.std.specs.declared.cmp.Ordering.{Ordering}
 use Rattle.std.specs.declared.cmp.Ordering.TheVariants.{Less, Equal, Greater}
 use Rattle.smt_meaning.specs.TermOrder.{term_cmp}
 use Rattle.smt_meaning.specs.Types.{type_cmp}
-use Rattle.smt_graph.specs.Nodes.{PlainLabel, ApplicationLabel, SomeLabel, Meaning, TypeMeaning, FunctionMeaning, TermMeaning}
+use Rattle.smt_graph.specs.Nodes.{PlainLabel, ApplicationLabel, SomeLabel, Meaning, TypeMeaning, TermMeaning}
 use Rattle.smt_nodes.specs.View.{place_of}
 use Rattle.smt_nodes.specs.declared.id.NodeId.{NodeId}
 use Rattle.smt_nodes.specs.declared.order.Difference.{Difference}

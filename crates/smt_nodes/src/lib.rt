@@ -7,6 +7,7 @@
 mod id;
 mod intern;
 mod interner;
+pub mod laws;
 mod node;
 mod order;
 mod table;

@@ -1,7 +1,6 @@
-use Rattle.std.proofs.Common.{◌≡◌, Bool, true, false, ◌∙◌, ap, rules, sym, refl}
+use Rattle.std.proofs.Common.{◌∙◌, sym}
 use Rattle.smt_graph.specs.Meanings.{meanings}
 use Rattle.smt_nodes.specs.Interned.{nodes_of}
-use Rattle.smt_nodes.specs.View.{place_of, places_of, plain_label}
 use Rattle.std.proofs.lemmas.Bool.{false≢true}
 use Rattle.smt_nodes.proofs.Ascending.{front}
 use Rattle.smt_nodes.proofs.interner.Interner.+ascend.Goals as goal

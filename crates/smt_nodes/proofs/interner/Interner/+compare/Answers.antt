@@ -1,5 +1,4 @@
-use Rattle.std.proofs.Common.{◌≡◌, ℕ, ◌<◌, List, None, Some, map, refl, sym, ap, ◌∙◌, subst, arith, rules}
-use Rattle.std.specs.List.{AllByRecursion}
+use Rattle.std.proofs.Common.{◌≡◌, ◌<◌, None, Some, sym, ap, ◌∙◌, arith, rules}
 use Rattle.smt_graph.specs.Nodes.{Meaning}
 use Rattle.smt_graph.specs.Meanings.{meanings}
 use Rattle.smt_graph.proofs.Distinct.{nothing_past}
@@ -9,8 +8,7 @@ use Rattle.std.specs.declared.cmp.Ordering.TheVariants.{Equal}
 use Rattle.smt_nodes.proofs.Levels.{label_cmp, label_cmp-is}
 use Rattle.smt_nodes.specs.Interned.{nodes_of}
 use Rattle.smt_nodes.specs.Order.{meaning_cmp, parts_apart}
-use Rattle.smt_nodes.specs.View.{ids_of, place_of, places_of, plain_label, plain_node}
-use Rattle.smt_nodes.specs.declared.id.NodeId.{NodeId}
+use Rattle.smt_nodes.specs.View.{ids_of, place_of, plain_label, plain_node}
 use Rattle.smt_nodes.proofs.interner.Interner.+compare.Goals as goal
 
 none_some : (m : Meaning) → None ≡ Some m → ⊥

@@ -1,11 +1,8 @@
-use Rattle.std.proofs.Common.{◌≡◌, List, map, None, Some, length, inr, refl, rules, sym, ap, ◌∙◌}
-use Rattle.std.specs.BTreeMap.{get}
-use Rattle.std.specs.Prelude.{Contains}
+use Rattle.std.proofs.Common.{inr, refl, rules, sym, ◌∙◌}
 use Rattle.smt_nodes.proofs.Labels.{means_so}
 use Rattle.smt_nodes.proofs.Tables.{after, finds_node, new_grows, new_keeps, new_means}
 use Rattle.smt_nodes.specs.Interned.{nodes_of}
-use Rattle.smt_nodes.specs.View.{place_of, plain_node}
-use Rattle.smt_nodes.specs.contracts.node.NodeOrd.TheImpl as node_order
+use Rattle.smt_nodes.specs.View.{place_of}
 use Rattle.smt_nodes.proofs.interner.Interner.add.Goals as goal
 
 pub returns-in-Some-clause-meaning : goal.returns-in-Some-clause-meaning

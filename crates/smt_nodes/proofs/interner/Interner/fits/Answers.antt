@@ -1,8 +1,5 @@
-use Rattle.std.proofs.Common.{◌∙◌, ap, rules, sym, refl}
-use Rattle.smt_graph.specs.Meanings.{meanings}
-use Rattle.smt_term.specs.View.{plain_literal, plain_op}
+use Rattle.smt_term.specs.View.{plain_op}
 use Rattle.smt_nodes.specs.Interned.{nodes_of}
-use Rattle.smt_nodes.specs.View.{place_of, places_of, plain_label}
 use Rattle.smt_bits.specs.Width.{bits_in}
 use Rattle.std.specs.Rc.{rc_str_bytes}
 use Rattle.smt_nodes.proofs.Fitting.{fits_by, no_function}

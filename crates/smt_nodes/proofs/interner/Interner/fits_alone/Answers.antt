@@ -1,8 +1,6 @@
-use Rattle.std.proofs.Common.{◌∙◌, ap, rules, sym, refl}
+use Rattle.std.proofs.Common.{refl}
 use Rattle.smt_graph.specs.Meanings.{meanings}
-use Rattle.smt_term.specs.View.{plain_literal, plain_op}
 use Rattle.smt_nodes.specs.Interned.{nodes_of}
-use Rattle.smt_nodes.specs.View.{place_of, places_of, plain_label}
 use Rattle.smt_nodes.proofs.Fitting.{alone_of_more, alone_of_none}
 use Rattle.smt_graph.specs.Nodes.{BitVecLabel, BoolLabel, StringLabel}
 use Rattle.smt_nodes.proofs.interner.Interner.fits_alone.Goals as goal

@@ -1,8 +1,7 @@
-use Rattle.std.proofs.Common.{◌∙◌, ap, rules, sym, refl}
+use Rattle.std.proofs.Common.{◌∙◌}
 use Rattle.smt_graph.specs.Meanings.{meanings}
 use Rattle.smt_term.specs.View.{plain_literal}
 use Rattle.smt_nodes.specs.Interned.{nodes_of}
-use Rattle.smt_nodes.specs.View.{place_of, places_of}
 use Rattle.smt_nodes.proofs.Fitting.{literal_of_more, literal_of_one}
 use Rattle.smt_nodes.proofs.interner.Interner.fits_literal.Goals as goal
 

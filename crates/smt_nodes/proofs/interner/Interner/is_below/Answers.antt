@@ -1,7 +1,6 @@
-use Rattle.std.proofs.Common.{◌≡◌, Bool, true, false, ◌∙◌, ap, rules, sym, refl}
+use Rattle.std.proofs.Common.{refl}
 use Rattle.smt_graph.specs.Meanings.{meanings}
 use Rattle.smt_nodes.specs.Interned.{nodes_of}
-use Rattle.smt_nodes.specs.View.{place_of, places_of, plain_label}
 use Rattle.smt_graph.specs.Nodes.{TermMeaning}
 use Rattle.smt_nodes.proofs.Ascending.{below}
 use Rattle.smt_nodes.proofs.interner.Interner.is_below.Goals as goal

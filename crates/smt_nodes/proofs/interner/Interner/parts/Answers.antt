@@ -1,4 +1,4 @@
-use Rattle.std.proofs.Common.{◌≡◌, ℕ, ◌<◌, List, Some, map, subst, sym}
+use Rattle.std.proofs.Common.{◌≡◌, ◌<◌, List, Some, subst, sym}
 use Rattle.std.specs.List.{AllByRecursion}
 use Rattle.std.specs.Prelude.{IfSome}
 use Rattle.smt_graph.specs.Meanings.{all_found, meanings}
