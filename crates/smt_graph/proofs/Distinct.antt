@@ -1,15 +1,14 @@
 -- In a graph every place has a meaning, and no two have one.
-use Rattle.std.proofs.Common.{◌≡◌, ℕ, is_some, ◌+◌, ◌<◌, List, [], ◌∷◌, ◌++◌, length, refl, sym, ap, ◌∙◌, ◌⊎◌, inl, inr, arith, subst}
-use Rattle.std.proofs.lemmas.Option.{get_or_from_slice_get, slice_get-get_or, slice_get_within}
+use Rattle.std.proofs.Common.{◌≡◌, ℕ, is_some, ◌<◌, List, [], ◌∷◌, ◌++◌, length, refl, sym, ap, ◌∙◌, inl, inr, arith, subst}
 use Rattle.std.specs.List.{AllByRecursion}
-use Rattle.std.specs.Prelude.{true, Contains, IsTrue, Option, Some, None, get_or, option_and_then, option_map, slice_get}
+use Rattle.std.specs.Prelude.{Contains, IsTrue, Option, Some, None, option_map, slice_get}
 use Rattle.smt_graph.specs.Fits.{fits}
 use Rattle.smt_graph.specs.Graphs.{IsGraph}
 use Rattle.smt_graph.specs.Meanings.{all_found, found, meaning_at, meaning_of, meanings, stands_for}
-use Rattle.smt_graph.specs.Nodes.{PlainLabel, PlainNode, Meaning}
+use Rattle.smt_graph.specs.Nodes.{PlainNode, Meaning}
 use Rattle.smt_graph.proofs.Fitting.{fitting}
 use Rattle.smt_graph.proofs.Growth.{Graph, by_nodes, contains_at, empty, grown, node_within}
-use Rattle.smt_graph.proofs.Places.{all_stay, as_many, found_split, found_stays, found_within, get_older, get_split, last_has, map_back, meaning_stays, meanings_grow, some_same, then_back}
+use Rattle.smt_graph.proofs.Places.{all_stay, as_many, found_split, found_within, get_split, last_has, map_back, meaning_stays, meanings_grow, some_same, then_back}
 use Rattle.smt_graph.proofs.Whole.{whole}
 
 -- a node stands for this at this place, by what its parts stand for

@@ -3,13 +3,13 @@ use Rattle.std.proofs.Common.{◌≡◌, ℕ, ◌<◌, List, [], ◌∷◌, leng
 use Rattle.std.specs.Bool.{then_some}
 use Rattle.std.specs.List.{list_all}
 use Rattle.std.specs.Prelude.{Bool, true, false, ◌&&◌, nat_lt, Option, Some, None, is_some, unwrap_or, option_and_then, option_map}
-use Rattle.smt_meaning.specs.Plain.{PlainType, OptionType, BitVecType, BoolType, EntityType, ExtensionType, StringType, RecordType, SetType, AttributeTypes, attribute, PlainOp, UufOp, PlainTerm, Application, NoneTerm, LiteralTerm, PlainLiteral, RecordTerm, SetTerm, SomeTerm, VariableTerm, PlainFields, one_field, terms}
+use Rattle.smt_meaning.specs.Plain.{PlainType, OptionType, RecordType, SetType, attribute, UufOp, PlainTerm, Application, NoneTerm, LiteralTerm, RecordTerm, SetTerm, SomeTerm, VariableTerm, PlainFields, one_field, terms}
 use Rattle.smt_meaning.specs.TermOrder.{term_cmp}
 use Rattle.smt_meaning.specs.Types.{field_types, literal_type, type_eq, type_of}
 use Rattle.smt_meaning.specs.ValueOrder.{ascends, text_cmp}
 use Rattle.smt_meaning.proofs.TermTotal.{types_decided}
-use Rattle.smt_graph.specs.Fits.{applies_no_function, fits, fits_parts, is_term, is_type, same_length}
-use Rattle.smt_graph.specs.Meanings.{all_found, attributes_in, fields_in, found, meaning_of, meanings, only_if, stands_for, term_made, terms_in, typed_as}
+use Rattle.smt_graph.specs.Fits.{fits, fits_parts, is_term, is_type, same_length}
+use Rattle.smt_graph.specs.Meanings.{all_found, attributes_in, fields_in, found, meaning_of, meanings, only_if, stands_for, terms_in, typed_as}
 use Rattle.smt_graph.specs.Nodes.{PlainLabel, OptionLabel, BitVecLabel, BoolLabel, EntityLabel, ExtensionLabel, StringLabel, RecordLabel, SetLabel, FunctionLabel, ApplicationLabel, CallLabel, NoneLabel, LiteralLabel, RecordOfLabel, SetOfLabel, SomeLabel, VariableLabel, PlainNode, Meaning, TypeMeaning, FunctionMeaning, TermMeaning}
 use Rattle.smt_graph.proofs.Places.{as_many, found_within, map_back, then_back}
 

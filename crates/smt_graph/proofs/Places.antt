@@ -1,5 +1,5 @@
 -- What stands at places of lists, and what one node more leaves.
-use Rattle.std.proofs.Common.{◌≡◌, ℕ, zero, suc, ◌+◌, ◌<◌, ◌≤◌, List, [], ◌∷◌, ◌++◌, length, refl, sym, ap, ◌∙◌, inl, inr, ◌⊎◌, arith, subst, length-append}
+use Rattle.std.proofs.Common.{◌≡◌, ℕ, zero, suc, ◌+◌, ◌<◌, List, [], ◌∷◌, ◌++◌, length, refl, sym, ap, ◌∙◌, inl, inr, ◌⊎◌, arith, length-append}
 use Rattle.std.specs.Bool.{then_some}
 use Rattle.std.specs.Prelude.{Bool, true, false, fold, Option, Some, None, option_and_then, option_map, slice_get}
 use Rattle.std.proofs.lemmas.List.Sums.{fold-append}

@@ -1,8 +1,8 @@
 -- What something stands for determines its label and what its parts stand for.
 use Rattle.std.proofs.Common.{◌≡◌, ℕ, List, [], ◌∷◌, map, refl, sym, ap, ◌∙◌, subst}
 use Rattle.std.specs.Bool.{then_some}
-use Rattle.std.specs.Prelude.{true, Option, Some, None, option_and_then, option_map}
-use Rattle.smt_meaning.specs.Plain.{PlainType, OptionType, BitVecType, BoolType, EntityType, ExtensionType, StringType, RecordType, SetType, AttributeTypes, no_attributes, attribute, PlainOp, UufOp, PlainTerm, Application, NoneTerm, LiteralTerm, RecordTerm, SetTerm, SomeTerm, VariableTerm, PlainTerms, PlainFields, no_fields, one_field, terms, list_of_terms}
+use Rattle.std.specs.Prelude.{Some, option_and_then, option_map}
+use Rattle.smt_meaning.specs.Plain.{PlainType, OptionType, RecordType, SetType, AttributeTypes, no_attributes, attribute, UufOp, PlainTerm, Application, RecordTerm, SetTerm, PlainFields, no_fields, one_field, terms, list_of_terms}
 use Rattle.smt_meaning.specs.TermOrder.{term_cmp}
 use Rattle.smt_meaning.specs.Types.{type_eq, type_of}
 use Rattle.smt_meaning.specs.ValueOrder.{ascends, text_cmp}

@@ -1,6 +1,6 @@
 -- Worked examples of nodes.
-use Rattle.std.specs.Prelude.{◌≡◌, ℕ, true, false, ◌++◌, List, [], ◌∷◌, Some, None, codes, map}
-use Rattle.smt_meaning.specs.Plain.{BitVecType, BoolType, BitVecLiteral, NotOp, PlainFunction, PlainOp, PlainTerm, Application, BitsOp, LiteralTerm, SetTerm, UufOp, VariableTerm, terms}
+use Rattle.std.specs.Prelude.{◌≡◌, ℕ, true, false, ◌++◌, List, [], ◌∷◌, Some, codes}
+use Rattle.smt_meaning.specs.Plain.{BitVecType, BoolType, BitVecLiteral, NotOp, PlainFunction, PlainOp, PlainTerm, Application, BitsOp, SetTerm, UufOp, VariableTerm, terms}
 use Rattle.smt_arithmetic.specs.BitOperators.{BvaddOp}
 use Rattle.smt_graph.specs.Fits.{fits}
 use Rattle.smt_graph.specs.Meanings.{meaning_of, meanings}

@@ -1,6 +1,6 @@
 // Nodes in their order, and a table that finds them.
-ghost use Rattle.std.specs.Prelude.{◌≡◌, ◌++◌, ◌∷◌, [], OnErr, OnOk, Some, length};
-ghost use Rattle.std.specs.BTreeMap.{IsUnchanged, Updates};
+ghost use Rattle.std.specs.Prelude.{◌≡◌, ◌++◌, ◌∷◌, [], OnErr, OnOk, Some};
+ghost use Rattle.std.specs.BTreeMap.{Updates};
 ghost use Rattle.smt_nodes.specs.contracts.node.NodeOrd.TheImpl as node_order;
 
 use crate::id::NodeId;
