@@ -1,0 +1,67 @@
+-- The label of what a node stands for, and what its parts stand for.
+use Rattle.std.specs.Prelude.{ℕ, List, [], ◌∷◌, map}
+use Rattle.smt_meaning.specs.Plain.{PlainType, OptionType, BitVecType, BoolType, EntityType, ExtensionType, StringType, RecordType, SetType, AttributeTypes, no_attributes, attribute, UufOp, PlainTerm, Application, NoneTerm, LiteralTerm, RecordTerm, SetTerm, SomeTerm, VariableTerm, PlainFields, no_fields, one_field, list_of_terms}
+use Rattle.smt_meaning.specs.Types.{type_of}
+use Rattle.smt_graph.specs.Nodes.{PlainLabel, OptionLabel, BitVecLabel, BoolLabel, EntityLabel, ExtensionLabel, StringLabel, RecordLabel, SetLabel, FunctionLabel, ApplicationLabel, CallLabel, NoneLabel, LiteralLabel, RecordOfLabel, SetOfLabel, SomeLabel, VariableLabel, Meaning, TypeMeaning, FunctionMeaning, TermMeaning}
+
+-- the attributes of a record type and what they have, and the same of a record
+abbrev pub names_in : AttributeTypes → List (List ℕ)
+names_in no_attributes = []
+names_in (attribute a t x) = a ∷ names_in x
+
+abbrev pub types_in : AttributeTypes → List Meaning
+types_in no_attributes = []
+types_in (attribute a t x) = TypeMeaning t ∷ types_in x
+
+abbrev pub field_names : PlainFields → List (List ℕ)
+field_names no_fields = []
+field_names (one_field a t x) = a ∷ field_names x
+
+abbrev pub field_terms : PlainFields → List Meaning
+field_terms no_fields = []
+field_terms (one_field a t x) = TermMeaning t ∷ field_terms x
+
+-- the label of a type and of a term, and what its parts stand for, behind the type where it is a term
+abbrev pub type_label : PlainType → PlainLabel
+type_label (OptionType t) = OptionLabel
+type_label (BitVecType n) = BitVecLabel n
+type_label BoolType = BoolLabel
+type_label (EntityType e) = EntityLabel e
+type_label (ExtensionType k) = ExtensionLabel k
+type_label StringType = StringLabel
+type_label (RecordType x) = RecordLabel (names_in x)
+type_label (SetType t) = SetLabel
+
+abbrev pub type_parts : PlainType → List Meaning
+type_parts (OptionType t) = TypeMeaning t ∷ []
+type_parts (RecordType x) = types_in x
+type_parts (SetType t) = TypeMeaning t ∷ []
+type_parts t = []
+
+abbrev pub term_label : PlainTerm → PlainLabel
+term_label (Application (UufOp f) ts t) = CallLabel
+term_label (Application o ts t) = ApplicationLabel o
+term_label (NoneTerm t) = NoneLabel
+term_label (LiteralTerm l) = LiteralLabel l
+term_label (RecordTerm x) = RecordOfLabel (field_names x)
+term_label (SetTerm t ts) = SetOfLabel
+term_label (SomeTerm t) = SomeLabel
+term_label (VariableTerm id t) = VariableLabel id
+
+abbrev pub term_parts : PlainTerm → List Meaning
+term_parts (Application (UufOp f) ts t) = FunctionMeaning f ∷ map TermMeaning (list_of_terms ts)
+term_parts (Application o ts t) = map TermMeaning (list_of_terms ts)
+term_parts (RecordTerm x) = field_terms x
+term_parts (SetTerm t ts) = map TermMeaning (list_of_terms ts)
+term_parts (SomeTerm t) = TermMeaning t ∷ []
+term_parts t = []
+
+abbrev pub label_in : Meaning → PlainLabel
+label_in (TypeMeaning t) = type_label t
+label_in (FunctionMeaning f) = FunctionLabel f.id
+label_in (TermMeaning t) = term_label t
+
+abbrev pub parts_in : Meaning → List Meaning
+parts_in (TypeMeaning t) = type_parts t
+parts_in (FunctionMeaning f) = TypeMeaning f.argument ∷ TypeMeaning f.output ∷ []
+parts_in (TermMeaning t) = TypeMeaning (type_of t) ∷ term_parts t

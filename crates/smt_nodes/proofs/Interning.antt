@@ -1,0 +1,99 @@
+-- What nodes of terms stand for, by what their parts stand for.
+use Rattle.std.proofs.Common.{◌≡◌, ℕ, ◌+◌, ◌<◌, List, [], ◌∷◌, ◌++◌, add-one, get_or, length, map, take, true, refl, sym, ap, ◌∙◌}
+use Rattle.std.proofs.Math.Seq.{take-suc}
+use Rattle.std.proofs.lemmas.List.{map-append}
+use Rattle.std.specs.Bool.{then_some}
+use Rattle.std.specs.Prelude.{Result, Ok, Err, IfOk, Option, Some, option_and_then, option_map}
+use Rattle.smt_meaning.specs.Plain.{PlainType, OptionType, SetType, PlainLiteral, PlainTerm, Application, NoneTerm, LiteralTerm, SetTerm, SomeTerm, VariableTerm, terms}
+use Rattle.smt_meaning.specs.TermOrder.{term_cmp}
+use Rattle.smt_meaning.specs.Types.{literal_type, type_eq, type_of}
+use Rattle.smt_meaning.specs.ValueOrder.{ascends}
+use Rattle.smt_meaning.proofs.TermTotal.{types_decided}
+use Rattle.smt_graph.specs.Meanings.{all_found, found, meaning_at, meanings, stands_for, terms_in, typed_as}
+use Rattle.smt_graph.specs.Nodes.{NoneLabel, LiteralLabel, SetOfLabel, SomeLabel, VariableLabel, PlainNode, Meaning, TypeMeaning, TermMeaning}
+use Rattle.smt_graph.proofs.Places.{map_back, some_same, test_back, then_back}
+use Rattle.smt_graph.proofs.Whole.{typed_back}
+use Rattle.smt_term.specs.View.{plain_op, plain_term}
+use Rattle.smt_term.specs.declared.term.Term.{Term}
+use Rattle.smt_term.specs.declared.op.Op.{Op}
+use Rattle.smt_term.specs.declared.op.Op.TheVariants.{And}
+use Rattle.smt_nodes.specs.View.{place_of, places_of, plain_label}
+use Rattle.smt_nodes.specs.declared.id.NodeId.{NodeId}
+use Rattle.smt_nodes.specs.declared.node.Label.TheVariants.{App}
+
+-- ---- what is found stays so
+abbrev Keeps : List PlainNode → List PlainNode → Type 0
+Keeps ns ks = (id : NodeId) (m : Meaning) → meaning_at ns (place_of id) ≡ Some m → meaning_at ks (place_of id) ≡ Some m
+
+pub all_kept : (ns ks : List PlainNode) → Keeps ns ks → (ids : List NodeId) (ps : List Meaning) → all_found (meanings ns) (places_of ids) ≡ Some ps → all_found (meanings ks) (places_of ids) ≡ Some ps
+all_kept ns ks k [] ps h = h
+all_kept ns ks k (i ∷ ids) ps h =
+    let (m, e, d) = then_back (λ m. option_map (λ rest. m ∷ rest) (all_found (meanings ns) (places_of ids))) (found (meanings ns) (place_of i)) ps h in
+    let (rest, f, g) = map_back (λ rest. m ∷ rest) (all_found (meanings ns) (places_of ids)) ps d in
+    ap (option_and_then (λ m. option_map (λ rest. m ∷ rest) (all_found (meanings ks) (places_of ids)))) (k i m e) ∙ (ap (option_map (λ rest. m ∷ rest)) (all_kept ns ks k ids rest f) ∙ ap Some g)
+
+pub one_found : (ns : List PlainNode) (i : NodeId) (m : Meaning) → meaning_at ns (place_of i) ≡ Some m → all_found (meanings ns) (places_of (i ∷ [])) ≡ Some (m ∷ [])
+one_found ns i m h = ap (option_and_then (λ m. Some (m ∷ []))) h
+
+pub two_found : (ns : List PlainNode) (i j : NodeId) (m n : Meaning) → meaning_at ns (place_of i) ≡ Some m → meaning_at ns (place_of j) ≡ Some n → all_found (meanings ns) (places_of (i ∷ j ∷ [])) ≡ Some (m ∷ n ∷ [])
+two_found ns i j m n h k =
+    ap (option_and_then (λ m. option_map (λ rest. m ∷ rest) (all_found (meanings ns) (places_of (j ∷ []))))) h ∙ ap (option_map (λ rest. m ∷ rest)) (one_found ns j n k)
+
+pub more_found : (ms : List (Option Meaning)) (is : List ℕ) (ps : List Meaning) (i : ℕ) (m : Meaning) → all_found ms is ≡ Some ps → found ms i ≡ Some m → all_found ms (is ++ i ∷ []) ≡ Some (ps ++ m ∷ [])
+more_found ms [] ps i m h k = ap (option_and_then (λ m. Some (m ∷ []))) k ∙ ap (λ ps. Some (ps ++ m ∷ [])) (some_same [] ps h)
+more_found ms (j ∷ is) ps i m h k =
+    let (n, e, d) = then_back (λ m. option_map (λ rest. m ∷ rest) (all_found ms is)) (found ms j) ps h in
+    let (rest, f, g) = map_back (λ rest. n ∷ rest) (all_found ms is) ps d in
+    ap (option_and_then (λ m. option_map (λ rest. m ∷ rest) (all_found ms (is ++ i ∷ [])))) e ∙ (ap (option_map (λ rest. n ∷ rest)) (more_found ms is rest i m f k) ∙ ap (λ ps. Some (ps ++ m ∷ [])) g)
+
+pub both_ok : {T E : Type 0} (P Q R : T → Type 0) (r : Result T E) → ((x : T) → P x → Q x → R x) → IfOk r P → IfOk r Q → IfOk r R
+both_ok P Q R (Ok x) f p q = f x p q
+both_ok P Q R (Err e) f p q = tt
+
+-- ---- labels at the meanings of their parts
+pub are_terms_in : (ts : List PlainTerm) → terms_in (map TermMeaning ts) ≡ Some ts
+are_terms_in [] = refl
+are_terms_in (t ∷ ts) = ap (option_map (λ ts. t ∷ ts)) (are_terms_in ts)
+
+same_type : (t : PlainType) → type_eq t t ≡ true
+same_type t = (types_decided t t).1 refl
+
+typed_right : (u : PlainTerm) (t : PlainType) → type_of u ≡ t → typed_as t u ≡ Some (TermMeaning u)
+typed_right u t e = ap (λ b. then_some b (TermMeaning u)) ((types_decided (type_of u) t).1 e)
+
+made_app : (o : Op) (t : PlainType) (ts : List PlainTerm) → stands_for (plain_label (App o)) (TypeMeaning t ∷ map TermMeaning ts) ≡ option_and_then (typed_as t) (option_map (λ ts. Application (plain_op o) (terms ts) t) (terms_in (map TermMeaning ts)))
+made_app And t ts = refl
+made_app o t ts = refl
+
+pub app_means : (o : Op) (t : PlainType) (ts : List PlainTerm) → stands_for (plain_label (App o)) (TypeMeaning t ∷ map TermMeaning ts) ≡ Some (TermMeaning (Application (plain_op o) (terms ts) t))
+app_means o t ts =
+    made_app o t ts ∙ (ap (λ x. option_and_then (typed_as t) (option_map (λ ts. Application (plain_op o) (terms ts) t) x)) (are_terms_in ts) ∙ typed_right (Application (plain_op o) (terms ts) t) t refl)
+
+pub none_means : (t : PlainType) → stands_for NoneLabel (TypeMeaning (OptionType t) ∷ []) ≡ Some (TermMeaning (NoneTerm t))
+none_means t = typed_right (NoneTerm t) (OptionType t) refl
+
+pub literal_means : (l : PlainLiteral) → stands_for (LiteralLabel l) (TypeMeaning (literal_type l) ∷ []) ≡ Some (TermMeaning (LiteralTerm l))
+literal_means l = typed_right (LiteralTerm l) (literal_type l) refl
+
+pub some_means : (u : PlainTerm) → stands_for SomeLabel (TypeMeaning (OptionType (type_of u)) ∷ TermMeaning u ∷ []) ≡ Some (TermMeaning (SomeTerm u))
+some_means u = typed_right (SomeTerm u) (OptionType (type_of u)) refl
+
+pub variable_means : (id : List ℕ) (t : PlainType) → stands_for (VariableLabel id) (TypeMeaning t ∷ []) ≡ Some (TermMeaning (VariableTerm id t))
+variable_means id t = typed_right (VariableTerm id t) t refl
+
+pub set_means : (t : PlainType) (ts : List PlainTerm) (m : Meaning) → stands_for SetOfLabel (TypeMeaning (SetType t) ∷ map TermMeaning ts) ≡ Some m → Some (TermMeaning (SetTerm t (terms ts))) ≡ Some m
+set_means t ts m h =
+    let (u, e, s, k) = typed_back SetOfLabel (SetType t) (map TermMeaning ts) m h in
+    let made : then_some (ascends term_cmp ts) (SetTerm t (terms ts)) ≡ Some u = sym (ap (option_and_then (λ ts. then_some (ascends term_cmp ts) (SetTerm t (terms ts)))) (are_terms_in ts)) ∙ e in
+    let (b, c) = test_back (ascends term_cmp ts) (SetTerm t (terms ts)) u made in
+    ap (λ u. Some (TermMeaning u)) c ∙ ap Some k
+
+-- one number more, for the next term
+pub pushed : (ns : List PlainNode) (parts more : List NodeId) (part : NodeId) (m : Meaning) (ts : List Term) (i : ℕ) (t : Term) → more ≡ parts ++ part ∷ []
+    → all_found (meanings ns) (places_of parts) ≡ Some (m ∷ map TermMeaning (map plain_term (take i ts))) → meaning_at ns (place_of part) ≡ Some (TermMeaning (plain_term t)) → i < length ts → t ≡ get_or ts i t
+    → all_found (meanings ns) (places_of more) ≡ Some (m ∷ map TermMeaning (map plain_term (take (i + 1) ts)))
+pushed ns parts more part m ts i t e h k b s =
+    let one : take (i + 1) ts ≡ take i ts ++ t ∷ [] = ap (λ n. take n ts) (add-one i) ∙ (take-suc ts i t b ∙ ap (λ t. take i ts ++ t ∷ []) (sym s)) in
+    let terms : map TermMeaning (map plain_term (take (i + 1) ts)) ≡ map TermMeaning (map plain_term (take i ts)) ++ TermMeaning (plain_term t) ∷ [] =
+    ap (λ l. map TermMeaning (map plain_term l)) one ∙ (ap (map TermMeaning) (map-append plain_term (take i ts) (t ∷ [])) ∙ map-append TermMeaning (map plain_term (take i ts)) (plain_term t ∷ [])) in
+    ap (all_found (meanings ns)) (ap places_of e ∙ map-append place_of parts (part ∷ [])) ∙ (more_found (meanings ns) (places_of parts) _ (place_of part) (TermMeaning (plain_term t)) h k ∙ ap (λ l. Some (m ∷ l)) (sym terms))

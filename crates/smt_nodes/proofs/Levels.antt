@@ -1,0 +1,121 @@
+-- Nodes that the derived order holds equal say the same, and the other way round.
+use Rattle.std.proofs.Common.{◌≡◌, ℕ, List, [], ◌∷◌, true, refl, sym, ap, ◌∙◌}
+use Rattle.std.specs.Cmp.{Equal-is, nat_cmp_is}
+use Rattle.std.specs.Cmp.Lexicographic.{slice_cmp}
+use Rattle.std.specs.FinMap.{nat_cmp-IsAntisymmetric}
+use Rattle.std.specs.Ordering.{is_eq, nat_cmp, ordering_then}
+use Rattle.std.specs.Rc.{rc_str_bytes}
+use Rattle.std.specs.declared.cmp.Ordering.{Ordering}
+use Rattle.std.specs.declared.cmp.Ordering.TheVariants.{Equal}
+use Rattle.smt_bits.specs.Width.{bits_in}
+use Rattle.smt_meaning.specs.Plain.{PlainLiteral, PlainOp, LiteralTerm}
+use Rattle.smt_meaning.specs.TermOrder.{literal_cmp, op_cmp}
+use Rattle.smt_meaning.specs.ValueOrder.{text_cmp}
+use Rattle.smt_meaning.proofs.SameTerm.{op_same, literal_same}
+use Rattle.smt_meaning.proofs.TermTotal.{ops_decided, terms_decided}
+use Rattle.smt_meaning.proofs.ValueOrder.{text_itself, text_same, then_equal}
+use Rattle.smt_term.proofs.DerivedOrder.{literal_cmp-is, op_cmp-is}
+use Rattle.smt_term.specs.View.{plain_literal, plain_op}
+use Rattle.smt_graph.specs.Nodes.{PlainLabel, OptionLabel, BitVecLabel, BoolLabel, EntityLabel, ExtensionLabel, StringLabel, RecordLabel, SetLabel, FunctionLabel, ApplicationLabel, CallLabel, NoneLabel, LiteralLabel, RecordOfLabel, SetOfLabel, SomeLabel, VariableLabel, PlainNode}
+use Rattle.smt_nodes.specs.View.{ids_of, place_of, places_of, plain_label, plain_node}
+use Rattle.smt_nodes.specs.contracts.node.LabelOrd.TheImpl as label_order
+use Rattle.smt_nodes.specs.contracts.node.NodeOrd.TheImpl as node_order
+use Rattle.smt_nodes.specs.contracts.id.NodeIdOrd.TheImpl as id_order
+use Rattle.smt_nodes.specs.declared.id.NodeId.{NodeId}
+use Rattle.smt_nodes.specs.declared.node.Label.{Label}
+use Rattle.smt_nodes.specs.declared.node.Label.TheVariants.{TOption, TBitvec, TBool, TString, TSet, App, NoneOf, Prim, SetOf, SomeOf, Var}
+use Rattle.smt_nodes.specs.declared.node.Node.{Node}
+
+-- the order of plain labels: by their place, and those of one place by what they hold
+abbrev pub label_place : PlainLabel → ℕ
+label_place OptionLabel = 0
+label_place (BitVecLabel n) = 1
+label_place BoolLabel = 2
+label_place (EntityLabel e) = 3
+label_place (ExtensionLabel k) = 4
+label_place StringLabel = 5
+label_place (RecordLabel names) = 6
+label_place SetLabel = 7
+label_place (FunctionLabel id) = 8
+label_place (ApplicationLabel o) = 9
+label_place CallLabel = 10
+label_place NoneLabel = 11
+label_place (LiteralLabel l) = 12
+label_place (RecordOfLabel names) = 13
+label_place SetOfLabel = 14
+label_place SomeLabel = 15
+label_place (VariableLabel id) = 16
+
+abbrev pub label_cmp : PlainLabel → PlainLabel → Ordering
+label_cmp (BitVecLabel n) (BitVecLabel m) = nat_cmp n m
+label_cmp (ApplicationLabel o) (ApplicationLabel p) = op_cmp o p
+label_cmp (LiteralLabel l) (LiteralLabel m) = literal_cmp l m
+label_cmp (VariableLabel a) (VariableLabel b) = text_cmp a b
+label_cmp l m = nat_cmp (label_place l) (label_place m)
+
+pub label_cmp-is : (l m : Label) → label_order.ghosts.cmp l m ≡ label_cmp (plain_label l) (plain_label m)
+label_cmp-is (TBitvec n) (TBitvec k) = refl
+label_cmp-is (App o) (App p) = op_cmp-is o p
+label_cmp-is (Prim a) (Prim b) = literal_cmp-is a b
+label_cmp-is (Var a) (Var b) = refl
+label_cmp-is l TOption = refl
+label_cmp-is l m = refl
+
+-- ---- equal labels
+pub label_same : (l m : Label) → label_cmp (plain_label l) (plain_label m) ≡ Equal → plain_label l ≡ plain_label m
+label_same (TBitvec n) (TBitvec k) h = ap BitVecLabel (nat_cmp-IsAntisymmetric (bits_in n) (bits_in k) h)
+label_same (App o) (App p) h = ap ApplicationLabel (op_same (plain_op o) (plain_op p) h)
+label_same (Prim a) (Prim b) h = ap LiteralLabel (literal_same (plain_literal a) (plain_literal b) h)
+label_same (Var a) (Var b) h = ap VariableLabel (text_same (rc_str_bytes a) (rc_str_bytes b) h)
+label_same TOption TOption h = refl
+label_same TBool TBool h = refl
+label_same TString TString h = refl
+label_same TSet TSet h = refl
+label_same NoneOf NoneOf h = refl
+label_same SetOf SetOf h = refl
+label_same SomeOf SomeOf h = refl
+label_same l m h = absurd (cc)
+
+nat_itself : (n : ℕ) → nat_cmp n n ≡ Equal
+nat_itself n = sym (nat_cmp_is n n Equal refl)
+
+pub literal_itself : (l : PlainLiteral) → literal_cmp l l ≡ Equal
+literal_itself l = (Equal-is (literal_cmp l l)).0 ((terms_decided (LiteralTerm l) (LiteralTerm l)).1 refl)
+
+op_itself : (o : PlainOp) → op_cmp o o ≡ Equal
+op_itself o = (Equal-is (op_cmp o o)).0 ((ops_decided o o).1 refl)
+
+pub label_itself : (l : Label) → label_cmp (plain_label l) (plain_label l) ≡ Equal
+label_itself (TBitvec n) = nat_itself (bits_in n)
+label_itself (App o) = op_itself (plain_op o)
+label_itself (Prim a) = literal_itself (plain_literal a)
+label_itself (Var a) = text_itself (rc_str_bytes a)
+label_itself l = refl
+
+-- ---- nodes
+abbrev node_cmp : PlainNode → PlainNode → Ordering
+node_cmp a b = ordering_then (label_cmp a.label b.label) (text_cmp a.parts b.parts)
+
+ids_cmp-is : (xs ys : List NodeId) → slice_cmp id_order.ghosts.cmp xs ys ≡ text_cmp (places_of xs) (places_of ys)
+ids_cmp-is [] [] = refl
+ids_cmp-is [] (y ∷ ys) = refl
+ids_cmp-is (x ∷ xs) [] = refl
+ids_cmp-is (x ∷ xs) (y ∷ ys) = ap (ordering_then (nat_cmp (place_of x) (place_of y))) (ids_cmp-is xs ys)
+
+node_cmp-is : (a b : Node) → node_order.ghosts.cmp a b ≡ node_cmp (plain_node a) (plain_node b)
+node_cmp-is a b =
+    ap (λ o. ordering_then o (slice_cmp id_order.ghosts.cmp (ids_of a.parts) (ids_of b.parts))) (label_cmp-is a.label b.label) ∙ ap (ordering_then (label_cmp (plain_label a.label) (plain_label b.label))) (ids_cmp-is (ids_of a.parts) (ids_of b.parts))
+
+pub node_same : (a b : Node) → is_eq (node_order.ghosts.cmp a b) ≡ true → plain_node a ≡ plain_node b
+node_same a b h =
+    let e : node_cmp (plain_node a) (plain_node b) ≡ Equal = sym (node_cmp-is a b) ∙ (Equal-is (node_order.ghosts.cmp a b)).0 h in
+    let p = then_equal (label_cmp (plain_label a.label) (plain_label b.label)) (text_cmp (places_of (ids_of a.parts)) (places_of (ids_of b.parts))) e in
+    let l : plain_label a.label ≡ plain_label b.label = label_same a.label b.label p.0 in
+    let q : places_of (ids_of a.parts) ≡ places_of (ids_of b.parts) = text_same (places_of (ids_of a.parts)) (places_of (ids_of b.parts)) p.1 in
+    λ i. record { label = l i; parts = q i }
+
+pub node_equal : (a b : Node) → plain_node a ≡ plain_node b → is_eq (node_order.ghosts.cmp a b) ≡ true
+node_equal a b h =
+    let own : node_cmp (plain_node a) (plain_node a) ≡ Equal =
+    ap (λ o. ordering_then o (text_cmp (places_of (ids_of a.parts)) (places_of (ids_of a.parts)))) (label_itself a.label) ∙ text_itself (places_of (ids_of a.parts)) in
+    ap is_eq (node_cmp-is a b ∙ (sym (ap (node_cmp (plain_node a)) h) ∙ own))

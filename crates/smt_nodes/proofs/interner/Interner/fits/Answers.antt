@@ -1,0 +1,39 @@
+use Rattle.smt_term.specs.View.{plain_op}
+use Rattle.smt_nodes.specs.Interned.{nodes_of}
+use Rattle.smt_bits.specs.Width.{bits_in}
+use Rattle.std.specs.Rc.{rc_str_bytes}
+use Rattle.smt_nodes.proofs.Fitting.{fits_by, no_function}
+use Rattle.smt_nodes.proofs.interner.Interner.fits.Goals as goal
+
+pub returns-in-TOption : goal.returns-in-TOption
+returns-in-TOption c = fits_by (nodes_of c.args.self.now) c.args.node.now _ c.items-parts.result.now c.fits_around_type.result c.in-TOption.is c.items-parts.ensures (c.fits_around_type.ensures.option)
+
+pub returns-in-TBitvec : goal.returns-in-TBitvec
+returns-in-TBitvec c = fits_by (nodes_of c.args.self.now) c.args.node.now _ c.items-parts.result.now c.fits_alone.result c.in-TBitvec.is c.items-parts.ensures (c.fits_alone.ensures.bits (bits_in c.in-TBitvec.field-0))
+
+pub returns-in-TBool : goal.returns-in-TBool
+returns-in-TBool c = fits_by (nodes_of c.args.self.now) c.args.node.now _ c.items-parts.result.now c.fits_alone-in-TBool.result c.in-TBool.is c.items-parts.ensures (c.fits_alone-in-TBool.ensures.truths)
+
+pub returns-in-TString : goal.returns-in-TString
+returns-in-TString c = fits_by (nodes_of c.args.self.now) c.args.node.now _ c.items-parts.result.now c.fits_alone-in-TString.result c.in-TString.is c.items-parts.ensures (c.fits_alone-in-TString.ensures.texts)
+
+pub returns-in-TSet : goal.returns-in-TSet
+returns-in-TSet c = fits_by (nodes_of c.args.self.now) c.args.node.now _ c.items-parts.result.now c.fits_around_type-in-TSet.result c.in-TSet.is c.items-parts.ensures (c.fits_around_type-in-TSet.ensures.set)
+
+pub returns-in-App : goal.returns-in-App
+returns-in-App c = fits_by (nodes_of c.args.self.now) c.args.node.now _ c.items-parts.result.now c.fits_application.result c.in-App.is c.items-parts.ensures (c.fits_application.ensures (plain_op c.in-App.field-0) (no_function c.in-App.field-0))
+
+pub returns-in-NoneOf : goal.returns-in-NoneOf
+returns-in-NoneOf c = fits_by (nodes_of c.args.self.now) c.args.node.now _ c.items-parts.result.now c.fits_none.result c.in-NoneOf.is c.items-parts.ensures (c.fits_none.ensures)
+
+pub returns-in-Prim : goal.returns-in-Prim
+returns-in-Prim c = fits_by (nodes_of c.args.self.now) c.args.node.now _ c.items-parts.result.now c.fits_literal.result c.in-Prim.is c.items-parts.ensures (c.fits_literal.ensures)
+
+pub returns-in-SetOf : goal.returns-in-SetOf
+returns-in-SetOf c = fits_by (nodes_of c.args.self.now) c.args.node.now _ c.items-parts.result.now c.fits_set.result c.in-SetOf.is c.items-parts.ensures (c.fits_set.ensures)
+
+pub returns-in-SomeOf : goal.returns-in-SomeOf
+returns-in-SomeOf c = fits_by (nodes_of c.args.self.now) c.args.node.now _ c.items-parts.result.now c.fits_some.result c.in-SomeOf.is c.items-parts.ensures (c.fits_some.ensures)
+
+pub returns-in-Var : goal.returns-in-Var
+returns-in-Var c = fits_by (nodes_of c.args.self.now) c.args.node.now _ c.items-parts.result.now c.fits_variable.result c.in-Var.is c.items-parts.ensures (c.fits_variable.ensures (rc_str_bytes c.in-Var.field-0))

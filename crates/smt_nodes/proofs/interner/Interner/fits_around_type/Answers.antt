@@ -1,0 +1,14 @@
+use Rattle.std.proofs.Common.{◌∙◌}
+use Rattle.smt_graph.specs.Meanings.{meanings}
+use Rattle.smt_nodes.specs.Interned.{nodes_of}
+use Rattle.smt_nodes.proofs.Fitting.{option_of_more, option_of_one, set_of_more, set_of_one}
+use Rattle.smt_nodes.proofs.interner.Interner.fits_around_type.Goals as goal
+
+pub returns-in-len1 : goal.returns-in-len1
+returns-in-len1 c = record {
+  option = c.is_type.ensures ∙ option_of_one (meanings (nodes_of c.args.self.now)) c.args.parts.now _ c.in-len1.len_at_least c.in-len1.len_below;
+  set = c.is_type.ensures ∙ set_of_one (meanings (nodes_of c.args.self.now)) c.args.parts.now _ c.in-len1.len_at_least c.in-len1.len_below;
+}
+
+pub returns-in-len2-up : goal.returns-in-len2-up
+returns-in-len2-up c = record { option = option_of_more (meanings (nodes_of c.args.self.now)) c.args.parts.now c.in-len2-up.len_at_least; set = set_of_more (meanings (nodes_of c.args.self.now)) c.args.parts.now c.in-len2-up.len_at_least }

@@ -1,0 +1,34 @@
+-- What the nodes of an interner stand for.
+use Rattle.std.specs.Prelude.{◌≡◌, ◌⊎◌, ◌++◌, List, [], ◌∷◌, map, Option, Some}
+use Rattle.smt_graph.specs.Meanings.{meaning_at, meaning_of, meanings}
+use Rattle.smt_graph.specs.Nodes.{Meaning, PlainNode}
+use Rattle.smt_nodes.specs.View.{place_of, plain_node}
+use Rattle.smt_nodes.specs.declared.id.NodeId.{NodeId}
+use Rattle.smt_nodes.specs.declared.interner.Interner.{Interner}
+
+-- the nodes, in the order of their numbers
+abbrev pub nodes_of : Interner → List PlainNode
+nodes_of i = map plain_node i.table.nodes.items
+
+-- what a number stands for, and what one more node would stand for
+abbrev pub meaning_in : Interner → NodeId → Option Meaning
+meaning_in i id = meaning_at (nodes_of i) (place_of id)
+
+abbrev pub meaning_for : Interner → PlainNode → Option Meaning
+meaning_for i n = meaning_of (meanings (nodes_of i)) n
+
+-- every number that stands for something stands for that still
+abbrev pub KeepsMeanings : Interner → Interner → Type 0
+KeepsMeanings i j = (id : NodeId) (m : Meaning) → meaning_in i id ≡ Some m → meaning_in j id ≡ Some m
+
+-- some number stands for what the node would stand for
+abbrev pub IsKnown : Interner → PlainNode → Type 0
+IsKnown i n = (id : NodeId) × (m : Meaning) × (meaning_in i id ≡ Some m) × (meaning_for i n ≡ Some m)
+
+-- there is one node more, this one, where no number stood for what it stands for; and else none
+abbrev pub GrowsFor : Interner → Interner → PlainNode → Type 0
+GrowsFor i j n = ((nodes_of j ≡ nodes_of i ++ n ∷ []) × ¬ IsKnown i n) ⊎ ((nodes_of j ≡ nodes_of i) × IsKnown i n)
+
+-- the number stands for something
+abbrev pub IsMeant : Interner → NodeId → Type 0
+IsMeant i id = (m : Meaning) × (meaning_in i id ≡ Some m)

@@ -1,0 +1,74 @@
+-- What stands at a place, by its kind and its type.
+use Rattle.std.specs.Prelude.{ℕ, Bool, true, false, List, Option, Some, None, is_some, nat_eq, option_and_then}
+use Rattle.smt_meaning.specs.Plain.{OptionType, PlainLiteral, BitVecLiteral, BoolLiteral, StringLiteral, PlainTerm}
+use Rattle.smt_meaning.specs.TermOrder.{term_cmp}
+use Rattle.smt_meaning.specs.ValueOrder.{ascends}
+use Rattle.smt_meaning.specs.Types.{inner_type, is_set, literal_type, type_eq, type_of}
+use Rattle.smt_graph.specs.Meanings.{all_found, terms_in}
+use Rattle.smt_graph.specs.Nodes.{PlainLabel, OptionLabel, BitVecLabel, BoolLabel, EntityLabel, ExtensionLabel, StringLabel, RecordLabel, SetLabel, FunctionLabel, Meaning, TypeMeaning, TermMeaning}
+
+-- labels of types, and of terms
+abbrev pub is_type_label : PlainLabel → Bool
+is_type_label OptionLabel = true
+is_type_label (BitVecLabel n) = true
+is_type_label BoolLabel = true
+is_type_label (EntityLabel e) = true
+is_type_label (ExtensionLabel k) = true
+is_type_label StringLabel = true
+is_type_label (RecordLabel names) = true
+is_type_label SetLabel = true
+is_type_label l = false
+
+abbrev pub is_term_label : PlainLabel → Bool
+is_term_label OptionLabel = false
+is_term_label (BitVecLabel n) = false
+is_term_label BoolLabel = false
+is_term_label (EntityLabel e) = false
+is_term_label (ExtensionLabel k) = false
+is_term_label StringLabel = false
+is_term_label (RecordLabel names) = false
+is_term_label SetLabel = false
+is_term_label (FunctionLabel id) = false
+is_term_label l = true
+
+-- the label of the type of a literal that the program has
+abbrev pub is_literal_label : PlainLiteral → PlainLabel → Bool
+is_literal_label (BitVecLiteral n a) (BitVecLabel m) = nat_eq n m
+is_literal_label (BoolLiteral b) BoolLabel = true
+is_literal_label (StringLiteral s) StringLabel = true
+is_literal_label l m = false
+
+-- it is a type; a term
+abbrev pub is_type_at : Option Meaning → Bool
+is_type_at (Some (TypeMeaning t)) = true
+is_type_at m = false
+
+abbrev pub is_term_at : Option Meaning → Bool
+is_term_at (Some (TermMeaning t)) = true
+is_term_at m = false
+
+-- it is a type of options; of sets; of this literal; of options of this term's type
+abbrev pub is_option_at : Option Meaning → Bool
+is_option_at (Some (TypeMeaning t)) = is_some (inner_type t)
+is_option_at m = false
+
+abbrev pub is_set_at : Option Meaning → Bool
+is_set_at (Some (TypeMeaning t)) = is_set t
+is_set_at m = false
+
+abbrev pub is_type_of_at : PlainLiteral → Option Meaning → Bool
+is_type_of_at l (Some (TypeMeaning t)) = type_eq (literal_type l) t
+is_type_of_at l m = false
+
+abbrev pub is_option_of_at : Option Meaning → Option Meaning → Bool
+is_option_of_at (Some (TypeMeaning t)) (Some (TermMeaning u)) = type_eq (OptionType (type_of u)) t
+is_option_of_at m n = false
+
+-- the terms at these places, none where one of them has no term
+abbrev pub terms_at : List (Option Meaning) → List ℕ → Option (List PlainTerm)
+terms_at ms is = option_and_then terms_in (all_found ms is)
+
+-- there are terms, and they ascend
+abbrev pub ascend_at : Option (List PlainTerm) → Bool
+ascend_at None = false
+ascend_at (Some ts) = ascends term_cmp ts

@@ -1,0 +1,6 @@
+pub mod Index
+pub mod Interned
+pub mod Kinds
+pub mod Laws
+pub mod Order
+pub mod View

@@ -1,0 +1,37 @@
+-- The plain form of the program's nodes: what they say, without where they lie in memory.
+use Rattle.std.specs.Prelude.{ℕ, List, map}
+use Rattle.std.specs.Rc.{rc_str_bytes}
+use Rattle.smt_bits.specs.Width.{bits_in}
+use Rattle.smt_graph.specs.Nodes.{PlainLabel, OptionLabel, BitVecLabel, BoolLabel, StringLabel, SetLabel, ApplicationLabel, NoneLabel, LiteralLabel, SetOfLabel, SomeLabel, VariableLabel, PlainNode}
+use Rattle.smt_term.specs.View.{plain_literal, plain_op}
+use Rattle.smt_nodes.specs.declared.id.IdList.{IdList}
+use Rattle.smt_nodes.specs.declared.id.NodeId.{NodeId}
+use Rattle.smt_nodes.specs.declared.node.Label.{Label}
+use Rattle.smt_nodes.specs.declared.node.Label.TheVariants.{TOption, TBitvec, TBool, TString, TSet, App, NoneOf, Prim, SetOf, SomeOf, Var}
+use Rattle.smt_nodes.specs.declared.node.Node.{Node}
+
+abbrev pub place_of : NodeId → ℕ
+place_of id = id.place
+
+-- the numbers of a list, and their places
+abbrev pub ids_of : IdList → List NodeId
+ids_of list = list.items.value.items
+
+abbrev pub places_of : List NodeId → List ℕ
+places_of ids = map place_of ids
+
+abbrev pub plain_label : Label → PlainLabel
+plain_label TOption = OptionLabel
+plain_label (TBitvec n) = BitVecLabel (bits_in n)
+plain_label TBool = BoolLabel
+plain_label TString = StringLabel
+plain_label TSet = SetLabel
+plain_label (App o) = ApplicationLabel (plain_op o)
+plain_label NoneOf = NoneLabel
+plain_label (Prim literal) = LiteralLabel (plain_literal literal)
+plain_label SetOf = SetOfLabel
+plain_label SomeOf = SomeLabel
+plain_label (Var id) = VariableLabel (rc_str_bytes id)
+
+abbrev pub plain_node : Node → PlainNode
+plain_node node = record { label = plain_label node.label; parts = places_of (ids_of node.parts) }

@@ -1,0 +1,100 @@
+// Terms and types of the program, entered as nodes.
+ghost use Rattle.std.specs.Prelude.{◌≡◌, ◌∷◌, IfOk, List, Some, map};
+ghost use Rattle.smt_graph.specs.Meanings.{all_found, meanings, stands_for};
+ghost use Rattle.smt_graph.specs.Nodes.{Meaning, TermMeaning, TypeMeaning};
+ghost use Rattle.smt_nodes.specs.View.{places_of, plain_label};
+ghost use Rattle.smt_term.specs.View.{plain_term, plain_type};
+
+use crate::id::{IdList, NodeId};
+use crate::interner::Interner;
+use crate::node::{Label, Node};
+use smt_term::{Term, TermError, TermType};
+
+impl Interner {
+    ghost use Rattle.smt_nodes.specs.Interned.{meaning_in, nodes_of, IsMeant, KeepsMeanings};
+
+    /// The number that stands for a term. Its type and its parts get numbers before it.
+    ///
+    /// # Errors
+    /// `Memory`, where there is none for the nodes. A set whose elements do not ascend has no number, and gets this answer
+    /// too; `TermSet` makes none.
+    #[cycle(intern)]
+    pub fn intern(&mut self, term: &Term) -> Result<NodeId, TermError>
+        ensures meaning { IfOk result (λ id. meaning_in self.new id ≡ Some (TermMeaning (plain_term term.now))) }
+        ensures kept { KeepsMeanings self.old self.new }
+    {
+        let ty = term.type_of(self.alloc)?;
+        let ty = self.intern_type(&ty)?;
+        match term {
+            Term::App { op, args, .. } => {
+                let parts = self.intern_all(ty, args.items())?;
+                self.enter(Label::App(op.share()?), parts.as_slice())
+            }
+            Term::None(_) => self.enter(Label::NoneOf, &[ty]),
+            Term::Prim(literal) => self.enter(Label::Prim(literal.share()?), &[ty]),
+            Term::Set { elts, .. } => {
+                let parts = self.intern_all(ty, elts.items())?;
+                self.enter(Label::SetOf, parts.as_slice())
+            }
+            Term::Some(inner) => {
+                let part = self.intern(inner)?;
+                self.enter(Label::SomeOf, &[ty, part])
+            }
+            Term::Var(variable) => self.enter(Label::Var(variable.id.clone()?), &[ty]),
+        }
+    }
+
+    // The number of a type, and then those of terms in order.
+    #[cycle(intern)]
+    fn intern_all(&mut self, ty: NodeId, terms: &[Term]) -> Result<Vec<NodeId>, TermError>
+        ensures meanings { (m : Meaning) → meaning_in self.old ty ≡ Some m →
+            IfOk result (λ parts. all_found (meanings (nodes_of self.new)) (places_of parts.items) ≡ Some (m ∷ map TermMeaning (map plain_term terms.now))) }
+        ensures kept { KeepsMeanings self.old self.new }
+    {
+        let mut parts = Vec::new(self.alloc);
+        parts.push(ty)?;
+        for term in terms {
+            let part = self.intern(term)?;
+            parts.push(part)?;
+        }
+        Ok(parts)
+    }
+
+    // The number that stands for a type.
+    fn intern_type(&mut self, ty: &TermType) -> Result<NodeId, TermError>
+        ensures meaning { IfOk result (λ id. meaning_in self.new id ≡ Some (TypeMeaning (plain_type ty.now))) }
+        ensures kept { KeepsMeanings self.old self.new }
+    {
+        match ty {
+            TermType::Option { ty } => {
+                let inner = self.intern_type(ty)?;
+                self.enter(Label::TOption, &[inner])
+            }
+            TermType::Bitvec { n } => self.enter(Label::TBitvec(*n), &[]),
+            TermType::Bool => self.enter(Label::TBool, &[]),
+            TermType::String => self.enter(Label::TString, &[]),
+            TermType::Set { ty } => {
+                let inner = self.intern_type(ty)?;
+                self.enter(Label::TSet, &[inner])
+            }
+        }
+    }
+
+    // Adds the node of a label and of parts, where it fits.
+    fn enter(&mut self, label: Label, parts: &[NodeId]) -> Result<NodeId, TermError>
+        ensures meaning { (ps : List Meaning) → all_found (meanings (nodes_of self.old)) (places_of parts.now) ≡ Some ps →
+            IfOk result (λ id. meaning_in self.new id ≡ stands_for (plain_label label) ps) }
+        ensures meant { IfOk result (IsMeant self.new) }
+        ensures kept { KeepsMeanings self.old self.new }
+    {
+        let node = Node {
+            label,
+            parts: IdList::new(self.alloc, parts)?,
+        };
+        if self.fits(&node) {
+            self.add(node)
+        } else {
+            Err(TermError::Memory)
+        }
+    }
+}

@@ -1,0 +1,290 @@
+// Nodes that stand for different things, by number.
+ghost use Rattle.std.specs.Prelude.{ℕ, List, ◌≡◌, ◌↔◌, ◌<◌, [], IfOk, IfSome, IsTrue, OnOk, Some, is_some, length, map, option_and_then, option_map, slice_get};
+ghost use Rattle.std.specs.List.{AllByRecursion, list_all};
+ghost use Rattle.smt_graph.specs.Fits.{applies_no_function, fits};
+ghost use Rattle.smt_graph.specs.Nodes.{ApplicationLabel, BitVecLabel, BoolLabel, LiteralLabel, NoneLabel, OptionLabel, SetLabel, SetOfLabel, SomeLabel, StringLabel, VariableLabel};
+ghost use Rattle.smt_meaning.specs.Plain.{PlainOp};
+ghost use Rattle.smt_graph.specs.Graphs.{IsGraph};
+ghost use Rattle.smt_graph.specs.Meanings.{all_found, meaning_at, meanings, stands_for};
+ghost use Rattle.smt_graph.specs.Parts.{label_in, parts_in};
+ghost use Rattle.smt_nodes.specs.Index.{IsIndex};
+ghost use Rattle.smt_nodes.specs.Kinds.{ascend_at, is_option_at, is_option_of_at, is_set_at, is_term_at, is_type_at, is_type_of_at, terms_at};
+ghost use Rattle.smt_nodes.specs.View.{place_of, places_of, plain_label, plain_node};
+ghost use Rattle.smt_term.specs.View.{plain_literal};
+
+use crate::id::NodeId;
+use crate::node::{Label, Node};
+use crate::table::Table;
+use smt_term::{TermError, TermPrim};
+use std::alloc::Global;
+use std::collections::BTreeMap;
+
+/// A list of nodes that each fit the nodes before it, and that each stand for something else.
+#[derive(Drop)]
+pub struct Interner {
+    pub(crate) alloc: Global,
+    table: Table,
+    ghost graph: { IsGraph (map plain_node table.nodes.items) },
+    ghost index: { IsIndex table.nodes.items table.ids },
+}
+
+impl Interner {
+    ghost use Rattle.smt_nodes.specs.Interned.{meaning_for, meaning_in, nodes_of, GrowsFor, KeepsMeanings};
+
+    /// An interner without nodes. Takes no memory.
+    pub fn new(alloc: Global) -> Interner
+        ensures { nodes_of result ≡ [] }
+    {
+        Interner {
+            alloc,
+            table: Table {
+                nodes: Vec::new(alloc),
+                ids: BTreeMap::new(alloc),
+            },
+        }
+    }
+
+    /// How many nodes it has.
+    pub fn len(&self) -> usize
+        ensures { result ≡ length (nodes_of self.now) }
+    {
+        self.table.nodes.len()
+    }
+
+    /// Whether it has none.
+    pub fn is_empty(&self) -> bool
+        ensures { IsTrue result ↔ (nodes_of self.now ≡ []) }
+    {
+        self.table.nodes.is_empty()
+    }
+
+    /// The node of a number, None exactly where its place is not below the length. Takes no memory.
+    pub fn node(&self, id: NodeId) -> Option<&Node>
+        ensures { option_map (λ node. plain_node node.now) result ≡ slice_get (nodes_of self.now) (place_of id) }
+    {
+        self.table.nodes.get(id.place)
+    }
+
+    /// The number that stands for what the node stands for. Where there is none, the node is entered.
+    ///
+    /// # Errors
+    /// `Memory`, where there is none for the node.
+    pub fn add(&mut self, node: Node) -> Result<NodeId, TermError>
+        requires { IsTrue (fits (nodes_of self.old) (plain_node node)) }
+        ensures meaning { IfOk result (λ id. meaning_in self.new id ≡ meaning_for self.old (plain_node node)) }
+        ensures kept { KeepsMeanings self.old self.new }
+        ensures grown { OnOk result (GrowsFor self.old self.new (plain_node node)) }
+    {
+        if let Some(id) = self.table.ids.get(&node) {
+            return Ok(*id);
+        }
+        let id = NodeId {
+            place: self.table.nodes.len(),
+        };
+        let key = node.share()?;
+        self.table.enter(key, node, id)?;
+        Ok(id)
+    }
+
+    /// Whether the node fits: its parts stand for things of the number and kinds that its label wants, and the first part
+    /// of a term is the type that the term has; the elements of a set ascend in the order of terms. Takes no memory.
+    pub fn fits(&self, node: &Node) -> bool
+        ensures { result ≡ fits (nodes_of self.now) (plain_node node.now) }
+    {
+        let parts = node.parts.items();
+        match &node.label {
+            Label::TOption => self.fits_around_type(parts),
+            Label::TBitvec(_) => self.fits_alone(parts),
+            Label::TBool => self.fits_alone(parts),
+            Label::TString => self.fits_alone(parts),
+            Label::TSet => self.fits_around_type(parts),
+            Label::App(_) => self.fits_application(parts),
+            Label::NoneOf => self.fits_none(parts),
+            Label::Prim(literal) => self.fits_literal(literal, parts),
+            Label::SetOf => self.fits_set(parts),
+            Label::SomeOf => self.fits_some(parts),
+            Label::Var(_) => self.fits_variable(parts),
+        }
+    }
+
+    // Whether these are the parts of a type that has none.
+    fn fits_alone(&self, parts: &[NodeId]) -> bool
+        ensures bits { (n : ℕ) → result ≡ is_some (option_and_then (stands_for (BitVecLabel n)) (all_found (meanings (nodes_of self.now)) (places_of parts.now))) }
+        ensures truths { result ≡ is_some (option_and_then (stands_for BoolLabel) (all_found (meanings (nodes_of self.now)) (places_of parts.now))) }
+        ensures texts { result ≡ is_some (option_and_then (stands_for StringLabel) (all_found (meanings (nodes_of self.now)) (places_of parts.now))) }
+    {
+        match parts {
+            [] => true,
+            [_, ..] => false,
+        }
+    }
+
+    // Whether these are the parts of a type that has a type inside it.
+    fn fits_around_type(&self, parts: &[NodeId]) -> bool
+        ensures option { result ≡ is_some (option_and_then (stands_for OptionLabel) (all_found (meanings (nodes_of self.now)) (places_of parts.now))) }
+        ensures set { result ≡ is_some (option_and_then (stands_for SetLabel) (all_found (meanings (nodes_of self.now)) (places_of parts.now))) }
+    {
+        match parts {
+            [] => false,
+            [inner] => self.is_type(*inner),
+            [_, _, ..] => false,
+        }
+    }
+
+    fn fits_application(&self, parts: &[NodeId]) -> bool
+        ensures { (o : PlainOp) → IsTrue (applies_no_function (ApplicationLabel o)) → result ≡ is_some (option_and_then (stands_for (ApplicationLabel o)) (all_found (meanings (nodes_of self.now)) (places_of parts.now))) }
+    {
+        match parts.split_first() {
+            Some((ty, args)) => self.is_type(*ty) && self.are_terms(args),
+            None => false,
+        }
+    }
+
+    fn fits_set(&self, parts: &[NodeId]) -> bool
+        ensures { result ≡ is_some (option_and_then (stands_for SetOfLabel) (all_found (meanings (nodes_of self.now)) (places_of parts.now))) }
+    {
+        match parts.split_first() {
+            Some((ty, elements)) => self.is_set(*ty) && self.are_elements(elements),
+            None => false,
+        }
+    }
+
+    fn fits_some(&self, parts: &[NodeId]) -> bool
+        ensures { result ≡ is_some (option_and_then (stands_for SomeLabel) (all_found (meanings (nodes_of self.now)) (places_of parts.now))) }
+    {
+        match parts {
+            [] => false,
+            [_] => false,
+            [ty, inner] => self.is_option_of(*ty, *inner),
+            [_, _, _, ..] => false,
+        }
+    }
+
+    fn fits_none(&self, parts: &[NodeId]) -> bool
+        ensures { result ≡ is_some (option_and_then (stands_for NoneLabel) (all_found (meanings (nodes_of self.now)) (places_of parts.now))) }
+    {
+        match parts {
+            [] => false,
+            [ty] => self.is_option(*ty),
+            [_, _, ..] => false,
+        }
+    }
+
+    fn fits_literal(&self, literal: &TermPrim, parts: &[NodeId]) -> bool
+        ensures { result ≡ is_some (option_and_then (stands_for (LiteralLabel (plain_literal literal.now))) (all_found (meanings (nodes_of self.now)) (places_of parts.now))) }
+    {
+        match parts {
+            [] => false,
+            [ty] => self.is_type_of(*ty, literal),
+            [_, _, ..] => false,
+        }
+    }
+
+    fn fits_variable(&self, parts: &[NodeId]) -> bool
+        ensures { (id : List ℕ) → result ≡ is_some (option_and_then (stands_for (VariableLabel id)) (all_found (meanings (nodes_of self.now)) (places_of parts.now))) }
+    {
+        match parts {
+            [] => false,
+            [ty] => self.is_type(*ty),
+            [_, _, ..] => false,
+        }
+    }
+
+    // Whether these are terms in ascending order.
+    fn are_elements(&self, ids: &[NodeId]) -> bool
+        ensures { result ≡ ascend_at (terms_at (meanings (nodes_of self.now)) (places_of ids.now)) }
+    {
+        self.are_terms(ids) && self.ascend(ids)
+    }
+
+    // The label of a number's node.
+    pub(crate) fn label(&self, id: NodeId) -> Option<&Label>
+        ensures { option_map (λ label. plain_label label.now) result ≡ option_map label_in (meaning_in self.now id) }
+    {
+        match self.node(id) {
+            Some(node) => Some(&node.label),
+            None => None,
+        }
+    }
+
+    // The parts of a number's node, none where it has no node.
+    pub(crate) fn parts(&self, id: NodeId) -> &[NodeId]
+        ensures found { IfSome (meaning_in self.now id) (λ m. all_found (meanings (nodes_of self.now)) (places_of result.now) ≡ Some (parts_in m)) }
+        ensures earlier { AllByRecursion (λ part. part < place_of id) (places_of result.now) }
+    {
+        match self.node(id) {
+            Some(node) => node.parts.items(),
+            None => &[],
+        }
+    }
+
+    fn is_type(&self, id: NodeId) -> bool
+        ensures { result ≡ is_type_at (meaning_in self.now id) }
+    {
+        match self.label(id) {
+            Some(label) => label.is_type(),
+            None => false,
+        }
+    }
+
+    fn is_term(&self, id: NodeId) -> bool
+        ensures { result ≡ is_term_at (meaning_in self.now id) }
+    {
+        match self.label(id) {
+            Some(label) => label.is_term(),
+            None => false,
+        }
+    }
+
+    fn are_terms(&self, ids: &[NodeId]) -> bool
+        ensures { result ≡ list_all (λ place. is_term_at (meaning_at (nodes_of self.now) place)) (places_of ids.now) }
+    {
+        for id in ids {
+            if !self.is_term(*id) {
+                return false;
+            }
+        }
+        true
+    }
+
+    fn is_option(&self, id: NodeId) -> bool
+        ensures { result ≡ is_option_at (meaning_in self.now id) }
+    {
+        match self.label(id) {
+            Some(Label::TOption) => true,
+            _ => false,
+        }
+    }
+
+    fn is_set(&self, id: NodeId) -> bool
+        ensures { result ≡ is_set_at (meaning_in self.now id) }
+    {
+        match self.label(id) {
+            Some(Label::TSet) => true,
+            _ => false,
+        }
+    }
+
+    // Whether this is the literal's type.
+    fn is_type_of(&self, ty: NodeId, literal: &TermPrim) -> bool
+        ensures { result ≡ is_type_of_at (plain_literal literal.now) (meaning_in self.now ty) }
+    {
+        match self.label(ty) {
+            Some(label) => label.is_type_of(literal),
+            None => false,
+        }
+    }
+
+    // Whether the type is that of options of the term's.
+    fn is_option_of(&self, ty: NodeId, term: NodeId) -> bool
+        ensures { result ≡ is_option_of_at (meaning_in self.now ty) (meaning_in self.now term) }
+    {
+        if !self.is_option(ty) || !self.is_term(term) {
+            return false;
+        }
+        match (self.parts(ty), self.parts(term)) {
+            ([inner, ..], [own, ..]) => *inner == *own,
+            _ => false,
+        }
+    }
+}

@@ -1,0 +1,129 @@
+// Nodes and their labels.
+ghost use Rattle.std.specs.Prelude.{◌≡◌, IfOk};
+ghost use Rattle.smt_nodes.specs.View.{plain_label, plain_node};
+ghost use Rattle.smt_term.specs.View.{plain_literal};
+
+use crate::id::IdList;
+use smt_bits::Width;
+use smt_term::{Op, TermError, TermPrim, Text};
+
+/// What a type or a term is, apart from its parts. The types come first.
+#[derive(Debug, PartialEq, Eq, PartialOrd, Ord, Drop)]
+pub enum Label {
+    /// The type of options; its part is the inner type.
+    TOption,
+    /// The type of bitvectors of a width.
+    TBitvec(Width),
+    /// The type of truth values.
+    TBool,
+    /// The type of texts.
+    TString,
+    /// The type of finite sets; its part is the element type.
+    TSet,
+    /// An operator at its arguments; its parts are the claimed type and the arguments.
+    App(Op),
+    /// None of an option; its part is its type.
+    NoneOf,
+    /// A literal; its part is its type.
+    Prim(TermPrim),
+    /// A set; its parts are its type and its elements, in the order of terms.
+    SetOf,
+    /// An option that holds a term; its parts are its type and the term.
+    SomeOf,
+    /// A variable of this id; its part is its type.
+    Var(Text),
+}
+
+/// A type or a term by its label and the numbers of its parts. A term has first its type.
+#[derive(Debug, PartialEq, Eq, PartialOrd, Ord, Drop)]
+pub struct Node {
+    /// What it is.
+    pub label: Label,
+    /// What its parts are.
+    pub parts: IdList,
+}
+
+impl Label {
+    ghost use Rattle.smt_nodes.specs.Kinds.{is_literal_label, is_term_label, is_type_label};
+
+    /// Whether it is that of a type.
+    pub(crate) fn is_type(&self) -> bool
+        ensures { result ≡ is_type_label (plain_label self.now) }
+    {
+        match self {
+            Label::TOption | Label::TBitvec(_) | Label::TBool | Label::TString | Label::TSet => {
+                true
+            }
+            Label::App(_)
+            | Label::NoneOf
+            | Label::Prim(_)
+            | Label::SetOf
+            | Label::SomeOf
+            | Label::Var(_) => false,
+        }
+    }
+
+    /// Whether it is that of a term.
+    pub(crate) fn is_term(&self) -> bool
+        ensures { result ≡ is_term_label (plain_label self.now) }
+    {
+        !self.is_type()
+    }
+
+    /// Whether it is that of the literal's type.
+    pub(crate) fn is_type_of(&self, literal: &TermPrim) -> bool
+        ensures { result ≡ is_literal_label (plain_literal literal.now) (plain_label self.now) }
+    {
+        match literal {
+            TermPrim::Bitvec(bits) => match self {
+                Label::TBitvec(width) => bits.width() == *width,
+                _ => false,
+            },
+            TermPrim::Bool(_) => match self {
+                Label::TBool => true,
+                _ => false,
+            },
+            TermPrim::String(_) => match self {
+                Label::TString => true,
+                _ => false,
+            },
+        }
+    }
+
+    /// An equal label that shares its text.
+    ///
+    /// # Errors
+    /// `Memory`, where there is none for the label.
+    pub fn share(&self) -> Result<Label, TermError>
+        ensures { IfOk result (λ label. plain_label label ≡ plain_label self.now) }
+    {
+        Ok(match self {
+            Label::TOption => Label::TOption,
+            Label::TBitvec(width) => Label::TBitvec(*width),
+            Label::TBool => Label::TBool,
+            Label::TString => Label::TString,
+            Label::TSet => Label::TSet,
+            Label::App(op) => Label::App(op.share()?),
+            Label::NoneOf => Label::NoneOf,
+            Label::Prim(literal) => Label::Prim(literal.share()?),
+            Label::SetOf => Label::SetOf,
+            Label::SomeOf => Label::SomeOf,
+            Label::Var(id) => Label::Var(id.clone()?),
+        })
+    }
+}
+
+impl Node {
+    /// An equal node that shares its parts.
+    ///
+    /// # Errors
+    /// `Memory`, where there is none for the node.
+    pub fn share(&self) -> Result<Node, TermError>
+        ensures { IfOk result (λ node. plain_node node ≡ plain_node self.now) }
+    {
+        Ok(Node {
+            label: self.label.share()?,
+            parts: self.parts.share()?,
+        })
+    }
+}

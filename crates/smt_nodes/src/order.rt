@@ -1,0 +1,133 @@
+// The order of types and of terms, by their nodes.
+ghost use Rattle.std.specs.Prelude.{◌≡◌, IfSome, IsTrue, Some};
+ghost use Rattle.smt_graph.specs.Nodes.{Meaning, SomeLabel, TermMeaning};
+ghost use Rattle.smt_meaning.specs.Plain.{PlainTerm};
+ghost use Rattle.smt_meaning.specs.TermOrder.{term_cmp};
+ghost use Rattle.smt_meaning.specs.ValueOrder.{ascends, is_below};
+ghost use Rattle.smt_graph.specs.Meanings.{meanings};
+ghost use Rattle.smt_nodes.specs.Kinds.{terms_at};
+ghost use Rattle.smt_nodes.specs.Order.{are_alike, difference_of, meaning_cmp, parts_apart};
+ghost use Rattle.smt_nodes.specs.View.{places_of, plain_label};
+
+use crate::id::NodeId;
+use crate::interner::Interner;
+use crate::node::Label;
+use std::cmp::Ordering;
+
+/// Where two lists of numbers differ.
+#[derive(Clone, Copy)]
+pub(crate) enum Difference {
+    /// Nowhere.
+    Nowhere,
+    /// First at these two numbers.
+    At(NodeId, NodeId),
+    /// One of them goes on.
+    Length(Ordering),
+}
+
+/// The first difference of two lists of numbers.
+fn first_difference(xs: &[NodeId], ys: &[NodeId]) -> Difference
+    ensures { result ≡ difference_of xs.now ys.now }
+{
+    match xs {
+        [] => match ys {
+            [] => Difference::Nowhere,
+            [_, ..] => Difference::Length(Ordering::Less),
+        },
+        [x, xs @ ..] => match ys {
+            [] => Difference::Length(Ordering::Greater),
+            [y, ys @ ..] => {
+                if x.place == y.place {
+                    first_difference(xs, ys)
+                } else {
+                    Difference::At(*x, *y)
+                }
+            }
+        },
+    }
+}
+
+/// The first difference of the parts of two nodes of one label, in the order in which terms compare them.
+fn parts_difference(label: &Label, xs: &[NodeId], ys: &[NodeId]) -> Difference
+    ensures { result ≡ parts_apart (plain_label label.now) xs.now ys.now }
+{
+    match label {
+        Label::App(_) | Label::SomeOf => type_last(xs, ys),
+        Label::TOption
+        | Label::TBitvec(_)
+        | Label::TBool
+        | Label::TString
+        | Label::TSet
+        | Label::NoneOf
+        | Label::Prim(_)
+        | Label::SetOf
+        | Label::Var(_) => first_difference(xs, ys),
+    }
+}
+
+// The first difference of parts of which the first come last.
+fn type_last(xs: &[NodeId], ys: &[NodeId]) -> Difference
+    ensures { result ≡ parts_apart SomeLabel xs.now ys.now }
+{
+    match xs {
+        [] => first_difference(xs, ys),
+        [ty, args @ ..] => match ys {
+            [] => first_difference(xs, ys),
+            [other, others @ ..] => match first_difference(args, others) {
+                Difference::Nowhere => first_difference(&[*ty], &[*other]),
+                apart => apart,
+            },
+        },
+    }
+}
+
+impl Interner {
+    ghost use Rattle.smt_nodes.specs.Interned.{meaning_in, nodes_of};
+
+    /// Whether each term is less than the next one.
+    pub(crate) fn ascend(&self, ids: &[NodeId]) -> bool
+        ensures { IfSome (terms_at (meanings (nodes_of self.now)) (places_of ids.now)) (λ terms. result ≡ ascends term_cmp terms) }
+    {
+        match ids.split_first() {
+            Some((first, others)) => self.is_below(*first, others) && self.ascend(others),
+            None => true,
+        }
+    }
+
+    // Whether a term is less than the first of the others, where there is one.
+    fn is_below(&self, term: NodeId, others: &[NodeId]) -> bool
+        ensures { (t : PlainTerm) → meaning_in self.now term ≡ Some (TermMeaning t) → IfSome (terms_at (meanings (nodes_of self.now)) (places_of others.now)) (λ terms. result ≡ is_below term_cmp t terms) }
+    {
+        match others.split_first() {
+            Some((next, _)) => self.compare(term, *next).is_lt(),
+            None => true,
+        }
+    }
+
+    /// How two types, or two terms, compare. It goes down to where their parts first differ, since the same number stands
+    /// for the same.
+    pub(crate) fn compare(&self, a: NodeId, b: NodeId) -> Ordering
+        ensures { (m n : Meaning) → meaning_in self.now a ≡ Some m → meaning_in self.now b ≡ Some n → IsTrue (are_alike m n) → result ≡ meaning_cmp m n }
+    {
+        match self.node(a) {
+            Some(first) => match self.node(b) {
+                Some(second) => match first.label.cmp(&second.label) {
+                    Ordering::Equal => {
+                        match parts_difference(
+                            &first.label,
+                            first.parts.items(),
+                            second.parts.items(),
+                        ) {
+                            Difference::Nowhere => Ordering::Equal,
+                            Difference::At(x, y) => self.compare(x, y),
+                            Difference::Length(longer) => longer,
+                        }
+                    }
+                    other => other,
+                },
+                None => Ordering::Equal,
+            },
+            None => Ordering::Equal,
+        }
+    }
+}
