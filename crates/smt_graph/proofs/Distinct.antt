@@ -122,8 +122,8 @@ differ _ (grown ns n g f new) i j m h k =
     let h' : found (meanings ns ++ meaning_of (meanings ns) n ∷ []) i ≡ Some m = sym (ap (λ ms. found ms i) (meanings_grow ns n)) ∙ h in
     let k' : found (meanings ns ++ meaning_of (meanings ns) n ∷ []) j ≡ Some m = sym (ap (λ ms. found ms j) (meanings_grow ns n)) ∙ k in
     elim (found_split (meanings ns) (meaning_of (meanings ns) n) i m h') [
-      inl a ↦ elim (found_split (meanings ns) (meaning_of (meanings ns) n) j m k') [ inl b ↦ differ ns g i j m a b | inr b ↦ absurd (new_meaning ns g (differ ns g) n new i m a b.1) ]
-    | inr a ↦ elim (found_split (meanings ns) (meaning_of (meanings ns) n) j m k') [ inl b ↦ absurd (new_meaning ns g (differ ns g) n new j m b a.1) | inr b ↦ a.0 ∙ sym b.0 ]
+      | inl a ↦ elim (found_split (meanings ns) (meaning_of (meanings ns) n) j m k') [ inl b ↦ differ ns g i j m a b | inr b ↦ absurd (new_meaning ns g (differ ns g) n new i m a b.1) ]
+      | inr a ↦ elim (found_split (meanings ns) (meaning_of (meanings ns) n) j m k') [ inl b ↦ absurd (new_meaning ns g (differ ns g) n new j m b a.1) | inr b ↦ a.0 ∙ sym b.0 ]
     ]
 
 -- the same of graphs

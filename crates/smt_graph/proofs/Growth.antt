@@ -49,13 +49,13 @@ pub grow : (ns : List PlainNode) (n : PlainNode) → IsGraph ns → IsTrue (fits
 grow ns n g f new =
     record {
       fit = λ i m h. elim (get_split ns n i m h) [
-        inl e ↦ (let b : i < length ns = slice_get_within ns i m e in let F : List PlainNode → Type 0 = λ xs. IsTrue (fits xs m) in subst F (sym (take-append-le i ns (n ∷ []) (omega arith))) (g.fit i m e))
-      | inr e ↦ (let F : List PlainNode → Type 0 = λ xs. IsTrue (fits xs m) in
-          let at : take i (ns ++ n ∷ []) ≡ ns = ap (λ i. take i (ns ++ n ∷ [])) e.0 ∙ take-append_seam ns (n ∷ []) in
-          subst F (sym at) (subst (λ m. IsTrue (fits ns m)) e.1 f))
+        | inl e ↦ (let b : i < length ns = slice_get_within ns i m e in let F : List PlainNode → Type 0 = λ xs. IsTrue (fits xs m) in subst F (sym (take-append-le i ns (n ∷ []) (omega arith))) (g.fit i m e))
+        | inr e ↦ (let F : List PlainNode → Type 0 = λ xs. IsTrue (fits xs m) in
+            let at : take i (ns ++ n ∷ []) ≡ ns = ap (λ i. take i (ns ++ n ∷ [])) e.0 ∙ take-append_seam ns (n ∷ []) in
+            subst F (sym at) (subst (λ m. IsTrue (fits ns m)) e.1 f))
       ];
       differ = λ i j m h k. elim (get_split ns n i m h) [
-        inl a ↦ elim (get_split ns n j m k) [ inl b ↦ g.differ i j m a b | inr b ↦ absurd (new (contains_at ns i n (a ∙ ap Some (sym b.1)))) ]
-      | inr a ↦ elim (get_split ns n j m k) [ inl b ↦ absurd (new (contains_at ns j n (b ∙ ap Some (sym a.1)))) | inr b ↦ a.0 ∙ sym b.0 ]
+        | inl a ↦ elim (get_split ns n j m k) [ inl b ↦ g.differ i j m a b | inr b ↦ absurd (new (contains_at ns i n (a ∙ ap Some (sym b.1)))) ]
+        | inr a ↦ elim (get_split ns n j m k) [ inl b ↦ absurd (new (contains_at ns j n (b ∙ ap Some (sym a.1)))) | inr b ↦ a.0 ∙ sym b.0 ]
       ];
     }
