@@ -1,6 +1,7 @@
-// The public calls at chosen nodes and terms.
-use super::*;
+//! Nodes: what fits, and the numbers of chosen terms.
+
 use smt_bits::EIGHT;
+use smt_nodes::{IdList, Interner, Label, Node, NodeId};
 use smt_term::{Op, Term, TermError, TermList, TermSet, TermType, TermVar, Text};
 use std::alloc::Global;
 use std::test::Fail;
