@@ -1,7 +1,6 @@
-//! Nodes: what fits, and the numbers of chosen terms.
-
+// The public calls at chosen nodes and terms.
+use super::*;
 use smt_bits::EIGHT;
-use smt_nodes::{IdList, Interner, Label, Node, NodeId};
 use smt_term::{Op, Term, TermError, TermList, TermSet, TermType, TermVar, Text};
 use std::alloc::Global;
 use std::test::Fail;
