@@ -15,6 +15,3 @@ mod table;
 pub use id::{IdList, NodeId};
 pub use interner::Interner;
 pub use node::{Label, Node};
-
-#[cfg(test)]
-mod tests;

@@ -7,10 +7,6 @@ mod foldings;
 #[cfg(test)]
 mod jobs;
 #[cfg(test)]
-mod refusals;
-#[cfg(test)]
 mod runs;
-#[cfg(test)]
-mod scripts;
 #[cfg(test)]
 mod sources;

@@ -1,23 +1,72 @@
-// Whole runs of the program: words, sources, sinks, and how a run ends.
+// Whole runs of the program where no job shows how they end: words, sources and sinks that fail, and the greatest job.
 use smt_cli::{EncodeRefusal, MemorySource, Refusal, Source, run};
 use smt_script::{ListSink, MemorySink};
 use smt_term::Text;
 use std::alloc::{AllocError, Global};
 use std::test::Fail;
 
-/// The declaration of the datatype `Option`, with which each script begins.
-pub(crate) const HEAD: &str =
-    "(declare-datatype Option (par (X) (\n  (none)\n  (some (val X)))))\n";
-
 /// The job of `not b`.
-pub(crate) const NOT_B: &str = "(job (enums) (vars (\"b\" Bool)) (funs) (terms (not (var \"b\"))))";
+const NOT_B: &str = "(job (enums) (vars (\"b\" Bool)) (funs) (terms (not (var \"b\"))))";
 
-/// The lines of its script behind the head.
-pub(crate) const NOT_B_LINES: &str =
-    "; \"b\"\n(declare-const t0 Bool)\n(define-fun t1 () Bool (not t0))\n(assert t1)\n";
+/// Its script.
+const SCRIPT: &str = "\
+(declare-datatype Option (par (X) (
+  (none)
+  (some (val X)))))
+; \"b\"
+(declare-const t0 Bool)
+(define-fun t1 () Bool (not t0))
+(assert t1)
+";
 
-/// The line of a job that has not the form of jobs.
-pub(crate) const BAD_FORM: &str = "job refused: BadForm\n";
+const USAGE: &str = "usage: smtcli script\n";
+
+const VERSION: &str = "smtcli 0.1.0\n";
+
+/// A run and how it ends: its word, the bytes of its source, which read of it and which put to `out` are to fail (0: none), the
+/// room of `out`, what `out` gets where nothing fails, or a first part of that, the status, and what is said on diag.
+///
+/// 3 comes of too many bytes as well, which `length_has_a_limit` has. 4 comes of no job yet, and 7 of want of memory, which no
+/// table can force.
+type Row = (
+    &'static str,
+    &'static str,
+    u64,
+    u64,
+    usize,
+    &'static str,
+    u8,
+    &'static str,
+);
+
+const ENDS: [Row; 16] = [
+    ("script", NOT_B, 0, 0, 200, SCRIPT, 0, ""),
+    ("--help", "", 0, 0, 2000, USAGE, 0, ""),
+    ("--version", "", 0, 0, 200, VERSION, 0, ""),
+    ("--version", NOT_B, 1, 0, 200, VERSION, 0, ""),
+    ("scripts", NOT_B, 0, 0, 200, "", 2, USAGE),
+    ("", NOT_B, 0, 0, 200, "", 2, USAGE),
+    (
+        "script",
+        "(job)",
+        0,
+        0,
+        200,
+        "",
+        3,
+        "job refused: BadForm\n",
+    ),
+    ("script", "(job)", 0, 0, 0, "", 3, "job refused: BadForm\n"),
+    // The first read gives the whole job, the second finds the end.
+    ("script", NOT_B, 1, 0, 200, "", 5, "source fault\n"),
+    ("script", NOT_B, 2, 0, 200, "", 5, "source fault\n"),
+    ("script", NOT_B, 0, 0, 70, SCRIPT, 6, "sink fault\n"),
+    ("script", NOT_B, 0, 1, 200, SCRIPT, 6, "sink fault\n"),
+    ("script", NOT_B, 0, 2, 200, SCRIPT, 6, "sink fault\n"),
+    ("script", NOT_B, 0, 7, 200, SCRIPT, 6, "sink fault\n"),
+    ("--help", "", 0, 0, 70, USAGE, 6, "sink fault\n"),
+    ("--version", "", 0, 0, 5, VERSION, 6, "sink fault\n"),
+];
 
 fn texts(alloc: Global, items: &[&str]) -> Result<Vec<Text>, AllocError> {
     let mut texts = Vec::new(alloc);
@@ -25,6 +74,54 @@ fn texts(alloc: Global, items: &[&str]) -> Result<Vec<Text>, AllocError> {
         texts.push(Text::from_str(alloc, item)?)?;
     }
     Ok(texts)
+}
+
+/// The status of a row's run, with what it put to `out` and said on diag. The numbers are those of the puts to diag that fail.
+fn end_of(alloc: Global, row: &Row, fails: &[u64]) -> Result<(u8, Vec<u8>, Vec<u8>), Fail> {
+    let words = texts(alloc, &[row.0])?;
+    let mut source = MemorySource::new(alloc, row.1.as_bytes(), &[row.2])?;
+    let mut out = MemorySink::new(alloc, &[row.3], row.4)?;
+    let mut diag = MemorySink::new(alloc, fails, 100)?;
+    let status = run(alloc, words.as_slice(), &mut source, &mut out, &mut diag);
+    Ok((
+        status,
+        out.bytes().to_vec(alloc)?,
+        diag.bytes().to_vec(alloc)?,
+    ))
+}
+
+/// Whether `out` has all where the run is done, not all where the sink failed, and else nothing.
+fn is_put(status: u8, out: &[u8], whole: &[u8]) -> bool {
+    match status {
+        0 => out.starts_with(whole),
+        6 => out != whole && (out.starts_with(whole) || whole.starts_with(out)),
+        _ => out.is_empty(),
+    }
+}
+
+#[test]
+fn runs_end_as_they_should(rt: HostRuntime) -> Result<(), Fail> {
+    for row in &ENDS {
+        let (status, out, said) = end_of(rt.alloc(), row, &[])?;
+        assert_eq!(rt; status, row.6, "{} {}", row.0, row.7);
+        assert!(rt; said.as_slice() == row.7.as_bytes(), "{} {}", row.0, row.7);
+        assert!(rt;
+            is_put(status, &out, row.5.as_bytes()),
+            "{} {}",
+            row.0,
+            row.7
+        );
+    }
+    Ok(())
+}
+
+#[test]
+fn a_failing_diag_changes_no_status(rt: HostRuntime) -> Result<(), Fail> {
+    for row in &ENDS {
+        let (status, _, said) = end_of(rt.alloc(), row, &[1])?;
+        assert!(rt; status == row.6 && said.is_empty(), "{} {}", row.0, row.7);
+    }
+    Ok(())
 }
 
 /// The status of a run over these words and this source, and the bytes that it put to out and to diag.
@@ -44,25 +141,14 @@ fn run_from(
     ))
 }
 
-/// The same, over a source of these bytes that never fails.
-pub(crate) fn run_on(
-    alloc: Global,
-    words: &[&str],
-    bytes: &[u8],
-) -> Result<(u8, Vec<u8>, Vec<u8>), Fail> {
-    run_from(alloc, words, &mut MemorySource::new(alloc, bytes, &[])?)
-}
-
 #[test]
-fn words_are_commands(rt: HostRuntime) -> Result<(), Fail> {
+fn refused_words_read_nothing(rt: HostRuntime) -> Result<(), Fail> {
     let alloc = rt.alloc();
     let rows: [&[&str]; 3] = [&[], &["scripts"], &["script", "x"]];
     for words in rows {
         let mut source = MemorySource::new(alloc, NOT_B.as_bytes(), &[])?;
         let (status, out, diag) = run_from(alloc, words, &mut source)?;
-        let refused = status == 2
-            && out.is_empty()
-            && diag.as_slice() == b"usage: smtcli script\n".as_slice();
+        let refused = status == 2 && out.is_empty() && diag.as_slice() == USAGE.as_bytes();
         assert!(rt; refused, "{words:?}");
         // The first read is still to come, and gives the first bytes.
         let mut buffer = *b"....";
@@ -71,127 +157,50 @@ fn words_are_commands(rt: HostRuntime) -> Result<(), Fail> {
             "{words:?}"
         );
     }
-    let (status, out, diag) = run_on(alloc, &["--help"], b"")?;
-    let begun = out.as_slice().starts_with(b"usage: smtcli script\n");
-    assert!(rt; status == 0 && begun && diag.is_empty());
-    let (status, out, diag) = run_on(alloc, &["--version"], b"")?;
-    assert!(rt; status == 0 && out.as_slice() == b"smtcli 0.1.0\n".as_slice() && diag.is_empty());
     Ok(())
 }
 
-/// Runs and how they end: the word, the bytes of the source, which of its reads is to fail (0: none), the room of `out`, the
-/// status, and what is said on diag.
-///
-/// 3 comes of too many bytes as well, which `length_has_a_limit` has. 4 comes of no job yet, and 7 of want of memory, which no
-/// table can force.
-const ENDS: [(&str, &str, u64, usize, u8, &str); 13] = [
-    ("script", NOT_B, 0, 200, 0, ""),
-    ("--help", "", 0, 2000, 0, ""),
-    ("--version", "", 0, 200, 0, ""),
-    ("--version", NOT_B, 1, 200, 0, ""),
-    ("scripts", NOT_B, 0, 200, 2, "usage: smtcli script\n"),
-    ("", NOT_B, 0, 200, 2, "usage: smtcli script\n"),
-    ("script", "(job)", 0, 200, 3, BAD_FORM),
-    ("script", "(job)", 0, 0, 3, BAD_FORM),
-    ("script", NOT_B, 1, 200, 5, "source fault\n"),
-    ("script", NOT_B, 2, 200, 5, "source fault\n"),
-    ("script", NOT_B, 0, 70, 6, "sink fault\n"),
-    ("--help", "", 0, 70, 6, "sink fault\n"),
-    ("--version", "", 0, 5, 6, "sink fault\n"),
-];
-
+/// These refusals come of no job yet, so they are looked at by themselves.
 #[test]
-fn statuses_have_lines(rt: HostRuntime) -> Result<(), Fail> {
-    let alloc = rt.alloc();
-    for (word, job, failing_read, room, want, line) in ENDS {
-        let words = texts(alloc, &[word])?;
-        let mut source = MemorySource::new(alloc, job.as_bytes(), &[failing_read])?;
-        let mut out = MemorySink::new(alloc, &[], room)?;
-        let mut diag = ListSink::new(alloc);
-        let status = run(alloc, words.as_slice(), &mut source, &mut out, &mut diag);
-        assert_eq!(rt; status, want, "{word} {line}");
-        assert!(rt; diag.bytes() == line.as_bytes(), "{word} {line}");
-    }
-    assert_eq!(rt; Refusal::Memory.status(), 7);
-    assert_eq!(rt; Refusal::Memory.line(), "memory\n");
-    Ok(())
-}
-
-/// A refusal of the encoder comes from no job yet, so these are looked at by themselves.
-#[test]
-fn refused_terms_have_a_status_and_a_line(rt: HostRuntime) -> Result<(), Fail> {
+fn refusals_have_a_status_and_a_line(rt: HostRuntime) {
     let rows = [
         (
-            EncodeRefusal::EncodeStringFailed,
+            Refusal::Encode(EncodeRefusal::EncodeStringFailed),
+            4,
             "encode refused: EncodeStringFailed\n",
         ),
         (
-            EncodeRefusal::EncodePatternFailed,
+            Refusal::Encode(EncodeRefusal::EncodePatternFailed),
+            4,
             "encode refused: EncodePatternFailed\n",
         ),
+        (Refusal::Memory, 7, "memory\n"),
     ];
-    for (kind, line) in rows {
-        assert_eq!(rt; Refusal::Encode(kind).status(), 4);
-        assert_eq!(rt; Refusal::Encode(kind).line(), line);
+    for (refusal, status, line) in rows {
+        assert_eq!(rt; refusal.status(), status);
+        assert_eq!(rt; refusal.line(), line);
     }
-    Ok(())
+}
+
+/// The status of a run on these bytes, and the bytes that it put to out and to diag.
+fn run_on(alloc: Global, bytes: &[u8]) -> Result<(u8, Vec<u8>, Vec<u8>), Fail> {
+    run_from(
+        alloc,
+        &["script"],
+        &mut MemorySource::new(alloc, bytes, &[])?,
+    )
 }
 
 #[test]
-fn sources_fail(rt: HostRuntime) -> Result<(), Fail> {
+fn length_has_a_limit(rt: HostRuntime) -> Result<(), Fail> {
     let alloc = rt.alloc();
-    // The first read gives the whole job, the second finds the end.
-    for number in [1, 2] {
-        let mut source = MemorySource::new(alloc, NOT_B.as_bytes(), &[number])?;
-        let (status, out, diag) = run_from(alloc, &["script"], &mut source)?;
-        let failed = status == 5
-            && out.is_empty()
-            && diag.as_slice() == b"source fault\n".as_slice();
-        assert!(rt; failed, "read {number}");
-    }
-    Ok(())
-}
-
-/// Whether a run that puts its script to this sink ends with a sink fault, and has put a first part of the script.
-fn is_cut(alloc: Global, out: &mut MemorySink) -> Result<bool, Fail> {
-    let words = texts(alloc, &["script"])?;
-    let mut source = MemorySource::new(alloc, NOT_B.as_bytes(), &[])?;
-    let mut diag = ListSink::new(alloc);
-    let status = run(alloc, words.as_slice(), &mut source, out, &mut diag);
-    let script = format!(in alloc; "{HEAD}{NOT_B_LINES}")?;
-    let cut = out.bytes().len() < script.len() && script.as_bytes().starts_with(out.bytes());
-    Ok(status == 6 && cut && diag.bytes() == b"sink fault\n".as_slice())
-}
-
-#[test]
-fn sinks_fail(rt: HostRuntime) -> Result<(), Fail> {
-    let alloc = rt.alloc();
-    for number in [1, 2, 7] {
-        let mut out = MemorySink::new(alloc, &[number], 200)?;
-        assert!(rt; is_cut(alloc, &mut out)?, "put {number}");
-    }
-    let mut small = MemorySink::new(alloc, &[], 70)?;
-    assert!(rt; is_cut(alloc, &mut small)? && small.bytes().len() == 70);
-    Ok(())
-}
-
-#[test]
-fn a_failing_diag_changes_no_status(rt: HostRuntime) -> Result<(), Fail> {
-    let alloc = rt.alloc();
-    let rows = [
-        ("scripts", NOT_B, 0, 200, 2),
-        ("script", "(job)", 0, 200, 3),
-        ("script", NOT_B, 1, 200, 5),
-        ("script", NOT_B, 0, 70, 6),
-        ("script", NOT_B, 0, 200, 0),
-    ];
-    for (word, job, failing_read, room, want) in rows {
-        let words = texts(alloc, &[word])?;
-        let mut source = MemorySource::new(alloc, job.as_bytes(), &[failing_read])?;
-        let mut out = MemorySink::new(alloc, &[], room)?;
-        let mut diag = MemorySink::new(alloc, &[1], 100)?;
-        let status = run(alloc, words.as_slice(), &mut source, &mut out, &mut diag);
-        assert!(rt; status == want && diag.bytes().is_empty(), "status {want}");
-    }
+    let mut job = NOT_B.as_bytes().to_vec(alloc)?;
+    job.resize(16_777_216, b' ')?;
+    let (status, out, diag) = run_on(alloc, job.as_slice())?;
+    assert!(rt; status == 0 && out.as_slice() == SCRIPT.as_bytes() && diag.is_empty());
+    job.push(b' ')?;
+    let (status, out, diag) = run_on(alloc, job.as_slice())?;
+    let line = b"job refused: TooLarge\n".as_slice();
+    assert!(rt; status == 3 && out.is_empty() && diag.as_slice() == line);
     Ok(())
 }

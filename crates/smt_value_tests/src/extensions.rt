@@ -1,17 +1,17 @@
-//! Decimals, datetimes, durations and IP ranges: values from outside, refusals, printed text, and one call of each public
-//! function.
+//! Decimals, datetimes, durations and IP ranges: the calls that `smt_value_rows` has no rows of, each once.
 
-mod datetimes;
-mod decimals;
-mod durations;
 mod ip_ranges;
 mod readers;
-mod values;
 
-use std::test::Fail;
+use smt_ext::{Datetime, Duration};
 
-/// The text and the value of a line.
-fn row(line: &str) -> Result<(&str, i64), Fail> {
-    let (text, value) = line.split_once('|').ok_or("no value")?;
-    Ok((text, value.parse()?))
+#[test]
+fn numbers_are_those_of_values(rt: HostRuntime) {
+    let numbers = [
+        i64::from(Duration::default()),
+        i64::from(&Duration::from(-5)),
+        i64::from(Datetime::from(7)),
+        i64::from(&Datetime::default()),
+    ];
+    assert_eq!(rt; numbers, [0, -5, 7, 0]);
 }

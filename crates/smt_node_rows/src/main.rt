@@ -1,0 +1,94 @@
+//! `smt_node_rows`: the numbers of nodes and of terms, for each row of the files in `data/`, each over an interner of its own.
+//!
+//! A row is a node's label and the places of its parts, or a term behind the word `term`. What is printed is the row and the
+//! number that it gets, and `stdout` has the numbers that there should be.
+#![tactic(auto)]
+
+mod labels;
+mod terms;
+
+use anyhow::{Context, Result};
+use smt_nodes::{IdList, Interner, Label, Node, NodeId};
+use std::alloc::Global;
+use std::fs;
+
+/// The files of rows.
+const FILES: [&str; 4] = ["sums", "terms", "sets", "nodes"];
+
+/// How many places a row can name.
+const PLACES: usize = 64;
+
+/// The numbers of the first places: those of truth values, of options of these, and so on.
+fn numbers(alloc: Global) -> Result<Vec<NodeId>> {
+    let mut numbers = Vec::new(alloc);
+    let mut nodes = Interner::new(alloc);
+    let mut node = Node {
+        label: Label::TBool,
+        parts: IdList::new(alloc, &[])?,
+    };
+    for _ in 0..PLACES {
+        let Some(number) = added(&mut nodes, node)? else {
+            break;
+        };
+        numbers.push(number)?;
+        node = Node {
+            label: Label::TOption,
+            parts: IdList::new(alloc, &[number])?,
+        };
+    }
+    Ok(numbers)
+}
+
+/// The number of a node, None where it does not fit.
+fn added(nodes: &mut Interner, node: Node) -> Result<Option<NodeId>> {
+    if nodes.fits(&node) {
+        Ok(Some(nodes.add(node)?))
+    } else {
+        Ok(None)
+    }
+}
+
+/// The node of a row, whose parts have these places.
+fn node(alloc: Global, numbers: &[NodeId], label: &str, places: &str) -> Result<Node> {
+    let mut parts = Vec::new(alloc);
+    for place in places.split_whitespace() {
+        let place: usize = place.parse()?;
+        parts.push(*numbers.get(place).context("no such place")?)?;
+    }
+    Ok(Node {
+        label: labels::label(alloc, label)?,
+        parts: IdList::new(alloc, parts.as_slice())?,
+    })
+}
+
+/// What a row gets: its number and how many nodes there are then, and for a term how many parts its node has.
+fn answer(alloc: Global, nodes: &mut Interner, numbers: &[NodeId], row: &str) -> Result<String> {
+    let (label, rest) = row.split_once(' ').unwrap_or((row, ""));
+    if label == "term" {
+        let id = nodes.intern(&terms::term(alloc, rest)?)?;
+        let parts = nodes.node(id).context("no node")?.parts.len();
+        let (place, count) = (id.place(), nodes.len());
+        return Ok(format!(in alloc; "{place} of {count}, {parts} parts")?);
+    }
+    match added(nodes, node(alloc, numbers, label, rest)?)? {
+        Some(id) => {
+            let (place, count) = (id.place(), nodes.len());
+            Ok(format!(in alloc; "{place} of {count}")?)
+        }
+        None => Ok(format!(in alloc; "does not fit")?),
+    }
+}
+
+fn main(rt: HostRuntime) -> Result<()> {
+    let alloc = rt.alloc();
+    let numbers = numbers(alloc)?;
+    for file in FILES {
+        let rows = fs::read_to_string(&rt, file)?;
+        let mut nodes = Interner::new(alloc);
+        for row in rows.lines() {
+            let answer = answer(alloc, &mut nodes, numbers.as_slice(), row)?;
+            println!(rt; "{row} = {answer}")?;
+        }
+    }
+    Ok(())
+}

@@ -1,0 +1,49 @@
+//! Terms of 8 bits as rows spell them: variables by their ids, `+` for the sum of the last two terms, and `set` for the set of
+//! all.
+
+use anyhow::{Context, Result};
+use smt_bits::EIGHT;
+use smt_term::{Op, Term, TermList, TermSet, TermType, TermVar, Text};
+use std::alloc::Global;
+
+const BYTE: TermType = TermType::Bitvec { n: EIGHT };
+
+fn variable(alloc: Global, id: &str) -> Result<Term> {
+    Ok(Term::from(TermVar {
+        id: Text::from_str(alloc, id)?,
+        ty: BYTE,
+    }))
+}
+
+fn sum(alloc: Global, a: Term, b: Term) -> Result<Term> {
+    Ok(Term::App {
+        op: Op::Bvadd,
+        args: TermList::new(alloc, &[a, b])?,
+        ret_ty: BYTE,
+    })
+}
+
+fn set(alloc: Global, elements: &[Term]) -> Result<Term> {
+    Ok(Term::Set {
+        elts_ty: BYTE,
+        elts: TermSet::new(alloc, elements)?,
+    })
+}
+
+/// The last term of this spelling.
+pub(crate) fn term(alloc: Global, spelling: &str) -> Result<Term> {
+    let mut terms: Vec<Term> = Vec::new(alloc);
+    for word in spelling.split(' ') {
+        let term = match word {
+            "+" => {
+                let b = terms.pop().context("two terms")?;
+                let a = terms.pop().context("two terms")?;
+                sum(alloc, a, b)?
+            }
+            "set" => set(alloc, terms.as_slice())?,
+            _ => variable(alloc, word)?,
+        };
+        terms.push(term)?;
+    }
+    terms.pop().context("a term")
+}
