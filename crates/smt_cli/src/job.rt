@@ -145,8 +145,8 @@ impl TermSink for TermVec {
     }
 }
 
-/// Reads a job. Its terms are built as they are read: applications are folded, constants first. Beside the job it takes
-/// the memory of one term's expression at a time.
+/// Reads a job. Its terms are built as they are read: applications are folded, constants first. Of the terms' expressions
+/// one is held at a time, and let go once its term is built.
 ///
 /// # Errors
 ///

@@ -21,9 +21,10 @@ use smt_term::{Term, TermError};
 use smt_text::digits::behind;
 use std::alloc::Global;
 
-/// How many brackets may be open inside those of the job, and inside those of its terms.
+/// How many brackets may be open inside those of the job.
 const NESTING_IN_JOB: usize = GREATEST_NESTING - 1;
 
+/// How many brackets may be open inside those of its terms.
 const NESTING_IN_TERMS: usize = GREATEST_NESTING - 2;
 
 /// What takes terms, one by one.

@@ -55,7 +55,8 @@ fn behind_items(src: &[u8], depth: usize) -> Option<&[u8]>
     }
 }
 
-/// Whether a text is plain and holds one expression, as `read_plain` reads it.
+/// Whether a text is plain and holds one expression, as `read_plain` reads it. It takes no memory, and says beforehand
+/// whether the parts of the text may be read one by one with `read_front`.
 ///
 /// It calls itself once for each bracket that is open, so the stack has to hold `max_depth` of its calls.
 pub fn is_plain_expression(src: &[u8], max_depth: usize) -> bool
