@@ -1,6 +1,6 @@
 -- What reading a part gives, and what the whole gives.
 use Rattle.std.proofs.Common.{◌≡◌, ℕ, ◌+◌, ◌<◌, ◌≤◌, false, List, [], ◌∷◌, ◌++◌, Option, Some, None, Ok, Err, Result, bytes_eq, drop, get_or, length, map, option_map, refl, sym, ap, ◌∙◌, subst, inl, inr, append_assoc, append-nil}
-use Rattle.std.specs.Prelude.{IsErrAnd, IsErrOf}
+use Rattle.std.specs.Prelude.{IsErrAnd}
 use Rattle.std.specs.Option.{ok_or}
 use Rattle.std.proofs.lemmas.Bool.{cases_Bool}
 use Rattle.std.proofs.lemmas.List.{at_drop_more, at_drop_all, map-append}
@@ -35,13 +35,6 @@ passes_on view view' (Err y) e stated inner h g f = subst (λ (x : JobError). Is
 pub given_or : {A B : Type 0} (view : A → B) (o : Option A) (r : Result A JobError) (stated : Option B) → r ≡ ok_or o BadForm → stated ≡ option_map view o → IsReadAs view r stated
 given_or view (Some x) r stated p q = subst (λ (y : Result _ JobError). IsReadAs view y stated) (sym p) q
 given_or view None r stated p q = subst (λ (y : Result _ JobError). IsReadAs view y stated) (sym p) q
-
--- what is refused as ill formed is not stated
-pub bad_form : {A B : Type 0} (view : A → B) (r : Result A JobError) (stated : Option B) → IsErrOf r BadForm → IsReadAs view r stated → stated ≡ None
-bad_form view (Ok x) stated h g = absurd (cc)
-bad_form view (Err BadForm) stated h g = g
-bad_form view (Err Memory) stated h g = absurd (cc)
-bad_form view (Err TooLarge) stated h g = absurd g
 
 -- ---- names
 
@@ -119,7 +112,7 @@ abbrev pub behind : {A : Type 0} → List A → Option (List A) → Option (List
 behind done (Some rest) = Some (done ++ rest)
 behind done None = None
 
-one_behind : {A : Type 0} (done : List A) (t : A) (o : Option (List A)) → behind done (o >>= λ ts. Some (t ∷ ts)) ≡ behind (done ++ t ∷ []) o
+pub one_behind : {A : Type 0} (done : List A) (t : A) (o : Option (List A)) → behind done (o >>= λ ts. Some (t ∷ ts)) ≡ behind (done ++ t ∷ []) o
 one_behind done t (Some ts) = ap Some (sym (append_assoc done (t ∷ []) ts))
 one_behind done t None = refl
 

@@ -8,3 +8,4 @@ pub mod Running
 pub mod Shapes
 pub mod Statuses
 pub mod TypedJobs
+pub mod Walking

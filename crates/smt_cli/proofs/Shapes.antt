@@ -11,7 +11,7 @@ use Rattle.smt_lexicon.specs.Reading.{Expression, Node, Nil, Cons}
 use Rattle.smt_sexpr.specs.View.{items_of, plain, plain-App, plain-String}
 use Rattle.smt_sexpr.specs.declared.expression.SExpr.{SExpr, App, String}
 use Rattle.smt_sexpr.specs.declared.expression.SExprs.{SExprs}
-use Rattle.smt_cli.specs.Job.{Variables, bits_stated, sole, job_of_sections, nothing_in, name_in, text_in, section, type_declared, type_of_expression, unless_declared, variable_of}
+use Rattle.smt_cli.specs.Job.{Variables, bits_stated, sole, nothing_in, name_in, text_in, section, type_declared, type_of_expression, unless_declared, variable_of}
 use Rattle.smt_cli.specs.JobView.{plain_list}
 
 -- what stands between the quotes of a string are its bytes
@@ -64,22 +64,7 @@ module _ (vs : Variables) (e id type : Expression) (shape : e ≡ Node (Cons id 
   pub is_variable : (n : List ℕ) (t : PlainType) → Some n ≡ text_in id → Some t ≡ type_of_expression type → unless_declared (type_declared vs n) (n, t) ≡ variable_of vs e
   is_variable n t p q = rw (shape, sym p, sym q) refl
 
--- ---- jobs
-
-pub sections_few : (xs : List SExpr) → length xs < 4 → job_of_sections (plain_list xs) ≡ None
-sections_few [] l = refl
-sections_few (a ∷ []) l = refl
-sections_few (a ∷ b ∷ []) l = refl
-sections_few (a ∷ b ∷ c ∷ []) l = refl
-sections_few (a ∷ b ∷ c ∷ d ∷ xs) l = absurd (omega (arith, l))
-
-pub sections_many : (xs : List SExpr) → 5 ≤ length xs → job_of_sections (plain_list xs) ≡ None
-sections_many (a ∷ b ∷ c ∷ d ∷ e ∷ xs) l = refl
-sections_many [] l = absurd (omega (arith, l))
-sections_many (a ∷ []) l = absurd (omega (arith, l))
-sections_many (a ∷ b ∷ []) l = absurd (omega (arith, l))
-sections_many (a ∷ b ∷ c ∷ []) l = absurd (omega (arith, l))
-sections_many (a ∷ b ∷ c ∷ d ∷ []) l = absurd (omega (arith, l))
+-- ---- nothing behind a head
 
 not_none : (n : ℕ) → (suc n == 0) ≡ false
 not_none n = grind (arith, nat_tests)

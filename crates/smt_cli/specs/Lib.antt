@@ -5,3 +5,4 @@ pub mod MemorySource
 pub mod Refusal
 pub mod Run
 pub mod Source
+pub mod Walk

@@ -1,17 +1,13 @@
 // Jobs: declarations and terms in one S-expression.
-ghost use Rattle.std.specs.Prelude.{◌≡◌, ◌<◌, ◌↔◌, ◌++◌, ◌∷◌, [], IfOk, OnOk, OnErr, IsErrOf, map, option_map, length};
-ghost use Rattle.smt_sexpr.specs.View.{plain};
-ghost use Rattle.smt_lexicon.specs.Reading.{expressions};
-ghost use Rattle.smt_cli.specs.Job as job;
-ghost use Rattle.smt_cli.specs.Job.{IsBuiltFrom, IsJob, PlainJob, built_job, greatest_length, job_of};
+ghost use Rattle.std.specs.Prelude.{◌≡◌, ◌<◌, ◌↔◌, ◌++◌, ◌∷◌, [], IfOk, OnOk, OnErr, IsErrOf, map, length};
+ghost use Rattle.smt_term.specs.View.{plain_term};
+ghost use Rattle.smt_cli.specs.Job.{IsBuiltFrom, IsJob, PlainJob, greatest_length};
 ghost use Rattle.smt_cli.specs.JobView as view;
-ghost use Rattle.smt_cli.specs.JobView.{IsReadAs, plain_declaration, plain_job};
+ghost use Rattle.smt_cli.specs.JobView.{plain_declaration, plain_job};
 
-use crate::declaration::declared_from;
-use crate::expression::{is_empty_section, section};
-use crate::term::conditions_from;
-use smt_sexpr::{SExpr, SExprParseError, read_plain};
-use smt_term::{EnumTable, TermError, TermList, TermVar};
+use crate::walk::{TermSink, walk_job};
+use smt_sexpr::SExprParseError;
+use smt_term::{EnumTable, Term, TermError, TermList, TermVar};
 use std::alloc::{AllocError, AllocFailed, Global};
 use thiserror::Error;
 
@@ -134,7 +130,23 @@ pub struct Job {
     pub terms: TermList,
 }
 
-/// Reads a job. Its terms are built as they are read: applications are folded, constants first.
+/// The terms that were read so far.
+#[derive(Drop)]
+struct TermVec {
+    items: Vec<Term>,
+}
+
+impl TermSink for TermVec {
+    ghost taken = { λ terms. map plain_term terms.items.items };
+
+    fn take(&mut self, term: Term) -> Result<(), TermError> {
+        self.items.push(term)?;
+        Ok(())
+    }
+}
+
+/// Reads a job. Its terms are built as they are read: applications are folded, constants first. Of the terms' expressions
+/// one is held at a time, and let go once its term is built.
 ///
 /// # Errors
 ///
@@ -145,55 +157,13 @@ pub fn read_job(alloc: Global, bytes: &[u8]) -> Result<Job, JobError>
     ensures too_large { IsErrOf result JobError.TooLarge ↔ (greatest_length < length bytes.now) }
     ensures bad_form { IsErrOf result JobError.BadForm → (job : PlainJob) → IsJob bytes.now job → ⊥ }
 {
-    if bytes.len() > GREATEST_JOB {
-        return Err(JobError::TooLarge);
-    }
-    let Some(expression) = read_plain(alloc, bytes, GREATEST_NESTING)? else {
-        return Err(JobError::BadForm);
+    let mut terms = TermVec {
+        items: Vec::new(alloc),
     };
-    job_from(alloc, &expression)
-}
-
-/// The job that an expression states.
-fn job_from(alloc: Global, expression: &SExpr) -> Result<Job, JobError>
-    ensures { IsReadAs plain_job result (option_map built_job (job_of (plain expression.now))) }
-{
-    let Some(sections) = section("job", expression) else {
-        return Err(JobError::BadForm);
-    };
-    match sections {
-        [enums, vars, funs, terms] => job_of_sections(alloc, enums, vars, funs, terms),
-        _ => Err(JobError::BadForm),
-    }
-}
-
-/// The job that its four sections state. There is no enum type and no function.
-fn job_of_sections(
-    alloc: Global,
-    enums: &SExpr,
-    vars: &SExpr,
-    funs: &SExpr,
-    terms: &SExpr,
-) -> Result<Job, JobError>
-    ensures { IsReadAs plain_job result (option_map built_job (job.job_of_sections (expressions (plain enums.now ∷ plain vars.now ∷ plain funs.now ∷ plain terms.now ∷ [])))) }
-{
-    if !is_empty_section("enums", enums) {
-        return Err(JobError::BadForm);
-    }
-    let Some(vars) = section("vars", vars) else {
-        return Err(JobError::BadForm);
-    };
-    if !is_empty_section("funs", funs) {
-        return Err(JobError::BadForm);
-    }
-    let Some(terms) = section("terms", terms) else {
-        return Err(JobError::BadForm);
-    };
-    let declared = declared_from(alloc, vars)?;
-    let terms = conditions_from(alloc, &declared, terms)?;
+    let vars = walk_job(alloc, bytes, &mut terms)?;
     Ok(Job {
         enums: EnumTable::new(alloc),
-        vars: declared.vars,
-        terms,
+        vars,
+        terms: TermList::new(alloc, terms.items.as_slice())?,
     })
 }

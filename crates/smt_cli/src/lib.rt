@@ -11,9 +11,11 @@ mod program;
 mod refusal;
 mod source;
 mod term;
+mod walk;
 
 pub use input::{InputError, read_input};
 pub use job::{Job, JobError, VarList, read_job};
 pub use program::{Command, run};
 pub use refusal::{EncodeRefusal, JobRefusal, Refusal};
 pub use source::{MemorySource, ReadSource, Source, SourceError, SourceFault};
+pub use walk::TermSink;

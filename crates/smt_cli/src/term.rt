@@ -1,11 +1,11 @@
 // Terms as jobs write them, and as they are built: each application is folded, its operands first.
-ghost use Rattle.std.specs.Prelude.{◌≡◌, ◌≤◌, ◌+◌, List, IfOk, OnOk, length, map, option_map};
+ghost use Rattle.std.specs.Prelude.{◌≡◌, ◌≤◌, ◌+◌, List, IfOk, OnOk, length, option_map};
 ghost use Rattle.smt_folding.specs.Built.{built};
 ghost use Rattle.smt_sexpr.specs.View.{plain};
 ghost use Rattle.smt_meaning.specs.Plain.{PlainTerm};
-ghost use Rattle.smt_term.specs.View.{plain_items, plain_op, plain_term};
+ghost use Rattle.smt_term.specs.View.{plain_op, plain_term};
 ghost use Rattle.smt_cli.specs.Job as job;
-ghost use Rattle.smt_cli.specs.Job.{Variables, applied, bits_stated_as, bits_stated, condition_of, conditions_of, declared_variable, extension_by, extension_stated, bits_term, long_in, long_of_text, long_stated, term_of, variable_stated};
+ghost use Rattle.smt_cli.specs.Job.{Variables, applied, bits_stated_as, bits_stated, condition_of, declared_variable, extension_by, extension_stated, bits_term, long_in, long_of_text, long_stated, term_of, variable_stated};
 ghost use Rattle.smt_cli.specs.JobView as view;
 ghost use Rattle.smt_cli.specs.JobView.{AreBuilt, HasVariables, IsReadAs, States, StatesHeaded, first_of};
 
@@ -15,7 +15,7 @@ use crate::job::JobError;
 use crate::operator::{built_from, operator_named};
 use smt_bits::{BitVec, Width};
 use smt_sexpr::SExpr;
-use smt_term::{Op, Term, TermList, TermType, TermVar};
+use smt_term::{Op, Term, TermType, TermVar};
 use smt_text::digits;
 use std::alloc::Global;
 
@@ -200,7 +200,11 @@ fn term_from(alloc: Global, declared: &Declared, expression: &SExpr) -> Result<T
 }
 
 /// The Boolean term that an expression states, as it is built.
-fn condition_from(alloc: Global, declared: &Declared, expression: &SExpr) -> Result<Term, JobError>
+pub(crate) fn condition_from(
+    alloc: Global,
+    declared: &Declared,
+    expression: &SExpr,
+) -> Result<Term, JobError>
     ensures { (vs : Variables) → HasVariables declared.now vs → IsReadAs plain_term result (option_map built (condition_of vs (plain expression.now))) }
 {
     let term = term_from(alloc, declared, expression)?;
@@ -209,19 +213,4 @@ fn condition_from(alloc: Global, declared: &Declared, expression: &SExpr) -> Res
     } else {
         Err(JobError::BadForm)
     }
-}
-
-/// The Boolean terms that these expressions state, as they are built.
-pub(crate) fn conditions_from(
-    alloc: Global,
-    declared: &Declared,
-    expressions: &[SExpr],
-) -> Result<TermList, JobError>
-    ensures { (vs : Variables) → HasVariables declared.now vs → IsReadAs plain_items result (option_map (map built) (conditions_of vs (view.plain_list expressions.now))) }
-{
-    let mut terms = Vec::new(alloc);
-    for expression in expressions {
-        terms.push(condition_from(alloc, declared, expression)?)?;
-    }
-    Ok(TermList::new(alloc, terms.as_slice())?)
 }

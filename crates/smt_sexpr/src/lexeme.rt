@@ -4,9 +4,9 @@
 ghost use Rattle.std.specs.Prelude.{◌≡◌, ℕ, ◌<◌, ◌∷◌, ◌++◌, List, length, not, true, false, ◌==◌, OnOk, IfSome, IfNone};
 ghost use Rattle.std.specs.List.{list_all, take_while};
 ghost use Rattle.std.specs.String.{string_bytes};
-ghost use Rattle.smt_lexicon.specs.Front.{Begins, BeginsWithNone, IfRead, IfUnread, IsQuoted, begins_no_symbol, begins_number, skip_space};
-ghost use Rattle.smt_lexicon.specs.Lexicon.{is_space, is_symbol_byte};
-ghost use Rattle.smt_lexicon.specs.PlainTexts.{IsPlainText, is_plain_text_byte};
+ghost use Rattle.smt_lexicon.specs.Front.{Begins, BeginsWithAtom, BeginsWithNone, IfRead, IfUnread, IsQuoted, begins_no_symbol, begins_number, skip_space};
+ghost use Rattle.smt_lexicon.specs.Lexicon.{Name, Number, is_space, is_symbol_byte};
+ghost use Rattle.smt_lexicon.specs.PlainTexts.{IsPlainText, IsSmallAtom, is_plain_text_byte};
 ghost use Rattle.smt_sexpr.specs.View.{plain};
 
 use crate::error::SExprParseError;
@@ -72,6 +72,55 @@ pub fn without_space(src: &[u8]) -> &[u8]
     src.split_at(space_len(src)).1
 }
 
+/// The number of the numeral at the front of a text, and what follows it.
+pub fn split_numeral(src: &[u8]) -> Option<(u128, &[u8])>
+    requires { begins_number src.now ≡ true }
+    ensures found { IfSome result (λ x. BeginsWithAtom src.now (Number x.0) x.1.now × IsSmallAtom (Number x.0)) }
+    ensures none { IfNone result ((depth : ℕ) → BeginsWithNone depth src.now) }
+    ensures rest_plain { IsPlainText src.now → IfSome result (λ x. IsPlainText x.1.now) }
+    ensures shorter { IfSome result (λ x. length x.1.now < length src.now) }
+{
+    let (digits, rest) = split_digits(src);
+    let value = wide_number(digits)?;
+    Some((value, rest))
+}
+
+/// The bytes of the symbol at the front of a text, and what follows it.
+pub fn split_symbol(src: &[u8]) -> Option<(&[u8], &[u8])>
+    requires is_plain { IsPlainText src.now }
+    requires no_other { begins_no_symbol src.now ≡ false }
+    ensures found { IfSome result (λ x. BeginsWithAtom src.now (Name x.0.now) x.1.now) }
+    ensures none { IfNone result ((depth : ℕ) → BeginsWithNone depth src.now) }
+    ensures name_plain { IfSome result (λ x. IsPlainText x.0.now) }
+    ensures rest_plain { IfSome result (λ x. IsPlainText x.1.now) }
+    ensures shorter { IfSome result (λ x. length x.1.now < length src.now) }
+{
+    let (name, rest) = src.split_at(symbol_len(src));
+    if name.is_empty() {
+        None
+    } else {
+        Some((name, rest))
+    }
+}
+
+/// What follows the string at the front of a text. `src` stands behind the opening quote.
+pub fn behind_string(src: &[u8]) -> Option<&[u8]>
+    requires { IsPlainText src.now }
+    ensures found { IfSome result (λ rest. (text : List ℕ) × IsQuoted src.now text rest.now) }
+    ensures none { IfNone result ((text rest : List ℕ) → IsQuoted src.now text rest → ⊥) }
+    ensures rest_plain { IfSome result (λ rest. IsPlainText rest.now) }
+    ensures shorter { IfSome result (λ rest. length rest.now < length src.now) }
+{
+    let mut rest = src;
+    loop {
+        let after = behind(rest.split_at(run_len(rest)).1, b'"')?;
+        let Some(more) = behind(after, b'"') else {
+            return Some(after);
+        };
+        rest = more;
+    }
+}
+
 /// The numeral at the front of a text, and what follows it.
 pub fn read_numeral(src: &[u8]) -> Option<(SExpr, &[u8])>
     requires { begins_number src.now ≡ true }
@@ -80,8 +129,7 @@ pub fn read_numeral(src: &[u8]) -> Option<(SExpr, &[u8])>
     ensures rest_plain { IsPlainText src.now → IfSome result (λ x. IsPlainText x.1.now) }
     ensures shorter { IfSome result (λ x. length x.1.now < length src.now) }
 {
-    let (digits, rest) = split_digits(src);
-    let value = wide_number(digits)?;
+    let (value, rest) = split_numeral(src)?;
     Some((SExpr::Numeral(value), rest))
 }
 
@@ -94,10 +142,9 @@ pub fn read_symbol(alloc: Global, src: &[u8]) -> Result<Option<(SExpr, &[u8])>, 
     ensures rest_plain { IfRead result (λ x. IsPlainText x.1.now) }
     ensures shorter { IfRead result (λ x. length x.1.now < length src.now) }
 {
-    let (name, rest) = src.split_at(symbol_len(src));
-    if name.is_empty() {
+    let Some((name, rest)) = split_symbol(src) else {
         return Ok(None);
-    }
+    };
     let text = Text::from_str(alloc, str::from_utf8(name).unwrap())?;
     Ok(Some((SExpr::Symbol(text), rest)))
 }

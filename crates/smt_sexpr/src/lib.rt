@@ -7,9 +7,12 @@ pub mod laws;
 mod lexeme;
 pub mod quote;
 pub mod read;
+pub mod scan;
 
 pub use error::SExprParseError;
 pub use expression::{SExpr, SExprs};
+pub use lexeme::without_space;
 pub use quote::quote_string;
-pub use read::read_plain;
+pub use read::{read_front, read_plain};
+pub use scan::is_plain_expression;
 pub use smt_text::Text;

@@ -13,9 +13,14 @@ use crate::lexeme::{is_plain_text, read_numeral, read_string, read_symbol, witho
 use smt_text::digits::behind;
 use std::alloc::Global;
 
-/// The expression at the front of a text, and what follows it.
+/// The expression at the front of a plain text, and what follows it, or `None` where none begins there. White space does
+/// not stand before it, and at most `depth` brackets are open at a place. The grammar is that of `read_plain`.
+///
+/// # Errors
+///
+/// `Memory`, where there is none left.
 #[cycle(reader)]
-fn read_item(
+pub fn read_front(
     alloc: Global,
     src: &[u8],
     depth: usize,
@@ -64,7 +69,7 @@ fn read_items(
         if let Some(after) = behind(rest, b')') {
             return Ok(Some((items, after)));
         }
-        let Some((item, after)) = read_item(alloc, rest, depth)? else {
+        let Some((item, after)) = read_front(alloc, rest, depth)? else {
             return Ok(None);
         };
         items.push(item)?;
@@ -98,7 +103,7 @@ pub fn read_plain(
     if !is_plain_text(src) {
         return Ok(None);
     }
-    let Some((item, rest)) = read_item(alloc, without_space(src), max_depth)? else {
+    let Some((item, rest)) = read_front(alloc, without_space(src), max_depth)? else {
         return Ok(None);
     };
     if without_space(rest).is_empty() {

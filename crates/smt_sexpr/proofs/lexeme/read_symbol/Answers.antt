@@ -1,31 +1,14 @@
 use Rattle.std.proofs.Common.{sym, ◌∙◌, subst}
 use Rattle.smt_lexicon.specs.Front.{BeginsWithAtom}
-use Rattle.smt_lexicon.specs.Lexicon.{Name, is_symbol_byte}
+use Rattle.smt_lexicon.specs.Lexicon.{Name}
 use Rattle.smt_sexpr.specs.View.{plain-Symbol}
-use Rattle.smt_lexicon.proofs.Atoms.{symbol_begins, symbol_none}
 use Rattle.smt_lexicon.proofs.PlainText.{text_of_plain}
-use Rattle.smt_characters.specs.Front.{IsRun}
-use Rattle.smt_characters.proofs.Runs.{run_at}
-use Rattle.smt_lexicon.proofs.Runs.{plain_front, empty_from, some_from}
 use Rattle.smt_sexpr.proofs.lexeme.read_symbol.Goals as goal
 
-pub returns-then-is_empty-clause-none : goal.returns-then-is_empty-clause-none
-returns-then-is_empty-clause-none c =
-    let r = run_at is_symbol_byte c.args.src.now c.split_at.result.0.now c.split_at.result.1.now c.symbol_len.result c.symbol_len.ensures c.split_at.ensures.front c.split_at.ensures.back in
-    let nothing = empty_from c.split_at.result.0.now (sym c.if-is_empty.ensures) in
-    symbol_none _ _ (subst (λ v. IsRun is_symbol_byte c.args.src.now v c.split_at.result.1.now) nothing r) c.requires.no_other c.requires.is_plain
-
 pub unwrap-requires : goal.unwrap-requires
-unwrap-requires c =
-    let r = run_at is_symbol_byte c.args.src.now c.split_at.result.0.now c.split_at.result.1.now c.symbol_len.result c.symbol_len.ensures c.split_at.ensures.front c.split_at.ensures.back in
-    text_of_plain c.split_at.result.0.now c.from_utf8.result _ _ (plain_front c.args.src.now c.split_at.result.0.now c.split_at.result.1.now r.whole c.requires.is_plain) c.from_utf8.ensures.cases
+unwrap-requires c = text_of_plain c.in-Some.name.now c.from_utf8.result _ _ c.in-Some.ensures.name_plain c.from_utf8.ensures.cases
 
 pub returns-clause-found : goal.returns-clause-found
 returns-clause-found c =
-    let r = run_at is_symbol_byte c.args.src.now c.split_at.result.0.now c.split_at.result.1.now c.symbol_len.result c.symbol_len.ensures c.split_at.ensures.front c.split_at.ensures.back in
     let text = rw c.unwrap.ensures at c.from_utf8.ensures.cases in
-    let some = some_from c.split_at.result.0.now (sym c.if-is_empty.ensures) in
-    λ depth. rw plain-Symbol (
-      subst (λ v. BeginsWithAtom c.args.src.now (Name v) c.split_at.result.1.now) (sym (c.in_ok-text.ensures.ok ∙ text.0)) (symbol_begins _ _ _ r some c.requires.no_other c.requires.is_plain),
-      tt,
-    )
+    λ depth. rw plain-Symbol (subst (λ v. BeginsWithAtom c.args.src.now (Name v) c.in-Some.rest.now) (sym (c.in_ok-text.ensures.ok ∙ text.0)) c.in-Some.ensures.found, tt)

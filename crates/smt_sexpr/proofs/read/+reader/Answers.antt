@@ -6,15 +6,15 @@ use Rattle.smt_lexicon.proofs.Items.{inside_none, none_at_end, none_inside, none
 use Rattle.smt_lexicon.proofs.Runs.{empty_length, length-skip_space, plain_skip}
 use Rattle.smt_sexpr.proofs.read.+reader.Goals as goal
 
-pub read_item-returns-in_default-clause-none : goal.read_item-returns-in_default-clause-none
-read_item-returns-in_default-clause-none t c = none_at_end c.args.depth c.args.src.now (empty_length c.args.src.now c.in_default.ensures.cases)
+pub read_front-returns-in_default-clause-none : goal.read_front-returns-in_default-clause-none
+read_front-returns-in_default-clause-none t c = none_at_end c.args.depth c.args.src.now (empty_length c.args.src.now c.in_default.ensures.cases)
 
-pub read_item-returns-then-depth-eq0-clause-none : goal.read_item-returns-then-depth-eq0-clause-none
-read_item-returns-then-depth-eq0-clause-none t c =
+pub read_front-returns-then-depth-eq0-clause-none : goal.read_front-returns-then-depth-eq0-clause-none
+read_front-returns-then-depth-eq0-clause-none t c =
     too_deep c.args.depth c.args.src.now c.in-Some.inside.now c.if-depth-eq0.true (c.in-Some.ensures.cases.0 ∙ ap (λ (b : ℕ). b ∷ c.in-Some.inside.now) c.in-40.is)
 
-pub read_item-returns-in_default-2-clause-none : goal.read_item-returns-in_default-2-clause-none
-read_item-returns-in_default-2-clause-none t c =
+pub read_front-returns-in_default-2-clause-none : goal.read_front-returns-in_default-2-clause-none
+read_front-returns-in_default-2-clause-none t c =
     none_inside c.args.depth c.args.src.now c.in-Some.inside.now (c.in-Some.ensures.cases.0 ∙ ap (λ (b : ℕ). b ∷ c.in-Some.inside.now) c.in-40.is) (rw c.in_default-2.is at c.in_ok-items-in-40.ensures.none)
 
 pub read_items-loop-after-init : goal.read_items-loop-after-init

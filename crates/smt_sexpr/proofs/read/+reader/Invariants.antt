@@ -4,8 +4,8 @@ use Rattle.smt_sexpr.specs.View.{plains}
 use Rattle.smt_lexicon.proofs.Items.{AreReadSoFar}
 use Rattle.smt_sexpr.proofs.read.+reader.Given as goal
 
-abbrev pub decreases-read_item : goal.decreases-read_item
-decreases-read_item l = 2 * l.depth
+abbrev pub decreases-read_front : goal.decreases-read_front
+decreases-read_front l = 2 * l.depth
 
 abbrev pub decreases-read_items : goal.decreases-read_items
 decreases-read_items l = 2 * l.depth + 1

@@ -6,8 +6,8 @@ use Rattle.smt_lexicon.proofs.Readings.{more_behind, none_reads, one_expression,
 use Rattle.smt_lexicon.proofs.Runs.{empty_from, plain_skip}
 use Rattle.smt_sexpr.proofs.read.read_plain.Goals as goal
 
-pub read_item-requires : goal.read_item-requires
-read_item-requires c = rw c.without_space.ensures (plain_skip c.args.src.now (sym c.if-not-is_plain_text.ensures))
+pub read_front-requires : goal.read_front-requires
+read_front-requires c = rw c.without_space.ensures (plain_skip c.args.src.now (sym c.if-not-is_plain_text.ensures))
 
 pub returns-in_default-clause-none : goal.returns-in_default-clause-none
 returns-in_default-clause-none c =
