@@ -1,3 +1,3 @@
-pub mod AnyOf
-pub mod AnyRows
-pub mod FoldBy
+pub use Rattle.smt_bit_terms.specs.FoldBy
+pub use Rattle.smt_connectives.specs.AnyOf
+pub use Rattle.smt_connectives.specs.AnyRows

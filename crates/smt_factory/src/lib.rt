@@ -6,35 +6,22 @@
 //! call that is made of other calls is defined once (`Composites`), over who builds: `folding` gives the term, `applied`
 //! the application. A call with many exits has a private one beside it that folds, so that this is shown once and not at
 //! each exit.
-#![tactic(auto, using(crate::proofs::Folding::folding))]
+//!
+//! The calls stand in crates by subject, which this one passes on: `smt_connectives`, `smt_equality`, `smt_bit_terms`,
+//! `smt_option_terms` and `smt_collection_terms`, all over `smt_parts`.
+#![tactic(auto)]
 
-mod any;
-mod application;
-mod bits;
-mod comparisons;
-mod connectives;
-mod equality;
-pub mod laws;
-mod options;
-mod overflows;
-mod parts;
-mod rule;
-mod sets;
-mod strings;
-
-pub use any::any_true;
-pub use bits::{
-    bvadd, bvapp, bvlshr, bvmul, bvneg, bvsdiv, bvshl, bvsmod, bvsrem, bvsub, bvudiv, bvurem,
+pub use smt_bit_terms::{
+    BvRule, bvadd, bvapp, bvapp_by, bvlshr, bvmul, bvneg, bvnego, bvsaddo, bvsdiv, bvshl, bvsle,
+    bvslt, bvsmod, bvsmulo, bvso, bvsrem, bvssubo, bvsub, bvudiv, bvule, bvult, bvurem,
     zero_extend,
 };
-pub use comparisons::{bvsle, bvslt, bvule, bvult};
-pub use connectives::{and, implies, not, opposites, or};
-pub use equality::{eq, ite};
-pub use options::{
-    any_none, if_all_some, if_false, if_some, if_true, is_none, is_some, none_of, option_get,
-    some_of,
+pub use smt_collection_terms::{
+    set_inter, set_intersects, set_is_empty, set_member, set_of, set_subset, string_like,
 };
-pub use overflows::{bvnego, bvsaddo, bvsmulo, bvso, bvssubo};
-pub use rule::{BvRule, bvapp_by};
-pub use sets::{set_inter, set_intersects, set_is_empty, set_member, set_of, set_subset};
-pub use strings::string_like;
+pub use smt_connectives::{and, any_true, implies, laws, not, opposites, or};
+pub use smt_equality::{eq, ite};
+pub use smt_option_terms::{
+    any_none, if_all_some, if_false, if_some, if_true, is_none, is_some, option_get,
+};
+pub use smt_parts::{none_of, some_of};

@@ -1,0 +1,2 @@
+pub mod FoldingSets
+pub mod FoldingStrings

@@ -1,0 +1,11 @@
+use Rattle.std.proofs.Common.{◌≡◌, ap, ◌∙◌, sym}
+use Rattle.smt_folding.specs.Parts.{is_empty_set}
+use Rattle.smt_collection_terms.proofs.FoldingSets.{empty_set-is}
+use Rattle.smt_collection_terms.proofs.sets.is_empty_set.Goals as goal
+use Rattle.smt_meaning.specs.Plain.{SetTerm, terms}
+use Rattle.smt_term.specs.View.{plain_elements, plain_term, plain_term-Set, plain_type}
+
+pub returns-in-Set : goal.returns-in-Set
+returns-in-Set c =
+    let e : plain_term c.args.t.now ≡ SetTerm (plain_type c.in-Set.elts_ty) (terms (plain_elements c.in-Set.elts)) = ap plain_term c.in-Set.is ∙ plain_term-Set c.in-Set.elts_ty c.in-Set.elts in
+    empty_set-is (plain_type c.in-Set.elts_ty) (plain_elements c.in-Set.elts) c.is_empty.result c.is_empty.ensures ∙ ap is_empty_set (sym e)

@@ -1,0 +1,53 @@
+//! Strings of the theory UnicodeStrings: whether they match a pattern.
+#![tactic(auto, using(crate::proofs::FoldingStrings::string_folding))]
+
+ghost use Rattle.std.specs.Prelude.{◌≡◌, IfOk, MatchOption, None};
+ghost use Rattle.std.specs.Rc.{rc_str_bytes};
+ghost use Rattle.smt_folding.specs.Applications.{string_like_of};
+ghost use Rattle.smt_folding.specs.FoldStrings.{folded_string_like};
+ghost use Rattle.smt_folding.specs.Parts.{text_inside};
+ghost use Rattle.smt_folding.specs.Refinement.{Refines};
+ghost use Rattle.smt_term.specs.PatternView.{plain_ord_pattern};
+ghost use Rattle.smt_meaning.specs.Plain.{LiteralTerm, StringLiteral};
+ghost use Rattle.smt_term.specs.View.{plain_literal, plain_term};
+
+use smt_parts::truth_application;
+use smt_term::{Op, OrdPattern, Term, TermError, TermPrim, Text};
+use std::alloc::Global;
+
+// The text of a literal.
+#[tactic(auto, using(smt_term::specs::View::views))]
+fn text_inside(t: &Term) -> Option<&Text>
+    ensures { MatchOption result (text_inside (plain_term t.now) ≡ None) (λ s. plain_term t.now ≡ LiteralTerm (StringLiteral (rc_str_bytes s.now))) }
+{
+    match t {
+        Term::Prim(literal) => literal_text(literal),
+        Term::App { .. } | Term::None(_) | Term::Set { .. } | Term::Some(_) | Term::Var(_) => None,
+    }
+}
+
+#[tactic(auto, using(smt_term::specs::View::views))]
+fn literal_text(literal: &TermPrim) -> Option<&Text>
+    ensures { MatchOption result
+        (text_inside (LiteralTerm (plain_literal literal.now)) ≡ None)
+        (λ s. plain_literal literal.now ≡ StringLiteral (rc_str_bytes s.now)) }
+{
+    match literal {
+        TermPrim::String(text) => Some(text),
+        TermPrim::Bitvec(_) | TermPrim::Bool(_) => None,
+    }
+}
+
+/// Whether a string matches a pattern. Of a literal it is a literal.
+///
+/// # Errors
+/// `Memory`, where there is none for the term.
+pub fn string_like(alloc: Global, t: Term, p: OrdPattern) -> Result<Term, TermError>
+    ensures folded { IfOk result (λ r. plain_term r ≡ folded_string_like (plain_term t) (plain_ord_pattern p)) }
+    ensures refines { IfOk result (λ r. Refines (plain_term r) (string_like_of (plain_term t) (plain_ord_pattern p))) }
+{
+    if let Some(text) = text_inside(&t) {
+        return Ok(Term::from(p.wildcard_match(text)));
+    }
+    truth_application(alloc, Op::StringLike(p), &[t])
+}

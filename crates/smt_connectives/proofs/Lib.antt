@@ -1,0 +1,4 @@
+pub mod AnyAnswers
+pub mod AnyRows
+pub mod AnyTruth
+pub mod Folding

@@ -1,0 +1,112 @@
+//! Equality of the theory Core.
+#![tactic(auto, using(crate::proofs::Folding::comparing))]
+
+ghost use Rattle.std.specs.Prelude.{◌≡◌, ◌&&◌, IfOk};
+ghost use Rattle.smt_folding.specs.Applications.{eq_of, truth_literal};
+ghost use Rattle.smt_folding.specs.FoldEquality.{folded_eq, folded_eq_inside, is_boolean};
+ghost use Rattle.smt_folding.specs.Refinement.{Refines};
+ghost use Rattle.smt_meaning.specs.Plain.{BoolType};
+ghost use Rattle.smt_meaning.specs.TermOrder.{term_eq};
+ghost use Rattle.smt_meaning.specs.Types.{literal_type, type_eq};
+ghost use Rattle.smt_term.specs.View.{plain_literal, plain_term, plain_type};
+
+use crate::pairs::{are_some_and_none, both_held};
+use smt_connectives::not;
+use smt_parts::{is_truth_value, truth_application};
+use smt_term::{Op, Term, TermError, TermPrim, TermType};
+use std::alloc::Global;
+
+// Whether the term has the type of truth values.
+#[tactic(auto, using(smt_term::specs::View::views))]
+fn is_boolean(t: &Term) -> bool
+    ensures { result ≡ is_boolean (plain_term t.now) }
+{
+    match t {
+        Term::App { ret_ty, .. } => is_truth_type(ret_ty),
+        Term::None(_) | Term::Set { .. } | Term::Some(_) => false,
+        Term::Prim(literal) => is_truth(literal),
+        Term::Var(variable) => is_truth_type(&variable.ty),
+    }
+}
+
+#[tactic(auto, using(smt_term::specs::View::views))]
+fn is_truth_type(ty: &TermType) -> bool
+    ensures { result ≡ type_eq (plain_type ty.now) BoolType }
+{
+    match ty {
+        TermType::Bool => true,
+        TermType::Option { .. }
+        | TermType::Bitvec { .. }
+        | TermType::String
+        | TermType::Set { .. } => false,
+    }
+}
+
+fn is_truth(literal: &TermPrim) -> bool
+    ensures { result ≡ type_eq (literal_type (plain_literal literal.now)) BoolType }
+{
+    match literal {
+        TermPrim::Bool(_) => true,
+        TermPrim::Bitvec(_) | TermPrim::String(_) => false,
+    }
+}
+
+// Whether the first is this literal, and the second a Boolean term.
+fn is_beside_boolean(truth: bool, t1: &Term, t2: &Term) -> bool
+    ensures { result ≡ (term_eq (plain_term t1.now) (truth_literal truth) && is_boolean (plain_term t2.now)) }
+{
+    is_truth_value(t1, truth) && is_boolean(t2)
+}
+
+/// The equality of two terms of one type.
+///
+/// Two `some` are compared by what they hold, and `some` and none give false. Equal terms give true and two other literals
+/// false. True with a Boolean term gives that term, and false with one its negation.
+///
+/// # Errors
+/// `Memory`, where there is none for the term.
+pub fn eq(alloc: Global, t1: Term, t2: Term) -> Result<Term, TermError>
+    ensures folded { IfOk result (λ r. plain_term r ≡ folded_eq (plain_term t1) (plain_term t2)) }
+    ensures refines { IfOk result (λ r. Refines (plain_term r) (eq_of (plain_term t1) (plain_term t2))) }
+{
+    folded_eq(alloc, t1, t2)
+}
+
+// The equality, folded.
+fn folded_eq(alloc: Global, t1: Term, t2: Term) -> Result<Term, TermError>
+    ensures { IfOk result (λ r. plain_term r ≡ folded_eq (plain_term t1) (plain_term t2)) }
+{
+    if let Some((held1, held2)) = both_held(&t1, &t2) {
+        return eq_inside(alloc, held1.share()?, held2.share()?);
+    }
+    if are_some_and_none(&t1, &t2) || are_some_and_none(&t2, &t1) {
+        return Ok(Term::from(false));
+    }
+    eq_inside(alloc, t1, t2)
+}
+
+// Equality, where what `some` and none hold has been looked at.
+#[tactic(auto, using(crate::proofs::Folding::equal))]
+fn eq_inside(alloc: Global, t1: Term, t2: Term) -> Result<Term, TermError>
+    ensures { IfOk result (λ r. plain_term r ≡ folded_eq_inside (plain_term t1) (plain_term t2)) }
+{
+    if t1 == t2 {
+        return Ok(Term::from(true));
+    }
+    if t1.is_literal() && t2.is_literal() {
+        return Ok(Term::from(false));
+    }
+    if is_beside_boolean(true, &t1, &t2) {
+        return Ok(t2);
+    }
+    if is_beside_boolean(true, &t2, &t1) {
+        return Ok(t1);
+    }
+    if is_beside_boolean(false, &t1, &t2) {
+        return not(alloc, t2);
+    }
+    if is_beside_boolean(false, &t2, &t1) {
+        return not(alloc, t1);
+    }
+    truth_application(alloc, Op::Eq, &[t1, t2])
+}

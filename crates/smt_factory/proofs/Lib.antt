@@ -1,9 +1,0 @@
-pub mod Answers
-pub mod AnyAnswers
-pub mod AnyRows
-pub mod AnyTruth
-pub mod Composites
-pub mod Folding
-pub mod FoldingOptions
-pub mod FoldingSets
-pub mod OutOfRange

@@ -1,0 +1,3 @@
+pub mod FoldingGuarded
+pub mod FoldingInside
+pub mod FoldingPresence
