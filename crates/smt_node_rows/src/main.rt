@@ -1,7 +1,7 @@
 //! `smt_node_rows`: the numbers of nodes and of terms, for each row of the files in `data/`, each over an interner of its own.
 //!
-//! A row is a node's label and the places of its parts, or a term behind the word `term`. What is printed is the row and the
-//! number that it gets, and `stdout` has the numbers that there should be.
+//! A row is a node's label and the places of its parts, or a term behind the word `term`, or behind `find` where it is to be
+//! found alone. What is printed is the row and the number that it gets, and `stdout` has the numbers that there should be.
 #![tactic(auto)]
 
 mod labels;
@@ -13,7 +13,7 @@ use std::alloc::Global;
 use std::fs;
 
 /// The files of rows.
-const FILES: [&str; 4] = ["sums", "terms", "sets", "nodes"];
+const FILES: [&str; 5] = ["sums", "terms", "found", "sets", "nodes"];
 
 /// How many places a row can name.
 const PLACES: usize = 64;
@@ -61,21 +61,35 @@ fn node(alloc: Global, numbers: &[NodeId], label: &str, places: &str) -> Result<
     })
 }
 
-/// What a row gets: its number and how many nodes there are then, and for a term how many parts its node has.
-fn answer(alloc: Global, nodes: &mut Interner, numbers: &[NodeId], row: &str) -> Result<String> {
-    let (label, rest) = row.split_once(' ').unwrap_or((row, ""));
-    if label == "term" {
-        let id = nodes.intern(&terms::term(alloc, rest)?)?;
-        let parts = nodes.node(id).context("no node")?.parts.len();
-        let (place, count) = (id.place(), nodes.len());
-        return Ok(format!(in alloc; "{place} of {count}, {parts} parts")?);
-    }
-    match added(nodes, node(alloc, numbers, label, rest)?)? {
+/// The place of a number and how many nodes there are then; these words where there is no number.
+fn placed(alloc: Global, nodes: &Interner, id: Option<NodeId>, none: &str) -> Result<String> {
+    Ok(match id {
         Some(id) => {
             let (place, count) = (id.place(), nodes.len());
-            Ok(format!(in alloc; "{place} of {count}")?)
+            format!(in alloc; "{place} of {count}")?
         }
-        None => Ok(format!(in alloc; "does not fit")?),
+        None => format!(in alloc; "{none}")?,
+    })
+}
+
+/// What a row gets: its number and how many nodes there are then, and for a term that is entered how many parts its node has.
+fn answer(alloc: Global, nodes: &mut Interner, numbers: &[NodeId], row: &str) -> Result<String> {
+    let (label, rest) = row.split_once(' ').unwrap_or((row, ""));
+    match label {
+        "find" => {
+            let id = nodes.find(&terms::term(alloc, rest)?);
+            placed(alloc, nodes, id, "not found")
+        }
+        "term" => {
+            let id = nodes.intern(&terms::term(alloc, rest)?)?;
+            let parts = nodes.node(id).context("no node")?.parts.len();
+            let place = placed(alloc, nodes, Some(id), "")?;
+            Ok(format!(in alloc; "{place}, {parts} parts")?)
+        }
+        _ => {
+            let id = added(nodes, node(alloc, numbers, label, rest)?)?;
+            placed(alloc, nodes, id, "does not fit")
+        }
     }
 }
 

@@ -184,7 +184,7 @@ both_true false b h = absurd (cc)
 not_level : (o : Ordering) → is_eq o ≡ false → ¬ (o ≡ Equal)
 not_level o h e = false≢true (sym h ∙ ap is_eq e)
 
-head_found : (ms : List (Option Meaning)) (i : ℕ) (is : List ℕ) (ps : List Meaning) → all_found ms (i ∷ is) ≡ Some ps → (m : Meaning) × (rest : List Meaning) × (found ms i ≡ Some m) × (all_found ms is ≡ Some rest) × (m ∷ rest ≡ ps)
+pub head_found : (ms : List (Option Meaning)) (i : ℕ) (is : List ℕ) (ps : List Meaning) → all_found ms (i ∷ is) ≡ Some ps → (m : Meaning) × (rest : List Meaning) × (found ms i ≡ Some m) × (all_found ms is ≡ Some rest) × (m ∷ rest ≡ ps)
 head_found ms i is ps h =
     let (m, e, f) = then_back (λ m. option_map (λ rest. m ∷ rest) (all_found ms is)) (found ms i) ps h in
     let (rest, a, b) = map_back (λ rest. m ∷ rest) (all_found ms is) ps f in

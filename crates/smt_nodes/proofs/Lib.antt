@@ -1,6 +1,8 @@
 pub mod Ascending
 pub mod Comparing
+pub mod Finding
 pub mod Fitting
+pub mod Formed
 pub mod Interning
 pub mod Labels
 pub mod Levels

@@ -197,8 +197,8 @@ impl Interner {
         self.are_terms(ids) && self.ascend(ids)
     }
 
-    // The label of a number's node.
-    pub(crate) fn label(&self, id: NodeId) -> Option<&Label>
+    /// The label of a number's node, None exactly where it has no node. Takes no memory.
+    pub fn label(&self, id: NodeId) -> Option<&Label>
         ensures { option_map (λ label. plain_label label.now) result ≡ option_map label_in (meaning_in self.now id) }
     {
         match self.node(id) {
@@ -207,8 +207,8 @@ impl Interner {
         }
     }
 
-    // The parts of a number's node, none where it has no node.
-    pub(crate) fn parts(&self, id: NodeId) -> &[NodeId]
+    /// The parts of a number's node, which stand before it; none where it has no node. Takes no memory.
+    pub fn parts(&self, id: NodeId) -> &[NodeId]
         ensures found { IfSome (meaning_in self.now id) (λ m. all_found (meanings (nodes_of self.now)) (places_of result.now) ≡ Some (parts_in m)) }
         ensures earlier { AllByRecursion (λ part. part < place_of id) (places_of result.now) }
     {
@@ -227,7 +227,8 @@ impl Interner {
         }
     }
 
-    fn is_term(&self, id: NodeId) -> bool
+    /// Whether a number stands for a term. Takes no memory.
+    pub fn is_term(&self, id: NodeId) -> bool
         ensures { result ≡ is_term_at (meaning_in self.now id) }
     {
         match self.label(id) {
@@ -247,7 +248,7 @@ impl Interner {
         true
     }
 
-    fn is_option(&self, id: NodeId) -> bool
+    pub(crate) fn is_option(&self, id: NodeId) -> bool
         ensures { result ≡ is_option_at (meaning_in self.now id) }
     {
         match self.label(id) {
@@ -256,7 +257,7 @@ impl Interner {
         }
     }
 
-    fn is_set(&self, id: NodeId) -> bool
+    pub(crate) fn is_set(&self, id: NodeId) -> bool
         ensures { result ≡ is_set_at (meaning_in self.now id) }
     {
         match self.label(id) {
@@ -266,7 +267,7 @@ impl Interner {
     }
 
     // Whether this is the literal's type.
-    fn is_type_of(&self, ty: NodeId, literal: &TermPrim) -> bool
+    pub(crate) fn is_type_of(&self, ty: NodeId, literal: &TermPrim) -> bool
         ensures { result ≡ is_type_of_at (plain_literal literal.now) (meaning_in self.now ty) }
     {
         match self.label(ty) {
@@ -276,7 +277,7 @@ impl Interner {
     }
 
     // Whether the type is that of options of the term's.
-    fn is_option_of(&self, ty: NodeId, term: NodeId) -> bool
+    pub(crate) fn is_option_of(&self, ty: NodeId, term: NodeId) -> bool
         ensures { result ≡ is_option_of_at (meaning_in self.now ty) (meaning_in self.now term) }
     {
         if !self.is_option(ty) || !self.is_term(term) {

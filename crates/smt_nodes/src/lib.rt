@@ -4,6 +4,7 @@
 //! its own size, and terms that share their parts share their nodes. What a node stands for is `smt_graph`'s to say.
 #![tactic(auto)]
 
+mod find;
 mod id;
 mod intern;
 mod interner;

@@ -3,7 +3,7 @@ use Rattle.std.proofs.Common.{List, [], ◌∷◌, map, ap}
 use Rattle.std.specs.Rc.{rc_str_bytes}
 use Rattle.std.specs.List.{AllByRecursion}
 use Rattle.std.proofs.lemmas.Str.{IsUtf8-string_bytes}
-use Rattle.smt_meaning.specs.Formed.{IsFormedHere, IsFormedLiteral, IsFormedNode, IsFormedType}
+use Rattle.smt_meaning.specs.Formed.{IsFormed, IsFormedHere, IsFormedLiteral, IsFormedNode, IsFormedType}
 use Rattle.smt_meaning.specs.Plain.{PlainType, OptionType, SetType, PlainTerm, Application, NoneTerm, LiteralTerm, RecordTerm, SetTerm, SomeTerm, VariableTerm}
 use Rattle.smt_term.specs.Program.{TablesAreEmpty, TermsAreFormed}
 use Rattle.smt_meaning.specs.Reached.{subterms, subterms_of_all, subterms_of_fields, types_within}
@@ -17,14 +17,14 @@ use Rattle.smt_meaning.proofs.Defaults.{all-join}
 use Rattle.smt_meaning.proofs.Soundness.{all-last}
 
 -- a term by itself and its type are formed
-abbrev IsFormedBoth : PlainTerm → Type 0
+abbrev pub IsFormedBoth : PlainTerm → Type 0
 IsFormedBoth t = IsFormedNode t × IsFormedType (type_of t)
 
 -- options and sets of a formed type are formed
-formed_option : (t : PlainType) → IsFormedType t → IsFormedType (OptionType t)
+pub formed_option : (t : PlainType) → IsFormedType t → IsFormedType (OptionType t)
 formed_option t h = all-join IsFormedHere (types_within t) _ h (tt, tt)
 
-formed_set : (t : PlainType) → IsFormedType t → IsFormedType (SetType t)
+pub formed_set : (t : PlainType) → IsFormedType t → IsFormedType (SetType t)
 formed_set t h = all-join IsFormedHere (types_within t) _ h (tt, tt)
 
 -- a term is the last of its subterms
@@ -45,7 +45,7 @@ formed_type Bool = (tt, tt)
 formed_type String = (tt, tt)
 formed_type (SetOf' p t) = formed_set (plain_type t) (formed_type t)
 
-formed_literal : (l : TermPrim) → IsFormedLiteral (plain_literal l) × IsFormedType (literal_type (plain_literal l))
+pub formed_literal : (l : TermPrim) → IsFormedLiteral (plain_literal l) × IsFormedType (literal_type (plain_literal l))
 formed_literal (BitsLiteral b) = (b.below_width, ((b.width.at_least_one, b.width.at_most_128), tt))
 formed_literal (TruthLiteral b) = (tt, (tt, tt))
 formed_literal (TextLiteral s) = (IsUtf8-string_bytes s.text.value, (tt, tt))
@@ -73,8 +73,12 @@ types : (ts : List PlainTerm) → AllByRecursion IsFormedBoth ts → AllByRecurs
 types [] h = tt
 types (t ∷ ts) h = (h.0.1, types ts h.1)
 
+-- where each subterm and its type are formed, the term is
+pub both_formed : (t : PlainTerm) → AllByRecursion IsFormedBoth (subterms t) → IsFormed t
+both_formed t h = record { literals = nodes (subterms t) h; types = types (subterms t) h }
+
 pub terms_are_formed : TermsAreFormed
-terms_are_formed t = record { literals = nodes (subterms (plain_term t)) (formed_term t); types = types (subterms (plain_term t)) (formed_term t) }
+terms_are_formed t = both_formed (plain_term t) (formed_term t)
 
 pub tables_are_empty : TablesAreEmpty
 tables_are_empty table = ap (map (λ entry. (rc_str_bytes entry.0, map rc_str_bytes entry.1.value.items))) table.empty

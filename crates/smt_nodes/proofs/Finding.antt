@@ -1,0 +1,351 @@
+-- What a number stands for is known by its node's label and by what its parts stand for.
+use Rattle.std.proofs.Common.{◌≡◌, ℕ, suc, ◌<◌, ◌≤◌, ◌+◌, inl, inr, Bool, true, false, List, [], ◌∷◌, arith, get_or, length, map, refl, sym, ap, ◌∙◌, subst}
+use Rattle.std.proofs.lemmas.Bool.{cases_Bool, false≢true}
+use Rattle.std.proofs.Math.Dec.{eqb-suc-zero}
+use Rattle.std.proofs.lemmas.List.{length-map}
+use Rattle.std.proofs.lemmas.Slice.Eq.{bytes_eq-Decides}
+use Rattle.std.specs.Cmp.{Equal-is, unsigned_Decides}
+use Rattle.std.specs.Ordering.{is_eq}
+use Rattle.std.specs.Rc.{rc_str_bytes}
+use Rattle.std.specs.declared.alloc.Global.{Global}
+use Rattle.std.specs.declared.rc.RcStr.{RcStr}
+use Rattle.std.specs.Prelude.{◌↔◌, IfSome, bytes_eq, nat_eq, Option, Some, None, option_and_then, option_map, slice_get}
+use Rattle.smt_meaning.specs.Plain.{PlainType, OptionType, RecordType, SetType, AttributeTypes, no_attributes, attribute, PlainLiteral, PlainOp, UufOp, PlainTerm, Application, NoneTerm, LiteralTerm, RecordTerm, SetTerm, SomeTerm, VariableTerm, PlainTerms, no_terms, one_term, PlainFields, no_fields, one_field, terms, list_of_terms}
+use Rattle.smt_meaning.specs.Types.{literal_type, type_of}
+use Rattle.smt_meaning.specs.ValueOrder.{ascends, text_cmp}
+use Rattle.smt_meaning.proofs.TermTotal.{types_decided}
+use Rattle.smt_graph.specs.Graphs.{IsGraph}
+use Rattle.smt_graph.specs.Meanings.{all_found, attributes_in, fields_in, found, meaning_at, meanings, only_if, stands_for, term_made, terms_in, typed_as}
+use Rattle.smt_graph.specs.Nodes.{PlainLabel, ApplicationLabel, LiteralLabel, VariableLabel, PlainNode, Meaning, TypeMeaning, FunctionMeaning, TermMeaning}
+use Rattle.smt_graph.specs.Parts.{field_names, field_terms, label_in, names_in, parts_in, term_label, term_parts, types_in}
+use Rattle.smt_graph.proofs.Distinct.{Stands, node_stands, nothing_past}
+use Rattle.smt_graph.proofs.Places.{map_back, only_back, some_same, test_back, then_back}
+use Rattle.smt_graph.proofs.Whole.{round, typed_back, whole}
+use Rattle.smt_term.proofs.DerivedEquality.{equal_literals, equal_operators}
+use Rattle.smt_term.specs.View.{plain_literal, plain_op, plain_term}
+use Rattle.smt_term.specs.contracts.op.OpPartialEq.TheImpl as op_equality
+use Rattle.smt_term.specs.contracts.term.TermPrimPartialEq.TheImpl as literal_equality
+use Rattle.smt_term.specs.declared.op.Op.{Op}
+use Rattle.smt_term.specs.declared.op.Op.TheVariants.{And}
+use Rattle.smt_term.specs.declared.term.Term.{Term}
+use Rattle.smt_term.specs.declared.term.TermPrim.{TermPrim}
+use Rattle.smt_nodes.proofs.Comparing.{head_found}
+use Rattle.smt_nodes.proofs.Interning.{are_terms_in}
+use Rattle.smt_nodes.proofs.Levels.{label_cmp, label_cmp-is, label_itself, label_same}
+use Rattle.smt_nodes.specs.Kinds.{is_option_of_at, is_type_of_at}
+use Rattle.smt_nodes.specs.View.{place_of, places_of, plain_label}
+use Rattle.smt_nodes.specs.contracts.node.LabelPartialEq.TheImpl as label_equality
+use Rattle.smt_nodes.specs.contracts.node.LabelOrd.TheImpl.Laws as label_laws
+use Rattle.smt_nodes.specs.declared.id.NodeId.{NodeId}
+use Rattle.smt_nodes.specs.declared.node.Label.{Label}
+use Rattle.smt_nodes.specs.declared.node.Label.TheVariants.{App, Prim, Var}
+
+-- ---- a meaning is determined by its label and its parts
+-- lists of terms, of attributes and of fields, there and back
+terms_round : (ts : PlainTerms) → terms (list_of_terms ts) ≡ ts
+terms_round no_terms = refl
+terms_round (one_term t ts) = ap (one_term t) (terms_round ts)
+
+attributes_round : (x : AttributeTypes) → attributes_in (names_in x) (types_in x) ≡ Some x
+attributes_round no_attributes = refl
+attributes_round (attribute a t x) = ap (option_map (attribute a t)) (attributes_round x)
+
+fields_round : (x : PlainFields) → fields_in (field_names x) (field_terms x) ≡ Some x
+fields_round no_fields = refl
+fields_round (one_field a t x) = ap (option_map (one_field a t)) (fields_round x)
+
+-- a term that terms make, which are those of a list
+made_of : (f : List PlainTerm → PlainTerm) (ts : PlainTerms) (v : PlainTerm) → option_map f (terms_in (map TermMeaning (list_of_terms ts))) ≡ Some v → f (list_of_terms ts) ≡ v
+made_of f ts v h = some_same (f (list_of_terms ts)) v (sym (ap (option_map f) (are_terms_in (list_of_terms ts))) ∙ h)
+
+applied_again : (o : PlainOp) (ts : PlainTerms) (t : PlainType) (v : PlainTerm) → option_map (λ us. Application o (terms us) t) (terms_in (map TermMeaning (list_of_terms ts))) ≡ Some v → Application o ts t ≡ v
+applied_again o ts t v h = ap (λ us. Application o us t) (sym (terms_round ts)) ∙ made_of (λ us. Application o (terms us) t) ts v h
+
+record_again : (x : PlainFields) (v : PlainTerm) → only_if (ascends text_cmp (field_names x)) (option_map RecordTerm (fields_in (field_names x) (field_terms x))) ≡ Some v → RecordTerm x ≡ v
+record_again x v h =
+    let (b, k) = only_back (ascends text_cmp (field_names x)) (option_map RecordTerm (fields_in (field_names x) (field_terms x))) v h in
+    some_same (RecordTerm x) v (sym (ap (option_map RecordTerm) (fields_round x)) ∙ k)
+
+set_again : (t : PlainType) (ts : PlainTerms) (v : PlainTerm) → term_made (term_label (SetTerm t ts)) (SetType t) (term_parts (SetTerm t ts)) ≡ Some v → SetTerm t ts ≡ v
+set_again t ts v h =
+    let (us, e, d) = then_back _ (terms_in (map TermMeaning (list_of_terms ts))) v h in
+    let (b, k) = test_back _ (SetTerm t (terms us)) v d in
+    let same : list_of_terms ts ≡ us = some_same (list_of_terms ts) us (sym (are_terms_in (list_of_terms ts)) ∙ e) in
+    ap (SetTerm t) (sym (terms_round ts) ∙ ap terms same) ∙ k
+
+term_again : (u v : PlainTerm) → term_made (term_label u) (type_of u) (term_parts u) ≡ Some v → u ≡ v
+term_again (Application (UufOp f) ts t) v h = applied_again (UufOp f) ts t v h
+term_again (Application o ts t) v h = applied_again o ts t v h
+term_again (NoneTerm t) v h = some_same (NoneTerm t) v h
+term_again (LiteralTerm l) v h = some_same (LiteralTerm l) v h
+term_again (RecordTerm x) v h = record_again x v h
+term_again (SetTerm t ts) v h = set_again t ts v h
+term_again (SomeTerm t) v h = some_same (SomeTerm t) v h
+term_again (VariableTerm id t) v h = some_same (VariableTerm id t) v h
+
+typed_again : (u : PlainTerm) (m : Meaning) → option_and_then (typed_as (type_of u)) (term_made (term_label u) (type_of u) (term_parts u)) ≡ Some m → TermMeaning u ≡ m
+typed_again u m h =
+    let (v, e, s, k) = typed_back (term_label u) (type_of u) (term_parts u) m h in
+    ap TermMeaning (term_again u v e) ∙ k
+
+attributes_again : (x : AttributeTypes) (m : Meaning) → only_if (ascends text_cmp (names_in x)) (option_map (λ x. TypeMeaning (RecordType x)) (attributes_in (names_in x) (types_in x))) ≡ Some m → TypeMeaning (RecordType x) ≡ m
+attributes_again x m h =
+    let (b, k) = only_back (ascends text_cmp (names_in x)) (option_map (λ x. TypeMeaning (RecordType x)) (attributes_in (names_in x) (types_in x))) m h in
+    some_same (TypeMeaning (RecordType x)) m (sym (ap (option_map (λ x. TypeMeaning (RecordType x))) (attributes_round x)) ∙ k)
+
+-- what label and parts of a meaning stand for is that meaning
+again : (n m : Meaning) → stands_for (label_in n) (parts_in n) ≡ Some m → n ≡ m
+again (TypeMeaning (RecordType x)) m h = attributes_again x m h
+again (TypeMeaning (OptionType t)) m h = some_same _ m h
+again (TypeMeaning (SetType t)) m h = some_same _ m h
+again (TypeMeaning t) m h = some_same _ m h
+again (FunctionMeaning f) m h = some_same _ m h
+again (TermMeaning (Application (UufOp f) ts t)) m h = typed_again (Application (UufOp f) ts t) m h
+again (TermMeaning (Application o ts t)) m h = typed_again (Application o ts t) m h
+again (TermMeaning (NoneTerm t)) m h = typed_again (NoneTerm t) m h
+again (TermMeaning (LiteralTerm l)) m h = typed_again (LiteralTerm l) m h
+again (TermMeaning (RecordTerm x)) m h = typed_again (RecordTerm x) m h
+again (TermMeaning (SetTerm t ts)) m h = typed_again (SetTerm t ts) m h
+again (TermMeaning (SomeTerm t)) m h = typed_again (SomeTerm t) m h
+again (TermMeaning (VariableTerm id t)) m h = typed_again (VariableTerm id t) m h
+
+-- ---- what a number stands for, by the label and by the parts of its node
+-- where something is meant there is a node
+some_node : (ns : List PlainNode) (i : ℕ) (m : Meaning) → meaning_at ns i ≡ Some m → (o : Option PlainNode) → slice_get ns i ≡ o → (n : PlainNode) × (slice_get ns i ≡ Some n)
+some_node ns i m h (Some n) e = (n, e)
+some_node ns i m h None e = let none : None ≡ Some m = sym (nothing_past ns i e) ∙ h in absurd (cc)
+
+-- label and parts of what is meant at a place stand for it
+made_so : (ns : List PlainNode) → IsGraph ns → (i : ℕ) (m : Meaning) → meaning_at ns i ≡ Some m → stands_for (label_in m) (parts_in m) ≡ Some m
+made_so ns g i m h =
+    let (n, e) = some_node ns i m h (slice_get ns i) refl in
+    let s : Stands ns i n = node_stands ns g i n e in
+    let same : s.meaning ≡ m = some_same s.meaning m (sym s.here ∙ h) in
+    let w = whole n.label s.parts m (s.label ∙ ap Some same) in
+    sym (ap (λ l. stands_for l s.parts) w.0 ∙ ap (stands_for (label_in m)) w.1) ∙ (s.label ∙ ap Some same)
+
+-- the test of the parts, where the label is that of what is looked for
+pub decided_by_parts : (ns : List PlainNode) → IsGraph ns → (i : ℕ) (l : PlainLabel) (xs : List NodeId) (n : Meaning) (b : Bool) → Some l ≡ option_map label_in (meaning_at ns i) → l ≡ label_in n
+    → IfSome (meaning_at ns i) (λ m. all_found (meanings ns) (places_of xs) ≡ Some (parts_in m)) → (b ≡ true) ↔ (all_found (meanings ns) (places_of xs) ≡ Some (parts_in n)) → (b ≡ true) ↔ (meaning_at ns i ≡ Some n)
+decided_by_parts ns g i l xs n b k e f t =
+    let P : Option Meaning → Type 0 = λ o. IfSome o (λ m. all_found (meanings ns) (places_of xs) ≡ Some (parts_in m)) in (
+      λ h.
+          let (m, at, d) = map_back label_in (meaning_at ns i) l (sym k) in
+          let own : all_found (meanings ns) (places_of xs) ≡ Some (parts_in m) = subst P at f in
+          let parts : parts_in n ≡ parts_in m = some_same (parts_in n) (parts_in m) (sym (t.0 h) ∙ own) in
+          let label : label_in n ≡ label_in m = sym e ∙ sym d in
+          at ∙ ap Some (sym (again n m (ap (λ l. stands_for l (parts_in n)) label ∙ (ap (stands_for (label_in m)) parts ∙ made_so ns g i m at)))),
+      λ h. t.1 (subst P h f),
+    )
+
+-- ---- numbers in order, by the first and by the others
+first_and_others : (ms : List (Option Meaning)) (i : ℕ) (is : List ℕ) (m : Meaning) (ps : List Meaning) → all_found ms (i ∷ is) ≡ Some (m ∷ ps) → (found ms i ≡ Some m) × (all_found ms is ≡ Some ps)
+first_and_others ms i is m ps h =
+    let (k, rest, e, f, d) = head_found ms i is (m ∷ ps) h in
+    let first : k ≡ m = cc in
+    let others : rest ≡ ps = cc in
+    (e ∙ ap Some first, f ∙ ap Some others)
+
+all_of : (ms : List (Option Meaning)) (i : ℕ) (is : List ℕ) (m : Meaning) (ps : List Meaning) → found ms i ≡ Some m → all_found ms is ≡ Some ps → all_found ms (i ∷ is) ≡ Some (m ∷ ps)
+all_of ms i is m ps e f = ap (option_and_then (λ m. option_map (λ rest. m ∷ rest) (all_found ms is))) e ∙ ap (option_map (λ rest. m ∷ rest)) f
+
+-- b is the test of the others, where the test of the first is passed; and the answer where it is not
+pub first_right : (ms : List (Option Meaning)) (ids rest : List NodeId) (id : NodeId) (m : Meaning) (ps qs : List Meaning) (a b : Bool) → ids ≡ id ∷ rest → qs ≡ m ∷ ps → (a ≡ true) ↔ (found ms (place_of id) ≡ Some m) → a ≡ true → (b ≡ true) ↔ (all_found ms (places_of rest) ≡ Some ps)
+    → (b ≡ true) ↔ (all_found ms (places_of ids) ≡ Some qs)
+first_right ms ids rest id m ps qs a b e q f h g =
+    let T : List NodeId → List Meaning → Type 0 = λ ids qs. (b ≡ true) ↔ (all_found ms (places_of ids) ≡ Some qs) in
+    let whole : T (id ∷ rest) (m ∷ ps) = (
+      λ t. all_of ms (place_of id) (places_of rest) m ps (f.0 h) (g.0 t),
+      λ k. g.1 (first_and_others ms (place_of id) (places_of rest) m ps k).1,
+    ) in
+    subst (λ ids. T ids qs) (sym e) (subst (T (id ∷ rest)) (sym q) whole)
+
+pub first_wrong : (ms : List (Option Meaning)) (ids rest : List NodeId) (id : NodeId) (m : Meaning) (ps qs : List Meaning) (a : Bool) → ids ≡ id ∷ rest → qs ≡ m ∷ ps → (a ≡ true) ↔ (found ms (place_of id) ≡ Some m) → a ≡ false
+    → (a ≡ true) ↔ (all_found ms (places_of ids) ≡ Some qs)
+first_wrong ms ids rest id m ps qs a e q f h = (
+  λ t. absurd (false≢true (sym h ∙ t)),
+  λ k. f.1 (first_and_others ms (place_of id) (places_of rest) m ps (sym (ap (λ ids. all_found ms (places_of ids)) e) ∙ (k ∙ ap Some q))).0,
+)
+
+-- what stands first, where what is left stands for the others
+others_right : (ms : List (Option Meaning)) (i : ℕ) (is : List ℕ) (m : Meaning) (ps : List Meaning) (b : Bool) → (b ≡ true) ↔ (found ms i ≡ Some m) → all_found ms is ≡ Some ps → (b ≡ true) ↔ (all_found ms (i ∷ is) ≡ Some (m ∷ ps))
+others_right ms i is m ps b f h = (λ t. all_of ms i is m ps (f.0 t) h, λ k. f.1 (first_and_others ms i is m ps k).0)
+
+-- lists by their lengths
+only_one : (xs : List NodeId) (d : NodeId) → 1 ≤ length xs → length xs < 2 → xs ≡ get_or xs 0 d ∷ []
+only_one [] d h k = absurd (omega arith)
+only_one (x ∷ []) d h k = refl
+only_one (x ∷ y ∷ xs) d h k = absurd (omega arith)
+
+as_many_found : (ms : List (Option Meaning)) (is : List ℕ) (ps : List Meaning) → all_found ms is ≡ Some ps → length is ≡ length ps
+as_many_found ms [] ps h = ap length (some_same [] ps h)
+as_many_found ms (i ∷ is) ps h =
+    let (m, rest, e, f, d) = head_found ms i is ps h in
+    let k : length is ≡ length rest = as_many_found ms is rest f in ap suc k ∙ ap length d
+
+pub none_left : (ms : List (Option Meaning)) (ids : List NodeId) (ps : List Meaning) (b : Bool) → b ≡ nat_eq (length ids) 0 → ps ≡ [] → (b ≡ true) ↔ (all_found ms (places_of ids) ≡ Some ps)
+none_left ms [] ps b h e = (λ t. ap Some (sym e), λ k. h)
+none_left ms (id ∷ ids) ps b h e = (
+  λ t. absurd (false≢true (sym (eqb-suc-zero (length ids)) ∙ (sym h ∙ t))),
+  λ k. (let (m, rest, a, f, d) = head_found ms (place_of id) (places_of ids) ps k in absurd (cc)),
+)
+
+pub other_count : (ms : List (Option Meaning)) (ids : List NodeId) (ps : List Meaning) → ¬ (length ids ≡ length ps) → (false ≡ true) ↔ (all_found ms (places_of ids) ≡ Some ps)
+other_count ms ids ps n = (λ t. absurd (false≢true t), λ k. absurd (n (sym (length-map ids place_of) ∙ as_many_found ms (places_of ids) ps k)))
+
+-- ---- types of literals and of options
+pub literal_typed : (o : Option Meaning) (l : PlainLiteral) (b : Bool) → b ≡ is_type_of_at l o → (b ≡ true) ↔ (o ≡ Some (TypeMeaning (literal_type l)))
+literal_typed None l b h = (λ k. absurd (false≢true (sym h ∙ k)), λ k. absurd (cc))
+literal_typed (Some (TypeMeaning t)) l b h = (
+  λ k. ap (λ t. Some (TypeMeaning t)) (sym ((types_decided (literal_type l) t).0 (sym h ∙ k))),
+  λ k. (let same : literal_type l ≡ t = cc in h ∙ (types_decided (literal_type l) t).1 same),
+)
+literal_typed (Some m) l b h = (λ k. absurd (false≢true (sym h ∙ k)), λ k. absurd (cc))
+
+-- the type of some, where the part stands for the term
+option_typed : (o : Option Meaning) (u : PlainTerm) (b : Bool) → b ≡ is_option_of_at o (Some (TermMeaning u)) → (b ≡ true) ↔ (o ≡ Some (TypeMeaning (OptionType (type_of u))))
+option_typed None u b h = (λ k. absurd (false≢true (sym h ∙ k)), λ k. absurd (cc))
+option_typed (Some (TypeMeaning t)) u b h = (
+  λ k. ap (λ t. Some (TypeMeaning t)) (sym ((types_decided (OptionType (type_of u)) t).0 (sym h ∙ k))),
+  λ k. (let same : OptionType (type_of u) ≡ t = cc in h ∙ (types_decided (OptionType (type_of u)) t).1 same),
+)
+option_typed (Some m) u b h = (λ k. absurd (false≢true (sym h ∙ k)), λ k. absurd (cc))
+
+some_typed : (o p : Option Meaning) (u : PlainTerm) (b : Bool) → p ≡ Some (TermMeaning u) → b ≡ is_option_of_at o p → (b ≡ true) ↔ (o ≡ Some (TypeMeaning (OptionType (type_of u))))
+some_typed o p u b e h = option_typed o u b (h ∙ ap (is_option_of_at o) e)
+
+-- the same parts, said otherwise
+pub at_parts : (ms : List (Option Meaning)) (ids : List NodeId) (b : Bool) (ps qs : List Meaning) → ps ≡ qs → (b ≡ true) ↔ (all_found ms (places_of ids) ≡ Some ps) → (b ≡ true) ↔ (all_found ms (places_of ids) ≡ Some qs)
+at_parts ms ids b ps qs e h = subst (λ ps. (b ≡ true) ↔ (all_found ms (places_of ids) ≡ Some ps)) e h
+
+-- an option's type and the one term in it
+pub some_right : (ms : List (Option Meaning)) (ids rest : List NodeId) (ty d : NodeId) (u : PlainTerm) (qs : List Meaning) (a b : Bool) → ids ≡ ty ∷ rest → qs ≡ TypeMeaning (OptionType (type_of u)) ∷ TermMeaning u ∷ [] → 1 ≤ length rest → length rest < 2
+    → (a ≡ true) ↔ (found ms (place_of (get_or rest 0 d)) ≡ Some (TermMeaning u)) → a ≡ true → b ≡ is_option_of_at (found ms (place_of ty)) (found ms (place_of (get_or rest 0 d))) → (b ≡ true) ↔ (all_found ms (places_of ids) ≡ Some qs)
+some_right ms ids rest ty d u qs a b e q h k f t g =
+    let part : NodeId = get_or rest 0 d in
+    let only : rest ≡ part ∷ [] = only_one rest d h k in
+    let T : List NodeId → List Meaning → Type 0 = λ ids qs. (b ≡ true) ↔ (all_found ms (places_of ids) ≡ Some qs) in
+    let one : all_found ms (places_of (part ∷ [])) ≡ Some (TermMeaning u ∷ []) = all_of ms (place_of part) [] (TermMeaning u) [] (f.0 t) refl in
+    let whole : T (ty ∷ part ∷ []) (TypeMeaning (OptionType (type_of u)) ∷ TermMeaning u ∷ []) =
+    others_right ms (place_of ty) (places_of (part ∷ [])) (TypeMeaning (OptionType (type_of u))) (TermMeaning u ∷ []) b (some_typed (found ms (place_of ty)) (found ms (place_of part)) u b (f.0 t) g) one in
+    subst (λ ids. T ids qs) (sym (e ∙ ap (λ rest. ty ∷ rest) only)) (subst (T (ty ∷ part ∷ [])) (sym q) whole)
+
+pub some_wrong : (ms : List (Option Meaning)) (ids rest : List NodeId) (ty d : NodeId) (u : PlainTerm) (qs : List Meaning) (a : Bool) → ids ≡ ty ∷ rest → qs ≡ TypeMeaning (OptionType (type_of u)) ∷ TermMeaning u ∷ [] → 1 ≤ length rest → length rest < 2
+    → (a ≡ true) ↔ (found ms (place_of (get_or rest 0 d)) ≡ Some (TermMeaning u)) → a ≡ false → (a ≡ true) ↔ (all_found ms (places_of ids) ≡ Some qs)
+some_wrong ms ids rest ty d u qs a e q h k f t =
+    let part : NodeId = get_or rest 0 d in
+    let only : rest ≡ part ∷ [] = only_one rest d h k in (
+      λ r. absurd (false≢true (sym t ∙ r)),
+      λ r.
+          let all : all_found ms (places_of (ty ∷ part ∷ [])) ≡ Some (TypeMeaning (OptionType (type_of u)) ∷ TermMeaning u ∷ []) = sym (ap (λ ids. all_found ms (places_of ids)) (e ∙ ap (λ rest. ty ∷ rest) only)) ∙ (r ∙ ap Some q) in
+          let others = (first_and_others ms (place_of ty) (places_of (part ∷ [])) (TypeMeaning (OptionType (type_of u))) (TermMeaning u ∷ []) all).1 in
+          f.1 (first_and_others ms (place_of part) [] (TermMeaning u) [] others).0,
+    )
+
+pub some_count : (ms : List (Option Meaning)) (ids rest : List NodeId) (ty : NodeId) (m n : Meaning) (qs : List Meaning) → ids ≡ ty ∷ rest → qs ≡ m ∷ n ∷ [] → ¬ (length rest ≡ 1) → (false ≡ true) ↔ (all_found ms (places_of ids) ≡ Some qs)
+some_count ms ids rest ty m n qs e q h = other_count ms ids qs (λ k. (let c : length (ty ∷ rest) ≡ 2 = sym (ap length e) ∙ (k ∙ ap length q) in h (omega arith)))
+
+-- one step through numbers and terms: what is left decides Q still; and Q fails
+pub next_right : (ms : List (Option Meaning)) (ids xs : List NodeId) (id : NodeId) (terms us : List Term) (t : Term) (Q : Type 0) (a : Bool) → ids ≡ id ∷ xs → terms ≡ t ∷ us → (a ≡ true) ↔ (found ms (place_of id) ≡ Some (TermMeaning (plain_term t))) → a ≡ true
+    → (all_found ms (places_of ids) ≡ Some (map TermMeaning (map plain_term terms))) ↔ Q → (all_found ms (places_of xs) ≡ Some (map TermMeaning (map plain_term us))) ↔ Q
+next_right ms ids xs id terms us t Q a e f h r g =
+    let T : List NodeId → List Term → Type 0 = λ ids terms. (all_found ms (places_of ids) ≡ Some (map TermMeaning (map plain_term terms))) ↔ Q in
+    let k : T (id ∷ xs) (t ∷ us) = subst (λ ids. T ids (t ∷ us)) e (subst (T ids) f g) in (
+      λ p. k.0 (all_of ms (place_of id) (places_of xs) (TermMeaning (plain_term t)) (map TermMeaning (map plain_term us)) (h.0 r) p),
+      λ q. (first_and_others ms (place_of id) (places_of xs) (TermMeaning (plain_term t)) (map TermMeaning (map plain_term us)) (k.1 q)).1,
+    )
+
+pub next_wrong : (ms : List (Option Meaning)) (ids xs : List NodeId) (id : NodeId) (terms us : List Term) (t : Term) (Q : Type 0) (a : Bool) → ids ≡ id ∷ xs → terms ≡ t ∷ us → (a ≡ true) ↔ (found ms (place_of id) ≡ Some (TermMeaning (plain_term t))) → a ≡ false
+    → (all_found ms (places_of ids) ≡ Some (map TermMeaning (map plain_term terms))) ↔ Q → (false ≡ true) ↔ Q
+next_wrong ms ids xs id terms us t Q a e f h r g =
+    let T : List NodeId → List Term → Type 0 = λ ids terms. (all_found ms (places_of ids) ≡ Some (map TermMeaning (map plain_term terms))) ↔ Q in
+    let k : T (id ∷ xs) (t ∷ us) = subst (λ ids. T ids (t ∷ us)) e (subst (T ids) f g) in (
+      λ p. absurd (false≢true p),
+      λ q. absurd (false≢true (sym r ∙ h.1 (first_and_others ms (place_of id) (places_of xs) (TermMeaning (plain_term t)) (map TermMeaning (map plain_term us)) (k.1 q)).0)),
+    )
+
+-- where none is left
+pub all_right : (ms : List (Option Meaning)) (ids : List NodeId) (terms : List Term) (Q : Type 0) → ids ≡ [] → terms ≡ [] → (all_found ms (places_of ids) ≡ Some (map TermMeaning (map plain_term terms))) ↔ Q → (true ≡ true) ↔ Q
+all_right ms ids terms Q e f g = (λ t. g.0 (ap (λ ids. all_found ms (places_of ids)) e ∙ ap (λ ts. Some (map TermMeaning (map plain_term ts))) (sym f)), λ q. refl)
+
+-- ---- labels
+-- equal labels of the program say the same
+label_equal : (l m : Label) → (label_equality.ghosts.eq l m ≡ true) ↔ (plain_label l ≡ plain_label m)
+label_equal l m =
+    let same : label_equality.ghosts.eq l m ≡ is_eq (label_cmp (plain_label l) (plain_label m)) = label_laws.matches_eq-law l m ∙ ap is_eq (label_cmp-is l m) in (
+      λ h. label_same l m ((Equal-is (label_cmp (plain_label l) (plain_label m))).0 (sym same ∙ h)),
+      λ h. same ∙ ap is_eq (sym (ap (label_cmp (plain_label l)) h) ∙ label_itself l),
+    )
+
+pub label_is : (r : Bool) (l k : Label) (p : PlainLabel) → r ≡ label_equality.ghosts.eq l k → plain_label k ≡ p → (r ≡ true) ↔ (plain_label l ≡ p)
+label_is r l k p e h = (λ t. (label_equal l k).0 (sym e ∙ t) ∙ h, λ q. e ∙ (label_equal l k).1 (q ∙ sym h))
+
+app_label : (o : Op) (ts : PlainTerms) (t : PlainType) → term_label (Application (plain_op o) ts t) ≡ ApplicationLabel (plain_op o)
+app_label And ts t = refl
+app_label o ts t = refl
+
+pub app_parts : (o : Op) (ts : List PlainTerm) (t : PlainType) → term_parts (Application (plain_op o) (terms ts) t) ≡ map TermMeaning ts
+app_parts And ts t = ap (map TermMeaning) (round ts)
+app_parts o ts t = ap (map TermMeaning) (round ts)
+
+pub op_is : (r : Bool) (l : Label) (own op : Op) (ts : PlainTerms) (t : PlainType) → r ≡ op_equality.ghosts.eq own op → l ≡ App own → (r ≡ true) ↔ (plain_label l ≡ term_label (Application (plain_op op) ts t))
+op_is r l own op ts t e s = (
+  λ h. ap plain_label s ∙ (ap ApplicationLabel ((equal_operators own op).0 (sym e ∙ h)) ∙ sym (app_label op ts t)),
+  λ h.
+      let both : ApplicationLabel (plain_op own) ≡ ApplicationLabel (plain_op op) = sym (ap plain_label s) ∙ (h ∙ app_label op ts t) in
+      let same : plain_op own ≡ plain_op op = cc in
+      e ∙ (equal_operators own op).1 same,
+)
+
+pub literal_is : (r : Bool) (l : Label) (own literal : TermPrim) → r ≡ literal_equality.ghosts.eq own literal → l ≡ Prim own → (r ≡ true) ↔ (plain_label l ≡ LiteralLabel (plain_literal literal))
+literal_is r l own literal e s = (
+  λ h. ap plain_label s ∙ ap LiteralLabel ((equal_literals own literal).0 (sym e ∙ h)),
+  λ h.
+      let both : LiteralLabel (plain_literal own) ≡ LiteralLabel (plain_literal literal) = sym (ap plain_label s) ∙ h in
+      let same : plain_literal own ≡ plain_literal literal = cc in
+      e ∙ (equal_literals own literal).1 same,
+)
+
+pub text_is : (r : Bool) (l : Label) (own : RcStr Global) (id : List ℕ) → r ≡ bytes_eq (rc_str_bytes own) id → l ≡ Var own → (r ≡ true) ↔ (plain_label l ≡ VariableLabel id)
+text_is r l own id e s = (
+  λ h. ap plain_label s ∙ ap VariableLabel ((bytes_eq-Decides (rc_str_bytes own) id).0 (sym e ∙ h)),
+  λ h.
+      let both : VariableLabel (rc_str_bytes own) ≡ VariableLabel id = sym (ap plain_label s) ∙ h in
+      let same : rc_str_bytes own ≡ id = cc in
+      e ∙ (bytes_eq-Decides (rc_str_bytes own) id).1 same,
+)
+
+-- the same label, said otherwise
+pub at_label : (r : Bool) (l : Label) (u v : PlainTerm) → u ≡ v → (r ≡ true) ↔ (plain_label l ≡ term_label v) → (r ≡ true) ↔ (plain_label l ≡ term_label u)
+at_label r l u v e h = (λ t. h.0 t ∙ sym (ap term_label e), λ q. h.1 (q ∙ ap term_label e))
+
+-- labels of other kinds
+an_application : (l : Label) (o : PlainOp) → plain_label l ≡ ApplicationLabel o → (p : Op) × (l ≡ App p)
+an_application (App p) o h = (p, refl)
+an_application l o h = absurd (cc)
+
+a_literal : (l : Label) (p : PlainLiteral) → plain_label l ≡ LiteralLabel p → (q : TermPrim) × (l ≡ Prim q)
+a_literal (Prim q) p h = (q, refl)
+a_literal l p h = absurd (cc)
+
+a_variable : (l : Label) (id : List ℕ) → plain_label l ≡ VariableLabel id → (q : RcStr Global) × (l ≡ Var q)
+a_variable (Var q) id h = (q, refl)
+a_variable l id h = absurd (cc)
+
+pub no_application : (l : Label) (op : Op) (ts : PlainTerms) (t : PlainType) → ((p : Op) → l ≡ App p → ⊥) → (false ≡ true) ↔ (plain_label l ≡ term_label (Application (plain_op op) ts t))
+no_application l op ts t n = (λ h. absurd (false≢true h), λ h. (let (p, e) = an_application l (plain_op op) (h ∙ app_label op ts t) in absurd (n p e)))
+
+pub no_literal : (l : Label) (p : PlainLiteral) → ((q : TermPrim) → l ≡ Prim q → ⊥) → (false ≡ true) ↔ (plain_label l ≡ LiteralLabel p)
+no_literal l p n = (λ h. absurd (false≢true h), λ h. (let (q, e) = a_literal l p h in absurd (n q e)))
+
+pub no_variable : (l : Label) (id : List ℕ) → ((q : RcStr Global) → l ≡ Var q → ⊥) → (false ≡ true) ↔ (plain_label l ≡ VariableLabel id)
+no_variable l id n = (λ h. absurd (false≢true h), λ h. (let (q, e) = a_variable l id h in absurd (n q e)))
+
+-- ---- places in order
+-- none before the next, where none is before and none here
+pub none_before : (ns : List PlainNode) (i : ℕ) (m : Meaning) → (meaning_at ns i ≡ Some m → ⊥) → ((j : ℕ) → j < i → meaning_at ns j ≡ Some m → ⊥) → (j : ℕ) → j < i + 1 → meaning_at ns j ≡ Some m → ⊥
+none_before ns i m here before j h e =
+    elim (cases_Bool (nat_eq j i)) [
+      | inl k ↦ (let same : j ≡ i = (unsigned_Decides j i).0 k in here (sym (ap (meaning_at ns) same) ∙ e))
+      | inr k ↦ before j (let apart : ¬ (j ≡ i) = λ q. false≢true (sym k ∙ (unsigned_Decides j i).1 q) in omega arith) e
+    ]

@@ -1,0 +1,17 @@
+use Rattle.std.proofs.Common.{◌≡◌, ◌↔◌, Some, length, map}
+use Rattle.std.specs.Iterator.Adapters.{zip_first, zip_second}
+use Rattle.std.specs.Slice.Iter.{iter_rest}
+use Rattle.smt_graph.specs.Meanings.{all_found, meanings}
+use Rattle.smt_graph.specs.Nodes.{TermMeaning}
+use Rattle.smt_term.specs.View.{plain_term}
+use Rattle.smt_nodes.specs.Interned.{nodes_of}
+use Rattle.smt_nodes.specs.View.{places_of}
+use Rattle.smt_nodes.proofs.interner.Interner.+find.Given as goal
+
+-- as many numbers as terms are left, and whether they stand for these decides it of all
+abbrev pub invariant-stand_for_terms-loop-id : goal.invariant-stand_for_terms-loop-id
+invariant-stand_for_terms-loop-id l =
+    let ids = iter_rest (zip_first l.id-iterator) in
+    let terms = iter_rest (zip_second l.id-iterator) in
+    let ms = meanings (nodes_of l.self) in
+    (length ids ≡ length terms) × ((all_found ms (places_of ids) ≡ Some (map TermMeaning (map plain_term terms))) ↔ (all_found ms (places_of l.ids) ≡ Some (map TermMeaning (map plain_term l.terms))))

@@ -1,0 +1,21 @@
+use Rattle.std.proofs.Common.{sym, ap, ◌∙◌}
+use Rattle.smt_graph.specs.Parts.{type_label}
+use Rattle.smt_term.specs.View.{plain_type, plain_type-Option, plain_type-Bitvec, plain_type-Bool, plain_type-String, plain_type-Set}
+use Rattle.smt_nodes.proofs.Finding.{label_is}
+use Rattle.smt_nodes.specs.declared.node.Label.TheVariants.{TOption, TBitvec, TBool, TString, TSet}
+use Rattle.smt_nodes.proofs.node.Label.is_of_type.Goals as goal
+
+pub returns-in-Option : goal.returns-in-Option
+returns-in-Option c = label_is _ c.args.self.now TOption _ c.eq.ensures (sym (ap type_label (ap plain_type c.in-Option.is ∙ plain_type-Option c.in-Option.ty)))
+
+pub returns-in-Bitvec : goal.returns-in-Bitvec
+returns-in-Bitvec c = label_is _ c.args.self.now (TBitvec c.in-Bitvec.n) _ c.eq-in-Bitvec.ensures (sym (ap type_label (ap plain_type c.in-Bitvec.is ∙ plain_type-Bitvec c.in-Bitvec.n)))
+
+pub returns-in-Bool : goal.returns-in-Bool
+returns-in-Bool c = label_is _ c.args.self.now TBool _ c.eq-in-Bool.ensures (sym (ap type_label (ap plain_type c.in-Bool.is ∙ plain_type-Bool)))
+
+pub returns-in-String : goal.returns-in-String
+returns-in-String c = label_is _ c.args.self.now TString _ c.eq-in-String.ensures (sym (ap type_label (ap plain_type c.in-String.is ∙ plain_type-String)))
+
+pub returns-in-Set : goal.returns-in-Set
+returns-in-Set c = label_is _ c.args.self.now TSet _ c.eq-in-Set.ensures (sym (ap type_label (ap plain_type c.in-Set.is ∙ plain_type-Set c.in-Set.ty)))

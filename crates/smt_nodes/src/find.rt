@@ -1,0 +1,174 @@
+// The number of a term, found by a look at one node after the other.
+ghost use Rattle.std.specs.Prelude.{◌≡◌, ◌∷◌, ◌↔◌, [], IfNone, IfSome, IsTrue, Some, map};
+ghost use Rattle.smt_graph.specs.Meanings.{all_found, meanings};
+ghost use Rattle.smt_graph.specs.Nodes.{TermMeaning, TypeMeaning};
+ghost use Rattle.smt_graph.specs.Parts.{parts_in, term_label, type_label, type_parts};
+ghost use Rattle.smt_meaning.specs.Plain.{OptionType, SetType};
+ghost use Rattle.smt_nodes.specs.View.{places_of, plain_label};
+ghost use Rattle.smt_term.specs.View.{plain_term, plain_type};
+
+use crate::id::NodeId;
+use crate::interner::Interner;
+use crate::node::Label;
+use smt_term::{Term, TermType};
+
+impl Interner {
+    ghost use Rattle.smt_nodes.specs.Interned.{meaning_in, nodes_of};
+
+    /// The number that stands for a term, None exactly where none does. Takes no memory; it compares the term with one node
+    /// after the other.
+    pub fn find(&self, term: &Term) -> Option<NodeId>
+        ensures found { IfSome result (λ id. meaning_in self.now id ≡ Some (TermMeaning (plain_term term.now))) }
+        ensures none { IfNone result ((id : NodeId) → meaning_in self.now id ≡ Some (TermMeaning (plain_term term.now)) → ⊥) }
+    {
+        for place in 0..self.len() {
+            let id = NodeId { place };
+            if self.stands_for_term(id, term) {
+                return Some(id);
+            }
+        }
+        None
+    }
+
+    // Whether the number stands for the term: it has the term's label, and its parts are those of the term.
+    #[cycle(find)]
+    fn stands_for_term(&self, id: NodeId, term: &Term) -> bool
+        ensures { IsTrue result ↔ (meaning_in self.now id ≡ Some (TermMeaning (plain_term term.now))) }
+    {
+        match self.label(id) {
+            Some(label) => label.is_of_term(term) && self.are_parts_of_term(self.parts(id), term),
+            None => false,
+        }
+    }
+
+    // Whether the numbers stand for the parts of the term, the first for its type.
+    #[cycle(find)]
+    fn are_parts_of_term(&self, parts: &[NodeId], term: &Term) -> bool
+        ensures { IsTrue result ↔ (all_found (meanings (nodes_of self.now)) (places_of parts.now) ≡ Some (parts_in (TermMeaning (plain_term term.now)))) }
+    {
+        let Some((ty, inner)) = parts.split_first() else {
+            return false;
+        };
+        match term {
+            Term::App { args, ret_ty, .. } => {
+                self.stands_for_type(*ty, ret_ty) && self.stand_for_terms(inner, args.items())
+            }
+            Term::None(held) => self.stands_for_option(*ty, held) && inner.is_empty(),
+            Term::Prim(literal) => self.is_type_of(*ty, literal) && inner.is_empty(),
+            Term::Set { elts_ty, elts } => {
+                self.stands_for_set(*ty, elts_ty) && self.stand_for_terms(inner, elts.items())
+            }
+            Term::Some(held) => match inner {
+                [] => false,
+                [part] => self.stands_for_term(*part, held) && self.is_option_of(*ty, *part),
+                [_, _, ..] => false,
+            },
+            Term::Var(variable) => self.stands_for_type(*ty, &variable.ty) && inner.is_empty(),
+        }
+    }
+
+    // Whether the numbers stand for the terms, in order.
+    #[cycle(find)]
+    fn stand_for_terms(&self, ids: &[NodeId], terms: &[Term]) -> bool
+        ensures { IsTrue result ↔ (all_found (meanings (nodes_of self.now)) (places_of ids.now) ≡ Some (map TermMeaning (map plain_term terms.now))) }
+    {
+        if ids.len() != terms.len() {
+            return false;
+        }
+        for (id, term) in ids.iter().zip(terms) {
+            if !self.stands_for_term(*id, term) {
+                return false;
+            }
+        }
+        true
+    }
+
+    // Whether the number stands for options of this type.
+    fn stands_for_option(&self, id: NodeId, held: &TermType) -> bool
+        ensures { IsTrue result ↔ (meaning_in self.now id ≡ Some (TypeMeaning (OptionType (plain_type held.now)))) }
+    {
+        self.is_option(id) && self.are_one_type(self.parts(id), held)
+    }
+
+    // Whether the number stands for sets of this type.
+    fn stands_for_set(&self, id: NodeId, element: &TermType) -> bool
+        ensures { IsTrue result ↔ (meaning_in self.now id ≡ Some (TypeMeaning (SetType (plain_type element.now)))) }
+    {
+        self.is_set(id) && self.are_one_type(self.parts(id), element)
+    }
+
+    // Whether the number stands for the type: it has the type's label, and its parts are those of the type.
+    #[cycle(types)]
+    fn stands_for_type(&self, id: NodeId, ty: &TermType) -> bool
+        ensures { IsTrue result ↔ (meaning_in self.now id ≡ Some (TypeMeaning (plain_type ty.now))) }
+    {
+        match self.label(id) {
+            Some(label) => label.is_of_type(ty) && self.are_parts_of_type(self.parts(id), ty),
+            None => false,
+        }
+    }
+
+    // Whether the numbers stand for the parts of the type.
+    #[cycle(types)]
+    fn are_parts_of_type(&self, parts: &[NodeId], ty: &TermType) -> bool
+        ensures { IsTrue result ↔ (all_found (meanings (nodes_of self.now)) (places_of parts.now) ≡ Some (type_parts (plain_type ty.now))) }
+    {
+        match ty {
+            TermType::Option { ty } => self.are_one_type(parts, ty),
+            TermType::Bitvec { .. } => parts.is_empty(),
+            TermType::Bool => parts.is_empty(),
+            TermType::String => parts.is_empty(),
+            TermType::Set { ty } => self.are_one_type(parts, ty),
+        }
+    }
+
+    // Whether there is one number, and it stands for the type.
+    #[cycle(types)]
+    fn are_one_type(&self, ids: &[NodeId], ty: &TermType) -> bool
+        ensures { IsTrue result ↔ (all_found (meanings (nodes_of self.now)) (places_of ids.now) ≡ Some (TypeMeaning (plain_type ty.now) ∷ [])) }
+    {
+        match ids {
+            [] => false,
+            [id] => self.stands_for_type(*id, ty),
+            [_, _, ..] => false,
+        }
+    }
+}
+
+impl Label {
+    // Whether it is that of the term.
+    fn is_of_term(&self, term: &Term) -> bool
+        ensures { IsTrue result ↔ (plain_label self.now ≡ term_label (plain_term term.now)) }
+    {
+        match term {
+            Term::App { op, .. } => match self {
+                Label::App(own) => own == op,
+                _ => false,
+            },
+            Term::None(_) => *self == Label::NoneOf,
+            Term::Prim(literal) => match self {
+                Label::Prim(own) => own == literal,
+                _ => false,
+            },
+            Term::Set { .. } => *self == Label::SetOf,
+            Term::Some(_) => *self == Label::SomeOf,
+            Term::Var(variable) => match self {
+                Label::Var(own) => *own == variable.id,
+                _ => false,
+            },
+        }
+    }
+
+    // Whether it is that of the type.
+    fn is_of_type(&self, ty: &TermType) -> bool
+        ensures { IsTrue result ↔ (plain_label self.now ≡ type_label (plain_type ty.now)) }
+    {
+        match ty {
+            TermType::Option { .. } => *self == Label::TOption,
+            TermType::Bitvec { n } => *self == Label::TBitvec(*n),
+            TermType::Bool => *self == Label::TBool,
+            TermType::String => *self == Label::TString,
+            TermType::Set { .. } => *self == Label::TSet,
+        }
+    }
+}
