@@ -9,10 +9,20 @@ use Rattle.smt_meaning.specs.Formed.{IsFormed}
 use Rattle.smt_meaning.specs.Plain.{PlainTerm}
 use Rattle.smt_meaning.specs.TypeValues.{Enums}
 use Rattle.smt_meaning.specs.Typing.{AreBoolean}
+use Rattle.std.specs.Prelude.{option_map}
+use Rattle.smt_graph.specs.Meanings.{all_found, found, meanings}
+use Rattle.smt_graph.specs.Nodes.{TermMeaning}
+use Rattle.smt_graph.proofs.Places.{map_back, then_back}
+use Rattle.smt_nodes.specs.Interned.{nodes_of}
+use Rattle.smt_nodes.specs.View.{place_of, places_of}
+use Rattle.smt_nodes.specs.declared.id.NodeId.{NodeId}
+use Rattle.smt_nodes.specs.declared.interner.Interner.{Interner}
+use Rattle.smt_encode.specs.NodeTexts.{StandFor}
 use Rattle.smt_term.specs.View.{plain_term}
 use Rattle.smt_term.specs.declared.enums.EnumTable.{EnumTable}
 use Rattle.smt_term.specs.declared.term.Term.{Term}
-use Rattle.smt_term.proofs.FormedTerms.{tables_are_empty, terms_are_formed}
+use Rattle.smt_term.proofs.FormedTerms.{both_formed, tables_are_empty, terms_are_formed}
+use Rattle.smt_nodes.proofs.Formed.{nodes_formed}
 use Rattle.smt_lines.specs.NameTables.{Tables}
 use Rattle.smt_lines.specs.Text.{names, text}
 use Rattle.smt_carrying.specs.CarriedOrder.{AreEnums}
@@ -32,6 +42,22 @@ pub headline : (table : EnumTable) (ts : List Term) → AreBoolean (map plain_te
 headline table ts typed none =
     conditions_are_their_scripts (enums_of table) (map plain_term ts) (are_enums table)
     (record { are_typed = typed; are_formed = all_formed ts; have_no_fault = none })
+
+-- the same of the terms for which numbers stand
+stand_formed : (i : Interner) (ids : List NodeId) (ts : List PlainTerm) → StandFor i ids ts → AllByRecursion IsFormed ts
+stand_formed i ids [] h = tt
+stand_formed i [] (t ∷ ts) h = absurd (cc)
+stand_formed i (id ∷ ids) (t ∷ ts) h =
+    let (m, e, g) = then_back (λ m. option_map (λ more. m ∷ more) (all_found (meanings (nodes_of i)) (places_of ids))) (found (meanings (nodes_of i)) (place_of id)) (map TermMeaning (t ∷ ts)) h in
+    let (more, f, same) = map_back (λ more. m ∷ more) (all_found (meanings (nodes_of i)) (places_of ids)) (map TermMeaning (t ∷ ts)) g in
+    let first : m ≡ TermMeaning t = cc in
+    let others : more ≡ map TermMeaning ts = cc in
+    (both_formed t (nodes_formed i.table.nodes.items i.graph (place_of id) (TermMeaning t) (e ∙ ap Some first)), stand_formed i ids ts (f ∙ ap Some others))
+
+pub node_headline : (table : EnumTable) (i : Interner) (ids : List NodeId) (ts : List PlainTerm) → StandFor i ids ts → AreBoolean ts → first_fault (enums_of table) ts ≡ None → Headline (enums_of table) (names (enums_of table) ts) ts (text (enums_of table) ts)
+node_headline table i ids ts stand typed none =
+    conditions_are_their_scripts (enums_of table) ts (are_enums table)
+    (record { are_typed = typed; are_formed = stand_formed i ids ts stand; have_no_fault = none })
 
 -- What a text and names say of terms, the bytes that were received say of them with the encoder's names.
 pub received : {S : Type 0} (e : Encoder S) (enums : Enums) (ts : List PlainTerm) (s : Tables) (bytes : List ℕ) (before after : Option (List ℕ)) → after ≡ append_known before bytes → HasNames e s → Headline enums s ts bytes

@@ -1,16 +1,13 @@
 -- Errors inside and the faults that they name: of an application's arguments, of a list of terms, and in the answer of a whole walk.
-use Rattle.std.proofs.Common.{◌≡◌, ℕ, Bool, false, List, [], ◌∷◌, refl, sym, ap, ◌∙◌, subst, None, Some, Ok, Err, Result}
+use Rattle.std.proofs.Common.{◌≡◌, ℕ, Bool, List, refl, sym, ap, ◌∙◌, subst, None, Some, Ok, Err, Result}
 use Rattle.std.specs.Prelude.{IsErrOf, OnOk}
 use Rattle.std.specs.Result.{IsErrAnd}
-use Rattle.std.specs.Option.{option_or}
 use Rattle.std.specs.Rc.{rc_str_bytes}
 use Rattle.std.specs.declared.alloc.Global.{Global}
 use Rattle.std.specs.declared.rc.RcStr.{RcStr}
-use Rattle.smt_meaning.specs.Faults.{Fault, EncodeStringFailed, EncodePatternFailed, first_fault, is_passed_over, operator_fault, term_fault, terms_fault, type_fault, unless}
-use Rattle.smt_meaning.specs.Plain.{Application, BitVecType, BoolType, BvnegoOp, no_terms, one_term, PlainOp, PlainTerm, PlainTerms, PlainType, terms}
-use Rattle.smt_meaning.specs.Types.{type_of, types_of}
+use Rattle.smt_meaning.specs.Faults.{Fault, EncodeStringFailed, EncodePatternFailed, first_fault}
+use Rattle.smt_meaning.specs.Plain.{PlainTerm}
 use Rattle.smt_meaning.specs.TypeValues.{Enums}
-use Rattle.smt_lines.specs.Lines.{AsApplication, application_rendering, least_rendering}
 use Rattle.smt_script.specs.Sink.{Rose}
 use Rattle.smt_script.specs.declared.sink.SinkError.TheVariants.{Fault as Failed, Memory as NoRoom}
 use Rattle.smt_term.specs.PatternView.{plain_ord_pattern}
@@ -45,75 +42,47 @@ never_spent (Text (StringFailed s)) is = cc
 never_spent (Text (PatternFailed p)) is = cc
 never_spent (Text NoMemory) is = cc
 
--- ---- terms
-
--- what is written by its operator is not passed over
-is_entered : (o : PlainOp) (ts : PlainTerms) (type : PlainType) → AsApplication ≡ application_rendering o ts type → is_passed_over o (types_of ts) type ≡ false
-is_entered BvnegoOp (one_term t no_terms) BoolType how = absurd (other (type_of t) how)
-  where
-    other : (type : PlainType) → AsApplication ≡ least_rendering type → ⊥
-    other (BitVecType width) h = cc
-    other type h = cc
-is_entered o ts type how = refl
-
 module _ (enums : Enums) where
-  -- a fault of the arguments is the application's
-  pub arguments_fault : (o : PlainOp) (ts : PlainTerms) (type : PlainType) → AsApplication ≡ application_rendering o ts type → type_fault enums type ≡ None → (f : Fault) → terms_fault enums ts ≡ Some f → term_fault enums (Application o ts type) ≡ Some f
-  arguments_fault o ts type how none f h =
-      ap (λ b. unless b (option_or (type_fault enums type) (option_or (terms_fault enums ts) (operator_fault enums o (types_of ts))))) (is_entered o ts type how)
-      ∙ ap (λ p. option_or p (option_or (terms_fault enums ts) (operator_fault enums o (types_of ts)))) none
-      ∙ ap (λ p. option_or p (operator_fault enums o (types_of ts))) h
-
-  -- ---- lists
-
-  pub first_is : (ts : List PlainTerm) → first_fault enums ts ≡ terms_fault enums (terms ts)
-  first_is [] = refl
-  first_is (t ∷ ts) = ap (option_or (term_fault enums t)) (first_is ts)
-
-  -- one term without fault more
-  pub one_passed : (left left' all : List PlainTerm) (t : PlainTerm) → left ≡ t ∷ left' → term_fault enums t ≡ None → terms_fault enums (terms all) ≡ terms_fault enums (terms left) → terms_fault enums (terms all) ≡ terms_fault enums (terms left')
-  one_passed left left' all t this none h = h ∙ ap (λ l. terms_fault enums (terms l)) this ∙ ap (λ o. option_or o (terms_fault enums (terms left'))) none
-
   -- ---- answers of a whole walk
 
   -- on Ok there is no fault
-  pub ok_without_fault : {T : Type 0} (ts : List PlainTerm) (walk : Result T WriteError) (x : T) → walk ≡ Ok x → Finds write_fault (terms_fault enums (terms ts)) walk → first_fault enums ts ≡ None
-  ok_without_fault {T} ts walk x is walked = first_is ts ∙ subst (λ (r : Result T WriteError). Finds write_fault (terms_fault enums (terms ts)) r) is walked
+  pub ok_without_fault : {T : Type 0} (ts : List PlainTerm) (walk : Result T WriteError) (x : T) → walk ≡ Ok x → Finds write_fault (first_fault enums ts) walk → first_fault enums ts ≡ None
+  ok_without_fault {T} ts walk x is walked = subst (λ (r : Result T WriteError). Finds write_fault (first_fault enums ts) r) is walked
 
   -- a refusal of a string names the first fault
-  pub string_is_first : (ts : List PlainTerm) (e : WriteError) (text : RcStr Global) → ((f : Fault) → write_fault e ≡ Some f → terms_fault enums (terms ts) ≡ Some f) → encode_error e ≡ StringRefused text
+  pub string_is_first : (ts : List PlainTerm) (e : WriteError) (text : RcStr Global) → ((f : Fault) → write_fault e ≡ Some f → first_fault enums ts ≡ Some f) → encode_error e ≡ StringRefused text
       → first_fault enums ts ≡ Some (EncodeStringFailed (rc_str_bytes text))
   string_is_first ts (Sink Failed) text h is = absurd (cc)
   string_is_first ts (Sink NoRoom) text h is = absurd (cc)
-  string_is_first ts (Text (StringFailed s)) text h is = first_is ts ∙ h (EncodeStringFailed (rc_str_bytes text)) (cc)
+  string_is_first ts (Text (StringFailed s)) text h is = h (EncodeStringFailed (rc_str_bytes text)) (cc)
   string_is_first ts (Text (PatternFailed p)) text h is = absurd (cc)
   string_is_first ts (Text NoMemory) text h is = absurd (cc)
 
   -- and so does one of a pattern
-  pub pattern_is_first : (ts : List PlainTerm) (e : WriteError) (p : OrdPattern) → ((f : Fault) → write_fault e ≡ Some f → terms_fault enums (terms ts) ≡ Some f) → encode_error e ≡ PatternRefused p
+  pub pattern_is_first : (ts : List PlainTerm) (e : WriteError) (p : OrdPattern) → ((f : Fault) → write_fault e ≡ Some f → first_fault enums ts ≡ Some f) → encode_error e ≡ PatternRefused p
       → first_fault enums ts ≡ Some (EncodePatternFailed (plain_ord_pattern p))
   pattern_is_first ts (Sink Failed) p h is = absurd (cc)
   pattern_is_first ts (Sink NoRoom) p h is = absurd (cc)
   pattern_is_first ts (Text (StringFailed s)) p h is = absurd (cc)
-  pattern_is_first ts (Text (PatternFailed q)) p h is = first_is ts ∙ h (EncodePatternFailed (plain_ord_pattern p)) (cc)
+  pattern_is_first ts (Text (PatternFailed q)) p h is = h (EncodePatternFailed (plain_ord_pattern p)) (cc)
   pattern_is_first ts (Text NoMemory) p h is = absurd (cc)
 
   -- without a fault of the terms or the sink there is one refusal
-  pub only_memory : {P : Type 0} (ts : List PlainTerm) (e : WriteError) → ((f : Fault) → write_fault e ≡ Some f → terms_fault enums (terms ts) ≡ Some f) → first_fault enums ts ≡ None → (e ≡ Sink Failed → P) → (P → ⊥) → encode_error e ≡ Memory
+  pub only_memory : {P : Type 0} (ts : List PlainTerm) (e : WriteError) → ((f : Fault) → write_fault e ≡ Some f → first_fault enums ts ≡ Some f) → first_fault enums ts ≡ None → (e ≡ Sink Failed → P) → (P → ⊥) → encode_error e ≡ Memory
   only_memory ts (Sink Failed) h none failed quiet = absurd (quiet (failed refl))
   only_memory ts (Sink NoRoom) h none failed quiet = refl
-  only_memory ts (Text (StringFailed s)) h none failed quiet = let f = sym none ∙ first_is ts ∙ h _ refl in absurd (cc)
-  only_memory ts (Text (PatternFailed p)) h none failed quiet = let f = sym none ∙ first_is ts ∙ h _ refl in absurd (cc)
+  only_memory ts (Text (StringFailed s)) h none failed quiet = let f = sym none ∙ h _ refl in absurd (cc)
+  only_memory ts (Text (PatternFailed p)) h none failed quiet = let f = sym none ∙ h _ refl in absurd (cc)
   only_memory ts (Text NoMemory) h none failed quiet = refl
 
   -- ---- an error of the walk, handed on
 
-  names_first : {T : Type 0} (ts : List PlainTerm) (walk : Result T WriteError) (e : WriteError) → walk ≡ Err e → Finds write_fault (terms_fault enums (terms ts)) walk
-      → (f : Fault) → write_fault e ≡ Some f → terms_fault enums (terms ts) ≡ Some f
-  names_first {T} ts walk e is walked = subst (λ (r : Result T WriteError). Finds write_fault (terms_fault enums (terms ts)) r) is walked
+  names_first : {T : Type 0} (ts : List PlainTerm) (walk : Result T WriteError) (e : WriteError) → walk ≡ Err e → Finds write_fault (first_fault enums ts) walk
+      → (f : Fault) → write_fault e ≡ Some f → first_fault enums ts ≡ Some f
+  names_first {T} ts walk e is walked = subst (λ (r : Result T WriteError). Finds write_fault (first_fault enums ts) r) is walked
 
   module _ (ts : List PlainTerm) {T U : Type 0} {before after : ℕ} (walk : Result T WriteError) (e : WriteError) (is : walk ≡ Err e)
-      (walked : Finds write_fault (terms_fault enums (terms ts)) walk) (rose : IsErrOf walk (Sink Failed) → Rose before after) where
+      (walked : Finds write_fault (first_fault enums ts) walk) (rose : IsErrOf walk (Sink Failed) → Rose before after) where
     pub has_cause : (result : Result U EncodeError) → IsErrAnd result (λ y. y ≡ encode_error e) → HasCause before after (first_fault enums ts) result
     has_cause (Ok x) same = absurd same
     has_cause (Err y) same = record {

@@ -1,11 +1,12 @@
 -- Texts with a number in them are the spellings of expressions.
-use Rattle.std.proofs.Common.{◌≡◌, ℕ, ◌^◌, ◌<◌, ◌≤◌, ◌++◌, [], refl, sym, ap, ◌∙◌, append_assoc, append-nil, arith}
+use Rattle.std.proofs.Common.{◌≡◌, ℕ, ◌^◌, ◌<◌, ◌≤◌, List, ◌++◌, [], length, refl, sym, ap, ◌∙◌, append_assoc, append-nil, arith}
 use Rattle.std.proofs.Math.Pow.{pow_mono}
 use Rattle.std.specs.Prelude.{codes, decimal}
 use Rattle.smt_meaning.specs.Plain.{ZeroExtendOp}
 use Rattle.smt_semantics.specs.Sorts.{bit_sort}
 use Rattle.smt_lines.specs.LineForms.{operator_head}
-use Rattle.smt_lines.specs.Lines.{bits}
+use Rattle.smt_lines.specs.Lines.{bits, next_term}
+use Rattle.smt_lines.specs.NameTables.{Tables}
 use Rattle.smt_lines.specs.Spelling.{numeral, spelled}
 use Rattle.smt_semantics.proofs.Numerals.{numerals_are_printed}
 
@@ -28,3 +29,9 @@ bits_spelled a n b k e f small short =
 -- numbers of at most 128 bits have at most 64 digits
 pub short_enough : (a n : ℕ) → a < 2 ^ n → n ≤ 128 → a < 10 ^ 64
 short_enough a n below most = let m = pow_mono {i = n} {j = 128} most in omega (arith, m, below)
+
+-- the name that is drawn next
+pub drawn : (n : ℕ) (name : List ℕ) (s : Tables) → n < 2 ^ 63 → n ≡ length s.terms → name ≡ codes "t" ++ decimal n → name ≡ next_term s
+drawn n name s small count named =
+    let e : numeral n ≡ decimal n = numerals_are_printed n (omega arith) in
+    named ∙ ap (λ d. codes "t" ++ d) (sym e) ∙ ap (λ m. codes "t" ++ numeral m) count

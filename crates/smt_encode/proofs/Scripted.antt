@@ -1,5 +1,6 @@
 -- A whole script: the declaration of `Option`, the terms' lines, and an assertion for each term.
-use Rattle.std.proofs.Common.{◌≡◌, ℕ, zero, suc, ◌+◌, ◌<◌, List, [], ◌∷◌, ◌++◌, length, take, get_or, map, refl, sym, ap, ◌∙◌, subst, append-nil, add-one, arith, Option}
+use Rattle.std.proofs.Common.{◌≡◌, ℕ, zero, suc, ◌+◌, ◌<◌, List, [], ◌∷◌, ◌++◌, length, take, get_or, map, refl, sym, ap, ◌∙◌, subst, append-nil, add-one, arith, Option, Result, Ok, Err}
+use Rattle.std.specs.Prelude.{OnOk}
 use Rattle.std.specs.Io.KnownBytes.{append_known}
 use Rattle.std.specs.Rc.{rc_str_bytes}
 use Rattle.std.specs.declared.alloc.Global.{Global}
@@ -12,6 +13,7 @@ use Rattle.smt_lines.specs.Lines.{Enums, encode, encode_terms, option_line}
 use Rattle.smt_lines.specs.NameTables.{Tables, no_names}
 use Rattle.smt_lines.specs.Spelling.{spelled}
 use Rattle.smt_lines.specs.Text.{names, text}
+use Rattle.smt_encode.specs.Encoded.{enums_in}
 use Rattle.smt_encode.specs.Steps.{AreSpelled, Wrote}
 use Rattle.smt_encode.specs.declared.encoder.Encoder.{Encoder}
 use Rattle.smt_encode.proofs.Lines.{wrote_then}
@@ -55,3 +57,13 @@ text_is enums ts = ap spelled_lines (sym (append-nil (option_line ∷ (encode en
 pub text_written : {S : Type 0} {contents : S → Option (List ℕ)} {old new : Encoder S} {s : Tables} (enums : Enums) (ts : List PlainTerm) → Wrote contents old new (option_line ∷ (encode enums ts no_names).lines) s
     → contents new.script ≡ append_known (contents old.script) (text enums ts)
 text_written {contents = contents} {old} enums ts w = w.contents_are ∙ ap (append_known (contents old.script)) (text_is enums ts)
+
+-- the lines of a whole script, with the names behind it
+abbrev pub script_of : {S : Type 0} → (S → Option (List ℕ)) → Encoder S → Encoder S → Enums → List PlainTerm → Type 0
+script_of contents old new enums ts = Wrote contents old new (option_line ∷ (encode enums ts no_names).lines) (names enums ts)
+
+-- what was written by an encoder that has the same sink and knows the same enum types
+pub wrote_here : {S T E : Type 0} (contents : S → Option (List ℕ)) (old mid new : Encoder S) (ts : List PlainTerm) (result : Result T E) → old.script ≡ mid.script → enums_in mid ≡ enums_in old → OnOk result (script_of contents mid new (enums_in mid) ts) → OnOk result (script_of contents old new (enums_in old) ts)
+wrote_here contents old mid new ts (Ok x) same enums w =
+    subst (λ (e : Enums). script_of contents old new e ts) enums (record { names = w.names; contents_are = w.contents_are ∙ ap (λ s. append_known (contents s) (spelled_lines (option_line ∷ (encode (enums_in mid) ts no_names).lines))) (sym same) })
+wrote_here contents old mid new ts (Err e) same enums w = tt

@@ -3,10 +3,12 @@ use Rattle.std.specs.Prelude.{ℕ, ◌≡◌, ◌≤◌, ◌↔◌, List, ◌++�
 use Rattle.std.specs.Io.KnownBytes.{append_known}
 use Rattle.smt_meaning.specs.Plain.{PlainTerm}
 use Rattle.smt_meaning.specs.TypeValues.{Enums}
-use Rattle.smt_term.specs.declared.term.Term.{Term}
 use Rattle.smt_lines.specs.NameTables.{Tables}
 use Rattle.smt_lines.specs.Text as stated
-use Rattle.smt_encode.specs.Names.{enums_under, name_in, AreTables}
+use Rattle.smt_nodes.specs.declared.interner.Interner.{Interner}
+use Rattle.smt_encode.specs.Names.{enums_under, nodes_under, texts_under, AreTables}
+use Rattle.smt_encode.specs.NodeTexts.{HasName}
+use Rattle.smt_encode.specs.declared.node_names.NodeNames.{NodeNames}
 use Rattle.smt_encode.specs.declared.encoder.Encoder.{Encoder}
 use Rattle.smt_encode.specs.declared.error.EncodeError.{EncodeError}
 use Rattle.smt_encode.specs.declared.error.EncodeError.TheVariants.{Spent}
@@ -23,9 +25,16 @@ sink_of e = e.script
 abbrev pub is_spent : {S : Type 0} → Encoder S → Bool
 is_spent e = e.begun || e.failed
 
--- the name that an encoder has for a term
-abbrev pub entry_of : {S : Type 0} → Encoder S → Term → Option (List ℕ)
-entry_of e t = name_in e.names t
+-- the nodes of an encoder, and their texts
+abbrev pub nodes_in : {S : Type 0} → Encoder S → Interner
+nodes_in e = nodes_under e.names
+
+abbrev pub texts_in : {S : Type 0} → Encoder S → NodeNames
+texts_in e = texts_under e.names
+
+-- The encoder has this name for a term, or none.
+abbrev pub IsNameOf : {S : Type 0} → Encoder S → PlainTerm → Option (List ℕ) → Type 0
+IsNameOf e t name = HasName (nodes_in e) (texts_in e) t name
 
 -- The encoder's names are these tables.
 abbrev pub HasNames : {S : Type 0} → Encoder S → Tables → Type 0

@@ -1,8 +1,10 @@
 pub mod Encoded
 pub mod Entries
 pub mod Errors
-pub mod Faultless
 pub mod Names
+pub mod NodeLines
+pub mod NodeTexts
 pub mod Refusals
 pub mod Renderings
 pub mod Steps
+pub mod Texts

@@ -1,26 +1,43 @@
--- The names that terms have, and the tables that they are.
-use Rattle.std.specs.Prelude.{ℕ, ◌≡◌, List, [], Option, option_map, length}
-use Rattle.std.specs.BTreeMap.{get, btree_map_len}
-use Rattle.std.specs.Rc.{rc_str_bytes}
+-- The tables of names that the texts of nodes are.
+use Rattle.std.specs.Prelude.{ℕ, ◌≡◌, false, List, [], Some, length}
+use Rattle.smt_meaning.specs.Plain.{PlainTerm}
 use Rattle.smt_meaning.specs.TypeValues.{Enums}
 use Rattle.smt_term.specs.Enums.{enums_of}
-use Rattle.smt_term.specs.View.{plain_term}
-use Rattle.smt_term.specs.contracts.term.TermOrd.TheImpl as term_order
-use Rattle.smt_term.specs.declared.term.Term.{Term}
+use Rattle.smt_graph.specs.Nodes.{Meaning}
+use Rattle.smt_nodes.specs.Interned.{meaning_in, nodes_of}
+use Rattle.smt_nodes.specs.declared.id.NodeId.{NodeId}
+use Rattle.smt_nodes.specs.declared.interner.Interner.{Interner}
 use Rattle.smt_lines.specs.NameTables.{Tables, name_of_term}
+use Rattle.smt_encode.specs.NodeLines.{has_entry}
+use Rattle.smt_encode.specs.NodeTexts.{text_at, HasName, IsText}
 use Rattle.smt_encode.specs.declared.names.Names.{Names}
+use Rattle.smt_encode.specs.declared.node_names.NodeNames.{NodeNames}
 
--- the name that a term has, None where it has none
-abbrev pub name_in : Names → Term → Option (List ℕ)
-name_in n t = option_map rc_str_bytes (get term_order.ghosts.cmp n.terms t)
-
--- the enum types over which terms have these names
+-- the enum types over which nodes have these texts, and the nodes
 abbrev pub enums_under : Names → Enums
 enums_under n = enums_of n.enums.now
 
--- Names are these tables: each term has the name that it has there, and there are as many. Types and functions have none yet.
+abbrev pub nodes_under : Names → Interner
+nodes_under n = n.nodes
+
+abbrev pub texts_under : Names → NodeNames
+texts_under n = n.texts
+
+-- The names are these tables: each term has the name that it has there, and there are as many; the text of what has no entry is the stated one.
+-- Types and functions have no names yet.
 pub record AreTables (n : Names) (s : Tables) : Type 0 where
-  pub terms : (t : Term) → name_in n t ≡ name_of_term s (plain_term t)
-  pub count : btree_map_len n.terms ≡ length s.terms
+  pub terms : (t : PlainTerm) → HasName n.nodes n.texts t (name_of_term s t)
+  pub inline : (id : NodeId) (m : Meaning) (text : List ℕ) → meaning_in n.nodes id ≡ Some m → has_entry m ≡ false → text_at n.texts id ≡ Some text → IsText (enums_under n) s m text
+  pub count : n.texts.named ≡ length s.terms
   pub types : s.types ≡ []
   pub functions : s.functions ≡ []
+
+-- Each node has room for its text.
+abbrev pub HasRoom : Names → Type 0
+HasRoom n = length n.texts.texts.items ≡ length (nodes_of n.nodes)
+
+-- The nodes and the enum types are what they were, and so is the room for texts.
+pub record StandsOn (old new : Names) : Type 0 where
+  pub enums : enums_under new ≡ enums_under old
+  pub nodes : new.nodes ≡ old.nodes
+  pub room : length new.texts.texts.items ≡ length old.texts.texts.items

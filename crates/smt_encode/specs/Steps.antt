@@ -1,5 +1,5 @@
 -- What the private calls of an encoder leave: lines that the sink got, and the names afterwards.
-use Rattle.std.specs.Prelude.{ℕ, ◌≡◌, List, Option, Result, IfOk, OnOk, IsErrOf, map}
+use Rattle.std.specs.Prelude.{ℕ, ◌≡◌, ◌≤◌, List, Option, Some, Result, IfOk, OnOk, IsErrOf, map}
 use Rattle.std.specs.Io.KnownBytes.{append_known}
 use Rattle.std.specs.Rc.{rc_str_bytes}
 use Rattle.std.specs.declared.alloc.Global.{Global}
@@ -11,7 +11,11 @@ use Rattle.smt_lines.specs.NameTables.{Tables}
 use Rattle.smt_lines.specs.Spelling.{spelled}
 use Rattle.smt_script.specs.Sink.{Rose}
 use Rattle.smt_encode.specs.declared.encoder.Encoder.{Encoder}
-use Rattle.smt_encode.specs.Encoded.{HasNames, Keeps}
+use Rattle.smt_nodes.specs.View.{place_of}
+use Rattle.smt_nodes.specs.declared.id.NodeId.{NodeId}
+use Rattle.smt_encode.specs.Names.{StandsOn}
+use Rattle.smt_encode.specs.NodeTexts.{text_at}
+use Rattle.smt_encode.specs.Encoded.{texts_in, HasNames, Keeps}
 
 -- a text is the spelling of an expression
 abbrev pub IsSpelled : Expression → RcStr Global → Type 0
@@ -43,3 +47,10 @@ WritesStated contents old new stated Shows result = (s : Tables) → HasNames ol
 pub record FaultCounted {S T E : Type 0} (faults : S → ℕ) (place : S → List ℕ) (fault : E) (old new : Encoder S) (result : Result T E) : Type 0 where
   pub kept : Keeps faults place old new
   pub cause : IsErrOf result fault → Rose (faults old.script) (faults new.script)
+
+-- The same where nodes are written: the nodes and the room stay, and so do the texts that were kept, and those of the nodes from a place on.
+pub record Walks {S T E : Type 0} (faults : S → ℕ) (place : S → List ℕ) (fault : E) (behind : ℕ) (old new : Encoder S) (result : Result T E) : Type 0 where
+  pub counted : FaultCounted faults place fault old new result
+  pub stands : StandsOn old.names new.names
+  pub kept : (id : NodeId) (text : List ℕ) → text_at (texts_in old) id ≡ Some text → text_at (texts_in new) id ≡ Some text
+  pub later : (id : NodeId) → behind ≤ place_of id → text_at (texts_in new) id ≡ text_at (texts_in old) id

@@ -25,12 +25,14 @@ mod encoder;
 mod entry;
 mod error;
 mod names;
+mod node_names;
 mod pattern;
 mod rendering;
 mod spell;
+mod steps;
+mod walk;
 
 pub use encoder::Encoder;
 pub use error::{EncodeError, SMT_LIB_MAX_CODE_POINT};
-
-#[cfg(test)]
-mod tests;
+pub use node_names::NodeNames;
+pub use steps::Steps;

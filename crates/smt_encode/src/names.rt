@@ -1,67 +1,170 @@
-// The names under which terms are declared or defined.
-ghost use Rattle.std.specs.Prelude.{◌≡◌, ◌++◌, [], ◌∷◌, None, IfOk, IfSome, OnOk, option_map};
+// The nodes of terms, and the texts that stand for them.
+ghost use Rattle.std.specs.Prelude.{ℕ, ◌≡◌, ◌<◌, ◌++◌, ◌∷◌, ◌+◌, [], false, length, IfOk, IsTrue, None, OnOk, Some, is_some, map, option_map};
 ghost use Rattle.std.specs.Rc.{rc_str_bytes};
-ghost use Rattle.smt_meaning.specs.Faults.{term_fault};
+ghost use Rattle.smt_meaning.specs.Plain.{PlainTerm};
+ghost use Rattle.smt_graph.specs.Meanings.{all_found, meanings};
+ghost use Rattle.smt_graph.specs.Nodes.{Meaning, TermMeaning};
+ghost use Rattle.smt_nodes.specs.Interned.{meaning_in, nodes_of, IsMeant, KeepsMeanings};
+ghost use Rattle.smt_nodes.specs.View.{place_of, places_of};
 ghost use Rattle.smt_term.specs.Enums.{enums_of};
 ghost use Rattle.smt_term.specs.View.{plain_term};
 ghost use Rattle.smt_lines.specs.Lines.{next_term};
-ghost use Rattle.smt_lines.specs.NameTables.{Tables, name_of_term, no_names};
-ghost use Rattle.smt_encode.specs.Faultless.{HaveNoFaults};
+ghost use Rattle.smt_lines.specs.NameTables.{Tables, no_names};
+ghost use Rattle.smt_encode.specs.NodeLines.{has_entry, meaning_fault};
+ghost use Rattle.smt_encode.specs.NodeTexts.{text_at, AreSound, HasName, IsNodeOf, IsText};
+ghost use Rattle.smt_encode.specs.Texts.{IsKept};
 
+use crate::node_names::NodeNames;
 use crate::spell::term_name;
+use crate::steps::Steps;
+use smt_nodes::{Interner, Node, NodeId};
 use smt_term::{EnumTable, Term, TermError, Text};
 use std::alloc::{AllocError, Global};
-use std::collections::BTreeMap;
+use std::sync::ledger::{Blank, Ledger};
 
-/// The names of terms, numbered in the order in which they were given.
+/// The numbers that stand for terms, in order.
+fn numbers_of(alloc: Global, nodes: &mut Interner, terms: &[Term]) -> Result<Vec<NodeId>, TermError>
+    ensures meanings { IfOk result (λ ids. all_found (meanings (nodes_of nodes.new)) (places_of ids.items) ≡ Some (map TermMeaning (map plain_term terms.now))) }
+    ensures kept { KeepsMeanings nodes.old nodes.new }
+{
+    let mut ids = Vec::with_capacity(alloc, terms.len())?;
+    for term in terms {
+        let id = nodes.intern(term)?;
+        ids.push(id)?;
+    }
+    Ok(ids)
+}
+
+/// The nodes that stand for terms, and the text of each node that was written, over the enum types of the terms.
 ///
-/// No term that has a name has a fault, so that a term whose name is found needs no second look.
+/// What has a text has no fault, so that a node whose text is found needs no second look.
 #[derive(Drop)]
 pub(crate) struct Names<'a> {
     alloc: Global,
     enums: &'a EnumTable,
-    terms: BTreeMap<Term, Text>,
-    ghost sound: { HaveNoFaults (enums_of enums.now) terms },
+    nodes: Interner,
+    texts: NodeNames,
+    ghost sound: { AreSound (enums_of enums.now) nodes texts },
 }
 
 impl<'a> Names<'a> {
-    ghost use Rattle.smt_encode.specs.Names.{enums_under, name_in, AreTables};
+    ghost use Rattle.smt_encode.specs.Names.{enums_under, nodes_under, texts_under, AreTables, HasRoom, StandsOn};
 
-    /// No names yet, for terms over these enum types. Takes no memory.
-    pub(crate) fn new(alloc: Global, enums: &'a EnumTable) -> Names<'a>
+    /// No names yet, for these nodes. Takes no memory.
+    pub(crate) fn new(alloc: Global, enums: &'a EnumTable, nodes: Interner) -> Names<'a>
         ensures none { AreTables result no_names }
         ensures enums { enums_under result ≡ enums_of enums.now }
+        ensures nodes { nodes_under result ≡ nodes }
     {
         Names {
             alloc,
             enums,
-            terms: BTreeMap::new(alloc),
+            nodes,
+            texts: NodeNames::new(alloc),
         }
     }
 
-    /// The name of a term, None exactly where it has none. A term that has one has no fault. Takes no memory.
-    pub(crate) fn find(&self, term: &Term) -> Option<&Text>
-        ensures name { option_map (λ name. rc_str_bytes name.now) result ≡ name_in self.now term.now }
-        ensures sound { IfSome result (λ _. term_fault (enums_under self.now) (plain_term term.now) ≡ None) }
+    /// The nodes.
+    pub(crate) fn nodes(&self) -> &Interner
+        ensures { result.now ≡ nodes_under self.now }
     {
-        self.terms.get(term)
+        &self.nodes
+    }
+
+    /// The texts of the nodes.
+    pub(crate) fn texts(&self) -> &NodeNames
+        ensures { result.now ≡ texts_under self.now }
+    {
+        &self.texts
+    }
+
+    /// The text of a node, None exactly where it has none. It is one look-up, and takes no memory.
+    pub(crate) fn text<L: Ledger>(&self, id: NodeId, steps: &mut Steps<L>) -> Option<&Text>
+        ensures text { option_map (λ text. rc_str_bytes text.now) result ≡ text_at (texts_under self.now) id }
+        ensures counted { steps.new ≡ steps.old + 1 }
+    {
+        self.texts.get(id, steps)
+    }
+
+    /// The name of a term, None exactly where it has none, by a counter of this ledger. Takes no memory.
+    pub(crate) fn name_by<L: Ledger>(&self, term: &Term, blank: Blank) -> Option<&Text>
+        requires name { blank.name ≡ L.name }
+        requires parts { blank.parts ≡ L.parts }
+        requires some { 0 < blank.parts }
+        ensures { HasName (nodes_under self.now) (texts_under self.now) (plain_term term.now) (option_map (λ name. rc_str_bytes name.now) result) }
+    {
+        // The text of a literal is no name.
+        if let Term::Prim(_) = term {
+            return None;
+        }
+        let id = self.nodes.find(term)?;
+        self.texts.get(id, &mut Steps::<L>::new(blank))
+    }
+
+    /// The node of a number that stands for something.
+    pub(crate) fn node(&self, id: NodeId) -> Result<Node, TermError>
+        requires { IsMeant (nodes_under self.now) id }
+        ensures { IfOk result (IsNodeOf (nodes_under self.now) id) }
+    {
+        match self.nodes.node(id) {
+            Some(node) => node.share(),
+            // A number that stands for something has a node.
+            None => unreachable!(),
+        }
+    }
+
+    /// The numbers that stand for these terms, in order.
+    pub(crate) fn intern(&mut self, terms: &[Term]) -> Result<Vec<NodeId>, TermError>
+        ensures meanings { IfOk result (λ ids. all_found (meanings (nodes_of (nodes_under self.new))) (places_of ids.items) ≡ Some (map TermMeaning (map plain_term terms.now))) }
+        ensures kept { KeepsMeanings (nodes_under self.old) (nodes_under self.new) }
+        ensures tables { (s : Tables) → AreTables self.old s → AreTables self.new s }
+        ensures enums { enums_under self.new ≡ enums_under self.old }
+    {
+        numbers_of(self.alloc, &mut self.nodes, terms)
+    }
+
+    /// Makes room for a text of each node.
+    pub(crate) fn make_room(&mut self) -> Result<(), AllocError>
+        ensures room { OnOk result (HasRoom self.new) }
+        ensures nodes { nodes_under self.new ≡ nodes_under self.old }
+        ensures texts { (id : NodeId) → text_at (texts_under self.new) id ≡ text_at (texts_under self.old) id }
+        ensures tables { (s : Tables) → AreTables self.old s → AreTables self.new s }
+        ensures enums { enums_under self.new ≡ enums_under self.old }
+    {
+        self.texts.make_room(self.nodes.len())
     }
 
     /// The name of the next entry.
     pub(crate) fn next(&self) -> Result<Text, AllocError>
         ensures { (s : Tables) → AreTables self.now s → IfOk result (λ name. rc_str_bytes name ≡ next_term s) }
     {
-        term_name(self.alloc, self.terms.len())
+        term_name(self.alloc, self.texts.named())
     }
 
-    /// Enters a term that has no name yet, and no fault.
-    pub(crate) fn enter(&mut self, term: &Term, name: &Text) -> Result<(), TermError>
-        requires sound { term_fault (enums_under self.old) (plain_term term.now) ≡ None }
-        ensures names { (s : Tables) → AreTables self.old s → name_of_term s (plain_term term.now) ≡ None →
-            OnOk result (AreTables self.new (record s { terms = s.terms ++ (plain_term term.now, rc_str_bytes name.now) ∷ [] })) }
-        ensures enums { enums_under self.new ≡ enums_under self.old }
+    /// Keeps the text of a node that has none yet, and neither an entry nor a fault.
+    pub(crate) fn keep(&mut self, id: NodeId, text: Text)
+        requires room { HasRoom self.old }
+        requires unkept { text_at (texts_under self.old) id ≡ None }
+        requires meant { IsMeant (nodes_under self.old) id }
+        requires sound { (m : Meaning) → meaning_in (nodes_under self.old) id ≡ Some m → meaning_fault (enums_under self.old) m ≡ None }
+        ensures tables { (s : Tables) (m : Meaning) → AreTables self.old s → meaning_in (nodes_under self.old) id ≡ Some m → has_entry m ≡ false → IsText (enums_under self.old) s m (rc_str_bytes text) → AreTables self.new s }
+        ensures stands { StandsOn self.old self.new }
+        ensures kept { IsKept (texts_under self.old).texts.items (texts_under self.new).texts.items (place_of id) (rc_str_bytes text) }
     {
-        self.terms.insert(term.share()?, name.clone()?)?;
-        Ok(())
+        self.texts.keep(id, text);
+    }
+
+    /// Enters a term's name under its node, which has no text yet, and no fault.
+    pub(crate) fn enter(&mut self, id: NodeId, name: Text)
+        requires room { HasRoom self.old }
+        requires unkept { text_at (texts_under self.old) id ≡ None }
+        requires meant { IsMeant (nodes_under self.old) id }
+        requires sound { (m : Meaning) → meaning_in (nodes_under self.old) id ≡ Some m → meaning_fault (enums_under self.old) m ≡ None }
+        ensures tables { (s : Tables) (t : PlainTerm) → AreTables self.old s → meaning_in (nodes_under self.old) id ≡ Some (TermMeaning t) → IsTrue (has_entry (TermMeaning t)) →
+            AreTables self.new (record s { terms = s.terms ++ (t, rc_str_bytes name) ∷ [] }) }
+        ensures stands { StandsOn self.old self.new }
+        ensures kept { IsKept (texts_under self.old).texts.items (texts_under self.new).texts.items (place_of id) (rc_str_bytes name) }
+    {
+        self.texts.enter(id, name);
     }
 }

@@ -1,27 +1,33 @@
 // How an application is written: as it stands, as an equality, or as `false`.
-ghost use Rattle.std.specs.Prelude.{◌≡◌, List, IfOk, OnOk, map};
+ghost use Rattle.std.specs.Prelude.{◌≡◌, ◌∷◌, List, IfOk, OnOk, Some, map, option_map};
 ghost use Rattle.std.specs.Rc.{rc_str_bytes};
 ghost use Rattle.std.specs.String.{string_bytes};
 ghost use Rattle.smt_bits.specs.Width.{bits_in};
 ghost use Rattle.smt_encode.specs.Steps.{AreSpelled};
 ghost use Rattle.smt_encode.specs.Renderings.{pattern_fault, plain_rendering};
+ghost use Rattle.smt_encode.specs.Entries.{is_negation_label, is_truth_type, rendering_in, width_of_type, written_parts};
+ghost use Rattle.smt_encode.specs.NodeTexts.{IsNodeOf};
+ghost use Rattle.smt_graph.specs.Meanings.{all_found, meanings};
+ghost use Rattle.smt_graph.specs.Nodes.{Meaning, TermMeaning, TypeMeaning};
+ghost use Rattle.smt_nodes.specs.Interned.{meaning_in, nodes_of};
+ghost use Rattle.smt_nodes.specs.View.{places_of, plain_label};
 ghost use Rattle.smt_encode.specs.Refusals.{text_fault, Finds};
 ghost use Rattle.smt_lines.specs.LineForms as forms;
 ghost use Rattle.smt_lines.specs.LineForms.{application_body, least_body, operator_head, with_pattern};
 ghost use Rattle.smt_lines.specs.Lines as lines;
-ghost use Rattle.smt_lines.specs.Lines.{application_rendering};
 ghost use Rattle.smt_lines.specs.Spelling.{spelled};
 ghost use Rattle.smt_lexicon.specs.Reading.{Expression};
 ghost use Rattle.smt_semantics.specs.WrittenStrings.{pattern_expr};
-ghost use Rattle.smt_meaning.specs.Plain.{PatternPart, terms};
+ghost use Rattle.smt_meaning.specs.Plain.{PatternPart, PlainTerm, PlainType, terms};
 ghost use Rattle.smt_meaning.specs.Types.{type_of};
-ghost use Rattle.smt_term.specs.View.{plain_op, plain_term, plain_type};
+ghost use Rattle.smt_term.specs.View.{plain_op};
 
 use crate::error::TextError;
 use crate::pattern::pattern_text;
 use crate::spell::{application_text, bits_literal, head_text};
 use smt_bits::{BitVec, Width};
-use smt_term::{Op, Term, TermError, TermType, Text};
+use smt_nodes::{Interner, Label, Node, NodeId};
+use smt_term::{Op, Text};
 use std::alloc::{AllocError, Global};
 
 /// How the definition of an application is written.
@@ -35,52 +41,83 @@ pub(crate) enum Rendering {
     False,
 }
 
-/// How an application is written.
+/// How a node is written.
 ///
 /// The overflow of a negation is written without its operator: it overflows exactly at the least number of its width,
 /// and what is no bitvector does not overflow.
-pub(crate) fn rendering_of(
-    alloc: Global,
-    op: &Op,
-    args: &[Term],
-    ret_ty: &TermType,
-) -> Result<Rendering, TermError>
-    ensures { IfOk result (λ found. plain_rendering found ≡ application_rendering (plain_op op.now) (terms (map plain_term args.now)) (plain_type ret_ty.now)) }
+pub(crate) fn rendering_of(nodes: &Interner, node: &Node) -> Rendering
+    ensures { (id : NodeId) (m : Meaning) → meaning_in nodes.now id ≡ Some m → IsNodeOf nodes.now id node.now → plain_rendering result ≡ rendering_in m }
 {
-    match op {
-        Op::Bvnego => negation_rendering(alloc, args, ret_ty),
-        _ => Ok(Rendering::Application),
+    if is_negation_test(&node.label) {
+        negation_rendering(nodes, node.parts.items())
+    } else {
+        Rendering::Application
     }
 }
 
-/// How the overflow of a negation is written: it is a test of one operand.
-fn negation_rendering(
-    alloc: Global,
-    args: &[Term],
-    ret_ty: &TermType,
-) -> Result<Rendering, TermError>
-    ensures { IfOk result (λ found. plain_rendering found ≡ lines.negation_rendering (terms (map plain_term args.now)) (plain_type ret_ty.now)) }
+/// Whether this is the overflow test of a negation.
+fn is_negation_test(label: &Label) -> bool
+    ensures { result ≡ is_negation_label (plain_label label.now) }
 {
-    match ret_ty {
-        TermType::Bool => match args {
-            [operand] => least_rendering(alloc, operand),
-            _ => Ok(Rendering::Application),
-        },
-        TermType::Option { .. }
-        | TermType::Bitvec { .. }
-        | TermType::String
-        | TermType::Set { .. } => Ok(Rendering::Application),
+    matches!(label, Label::App(Op::Bvnego))
+}
+
+/// How the overflow of a negation is written, by its type and its operands: it is a test of one operand.
+fn negation_rendering(nodes: &Interner, parts: &[NodeId]) -> Rendering
+    ensures { (type : PlainType) (ts : List PlainTerm) → all_found (meanings (nodes_of nodes.now)) (places_of parts.now) ≡ Some (TypeMeaning type ∷ map TermMeaning ts) → plain_rendering result ≡ lines.negation_rendering (terms ts) type }
+{
+    if parts.len() != 2 {
+        return Rendering::Application;
+    }
+    if is_truth(nodes, parts[0]) {
+        least_rendering(nodes, parts[1])
+    } else {
+        Rendering::Application
+    }
+}
+
+/// Whether a type is that of truth values.
+fn is_truth(nodes: &Interner, ty: NodeId) -> bool
+    ensures { (t : PlainType) → meaning_in nodes.now ty ≡ Some (TypeMeaning t) → result ≡ is_truth_type t }
+{
+    matches!(nodes.label(ty), Some(Label::TBool))
+}
+
+/// The width of a type of bitvectors, None of another type.
+fn width_in(nodes: &Interner, ty: NodeId) -> Option<Width>
+    ensures { (t : PlainType) → meaning_in nodes.now ty ≡ Some (TypeMeaning t) → option_map bits_in result ≡ width_of_type t }
+{
+    match nodes.label(ty)? {
+        Label::TBitvec(width) => Some(*width),
+        _ => None,
     }
 }
 
 /// How the overflow of this operand's negation is written.
-fn least_rendering(alloc: Global, operand: &Term) -> Result<Rendering, TermError>
-    ensures { IfOk result (λ found. plain_rendering found ≡ lines.least_rendering (type_of (plain_term operand.now))) }
+fn least_rendering(nodes: &Interner, operand: NodeId) -> Rendering
+    ensures { (t : PlainTerm) → meaning_in nodes.now operand ≡ Some (TermMeaning t) → plain_rendering result ≡ lines.least_rendering (type_of t) }
 {
-    match operand.type_of(alloc)? {
-        TermType::Bitvec { n } => Ok(Rendering::EqualsIntMin(n)),
-        TermType::Option { .. } | TermType::Bool | TermType::String | TermType::Set { .. } => {
-            Ok(Rendering::False)
+    let parts = nodes.parts(operand);
+    if parts.is_empty() {
+        return Rendering::False;
+    }
+    match width_in(nodes, parts[0]) {
+        Some(width) => Rendering::EqualsIntMin(width),
+        None => Rendering::False,
+    }
+}
+
+impl Rendering {
+    /// The parts that are written before the node: all, but for what is written as `false`, of which it is the type alone.
+    pub(crate) fn written(self, parts: &[NodeId]) -> &[NodeId]
+        ensures { result.now ≡ written_parts (plain_rendering self) parts.now }
+    {
+        match self {
+            Rendering::Application | Rendering::EqualsIntMin(_) => parts,
+            Rendering::False => match parts {
+                [] => parts,
+                [..] => &parts[..1],
+            },
         }
     }
 }

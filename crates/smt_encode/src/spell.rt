@@ -1,5 +1,5 @@
 // The texts of names, sorts, literals, ids and applications.
-ghost use Rattle.std.specs.Prelude.{◌≡◌, ◌++◌, List, IfOk, codes, decimal};
+ghost use Rattle.std.specs.Prelude.{◌≡◌, ◌++◌, ◌∷◌, List, IfOk, codes, decimal};
 ghost use Rattle.std.specs.List.{join_by};
 ghost use Rattle.std.specs.Rc.{rc_str_bytes};
 ghost use Rattle.std.specs.String.{string_bytes};
@@ -8,11 +8,12 @@ ghost use Rattle.smt_bits.specs.Width.{bits_in};
 ghost use Rattle.smt_encode.specs.Steps.{AreSpelled};
 ghost use Rattle.smt_encode.specs.Refusals.{text_fault, Finds};
 ghost use Rattle.smt_semantics.specs.Meanings.{as_sort};
+ghost use Rattle.smt_semantics.specs.Script.{group, name};
 ghost use Rattle.smt_semantics.specs.Sorts as sorts;
 ghost use Rattle.smt_lexicon.specs.Reading.{Expression};
 ghost use Rattle.smt_meaning.specs.Faults.{EncodeStringFailed, fault_unless, is_string};
 ghost use Rattle.smt_lines.specs.Lines as lines;
-ghost use Rattle.smt_lines.specs.LineForms.{operator_head, set_body, some_body};
+ghost use Rattle.smt_lines.specs.LineForms.{operator_head, set_body};
 ghost use Rattle.smt_lines.specs.TermTexts.{string_text};
 ghost use Rattle.smt_lines.specs.Spelling.{spelled};
 ghost use Rattle.smt_semantics.specs.Sorts.{bit_sort};
@@ -85,10 +86,10 @@ pub(crate) fn as_text(alloc: Global, word: &str, sort: &str) -> Result<String, A
 }
 
 /// `(some x)`.
-pub(crate) fn some_text(alloc: Global, operand: Text) -> Result<String, AllocError>
-    ensures { (e : Expression) → rc_str_bytes operand ≡ spelled e → IfOk result (λ text. string_bytes text ≡ spelled (some_body e)) }
+pub(crate) fn some_text(alloc: Global, operands: &[Text]) -> Result<String, AllocError>
+    ensures { (es : List Expression) → AreSpelled es operands.now → IfOk result (λ text. string_bytes text ≡ spelled (group (name (codes "some") ∷ es))) }
 {
-    application_text(alloc, "some", &[operand])
+    application_text(alloc, "some", operands)
 }
 
 /// `(set.insert x y (as set.empty S))`: a set of this sort by its elements, `(as set.empty S)` where there is none.

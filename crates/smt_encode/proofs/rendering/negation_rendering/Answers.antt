@@ -1,27 +1,23 @@
-use Rattle.std.proofs.Common.{◌≡◌, ◌≤◌, ◌<◌, List, [], ◌∷◌, length, get_or, map, refl, ap, sym, ◌∙◌, arith}
-use Rattle.std.proofs.lemmas.Result.{IfOk-weaker}
-use Rattle.smt_meaning.specs.Plain.{PlainType, BoolType, no_terms, one_term, terms}
-use Rattle.smt_meaning.specs.Types.{type_of}
-use Rattle.smt_term.specs.View.{plain_term, plain_type, plain_type-Bool}
-use Rattle.smt_term.specs.declared.term.Term.{Term}
-use Rattle.smt_lines.specs.Lines.{AsApplication, least_rendering, negation_rendering}
+use Rattle.std.proofs.Common.{◌≡◌, suc, length, map, sym, ap, ◌∙◌}
+use Rattle.std.proofs.lemmas.List.{length-map}
+use Rattle.smt_meaning.specs.Plain.{terms}
+use Rattle.smt_graph.specs.Meanings.{meanings}
+use Rattle.smt_graph.specs.Nodes.{TypeMeaning, TermMeaning}
+use Rattle.smt_lines.specs.Lines as lines
+use Rattle.smt_nodes.specs.Interned.{nodes_of}
+use Rattle.smt_nodes.specs.View.{place_of, places_of}
+use Rattle.smt_encode.proofs.Rendered.{found_length, no_truth, not_one, of_truth, first_found, two_found}
 use Rattle.smt_encode.proofs.rendering.negation_rendering.Goals as goal
 
--- a test of one operand is written by the operand's type
-one : (ts : List Term) (t : Term) (type : PlainType) → 1 ≤ length ts → length ts < 2 → t ≡ get_or ts 0 t → type ≡ BoolType → least_rendering (type_of (plain_term t)) ≡ negation_rendering (terms (map plain_term ts)) type
-one (a ∷ []) t type l m is same = ap (λ u. least_rendering (type_of (plain_term u))) is ∙ sym (ap (negation_rendering (one_term (plain_term a) no_terms)) same)
-one [] t type l m is same = absurd (omega (arith, l))
-one (a ∷ b ∷ ts) t type l m is same = absurd (omega (arith, m))
+pub returns-then-parts-ne2 : goal.returns-then-parts-ne2
+returns-then-parts-ne2 c type ts found = not_one ts type (λ one.
+    let e : suc (length (map TermMeaning ts)) ≡ length (places_of c.args.parts.now) = found_length (meanings (nodes_of c.args.nodes.now)) (places_of c.args.parts.now) _ found in
+    c.if-parts-ne2.true (sym (length-map c.args.parts.now place_of) ∙ sym e ∙ ap suc (length-map ts TermMeaning ∙ one)))
 
-pub returns-in-len1 : goal.returns-in-len1
-returns-in-len1 c =
-    IfOk-weaker c.least_rendering.result _ _ (λ m e. e ∙ one c.args.args.now c.operand-item.result (plain_type c.args.ret_ty.now) c.in-len1.len_at_least c.in-len1.len_below c.operand-item.is (ap plain_type c.in-Bool.is ∙ plain_type-Bool)) c.least_rendering.ensures
+pub returns-then-is_truth : goal.returns-then-is_truth
+returns-then-is_truth c type ts found =
+    let (u, is, first, second) = two_found (meanings (nodes_of c.args.nodes.now)) c.args.parts.now _ (TypeMeaning type) ts c.if-parts-ne2.false found in
+    c.least_rendering.ensures u second ∙ sym (ap (λ l. lines.negation_rendering (terms l) type) is ∙ of_truth u type (sym (c.is_truth.ensures type first) ∙ c.if-is_truth.true))
 
--- a test of two operands and more stands as it is
-many : (ts : List Term) (type : PlainType) → 2 ≤ length ts → AsApplication ≡ negation_rendering (terms (map plain_term ts)) type
-many (a ∷ b ∷ ts) type l = refl
-many [] type l = absurd (omega (arith, l))
-many (a ∷ []) type l = absurd (omega (arith, l))
-
-pub returns-in_default-2 : goal.returns-in_default-2
-returns-in_default-2 c = many c.args.args.now (plain_type c.args.ret_ty.now) c.in_default.len_at_least
+pub returns-else-is_truth : goal.returns-else-is_truth
+returns-else-is_truth c type ts found = no_truth ts type (sym (c.is_truth.ensures type (first_found (meanings (nodes_of c.args.nodes.now)) c.args.parts.now _ (TypeMeaning type) (map TermMeaning ts) found)) ∙ c.if-is_truth.false)

@@ -1,107 +1,151 @@
-use Rattle.std.proofs.Common.{◌≡◌, ◌+◌, None, Some, ◌∷◌, drop, map, refl, arith, rules, ap, sym, subst, ◌∙◌}
-use Rattle.std.proofs.lemmas.List.{at_drop_more, at_drop_all}
-use Rattle.smt_meaning.specs.Faults.{Fault, term_fault}
-use Rattle.smt_meaning.specs.Plain.{Application, SetTerm, SomeTerm, terms}
-use Rattle.smt_meaning.specs.Types.{type_of}
-use Rattle.smt_term.specs.View.{plain_op, plain_term, plain_term-None, plain_term-Set, plain_term-Some, plain_term-Var, plain_type, plain_variable}
-use Rattle.smt_characters.specs.Quoting.{quoted_id}
-use Rattle.smt_lines.specs.LineForms.{set_body, some_body}
-use Rattle.smt_lines.specs.Lines.{Enums, encode_term, encode_terms, encode_type, made_of}
-use Rattle.smt_lines.proofs.Making.{types_leave}
-use Rattle.smt_encode.specs.Encoded.{enums_in}
-use Rattle.smt_encode.specs.Entries.{term_entry, ByBody}
-use Rattle.smt_encode.specs.Refusals.{write_fault}
+use Rattle.std.proofs.Common.{◌≡◌, ◌<◌, ◌+◌, ◌∷◌, [], suc, drop, get_or, length, length-append, map, Some, ap, arith, rules, sym, subst, refl, ◌∙◌, Ok}
+use Rattle.smt_graph.specs.Meanings.{all_found, meanings}
+use Rattle.smt_graph.specs.Parts.{parts_in}
+use Rattle.smt_nodes.specs.declared.interner.Interner.{Interner}
+use Rattle.smt_encode.specs.Entries.{own_lines, rendering_in, written_parts}
 use Rattle.smt_encode.specs.Renderings.{plain_rendering}
-use Rattle.smt_encode.proofs.Faulted.{arguments_fault, one_passed}
-use Rattle.smt_encode.proofs.Going.{starts, same_enums, goes_on, ends}
-use Rattle.smt_encode.proofs.Lines.{binds, nothing_written}
-use Rattle.smt_encode.proofs.Stated.{entered_unless, entered_written, named_written, of_form, parts_leave}
+use Rattle.smt_encode.specs.Steps.{IsSpelled}
+use Rattle.smt_nodes.specs.Interned.{meaning_in, nodes_of}
+use Rattle.smt_nodes.specs.View.{place_of, places_of}
+use Rattle.smt_encode.specs.Encoded.{enums_in, nodes_in}
+use Rattle.std.specs.Option.{option_or}
+use Rattle.std.specs.Prelude.{is_some}
+use Rattle.std.specs.Rc.{rc_str_bytes}
+use Rattle.smt_encode.specs.NodeLines.{encode_meanings, meaning_fault, meanings_fault}
+use Rattle.smt_encode.specs.NodeTexts.{text_at, IsNodeOf}
+use Rattle.smt_encode.proofs.Faulting.{handed_over, none_is, parts_first}
+use Rattle.smt_encode.proofs.Going.{at_found, ends, goes_on, none_left, one_passed, same_enums, starts}
+use Rattle.smt_encode.proofs.Walking.{both_written, earlier_at, kept_more, parts_count, parts_earlier, parts_found, room_stays, walks_then}
+use Rattle.smt_encode.proofs.Built.{built_meaning}
+use Rattle.smt_encode.proofs.Stated.{stated}
+use Rattle.smt_encode.proofs.Writing.{kept_texts, kept_written, unnamed}
 use Rattle.smt_encode.proofs.encoder.Encoder.+walk.Goals as goal
 
--- ---- one term
+pub encode_all-loop-id-init : goal.encode_all-loop-id-init
+encode_all-loop-id-init g t c = record {
+  walks = record { counted = search rules; stands = record { enums = refl; nodes = refl; room = refl }; kept = λ id x h. h; later = λ id h. refl };
+  going = λ ms h s has. starts c.args.self.now ms s c.in_ok-texts.ensures.items has;
+  fault = λ ms h. refl;
+  kept = ap (map (λ text. Some (rc_str_bytes text))) (sym c.in_ok-texts.ensures.items);
+  count = ap length c.in_ok-texts.ensures.items;
+}
 
-pub encode_term-returns-in_ok-clone-in-Some-clause-lines : goal.encode_term-returns-in_ok-clone-in-Some-clause-lines
-encode_term-returns-in_ok-clone-in-Some-clause-lines g m c s has =
-    let there = sym (has.terms c.args.term.now) ∙ sym c.in-Some.ensures.name ∙ ap Some (sym c.in_ok-clone-in-Some.ensures.cases) in
-    named_written (enums_in c.args.self.now) c.args.term.now s c.in_ok-clone-in-Some.field-0 has (entered_unless c.args.term.now c.in_default.not-Prim) there
+pub encode_all-encode_node-requires : goal.encode_all-encode_node-requires
+encode_all-encode_node-requires g t c κs lives =
+    let (ms, h) = c.requires.meant in
+    let ns = meanings (nodes_of (nodes_in c.args.self.now)) in
+    let b : place_of (get_or c.args.ids.now c.loop-id.id-index (record { place = 0 })) < c.args.before = earlier_at c.args.before c.args.ids.now c.loop-id.id-index (record { place = 0 }) c.requires.earlier c.loop-id-test.true in
+    let (m, left, meant) = at_found ns c.args.ids.now ms c.loop-id.id-index (record { place = 0 }) h c.loop-id-test.true in
+    let d = c.decreases in
+    (omega (arith, b, d), (lives.0, (lives.1, ((m, ap (λ i. meaning_in i (get_or c.args.ids.now c.loop-id.id-index (record { place = 0 }))) c.loop-id.invariant.walks.stands.nodes ∙ meant), room_stays c.loop-id.invariant.walks.stands c.requires.room))))
 
--- ---- one term that has no name yet
+pub encode_all-returns-in_err-push-clause-walks : goal.encode_all-returns-in_err-push-clause-walks
+encode_all-returns-in_err-push-clause-walks g t c =
+    let b : place_of (get_or c.args.ids.now c.loop-id.id-index (record { place = 0 })) < c.args.before = earlier_at c.args.before c.args.ids.now c.loop-id.id-index (record { place = 0 }) c.requires.earlier c.loop-id-test.true in
+    walks_then c.args.before (suc (place_of (get_or c.args.ids.now c.loop-id.id-index (record { place = 0 })))) c.from_residual-in_err-push.result b c.loop-id.invariant.walks c.in_ok-encode_node.ensures.walks (search rules)
 
-pub encode_new-returns-clause-lines : goal.encode_new-returns-clause-lines
-encode_new-returns-clause-lines g m c s has absent =
+pub encode_all-returns-in_err-encode_node-clause-walks : goal.encode_all-returns-in_err-encode_node-clause-walks
+encode_all-returns-in_err-encode_node-clause-walks g t c =
+    let b : place_of (get_or c.args.ids.now c.loop-id.id-index (record { place = 0 })) < c.args.before = earlier_at c.args.before c.args.ids.now c.loop-id.id-index (record { place = 0 }) c.requires.earlier c.loop-id-test.true in
+    walks_then c.args.before (suc (place_of (get_or c.args.ids.now c.loop-id.id-index (record { place = 0 })))) c.from_residual-in_err-encode_node.result b c.loop-id.invariant.walks c.encode_node.ensures.walks (search rules)
+
+pub encode_all-returns-in_err-encode_node-clause-fault : goal.encode_all-returns-in_err-encode_node-clause-fault
+encode_all-returns-in_err-encode_node-clause-fault g t c ms h =
     let enums = enums_in c.args.self.now in
-    let t = c.args.term.now in
-    let w = encode_type enums (type_of (plain_term t)) s in
-    let v = term_entry enums (plain_term t) w.made w.tables in
-    let sort = c.in_ok-sort.ensures.lines s has in
-    let parts = c.in_ok-entry.ensures.lines w.tables w.made sort.0.names (c.as_str.ensures.value ∙ sort.1) in
-    let gone = parts_leave enums t w.made w.tables c.requires.entered ∙ types_leave enums (type_of (plain_term t)) s (plain_term t) ∙ absent in
-    entered_written enums t s c.requires.entered absent c.args.self.now c.encode_parts.new.self c.enter.new.self sort.0 parts.0 c.enter.result
-    (c.enter.ensures.lines v.tables w.made v.made parts.0.names gone (c.as_str-2.ensures.value ∙ sort.1) parts.1)
+    let (m, left, meant) = at_found (meanings (nodes_of (nodes_in c.args.self.now))) c.args.ids.now ms c.loop-id.id-index (record { place = 0 }) h c.loop-id-test.true in
+    let there = ap (λ i. meaning_in i (get_or c.args.ids.now c.loop-id.id-index (record { place = 0 }))) c.loop-id.invariant.walks.stands.nodes ∙ meant in
+    handed_over _ c.in_err-encode_node.field-0.0 c.from_residual-in_err-encode_node.result c.from_residual-in_err-encode_node.ensures.1
+    (λ f k. c.loop-id.invariant.fault ms h ∙ ap (meanings_fault enums) left ∙ ap (λ o. option_or o (meanings_fault enums (drop (c.loop-id.id-index + 1) ms)))
+    (ap (λ e. meaning_fault e m) (sym c.loop-id.invariant.walks.stands.enums) ∙ c.in_err-encode_node.ensures.fault m there f k))
 
--- ---- how a term is entered
-
-pub encode_parts-returns-in_ok-as_text-in-None-clause-lines : goal.encode_parts-returns-in_ok-as_text-in-None-clause-lines
-encode_parts-returns-in_ok-as_text-in-None-clause-lines g m c s e has spells =
-    of_form (enums_in c.args.self.now) (plain_term c.args.term.now) _ e s _ (ap plain_term c.in-None.is ∙ plain_term-None c.in-None.field-0) (nothing_written c.args.self.now s has, c.in_ok-as_text-in-None.ensures e spells)
-
-pub encode_parts-returns-in_ok-set_text-in-Set-clause-lines : goal.encode_parts-returns-in_ok-set_text-in-Set-clause-lines
-encode_parts-returns-in_ok-set_text-in-Set-clause-lines g m c s e has spells =
+pub encode_all-loop-id-preserved : goal.encode_all-loop-id-preserved
+encode_all-loop-id-preserved g t c =
     let enums = enums_in c.args.self.now in
-    let element = plain_type c.in-Set.elts_ty in
-    let ts = terms (map plain_term c.items-in-Set.result.now) in
-    let listed = ap plain_term c.in-Set.is ∙ plain_term-Set c.in-Set.elts_ty c.in-Set.elts ∙ ap (λ l. SetTerm element (terms l)) (sym c.items-in-Set.ensures.plain) in
-    let parts = c.in_ok-elements-in-Set.ensures.lines s has in
-    let w = encode_terms enums ts s in
-    of_form enums (plain_term c.args.term.now) (SetTerm element ts) e s _ listed
-    (binds w (λ es u. made_of (ByBody (set_body e es)) u) parts.0 (nothing_written c.encode_terms.new.self w.tables parts.0.names), c.in_ok-set_text-in-Set.ensures e w.made spells parts.1)
-
-pub encode_parts-returns-in_ok-some_text-in-Some-clause-lines : goal.encode_parts-returns-in_ok-some_text-in-Some-clause-lines
-encode_parts-returns-in_ok-some_text-in-Some-clause-lines g m c s e has spells =
-    let enums = enums_in c.args.self.now in
-    let inner = plain_term c.deref.result.now in
-    let listed = ap plain_term c.in-Some.is ∙ plain_term-Some c.in-Some.inner ∙ ap (λ u. SomeTerm (plain_term u)) (sym c.deref.ensures) in
-    let parts = c.in_ok-operand-in-Some.ensures.lines s has in
-    let w = encode_term enums inner s in
-    of_form enums (plain_term c.args.term.now) (SomeTerm inner) e s _ listed
-    (binds w (λ x u. made_of (ByBody (some_body x)) u) parts.0 (nothing_written c.encode_term.new.self w.tables parts.0.names), c.in_ok-some_text-in-Some.ensures w.made parts.1)
-
-pub encode_parts-returns-in_ok-comment-in-Var-clause-lines : goal.encode_parts-returns-in_ok-comment-in-Var-clause-lines
-encode_parts-returns-in_ok-comment-in-Var-clause-lines g m c s e has spells =
-    of_form (enums_in c.args.self.now) (plain_term c.args.term.now) (plain_variable c.in-Var.variable) e s _ (ap plain_term c.in-Var.is ∙ plain_term-Var c.in-Var.variable)
-    (nothing_written c.args.self.now s has, c.in_ok-comment-in-Var.ensures ∙ ap quoted_id c.as_str.ensures.value)
-
-pub encode_application-returns-in_err-operands-in-Application-clause-fault : goal.encode_application-returns-in_err-operands-in-Application-clause-fault
-encode_application-returns-in_err-operands-in-Application-clause-fault g m c none =
-    let enums = enums_in c.args.self.now in
-    let o = plain_op c.args.op.now in
-    let ts = terms (map plain_term c.args.args.now) in
-    let type = plain_type c.args.ret_ty.now in
-    let how = ap plain_rendering (sym c.in-Application.is) ∙ c.in_ok-rendering_of.ensures in
-    let named : (f : Fault) → write_fault c.in_err-operands-in-Application.field-0.0 ≡ Some f → term_fault enums (Application o ts type) ≡ Some f =
-    λ f h. arguments_fault enums o ts type how none f (c.in_err-operands-in-Application.ensures.fault f h) in
-    search (rules, named)
-
--- ---- the terms of a list
-
-pub encode_terms-loop-term-init : goal.encode_terms-loop-term-init
-encode_terms-loop-term-init g m c = record { cause = search rules; going = λ s has. starts _ _ s c.new-texts.ensures.items has; fault = refl }
-
-pub encode_terms-loop-term-preserved : goal.encode_terms-loop-term-preserved
-encode_terms-loop-term-preserved g m c =
-    let this = at_drop_more (map plain_term) c.args.terms.now c.loop-term.term-index c.term-item.result c.loop-term-test.true ∙ ap (λ x. plain_term x ∷ map plain_term (drop (c.loop-term.term-index + 1) c.args.terms.now)) (sym c.term-item.is) in
+    let b : place_of (get_or c.args.ids.now c.loop-id.id-index (record { place = 0 })) < c.args.before = earlier_at c.args.before c.args.ids.now c.loop-id.id-index (record { place = 0 }) c.requires.earlier c.loop-id-test.true in
     record {
-      cause = search rules;
-      going = λ s has.
-          let going = c.loop-term.invariant.going s has in
-          goes_on (plain_term c.term-item.result) c.in_ok-encode_term.field-0 this c.in_ok-push.ensures.items going
-          (same_enums (plain_term c.term-item.result) c.in_ok-encode_term.field-0 going.tables c.loop-term.invariant.cause.kept.enums (c.in_ok-encode_term.ensures.lines going.tables going.wrote.names));
-      fault = one_passed (enums_in c.args.self.now) _ _ (map plain_term c.args.terms.now) (plain_term c.term-item.result) this
-          (subst (λ (e : Enums). term_fault e (plain_term c.term-item.result) ≡ None) c.loop-term.invariant.cause.kept.enums c.in_ok-encode_term.ensures.fault) c.loop-term.invariant.fault;
+      walks = walks_then c.args.before (suc (place_of (get_or c.args.ids.now c.loop-id.id-index (record { place = 0 })))) (Ok tt) b c.loop-id.invariant.walks c.in_ok-encode_node.ensures.walks (search rules);
+      going = λ ms h s has.
+          let (m, left, meant) = at_found (meanings (nodes_of (nodes_in c.args.self.now))) c.args.ids.now ms c.loop-id.id-index (record { place = 0 }) h c.loop-id-test.true in
+          let there = ap (λ i. meaning_in i (get_or c.args.ids.now c.loop-id.id-index (record { place = 0 }))) c.loop-id.invariant.walks.stands.nodes ∙ meant in
+          let going = c.loop-id.invariant.going ms h s has in
+          goes_on m c.in_ok-encode_node.field-0 left c.in_ok-push.ensures.items going
+          (same_enums m c.in_ok-encode_node.field-0 going.tables c.loop-id.invariant.walks.stands.enums (c.in_ok-encode_node.ensures.lines m there going.tables going.wrote.names));
+      fault = λ ms h.
+          let (m, left, meant) = at_found (meanings (nodes_of (nodes_in c.args.self.now))) c.args.ids.now ms c.loop-id.id-index (record { place = 0 }) h c.loop-id-test.true in
+          let there = ap (λ i. meaning_in i (get_or c.args.ids.now c.loop-id.id-index (record { place = 0 }))) c.loop-id.invariant.walks.stands.nodes ∙ meant in
+          one_passed enums _ _ ms m left (ap (λ e. meaning_fault e m) (sym c.loop-id.invariant.walks.stands.enums) ∙ c.in_ok-encode_node.ensures.fault m there) (c.loop-id.invariant.fault ms h);
+      kept = kept_more c.loop-id.self c.encode_node.new.self c.args.ids.now c.loop-id.id-index (record { place = 0 }) c.loop-id.texts.items c.push.new.self.items c.in_ok-encode_node.field-0 c.loop-id-test.true c.in_ok-encode_node.ensures.walks.kept c.loop-id.invariant.kept c.in_ok-encode_node.ensures.kept c.in_ok-push.ensures.items;
+      count = ap length c.in_ok-push.ensures.items ∙ length-append c.loop-id.texts.items (c.in_ok-encode_node.field-0 ∷ []) ∙ ap (λ n. n + 1) c.loop-id.invariant.count;
     }
 
-pub encode_terms-returns-clause-lines : goal.encode_terms-returns-clause-lines
-encode_terms-returns-clause-lines g m c s has =
-    let none = at_drop_all (map plain_term) c.args.terms.now c.loop-term.term-index (omega (arith, c.loop-term-test.false)) in
-    let done = ends none (c.loop-term.invariant.going s has) in
+pub encode_all-returns-clause-lines : goal.encode_all-returns-clause-lines
+encode_all-returns-clause-lines g t c ms h s has =
+    let none = none_left (meanings (nodes_of (nodes_in c.args.self.now))) c.args.ids.now ms c.loop-id.id-index h (omega (arith, c.loop-id-test.false)) in
+    let done = ends none (c.loop-id.invariant.going ms h s has) in
     (done.wrote, done.shown)
+
+pub encode_all-returns-clause-fault : goal.encode_all-returns-clause-fault
+encode_all-returns-clause-fault g t c ms h =
+    c.loop-id.invariant.fault ms h ∙ ap (meanings_fault (enums_in c.args.self.now)) (none_left (meanings (nodes_of (nodes_in c.args.self.now))) c.args.ids.now ms c.loop-id.id-index h (omega (arith, c.loop-id-test.false)))
+
+pub encode_new-encode_all-requires : goal.encode_new-encode_all-requires
+encode_new-encode_all-requires g t c κs lives =
+    let (m, meant) = c.requires.meant in
+    let nodes = nodes_in c.args.self.now in
+    let is : IsNodeOf nodes c.args.id c.in_ok-node.node = c.in_ok-node.ensures in
+    let how = c.rendering_of-rendering.ensures c.args.id m (ap (λ i. meaning_in i c.args.id) c.nodes.ensures ∙ meant) (subst (λ (i : Interner). IsNodeOf i c.args.id c.in_ok-node.node) (sym c.nodes.ensures) is) in
+    let found = parts_found nodes c.args.id c.in_ok-node.node is m meant (plain_rendering c.rendering_of-rendering.result) how c.items.result.now c.written-parts.result.now c.items.ensures c.written-parts.ensures in
+    let earlier = parts_earlier nodes c.args.id c.in_ok-node.node is m meant (plain_rendering c.rendering_of-rendering.result) how c.items.result.now c.written-parts.result.now c.items.ensures c.written-parts.ensures c.place.result c.place.ensures in
+    let d = c.decreases in
+    (omega (arith, d, c.place.ensures), (lives.0, (lives.1, (earlier, ((_, found), c.requires.room)))))
+
+pub encode_new-returns-in_err-texts-clause-fault : goal.encode_new-returns-in_err-texts-clause-fault
+encode_new-returns-in_err-texts-clause-fault g t c m meant =
+    let nodes = nodes_in c.args.self.now in
+    let is : IsNodeOf nodes c.args.id c.in_ok-node.node = c.in_ok-node.ensures in
+    let how = c.rendering_of-rendering.ensures c.args.id m (ap (λ i. meaning_in i c.args.id) c.nodes.ensures ∙ meant) (subst (λ (i : Interner). IsNodeOf i c.args.id c.in_ok-node.node) (sym c.nodes.ensures) is) in
+    let found = parts_found nodes c.args.id c.in_ok-node.node is m meant (plain_rendering c.rendering_of-rendering.result) how c.items.result.now c.written-parts.result.now c.items.ensures c.written-parts.ensures in
+    handed_over _ c.in_err-texts.field-0.0 c.from_residual-in_err-texts.result c.from_residual-in_err-texts.ensures.1
+    (λ f k. parts_first (enums_in c.args.self.now) m (built_meaning nodes c.args.id m meant) f (c.in_err-texts.ensures.fault _ found f k))
+
+pub encode_new-finish-requires-clause-count : goal.encode_new-finish-requires-clause-count
+encode_new-finish-requires-clause-count g t c m there =
+    let meant : meaning_in (nodes_in c.args.self.now) c.args.id ≡ Some m = ap (λ i. meaning_in i c.args.id) (sym c.in_ok-texts.ensures.walks.stands.nodes) ∙ there in
+    let nodes = nodes_in c.args.self.now in
+    let is : IsNodeOf nodes c.args.id c.in_ok-node.node = c.in_ok-node.ensures in
+    let how = c.rendering_of-rendering.ensures c.args.id m (ap (λ i. meaning_in i c.args.id) c.nodes.ensures ∙ meant) (subst (λ (i : Interner). IsNodeOf i c.args.id c.in_ok-node.node) (sym c.nodes.ensures) is) in
+    c.in_ok-texts.ensures.count ∙ parts_count nodes c.args.id c.in_ok-node.node is m meant (plain_rendering c.rendering_of-rendering.result) how c.items.result.now c.written-parts.result.now c.items.ensures c.written-parts.ensures
+
+pub encode_new-finish-requires-clause-written : goal.encode_new-finish-requires-clause-written
+encode_new-finish-requires-clause-written g t c m s there has =
+    let same = c.in_ok-texts.ensures.walks.stands.nodes in
+    let meant : meaning_in (nodes_in c.args.self.now) c.args.id ≡ Some m = ap (λ i. meaning_in i c.args.id) (sym same) ∙ there in
+    let nodes = nodes_in c.args.self.now in
+    let is : IsNodeOf nodes c.args.id c.in_ok-node.node = c.in_ok-node.ensures in
+    let how = c.rendering_of-rendering.ensures c.args.id m (ap (λ i. meaning_in i c.args.id) c.nodes.ensures ∙ meant) (subst (λ (i : Interner). IsNodeOf i c.args.id c.in_ok-node.node) (sym c.nodes.ensures) is) in
+    let found = parts_found nodes c.args.id c.in_ok-node.node is m meant (plain_rendering c.rendering_of-rendering.result) how c.items.result.now c.written-parts.result.now c.items.ensures c.written-parts.ensures in
+    let r = kept_texts c.encode_all.new.self.names s has c.written-parts.result.now _ c.in_ok-texts.texts.items (ap (λ i. all_found (meanings (nodes_of i)) (places_of c.written-parts.result.now)) same ∙ found) c.in_ok-texts.ensures.kept in
+    (r.made, r.shown, r.stated)
+
+pub encode_new-returns-clause-lines : goal.encode_new-returns-clause-lines
+encode_new-returns-clause-lines g t c m meant s has =
+    let enums = enums_in c.args.self.now in
+    let nodes = nodes_in c.args.self.now in
+    let is : IsNodeOf nodes c.args.id c.in_ok-node.node = c.in_ok-node.ensures in
+    let how = c.rendering_of-rendering.ensures c.args.id m (ap (λ i. meaning_in i c.args.id) c.nodes.ensures ∙ meant) (subst (λ (i : Interner). IsNodeOf i c.args.id c.in_ok-node.node) (sym c.nodes.ensures) is) in
+    let found = parts_found nodes c.args.id c.in_ok-node.node is m meant (plain_rendering c.rendering_of-rendering.result) how c.items.result.now c.written-parts.result.now c.items.ensures c.written-parts.ensures in
+    let parts = written_parts (rendering_in m) (parts_in m) in
+    let wrote = c.in_ok-texts.ensures.lines parts found s has in
+    let w = encode_meanings enums parts s in
+    let there : meaning_in (nodes_in c.encode_all.new.self) c.args.id ≡ Some m = ap (λ i. meaning_in i c.args.id) c.in_ok-texts.ensures.walks.stands.nodes ∙ meant in
+    rw (stated enums m s (built_meaning nodes c.args.id m meant) (unnamed c.args.self.now.names s has c.args.id m meant c.requires.unkept))
+    (both_written g.S.Sink.contents c.args.self.now c.encode_all.new.self c.finish.new.self w (λ es u. own_lines m es u) IsSpelled c.finish.result wrote.0 (c.finish.ensures.lines m w.made w.tables there wrote.1 wrote.0.names))
+
+pub encode_node-returns-in_ok-clone-in-Some-clause-lines : goal.encode_node-returns-in_ok-clone-in-Some-clause-lines
+encode_node-returns-in_ok-clone-in-Some-clause-lines g t c m meant s has =
+    let there : text_at c.args.self.now.names.texts c.args.id ≡ Some (rc_str_bytes c.in_ok-clone-in-Some.field-0) = sym c.in-Some.ensures.text ∙ ap Some (sym c.in_ok-clone-in-Some.ensures.cases) in
+    kept_written c.args.self.now s c.args.id m c.in_ok-clone-in-Some.field-0 has meant there
+
+pub encode_node-returns-in_ok-clone-in-Some-clause-fault : goal.encode_node-returns-in_ok-clone-in-Some-clause-fault
+encode_node-returns-in_ok-clone-in-Some-clause-fault g t c m meant =
+    none_is (meaning_fault (enums_in c.args.self.now) m) (c.args.self.now.names.sound.sound c.args.id m meant (ap is_some (sym c.in-Some.ensures.text)))

@@ -1,19 +1,34 @@
-use Rattle.std.proofs.Common.{◌≡◌, Ok, drop, map}
-use Rattle.smt_meaning.specs.Faults.{terms_fault}
-use Rattle.smt_meaning.specs.Plain.{terms}
-use Rattle.smt_term.specs.View.{plain_term}
+use Rattle.std.proofs.Common.{◌≡◌, ◌+◌, ◌*◌, List, Ok, Some, drop, length, map, take}
+use Rattle.std.specs.Rc.{rc_str_bytes}
+use Rattle.smt_graph.specs.Meanings.{all_found, meanings}
+use Rattle.smt_graph.specs.Nodes.{Meaning}
+use Rattle.smt_nodes.specs.Interned.{nodes_of}
+use Rattle.smt_nodes.specs.View.{place_of, places_of}
 use Rattle.smt_lines.specs.NameTables.{Tables}
-use Rattle.smt_encode.specs.Encoded.{enums_in, HasNames}
-use Rattle.smt_encode.specs.Steps.{FaultCounted}
 use Rattle.smt_script.specs.declared.sink.SinkError.TheVariants.{Fault}
+use Rattle.smt_encode.specs.Encoded.{enums_in, nodes_in, texts_in, HasNames}
+use Rattle.smt_encode.specs.NodeLines.{meanings_fault}
+use Rattle.smt_encode.specs.NodeTexts.{text_at}
+use Rattle.smt_encode.specs.Steps.{Walks}
 use Rattle.smt_encode.specs.declared.error.WriteError.TheVariants.{Sink}
 use Rattle.smt_encode.proofs.Going.{Going}
 use Rattle.smt_encode.proofs.encoder.Encoder.+walk.Given as goal
 
--- what was written so far and what is stated of the terms that are left are what is stated of all, and so it is with their first fault
-abbrev pub invariant-encode_terms-loop-term : goal.invariant-encode_terms-loop-term
-invariant-encode_terms-loop-term g l = record {
-  cause : FaultCounted {T = Unit {0}} g.S.Sink.faults g.S.Sink.place (Sink Fault) l.fn.self l.self (Ok tt);
-  going : (s : Tables) → HasNames l.fn.self s → Going g.S.Sink.contents (enums_in l.fn.self) l.fn.self l.self (map plain_term (drop l.term-index l.terms)) (map plain_term l.terms) l.texts.items s;
-  fault : terms_fault (enums_in l.fn.self) (terms (map plain_term l.terms)) ≡ terms_fault (enums_in l.fn.self) (terms (map plain_term (drop l.term-index l.terms)));
+abbrev pub decreases-encode_node : goal.decreases-encode_node
+decreases-encode_node g l = 3 * place_of l.id + 2
+
+abbrev pub decreases-encode_new : goal.decreases-encode_new
+decreases-encode_new g l = 3 * place_of l.id + 1
+
+abbrev pub decreases-encode_all : goal.decreases-encode_all
+decreases-encode_all g l = 3 * l.before
+
+-- What was written so far and what is stated of the nodes that are left are what is stated of all, and so it is with their first fault. The texts so far are kept.
+abbrev pub invariant-encode_all-loop-id : goal.invariant-encode_all-loop-id
+invariant-encode_all-loop-id g l = record {
+  walks : Walks {T = Unit {0}} g.S.Sink.faults g.S.Sink.place (Sink Fault) l.before l.fn.self l.self (Ok tt);
+  going : (ms : List Meaning) → all_found (meanings (nodes_of (nodes_in l.fn.self))) (places_of l.ids) ≡ Some ms → (s : Tables) → HasNames l.fn.self s → Going g.S.Sink.contents (enums_in l.fn.self) l.fn.self l.self (drop l.id-index ms) ms l.texts.items s;
+  fault : (ms : List Meaning) → all_found (meanings (nodes_of (nodes_in l.fn.self))) (places_of l.ids) ≡ Some ms → meanings_fault (enums_in l.fn.self) ms ≡ meanings_fault (enums_in l.fn.self) (drop l.id-index ms);
+  kept : map (text_at (texts_in l.self)) (take l.id-index l.ids) ≡ map (λ text. Some (rc_str_bytes text)) l.texts.items;
+  count : length l.texts.items ≡ l.id-index;
 }

@@ -9,32 +9,32 @@ use Rattle.smt_encode.proofs.encoder.Encoder.encode.Goals as goal
 
 pub returns-clause-stated : goal.returns-clause-stated
 returns-clause-stated g c has =
-    let wrote = at_ok c.put_script-outcome.result c.in_ok-outcome.field-0 c.in_ok-outcome.was (c.put_script-outcome.ensures.lines has) in
+    let wrote = at_ok c.put_terms-outcome.result c.in_ok-outcome.field-0 c.in_ok-outcome.was (c.put_terms-outcome.ensures.lines has) in
     record { text = text_written (enums_in c.args.self.now) (map plain_term c.args.terms.now) wrote; names = wrote.names }
 
 pub returns-clause-headline : goal.returns-clause-headline
 returns-clause-headline g c has typed =
     let enums = enums_in c.args.self.now in
     let ts = map plain_term c.args.terms.now in
-    let none = ok_without_fault enums ts c.put_script-outcome.result c.in_ok-outcome.field-0 c.in_ok-outcome.was c.put_script-outcome.ensures.fault in
-    let wrote = at_ok c.put_script-outcome.result c.in_ok-outcome.field-0 c.in_ok-outcome.was (c.put_script-outcome.ensures.lines has) in
-    received c.put_script-outcome.new.self enums ts (names enums ts) (text enums ts) _ _ (text_written enums ts wrote) wrote.names (headline c.args.self.now.names.enums.now c.args.terms.now typed none)
+    let none = ok_without_fault enums ts c.put_terms-outcome.result c.in_ok-outcome.field-0 c.in_ok-outcome.was c.put_terms-outcome.ensures.fault in
+    let wrote = at_ok c.put_terms-outcome.result c.in_ok-outcome.field-0 c.in_ok-outcome.was (c.put_terms-outcome.ensures.lines has) in
+    received c.put_terms-outcome.new.self enums ts (names enums ts) (text enums ts) _ _ (text_written enums ts wrote) wrote.names (headline c.args.self.now.names.enums.now c.args.terms.now typed none)
 
 pub returns-clause-models : goal.returns-clause-models
 returns-clause-models g c typed =
     headline c.args.self.now.names.enums.now c.args.terms.now typed
-    (ok_without_fault (enums_in c.args.self.now) (map plain_term c.args.terms.now) c.put_script-outcome.result c.in_ok-outcome.field-0 c.in_ok-outcome.was c.put_script-outcome.ensures.fault)
+    (ok_without_fault (enums_in c.args.self.now) (map plain_term c.args.terms.now) c.put_terms-outcome.result c.in_ok-outcome.field-0 c.in_ok-outcome.was c.put_terms-outcome.ensures.fault)
 
 pub returns-clause-complete : goal.returns-clause-complete
 returns-clause-complete g c = record {
-  faultless = ok_without_fault (enums_in c.args.self.now) (map plain_term c.args.terms.now) c.put_script-outcome.result c.in_ok-outcome.field-0 c.in_ok-outcome.was c.put_script-outcome.ensures.fault;
+  faultless = ok_without_fault (enums_in c.args.self.now) (map plain_term c.args.terms.now) c.put_terms-outcome.result c.in_ok-outcome.field-0 c.in_ok-outcome.was c.put_terms-outcome.ensures.fault;
   answered = λ unspent none quiet. tt;
 }
 
 pub returns-in_err-outcome-clause-refused : goal.returns-in_err-outcome-clause-refused
 returns-in_err-outcome-clause-refused g c =
-    has_cause (enums_in c.args.self.now) (map plain_term c.args.terms.now) c.put_script-outcome.result c.in_err-outcome.field-0.0 c.in_err-outcome.was c.put_script-outcome.ensures.fault c.put_script-outcome.ensures.cause.cause c.from_residual.result c.from_residual.ensures.1
+    has_cause (enums_in c.args.self.now) (map plain_term c.args.terms.now) c.put_terms-outcome.result c.in_err-outcome.field-0.0 c.in_err-outcome.was c.put_terms-outcome.ensures.fault c.put_terms-outcome.ensures.cause.cause c.from_residual.result c.from_residual.ensures.1
 
 pub returns-in_err-outcome-clause-complete : goal.returns-in_err-outcome-clause-complete
 returns-in_err-outcome-clause-complete g c =
-    is_complete (enums_in c.args.self.now) (map plain_term c.args.terms.now) c.put_script-outcome.result c.in_err-outcome.field-0.0 c.in_err-outcome.was c.put_script-outcome.ensures.fault c.put_script-outcome.ensures.cause.cause c.from_residual.result c.from_residual.ensures.1
+    is_complete (enums_in c.args.self.now) (map plain_term c.args.terms.now) c.put_terms-outcome.result c.in_err-outcome.field-0.0 c.in_err-outcome.was c.put_terms-outcome.ensures.fault c.put_terms-outcome.ensures.cause.cause c.from_residual.result c.from_residual.ensures.1

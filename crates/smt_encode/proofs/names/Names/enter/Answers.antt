@@ -1,9 +1,12 @@
-use Rattle.smt_encode.proofs.Tables.{entered, sound_after}
+use Rattle.std.proofs.Common.{refl, arith}
+use Rattle.smt_encode.proofs.Named.{meant_within, tables_entered}
 use Rattle.smt_encode.proofs.names.Names.enter.Goals as goal
 
-pub returns-clause-names : goal.returns-clause-names
-returns-clause-names c s are absent =
-    entered _ _ s _ _ _ _ _ c.in_ok-insert.ensures.updates c.in_ok-insert.ensures.old c.in_ok-insert.ensures.len c.in_ok-share.ensures c.in_ok-clone.ensures.cases absent are
+pub enter-requires-clause-room : goal.enter-requires-clause-room
+enter-requires-clause-room c =
+    let (m, meant) = c.requires.meant in
+    let b = meant_within c.args.self.now.nodes c.args.id m meant in
+    omega (arith, b, c.requires.room)
 
-pub invariant_of-self-2 : goal.invariant_of-self-2
-invariant_of-self-2 c = record { sound = sound_after _ c.args.self.now.terms c.insert.new.self _ _ _ c.insert.result c.insert.ensures.updates c.insert.ensures.err c.in_ok-share.ensures c.requires.sound c.args.self.now.sound }
+pub returns-clause-tables : goal.returns-clause-tables
+returns-clause-tables c s t are meant entry = tables_entered c.args.self.now _ c.args.id t _ s c.enter.ensures.kept meant c.requires.unkept entry c.enter.ensures.named refl refl are

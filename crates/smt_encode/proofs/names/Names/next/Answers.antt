@@ -1,7 +1,11 @@
-use Rattle.std.proofs.Common.{◌∙◌}
+use Rattle.std.proofs.Common.{arith, ◌∙◌}
 use Rattle.std.proofs.lemmas.Result.{IfOk-weaker}
-use Rattle.smt_encode.proofs.Tables.{drawn}
+use Rattle.smt_encode.proofs.Kept.{at_most}
+use Rattle.smt_encode.proofs.Numbered.{drawn}
 use Rattle.smt_encode.proofs.names.Names.next.Goals as goal
 
 pub returns : goal.returns
-returns c s are = IfOk-weaker c.term_name.result _ _ (λ name named. drawn _ _ s c.len.ensures.small (c.len.ensures.len ∙ are.count) named) c.term_name.ensures
+returns c s are =
+    let texts = c.args.self.now.texts in
+    let most = at_most texts.texts.items in
+    IfOk-weaker c.term_name.result _ _ (λ name named. drawn _ _ s (omega (arith, most, c.named.ensures, texts.counted, texts.texts.small, texts.texts.ok)) (c.named.ensures ∙ are.count) named) c.term_name.ensures

@@ -1,11 +1,12 @@
 // Scripts of chosen terms byte for byte, and what an encoder answers once it is spent.
-use super::*;
+use smt_encode::{EncodeError, Encoder};
 use smt_script::{ListSink, MemorySink};
 use smt_term::{EnumTable, Term};
 use std::alloc::Global;
 use std::test::Fail;
 use words::terms;
 
+mod nodes;
 mod texts;
 mod words;
 

@@ -4,7 +4,7 @@ ghost use Rattle.smt_meaning.specs.TypeValues.{is_code_point};
 
 use super::words::{pattern, terms};
 use super::{has_lines, is_script};
-use crate::*;
+use smt_encode::{EncodeError, Encoder, SMT_LIB_MAX_CODE_POINT};
 use smt_script::MemorySink;
 use smt_term::{EnumTable, Text};
 use std::alloc::Global;

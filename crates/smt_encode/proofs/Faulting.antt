@@ -1,0 +1,114 @@
+-- The fault of a node is that of its parts, or its own.
+use Rattle.std.proofs.Common.{◌≡◌, true, List, [], ◌∷◌, map, refl, sym, ap, ◌∙◌, Option, Some, None, Result, Ok, Err}
+use Rattle.std.specs.Result.{IsErrAnd}
+use Rattle.std.specs.Option.{option_or}
+use Rattle.std.specs.Prelude.{is_none, not}
+use Rattle.std.proofs.lemmas.Bool.{false≢true}
+use Rattle.smt_meaning.specs.Faults.{Fault, operator_fault, term_fault, terms_fault, type_fault, unless}
+use Rattle.smt_meaning.specs.Plain.{PlainType, OptionType, BitVecType, BoolType, StringType, SetType, PlainTerm, PlainTerms, no_terms, one_term, PlainOp, BvnegoOp, RecordGetOp, UufOp, Application, NoneTerm, LiteralTerm, RecordTerm, SetTerm, SomeTerm, VariableTerm, BitVecLiteral, BoolLiteral, StringLiteral, list_of_terms}
+use Rattle.smt_meaning.specs.Types.{is_bits, type_of, types_of}
+use Rattle.smt_meaning.specs.TypeValues.{Enums}
+use Rattle.smt_graph.specs.Nodes.{ApplicationLabel, Meaning, TypeMeaning, FunctionMeaning, TermMeaning}
+use Rattle.smt_graph.specs.Parts.{label_in, parts_in}
+use Rattle.smt_lines.specs.Lines.{Rendering, application_rendering, least_rendering}
+use Rattle.smt_encode.specs.NodeLines.{meaning_fault, meanings_fault}
+use Rattle.smt_encode.specs.Entries.{entry_fault, inline_fault, is_built, is_built_op, own_fault, rendering_in, written_parts}
+use Rattle.smt_encode.specs.Renderings.{pattern_fault}
+use Rattle.smt_encode.specs.Refusals.{text_fault, write_fault, Finds}
+use Rattle.smt_encode.specs.declared.error.TextError.{TextError}
+use Rattle.smt_encode.specs.declared.error.WriteError.{WriteError}
+use Rattle.smt_encode.specs.declared.error.WriteError.TheVariants.{Text}
+use Rattle.smt_encode.proofs.Stated.{built_application, label_of_application, parts_of_application}
+
+or_none : (o : Option Fault) → option_or o None ≡ o
+or_none None = refl
+or_none (Some f) = refl
+
+or_apart : (a b c : Option Fault) → option_or (option_or a b) c ≡ option_or a (option_or b c)
+or_apart None b c = refl
+or_apart (Some f) b c = refl
+
+-- one part alone
+alone : (a : Option Fault) → a ≡ option_or (option_or a None) None
+alone a = sym (or_none (option_or a None) ∙ or_none a)
+
+module _ (enums : Enums) where
+  pub terms_in_order : (ts : PlainTerms) → meanings_fault enums (map TermMeaning (list_of_terms ts)) ≡ terms_fault enums ts
+  terms_in_order no_terms = refl
+  terms_in_order (one_term t ts) = ap (option_or (term_fault enums t)) (terms_in_order ts)
+
+  operator_alone : (o : PlainOp) (ts : List PlainType) → is_built_op o ≡ true → operator_fault enums o ts ≡ pattern_fault o
+  operator_alone (UufOp f) ts h = absurd (false≢true h)
+  operator_alone (RecordGetOp a) ts h = absurd (false≢true h)
+  operator_alone o ts h = refl
+
+  -- what is written by its operator
+  entered : (o : PlainOp) (ts : PlainTerms) (t : PlainType) → is_built_op o ≡ true
+      → option_or (type_fault enums t) (option_or (terms_fault enums ts) (operator_fault enums o (types_of ts))) ≡ option_or (option_or (type_fault enums t) (meanings_fault enums (map TermMeaning (list_of_terms ts)))) (pattern_fault o)
+  entered o ts t h =
+      ap (λ f. option_or (type_fault enums t) (option_or (terms_fault enums ts) f)) (operator_alone o (types_of ts) h)
+      ∙ sym (or_apart (type_fault enums t) (terms_fault enums ts) (pattern_fault o))
+      ∙ ap (λ f. option_or (option_or (type_fault enums t) f) (pattern_fault o)) (sym (terms_in_order ts))
+
+  -- the overflow test of a negation, by the type of its operand
+  negation : (u : PlainTerm) (t : PlainType) → type_of u ≡ t
+      → unless (not (is_bits t)) (option_or None (option_or (terms_fault enums (one_term u no_terms)) None))
+      ≡ option_or (meanings_fault enums (written_parts (least_rendering t) (TypeMeaning BoolType ∷ TermMeaning u ∷ []))) (own_fault (ApplicationLabel BvnegoOp) (least_rendering t))
+  negation u (BitVecType w) is = refl
+  negation u t is = refl
+
+  application : (o : PlainOp) (ts : PlainTerms) (t : PlainType) → is_built_op o ≡ true
+      → term_fault enums (Application o ts t)
+      ≡ option_or (meanings_fault enums (written_parts (application_rendering o ts t) (TypeMeaning t ∷ map TermMeaning (list_of_terms ts)))) (own_fault (ApplicationLabel o) (application_rendering o ts t))
+  application BvnegoOp (one_term u no_terms) BoolType h = negation u (type_of u) refl
+  application o ts t h = entered o ts t h
+
+  pub faults : (m : Meaning) → is_built (label_in m) ≡ true → meaning_fault enums m ≡ option_or (meanings_fault enums (written_parts (rendering_in m) (parts_in m))) (own_fault (label_in m) (rendering_in m))
+  faults (TypeMeaning (OptionType t)) h = alone (type_fault enums t)
+  faults (TypeMeaning (BitVecType n)) h = refl
+  faults (TypeMeaning BoolType) h = refl
+  faults (TypeMeaning StringType) h = refl
+  faults (TypeMeaning (SetType t)) h = alone (type_fault enums t)
+  faults (TypeMeaning t) h = absurd (false≢true h)
+  faults (FunctionMeaning f) h = absurd (false≢true h)
+  faults (TermMeaning (Application o ts t)) h =
+      let b : is_built_op o ≡ true = built_application o ts t h in
+      let how : Rendering = application_rendering o ts t in
+      application o ts t b
+      ∙ sym (λ i. option_or (meanings_fault enums (written_parts how (TypeMeaning t ∷ parts_of_application o ts t b i))) (own_fault (label_of_application o ts t b i) how))
+  faults (TermMeaning (NoneTerm t)) h = alone (type_fault enums t)
+  faults (TermMeaning (LiteralTerm (BitVecLiteral w a))) h = refl
+  faults (TermMeaning (LiteralTerm (BoolLiteral b))) h = refl
+  faults (TermMeaning (LiteralTerm (StringLiteral x))) h = sym (or_none _)
+  faults (TermMeaning (LiteralTerm l)) h = absurd (false≢true h)
+  faults (TermMeaning (RecordTerm fs)) h = absurd (false≢true h)
+  faults (TermMeaning (SetTerm t ts)) h = ap (option_or (type_fault enums t)) (sym (terms_in_order ts)) ∙ sym (or_none _)
+  faults (TermMeaning (SomeTerm t)) h = ap (option_or (type_fault enums (type_of t))) (sym (or_none (term_fault enums t))) ∙ sym (or_none _)
+  faults (TermMeaning (VariableTerm id t)) h = alone (type_fault enums t)
+
+  -- a fault of the parts comes first
+  pub parts_first : (m : Meaning) → is_built (label_in m) ≡ true → (f : Fault) → meanings_fault enums (written_parts (rendering_in m) (parts_in m)) ≡ Some f → meaning_fault enums m ≡ Some f
+  parts_first m b f h = faults m b ∙ ap (λ o. option_or o (own_fault (label_in m) (rendering_in m))) h
+
+  -- where the parts have no fault: the fault of a text, and without it that of an entry
+  pub inline_first : (m : Meaning) → is_built (label_in m) ≡ true → meanings_fault enums (written_parts (rendering_in m) (parts_in m)) ≡ None → (f : Fault) → inline_fault (label_in m) ≡ Some f → meaning_fault enums m ≡ Some f
+  inline_first m b none f h =
+      faults m b ∙ ap (λ o. option_or o (own_fault (label_in m) (rendering_in m))) none ∙ ap (λ o. option_or o (entry_fault (label_in m) (rendering_in m))) h
+
+  pub entry_second : (m : Meaning) → is_built (label_in m) ≡ true → meanings_fault enums (written_parts (rendering_in m) (parts_in m)) ≡ None → inline_fault (label_in m) ≡ None → meaning_fault enums m ≡ entry_fault (label_in m) (rendering_in m)
+  entry_second m b none h =
+      faults m b ∙ ap (λ o. option_or o (own_fault (label_in m) (rendering_in m))) none ∙ ap (λ o. option_or o (entry_fault (label_in m) (rendering_in m))) h
+
+-- an error of a text, handed on, names the fault that it named
+pub handed_on : {T : Type 0} (fault : Option Fault) (e : TextError) (result : Result T WriteError) → IsErrAnd result (λ y. y ≡ Text e) → ((f : Fault) → text_fault e ≡ Some f → fault ≡ Some f) → Finds write_fault fault result
+handed_on fault e (Ok x) same h = absurd same
+handed_on fault e (Err y) same h = λ f k. h f (ap write_fault (sym same) ∙ k)
+
+-- and so does an error of what was written
+pub handed_over : {T : Type 0} (fault : Option Fault) (e : WriteError) (result : Result T WriteError) → IsErrAnd result (λ y. y ≡ e) → ((f : Fault) → write_fault e ≡ Some f → fault ≡ Some f) → Finds write_fault fault result
+handed_over fault e (Ok x) same h = absurd same
+handed_over fault e (Err y) same h = λ f k. h f (ap write_fault (sym same) ∙ k)
+
+pub none_is : (o : Option Fault) → is_none o ≡ true → o ≡ None
+none_is None h = refl
+none_is (Some f) h = absurd (false≢true h)

@@ -1,0 +1,112 @@
+-- What writing one node after the other leaves.
+use Rattle.std.proofs.Common.{◌≡◌, ◌<◌, ◌≤◌, ◌+◌, ℕ, zero, suc, List, [], ◌∷◌, ◌++◌, add-one, length, get_or, map, take, refl, sym, ap, subst, ◌∙◌, arith, Option, Some, Result, Ok, Err}
+use Rattle.std.specs.Prelude.{option_and_then, option_map}
+use Rattle.std.proofs.Math.Seq.{take-suc}
+use Rattle.std.proofs.lemmas.List.{length-map, map-append}
+use Rattle.std.specs.List.{AllByRecursion}
+use Rattle.std.specs.Rc.{rc_str_bytes}
+use Rattle.std.specs.declared.alloc.Global.{Global}
+use Rattle.std.specs.declared.rc.RcStr.{RcStr}
+use Rattle.smt_graph.specs.Meanings.{all_found, found, meanings}
+use Rattle.smt_graph.specs.Nodes.{Meaning}
+use Rattle.smt_graph.specs.Parts.{parts_in}
+use Rattle.smt_graph.proofs.Places.{map_back, some_same, then_back}
+use Rattle.smt_nodes.specs.Interned.{meaning_in, nodes_of}
+use Rattle.smt_nodes.specs.declared.interner.Interner.{Interner}
+use Rattle.smt_nodes.specs.declared.node.Node.{Node}
+use Rattle.smt_lines.specs.Lines.{Rendering, AsApplication, AsEqualsIntMin, AsFalse, Written, ◌>>=◌}
+use Rattle.smt_lines.specs.NameTables.{Tables}
+use Rattle.smt_encode.specs.Entries.{rendering_in, written_parts}
+use Rattle.smt_encode.proofs.Lines.{binds}
+use Rattle.smt_encode.proofs.Rendered.{found_length}
+use Rattle.smt_nodes.specs.View.{ids_of, place_of, places_of}
+use Rattle.smt_nodes.specs.declared.id.NodeId.{NodeId}
+use Rattle.smt_encode.specs.Encoded.{texts_in}
+use Rattle.smt_encode.specs.Names.{HasRoom, StandsOn}
+use Rattle.smt_encode.specs.NodeTexts.{text_at, IsNodeOf}
+use Rattle.smt_encode.specs.Steps.{FaultCounted, Walks, WritesHere, Wrote}
+use Rattle.smt_encode.specs.declared.encoder.Encoder.{Encoder}
+use Rattle.smt_encode.specs.declared.names.Names.{Names}
+
+-- a number of a list stands before the place
+pub earlier_at : (before : ℕ) (ids : List NodeId) (i : ℕ) (d : NodeId) → AllByRecursion (λ place. place < before) (places_of ids) → i < length ids → place_of (get_or ids i d) < before
+earlier_at before [] i d h b = absurd (omega (arith, b))
+earlier_at before (id ∷ ids) zero d h b = h.0
+earlier_at before (id ∷ ids) (suc i) d h b = earlier_at before ids i d h.1 (omega (arith, b))
+
+pub stands_then : {a b c : Names} → StandsOn a b → StandsOn b c → StandsOn a c
+stands_then p q = record { enums = q.enums ∙ p.enums; nodes = q.nodes ∙ p.nodes; room = q.room ∙ p.room }
+
+pub room_stays : {a b : Names} → StandsOn a b → HasRoom a → HasRoom b
+room_stays {a} {b} p h = p.room ∙ h ∙ ap (λ i. length (nodes_of i)) (sym p.nodes)
+
+-- one walk behind the other
+pub walks_then : {S T U E : Type 0} {faults : S → ℕ} {place : S → List ℕ} {fault : E} {first mid new : Encoder S} {one : Result T E} {two : Result U E} {V : Type 0} (before behind : ℕ) (result : Result V E) → behind ≤ before
+    → Walks faults place fault before first mid one → Walks faults place fault behind mid new two → FaultCounted faults place fault first new result → Walks faults place fault before first new result
+walks_then before behind result less p q counted = record {
+  counted = counted;
+  stands = stands_then p.stands q.stands;
+  kept = λ id text h. q.kept id text (p.kept id text h);
+  later = λ id h. q.later id (omega (arith, less, h)) ∙ p.later id h;
+}
+
+-- the text of one more number is kept
+pub kept_more : {S : Type 0} (mid new : Encoder S) (ids : List NodeId) (i : ℕ) (d : NodeId) (texts more : List (RcStr Global)) (text : RcStr Global) → i < length ids → ((id : NodeId) (x : List ℕ) → text_at (texts_in mid) id ≡ Some x → text_at (texts_in new) id ≡ Some x)
+    → map (text_at (texts_in mid)) (take i ids) ≡ map (λ text. Some (rc_str_bytes text)) texts → text_at (texts_in new) (get_or ids i d) ≡ Some (rc_str_bytes text) → more ≡ texts ++ text ∷ []
+    → map (text_at (texts_in new)) (take (i + 1) ids) ≡ map (λ text. Some (rc_str_bytes text)) more
+kept_more mid new ids i d texts more text b keeps h here is =
+    ap (λ n. map (text_at (texts_in new)) (take n ids)) (add-one i)
+    ∙ ap (map (text_at (texts_in new))) (take-suc ids i d b)
+    ∙ map-append (text_at (texts_in new)) (take i ids) (get_or ids i d ∷ [])
+    ∙ (λ k. older (take i ids) texts h k ++ here k ∷ [])
+    ∙ sym (map-append (λ text. Some (rc_str_bytes text)) texts (text ∷ []))
+    ∙ ap (map (λ text. Some (rc_str_bytes text))) (sym is)
+  where
+    older : (ids : List NodeId) (texts : List (RcStr Global)) → map (text_at (texts_in mid)) ids ≡ map (λ text. Some (rc_str_bytes text)) texts → map (text_at (texts_in new)) ids ≡ map (λ text. Some (rc_str_bytes text)) texts
+    older [] texts h = h
+    older (id ∷ ids) [] h = absurd (cc)
+    older (id ∷ ids) (text ∷ texts) h =
+        let e : text_at (texts_in new) id ≡ Some (rc_str_bytes text) = keeps id (rc_str_bytes text) (cc) in
+        let f : map (text_at (texts_in new)) ids ≡ map (λ text. Some (rc_str_bytes text)) texts = older ids texts (cc) in
+        λ k. e k ∷ f k
+
+-- ---- the parts that are written before a node
+
+written_found : (ms : List (Option Meaning)) (how : Rendering) (ids : List NodeId) (ps : List Meaning) → all_found ms (places_of ids) ≡ Some ps → all_found ms (places_of (written_parts how ids)) ≡ Some (written_parts how ps)
+written_found ms AsApplication ids ps h = h
+written_found ms (AsEqualsIntMin width) ids ps h = h
+written_found ms AsFalse [] ps h = h ∙ ap Some (nothing ps (some_same [] ps h))
+  where
+    nothing : (ps : List Meaning) → [] ≡ ps → ps ≡ take 1 ps
+    nothing [] e = refl
+    nothing (m ∷ ps) e = absurd (cc)
+written_found ms AsFalse (id ∷ ids) ps h =
+    let (m, e, g) = then_back (λ m. option_map (λ more. m ∷ more) (all_found ms (places_of ids))) (found ms (place_of id)) ps h in
+    let (more, f, same) = map_back (λ more. m ∷ more) (all_found ms (places_of ids)) ps g in
+    ap (option_and_then (λ m. Some (m ∷ []))) e ∙ ap (λ l. Some (take 1 l)) same
+
+written_earlier : (before : ℕ) (how : Rendering) (ids : List NodeId) → AllByRecursion (λ place. place < before) (places_of ids) → AllByRecursion (λ place. place < before) (places_of (written_parts how ids))
+written_earlier before AsApplication ids h = h
+written_earlier before (AsEqualsIntMin width) ids h = h
+written_earlier before AsFalse [] h = h
+written_earlier before AsFalse (id ∷ ids) h = (h.0, tt)
+
+module _ (i : Interner) (id : NodeId) (node : Node) (is : IsNodeOf i id node) (m : Meaning) (meant : meaning_in i id ≡ Some m) (how : Rendering) (rendered : how ≡ rendering_in m) (ids written : List NodeId) (all : ids ≡ ids_of node.parts) (taken : written ≡ written_parts how ids) where
+  pub parts_found : all_found (meanings (nodes_of i)) (places_of written) ≡ Some (written_parts (rendering_in m) (parts_in m))
+  parts_found =
+      ap (λ l. all_found (meanings (nodes_of i)) (places_of l)) (taken ∙ ap (written_parts how) all)
+      ∙ written_found (meanings (nodes_of i)) how (ids_of node.parts) (parts_in m) (is.parts m meant)
+      ∙ ap (λ r. Some (written_parts r (parts_in m))) rendered
+
+  pub parts_earlier : (before : ℕ) → before ≡ place_of id → AllByRecursion (λ place. place < before) (places_of written)
+  parts_earlier before same =
+      subst (λ (l : List NodeId). AllByRecursion (λ place. place < before) (places_of l)) (sym (taken ∙ ap (written_parts how) all))
+      (written_earlier before how (ids_of node.parts) (subst (λ (b : ℕ). AllByRecursion (λ place. place < b) (places_of (ids_of node.parts))) (sym same) is.earlier))
+
+  pub parts_count : length written ≡ length (written_parts (rendering_in m) (parts_in m))
+  parts_count = sym (length-map written place_of) ∙ sym (found_length (meanings (nodes_of i)) (places_of written) (written_parts (rendering_in m) (parts_in m)) parts_found)
+
+-- what is stated in two steps is written in two steps
+pub both_written : {S A B T E : Type 0} (contents : S → Option (List ℕ)) (old mid new : Encoder S) (w : Written A) (f : A → Tables → Written B) (Shows : B → T → Type 0) (result : Result T E) → Wrote contents old mid w.lines w.tables → WritesHere contents mid new (f w.made w.tables) Shows result → WritesHere contents old new (w >>= f) Shows result
+both_written contents old mid new w f Shows (Ok x) p q = (binds w f p q.0, q.1)
+both_written contents old mid new w f Shows (Err e) p q = tt

@@ -1,0 +1,37 @@
+use Rattle.smt_lines.specs.Text.{names, text}
+use Rattle.smt_encode.specs.Encoded.{enums_in, nodes_in}
+use Rattle.smt_encode.proofs.Conditions.{node_headline, received}
+use Rattle.smt_encode.proofs.Faulted.{at_ok, has_cause, is_complete, ok_without_fault}
+use Rattle.smt_encode.proofs.Scripted.{text_written}
+use Rattle.smt_encode.proofs.encoder.Encoder.encode_nodes.Goals as goal
+
+pub returns-clause-stated : goal.returns-clause-stated
+returns-clause-stated g c ts stand has =
+    let wrote = at_ok c.put_nodes-outcome.result c.in_ok-outcome.field-0 c.in_ok-outcome.was (c.put_nodes-outcome.ensures.lines ts stand has) in
+    record { text = text_written (enums_in c.args.self.now) ts wrote; names = wrote.names }
+
+pub returns-clause-headline : goal.returns-clause-headline
+returns-clause-headline g c ts stand has typed =
+    let enums = enums_in c.args.self.now in
+    let none = ok_without_fault enums ts c.put_nodes-outcome.result c.in_ok-outcome.field-0 c.in_ok-outcome.was (c.put_nodes-outcome.ensures.fault ts stand) in
+    let wrote = at_ok c.put_nodes-outcome.result c.in_ok-outcome.field-0 c.in_ok-outcome.was (c.put_nodes-outcome.ensures.lines ts stand has) in
+    received c.put_nodes-outcome.new.self enums ts (names enums ts) (text enums ts) _ _ (text_written enums ts wrote) wrote.names (node_headline c.args.self.now.names.enums.now (nodes_in c.args.self.now) c.args.ids.now ts stand typed none)
+
+pub returns-clause-models : goal.returns-clause-models
+returns-clause-models g c ts stand typed =
+    node_headline c.args.self.now.names.enums.now (nodes_in c.args.self.now) c.args.ids.now ts stand typed
+    (ok_without_fault (enums_in c.args.self.now) ts c.put_nodes-outcome.result c.in_ok-outcome.field-0 c.in_ok-outcome.was (c.put_nodes-outcome.ensures.fault ts stand))
+
+pub returns-clause-complete : goal.returns-clause-complete
+returns-clause-complete g c ts stand = record {
+  faultless = ok_without_fault (enums_in c.args.self.now) ts c.put_nodes-outcome.result c.in_ok-outcome.field-0 c.in_ok-outcome.was (c.put_nodes-outcome.ensures.fault ts stand);
+  answered = λ unspent none quiet. tt;
+}
+
+pub returns-in_err-outcome-clause-refused : goal.returns-in_err-outcome-clause-refused
+returns-in_err-outcome-clause-refused g c ts stand =
+    has_cause (enums_in c.args.self.now) ts c.put_nodes-outcome.result c.in_err-outcome.field-0.0 c.in_err-outcome.was (c.put_nodes-outcome.ensures.fault ts stand) c.put_nodes-outcome.ensures.cause.cause c.from_residual.result c.from_residual.ensures.1
+
+pub returns-in_err-outcome-clause-complete : goal.returns-in_err-outcome-clause-complete
+returns-in_err-outcome-clause-complete g c ts stand =
+    is_complete (enums_in c.args.self.now) ts c.put_nodes-outcome.result c.in_err-outcome.field-0.0 c.in_err-outcome.was (c.put_nodes-outcome.ensures.fault ts stand) c.put_nodes-outcome.ensures.cause.cause c.from_residual.result c.from_residual.ensures.1

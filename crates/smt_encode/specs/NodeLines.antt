@@ -1,0 +1,44 @@
+-- The stated lines and the faults of what nodes stand for.
+use Rattle.std.specs.Prelude.{Bool, true, false, List, [], ◌∷◌, Option, None}
+use Rattle.std.specs.Option.{option_or}
+use Rattle.smt_meaning.specs.Faults.{Fault, term_fault, type_fault}
+use Rattle.smt_meaning.specs.Plain.{EntityType, ExtensionType, RecordType, PlainLiteral, EntityLiteral, ExtensionLiteral, LiteralTerm}
+use Rattle.smt_graph.specs.Nodes.{Meaning, TypeMeaning, FunctionMeaning, TermMeaning}
+use Rattle.smt_lexicon.specs.Reading.{Expression}
+use Rattle.smt_lines.specs.Lines.{Enums, Written, encode_function, encode_term, encode_type, made_of, ◌>>=◌}
+use Rattle.smt_lines.specs.NameTables.{Tables}
+
+-- the lines of a type, a function or a term, and of several in order
+abbrev pub encode_meaning : Enums → Meaning → Tables → Written Expression
+encode_meaning enums (TypeMeaning t) s = encode_type enums t s
+encode_meaning enums (FunctionMeaning f) s = encode_function enums f s
+encode_meaning enums (TermMeaning t) s = encode_term enums t s
+
+abbrev pub encode_meanings : Enums → List Meaning → Tables → Written (List Expression)
+encode_meanings enums [] s = made_of [] s
+encode_meanings enums (m ∷ ms) s = encode_meaning enums m s >>= λ e u. encode_meanings enums ms u >>= λ es v. made_of (e ∷ es) v
+
+-- their first fault
+abbrev pub meaning_fault : Enums → Meaning → Option Fault
+meaning_fault enums (TypeMeaning t) = type_fault enums t
+meaning_fault enums (FunctionMeaning f) = option_or (type_fault enums f.argument) (type_fault enums f.output)
+meaning_fault enums (TermMeaning t) = term_fault enums t
+
+abbrev pub meanings_fault : Enums → List Meaning → Option Fault
+meanings_fault enums [] = None
+meanings_fault enums (m ∷ ms) = option_or (meaning_fault enums m) (meanings_fault enums ms)
+
+-- what has an entry in a table of names; the text of another stands wherever it is used
+abbrev pub is_named_literal : PlainLiteral → Bool
+is_named_literal (EntityLiteral e i) = true
+is_named_literal (ExtensionLiteral x) = true
+is_named_literal l = false
+
+abbrev pub has_entry : Meaning → Bool
+has_entry (TypeMeaning (EntityType e)) = true
+has_entry (TypeMeaning (ExtensionType k)) = true
+has_entry (TypeMeaning (RecordType x)) = true
+has_entry (TypeMeaning t) = false
+has_entry (FunctionMeaning f) = true
+has_entry (TermMeaning (LiteralTerm l)) = is_named_literal l
+has_entry (TermMeaning t) = true

@@ -1,0 +1,48 @@
+-- The texts that are kept for nodes.
+use Rattle.std.specs.Prelude.{ℕ, ◌≡◌, ◌≤◌, ◌<◌, IsTrue, List, Option, Some, None, is_none, is_some, length, map}
+use Rattle.std.specs.List.{AllByRecursion}
+use Rattle.smt_meaning.specs.Plain.{PlainTerm}
+use Rattle.smt_meaning.specs.TypeValues.{Enums}
+use Rattle.smt_graph.specs.Meanings.{all_found, meanings}
+use Rattle.smt_graph.specs.Nodes.{Meaning, TermMeaning}
+use Rattle.smt_graph.specs.Parts.{label_in, parts_in}
+use Rattle.smt_nodes.specs.Interned.{meaning_in, nodes_of}
+use Rattle.smt_nodes.specs.View.{ids_of, place_of, places_of, plain_label}
+use Rattle.smt_nodes.specs.declared.id.NodeId.{NodeId}
+use Rattle.smt_nodes.specs.declared.interner.Interner.{Interner}
+use Rattle.smt_nodes.specs.declared.node.Node.{Node}
+use Rattle.smt_lexicon.specs.Reading.{Expression}
+use Rattle.smt_lines.specs.Lines.{made_of}
+use Rattle.smt_lines.specs.NameTables.{Tables}
+use Rattle.smt_lines.specs.Spelling.{spelled}
+use Rattle.smt_encode.specs.NodeLines.{encode_meaning, has_entry, meaning_fault}
+use Rattle.smt_encode.specs.Texts.{kept_at}
+use Rattle.smt_encode.specs.declared.node_names.NodeNames.{NodeNames}
+
+-- the text that is kept for a node, None where none is kept
+abbrev pub text_at : NodeNames → NodeId → Option (List ℕ)
+text_at names id = kept_at names.texts.items (place_of id)
+
+-- A term has this name, or none, among the texts of these nodes.
+abbrev pub HasName : Interner → NodeNames → PlainTerm → Option (List ℕ) → Type 0
+HasName nodes names t (Some name) = (id : NodeId) × (meaning_in nodes id ≡ Some (TermMeaning t)) × IsTrue (has_entry (TermMeaning t)) × (text_at names id ≡ Some name)
+HasName nodes names t None = (id : NodeId) → meaning_in nodes id ≡ Some (TermMeaning t) → IsTrue (has_entry (TermMeaning t)) → text_at names id ≡ None
+
+-- The text stands for this where these tables are the names: it is stated without a line, and spelled so.
+abbrev pub IsText : Enums → Tables → Meaning → List ℕ → Type 0
+IsText enums s m text = (e : Expression) × (encode_meaning enums m s ≡ made_of e s) × (text ≡ spelled e)
+
+-- The texts that are kept are of the nodes, and what has one has no fault.
+pub record AreSound (enums : Enums) (nodes : Interner) (names : NodeNames) : Type 0 where
+  pub within : length names.texts.items ≤ length (nodes_of nodes)
+  pub sound : (id : NodeId) (m : Meaning) → meaning_in nodes id ≡ Some m → IsTrue (is_some (text_at names id)) → IsTrue (is_none (meaning_fault enums m))
+
+-- The node of a number: its label and the numbers of its parts, which stand before it.
+pub record IsNodeOf (nodes : Interner) (id : NodeId) (node : Node) : Type 0 where
+  pub label : (m : Meaning) → meaning_in nodes id ≡ Some m → plain_label node.label ≡ label_in m
+  pub parts : (m : Meaning) → meaning_in nodes id ≡ Some m → all_found (meanings (nodes_of nodes)) (places_of (ids_of node.parts)) ≡ Some (parts_in m)
+  pub earlier : AllByRecursion (λ place. place < place_of id) (places_of (ids_of node.parts))
+
+-- These numbers stand for these terms, in order.
+abbrev pub StandFor : Interner → List NodeId → List PlainTerm → Type 0
+StandFor nodes ids ts = all_found (meanings (nodes_of nodes)) (places_of ids) ≡ Some (map TermMeaning ts)

@@ -1,0 +1,22 @@
+-- Texts that are kept at places of a list.
+use Rattle.std.specs.Prelude.{ℕ, suc, ◌≡◌, List, [], ◌∷◌, Option, Some, None, length, option_and_then, option_map, slice_get}
+use Rattle.std.specs.Rc.{rc_str_bytes}
+use Rattle.std.specs.declared.alloc.Global.{Global}
+use Rattle.std.specs.declared.rc.RcStr.{RcStr}
+
+-- the text at a place of a list of texts, None where none is kept
+abbrev pub kept_at : List (Option (RcStr Global)) → ℕ → Option (List ℕ)
+kept_at texts place = option_map rc_str_bytes (option_and_then (λ text. text) (slice_get texts place))
+
+-- how many texts are kept
+abbrev pub kept_count : List (Option (RcStr Global)) → ℕ
+kept_count [] = 0
+kept_count (None ∷ texts) = kept_count texts
+kept_count (Some text ∷ texts) = suc (kept_count texts)
+
+-- A text is kept at a place that had none, and nothing else changed.
+pub record IsKept (old new : List (Option (RcStr Global))) (place : ℕ) (text : List ℕ) : Type 0 where
+  pub here : kept_at new place ≡ Some text
+  pub others : (other : ℕ) → ¬ (other ≡ place) → kept_at new other ≡ kept_at old other
+  pub as_many : length new ≡ length old
+  pub one_more : kept_count new ≡ suc (kept_count old)

@@ -1,0 +1,165 @@
+// The lines of nodes, each behind those of its parts.
+ghost use Rattle.std.specs.Prelude.{ℕ, List, ◌≡◌, ◌<◌, ◌≤◌, ◌+◌, None, Some, IfOk, IsTrue, length, map, suc};
+ghost use Rattle.std.specs.List.{AllByRecursion};
+ghost use Rattle.std.specs.Rc.{rc_str_bytes};
+ghost use Rattle.smt_graph.specs.Meanings.{all_found, meanings};
+ghost use Rattle.smt_graph.specs.Nodes.{Meaning, TermMeaning};
+ghost use Rattle.smt_graph.specs.Parts.{parts_in};
+ghost use Rattle.smt_nodes.specs.Interned.{meaning_in, nodes_of, IsMeant};
+ghost use Rattle.smt_nodes.specs.View.{place_of, places_of};
+ghost use Rattle.smt_lexicon.specs.Reading.{Expression};
+ghost use Rattle.smt_meaning.specs.Plain.{PlainTerm};
+ghost use Rattle.smt_lines.specs.Lines.{made_of};
+ghost use Rattle.smt_lines.specs.NameTables.{Tables};
+ghost use Rattle.smt_lines.specs.Spelling.{spelled};
+ghost use Rattle.smt_encode.specs.NodeLines.{encode_meaning, encode_meanings, has_entry, meaning_fault, meanings_fault};
+ghost use Rattle.smt_encode.specs.Entries.{enter_by, entry_name, own_lines, rendering_in, written_parts, PlainEntry, SaysEntry};
+ghost use Rattle.smt_encode.specs.NodeTexts.{text_at, IsNodeOf};
+ghost use Rattle.smt_encode.specs.Refusals.{write_fault, Finds};
+ghost use Rattle.smt_encode.specs.Renderings.{plain_rendering};
+
+use crate::encoder::Encoder;
+use crate::entry::{Entry, entry_from, inline_text};
+use crate::error::WriteError;
+use crate::rendering::{Rendering, rendering_of};
+use crate::steps::Steps;
+use smt_nodes::{Node, NodeId};
+use smt_script::{Sink, SinkError};
+use smt_term::Text;
+use std::alloc::AllocError;
+use std::sync::ledger::Ledger;
+
+impl<S: Sink> Encoder<'_, S> {
+    ghost use Rattle.smt_encode.specs.Names.{HasRoom};
+    ghost use Rattle.smt_encode.specs.Encoded.{enums_in, nodes_in, texts_in, HasNames};
+    ghost use Rattle.smt_encode.specs.Steps.{AreSpelled, IsSpelled, WritesHere, WritesStated, Walks};
+
+    /// The text of a node: the one that it has, or else a new one, behind the lines that it needs.
+    #[cycle(walk)]
+    fn encode_node<L: Ledger>(
+        &mut self,
+        id: NodeId,
+        steps: &mut Steps<L>,
+    ) -> Result<Text, WriteError>
+        requires meant { IsMeant (nodes_in self.old) id }
+        requires room { HasRoom self.old.names }
+        ensures lines { (m : Meaning) → meaning_in (nodes_in self.old) id ≡ Some m → WritesStated S.contents self.old self.new (encode_meaning (enums_in self.old) m) IsSpelled result }
+        ensures fault { (m : Meaning) → meaning_in (nodes_in self.old) id ≡ Some m → Finds write_fault (meaning_fault (enums_in self.old) m) result }
+        ensures walks { Walks S.faults S.place (WriteError.Sink SinkError.Fault) (suc (place_of id)) self.old self.new result }
+        ensures kept { IfOk result (λ text. text_at (texts_in self.new) id ≡ Some (rc_str_bytes text)) }
+    {
+        match self.names.text(id, steps) {
+            Some(text) => Ok(text.clone()?),
+            None => self.encode_new(id, steps),
+        }
+    }
+
+    /// Gives a node its text, by its lines: those of its parts in order, the type first, and then its own.
+    #[cycle(walk)]
+    fn encode_new<L: Ledger>(
+        &mut self,
+        id: NodeId,
+        steps: &mut Steps<L>,
+    ) -> Result<Text, WriteError>
+        requires meant { IsMeant (nodes_in self.old) id }
+        requires room { HasRoom self.old.names }
+        requires unkept { text_at (texts_in self.old) id ≡ None }
+        ensures lines { (m : Meaning) → meaning_in (nodes_in self.old) id ≡ Some m → WritesStated S.contents self.old self.new (encode_meaning (enums_in self.old) m) IsSpelled result }
+        ensures fault { (m : Meaning) → meaning_in (nodes_in self.old) id ≡ Some m → Finds write_fault (meaning_fault (enums_in self.old) m) result }
+        ensures walks { Walks S.faults S.place (WriteError.Sink SinkError.Fault) (suc (place_of id)) self.old self.new result }
+        ensures kept { IfOk result (λ text. text_at (texts_in self.new) id ≡ Some (rc_str_bytes text)) }
+    {
+        let node = self.names.node(id)?;
+        let rendering = rendering_of(self.names.nodes(), &node);
+        let parts = rendering.written(node.parts.items());
+        let texts = self.encode_all(parts, id.place(), steps)?;
+        self.finish(id, &node, rendering, texts)
+    }
+
+    /// The texts of nodes in order, all of which stand before a place.
+    #[cycle(walk)]
+    pub(crate) fn encode_all<L: Ledger>(
+        &mut self,
+        ids: &[NodeId],
+        before: usize,
+        steps: &mut Steps<L>,
+    ) -> Result<Vec<Text>, WriteError>
+        requires earlier { AllByRecursion (λ place. place < before) (places_of ids.now) }
+        requires meant { (ms : List Meaning) × (all_found (meanings (nodes_of (nodes_in self.old))) (places_of ids.now) ≡ Some ms) }
+        requires room { HasRoom self.old.names }
+        ensures lines { (ms : List Meaning) → all_found (meanings (nodes_of (nodes_in self.old))) (places_of ids.now) ≡ Some ms → WritesStated S.contents self.old self.new (encode_meanings (enums_in self.old) ms) (λ es texts. AreSpelled es texts.items) result }
+        ensures fault { (ms : List Meaning) → all_found (meanings (nodes_of (nodes_in self.old))) (places_of ids.now) ≡ Some ms → Finds write_fault (meanings_fault (enums_in self.old) ms) result }
+        ensures walks { Walks S.faults S.place (WriteError.Sink SinkError.Fault) before self.old self.new result }
+        ensures count { IfOk result (λ texts. length texts.items ≡ length ids.now) }
+        ensures kept { IfOk result (λ texts. map (text_at (texts_in self.new)) ids.now ≡ map (λ text. Some (rc_str_bytes text)) texts.items) }
+    {
+        let mut texts = Vec::with_capacity(self.alloc, ids.len())?;
+        for id in ids {
+            texts.push(self.encode_node(*id, steps)?)?;
+        }
+        Ok(texts)
+    }
+
+    /// Gives a node its text behind the lines of its parts, by their texts.
+    fn finish(
+        &mut self,
+        id: NodeId,
+        node: &Node,
+        rendering: Rendering,
+        mut texts: Vec<Text>,
+    ) -> Result<Text, WriteError>
+        requires meant { IsMeant (nodes_in self.old) id }
+        requires room { HasRoom self.old.names }
+        requires unkept { text_at (texts_in self.old) id ≡ None }
+        requires is_node { IsNodeOf (nodes_in self.old) id node.now }
+        requires rendered { (m : Meaning) → meaning_in (nodes_in self.old) id ≡ Some m → plain_rendering rendering ≡ rendering_in m }
+        requires count { (m : Meaning) → meaning_in (nodes_in self.old) id ≡ Some m → length texts.items ≡ length (written_parts (rendering_in m) (parts_in m)) }
+        requires sound { (m : Meaning) → meaning_in (nodes_in self.old) id ≡ Some m → meanings_fault (enums_in self.old) (written_parts (rendering_in m) (parts_in m)) ≡ None }
+        requires written { (m : Meaning) (s : Tables) → meaning_in (nodes_in self.old) id ≡ Some m → HasNames self.old s →
+            (es : List Expression) × AreSpelled es texts.items × (encode_meanings (enums_in self.old) (written_parts (rendering_in m) (parts_in m)) s ≡ made_of es s) }
+        ensures lines { (m : Meaning) (es : List Expression) (s : Tables) → meaning_in (nodes_in self.old) id ≡ Some m → AreSpelled es texts.items → HasNames self.old s → WritesHere S.contents self.old self.new (own_lines m es s) IsSpelled result }
+        ensures fault { (m : Meaning) → meaning_in (nodes_in self.old) id ≡ Some m → Finds write_fault (meaning_fault (enums_in self.old) m) result }
+        ensures walks { Walks S.faults S.place (WriteError.Sink SinkError.Fault) (suc (place_of id)) self.old self.new result }
+        ensures kept { IfOk result (λ text. text_at (texts_in self.new) id ≡ Some (rc_str_bytes text)) }
+    {
+        match inline_text(self.alloc, &node.label, texts.as_slice())? {
+            Some(text) => {
+                self.names.keep(id, text.clone()?);
+                Ok(text)
+            }
+            None => {
+                let sort = texts.remove(0);
+                let entry = entry_from(self.alloc, &node.label, rendering, sort.as_str(), texts)?;
+                self.enter(id, sort.as_str(), &entry)
+            }
+        }
+    }
+
+    /// Puts the lines of a term that has no name yet, and enters it.
+    fn enter(&mut self, id: NodeId, sort: &str, entry: &Entry) -> Result<Text, WriteError>
+        requires meant { IsMeant (nodes_in self.old) id }
+        requires room { HasRoom self.old.names }
+        requires unkept { text_at (texts_in self.old) id ≡ None }
+        requires sound { (m : Meaning) → meaning_in (nodes_in self.old) id ≡ Some m → meaning_fault (enums_in self.old) m ≡ None }
+        ensures lines { (t : PlainTerm) (s : Tables) (e : Expression) (p : PlainEntry) → meaning_in (nodes_in self.old) id ≡ Some (TermMeaning t) → IsTrue (has_entry (TermMeaning t)) → HasNames self.old s → sort.now ≡ spelled e → SaysEntry p entry.now →
+            WritesHere S.contents self.old self.new (enter_by p t e s) IsSpelled result }
+        ensures fault { Finds write_fault None result }
+        ensures walks { Walks S.faults S.place (WriteError.Sink SinkError.Fault) (suc (place_of id)) self.old self.new result }
+        ensures kept { IfOk result (λ text. text_at (texts_in self.new) id ≡ Some (rc_str_bytes text)) }
+    {
+        let name = self.name_for(entry)?;
+        entry.put(&mut self.script, name.as_str(), sort)?;
+        self.names.enter(id, name.clone()?);
+        Ok(name)
+    }
+
+    /// The name of an entry.
+    fn name_for(&self, entry: &Entry) -> Result<Text, AllocError>
+        ensures { (s : Tables) (p : PlainEntry) → HasNames self.now s → SaysEntry p entry.now → IfOk result (λ name. rc_str_bytes name ≡ entry_name p s) }
+    {
+        match entry {
+            Entry::Constant(_) | Entry::Body(_) => self.names.next(),
+            Entry::False => Text::from_str(self.alloc, "false"),
+        }
+    }
+}
