@@ -2,6 +2,7 @@ pub mod AsWritten
 pub mod Declarations
 pub mod Forms
 pub mod Giving
+pub mod NumberedLemmas
 pub mod OperatorNames
 pub mod ReadsLemmas
 pub mod Running

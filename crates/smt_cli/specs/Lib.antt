@@ -2,6 +2,8 @@ pub mod Input
 pub mod Job
 pub mod JobView
 pub mod MemorySource
+pub mod Numbered
+pub mod Numbers
 pub mod Refusal
 pub mod Run
 pub mod Source

@@ -6,6 +6,7 @@ mod expression;
 mod input;
 mod job;
 pub mod laws;
+mod numbered;
 mod operator;
 mod program;
 mod refusal;

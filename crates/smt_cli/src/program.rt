@@ -1,26 +1,31 @@
 // The run of the program, from its words to its status.
-ghost use Rattle.std.specs.Prelude.{◌≡◌, ◌≢◌, ◌↔◌, [], None, Some, IfErr, IfOk, IfSome, OnOk, option_map};
+ghost use Rattle.std.specs.Prelude.{◌≡◌, ◌≢◌, ◌↔◌, ◌<◌, [], length, IsErrOf, None, Some, IfErr, IfOk, IfSome, OnOk, option_map};
 ghost use Rattle.std.specs.Io.KnownBytes.{append_known};
 ghost use Rattle.smt_term.specs.Enums.{enums_of};
 ghost use Rattle.smt_meaning.specs.Faults.{first_fault};
 ghost use Rattle.smt_meaning.specs.Typing.{AreBoolean};
-ghost use Rattle.smt_term.specs.View.{plain_items};
 ghost use Rattle.smt_headline.specs.Headline.{Headline};
 ghost use Rattle.smt_lines.specs.Text.{names, text};
 ghost use Rattle.smt_script.specs.Sink.{Rose};
 ghost use Rattle.smt_characters.specs.SharedTexts.{texts};
-ghost use Rattle.smt_cli.specs.Job.{IsBuiltFrom};
-ghost use Rattle.smt_cli.specs.JobView.{plain_job};
+ghost use Rattle.smt_cli.specs.Job.{IsBuiltFrom, IsJob, PlainJob, greatest_length};
+ghost use Rattle.smt_cli.specs.Numbered.{numbered_job, numbered_terms};
+ghost use Rattle.smt_encode.specs.Refusals.{HasCause as CausedBy};
 ghost use Rattle.smt_cli.specs.Run.{commanded, HasCause, HasPrintCause, HasReadCause, IsComplete, IsDone, IsJustified, LeavesOutput, Reports};
 
 use crate::input::read_input;
-use crate::job::{GREATEST_JOB, Job, read_job};
+use crate::job::{GREATEST_JOB, JobError};
+use crate::numbered::{NumberedJob, NumberedTerms};
 use crate::refusal::{EncodeRefusal, PrintRefusal, ReadRefusal, Refusal};
 use crate::source::Source;
-use smt_encode::{EncodeError, Encoder};
+use crate::walk::walk_job;
+use smt_encode::{EncodeError, Encoder, Steps};
+use smt_nodes::Interner;
 use smt_script::Sink;
-use smt_term::Text;
+use smt_term::{EnumTable, Text};
 use std::alloc::Global;
+use std::marker::Brand;
+use std::sync::ledger::{Blank, Ledger};
 
 /// What `smtcli --help` prints.
 const HELP: &str = "\
@@ -66,26 +71,65 @@ fn command_of(words: &[Text]) -> Option<Command>
     }
 }
 
+/// Reads a job as `read_job` does, and keeps the numbers of its terms alone.
+fn read_numbered(alloc: Global, bytes: &[u8]) -> Result<NumberedJob, JobError>
+    ensures job { IfOk result (λ job. IsBuiltFrom bytes.now (numbered_job job)) }
+    ensures too_large { IsErrOf result JobError.TooLarge ↔ (greatest_length < length bytes.now) }
+    ensures bad_form { IsErrOf result JobError.BadForm → (job : PlainJob) → IsJob bytes.now job → ⊥ }
+{
+    let mut terms = NumberedTerms {
+        nodes: Interner::new(alloc),
+        ids: Vec::new(alloc),
+    };
+    let vars = walk_job(alloc, bytes, &mut terms)?;
+    Ok(NumberedJob {
+        enums: EnumTable::new(alloc),
+        vars,
+        terms,
+    })
+}
+
 /// Reads the source to its end, and the job that it gave.
-fn read_source<R: Source>(alloc: Global, source: &mut R) -> Result<Job, ReadRefusal>
-    ensures job { IfOk result (λ job. IfSome (R.remaining source.old) (λ bytes. IsBuiltFrom bytes (plain_job job))) }
+fn read_source<R: Source>(alloc: Global, source: &mut R) -> Result<NumberedJob, ReadRefusal>
+    ensures job { IfOk result (λ job. IfSome (R.remaining source.old) (λ bytes. IsBuiltFrom bytes (numbered_job job))) }
     ensures ended { OnOk result (R.remaining source.new ≡ option_map (λ _. []) (R.remaining source.old)) }
     ensures refused { IfErr result (HasReadCause (R.remaining source.old) (Rose (R.faults source.old) (R.faults source.new))) }
 {
     let bytes = read_input(alloc, source, GREATEST_JOB)?;
-    Ok(read_job(alloc, bytes.as_slice())?)
+    Ok(read_numbered(alloc, bytes.as_slice())?)
+}
+
+/// Encodes the terms of a job, and counts the look-ups by a ledger of its own.
+fn encode_job<L: Ledger, W: Sink>(
+    alloc: Global,
+    job: NumberedJob,
+    out: &mut W,
+    blank: Blank,
+) -> Result<(), EncodeError>
+    requires name { blank.name ≡ L.name }
+    requires parts { blank.parts ≡ L.parts }
+    requires some { 0 < blank.parts }
+    ensures text { OnOk result (W.contents out.new ≡ append_known (W.contents out.old) (text (enums_of job.enums) (numbered_terms job.terms))) }
+    ensures headline { AreBoolean (numbered_terms job.terms) → OnOk result (Headline (enums_of job.enums) (names (enums_of job.enums) (numbered_terms job.terms)) (numbered_terms job.terms) (text (enums_of job.enums) (numbered_terms job.terms))) }
+    ensures refused { CausedBy (W.faults out.old) (W.faults out.new) (first_fault (enums_of job.enums) (numbered_terms job.terms)) result }
+    ensures fresh { IsErrOf result EncodeError.Spent → ⊥ }
+{
+    let NumberedJob { enums, terms, .. } = job;
+    let NumberedTerms { nodes, ids } = terms;
+    let mut steps = Steps::<L>::new(blank);
+    let mut encoder = Encoder::with_nodes(alloc, &enums, nodes, out);
+    let outcome = encoder.encode_nodes(ids.as_slice(), &mut steps);
+    let _ = encoder.into_script();
+    outcome
 }
 
 /// Puts the script of a job.
-fn put_script<W: Sink>(alloc: Global, job: &Job, out: &mut W) -> Result<(), PrintRefusal>
-    ensures text { OnOk result (W.contents out.new ≡ append_known (W.contents out.old) (text (enums_of job.now.enums) (plain_items job.now.terms))) }
-    ensures headline { AreBoolean (plain_items job.now.terms) → OnOk result (Headline (enums_of job.now.enums) (names (enums_of job.now.enums) (plain_items job.now.terms)) (plain_items job.now.terms) (text (enums_of job.now.enums) (plain_items job.now.terms))) }
-    ensures refused { IfErr result (HasPrintCause (first_fault (enums_of job.now.enums) (plain_items job.now.terms)) (Rose (W.faults out.old) (W.faults out.new))) }
+fn put_script<W: Sink>(alloc: Global, job: NumberedJob, out: &mut W) -> Result<(), PrintRefusal>
+    ensures text { OnOk result (W.contents out.new ≡ append_known (W.contents out.old) (text (enums_of job.enums) (numbered_terms job.terms))) }
+    ensures headline { AreBoolean (numbered_terms job.terms) → OnOk result (Headline (enums_of job.enums) (names (enums_of job.enums) (numbered_terms job.terms)) (numbered_terms job.terms) (text (enums_of job.enums) (numbered_terms job.terms))) }
+    ensures refused { IfErr result (HasPrintCause (first_fault (enums_of job.enums) (numbered_terms job.terms)) (Rose (W.faults out.old) (W.faults out.new))) }
 {
-    let mut encoder = Encoder::new(alloc, &job.enums, out);
-    let outcome = encoder.encode(job.terms.items());
-    let _ = encoder.into_script();
-    match outcome {
+    match encode_job::<Brand, W>(alloc, job, out, Blank::new(1)) {
         Ok(()) => Ok(()),
         Err(EncodeError::Io) => Err(PrintRefusal::Sink),
         Err(EncodeError::EncodeStringFailed(_)) => {
@@ -95,7 +139,7 @@ fn put_script<W: Sink>(alloc: Global, job: &Job, out: &mut W) -> Result<(), Prin
             Err(PrintRefusal::Encode(EncodeRefusal::EncodePatternFailed))
         }
         Err(EncodeError::Memory) => Err(PrintRefusal::Memory),
-        // The encoder is a new one.
+        // The encoder was a new one.
         Err(EncodeError::Spent) => unreachable!(),
     }
 }
@@ -115,7 +159,7 @@ fn answer<R: Source, W: Sink>(
     match command_of(words) {
         Some(Command::Script) => {
             let job = read_source(alloc, source)?;
-            put_script(alloc, &job, out)?;
+            put_script(alloc, job, out)?;
         }
         Some(Command::Help) => out.put(HELP.as_bytes())?,
         Some(Command::Version) => out.put(VERSION.as_bytes())?,

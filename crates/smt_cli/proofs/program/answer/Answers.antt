@@ -1,6 +1,6 @@
 use Rattle.std.proofs.Common.{◌≡◌, Option, Some, subst}
 use Rattle.smt_characters.specs.SharedTexts.{texts}
-use Rattle.smt_cli.specs.JobView.{plain_job}
+use Rattle.smt_cli.specs.Numbered.{numbered_job}
 use Rattle.smt_cli.specs.Run.{commanded, help_text, version_text, IsDone}
 use Rattle.smt_cli.specs.declared.program.Command.{Command}
 use Rattle.smt_cli.specs.declared.program.Command.TheVariants.{Script, Help, Version}
@@ -13,7 +13,7 @@ returns-in_ok-put_script-in-Some-Script-clause-done g c =
     let read = c.in_ok-job-in-Some-Script.ensures in
     let put = c.in_ok-put_script-in-Some-Script.ensures in
     subst (λ (o : Option Command). IsDone o (g.R.Source.remaining c.args.source.now) (g.R.Source.remaining c.read_source.new.source) (g.W.Sink.contents c.args.out.now) (g.W.Sink.contents c.put_script.new.out)) asked
-    (record { prints = prints _ (plain_job c.in_ok-job-in-Some-Script.job) _ _ read.job put.text put.headline; ended = read.ended })
+    (record { prints = prints _ (numbered_job c.in_ok-job-in-Some-Script.job) _ _ read.job put.text put.headline; ended = read.ended })
 
 pub returns-in_ok-put-in-Some-Help-clause-done : goal.returns-in_ok-put-in-Some-Help-clause-done
 returns-in_ok-put-in-Some-Help-clause-done g c =
