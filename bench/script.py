@@ -33,8 +33,8 @@ DEPTHS = [10, 20, 40]
 VARIABLES = 1000
 SEED = 1
 
-# A shell starts the program and ends, and the program becomes a child of this process. What Linux tells as the peak of a
-# program is at least the memory of the process that forked it: one megabyte for a shell, and twenty for Python.
+# A shell starts the program and ends, and the program becomes a child of this process. What Linux tells as a program's
+# peak is at least the memory of the process that forked it: one megabyte for a shell, and twenty for Python.
 START = """
 limit=$1 source=$2 printed=$3
 shift 3
@@ -71,7 +71,7 @@ def tree(draw, depth):
 
 
 def deep_sum(_, place):
-    """A sum 450 deep. Such sums differ in their innermost summand alone."""
+    """A sum 450 deep. Such sums differ in their innermost summand alone, and repeat after a thousand."""
     innermost = f'(var "x{place % VARIABLES}")'
     return "(bvslt " + "(bvadd " * 450 + innermost + ' (var "x1"))' * 450 + " (bv 64 7))"
 
