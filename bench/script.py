@@ -1,71 +1,277 @@
 #!/usr/bin/env python3
-"""Speed of `smtcli script` on jobs of 1, 4 and 16 million bytes.
+"""Speed of `smtcli script`, alone or beside another program, as tables in Markdown.
 
-usage: bench/script.py SMTCLI [OTHER]
+Four families of jobs are measured at 1, 4 and 16 million bytes: negations, comparisons of sums, random trees, and sums
+450 deep. The jobs are the same in every run of this script. They are written to a temporary folder, which is removed.
+The other program is called as smtcli is, as `PROGRAM script` with the job on standard input.
 
-SMTCLI is the built program (`crates/smtcli/out/smtcli` after `rt run`). OTHER is a program to compare with: it is
-called as `OTHER script` with the job on standard input, as smtcli is. Each row is the best of three runs: seconds,
-job bytes a second, and the peak of resident memory. Terms are variables and their negations, so that each term is
-repeated many times and each negation shares its variable.
+A fifth family is a sum of a term with itself, 10, 20 and 40 deep. No job can write it, since a job has no way to share
+a term. So it is measured with programs of its own, which are called as `PROGRAM DEPTH` and print the script of such a
+term.
+
+Time is processor time, of the program and of the system for it, and memory is the peak of what was resident. Of several
+runs the least of each counts. The programs take turns, so that other work on the machine falls on both. Their outputs
+are compared by their SHA-256. The status is 1 where these differ or a program fails.
 """
 
+import argparse
+import ctypes
+import dataclasses
+import hashlib
+import itertools
 import os
+import pathlib
+import random
+import signal
 import subprocess
 import sys
 import tempfile
-import time
 
+TOP = pathlib.Path(__file__).resolve().parent.parent
 SIZES = [1_000_000, 4_000_000, 16_000_000]
-RUNS = 3
+DEPTHS = [10, 20, 40]
+VARIABLES = 1000
+SEED = 1
+
+# A shell starts the program and ends, and the program becomes a child of this process. What Linux tells as a program's
+# peak is at least the memory of the process that forked it: one megabyte for a shell, and twenty for Python.
+START = """
+limit=$1 source=$2 printed=$3
+shift 3
+ulimit -c 0
+ulimit -S -t "$limit"
+"$@" <"$source" >"$printed" &
+echo $!
+"""
+PR_SET_CHILD_SUBREAPER = 36
 
 
-def job(size):
-    """A job of at most `size` bytes, with a variable for each hundred bytes."""
-    variables = size // 100
-    parts = ["(job (enums) (vars"]
-    parts += [f' ("x{i}" Bool)' for i in range(variables)]
-    parts.append(") (funs) (terms")
-    length = sum(map(len, parts)) + 2
-    i = 0
-    while True:
-        variable = f'(var "x{i * 7919 % variables}")'
-        term = f" {variable}" if i % 3 == 0 else f" (not {variable})"
-        if length + len(term) > size:
-            break
-        parts.append(term)
-        length += len(term)
-        i += 1
-    parts.append("))")
-    return "".join(parts)
+def variable(draw):
+    return f'(var "x{draw.randrange(VARIABLES)}")'
 
 
-def run(program, path):
-    """Seconds, peak kilobytes and printed bytes of one run."""
-    with open(path, "rb") as source, tempfile.TemporaryFile() as out:
-        start = time.monotonic()
-        child = subprocess.Popen([program, "script"], stdin=source, stdout=out)
-        _, status, usage = os.wait4(child.pid, 0)
-        seconds = time.monotonic() - start
-        if status != 0:
-            sys.exit(f"{program}: status {os.waitstatus_to_exitcode(status)}")
-        return seconds, usage.ru_maxrss, out.seek(0, os.SEEK_END)
+def negation(draw, _):
+    return f"(not {variable(draw)})"
+
+
+def comparison_of_sum(draw, place):
+    return f"(bvslt (bvadd {variable(draw)} {variable(draw)}) (bv 64 {place}))"
+
+
+def random_tree(draw, _):
+    return tree(draw, 5)
+
+
+def tree(draw, depth):
+    if depth == 0:
+        return variable(draw)
+    operator = draw.choice(["and", "or", "not", "eq"])
+    operands = [tree(draw, depth - 1) for _ in range(1 if operator == "not" else 2)]
+    return f"({operator} {' '.join(operands)})"
+
+
+def deep_sum(_, place):
+    """A sum 450 deep. Such sums differ in their innermost summand alone, and repeat after a thousand."""
+    innermost = f'(var "x{place % VARIABLES}")'
+    return "(bvslt " + "(bvadd " * 450 + innermost + ' (var "x1"))' * 450 + " (bv 64 7))"
+
+
+# Each family of jobs: its name, the type of its variables, and its term at a place.
+JOBS = [
+    ("negations", "Bool", negation),
+    ("comparisons of sums", "(BitVec 64)", comparison_of_sum),
+    ("random trees", "Bool", random_tree),
+    ("sums 450 deep", "(BitVec 64)", deep_sum),
+]
+SHARED = "a sum of a term with itself"
+
+
+def write_job(path, size, sort, term):
+    """Writes a job of as many terms as `size` bytes hold."""
+    draw = random.Random(SEED)
+    variables = "".join(f' ("x{i}" {sort})' for i in range(VARIABLES))
+    end = "))"
+    with open(path, "w", encoding="ascii") as job:
+        written = job.write(f"(job (enums) (vars{variables}) (funs) (terms")
+        for place in itertools.count():
+            text = " " + term(draw, place)
+            if written + len(text) + len(end) > size:
+                break
+            written += job.write(text)
+        job.write(end)
+
+
+@dataclasses.dataclass(frozen=True)
+class Run:
+    """What a run took and printed, or its fault, and whether the program is to blame for that."""
+
+    seconds: float = 0.0
+    megabytes: float = 0.0
+    digest: str = ""
+    fault: str = ""
+    failed: bool = False
+
+    def least(self, other):
+        """The least of both, or the first fault."""
+        if self.fault or other.fault:
+            return self if self.fault else other
+        if self.digest != other.digest:
+            return Run(fault="two outputs", failed=True)
+        return Run(min(self.seconds, other.seconds), min(self.megabytes, other.megabytes), self.digest)
+
+
+def run(command, source, printed, limit):
+    """One run of a command, which reads the file `source` and prints to the file `printed`."""
+    shell = ["sh", "-c", START, "sh", str(limit), str(source), str(printed), *command]
+    started = int(subprocess.run(shell, stdout=subprocess.PIPE, check=True).stdout)
+    try:
+        _, status, usage = os.wait4(started, 0)
+    except KeyboardInterrupt:
+        os.kill(started, signal.SIGKILL)
+        raise
+    code = os.waitstatus_to_exitcode(status)
+    if code == -signal.SIGXCPU:
+        return Run(fault=f"over {limit} s")
+    if code != 0:
+        return Run(fault=f"signal {-code}" if code < 0 else f"status {code}", failed=True)
+    digest = hashlib.sha256(printed.read_bytes()).hexdigest()
+    return Run(usage.ru_utime + usage.ru_stime, usage.ru_maxrss * 1024 / 1e6, digest)
+
+
+def take_turns(commands, source, folder, options):
+    """The least of the runs of each command. A command that had a fault is not run again, and None is not run."""
+    found = [Run(fault="not run")] * len(commands)
+    for turn in range(options.runs):
+        for place, command in enumerate(commands):
+            if command is None or (turn > 0 and found[place].fault):
+                continue
+            again = run(command, source, folder / "printed", options.limit)
+            found[place] = again if turn == 0 else found[place].least(again)
+    return found
+
+
+def job_cases(sort, term, folder):
+    """The sizes of a family of jobs: what the size is called, the words for a program, and what it reads."""
+    for size in SIZES:
+        write_job(folder / "job", size, sort, term)
+        yield f"{size // 1_000_000} MB", ["script"], folder / "job"
+
+
+def shared_cases():
+    """The same of a sum of a term with itself."""
+    for depth in DEPTHS:
+        yield f"depth {depth}", [str(depth)], os.devnull
+
+
+def row(found):
+    """The cells of a row: what each program took, and both beside each other where there are two without fault."""
+    cells = []
+    for one in found:
+        cells += [one.fault, "-"] if one.fault else [f"{one.seconds:.3f}", f"{one.megabytes:.1f}"]
+    if len(found) == 2 and not any(one.fault for one in found):
+        ours, public = found
+        cells += [ratio(ours.seconds, public.seconds), ratio(ours.megabytes, public.megabytes)]
+        cells += ["equal" if ours.digest == public.digest else "DIFFERENT"]
+    return cells
+
+
+def ratio(above, below):
+    return f"{above / below:.2f}" if below else "-"
+
+
+def growth(family, rows):
+    """How much more the last size of a family takes than the one before it."""
+    (small, before), (large, after) = rows[-2:]
+    programs = []
+    for name, one, other in zip(["ours", "public"], before, after):
+        if not one.fault and not other.fault:
+            time, memory = ratio(other.seconds, one.seconds), ratio(other.megabytes, one.megabytes)
+            programs.append(f"{name} {time} times the time and {memory} times the memory")
+    return f"- {family}, {large} by {small}: " + ("; ".join(programs) or "not measured")
+
+
+def put(cells):
+    print("|", " | ".join(cells), "|", flush=True)
+
+
+def families(folder, options):
+    """Each family: its name, the programs that are measured, and its sizes."""
+    for family, sort, term in JOBS:
+        yield family, [path for path in (options.ours, options.public) if path], job_cases(sort, term, folder)
+    if options.shared:
+        yield SHARED, [path for path in (options.shared, options.public_shared) if path], shared_cases()
+
+
+def measure(family, programs, cases, folder, columns, options):
+    """Prints a row for each size of a family, and gives the sizes with their runs.
+
+    A program that had a fault at one size is not run at those above.
+    """
+    rows = []
+    for size, words, source in cases:
+        before = rows[-1][1] if rows else [Run()] * len(programs)
+        commands = [None if one.fault else [program, *words] for one, program in zip(before, programs)]
+        found = take_turns(commands, source, folder, options)
+        rows.append((size, found))
+        cells = [family, size, *row(found)]
+        put(cells + ["-"] * (columns - len(cells)))
+    return rows
+
+
+def is_fine(rows):
+    """Whether no program failed, and those that ran to their end printed the same."""
+    outputs = [{one.digest for one in found if not one.fault} for _, found in rows]
+    return all(len(digests) < 2 for digests in outputs) and not any(one.failed for _, found in rows for one in found)
+
+
+def arguments():
+    def program(path):
+        found = pathlib.Path(path).absolute()
+        if not os.access(found, os.X_OK) or found.is_dir():
+            raise argparse.ArgumentTypeError(f"{path} is no program")
+        return str(found)
+
+    def positive(text):
+        if not text.isdecimal() or int(text) == 0:
+            raise argparse.ArgumentTypeError(f"{text} is no number above 0")
+        return int(text)
+
+    parser = argparse.ArgumentParser(description=__doc__, formatter_class=argparse.RawDescriptionHelpFormatter)
+    ours = str(TOP / "crates/smtcli/out/smtcli")
+    parser.add_argument("--ours", metavar="PROGRAM", type=program, default=ours, help="smtcli, as `rt run` builds it")
+    parser.add_argument("--public", metavar="PROGRAM", type=program, help="the program to compare with")
+    parser.add_argument("--shared", metavar="PROGRAM", type=program, help="our program of the fifth family")
+    parser.add_argument("--public-shared", metavar="PROGRAM", type=program, help="the same of the public crate")
+    parser.add_argument("--runs", metavar="N", type=positive, default=3, help="how many runs (3)")
+    parser.add_argument(
+        "--limit", metavar="SECONDS", type=positive, default=600, help="the time at which a run is stopped (600)"
+    )
+    return parser.parse_args()
 
 
 def main():
-    if len(sys.argv) not in (2, 3):
-        sys.exit(__doc__)
-    for size in SIZES:
-        with tempfile.NamedTemporaryFile("w", suffix=".job") as source:
-            source.write(job(size))
-            source.flush()
-            for program in sys.argv[1:]:
-                runs = [run(program, source.name) for _ in range(RUNS)]
-                seconds, kilobytes, printed = min(runs)
-                print(
-                    f"{size:>9} bytes  {os.path.basename(program):10} {seconds:7.3f} s"
-                    f"  {size / seconds / 1e6:6.2f} MB/s  {kilobytes / 1024:7.1f} MiB"
-                    f"  {printed} bytes printed"
-                )
+    options = arguments()
+    if ctypes.CDLL(None).prctl(PR_SET_CHILD_SUBREAPER, 1) != 0:
+        sys.exit("this system does not hand on the children of a process that has ended")
+    heads = ["Family", "Size", "Ours, s", "Ours, MB"]
+    if options.public or options.public_shared:
+        heads += ["Public, s", "Public, MB", "Time, ours by public", "Memory, ours by public", "Outputs"]
+    put(heads)
+    put(["---"] * len(heads))
+
+    lines, fine = [], True
+    with tempfile.TemporaryDirectory() as name:
+        folder = pathlib.Path(name)
+        for family, programs, cases in families(folder, options):
+            rows = measure(family, programs, cases, folder, len(heads), options)
+            lines.append(growth(family, rows))
+            fine = fine and is_fine(rows)
+    if not options.shared:
+        lines.append(f"- {SHARED}: not measured, since `--shared` names no program")
+    print()
+    print("\n".join(lines))
+    sys.exit(0 if fine else 1)
 
 
-main()
+if __name__ == "__main__":
+    main()
