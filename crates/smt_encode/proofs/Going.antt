@@ -16,9 +16,8 @@ use Rattle.smt_lines.specs.Line.{Line}
 use Rattle.smt_lines.specs.Lines.{Enums, Written}
 use Rattle.smt_lines.specs.NameTables.{Tables}
 use Rattle.smt_lines.specs.Spelling.{spelled}
-use Rattle.smt_encode.specs.Encoded.{HasNames}
 use Rattle.smt_encode.specs.NodeLines.{encode_meaning, encode_meanings, meaning_fault, meanings_fault}
-use Rattle.smt_encode.specs.Steps.{AreSpelled, IsSpelled, Wrote}
+use Rattle.smt_encode.specs.Steps.{AreSpelled, HasTables, IsSpelled, Wrote}
 use Rattle.smt_encode.specs.declared.encoder.Encoder.{Encoder}
 use Rattle.smt_encode.proofs.Lines.{nothing_written, wrote_then}
 
@@ -72,7 +71,7 @@ pub record Going {S : Type 0} (contents : S → Option (List ℕ)) (enums : Enum
   pub shown : AreSpelled made texts
   pub whole : encode_meanings enums all s ≡ behind_these made lines (encode_meanings enums left tables)
 
-pub starts : {S : Type 0} {contents : S → Option (List ℕ)} {enums : Enums} (e : Encoder S) (all : List Meaning) {texts : List (RcStr Global)} (s : Tables) → texts ≡ [] → HasNames e s → Going contents enums e e all all texts s
+pub starts : {S : Type 0} {contents : S → Option (List ℕ)} {enums : Enums} (e : Encoder S) (all : List Meaning) {texts : List (RcStr Global)} (s : Tables) → texts ≡ [] → HasTables e s → Going contents enums e e all all texts s
 starts e all s none has = record { tables = s; lines = []; made = []; wrote = nothing_written e s has; shown = ap (map rc_str_bytes) none; whole = refl }
 
 -- behind lines, a node's text and then those of the others

@@ -70,3 +70,12 @@ one_more (Some text ∷ texts) (suc i) x b h = ap suc (one_more texts i x (omega
 
 pub set : (texts : Texts) (i : ℕ) (x : RcStr Global) → i < length texts → kept_at texts i ≡ None → IsKept texts (slice_set texts i (Some x)) i (rc_str_bytes x)
 set texts i x b h = record { here = here texts i x b; others = others texts i (Some x); as_many = as_many texts i (Some x); one_more = one_more texts i x b h }
+
+-- where no place keeps a text there is none
+pub none_kept : (texts : Texts) → ((i : ℕ) → kept_at texts i ≡ None) → kept_count texts ≡ 0
+none_kept [] h = refl
+none_kept (None ∷ texts) h = none_kept texts (λ i. h (suc i))
+none_kept (Some text ∷ texts) h = absurd (no_text (h zero))
+  where
+    no_text : {A : Type 0} {x : A} → ◌≡◌ {A = Option A} (Some x) None → ⊥
+    no_text e = cc

@@ -8,9 +8,8 @@ use Rattle.smt_lines.specs.Lines.{Written, option_line, ◌>>=◌}
 use Rattle.smt_lines.specs.NameTables.{Tables}
 use Rattle.smt_characters.specs.LineTexts.{declare_datatype_text}
 use Rattle.smt_script.proofs.PutsLemmas.{appends_then, appends_nothing}
-use Rattle.smt_encode.specs.Encoded.{HasNames}
-use Rattle.smt_encode.specs.Steps.{PutsLine, Wrote}
-use Rattle.smt_encode.specs.Names.{AreTables}
+use Rattle.smt_encode.specs.Steps.{HasTables, PutsLine, Wrote}
+use Rattle.smt_encode.specs.Names.{KeepTables}
 use Rattle.smt_encode.specs.declared.encoder.Encoder.{Encoder}
 use Rattle.smt_encode.specs.declared.names.Names.{Names}
 
@@ -25,7 +24,7 @@ lines_append ls ms = flat_map-append spelled_line ls ms
 
 module _ {S : Type 0} {contents : S → Option (List ℕ)} where
   -- nothing was written
-  pub nothing_written : (e : Encoder S) (s : Tables) → HasNames e s → Wrote contents e e [] s
+  pub nothing_written : (e : Encoder S) (s : Tables) → HasTables e s → Wrote contents e e [] s
   nothing_written e s has = record { names = has; contents_are = appends_nothing (contents e.script) }
 
   -- lines, and then more lines
@@ -41,8 +40,8 @@ module _ {S : Type 0} {contents : S → Option (List ℕ)} where
   binds w f p q = wrote_then p q
 
   -- one line that was put
-  pub put : {T E : Type 0} {u : T} {old new : Encoder S} {bytes : List ℕ} (line : Line) (s : Tables) → PutsLine {T = T} {E = E} contents old new bytes (Ok u) → bytes ≡ spelled_line line → HasNames old s → Wrote contents old new (line ∷ []) s
+  pub put : {T E : Type 0} {u : T} {old new : Encoder S} {bytes : List ℕ} (line : Line) (s : Tables) → PutsLine {T = T} {E = E} contents old new bytes (Ok u) → bytes ≡ spelled_line line → HasTables old s → Wrote contents old new (line ∷ []) s
   put {old = old} {new} line s p e has = record {
-    names = subst (λ (n : Names). AreTables n s) (sym p.same_names) has;
+    names = subst (λ (n : Names). KeepTables n s) (sym p.same_names) has;
     contents_are = p.got ∙ ap (append_known (contents old.script)) (e ∙ sym (append-nil (spelled_line line)));
   }

@@ -13,12 +13,12 @@ use Rattle.smt_nodes.specs.Interned.{meaning_in, nodes_of, KeepsMeanings}
 use Rattle.smt_nodes.specs.View.{place_of}
 use Rattle.smt_nodes.specs.declared.id.NodeId.{NodeId}
 use Rattle.smt_nodes.specs.declared.interner.Interner.{Interner}
-use Rattle.smt_lines.specs.NameTables.{Tables, name_of_term}
+use Rattle.smt_lines.specs.NameTables.{Tables, name_of_term, no_names}
 use Rattle.smt_lines.proofs.Making.{lookup_new, lookup_other}
 use Rattle.smt_meaning.specs.TypeValues.{Enums}
 use Rattle.smt_encode.specs.NodeLines.{has_entry, meaning_fault}
 use Rattle.smt_encode.specs.NodeTexts.{text_at, AreSound, HasName, IsText}
-use Rattle.smt_encode.specs.Names.{enums_under, AreTables}
+use Rattle.smt_encode.specs.Names.{enums_under, AreTables, KeepTables}
 use Rattle.smt_encode.specs.Texts.{kept_at, IsKept}
 use Rattle.smt_encode.specs.declared.names.Names.{Names}
 use Rattle.smt_encode.specs.declared.node_names.NodeNames.{NodeNames}
@@ -87,7 +87,7 @@ grown i j names keeps fits t None none = λ id h entry. go id h entry (text_at n
     go id h entry None is = is
     go id h entry (Some x) is = none id (kept_before i j names keeps fits id (TermMeaning t) x is h) entry
 
-pub tables_grow : (n : Names) (j : Interner) (s : Tables) → KeepsMeanings n.nodes j → AreSound (enums_under n) n.nodes n.texts → AreTables n s → (new : Names) → new.nodes ≡ j → new.texts ≡ n.texts → enums_under new ≡ enums_under n → AreTables new s
+pub tables_grow : (n : Names) (j : Interner) (s : Tables) → KeepsMeanings n.nodes j → AreSound (enums_under n) n.nodes n.texts → KeepTables n s → (new : Names) → new.nodes ≡ j → new.texts ≡ n.texts → enums_under new ≡ enums_under n → KeepTables new s
 tables_grow n j s keeps sound are new nodes texts enums = record {
   terms = λ t. subst (λ (k : Interner). HasName k new.texts t (name_of_term s t)) (sym nodes) (subst (λ (x : NodeNames). HasName j x t (name_of_term s t)) (sym texts) (grown n.nodes j n.texts keeps sound.within t (name_of_term s t) (are.terms t)));
   inline = λ id m x h none there.
@@ -137,7 +137,7 @@ module _ (n : Names) (id : NodeId) (m : Meaning) (x : List ℕ) (texts : NodeNam
 -- a term's name
 pub tables_entered : (n new : Names) (id : NodeId) (t : PlainTerm) (x : List ℕ) (s : Tables) → IsKept n.texts.texts.items new.texts.texts.items (place_of id) x
     → meaning_in n.nodes id ≡ Some (TermMeaning t) → text_at n.texts id ≡ None → IsTrue (has_entry (TermMeaning t)) → new.texts.named ≡ n.texts.named + 1 → new.nodes ≡ n.nodes → enums_under new ≡ enums_under n
-    → AreTables n s → AreTables new (record s { terms = s.terms ++ (t, x) ∷ [] })
+    → KeepTables n s → KeepTables new (record s { terms = s.terms ++ (t, x) ∷ [] })
 tables_entered n new id t x s is meant unkept entry one nodes enums are = record {
   terms = λ q. subst (λ (k : Interner). HasName k new.texts q (name_of_term (record s { terms = s.terms ++ (t, x) ∷ [] }) q)) (sym nodes) (go q (term_eq q t) refl);
   inline = λ other m y h none there.
@@ -169,7 +169,7 @@ tables_entered n new id t x s is meant unkept entry one nodes enums are = record
 -- the text of what has no entry
 pub tables_kept : (n new : Names) (id : NodeId) (m : Meaning) (x : List ℕ) (s : Tables) → IsKept n.texts.texts.items new.texts.texts.items (place_of id) x
     → meaning_in n.nodes id ≡ Some m → text_at n.texts id ≡ None → has_entry m ≡ false → IsText (enums_under n) s m x → new.texts.named ≡ n.texts.named → new.nodes ≡ n.nodes → enums_under new ≡ enums_under n
-    → AreTables n s → AreTables new s
+    → KeepTables n s → KeepTables new s
 tables_kept n new id m x s is meant unkept none text same nodes enums are = record {
   terms = λ q. subst (λ (k : Interner). HasName k new.texts q (name_of_term s q)) (sym nodes) (go q (has_entry (TermMeaning q)) refl (name_of_term s q) (are.terms q));
   inline = λ other k y h plain there. inlined other k y (ap (λ (k : Interner). meaning_in k other) (sym nodes) ∙ h) plain there (eqb_tells (place_of other) (place_of id));
@@ -203,3 +203,22 @@ none_found i names t none = λ id h e. absurd (none id h)
 
 pub no_name : (i : Interner) (names : NodeNames) (t : PlainTerm) → has_entry (TermMeaning t) ≡ false → HasName i names t None
 no_name i names t none = λ id h e. absurd (false≢true (sym none ∙ e))
+
+-- ---- tables alone, and those of a fresh encoder
+
+pub names_alone : (n : Names) (s : Tables) → KeepTables n s → AreTables n s
+names_alone n s k = record { terms = k.terms; count = k.count; types = k.types; functions = k.functions }
+
+pub fresh_tables : (n : Names) → ((id : NodeId) → text_at n.texts id ≡ None) → KeepTables n no_names
+fresh_tables n fresh =
+    let none = kept.none_kept n.texts.texts.items (λ i. fresh (record { place = i })) in
+    record {
+      terms = λ t id h entry. fresh id;
+      inline = λ id m text h e there. absurd (no_text (sym (fresh id) ∙ there));
+      count = omega (arith, none, n.texts.counted);
+      types = refl;
+      functions = refl;
+    }
+  where
+    no_text : {A : Type 0} {x : A} → ◌≡◌ {A = Option A} None (Some x) → ⊥
+    no_text e = cc

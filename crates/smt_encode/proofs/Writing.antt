@@ -17,12 +17,11 @@ use Rattle.smt_nodes.specs.View.{place_of, places_of}
 use Rattle.smt_nodes.specs.declared.id.NodeId.{NodeId}
 use Rattle.smt_lines.specs.Lines.{Enums, made_of, ◌>>=◌}
 use Rattle.smt_lines.specs.NameTables.{Tables, name_of_term}
-use Rattle.smt_encode.specs.Encoded.{HasNames}
 use Rattle.smt_encode.specs.Entries.{is_built}
-use Rattle.smt_encode.specs.Names.{enums_under, AreTables}
+use Rattle.smt_encode.specs.Names.{enums_under, KeepTables}
 use Rattle.smt_encode.specs.NodeLines.{encode_meaning, encode_meanings, has_entry}
 use Rattle.smt_encode.specs.NodeTexts.{text_at, HasName, IsText}
-use Rattle.smt_encode.specs.Steps.{AreSpelled, IsSpelled, Wrote}
+use Rattle.smt_encode.specs.Steps.{AreSpelled, HasTables, IsSpelled, Wrote}
 use Rattle.smt_encode.specs.declared.encoder.Encoder.{Encoder}
 use Rattle.smt_encode.specs.declared.names.Names.{Names}
 use Rattle.smt_encode.proofs.Built.{built_meaning}
@@ -31,7 +30,7 @@ use Rattle.smt_encode.proofs.Named.{named_at, one_id}
 use Rattle.smt_encode.proofs.Stated.{named_stated}
 
 -- a text that is kept
-pub kept_text : (n : Names) (s : Tables) → AreTables n s → (id : NodeId) (m : Meaning) (x : List ℕ) → meaning_in n.nodes id ≡ Some m → text_at n.texts id ≡ Some x → IsText (enums_under n) s m x
+pub kept_text : (n : Names) (s : Tables) → KeepTables n s → (id : NodeId) (m : Meaning) (x : List ℕ) → meaning_in n.nodes id ≡ Some m → text_at n.texts id ≡ Some x → IsText (enums_under n) s m x
 kept_text n s are id m x meant there = go m meant (built_meaning n.nodes id m meant) (has_entry m) refl
   where
     go : (m : Meaning) → meaning_in n.nodes id ≡ Some m → is_built (label_in m) ≡ true → (b : Bool) → has_entry m ≡ b → IsText (enums_under n) s m x
@@ -44,7 +43,7 @@ kept_text n s are id m x meant there = go m meant (built_meaning n.nodes id m me
     go (TypeMeaning t) meant built true e = absurd (false≢true e)
 
 -- a node without a text has no name
-pub unnamed : (n : Names) (s : Tables) → AreTables n s → (id : NodeId) (m : Meaning) → meaning_in n.nodes id ≡ Some m → text_at n.texts id ≡ None → (t : PlainTerm) → m ≡ TermMeaning t → name_of_term s t ≡ None
+pub unnamed : (n : Names) (s : Tables) → KeepTables n s → (id : NodeId) (m : Meaning) → meaning_in n.nodes id ≡ Some m → text_at n.texts id ≡ None → (t : PlainTerm) → m ≡ TermMeaning t → name_of_term s t ≡ None
 unnamed n s are id m meant none t is = go (name_of_term s t) (are.terms t)
   where
     go : (o : Option (List ℕ)) → HasName n.nodes n.texts t o → o ≡ None
@@ -55,7 +54,7 @@ unnamed n s are id m meant none t is = go (name_of_term s t) (are.terms t)
         absurd cc
 
 -- a node that has a text is written by it, and nothing is added
-pub kept_written : {S : Type 0} {contents : S → Option (List ℕ)} (e : Encoder S) (s : Tables) (id : NodeId) (m : Meaning) (text : RcStr Global) → HasNames e s → meaning_in e.names.nodes id ≡ Some m → text_at e.names.texts id ≡ Some (rc_str_bytes text)
+pub kept_written : {S : Type 0} {contents : S → Option (List ℕ)} (e : Encoder S) (s : Tables) (id : NodeId) (m : Meaning) (text : RcStr Global) → HasTables e s → meaning_in e.names.nodes id ≡ Some m → text_at e.names.texts id ≡ Some (rc_str_bytes text)
     → Wrote contents e e (encode_meaning (enums_under e.names) m s).lines (encode_meaning (enums_under e.names) m s).tables × IsSpelled (encode_meaning (enums_under e.names) m s).made text
 kept_written e s id m text has meant there =
     let (x, stated, spells) = kept_text e.names s has id m (rc_str_bytes text) meant there in
@@ -67,7 +66,7 @@ pub record AreTexts (enums : Enums) (s : Tables) (ms : List Meaning) (texts : Li
   pub shown : AreSpelled made texts
   pub stated : encode_meanings enums ms s ≡ made_of made s
 
-pub kept_texts : (n : Names) (s : Tables) → AreTables n s → (ids : List NodeId) (ms : List Meaning) (texts : List (RcStr Global)) → all_found (meanings (nodes_of n.nodes)) (places_of ids) ≡ Some ms
+pub kept_texts : (n : Names) (s : Tables) → KeepTables n s → (ids : List NodeId) (ms : List Meaning) (texts : List (RcStr Global)) → all_found (meanings (nodes_of n.nodes)) (places_of ids) ≡ Some ms
     → map (text_at n.texts) ids ≡ map (λ text. Some (rc_str_bytes text)) texts → AreTexts (enums_under n) s ms texts
 kept_texts n s are [] ms [] h k = record { made = []; shown = refl; stated = ap (λ l. encode_meanings (enums_under n) l s) (sym (some_same [] ms h)) }
 kept_texts n s are [] ms (x ∷ texts) h k = absurd (cc)

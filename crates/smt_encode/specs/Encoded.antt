@@ -1,5 +1,5 @@
 -- What an encoder has, and what a call leaves of it and its sink.
-use Rattle.std.specs.Prelude.{ℕ, ◌≡◌, ◌≤◌, ◌↔◌, List, ◌++◌, Bool, ◌||◌, IsTrue, Option, Some, Result, IsErrOf}
+use Rattle.std.specs.Prelude.{ℕ, ◌≡◌, ◌≤◌, ◌↔◌, List, ◌++◌, Bool, ◌||◌, IsTrue, Option, Some, None, Result, IsErrOf}
 use Rattle.std.specs.Io.KnownBytes.{append_known}
 use Rattle.smt_meaning.specs.Plain.{PlainTerm}
 use Rattle.smt_meaning.specs.TypeValues.{Enums}
@@ -7,7 +7,8 @@ use Rattle.smt_lines.specs.NameTables.{Tables}
 use Rattle.smt_lines.specs.Text as stated
 use Rattle.smt_nodes.specs.declared.interner.Interner.{Interner}
 use Rattle.smt_encode.specs.Names.{enums_under, nodes_under, texts_under, AreTables}
-use Rattle.smt_encode.specs.NodeTexts.{HasName}
+use Rattle.smt_nodes.specs.declared.id.NodeId.{NodeId}
+use Rattle.smt_encode.specs.NodeTexts.{text_at, HasName}
 use Rattle.smt_encode.specs.declared.node_names.NodeNames.{NodeNames}
 use Rattle.smt_encode.specs.declared.encoder.Encoder.{Encoder}
 use Rattle.smt_encode.specs.declared.error.EncodeError.{EncodeError}
@@ -39,6 +40,10 @@ IsNameOf e t name = HasName (nodes_in e) (texts_in e) t name
 -- The encoder's names are these tables.
 abbrev pub HasNames : {S : Type 0} → Encoder S → Tables → Type 0
 HasNames e s = AreTables e.names s
+
+-- It wrote no node yet: none has a text.
+abbrev pub IsFresh : {S : Type 0} → Encoder S → Type 0
+IsFresh e = (id : NodeId) → text_at (texts_in e) id ≡ None
 
 -- The bytes that a sink got between two moments have P, where it tells its bytes at both.
 abbrev pub OfReceived : (before after : Option (List ℕ)) → (List ℕ → Type 0) → Type 0

@@ -23,9 +23,15 @@ nodes_under n = n.nodes
 abbrev pub texts_under : Names → NodeNames
 texts_under n = n.texts
 
--- The names are these tables: each term has the name that it has there, and there are as many; the text of what has no entry is the stated one.
--- Types and functions have no names yet.
+-- The names are these tables: each term has the name that it has there, and there are as many. Types and functions have no names yet.
 pub record AreTables (n : Names) (s : Tables) : Type 0 where
+  pub terms : (t : PlainTerm) → HasName n.nodes n.texts t (name_of_term s t)
+  pub count : n.texts.named ≡ length s.terms
+  pub types : s.types ≡ []
+  pub functions : s.functions ≡ []
+
+-- The same, and what has no entry has its stated text.
+pub record KeepTables (n : Names) (s : Tables) : Type 0 where
   pub terms : (t : PlainTerm) → HasName n.nodes n.texts t (name_of_term s t)
   pub inline : (id : NodeId) (m : Meaning) (text : List ℕ) → meaning_in n.nodes id ≡ Some m → has_entry m ≡ false → text_at n.texts id ≡ Some text → IsText (enums_under n) s m text
   pub count : n.texts.named ≡ length s.terms

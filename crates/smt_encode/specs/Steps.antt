@@ -13,9 +13,13 @@ use Rattle.smt_script.specs.Sink.{Rose}
 use Rattle.smt_encode.specs.declared.encoder.Encoder.{Encoder}
 use Rattle.smt_nodes.specs.View.{place_of}
 use Rattle.smt_nodes.specs.declared.id.NodeId.{NodeId}
-use Rattle.smt_encode.specs.Names.{StandsOn}
+use Rattle.smt_encode.specs.Names.{KeepTables, StandsOn}
 use Rattle.smt_encode.specs.NodeTexts.{text_at}
-use Rattle.smt_encode.specs.Encoded.{texts_in, HasNames, Keeps}
+use Rattle.smt_encode.specs.Encoded.{texts_in, Keeps}
+
+-- The texts of an encoder are those of these tables.
+abbrev pub HasTables : {S : Type 0} → Encoder S → Tables → Type 0
+HasTables e s = KeepTables e.names s
 
 -- a text is the spelling of an expression
 abbrev pub IsSpelled : Expression → RcStr Global → Type 0
@@ -27,7 +31,7 @@ AreSpelled es texts = map rc_str_bytes texts ≡ map spelled es
 
 -- The sink got these lines, and the encoder has the names of these tables.
 pub record Wrote {S : Type 0} (contents : S → Option (List ℕ)) (old new : Encoder S) (lines : List Line) (tables : Tables) : Type 0 where
-  pub names : HasNames new tables
+  pub names : HasTables new tables
   pub contents_are : contents new.script ≡ append_known (contents old.script) (spelled_lines lines)
 
 -- On Ok the sink got this line. The names stay as they were.
@@ -41,7 +45,7 @@ WritesHere contents old new w Shows result = IfOk result (λ x. Wrote contents o
 
 -- The same of what is stated for the tables before the call, whichever tables are the encoder's names.
 abbrev pub WritesStated : {S A T E : Type 0} → (S → Option (List ℕ)) → Encoder S → Encoder S → (Tables → Written A) → (A → T → Type 0) → Result T E → Type 0
-WritesStated contents old new stated Shows result = (s : Tables) → HasNames old s → WritesHere contents old new (stated s) Shows result
+WritesStated contents old new stated Shows result = (s : Tables) → HasTables old s → WritesHere contents old new (stated s) Shows result
 
 -- This error comes only where the sink's count of faults rose. The encoder keeps what a call keeps.
 pub record FaultCounted {S T E : Type 0} (faults : S → ℕ) (place : S → List ℕ) (fault : E) (old new : Encoder S) (result : Result T E) : Type 0 where

@@ -41,10 +41,11 @@ pub struct Encoder<'a, S> {
 }
 
 impl<'a, S> Encoder<'a, S> {
-    ghost use Rattle.smt_encode.specs.Encoded.{enums_in, is_spent, nodes_in, sink_of, texts_in, HasNames, IsNameOf};
+    ghost use Rattle.smt_encode.specs.Encoded.{enums_in, is_spent, nodes_in, sink_of, texts_in, HasNames, IsFresh, IsNameOf};
 
     /// An encoder without names over this sink, which has not encoded yet. Takes no memory, and puts nothing.
     pub fn new(alloc: Global, enums: &'a EnumTable, script: S) -> Encoder<'a, S>
+        ensures fresh { IsFresh result }
         ensures no_names { HasNames result no_names }
         ensures unspent { is_spent result ≡ false }
         ensures sink { sink_of result ≡ script }
@@ -60,6 +61,7 @@ impl<'a, S> Encoder<'a, S> {
         nodes: Interner,
         script: S,
     ) -> Encoder<'a, S>
+        ensures fresh { IsFresh result }
         ensures no_names { HasNames result no_names }
         ensures nodes { nodes_in result ≡ nodes }
         ensures unspent { is_spent result ≡ false }
@@ -106,8 +108,8 @@ impl<'a, S> Encoder<'a, S> {
 }
 
 impl<S: Sink> Encoder<'_, S> {
-    ghost use Rattle.smt_encode.specs.Encoded.{enums_in, is_spent, nodes_in, sink_of, HasNames, Keeps, OfNames, OfReceived, Spends, WroteText};
-    ghost use Rattle.smt_encode.specs.Steps.{AreSpelled, FaultCounted, PutsLine, Wrote};
+    ghost use Rattle.smt_encode.specs.Encoded.{enums_in, is_spent, nodes_in, sink_of, IsFresh, Keeps, OfNames, OfReceived, Spends, WroteText};
+    ghost use Rattle.smt_encode.specs.Steps.{AreSpelled, FaultCounted, HasTables, PutsLine, Wrote};
 
     /// Writes the script of these terms: the declaration of the datatype `Option`, what the terms need, and an
     /// assertion for each term, in order (commands of SMT-LIB 2.7, chapter 3, Scripts).
@@ -118,7 +120,7 @@ impl<S: Sink> Encoder<'_, S> {
     /// has a name already is not written again. A term's assertion is `(assert TEXT)`, where `TEXT` is its name or, of a
     /// literal, its inline text.
     ///
-    /// After Ok an encoder without names has put exactly the stated text, and has its names (`stated`). For Boolean
+    /// After Ok a fresh encoder, which has written no node yet, has put exactly the stated text, and has its names (`stated`). For Boolean
     /// terms `headline` says what the bytes mean that the sink got in this call, by the names that the encoder has then:
     /// they are a script by the grammar of SMT-LIB 2.7, each name is declared once and before its use, the assertions are
     /// the terms' texts in order, and the models are exactly the interpretations that make all terms true. `models` says
@@ -133,8 +135,8 @@ impl<S: Sink> Encoder<'_, S> {
     /// may come from any encoder that is not spent, where there is no memory left. Each of the four spends the encoder
     /// and says nothing of what the sink got.
     pub fn encode(&mut self, terms: &[Term]) -> Result<(), EncodeError>
-        ensures stated { HasNames self.old no_names → OnOk result (WroteText S.contents self.old self.new (map plain_term terms.now)) }
-        ensures headline { HasNames self.old no_names → AreBoolean (map plain_term terms.now) → OnOk result (OfReceived (S.contents (sink_of self.old)) (S.contents (sink_of self.new)) (λ bytes. OfNames self.new (λ names. Headline (enums_in self.old) names (map plain_term terms.now) bytes))) }
+        ensures stated { IsFresh self.old → OnOk result (WroteText S.contents self.old self.new (map plain_term terms.now)) }
+        ensures headline { IsFresh self.old → AreBoolean (map plain_term terms.now) → OnOk result (OfReceived (S.contents (sink_of self.old)) (S.contents (sink_of self.new)) (λ bytes. OfNames self.new (λ names. Headline (enums_in self.old) names (map plain_term terms.now) bytes))) }
         ensures models { AreBoolean (map plain_term terms.now) → OnOk result (Headline (enums_in self.old) (names (enums_in self.old) (map plain_term terms.now)) (map plain_term terms.now) (text (enums_in self.old) (map plain_term terms.now))) }
         ensures spent { Spends self.old self.new result }
         ensures refused { HasCause (S.faults (sink_of self.old)) (S.faults (sink_of self.new)) (first_fault (enums_in self.old) (map plain_term terms.now)) result }
@@ -162,8 +164,8 @@ impl<S: Sink> Encoder<'_, S> {
         steps: &mut Steps<L>,
     ) -> Result<(), EncodeError>
         requires stand { (ts : List PlainTerm) × StandFor (nodes_in self.old) ids.now ts }
-        ensures stated { (ts : List PlainTerm) → StandFor (nodes_in self.old) ids.now ts → HasNames self.old no_names → OnOk result (WroteText S.contents self.old self.new ts) }
-        ensures headline { (ts : List PlainTerm) → StandFor (nodes_in self.old) ids.now ts → HasNames self.old no_names → AreBoolean ts → OnOk result (OfReceived (S.contents (sink_of self.old)) (S.contents (sink_of self.new)) (λ bytes. OfNames self.new (λ names. Headline (enums_in self.old) names ts bytes))) }
+        ensures stated { (ts : List PlainTerm) → StandFor (nodes_in self.old) ids.now ts → IsFresh self.old → OnOk result (WroteText S.contents self.old self.new ts) }
+        ensures headline { (ts : List PlainTerm) → StandFor (nodes_in self.old) ids.now ts → IsFresh self.old → AreBoolean ts → OnOk result (OfReceived (S.contents (sink_of self.old)) (S.contents (sink_of self.new)) (λ bytes. OfNames self.new (λ names. Headline (enums_in self.old) names ts bytes))) }
         ensures models { (ts : List PlainTerm) → StandFor (nodes_in self.old) ids.now ts → AreBoolean ts → OnOk result (Headline (enums_in self.old) (names (enums_in self.old) ts) ts (text (enums_in self.old) ts)) }
         ensures spent { Spends self.old self.new result }
         ensures refused { (ts : List PlainTerm) → StandFor (nodes_in self.old) ids.now ts → HasCause (S.faults (sink_of self.old)) (S.faults (sink_of self.new)) (first_fault (enums_in self.old) ts) result }
@@ -195,7 +197,7 @@ impl<S: Sink> Encoder<'_, S> {
 
     /// Puts an assertion for each text, in order.
     fn put_assertions(&mut self, texts: &[Text]) -> Result<(), SinkError>
-        ensures lines { (s : Tables) (es : List Expression) → HasNames self.old s → AreSpelled es texts.now → OnOk result (Wrote S.contents self.old self.new (map Assert es) s) }
+        ensures lines { (s : Tables) (es : List Expression) → HasTables self.old s → AreSpelled es texts.now → OnOk result (Wrote S.contents self.old self.new (map Assert es) s) }
         ensures cause { FaultCounted S.faults S.place SinkError.Fault self.old self.new result }
     {
         for text in texts {
@@ -206,7 +208,7 @@ impl<S: Sink> Encoder<'_, S> {
 
     /// Puts the whole script of these terms.
     fn put_terms(&mut self, terms: &[Term]) -> Result<(), WriteError>
-        ensures lines { HasNames self.old no_names → OnOk result (Wrote S.contents self.old self.new (option_line ∷ (lines.encode (enums_in self.old) (map plain_term terms.now) no_names).lines) (names (enums_in self.old) (map plain_term terms.now))) }
+        ensures lines { HasTables self.old no_names → OnOk result (Wrote S.contents self.old self.new (option_line ∷ (lines.encode (enums_in self.old) (map plain_term terms.now) no_names).lines) (names (enums_in self.old) (map plain_term terms.now))) }
         ensures cause { FaultCounted S.faults S.place (WriteError.Sink SinkError.Fault) self.old self.new result }
         ensures fault { Finds write_fault (first_fault (enums_in self.old) (map plain_term terms.now)) result }
     {
@@ -220,7 +222,7 @@ impl<S: Sink> Encoder<'_, S> {
         requires parts { blank.parts ≡ L.parts }
         requires some { 0 < blank.parts }
         requires stand { (ts : List PlainTerm) × StandFor (nodes_in self.old) ids.now ts }
-        ensures lines { (ts : List PlainTerm) → StandFor (nodes_in self.old) ids.now ts → HasNames self.old no_names → OnOk result (Wrote S.contents self.old self.new (option_line ∷ (lines.encode (enums_in self.old) ts no_names).lines) (names (enums_in self.old) ts)) }
+        ensures lines { (ts : List PlainTerm) → StandFor (nodes_in self.old) ids.now ts → HasTables self.old no_names → OnOk result (Wrote S.contents self.old self.new (option_line ∷ (lines.encode (enums_in self.old) ts no_names).lines) (names (enums_in self.old) ts)) }
         ensures cause { FaultCounted S.faults S.place (WriteError.Sink SinkError.Fault) self.old self.new result }
         ensures fault { (ts : List PlainTerm) → StandFor (nodes_in self.old) ids.now ts → Finds write_fault (first_fault (enums_in self.old) ts) result }
     {
@@ -235,7 +237,7 @@ impl<S: Sink> Encoder<'_, S> {
         steps: &mut Steps<L>,
     ) -> Result<(), WriteError>
         requires stand { (ts : List PlainTerm) × StandFor (nodes_in self.old) ids.now ts }
-        ensures lines { (ts : List PlainTerm) → StandFor (nodes_in self.old) ids.now ts → HasNames self.old no_names → OnOk result (Wrote S.contents self.old self.new (option_line ∷ (lines.encode (enums_in self.old) ts no_names).lines) (names (enums_in self.old) ts)) }
+        ensures lines { (ts : List PlainTerm) → StandFor (nodes_in self.old) ids.now ts → HasTables self.old no_names → OnOk result (Wrote S.contents self.old self.new (option_line ∷ (lines.encode (enums_in self.old) ts no_names).lines) (names (enums_in self.old) ts)) }
         ensures cause { FaultCounted S.faults S.place (WriteError.Sink SinkError.Fault) self.old self.new result }
         ensures fault { (ts : List PlainTerm) → StandFor (nodes_in self.old) ids.now ts → Finds write_fault (first_fault (enums_in self.old) ts) result }
     {

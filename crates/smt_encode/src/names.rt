@@ -48,11 +48,12 @@ pub(crate) struct Names<'a> {
 }
 
 impl<'a> Names<'a> {
-    ghost use Rattle.smt_encode.specs.Names.{enums_under, nodes_under, texts_under, AreTables, HasRoom, StandsOn};
+    ghost use Rattle.smt_encode.specs.Names.{enums_under, nodes_under, texts_under, KeepTables, HasRoom, StandsOn};
 
     /// No names yet, for these nodes. Takes no memory.
     pub(crate) fn new(alloc: Global, enums: &'a EnumTable, nodes: Interner) -> Names<'a>
-        ensures none { AreTables result no_names }
+        ensures none { KeepTables result no_names }
+        ensures fresh { (id : NodeId) → text_at (texts_under result) id ≡ None }
         ensures enums { enums_under result ≡ enums_of enums.now }
         ensures nodes { nodes_under result ≡ nodes }
     {
@@ -117,7 +118,7 @@ impl<'a> Names<'a> {
     pub(crate) fn intern(&mut self, terms: &[Term]) -> Result<Vec<NodeId>, TermError>
         ensures meanings { IfOk result (λ ids. all_found (meanings (nodes_of (nodes_under self.new))) (places_of ids.items) ≡ Some (map TermMeaning (map plain_term terms.now))) }
         ensures kept { KeepsMeanings (nodes_under self.old) (nodes_under self.new) }
-        ensures tables { (s : Tables) → AreTables self.old s → AreTables self.new s }
+        ensures tables { (s : Tables) → KeepTables self.old s → KeepTables self.new s }
         ensures enums { enums_under self.new ≡ enums_under self.old }
     {
         numbers_of(self.alloc, &mut self.nodes, terms)
@@ -128,7 +129,7 @@ impl<'a> Names<'a> {
         ensures room { OnOk result (HasRoom self.new) }
         ensures nodes { nodes_under self.new ≡ nodes_under self.old }
         ensures texts { (id : NodeId) → text_at (texts_under self.new) id ≡ text_at (texts_under self.old) id }
-        ensures tables { (s : Tables) → AreTables self.old s → AreTables self.new s }
+        ensures tables { (s : Tables) → KeepTables self.old s → KeepTables self.new s }
         ensures enums { enums_under self.new ≡ enums_under self.old }
     {
         self.texts.make_room(self.nodes.len())
@@ -136,7 +137,7 @@ impl<'a> Names<'a> {
 
     /// The name of the next entry.
     pub(crate) fn next(&self) -> Result<Text, AllocError>
-        ensures { (s : Tables) → AreTables self.now s → IfOk result (λ name. rc_str_bytes name ≡ next_term s) }
+        ensures { (s : Tables) → KeepTables self.now s → IfOk result (λ name. rc_str_bytes name ≡ next_term s) }
     {
         term_name(self.alloc, self.texts.named())
     }
@@ -147,7 +148,7 @@ impl<'a> Names<'a> {
         requires unkept { text_at (texts_under self.old) id ≡ None }
         requires meant { IsMeant (nodes_under self.old) id }
         requires sound { (m : Meaning) → meaning_in (nodes_under self.old) id ≡ Some m → meaning_fault (enums_under self.old) m ≡ None }
-        ensures tables { (s : Tables) (m : Meaning) → AreTables self.old s → meaning_in (nodes_under self.old) id ≡ Some m → has_entry m ≡ false → IsText (enums_under self.old) s m (rc_str_bytes text) → AreTables self.new s }
+        ensures tables { (s : Tables) (m : Meaning) → KeepTables self.old s → meaning_in (nodes_under self.old) id ≡ Some m → has_entry m ≡ false → IsText (enums_under self.old) s m (rc_str_bytes text) → KeepTables self.new s }
         ensures stands { StandsOn self.old self.new }
         ensures kept { IsKept (texts_under self.old).texts.items (texts_under self.new).texts.items (place_of id) (rc_str_bytes text) }
     {
@@ -160,8 +161,8 @@ impl<'a> Names<'a> {
         requires unkept { text_at (texts_under self.old) id ≡ None }
         requires meant { IsMeant (nodes_under self.old) id }
         requires sound { (m : Meaning) → meaning_in (nodes_under self.old) id ≡ Some m → meaning_fault (enums_under self.old) m ≡ None }
-        ensures tables { (s : Tables) (t : PlainTerm) → AreTables self.old s → meaning_in (nodes_under self.old) id ≡ Some (TermMeaning t) → IsTrue (has_entry (TermMeaning t)) →
-            AreTables self.new (record s { terms = s.terms ++ (t, rc_str_bytes name) ∷ [] }) }
+        ensures tables { (s : Tables) (t : PlainTerm) → KeepTables self.old s → meaning_in (nodes_under self.old) id ≡ Some (TermMeaning t) → IsTrue (has_entry (TermMeaning t)) →
+            KeepTables self.new (record s { terms = s.terms ++ (t, rc_str_bytes name) ∷ [] }) }
         ensures stands { StandsOn self.old self.new }
         ensures kept { IsKept (texts_under self.old).texts.items (texts_under self.new).texts.items (place_of id) (rc_str_bytes name) }
     {

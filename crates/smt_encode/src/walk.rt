@@ -31,8 +31,8 @@ use std::sync::ledger::Ledger;
 
 impl<S: Sink> Encoder<'_, S> {
     ghost use Rattle.smt_encode.specs.Names.{HasRoom};
-    ghost use Rattle.smt_encode.specs.Encoded.{enums_in, nodes_in, texts_in, HasNames};
-    ghost use Rattle.smt_encode.specs.Steps.{AreSpelled, IsSpelled, WritesHere, WritesStated, Walks};
+    ghost use Rattle.smt_encode.specs.Encoded.{enums_in, nodes_in, texts_in};
+    ghost use Rattle.smt_encode.specs.Steps.{AreSpelled, HasTables, IsSpelled, Walks, WritesHere, WritesStated};
 
     /// The text of a node: the one that it has, or else a new one, behind the lines that it needs.
     #[cycle(walk)]
@@ -115,9 +115,9 @@ impl<S: Sink> Encoder<'_, S> {
         requires rendered { (m : Meaning) → meaning_in (nodes_in self.old) id ≡ Some m → plain_rendering rendering ≡ rendering_in m }
         requires count { (m : Meaning) → meaning_in (nodes_in self.old) id ≡ Some m → length texts.items ≡ length (written_parts (rendering_in m) (parts_in m)) }
         requires sound { (m : Meaning) → meaning_in (nodes_in self.old) id ≡ Some m → meanings_fault (enums_in self.old) (written_parts (rendering_in m) (parts_in m)) ≡ None }
-        requires written { (m : Meaning) (s : Tables) → meaning_in (nodes_in self.old) id ≡ Some m → HasNames self.old s →
+        requires written { (m : Meaning) (s : Tables) → meaning_in (nodes_in self.old) id ≡ Some m → HasTables self.old s →
             (es : List Expression) × AreSpelled es texts.items × (encode_meanings (enums_in self.old) (written_parts (rendering_in m) (parts_in m)) s ≡ made_of es s) }
-        ensures lines { (m : Meaning) (es : List Expression) (s : Tables) → meaning_in (nodes_in self.old) id ≡ Some m → AreSpelled es texts.items → HasNames self.old s → WritesHere S.contents self.old self.new (own_lines m es s) IsSpelled result }
+        ensures lines { (m : Meaning) (es : List Expression) (s : Tables) → meaning_in (nodes_in self.old) id ≡ Some m → AreSpelled es texts.items → HasTables self.old s → WritesHere S.contents self.old self.new (own_lines m es s) IsSpelled result }
         ensures fault { (m : Meaning) → meaning_in (nodes_in self.old) id ≡ Some m → Finds write_fault (meaning_fault (enums_in self.old) m) result }
         ensures walks { Walks S.faults S.place (WriteError.Sink SinkError.Fault) (suc (place_of id)) self.old self.new result }
         ensures kept { IfOk result (λ text. text_at (texts_in self.new) id ≡ Some (rc_str_bytes text)) }
@@ -141,7 +141,7 @@ impl<S: Sink> Encoder<'_, S> {
         requires room { HasRoom self.old.names }
         requires unkept { text_at (texts_in self.old) id ≡ None }
         requires sound { (m : Meaning) → meaning_in (nodes_in self.old) id ≡ Some m → meaning_fault (enums_in self.old) m ≡ None }
-        ensures lines { (t : PlainTerm) (s : Tables) (e : Expression) (p : PlainEntry) → meaning_in (nodes_in self.old) id ≡ Some (TermMeaning t) → IsTrue (has_entry (TermMeaning t)) → HasNames self.old s → sort.now ≡ spelled e → SaysEntry p entry.now →
+        ensures lines { (t : PlainTerm) (s : Tables) (e : Expression) (p : PlainEntry) → meaning_in (nodes_in self.old) id ≡ Some (TermMeaning t) → IsTrue (has_entry (TermMeaning t)) → HasTables self.old s → sort.now ≡ spelled e → SaysEntry p entry.now →
             WritesHere S.contents self.old self.new (enter_by p t e s) IsSpelled result }
         ensures fault { Finds write_fault None result }
         ensures walks { Walks S.faults S.place (WriteError.Sink SinkError.Fault) (suc (place_of id)) self.old self.new result }
@@ -155,7 +155,7 @@ impl<S: Sink> Encoder<'_, S> {
 
     /// The name of an entry.
     fn name_for(&self, entry: &Entry) -> Result<Text, AllocError>
-        ensures { (s : Tables) (p : PlainEntry) → HasNames self.now s → SaysEntry p entry.now → IfOk result (λ name. rc_str_bytes name ≡ entry_name p s) }
+        ensures { (s : Tables) (p : PlainEntry) → HasTables self.now s → SaysEntry p entry.now → IfOk result (λ name. rc_str_bytes name ≡ entry_name p s) }
     {
         match entry {
             Entry::Constant(_) | Entry::Body(_) => self.names.next(),

@@ -6,10 +6,10 @@ use Rattle.smt_nodes.specs.Interned.{nodes_of}
 use Rattle.smt_nodes.specs.View.{place_of, places_of}
 use Rattle.smt_lines.specs.NameTables.{Tables}
 use Rattle.smt_script.specs.declared.sink.SinkError.TheVariants.{Fault}
-use Rattle.smt_encode.specs.Encoded.{enums_in, nodes_in, texts_in, HasNames}
+use Rattle.smt_encode.specs.Encoded.{enums_in, nodes_in, texts_in}
 use Rattle.smt_encode.specs.NodeLines.{meanings_fault}
 use Rattle.smt_encode.specs.NodeTexts.{text_at}
-use Rattle.smt_encode.specs.Steps.{Walks}
+use Rattle.smt_encode.specs.Steps.{HasTables, Walks}
 use Rattle.smt_encode.specs.declared.error.WriteError.TheVariants.{Sink}
 use Rattle.smt_encode.proofs.Going.{Going}
 use Rattle.smt_encode.proofs.encoder.Encoder.+walk.Given as goal
@@ -27,7 +27,7 @@ decreases-encode_all g l = 3 * l.before
 abbrev pub invariant-encode_all-loop-id : goal.invariant-encode_all-loop-id
 invariant-encode_all-loop-id g l = record {
   walks : Walks {T = Unit {0}} g.S.Sink.faults g.S.Sink.place (Sink Fault) l.before l.fn.self l.self (Ok tt);
-  going : (ms : List Meaning) → all_found (meanings (nodes_of (nodes_in l.fn.self))) (places_of l.ids) ≡ Some ms → (s : Tables) → HasNames l.fn.self s → Going g.S.Sink.contents (enums_in l.fn.self) l.fn.self l.self (drop l.id-index ms) ms l.texts.items s;
+  going : (ms : List Meaning) → all_found (meanings (nodes_of (nodes_in l.fn.self))) (places_of l.ids) ≡ Some ms → (s : Tables) → HasTables l.fn.self s → Going g.S.Sink.contents (enums_in l.fn.self) l.fn.self l.self (drop l.id-index ms) ms l.texts.items s;
   fault : (ms : List Meaning) → all_found (meanings (nodes_of (nodes_in l.fn.self))) (places_of l.ids) ≡ Some ms → meanings_fault (enums_in l.fn.self) ms ≡ meanings_fault (enums_in l.fn.self) (drop l.id-index ms);
   kept : map (text_at (texts_in l.self)) (take l.id-index l.ids) ≡ map (λ text. Some (rc_str_bytes text)) l.texts.items;
   count : length l.texts.items ≡ l.id-index;

@@ -8,7 +8,7 @@ use Rattle.smt_encode.specs.Entries.{entry_by, entry_fault, has_inline, inline_b
 use Rattle.smt_encode.specs.Refusals.{write_fault, Finds}
 use Rattle.smt_encode.specs.NodeLines.{meaning_fault}
 use Rattle.smt_encode.specs.NodeTexts.{IsText}
-use Rattle.smt_encode.specs.Names.{AreTables}
+use Rattle.smt_encode.specs.Names.{KeepTables}
 use Rattle.smt_encode.specs.Steps.{AreSpelled}
 use Rattle.smt_meaning.specs.Faults.{Fault}
 use Rattle.smt_lexicon.specs.Reading.{Expression}
@@ -97,7 +97,7 @@ returns-in_ok-clone-in-Some-clause-lines g c m es s meant shown has =
     (subst (λ (o : Option (RcStr Global)). SaysInline (inline_by (plain_label c.args.node.now.label) xs) o) c.in-Some.is (c.in_ok-text.ensures.text xs (ap (map rc_str_bytes) c.as_slice.ensures.value ∙ h))) in
     let (parts, parts_shown, parts_stated) = c.requires.written m s meant has in
     let text = inline_stated enums m s c.in-Some.text parts built (unnamed c.args.self.now.names s has c.args.id m meant c.requires.unkept) parts_stated (says parts parts_shown) in
-    let names : AreTables c.keep.new.self s = c.keep.ensures.tables s m has meant (no_entry m (length c.as_slice.result.now) there) (subst (λ (b : List ℕ). IsText enums s m b) (sym c.in_ok-clone-in-Some.ensures.cases) text) in
+    let names : KeepTables c.keep.new.self s = c.keep.ensures.tables s m has meant (no_entry m (length c.as_slice.result.now) there) (subst (λ (b : List ℕ). IsText enums s m b) (sym c.in_ok-clone-in-Some.ensures.cases) text) in
     let (e, is, spells) = says_some (inline_by (label_in m) es) c.in-Some.text (says es shown) in
     rw (inline_lines m s es e is) (record { names = names; contents_are = appends_nothing (g.S.Sink.contents c.args.self.now.script) }, spells)
 
