@@ -1,6 +1,7 @@
 pub mod Bracketed
 pub mod Built
 pub mod Conditions
+pub mod Counted
 pub mod Entered
 pub mod Faulted
 pub mod Faulting

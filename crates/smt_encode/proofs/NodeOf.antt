@@ -17,6 +17,7 @@ pub is_node_of : (i : Interner) (id : NodeId) (node copy : Node) → slice_get (
 is_node_of i id node copy there same =
     let here : slice_get (nodes_of i) (place_of id) ≡ Some (plain_node copy) = there ∙ ap Some (sym same) in
     record {
+      there = here;
       label = λ m h. let e = label_is (nodes_of i) i.graph (place_of id) (plain_node copy) here ∙ ap (option_map label_in) h in cc;
       parts = λ m h.
           let P : Option Meaning → Type 0 = λ o. IfSome o (λ m. all_found (meanings (nodes_of i)) (places_of (ids_of copy.parts)) ≡ Some (parts_in m)) in

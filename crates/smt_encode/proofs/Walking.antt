@@ -19,7 +19,7 @@ use Rattle.smt_lines.specs.NameTables.{Tables}
 use Rattle.smt_encode.specs.Entries.{rendering_in, written_parts}
 use Rattle.smt_encode.proofs.Lines.{binds}
 use Rattle.smt_encode.proofs.Rendered.{found_length}
-use Rattle.smt_nodes.specs.View.{ids_of, place_of, places_of}
+use Rattle.smt_nodes.specs.View.{ids_of, place_of, places_of, plain_node}
 use Rattle.smt_nodes.specs.declared.id.NodeId.{NodeId}
 use Rattle.smt_encode.specs.Encoded.{texts_in}
 use Rattle.smt_encode.specs.Names.{HasRoom, StandsOn}
@@ -28,11 +28,15 @@ use Rattle.smt_encode.specs.Steps.{FaultCounted, Walks, WritesHere, Wrote}
 use Rattle.smt_encode.specs.declared.encoder.Encoder.{Encoder}
 use Rattle.smt_encode.specs.declared.names.Names.{Names}
 
+-- what holds of the places of a list holds of one of them
+pub holds_at : (P : ℕ → Type 0) (ids : List NodeId) (i : ℕ) (d : NodeId) → AllByRecursion P (places_of ids) → i < length ids → P (place_of (get_or ids i d))
+holds_at P [] i d h b = absurd (omega (arith, b))
+holds_at P (id ∷ ids) zero d h b = h.0
+holds_at P (id ∷ ids) (suc i) d h b = holds_at P ids i d h.1 (omega (arith, b))
+
 -- a number of a list stands before the place
 pub earlier_at : (before : ℕ) (ids : List NodeId) (i : ℕ) (d : NodeId) → AllByRecursion (λ place. place < before) (places_of ids) → i < length ids → place_of (get_or ids i d) < before
-earlier_at before [] i d h b = absurd (omega (arith, b))
-earlier_at before (id ∷ ids) zero d h b = h.0
-earlier_at before (id ∷ ids) (suc i) d h b = earlier_at before ids i d h.1 (omega (arith, b))
+earlier_at before = holds_at (λ place. place < before)
 
 pub stands_then : {a b c : Names} → StandsOn a b → StandsOn b c → StandsOn a c
 stands_then p q = record { enums = q.enums ∙ p.enums; nodes = q.nodes ∙ p.nodes; room = q.room ∙ p.room }
@@ -85,11 +89,17 @@ written_found ms AsFalse (id ∷ ids) ps h =
     let (more, f, same) = map_back (λ more. m ∷ more) (all_found ms (places_of ids)) ps g in
     ap (option_and_then (λ m. Some (m ∷ []))) e ∙ ap (λ l. Some (take 1 l)) same
 
-written_earlier : (before : ℕ) (how : Rendering) (ids : List NodeId) → AllByRecursion (λ place. place < before) (places_of ids) → AllByRecursion (λ place. place < before) (places_of (written_parts how ids))
-written_earlier before AsApplication ids h = h
-written_earlier before (AsEqualsIntMin width) ids h = h
-written_earlier before AsFalse [] h = h
-written_earlier before AsFalse (id ∷ ids) h = (h.0, tt)
+written_all : (P : ℕ → Type 0) (how : Rendering) (ids : List NodeId) → AllByRecursion P (places_of ids) → AllByRecursion P (places_of (written_parts how ids))
+written_all P AsApplication ids h = h
+written_all P (AsEqualsIntMin width) ids h = h
+written_all P AsFalse [] h = h
+written_all P AsFalse (id ∷ ids) h = (h.0, tt)
+
+written_fewer : (how : Rendering) (ids : List NodeId) → length (written_parts how ids) ≤ length ids
+written_fewer AsApplication ids = omega (arith)
+written_fewer (AsEqualsIntMin width) ids = omega (arith)
+written_fewer AsFalse [] = omega (arith)
+written_fewer AsFalse (id ∷ ids) = omega (arith)
 
 module _ (i : Interner) (id : NodeId) (node : Node) (is : IsNodeOf i id node) (m : Meaning) (meant : meaning_in i id ≡ Some m) (how : Rendering) (rendered : how ≡ rendering_in m) (ids written : List NodeId) (all : ids ≡ ids_of node.parts) (taken : written ≡ written_parts how ids) where
   pub parts_found : all_found (meanings (nodes_of i)) (places_of written) ≡ Some (written_parts (rendering_in m) (parts_in m))
@@ -98,10 +108,18 @@ module _ (i : Interner) (id : NodeId) (node : Node) (is : IsNodeOf i id node) (m
       ∙ written_found (meanings (nodes_of i)) how (ids_of node.parts) (parts_in m) (is.parts m meant)
       ∙ ap (λ r. Some (written_parts r (parts_in m))) rendered
 
+  pub parts_hold : (P : ℕ → Type 0) → AllByRecursion P (places_of (ids_of node.parts)) → AllByRecursion P (places_of written)
+  parts_hold P h = subst (λ (l : List NodeId). AllByRecursion P (places_of l)) (sym (taken ∙ ap (written_parts how) all)) (written_all P how (ids_of node.parts) h)
+
   pub parts_earlier : (before : ℕ) → before ≡ place_of id → AllByRecursion (λ place. place < before) (places_of written)
-  parts_earlier before same =
-      subst (λ (l : List NodeId). AllByRecursion (λ place. place < before) (places_of l)) (sym (taken ∙ ap (written_parts how) all))
-      (written_earlier before how (ids_of node.parts) (subst (λ (b : ℕ). AllByRecursion (λ place. place < b) (places_of (ids_of node.parts))) (sym same) is.earlier))
+  parts_earlier before same = parts_hold (λ place. place < before) (subst (λ (b : ℕ). AllByRecursion (λ place. place < b) (places_of (ids_of node.parts))) (sym same) is.earlier)
+
+  pub parts_fewer : length written ≤ length (plain_node node).parts
+  parts_fewer =
+      let e = ap length (taken ∙ ap (written_parts how) all) in
+      let f = written_fewer how (ids_of node.parts) in
+      let n = length-map (ids_of node.parts) place_of in
+      omega (arith, e, f, n)
 
   pub parts_count : length written ≡ length (written_parts (rendering_in m) (parts_in m))
   parts_count = sym (length-map written place_of) ∙ sym (found_length (meanings (nodes_of i)) (places_of written) (written_parts (rendering_in m) (parts_in m)) parts_found)

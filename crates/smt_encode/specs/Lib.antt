@@ -1,6 +1,8 @@
 pub mod Encoded
 pub mod Entries
 pub mod Errors
+pub mod LookUpRows
+pub mod LookUps
 pub mod Names
 pub mod NodeLines
 pub mod NodeTexts

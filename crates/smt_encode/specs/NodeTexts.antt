@@ -1,5 +1,5 @@
 -- The texts that are kept for nodes.
-use Rattle.std.specs.Prelude.{ℕ, ◌≡◌, ◌≤◌, ◌<◌, IsTrue, List, Option, Some, None, is_none, is_some, length, map}
+use Rattle.std.specs.Prelude.{ℕ, ◌≡◌, ◌≤◌, ◌<◌, IsTrue, List, Option, Some, None, is_none, is_some, length, map, slice_get}
 use Rattle.std.specs.List.{AllByRecursion}
 use Rattle.smt_meaning.specs.Plain.{PlainTerm}
 use Rattle.smt_meaning.specs.TypeValues.{Enums}
@@ -7,7 +7,7 @@ use Rattle.smt_graph.specs.Meanings.{all_found, meanings}
 use Rattle.smt_graph.specs.Nodes.{Meaning, TermMeaning}
 use Rattle.smt_graph.specs.Parts.{label_in, parts_in}
 use Rattle.smt_nodes.specs.Interned.{meaning_in, nodes_of}
-use Rattle.smt_nodes.specs.View.{ids_of, place_of, places_of, plain_label}
+use Rattle.smt_nodes.specs.View.{ids_of, place_of, places_of, plain_label, plain_node}
 use Rattle.smt_nodes.specs.declared.id.NodeId.{NodeId}
 use Rattle.smt_nodes.specs.declared.interner.Interner.{Interner}
 use Rattle.smt_nodes.specs.declared.node.Node.{Node}
@@ -39,6 +39,7 @@ pub record AreSound (enums : Enums) (nodes : Interner) (names : NodeNames) : Typ
 
 -- The node of a number: its label and the numbers of its parts, which stand before it.
 pub record IsNodeOf (nodes : Interner) (id : NodeId) (node : Node) : Type 0 where
+  pub there : slice_get (nodes_of nodes) (place_of id) ≡ Some (plain_node node)
   pub label : (m : Meaning) → meaning_in nodes id ≡ Some m → plain_label node.label ≡ label_in m
   pub parts : (m : Meaning) → meaning_in nodes id ≡ Some m → all_found (meanings (nodes_of nodes)) (places_of (ids_of node.parts)) ≡ Some (parts_in m)
   pub earlier : AllByRecursion (λ place. place < place_of id) (places_of (ids_of node.parts))

@@ -1,5 +1,5 @@
 -- What the private calls of an encoder leave: lines that the sink got, and the names afterwards.
-use Rattle.std.specs.Prelude.{ℕ, ◌≡◌, ◌≤◌, List, Option, Some, Result, IfOk, OnOk, IsErrOf, map}
+use Rattle.std.specs.Prelude.{ℕ, ◌≡◌, ◌≤◌, Bool, List, Option, Some, Result, IfOk, OnOk, IsErrOf, map}
 use Rattle.std.specs.Io.KnownBytes.{append_known}
 use Rattle.std.specs.Rc.{rc_str_bytes}
 use Rattle.std.specs.declared.alloc.Global.{Global}
@@ -15,7 +15,8 @@ use Rattle.smt_nodes.specs.View.{place_of}
 use Rattle.smt_nodes.specs.declared.id.NodeId.{NodeId}
 use Rattle.smt_encode.specs.Names.{KeepTables, StandsOn}
 use Rattle.smt_encode.specs.NodeTexts.{text_at}
-use Rattle.smt_encode.specs.Encoded.{texts_in, Keeps}
+use Rattle.smt_encode.specs.Encoded.{nodes_in, texts_in, Keeps}
+use Rattle.smt_encode.specs.LookUps.{edges_left}
 
 -- The texts of an encoder are those of these tables.
 abbrev pub HasTables : {S : Type 0} → Encoder S → Tables → Type 0
@@ -58,3 +59,7 @@ pub record Walks {S T E : Type 0} (faults : S → ℕ) (place : S → List ℕ) 
   pub stands : StandsOn old.names new.names
   pub kept : (id : NodeId) (text : List ℕ) → text_at (texts_in old) id ≡ Some text → text_at (texts_in new) id ≡ Some text
   pub later : (id : NodeId) → behind ≤ place_of id → text_at (texts_in new) id ≡ text_at (texts_in old) id
+
+-- how many parts the nodes of a set have that an encoder did not write yet
+abbrev pub edges_in : {S : Type 0} → (ℕ → Bool) → Encoder S → ℕ
+edges_in has e = edges_left has (nodes_in e) (texts_in e)

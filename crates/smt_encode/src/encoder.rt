@@ -1,5 +1,5 @@
 // The encoder, from terms to the lines of a script.
-ghost use Rattle.std.specs.Prelude.{List, ◌≡◌, ◌∷◌, ◌<◌, false, OnOk, None, map, option_map};
+ghost use Rattle.std.specs.Prelude.{ℕ, List, ◌≡◌, ◌∷◌, ◌<◌, ◌≤◌, ◌+◌, Bool, IsTrue, false, length, OnOk, None, map, option_map};
 ghost use Rattle.std.specs.Rc.{rc_str_bytes};
 ghost use Rattle.smt_term.specs.Enums.{enums_of};
 ghost use Rattle.smt_meaning.specs.Faults.{first_fault};
@@ -13,7 +13,11 @@ ghost use Rattle.smt_lines.specs.Lines.{option_line};
 ghost use Rattle.smt_lines.specs.NameTables.{Tables, no_names};
 ghost use Rattle.smt_lines.specs.Text.{names, text};
 ghost use Rattle.smt_headline.specs.Headline.{Headline};
+ghost use Rattle.smt_encode.specs.LookUps.{edges, IsClosed};
 ghost use Rattle.smt_encode.specs.NodeTexts.{StandFor};
+ghost use Rattle.smt_nodes.specs.Interned.{nodes_of};
+ghost use Rattle.smt_nodes.specs.View.{places_of};
+ghost use Rattle.std.specs.List.{AllByRecursion};
 ghost use Rattle.smt_encode.specs.Refusals.{write_fault, Finds, HasCause, IsComplete};
 
 use crate::error::{EncodeError, WriteError};
@@ -155,6 +159,9 @@ impl<S: Sink> Encoder<'_, S> {
     /// Writes the script of the terms for which these numbers of its nodes stand, in order, as `encode` does for the terms,
     /// and counts its look-ups of nodes.
     ///
+    /// After Ok there are at most as many look-ups as numbers that were given and parts of nodes together, of the nodes
+    /// to which these numbers lead (`steps`, of any set of nodes that has these and the parts of its own).
+    ///
     /// # Errors
     ///
     /// Those of `encode` for these terms.
@@ -170,6 +177,7 @@ impl<S: Sink> Encoder<'_, S> {
         ensures spent { Spends self.old self.new result }
         ensures refused { (ts : List PlainTerm) → StandFor (nodes_in self.old) ids.now ts → HasCause (S.faults (sink_of self.old)) (S.faults (sink_of self.new)) (first_fault (enums_in self.old) ts) result }
         ensures complete { (ts : List PlainTerm) → StandFor (nodes_in self.old) ids.now ts → IsComplete (is_spent self.old) (S.faults (sink_of self.old)) (S.faults (sink_of self.new)) (first_fault (enums_in self.old) ts) result }
+        ensures steps { (has : ℕ → Bool) → IsClosed (nodes_of (nodes_in self.old)) has → AllByRecursion (λ place. IsTrue (has place)) (places_of ids.now) → OnOk result (steps.new ≤ steps.old + length ids.now + edges has (nodes_of (nodes_in self.old))) }
         ensures kept { Keeps S.faults S.place self.old self.new }
     {
         if self.begun || self.failed {
@@ -240,6 +248,7 @@ impl<S: Sink> Encoder<'_, S> {
         ensures lines { (ts : List PlainTerm) → StandFor (nodes_in self.old) ids.now ts → HasTables self.old no_names → OnOk result (Wrote S.contents self.old self.new (option_line ∷ (lines.encode (enums_in self.old) ts no_names).lines) (names (enums_in self.old) ts)) }
         ensures cause { FaultCounted S.faults S.place (WriteError.Sink SinkError.Fault) self.old self.new result }
         ensures fault { (ts : List PlainTerm) → StandFor (nodes_in self.old) ids.now ts → Finds write_fault (first_fault (enums_in self.old) ts) result }
+        ensures steps { (has : ℕ → Bool) → IsClosed (nodes_of (nodes_in self.old)) has → AllByRecursion (λ place. IsTrue (has place)) (places_of ids.now) → OnOk result (steps.new ≤ steps.old + length ids.now + edges has (nodes_of (nodes_in self.old))) }
     {
         self.names.make_room()?;
         self.put_option()?;

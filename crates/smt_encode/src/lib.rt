@@ -24,6 +24,7 @@
 mod encoder;
 mod entry;
 mod error;
+pub mod laws;
 mod names;
 mod node_names;
 mod pattern;

@@ -1,5 +1,5 @@
 // The lines of nodes, each behind those of its parts.
-ghost use Rattle.std.specs.Prelude.{ℕ, List, ◌≡◌, ◌<◌, ◌≤◌, ◌+◌, None, Some, IfOk, IsTrue, length, map, suc};
+ghost use Rattle.std.specs.Prelude.{ℕ, List, ◌≡◌, ◌<◌, ◌≤◌, ◌+◌, Bool, None, OnOk, Some, IfOk, IsTrue, length, map, suc};
 ghost use Rattle.std.specs.List.{AllByRecursion};
 ghost use Rattle.std.specs.Rc.{rc_str_bytes};
 ghost use Rattle.smt_graph.specs.Meanings.{all_found, meanings};
@@ -14,6 +14,7 @@ ghost use Rattle.smt_lines.specs.NameTables.{Tables};
 ghost use Rattle.smt_lines.specs.Spelling.{spelled};
 ghost use Rattle.smt_encode.specs.NodeLines.{encode_meaning, encode_meanings, has_entry, meaning_fault, meanings_fault};
 ghost use Rattle.smt_encode.specs.Entries.{enter_by, entry_name, own_lines, rendering_in, written_parts, PlainEntry, SaysEntry};
+ghost use Rattle.smt_encode.specs.LookUps.{IsClosed};
 ghost use Rattle.smt_encode.specs.NodeTexts.{text_at, IsNodeOf};
 ghost use Rattle.smt_encode.specs.Refusals.{write_fault, Finds};
 ghost use Rattle.smt_encode.specs.Renderings.{plain_rendering};
@@ -32,7 +33,7 @@ use std::sync::ledger::Ledger;
 impl<S: Sink> Encoder<'_, S> {
     ghost use Rattle.smt_encode.specs.Names.{HasRoom};
     ghost use Rattle.smt_encode.specs.Encoded.{enums_in, nodes_in, texts_in};
-    ghost use Rattle.smt_encode.specs.Steps.{AreSpelled, HasTables, IsSpelled, Walks, WritesHere, WritesStated};
+    ghost use Rattle.smt_encode.specs.Steps.{edges_in, AreSpelled, HasTables, IsSpelled, Walks, WritesHere, WritesStated};
 
     /// The text of a node: the one that it has, or else a new one, behind the lines that it needs.
     #[cycle(walk)]
@@ -47,6 +48,7 @@ impl<S: Sink> Encoder<'_, S> {
         ensures fault { (m : Meaning) → meaning_in (nodes_in self.old) id ≡ Some m → Finds write_fault (meaning_fault (enums_in self.old) m) result }
         ensures walks { Walks S.faults S.place (WriteError.Sink SinkError.Fault) (suc (place_of id)) self.old self.new result }
         ensures kept { IfOk result (λ text. text_at (texts_in self.new) id ≡ Some (rc_str_bytes text)) }
+        ensures steps { (has : ℕ → Bool) → IsClosed (nodes_of (nodes_in self.old)) has → IsTrue (has (place_of id)) → OnOk result (steps.new + edges_in has self.new ≤ suc steps.old + edges_in has self.old) }
     {
         match self.names.text(id, steps) {
             Some(text) => Ok(text.clone()?),
@@ -68,6 +70,7 @@ impl<S: Sink> Encoder<'_, S> {
         ensures fault { (m : Meaning) → meaning_in (nodes_in self.old) id ≡ Some m → Finds write_fault (meaning_fault (enums_in self.old) m) result }
         ensures walks { Walks S.faults S.place (WriteError.Sink SinkError.Fault) (suc (place_of id)) self.old self.new result }
         ensures kept { IfOk result (λ text. text_at (texts_in self.new) id ≡ Some (rc_str_bytes text)) }
+        ensures steps { (has : ℕ → Bool) → IsClosed (nodes_of (nodes_in self.old)) has → IsTrue (has (place_of id)) → OnOk result (steps.new + edges_in has self.new ≤ steps.old + edges_in has self.old) }
     {
         let node = self.names.node(id)?;
         let rendering = rendering_of(self.names.nodes(), &node);
@@ -92,6 +95,7 @@ impl<S: Sink> Encoder<'_, S> {
         ensures walks { Walks S.faults S.place (WriteError.Sink SinkError.Fault) before self.old self.new result }
         ensures count { IfOk result (λ texts. length texts.items ≡ length ids.now) }
         ensures kept { IfOk result (λ texts. map (text_at (texts_in self.new)) ids.now ≡ map (λ text. Some (rc_str_bytes text)) texts.items) }
+        ensures steps { (has : ℕ → Bool) → IsClosed (nodes_of (nodes_in self.old)) has → AllByRecursion (λ place. IsTrue (has place)) (places_of ids.now) → OnOk result (steps.new + edges_in has self.new ≤ steps.old + length ids.now + edges_in has self.old) }
     {
         let mut texts = Vec::with_capacity(self.alloc, ids.len())?;
         for id in ids {

@@ -1,4 +1,5 @@
-use Rattle.std.proofs.Common.{◌≡◌, ◌+◌, ◌*◌, List, Ok, Some, drop, length, map, take}
+use Rattle.std.proofs.Common.{◌≡◌, ◌+◌, ◌*◌, ◌≤◌, ℕ, Bool, IsTrue, List, Ok, Some, drop, length, map, take}
+use Rattle.std.specs.List.{AllByRecursion}
 use Rattle.std.specs.Rc.{rc_str_bytes}
 use Rattle.smt_graph.specs.Meanings.{all_found, meanings}
 use Rattle.smt_graph.specs.Nodes.{Meaning}
@@ -9,7 +10,8 @@ use Rattle.smt_script.specs.declared.sink.SinkError.TheVariants.{Fault}
 use Rattle.smt_encode.specs.Encoded.{enums_in, nodes_in, texts_in}
 use Rattle.smt_encode.specs.NodeLines.{meanings_fault}
 use Rattle.smt_encode.specs.NodeTexts.{text_at}
-use Rattle.smt_encode.specs.Steps.{HasTables, Walks}
+use Rattle.smt_encode.specs.LookUps.{IsClosed}
+use Rattle.smt_encode.specs.Steps.{edges_in, HasTables, Walks}
 use Rattle.smt_encode.specs.declared.error.WriteError.TheVariants.{Sink}
 use Rattle.smt_encode.proofs.Going.{Going}
 use Rattle.smt_encode.proofs.encoder.Encoder.+walk.Given as goal
@@ -23,7 +25,7 @@ decreases-encode_new g l = 3 * place_of l.id + 1
 abbrev pub decreases-encode_all : goal.decreases-encode_all
 decreases-encode_all g l = 3 * l.before
 
--- What was written so far and what is stated of the nodes that are left are what is stated of all, and so it is with their first fault. The texts so far are kept.
+-- What was written so far and what is stated of the nodes that are left are what is stated of all, and so it is with their first fault. The texts so far are kept. Each look-up went along an edge that is not left, or to one of the numbers.
 abbrev pub invariant-encode_all-loop-id : goal.invariant-encode_all-loop-id
 invariant-encode_all-loop-id g l = record {
   walks : Walks {T = Unit {0}} g.S.Sink.faults g.S.Sink.place (Sink Fault) l.before l.fn.self l.self (Ok tt);
@@ -31,4 +33,5 @@ invariant-encode_all-loop-id g l = record {
   fault : (ms : List Meaning) → all_found (meanings (nodes_of (nodes_in l.fn.self))) (places_of l.ids) ≡ Some ms → meanings_fault (enums_in l.fn.self) ms ≡ meanings_fault (enums_in l.fn.self) (drop l.id-index ms);
   kept : map (text_at (texts_in l.self)) (take l.id-index l.ids) ≡ map (λ text. Some (rc_str_bytes text)) l.texts.items;
   count : length l.texts.items ≡ l.id-index;
+  steps : (has : ℕ → Bool) → IsClosed (nodes_of (nodes_in l.fn.self)) has → AllByRecursion (λ place. IsTrue (has place)) (places_of l.ids) → l.steps + edges_in has l.self ≤ l.fn.steps + l.id-index + edges_in has l.fn.self;
 }

@@ -25,6 +25,9 @@ returns-clause-models g c ts stand typed =
     node_headline c.args.self.now.names.enums.now (nodes_in c.args.self.now) c.args.ids.now ts stand typed
     (ok_without_fault (enums_in c.args.self.now) ts c.put_nodes-outcome.result c.in_ok-outcome.field-0 c.in_ok-outcome.was (c.put_nodes-outcome.ensures.fault ts stand))
 
+pub returns-clause-steps : goal.returns-clause-steps
+returns-clause-steps g c has closed all = at_ok c.put_nodes-outcome.result c.in_ok-outcome.field-0 c.in_ok-outcome.was (c.put_nodes-outcome.ensures.steps has closed all)
+
 pub returns-clause-complete : goal.returns-clause-complete
 returns-clause-complete g c ts stand = record {
   faultless = ok_without_fault (enums_in c.args.self.now) ts c.put_nodes-outcome.result c.in_ok-outcome.field-0 c.in_ok-outcome.was (c.put_nodes-outcome.ensures.fault ts stand);

@@ -1,18 +1,21 @@
-use Rattle.std.proofs.Common.{◌≡◌, ◌∷◌, [], List, length, map, refl, ap, sym, subst, ◌∙◌}
+use Rattle.std.proofs.Common.{◌≡◌, ◌∷◌, [], List, arith, length, map, refl, ap, sym, subst, ◌∙◌}
 use Rattle.std.specs.Rc.{rc_str_bytes}
 use Rattle.smt_graph.specs.Meanings.{all_found, meanings}
 use Rattle.smt_graph.specs.Nodes.{TermMeaning}
 use Rattle.smt_nodes.specs.Interned.{nodes_of}
+use Rattle.smt_nodes.specs.declared.interner.Interner.{Interner}
 use Rattle.smt_nodes.specs.View.{places_of}
 use Rattle.smt_meaning.specs.Plain.{terms}
 use Rattle.smt_lines.specs.Lines.{Enums, Written, encode_terms, option_line}
 use Rattle.smt_lines.specs.NameTables.{no_names}
 use Rattle.smt_lexicon.specs.Reading.{Expression}
-use Rattle.smt_encode.specs.Encoded.{enums_in, nodes_in}
+use Rattle.smt_encode.specs.Encoded.{enums_in, nodes_in, texts_in}
+use Rattle.smt_encode.specs.LookUps.{edges, IsClosed}
 use Rattle.smt_encode.specs.Names.{enums_under}
 use Rattle.smt_encode.specs.NodeLines.{encode_meanings, meanings_fault}
 use Rattle.smt_encode.specs.declared.names.Names.{Names}
 use Rattle.smt_encode.specs.Steps.{AreSpelled, Wrote}
+use Rattle.smt_encode.proofs.Counted.{left_within}
 use Rattle.smt_encode.proofs.Faulting.{handed_over}
 use Rattle.smt_encode.proofs.Lines.{put}
 use Rattle.smt_encode.proofs.Listing.{all_within, terms_fault_is, terms_stated}
@@ -52,6 +55,14 @@ returns-clause-lines g c ts stand has =
     (ap (λ (e : Enums). encode_meanings e (map TermMeaning ts) no_names) enums ∙ terms_stated mine ts no_names) (c.in_ok-texts.ensures.lines (map TermMeaning ts) there no_names head.names) in
     let u = encode_terms mine (terms ts) no_names in
     scripted _ mine ts head lines.0 (c.in_ok-put_assertions.ensures.lines u.tables u.made lines.0.names (ap (map rc_str_bytes) c.as_slice.ensures.value ∙ lines.1))
+
+pub returns-clause-steps : goal.returns-clause-steps
+returns-clause-steps g c has closed all =
+    let same : nodes_in c.put_option.new.self ≡ nodes_in c.args.self.now = ap (λ (n : Names). n.nodes) c.in_ok-put_option.ensures.line.same_names ∙ c.in_ok-make_room.ensures.nodes in
+    let walked = c.in_ok-texts.ensures.steps has (subst (λ (i : Interner). IsClosed (nodes_of i) has) (sym same) closed) all in
+    let within = left_within has (nodes_in c.put_option.new.self) (texts_in c.put_option.new.self) in
+    let e = ap (λ (i : Interner). edges has (nodes_of i)) same in
+    omega (arith, walked, within, e)
 
 pub returns-clause-fault : goal.returns-clause-fault
 returns-clause-fault g c ts stand =
