@@ -1,5 +1,6 @@
 pub mod Bracketed
 pub mod Built
+pub mod Completing
 pub mod Conditions
 pub mod Counted
 pub mod Entered
@@ -20,5 +21,6 @@ pub mod Patterned
 pub mod Rendered
 pub mod Scripted
 pub mod Stated
+pub mod Typed
 pub mod Walking
 pub mod Writing

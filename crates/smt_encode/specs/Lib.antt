@@ -1,3 +1,4 @@
+pub mod Complete
 pub mod Encoded
 pub mod Entries
 pub mod Errors

@@ -4,7 +4,7 @@ ghost use Rattle.std.specs.Rc.{rc_str_bytes};
 ghost use Rattle.smt_term.specs.Enums.{enums_of};
 ghost use Rattle.smt_meaning.specs.Faults.{first_fault};
 ghost use Rattle.smt_meaning.specs.Plain.{PlainTerm};
-ghost use Rattle.smt_meaning.specs.Typing.{AreBoolean};
+ghost use Rattle.smt_meaning.specs.Typing.{AreBoolean, AreTyped};
 ghost use Rattle.smt_term.specs.View.{plain_term};
 ghost use Rattle.smt_lexicon.specs.Reading.{Expression};
 ghost use Rattle.smt_lines.specs.Line.{Assert, spelled_line};
@@ -13,6 +13,7 @@ ghost use Rattle.smt_lines.specs.Lines.{option_line};
 ghost use Rattle.smt_lines.specs.NameTables.{Tables, no_names};
 ghost use Rattle.smt_lines.specs.Text.{names, text};
 ghost use Rattle.smt_headline.specs.Headline.{Headline};
+ghost use Rattle.smt_encode.specs.Complete.{AreWritten, HaveWrittenParts};
 ghost use Rattle.smt_encode.specs.LookUps.{edges, IsClosed};
 ghost use Rattle.smt_encode.specs.NodeTexts.{StandFor};
 ghost use Rattle.smt_nodes.specs.Interned.{nodes_of};
@@ -112,7 +113,7 @@ impl<'a, S> Encoder<'a, S> {
 }
 
 impl<S: Sink> Encoder<'_, S> {
-    ghost use Rattle.smt_encode.specs.Encoded.{enums_in, is_spent, nodes_in, sink_of, IsFresh, Keeps, OfNames, OfReceived, Spends, WroteText};
+    ghost use Rattle.smt_encode.specs.Encoded.{enums_in, is_spent, nodes_in, sink_of, texts_in, IsFresh, Keeps, OfNames, OfReceived, Spends, WroteText};
     ghost use Rattle.smt_encode.specs.Steps.{AreSpelled, FaultCounted, HasTables, PutsLine, Wrote};
 
     /// Writes the script of these terms: the declaration of the datatype `Option`, what the terms need, and an
@@ -128,7 +129,8 @@ impl<S: Sink> Encoder<'_, S> {
     /// terms `headline` says what the bytes mean that the sink got in this call, by the names that the encoder has then:
     /// they are a script by the grammar of SMT-LIB 2.7, each name is declared once and before its use, the assertions are
     /// the terms' texts in order, and the models are exactly the interpretations that make all terms true. `models` says
-    /// the same of the stated text and its names, of any encoder that answers Ok.
+    /// the same of the stated text and its names, of any encoder that answers Ok. By `written` each node of terms that are
+    /// typed has its text then.
     ///
     /// # Errors
     ///
@@ -145,6 +147,7 @@ impl<S: Sink> Encoder<'_, S> {
         ensures spent { Spends self.old self.new result }
         ensures refused { HasCause (S.faults (sink_of self.old)) (S.faults (sink_of self.new)) (first_fault (enums_in self.old) (map plain_term terms.now)) result }
         ensures complete { IsComplete (is_spent self.old) (S.faults (sink_of self.old)) (S.faults (sink_of self.new)) (first_fault (enums_in self.old) (map plain_term terms.now)) result }
+        ensures written { (ids : List NodeId) → IsFresh self.old → AreTyped (map plain_term terms.now) → StandFor (nodes_in self.new) ids (map plain_term terms.now) → OnOk result (AreWritten (nodes_in self.new) (texts_in self.new) ids) }
         ensures kept { Keeps S.faults S.place self.old self.new }
     {
         if self.begun || self.failed {
@@ -177,6 +180,7 @@ impl<S: Sink> Encoder<'_, S> {
         ensures spent { Spends self.old self.new result }
         ensures refused { (ts : List PlainTerm) → StandFor (nodes_in self.old) ids.now ts → HasCause (S.faults (sink_of self.old)) (S.faults (sink_of self.new)) (first_fault (enums_in self.old) ts) result }
         ensures complete { (ts : List PlainTerm) → StandFor (nodes_in self.old) ids.now ts → IsComplete (is_spent self.old) (S.faults (sink_of self.old)) (S.faults (sink_of self.new)) (first_fault (enums_in self.old) ts) result }
+        ensures written { (ts : List PlainTerm) → StandFor (nodes_in self.old) ids.now ts → IsFresh self.old → AreTyped ts → OnOk result (AreWritten (nodes_in self.new) (texts_in self.new) ids.now) }
         ensures steps { (has : ℕ → Bool) → IsClosed (nodes_of (nodes_in self.old)) has → AllByRecursion (λ place. IsTrue (has place)) (places_of ids.now) → OnOk result (steps.new ≤ steps.old + length ids.now + edges has (nodes_of (nodes_in self.old))) }
         ensures kept { Keeps S.faults S.place self.old self.new }
     {
@@ -207,6 +211,7 @@ impl<S: Sink> Encoder<'_, S> {
     fn put_assertions(&mut self, texts: &[Text]) -> Result<(), SinkError>
         ensures lines { (s : Tables) (es : List Expression) → HasTables self.old s → AreSpelled es texts.now → OnOk result (Wrote S.contents self.old self.new (map Assert es) s) }
         ensures cause { FaultCounted S.faults S.place SinkError.Fault self.old self.new result }
+        ensures names { self.new.names ≡ self.old.names }
     {
         for text in texts {
             self.script.assert(text.as_str())?;
@@ -219,6 +224,7 @@ impl<S: Sink> Encoder<'_, S> {
         ensures lines { HasTables self.old no_names → OnOk result (Wrote S.contents self.old self.new (option_line ∷ (lines.encode (enums_in self.old) (map plain_term terms.now) no_names).lines) (names (enums_in self.old) (map plain_term terms.now))) }
         ensures cause { FaultCounted S.faults S.place (WriteError.Sink SinkError.Fault) self.old self.new result }
         ensures fault { Finds write_fault (first_fault (enums_in self.old) (map plain_term terms.now)) result }
+        ensures written { (ids : List NodeId) → IsFresh self.old → AreTyped (map plain_term terms.now) → StandFor (nodes_in self.new) ids (map plain_term terms.now) → OnOk result (AreWritten (nodes_in self.new) (texts_in self.new) ids) }
     {
         let ids = self.names.intern(terms)?;
         self.put_uncounted::<Brand>(ids.as_slice(), Blank::new(1))
@@ -233,6 +239,8 @@ impl<S: Sink> Encoder<'_, S> {
         ensures lines { (ts : List PlainTerm) → StandFor (nodes_in self.old) ids.now ts → HasTables self.old no_names → OnOk result (Wrote S.contents self.old self.new (option_line ∷ (lines.encode (enums_in self.old) ts no_names).lines) (names (enums_in self.old) ts)) }
         ensures cause { FaultCounted S.faults S.place (WriteError.Sink SinkError.Fault) self.old self.new result }
         ensures fault { (ts : List PlainTerm) → StandFor (nodes_in self.old) ids.now ts → Finds write_fault (first_fault (enums_in self.old) ts) result }
+        ensures written { (ts : List PlainTerm) → StandFor (nodes_in self.old) ids.now ts → AreTyped ts → HaveWrittenParts (nodes_in self.old) (texts_in self.old) → OnOk result (AreWritten (nodes_in self.new) (texts_in self.new) ids.now) }
+        ensures nodes { nodes_in self.new ≡ nodes_in self.old }
     {
         let mut steps = Steps::<L>::new(blank);
         self.put_nodes(ids, &mut steps)
@@ -248,6 +256,8 @@ impl<S: Sink> Encoder<'_, S> {
         ensures lines { (ts : List PlainTerm) → StandFor (nodes_in self.old) ids.now ts → HasTables self.old no_names → OnOk result (Wrote S.contents self.old self.new (option_line ∷ (lines.encode (enums_in self.old) ts no_names).lines) (names (enums_in self.old) ts)) }
         ensures cause { FaultCounted S.faults S.place (WriteError.Sink SinkError.Fault) self.old self.new result }
         ensures fault { (ts : List PlainTerm) → StandFor (nodes_in self.old) ids.now ts → Finds write_fault (first_fault (enums_in self.old) ts) result }
+        ensures written { (ts : List PlainTerm) → StandFor (nodes_in self.old) ids.now ts → AreTyped ts → HaveWrittenParts (nodes_in self.old) (texts_in self.old) → OnOk result (AreWritten (nodes_in self.new) (texts_in self.new) ids.now) }
+        ensures nodes { nodes_in self.new ≡ nodes_in self.old }
         ensures steps { (has : ℕ → Bool) → IsClosed (nodes_of (nodes_in self.old)) has → AllByRecursion (λ place. IsTrue (has place)) (places_of ids.now) → OnOk result (steps.new ≤ steps.old + length ids.now + edges has (nodes_of (nodes_in self.old))) }
     {
         self.names.make_room()?;

@@ -118,6 +118,7 @@ impl<'a> Names<'a> {
     pub(crate) fn intern(&mut self, terms: &[Term]) -> Result<Vec<NodeId>, TermError>
         ensures meanings { IfOk result (λ ids. all_found (meanings (nodes_of (nodes_under self.new))) (places_of ids.items) ≡ Some (map TermMeaning (map plain_term terms.now))) }
         ensures kept { KeepsMeanings (nodes_under self.old) (nodes_under self.new) }
+        ensures texts { texts_under self.new ≡ texts_under self.old }
         ensures tables { (s : Tables) → KeepTables self.old s → KeepTables self.new s }
         ensures enums { enums_under self.new ≡ enums_under self.old }
     {

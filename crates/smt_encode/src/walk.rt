@@ -14,9 +14,11 @@ ghost use Rattle.smt_lines.specs.NameTables.{Tables};
 ghost use Rattle.smt_lines.specs.Spelling.{spelled};
 ghost use Rattle.smt_encode.specs.NodeLines.{encode_meaning, encode_meanings, has_entry, meaning_fault, meanings_fault};
 ghost use Rattle.smt_encode.specs.Entries.{enter_by, entry_name, own_lines, rendering_in, written_parts, PlainEntry, SaysEntry};
+ghost use Rattle.smt_encode.specs.Complete.{is_typed, AreTypedMeanings, HaveWrittenParts};
 ghost use Rattle.smt_encode.specs.LookUps.{IsClosed};
 ghost use Rattle.smt_encode.specs.NodeTexts.{text_at, IsNodeOf};
 ghost use Rattle.smt_encode.specs.Refusals.{write_fault, Finds};
+ghost use Rattle.smt_encode.specs.Texts.{kept_at};
 ghost use Rattle.smt_encode.specs.Renderings.{plain_rendering};
 
 use crate::encoder::Encoder;
@@ -48,6 +50,7 @@ impl<S: Sink> Encoder<'_, S> {
         ensures fault { (m : Meaning) → meaning_in (nodes_in self.old) id ≡ Some m → Finds write_fault (meaning_fault (enums_in self.old) m) result }
         ensures walks { Walks S.faults S.place (WriteError.Sink SinkError.Fault) (suc (place_of id)) self.old self.new result }
         ensures kept { IfOk result (λ text. text_at (texts_in self.new) id ≡ Some (rc_str_bytes text)) }
+        ensures whole { (m : Meaning) → meaning_in (nodes_in self.old) id ≡ Some m → IsTrue (is_typed m) → HaveWrittenParts (nodes_in self.old) (texts_in self.old) → OnOk result (HaveWrittenParts (nodes_in self.new) (texts_in self.new)) }
         ensures steps { (has : ℕ → Bool) → IsClosed (nodes_of (nodes_in self.old)) has → IsTrue (has (place_of id)) → OnOk result (steps.new + edges_in has self.new ≤ suc steps.old + edges_in has self.old) }
     {
         match self.names.text(id, steps) {
@@ -70,6 +73,7 @@ impl<S: Sink> Encoder<'_, S> {
         ensures fault { (m : Meaning) → meaning_in (nodes_in self.old) id ≡ Some m → Finds write_fault (meaning_fault (enums_in self.old) m) result }
         ensures walks { Walks S.faults S.place (WriteError.Sink SinkError.Fault) (suc (place_of id)) self.old self.new result }
         ensures kept { IfOk result (λ text. text_at (texts_in self.new) id ≡ Some (rc_str_bytes text)) }
+        ensures whole { (m : Meaning) → meaning_in (nodes_in self.old) id ≡ Some m → IsTrue (is_typed m) → HaveWrittenParts (nodes_in self.old) (texts_in self.old) → OnOk result (HaveWrittenParts (nodes_in self.new) (texts_in self.new)) }
         ensures steps { (has : ℕ → Bool) → IsClosed (nodes_of (nodes_in self.old)) has → IsTrue (has (place_of id)) → OnOk result (steps.new + edges_in has self.new ≤ steps.old + edges_in has self.old) }
     {
         let node = self.names.node(id)?;
@@ -95,6 +99,7 @@ impl<S: Sink> Encoder<'_, S> {
         ensures walks { Walks S.faults S.place (WriteError.Sink SinkError.Fault) before self.old self.new result }
         ensures count { IfOk result (λ texts. length texts.items ≡ length ids.now) }
         ensures kept { IfOk result (λ texts. map (text_at (texts_in self.new)) ids.now ≡ map (λ text. Some (rc_str_bytes text)) texts.items) }
+        ensures whole { (ms : List Meaning) → all_found (meanings (nodes_of (nodes_in self.old))) (places_of ids.now) ≡ Some ms → AreTypedMeanings ms → HaveWrittenParts (nodes_in self.old) (texts_in self.old) → OnOk result (HaveWrittenParts (nodes_in self.new) (texts_in self.new)) }
         ensures steps { (has : ℕ → Bool) → IsClosed (nodes_of (nodes_in self.old)) has → AllByRecursion (λ place. IsTrue (has place)) (places_of ids.now) → OnOk result (steps.new + edges_in has self.new ≤ steps.old + length ids.now + edges_in has self.old) }
     {
         let mut texts = Vec::with_capacity(self.alloc, ids.len())?;
@@ -125,6 +130,7 @@ impl<S: Sink> Encoder<'_, S> {
         ensures fault { (m : Meaning) → meaning_in (nodes_in self.old) id ≡ Some m → Finds write_fault (meaning_fault (enums_in self.old) m) result }
         ensures walks { Walks S.faults S.place (WriteError.Sink SinkError.Fault) (suc (place_of id)) self.old self.new result }
         ensures kept { IfOk result (λ text. text_at (texts_in self.new) id ≡ Some (rc_str_bytes text)) }
+        ensures only { (place : ℕ) → ¬ (place ≡ place_of id) → kept_at (texts_in self.new).texts.items place ≡ kept_at (texts_in self.old).texts.items place }
     {
         match inline_text(self.alloc, &node.label, texts.as_slice())? {
             Some(text) => {
@@ -150,6 +156,7 @@ impl<S: Sink> Encoder<'_, S> {
         ensures fault { Finds write_fault None result }
         ensures walks { Walks S.faults S.place (WriteError.Sink SinkError.Fault) (suc (place_of id)) self.old self.new result }
         ensures kept { IfOk result (λ text. text_at (texts_in self.new) id ≡ Some (rc_str_bytes text)) }
+        ensures only { (place : ℕ) → ¬ (place ≡ place_of id) → kept_at (texts_in self.new).texts.items place ≡ kept_at (texts_in self.old).texts.items place }
     {
         let name = self.name_for(entry)?;
         entry.put(&mut self.script, name.as_str(), sort)?;

@@ -1,25 +1,30 @@
-use Rattle.std.proofs.Common.{◌≡◌, ◌<◌, ◌+◌, ◌∷◌, [], IsTrue, suc, drop, get_or, length, length-append, map, Some, ap, arith, rules, sym, subst, refl, ◌∙◌, Ok}
+use Rattle.std.proofs.Common.{◌≡◌, ◌<◌, ◌+◌, ◌∷◌, [], IsTrue, List, suc, drop, get_or, length, length-append, map, Some, ap, arith, rules, sym, subst, refl, ◌∙◌, Ok}
 use Rattle.smt_graph.specs.Meanings.{all_found, meanings}
 use Rattle.smt_graph.specs.Parts.{parts_in}
 use Rattle.smt_nodes.specs.declared.interner.Interner.{Interner}
 use Rattle.smt_encode.specs.Entries.{own_lines, rendering_in, written_parts}
 use Rattle.smt_encode.specs.Renderings.{plain_rendering}
+use Rattle.smt_encode.specs.Complete.{is_written, AreTypedMeanings}
 use Rattle.smt_encode.specs.LookUps.{IsClosed}
 use Rattle.smt_encode.specs.Steps.{edges_in, IsSpelled}
 use Rattle.smt_nodes.specs.Interned.{meaning_in, nodes_of}
-use Rattle.smt_nodes.specs.View.{place_of, places_of, plain_node}
-use Rattle.smt_encode.specs.Encoded.{enums_in, nodes_in}
+use Rattle.smt_nodes.specs.View.{ids_of, place_of, places_of, plain_node}
+use Rattle.smt_nodes.specs.declared.id.NodeId.{NodeId}
+use Rattle.smt_encode.specs.Encoded.{enums_in, nodes_in, texts_in}
 use Rattle.std.specs.Option.{option_or}
 use Rattle.std.specs.Prelude.{is_some, slice_get}
 use Rattle.std.specs.Rc.{rc_str_bytes}
 use Rattle.smt_encode.specs.NodeLines.{encode_meanings, meaning_fault, meanings_fault}
 use Rattle.smt_encode.specs.NodeTexts.{text_at, IsNodeOf}
+use Rattle.smt_encode.proofs.Completing.{have_texts, node_completed, typed_at}
 use Rattle.smt_encode.proofs.Counted.{node_counted}
 use Rattle.smt_encode.proofs.Faulting.{handed_over, none_is, parts_first}
 use Rattle.smt_encode.proofs.Going.{at_found, ends, goes_on, none_left, one_passed, same_enums, starts}
 use Rattle.smt_encode.proofs.Walking.{both_written, earlier_at, holds_at, kept_more, parts_count, parts_earlier, parts_fewer, parts_found, parts_hold, room_stays, walks_then}
 use Rattle.smt_encode.proofs.Built.{built_meaning}
 use Rattle.smt_encode.proofs.Stated.{stated}
+use Rattle.smt_encode.proofs.Typed.{all_written, parts_typed}
+use Rattle.std.specs.List.{AllByRecursion}
 use Rattle.smt_encode.proofs.Writing.{kept_texts, kept_written, unnamed}
 use Rattle.smt_encode.proofs.encoder.Encoder.+walk.Goals as goal
 
@@ -30,6 +35,7 @@ encode_all-loop-id-init g t c = record {
   fault = λ ms h. refl;
   kept = ap (map (λ text. Some (rc_str_bytes text))) (sym c.in_ok-texts.ensures.items);
   count = ap length c.in_ok-texts.ensures.items;
+  whole = λ ms h typed whole. whole;
   steps = λ has closed all. omega (arith);
 }
 
@@ -78,6 +84,10 @@ encode_all-loop-id-preserved g t c =
           let there = ap (λ i. meaning_in i (get_or c.args.ids.now c.loop-id.id-index (record { place = 0 }))) c.loop-id.invariant.walks.stands.nodes ∙ meant in
           one_passed enums _ _ ms m left (ap (λ e. meaning_fault e m) (sym c.loop-id.invariant.walks.stands.enums) ∙ c.in_ok-encode_node.ensures.fault m there) (c.loop-id.invariant.fault ms h);
       kept = kept_more c.loop-id.self c.encode_node.new.self c.args.ids.now c.loop-id.id-index (record { place = 0 }) c.loop-id.texts.items c.push.new.self.items c.in_ok-encode_node.field-0 c.loop-id-test.true c.in_ok-encode_node.ensures.walks.kept c.loop-id.invariant.kept c.in_ok-encode_node.ensures.kept c.in_ok-push.ensures.items;
+      whole = λ ms h typed whole.
+          let (m, left, meant) = at_found (meanings (nodes_of (nodes_in c.args.self.now))) c.args.ids.now ms c.loop-id.id-index (record { place = 0 }) h c.loop-id-test.true in
+          let there = ap (λ i. meaning_in i (get_or c.args.ids.now c.loop-id.id-index (record { place = 0 }))) c.loop-id.invariant.walks.stands.nodes ∙ meant in
+          c.in_ok-encode_node.ensures.whole m there (typed_at ms c.loop-id.id-index m _ left typed) (c.loop-id.invariant.whole ms h typed whole);
       steps = λ has closed all.
           let here : IsTrue (has (place_of (get_or c.args.ids.now c.loop-id.id-index (record { place = 0 })))) = holds_at (λ place. IsTrue (has place)) c.args.ids.now c.loop-id.id-index (record { place = 0 }) all c.loop-id-test.true in
           let one = c.in_ok-encode_node.ensures.steps has (subst (λ (i : Interner). IsClosed (nodes_of i) has) (sym c.loop-id.invariant.walks.stands.nodes) closed) here in
@@ -153,6 +163,20 @@ encode_new-returns-clause-lines g t c m meant s has =
     let there : meaning_in (nodes_in c.encode_all.new.self) c.args.id ≡ Some m = ap (λ i. meaning_in i c.args.id) c.in_ok-texts.ensures.walks.stands.nodes ∙ meant in
     rw (stated enums m s (built_meaning nodes c.args.id m meant) (unnamed c.args.self.now.names s has c.args.id m meant c.requires.unkept))
     (both_written g.S.Sink.contents c.args.self.now c.encode_all.new.self c.finish.new.self w (λ es u. own_lines m es u) IsSpelled c.finish.result wrote.0 (c.finish.ensures.lines m w.made w.tables there wrote.1 wrote.0.names))
+
+pub encode_new-returns-clause-whole : goal.encode_new-returns-clause-whole
+encode_new-returns-clause-whole g t c m meant typed whole =
+    let nodes = nodes_in c.args.self.now in
+    let is : IsNodeOf nodes c.args.id c.in_ok-node.node = c.in_ok-node.ensures in
+    let how = c.rendering_of-rendering.ensures c.args.id m (ap (λ i. meaning_in i c.args.id) c.nodes.ensures ∙ meant) (subst (λ (i : Interner). IsNodeOf i c.args.id c.in_ok-node.node) (sym c.nodes.ensures) is) in
+    let found = parts_found nodes c.args.id c.in_ok-node.node is m meant (plain_rendering c.rendering_of-rendering.result) how c.items.result.now c.written-parts.result.now c.items.ensures c.written-parts.ensures in
+    let all : c.written-parts.result.now ≡ ids_of c.in_ok-node.node.parts = c.written-parts.ensures ∙ ap (written_parts (plain_rendering c.rendering_of-rendering.result)) c.items.ensures ∙ ap (λ r. written_parts r (ids_of c.in_ok-node.node.parts)) how ∙ all_written m typed (ids_of c.in_ok-node.node.parts) in
+    let inside = subst AreTypedMeanings (sym (all_written m typed (parts_in m))) (parts_typed m typed) in
+    let walked = c.in_ok-texts.ensures.walks in
+    let texts = have_texts (texts_in c.encode_all.new.self) c.written-parts.result.now c.in_ok-texts.texts.items c.in_ok-texts.ensures.kept in
+    node_completed c.encode_all.new.self c.finish.new.self c.args.id (plain_node c.in_ok-node.node) c.finish.result c.finish.ensures.walks.stands.nodes (ap (λ i. slice_get (nodes_of i) (place_of c.args.id)) walked.stands.nodes ∙ is.there) c.finish.ensures.walks.kept c.finish.ensures.only
+    (subst (λ (ids : List NodeId). AllByRecursion (λ place. IsTrue (is_written (texts_in c.encode_all.new.self) place)) (places_of ids)) all texts)
+    (c.in_ok-texts.ensures.whole _ found inside whole)
 
 pub encode_new-returns-clause-steps : goal.encode_new-returns-clause-steps
 encode_new-returns-clause-steps g t c has closed here =

@@ -10,6 +10,7 @@ use Rattle.smt_script.specs.declared.sink.SinkError.TheVariants.{Fault}
 use Rattle.smt_encode.specs.Encoded.{enums_in, nodes_in, texts_in}
 use Rattle.smt_encode.specs.NodeLines.{meanings_fault}
 use Rattle.smt_encode.specs.NodeTexts.{text_at}
+use Rattle.smt_encode.specs.Complete.{AreTypedMeanings, HaveWrittenParts}
 use Rattle.smt_encode.specs.LookUps.{IsClosed}
 use Rattle.smt_encode.specs.Steps.{edges_in, HasTables, Walks}
 use Rattle.smt_encode.specs.declared.error.WriteError.TheVariants.{Sink}
@@ -33,5 +34,6 @@ invariant-encode_all-loop-id g l = record {
   fault : (ms : List Meaning) → all_found (meanings (nodes_of (nodes_in l.fn.self))) (places_of l.ids) ≡ Some ms → meanings_fault (enums_in l.fn.self) ms ≡ meanings_fault (enums_in l.fn.self) (drop l.id-index ms);
   kept : map (text_at (texts_in l.self)) (take l.id-index l.ids) ≡ map (λ text. Some (rc_str_bytes text)) l.texts.items;
   count : length l.texts.items ≡ l.id-index;
+  whole : (ms : List Meaning) → all_found (meanings (nodes_of (nodes_in l.fn.self))) (places_of l.ids) ≡ Some ms → AreTypedMeanings ms → HaveWrittenParts (nodes_in l.fn.self) (texts_in l.fn.self) → HaveWrittenParts (nodes_in l.self) (texts_in l.self);
   steps : (has : ℕ → Bool) → IsClosed (nodes_of (nodes_in l.fn.self)) has → AllByRecursion (λ place. IsTrue (has place)) (places_of l.ids) → l.steps + edges_in has l.self ≤ l.fn.steps + l.id-index + edges_in has l.fn.self;
 }

@@ -28,6 +28,9 @@ returns-clause-models g c typed =
     headline c.args.self.now.names.enums.now c.args.terms.now typed
     (ok_without_fault (enums_in c.args.self.now) (map plain_term c.args.terms.now) c.put_terms-outcome.result c.in_ok-outcome.field-0 c.in_ok-outcome.was c.put_terms-outcome.ensures.fault)
 
+pub returns-clause-written : goal.returns-clause-written
+returns-clause-written g c ids fresh typed stand = at_ok c.put_terms-outcome.result c.in_ok-outcome.field-0 c.in_ok-outcome.was (c.put_terms-outcome.ensures.written ids fresh typed stand)
+
 pub returns-clause-complete : goal.returns-clause-complete
 returns-clause-complete g c = record {
   faultless = ok_without_fault (enums_in c.args.self.now) (map plain_term c.args.terms.now) c.put_terms-outcome.result c.in_ok-outcome.field-0 c.in_ok-outcome.was c.put_terms-outcome.ensures.fault;

@@ -1,5 +1,6 @@
 use Rattle.smt_lines.specs.Text.{names, text}
-use Rattle.smt_encode.specs.Encoded.{enums_in, nodes_in}
+use Rattle.smt_encode.specs.Encoded.{enums_in, nodes_in, texts_in}
+use Rattle.smt_encode.proofs.Completing.{none_whole}
 use Rattle.smt_encode.proofs.Conditions.{node_headline, received}
 use Rattle.smt_encode.proofs.Faulted.{at_ok, has_cause, is_complete, ok_without_fault}
 use Rattle.smt_encode.proofs.Named.{fresh_tables, names_alone}
@@ -24,6 +25,10 @@ pub returns-clause-models : goal.returns-clause-models
 returns-clause-models g c ts stand typed =
     node_headline c.args.self.now.names.enums.now (nodes_in c.args.self.now) c.args.ids.now ts stand typed
     (ok_without_fault (enums_in c.args.self.now) ts c.put_nodes-outcome.result c.in_ok-outcome.field-0 c.in_ok-outcome.was (c.put_nodes-outcome.ensures.fault ts stand))
+
+pub returns-clause-written : goal.returns-clause-written
+returns-clause-written g c ts stand fresh typed =
+    at_ok c.put_nodes-outcome.result c.in_ok-outcome.field-0 c.in_ok-outcome.was (c.put_nodes-outcome.ensures.written ts stand typed (none_whole (nodes_in c.args.self.now) (texts_in c.args.self.now) fresh))
 
 pub returns-clause-steps : goal.returns-clause-steps
 returns-clause-steps g c has closed all = at_ok c.put_nodes-outcome.result c.in_ok-outcome.field-0 c.in_ok-outcome.was (c.put_nodes-outcome.ensures.steps has closed all)

@@ -8,6 +8,7 @@ use Rattle.smt_encode.proofs.encoder.Encoder.put_assertions.Goals as goal
 pub loop-text-preserved : goal.loop-text-preserved
 loop-text-preserved g c = record {
   cause = search rules;
+  names = c.loop-text.invariant.names;
   going = λ s es has shown.
       let this = spelled_at es c.args.texts.now c.loop-text.text-index c.text-item.result shown c.loop-text-test.true c.text-item.is in
       let going = c.loop-text.invariant.going s es has shown in

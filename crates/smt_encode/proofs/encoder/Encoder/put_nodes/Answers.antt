@@ -9,12 +9,15 @@ use Rattle.smt_meaning.specs.Plain.{terms}
 use Rattle.smt_lines.specs.Lines.{Enums, Written, encode_terms, option_line}
 use Rattle.smt_lines.specs.NameTables.{no_names}
 use Rattle.smt_lexicon.specs.Reading.{Expression}
+use Rattle.smt_encode.specs.Complete.{AreWritten}
+use Rattle.smt_encode.specs.NodeTexts.{text_at}
 use Rattle.smt_encode.specs.Encoded.{enums_in, nodes_in, texts_in}
 use Rattle.smt_encode.specs.LookUps.{edges, IsClosed}
 use Rattle.smt_encode.specs.Names.{enums_under}
 use Rattle.smt_encode.specs.NodeLines.{encode_meanings, meanings_fault}
 use Rattle.smt_encode.specs.declared.names.Names.{Names}
 use Rattle.smt_encode.specs.Steps.{AreSpelled, Wrote}
+use Rattle.smt_encode.proofs.Completing.{have_texts, same_whole, terms_are_typed}
 use Rattle.smt_encode.proofs.Counted.{left_within}
 use Rattle.smt_encode.proofs.Faulting.{handed_over}
 use Rattle.smt_encode.proofs.Lines.{put}
@@ -55,6 +58,16 @@ returns-clause-lines g c ts stand has =
     (ap (λ (e : Enums). encode_meanings e (map TermMeaning ts) no_names) enums ∙ terms_stated mine ts no_names) (c.in_ok-texts.ensures.lines (map TermMeaning ts) there no_names head.names) in
     let u = encode_terms mine (terms ts) no_names in
     scripted _ mine ts head lines.0 (c.in_ok-put_assertions.ensures.lines u.tables u.made lines.0.names (ap (map rc_str_bytes) c.as_slice.ensures.value ∙ lines.1))
+
+pub returns-clause-written : goal.returns-clause-written
+returns-clause-written g c ts stand typed whole =
+    let same : nodes_in c.put_option.new.self ≡ nodes_in c.args.self.now = ap (λ (n : Names). n.nodes) c.in_ok-put_option.ensures.line.same_names ∙ c.in_ok-make_room.ensures.nodes in
+    let there = ap (λ i. all_found (meanings (nodes_of i)) (places_of c.args.ids.now)) same ∙ stand in
+    let begun = same_whole (nodes_in c.args.self.now) (nodes_in c.put_option.new.self) (texts_in c.args.self.now) (texts_in c.put_option.new.self) same
+    (λ id. ap (λ (n : Names). text_at n.texts id) c.in_ok-put_option.ensures.line.same_names ∙ c.in_ok-make_room.ensures.texts id) whole in
+    let walked = c.in_ok-texts.ensures.whole (map TermMeaning ts) there (terms_are_typed ts typed) begun in
+    let given = have_texts (texts_in c.encode_all.new.self) c.args.ids.now c.in_ok-texts.texts.items c.in_ok-texts.ensures.kept in
+    subst (λ (n : Names). AreWritten n.nodes n.texts c.args.ids.now) (sym c.put_assertions.ensures.names) (record { given = given; closed = walked })
 
 pub returns-clause-steps : goal.returns-clause-steps
 returns-clause-steps g c has closed all =
