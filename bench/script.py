@@ -7,7 +7,7 @@ The other program is called as smtcli is, as `PROGRAM script` with the job on st
 
 A fifth family is a sum of a term with itself, 10, 20 and 40 deep. No job can write it, since a job has no way to share
 a term. So it is measured with programs of its own, which are called as `PROGRAM DEPTH` and print the script of such a
-term.
+term. Ours is `smt_shared_sum`.
 
 Time is processor time, of the program and of the system for it, and memory is the peak of what was resident. Of several
 runs the least of each counts. The programs take turns, so that other work on the machine falls on both. Their outputs
@@ -238,9 +238,13 @@ def arguments():
 
     parser = argparse.ArgumentParser(description=__doc__, formatter_class=argparse.RawDescriptionHelpFormatter)
     ours = str(TOP / "crates/smtcli/out/smtcli")
+    sums = TOP / "crates/smt_shared_sum/out/smt_shared_sum"
+    shared = str(sums) if os.access(sums, os.X_OK) else None
     parser.add_argument("--ours", metavar="PROGRAM", type=program, default=ours, help="smtcli, as `rt run` builds it")
     parser.add_argument("--public", metavar="PROGRAM", type=program, help="the program to compare with")
-    parser.add_argument("--shared", metavar="PROGRAM", type=program, help="our program of the fifth family")
+    parser.add_argument(
+        "--shared", metavar="PROGRAM", type=program, default=shared, help="smt_shared_sum, as `rt run -- 40` builds it"
+    )
     parser.add_argument("--public-shared", metavar="PROGRAM", type=program, help="the same of the public crate")
     parser.add_argument("--runs", metavar="N", type=positive, default=3, help="how many runs (3)")
     parser.add_argument(

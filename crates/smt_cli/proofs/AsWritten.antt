@@ -21,7 +21,7 @@ use Rattle.smt_semantics.specs.Value.{IsModel}
 use Rattle.smt_lines.specs.Text.{names, text}
 use Rattle.smt_carrying.specs.CarriedInterpretations.{carry_interpretation}
 use Rattle.smt_headline.specs.Headline.{AreTrue, Headline}
-use Rattle.smt_cli.proofs.TypedJobs.{IsCondition}
+use Rattle.smt_jobs.proofs.TypedJobs.{IsCondition}
 
 -- ---- interpretations that give the same
 

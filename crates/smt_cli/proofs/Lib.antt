@@ -1,12 +1,5 @@
 pub mod AsWritten
-pub mod Declarations
-pub mod Forms
-pub mod Giving
-pub mod NumberedLemmas
-pub mod OperatorNames
-pub mod ReadsLemmas
+pub mod Encoding
+pub mod Flushing
 pub mod Running
-pub mod Shapes
 pub mod Statuses
-pub mod TypedJobs
-pub mod Walking

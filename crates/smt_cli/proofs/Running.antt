@@ -12,13 +12,13 @@ use Rattle.smt_headline.specs.Headline.{Headline}
 use Rattle.smt_lines.specs.Text.{names, text}
 use Rattle.smt_characters.specs.SharedTexts.{texts}
 use Rattle.smt_cli.proofs.AsWritten.{as_written, built_booleans}
-use Rattle.smt_cli.proofs.Giving.{other_text}
-use Rattle.smt_cli.proofs.TypedJobs.{IsCondition, job_conditions}
-use Rattle.smt_cli.specs.Job.{IsBuiltFrom, PlainJob, built_job, greatest_length}
+use Rattle.smt_jobs.proofs.Giving.{other_text}
+use Rattle.smt_jobs.proofs.TypedJobs.{IsCondition, job_conditions}
+use Rattle.smt_jobs.specs.Job.{IsBuiltFrom, PlainJob, built_job, greatest_length}
 use Rattle.smt_cli.specs.Refusal.{job_refusal}
 use Rattle.smt_cli.specs.Run.{commanded, HasNoForm, HasReadCause, IsNoJob, Prints}
-use Rattle.smt_cli.specs.declared.job.JobError.{JobError}
-use Rattle.smt_cli.specs.declared.job.JobError.TheVariants.{TooLarge as JobTooLarge, BadForm as JobBadForm, Memory as JobWant}
+use Rattle.smt_jobs.specs.declared.job.JobError.{JobError}
+use Rattle.smt_jobs.specs.declared.job.JobError.TheVariants.{TooLarge as JobTooLarge, BadForm as JobBadForm, Memory as JobWant}
 use Rattle.smt_cli.specs.declared.refusal.ReadRefusal.{ReadRefusal}
 
 -- a word that is no command

@@ -3,9 +3,10 @@ use Rattle.std.proofs.Common.{◌≡◌, ℕ, true, List, Option, Some, None, re
 use Rattle.std.specs.Prelude.{◌⊎◌, IfSome, is_some}
 use Rattle.std.proofs.lemmas.Bool.{false≢true}
 use Rattle.smt_meaning.specs.Faults.{Fault}
-use Rattle.smt_cli.proofs.TypedJobs.{jobs_are_faultless}
+use Rattle.smt_jobs.proofs.TypedJobs.{jobs_are_faultless}
 use Rattle.smt_cli.specs.Refusal.{status_of}
-use Rattle.smt_cli.specs.Run.{fault_of, HasCause, HasFaultOf, HasPutCause, HasScriptCause, IsAJob, IsComplete, IsDone, IsFaultOf, IsNoJob, Prints, PrintsScript}
+use Rattle.smt_jobs.specs.Job.{fault_of}
+use Rattle.smt_cli.specs.Run.{HasCause, HasFaultOf, HasPutCause, HasScriptCause, IsAJob, IsComplete, IsDone, IsFaultOf, IsNoJob, Prints, PrintsScript}
 use Rattle.smt_cli.specs.declared.program.Command.{Command}
 use Rattle.smt_cli.specs.declared.program.Command.TheVariants.{Script, Help, Version}
 use Rattle.smt_cli.specs.declared.refusal.EncodeRefusal.{EncodeRefusal}

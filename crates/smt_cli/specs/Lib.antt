@@ -1,10 +1,2 @@
-pub mod Input
-pub mod Job
-pub mod JobView
-pub mod MemorySource
-pub mod Numbered
-pub mod Numbers
 pub mod Refusal
 pub mod Run
-pub mod Source
-pub mod Walk

@@ -2,10 +2,10 @@
 use Rattle.std.specs.Prelude.{ℕ, List, codes}
 use Rattle.smt_script.specs.declared.sink.SinkError.{SinkError}
 use Rattle.smt_script.specs.declared.sink.SinkError.TheVariants.{Fault as SinkFault, Memory as SinkWant}
-use Rattle.smt_cli.specs.declared.input.InputError.{InputError}
-use Rattle.smt_cli.specs.declared.input.InputError.TheVariants.{Fault as InputFault, TooLarge as InputTooLarge, Memory as InputWant}
-use Rattle.smt_cli.specs.declared.job.JobError.{JobError}
-use Rattle.smt_cli.specs.declared.job.JobError.TheVariants.{TooLarge as JobTooLarge, BadForm as JobBadForm, Memory as JobWant}
+use Rattle.smt_source.specs.declared.input.InputError.{InputError}
+use Rattle.smt_source.specs.declared.input.InputError.TheVariants.{Fault as InputFault, TooLarge as InputTooLarge, Memory as InputWant}
+use Rattle.smt_jobs.specs.declared.job.JobError.{JobError}
+use Rattle.smt_jobs.specs.declared.job.JobError.TheVariants.{TooLarge as JobTooLarge, BadForm as JobBadForm, Memory as JobWant}
 use Rattle.smt_cli.specs.declared.refusal.EncodeRefusal.TheVariants.{EncodeStringFailed, EncodePatternFailed}
 use Rattle.smt_cli.specs.declared.refusal.JobRefusal.TheVariants.{TooLarge, BadForm}
 use Rattle.smt_cli.specs.declared.refusal.PrintRefusal.{PrintRefusal}

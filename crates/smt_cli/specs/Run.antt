@@ -1,7 +1,7 @@
 -- What a run is asked for, what it does, and what it says.
 use Rattle.std.specs.Prelude.{ℕ, ◌≡◌, ◌↔◌, ◌≤◌, ◌<◌, ◌⊎◌, ⊤, length, map, option_map, if◌then◌else◌, bytes_eq, codes, IfSome, IsTrue, is_some, List, [], ◌∷◌, Option, Some, None, Result}
 use Rattle.std.specs.Io.KnownBytes.{append_known}
-use Rattle.smt_meaning.specs.Faults.{Fault, EncodeStringFailed as StringFault, EncodePatternFailed as PatternFault, first_fault}
+use Rattle.smt_meaning.specs.Faults.{Fault, EncodeStringFailed as StringFault, EncodePatternFailed as PatternFault}
 use Rattle.smt_meaning.specs.Plain.{PatternPart}
 use Rattle.smt_meaning.specs.Interpretations.{IsInterpretation, restrict}
 use Rattle.smt_meaning.specs.Tables.{Interpretation}
@@ -12,7 +12,7 @@ use Rattle.smt_headline.specs.Headline.{AreTrue, Headline}
 use Rattle.smt_lines.specs.Text.{names, text}
 use Rattle.smt_script.specs.Sink.{Puts}
 use Rattle.smt_script.specs.declared.sink.SinkError.{SinkError}
-use Rattle.smt_cli.specs.Job.{IsJob, PlainJob, greatest_length}
+use Rattle.smt_jobs.specs.Job.{IsJob, PlainJob, fault_of, greatest_length}
 use Rattle.smt_cli.specs.Refusal.{line_of, status_of}
 use Rattle.smt_cli.specs.declared.program.Command.{Command}
 use Rattle.smt_cli.specs.declared.program.Command.TheVariants.{Script, Help, Version}
@@ -72,17 +72,9 @@ IsAJob bytes = (job : PlainJob) × IsJob bytes job
 abbrev pub IsNoJob : List ℕ → Type 0
 IsNoJob bytes = (job : PlainJob) → IsJob bytes job → ⊥
 
--- the first fault of the terms that are built of a job
-abbrev pub fault_of : PlainJob → Option Fault
-fault_of job = first_fault job.enums (map built job.terms)
-
 -- some job has these bytes, and what is built of its terms has a fault
 abbrev pub IsFaulty : List ℕ → Type 0
 IsFaulty bytes = (job : PlainJob) × IsJob bytes job × IsTrue (is_some (fault_of job))
-
--- What is built of a job has no fault: jobs have no strings, no patterns and no enum types yet.
-abbrev pub JobsAreFaultless : Type 0
-JobsAreFaultless = (bytes : List ℕ) (job : PlainJob) → IsJob bytes job → fault_of job ≡ None
 
 -- the first fault of a job is of this kind
 abbrev pub IsFaultOf : EncodeRefusal → Option Fault → Type 0

@@ -1,5 +1,5 @@
 // The run of the program, from its words to its status.
-ghost use Rattle.std.specs.Prelude.{◌≡◌, ◌≢◌, ◌↔◌, ◌<◌, [], length, IsErrOf, None, Some, IfErr, IfOk, IfSome, OnOk, option_map};
+ghost use Rattle.std.specs.Prelude.{◌≡◌, ◌≢◌, ◌↔◌, ◌<◌, ◌≤◌, [], IsErrOf, None, Some, IfErr, IfOk, IfSome, OnOk, option_map};
 ghost use Rattle.std.specs.Io.KnownBytes.{append_known};
 ghost use Rattle.smt_term.specs.Enums.{enums_of};
 ghost use Rattle.smt_meaning.specs.Faults.{first_fault};
@@ -8,21 +8,17 @@ ghost use Rattle.smt_headline.specs.Headline.{Headline};
 ghost use Rattle.smt_lines.specs.Text.{names, text};
 ghost use Rattle.smt_script.specs.Sink.{Rose};
 ghost use Rattle.smt_characters.specs.SharedTexts.{texts};
-ghost use Rattle.smt_cli.specs.Job.{IsBuiltFrom, IsJob, PlainJob, greatest_length};
-ghost use Rattle.smt_cli.specs.Numbered.{numbered_job, numbered_terms};
+ghost use Rattle.smt_jobs.specs.Job.{IsBuiltFrom};
+ghost use Rattle.smt_jobs.specs.Numbered.{numbered_job, numbered_terms};
 ghost use Rattle.smt_encode.specs.Refusals.{HasCause as CausedBy};
 ghost use Rattle.smt_cli.specs.Run.{commanded, HasCause, HasPrintCause, HasReadCause, IsComplete, IsDone, IsJustified, LeavesOutput, Reports};
 
-use crate::input::read_input;
-use crate::job::{GREATEST_JOB, JobError};
-use crate::numbered::{NumberedJob, NumberedTerms};
 use crate::refusal::{EncodeRefusal, PrintRefusal, ReadRefusal, Refusal};
-use crate::source::Source;
-use crate::walk::walk_job;
 use smt_encode::{EncodeError, Encoder, Steps};
-use smt_nodes::Interner;
+use smt_jobs::{GREATEST_JOB, NumberedJob, NumberedTerms, read_numbered};
 use smt_script::Sink;
-use smt_term::{EnumTable, Text};
+use smt_source::{Source, read_input};
+use smt_term::Text;
 use std::alloc::Global;
 use std::marker::Brand;
 use std::sync::ledger::{Blank, Ledger};
@@ -71,24 +67,6 @@ fn command_of(words: &[Text]) -> Option<Command>
     }
 }
 
-/// Reads a job as `read_job` does, and keeps the numbers of its terms alone.
-fn read_numbered(alloc: Global, bytes: &[u8]) -> Result<NumberedJob, JobError>
-    ensures job { IfOk result (λ job. IsBuiltFrom bytes.now (numbered_job job)) }
-    ensures too_large { IsErrOf result JobError.TooLarge ↔ (greatest_length < length bytes.now) }
-    ensures bad_form { IsErrOf result JobError.BadForm → (job : PlainJob) → IsJob bytes.now job → ⊥ }
-{
-    let mut terms = NumberedTerms {
-        nodes: Interner::new(alloc),
-        ids: Vec::new(alloc),
-    };
-    let vars = walk_job(alloc, bytes, &mut terms)?;
-    Ok(NumberedJob {
-        enums: EnumTable::new(alloc),
-        vars,
-        terms,
-    })
-}
-
 /// Reads the source to its end, and the job that it gave.
 fn read_source<R: Source>(alloc: Global, source: &mut R) -> Result<NumberedJob, ReadRefusal>
     ensures job { IfOk result (λ job. IfSome (R.remaining source.old) (λ bytes. IsBuiltFrom bytes (numbered_job job))) }
@@ -113,6 +91,7 @@ fn encode_job<L: Ledger, W: Sink>(
     ensures headline { AreBoolean (numbered_terms job.terms) → OnOk result (Headline (enums_of job.enums) (names (enums_of job.enums) (numbered_terms job.terms)) (numbered_terms job.terms) (text (enums_of job.enums) (numbered_terms job.terms))) }
     ensures refused { CausedBy (W.faults out.old) (W.faults out.new) (first_fault (enums_of job.enums) (numbered_terms job.terms)) result }
     ensures fresh { IsErrOf result EncodeError.Spent → ⊥ }
+    ensures later { W.faults out.old ≤ W.faults out.new }
 {
     let NumberedJob { enums, terms, .. } = job;
     let NumberedTerms { nodes, ids } = terms;
@@ -128,6 +107,7 @@ fn put_script<W: Sink>(alloc: Global, job: NumberedJob, out: &mut W) -> Result<(
     ensures text { OnOk result (W.contents out.new ≡ append_known (W.contents out.old) (text (enums_of job.enums) (numbered_terms job.terms))) }
     ensures headline { AreBoolean (numbered_terms job.terms) → OnOk result (Headline (enums_of job.enums) (names (enums_of job.enums) (numbered_terms job.terms)) (numbered_terms job.terms) (text (enums_of job.enums) (numbered_terms job.terms))) }
     ensures refused { IfErr result (HasPrintCause (first_fault (enums_of job.enums) (numbered_terms job.terms)) (Rose (W.faults out.old) (W.faults out.new))) }
+    ensures later { W.faults out.old ≤ W.faults out.new }
 {
     match encode_job::<Brand, W>(alloc, job, out, Blank::new(1)) {
         Ok(()) => Ok(()),
@@ -144,8 +124,8 @@ fn put_script<W: Sink>(alloc: Global, job: NumberedJob, out: &mut W) -> Result<(
     }
 }
 
-/// Does what the words ask for.
-fn answer<R: Source, W: Sink>(
+/// Puts what the words ask for.
+fn put_answer<R: Source, W: Sink>(
     alloc: Global,
     words: &[Text],
     source: &mut R,
@@ -155,6 +135,7 @@ fn answer<R: Source, W: Sink>(
     ensures refused { IfErr result (HasCause (commanded (texts words.now)) (R.remaining source.old) (Rose (R.faults source.old) (R.faults source.new)) (Rose (W.faults out.old) (W.faults out.new))) }
     ensures untouched { IfErr result (LeavesOutput (W.contents out.old) (W.contents out.new)) }
     ensures unread { commanded (texts words.now) ≢ Some Command.Script → source.new ≡ source.old }
+    ensures later { W.faults out.old ≤ W.faults out.new }
 {
     match command_of(words) {
         Some(Command::Script) => {
@@ -168,11 +149,33 @@ fn answer<R: Source, W: Sink>(
     Ok(())
 }
 
+/// Does what the words ask for: puts it, and flushes `out`, also where not all of it was put.
+fn answer<R: Source, W: Sink>(
+    alloc: Global,
+    words: &[Text],
+    source: &mut R,
+    out: &mut W,
+) -> Result<(), Refusal>
+    ensures done { OnOk result (IsDone (commanded (texts words.now)) (R.remaining source.old) (R.remaining source.new) (W.contents out.old) (W.contents out.new)) }
+    ensures refused { IfErr result (HasCause (commanded (texts words.now)) (R.remaining source.old) (Rose (R.faults source.old) (R.faults source.new)) (Rose (W.faults out.old) (W.faults out.new))) }
+    ensures untouched { IfErr result (LeavesOutput (W.contents out.old) (W.contents out.new)) }
+    ensures unread { commanded (texts words.now) ≢ Some Command.Script → source.new ≡ source.old }
+{
+    let outcome = put_answer(alloc, words, source, out);
+    let flushed = out.flush();
+    outcome?;
+    Ok(flushed?)
+}
+
 /// Runs the program over these words, and answers the status with which it ends.
 ///
 /// 0: what was asked for is put to `out`, and for `script` the source is read to its end. 2: the words are no command. 3: the
 /// job was refused. 4: a term of the job has no script. 5: the source failed. 6: `out` failed. 7: there was no memory. With 2,
 /// 3 and 5 nothing is put to `out`. But for 0, one line is put to `diag`; whether that went well changes no status.
+///
+/// The run flushes `out` once at its end, so that nothing of what was put is held back. A flush that fails ends it as a put that
+/// fails does. Where the run is refused before that, `out` is flushed for what was put until then, and whether that goes well
+/// changes no status.
 ///
 /// 3, 4 and 5 come of `script` alone. Other words leave the source as it was, unread. Where neither the source nor `out` failed
 /// and there was memory, `script` ends with 0 for a job and with 3 for any other bytes, and `--help` and `--version` end with 0.

@@ -2,9 +2,9 @@
 ghost use Rattle.std.specs.Prelude.{◌≡◌};
 ghost use Rattle.smt_cli.specs.Refusal.{line_of, status_of};
 
-use crate::input::InputError;
-use crate::job::JobError;
+use smt_jobs::JobError;
 use smt_script::SinkError;
+use smt_source::InputError;
 
 /// Why a run was not done.
 #[derive(Clone, Copy, Debug, PartialEq, Eq, Drop)]

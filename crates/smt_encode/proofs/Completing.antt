@@ -17,11 +17,11 @@ use Rattle.smt_nodes.specs.View.{place_of, places_of}
 use Rattle.smt_nodes.specs.declared.id.NodeId.{NodeId}
 use Rattle.smt_nodes.specs.declared.interner.Interner.{Interner}
 use Rattle.smt_encode.specs.Complete.{is_typed, is_written, AreTypedMeanings, HaveWrittenParts}
-use Rattle.smt_encode.specs.Encoded.{nodes_in, texts_in}
-use Rattle.smt_encode.specs.NodeTexts.{text_at}
+use Rattle.smt_encode.specs.Names.{nodes_under, texts_under}
+use Rattle.smt_encode.specs.NodeTexts.{text_at, HasNoTexts}
 use Rattle.smt_encode.specs.Texts.{kept_at}
-use Rattle.smt_encode.proofs.Named.{one_id}
-use Rattle.smt_encode.specs.declared.encoder.Encoder.{Encoder}
+use Rattle.smt_encode.proofs.Named.{none_at, one_id}
+use Rattle.smt_encode.specs.declared.writer.Writer.{Writer}
 use Rattle.smt_encode.specs.declared.node_names.NodeNames.{NodeNames}
 
 -- what has a text keeps one
@@ -49,27 +49,27 @@ typed_at (n ∷ ms) zero m left e h = let same : n ≡ m = cc in subst (λ (k : 
 typed_at (n ∷ ms) (suc i) m left e h = typed_at ms i m left e h.1
 
 -- Behind a node's parts its text is kept, and no other.
-pub node_completed : {S E : Type 0} (mid new : Encoder S) (id : NodeId) (node : PlainNode) (result : Result (RcStr Global) E)
-    → nodes_in new ≡ nodes_in mid → slice_get (nodes_of (nodes_in mid)) (place_of id) ≡ Some node → ((id : NodeId) (text : List ℕ) → text_at (texts_in mid) id ≡ Some text → text_at (texts_in new) id ≡ Some text)
-    → ((place : ℕ) → ¬ (place ≡ place_of id) → kept_at (texts_in new).texts.items place ≡ kept_at (texts_in mid).texts.items place)
-    → AllByRecursion (λ place. IsTrue (is_written (texts_in mid) place)) node.parts → HaveWrittenParts (nodes_in mid) (texts_in mid) → OnOk result (HaveWrittenParts (nodes_in new) (texts_in new))
+pub node_completed : {S E : Type 0} (mid new : Writer S) (id : NodeId) (node : PlainNode) (result : Result (RcStr Global) E)
+    → nodes_under new.names ≡ nodes_under mid.names → slice_get (nodes_of (nodes_under mid.names)) (place_of id) ≡ Some node → ((id : NodeId) (text : List ℕ) → text_at (texts_under mid.names) id ≡ Some text → text_at (texts_under new.names) id ≡ Some text)
+    → ((place : ℕ) → ¬ (place ≡ place_of id) → kept_at (texts_under new.names).texts.items place ≡ kept_at (texts_under mid.names).texts.items place)
+    → AllByRecursion (λ place. IsTrue (is_written (texts_under mid.names) place)) node.parts → HaveWrittenParts (nodes_under mid.names) (texts_under mid.names) → OnOk result (HaveWrittenParts (nodes_under new.names) (texts_under new.names))
 node_completed mid new id node (Err e) same at keeps only parts whole = tt
-node_completed mid new id node (Ok text) same at keeps only parts whole = subst (λ (i : Interner). HaveWrittenParts i (texts_in new)) (sym same) (λ place other there has. go place other there has (eqb_tells place (place_of id)))
+node_completed mid new id node (Ok text) same at keeps only parts whole = subst (λ (i : Interner). HaveWrittenParts i (texts_under new.names)) (sym same) (λ place other there has. go place other there has (eqb_tells place (place_of id)))
   where
-    go : (place : ℕ) (other : PlainNode) → slice_get (nodes_of (nodes_in mid)) place ≡ Some other → IsTrue (is_written (texts_in new) place)
-        → ((eqb place (place_of id) ≡ true) × (place ≡ place_of id)) ⊎ ((eqb place (place_of id) ≡ false) × ¬ (place ≡ place_of id)) → AllByRecursion (λ part. IsTrue (is_written (texts_in new) part)) other.parts
+    go : (place : ℕ) (other : PlainNode) → slice_get (nodes_of (nodes_under mid.names)) place ≡ Some other → IsTrue (is_written (texts_under new.names) place)
+        → ((eqb place (place_of id) ≡ true) × (place ≡ place_of id)) ⊎ ((eqb place (place_of id) ≡ false) × ¬ (place ≡ place_of id)) → AllByRecursion (λ part. IsTrue (is_written (texts_under new.names) part)) other.parts
     go place other there has (inl h) =
-        let e : Some node ≡ Some other = sym at ∙ ap (slice_get (nodes_of (nodes_in mid))) (sym h.1) ∙ there in
+        let e : Some node ≡ Some other = sym at ∙ ap (slice_get (nodes_of (nodes_under mid.names))) (sym h.1) ∙ there in
         let n : node ≡ other = cc in
-        subst (λ (k : PlainNode). AllByRecursion (λ part. IsTrue (is_written (texts_in new) part)) k.parts) n (all_stay (texts_in mid) (texts_in new) keeps node.parts parts)
+        subst (λ (k : PlainNode). AllByRecursion (λ part. IsTrue (is_written (texts_under new.names) part)) k.parts) n (all_stay (texts_under mid.names) (texts_under new.names) keeps node.parts parts)
     go place other there has (inr h) =
-        all_stay (texts_in mid) (texts_in new) keeps other.parts (whole place other there (subst (λ (o : Option (List ℕ)). IsTrue (is_some o)) (only place h.1) has))
+        all_stay (texts_under mid.names) (texts_under new.names) keeps other.parts (whole place other there (subst (λ (o : Option (List ℕ)). IsTrue (is_some o)) (only place h.1) has))
 
 -- ---- the first and the last step
 
 -- where no text is kept
-pub none_whole : (nodes : Interner) (names : NodeNames) → ((id : NodeId) → text_at names id ≡ None) → HaveWrittenParts nodes names
-none_whole nodes names fresh place node at here = let no : IsTrue false = subst (λ (o : Option (List ℕ)). IsTrue (is_some o)) (fresh (record { place = place })) here in absurd (cc)
+pub none_whole : (nodes : Interner) (names : NodeNames) → HasNoTexts names → HaveWrittenParts nodes names
+none_whole nodes names unwritten place node at here = let no : IsTrue false = subst (λ (o : Option (List ℕ)). IsTrue (is_some o)) (none_at names unwritten (record { place = place })) here in absurd (cc)
 
 -- where the nodes and their texts are the same
 pub same_whole : (old new : Interner) (was names : NodeNames) → new ≡ old → ((id : NodeId) → text_at names id ≡ text_at was id) → HaveWrittenParts old was → HaveWrittenParts new names

@@ -1,5 +1,5 @@
 -- The program's terms are conditions where they are typed as Booleans and have no fault: they are formed.
-use Rattle.std.proofs.Common.{◌≡◌, ℕ, List, [], ◌∷◌, ◌++◌, Option, Some, None, map, sym, ap, ◌∙◌, subst}
+use Rattle.std.proofs.Common.{◌≡◌, ℕ, List, [], ◌∷◌, ◌++◌, Option, Some, None, map, sym, ap, ◌∙◌}
 use Rattle.std.specs.Prelude.{unwrap_or}
 use Rattle.std.specs.Io.KnownBytes.{append_known}
 use Rattle.std.specs.List.{AllByRecursion}
@@ -21,22 +21,30 @@ use Rattle.smt_encode.specs.NodeTexts.{StandFor}
 use Rattle.smt_term.specs.View.{plain_term}
 use Rattle.smt_term.specs.declared.enums.EnumTable.{EnumTable}
 use Rattle.smt_term.specs.declared.term.Term.{Term}
-use Rattle.smt_term.proofs.FormedTerms.{both_formed, tables_are_empty, terms_are_formed}
+use Rattle.smt_term.proofs.AscendingTexts.{members_ascend}
+use Rattle.smt_term.proofs.FormedTerms.{both_formed, terms_are_formed}
+use Rattle.smt_term.specs.TextSets.{AreAscending}
 use Rattle.smt_nodes.proofs.Formed.{nodes_formed}
 use Rattle.smt_lines.specs.NameTables.{Tables}
 use Rattle.smt_lines.specs.Text.{names, text}
 use Rattle.smt_carrying.specs.CarriedOrder.{AreEnums}
 use Rattle.smt_headline.specs.Headline.{Headline}
 use Rattle.smt_headline.proofs.FitKept.{conditions_are_their_scripts}
-use Rattle.smt_encode.specs.Encoded.{HasNames, OfNames, OfReceived}
-use Rattle.smt_encode.specs.declared.encoder.Encoder.{Encoder}
+use Rattle.smt_encode.specs.Encoded.{OfReceived}
+use Rattle.smt_encode.specs.Names.{AreTables}
+use Rattle.smt_encode.specs.declared.names.Names.{Names}
 
 all_formed : (ts : List Term) → AllByRecursion IsFormed (map plain_term ts)
 all_formed [] = tt
 all_formed (t ∷ ts) = (terms_are_formed t, all_formed ts)
 
+-- the members of each enum type ascend
+are_members : (enums : Enums) → AllByRecursion (λ e. AreAscending e.1) enums → AreEnums enums
+are_members [] h = tt
+are_members (e ∷ enums) h = (record { ascending = h.0.ascending; texts = h.0.texts }, are_members enums h.1)
+
 are_enums : (table : EnumTable) → AreEnums (enums_of table)
-are_enums table = subst (λ (e : Enums). AreEnums e) (sym (tables_are_empty table)) tt
+are_enums table = are_members (enums_of table) (members_ascend table)
 
 pub headline : (table : EnumTable) (ts : List Term) → AreBoolean (map plain_term ts) → first_fault (enums_of table) (map plain_term ts) ≡ None → Headline (enums_of table) (names (enums_of table) (map plain_term ts)) (map plain_term ts) (text (enums_of table) (map plain_term ts))
 headline table ts typed none =
@@ -59,9 +67,9 @@ node_headline table i ids ts stand typed none =
     conditions_are_their_scripts (enums_of table) ts (are_enums table)
     (record { are_typed = typed; are_formed = stand_formed i ids ts stand; have_no_fault = none })
 
--- What a text and names say of terms, the bytes that were received say of them with the encoder's names.
-pub received : {S : Type 0} (e : Encoder S) (enums : Enums) (ts : List PlainTerm) (s : Tables) (bytes : List ℕ) (before after : Option (List ℕ)) → after ≡ append_known before bytes → HasNames e s → Headline enums s ts bytes
-    → OfReceived before after (λ got. OfNames e (λ names. Headline enums names ts got))
-received e enums ts s bytes before after put has h old new was is =
+-- What a text and names say of terms, the bytes that were received say of them with these names.
+pub received : (n : Names) (enums : Enums) (ts : List PlainTerm) (s : Tables) (bytes : List ℕ) (before after : Option (List ℕ)) → after ≡ append_known before bytes → AreTables n s → Headline enums s ts bytes
+    → OfReceived before after (λ got. (t : Tables) × AreTables n t × Headline enums t ts got)
+received n enums ts s bytes before after put has h old new was is =
     let known : ◌≡◌ {A = Option (List ℕ)} (Some new) (Some (old ++ bytes)) = sym is ∙ put ∙ ap (λ (o : Option (List ℕ)). append_known o bytes) was in
     (bytes, ap (λ (o : Option (List ℕ)). unwrap_or o new) known, (s, has, h))

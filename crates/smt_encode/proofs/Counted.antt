@@ -10,11 +10,11 @@ use Rattle.smt_nodes.specs.Interned.{nodes_of}
 use Rattle.smt_nodes.specs.View.{place_of}
 use Rattle.smt_nodes.specs.declared.id.NodeId.{NodeId}
 use Rattle.smt_nodes.specs.declared.interner.Interner.{Interner}
-use Rattle.smt_encode.specs.Encoded.{nodes_in, texts_in}
+use Rattle.smt_encode.specs.Names.{nodes_under, texts_under}
 use Rattle.smt_encode.specs.LookUps.{edges, edges_at, edges_from, edges_left}
 use Rattle.smt_encode.specs.NodeTexts.{text_at}
 use Rattle.smt_encode.specs.Steps.{edges_in}
-use Rattle.smt_encode.specs.declared.encoder.Encoder.{Encoder}
+use Rattle.smt_encode.specs.declared.writer.Writer.{Writer}
 use Rattle.smt_encode.specs.declared.node_names.NodeNames.{NodeNames}
 
 -- a smaller set has no more
@@ -67,17 +67,17 @@ is_gone true None text some = absurd (cc)
 is_gone true (Some other) text some = refl
 
 -- Behind a node's parts its text is kept: as many look-ups fewer are left as it has parts.
-pub node_counted : {S E : Type 0} (has : ℕ → Bool) (mid new : Encoder S) (id : NodeId) (node : PlainNode) (result : Result (RcStr Global) E) (first steps count left : ℕ)
-    → nodes_in new ≡ nodes_in mid → slice_get (nodes_of (nodes_in mid)) (place_of id) ≡ Some node → IsTrue (has (place_of id)) → text_at (texts_in mid) id ≡ None
-    → ((id : NodeId) (text : List ℕ) → text_at (texts_in mid) id ≡ Some text → text_at (texts_in new) id ≡ Some text) → IfOk result (λ text. text_at (texts_in new) id ≡ Some (rc_str_bytes text))
+pub node_counted : {S E : Type 0} (has : ℕ → Bool) (mid new : Writer S) (id : NodeId) (node : PlainNode) (result : Result (RcStr Global) E) (first steps count left : ℕ)
+    → nodes_under new.names ≡ nodes_under mid.names → slice_get (nodes_of (nodes_under mid.names)) (place_of id) ≡ Some node → IsTrue (has (place_of id)) → text_at (texts_under mid.names) id ≡ None
+    → ((id : NodeId) (text : List ℕ) → text_at (texts_under mid.names) id ≡ Some text → text_at (texts_under new.names) id ≡ Some text) → IfOk result (λ text. text_at (texts_under new.names) id ≡ Some (rc_str_bytes text))
     → count ≤ length node.parts → steps + edges_in has mid ≤ first + count + left → OnOk result (steps + edges_in has new ≤ first + left)
 node_counted has mid new id node (Err e) first steps count left same at there none keeps kept fewer_parts h = tt
 node_counted has mid new id node (Ok text) first steps count left same at there none keeps kept fewer_parts h =
     let i = place_of id in
-    let less = fewer_by (λ p. has p && is_none (text_at (texts_in new) (record { place = p }))) (λ p. has p && is_none (text_at (texts_in mid) (record { place = p }))) 0 i i (nodes_of (nodes_in mid)) node
-    (λ p. none_before (has p) (text_at (texts_in mid) (record { place = p })) (text_at (texts_in new) (record { place = p })) (keeps (record { place = p }))) (omega (arith)) at
-    (is_left (has i) (text_at (texts_in mid) id) there none) (is_gone (has i) (text_at (texts_in new) id) (rc_str_bytes text) kept) in
-    let e : edges_in has new ≡ edges (λ p. has p && is_none (text_at (texts_in new) (record { place = p }))) (nodes_of (nodes_in mid)) = ap (λ (n : Interner). edges_left has n (texts_in new)) same in
+    let less = fewer_by (λ p. has p && is_none (text_at (texts_under new.names) (record { place = p }))) (λ p. has p && is_none (text_at (texts_under mid.names) (record { place = p }))) 0 i i (nodes_of (nodes_under mid.names)) node
+    (λ p. none_before (has p) (text_at (texts_under mid.names) (record { place = p })) (text_at (texts_under new.names) (record { place = p })) (keeps (record { place = p }))) (omega (arith)) at
+    (is_left (has i) (text_at (texts_under mid.names) id) there none) (is_gone (has i) (text_at (texts_under new.names) id) (rc_str_bytes text) kept) in
+    let e : edges_in has new ≡ edges (λ p. has p && is_none (text_at (texts_under new.names) (record { place = p }))) (nodes_of (nodes_under mid.names)) = ap (λ (n : Interner). edges_left has n (texts_under new.names)) same in
     omega (arith, less, e, fewer_parts, h)
 
 -- no more edges are left than there are

@@ -14,7 +14,7 @@ use Rattle.smt_encode.specs.Entries.{enter_by, entered_by, entry_by, inline_by, 
 use Rattle.smt_encode.specs.NodeLines.{encode_meanings}
 use Rattle.smt_encode.specs.NodeTexts.{IsText}
 use Rattle.smt_encode.specs.Steps.{AreSpelled, IsSpelled, WritesHere}
-use Rattle.smt_encode.specs.declared.encoder.Encoder.{Encoder}
+use Rattle.smt_encode.specs.declared.writer.Writer.{Writer}
 use Rattle.smt_encode.proofs.Stated.{stated}
 
 -- an inline text is stated
@@ -60,7 +60,7 @@ taken_off [] others x h is rest = absurd (omega (arith, h))
 taken_off (y ∷ xs) others x h is rest = sym (λ i. is i ∷ rest i)
 
 -- a term is written by its entry
-pub entry_written : {S E : Type 0} (contents : S → Option (List ℕ)) (old new : Encoder S) (m : Meaning) (t : PlainTerm) (es : List Expression) (s : Tables) (first : RcStr Global) (others : List (RcStr Global)) (result : Result (RcStr Global) E)
+pub entry_written : {S E : Type 0} (contents : S → Option (List ℕ)) (old new : Writer S) (m : Meaning) (t : PlainTerm) (es : List Expression) (s : Tables) (first : RcStr Global) (others : List (RcStr Global)) (result : Result (RcStr Global) E)
     → m ≡ TermMeaning t → AreSpelled es (first ∷ others) → inline_by (label_in m) es ≡ None
     → ((e : Expression) (rest : List Expression) → rc_str_bytes first ≡ spelled e → AreSpelled rest others → WritesHere contents old new (enter_by (entry_by (label_in m) (rendering_in m) e rest) t e s) IsSpelled result)
     → WritesHere contents old new (own_lines m es s) IsSpelled result

@@ -18,7 +18,7 @@ use Rattle.smt_lines.specs.NameTables.{Tables}
 use Rattle.smt_lines.specs.Spelling.{spelled}
 use Rattle.smt_encode.specs.NodeLines.{encode_meaning, encode_meanings, meaning_fault, meanings_fault}
 use Rattle.smt_encode.specs.Steps.{AreSpelled, HasTables, IsSpelled, Wrote}
-use Rattle.smt_encode.specs.declared.encoder.Encoder.{Encoder}
+use Rattle.smt_encode.specs.declared.writer.Writer.{Writer}
 use Rattle.smt_encode.proofs.Lines.{nothing_written, wrote_then}
 
 -- what the number at a place of a list stands for, and what those behind it stand for
@@ -63,7 +63,7 @@ abbrev pub behind_these : List Expression → List Line → Written (List Expres
 behind_these made lines w = record { made = made ++ w.made; lines = lines ++ w.lines; tables = w.tables }
 
 -- What was written so far and what is stated of the nodes that are left are what is stated of all.
-pub record Going {S : Type 0} (contents : S → Option (List ℕ)) (enums : Enums) (first now : Encoder S) (left all : List Meaning) (texts : List (RcStr Global)) (s : Tables) : Type 0 where
+pub record Going {S : Type 0} (contents : S → Option (List ℕ)) (enums : Enums) (first now : Writer S) (left all : List Meaning) (texts : List (RcStr Global)) (s : Tables) : Type 0 where
   pub tables : Tables
   pub lines : List Line
   pub made : List Expression
@@ -71,7 +71,7 @@ pub record Going {S : Type 0} (contents : S → Option (List ℕ)) (enums : Enum
   pub shown : AreSpelled made texts
   pub whole : encode_meanings enums all s ≡ behind_these made lines (encode_meanings enums left tables)
 
-pub starts : {S : Type 0} {contents : S → Option (List ℕ)} {enums : Enums} (e : Encoder S) (all : List Meaning) {texts : List (RcStr Global)} (s : Tables) → texts ≡ [] → HasTables e s → Going contents enums e e all all texts s
+pub starts : {S : Type 0} {contents : S → Option (List ℕ)} {enums : Enums} (e : Writer S) (all : List Meaning) {texts : List (RcStr Global)} (s : Tables) → texts ≡ [] → HasTables e s → Going contents enums e e all all texts s
 starts e all s none has = record { tables = s; lines = []; made = []; wrote = nothing_written e s has; shown = ap (map rc_str_bytes) none; whole = refl }
 
 -- behind lines, a node's text and then those of the others
@@ -82,14 +82,14 @@ one_behind made lines w v =
     let f : lines ++ (w.lines ++ (v.lines ++ [])) ≡ (lines ++ w.lines) ++ v.lines = rw append-nil (sym (append_assoc lines w.lines v.lines)) in
     λ i. record { made = e i; lines = f i; tables = v.tables }
 
--- what was written for one node, whose encoder knows the same enum types
-pub same_enums : {S : Type 0} {contents : S → Option (List ℕ)} {now next : Encoder S} (m : Meaning) (text : RcStr Global) (s : Tables) {those these : Enums} → those ≡ these
+-- what was written for one node, over the same enum types
+pub same_enums : {S : Type 0} {contents : S → Option (List ℕ)} {now next : Writer S} (m : Meaning) (text : RcStr Global) (s : Tables) {those these : Enums} → those ≡ these
     → Wrote contents now next (encode_meaning those m s).lines (encode_meaning those m s).tables × IsSpelled (encode_meaning those m s).made text
     → Wrote contents now next (encode_meaning these m s).lines (encode_meaning these m s).tables × IsSpelled (encode_meaning these m s).made text
 same_enums m text s same p = rw (sym same) p
 
 -- one node more
-pub goes_on : {S : Type 0} {contents : S → Option (List ℕ)} {enums : Enums} {first now next : Encoder S} {left left' all : List Meaning} {texts texts' : List (RcStr Global)} {s : Tables} (m : Meaning) (text : RcStr Global)
+pub goes_on : {S : Type 0} {contents : S → Option (List ℕ)} {enums : Enums} {first now next : Writer S} {left left' all : List Meaning} {texts texts' : List (RcStr Global)} {s : Tables} (m : Meaning) (text : RcStr Global)
     → left ≡ m ∷ left' → texts' ≡ texts ++ text ∷ [] → (g : Going contents enums first now left all texts s)
     → (Wrote contents now next (encode_meaning enums m g.tables).lines (encode_meaning enums m g.tables).tables × IsSpelled (encode_meaning enums m g.tables).made text)
     → Going contents enums first next left' all texts' s
@@ -105,11 +105,11 @@ goes_on {enums = enums} {left = left} {left'} {texts = texts} m text this more g
     }
 
 -- all nodes are written
-pub record Done {S : Type 0} (contents : S → Option (List ℕ)) (enums : Enums) (first now : Encoder S) (all : List Meaning) (texts : List (RcStr Global)) (s : Tables) : Type 0 where
+pub record Done {S : Type 0} (contents : S → Option (List ℕ)) (enums : Enums) (first now : Writer S) (all : List Meaning) (texts : List (RcStr Global)) (s : Tables) : Type 0 where
   pub wrote : Wrote contents first now (encode_meanings enums all s).lines (encode_meanings enums all s).tables
   pub shown : AreSpelled (encode_meanings enums all s).made texts
 
-pub ends : {S : Type 0} {contents : S → Option (List ℕ)} {enums : Enums} {first now : Encoder S} {left all : List Meaning} {texts : List (RcStr Global)} {s : Tables} → left ≡ [] → Going contents enums first now left all texts s → Done contents enums first now all texts s
+pub ends : {S : Type 0} {contents : S → Option (List ℕ)} {enums : Enums} {first now : Writer S} {left all : List Meaning} {texts : List (RcStr Global)} {s : Tables} → left ≡ [] → Going contents enums first now left all texts s → Done contents enums first now all texts s
 ends {contents = contents} {enums} {first} {now} {left} {all} {texts} {s} none g =
     let e : encode_meanings enums all s ≡ record { made = g.made; lines = g.lines; tables = g.tables } =
     g.whole ∙ ap (λ l. behind_these g.made g.lines (encode_meanings enums l g.tables)) none ∙ (λ i. record { made = append-nil g.made i; lines = append-nil g.lines i; tables = g.tables }) in

@@ -10,7 +10,7 @@ use Rattle.smt_characters.specs.LineTexts.{declare_datatype_text}
 use Rattle.smt_script.proofs.PutsLemmas.{appends_then, appends_nothing}
 use Rattle.smt_encode.specs.Steps.{HasTables, PutsLine, Wrote}
 use Rattle.smt_encode.specs.Names.{KeepTables}
-use Rattle.smt_encode.specs.declared.encoder.Encoder.{Encoder}
+use Rattle.smt_encode.specs.declared.writer.Writer.{Writer}
 use Rattle.smt_encode.specs.declared.names.Names.{Names}
 
 -- the line that declares `Option`
@@ -24,23 +24,23 @@ lines_append ls ms = flat_map-append spelled_line ls ms
 
 module _ {S : Type 0} {contents : S → Option (List ℕ)} where
   -- nothing was written
-  pub nothing_written : (e : Encoder S) (s : Tables) → HasTables e s → Wrote contents e e [] s
+  pub nothing_written : (e : Writer S) (s : Tables) → HasTables e s → Wrote contents e e [] s
   nothing_written e s has = record { names = has; contents_are = appends_nothing (contents e.script) }
 
   -- lines, and then more lines
-  pub wrote_then : {old mid new : Encoder S} {ls ms : List Line} {s t : Tables} → Wrote contents old mid ls s → Wrote contents mid new ms t → Wrote contents old new (ls ++ ms) t
+  pub wrote_then : {old mid new : Writer S} {ls ms : List Line} {s t : Tables} → Wrote contents old mid ls s → Wrote contents mid new ms t → Wrote contents old new (ls ++ ms) t
   wrote_then {old} {mid} {new} {ls} {ms} {s} {t} p q = record {
     names = q.names;
     contents_are = appends_then (contents old.script) (contents mid.script) (contents new.script) (spelled_lines ls) (spelled_lines ms) p.contents_are q.contents_are ∙ ap (append_known (contents old.script)) (sym (lines_append ls ms));
   }
 
   -- what is stated in two steps is written in two steps
-  pub binds : {A B : Type 0} {old mid new : Encoder S} (w : Written A) (f : A → Tables → Written B) → Wrote contents old mid w.lines w.tables → Wrote contents mid new (f w.made w.tables).lines (f w.made w.tables).tables
+  pub binds : {A B : Type 0} {old mid new : Writer S} (w : Written A) (f : A → Tables → Written B) → Wrote contents old mid w.lines w.tables → Wrote contents mid new (f w.made w.tables).lines (f w.made w.tables).tables
       → Wrote contents old new (w >>= f).lines (w >>= f).tables
   binds w f p q = wrote_then p q
 
   -- one line that was put
-  pub put : {T E : Type 0} {u : T} {old new : Encoder S} {bytes : List ℕ} (line : Line) (s : Tables) → PutsLine {T = T} {E = E} contents old new bytes (Ok u) → bytes ≡ spelled_line line → HasTables old s → Wrote contents old new (line ∷ []) s
+  pub put : {T E : Type 0} {u : T} {old new : Writer S} {bytes : List ℕ} (line : Line) (s : Tables) → PutsLine {T = T} {E = E} contents old new bytes (Ok u) → bytes ≡ spelled_line line → HasTables old s → Wrote contents old new (line ∷ []) s
   put {old = old} {new} line s p e has = record {
     names = subst (λ (n : Names). KeepTables n s) (sym p.same_names) has;
     contents_are = p.got ∙ ap (append_known (contents old.script)) (e ∙ sym (append-nil (spelled_line line)));

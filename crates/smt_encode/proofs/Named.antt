@@ -17,7 +17,7 @@ use Rattle.smt_lines.specs.NameTables.{Tables, name_of_term, no_names}
 use Rattle.smt_lines.proofs.Making.{lookup_new, lookup_other}
 use Rattle.smt_meaning.specs.TypeValues.{Enums}
 use Rattle.smt_encode.specs.NodeLines.{has_entry, meaning_fault}
-use Rattle.smt_encode.specs.NodeTexts.{text_at, AreSound, HasName, IsText}
+use Rattle.smt_encode.specs.NodeTexts.{text_at, AreSound, HasName, HasNoTexts, IsText}
 use Rattle.smt_encode.specs.Names.{enums_under, AreTables, KeepTables}
 use Rattle.smt_encode.specs.Texts.{kept_at, IsKept}
 use Rattle.smt_encode.specs.declared.names.Names.{Names}
@@ -204,17 +204,25 @@ none_found i names t none = λ id h e. absurd (none id h)
 pub no_name : (i : Interner) (names : NodeNames) (t : PlainTerm) → has_entry (TermMeaning t) ≡ false → HasName i names t None
 no_name i names t none = λ id h e. absurd (false≢true (sym none ∙ e))
 
--- ---- tables alone, and those of a fresh encoder
+-- ---- tables alone, and those of no text
 
 pub names_alone : (n : Names) (s : Tables) → KeepTables n s → AreTables n s
 names_alone n s k = record { terms = k.terms; count = k.count; types = k.types; functions = k.functions }
 
-pub fresh_tables : (n : Names) → ((id : NodeId) → text_at n.texts id ≡ None) → KeepTables n no_names
-fresh_tables n fresh =
-    let none = kept.none_kept n.texts.texts.items (λ i. fresh (record { place = i })) in
+pub none_at : (names : NodeNames) → HasNoTexts names → (id : NodeId) → text_at names id ≡ None
+none_at names none id = go (text_at names id) (none id)
+  where
+    go : (o : Option (List ℕ)) → IsTrue (is_none o) → o ≡ None
+    go None h = refl
+    go (Some x) h = absurd (false≢true h)
+
+pub no_tables : (n : Names) → HasNoTexts n.texts → KeepTables n no_names
+no_tables n unwritten =
+    let at = none_at n.texts unwritten in
+    let none = kept.none_kept n.texts.texts.items (λ i. at (record { place = i })) in
     record {
-      terms = λ t id h entry. fresh id;
-      inline = λ id m text h e there. absurd (no_text (sym (fresh id) ∙ there));
+      terms = λ t id h entry. at id;
+      inline = λ id m text h e there. absurd (no_text (sym (at id) ∙ there));
       count = omega (arith, none, n.texts.counted);
       types = refl;
       functions = refl;

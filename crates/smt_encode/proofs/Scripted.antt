@@ -13,9 +13,9 @@ use Rattle.smt_lines.specs.Lines.{Enums, encode, encode_terms, option_line}
 use Rattle.smt_lines.specs.NameTables.{Tables, no_names}
 use Rattle.smt_lines.specs.Spelling.{spelled}
 use Rattle.smt_lines.specs.Text.{names, text}
-use Rattle.smt_encode.specs.Encoded.{enums_in}
+use Rattle.smt_encode.specs.Names.{enums_under}
 use Rattle.smt_encode.specs.Steps.{AreSpelled, Wrote}
-use Rattle.smt_encode.specs.declared.encoder.Encoder.{Encoder}
+use Rattle.smt_encode.specs.declared.writer.Writer.{Writer}
 use Rattle.smt_encode.proofs.Lines.{wrote_then}
 
 -- the expression that a text spells, behind those before it
@@ -37,13 +37,13 @@ spelled_at (e ∷ es) (t ∷ ts) (suc i) text p l q =
 
 module _ {S : Type 0} {contents : S → Option (List ℕ)} where
   -- one assertion more
-  pub asserted : {old mid new : Encoder S} (es : List Expression) (i : ℕ) (e : Expression) (s : Tables) → take (i + 1) es ≡ take i es ++ e ∷ []
+  pub asserted : {old mid new : Writer S} (es : List Expression) (i : ℕ) (e : Expression) (s : Tables) → take (i + 1) es ≡ take i es ++ e ∷ []
       → Wrote contents old mid (map Assert (take i es)) s → Wrote contents mid new (Assert e ∷ []) s → Wrote contents old new (map Assert (take (i + 1) es)) s
   asserted {old} {mid} {new} es i e s behind p q =
       subst (λ (ls : List Line). Wrote contents old new ls s) (sym (ap (map Assert) behind ∙ map-append Assert (take i es) (e ∷ []))) (wrote_then p q)
 
   -- the three parts of a script
-  pub scripted : {old opened mid : Encoder S} (new : Encoder S) (enums : Enums) (ts : List PlainTerm) → Wrote contents old opened (option_line ∷ []) no_names
+  pub scripted : {old opened mid : Writer S} (new : Writer S) (enums : Enums) (ts : List PlainTerm) → Wrote contents old opened (option_line ∷ []) no_names
       → Wrote contents opened mid (encode_terms enums (terms ts) no_names).lines (encode_terms enums (terms ts) no_names).tables
       → Wrote contents mid new (map Assert (encode_terms enums (terms ts) no_names).made) (encode_terms enums (terms ts) no_names).tables
       → Wrote contents old new (option_line ∷ (encode enums ts no_names).lines) (names enums ts)
@@ -54,16 +54,16 @@ text_is : (enums : Enums) (ts : List PlainTerm) → spelled_lines (option_line �
 text_is enums ts = ap spelled_lines (sym (append-nil (option_line ∷ (encode enums ts no_names).lines)))
 
 -- where the lines of a whole script were written, its text was
-pub text_written : {S : Type 0} {contents : S → Option (List ℕ)} {old new : Encoder S} {s : Tables} (enums : Enums) (ts : List PlainTerm) → Wrote contents old new (option_line ∷ (encode enums ts no_names).lines) s
+pub text_written : {S : Type 0} {contents : S → Option (List ℕ)} {old new : Writer S} {s : Tables} (enums : Enums) (ts : List PlainTerm) → Wrote contents old new (option_line ∷ (encode enums ts no_names).lines) s
     → contents new.script ≡ append_known (contents old.script) (text enums ts)
 text_written {contents = contents} {old} enums ts w = w.contents_are ∙ ap (append_known (contents old.script)) (text_is enums ts)
 
 -- the lines of a whole script, with the names behind it
-abbrev pub script_of : {S : Type 0} → (S → Option (List ℕ)) → Encoder S → Encoder S → Enums → List PlainTerm → Type 0
+abbrev pub script_of : {S : Type 0} → (S → Option (List ℕ)) → Writer S → Writer S → Enums → List PlainTerm → Type 0
 script_of contents old new enums ts = Wrote contents old new (option_line ∷ (encode enums ts no_names).lines) (names enums ts)
 
--- what was written by an encoder that has the same sink and knows the same enum types
-pub wrote_here : {S T E : Type 0} (contents : S → Option (List ℕ)) (old mid new : Encoder S) (ts : List PlainTerm) (result : Result T E) → old.script ≡ mid.script → enums_in mid ≡ enums_in old → OnOk result (script_of contents mid new (enums_in mid) ts) → OnOk result (script_of contents old new (enums_in old) ts)
+-- what was written by a writer that has the same sink and the same enum types
+pub wrote_here : {S T E : Type 0} (contents : S → Option (List ℕ)) (old mid new : Writer S) (ts : List PlainTerm) (result : Result T E) → old.script ≡ mid.script → enums_under mid.names ≡ enums_under old.names → OnOk result (script_of contents mid new (enums_under mid.names) ts) → OnOk result (script_of contents old new (enums_under old.names) ts)
 wrote_here contents old mid new ts (Ok x) same enums w =
-    subst (λ (e : Enums). script_of contents old new e ts) enums (record { names = w.names; contents_are = w.contents_are ∙ ap (λ s. append_known (contents s) (spelled_lines (option_line ∷ (encode (enums_in mid) ts no_names).lines))) (sym same) })
+    subst (λ (e : Enums). script_of contents old new e ts) enums (record { names = w.names; contents_are = w.contents_are ∙ ap (λ s. append_known (contents s) (spelled_lines (option_line ∷ (encode (enums_under mid.names) ts no_names).lines))) (sym same) })
 wrote_here contents old mid new ts (Err e) same enums w = tt

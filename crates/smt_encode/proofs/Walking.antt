@@ -21,11 +21,10 @@ use Rattle.smt_encode.proofs.Lines.{binds}
 use Rattle.smt_encode.proofs.Rendered.{found_length}
 use Rattle.smt_nodes.specs.View.{ids_of, place_of, places_of, plain_node}
 use Rattle.smt_nodes.specs.declared.id.NodeId.{NodeId}
-use Rattle.smt_encode.specs.Encoded.{texts_in}
-use Rattle.smt_encode.specs.Names.{HasRoom, StandsOn}
+use Rattle.smt_encode.specs.Names.{texts_under, HasRoom, StandsOn}
 use Rattle.smt_encode.specs.NodeTexts.{text_at, IsNodeOf}
 use Rattle.smt_encode.specs.Steps.{FaultCounted, Walks, WritesHere, Wrote}
-use Rattle.smt_encode.specs.declared.encoder.Encoder.{Encoder}
+use Rattle.smt_encode.specs.declared.writer.Writer.{Writer}
 use Rattle.smt_encode.specs.declared.names.Names.{Names}
 
 -- what holds of the places of a list holds of one of them
@@ -45,7 +44,7 @@ pub room_stays : {a b : Names} → StandsOn a b → HasRoom a → HasRoom b
 room_stays {a} {b} p h = p.room ∙ h ∙ ap (λ i. length (nodes_of i)) (sym p.nodes)
 
 -- one walk behind the other
-pub walks_then : {S T U E : Type 0} {faults : S → ℕ} {place : S → List ℕ} {fault : E} {first mid new : Encoder S} {one : Result T E} {two : Result U E} {V : Type 0} (before behind : ℕ) (result : Result V E) → behind ≤ before
+pub walks_then : {S T U E : Type 0} {faults : S → ℕ} {place : S → List ℕ} {fault : E} {first mid new : Writer S} {one : Result T E} {two : Result U E} {V : Type 0} (before behind : ℕ) (result : Result V E) → behind ≤ before
     → Walks faults place fault before first mid one → Walks faults place fault behind mid new two → FaultCounted faults place fault first new result → Walks faults place fault before first new result
 walks_then before behind result less p q counted = record {
   counted = counted;
@@ -55,23 +54,23 @@ walks_then before behind result less p q counted = record {
 }
 
 -- the text of one more number is kept
-pub kept_more : {S : Type 0} (mid new : Encoder S) (ids : List NodeId) (i : ℕ) (d : NodeId) (texts more : List (RcStr Global)) (text : RcStr Global) → i < length ids → ((id : NodeId) (x : List ℕ) → text_at (texts_in mid) id ≡ Some x → text_at (texts_in new) id ≡ Some x)
-    → map (text_at (texts_in mid)) (take i ids) ≡ map (λ text. Some (rc_str_bytes text)) texts → text_at (texts_in new) (get_or ids i d) ≡ Some (rc_str_bytes text) → more ≡ texts ++ text ∷ []
-    → map (text_at (texts_in new)) (take (i + 1) ids) ≡ map (λ text. Some (rc_str_bytes text)) more
+pub kept_more : {S : Type 0} (mid new : Writer S) (ids : List NodeId) (i : ℕ) (d : NodeId) (texts more : List (RcStr Global)) (text : RcStr Global) → i < length ids → ((id : NodeId) (x : List ℕ) → text_at (texts_under mid.names) id ≡ Some x → text_at (texts_under new.names) id ≡ Some x)
+    → map (text_at (texts_under mid.names)) (take i ids) ≡ map (λ text. Some (rc_str_bytes text)) texts → text_at (texts_under new.names) (get_or ids i d) ≡ Some (rc_str_bytes text) → more ≡ texts ++ text ∷ []
+    → map (text_at (texts_under new.names)) (take (i + 1) ids) ≡ map (λ text. Some (rc_str_bytes text)) more
 kept_more mid new ids i d texts more text b keeps h here is =
-    ap (λ n. map (text_at (texts_in new)) (take n ids)) (add-one i)
-    ∙ ap (map (text_at (texts_in new))) (take-suc ids i d b)
-    ∙ map-append (text_at (texts_in new)) (take i ids) (get_or ids i d ∷ [])
+    ap (λ n. map (text_at (texts_under new.names)) (take n ids)) (add-one i)
+    ∙ ap (map (text_at (texts_under new.names))) (take-suc ids i d b)
+    ∙ map-append (text_at (texts_under new.names)) (take i ids) (get_or ids i d ∷ [])
     ∙ (λ k. older (take i ids) texts h k ++ here k ∷ [])
     ∙ sym (map-append (λ text. Some (rc_str_bytes text)) texts (text ∷ []))
     ∙ ap (map (λ text. Some (rc_str_bytes text))) (sym is)
   where
-    older : (ids : List NodeId) (texts : List (RcStr Global)) → map (text_at (texts_in mid)) ids ≡ map (λ text. Some (rc_str_bytes text)) texts → map (text_at (texts_in new)) ids ≡ map (λ text. Some (rc_str_bytes text)) texts
+    older : (ids : List NodeId) (texts : List (RcStr Global)) → map (text_at (texts_under mid.names)) ids ≡ map (λ text. Some (rc_str_bytes text)) texts → map (text_at (texts_under new.names)) ids ≡ map (λ text. Some (rc_str_bytes text)) texts
     older [] texts h = h
     older (id ∷ ids) [] h = absurd (cc)
     older (id ∷ ids) (text ∷ texts) h =
-        let e : text_at (texts_in new) id ≡ Some (rc_str_bytes text) = keeps id (rc_str_bytes text) (cc) in
-        let f : map (text_at (texts_in new)) ids ≡ map (λ text. Some (rc_str_bytes text)) texts = older ids texts (cc) in
+        let e : text_at (texts_under new.names) id ≡ Some (rc_str_bytes text) = keeps id (rc_str_bytes text) (cc) in
+        let f : map (text_at (texts_under new.names)) ids ≡ map (λ text. Some (rc_str_bytes text)) texts = older ids texts (cc) in
         λ k. e k ∷ f k
 
 -- ---- the parts that are written before a node
@@ -125,6 +124,6 @@ module _ (i : Interner) (id : NodeId) (node : Node) (is : IsNodeOf i id node) (m
   parts_count = sym (length-map written place_of) ∙ sym (found_length (meanings (nodes_of i)) (places_of written) (written_parts (rendering_in m) (parts_in m)) parts_found)
 
 -- what is stated in two steps is written in two steps
-pub both_written : {S A B T E : Type 0} (contents : S → Option (List ℕ)) (old mid new : Encoder S) (w : Written A) (f : A → Tables → Written B) (Shows : B → T → Type 0) (result : Result T E) → Wrote contents old mid w.lines w.tables → WritesHere contents mid new (f w.made w.tables) Shows result → WritesHere contents old new (w >>= f) Shows result
+pub both_written : {S A B T E : Type 0} (contents : S → Option (List ℕ)) (old mid new : Writer S) (w : Written A) (f : A → Tables → Written B) (Shows : B → T → Type 0) (result : Result T E) → Wrote contents old mid w.lines w.tables → WritesHere contents mid new (f w.made w.tables) Shows result → WritesHere contents old new (w >>= f) Shows result
 both_written contents old mid new w f Shows (Ok x) p q = (binds w f p q.0, q.1)
 both_written contents old mid new w f Shows (Err e) p q = tt

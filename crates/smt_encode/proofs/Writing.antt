@@ -1,5 +1,5 @@
 -- Texts that are kept are stated without a line.
-use Rattle.std.proofs.Common.{◌≡◌, ℕ, Bool, true, false, List, [], ◌∷◌, map, Option, Some, None, refl, sym, ap, ◌∙◌}
+use Rattle.std.proofs.Common.{◌≡◌, ℕ, Bool, true, false, List, [], ◌∷◌, map, Option, Some, None, refl, sym, ap, subst, ◌∙◌}
 use Rattle.std.specs.Prelude.{option_map}
 use Rattle.std.specs.Rc.{rc_str_bytes}
 use Rattle.std.specs.declared.alloc.Global.{Global}
@@ -20,9 +20,9 @@ use Rattle.smt_lines.specs.NameTables.{Tables, name_of_term}
 use Rattle.smt_encode.specs.Entries.{is_built}
 use Rattle.smt_encode.specs.Names.{enums_under, KeepTables}
 use Rattle.smt_encode.specs.NodeLines.{encode_meaning, encode_meanings, has_entry}
-use Rattle.smt_encode.specs.NodeTexts.{text_at, HasName, IsText}
+use Rattle.smt_encode.specs.NodeTexts.{text_at, AreTexts, HasName, IsText}
 use Rattle.smt_encode.specs.Steps.{AreSpelled, HasTables, IsSpelled, Wrote}
-use Rattle.smt_encode.specs.declared.encoder.Encoder.{Encoder}
+use Rattle.smt_encode.specs.declared.writer.Writer.{Writer}
 use Rattle.smt_encode.specs.declared.names.Names.{Names}
 use Rattle.smt_encode.proofs.Built.{built_meaning}
 use Rattle.smt_encode.proofs.Lines.{nothing_written}
@@ -42,6 +42,13 @@ kept_text n s are id m x meant there = go m meant (built_meaning n.nodes id m me
     go (TypeMeaning (RecordType t)) meant built true e = absurd (false≢true built)
     go (TypeMeaning t) meant built true e = absurd (false≢true e)
 
+-- the texts that are kept are those of the tables
+pub are_texts : (n : Names) (s : Tables) (enums : Enums) → enums_under n ≡ enums → KeepTables n s → AreTexts enums s n.nodes n.texts
+are_texts n s enums same are = record {
+  named = λ id t meant entry. named_at n.nodes n.texts t (name_of_term s t) id (are.terms t) meant entry;
+  stated = λ id m x meant there. subst (λ (e : Enums). IsText e s m x) same (kept_text n s are id m x meant there);
+}
+
 -- a node without a text has no name
 pub unnamed : (n : Names) (s : Tables) → KeepTables n s → (id : NodeId) (m : Meaning) → meaning_in n.nodes id ≡ Some m → text_at n.texts id ≡ None → (t : PlainTerm) → m ≡ TermMeaning t → name_of_term s t ≡ None
 unnamed n s are id m meant none t is = go (name_of_term s t) (are.terms t)
@@ -54,20 +61,20 @@ unnamed n s are id m meant none t is = go (name_of_term s t) (are.terms t)
         absurd cc
 
 -- a node that has a text is written by it, and nothing is added
-pub kept_written : {S : Type 0} {contents : S → Option (List ℕ)} (e : Encoder S) (s : Tables) (id : NodeId) (m : Meaning) (text : RcStr Global) → HasTables e s → meaning_in e.names.nodes id ≡ Some m → text_at e.names.texts id ≡ Some (rc_str_bytes text)
+pub kept_written : {S : Type 0} {contents : S → Option (List ℕ)} (e : Writer S) (s : Tables) (id : NodeId) (m : Meaning) (text : RcStr Global) → HasTables e s → meaning_in e.names.nodes id ≡ Some m → text_at e.names.texts id ≡ Some (rc_str_bytes text)
     → Wrote contents e e (encode_meaning (enums_under e.names) m s).lines (encode_meaning (enums_under e.names) m s).tables × IsSpelled (encode_meaning (enums_under e.names) m s).made text
 kept_written e s id m text has meant there =
     let (x, stated, spells) = kept_text e.names s has id m (rc_str_bytes text) meant there in
     rw stated (nothing_written e s has, spells)
 
 -- the same of several nodes
-pub record AreTexts (enums : Enums) (s : Tables) (ms : List Meaning) (texts : List (RcStr Global)) : Type 0 where
+pub record SpellMeanings (enums : Enums) (s : Tables) (ms : List Meaning) (texts : List (RcStr Global)) : Type 0 where
   pub made : List Expression
   pub shown : AreSpelled made texts
   pub stated : encode_meanings enums ms s ≡ made_of made s
 
 pub kept_texts : (n : Names) (s : Tables) → KeepTables n s → (ids : List NodeId) (ms : List Meaning) (texts : List (RcStr Global)) → all_found (meanings (nodes_of n.nodes)) (places_of ids) ≡ Some ms
-    → map (text_at n.texts) ids ≡ map (λ text. Some (rc_str_bytes text)) texts → AreTexts (enums_under n) s ms texts
+    → map (text_at n.texts) ids ≡ map (λ text. Some (rc_str_bytes text)) texts → SpellMeanings (enums_under n) s ms texts
 kept_texts n s are [] ms [] h k = record { made = []; shown = refl; stated = ap (λ l. encode_meanings (enums_under n) l s) (sym (some_same [] ms h)) }
 kept_texts n s are [] ms (x ∷ texts) h k = absurd (cc)
 kept_texts n s are (id ∷ ids) ms [] h k = absurd (cc)

@@ -1,11 +1,12 @@
 -- The texts that are kept for nodes.
-use Rattle.std.specs.Prelude.{ℕ, ◌≡◌, ◌≤◌, ◌<◌, IsTrue, List, Option, Some, None, is_none, is_some, length, map, slice_get}
+use Rattle.std.specs.Prelude.{ℕ, ◌≡◌, ◌≤◌, ◌<◌, IsTrue, List, Option, Some, None, is_none, is_some, length, slice_get}
 use Rattle.std.specs.List.{AllByRecursion}
 use Rattle.smt_meaning.specs.Plain.{PlainTerm}
 use Rattle.smt_meaning.specs.TypeValues.{Enums}
 use Rattle.smt_graph.specs.Meanings.{all_found, meanings}
 use Rattle.smt_graph.specs.Nodes.{Meaning, TermMeaning}
 use Rattle.smt_graph.specs.Parts.{label_in, parts_in}
+pub use Rattle.smt_nodes.specs.Interned.{StandFor}
 use Rattle.smt_nodes.specs.Interned.{meaning_in, nodes_of}
 use Rattle.smt_nodes.specs.View.{ids_of, place_of, places_of, plain_label, plain_node}
 use Rattle.smt_nodes.specs.declared.id.NodeId.{NodeId}
@@ -13,7 +14,7 @@ use Rattle.smt_nodes.specs.declared.interner.Interner.{Interner}
 use Rattle.smt_nodes.specs.declared.node.Node.{Node}
 use Rattle.smt_lexicon.specs.Reading.{Expression}
 use Rattle.smt_lines.specs.Lines.{made_of}
-use Rattle.smt_lines.specs.NameTables.{Tables}
+use Rattle.smt_lines.specs.NameTables.{Tables, name_of_term}
 use Rattle.smt_lines.specs.Spelling.{spelled}
 use Rattle.smt_encode.specs.NodeLines.{encode_meaning, has_entry, meaning_fault}
 use Rattle.smt_encode.specs.Texts.{kept_at}
@@ -23,6 +24,10 @@ use Rattle.smt_encode.specs.declared.node_names.NodeNames.{NodeNames}
 abbrev pub text_at : NodeNames → NodeId → Option (List ℕ)
 text_at names id = kept_at names.texts.items (place_of id)
 
+-- No node has a text.
+abbrev pub HasNoTexts : NodeNames → Type 0
+HasNoTexts names = (id : NodeId) → IsTrue (is_none (text_at names id))
+
 -- A term has this name, or none, among the texts of these nodes.
 abbrev pub HasName : Interner → NodeNames → PlainTerm → Option (List ℕ) → Type 0
 HasName nodes names t (Some name) = (id : NodeId) × (meaning_in nodes id ≡ Some (TermMeaning t)) × IsTrue (has_entry (TermMeaning t)) × (text_at names id ≡ Some name)
@@ -31,6 +36,11 @@ HasName nodes names t None = (id : NodeId) → meaning_in nodes id ≡ Some (Ter
 -- The text stands for this where these tables are the names: it is stated without a line, and spelled so.
 abbrev pub IsText : Enums → Tables → Meaning → List ℕ → Type 0
 IsText enums s m text = (e : Expression) × (encode_meaning enums m s ≡ made_of e s) × (text ≡ spelled e)
+
+-- The texts are those of these tables: a term that has an entry has its name there, and no text where it has none; and each text that is kept is the one that stands for its node.
+pub record AreTexts (enums : Enums) (s : Tables) (nodes : Interner) (names : NodeNames) : Type 0 where
+  pub named : (id : NodeId) (t : PlainTerm) → meaning_in nodes id ≡ Some (TermMeaning t) → IsTrue (has_entry (TermMeaning t)) → text_at names id ≡ name_of_term s t
+  pub stated : (id : NodeId) (m : Meaning) (text : List ℕ) → meaning_in nodes id ≡ Some m → text_at names id ≡ Some text → IsText enums s m text
 
 -- The texts that are kept are of the nodes, and what has one has no fault.
 pub record AreSound (enums : Enums) (nodes : Interner) (names : NodeNames) : Type 0 where
@@ -43,7 +53,3 @@ pub record IsNodeOf (nodes : Interner) (id : NodeId) (node : Node) : Type 0 wher
   pub label : (m : Meaning) → meaning_in nodes id ≡ Some m → plain_label node.label ≡ label_in m
   pub parts : (m : Meaning) → meaning_in nodes id ≡ Some m → all_found (meanings (nodes_of nodes)) (places_of (ids_of node.parts)) ≡ Some (parts_in m)
   pub earlier : AllByRecursion (λ place. place < place_of id) (places_of (ids_of node.parts))
-
--- These numbers stand for these terms, in order.
-abbrev pub StandFor : Interner → List NodeId → List PlainTerm → Type 0
-StandFor nodes ids ts = all_found (meanings (nodes_of nodes)) (places_of ids) ≡ Some (map TermMeaning ts)

@@ -1,32 +1,29 @@
 // The encoder, from terms to the lines of a script.
-ghost use Rattle.std.specs.Prelude.{ℕ, List, ◌≡◌, ◌∷◌, ◌<◌, ◌≤◌, ◌+◌, Bool, IsTrue, false, length, OnOk, None, map, option_map};
+ghost use Rattle.std.specs.Prelude.{ℕ, List, ◌≡◌, ◌≤◌, ◌+◌, ◌||◌, Bool, IsTrue, false, length, OnOk, map, option_map};
 ghost use Rattle.std.specs.Rc.{rc_str_bytes};
 ghost use Rattle.smt_term.specs.Enums.{enums_of};
 ghost use Rattle.smt_meaning.specs.Faults.{first_fault};
 ghost use Rattle.smt_meaning.specs.Plain.{PlainTerm};
 ghost use Rattle.smt_meaning.specs.Typing.{AreBoolean, AreTyped};
 ghost use Rattle.smt_term.specs.View.{plain_term};
-ghost use Rattle.smt_lexicon.specs.Reading.{Expression};
-ghost use Rattle.smt_lines.specs.Line.{Assert, spelled_line};
-ghost use Rattle.smt_lines.specs.Lines as lines;
-ghost use Rattle.smt_lines.specs.Lines.{option_line};
-ghost use Rattle.smt_lines.specs.NameTables.{Tables, no_names};
+ghost use Rattle.smt_lines.specs.NameTables.{no_names};
 ghost use Rattle.smt_lines.specs.Text.{names, text};
 ghost use Rattle.smt_headline.specs.Headline.{Headline};
-ghost use Rattle.smt_encode.specs.Complete.{AreWritten, HaveWrittenParts};
+ghost use Rattle.smt_encode.specs.Complete.{AreWritten};
 ghost use Rattle.smt_encode.specs.LookUps.{edges, IsClosed};
-ghost use Rattle.smt_encode.specs.NodeTexts.{StandFor};
+ghost use Rattle.smt_encode.specs.NodeTexts.{HasNoTexts, StandFor};
 ghost use Rattle.smt_nodes.specs.Interned.{nodes_of};
 ghost use Rattle.smt_nodes.specs.View.{places_of};
 ghost use Rattle.std.specs.List.{AllByRecursion};
-ghost use Rattle.smt_encode.specs.Refusals.{write_fault, Finds, HasCause, IsComplete};
+ghost use Rattle.smt_encode.specs.Refusals.{HasCause, IsComplete};
 
-use crate::error::{EncodeError, WriteError};
+use crate::error::EncodeError;
 use crate::names::Names;
 use crate::node_names::NodeNames;
 use crate::steps::Steps;
+use crate::writer::Writer;
 use smt_nodes::{Interner, NodeId};
-use smt_script::{Sink, SinkError, SmtLibScript};
+use smt_script::Sink;
 use smt_term::{EnumTable, Term, Text};
 use std::alloc::Global;
 use std::marker::Brand;
@@ -35,22 +32,21 @@ use std::sync::ledger::{Blank, Ledger};
 /// Writes terms as lines of a script, and keeps the names under which it wrote them.
 ///
 /// Each term that has no inline text gets one name, under which it is declared or defined once. An encoder
-/// encodes one list of terms; after that, and after an error, it is spent. `into_script` gives its sink back.
+/// encodes one list of terms, and before that none of its nodes has a text; after that, and after an error, it is spent.
+/// `into_script` gives its sink back.
 #[derive(Drop)]
 pub struct Encoder<'a, S> {
-    pub(crate) alloc: Global,
-    pub(crate) names: Names<'a>,
-    pub(crate) script: S,
+    writer: Writer<'a, S>,
     begun: bool,
     failed: bool,
+    ghost unwritten: { (begun || failed) ≡ false → HasNoTexts writer.names.texts },
 }
 
 impl<'a, S> Encoder<'a, S> {
-    ghost use Rattle.smt_encode.specs.Encoded.{enums_in, is_spent, nodes_in, sink_of, texts_in, HasNames, IsFresh, IsNameOf};
+    ghost use Rattle.smt_encode.specs.Encoded.{enums_in, is_spent, nodes_in, sink_of, texts_in, HasNames, IsNameOf};
 
     /// An encoder without names over this sink, which has not encoded yet. Takes no memory, and puts nothing.
     pub fn new(alloc: Global, enums: &'a EnumTable, script: S) -> Encoder<'a, S>
-        ensures fresh { IsFresh result }
         ensures no_names { HasNames result no_names }
         ensures unspent { is_spent result ≡ false }
         ensures sink { sink_of result ≡ script }
@@ -66,17 +62,19 @@ impl<'a, S> Encoder<'a, S> {
         nodes: Interner,
         script: S,
     ) -> Encoder<'a, S>
-        ensures fresh { IsFresh result }
         ensures no_names { HasNames result no_names }
         ensures nodes { nodes_in result ≡ nodes }
         ensures unspent { is_spent result ≡ false }
         ensures sink { sink_of result ≡ script }
         ensures enums { enums_in result ≡ enums_of enums.now }
     {
-        Encoder {
+        let writer = Writer {
             alloc,
             names: Names::new(alloc, enums, nodes),
             script,
+        };
+        Encoder {
+            writer,
             begun: false,
             failed: false,
         }
@@ -87,34 +85,33 @@ impl<'a, S> Encoder<'a, S> {
     pub fn name_of_term(&self, term: &Term) -> Option<&Text>
         ensures { IsNameOf self.now (plain_term term.now) (option_map (λ name. rc_str_bytes name.now) result) }
     {
-        self.names.name_by::<Brand>(term, Blank::new(1))
+        self.writer.names.name_by::<Brand>(term, Blank::new(1))
     }
 
     /// The nodes of the terms that it was given.
     pub fn nodes(&self) -> &Interner
         ensures { result.now ≡ nodes_in self.now }
     {
-        self.names.nodes()
+        self.writer.names.nodes()
     }
 
     /// The texts of the nodes that it wrote. Takes no memory.
     pub fn names(&self) -> &NodeNames
         ensures { result.now ≡ texts_in self.now }
     {
-        self.names.texts()
+        &self.writer.names.texts
     }
 
     /// The sink that it held, with what was put to it, also after an error.
     pub fn into_script(self) -> S
         ensures { result ≡ sink_of self.entry }
     {
-        self.script
+        self.writer.script
     }
 }
 
 impl<S: Sink> Encoder<'_, S> {
-    ghost use Rattle.smt_encode.specs.Encoded.{enums_in, is_spent, nodes_in, sink_of, texts_in, IsFresh, Keeps, OfNames, OfReceived, Spends, WroteText};
-    ghost use Rattle.smt_encode.specs.Steps.{AreSpelled, FaultCounted, HasTables, PutsLine, Wrote};
+    ghost use Rattle.smt_encode.specs.Encoded.{enums_in, is_spent, nodes_in, sink_of, texts_in, Keeps, OfNames, OfReceived, Spends, WroteText};
 
     /// Writes the script of these terms: the declaration of the datatype `Option`, what the terms need, and an
     /// assertion for each term, in order (commands of SMT-LIB 2.7, chapter 3, Scripts).
@@ -125,12 +122,13 @@ impl<S: Sink> Encoder<'_, S> {
     /// has a name already is not written again. A term's assertion is `(assert TEXT)`, where `TEXT` is its name or, of a
     /// literal, its inline text.
     ///
-    /// After Ok a fresh encoder, which has written no node yet, has put exactly the stated text, and has its names (`stated`). For Boolean
-    /// terms `headline` says what the bytes mean that the sink got in this call, by the names that the encoder has then:
-    /// they are a script by the grammar of SMT-LIB 2.7, each name is declared once and before its use, the assertions are
-    /// the terms' texts in order, and the models are exactly the interpretations that make all terms true. `models` says
-    /// the same of the stated text and its names, of any encoder that answers Ok. By `written` each node of terms that are
-    /// typed has its text then.
+    /// An encoder that answers Ok had not written before. It has put exactly the stated text then, and has its names, and
+    /// each node that it wrote has its stated text: a term's name, or what stands inline for a type or a literal
+    /// (`stated`). For Boolean terms `headline` says what the bytes mean that the sink got in this call, by the names that
+    /// the encoder has then: they are a script by the grammar of SMT-LIB 2.7, each name is declared once and before its
+    /// use, the assertions are the terms' texts in order, and the models are exactly the interpretations that make all
+    /// terms true. `models` says the same of the stated text and its names. By `written` each node of terms that are typed
+    /// has its text then.
     ///
     /// # Errors
     ///
@@ -141,19 +139,19 @@ impl<S: Sink> Encoder<'_, S> {
     /// may come from any encoder that is not spent, where there is no memory left. Each of the four spends the encoder
     /// and says nothing of what the sink got.
     pub fn encode(&mut self, terms: &[Term]) -> Result<(), EncodeError>
-        ensures stated { IsFresh self.old → OnOk result (WroteText S.contents self.old self.new (map plain_term terms.now)) }
-        ensures headline { IsFresh self.old → AreBoolean (map plain_term terms.now) → OnOk result (OfReceived (S.contents (sink_of self.old)) (S.contents (sink_of self.new)) (λ bytes. OfNames self.new (λ names. Headline (enums_in self.old) names (map plain_term terms.now) bytes))) }
+        ensures stated { OnOk result (WroteText S.contents self.old self.new (map plain_term terms.now)) }
+        ensures headline { AreBoolean (map plain_term terms.now) → OnOk result (OfReceived (S.contents (sink_of self.old)) (S.contents (sink_of self.new)) (λ bytes. OfNames self.new (λ names. Headline (enums_in self.old) names (map plain_term terms.now) bytes))) }
         ensures models { AreBoolean (map plain_term terms.now) → OnOk result (Headline (enums_in self.old) (names (enums_in self.old) (map plain_term terms.now)) (map plain_term terms.now) (text (enums_in self.old) (map plain_term terms.now))) }
         ensures spent { Spends self.old self.new result }
         ensures refused { HasCause (S.faults (sink_of self.old)) (S.faults (sink_of self.new)) (first_fault (enums_in self.old) (map plain_term terms.now)) result }
         ensures complete { IsComplete (is_spent self.old) (S.faults (sink_of self.old)) (S.faults (sink_of self.new)) (first_fault (enums_in self.old) (map plain_term terms.now)) result }
-        ensures written { (ids : List NodeId) → IsFresh self.old → AreTyped (map plain_term terms.now) → StandFor (nodes_in self.new) ids (map plain_term terms.now) → OnOk result (AreWritten (nodes_in self.new) (texts_in self.new) ids) }
+        ensures written { (ids : List NodeId) → AreTyped (map plain_term terms.now) → StandFor (nodes_in self.new) ids (map plain_term terms.now) → OnOk result (AreWritten (nodes_in self.new) (texts_in self.new) ids) }
         ensures kept { Keeps S.faults S.place self.old self.new }
     {
         if self.begun || self.failed {
             return Err(EncodeError::Spent);
         }
-        let outcome = self.put_terms(terms);
+        let outcome = self.writer.put_terms(terms);
         self.begun = true;
         self.failed = outcome.is_err();
         Ok(outcome?)
@@ -174,96 +172,22 @@ impl<S: Sink> Encoder<'_, S> {
         steps: &mut Steps<L>,
     ) -> Result<(), EncodeError>
         requires stand { (ts : List PlainTerm) × StandFor (nodes_in self.old) ids.now ts }
-        ensures stated { (ts : List PlainTerm) → StandFor (nodes_in self.old) ids.now ts → IsFresh self.old → OnOk result (WroteText S.contents self.old self.new ts) }
-        ensures headline { (ts : List PlainTerm) → StandFor (nodes_in self.old) ids.now ts → IsFresh self.old → AreBoolean ts → OnOk result (OfReceived (S.contents (sink_of self.old)) (S.contents (sink_of self.new)) (λ bytes. OfNames self.new (λ names. Headline (enums_in self.old) names ts bytes))) }
+        ensures stated { (ts : List PlainTerm) → StandFor (nodes_in self.old) ids.now ts → OnOk result (WroteText S.contents self.old self.new ts) }
+        ensures headline { (ts : List PlainTerm) → StandFor (nodes_in self.old) ids.now ts → AreBoolean ts → OnOk result (OfReceived (S.contents (sink_of self.old)) (S.contents (sink_of self.new)) (λ bytes. OfNames self.new (λ names. Headline (enums_in self.old) names ts bytes))) }
         ensures models { (ts : List PlainTerm) → StandFor (nodes_in self.old) ids.now ts → AreBoolean ts → OnOk result (Headline (enums_in self.old) (names (enums_in self.old) ts) ts (text (enums_in self.old) ts)) }
         ensures spent { Spends self.old self.new result }
         ensures refused { (ts : List PlainTerm) → StandFor (nodes_in self.old) ids.now ts → HasCause (S.faults (sink_of self.old)) (S.faults (sink_of self.new)) (first_fault (enums_in self.old) ts) result }
         ensures complete { (ts : List PlainTerm) → StandFor (nodes_in self.old) ids.now ts → IsComplete (is_spent self.old) (S.faults (sink_of self.old)) (S.faults (sink_of self.new)) (first_fault (enums_in self.old) ts) result }
-        ensures written { (ts : List PlainTerm) → StandFor (nodes_in self.old) ids.now ts → IsFresh self.old → AreTyped ts → OnOk result (AreWritten (nodes_in self.new) (texts_in self.new) ids.now) }
+        ensures written { (ts : List PlainTerm) → StandFor (nodes_in self.old) ids.now ts → AreTyped ts → OnOk result (AreWritten (nodes_in self.new) (texts_in self.new) ids.now) }
         ensures steps { (has : ℕ → Bool) → IsClosed (nodes_of (nodes_in self.old)) has → AllByRecursion (λ place. IsTrue (has place)) (places_of ids.now) → OnOk result (steps.new ≤ steps.old + length ids.now + edges has (nodes_of (nodes_in self.old))) }
         ensures kept { Keeps S.faults S.place self.old self.new }
     {
         if self.begun || self.failed {
             return Err(EncodeError::Spent);
         }
-        let outcome = self.put_nodes(ids, steps);
+        let outcome = self.writer.put_nodes(ids, steps);
         self.begun = true;
         self.failed = outcome.is_err();
         Ok(outcome?)
-    }
-
-    /// Puts the declaration of the datatype `Option`, with which each script begins.
-    fn put_option(&mut self) -> Result<(), WriteError>
-        ensures line { PutsLine S.contents self.old self.new (spelled_line option_line) result }
-        ensures cause { FaultCounted S.faults S.place (WriteError.Sink SinkError.Fault) self.old self.new result }
-        ensures fault { Finds write_fault None result }
-    {
-        let parameter = Text::from_str(self.alloc, "X")?;
-        let none = Text::from_str(self.alloc, "(none)")?;
-        let some = Text::from_str(self.alloc, "(some (val X))")?;
-        self.script
-            .declare_datatype("Option", &[parameter], &[none, some])?;
-        Ok(())
-    }
-
-    /// Puts an assertion for each text, in order.
-    fn put_assertions(&mut self, texts: &[Text]) -> Result<(), SinkError>
-        ensures lines { (s : Tables) (es : List Expression) → HasTables self.old s → AreSpelled es texts.now → OnOk result (Wrote S.contents self.old self.new (map Assert es) s) }
-        ensures cause { FaultCounted S.faults S.place SinkError.Fault self.old self.new result }
-        ensures names { self.new.names ≡ self.old.names }
-    {
-        for text in texts {
-            self.script.assert(text.as_str())?;
-        }
-        Ok(())
-    }
-
-    /// Puts the whole script of these terms.
-    fn put_terms(&mut self, terms: &[Term]) -> Result<(), WriteError>
-        ensures lines { HasTables self.old no_names → OnOk result (Wrote S.contents self.old self.new (option_line ∷ (lines.encode (enums_in self.old) (map plain_term terms.now) no_names).lines) (names (enums_in self.old) (map plain_term terms.now))) }
-        ensures cause { FaultCounted S.faults S.place (WriteError.Sink SinkError.Fault) self.old self.new result }
-        ensures fault { Finds write_fault (first_fault (enums_in self.old) (map plain_term terms.now)) result }
-        ensures written { (ids : List NodeId) → IsFresh self.old → AreTyped (map plain_term terms.now) → StandFor (nodes_in self.new) ids (map plain_term terms.now) → OnOk result (AreWritten (nodes_in self.new) (texts_in self.new) ids) }
-    {
-        let ids = self.names.intern(terms)?;
-        self.put_uncounted::<Brand>(ids.as_slice(), Blank::new(1))
-    }
-
-    /// Puts the whole script of the terms for which these numbers stand, and counts the look-ups by a ledger of its own.
-    fn put_uncounted<L: Ledger>(&mut self, ids: &[NodeId], blank: Blank) -> Result<(), WriteError>
-        requires name { blank.name ≡ L.name }
-        requires parts { blank.parts ≡ L.parts }
-        requires some { 0 < blank.parts }
-        requires stand { (ts : List PlainTerm) × StandFor (nodes_in self.old) ids.now ts }
-        ensures lines { (ts : List PlainTerm) → StandFor (nodes_in self.old) ids.now ts → HasTables self.old no_names → OnOk result (Wrote S.contents self.old self.new (option_line ∷ (lines.encode (enums_in self.old) ts no_names).lines) (names (enums_in self.old) ts)) }
-        ensures cause { FaultCounted S.faults S.place (WriteError.Sink SinkError.Fault) self.old self.new result }
-        ensures fault { (ts : List PlainTerm) → StandFor (nodes_in self.old) ids.now ts → Finds write_fault (first_fault (enums_in self.old) ts) result }
-        ensures written { (ts : List PlainTerm) → StandFor (nodes_in self.old) ids.now ts → AreTyped ts → HaveWrittenParts (nodes_in self.old) (texts_in self.old) → OnOk result (AreWritten (nodes_in self.new) (texts_in self.new) ids.now) }
-        ensures nodes { nodes_in self.new ≡ nodes_in self.old }
-    {
-        let mut steps = Steps::<L>::new(blank);
-        self.put_nodes(ids, &mut steps)
-    }
-
-    /// Puts the whole script of the terms for which these numbers stand.
-    fn put_nodes<L: Ledger>(
-        &mut self,
-        ids: &[NodeId],
-        steps: &mut Steps<L>,
-    ) -> Result<(), WriteError>
-        requires stand { (ts : List PlainTerm) × StandFor (nodes_in self.old) ids.now ts }
-        ensures lines { (ts : List PlainTerm) → StandFor (nodes_in self.old) ids.now ts → HasTables self.old no_names → OnOk result (Wrote S.contents self.old self.new (option_line ∷ (lines.encode (enums_in self.old) ts no_names).lines) (names (enums_in self.old) ts)) }
-        ensures cause { FaultCounted S.faults S.place (WriteError.Sink SinkError.Fault) self.old self.new result }
-        ensures fault { (ts : List PlainTerm) → StandFor (nodes_in self.old) ids.now ts → Finds write_fault (first_fault (enums_in self.old) ts) result }
-        ensures written { (ts : List PlainTerm) → StandFor (nodes_in self.old) ids.now ts → AreTyped ts → HaveWrittenParts (nodes_in self.old) (texts_in self.old) → OnOk result (AreWritten (nodes_in self.new) (texts_in self.new) ids.now) }
-        ensures nodes { nodes_in self.new ≡ nodes_in self.old }
-        ensures steps { (has : ℕ → Bool) → IsClosed (nodes_of (nodes_in self.old)) has → AllByRecursion (λ place. IsTrue (has place)) (places_of ids.now) → OnOk result (steps.new ≤ steps.old + length ids.now + edges has (nodes_of (nodes_in self.old))) }
-    {
-        self.names.make_room()?;
-        self.put_option()?;
-        let nodes = self.names.nodes().len();
-        let texts = self.encode_all(ids, nodes, steps)?;
-        Ok(self.put_assertions(texts.as_slice())?)
     }
 }

@@ -30,7 +30,7 @@ pub enum EncodeError {
 }
 
 /// Why there is no text of a literal or an application.
-#[derive(Debug, PartialEq, Eq, Drop)]
+#[derive(Drop)]
 pub(crate) enum TextError {
     /// This string literal has a character above `SMT_LIB_MAX_CODE_POINT`.
     StringFailed(Text),
@@ -41,7 +41,7 @@ pub(crate) enum TextError {
 }
 
 /// Why terms were not written.
-#[derive(Debug, PartialEq, Eq, Drop)]
+#[derive(Drop)]
 pub(crate) enum WriteError {
     /// The sink did not take a line.
     Sink(SinkError),

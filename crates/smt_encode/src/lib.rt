@@ -32,6 +32,7 @@ mod rendering;
 mod spell;
 mod steps;
 mod walk;
+mod writer;
 
 pub use encoder::Encoder;
 pub use error::{EncodeError, SMT_LIB_MAX_CODE_POINT};

@@ -1,5 +1,5 @@
 // The nodes of terms, and the texts that stand for them.
-ghost use Rattle.std.specs.Prelude.{ℕ, ◌≡◌, ◌<◌, ◌++◌, ◌∷◌, ◌+◌, [], false, length, IfOk, IsTrue, None, OnOk, Some, is_some, map, option_map};
+ghost use Rattle.std.specs.Prelude.{◌≡◌, ◌<◌, ◌++◌, ◌∷◌, ◌+◌, [], false, IfOk, IsTrue, None, OnOk, Some, map, option_map};
 ghost use Rattle.std.specs.Rc.{rc_str_bytes};
 ghost use Rattle.smt_meaning.specs.Plain.{PlainTerm};
 ghost use Rattle.smt_graph.specs.Meanings.{all_found, meanings};
@@ -11,7 +11,7 @@ ghost use Rattle.smt_term.specs.View.{plain_term};
 ghost use Rattle.smt_lines.specs.Lines.{next_term};
 ghost use Rattle.smt_lines.specs.NameTables.{Tables, no_names};
 ghost use Rattle.smt_encode.specs.NodeLines.{has_entry, meaning_fault};
-ghost use Rattle.smt_encode.specs.NodeTexts.{text_at, AreSound, HasName, IsNodeOf, IsText};
+ghost use Rattle.smt_encode.specs.NodeTexts.{text_at, AreSound, HasName, HasNoTexts, IsNodeOf, IsText};
 ghost use Rattle.smt_encode.specs.Texts.{IsKept};
 
 use crate::node_names::NodeNames;
@@ -43,7 +43,7 @@ pub(crate) struct Names<'a> {
     alloc: Global,
     enums: &'a EnumTable,
     nodes: Interner,
-    texts: NodeNames,
+    pub(crate) texts: NodeNames,
     ghost sound: { AreSound (enums_of enums.now) nodes texts },
 }
 
@@ -53,7 +53,7 @@ impl<'a> Names<'a> {
     /// No names yet, for these nodes. Takes no memory.
     pub(crate) fn new(alloc: Global, enums: &'a EnumTable, nodes: Interner) -> Names<'a>
         ensures none { KeepTables result no_names }
-        ensures fresh { (id : NodeId) → text_at (texts_under result) id ≡ None }
+        ensures unwritten { HasNoTexts (texts_under result) }
         ensures enums { enums_under result ≡ enums_of enums.now }
         ensures nodes { nodes_under result ≡ nodes }
     {
@@ -70,13 +70,6 @@ impl<'a> Names<'a> {
         ensures { result.now ≡ nodes_under self.now }
     {
         &self.nodes
-    }
-
-    /// The texts of the nodes.
-    pub(crate) fn texts(&self) -> &NodeNames
-        ensures { result.now ≡ texts_under self.now }
-    {
-        &self.texts
     }
 
     /// The text of a node, None exactly where it has none. It is one look-up, and takes no memory.
@@ -140,7 +133,7 @@ impl<'a> Names<'a> {
     pub(crate) fn next(&self) -> Result<Text, AllocError>
         ensures { (s : Tables) → KeepTables self.now s → IfOk result (λ name. rc_str_bytes name ≡ next_term s) }
     {
-        term_name(self.alloc, self.texts.named())
+        term_name(self.alloc, self.texts.named)
     }
 
     /// Keeps the text of a node that has none yet, and neither an entry nor a fault.

@@ -14,7 +14,7 @@ use std::sync::ledger::Ledger;
 #[derive(Drop)]
 pub struct NodeNames {
     texts: Vec<Option<Text>>,
-    named: usize,
+    pub(crate) named: usize,
     ghost counted: { named ≤ kept_count texts.items },
 }
 
@@ -74,12 +74,5 @@ impl NodeNames {
     {
         self.keep(id, name);
         self.named += 1;
-    }
-
-    /// How many names are kept.
-    pub(crate) fn named(&self) -> usize
-        ensures { result ≡ self.now.named }
-    {
-        self.named
     }
 }

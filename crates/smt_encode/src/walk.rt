@@ -21,20 +21,19 @@ ghost use Rattle.smt_encode.specs.Refusals.{write_fault, Finds};
 ghost use Rattle.smt_encode.specs.Texts.{kept_at};
 ghost use Rattle.smt_encode.specs.Renderings.{plain_rendering};
 
-use crate::encoder::Encoder;
 use crate::entry::{Entry, entry_from, inline_text};
 use crate::error::WriteError;
 use crate::rendering::{Rendering, rendering_of};
 use crate::steps::Steps;
+use crate::writer::Writer;
 use smt_nodes::{Node, NodeId};
 use smt_script::{Sink, SinkError};
 use smt_term::Text;
 use std::alloc::AllocError;
 use std::sync::ledger::Ledger;
 
-impl<S: Sink> Encoder<'_, S> {
-    ghost use Rattle.smt_encode.specs.Names.{HasRoom};
-    ghost use Rattle.smt_encode.specs.Encoded.{enums_in, nodes_in, texts_in};
+impl<S: Sink> Writer<'_, S> {
+    ghost use Rattle.smt_encode.specs.Names.{enums_under, nodes_under, texts_under, HasRoom};
     ghost use Rattle.smt_encode.specs.Steps.{edges_in, AreSpelled, HasTables, IsSpelled, Walks, WritesHere, WritesStated};
 
     /// The text of a node: the one that it has, or else a new one, behind the lines that it needs.
@@ -44,14 +43,14 @@ impl<S: Sink> Encoder<'_, S> {
         id: NodeId,
         steps: &mut Steps<L>,
     ) -> Result<Text, WriteError>
-        requires meant { IsMeant (nodes_in self.old) id }
+        requires meant { IsMeant (nodes_under self.old.names) id }
         requires room { HasRoom self.old.names }
-        ensures lines { (m : Meaning) → meaning_in (nodes_in self.old) id ≡ Some m → WritesStated S.contents self.old self.new (encode_meaning (enums_in self.old) m) IsSpelled result }
-        ensures fault { (m : Meaning) → meaning_in (nodes_in self.old) id ≡ Some m → Finds write_fault (meaning_fault (enums_in self.old) m) result }
+        ensures lines { (m : Meaning) → meaning_in (nodes_under self.old.names) id ≡ Some m → WritesStated S.contents self.old self.new (encode_meaning (enums_under self.old.names) m) IsSpelled result }
+        ensures fault { (m : Meaning) → meaning_in (nodes_under self.old.names) id ≡ Some m → Finds write_fault (meaning_fault (enums_under self.old.names) m) result }
         ensures walks { Walks S.faults S.place (WriteError.Sink SinkError.Fault) (suc (place_of id)) self.old self.new result }
-        ensures kept { IfOk result (λ text. text_at (texts_in self.new) id ≡ Some (rc_str_bytes text)) }
-        ensures whole { (m : Meaning) → meaning_in (nodes_in self.old) id ≡ Some m → IsTrue (is_typed m) → HaveWrittenParts (nodes_in self.old) (texts_in self.old) → OnOk result (HaveWrittenParts (nodes_in self.new) (texts_in self.new)) }
-        ensures steps { (has : ℕ → Bool) → IsClosed (nodes_of (nodes_in self.old)) has → IsTrue (has (place_of id)) → OnOk result (steps.new + edges_in has self.new ≤ suc steps.old + edges_in has self.old) }
+        ensures kept { IfOk result (λ text. text_at (texts_under self.new.names) id ≡ Some (rc_str_bytes text)) }
+        ensures whole { (m : Meaning) → meaning_in (nodes_under self.old.names) id ≡ Some m → IsTrue (is_typed m) → HaveWrittenParts (nodes_under self.old.names) (texts_under self.old.names) → OnOk result (HaveWrittenParts (nodes_under self.new.names) (texts_under self.new.names)) }
+        ensures steps { (has : ℕ → Bool) → IsClosed (nodes_of (nodes_under self.old.names)) has → IsTrue (has (place_of id)) → OnOk result (steps.new + edges_in has self.new ≤ suc steps.old + edges_in has self.old) }
     {
         match self.names.text(id, steps) {
             Some(text) => Ok(text.clone()?),
@@ -66,15 +65,15 @@ impl<S: Sink> Encoder<'_, S> {
         id: NodeId,
         steps: &mut Steps<L>,
     ) -> Result<Text, WriteError>
-        requires meant { IsMeant (nodes_in self.old) id }
+        requires meant { IsMeant (nodes_under self.old.names) id }
         requires room { HasRoom self.old.names }
-        requires unkept { text_at (texts_in self.old) id ≡ None }
-        ensures lines { (m : Meaning) → meaning_in (nodes_in self.old) id ≡ Some m → WritesStated S.contents self.old self.new (encode_meaning (enums_in self.old) m) IsSpelled result }
-        ensures fault { (m : Meaning) → meaning_in (nodes_in self.old) id ≡ Some m → Finds write_fault (meaning_fault (enums_in self.old) m) result }
+        requires unkept { text_at (texts_under self.old.names) id ≡ None }
+        ensures lines { (m : Meaning) → meaning_in (nodes_under self.old.names) id ≡ Some m → WritesStated S.contents self.old self.new (encode_meaning (enums_under self.old.names) m) IsSpelled result }
+        ensures fault { (m : Meaning) → meaning_in (nodes_under self.old.names) id ≡ Some m → Finds write_fault (meaning_fault (enums_under self.old.names) m) result }
         ensures walks { Walks S.faults S.place (WriteError.Sink SinkError.Fault) (suc (place_of id)) self.old self.new result }
-        ensures kept { IfOk result (λ text. text_at (texts_in self.new) id ≡ Some (rc_str_bytes text)) }
-        ensures whole { (m : Meaning) → meaning_in (nodes_in self.old) id ≡ Some m → IsTrue (is_typed m) → HaveWrittenParts (nodes_in self.old) (texts_in self.old) → OnOk result (HaveWrittenParts (nodes_in self.new) (texts_in self.new)) }
-        ensures steps { (has : ℕ → Bool) → IsClosed (nodes_of (nodes_in self.old)) has → IsTrue (has (place_of id)) → OnOk result (steps.new + edges_in has self.new ≤ steps.old + edges_in has self.old) }
+        ensures kept { IfOk result (λ text. text_at (texts_under self.new.names) id ≡ Some (rc_str_bytes text)) }
+        ensures whole { (m : Meaning) → meaning_in (nodes_under self.old.names) id ≡ Some m → IsTrue (is_typed m) → HaveWrittenParts (nodes_under self.old.names) (texts_under self.old.names) → OnOk result (HaveWrittenParts (nodes_under self.new.names) (texts_under self.new.names)) }
+        ensures steps { (has : ℕ → Bool) → IsClosed (nodes_of (nodes_under self.old.names)) has → IsTrue (has (place_of id)) → OnOk result (steps.new + edges_in has self.new ≤ steps.old + edges_in has self.old) }
     {
         let node = self.names.node(id)?;
         let rendering = rendering_of(self.names.nodes(), &node);
@@ -92,15 +91,15 @@ impl<S: Sink> Encoder<'_, S> {
         steps: &mut Steps<L>,
     ) -> Result<Vec<Text>, WriteError>
         requires earlier { AllByRecursion (λ place. place < before) (places_of ids.now) }
-        requires meant { (ms : List Meaning) × (all_found (meanings (nodes_of (nodes_in self.old))) (places_of ids.now) ≡ Some ms) }
+        requires meant { (ms : List Meaning) × (all_found (meanings (nodes_of (nodes_under self.old.names))) (places_of ids.now) ≡ Some ms) }
         requires room { HasRoom self.old.names }
-        ensures lines { (ms : List Meaning) → all_found (meanings (nodes_of (nodes_in self.old))) (places_of ids.now) ≡ Some ms → WritesStated S.contents self.old self.new (encode_meanings (enums_in self.old) ms) (λ es texts. AreSpelled es texts.items) result }
-        ensures fault { (ms : List Meaning) → all_found (meanings (nodes_of (nodes_in self.old))) (places_of ids.now) ≡ Some ms → Finds write_fault (meanings_fault (enums_in self.old) ms) result }
+        ensures lines { (ms : List Meaning) → all_found (meanings (nodes_of (nodes_under self.old.names))) (places_of ids.now) ≡ Some ms → WritesStated S.contents self.old self.new (encode_meanings (enums_under self.old.names) ms) (λ es texts. AreSpelled es texts.items) result }
+        ensures fault { (ms : List Meaning) → all_found (meanings (nodes_of (nodes_under self.old.names))) (places_of ids.now) ≡ Some ms → Finds write_fault (meanings_fault (enums_under self.old.names) ms) result }
         ensures walks { Walks S.faults S.place (WriteError.Sink SinkError.Fault) before self.old self.new result }
         ensures count { IfOk result (λ texts. length texts.items ≡ length ids.now) }
-        ensures kept { IfOk result (λ texts. map (text_at (texts_in self.new)) ids.now ≡ map (λ text. Some (rc_str_bytes text)) texts.items) }
-        ensures whole { (ms : List Meaning) → all_found (meanings (nodes_of (nodes_in self.old))) (places_of ids.now) ≡ Some ms → AreTypedMeanings ms → HaveWrittenParts (nodes_in self.old) (texts_in self.old) → OnOk result (HaveWrittenParts (nodes_in self.new) (texts_in self.new)) }
-        ensures steps { (has : ℕ → Bool) → IsClosed (nodes_of (nodes_in self.old)) has → AllByRecursion (λ place. IsTrue (has place)) (places_of ids.now) → OnOk result (steps.new + edges_in has self.new ≤ steps.old + length ids.now + edges_in has self.old) }
+        ensures kept { IfOk result (λ texts. map (text_at (texts_under self.new.names)) ids.now ≡ map (λ text. Some (rc_str_bytes text)) texts.items) }
+        ensures whole { (ms : List Meaning) → all_found (meanings (nodes_of (nodes_under self.old.names))) (places_of ids.now) ≡ Some ms → AreTypedMeanings ms → HaveWrittenParts (nodes_under self.old.names) (texts_under self.old.names) → OnOk result (HaveWrittenParts (nodes_under self.new.names) (texts_under self.new.names)) }
+        ensures steps { (has : ℕ → Bool) → IsClosed (nodes_of (nodes_under self.old.names)) has → AllByRecursion (λ place. IsTrue (has place)) (places_of ids.now) → OnOk result (steps.new + edges_in has self.new ≤ steps.old + length ids.now + edges_in has self.old) }
     {
         let mut texts = Vec::with_capacity(self.alloc, ids.len())?;
         for id in ids {
@@ -117,20 +116,20 @@ impl<S: Sink> Encoder<'_, S> {
         rendering: Rendering,
         mut texts: Vec<Text>,
     ) -> Result<Text, WriteError>
-        requires meant { IsMeant (nodes_in self.old) id }
+        requires meant { IsMeant (nodes_under self.old.names) id }
         requires room { HasRoom self.old.names }
-        requires unkept { text_at (texts_in self.old) id ≡ None }
-        requires is_node { IsNodeOf (nodes_in self.old) id node.now }
-        requires rendered { (m : Meaning) → meaning_in (nodes_in self.old) id ≡ Some m → plain_rendering rendering ≡ rendering_in m }
-        requires count { (m : Meaning) → meaning_in (nodes_in self.old) id ≡ Some m → length texts.items ≡ length (written_parts (rendering_in m) (parts_in m)) }
-        requires sound { (m : Meaning) → meaning_in (nodes_in self.old) id ≡ Some m → meanings_fault (enums_in self.old) (written_parts (rendering_in m) (parts_in m)) ≡ None }
-        requires written { (m : Meaning) (s : Tables) → meaning_in (nodes_in self.old) id ≡ Some m → HasTables self.old s →
-            (es : List Expression) × AreSpelled es texts.items × (encode_meanings (enums_in self.old) (written_parts (rendering_in m) (parts_in m)) s ≡ made_of es s) }
-        ensures lines { (m : Meaning) (es : List Expression) (s : Tables) → meaning_in (nodes_in self.old) id ≡ Some m → AreSpelled es texts.items → HasTables self.old s → WritesHere S.contents self.old self.new (own_lines m es s) IsSpelled result }
-        ensures fault { (m : Meaning) → meaning_in (nodes_in self.old) id ≡ Some m → Finds write_fault (meaning_fault (enums_in self.old) m) result }
+        requires unkept { text_at (texts_under self.old.names) id ≡ None }
+        requires is_node { IsNodeOf (nodes_under self.old.names) id node.now }
+        requires rendered { (m : Meaning) → meaning_in (nodes_under self.old.names) id ≡ Some m → plain_rendering rendering ≡ rendering_in m }
+        requires count { (m : Meaning) → meaning_in (nodes_under self.old.names) id ≡ Some m → length texts.items ≡ length (written_parts (rendering_in m) (parts_in m)) }
+        requires sound { (m : Meaning) → meaning_in (nodes_under self.old.names) id ≡ Some m → meanings_fault (enums_under self.old.names) (written_parts (rendering_in m) (parts_in m)) ≡ None }
+        requires written { (m : Meaning) (s : Tables) → meaning_in (nodes_under self.old.names) id ≡ Some m → HasTables self.old s →
+            (es : List Expression) × AreSpelled es texts.items × (encode_meanings (enums_under self.old.names) (written_parts (rendering_in m) (parts_in m)) s ≡ made_of es s) }
+        ensures lines { (m : Meaning) (es : List Expression) (s : Tables) → meaning_in (nodes_under self.old.names) id ≡ Some m → AreSpelled es texts.items → HasTables self.old s → WritesHere S.contents self.old self.new (own_lines m es s) IsSpelled result }
+        ensures fault { (m : Meaning) → meaning_in (nodes_under self.old.names) id ≡ Some m → Finds write_fault (meaning_fault (enums_under self.old.names) m) result }
         ensures walks { Walks S.faults S.place (WriteError.Sink SinkError.Fault) (suc (place_of id)) self.old self.new result }
-        ensures kept { IfOk result (λ text. text_at (texts_in self.new) id ≡ Some (rc_str_bytes text)) }
-        ensures only { (place : ℕ) → ¬ (place ≡ place_of id) → kept_at (texts_in self.new).texts.items place ≡ kept_at (texts_in self.old).texts.items place }
+        ensures kept { IfOk result (λ text. text_at (texts_under self.new.names) id ≡ Some (rc_str_bytes text)) }
+        ensures only { (place : ℕ) → ¬ (place ≡ place_of id) → kept_at (texts_under self.new.names).texts.items place ≡ kept_at (texts_under self.old.names).texts.items place }
     {
         match inline_text(self.alloc, &node.label, texts.as_slice())? {
             Some(text) => {
@@ -147,16 +146,16 @@ impl<S: Sink> Encoder<'_, S> {
 
     /// Puts the lines of a term that has no name yet, and enters it.
     fn enter(&mut self, id: NodeId, sort: &str, entry: &Entry) -> Result<Text, WriteError>
-        requires meant { IsMeant (nodes_in self.old) id }
+        requires meant { IsMeant (nodes_under self.old.names) id }
         requires room { HasRoom self.old.names }
-        requires unkept { text_at (texts_in self.old) id ≡ None }
-        requires sound { (m : Meaning) → meaning_in (nodes_in self.old) id ≡ Some m → meaning_fault (enums_in self.old) m ≡ None }
-        ensures lines { (t : PlainTerm) (s : Tables) (e : Expression) (p : PlainEntry) → meaning_in (nodes_in self.old) id ≡ Some (TermMeaning t) → IsTrue (has_entry (TermMeaning t)) → HasTables self.old s → sort.now ≡ spelled e → SaysEntry p entry.now →
+        requires unkept { text_at (texts_under self.old.names) id ≡ None }
+        requires sound { (m : Meaning) → meaning_in (nodes_under self.old.names) id ≡ Some m → meaning_fault (enums_under self.old.names) m ≡ None }
+        ensures lines { (t : PlainTerm) (s : Tables) (e : Expression) (p : PlainEntry) → meaning_in (nodes_under self.old.names) id ≡ Some (TermMeaning t) → IsTrue (has_entry (TermMeaning t)) → HasTables self.old s → sort.now ≡ spelled e → SaysEntry p entry.now →
             WritesHere S.contents self.old self.new (enter_by p t e s) IsSpelled result }
         ensures fault { Finds write_fault None result }
         ensures walks { Walks S.faults S.place (WriteError.Sink SinkError.Fault) (suc (place_of id)) self.old self.new result }
-        ensures kept { IfOk result (λ text. text_at (texts_in self.new) id ≡ Some (rc_str_bytes text)) }
-        ensures only { (place : ℕ) → ¬ (place ≡ place_of id) → kept_at (texts_in self.new).texts.items place ≡ kept_at (texts_in self.old).texts.items place }
+        ensures kept { IfOk result (λ text. text_at (texts_under self.new.names) id ≡ Some (rc_str_bytes text)) }
+        ensures only { (place : ℕ) → ¬ (place ≡ place_of id) → kept_at (texts_under self.new.names).texts.items place ≡ kept_at (texts_under self.old.names).texts.items place }
     {
         let name = self.name_for(entry)?;
         entry.put(&mut self.script, name.as_str(), sort)?;

@@ -1,4 +1,4 @@
--- Nodes that the derived order holds equal say the same, and the other way round.
+-- Labels, nodes and keys that the derived order holds equal say the same, and the other way round.
 use Rattle.std.proofs.Common.{◌≡◌, ℕ, List, [], ◌∷◌, true, refl, sym, ap, ◌∙◌}
 use Rattle.std.specs.Cmp.{Equal-is, nat_cmp_is}
 use Rattle.std.specs.Cmp.Lexicographic.{slice_cmp}
@@ -19,12 +19,14 @@ use Rattle.smt_term.specs.View.{plain_literal, plain_op}
 use Rattle.smt_graph.specs.Nodes.{PlainLabel, OptionLabel, BitVecLabel, BoolLabel, EntityLabel, ExtensionLabel, StringLabel, RecordLabel, SetLabel, FunctionLabel, ApplicationLabel, CallLabel, NoneLabel, LiteralLabel, RecordOfLabel, SetOfLabel, SomeLabel, VariableLabel, PlainNode}
 use Rattle.smt_nodes.specs.View.{ids_of, place_of, places_of, plain_label, plain_node}
 use Rattle.smt_nodes.specs.contracts.node.LabelOrd.TheImpl as label_order
-use Rattle.smt_nodes.specs.contracts.node.NodeOrd.TheImpl as node_order
 use Rattle.smt_nodes.specs.contracts.id.NodeIdOrd.TheImpl as id_order
+use Rattle.smt_nodes.specs.contracts.node.NodeOrd.TheImpl as node_order
+use Rattle.smt_nodes.specs.contracts.table.KeyOrd.TheImpl as key_order
 use Rattle.smt_nodes.specs.declared.id.NodeId.{NodeId}
 use Rattle.smt_nodes.specs.declared.node.Label.{Label}
 use Rattle.smt_nodes.specs.declared.node.Label.TheVariants.{TOption, TBitvec, TBool, TString, TSet, App, NoneOf, Prim, SetOf, SomeOf, Var}
 use Rattle.smt_nodes.specs.declared.node.Node.{Node}
+use Rattle.smt_nodes.specs.declared.table.Key.{Key}
 
 -- the order of plain labels: by their place, and those of one place by what they hold
 abbrev pub label_place : PlainLabel → ℕ
@@ -119,3 +121,28 @@ node_equal a b h =
     let own : node_cmp (plain_node a) (plain_node a) ≡ Equal =
     ap (λ o. ordering_then o (text_cmp (places_of (ids_of a.parts)) (places_of (ids_of a.parts)))) (label_itself a.label) ∙ text_itself (places_of (ids_of a.parts)) in
     ap is_eq (node_cmp-is a b ∙ (sym (ap (node_cmp (plain_node a)) h) ∙ own))
+
+-- ---- labels and keys
+pub label_kept : (l m : Label) → is_eq (label_order.ghosts.cmp l m) ≡ true → plain_label l ≡ plain_label m
+label_kept l m h = label_same l m (sym (label_cmp-is l m) ∙ (Equal-is (label_order.ghosts.cmp l m)).0 h)
+
+pub label_equal : (l m : Label) → plain_label l ≡ plain_label m → is_eq (label_order.ghosts.cmp l m) ≡ true
+label_equal l m h = ap is_eq (label_cmp-is l m ∙ (sym (ap (label_cmp (plain_label l)) h) ∙ label_itself l))
+
+abbrev key_cmp : Key → Key → Ordering
+key_cmp a b = ordering_then (nat_cmp a.label b.label) (text_cmp (places_of (ids_of a.parts)) (places_of (ids_of b.parts)))
+
+key_cmp-is : (a b : Key) → key_order.ghosts.cmp a b ≡ key_cmp a b
+key_cmp-is a b = ap (ordering_then (nat_cmp a.label b.label)) (ids_cmp-is (ids_of a.parts) (ids_of b.parts))
+
+pub key_same : (a b : Key) → is_eq (key_order.ghosts.cmp a b) ≡ true → (a.label ≡ b.label) × (places_of (ids_of a.parts) ≡ places_of (ids_of b.parts))
+key_same a b h =
+    let e : key_cmp a b ≡ Equal = sym (key_cmp-is a b) ∙ (Equal-is (key_order.ghosts.cmp a b)).0 h in
+    let p = then_equal (nat_cmp a.label b.label) (text_cmp (places_of (ids_of a.parts)) (places_of (ids_of b.parts))) e in
+    (nat_cmp-IsAntisymmetric a.label b.label p.0, text_same (places_of (ids_of a.parts)) (places_of (ids_of b.parts)) p.1)
+
+pub key_equal : (a b : Key) → a.label ≡ b.label → places_of (ids_of a.parts) ≡ places_of (ids_of b.parts) → is_eq (key_order.ghosts.cmp a b) ≡ true
+key_equal a b l p =
+    let parts : text_cmp (places_of (ids_of a.parts)) (places_of (ids_of b.parts)) ≡ Equal = sym (ap (text_cmp (places_of (ids_of a.parts))) p) ∙ text_itself (places_of (ids_of a.parts)) in
+    let label : nat_cmp a.label b.label ≡ Equal = sym (ap (nat_cmp a.label) l) ∙ nat_itself a.label in
+    ap is_eq (key_cmp-is a b ∙ (ap (λ o. ordering_then o (text_cmp (places_of (ids_of a.parts)) (places_of (ids_of b.parts)))) label ∙ parts))

@@ -1,14 +1,12 @@
--- The table of an interner: what it finds, and what it finds after one node more.
-use Rattle.std.proofs.Common.{◌≡◌, ℕ, ◌<◌, Bool, true, false, cond, List, [], ◌∷◌, ◌++◌, length, map, get_or, Option, Some, None, refl, sym, ap, ◌∙◌, subst, ◌⊎◌, inl, inr, arith, length-append}
+-- The table of an interner: what it finds, and what it finds after one label or one node more.
+use Rattle.std.proofs.Common.{◌≡◌, ℕ, ◌+◌, ◌<◌, ◌≤◌, ◌^◌, Bool, true, false, cond, List, [], ◌∷◌, ◌++◌, length, map, get_or, Option, Some, None, refl, sym, ap, ◌∙◌, subst, ◌⊎◌, inl, inr, arith, length-append}
 use Rattle.std.proofs.lemmas.Bool.{false≢true}
 use Rattle.std.proofs.lemmas.List.{length-map, map-append}
-use Rattle.std.specs.BTreeMap.{is_at}
+use Rattle.std.proofs.lemmas.Option.{slice_get-get_or, slice_get-map, slice_get_within}
+use Rattle.std.specs.BTreeMap.{BTreeMap, btree_map_len, get_by, is_at, Updates}
 use Rattle.std.specs.Map.{lookup}
-use Rattle.std.specs.Prelude.{Result, Ok, Err, OnErr, OnOk}
-use Rattle.std.proofs.lemmas.Option.{slice_get-get_or, slice_get-map}
-use Rattle.std.specs.BTreeMap.{BTreeMap, get, Updates}
 use Rattle.std.specs.Ordering.{is_eq}
-use Rattle.std.specs.Prelude.{Contains, IsTrue, option_map, slice_get}
+use Rattle.std.specs.Prelude.{Contains, IfOk, IfSome, IsTrue, OnErr, OnOk, Result, Ok, Err, if◌then◌else◌, is_some, option_map, slice_get}
 use Rattle.smt_graph.specs.Nodes.{PlainNode}
 use Rattle.smt_graph.specs.Fits.{fits}
 use Rattle.smt_graph.specs.Graphs.{IsGraph}
@@ -16,89 +14,222 @@ use Rattle.smt_graph.specs.Meanings.{meaning_at, meaning_of, meanings}
 use Rattle.smt_graph.specs.Nodes.{Meaning}
 use Rattle.smt_graph.proofs.Distinct.{no_older}
 use Rattle.smt_graph.proofs.Growth.{contains_at, grow, place_in}
-use Rattle.smt_graph.proofs.Places.{get_last, get_older, get_split, last_has, meaning_stays, some_same}
-use Rattle.smt_nodes.specs.Index.{IsIndex}
-use Rattle.smt_nodes.specs.View.{place_of, plain_node}
+use Rattle.smt_graph.proofs.Places.{get_last, get_split, get_stays, last_has, meaning_stays, some_same}
+use Rattle.smt_nodes.specs.Index.{id_at, number_of, IsIndex, IsKey}
+use Rattle.smt_nodes.specs.View.{ids_of, place_of, places_of, plain_label, plain_node}
+use Rattle.smt_nodes.specs.contracts.node.LabelOrd.TheImpl as label_order
 use Rattle.smt_nodes.specs.contracts.node.NodeOrd.TheImpl as node_order
+use Rattle.smt_nodes.specs.contracts.table.KeyOrd.TheImpl as key_order
 use Rattle.smt_nodes.specs.declared.id.NodeId.{NodeId}
+use Rattle.smt_nodes.specs.declared.node.Label.{Label}
 use Rattle.smt_nodes.specs.declared.node.Node.{Node}
-use Rattle.smt_nodes.proofs.Levels.{node_equal, node_same}
+use Rattle.smt_nodes.specs.declared.table.Key.{Key}
+use Rattle.smt_nodes.specs.declared.table.Table.{Table}
+use Rattle.smt_nodes.proofs.Levels.{key_equal, key_same, label_cmp, label_cmp-is, label_equal, label_kept, node_equal, node_same}
 
+-- what a map finds after one entry more, by whether it is that entry
+look : {X : Type 0} (b : Bool) (new x : X) (o : Option X) → cond b (Some new) o ≡ Some x → ((b ≡ true) × (new ≡ x)) ⊎ ((b ≡ false) × (o ≡ Some x))
+look true new x o h = inl (refl, some_same new x h)
+look false new x o h = inr (refl, h)
+
+lack : {X : Type 0} (b : Bool) (new : X) (o : Option X) → cond b (Some new) o ≡ None → (b ≡ false) × (o ≡ None)
+lack true new o h = absurd (cc)
+lack false new o h = (refl, h)
+
+-- ---- what the table finds, said of plain nodes
 at_place : (nodes : List Node) (i : ℕ) → i < length nodes → (n : Node) × (slice_get nodes i ≡ Some n)
 at_place [] i h = absurd (omega arith)
 at_place (n ∷ nodes) i h = (get_or (n ∷ nodes) i n, slice_get-get_or (n ∷ nodes) i n h)
 
-pub finds_node : (nodes : List Node) (ids : BTreeMap Node NodeId) → IsIndex nodes ids → (q : Node) (id : NodeId) → get node_order.ghosts.cmp ids q ≡ Some id → slice_get (map plain_node nodes) (place_of id) ≡ Some (plain_node q)
-finds_node nodes ids x q id h =
-    let (n, e) = at_place nodes (place_of id) (x.within q id h) in
-    slice_get-map plain_node nodes (place_of id) ∙ (ap (option_map plain_node) e ∙ ap Some (sym (node_same q n (x.found q id h n e))))
+abbrev StandsAt : Table → NodeId → Node → Type 0
+StandsAt t id n = slice_get (map plain_node t.nodes.items) (place_of id) ≡ Some (plain_node n)
 
--- what is found after a node is entered, by whether it is that node
-look : (b : Bool) (id i : NodeId) (o : Option NodeId) → cond b (Some id) o ≡ Some i → ((b ≡ true) × (id ≡ i)) ⊎ ((b ≡ false) × (o ≡ Some i))
-look true id i o h = inl (refl, some_same id i h)
-look false id i o h = inr (refl, h)
+pub finds_node : (t : Table) → IsIndex t → (n : Node) (k : Key) (id : NodeId) → IsKey t n k → id_at t k ≡ Some id → StandsAt t id n
+finds_node t x n k id a h =
+    let (m, e) = at_place t.nodes.items (place_of id) (x.within n k id a h) in
+    slice_get-map plain_node t.nodes.items (place_of id) ∙ (ap (option_map plain_node) e ∙ ap Some (sym (node_same n m (x.found n k id a h m e))))
 
-lack : (b : Bool) (id : NodeId) (o : Option NodeId) → cond b (Some id) o ≡ None → (b ≡ false) × (o ≡ None)
-lack true id o h = absurd (cc)
-lack false id o h = (refl, h)
+pub finds_some : (t : Table) → IsIndex t → (n : Node) (k : Key) (o : Option NodeId) → o ≡ id_at t k → IsKey t n k → IfSome o (λ id. StandsAt t id n)
+finds_some t x n k None e a = tt
+finds_some t x n k (Some id) e a = finds_node t x n k id a (sym e)
 
--- a table with the same entries finds the same
-unchanged : (nodes : List Node) (ids more : BTreeMap Node NodeId) → more.entries ≡ ids.entries → IsIndex nodes ids → IsIndex nodes more
-unchanged nodes ids more e x =
-    let same : (q : Node) → get node_order.ghosts.cmp more q ≡ get node_order.ghosts.cmp ids q = λ (q : Node). ap (λ es. lookup (is_at (node_order.ghosts.cmp q)) es) e in
+stands_within : (t : Table) (id : NodeId) (n : Node) → StandsAt t id n → place_of id < length t.nodes.items
+stands_within t id n h = let b = slice_get_within (map plain_node t.nodes.items) (place_of id) (plain_node n) h in omega (arith, length-map t.nodes.items plain_node)
+
+stands_equal : (t : Table) (id : NodeId) (n : Node) → StandsAt t id n → (m : Node) → slice_get t.nodes.items (place_of id) ≡ Some m → is_eq (node_order.ghosts.cmp n m) ≡ true
+stands_equal t id n h m e =
+    node_equal n m (some_same (plain_node n) (plain_node m) (sym h ∙ (slice_get-map plain_node t.nodes.items (place_of id) ∙ ap (option_map plain_node) e)))
+
+-- ---- the numbers of labels
+-- labels that say the same have one number
+pub same_number : (t : Table) (l m : Label) → plain_label l ≡ plain_label m → number_of t l ≡ number_of t m
+same_number t l m h =
+    let same : (k : Label) → label_order.ghosts.cmp l k ≡ label_order.ghosts.cmp m k = λ (k : Label). label_cmp-is l k ∙ (ap (λ p. label_cmp p (plain_label k)) h ∙ sym (label_cmp-is m k)) in
+    λ i. get_by (λ (k : Label). same k i) t.labels
+
+pub more_by_one : (old : Option ℕ) (n m : ℕ) → old ≡ None → m ≡ n + (if is_some old then 0 else 1) → m ≡ n + 1
+more_by_one None n m e h = h
+more_by_one (Some i) n m e h = absurd (cc)
+
+-- the same labels
+pub unchanged : (t u : Table) → IsIndex t → u.nodes.items ≡ t.nodes.items → u.ids ≡ t.ids → u.labels.entries ≡ t.labels.entries → IsIndex u
+unchanged t u x nodes ids labels =
+    let id_is : (k : Key) → id_at u k ≡ id_at t k = λ (k : Key). ap (get_by (key_order.ghosts.cmp k)) ids in
+    let number_is : (l : Label) → number_of u l ≡ number_of t l = λ (l : Label). ap (lookup (is_at (label_order.ghosts.cmp l))) labels in
+    let count : btree_map_len u.labels ≡ btree_map_len t.labels = ap length labels in
+    let older : (n : Node) (k : Key) → IsKey u n k → IsKey t n k = λ (n : Node) (k : Key) (a : IsKey u n k). record { label = sym (number_is n.label) ∙ a.label; parts = a.parts } in
+    let has : (n : Node) → Contains (map plain_node u.nodes.items) (plain_node n) → Contains (map plain_node t.nodes.items) (plain_node n) =
+    λ (n : Node) (c : Contains (map plain_node u.nodes.items) (plain_node n)). subst (λ ns. Contains (map plain_node ns) (plain_node n)) nodes c in
+    let finds : (n : Node) (k : Key) (id : NodeId) → IsKey u n k → id_at u k ≡ Some id → StandsAt u id n =
+    λ (n : Node) (k : Key) (id : NodeId) (a : IsKey u n k) (h : id_at u k ≡ Some id). ap (λ ns. slice_get (map plain_node ns) (place_of id)) nodes ∙ finds_node t x n k id (older n k a) (sym (id_is k) ∙ h) in
     record {
-      within = λ q i h. x.within q i (sym (same q) ∙ h);
-      found = λ q i h n a. x.found q i (sym (same q) ∙ h) n a;
-      missing = λ q h. x.missing q (sym (same q) ∙ h);
+      within = λ n k id a h. stands_within u id n (finds n k id a h);
+      found = λ n k id a h. stands_equal u id n (finds n k id a h);
+      missing = λ n k a h c. x.missing n k (older n k a) (sym (id_is k) ∙ h) (has n c);
+      unlabelled = λ n h c. x.unlabelled n (sym (number_is n.label) ∙ h) (has n c);
+      apart = λ l m i a b. x.apart l m i (sym (number_is l) ∙ a) (sym (number_is m) ∙ b);
+      counted = λ l i h. (let c : i < btree_map_len t.labels = x.counted l i (sym (number_is l) ∙ h) in omega arith);
+      numbered = λ k id h. (let c : k.label < btree_map_len t.labels = x.numbered k id (sym (id_is k) ∙ h) in omega arith);
     }
 
-pub entered : (nodes : List Node) (ids more : BTreeMap Node NodeId) (key node : Node) (id : NodeId) → IsIndex nodes ids → Updates node_order.ghosts.cmp ids more key (Some id) → place_of id ≡ length nodes → plain_node key ≡ plain_node node → IsIndex (nodes ++ node ∷ []) more
-entered nodes ids more key node id x u last same =
+-- one label more, with the count of the labels before it for its number
+pub labelled : (t u : Table) (l : Label) (number : ℕ) → IsIndex t → number_of t l ≡ None → u.nodes.items ≡ t.nodes.items → u.ids ≡ t.ids
+    → Updates label_order.ghosts.cmp t.labels u.labels l (Some number) → number ≡ btree_map_len t.labels → btree_map_len u.labels ≡ btree_map_len t.labels + 1 → IsIndex u
+labelled t u l number x new nodes ids up last more =
+    let id_is : (k : Key) → id_at u k ≡ id_at t k = λ (k : Key). ap (get_by (key_order.ghosts.cmp k)) ids in
+    let has : (n : Node) → Contains (map plain_node u.nodes.items) (plain_node n) → Contains (map plain_node t.nodes.items) (plain_node n) =
+    λ (n : Node) (c : Contains (map plain_node u.nodes.items) (plain_node n)). subst (λ ns. Contains (map plain_node ns) (plain_node n)) nodes c in
+    let at : (m : Label) (i : ℕ) → number_of u m ≡ Some i → ((is_eq (label_order.ghosts.cmp l m) ≡ true) × (number ≡ i)) ⊎ ((is_eq (label_order.ghosts.cmp l m) ≡ false) × (number_of t m ≡ Some i)) =
+    λ (m : Label) (i : ℕ) (h : number_of u m ≡ Some i). look (is_eq (label_order.ghosts.cmp l m)) number i (number_of t m) (sym (up.0 m) ∙ h) in
+    let finds : (n : Node) (k : Key) (id : NodeId) → IsKey u n k → id_at u k ≡ Some id → StandsAt u id n =
+    λ (n : Node) (k : Key) (id : NodeId) (a : IsKey u n k) (h : id_at u k ≡ Some id). elim (at n.label k.label a.label) [
+      | inl e ↦ (let b : k.label < btree_map_len t.labels = x.numbered k id (sym (id_is k) ∙ h) in let here : number ≡ k.label = e.1 in absurd (omega arith))
+      | inr e ↦ ap (λ ns. slice_get (map plain_node ns) (place_of id)) nodes ∙ finds_node t x n k id (record { label = e.1; parts = a.parts }) (sym (id_is k) ∙ h)
+    ] in
     record {
-      within = λ q i h. elim (look (is_eq (node_order.ghosts.cmp key q)) id i (get node_order.ghosts.cmp ids q) (sym (u.0 q) ∙ h)) [
-        | inl e ↦ (let p : place_of id ≡ place_of i = ap place_of e.1 in omega (arith, length-append nodes (node ∷ [])))
-        | inr e ↦ (let p : place_of i < length nodes = x.within q i e.1 in omega (arith, length-append nodes (node ∷ [])))
+      within = λ n k id a h. stands_within u id n (finds n k id a h);
+      found = λ n k id a h. stands_equal u id n (finds n k id a h);
+      missing = λ n k a h c. elim (at n.label k.label a.label) [
+        | inl e ↦ x.unlabelled n (sym (same_number t l n.label (label_kept l n.label e.0)) ∙ new) (has n c)
+        | inr e ↦ x.missing n k (record { label = e.1; parts = a.parts }) (sym (id_is k) ∙ h) (has n c)
       ];
-      found = λ q i h n a. elim (look (is_eq (node_order.ghosts.cmp key q)) id i (get node_order.ghosts.cmp ids q) (sym (u.0 q) ∙ h)) [
-        | inl e ↦ (let at : place_of i ≡ length nodes = sym (ap place_of e.1) ∙ last in
-            let n_is : node ≡ n = some_same node n (sym (get_last nodes node) ∙ (ap (slice_get (nodes ++ node ∷ [])) (sym at) ∙ a)) in
-            node_equal q n (sym (node_same key q e.0) ∙ (same ∙ ap plain_node n_is)))
-        | inr e ↦ x.found q i e.1 n (sym (get_older nodes (node ∷ []) (place_of i) (x.within q i e.1)) ∙ a)
+      unlabelled = λ n h c. (let e = lack (is_eq (label_order.ghosts.cmp l n.label)) number (number_of t n.label) (sym (up.0 n.label) ∙ h) in x.unlabelled n e.1 (has n c));
+      apart = λ m k i a b. elim (at m i a) [
+        | inl e ↦ elim (at k i b) [
+          | inl f ↦ label_equal m k (sym (label_kept l m e.0) ∙ label_kept l k f.0)
+          | inr f ↦ (let c : i < btree_map_len t.labels = x.counted k i f.1 in let here : number ≡ i = e.1 in absurd (omega arith))
+        ]
+        | inr e ↦ elim (at k i b) [
+          | inl f ↦ (let c : i < btree_map_len t.labels = x.counted m i e.1 in let here : number ≡ i = f.1 in absurd (omega arith))
+          | inr f ↦ x.apart m k i e.1 f.1
+        ]
       ];
-      missing = λ q h c.
-          let e = lack (is_eq (node_order.ghosts.cmp key q)) id (get node_order.ghosts.cmp ids q) (sym (u.0 q) ∙ h) in
-          let (j, a) = place_in (map plain_node (nodes ++ node ∷ [])) (plain_node q) c in
-          elim (get_split (map plain_node nodes) (plain_node node) j (plain_node q) (ap (λ l. slice_get l j) (sym (map-append plain_node nodes (node ∷ []))) ∙ a)) [
-            | inl b ↦ x.missing q e.1 (contains_at (map plain_node nodes) j (plain_node q) b)
-            | inr b ↦ absurd (false≢true (sym e.0 ∙ node_equal key q (same ∙ b.1)))
-          ];
+      counted = λ m i h. elim (at m i h) [
+        | inl e ↦ (let here : number ≡ i = e.1 in omega arith)
+        | inr e ↦ (let c : i < btree_map_len t.labels = x.counted m i e.1 in omega arith)
+      ];
+      numbered = λ k id h. (let b : k.label < btree_map_len t.labels = x.numbered k id (sym (id_is k) ∙ h) in omega arith);
+    }
+
+-- ---- one node more
+none_some : {X : Type 0} {x : X} → None ≡ Some x → ⊥
+none_some h = cc
+
+in_more : (ns : List PlainNode) (n m : PlainNode) → Contains (ns ++ n ∷ []) m → (Contains ns m) ⊎ (n ≡ m)
+in_more ns n m c =
+    let (j, a) = place_in (ns ++ n ∷ []) m c in
+    elim (get_split ns n j m a) [ inl b ↦ inl (contains_at ns j m b) | inr b ↦ inr b.1 ]
+
+-- nodes of one key say the same
+one_key : (t : Table) (n o : Node) (k : Key) → IsIndex t → IsKey t n k → (l : Key) → IsKey t o l → k.label ≡ l.label → places_of (ids_of k.parts) ≡ places_of (ids_of l.parts) → plain_node n ≡ plain_node o
+one_key t n o k x a l b e p =
+    let label : plain_label n.label ≡ plain_label o.label = label_kept n.label o.label (x.apart n.label o.label l.label (a.label ∙ ap Some e) b.label) in
+    let parts : places_of (ids_of n.parts) ≡ places_of (ids_of o.parts) = sym (ap places_of a.parts) ∙ (p ∙ ap places_of b.parts) in
+    λ i. record { label = label i; parts = parts i }
+
+-- and equal nodes have equal keys
+equal_keys : (t : Table) (n o : Node) (k l : Key) → IsKey t n k → IsKey t o l → plain_node n ≡ plain_node o → is_eq (key_order.ghosts.cmp k l) ≡ true
+equal_keys t n o k l a b h =
+    key_equal k l (some_same k.label l.label (sym a.label ∙ (same_number t n.label o.label (ap (λ p. p.label) h) ∙ b.label))) (ap places_of a.parts ∙ (ap (λ p. p.parts) h ∙ sym (ap places_of b.parts)))
+
+pub entered : (t u : Table) (key : Key) (node : Node) (id : NodeId) → IsIndex t → IsKey t node key → u.labels ≡ t.labels → u.nodes.items ≡ t.nodes.items ++ node ∷ []
+    → Updates key_order.ghosts.cmp t.ids u.ids key (Some id) → place_of id ≡ length t.nodes.items → IsIndex u
+entered t u key node id x own labels nodes up last =
+    let number_is : (l : Label) → number_of u l ≡ number_of t l = λ (l : Label). ap (get_by (label_order.ghosts.cmp l)) labels in
+    let plain : map plain_node u.nodes.items ≡ map plain_node t.nodes.items ++ plain_node node ∷ [] = ap (map plain_node) nodes ∙ map-append plain_node t.nodes.items (node ∷ []) in
+    let older : (n : Node) (k : Key) → IsKey u n k → IsKey t n k = λ (n : Node) (k : Key) (a : IsKey u n k). record { label = sym (number_is n.label) ∙ a.label; parts = a.parts } in
+    let split : (n : Node) → Contains (map plain_node u.nodes.items) (plain_node n) → (Contains (map plain_node t.nodes.items) (plain_node n)) ⊎ (plain_node node ≡ plain_node n) =
+    λ (n : Node) (c : Contains (map plain_node u.nodes.items) (plain_node n)). in_more (map plain_node t.nodes.items) (plain_node node) (plain_node n) (subst (λ ns. Contains ns (plain_node n)) plain c) in
+    let at : (k : Key) (i : NodeId) → id_at u k ≡ Some i → ((is_eq (key_order.ghosts.cmp key k) ≡ true) × (id ≡ i)) ⊎ ((is_eq (key_order.ghosts.cmp key k) ≡ false) × (id_at t k ≡ Some i)) =
+    λ (k : Key) (i : NodeId) (h : id_at u k ≡ Some i). look (is_eq (key_order.ghosts.cmp key k)) id i (id_at t k) (sym (up.0 k) ∙ h) in
+    let finds : (n : Node) (k : Key) (i : NodeId) → IsKey u n k → id_at u k ≡ Some i → StandsAt u i n =
+    λ (n : Node) (k : Key) (i : NodeId) (a : IsKey u n k) (h : id_at u k ≡ Some i). elim (at k i h) [
+      | inl e ↦ (let s = key_same key k e.0 in
+          let here : place_of i ≡ length (map plain_node t.nodes.items) = sym (ap place_of e.1) ∙ (last ∙ sym (length-map t.nodes.items plain_node)) in
+          ap (λ ns. slice_get ns (place_of i)) plain ∙ (ap (slice_get (map plain_node t.nodes.items ++ plain_node node ∷ [])) here ∙ (get_last (map plain_node t.nodes.items) (plain_node node) ∙ ap Some (one_key t node n key x own k (older n k a) s.0 s.1))))
+      | inr e ↦ ap (λ ns. slice_get ns (place_of i)) plain ∙ get_stays (map plain_node t.nodes.items) (plain_node node ∷ []) (place_of i) (plain_node n) (finds_node t x n k i (older n k a) e.1)
+    ] in
+    record {
+      within = λ n k i a h. stands_within u i n (finds n k i a h);
+      found = λ n k i a h. stands_equal u i n (finds n k i a h);
+      missing = λ n k a h c. (let e = lack (is_eq (key_order.ghosts.cmp key k)) id (id_at t k) (sym (up.0 k) ∙ h) in
+          elim (split n c) [
+            | inl b ↦ x.missing n k (older n k a) e.1 b
+            | inr b ↦ false≢true (sym e.0 ∙ equal_keys t node n key k own (older n k a) b)
+          ]);
+      unlabelled = λ n h c. elim (split n c) [
+        | inl b ↦ x.unlabelled n (sym (number_is n.label) ∙ h) b
+        | inr b ↦ (let f : number_of t node.label ≡ None = same_number t node.label n.label (ap (λ p. p.label) b) ∙ (sym (number_is n.label) ∙ h) in let g : number_of t node.label ≡ Some key.label = own.label in absurd (none_some (sym f ∙ g)))
+      ];
+      apart = λ l m i a b. x.apart l m i (sym (number_is l) ∙ a) (sym (number_is m) ∙ b);
+      counted = λ l i h. (let c : i < btree_map_len t.labels = x.counted l i (sym (number_is l) ∙ h) in subst (λ (m : BTreeMap Label ℕ). i < btree_map_len m) (sym labels) c);
+      numbered = λ k i h. elim (at k i h) [
+        | inl e ↦ (let s = key_same key k e.0 in let c : key.label < btree_map_len t.labels = x.counted node.label key.label own.label in subst (λ (m : BTreeMap Label ℕ). k.label < btree_map_len m) (sym labels) (subst (λ (n : ℕ). n < btree_map_len t.labels) s.0 c))
+        | inr e ↦ subst (λ (m : BTreeMap Label ℕ). k.label < btree_map_len m) (sym labels) (x.numbered k i e.1)
+      ];
     }
 
 -- ---- the nodes after a node is entered
 grown_nodes : (nodes more : List Node) (node : Node) → more ≡ nodes ++ node ∷ [] → map plain_node more ≡ map plain_node nodes ++ plain_node node ∷ []
 grown_nodes nodes more node e = ap (map plain_node) e ∙ map-append plain_node nodes (node ∷ [])
 
-pub new_means : (nodes more : List Node) (node : Node) (i : ℕ) → more ≡ nodes ++ node ∷ [] → i ≡ length nodes → meaning_at (map plain_node more) i ≡ meaning_of (meanings (map plain_node nodes)) (plain_node node)
+new_means : (nodes more : List Node) (node : Node) (i : ℕ) → more ≡ nodes ++ node ∷ [] → i ≡ length nodes → meaning_at (map plain_node more) i ≡ meaning_of (meanings (map plain_node nodes)) (plain_node node)
 new_means nodes more node i e h =
     ap (λ ns. meaning_at ns i) (grown_nodes nodes more node e) ∙ (ap (meaning_at (map plain_node nodes ++ plain_node node ∷ [])) (h ∙ sym (length-map nodes plain_node)) ∙ last_has (map plain_node nodes) (plain_node node))
 
-pub new_keeps : (nodes more : List Node) (node : Node) → more ≡ nodes ++ node ∷ [] → (i : ℕ) (m : Meaning) → meaning_at (map plain_node nodes) i ≡ Some m → meaning_at (map plain_node more) i ≡ Some m
+new_keeps : (nodes more : List Node) (node : Node) → more ≡ nodes ++ node ∷ [] → (i : ℕ) (m : Meaning) → meaning_at (map plain_node nodes) i ≡ Some m → meaning_at (map plain_node more) i ≡ Some m
 new_keeps nodes more node e i m h = ap (λ ns. meaning_at ns i) (grown_nodes nodes more node e) ∙ meaning_stays (map plain_node nodes) (plain_node node) i m h
 
 abbrev Known : List PlainNode → PlainNode → Type 0
 Known ns n = (id : NodeId) × (m : Meaning) × (meaning_at ns (place_of id) ≡ Some m) × (meaning_of (meanings ns) n ≡ Some m)
 
-pub new_grows : (nodes more : List Node) (node : Node) → more ≡ nodes ++ node ∷ [] → IsGraph (map plain_node nodes) → ¬ Contains (map plain_node nodes) (plain_node node)
-    → ((map plain_node more ≡ map plain_node nodes ++ plain_node node ∷ []) × ¬ Known (map plain_node nodes) (plain_node node)) ⊎ ((map plain_node more ≡ map plain_node nodes) × Known (map plain_node nodes) (plain_node node))
+abbrev pub Grows : List PlainNode → List PlainNode → PlainNode → Type 0
+Grows ns ks n = ((ks ≡ ns ++ n ∷ []) × ¬ Known ns n) ⊎ ((ks ≡ ns) × Known ns n)
+
+new_grows : (nodes more : List Node) (node : Node) → more ≡ nodes ++ node ∷ [] → IsGraph (map plain_node nodes) → ¬ Contains (map plain_node nodes) (plain_node node) → Grows (map plain_node nodes) (map plain_node more) (plain_node node)
 new_grows nodes more node e g new = inl (grown_nodes nodes more node e, λ (id, m, a, b). no_older (map plain_node nodes) g (plain_node node) new (place_of id) m a b)
 
--- the graph and its index, whether there was memory or not
-pub after : {R E : Type 0} (nodes more : List Node) (ids found : BTreeMap Node NodeId) (key node : Node) (id : NodeId) (r : Result R E)
-    → IsGraph (map plain_node nodes) → IsIndex nodes ids → IsTrue (fits (map plain_node nodes) (plain_node node)) → ¬ Contains (map plain_node nodes) (plain_node node)
-    → place_of id ≡ length nodes → plain_node key ≡ plain_node node
-    → OnOk r (more ≡ nodes ++ node ∷ []) → OnOk r (Updates node_order.ghosts.cmp ids found key (Some id)) → OnErr r (more ≡ nodes) → OnErr r (found.entries ≡ ids.entries)
-    → IsGraph (map plain_node more) × IsIndex more found
-after nodes more ids found key node id (Ok x) g index f new last same e u e' u' =
-    (subst IsGraph (sym (grown_nodes nodes more node e)) (grow (map plain_node nodes) (plain_node node) g f new), subst (λ l. IsIndex l found) (sym e) (entered nodes ids found key node id index u last same))
-after nodes more ids found key node id (Err x) g index f new last same e u e' u' =
-    (subst (λ l. IsGraph (map plain_node l)) (sym e') g, subst (λ l. IsIndex l found) (sym e') (unchanged nodes ids found u' index))
+-- ---- the nodes after a call that may have entered one
+pub graph_after : {R E : Type 0} (nodes more : List Node) (node : Node) (r : Result R E) → IsGraph (map plain_node nodes) → IsTrue (fits (map plain_node nodes) (plain_node node)) → ¬ Contains (map plain_node nodes) (plain_node node)
+    → OnOk r (more ≡ nodes ++ node ∷ []) → OnErr r (more ≡ nodes) → IsGraph (map plain_node more)
+graph_after nodes more node (Ok x) g f new e s = subst IsGraph (sym (grown_nodes nodes more node e)) (grow (map plain_node nodes) (plain_node node) g f new)
+graph_after nodes more node (Err x) g f new e s = subst (λ ns. IsGraph (map plain_node ns)) (sym s) g
+
+pub few_after : {R E : Type 0} (nodes more : List Node) (node : Node) (r : Result R E) → length nodes ≤ 2 ^ 32 → OnOk r (length nodes < 2 ^ 32) → OnOk r (more ≡ nodes ++ node ∷ []) → OnErr r (more ≡ nodes) → length more ≤ 2 ^ 32
+few_after nodes more node (Ok x) f g e s = (let k : length more ≡ length (nodes ++ node ∷ []) = ap length e in omega (arith, length-append nodes (node ∷ [])))
+few_after nodes more node (Err x) f g e s = (let k : length more ≡ length nodes = ap length s in omega arith)
+
+pub meaning_after : {E : Type 0} (nodes more : List Node) (node : Node) (r : Result NodeId E) → IfOk r (λ id. place_of id ≡ length nodes) → OnOk r (more ≡ nodes ++ node ∷ [])
+    → IfOk r (λ id. meaning_at (map plain_node more) (place_of id) ≡ meaning_of (meanings (map plain_node nodes)) (plain_node node))
+meaning_after nodes more node (Ok id) p e = new_means nodes more node (place_of id) e p
+meaning_after nodes more node (Err x) p e = tt
+
+pub kept_after : {R E : Type 0} (nodes more : List Node) (node : Node) (r : Result R E) → OnOk r (more ≡ nodes ++ node ∷ []) → OnErr r (more ≡ nodes)
+    → (i : ℕ) (m : Meaning) → meaning_at (map plain_node nodes) i ≡ Some m → meaning_at (map plain_node more) i ≡ Some m
+kept_after nodes more node (Ok x) e s i m h = new_keeps nodes more node e i m h
+kept_after nodes more node (Err x) e s i m h = ap (λ ns. meaning_at (map plain_node ns) i) s ∙ h
+
+pub grown_after : {R E : Type 0} (nodes more : List Node) (node : Node) (r : Result R E) → IsGraph (map plain_node nodes) → ¬ Contains (map plain_node nodes) (plain_node node)
+    → OnOk r (more ≡ nodes ++ node ∷ []) → OnOk r (Grows (map plain_node nodes) (map plain_node more) (plain_node node))
+grown_after nodes more node (Ok x) g new e = new_grows nodes more node e g new
+grown_after nodes more node (Err x) g new e = tt

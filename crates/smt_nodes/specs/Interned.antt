@@ -1,8 +1,9 @@
 -- What the nodes of an interner stand for.
 use Rattle.std.specs.Prelude.{◌≡◌, ◌⊎◌, ◌++◌, List, [], ◌∷◌, map, Option, Some}
-use Rattle.smt_graph.specs.Meanings.{meaning_at, meaning_of, meanings}
-use Rattle.smt_graph.specs.Nodes.{Meaning, PlainNode}
-use Rattle.smt_nodes.specs.View.{place_of, plain_node}
+use Rattle.smt_meaning.specs.Plain.{PlainTerm}
+use Rattle.smt_graph.specs.Meanings.{all_found, meaning_at, meaning_of, meanings}
+use Rattle.smt_graph.specs.Nodes.{Meaning, PlainNode, TermMeaning}
+use Rattle.smt_nodes.specs.View.{place_of, places_of, plain_node}
 use Rattle.smt_nodes.specs.declared.id.NodeId.{NodeId}
 use Rattle.smt_nodes.specs.declared.interner.Interner.{Interner}
 
@@ -32,3 +33,7 @@ GrowsFor i j n = ((nodes_of j ≡ nodes_of i ++ n ∷ []) × ¬ IsKnown i n) ⊎
 -- the number stands for something
 abbrev pub IsMeant : Interner → NodeId → Type 0
 IsMeant i id = (m : Meaning) × (meaning_in i id ≡ Some m)
+
+-- these numbers stand for these terms, in order
+abbrev pub StandFor : Interner → List NodeId → List PlainTerm → Type 0
+StandFor i ids ts = all_found (meanings (nodes_of i)) (places_of ids) ≡ Some (map TermMeaning ts)

@@ -1,3 +1,4 @@
+pub mod Attributes
 pub mod Index
 pub mod Interned
 pub mod Kinds

@@ -1,10 +1,12 @@
 -- The plain form of the program's nodes: what they say, without where they lie in memory.
-use Rattle.std.specs.Prelude.{ℕ, List, map}
-use Rattle.std.specs.Rc.{rc_str_bytes}
+use Rattle.std.specs.Prelude.{ℕ, List, [], map}
+use Rattle.std.specs.Rc.{rc_slice_items, rc_str_bytes}
 use Rattle.smt_bits.specs.Width.{bits_in}
 use Rattle.smt_graph.specs.Nodes.{PlainLabel, OptionLabel, BitVecLabel, BoolLabel, StringLabel, SetLabel, ApplicationLabel, NoneLabel, LiteralLabel, SetOfLabel, SomeLabel, VariableLabel, PlainNode}
 use Rattle.smt_term.specs.View.{plain_literal, plain_op}
 use Rattle.smt_nodes.specs.declared.id.IdList.{IdList}
+use Rattle.smt_nodes.specs.declared.id.Items.{Items}
+use Rattle.smt_nodes.specs.declared.id.Items.TheVariants.{Empty, One, Two, Three, More}
 use Rattle.smt_nodes.specs.declared.id.NodeId.{NodeId}
 use Rattle.smt_nodes.specs.declared.node.Label.{Label}
 use Rattle.smt_nodes.specs.declared.node.Label.TheVariants.{TOption, TBitvec, TBool, TString, TSet, App, NoneOf, Prim, SetOf, SomeOf, Var}
@@ -14,8 +16,15 @@ abbrev pub place_of : NodeId → ℕ
 place_of id = id.place
 
 -- the numbers of a list, and their places
+abbrev pub ids_in : Items → List NodeId
+ids_in Empty = []
+ids_in (One ids) = ids
+ids_in (Two ids) = ids
+ids_in (Three ids) = ids
+ids_in (More ids) = rc_slice_items ids
+
 abbrev pub ids_of : IdList → List NodeId
-ids_of list = list.items.value.items
+ids_of list = ids_in list.items
 
 abbrev pub places_of : List NodeId → List ℕ
 places_of ids = map place_of ids

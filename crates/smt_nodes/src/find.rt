@@ -22,7 +22,9 @@ impl Interner {
         ensures none { IfNone result ((id : NodeId) → meaning_in self.now id ≡ Some (TermMeaning (plain_term term.now)) → ⊥) }
     {
         for place in 0..self.len() {
-            let id = NodeId { place };
+            let id = NodeId {
+                place: place as u32,
+            };
             if self.stands_for_term(id, term) {
                 return Some(id);
             }

@@ -2,6 +2,7 @@
 ghost use Rattle.std.specs.Prelude.{◌≡◌, ◌∷◌, IfOk, List, Some, map};
 ghost use Rattle.smt_graph.specs.Meanings.{all_found, meanings, stands_for};
 ghost use Rattle.smt_graph.specs.Nodes.{Meaning, TermMeaning, TypeMeaning};
+ghost use Rattle.smt_meaning.specs.Types.{type_of};
 ghost use Rattle.smt_nodes.specs.View.{places_of, plain_label};
 ghost use Rattle.smt_term.specs.View.{plain_term, plain_type};
 
@@ -23,8 +24,7 @@ impl Interner {
         ensures meaning { IfOk result (λ id. meaning_in self.new id ≡ Some (TermMeaning (plain_term term.now))) }
         ensures kept { KeepsMeanings self.old self.new }
     {
-        let ty = term.type_of(self.alloc)?;
-        let ty = self.intern_type(&ty)?;
+        let ty = self.intern_type_of(term)?;
         match term {
             Term::App { op, args, .. } => {
                 let parts = self.intern_all(ty, args.items())?;
@@ -60,6 +60,27 @@ impl Interner {
         Ok(parts)
     }
 
+    // The number that stands for the type of a term. Where the term holds its type or the inner one, no type is made.
+    fn intern_type_of(&mut self, term: &Term) -> Result<NodeId, TermError>
+        ensures meaning { IfOk result (λ id. meaning_in self.new id ≡ Some (TypeMeaning (type_of (plain_term term.now)))) }
+        ensures kept { KeepsMeanings self.old self.new }
+    {
+        match term {
+            Term::App { ret_ty, .. } => self.intern_type(ret_ty),
+            Term::None(held) => {
+                let inner = self.intern_type(held)?;
+                self.enter(Label::TOption, &[inner])
+            }
+            Term::Prim(literal) => self.intern_type(&literal.type_of()?),
+            Term::Set { elts_ty, .. } => {
+                let inner = self.intern_type(elts_ty)?;
+                self.enter(Label::TSet, &[inner])
+            }
+            Term::Some(_) => self.intern_type(&term.type_of(self.alloc)?),
+            Term::Var(variable) => self.intern_type(&variable.ty),
+        }
+    }
+
     // The number that stands for a type.
     fn intern_type(&mut self, ty: &TermType) -> Result<NodeId, TermError>
         ensures meaning { IfOk result (λ id. meaning_in self.new id ≡ Some (TypeMeaning (plain_type ty.now))) }
@@ -80,7 +101,7 @@ impl Interner {
         }
     }
 
-    // Adds the node of a label and of parts, where it fits.
+    // The number of the node of a label and of parts. A node that is not there is entered, where it fits.
     fn enter(&mut self, label: Label, parts: &[NodeId]) -> Result<NodeId, TermError>
         ensures meaning { (ps : List Meaning) → all_found (meanings (nodes_of self.old)) (places_of parts.now) ≡ Some ps →
             IfOk result (λ id. meaning_in self.new id ≡ stands_for (plain_label label) ps) }
@@ -91,10 +112,11 @@ impl Interner {
             label,
             parts: IdList::new(self.alloc, parts)?,
         };
-        if self.fits(&node) {
-            self.add(node)
-        } else {
-            Err(TermError::Memory)
+        let key = self.key(&node)?;
+        match self.find_key(&key) {
+            Some(id) => Ok(id),
+            None if self.fits(&node) => self.enter_new(key, node),
+            None => Err(TermError::Memory),
         }
     }
 }

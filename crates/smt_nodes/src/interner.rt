@@ -1,5 +1,5 @@
 // Nodes that stand for different things, by number.
-ghost use Rattle.std.specs.Prelude.{ℕ, List, ◌≡◌, ◌↔◌, ◌<◌, [], IfOk, IfSome, IsTrue, OnOk, Some, is_some, length, map, option_and_then, option_map, slice_get};
+ghost use Rattle.std.specs.Prelude.{ℕ, List, ◌≡◌, ◌↔◌, ◌<◌, ◌≤◌, ◌^◌, [], Contains, IfNone, IfOk, IfSome, IsTrue, OnOk, Some, is_some, length, map, option_and_then, option_map, slice_get};
 ghost use Rattle.std.specs.List.{AllByRecursion, list_all};
 ghost use Rattle.smt_graph.specs.Fits.{applies_no_function, fits};
 ghost use Rattle.smt_graph.specs.Nodes.{ApplicationLabel, BitVecLabel, BoolLabel, LiteralLabel, NoneLabel, OptionLabel, SetLabel, SetOfLabel, SomeLabel, StringLabel, VariableLabel};
@@ -7,17 +7,16 @@ ghost use Rattle.smt_meaning.specs.Plain.{PlainOp};
 ghost use Rattle.smt_graph.specs.Graphs.{IsGraph};
 ghost use Rattle.smt_graph.specs.Meanings.{all_found, meaning_at, meanings, stands_for};
 ghost use Rattle.smt_graph.specs.Parts.{label_in, parts_in};
-ghost use Rattle.smt_nodes.specs.Index.{IsIndex};
+ghost use Rattle.smt_nodes.specs.Index.{IsIndex, IsKey};
 ghost use Rattle.smt_nodes.specs.Kinds.{ascend_at, is_option_at, is_option_of_at, is_set_at, is_term_at, is_type_at, is_type_of_at, terms_at};
 ghost use Rattle.smt_nodes.specs.View.{place_of, places_of, plain_label, plain_node};
 ghost use Rattle.smt_term.specs.View.{plain_literal};
 
 use crate::id::NodeId;
 use crate::node::{Label, Node};
-use crate::table::Table;
+use crate::table::{Key, Table};
 use smt_term::{TermError, TermPrim};
 use std::alloc::Global;
-use std::collections::BTreeMap;
 
 /// A list of nodes that each fit the nodes before it, and that each stand for something else.
 #[derive(Drop)]
@@ -25,7 +24,8 @@ pub struct Interner {
     pub(crate) alloc: Global,
     table: Table,
     ghost graph: { IsGraph (map plain_node table.nodes.items) },
-    ghost index: { IsIndex table.nodes.items table.ids },
+    ghost index: { IsIndex table },
+    ghost few: { length table.nodes.items ≤ 2 ^ 32 },
 }
 
 impl Interner {
@@ -37,10 +37,7 @@ impl Interner {
     {
         Interner {
             alloc,
-            table: Table {
-                nodes: Vec::new(alloc),
-                ids: BTreeMap::new(alloc),
-            },
+            table: Table::new(alloc),
         }
     }
 
@@ -62,28 +59,52 @@ impl Interner {
     pub fn node(&self, id: NodeId) -> Option<&Node>
         ensures { option_map (λ node. plain_node node.now) result ≡ slice_get (nodes_of self.now) (place_of id) }
     {
-        self.table.nodes.get(id.place)
+        self.table.nodes.get(id.place())
     }
 
     /// The number that stands for what the node stands for. Where there is none, the node is entered.
     ///
     /// # Errors
-    /// `Memory`, where there is none for the node.
+    /// `Memory`, where there is none for the node, or no number is left for it.
     pub fn add(&mut self, node: Node) -> Result<NodeId, TermError>
         requires { IsTrue (fits (nodes_of self.old) (plain_node node)) }
         ensures meaning { IfOk result (λ id. meaning_in self.new id ≡ meaning_for self.old (plain_node node)) }
         ensures kept { KeepsMeanings self.old self.new }
         ensures grown { OnOk result (GrowsFor self.old self.new (plain_node node)) }
     {
-        if let Some(id) = self.table.ids.get(&node) {
-            return Ok(*id);
+        let key = self.key(&node)?;
+        match self.find_key(&key) {
+            Some(id) => Ok(id),
+            None => self.enter_new(key, node),
         }
-        let id = NodeId {
-            place: self.table.nodes.len(),
-        };
-        let key = node.share()?;
-        self.table.enter(key, node, id)?;
-        Ok(id)
+    }
+
+    // The key by which the table finds a node.
+    pub(crate) fn key(&mut self, node: &Node) -> Result<Key, TermError>
+        ensures key { IfOk result (IsKey self.new.table node.now) }
+        ensures nodes { nodes_of self.new ≡ nodes_of self.old }
+    {
+        self.table.key(node)
+    }
+
+    // The number of the nodes that have the key. Takes no memory.
+    pub(crate) fn find_key(&self, key: &Key) -> Option<NodeId>
+        ensures found { (node : Node) → IsKey self.now.table node key.now → IfSome result (λ id. slice_get (nodes_of self.now) (place_of id) ≡ Some (plain_node node)) }
+        ensures missing { (node : Node) → IsKey self.now.table node key.now → IfNone result (¬ Contains (nodes_of self.now) (plain_node node)) }
+    {
+        self.table.find(key)
+    }
+
+    // Enters a node that fits and that the interner does not have.
+    pub(crate) fn enter_new(&mut self, key: Key, node: Node) -> Result<NodeId, TermError>
+        requires fits { IsTrue (fits (nodes_of self.old) (plain_node node)) }
+        requires key { IsKey self.old.table node key }
+        requires missing { ¬ Contains (nodes_of self.old) (plain_node node) }
+        ensures meaning { IfOk result (λ id. meaning_in self.new id ≡ meaning_for self.old (plain_node node)) }
+        ensures kept { KeepsMeanings self.old self.new }
+        ensures grown { OnOk result (GrowsFor self.old self.new (plain_node node)) }
+    {
+        self.table.enter(key, node)
     }
 
     /// Whether the node fits: its parts stand for things of the number and kinds that its label wants, and the first part

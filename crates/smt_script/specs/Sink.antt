@@ -1,4 +1,4 @@
--- What a put does to a sink.
+-- What a put and a flush do to a sink.
 use Rattle.std.specs.Prelude.{ℕ, ◌+◌, ◌-◌, ◌^◌, ◌≤◌, ◌≡◌, min, List, [], ◌++◌, length, IsOk, OnOk, OnErr, IsErrOf, Result, Option, None}
 use Rattle.std.specs.Io.KnownBytes.{append_known}
 use Rattle.smt_script.specs.declared.sink.SinkError.{SinkError}
@@ -28,6 +28,20 @@ pub record Puts {S T : Type 0} (contents : S → Option (List ℕ)) (faults : S 
   pub cause : IsErrOf result Fault → Rose (faults old) (faults new)
   -- a sink that certainly takes these and n bytes more took these, and takes the n
   pub room : (n : ℕ) → has_room old (length bytes + n) → IsOk result × has_room new n
+  -- the same references lead to it
+  pub same_place : place new ≡ place old
+
+-- What is held back is handed on, where a sink holds `contents`, has failed `faults` times, certainly takes `has_room` and
+-- stands at `place`.
+pub record Flushes {S T : Type 0} (contents : S → Option (List ℕ)) (faults : S → ℕ) (has_room : S → ℕ → Type 0) (place : S → List ℕ) (old new : S) (result : Result T SinkError) : Type 0 where
+  -- it holds what it held, also on an error
+  pub same_contents : contents new ≡ contents old
+  -- the count of faults never falls
+  pub later : faults old ≤ faults new
+  -- a fault comes only where the count rose
+  pub cause : IsErrOf result Fault → Rose (faults old) (faults new)
+  -- a sink that certainly takes n bytes flushed, and takes them still
+  pub room : (n : ℕ) → has_room old n → IsOk result × has_room new n
   -- the same references lead to it
   pub same_place : place new ≡ place old
 

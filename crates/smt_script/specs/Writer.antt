@@ -1,11 +1,19 @@
 -- What a sink over a writer has.
 use Rattle.std.specs.Prelude.{ℕ}
+use Rattle.smt_script.specs.declared.writer.BufferedSink.{BufferedSink}
 use Rattle.smt_script.specs.declared.writer.WriteSink.{WriteSink}
 
 -- what it writes to
-abbrev pub writer_of : {W : Type 0} → WriteSink W → W
-writer_of s = s.writer
+abbrev pub buffered_writer : {W : Type 0} → BufferedSink W → W
+buffered_writer s = s.writer
 
--- how many puts failed; the count stands still at 2^64 - 1
+-- how many puts and flushes failed; the count stands still at 2^64 - 1
+abbrev pub buffered_faults : {W : Type 0} → BufferedSink W → ℕ
+buffered_faults s = s.faults
+
+-- the same of a sink that flushes each line
+abbrev pub writer_of : {W : Type 0} → WriteSink W → W
+writer_of s = buffered_writer s.buffered
+
 abbrev pub write_faults : {W : Type 0} → WriteSink W → ℕ
-write_faults s = s.faults
+write_faults s = buffered_faults s.buffered

@@ -16,4 +16,4 @@ pub use memory::{ListSink, MemorySink};
 pub use script::SmtLibScript;
 pub use sink::{Sink, SinkError};
 pub use smt_text::Text;
-pub use writer::WriteSink;
+pub use writer::{BufferedSink, WriteSink};

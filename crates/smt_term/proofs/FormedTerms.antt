@@ -1,11 +1,10 @@
--- The program's terms are formed, and no table of enum types has an entry.
-use Rattle.std.proofs.Common.{List, [], ◌∷◌, map, ap}
-use Rattle.std.specs.Rc.{rc_str_bytes}
+-- The program's terms are formed.
+use Rattle.std.proofs.Common.{List, [], ◌∷◌}
 use Rattle.std.specs.List.{AllByRecursion}
 use Rattle.std.proofs.lemmas.Str.{IsUtf8-string_bytes}
 use Rattle.smt_meaning.specs.Formed.{IsFormed, IsFormedHere, IsFormedLiteral, IsFormedNode, IsFormedType}
 use Rattle.smt_meaning.specs.Plain.{PlainType, OptionType, SetType, PlainTerm, Application, NoneTerm, LiteralTerm, RecordTerm, SetTerm, SomeTerm, VariableTerm}
-use Rattle.smt_term.specs.Program.{TablesAreEmpty, TermsAreFormed}
+use Rattle.smt_term.specs.Program.{TermsAreFormed}
 use Rattle.smt_meaning.specs.Reached.{subterms, subterms_of_all, subterms_of_fields, types_within}
 use Rattle.smt_meaning.specs.Types.{literal_type, type_of}
 use Rattle.smt_term.specs.View.{plain_literal, plain_row, plain_term, plain_type}
@@ -79,6 +78,3 @@ both_formed t h = record { literals = nodes (subterms t) h; types = types (subte
 
 pub terms_are_formed : TermsAreFormed
 terms_are_formed t = both_formed (plain_term t) (formed_term t)
-
-pub tables_are_empty : TablesAreEmpty
-tables_are_empty table = ap (map (λ entry. (rc_str_bytes entry.0, map rc_str_bytes entry.1.value.items))) table.empty

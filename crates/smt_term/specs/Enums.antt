@@ -1,9 +1,15 @@
 -- What a table of enum types says.
 use Rattle.std.specs.Prelude.{map}
-use Rattle.std.specs.Rc.{rc_str_bytes}
+use Rattle.std.specs.List.{AllByRecursion}
 use Rattle.smt_meaning.specs.TypeValues.{Enums}
+use Rattle.smt_term.specs.Entities.{bytes_of_type}
+use Rattle.smt_term.specs.TextSets.{AreAscending, texts_of}
 use Rattle.smt_term.specs.declared.enums.EnumTable.{EnumTable}
 
 -- the enum types, each with its members
 abbrev pub enums_of : EnumTable → Enums
-enums_of table = map (λ entry. (rc_str_bytes entry.0, map rc_str_bytes entry.1.value.items)) table.types.entries
+enums_of table = map (λ entry. (bytes_of_type entry.0, texts_of entry.1)) table.types.entries
+
+-- the members of each enum type of a table ascend
+abbrev pub MembersAscend : Type 0
+MembersAscend = (table : EnumTable) → AllByRecursion (λ entry. AreAscending entry.1) (enums_of table)

@@ -1,7 +1,6 @@
 -- Laws of the program's types and terms, and of what terms are made of: what their code keeps, said of their plain form.
-use Rattle.std.specs.Prelude.{◌≡◌, ◌↔◌, IsTrue, []}
+use Rattle.std.specs.Prelude.{◌≡◌, ◌↔◌, IsTrue}
 use Rattle.std.specs.Cmp.Lexicographic.{slice_cmp}
-use Rattle.smt_term.specs.Enums.{enums_of}
 use Rattle.smt_meaning.specs.Formed.{IsFormed}
 use Rattle.smt_meaning.specs.TermOrder.{op_cmp, literal_cmp, term_cmp}
 use Rattle.smt_meaning.specs.Types.{type_cmp}
@@ -20,7 +19,6 @@ use Rattle.smt_term.specs.contracts.term.TermSetOrd.TheImpl as set_order
 use Rattle.smt_term.specs.contracts.term.TermSetPartialEq.TheImpl as set_equality
 use Rattle.smt_term.specs.contracts.types.TermTypeOrd.TheImpl as type_order
 use Rattle.smt_term.specs.contracts.types.TermTypePartialEq.TheImpl as type_equality
-use Rattle.smt_term.specs.declared.enums.EnumTable.{EnumTable}
 use Rattle.smt_term.specs.declared.op.Op.{Op}
 use Rattle.smt_term.specs.declared.term.Term.{Term}
 use Rattle.smt_term.specs.declared.term.TermList.{TermList}
@@ -80,7 +78,3 @@ EqualListsSayTheSame = (ts us : TermList) → IsTrue (list_equality.ghosts.eq ts
 
 abbrev pub EqualSetsSayTheSame : Type 0
 EqualSetsSayTheSame = (ts us : TermSet) → IsTrue (set_equality.ghosts.eq ts us) ↔ (plain_elements ts ≡ plain_elements us)
-
--- No table has an enum type yet.
-abbrev pub TablesAreEmpty : Type 0
-TablesAreEmpty = (table : EnumTable) → enums_of table ≡ []

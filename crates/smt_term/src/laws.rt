@@ -1,6 +1,10 @@
 //! Laws of the program's terms: they compare as what they say, proved with no code.
+ghost use Rattle.smt_term.specs.Entities.{EntitiesCompareAsTexts, EntityIdsCompareAsTexts, EntityTypesCompareAsTexts};
+ghost use Rattle.smt_term.specs.Enums.{MembersAscend};
+ghost use Rattle.smt_term.specs.Maps.{FieldPairsAreSorted, TermPairsAreSorted, TermTablesAscend, TypePairsAreSorted};
 ghost use Rattle.smt_term.specs.PatternOrder.{ElementOrderIsTotal, ElementsCompareAsPlain, EqualElementsSayTheSame, EqualOrdPatternsSayTheSame, EqualPatternsSayTheSame, LevelElementsAreEqual, LevelPatternsAreEqual, OrdPatternOrderIsTotal, PatternsCompareAsPlain};
-ghost use Rattle.smt_term.specs.Program.{EqualListsSayTheSame, EqualLiteralsSayTheSame, EqualOperatorsSayTheSame, EqualSetsSayTheSame, EqualTermsSayTheSame, EqualTypesSayTheSame, EqualVariablesSayTheSame, ListsCompareAsPlain, LiteralsCompareAsPlain, OperatorsCompareAsPlain, SetsCompareAsPlain, TablesAreEmpty, TermsAreFormed, TermsCompareAsPlain, TypesCompareAsPlain, VariablesCompareAsPlain};
+ghost use Rattle.smt_term.specs.Program.{EqualListsSayTheSame, EqualLiteralsSayTheSame, EqualOperatorsSayTheSame, EqualSetsSayTheSame, EqualTermsSayTheSame, EqualTypesSayTheSame, EqualVariablesSayTheSame, ListsCompareAsPlain, LiteralsCompareAsPlain, OperatorsCompareAsPlain, SetsCompareAsPlain, TermsAreFormed, TermsCompareAsPlain, TypesCompareAsPlain, VariablesCompareAsPlain};
+ghost use Rattle.smt_term.specs.TextSets.{TextSetsAscend};
 
 /// What the program's terms, types and tables keep.
 pub fn program_terms()
@@ -9,7 +13,7 @@ pub fn program_terms()
     ensures type_equality { EqualTypesSayTheSame }
     ensures order { TermsCompareAsPlain }
     ensures type_order { TypesCompareAsPlain }
-    ensures tables { TablesAreEmpty }
+    ensures tables { MembersAscend }
 {}
 
 /// What the program's terms are made of compares as what it says, and is equal exactly where it says the same.
@@ -41,4 +45,20 @@ pub fn patterns_are_ordered()
     ensures level_elements { LevelElementsAreEqual }
     ensures patterns { OrdPatternOrderIsTotal }
     ensures level_patterns { LevelPatternsAreEqual }
+{}
+
+/// Entities, their types and their ids compare by the bytes of their texts.
+pub fn program_entities()
+    ensures type_order { EntityTypesCompareAsTexts }
+    ensures id_order { EntityIdsCompareAsTexts }
+    ensures order { EntitiesCompareAsTexts }
+{}
+
+/// Sets of texts and tables of terms ascend, and maps have of each key the value of its last pair.
+pub fn program_maps()
+    ensures text_sets { TextSetsAscend }
+    ensures term_tables { TermTablesAscend }
+    ensures type_pairs { TypePairsAreSorted }
+    ensures field_pairs { FieldPairsAreSorted }
+    ensures term_pairs { TermPairsAreSorted }
 {}

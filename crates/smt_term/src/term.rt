@@ -72,7 +72,7 @@ impl TermList {
     pub fn new(alloc: Global, items: &[Term]) -> Result<TermList, TermError>
         ensures { IfOk result (λ list. plain_items list ≡ map plain_term items.now) }
     {
-        let mut all = Vec::new(alloc);
+        let mut all = Vec::with_capacity(alloc, items.len())?;
         for item in items {
             all.push(item.share()?)?;
         }

@@ -1,8 +1,9 @@
 // Whole runs of the program where no job shows how they end: words, sources and sinks that fail, and the greatest job.
 use smt_cli::{EncodeRefusal, MemorySource, Refusal, Source, run};
-use smt_script::{ListSink, MemorySink};
+use smt_script::{BufferedSink, ListSink, MemorySink};
 use smt_term::Text;
 use std::alloc::{AllocError, Global};
+use std::io::{self, BufWriter, Write};
 use std::test::Fail;
 
 /// The job of `not b`.
@@ -120,6 +121,61 @@ fn a_failing_diag_changes_no_status(rt: HostRuntime) -> Result<(), Fail> {
     for row in &ENDS {
         let (status, _, said) = end_of(rt.alloc(), row, &[1])?;
         assert!(rt; status == row.6 && said.is_empty(), "{} {}", row.0, row.7);
+    }
+    Ok(())
+}
+
+/// Takes all bytes, and fails at each flush.
+#[derive(Drop)]
+struct StuckWriter {
+    bytes: Vec<u8>,
+}
+
+impl Write for StuckWriter {
+    fn write(&mut self, buf: &[u8]) -> io::Result<usize> {
+        self.bytes.extend_from_slice(buf)?;
+        Ok(buf.len())
+    }
+
+    fn flush(&mut self) -> io::Result<()> {
+        Err(io::Error::from(io::ErrorKind::BrokenPipe))
+    }
+}
+
+/// The status of a run whose `out` holds bytes back for this writer, and what it said on diag.
+fn run_held(
+    alloc: Global,
+    word: &str,
+    bytes: &str,
+    writer: &mut StuckWriter,
+) -> Result<(u8, Vec<u8>), Fail> {
+    let words = texts(alloc, &[word])?;
+    let mut source = MemorySource::new(alloc, bytes.as_bytes(), &[])?;
+    let mut out = BufferedSink::new(BufWriter::with_capacity(alloc, 4096, writer)?);
+    let mut diag = ListSink::new(alloc);
+    let status = run(alloc, words.as_slice(), &mut source, &mut out, &mut diag);
+    Ok((status, diag.bytes().to_vec(alloc)?))
+}
+
+#[test]
+fn a_failing_flush_is_a_sink_fault(rt: HostRuntime) -> Result<(), Fail> {
+    let alloc = rt.alloc();
+    for (word, bytes, put, status, line) in [
+        ("script", NOT_B, SCRIPT, 6, "sink fault\n"),
+        ("--version", "", VERSION, 6, "sink fault\n"),
+        // Another refusal comes first.
+        ("script", "(job)", "", 3, "job refused: BadForm\n"),
+        ("scripts", NOT_B, "", 2, USAGE),
+    ] {
+        let mut writer = StuckWriter {
+            bytes: Vec::new(alloc),
+        };
+        let (ended, said) = run_held(alloc, word, bytes, &mut writer)?;
+        assert!(rt;
+            ended == status && said.as_slice() == line.as_bytes(),
+            "{word} {line}"
+        );
+        assert_eq!(rt; writer.bytes.as_slice(), put.as_bytes());
     }
     Ok(())
 }

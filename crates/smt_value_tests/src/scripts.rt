@@ -4,7 +4,9 @@ ghost use Rattle.std.specs.Prelude.{◌++◌, ◌≡◌, IsOk, codes, length};
 ghost use Rattle.smt_characters.specs.LineTexts.{declare_const_text};
 ghost use Rattle.smt_script.specs.Memory.{memory_bytes, memory_has_room};
 
-use smt_script::{ListSink, MemorySink, Sink, SinkError, SmtLibScript, Text, WriteSink};
+use smt_script::{
+    BufferedSink, ListSink, MemorySink, Sink, SinkError, SmtLibScript, Text, WriteSink,
+};
 use std::alloc::{AllocError, Global};
 use std::io::{self, Write};
 use std::process::Abort;
@@ -87,6 +89,9 @@ fn lines_are_spelled(rt: HostRuntime) -> Result<(), Fail> {
     assert_eq!(rt; list.bytes(), LINES.as_bytes());
     let mut writer = ShortWriter::new(alloc, 1000);
     put_lines(&mut WriteSink::new(&mut writer), alloc)?;
+    assert_eq!(rt; writer.bytes.as_slice(), LINES.as_bytes());
+    let mut writer = ShortWriter::new(alloc, 1000);
+    put_lines(&mut BufferedSink::new(&mut writer), alloc)?;
     assert_eq!(rt; writer.bytes.as_slice(), LINES.as_bytes());
     Ok(())
 }
@@ -175,5 +180,62 @@ fn writers_fail(rt: HostRuntime) -> Result<(), Fail> {
         b"(declare-const t0 Bool)\n(ass".as_slice()
     );
     assert_eq!(rt; writer.flushes, 1);
+    Ok(())
+}
+
+/// Puts two lines to a sink with room for one, and flushes it behind each.
+fn put_and_flush<S: Sink>(rt: &impl Abort, sink: &mut S) {
+    assert_eq!(rt; sink.declare_const("t0", "Bool"), Ok(()));
+    assert_eq!(rt; sink.flush(), Ok(()));
+    assert_eq!(rt; sink.assert("t0"), Err(SinkError::Fault));
+    assert_eq!(rt; sink.flush(), Ok(()));
+}
+
+#[test]
+fn sinks_are_flushed(rt: HostRuntime) -> Result<(), Fail> {
+    let alloc = rt.alloc();
+    // A line is flushed where it ends, and by each flush.
+    let mut writer = ShortWriter::new(alloc, 28);
+    put_and_flush(&rt, &mut WriteSink::new(&mut writer));
+    assert_eq!(rt; writer.flushes, 3);
+    // Here by each flush alone.
+    let mut writer = ShortWriter::new(alloc, 28);
+    put_and_flush(&rt, &mut BufferedSink::new(&mut writer));
+    assert_eq!(rt; writer.flushes, 2);
+    // This one holds nothing back.
+    put_and_flush(&rt, &mut &mut MemorySink::new(alloc, &[], 28)?);
+    Ok(())
+}
+
+/// Takes all bytes, and fails at each flush.
+#[derive(Drop)]
+struct StuckWriter {
+    bytes: Vec<u8>,
+}
+
+impl Write for StuckWriter {
+    fn write(&mut self, buf: &[u8]) -> io::Result<usize> {
+        self.bytes.extend_from_slice(buf)?;
+        Ok(buf.len())
+    }
+
+    fn flush(&mut self) -> io::Result<()> {
+        Err(io::Error::from(io::ErrorKind::BrokenPipe))
+    }
+}
+
+#[test]
+fn flushes_fail(rt: HostRuntime) -> Result<(), Fail> {
+    let mut writer = StuckWriter {
+        bytes: Vec::new(rt.alloc()),
+    };
+    let mut sink = BufferedSink::new(&mut writer);
+    assert_eq!(rt; sink.put(b"a\n"), Ok(()));
+    assert_eq!(rt; (&mut sink).flush(), Err(SinkError::Fault));
+    let mut sink = WriteSink::new(&mut writer);
+    assert_eq!(rt; sink.put(b"b"), Ok(()));
+    assert_eq!(rt; sink.put(b"\n"), Err(SinkError::Fault));
+    assert_eq!(rt; sink.flush(), Err(SinkError::Fault));
+    assert_eq!(rt; writer.bytes.as_slice(), b"a\nb\n".as_slice());
     Ok(())
 }

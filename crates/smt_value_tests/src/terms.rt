@@ -7,7 +7,10 @@ use std::alloc::Global;
 use std::rc::Rc;
 use std::test::Fail;
 
+mod entities;
+mod enums;
 mod literals;
+mod maps;
 mod operators;
 mod order;
 mod patterns;

@@ -2,12 +2,15 @@
 #![tactic(auto)]
 
 use smt_cli::{ReadSource, Refusal, run};
-use smt_script::WriteSink;
+use smt_script::{BufferedSink, WriteSink};
 use smt_term::Text;
 use std::alloc::Global;
 use std::env;
 use std::io::{BufWriter, ErrorKind};
 use std::process::ExitCode;
+
+/// How many bytes of standard output are held back at most, to be written at once.
+const PIECE: usize = 65_536;
 
 /// The words behind the program's name, None where there is no memory for them.
 ///
@@ -39,10 +42,11 @@ fn main(rt: HostRuntime) -> ExitCode {
         return no_memory();
     };
     let mut source = ReadSource::new(rt.stdin());
-    let Ok(stdout) = BufWriter::new(alloc, rt.stdout()) else {
+    let Ok(stdout) = BufWriter::with_capacity(alloc, PIECE, rt.stdout()) else {
         return no_memory();
     };
-    let mut out = WriteSink::new(stdout);
+    // The run flushes it at its end.
+    let mut out = BufferedSink::new(stdout);
     let mut diag = WriteSink::new(rt.stderr());
     ExitCode::from(run(alloc, words.as_slice(), &mut source, &mut out, &mut diag))
 }

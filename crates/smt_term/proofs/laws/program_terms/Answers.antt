@@ -1,6 +1,7 @@
+use Rattle.smt_term.proofs.AscendingTexts.{members_ascend}
 use Rattle.smt_term.proofs.DerivedEquality.{eq_from_same, same_from_eq}
 use Rattle.smt_term.proofs.DerivedOrder.{term_cmp-is, type_cmp-is}
-use Rattle.smt_term.proofs.FormedTerms.{tables_are_empty, terms_are_formed}
+use Rattle.smt_term.proofs.FormedTerms.{terms_are_formed}
 use Rattle.smt_term.proofs.SameType.{eq_from_same_type, same_type_from_eq}
 use Rattle.smt_term.proofs.laws.program_terms.Goals as goal
 
@@ -11,5 +12,5 @@ returns c = record {
   type_equality = λ s t. (same_type_from_eq s t, eq_from_same_type s t);
   order = term_cmp-is;
   type_order = type_cmp-is;
-  tables = tables_are_empty;
+  tables = members_ascend;
 }

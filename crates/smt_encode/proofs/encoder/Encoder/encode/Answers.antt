@@ -1,35 +1,36 @@
-use Rattle.std.proofs.Common.{map}
+use Rattle.std.proofs.Common.{map, rules}
 use Rattle.smt_term.specs.View.{plain_term}
 use Rattle.smt_lines.specs.Text.{names, text}
 use Rattle.smt_encode.specs.Encoded.{enums_in}
 use Rattle.smt_encode.proofs.Conditions.{headline, received}
 use Rattle.smt_encode.proofs.Faulted.{at_ok, has_cause, is_complete, ok_without_fault}
-use Rattle.smt_encode.proofs.Named.{fresh_tables, names_alone}
+use Rattle.smt_encode.proofs.Named.{names_alone, no_tables}
 use Rattle.smt_encode.proofs.Scripted.{text_written}
+use Rattle.smt_encode.proofs.Writing.{are_texts}
 use Rattle.smt_encode.proofs.encoder.Encoder.encode.Goals as goal
 
 pub returns-clause-stated : goal.returns-clause-stated
-returns-clause-stated g c fresh =
-    let has = fresh_tables c.args.self.now.names fresh in
+returns-clause-stated g c =
+    let has = no_tables c.args.self.now.writer.names (c.args.self.now.unwritten (search rules)) in
     let wrote = at_ok c.put_terms-outcome.result c.in_ok-outcome.field-0 c.in_ok-outcome.was (c.put_terms-outcome.ensures.lines has) in
-    record { text = text_written (enums_in c.args.self.now) (map plain_term c.args.terms.now) wrote; names = names_alone c.put_terms-outcome.new.self.names _ wrote.names }
+    record { text = text_written (enums_in c.args.self.now) (map plain_term c.args.terms.now) wrote; names = names_alone c.put_terms-outcome.new.self.names _ wrote.names; texts = are_texts c.put_terms-outcome.new.self.names _ (enums_in c.args.self.now) c.put_terms-outcome.ensures.cause.held.enums wrote.names }
 
 pub returns-clause-headline : goal.returns-clause-headline
-returns-clause-headline g c fresh typed =
-    let has = fresh_tables c.args.self.now.names fresh in
+returns-clause-headline g c typed =
+    let has = no_tables c.args.self.now.writer.names (c.args.self.now.unwritten (search rules)) in
     let enums = enums_in c.args.self.now in
     let ts = map plain_term c.args.terms.now in
     let none = ok_without_fault enums ts c.put_terms-outcome.result c.in_ok-outcome.field-0 c.in_ok-outcome.was c.put_terms-outcome.ensures.fault in
     let wrote = at_ok c.put_terms-outcome.result c.in_ok-outcome.field-0 c.in_ok-outcome.was (c.put_terms-outcome.ensures.lines has) in
-    received c.put_terms-outcome.new.self enums ts (names enums ts) (text enums ts) _ _ (text_written enums ts wrote) (names_alone c.put_terms-outcome.new.self.names _ wrote.names) (headline c.args.self.now.names.enums.now c.args.terms.now typed none)
+    received c.put_terms-outcome.new.self.names enums ts (names enums ts) (text enums ts) _ _ (text_written enums ts wrote) (names_alone c.put_terms-outcome.new.self.names _ wrote.names) (headline c.args.self.now.writer.names.enums.now c.args.terms.now typed none)
 
 pub returns-clause-models : goal.returns-clause-models
 returns-clause-models g c typed =
-    headline c.args.self.now.names.enums.now c.args.terms.now typed
+    headline c.args.self.now.writer.names.enums.now c.args.terms.now typed
     (ok_without_fault (enums_in c.args.self.now) (map plain_term c.args.terms.now) c.put_terms-outcome.result c.in_ok-outcome.field-0 c.in_ok-outcome.was c.put_terms-outcome.ensures.fault)
 
 pub returns-clause-written : goal.returns-clause-written
-returns-clause-written g c ids fresh typed stand = at_ok c.put_terms-outcome.result c.in_ok-outcome.field-0 c.in_ok-outcome.was (c.put_terms-outcome.ensures.written ids fresh typed stand)
+returns-clause-written g c ids typed stand = at_ok c.put_terms-outcome.result c.in_ok-outcome.field-0 c.in_ok-outcome.was (c.put_terms-outcome.ensures.written ids (c.args.self.now.unwritten (search rules)) typed stand)
 
 pub returns-clause-complete : goal.returns-clause-complete
 returns-clause-complete g c = record {

@@ -1,34 +1,36 @@
+use Rattle.std.proofs.Common.{rules}
 use Rattle.smt_lines.specs.Text.{names, text}
 use Rattle.smt_encode.specs.Encoded.{enums_in, nodes_in, texts_in}
 use Rattle.smt_encode.proofs.Completing.{none_whole}
 use Rattle.smt_encode.proofs.Conditions.{node_headline, received}
 use Rattle.smt_encode.proofs.Faulted.{at_ok, has_cause, is_complete, ok_without_fault}
-use Rattle.smt_encode.proofs.Named.{fresh_tables, names_alone}
+use Rattle.smt_encode.proofs.Named.{names_alone, no_tables}
 use Rattle.smt_encode.proofs.Scripted.{text_written}
+use Rattle.smt_encode.proofs.Writing.{are_texts}
 use Rattle.smt_encode.proofs.encoder.Encoder.encode_nodes.Goals as goal
 
 pub returns-clause-stated : goal.returns-clause-stated
-returns-clause-stated g c ts stand fresh =
-    let has = fresh_tables c.args.self.now.names fresh in
+returns-clause-stated g c ts stand =
+    let has = no_tables c.args.self.now.writer.names (c.args.self.now.unwritten (search rules)) in
     let wrote = at_ok c.put_nodes-outcome.result c.in_ok-outcome.field-0 c.in_ok-outcome.was (c.put_nodes-outcome.ensures.lines ts stand has) in
-    record { text = text_written (enums_in c.args.self.now) ts wrote; names = names_alone c.put_nodes-outcome.new.self.names _ wrote.names }
+    record { text = text_written (enums_in c.args.self.now) ts wrote; names = names_alone c.put_nodes-outcome.new.self.names _ wrote.names; texts = are_texts c.put_nodes-outcome.new.self.names _ (enums_in c.args.self.now) c.put_nodes-outcome.ensures.cause.held.enums wrote.names }
 
 pub returns-clause-headline : goal.returns-clause-headline
-returns-clause-headline g c ts stand fresh typed =
-    let has = fresh_tables c.args.self.now.names fresh in
+returns-clause-headline g c ts stand typed =
+    let has = no_tables c.args.self.now.writer.names (c.args.self.now.unwritten (search rules)) in
     let enums = enums_in c.args.self.now in
     let none = ok_without_fault enums ts c.put_nodes-outcome.result c.in_ok-outcome.field-0 c.in_ok-outcome.was (c.put_nodes-outcome.ensures.fault ts stand) in
     let wrote = at_ok c.put_nodes-outcome.result c.in_ok-outcome.field-0 c.in_ok-outcome.was (c.put_nodes-outcome.ensures.lines ts stand has) in
-    received c.put_nodes-outcome.new.self enums ts (names enums ts) (text enums ts) _ _ (text_written enums ts wrote) (names_alone c.put_nodes-outcome.new.self.names _ wrote.names) (node_headline c.args.self.now.names.enums.now (nodes_in c.args.self.now) c.args.ids.now ts stand typed none)
+    received c.put_nodes-outcome.new.self.names enums ts (names enums ts) (text enums ts) _ _ (text_written enums ts wrote) (names_alone c.put_nodes-outcome.new.self.names _ wrote.names) (node_headline c.args.self.now.writer.names.enums.now (nodes_in c.args.self.now) c.args.ids.now ts stand typed none)
 
 pub returns-clause-models : goal.returns-clause-models
 returns-clause-models g c ts stand typed =
-    node_headline c.args.self.now.names.enums.now (nodes_in c.args.self.now) c.args.ids.now ts stand typed
+    node_headline c.args.self.now.writer.names.enums.now (nodes_in c.args.self.now) c.args.ids.now ts stand typed
     (ok_without_fault (enums_in c.args.self.now) ts c.put_nodes-outcome.result c.in_ok-outcome.field-0 c.in_ok-outcome.was (c.put_nodes-outcome.ensures.fault ts stand))
 
 pub returns-clause-written : goal.returns-clause-written
-returns-clause-written g c ts stand fresh typed =
-    at_ok c.put_nodes-outcome.result c.in_ok-outcome.field-0 c.in_ok-outcome.was (c.put_nodes-outcome.ensures.written ts stand typed (none_whole (nodes_in c.args.self.now) (texts_in c.args.self.now) fresh))
+returns-clause-written g c ts stand typed =
+    at_ok c.put_nodes-outcome.result c.in_ok-outcome.field-0 c.in_ok-outcome.was (c.put_nodes-outcome.ensures.written ts stand typed (none_whole (nodes_in c.args.self.now) (texts_in c.args.self.now) (c.args.self.now.unwritten (search rules))))
 
 pub returns-clause-steps : goal.returns-clause-steps
 returns-clause-steps g c has closed all = at_ok c.put_nodes-outcome.result c.in_ok-outcome.field-0 c.in_ok-outcome.was (c.put_nodes-outcome.ensures.steps has closed all)

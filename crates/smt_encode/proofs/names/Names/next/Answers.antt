@@ -1,4 +1,4 @@
-use Rattle.std.proofs.Common.{arith, ◌∙◌}
+use Rattle.std.proofs.Common.{arith}
 use Rattle.std.proofs.lemmas.Result.{IfOk-weaker}
 use Rattle.smt_encode.proofs.Kept.{at_most}
 use Rattle.smt_encode.proofs.Numbered.{drawn}
@@ -8,4 +8,4 @@ pub returns : goal.returns
 returns c s are =
     let texts = c.args.self.now.texts in
     let most = at_most texts.texts.items in
-    IfOk-weaker c.term_name.result _ _ (λ name named. drawn _ _ s (omega (arith, most, c.named.ensures, texts.counted, texts.texts.small, texts.texts.ok)) (c.named.ensures ∙ are.count) named) c.term_name.ensures
+    IfOk-weaker c.term_name.result _ _ (λ name named. drawn _ _ s (omega (arith, most, texts.counted, texts.texts.small, texts.texts.ok)) are.count named) c.term_name.ensures

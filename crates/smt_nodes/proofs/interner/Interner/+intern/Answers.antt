@@ -11,61 +11,61 @@ use Rattle.smt_nodes.specs.Interned.{nodes_of, IsMeant}
 use Rattle.smt_nodes.specs.View.{places_of}
 use Rattle.smt_nodes.proofs.interner.Interner.+intern.Goals as goal
 
-pub intern-returns-in-App-clause-meaning : goal.intern-returns-in-App-clause-meaning
-intern-returns-in-App-clause-meaning t c =
+pub intern-returns-in_ok-share-in-App-clause-meaning : goal.intern-returns-in_ok-share-in-App-clause-meaning
+intern-returns-in_ok-share-in-App-clause-meaning t c =
     let args = map plain_term c.items.result.now in
     let whole : plain_term c.args.term.now ≡ Application (plain_op c.in-App.op) (terms (map plain_term c.items.result.now)) (plain_type c.in-App.ret_ty) =
     ap plain_term c.in-App.is ∙ (plain_term-App c.in-App.op c.in-App.args c.in-App.ret_ty ∙ ap (λ ts. Application (plain_op c.in-App.op) (terms ts) (plain_type c.in-App.ret_ty)) (sym c.items.ensures.plain)) in
-    let type : plain_type c.in_ok-ty.ty ≡ plain_type c.in-App.ret_ty = c.in_ok-ty.ensures ∙ ap type_of whole in
-    let same : Application (plain_op c.in_ok-share-in-App.field-0) (terms args) (plain_type c.in_ok-ty.ty) ≡ plain_term c.args.term.now =
-    ap (λ o. Application o (terms args) (plain_type c.in_ok-ty.ty)) c.in_ok-share-in-App.ensures ∙ (ap (Application (plain_op c.in-App.op) (terms args)) type ∙ sym whole) in
-    IfOk-weaker c.enter.result _ _ (λ id h. h ∙ (app_means c.in_ok-share-in-App.field-0 (plain_type c.in_ok-ty.ty) args ∙ ap (λ u. Some (TermMeaning u)) same))
-    (c.enter.ensures.meaning (TypeMeaning (plain_type c.in_ok-ty.ty) ∷ map TermMeaning args) (ap (λ l. all_found (meanings (nodes_of c.intern_all.new.self)) (places_of l)) c.as_slice.ensures.value ∙ c.in_ok-parts-in-App.ensures.meanings (TypeMeaning (plain_type c.in_ok-ty.ty)) c.in_ok-ty-2.ensures.meaning))
+    let type : type_of (plain_term c.args.term.now) ≡ plain_type c.in-App.ret_ty = ap type_of whole in
+    let same : Application (plain_op c.in_ok-share-in-App.field-0) (terms args) (type_of (plain_term c.args.term.now)) ≡ plain_term c.args.term.now =
+    ap (λ o. Application o (terms args) (type_of (plain_term c.args.term.now))) c.in_ok-share-in-App.ensures ∙ (ap (Application (plain_op c.in-App.op) (terms args)) type ∙ sym whole) in
+    IfOk-weaker c.enter.result _ _ (λ id h. h ∙ (app_means c.in_ok-share-in-App.field-0 (type_of (plain_term c.args.term.now)) args ∙ ap (λ u. Some (TermMeaning u)) same))
+    (c.enter.ensures.meaning (TypeMeaning (type_of (plain_term c.args.term.now)) ∷ map TermMeaning args) (ap (λ l. all_found (meanings (nodes_of c.intern_all.new.self)) (places_of l)) c.as_slice.ensures.value ∙ c.in_ok-parts-in-App.ensures.meanings (TypeMeaning (type_of (plain_term c.args.term.now))) c.in_ok-ty.ensures.meaning))
 
-pub intern-returns-in-App-clause-kept : goal.intern-returns-in-App-clause-kept
-intern-returns-in-App-clause-kept t c id m h = c.enter.ensures.kept id m (c.intern_all.ensures.kept id m (c.intern_type.ensures.kept id m h))
+pub intern-returns-in_ok-share-in-App-clause-kept : goal.intern-returns-in_ok-share-in-App-clause-kept
+intern-returns-in_ok-share-in-App-clause-kept t c id m h = c.enter.ensures.kept id m (c.intern_all.ensures.kept id m (c.intern_type_of.ensures.kept id m h))
 
 pub intern-returns-in-None-clause-meaning : goal.intern-returns-in-None-clause-meaning
 intern-returns-in-None-clause-meaning t c =
     let whole : plain_term c.args.term.now ≡ NoneTerm (plain_type c.in-None.field-0) = ap plain_term c.in-None.is ∙ plain_term-None c.in-None.field-0 in
-    let type : plain_type c.in_ok-ty.ty ≡ OptionType (plain_type c.in-None.field-0) = c.in_ok-ty.ensures ∙ ap type_of whole in
+    let type : type_of (plain_term c.args.term.now) ≡ OptionType (plain_type c.in-None.field-0) = ap type_of whole in
     IfOk-weaker c.enter-in-None.result _ _ (λ id h. h ∙ (ap (λ t. stands_for NoneLabel (TypeMeaning t ∷ [])) type ∙ (none_means (plain_type c.in-None.field-0) ∙ ap (λ u. Some (TermMeaning u)) (sym whole))))
-    (c.enter-in-None.ensures.meaning (TypeMeaning (plain_type c.in_ok-ty.ty) ∷ []) (one_found (nodes_of c.intern_type.new.self) c.in_ok-ty-2.ty _ c.in_ok-ty-2.ensures.meaning))
+    (c.enter-in-None.ensures.meaning (TypeMeaning (type_of (plain_term c.args.term.now)) ∷ []) (one_found (nodes_of c.intern_type_of.new.self) c.in_ok-ty.ty _ c.in_ok-ty.ensures.meaning))
 
-pub intern-returns-in-Prim-clause-meaning : goal.intern-returns-in-Prim-clause-meaning
-intern-returns-in-Prim-clause-meaning t c =
+pub intern-returns-in_ok-share-in-Prim-clause-meaning : goal.intern-returns-in_ok-share-in-Prim-clause-meaning
+intern-returns-in_ok-share-in-Prim-clause-meaning t c =
     let whole : plain_term c.args.term.now ≡ LiteralTerm (plain_literal c.in-Prim.literal) = ap plain_term c.in-Prim.is ∙ plain_term-Prim c.in-Prim.literal in
-    let type : plain_type c.in_ok-ty.ty ≡ literal_type (plain_literal c.in-Prim.literal) = c.in_ok-ty.ensures ∙ ap type_of whole in
-    IfOk-weaker c.enter-in-Prim.result _ _ (λ id h. h ∙ (ap (λ l. stands_for (LiteralLabel l) (TypeMeaning (plain_type c.in_ok-ty.ty) ∷ [])) c.in_ok-share-in-Prim.ensures ∙ (ap (λ t. stands_for (LiteralLabel (plain_literal c.in-Prim.literal)) (TypeMeaning t ∷ [])) type ∙ (literal_means (plain_literal c.in-Prim.literal) ∙ ap (λ u. Some (TermMeaning u)) (sym whole)))))
-    (c.enter-in-Prim.ensures.meaning (TypeMeaning (plain_type c.in_ok-ty.ty) ∷ []) (one_found (nodes_of c.intern_type.new.self) c.in_ok-ty-2.ty _ c.in_ok-ty-2.ensures.meaning))
+    let type : type_of (plain_term c.args.term.now) ≡ literal_type (plain_literal c.in-Prim.literal) = ap type_of whole in
+    IfOk-weaker c.enter-in-Prim.result _ _ (λ id h. h ∙ (ap (λ l. stands_for (LiteralLabel l) (TypeMeaning (type_of (plain_term c.args.term.now)) ∷ [])) c.in_ok-share-in-Prim.ensures ∙ (ap (λ t. stands_for (LiteralLabel (plain_literal c.in-Prim.literal)) (TypeMeaning t ∷ [])) type ∙ (literal_means (plain_literal c.in-Prim.literal) ∙ ap (λ u. Some (TermMeaning u)) (sym whole)))))
+    (c.enter-in-Prim.ensures.meaning (TypeMeaning (type_of (plain_term c.args.term.now)) ∷ []) (one_found (nodes_of c.intern_type_of.new.self) c.in_ok-ty.ty _ c.in_ok-ty.ensures.meaning))
 
-pub intern-returns-in-Set-clause-meaning : goal.intern-returns-in-Set-clause-meaning
-intern-returns-in-Set-clause-meaning t c =
+pub intern-returns-in_ok-parts-in-Set-clause-meaning : goal.intern-returns-in_ok-parts-in-Set-clause-meaning
+intern-returns-in_ok-parts-in-Set-clause-meaning t c =
     let items = map plain_term c.items-in-Set.result.now in
     let whole : plain_term c.args.term.now ≡ SetTerm (plain_type c.in-Set.elts_ty) (terms items) =
     ap plain_term c.in-Set.is ∙ (plain_term-Set c.in-Set.elts_ty c.in-Set.elts ∙ ap (λ ts. SetTerm (plain_type c.in-Set.elts_ty) (terms ts)) (sym c.items-in-Set.ensures.plain)) in
-    let type : plain_type c.in_ok-ty.ty ≡ SetType (plain_type c.in-Set.elts_ty) = c.in_ok-ty.ensures ∙ ap type_of whole in
+    let type : type_of (plain_term c.args.term.now) ≡ SetType (plain_type c.in-Set.elts_ty) = ap type_of whole in
     both_ok _ (IsMeant c.enter-in-Set.new.self) _ c.enter-in-Set.result
     (λ id h (m, e). (let made : stands_for SetOfLabel (TypeMeaning (SetType (plain_type c.in-Set.elts_ty)) ∷ map TermMeaning items) ≡ Some m = ap (λ t. stands_for SetOfLabel (TypeMeaning t ∷ map TermMeaning items)) (sym type) ∙ (sym h ∙ e) in
     e ∙ (sym (set_means (plain_type c.in-Set.elts_ty) items m made) ∙ ap (λ u. Some (TermMeaning u)) (sym whole))))
-    (c.enter-in-Set.ensures.meaning (TypeMeaning (plain_type c.in_ok-ty.ty) ∷ map TermMeaning items) (ap (λ l. all_found (meanings (nodes_of c.intern_all-in-Set.new.self)) (places_of l)) c.as_slice-in-Set.ensures.value ∙ c.in_ok-parts-in-Set.ensures.meanings (TypeMeaning (plain_type c.in_ok-ty.ty)) c.in_ok-ty-2.ensures.meaning))
+    (c.enter-in-Set.ensures.meaning (TypeMeaning (type_of (plain_term c.args.term.now)) ∷ map TermMeaning items) (ap (λ l. all_found (meanings (nodes_of c.intern_all-in-Set.new.self)) (places_of l)) c.as_slice-in-Set.ensures.value ∙ c.in_ok-parts-in-Set.ensures.meanings (TypeMeaning (type_of (plain_term c.args.term.now))) c.in_ok-ty.ensures.meaning))
     c.enter-in-Set.ensures.meant
 
-pub intern-returns-in-Some-clause-meaning : goal.intern-returns-in-Some-clause-meaning
-intern-returns-in-Some-clause-meaning t c =
+pub intern-returns-in_ok-part-in-Some-clause-meaning : goal.intern-returns-in_ok-part-in-Some-clause-meaning
+intern-returns-in_ok-part-in-Some-clause-meaning t c =
     let inner : PlainTerm = plain_term c.deref.result.now in
     let whole : plain_term c.args.term.now ≡ SomeTerm inner = ap plain_term c.in-Some.is ∙ (plain_term-Some c.in-Some.inner ∙ ap (λ t. SomeTerm (plain_term t)) (sym c.deref.ensures)) in
-    let type : plain_type c.in_ok-ty.ty ≡ OptionType (type_of inner) = c.in_ok-ty.ensures ∙ ap type_of whole in
+    let type : type_of (plain_term c.args.term.now) ≡ OptionType (type_of inner) = ap type_of whole in
     IfOk-weaker c.enter-in-Some.result _ _ (λ id h. h ∙ (ap (λ t. stands_for SomeLabel (TypeMeaning t ∷ TermMeaning inner ∷ [])) type ∙ (some_means inner ∙ ap (λ u. Some (TermMeaning u)) (sym whole))))
-    (c.enter-in-Some.ensures.meaning (TypeMeaning (plain_type c.in_ok-ty.ty) ∷ TermMeaning inner ∷ []) (two_found (nodes_of c.intern.new.self) c.in_ok-ty-2.ty c.in_ok-part-in-Some.part _ _ (c.intern.ensures.kept c.in_ok-ty-2.ty _ c.in_ok-ty-2.ensures.meaning) c.in_ok-part-in-Some.ensures.meaning))
+    (c.enter-in-Some.ensures.meaning (TypeMeaning (type_of (plain_term c.args.term.now)) ∷ TermMeaning inner ∷ []) (two_found (nodes_of c.intern.new.self) c.in_ok-ty.ty c.in_ok-part-in-Some.part _ _ (c.intern.ensures.kept c.in_ok-ty.ty _ c.in_ok-ty.ensures.meaning) c.in_ok-part-in-Some.ensures.meaning))
 
-pub intern-returns-clause-meaning : goal.intern-returns-clause-meaning
-intern-returns-clause-meaning t c =
+pub intern-returns-in_ok-clone-in-Var-clause-meaning : goal.intern-returns-in_ok-clone-in-Var-clause-meaning
+intern-returns-in_ok-clone-in-Var-clause-meaning t c =
     let whole : plain_term c.args.term.now ≡ VariableTerm (rc_str_bytes c.in-Var.variable.id) (plain_type c.in-Var.variable.ty) = ap plain_term c.in-Var.is ∙ plain_term-Var c.in-Var.variable in
-    let type : plain_type c.in_ok-ty.ty ≡ plain_type c.in-Var.variable.ty = c.in_ok-ty.ensures ∙ ap type_of whole in
+    let type : type_of (plain_term c.args.term.now) ≡ plain_type c.in-Var.variable.ty = ap type_of whole in
     let id_is : rc_str_bytes c.in_ok-clone-in-Var.field-0 ≡ rc_str_bytes c.in-Var.variable.id = c.in_ok-clone-in-Var.ensures.cases in
-    IfOk-weaker c.enter-in-Var.result _ _ (λ id h. h ∙ (ap (λ s. stands_for (VariableLabel s) (TypeMeaning (plain_type c.in_ok-ty.ty) ∷ [])) id_is ∙ (variable_means (rc_str_bytes c.in-Var.variable.id) (plain_type c.in_ok-ty.ty) ∙ ap (λ u. Some (TermMeaning u)) (ap (VariableTerm (rc_str_bytes c.in-Var.variable.id)) type ∙ sym whole))))
-    (c.enter-in-Var.ensures.meaning (TypeMeaning (plain_type c.in_ok-ty.ty) ∷ []) (one_found (nodes_of c.intern_type.new.self) c.in_ok-ty-2.ty _ c.in_ok-ty-2.ensures.meaning))
+    IfOk-weaker c.enter-in-Var.result _ _ (λ id h. h ∙ (ap (λ s. stands_for (VariableLabel s) (TypeMeaning (type_of (plain_term c.args.term.now)) ∷ [])) id_is ∙ (variable_means (rc_str_bytes c.in-Var.variable.id) (type_of (plain_term c.args.term.now)) ∙ ap (λ u. Some (TermMeaning u)) (ap (VariableTerm (rc_str_bytes c.in-Var.variable.id)) type ∙ sym whole))))
+    (c.enter-in-Var.ensures.meaning (TypeMeaning (type_of (plain_term c.args.term.now)) ∷ []) (one_found (nodes_of c.intern_type_of.new.self) c.in_ok-ty.ty _ c.in_ok-ty.ensures.meaning))
 
 pub intern_all-loop-term-preserved : goal.intern_all-loop-term-preserved
 intern_all-loop-term-preserved t c = (

@@ -14,4 +14,4 @@ a_term o h = absurd (false≢true h)
 pub encode_nodes-outcome-requires : goal.encode_nodes-outcome-requires
 encode_nodes-outcome-requires g c =
     let (t, h) = a_term (meaning_in c.args.nodes c.args.id) (sym c.is_term.ensures ∙ c.if-not-is_term.false) in
-    record { stand = (t ∷ [], one_found (nodes_of c.with_nodes-encoder.result.names.nodes) c.args.id (TermMeaning t) (ap (λ i. meaning_in i c.args.id) c.with_nodes-encoder.ensures.nodes ∙ h)) }
+    record { stand = (t ∷ [], one_found (nodes_of c.with_nodes-encoder.result.writer.names.nodes) c.args.id (TermMeaning t) (ap (λ i. meaning_in i c.args.id) c.with_nodes-encoder.ensures.nodes ∙ h)) }

@@ -1,4 +1,0 @@
-use Rattle.smt_encode.proofs.encoder.Encoder.put_terms.Given as goal
-
-abbrev pub ghosts-put_uncounted : goal.ghosts-put_uncounted
-ghosts-put_uncounted g a = record { name = a.blank.name; parts = a.blank.parts }

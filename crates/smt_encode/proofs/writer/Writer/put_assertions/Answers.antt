@@ -1,0 +1,18 @@
+use Rattle.std.proofs.Common.{rules, sym, ap, append-nil, ◌∙◌}
+use Rattle.std.specs.Io.KnownBytes.{append_known}
+use Rattle.smt_lines.specs.Line.{Assert, spelled_line}
+use Rattle.smt_characters.specs.LineTexts.{assert_text}
+use Rattle.smt_encode.proofs.Scripted.{asserted, spelled_at}
+use Rattle.smt_encode.proofs.writer.Writer.put_assertions.Goals as goal
+
+pub loop-text-preserved : goal.loop-text-preserved
+loop-text-preserved g c = record {
+  cause = search rules;
+  names = c.loop-text.invariant.names;
+  going = λ s es has shown.
+      let this = spelled_at es c.args.texts.now c.loop-text.text-index c.text-item.result shown c.loop-text-test.true c.text-item.is in
+      let going = c.loop-text.invariant.going s es has shown in
+      let line = ap assert_text (c.as_str.ensures.value ∙ this.spells) ∙ sym (append-nil (spelled_line (Assert this.expression))) in
+      asserted es c.loop-text.text-index this.expression s this.behind going
+      (record { names = going.names; contents_are = c.in_ok-assert.ensures.ok ∙ ap (append_known (g.S.Sink.contents c.loop-text.self.script)) line });
+}

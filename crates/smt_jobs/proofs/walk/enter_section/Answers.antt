@@ -1,0 +1,30 @@
+use Rattle.std.proofs.Common.{Bor, Some, None, [], ◌∷◌, ◌-◌, bytes_eq, option_map, sym, ap, ◌∙◌, subst}
+use Rattle.std.specs.Prelude.{if◌then◌else◌}
+use Rattle.std.specs.Rc.{rc_str_bytes}
+use Rattle.std.specs.declared.alloc.Global.{Global}
+use Rattle.std.specs.declared.rc.RcStr.{RcStr}
+use Rattle.smt_semantics.specs.Script.{◌>>=◌}
+use Rattle.smt_lexicon.specs.Front.{BeginsInside}
+use Rattle.smt_lexicon.proofs.Runs.{plain_back, plain_skip}
+use Rattle.smt_sexpr.specs.View.{plain}
+use Rattle.smt_jobs.proofs.Walking.{opened, section_of}
+use Rattle.smt_jobs.proofs.walk.enter_section.Goals as goal
+
+pub next_expression-requires : goal.next_expression-requires
+next_expression-requires c =
+    let opens = rw c.in_ok-inside.ensures.ok_part at c.behind.ensures.found in
+    rw c.without_space.ensures (plain_skip c.in_ok-inside.inside.now (plain_back c.args.src.now (40 ∷ []) c.in_ok-inside.inside.now opens c.requires.is_plain))
+
+pub returns-then-eq-clause-stated : goal.returns-then-eq-clause-stated
+returns-then-eq-clause-stated c e end begins =
+    let opens = rw c.in_ok-inside.ensures.ok_part at c.behind.ensures.found in
+    let inside = opened c.args.depth e c.args.src.now c.in_ok-inside.inside.now end begins opens in
+    let first = c.in_ok-first.ensures.stated inside.es end (subst (λ v. BeginsInside (c.args.depth - 1) inside.es v end) (sym c.without_space.ensures) inside.begins) in
+    let named = ap (option_map (λ (name : Bor (RcStr Global)). rc_str_bytes name.now)) (sym c.in_ok-name.ensures.ok_part) ∙ c.name_in.ensures in
+    let same = sym (c.if-eq.ensures ∙ ap (bytes_eq c.args.head.now) c.as_str.ensures.value) in (
+      first.0.1,
+      section_of c.args.head.now e inside.es first.0 (plain c.in_ok-first.first) inside.whole first.1 first.2.0
+          ∙ ap (λ o. o >>= λ n. if bytes_eq c.args.head.now n then Some first.0.1 else None) (sym named)
+          ∙ ap (λ b. if b then Some first.0.1 else None) same,
+      first.2.1,
+    )

@@ -1,0 +1,5 @@
+pub mod Job
+pub mod JobView
+pub mod Numbered
+pub mod Numbers
+pub mod Walk

@@ -1,0 +1,15 @@
+-- What a job says whose terms are numbered nodes.
+use Rattle.std.specs.Prelude.{List}
+use Rattle.smt_meaning.specs.Plain.{PlainTerm}
+use Rattle.smt_term.specs.Enums.{enums_of}
+use Rattle.smt_jobs.specs.Job.{PlainJob}
+use Rattle.smt_jobs.specs.JobView.{declarations}
+use Rattle.smt_jobs.specs.Numbers.{terms_of}
+use Rattle.smt_jobs.specs.declared.numbered.NumberedJob.{NumberedJob}
+use Rattle.smt_jobs.specs.declared.numbered.NumberedTerms.{NumberedTerms}
+
+abbrev pub numbered_terms : NumberedTerms → List PlainTerm
+numbered_terms terms = terms_of terms.nodes terms.ids.items
+
+abbrev pub numbered_job : NumberedJob → PlainJob
+numbered_job job = record { enums = enums_of job.enums; variables = declarations job.vars; terms = numbered_terms job.terms }

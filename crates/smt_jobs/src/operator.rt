@@ -1,0 +1,138 @@
+// Operators by their names, and what is built for them.
+ghost use Rattle.std.specs.Prelude.{◌≡◌, ◌∷◌, [], Some, IfOk, IsTrue, is_some, map, option_map};
+ghost use Rattle.smt_folding.specs.Built.{folded};
+ghost use Rattle.smt_meaning.specs.Plain.{PlainType};
+ghost use Rattle.smt_meaning.specs.Types.{result_type, type_of};
+ghost use Rattle.smt_term.specs.View.{plain_op, plain_term};
+ghost use Rattle.smt_jobs.specs.Job.{operator_named};
+
+use smt_factory as factory;
+use smt_term::{Op, Term, TermError};
+use std::alloc::Global;
+
+/// The operator of a name, but for the extension, whose number belongs to it.
+pub(crate) fn operator_named(name: &str) -> Option<Op>
+    ensures { option_map plain_op result ≡ operator_named name.now }
+{
+    match name {
+        "not" => Some(Op::Not),
+        "and" => Some(Op::And),
+        "or" => Some(Op::Or),
+        "eq" => Some(Op::Eq),
+        "ite" => Some(Op::Ite),
+        "bvneg" => Some(Op::Bvneg),
+        "bvadd" => Some(Op::Bvadd),
+        "bvsub" => Some(Op::Bvsub),
+        "bvmul" => Some(Op::Bvmul),
+        "bvudiv" => Some(Op::Bvudiv),
+        "bvurem" => Some(Op::Bvurem),
+        "bvsdiv" => Some(Op::Bvsdiv),
+        "bvsrem" => Some(Op::Bvsrem),
+        "bvsmod" => Some(Op::Bvsmod),
+        "bvshl" => Some(Op::Bvshl),
+        "bvlshr" => Some(Op::Bvlshr),
+        "bvult" => Some(Op::Bvult),
+        "bvule" => Some(Op::Bvule),
+        "bvslt" => Some(Op::Bvslt),
+        "bvsle" => Some(Op::Bvsle),
+        "bvnego" => Some(Op::Bvnego),
+        "bvsaddo" => Some(Op::Bvsaddo),
+        "bvssubo" => Some(Op::Bvssubo),
+        "bvsmulo" => Some(Op::Bvsmulo),
+        _ => None,
+    }
+}
+
+/// What the factory builds for an operator at these operands, None where it does not take them.
+pub(crate) fn built_from(
+    alloc: Global,
+    op: &Op,
+    operands: &[Term],
+) -> Result<Option<Term>, TermError>
+    ensures { IfOk result (λ found. option_map plain_term found ≡ option_map (folded (plain_op op.now) (map plain_term operands.now)) (result_type (plain_op op.now) (map type_of (map plain_term operands.now)))) }
+{
+    if !op.takes(operands) {
+        return Ok(None);
+    }
+    match operands {
+        [a] => built_from_one(alloc, op, a),
+        [a, b] => built_from_two(alloc, op, a, b),
+        [a, b, c] => built_from_three(alloc, op, a, b, c),
+        _ => Ok(None),
+    }
+}
+
+// Of one operand that the operator takes.
+fn built_from_one(alloc: Global, op: &Op, a: &Term) -> Result<Option<Term>, TermError>
+    requires { IsTrue (is_some (result_type (plain_op op.now) (type_of (plain_term a.now) ∷ []))) }
+    ensures { (ty : PlainType) → IfOk result (λ found. option_map plain_term found ≡ Some (folded (plain_op op.now) (plain_term a.now ∷ []) ty)) }
+{
+    let a = a.share()?;
+    Ok(Some(match op {
+        Op::Not => factory::not(alloc, a)?,
+        Op::Bvneg => factory::bvneg(alloc, a)?,
+        Op::Bvnego => factory::bvnego(alloc, a)?,
+        Op::OptionGet => factory::option_get(alloc, a)?,
+        Op::StringLike(pattern) => factory::string_like(alloc, a, pattern.share()?)?,
+        Op::ZeroExtend(bits) => factory::zero_extend(alloc, *bits, a)?,
+        _ => return Ok(None),
+    }))
+}
+
+// Of two operands that the operator takes.
+fn built_from_two(alloc: Global, op: &Op, a: &Term, b: &Term) -> Result<Option<Term>, TermError>
+    requires { IsTrue (is_some (result_type (plain_op op.now) (type_of (plain_term a.now) ∷ type_of (plain_term b.now) ∷ []))) }
+    ensures { (ty : PlainType) → IfOk result (λ found. option_map plain_term found ≡ Some (folded (plain_op op.now) (plain_term a.now ∷ plain_term b.now ∷ []) ty)) }
+{
+    let a = a.share()?;
+    let b = b.share()?;
+    Ok(Some(match op {
+        Op::And => factory::and(alloc, a, b)?,
+        Op::Or => factory::or(alloc, a, b)?,
+        Op::Eq => factory::eq(alloc, a, b)?,
+        Op::Bvadd => factory::bvadd(alloc, a, b)?,
+        Op::Bvsub => factory::bvsub(alloc, a, b)?,
+        Op::Bvmul => factory::bvmul(alloc, a, b)?,
+        Op::Bvudiv => factory::bvudiv(alloc, a, b)?,
+        Op::Bvurem => factory::bvurem(alloc, a, b)?,
+        Op::Bvsdiv => factory::bvsdiv(alloc, a, b)?,
+        Op::Bvsrem => factory::bvsrem(alloc, a, b)?,
+        Op::Bvsmod => factory::bvsmod(alloc, a, b)?,
+        Op::Bvshl => factory::bvshl(alloc, a, b)?,
+        Op::Bvlshr => factory::bvlshr(alloc, a, b)?,
+        Op::Bvult => factory::bvult(alloc, a, b)?,
+        Op::Bvule => factory::bvule(alloc, a, b)?,
+        Op::Bvslt => factory::bvslt(alloc, a, b)?,
+        Op::Bvsle => factory::bvsle(alloc, a, b)?,
+        Op::Bvsaddo => factory::bvsaddo(alloc, a, b)?,
+        Op::Bvssubo => factory::bvssubo(alloc, a, b)?,
+        Op::Bvsmulo => factory::bvsmulo(alloc, a, b)?,
+        Op::SetInter => factory::set_inter(alloc, a, b)?,
+        Op::SetMember => factory::set_member(alloc, a, b)?,
+        Op::SetSubset => factory::set_subset(alloc, a, b)?,
+        Op::Bvneg
+        | Op::Bvnego
+        | Op::Ite
+        | Op::Not
+        | Op::OptionGet
+        | Op::StringLike(_)
+        | Op::ZeroExtend(_) => return Ok(None),
+    }))
+}
+
+// Of three operands that the operator takes.
+fn built_from_three(
+    alloc: Global,
+    op: &Op,
+    a: &Term,
+    b: &Term,
+    c: &Term,
+) -> Result<Option<Term>, TermError>
+    requires { IsTrue (is_some (result_type (plain_op op.now) (type_of (plain_term a.now) ∷ type_of (plain_term b.now) ∷ type_of (plain_term c.now) ∷ []))) }
+    ensures { (ty : PlainType) → IfOk result (λ found. option_map plain_term found ≡ Some (folded (plain_op op.now) (plain_term a.now ∷ plain_term b.now ∷ plain_term c.now ∷ []) ty)) }
+{
+    match op {
+        Op::Ite => Ok(Some(factory::ite(alloc, a.share()?, b.share()?, c.share()?)?)),
+        _ => Ok(None),
+    }
+}

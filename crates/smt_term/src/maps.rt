@@ -1,0 +1,158 @@
+// Maps of attributes.
+ghost use Rattle.std.specs.Prelude.{◌≡◌, ◌↔◌, [], IfOk, IsTrue, bytes_eq, length, map, option_map};
+ghost use Rattle.std.specs.Map.{lookup};
+ghost use Rattle.std.specs.Rc.{rc_str_bytes};
+ghost use Rattle.smt_meaning.specs.ValueOrder.{text_cmp};
+ghost use Rattle.smt_term.specs.Maps.{plain_attribute, plain_attributes, plain_field, plain_fields, sorted_pairs};
+ghost use Rattle.smt_term.specs.View.{plain_term, plain_type};
+
+use crate::error::TermError;
+use crate::term::Term;
+use crate::types::TermType;
+use smt_text::{Text, share_text};
+use std::alloc::Global;
+use std::collections::BTreeMap;
+use std::rc::Rc;
+
+/// The name of an attribute.
+pub type Attr = Text;
+
+/// The types of attributes: pairs in the order of the attributes' bytes, each attribute once. Its holders share them.
+#[derive(Debug, PartialEq, Eq, PartialOrd, Ord, Drop)]
+pub struct TypeMap {
+    items: Rc<Vec<(Attr, TermType)>>,
+}
+
+impl TypeMap {
+    /// The map of these pairs, which it sorts by their attributes; of pairs of one attribute the last stays.
+    ///
+    /// # Errors
+    /// `Memory`, where there is none for the map.
+    pub fn new(alloc: Global, items: &[(Attr, TermType)]) -> Result<TypeMap, TermError>
+        ensures { IfOk result (λ made. plain_attributes made ≡ sorted_pairs text_cmp (map plain_attribute items.now)) }
+    {
+        let mut found = BTreeMap::new(alloc);
+        for (name, ty) in items {
+            found.insert(share_text(name)?, ty.share()?)?;
+        }
+        let pairs = found.into_iter().collect(alloc)?;
+        Ok(TypeMap {
+            items: Rc::new(alloc, pairs)?,
+        })
+    }
+
+    /// How many pairs it has.
+    pub fn len(&self) -> usize
+        ensures { result ≡ length (plain_attributes self.now) }
+    {
+        self.items.len()
+    }
+
+    /// Whether it has none.
+    pub fn is_empty(&self) -> bool
+        ensures { IsTrue result ↔ (plain_attributes self.now ≡ []) }
+    {
+        self.items.is_empty()
+    }
+
+    /// The pairs, in the order of their attributes.
+    pub fn items(&self) -> &[(Attr, TermType)]
+        ensures { map plain_attribute result.now ≡ plain_attributes self.now }
+    {
+        self.items.as_slice()
+    }
+
+    /// The type of an attribute, or `None` exactly where the map does not have it.
+    pub fn get(&self, key: &Attr) -> Option<&TermType>
+        ensures { option_map (λ ty. plain_type ty.now) result ≡ lookup (bytes_eq (rc_str_bytes key.now)) (plain_attributes self.now) }
+    {
+        for (name, ty) in self.items.as_slice() {
+            if key == name {
+                return Some(ty);
+            }
+        }
+        None
+    }
+
+    /// An equal map that shares the pairs.
+    ///
+    /// # Errors
+    /// `Memory`, where there is none for the map.
+    pub fn share(&self) -> Result<TypeMap, TermError>
+        ensures { IfOk result (λ shared. plain_attributes shared ≡ plain_attributes self.now) }
+    {
+        Ok(TypeMap {
+            items: self.items.clone()?,
+        })
+    }
+}
+
+/// The terms of attributes: pairs in the order of the attributes' bytes, each attribute once. Its holders share them.
+#[derive(Debug, PartialEq, Eq, PartialOrd, Ord, Drop)]
+pub struct TermMap {
+    items: Rc<Vec<(Attr, Term)>>,
+}
+
+impl TermMap {
+    /// The map of these pairs, which it sorts by their attributes; of pairs of one attribute the last stays.
+    ///
+    /// # Errors
+    /// `Memory`, where there is none for the map.
+    pub fn new(alloc: Global, items: &[(Attr, Term)]) -> Result<TermMap, TermError>
+        ensures { IfOk result (λ made. plain_fields made ≡ sorted_pairs text_cmp (map plain_field items.now)) }
+    {
+        let mut found = BTreeMap::new(alloc);
+        for (name, term) in items {
+            found.insert(share_text(name)?, term.share()?)?;
+        }
+        let pairs = found.into_iter().collect(alloc)?;
+        Ok(TermMap {
+            items: Rc::new(alloc, pairs)?,
+        })
+    }
+
+    /// How many pairs it has.
+    pub fn len(&self) -> usize
+        ensures { result ≡ length (plain_fields self.now) }
+    {
+        self.items.len()
+    }
+
+    /// Whether it has none.
+    pub fn is_empty(&self) -> bool
+        ensures { IsTrue result ↔ (plain_fields self.now ≡ []) }
+    {
+        self.items.is_empty()
+    }
+
+    /// The pairs, in the order of their attributes.
+    pub fn items(&self) -> &[(Attr, Term)]
+        ensures { map plain_field result.now ≡ plain_fields self.now }
+    {
+        self.items.as_slice()
+    }
+
+    /// The term of an attribute, or `None` exactly where the map does not have it.
+    pub fn get(&self, key: &Attr) -> Option<&Term>
+        ensures { option_map (λ term. plain_term term.now) result ≡ lookup (bytes_eq (rc_str_bytes key.now)) (plain_fields self.now) }
+    {
+        for (name, term) in self.items.as_slice() {
+            if key == name {
+                return Some(term);
+            }
+        }
+        None
+    }
+
+    /// An equal map that shares the pairs.
+    ///
+    /// # Errors
+    /// `Memory`, where there is none for the map.
+    pub fn share(&self) -> Result<TermMap, TermError>
+        ensures { IfOk result (λ shared. plain_fields shared ≡ plain_fields self.now) }
+    {
+        Ok(TermMap {
+            items: self.items.clone()?,
+        })
+    }
+}
