@@ -228,7 +228,11 @@ fn folded_zero_extend(alloc: Global, n: u32, t: Term) -> Result<Term, TermError>
             let ty = TermType::Bitvec { n: wider(width, n) };
             application(alloc, Op::ZeroExtend(n), &[t], ty)
         }
-        TermType::Option { .. } | TermType::Bool | TermType::String | TermType::Set { .. } => Ok(t),
+        TermType::Option { .. }
+        | TermType::Bool
+        | TermType::Entity { .. }
+        | TermType::String
+        | TermType::Set { .. } => Ok(t),
     }
 }
 

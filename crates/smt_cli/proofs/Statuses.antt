@@ -10,7 +10,7 @@ use Rattle.smt_cli.specs.Run.{HasCause, HasFaultOf, HasPutCause, HasScriptCause,
 use Rattle.smt_cli.specs.declared.program.Command.{Command}
 use Rattle.smt_cli.specs.declared.program.Command.TheVariants.{Script, Help, Version}
 use Rattle.smt_cli.specs.declared.refusal.EncodeRefusal.{EncodeRefusal}
-use Rattle.smt_cli.specs.declared.refusal.EncodeRefusal.TheVariants.{EncodeStringFailed, EncodePatternFailed}
+use Rattle.smt_cli.specs.declared.refusal.EncodeRefusal.TheVariants.{EmptyEnum, EncodeStringFailed, EncodePatternFailed, EnumMissingMember}
 use Rattle.smt_cli.specs.declared.refusal.JobRefusal.TheVariants.{TooLarge, BadForm}
 use Rattle.smt_cli.specs.declared.refusal.Refusal.{Refusal}
 use Rattle.smt_cli.specs.declared.refusal.Refusal.TheVariants.{Usage, Job, Encode, Source, Sink, Memory}
@@ -19,6 +19,8 @@ use Rattle.smt_cli.specs.declared.refusal.Refusal.TheVariants.{Usage, Job, Encod
 is_fault : (kind : EncodeRefusal) (fault : Option Fault) → IsFaultOf kind fault → is_some fault ≡ true
 is_fault EncodeStringFailed fault h = ap is_some h.1
 is_fault EncodePatternFailed fault h = ap is_some h.1
+is_fault EnumMissingMember fault h = ap is_some h.2
+is_fault EmptyEnum fault h = ap is_some h.1
 
 -- no job has one
 no_fault : (bytes : List ℕ) (kind : EncodeRefusal) → HasFaultOf kind bytes → ⊥

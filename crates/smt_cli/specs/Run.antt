@@ -1,7 +1,7 @@
 -- What a run is asked for, what it does, and what it says.
 use Rattle.std.specs.Prelude.{ℕ, ◌≡◌, ◌↔◌, ◌≤◌, ◌<◌, ◌⊎◌, ⊤, length, map, option_map, if◌then◌else◌, bytes_eq, codes, IfSome, IsTrue, is_some, List, [], ◌∷◌, Option, Some, None, Result}
 use Rattle.std.specs.Io.KnownBytes.{append_known}
-use Rattle.smt_meaning.specs.Faults.{Fault, EncodeStringFailed as StringFault, EncodePatternFailed as PatternFault}
+use Rattle.smt_meaning.specs.Faults.{Fault, EmptyEnum as EnumFault, EncodeStringFailed as StringFault, EncodePatternFailed as PatternFault, EnumMissingMember as MemberFault}
 use Rattle.smt_meaning.specs.Plain.{PatternPart}
 use Rattle.smt_meaning.specs.Interpretations.{IsInterpretation, restrict}
 use Rattle.smt_meaning.specs.Tables.{Interpretation}
@@ -17,7 +17,7 @@ use Rattle.smt_cli.specs.Refusal.{line_of, status_of}
 use Rattle.smt_cli.specs.declared.program.Command.{Command}
 use Rattle.smt_cli.specs.declared.program.Command.TheVariants.{Script, Help, Version}
 use Rattle.smt_cli.specs.declared.refusal.EncodeRefusal.{EncodeRefusal}
-use Rattle.smt_cli.specs.declared.refusal.EncodeRefusal.TheVariants.{EncodeStringFailed, EncodePatternFailed}
+use Rattle.smt_cli.specs.declared.refusal.EncodeRefusal.TheVariants.{EmptyEnum, EncodeStringFailed, EncodePatternFailed, EnumMissingMember}
 use Rattle.smt_cli.specs.declared.refusal.JobRefusal.TheVariants.{TooLarge, BadForm}
 use Rattle.smt_cli.specs.declared.refusal.PrintRefusal.{PrintRefusal}
 use Rattle.smt_cli.specs.declared.refusal.PrintRefusal.TheVariants.{Encode as PrintEncode, Sink as PrintSink, Memory as PrintWant}
@@ -78,8 +78,10 @@ IsFaulty bytes = (job : PlainJob) × IsJob bytes job × IsTrue (is_some (fault_o
 
 -- the first fault of a job is of this kind
 abbrev pub IsFaultOf : EncodeRefusal → Option Fault → Type 0
+IsFaultOf EnumMissingMember fault = (type : List ℕ) × (id : List ℕ) × (fault ≡ Some (MemberFault type id))
 IsFaultOf EncodeStringFailed fault = (text : List ℕ) × (fault ≡ Some (StringFault text))
 IsFaultOf EncodePatternFailed fault = (pattern : List PatternPart) × (fault ≡ Some (PatternFault pattern))
+IsFaultOf EmptyEnum fault = (type : List ℕ) × (fault ≡ Some (EnumFault type))
 
 abbrev pub HasFaultOf : EncodeRefusal → List ℕ → Type 0
 HasFaultOf kind bytes = (job : PlainJob) × IsJob bytes job × IsFaultOf kind (fault_of job)

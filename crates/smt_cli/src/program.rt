@@ -1,7 +1,7 @@
 // The run of the program, from its words to its status.
 ghost use Rattle.std.specs.Prelude.{◌≡◌, ◌≢◌, ◌↔◌, ◌<◌, ◌≤◌, [], IsErrOf, None, Some, IfErr, IfOk, IfSome, OnOk, option_map};
 ghost use Rattle.std.specs.Io.KnownBytes.{append_known};
-ghost use Rattle.smt_term.specs.Enums.{enums_of};
+ghost use Rattle.smt_leaves.specs.Enums.{enums_of};
 ghost use Rattle.smt_meaning.specs.Faults.{first_fault};
 ghost use Rattle.smt_meaning.specs.Typing.{AreBoolean};
 ghost use Rattle.smt_headline.specs.Headline.{Headline};
@@ -112,12 +112,16 @@ fn put_script<W: Sink>(alloc: Global, job: NumberedJob, out: &mut W) -> Result<(
     match encode_job::<Brand, W>(alloc, job, out, Blank::new(1)) {
         Ok(()) => Ok(()),
         Err(EncodeError::Io) => Err(PrintRefusal::Sink),
+        Err(EncodeError::EnumMissingMember(_)) => {
+            Err(PrintRefusal::Encode(EncodeRefusal::EnumMissingMember))
+        }
         Err(EncodeError::EncodeStringFailed(_)) => {
             Err(PrintRefusal::Encode(EncodeRefusal::EncodeStringFailed))
         }
         Err(EncodeError::EncodePatternFailed(_)) => {
             Err(PrintRefusal::Encode(EncodeRefusal::EncodePatternFailed))
         }
+        Err(EncodeError::EmptyEnum(_)) => Err(PrintRefusal::Encode(EncodeRefusal::EmptyEnum)),
         Err(EncodeError::Memory) => Err(PrintRefusal::Memory),
         // The encoder was a new one.
         Err(EncodeError::Spent) => unreachable!(),

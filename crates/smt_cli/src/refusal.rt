@@ -35,10 +35,14 @@ pub enum JobRefusal {
 /// Why a term has no script.
 #[derive(Clone, Copy, Debug, PartialEq, Eq, Drop)]
 pub enum EncodeRefusal {
-    /// A string has a character above 196607.
+    /// An entity of an enum type is no member of it.
+    EnumMissingMember,
+    /// A string, or the id of an entity, has a character above 196607.
     EncodeStringFailed,
     /// A pattern has a character above 196607.
     EncodePatternFailed,
+    /// An enum type has no members.
+    EmptyEnum,
 }
 
 impl Refusal {
@@ -64,12 +68,16 @@ impl Refusal {
             Refusal::Usage => "usage: smtcli script\n",
             Refusal::Job(JobRefusal::TooLarge) => "job refused: TooLarge\n",
             Refusal::Job(JobRefusal::BadForm) => "job refused: BadForm\n",
+            Refusal::Encode(EncodeRefusal::EnumMissingMember) => {
+                "encode refused: EnumMissingMember\n"
+            }
             Refusal::Encode(EncodeRefusal::EncodeStringFailed) => {
                 "encode refused: EncodeStringFailed\n"
             }
             Refusal::Encode(EncodeRefusal::EncodePatternFailed) => {
                 "encode refused: EncodePatternFailed\n"
             }
+            Refusal::Encode(EncodeRefusal::EmptyEnum) => "encode refused: EmptyEnum\n",
             Refusal::Source => "source fault\n",
             Refusal::Sink => "sink fault\n",
             Refusal::Memory => "memory\n",

@@ -1,5 +1,5 @@
 -- What the code's tests of sets decide, in the words of the foldings.
-use Rattle.std.proofs.Common.{◌≡◌, ℕ, ◌+◌, ◌<◌, Bool, true, false, ◌&&◌, ◌||◌, List, [], ◌∷◌, map, drop, length, get_or, refl, ap, ◌∙◌, sym, subst}
+use Rattle.std.proofs.Common.{◌≡◌, ℕ, ◌+◌, ◌<◌, Bool, true, false, ◌&&◌, ◌||◌, List, [], map, drop, length, get_or, refl, ap, ◌∙◌, sym, subst}
 use Rattle.std.specs.Prelude.{◌↔◌, IsTrue, Option, Some, None, filter}
 use Rattle.std.proofs.lemmas.List.{at_drop_more}
 use Rattle.smt_folding.specs.Applications.{truth_literal, false_term, set_member_of, set_subset_of, set_inter_of}
@@ -19,17 +19,28 @@ use Rattle.smt_meaning.specs.TermSets.{set_term}
 use Rattle.smt_meaning.specs.Types.{type_of}
 use Rattle.smt_term.specs.View.{plain_term}
 use Rattle.smt_term.specs.declared.term.Term.{Term}
-use Rattle.smt_meaning.specs.Plain.{PlainType, PlainTerm, SetTerm, no_terms, terms}
+use Rattle.smt_meaning.specs.Plain.{PlainType, PlainTerm, SetTerm, no_terms, one_term, terms}
 
 -- ---- what a set is
 
 pub elements_in-set : (ty : PlainType) (ts : List PlainTerm) → elements_in (SetTerm ty (terms ts)) ≡ ts
 elements_in-set ty ts = listed ts
 
-pub empty_set-is : (ty : PlainType) (ts : List PlainTerm) (b : Bool) → IsTrue b ↔ (ts ≡ []) → b ≡ is_empty_set (SetTerm ty (terms ts))
-empty_set-is ty [] b h = h.1 refl
-empty_set-is ty (t ∷ ts) true h = let e : t ∷ ts ≡ [] = h.0 refl in cc
-empty_set-is ty (t ∷ ts) false h = refl
+pub empty_set-is : (t : PlainTerm) (ts : List PlainTerm) (b : Bool) → true ≡ is_set_term t → elements_in t ≡ ts → IsTrue b ↔ (ts ≡ []) → b ≡ is_empty_set t
+empty_set-is (SetTerm ty no_terms) ts true e d h = refl
+empty_set-is (SetTerm ty no_terms) ts false e d h = h.1 (sym d)
+empty_set-is (SetTerm ty (one_term t us)) ts true e d h = let none : ts ≡ [] = h.0 refl in cc
+empty_set-is (SetTerm ty (one_term t us)) ts false e d h = refl
+empty_set-is t ts b e d h = cc
+
+-- what is no set that is given by its elements has none, and is not empty
+pub elements_in-other : (t : PlainTerm) → false ≡ is_set_term t → elements_in t ≡ []
+elements_in-other (SetTerm ty ts) e = cc
+elements_in-other t e = refl
+
+pub empty_set-other : (t : PlainTerm) → false ≡ is_set_term t → is_empty_set t ≡ false
+empty_set-other (SetTerm ty ts) e = cc
+empty_set-other t e = refl
 
 pub set_literal-is : (t : PlainTerm) → is_set_literal t ≡ (is_set_term t && is_literal t)
 set_literal-is (SetTerm ty ts) = refl

@@ -1,5 +1,5 @@
 //! Sets of the values of terms, of cvc5's theory of finite sets.
-ghost use Rattle.std.specs.Prelude.{◌≡◌, IfOk, MatchOption, None, Some, map};
+ghost use Rattle.std.specs.Prelude.{◌≡◌, IfOk, IfSome, MatchOption, None, Some, is_some, map};
 ghost use Rattle.std.specs.List.{filter, list_all};
 ghost use Rattle.smt_folding.specs.Applications.{set_inter_of, set_member_of, set_subset_of};
 ghost use Rattle.smt_folding.specs.Builder.{applied, folding};
@@ -11,7 +11,7 @@ ghost use Rattle.smt_folding.specs.Refinement.{Refines};
 ghost use Rattle.smt_meaning.specs.TermSets.{set_term};
 ghost use Rattle.smt_meaning.specs.Types.{type_of};
 ghost use Rattle.smt_meaning.specs.Typing.{AreOfType};
-ghost use Rattle.smt_term.specs.View.{plain_term, plain_type};
+ghost use Rattle.smt_term.specs.View.{plain_elements, plain_term, plain_type};
 
 use smt_connectives::not;
 use smt_equality::eq;
@@ -42,42 +42,50 @@ fn element_type(alloc: Global, t: &Term) -> Result<Option<TermType>, TermError>
 {
     match t.type_of(alloc)? {
         TermType::Set { ty } => Ok(Some(ty.share()?)),
-        TermType::Option { .. } | TermType::Bitvec { .. } | TermType::Bool | TermType::String => Ok(
-            None,
-        ),
+        TermType::Option { .. }
+        | TermType::Bitvec { .. }
+        | TermType::Bool
+        | TermType::Entity { .. }
+        | TermType::String => Ok(None),
+    }
+}
+
+// The elements of a set, where it is given by them.
+#[tactic(auto, using(smt_term::specs::View::views))]
+fn given_elements(t: &Term) -> Option<&TermSet>
+    ensures given { is_some result ≡ is_set_term (plain_term t.now) }
+    ensures elements { IfSome result (λ elts. elements_in (plain_term t.now) ≡ plain_elements elts.now) }
+{
+    match t {
+        Term::Set { elts, .. } => Some(elts),
+        Term::App { .. } | Term::None(_) | Term::Prim(_) | Term::Some(_) | Term::Var(_) => None,
     }
 }
 
 // Whether it is a set that is given by its elements.
-#[tactic(auto, using(smt_term::specs::View::views, crate::proofs::FoldingSets::set_folding))]
 fn is_set_term(t: &Term) -> bool
     ensures { result ≡ is_set_term (plain_term t.now) }
 {
-    match t {
-        Term::Set { .. } => true,
-        Term::App { .. } | Term::None(_) | Term::Prim(_) | Term::Some(_) | Term::Var(_) => false,
-    }
+    given_elements(t).is_some()
 }
 
-// The elements of a set that is given by them.
-#[tactic(auto, using(smt_term::specs::View::views, crate::proofs::FoldingSets::set_folding))]
+// The elements of a set that is given by them, and of another term none.
 fn elements_in(t: &Term) -> &[Term]
     ensures { map plain_term result.now ≡ elements_in (plain_term t.now) }
 {
-    match t {
-        Term::Set { elts, .. } => elts.items(),
-        Term::App { .. } | Term::None(_) | Term::Prim(_) | Term::Some(_) | Term::Var(_) => &[],
+    match given_elements(t) {
+        Some(elts) => elts.items(),
+        None => &[],
     }
 }
 
 // Whether it is a set without elements.
-#[tactic(auto, using(smt_term::specs::View::views, crate::proofs::FoldingSets::set_folding))]
 fn is_empty_set(t: &Term) -> bool
     ensures { result ≡ is_empty_set (plain_term t.now) }
 {
-    match t {
-        Term::Set { elts, .. } => elts.is_empty(),
-        Term::App { .. } | Term::None(_) | Term::Prim(_) | Term::Some(_) | Term::Var(_) => false,
+    match given_elements(t) {
+        Some(elts) => elts.is_empty(),
+        None => false,
     }
 }
 

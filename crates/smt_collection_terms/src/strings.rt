@@ -7,7 +7,7 @@ ghost use Rattle.smt_folding.specs.Applications.{string_like_of};
 ghost use Rattle.smt_folding.specs.FoldStrings.{folded_string_like};
 ghost use Rattle.smt_folding.specs.Parts.{text_inside};
 ghost use Rattle.smt_folding.specs.Refinement.{Refines};
-ghost use Rattle.smt_term.specs.PatternView.{plain_ord_pattern};
+ghost use Rattle.smt_leaves.specs.PatternView.{plain_ord_pattern};
 ghost use Rattle.smt_meaning.specs.Plain.{LiteralTerm, StringLiteral};
 ghost use Rattle.smt_term.specs.View.{plain_literal, plain_term};
 
@@ -34,7 +34,7 @@ fn literal_text(literal: &TermPrim) -> Option<&Text>
 {
     match literal {
         TermPrim::String(text) => Some(text),
-        TermPrim::Bitvec(_) | TermPrim::Bool(_) => None,
+        TermPrim::Bitvec(_) | TermPrim::Bool(_) | TermPrim::Entity(_) => None,
     }
 }
 

@@ -19,7 +19,7 @@ use Rattle.smt_meaning.specs.Reached.{subterms, subterms_of_all}
 use Rattle.smt_meaning.specs.Tables.{Interpretation}
 use Rattle.smt_meaning.specs.Typing.{Typed, AreBoolean}
 use Rattle.smt_meaning.specs.TypeValues.{Enums}
-use Rattle.smt_term.specs.declared.error.TermError.{TermError}
+use Rattle.smt_leaves.specs.declared.error.TermError.{TermError}
 use Rattle.smt_term.specs.declared.term.Term.{Term}
 use Rattle.smt_meaning.proofs.Defaults.{all-join}
 use Rattle.smt_term.proofs.FormedTerms.{terms_are_formed}

@@ -13,7 +13,7 @@ use Rattle.smt_meaning.specs.Typing.{Typed}
 use Rattle.smt_meaning.specs.TypeValues.{Enums}
 use Rattle.smt_meaning.specs.Values.{BoolValue}
 use Rattle.smt_term.specs.View.{plain_term}
-use Rattle.smt_term.specs.declared.error.TermError.{TermError}
+use Rattle.smt_leaves.specs.declared.error.TermError.{TermError}
 use Rattle.smt_term.specs.declared.term.Term.{Term}
 
 -- the call may answer at a term that says t one that says u

@@ -1,27 +1,28 @@
 -- What the nodes of the program stand for: things whose labels the program has.
 use Rattle.std.proofs.Common.{◌≡◌, ◌<◌, ℕ, zero, suc, true, false, List, [], ◌∷◌, length, map, ◌≤◌, Some, None, refl, sym, ap, ◌∙◌, arith}
-use Rattle.std.specs.Prelude.{is_some, nat_eq, option_map, slice_get}
+use Rattle.std.specs.Prelude.{nat_eq, option_map, slice_get}
 use Rattle.std.proofs.lemmas.Bool.{false≢true}
-use Rattle.smt_meaning.specs.Plain.{OptionType, BitVecType, BoolType, EntityType, ExtensionType, StringType, RecordType, SetType, EntityLiteral, ExtensionLiteral, UufOp, PlainTerm, Application, NoneTerm, LiteralTerm, RecordTerm, SetTerm, SomeTerm, VariableTerm}
-use Rattle.smt_term.specs.View.{plain_op, plain_row, plain_term}
-use Rattle.smt_term.specs.declared.term.Term.{Term, App', None as Nothing, Prim as Prim', Set', Some', Var}
+use Rattle.smt_meaning.specs.Plain.{OptionType, BitVecType, BoolType, EntityType, ExtensionType, StringType, RecordType, SetType, BitVecLiteral, BoolLiteral, EntityLiteral, ExtensionLiteral, StringLiteral, UufOp, PlainTerm, Application, NoneTerm, LiteralTerm, RecordTerm, SetTerm, SomeTerm, VariableTerm}
+use Rattle.smt_term.specs.View.{plain_op}
+use Rattle.smt_leaves.specs.declared.entity.EntityType.{EntityType as EntityName}
+use Rattle.smt_meaning.specs.TypeValues.{Enums}
 use Rattle.smt_term.specs.declared.op.Op.{Op}
 use Rattle.smt_term.specs.declared.op.Op.TheVariants.{And}
 use Rattle.smt_term.specs.declared.term.TermPrim.{TermPrim}
 use Rattle.smt_term.specs.declared.term.TermPrim.TheVariants.{Bool as Truth}
 use Rattle.smt_term.specs.View.{plain_literal}
-use Rattle.smt_graph.specs.Nodes.{PlainLabel, ApplicationLabel, Meaning, TypeMeaning, FunctionMeaning, TermMeaning}
+use Rattle.smt_graph.specs.Nodes.{PlainLabel, ApplicationLabel, EntityLabel, LiteralLabel, Meaning, TypeMeaning, FunctionMeaning, TermMeaning}
 use Rattle.smt_graph.specs.Parts.{label_in, parts_in, term_parts}
 use Rattle.smt_nodes.specs.Interned.{meaning_in, nodes_of}
 use Rattle.smt_nodes.specs.View.{place_of, plain_label, plain_node}
 use Rattle.smt_nodes.specs.declared.id.NodeId.{NodeId}
 use Rattle.smt_nodes.specs.declared.interner.Interner.{Interner}
 use Rattle.smt_nodes.specs.declared.node.Label.{Label}
-use Rattle.smt_nodes.specs.declared.node.Label.TheVariants.{TBool, App, Prim}
+use Rattle.smt_nodes.specs.declared.node.Label.TheVariants.{TBool, TEntity, App, Prim}
 use Rattle.smt_nodes.specs.declared.node.Node.{Node}
 use Rattle.smt_nodes.proofs.Labels.{label_is}
 use Rattle.smt_encode.specs.NodeLines.{has_entry}
-use Rattle.smt_encode.specs.Entries.{entry_fault, has_inline, is_built, is_built_op, is_entered, literal_text, rendering_in, written_parts}
+use Rattle.smt_encode.specs.Entries.{entry_fault, has_inline, is_built, is_built_literal, is_built_op, is_declared, is_entered, rendering_in, written_parts}
 use Rattle.smt_lines.specs.Lines.{Rendering, AsFalse}
 use Rattle.smt_encode.proofs.Named.{meant_within}
 use Rattle.smt_encode.proofs.Stated.{built_application, label_of_application}
@@ -30,7 +31,7 @@ built_op : (o : Op) → is_built_op (plain_op o) ≡ true
 built_op And = refl
 built_op o = refl
 
-pub built_literal : (l : TermPrim) → is_some (literal_text (plain_literal l)) ≡ true
+pub built_literal : (l : TermPrim) → is_built_literal (plain_literal l) ≡ true
 built_literal (Truth b) = refl
 built_literal l = refl
 
@@ -59,24 +60,53 @@ some_written : {A : Type 0} (how : Rendering) (x : A) (xs : List A) → 1 ≤ le
 some_written AsFalse x xs = omega arith
 some_written how x xs = omega arith
 
-pub enters : (m : Meaning) (n : ℕ) → is_built (label_in m) ≡ true → n ≡ length (written_parts (rendering_in m) (parts_in m)) → has_inline (label_in m) n ≡ false
+pub enters : (m : Meaning) (n : ℕ) → is_built (label_in m) ≡ true → is_declared (label_in m) ≡ false → n ≡ length (written_parts (rendering_in m) (parts_in m)) → has_inline (label_in m) n ≡ false
     → (t : PlainTerm) × (m ≡ TermMeaning t) × (is_entered (label_in m) ≡ true) × (1 ≤ n)
-enters (TypeMeaning (OptionType t)) n b count none = absurd (false≢true (sym none ∙ ap (λ k. nat_eq k 1) count))
-enters (TypeMeaning (SetType t)) n b count none = absurd (false≢true (sym none ∙ ap (λ k. nat_eq k 1) count))
-enters (TypeMeaning (BitVecType w)) n b count none = absurd (false≢true (sym none))
-enters (TypeMeaning BoolType) n b count none = absurd (false≢true (sym none))
-enters (TypeMeaning StringType) n b count none = absurd (false≢true (sym none))
-enters (TypeMeaning t) n b count none = absurd (false≢true b)
-enters (FunctionMeaning f) n b count none = absurd (false≢true b)
-enters (TermMeaning (Application o ts t)) n b count none =
+enters (TypeMeaning (OptionType t)) n b u count none = absurd (false≢true (sym none ∙ ap (λ k. nat_eq k 1) count))
+enters (TypeMeaning (SetType t)) n b u count none = absurd (false≢true (sym none ∙ ap (λ k. nat_eq k 1) count))
+enters (TypeMeaning (BitVecType w)) n b u count none = absurd (false≢true (sym none))
+enters (TypeMeaning BoolType) n b u count none = absurd (false≢true (sym none))
+enters (TypeMeaning (EntityType e)) n b u count none = absurd (false≢true (sym u))
+enters (TypeMeaning StringType) n b u count none = absurd (false≢true (sym none))
+enters (TypeMeaning t) n b u count none = absurd (false≢true b)
+enters (FunctionMeaning f) n b u count none = absurd (false≢true b)
+enters (TermMeaning (Application o ts t)) n b u count none =
     let s = some_written (rendering_in (TermMeaning (Application o ts t))) (TypeMeaning t) (term_parts (Application o ts t)) in
     (Application o ts t, refl, ap is_entered (label_of_application o ts t (built_application o ts t b)), omega (arith, count, s))
-enters (TermMeaning (LiteralTerm l)) n b count none = absurd (false≢true (sym none ∙ b))
-enters (TermMeaning (RecordTerm fs)) n b count none = absurd (false≢true b)
-enters (TermMeaning (NoneTerm t)) n b count none = (NoneTerm t, refl, refl, omega (arith, count))
-enters (TermMeaning (SetTerm t ts)) n b count none = (SetTerm t ts, refl, refl, omega (arith, count))
-enters (TermMeaning (SomeTerm t)) n b count none = (SomeTerm t, refl, refl, omega (arith, count))
-enters (TermMeaning (VariableTerm id t)) n b count none = (VariableTerm id t, refl, refl, omega (arith, count))
+enters (TermMeaning (LiteralTerm (BitVecLiteral w x))) n b u count none = absurd (false≢true (sym none))
+enters (TermMeaning (LiteralTerm (BoolLiteral x))) n b u count none = absurd (false≢true (sym none))
+enters (TermMeaning (LiteralTerm (EntityLiteral e i))) n b u count none = (LiteralTerm (EntityLiteral e i), refl, refl, omega (arith, count))
+enters (TermMeaning (LiteralTerm (ExtensionLiteral x))) n b u count none = absurd (false≢true b)
+enters (TermMeaning (LiteralTerm (StringLiteral x))) n b u count none = absurd (false≢true (sym none))
+enters (TermMeaning (RecordTerm fs)) n b u count none = absurd (false≢true b)
+enters (TermMeaning (NoneTerm t)) n b u count none = (NoneTerm t, refl, refl, omega (arith, count))
+enters (TermMeaning (SetTerm t ts)) n b u count none = (SetTerm t ts, refl, refl, omega (arith, count))
+enters (TermMeaning (SomeTerm t)) n b u count none = (SomeTerm t, refl, refl, omega (arith, count))
+enters (TermMeaning (VariableTerm id t)) n b u count none = (VariableTerm id t, refl, refl, omega (arith, count))
+
+-- a label of the program that is no entity type's declares nothing
+pub undeclared : (l : Label) → ((e : EntityName) → l ≡ TEntity e → ⊥) → is_declared (plain_label l) ≡ false
+undeclared (TEntity e) h = absurd (h e refl)
+undeclared TBool h = refl
+undeclared l h = refl
+
+-- what an entity type's label stands for
+pub entity_meant : (m : Meaning) (e : List ℕ) → label_in m ≡ EntityLabel e → m ≡ TypeMeaning (EntityType e)
+entity_meant (TypeMeaning (EntityType f)) e h = ap (λ n. TypeMeaning (EntityType n)) (same h)
+  where
+    same : EntityLabel f ≡ EntityLabel e → f ≡ e
+    same h = cc
+entity_meant (TypeMeaning (OptionType t)) e h = absurd (cc)
+entity_meant (TypeMeaning (SetType t)) e h = absurd (cc)
+entity_meant (TypeMeaning (BitVecType w)) e h = absurd (cc)
+entity_meant (TypeMeaning BoolType) e h = absurd (cc)
+entity_meant (TypeMeaning StringType) e h = absurd (cc)
+entity_meant (TypeMeaning (ExtensionType k)) e h = absurd (cc)
+entity_meant (TypeMeaning (RecordType x)) e h = absurd (cc)
+entity_meant (FunctionMeaning f) e h = absurd (cc)
+entity_meant (TermMeaning (Application (UufOp f) ts t)) e h = absurd (cc)
+entity_meant (TermMeaning (Application o ts t)) e h = absurd (cc)
+entity_meant (TermMeaning t) e h = absurd (cc)
 
 -- what has a text of its own has no entry, and its fault is that of the text
 pub no_entry : (m : Meaning) (n : ℕ) → has_inline (label_in m) n ≡ true → has_entry m ≡ false
@@ -92,20 +122,14 @@ no_entry (TermMeaning (LiteralTerm (ExtensionLiteral x))) n h = absurd (false≢
 no_entry (TermMeaning (LiteralTerm l)) n h = refl
 no_entry (TermMeaning t) n h = absurd (false≢true h)
 
-pub no_entry_fault : (l : PlainLabel) (how : Rendering) (n : ℕ) → has_inline l n ≡ true → entry_fault l how ≡ None
-no_entry_fault (ApplicationLabel o) how n h = absurd (false≢true h)
-no_entry_fault l how n h = refl
+pub no_entry_fault : (enums : Enums) (l : PlainLabel) (how : Rendering) (n : ℕ) → has_inline l n ≡ true → entry_fault enums l how ≡ None
+no_entry_fault enums (ApplicationLabel o) how n h = absurd (false≢true h)
+no_entry_fault enums (EntityLabel e) how n h = absurd (false≢true h)
+no_entry_fault enums (LiteralLabel (EntityLiteral e i)) how n h = absurd (false≢true h)
+no_entry_fault enums (LiteralLabel l) how n h = refl
+no_entry_fault enums l how n h = refl
 
 pub entered_has_entry : (t : PlainTerm) → is_entered (label_in (TermMeaning t)) ≡ true → has_entry (TermMeaning t) ≡ true
+entered_has_entry (LiteralTerm (EntityLiteral e i)) h = refl
 entered_has_entry (LiteralTerm l) h = absurd (false≢true h)
 entered_has_entry t h = refl
-
--- a term of the program that is no literal gets a name
-pub has_name : (t : Term) → ((l : TermPrim) → t ≡ Prim' l → ⊥) → has_entry (TermMeaning (plain_term t)) ≡ true
-unfolding plain_term plain_row
-has_name (App' op p shape row type) h = refl
-has_name (Nothing type) h = refl
-has_name (Prim' l) h = absurd (h l refl)
-has_name (Set' element p shape row) h = refl
-has_name (Some' p t) h = refl
-has_name (Var v) h = refl

@@ -3,7 +3,7 @@ use Rattle.std.proofs.Common.{◌≡◌, ℕ, List, [], ◌∷◌, ◌++◌, Opt
 use Rattle.std.specs.Prelude.{unwrap_or}
 use Rattle.std.specs.Io.KnownBytes.{append_known}
 use Rattle.std.specs.List.{AllByRecursion}
-use Rattle.smt_term.specs.Enums.{enums_of}
+use Rattle.smt_leaves.specs.Enums.{enums_of}
 use Rattle.smt_meaning.specs.Faults.{first_fault}
 use Rattle.smt_meaning.specs.Formed.{IsFormed}
 use Rattle.smt_meaning.specs.Plain.{PlainTerm}
@@ -19,11 +19,11 @@ use Rattle.smt_nodes.specs.declared.id.NodeId.{NodeId}
 use Rattle.smt_nodes.specs.declared.interner.Interner.{Interner}
 use Rattle.smt_encode.specs.NodeTexts.{StandFor}
 use Rattle.smt_term.specs.View.{plain_term}
-use Rattle.smt_term.specs.declared.enums.EnumTable.{EnumTable}
+use Rattle.smt_leaves.specs.declared.enums.EnumTable.{EnumTable}
 use Rattle.smt_term.specs.declared.term.Term.{Term}
-use Rattle.smt_term.proofs.AscendingTexts.{members_ascend}
+use Rattle.smt_leaves.proofs.AscendingTexts.{members_ascend}
 use Rattle.smt_term.proofs.FormedTerms.{both_formed, terms_are_formed}
-use Rattle.smt_term.specs.TextSets.{AreAscending}
+use Rattle.smt_leaves.specs.TextSets.{AreAscending}
 use Rattle.smt_nodes.proofs.Formed.{nodes_formed}
 use Rattle.smt_lines.specs.NameTables.{Tables}
 use Rattle.smt_lines.specs.Text.{names, text}

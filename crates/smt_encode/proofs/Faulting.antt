@@ -4,18 +4,19 @@ use Rattle.std.specs.Result.{IsErrAnd}
 use Rattle.std.specs.Option.{option_or}
 use Rattle.std.specs.Prelude.{is_none, not}
 use Rattle.std.proofs.lemmas.Bool.{false≢true}
-use Rattle.smt_meaning.specs.Faults.{Fault, operator_fault, term_fault, terms_fault, type_fault, unless}
-use Rattle.smt_meaning.specs.Plain.{PlainType, OptionType, BitVecType, BoolType, StringType, SetType, PlainTerm, PlainTerms, no_terms, one_term, PlainOp, BvnegoOp, RecordGetOp, UufOp, Application, NoneTerm, LiteralTerm, RecordTerm, SetTerm, SomeTerm, VariableTerm, BitVecLiteral, BoolLiteral, StringLiteral, list_of_terms}
+use Rattle.smt_meaning.specs.Faults.{Fault, entity_fault, entity_type_fault, operator_fault, term_fault, terms_fault, type_fault, unless}
+use Rattle.smt_meaning.specs.Plain.{PlainType, OptionType, BitVecType, BoolType, EntityType, StringType, SetType, PlainTerm, PlainTerms, no_terms, one_term, PlainOp, BvnegoOp, RecordGetOp, UufOp, Application, NoneTerm, LiteralTerm, RecordTerm, SetTerm, SomeTerm, VariableTerm, BitVecLiteral, BoolLiteral, EntityLiteral, StringLiteral, list_of_terms}
 use Rattle.smt_meaning.specs.Types.{is_bits, type_of, types_of}
-use Rattle.smt_meaning.specs.TypeValues.{Enums}
+use Rattle.smt_meaning.specs.TypeValues.{Enums, members_of}
 use Rattle.smt_graph.specs.Nodes.{ApplicationLabel, Meaning, TypeMeaning, FunctionMeaning, TermMeaning}
 use Rattle.smt_graph.specs.Parts.{label_in, parts_in}
 use Rattle.smt_lines.specs.Lines.{Rendering, application_rendering, least_rendering}
 use Rattle.smt_encode.specs.NodeLines.{meaning_fault, meanings_fault}
 use Rattle.smt_encode.specs.Entries.{entry_fault, inline_fault, is_built, is_built_op, own_fault, rendering_in, written_parts}
-use Rattle.smt_encode.specs.Renderings.{pattern_fault}
-use Rattle.smt_encode.specs.Refusals.{text_fault, write_fault, Finds}
-use Rattle.smt_encode.specs.declared.error.TextError.{TextError}
+use Rattle.smt_spelling.specs.TextFaults.{pattern_fault}
+use Rattle.smt_encode.specs.Refusals.{write_fault}
+use Rattle.smt_spelling.specs.TextFaults.{text_fault, Finds}
+use Rattle.smt_spelling.specs.declared.error.TextError.{TextError}
 use Rattle.smt_encode.specs.declared.error.WriteError.{WriteError}
 use Rattle.smt_encode.specs.declared.error.WriteError.TheVariants.{Text}
 use Rattle.smt_encode.proofs.Stated.{built_application, label_of_application, parts_of_application}
@@ -53,20 +54,21 @@ module _ (enums : Enums) where
   -- the overflow test of a negation, by the type of its operand
   negation : (u : PlainTerm) (t : PlainType) → type_of u ≡ t
       → unless (not (is_bits t)) (option_or None (option_or (terms_fault enums (one_term u no_terms)) None))
-      ≡ option_or (meanings_fault enums (written_parts (least_rendering t) (TypeMeaning BoolType ∷ TermMeaning u ∷ []))) (own_fault (ApplicationLabel BvnegoOp) (least_rendering t))
+      ≡ option_or (meanings_fault enums (written_parts (least_rendering t) (TypeMeaning BoolType ∷ TermMeaning u ∷ []))) (own_fault enums (ApplicationLabel BvnegoOp) (least_rendering t))
   negation u (BitVecType w) is = refl
   negation u t is = refl
 
   application : (o : PlainOp) (ts : PlainTerms) (t : PlainType) → is_built_op o ≡ true
       → term_fault enums (Application o ts t)
-      ≡ option_or (meanings_fault enums (written_parts (application_rendering o ts t) (TypeMeaning t ∷ map TermMeaning (list_of_terms ts)))) (own_fault (ApplicationLabel o) (application_rendering o ts t))
+      ≡ option_or (meanings_fault enums (written_parts (application_rendering o ts t) (TypeMeaning t ∷ map TermMeaning (list_of_terms ts)))) (own_fault enums (ApplicationLabel o) (application_rendering o ts t))
   application BvnegoOp (one_term u no_terms) BoolType h = negation u (type_of u) refl
   application o ts t h = entered o ts t h
 
-  pub faults : (m : Meaning) → is_built (label_in m) ≡ true → meaning_fault enums m ≡ option_or (meanings_fault enums (written_parts (rendering_in m) (parts_in m))) (own_fault (label_in m) (rendering_in m))
+  pub faults : (m : Meaning) → is_built (label_in m) ≡ true → meaning_fault enums m ≡ option_or (meanings_fault enums (written_parts (rendering_in m) (parts_in m))) (own_fault enums (label_in m) (rendering_in m))
   faults (TypeMeaning (OptionType t)) h = alone (type_fault enums t)
   faults (TypeMeaning (BitVecType n)) h = refl
   faults (TypeMeaning BoolType) h = refl
+  faults (TypeMeaning (EntityType e)) h = refl
   faults (TypeMeaning StringType) h = refl
   faults (TypeMeaning (SetType t)) h = alone (type_fault enums t)
   faults (TypeMeaning t) h = absurd (false≢true h)
@@ -75,10 +77,11 @@ module _ (enums : Enums) where
       let b : is_built_op o ≡ true = built_application o ts t h in
       let how : Rendering = application_rendering o ts t in
       application o ts t b
-      ∙ sym (λ i. option_or (meanings_fault enums (written_parts how (TypeMeaning t ∷ parts_of_application o ts t b i))) (own_fault (label_of_application o ts t b i) how))
+      ∙ sym (λ i. option_or (meanings_fault enums (written_parts how (TypeMeaning t ∷ parts_of_application o ts t b i))) (own_fault enums (label_of_application o ts t b i) how))
   faults (TermMeaning (NoneTerm t)) h = alone (type_fault enums t)
   faults (TermMeaning (LiteralTerm (BitVecLiteral w a))) h = refl
   faults (TermMeaning (LiteralTerm (BoolLiteral b))) h = refl
+  faults (TermMeaning (LiteralTerm (EntityLiteral e i))) h = ap (λ f. option_or f (entity_fault e i (members_of enums e))) (sym (or_none (entity_type_fault e (members_of enums e))))
   faults (TermMeaning (LiteralTerm (StringLiteral x))) h = sym (or_none _)
   faults (TermMeaning (LiteralTerm l)) h = absurd (false≢true h)
   faults (TermMeaning (RecordTerm fs)) h = absurd (false≢true h)
@@ -88,16 +91,16 @@ module _ (enums : Enums) where
 
   -- a fault of the parts comes first
   pub parts_first : (m : Meaning) → is_built (label_in m) ≡ true → (f : Fault) → meanings_fault enums (written_parts (rendering_in m) (parts_in m)) ≡ Some f → meaning_fault enums m ≡ Some f
-  parts_first m b f h = faults m b ∙ ap (λ o. option_or o (own_fault (label_in m) (rendering_in m))) h
+  parts_first m b f h = faults m b ∙ ap (λ o. option_or o (own_fault enums (label_in m) (rendering_in m))) h
 
   -- where the parts have no fault: the fault of a text, and without it that of an entry
   pub inline_first : (m : Meaning) → is_built (label_in m) ≡ true → meanings_fault enums (written_parts (rendering_in m) (parts_in m)) ≡ None → (f : Fault) → inline_fault (label_in m) ≡ Some f → meaning_fault enums m ≡ Some f
   inline_first m b none f h =
-      faults m b ∙ ap (λ o. option_or o (own_fault (label_in m) (rendering_in m))) none ∙ ap (λ o. option_or o (entry_fault (label_in m) (rendering_in m))) h
+      faults m b ∙ ap (λ o. option_or o (own_fault enums (label_in m) (rendering_in m))) none ∙ ap (λ o. option_or o (entry_fault enums (label_in m) (rendering_in m))) h
 
-  pub entry_second : (m : Meaning) → is_built (label_in m) ≡ true → meanings_fault enums (written_parts (rendering_in m) (parts_in m)) ≡ None → inline_fault (label_in m) ≡ None → meaning_fault enums m ≡ entry_fault (label_in m) (rendering_in m)
+  pub entry_second : (m : Meaning) → is_built (label_in m) ≡ true → meanings_fault enums (written_parts (rendering_in m) (parts_in m)) ≡ None → inline_fault (label_in m) ≡ None → meaning_fault enums m ≡ entry_fault enums (label_in m) (rendering_in m)
   entry_second m b none h =
-      faults m b ∙ ap (λ o. option_or o (own_fault (label_in m) (rendering_in m))) none ∙ ap (λ o. option_or o (entry_fault (label_in m) (rendering_in m))) h
+      faults m b ∙ ap (λ o. option_or o (own_fault enums (label_in m) (rendering_in m))) none ∙ ap (λ o. option_or o (entry_fault enums (label_in m) (rendering_in m))) h
 
 -- an error of a text, handed on, names the fault that it named
 pub handed_on : {T : Type 0} (fault : Option Fault) (e : TextError) (result : Result T WriteError) → IsErrAnd result (λ y. y ≡ Text e) → ((f : Fault) → text_fault e ≡ Some f → fault ≡ Some f) → Finds write_fault fault result

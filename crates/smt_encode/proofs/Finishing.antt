@@ -8,12 +8,14 @@ use Rattle.smt_meaning.specs.Plain.{PlainTerm}
 use Rattle.smt_graph.specs.Nodes.{Meaning, TermMeaning}
 use Rattle.smt_graph.specs.Parts.{label_in, parts_in}
 use Rattle.smt_lines.specs.Lines.{Enums, Written, made_of, ◌>>=◌}
-use Rattle.smt_lines.specs.NameTables.{Tables, name_of_term}
+use Rattle.smt_lines.specs.NameTables.{Tables}
 use Rattle.smt_lines.specs.Spelling.{spelled}
-use Rattle.smt_encode.specs.Entries.{enter_by, entered_by, entry_by, inline_by, is_built, own_lines, rendering_in, written_parts, SaysInline}
-use Rattle.smt_encode.specs.NodeLines.{encode_meanings}
+use Rattle.smt_encode.specs.Entries.{enter_by, entered_by, entry_by, inline_by, is_built, own_lines, rendering_in, written_parts}
+use Rattle.smt_spelling.specs.Entries.{SaysInline}
+use Rattle.smt_encode.specs.NodeLines.{encode_meanings, name_in}
 use Rattle.smt_encode.specs.NodeTexts.{IsText}
-use Rattle.smt_encode.specs.Steps.{AreSpelled, IsSpelled, WritesHere}
+use Rattle.smt_encode.specs.Steps.{WritesHere}
+use Rattle.smt_spelling.specs.Spelled.{AreSpelled, IsSpelled}
 use Rattle.smt_encode.specs.declared.writer.Writer.{Writer}
 use Rattle.smt_encode.proofs.Stated.{stated}
 
@@ -27,20 +29,20 @@ says_none None h = refl
 says_none (Some e) h = absurd h
 
 -- the text of what has no entry, by the texts of its parts
-pub inline_stated : (enums : Enums) (m : Meaning) (s : Tables) (text : RcStr Global) (es : List Expression) → is_built (label_in m) ≡ true → ((t : PlainTerm) → m ≡ TermMeaning t → name_of_term s t ≡ None)
+pub inline_stated : (enums : Enums) (m : Meaning) (s : Tables) (text : RcStr Global) (es : List Expression) → is_built (label_in m) ≡ true → name_in s m ≡ None
     → encode_meanings enums (written_parts (rendering_in m) (parts_in m)) s ≡ made_of es s → SaysInline (inline_by (label_in m) es) (Some text) → IsText enums s m (rc_str_bytes text)
 inline_stated enums m s text es built none parts says =
     let (e, is, spells) = says_some (inline_by (label_in m) es) text says in
-    (e, stated enums m s built none ∙ ap (λ w. w >>= λ es u. own_lines m es u) parts ∙ ap (λ o. elim o [ Some e ↦ made_of e s | None ↦ entered_by (label_in m) (rendering_in m) m es s ]) is, spells)
+    (e, stated enums m s built none ∙ ap (λ w. w >>= λ es u. own_lines enums m es u) parts ∙ ap (λ o. elim o [ Some e ↦ made_of e s | None ↦ entered_by enums (label_in m) (rendering_in m) m es s ]) is, spells)
 
 -- its own lines are none
-pub inline_lines : (m : Meaning) (s : Tables) (es : List Expression) (e : Expression) → inline_by (label_in m) es ≡ Some e → own_lines m es s ≡ made_of e s
-inline_lines m s es e is = ap (λ o. elim o [ Some e ↦ made_of e s | None ↦ entered_by (label_in m) (rendering_in m) m es s ]) is
+pub inline_lines : (enums : Enums) (m : Meaning) (s : Tables) (es : List Expression) (e : Expression) → inline_by (label_in m) es ≡ Some e → own_lines enums m es s ≡ made_of e s
+inline_lines enums m s es e is = ap (λ o. elim o [ Some e ↦ made_of e s | None ↦ entered_by enums (label_in m) (rendering_in m) m es s ]) is
 
 -- the own lines of a term that gets a name
-pub entry_lines_are : (t : PlainTerm) (s : Tables) (sort : Expression) (es : List Expression) → inline_by (label_in (TermMeaning t)) (sort ∷ es) ≡ None
-    → own_lines (TermMeaning t) (sort ∷ es) s ≡ enter_by (entry_by (label_in (TermMeaning t)) (rendering_in (TermMeaning t)) sort es) t sort s
-entry_lines_are t s sort es is = ap (λ o. elim o [ Some e ↦ made_of e s | None ↦ entered_by (label_in (TermMeaning t)) (rendering_in (TermMeaning t)) (TermMeaning t) (sort ∷ es) s ]) is
+pub entry_lines_are : (enums : Enums) (t : PlainTerm) (s : Tables) (sort : Expression) (es : List Expression) → inline_by (label_in (TermMeaning t)) (sort ∷ es) ≡ None
+    → own_lines enums (TermMeaning t) (sort ∷ es) s ≡ enter_by (entry_by enums (label_in (TermMeaning t)) (rendering_in (TermMeaning t)) sort es) t sort s
+entry_lines_are enums t s sort es is = ap (λ o. elim o [ Some e ↦ made_of e s | None ↦ entered_by enums (label_in (TermMeaning t)) (rendering_in (TermMeaning t)) (TermMeaning t) (sort ∷ es) s ]) is
 
 -- the first of several texts, and the others
 pub record Split (es : List Expression) (first : RcStr Global) (others : List (RcStr Global)) : Type 0 where
@@ -60,15 +62,15 @@ taken_off [] others x h is rest = absurd (omega (arith, h))
 taken_off (y ∷ xs) others x h is rest = sym (λ i. is i ∷ rest i)
 
 -- a term is written by its entry
-pub entry_written : {S E : Type 0} (contents : S → Option (List ℕ)) (old new : Writer S) (m : Meaning) (t : PlainTerm) (es : List Expression) (s : Tables) (first : RcStr Global) (others : List (RcStr Global)) (result : Result (RcStr Global) E)
+pub entry_written : {S E : Type 0} (contents : S → Option (List ℕ)) (old new : Writer S) (enums : Enums) (m : Meaning) (t : PlainTerm) (es : List Expression) (s : Tables) (first : RcStr Global) (others : List (RcStr Global)) (result : Result (RcStr Global) E)
     → m ≡ TermMeaning t → AreSpelled es (first ∷ others) → inline_by (label_in m) es ≡ None
-    → ((e : Expression) (rest : List Expression) → rc_str_bytes first ≡ spelled e → AreSpelled rest others → WritesHere contents old new (enter_by (entry_by (label_in m) (rendering_in m) e rest) t e s) IsSpelled result)
-    → WritesHere contents old new (own_lines m es s) IsSpelled result
-entry_written contents old new m t es s first others result is shown none writes =
+    → ((e : Expression) (rest : List Expression) → rc_str_bytes first ≡ spelled e → AreSpelled rest others → WritesHere contents old new (enter_by (entry_by enums (label_in m) (rendering_in m) e rest) t e s) IsSpelled result)
+    → WritesHere contents old new (own_lines enums m es s) IsSpelled result
+entry_written contents old new enums m t es s first others result is shown none writes =
     let p = split es first others shown in
-    let whole : own_lines m es s ≡ enter_by (entry_by (label_in m) (rendering_in m) p.sort p.rest) t p.sort s =
-    ap (λ l. own_lines m l s) p.whole
-    ∙ ap (λ k. own_lines k (p.sort ∷ p.rest) s) is
-    ∙ entry_lines_are t s p.sort p.rest (ap (λ k. inline_by (label_in k) (p.sort ∷ p.rest)) (sym is) ∙ ap (inline_by (label_in m)) (sym p.whole) ∙ none)
-    ∙ ap (λ k. enter_by (entry_by (label_in k) (rendering_in k) p.sort p.rest) t p.sort s) (sym is) in
+    let whole : own_lines enums m es s ≡ enter_by (entry_by enums (label_in m) (rendering_in m) p.sort p.rest) t p.sort s =
+    ap (λ l. own_lines enums m l s) p.whole
+    ∙ ap (λ k. own_lines enums k (p.sort ∷ p.rest) s) is
+    ∙ entry_lines_are enums t s p.sort p.rest (ap (λ k. inline_by (label_in k) (p.sort ∷ p.rest)) (sym is) ∙ ap (inline_by (label_in m)) (sym p.whole) ∙ none)
+    ∙ ap (λ k. enter_by (entry_by enums (label_in k) (rendering_in k) p.sort p.rest) t p.sort s) (sym is) in
     subst (λ (w : Written Expression). WritesHere contents old new w IsSpelled result) (sym whole) (writes p.sort p.rest p.sort_spelled p.rest_spelled)

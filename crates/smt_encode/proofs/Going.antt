@@ -17,7 +17,8 @@ use Rattle.smt_lines.specs.Lines.{Enums, Written}
 use Rattle.smt_lines.specs.NameTables.{Tables}
 use Rattle.smt_lines.specs.Spelling.{spelled}
 use Rattle.smt_encode.specs.NodeLines.{encode_meaning, encode_meanings, meaning_fault, meanings_fault}
-use Rattle.smt_encode.specs.Steps.{AreSpelled, HasTables, IsSpelled, Wrote}
+use Rattle.smt_encode.specs.Steps.{HasTables, Wrote}
+use Rattle.smt_spelling.specs.Spelled.{AreSpelled, IsSpelled}
 use Rattle.smt_encode.specs.declared.writer.Writer.{Writer}
 use Rattle.smt_encode.proofs.Lines.{nothing_written, wrote_then}
 

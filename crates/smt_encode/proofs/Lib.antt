@@ -1,14 +1,11 @@
-pub mod Bracketed
 pub mod Built
 pub mod Completing
 pub mod Conditions
 pub mod Counted
-pub mod Entered
 pub mod Faulted
 pub mod Faulting
 pub mod Finishing
 pub mod Going
-pub mod Heads
 pub mod Inline
 pub mod Interned
 pub mod Kept
@@ -16,8 +13,6 @@ pub mod Lines
 pub mod Listing
 pub mod Named
 pub mod NodeOf
-pub mod Numbered
-pub mod Patterned
 pub mod Rendered
 pub mod Scripted
 pub mod Stated

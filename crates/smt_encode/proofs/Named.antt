@@ -1,11 +1,13 @@
 -- The texts of nodes, and the tables of names that they are.
-use Rattle.std.proofs.Common.{◌≡◌, ℕ, zero, suc, ◌+◌, ◌<◌, ◌≤◌, Bool, true, false, List, [], ◌∷◌, ◌++◌, length, Option, Some, None, refl, sym, ap, ◌∙◌, subst, inl, inr, ◌⊎◌, arith, length-append}
+use Rattle.std.proofs.Common.{◌≡◌, ℕ, zero, suc, ◌+◌, ◌<◌, ◌≤◌, Bool, true, false, List, [], ◌∷◌, length, Option, Some, None, refl, sym, ap, ◌∙◌, subst, inl, inr, ◌⊎◌, arith, length-append}
 use Rattle.std.specs.Prelude.{is_none, is_some, IsTrue}
 use Rattle.std.proofs.lemmas.Bool.{false≢true}
-use Rattle.smt_meaning.specs.Plain.{PlainTerm}
+use Rattle.smt_meaning.specs.Interpretations.{function_eq}
+use Rattle.smt_meaning.specs.Plain.{PlainTerm, PlainType}
 use Rattle.smt_meaning.specs.TermOrder.{term_eq}
-use Rattle.smt_meaning.proofs.TermTotal.{terms_decided}
-use Rattle.smt_graph.specs.Nodes.{Meaning, TermMeaning}
+use Rattle.smt_meaning.specs.Types.{type_eq}
+use Rattle.smt_meaning.proofs.TermTotal.{functions_decided, terms_decided, types_decided}
+use Rattle.smt_graph.specs.Nodes.{Meaning, FunctionMeaning, TermMeaning, TypeMeaning}
 use Rattle.smt_graph.specs.Meanings.{meanings}
 use Rattle.smt_graph.proofs.Distinct.{places_differ, places_mean}
 use Rattle.smt_graph.proofs.Places.{as_many, found_within}
@@ -13,10 +15,10 @@ use Rattle.smt_nodes.specs.Interned.{meaning_in, nodes_of, KeepsMeanings}
 use Rattle.smt_nodes.specs.View.{place_of}
 use Rattle.smt_nodes.specs.declared.id.NodeId.{NodeId}
 use Rattle.smt_nodes.specs.declared.interner.Interner.{Interner}
-use Rattle.smt_lines.specs.NameTables.{Tables, name_of_term, no_names}
+use Rattle.smt_lines.specs.NameTables.{Tables, name_of_function, name_of_term, name_of_type, no_names}
 use Rattle.smt_lines.proofs.Making.{lookup_new, lookup_other}
 use Rattle.smt_meaning.specs.TypeValues.{Enums}
-use Rattle.smt_encode.specs.NodeLines.{has_entry, meaning_fault}
+use Rattle.smt_encode.specs.NodeLines.{has_entry, meaning_fault, name_in, with_name}
 use Rattle.smt_encode.specs.NodeTexts.{text_at, AreSound, HasName, HasNoTexts, IsText}
 use Rattle.smt_encode.specs.Names.{enums_under, AreTables, KeepTables}
 use Rattle.smt_encode.specs.Texts.{kept_at, IsKept}
@@ -25,7 +27,7 @@ use Rattle.smt_encode.specs.declared.node_names.NodeNames.{NodeNames}
 use Rattle.std.proofs.Math.Dec.{eqb}
 use Rattle.std.proofs.lemmas.Bool.Decides.{eqb_tells}
 use Rattle.smt_encode.proofs.Kept as kept
-use Rattle.smt_encode.proofs.Inline.{text_stays}
+use Rattle.smt_encode.proofs.Inline.{names_stay, text_stays}
 
 -- ---- numbers that stand for things
 
@@ -52,12 +54,12 @@ meant_before i j keeps id m within h =
     let same : n ≡ m = cc in
     e ∙ ap Some same
 
--- ---- names of terms
+-- ---- names
 
--- the text of the node that stands for a term with an entry is the term's name
-pub named_at : (i : Interner) (names : NodeNames) (t : PlainTerm) (o : Option (List ℕ)) (id : NodeId) → HasName i names t o → meaning_in i id ≡ Some (TermMeaning t) → IsTrue (has_entry (TermMeaning t)) → text_at names id ≡ o
-named_at i names t (Some x) id (other, h, entry, there) e f = ap (text_at names) (one_id i id other (TermMeaning t) e h) ∙ there
-named_at i names t None id none e f = none id e f
+-- the text of the node that stands for what has an entry is its name
+pub named_at : (i : Interner) (names : NodeNames) (m : Meaning) (o : Option (List ℕ)) (id : NodeId) → HasName i names m o → meaning_in i id ≡ Some m → IsTrue (has_entry m) → text_at names id ≡ o
+named_at i names m (Some x) id (other, h, entry, there) e f = ap (text_at names) (one_id i id other m e h) ∙ there
+named_at i names m None id none e f = none id e f
 
 -- more nodes are as many at least
 pub no_fewer : (i j : Interner) → KeepsMeanings i j → length (nodes_of i) ≤ length (nodes_of j)
@@ -79,23 +81,23 @@ kept_before i j names keeps fits id m x there h =
 
 -- ---- more nodes, of which none has a text
 
-grown : (i j : Interner) (names : NodeNames) → KeepsMeanings i j → length names.texts.items ≤ length (nodes_of i) → (t : PlainTerm) (o : Option (List ℕ)) → HasName i names t o → HasName j names t o
-grown i j names keeps fits t (Some x) (id, h, entry, there) = (id, keeps id (TermMeaning t) h, entry, there)
-grown i j names keeps fits t None none = λ id h entry. go id h entry (text_at names id) refl
+grown : (i j : Interner) (names : NodeNames) → KeepsMeanings i j → length names.texts.items ≤ length (nodes_of i) → (m : Meaning) (o : Option (List ℕ)) → HasName i names m o → HasName j names m o
+grown i j names keeps fits m (Some x) (id, h, entry, there) = (id, keeps id m h, entry, there)
+grown i j names keeps fits m None none = λ id h entry. go id h entry (text_at names id) refl
   where
-    go : (id : NodeId) → meaning_in j id ≡ Some (TermMeaning t) → IsTrue (has_entry (TermMeaning t)) → (o : Option (List ℕ)) → text_at names id ≡ o → text_at names id ≡ None
+    go : (id : NodeId) → meaning_in j id ≡ Some m → IsTrue (has_entry m) → (o : Option (List ℕ)) → text_at names id ≡ o → text_at names id ≡ None
     go id h entry None is = is
-    go id h entry (Some x) is = none id (kept_before i j names keeps fits id (TermMeaning t) x is h) entry
+    go id h entry (Some x) is = none id (kept_before i j names keeps fits id m x is h) entry
 
 pub tables_grow : (n : Names) (j : Interner) (s : Tables) → KeepsMeanings n.nodes j → AreSound (enums_under n) n.nodes n.texts → KeepTables n s → (new : Names) → new.nodes ≡ j → new.texts ≡ n.texts → enums_under new ≡ enums_under n → KeepTables new s
 tables_grow n j s keeps sound are new nodes texts enums = record {
-  terms = λ t. subst (λ (k : Interner). HasName k new.texts t (name_of_term s t)) (sym nodes) (subst (λ (x : NodeNames). HasName j x t (name_of_term s t)) (sym texts) (grown n.nodes j n.texts keeps sound.within t (name_of_term s t) (are.terms t)));
+  names = λ m. subst (λ (k : Interner). HasName k new.texts m (name_in s m)) (sym nodes) (subst (λ (x : NodeNames). HasName j x m (name_in s m)) (sym texts) (grown n.nodes j n.texts keeps sound.within m (name_in s m) (are.names m)));
   inline = λ id m x h none there.
       let k : meaning_in j id ≡ Some m = ap (λ (k : Interner). meaning_in k id) (sym nodes) ∙ h in
       let y : text_at n.texts id ≡ Some x = ap (λ (x : NodeNames). text_at x id) (sym texts) ∙ there in
       subst (λ (e : Enums). IsText e s m x) (sym enums) (are.inline id m x (kept_before n.nodes j n.texts keeps sound.within id m x y k) none y);
-  count = ap (λ (x : NodeNames). x.named) texts ∙ are.count;
-  types = are.types;
+  terms = ap (λ (x : NodeNames). x.terms) texts ∙ are.terms;
+  types = ap (λ (x : NodeNames). x.types) texts ∙ are.types;
   functions = are.functions;
 }
 
@@ -117,9 +119,9 @@ module _ (n : Names) (id : NodeId) (m : Meaning) (x : List ℕ) (texts : NodeNam
   other_stays : (other : NodeId) (k : Meaning) → meaning_in n.nodes other ≡ Some k → ¬ (k ≡ m) → text_at texts other ≡ text_at n.texts other
   other_stays other k h apart = is.others (place_of other) (λ same. apart (at_one_place n.nodes other id k m same h meant))
 
-  name_stays : (t : PlainTerm) (o : Option (List ℕ)) → ¬ (TermMeaning t ≡ m) → HasName n.nodes n.texts t o → HasName n.nodes texts t o
-  name_stays t (Some y) apart (other, h, entry, there) = (other, h, entry, other_stays other (TermMeaning t) h apart ∙ there)
-  name_stays t None apart none = λ other h entry. other_stays other (TermMeaning t) h apart ∙ none other h entry
+  name_stays : (k : Meaning) (o : Option (List ℕ)) → ¬ (k ≡ m) → HasName n.nodes n.texts k o → HasName n.nodes texts k o
+  name_stays k (Some y) apart (other, h, entry, there) = (other, h, entry, other_stays other k h apart ∙ there)
+  name_stays k None apart none = λ other h entry. other_stays other k h apart ∙ none other h entry
 
   pub still_sound : (enums : Enums) → meaning_fault enums m ≡ None → AreSound enums n.nodes n.texts → AreSound enums n.nodes texts
   still_sound enums none s = record {
@@ -132,53 +134,109 @@ module _ (n : Names) (id : NodeId) (m : Meaning) (x : List ℕ) (texts : NodeNam
       go other k h (inl same) there = ap (λ q. is_none (meaning_fault enums q)) (at_one_place n.nodes other id k m same.1 h meant) ∙ ap is_none none
       go other k h (inr apart) there = s.sound other k h (ap is_some (sym (is.others (place_of other) apart.1)) ∙ there)
 
--- ---- the tables, with one text more
+-- ---- the tables, with one name more
 
--- a term's name
-pub tables_entered : (n new : Names) (id : NodeId) (t : PlainTerm) (x : List ℕ) (s : Tables) → IsKept n.texts.texts.items new.texts.texts.items (place_of id) x
-    → meaning_in n.nodes id ≡ Some (TermMeaning t) → text_at n.texts id ≡ None → IsTrue (has_entry (TermMeaning t)) → new.texts.named ≡ n.texts.named + 1 → new.nodes ≡ n.nodes → enums_under new ≡ enums_under n
-    → KeepTables n s → KeepTables new (record s { terms = s.terms ++ (t, x) ∷ [] })
-tables_entered n new id t x s is meant unkept entry one nodes enums are = record {
-  terms = λ q. subst (λ (k : Interner). HasName k new.texts q (name_of_term (record s { terms = s.terms ++ (t, x) ∷ [] }) q)) (sym nodes) (go q (term_eq q t) refl);
-  inline = λ other m y h none there.
-      let k : meaning_in n.nodes other ≡ Some m = ap (λ (k : Interner). meaning_in k other) (sym nodes) ∙ h in
-      let apart : ¬ (m ≡ TermMeaning t) = λ e. false≢true (sym none ∙ ap has_entry e ∙ entry) in
-      let stays : text_at new.texts other ≡ text_at n.texts other = other_stays n id (TermMeaning t) x new.texts is meant unkept other m k apart in
-      subst (λ (e : Enums). IsText e (record s { terms = s.terms ++ (t, x) ∷ [] }) m y) (sym enums) (text_stays (enums_under n) s (s.terms ++ (t, x) ∷ []) m y none (are.inline other m y k none (sym stays ∙ there)));
-  count = one ∙ ap (λ k. k + 1) are.count ∙ sym (length-append s.terms ((t, x) ∷ []));
-  types = are.types;
-  functions = are.functions;
+-- what the tables have then: of the thing itself the name, and of another one what they had
+abbrev pub FoundIn : Tables → Meaning → List ℕ → Meaning → Type 0
+FoundIn s m x k = ((k ≡ m) × (name_in (with_name s m x) k ≡ Some x)) ⊎ (¬ (k ≡ m) × (name_in (with_name s m x) k ≡ name_in s k))
+
+pub found_then : (s : Tables) (m : Meaning) (x : List ℕ) → name_in s m ≡ None → (k : Meaning) → FoundIn s m x k
+found_then s (TypeMeaning t) x none (TypeMeaning q) = go (type_eq q t) refl
+  where
+    same_type : TypeMeaning q ≡ TypeMeaning t → q ≡ t
+    same_type h = cc
+
+    go : (b : Bool) → type_eq q t ≡ b → FoundIn s (TypeMeaning t) x (TypeMeaning q)
+    go true e =
+        let same : q ≡ t = (types_decided q t).0 e in
+        inl (ap TypeMeaning same, lookup_new (type_eq q) s.types t x e (ap (name_of_type s) same ∙ none))
+    go false e = inr (λ h. false≢true (sym e ∙ (types_decided q t).1 (same_type h)), lookup_other (type_eq q) s.types t x e)
+found_then s (FunctionMeaning f) x none (FunctionMeaning q) = go (function_eq q f) refl
+  where
+    same_function : FunctionMeaning q ≡ FunctionMeaning f → q ≡ f
+    same_function h = cc
+
+    go : (b : Bool) → function_eq q f ≡ b → FoundIn s (FunctionMeaning f) x (FunctionMeaning q)
+    go true e =
+        let same : q ≡ f = (functions_decided q f).0 e in
+        inl (ap FunctionMeaning same, lookup_new (function_eq q) s.functions f x e (ap (name_of_function s) same ∙ none))
+    go false e = inr (λ h. false≢true (sym e ∙ (functions_decided q f).1 (same_function h)), lookup_other (function_eq q) s.functions f x e)
+found_then s (TermMeaning t) x none (TermMeaning q) = go (term_eq q t) refl
+  where
+    same_term : TermMeaning q ≡ TermMeaning t → q ≡ t
+    same_term h = cc
+
+    go : (b : Bool) → term_eq q t ≡ b → FoundIn s (TermMeaning t) x (TermMeaning q)
+    go true e =
+        let same : q ≡ t = (terms_decided q t).0 e in
+        inl (ap TermMeaning same, lookup_new (term_eq q) s.terms t x e (ap (name_of_term s) same ∙ none))
+    go false e = inr (λ h. false≢true (sym e ∙ (terms_decided q t).1 (same_term h)), lookup_other (term_eq q) s.terms t x e)
+found_then s (TypeMeaning t) x none (FunctionMeaning q) = inr (λ h. cc, refl)
+found_then s (TypeMeaning t) x none (TermMeaning q) = inr (λ h. cc, refl)
+found_then s (FunctionMeaning f) x none (TypeMeaning q) = inr (λ h. cc, refl)
+found_then s (FunctionMeaning f) x none (TermMeaning q) = inr (λ h. cc, refl)
+found_then s (TermMeaning t) x none (TypeMeaning q) = inr (λ h. cc, refl)
+found_then s (TermMeaning t) x none (FunctionMeaning q) = inr (λ h. cc, refl)
+
+-- how many names there are of each kind
+pub record Counts (names : NodeNames) (s : Tables) : Type 0 where
+  pub terms : names.terms ≡ length s.terms
+  pub types : names.types ≡ length s.types
+  pub functions : s.functions ≡ []
+
+-- a name more
+pub tables_entered : (n new : Names) (id : NodeId) (m : Meaning) (x : List ℕ) (s : Tables) → IsKept n.texts.texts.items new.texts.texts.items (place_of id) x
+    → meaning_in n.nodes id ≡ Some m → text_at n.texts id ≡ None → IsTrue (has_entry m) → Counts new.texts (with_name s m x) → new.nodes ≡ n.nodes → enums_under new ≡ enums_under n
+    → KeepTables n s → KeepTables new (with_name s m x)
+tables_entered n new id m x s is meant unkept entry counts nodes enums are = record {
+  names = λ k. subst (λ (i : Interner). HasName i new.texts k (name_in (with_name s m x) k)) (sym nodes) (go k (found_then s m x absent k));
+  inline = λ other k y h none there.
+      let here : meaning_in n.nodes other ≡ Some k = ap (λ (i : Interner). meaning_in i other) (sym nodes) ∙ h in
+      let apart : ¬ (k ≡ m) = λ e. false≢true (sym none ∙ ap has_entry e ∙ entry) in
+      let stays : text_at new.texts other ≡ text_at n.texts other = other_stays n id m x new.texts is meant unkept other k here apart in
+      subst (λ (e : Enums). IsText e (with_name s m x) k y) (sym enums) (text_stays (enums_under n) s (with_name s m x) k y none (names_stay s m x) (are.inline other k y here none (sym stays ∙ there)));
+  terms = counts.terms;
+  types = counts.types;
+  functions = counts.functions;
 }
   where
-    absent : name_of_term s t ≡ None
-    absent = sym (named_at n.nodes n.texts t (name_of_term s t) id (are.terms t) meant entry) ∙ unkept
+    absent : name_in s m ≡ None
+    absent = sym (named_at n.nodes n.texts m (name_in s m) id (are.names m) meant entry) ∙ unkept
 
-    go : (q : PlainTerm) (b : Bool) → term_eq q t ≡ b → HasName n.nodes new.texts q (name_of_term (record s { terms = s.terms ++ (t, x) ∷ [] }) q)
-    go q true e =
-        let same : q ≡ t = (terms_decided q t).0 e in
-        let found : name_of_term (record s { terms = s.terms ++ (t, x) ∷ [] }) q ≡ Some x = lookup_new (term_eq q) s.terms t x e (ap (name_of_term s) same ∙ absent) in
-        subst (λ (o : Option (List ℕ)). HasName n.nodes new.texts q o) (sym found) (id, meant ∙ ap (λ u. Some (TermMeaning u)) (sym same), subst (λ (u : PlainTerm). IsTrue (has_entry (TermMeaning u))) (sym same) entry, is.here)
-    go q false e =
-        let found : name_of_term (record s { terms = s.terms ++ (t, x) ∷ [] }) q ≡ name_of_term s q = lookup_other (term_eq q) s.terms t x e in
-        let apart : ¬ (TermMeaning q ≡ TermMeaning t) = λ h. false≢true (sym e ∙ (terms_decided q t).1 (term_same h)) in
-        subst (λ (o : Option (List ℕ)). HasName n.nodes new.texts q o) (sym found) (name_stays n id (TermMeaning t) x new.texts is meant unkept q (name_of_term s q) apart (are.terms q))
-      where
-        term_same : {u v : PlainTerm} → TermMeaning u ≡ TermMeaning v → u ≡ v
-        term_same h = cc
+    go : (k : Meaning) → FoundIn s m x k → HasName n.nodes new.texts k (name_in (with_name s m x) k)
+    go k (inl (same, found)) =
+        subst (λ (o : Option (List ℕ)). HasName n.nodes new.texts k o) (sym found) (id, meant ∙ ap (λ q. Some q) (sym same), subst (λ (q : Meaning). IsTrue (has_entry q)) (sym same) entry, is.here)
+    go k (inr (apart, found)) =
+        subst (λ (o : Option (List ℕ)). HasName n.nodes new.texts k o) (sym found) (name_stays n id m x new.texts is meant unkept k (name_in s k) apart (are.names k))
+
+-- one term more, and one type more
+pub term_counted : (n : Names) (new : NodeNames) (t : PlainTerm) (x : List ℕ) (s : Tables) → new.terms ≡ n.texts.terms + 1 → new.types ≡ n.texts.types → KeepTables n s → Counts new (with_name s (TermMeaning t) x)
+term_counted n new t x s one same are = record {
+  terms = one ∙ ap (λ k. k + 1) are.terms ∙ sym (length-append s.terms ((t, x) ∷ []));
+  types = same ∙ are.types;
+  functions = are.functions;
+}
+
+pub type_counted : (n : Names) (new : NodeNames) (t : PlainType) (x : List ℕ) (s : Tables) → new.terms ≡ n.texts.terms → new.types ≡ n.texts.types + 1 → KeepTables n s → Counts new (with_name s (TypeMeaning t) x)
+type_counted n new t x s same one are = record {
+  terms = same ∙ are.terms;
+  types = one ∙ ap (λ k. k + 1) are.types ∙ sym (length-append s.types ((t, x) ∷ []));
+  functions = are.functions;
+}
 
 -- the text of what has no entry
 pub tables_kept : (n new : Names) (id : NodeId) (m : Meaning) (x : List ℕ) (s : Tables) → IsKept n.texts.texts.items new.texts.texts.items (place_of id) x
-    → meaning_in n.nodes id ≡ Some m → text_at n.texts id ≡ None → has_entry m ≡ false → IsText (enums_under n) s m x → new.texts.named ≡ n.texts.named → new.nodes ≡ n.nodes → enums_under new ≡ enums_under n
+    → meaning_in n.nodes id ≡ Some m → text_at n.texts id ≡ None → has_entry m ≡ false → IsText (enums_under n) s m x → new.texts.terms ≡ n.texts.terms → new.texts.types ≡ n.texts.types → new.nodes ≡ n.nodes → enums_under new ≡ enums_under n
     → KeepTables n s → KeepTables new s
-tables_kept n new id m x s is meant unkept none text same nodes enums are = record {
-  terms = λ q. subst (λ (k : Interner). HasName k new.texts q (name_of_term s q)) (sym nodes) (go q (has_entry (TermMeaning q)) refl (name_of_term s q) (are.terms q));
+tables_kept n new id m x s is meant unkept none text terms types nodes enums are = record {
+  names = λ q. subst (λ (k : Interner). HasName k new.texts q (name_in s q)) (sym nodes) (go q (has_entry q) refl (name_in s q) (are.names q));
   inline = λ other k y h plain there. inlined other k y (ap (λ (k : Interner). meaning_in k other) (sym nodes) ∙ h) plain there (eqb_tells (place_of other) (place_of id));
-  count = same ∙ are.count;
-  types = are.types;
+  terms = terms ∙ are.terms;
+  types = types ∙ are.types;
   functions = are.functions;
 }
   where
-    go : (q : PlainTerm) (b : Bool) → has_entry (TermMeaning q) ≡ b → (o : Option (List ℕ)) → HasName n.nodes n.texts q o → HasName n.nodes new.texts q o
+    go : (q : Meaning) (b : Bool) → has_entry q ≡ b → (o : Option (List ℕ)) → HasName n.nodes n.texts q o → HasName n.nodes new.texts q o
     go q true e o h = name_stays n id m x new.texts is meant unkept q o (λ f. false≢true (sym none ∙ ap has_entry (sym f) ∙ e)) h
     go q false e (Some y) (other, h, entry, there) = absurd (false≢true (sym e ∙ entry))
     go q false e None h = λ other k entry. absurd (false≢true (sym e ∙ entry))
@@ -193,21 +251,21 @@ tables_kept n new id m x s is meant unkept none text same nodes enums are = reco
     inlined other k y h plain there (inr apart) =
         subst (λ (e : Enums). IsText e s k y) (sym enums) (are.inline other k y h plain (sym (is.others (place_of other) apart.1) ∙ there))
 
--- the name of a term that a number stands for, and of one that none stands for
-pub name_found : (i : Interner) (names : NodeNames) (t : PlainTerm) (id : NodeId) (o : Option (List ℕ)) → meaning_in i id ≡ Some (TermMeaning t) → IsTrue (has_entry (TermMeaning t)) → text_at names id ≡ o → HasName i names t o
-name_found i names t id (Some x) meant entry there = (id, meant, entry, there)
-name_found i names t id None meant entry there = λ other h e. ap (text_at names) (one_id i other id (TermMeaning t) h meant) ∙ there
+-- the name of what a number stands for, and of what none stands for
+pub name_found : (i : Interner) (names : NodeNames) (m : Meaning) (id : NodeId) (o : Option (List ℕ)) → meaning_in i id ≡ Some m → IsTrue (has_entry m) → text_at names id ≡ o → HasName i names m o
+name_found i names m id (Some x) meant entry there = (id, meant, entry, there)
+name_found i names m id None meant entry there = λ other h e. ap (text_at names) (one_id i other id m h meant) ∙ there
 
-pub none_found : (i : Interner) (names : NodeNames) (t : PlainTerm) → ((id : NodeId) → meaning_in i id ≡ Some (TermMeaning t) → ⊥) → HasName i names t None
-none_found i names t none = λ id h e. absurd (none id h)
+pub none_found : (i : Interner) (names : NodeNames) (m : Meaning) → ((id : NodeId) → meaning_in i id ≡ Some m → ⊥) → HasName i names m None
+none_found i names m none = λ id h e. absurd (none id h)
 
-pub no_name : (i : Interner) (names : NodeNames) (t : PlainTerm) → has_entry (TermMeaning t) ≡ false → HasName i names t None
-no_name i names t none = λ id h e. absurd (false≢true (sym none ∙ e))
+pub no_name : (i : Interner) (names : NodeNames) (m : Meaning) → has_entry m ≡ false → HasName i names m None
+no_name i names m none = λ id h e. absurd (false≢true (sym none ∙ e))
 
 -- ---- tables alone, and those of no text
 
 pub names_alone : (n : Names) (s : Tables) → KeepTables n s → AreTables n s
-names_alone n s k = record { terms = k.terms; count = k.count; types = k.types; functions = k.functions }
+names_alone n s k = record { names = k.names; terms = k.terms; types = k.types; functions = k.functions }
 
 pub none_at : (names : NodeNames) → HasNoTexts names → (id : NodeId) → text_at names id ≡ None
 none_at names none id = go (text_at names id) (none id)
@@ -221,12 +279,18 @@ no_tables n unwritten =
     let at = none_at n.texts unwritten in
     let none = kept.none_kept n.texts.texts.items (λ i. at (record { place = i })) in
     record {
-      terms = λ t id h entry. at id;
+      names = λ m. nothing m (λ id h entry. at id);
       inline = λ id m text h e there. absurd (no_text (sym (at id) ∙ there));
-      count = omega (arith, none, n.texts.counted);
-      types = refl;
+      terms = omega (arith, none, n.texts.counted);
+      types = omega (arith, none, n.texts.counted);
       functions = refl;
     }
   where
+    -- the empty tables have no name
+    nothing : (m : Meaning) → HasName n.nodes n.texts m None → HasName n.nodes n.texts m (name_in no_names m)
+    nothing (TypeMeaning t) h = h
+    nothing (FunctionMeaning f) h = h
+    nothing (TermMeaning t) h = h
+
     no_text : {A : Type 0} {x : A} → ◌≡◌ {A = Option A} None (Some x) → ⊥
     no_text e = cc

@@ -14,7 +14,8 @@ use Rattle.smt_lines.specs.NameTables.{Tables, no_names}
 use Rattle.smt_lines.specs.Spelling.{spelled}
 use Rattle.smt_lines.specs.Text.{names, text}
 use Rattle.smt_encode.specs.Names.{enums_under}
-use Rattle.smt_encode.specs.Steps.{AreSpelled, Wrote}
+use Rattle.smt_encode.specs.Steps.{Wrote}
+use Rattle.smt_spelling.specs.Spelled.{AreSpelled}
 use Rattle.smt_encode.specs.declared.writer.Writer.{Writer}
 use Rattle.smt_encode.proofs.Lines.{wrote_then}
 

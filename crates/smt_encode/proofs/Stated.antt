@@ -1,17 +1,20 @@
 -- What is stated of a node: of one that has no text yet by its parts and its own lines; of one that has a name by that.
-use Rattle.std.proofs.Common.{◌≡◌, ℕ, true, List, [], ◌∷◌, ◌++◌, map, refl, sym, ap, ◌∙◌, append_assoc, append-nil, Some, None}
+use Rattle.std.proofs.Common.{◌≡◌, ℕ, true, List, [], ◌∷◌, ◌++◌, map, refl, sym, ap, ◌∙◌, append_assoc, append-nil, Option, Some, None}
 use Rattle.std.proofs.lemmas.Bool.{false≢true}
 use Rattle.smt_lexicon.specs.Reading.{Expression}
 use Rattle.smt_semantics.specs.Script.{name}
-use Rattle.smt_meaning.specs.Plain.{PlainType, OptionType, BitVecType, BoolType, EntityType, StringType, SetType, PlainTerm, PlainTerms, no_terms, one_term, PlainOp, RecordGetOp, UufOp, Application, NoneTerm, LiteralTerm, RecordTerm, SetTerm, SomeTerm, VariableTerm, BitVecLiteral, BoolLiteral, EntityLiteral, ExtensionLiteral, StringLiteral, list_of_terms}
-use Rattle.smt_meaning.specs.Types.{literal_type, type_of}
+use Rattle.smt_meaning.specs.Plain.{PlainType, OptionType, BitVecType, BoolType, EntityType, ExtensionType, RecordType, StringType, SetType, PlainTerm, PlainTerms, no_terms, one_term, PlainOp, RecordGetOp, UufOp, Application, NoneTerm, LiteralTerm, RecordTerm, SetTerm, SomeTerm, VariableTerm, BitVecLiteral, BoolLiteral, EntityLiteral, ExtensionLiteral, StringLiteral, list_of_terms}
+use Rattle.smt_meaning.specs.Types.{literal_type, type_eq, type_of}
+use Rattle.smt_meaning.proofs.TermTotal.{types_decided}
+use Rattle.smt_lines.proofs.Making.{lookup_new}
 use Rattle.smt_graph.specs.Nodes.{ApplicationLabel, Meaning, TypeMeaning, FunctionMeaning, TermMeaning}
 use Rattle.smt_graph.specs.Parts.{label_in, parts_in, term_label, term_parts}
-use Rattle.smt_lines.specs.LineForms.{variable_lines, none_body, set_body, some_body, operator_head, application_body, extension_body, record_body}
-use Rattle.smt_lines.specs.Lines.{Enums, Rendering, AsApplication, AsEqualsIntMin, AsFalse, Written, next_term, enter_term, encode_fields, encode_head, encode_type, encode_terms, encode_term, define, define_application, define_entity, application_rendering, made_of, members_of, unless_named, ◌>>=◌}
+use Rattle.smt_lines.specs.LineForms.{function_declaration, function_heading, variable_lines, none_body, set_body, some_body, operator_head, application_body, extension_body, record_body}
+use Rattle.smt_lines.specs.Lines.{Enums, Rendering, AsApplication, AsEqualsIntMin, AsFalse, Written, next_entity, next_function, next_term, declare_entity, declare_kind, declare_record, enter_function, enter_term, encode_attributes, encode_fields, encode_head, encode_type, encode_terms, encode_term, define, define_application, define_entity, application_rendering, behind, made_of, members_of, unless_named, ◌>>=◌}
 use Rattle.smt_lines.specs.NameTables.{Tables, name_of_term, name_of_type, text_of_name}
-use Rattle.smt_encode.specs.NodeLines.{encode_meaning, encode_meanings, has_entry}
-use Rattle.smt_encode.specs.Entries.{is_built, is_built_op, own_by, own_lines, rendering_in, written_parts}
+use Rattle.smt_encode.specs.NodeLines.{encode_meaning, encode_meanings, has_entry, name_in}
+use Rattle.smt_encode.specs.Entries.{enter_by, is_built, is_built_op, own_by, own_lines, rendering_in, written_parts}
+use Rattle.smt_spelling.specs.Entries.{entity_entry}
 
 -- ---- texts one after the other
 
@@ -53,80 +56,125 @@ head_made enums o ts s h = refl
 -- an application's own lines, behind its type
 application_stated : (enums : Enums) (how : Rendering) (o : PlainOp) (ts : PlainTerms) (type : PlainType) (s : Tables) → is_built_op o ≡ true
     → encode_type enums type s >>= (λ sort v. define_application enums how o ts type (λ w. encode_terms enums ts w) sort v)
-    ≡ encode_meanings enums (written_parts how (TypeMeaning type ∷ map TermMeaning (list_of_terms ts))) s >>= λ es u. own_by (ApplicationLabel o) how (TermMeaning (Application o ts type)) es u
+    ≡ encode_meanings enums (written_parts how (TypeMeaning type ∷ map TermMeaning (list_of_terms ts))) s >>= λ es u. own_by enums (ApplicationLabel o) how (TermMeaning (Application o ts type)) es u
 application_stated enums AsApplication o ts type s h =
     let w : Written Expression = encode_type enums type s in
-    let k : List Expression → Tables → Written Expression = λ es u. own_by (ApplicationLabel o) AsApplication (TermMeaning (Application o ts type)) es u in
+    let k : List Expression → Tables → Written Expression = λ es u. own_by enums (ApplicationLabel o) AsApplication (TermMeaning (Application o ts type)) es u in
     (λ i. w >>= λ sort v. encode_terms enums ts v >>= λ es u. head_made enums o ts u h i >>= λ head x. define (Application o ts type) sort (application_body head o es) x)
     ∙ sym (λ i. w >>= λ sort v. terms_in_order enums ts v i >>= λ es u. k (sort ∷ es) u)
     ∙ sym (typed_parts w (λ u. encode_meanings enums (map TermMeaning (list_of_terms ts)) u) k)
 application_stated enums (AsEqualsIntMin width) o ts type s h =
     let w : Written Expression = encode_type enums type s in
-    let k : List Expression → Tables → Written Expression = λ es u. own_by (ApplicationLabel o) (AsEqualsIntMin width) (TermMeaning (Application o ts type)) es u in
+    let k : List Expression → Tables → Written Expression = λ es u. own_by enums (ApplicationLabel o) (AsEqualsIntMin width) (TermMeaning (Application o ts type)) es u in
     sym (λ i. w >>= λ sort v. terms_in_order enums ts v i >>= λ es u. k (sort ∷ es) u)
     ∙ sym (typed_parts w (λ u. encode_meanings enums (map TermMeaning (list_of_terms ts)) u) k)
 application_stated enums AsFalse o ts type s h =
-    sym (one_part (encode_type enums type s) (λ es u. own_by (ApplicationLabel o) AsFalse (TermMeaning (Application o ts type)) es u))
+    sym (one_part (encode_type enums type s) (λ es u. own_by enums (ApplicationLabel o) AsFalse (TermMeaning (Application o ts type)) es u))
+
+-- ---- entities
+
+-- an entity's own lines, by the name of its sort
+entity_own : (enums : Enums) (e i n : List ℕ) (s : Tables) → define_entity (members_of enums e) e i n s ≡ own_lines enums (TermMeaning (LiteralTerm (EntityLiteral e i))) (name n ∷ []) s
+entity_own enums e i n s = go (members_of enums e)
+  where
+    go : (members : Option (List (List ℕ))) → define_entity members e i n s ≡ enter_by (entity_entry members i n) (LiteralTerm (EntityLiteral e i)) (name n) s
+    go None = refl
+    go (Some ms) = refl
+
+-- behind the lines of its type
+entity_stated : (enums : Enums) (e i : List ℕ) (s : Tables) (o : Option (List ℕ)) → name_of_type s (EntityType e) ≡ o
+    → encode_type enums (EntityType e) s >>= (λ sort v. define_entity (members_of enums e) e i (text_of_name (name_of_type v (EntityType e))) v)
+    ≡ encode_type enums (EntityType e) s >>= λ sort v. own_lines enums (TermMeaning (LiteralTerm (EntityLiteral e i))) (sort ∷ []) v
+entity_stated enums e i s (Some n) is =
+    let own : List ℕ → Tables → Written Expression = λ m v. own_lines enums (TermMeaning (LiteralTerm (EntityLiteral e i))) (name m ∷ []) v in
+    ap (λ w. w >>= λ sort v. define_entity (members_of enums e) e i (text_of_name (name_of_type v (EntityType e))) v) (ap (λ o. unless_named o s (λ u. declare_entity enums e u)) is)
+    ∙ ap (λ o. made_of (name n) s >>= λ sort v. define_entity (members_of enums e) e i (text_of_name o) s) is
+    ∙ ap (λ w. made_of (name n) s >>= λ sort v. w) (entity_own enums e i n s)
+    ∙ sym (ap (λ w. w >>= λ sort v. own_lines enums (TermMeaning (LiteralTerm (EntityLiteral e i))) (sort ∷ []) v) (ap (λ o. unless_named o s (λ u. declare_entity enums e u)) is))
+entity_stated enums e i s None is =
+    let d : Written Expression = declare_entity enums e s in
+    let found : name_of_type d.tables (EntityType e) ≡ Some (next_entity s) = lookup_new (type_eq (EntityType e)) s.types (EntityType e) (next_entity s) ((types_decided (EntityType e) (EntityType e)).1 refl) is in
+    ap (λ w. w >>= λ sort v. define_entity (members_of enums e) e i (text_of_name (name_of_type v (EntityType e))) v) (ap (λ o. unless_named o s (λ u. declare_entity enums e u)) is)
+    ∙ ap (λ o. d >>= λ sort v. define_entity (members_of enums e) e i (text_of_name o) v) found
+    ∙ ap (λ w. d >>= λ sort v. w) (entity_own enums e i (next_entity s) d.tables)
+    ∙ sym (ap (λ w. w >>= λ sort v. own_lines enums (TermMeaning (LiteralTerm (EntityLiteral e i))) (sort ∷ []) v) (ap (λ o. unless_named o s (λ u. declare_entity enums e u)) is))
 
 -- ---- a node that has no text yet
 
 -- the lines of a node are those of its parts, and its own
-pub stated : (enums : Enums) (m : Meaning) (s : Tables) → is_built (label_in m) ≡ true → ((t : PlainTerm) → m ≡ TermMeaning t → name_of_term s t ≡ None)
-    → encode_meaning enums m s ≡ encode_meanings enums (written_parts (rendering_in m) (parts_in m)) s >>= λ es u. own_lines m es u
-stated enums (TypeMeaning (OptionType t)) s h none = sym (one_part (encode_type enums t s) (λ es u. own_lines (TypeMeaning (OptionType t)) es u))
+pub stated : (enums : Enums) (m : Meaning) (s : Tables) → is_built (label_in m) ≡ true → name_in s m ≡ None
+    → encode_meaning enums m s ≡ encode_meanings enums (written_parts (rendering_in m) (parts_in m)) s >>= λ es u. own_lines enums m es u
+stated enums (TypeMeaning (OptionType t)) s h none = sym (one_part (encode_type enums t s) (λ es u. own_lines enums (TypeMeaning (OptionType t)) es u))
 stated enums (TypeMeaning (BitVecType n)) s h none = refl
 stated enums (TypeMeaning BoolType) s h none = refl
+stated enums (TypeMeaning (EntityType e)) s h none = ap (λ n. unless_named n s (λ u. declare_entity enums e u)) none
 stated enums (TypeMeaning StringType) s h none = refl
-stated enums (TypeMeaning (SetType t)) s h none = sym (one_part (encode_type enums t s) (λ es u. own_lines (TypeMeaning (SetType t)) es u))
+stated enums (TypeMeaning (SetType t)) s h none = sym (one_part (encode_type enums t s) (λ es u. own_lines enums (TypeMeaning (SetType t)) es u))
 stated enums (TypeMeaning t) s h none = absurd (false≢true h)
 stated enums (FunctionMeaning f) s h none = absurd (false≢true h)
 stated enums (TermMeaning (Application o ts t)) s h none =
     let b : is_built_op o ≡ true = built_application o ts t h in
     let how : Rendering = application_rendering o ts t in
-    ap (λ n. unless_named n s (λ u. encode_type enums t u >>= λ sort v. define_application enums how o ts t (λ w. encode_terms enums ts w) sort v)) (none (Application o ts t) refl)
+    ap (λ n. unless_named n s (λ u. encode_type enums t u >>= λ sort v. define_application enums how o ts t (λ w. encode_terms enums ts w) sort v)) none
     ∙ application_stated enums how o ts t s b
-    ∙ sym (λ i. encode_meanings enums (written_parts how (TypeMeaning t ∷ parts_of_application o ts t b i)) s >>= λ es u. own_by (label_of_application o ts t b i) how (TermMeaning (Application o ts t)) es u)
+    ∙ sym (λ i. encode_meanings enums (written_parts how (TypeMeaning t ∷ parts_of_application o ts t b i)) s >>= λ es u. own_by enums (label_of_application o ts t b i) how (TermMeaning (Application o ts t)) es u)
 stated enums (TermMeaning (NoneTerm t)) s h none =
-    ap (λ n. unless_named n s (λ u. encode_type enums (OptionType t) u >>= λ sort v. define (NoneTerm t) sort (none_body sort) v)) (none (NoneTerm t) refl)
-    ∙ sym (one_part (encode_type enums (OptionType t) s) (λ es u. own_lines (TermMeaning (NoneTerm t)) es u))
+    ap (λ n. unless_named n s (λ u. encode_type enums (OptionType t) u >>= λ sort v. define (NoneTerm t) sort (none_body sort) v)) none
+    ∙ sym (one_part (encode_type enums (OptionType t) s) (λ es u. own_lines enums (TermMeaning (NoneTerm t)) es u))
 stated enums (TermMeaning (LiteralTerm (BitVecLiteral w a))) s h none = refl
 stated enums (TermMeaning (LiteralTerm (BoolLiteral b))) s h none = refl
+stated enums (TermMeaning (LiteralTerm (EntityLiteral e i))) s h none =
+    ap (λ n. unless_named n s (λ u. encode_type enums (EntityType e) u >>= λ sort v. define_entity (members_of enums e) e i (text_of_name (name_of_type v (EntityType e))) v)) none
+    ∙ entity_stated enums e i s (name_of_type s (EntityType e)) refl
+    ∙ sym (one_part (encode_type enums (EntityType e) s) (λ es u. own_lines enums (TermMeaning (LiteralTerm (EntityLiteral e i))) es u))
 stated enums (TermMeaning (LiteralTerm (StringLiteral x))) s h none = refl
 stated enums (TermMeaning (LiteralTerm l)) s h none = absurd (false≢true h)
 stated enums (TermMeaning (RecordTerm fs)) s h none = absurd (false≢true h)
 stated enums (TermMeaning (SetTerm t ts)) s h none =
     let w : Written Expression = encode_type enums (SetType t) s in
-    let k : List Expression → Tables → Written Expression = λ es u. own_lines (TermMeaning (SetTerm t ts)) es u in
-    ap (λ n. unless_named n s (λ u. encode_type enums (SetType t) u >>= λ sort v. encode_terms enums ts v >>= λ es x. define (SetTerm t ts) sort (set_body sort es) x)) (none (SetTerm t ts) refl)
+    let k : List Expression → Tables → Written Expression = λ es u. own_lines enums (TermMeaning (SetTerm t ts)) es u in
+    ap (λ n. unless_named n s (λ u. encode_type enums (SetType t) u >>= λ sort v. encode_terms enums ts v >>= λ es x. define (SetTerm t ts) sort (set_body sort es) x)) none
     ∙ sym (λ i. w >>= λ sort v. terms_in_order enums ts v i >>= λ es u. k (sort ∷ es) u)
     ∙ sym (typed_parts w (λ u. encode_meanings enums (map TermMeaning (list_of_terms ts)) u) k)
 stated enums (TermMeaning (SomeTerm t)) s h none =
     let w : Written Expression = encode_type enums (OptionType (type_of t)) s in
-    let k : List Expression → Tables → Written Expression = λ es u. own_lines (TermMeaning (SomeTerm t)) es u in
-    ap (λ n. unless_named n s (λ u. encode_type enums (OptionType (type_of t)) u >>= λ sort v. encode_term enums t v >>= λ e x. define (SomeTerm t) sort (some_body e) x)) (none (SomeTerm t) refl)
+    let k : List Expression → Tables → Written Expression = λ es u. own_lines enums (TermMeaning (SomeTerm t)) es u in
+    ap (λ n. unless_named n s (λ u. encode_type enums (OptionType (type_of t)) u >>= λ sort v. encode_term enums t v >>= λ e x. define (SomeTerm t) sort (some_body e) x)) none
     ∙ sym (λ i. w >>= λ sort v. one_part (encode_term enums t v) (λ es u. k (sort ∷ es) u) i)
     ∙ sym (typed_parts w (λ u. encode_meanings enums (TermMeaning t ∷ []) u) k)
 stated enums (TermMeaning (VariableTerm id t)) s h none =
-    ap (λ n. unless_named n s (λ u. encode_type enums t u >>= λ sort v. enter_term (VariableTerm id t) (next_term v) (variable_lines id (next_term v) sort) v)) (none (VariableTerm id t) refl)
-    ∙ sym (one_part (encode_type enums t s) (λ es u. own_lines (TermMeaning (VariableTerm id t)) es u))
+    ap (λ n. unless_named n s (λ u. encode_type enums t u >>= λ sort v. enter_term (VariableTerm id t) (next_term v) (variable_lines id (next_term v) sort) v)) none
+    ∙ sym (one_part (encode_type enums t s) (λ es u. own_lines enums (TermMeaning (VariableTerm id t)) es u))
 
--- ---- a term that has a name
+-- ---- what has a name
 
-pub named_stated : (enums : Enums) (t : PlainTerm) (s : Tables) (n : List ℕ) → has_entry (TermMeaning t) ≡ true → name_of_term s t ≡ Some n → encode_term enums t s ≡ made_of (name n) s
-named_stated enums (Application op ts type) s n h there =
+term_named : (enums : Enums) (t : PlainTerm) (s : Tables) (n : List ℕ) → has_entry (TermMeaning t) ≡ true → name_of_term s t ≡ Some n → encode_term enums t s ≡ made_of (name n) s
+term_named enums (Application op ts type) s n h there =
     ap (λ o. unless_named o s (λ u. encode_type enums type u >>= λ sort v. define_application enums (application_rendering op ts type) op ts type (λ w. encode_terms enums ts w) sort v)) there
-named_stated enums (NoneTerm type) s n h there =
+term_named enums (NoneTerm type) s n h there =
     ap (λ o. unless_named o s (λ u. encode_type enums (OptionType type) u >>= λ sort v. define (NoneTerm type) sort (none_body sort) v)) there
-named_stated enums (LiteralTerm (EntityLiteral e i)) s n h there =
+term_named enums (LiteralTerm (EntityLiteral e i)) s n h there =
     ap (λ o. unless_named o s (λ u. encode_type enums (EntityType e) u >>= λ sort v. define_entity (members_of enums e) e i (text_of_name (name_of_type v (EntityType e))) v)) there
-named_stated enums (LiteralTerm (ExtensionLiteral x)) s n h there =
+term_named enums (LiteralTerm (ExtensionLiteral x)) s n h there =
     ap (λ o. unless_named o s (λ u. encode_type enums (literal_type (ExtensionLiteral x)) u >>= λ sort v. define (LiteralTerm (ExtensionLiteral x)) sort (extension_body x) v)) there
-named_stated enums (LiteralTerm l) s n h there = absurd (false≢true h)
-named_stated enums (RecordTerm fs) s n h there =
+term_named enums (LiteralTerm l) s n h there = absurd (false≢true h)
+term_named enums (RecordTerm fs) s n h there =
     ap (λ o. unless_named o s (λ u. encode_type enums (type_of (RecordTerm fs)) u >>= λ sort v. encode_fields enums fs v >>= λ es w. define (RecordTerm fs) sort (record_body sort es) w)) there
-named_stated enums (SetTerm element ts) s n h there =
+term_named enums (SetTerm element ts) s n h there =
     ap (λ o. unless_named o s (λ u. encode_type enums (SetType element) u >>= λ sort v. encode_terms enums ts v >>= λ es w. define (SetTerm element ts) sort (set_body sort es) w)) there
-named_stated enums (SomeTerm t) s n h there =
+term_named enums (SomeTerm t) s n h there =
     ap (λ o. unless_named o s (λ u. encode_type enums (OptionType (type_of t)) u >>= λ sort v. encode_term enums t v >>= λ e w. define (SomeTerm t) sort (some_body e) w)) there
-named_stated enums (VariableTerm id type) s n h there =
+term_named enums (VariableTerm id type) s n h there =
     ap (λ o. unless_named o s (λ u. encode_type enums type u >>= λ sort w. enter_term (VariableTerm id type) (next_term w) (variable_lines id (next_term w) sort) w)) there
+
+type_named : (enums : Enums) (t : PlainType) (s : Tables) (n : List ℕ) → has_entry (TypeMeaning t) ≡ true → name_of_type s t ≡ Some n → encode_type enums t s ≡ made_of (name n) s
+type_named enums (EntityType e) s n h there = ap (λ o. unless_named o s (λ u. declare_entity enums e u)) there
+type_named enums (ExtensionType k) s n h there = ap (λ o. unless_named o s (λ u. declare_kind k u)) there
+type_named enums (RecordType x) s n h there = ap (λ o. unless_named o s (λ u. encode_attributes enums x u >>= λ sorts v. declare_record x sorts v)) there
+type_named enums t s n h there = absurd (false≢true h)
+
+pub named_stated : (enums : Enums) (m : Meaning) (s : Tables) (n : List ℕ) → has_entry m ≡ true → name_in s m ≡ Some n → encode_meaning enums m s ≡ made_of (name n) s
+named_stated enums (TypeMeaning t) s n h there = type_named enums t s n h there
+named_stated enums (FunctionMeaning f) s n h there =
+    ap (λ o. unless_named o s (λ u. behind (function_heading f.id) (encode_type enums f.argument u >>= λ argument v. encode_type enums f.output v >>= λ output w. enter_function f (next_function w) (function_declaration (next_function w) argument output) w))) there
+named_stated enums (TermMeaning t) s n h there = term_named enums t s n h there

@@ -4,59 +4,50 @@ use Rattle.std.specs.Prelude.{option_map}
 use Rattle.std.specs.Rc.{rc_str_bytes}
 use Rattle.std.specs.declared.alloc.Global.{Global}
 use Rattle.std.specs.declared.rc.RcStr.{RcStr}
-use Rattle.std.proofs.lemmas.Bool.{false≢true}
 use Rattle.smt_lexicon.specs.Reading.{Expression}
 use Rattle.smt_semantics.specs.Script.{name}
-use Rattle.smt_meaning.specs.Plain.{EntityType, ExtensionType, RecordType, PlainTerm}
 use Rattle.smt_graph.specs.Meanings.{all_found, found, meanings}
-use Rattle.smt_graph.specs.Nodes.{Meaning, TypeMeaning, FunctionMeaning, TermMeaning}
-use Rattle.smt_graph.specs.Parts.{label_in}
+use Rattle.smt_graph.specs.Nodes.{Meaning}
 use Rattle.smt_graph.proofs.Places.{map_back, then_back, some_same}
 use Rattle.smt_nodes.specs.Interned.{meaning_in, nodes_of}
 use Rattle.smt_nodes.specs.View.{place_of, places_of}
 use Rattle.smt_nodes.specs.declared.id.NodeId.{NodeId}
 use Rattle.smt_lines.specs.Lines.{Enums, made_of, ◌>>=◌}
-use Rattle.smt_lines.specs.NameTables.{Tables, name_of_term}
-use Rattle.smt_encode.specs.Entries.{is_built}
+use Rattle.smt_lines.specs.NameTables.{Tables}
 use Rattle.smt_encode.specs.Names.{enums_under, KeepTables}
-use Rattle.smt_encode.specs.NodeLines.{encode_meaning, encode_meanings, has_entry}
+use Rattle.smt_encode.specs.NodeLines.{encode_meaning, encode_meanings, has_entry, name_in}
 use Rattle.smt_encode.specs.NodeTexts.{text_at, AreTexts, HasName, IsText}
-use Rattle.smt_encode.specs.Steps.{AreSpelled, HasTables, IsSpelled, Wrote}
+use Rattle.smt_encode.specs.Steps.{HasTables, Wrote}
+use Rattle.smt_spelling.specs.Spelled.{AreSpelled, IsSpelled}
 use Rattle.smt_encode.specs.declared.writer.Writer.{Writer}
 use Rattle.smt_encode.specs.declared.names.Names.{Names}
-use Rattle.smt_encode.proofs.Built.{built_meaning}
 use Rattle.smt_encode.proofs.Lines.{nothing_written}
 use Rattle.smt_encode.proofs.Named.{named_at, one_id}
 use Rattle.smt_encode.proofs.Stated.{named_stated}
 
 -- a text that is kept
 pub kept_text : (n : Names) (s : Tables) → KeepTables n s → (id : NodeId) (m : Meaning) (x : List ℕ) → meaning_in n.nodes id ≡ Some m → text_at n.texts id ≡ Some x → IsText (enums_under n) s m x
-kept_text n s are id m x meant there = go m meant (built_meaning n.nodes id m meant) (has_entry m) refl
+kept_text n s are id m x meant there = go (has_entry m) refl
   where
-    go : (m : Meaning) → meaning_in n.nodes id ≡ Some m → is_built (label_in m) ≡ true → (b : Bool) → has_entry m ≡ b → IsText (enums_under n) s m x
-    go m meant built false e = are.inline id m x meant e there
-    go (TermMeaning t) meant built true e = (name x, named_stated (enums_under n) t s x e (sym (named_at n.nodes n.texts t (name_of_term s t) id (are.terms t) meant e) ∙ there), refl)
-    go (FunctionMeaning f) meant built true e = absurd (false≢true built)
-    go (TypeMeaning (EntityType t)) meant built true e = absurd (false≢true built)
-    go (TypeMeaning (ExtensionType t)) meant built true e = absurd (false≢true built)
-    go (TypeMeaning (RecordType t)) meant built true e = absurd (false≢true built)
-    go (TypeMeaning t) meant built true e = absurd (false≢true e)
+    go : (b : Bool) → has_entry m ≡ b → IsText (enums_under n) s m x
+    go false e = are.inline id m x meant e there
+    go true e = (name x, named_stated (enums_under n) m s x e (sym (named_at n.nodes n.texts m (name_in s m) id (are.names m) meant e) ∙ there), refl)
 
 -- the texts that are kept are those of the tables
 pub are_texts : (n : Names) (s : Tables) (enums : Enums) → enums_under n ≡ enums → KeepTables n s → AreTexts enums s n.nodes n.texts
 are_texts n s enums same are = record {
-  named = λ id t meant entry. named_at n.nodes n.texts t (name_of_term s t) id (are.terms t) meant entry;
+  named = λ id m meant entry. named_at n.nodes n.texts m (name_in s m) id (are.names m) meant entry;
   stated = λ id m x meant there. subst (λ (e : Enums). IsText e s m x) same (kept_text n s are id m x meant there);
 }
 
--- a node without a text has no name
-pub unnamed : (n : Names) (s : Tables) → KeepTables n s → (id : NodeId) (m : Meaning) → meaning_in n.nodes id ≡ Some m → text_at n.texts id ≡ None → (t : PlainTerm) → m ≡ TermMeaning t → name_of_term s t ≡ None
-unnamed n s are id m meant none t is = go (name_of_term s t) (are.terms t)
+-- what a node without a text stands for has no name
+pub unnamed : (n : Names) (s : Tables) → KeepTables n s → (id : NodeId) (m : Meaning) → meaning_in n.nodes id ≡ Some m → text_at n.texts id ≡ None → name_in s m ≡ None
+unnamed n s are id m meant none = go (name_in s m) (are.names m)
   where
-    go : (o : Option (List ℕ)) → HasName n.nodes n.texts t o → o ≡ None
+    go : (o : Option (List ℕ)) → HasName n.nodes n.texts m o → o ≡ None
     go None h = refl
     go (Some x) (other, h, entry, there) =
-        let same : id ≡ other = one_id n.nodes id other (TermMeaning t) (meant ∙ ap Some is) h in
+        let same : id ≡ other = one_id n.nodes id other m meant h in
         let both : text_at n.texts other ≡ None = ap (text_at n.texts) (sym same) ∙ none in
         absurd cc
 

@@ -3,6 +3,7 @@ use Rattle.std.specs.Prelude.{ℕ, ◌≡◌, ◌≤◌, ◌↔◌, List, ◌++�
 use Rattle.std.specs.Io.KnownBytes.{append_known}
 use Rattle.smt_meaning.specs.Plain.{PlainTerm}
 use Rattle.smt_meaning.specs.TypeValues.{Enums}
+use Rattle.smt_graph.specs.Nodes.{TermMeaning}
 use Rattle.smt_lines.specs.NameTables.{Tables}
 use Rattle.smt_lines.specs.Text as stated
 use Rattle.smt_nodes.specs.declared.interner.Interner.{Interner}
@@ -34,7 +35,7 @@ texts_in e = texts_under e.writer.names
 
 -- The encoder has this name for a term, or none.
 abbrev pub IsNameOf : {S : Type 0} → Encoder S → PlainTerm → Option (List ℕ) → Type 0
-IsNameOf e t name = HasName (nodes_in e) (texts_in e) t name
+IsNameOf e t name = HasName (nodes_in e) (texts_in e) (TermMeaning t) name
 
 -- The encoder's names are these tables.
 abbrev pub HasNames : {S : Type 0} → Encoder S → Tables → Type 0

@@ -2,9 +2,9 @@
 use Rattle.smt_script.specs.declared.sink.SinkError.{SinkError}
 use Rattle.smt_script.specs.declared.sink.SinkError.TheVariants.{Fault, Memory as NoRoom}
 use Rattle.smt_encode.specs.declared.error.EncodeError.{EncodeError}
-use Rattle.smt_encode.specs.declared.error.EncodeError.TheVariants.{Io, EncodeStringFailed, EncodePatternFailed, Memory}
-use Rattle.smt_encode.specs.declared.error.TextError.{TextError}
-use Rattle.smt_encode.specs.declared.error.TextError.TheVariants.{StringFailed, PatternFailed, Memory as NoMemory}
+use Rattle.smt_encode.specs.declared.error.EncodeError.TheVariants.{Io, EmptyEnum, EncodeStringFailed, EncodePatternFailed, EnumMissingMember, Memory}
+use Rattle.smt_spelling.specs.declared.error.TextError.{TextError}
+use Rattle.smt_spelling.specs.declared.error.TextError.TheVariants.{MissingMember, StringFailed, PatternFailed, EmptyEnum as NoMembers, Memory as NoMemory}
 use Rattle.smt_encode.specs.declared.error.WriteError.{WriteError}
 use Rattle.smt_encode.specs.declared.error.WriteError.TheVariants.{Sink, Text}
 
@@ -13,10 +13,12 @@ abbrev pub refusal_at : SinkError → EncodeError
 refusal_at Fault = Io
 refusal_at NoRoom = Memory
 
--- a term without a text
+-- a term or a type without a text
 abbrev pub refusal_of : TextError → EncodeError
+refusal_of (MissingMember entity) = EnumMissingMember entity
 refusal_of (StringFailed text) = EncodeStringFailed text
 refusal_of (PatternFailed pattern) = EncodePatternFailed pattern
+refusal_of (NoMembers ety) = EmptyEnum ety
 refusal_of NoMemory = Memory
 
 -- terms that were not written

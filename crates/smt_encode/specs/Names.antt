@@ -1,14 +1,13 @@
 -- The tables of names that the texts of nodes are.
 use Rattle.std.specs.Prelude.{ℕ, ◌≡◌, false, List, [], Some, length}
-use Rattle.smt_meaning.specs.Plain.{PlainTerm}
 use Rattle.smt_meaning.specs.TypeValues.{Enums}
-use Rattle.smt_term.specs.Enums.{enums_of}
+use Rattle.smt_leaves.specs.Enums.{enums_of}
 use Rattle.smt_graph.specs.Nodes.{Meaning}
 use Rattle.smt_nodes.specs.Interned.{meaning_in, nodes_of}
 use Rattle.smt_nodes.specs.declared.id.NodeId.{NodeId}
 use Rattle.smt_nodes.specs.declared.interner.Interner.{Interner}
-use Rattle.smt_lines.specs.NameTables.{Tables, name_of_term}
-use Rattle.smt_encode.specs.NodeLines.{has_entry}
+use Rattle.smt_lines.specs.NameTables.{Tables}
+use Rattle.smt_encode.specs.NodeLines.{has_entry, name_in}
 use Rattle.smt_encode.specs.NodeTexts.{text_at, HasName, IsText}
 use Rattle.smt_encode.specs.declared.names.Names.{Names}
 use Rattle.smt_encode.specs.declared.node_names.NodeNames.{NodeNames}
@@ -23,19 +22,19 @@ nodes_under n = n.nodes
 abbrev pub texts_under : Names → NodeNames
 texts_under n = n.texts
 
--- The names are these tables: each term has the name that it has there, and there are as many. Types and functions have no names yet.
+-- The names are these tables: each type and each term has the name that it has there, and there are as many. Functions have no names yet.
 pub record AreTables (n : Names) (s : Tables) : Type 0 where
-  pub terms : (t : PlainTerm) → HasName n.nodes n.texts t (name_of_term s t)
-  pub count : n.texts.named ≡ length s.terms
-  pub types : s.types ≡ []
+  pub names : (m : Meaning) → HasName n.nodes n.texts m (name_in s m)
+  pub terms : n.texts.terms ≡ length s.terms
+  pub types : n.texts.types ≡ length s.types
   pub functions : s.functions ≡ []
 
 -- The same, and what has no entry has its stated text.
 pub record KeepTables (n : Names) (s : Tables) : Type 0 where
-  pub terms : (t : PlainTerm) → HasName n.nodes n.texts t (name_of_term s t)
+  pub names : (m : Meaning) → HasName n.nodes n.texts m (name_in s m)
   pub inline : (id : NodeId) (m : Meaning) (text : List ℕ) → meaning_in n.nodes id ≡ Some m → has_entry m ≡ false → text_at n.texts id ≡ Some text → IsText (enums_under n) s m text
-  pub count : n.texts.named ≡ length s.terms
-  pub types : s.types ≡ []
+  pub terms : n.texts.terms ≡ length s.terms
+  pub types : n.texts.types ≡ length s.types
   pub functions : s.functions ≡ []
 
 -- Each node has room for its text.

@@ -1,12 +1,24 @@
 -- The stated lines and the faults of what nodes stand for.
-use Rattle.std.specs.Prelude.{Bool, true, false, List, [], ◌∷◌, Option, None}
+use Rattle.std.specs.Prelude.{ℕ, Bool, true, false, List, [], ◌∷◌, ◌++◌, Option, None}
 use Rattle.std.specs.Option.{option_or}
 use Rattle.smt_meaning.specs.Faults.{Fault, term_fault, type_fault}
 use Rattle.smt_meaning.specs.Plain.{EntityType, ExtensionType, RecordType, PlainLiteral, EntityLiteral, ExtensionLiteral, LiteralTerm}
 use Rattle.smt_graph.specs.Nodes.{Meaning, TypeMeaning, FunctionMeaning, TermMeaning}
 use Rattle.smt_lexicon.specs.Reading.{Expression}
 use Rattle.smt_lines.specs.Lines.{Enums, Written, encode_function, encode_term, encode_type, made_of, ◌>>=◌}
-use Rattle.smt_lines.specs.NameTables.{Tables}
+use Rattle.smt_lines.specs.NameTables.{Tables, name_of_function, name_of_term, name_of_type}
+
+-- the name that tables have for a type, a function or a term
+abbrev pub name_in : Tables → Meaning → Option (List ℕ)
+name_in s (TypeMeaning t) = name_of_type s t
+name_in s (FunctionMeaning f) = name_of_function s f
+name_in s (TermMeaning t) = name_of_term s t
+
+-- the tables with one name more, behind the others of its kind
+abbrev pub with_name : Tables → Meaning → (name : List ℕ) → Tables
+with_name s (TypeMeaning t) n = record s { types = s.types ++ (t, n) ∷ [] }
+with_name s (FunctionMeaning f) n = record s { functions = s.functions ++ (f, n) ∷ [] }
+with_name s (TermMeaning t) n = record s { terms = s.terms ++ (t, n) ∷ [] }
 
 -- the lines of a type, a function or a term, and of several in order
 abbrev pub encode_meaning : Enums → Meaning → Tables → Written Expression

@@ -1,14 +1,9 @@
 -- What the calls of a writer leave: lines that the sink got, and the names afterwards.
-use Rattle.std.specs.Prelude.{ℕ, ◌≡◌, ◌≤◌, Bool, List, Option, Some, Result, IfOk, OnOk, IsErrOf, map}
+use Rattle.std.specs.Prelude.{ℕ, ◌≡◌, ◌≤◌, Bool, List, Option, Some, Result, IfOk, OnOk, IsErrOf}
 use Rattle.std.specs.Io.KnownBytes.{append_known}
-use Rattle.std.specs.Rc.{rc_str_bytes}
-use Rattle.std.specs.declared.alloc.Global.{Global}
-use Rattle.std.specs.declared.rc.RcStr.{RcStr}
-use Rattle.smt_lexicon.specs.Reading.{Expression}
 use Rattle.smt_lines.specs.Line.{Line, spelled_lines}
 use Rattle.smt_lines.specs.Lines.{Written}
 use Rattle.smt_lines.specs.NameTables.{Tables}
-use Rattle.smt_lines.specs.Spelling.{spelled}
 use Rattle.smt_script.specs.Sink.{Rose}
 use Rattle.smt_nodes.specs.View.{place_of}
 use Rattle.smt_nodes.specs.declared.id.NodeId.{NodeId}
@@ -20,14 +15,6 @@ use Rattle.smt_encode.specs.declared.writer.Writer.{Writer}
 -- The texts of a writer are those of these tables.
 abbrev pub HasTables : {S : Type 0} → Writer S → Tables → Type 0
 HasTables w s = KeepTables w.names s
-
--- a text is the spelling of an expression
-abbrev pub IsSpelled : Expression → RcStr Global → Type 0
-IsSpelled expression text = rc_str_bytes text ≡ spelled expression
-
--- texts are the spellings of expressions, in order
-abbrev pub AreSpelled : List Expression → List (RcStr Global) → Type 0
-AreSpelled es texts = map rc_str_bytes texts ≡ map spelled es
 
 -- The sink got these lines, and the writer has the names of these tables.
 pub record Wrote {S : Type 0} (contents : S → Option (List ℕ)) (old new : Writer S) (lines : List Line) (tables : Tables) : Type 0 where

@@ -1,12 +1,12 @@
 // The encoder, from terms to the lines of a script.
 ghost use Rattle.std.specs.Prelude.{ℕ, List, ◌≡◌, ◌≤◌, ◌+◌, ◌||◌, Bool, IsTrue, false, length, OnOk, map, option_map};
 ghost use Rattle.std.specs.Rc.{rc_str_bytes};
-ghost use Rattle.smt_term.specs.Enums.{enums_of};
+ghost use Rattle.smt_leaves.specs.Enums.{enums_of};
 ghost use Rattle.smt_meaning.specs.Faults.{first_fault};
 ghost use Rattle.smt_meaning.specs.Plain.{PlainTerm};
 ghost use Rattle.smt_meaning.specs.Typing.{AreBoolean, AreTyped};
 ghost use Rattle.smt_term.specs.View.{plain_term};
-ghost use Rattle.smt_lines.specs.NameTables.{no_names};
+ghost use Rattle.smt_lines.specs.NameTables.{Tables, no_names};
 ghost use Rattle.smt_lines.specs.Text.{names, text};
 ghost use Rattle.smt_headline.specs.Headline.{Headline};
 ghost use Rattle.smt_encode.specs.Complete.{AreWritten};
@@ -102,11 +102,52 @@ impl<'a, S> Encoder<'a, S> {
         &self.writer.names.texts
     }
 
+    /// How many terms have names. Takes no memory.
+    pub fn term_count(&self) -> usize
+        ensures { (s : Tables) → HasNames self.now s → result ≡ length s.terms }
+    {
+        self.writer.names.texts.terms
+    }
+
     /// The sink that it held, with what was put to it, also after an error.
     pub fn into_script(self) -> S
         ensures { result ≡ sink_of self.entry }
     {
         self.writer.script
+    }
+}
+
+impl<'a, S: Drop> Encoder<'a, S> {
+    ghost use Rattle.smt_encode.specs.Encoded.{enums_in, is_spent, nodes_in, texts_in, HasNames};
+
+    /// The same encoder without its sink, for its names alone. Takes no memory.
+    pub fn finalize(self) -> Encoder<'a, ()>
+        ensures names { (s : Tables) → HasNames self.entry s → HasNames result s }
+        ensures nodes { nodes_in result ≡ nodes_in self.entry }
+        ensures texts { texts_in result ≡ texts_in self.entry }
+        ensures enums { enums_in result ≡ enums_in self.entry }
+        ensures spent { is_spent result ≡ is_spent self.entry }
+    {
+        let Encoder {
+            writer,
+            begun,
+            failed,
+        } = self;
+        let Writer {
+            alloc,
+            names,
+            script,
+        } = writer;
+        drop(script);
+        Encoder {
+            writer: Writer {
+                alloc,
+                names,
+                script: (),
+            },
+            begun,
+            failed,
+        }
     }
 }
 
@@ -116,14 +157,16 @@ impl<S: Sink> Encoder<'_, S> {
     /// Writes the script of these terms: the declaration of the datatype `Option`, what the terms need, and an
     /// assertion for each term, in order (commands of SMT-LIB 2.7, chapter 3, Scripts).
     ///
-    /// What a term needs are the lines of its parts and then its own: `; "id"` and `(declare-const t0 S)` for a
-    /// variable, `(define-fun t0 () S BODY)` for another term that has no inline text, where `t0` is its name and `S`
-    /// its sort. An overflow test of the negation of what is no bitvector is named `false`, without a line. A term that
-    /// has a name already is not written again. A term's assertion is `(assert TEXT)`, where `TEXT` is its name or, of a
+    /// What a term needs are the lines of its type, those of its parts and then its own: `; "id"` and
+    /// `(declare-const t0 S)` for a variable, `(define-fun t0 () S BODY)` for another term that has no inline text, where
+    /// `t0` is its name and `S` its sort. An entity of an enum type is named by a constructor, and an overflow test of the
+    /// negation of what is no bitvector is named `false`, both without a line. An entity type has a comment and
+    /// `(declare-datatype E0 ..)`. A type or a term that has a name already is not written again. A term's assertion is `(assert TEXT)`, where `TEXT` is its name or, of a
     /// literal, its inline text.
     ///
     /// An encoder that answers Ok had not written before. It has put exactly the stated text then, and has its names, and
-    /// each node that it wrote has its stated text: a term's name, or what stands inline for a type or a literal
+    /// each node that it wrote has its stated text: the name of a term or an entity type, or what stands inline for another
+    /// type or a literal
     /// (`stated`). For Boolean terms `headline` says what the bytes mean that the sink got in this call, by the names that
     /// the encoder has then: they are a script by the grammar of SMT-LIB 2.7, each name is declared once and before its
     /// use, the assertions are the terms' texts in order, and the models are exactly the interpretations that make all
@@ -134,10 +177,10 @@ impl<S: Sink> Encoder<'_, S> {
     ///
     /// `Spent` comes exactly from an encoder that has encoded before or refused before, and leaves it as it is. `Io`
     /// comes only where the sink's count of faults rose in this call, or stands at its last value.
-    /// `EncodeStringFailed` and `EncodePatternFailed` come only where this is the first fault of the terms, from left
-    /// to right and a term's parts before the term; where the terms have a fault, the answer is never Ok. `Memory`
-    /// may come from any encoder that is not spent, where there is no memory left. Each of the four spends the encoder
-    /// and says nothing of what the sink got.
+    /// `EmptyEnum`, `EnumMissingMember`, `EncodeStringFailed` and `EncodePatternFailed` come only where this is the first
+    /// fault of the terms, from left to right, a term's type before its parts and these before the term; where the terms
+    /// have a fault, the answer is never Ok. `Memory` may come from any encoder that is not spent, where there is no memory
+    /// left. Each of these six spends the encoder and says nothing of what the sink got.
     pub fn encode(&mut self, terms: &[Term]) -> Result<(), EncodeError>
         ensures stated { OnOk result (WroteText S.contents self.old self.new (map plain_term terms.now)) }
         ensures headline { AreBoolean (map plain_term terms.now) → OnOk result (OfReceived (S.contents (sink_of self.old)) (S.contents (sink_of self.new)) (λ bytes. OfNames self.new (λ names. Headline (enums_in self.old) names (map plain_term terms.now) bytes))) }

@@ -1,76 +1,28 @@
 // How nodes are entered: the text of what has no entry, and an entry's own lines.
 ghost use Rattle.std.specs.Prelude.{◌≡◌, List, IfOk, IsTrue, Some, is_some, length, nat_eq};
 ghost use Rattle.smt_encode.specs.Entries as stated;
-ghost use Rattle.smt_encode.specs.Entries.{entry_by, entry_fault, has_inline, inline_by, inline_fault, is_entered, string_fault, IsLiteralText, SaysEntry, SaysInline};
-ghost use Rattle.smt_encode.specs.Steps.{AreSpelled};
+ghost use Rattle.smt_encode.specs.Entries.{entry_by, entry_fault, has_inline, inline_by, inline_fault, is_entered, is_entered_literal, literal_entry_fault};
+ghost use Rattle.smt_spelling.specs.Entries.{SaysEntry, SaysInline};
+ghost use Rattle.smt_spelling.specs.Spelled.{AreSpelled};
 ghost use Rattle.smt_encode.specs.Renderings.{plain_rendering};
-ghost use Rattle.smt_encode.specs.Refusals.{text_fault, Finds};
+ghost use Rattle.smt_spelling.specs.TextFaults.{text_fault, Finds};
 ghost use Rattle.smt_lexicon.specs.Reading.{Expression};
+ghost use Rattle.smt_lines.specs.Lines.{Enums};
 ghost use Rattle.smt_lines.specs.Spelling.{spelled};
 ghost use Rattle.smt_graph.specs.Nodes.{ApplicationLabel, OptionLabel, SetLabel};
 ghost use Rattle.smt_nodes.specs.View.{plain_label};
-ghost use Rattle.smt_script.specs.Sink.{Puts};
+ghost use Rattle.smt_leaves.specs.Enums.{enums_of};
 ghost use Rattle.smt_term.specs.View.{plain_literal, plain_op};
 
-use crate::error::TextError;
-use crate::rendering::{Rendering, application_body, least_body};
-use crate::spell::{
-    as_text, bits_literal, bits_sort, option_sort, set_sort, set_text, some_text, string_literal,
-};
+use crate::rendering::Rendering;
 use smt_nodes::Label;
-use smt_script::{Sink, SinkError, SmtLibScript};
-use smt_term::{Op, TermPrim, Text};
+use smt_spelling::{
+    Entry, TextError, application_body, as_text, bits_sort, entity_entry, least_body, literal_text,
+    option_sort, set_sort, set_text, some_text,
+};
+use smt_term::{EnumTable, Op, TermPrim, Text};
 use smt_text::quote_id;
 use std::alloc::{AllocError, Global};
-
-/// How a term that has no name yet is entered.
-#[derive(Drop)]
-pub(crate) enum Entry {
-    /// As a constant that is declared behind this comment.
-    Constant(String),
-    /// By a definition with this body.
-    Body(String),
-    /// Under the name `false`, without a line.
-    False,
-}
-
-impl Entry {
-    ghost use Rattle.smt_encode.specs.Entries.{entry_bytes};
-
-    /// Puts its lines.
-    pub(crate) fn put<S: Sink>(
-        &self,
-        script: &mut S,
-        name: &str,
-        sort: &str,
-    ) -> Result<(), SinkError>
-        ensures { Puts S.contents S.faults S.has_room S.place script.old script.new (entry_bytes self.now name.now sort.now) result }
-    {
-        match self {
-            Entry::Constant(comment) => {
-                script.comment(comment.as_str())?;
-                script.declare_const(name, sort)
-            }
-            Entry::Body(body) => script.define_fun(name, &[], sort, body.as_str()),
-            Entry::False => Ok(()),
-        }
-    }
-}
-
-/// The text of a literal, or its refusal.
-fn literal_text(alloc: Global, literal: &TermPrim) -> Result<Text, TextError>
-    ensures text { IfOk result (λ text. IsLiteralText (plain_literal literal.now) text) }
-    ensures fault { Finds text_fault (string_fault (plain_literal literal.now)) result }
-{
-    match literal {
-        TermPrim::Bitvec(bits) => Ok(bits_literal(alloc, bits)?),
-        TermPrim::Bool(truth) => {
-            let text = if *truth { "true" } else { "false" };
-            Ok(Text::from_str(alloc, text)?)
-        }
-        TermPrim::String(text) => string_literal(alloc, text),
-    }
-}
 
 /// The sort of options of the one sort, None where there are more or less than one.
 fn option_text(alloc: Global, parts: &[Text]) -> Result<Option<Text>, AllocError>
@@ -94,7 +46,7 @@ fn set_sort_text(alloc: Global, parts: &[Text]) -> Result<Option<Text>, AllocErr
     }
 }
 
-/// The text of a type or a literal, by the texts of its parts; None of a term that gets a name.
+/// The text of a type or a literal, by the texts of its parts; None of what gets a name.
 pub(crate) fn inline_text(
     alloc: Global,
     label: &Label,
@@ -108,9 +60,10 @@ pub(crate) fn inline_text(
         Label::TOption => Ok(option_text(alloc, parts)?),
         Label::TBitvec(width) => Ok(Some(bits_sort(alloc, *width)?)),
         Label::TBool => Ok(Some(Text::from_str(alloc, "Bool")?)),
+        Label::TEntity(_) => Ok(None),
         Label::TString => Ok(Some(Text::from_str(alloc, "String")?)),
         Label::TSet => Ok(set_sort_text(alloc, parts)?),
-        Label::Prim(literal) => Ok(Some(literal_text(alloc, literal)?)),
+        Label::Prim(literal) => literal_text(alloc, literal),
         Label::App(_) | Label::NoneOf | Label::SetOf | Label::SomeOf | Label::Var(_) => Ok(None),
     }
 }
@@ -123,30 +76,52 @@ fn application_entry(
     operands: Vec<Text>,
 ) -> Result<Entry, TextError>
     ensures text { (es : List Expression) → AreSpelled es operands.items → IfOk result (SaysEntry (stated.application_entry (plain_rendering rendering) (plain_op op.now) es)) }
-    ensures fault { Finds text_fault (entry_fault (ApplicationLabel (plain_op op.now)) (plain_rendering rendering)) result }
+    ensures fault { (enums : Enums) → Finds text_fault (entry_fault enums (ApplicationLabel (plain_op op.now)) (plain_rendering rendering)) result }
 {
     match rendering {
         Rendering::Application => Ok(Entry::Body(application_body(alloc, op, operands)?)),
         Rendering::EqualsIntMin(width) => Ok(Entry::Body(least_body(alloc, width, operands)?)),
-        Rendering::False => Ok(Entry::False),
+        Rendering::False => Ok(Entry::Name(Text::from_str(alloc, "false")?)),
+    }
+}
+
+/// How a literal is entered that gets a name, by its sort.
+fn literal_entry(
+    alloc: Global,
+    enums: &EnumTable,
+    literal: &TermPrim,
+    sort: &str,
+) -> Result<Entry, TextError>
+    requires { IsTrue (is_entered_literal (plain_literal literal.now)) }
+    ensures text { (e : Expression) → sort.now ≡ spelled e → IfOk result (SaysEntry (stated.literal_entry (enums_of enums.now) (plain_literal literal.now) e)) }
+    ensures fault { Finds text_fault (literal_entry_fault (enums_of enums.now) (plain_literal literal.now)) result }
+{
+    match literal {
+        TermPrim::Entity(entity) => {
+            entity_entry(alloc, enums.members_of(&entity.ety), entity, sort)
+        }
+        // These have their own text.
+        TermPrim::Bitvec(_) | TermPrim::Bool(_) | TermPrim::String(_) => unreachable!(),
     }
 }
 
 /// How a term is entered that gets a name, by its sort and the texts of its other parts.
 pub(crate) fn entry_from(
     alloc: Global,
+    enums: &EnumTable,
     label: &Label,
     rendering: Rendering,
     sort: &str,
     operands: Vec<Text>,
 ) -> Result<Entry, TextError>
     requires { IsTrue (is_entered (plain_label label.now)) }
-    ensures text { (e : Expression) (es : List Expression) → sort.now ≡ spelled e → AreSpelled es operands.items → IfOk result (SaysEntry (entry_by (plain_label label.now) (plain_rendering rendering) e es)) }
-    ensures fault { Finds text_fault (entry_fault (plain_label label.now) (plain_rendering rendering)) result }
+    ensures text { (e : Expression) (es : List Expression) → sort.now ≡ spelled e → AreSpelled es operands.items → IfOk result (SaysEntry (entry_by (enums_of enums.now) (plain_label label.now) (plain_rendering rendering) e es)) }
+    ensures fault { Finds text_fault (entry_fault (enums_of enums.now) (plain_label label.now) (plain_rendering rendering)) result }
 {
     match label {
         Label::App(op) => application_entry(alloc, op, rendering, operands),
         Label::NoneOf => Ok(Entry::Body(as_text(alloc, "none", sort)?)),
+        Label::Prim(literal) => literal_entry(alloc, enums, literal, sort),
         Label::SetOf => Ok(Entry::Body(set_text(alloc, sort, operands)?)),
         Label::SomeOf => Ok(Entry::Body(some_text(alloc, operands.as_slice())?)),
         Label::Var(id) => Ok(Entry::Constant(quote_id(alloc, id.as_str())?)),
@@ -154,8 +129,8 @@ pub(crate) fn entry_from(
         Label::TOption
         | Label::TBitvec(_)
         | Label::TBool
+        | Label::TEntity(_)
         | Label::TString
-        | Label::TSet
-        | Label::Prim(_) => unreachable!(),
+        | Label::TSet => unreachable!(),
     }
 }

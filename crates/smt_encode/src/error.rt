@@ -2,12 +2,10 @@
 ghost use Rattle.std.specs.Prelude.{◌≡◌};
 
 use smt_script::SinkError;
-use smt_term::{OrdPattern, TermError, Text};
+use smt_spelling::TextError;
+use smt_term::{EntityType, EntityUID, OrdPattern, TermError, Text};
 use std::alloc::{AllocError, AllocFailed};
 use thiserror::Error;
-
-/// The greatest code point of a character in a string of SMT-LIB 2.7 (theory UnicodeStrings).
-pub const SMT_LIB_MAX_CODE_POINT: u32 = 196607;
 
 /// Why a call of an encoder did not write its lines.
 #[derive(Debug, PartialEq, Eq, Drop, Error)]
@@ -15,28 +13,23 @@ pub enum EncodeError {
     /// The sink failed, which its count of faults shows.
     #[error("the sink of the script failed")]
     Io,
-    /// This string literal has a character above `SMT_LIB_MAX_CODE_POINT`.
+    /// This entity is of an enum type, and no member of it.
+    #[error("an entity of an enum type is no member of it")]
+    EnumMissingMember(EntityUID),
+    /// This string literal, or this id of an entity, has a character above `SMT_LIB_MAX_CODE_POINT`.
     #[error("a string has a character above U+2FFFF")]
     EncodeStringFailed(Text),
     /// This pattern has a character above `SMT_LIB_MAX_CODE_POINT`.
     #[error("a pattern has a character above U+2FFFF")]
     EncodePatternFailed(OrdPattern),
+    /// This enum type has no members, so its terms have no values.
+    #[error("an enum type has no members")]
+    EmptyEnum(EntityType),
     /// An earlier call of this encoder refused, or it has encoded its terms already.
     #[error("the encoder is spent")]
     Spent,
     /// There was no memory for a text, a name, an entry or, in the sink, for a line.
     #[error("out of memory for the script")]
-    Memory,
-}
-
-/// Why there is no text of a literal or an application.
-#[derive(Drop)]
-pub(crate) enum TextError {
-    /// This string literal has a character above `SMT_LIB_MAX_CODE_POINT`.
-    StringFailed(Text),
-    /// This pattern has a character above `SMT_LIB_MAX_CODE_POINT`.
-    PatternFailed(OrdPattern),
-    /// There was no memory.
     Memory,
 }
 
@@ -58,12 +51,16 @@ impl From<WriteError> for EncodeError {
     fn from(error: WriteError) -> EncodeError {
         match error {
             WriteError::Sink(error) => EncodeError::from(error),
+            WriteError::Text(TextError::MissingMember(entity)) => {
+                EncodeError::EnumMissingMember(entity)
+            }
             WriteError::Text(TextError::StringFailed(text)) => {
                 EncodeError::EncodeStringFailed(text)
             }
             WriteError::Text(TextError::PatternFailed(pattern)) => {
                 EncodeError::EncodePatternFailed(pattern)
             }
+            WriteError::Text(TextError::EmptyEnum(ety)) => EncodeError::EmptyEnum(ety),
             WriteError::Text(TextError::Memory) => EncodeError::Memory,
         }
     }
@@ -140,33 +137,9 @@ impl From<TextError> for WriteError {
     }
 }
 
-impl From<AllocError> for TextError {
-    ghost use Rattle.std.specs.Prelude.{◌≡◌};
-    ghost use Rattle.smt_encode.specs.declared.error.TextError.TheVariants.{Memory};
-
-    ghost from_gives = { λ _ error. error ≡ Memory };
-
-    fn from(_error: AllocError) -> TextError {
-        TextError::Memory
-    }
-}
-
-impl From<TermError> for TextError {
-    ghost use Rattle.std.specs.Prelude.{◌≡◌};
-    ghost use Rattle.smt_encode.specs.declared.error.TextError.TheVariants.{Memory};
-
-    ghost from_gives = { λ _ error. error ≡ Memory };
-
-    fn from(error: TermError) -> TextError {
-        match error {
-            TermError::Memory => TextError::Memory,
-        }
-    }
-}
-
 impl From<TermError> for WriteError {
     ghost use Rattle.std.specs.Prelude.{◌≡◌};
-    ghost use Rattle.smt_encode.specs.declared.error.TextError.TheVariants.{Memory};
+    ghost use Rattle.smt_spelling.specs.declared.error.TextError.TheVariants.{Memory};
     ghost use Rattle.smt_encode.specs.declared.error.WriteError.TheVariants.{Text};
 
     ghost from_gives = { λ _ error. error ≡ Text Memory };
@@ -180,7 +153,7 @@ impl From<TermError> for WriteError {
 
 impl From<AllocError> for WriteError {
     ghost use Rattle.std.specs.Prelude.{◌≡◌};
-    ghost use Rattle.smt_encode.specs.declared.error.TextError.TheVariants.{Memory};
+    ghost use Rattle.smt_spelling.specs.declared.error.TextError.TheVariants.{Memory};
     ghost use Rattle.smt_encode.specs.declared.error.WriteError.TheVariants.{Text};
 
     ghost from_gives = { λ _ error. error ≡ Text Memory };
@@ -192,7 +165,7 @@ impl From<AllocError> for WriteError {
 
 impl<T: Drop> From<AllocFailed<T>> for WriteError {
     ghost use Rattle.std.specs.Prelude.{◌≡◌};
-    ghost use Rattle.smt_encode.specs.declared.error.TextError.TheVariants.{Memory};
+    ghost use Rattle.smt_spelling.specs.declared.error.TextError.TheVariants.{Memory};
     ghost use Rattle.smt_encode.specs.declared.error.WriteError.TheVariants.{Text};
 
     ghost from_gives = { λ _ error. error ≡ Text Memory };

@@ -10,10 +10,12 @@
 //! | string | `String` (theory UnicodeStrings) |
 //! | option | `(Option S)`, of the datatype that each script declares first |
 //! | set | `(Set S)`, of finite sets, which are no theory of the standard |
+//! | entity | the name of a datatype, with one constructor that holds the id, or with one for each member of an enum type |
 //!
 //! | Term | Text |
 //! |---|---|
 //! | literal | inline: `true` or `false`, `(_ bvN n)` (logic QF_BV), or the string between quotes |
+//! | entity | its name, defined as `(E0 "id")`, or the constructor of a member of an enum type |
 //! | variable | its name, declared as a constant of its sort |
 //! | none, some | its name, defined as `(as none S)` or `(some x)` |
 //! | set | its name, defined as `(set.insert x y (as set.empty S))`, or as `(as set.empty S)` |
@@ -27,14 +29,13 @@ mod error;
 pub mod laws;
 mod names;
 mod node_names;
-mod pattern;
 mod rendering;
-mod spell;
 mod steps;
 mod walk;
 mod writer;
 
 pub use encoder::Encoder;
-pub use error::{EncodeError, SMT_LIB_MAX_CODE_POINT};
+pub use error::EncodeError;
 pub use node_names::NodeNames;
+pub use smt_spelling::SMT_LIB_MAX_CODE_POINT;
 pub use steps::Steps;

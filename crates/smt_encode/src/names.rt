@@ -1,24 +1,24 @@
 // The nodes of terms, and the texts that stand for them.
-ghost use Rattle.std.specs.Prelude.{◌≡◌, ◌<◌, ◌++◌, ◌∷◌, ◌+◌, [], false, IfOk, IsTrue, None, OnOk, Some, map, option_map};
+ghost use Rattle.std.specs.Prelude.{◌≡◌, ◌<◌, ◌++◌, ◌∷◌, ◌+◌, [], false, IfOk, IsTrue, None, OnOk, Some, map, not, option_map};
 ghost use Rattle.std.specs.Rc.{rc_str_bytes};
-ghost use Rattle.smt_meaning.specs.Plain.{PlainTerm};
+ghost use Rattle.smt_meaning.specs.Plain.{PlainTerm, PlainType};
 ghost use Rattle.smt_graph.specs.Meanings.{all_found, meanings};
-ghost use Rattle.smt_graph.specs.Nodes.{Meaning, TermMeaning};
+ghost use Rattle.smt_graph.specs.Nodes.{Meaning, TermMeaning, TypeMeaning};
 ghost use Rattle.smt_nodes.specs.Interned.{meaning_in, nodes_of, IsMeant, KeepsMeanings};
 ghost use Rattle.smt_nodes.specs.View.{place_of, places_of};
-ghost use Rattle.smt_term.specs.Enums.{enums_of};
+ghost use Rattle.smt_leaves.specs.Enums.{enums_of};
 ghost use Rattle.smt_term.specs.View.{plain_term};
-ghost use Rattle.smt_lines.specs.Lines.{next_term};
+ghost use Rattle.smt_lines.specs.Lines.{next_entity, next_term};
 ghost use Rattle.smt_lines.specs.NameTables.{Tables, no_names};
-ghost use Rattle.smt_encode.specs.NodeLines.{has_entry, meaning_fault};
+ghost use Rattle.smt_encode.specs.NodeLines.{has_entry, meaning_fault, with_name};
 ghost use Rattle.smt_encode.specs.NodeTexts.{text_at, AreSound, HasName, HasNoTexts, IsNodeOf, IsText};
 ghost use Rattle.smt_encode.specs.Texts.{IsKept};
 
 use crate::node_names::NodeNames;
-use crate::spell::term_name;
 use crate::steps::Steps;
 use smt_nodes::{Interner, Node, NodeId};
-use smt_term::{EnumTable, Term, TermError, Text};
+use smt_spelling::{entity_name, term_name};
+use smt_term::{EnumTable, Term, TermError, TermPrim, Text};
 use std::alloc::{AllocError, Global};
 use std::sync::ledger::{Blank, Ledger};
 
@@ -33,6 +33,19 @@ fn numbers_of(alloc: Global, nodes: &mut Interner, terms: &[Term]) -> Result<Vec
         ids.push(id)?;
     }
     Ok(ids)
+}
+
+/// Whether a term has a text of its own, which stands wherever the term is used, so that it gets no name.
+fn is_inline(term: &Term) -> bool
+    ensures { result ≡ not (has_entry (TermMeaning (plain_term term.now))) }
+{
+    match term {
+        Term::Prim(literal) => match literal {
+            TermPrim::Bitvec(_) | TermPrim::Bool(_) | TermPrim::String(_) => true,
+            TermPrim::Entity(_) => false,
+        },
+        Term::App { .. } | Term::None(_) | Term::Set { .. } | Term::Some(_) | Term::Var(_) => false,
+    }
 }
 
 /// The nodes that stand for terms, and the text of each node that was written, over the enum types of the terms.
@@ -85,10 +98,10 @@ impl<'a> Names<'a> {
         requires name { blank.name ≡ L.name }
         requires parts { blank.parts ≡ L.parts }
         requires some { 0 < blank.parts }
-        ensures { HasName (nodes_under self.now) (texts_under self.now) (plain_term term.now) (option_map (λ name. rc_str_bytes name.now) result) }
+        ensures { HasName (nodes_under self.now) (texts_under self.now) (TermMeaning (plain_term term.now)) (option_map (λ name. rc_str_bytes name.now) result) }
     {
-        // The text of a literal is no name.
-        if let Term::Prim(_) = term {
+        // The text of such a term is no name.
+        if is_inline(term) {
             return None;
         }
         let id = self.nodes.find(term)?;
@@ -129,11 +142,25 @@ impl<'a> Names<'a> {
         self.texts.make_room(self.nodes.len())
     }
 
-    /// The name of the next entry.
-    pub(crate) fn next(&self) -> Result<Text, AllocError>
+    /// The enum types of the terms.
+    pub(crate) fn enums(&self) -> &EnumTable
+        ensures { enums_of result.now ≡ enums_under self.now }
+    {
+        self.enums
+    }
+
+    /// The name of the next term that gets one.
+    pub(crate) fn next_term(&self) -> Result<Text, AllocError>
         ensures { (s : Tables) → KeepTables self.now s → IfOk result (λ name. rc_str_bytes name ≡ next_term s) }
     {
-        term_name(self.alloc, self.texts.named)
+        term_name(self.alloc, self.texts.terms)
+    }
+
+    /// The name of the next entity type that gets one.
+    pub(crate) fn next_entity(&self) -> Result<Text, AllocError>
+        ensures { (s : Tables) → KeepTables self.now s → IfOk result (λ name. rc_str_bytes name ≡ next_entity s) }
+    {
+        entity_name(self.alloc, self.texts.types)
     }
 
     /// Keeps the text of a node that has none yet, and neither an entry nor a fault.
@@ -150,16 +177,30 @@ impl<'a> Names<'a> {
     }
 
     /// Enters a term's name under its node, which has no text yet, and no fault.
-    pub(crate) fn enter(&mut self, id: NodeId, name: Text)
+    pub(crate) fn enter_term(&mut self, id: NodeId, name: Text)
         requires room { HasRoom self.old }
         requires unkept { text_at (texts_under self.old) id ≡ None }
         requires meant { IsMeant (nodes_under self.old) id }
         requires sound { (m : Meaning) → meaning_in (nodes_under self.old) id ≡ Some m → meaning_fault (enums_under self.old) m ≡ None }
         ensures tables { (s : Tables) (t : PlainTerm) → KeepTables self.old s → meaning_in (nodes_under self.old) id ≡ Some (TermMeaning t) → IsTrue (has_entry (TermMeaning t)) →
-            KeepTables self.new (record s { terms = s.terms ++ (t, rc_str_bytes name) ∷ [] }) }
+            KeepTables self.new (with_name s (TermMeaning t) (rc_str_bytes name)) }
         ensures stands { StandsOn self.old self.new }
         ensures kept { IsKept (texts_under self.old).texts.items (texts_under self.new).texts.items (place_of id) (rc_str_bytes name) }
     {
-        self.texts.enter(id, name);
+        self.texts.enter_term(id, name);
+    }
+
+    /// Enters a type's name under its node, which has no text yet, and no fault.
+    pub(crate) fn enter_type(&mut self, id: NodeId, name: Text)
+        requires room { HasRoom self.old }
+        requires unkept { text_at (texts_under self.old) id ≡ None }
+        requires meant { IsMeant (nodes_under self.old) id }
+        requires sound { (m : Meaning) → meaning_in (nodes_under self.old) id ≡ Some m → meaning_fault (enums_under self.old) m ≡ None }
+        ensures tables { (s : Tables) (t : PlainType) → KeepTables self.old s → meaning_in (nodes_under self.old) id ≡ Some (TypeMeaning t) → IsTrue (has_entry (TypeMeaning t)) →
+            KeepTables self.new (with_name s (TypeMeaning t) (rc_str_bytes name)) }
+        ensures stands { StandsOn self.old self.new }
+        ensures kept { IsKept (texts_under self.old).texts.items (texts_under self.new).texts.items (place_of id) (rc_str_bytes name) }
+    {
+        self.texts.enter_type(id, name);
     }
 }

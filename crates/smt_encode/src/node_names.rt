@@ -14,8 +14,9 @@ use std::sync::ledger::Ledger;
 #[derive(Drop)]
 pub struct NodeNames {
     texts: Vec<Option<Text>>,
-    pub(crate) named: usize,
-    ghost counted: { named ≤ kept_count texts.items },
+    pub(crate) terms: usize,
+    pub(crate) types: usize,
+    ghost counted: { terms + types ≤ kept_count texts.items },
 }
 
 impl NodeNames {
@@ -24,11 +25,13 @@ impl NodeNames {
     /// No text yet. Takes no memory.
     pub(crate) fn new(alloc: Global) -> NodeNames
         ensures texts { result.texts.items ≡ [] }
-        ensures named { result.named ≡ 0 }
+        ensures terms { result.terms ≡ 0 }
+        ensures types { result.types ≡ 0 }
     {
         NodeNames {
             texts: Vec::new(alloc),
-            named: 0,
+            terms: 0,
+            types: 0,
         }
     }
 
@@ -47,7 +50,8 @@ impl NodeNames {
         ensures room { OnOk result (length self.new.texts.items ≡ nodes) }
         ensures within { length self.new.texts.items ≤ nodes }
         ensures texts { (place : ℕ) → kept_at self.new.texts.items place ≡ kept_at self.old.texts.items place }
-        ensures named { self.new.named ≡ self.old.named }
+        ensures terms { self.new.terms ≡ self.old.terms }
+        ensures types { self.new.types ≡ self.old.types }
     {
         for _ in self.texts.len()..nodes {
             self.texts.push(None)?;
@@ -60,19 +64,33 @@ impl NodeNames {
         requires room { place_of id < length self.old.texts.items }
         requires unkept { text_at self.old id ≡ None }
         ensures kept { IsKept self.old.texts.items self.new.texts.items (place_of id) (rc_str_bytes text) }
-        ensures named { self.new.named ≡ self.old.named }
+        ensures terms { self.new.terms ≡ self.old.terms }
+        ensures types { self.new.types ≡ self.old.types }
     {
         self.texts[id.place()] = Some(text);
     }
 
-    /// Keeps the name of a node that has none yet.
-    pub(crate) fn enter(&mut self, id: NodeId, name: Text)
+    /// Keeps the name of a term's node that has none yet.
+    pub(crate) fn enter_term(&mut self, id: NodeId, name: Text)
         requires room { place_of id < length self.old.texts.items }
         requires unkept { text_at self.old id ≡ None }
         ensures kept { IsKept self.old.texts.items self.new.texts.items (place_of id) (rc_str_bytes name) }
-        ensures named { self.new.named ≡ self.old.named + 1 }
+        ensures terms { self.new.terms ≡ self.old.terms + 1 }
+        ensures types { self.new.types ≡ self.old.types }
     {
         self.keep(id, name);
-        self.named += 1;
+        self.terms += 1;
+    }
+
+    /// Keeps the name of a type's node that has none yet.
+    pub(crate) fn enter_type(&mut self, id: NodeId, name: Text)
+        requires room { place_of id < length self.old.texts.items }
+        requires unkept { text_at self.old id ≡ None }
+        ensures kept { IsKept self.old.texts.items self.new.texts.items (place_of id) (rc_str_bytes name) }
+        ensures terms { self.new.terms ≡ self.old.terms }
+        ensures types { self.new.types ≡ self.old.types + 1 }
+    {
+        self.keep(id, name);
+        self.types += 1;
     }
 }

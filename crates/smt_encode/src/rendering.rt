@@ -1,34 +1,20 @@
 // How an application is written: as it stands, as an equality, or as `false`.
 ghost use Rattle.std.specs.Prelude.{◌≡◌, ◌∷◌, List, IfOk, OnOk, Some, map, option_map};
-ghost use Rattle.std.specs.Rc.{rc_str_bytes};
-ghost use Rattle.std.specs.String.{string_bytes};
 ghost use Rattle.smt_bits.specs.Width.{bits_in};
-ghost use Rattle.smt_encode.specs.Steps.{AreSpelled};
-ghost use Rattle.smt_encode.specs.Renderings.{pattern_fault, plain_rendering};
+ghost use Rattle.smt_encode.specs.Renderings.{plain_rendering};
 ghost use Rattle.smt_encode.specs.Entries.{is_negation_label, is_truth_type, rendering_in, width_of_type, written_parts};
 ghost use Rattle.smt_encode.specs.NodeTexts.{IsNodeOf};
 ghost use Rattle.smt_graph.specs.Meanings.{all_found, meanings};
 ghost use Rattle.smt_graph.specs.Nodes.{Meaning, TermMeaning, TypeMeaning};
 ghost use Rattle.smt_nodes.specs.Interned.{meaning_in, nodes_of};
 ghost use Rattle.smt_nodes.specs.View.{places_of, plain_label};
-ghost use Rattle.smt_encode.specs.Refusals.{text_fault, Finds};
-ghost use Rattle.smt_lines.specs.LineForms as forms;
-ghost use Rattle.smt_lines.specs.LineForms.{application_body, least_body, operator_head, with_pattern};
 ghost use Rattle.smt_lines.specs.Lines as lines;
-ghost use Rattle.smt_lines.specs.Spelling.{spelled};
-ghost use Rattle.smt_lexicon.specs.Reading.{Expression};
-ghost use Rattle.smt_semantics.specs.WrittenStrings.{pattern_expr};
-ghost use Rattle.smt_meaning.specs.Plain.{PatternPart, PlainTerm, PlainType, terms};
+ghost use Rattle.smt_meaning.specs.Plain.{PlainTerm, PlainType, terms};
 ghost use Rattle.smt_meaning.specs.Types.{type_of};
-ghost use Rattle.smt_term.specs.View.{plain_op};
 
-use crate::error::TextError;
-use crate::pattern::pattern_text;
-use crate::spell::{application_text, bits_literal, head_text};
-use smt_bits::{BitVec, Width};
+use smt_bits::Width;
 use smt_nodes::{Interner, Label, Node, NodeId};
-use smt_term::{Op, Text};
-use std::alloc::{AllocError, Global};
+use smt_term::Op;
 
 /// How the definition of an application is written.
 #[derive(Clone, Copy)]
@@ -120,62 +106,4 @@ impl Rendering {
             },
         }
     }
-}
-
-/// The body of an application that is written by its operator, by the texts of its operands.
-pub(crate) fn application_body(
-    alloc: Global,
-    op: &Op,
-    mut operands: Vec<Text>,
-) -> Result<String, TextError>
-    ensures text { (es : List Expression) → AreSpelled es operands.items → IfOk result (λ text. string_bytes text ≡ spelled (application_body (operator_head (plain_op op.now)) (plain_op op.now) es)) }
-    ensures fault { Finds text_fault (pattern_fault (plain_op op.now)) result }
-{
-    push_pattern(alloc, op, &mut operands)?;
-    let head = head_text(alloc, op)?;
-    Ok(application_text(alloc, head.as_str(), operands.as_slice())?)
-}
-
-/// The equality of an operand with the least number of a width, by the texts of the operands.
-pub(crate) fn least_body(
-    alloc: Global,
-    width: Width,
-    mut operands: Vec<Text>,
-) -> Result<String, AllocError>
-    ensures { (es : List Expression) → AreSpelled es operands.items → IfOk result (λ text. string_bytes text ≡ spelled (least_body (bits_in width) es)) }
-{
-    operands.push(bits_literal(alloc, &BitVec::int_min(width))?)?;
-    application_text(alloc, "=", operands.as_slice())
-}
-
-/// Puts the pattern of `string.like` behind the operands. Where there are none, their empty text stands before it.
-fn push_pattern(alloc: Global, op: &Op, operands: &mut Vec<Text>) -> Result<(), TextError>
-    ensures operands { (es : List Expression) → AreSpelled es operands.old.items → OnOk result (AreSpelled (forms.operands (plain_op op.now) es) operands.new.items) }
-    ensures fault { Finds text_fault (pattern_fault (plain_op op.now)) result }
-{
-    match op {
-        Op::StringLike(pattern) => {
-            let expression = pattern_text(alloc, pattern)?;
-            push_expression(alloc, expression, operands)?;
-            Ok(())
-        }
-        _ => Ok(()),
-    }
-}
-
-/// Puts a regular expression behind the operands.
-fn push_expression(
-    alloc: Global,
-    expression: Text,
-    operands: &mut Vec<Text>,
-) -> Result<(), AllocError>
-    ensures { (p : List PatternPart) (es : List Expression) → rc_str_bytes expression ≡ spelled (pattern_expr p) → AreSpelled es operands.old.items → OnOk result (AreSpelled (with_pattern p es) operands.new.items) }
-{
-    if operands.is_empty() {
-        operands.push(Text::from_str(alloc, "")?)?;
-        operands.push(expression)?;
-        return Ok(());
-    }
-    operands.push(expression)?;
-    Ok(())
 }

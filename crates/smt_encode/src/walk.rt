@@ -1,40 +1,46 @@
 // The lines of nodes, each behind those of its parts.
-ghost use Rattle.std.specs.Prelude.{ℕ, List, ◌≡◌, ◌<◌, ◌≤◌, ◌+◌, Bool, None, OnOk, Some, IfOk, IsTrue, length, map, suc};
+ghost use Rattle.std.specs.Prelude.{ℕ, List, ◌≡◌, ◌<◌, ◌≤◌, ◌+◌, Bool, false, None, OnOk, Some, IfOk, IsTrue, length, map, suc};
 ghost use Rattle.std.specs.List.{AllByRecursion};
 ghost use Rattle.std.specs.Rc.{rc_str_bytes};
 ghost use Rattle.smt_graph.specs.Meanings.{all_found, meanings};
-ghost use Rattle.smt_graph.specs.Nodes.{Meaning, TermMeaning};
-ghost use Rattle.smt_graph.specs.Parts.{parts_in};
+ghost use Rattle.smt_graph.specs.Nodes.{EntityLabel, Meaning, TermMeaning, TypeMeaning};
+ghost use Rattle.smt_graph.specs.Parts.{label_in, parts_in};
 ghost use Rattle.smt_nodes.specs.Interned.{meaning_in, nodes_of, IsMeant};
-ghost use Rattle.smt_nodes.specs.View.{place_of, places_of};
+ghost use Rattle.smt_nodes.specs.View.{place_of, places_of, plain_label};
 ghost use Rattle.smt_lexicon.specs.Reading.{Expression};
-ghost use Rattle.smt_meaning.specs.Plain.{PlainTerm};
-ghost use Rattle.smt_lines.specs.Lines.{made_of};
+ghost use Rattle.smt_leaves.specs.Entities.{bytes_of_type};
+ghost use Rattle.smt_meaning.specs.Faults.{entity_type_fault};
+ghost use Rattle.smt_meaning.specs.Plain.{EntityType as EntityTypeOf, PlainTerm};
+ghost use Rattle.smt_lines.specs.Lines.{made_of, members_of};
 ghost use Rattle.smt_lines.specs.NameTables.{Tables};
 ghost use Rattle.smt_lines.specs.Spelling.{spelled};
 ghost use Rattle.smt_encode.specs.NodeLines.{encode_meaning, encode_meanings, has_entry, meaning_fault, meanings_fault};
-ghost use Rattle.smt_encode.specs.Entries.{enter_by, entry_name, own_lines, rendering_in, written_parts, PlainEntry, SaysEntry};
+ghost use Rattle.smt_encode.specs.Entries.{declare_by, enter_by, entry_name, has_inline, inline_by, inline_fault, own_lines, rendering_in, written_parts};
+ghost use Rattle.smt_spelling.specs.Entries.{PlainEntry, SaysEntry};
 ghost use Rattle.smt_encode.specs.Complete.{is_typed, AreTypedMeanings, HaveWrittenParts};
 ghost use Rattle.smt_encode.specs.LookUps.{IsClosed};
 ghost use Rattle.smt_encode.specs.NodeTexts.{text_at, IsNodeOf};
-ghost use Rattle.smt_encode.specs.Refusals.{write_fault, Finds};
+ghost use Rattle.smt_encode.specs.Refusals.{write_fault};
+ghost use Rattle.smt_spelling.specs.TextFaults.{Finds};
 ghost use Rattle.smt_encode.specs.Texts.{kept_at};
 ghost use Rattle.smt_encode.specs.Renderings.{plain_rendering};
 
-use crate::entry::{Entry, entry_from, inline_text};
+use crate::entry::{entry_from, inline_text};
 use crate::error::WriteError;
 use crate::rendering::{Rendering, rendering_of};
 use crate::steps::Steps;
 use crate::writer::Writer;
-use smt_nodes::{Node, NodeId};
+use smt_nodes::{Label, Node, NodeId};
 use smt_script::{Sink, SinkError};
-use smt_term::Text;
+use smt_spelling::{Entry, entity_datatype};
+use smt_term::{EntityType, Text};
 use std::alloc::AllocError;
 use std::sync::ledger::Ledger;
 
 impl<S: Sink> Writer<'_, S> {
     ghost use Rattle.smt_encode.specs.Names.{enums_under, nodes_under, texts_under, HasRoom};
-    ghost use Rattle.smt_encode.specs.Steps.{edges_in, AreSpelled, HasTables, IsSpelled, Walks, WritesHere, WritesStated};
+    ghost use Rattle.smt_encode.specs.Steps.{edges_in, HasTables, Walks, WritesHere, WritesStated};
+    ghost use Rattle.smt_spelling.specs.Spelled.{AreSpelled, IsSpelled};
 
     /// The text of a node: the one that it has, or else a new one, behind the lines that it needs.
     #[cycle(walk)]
@@ -114,7 +120,7 @@ impl<S: Sink> Writer<'_, S> {
         id: NodeId,
         node: &Node,
         rendering: Rendering,
-        mut texts: Vec<Text>,
+        texts: Vec<Text>,
     ) -> Result<Text, WriteError>
         requires meant { IsMeant (nodes_under self.old.names) id }
         requires room { HasRoom self.old.names }
@@ -125,7 +131,7 @@ impl<S: Sink> Writer<'_, S> {
         requires sound { (m : Meaning) → meaning_in (nodes_under self.old.names) id ≡ Some m → meanings_fault (enums_under self.old.names) (written_parts (rendering_in m) (parts_in m)) ≡ None }
         requires written { (m : Meaning) (s : Tables) → meaning_in (nodes_under self.old.names) id ≡ Some m → HasTables self.old s →
             (es : List Expression) × AreSpelled es texts.items × (encode_meanings (enums_under self.old.names) (written_parts (rendering_in m) (parts_in m)) s ≡ made_of es s) }
-        ensures lines { (m : Meaning) (es : List Expression) (s : Tables) → meaning_in (nodes_under self.old.names) id ≡ Some m → AreSpelled es texts.items → HasTables self.old s → WritesHere S.contents self.old self.new (own_lines m es s) IsSpelled result }
+        ensures lines { (m : Meaning) (es : List Expression) (s : Tables) → meaning_in (nodes_under self.old.names) id ≡ Some m → AreSpelled es texts.items → HasTables self.old s → WritesHere S.contents self.old self.new (own_lines (enums_under self.old.names) m es s) IsSpelled result }
         ensures fault { (m : Meaning) → meaning_in (nodes_under self.old.names) id ≡ Some m → Finds write_fault (meaning_fault (enums_under self.old.names) m) result }
         ensures walks { Walks S.faults S.place (WriteError.Sink SinkError.Fault) (suc (place_of id)) self.old self.new result }
         ensures kept { IfOk result (λ text. text_at (texts_under self.new.names) id ≡ Some (rc_str_bytes text)) }
@@ -136,12 +142,61 @@ impl<S: Sink> Writer<'_, S> {
                 self.names.keep(id, text.clone()?);
                 Ok(text)
             }
-            None => {
+            None => self.name(id, node, rendering, texts),
+        }
+    }
+
+    /// Gives a node that has no text of its own its name, behind the lines of its parts, by their texts.
+    fn name(
+        &mut self,
+        id: NodeId,
+        node: &Node,
+        rendering: Rendering,
+        mut texts: Vec<Text>,
+    ) -> Result<Text, WriteError>
+        requires meant { IsMeant (nodes_under self.old.names) id }
+        requires room { HasRoom self.old.names }
+        requires unkept { text_at (texts_under self.old.names) id ≡ None }
+        requires is_node { IsNodeOf (nodes_under self.old.names) id node.now }
+        requires rendered { (m : Meaning) → meaning_in (nodes_under self.old.names) id ≡ Some m → plain_rendering rendering ≡ rendering_in m }
+        requires count { (m : Meaning) → meaning_in (nodes_under self.old.names) id ≡ Some m → length texts.items ≡ length (written_parts (rendering_in m) (parts_in m)) }
+        requires sound { (m : Meaning) → meaning_in (nodes_under self.old.names) id ≡ Some m → meanings_fault (enums_under self.old.names) (written_parts (rendering_in m) (parts_in m)) ≡ None }
+        requires plain { has_inline (plain_label node.now.label) (length texts.items) ≡ false }
+        requires faultless { inline_fault (plain_label node.now.label) ≡ None }
+        ensures lines { (m : Meaning) (es : List Expression) (s : Tables) → meaning_in (nodes_under self.old.names) id ≡ Some m → AreSpelled es texts.items → HasTables self.old s → inline_by (label_in m) es ≡ None → WritesHere S.contents self.old self.new (own_lines (enums_under self.old.names) m es s) IsSpelled result }
+        ensures fault { (m : Meaning) → meaning_in (nodes_under self.old.names) id ≡ Some m → Finds write_fault (meaning_fault (enums_under self.old.names) m) result }
+        ensures walks { Walks S.faults S.place (WriteError.Sink SinkError.Fault) (suc (place_of id)) self.old self.new result }
+        ensures kept { IfOk result (λ text. text_at (texts_under self.new.names) id ≡ Some (rc_str_bytes text)) }
+        ensures only { (place : ℕ) → ¬ (place ≡ place_of id) → kept_at (texts_under self.new.names).texts.items place ≡ kept_at (texts_under self.old.names).texts.items place }
+    {
+        match &node.label {
+            Label::TEntity(ety) => self.declare(id, ety),
+            label => {
                 let sort = texts.remove(0);
-                let entry = entry_from(self.alloc, &node.label, rendering, sort.as_str(), texts)?;
+                let enums = self.names.enums();
+                let entry = entry_from(self.alloc, enums, label, rendering, sort.as_str(), texts)?;
                 self.enter(id, sort.as_str(), &entry)
             }
         }
+    }
+
+    /// Puts the lines of an entity type that has no name yet, and enters it.
+    fn declare(&mut self, id: NodeId, ety: &EntityType) -> Result<Text, WriteError>
+        requires meant { meaning_in (nodes_under self.old.names) id ≡ Some (TypeMeaning (EntityTypeOf (bytes_of_type ety.now))) }
+        requires room { HasRoom self.old.names }
+        requires unkept { text_at (texts_under self.old.names) id ≡ None }
+        ensures lines { (s : Tables) → HasTables self.old s → WritesHere S.contents self.old self.new (declare_by (enums_under self.old.names) (EntityLabel (bytes_of_type ety.now)) (EntityTypeOf (bytes_of_type ety.now)) s) IsSpelled result }
+        ensures fault { Finds write_fault (entity_type_fault (bytes_of_type ety.now) (members_of (enums_under self.old.names) (bytes_of_type ety.now))) result }
+        ensures walks { Walks S.faults S.place (WriteError.Sink SinkError.Fault) (suc (place_of id)) self.old self.new result }
+        ensures kept { IfOk result (λ text. text_at (texts_under self.new.names) id ≡ Some (rc_str_bytes text)) }
+        ensures only { (place : ℕ) → ¬ (place ≡ place_of id) → kept_at (texts_under self.new.names).texts.items place ≡ kept_at (texts_under self.old.names).texts.items place }
+    {
+        let name = self.names.next_entity()?;
+        let members = self.names.enums().members_of(ety);
+        let datatype = entity_datatype(self.alloc, ety, members, name.as_str())?;
+        datatype.put(&mut self.script, name.as_str())?;
+        self.names.enter_type(id, name.clone()?);
+        Ok(name)
     }
 
     /// Puts the lines of a term that has no name yet, and enters it.
@@ -159,7 +214,7 @@ impl<S: Sink> Writer<'_, S> {
     {
         let name = self.name_for(entry)?;
         entry.put(&mut self.script, name.as_str(), sort)?;
-        self.names.enter(id, name.clone()?);
+        self.names.enter_term(id, name.clone()?);
         Ok(name)
     }
 
@@ -168,8 +223,8 @@ impl<S: Sink> Writer<'_, S> {
         ensures { (s : Tables) (p : PlainEntry) → HasTables self.now s → SaysEntry p entry.now → IfOk result (λ name. rc_str_bytes name ≡ entry_name p s) }
     {
         match entry {
-            Entry::Constant(_) | Entry::Body(_) => self.names.next(),
-            Entry::False => Text::from_str(self.alloc, "false"),
+            Entry::Constant(_) | Entry::Body(_) => self.names.next_term(),
+            Entry::Name(name) => name.clone(),
         }
     }
 }

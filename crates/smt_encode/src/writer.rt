@@ -16,7 +16,8 @@ ghost use Rattle.smt_nodes.specs.View.{places_of};
 ghost use Rattle.smt_encode.specs.Complete.{AreWritten, HaveWrittenParts};
 ghost use Rattle.smt_encode.specs.LookUps.{edges, IsClosed};
 ghost use Rattle.smt_encode.specs.NodeTexts.{HasNoTexts, StandFor};
-ghost use Rattle.smt_encode.specs.Refusals.{write_fault, Finds};
+ghost use Rattle.smt_encode.specs.Refusals.{write_fault};
+ghost use Rattle.smt_spelling.specs.TextFaults.{Finds};
 
 use crate::error::WriteError;
 use crate::names::Names;
@@ -40,7 +41,8 @@ pub(crate) struct Writer<'a, S> {
 
 impl<S: Sink> Writer<'_, S> {
     ghost use Rattle.smt_encode.specs.Names.{enums_under, nodes_under, texts_under};
-    ghost use Rattle.smt_encode.specs.Steps.{AreSpelled, FaultCounted, HasTables, PutsLine, Wrote};
+    ghost use Rattle.smt_encode.specs.Steps.{FaultCounted, HasTables, PutsLine, Wrote};
+    ghost use Rattle.smt_spelling.specs.Spelled.{AreSpelled};
 
     /// Puts the declaration of the datatype `Option`, with which each script begins.
     fn put_option(&mut self) -> Result<(), WriteError>

@@ -37,6 +37,7 @@ fn is_truth_type(ty: &TermType) -> bool
         TermType::Bool => true,
         TermType::Option { .. }
         | TermType::Bitvec { .. }
+        | TermType::Entity { .. }
         | TermType::String
         | TermType::Set { .. } => false,
     }
@@ -47,7 +48,7 @@ fn is_truth(literal: &TermPrim) -> bool
 {
     match literal {
         TermPrim::Bool(_) => true,
-        TermPrim::Bitvec(_) | TermPrim::String(_) => false,
+        TermPrim::Bitvec(_) | TermPrim::Entity(_) | TermPrim::String(_) => false,
     }
 }
 

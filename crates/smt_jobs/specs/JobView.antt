@@ -1,7 +1,7 @@
 -- What a job of the program says, and what reading one gives.
 use Rattle.std.specs.Prelude.{ℕ, ◌≡◌, ◌≤◌, drop, length, List, [], ◌∷◌, ◌++◌, map, option_map, Option, Some, None, Ok, Err, Result, ⊤}
 use Rattle.std.specs.Rc.{rc_str_bytes}
-use Rattle.smt_term.specs.Enums.{enums_of}
+use Rattle.smt_leaves.specs.Enums.{enums_of}
 use Rattle.smt_folding.specs.Built.{built}
 use Rattle.smt_meaning.specs.Plain.{PlainTerm, PlainType}
 use Rattle.smt_meaning.specs.Typing.{AreTyped}

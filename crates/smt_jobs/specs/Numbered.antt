@@ -1,7 +1,7 @@
 -- What a job says whose terms are numbered nodes.
 use Rattle.std.specs.Prelude.{List}
 use Rattle.smt_meaning.specs.Plain.{PlainTerm}
-use Rattle.smt_term.specs.Enums.{enums_of}
+use Rattle.smt_leaves.specs.Enums.{enums_of}
 use Rattle.smt_jobs.specs.Job.{PlainJob}
 use Rattle.smt_jobs.specs.JobView.{declarations}
 use Rattle.smt_jobs.specs.Numbers.{terms_of}

@@ -8,7 +8,7 @@ use Rattle.std.specs.Ordering.{is_eq, nat_cmp, ordering_then}
 use Rattle.std.specs.Prelude.{◌&&◌, IsTrue, Option, Some, eqb, option_and_then, option_map, slice_get}
 use Rattle.std.specs.declared.cmp.Ordering.{Ordering}
 use Rattle.std.specs.declared.cmp.Ordering.TheVariants.{Less, Equal, Greater}
-use Rattle.smt_meaning.specs.Plain.{PlainType, OptionType, BitVecType, BoolType, StringType, SetType, PlainLiteral, PlainOp, UufOp, PlainTerm, Application, NoneTerm, LiteralTerm, SetTerm, SomeTerm, VariableTerm, terms}
+use Rattle.smt_meaning.specs.Plain.{PlainType, OptionType, BitVecType, BoolType, EntityType, StringType, SetType, PlainLiteral, PlainOp, UufOp, PlainTerm, Application, NoneTerm, LiteralTerm, SetTerm, SomeTerm, VariableTerm, terms}
 use Rattle.smt_meaning.specs.TermOrder.{literal_cmp, op_cmp, term_cmp, terms_cmp}
 use Rattle.smt_meaning.specs.Types.{literal_type, type_cmp, type_of}
 use Rattle.smt_meaning.specs.ValueOrder.{text_cmp}
@@ -17,7 +17,7 @@ use Rattle.smt_meaning.proofs.TermTotal.{terms_decided, types_decided}
 use Rattle.smt_meaning.proofs.TypeOrder.{type_same}
 use Rattle.smt_graph.specs.Graphs.{IsGraph}
 use Rattle.smt_graph.specs.Meanings.{all_found, found, meaning_at, meanings, stands_for, term_made, terms_in, typed_as}
-use Rattle.smt_graph.specs.Nodes.{PlainLabel, OptionLabel, BitVecLabel, BoolLabel, StringLabel, SetLabel, ApplicationLabel, NoneLabel, LiteralLabel, SetOfLabel, SomeLabel, VariableLabel, PlainNode, Meaning, TypeMeaning, FunctionMeaning, TermMeaning}
+use Rattle.smt_graph.specs.Nodes.{PlainLabel, OptionLabel, BitVecLabel, BoolLabel, EntityLabel, StringLabel, SetLabel, ApplicationLabel, NoneLabel, LiteralLabel, SetOfLabel, SomeLabel, VariableLabel, PlainNode, Meaning, TypeMeaning, FunctionMeaning, TermMeaning}
 use Rattle.smt_graph.proofs.Distinct.{Stands, node_stands, places_differ}
 use Rattle.smt_graph.proofs.Places.{map_back, some_same, test_back, then_back}
 use Rattle.smt_graph.proofs.Whole.{terms_back, typed_back}
@@ -27,7 +27,7 @@ use Rattle.smt_nodes.specs.Order.{are_alike, difference_of, meaning_cmp, or_else
 use Rattle.smt_nodes.specs.View.{ids_of, place_of, places_of, plain_label, plain_node}
 use Rattle.smt_nodes.specs.declared.id.NodeId.{NodeId}
 use Rattle.smt_nodes.specs.declared.node.Label.{Label}
-use Rattle.smt_nodes.specs.declared.node.Label.TheVariants.{TOption, TBitvec, TBool, TString, TSet, App, NoneOf, Prim, SetOf, SomeOf, Var}
+use Rattle.smt_nodes.specs.declared.node.Label.TheVariants.{TOption, TBitvec, TBool, TEntity, TString, TSet, App, NoneOf, Prim, SetOf, SomeOf, Var}
 use Rattle.smt_nodes.specs.declared.node.Node.{Node}
 use Rattle.smt_nodes.specs.declared.order.Difference.{Difference}
 use Rattle.smt_nodes.specs.declared.order.Difference.TheVariants.{Nowhere, At, Length}
@@ -37,6 +37,7 @@ pub data Shape : PlainLabel → List Meaning → Meaning → Type 0 where
   an_option : (t : PlainType) → Shape OptionLabel (TypeMeaning t ∷ []) (TypeMeaning (OptionType t))
   some_bits : (n : ℕ) → Shape (BitVecLabel n) [] (TypeMeaning (BitVecType n))
   a_truth : Shape BoolLabel [] (TypeMeaning BoolType)
+  entities : (e : List ℕ) → Shape (EntityLabel e) [] (TypeMeaning (EntityType e))
   a_text : Shape StringLabel [] (TypeMeaning StringType)
   a_set : (t : PlainType) → Shape SetLabel (TypeMeaning t ∷ []) (TypeMeaning (SetType t))
   applied : (o : PlainOp) (t : PlainType) (ts : List PlainTerm) → Shape (ApplicationLabel o) (TypeMeaning t ∷ map TermMeaning ts) (TermMeaning (Application o (terms ts) t))
@@ -88,6 +89,7 @@ pub shape : (l : Label) (ps : List Meaning) (m : Meaning) → stands_for (plain_
 shape TOption (TypeMeaning t ∷ []) m h = subst (Shape OptionLabel (TypeMeaning t ∷ [])) (some_same _ _ h) (an_option t)
 shape (TBitvec n) [] m h = subst (Shape (plain_label (TBitvec n)) []) (some_same _ _ h) (some_bits _)
 shape TBool [] m h = subst (Shape BoolLabel []) (some_same _ _ h) a_truth
+shape (TEntity e) [] m h = subst (Shape (plain_label (TEntity e)) []) (some_same _ _ h) (entities _)
 shape TString [] m h = subst (Shape StringLabel []) (some_same _ _ h) a_text
 shape TSet (TypeMeaning t ∷ []) m h = subst (Shape SetLabel (TypeMeaning t ∷ [])) (some_same _ _ h) (a_set t)
 shape (App o) (TypeMeaning t ∷ ms) m h = applied_shape (plain_op o) t ms m h
@@ -137,6 +139,7 @@ terms_as_list (t ∷ ts) (u ∷ us) = ap (ordering_then (term_cmp t u)) (terms_a
 pub by_parts : (l k : PlainLabel) (ps qs : List Meaning) (m n : Meaning) → Shape l ps m → Shape k qs n → are_alike m n ≡ true → meaning_cmp m n ≡ ordering_then (label_cmp l k) (parts_cmp l ps qs)
 by_parts _ _ _ _ _ _ (an_option t) (an_option u) h = then_level (type_cmp t u)
 by_parts _ _ _ _ _ _ (some_bits i) (some_bits j) h = then_level (nat_cmp i j)
+by_parts _ _ _ _ _ _ (entities e) (entities f) h = then_level (text_cmp e f)
 by_parts _ _ _ _ _ _ (a_set t) (a_set u) h = then_level (type_cmp t u)
 by_parts _ _ _ _ _ _ (applied o t ts) (applied p u us) h =
     ap (ordering_then (op_cmp o p)) (ap (λ c. ordering_then c (type_cmp t u)) (terms_as_list ts us) ∙ ap (ordering_then (slice_cmp meaning_cmp (map TermMeaning ts) (map TermMeaning us))) (then_level (type_cmp t u)))
@@ -264,6 +267,7 @@ pub parts_outcome : (ns : List PlainNode) → IsGraph ns → (l k : PlainLabel) 
 parts_outcome ns g _ _ _ _ _ _ (an_option t) (an_option u) h xs ys p q = outcome ns g xs ys _ _ p q refl
 parts_outcome ns g _ _ _ _ _ _ (some_bits i) (some_bits j) h xs ys p q = outcome ns g xs ys _ _ p q refl
 parts_outcome ns g _ _ _ _ _ _ a_truth a_truth h xs ys p q = outcome ns g xs ys _ _ p q refl
+parts_outcome ns g _ _ _ _ _ _ (entities e) (entities f) h xs ys p q = outcome ns g xs ys _ _ p q refl
 parts_outcome ns g _ _ _ _ _ _ a_text a_text h xs ys p q = outcome ns g xs ys _ _ p q refl
 parts_outcome ns g _ _ _ _ _ _ (a_set t) (a_set u) h xs ys p q = outcome ns g xs ys _ _ p q refl
 parts_outcome ns g _ _ _ _ _ _ (applied o t ts) (applied r u us) h xs ys p q = type_last ns g (ApplicationLabel o) (λ xs ys t u. refl) xs ys _ _ _ _ p q refl (all_alike ts us)

@@ -16,11 +16,14 @@ use Rattle.smt_meaning.specs.ValueOrder.{ascends, text_cmp}
 use Rattle.smt_meaning.proofs.TermTotal.{types_decided}
 use Rattle.smt_graph.specs.Graphs.{IsGraph}
 use Rattle.smt_graph.specs.Meanings.{all_found, attributes_in, fields_in, found, meaning_at, meanings, only_if, stands_for, term_made, terms_in, typed_as}
-use Rattle.smt_graph.specs.Nodes.{PlainLabel, ApplicationLabel, LiteralLabel, VariableLabel, PlainNode, Meaning, TypeMeaning, FunctionMeaning, TermMeaning}
-use Rattle.smt_graph.specs.Parts.{field_names, field_terms, label_in, names_in, parts_in, term_label, term_parts, types_in}
+use Rattle.smt_graph.specs.Nodes.{PlainLabel, EntityLabel, ApplicationLabel, LiteralLabel, VariableLabel, PlainNode, Meaning, TypeMeaning, FunctionMeaning, TermMeaning}
+use Rattle.smt_graph.specs.Parts.{field_names, field_terms, label_in, names_in, parts_in, term_label, term_parts, type_label, types_in}
 use Rattle.smt_graph.proofs.Distinct.{Stands, node_stands, nothing_past}
 use Rattle.smt_graph.proofs.Places.{map_back, only_back, some_same, test_back, then_back}
 use Rattle.smt_graph.proofs.Whole.{round, typed_back, whole}
+use Rattle.smt_leaves.specs.Entities.{bytes_of_type}
+use Rattle.smt_leaves.specs.contracts.entity.EntityTypePartialEq.TheImpl as entity_type_equality
+use Rattle.smt_leaves.specs.declared.entity.EntityType.{EntityType}
 use Rattle.smt_term.proofs.DerivedEquality.{equal_literals, equal_operators}
 use Rattle.smt_term.specs.View.{plain_literal, plain_op, plain_term}
 use Rattle.smt_term.specs.contracts.op.OpPartialEq.TheImpl as op_equality
@@ -38,7 +41,7 @@ use Rattle.smt_nodes.specs.contracts.node.LabelPartialEq.TheImpl as label_equali
 use Rattle.smt_nodes.specs.contracts.node.LabelOrd.TheImpl.Laws as label_laws
 use Rattle.smt_nodes.specs.declared.id.NodeId.{NodeId}
 use Rattle.smt_nodes.specs.declared.node.Label.{Label}
-use Rattle.smt_nodes.specs.declared.node.Label.TheVariants.{App, Prim, Var}
+use Rattle.smt_nodes.specs.declared.node.Label.TheVariants.{TEntity, App, Prim, Var}
 
 -- ---- a meaning is determined by its label and its parts
 -- lists of terms, of attributes and of fields, there and back
@@ -315,11 +318,27 @@ text_is r l own id e s = (
       e ∙ (bytes_eq-Decides (rc_str_bytes own) id).1 same,
 )
 
+pub entity_type_is : (r : Bool) (l : Label) (own ety : EntityType) → r ≡ entity_type_equality.ghosts.eq own ety → l ≡ TEntity own → (r ≡ true) ↔ (plain_label l ≡ EntityLabel (bytes_of_type ety))
+entity_type_is r l own ety e s = (
+  λ h. ap plain_label s ∙ ap EntityLabel ((bytes_eq-Decides (bytes_of_type own) (bytes_of_type ety)).0 (sym e ∙ h)),
+  λ h.
+      let both : EntityLabel (bytes_of_type own) ≡ EntityLabel (bytes_of_type ety) = sym (ap plain_label s) ∙ h in
+      let same : bytes_of_type own ≡ bytes_of_type ety = cc in
+      e ∙ (bytes_eq-Decides (bytes_of_type own) (bytes_of_type ety)).1 same,
+)
+
 -- the same label, said otherwise
 pub at_label : (r : Bool) (l : Label) (u v : PlainTerm) → u ≡ v → (r ≡ true) ↔ (plain_label l ≡ term_label v) → (r ≡ true) ↔ (plain_label l ≡ term_label u)
 at_label r l u v e h = (λ t. h.0 t ∙ sym (ap term_label e), λ q. h.1 (q ∙ ap term_label e))
 
+pub at_type_label : (r : Bool) (l : Label) (t u : PlainType) → t ≡ u → (r ≡ true) ↔ (plain_label l ≡ type_label u) → (r ≡ true) ↔ (plain_label l ≡ type_label t)
+at_type_label r l t u e h = (λ k. h.0 k ∙ sym (ap type_label e), λ q. h.1 (q ∙ ap type_label e))
+
 -- labels of other kinds
+an_entity_type : (l : Label) (name : List ℕ) → plain_label l ≡ EntityLabel name → (ety : EntityType) × (l ≡ TEntity ety)
+an_entity_type (TEntity ety) name h = (ety, refl)
+an_entity_type l name h = absurd (cc)
+
 an_application : (l : Label) (o : PlainOp) → plain_label l ≡ ApplicationLabel o → (p : Op) × (l ≡ App p)
 an_application (App p) o h = (p, refl)
 an_application l o h = absurd (cc)
@@ -331,6 +350,9 @@ a_literal l p h = absurd (cc)
 a_variable : (l : Label) (id : List ℕ) → plain_label l ≡ VariableLabel id → (q : RcStr Global) × (l ≡ Var q)
 a_variable (Var q) id h = (q, refl)
 a_variable l id h = absurd (cc)
+
+pub no_entity_type : (l : Label) (name : List ℕ) → ((ety : EntityType) → l ≡ TEntity ety → ⊥) → (false ≡ true) ↔ (plain_label l ≡ EntityLabel name)
+no_entity_type l name n = (λ h. absurd (false≢true h), λ h. (let (ety, e) = an_entity_type l name h in absurd (n ety e)))
 
 pub no_application : (l : Label) (op : Op) (ts : PlainTerms) (t : PlainType) → ((p : Op) → l ≡ App p → ⊥) → (false ≡ true) ↔ (plain_label l ≡ term_label (Application (plain_op op) ts t))
 no_application l op ts t n = (λ h. absurd (false≢true h), λ h. (let (p, e) = an_application l (plain_op op) (h ∙ app_label op ts t) in absurd (n p e)))

@@ -12,7 +12,7 @@ use Rattle.smt_meaning.proofs.TermTotal.{types_decided}
 use Rattle.smt_graph.specs.Fits.{applies_no_function, fits, is_term}
 use Rattle.smt_graph.specs.Graphs.{IsGraph}
 use Rattle.smt_graph.specs.Meanings.{all_found, found, meaning_at, meanings, stands_for, terms_in}
-use Rattle.smt_graph.specs.Nodes.{PlainLabel, OptionLabel, BitVecLabel, BoolLabel, StringLabel, SetLabel, ApplicationLabel, NoneLabel, LiteralLabel, SetOfLabel, SomeLabel, VariableLabel, PlainNode, Meaning, TypeMeaning, TermMeaning}
+use Rattle.smt_graph.specs.Nodes.{PlainLabel, OptionLabel, BitVecLabel, BoolLabel, EntityLabel, StringLabel, SetLabel, ApplicationLabel, NoneLabel, LiteralLabel, SetOfLabel, SomeLabel, VariableLabel, PlainNode, Meaning, TypeMeaning, TermMeaning}
 use Rattle.smt_graph.specs.Parts.{parts_in, term_parts}
 use Rattle.smt_graph.proofs.Distinct.{places_differ}
 use Rattle.smt_graph.proofs.Fitting.{are_terms, fitting, parts_fit}
@@ -317,12 +317,14 @@ some_of_more ms (x ∷ y ∷ z ∷ ids) h = some_many ms (place_of x) (place_of 
 abbrev pub stands_alone : PlainLabel → Bool
 stands_alone (BitVecLabel n) = true
 stands_alone BoolLabel = true
+stands_alone (EntityLabel e) = true
 stands_alone StringLabel = true
 stands_alone l = false
 
 alone_none : (l : PlainLabel) → stands_alone l ≡ true → (ms : List (Option Meaning)) → true ≡ is_some (option_and_then (stands_for l) (all_found ms []))
 alone_none (BitVecLabel n) h ms = refl
 alone_none BoolLabel h ms = refl
+alone_none (EntityLabel e) h ms = refl
 alone_none StringLabel h ms = refl
 alone_none l h ms = cc
 
@@ -331,9 +333,11 @@ alone_at l h None y = refl
 alone_at l h (Some m) None = refl
 alone_at (BitVecLabel n) h (Some (TypeMeaning t)) (Some ms) = refl
 alone_at BoolLabel h (Some (TypeMeaning t)) (Some ms) = refl
+alone_at (EntityLabel e) h (Some (TypeMeaning t)) (Some ms) = refl
 alone_at StringLabel h (Some (TypeMeaning t)) (Some ms) = refl
 alone_at (BitVecLabel n) h (Some m) (Some ms) = refl
 alone_at BoolLabel h (Some m) (Some ms) = refl
+alone_at (EntityLabel e) h (Some m) (Some ms) = refl
 alone_at StringLabel h (Some m) (Some ms) = refl
 alone_at l h (Some m) (Some ms) = cc
 

@@ -1,6 +1,6 @@
 -- What stands at a place, by its kind and its type.
-use Rattle.std.specs.Prelude.{ℕ, Bool, true, false, List, Option, Some, None, is_some, nat_eq, option_and_then}
-use Rattle.smt_meaning.specs.Plain.{OptionType, PlainLiteral, BitVecLiteral, BoolLiteral, StringLiteral, PlainTerm}
+use Rattle.std.specs.Prelude.{ℕ, Bool, true, false, List, Option, Some, None, bytes_eq, is_some, nat_eq, option_and_then}
+use Rattle.smt_meaning.specs.Plain.{OptionType, PlainLiteral, BitVecLiteral, BoolLiteral, EntityLiteral, StringLiteral, PlainTerm}
 use Rattle.smt_meaning.specs.TermOrder.{term_cmp}
 use Rattle.smt_meaning.specs.ValueOrder.{ascends}
 use Rattle.smt_meaning.specs.Types.{inner_type, is_set, literal_type, type_eq, type_of}
@@ -35,6 +35,7 @@ is_term_label l = true
 abbrev pub is_literal_label : PlainLiteral → PlainLabel → Bool
 is_literal_label (BitVecLiteral n a) (BitVecLabel m) = nat_eq n m
 is_literal_label (BoolLiteral b) BoolLabel = true
+is_literal_label (EntityLiteral e i) (EntityLabel f) = bytes_eq e f
 is_literal_label (StringLiteral s) StringLabel = true
 is_literal_label l m = false
 

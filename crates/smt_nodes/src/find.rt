@@ -119,6 +119,7 @@ impl Interner {
             TermType::Option { ty } => self.are_one_type(parts, ty),
             TermType::Bitvec { .. } => parts.is_empty(),
             TermType::Bool => parts.is_empty(),
+            TermType::Entity { .. } => parts.is_empty(),
             TermType::String => parts.is_empty(),
             TermType::Set { ty } => self.are_one_type(parts, ty),
         }
@@ -169,6 +170,10 @@ impl Label {
             TermType::Option { .. } => *self == Label::TOption,
             TermType::Bitvec { n } => *self == Label::TBitvec(*n),
             TermType::Bool => *self == Label::TBool,
+            TermType::Entity { ety } => match self {
+                Label::TEntity(own) => own == ety,
+                _ => false,
+            },
             TermType::String => *self == Label::TString,
             TermType::Set { .. } => *self == Label::TSet,
         }

@@ -93,6 +93,7 @@ impl Interner {
             }
             TermType::Bitvec { n } => self.enter(Label::TBitvec(*n), &[]),
             TermType::Bool => self.enter(Label::TBool, &[]),
+            TermType::Entity { ety } => self.enter(Label::TEntity(ety.share()?), &[]),
             TermType::String => self.enter(Label::TString, &[]),
             TermType::Set { ty } => {
                 let inner = self.intern_type(ty)?;

@@ -2,7 +2,7 @@
 ghost use Rattle.std.specs.Prelude.{ℕ, List, ◌≡◌, ◌↔◌, ◌<◌, ◌≤◌, ◌^◌, [], Contains, IfNone, IfOk, IfSome, IsTrue, OnOk, Some, is_some, length, map, option_and_then, option_map, slice_get};
 ghost use Rattle.std.specs.List.{AllByRecursion, list_all};
 ghost use Rattle.smt_graph.specs.Fits.{applies_no_function, fits};
-ghost use Rattle.smt_graph.specs.Nodes.{ApplicationLabel, BitVecLabel, BoolLabel, LiteralLabel, NoneLabel, OptionLabel, SetLabel, SetOfLabel, SomeLabel, StringLabel, VariableLabel};
+ghost use Rattle.smt_graph.specs.Nodes.{ApplicationLabel, BitVecLabel, BoolLabel, EntityLabel, LiteralLabel, NoneLabel, OptionLabel, SetLabel, SetOfLabel, SomeLabel, StringLabel, VariableLabel};
 ghost use Rattle.smt_meaning.specs.Plain.{PlainOp};
 ghost use Rattle.smt_graph.specs.Graphs.{IsGraph};
 ghost use Rattle.smt_graph.specs.Meanings.{all_found, meaning_at, meanings, stands_for};
@@ -117,6 +117,7 @@ impl Interner {
             Label::TOption => self.fits_around_type(parts),
             Label::TBitvec(_) => self.fits_alone(parts),
             Label::TBool => self.fits_alone(parts),
+            Label::TEntity(_) => self.fits_alone(parts),
             Label::TString => self.fits_alone(parts),
             Label::TSet => self.fits_around_type(parts),
             Label::App(_) => self.fits_application(parts),
@@ -132,6 +133,7 @@ impl Interner {
     fn fits_alone(&self, parts: &[NodeId]) -> bool
         ensures bits { (n : ℕ) → result ≡ is_some (option_and_then (stands_for (BitVecLabel n)) (all_found (meanings (nodes_of self.now)) (places_of parts.now))) }
         ensures truths { result ≡ is_some (option_and_then (stands_for BoolLabel) (all_found (meanings (nodes_of self.now)) (places_of parts.now))) }
+        ensures entities { (name : List ℕ) → result ≡ is_some (option_and_then (stands_for (EntityLabel name)) (all_found (meanings (nodes_of self.now)) (places_of parts.now))) }
         ensures texts { result ≡ is_some (option_and_then (stands_for StringLabel) (all_found (meanings (nodes_of self.now)) (places_of parts.now))) }
     {
         match parts {

@@ -5,7 +5,7 @@ ghost use Rattle.smt_term.specs.View.{plain_literal};
 
 use crate::id::IdList;
 use smt_bits::Width;
-use smt_term::{Op, TermError, TermPrim, Text};
+use smt_term::{EntityType, Op, TermError, TermPrim, Text};
 
 /// What a type or a term is, apart from its parts. The types come first.
 #[derive(Debug, PartialEq, Eq, PartialOrd, Ord, Drop)]
@@ -16,6 +16,8 @@ pub enum Label {
     TBitvec(Width),
     /// The type of truth values.
     TBool,
+    /// The type of entities of a type.
+    TEntity(EntityType),
     /// The type of texts.
     TString,
     /// The type of finite sets; its part is the element type.
@@ -51,9 +53,12 @@ impl Label {
         ensures { result ≡ is_type_label (plain_label self.now) }
     {
         match self {
-            Label::TOption | Label::TBitvec(_) | Label::TBool | Label::TString | Label::TSet => {
-                true
-            }
+            Label::TOption
+            | Label::TBitvec(_)
+            | Label::TBool
+            | Label::TEntity(_)
+            | Label::TString
+            | Label::TSet => true,
             Label::App(_)
             | Label::NoneOf
             | Label::Prim(_)
@@ -83,6 +88,10 @@ impl Label {
                 Label::TBool => true,
                 _ => false,
             },
+            TermPrim::Entity(entity) => match self {
+                Label::TEntity(ety) => entity.ety == *ety,
+                _ => false,
+            },
             TermPrim::String(_) => match self {
                 Label::TString => true,
                 _ => false,
@@ -90,7 +99,7 @@ impl Label {
         }
     }
 
-    /// An equal label that shares its text.
+    /// An equal label that shares its texts.
     ///
     /// # Errors
     /// `Memory`, where there is none for the label.
@@ -101,6 +110,7 @@ impl Label {
             Label::TOption => Label::TOption,
             Label::TBitvec(width) => Label::TBitvec(*width),
             Label::TBool => Label::TBool,
+            Label::TEntity(ety) => Label::TEntity(ety.share()?),
             Label::TString => Label::TString,
             Label::TSet => Label::TSet,
             Label::App(op) => Label::App(op.share()?),

@@ -56,6 +56,7 @@ fn parts_difference(label: &Label, xs: &[NodeId], ys: &[NodeId]) -> Difference
         Label::TOption
         | Label::TBitvec(_)
         | Label::TBool
+        | Label::TEntity(_)
         | Label::TString
         | Label::TSet
         | Label::NoneOf

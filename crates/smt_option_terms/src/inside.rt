@@ -44,8 +44,10 @@ pub(crate) fn inner_type(alloc: Global, t: &Term) -> Result<Option<TermType>, Te
 {
     match t.type_of(alloc)? {
         TermType::Option { ty } => Ok(Some(ty.share()?)),
-        TermType::Bitvec { .. } | TermType::Bool | TermType::String | TermType::Set { .. } => Ok(
-            None,
-        ),
+        TermType::Bitvec { .. }
+        | TermType::Bool
+        | TermType::Entity { .. }
+        | TermType::String
+        | TermType::Set { .. } => Ok(None),
     }
 }

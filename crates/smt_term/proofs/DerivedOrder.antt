@@ -12,19 +12,19 @@ use Rattle.std.specs.formers.vec.Vec as vec
 use denote.Hole.Carrier
 use denote.Hole.Compared
 use mathlib.Core.Former
-use Rattle.smt_term.proofs.PatternOrder.{pattern_cmp-is}
+use Rattle.smt_leaves.proofs.PatternOrder.{pattern_cmp-is}
 use Rattle.smt_term.specs.Program.{ListsCompareAsPlain, SetsCompareAsPlain, VariablesCompareAsPlain}
 use Rattle.smt_meaning.specs.TermOrder.{op_cmp, literal_cmp, term_cmp, terms_cmp}
 use Rattle.smt_meaning.specs.Types.{type_cmp}
 use Rattle.smt_meaning.specs.ValueOrder.{text_cmp}
 use Rattle.smt_term.specs.View.{plain_type, plain_op, plain_literal, plain_term, plain_row}
-use Rattle.smt_term.specs.declared.types.TermType.{TermType, Option', Bitvec, Bool, String, Set' as SetOf'}
+use Rattle.smt_term.specs.declared.types.TermType.{TermType, Option', Bitvec, Bool, Entity, String, Set' as SetOf'}
 use Rattle.smt_term.specs.declared.types.TermType.TheViews as type_views
 use Rattle.smt_term.specs.contracts.types.TermTypeOrd.TheImpl.Laws as type_laws
 use Rattle.smt_term.specs.declared.op.Op.{Op}
 use Rattle.smt_term.specs.declared.op.Op.TheVariants.{And, StringLike}
 use Rattle.smt_term.specs.declared.term.TermPrim.{TermPrim}
-use Rattle.smt_term.specs.declared.term.TermPrim.TheVariants.{Bitvec as BitsLiteral, Bool as TruthLiteral, String as TextLiteral}
+use Rattle.smt_term.specs.declared.term.TermPrim.TheVariants.{Bitvec as BitsLiteral, Bool as TruthLiteral, Entity as EntityOf, String as TextLiteral}
 use Rattle.smt_term.specs.declared.term.Term.{Term, App', None, Prim, Set', Some', Var, Row_of-Term, end_of-Term, more_of-Term}
 use Rattle.smt_term.specs.declared.term.Term.TheViews as views
 use Rattle.smt_term.specs.declared.term.Term.TheBlock as block
@@ -48,6 +48,7 @@ unfolding plain_type type_views.out-TermType Carrier.out
 type_cmp-is (Option' p t) (Option' q u) = type_laws.is (Option' p t) (Option' q u) ∙ type_cmp-is t u
 type_cmp-is (Bitvec n) (Bitvec m) = type_laws.is (Bitvec n) (Bitvec m)
 type_cmp-is Bool Bool = type_laws.is Bool Bool
+type_cmp-is (Entity e) (Entity f) = type_laws.is (Entity e) (Entity f)
 type_cmp-is String String = type_laws.is String String
 type_cmp-is (SetOf' p t) (SetOf' q u) = type_laws.is (SetOf' p t) (SetOf' q u) ∙ type_cmp-is t u
 type_cmp-is a b = type_laws.is a b
@@ -60,6 +61,7 @@ op_cmp-is a b = refl
 pub literal_cmp-is : (a b : TermPrim) → literal_ord.ghosts.cmp a b ≡ literal_cmp (plain_literal a) (plain_literal b)
 literal_cmp-is (BitsLiteral x) (BitsLiteral y) = refl
 literal_cmp-is (TruthLiteral x) (TruthLiteral y) = refl
+literal_cmp-is (EntityOf x) (EntityOf y) = refl
 literal_cmp-is (TextLiteral x) (TextLiteral y) = refl
 literal_cmp-is a b = refl
 

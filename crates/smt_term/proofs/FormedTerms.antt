@@ -10,8 +10,8 @@ use Rattle.smt_meaning.specs.Types.{literal_type, type_of}
 use Rattle.smt_term.specs.View.{plain_literal, plain_row, plain_term, plain_type}
 use Rattle.smt_term.specs.declared.term.Term.{Term, App', None, Prim, Set', Some', Var, Row_of-Term, end_of-Term, more_of-Term}
 use Rattle.smt_term.specs.declared.term.TermPrim.{TermPrim}
-use Rattle.smt_term.specs.declared.term.TermPrim.TheVariants.{Bitvec as BitsLiteral, Bool as TruthLiteral, String as TextLiteral}
-use Rattle.smt_term.specs.declared.types.TermType.{TermType, Option', Bitvec, Bool, String, Set' as SetOf'}
+use Rattle.smt_term.specs.declared.term.TermPrim.TheVariants.{Bitvec as BitsLiteral, Bool as TruthLiteral, Entity as EntityOf, String as TextLiteral}
+use Rattle.smt_term.specs.declared.types.TermType.{TermType, Option', Bitvec, Bool, Entity, String, Set' as SetOf'}
 use Rattle.smt_meaning.proofs.Defaults.{all-join}
 use Rattle.smt_meaning.proofs.Soundness.{all-last}
 
@@ -41,12 +41,14 @@ unfolding plain_type
 formed_type (Option' p t) = formed_option (plain_type t) (formed_type t)
 formed_type (Bitvec n) = ((n.at_least_one, n.at_most_128), tt)
 formed_type Bool = (tt, tt)
+formed_type (Entity e) = (tt, tt)
 formed_type String = (tt, tt)
 formed_type (SetOf' p t) = formed_set (plain_type t) (formed_type t)
 
 pub formed_literal : (l : TermPrim) → IsFormedLiteral (plain_literal l) × IsFormedType (literal_type (plain_literal l))
 formed_literal (BitsLiteral b) = (b.below_width, ((b.width.at_least_one, b.width.at_most_128), tt))
 formed_literal (TruthLiteral b) = (tt, (tt, tt))
+formed_literal (EntityOf e) = (IsUtf8-string_bytes e.id.0.text.value, (tt, tt))
 formed_literal (TextLiteral s) = (IsUtf8-string_bytes s.text.value, (tt, tt))
 
 mutual

@@ -1,16 +1,9 @@
-pub mod AscendingTexts
 pub mod DerivedEquality
 pub mod DerivedOrder
-pub mod EnumEntries
 pub mod FormedTerms
 pub mod InsertedTerms
-pub mod LastPairs
 pub mod LiteralElements
-pub mod PatternOrder
-pub mod PatternSearch
 pub mod PutPairs
 pub mod SameType
-pub mod SortedItems
-pub mod SortedPairs
 pub mod TermTables
 pub mod TypedArguments

@@ -1,35 +1,25 @@
--- One step of the loops that put texts into a set, and attributes or terms with what stands beside them into a map.
+-- One step of the loops that put attributes or terms, with what stands beside them, into a map.
 use Rattle.std.proofs.Common.{◌≡◌, ℕ, ◌+◌, ◌<◌, List, map, take, drop, length, get_or, Some, cond, refl, sym, ap, ◌∙◌}
 use Rattle.std.proofs.lemmas.Cmp.{nat_list_cmp_total}
 use Rattle.std.proofs.lemmas.List.{at_drop_more}
 use Rattle.std.specs.BTreeMap.{insert_entry}
-use Rattle.std.specs.BTreeSet.{insert_key}
 use Rattle.std.specs.Map.{lookup}
 use Rattle.std.specs.Rc.{rc_str_bytes}
 use Rattle.std.specs.declared.alloc.Global.{Global}
-use Rattle.std.specs.declared.cmp.Ordering.{Ordering}
 use Rattle.std.specs.declared.rc.RcStr.{RcStr}
 use Rattle.smt_meaning.proofs.SameTerm.{term_same}
 use Rattle.smt_meaning.proofs.TermTotal.{terms_total}
 use Rattle.smt_meaning.proofs.ValueOrder.{text_same}
 use Rattle.smt_meaning.specs.TermOrder.{term_cmp, term_eq}
 use Rattle.smt_meaning.specs.ValueOrder.{text_cmp}
-use Rattle.smt_term.specs.Maps.{plain_attribute, plain_entry, plain_field, sorted_pairs}
-use Rattle.smt_term.specs.TextSets.{sorted_texts}
+use Rattle.smt_term.specs.Maps.{plain_attribute, plain_entry, plain_field}
+use Rattle.smt_leaves.specs.SortedPairs.{sorted_pairs}
 use Rattle.smt_term.specs.View.{plain_term, plain_type}
 use Rattle.smt_term.specs.declared.term.Term.{Term}
 use Rattle.smt_term.specs.declared.types.TermType.{TermType}
 use Rattle.smt_term.proofs.DerivedOrder.{derived_term_cmp, term_cmp-is}
-use Rattle.smt_term.proofs.SortedPairs.{pair_put}
-use Rattle.smt_term.proofs.SortedItems.{item_put}
-
--- the order of texts as a map has it
-abbrev pub by_bytes : RcStr Global → RcStr Global → Ordering
-by_bytes x y = text_cmp (rc_str_bytes x) (rc_str_bytes y)
-
-pub text_put : (items : List (RcStr Global)) (i : ℕ) (x k : RcStr Global) (found found' : List (RcStr Global)) → i < length items → x ≡ get_or items i x → rc_str_bytes k ≡ rc_str_bytes x → found' ≡ insert_key by_bytes found k
-    → map rc_str_bytes found ≡ sorted_texts (map rc_str_bytes (take i items)) → map rc_str_bytes found' ≡ sorted_texts (map rc_str_bytes (take (i + 1) items))
-text_put = item_put by_bytes text_cmp rc_str_bytes (λ a b. refl) nat_list_cmp_total text_same
+use Rattle.smt_leaves.proofs.PutTexts.{by_bytes}
+use Rattle.smt_leaves.proofs.SortedPairs.{pair_put}
 
 pub attribute_put : (items : List (RcStr Global × TermType)) (i : ℕ) (x : RcStr Global × TermType) (k : RcStr Global) (v : TermType) (found found' : List (RcStr Global × TermType)) → i < length items → x ≡ get_or items i x
     → rc_str_bytes k ≡ rc_str_bytes x.0 → plain_type v ≡ plain_type x.1 → found' ≡ insert_entry by_bytes found k v

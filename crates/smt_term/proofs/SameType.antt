@@ -4,8 +4,12 @@ use Rattle.std.specs.Cmp.{Equal-is}
 use Rattle.std.specs.Ordering.{is_eq, ordering_reverse}
 use Rattle.std.specs.declared.cmp.Ordering.{Ordering}
 use Rattle.std.specs.declared.cmp.Ordering.TheVariants.{Less, Equal, Greater}
-use Rattle.smt_meaning.specs.Plain.{PlainType}
+use Rattle.smt_meaning.specs.Plain.{PlainType, EntityType}
 use Rattle.smt_meaning.specs.Types.{type_cmp, type_eq}
+use Rattle.smt_leaves.specs.Entities.{bytes_of_type}
+use Rattle.smt_leaves.specs.declared.entity.EntityType.{EntityType as EntityName}
+use Rattle.smt_leaves.specs.contracts.entity.EntityTypePartialEq.TheImpl as entity_equality
+use Rattle.smt_leaves.specs.contracts.entity.EntityTypeOrd.TheImpl.Laws as entity_laws
 use Rattle.smt_term.specs.View.{plain_type}
 use Rattle.smt_term.specs.declared.types.TermType.{TermType}
 use Rattle.smt_term.specs.contracts.types.TermTypePartialEq.TheImpl as type_equality
@@ -17,6 +21,10 @@ use Rattle.smt_meaning.proofs.TypeOrder.{type_same, type_itself}
 -- the derived test is the test on what they say
 pub type_eq-is : (a b : TermType) → type_equality.ghosts.eq a b ≡ type_eq (plain_type a) (plain_type b)
 type_eq-is a b = type_laws.matches_eq-law a b ∙ ap is_eq (type_cmp-is a b)
+
+-- the same of entity types
+pub entity_eq-is : (a b : EntityName) → entity_equality.ghosts.eq a b ≡ type_eq (EntityType (bytes_of_type a)) (EntityType (bytes_of_type b))
+entity_eq-is a b = entity_laws.matches_eq-law a b
 
 equal-reversed : (o : Ordering) → is_eq (ordering_reverse o) ≡ is_eq o
 equal-reversed Less = refl

@@ -7,8 +7,9 @@ use Rattle.smt_meaning.proofs.TermTotal.{terms_total}
 use Rattle.smt_meaning.specs.Plain.{PlainTerm}
 use Rattle.smt_meaning.specs.TermOrder.{term_cmp, term_eq}
 use Rattle.smt_meaning.specs.ValueOrder.{ascends}
-use Rattle.smt_term.specs.Maps.{TermTablesAscend, plain_entry, sorted_pairs}
-use Rattle.smt_term.proofs.LastPairs.{last_pairs}
+use Rattle.smt_term.specs.Maps.{TermTablesAscend, plain_entry}
+use Rattle.smt_leaves.specs.SortedPairs.{sorted_pairs}
+use Rattle.smt_leaves.proofs.LastPairs.{last_pairs}
 use Rattle.smt_term.specs.View.{plain_term}
 use Rattle.smt_term.specs.declared.term.Term.{Term}
 

@@ -1,10 +1,5 @@
-pub mod Entities
-pub mod Enums
 pub mod Maps
 pub mod OpClass
-pub mod PatternOrder
-pub mod PatternSearch
-pub mod PatternView
 pub mod Program
-pub mod TextSets
+pub mod TypeKinds
 pub mod View

@@ -1,28 +1,19 @@
 -- What maps and tables say: their pairs in order.
-use Rattle.std.specs.Prelude.{◌≡◌, ℕ, Bool, List, IsTrue, bytes_eq, map, reverse}
-use Rattle.std.specs.Map.{keys_of, lookup}
+use Rattle.std.specs.Prelude.{ℕ, List, IsTrue, bytes_eq, map}
+use Rattle.std.specs.Map.{keys_of}
 use Rattle.std.specs.Rc.{rc_str_bytes}
 use Rattle.std.specs.declared.alloc.Global.{Global}
-use Rattle.std.specs.declared.cmp.Ordering.{Ordering}
 use Rattle.std.specs.declared.rc.RcStr.{RcStr}
 use Rattle.smt_meaning.specs.Plain.{PlainTerm, PlainType}
 use Rattle.smt_meaning.specs.TermOrder.{term_cmp, term_eq}
-use Rattle.smt_meaning.specs.ValueOrder.{ascends, sorted, text_cmp}
+use Rattle.smt_meaning.specs.ValueOrder.{ascends, text_cmp}
+use Rattle.smt_leaves.specs.SortedPairs.{AreLastPairs, sorted_pairs}
 use Rattle.smt_term.specs.View.{plain_term, plain_type}
 use Rattle.smt_term.specs.declared.maps.TermMap.{TermMap}
 use Rattle.smt_term.specs.declared.table.TermTable.{TermTable}
 use Rattle.smt_term.specs.declared.maps.TypeMap.{TypeMap}
 use Rattle.smt_term.specs.declared.term.Term.{Term}
 use Rattle.smt_term.specs.declared.types.TermType.{TermType}
-
--- the pairs in the order of their keys; of equal keys the last pair stays
-abbrev pub sorted_pairs : {K X : Type 0} → (K → K → Ordering) → List (K × X) → List (K × X)
-sorted_pairs cmp ps = sorted (λ p q. cmp p.0 q.0) ps
-
--- the keys of pairs ascend strictly, and each has the value of the last pair that was given with it
-pub record AreLastPairs {K X : Type 0} (cmp : K → K → Ordering) (same : K → K → Bool) (given pairs : List (K × X)) : Type 0 where
-  pub ascending : IsTrue (ascends cmp (keys_of pairs))
-  pub last : (k : K) → lookup (same k) pairs ≡ lookup (same k) (reverse given)
 
 -- in order, pairs of attributes and types are the last pairs of those that were given
 abbrev pub TypePairsAreSorted : Type 0

@@ -7,15 +7,17 @@ use Rattle.std.specs.Rc.{rc_str_bytes}
 use Rattle.std.specs.declared.alloc.Global.{Global}
 use Rattle.std.specs.declared.rc.Rc.{Rc}
 use Rattle.smt_bits.specs.declared.width.Width.{Width}
-use Rattle.smt_term.specs.PatternView.{plain_ord_pattern}
+use Rattle.smt_leaves.specs.Entities.{bytes_of_id, bytes_of_type}
+use Rattle.smt_leaves.specs.PatternView.{plain_ord_pattern}
+use Rattle.smt_leaves.specs.declared.entity.EntityType.{EntityType as EntityName}
 use Rattle.smt_arithmetic.specs.BitOperators.{BvaddOp, BvlshrOp, BvmulOp, BvsdivOp, BvshlOp, BvsmodOp, BvsremOp, BvsubOp, BvudivOp, BvuremOp, BvsleOp, BvsltOp, BvuleOp, BvultOp, BvsaddoOp, BvsmuloOp, BvssuboOp}
-use Rattle.smt_meaning.specs.Plain.{PlainType, OptionType, BitVecType, BoolType, StringType, SetType, PlainOp, AndOp, BvnegOp, BvnegoOp, EqOp, IteOp, NotOp, OptionGetOp, OrOp, SetInterOp, SetMemberOp, SetSubsetOp, StringLikeOp, ZeroExtendOp, PlainLiteral, BitVecLiteral, BoolLiteral, StringLiteral, PlainTerm, Application, NoneTerm, LiteralTerm, SetTerm, SomeTerm, VariableTerm, PlainTerms, no_terms, one_term, terms, BitsOp, TestOp, OverflowOp}
-use Rattle.smt_term.specs.declared.types.TermType.{TermType, Option as OptionOf, Option', Bitvec, Bool, String, Set as SetOf, Set' as SetOf'}
+use Rattle.smt_meaning.specs.Plain.{PlainType, OptionType, BitVecType, BoolType, EntityType, StringType, SetType, PlainOp, AndOp, BvnegOp, BvnegoOp, EqOp, IteOp, NotOp, OptionGetOp, OrOp, SetInterOp, SetMemberOp, SetSubsetOp, StringLikeOp, ZeroExtendOp, PlainLiteral, BitVecLiteral, BoolLiteral, EntityLiteral, StringLiteral, PlainTerm, Application, NoneTerm, LiteralTerm, SetTerm, SomeTerm, VariableTerm, PlainTerms, no_terms, one_term, terms, BitsOp, TestOp, OverflowOp}
+use Rattle.smt_term.specs.declared.types.TermType.{TermType, Option as OptionOf, Option', Bitvec, Bool, Entity, String, Set as SetOf, Set' as SetOf'}
 use Rattle.smt_term.specs.declared.op.Op.{Op}
 use Rattle.smt_term.specs.declared.op.Op.TheVariants.{And, Bvadd, Bvlshr, Bvmul, Bvneg, Bvnego, Bvsaddo, Bvsdiv, Bvshl, Bvsle, Bvslt, Bvsmod, Bvsmulo, Bvsrem, Bvssubo, Bvsub, Bvudiv, Bvule, Bvult, Bvurem, Eq, Ite, Not, OptionGet, Or, SetInter, SetMember, SetSubset, StringLike, ZeroExtend}
 use Rattle.smt_term.specs.declared.term.TermVar.{TermVar}
 use Rattle.smt_term.specs.declared.term.TermPrim.{TermPrim}
-use Rattle.smt_term.specs.declared.term.TermPrim.TheVariants.{Bitvec as BitsLiteral, Bool as TruthLiteral, String as TextLiteral}
+use Rattle.smt_term.specs.declared.term.TermPrim.TheVariants.{Bitvec as BitsLiteral, Bool as TruthLiteral, Entity as EntityOf, String as TextLiteral}
 use Rattle.smt_term.specs.declared.term.Term.{Term, App, App', None, Prim, Set, Set', Some, Some', Var, Row_of-Term, end_of-Term, more_of-Term, items-the_row-Term, items_hidden-the_row-Term-0}
 use Rattle.smt_term.specs.declared.term.TermList.{TermList}
 use Rattle.smt_term.specs.declared.term.TermSet.{TermSet}
@@ -25,6 +27,7 @@ unfoldable pub plain_type : TermType → PlainType
 plain_type (Option' p t) = OptionType (plain_type t)
 plain_type (Bitvec n) = BitVecType (bits_in n)
 plain_type Bool = BoolType
+plain_type (Entity e) = EntityType (bytes_of_type e)
 plain_type String = StringType
 plain_type (SetOf' p t) = SetType (plain_type t)
 
@@ -63,6 +66,7 @@ plain_op (ZeroExtend k) = ZeroExtendOp k
 abbrev pub plain_literal : TermPrim → PlainLiteral
 plain_literal (BitsLiteral b) = BitVecLiteral (width_of b) (number_of b)
 plain_literal (TruthLiteral b) = BoolLiteral b
+plain_literal (EntityOf e) = EntityLiteral (bytes_of_type e.ety) (bytes_of_id e.id)
 plain_literal (TextLiteral s) = StringLiteral (rc_str_bytes s)
 
 -- a variable as a term
@@ -111,6 +115,10 @@ pub plain_type-Bool : plain_type Bool ≡ BoolType
 unfolding plain_type
 plain_type-Bool = refl
 
+pub plain_type-Entity : (e : EntityName) → plain_type (Entity e) ≡ EntityType (bytes_of_type e)
+unfolding plain_type
+plain_type-Entity e = refl
+
 pub plain_type-String : plain_type String ≡ StringType
 unfolding plain_type
 plain_type-String = refl
@@ -150,4 +158,4 @@ pub plain_term-Var : (v : TermVar) → plain_term (Var v) ≡ plain_variable v
 unfolding plain_term
 plain_term-Var v = refl
 
-pub ruleset views = (plain_type-Option, plain_type-Bitvec, plain_type-Bool, plain_type-String, plain_type-Set, plain_term-App, plain_term-None, plain_term-Prim, plain_term-Set, plain_term-Some, plain_term-Var)
+pub ruleset views = (plain_type-Option, plain_type-Bitvec, plain_type-Bool, plain_type-Entity, plain_type-String, plain_type-Set, plain_term-App, plain_term-None, plain_term-Prim, plain_term-Set, plain_term-Some, plain_term-Var)

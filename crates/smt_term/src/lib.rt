@@ -7,27 +7,20 @@
 //! what it reaches in `Reached`, its interpretations in `Interpretations`.
 #![tactic(auto, using(crate::specs::View::views))]
 
-mod entity;
-mod enums;
-mod error;
 pub mod laws;
 mod maps;
 mod op;
-mod pattern;
 mod table;
 mod term;
-mod texts;
 mod types;
 mod typing;
 
-pub use entity::{EntityID, EntityType, EntityUID};
-pub use enums::EnumTable;
-pub use error::TermError;
 pub use maps::{Attr, TermMap, TypeMap};
 pub use op::Op;
-pub use pattern::{OrdPattern, Pattern, PatternElem};
-pub use smt_text::Text;
+pub use smt_leaves::{
+    EntityID, EntityType, EntityUID, EnumTable, OrdPattern, Pattern, PatternElem, TermError, Text,
+    TextSet,
+};
 pub use table::TermTable;
 pub use term::{Term, TermList, TermPrim, TermSet, TermVar};
-pub use texts::TextSet;
 pub use types::TermType;

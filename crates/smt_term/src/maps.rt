@@ -3,12 +3,13 @@ ghost use Rattle.std.specs.Prelude.{◌≡◌, ◌↔◌, [], IfOk, IsTrue, byte
 ghost use Rattle.std.specs.Map.{lookup};
 ghost use Rattle.std.specs.Rc.{rc_str_bytes};
 ghost use Rattle.smt_meaning.specs.ValueOrder.{text_cmp};
-ghost use Rattle.smt_term.specs.Maps.{plain_attribute, plain_attributes, plain_field, plain_fields, sorted_pairs};
+ghost use Rattle.smt_term.specs.Maps.{plain_attribute, plain_attributes, plain_field, plain_fields};
+ghost use Rattle.smt_leaves.specs.SortedPairs.{sorted_pairs};
 ghost use Rattle.smt_term.specs.View.{plain_term, plain_type};
 
-use crate::error::TermError;
 use crate::term::Term;
 use crate::types::TermType;
+use smt_leaves::TermError;
 use smt_text::{Text, share_text};
 use std::alloc::Global;
 use std::collections::BTreeMap;

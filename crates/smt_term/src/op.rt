@@ -4,8 +4,7 @@ ghost use Rattle.smt_meaning.specs.Names.{op_name};
 ghost use Rattle.smt_term.specs.OpClass.{class_of};
 ghost use Rattle.smt_term.specs.View.{plain_op};
 
-use crate::error::TermError;
-use crate::pattern::OrdPattern;
+use smt_leaves::{OrdPattern, TermError};
 
 /// An operator: of the theories Core, FixedSizeBitVectors and UnicodeStrings, of the logic QF_BV, of options or of finite
 /// sets.

@@ -5,8 +5,8 @@ ghost use Rattle.smt_meaning.specs.TermOrder.{term_cmp, term_eq};
 ghost use Rattle.smt_meaning.specs.ValueOrder.{ascends};
 ghost use Rattle.smt_term.specs.View.{plain_term};
 
-use crate::error::TermError;
 use crate::term::Term;
+use smt_leaves::TermError;
 use std::alloc::Global;
 use std::collections::BTreeMap;
 use std::rc::Rc;
@@ -19,7 +19,8 @@ pub struct TermTable {
 }
 
 impl TermTable {
-    ghost use Rattle.smt_term.specs.Maps.{plain_entries, plain_entry, sorted_pairs};
+    ghost use Rattle.smt_term.specs.Maps.{plain_entries, plain_entry};
+    ghost use Rattle.smt_leaves.specs.SortedPairs.{sorted_pairs};
 
     /// The table of these pairs, which it sorts by their keys; of pairs of one key the last stays.
     ///

@@ -3,10 +3,10 @@ ghost use Rattle.std.specs.Prelude.{◌≡◌, ◌↔◌, [], IfOk, IsTrue, leng
 ghost use Rattle.smt_meaning.specs.TermSets.{sorted_terms};
 ghost use Rattle.smt_term.specs.View.{elements_of, items_of, plain_elements, plain_items, plain_literal, plain_term, plain_variable};
 
-use crate::error::TermError;
 use crate::op::Op;
 use crate::types::TermType;
 use smt_bits::{BitVec, SIXTY_FOUR};
+use smt_leaves::{EntityUID, TermError};
 use smt_text::{Text, share_text};
 use std::alloc::Global;
 use std::collections::BTreeSet;
@@ -28,6 +28,8 @@ pub enum TermPrim {
     Bitvec(BitVec),
     /// A truth value.
     Bool(bool),
+    /// An entity.
+    Entity(EntityUID),
     /// A text.
     String(Text),
 }
@@ -177,7 +179,7 @@ impl TermSet {
 }
 
 impl TermPrim {
-    /// An equal literal that shares its text.
+    /// An equal literal that shares its texts.
     ///
     /// # Errors
     /// `Memory`, where there is none for the literal.
@@ -187,6 +189,7 @@ impl TermPrim {
         match self {
             TermPrim::Bitvec(bits) => Ok(TermPrim::Bitvec(*bits)),
             TermPrim::Bool(truth) => Ok(TermPrim::Bool(*truth)),
+            TermPrim::Entity(entity) => Ok(TermPrim::Entity(entity.share()?)),
             TermPrim::String(text) => Ok(TermPrim::String(share_text(text)?)),
         }
     }
@@ -268,6 +271,19 @@ impl From<BitVec> for Term {
 
     fn from(bits: BitVec) -> Term {
         Term::Prim(TermPrim::Bitvec(bits))
+    }
+}
+
+impl From<EntityUID> for Term {
+    ghost use Rattle.std.specs.Prelude.{◌≡◌};
+    ghost use Rattle.smt_meaning.specs.Plain.{EntityLiteral, LiteralTerm};
+    ghost use Rattle.smt_leaves.specs.Entities.{bytes_of_id, bytes_of_type};
+    ghost use Rattle.smt_term.specs.View.{plain_term};
+
+    ghost from_gives = { λ entity term. plain_term term ≡ LiteralTerm (EntityLiteral (bytes_of_type entity.ety) (bytes_of_id entity.id)) };
+
+    fn from(entity: EntityUID) -> Term {
+        Term::Prim(TermPrim::Entity(entity))
     }
 }
 

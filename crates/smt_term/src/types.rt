@@ -1,15 +1,17 @@
 // The types of terms.
-ghost use Rattle.std.specs.Prelude.{◌≡◌, IfOk};
+ghost use Rattle.std.specs.Prelude.{◌≡◌, IfOk, is_some};
 ghost use Rattle.smt_meaning.specs.Plain.{OptionType, SetType};
+ghost use Rattle.smt_meaning.specs.Types.{inner_type};
+ghost use Rattle.smt_term.specs.TypeKinds.{is_entity, is_entity_option, is_primitive};
 ghost use Rattle.smt_term.specs.View.{plain_type};
 
-use crate::error::TermError;
 use smt_bits::Width;
+use smt_leaves::{EntityType, TermError};
 use std::alloc::Global;
 use std::rc::Rc;
 
-/// The type of a term: a sort of the theories Core, FixedSizeBitVectors and UnicodeStrings, an option, or a finite set.
-/// Types order by the variants and fields as declared.
+/// The type of a term: a sort of the theories Core, FixedSizeBitVectors and UnicodeStrings, an entity type, an option,
+/// or a finite set. Types order by the variants and fields as declared.
 #[derive(Debug, PartialEq, Eq, PartialOrd, Ord, Drop)]
 pub enum TermType {
     /// None, or a value of a type.
@@ -18,6 +20,8 @@ pub enum TermType {
     Bitvec { n: Width },
     /// Truth values.
     Bool,
+    /// Entities of a type.
+    Entity { ety: EntityType },
     /// Texts: lists of the characters from 0 to 196607.
     String,
     /// Finite sets of values of a type.
@@ -49,6 +53,59 @@ impl TermType {
         })
     }
 
+    /// Whether it is the type of truth values, bitvectors, texts or entities.
+    pub fn is_prim_type(&self) -> bool
+        ensures { result ≡ is_primitive (plain_type self.now) }
+    {
+        match self {
+            TermType::Bitvec { .. } | TermType::Bool | TermType::Entity { .. } | TermType::String =>
+                true,
+            TermType::Option { .. } | TermType::Set { .. } => false,
+        }
+    }
+
+    /// Whether it is that of entities of a type.
+    pub fn is_entity_type(&self) -> bool
+        ensures { result ≡ is_entity (plain_type self.now) }
+    {
+        match self {
+            TermType::Entity { .. } => true,
+            TermType::Option { .. }
+            | TermType::Bitvec { .. }
+            | TermType::Bool
+            | TermType::String
+            | TermType::Set { .. } => false,
+        }
+    }
+
+    /// Whether it is that of options.
+    pub fn is_option_type(&self) -> bool
+        ensures { result ≡ is_some (inner_type (plain_type self.now)) }
+    {
+        match self {
+            TermType::Option { .. } => true,
+            TermType::Bitvec { .. }
+            | TermType::Bool
+            | TermType::Entity { .. }
+            | TermType::String
+            | TermType::Set { .. } => false,
+        }
+    }
+
+    /// Whether it is that of options of entities.
+    pub fn is_option_entity_type(&self) -> bool
+        ensures { result ≡ is_entity_option (plain_type self.now) }
+    {
+        match self {
+            TermType::Option { ty } => ty.is_entity_type(),
+            TermType::Bitvec { .. }
+            | TermType::Bool
+            | TermType::Entity { .. }
+            | TermType::String
+            | TermType::Set { .. } => false,
+        }
+    }
+
     /// An equal type that shares its parts.
     ///
     /// # Errors
@@ -60,6 +117,7 @@ impl TermType {
             TermType::Option { ty } => Ok(TermType::Option { ty: ty.clone()? }),
             TermType::Bitvec { n } => Ok(TermType::Bitvec { n: *n }),
             TermType::Bool => Ok(TermType::Bool),
+            TermType::Entity { ety } => Ok(TermType::Entity { ety: ety.share()? }),
             TermType::String => Ok(TermType::String),
             TermType::Set { ty } => Ok(TermType::Set { ty: ty.clone()? }),
         }

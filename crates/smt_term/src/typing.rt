@@ -3,18 +3,19 @@ ghost use Rattle.std.specs.Prelude.{◌≡◌, ◌↔◌, ◌∷◌, [], IfOk, I
 ghost use Rattle.std.specs.List.{list_all};
 ghost use Rattle.smt_bits.specs.Width.{bits_in};
 ghost use Rattle.smt_meaning.specs.Literals.{is_literal};
-ghost use Rattle.smt_meaning.specs.Plain.{OptionType, SetType};
+ghost use Rattle.smt_meaning.specs.Plain.{EntityType as EntityTypeOf, OptionType, SetType};
 ghost use Rattle.smt_meaning.specs.TermOrder.{term_cmp};
 ghost use Rattle.smt_meaning.specs.Types.{extended_type, inner_type, is_set, is_type, literal_type, result_type, type_eq, type_of, width_in};
 ghost use Rattle.smt_meaning.specs.Typing.{Typed, typed};
 ghost use Rattle.smt_meaning.specs.ValueOrder.{ascends, is_below};
+ghost use Rattle.smt_leaves.specs.Entities.{bytes_of_type};
 ghost use Rattle.smt_term.specs.View.{plain_literal, plain_op, plain_term, plain_type};
 
-use crate::error::TermError;
 use crate::op::{Op, OpClass};
 use crate::term::{Term, TermPrim};
 use crate::types::TermType;
 use smt_bits::Width;
+use smt_leaves::{EntityType, TermError};
 use std::alloc::Global;
 
 impl TermType {
@@ -26,15 +27,32 @@ impl TermType {
         *self == *other
     }
 
+    // Whether it is that of entities of this type.
+    fn is_of_entities(&self, ety: &EntityType) -> bool
+        ensures same { result ≡ type_eq (EntityTypeOf (bytes_of_type ety.now)) (plain_type self.now) }
+        ensures turned { result ≡ type_eq (plain_type self.now) (EntityTypeOf (bytes_of_type ety.now)) }
+    {
+        match self {
+            TermType::Entity { ety: own } => *ety == *own,
+            TermType::Option { .. }
+            | TermType::Bitvec { .. }
+            | TermType::Bool
+            | TermType::String
+            | TermType::Set { .. } => false,
+        }
+    }
+
     // How many bits a value has, where it is a bitvector.
     fn width(&self) -> Option<Width>
         ensures { option_map bits_in result ≡ width_in (plain_type self.now) }
     {
         match self {
             TermType::Bitvec { n } => Some(*n),
-            TermType::Option { .. } | TermType::Bool | TermType::String | TermType::Set { .. } => {
-                None
-            }
+            TermType::Option { .. }
+            | TermType::Bool
+            | TermType::Entity { .. }
+            | TermType::String
+            | TermType::Set { .. } => { None }
         }
     }
 
@@ -44,20 +62,11 @@ impl TermType {
     {
         match self {
             TermType::Set { .. } => true,
-            TermType::Option { .. } | TermType::Bitvec { .. } | TermType::Bool | TermType::String =>
-                { false }
-        }
-    }
-
-    // Whether it is that of options.
-    fn is_option(&self) -> bool
-        ensures { result ≡ is_some (inner_type (plain_type self.now)) }
-    {
-        match self {
-            TermType::Option { .. } => true,
-            TermType::Bitvec { .. } | TermType::Bool | TermType::String | TermType::Set { .. } => {
-                false
-            }
+            TermType::Option { .. }
+            | TermType::Bitvec { .. }
+            | TermType::Bool
+            | TermType::Entity { .. }
+            | TermType::String => false,
         }
     }
 
@@ -67,9 +76,11 @@ impl TermType {
     {
         match self {
             TermType::Option { ty } => ty.is_same_as(inner),
-            TermType::Bitvec { .. } | TermType::Bool | TermType::String | TermType::Set { .. } => {
-                false
-            }
+            TermType::Bitvec { .. }
+            | TermType::Bool
+            | TermType::Entity { .. }
+            | TermType::String
+            | TermType::Set { .. } => { false }
         }
     }
 
@@ -80,9 +91,11 @@ impl TermType {
     {
         match option {
             TermType::Option { ty } => self.is_same_as(ty),
-            TermType::Bitvec { .. } | TermType::Bool | TermType::String | TermType::Set { .. } => {
-                false
-            }
+            TermType::Bitvec { .. }
+            | TermType::Bool
+            | TermType::Entity { .. }
+            | TermType::String
+            | TermType::Set { .. } => { false }
         }
     }
 
@@ -93,8 +106,11 @@ impl TermType {
     {
         match set {
             TermType::Set { ty } => self.is_same_as(ty),
-            TermType::Option { .. } | TermType::Bitvec { .. } | TermType::Bool | TermType::String =>
-                { false }
+            TermType::Option { .. }
+            | TermType::Bitvec { .. }
+            | TermType::Bool
+            | TermType::Entity { .. }
+            | TermType::String => false,
         }
     }
 }
@@ -110,6 +126,9 @@ impl TermPrim {
         match self {
             TermPrim::Bitvec(bits) => Ok(TermType::Bitvec { n: bits.width() }),
             TermPrim::Bool(_) => Ok(TermType::Bool),
+            TermPrim::Entity(entity) => Ok(TermType::Entity {
+                ety: entity.ety.share()?,
+            }),
             TermPrim::String(_) => Ok(TermType::String),
         }
     }
@@ -120,7 +139,7 @@ impl TermPrim {
     {
         match self {
             TermPrim::Bitvec(bits) => Some(bits.width()),
-            TermPrim::Bool(_) | TermPrim::String(_) => None,
+            TermPrim::Bool(_) | TermPrim::Entity(_) | TermPrim::String(_) => None,
         }
     }
 
@@ -132,7 +151,18 @@ impl TermPrim {
         match self {
             TermPrim::Bitvec(bits) => TermType::Bitvec { n: bits.width() }.is_same_as(ty),
             TermPrim::Bool(_) => TermType::Bool.is_same_as(ty),
+            TermPrim::Entity(entity) => ty.is_of_entities(&entity.ety),
             TermPrim::String(_) => TermType::String.is_same_as(ty),
+        }
+    }
+
+    // Whether it is an entity of this type.
+    fn is_entity_of(&self, ety: &EntityType) -> bool
+        ensures { result ≡ type_eq (EntityTypeOf (bytes_of_type ety.now)) (literal_type (plain_literal self.now)) }
+    {
+        match self {
+            TermPrim::Entity(entity) => *ety == entity.ety,
+            TermPrim::Bitvec(_) | TermPrim::Bool(_) | TermPrim::String(_) => false,
         }
     }
 }
@@ -240,10 +270,10 @@ impl Term {
         ensures { result ≡ is_some (inner_type (type_of (plain_term self.now))) }
     {
         match self {
-            Term::App { ret_ty, .. } => ret_ty.is_option(),
+            Term::App { ret_ty, .. } => ret_ty.is_option_type(),
             Term::None(_) | Term::Some(_) => true,
             Term::Prim(_) | Term::Set { .. } => false,
-            Term::Var(variable) => variable.ty.is_option(),
+            Term::Var(variable) => variable.ty.is_option_type(),
         }
     }
 
@@ -261,6 +291,7 @@ impl Term {
                 TermType::Option { ty } => inner.is_of_type(ty),
                 TermType::Bitvec { .. }
                 | TermType::Bool
+                | TermType::Entity { .. }
                 | TermType::String
                 | TermType::Set { .. } => false,
             },
@@ -274,9 +305,11 @@ impl Term {
     {
         match option {
             TermType::Option { ty } => self.is_of_type(ty),
-            TermType::Bitvec { .. } | TermType::Bool | TermType::String | TermType::Set { .. } => {
-                false
-            }
+            TermType::Bitvec { .. }
+            | TermType::Bool
+            | TermType::Entity { .. }
+            | TermType::String
+            | TermType::Set { .. } => { false }
         }
     }
 
@@ -310,8 +343,11 @@ impl Term {
     {
         match set {
             TermType::Set { ty } => self.is_of_type(ty),
-            TermType::Option { .. } | TermType::Bitvec { .. } | TermType::Bool | TermType::String =>
-                { false }
+            TermType::Option { .. }
+            | TermType::Bitvec { .. }
+            | TermType::Bool
+            | TermType::Entity { .. }
+            | TermType::String => false,
         }
     }
 
@@ -389,7 +425,20 @@ impl Term {
         match literal {
             TermPrim::Bitvec(bits) => self.is_of_type(&TermType::Bitvec { n: bits.width() }),
             TermPrim::Bool(_) => self.is_of_type(&TermType::Bool),
+            TermPrim::Entity(entity) => self.is_entity_of(&entity.ety),
             TermPrim::String(_) => self.is_of_type(&TermType::String),
+        }
+    }
+
+    // Whether it is an entity of this type.
+    fn is_entity_of(&self, ety: &EntityType) -> bool
+        ensures { result ≡ type_eq (EntityTypeOf (bytes_of_type ety.now)) (type_of (plain_term self.now)) }
+    {
+        match self {
+            Term::App { ret_ty, .. } => ret_ty.is_of_entities(ety),
+            Term::None(_) | Term::Set { .. } | Term::Some(_) => false,
+            Term::Prim(literal) => literal.is_entity_of(ety),
+            Term::Var(variable) => variable.ty.is_of_entities(ety),
         }
     }
 }

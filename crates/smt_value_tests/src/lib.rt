@@ -1,14 +1,7 @@
-//! Tests of the values that terms are made of, of terms and their texts, and of the lines of a script. They stand outside the
-//! crates that they call: a crate with tests is proved twice, with them and without, and here they are proved alone.
+//! Tests of terms: their types, literals, operators and orders, ill-typed terms, and the maps, tables, sets and lists that
+//! hold them. They stand outside the crates that they call: a crate with tests is proved twice, with them and without, and
+//! here they are proved alone.
 #![tactic(auto)]
 
 #[cfg(test)]
-mod bitvectors;
-#[cfg(test)]
-mod extensions;
-#[cfg(test)]
-mod scripts;
-#[cfg(test)]
 mod terms;
-#[cfg(test)]
-mod texts;

@@ -2,27 +2,31 @@
 
 use operators::application;
 use smt_bits::{BitVec, EIGHT, Width};
-use smt_term::{Term, TermSet, TermType, TermVar, Text};
+use smt_term::{EntityID, EntityType, EntityUID, Term, TermSet, TermType, TermVar, Text};
 use std::alloc::Global;
 use std::rc::Rc;
 use std::test::Fail;
 
 mod entities;
-mod enums;
 mod literals;
 mod maps;
 mod operators;
 mod order;
-mod patterns;
 mod structures;
 
-/// The type that a word spells: `B`, `S` or a width, behind an `O` or a `Z` for each option or set around it.
+/// The type that a word spells: `B`, `S`, a width, or `E` and the name of entities in small letters, behind an `O` or a `Z`
+/// for each option or set around it.
 fn type_named(alloc: Global, word: &str) -> Result<TermType, Fail> {
     let innermost = word.trim_start_matches(|c| c == 'O' || c == 'Z');
     let mut ty = match innermost {
         "B" => TermType::Bool,
         "S" => TermType::String,
-        _ => type_of_width(innermost.parse()?)?,
+        _ => match innermost.strip_prefix('E') {
+            Some(name) => TermType::Entity {
+                ety: entity_type(alloc, name)?,
+            },
+            None => type_of_width(innermost.parse()?)?,
+        },
     };
     for c in word.chars().rev() {
         ty = match c {
@@ -41,6 +45,17 @@ fn type_of_width(bits: u32) -> Result<TermType, Fail> {
     }
 }
 
+fn entity_type(alloc: Global, name: &str) -> Result<EntityType, Fail> {
+    Ok(EntityType(Text::from_str(alloc, name)?))
+}
+
+fn entity(alloc: Global, ety: &str, id: &str) -> Result<EntityUID, Fail> {
+    Ok(EntityUID {
+        ety: entity_type(alloc, ety)?,
+        id: EntityID(Text::from_str(alloc, id)?),
+    })
+}
+
 fn variable(alloc: Global, id: &str, word: &str) -> Result<Term, Fail> {
     Ok(Term::from(TermVar {
         id: Text::from_str(alloc, id)?,
@@ -51,21 +66,22 @@ fn variable(alloc: Global, id: &str, word: &str) -> Result<Term, Fail> {
 /// How many forms `term_of` knows.
 const FORMS: usize = 3;
 
-/// A term of a type in one of its forms: a variable, and where it is that of options, sets or texts, none, some and a
-/// set of a variable, and a text.
+/// A term of a type in one of its forms: a variable, and where it is that of options, sets, texts or entities, none, some
+/// and a set of a variable, a text, and an entity.
 fn term_of(alloc: Global, word: &str, form: usize) -> Result<Term, Fail> {
     match (form, word.chars().next()) {
         (1, Some('O')) => Ok(Term::None(type_named(alloc, inside(word))?)),
         (2, Some('O')) => some_of(alloc, variable(alloc, "x", inside(word))?),
         (1, Some('Z')) => set_of(alloc, inside(word), &[variable(alloc, "x", inside(word))?]),
         (1, Some('S')) => Ok(Term::from(Text::from_str(alloc, "a")?)),
+        (1, Some('E')) => entity_term(alloc, inside(word)),
         _ => variable(alloc, "x", word),
     }
 }
 
-/// The type that an option or a set is around.
+/// The type that an option or a set is around, or the name of entities.
 fn inside(word: &str) -> &str {
-    word.strip_prefix(['O', 'Z']).unwrap_or(word)
+    word.strip_prefix(['O', 'Z', 'E']).unwrap_or(word)
 }
 
 fn some_of(alloc: Global, inner: Term) -> Result<Term, Fail> {
@@ -96,6 +112,12 @@ fn literals_in(alloc: Global, words: &str) -> Result<Vec<Term>, Fail> {
     Ok(terms)
 }
 
+/// The literal of the entity that is spelled: its type, and its id where it is not empty.
+fn entity_term(alloc: Global, spelling: &str) -> Result<Term, Fail> {
+    let (ety, id) = spelling.split_once(' ').unwrap_or((spelling, ""));
+    Ok(Term::from(entity(alloc, ety, id)?))
+}
+
 /// The term that is spelled: a kind and what is in it, a variable and its type, or a literal.
 fn term(alloc: Global, spelling: &str) -> Result<Term, Fail> {
     let (kind, rest) = spelling.split_once(' ').unwrap_or((spelling, ""));
@@ -103,6 +125,7 @@ fn term(alloc: Global, spelling: &str) -> Result<Term, Fail> {
         "and" | "not" => application(alloc, spelling),
         "none" => Ok(Term::None(type_named(alloc, rest)?)),
         "byte" => Ok(Term::from(BitVec::of_nat(EIGHT, rest.parse()?))),
+        "entity" => entity_term(alloc, rest),
         "text" => Ok(Term::from(Text::from_str(alloc, rest)?)),
         "set" => set_of(alloc, "B", literals_in(alloc, rest)?.as_slice()),
         "some" => some_of(alloc, literal(rest)?),
@@ -125,7 +148,9 @@ fn names_type(alloc: Global, term: &Term, ty: &TermType) -> Result<bool, Fail> {
 }
 
 /// Types of which a term has at most one.
-const DISTINCT_TYPES: [&str; 10] = ["B", "1", "8", "64", "128", "S", "O8", "Z8", "ZS", "ZOS"];
+const DISTINCT_TYPES: [&str; 12] = [
+    "B", "1", "8", "64", "128", "S", "Ea", "Eb", "O8", "Z8", "ZS", "ZOS",
+];
 
 /// Whether a term has this type, and none of the others.
 fn has_type_alone(alloc: Global, term: &Term, word: &str) -> Result<bool, Fail> {

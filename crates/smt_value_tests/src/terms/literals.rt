@@ -1,6 +1,6 @@
 //! Literals: their types and values.
 
-use super::{is_of_type, literal, literals_in, set_of, some_of, type_named};
+use super::{is_of_type, literal, literals_in, set_of, some_of, term, type_named};
 use smt_bits::{BitVec, HUNDRED_TWENTY_EIGHT, ONE, SIXTY_FOUR};
 use smt_term::{Term, TermPrim, TermType};
 use std::alloc::Global;
@@ -31,8 +31,8 @@ fn term_has_type(alloc: Global, term: &Term, word: &str) -> Result<bool, Fail> {
 
 /// Whether the literal in a row has the type behind it.
 fn row_has_type(alloc: Global, row: &str) -> Result<bool, Fail> {
-    let (word, ty) = row.split_once(' ').unwrap_or((row, ""));
-    term_has_type(alloc, &literal(word)?, ty)
+    let (spelling, ty) = row.split_once(": ").unwrap_or((row, ""));
+    term_has_type(alloc, &term(alloc, spelling)?, ty)
 }
 
 fn greatest() -> BitVec {
@@ -41,7 +41,14 @@ fn greatest() -> BitVec {
 
 #[test]
 fn literals_have_types(rt: HostRuntime) -> Result<(), Fail> {
-    for &row in &["7 64", "-5 64", "false B", "true B"] {
+    for &row in &[
+        "7: 64",
+        "-5: 64",
+        "false: B",
+        "true: B",
+        "entity a b: Ea",
+        "entity b: Eb",
+    ] {
         assert!(rt; row_has_type(rt.alloc(), row)?, "{row}");
     }
     assert!(rt; bits_have_type(rt.alloc(), BitVec::of_nat(ONE, 1), "1")?);

@@ -33,6 +33,7 @@ eq O8 O8 -> B
 eq OO8 OO8 -> B
 eq ZS ZS -> B
 eq S S -> B
+eq Ea Ea -> B
 ite B 8 8 -> 8
 not B -> B
 option.get O8 -> 8
@@ -64,6 +65,8 @@ eq OS O8
 eq OO8 O8
 eq ZS Z8
 eq S B
+eq Ea Eb
+eq Ea S
 ite 1 8 8
 ite B 8 64
 ite Z8 Z8

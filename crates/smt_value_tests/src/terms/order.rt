@@ -6,7 +6,7 @@ use std::alloc::Global;
 use std::test::Fail;
 
 /// Types in their order.
-const TYPES: &str = "OO8 O8 OB 1 8 128 B S Z8 ZB ZS ZZ8";
+const TYPES: &str = "OO8 O8 OB OEa 1 8 128 B Ea Eab Eb S Z8 ZB ZEa ZS ZZ8";
 
 #[test]
 fn types_order_by_their_variants(rt: HostRuntime) -> Result<(), Fail> {
@@ -60,8 +60,9 @@ fn operators_order_by_their_variants(rt: HostRuntime) {
 
 /// Terms in their order.
 const TERMS: &str =
-    "and B B, not B, none B, byte 255, 7, -5, false, true, text, text a, text aa, text b, text é, \
-    text \u{2ffff}, set, set true false, some 7, some true, a B, b 64, b B";
+    "and B B, not B, none B, byte 255, 7, -5, false, true, entity a b, entity a ba, entity ab, \
+    entity ab a, entity b a, text, text a, text aa, text b, text é, text \u{2ffff}, set, set true false, \
+    some 7, some true, a B, b 64, b B";
 
 #[test]
 fn terms_order_by_their_variants(rt: HostRuntime) -> Result<(), Fail> {

@@ -30,7 +30,7 @@ fn type_holds(alloc: Global, word: &str) -> Result<bool, Fail> {
 #[test]
 fn terms_have_types(rt: HostRuntime) -> Result<(), Fail> {
     for &word in &[
-        "B", "1", "8", "128", "S", "O8", "OS", "OOB", "Z8", "ZOS", "OZZB",
+        "B", "1", "8", "128", "S", "Ea", "O8", "OS", "OEa", "OOB", "Z8", "ZOS", "ZEa", "OZZB",
     ] {
         assert!(rt; type_holds(rt.alloc(), word)?, "{word}");
     }

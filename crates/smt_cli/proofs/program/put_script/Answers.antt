@@ -1,6 +1,7 @@
 use Rattle.std.proofs.Common.{◌≡◌, Err, rules}
-use Rattle.smt_encode.specs.declared.error.EncodeError.TheVariants.{EncodePatternFailed}
-use Rattle.smt_term.specs.PatternView.{plain_ord_pattern}
+use Rattle.smt_encode.specs.declared.error.EncodeError.TheVariants.{EmptyEnum, EncodePatternFailed, EnumMissingMember}
+use Rattle.smt_leaves.specs.Entities.{bytes_of_id, bytes_of_type}
+use Rattle.smt_leaves.specs.PatternView.{plain_ord_pattern}
 use Rattle.smt_cli.proofs.program.put_script.Goals as goal
 
 pub returns-in-Err-EncodePatternFailed-clause-refused : goal.returns-in-Err-EncodePatternFailed-clause-refused
@@ -8,3 +9,15 @@ returns-in-Err-EncodePatternFailed-clause-refused g c =
     let pattern = c.in-Err-EncodePatternFailed.field-0-0 in
     let failed : c.encode_job.result ≡ Err (EncodePatternFailed pattern) = search rules in
     (plain_ord_pattern pattern, c.encode_job.ensures.refused.pattern pattern failed)
+
+pub returns-in-Err-EnumMissingMember-clause-refused : goal.returns-in-Err-EnumMissingMember-clause-refused
+returns-in-Err-EnumMissingMember-clause-refused g c =
+    let entity = c.in-Err-EnumMissingMember.field-0-0 in
+    let failed : c.encode_job.result ≡ Err (EnumMissingMember entity) = search rules in
+    (bytes_of_type entity.ety, bytes_of_id entity.id, c.encode_job.ensures.refused.member entity failed)
+
+pub returns-in-Err-EmptyEnum-clause-refused : goal.returns-in-Err-EmptyEnum-clause-refused
+returns-in-Err-EmptyEnum-clause-refused g c =
+    let ety = c.in-Err-EmptyEnum.field-0-0 in
+    let failed : c.encode_job.result ≡ Err (EmptyEnum ety) = search rules in
+    (bytes_of_type ety, c.encode_job.ensures.refused.empty ety failed)

@@ -7,14 +7,12 @@ use Rattle.smt_meaning.proofs.SameTerm.{term_same}
 use Rattle.smt_meaning.proofs.TermTotal.{terms_total}
 use Rattle.smt_meaning.proofs.ValueOrder.{text_same}
 use Rattle.std.specs.Prelude.{bytes_eq}
-use Rattle.smt_term.proofs.AscendingTexts.{text_sets_ascend}
-use Rattle.smt_term.proofs.LastPairs.{last_pairs}
+use Rattle.smt_leaves.proofs.LastPairs.{last_pairs}
 use Rattle.smt_term.proofs.TermTables.{term_tables_ascend}
 use Rattle.smt_term.proofs.laws.program_maps.Goals as goal
 
 pub returns : goal.returns
 returns c = record {
-  text_sets = text_sets_ascend;
   term_tables = term_tables_ascend;
   type_pairs = last_pairs text_cmp bytes_eq nat_list_cmp_total text_same (λ x y. sym (is_eq-slice_cmp x y));
   field_pairs = last_pairs text_cmp bytes_eq nat_list_cmp_total text_same (λ x y. sym (is_eq-slice_cmp x y));

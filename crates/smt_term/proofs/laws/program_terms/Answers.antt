@@ -1,4 +1,3 @@
-use Rattle.smt_term.proofs.AscendingTexts.{members_ascend}
 use Rattle.smt_term.proofs.DerivedEquality.{eq_from_same, same_from_eq}
 use Rattle.smt_term.proofs.DerivedOrder.{term_cmp-is, type_cmp-is}
 use Rattle.smt_term.proofs.FormedTerms.{terms_are_formed}
@@ -12,5 +11,4 @@ returns c = record {
   type_equality = λ s t. (same_type_from_eq s t, eq_from_same_type s t);
   order = term_cmp-is;
   type_order = type_cmp-is;
-  tables = members_ascend;
 }

@@ -1,8 +1,17 @@
-use Rattle.std.proofs.Common.{sym}
+use Rattle.std.proofs.Common.{◌≡◌, Bool, true, false, sym, ◌∙◌}
+use Rattle.std.specs.Prelude.{not}
+use Rattle.smt_graph.specs.Nodes.{TermMeaning}
 use Rattle.smt_term.specs.View.{plain_term}
-use Rattle.smt_encode.proofs.Built.{has_name}
+use Rattle.smt_encode.specs.NodeLines.{has_entry}
 use Rattle.smt_encode.proofs.Named.{name_found}
 use Rattle.smt_encode.proofs.names.Names.name_by.Goals as goal
 
+-- what is not denied
+affirmed : (b : Bool) → not b ≡ false → b ≡ true
+affirmed true h = cc
+affirmed false h = cc
+
 pub returns : goal.returns
-returns g c = name_found c.args.self.now.nodes c.args.self.now.texts (plain_term c.args.term.now) c.in_ok-id.id _ c.in_ok-id.ensures.found (has_name c.args.term.now c.in_default.not-Prim) (sym c.get.ensures.text)
+returns g c =
+    let m = TermMeaning (plain_term c.args.term.now) in
+    name_found c.args.self.now.nodes c.args.self.now.texts m c.in_ok-id.id _ c.in_ok-id.ensures.found (affirmed (has_entry m) (sym c.is_inline.ensures ∙ c.if-is_inline.false)) (sym c.get.ensures.text)

@@ -17,4 +17,5 @@ loop-preserved c =
       ap length is ∙ length-append c.loop.self.texts.items (None ∷ []) ∙ ap (λ n. n + 1) c.loop.invariant.0,
       λ place. ap (λ (l : Texts). kept_at l place) is ∙ room c.loop.self.texts.items place ∙ c.loop.invariant.1 place,
       c.loop.invariant.2,
+      c.loop.invariant.3,
     )

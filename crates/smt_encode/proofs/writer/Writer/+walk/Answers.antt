@@ -6,7 +6,9 @@ use Rattle.smt_encode.specs.Entries.{own_lines, rendering_in, written_parts}
 use Rattle.smt_encode.specs.Renderings.{plain_rendering}
 use Rattle.smt_encode.specs.Complete.{is_written, AreTypedMeanings}
 use Rattle.smt_encode.specs.LookUps.{IsClosed}
-use Rattle.smt_encode.specs.Steps.{edges_in, IsSpelled}
+use Rattle.smt_lines.specs.Lines.{Enums}
+use Rattle.smt_encode.specs.Steps.{edges_in, WritesHere}
+use Rattle.smt_spelling.specs.Spelled.{IsSpelled}
 use Rattle.smt_nodes.specs.Interned.{meaning_in, nodes_of}
 use Rattle.smt_nodes.specs.View.{ids_of, place_of, places_of, plain_node}
 use Rattle.smt_nodes.specs.declared.id.NodeId.{NodeId}
@@ -162,7 +164,8 @@ encode_new-returns-clause-lines g t c m meant s has =
     let w = encode_meanings enums parts s in
     let there : meaning_in (nodes_under c.encode_all.new.self.names) c.args.id ≡ Some m = ap (λ i. meaning_in i c.args.id) c.in_ok-texts.ensures.walks.stands.nodes ∙ meant in
     rw (stated enums m s (built_meaning nodes c.args.id m meant) (unnamed c.args.self.now.names s has c.args.id m meant c.requires.unkept))
-    (both_written g.S.Sink.contents c.args.self.now c.encode_all.new.self c.finish.new.self w (λ es u. own_lines m es u) IsSpelled c.finish.result wrote.0 (c.finish.ensures.lines m w.made w.tables there wrote.1 wrote.0.names))
+    (both_written g.S.Sink.contents c.args.self.now c.encode_all.new.self c.finish.new.self w (λ es u. own_lines enums m es u) IsSpelled c.finish.result wrote.0
+    (subst (λ (e : Enums). WritesHere g.S.Sink.contents c.encode_all.new.self c.finish.new.self (own_lines e m w.made w.tables) IsSpelled c.finish.result) c.in_ok-texts.ensures.walks.stands.enums (c.finish.ensures.lines m w.made w.tables there wrote.1 wrote.0.names)))
 
 pub encode_new-returns-clause-whole : goal.encode_new-returns-clause-whole
 encode_new-returns-clause-whole g t c m meant typed whole =

@@ -2,7 +2,8 @@ use Rattle.std.proofs.Common.{◌≡◌, Ok, List, map, take}
 use Rattle.smt_lexicon.specs.Reading.{Expression}
 use Rattle.smt_lines.specs.Line.{Assert}
 use Rattle.smt_lines.specs.NameTables.{Tables}
-use Rattle.smt_encode.specs.Steps.{AreSpelled, FaultCounted, HasTables, Wrote}
+use Rattle.smt_encode.specs.Steps.{FaultCounted, HasTables, Wrote}
+use Rattle.smt_spelling.specs.Spelled.{AreSpelled}
 use Rattle.smt_script.specs.declared.sink.SinkError.TheVariants.{Fault}
 use Rattle.smt_encode.proofs.writer.Writer.put_assertions.Given as goal
 

@@ -15,7 +15,8 @@ use Rattle.smt_encode.specs.Names.{enums_under, nodes_under, texts_under}
 use Rattle.smt_encode.specs.LookUps.{edges, IsClosed}
 use Rattle.smt_encode.specs.NodeLines.{encode_meanings, meanings_fault}
 use Rattle.smt_encode.specs.declared.names.Names.{Names}
-use Rattle.smt_encode.specs.Steps.{AreSpelled, Wrote}
+use Rattle.smt_encode.specs.Steps.{Wrote}
+use Rattle.smt_spelling.specs.Spelled.{AreSpelled}
 use Rattle.smt_encode.proofs.Completing.{have_texts, same_whole, terms_are_typed}
 use Rattle.smt_encode.proofs.Counted.{left_within}
 use Rattle.smt_encode.proofs.Faulting.{handed_over}

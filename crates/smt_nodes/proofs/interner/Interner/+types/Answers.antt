@@ -2,7 +2,7 @@ use Rattle.std.proofs.Common.{◌∷◌, [], sym, ap, ◌∙◌, arith}
 use Rattle.smt_graph.specs.Meanings.{meanings}
 use Rattle.smt_graph.specs.Nodes.{TypeMeaning}
 use Rattle.smt_graph.specs.Parts.{type_parts}
-use Rattle.smt_term.specs.View.{plain_type, plain_type-Option, plain_type-Bitvec, plain_type-Bool, plain_type-String, plain_type-Set}
+use Rattle.smt_term.specs.View.{plain_type, plain_type-Option, plain_type-Bitvec, plain_type-Bool, plain_type-Entity, plain_type-String, plain_type-Set}
 use Rattle.smt_nodes.proofs.Finding.{at_parts, decided_by_parts, none_left, other_count}
 use Rattle.smt_nodes.specs.Interned.{nodes_of}
 use Rattle.smt_nodes.specs.View.{place_of, plain_label}
@@ -17,6 +17,9 @@ are_parts_of_type-returns-in-Bitvec t c = none_left (meanings (nodes_of c.args.s
 
 pub are_parts_of_type-returns-in-Bool : goal.are_parts_of_type-returns-in-Bool
 are_parts_of_type-returns-in-Bool t c = none_left (meanings (nodes_of c.args.self.now)) c.args.parts.now _ c.is_empty-in-Bool.result c.is_empty-in-Bool.ensures (ap type_parts (ap plain_type c.in-Bool.is ∙ plain_type-Bool))
+
+pub are_parts_of_type-returns-in-Entity : goal.are_parts_of_type-returns-in-Entity
+are_parts_of_type-returns-in-Entity t c = none_left (meanings (nodes_of c.args.self.now)) c.args.parts.now _ c.is_empty-in-Entity.result c.is_empty-in-Entity.ensures (ap type_parts (ap plain_type c.in-Entity.is ∙ plain_type-Entity c.in-Entity.ety))
 
 pub are_parts_of_type-returns-in-String : goal.are_parts_of_type-returns-in-String
 are_parts_of_type-returns-in-String t c = none_left (meanings (nodes_of c.args.self.now)) c.args.parts.now _ c.is_empty-in-String.result c.is_empty-in-String.ensures (ap type_parts (ap plain_type c.in-String.is ∙ plain_type-String))

@@ -1,6 +1,7 @@
 use Rattle.smt_term.specs.View.{plain_op}
 use Rattle.smt_nodes.specs.Interned.{nodes_of}
 use Rattle.smt_bits.specs.Width.{bits_in}
+use Rattle.smt_leaves.specs.Entities.{bytes_of_type}
 use Rattle.std.specs.Rc.{rc_str_bytes}
 use Rattle.smt_nodes.proofs.Fitting.{fits_by, no_function}
 use Rattle.smt_nodes.proofs.interner.Interner.fits.Goals as goal
@@ -13,6 +14,9 @@ returns-in-TBitvec c = fits_by (nodes_of c.args.self.now) c.args.node.now _ c.it
 
 pub returns-in-TBool : goal.returns-in-TBool
 returns-in-TBool c = fits_by (nodes_of c.args.self.now) c.args.node.now _ c.items-parts.result.now c.fits_alone-in-TBool.result c.in-TBool.is c.items-parts.ensures (c.fits_alone-in-TBool.ensures.truths)
+
+pub returns-in-TEntity : goal.returns-in-TEntity
+returns-in-TEntity c = fits_by (nodes_of c.args.self.now) c.args.node.now _ c.items-parts.result.now c.fits_alone-in-TEntity.result c.in-TEntity.is c.items-parts.ensures (c.fits_alone-in-TEntity.ensures.entities (bytes_of_type c.in-TEntity.field-0))
 
 pub returns-in-TString : goal.returns-in-TString
 returns-in-TString c = fits_by (nodes_of c.args.self.now) c.args.node.now _ c.items-parts.result.now c.fits_alone-in-TString.result c.in-TString.is c.items-parts.ensures (c.fits_alone-in-TString.ensures.texts)

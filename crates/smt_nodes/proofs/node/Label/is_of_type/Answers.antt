@@ -1,7 +1,8 @@
 use Rattle.std.proofs.Common.{sym, ap, ◌∙◌}
 use Rattle.smt_graph.specs.Parts.{type_label}
-use Rattle.smt_term.specs.View.{plain_type, plain_type-Option, plain_type-Bitvec, plain_type-Bool, plain_type-String, plain_type-Set}
-use Rattle.smt_nodes.proofs.Finding.{label_is}
+use Rattle.smt_leaves.specs.Entities.{bytes_of_type}
+use Rattle.smt_term.specs.View.{plain_type, plain_type-Option, plain_type-Bitvec, plain_type-Bool, plain_type-Entity, plain_type-String, plain_type-Set}
+use Rattle.smt_nodes.proofs.Finding.{at_type_label, entity_type_is, label_is, no_entity_type}
 use Rattle.smt_nodes.specs.declared.node.Label.TheVariants.{TOption, TBitvec, TBool, TString, TSet}
 use Rattle.smt_nodes.proofs.node.Label.is_of_type.Goals as goal
 
@@ -13,6 +14,12 @@ returns-in-Bitvec c = label_is _ c.args.self.now (TBitvec c.in-Bitvec.n) _ c.eq-
 
 pub returns-in-Bool : goal.returns-in-Bool
 returns-in-Bool c = label_is _ c.args.self.now TBool _ c.eq-in-Bool.ensures (sym (ap type_label (ap plain_type c.in-Bool.is ∙ plain_type-Bool)))
+
+pub returns-in-TEntity : goal.returns-in-TEntity
+returns-in-TEntity c = at_type_label c.eq-in-TEntity.result c.args.self.now _ _ (ap plain_type c.in-Entity.is ∙ plain_type-Entity c.in-Entity.ety) (entity_type_is c.eq-in-TEntity.result c.args.self.now c.in-TEntity.own c.in-Entity.ety c.eq-in-TEntity.ensures c.in-TEntity.is)
+
+pub returns-in_default : goal.returns-in_default
+returns-in_default c = at_type_label _ c.args.self.now _ _ (ap plain_type c.in-Entity.is ∙ plain_type-Entity c.in-Entity.ety) (no_entity_type c.args.self.now (bytes_of_type c.in-Entity.ety) c.in_default.not-TEntity)
 
 pub returns-in-String : goal.returns-in-String
 returns-in-String c = label_is _ c.args.self.now TString _ c.eq-in-String.ensures (sym (ap type_label (ap plain_type c.in-String.is ∙ plain_type-String)))

@@ -1,6 +1,7 @@
 use Rattle.std.proofs.Common.{◌≡◌, map, take}
 use Rattle.smt_meaning.specs.TermOrder.{term_cmp}
-use Rattle.smt_term.specs.Maps.{plain_entry, sorted_pairs}
+use Rattle.smt_term.specs.Maps.{plain_entry}
+use Rattle.smt_leaves.specs.SortedPairs.{sorted_pairs}
 use Rattle.smt_term.proofs.table.TermTable.in_order.Given as goal
 
 -- what is found is the pairs so far in order

@@ -1,0 +1,22 @@
+//! Tests of what stands without terms: the values and leaves of which terms are made, as bitvectors, values of the extension
+//! types, entities, tables of enum types, sets of texts and patterns; texts between quotes and S-expressions; and the lines
+//! of a script. They stand outside the crates that they call: a crate with tests is proved twice, with them and without, and
+//! here they are proved alone.
+#![tactic(auto)]
+
+#[cfg(test)]
+mod bitvectors;
+#[cfg(test)]
+mod entities;
+#[cfg(test)]
+mod enums;
+#[cfg(test)]
+mod extensions;
+#[cfg(test)]
+mod patterns;
+#[cfg(test)]
+mod scripts;
+#[cfg(test)]
+mod sets;
+#[cfg(test)]
+mod texts;

@@ -1,0 +1,34 @@
+-- What entities say: the texts of their types and ids.
+use Rattle.std.specs.Prelude.{◌≡◌, ℕ, List}
+use Rattle.std.specs.Ordering.{ordering_then}
+use Rattle.std.specs.Rc.{rc_str_bytes}
+use Rattle.smt_meaning.specs.ValueOrder.{text_cmp}
+use Rattle.smt_leaves.specs.contracts.entity.EntityIDOrd.TheImpl as id_order
+use Rattle.smt_leaves.specs.contracts.entity.EntityTypeOrd.TheImpl as type_order
+use Rattle.smt_leaves.specs.contracts.entity.EntityUIDOrd.TheImpl as entity_order
+use Rattle.smt_leaves.specs.declared.entity.EntityID.{EntityID}
+use Rattle.smt_leaves.specs.declared.entity.EntityType.{EntityType}
+use Rattle.smt_leaves.specs.declared.entity.EntityUID.{EntityUID}
+
+-- the name of a type
+abbrev pub bytes_of_type : EntityType → List ℕ
+bytes_of_type ety = rc_str_bytes ety.0
+
+-- the text of an id
+abbrev pub bytes_of_id : EntityID → List ℕ
+bytes_of_id id = rc_str_bytes id.0
+
+-- the name of the type, and the id
+abbrev pub texts_of_entity : EntityUID → List ℕ × List ℕ
+texts_of_entity e = (bytes_of_type e.ety, bytes_of_id e.id)
+
+-- types and ids compare by their bytes
+abbrev pub EntityTypesCompareAsTexts : Type 0
+EntityTypesCompareAsTexts = (a b : EntityType) → type_order.ghosts.cmp a b ≡ text_cmp (bytes_of_type a) (bytes_of_type b)
+
+abbrev pub EntityIdsCompareAsTexts : Type 0
+EntityIdsCompareAsTexts = (a b : EntityID) → id_order.ghosts.cmp a b ≡ text_cmp (bytes_of_id a) (bytes_of_id b)
+
+-- entities compare by their types, and those of one type by their ids
+abbrev pub EntitiesCompareAsTexts : Type 0
+EntitiesCompareAsTexts = (a b : EntityUID) → entity_order.ghosts.cmp a b ≡ ordering_then (text_cmp (bytes_of_type a.ety) (bytes_of_type b.ety)) (text_cmp (bytes_of_id a.id) (bytes_of_id b.id))

@@ -1,0 +1,15 @@
+-- What a table of enum types says.
+use Rattle.std.specs.Prelude.{map}
+use Rattle.std.specs.List.{AllByRecursion}
+use Rattle.smt_meaning.specs.TypeValues.{Enums}
+use Rattle.smt_leaves.specs.Entities.{bytes_of_type}
+use Rattle.smt_leaves.specs.TextSets.{AreAscending, texts_of}
+use Rattle.smt_leaves.specs.declared.enums.EnumTable.{EnumTable}
+
+-- the enum types, each with its members
+abbrev pub enums_of : EnumTable → Enums
+enums_of table = map (λ entry. (bytes_of_type entry.0, texts_of entry.1)) table.types.entries
+
+-- the members of each enum type of a table ascend
+abbrev pub MembersAscend : Type 0
+MembersAscend = (table : EnumTable) → AllByRecursion (λ entry. AreAscending entry.1) (enums_of table)

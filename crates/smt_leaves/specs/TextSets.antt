@@ -1,0 +1,23 @@
+-- What sets of texts say.
+use Rattle.std.specs.Prelude.{ℕ, List, IsTrue, IsUtf8, map}
+use Rattle.std.specs.List.{AllByRecursion}
+use Rattle.std.specs.Rc.{rc_str_bytes}
+use Rattle.smt_meaning.specs.ValueOrder.{ascends, sorted, text_cmp}
+use Rattle.smt_leaves.specs.declared.texts.TextSet.{TextSet}
+
+-- texts in the order of their bytes, each once
+abbrev pub sorted_texts : List (List ℕ) → List (List ℕ)
+sorted_texts ts = sorted text_cmp ts
+
+-- the texts of a set
+abbrev pub texts_of : TextSet → List (List ℕ)
+texts_of set = map rc_str_bytes set.items.value.items
+
+-- texts in UTF-8 that ascend strictly by their bytes
+pub record AreAscending (ts : List (List ℕ)) : Type 0 where
+  pub ascending : IsTrue (ascends text_cmp ts)
+  pub texts : AllByRecursion IsUtf8 ts
+
+-- the texts of each set ascend
+abbrev pub TextSetsAscend : Type 0
+TextSetsAscend = (set : TextSet) → AreAscending (texts_of set)

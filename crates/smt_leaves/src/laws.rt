@@ -1,0 +1,35 @@
+//! Laws of entities, sets of texts and patterns: they compare as what they say, proved with no code.
+ghost use Rattle.smt_leaves.specs.Entities.{EntitiesCompareAsTexts, EntityIdsCompareAsTexts, EntityTypesCompareAsTexts};
+ghost use Rattle.smt_leaves.specs.Enums.{MembersAscend};
+ghost use Rattle.smt_leaves.specs.PatternOrder.{ElementOrderIsTotal, ElementsCompareAsPlain, EqualElementsSayTheSame, EqualOrdPatternsSayTheSame, EqualPatternsSayTheSame, LevelElementsAreEqual, LevelPatternsAreEqual, OrdPatternOrderIsTotal, PatternsCompareAsPlain};
+ghost use Rattle.smt_leaves.specs.TextSets.{TextSetsAscend};
+
+/// Patterns and their elements compare as what they say, and are equal exactly where they say the same.
+pub fn program_patterns()
+    ensures element_order { ElementsCompareAsPlain }
+    ensures order { PatternsCompareAsPlain }
+    ensures element_equality { EqualElementsSayTheSame }
+    ensures equality { EqualPatternsSayTheSame }
+    ensures ordered_equality { EqualOrdPatternsSayTheSame }
+{}
+
+/// The orders of patterns and of their elements are total, and hold two level exactly where they are equal.
+pub fn patterns_are_ordered()
+    ensures elements { ElementOrderIsTotal }
+    ensures level_elements { LevelElementsAreEqual }
+    ensures patterns { OrdPatternOrderIsTotal }
+    ensures level_patterns { LevelPatternsAreEqual }
+{}
+
+/// Entities, their types and their ids compare by the bytes of their texts.
+pub fn program_entities()
+    ensures type_order { EntityTypesCompareAsTexts }
+    ensures id_order { EntityIdsCompareAsTexts }
+    ensures order { EntitiesCompareAsTexts }
+{}
+
+/// Sets of texts ascend, and so do the members of each enum type in a table.
+pub fn program_texts()
+    ensures sets { TextSetsAscend }
+    ensures members { MembersAscend }
+{}

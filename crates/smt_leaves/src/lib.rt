@@ -1,0 +1,20 @@
+//! What terms are made of that holds no term: entities, tables of enum types, sets of texts, and patterns; and the one
+//! refusal of the calls that make terms.
+//!
+//! Contracts speak of what these say: entities and sets by their texts (`Entities`, `TextSets`, `Enums`), patterns by
+//! their parts (`PatternView`).
+#![tactic(auto)]
+
+mod entity;
+mod enums;
+mod error;
+pub mod laws;
+mod pattern;
+mod texts;
+
+pub use entity::{EntityID, EntityType, EntityUID};
+pub use enums::EnumTable;
+pub use error::TermError;
+pub use pattern::{OrdPattern, Pattern, PatternElem};
+pub use smt_text::Text;
+pub use texts::TextSet;

@@ -1,0 +1,57 @@
+//! `smt_script_rows`: the scripts of terms over entity types and enum types, for each row of the files in `data/`.
+//!
+//! What is printed is the row behind a `>` and the script that `Encoder::encode` gives for its terms, byte for byte. Where it
+//! refuses, that is what the sink has then, and a line such as `refused: EnumMissingMember Color::"z"`. `Encoder::encode_nodes`
+//! is to answer the same for numbers that stand for the terms; where it does not, its answer is printed too. `stdout` has
+//! scripts from outside.
+//!
+//! A row is words with a space between two. They enter enum types, and leave Boolean terms on a stack, of which the first
+//! one is asserted first.
+//!
+//! | Word | What it says |
+//! |---|---|
+//! | `enum:NAME:MEMBER:MEMBER` | an enum type, with any number of members |
+//! | `entity:NAME:ID` | an entity of the type of this name |
+//! | `var:ID:TYPE` | a variable |
+//! | `none:TYPE` | none of an option of this type |
+//! | `set:COUNT:TYPE` | the set of so many last terms, each of this type |
+//! | `byte:NUMBER`, `text:CHARACTERS`, `true` | a literal |
+//! | `some`, and the names of operators | as they say, of the last terms |
+//!
+//! A type is `bool`, `byte` of 8 bits, `string`, or `@NAME` of entities; `?TYPE` is that of options, and `*TYPE` that of sets.
+//! In a name, a member, an id and characters `\n`, `\r`, `\\`, `\"` and `\u{2ffff}` stand for a character, so `\u{20}` for a
+//! space and `\u{3a}` for a colon.
+#![tactic(auto)]
+
+mod scripts;
+mod spelling;
+mod types;
+mod words;
+
+use anyhow::Result;
+use std::fs;
+use std::io::{self, BufWriter, Write};
+
+/// The files of rows.
+const FILES: [&str; 6] = [
+    "enums",
+    "entities",
+    "options",
+    "sets",
+    "characters",
+    "refused",
+];
+
+fn main(rt: HostRuntime) -> Result<()> {
+    let alloc = rt.alloc();
+    let mut printer = BufWriter::new(alloc, io::writer(&rt))?;
+    for file in FILES {
+        let rows = fs::read_to_string(&rt, file)?;
+        for row in rows.lines() {
+            writeln!(printer, "> {row}")?;
+            scripts::show(alloc, &mut printer, &words::read_row(alloc, row)?)?;
+        }
+    }
+    printer.flush()?;
+    Ok(())
+}

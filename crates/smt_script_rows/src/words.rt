@@ -1,0 +1,154 @@
+//! Rows by their words. A word enters an enum type, or puts a term on a stack, and an operator takes its arguments from there.
+
+use crate::spelling::text;
+use crate::types::type_of;
+use anyhow::{Context, Result, bail};
+use smt_bits::{BitVec, EIGHT};
+use smt_term::{
+    EntityID, EntityType, EntityUID, EnumTable, Op, Term, TermList, TermSet, TermType, TermVar,
+};
+use std::alloc::Global;
+use std::rc::Rc;
+
+/// What a row says.
+#[derive(Drop)]
+pub(crate) struct Row {
+    /// The enum types.
+    pub enums: EnumTable,
+    /// The terms that are left, the first of them first.
+    pub terms: Vec<Term>,
+}
+
+/// What these words say, which leave Boolean terms. A space stands between two words.
+pub(crate) fn read_row(alloc: Global, words: &str) -> Result<Row> {
+    let mut enums = EnumTable::new(alloc);
+    let mut terms = Vec::new(alloc);
+    for word in words.split(' ') {
+        let (head, held) = word.split_once(':').unwrap_or((word, ""));
+        if head == "enum" {
+            enter(alloc, &mut enums, held)?;
+        } else {
+            let made = term(alloc, &mut terms, head, held)?;
+            terms.push(made)?;
+        }
+    }
+    for term in terms.as_slice() {
+        if !term.has_type(&TermType::Bool) {
+            bail!("the words leave a term that is not Boolean");
+        }
+    }
+    Ok(Row { enums, terms })
+}
+
+/// Enters an enum type by its name and its members.
+fn enter(alloc: Global, enums: &mut EnumTable, spelling: &str) -> Result<()> {
+    let mut texts = Vec::new(alloc);
+    for name in spelling.split(':') {
+        texts.push(text(alloc, name)?)?;
+    }
+    let (name, members) = texts.as_slice().split_first().context("no name")?;
+    if !enums.insert(EntityType(name.clone()?), members)? {
+        bail!("the enum type is there already");
+    }
+    Ok(())
+}
+
+/// The term of a word by its head and what it holds behind the colon.
+fn term(alloc: Global, terms: &mut Vec<Term>, head: &str, held: &str) -> Result<Term> {
+    Ok(match head {
+        "true" => Term::from(true),
+        "byte" => Term::from(BitVec::of_nat(EIGHT, held.parse::<u128>()?)),
+        "text" => Term::from(text(alloc, held)?),
+        "entity" => entity(alloc, held)?,
+        "var" => variable(alloc, held)?,
+        "none" => Term::None(type_of(alloc, held)?),
+        "some" => Term::Some(Rc::new(alloc, terms.pop().context("no term is left")?)?),
+        "set" => set(alloc, terms, held)?,
+        _ => {
+            let op = operator(head).context("no word has this head")?;
+            applied(alloc, terms, op)?
+        }
+    })
+}
+
+/// An entity by its type and its id.
+fn entity(alloc: Global, spelling: &str) -> Result<Term> {
+    let (ety, id) = spelling.split_once(':').context("a type and an id")?;
+    Ok(Term::from(EntityUID {
+        ety: EntityType(text(alloc, ety)?),
+        id: EntityID(text(alloc, id)?),
+    }))
+}
+
+/// A variable by its id and its type.
+fn variable(alloc: Global, spelling: &str) -> Result<Term> {
+    let (id, ty) = spelling.split_once(':').context("an id and a type")?;
+    Ok(Term::from(TermVar {
+        id: text(alloc, id)?,
+        ty: type_of(alloc, ty)?,
+    }))
+}
+
+/// The set of so many last terms, by this count and the type of elements.
+fn set(alloc: Global, terms: &mut Vec<Term>, spelling: &str) -> Result<Term> {
+    let (count, ty) = spelling.split_once(':').context("a count and a type")?;
+    let elements = taken(terms, count.parse()?)?;
+    Ok(Term::Set {
+        elts_ty: type_of(alloc, ty)?,
+        elts: TermSet::new(alloc, elements.as_slice())?,
+    })
+}
+
+/// So many last terms, which the stack then has no longer.
+fn taken(terms: &mut Vec<Term>, count: usize) -> Result<Vec<Term>> {
+    let left = terms.len().checked_sub(count).context("too few terms")?;
+    Ok(terms.split_off(left)?)
+}
+
+/// The operator of this name, by which jobs call it too.
+fn operator(name: &str) -> Option<Op> {
+    Some(match name {
+        "and" => Op::And,
+        "or" => Op::Or,
+        "not" => Op::Not,
+        "ite" => Op::Ite,
+        "eq" => Op::Eq,
+        "option.get" => Op::OptionGet,
+        "set.member" => Op::SetMember,
+        "set.subset" => Op::SetSubset,
+        "set.inter" => Op::SetInter,
+        _ => return None,
+    })
+}
+
+/// The operator at its arguments, which are the last terms.
+fn applied(alloc: Global, terms: &mut Vec<Term>, op: Op) -> Result<Term> {
+    let args = taken(terms, count_of_arguments(&op))?;
+    let ret_ty = type_of_result(alloc, &op, args.as_slice())?;
+    Ok(Term::App {
+        op,
+        args: TermList::new(alloc, args.as_slice())?,
+        ret_ty,
+    })
+}
+
+fn count_of_arguments(op: &Op) -> usize {
+    match op {
+        Op::Not | Op::OptionGet => 1,
+        Op::Ite => 3,
+        _ => 2,
+    }
+}
+
+/// The type of an operator's result by its arguments.
+fn type_of_result(alloc: Global, op: &Op, args: &[Term]) -> Result<TermType> {
+    match (op, args) {
+        (Op::OptionGet, [option, ..]) => match option.type_of(alloc)? {
+            TermType::Option { ty } => Ok(ty.share()?),
+            _ => bail!("the argument is no option"),
+        },
+        (Op::SetInter, [set, ..]) => Ok(set.type_of(alloc)?),
+        (Op::Ite, [_, chosen, ..]) => Ok(chosen.type_of(alloc)?),
+        _ => Ok(TermType::Bool),
+    }
+}

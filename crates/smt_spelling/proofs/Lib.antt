@@ -1,0 +1,5 @@
+pub mod Bracketed
+pub mod Entered
+pub mod Members
+pub mod Numbered
+pub mod Patterned

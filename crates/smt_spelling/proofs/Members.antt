@@ -1,0 +1,72 @@
+-- The texts of the constructors of an entity type, and the place of a member.
+use Rattle.std.proofs.Common.{◌≡◌, ℕ, zero, suc, ◌+◌, ◌<◌, ◌≤◌, ◌^◌, Bool, true, false, ◌||◌, List, [], ◌∷◌, ◌++◌, length, drop, add-one, refl, sym, ap, ◌∙◌, append_assoc, append-nil, arith}
+use Rattle.std.specs.Prelude.{bytes_eq, codes, decimal, if◌then◌else◌}
+use Rattle.std.specs.List.{list_any}
+use Rattle.smt_lines.specs.EntryNames.{id_name, member_name, place_of}
+use Rattle.smt_lines.specs.Line.{spelled_constructor, Bare, Fielded}
+use Rattle.smt_lines.specs.LineForms.{member_constructors}
+use Rattle.smt_semantics.specs.Sorts.{string_sort}
+use Rattle.smt_semantics.proofs.Numerals.{numerals_are_printed}
+
+-- the name of a member's constructor, as it is printed
+pub member_printed : (name : List ℕ) (place : ℕ) → place < 10 ^ 64 → name ++ (codes "_m" ++ decimal place) ≡ member_name name place
+member_printed name place small = ap (λ d. name ++ (codes "_m" ++ d)) (sym (numerals_are_printed place small))
+
+-- the constructor alone between brackets
+pub member_bracketed : (name : List ℕ) (place : ℕ) → place < 10 ^ 64 → codes "(" ++ (name ++ (codes "_m" ++ (decimal place ++ codes ")"))) ≡ spelled_constructor (Bare (member_name name place))
+member_bracketed name place small =
+    ap (λ l. codes "(" ++ l) (sym (append_assoc name (codes "_m" ++ decimal place) (codes ")")) ∙ ap (λ l. l ++ codes ")") (member_printed name place small))
+
+-- the constructor of entities, with the selector of the id
+pub entity_bracketed : (name : List ℕ) → codes "(" ++ (name ++ (codes " (" ++ (name ++ codes "_eid String))"))) ≡ spelled_constructor (Fielded name ((id_name name, string_sort) ∷ []))
+entity_bracketed name =
+    let inner : List ℕ = (name ++ codes "_eid") ++ codes " String)" in
+    let e : name ++ codes "_eid String))" ≡ inner ++ codes ")" = sym (append_assoc (name ++ codes "_eid") (codes " String)") (codes ")") ∙ append_assoc name (codes "_eid") (codes " String))")) in
+    ap (λ l. codes "(" ++ (name ++ (codes " (" ++ l))) e ∙ ap (λ l. codes "(" ++ (name ++ (codes " (" ++ (l ++ codes ")")))) (sym (append-nil inner))
+
+-- the constructors from a place on
+left_from : (name : List ℕ) (n i : ℕ) (ms : List (List ℕ)) → i < length ms → member_constructors name n (drop i ms) ≡ Bare (member_name name n) ∷ member_constructors name (suc n) (drop (suc i) ms)
+left_from name n i [] h = absurd (omega (arith, h))
+left_from name n zero (m ∷ ms) h = refl
+left_from name n (suc i) (m ∷ ms) h = left_from name n i ms (omega (arith, h))
+
+pub constructors_from : (name : List ℕ) (i : ℕ) (ms : List (List ℕ)) → i < length ms → member_constructors name i (drop i ms) ≡ Bare (member_name name i) ∷ member_constructors name (i + 1) (drop (i + 1) ms)
+constructors_from name i ms h = left_from name i i ms h ∙ ap (λ k. Bare (member_name name i) ∷ member_constructors name k (drop k ms)) (sym (add-one i))
+
+nothing_from : (name : List ℕ) (n i : ℕ) (ms : List (List ℕ)) → length ms ≤ i → member_constructors name n (drop i ms) ≡ []
+nothing_from name n zero [] h = refl
+nothing_from name n (suc i) [] h = refl
+nothing_from name n zero (m ∷ ms) h = absurd (omega (arith, h))
+nothing_from name n (suc i) (m ∷ ms) h = nothing_from name n i ms (omega (arith, h))
+
+pub none_from : (name : List ℕ) (i : ℕ) (ms : List (List ℕ)) → length ms ≤ i → member_constructors name i (drop i ms) ≡ []
+none_from name i ms h = nothing_from name i i ms h
+
+-- ---- the place of a text
+
+-- The places of a text in a list, and among what is left of the list behind so many that differ.
+pub record Left (text : List ℕ) (i : ℕ) (all left : List (List ℕ)) : Type 0 where
+  pub place : place_of text all ≡ i + place_of text left
+  pub there : list_any (bytes_eq text) all ≡ list_any (bytes_eq text) left
+
+pub place_next : (text : List ℕ) (i : ℕ) (all left : List (List ℕ)) (x : List ℕ) (others : List (List ℕ)) → left ≡ x ∷ others → bytes_eq text x ≡ false → Left text i all left → Left text (i + 1) all others
+place_next text i all left x others is apart l =
+    let p : place_of text left ≡ suc (place_of text others) = ap (place_of text) is ∙ ap (λ b. if b then 0 else suc (place_of text others)) apart in
+    let t : list_any (bytes_eq text) left ≡ list_any (bytes_eq text) others = ap (list_any (bytes_eq text)) is ∙ rest (bytes_eq text x) apart in
+    let e = l.place in
+    record { place = omega (arith, e, p); there = l.there ∙ t }
+  where
+    rest : (b : Bool) → b ≡ false → (b || list_any (bytes_eq text) others) ≡ list_any (bytes_eq text) others
+    rest false h = refl
+    rest true h = cc
+
+pub place_here : (text : List ℕ) (i : ℕ) (all left : List (List ℕ)) (x : List ℕ) (others : List (List ℕ)) → left ≡ x ∷ others → bytes_eq text x ≡ true → Left text i all left → (i ≡ place_of text all) × (true ≡ list_any (bytes_eq text) all)
+place_here text i all left x others is same l =
+    let p : place_of text left ≡ 0 = ap (place_of text) is ∙ ap (λ b. if b then 0 else suc (place_of text others)) same in
+    let t : list_any (bytes_eq text) left ≡ true = ap (list_any (bytes_eq text)) is ∙ here (bytes_eq text x) same in
+    let e = l.place in
+    (omega (arith, e, p), sym (l.there ∙ t))
+  where
+    here : (b : Bool) → b ≡ true → (b || list_any (bytes_eq text) others) ≡ true
+    here true h = refl
+    here false h = cc

@@ -1,0 +1,10 @@
+use Rattle.std.proofs.Common.{◌≡◌, ◌++◌, drop, map}
+use Rattle.smt_characters.specs.SharedTexts.{texts}
+use Rattle.smt_leaves.specs.TextSets.{texts_of}
+use Rattle.smt_lines.specs.Line.{spelled_constructor}
+use Rattle.smt_lines.specs.LineForms.{member_constructors}
+use Rattle.smt_spelling.proofs.entity.member_constructors.Given as goal
+
+-- what is made so far and what is left are all
+abbrev pub invariant-loop-place : goal.invariant-loop-place
+invariant-loop-place l = texts l.constructors.items ++ map spelled_constructor (member_constructors l.name l.place (drop l.place (texts_of l.members))) ≡ map spelled_constructor (member_constructors l.name 0 (texts_of l.members))

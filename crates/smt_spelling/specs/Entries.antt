@@ -1,0 +1,73 @@
+-- How terms and types are entered, and the bytes of their own lines.
+use Rattle.std.specs.Prelude.{ℕ, ◌≡◌, List, [], ◌∷◌, ◌++◌, Option, Some, None}
+use Rattle.std.specs.Rc.{rc_str_bytes}
+use Rattle.std.specs.String.{string_bytes}
+use Rattle.std.specs.declared.alloc.Global.{Global}
+use Rattle.std.specs.declared.rc.RcStr.{RcStr}
+use Rattle.smt_characters.specs.LineTexts.{comment_text, declare_const_text, declare_datatype_text, define_fun_text}
+use Rattle.smt_characters.specs.Quoting.{quoted_id}
+use Rattle.smt_characters.specs.SharedTexts.{texts}
+use Rattle.smt_lexicon.specs.Reading.{Expression}
+use Rattle.smt_meaning.specs.Faults.{Fault, EncodeStringFailed, fault_unless, is_string}
+use Rattle.smt_meaning.specs.Plain.{PlainLiteral, BitVecLiteral, BoolLiteral, StringLiteral}
+use Rattle.smt_lines.specs.EntryNames.{enum_member}
+use Rattle.smt_lines.specs.Line.{Line, DefineFun}
+use Rattle.smt_lines.specs.LineForms.{entity_body, variable_lines}
+use Rattle.smt_lines.specs.Lines.{bits}
+use Rattle.smt_lines.specs.Spelling.{spelled}
+use Rattle.smt_lines.specs.TermTexts.{bool_text, string_text}
+use Rattle.smt_spelling.specs.declared.entity.Datatype.{Datatype}
+use Rattle.smt_spelling.specs.declared.entry.Entry.{Entry}
+use Rattle.smt_spelling.specs.declared.entry.Entry.TheVariants.{Body, Constant, Name}
+
+-- how a term is entered: as a constant, for a variable with this id, by a body, or under a name without a line
+pub data PlainEntry : Type 0 where
+  ByConstant : (id : List ℕ) → PlainEntry
+  ByBody : Expression → PlainEntry
+  ByName : (name : List ℕ) → PlainEntry
+
+-- a term's own lines, by its name and its sort
+abbrev pub entry_lines : PlainEntry → (name : List ℕ) → (sort : Expression) → List Line
+entry_lines (ByConstant id) n sort = variable_lines id n sort
+entry_lines (ByBody body) n sort = DefineFun n sort body ∷ []
+entry_lines (ByName name) n sort = []
+
+-- an entity, by its sort: of an enum type the constructor of the member, of another type the constructor at the id
+abbrev pub entity_entry : (members : Option (List (List ℕ))) → (id sort : List ℕ) → PlainEntry
+entity_entry (Some members) id sort = ByName (enum_member members sort id)
+entity_entry None id sort = ByBody (entity_body sort id)
+
+-- the text of a literal that has no entry
+abbrev pub literal_text : PlainLiteral → Option Expression
+literal_text (BitVecLiteral width number) = Some (bits width number)
+literal_text (BoolLiteral b) = Some (bool_text b)
+literal_text (StringLiteral text) = Some (string_text text)
+literal_text l = None
+
+-- its fault
+abbrev pub string_fault : PlainLiteral → Option Fault
+string_fault (StringLiteral s) = fault_unless (is_string s) (EncodeStringFailed s)
+string_fault l = None
+
+-- a text of the program says this one, or there is none
+abbrev pub SaysInline : Option Expression → Option (RcStr Global) → Type 0
+SaysInline (Some e) (Some text) = rc_str_bytes text ≡ spelled e
+SaysInline None None = Unit {0}
+SaysInline e text = ⊥
+
+-- an entry of the program says this one
+abbrev pub SaysEntry : PlainEntry → Entry → Type 0
+SaysEntry (ByConstant id) (Constant comment) = string_bytes comment ≡ quoted_id id
+SaysEntry (ByBody body) (Body text) = string_bytes text ≡ spelled body
+SaysEntry (ByName name) (Name text) = rc_str_bytes text ≡ name
+SaysEntry p entry = ⊥
+
+-- the bytes of an entry's lines, by the name and the sort
+abbrev pub entry_bytes : Entry → (name sort : List ℕ) → List ℕ
+entry_bytes (Constant comment) n sort = comment_text (string_bytes comment) ++ declare_const_text n sort
+entry_bytes (Body text) n sort = define_fun_text n [] sort (string_bytes text)
+entry_bytes (Name name) n sort = []
+
+-- the bytes of a datatype's lines, by the name
+abbrev pub datatype_bytes : Datatype → (name : List ℕ) → List ℕ
+datatype_bytes d name = comment_text (string_bytes d.comment) ++ declare_datatype_text name [] (texts d.constructors.items)

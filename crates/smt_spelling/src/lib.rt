@@ -1,0 +1,24 @@
+//! The texts of what a script has for terms and types: names, sorts, literals, patterns, bodies of definitions, datatypes,
+//! and the entries by which terms are declared or defined.
+//!
+//! What each text spells is stated as an expression of a script (`smt_lines`), apart from this code.
+#![tactic(auto, using(smt_term::specs::View::views))]
+
+mod body;
+mod entity;
+mod entry;
+mod error;
+mod literal;
+mod pattern;
+mod spell;
+
+pub use body::{application_body, least_body};
+pub use entity::{Datatype, entity_datatype, entity_entry};
+pub use entry::Entry;
+pub use error::{SMT_LIB_MAX_CODE_POINT, TextError};
+pub use literal::literal_text;
+pub use pattern::pattern_text;
+pub use spell::{
+    application_text, as_text, bits_literal, bits_sort, entity_name, option_sort, set_sort,
+    set_text, some_text, string_literal, term_name,
+};
