@@ -69,6 +69,10 @@ line_end-None xs h =
 
 -- ---- whole lines, by the parts that are put
 
+pub declare_fun_text-parts : (id args ty : List ℕ) → (codes "(declare-fun " ++ (id ++ codes " (")) ++ (args ++ (codes ") " ++ (ty ++ codes ")\n")))
+    ≡ codes "(declare-fun " ++ (id ++ (codes " (" ++ (args ++ (codes ") " ++ (ty ++ codes ")\n")))))
+declare_fun_text-parts id args ty = simp append_assoc
+
 pub define_fun_text-parts : (id args ty expr : List ℕ) → (codes "(define-fun " ++ (id ++ codes " (")) ++ (args ++ (codes ") " ++ (ty ++ (codes " " ++ (expr ++ codes ")\n")))))
     ≡ codes "(define-fun " ++ (id ++ (codes " (" ++ (args ++ (codes ") " ++ (ty ++ (codes " " ++ (expr ++ codes ")\n")))))))
 define_fun_text-parts id args ty expr = simp append_assoc

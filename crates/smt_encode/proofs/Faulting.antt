@@ -1,25 +1,25 @@
 -- The fault of a node is that of its parts, or its own.
-use Rattle.std.proofs.Common.{◌≡◌, true, List, [], ◌∷◌, map, refl, sym, ap, ◌∙◌, Option, Some, None, Result, Ok, Err}
+use Rattle.std.proofs.Common.{◌≡◌, ◌⊎◌, inl, inr, true, false, List, [], ◌∷◌, ◌++◌, map, subst, refl, sym, ap, ◌∙◌, Option, Some, None, Result, Ok, Err}
 use Rattle.std.specs.Result.{IsErrAnd}
 use Rattle.std.specs.Option.{option_or}
 use Rattle.std.specs.Prelude.{is_none, not}
 use Rattle.std.proofs.lemmas.Bool.{false≢true}
 use Rattle.smt_meaning.specs.Faults.{Fault, entity_fault, entity_type_fault, operator_fault, term_fault, terms_fault, type_fault, unless}
-use Rattle.smt_meaning.specs.Plain.{PlainType, OptionType, BitVecType, BoolType, EntityType, StringType, SetType, PlainTerm, PlainTerms, no_terms, one_term, PlainOp, BvnegoOp, RecordGetOp, UufOp, Application, NoneTerm, LiteralTerm, RecordTerm, SetTerm, SomeTerm, VariableTerm, BitVecLiteral, BoolLiteral, EntityLiteral, StringLiteral, list_of_terms}
+use Rattle.smt_meaning.specs.Plain.{PlainType, OptionType, BitVecType, BoolType, EntityType, StringType, SetType, PlainTerm, PlainTerms, no_terms, one_term, PlainFunction, PlainOp, BvnegoOp, RecordGetOp, UufOp, Application, NoneTerm, LiteralTerm, RecordTerm, SetTerm, SomeTerm, VariableTerm, BitVecLiteral, BoolLiteral, EntityLiteral, StringLiteral, list_of_terms}
 use Rattle.smt_meaning.specs.Types.{is_bits, type_of, types_of}
 use Rattle.smt_meaning.specs.TypeValues.{Enums, members_of}
 use Rattle.smt_graph.specs.Nodes.{ApplicationLabel, Meaning, TypeMeaning, FunctionMeaning, TermMeaning}
-use Rattle.smt_graph.specs.Parts.{label_in, parts_in}
-use Rattle.smt_lines.specs.Lines.{Rendering, application_rendering, least_rendering}
+use Rattle.smt_graph.specs.Parts.{label_in, parts_in, term_label}
+use Rattle.smt_lines.specs.Lines.{application_rendering, least_rendering}
 use Rattle.smt_encode.specs.NodeLines.{meaning_fault, meanings_fault}
-use Rattle.smt_encode.specs.Entries.{entry_fault, inline_fault, is_built, is_built_op, own_fault, rendering_in, written_parts}
+use Rattle.smt_encode.specs.Entries.{Rendered, entry_fault, inline_fault, is_built, is_built_op, op_rendering, own_fault, rendering_in, written_parts}
 use Rattle.smt_spelling.specs.TextFaults.{pattern_fault}
 use Rattle.smt_encode.specs.Refusals.{write_fault}
 use Rattle.smt_spelling.specs.TextFaults.{text_fault, Finds}
 use Rattle.smt_spelling.specs.declared.error.TextError.{TextError}
 use Rattle.smt_encode.specs.declared.error.WriteError.{WriteError}
 use Rattle.smt_encode.specs.declared.error.WriteError.TheVariants.{Text}
-use Rattle.smt_encode.proofs.Stated.{built_application, label_of_application, parts_of_application}
+use Rattle.smt_encode.proofs.Stated.{built_application, call_or_not, is_call, label_of_application, parts_of_application, rendering_of_application}
 
 or_none : (o : Option Fault) → option_or o None ≡ o
 or_none None = refl
@@ -43,6 +43,19 @@ module _ (enums : Enums) where
   operator_alone (RecordGetOp a) ts h = absurd (false≢true h)
   operator_alone o ts h = refl
 
+  -- several, and one behind them
+  one_behind : (ms : List Meaning) (m : Meaning) → meanings_fault enums (ms ++ m ∷ []) ≡ option_or (meanings_fault enums ms) (meaning_fault enums m)
+  one_behind [] m = or_none (meaning_fault enums m)
+  one_behind (n ∷ ms) m = ap (option_or (meaning_fault enums n)) (one_behind ms m) ∙ sym (or_apart (meaning_fault enums n) (meanings_fault enums ms) (meaning_fault enums m))
+
+  -- a call
+  call : (f : PlainFunction) (ts : PlainTerms) (t : PlainType)
+      → term_fault enums (Application (UufOp f) ts t)
+      ≡ option_or (meanings_fault enums (TypeMeaning t ∷ (map TermMeaning (list_of_terms ts) ++ FunctionMeaning f ∷ []))) None
+  call f ts t =
+      sym (ap (option_or (type_fault enums t)) (one_behind (map TermMeaning (list_of_terms ts)) (FunctionMeaning f) ∙ ap (λ g. option_or g (meaning_fault enums (FunctionMeaning f))) (terms_in_order ts)))
+      ∙ sym (or_none _)
+
   -- what is written by its operator
   entered : (o : PlainOp) (ts : PlainTerms) (t : PlainType) → is_built_op o ≡ true
       → option_or (type_fault enums t) (option_or (terms_fault enums ts) (operator_fault enums o (types_of ts))) ≡ option_or (option_or (type_fault enums t) (meanings_fault enums (map TermMeaning (list_of_terms ts)))) (pattern_fault o)
@@ -54,13 +67,13 @@ module _ (enums : Enums) where
   -- the overflow test of a negation, by the type of its operand
   negation : (u : PlainTerm) (t : PlainType) → type_of u ≡ t
       → unless (not (is_bits t)) (option_or None (option_or (terms_fault enums (one_term u no_terms)) None))
-      ≡ option_or (meanings_fault enums (written_parts (least_rendering t) (TypeMeaning BoolType ∷ TermMeaning u ∷ []))) (own_fault enums (ApplicationLabel BvnegoOp) (least_rendering t))
+      ≡ option_or (meanings_fault enums (written_parts (Rendered (least_rendering t)) (TypeMeaning BoolType ∷ TermMeaning u ∷ []))) (own_fault enums (ApplicationLabel BvnegoOp) (Rendered (least_rendering t)))
   negation u (BitVecType w) is = refl
   negation u t is = refl
 
   application : (o : PlainOp) (ts : PlainTerms) (t : PlainType) → is_built_op o ≡ true
       → term_fault enums (Application o ts t)
-      ≡ option_or (meanings_fault enums (written_parts (application_rendering o ts t) (TypeMeaning t ∷ map TermMeaning (list_of_terms ts)))) (own_fault enums (ApplicationLabel o) (application_rendering o ts t))
+      ≡ option_or (meanings_fault enums (written_parts (Rendered (application_rendering o ts t)) (TypeMeaning t ∷ map TermMeaning (list_of_terms ts)))) (own_fault enums (ApplicationLabel o) (Rendered (application_rendering o ts t)))
   application BvnegoOp (one_term u no_terms) BoolType h = negation u (type_of u) refl
   application o ts t h = entered o ts t h
 
@@ -72,12 +85,15 @@ module _ (enums : Enums) where
   faults (TypeMeaning StringType) h = refl
   faults (TypeMeaning (SetType t)) h = alone (type_fault enums t)
   faults (TypeMeaning t) h = absurd (false≢true h)
-  faults (FunctionMeaning f) h = absurd (false≢true h)
-  faults (TermMeaning (Application o ts t)) h =
-      let b : is_built_op o ≡ true = built_application o ts t h in
-      let how : Rendering = application_rendering o ts t in
-      application o ts t b
-      ∙ sym (λ i. option_or (meanings_fault enums (written_parts how (TypeMeaning t ∷ parts_of_application o ts t b i))) (own_fault enums (label_of_application o ts t b i) how))
+  faults (FunctionMeaning f) h = ap (option_or (type_fault enums f.argument)) (sym (or_none (type_fault enums f.output))) ∙ sym (or_none _)
+  faults (TermMeaning (Application o ts t)) h = go (call_or_not o)
+    where
+      go : ((f : PlainFunction) × (o ≡ UufOp f)) ⊎ (is_call o ≡ false) → term_fault enums (Application o ts t) ≡ option_or (meanings_fault enums (written_parts (op_rendering o ts t) (parts_in (TermMeaning (Application o ts t))))) (own_fault enums (term_label (Application o ts t)) (op_rendering o ts t))
+      go (inl (f, is)) =
+          subst (λ (p : PlainOp). term_fault enums (Application p ts t) ≡ option_or (meanings_fault enums (written_parts (op_rendering p ts t) (parts_in (TermMeaning (Application p ts t))))) (own_fault enums (term_label (Application p ts t)) (op_rendering p ts t))) (sym is) (call f ts t)
+      go (inr b) =
+          application o ts t (built_application o ts t b h)
+          ∙ sym (λ i. option_or (meanings_fault enums (written_parts (rendering_of_application o ts t b i) (TypeMeaning t ∷ parts_of_application o ts t b i))) (own_fault enums (label_of_application o ts t b i) (rendering_of_application o ts t b i)))
   faults (TermMeaning (NoneTerm t)) h = alone (type_fault enums t)
   faults (TermMeaning (LiteralTerm (BitVecLiteral w a))) h = refl
   faults (TermMeaning (LiteralTerm (BoolLiteral b))) h = refl

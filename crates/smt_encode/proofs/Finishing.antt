@@ -1,5 +1,5 @@
 -- A node's own lines, by the texts of its parts.
-use Rattle.std.proofs.Common.{◌≡◌, ℕ, true, List, [], ◌∷◌, drop, get_or, length, ◌≤◌, refl, sym, ap, ◌∙◌, subst, arith, Option, Some, None, Result}
+use Rattle.std.proofs.Common.{◌≡◌, ℕ, true, List, [], ◌∷◌, ◌++◌, drop, get_or, length, ◌≤◌, refl, sym, ap, ◌∙◌, subst, arith, Option, Some, None, Result}
 use Rattle.std.specs.Rc.{rc_str_bytes}
 use Rattle.std.specs.declared.alloc.Global.{Global}
 use Rattle.std.specs.declared.rc.RcStr.{RcStr}
@@ -17,6 +17,7 @@ use Rattle.smt_encode.specs.NodeTexts.{IsText}
 use Rattle.smt_encode.specs.Steps.{WritesHere}
 use Rattle.smt_spelling.specs.Spelled.{AreSpelled, IsSpelled}
 use Rattle.smt_encode.specs.declared.writer.Writer.{Writer}
+use Rattle.smt_encode.proofs.Built.{inline_headless}
 use Rattle.smt_encode.proofs.Stated.{stated}
 
 -- an inline text is stated
@@ -33,7 +34,7 @@ pub inline_stated : (enums : Enums) (m : Meaning) (s : Tables) (text : RcStr Glo
     → encode_meanings enums (written_parts (rendering_in m) (parts_in m)) s ≡ made_of es s → SaysInline (inline_by (label_in m) es) (Some text) → IsText enums s m (rc_str_bytes text)
 inline_stated enums m s text es built none parts says =
     let (e, is, spells) = says_some (inline_by (label_in m) es) text says in
-    (e, stated enums m s built none ∙ ap (λ w. w >>= λ es u. own_lines enums m es u) parts ∙ ap (λ o. elim o [ Some e ↦ made_of e s | None ↦ entered_by enums (label_in m) (rendering_in m) m es s ]) is, spells)
+    (e, stated enums m s built (inline_headless (label_in m) es e is) none ∙ ap (λ w. w >>= λ es u. own_lines enums m es u) parts ∙ ap (λ o. elim o [ Some e ↦ made_of e s | None ↦ entered_by enums (label_in m) (rendering_in m) m es s ]) is, spells)
 
 -- its own lines are none
 pub inline_lines : (enums : Enums) (m : Meaning) (s : Tables) (es : List Expression) (e : Expression) → inline_by (label_in m) es ≡ Some e → own_lines enums m es s ≡ made_of e s
@@ -74,3 +75,21 @@ entry_written contents old new enums m t es s first others result is shown none 
     ∙ entry_lines_are enums t s p.sort p.rest (ap (λ k. inline_by (label_in k) (p.sort ∷ p.rest)) (sym is) ∙ ap (inline_by (label_in m)) (sym p.whole) ∙ none)
     ∙ ap (λ k. enter_by (entry_by enums (label_in k) (rendering_in k) p.sort p.rest) t p.sort s) (sym is) in
     subst (λ (w : Written Expression). WritesHere contents old new w IsSpelled result) (sym whole) (writes p.sort p.rest p.sort_spelled p.rest_spelled)
+
+-- the last of several texts, and the others
+pub record SplitLast (es : List Expression) (others : List (RcStr Global)) (last : RcStr Global) : Type 0 where
+  pub rest : List Expression
+  pub function : Expression
+  pub whole : es ≡ rest ++ function ∷ []
+  pub rest_spelled : AreSpelled rest others
+  pub function_spelled : rc_str_bytes last ≡ spelled function
+
+pub split_last : (es : List Expression) (others : List (RcStr Global)) (last : RcStr Global) → AreSpelled es (others ++ last ∷ []) → SplitLast es others last
+split_last [] [] last h = absurd (cc)
+split_last [] (x ∷ others) last h = absurd (cc)
+split_last (e ∷ []) [] last h = record { rest = []; function = e; whole = refl; rest_spelled = refl; function_spelled = cc }
+split_last (e ∷ f ∷ es) [] last h = absurd (cc)
+split_last (e ∷ es) (x ∷ others) last h =
+    let one : rc_str_bytes x ≡ spelled e = cc in
+    let more = split_last es others last (cc) in
+    record { rest = e ∷ more.rest; function = more.function; whole = ap (λ l. e ∷ l) more.whole; rest_spelled = λ i. one i ∷ more.rest_spelled i; function_spelled = more.function_spelled }

@@ -1,7 +1,10 @@
+pub mod Answered
+pub mod Bodies
 pub mod Built
 pub mod Completing
 pub mod Conditions
 pub mod Counted
+pub mod Declared
 pub mod Faulted
 pub mod Faulting
 pub mod Finishing

@@ -1,5 +1,5 @@
 -- Lines that are put, and the lines that are stated.
-use Rattle.std.proofs.Common.{◌≡◌, ℕ, List, [], ◌∷◌, ◌++◌, refl, sym, ap, ◌∙◌, subst, append-nil, Option, Ok}
+use Rattle.std.proofs.Common.{◌≡◌, ℕ, List, [], ◌∷◌, ◌++◌, refl, sym, ap, ◌∙◌, subst, append-nil, Option, Result, Ok, Err}
 use Rattle.std.proofs.lemmas.Grind.{flat_map-append}
 use Rattle.std.specs.Io.KnownBytes.{append_known}
 use Rattle.std.specs.Prelude.{codes}
@@ -8,7 +8,7 @@ use Rattle.smt_lines.specs.Lines.{Written, option_line, ◌>>=◌}
 use Rattle.smt_lines.specs.NameTables.{Tables}
 use Rattle.smt_characters.specs.LineTexts.{declare_datatype_text}
 use Rattle.smt_script.proofs.PutsLemmas.{appends_then, appends_nothing}
-use Rattle.smt_encode.specs.Steps.{HasTables, PutsLine, Wrote}
+use Rattle.smt_encode.specs.Steps.{HasTables, PutsLine, WritesHere, Wrote}
 use Rattle.smt_encode.specs.Names.{KeepTables}
 use Rattle.smt_encode.specs.declared.writer.Writer.{Writer}
 use Rattle.smt_encode.specs.declared.names.Names.{Names}
@@ -21,6 +21,11 @@ option_bytes parameter nothing something p q r = rw (p, q, r) refl
 -- lines one behind the other
 pub lines_append : (ls ms : List Line) → spelled_lines (ls ++ ms) ≡ spelled_lines ls ++ spelled_lines ms
 lines_append ls ms = flat_map-append spelled_line ls ms
+
+-- what was written by a writer that has the same sink
+pub written_here : {S A T E : Type 0} (contents : S → Option (List ℕ)) (old mid new : Writer S) (w : Written A) (Shows : A → T → Type 0) (result : Result T E) → mid.script ≡ old.script → WritesHere contents mid new w Shows result → WritesHere contents old new w Shows result
+written_here contents old mid new w Shows (Ok x) same h = (record { names = h.0.names; contents_are = h.0.contents_are ∙ ap (λ k. append_known (contents k) (spelled_lines w.lines)) same }, h.1)
+written_here contents old mid new w Shows (Err e) same h = tt
 
 module _ {S : Type 0} {contents : S → Option (List ℕ)} where
   -- nothing was written

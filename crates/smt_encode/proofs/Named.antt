@@ -3,7 +3,7 @@ use Rattle.std.proofs.Common.{◌≡◌, ℕ, zero, suc, ◌+◌, ◌<◌, ◌�
 use Rattle.std.specs.Prelude.{is_none, is_some, IsTrue}
 use Rattle.std.proofs.lemmas.Bool.{false≢true}
 use Rattle.smt_meaning.specs.Interpretations.{function_eq}
-use Rattle.smt_meaning.specs.Plain.{PlainTerm, PlainType}
+use Rattle.smt_meaning.specs.Plain.{PlainFunction, PlainTerm, PlainType}
 use Rattle.smt_meaning.specs.TermOrder.{term_eq}
 use Rattle.smt_meaning.specs.Types.{type_eq}
 use Rattle.smt_meaning.proofs.TermTotal.{functions_decided, terms_decided, types_decided}
@@ -98,7 +98,7 @@ tables_grow n j s keeps sound are new nodes texts enums = record {
       subst (λ (e : Enums). IsText e s m x) (sym enums) (are.inline id m x (kept_before n.nodes j n.texts keeps sound.within id m x y k) none y);
   terms = ap (λ (x : NodeNames). x.terms) texts ∙ are.terms;
   types = ap (λ (x : NodeNames). x.types) texts ∙ are.types;
-  functions = are.functions;
+  functions = ap (λ (x : NodeNames). x.functions) texts ∙ are.functions;
 }
 
 -- and what has a text has no fault still
@@ -182,7 +182,7 @@ found_then s (TermMeaning t) x none (FunctionMeaning q) = inr (λ h. cc, refl)
 pub record Counts (names : NodeNames) (s : Tables) : Type 0 where
   pub terms : names.terms ≡ length s.terms
   pub types : names.types ≡ length s.types
-  pub functions : s.functions ≡ []
+  pub functions : names.functions ≡ length s.functions
 
 -- a name more
 pub tables_entered : (n new : Names) (id : NodeId) (m : Meaning) (x : List ℕ) (s : Tables) → IsKept n.texts.texts.items new.texts.texts.items (place_of id) x
@@ -209,31 +209,38 @@ tables_entered n new id m x s is meant unkept entry counts nodes enums are = rec
     go k (inr (apart, found)) =
         subst (λ (o : Option (List ℕ)). HasName n.nodes new.texts k o) (sym found) (name_stays n id m x new.texts is meant unkept k (name_in s k) apart (are.names k))
 
--- one term more, and one type more
-pub term_counted : (n : Names) (new : NodeNames) (t : PlainTerm) (x : List ℕ) (s : Tables) → new.terms ≡ n.texts.terms + 1 → new.types ≡ n.texts.types → KeepTables n s → Counts new (with_name s (TermMeaning t) x)
-term_counted n new t x s one same are = record {
+-- one term more, one type more, and one function more
+pub term_counted : (n : Names) (new : NodeNames) (t : PlainTerm) (x : List ℕ) (s : Tables) → new.terms ≡ n.texts.terms + 1 → new.types ≡ n.texts.types → new.functions ≡ n.texts.functions → KeepTables n s → Counts new (with_name s (TermMeaning t) x)
+term_counted n new t x s one types functions are = record {
   terms = one ∙ ap (λ k. k + 1) are.terms ∙ sym (length-append s.terms ((t, x) ∷ []));
-  types = same ∙ are.types;
-  functions = are.functions;
+  types = types ∙ are.types;
+  functions = functions ∙ are.functions;
 }
 
-pub type_counted : (n : Names) (new : NodeNames) (t : PlainType) (x : List ℕ) (s : Tables) → new.terms ≡ n.texts.terms → new.types ≡ n.texts.types + 1 → KeepTables n s → Counts new (with_name s (TypeMeaning t) x)
-type_counted n new t x s same one are = record {
-  terms = same ∙ are.terms;
+pub type_counted : (n : Names) (new : NodeNames) (t : PlainType) (x : List ℕ) (s : Tables) → new.terms ≡ n.texts.terms → new.types ≡ n.texts.types + 1 → new.functions ≡ n.texts.functions → KeepTables n s → Counts new (with_name s (TypeMeaning t) x)
+type_counted n new t x s terms one functions are = record {
+  terms = terms ∙ are.terms;
   types = one ∙ ap (λ k. k + 1) are.types ∙ sym (length-append s.types ((t, x) ∷ []));
-  functions = are.functions;
+  functions = functions ∙ are.functions;
+}
+
+pub function_counted : (n : Names) (new : NodeNames) (f : PlainFunction) (x : List ℕ) (s : Tables) → new.terms ≡ n.texts.terms → new.types ≡ n.texts.types → new.functions ≡ n.texts.functions + 1 → KeepTables n s → Counts new (with_name s (FunctionMeaning f) x)
+function_counted n new f x s terms types one are = record {
+  terms = terms ∙ are.terms;
+  types = types ∙ are.types;
+  functions = one ∙ ap (λ k. k + 1) are.functions ∙ sym (length-append s.functions ((f, x) ∷ []));
 }
 
 -- the text of what has no entry
 pub tables_kept : (n new : Names) (id : NodeId) (m : Meaning) (x : List ℕ) (s : Tables) → IsKept n.texts.texts.items new.texts.texts.items (place_of id) x
-    → meaning_in n.nodes id ≡ Some m → text_at n.texts id ≡ None → has_entry m ≡ false → IsText (enums_under n) s m x → new.texts.terms ≡ n.texts.terms → new.texts.types ≡ n.texts.types → new.nodes ≡ n.nodes → enums_under new ≡ enums_under n
+    → meaning_in n.nodes id ≡ Some m → text_at n.texts id ≡ None → has_entry m ≡ false → IsText (enums_under n) s m x → new.texts.terms ≡ n.texts.terms → new.texts.types ≡ n.texts.types → new.texts.functions ≡ n.texts.functions → new.nodes ≡ n.nodes → enums_under new ≡ enums_under n
     → KeepTables n s → KeepTables new s
-tables_kept n new id m x s is meant unkept none text terms types nodes enums are = record {
+tables_kept n new id m x s is meant unkept none text terms types functions nodes enums are = record {
   names = λ q. subst (λ (k : Interner). HasName k new.texts q (name_in s q)) (sym nodes) (go q (has_entry q) refl (name_in s q) (are.names q));
   inline = λ other k y h plain there. inlined other k y (ap (λ (k : Interner). meaning_in k other) (sym nodes) ∙ h) plain there (eqb_tells (place_of other) (place_of id));
   terms = terms ∙ are.terms;
   types = types ∙ are.types;
-  functions = are.functions;
+  functions = functions ∙ are.functions;
 }
   where
     go : (q : Meaning) (b : Bool) → has_entry q ≡ b → (o : Option (List ℕ)) → HasName n.nodes n.texts q o → HasName n.nodes new.texts q o
@@ -283,7 +290,7 @@ no_tables n unwritten =
       inline = λ id m text h e there. absurd (no_text (sym (at id) ∙ there));
       terms = omega (arith, none, n.texts.counted);
       types = omega (arith, none, n.texts.counted);
-      functions = refl;
+      functions = omega (arith, none, n.texts.counted);
     }
   where
     -- the empty tables have no name

@@ -2,7 +2,7 @@
 use Rattle.std.proofs.Common.{◌≡◌, ℕ, suc, true, false, List, [], ◌∷◌, length, get_or, map, Option, Some, None, refl, sym, ap, ◌∙◌, arith}
 use Rattle.std.specs.Prelude.{option_map}
 use Rattle.std.proofs.lemmas.Bool.{false≢true}
-use Rattle.smt_meaning.specs.Plain.{PlainType, BitVecType, BoolType, BvnegoOp, PlainTerm, PlainTerms, no_terms, one_term, Application, list_of_terms, terms}
+use Rattle.smt_meaning.specs.Plain.{PlainType, BitVecType, BoolType, BvnegoOp, UufOp, PlainTerm, PlainTerms, no_terms, one_term, Application, list_of_terms, terms}
 use Rattle.smt_meaning.specs.Types.{type_of}
 use Rattle.smt_graph.specs.Meanings.{all_found, found}
 use Rattle.smt_graph.specs.Nodes.{Meaning, TypeMeaning, FunctionMeaning, TermMeaning}
@@ -11,7 +11,7 @@ use Rattle.smt_graph.proofs.Places.{map_back, then_back, some_same}
 use Rattle.smt_nodes.specs.View.{place_of, places_of}
 use Rattle.smt_nodes.specs.declared.id.NodeId.{NodeId}
 use Rattle.smt_lines.specs.Lines.{AsApplication, AsEqualsIntMin, AsFalse, least_rendering, negation_rendering}
-use Rattle.smt_encode.specs.Entries.{is_negation_label, is_truth_type, rendering_in, width_of_type}
+use Rattle.smt_encode.specs.Entries.{AsCall, Rendered, is_call_label, is_negation_label, is_truth_type, rendering_in, width_of_type}
 
 -- ---- lists of terms
 
@@ -60,32 +60,32 @@ found_length ms (i ∷ is) ps h =
 
 -- ---- renderings
 
-pub not_one : (ts : List PlainTerm) (t : PlainType) → ¬ (length ts ≡ 1) → AsApplication ≡ negation_rendering (terms ts) t
+pub not_one : (ts : List PlainTerm) (t : PlainType) → ¬ (length ts ≡ 1) → Rendered AsApplication ≡ Rendered (negation_rendering (terms ts) t)
 not_one [] t h = refl
 not_one (u ∷ []) t h = absurd (h refl)
 not_one (u ∷ v ∷ ts) t h = refl
 
-pub no_truth : (ts : List PlainTerm) (t : PlainType) → is_truth_type t ≡ false → AsApplication ≡ negation_rendering (terms ts) t
+pub no_truth : (ts : List PlainTerm) (t : PlainType) → is_truth_type t ≡ false → Rendered AsApplication ≡ Rendered (negation_rendering (terms ts) t)
 no_truth [] t h = refl
 no_truth (u ∷ v ∷ ts) t h = refl
 no_truth (u ∷ []) BoolType h = absurd (false≢true (sym h))
 no_truth (u ∷ []) t h = refl
 
-pub of_truth : (u : PlainTerm) (t : PlainType) → is_truth_type t ≡ true → negation_rendering (terms (u ∷ [])) t ≡ least_rendering (type_of u)
+pub of_truth : (u : PlainTerm) (t : PlainType) → is_truth_type t ≡ true → Rendered (negation_rendering (terms (u ∷ [])) t) ≡ Rendered (least_rendering (type_of u))
 of_truth u BoolType h = refl
 of_truth u t h = absurd (false≢true h)
 
-pub of_width : (t : PlainType) (w : ℕ) → width_of_type t ≡ Some w → AsEqualsIntMin w ≡ least_rendering t
-of_width (BitVecType v) w h = ap AsEqualsIntMin (sym (some_same v w h))
+pub of_width : (t : PlainType) (w : ℕ) → width_of_type t ≡ Some w → Rendered (AsEqualsIntMin w) ≡ Rendered (least_rendering t)
+of_width (BitVecType v) w h = ap (λ n. Rendered (AsEqualsIntMin n)) (sym (some_same v w h))
 of_width t w h = absurd (cc)
 
-pub of_none : (t : PlainType) → width_of_type t ≡ None → AsFalse ≡ least_rendering t
+pub of_none : (t : PlainType) → width_of_type t ≡ None → Rendered AsFalse ≡ Rendered (least_rendering t)
 of_none (BitVecType v) h = absurd (cc)
 of_none t h = refl
 
 -- the parts of the overflow test of a negation, and how it is written
-pub negation : (m : Meaning) → is_negation_label (label_in m) ≡ true → (t : PlainType) × (ts : List PlainTerm) × (parts_in m ≡ TypeMeaning t ∷ map TermMeaning ts) × (rendering_in m ≡ negation_rendering (terms ts) t)
-negation (TermMeaning (Application BvnegoOp ts t)) h = (t, list_of_terms ts, refl, ap (λ u. negation_rendering u t) (sym (terms_again ts)))
+pub negation : (m : Meaning) → is_negation_label (label_in m) ≡ true → (t : PlainType) × (ts : List PlainTerm) × (parts_in m ≡ TypeMeaning t ∷ map TermMeaning ts) × (rendering_in m ≡ Rendered (negation_rendering (terms ts) t))
+negation (TermMeaning (Application BvnegoOp ts t)) h = (t, list_of_terms ts, refl, ap (λ u. Rendered (negation_rendering u t)) (sym (terms_again ts)))
 negation (TermMeaning t) h = absurd (false≢true h)
 negation (FunctionMeaning f) h = absurd (false≢true h)
 negation (TypeMeaning t) h = absurd (false≢true (sym (no_type t) ∙ h))
@@ -94,6 +94,21 @@ negation (TypeMeaning t) h = absurd (false≢true (sym (no_type t) ∙ h))
     no_type BoolType = refl
     no_type t = refl
 
-pub no_negation : (m : Meaning) → is_negation_label (label_in m) ≡ false → AsApplication ≡ rendering_in m
-no_negation (TermMeaning (Application BvnegoOp ts t)) h = absurd (false≢true (sym h))
-no_negation m h = refl
+-- a call
+pub called : (m : Meaning) → is_call_label (label_in m) ≡ true → AsCall ≡ rendering_in m
+called (TermMeaning (Application (UufOp f) ts t)) h = refl
+called (TermMeaning (Application o ts t)) h = absurd (false≢true h)
+called (TermMeaning t) h = absurd (false≢true h)
+called (FunctionMeaning f) h = absurd (false≢true h)
+called (TypeMeaning t) h = absurd (false≢true (sym (no_type t) ∙ h))
+  where
+    no_type : (t : PlainType) → is_call_label (label_in (TypeMeaning t)) ≡ false
+    no_type BoolType = refl
+    no_type t = refl
+
+-- anything else
+pub no_negation : (m : Meaning) → is_negation_label (label_in m) ≡ false → is_call_label (label_in m) ≡ false → Rendered AsApplication ≡ rendering_in m
+no_negation (TermMeaning (Application BvnegoOp ts t)) h c = absurd (false≢true (sym h))
+no_negation (TermMeaning (Application (UufOp f) ts t)) h c = absurd (false≢true (sym c))
+no_negation (TermMeaning (Application o ts t)) h c = refl
+no_negation m h c = refl

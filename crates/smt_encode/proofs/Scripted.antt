@@ -12,7 +12,7 @@ use Rattle.smt_lines.specs.Line.{Line, Assert, spelled_lines}
 use Rattle.smt_lines.specs.Lines.{Enums, encode, encode_terms, option_line}
 use Rattle.smt_lines.specs.NameTables.{Tables, no_names}
 use Rattle.smt_lines.specs.Spelling.{spelled}
-use Rattle.smt_lines.specs.Text.{names, text}
+use Rattle.smt_lines.specs.Text.{text}
 use Rattle.smt_encode.specs.Names.{enums_under}
 use Rattle.smt_encode.specs.Steps.{Wrote}
 use Rattle.smt_spelling.specs.Spelled.{AreSpelled}
@@ -44,11 +44,11 @@ module _ {S : Type 0} {contents : S → Option (List ℕ)} where
       subst (λ (ls : List Line). Wrote contents old new ls s) (sym (ap (map Assert) behind ∙ map-append Assert (take i es) (e ∷ []))) (wrote_then p q)
 
   -- the three parts of a script
-  pub scripted : {old opened mid : Writer S} (new : Writer S) (enums : Enums) (ts : List PlainTerm) → Wrote contents old opened (option_line ∷ []) no_names
-      → Wrote contents opened mid (encode_terms enums (terms ts) no_names).lines (encode_terms enums (terms ts) no_names).tables
-      → Wrote contents mid new (map Assert (encode_terms enums (terms ts) no_names).made) (encode_terms enums (terms ts) no_names).tables
-      → Wrote contents old new (option_line ∷ (encode enums ts no_names).lines) (names enums ts)
-  scripted new enums ts head lines p = wrote_then head (wrote_then lines p)
+  pub scripted : {old opened mid : Writer S} (new : Writer S) (enums : Enums) (ts : List PlainTerm) (s : Tables) → Wrote contents old opened (option_line ∷ []) s
+      → Wrote contents opened mid (encode_terms enums (terms ts) s).lines (encode_terms enums (terms ts) s).tables
+      → Wrote contents mid new (map Assert (encode_terms enums (terms ts) s).made) (encode_terms enums (terms ts) s).tables
+      → Wrote contents old new (option_line ∷ (encode enums ts s).lines) (encode enums ts s).tables
+  scripted new enums ts s head lines p = wrote_then head (wrote_then lines p)
 
 -- the lines of a whole script are its text
 text_is : (enums : Enums) (ts : List PlainTerm) → spelled_lines (option_line ∷ (encode enums ts no_names).lines) ≡ text enums ts
@@ -59,12 +59,12 @@ pub text_written : {S : Type 0} {contents : S → Option (List ℕ)} {old new : 
     → contents new.script ≡ append_known (contents old.script) (text enums ts)
 text_written {contents = contents} {old} enums ts w = w.contents_are ∙ ap (append_known (contents old.script)) (text_is enums ts)
 
--- the lines of a whole script, with the names behind it
-abbrev pub script_of : {S : Type 0} → (S → Option (List ℕ)) → Writer S → Writer S → Enums → List PlainTerm → Type 0
-script_of contents old new enums ts = Wrote contents old new (option_line ∷ (encode enums ts no_names).lines) (names enums ts)
+-- the lines of a whole script over these tables, with the names behind it
+abbrev script_of : {S : Type 0} → (S → Option (List ℕ)) → Writer S → Writer S → Enums → List PlainTerm → Tables → Type 0
+script_of contents old new enums ts s = Wrote contents old new (option_line ∷ (encode enums ts s).lines) (encode enums ts s).tables
 
 -- what was written by a writer that has the same sink and the same enum types
-pub wrote_here : {S T E : Type 0} (contents : S → Option (List ℕ)) (old mid new : Writer S) (ts : List PlainTerm) (result : Result T E) → old.script ≡ mid.script → enums_under mid.names ≡ enums_under old.names → OnOk result (script_of contents mid new (enums_under mid.names) ts) → OnOk result (script_of contents old new (enums_under old.names) ts)
-wrote_here contents old mid new ts (Ok x) same enums w =
-    subst (λ (e : Enums). script_of contents old new e ts) enums (record { names = w.names; contents_are = w.contents_are ∙ ap (λ s. append_known (contents s) (spelled_lines (option_line ∷ (encode (enums_under mid.names) ts no_names).lines))) (sym same) })
-wrote_here contents old mid new ts (Err e) same enums w = tt
+pub wrote_here : {S T E : Type 0} (contents : S → Option (List ℕ)) (old mid new : Writer S) (ts : List PlainTerm) (s : Tables) (result : Result T E) → old.script ≡ mid.script → enums_under mid.names ≡ enums_under old.names → OnOk result (script_of contents mid new (enums_under mid.names) ts s) → OnOk result (script_of contents old new (enums_under old.names) ts s)
+wrote_here contents old mid new ts s (Ok x) same enums w =
+    subst (λ (e : Enums). script_of contents old new e ts s) enums (record { names = w.names; contents_are = w.contents_are ∙ ap (λ k. append_known (contents k) (spelled_lines (option_line ∷ (encode (enums_under mid.names) ts s).lines))) (sym same) })
+wrote_here contents old mid new ts s (Err e) same enums w = tt

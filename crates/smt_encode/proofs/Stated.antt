@@ -1,19 +1,19 @@
 -- What is stated of a node: of one that has no text yet by its parts and its own lines; of one that has a name by that.
-use Rattle.std.proofs.Common.{◌≡◌, ℕ, true, List, [], ◌∷◌, ◌++◌, map, refl, sym, ap, ◌∙◌, append_assoc, append-nil, Option, Some, None}
+use Rattle.std.proofs.Common.{◌≡◌, ◌⊎◌, inl, inr, ℕ, ◌-◌, Bool, true, false, List, [], ◌∷◌, ◌++◌, drop, length, length-append, map, take, refl, sym, ap, subst, ◌∙◌, append_assoc, append-nil, arith, Option, Some, None}
 use Rattle.std.proofs.lemmas.Bool.{false≢true}
 use Rattle.smt_lexicon.specs.Reading.{Expression}
-use Rattle.smt_semantics.specs.Script.{name}
-use Rattle.smt_meaning.specs.Plain.{PlainType, OptionType, BitVecType, BoolType, EntityType, ExtensionType, RecordType, StringType, SetType, PlainTerm, PlainTerms, no_terms, one_term, PlainOp, RecordGetOp, UufOp, Application, NoneTerm, LiteralTerm, RecordTerm, SetTerm, SomeTerm, VariableTerm, BitVecLiteral, BoolLiteral, EntityLiteral, ExtensionLiteral, StringLiteral, list_of_terms}
+use Rattle.smt_semantics.specs.Script.{group, name}
+use Rattle.smt_meaning.specs.Plain.{PlainType, OptionType, BitVecType, BoolType, EntityType, ExtensionType, RecordType, StringType, SetType, PlainTerm, PlainTerms, no_terms, one_term, PlainFunction, PlainOp, RecordGetOp, UufOp, Application, NoneTerm, LiteralTerm, RecordTerm, SetTerm, SomeTerm, VariableTerm, BitVecLiteral, BoolLiteral, EntityLiteral, ExtensionLiteral, StringLiteral, list_of_terms}
 use Rattle.smt_meaning.specs.Types.{literal_type, type_eq, type_of}
 use Rattle.smt_meaning.proofs.TermTotal.{types_decided}
 use Rattle.smt_lines.proofs.Making.{lookup_new}
 use Rattle.smt_graph.specs.Nodes.{ApplicationLabel, Meaning, TypeMeaning, FunctionMeaning, TermMeaning}
-use Rattle.smt_graph.specs.Parts.{label_in, parts_in, term_label, term_parts}
+use Rattle.smt_graph.specs.Parts.{label_in, parts_in, term_label, term_parts, type_label, type_parts}
 use Rattle.smt_lines.specs.LineForms.{function_declaration, function_heading, variable_lines, none_body, set_body, some_body, operator_head, application_body, extension_body, record_body}
-use Rattle.smt_lines.specs.Lines.{Enums, Rendering, AsApplication, AsEqualsIntMin, AsFalse, Written, next_entity, next_function, next_term, declare_entity, declare_kind, declare_record, enter_function, enter_term, encode_attributes, encode_fields, encode_head, encode_type, encode_terms, encode_term, define, define_application, define_entity, application_rendering, behind, made_of, members_of, unless_named, ◌>>=◌}
+use Rattle.smt_lines.specs.Lines.{Enums, Rendering, AsApplication, AsEqualsIntMin, AsFalse, Written, next_entity, next_function, next_term, declare_entity, declare_kind, declare_record, enter_function, enter_term, encode_attributes, encode_fields, encode_function, encode_head, encode_type, encode_terms, encode_term, define, define_application, define_entity, application_rendering, behind, made_of, members_of, unless_named, ◌>>=◌}
 use Rattle.smt_lines.specs.NameTables.{Tables, name_of_term, name_of_type, text_of_name}
 use Rattle.smt_encode.specs.NodeLines.{encode_meaning, encode_meanings, has_entry, name_in}
-use Rattle.smt_encode.specs.Entries.{enter_by, is_built, is_built_op, own_by, own_lines, rendering_in, written_parts}
+use Rattle.smt_encode.specs.Entries.{Rendered, enter_by, heading, is_built, is_built_op, last_first, op_rendering, own_by, own_lines, rendering_in, written_parts}
 use Rattle.smt_spelling.specs.Entries.{entity_entry}
 
 -- ---- texts one after the other
@@ -35,18 +35,31 @@ terms_in_order enums (one_term t ts) s = ap (λ (f : Tables → Written (List Ex
 
 -- ---- applications
 
-pub label_of_application : (o : PlainOp) (ts : PlainTerms) (t : PlainType) → is_built_op o ≡ true → term_label (Application o ts t) ≡ ApplicationLabel o
-label_of_application (UufOp f) ts t h = absurd (false≢true h)
+-- a function at arguments
+abbrev pub is_call : PlainOp → Bool
+is_call (UufOp f) = true
+is_call o = false
+
+pub call_or_not : (o : PlainOp) → ((f : PlainFunction) × (o ≡ UufOp f)) ⊎ (is_call o ≡ false)
+call_or_not (UufOp f) = inl (f, refl)
+call_or_not o = inr refl
+
+pub label_of_application : (o : PlainOp) (ts : PlainTerms) (t : PlainType) → is_call o ≡ false → term_label (Application o ts t) ≡ ApplicationLabel o
+label_of_application (UufOp f) ts t h = absurd (false≢true (sym h))
 label_of_application o ts t h = refl
 
-pub parts_of_application : (o : PlainOp) (ts : PlainTerms) (t : PlainType) → is_built_op o ≡ true → term_parts (Application o ts t) ≡ map TermMeaning (list_of_terms ts)
-parts_of_application (UufOp f) ts t h = absurd (false≢true h)
+pub parts_of_application : (o : PlainOp) (ts : PlainTerms) (t : PlainType) → is_call o ≡ false → term_parts (Application o ts t) ≡ map TermMeaning (list_of_terms ts)
+parts_of_application (UufOp f) ts t h = absurd (false≢true (sym h))
 parts_of_application o ts t h = refl
 
-pub built_application : (o : PlainOp) (ts : PlainTerms) (t : PlainType) → is_built (term_label (Application o ts t)) ≡ true → is_built_op o ≡ true
-built_application (UufOp f) ts t h = absurd (false≢true h)
-built_application (RecordGetOp a) ts t h = absurd (false≢true h)
-built_application o ts t h = refl
+pub rendering_of_application : (o : PlainOp) (ts : PlainTerms) (t : PlainType) → is_call o ≡ false → op_rendering o ts t ≡ Rendered (application_rendering o ts t)
+rendering_of_application (UufOp f) ts t h = absurd (false≢true (sym h))
+rendering_of_application o ts t h = refl
+
+pub built_application : (o : PlainOp) (ts : PlainTerms) (t : PlainType) → is_call o ≡ false → is_built (term_label (Application o ts t)) ≡ true → is_built_op o ≡ true
+built_application (UufOp f) ts t u h = absurd (false≢true (sym u))
+built_application (RecordGetOp a) ts t u h = absurd (false≢true h)
+built_application o ts t u h = refl
 
 head_made : (enums : Enums) (o : PlainOp) (ts : PlainTerms) (s : Tables) → is_built_op o ≡ true → encode_head enums o ts s ≡ made_of (operator_head o) s
 head_made enums (UufOp f) ts s h = absurd (false≢true h)
@@ -56,20 +69,58 @@ head_made enums o ts s h = refl
 -- an application's own lines, behind its type
 application_stated : (enums : Enums) (how : Rendering) (o : PlainOp) (ts : PlainTerms) (type : PlainType) (s : Tables) → is_built_op o ≡ true
     → encode_type enums type s >>= (λ sort v. define_application enums how o ts type (λ w. encode_terms enums ts w) sort v)
-    ≡ encode_meanings enums (written_parts how (TypeMeaning type ∷ map TermMeaning (list_of_terms ts))) s >>= λ es u. own_by enums (ApplicationLabel o) how (TermMeaning (Application o ts type)) es u
+    ≡ encode_meanings enums (written_parts (Rendered how) (TypeMeaning type ∷ map TermMeaning (list_of_terms ts))) s >>= λ es u. own_by enums (ApplicationLabel o) (Rendered how) (TermMeaning (Application o ts type)) es u
 application_stated enums AsApplication o ts type s h =
     let w : Written Expression = encode_type enums type s in
-    let k : List Expression → Tables → Written Expression = λ es u. own_by enums (ApplicationLabel o) AsApplication (TermMeaning (Application o ts type)) es u in
+    let k : List Expression → Tables → Written Expression = λ es u. own_by enums (ApplicationLabel o) (Rendered AsApplication) (TermMeaning (Application o ts type)) es u in
     (λ i. w >>= λ sort v. encode_terms enums ts v >>= λ es u. head_made enums o ts u h i >>= λ head x. define (Application o ts type) sort (application_body head o es) x)
     ∙ sym (λ i. w >>= λ sort v. terms_in_order enums ts v i >>= λ es u. k (sort ∷ es) u)
     ∙ sym (typed_parts w (λ u. encode_meanings enums (map TermMeaning (list_of_terms ts)) u) k)
 application_stated enums (AsEqualsIntMin width) o ts type s h =
     let w : Written Expression = encode_type enums type s in
-    let k : List Expression → Tables → Written Expression = λ es u. own_by enums (ApplicationLabel o) (AsEqualsIntMin width) (TermMeaning (Application o ts type)) es u in
+    let k : List Expression → Tables → Written Expression = λ es u. own_by enums (ApplicationLabel o) (Rendered (AsEqualsIntMin width)) (TermMeaning (Application o ts type)) es u in
     sym (λ i. w >>= λ sort v. terms_in_order enums ts v i >>= λ es u. k (sort ∷ es) u)
     ∙ sym (typed_parts w (λ u. encode_meanings enums (map TermMeaning (list_of_terms ts)) u) k)
 application_stated enums AsFalse o ts type s h =
-    sym (one_part (encode_type enums type s) (λ es u. own_by enums (ApplicationLabel o) AsFalse (TermMeaning (Application o ts type)) es u))
+    sym (one_part (encode_type enums type s) (λ es u. own_by enums (ApplicationLabel o) (Rendered AsFalse) (TermMeaning (Application o ts type)) es u))
+
+-- ---- calls
+
+-- several texts, and one behind them
+one_behind : (enums : Enums) (ms : List Meaning) (m : Meaning) (s : Tables) (k : List Expression → Tables → Written Expression)
+    → encode_meanings enums (ms ++ m ∷ []) s >>= k ≡ encode_meanings enums ms s >>= λ es u. encode_meaning enums m u >>= λ e v. k (es ++ e ∷ []) v
+one_behind enums [] m s k = one_part (encode_meaning enums m s) k
+one_behind enums (n ∷ ms) m s k =
+    let w : Written Expression = encode_meaning enums n s in
+    typed_parts w (λ u. encode_meanings enums (ms ++ m ∷ []) u) k
+    ∙ (λ i. w >>= λ e u. one_behind enums ms m u (λ es v. k (e ∷ es) v) i)
+    ∙ sym (typed_parts w (λ u. encode_meanings enums ms u) (λ es u. encode_meaning enums m u >>= λ e v. k (es ++ e ∷ []) v))
+
+behind_all : {A : Type 0} (xs ys : List A) → drop (length xs) (xs ++ ys) ≡ ys
+behind_all [] ys = refl
+behind_all (x ∷ xs) ys = behind_all xs ys
+
+before_all : {A : Type 0} (xs ys : List A) → take (length xs) (xs ++ ys) ≡ xs
+before_all [] ys = refl
+before_all (x ∷ xs) ys = ap (λ l. x ∷ l) (before_all xs ys)
+
+pub last_is_first : {A : Type 0} (xs : List A) (x : A) → last_first (xs ++ x ∷ []) ≡ x ∷ xs
+last_is_first xs x =
+    let n : length (xs ++ x ∷ []) - 1 ≡ length xs = omega (arith, length-append xs (x ∷ [])) in
+    ap (λ k. drop k (xs ++ x ∷ []) ++ take k (xs ++ x ∷ [])) n ∙ (λ i. behind_all xs (x ∷ []) i ++ before_all xs (x ∷ []) i)
+
+-- a call's own lines, behind its type, its arguments and its function
+call_stated : (enums : Enums) (f : PlainFunction) (ts : PlainTerms) (type : PlainType) (s : Tables)
+    → encode_type enums type s >>= (λ sort v. define_application enums AsApplication (UufOp f) ts type (λ w. encode_terms enums ts w) sort v)
+    ≡ encode_meanings enums (TypeMeaning type ∷ (map TermMeaning (list_of_terms ts) ++ FunctionMeaning f ∷ [])) s >>= λ es u. own_lines enums (TermMeaning (Application (UufOp f) ts type)) es u
+call_stated enums f ts type s =
+    let w : Written Expression = encode_type enums type s in
+    let t : PlainTerm = Application (UufOp f) ts type in
+    let k : List Expression → Tables → Written Expression = λ es u. own_lines enums (TermMeaning t) es u in
+    (λ i. w >>= λ sort v. encode_terms enums ts v >>= λ es u. encode_function enums f u >>= λ head x. define t sort (group (sym (last_is_first es head) i)) x)
+    ∙ sym (λ i. w >>= λ sort v. terms_in_order enums ts v i >>= λ es u. encode_function enums f u >>= λ head x. k (sort ∷ (es ++ head ∷ [])) x)
+    ∙ sym (λ i. w >>= λ sort v. one_behind enums (map TermMeaning (list_of_terms ts)) (FunctionMeaning f) v (λ es u. k (sort ∷ es) u) i)
+    ∙ sym (typed_parts w (λ u. encode_meanings enums (map TermMeaning (list_of_terms ts) ++ FunctionMeaning f ∷ []) u) k)
 
 -- ---- entities
 
@@ -101,50 +152,84 @@ entity_stated enums e i s None is =
 
 -- ---- a node that has no text yet
 
--- the lines of a node are those of its parts, and its own
-pub stated : (enums : Enums) (m : Meaning) (s : Tables) → is_built (label_in m) ≡ true → name_in s m ≡ None
+-- the lines of a node without a heading are those of its parts, and its own
+pub stated : (enums : Enums) (m : Meaning) (s : Tables) → is_built (label_in m) ≡ true → heading (label_in m) ≡ [] → name_in s m ≡ None
     → encode_meaning enums m s ≡ encode_meanings enums (written_parts (rendering_in m) (parts_in m)) s >>= λ es u. own_lines enums m es u
-stated enums (TypeMeaning (OptionType t)) s h none = sym (one_part (encode_type enums t s) (λ es u. own_lines enums (TypeMeaning (OptionType t)) es u))
-stated enums (TypeMeaning (BitVecType n)) s h none = refl
-stated enums (TypeMeaning BoolType) s h none = refl
-stated enums (TypeMeaning (EntityType e)) s h none = ap (λ n. unless_named n s (λ u. declare_entity enums e u)) none
-stated enums (TypeMeaning StringType) s h none = refl
-stated enums (TypeMeaning (SetType t)) s h none = sym (one_part (encode_type enums t s) (λ es u. own_lines enums (TypeMeaning (SetType t)) es u))
-stated enums (TypeMeaning t) s h none = absurd (false≢true h)
-stated enums (FunctionMeaning f) s h none = absurd (false≢true h)
-stated enums (TermMeaning (Application o ts t)) s h none =
-    let b : is_built_op o ≡ true = built_application o ts t h in
-    let how : Rendering = application_rendering o ts t in
-    ap (λ n. unless_named n s (λ u. encode_type enums t u >>= λ sort v. define_application enums how o ts t (λ w. encode_terms enums ts w) sort v)) none
-    ∙ application_stated enums how o ts t s b
-    ∙ sym (λ i. encode_meanings enums (written_parts how (TypeMeaning t ∷ parts_of_application o ts t b i)) s >>= λ es u. own_by enums (label_of_application o ts t b i) how (TermMeaning (Application o ts t)) es u)
-stated enums (TermMeaning (NoneTerm t)) s h none =
+stated enums (TypeMeaning (OptionType t)) s h u none = sym (one_part (encode_type enums t s) (λ es u. own_lines enums (TypeMeaning (OptionType t)) es u))
+stated enums (TypeMeaning (BitVecType n)) s h u none = refl
+stated enums (TypeMeaning BoolType) s h u none = refl
+stated enums (TypeMeaning (EntityType e)) s h u none = ap (λ n. unless_named n s (λ u. declare_entity enums e u)) none
+stated enums (TypeMeaning StringType) s h u none = refl
+stated enums (TypeMeaning (SetType t)) s h u none = sym (one_part (encode_type enums t s) (λ es u. own_lines enums (TypeMeaning (SetType t)) es u))
+stated enums (TypeMeaning t) s h u none = absurd (false≢true h)
+stated enums (FunctionMeaning f) s h u none = absurd (cc)
+stated enums (TermMeaning (Application o ts t)) s h u none =
+    ap (λ n. unless_named n s (λ u. encode_type enums t u >>= λ sort v. define_application enums (application_rendering o ts t) o ts t (λ w. encode_terms enums ts w) sort v)) none
+    ∙ go (call_or_not o)
+  where
+    go : ((f : PlainFunction) × (o ≡ UufOp f)) ⊎ (is_call o ≡ false)
+        → encode_type enums t s >>= (λ sort v. define_application enums (application_rendering o ts t) o ts t (λ w. encode_terms enums ts w) sort v)
+        ≡ encode_meanings enums (written_parts (op_rendering o ts t) (parts_in (TermMeaning (Application o ts t)))) s >>= λ es u. own_lines enums (TermMeaning (Application o ts t)) es u
+    go (inl (f, is)) =
+        subst (λ (p : PlainOp). encode_type enums t s >>= (λ sort v. define_application enums (application_rendering p ts t) p ts t (λ w. encode_terms enums ts w) sort v)
+        ≡ encode_meanings enums (written_parts (op_rendering p ts t) (parts_in (TermMeaning (Application p ts t)))) s >>= λ es u. own_lines enums (TermMeaning (Application p ts t)) es u) (sym is) (call_stated enums f ts t s)
+    go (inr b) =
+        application_stated enums (application_rendering o ts t) o ts t s (built_application o ts t b h)
+        ∙ sym (λ i. encode_meanings enums (written_parts (rendering_of_application o ts t b i) (TypeMeaning t ∷ parts_of_application o ts t b i)) s >>= λ es u. own_by enums (label_of_application o ts t b i) (rendering_of_application o ts t b i) (TermMeaning (Application o ts t)) es u)
+stated enums (TermMeaning (NoneTerm t)) s h u none =
     ap (λ n. unless_named n s (λ u. encode_type enums (OptionType t) u >>= λ sort v. define (NoneTerm t) sort (none_body sort) v)) none
     ∙ sym (one_part (encode_type enums (OptionType t) s) (λ es u. own_lines enums (TermMeaning (NoneTerm t)) es u))
-stated enums (TermMeaning (LiteralTerm (BitVecLiteral w a))) s h none = refl
-stated enums (TermMeaning (LiteralTerm (BoolLiteral b))) s h none = refl
-stated enums (TermMeaning (LiteralTerm (EntityLiteral e i))) s h none =
+stated enums (TermMeaning (LiteralTerm (BitVecLiteral w a))) s h u none = refl
+stated enums (TermMeaning (LiteralTerm (BoolLiteral b))) s h u none = refl
+stated enums (TermMeaning (LiteralTerm (EntityLiteral e i))) s h u none =
     ap (λ n. unless_named n s (λ u. encode_type enums (EntityType e) u >>= λ sort v. define_entity (members_of enums e) e i (text_of_name (name_of_type v (EntityType e))) v)) none
     ∙ entity_stated enums e i s (name_of_type s (EntityType e)) refl
     ∙ sym (one_part (encode_type enums (EntityType e) s) (λ es u. own_lines enums (TermMeaning (LiteralTerm (EntityLiteral e i))) es u))
-stated enums (TermMeaning (LiteralTerm (StringLiteral x))) s h none = refl
-stated enums (TermMeaning (LiteralTerm l)) s h none = absurd (false≢true h)
-stated enums (TermMeaning (RecordTerm fs)) s h none = absurd (false≢true h)
-stated enums (TermMeaning (SetTerm t ts)) s h none =
+stated enums (TermMeaning (LiteralTerm (StringLiteral x))) s h u none = refl
+stated enums (TermMeaning (LiteralTerm l)) s h u none = absurd (false≢true h)
+stated enums (TermMeaning (RecordTerm fs)) s h u none = absurd (false≢true h)
+stated enums (TermMeaning (SetTerm t ts)) s h u none =
     let w : Written Expression = encode_type enums (SetType t) s in
     let k : List Expression → Tables → Written Expression = λ es u. own_lines enums (TermMeaning (SetTerm t ts)) es u in
     ap (λ n. unless_named n s (λ u. encode_type enums (SetType t) u >>= λ sort v. encode_terms enums ts v >>= λ es x. define (SetTerm t ts) sort (set_body sort es) x)) none
     ∙ sym (λ i. w >>= λ sort v. terms_in_order enums ts v i >>= λ es u. k (sort ∷ es) u)
     ∙ sym (typed_parts w (λ u. encode_meanings enums (map TermMeaning (list_of_terms ts)) u) k)
-stated enums (TermMeaning (SomeTerm t)) s h none =
+stated enums (TermMeaning (SomeTerm t)) s h u none =
     let w : Written Expression = encode_type enums (OptionType (type_of t)) s in
     let k : List Expression → Tables → Written Expression = λ es u. own_lines enums (TermMeaning (SomeTerm t)) es u in
     ap (λ n. unless_named n s (λ u. encode_type enums (OptionType (type_of t)) u >>= λ sort v. encode_term enums t v >>= λ e x. define (SomeTerm t) sort (some_body e) x)) none
     ∙ sym (λ i. w >>= λ sort v. one_part (encode_term enums t v) (λ es u. k (sort ∷ es) u) i)
     ∙ sym (typed_parts w (λ u. encode_meanings enums (TermMeaning t ∷ []) u) k)
-stated enums (TermMeaning (VariableTerm id t)) s h none =
+stated enums (TermMeaning (VariableTerm id t)) s h u none =
     ap (λ n. unless_named n s (λ u. encode_type enums t u >>= λ sort v. enter_term (VariableTerm id t) (next_term v) (variable_lines id (next_term v) sort) v)) none
     ∙ sym (one_part (encode_type enums t s) (λ es u. own_lines enums (TermMeaning (VariableTerm id t)) es u))
+
+-- types and terms have no heading
+type_headless : (t : PlainType) → heading (type_label t) ≡ []
+type_headless BoolType = refl
+type_headless t = refl
+
+term_headless : (t : PlainTerm) → heading (term_label t) ≡ []
+term_headless (Application (UufOp f) ts t) = refl
+term_headless (Application o ts t) = refl
+term_headless t = refl
+
+-- the lines of a node are its heading, those of its parts, and its own
+pub all_stated : (enums : Enums) (m : Meaning) (s : Tables) → is_built (label_in m) ≡ true → name_in s m ≡ None
+    → encode_meaning enums m s ≡ behind (heading (label_in m)) (encode_meanings enums (written_parts (rendering_in m) (parts_in m)) s >>= λ es u. own_lines enums m es u)
+all_stated enums (TypeMeaning t) s h none =
+    stated enums (TypeMeaning t) s h (type_headless t) none
+    ∙ sym (ap (λ ls. behind ls (encode_meanings enums (type_parts t) s >>= λ es u. own_lines enums (TypeMeaning t) es u)) (type_headless t))
+all_stated enums (TermMeaning t) s h none =
+    stated enums (TermMeaning t) s h (term_headless t) none
+    ∙ sym (ap (λ ls. behind ls (encode_meanings enums (written_parts (rendering_in (TermMeaning t)) (parts_in (TermMeaning t))) s >>= λ es u. own_lines enums (TermMeaning t) es u)) (term_headless t))
+all_stated enums (FunctionMeaning f) s h none =
+    let w : Written Expression = encode_type enums f.argument s in
+    let k : List Expression → Tables → Written Expression = λ es u. own_lines enums (FunctionMeaning f) es u in
+    ap (λ n. unless_named n s (λ u. behind (function_heading f.id) (encode_type enums f.argument u >>= λ argument v. encode_type enums f.output v >>= λ output x. enter_function f (next_function x) (function_declaration (next_function x) argument output) x))) none
+    ∙ ap (behind (function_heading f.id))
+    (sym (λ i. w >>= λ argument v. one_part (encode_type enums f.output v) (λ es u. k (argument ∷ es) u) i)
+    ∙ sym (typed_parts w (λ u. encode_meanings enums (TypeMeaning f.output ∷ []) u) k))
 
 -- ---- what has a name
 

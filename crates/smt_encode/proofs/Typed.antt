@@ -1,13 +1,13 @@
 -- Typed terms: their parts are typed, and all of them are written.
-use Rattle.std.proofs.Common.{◌≡◌, ◌&&◌, Bool, true, false, IsTrue, List, [], ◌∷◌, map, refl}
+use Rattle.std.proofs.Common.{◌≡◌, ◌⊎◌, inl, inr, ◌&&◌, Bool, true, false, IsTrue, List, [], ◌∷◌, map, refl}
 use Rattle.smt_meaning.specs.Plain.{PlainType, OptionType, BitVecType, BoolType, EntityType, ExtensionType, StringType, RecordType, SetType, AttributeTypes, no_attributes, attribute, PlainTerms, no_terms, one_term, PlainFields, no_fields, one_field, PlainOp, Application, NoneTerm, LiteralTerm, RecordTerm, SetTerm, SomeTerm, VariableTerm, list_of_terms, AndOp, BitsOp, BvnegOp, BvnegoOp, EqOp, ExtOp, IteOp, NotOp, OptionGetOp, OrOp, OverflowOp, RecordGetOp, SetInterOp, SetMemberOp, SetSubsetOp, StringLikeOp, TestOp, UufOp, ZeroExtendOp}
 use Rattle.smt_meaning.specs.Types.{is_type, result_type, type_of, types_of}
 use Rattle.smt_meaning.specs.Typing.{are_elements, typed, typed_all, typed_fields}
 use Rattle.smt_graph.specs.Nodes.{Meaning, TypeMeaning, FunctionMeaning, TermMeaning}
 use Rattle.smt_graph.specs.Parts.{field_terms, parts_in, term_parts, types_in}
-use Rattle.smt_lines.specs.Lines.{application_rendering, least_rendering}
+use Rattle.smt_lines.specs.Lines.{least_rendering}
 use Rattle.smt_encode.specs.Complete.{is_typed, AreTypedMeanings}
-use Rattle.smt_encode.specs.Entries.{rendering_in, written_parts}
+use Rattle.smt_encode.specs.Entries.{Rendered, op_rendering, rendering_in, second_last, written_parts}
 
 and_first : (a b : Bool) → IsTrue (a && b) → IsTrue a
 and_first true b h = refl
@@ -43,7 +43,7 @@ args_typed (UufOp f) ts type h = (refl, terms_typed ts h)
 args_typed (ZeroExtendOp n) ts type h = terms_typed ts h
 
 -- what is written as `false` is not typed
-negation_written : (type : PlainType) → IsTrue (is_type (result_type BvnegoOp (type ∷ [])) BoolType) → {A : Type 0} (xs : List A) → written_parts (least_rendering type) xs ≡ xs
+negation_written : (type : PlainType) → IsTrue (is_type (result_type BvnegoOp (type ∷ [])) BoolType) → {A : Type 0} (xs : List A) → written_parts (Rendered (least_rendering type)) xs ≡ xs
 negation_written (OptionType u) h xs = absurd (cc)
 negation_written (BitVecType w) h xs = refl
 negation_written BoolType h xs = absurd (cc)
@@ -53,35 +53,35 @@ negation_written StringType h xs = absurd (cc)
 negation_written (RecordType x) h xs = absurd (cc)
 negation_written (SetType u) h xs = absurd (cc)
 
-op_written : (o : PlainOp) (ts : PlainTerms) (type : PlainType) → IsTrue (typed (Application o ts type)) → {A : Type 0} (xs : List A) → written_parts (application_rendering o ts type) xs ≡ xs
-op_written AndOp ts type h xs = refl
-op_written (BitsOp o) ts type h xs = refl
-op_written BvnegOp ts type h xs = refl
-op_written BvnegoOp no_terms type h xs = refl
-op_written BvnegoOp (one_term t (one_term u ts)) type h xs = refl
-op_written BvnegoOp (one_term t no_terms) (OptionType u) h xs = refl
-op_written BvnegoOp (one_term t no_terms) (BitVecType w) h xs = refl
-op_written BvnegoOp (one_term t no_terms) BoolType h xs = negation_written (type_of t) (and_second (typed t && true) (is_type (result_type BvnegoOp (type_of t ∷ [])) BoolType) h) xs
-op_written BvnegoOp (one_term t no_terms) (EntityType e) h xs = refl
-op_written BvnegoOp (one_term t no_terms) (ExtensionType k) h xs = refl
-op_written BvnegoOp (one_term t no_terms) StringType h xs = refl
-op_written BvnegoOp (one_term t no_terms) (RecordType x) h xs = refl
-op_written BvnegoOp (one_term t no_terms) (SetType u) h xs = refl
-op_written EqOp ts type h xs = refl
-op_written (ExtOp x) ts type h xs = refl
-op_written IteOp ts type h xs = refl
-op_written NotOp ts type h xs = refl
-op_written OptionGetOp ts type h xs = refl
-op_written OrOp ts type h xs = refl
-op_written (OverflowOp o) ts type h xs = refl
-op_written (RecordGetOp a) ts type h xs = refl
-op_written SetInterOp ts type h xs = refl
-op_written SetMemberOp ts type h xs = refl
-op_written SetSubsetOp ts type h xs = refl
-op_written (StringLikeOp p) ts type h xs = refl
-op_written (TestOp o) ts type h xs = refl
-op_written (UufOp f) ts type h xs = refl
-op_written (ZeroExtendOp n) ts type h xs = refl
+op_written : (o : PlainOp) (ts : PlainTerms) (type : PlainType) → IsTrue (typed (Application o ts type)) → {A : Type 0} (xs : List A) → (written_parts (op_rendering o ts type) xs ≡ xs) ⊎ (written_parts (op_rendering o ts type) xs ≡ second_last xs)
+op_written AndOp ts type h xs = inl refl
+op_written (BitsOp o) ts type h xs = inl refl
+op_written BvnegOp ts type h xs = inl refl
+op_written BvnegoOp no_terms type h xs = inl refl
+op_written BvnegoOp (one_term t (one_term u ts)) type h xs = inl refl
+op_written BvnegoOp (one_term t no_terms) (OptionType u) h xs = inl refl
+op_written BvnegoOp (one_term t no_terms) (BitVecType w) h xs = inl refl
+op_written BvnegoOp (one_term t no_terms) BoolType h xs = inl (negation_written (type_of t) (and_second (typed t && true) (is_type (result_type BvnegoOp (type_of t ∷ [])) BoolType) h) xs)
+op_written BvnegoOp (one_term t no_terms) (EntityType e) h xs = inl refl
+op_written BvnegoOp (one_term t no_terms) (ExtensionType k) h xs = inl refl
+op_written BvnegoOp (one_term t no_terms) StringType h xs = inl refl
+op_written BvnegoOp (one_term t no_terms) (RecordType x) h xs = inl refl
+op_written BvnegoOp (one_term t no_terms) (SetType u) h xs = inl refl
+op_written EqOp ts type h xs = inl refl
+op_written (ExtOp x) ts type h xs = inl refl
+op_written IteOp ts type h xs = inl refl
+op_written NotOp ts type h xs = inl refl
+op_written OptionGetOp ts type h xs = inl refl
+op_written OrOp ts type h xs = inl refl
+op_written (OverflowOp o) ts type h xs = inl refl
+op_written (RecordGetOp a) ts type h xs = inl refl
+op_written SetInterOp ts type h xs = inl refl
+op_written SetMemberOp ts type h xs = inl refl
+op_written SetSubsetOp ts type h xs = inl refl
+op_written (StringLikeOp p) ts type h xs = inl refl
+op_written (TestOp o) ts type h xs = inl refl
+op_written (UufOp f) ts type h xs = inr refl
+op_written (ZeroExtendOp n) ts type h xs = inl refl
 
 types_typed : (x : AttributeTypes) → AreTypedMeanings (types_in x)
 types_typed no_attributes = tt
@@ -109,14 +109,14 @@ parts_typed (TermMeaning (SetTerm t ts)) h = (refl, terms_typed ts (and_first (t
 parts_typed (TermMeaning (SomeTerm t)) h = (refl, (h, tt))
 parts_typed (TermMeaning (VariableTerm id t)) h = (refl, tt)
 
--- of a typed term all parts are written
-pub all_written : (m : Meaning) → IsTrue (is_typed m) → {A : Type 0} (xs : List A) → written_parts (rendering_in m) xs ≡ xs
-all_written (TypeMeaning t) h xs = refl
-all_written (FunctionMeaning f) h xs = refl
+-- of a typed term all parts are written, as they stand or with the second behind the others
+pub all_written : (m : Meaning) → IsTrue (is_typed m) → {A : Type 0} (xs : List A) → (written_parts (rendering_in m) xs ≡ xs) ⊎ (written_parts (rendering_in m) xs ≡ second_last xs)
+all_written (TypeMeaning t) h xs = inl refl
+all_written (FunctionMeaning f) h xs = inl refl
 all_written (TermMeaning (Application o ts t)) h xs = op_written o ts t h xs
-all_written (TermMeaning (NoneTerm t)) h xs = refl
-all_written (TermMeaning (LiteralTerm l)) h xs = refl
-all_written (TermMeaning (RecordTerm x)) h xs = refl
-all_written (TermMeaning (SetTerm t ts)) h xs = refl
-all_written (TermMeaning (SomeTerm t)) h xs = refl
-all_written (TermMeaning (VariableTerm id t)) h xs = refl
+all_written (TermMeaning (NoneTerm t)) h xs = inl refl
+all_written (TermMeaning (LiteralTerm l)) h xs = inl refl
+all_written (TermMeaning (RecordTerm x)) h xs = inl refl
+all_written (TermMeaning (SetTerm t ts)) h xs = inl refl
+all_written (TermMeaning (SomeTerm t)) h xs = inl refl
+all_written (TermMeaning (VariableTerm id t)) h xs = inl refl

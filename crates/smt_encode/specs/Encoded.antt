@@ -1,13 +1,21 @@
 -- What an encoder has, and what a call leaves of it and its sink.
-use Rattle.std.specs.Prelude.{ℕ, ◌≡◌, ◌≤◌, ◌↔◌, List, ◌++◌, Bool, ◌||◌, IsTrue, Option, Some, Result, IsErrOf}
+use Rattle.std.specs.Prelude.{ℕ, ◌≡◌, ◌≤◌, ◌↔◌, List, ◌∷◌, ◌++◌, Bool, ◌||◌, IsTrue, Option, Some, Result, IsErrOf}
 use Rattle.std.specs.Io.KnownBytes.{append_known}
+use Rattle.std.specs.Rc.{rc_str_bytes}
+use Rattle.std.specs.Result.{is_err}
+use Rattle.std.specs.declared.alloc.Global.{Global}
+use Rattle.std.specs.declared.rc.RcStr.{RcStr}
 use Rattle.smt_meaning.specs.Plain.{PlainTerm}
 use Rattle.smt_meaning.specs.TypeValues.{Enums}
-use Rattle.smt_graph.specs.Nodes.{TermMeaning}
+use Rattle.smt_graph.specs.Nodes.{Meaning}
+use Rattle.smt_lexicon.specs.Reading.{Expression}
 use Rattle.smt_lines.specs.NameTables.{Tables}
+use Rattle.smt_lines.specs.Line.{spelled_lines}
+use Rattle.smt_lines.specs.Lines.{Written, option_line}
+use Rattle.smt_lines.specs.Spelling.{spelled}
 use Rattle.smt_lines.specs.Text as stated
 use Rattle.smt_nodes.specs.declared.interner.Interner.{Interner}
-use Rattle.smt_encode.specs.Names.{enums_under, nodes_under, texts_under, AreTables}
+use Rattle.smt_encode.specs.Names.{enums_under, nodes_under, texts_under, AreTables, KeepTables}
 use Rattle.smt_encode.specs.NodeTexts.{AreTexts, HasName}
 use Rattle.smt_encode.specs.declared.node_names.NodeNames.{NodeNames}
 use Rattle.smt_encode.specs.declared.encoder.Encoder.{Encoder}
@@ -26,6 +34,10 @@ sink_of e = e.writer.script
 abbrev pub is_spent : {S : Type 0} → Encoder S → Bool
 is_spent e = e.begun || e.failed
 
+-- whether an earlier call of an encoder refused
+abbrev pub has_failed : {S : Type 0} → Encoder S → Bool
+has_failed e = e.failed
+
 -- the nodes of an encoder, and their texts
 abbrev pub nodes_in : {S : Type 0} → Encoder S → Interner
 nodes_in e = nodes_under e.writer.names
@@ -33,13 +45,17 @@ nodes_in e = nodes_under e.writer.names
 abbrev pub texts_in : {S : Type 0} → Encoder S → NodeNames
 texts_in e = texts_under e.writer.names
 
--- The encoder has this name for a term, or none.
-abbrev pub IsNameOf : {S : Type 0} → Encoder S → PlainTerm → Option (List ℕ) → Type 0
-IsNameOf e t name = HasName (nodes_in e) (texts_in e) (TermMeaning t) name
+-- The encoder has this name for a type, a function or a term, or none.
+abbrev pub IsNameOf : {S : Type 0} → Encoder S → Meaning → Option (List ℕ) → Type 0
+IsNameOf e m name = HasName (nodes_in e) (texts_in e) m name
 
 -- The encoder's names are these tables.
 abbrev pub HasNames : {S : Type 0} → Encoder S → Tables → Type 0
 HasNames e s = AreTables e.writer.names s
+
+-- The same, and the texts that it keeps for what has no entry are stated over these tables.
+abbrev pub HasTexts : {S : Type 0} → Encoder S → Tables → Type 0
+HasTexts e s = KeepTables e.writer.names s
 
 -- The bytes that a sink got between two moments have P, where it tells its bytes at both.
 abbrev pub OfReceived : (before after : Option (List ℕ)) → (List ℕ → Type 0) → Type 0
@@ -49,7 +65,21 @@ OfReceived before after P = (old new : List ℕ) → before ≡ Some old → aft
 abbrev pub OfNames : {S : Type 0} → Encoder S → (Tables → Type 0) → Type 0
 OfNames {S} e P = (s : Tables) × HasNames e s × P s
 
--- ---- what a call of `encode` leaves
+-- ---- what a call leaves that enters names
+
+-- The sink got the lines that are stated over the tables before, the answer is the text that is stated, and the encoder has the names that are stated then.
+pub record PutStated {S : Type 0} (contents : S → Option (List ℕ)) (old new : Encoder S) (w : Written Expression) (answer : RcStr Global) : Type 0 where
+  pub got : contents (sink_of new) ≡ append_known (contents (sink_of old)) (spelled_lines w.lines)
+  pub made : rc_str_bytes answer ≡ spelled w.made
+  pub names : HasTexts new w.tables
+
+-- The same of a whole script: the sink got the declaration of `Option` and the lines of these terms, the encoder has the names that are stated then, and for its nodes the stated texts.
+pub record PutScript {S : Type 0} (contents : S → Option (List ℕ)) (old new : Encoder S) (w : Written (List Expression)) : Type 0 where
+  pub got : contents (sink_of new) ≡ append_known (contents (sink_of old)) (spelled_lines (option_line ∷ w.lines))
+  pub names : HasTexts new w.tables
+  pub texts : AreTexts (enums_in old) w.tables (nodes_in new) (texts_in new)
+
+-- ---- what a call of `encode` leaves of an encoder that has no text
 
 -- The sink got the stated text of these terms, and the encoder has the stated names, and for its nodes the stated texts.
 pub record WroteText {S : Type 0} (contents : S → Option (List ℕ)) (old new : Encoder S) (ts : List PlainTerm) : Type 0 where
@@ -62,6 +92,13 @@ pub record Spends {S T : Type 0} (old new : Encoder S) (result : Result T Encode
   pub answer : IsErrOf result Spent ↔ IsTrue (is_spent old)
   pub unchanged : IsTrue (is_spent old) → new ≡ old
   pub afterwards : IsTrue (is_spent new)
+
+-- The same of a call that an encoder takes also where its terms are encoded: `Spent` is the answer exactly of an encoder that had refused before, which stays as it is. Afterwards it has refused where it had, or where this call did; and it has begun to encode its terms where it had.
+pub record SpendsOnError {S T : Type 0} (old new : Encoder S) (result : Result T EncodeError) : Type 0 where
+  pub answer : IsErrOf result Spent ↔ IsTrue (has_failed old)
+  pub unchanged : IsTrue (has_failed old) → new ≡ old
+  pub afterwards : has_failed new ≡ (has_failed old || is_err result)
+  pub begun : new.begun ≡ old.begun
 
 -- The encoder holds the same sink, whose count of faults did not fall, and the same enum types.
 pub record Keeps {S : Type 0} (faults : S → ℕ) (place : S → List ℕ) (old new : Encoder S) : Type 0 where

@@ -1,20 +1,26 @@
 -- How nodes are entered: what is known of a node's own lines, by the texts of its parts.
-use Rattle.std.specs.Prelude.{ℕ, Bool, true, false, codes, List, [], ◌∷◌, Option, Some, None, is_some, nat_eq, take}
+use Rattle.std.specs.Prelude.{ℕ, ◌-◌, Bool, true, false, codes, List, [], ◌∷◌, ◌++◌, Option, Some, None, is_some, drop, length, nat_eq, take}
 use Rattle.std.specs.Option.{option_or}
 use Rattle.smt_meaning.specs.Faults.{Fault, entity_fault, entity_type_fault}
-use Rattle.smt_meaning.specs.Plain.{PlainLiteral, EntityLiteral, ExtensionLiteral, PlainType, BitVecType, BoolType, PlainOp, BvnegoOp, RecordGetOp, UufOp, PlainTerm, Application}
-use Rattle.smt_graph.specs.Nodes.{PlainLabel, OptionLabel, BitVecLabel, BoolLabel, EntityLabel, StringLabel, SetLabel, ApplicationLabel, NoneLabel, LiteralLabel, SetOfLabel, SomeLabel, VariableLabel, Meaning, TermMeaning, TypeMeaning}
+use Rattle.smt_meaning.specs.Plain.{PlainLiteral, EntityLiteral, ExtensionLiteral, PlainType, BitVecType, BoolType, PlainOp, BvnegoOp, PlainFunction, RecordGetOp, UufOp, PlainTerm, PlainTerms, Application}
+use Rattle.smt_graph.specs.Nodes.{PlainLabel, OptionLabel, BitVecLabel, BoolLabel, EntityLabel, StringLabel, SetLabel, FunctionLabel, ApplicationLabel, CallLabel, NoneLabel, LiteralLabel, SetOfLabel, SomeLabel, VariableLabel, Meaning, FunctionMeaning, TermMeaning, TypeMeaning}
 use Rattle.smt_graph.specs.Parts.{label_in}
 use Rattle.smt_lexicon.specs.Reading.{Expression}
 use Rattle.smt_semantics.specs.Script.{group, name}
 use Rattle.smt_semantics.specs.Sorts.{bit_sort, bool_sort, option_sort, set_sort, string_sort}
-use Rattle.smt_lines.specs.LineForms.{application_body, entity_lines, least_body, none_body, operator_head, set_body}
-use Rattle.smt_lines.specs.Lines.{Enums, Written, Rendering, AsApplication, AsEqualsIntMin, AsFalse, application_rendering, enter_term, enter_type, made_of, members_of, next_entity, next_term}
+use Rattle.smt_lines.specs.Line.{Line}
+use Rattle.smt_lines.specs.LineForms.{application_body, entity_lines, function_declaration, function_heading, least_body, none_body, operator_head, set_body}
+use Rattle.smt_lines.specs.Lines.{Enums, Written, Rendering, AsApplication, AsEqualsIntMin, AsFalse, application_rendering, enter_function, enter_term, enter_type, made_of, members_of, next_entity, next_function, next_term}
 use Rattle.smt_lines.specs.NameTables.{Tables}
 use Rattle.smt_lines.specs.Spelling.{spelled}
 use Rattle.smt_lines.specs.TermTexts.{bool_name}
 use Rattle.smt_spelling.specs.Entries.{PlainEntry, ByBody, ByConstant, ByName, entity_entry, entry_lines, literal_text, string_fault}
 use Rattle.smt_spelling.specs.TextFaults.{pattern_fault}
+
+-- How a node is written: by the line of an application so rendered, or as a call, whose function stands behind its arguments.
+pub data NodeRendering : Type 0 where
+  AsCall : NodeRendering
+  Rendered : Rendering → NodeRendering
 
 -- the name under which a term is entered
 abbrev pub entry_name : PlainEntry → Tables → List ℕ
@@ -27,10 +33,18 @@ abbrev pub enter_by : PlainEntry → PlainTerm → (sort : Expression) → Table
 enter_by p t sort s = enter_term t (entry_name p s) (entry_lines p (entry_name p s) sort) s
 
 -- how an application is entered, by the texts of its arguments
-abbrev pub application_entry : Rendering → PlainOp → List Expression → PlainEntry
-application_entry AsApplication op es = ByBody (application_body (operator_head op) op es)
-application_entry (AsEqualsIntMin width) op es = ByBody (least_body width es)
-application_entry AsFalse op es = ByName (bool_name false)
+abbrev pub application_entry : NodeRendering → PlainOp → List Expression → PlainEntry
+application_entry (Rendered (AsEqualsIntMin width)) op es = ByBody (least_body width es)
+application_entry (Rendered AsFalse) op es = ByName (bool_name false)
+application_entry how op es = ByBody (application_body (operator_head op) op es)
+
+-- the last before the others
+abbrev pub last_first : {A : Type 0} → List A → List A
+last_first xs = drop (length xs - 1) xs ++ take (length xs - 1) xs
+
+-- the body of a call, by the texts of its arguments and then of its function
+abbrev pub call_body : List Expression → Expression
+call_body es = group (last_first es)
 
 -- how a literal is entered that has no text of its own
 abbrev pub literal_entry : Enums → PlainLiteral → (sort : Expression) → PlainEntry
@@ -38,8 +52,9 @@ literal_entry enums (EntityLiteral e i) sort = entity_entry (members_of enums e)
 literal_entry enums l sort = ByName []
 
 -- how a term is entered, by its sort and the texts of its other parts
-abbrev pub entry_by : Enums → PlainLabel → Rendering → (sort : Expression) → List Expression → PlainEntry
+abbrev pub entry_by : Enums → PlainLabel → NodeRendering → (sort : Expression) → List Expression → PlainEntry
 entry_by enums (ApplicationLabel op) how sort es = application_entry how op es
+entry_by enums CallLabel how sort es = ByBody (call_body es)
 entry_by enums (LiteralLabel l) how sort es = literal_entry enums l sort
 entry_by enums NoneLabel how sort es = ByBody (none_body sort)
 entry_by enums SetOfLabel how sort es = ByBody (set_body sort es)
@@ -52,6 +67,16 @@ abbrev pub declare_by : Enums → PlainLabel → PlainType → Tables → Writte
 declare_by enums (EntityLabel e) t s = enter_type t (next_entity s) (entity_lines (members_of enums e) e (next_entity s)) s
 declare_by enums l t s = made_of (name []) s
 
+-- a function's own line, behind those of its types, and its name among the names
+abbrev pub declare_function : PlainFunction → List Expression → Tables → Written Expression
+declare_function f (argument ∷ output ∷ []) s = enter_function f (next_function s) (function_declaration (next_function s) argument output) s
+declare_function f es s = made_of (name []) s
+
+-- what stands before the lines of the parts: of a function its id
+abbrev pub heading : PlainLabel → List Line
+heading (FunctionLabel id) = function_heading id
+heading l = []
+
 -- the text of a type or a literal that has no entry, by the texts of its parts
 abbrev pub inline_by : PlainLabel → List Expression → Option Expression
 inline_by OptionLabel (sort ∷ []) = Some (option_sort sort)
@@ -63,9 +88,13 @@ inline_by (LiteralLabel l) es = literal_text l
 inline_by l es = None
 
 -- how a term's own line is written
-abbrev pub rendering_in : Meaning → Rendering
-rendering_in (TermMeaning (Application op ts type)) = application_rendering op ts type
-rendering_in m = AsApplication
+abbrev pub op_rendering : PlainOp → PlainTerms → PlainType → NodeRendering
+op_rendering (UufOp f) ts type = AsCall
+op_rendering op ts type = Rendered (application_rendering op ts type)
+
+abbrev pub rendering_in : Meaning → NodeRendering
+rendering_in (TermMeaning (Application op ts type)) = op_rendering op ts type
+rendering_in m = Rendered AsApplication
 
 -- whether a label has a text of its own at so many parts
 abbrev pub has_inline : PlainLabel → ℕ → Bool
@@ -77,10 +106,14 @@ has_inline SetLabel n = nat_eq n 1
 has_inline (LiteralLabel l) n = is_some (literal_text l)
 has_inline l n = false
 
--- the overflow test of a negation, the type of truth values, the width of a type of bitvectors
+-- the overflow test of a negation, a call, the type of truth values, the width of a type of bitvectors
 abbrev pub is_negation_label : PlainLabel → Bool
 is_negation_label (ApplicationLabel BvnegoOp) = true
 is_negation_label l = false
+
+abbrev pub is_call_label : PlainLabel → Bool
+is_call_label CallLabel = true
+is_call_label l = false
 
 abbrev pub is_truth_type : PlainType → Bool
 is_truth_type BoolType = true
@@ -90,18 +123,25 @@ abbrev pub width_of_type : PlainType → Option ℕ
 width_of_type (BitVecType width) = Some width
 width_of_type t = None
 
--- what is written before the node itself: all parts, but for what is written as `false`, of which it is the type alone
-abbrev pub written_parts : {A : Type 0} → Rendering → List A → List A
-written_parts AsFalse ms = take 1 ms
+-- the second behind the others
+abbrev pub second_last : {A : Type 0} → List A → List A
+second_last (x ∷ y ∷ xs) = x ∷ (xs ++ y ∷ [])
+second_last xs = xs
+
+-- what is written before the node itself, in order: all parts, of a call the function behind the arguments; of what is written as `false` the type alone
+abbrev pub written_parts : {A : Type 0} → NodeRendering → List A → List A
+written_parts AsCall ms = second_last ms
+written_parts (Rendered AsFalse) ms = take 1 ms
 written_parts how ms = ms
 
 -- what is written of the node itself, by the texts of its parts
-abbrev pub entered_by : Enums → PlainLabel → Rendering → Meaning → List Expression → Tables → Written Expression
+abbrev pub entered_by : Enums → PlainLabel → NodeRendering → Meaning → List Expression → Tables → Written Expression
 entered_by enums l how (TermMeaning t) (sort ∷ es) s = enter_by (entry_by enums l how sort es) t sort s
 entered_by enums l how (TypeMeaning t) es s = declare_by enums l t s
+entered_by enums l how (FunctionMeaning f) es s = declare_function f es s
 entered_by enums l how m es s = made_of (name []) s
 
-abbrev pub own_by : Enums → PlainLabel → Rendering → Meaning → List Expression → Tables → Written Expression
+abbrev pub own_by : Enums → PlainLabel → NodeRendering → Meaning → List Expression → Tables → Written Expression
 own_by enums l how m es s = elim (inline_by l es) [ Some e ↦ made_of e s | None ↦ entered_by enums l how m es s ]
 
 abbrev pub own_lines : Enums → Meaning → List Expression → Tables → Written Expression
@@ -116,16 +156,21 @@ abbrev pub literal_entry_fault : Enums → PlainLiteral → Option Fault
 literal_entry_fault enums (EntityLiteral e i) = entity_fault e i (members_of enums e)
 literal_entry_fault enums l = None
 
-abbrev pub entry_fault : Enums → PlainLabel → Rendering → Option Fault
+abbrev pub application_fault : NodeRendering → PlainOp → Option Fault
+application_fault (Rendered (AsEqualsIntMin width)) op = None
+application_fault (Rendered AsFalse) op = None
+application_fault how op = pattern_fault op
+
+abbrev pub entry_fault : Enums → PlainLabel → NodeRendering → Option Fault
 entry_fault enums (EntityLabel e) how = entity_type_fault e (members_of enums e)
-entry_fault enums (ApplicationLabel op) AsApplication = pattern_fault op
+entry_fault enums (ApplicationLabel op) how = application_fault how op
 entry_fault enums (LiteralLabel l) how = literal_entry_fault enums l
 entry_fault enums l how = None
 
-abbrev pub own_fault : Enums → PlainLabel → Rendering → Option Fault
+abbrev pub own_fault : Enums → PlainLabel → NodeRendering → Option Fault
 own_fault enums l how = option_or (inline_fault l) (entry_fault enums l how)
 
--- what the program has nodes for: of extension values, records and functions it has none yet
+-- what the program has nodes for: of extension values and records it has none yet, and a function at arguments is a call
 abbrev pub is_built_op : PlainOp → Bool
 is_built_op (RecordGetOp a) = false
 is_built_op (UufOp f) = false
@@ -142,7 +187,9 @@ is_built BoolLabel = true
 is_built (EntityLabel e) = true
 is_built StringLabel = true
 is_built SetLabel = true
+is_built (FunctionLabel id) = true
 is_built (ApplicationLabel o) = is_built_op o
+is_built CallLabel = true
 is_built NoneLabel = true
 is_built (LiteralLabel l) = is_built_literal l
 is_built SetOfLabel = true
@@ -157,6 +204,7 @@ is_entered_literal l = false
 
 abbrev pub is_entered : PlainLabel → Bool
 is_entered (ApplicationLabel o) = true
+is_entered CallLabel = true
 is_entered NoneLabel = true
 is_entered (LiteralLabel l) = is_entered_literal l
 is_entered SetOfLabel = true
@@ -164,7 +212,8 @@ is_entered SomeLabel = true
 is_entered (VariableLabel id) = true
 is_entered l = false
 
--- labels of types that have entries
+-- labels of types that have entries, and of functions
 abbrev pub is_declared : PlainLabel → Bool
 is_declared (EntityLabel e) = true
+is_declared (FunctionLabel id) = true
 is_declared l = false

@@ -1,3 +1,4 @@
+pub mod Alone
 pub mod Complete
 pub mod Encoded
 pub mod Entries

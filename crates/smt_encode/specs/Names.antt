@@ -1,5 +1,5 @@
 -- The tables of names that the texts of nodes are.
-use Rattle.std.specs.Prelude.{ℕ, ◌≡◌, false, List, [], Some, length}
+use Rattle.std.specs.Prelude.{ℕ, ◌≡◌, false, List, Some, length}
 use Rattle.smt_meaning.specs.TypeValues.{Enums}
 use Rattle.smt_leaves.specs.Enums.{enums_of}
 use Rattle.smt_graph.specs.Nodes.{Meaning}
@@ -22,20 +22,20 @@ nodes_under n = n.nodes
 abbrev pub texts_under : Names → NodeNames
 texts_under n = n.texts
 
--- The names are these tables: each type and each term has the name that it has there, and there are as many. Functions have no names yet.
+-- The names are these tables: each type, each function and each term has the name that it has there, and there are as many.
 pub record AreTables (n : Names) (s : Tables) : Type 0 where
   pub names : (m : Meaning) → HasName n.nodes n.texts m (name_in s m)
   pub terms : n.texts.terms ≡ length s.terms
   pub types : n.texts.types ≡ length s.types
-  pub functions : s.functions ≡ []
+  pub functions : n.texts.functions ≡ length s.functions
 
--- The same, and what has no entry has its stated text.
+-- The same, and what has no entry has its stated text, where one is kept.
 pub record KeepTables (n : Names) (s : Tables) : Type 0 where
   pub names : (m : Meaning) → HasName n.nodes n.texts m (name_in s m)
   pub inline : (id : NodeId) (m : Meaning) (text : List ℕ) → meaning_in n.nodes id ≡ Some m → has_entry m ≡ false → text_at n.texts id ≡ Some text → IsText (enums_under n) s m text
   pub terms : n.texts.terms ≡ length s.terms
   pub types : n.texts.types ≡ length s.types
-  pub functions : s.functions ≡ []
+  pub functions : n.texts.functions ≡ length s.functions
 
 -- Each node has room for its text.
 abbrev pub HasRoom : Names → Type 0

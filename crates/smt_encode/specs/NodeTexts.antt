@@ -36,7 +36,7 @@ HasName nodes names m None = (id : NodeId) → meaning_in nodes id ≡ Some m �
 abbrev pub IsText : Enums → Tables → Meaning → List ℕ → Type 0
 IsText enums s m text = (e : Expression) × (encode_meaning enums m s ≡ made_of e s) × (text ≡ spelled e)
 
--- The texts are those of these tables: a type or a term that has an entry has its name there, and no text where it has none; and each text that is kept is the one that stands for its node.
+-- The texts are those of these tables: a type, a function or a term that has an entry has its name there, and no text where it has none; and each text that is kept is the one that stands for its node.
 pub record AreTexts (enums : Enums) (s : Tables) (nodes : Interner) (names : NodeNames) : Type 0 where
   pub named : (id : NodeId) (m : Meaning) → meaning_in nodes id ≡ Some m → IsTrue (has_entry m) → text_at names id ≡ name_in s m
   pub stated : (id : NodeId) (m : Meaning) (text : List ℕ) → meaning_in nodes id ≡ Some m → text_at names id ≡ Some text → IsText enums s m text

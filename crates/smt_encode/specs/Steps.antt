@@ -1,8 +1,9 @@
 -- What the calls of a writer leave: lines that the sink got, and the names afterwards.
-use Rattle.std.specs.Prelude.{ℕ, ◌≡◌, ◌≤◌, Bool, List, Option, Some, Result, IfOk, OnOk, IsErrOf}
+use Rattle.std.specs.Prelude.{ℕ, ◌≡◌, ◌≤◌, Bool, List, ◌∷◌, Option, Some, Result, IfOk, OnOk, IsErrOf}
 use Rattle.std.specs.Io.KnownBytes.{append_known}
+use Rattle.smt_meaning.specs.Plain.{PlainTerm}
 use Rattle.smt_lines.specs.Line.{Line, spelled_lines}
-use Rattle.smt_lines.specs.Lines.{Written}
+use Rattle.smt_lines.specs.Lines.{Enums, Written, encode, option_line}
 use Rattle.smt_lines.specs.NameTables.{Tables}
 use Rattle.smt_script.specs.Sink.{Rose}
 use Rattle.smt_nodes.specs.View.{place_of}
@@ -33,6 +34,10 @@ WritesHere contents old new w Shows result = IfOk result (λ x. Wrote contents o
 -- The same of what is stated for the tables before the call, whichever tables are the writer's names.
 abbrev pub WritesStated : {S A T E : Type 0} → (S → Option (List ℕ)) → Writer S → Writer S → (Tables → Written A) → (A → T → Type 0) → Result T E → Type 0
 WritesStated contents old new stated Shows result = (s : Tables) → HasTables old s → WritesHere contents old new (stated s) Shows result
+
+-- Where a call on a writer answered Ok, it wrote the declaration of `Option` and the lines of these terms over the tables before the call, whichever tables are the writer's names.
+abbrev pub WritesScript : {S T E : Type 0} → (S → Option (List ℕ)) → Writer S → Writer S → Enums → List PlainTerm → Result T E → Type 0
+WritesScript contents old new enums ts result = (s : Tables) → HasTables old s → OnOk result (Wrote contents old new (option_line ∷ (encode enums ts s).lines) (encode enums ts s).tables)
 
 -- The writer holds the same sink, whose count of faults did not fall, and its nodes have their texts over the same enum types.
 pub record HoldsSink {S : Type 0} (faults : S → ℕ) (place : S → List ℕ) (old new : Writer S) : Type 0 where

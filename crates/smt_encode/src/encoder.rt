@@ -1,53 +1,71 @@
 // The encoder, from terms to the lines of a script.
-ghost use Rattle.std.specs.Prelude.{ℕ, List, ◌≡◌, ◌≤◌, ◌+◌, ◌||◌, Bool, IsTrue, false, length, OnOk, map, option_map};
+ghost use Rattle.std.specs.Prelude.{ℕ, List, ◌≡◌, ◌≤◌, ◌+◌, ◌++◌, ◌||◌, Bool, IsTrue, [], false, length, IfOk, None, OnOk, map, option_map};
 ghost use Rattle.std.specs.Rc.{rc_str_bytes};
+ghost use Rattle.smt_characters.specs.LineTexts.{comment_text, declare_const_text, declare_datatype_text, define_fun_text};
+ghost use Rattle.smt_characters.specs.Quoting.{quoted_id};
+ghost use Rattle.smt_characters.specs.SharedTexts.{texts};
+ghost use Rattle.smt_leaves.specs.Entities.{bytes_of_id, bytes_of_type};
 ghost use Rattle.smt_leaves.specs.Enums.{enums_of};
-ghost use Rattle.smt_meaning.specs.Faults.{first_fault};
+ghost use Rattle.smt_meaning.specs.Faults.{first_fault, term_fault, type_fault};
 ghost use Rattle.smt_meaning.specs.Plain.{PlainTerm};
 ghost use Rattle.smt_meaning.specs.Typing.{AreBoolean, AreTyped};
-ghost use Rattle.smt_term.specs.View.{plain_term};
+ghost use Rattle.smt_graph.specs.Nodes.{FunctionMeaning, TermMeaning, TypeMeaning};
+ghost use Rattle.smt_term.specs.View.{plain_function, plain_term, plain_type};
+ghost use Rattle.smt_lines.specs.Line.{spelled_lines};
+ghost use Rattle.smt_lines.specs.LineForms.{entity_lines};
+ghost use Rattle.smt_lines.specs.Lines as lines;
+ghost use Rattle.smt_lines.specs.Lines.{members_of, next_entity, next_term};
 ghost use Rattle.smt_lines.specs.NameTables.{Tables, no_names};
 ghost use Rattle.smt_lines.specs.Text.{names, text};
 ghost use Rattle.smt_headline.specs.Headline.{Headline};
 ghost use Rattle.smt_encode.specs.Complete.{AreWritten};
 ghost use Rattle.smt_encode.specs.LookUps.{edges, IsClosed};
 ghost use Rattle.smt_encode.specs.NodeTexts.{HasNoTexts, StandFor};
+ghost use Rattle.smt_encode.specs.NodeLines.{encode_meaning, meaning_fault};
 ghost use Rattle.smt_nodes.specs.Interned.{nodes_of};
+ghost use Rattle.smt_nodes.specs.Subject.{meaning_of};
 ghost use Rattle.smt_nodes.specs.View.{places_of};
 ghost use Rattle.std.specs.List.{AllByRecursion};
 ghost use Rattle.smt_encode.specs.Refusals.{HasCause, IsComplete};
 
+use crate::alone::settle;
 use crate::error::EncodeError;
 use crate::names::Names;
 use crate::node_names::NodeNames;
 use crate::steps::Steps;
 use crate::writer::Writer;
-use smt_nodes::{Interner, NodeId};
+use smt_nodes::{Interner, NodeId, Subject};
 use smt_script::Sink;
-use smt_term::{EnumTable, Term, Text};
+use smt_term::{EntityType, EntityUID, EnumTable, Term, TermType, TermVar, Text, Uuf};
 use std::alloc::Global;
 use std::marker::Brand;
 use std::sync::ledger::{Blank, Ledger};
 
 /// Writes terms as lines of a script, and keeps the names under which it wrote them.
 ///
-/// Each term that has no inline text gets one name, under which it is declared or defined once. An encoder
-/// encodes one list of terms, and before that none of its nodes has a text; after that, and after an error, it is spent.
-/// `into_script` gives its sink back.
+/// Each term that has no inline text gets one name, under which it is declared or defined once, and so does each entity type
+/// and each function. An encoder encodes one list of terms by `encode` or `encode_nodes`; after that, and after an error, it
+/// is spent. `into_script` gives its sink back.
+///
+/// `encode_type`, `encode_uuf` and `encode_term` write the lines of one type, function or term behind what was written, and
+/// enter their names. The calls from `declare_type` to `define_entity` write the lines of one name alone. They answer the name
+/// and enter none, so that two of them may give one name twice. All of these may come before the terms are encoded or after
+/// that.
 #[derive(Drop)]
 pub struct Encoder<'a, S> {
     writer: Writer<'a, S>,
     begun: bool,
     failed: bool,
-    ghost unwritten: { (begun || failed) ≡ false → HasNoTexts writer.names.texts },
 }
 
 impl<'a, S> Encoder<'a, S> {
-    ghost use Rattle.smt_encode.specs.Encoded.{enums_in, is_spent, nodes_in, sink_of, texts_in, HasNames, IsNameOf};
+    ghost use Rattle.smt_encode.specs.Encoded.{enums_in, is_spent, nodes_in, sink_of, texts_in, HasNames, HasTexts, IsNameOf};
 
     /// An encoder without names over this sink, which has not encoded yet. Takes no memory, and puts nothing.
     pub fn new(alloc: Global, enums: &'a EnumTable, script: S) -> Encoder<'a, S>
         ensures no_names { HasNames result no_names }
+        ensures no_texts { HasTexts result no_names }
+        ensures unwritten { HasNoTexts (texts_in result) }
         ensures unspent { is_spent result ≡ false }
         ensures sink { sink_of result ≡ script }
         ensures enums { enums_in result ≡ enums_of enums.now }
@@ -63,6 +81,8 @@ impl<'a, S> Encoder<'a, S> {
         script: S,
     ) -> Encoder<'a, S>
         ensures no_names { HasNames result no_names }
+        ensures no_texts { HasTexts result no_names }
+        ensures unwritten { HasNoTexts (texts_in result) }
         ensures nodes { nodes_in result ≡ nodes }
         ensures unspent { is_spent result ≡ false }
         ensures sink { sink_of result ≡ script }
@@ -83,9 +103,29 @@ impl<'a, S> Encoder<'a, S> {
     /// The name under which a term is declared or defined, None exactly where it has none. Takes no memory; it compares the
     /// term with one node after the other.
     pub fn name_of_term(&self, term: &Term) -> Option<&Text>
-        ensures { IsNameOf self.now (plain_term term.now) (option_map (λ name. rc_str_bytes name.now) result) }
+        ensures { IsNameOf self.now (TermMeaning (plain_term term.now)) (option_map (λ name. rc_str_bytes name.now) result) }
     {
-        self.writer.names.name_by::<Brand>(term, Blank::new(1))
+        self.name_of_subject(Subject::Term(term))
+    }
+
+    /// The same of a type, whose name is that of its datatype.
+    pub fn name_of_type(&self, ty: &TermType) -> Option<&Text>
+        ensures { IsNameOf self.now (TypeMeaning (plain_type ty.now)) (option_map (λ name. rc_str_bytes name.now) result) }
+    {
+        self.name_of_subject(Subject::Type(ty))
+    }
+
+    /// The same of an uninterpreted function.
+    pub fn name_of_uuf(&self, f: &Uuf) -> Option<&Text>
+        ensures { IsNameOf self.now (FunctionMeaning (plain_function f.now)) (option_map (λ name. rc_str_bytes name.now) result) }
+    {
+        self.name_of_subject(Subject::Function(f))
+    }
+
+    fn name_of_subject(&self, subject: Subject<'_>) -> Option<&Text>
+        ensures { IsNameOf self.now (meaning_of subject.entry) (option_map (λ name. rc_str_bytes name.now) result) }
+    {
+        self.writer.names.name_by::<Brand>(subject, Blank::new(1))
     }
 
     /// The nodes of the terms that it was given.
@@ -118,11 +158,12 @@ impl<'a, S> Encoder<'a, S> {
 }
 
 impl<'a, S: Drop> Encoder<'a, S> {
-    ghost use Rattle.smt_encode.specs.Encoded.{enums_in, is_spent, nodes_in, texts_in, HasNames};
+    ghost use Rattle.smt_encode.specs.Encoded.{enums_in, is_spent, nodes_in, texts_in, HasNames, HasTexts};
 
     /// The same encoder without its sink, for its names alone. Takes no memory.
     pub fn finalize(self) -> Encoder<'a, ()>
         ensures names { (s : Tables) → HasNames self.entry s → HasNames result s }
+        ensures stated { (s : Tables) → HasTexts self.entry s → HasTexts result s }
         ensures nodes { nodes_in result ≡ nodes_in self.entry }
         ensures texts { texts_in result ≡ texts_in self.entry }
         ensures enums { enums_in result ≡ enums_in self.entry }
@@ -152,7 +193,8 @@ impl<'a, S: Drop> Encoder<'a, S> {
 }
 
 impl<S: Sink> Encoder<'_, S> {
-    ghost use Rattle.smt_encode.specs.Encoded.{enums_in, is_spent, nodes_in, sink_of, texts_in, Keeps, OfNames, OfReceived, Spends, WroteText};
+    ghost use Rattle.smt_encode.specs.Alone.{fault_of_entity, fault_of_type, line_of_entity, name_of_entity, set_body_text, NamesStay, PutUnder};
+    ghost use Rattle.smt_encode.specs.Encoded.{enums_in, has_failed, is_spent, nodes_in, sink_of, texts_in, HasNames, HasTexts, Keeps, OfNames, OfReceived, PutScript, PutStated, Spends, SpendsOnError, WroteText};
 
     /// Writes the script of these terms: the declaration of the datatype `Option`, what the terms need, and an
     /// assertion for each term, in order (commands of SMT-LIB 2.7, chapter 3, Scripts).
@@ -164,10 +206,10 @@ impl<S: Sink> Encoder<'_, S> {
     /// `(declare-datatype E0 ..)`. A type or a term that has a name already is not written again. A term's assertion is `(assert TEXT)`, where `TEXT` is its name or, of a
     /// literal, its inline text.
     ///
-    /// An encoder that answers Ok had not written before. It has put exactly the stated text then, and has its names, and
-    /// each node that it wrote has its stated text: the name of a term or an entity type, or what stands inline for another
-    /// type or a literal
-    /// (`stated`). For Boolean terms `headline` says what the bytes mean that the sink got in this call, by the names that
+    /// After Ok it has put exactly the lines that are stated over the names that it had, and has the names that are stated
+    /// then, and each node that it wrote has its stated text: the name of a term, an entity type or a function, or what
+    /// stands inline for another type or a literal (`put`). Of an encoder none of whose nodes has a text, as `new` gives
+    /// it, this is the stated text with its names (`stated`). Of such an encoder, for Boolean terms, `headline` says what the bytes mean that the sink got in this call, by the names that
     /// the encoder has then: they are a script by the grammar of SMT-LIB 2.7, each name is declared once and before its
     /// use, the assertions are the terms' texts in order, and the models are exactly the interpretations that make all
     /// terms true. `models` says the same of the stated text and its names. By `written` each node of terms that are typed
@@ -182,13 +224,14 @@ impl<S: Sink> Encoder<'_, S> {
     /// have a fault, the answer is never Ok. `Memory` may come from any encoder that is not spent, where there is no memory
     /// left. Each of these six spends the encoder and says nothing of what the sink got.
     pub fn encode(&mut self, terms: &[Term]) -> Result<(), EncodeError>
-        ensures stated { OnOk result (WroteText S.contents self.old self.new (map plain_term terms.now)) }
-        ensures headline { AreBoolean (map plain_term terms.now) → OnOk result (OfReceived (S.contents (sink_of self.old)) (S.contents (sink_of self.new)) (λ bytes. OfNames self.new (λ names. Headline (enums_in self.old) names (map plain_term terms.now) bytes))) }
+        ensures put { (s : Tables) → HasTexts self.old s → OnOk result (PutScript S.contents self.old self.new (lines.encode (enums_in self.old) (map plain_term terms.now) s)) }
+        ensures stated { HasNoTexts (texts_in self.old) → OnOk result (WroteText S.contents self.old self.new (map plain_term terms.now)) }
+        ensures headline { HasNoTexts (texts_in self.old) → AreBoolean (map plain_term terms.now) → OnOk result (OfReceived (S.contents (sink_of self.old)) (S.contents (sink_of self.new)) (λ bytes. OfNames self.new (λ names. Headline (enums_in self.old) names (map plain_term terms.now) bytes))) }
         ensures models { AreBoolean (map plain_term terms.now) → OnOk result (Headline (enums_in self.old) (names (enums_in self.old) (map plain_term terms.now)) (map plain_term terms.now) (text (enums_in self.old) (map plain_term terms.now))) }
         ensures spent { Spends self.old self.new result }
         ensures refused { HasCause (S.faults (sink_of self.old)) (S.faults (sink_of self.new)) (first_fault (enums_in self.old) (map plain_term terms.now)) result }
         ensures complete { IsComplete (is_spent self.old) (S.faults (sink_of self.old)) (S.faults (sink_of self.new)) (first_fault (enums_in self.old) (map plain_term terms.now)) result }
-        ensures written { (ids : List NodeId) → AreTyped (map plain_term terms.now) → StandFor (nodes_in self.new) ids (map plain_term terms.now) → OnOk result (AreWritten (nodes_in self.new) (texts_in self.new) ids) }
+        ensures written { (ids : List NodeId) → HasNoTexts (texts_in self.old) → AreTyped (map plain_term terms.now) → StandFor (nodes_in self.new) ids (map plain_term terms.now) → OnOk result (AreWritten (nodes_in self.new) (texts_in self.new) ids) }
         ensures kept { Keeps S.faults S.place self.old self.new }
     {
         if self.begun || self.failed {
@@ -215,13 +258,14 @@ impl<S: Sink> Encoder<'_, S> {
         steps: &mut Steps<L>,
     ) -> Result<(), EncodeError>
         requires stand { (ts : List PlainTerm) × StandFor (nodes_in self.old) ids.now ts }
-        ensures stated { (ts : List PlainTerm) → StandFor (nodes_in self.old) ids.now ts → OnOk result (WroteText S.contents self.old self.new ts) }
-        ensures headline { (ts : List PlainTerm) → StandFor (nodes_in self.old) ids.now ts → AreBoolean ts → OnOk result (OfReceived (S.contents (sink_of self.old)) (S.contents (sink_of self.new)) (λ bytes. OfNames self.new (λ names. Headline (enums_in self.old) names ts bytes))) }
+        ensures put { (ts : List PlainTerm) (s : Tables) → StandFor (nodes_in self.old) ids.now ts → HasTexts self.old s → OnOk result (PutScript S.contents self.old self.new (lines.encode (enums_in self.old) ts s)) }
+        ensures stated { (ts : List PlainTerm) → StandFor (nodes_in self.old) ids.now ts → HasNoTexts (texts_in self.old) → OnOk result (WroteText S.contents self.old self.new ts) }
+        ensures headline { (ts : List PlainTerm) → StandFor (nodes_in self.old) ids.now ts → HasNoTexts (texts_in self.old) → AreBoolean ts → OnOk result (OfReceived (S.contents (sink_of self.old)) (S.contents (sink_of self.new)) (λ bytes. OfNames self.new (λ names. Headline (enums_in self.old) names ts bytes))) }
         ensures models { (ts : List PlainTerm) → StandFor (nodes_in self.old) ids.now ts → AreBoolean ts → OnOk result (Headline (enums_in self.old) (names (enums_in self.old) ts) ts (text (enums_in self.old) ts)) }
         ensures spent { Spends self.old self.new result }
         ensures refused { (ts : List PlainTerm) → StandFor (nodes_in self.old) ids.now ts → HasCause (S.faults (sink_of self.old)) (S.faults (sink_of self.new)) (first_fault (enums_in self.old) ts) result }
         ensures complete { (ts : List PlainTerm) → StandFor (nodes_in self.old) ids.now ts → IsComplete (is_spent self.old) (S.faults (sink_of self.old)) (S.faults (sink_of self.new)) (first_fault (enums_in self.old) ts) result }
-        ensures written { (ts : List PlainTerm) → StandFor (nodes_in self.old) ids.now ts → AreTyped ts → OnOk result (AreWritten (nodes_in self.new) (texts_in self.new) ids.now) }
+        ensures written { (ts : List PlainTerm) → StandFor (nodes_in self.old) ids.now ts → HasNoTexts (texts_in self.old) → AreTyped ts → OnOk result (AreWritten (nodes_in self.new) (texts_in self.new) ids.now) }
         ensures steps { (has : ℕ → Bool) → IsClosed (nodes_of (nodes_in self.old)) has → AllByRecursion (λ place. IsTrue (has place)) (places_of ids.now) → OnOk result (steps.new ≤ steps.old + length ids.now + edges has (nodes_of (nodes_in self.old))) }
         ensures kept { Keeps S.faults S.place self.old self.new }
     {
@@ -232,5 +276,225 @@ impl<S: Sink> Encoder<'_, S> {
         self.begun = true;
         self.failed = outcome.is_err();
         Ok(outcome?)
+    }
+
+    /// Writes the lines that a type needs, as `encode` does, and answers its sort: its name, or what stands inline for it.
+    ///
+    /// What has a name already is not written again. The names that are new are entered, so that no later call writes these
+    /// lines again. Whether the encoder has encoded its terms does not matter.
+    ///
+    /// # Errors
+    ///
+    /// `Spent` comes exactly from an encoder that has refused before, and leaves it as it is. `Io` comes only where the
+    /// sink's count of faults rose in this call, or stands at its last value. `EmptyEnum` comes only where this is the first
+    /// fault of the type, and where the type has a fault, the answer is never Ok. `Memory` comes where there is no memory
+    /// left. After an error the encoder refuses all that it is to write.
+    pub fn encode_type(&mut self, ty: &TermType) -> Result<Text, EncodeError>
+        ensures put { (s : Tables) → HasTexts self.old s → IfOk result (PutStated S.contents self.old self.new (lines.encode_type (enums_in self.old) (plain_type ty.now) s)) }
+        ensures refused { HasCause (S.faults (sink_of self.old)) (S.faults (sink_of self.new)) (type_fault (enums_in self.old) (plain_type ty.now)) result }
+        ensures complete { IsComplete (has_failed self.old) (S.faults (sink_of self.old)) (S.faults (sink_of self.new)) (type_fault (enums_in self.old) (plain_type ty.now)) result }
+        ensures spent { SpendsOnError self.old self.new result }
+        ensures kept { Keeps S.faults S.place self.old self.new }
+    {
+        self.encode_subject(Subject::Type(ty))
+    }
+
+    /// Writes the lines that an uninterpreted function needs, as `encode` does: `; ID`, those of the type of its argument and
+    /// of that of its values, and `(declare-fun fk (ARGUMENT) VALUES)` (SMT-LIB 2.7, chapter 3, Scripts), `fk` being the name
+    /// of the next function. It answers the name.
+    ///
+    /// What `encode_type` says of names holds here.
+    ///
+    /// # Errors
+    ///
+    /// Those of `encode_type`, for the two types of the function, that of its argument first.
+    pub fn encode_uuf(&mut self, uuf: &Uuf) -> Result<Text, EncodeError>
+        ensures put { (s : Tables) → HasTexts self.old s → IfOk result (PutStated S.contents self.old self.new (lines.encode_function (enums_in self.old) (plain_function uuf.now) s)) }
+        ensures refused { HasCause (S.faults (sink_of self.old)) (S.faults (sink_of self.new)) (meaning_fault (enums_in self.old) (FunctionMeaning (plain_function uuf.now))) result }
+        ensures complete { IsComplete (has_failed self.old) (S.faults (sink_of self.old)) (S.faults (sink_of self.new)) (meaning_fault (enums_in self.old) (FunctionMeaning (plain_function uuf.now))) result }
+        ensures spent { SpendsOnError self.old self.new result }
+        ensures kept { Keeps S.faults S.place self.old self.new }
+    {
+        self.encode_subject(Subject::Function(uuf))
+    }
+
+    /// Writes the lines that a term needs, as `encode` does, and answers its text: its name, or what stands inline for a
+    /// literal. It writes no assertion.
+    ///
+    /// What `encode_type` says of names holds here.
+    ///
+    /// # Errors
+    ///
+    /// Those of `encode` for this term; `Spent` comes exactly from an encoder that has refused before.
+    pub fn encode_term(&mut self, t: &Term) -> Result<Text, EncodeError>
+        ensures put { (s : Tables) → HasTexts self.old s → IfOk result (PutStated S.contents self.old self.new (lines.encode_term (enums_in self.old) (plain_term t.now) s)) }
+        ensures refused { HasCause (S.faults (sink_of self.old)) (S.faults (sink_of self.new)) (term_fault (enums_in self.old) (plain_term t.now)) result }
+        ensures complete { IsComplete (has_failed self.old) (S.faults (sink_of self.old)) (S.faults (sink_of self.new)) (term_fault (enums_in self.old) (plain_term t.now)) result }
+        ensures spent { SpendsOnError self.old self.new result }
+        ensures kept { Keeps S.faults S.place self.old self.new }
+    {
+        self.encode_subject(Subject::Term(t))
+    }
+
+    /// Writes the lines that a subject needs, and answers its text.
+    fn encode_subject(&mut self, subject: Subject<'_>) -> Result<Text, EncodeError>
+        ensures put { (s : Tables) → HasTexts self.old s → IfOk result (PutStated S.contents self.old self.new (encode_meaning (enums_in self.old) (meaning_of subject.entry) s)) }
+        ensures refused { HasCause (S.faults (sink_of self.old)) (S.faults (sink_of self.new)) (meaning_fault (enums_in self.old) (meaning_of subject.entry)) result }
+        ensures complete { IsComplete (has_failed self.old) (S.faults (sink_of self.old)) (S.faults (sink_of self.new)) (meaning_fault (enums_in self.old) (meaning_of subject.entry)) result }
+        ensures spent { SpendsOnError self.old self.new result }
+        ensures kept { Keeps S.faults S.place self.old self.new }
+    {
+        if self.failed {
+            return Err(EncodeError::Spent);
+        }
+        let outcome = self.writer.put_subject(subject);
+        settle(&mut self.failed, outcome)
+    }
+
+    /// Writes `(declare-datatype ID (CONSTRUCTORS))` (SMT-LIB 2.7, chapter 3, Scripts) of these constructors, each on a line
+    /// of its own, and answers the id.
+    ///
+    /// What is handed in is written as it stands. The names that the encoder has stay as they are: the id is not entered
+    /// among them. Whether the encoder has encoded its terms does not matter.
+    ///
+    /// # Errors
+    ///
+    /// `Spent` comes exactly from an encoder that has refused before, and leaves it as it is. `Io` comes only where the
+    /// sink's count of faults rose in this call, or stands at its last value; `Memory` where there is no memory left. After
+    /// an error the encoder refuses all that it is to write.
+    pub fn declare_type(&mut self, id: &str, mks: &[Text]) -> Result<Text, EncodeError>
+        ensures put { IfOk result (PutUnder S.contents (sink_of self.old) (sink_of self.new) id.now (declare_datatype_text id.now [] (texts mks.now))) }
+        ensures refused { HasCause (S.faults (sink_of self.old)) (S.faults (sink_of self.new)) None result }
+        ensures complete { IsComplete (has_failed self.old) (S.faults (sink_of self.old)) (S.faults (sink_of self.new)) None result }
+        ensures spent { SpendsOnError self.old self.new result }
+        ensures kept { NamesStay S.faults S.place None self.old self.new }
+    {
+        if self.failed {
+            return Err(EncodeError::Spent);
+        }
+        let outcome = self.writer.put_type(id, mks);
+        settle(&mut self.failed, outcome)
+    }
+
+    /// Writes the comment and the datatype of an entity type, as `encode` does, under the name `Ek` of the next entity type,
+    /// and answers the name (`; TYPE` and `(declare-datatype Ek ..)`, SMT-LIB 2.7, chapter 3, Lexicon and Scripts).
+    ///
+    /// Of an enum type the comment has the members, and the datatype a constructor `Ek_mi` for each of them; of another
+    /// type the constructor is `Ek` with the id. The names that the encoder has stay as they are, so that the next entity
+    /// type gets the same name.
+    ///
+    /// # Errors
+    ///
+    /// Those of `declare_type`, and `EmptyEnum` of an enum type without members, of which nothing is written.
+    pub fn declare_entity_type(&mut self, ety: &EntityType) -> Result<Text, EncodeError>
+        ensures put { (s : Tables) → HasNames self.old s → let members = members_of (enums_in self.old) (bytes_of_type ety.now) in
+            IfOk result (PutUnder S.contents (sink_of self.old) (sink_of self.new) (next_entity s) (spelled_lines (entity_lines members (bytes_of_type ety.now) (next_entity s)))) }
+        ensures refused { HasCause (S.faults (sink_of self.old)) (S.faults (sink_of self.new)) (fault_of_type (enums_in self.old) ety.now) result }
+        ensures complete { IsComplete (has_failed self.old) (S.faults (sink_of self.old)) (S.faults (sink_of self.new)) (fault_of_type (enums_in self.old) ety.now) result }
+        ensures spent { SpendsOnError self.old self.new result }
+        ensures kept { NamesStay S.faults S.place (fault_of_type (enums_in self.old) ety.now) self.old self.new }
+    {
+        if self.failed {
+            return Err(EncodeError::Spent);
+        }
+        let outcome = self.writer.put_entity_type(ety);
+        settle(&mut self.failed, outcome)
+    }
+
+    /// Writes `; "id"` and `(declare-const tm TY_ENC)` of a variable (SMT-LIB 2.7, chapter 3, Lexicon and Scripts), `tm`
+    /// being the name of the next term, and answers the name.
+    ///
+    /// The sort is written as it stands, whatever the type of the variable is. The names that the encoder has stay as they
+    /// are, so that the next term gets the same name.
+    ///
+    /// # Errors
+    ///
+    /// Those of `declare_type`.
+    pub fn declare_var(&mut self, v: &TermVar, ty_enc: &str) -> Result<Text, EncodeError>
+        ensures put { (s : Tables) → HasNames self.old s →
+            IfOk result (PutUnder S.contents (sink_of self.old) (sink_of self.new) (next_term s) (comment_text (quoted_id (rc_str_bytes v.now.id)) ++ declare_const_text (next_term s) ty_enc.now)) }
+        ensures refused { HasCause (S.faults (sink_of self.old)) (S.faults (sink_of self.new)) None result }
+        ensures complete { IsComplete (has_failed self.old) (S.faults (sink_of self.old)) (S.faults (sink_of self.new)) None result }
+        ensures spent { SpendsOnError self.old self.new result }
+        ensures kept { NamesStay S.faults S.place None self.old self.new }
+    {
+        if self.failed {
+            return Err(EncodeError::Spent);
+        }
+        let outcome = self.writer.put_var(v, ty_enc);
+        settle(&mut self.failed, outcome)
+    }
+
+    /// Writes `(define-fun tm () TY_ENC T_ENC)` (SMT-LIB 2.7, chapter 3, Scripts), `tm` being the name of the next term, and
+    /// answers the name.
+    ///
+    /// The sort and the body are written as they stand. The names that the encoder has stay as they are, so that the next
+    /// term gets the same name.
+    ///
+    /// # Errors
+    ///
+    /// Those of `declare_type`.
+    pub fn define_term(&mut self, ty_enc: &str, t_enc: &str) -> Result<Text, EncodeError>
+        ensures put { (s : Tables) → HasNames self.old s →
+            IfOk result (PutUnder S.contents (sink_of self.old) (sink_of self.new) (next_term s) (define_fun_text (next_term s) [] ty_enc.now t_enc.now)) }
+        ensures refused { HasCause (S.faults (sink_of self.old)) (S.faults (sink_of self.new)) None result }
+        ensures complete { IsComplete (has_failed self.old) (S.faults (sink_of self.old)) (S.faults (sink_of self.new)) None result }
+        ensures spent { SpendsOnError self.old self.new result }
+        ensures kept { NamesStay S.faults S.place None self.old self.new }
+    {
+        if self.failed {
+            return Err(EncodeError::Spent);
+        }
+        let outcome = self.writer.put_term(ty_enc, t_enc);
+        settle(&mut self.failed, outcome)
+    }
+
+    /// Writes the definition of a set as `define_term` does, with the body `(set.insert x y (as set.empty TY_ENC))` of these
+    /// elements, or `(as set.empty TY_ENC)` where there are none, and answers the name.
+    ///
+    /// The sort and the elements are written as they stand. The names that the encoder has stay as they are.
+    ///
+    /// # Errors
+    ///
+    /// Those of `declare_type`.
+    pub fn define_set(&mut self, ty_enc: &str, t_encs: &[Text]) -> Result<Text, EncodeError>
+        ensures put { (s : Tables) → HasNames self.old s →
+            IfOk result (PutUnder S.contents (sink_of self.old) (sink_of self.new) (next_term s) (define_fun_text (next_term s) [] ty_enc.now (set_body_text ty_enc.now (texts t_encs.now)))) }
+        ensures refused { HasCause (S.faults (sink_of self.old)) (S.faults (sink_of self.new)) None result }
+        ensures complete { IsComplete (has_failed self.old) (S.faults (sink_of self.old)) (S.faults (sink_of self.new)) None result }
+        ensures spent { SpendsOnError self.old self.new result }
+        ensures kept { NamesStay S.faults S.place None self.old self.new }
+    {
+        if self.failed {
+            return Err(EncodeError::Spent);
+        }
+        let outcome = self.writer.put_set(ty_enc, t_encs);
+        settle(&mut self.failed, outcome)
+    }
+
+    /// Answers the name of an entity whose type has this sort: of an enum type `TY_ENC_mi`, the constructor of the member,
+    /// for which there is no line; of another type the name of the next term, for which it writes the definition as
+    /// `define_term` does, with the body `(TY_ENC "id")`.
+    ///
+    /// The sort is written as it stands. The names that the encoder has stay as they are.
+    ///
+    /// # Errors
+    ///
+    /// Those of `declare_type`, and where the type is an enum type and the entity no member of it, `EnumMissingMember`;
+    /// where the type is none, and the id has a character above `SMT_LIB_MAX_CODE_POINT`, `EncodeStringFailed`. Of these
+    /// two nothing is written.
+    pub fn define_entity(&mut self, ty_enc: &str, entity: &EntityUID) -> Result<Text, EncodeError>
+        ensures put { (s : Tables) → HasNames self.old s → let members = members_of (enums_in self.old) (bytes_of_type entity.now.ety) in
+            IfOk result (PutUnder S.contents (sink_of self.old) (sink_of self.new) (name_of_entity members (bytes_of_id entity.now.id) ty_enc.now s) (line_of_entity members (bytes_of_id entity.now.id) ty_enc.now s)) }
+        ensures refused { HasCause (S.faults (sink_of self.old)) (S.faults (sink_of self.new)) (fault_of_entity (enums_in self.old) entity.now) result }
+        ensures complete { IsComplete (has_failed self.old) (S.faults (sink_of self.old)) (S.faults (sink_of self.new)) (fault_of_entity (enums_in self.old) entity.now) result }
+        ensures spent { SpendsOnError self.old self.new result }
+        ensures kept { NamesStay S.faults S.place (fault_of_entity (enums_in self.old) entity.now) self.old self.new }
+    {
+        if self.failed {
+            return Err(EncodeError::Spent);
+        }
+        let outcome = self.writer.put_entity(ty_enc, entity);
+        settle(&mut self.failed, outcome)
     }
 }

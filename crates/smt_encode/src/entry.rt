@@ -1,15 +1,15 @@
 // How nodes are entered: the text of what has no entry, and an entry's own lines.
-ghost use Rattle.std.specs.Prelude.{◌≡◌, List, IfOk, IsTrue, Some, is_some, length, nat_eq};
+ghost use Rattle.std.specs.Prelude.{◌≡◌, ◌≤◌, List, IfOk, IsTrue, None, Some, is_some, length, nat_eq};
 ghost use Rattle.smt_encode.specs.Entries as stated;
-ghost use Rattle.smt_encode.specs.Entries.{entry_by, entry_fault, has_inline, inline_by, inline_fault, is_entered, is_entered_literal, literal_entry_fault};
-ghost use Rattle.smt_spelling.specs.Entries.{SaysEntry, SaysInline};
+ghost use Rattle.smt_encode.specs.Entries.{call_body, entry_by, entry_fault, has_inline, inline_by, inline_fault, is_entered, is_entered_literal, literal_entry_fault};
+ghost use Rattle.smt_spelling.specs.Entries.{ByBody, SaysEntry, SaysInline};
 ghost use Rattle.smt_spelling.specs.Spelled.{AreSpelled};
 ghost use Rattle.smt_encode.specs.Renderings.{plain_rendering};
 ghost use Rattle.smt_spelling.specs.TextFaults.{text_fault, Finds};
 ghost use Rattle.smt_lexicon.specs.Reading.{Expression};
 ghost use Rattle.smt_lines.specs.Lines.{Enums};
 ghost use Rattle.smt_lines.specs.Spelling.{spelled};
-ghost use Rattle.smt_graph.specs.Nodes.{ApplicationLabel, OptionLabel, SetLabel};
+ghost use Rattle.smt_graph.specs.Nodes.{ApplicationLabel, CallLabel, OptionLabel, SetLabel};
 ghost use Rattle.smt_nodes.specs.View.{plain_label};
 ghost use Rattle.smt_leaves.specs.Enums.{enums_of};
 ghost use Rattle.smt_term.specs.View.{plain_literal, plain_op};
@@ -17,8 +17,8 @@ ghost use Rattle.smt_term.specs.View.{plain_literal, plain_op};
 use crate::rendering::Rendering;
 use smt_nodes::Label;
 use smt_spelling::{
-    Entry, TextError, application_body, as_text, bits_sort, entity_entry, least_body, literal_text,
-    option_sort, set_sort, set_text, some_text,
+    Entry, TextError, application_body, as_text, bits_sort, call_text, entity_entry, least_body,
+    literal_text, option_sort, set_sort, set_text, some_text,
 };
 use smt_term::{EnumTable, Op, TermPrim, Text};
 use smt_text::quote_id;
@@ -64,7 +64,13 @@ pub(crate) fn inline_text(
         Label::TString => Ok(Some(Text::from_str(alloc, "String")?)),
         Label::TSet => Ok(set_sort_text(alloc, parts)?),
         Label::Prim(literal) => literal_text(alloc, literal),
-        Label::App(_) | Label::NoneOf | Label::SetOf | Label::SomeOf | Label::Var(_) => Ok(None),
+        Label::App(_)
+        | Label::Call
+        | Label::Fun(_)
+        | Label::NoneOf
+        | Label::SetOf
+        | Label::SomeOf
+        | Label::Var(_) => Ok(None),
     }
 }
 
@@ -79,9 +85,27 @@ fn application_entry(
     ensures fault { (enums : Enums) → Finds text_fault (entry_fault enums (ApplicationLabel (plain_op op.now)) (plain_rendering rendering)) result }
 {
     match rendering {
-        Rendering::Application => Ok(Entry::Body(application_body(alloc, op, operands)?)),
+        Rendering::Application | Rendering::Call => {
+            Ok(Entry::Body(application_body(alloc, op, operands)?))
+        }
         Rendering::EqualsIntMin(width) => Ok(Entry::Body(least_body(alloc, width, operands)?)),
         Rendering::False => Ok(Entry::Name(Text::from_str(alloc, "false")?)),
+    }
+}
+
+/// How a call is entered, by the texts of its arguments and then of its function.
+fn call_entry(alloc: Global, mut operands: Vec<Text>) -> Result<Entry, TextError>
+    requires { 1 ≤ length operands.items }
+    ensures text { (es : List Expression) → AreSpelled es operands.items → IfOk result (SaysEntry (ByBody (call_body es))) }
+    ensures fault { Finds text_fault None result }
+{
+    match operands.pop() {
+        Some(function) => {
+            let body = call_text(alloc, function.as_str(), operands.as_slice())?;
+            Ok(Entry::Body(body))
+        }
+        // A call has a function.
+        None => unreachable!(),
     }
 }
 
@@ -114,12 +138,14 @@ pub(crate) fn entry_from(
     sort: &str,
     operands: Vec<Text>,
 ) -> Result<Entry, TextError>
-    requires { IsTrue (is_entered (plain_label label.now)) }
+    requires entered { IsTrue (is_entered (plain_label label.now)) }
+    requires called { plain_label label.now ≡ CallLabel → 1 ≤ length operands.items }
     ensures text { (e : Expression) (es : List Expression) → sort.now ≡ spelled e → AreSpelled es operands.items → IfOk result (SaysEntry (entry_by (enums_of enums.now) (plain_label label.now) (plain_rendering rendering) e es)) }
     ensures fault { Finds text_fault (entry_fault (enums_of enums.now) (plain_label label.now) (plain_rendering rendering)) result }
 {
     match label {
         Label::App(op) => application_entry(alloc, op, rendering, operands),
+        Label::Call => call_entry(alloc, operands),
         Label::NoneOf => Ok(Entry::Body(as_text(alloc, "none", sort)?)),
         Label::Prim(literal) => literal_entry(alloc, enums, literal, sort),
         Label::SetOf => Ok(Entry::Body(set_text(alloc, sort, operands)?)),
@@ -131,6 +157,7 @@ pub(crate) fn entry_from(
         | Label::TBool
         | Label::TEntity(_)
         | Label::TString
-        | Label::TSet => unreachable!(),
+        | Label::TSet
+        | Label::Fun(_) => unreachable!(),
     }
 }

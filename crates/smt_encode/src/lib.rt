@@ -23,6 +23,7 @@
 //! | overflow test of a negation | its name, defined as the equality with the least number, or `false` in its place |
 #![tactic(auto, using(smt_term::specs::View::views))]
 
+mod alone;
 mod encoder;
 mod entry;
 mod error;
@@ -31,6 +32,7 @@ mod names;
 mod node_names;
 mod rendering;
 mod steps;
+mod subject;
 mod walk;
 mod writer;
 

@@ -1,14 +1,15 @@
 // The nodes of terms, and the texts that stand for them.
 ghost use Rattle.std.specs.Prelude.{◌≡◌, ◌<◌, ◌++◌, ◌∷◌, ◌+◌, [], false, IfOk, IsTrue, None, OnOk, Some, map, not, option_map};
 ghost use Rattle.std.specs.Rc.{rc_str_bytes};
-ghost use Rattle.smt_meaning.specs.Plain.{PlainTerm, PlainType};
+ghost use Rattle.smt_meaning.specs.Plain.{PlainFunction, PlainTerm, PlainType};
 ghost use Rattle.smt_graph.specs.Meanings.{all_found, meanings};
-ghost use Rattle.smt_graph.specs.Nodes.{Meaning, TermMeaning, TypeMeaning};
+ghost use Rattle.smt_graph.specs.Nodes.{FunctionMeaning, Meaning, TermMeaning, TypeMeaning};
 ghost use Rattle.smt_nodes.specs.Interned.{meaning_in, nodes_of, IsMeant, KeepsMeanings};
+ghost use Rattle.smt_nodes.specs.Subject.{meaning_of};
 ghost use Rattle.smt_nodes.specs.View.{place_of, places_of};
 ghost use Rattle.smt_leaves.specs.Enums.{enums_of};
-ghost use Rattle.smt_term.specs.View.{plain_term};
-ghost use Rattle.smt_lines.specs.Lines.{next_entity, next_term};
+ghost use Rattle.smt_term.specs.View.{plain_term, plain_type};
+ghost use Rattle.smt_lines.specs.Lines.{next_entity, next_function, next_term};
 ghost use Rattle.smt_lines.specs.NameTables.{Tables, no_names};
 ghost use Rattle.smt_encode.specs.NodeLines.{has_entry, meaning_fault, with_name};
 ghost use Rattle.smt_encode.specs.NodeTexts.{text_at, AreSound, HasName, HasNoTexts, IsNodeOf, IsText};
@@ -16,9 +17,9 @@ ghost use Rattle.smt_encode.specs.Texts.{IsKept};
 
 use crate::node_names::NodeNames;
 use crate::steps::Steps;
-use smt_nodes::{Interner, Node, NodeId};
-use smt_spelling::{entity_name, term_name};
-use smt_term::{EnumTable, Term, TermError, TermPrim, Text};
+use smt_nodes::{Interner, Node, NodeId, Subject};
+use smt_spelling::{entity_name, function_name, term_name};
+use smt_term::{EnumTable, Term, TermError, TermPrim, TermType, Text};
 use std::alloc::{AllocError, Global};
 use std::sync::ledger::{Blank, Ledger};
 
@@ -35,8 +36,33 @@ fn numbers_of(alloc: Global, nodes: &mut Interner, terms: &[Term]) -> Result<Vec
     Ok(ids)
 }
 
-/// Whether a term has a text of its own, which stands wherever the term is used, so that it gets no name.
-fn is_inline(term: &Term) -> bool
+/// Whether a subject has a text of its own, which stands wherever it is used, so that it gets no name.
+fn is_inline(subject: Subject<'_>) -> bool
+    ensures { result ≡ not (has_entry (meaning_of subject.entry)) }
+{
+    match subject {
+        Subject::Term(term) => is_inline_term(term),
+        Subject::Type(ty) => is_inline_type(ty),
+        Subject::Function(_) => false,
+    }
+}
+
+/// Whether a type has a text of its own.
+fn is_inline_type(ty: &TermType) -> bool
+    ensures { result ≡ not (has_entry (TypeMeaning (plain_type ty.now))) }
+{
+    match ty {
+        TermType::Option { .. }
+        | TermType::Bitvec { .. }
+        | TermType::Bool
+        | TermType::String
+        | TermType::Set { .. } => true,
+        TermType::Entity { .. } => false,
+    }
+}
+
+/// Whether a term has a text of its own.
+fn is_inline_term(term: &Term) -> bool
     ensures { result ≡ not (has_entry (TermMeaning (plain_term term.now))) }
 {
     match term {
@@ -61,7 +87,7 @@ pub(crate) struct Names<'a> {
 }
 
 impl<'a> Names<'a> {
-    ghost use Rattle.smt_encode.specs.Names.{enums_under, nodes_under, texts_under, KeepTables, HasRoom, StandsOn};
+    ghost use Rattle.smt_encode.specs.Names.{enums_under, nodes_under, texts_under, AreTables, KeepTables, HasRoom, StandsOn};
 
     /// No names yet, for these nodes. Takes no memory.
     pub(crate) fn new(alloc: Global, enums: &'a EnumTable, nodes: Interner) -> Names<'a>
@@ -93,18 +119,18 @@ impl<'a> Names<'a> {
         self.texts.get(id, steps)
     }
 
-    /// The name of a term, None exactly where it has none, by a counter of this ledger. Takes no memory.
-    pub(crate) fn name_by<L: Ledger>(&self, term: &Term, blank: Blank) -> Option<&Text>
+    /// The name of a subject, None exactly where it has none, by a counter of this ledger. Takes no memory.
+    pub(crate) fn name_by<L: Ledger>(&self, subject: Subject<'_>, blank: Blank) -> Option<&Text>
         requires name { blank.name ≡ L.name }
         requires parts { blank.parts ≡ L.parts }
         requires some { 0 < blank.parts }
-        ensures { HasName (nodes_under self.now) (texts_under self.now) (TermMeaning (plain_term term.now)) (option_map (λ name. rc_str_bytes name.now) result) }
+        ensures { HasName (nodes_under self.now) (texts_under self.now) (meaning_of subject.entry) (option_map (λ name. rc_str_bytes name.now) result) }
     {
-        // The text of such a term is no name.
-        if is_inline(term) {
+        // The text of such a subject is no name.
+        if is_inline(subject) {
             return None;
         }
-        let id = self.nodes.find(term)?;
+        let id = self.nodes.find_subject(subject)?;
         self.texts.get(id, &mut Steps::<L>::new(blank))
     }
 
@@ -131,6 +157,15 @@ impl<'a> Names<'a> {
         numbers_of(self.alloc, &mut self.nodes, terms)
     }
 
+    /// The number that stands for a subject.
+    pub(crate) fn intern_subject(&mut self, subject: Subject<'_>) -> Result<NodeId, TermError>
+        ensures meaning { IfOk result (λ id. meaning_in (nodes_under self.new) id ≡ Some (meaning_of subject.entry)) }
+        ensures tables { (s : Tables) → KeepTables self.old s → KeepTables self.new s }
+        ensures enums { enums_under self.new ≡ enums_under self.old }
+    {
+        self.nodes.intern_subject(subject)
+    }
+
     /// Makes room for a text of each node.
     pub(crate) fn make_room(&mut self) -> Result<(), AllocError>
         ensures room { OnOk result (HasRoom self.new) }
@@ -151,16 +186,23 @@ impl<'a> Names<'a> {
 
     /// The name of the next term that gets one.
     pub(crate) fn next_term(&self) -> Result<Text, AllocError>
-        ensures { (s : Tables) → KeepTables self.now s → IfOk result (λ name. rc_str_bytes name ≡ next_term s) }
+        ensures { (s : Tables) → AreTables self.now s → IfOk result (λ name. rc_str_bytes name ≡ next_term s) }
     {
         term_name(self.alloc, self.texts.terms)
     }
 
     /// The name of the next entity type that gets one.
     pub(crate) fn next_entity(&self) -> Result<Text, AllocError>
-        ensures { (s : Tables) → KeepTables self.now s → IfOk result (λ name. rc_str_bytes name ≡ next_entity s) }
+        ensures { (s : Tables) → AreTables self.now s → IfOk result (λ name. rc_str_bytes name ≡ next_entity s) }
     {
         entity_name(self.alloc, self.texts.types)
+    }
+
+    /// The name of the next function that gets one.
+    pub(crate) fn next_function(&self) -> Result<Text, AllocError>
+        ensures { (s : Tables) → AreTables self.now s → IfOk result (λ name. rc_str_bytes name ≡ next_function s) }
+    {
+        function_name(self.alloc, self.texts.functions)
     }
 
     /// Keeps the text of a node that has none yet, and neither an entry nor a fault.
@@ -202,5 +244,19 @@ impl<'a> Names<'a> {
         ensures kept { IsKept (texts_under self.old).texts.items (texts_under self.new).texts.items (place_of id) (rc_str_bytes name) }
     {
         self.texts.enter_type(id, name);
+    }
+
+    /// Enters a function's name under its node, which has no text yet, and no fault.
+    pub(crate) fn enter_function(&mut self, id: NodeId, name: Text)
+        requires room { HasRoom self.old }
+        requires unkept { text_at (texts_under self.old) id ≡ None }
+        requires meant { IsMeant (nodes_under self.old) id }
+        requires sound { (m : Meaning) → meaning_in (nodes_under self.old) id ≡ Some m → meaning_fault (enums_under self.old) m ≡ None }
+        ensures tables { (s : Tables) (f : PlainFunction) → KeepTables self.old s → meaning_in (nodes_under self.old) id ≡ Some (FunctionMeaning f) →
+            KeepTables self.new (with_name s (FunctionMeaning f) (rc_str_bytes name)) }
+        ensures stands { StandsOn self.old self.new }
+        ensures kept { IsKept (texts_under self.old).texts.items (texts_under self.new).texts.items (place_of id) (rc_str_bytes name) }
+    {
+        self.texts.enter_function(id, name);
     }
 }

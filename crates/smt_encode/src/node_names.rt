@@ -16,7 +16,8 @@ pub struct NodeNames {
     texts: Vec<Option<Text>>,
     pub(crate) terms: usize,
     pub(crate) types: usize,
-    ghost counted: { terms + types ≤ kept_count texts.items },
+    pub(crate) functions: usize,
+    ghost counted: { terms + types + functions ≤ kept_count texts.items },
 }
 
 impl NodeNames {
@@ -27,11 +28,13 @@ impl NodeNames {
         ensures texts { result.texts.items ≡ [] }
         ensures terms { result.terms ≡ 0 }
         ensures types { result.types ≡ 0 }
+        ensures functions { result.functions ≡ 0 }
     {
         NodeNames {
             texts: Vec::new(alloc),
             terms: 0,
             types: 0,
+            functions: 0,
         }
     }
 
@@ -52,6 +55,7 @@ impl NodeNames {
         ensures texts { (place : ℕ) → kept_at self.new.texts.items place ≡ kept_at self.old.texts.items place }
         ensures terms { self.new.terms ≡ self.old.terms }
         ensures types { self.new.types ≡ self.old.types }
+        ensures functions { self.new.functions ≡ self.old.functions }
     {
         for _ in self.texts.len()..nodes {
             self.texts.push(None)?;
@@ -66,6 +70,7 @@ impl NodeNames {
         ensures kept { IsKept self.old.texts.items self.new.texts.items (place_of id) (rc_str_bytes text) }
         ensures terms { self.new.terms ≡ self.old.terms }
         ensures types { self.new.types ≡ self.old.types }
+        ensures functions { self.new.functions ≡ self.old.functions }
     {
         self.texts[id.place()] = Some(text);
     }
@@ -77,6 +82,7 @@ impl NodeNames {
         ensures kept { IsKept self.old.texts.items self.new.texts.items (place_of id) (rc_str_bytes name) }
         ensures terms { self.new.terms ≡ self.old.terms + 1 }
         ensures types { self.new.types ≡ self.old.types }
+        ensures functions { self.new.functions ≡ self.old.functions }
     {
         self.keep(id, name);
         self.terms += 1;
@@ -89,8 +95,22 @@ impl NodeNames {
         ensures kept { IsKept self.old.texts.items self.new.texts.items (place_of id) (rc_str_bytes name) }
         ensures terms { self.new.terms ≡ self.old.terms }
         ensures types { self.new.types ≡ self.old.types + 1 }
+        ensures functions { self.new.functions ≡ self.old.functions }
     {
         self.keep(id, name);
         self.types += 1;
+    }
+
+    /// Keeps the name of a function's node that has none yet.
+    pub(crate) fn enter_function(&mut self, id: NodeId, name: Text)
+        requires room { place_of id < length self.old.texts.items }
+        requires unkept { text_at self.old id ≡ None }
+        ensures kept { IsKept self.old.texts.items self.new.texts.items (place_of id) (rc_str_bytes name) }
+        ensures terms { self.new.terms ≡ self.old.terms }
+        ensures types { self.new.types ≡ self.old.types }
+        ensures functions { self.new.functions ≡ self.old.functions + 1 }
+    {
+        self.keep(id, name);
+        self.functions += 1;
     }
 }

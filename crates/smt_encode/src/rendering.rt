@@ -1,8 +1,8 @@
-// How an application is written: as it stands, as an equality, or as `false`.
-ghost use Rattle.std.specs.Prelude.{◌≡◌, ◌∷◌, List, IfOk, OnOk, Some, map, option_map};
+// How a node is written: as it stands, as an equality, as `false`, or as a call.
+ghost use Rattle.std.specs.Prelude.{◌≡◌, ◌∷◌, List, IfOk, Some, map, option_map};
 ghost use Rattle.smt_bits.specs.Width.{bits_in};
-ghost use Rattle.smt_encode.specs.Renderings.{plain_rendering};
-ghost use Rattle.smt_encode.specs.Entries.{is_negation_label, is_truth_type, rendering_in, width_of_type, written_parts};
+ghost use Rattle.smt_encode.specs.Renderings.{plain_rendering, written_ids};
+ghost use Rattle.smt_encode.specs.Entries.{is_call_label, is_negation_label, is_truth_type, rendering_in, second_last, width_of_type, written_parts, Rendered};
 ghost use Rattle.smt_encode.specs.NodeTexts.{IsNodeOf};
 ghost use Rattle.smt_graph.specs.Meanings.{all_found, meanings};
 ghost use Rattle.smt_graph.specs.Nodes.{Meaning, TermMeaning, TypeMeaning};
@@ -15,12 +15,15 @@ ghost use Rattle.smt_meaning.specs.Types.{type_of};
 use smt_bits::Width;
 use smt_nodes::{Interner, Label, Node, NodeId};
 use smt_term::Op;
+use std::alloc::{AllocError, Global};
 
-/// How the definition of an application is written.
+/// How a node is written.
 #[derive(Clone, Copy)]
 pub(crate) enum Rendering {
-    /// By its operator.
+    /// As it stands, an application by its operator.
     Application,
+    /// As a call, whose function stands behind its arguments.
+    Call,
     /// As the equality of its operand with the least number of this width.
     EqualsIntMin(Width),
     /// As `false`, without a line.
@@ -36,6 +39,8 @@ pub(crate) fn rendering_of(nodes: &Interner, node: &Node) -> Rendering
 {
     if is_negation_test(&node.label) {
         negation_rendering(nodes, node.parts.items())
+    } else if is_call(&node.label) {
+        Rendering::Call
     } else {
         Rendering::Application
     }
@@ -48,9 +53,16 @@ fn is_negation_test(label: &Label) -> bool
     matches!(label, Label::App(Op::Bvnego))
 }
 
+/// Whether this is a function at arguments.
+fn is_call(label: &Label) -> bool
+    ensures { result ≡ is_call_label (plain_label label.now) }
+{
+    matches!(label, Label::Call)
+}
+
 /// How the overflow of a negation is written, by its type and its operands: it is a test of one operand.
 fn negation_rendering(nodes: &Interner, parts: &[NodeId]) -> Rendering
-    ensures { (type : PlainType) (ts : List PlainTerm) → all_found (meanings (nodes_of nodes.now)) (places_of parts.now) ≡ Some (TypeMeaning type ∷ map TermMeaning ts) → plain_rendering result ≡ lines.negation_rendering (terms ts) type }
+    ensures { (type : PlainType) (ts : List PlainTerm) → all_found (meanings (nodes_of nodes.now)) (places_of parts.now) ≡ Some (TypeMeaning type ∷ map TermMeaning ts) → plain_rendering result ≡ Rendered (lines.negation_rendering (terms ts) type) }
 {
     if parts.len() != 2 {
         return Rendering::Application;
@@ -81,7 +93,7 @@ fn width_in(nodes: &Interner, ty: NodeId) -> Option<Width>
 
 /// How the overflow of this operand's negation is written.
 fn least_rendering(nodes: &Interner, operand: NodeId) -> Rendering
-    ensures { (t : PlainTerm) → meaning_in nodes.now operand ≡ Some (TermMeaning t) → plain_rendering result ≡ lines.least_rendering (type_of t) }
+    ensures { (t : PlainTerm) → meaning_in nodes.now operand ≡ Some (TermMeaning t) → plain_rendering result ≡ Rendered (lines.least_rendering (type_of t)) }
 {
     let parts = nodes.parts(operand);
     if parts.is_empty() {
@@ -93,17 +105,60 @@ fn least_rendering(nodes: &Interner, operand: NodeId) -> Rendering
     }
 }
 
-impl Rendering {
-    /// The parts that are written before the node: all, but for what is written as `false`, of which it is the type alone.
-    pub(crate) fn written(self, parts: &[NodeId]) -> &[NodeId]
-        ensures { result.now ≡ written_parts (plain_rendering self) parts.now }
+/// The parts that are written before a node, in order: parts as they stand, or others of their own.
+#[derive(Drop)]
+pub(crate) enum WrittenParts<'a> {
+    /// Parts as they stand.
+    Given(&'a [NodeId]),
+    /// The same in another order.
+    Ordered(Vec<NodeId>),
+}
+
+impl WrittenParts<'_> {
+    /// Their numbers.
+    pub(crate) fn items(&self) -> &[NodeId]
+        ensures { result.now ≡ written_ids self.now }
     {
         match self {
-            Rendering::Application | Rendering::EqualsIntMin(_) => parts,
-            Rendering::False => match parts {
-                [] => parts,
-                [..] => &parts[..1],
-            },
+            WrittenParts::Given(parts) => parts,
+            WrittenParts::Ordered(parts) => parts.as_slice(),
         }
+    }
+}
+
+/// The parts of a call, the function behind the arguments.
+fn function_last(alloc: Global, parts: &[NodeId]) -> Result<Vec<NodeId>, AllocError>
+    ensures { IfOk result (λ order. order.items ≡ second_last parts.now) }
+{
+    let mut order = Vec::with_capacity(alloc, parts.len())?;
+    match parts {
+        [ty, function, arguments @ ..] => {
+            order.push(*ty)?;
+            order.extend_from_slice(arguments)?;
+            order.push(*function)?;
+        }
+        _ => order.extend_from_slice(parts)?,
+    }
+    Ok(order)
+}
+
+impl Rendering {
+    /// The parts that are written before the node, in order: all, but for what is written as `false`, of which it is the type
+    /// alone. Takes memory for a call alone.
+    pub(crate) fn written(
+        self,
+        alloc: Global,
+        parts: &[NodeId],
+    ) -> Result<WrittenParts<'_>, AllocError>
+        ensures { IfOk result (λ written. written_ids written ≡ written_parts (plain_rendering self) parts.now) }
+    {
+        Ok(match self {
+            Rendering::Application | Rendering::EqualsIntMin(_) => WrittenParts::Given(parts),
+            Rendering::Call => WrittenParts::Ordered(function_last(alloc, parts)?),
+            Rendering::False => match parts {
+                [] => WrittenParts::Given(parts),
+                [..] => WrittenParts::Given(&parts[..1]),
+            },
+        })
     }
 }

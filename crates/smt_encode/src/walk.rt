@@ -3,19 +3,21 @@ ghost use Rattle.std.specs.Prelude.{ℕ, List, ◌≡◌, ◌<◌, ◌≤◌, �
 ghost use Rattle.std.specs.List.{AllByRecursion};
 ghost use Rattle.std.specs.Rc.{rc_str_bytes};
 ghost use Rattle.smt_graph.specs.Meanings.{all_found, meanings};
-ghost use Rattle.smt_graph.specs.Nodes.{EntityLabel, Meaning, TermMeaning, TypeMeaning};
+ghost use Rattle.smt_graph.specs.Nodes.{EntityLabel, FunctionMeaning, Meaning, TermMeaning, TypeMeaning};
 ghost use Rattle.smt_graph.specs.Parts.{label_in, parts_in};
 ghost use Rattle.smt_nodes.specs.Interned.{meaning_in, nodes_of, IsMeant};
 ghost use Rattle.smt_nodes.specs.View.{place_of, places_of, plain_label};
 ghost use Rattle.smt_lexicon.specs.Reading.{Expression};
+ghost use Rattle.smt_script.specs.Sink.{Puts};
 ghost use Rattle.smt_leaves.specs.Entities.{bytes_of_type};
 ghost use Rattle.smt_meaning.specs.Faults.{entity_type_fault};
-ghost use Rattle.smt_meaning.specs.Plain.{EntityType as EntityTypeOf, PlainTerm};
+ghost use Rattle.smt_meaning.specs.Plain.{EntityType as EntityTypeOf, PlainFunction, PlainTerm};
+ghost use Rattle.smt_lines.specs.Line.{spelled_lines};
 ghost use Rattle.smt_lines.specs.Lines.{made_of, members_of};
 ghost use Rattle.smt_lines.specs.NameTables.{Tables};
 ghost use Rattle.smt_lines.specs.Spelling.{spelled};
 ghost use Rattle.smt_encode.specs.NodeLines.{encode_meaning, encode_meanings, has_entry, meaning_fault, meanings_fault};
-ghost use Rattle.smt_encode.specs.Entries.{declare_by, enter_by, entry_name, has_inline, inline_by, inline_fault, own_lines, rendering_in, written_parts};
+ghost use Rattle.smt_encode.specs.Entries.{declare_by, declare_function, enter_by, has_inline, heading, inline_by, inline_fault, own_lines, rendering_in, written_parts};
 ghost use Rattle.smt_spelling.specs.Entries.{PlainEntry, SaysEntry};
 ghost use Rattle.smt_encode.specs.Complete.{is_typed, AreTypedMeanings, HaveWrittenParts};
 ghost use Rattle.smt_encode.specs.LookUps.{IsClosed};
@@ -31,11 +33,20 @@ use crate::rendering::{Rendering, rendering_of};
 use crate::steps::Steps;
 use crate::writer::Writer;
 use smt_nodes::{Label, Node, NodeId};
-use smt_script::{Sink, SinkError};
-use smt_spelling::{Entry, entity_datatype};
+use smt_script::{Sink, SinkError, SmtLibScript};
+use smt_spelling::Entry;
 use smt_term::{EntityType, Text};
-use std::alloc::AllocError;
 use std::sync::ledger::Ledger;
+
+/// Puts what stands before the lines of a node's parts: of a function its id in a comment, of another node nothing.
+fn put_heading<S: Sink>(script: &mut S, label: &Label) -> Result<(), SinkError>
+    ensures { Puts S.contents S.faults S.has_room S.place script.old script.new (spelled_lines (heading (plain_label label.now))) result }
+{
+    match label {
+        Label::Fun(id) => script.comment(id.as_str()),
+        _ => Ok(()),
+    }
+}
 
 impl<S: Sink> Writer<'_, S> {
     ghost use Rattle.smt_encode.specs.Names.{enums_under, nodes_under, texts_under, HasRoom};
@@ -44,7 +55,7 @@ impl<S: Sink> Writer<'_, S> {
 
     /// The text of a node: the one that it has, or else a new one, behind the lines that it needs.
     #[cycle(walk)]
-    fn encode_node<L: Ledger>(
+    pub(crate) fn encode_node<L: Ledger>(
         &mut self,
         id: NodeId,
         steps: &mut Steps<L>,
@@ -64,7 +75,7 @@ impl<S: Sink> Writer<'_, S> {
         }
     }
 
-    /// Gives a node its text, by its lines: those of its parts in order, the type first, and then its own.
+    /// Gives a node its text, by its lines: its heading, those of its parts, the type first, and then its own.
     #[cycle(walk)]
     fn encode_new<L: Ledger>(
         &mut self,
@@ -83,8 +94,9 @@ impl<S: Sink> Writer<'_, S> {
     {
         let node = self.names.node(id)?;
         let rendering = rendering_of(self.names.nodes(), &node);
-        let parts = rendering.written(node.parts.items());
-        let texts = self.encode_all(parts, id.place(), steps)?;
+        let parts = rendering.written(self.alloc, node.parts.items())?;
+        put_heading(&mut self.script, &node.label)?;
+        let texts = self.encode_all(parts.items(), id.place(), steps)?;
         self.finish(id, &node, rendering, texts)
     }
 
@@ -171,6 +183,7 @@ impl<S: Sink> Writer<'_, S> {
     {
         match &node.label {
             Label::TEntity(ety) => self.declare(id, ety),
+            Label::Fun(_) => self.declare_function(id, texts.as_slice()),
             label => {
                 let sort = texts.remove(0);
                 let enums = self.names.enums();
@@ -178,6 +191,27 @@ impl<S: Sink> Writer<'_, S> {
                 self.enter(id, sort.as_str(), &entry)
             }
         }
+    }
+
+    /// Puts the declaration of a function that has no name yet, by the sorts of its argument and of its values, and enters it.
+    fn declare_function(&mut self, id: NodeId, sorts: &[Text]) -> Result<Text, WriteError>
+        requires meant { IsMeant (nodes_under self.old.names) id }
+        requires room { HasRoom self.old.names }
+        requires unkept { text_at (texts_under self.old.names) id ≡ None }
+        requires two { length sorts.now ≡ 2 }
+        requires sound { (m : Meaning) → meaning_in (nodes_under self.old.names) id ≡ Some m → meaning_fault (enums_under self.old.names) m ≡ None }
+        ensures lines { (f : PlainFunction) (es : List Expression) (s : Tables) → meaning_in (nodes_under self.old.names) id ≡ Some (FunctionMeaning f) → AreSpelled es sorts.now → HasTables self.old s →
+            WritesHere S.contents self.old self.new (declare_function f es s) IsSpelled result }
+        ensures fault { Finds write_fault None result }
+        ensures walks { Walks S.faults S.place (WriteError.Sink SinkError.Fault) (suc (place_of id)) self.old self.new result }
+        ensures kept { IfOk result (λ text. text_at (texts_under self.new.names) id ≡ Some (rc_str_bytes text)) }
+        ensures only { (place : ℕ) → ¬ (place ≡ place_of id) → kept_at (texts_under self.new.names).texts.items place ≡ kept_at (texts_under self.old.names).texts.items place }
+    {
+        let name = self.names.next_function()?;
+        self.script
+            .declare_fun(name.as_str(), &sorts[..1], sorts[1].as_str())?;
+        self.names.enter_function(id, name.clone()?);
+        Ok(name)
     }
 
     /// Puts the lines of an entity type that has no name yet, and enters it.
@@ -191,10 +225,7 @@ impl<S: Sink> Writer<'_, S> {
         ensures kept { IfOk result (λ text. text_at (texts_under self.new.names) id ≡ Some (rc_str_bytes text)) }
         ensures only { (place : ℕ) → ¬ (place ≡ place_of id) → kept_at (texts_under self.new.names).texts.items place ≡ kept_at (texts_under self.old.names).texts.items place }
     {
-        let name = self.names.next_entity()?;
-        let members = self.names.enums().members_of(ety);
-        let datatype = entity_datatype(self.alloc, ety, members, name.as_str())?;
-        datatype.put(&mut self.script, name.as_str())?;
+        let name = self.put_entity_type(ety)?;
         self.names.enter_type(id, name.clone()?);
         Ok(name)
     }
@@ -212,19 +243,8 @@ impl<S: Sink> Writer<'_, S> {
         ensures kept { IfOk result (λ text. text_at (texts_under self.new.names) id ≡ Some (rc_str_bytes text)) }
         ensures only { (place : ℕ) → ¬ (place ≡ place_of id) → kept_at (texts_under self.new.names).texts.items place ≡ kept_at (texts_under self.old.names).texts.items place }
     {
-        let name = self.name_for(entry)?;
-        entry.put(&mut self.script, name.as_str(), sort)?;
+        let name = self.put_entry(sort, entry)?;
         self.names.enter_term(id, name.clone()?);
         Ok(name)
-    }
-
-    /// The name of an entry.
-    fn name_for(&self, entry: &Entry) -> Result<Text, AllocError>
-        ensures { (s : Tables) (p : PlainEntry) → HasTables self.now s → SaysEntry p entry.now → IfOk result (λ name. rc_str_bytes name ≡ entry_name p s) }
-    {
-        match entry {
-            Entry::Constant(_) | Entry::Body(_) => self.names.next_term(),
-            Entry::Name(name) => name.clone(),
-        }
     }
 }

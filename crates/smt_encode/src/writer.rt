@@ -1,5 +1,5 @@
 // The writer: lines that are put to a sink, and the names under which they are put.
-ghost use Rattle.std.specs.Prelude.{ℕ, List, ◌≡◌, ◌∷◌, ◌<◌, ◌≤◌, ◌+◌, Bool, IsTrue, length, OnOk, None, map};
+ghost use Rattle.std.specs.Prelude.{ℕ, List, ◌≡◌, ◌<◌, ◌≤◌, ◌+◌, Bool, IsTrue, length, OnOk, None, map};
 ghost use Rattle.std.specs.List.{AllByRecursion};
 ghost use Rattle.smt_meaning.specs.Faults.{first_fault};
 ghost use Rattle.smt_meaning.specs.Plain.{PlainTerm};
@@ -7,10 +7,8 @@ ghost use Rattle.smt_meaning.specs.Typing.{AreTyped};
 ghost use Rattle.smt_term.specs.View.{plain_term};
 ghost use Rattle.smt_lexicon.specs.Reading.{Expression};
 ghost use Rattle.smt_lines.specs.Line.{Assert, spelled_line};
-ghost use Rattle.smt_lines.specs.Lines as lines;
 ghost use Rattle.smt_lines.specs.Lines.{option_line};
-ghost use Rattle.smt_lines.specs.NameTables.{Tables, no_names};
-ghost use Rattle.smt_lines.specs.Text.{names};
+ghost use Rattle.smt_lines.specs.NameTables.{Tables};
 ghost use Rattle.smt_nodes.specs.Interned.{nodes_of};
 ghost use Rattle.smt_nodes.specs.View.{places_of};
 ghost use Rattle.smt_encode.specs.Complete.{AreWritten, HaveWrittenParts};
@@ -41,7 +39,7 @@ pub(crate) struct Writer<'a, S> {
 
 impl<S: Sink> Writer<'_, S> {
     ghost use Rattle.smt_encode.specs.Names.{enums_under, nodes_under, texts_under};
-    ghost use Rattle.smt_encode.specs.Steps.{FaultCounted, HasTables, PutsLine, Wrote};
+    ghost use Rattle.smt_encode.specs.Steps.{FaultCounted, HasTables, PutsLine, Wrote, WritesScript};
     ghost use Rattle.smt_spelling.specs.Spelled.{AreSpelled};
 
     /// Puts the declaration of the datatype `Option`, with which each script begins.
@@ -72,7 +70,7 @@ impl<S: Sink> Writer<'_, S> {
 
     /// Puts the whole script of these terms.
     pub(crate) fn put_terms(&mut self, terms: &[Term]) -> Result<(), WriteError>
-        ensures lines { HasTables self.old no_names → OnOk result (Wrote S.contents self.old self.new (option_line ∷ (lines.encode (enums_under self.old.names) (map plain_term terms.now) no_names).lines) (names (enums_under self.old.names) (map plain_term terms.now))) }
+        ensures lines { WritesScript S.contents self.old self.new (enums_under self.old.names) (map plain_term terms.now) result }
         ensures cause { FaultCounted S.faults S.place (WriteError.Sink SinkError.Fault) self.old self.new result }
         ensures fault { Finds write_fault (first_fault (enums_under self.old.names) (map plain_term terms.now)) result }
         ensures written { (ids : List NodeId) → HasNoTexts (texts_under self.old.names) → AreTyped (map plain_term terms.now) → StandFor (nodes_under self.new.names) ids (map plain_term terms.now) → OnOk result (AreWritten (nodes_under self.new.names) (texts_under self.new.names) ids) }
@@ -87,7 +85,7 @@ impl<S: Sink> Writer<'_, S> {
         requires parts { blank.parts ≡ L.parts }
         requires some { 0 < blank.parts }
         requires stand { (ts : List PlainTerm) × StandFor (nodes_under self.old.names) ids.now ts }
-        ensures lines { (ts : List PlainTerm) → StandFor (nodes_under self.old.names) ids.now ts → HasTables self.old no_names → OnOk result (Wrote S.contents self.old self.new (option_line ∷ (lines.encode (enums_under self.old.names) ts no_names).lines) (names (enums_under self.old.names) ts)) }
+        ensures lines { (ts : List PlainTerm) → StandFor (nodes_under self.old.names) ids.now ts → WritesScript S.contents self.old self.new (enums_under self.old.names) ts result }
         ensures cause { FaultCounted S.faults S.place (WriteError.Sink SinkError.Fault) self.old self.new result }
         ensures fault { (ts : List PlainTerm) → StandFor (nodes_under self.old.names) ids.now ts → Finds write_fault (first_fault (enums_under self.old.names) ts) result }
         ensures written { (ts : List PlainTerm) → StandFor (nodes_under self.old.names) ids.now ts → AreTyped ts → HaveWrittenParts (nodes_under self.old.names) (texts_under self.old.names) → OnOk result (AreWritten (nodes_under self.new.names) (texts_under self.new.names) ids.now) }
@@ -104,7 +102,7 @@ impl<S: Sink> Writer<'_, S> {
         steps: &mut Steps<L>,
     ) -> Result<(), WriteError>
         requires stand { (ts : List PlainTerm) × StandFor (nodes_under self.old.names) ids.now ts }
-        ensures lines { (ts : List PlainTerm) → StandFor (nodes_under self.old.names) ids.now ts → HasTables self.old no_names → OnOk result (Wrote S.contents self.old self.new (option_line ∷ (lines.encode (enums_under self.old.names) ts no_names).lines) (names (enums_under self.old.names) ts)) }
+        ensures lines { (ts : List PlainTerm) → StandFor (nodes_under self.old.names) ids.now ts → WritesScript S.contents self.old self.new (enums_under self.old.names) ts result }
         ensures cause { FaultCounted S.faults S.place (WriteError.Sink SinkError.Fault) self.old self.new result }
         ensures fault { (ts : List PlainTerm) → StandFor (nodes_under self.old.names) ids.now ts → Finds write_fault (first_fault (enums_under self.old.names) ts) result }
         ensures written { (ts : List PlainTerm) → StandFor (nodes_under self.old.names) ids.now ts → AreTyped ts → HaveWrittenParts (nodes_under self.old.names) (texts_under self.old.names) → OnOk result (AreWritten (nodes_under self.new.names) (texts_under self.new.names) ids.now) }

@@ -1,14 +1,14 @@
 //! The folding factory: what a call that builds a term for an operator gives, where it folds constants.
 //!
 //! A call does not always build the application that it is asked for: `and(b, not b)` is `false`. What it gives
-//! is said by a function of plain terms (`FoldConnectives`, `FoldEquality`, `FoldBits`, `FoldStrings`, `FoldSets`
-//! and `FoldOptions` of `smt_folding`), and that the result may take the application's place by one word, `Refines`. A
-//! call that is made of other calls is defined once (`Composites`), over who builds: `folding` gives the term, `applied`
-//! the application. A call with many exits has a private one beside it that folds, so that this is shown once and not at
-//! each exit.
+//! is said by a function of plain terms (`FoldConnectives`, `FoldEquality`, `FoldBits`, `FoldStrings`, `FoldSets`,
+//! `FoldOptions` and `FoldFunctions` of `smt_folding`), and that the result may take the application's place by one
+//! word, `Refines`. A call that is made of other calls is defined once (`Composites`), over who builds: `folding` gives
+//! the term, `applied` the application. A call with many exits has a private one beside it that folds, so that this is
+//! shown once and not at each exit.
 //!
 //! The calls stand in crates by subject, which this one passes on: `smt_connectives`, `smt_equality`, `smt_bit_terms`,
-//! `smt_option_terms` and `smt_collection_terms`, all over `smt_parts`.
+//! `smt_option_terms`, `smt_collection_terms` and `smt_function_terms`, all over `smt_parts`.
 #![tactic(auto)]
 
 pub use smt_bit_terms::{
@@ -21,6 +21,7 @@ pub use smt_collection_terms::{
 };
 pub use smt_connectives::{and, any_true, implies, laws, not, opposites, or};
 pub use smt_equality::{eq, ite};
+pub use smt_function_terms::app;
 pub use smt_option_terms::{
     any_none, if_all_some, if_false, if_some, if_true, is_none, is_some, option_get,
 };

@@ -76,7 +76,7 @@ literal_for_eq b t u e = standing_within (truth_literal b) (eq_of t u) (λ P n h
 pub equal_for_eq : (t u : PlainTerm) → t ≡ u → Refines true_term (eq_of t u)
 equal_for_eq t u e = literal_for_eq true t u (λ enums I p f. sym (equal_values (meaning I t) (meaning I u) (ap (meaning I) e)))
 
-differing : (t u : PlainTerm) → (is_literal t && is_literal u) ≡ true → (t ≡ u → ⊥) → (I : Interpretation) → EqParts t u → IsFormed (eq_of t u) → false ≡ value_eq (meaning I t) (meaning I u)
+pub differing : (t u : PlainTerm) → (is_literal t && is_literal u) ≡ true → (t ≡ u → ⊥) → (I : Interpretation) → EqParts t u → IsFormed (eq_of t u) → false ≡ value_eq (meaning I t) (meaning I u)
 differing t u h d I p f = by (value_eq (meaning I t) (meaning I u)) refl
   where
     by : (b : Bool) → value_eq (meaning I t) (meaning I u) ≡ b → false ≡ b
@@ -121,7 +121,7 @@ false_eq_folded u = onward (folded_not u) (not_of u) (eq_of false_term u) (stand
 eq_false_folded : (t : PlainTerm) → Refines (folded_not t) (eq_of t false_term)
 eq_false_folded t = onward (folded_not t) (not_of t) (eq_of t false_term) (stands_not t) (eq_false t)
 
-apart : (t u : PlainTerm) → term_eq t u ≡ false → t ≡ u → ⊥
+pub apart : (t u : PlainTerm) → term_eq t u ≡ false → t ≡ u → ⊥
 apart t u h e = let p : true ≡ false = sym ((terms_decided t u).1 e) ∙ h in cc
 
 stands_eq_inside : (t u : PlainTerm) → Refines (folded_eq_inside t u) (eq_of t u)
@@ -198,10 +198,10 @@ module _ (P : PlainTerm → Type 0) (g t u : PlainTerm) (ty : PlainType) (h : Al
 parts_of : (g t u : PlainTerm) → typed (ite_of g t u) ≡ true → IteParts g t u
 parts_of g t u h = ite_parts g t u (type_of t) h
 
-true_guard : (t u : PlainTerm) → Refines t (ite_of true_term t u)
+pub true_guard : (t u : PlainTerm) → Refines t (ite_of true_term t u)
 true_guard t u = standing_within t (ite_of true_term t u) (λ P n h. of_first P true_term t u (type_of t) h) (λ h. ((parts_of true_term t u h).first, refl)) (λ enums I h f i. refl)
 
-false_guard : (t u : PlainTerm) → Refines u (ite_of false_term t u)
+pub false_guard : (t u : PlainTerm) → Refines u (ite_of false_term t u)
 false_guard t u = standing_within u (ite_of false_term t u) (λ P n h. of_second P false_term t u (type_of t) h) (λ h. ((parts_of false_term t u h).second, sym (parts_of false_term t u h).types)) (λ enums I h f i. refl)
 
 cond_same : (b : Bool) (v w : Value) → v ≡ w → v ≡ cond b v w
@@ -285,7 +285,7 @@ stands_ite_inside g t u =
 
 -- ---- choice between two `some`
 
-ite_typed : (g t u : PlainTerm) → IteParts g t u → typed (ite_of g t u) ≡ true
+pub ite_typed : (g t u : PlainTerm) → IteParts g t u → typed (ite_of g t u) ≡ true
 ite_typed g t u p =
     let k : (type_eq (type_of g) BoolType && type_eq (type_of t) (type_of u)) ≡ true = both_true ((types_decided (type_of g) BoolType).1 p.guard_type) ((types_decided (type_of t) (type_of u)).1 p.types) in
     both_true (both_true p.guard (both_true p.first (both_true p.second refl))) (ap (λ b. is_type (then_some b (type_of t)) (type_of t)) k ∙ (types_decided (type_of t) (type_of t)).1 refl)

@@ -7,6 +7,7 @@ pub mod ConnectivesStand
 pub mod EqualityStands
 pub mod FoldedFaults
 pub mod FoldingsKeep
+pub mod FunctionsStand
 pub mod Least
 pub mod OptionsStand
 pub mod Reaching

@@ -7,17 +7,19 @@ use Rattle.smt_folding.specs.Composites.{any_none, any_of, if_all_some, if_false
 use Rattle.smt_folding.specs.FoldBits.{folded_bits, folded_bvneg, folded_bvnego, folded_overflow, folded_test, folded_zero_extend}
 use Rattle.smt_folding.specs.FoldConnectives.{folded_not, are_opposites, folded_and, folded_or}
 use Rattle.smt_folding.specs.FoldEquality.{folded_eq, folded_ite}
+use Rattle.smt_folding.specs.FoldFunctions.{app_of, folded_app}
 use Rattle.smt_folding.specs.FoldOptions.{folded_option_get}
 use Rattle.smt_folding.specs.FoldSets.{folded_set_member, folded_set_subset, folded_set_inter}
 use Rattle.smt_folding.specs.FoldStrings.{folded_string_like}
 use Rattle.smt_folding.specs.SetOf.{IsSetOf}
 use Rattle.smt_folding.specs.Refinement.{Refines}
+use Rattle.smt_meaning.specs.Functions.{PlainDefinition, Uninterpreted, Defined, function_value}
 use Rattle.smt_meaning.specs.Meaning.{term_value}
 use Rattle.smt_meaning.specs.Tables.{Interpretation}
 use Rattle.smt_meaning.specs.TermSets.{set_term}
 use Rattle.smt_meaning.specs.ValueOrder.{values}
 use Rattle.smt_meaning.specs.Values.{BoolValue, BitVecValue, NoneValue, SetValue, SomeValue}
-use Rattle.smt_meaning.specs.Plain.{OptionType, BitVecType, BoolType, SetType, StringType, PatternPart, Character, Wildcard, IteOp, StringLiteral, PlainTerm, Application, NoneTerm, LiteralTerm, SetTerm, SomeTerm, VariableTerm, terms, BitsOp, TestOp}
+use Rattle.smt_meaning.specs.Plain.{OptionType, BitVecType, BoolType, SetType, StringType, PlainFunction, PatternPart, Character, Wildcard, IteOp, UufOp, StringLiteral, PlainTerm, Application, NoneTerm, LiteralTerm, SetTerm, SomeTerm, VariableTerm, terms, BitsOp, TestOp}
 
 -- variables
 abbrev pub b : PlainTerm
@@ -205,6 +207,27 @@ pub record OptionRows : Type 0 where
   pub if_some_stays : if_some folding o c ∷ if_some folding o p ∷ [] ≡ ite_of (eq_of o no_truth) no_truth (SomeTerm c) ∷ ite_of (eq_of o no_truth) no_truth p ∷ []
   pub any_none_known : map (any_none folding) ([] ∷ (SomeTerm b ∷ []) ∷ (SomeTerm b ∷ no_truth ∷ []) ∷ (o ∷ []) ∷ (o ∷ p ∷ []) ∷ []) ≡ false_term ∷ false_term ∷ true_term ∷ eq_of o no_truth ∷ or_of (eq_of p no_truth) (eq_of o no_truth) ∷ []
   pub if_all_some_known : if_all_some folding [] b ∷ if_all_some folding (no_truth ∷ []) b ∷ if_all_some folding (o ∷ []) p ∷ [] ≡ SomeTerm b ∷ no_truth ∷ ite_of (eq_of o no_truth) no_truth p ∷ []
+
+-- functions from bytes to bytes: one that an interpretation gives, and two tables
+abbrev pub unknown : PlainFunction
+unknown = record { id = codes "unknown"; argument = BitVecType 8; output = BitVecType 8 }
+
+abbrev pub tens : PlainDefinition
+tens = record { argument = BitVecType 8; output = BitVecType 8; entries = (byte 1, byte 10) ∷ (byte 2, byte 20) ∷ []; elsewhere = byte 0 }
+
+-- the table of the truth values that only 1 has, with an entry that says nothing new
+abbrev pub is_one : PlainDefinition
+is_one = record { argument = BitVecType 8; output = BoolType; entries = (byte 1, true_term) ∷ (byte 2, false_term) ∷ []; elsewhere = false_term }
+
+-- at a key, at a literal that is no key, at a variable
+pub record FunctionRows : Type 0 where
+  pub values : (I : Interpretation) → map (λ n. function_value I (Defined tens) (BitVecValue 8 n)) (1 ∷ 2 ∷ 3 ∷ []) ≡ BitVecValue 8 10 ∷ BitVecValue 8 20 ∷ BitVecValue 8 0 ∷ []
+  pub applied_values : (I : Interpretation) → map (λ n. term_value I (app_of (Defined tens) (byte n))) (1 ∷ 2 ∷ 3 ∷ []) ≡ BitVecValue 8 10 ∷ BitVecValue 8 20 ∷ BitVecValue 8 0 ∷ []
+  pub at_key : folded_app (Defined tens) (byte 2) ≡ byte 20
+  pub at_no_key : folded_app (Defined tens) (byte 3) ≡ byte 0
+  pub at_variable : folded_app (Defined tens) x ≡ ite_of (eq_of x (byte 1)) (byte 10) (ite_of (eq_of x (byte 2)) (byte 20) (byte 0))
+  pub choices_folded : folded_app (Defined is_one) x ≡ eq_of x (byte 1)
+  pub uninterpreted : folded_app (Uninterpreted unknown) x ∷ folded_app (Uninterpreted unknown) (byte 1) ∷ [] ≡ Application (UufOp unknown) (terms (x ∷ [])) (BitVecType 8) ∷ Application (UufOp unknown) (terms (byte 1 ∷ [])) (BitVecType 8) ∷ []
 
 pub record ApartRows : Type 0 where
   pub values : Refines true_term b → ⊥

@@ -2,17 +2,20 @@
 use Rattle.std.specs.Prelude.{◌≡◌, ◌↔◌, ℕ, ◌^◌, ◌<◌, Bool, List, [], ◌∷◌, map, IsTrue}
 use Rattle.std.specs.List.{AllByRecursion, AllZip, list_any}
 use Rattle.smt_arithmetic.specs.BitOperators.{BitsOperator, TestOperator, OverflowOperator}
+use Rattle.smt_folding.specs.AppOf.{IsAppOf}
 use Rattle.smt_folding.specs.Applications.{truth_literal, bits_literal, not_of, and_of, or_of, eq_of, ite_of, bvneg_of, bits_of_two, test_of_two, bvnego_of, zero_extend_of, string_like_of, set_member_of, set_subset_of, set_inter_of, option_get_of}
 use Rattle.smt_folding.specs.Builder.{applied, folding}
 use Rattle.smt_folding.specs.Composites.{any_none, any_of, if_all_some, if_false, if_some, if_true, implies, is_none, is_some, set_intersects, set_is_empty}
 use Rattle.smt_folding.specs.FoldBits.{folded_bits, folded_bvneg, folded_bvnego, folded_overflow, folded_test, folded_zero_extend}
 use Rattle.smt_folding.specs.FoldConnectives.{folded_not, folded_and, folded_or}
 use Rattle.smt_folding.specs.FoldEquality.{folded_eq, folded_ite}
+use Rattle.smt_folding.specs.FoldFunctions.{app_of, folded_app}
 use Rattle.smt_folding.specs.FoldOptions.{folded_option_get}
 use Rattle.smt_folding.specs.FoldSets.{folded_set_member, folded_set_subset, folded_set_inter}
 use Rattle.smt_folding.specs.FoldStrings.{folded_string_like}
 use Rattle.smt_folding.specs.Refinement.{Refines, FieldsRefine}
 use Rattle.smt_meaning.specs.Formed.{IsFormed}
+use Rattle.smt_meaning.specs.Functions.{PlainUnary, HasLiteralKeys, IsTypedFunction, argument_type, defining_terms}
 use Rattle.smt_meaning.specs.Interpretations.{IsInterpretation}
 use Rattle.smt_meaning.specs.Literals.{is_literal}
 use Rattle.smt_meaning.specs.Meaning.{term_value}
@@ -98,6 +101,12 @@ pub record OptionsAreFolded : Type 0 where
   pub if_some : (g t : PlainTerm) → Refines (if_some folding g t) (if_some applied g t)
   pub any_none : (gs : List PlainTerm) → Refines (any_none folding gs) (any_none applied gs)
   pub if_all_some : (gs : List PlainTerm) (t : PlainTerm) → Refines (if_all_some folding gs t) (if_all_some applied gs t)
+
+-- A function at a term, where the keys of its table are literals. Where the table and the argument are typed, the folding has the
+-- function's value.
+pub record FunctionsAreFolded : Type 0 where
+  pub app : (f : PlainUnary) (t : PlainTerm) → HasLiteralKeys f → Refines (folded_app f t) (app_of f t)
+  pub value : (f : PlainUnary) (t : PlainTerm) → HasLiteralKeys f → IsTypedFunction f → Typed t (argument_type f) → AllByRecursion IsFormed (t ∷ defining_terms f) → IsAppOf f t (folded_app f t)
 
 -- what has the operator's value at two literals stands for the application, whoever computed it
 pub record AnswersRefine : Type 0 where

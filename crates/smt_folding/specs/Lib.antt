@@ -1,3 +1,4 @@
+pub mod AppOf
 pub mod Applications
 pub mod Builder
 pub mod Built
@@ -6,6 +7,7 @@ pub mod Congruence
 pub mod FoldBits
 pub mod FoldConnectives
 pub mod FoldEquality
+pub mod FoldFunctions
 pub mod FoldOptions
 pub mod FoldRows
 pub mod FoldSets

@@ -7,7 +7,7 @@ ghost use Rattle.smt_term.specs.View.{plain_op, plain_term};
 ghost use Rattle.smt_jobs.specs.Job.{operator_named};
 
 use smt_factory as factory;
-use smt_term::{Op, Term, TermError};
+use smt_term::{Op, Term, TermError, UnaryFunction};
 use std::alloc::Global;
 
 /// The operator of a name, but for the extension, whose number belongs to it.
@@ -65,7 +65,7 @@ pub(crate) fn built_from(
 // Of one operand that the operator takes.
 fn built_from_one(alloc: Global, op: &Op, a: &Term) -> Result<Option<Term>, TermError>
     requires { IsTrue (is_some (result_type (plain_op op.now) (type_of (plain_term a.now) ∷ []))) }
-    ensures { (ty : PlainType) → IfOk result (λ found. option_map plain_term found ≡ Some (folded (plain_op op.now) (plain_term a.now ∷ []) ty)) }
+    ensures { (ty : PlainType) → result_type (plain_op op.now) (type_of (plain_term a.now) ∷ []) ≡ Some ty → IfOk result (λ found. option_map plain_term found ≡ Some (folded (plain_op op.now) (plain_term a.now ∷ []) ty)) }
 {
     let a = a.share()?;
     Ok(Some(match op {
@@ -74,6 +74,7 @@ fn built_from_one(alloc: Global, op: &Op, a: &Term) -> Result<Option<Term>, Term
         Op::Bvnego => factory::bvnego(alloc, a)?,
         Op::OptionGet => factory::option_get(alloc, a)?,
         Op::StringLike(pattern) => factory::string_like(alloc, a, pattern.share()?)?,
+        Op::Uuf(function) => factory::app(alloc, UnaryFunction::Uuf(function.clone()?), a)?,
         Op::ZeroExtend(bits) => factory::zero_extend(alloc, *bits, a)?,
         _ => return Ok(None),
     }))
@@ -116,6 +117,7 @@ fn built_from_two(alloc: Global, op: &Op, a: &Term, b: &Term) -> Result<Option<T
         | Op::Not
         | Op::OptionGet
         | Op::StringLike(_)
+        | Op::Uuf(_)
         | Op::ZeroExtend(_) => return Ok(None),
     }))
 }

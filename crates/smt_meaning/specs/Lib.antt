@@ -2,6 +2,7 @@ pub mod Defaults
 pub mod Examples
 pub mod Faults
 pub mod Formed
+pub mod Functions
 pub mod Interpretations
 pub mod Laws
 pub mod Literals

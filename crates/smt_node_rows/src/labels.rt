@@ -1,5 +1,6 @@
 //! Labels as rows spell them: a word, and behind a colon what the label holds.
 
+use crate::terms::byte_function;
 use anyhow::{Context, Result, bail};
 use smt_bits::{BitVec, EIGHT, Width};
 use smt_nodes::Label;
@@ -15,8 +16,12 @@ pub(crate) fn label(alloc: Global, spelling: &str) -> Result<Label> {
         "string" => Label::TString,
         "option" => Label::TOption,
         "set" => Label::TSet,
+        "fun" => Label::Fun(Text::from_str(alloc, held)?),
         "add" => Label::App(Op::Bvadd),
         "neg" => Label::App(Op::Bvneg),
+        "extend" => Label::App(Op::ZeroExtend(held.parse()?)),
+        "uuf" => Label::App(byte_function(alloc, held)?),
+        "call" => Label::Call,
         "none" => Label::NoneOf,
         "byte" => Label::Prim(TermPrim::Bitvec(BitVec::of_nat(EIGHT, held.parse()?))),
         "true" => Label::Prim(TermPrim::Bool(true)),

@@ -13,7 +13,7 @@ use std::alloc::Global;
 use std::fs;
 
 /// The files of rows.
-const FILES: [&str; 5] = ["sums", "terms", "found", "sets", "nodes"];
+const FILES: [&str; 6] = ["sums", "terms", "found", "sets", "nodes", "functions"];
 
 /// How many places a row can name.
 const PLACES: usize = 64;

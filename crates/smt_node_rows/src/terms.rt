@@ -1,10 +1,11 @@
-//! Terms of 8 bits as rows spell them: variables by their ids, `+` for the sum of the last two terms, and `set` for the set of
-//! all.
+//! Terms of 8 bits as rows spell them: variables by their ids, `+` for the sum of the last two terms, `call:` and an id for a
+//! function at the last term, and `set` for the set of all.
 
 use anyhow::{Context, Result};
 use smt_bits::EIGHT;
-use smt_term::{Op, Term, TermList, TermSet, TermType, TermVar, Text};
+use smt_term::{Op, Term, TermList, TermSet, TermType, TermVar, Text, Uuf};
 use std::alloc::Global;
+use std::rc::Rc;
 
 const BYTE: TermType = TermType::Bitvec { n: EIGHT };
 
@@ -19,6 +20,24 @@ fn sum(alloc: Global, a: Term, b: Term) -> Result<Term> {
     Ok(Term::App {
         op: Op::Bvadd,
         args: TermList::new(alloc, &[a, b])?,
+        ret_ty: BYTE,
+    })
+}
+
+/// The operator of an uninterpreted function of this id, from 8 bits to 8 bits.
+pub(crate) fn byte_function(alloc: Global, id: &str) -> Result<Op> {
+    let function = Uuf {
+        id: Text::from_str(alloc, id)?,
+        arg: BYTE,
+        out: BYTE,
+    };
+    Ok(Op::Uuf(Rc::new(alloc, function)?))
+}
+
+fn call(alloc: Global, id: &str, a: Term) -> Result<Term> {
+    Ok(Term::App {
+        op: byte_function(alloc, id)?,
+        args: TermList::new(alloc, &[a])?,
         ret_ty: BYTE,
     })
 }
@@ -41,7 +60,10 @@ pub(crate) fn term(alloc: Global, spelling: &str) -> Result<Term> {
                 sum(alloc, a, b)?
             }
             "set" => set(alloc, terms.as_slice())?,
-            _ => variable(alloc, word)?,
+            _ => match word.strip_prefix("call:") {
+                Some(id) => call(alloc, id, terms.pop().context("a term")?)?,
+                None => variable(alloc, word)?,
+            },
         };
         terms.push(term)?;
     }

@@ -1,4 +1,4 @@
--- Types and terms compare by their labels, and those of one label by the first difference of their parts.
+-- Types, functions and terms compare by their labels, and those of one label by the first difference of their parts.
 use Rattle.std.proofs.Common.{◌≡◌, ℕ, ◌<◌, Bool, true, false, List, [], ◌∷◌, map, refl, sym, ap, ◌∙◌, subst}
 use Rattle.std.proofs.lemmas.Bool.{false≢true}
 use Rattle.std.specs.Cmp.{Equal-is, unsigned_Decides}
@@ -8,26 +8,27 @@ use Rattle.std.specs.Ordering.{is_eq, nat_cmp, ordering_then}
 use Rattle.std.specs.Prelude.{◌&&◌, IsTrue, Option, Some, eqb, option_and_then, option_map, slice_get}
 use Rattle.std.specs.declared.cmp.Ordering.{Ordering}
 use Rattle.std.specs.declared.cmp.Ordering.TheVariants.{Less, Equal, Greater}
-use Rattle.smt_meaning.specs.Plain.{PlainType, OptionType, BitVecType, BoolType, EntityType, StringType, SetType, PlainLiteral, PlainOp, UufOp, PlainTerm, Application, NoneTerm, LiteralTerm, SetTerm, SomeTerm, VariableTerm, terms}
-use Rattle.smt_meaning.specs.TermOrder.{literal_cmp, op_cmp, term_cmp, terms_cmp}
+use Rattle.smt_meaning.specs.Plain.{PlainFunction, PlainType, OptionType, BitVecType, BoolType, EntityType, StringType, SetType, PlainLiteral, PlainOp, UufOp, PlainTerm, Application, NoneTerm, LiteralTerm, SetTerm, SomeTerm, VariableTerm, terms}
+use Rattle.smt_meaning.specs.TermOrder.{function_cmp, literal_cmp, op_cmp, op_fields_cmp, op_place, term_cmp, terms_cmp}
 use Rattle.smt_meaning.specs.Types.{literal_type, type_cmp, type_of}
 use Rattle.smt_meaning.specs.ValueOrder.{text_cmp}
-use Rattle.smt_meaning.proofs.SameTerm.{literal_same, term_same}
+use Rattle.smt_meaning.proofs.SameTerm.{function_same, literal_same, op_same, term_same}
 use Rattle.smt_meaning.proofs.TermTotal.{terms_decided, types_decided}
 use Rattle.smt_meaning.proofs.TypeOrder.{type_same}
+use Rattle.smt_graph.specs.Fits.{applies_no_function}
 use Rattle.smt_graph.specs.Graphs.{IsGraph}
 use Rattle.smt_graph.specs.Meanings.{all_found, found, meaning_at, meanings, stands_for, term_made, terms_in, typed_as}
-use Rattle.smt_graph.specs.Nodes.{PlainLabel, OptionLabel, BitVecLabel, BoolLabel, EntityLabel, StringLabel, SetLabel, ApplicationLabel, NoneLabel, LiteralLabel, SetOfLabel, SomeLabel, VariableLabel, PlainNode, Meaning, TypeMeaning, FunctionMeaning, TermMeaning}
+use Rattle.smt_graph.specs.Nodes.{PlainLabel, OptionLabel, BitVecLabel, BoolLabel, EntityLabel, StringLabel, SetLabel, FunctionLabel, ApplicationLabel, CallLabel, NoneLabel, LiteralLabel, SetOfLabel, SomeLabel, VariableLabel, PlainNode, Meaning, TypeMeaning, FunctionMeaning, TermMeaning}
 use Rattle.smt_graph.proofs.Distinct.{Stands, node_stands, places_differ}
 use Rattle.smt_graph.proofs.Places.{map_back, some_same, test_back, then_back}
 use Rattle.smt_graph.proofs.Whole.{terms_back, typed_back}
 use Rattle.smt_term.specs.View.{plain_literal, plain_op}
-use Rattle.smt_nodes.proofs.Levels.{label_cmp, label_same}
-use Rattle.smt_nodes.specs.Order.{are_alike, difference_of, meaning_cmp, or_else, parts_apart}
+use Rattle.smt_nodes.proofs.Levels.{label_same, op_itself}
+use Rattle.smt_nodes.specs.Order.{are_alike, difference_of, first_cmp, function_place, label_cmp, meaning_cmp, or_else, parts_apart}
 use Rattle.smt_nodes.specs.View.{ids_of, place_of, places_of, plain_label, plain_node}
 use Rattle.smt_nodes.specs.declared.id.NodeId.{NodeId}
 use Rattle.smt_nodes.specs.declared.node.Label.{Label}
-use Rattle.smt_nodes.specs.declared.node.Label.TheVariants.{TOption, TBitvec, TBool, TEntity, TString, TSet, App, NoneOf, Prim, SetOf, SomeOf, Var}
+use Rattle.smt_nodes.specs.declared.node.Label.TheVariants.{TOption, TBitvec, TBool, TEntity, TString, TSet, Fun, App, Call, NoneOf, Prim, SetOf, SomeOf, Var}
 use Rattle.smt_nodes.specs.declared.node.Node.{Node}
 use Rattle.smt_nodes.specs.declared.order.Difference.{Difference}
 use Rattle.smt_nodes.specs.declared.order.Difference.TheVariants.{Nowhere, At, Length}
@@ -40,7 +41,9 @@ pub data Shape : PlainLabel → List Meaning → Meaning → Type 0 where
   entities : (e : List ℕ) → Shape (EntityLabel e) [] (TypeMeaning (EntityType e))
   a_text : Shape StringLabel [] (TypeMeaning StringType)
   a_set : (t : PlainType) → Shape SetLabel (TypeMeaning t ∷ []) (TypeMeaning (SetType t))
-  applied : (o : PlainOp) (t : PlainType) (ts : List PlainTerm) → Shape (ApplicationLabel o) (TypeMeaning t ∷ map TermMeaning ts) (TermMeaning (Application o (terms ts) t))
+  a_function : (id : List ℕ) (t u : PlainType) → Shape (FunctionLabel id) (TypeMeaning t ∷ TypeMeaning u ∷ []) (FunctionMeaning (record { id = id; argument = t; output = u }))
+  applied : (o : PlainOp) → applies_no_function (ApplicationLabel o) ≡ true → (t : PlainType) (ts : List PlainTerm) → Shape (ApplicationLabel o) (TypeMeaning t ∷ map TermMeaning ts) (TermMeaning (Application o (terms ts) t))
+  called : (f : PlainFunction) (t : PlainType) (ts : List PlainTerm) → Shape CallLabel (TypeMeaning t ∷ FunctionMeaning f ∷ map TermMeaning ts) (TermMeaning (Application (UufOp f) (terms ts) t))
   holds_none : (t : PlainType) → Shape NoneLabel (TypeMeaning (OptionType t) ∷ []) (TermMeaning (NoneTerm t))
   a_literal : (l : PlainLiteral) → Shape (LiteralLabel l) (TypeMeaning (literal_type l) ∷ []) (TermMeaning (LiteralTerm l))
   elements : (t : PlainType) (ts : List PlainTerm) → Shape SetOfLabel (TypeMeaning (SetType t) ∷ map TermMeaning ts) (TermMeaning (SetTerm t (terms ts)))
@@ -57,7 +60,14 @@ applied_shape o t ms m h =
     let (u, e, s, k) = typed_back (ApplicationLabel o) t ms m h in
     let (ts, f, d) = map_back (λ ts. Application o (terms ts) t) (terms_in ms) u e in
     let S : List Meaning → Meaning → Type 0 = λ ms m. Shape (ApplicationLabel o) (TypeMeaning t ∷ ms) m in
-    subst (S ms) (ap TermMeaning d ∙ k) (subst (λ ms. S ms (TermMeaning (Application o (terms ts) t))) (sym (terms_back ms ts f)) (applied o t ts))
+    subst (S ms) (ap TermMeaning d ∙ k) (subst (λ ms. S ms (TermMeaning (Application o (terms ts) t))) (sym (terms_back ms ts f)) (applied o refl t ts))
+
+call_shape : (f : PlainFunction) (t : PlainType) (ms : List Meaning) (m : Meaning) → option_and_then (typed_as t) (term_made CallLabel t (FunctionMeaning f ∷ ms)) ≡ Some m → Shape CallLabel (TypeMeaning t ∷ FunctionMeaning f ∷ ms) m
+call_shape f t ms m h =
+    let (u, e, s, k) = typed_back CallLabel t (FunctionMeaning f ∷ ms) m h in
+    let (ts, g, d) = map_back (λ ts. Application (UufOp f) (terms ts) t) (terms_in ms) u e in
+    let S : List Meaning → Meaning → Type 0 = λ ms m. Shape CallLabel (TypeMeaning t ∷ FunctionMeaning f ∷ ms) m in
+    subst (S ms) (ap TermMeaning d ∙ k) (subst (λ ms. S ms (TermMeaning (Application (UufOp f) (terms ts) t))) (sym (terms_back ms ts g)) (called f t ts))
 
 literal_shape : (l : PlainLiteral) (t : PlainType) (m : Meaning) → option_and_then (typed_as t) (Some (LiteralTerm l)) ≡ Some m → Shape (LiteralLabel l) (TypeMeaning t ∷ []) m
 literal_shape l t m h = let (u, e, s, k) = typed_back (LiteralLabel l) t [] m h in
@@ -92,7 +102,9 @@ shape TBool [] m h = subst (Shape BoolLabel []) (some_same _ _ h) a_truth
 shape (TEntity e) [] m h = subst (Shape (plain_label (TEntity e)) []) (some_same _ _ h) (entities _)
 shape TString [] m h = subst (Shape StringLabel []) (some_same _ _ h) a_text
 shape TSet (TypeMeaning t ∷ []) m h = subst (Shape SetLabel (TypeMeaning t ∷ [])) (some_same _ _ h) (a_set t)
+shape (Fun id) (TypeMeaning t ∷ TypeMeaning u ∷ []) m h = subst (Shape (plain_label (Fun id)) (TypeMeaning t ∷ TypeMeaning u ∷ [])) (some_same _ _ h) (a_function _ t u)
 shape (App o) (TypeMeaning t ∷ ms) m h = applied_shape (plain_op o) t ms m h
+shape Call (TypeMeaning t ∷ FunctionMeaning f ∷ ms) m h = call_shape f t ms m h
 shape NoneOf (TypeMeaning (OptionType t) ∷ []) m h = none_shape t m h
 shape NoneOf (TypeMeaning t ∷ []) m h = absurd (cc)
 shape NoneOf (TypeMeaning t ∷ n ∷ ms) m h = absurd (cc)
@@ -107,6 +119,7 @@ shape l ms m h = absurd (cc)
 -- ---- the order by labels and parts
 abbrev pub parts_cmp : PlainLabel → List Meaning → List Meaning → Ordering
 parts_cmp (ApplicationLabel o) (t ∷ ps) (u ∷ qs) = ordering_then (slice_cmp meaning_cmp ps qs) (slice_cmp meaning_cmp (t ∷ []) (u ∷ []))
+parts_cmp CallLabel (t ∷ ps) (u ∷ qs) = ordering_then (slice_cmp meaning_cmp ps qs) (slice_cmp meaning_cmp (t ∷ []) (u ∷ []))
 parts_cmp SomeLabel (t ∷ ps) (u ∷ qs) = ordering_then (slice_cmp meaning_cmp ps qs) (slice_cmp meaning_cmp (t ∷ []) (u ∷ []))
 parts_cmp l ps qs = slice_cmp meaning_cmp ps qs
 
@@ -136,12 +149,60 @@ terms_as_list [] (u ∷ us) = refl
 terms_as_list (t ∷ ts) [] = refl
 terms_as_list (t ∷ ts) (u ∷ us) = ap (ordering_then (term_cmp t u)) (terms_as_list ts us)
 
-pub by_parts : (l k : PlainLabel) (ps qs : List Meaning) (m n : Meaning) → Shape l ps m → Shape k qs n → are_alike m n ≡ true → meaning_cmp m n ≡ ordering_then (label_cmp l k) (parts_cmp l ps qs)
+then_joined : (o p q : Ordering) → ordering_then o (ordering_then p q) ≡ ordering_then (ordering_then o p) q
+then_joined Less p q = refl
+then_joined Equal p q = refl
+then_joined Greater p q = refl
+
+-- what comes behind an order that is not level says nothing
+then_any : (o p q : Ordering) → ¬ (o ≡ Equal) → ordering_then o p ≡ ordering_then o q
+then_any Less p q h = refl
+then_any Equal p q h = absurd (h refl)
+then_any Greater p q h = refl
+
+-- ---- an operator beside a function: their places decide
+fields_before : (o : PlainOp) (f : PlainFunction) → applies_no_function (ApplicationLabel o) ≡ true → op_fields_cmp o (UufOp f) ≡ Equal
+fields_before (UufOp g) f h = absurd (cc)
+fields_before o f h = refl
+
+fields_behind : (o : PlainOp) (f : PlainFunction) → applies_no_function (ApplicationLabel o) ≡ true → op_fields_cmp (UufOp f) o ≡ Equal
+fields_behind (UufOp g) f h = absurd (cc)
+fields_behind o f h = refl
+
+op_before : (o : PlainOp) (f : PlainFunction) → applies_no_function (ApplicationLabel o) ≡ true → op_cmp o (UufOp f) ≡ nat_cmp (op_place o) function_place
+op_before o f h = ap (ordering_then (nat_cmp (op_place o) function_place)) (fields_before o f h) ∙ sym (then_level (nat_cmp (op_place o) function_place))
+
+op_behind : (o : PlainOp) (f : PlainFunction) → applies_no_function (ApplicationLabel o) ≡ true → op_cmp (UufOp f) o ≡ nat_cmp function_place (op_place o)
+op_behind o f h = ap (ordering_then (nat_cmp function_place (op_place o))) (fields_behind o f h) ∙ sym (then_level (nat_cmp function_place (op_place o)))
+
+no_function_is : (o : PlainOp) (f : PlainFunction) → applies_no_function (ApplicationLabel o) ≡ true → ¬ (o ≡ UufOp f)
+no_function_is o f h e = false≢true (sym (ap (λ o. applies_no_function (ApplicationLabel o)) e) ∙ h)
+
+apart_before : (o : PlainOp) (f : PlainFunction) → applies_no_function (ApplicationLabel o) ≡ true → ¬ (nat_cmp (op_place o) function_place ≡ Equal)
+apart_before o f h e = no_function_is o f h (op_same o (UufOp f) (op_before o f h ∙ e))
+
+apart_behind : (o : PlainOp) (f : PlainFunction) → applies_no_function (ApplicationLabel o) ≡ true → ¬ (nat_cmp function_place (op_place o) ≡ Equal)
+apart_behind o f h e = no_function_is o f h (sym (op_same (UufOp f) o (op_behind o f h ∙ e)))
+
+-- where labels are level for the order of terms, they are level
+pub labels_level : (l k : PlainLabel) (ps qs : List Meaning) (m n : Meaning) → Shape l ps m → Shape k qs n → first_cmp l k ≡ Equal → label_cmp l k ≡ Equal
+labels_level _ _ _ _ _ _ (applied o a t ts) (called f u us) h = absurd (apart_before o f a h)
+labels_level _ _ _ _ _ _ (called f t ts) (applied o a u us) h = absurd (apart_behind o f a h)
+labels_level _ _ _ _ _ _ s r h = h
+
+pub by_parts : (l k : PlainLabel) (ps qs : List Meaning) (m n : Meaning) → Shape l ps m → Shape k qs n → are_alike m n ≡ true → meaning_cmp m n ≡ ordering_then (first_cmp l k) (parts_cmp l ps qs)
 by_parts _ _ _ _ _ _ (an_option t) (an_option u) h = then_level (type_cmp t u)
 by_parts _ _ _ _ _ _ (some_bits i) (some_bits j) h = then_level (nat_cmp i j)
 by_parts _ _ _ _ _ _ (entities e) (entities f) h = then_level (text_cmp e f)
 by_parts _ _ _ _ _ _ (a_set t) (a_set u) h = then_level (type_cmp t u)
-by_parts _ _ _ _ _ _ (applied o t ts) (applied p u us) h =
+by_parts _ _ _ _ _ _ (a_function a t u) (a_function b v w) h = ap (λ c. ordering_then (text_cmp a b) (ordering_then (type_cmp t v) c)) (then_level (type_cmp u w))
+by_parts _ _ _ _ _ _ (applied o a t ts) (called f u us) h =
+    ap (λ c. ordering_then c (ordering_then (terms_cmp (terms ts) (terms us)) (type_cmp t u))) (op_before o f a) ∙ then_any (nat_cmp (op_place o) function_place) _ _ (apart_before o f a)
+by_parts _ _ _ _ _ _ (called f t ts) (applied o a u us) h =
+    ap (λ c. ordering_then c (ordering_then (terms_cmp (terms ts) (terms us)) (type_cmp t u))) (op_behind o f a) ∙ then_any (nat_cmp function_place (op_place o)) _ _ (apart_behind o f a)
+by_parts _ _ _ _ _ _ (called f t ts) (called g u us) h =
+    then_joined (function_cmp f g) (terms_cmp (terms ts) (terms us)) (type_cmp t u) ∙ (ap (λ c. ordering_then (ordering_then (function_cmp f g) c) (type_cmp t u)) (terms_as_list ts us) ∙ ap (ordering_then (ordering_then (function_cmp f g) (slice_cmp meaning_cmp (map TermMeaning ts) (map TermMeaning us)))) (then_level (type_cmp t u)))
+by_parts _ _ _ _ _ _ (applied o a t ts) (applied p b u us) h =
     ap (ordering_then (op_cmp o p)) (ap (λ c. ordering_then c (type_cmp t u)) (terms_as_list ts us) ∙ ap (ordering_then (slice_cmp meaning_cmp (map TermMeaning ts) (map TermMeaning us))) (then_level (type_cmp t u)))
 by_parts _ _ _ _ _ _ (holds_none t) (holds_none u) h = then_level (type_cmp t u)
 by_parts _ _ _ _ _ _ (a_literal a) (a_literal b) h =
@@ -167,12 +228,13 @@ alike_lists ps qs = true
 
 level_same : (m n : Meaning) → are_alike m n ≡ true → meaning_cmp m n ≡ Equal → m ≡ n
 level_same (TypeMeaning t) (TypeMeaning u) a h = ap TypeMeaning (type_same t u h)
+level_same (FunctionMeaning f) (FunctionMeaning g) a h = ap FunctionMeaning (function_same f g h)
 level_same (TermMeaning t) (TermMeaning u) a h = ap TermMeaning (term_same t u h)
 level_same m n a h = absurd (cc)
 
 meaning_itself : (m : Meaning) → meaning_cmp m m ≡ Equal
 meaning_itself (TypeMeaning t) = type_itself t
-meaning_itself (FunctionMeaning f) = refl
+meaning_itself (FunctionMeaning f) = op_itself (UufOp f)
 meaning_itself (TermMeaning t) = term_itself t
 
 then_first : (o p : Ordering) → ¬ (o ≡ Equal) → o ≡ ordering_then o p
@@ -270,7 +332,9 @@ parts_outcome ns g _ _ _ _ _ _ a_truth a_truth h xs ys p q = outcome ns g xs ys 
 parts_outcome ns g _ _ _ _ _ _ (entities e) (entities f) h xs ys p q = outcome ns g xs ys _ _ p q refl
 parts_outcome ns g _ _ _ _ _ _ a_text a_text h xs ys p q = outcome ns g xs ys _ _ p q refl
 parts_outcome ns g _ _ _ _ _ _ (a_set t) (a_set u) h xs ys p q = outcome ns g xs ys _ _ p q refl
-parts_outcome ns g _ _ _ _ _ _ (applied o t ts) (applied r u us) h xs ys p q = type_last ns g (ApplicationLabel o) (λ xs ys t u. refl) xs ys _ _ _ _ p q refl (all_alike ts us)
+parts_outcome ns g _ _ _ _ _ _ (applied o a t ts) (applied r b u us) h xs ys p q = type_last ns g (ApplicationLabel o) (λ xs ys t u. refl) xs ys _ _ _ _ p q refl (all_alike ts us)
+parts_outcome ns g _ _ _ _ _ _ (a_function a t u) (a_function b v w) h xs ys p q = outcome ns g xs ys _ _ p q refl
+parts_outcome ns g _ _ _ _ _ _ (called f t ts) (called r u us) h xs ys p q = type_last ns g CallLabel (λ xs ys t u. refl) xs ys _ _ _ _ p q refl (all_alike ts us)
 parts_outcome ns g _ _ _ _ _ _ (holds_none t) (holds_none u) h xs ys p q = outcome ns g xs ys _ _ p q refl
 parts_outcome ns g _ _ _ _ _ _ (a_literal a) (a_literal b) h xs ys p q = outcome ns g xs ys _ _ p q refl
 parts_outcome ns g _ _ _ _ _ _ (elements t ts) (elements u us) h xs ys p q = outcome ns g xs ys _ _ p q (all_alike ts us)
@@ -280,8 +344,8 @@ parts_outcome ns g _ _ _ _ _ _ s r h xs ys p q = absurd (cc)
 
 -- ---- two nodes
 pub record Compared (ns : List PlainNode) (first second : Node) (m n : Meaning) : Type 0 where
-  pub apart : ¬ (label_cmp (plain_label first.label) (plain_label second.label) ≡ Equal) → label_cmp (plain_label first.label) (plain_label second.label) ≡ meaning_cmp m n
-  pub same : label_cmp (plain_label first.label) (plain_label second.label) ≡ Equal → Outcome (meanings ns) (parts_apart (plain_label first.label) (ids_of first.parts) (ids_of second.parts)) (meaning_cmp m n)
+  pub apart : ¬ (first_cmp (plain_label first.label) (plain_label second.label) ≡ Equal) → first_cmp (plain_label first.label) (plain_label second.label) ≡ meaning_cmp m n
+  pub same : first_cmp (plain_label first.label) (plain_label second.label) ≡ Equal → Outcome (meanings ns) (parts_apart (plain_label first.label) (ids_of first.parts) (ids_of second.parts)) (meaning_cmp m n)
 
 pub compared : (ns : List PlainNode) → IsGraph ns → (i j : ℕ) (first second : Node) → slice_get ns i ≡ Some (plain_node first) → slice_get ns j ≡ Some (plain_node second)
     → (m n : Meaning) → meaning_at ns i ≡ Some m → meaning_at ns j ≡ Some n → are_alike m n ≡ true → Compared ns first second m n
@@ -294,13 +358,13 @@ compared ns g i j first second a b m n e f h =
     let two : Shape (plain_label second.label) r.parts n = shape second.label r.parts n (r.label ∙ ap Some rn) in
     let l : PlainLabel = plain_label first.label in
     let k : PlainLabel = plain_label second.label in
-    let both : meaning_cmp m n ≡ ordering_then (label_cmp l k) (parts_cmp l s.parts r.parts) = by_parts l k s.parts r.parts m n one two h in
+    let both : meaning_cmp m n ≡ ordering_then (first_cmp l k) (parts_cmp l s.parts r.parts) = by_parts l k s.parts r.parts m n one two h in
     record {
-      apart = λ d. then_first (label_cmp l k) (parts_cmp l s.parts r.parts) d ∙ sym both;
+      apart = λ d. then_first (first_cmp l k) (parts_cmp l s.parts r.parts) d ∙ sym both;
       same = λ d.
           let O : Ordering → Type 0 = Outcome (meanings ns) (parts_apart l (ids_of first.parts) (ids_of second.parts)) in
           let whole : meaning_cmp m n ≡ parts_cmp l s.parts r.parts = both ∙ ap (λ c. ordering_then c (parts_cmp l s.parts r.parts)) d in
-          subst O (sym whole) (parts_outcome ns g l k s.parts r.parts m n one two (label_same first.label second.label d) (ids_of first.parts) (ids_of second.parts) s.found_parts r.found_parts);
+          subst O (sym whole) (parts_outcome ns g l k s.parts r.parts m n one two (label_same first.label second.label (labels_level l k s.parts r.parts m n one two d)) (ids_of first.parts) (ids_of second.parts) s.found_parts r.found_parts);
     }
 
 pub at_nowhere : (ms : List (Option Meaning)) (d : Difference) (o : Ordering) → Outcome ms d o → Nowhere ≡ d → Equal ≡ o
@@ -346,6 +410,12 @@ app_earlier o [] (y ∷ ys) i h u v e = absurd (cc)
 app_earlier o (x ∷ xs) [] i h u v e = absurd (cc)
 app_earlier o (x ∷ xs) (y ∷ ys) i h u v e = last_earlier xs ys x y i h.0 h.1 u v e
 
+call_earlier : (xs ys : List NodeId) (i : ℕ) → AllByRecursion (λ p. p < i) (places_of xs) → (u v : NodeId) → At u v ≡ parts_apart CallLabel xs ys → place_of u < i
+call_earlier [] [] i h u v e = absurd (cc)
+call_earlier [] (y ∷ ys) i h u v e = absurd (cc)
+call_earlier (x ∷ xs) [] i h u v e = absurd (cc)
+call_earlier (x ∷ xs) (y ∷ ys) i h u v e = last_earlier xs ys x y i h.0 h.1 u v e
+
 some_earlier : (xs ys : List NodeId) (i : ℕ) → AllByRecursion (λ p. p < i) (places_of xs) → (u v : NodeId) → At u v ≡ parts_apart SomeLabel xs ys → place_of u < i
 some_earlier [] [] i h u v e = absurd (cc)
 some_earlier [] (y ∷ ys) i h u v e = absurd (cc)
@@ -354,5 +424,6 @@ some_earlier (x ∷ xs) (y ∷ ys) i h u v e = last_earlier xs ys x y i h.0 h.1 
 
 pub parts_earlier : (l : Label) (xs ys : List NodeId) (i : ℕ) → AllByRecursion (λ p. p < i) (places_of xs) → (u v : NodeId) → At u v ≡ parts_apart (plain_label l) xs ys → place_of u < i
 parts_earlier (App o) xs ys i h u v e = app_earlier (plain_op o) xs ys i h u v e
+parts_earlier Call xs ys i h u v e = call_earlier xs ys i h u v e
 parts_earlier SomeOf xs ys i h u v e = some_earlier xs ys i h u v e
 parts_earlier l xs ys i h u v e = earlier xs ys i h u v e

@@ -25,17 +25,20 @@ use Rattle.smt_leaves.specs.Entities.{bytes_of_type}
 use Rattle.smt_leaves.specs.contracts.entity.EntityTypePartialEq.TheImpl as entity_type_equality
 use Rattle.smt_leaves.specs.declared.entity.EntityType.{EntityType}
 use Rattle.smt_term.proofs.DerivedEquality.{equal_literals, equal_operators}
-use Rattle.smt_term.specs.View.{plain_literal, plain_op, plain_term}
+use Rattle.smt_term.specs.View.{plain_function, plain_literal, plain_op, plain_term}
 use Rattle.smt_term.specs.contracts.op.OpPartialEq.TheImpl as op_equality
 use Rattle.smt_term.specs.contracts.term.TermPrimPartialEq.TheImpl as literal_equality
+use Rattle.std.specs.declared.rc.Rc.{Rc}
+use Rattle.smt_term.specs.declared.function.Uuf.{Uuf as Function}
 use Rattle.smt_term.specs.declared.op.Op.{Op}
-use Rattle.smt_term.specs.declared.op.Op.TheVariants.{And}
+use Rattle.smt_term.specs.declared.op.Op.TheVariants.{And, Uuf}
 use Rattle.smt_term.specs.declared.term.Term.{Term}
 use Rattle.smt_term.specs.declared.term.TermPrim.{TermPrim}
 use Rattle.smt_nodes.proofs.Comparing.{head_found}
 use Rattle.smt_nodes.proofs.Interning.{are_terms_in}
-use Rattle.smt_nodes.proofs.Levels.{label_cmp, label_cmp-is, label_itself, label_same}
+use Rattle.smt_nodes.proofs.Levels.{label_cmp-is, label_itself, label_same}
 use Rattle.smt_nodes.specs.Kinds.{is_option_of_at, is_type_of_at}
+use Rattle.smt_nodes.specs.Order.{label_cmp}
 use Rattle.smt_nodes.specs.View.{place_of, places_of, plain_label}
 use Rattle.smt_nodes.specs.contracts.node.LabelPartialEq.TheImpl as label_equality
 use Rattle.smt_nodes.specs.contracts.node.LabelOrd.TheImpl.Laws as label_laws
@@ -283,19 +286,35 @@ label_equal l m =
 pub label_is : (r : Bool) (l k : Label) (p : PlainLabel) → r ≡ label_equality.ghosts.eq l k → plain_label k ≡ p → (r ≡ true) ↔ (plain_label l ≡ p)
 label_is r l k p e h = (λ t. (label_equal l k).0 (sym e ∙ t) ∙ h, λ q. e ∙ (label_equal l k).1 (q ∙ sym h))
 
-app_label : (o : Op) (ts : PlainTerms) (t : PlainType) → term_label (Application (plain_op o) ts t) ≡ ApplicationLabel (plain_op o)
-app_label And ts t = refl
-app_label o ts t = refl
+-- an operator that is no function
+abbrev pub IsNoFunction : Op → Type 0
+IsNoFunction o = (f : Rc Function Global) → ¬ (o ≡ Uuf f)
 
-pub app_parts : (o : Op) (ts : List PlainTerm) (t : PlainType) → term_parts (Application (plain_op o) (terms ts) t) ≡ map TermMeaning ts
-app_parts And ts t = ap (map TermMeaning) (round ts)
-app_parts o ts t = ap (map TermMeaning) (round ts)
+app_label : (o : Op) → IsNoFunction o → (ts : PlainTerms) (t : PlainType) → term_label (Application (plain_op o) ts t) ≡ ApplicationLabel (plain_op o)
+app_label (Uuf f) n ts t = absurd (n f refl)
+app_label And n ts t = refl
+app_label o n ts t = refl
 
-pub op_is : (r : Bool) (l : Label) (own op : Op) (ts : PlainTerms) (t : PlainType) → r ≡ op_equality.ghosts.eq own op → l ≡ App own → (r ≡ true) ↔ (plain_label l ≡ term_label (Application (plain_op op) ts t))
-op_is r l own op ts t e s = (
-  λ h. ap plain_label s ∙ (ap ApplicationLabel ((equal_operators own op).0 (sym e ∙ h)) ∙ sym (app_label op ts t)),
+pub app_parts : (o : Op) → IsNoFunction o → (ts : List PlainTerm) (t : PlainType) → term_parts (Application (plain_op o) (terms ts) t) ≡ map TermMeaning ts
+app_parts (Uuf f) n ts t = absurd (n f refl)
+app_parts And n ts t = ap (map TermMeaning) (round ts)
+app_parts o n ts t = ap (map TermMeaning) (round ts)
+
+pub call_parts : (o : Op) (f : Rc Function Global) (ts : List PlainTerm) (t : PlainType) → o ≡ Uuf f → term_parts (Application (plain_op o) (terms ts) t) ≡ FunctionMeaning (plain_function f.value) ∷ map TermMeaning ts
+call_parts o f ts t e = ap (λ o. term_parts (Application (plain_op o) (terms ts) t)) e ∙ ap (λ us. FunctionMeaning (plain_function f.value) ∷ map TermMeaning us) (round ts)
+
+applied_type : (o : PlainOp) (ts : PlainTerms) (t : PlainType) → parts_in (TermMeaning (Application o ts t)) ≡ TypeMeaning t ∷ term_parts (Application o ts t)
+applied_type (UufOp f) ts t = refl
+applied_type o ts t = refl
+
+pub parts_applied : (o : Op) (ts : PlainTerms) (t : PlainType) (u : PlainTerm) → u ≡ Application (plain_op o) ts t → parts_in (TermMeaning u) ≡ TypeMeaning t ∷ term_parts (Application (plain_op o) ts t)
+parts_applied o ts t u e = ap (λ u. parts_in (TermMeaning u)) e ∙ applied_type (plain_op o) ts t
+
+pub op_is : (r : Bool) (l : Label) (own op : Op) → IsNoFunction op → (ts : PlainTerms) (t : PlainType) → r ≡ op_equality.ghosts.eq own op → l ≡ App own → (r ≡ true) ↔ (plain_label l ≡ term_label (Application (plain_op op) ts t))
+op_is r l own op n ts t e s = (
+  λ h. ap plain_label s ∙ (ap ApplicationLabel ((equal_operators own op).0 (sym e ∙ h)) ∙ sym (app_label op n ts t)),
   λ h.
-      let both : ApplicationLabel (plain_op own) ≡ ApplicationLabel (plain_op op) = sym (ap plain_label s) ∙ (h ∙ app_label op ts t) in
+      let both : ApplicationLabel (plain_op own) ≡ ApplicationLabel (plain_op op) = sym (ap plain_label s) ∙ (h ∙ app_label op n ts t) in
       let same : plain_op own ≡ plain_op op = cc in
       e ∙ (equal_operators own op).1 same,
 )
@@ -354,8 +373,8 @@ a_variable l id h = absurd (cc)
 pub no_entity_type : (l : Label) (name : List ℕ) → ((ety : EntityType) → l ≡ TEntity ety → ⊥) → (false ≡ true) ↔ (plain_label l ≡ EntityLabel name)
 no_entity_type l name n = (λ h. absurd (false≢true h), λ h. (let (ety, e) = an_entity_type l name h in absurd (n ety e)))
 
-pub no_application : (l : Label) (op : Op) (ts : PlainTerms) (t : PlainType) → ((p : Op) → l ≡ App p → ⊥) → (false ≡ true) ↔ (plain_label l ≡ term_label (Application (plain_op op) ts t))
-no_application l op ts t n = (λ h. absurd (false≢true h), λ h. (let (p, e) = an_application l (plain_op op) (h ∙ app_label op ts t) in absurd (n p e)))
+pub no_application : (l : Label) (op : Op) → IsNoFunction op → (ts : PlainTerms) (t : PlainType) → ((p : Op) → l ≡ App p → ⊥) → (false ≡ true) ↔ (plain_label l ≡ term_label (Application (plain_op op) ts t))
+no_application l op d ts t n = (λ h. absurd (false≢true h), λ h. (let (p, e) = an_application l (plain_op op) (h ∙ app_label op d ts t) in absurd (n p e)))
 
 pub no_literal : (l : Label) (p : PlainLiteral) → ((q : TermPrim) → l ≡ Prim q → ⊥) → (false ≡ true) ↔ (plain_label l ≡ LiteralLabel p)
 no_literal l p n = (λ h. absurd (false≢true h), λ h. (let (q, e) = a_literal l p h in absurd (n q e)))

@@ -12,19 +12,16 @@ use Rattle.smt_meaning.proofs.TermTotal.{types_decided}
 use Rattle.smt_graph.specs.Fits.{applies_no_function, fits, is_term}
 use Rattle.smt_graph.specs.Graphs.{IsGraph}
 use Rattle.smt_graph.specs.Meanings.{all_found, found, meaning_at, meanings, stands_for, terms_in}
-use Rattle.smt_graph.specs.Nodes.{PlainLabel, OptionLabel, BitVecLabel, BoolLabel, EntityLabel, StringLabel, SetLabel, ApplicationLabel, NoneLabel, LiteralLabel, SetOfLabel, SomeLabel, VariableLabel, PlainNode, Meaning, TypeMeaning, TermMeaning}
+use Rattle.smt_graph.specs.Nodes.{PlainLabel, OptionLabel, BitVecLabel, BoolLabel, EntityLabel, StringLabel, SetLabel, FunctionLabel, ApplicationLabel, CallLabel, NoneLabel, LiteralLabel, SetOfLabel, SomeLabel, VariableLabel, PlainNode, Meaning, TypeMeaning, FunctionMeaning, TermMeaning}
 use Rattle.smt_graph.specs.Parts.{parts_in, term_parts}
 use Rattle.smt_graph.proofs.Distinct.{places_differ}
 use Rattle.smt_graph.proofs.Fitting.{are_terms, fitting, parts_fit}
 use Rattle.smt_graph.proofs.Places.{map_back, then_back}
-use Rattle.smt_nodes.specs.Kinds.{ascend_at, is_option_at, is_option_of_at, is_set_at, is_term_at, is_type_at, is_type_of_at, terms_at}
+use Rattle.smt_nodes.specs.Kinds.{are_called_at, ascend_at, is_function_at, is_option_at, is_option_of_at, is_set_at, is_term_at, is_type_at, is_type_of_at, terms_at}
 use Rattle.smt_nodes.specs.View.{ids_of, place_of, places_of, plain_label, plain_node}
 use Rattle.smt_nodes.specs.declared.node.Label.{Label}
 use Rattle.smt_nodes.specs.declared.node.Node.{Node}
 use Rattle.smt_nodes.specs.declared.id.NodeId.{NodeId}
-use Rattle.smt_term.specs.View.{plain_op}
-use Rattle.smt_term.specs.declared.op.Op.{Op}
-use Rattle.smt_term.specs.declared.op.Op.TheVariants.{And}
 
 -- ---- what is found first
 pub first_found : (ms : List (Option Meaning)) (xs : List NodeId) (d : NodeId) (m : Meaning) (ps : List Meaning) → all_found ms (places_of xs) ≡ Some (m ∷ ps) → found ms (place_of (get_or xs 0 d)) ≡ Some m
@@ -362,10 +359,58 @@ set_then ms i is h = sym (ap (λ b. b && ascend_at (terms_at ms is)) h) ∙ set_
 pub set_else : (ms : List (Option Meaning)) (i : ℕ) (is : List ℕ) → is_set_at (found ms i) ≡ false → false ≡ is_some (option_and_then (stands_for SetOfLabel) (all_found ms (i ∷ is)))
 set_else ms i is h = sym (ap (λ b. b && ascend_at (terms_at ms is)) h) ∙ set_fits ms i is
 
--- no operator of the program is an uninterpreted function
-pub no_function : (o : Op) → applies_no_function (ApplicationLabel (plain_op o)) ≡ true
-no_function And = refl
-no_function o = refl
+-- ---- functions and calls
+-- no function has one part, or more than two
+function_few_at : (id : List ℕ) (x : Option Meaning) → false ≡ is_some (option_and_then (stands_for (FunctionLabel id)) (option_and_then (λ m. Some (m ∷ [])) x))
+function_few_at id None = refl
+function_few_at id (Some (TypeMeaning t)) = refl
+function_few_at id (Some m) = refl
+
+function_many_at : (id : List ℕ) (x y z : Option Meaning) (w : Option (List Meaning)) → false ≡ is_some (option_and_then (stands_for (FunctionLabel id)) (option_and_then (λ m. option_map (λ rest. m ∷ rest) (more y z w)) x))
+function_many_at id None y z w = refl
+function_many_at id (Some m) None z w = refl
+function_many_at id (Some m) (Some n) None w = refl
+function_many_at id (Some m) (Some n) (Some k) None = refl
+function_many_at id (Some (TypeMeaning t)) (Some (TypeMeaning u)) (Some k) (Some ms) = refl
+function_many_at id (Some (TypeMeaning t)) (Some n) (Some k) (Some ms) = refl
+function_many_at id (Some m) (Some n) (Some k) (Some ms) = refl
+
+pub function_of_one : (id : List ℕ) (ms : List (Option Meaning)) (ids : List NodeId) → 1 ≤ length ids → length ids < 2 → false ≡ Fits (FunctionLabel id) ms ids
+function_of_one id ms [] h k = absurd (omega arith)
+function_of_one id ms (x ∷ []) h k = function_few_at id (found ms (place_of x))
+function_of_one id ms (x ∷ y ∷ ids) h k = absurd (omega arith)
+
+pub function_of_more : (id : List ℕ) (ms : List (Option Meaning)) (ids : List NodeId) → 3 ≤ length ids → false ≡ Fits (FunctionLabel id) ms ids
+function_of_more id ms [] h = absurd (omega arith)
+function_of_more id ms (x ∷ []) h = absurd (omega arith)
+function_of_more id ms (x ∷ y ∷ []) h = absurd (omega arith)
+function_of_more id ms (x ∷ y ∷ z ∷ ids) h = function_many_at id (found ms (place_of x)) (found ms (place_of y)) (found ms (place_of z)) (all_found ms (places_of ids))
+
+called_at : (x : Option Meaning) (y : Option (List Meaning)) (b : Bool) → b ≡ elim y [ None ↦ false | Some ps ↦ list_all is_term ps ] → (is_function_at x && b) ≡ are_called_at (option_and_then (λ m. option_map (λ rest. m ∷ rest) y) x)
+called_at None y b h = refl
+called_at (Some (FunctionMeaning f)) None b h = h
+called_at (Some (FunctionMeaning f)) (Some ps) b h = h
+called_at (Some m) None b h = refl
+called_at (Some m) (Some ps) b h = refl
+
+pub called_fits : (ms : List (Option Meaning)) (i : ℕ) (is : List ℕ) → (is_function_at (found ms i) && list_all (λ i. is_term_at (found ms i)) is) ≡ are_called_at (all_found ms (i ∷ is))
+called_fits ms i is = called_at (found ms i) (all_found ms is) (list_all (λ i. is_term_at (found ms i)) is) (listed ms is)
+
+call_at : (x : Option Meaning) (y : Option (List Meaning)) → (is_type_at x && are_called_at y) ≡ is_some (option_and_then (stands_for CallLabel) (option_and_then (λ m. option_map (λ rest. m ∷ rest) y) x))
+call_at None y = refl
+call_at (Some (TypeMeaning t)) None = refl
+call_at (Some (TypeMeaning t)) (Some []) = refl
+call_at (Some (TypeMeaning t)) (Some (FunctionMeaning f ∷ ps)) = first_of_five (list_all is_term ps) true refl ∙ sym (parts_fit CallLabel (TypeMeaning t ∷ FunctionMeaning f ∷ ps))
+call_at (Some (TypeMeaning t)) (Some (m ∷ ps)) = refl
+call_at (Some m) None = refl
+call_at (Some m) (Some ps) = refl
+
+pub call_fits : (ms : List (Option Meaning)) (i : ℕ) (is : List ℕ) → (is_type_at (found ms i) && are_called_at (all_found ms is)) ≡ is_some (option_and_then (stands_for CallLabel) (all_found ms (i ∷ is)))
+call_fits ms i is = call_at (found ms i) (all_found ms is)
+
+-- the rest decides where a first test holds
+pub rest_decides : (a b r : Bool) → a ≡ true → (a && b) ≡ r → b ≡ r
+rest_decides a b r h e = sym (ap (λ a. a && b) h) ∙ e
 
 -- ---- nodes
 pub fits_by : (ns : List PlainNode) (n : Node) (l : Label) (ids : List NodeId) (r : Bool) → n.label ≡ l → ids ≡ ids_of n.parts → r ≡ Fits (plain_label l) (meanings ns) ids → r ≡ fits ns (plain_node n)

@@ -1,22 +1,25 @@
 -- What nodes of terms stand for, by what their parts stand for.
 use Rattle.std.proofs.Common.{◌≡◌, ℕ, ◌+◌, ◌<◌, List, [], ◌∷◌, ◌++◌, add-one, get_or, length, map, take, true, refl, sym, ap, ◌∙◌}
 use Rattle.std.proofs.Math.Seq.{take-suc}
-use Rattle.std.proofs.lemmas.List.{map-append}
+use Rattle.std.proofs.lemmas.List.{append_assoc, map-append}
 use Rattle.std.specs.Bool.{then_some}
 use Rattle.std.specs.Prelude.{Result, Ok, Err, IfOk, Option, Some, option_and_then, option_map}
-use Rattle.smt_meaning.specs.Plain.{PlainType, OptionType, SetType, PlainLiteral, PlainTerm, Application, NoneTerm, LiteralTerm, SetTerm, SomeTerm, VariableTerm, terms}
+use Rattle.smt_meaning.specs.Plain.{PlainFunction, PlainType, OptionType, SetType, PlainLiteral, PlainTerm, Application, NoneTerm, LiteralTerm, SetTerm, SomeTerm, UufOp, VariableTerm, terms}
 use Rattle.smt_meaning.specs.TermOrder.{term_cmp}
 use Rattle.smt_meaning.specs.Types.{literal_type, type_eq, type_of}
 use Rattle.smt_meaning.specs.ValueOrder.{ascends}
 use Rattle.smt_meaning.proofs.TermTotal.{types_decided}
 use Rattle.smt_graph.specs.Meanings.{all_found, found, meaning_at, meanings, stands_for, terms_in, typed_as}
-use Rattle.smt_graph.specs.Nodes.{NoneLabel, LiteralLabel, SetOfLabel, SomeLabel, VariableLabel, PlainNode, Meaning, TypeMeaning, TermMeaning}
+use Rattle.smt_graph.specs.Nodes.{CallLabel, NoneLabel, LiteralLabel, SetOfLabel, SomeLabel, VariableLabel, PlainNode, Meaning, TypeMeaning, FunctionMeaning, TermMeaning}
 use Rattle.smt_graph.proofs.Places.{map_back, some_same, test_back, then_back}
 use Rattle.smt_graph.proofs.Whole.{typed_back}
 use Rattle.smt_term.specs.View.{plain_op, plain_term}
 use Rattle.smt_term.specs.declared.term.Term.{Term}
+use Rattle.std.specs.declared.alloc.Global.{Global}
+use Rattle.std.specs.declared.rc.Rc.{Rc}
+use Rattle.smt_term.specs.declared.function.Uuf.{Uuf as Function}
 use Rattle.smt_term.specs.declared.op.Op.{Op}
-use Rattle.smt_term.specs.declared.op.Op.TheVariants.{And}
+use Rattle.smt_term.specs.declared.op.Op.TheVariants.{And, Uuf}
 use Rattle.smt_nodes.specs.View.{place_of, places_of, plain_label}
 use Rattle.smt_nodes.specs.declared.id.NodeId.{NodeId}
 use Rattle.smt_nodes.specs.declared.node.Label.TheVariants.{App}
@@ -61,13 +64,18 @@ same_type t = (types_decided t t).1 refl
 typed_right : (u : PlainTerm) (t : PlainType) → type_of u ≡ t → typed_as t u ≡ Some (TermMeaning u)
 typed_right u t e = ap (λ b. then_some b (TermMeaning u)) ((types_decided (type_of u) t).1 e)
 
-made_app : (o : Op) (t : PlainType) (ts : List PlainTerm) → stands_for (plain_label (App o)) (TypeMeaning t ∷ map TermMeaning ts) ≡ option_and_then (typed_as t) (option_map (λ ts. Application (plain_op o) (terms ts) t) (terms_in (map TermMeaning ts)))
-made_app And t ts = refl
-made_app o t ts = refl
+made_app : (o : Op) → ((f : Rc Function Global) → ¬ (o ≡ Uuf f)) → (t : PlainType) (ts : List PlainTerm) → stands_for (plain_label (App o)) (TypeMeaning t ∷ map TermMeaning ts) ≡ option_and_then (typed_as t) (option_map (λ ts. Application (plain_op o) (terms ts) t) (terms_in (map TermMeaning ts)))
+made_app (Uuf f) n t ts = absurd (n f refl)
+made_app And n t ts = refl
+made_app o n t ts = refl
 
-pub app_means : (o : Op) (t : PlainType) (ts : List PlainTerm) → stands_for (plain_label (App o)) (TypeMeaning t ∷ map TermMeaning ts) ≡ Some (TermMeaning (Application (plain_op o) (terms ts) t))
-app_means o t ts =
-    made_app o t ts ∙ (ap (λ x. option_and_then (typed_as t) (option_map (λ ts. Application (plain_op o) (terms ts) t) x)) (are_terms_in ts) ∙ typed_right (Application (plain_op o) (terms ts) t) t refl)
+pub app_means : (o : Op) → ((f : Rc Function Global) → ¬ (o ≡ Uuf f)) → (t : PlainType) (ts : List PlainTerm) → stands_for (plain_label (App o)) (TypeMeaning t ∷ map TermMeaning ts) ≡ Some (TermMeaning (Application (plain_op o) (terms ts) t))
+app_means o n t ts =
+    made_app o n t ts ∙ (ap (λ x. option_and_then (typed_as t) (option_map (λ ts. Application (plain_op o) (terms ts) t) x)) (are_terms_in ts) ∙ typed_right (Application (plain_op o) (terms ts) t) t refl)
+
+pub call_means : (f : PlainFunction) (t : PlainType) (ts : List PlainTerm) → stands_for CallLabel (TypeMeaning t ∷ FunctionMeaning f ∷ map TermMeaning ts) ≡ Some (TermMeaning (Application (UufOp f) (terms ts) t))
+call_means f t ts =
+    ap (λ x. option_and_then (typed_as t) (option_map (λ ts. Application (UufOp f) (terms ts) t) x)) (are_terms_in ts) ∙ typed_right (Application (UufOp f) (terms ts) t) t refl
 
 pub none_means : (t : PlainType) → stands_for NoneLabel (TypeMeaning (OptionType t) ∷ []) ≡ Some (TermMeaning (NoneTerm t))
 none_means t = typed_right (NoneTerm t) (OptionType t) refl
@@ -89,11 +97,11 @@ set_means t ts m h =
     ap (λ u. Some (TermMeaning u)) c ∙ ap Some k
 
 -- one number more, for the next term
-pub pushed : (ns : List PlainNode) (parts more : List NodeId) (part : NodeId) (m : Meaning) (ts : List Term) (i : ℕ) (t : Term) → more ≡ parts ++ part ∷ []
-    → all_found (meanings ns) (places_of parts) ≡ Some (m ∷ map TermMeaning (map plain_term (take i ts))) → meaning_at ns (place_of part) ≡ Some (TermMeaning (plain_term t)) → i < length ts → t ≡ get_or ts i t
-    → all_found (meanings ns) (places_of more) ≡ Some (m ∷ map TermMeaning (map plain_term (take (i + 1) ts)))
-pushed ns parts more part m ts i t e h k b s =
+pub pushed : (ns : List PlainNode) (parts more : List NodeId) (part : NodeId) (ms : List Meaning) (ts : List Term) (i : ℕ) (t : Term) → more ≡ parts ++ part ∷ []
+    → all_found (meanings ns) (places_of parts) ≡ Some (ms ++ map TermMeaning (map plain_term (take i ts))) → meaning_at ns (place_of part) ≡ Some (TermMeaning (plain_term t)) → i < length ts → t ≡ get_or ts i t
+    → all_found (meanings ns) (places_of more) ≡ Some (ms ++ map TermMeaning (map plain_term (take (i + 1) ts)))
+pushed ns parts more part ms ts i t e h k b s =
     let one : take (i + 1) ts ≡ take i ts ++ t ∷ [] = ap (λ n. take n ts) (add-one i) ∙ (take-suc ts i t b ∙ ap (λ t. take i ts ++ t ∷ []) (sym s)) in
     let terms : map TermMeaning (map plain_term (take (i + 1) ts)) ≡ map TermMeaning (map plain_term (take i ts)) ++ TermMeaning (plain_term t) ∷ [] =
     ap (λ l. map TermMeaning (map plain_term l)) one ∙ (ap (map TermMeaning) (map-append plain_term (take i ts) (t ∷ [])) ∙ map-append TermMeaning (map plain_term (take i ts)) (plain_term t ∷ [])) in
-    ap (all_found (meanings ns)) (ap places_of e ∙ map-append place_of parts (part ∷ [])) ∙ (more_found (meanings ns) (places_of parts) _ (place_of part) (TermMeaning (plain_term t)) h k ∙ ap (λ l. Some (m ∷ l)) (sym terms))
+    ap (all_found (meanings ns)) (ap places_of e ∙ map-append place_of parts (part ∷ [])) ∙ (more_found (meanings ns) (places_of parts) _ (place_of part) (TermMeaning (plain_term t)) h k ∙ (ap Some (append_assoc ms (map TermMeaning (map plain_term (take i ts))) (TermMeaning (plain_term t) ∷ [])) ∙ ap (λ l. Some (ms ++ l)) (sym terms)))

@@ -15,9 +15,11 @@ use Rattle.smt_meaning.proofs.SameTerm.{op_same, literal_same}
 use Rattle.smt_meaning.proofs.TermTotal.{ops_decided, terms_decided}
 use Rattle.smt_meaning.proofs.ValueOrder.{text_itself, text_same, then_equal}
 use Rattle.smt_leaves.specs.Entities.{bytes_of_type}
+use Rattle.smt_term.specs.declared.op.Op.{Op}
 use Rattle.smt_term.proofs.DerivedOrder.{literal_cmp-is, op_cmp-is}
 use Rattle.smt_term.specs.View.{plain_literal, plain_op}
-use Rattle.smt_graph.specs.Nodes.{PlainLabel, OptionLabel, BitVecLabel, BoolLabel, EntityLabel, ExtensionLabel, StringLabel, RecordLabel, SetLabel, FunctionLabel, ApplicationLabel, CallLabel, NoneLabel, LiteralLabel, RecordOfLabel, SetOfLabel, SomeLabel, VariableLabel, PlainNode}
+use Rattle.smt_graph.specs.Nodes.{BitVecLabel, EntityLabel, FunctionLabel, ApplicationLabel, LiteralLabel, VariableLabel, PlainNode}
+use Rattle.smt_nodes.specs.Order.{first_cmp, label_cmp}
 use Rattle.smt_nodes.specs.View.{ids_of, place_of, places_of, plain_label, plain_node}
 use Rattle.smt_nodes.specs.contracts.node.LabelOrd.TheImpl as label_order
 use Rattle.smt_nodes.specs.contracts.id.NodeIdOrd.TheImpl as id_order
@@ -25,51 +27,31 @@ use Rattle.smt_nodes.specs.contracts.node.NodeOrd.TheImpl as node_order
 use Rattle.smt_nodes.specs.contracts.table.KeyOrd.TheImpl as key_order
 use Rattle.smt_nodes.specs.declared.id.NodeId.{NodeId}
 use Rattle.smt_nodes.specs.declared.node.Label.{Label}
-use Rattle.smt_nodes.specs.declared.node.Label.TheVariants.{TOption, TBitvec, TBool, TEntity, TString, TSet, App, NoneOf, Prim, SetOf, SomeOf, Var}
+use Rattle.smt_nodes.specs.declared.node.Label.TheVariants.{TOption, TBitvec, TBool, TEntity, TString, TSet, Fun, App, Call, NoneOf, Prim, SetOf, SomeOf, Var}
 use Rattle.smt_nodes.specs.declared.node.Node.{Node}
 use Rattle.smt_nodes.specs.declared.table.Key.{Key}
-
--- the order of plain labels: by their place, and those of one place by what they hold
-abbrev pub label_place : PlainLabel → ℕ
-label_place OptionLabel = 0
-label_place (BitVecLabel n) = 1
-label_place BoolLabel = 2
-label_place (EntityLabel e) = 3
-label_place (ExtensionLabel k) = 4
-label_place StringLabel = 5
-label_place (RecordLabel names) = 6
-label_place SetLabel = 7
-label_place (FunctionLabel id) = 8
-label_place (ApplicationLabel o) = 9
-label_place CallLabel = 10
-label_place NoneLabel = 11
-label_place (LiteralLabel l) = 12
-label_place (RecordOfLabel names) = 13
-label_place SetOfLabel = 14
-label_place SomeLabel = 15
-label_place (VariableLabel id) = 16
-
-abbrev pub label_cmp : PlainLabel → PlainLabel → Ordering
-label_cmp (BitVecLabel n) (BitVecLabel m) = nat_cmp n m
-label_cmp (EntityLabel e) (EntityLabel f) = text_cmp e f
-label_cmp (ApplicationLabel o) (ApplicationLabel p) = op_cmp o p
-label_cmp (LiteralLabel l) (LiteralLabel m) = literal_cmp l m
-label_cmp (VariableLabel a) (VariableLabel b) = text_cmp a b
-label_cmp l m = nat_cmp (label_place l) (label_place m)
 
 pub label_cmp-is : (l m : Label) → label_order.ghosts.cmp l m ≡ label_cmp (plain_label l) (plain_label m)
 label_cmp-is (TBitvec n) (TBitvec k) = refl
 label_cmp-is (TEntity e) (TEntity f) = refl
+label_cmp-is (Fun a) (Fun b) = refl
 label_cmp-is (App o) (App p) = op_cmp-is o p
 label_cmp-is (Prim a) (Prim b) = literal_cmp-is a b
 label_cmp-is (Var a) (Var b) = refl
 label_cmp-is l TOption = refl
 label_cmp-is l m = refl
 
+-- an application compares with any label but a call by the order of labels
+pub app_first : (l k : Label) (o : Op) → l ≡ App o → ¬ (k ≡ Call) → label_cmp (plain_label l) (plain_label k) ≡ first_cmp (plain_label l) (plain_label k)
+app_first (App p) Call o e n = absurd (n refl)
+app_first (App p) k o e n = refl
+app_first l k o e n = cc
+
 -- ---- equal labels
 pub label_same : (l m : Label) → label_cmp (plain_label l) (plain_label m) ≡ Equal → plain_label l ≡ plain_label m
 label_same (TBitvec n) (TBitvec k) h = ap BitVecLabel (nat_cmp-IsAntisymmetric (bits_in n) (bits_in k) h)
 label_same (TEntity e) (TEntity f) h = ap EntityLabel (text_same (bytes_of_type e) (bytes_of_type f) h)
+label_same (Fun a) (Fun b) h = ap FunctionLabel (text_same (rc_str_bytes a) (rc_str_bytes b) h)
 label_same (App o) (App p) h = ap ApplicationLabel (op_same (plain_op o) (plain_op p) h)
 label_same (Prim a) (Prim b) h = ap LiteralLabel (literal_same (plain_literal a) (plain_literal b) h)
 label_same (Var a) (Var b) h = ap VariableLabel (text_same (rc_str_bytes a) (rc_str_bytes b) h)
@@ -77,6 +59,7 @@ label_same TOption TOption h = refl
 label_same TBool TBool h = refl
 label_same TString TString h = refl
 label_same TSet TSet h = refl
+label_same Call Call h = refl
 label_same NoneOf NoneOf h = refl
 label_same SetOf SetOf h = refl
 label_same SomeOf SomeOf h = refl
@@ -88,12 +71,13 @@ nat_itself n = sym (nat_cmp_is n n Equal refl)
 pub literal_itself : (l : PlainLiteral) → literal_cmp l l ≡ Equal
 literal_itself l = (Equal-is (literal_cmp l l)).0 ((terms_decided (LiteralTerm l) (LiteralTerm l)).1 refl)
 
-op_itself : (o : PlainOp) → op_cmp o o ≡ Equal
+pub op_itself : (o : PlainOp) → op_cmp o o ≡ Equal
 op_itself o = (Equal-is (op_cmp o o)).0 ((ops_decided o o).1 refl)
 
 pub label_itself : (l : Label) → label_cmp (plain_label l) (plain_label l) ≡ Equal
 label_itself (TBitvec n) = nat_itself (bits_in n)
 label_itself (TEntity e) = text_itself (bytes_of_type e)
+label_itself (Fun a) = text_itself (rc_str_bytes a)
 label_itself (App o) = op_itself (plain_op o)
 label_itself (Prim a) = literal_itself (plain_literal a)
 label_itself (Var a) = text_itself (rc_str_bytes a)

@@ -16,6 +16,7 @@ use Rattle.smt_graph.proofs.Distinct.{no_older}
 use Rattle.smt_graph.proofs.Growth.{contains_at, grow, place_in}
 use Rattle.smt_graph.proofs.Places.{get_last, get_split, get_stays, last_has, meaning_stays, some_same}
 use Rattle.smt_nodes.specs.Index.{id_at, number_of, IsIndex, IsKey}
+use Rattle.smt_nodes.specs.Order.{label_cmp}
 use Rattle.smt_nodes.specs.View.{ids_of, place_of, places_of, plain_label, plain_node}
 use Rattle.smt_nodes.specs.contracts.node.LabelOrd.TheImpl as label_order
 use Rattle.smt_nodes.specs.contracts.node.NodeOrd.TheImpl as node_order
@@ -25,7 +26,7 @@ use Rattle.smt_nodes.specs.declared.node.Label.{Label}
 use Rattle.smt_nodes.specs.declared.node.Node.{Node}
 use Rattle.smt_nodes.specs.declared.table.Key.{Key}
 use Rattle.smt_nodes.specs.declared.table.Table.{Table}
-use Rattle.smt_nodes.proofs.Levels.{key_equal, key_same, label_cmp, label_cmp-is, label_equal, label_kept, node_equal, node_same}
+use Rattle.smt_nodes.proofs.Levels.{key_equal, key_same, label_cmp-is, label_equal, label_kept, node_equal, node_same}
 
 -- what a map finds after one entry more, by whether it is that entry
 look : {X : Type 0} (b : Bool) (new x : X) (o : Option X) → cond b (Some new) o ≡ Some x → ((b ≡ true) × (new ≡ x)) ⊎ ((b ≡ false) × (o ≡ Some x))

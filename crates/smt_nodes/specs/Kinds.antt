@@ -1,13 +1,15 @@
 -- What stands at a place, by its kind and its type.
-use Rattle.std.specs.Prelude.{ℕ, Bool, true, false, List, Option, Some, None, bytes_eq, is_some, nat_eq, option_and_then}
+use Rattle.std.specs.List.{list_all}
+use Rattle.std.specs.Prelude.{ℕ, Bool, true, false, List, ◌∷◌, Option, Some, None, bytes_eq, is_some, nat_eq, option_and_then}
 use Rattle.smt_meaning.specs.Plain.{OptionType, PlainLiteral, BitVecLiteral, BoolLiteral, EntityLiteral, StringLiteral, PlainTerm}
 use Rattle.smt_meaning.specs.TermOrder.{term_cmp}
 use Rattle.smt_meaning.specs.ValueOrder.{ascends}
 use Rattle.smt_meaning.specs.Types.{inner_type, is_set, literal_type, type_eq, type_of}
 use Rattle.smt_graph.specs.Meanings.{all_found, terms_in}
-use Rattle.smt_graph.specs.Nodes.{PlainLabel, OptionLabel, BitVecLabel, BoolLabel, EntityLabel, ExtensionLabel, StringLabel, RecordLabel, SetLabel, FunctionLabel, Meaning, TypeMeaning, TermMeaning}
+use Rattle.smt_graph.specs.Fits.{is_term}
+use Rattle.smt_graph.specs.Nodes.{PlainLabel, OptionLabel, BitVecLabel, BoolLabel, EntityLabel, ExtensionLabel, StringLabel, RecordLabel, SetLabel, FunctionLabel, Meaning, TypeMeaning, FunctionMeaning, TermMeaning}
 
--- labels of types, and of terms
+-- labels of types, of functions and of terms
 abbrev pub is_type_label : PlainLabel → Bool
 is_type_label OptionLabel = true
 is_type_label (BitVecLabel n) = true
@@ -18,6 +20,10 @@ is_type_label StringLabel = true
 is_type_label (RecordLabel names) = true
 is_type_label SetLabel = true
 is_type_label l = false
+
+abbrev pub is_function_label : PlainLabel → Bool
+is_function_label (FunctionLabel id) = true
+is_function_label l = false
 
 abbrev pub is_term_label : PlainLabel → Bool
 is_term_label OptionLabel = false
@@ -39,10 +45,14 @@ is_literal_label (EntityLiteral e i) (EntityLabel f) = bytes_eq e f
 is_literal_label (StringLiteral s) StringLabel = true
 is_literal_label l m = false
 
--- it is a type; a term
+-- it is a type; a function; a term
 abbrev pub is_type_at : Option Meaning → Bool
 is_type_at (Some (TypeMeaning t)) = true
 is_type_at m = false
+
+abbrev pub is_function_at : Option Meaning → Bool
+is_function_at (Some (FunctionMeaning f)) = true
+is_function_at m = false
 
 abbrev pub is_term_at : Option Meaning → Bool
 is_term_at (Some (TermMeaning t)) = true
@@ -64,6 +74,15 @@ is_type_of_at l m = false
 abbrev pub is_option_of_at : Option Meaning → Option Meaning → Bool
 is_option_of_at (Some (TypeMeaning t)) (Some (TermMeaning u)) = type_eq (OptionType (type_of u)) t
 is_option_of_at m n = false
+
+-- there is a function, and there are terms behind it
+abbrev pub are_called : List Meaning → Bool
+are_called (FunctionMeaning f ∷ ms) = list_all is_term ms
+are_called ms = false
+
+abbrev pub are_called_at : Option (List Meaning) → Bool
+are_called_at None = false
+are_called_at (Some ms) = are_called ms
 
 -- the terms at these places, none where one of them has no term
 abbrev pub terms_at : List (Option Meaning) → List ℕ → Option (List PlainTerm)

@@ -4,4 +4,5 @@ pub mod Interned
 pub mod Kinds
 pub mod Laws
 pub mod Order
+pub mod Subject
 pub mod View

@@ -2,7 +2,7 @@
 use Rattle.std.specs.Prelude.{ℕ, List, [], map}
 use Rattle.std.specs.Rc.{rc_slice_items, rc_str_bytes}
 use Rattle.smt_bits.specs.Width.{bits_in}
-use Rattle.smt_graph.specs.Nodes.{PlainLabel, OptionLabel, BitVecLabel, BoolLabel, EntityLabel, StringLabel, SetLabel, ApplicationLabel, NoneLabel, LiteralLabel, SetOfLabel, SomeLabel, VariableLabel, PlainNode}
+use Rattle.smt_graph.specs.Nodes.{PlainLabel, OptionLabel, BitVecLabel, BoolLabel, EntityLabel, StringLabel, SetLabel, FunctionLabel, ApplicationLabel, CallLabel, NoneLabel, LiteralLabel, SetOfLabel, SomeLabel, VariableLabel, PlainNode}
 use Rattle.smt_leaves.specs.Entities.{bytes_of_type}
 use Rattle.smt_term.specs.View.{plain_literal, plain_op}
 use Rattle.smt_nodes.specs.declared.id.IdList.{IdList}
@@ -10,7 +10,7 @@ use Rattle.smt_nodes.specs.declared.id.Items.{Items}
 use Rattle.smt_nodes.specs.declared.id.Items.TheVariants.{Empty, One, Two, Three, More}
 use Rattle.smt_nodes.specs.declared.id.NodeId.{NodeId}
 use Rattle.smt_nodes.specs.declared.node.Label.{Label}
-use Rattle.smt_nodes.specs.declared.node.Label.TheVariants.{TOption, TBitvec, TBool, TEntity, TString, TSet, App, NoneOf, Prim, SetOf, SomeOf, Var}
+use Rattle.smt_nodes.specs.declared.node.Label.TheVariants.{TOption, TBitvec, TBool, TEntity, TString, TSet, Fun, App, Call, NoneOf, Prim, SetOf, SomeOf, Var}
 use Rattle.smt_nodes.specs.declared.node.Node.{Node}
 
 abbrev pub place_of : NodeId → ℕ
@@ -37,7 +37,9 @@ plain_label TBool = BoolLabel
 plain_label (TEntity e) = EntityLabel (bytes_of_type e)
 plain_label TString = StringLabel
 plain_label TSet = SetLabel
+plain_label (Fun id) = FunctionLabel (rc_str_bytes id)
 plain_label (App o) = ApplicationLabel (plain_op o)
+plain_label Call = CallLabel
 plain_label NoneOf = NoneLabel
 plain_label (Prim literal) = LiteralLabel (plain_literal literal)
 plain_label SetOf = SetOfLabel

@@ -1,19 +1,21 @@
-// The number of a term, found by a look at one node after the other.
+// The number of a term, a type or a function, found by a look at one node after the other.
 ghost use Rattle.std.specs.Prelude.{◌≡◌, ◌∷◌, ◌↔◌, [], IfNone, IfSome, IsTrue, Some, map};
 ghost use Rattle.smt_graph.specs.Meanings.{all_found, meanings};
-ghost use Rattle.smt_graph.specs.Nodes.{TermMeaning, TypeMeaning};
-ghost use Rattle.smt_graph.specs.Parts.{parts_in, term_label, type_label, type_parts};
-ghost use Rattle.smt_meaning.specs.Plain.{OptionType, SetType};
+ghost use Rattle.smt_graph.specs.Nodes.{FunctionMeaning, TermMeaning, TypeMeaning};
+ghost use Rattle.smt_graph.specs.Parts.{label_in, parts_in, term_label, term_parts, type_label, type_parts};
+ghost use Rattle.smt_meaning.specs.Plain.{Application, OptionType, PlainTerms, PlainType, SetType, terms};
 ghost use Rattle.smt_nodes.specs.View.{places_of, plain_label};
-ghost use Rattle.smt_term.specs.View.{plain_term, plain_type};
+ghost use Rattle.smt_term.specs.View.{plain_function, plain_op, plain_term, plain_type};
 
 use crate::id::NodeId;
 use crate::interner::Interner;
 use crate::node::Label;
-use smt_term::{Term, TermType};
+use crate::subject::Subject;
+use smt_term::{Op, Term, TermType, Uuf};
 
 impl Interner {
     ghost use Rattle.smt_nodes.specs.Interned.{meaning_in, nodes_of};
+    ghost use Rattle.smt_nodes.specs.Subject.{meaning_of};
 
     /// The number that stands for a term, None exactly where none does. Takes no memory; it compares the term with one node
     /// after the other.
@@ -21,15 +23,34 @@ impl Interner {
         ensures found { IfSome result (λ id. meaning_in self.now id ≡ Some (TermMeaning (plain_term term.now))) }
         ensures none { IfNone result ((id : NodeId) → meaning_in self.now id ≡ Some (TermMeaning (plain_term term.now)) → ⊥) }
     {
+        self.find_subject(Subject::Term(term))
+    }
+
+    /// The same of a term, a type or a function.
+    pub fn find_subject(&self, subject: Subject<'_>) -> Option<NodeId>
+        ensures found { IfSome result (λ id. meaning_in self.now id ≡ Some (meaning_of subject.entry)) }
+        ensures none { IfNone result ((id : NodeId) → meaning_in self.now id ≡ Some (meaning_of subject.entry) → ⊥) }
+    {
         for place in 0..self.len() {
             let id = NodeId {
                 place: place as u32,
             };
-            if self.stands_for_term(id, term) {
+            if self.stands_for(id, subject) {
                 return Some(id);
             }
         }
         None
+    }
+
+    // Whether the number stands for it.
+    fn stands_for(&self, id: NodeId, subject: Subject<'_>) -> bool
+        ensures { IsTrue result ↔ (meaning_in self.now id ≡ Some (meaning_of subject.entry)) }
+    {
+        match subject {
+            Subject::Term(term) => self.stands_for_term(id, term),
+            Subject::Type(ty) => self.stands_for_type(id, ty),
+            Subject::Function(function) => self.stands_for_function(id, function),
+        }
     }
 
     // Whether the number stands for the term: it has the term's label, and its parts are those of the term.
@@ -52,8 +73,8 @@ impl Interner {
             return false;
         };
         match term {
-            Term::App { args, ret_ty, .. } => {
-                self.stands_for_type(*ty, ret_ty) && self.stand_for_terms(inner, args.items())
+            Term::App { op, args, ret_ty } => {
+                self.stands_for_type(*ty, ret_ty) && self.are_applied(inner, op, args.items())
             }
             Term::None(held) => self.stands_for_option(*ty, held) && inner.is_empty(),
             Term::Prim(literal) => self.is_type_of(*ty, literal) && inner.is_empty(),
@@ -66,6 +87,23 @@ impl Interner {
                 [_, _, ..] => false,
             },
             Term::Var(variable) => self.stands_for_type(*ty, &variable.ty) && inner.is_empty(),
+        }
+    }
+
+    // Whether the numbers stand for the parts of the operator's application that come behind the claimed type: for the
+    // function, where the operator is one, and for the arguments.
+    #[cycle(find)]
+    fn are_applied(&self, ids: &[NodeId], op: &Op, args: &[Term]) -> bool
+        ensures { (t : PlainType) → IsTrue result ↔ (all_found (meanings (nodes_of self.now)) (places_of ids.now) ≡ Some (term_parts (Application (plain_op op.now) (terms (map plain_term args.now)) t))) }
+    {
+        match op {
+            Op::Uuf(function) => match ids.split_first() {
+                Some((id, inner)) => {
+                    self.stands_for_function(*id, function) && self.stand_for_terms(inner, args)
+                }
+                None => false,
+            },
+            _ => self.stand_for_terms(ids, args),
         }
     }
 
@@ -83,6 +121,32 @@ impl Interner {
             }
         }
         true
+    }
+
+    // Whether the number stands for the function: it has the function's label, and its parts are those of the function.
+    fn stands_for_function(&self, id: NodeId, function: &Uuf) -> bool
+        ensures { IsTrue result ↔ (meaning_in self.now id ≡ Some (FunctionMeaning (plain_function function.now))) }
+    {
+        match self.label(id) {
+            Some(label) => {
+                label.is_of_function(function)
+                    && self.are_parts_of_function(self.parts(id), function)
+            }
+            None => false,
+        }
+    }
+
+    // Whether the numbers stand for the types of the function.
+    fn are_parts_of_function(&self, parts: &[NodeId], function: &Uuf) -> bool
+        ensures { IsTrue result ↔ (all_found (meanings (nodes_of self.now)) (places_of parts.now) ≡ Some (parts_in (FunctionMeaning (plain_function function.now)))) }
+    {
+        match parts.split_first() {
+            Some((arg, others)) => {
+                self.stands_for_type(*arg, &function.arg)
+                    && self.are_one_type(others, &function.out)
+            }
+            None => false,
+        }
     }
 
     // Whether the number stands for options of this type.
@@ -144,10 +208,7 @@ impl Label {
         ensures { IsTrue result ↔ (plain_label self.now ≡ term_label (plain_term term.now)) }
     {
         match term {
-            Term::App { op, .. } => match self {
-                Label::App(own) => own == op,
-                _ => false,
-            },
+            Term::App { op, .. } => self.is_of_operator(op),
             Term::None(_) => *self == Label::NoneOf,
             Term::Prim(literal) => match self {
                 Label::Prim(own) => own == literal,
@@ -159,6 +220,29 @@ impl Label {
                 Label::Var(own) => *own == variable.id,
                 _ => false,
             },
+        }
+    }
+
+    // Whether it is that of the operator's applications.
+    fn is_of_operator(&self, op: &Op) -> bool
+        ensures { (ts : PlainTerms) (t : PlainType) → IsTrue result ↔ (plain_label self.now ≡ term_label (Application (plain_op op.now) ts t)) }
+    {
+        match op {
+            Op::Uuf(_) => *self == Label::Call,
+            _ => match self {
+                Label::App(own) => own == op,
+                _ => false,
+            },
+        }
+    }
+
+    // Whether it is that of the function.
+    fn is_of_function(&self, function: &Uuf) -> bool
+        ensures { IsTrue result ↔ (plain_label self.now ≡ label_in (FunctionMeaning (plain_function function.now))) }
+    {
+        match self {
+            Label::Fun(own) => *own == function.id,
+            _ => false,
         }
     }
 

@@ -1,18 +1,36 @@
-// Terms and types of the program, entered as nodes.
-ghost use Rattle.std.specs.Prelude.{◌≡◌, ◌∷◌, IfOk, List, Some, map};
+// Terms, functions and types of the program, entered as nodes.
+ghost use Rattle.std.specs.Prelude.{◌≡◌, ◌++◌, IfOk, List, Some, map};
 ghost use Rattle.smt_graph.specs.Meanings.{all_found, meanings, stands_for};
-ghost use Rattle.smt_graph.specs.Nodes.{Meaning, TermMeaning, TypeMeaning};
+ghost use Rattle.smt_graph.specs.Nodes.{FunctionMeaning, Meaning, TermMeaning, TypeMeaning};
+ghost use Rattle.smt_meaning.specs.Plain.{Application, PlainType, terms};
 ghost use Rattle.smt_meaning.specs.Types.{type_of};
 ghost use Rattle.smt_nodes.specs.View.{places_of, plain_label};
-ghost use Rattle.smt_term.specs.View.{plain_term, plain_type};
+ghost use Rattle.smt_term.specs.View.{plain_function, plain_op, plain_term, plain_type};
 
 use crate::id::{IdList, NodeId};
 use crate::interner::Interner;
 use crate::node::{Label, Node};
-use smt_term::{Term, TermError, TermType};
+use crate::subject::Subject;
+use smt_term::{Op, Term, TermError, TermType, Uuf};
 
 impl Interner {
     ghost use Rattle.smt_nodes.specs.Interned.{meaning_in, nodes_of, IsMeant, KeepsMeanings};
+    ghost use Rattle.smt_nodes.specs.Subject.{meaning_of};
+
+    /// The number that stands for a term, a type or a function. What is inside it gets numbers before it.
+    ///
+    /// # Errors
+    /// Those of `intern`.
+    pub fn intern_subject(&mut self, subject: Subject<'_>) -> Result<NodeId, TermError>
+        ensures meaning { IfOk result (λ id. meaning_in self.new id ≡ Some (meaning_of subject.entry)) }
+        ensures kept { KeepsMeanings self.old self.new }
+    {
+        match subject {
+            Subject::Term(term) => self.intern(term),
+            Subject::Type(ty) => self.intern_type(ty),
+            Subject::Function(function) => self.intern_function(function),
+        }
+    }
 
     /// The number that stands for a term. Its type and its parts get numbers before it.
     ///
@@ -26,14 +44,11 @@ impl Interner {
     {
         let ty = self.intern_type_of(term)?;
         match term {
-            Term::App { op, args, .. } => {
-                let parts = self.intern_all(ty, args.items())?;
-                self.enter(Label::App(op.share()?), parts.as_slice())
-            }
+            Term::App { op, args, .. } => self.intern_application(ty, op, args.items()),
             Term::None(_) => self.enter(Label::NoneOf, &[ty]),
             Term::Prim(literal) => self.enter(Label::Prim(literal.share()?), &[ty]),
             Term::Set { elts, .. } => {
-                let parts = self.intern_all(ty, elts.items())?;
+                let parts = self.intern_all(&[ty], elts.items())?;
                 self.enter(Label::SetOf, parts.as_slice())
             }
             Term::Some(inner) => {
@@ -44,15 +59,41 @@ impl Interner {
         }
     }
 
-    // The number of a type, and then those of terms in order.
+    // The number that stands for an operator at its arguments, by that of the claimed type. A function gets a number of its
+    // own before it.
     #[cycle(intern)]
-    fn intern_all(&mut self, ty: NodeId, terms: &[Term]) -> Result<Vec<NodeId>, TermError>
-        ensures meanings { (m : Meaning) → meaning_in self.old ty ≡ Some m →
-            IfOk result (λ parts. all_found (meanings (nodes_of self.new)) (places_of parts.items) ≡ Some (m ∷ map TermMeaning (map plain_term terms.now))) }
+    fn intern_application(
+        &mut self,
+        ty: NodeId,
+        op: &Op,
+        args: &[Term],
+    ) -> Result<NodeId, TermError>
+        ensures meaning { (t : PlainType) → meaning_in self.old ty ≡ Some (TypeMeaning t) →
+            IfOk result (λ id. meaning_in self.new id ≡ Some (TermMeaning (Application (plain_op op.now) (terms (map plain_term args.now)) t))) }
+        ensures kept { KeepsMeanings self.old self.new }
+    {
+        match op {
+            Op::Uuf(function) => {
+                let function = self.intern_function(function)?;
+                let parts = self.intern_all(&[ty, function], args)?;
+                self.enter(Label::Call, parts.as_slice())
+            }
+            _ => {
+                let parts = self.intern_all(&[ty], args)?;
+                self.enter(Label::App(op.share()?), parts.as_slice())
+            }
+        }
+    }
+
+    // The first numbers, and then those of terms in order.
+    #[cycle(intern)]
+    fn intern_all(&mut self, first: &[NodeId], terms: &[Term]) -> Result<Vec<NodeId>, TermError>
+        ensures meanings { (ms : List Meaning) → all_found (meanings (nodes_of self.old)) (places_of first.now) ≡ Some ms →
+            IfOk result (λ parts. all_found (meanings (nodes_of self.new)) (places_of parts.items) ≡ Some (ms ++ map TermMeaning (map plain_term terms.now))) }
         ensures kept { KeepsMeanings self.old self.new }
     {
         let mut parts = Vec::new(self.alloc);
-        parts.push(ty)?;
+        parts.extend_from_slice(first)?;
         for term in terms {
             let part = self.intern(term)?;
             parts.push(part)?;
@@ -79,6 +120,16 @@ impl Interner {
             Term::Some(_) => self.intern_type(&term.type_of(self.alloc)?),
             Term::Var(variable) => self.intern_type(&variable.ty),
         }
+    }
+
+    // The number that stands for a function. Its types get numbers before it.
+    fn intern_function(&mut self, function: &Uuf) -> Result<NodeId, TermError>
+        ensures meaning { IfOk result (λ id. meaning_in self.new id ≡ Some (FunctionMeaning (plain_function function.now))) }
+        ensures kept { KeepsMeanings self.old self.new }
+    {
+        let arg = self.intern_type(&function.arg)?;
+        let out = self.intern_type(&function.out)?;
+        self.enter(Label::Fun(function.id.clone()?), &[arg, out])
     }
 
     // The number that stands for a type.

@@ -2,20 +2,20 @@
 ghost use Rattle.std.specs.Prelude.{ℕ, List, ◌≡◌, ◌↔◌, ◌<◌, ◌≤◌, ◌^◌, [], Contains, IfNone, IfOk, IfSome, IsTrue, OnOk, Some, is_some, length, map, option_and_then, option_map, slice_get};
 ghost use Rattle.std.specs.List.{AllByRecursion, list_all};
 ghost use Rattle.smt_graph.specs.Fits.{applies_no_function, fits};
-ghost use Rattle.smt_graph.specs.Nodes.{ApplicationLabel, BitVecLabel, BoolLabel, EntityLabel, LiteralLabel, NoneLabel, OptionLabel, SetLabel, SetOfLabel, SomeLabel, StringLabel, VariableLabel};
+ghost use Rattle.smt_graph.specs.Nodes.{ApplicationLabel, BitVecLabel, BoolLabel, CallLabel, EntityLabel, FunctionLabel, LiteralLabel, NoneLabel, OptionLabel, SetLabel, SetOfLabel, SomeLabel, StringLabel, VariableLabel};
 ghost use Rattle.smt_meaning.specs.Plain.{PlainOp};
 ghost use Rattle.smt_graph.specs.Graphs.{IsGraph};
 ghost use Rattle.smt_graph.specs.Meanings.{all_found, meaning_at, meanings, stands_for};
 ghost use Rattle.smt_graph.specs.Parts.{label_in, parts_in};
 ghost use Rattle.smt_nodes.specs.Index.{IsIndex, IsKey};
-ghost use Rattle.smt_nodes.specs.Kinds.{ascend_at, is_option_at, is_option_of_at, is_set_at, is_term_at, is_type_at, is_type_of_at, terms_at};
+ghost use Rattle.smt_nodes.specs.Kinds.{are_called_at, ascend_at, is_function_at, is_option_at, is_option_of_at, is_set_at, is_term_at, is_type_at, is_type_of_at, terms_at};
 ghost use Rattle.smt_nodes.specs.View.{place_of, places_of, plain_label, plain_node};
-ghost use Rattle.smt_term.specs.View.{plain_literal};
+ghost use Rattle.smt_term.specs.View.{plain_literal, plain_op};
 
 use crate::id::NodeId;
 use crate::node::{Label, Node};
 use crate::table::{Key, Table};
-use smt_term::{TermError, TermPrim};
+use smt_term::{Op, TermError, TermPrim};
 use std::alloc::Global;
 
 /// A list of nodes that each fit the nodes before it, and that each stand for something else.
@@ -108,7 +108,8 @@ impl Interner {
     }
 
     /// Whether the node fits: its parts stand for things of the number and kinds that its label wants, and the first part
-    /// of a term is the type that the term has; the elements of a set ascend in the order of terms. Takes no memory.
+    /// of a term is the type that the term has; the elements of a set ascend in the order of terms; and an uninterpreted
+    /// function is applied by a call alone. Takes no memory.
     pub fn fits(&self, node: &Node) -> bool
         ensures { result ≡ fits (nodes_of self.now) (plain_node node.now) }
     {
@@ -120,7 +121,9 @@ impl Interner {
             Label::TEntity(_) => self.fits_alone(parts),
             Label::TString => self.fits_alone(parts),
             Label::TSet => self.fits_around_type(parts),
-            Label::App(_) => self.fits_application(parts),
+            Label::Fun(_) => self.fits_function(parts),
+            Label::App(op) => self.fits_operator(op, parts),
+            Label::Call => self.fits_call(parts),
             Label::NoneOf => self.fits_none(parts),
             Label::Prim(literal) => self.fits_literal(literal, parts),
             Label::SetOf => self.fits_set(parts),
@@ -154,11 +157,51 @@ impl Interner {
         }
     }
 
+    fn fits_function(&self, parts: &[NodeId]) -> bool
+        ensures { (id : List ℕ) → result ≡ is_some (option_and_then (stands_for (FunctionLabel id)) (all_found (meanings (nodes_of self.now)) (places_of parts.now))) }
+    {
+        match parts {
+            [] => false,
+            [_] => false,
+            [arg, out] => self.is_type(*arg) && self.is_type(*out),
+            [_, _, _, ..] => false,
+        }
+    }
+
+    // Whether these are the parts of the operator's application. That of a function is a call, so it fits no parts.
+    fn fits_operator(&self, op: &Op, parts: &[NodeId]) -> bool
+        ensures { result ≡ is_some (option_and_then (stands_for (ApplicationLabel (plain_op op.now))) (all_found (meanings (nodes_of self.now)) (places_of parts.now))) }
+    {
+        match op {
+            Op::Uuf(_) => false,
+            _ => self.fits_application(parts),
+        }
+    }
+
     fn fits_application(&self, parts: &[NodeId]) -> bool
         ensures { (o : PlainOp) → IsTrue (applies_no_function (ApplicationLabel o)) → result ≡ is_some (option_and_then (stands_for (ApplicationLabel o)) (all_found (meanings (nodes_of self.now)) (places_of parts.now))) }
     {
         match parts.split_first() {
             Some((ty, args)) => self.is_type(*ty) && self.are_terms(args),
+            None => false,
+        }
+    }
+
+    fn fits_call(&self, parts: &[NodeId]) -> bool
+        ensures { result ≡ is_some (option_and_then (stands_for CallLabel) (all_found (meanings (nodes_of self.now)) (places_of parts.now))) }
+    {
+        match parts.split_first() {
+            Some((ty, called)) => self.is_type(*ty) && self.are_called(called),
+            None => false,
+        }
+    }
+
+    // Whether these are a function and then terms.
+    fn are_called(&self, ids: &[NodeId]) -> bool
+        ensures { result ≡ are_called_at (all_found (meanings (nodes_of self.now)) (places_of ids.now)) }
+    {
+        match ids.split_first() {
+            Some((function, args)) => self.is_function(*function) && self.are_terms(args),
             None => false,
         }
     }
@@ -246,6 +289,15 @@ impl Interner {
     {
         match self.label(id) {
             Some(label) => label.is_type(),
+            None => false,
+        }
+    }
+
+    fn is_function(&self, id: NodeId) -> bool
+        ensures { result ≡ is_function_at (meaning_in self.now id) }
+    {
+        match self.label(id) {
+            Some(label) => label.is_function(),
             None => false,
         }
     }

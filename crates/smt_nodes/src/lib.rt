@@ -1,4 +1,4 @@
-//! Terms and their types as numbered nodes: one number for each.
+//! Terms, their types and their functions as numbered nodes: one number for each.
 //!
 //! A node says by its label what it is, and by numbers of earlier nodes what its parts are. So a node is found by a key of
 //! numbers, the label's and those of its parts, and terms that share their parts share their nodes. What a node stands for
@@ -13,9 +13,11 @@ mod interner;
 pub mod laws;
 mod node;
 mod order;
+mod subject;
 mod table;
 
 pub use attributes::AttrList;
 pub use id::{IdList, NodeId};
 pub use interner::Interner;
 pub use node::{Label, Node};
+pub use subject::Subject;

@@ -7,7 +7,7 @@ use crate::id::IdList;
 use smt_bits::Width;
 use smt_term::{EntityType, Op, TermError, TermPrim, Text};
 
-/// What a type or a term is, apart from its parts. The types come first.
+/// What a type, a function or a term is, apart from its parts. The types come first, and then the functions.
 #[derive(Debug, PartialEq, Eq, PartialOrd, Ord, Drop)]
 pub enum Label {
     /// The type of options; its part is the inner type.
@@ -22,8 +22,13 @@ pub enum Label {
     TString,
     /// The type of finite sets; its part is the element type.
     TSet,
-    /// An operator at its arguments; its parts are the claimed type and the arguments.
+    /// An uninterpreted function of this id; its parts are its argument type and its output type.
+    Fun(Text),
+    /// An operator at its arguments; its parts are the claimed type and the arguments. The operator is no uninterpreted
+    /// function: that at its arguments is a call.
     App(Op),
+    /// A function at its arguments; its parts are the claimed type, the function and the arguments.
+    Call,
     /// None of an option; its part is its type.
     NoneOf,
     /// A literal; its part is its type.
@@ -36,7 +41,7 @@ pub enum Label {
     Var(Text),
 }
 
-/// A type or a term by its label and the numbers of its parts. A term has first its type.
+/// A type, a function or a term by its label and the numbers of its parts. A term has first its type.
 #[derive(Debug, PartialEq, Eq, PartialOrd, Ord, Drop)]
 pub struct Node {
     /// What it is.
@@ -46,7 +51,7 @@ pub struct Node {
 }
 
 impl Label {
-    ghost use Rattle.smt_nodes.specs.Kinds.{is_literal_label, is_term_label, is_type_label};
+    ghost use Rattle.smt_nodes.specs.Kinds.{is_function_label, is_literal_label, is_term_label, is_type_label};
 
     /// Whether it is that of a type.
     pub(crate) fn is_type(&self) -> bool
@@ -59,7 +64,31 @@ impl Label {
             | Label::TEntity(_)
             | Label::TString
             | Label::TSet => true,
-            Label::App(_)
+            Label::Fun(_)
+            | Label::App(_)
+            | Label::Call
+            | Label::NoneOf
+            | Label::Prim(_)
+            | Label::SetOf
+            | Label::SomeOf
+            | Label::Var(_) => false,
+        }
+    }
+
+    /// Whether it is that of a function.
+    pub(crate) fn is_function(&self) -> bool
+        ensures { result ≡ is_function_label (plain_label self.now) }
+    {
+        match self {
+            Label::Fun(_) => true,
+            Label::TOption
+            | Label::TBitvec(_)
+            | Label::TBool
+            | Label::TEntity(_)
+            | Label::TString
+            | Label::TSet
+            | Label::App(_)
+            | Label::Call
             | Label::NoneOf
             | Label::Prim(_)
             | Label::SetOf
@@ -72,7 +101,22 @@ impl Label {
     pub(crate) fn is_term(&self) -> bool
         ensures { result ≡ is_term_label (plain_label self.now) }
     {
-        !self.is_type()
+        match self {
+            Label::App(_)
+            | Label::Call
+            | Label::NoneOf
+            | Label::Prim(_)
+            | Label::SetOf
+            | Label::SomeOf
+            | Label::Var(_) => true,
+            Label::TOption
+            | Label::TBitvec(_)
+            | Label::TBool
+            | Label::TEntity(_)
+            | Label::TString
+            | Label::TSet
+            | Label::Fun(_) => false,
+        }
     }
 
     /// Whether it is that of the literal's type.
@@ -113,7 +157,9 @@ impl Label {
             Label::TEntity(ety) => Label::TEntity(ety.share()?),
             Label::TString => Label::TString,
             Label::TSet => Label::TSet,
+            Label::Fun(id) => Label::Fun(id.clone()?),
             Label::App(op) => Label::App(op.share()?),
+            Label::Call => Label::Call,
             Label::NoneOf => Label::NoneOf,
             Label::Prim(literal) => Label::Prim(literal.share()?),
             Label::SetOf => Label::SetOf,

@@ -1,17 +1,20 @@
-// The order of types and of terms, by their nodes.
+// The order of types, of functions and of terms, by their nodes.
 ghost use Rattle.std.specs.Prelude.{◌≡◌, IfSome, IsTrue, Some};
+ghost use Rattle.std.specs.Ordering.{nat_cmp};
 ghost use Rattle.smt_graph.specs.Nodes.{Meaning, SomeLabel, TermMeaning};
 ghost use Rattle.smt_meaning.specs.Plain.{PlainTerm};
-ghost use Rattle.smt_meaning.specs.TermOrder.{term_cmp};
+ghost use Rattle.smt_meaning.specs.TermOrder.{op_place, term_cmp};
 ghost use Rattle.smt_meaning.specs.ValueOrder.{ascends, is_below};
 ghost use Rattle.smt_graph.specs.Meanings.{meanings};
 ghost use Rattle.smt_nodes.specs.Kinds.{terms_at};
-ghost use Rattle.smt_nodes.specs.Order.{are_alike, difference_of, meaning_cmp, parts_apart};
+ghost use Rattle.smt_nodes.specs.Order.{are_alike, difference_of, first_cmp, function_place, meaning_cmp, parts_apart};
 ghost use Rattle.smt_nodes.specs.View.{places_of, plain_label};
+ghost use Rattle.smt_term.specs.View.{plain_op};
 
 use crate::id::NodeId;
 use crate::interner::Interner;
 use crate::node::Label;
+use smt_term::Op;
 use std::cmp::Ordering;
 
 /// Where two lists of numbers differ.
@@ -52,13 +55,14 @@ fn parts_difference(label: &Label, xs: &[NodeId], ys: &[NodeId]) -> Difference
     ensures { result ≡ parts_apart (plain_label label.now) xs.now ys.now }
 {
     match label {
-        Label::App(_) | Label::SomeOf => type_last(xs, ys),
+        Label::App(_) | Label::Call | Label::SomeOf => type_last(xs, ys),
         Label::TOption
         | Label::TBitvec(_)
         | Label::TBool
         | Label::TEntity(_)
         | Label::TString
         | Label::TSet
+        | Label::Fun(_)
         | Label::NoneOf
         | Label::Prim(_)
         | Label::SetOf
@@ -79,6 +83,74 @@ fn type_last(xs: &[NodeId], ys: &[NodeId]) -> Difference
                 apart => apart,
             },
         },
+    }
+}
+
+// How the labels of two nodes compare before their parts do. A call compares with an application by their operators, since
+// terms do, and so not by the order of labels.
+fn compare_labels(first: &Label, second: &Label) -> Ordering
+    ensures { result ≡ first_cmp (plain_label first.now) (plain_label second.now) }
+{
+    match first {
+        Label::App(op) => match second {
+            Label::Call => beside_functions(op),
+            _ => first.cmp(second),
+        },
+        Label::Call => match second {
+            Label::App(op) => beside_functions(op).reverse(),
+            _ => first.cmp(second),
+        },
+        Label::TOption
+        | Label::TBitvec(_)
+        | Label::TBool
+        | Label::TEntity(_)
+        | Label::TString
+        | Label::TSet
+        | Label::Fun(_)
+        | Label::NoneOf
+        | Label::Prim(_)
+        | Label::SetOf
+        | Label::SomeOf
+        | Label::Var(_) => first.cmp(second),
+    }
+}
+
+// How an operator stands to the uninterpreted functions in the order of operators.
+fn beside_functions(op: &Op) -> Ordering
+    ensures { result ≡ nat_cmp (op_place (plain_op op.now)) function_place }
+{
+    match op {
+        Op::And
+        | Op::Bvadd
+        | Op::Bvlshr
+        | Op::Bvmul
+        | Op::Bvneg
+        | Op::Bvnego
+        | Op::Bvsaddo
+        | Op::Bvsdiv
+        | Op::Bvshl
+        | Op::Bvsle
+        | Op::Bvslt
+        | Op::Bvsmod
+        | Op::Bvsmulo
+        | Op::Bvsrem
+        | Op::Bvssubo
+        | Op::Bvsub
+        | Op::Bvudiv
+        | Op::Bvule
+        | Op::Bvult
+        | Op::Bvurem
+        | Op::Eq
+        | Op::Ite
+        | Op::Not
+        | Op::OptionGet
+        | Op::Or
+        | Op::SetInter
+        | Op::SetMember
+        | Op::SetSubset
+        | Op::StringLike(_) => Ordering::Less,
+        Op::Uuf(_) => Ordering::Equal,
+        Op::ZeroExtend(_) => Ordering::Greater,
     }
 }
 
@@ -105,14 +177,14 @@ impl Interner {
         }
     }
 
-    /// How two types, or two terms, compare. It goes down to where their parts first differ, since the same number stands
-    /// for the same.
+    /// How two types, two functions or two terms compare. It goes down to where their parts first differ, since the same
+    /// number stands for the same.
     pub(crate) fn compare(&self, a: NodeId, b: NodeId) -> Ordering
         ensures { (m n : Meaning) → meaning_in self.now a ≡ Some m → meaning_in self.now b ≡ Some n → IsTrue (are_alike m n) → result ≡ meaning_cmp m n }
     {
         match self.node(a) {
             Some(first) => match self.node(b) {
-                Some(second) => match first.label.cmp(&second.label) {
+                Some(second) => match compare_labels(&first.label, &second.label) {
                     Ordering::Equal => {
                         match parts_difference(
                             &first.label,

@@ -3,7 +3,7 @@ ghost use Rattle.std.specs.Prelude.{◌≡◌, ◌↔◌, [], map, position, IsT
 ghost use Rattle.std.specs.List.{join_by};
 ghost use Rattle.smt_script.specs.Sink.{Puts};
 ghost use Rattle.smt_characters.specs.Characters.{is_line_end};
-ghost use Rattle.smt_characters.specs.LineTexts.{in_comment, spaced, sorted_names, datatype_body, constructor_lines, comment_text, assert_text, define_fun_text, declare_const_text, declare_datatype_text};
+ghost use Rattle.smt_characters.specs.LineTexts.{in_comment, spaced, sorted_names, datatype_body, constructor_lines, comment_text, assert_text, define_fun_text, declare_const_text, declare_fun_text, declare_datatype_text};
 ghost use Rattle.smt_characters.specs.SharedTexts.{joined, texts, text_pairs};
 
 use crate::sink::{Sink, SinkError};
@@ -156,6 +156,16 @@ pub trait SmtLibScript: Sink {
             (declare_const_text id.now ty.now) result }
     {
         put_all(self, &["(declare-const ", id, " ", ty, ")\n"])
+    }
+
+    /// `(declare-fun ID (ARGS) TY)`, where each argument is a sort.
+    fn declare_fun(&mut self, id: &str, args: &[Text], ty: &str) -> Result<(), SinkError>
+        ensures { Puts Self.contents Self.faults Self.has_room Self.place self.old self.new
+            (declare_fun_text id.now (spaced (texts args.now)) ty.now) result }
+    {
+        put_all(self, &["(declare-fun ", id, " ("])?;
+        put_joined(self, " ", args)?;
+        put_all(self, &[") ", ty, ")\n"])
     }
 
     /// `(declare-datatype ID (CONSTRUCTORS))`, or `(declare-datatype ID (par (PARAMS)

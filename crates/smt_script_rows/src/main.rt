@@ -1,4 +1,4 @@
-//! `smt_script_rows`: the scripts of terms over entity types and enum types, for each row of the files in `data/`.
+//! `smt_script_rows`: the scripts of terms over entity types, enum types and functions, for each row of the files in `data/`.
 //!
 //! What is printed is the row behind a `>` and the script that `Encoder::encode` gives for its terms, byte for byte. Where it
 //! refuses, that is what the sink has then, and a line such as `refused: EnumMissingMember Color::"z"`. `Encoder::encode_nodes`
@@ -15,6 +15,7 @@
 //! | `var:ID:TYPE` | a variable |
 //! | `none:TYPE` | none of an option of this type |
 //! | `set:COUNT:TYPE` | the set of so many last terms, each of this type |
+//! | `call:ID:TYPE:TYPE` | an uninterpreted function at the last term, by its id, the type of its argument and that of its values |
 //! | `byte:NUMBER`, `text:CHARACTERS`, `true` | a literal |
 //! | `some`, and the names of operators | as they say, of the last terms |
 //!
@@ -33,11 +34,12 @@ use std::fs;
 use std::io::{self, BufWriter, Write};
 
 /// The files of rows.
-const FILES: [&str; 6] = [
+const FILES: [&str; 7] = [
     "enums",
     "entities",
     "options",
     "sets",
+    "functions",
     "characters",
     "refused",
 ];

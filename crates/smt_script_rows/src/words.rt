@@ -5,7 +5,7 @@ use crate::types::type_of;
 use anyhow::{Context, Result, bail};
 use smt_bits::{BitVec, EIGHT};
 use smt_term::{
-    EntityID, EntityType, EntityUID, EnumTable, Op, Term, TermList, TermSet, TermType, TermVar,
+    EntityID, EntityType, EntityUID, EnumTable, Op, Term, TermList, TermSet, TermType, TermVar, Uuf,
 };
 use std::alloc::Global;
 use std::rc::Rc;
@@ -64,6 +64,7 @@ fn term(alloc: Global, terms: &mut Vec<Term>, head: &str, held: &str) -> Result<
         "none" => Term::None(type_of(alloc, held)?),
         "some" => Term::Some(Rc::new(alloc, terms.pop().context("no term is left")?)?),
         "set" => set(alloc, terms, held)?,
+        "call" => call(alloc, terms, held)?,
         _ => {
             let op = operator(head).context("no word has this head")?;
             applied(alloc, terms, op)?
@@ -96,6 +97,24 @@ fn set(alloc: Global, terms: &mut Vec<Term>, spelling: &str) -> Result<Term> {
     Ok(Term::Set {
         elts_ty: type_of(alloc, ty)?,
         elts: TermSet::new(alloc, elements.as_slice())?,
+    })
+}
+
+/// An uninterpreted function at the last term, by its id, the type of its argument and that of its values.
+fn call(alloc: Global, terms: &mut Vec<Term>, spelling: &str) -> Result<Term> {
+    let (id, types) = spelling.split_once(':').context("an id and two types")?;
+    let (arg, out) = types.split_once(':').context("two types")?;
+    let function = Uuf {
+        id: text(alloc, id)?,
+        arg: type_of(alloc, arg)?,
+        out: type_of(alloc, out)?,
+    };
+    let args = taken(terms, 1)?;
+    let ret_ty = function.out.share()?;
+    Ok(Term::App {
+        op: Op::Uuf(Rc::new(alloc, function)?),
+        args: TermList::new(alloc, args.as_slice())?,
+        ret_ty,
     })
 }
 

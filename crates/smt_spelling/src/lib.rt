@@ -19,6 +19,6 @@ pub use error::{SMT_LIB_MAX_CODE_POINT, TextError};
 pub use literal::literal_text;
 pub use pattern::pattern_text;
 pub use spell::{
-    application_text, as_text, bits_literal, bits_sort, entity_name, option_sort, set_sort,
-    set_text, some_text, string_literal, term_name,
+    application_text, as_text, bits_literal, bits_sort, call_text, entity_name, function_name,
+    option_sort, set_sort, set_text, some_text, string_literal, term_name,
 };

@@ -41,6 +41,13 @@ pub fn entity_name(alloc: Global, place: usize) -> Result<Text, AllocError>
     Text::from_string(format!(in alloc; "E{place}")?)
 }
 
+/// `fj`, the name of a function, where j functions are there already.
+pub fn function_name(alloc: Global, place: usize) -> Result<Text, AllocError>
+    ensures { IfOk result (λ name. rc_str_bytes name ≡ codes "f" ++ decimal place) }
+{
+    Text::from_string(format!(in alloc; "f{place}")?)
+}
+
 /// `(_ BitVec n)`, the sort of bitvectors of a width (FixedSizeBitVectors).
 pub fn bits_sort(alloc: Global, width: Width) -> Result<Text, AllocError>
     ensures { IfOk result (λ sort. rc_str_bytes sort ≡ spelled (bit_sort (bits_in width))) }
@@ -97,6 +104,13 @@ pub fn some_text(alloc: Global, operands: &[Text]) -> Result<String, AllocError>
     ensures { (es : List Expression) → AreSpelled es operands.now → IfOk result (λ text. string_bytes text ≡ spelled (group (name (codes "some") ∷ es))) }
 {
     application_text(alloc, "some", operands)
+}
+
+/// `(f x)`: a function at its arguments.
+pub fn call_text(alloc: Global, function: &str, operands: &[Text]) -> Result<String, AllocError>
+    ensures { (f : Expression) (es : List Expression) → function.now ≡ spelled f → AreSpelled es operands.now → IfOk result (λ text. string_bytes text ≡ spelled (group (f ∷ es))) }
+{
+    application_text(alloc, function, operands)
 }
 
 /// `(set.insert x y (as set.empty S))`: a set of this sort by its elements, `(as set.empty S)` where there is none.

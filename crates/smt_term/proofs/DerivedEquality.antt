@@ -7,10 +7,12 @@ use Rattle.std.specs.Ordering.{is_eq}
 use Rattle.std.specs.declared.cmp.Ordering.{Ordering}
 use Rattle.std.specs.declared.cmp.Ordering.TheVariants.{Equal}
 use Rattle.std.proofs.lemmas.Cmp.{tied_itself}
-use Rattle.smt_term.specs.Program.{EqualListsSayTheSame, EqualLiteralsSayTheSame, EqualOperatorsSayTheSame, EqualSetsSayTheSame, EqualVariablesSayTheSame}
-use Rattle.smt_meaning.specs.TermOrder.{op_cmp, literal_cmp, term_cmp}
-use Rattle.smt_term.specs.View.{plain_elements, plain_items, plain_literal, plain_op, plain_term, plain_variable}
+use Rattle.smt_term.specs.Program.{EqualFunctionsSayTheSame, EqualListsSayTheSame, EqualLiteralsSayTheSame, EqualOperatorsSayTheSame, EqualSetsSayTheSame, EqualVariablesSayTheSame}
+use Rattle.smt_meaning.specs.TermOrder.{function_cmp, op_cmp, literal_cmp, term_cmp}
+use Rattle.smt_term.specs.View.{plain_elements, plain_function, plain_items, plain_literal, plain_op, plain_term, plain_variable}
 use Rattle.smt_term.specs.declared.term.Term.{Term}
+use Rattle.smt_term.specs.contracts.function.UufOrd.TheImpl as function_order
+use Rattle.smt_term.specs.contracts.function.UufPartialEq.TheImpl as function_equality
 use Rattle.smt_term.specs.contracts.op.OpOrd.TheImpl as op_order
 use Rattle.smt_term.specs.contracts.op.OpPartialEq.TheImpl as op_equality
 use Rattle.smt_term.specs.contracts.term.TermPrimOrd.TheImpl as literal_order
@@ -22,14 +24,15 @@ use Rattle.smt_term.specs.contracts.term.TermListPartialEq.TheImpl as list_equal
 use Rattle.smt_term.specs.contracts.term.TermSetOrd.TheImpl as set_order
 use Rattle.smt_term.specs.contracts.term.TermSetPartialEq.TheImpl as set_equality
 use Rattle.smt_term.specs.contracts.term.TermPartialEq.TheImpl as term_eq
+use Rattle.smt_term.specs.contracts.function.UufOrd.TheImpl.Laws as function_laws
 use Rattle.smt_term.specs.contracts.op.OpOrd.TheImpl.Laws as op_laws
 use Rattle.smt_term.specs.contracts.term.TermPrimOrd.TheImpl.Laws as literal_laws
 use Rattle.smt_term.specs.contracts.term.TermVarOrd.TheImpl.Laws as variable_laws
 use Rattle.smt_term.specs.contracts.term.TermListOrd.TheImpl.Laws as list_laws
 use Rattle.smt_term.specs.contracts.term.TermSetOrd.TheImpl.Laws as set_laws
 use Rattle.smt_term.specs.contracts.term.TermOrd.TheImpl.Laws as term_laws
-use Rattle.smt_term.proofs.DerivedOrder.{derived_term_cmp, list_cmp-is, literal_cmp-is, op_cmp-is, set_cmp-is, term_cmp-is, variable_cmp-is}
-use Rattle.smt_meaning.proofs.SameTerm.{literal_same, op_same, term_same}
+use Rattle.smt_term.proofs.DerivedOrder.{derived_term_cmp, function_cmp-is, list_cmp-is, literal_cmp-is, op_cmp-is, set_cmp-is, term_cmp-is, variable_cmp-is}
+use Rattle.smt_meaning.proofs.SameTerm.{function_same, literal_same, op_same, term_same}
 
 -- the order holds a term of the program equal to itself
 pub term_itself : (a : Term) → term_cmp (plain_term a) (plain_term a) ≡ Equal
@@ -62,6 +65,9 @@ module _ {X P : Type 0} (eq : X → X → Bool) (cmp : X → X → Ordering) (pl
 
   say_the_same : (a b : X) → (eq a b ≡ true → plain a ≡ plain b) × (plain a ≡ plain b → eq a b ≡ true)
   say_the_same a b = (from_eq a b, to_eq a b)
+
+pub equal_functions : EqualFunctionsSayTheSame
+equal_functions = say_the_same function_equality.ghosts.eq function_order.ghosts.cmp plain_function function_cmp function_laws.total-law function_laws.matches_eq-law function_cmp-is function_same
 
 pub equal_operators : EqualOperatorsSayTheSame
 equal_operators = say_the_same op_equality.ghosts.eq op_order.ghosts.cmp plain_op op_cmp op_laws.total-law op_laws.matches_eq-law op_cmp-is op_same

@@ -13,7 +13,7 @@ use denote.Hole.Carrier
 use denote.Hole.Compared
 use mathlib.Core.Former
 use Rattle.smt_leaves.proofs.PatternOrder.{pattern_cmp-is}
-use Rattle.smt_term.specs.Program.{ListsCompareAsPlain, SetsCompareAsPlain, VariablesCompareAsPlain}
+use Rattle.smt_term.specs.Program.{FunctionsCompareAsPlain, ListsCompareAsPlain, SetsCompareAsPlain, VariablesCompareAsPlain}
 use Rattle.smt_meaning.specs.TermOrder.{op_cmp, literal_cmp, term_cmp, terms_cmp}
 use Rattle.smt_meaning.specs.Types.{type_cmp}
 use Rattle.smt_meaning.specs.ValueOrder.{text_cmp}
@@ -22,7 +22,7 @@ use Rattle.smt_term.specs.declared.types.TermType.{TermType, Option', Bitvec, Bo
 use Rattle.smt_term.specs.declared.types.TermType.TheViews as type_views
 use Rattle.smt_term.specs.contracts.types.TermTypeOrd.TheImpl.Laws as type_laws
 use Rattle.smt_term.specs.declared.op.Op.{Op}
-use Rattle.smt_term.specs.declared.op.Op.TheVariants.{And, StringLike}
+use Rattle.smt_term.specs.declared.op.Op.TheVariants.{And, StringLike, Uuf}
 use Rattle.smt_term.specs.declared.term.TermPrim.{TermPrim}
 use Rattle.smt_term.specs.declared.term.TermPrim.TheVariants.{Bitvec as BitsLiteral, Bool as TruthLiteral, Entity as EntityOf, String as TextLiteral}
 use Rattle.smt_term.specs.declared.term.Term.{Term, App', None, Prim, Set', Some', Var, Row_of-Term, end_of-Term, more_of-Term}
@@ -53,8 +53,14 @@ type_cmp-is String String = type_laws.is String String
 type_cmp-is (SetOf' p t) (SetOf' q u) = type_laws.is (SetOf' p t) (SetOf' q u) ∙ type_cmp-is t u
 type_cmp-is a b = type_laws.is a b
 
+pub function_cmp-is : FunctionsCompareAsPlain
+function_cmp-is f g =
+    ap (λ o. ordering_then (text_cmp (rc_str_bytes f.id) (rc_str_bytes g.id)) (ordering_then o (derived_type_cmp f.out g.out))) (type_cmp-is f.arg g.arg)
+    ∙ ap (λ o. ordering_then (text_cmp (rc_str_bytes f.id) (rc_str_bytes g.id)) (ordering_then (type_cmp (plain_type f.arg) (plain_type g.arg)) o)) (type_cmp-is f.out g.out)
+
 pub op_cmp-is : (a b : Op) → op_ord.ghosts.cmp a b ≡ op_cmp (plain_op a) (plain_op b)
 op_cmp-is (StringLike p) (StringLike q) = pattern_cmp-is p q
+op_cmp-is (Uuf f) (Uuf g) = function_cmp-is f.value g.value
 op_cmp-is a And = refl
 op_cmp-is a b = refl
 

@@ -1,3 +1,4 @@
+pub mod Functions
 pub mod Maps
 pub mod OpClass
 pub mod Program

@@ -2,9 +2,11 @@
 use Rattle.std.specs.Prelude.{◌≡◌, ◌↔◌, IsTrue}
 use Rattle.std.specs.Cmp.Lexicographic.{slice_cmp}
 use Rattle.smt_meaning.specs.Formed.{IsFormed}
-use Rattle.smt_meaning.specs.TermOrder.{op_cmp, literal_cmp, term_cmp}
+use Rattle.smt_meaning.specs.TermOrder.{function_cmp, op_cmp, literal_cmp, term_cmp}
 use Rattle.smt_meaning.specs.Types.{type_cmp}
-use Rattle.smt_term.specs.View.{plain_elements, plain_items, plain_literal, plain_op, plain_term, plain_type, plain_variable}
+use Rattle.smt_term.specs.View.{plain_elements, plain_function, plain_items, plain_literal, plain_op, plain_term, plain_type, plain_variable}
+use Rattle.smt_term.specs.contracts.function.UufOrd.TheImpl as function_order
+use Rattle.smt_term.specs.contracts.function.UufPartialEq.TheImpl as function_equality
 use Rattle.smt_term.specs.contracts.op.OpOrd.TheImpl as op_order
 use Rattle.smt_term.specs.contracts.op.OpPartialEq.TheImpl as op_equality
 use Rattle.smt_term.specs.contracts.term.TermOrd.TheImpl as term_order
@@ -19,6 +21,7 @@ use Rattle.smt_term.specs.contracts.term.TermSetOrd.TheImpl as set_order
 use Rattle.smt_term.specs.contracts.term.TermSetPartialEq.TheImpl as set_equality
 use Rattle.smt_term.specs.contracts.types.TermTypeOrd.TheImpl as type_order
 use Rattle.smt_term.specs.contracts.types.TermTypePartialEq.TheImpl as type_equality
+use Rattle.smt_term.specs.declared.function.Uuf.{Uuf}
 use Rattle.smt_term.specs.declared.op.Op.{Op}
 use Rattle.smt_term.specs.declared.term.Term.{Term}
 use Rattle.smt_term.specs.declared.term.TermList.{TermList}
@@ -38,7 +41,10 @@ TermsCompareAsPlain = (s t : Term) → term_order.ghosts.cmp s t ≡ term_cmp (p
 abbrev pub TypesCompareAsPlain : Type 0
 TypesCompareAsPlain = (s t : TermType) → type_order.ghosts.cmp s t ≡ type_cmp (plain_type s) (plain_type t)
 
--- the same of operators, literals and variables
+-- the same of functions, operators, literals and variables
+abbrev pub FunctionsCompareAsPlain : Type 0
+FunctionsCompareAsPlain = (f g : Uuf) → function_order.ghosts.cmp f g ≡ function_cmp (plain_function f) (plain_function g)
+
 abbrev pub OperatorsCompareAsPlain : Type 0
 OperatorsCompareAsPlain = (o p : Op) → op_order.ghosts.cmp o p ≡ op_cmp (plain_op o) (plain_op p)
 
@@ -62,7 +68,10 @@ EqualTermsSayTheSame = (s t : Term) → IsTrue (term_equality.ghosts.eq s t) ↔
 abbrev pub EqualTypesSayTheSame : Type 0
 EqualTypesSayTheSame = (s t : TermType) → IsTrue (type_equality.ghosts.eq s t) ↔ (plain_type s ≡ plain_type t)
 
--- the same of operators, literals and variables
+-- the same of functions, operators, literals and variables
+abbrev pub EqualFunctionsSayTheSame : Type 0
+EqualFunctionsSayTheSame = (f g : Uuf) → IsTrue (function_equality.ghosts.eq f g) ↔ (plain_function f ≡ plain_function g)
+
 abbrev pub EqualOperatorsSayTheSame : Type 0
 EqualOperatorsSayTheSame = (o p : Op) → IsTrue (op_equality.ghosts.eq o p) ↔ (plain_op o ≡ plain_op p)
 

@@ -11,10 +11,11 @@ use Rattle.smt_leaves.specs.Entities.{bytes_of_id, bytes_of_type}
 use Rattle.smt_leaves.specs.PatternView.{plain_ord_pattern}
 use Rattle.smt_leaves.specs.declared.entity.EntityType.{EntityType as EntityName}
 use Rattle.smt_arithmetic.specs.BitOperators.{BvaddOp, BvlshrOp, BvmulOp, BvsdivOp, BvshlOp, BvsmodOp, BvsremOp, BvsubOp, BvudivOp, BvuremOp, BvsleOp, BvsltOp, BvuleOp, BvultOp, BvsaddoOp, BvsmuloOp, BvssuboOp}
-use Rattle.smt_meaning.specs.Plain.{PlainType, OptionType, BitVecType, BoolType, EntityType, StringType, SetType, PlainOp, AndOp, BvnegOp, BvnegoOp, EqOp, IteOp, NotOp, OptionGetOp, OrOp, SetInterOp, SetMemberOp, SetSubsetOp, StringLikeOp, ZeroExtendOp, PlainLiteral, BitVecLiteral, BoolLiteral, EntityLiteral, StringLiteral, PlainTerm, Application, NoneTerm, LiteralTerm, SetTerm, SomeTerm, VariableTerm, PlainTerms, no_terms, one_term, terms, BitsOp, TestOp, OverflowOp}
+use Rattle.smt_meaning.specs.Plain.{PlainType, OptionType, BitVecType, BoolType, EntityType, StringType, SetType, PlainFunction, PlainOp, AndOp, BvnegOp, BvnegoOp, EqOp, IteOp, NotOp, OptionGetOp, OrOp, SetInterOp, SetMemberOp, SetSubsetOp, StringLikeOp, UufOp, ZeroExtendOp, PlainLiteral, BitVecLiteral, BoolLiteral, EntityLiteral, StringLiteral, PlainTerm, Application, NoneTerm, LiteralTerm, SetTerm, SomeTerm, VariableTerm, PlainTerms, no_terms, one_term, terms, BitsOp, TestOp, OverflowOp}
 use Rattle.smt_term.specs.declared.types.TermType.{TermType, Option as OptionOf, Option', Bitvec, Bool, Entity, String, Set as SetOf, Set' as SetOf'}
+use Rattle.smt_term.specs.declared.function.Uuf.{Uuf as Function}
 use Rattle.smt_term.specs.declared.op.Op.{Op}
-use Rattle.smt_term.specs.declared.op.Op.TheVariants.{And, Bvadd, Bvlshr, Bvmul, Bvneg, Bvnego, Bvsaddo, Bvsdiv, Bvshl, Bvsle, Bvslt, Bvsmod, Bvsmulo, Bvsrem, Bvssubo, Bvsub, Bvudiv, Bvule, Bvult, Bvurem, Eq, Ite, Not, OptionGet, Or, SetInter, SetMember, SetSubset, StringLike, ZeroExtend}
+use Rattle.smt_term.specs.declared.op.Op.TheVariants.{And, Bvadd, Bvlshr, Bvmul, Bvneg, Bvnego, Bvsaddo, Bvsdiv, Bvshl, Bvsle, Bvslt, Bvsmod, Bvsmulo, Bvsrem, Bvssubo, Bvsub, Bvudiv, Bvule, Bvult, Bvurem, Eq, Ite, Not, OptionGet, Or, SetInter, SetMember, SetSubset, StringLike, Uuf, ZeroExtend}
 use Rattle.smt_term.specs.declared.term.TermVar.{TermVar}
 use Rattle.smt_term.specs.declared.term.TermPrim.{TermPrim}
 use Rattle.smt_term.specs.declared.term.TermPrim.TheVariants.{Bitvec as BitsLiteral, Bool as TruthLiteral, Entity as EntityOf, String as TextLiteral}
@@ -30,6 +31,10 @@ plain_type Bool = BoolType
 plain_type (Entity e) = EntityType (bytes_of_type e)
 plain_type String = StringType
 plain_type (SetOf' p t) = SetType (plain_type t)
+
+-- an uninterpreted function
+abbrev pub plain_function : Function → PlainFunction
+plain_function f = record { id = rc_str_bytes f.id; argument = plain_type f.arg; output = plain_type f.out }
 
 abbrev pub plain_op : Op → PlainOp
 plain_op And = AndOp
@@ -61,6 +66,7 @@ plain_op SetInter = SetInterOp
 plain_op SetMember = SetMemberOp
 plain_op SetSubset = SetSubsetOp
 plain_op (StringLike p) = StringLikeOp (plain_ord_pattern p)
+plain_op (Uuf f) = UufOp (plain_function f.value)
 plain_op (ZeroExtend k) = ZeroExtendOp k
 
 abbrev pub plain_literal : TermPrim → PlainLiteral

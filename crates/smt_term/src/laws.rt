@@ -1,6 +1,6 @@
 //! Laws of the program's terms: they compare as what they say, proved with no code.
 ghost use Rattle.smt_term.specs.Maps.{FieldPairsAreSorted, TermPairsAreSorted, TermTablesAscend, TypePairsAreSorted};
-ghost use Rattle.smt_term.specs.Program.{EqualListsSayTheSame, EqualLiteralsSayTheSame, EqualOperatorsSayTheSame, EqualSetsSayTheSame, EqualTermsSayTheSame, EqualTypesSayTheSame, EqualVariablesSayTheSame, ListsCompareAsPlain, LiteralsCompareAsPlain, OperatorsCompareAsPlain, SetsCompareAsPlain, TermsAreFormed, TermsCompareAsPlain, TypesCompareAsPlain, VariablesCompareAsPlain};
+ghost use Rattle.smt_term.specs.Program.{EqualFunctionsSayTheSame, EqualListsSayTheSame, EqualLiteralsSayTheSame, EqualOperatorsSayTheSame, EqualSetsSayTheSame, EqualTermsSayTheSame, EqualTypesSayTheSame, EqualVariablesSayTheSame, FunctionsCompareAsPlain, ListsCompareAsPlain, LiteralsCompareAsPlain, OperatorsCompareAsPlain, SetsCompareAsPlain, TermsAreFormed, TermsCompareAsPlain, TypesCompareAsPlain, VariablesCompareAsPlain};
 
 /// What the program's terms and types keep.
 pub fn program_terms()
@@ -13,6 +13,8 @@ pub fn program_terms()
 
 /// What the program's terms are made of compares as what it says, and is equal exactly where it says the same.
 pub fn program_parts()
+    ensures function_order { FunctionsCompareAsPlain }
+    ensures function_equality { EqualFunctionsSayTheSame }
     ensures op_order { OperatorsCompareAsPlain }
     ensures op_equality { EqualOperatorsSayTheSame }
     ensures literal_order { LiteralsCompareAsPlain }

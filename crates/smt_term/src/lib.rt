@@ -1,5 +1,5 @@
 //! Typed terms of policies: their types, operators, literals and lists; entities, and tables of enum types; maps of
-//! attributes, and tables of terms.
+//! attributes, tables of terms, and functions of one argument.
 //!
 //! Contracts speak of terms by their plain form (`Plain` of `smt_meaning`), which says what a value says and not
 //! where it lies in memory: `plain_term`, `plain_type` and their kin of `specs/View.antt` give it. What a
@@ -7,6 +7,7 @@
 //! what it reaches in `Reached`, its interpretations in `Interpretations`.
 #![tactic(auto, using(crate::specs::View::views))]
 
+mod function;
 pub mod laws;
 mod maps;
 mod op;
@@ -15,6 +16,7 @@ mod term;
 mod types;
 mod typing;
 
+pub use function::{Udf, UnaryFunction, Uuf};
 pub use maps::{Attr, TermMap, TypeMap};
 pub use op::Op;
 pub use smt_leaves::{

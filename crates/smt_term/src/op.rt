@@ -4,10 +4,12 @@ ghost use Rattle.smt_meaning.specs.Names.{op_name};
 ghost use Rattle.smt_term.specs.OpClass.{class_of};
 ghost use Rattle.smt_term.specs.View.{plain_op};
 
+use crate::function::Uuf;
 use smt_leaves::{OrdPattern, TermError};
+use std::rc::Rc;
 
 /// An operator: of the theories Core, FixedSizeBitVectors and UnicodeStrings, of the logic QF_BV, of options or of finite
-/// sets.
+/// sets, or an uninterpreted function.
 #[derive(Debug, PartialEq, Eq, PartialOrd, Ord, Drop)]
 pub enum Op {
     /// Conjunction of two Booleans.
@@ -68,6 +70,8 @@ pub enum Op {
     SetSubset,
     /// Whether a text matches this pattern.
     StringLike(OrdPattern),
+    /// The value of this function.
+    Uuf(Rc<Uuf>),
     /// The same number with this many bits more.
     ZeroExtend(u32),
 }
@@ -118,6 +122,7 @@ impl Op {
             | Op::SetMember
             | Op::SetSubset
             | Op::StringLike(_)
+            | Op::Uuf(_)
             | Op::ZeroExtend(_) => OpClass::Other,
         }
     }
@@ -156,6 +161,7 @@ impl Op {
             Op::SetMember => "set.member",
             Op::SetSubset => "set.subset",
             Op::StringLike(_) => "string.like",
+            Op::Uuf(_) => "uuf",
             Op::ZeroExtend(_) => "zero_extend",
         }
     }
@@ -197,6 +203,7 @@ impl Op {
             Op::SetMember => Op::SetMember,
             Op::SetSubset => Op::SetSubset,
             Op::StringLike(pattern) => Op::StringLike(pattern.share()?),
+            Op::Uuf(function) => Op::Uuf(function.clone()?),
             Op::ZeroExtend(bits) => Op::ZeroExtend(*bits),
         })
     }

@@ -499,6 +499,7 @@ impl Op {
             Op::Not => a.is_of_type(&TermType::Bool),
             Op::OptionGet => a.is_option(),
             Op::StringLike(_) => a.is_of_type(&TermType::String),
+            Op::Uuf(function) => a.is_of_type(&function.arg),
             Op::Bvneg | Op::Bvnego => a.width().is_some(),
             Op::ZeroExtend(bits) => a.can_grow_by(*bits),
             _ => false,
@@ -549,6 +550,7 @@ impl Op {
         match self {
             Op::Bvneg => a.is_of_type(ty),
             Op::OptionGet => a.is_option_of(ty),
+            Op::Uuf(function) => function.out.is_same_as(ty),
             Op::ZeroExtend(bits) => a.is_shorter_by(*bits, ty),
             _ => TermType::Bool.is_same_as(ty),
         }

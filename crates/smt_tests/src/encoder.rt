@@ -6,6 +6,8 @@ use std::alloc::Global;
 use std::test::Fail;
 use words::terms;
 
+mod alone;
+mod calls;
 mod nodes;
 mod texts;
 mod words;

@@ -1,11 +1,9 @@
-//! Tests that cross the crates, and those of the public calls of `smt_factory`, `smt_encode` and `smt_cli`: where a crate has many proofs, its
-//! tests are proved sooner outside.
+//! Tests that cross the crates, and those of the public calls of `smt_encode` and `smt_cli`: where a crate has many proofs,
+//! its tests are proved sooner outside.
 #![tactic(auto, using(smt_term::specs::View::views))]
 
 #[cfg(test)]
 mod encoder;
-#[cfg(test)]
-mod foldings;
 #[cfg(test)]
 mod jobs;
 #[cfg(test)]

@@ -29,4 +29,5 @@ returns c = record {
   strings = string_rows;
   sets = record { applied_values = λ I. refl; applied_empty = λ I. refl; applied_inter = λ I. refl; each_once = refl; set_of_bytes = set_of_elements (BitVecType 8) (byte 2 ∷ byte 1 ∷ byte 2 ∷ []) _ refl (a_byte 2, (a_byte 1, (a_byte 2, tt))); value_of_bytes = λ I. refl; set_lacks_one = lacks_one; member = refl; member_stays = refl; member_of_unknown = refl; subset = refl; subset_stays = refl; inter = refl; inter_known = refl; inter_first = refl; inter_stays = refl; is_empty = refl; is_empty_stays = refl; intersect = refl; intersect_stays = refl };
   options = record { applied_values = λ I. refl; applied_guards = λ I. refl; held = refl; is_none_known = refl; is_none_stays = refl; is_none_of_choices = refl; other_choices = refl; choice_of_no_option = refl; is_some_known = refl; guarded = refl; guarded_stays = refl; if_some_known = refl; if_some_stays = refl; any_none_known = refl; if_all_some_known = refl };
+  functions = record { values = λ I. refl; applied_values = λ I. refl; at_key = refl; at_no_key = refl; at_variable = refl; choices_folded = refl; uninterpreted = refl };
 }

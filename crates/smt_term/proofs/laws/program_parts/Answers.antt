@@ -1,9 +1,11 @@
-use Rattle.smt_term.proofs.DerivedEquality.{equal_lists, equal_literals, equal_operators, equal_sets, equal_variables}
-use Rattle.smt_term.proofs.DerivedOrder.{list_cmp-is, literal_cmp-is, op_cmp-is, set_cmp-is, variable_cmp-is}
+use Rattle.smt_term.proofs.DerivedEquality.{equal_functions, equal_lists, equal_literals, equal_operators, equal_sets, equal_variables}
+use Rattle.smt_term.proofs.DerivedOrder.{function_cmp-is, list_cmp-is, literal_cmp-is, op_cmp-is, set_cmp-is, variable_cmp-is}
 use Rattle.smt_term.proofs.laws.program_parts.Goals as goal
 
 pub returns : goal.returns
 returns c = record {
+  function_order = function_cmp-is;
+  function_equality = equal_functions;
   op_order = op_cmp-is;
   op_equality = equal_operators;
   literal_order = literal_cmp-is;

@@ -1,5 +1,7 @@
-use Rattle.std.proofs.Common.{map, rules}
+use Rattle.std.proofs.Common.{map}
 use Rattle.smt_term.specs.View.{plain_term}
+use Rattle.smt_meaning.specs.Faults.{first_fault}
+use Rattle.smt_lines.specs.NameTables.{no_names}
 use Rattle.smt_lines.specs.Text.{names, text}
 use Rattle.smt_encode.specs.Encoded.{enums_in}
 use Rattle.smt_encode.proofs.Conditions.{headline, received}
@@ -9,39 +11,42 @@ use Rattle.smt_encode.proofs.Scripted.{text_written}
 use Rattle.smt_encode.proofs.Writing.{are_texts}
 use Rattle.smt_encode.proofs.encoder.Encoder.encode.Goals as goal
 
+pub returns-clause-put : goal.returns-clause-put
+returns-clause-put g c s has =
+    let wrote = at_ok c.put_terms-outcome.result c.in_ok-outcome.field-0 c.in_ok-outcome.was (c.put_terms-outcome.ensures.lines s has) in
+    record { got = wrote.contents_are; names = wrote.names; texts = are_texts c.put_terms-outcome.new.self.names _ (enums_in c.args.self.now) c.put_terms-outcome.ensures.cause.held.enums wrote.names }
+
 pub returns-clause-stated : goal.returns-clause-stated
-returns-clause-stated g c =
-    let has = no_tables c.args.self.now.writer.names (c.args.self.now.unwritten (search rules)) in
-    let wrote = at_ok c.put_terms-outcome.result c.in_ok-outcome.field-0 c.in_ok-outcome.was (c.put_terms-outcome.ensures.lines has) in
+returns-clause-stated g c unwritten =
+    let wrote = at_ok c.put_terms-outcome.result c.in_ok-outcome.field-0 c.in_ok-outcome.was (c.put_terms-outcome.ensures.lines no_names (no_tables c.args.self.now.writer.names unwritten)) in
     record { text = text_written (enums_in c.args.self.now) (map plain_term c.args.terms.now) wrote; names = names_alone c.put_terms-outcome.new.self.names _ wrote.names; texts = are_texts c.put_terms-outcome.new.self.names _ (enums_in c.args.self.now) c.put_terms-outcome.ensures.cause.held.enums wrote.names }
 
 pub returns-clause-headline : goal.returns-clause-headline
-returns-clause-headline g c typed =
-    let has = no_tables c.args.self.now.writer.names (c.args.self.now.unwritten (search rules)) in
+returns-clause-headline g c unwritten typed =
     let enums = enums_in c.args.self.now in
     let ts = map plain_term c.args.terms.now in
-    let none = ok_without_fault enums ts c.put_terms-outcome.result c.in_ok-outcome.field-0 c.in_ok-outcome.was c.put_terms-outcome.ensures.fault in
-    let wrote = at_ok c.put_terms-outcome.result c.in_ok-outcome.field-0 c.in_ok-outcome.was (c.put_terms-outcome.ensures.lines has) in
+    let none = ok_without_fault (first_fault enums ts) c.put_terms-outcome.result c.in_ok-outcome.field-0 c.in_ok-outcome.was c.put_terms-outcome.ensures.fault in
+    let wrote = at_ok c.put_terms-outcome.result c.in_ok-outcome.field-0 c.in_ok-outcome.was (c.put_terms-outcome.ensures.lines no_names (no_tables c.args.self.now.writer.names unwritten)) in
     received c.put_terms-outcome.new.self.names enums ts (names enums ts) (text enums ts) _ _ (text_written enums ts wrote) (names_alone c.put_terms-outcome.new.self.names _ wrote.names) (headline c.args.self.now.writer.names.enums.now c.args.terms.now typed none)
 
 pub returns-clause-models : goal.returns-clause-models
 returns-clause-models g c typed =
     headline c.args.self.now.writer.names.enums.now c.args.terms.now typed
-    (ok_without_fault (enums_in c.args.self.now) (map plain_term c.args.terms.now) c.put_terms-outcome.result c.in_ok-outcome.field-0 c.in_ok-outcome.was c.put_terms-outcome.ensures.fault)
+    (ok_without_fault (first_fault (enums_in c.args.self.now) (map plain_term c.args.terms.now)) c.put_terms-outcome.result c.in_ok-outcome.field-0 c.in_ok-outcome.was c.put_terms-outcome.ensures.fault)
 
 pub returns-clause-written : goal.returns-clause-written
-returns-clause-written g c ids typed stand = at_ok c.put_terms-outcome.result c.in_ok-outcome.field-0 c.in_ok-outcome.was (c.put_terms-outcome.ensures.written ids (c.args.self.now.unwritten (search rules)) typed stand)
+returns-clause-written g c ids unwritten typed stand = at_ok c.put_terms-outcome.result c.in_ok-outcome.field-0 c.in_ok-outcome.was (c.put_terms-outcome.ensures.written ids unwritten typed stand)
 
 pub returns-clause-complete : goal.returns-clause-complete
 returns-clause-complete g c = record {
-  faultless = ok_without_fault (enums_in c.args.self.now) (map plain_term c.args.terms.now) c.put_terms-outcome.result c.in_ok-outcome.field-0 c.in_ok-outcome.was c.put_terms-outcome.ensures.fault;
+  faultless = ok_without_fault (first_fault (enums_in c.args.self.now) (map plain_term c.args.terms.now)) c.put_terms-outcome.result c.in_ok-outcome.field-0 c.in_ok-outcome.was c.put_terms-outcome.ensures.fault;
   answered = λ unspent none quiet. tt;
 }
 
 pub returns-in_err-outcome-clause-refused : goal.returns-in_err-outcome-clause-refused
 returns-in_err-outcome-clause-refused g c =
-    has_cause (enums_in c.args.self.now) (map plain_term c.args.terms.now) c.put_terms-outcome.result c.in_err-outcome.field-0.0 c.in_err-outcome.was c.put_terms-outcome.ensures.fault c.put_terms-outcome.ensures.cause.cause c.from_residual.result c.from_residual.ensures.1
+    has_cause (first_fault (enums_in c.args.self.now) (map plain_term c.args.terms.now)) c.put_terms-outcome.result c.in_err-outcome.field-0.0 c.in_err-outcome.was c.put_terms-outcome.ensures.fault c.put_terms-outcome.ensures.cause.cause c.from_residual.result c.from_residual.ensures.1
 
 pub returns-in_err-outcome-clause-complete : goal.returns-in_err-outcome-clause-complete
 returns-in_err-outcome-clause-complete g c =
-    is_complete (enums_in c.args.self.now) (map plain_term c.args.terms.now) c.put_terms-outcome.result c.in_err-outcome.field-0.0 c.in_err-outcome.was c.put_terms-outcome.ensures.fault c.put_terms-outcome.ensures.cause.cause c.from_residual.result c.from_residual.ensures.1
+    is_complete (first_fault (enums_in c.args.self.now) (map plain_term c.args.terms.now)) c.put_terms-outcome.result c.in_err-outcome.field-0.0 c.in_err-outcome.was c.put_terms-outcome.ensures.fault c.put_terms-outcome.ensures.cause.cause c.from_residual.result c.from_residual.ensures.1

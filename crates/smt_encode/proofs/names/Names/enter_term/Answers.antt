@@ -11,4 +11,4 @@ enter_term-requires-clause-room c =
 
 pub returns-clause-tables : goal.returns-clause-tables
 returns-clause-tables c s t are meant entry =
-    tables_entered c.args.self.now _ c.args.id (TermMeaning t) _ s c.enter_term.ensures.kept meant c.requires.unkept entry (term_counted c.args.self.now c.enter_term.new.self t _ s c.enter_term.ensures.terms c.enter_term.ensures.types are) refl refl are
+    tables_entered c.args.self.now _ c.args.id (TermMeaning t) _ s c.enter_term.ensures.kept meant c.requires.unkept entry (term_counted c.args.self.now c.enter_term.new.self t _ s c.enter_term.ensures.terms c.enter_term.ensures.types c.enter_term.ensures.functions are) refl refl are

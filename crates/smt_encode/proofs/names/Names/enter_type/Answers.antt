@@ -11,4 +11,4 @@ enter_type-requires-clause-room c =
 
 pub returns-clause-tables : goal.returns-clause-tables
 returns-clause-tables c s t are meant entry =
-    tables_entered c.args.self.now _ c.args.id (TypeMeaning t) _ s c.enter_type.ensures.kept meant c.requires.unkept entry (type_counted c.args.self.now c.enter_type.new.self t _ s c.enter_type.ensures.terms c.enter_type.ensures.types are) refl refl are
+    tables_entered c.args.self.now _ c.args.id (TypeMeaning t) _ s c.enter_type.ensures.kept meant c.requires.unkept entry (type_counted c.args.self.now c.enter_type.new.self t _ s c.enter_type.ensures.terms c.enter_type.ensures.types c.enter_type.ensures.functions are) refl refl are

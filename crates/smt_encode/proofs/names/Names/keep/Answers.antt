@@ -9,4 +9,4 @@ keep-requires-clause-room c =
     omega (arith, b, c.requires.room)
 
 pub returns-clause-tables : goal.returns-clause-tables
-returns-clause-tables c s m are meant none text = tables_kept c.args.self.now _ c.args.id m _ s c.keep.ensures.kept meant c.requires.unkept none text c.keep.ensures.terms c.keep.ensures.types refl refl are
+returns-clause-tables c s m are meant none text = tables_kept c.args.self.now _ c.args.id m _ s c.keep.ensures.kept meant c.requires.unkept none text c.keep.ensures.terms c.keep.ensures.types c.keep.ensures.functions refl refl are

@@ -18,4 +18,5 @@ loop-preserved c =
       λ place. ap (λ (l : Texts). kept_at l place) is ∙ room c.loop.self.texts.items place ∙ c.loop.invariant.1 place,
       c.loop.invariant.2,
       c.loop.invariant.3,
+      c.loop.invariant.4,
     )

@@ -1,17 +1,22 @@
-use Rattle.std.proofs.Common.{◌≡◌, ◌<◌, ◌+◌, ◌∷◌, [], IsTrue, List, suc, drop, get_or, length, length-append, map, Some, ap, arith, rules, sym, subst, refl, ◌∙◌, Ok}
+use Rattle.std.proofs.Common.{◌≡◌, ◌⊎◌, ◌<◌, ◌+◌, ◌∷◌, [], IsTrue, List, suc, drop, get_or, length, length-append, map, Some, ap, arith, rules, sym, subst, refl, ◌∙◌, Ok}
 use Rattle.smt_graph.specs.Meanings.{all_found, meanings}
 use Rattle.smt_graph.specs.Parts.{parts_in}
 use Rattle.smt_nodes.specs.declared.interner.Interner.{Interner}
-use Rattle.smt_encode.specs.Entries.{own_lines, rendering_in, written_parts}
+use Rattle.std.specs.Io.KnownBytes.{append_known}
+use Rattle.smt_graph.specs.Parts.{label_in}
+use Rattle.smt_lines.specs.Line.{spelled_lines}
+use Rattle.smt_lexicon.specs.Reading.{Expression}
+use Rattle.smt_lines.specs.NameTables.{Tables}
+use Rattle.smt_lines.specs.Lines.{Written, ◌>>=◌}
+use Rattle.smt_encode.specs.Entries.{NodeRendering, heading, own_lines, rendering_in, second_last, written_parts}
 use Rattle.smt_encode.specs.Renderings.{plain_rendering}
-use Rattle.smt_encode.specs.Complete.{is_written, AreTypedMeanings}
+use Rattle.smt_encode.specs.Complete.{is_typed, is_written}
 use Rattle.smt_encode.specs.LookUps.{IsClosed}
 use Rattle.smt_lines.specs.Lines.{Enums}
 use Rattle.smt_encode.specs.Steps.{edges_in, WritesHere}
 use Rattle.smt_spelling.specs.Spelled.{IsSpelled}
 use Rattle.smt_nodes.specs.Interned.{meaning_in, nodes_of}
 use Rattle.smt_nodes.specs.View.{ids_of, place_of, places_of, plain_node}
-use Rattle.smt_nodes.specs.declared.id.NodeId.{NodeId}
 use Rattle.smt_encode.specs.Names.{enums_under, nodes_under, texts_under}
 use Rattle.std.specs.Option.{option_or}
 use Rattle.std.specs.Prelude.{is_some, slice_get}
@@ -22,11 +27,10 @@ use Rattle.smt_encode.proofs.Completing.{have_texts, node_completed, typed_at}
 use Rattle.smt_encode.proofs.Counted.{node_counted}
 use Rattle.smt_encode.proofs.Faulting.{handed_over, none_is, parts_first}
 use Rattle.smt_encode.proofs.Going.{at_found, ends, goes_on, none_left, one_passed, same_enums, starts}
-use Rattle.smt_encode.proofs.Walking.{both_written, earlier_at, holds_at, kept_more, parts_count, parts_earlier, parts_fewer, parts_found, parts_hold, room_stays, walks_then}
+use Rattle.smt_encode.proofs.Walking.{all_parts, behind_written, both_written, earlier_at, holds_at, kept_more, parts_count, parts_earlier, parts_fewer, parts_found, parts_hold, room_stays, walks_then, written_all}
 use Rattle.smt_encode.proofs.Built.{built_meaning}
-use Rattle.smt_encode.proofs.Stated.{stated}
+use Rattle.smt_encode.proofs.Stated.{all_stated}
 use Rattle.smt_encode.proofs.Typed.{all_written, parts_typed}
-use Rattle.std.specs.List.{AllByRecursion}
 use Rattle.smt_encode.proofs.Writing.{kept_texts, kept_written, unnamed}
 use Rattle.smt_encode.proofs.writer.Writer.+walk.Goals as goal
 
@@ -119,8 +123,8 @@ encode_new-encode_all-requires g t c κs lives =
     let nodes = nodes_under c.args.self.now.names in
     let is : IsNodeOf nodes c.args.id c.in_ok-node.node = c.in_ok-node.ensures in
     let how = c.rendering_of-rendering.ensures c.args.id m (ap (λ i. meaning_in i c.args.id) c.nodes.ensures ∙ meant) (subst (λ (i : Interner). IsNodeOf i c.args.id c.in_ok-node.node) (sym c.nodes.ensures) is) in
-    let found = parts_found nodes c.args.id c.in_ok-node.node is m meant (plain_rendering c.rendering_of-rendering.result) how c.items.result.now c.written-parts.result.now c.items.ensures c.written-parts.ensures in
-    let earlier = parts_earlier nodes c.args.id c.in_ok-node.node is m meant (plain_rendering c.rendering_of-rendering.result) how c.items.result.now c.written-parts.result.now c.items.ensures c.written-parts.ensures c.place.result c.place.ensures in
+    let found = parts_found nodes c.args.id c.in_ok-node.node is m meant (plain_rendering c.rendering_of-rendering.result) how c.items.result.now c.items-2.result.now c.items.ensures (c.items-2.ensures ∙ c.in_ok-parts.ensures) in
+    let earlier = parts_earlier nodes c.args.id c.in_ok-node.node is m meant (plain_rendering c.rendering_of-rendering.result) how c.items.result.now c.items-2.result.now c.items.ensures (c.items-2.ensures ∙ c.in_ok-parts.ensures) c.place.result c.place.ensures in
     let d = c.decreases in
     (omega (arith, d, c.place.ensures), (lives.0, (lives.1, (earlier, ((_, found), c.requires.room)))))
 
@@ -129,7 +133,7 @@ encode_new-returns-in_err-texts-clause-fault g t c m meant =
     let nodes = nodes_under c.args.self.now.names in
     let is : IsNodeOf nodes c.args.id c.in_ok-node.node = c.in_ok-node.ensures in
     let how = c.rendering_of-rendering.ensures c.args.id m (ap (λ i. meaning_in i c.args.id) c.nodes.ensures ∙ meant) (subst (λ (i : Interner). IsNodeOf i c.args.id c.in_ok-node.node) (sym c.nodes.ensures) is) in
-    let found = parts_found nodes c.args.id c.in_ok-node.node is m meant (plain_rendering c.rendering_of-rendering.result) how c.items.result.now c.written-parts.result.now c.items.ensures c.written-parts.ensures in
+    let found = parts_found nodes c.args.id c.in_ok-node.node is m meant (plain_rendering c.rendering_of-rendering.result) how c.items.result.now c.items-2.result.now c.items.ensures (c.items-2.ensures ∙ c.in_ok-parts.ensures) in
     handed_over _ c.in_err-texts.field-0.0 c.from_residual-in_err-texts.result c.from_residual-in_err-texts.ensures.1
     (λ f k. parts_first (enums_under c.args.self.now.names) m (built_meaning nodes c.args.id m meant) f (c.in_err-texts.ensures.fault _ found f k))
 
@@ -139,7 +143,17 @@ encode_new-finish-requires-clause-count g t c m there =
     let nodes = nodes_under c.args.self.now.names in
     let is : IsNodeOf nodes c.args.id c.in_ok-node.node = c.in_ok-node.ensures in
     let how = c.rendering_of-rendering.ensures c.args.id m (ap (λ i. meaning_in i c.args.id) c.nodes.ensures ∙ meant) (subst (λ (i : Interner). IsNodeOf i c.args.id c.in_ok-node.node) (sym c.nodes.ensures) is) in
-    c.in_ok-texts.ensures.count ∙ parts_count nodes c.args.id c.in_ok-node.node is m meant (plain_rendering c.rendering_of-rendering.result) how c.items.result.now c.written-parts.result.now c.items.ensures c.written-parts.ensures
+    c.in_ok-texts.ensures.count ∙ parts_count nodes c.args.id c.in_ok-node.node is m meant (plain_rendering c.rendering_of-rendering.result) how c.items.result.now c.items-2.result.now c.items.ensures (c.items-2.ensures ∙ c.in_ok-parts.ensures)
+
+pub encode_new-finish-requires-clause-sound : goal.encode_new-finish-requires-clause-sound
+encode_new-finish-requires-clause-sound g t c m there =
+    let stands = c.in_ok-texts.ensures.walks.stands in
+    let meant : meaning_in (nodes_under c.args.self.now.names) c.args.id ≡ Some m = ap (λ i. meaning_in i c.args.id) (sym stands.nodes) ∙ there in
+    let nodes = nodes_under c.args.self.now.names in
+    let is : IsNodeOf nodes c.args.id c.in_ok-node.node = c.in_ok-node.ensures in
+    let how = c.rendering_of-rendering.ensures c.args.id m (ap (λ i. meaning_in i c.args.id) c.nodes.ensures ∙ meant) (subst (λ (i : Interner). IsNodeOf i c.args.id c.in_ok-node.node) (sym c.nodes.ensures) is) in
+    let found = parts_found nodes c.args.id c.in_ok-node.node is m meant (plain_rendering c.rendering_of-rendering.result) how c.items.result.now c.items-2.result.now c.items.ensures (c.items-2.ensures ∙ c.in_ok-parts.ensures) in
+    ap (λ (e : Enums). meanings_fault e (written_parts (rendering_in m) (parts_in m))) stands.enums ∙ c.in_ok-texts.ensures.fault (written_parts (rendering_in m) (parts_in m)) found
 
 pub encode_new-finish-requires-clause-written : goal.encode_new-finish-requires-clause-written
 encode_new-finish-requires-clause-written g t c m s there has =
@@ -148,8 +162,8 @@ encode_new-finish-requires-clause-written g t c m s there has =
     let nodes = nodes_under c.args.self.now.names in
     let is : IsNodeOf nodes c.args.id c.in_ok-node.node = c.in_ok-node.ensures in
     let how = c.rendering_of-rendering.ensures c.args.id m (ap (λ i. meaning_in i c.args.id) c.nodes.ensures ∙ meant) (subst (λ (i : Interner). IsNodeOf i c.args.id c.in_ok-node.node) (sym c.nodes.ensures) is) in
-    let found = parts_found nodes c.args.id c.in_ok-node.node is m meant (plain_rendering c.rendering_of-rendering.result) how c.items.result.now c.written-parts.result.now c.items.ensures c.written-parts.ensures in
-    let r = kept_texts c.encode_all.new.self.names s has c.written-parts.result.now _ c.in_ok-texts.texts.items (ap (λ i. all_found (meanings (nodes_of i)) (places_of c.written-parts.result.now)) same ∙ found) c.in_ok-texts.ensures.kept in
+    let found = parts_found nodes c.args.id c.in_ok-node.node is m meant (plain_rendering c.rendering_of-rendering.result) how c.items.result.now c.items-2.result.now c.items.ensures (c.items-2.ensures ∙ c.in_ok-parts.ensures) in
+    let r = kept_texts c.encode_all.new.self.names s has c.items-2.result.now _ c.in_ok-texts.texts.items (ap (λ i. all_found (meanings (nodes_of i)) (places_of c.items-2.result.now)) same ∙ found) c.in_ok-texts.ensures.kept in
     (r.made, r.shown, r.stated)
 
 pub encode_new-returns-clause-lines : goal.encode_new-returns-clause-lines
@@ -158,27 +172,34 @@ encode_new-returns-clause-lines g t c m meant s has =
     let nodes = nodes_under c.args.self.now.names in
     let is : IsNodeOf nodes c.args.id c.in_ok-node.node = c.in_ok-node.ensures in
     let how = c.rendering_of-rendering.ensures c.args.id m (ap (λ i. meaning_in i c.args.id) c.nodes.ensures ∙ meant) (subst (λ (i : Interner). IsNodeOf i c.args.id c.in_ok-node.node) (sym c.nodes.ensures) is) in
-    let found = parts_found nodes c.args.id c.in_ok-node.node is m meant (plain_rendering c.rendering_of-rendering.result) how c.items.result.now c.written-parts.result.now c.items.ensures c.written-parts.ensures in
+    let found = parts_found nodes c.args.id c.in_ok-node.node is m meant (plain_rendering c.rendering_of-rendering.result) how c.items.result.now c.items-2.result.now c.items.ensures (c.items-2.ensures ∙ c.in_ok-parts.ensures) in
     let parts = written_parts (rendering_in m) (parts_in m) in
     let wrote = c.in_ok-texts.ensures.lines parts found s has in
     let w = encode_meanings enums parts s in
     let there : meaning_in (nodes_under c.encode_all.new.self.names) c.args.id ≡ Some m = ap (λ i. meaning_in i c.args.id) c.in_ok-texts.ensures.walks.stands.nodes ∙ meant in
-    rw (stated enums m s (built_meaning nodes c.args.id m meant) (unnamed c.args.self.now.names s has c.args.id m meant c.requires.unkept))
-    (both_written g.S.Sink.contents c.args.self.now c.encode_all.new.self c.finish.new.self w (λ es u. own_lines enums m es u) IsSpelled c.finish.result wrote.0
-    (subst (λ (e : Enums). WritesHere g.S.Sink.contents c.encode_all.new.self c.finish.new.self (own_lines e m w.made w.tables) IsSpelled c.finish.result) c.in_ok-texts.ensures.walks.stands.enums (c.finish.ensures.lines m w.made w.tables there wrote.1 wrote.0.names)))
+    let own : List Expression → Tables → Written Expression = λ es u. own_lines enums m es u in
+    let mid = record c.args.self.now { script = c.put_heading.new.script } in
+    rw (all_stated enums m s (built_meaning nodes c.args.id m meant) (unnamed c.args.self.now.names s has c.args.id m meant c.requires.unkept))
+    (behind_written g.S.Sink.contents c.args.self.now mid c.finish.new.self (heading (label_in m)) (w >>= own) IsSpelled c.finish.result
+    (c.in_ok-put_heading.ensures.ok ∙ ap (λ l. append_known (g.S.Sink.contents c.args.self.now.script) (spelled_lines (heading l))) (is.label m meant))
+    (both_written g.S.Sink.contents mid c.encode_all.new.self c.finish.new.self w own IsSpelled c.finish.result wrote.0
+    (subst (λ (e : Enums). WritesHere g.S.Sink.contents c.encode_all.new.self c.finish.new.self (own_lines e m w.made w.tables) IsSpelled c.finish.result) c.in_ok-texts.ensures.walks.stands.enums (c.finish.ensures.lines m w.made w.tables there wrote.1 wrote.0.names))))
 
 pub encode_new-returns-clause-whole : goal.encode_new-returns-clause-whole
 encode_new-returns-clause-whole g t c m meant typed whole =
     let nodes = nodes_under c.args.self.now.names in
     let is : IsNodeOf nodes c.args.id c.in_ok-node.node = c.in_ok-node.ensures in
     let how = c.rendering_of-rendering.ensures c.args.id m (ap (λ i. meaning_in i c.args.id) c.nodes.ensures ∙ meant) (subst (λ (i : Interner). IsNodeOf i c.args.id c.in_ok-node.node) (sym c.nodes.ensures) is) in
-    let found = parts_found nodes c.args.id c.in_ok-node.node is m meant (plain_rendering c.rendering_of-rendering.result) how c.items.result.now c.written-parts.result.now c.items.ensures c.written-parts.ensures in
-    let all : c.written-parts.result.now ≡ ids_of c.in_ok-node.node.parts = c.written-parts.ensures ∙ ap (written_parts (plain_rendering c.rendering_of-rendering.result)) c.items.ensures ∙ ap (λ r. written_parts r (ids_of c.in_ok-node.node.parts)) how ∙ all_written m typed (ids_of c.in_ok-node.node.parts) in
-    let inside = subst AreTypedMeanings (sym (all_written m typed (parts_in m))) (parts_typed m typed) in
+    let found = parts_found nodes c.args.id c.in_ok-node.node is m meant (plain_rendering c.rendering_of-rendering.result) how c.items.result.now c.items-2.result.now c.items.ensures (c.items-2.ensures ∙ c.in_ok-parts.ensures) in
+    let how' = plain_rendering c.rendering_of-rendering.result in
+    let ids = ids_of c.in_ok-node.node.parts in
+    let taken : c.items-2.result.now ≡ written_parts how' ids = c.items-2.ensures ∙ c.in_ok-parts.ensures ∙ ap (written_parts how') c.items.ensures in
+    let all : (written_parts how' ids ≡ ids) ⊎ (written_parts how' ids ≡ second_last ids) = subst (λ (r : NodeRendering). (written_parts r ids ≡ ids) ⊎ (written_parts r ids ≡ second_last ids)) (sym how) (all_written m typed ids) in
+    let inside = written_all (λ m. IsTrue (is_typed m)) (rendering_in m) (parts_in m) (parts_typed m typed) in
     let walked = c.in_ok-texts.ensures.walks in
-    let texts = have_texts (texts_under c.encode_all.new.self.names) c.written-parts.result.now c.in_ok-texts.texts.items c.in_ok-texts.ensures.kept in
+    let texts = have_texts (texts_under c.encode_all.new.self.names) c.items-2.result.now c.in_ok-texts.texts.items c.in_ok-texts.ensures.kept in
     node_completed c.encode_all.new.self c.finish.new.self c.args.id (plain_node c.in_ok-node.node) c.finish.result c.finish.ensures.walks.stands.nodes (ap (λ i. slice_get (nodes_of i) (place_of c.args.id)) walked.stands.nodes ∙ is.there) c.finish.ensures.walks.kept c.finish.ensures.only
-    (subst (λ (ids : List NodeId). AllByRecursion (λ place. IsTrue (is_written (texts_under c.encode_all.new.self.names) place)) (places_of ids)) all texts)
+    (all_parts (λ place. IsTrue (is_written (texts_under c.encode_all.new.self.names) place)) how' ids c.items-2.result.now taken all texts)
     (c.in_ok-texts.ensures.whole _ found inside whole)
 
 pub encode_new-returns-clause-steps : goal.encode_new-returns-clause-steps
@@ -187,12 +208,12 @@ encode_new-returns-clause-steps g t c has closed here =
     let nodes = nodes_under c.args.self.now.names in
     let is : IsNodeOf nodes c.args.id c.in_ok-node.node = c.in_ok-node.ensures in
     let how = c.rendering_of-rendering.ensures c.args.id m (ap (λ i. meaning_in i c.args.id) c.nodes.ensures ∙ meant) (subst (λ (i : Interner). IsNodeOf i c.args.id c.in_ok-node.node) (sym c.nodes.ensures) is) in
-    let inside = parts_hold nodes c.args.id c.in_ok-node.node is m meant (plain_rendering c.rendering_of-rendering.result) how c.items.result.now c.written-parts.result.now c.items.ensures c.written-parts.ensures (λ place. IsTrue (has place)) (closed (place_of c.args.id) (plain_node c.in_ok-node.node) is.there here) in
-    let fewer = parts_fewer nodes c.args.id c.in_ok-node.node is m meant (plain_rendering c.rendering_of-rendering.result) how c.items.result.now c.written-parts.result.now c.items.ensures c.written-parts.ensures in
+    let inside = parts_hold nodes c.args.id c.in_ok-node.node is m meant (plain_rendering c.rendering_of-rendering.result) how c.items.result.now c.items-2.result.now c.items.ensures (c.items-2.ensures ∙ c.in_ok-parts.ensures) (λ place. IsTrue (has place)) (closed (place_of c.args.id) (plain_node c.in_ok-node.node) is.there here) in
+    let fewer = parts_fewer nodes c.args.id c.in_ok-node.node is m meant (plain_rendering c.rendering_of-rendering.result) how c.items.result.now c.items-2.result.now c.items.ensures (c.items-2.ensures ∙ c.in_ok-parts.ensures) in
     let walked = c.in_ok-texts.ensures.walks in
     let there = ap (λ i. slice_get (nodes_of i) (place_of c.args.id)) walked.stands.nodes ∙ is.there in
     let none = walked.later c.args.id (omega (arith, c.place.ensures)) ∙ c.requires.unkept in
-    node_counted has c.encode_all.new.self c.finish.new.self c.args.id (plain_node c.in_ok-node.node) c.finish.result c.args.steps.now c.encode_all.new.steps (length c.written-parts.result.now) (edges_in has c.args.self.now)
+    node_counted has c.encode_all.new.self c.finish.new.self c.args.id (plain_node c.in_ok-node.node) c.finish.result c.args.steps.now c.encode_all.new.steps (length c.items-2.result.now) (edges_in has c.args.self.now)
     c.finish.ensures.walks.stands.nodes there here none c.finish.ensures.walks.kept c.finish.ensures.kept fewer (c.in_ok-texts.ensures.steps has closed inside)
 
 pub encode_node-returns-in_ok-clone-in-Some-clause-lines : goal.encode_node-returns-in_ok-clone-in-Some-clause-lines

@@ -1,25 +1,23 @@
-use Rattle.std.proofs.Common.{◌≡◌, ℕ, List, ap, refl, subst, sym, ◌∙◌}
-use Rattle.std.specs.Io.KnownBytes.{append_known}
+use Rattle.std.proofs.Common.{ℕ, List, ap, refl, subst, sym, ◌∙◌}
 use Rattle.smt_graph.specs.Nodes.{TypeMeaning}
 use Rattle.smt_leaves.specs.Entities.{bytes_of_type}
-use Rattle.smt_lines.specs.Line.{spelled_lines}
-use Rattle.smt_lines.specs.LineForms.{entity_lines}
-use Rattle.smt_lines.specs.Lines.{members_of, next_entity}
 use Rattle.smt_meaning.specs.Plain.{EntityType}
-use Rattle.smt_spelling.specs.Entries.{datatype_bytes}
-use Rattle.smt_encode.specs.Names.{enums_under, KeepTables}
+use Rattle.smt_nodes.specs.Interned.{meaning_in}
+use Rattle.smt_encode.specs.Names.{nodes_under, KeepTables}
 use Rattle.smt_encode.specs.NodeLines.{with_name}
+use Rattle.smt_encode.specs.declared.names.Names.{Names}
+use Rattle.smt_encode.proofs.Named.{names_alone}
 use Rattle.smt_encode.proofs.writer.Writer.declare.Goals as goal
+
+pub enter_type-requires-clause-meant : goal.enter_type-requires-clause-meant
+enter_type-requires-clause-meant g c = (_, ap (λ n. meaning_in (nodes_under n) c.args.id) c.in_ok-name.ensures.alone.names ∙ c.requires.meant)
 
 pub returns-clause-lines : goal.returns-clause-lines
 returns-clause-lines g c s has =
     let e = bytes_of_type c.args.ety.now in
-    let enums = enums_under c.args.self.now.names in
-    let name = c.in_ok-name.ensures s has in
-    let named : c.as_str.result.now ≡ next_entity s = c.as_str.ensures.value ∙ name in
-    let members = c.members_of-members.ensures ∙ ap (λ x. members_of x e) c.enums.ensures in
-    let bytes : datatype_bytes c.in_ok-datatype.datatype c.as_str-2.result.now ≡ spelled_lines (entity_lines (members_of enums e) e (next_entity s)) =
-    ap (datatype_bytes c.in_ok-datatype.datatype) (c.as_str-2.ensures.value ∙ sym c.as_str.ensures.value) ∙ c.in_ok-datatype.ensures.lines ∙ (λ i. spelled_lines (entity_lines (members i) e (named i))) in
-    let put = ◌∙◌ {b = append_known (g.S.Sink.contents c.args.self.now.script) (datatype_bytes c.in_ok-datatype.datatype c.as_str-2.result.now)} c.in_ok-put.ensures.ok (ap (append_known (g.S.Sink.contents c.args.self.now.script)) bytes) in
-    let names = subst (λ (n : List ℕ). KeepTables c.enter_type.new.self (with_name s (TypeMeaning (EntityType e)) n)) (c.in_ok-clone.ensures.cases ∙ name) (c.enter_type.ensures.tables s (EntityType e) has c.requires.meant refl) in
-    (record { names = names; contents_are = put }, name)
+    let same = c.in_ok-name.ensures.alone.names in
+    let put = c.in_ok-name.ensures.lines s (names_alone c.args.self.now.names s has) in
+    let keeps = subst (λ (n : Names). KeepTables n s) (sym same) has in
+    let meant = ap (λ n. meaning_in (nodes_under n) c.args.id) same ∙ c.requires.meant in
+    let names = subst (λ (n : List ℕ). KeepTables c.enter_type.new.self (with_name s (TypeMeaning (EntityType e)) n)) (c.in_ok-clone.ensures.cases ∙ put.named) (c.enter_type.ensures.tables s (EntityType e) keeps meant refl) in
+    (record { names = names; contents_are = put.got }, put.named)

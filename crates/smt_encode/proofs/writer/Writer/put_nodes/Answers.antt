@@ -7,7 +7,6 @@ use Rattle.smt_nodes.specs.declared.interner.Interner.{Interner}
 use Rattle.smt_nodes.specs.View.{places_of}
 use Rattle.smt_meaning.specs.Plain.{terms}
 use Rattle.smt_lines.specs.Lines.{Enums, Written, encode_terms, option_line}
-use Rattle.smt_lines.specs.NameTables.{no_names}
 use Rattle.smt_lexicon.specs.Reading.{Expression}
 use Rattle.smt_encode.specs.Complete.{AreWritten}
 use Rattle.smt_encode.specs.NodeTexts.{text_at}
@@ -46,18 +45,18 @@ returns-in_err-texts-clause-fault g c ts stand =
     (λ f k. sym (terms_fault_is (enums_under c.args.self.now.names) ts) ∙ ap (λ e. meanings_fault e (map TermMeaning ts)) (sym enums) ∙ c.in_err-texts.ensures.fault (map TermMeaning ts) there f k)
 
 pub returns-clause-lines : goal.returns-clause-lines
-returns-clause-lines g c ts stand has =
+returns-clause-lines g c ts stand s has =
     let mine = enums_under c.args.self.now.names in
     let same : nodes_under c.put_option.new.self.names ≡ nodes_under c.args.self.now.names = ap (λ (n : Names). n.nodes) c.in_ok-put_option.ensures.line.same_names ∙ c.in_ok-make_room.ensures.nodes in
     let there = ap (λ i. all_found (meanings (nodes_of i)) (places_of c.args.ids.now)) same ∙ stand in
     let enums : enums_under c.put_option.new.self.names ≡ mine = ap (λ (n : Names). enums_under n) c.in_ok-put_option.ensures.line.same_names ∙ c.in_ok-make_room.ensures.enums in
-    let roomy = c.in_ok-make_room.ensures.tables no_names has in
-    let opened = put option_line no_names c.in_ok-put_option.ensures.line refl roomy in
-    let head : Wrote g.S.Sink.contents c.args.self.now c.put_option.new.self (option_line ∷ []) no_names = record { names = opened.names; contents_are = opened.contents_are } in
+    let roomy = c.in_ok-make_room.ensures.tables s has in
+    let opened = put option_line s c.in_ok-put_option.ensures.line refl roomy in
+    let head : Wrote g.S.Sink.contents c.args.self.now c.put_option.new.self (option_line ∷ []) s = record { names = opened.names; contents_are = opened.contents_are } in
     let lines = subst (λ (w : Written (List Expression)). Wrote g.S.Sink.contents c.put_option.new.self c.encode_all.new.self w.lines w.tables × AreSpelled w.made c.in_ok-texts.texts.items)
-    (ap (λ (e : Enums). encode_meanings e (map TermMeaning ts) no_names) enums ∙ terms_stated mine ts no_names) (c.in_ok-texts.ensures.lines (map TermMeaning ts) there no_names head.names) in
-    let u = encode_terms mine (terms ts) no_names in
-    scripted _ mine ts head lines.0 (c.in_ok-put_assertions.ensures.lines u.tables u.made lines.0.names (ap (map rc_str_bytes) c.as_slice.ensures.value ∙ lines.1))
+    (ap (λ (e : Enums). encode_meanings e (map TermMeaning ts) s) enums ∙ terms_stated mine ts s) (c.in_ok-texts.ensures.lines (map TermMeaning ts) there s head.names) in
+    let u = encode_terms mine (terms ts) s in
+    scripted _ mine ts s head lines.0 (c.in_ok-put_assertions.ensures.lines u.tables u.made lines.0.names (ap (map rc_str_bytes) c.as_slice.ensures.value ∙ lines.1))
 
 pub returns-clause-written : goal.returns-clause-written
 returns-clause-written g c ts stand typed whole =

@@ -5,9 +5,8 @@ use Rattle.smt_graph.proofs.Distinct.{nothing_past}
 use Rattle.smt_nodes.proofs.Comparing.{at_length, at_nowhere, at_pair, compared, parts_earlier, Compared}
 use Rattle.smt_nodes.proofs.Labels.{parts_before}
 use Rattle.std.specs.declared.cmp.Ordering.TheVariants.{Equal}
-use Rattle.smt_nodes.proofs.Levels.{label_cmp, label_cmp-is}
 use Rattle.smt_nodes.specs.Interned.{nodes_of}
-use Rattle.smt_nodes.specs.Order.{meaning_cmp, parts_apart}
+use Rattle.smt_nodes.specs.Order.{first_cmp, meaning_cmp, parts_apart}
 use Rattle.smt_nodes.specs.View.{ids_of, place_of, plain_label, plain_node}
 use Rattle.smt_nodes.proofs.interner.Interner.+compare.Goals as goal
 
@@ -25,28 +24,28 @@ compare-requires t c =
 pub returns-in-Nowhere : goal.returns-in-Nowhere
 returns-in-Nowhere t c m n p q a =
     let s = c.args.self.now in
-    let k : label_cmp (plain_label c.in-Some.first.now.label) (plain_label c.in-Some-node.second.now.label) ≡ Equal = sym (label_cmp-is c.in-Some.first.now.label c.in-Some-node.second.now.label) ∙ (search rules) in
+    let k : first_cmp (plain_label c.in-Some.first.now.label) (plain_label c.in-Some-node.second.now.label) ≡ Equal = search rules in
     let r : Compared (nodes_of s) c.in-Some.first.now c.in-Some-node.second.now m n = compared (nodes_of s) s.graph (place_of c.args.a) (place_of c.args.b) c.in-Some.first.now c.in-Some-node.second.now (sym c.in-Some.ensures) (sym c.in-Some-node.ensures) m n p q a in
     at_nowhere (meanings (nodes_of s)) _ (meaning_cmp m n) (r.same k) (c.in-Nowhere.ensures ∙ (ap (λ xs. parts_apart (plain_label c.in-Some.first.now.label) xs c.items-in-Equal.result.now) c.items.ensures ∙ ap (parts_apart (plain_label c.in-Some.first.now.label) (ids_of c.in-Some.first.now.parts)) c.items-in-Equal.ensures))
 
 pub returns-in-At : goal.returns-in-At
 returns-in-At t c m n p q a =
     let s = c.args.self.now in
-    let k : label_cmp (plain_label c.in-Some.first.now.label) (plain_label c.in-Some-node.second.now.label) ≡ Equal = sym (label_cmp-is c.in-Some.first.now.label c.in-Some-node.second.now.label) ∙ (search rules) in
+    let k : first_cmp (plain_label c.in-Some.first.now.label) (plain_label c.in-Some-node.second.now.label) ≡ Equal = search rules in
     let r : Compared (nodes_of s) c.in-Some.first.now c.in-Some-node.second.now m n = compared (nodes_of s) s.graph (place_of c.args.a) (place_of c.args.b) c.in-Some.first.now c.in-Some-node.second.now (sym c.in-Some.ensures) (sym c.in-Some-node.ensures) m n p q a in
     at_pair (meanings (nodes_of s)) _ (meaning_cmp m n) c.in-At.x c.in-At.y c.compare.result (r.same k) (c.in-At.ensures ∙ (ap (λ xs. parts_apart (plain_label c.in-Some.first.now.label) xs c.items-in-Equal.result.now) c.items.ensures ∙ ap (parts_apart (plain_label c.in-Some.first.now.label) (ids_of c.in-Some.first.now.parts)) c.items-in-Equal.ensures)) c.compare.ensures
 
 pub returns-in-Length : goal.returns-in-Length
 returns-in-Length t c m n p q a =
     let s = c.args.self.now in
-    let k : label_cmp (plain_label c.in-Some.first.now.label) (plain_label c.in-Some-node.second.now.label) ≡ Equal = sym (label_cmp-is c.in-Some.first.now.label c.in-Some-node.second.now.label) ∙ (search rules) in
+    let k : first_cmp (plain_label c.in-Some.first.now.label) (plain_label c.in-Some-node.second.now.label) ≡ Equal = search rules in
     let r : Compared (nodes_of s) c.in-Some.first.now c.in-Some-node.second.now m n = compared (nodes_of s) s.graph (place_of c.args.a) (place_of c.args.b) c.in-Some.first.now c.in-Some-node.second.now (sym c.in-Some.ensures) (sym c.in-Some-node.ensures) m n p q a in
     at_length (meanings (nodes_of s)) _ (meaning_cmp m n) c.in-Length.longer (r.same k) (c.in-Length.ensures ∙ (ap (λ xs. parts_apart (plain_label c.in-Some.first.now.label) xs c.items-in-Equal.result.now) c.items.ensures ∙ ap (parts_apart (plain_label c.in-Some.first.now.label) (ids_of c.in-Some.first.now.parts)) c.items-in-Equal.ensures))
 
 pub returns-in_default : goal.returns-in_default
 returns-in_default t c m n p q a =
     let s = c.args.self.now in
-    let e : c.cmp.result ≡ label_cmp (plain_label c.in-Some.first.now.label) (plain_label c.in-Some-node.second.now.label) = (search rules) ∙ label_cmp-is c.in-Some.first.now.label c.in-Some-node.second.now.label in
+    let e : c.compare_labels.result ≡ first_cmp (plain_label c.in-Some.first.now.label) (plain_label c.in-Some-node.second.now.label) = c.compare_labels.ensures in
     let r : Compared (nodes_of s) c.in-Some.first.now c.in-Some-node.second.now m n = compared (nodes_of s) s.graph (place_of c.args.a) (place_of c.args.b) c.in-Some.first.now c.in-Some-node.second.now (sym c.in-Some.ensures) (sym c.in-Some-node.ensures) m n p q a in
     e ∙ r.apart (λ h. c.in_default.not-Equal (e ∙ h))
 

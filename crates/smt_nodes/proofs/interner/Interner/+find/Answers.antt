@@ -4,13 +4,13 @@ use Rattle.std.proofs.lemmas.List.{length-map}
 use Rattle.std.specs.Iterator.Adapters.{zip_first, zip_second}
 use Rattle.std.specs.Slice.Iter.{iter_rest}
 use Rattle.smt_graph.specs.Meanings.{all_found, meanings}
-use Rattle.smt_graph.specs.Nodes.{TermMeaning, TypeMeaning}
+use Rattle.smt_graph.specs.Nodes.{FunctionMeaning, TermMeaning, TypeMeaning}
 use Rattle.smt_graph.proofs.Whole.{round}
-use Rattle.smt_graph.specs.Parts.{parts_in}
+use Rattle.smt_graph.specs.Parts.{parts_in, term_parts}
 use Rattle.smt_meaning.specs.Plain.{SetType, PlainTerm, Application, NoneTerm, LiteralTerm, SetTerm, SomeTerm, VariableTerm, terms}
 use Rattle.std.specs.Rc.{rc_str_bytes}
-use Rattle.smt_term.specs.View.{plain_elements, plain_items, plain_literal, plain_op, plain_term, plain_type, plain_term-App, plain_term-None, plain_term-Prim, plain_term-Set, plain_term-Some, plain_term-Var}
-use Rattle.smt_nodes.proofs.Finding.{all_right, app_parts, decided_by_parts, first_right, first_wrong, literal_typed, next_right, next_wrong, none_left, other_count, some_count, some_right, some_wrong}
+use Rattle.smt_term.specs.View.{plain_elements, plain_function, plain_items, plain_literal, plain_op, plain_term, plain_type, plain_term-App, plain_term-None, plain_term-Prim, plain_term-Set, plain_term-Some, plain_term-Var}
+use Rattle.smt_nodes.proofs.Finding.{all_right, app_parts, at_parts, call_parts, decided_by_parts, first_right, first_wrong, literal_typed, next_right, next_wrong, none_left, other_count, parts_applied, some_count, some_right, some_wrong}
 use Rattle.smt_nodes.specs.Interned.{meaning_in, nodes_of}
 use Rattle.smt_nodes.specs.View.{place_of, places_of, plain_label}
 use Rattle.smt_nodes.proofs.interner.Interner.+find.Goals as goal
@@ -18,16 +18,24 @@ use Rattle.smt_nodes.proofs.interner.Interner.+find.Goals as goal
 pub are_parts_of_term-returns-then-stands_for_type : goal.are_parts_of_term-returns-then-stands_for_type
 are_parts_of_term-returns-then-stands_for_type t c =
     let whole : plain_term c.args.term.now ≡ Application (plain_op c.in-App.op) (terms (plain_items c.in-App.args)) (plain_type c.in-App.ret_ty) = ap plain_term c.in-App.is ∙ plain_term-App c.in-App.op c.in-App.args c.in-App.ret_ty in
-    let parts : parts_in (TermMeaning (plain_term c.args.term.now)) ≡ TypeMeaning (plain_type c.in-App.ret_ty) ∷ map TermMeaning (plain_items c.in-App.args) =
-    ap (λ u. parts_in (TermMeaning u)) whole ∙ ap (λ ps. TypeMeaning (plain_type c.in-App.ret_ty) ∷ ps) (app_parts c.in-App.op (plain_items c.in-App.args) (plain_type c.in-App.ret_ty)) in
     let ms = meanings (nodes_of c.args.self.now) in
-    let T : List PlainTerm → Type 0 = λ us. (c.stand_for_terms.result ≡ true) ↔ (all_found ms (places_of c.in-Some.inner.now) ≡ Some (map TermMeaning us)) in
-    first_right ms c.args.parts.now c.in-Some.inner.now c.in-Some.ty.now _ _ _ c.stands_for_type.result c.stand_for_terms.result c.in-Some.ensures.cases.0 parts c.stands_for_type.ensures c.if-stands_for_type.true (subst T c.items.ensures.plain c.stand_for_terms.ensures)
+    let T : List PlainTerm → Type 0 = λ us. (c.are_applied.result ≡ true) ↔ (all_found ms (places_of c.in-Some.inner.now) ≡ Some (term_parts (Application (plain_op c.in-App.op) (terms us) (plain_type c.in-App.ret_ty)))) in
+    first_right ms c.args.parts.now c.in-Some.inner.now c.in-Some.ty.now _ _ _ c.stands_for_type.result c.are_applied.result c.in-Some.ensures.cases.0 (parts_applied c.in-App.op (terms (plain_items c.in-App.args)) (plain_type c.in-App.ret_ty) _ whole) c.stands_for_type.ensures c.if-stands_for_type.true (subst T c.items.ensures.plain (c.are_applied.ensures (plain_type c.in-App.ret_ty)))
 
 pub are_parts_of_term-returns-else-stands_for_type : goal.are_parts_of_term-returns-else-stands_for_type
 are_parts_of_term-returns-else-stands_for_type t c =
     let whole : plain_term c.args.term.now ≡ Application (plain_op c.in-App.op) (terms (plain_items c.in-App.args)) (plain_type c.in-App.ret_ty) = ap plain_term c.in-App.is ∙ plain_term-App c.in-App.op c.in-App.args c.in-App.ret_ty in
-    first_wrong (meanings (nodes_of c.args.self.now)) c.args.parts.now c.in-Some.inner.now c.in-Some.ty.now _ _ _ c.stands_for_type.result c.in-Some.ensures.cases.0 (ap (λ u. parts_in (TermMeaning u)) whole) c.stands_for_type.ensures c.if-stands_for_type.false
+    first_wrong (meanings (nodes_of c.args.self.now)) c.args.parts.now c.in-Some.inner.now c.in-Some.ty.now _ _ _ c.stands_for_type.result c.in-Some.ensures.cases.0 (parts_applied c.in-App.op (terms (plain_items c.in-App.args)) (plain_type c.in-App.ret_ty) _ whole) c.stands_for_type.ensures c.if-stands_for_type.false
+
+pub are_applied-returns-then-stands_for_function : goal.are_applied-returns-then-stands_for_function
+are_applied-returns-then-stands_for_function t c ty =
+    let parts : term_parts (Application (plain_op c.args.op.now) (terms (map plain_term c.args.args.now)) ty) ≡ FunctionMeaning (plain_function c.deref.result.now) ∷ map TermMeaning (map plain_term c.args.args.now) =
+    call_parts c.args.op.now c.in-Uuf.function (map plain_term c.args.args.now) ty c.in-Uuf.is ∙ ap (λ f. FunctionMeaning (plain_function f) ∷ map TermMeaning (map plain_term c.args.args.now)) (sym c.deref.ensures) in
+    first_right (meanings (nodes_of c.args.self.now)) c.args.ids.now c.in-Some.inner.now c.in-Some.id.now _ _ _ c.stands_for_function.result c.stand_for_terms.result c.in-Some.ensures.cases.0 parts c.stands_for_function.ensures c.if-stands_for_function.true c.stand_for_terms.ensures
+
+pub are_applied-returns-in_default : goal.are_applied-returns-in_default
+are_applied-returns-in_default t c ty =
+    at_parts (meanings (nodes_of c.args.self.now)) c.args.ids.now c.stand_for_terms-in_default.result _ _ (sym (app_parts c.args.op.now c.in_default.not-Uuf (map plain_term c.args.args.now) ty)) c.stand_for_terms-in_default.ensures
 
 pub are_parts_of_term-returns-then-stands_for_option : goal.are_parts_of_term-returns-then-stands_for_option
 are_parts_of_term-returns-then-stands_for_option t c =
@@ -57,8 +65,8 @@ are_parts_of_term-returns-then-stands_for_set t c =
     let whole : plain_term c.args.term.now ≡ SetTerm (plain_type c.in-Set.elts_ty) (terms (plain_elements c.in-Set.elts)) = ap plain_term c.in-Set.is ∙ plain_term-Set c.in-Set.elts_ty c.in-Set.elts in
     let parts : parts_in (TermMeaning (plain_term c.args.term.now)) ≡ TypeMeaning (SetType (plain_type c.in-Set.elts_ty)) ∷ map TermMeaning (plain_elements c.in-Set.elts) =
     ap (λ u. parts_in (TermMeaning u)) whole ∙ ap (λ us. TypeMeaning (SetType (plain_type c.in-Set.elts_ty)) ∷ map TermMeaning us) (round (plain_elements c.in-Set.elts)) in
-    let T : List PlainTerm → Type 0 = λ us. (c.stand_for_terms-then-stands_for_set.result ≡ true) ↔ (all_found ms (places_of c.in-Some.inner.now) ≡ Some (map TermMeaning us)) in
-    first_right ms c.args.parts.now c.in-Some.inner.now c.in-Some.ty.now _ _ _ c.stands_for_set.result c.stand_for_terms-then-stands_for_set.result c.in-Some.ensures.cases.0 parts c.stands_for_set.ensures c.if-stands_for_set.true (subst T c.items-then-stands_for_set.ensures.plain c.stand_for_terms-then-stands_for_set.ensures)
+    let T : List PlainTerm → Type 0 = λ us. (c.stand_for_terms.result ≡ true) ↔ (all_found ms (places_of c.in-Some.inner.now) ≡ Some (map TermMeaning us)) in
+    first_right ms c.args.parts.now c.in-Some.inner.now c.in-Some.ty.now _ _ _ c.stands_for_set.result c.stand_for_terms.result c.in-Some.ensures.cases.0 parts c.stands_for_set.ensures c.if-stands_for_set.true (subst T c.items-then-stands_for_set.ensures.plain c.stand_for_terms.ensures)
 
 pub are_parts_of_term-returns-else-stands_for_set : goal.are_parts_of_term-returns-else-stands_for_set
 are_parts_of_term-returns-else-stands_for_set t c =

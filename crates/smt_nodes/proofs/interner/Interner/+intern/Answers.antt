@@ -1,36 +1,31 @@
 use Rattle.std.proofs.Common.{◌≡◌, ◌∷◌, [], Some, map, sym, ap, ◌∙◌}
 use Rattle.std.proofs.lemmas.Result.{IfOk-weaker}
 use Rattle.std.specs.Rc.{rc_str_bytes}
-use Rattle.smt_meaning.specs.Plain.{OptionType, SetType, PlainTerm, Application, NoneTerm, LiteralTerm, SetTerm, SomeTerm, VariableTerm, terms}
+use Rattle.smt_meaning.specs.Plain.{OptionType, SetType, PlainTerm, Application, NoneTerm, LiteralTerm, SetTerm, SomeTerm, UufOp, VariableTerm, terms}
 use Rattle.smt_meaning.specs.Types.{literal_type, type_of}
 use Rattle.smt_graph.specs.Meanings.{all_found, meanings, stands_for}
-use Rattle.smt_graph.specs.Nodes.{LiteralLabel, NoneLabel, SetOfLabel, SomeLabel, VariableLabel, TermMeaning, TypeMeaning}
-use Rattle.smt_term.specs.View.{plain_literal, plain_op, plain_term, plain_type, plain_term-App, plain_term-None, plain_term-Prim, plain_term-Set, plain_term-Some, plain_term-Var}
-use Rattle.smt_nodes.proofs.Interning.{app_means, both_ok, literal_means, none_means, one_found, pushed, all_kept, set_means, some_means, two_found, variable_means}
+use Rattle.smt_graph.specs.Nodes.{ApplicationLabel, LiteralLabel, NoneLabel, SetOfLabel, SomeLabel, VariableLabel, FunctionMeaning, TermMeaning, TypeMeaning}
+use Rattle.smt_term.specs.View.{plain_function, plain_literal, plain_op, plain_term, plain_type, plain_term-App, plain_term-None, plain_term-Prim, plain_term-Set, plain_term-Some, plain_term-Var}
+use Rattle.smt_nodes.proofs.Interning.{app_means, both_ok, call_means, literal_means, none_means, one_found, pushed, all_kept, set_means, some_means, two_found, variable_means}
 use Rattle.smt_nodes.specs.Interned.{nodes_of, IsMeant}
 use Rattle.smt_nodes.specs.View.{places_of}
 use Rattle.smt_nodes.proofs.interner.Interner.+intern.Goals as goal
 
-pub intern-returns-in_ok-share-in-App-clause-meaning : goal.intern-returns-in_ok-share-in-App-clause-meaning
-intern-returns-in_ok-share-in-App-clause-meaning t c =
+pub intern-returns-in-App-clause-meaning : goal.intern-returns-in-App-clause-meaning
+intern-returns-in-App-clause-meaning t c =
     let args = map plain_term c.items.result.now in
-    let whole : plain_term c.args.term.now ≡ Application (plain_op c.in-App.op) (terms (map plain_term c.items.result.now)) (plain_type c.in-App.ret_ty) =
+    let whole : plain_term c.args.term.now ≡ Application (plain_op c.in-App.op) (terms args) (plain_type c.in-App.ret_ty) =
     ap plain_term c.in-App.is ∙ (plain_term-App c.in-App.op c.in-App.args c.in-App.ret_ty ∙ ap (λ ts. Application (plain_op c.in-App.op) (terms ts) (plain_type c.in-App.ret_ty)) (sym c.items.ensures.plain)) in
     let type : type_of (plain_term c.args.term.now) ≡ plain_type c.in-App.ret_ty = ap type_of whole in
-    let same : Application (plain_op c.in_ok-share-in-App.field-0) (terms args) (type_of (plain_term c.args.term.now)) ≡ plain_term c.args.term.now =
-    ap (λ o. Application o (terms args) (type_of (plain_term c.args.term.now))) c.in_ok-share-in-App.ensures ∙ (ap (Application (plain_op c.in-App.op) (terms args)) type ∙ sym whole) in
-    IfOk-weaker c.enter.result _ _ (λ id h. h ∙ (app_means c.in_ok-share-in-App.field-0 (type_of (plain_term c.args.term.now)) args ∙ ap (λ u. Some (TermMeaning u)) same))
-    (c.enter.ensures.meaning (TypeMeaning (type_of (plain_term c.args.term.now)) ∷ map TermMeaning args) (ap (λ l. all_found (meanings (nodes_of c.intern_all.new.self)) (places_of l)) c.as_slice.ensures.value ∙ c.in_ok-parts-in-App.ensures.meanings (TypeMeaning (type_of (plain_term c.args.term.now))) c.in_ok-ty.ensures.meaning))
-
-pub intern-returns-in_ok-share-in-App-clause-kept : goal.intern-returns-in_ok-share-in-App-clause-kept
-intern-returns-in_ok-share-in-App-clause-kept t c id m h = c.enter.ensures.kept id m (c.intern_all.ensures.kept id m (c.intern_type_of.ensures.kept id m h))
+    IfOk-weaker c.intern_application.result _ _ (λ id h. h ∙ ap (λ u. Some (TermMeaning u)) (ap (Application (plain_op c.in-App.op) (terms args)) type ∙ sym whole))
+    (c.intern_application.ensures.meaning (type_of (plain_term c.args.term.now)) c.in_ok-ty.ensures.meaning)
 
 pub intern-returns-in-None-clause-meaning : goal.intern-returns-in-None-clause-meaning
 intern-returns-in-None-clause-meaning t c =
     let whole : plain_term c.args.term.now ≡ NoneTerm (plain_type c.in-None.field-0) = ap plain_term c.in-None.is ∙ plain_term-None c.in-None.field-0 in
     let type : type_of (plain_term c.args.term.now) ≡ OptionType (plain_type c.in-None.field-0) = ap type_of whole in
-    IfOk-weaker c.enter-in-None.result _ _ (λ id h. h ∙ (ap (λ t. stands_for NoneLabel (TypeMeaning t ∷ [])) type ∙ (none_means (plain_type c.in-None.field-0) ∙ ap (λ u. Some (TermMeaning u)) (sym whole))))
-    (c.enter-in-None.ensures.meaning (TypeMeaning (type_of (plain_term c.args.term.now)) ∷ []) (one_found (nodes_of c.intern_type_of.new.self) c.in_ok-ty.ty _ c.in_ok-ty.ensures.meaning))
+    IfOk-weaker c.enter.result _ _ (λ id h. h ∙ (ap (λ t. stands_for NoneLabel (TypeMeaning t ∷ [])) type ∙ (none_means (plain_type c.in-None.field-0) ∙ ap (λ u. Some (TermMeaning u)) (sym whole))))
+    (c.enter.ensures.meaning (TypeMeaning (type_of (plain_term c.args.term.now)) ∷ []) (one_found (nodes_of c.intern_type_of.new.self) c.in_ok-ty.ty _ c.in_ok-ty.ensures.meaning))
 
 pub intern-returns-in_ok-share-in-Prim-clause-meaning : goal.intern-returns-in_ok-share-in-Prim-clause-meaning
 intern-returns-in_ok-share-in-Prim-clause-meaning t c =
@@ -48,7 +43,7 @@ intern-returns-in_ok-parts-in-Set-clause-meaning t c =
     both_ok _ (IsMeant c.enter-in-Set.new.self) _ c.enter-in-Set.result
     (λ id h (m, e). (let made : stands_for SetOfLabel (TypeMeaning (SetType (plain_type c.in-Set.elts_ty)) ∷ map TermMeaning items) ≡ Some m = ap (λ t. stands_for SetOfLabel (TypeMeaning t ∷ map TermMeaning items)) (sym type) ∙ (sym h ∙ e) in
     e ∙ (sym (set_means (plain_type c.in-Set.elts_ty) items m made) ∙ ap (λ u. Some (TermMeaning u)) (sym whole))))
-    (c.enter-in-Set.ensures.meaning (TypeMeaning (type_of (plain_term c.args.term.now)) ∷ map TermMeaning items) (ap (λ l. all_found (meanings (nodes_of c.intern_all-in-Set.new.self)) (places_of l)) c.as_slice-in-Set.ensures.value ∙ c.in_ok-parts-in-Set.ensures.meanings (TypeMeaning (type_of (plain_term c.args.term.now))) c.in_ok-ty.ensures.meaning))
+    (c.enter-in-Set.ensures.meaning (TypeMeaning (type_of (plain_term c.args.term.now)) ∷ map TermMeaning items) (ap (λ l. all_found (meanings (nodes_of c.intern_all.new.self)) (places_of l)) c.as_slice.ensures.value ∙ c.in_ok-parts-in-Set.ensures.meanings (TypeMeaning (type_of (plain_term c.args.term.now)) ∷ []) (one_found (nodes_of c.intern_type_of.new.self) c.in_ok-ty.ty _ c.in_ok-ty.ensures.meaning)))
     c.enter-in-Set.ensures.meant
 
 pub intern-returns-in_ok-part-in-Some-clause-meaning : goal.intern-returns-in_ok-part-in-Some-clause-meaning
@@ -67,8 +62,24 @@ intern-returns-in_ok-clone-in-Var-clause-meaning t c =
     IfOk-weaker c.enter-in-Var.result _ _ (λ id h. h ∙ (ap (λ s. stands_for (VariableLabel s) (TypeMeaning (type_of (plain_term c.args.term.now)) ∷ [])) id_is ∙ (variable_means (rc_str_bytes c.in-Var.variable.id) (type_of (plain_term c.args.term.now)) ∙ ap (λ u. Some (TermMeaning u)) (ap (VariableTerm (rc_str_bytes c.in-Var.variable.id)) type ∙ sym whole))))
     (c.enter-in-Var.ensures.meaning (TypeMeaning (type_of (plain_term c.args.term.now)) ∷ []) (one_found (nodes_of c.intern_type_of.new.self) c.in_ok-ty.ty _ c.in_ok-ty.ensures.meaning))
 
+pub intern_application-returns-in_ok-parts-in-Uuf-clause-meaning : goal.intern_application-returns-in_ok-parts-in-Uuf-clause-meaning
+intern_application-returns-in_ok-parts-in-Uuf-clause-meaning t c ty h =
+    let args = map plain_term c.args.args.now in
+    let f = plain_function c.deref.result.now in
+    let op : plain_op c.args.op.now ≡ UufOp f = ap plain_op c.in-Uuf.is ∙ ap (λ f. UufOp (plain_function f)) (sym c.deref.ensures) in
+    let ms = TypeMeaning ty ∷ FunctionMeaning f ∷ [] in
+    let first = two_found (nodes_of c.intern_function.new.self) c.args.ty c.in_ok-function-in-Uuf.function (TypeMeaning ty) (FunctionMeaning f) (c.intern_function.ensures.kept c.args.ty (TypeMeaning ty) h) c.in_ok-function-in-Uuf.ensures.meaning in
+    IfOk-weaker c.enter.result _ _ (λ id e. e ∙ (call_means f ty args ∙ ap (λ o. Some (TermMeaning (Application o (terms args) ty))) (sym op)))
+    (c.enter.ensures.meaning (TypeMeaning ty ∷ FunctionMeaning f ∷ map TermMeaning args) (ap (λ l. all_found (meanings (nodes_of c.intern_all.new.self)) (places_of l)) c.as_slice.ensures.value ∙ c.in_ok-parts-in-Uuf.ensures.meanings ms first))
+
+pub intern_application-returns-in_ok-share-in_default-clause-meaning : goal.intern_application-returns-in_ok-share-in_default-clause-meaning
+intern_application-returns-in_ok-share-in_default-clause-meaning t c ty h =
+    let args = map plain_term c.args.args.now in
+    IfOk-weaker c.enter-in_default.result _ _ (λ id e. e ∙ (ap (λ o. stands_for (ApplicationLabel o) (TypeMeaning ty ∷ map TermMeaning args)) c.in_ok-share-in_default.ensures ∙ app_means c.args.op.now c.in_default.not-Uuf ty args))
+    (c.enter-in_default.ensures.meaning (TypeMeaning ty ∷ map TermMeaning args) (ap (λ l. all_found (meanings (nodes_of c.intern_all-in_default.new.self)) (places_of l)) c.as_slice-in_default.ensures.value ∙ c.in_ok-parts-in_default.ensures.meanings (TypeMeaning ty ∷ []) (one_found (nodes_of c.args.self.now) c.args.ty (TypeMeaning ty) h)))
+
 pub intern_all-loop-term-preserved : goal.intern_all-loop-term-preserved
 intern_all-loop-term-preserved t c = (
-  λ m h. pushed (nodes_of c.intern.new.self) c.loop-term.parts.items c.push-in-loop-term.new.self.items c.in_ok-part.part m c.args.terms.now c.loop-term.term-index c.term-item.result c.in_ok-push-2.ensures.items (all_kept (nodes_of c.loop-term.self) (nodes_of c.intern.new.self) c.intern.ensures.kept c.loop-term.parts.items _ (c.loop-term.invariant.0 m h)) c.in_ok-part.ensures.meaning c.loop-term-test.true c.term-item.is,
+  λ ms h. pushed (nodes_of c.intern.new.self) c.loop-term.parts.items c.push.new.self.items c.in_ok-part.part ms c.args.terms.now c.loop-term.term-index c.term-item.result c.in_ok-push.ensures.items (all_kept (nodes_of c.loop-term.self) (nodes_of c.intern.new.self) c.intern.ensures.kept c.loop-term.parts.items _ (c.loop-term.invariant.0 ms h)) c.in_ok-part.ensures.meaning c.loop-term-test.true c.term-item.is,
   λ id m h. c.intern.ensures.kept id m (c.loop-term.invariant.1 id m h),
 )

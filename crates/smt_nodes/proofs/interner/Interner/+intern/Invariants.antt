@@ -1,12 +1,12 @@
-use Rattle.std.proofs.Common.{◌≡◌, ◌∷◌, Some, map, take}
+use Rattle.std.proofs.Common.{◌≡◌, ◌++◌, List, Some, map, take}
 use Rattle.smt_graph.specs.Meanings.{all_found, meanings}
 use Rattle.smt_graph.specs.Nodes.{Meaning, TermMeaning}
 use Rattle.smt_term.specs.View.{plain_term}
-use Rattle.smt_nodes.specs.Interned.{meaning_in, nodes_of, KeepsMeanings}
+use Rattle.smt_nodes.specs.Interned.{nodes_of, KeepsMeanings}
 use Rattle.smt_nodes.specs.View.{places_of}
 use Rattle.smt_nodes.proofs.interner.Interner.+intern.Given as goal
 
 -- what was there means what it meant, and the parts so far are found
 abbrev pub invariant-intern_all-loop-term : goal.invariant-intern_all-loop-term
 invariant-intern_all-loop-term l =
-    ((m : Meaning) → meaning_in l.initial.self l.fn.ty ≡ Some m → all_found (meanings (nodes_of l.self)) (places_of l.parts.items) ≡ Some (m ∷ map TermMeaning (map plain_term (take l.term-index l.terms)))) × KeepsMeanings l.initial.self l.self
+    ((ms : List Meaning) → all_found (meanings (nodes_of l.initial.self)) (places_of l.first) ≡ Some ms → all_found (meanings (nodes_of l.self)) (places_of l.parts.items) ≡ Some (ms ++ map TermMeaning (map plain_term (take l.term-index l.terms)))) × KeepsMeanings l.initial.self l.self

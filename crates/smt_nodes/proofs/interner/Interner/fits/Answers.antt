@@ -1,9 +1,8 @@
-use Rattle.smt_term.specs.View.{plain_op}
 use Rattle.smt_nodes.specs.Interned.{nodes_of}
 use Rattle.smt_bits.specs.Width.{bits_in}
 use Rattle.smt_leaves.specs.Entities.{bytes_of_type}
 use Rattle.std.specs.Rc.{rc_str_bytes}
-use Rattle.smt_nodes.proofs.Fitting.{fits_by, no_function}
+use Rattle.smt_nodes.proofs.Fitting.{fits_by}
 use Rattle.smt_nodes.proofs.interner.Interner.fits.Goals as goal
 
 pub returns-in-TOption : goal.returns-in-TOption
@@ -25,7 +24,13 @@ pub returns-in-TSet : goal.returns-in-TSet
 returns-in-TSet c = fits_by (nodes_of c.args.self.now) c.args.node.now _ c.items-parts.result.now c.fits_around_type-in-TSet.result c.in-TSet.is c.items-parts.ensures (c.fits_around_type-in-TSet.ensures.set)
 
 pub returns-in-App : goal.returns-in-App
-returns-in-App c = fits_by (nodes_of c.args.self.now) c.args.node.now _ c.items-parts.result.now c.fits_application.result c.in-App.is c.items-parts.ensures (c.fits_application.ensures (plain_op c.in-App.field-0) (no_function c.in-App.field-0))
+returns-in-App c = fits_by (nodes_of c.args.self.now) c.args.node.now _ c.items-parts.result.now c.fits_operator.result c.in-App.is c.items-parts.ensures c.fits_operator.ensures
+
+pub returns-in-Fun : goal.returns-in-Fun
+returns-in-Fun c = fits_by (nodes_of c.args.self.now) c.args.node.now _ c.items-parts.result.now c.fits_function.result c.in-Fun.is c.items-parts.ensures (c.fits_function.ensures (rc_str_bytes c.in-Fun.field-0))
+
+pub returns-in-Call : goal.returns-in-Call
+returns-in-Call c = fits_by (nodes_of c.args.self.now) c.args.node.now _ c.items-parts.result.now c.fits_call.result c.in-Call.is c.items-parts.ensures c.fits_call.ensures
 
 pub returns-in-NoneOf : goal.returns-in-NoneOf
 returns-in-NoneOf c = fits_by (nodes_of c.args.self.now) c.args.node.now _ c.items-parts.result.now c.fits_none.result c.in-NoneOf.is c.items-parts.ensures (c.fits_none.ensures)

@@ -10,6 +10,7 @@ use smt_term::{Op, Term, TermError, TermType, TermVar, Text};
 use std::alloc::Global;
 use std::test::Fail;
 
+mod functions;
 mod structures;
 
 // A literal of 8 bits.

@@ -1,0 +1,137 @@
+// The lines of one name alone: they are put, and the names stay as they are.
+ghost use Rattle.std.specs.Prelude.{◌≡◌, ◌++◌, ◌||◌, [], IfOk, None};
+ghost use Rattle.std.specs.Rc.{rc_str_bytes};
+ghost use Rattle.std.specs.Result.{is_err};
+ghost use Rattle.smt_characters.specs.LineTexts.{comment_text, declare_const_text, declare_datatype_text, define_fun_text};
+ghost use Rattle.smt_characters.specs.Quoting.{quoted_id};
+ghost use Rattle.smt_characters.specs.SharedTexts.{texts};
+ghost use Rattle.smt_encode.specs.Alone.{encoded, fault_of_entity, fault_of_type, line_of_entity, name_of_entity, set_body_text};
+ghost use Rattle.smt_encode.specs.Entries.{entry_name};
+ghost use Rattle.smt_leaves.specs.Entities.{bytes_of_id, bytes_of_type};
+ghost use Rattle.smt_lines.specs.Line.{spelled_lines};
+ghost use Rattle.smt_lines.specs.LineForms.{entity_lines};
+ghost use Rattle.smt_lines.specs.Lines.{members_of, next_entity, next_term};
+ghost use Rattle.smt_lines.specs.NameTables.{Tables};
+ghost use Rattle.smt_spelling.specs.Entries.{entry_bytes, PlainEntry, SaysEntry};
+
+use crate::error::{EncodeError, WriteError};
+use crate::writer::Writer;
+use smt_script::{Sink, SmtLibScript};
+use smt_spelling::{Entry, entity_datatype, entity_entry, set_text};
+use smt_term::{EntityType, EntityUID, TermVar, Text};
+use smt_text::quote_id;
+use std::alloc::AllocError;
+
+/// Hands an outcome on, and marks a refusal.
+pub(crate) fn settle(
+    failed: &mut bool,
+    outcome: Result<Text, WriteError>,
+) -> Result<Text, EncodeError>
+    ensures answer { result ≡ encoded outcome }
+    ensures marked { failed.new ≡ (failed.old || is_err outcome) }
+{
+    match outcome {
+        Ok(name) => Ok(name),
+        Err(error) => {
+            *failed = true;
+            Err(EncodeError::from(error))
+        }
+    }
+}
+
+impl<S: Sink> Writer<'_, S> {
+    ghost use Rattle.smt_encode.specs.Alone.{PutsAlone, PutUnder};
+    ghost use Rattle.smt_encode.specs.Names.{enums_under, AreTables};
+
+    /// Puts the datatype of these constructors.
+    pub(crate) fn put_type(&mut self, id: &str, mks: &[Text]) -> Result<Text, WriteError>
+        ensures lines { IfOk result (PutUnder S.contents self.old.script self.new.script id.now (declare_datatype_text id.now [] (texts mks.now))) }
+        ensures alone { PutsAlone S.faults S.place None self.old self.new result }
+    {
+        let name = Text::from_str(self.alloc, id)?;
+        self.script.declare_datatype(id, &[], mks)?;
+        Ok(name)
+    }
+
+    /// Puts the comment and the datatype of an entity type under the name that is next.
+    pub(crate) fn put_entity_type(&mut self, ety: &EntityType) -> Result<Text, WriteError>
+        ensures lines { (s : Tables) → AreTables self.old.names s → let members = members_of (enums_under self.old.names) (bytes_of_type ety.now) in
+            IfOk result (PutUnder S.contents self.old.script self.new.script (next_entity s) (spelled_lines (entity_lines members (bytes_of_type ety.now) (next_entity s)))) }
+        ensures alone { PutsAlone S.faults S.place (fault_of_type (enums_under self.old.names) ety.now) self.old self.new result }
+    {
+        let name = self.names.next_entity()?;
+        let members = self.names.enums().members_of(ety);
+        let datatype = entity_datatype(self.alloc, ety, members, name.as_str())?;
+        datatype.put(&mut self.script, name.as_str())?;
+        Ok(name)
+    }
+
+    /// Puts the declaration of a variable by its sort, behind its id in a comment, under the name that is next.
+    pub(crate) fn put_var(&mut self, v: &TermVar, ty_enc: &str) -> Result<Text, WriteError>
+        ensures lines { (s : Tables) → AreTables self.old.names s →
+            IfOk result (PutUnder S.contents self.old.script self.new.script (next_term s) (comment_text (quoted_id (rc_str_bytes v.now.id)) ++ declare_const_text (next_term s) ty_enc.now)) }
+        ensures alone { PutsAlone S.faults S.place None self.old self.new result }
+    {
+        let comment = quote_id(self.alloc, v.id.as_str())?;
+        self.put_entry(ty_enc, &Entry::Constant(comment))
+    }
+
+    /// Puts the definition of a term by its sort and its body under the name that is next.
+    pub(crate) fn put_term(&mut self, ty_enc: &str, t_enc: &str) -> Result<Text, WriteError>
+        ensures lines { (s : Tables) → AreTables self.old.names s →
+            IfOk result (PutUnder S.contents self.old.script self.new.script (next_term s) (define_fun_text (next_term s) [] ty_enc.now t_enc.now)) }
+        ensures alone { PutsAlone S.faults S.place None self.old self.new result }
+    {
+        let name = self.names.next_term()?;
+        self.script.define_fun(name.as_str(), &[], ty_enc, t_enc)?;
+        Ok(name)
+    }
+
+    /// Puts the definition of a set by its sort and its elements under the name that is next.
+    pub(crate) fn put_set(&mut self, ty_enc: &str, t_encs: &[Text]) -> Result<Text, WriteError>
+        ensures lines { (s : Tables) → AreTables self.old.names s →
+            IfOk result (PutUnder S.contents self.old.script self.new.script (next_term s) (define_fun_text (next_term s) [] ty_enc.now (set_body_text ty_enc.now (texts t_encs.now)))) }
+        ensures alone { PutsAlone S.faults S.place None self.old self.new result }
+    {
+        let elements = t_encs.to_vec(self.alloc)?;
+        let body = set_text(self.alloc, ty_enc, elements)?;
+        self.put_term(ty_enc, body.as_str())
+    }
+
+    /// Puts the definition of an entity by its sort under the name that is next. An entity of an enum type has a name and no
+    /// line.
+    pub(crate) fn put_entity(
+        &mut self,
+        ty_enc: &str,
+        entity: &EntityUID,
+    ) -> Result<Text, WriteError>
+        ensures lines { (s : Tables) → AreTables self.old.names s → let members = members_of (enums_under self.old.names) (bytes_of_type entity.now.ety) in
+            IfOk result (PutUnder S.contents self.old.script self.new.script (name_of_entity members (bytes_of_id entity.now.id) ty_enc.now s) (line_of_entity members (bytes_of_id entity.now.id) ty_enc.now s)) }
+        ensures alone { PutsAlone S.faults S.place (fault_of_entity (enums_under self.old.names) entity.now) self.old self.new result }
+    {
+        let members = self.names.enums().members_of(&entity.ety);
+        let entry = entity_entry(self.alloc, members, entity, ty_enc)?;
+        self.put_entry(ty_enc, &entry)
+    }
+
+    /// Puts the lines of an entry under its name: its own, or the one that is next.
+    pub(crate) fn put_entry(&mut self, sort: &str, entry: &Entry) -> Result<Text, WriteError>
+        ensures lines { (s : Tables) (p : PlainEntry) → AreTables self.old.names s → SaysEntry p entry.now →
+            IfOk result (PutUnder S.contents self.old.script self.new.script (entry_name p s) (entry_bytes entry.now (entry_name p s) sort.now)) }
+        ensures alone { PutsAlone S.faults S.place None self.old self.new result }
+    {
+        let name = self.name_for(entry)?;
+        entry.put(&mut self.script, name.as_str(), sort)?;
+        Ok(name)
+    }
+
+    /// The name of an entry.
+    fn name_for(&self, entry: &Entry) -> Result<Text, AllocError>
+        ensures { (s : Tables) (p : PlainEntry) → AreTables self.now.names s → SaysEntry p entry.now → IfOk result (λ name. rc_str_bytes name ≡ entry_name p s) }
+    {
+        match entry {
+            Entry::Constant(_) | Entry::Body(_) => self.names.next_term(),
+            Entry::Name(name) => name.clone(),
+        }
+    }
+}

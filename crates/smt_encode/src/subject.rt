@@ -1,0 +1,50 @@
+// The lines that one term, one type or one function needs.
+ghost use Rattle.std.specs.Prelude.{ℕ, ◌≡◌, ◌<◌, None, Some};
+ghost use Rattle.smt_graph.specs.Nodes.{Meaning};
+ghost use Rattle.smt_nodes.specs.Interned.{meaning_in, IsMeant};
+ghost use Rattle.smt_nodes.specs.Subject.{meaning_of};
+ghost use Rattle.smt_nodes.specs.View.{place_of};
+ghost use Rattle.smt_encode.specs.NodeLines.{encode_meaning, meaning_fault};
+ghost use Rattle.smt_encode.specs.Refusals.{write_fault};
+ghost use Rattle.smt_spelling.specs.TextFaults.{Finds};
+
+use crate::error::WriteError;
+use crate::steps::Steps;
+use crate::writer::Writer;
+use smt_nodes::{NodeId, Subject};
+use smt_script::{Sink, SinkError};
+use smt_term::Text;
+use std::marker::Brand;
+use std::sync::ledger::{Blank, Ledger};
+
+impl<S: Sink> Writer<'_, S> {
+    ghost use Rattle.smt_encode.specs.Names.{enums_under, nodes_under, HasRoom};
+    ghost use Rattle.smt_encode.specs.Steps.{FaultCounted, WritesStated};
+    ghost use Rattle.smt_spelling.specs.Spelled.{IsSpelled};
+
+    /// Puts the lines that a subject needs, and keeps their names; its text.
+    pub(crate) fn put_subject(&mut self, subject: Subject<'_>) -> Result<Text, WriteError>
+        ensures lines { WritesStated S.contents self.old self.new (encode_meaning (enums_under self.old.names) (meaning_of subject.entry)) IsSpelled result }
+        ensures cause { FaultCounted S.faults S.place (WriteError.Sink SinkError.Fault) self.old self.new result }
+        ensures fault { Finds write_fault (meaning_fault (enums_under self.old.names) (meaning_of subject.entry)) result }
+    {
+        let id = self.names.intern_subject(subject)?;
+        self.names.make_room()?;
+        self.put_node::<Brand>(id, Blank::new(1))
+    }
+
+    /// The same of what a number stands for, with look-ups counted by a ledger of its own.
+    fn put_node<L: Ledger>(&mut self, id: NodeId, blank: Blank) -> Result<Text, WriteError>
+        requires name { blank.name ≡ L.name }
+        requires parts { blank.parts ≡ L.parts }
+        requires some { 0 < blank.parts }
+        requires meant { IsMeant (nodes_under self.old.names) id }
+        requires room { HasRoom self.old.names }
+        ensures lines { (m : Meaning) → meaning_in (nodes_under self.old.names) id ≡ Some m → WritesStated S.contents self.old self.new (encode_meaning (enums_under self.old.names) m) IsSpelled result }
+        ensures cause { FaultCounted S.faults S.place (WriteError.Sink SinkError.Fault) self.old self.new result }
+        ensures fault { (m : Meaning) → meaning_in (nodes_under self.old.names) id ≡ Some m → Finds write_fault (meaning_fault (enums_under self.old.names) m) result }
+    {
+        let mut steps = Steps::<L>::new(blank);
+        self.encode_node(id, &mut steps)
+    }
+}
