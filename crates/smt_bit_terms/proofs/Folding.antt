@@ -1,13 +1,16 @@
 -- What is folded stands for what was asked for, in the words of the foldings of bits.
-use Rattle.std.proofs.Common.{◌≡◌, ℕ, ◌+◌, ◌%◌, ◌^◌, ◌<◌, ap, ◌∙◌, sym, subst}
+use Rattle.std.proofs.Common.{◌≡◌, ℕ, ◌+◌, ◌%◌, ◌^◌, ◌<◌, ◌≤◌, [], ◌∷◌, refl, ap, ◌∙◌, sym, subst}
+use Rattle.std.specs.Prelude.{cond, IfSome, Option, Some, None}
 use Rattle.std.proofs.Math.Nat.{mod-eq_of_lt}
 use Rattle.smt_arithmetic.specs.BitOperators.{OverflowOperator}
 use Rattle.smt_arithmetic.proofs.BitRanges as ranges
-use Rattle.smt_folding.specs.Applications.{bvneg_of, bvnego_of, test_of_two, zero_extend_of}
+use Rattle.smt_folding.specs.Applications.{bvneg_of, bvnego_of, test_of_two, wider_type, zero_extend_of}
 use Rattle.smt_folding.specs.FoldBits.{folded_bvneg, folded_bvnego, folded_overflow, folded_zero_extend}
+use Rattle.smt_folding.specs.Parts.{bits_inside}
 use Rattle.smt_folding.specs.Refinement.{Refines}
 use Rattle.smt_folding.proofs.BitsStand.{stands_bvneg, stands_bvnego, stands_overflow, stands_zero_extend}
-use Rattle.smt_meaning.specs.Plain.{PlainTerm, OverflowOp}
+use Rattle.smt_meaning.specs.Plain.{PlainType, BitVecType, ZeroExtendOp, BitVecLiteral, PlainTerm, Application, LiteralTerm, terms, OverflowOp}
+use Rattle.smt_meaning.specs.Types.{is_bits, type_of, width_in}
 
 pub stands_for_bvneg : (r t : PlainTerm) → r ≡ folded_bvneg t → Refines r (bvneg_of t)
 stands_for_bvneg r t e = subst (λ (x : PlainTerm). Refines x (bvneg_of t)) (sym e) (stands_bvneg t)
@@ -27,4 +30,31 @@ stands_for_overflow o r t u e = subst (λ (x : PlainTerm). Refines x (test_of_tw
 pub same_extended : (n k w a : ℕ) → a < 2 ^ n → w ≡ n + k → a % 2 ^ w ≡ a
 same_extended n k w a l e = ap (λ x. a % 2 ^ x) e ∙ mod-eq_of_lt (ranges.wider n k a l)
 
+-- zero extension of what is no literal, by the width of its type
+fits : (o : Option ℕ) (n k : ℕ) → o ≡ Some n → IfSome o (λ width. width + k ≤ 128) → n + k ≤ 128
+fits o n k e h = subst (λ (p : Option ℕ). IfSome p (λ width. width + k ≤ 128)) e h
+
+pub width_fits : (t : PlainTerm) (n k : ℕ) → width_in (type_of t) ≡ Some n → IfSome (width_in (type_of t)) (λ width. width + k ≤ 128) → n + k ≤ 128
+width_fits t n k e h = fits (width_in (type_of t)) n k e h
+
+by_type : (k : ℕ) (t : PlainTerm) → bits_inside t ≡ None → folded_zero_extend k t ≡ cond (is_bits (type_of t)) (zero_extend_of k t) t
+by_type k (LiteralTerm (BitVecLiteral n a)) h = cc
+by_type k t h = refl
+
+extended_by : (k n : ℕ) (t : PlainTerm) (ty : PlainType) → width_in ty ≡ Some n → cond (is_bits ty) (Application (ZeroExtendOp k) (terms (t ∷ [])) (wider_type k ty)) t ≡ Application (ZeroExtendOp k) (terms (t ∷ [])) (BitVecType (n + k))
+extended_by k n t (BitVecType m) e = cc
+extended_by k n t ty e = cc
+
+kept_by : (k : ℕ) (t : PlainTerm) (ty : PlainType) → width_in ty ≡ None → cond (is_bits ty) (Application (ZeroExtendOp k) (terms (t ∷ [])) (wider_type k ty)) t ≡ t
+kept_by k t (BitVecType m) e = cc
+kept_by k t ty e = refl
+
+pub zero_extend-bits : (k n w : ℕ) (t : PlainTerm) → bits_inside t ≡ None → width_in (type_of t) ≡ Some n → w ≡ n + k → folded_zero_extend k t ≡ Application (ZeroExtendOp k) (terms (t ∷ [])) (BitVecType w)
+zero_extend-bits k n w t h e d = by_type k t h ∙ (extended_by k n t (type_of t) e ∙ ap (λ m. Application (ZeroExtendOp k) (terms (t ∷ [])) (BitVecType m)) (sym d))
+
+pub zero_extend-other : (k : ℕ) (t : PlainTerm) → bits_inside t ≡ None → width_in (type_of t) ≡ None → folded_zero_extend k t ≡ t
+zero_extend-other k t h e = by_type k t h ∙ kept_by k t (type_of t) e
+
 pub ruleset folding = (stands_for_bvneg, stands_for_bvnego, stands_for_zero_extend)
+
+pub ruleset extending = (width_fits, zero_extend-bits, zero_extend-other)

@@ -85,7 +85,12 @@ fn negated_bits(t: &Term) -> Option<&Term>
             Op::Bvneg => only_one(args),
             _ => None,
         },
-        Term::None(_) | Term::Prim(_) | Term::Set { .. } | Term::Some(_) | Term::Var(_) => None,
+        Term::None(_)
+        | Term::Prim(_)
+        | Term::Record(_)
+        | Term::Set { .. }
+        | Term::Some(_)
+        | Term::Var(_) => None,
     }
 }
 
@@ -215,7 +220,7 @@ pub fn zero_extend(alloc: Global, n: u32, t: Term) -> Result<Term, TermError>
 }
 
 // The same number with more bits, folded.
-#[tactic(auto, using(crate::proofs::Folding::folding, smt_term::specs::View::views))]
+#[tactic(auto, using(crate::proofs::Folding::extending, smt_term::specs::View::views))]
 fn folded_zero_extend(alloc: Global, n: u32, t: Term) -> Result<Term, TermError>
     requires { IfSome (width_in (type_of (plain_term t))) (λ width. width + n ≤ 128) }
     ensures { IfOk result (λ r. plain_term r ≡ folded_zero_extend n (plain_term t)) }
@@ -223,16 +228,28 @@ fn folded_zero_extend(alloc: Global, n: u32, t: Term) -> Result<Term, TermError>
     if let Some(bits) = bits_inside(&t) {
         return Ok(Term::from(extended(&bits, n)));
     }
-    match t.type_of(alloc)? {
-        TermType::Bitvec { n: width } => {
+    match type_width(alloc, &t)? {
+        Some(width) => {
             let ty = TermType::Bitvec { n: wider(width, n) };
             application(alloc, Op::ZeroExtend(n), &[t], ty)
         }
+        None => Ok(t),
+    }
+}
+
+// How many bits a term's values have, where it is of a type of bitvectors.
+#[tactic(auto, using(smt_term::specs::View::views))]
+fn type_width(alloc: Global, t: &Term) -> Result<Option<Width>, TermError>
+    ensures { IfOk result (λ o. MatchOption o (width_in (type_of (plain_term t.now)) ≡ None) (λ n. width_in (type_of (plain_term t.now)) ≡ Some (bits_in n))) }
+{
+    match t.type_of(alloc)? {
+        TermType::Bitvec { n } => Ok(Some(n)),
         TermType::Option { .. }
         | TermType::Bool
         | TermType::Entity { .. }
         | TermType::String
-        | TermType::Set { .. } => Ok(t),
+        | TermType::Record { .. }
+        | TermType::Set { .. } => Ok(None),
     }
 }
 

@@ -18,7 +18,12 @@ pub(crate) fn bits_inside(t: &Term) -> Option<BitVec>
 {
     match t {
         Term::Prim(literal) => literal_bits(literal),
-        Term::App { .. } | Term::None(_) | Term::Set { .. } | Term::Some(_) | Term::Var(_) => None,
+        Term::App { .. }
+        | Term::None(_)
+        | Term::Record(_)
+        | Term::Set { .. }
+        | Term::Some(_)
+        | Term::Var(_) => None,
     }
 }
 

@@ -1,4 +1,4 @@
--- That a run is complete: what its status is where nothing failed.
+-- That a run is complete: what its status is where nothing failed; and that its status has its cause.
 use Rattle.std.proofs.Common.{◌≡◌, ℕ, true, List, Option, Some, None, refl, sym, ap, ◌∙◌, subst, inl, inr, ⊎_elim, arith}
 use Rattle.std.specs.Prelude.{◌⊎◌, IfSome, is_some}
 use Rattle.std.proofs.lemmas.Bool.{false≢true}
@@ -6,11 +6,12 @@ use Rattle.smt_meaning.specs.Faults.{Fault}
 use Rattle.smt_jobs.proofs.TypedJobs.{jobs_are_faultless}
 use Rattle.smt_cli.specs.Refusal.{status_of}
 use Rattle.smt_jobs.specs.Job.{fault_of}
-use Rattle.smt_cli.specs.Run.{HasCause, HasFaultOf, HasPutCause, HasScriptCause, IsAJob, IsComplete, IsDone, IsFaultOf, IsNoJob, Prints, PrintsScript}
+use Rattle.smt_cli.specs.Run.{HasCause, HasFaultOf, HasPutCause, HasScriptCause, IsAJob, IsComplete, IsDone, IsFaultOf, IsFaulty, IsJustified, IsNoJob, LeavesOutput, Prints, PrintsScript}
 use Rattle.smt_cli.specs.declared.program.Command.{Command}
 use Rattle.smt_cli.specs.declared.program.Command.TheVariants.{Script, Help, Version}
 use Rattle.smt_cli.specs.declared.refusal.EncodeRefusal.{EncodeRefusal}
-use Rattle.smt_cli.specs.declared.refusal.EncodeRefusal.TheVariants.{EmptyEnum, EncodeStringFailed, EncodePatternFailed, EnumMissingMember}
+use Rattle.smt_cli.specs.declared.refusal.EncodeRefusal.TheVariants.{EmptyEnum, EncodeStringFailed, EncodePatternFailed, EnumMissingMember, ExpectRecord, MalformedRecordGet, MissingTypeEncoding, RecordMissingAttr}
+use Rattle.smt_cli.specs.declared.refusal.JobRefusal.{JobRefusal}
 use Rattle.smt_cli.specs.declared.refusal.JobRefusal.TheVariants.{TooLarge, BadForm}
 use Rattle.smt_cli.specs.declared.refusal.Refusal.{Refusal}
 use Rattle.smt_cli.specs.declared.refusal.Refusal.TheVariants.{Usage, Job, Encode, Source, Sink, Memory}
@@ -21,6 +22,10 @@ is_fault EncodeStringFailed fault h = ap is_some h.1
 is_fault EncodePatternFailed fault h = ap is_some h.1
 is_fault EnumMissingMember fault h = ap is_some h.2
 is_fault EmptyEnum fault h = ap is_some h.1
+is_fault MalformedRecordGet fault h = ap is_some h
+is_fault MissingTypeEncoding fault h = ap is_some h.1
+is_fault ExpectRecord fault h = ap is_some h.1
+is_fault RecordMissingAttr fault h = ap is_some h.1
 
 -- no job has one
 no_fault : (bytes : List ℕ) (kind : EncodeRefusal) → HasFaultOf kind bytes → ⊥
@@ -83,3 +88,89 @@ module _ (remaining left old new : Option (List ℕ)) where
       no_job_done : (o : Option (List ℕ)) → IfSome o (Prints old new) → IfSome o (λ bytes. IsNoJob bytes → (status ≡ 3) ⊎ (status ≡ 7))
       no_job_done None p = tt
       no_job_done (Some bytes) p = λ none. absurd (none p.job p.is_job)
+
+-- ---- what the status of a refusal says
+
+-- the kind of a job's fault says that there is one
+faulty : (remaining : Option (List ℕ)) (kind : EncodeRefusal) → IfSome remaining (HasFaultOf kind) → IfSome remaining IsFaulty
+faulty None kind h = tt
+faulty (Some bytes) kind (job, is, fault) = (job, is, is_fault kind (fault_of job) fault)
+
+module _ (source_failed sink_failed : Type 0) where
+  -- what is refused as a job is none
+  no_job : (remaining : Option (List ℕ)) (why : JobRefusal) → HasScriptCause remaining source_failed sink_failed (Job why) → IfSome remaining IsNoJob
+  no_job None why h = tt
+  no_job (Some bytes) TooLarge h = λ job is. omega (arith, is.short, h)
+  no_job (Some bytes) BadForm h = h.1
+
+  module _ (remaining old new : Option (List ℕ)) where
+    by_sink : (c : Option Command) → sink_failed → IsJustified c remaining source_failed sink_failed old new 6
+    by_sink c failed = record {
+      no_job = λ p. absurd (omega (arith, p));
+      fault = λ p. absurd (omega (arith, p));
+      source = λ p. absurd (omega (arith, p));
+      sink = λ p. failed;
+      by_script = λ p. absurd (⊎_elim (λ q. omega (arith, q)) (λ q. ⊎_elim (λ r. omega (arith, r)) (λ r. omega (arith, r)) q) p);
+      untouched = λ p. absurd (⊎_elim (λ q. omega (arith, q)) (λ q. ⊎_elim (λ r. omega (arith, r)) (λ r. omega (arith, r)) q) p);
+    }
+
+    by_memory : (c : Option Command) → IsJustified c remaining source_failed sink_failed old new 7
+    by_memory c = record {
+      no_job = λ p. absurd (omega (arith, p));
+      fault = λ p. absurd (omega (arith, p));
+      source = λ p. absurd (omega (arith, p));
+      sink = λ p. absurd (omega (arith, p));
+      by_script = λ p. absurd (⊎_elim (λ q. omega (arith, q)) (λ q. ⊎_elim (λ r. omega (arith, r)) (λ r. omega (arith, r)) q) p);
+      untouched = λ p. absurd (⊎_elim (λ q. omega (arith, q)) (λ q. ⊎_elim (λ r. omega (arith, r)) (λ r. omega (arith, r)) q) p);
+    }
+
+    by_script_alone : (r : Refusal) → HasScriptCause remaining source_failed sink_failed r → LeavesOutput old new r → IsJustified (Some Script) remaining source_failed sink_failed old new (status_of r)
+    by_script_alone Usage h left = absurd h
+    by_script_alone (Job why) h left = record {
+      no_job = λ p. no_job remaining why h;
+      fault = λ p. absurd (omega (arith, p));
+      source = λ p. absurd (omega (arith, p));
+      sink = λ p. absurd (omega (arith, p));
+      by_script = λ p. refl;
+      untouched = λ p. left;
+    }
+    by_script_alone (Encode kind) h left = record {
+      no_job = λ p. absurd (omega (arith, p));
+      fault = λ p. faulty remaining kind h;
+      source = λ p. absurd (omega (arith, p));
+      sink = λ p. absurd (omega (arith, p));
+      by_script = λ p. refl;
+      untouched = λ p. absurd (⊎_elim (λ q. omega (arith, q)) (λ q. ⊎_elim (λ r. omega (arith, r)) (λ r. omega (arith, r)) q) p);
+    }
+    by_script_alone Source h left = record {
+      no_job = λ p. absurd (omega (arith, p));
+      fault = λ p. absurd (omega (arith, p));
+      source = λ p. h;
+      sink = λ p. absurd (omega (arith, p));
+      by_script = λ p. refl;
+      untouched = λ p. left;
+    }
+    by_script_alone Sink h left = by_sink (Some Script) h.0
+    by_script_alone Memory h left = by_memory (Some Script)
+
+    by_text : (c : Option Command) (r : Refusal) → HasPutCause sink_failed r → IsJustified c remaining source_failed sink_failed old new (status_of r)
+    by_text c Sink h = by_sink c h
+    by_text c Memory h = by_memory c
+    by_text c r h = absurd h
+
+    by_words : (r : Refusal) → r ≡ Usage → LeavesOutput old new r → IsJustified None remaining source_failed sink_failed old new (status_of r)
+    by_words Usage h left = record {
+      no_job = λ p. absurd (omega (arith, p));
+      fault = λ p. absurd (omega (arith, p));
+      source = λ p. absurd (omega (arith, p));
+      sink = λ p. absurd (omega (arith, p));
+      by_script = λ p. absurd (⊎_elim (λ q. omega (arith, q)) (λ q. ⊎_elim (λ r. omega (arith, r)) (λ r. omega (arith, r)) q) p);
+      untouched = λ p. left;
+    }
+    by_words r h left = absurd (cc)
+
+    pub refused_justified : (c : Option Command) (r : Refusal) → HasCause c remaining source_failed sink_failed r → LeavesOutput old new r → IsJustified c remaining source_failed sink_failed old new (status_of r)
+    refused_justified (Some Script) r h left = by_script_alone r h left
+    refused_justified (Some Help) r h left = by_text (Some Help) r h
+    refused_justified (Some Version) r h left = by_text (Some Version) r h
+    refused_justified None r h left = by_words r h left

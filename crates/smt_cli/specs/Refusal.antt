@@ -6,7 +6,7 @@ use Rattle.smt_source.specs.declared.input.InputError.{InputError}
 use Rattle.smt_source.specs.declared.input.InputError.TheVariants.{Fault as InputFault, TooLarge as InputTooLarge, Memory as InputWant}
 use Rattle.smt_jobs.specs.declared.job.JobError.{JobError}
 use Rattle.smt_jobs.specs.declared.job.JobError.TheVariants.{TooLarge as JobTooLarge, BadForm as JobBadForm, Memory as JobWant}
-use Rattle.smt_cli.specs.declared.refusal.EncodeRefusal.TheVariants.{EmptyEnum, EncodeStringFailed, EncodePatternFailed, EnumMissingMember}
+use Rattle.smt_cli.specs.declared.refusal.EncodeRefusal.TheVariants.{EmptyEnum, EncodeStringFailed, EncodePatternFailed, EnumMissingMember, ExpectRecord, MalformedRecordGet, MissingTypeEncoding, RecordMissingAttr}
 use Rattle.smt_cli.specs.declared.refusal.JobRefusal.TheVariants.{TooLarge, BadForm}
 use Rattle.smt_cli.specs.declared.refusal.PrintRefusal.{PrintRefusal}
 use Rattle.smt_cli.specs.declared.refusal.PrintRefusal.TheVariants.{Encode as PrintEncode, Sink as PrintSink, Memory as PrintWant}
@@ -33,6 +33,10 @@ line_of (Encode EnumMissingMember) = codes "encode refused: EnumMissingMember\n"
 line_of (Encode EncodeStringFailed) = codes "encode refused: EncodeStringFailed\n"
 line_of (Encode EncodePatternFailed) = codes "encode refused: EncodePatternFailed\n"
 line_of (Encode EmptyEnum) = codes "encode refused: EmptyEnum\n"
+line_of (Encode MalformedRecordGet) = codes "encode refused: MalformedRecordGet\n"
+line_of (Encode MissingTypeEncoding) = codes "encode refused: MissingTypeEncoding\n"
+line_of (Encode ExpectRecord) = codes "encode refused: ExpectRecord\n"
+line_of (Encode RecordMissingAttr) = codes "encode refused: RecordMissingAttr\n"
 line_of Source = codes "source fault\n"
 line_of Sink = codes "sink fault\n"
 line_of Memory = codes "memory\n"

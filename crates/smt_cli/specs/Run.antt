@@ -1,8 +1,8 @@
 -- What a run is asked for, what it does, and what it says.
 use Rattle.std.specs.Prelude.{ℕ, ◌≡◌, ◌↔◌, ◌≤◌, ◌<◌, ◌⊎◌, ⊤, length, map, option_map, if◌then◌else◌, bytes_eq, codes, IfSome, IsTrue, is_some, List, [], ◌∷◌, Option, Some, None, Result}
 use Rattle.std.specs.Io.KnownBytes.{append_known}
-use Rattle.smt_meaning.specs.Faults.{Fault, EmptyEnum as EnumFault, EncodeStringFailed as StringFault, EncodePatternFailed as PatternFault, EnumMissingMember as MemberFault}
-use Rattle.smt_meaning.specs.Plain.{PatternPart}
+use Rattle.smt_meaning.specs.Faults.{Fault, EmptyEnum as EnumFault, EncodeStringFailed as StringFault, EncodePatternFailed as PatternFault, EnumMissingMember as MemberFault, ExpectRecord as NoRecordFault, MalformedRecordGet as NoOperandFault, MissingTypeEncoding as TypeFault, RecordMissingAttr as AttributeFault}
+use Rattle.smt_meaning.specs.Plain.{PatternPart, PlainType}
 use Rattle.smt_meaning.specs.Interpretations.{IsInterpretation, restrict}
 use Rattle.smt_meaning.specs.Tables.{Interpretation}
 use Rattle.smt_folding.specs.Built.{built}
@@ -17,7 +17,7 @@ use Rattle.smt_cli.specs.Refusal.{line_of, status_of}
 use Rattle.smt_cli.specs.declared.program.Command.{Command}
 use Rattle.smt_cli.specs.declared.program.Command.TheVariants.{Script, Help, Version}
 use Rattle.smt_cli.specs.declared.refusal.EncodeRefusal.{EncodeRefusal}
-use Rattle.smt_cli.specs.declared.refusal.EncodeRefusal.TheVariants.{EmptyEnum, EncodeStringFailed, EncodePatternFailed, EnumMissingMember}
+use Rattle.smt_cli.specs.declared.refusal.EncodeRefusal.TheVariants.{EmptyEnum, EncodeStringFailed, EncodePatternFailed, EnumMissingMember, ExpectRecord, MalformedRecordGet, MissingTypeEncoding, RecordMissingAttr}
 use Rattle.smt_cli.specs.declared.refusal.JobRefusal.TheVariants.{TooLarge, BadForm}
 use Rattle.smt_cli.specs.declared.refusal.PrintRefusal.{PrintRefusal}
 use Rattle.smt_cli.specs.declared.refusal.PrintRefusal.TheVariants.{Encode as PrintEncode, Sink as PrintSink, Memory as PrintWant}
@@ -82,6 +82,10 @@ IsFaultOf EnumMissingMember fault = (type : List ℕ) × (id : List ℕ) × (fau
 IsFaultOf EncodeStringFailed fault = (text : List ℕ) × (fault ≡ Some (StringFault text))
 IsFaultOf EncodePatternFailed fault = (pattern : List PatternPart) × (fault ≡ Some (PatternFault pattern))
 IsFaultOf EmptyEnum fault = (type : List ℕ) × (fault ≡ Some (EnumFault type))
+IsFaultOf MalformedRecordGet fault = fault ≡ Some NoOperandFault
+IsFaultOf MissingTypeEncoding fault = (type : PlainType) × (fault ≡ Some (TypeFault type))
+IsFaultOf ExpectRecord fault = (type : PlainType) × (fault ≡ Some (NoRecordFault type))
+IsFaultOf RecordMissingAttr fault = (attribute : List ℕ) × (fault ≡ Some (AttributeFault attribute))
 
 abbrev pub HasFaultOf : EncodeRefusal → List ℕ → Type 0
 HasFaultOf kind bytes = (job : PlainJob) × IsJob bytes job × IsFaultOf kind (fault_of job)

@@ -122,9 +122,23 @@ fn put_script<W: Sink>(alloc: Global, job: NumberedJob, out: &mut W) -> Result<(
             Err(PrintRefusal::Encode(EncodeRefusal::EncodePatternFailed))
         }
         Err(EncodeError::EmptyEnum(_)) => Err(PrintRefusal::Encode(EncodeRefusal::EmptyEnum)),
+        Err(EncodeError::MalformedRecordGet) => {
+            Err(PrintRefusal::Encode(EncodeRefusal::MalformedRecordGet))
+        }
+        Err(EncodeError::MissingTypeEncoding(_)) => {
+            Err(PrintRefusal::Encode(EncodeRefusal::MissingTypeEncoding))
+        }
+        Err(EncodeError::ExpectRecord(_)) => {
+            Err(PrintRefusal::Encode(EncodeRefusal::ExpectRecord))
+        }
+        Err(EncodeError::RecordMissingAttr(_)) => {
+            Err(PrintRefusal::Encode(EncodeRefusal::RecordMissingAttr))
+        }
         Err(EncodeError::Memory) => Err(PrintRefusal::Memory),
         // The encoder was a new one.
         Err(EncodeError::Spent) => unreachable!(),
+        // No call of an encoder gives this.
+        Err(EncodeError::BitVecError(_)) => unreachable!(),
     }
 }
 

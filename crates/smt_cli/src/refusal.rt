@@ -43,6 +43,14 @@ pub enum EncodeRefusal {
     EncodePatternFailed,
     /// An enum type has no members.
     EmptyEnum,
+    /// An attribute is taken of no term.
+    MalformedRecordGet,
+    /// An attribute is taken of a value of a type that has no name.
+    MissingTypeEncoding,
+    /// An attribute is taken of a value of a type that is no record type.
+    ExpectRecord,
+    /// An attribute is taken of a record that does not have it.
+    RecordMissingAttr,
 }
 
 impl Refusal {
@@ -78,6 +86,16 @@ impl Refusal {
                 "encode refused: EncodePatternFailed\n"
             }
             Refusal::Encode(EncodeRefusal::EmptyEnum) => "encode refused: EmptyEnum\n",
+            Refusal::Encode(EncodeRefusal::MalformedRecordGet) => {
+                "encode refused: MalformedRecordGet\n"
+            }
+            Refusal::Encode(EncodeRefusal::MissingTypeEncoding) => {
+                "encode refused: MissingTypeEncoding\n"
+            }
+            Refusal::Encode(EncodeRefusal::ExpectRecord) => "encode refused: ExpectRecord\n",
+            Refusal::Encode(EncodeRefusal::RecordMissingAttr) => {
+                "encode refused: RecordMissingAttr\n"
+            }
             Refusal::Source => "source fault\n",
             Refusal::Sink => "sink fault\n",
             Refusal::Memory => "memory\n",

@@ -46,7 +46,8 @@ fn element_type(alloc: Global, t: &Term) -> Result<Option<TermType>, TermError>
         | TermType::Bitvec { .. }
         | TermType::Bool
         | TermType::Entity { .. }
-        | TermType::String => Ok(None),
+        | TermType::String
+        | TermType::Record { .. } => Ok(None),
     }
 }
 
@@ -58,7 +59,12 @@ fn given_elements(t: &Term) -> Option<&TermSet>
 {
     match t {
         Term::Set { elts, .. } => Some(elts),
-        Term::App { .. } | Term::None(_) | Term::Prim(_) | Term::Some(_) | Term::Var(_) => None,
+        Term::App { .. }
+        | Term::None(_)
+        | Term::Prim(_)
+        | Term::Record(_)
+        | Term::Some(_)
+        | Term::Var(_) => None,
     }
 }
 
@@ -192,9 +198,12 @@ fn common_set(alloc: Global, ts1: &Term, ts2: &Term) -> Result<Term, TermError>
             let kept = common(alloc, elts.items(), elements_in(ts2))?;
             set_of(alloc, kept.as_slice(), elts_ty.share()?)
         }
-        Term::App { .. } | Term::None(_) | Term::Prim(_) | Term::Some(_) | Term::Var(_) => {
-            ts1.share()
-        }
+        Term::App { .. }
+        | Term::None(_)
+        | Term::Prim(_)
+        | Term::Record(_)
+        | Term::Some(_)
+        | Term::Var(_) => ts1.share(),
     }
 }
 

@@ -22,7 +22,12 @@ fn text_inside(t: &Term) -> Option<&Text>
 {
     match t {
         Term::Prim(literal) => literal_text(literal),
-        Term::App { .. } | Term::None(_) | Term::Set { .. } | Term::Some(_) | Term::Var(_) => None,
+        Term::App { .. }
+        | Term::None(_)
+        | Term::Record(_)
+        | Term::Set { .. }
+        | Term::Some(_)
+        | Term::Var(_) => None,
     }
 }
 

@@ -22,7 +22,12 @@ fn negated(t: &Term) -> Option<&Term>
             Op::Not => only_one(args),
             _ => None,
         },
-        Term::None(_) | Term::Prim(_) | Term::Set { .. } | Term::Some(_) | Term::Var(_) => None,
+        Term::None(_)
+        | Term::Prim(_)
+        | Term::Record(_)
+        | Term::Set { .. }
+        | Term::Some(_)
+        | Term::Var(_) => None,
     }
 }
 

@@ -2,7 +2,7 @@
 use Rattle.std.proofs.Common.{◌≡◌, ◌<◌, ℕ, zero, suc, true, false, List, [], ◌∷◌, length, length-append, map, ◌≤◌, Some, None, refl, sym, ap, ◌∙◌, arith}
 use Rattle.std.specs.Prelude.{nat_eq, option_map, slice_get}
 use Rattle.std.proofs.lemmas.Bool.{false≢true}
-use Rattle.smt_meaning.specs.Plain.{OptionType, BitVecType, BoolType, EntityType, ExtensionType, StringType, RecordType, SetType, BitVecLiteral, BoolLiteral, EntityLiteral, ExtensionLiteral, StringLiteral, UufOp, PlainFunction, PlainOp, PlainTerm, PlainTerms, PlainType, list_of_terms, Application, NoneTerm, LiteralTerm, RecordTerm, SetTerm, SomeTerm, VariableTerm}
+use Rattle.smt_meaning.specs.Plain.{OptionType, BitVecType, BoolType, EntityType, ExtensionType, StringType, RecordType, SetType, AttributeTypes, BitVecLiteral, BoolLiteral, EntityLiteral, ExtensionLiteral, StringLiteral, UufOp, PlainFunction, PlainOp, PlainTerm, PlainTerms, PlainType, list_of_terms, Application, NoneTerm, LiteralTerm, RecordTerm, SetTerm, SomeTerm, VariableTerm}
 use Rattle.smt_term.specs.View.{plain_function, plain_op}
 use Rattle.std.specs.declared.alloc.Global.{Global}
 use Rattle.std.specs.declared.rc.RcStr.{RcStr}
@@ -13,18 +13,19 @@ use Rattle.smt_term.specs.declared.op.Op.TheVariants.{And, Uuf}
 use Rattle.smt_term.specs.declared.term.TermPrim.{TermPrim}
 use Rattle.smt_term.specs.declared.term.TermPrim.TheVariants.{Bool as Truth}
 use Rattle.smt_term.specs.View.{plain_literal}
-use Rattle.smt_graph.specs.Nodes.{PlainLabel, ApplicationLabel, CallLabel, EntityLabel, FunctionLabel, LiteralLabel, Meaning, TypeMeaning, FunctionMeaning, TermMeaning}
-use Rattle.smt_graph.specs.Parts.{label_in, parts_in, term_label, term_parts}
+use Rattle.smt_graph.specs.Nodes.{PlainLabel, ApplicationLabel, CallLabel, EntityLabel, FunctionLabel, LiteralLabel, RecordLabel, Meaning, TypeMeaning, FunctionMeaning, TermMeaning}
+use Rattle.smt_graph.specs.Parts.{label_in, names_in, parts_in, term_label, term_parts}
 use Rattle.smt_nodes.specs.Interned.{meaning_in, nodes_of}
 use Rattle.smt_nodes.specs.View.{place_of, plain_label, plain_node}
 use Rattle.smt_nodes.specs.declared.id.NodeId.{NodeId}
+use Rattle.smt_nodes.specs.declared.attributes.AttrList.{AttrList}
 use Rattle.smt_nodes.specs.declared.interner.Interner.{Interner}
 use Rattle.smt_nodes.specs.declared.node.Label.{Label}
-use Rattle.smt_nodes.specs.declared.node.Label.TheVariants.{TBool, TEntity, Fun, App, Prim}
+use Rattle.smt_nodes.specs.declared.node.Label.TheVariants.{TBool, TEntity, TRecord, Fun, App, Prim}
 use Rattle.smt_nodes.specs.declared.node.Node.{Node}
 use Rattle.smt_nodes.proofs.Labels.{label_is}
 use Rattle.smt_encode.specs.NodeLines.{has_entry}
-use Rattle.smt_encode.specs.Entries.{NodeRendering, AsCall, Rendered, entry_fault, has_inline, heading, inline_by, is_built, is_built_literal, is_built_op, is_declared, is_entered, rendering_in, written_parts}
+use Rattle.smt_encode.specs.Entries.{NodeRendering, AsCall, Rendered, entry_fault, has_inline, heading, inline_by, is_built, is_built_literal, is_built_op, is_declared, is_entered, rendering_in, selection_fault, written_parts}
 use Rattle.smt_lexicon.specs.Reading.{Expression}
 use Rattle.smt_lines.specs.Lines.{AsFalse}
 use Rattle.smt_encode.proofs.Named.{meant_within}
@@ -86,6 +87,7 @@ enters (TypeMeaning (BitVecType w)) n b u count none = absurd (false≢true (sym
 enters (TypeMeaning BoolType) n b u count none = absurd (false≢true (sym none))
 enters (TypeMeaning (EntityType e)) n b u count none = absurd (false≢true (sym u))
 enters (TypeMeaning StringType) n b u count none = absurd (false≢true (sym none))
+enters (TypeMeaning (RecordType x)) n b u count none = absurd (false≢true (sym u))
 enters (TypeMeaning t) n b u count none = absurd (false≢true b)
 enters (FunctionMeaning f) n b u count none = absurd (false≢true (sym u))
 enters (TermMeaning (Application o ts t)) n b u count none =
@@ -96,18 +98,19 @@ enters (TermMeaning (LiteralTerm (BoolLiteral x))) n b u count none = absurd (fa
 enters (TermMeaning (LiteralTerm (EntityLiteral e i))) n b u count none = (LiteralTerm (EntityLiteral e i), refl, refl, omega (arith, count))
 enters (TermMeaning (LiteralTerm (ExtensionLiteral x))) n b u count none = absurd (false≢true b)
 enters (TermMeaning (LiteralTerm (StringLiteral x))) n b u count none = absurd (false≢true (sym none))
-enters (TermMeaning (RecordTerm fs)) n b u count none = absurd (false≢true b)
+enters (TermMeaning (RecordTerm fs)) n b u count none = (RecordTerm fs, refl, refl, omega (arith, count))
 enters (TermMeaning (NoneTerm t)) n b u count none = (NoneTerm t, refl, refl, omega (arith, count))
 enters (TermMeaning (SetTerm t ts)) n b u count none = (SetTerm t ts, refl, refl, omega (arith, count))
 enters (TermMeaning (SomeTerm t)) n b u count none = (SomeTerm t, refl, refl, omega (arith, count))
 enters (TermMeaning (VariableTerm id t)) n b u count none = (VariableTerm id t, refl, refl, omega (arith, count))
 
--- a label of the program that is no entity type's and no function's declares nothing
-pub undeclared : (l : Label) → ((e : EntityName) → l ≡ TEntity e → ⊥) → ((id : RcStr Global) → l ≡ Fun id → ⊥) → is_declared (plain_label l) ≡ false
-undeclared (TEntity e) h g = absurd (h e refl)
-undeclared (Fun id) h g = absurd (g id refl)
-undeclared TBool h g = refl
-undeclared l h g = refl
+-- a label of the program that is no entity type's, no record type's and no function's declares nothing
+pub undeclared : (l : Label) → ((e : EntityName) → l ≡ TEntity e → ⊥) → ((names : AttrList) → l ≡ TRecord names → ⊥) → ((id : RcStr Global) → l ≡ Fun id → ⊥) → is_declared (plain_label l) ≡ false
+undeclared (TEntity e) h r g = absurd (h e refl)
+undeclared (TRecord names) h r g = absurd (r names refl)
+undeclared (Fun id) h r g = absurd (g id refl)
+undeclared TBool h r g = refl
+undeclared l h r g = refl
 
 -- what an entity type's label stands for
 pub entity_meant : (m : Meaning) (e : List ℕ) → label_in m ≡ EntityLabel e → m ≡ TypeMeaning (EntityType e)
@@ -126,6 +129,16 @@ entity_meant (FunctionMeaning f) e h = absurd (cc)
 entity_meant (TermMeaning (Application (UufOp f) ts t)) e h = absurd (cc)
 entity_meant (TermMeaning (Application o ts t)) e h = absurd (cc)
 entity_meant (TermMeaning t) e h = absurd (cc)
+
+-- what a record type's label stands for
+pub record_meant : (m : Meaning) (names : List (List ℕ)) → label_in m ≡ RecordLabel names → (x : AttributeTypes) × (m ≡ TypeMeaning (RecordType x)) × (names ≡ names_in x)
+record_meant (TypeMeaning (RecordType x)) names h = (x, refl, cc)
+record_meant (TypeMeaning BoolType) names h = absurd (cc)
+record_meant (TypeMeaning t) names h = absurd (cc)
+record_meant (FunctionMeaning f) names h = absurd (cc)
+record_meant (TermMeaning (Application (UufOp f) ts t)) names h = absurd (cc)
+record_meant (TermMeaning (Application o ts t)) names h = absurd (cc)
+record_meant (TermMeaning t) names h = absurd (cc)
 
 -- what a function's label stands for
 pub function_meant : (m : Meaning) (id : List ℕ) → label_in m ≡ FunctionLabel id → (f : PlainFunction) × (m ≡ FunctionMeaning f)
@@ -165,6 +178,14 @@ no_entry_fault enums (EntityLabel e) how n h = absurd (false≢true h)
 no_entry_fault enums (LiteralLabel (EntityLiteral e i)) how n h = absurd (false≢true h)
 no_entry_fault enums (LiteralLabel l) how n h = refl
 no_entry_fault enums l how n h = refl
+
+-- what has a text of its own selects no attribute
+pub no_selection : (m : Meaning) (n : ℕ) → has_inline (label_in m) n ≡ true → selection_fault m ≡ None
+no_selection (TermMeaning (Application (UufOp f) ts t)) n h = refl
+no_selection (TermMeaning (Application o ts t)) n h = absurd (false≢true h)
+no_selection (TermMeaning t) n h = refl
+no_selection (TypeMeaning t) n h = refl
+no_selection (FunctionMeaning f) n h = refl
 
 pub entered_has_entry : (t : PlainTerm) → is_entered (label_in (TermMeaning t)) ≡ true → has_entry (TermMeaning t) ≡ true
 entered_has_entry (LiteralTerm (EntityLiteral e i)) h = refl

@@ -1,5 +1,5 @@
--- Edges that are left to walk.
-use Rattle.std.proofs.Common.{◌≡◌, ◌≤◌, ◌+◌, ◌&&◌, ℕ, zero, suc, Bool, true, false, IsTrue, List, [], ◌∷◌, length, refl, ap, subst, ◌∙◌, arith, Option, Some, None}
+-- Look-ups that are left.
+use Rattle.std.proofs.Common.{◌≡◌, ◌≤◌, ◌+◌, ◌&&◌, ℕ, zero, suc, Bool, true, false, IsTrue, List, [], ◌∷◌, refl, ap, subst, ◌∙◌, arith, Option, Some, None}
 use Rattle.std.specs.Prelude.{is_none, slice_get}
 use Rattle.std.specs.Prelude.{IfOk, OnOk, Result, Ok, Err}
 use Rattle.std.specs.Rc.{rc_str_bytes}
@@ -11,41 +11,41 @@ use Rattle.smt_nodes.specs.View.{place_of}
 use Rattle.smt_nodes.specs.declared.id.NodeId.{NodeId}
 use Rattle.smt_nodes.specs.declared.interner.Interner.{Interner}
 use Rattle.smt_encode.specs.Names.{nodes_under, texts_under}
-use Rattle.smt_encode.specs.LookUps.{edges, edges_at, edges_from, edges_left}
+use Rattle.smt_encode.specs.LookUps.{look_ups, look_ups_at, look_ups_from, look_ups_left, look_ups_of}
 use Rattle.smt_encode.specs.NodeTexts.{text_at}
-use Rattle.smt_encode.specs.Steps.{edges_in}
+use Rattle.smt_encode.specs.Steps.{look_ups_in}
 use Rattle.smt_encode.specs.declared.writer.Writer.{Writer}
 use Rattle.smt_encode.specs.declared.node_names.NodeNames.{NodeNames}
 
 -- a smaller set has no more
-at_most : (b a : Bool) (node : PlainNode) → (IsTrue b → IsTrue a) → edges_at b node ≤ edges_at a node
+at_most : (b a : Bool) (node : PlainNode) → (IsTrue b → IsTrue a) → look_ups_at b node ≤ look_ups_at a node
 at_most false a node h = omega (arith)
 at_most true false node h = let no : IsTrue false = h refl in absurd (cc)
 at_most true true node h = omega (arith)
 
-pub fewer : (b a : ℕ → Bool) (place : ℕ) (nodes : List PlainNode) → ((p : ℕ) → IsTrue (b p) → IsTrue (a p)) → edges_from b place nodes ≤ edges_from a place nodes
+pub fewer : (b a : ℕ → Bool) (place : ℕ) (nodes : List PlainNode) → ((p : ℕ) → IsTrue (b p) → IsTrue (a p)) → look_ups_from b place nodes ≤ look_ups_from a place nodes
 fewer b a place [] h = omega (arith)
 fewer b a place (node ∷ nodes) h =
-    let one : edges_at (b place) node ≤ edges_at (a place) node = at_most (b place) (a place) node (h place) in
-    let more : edges_from b (suc place) nodes ≤ edges_from a (suc place) nodes = fewer b a (suc place) nodes h in
+    let one : look_ups_at (b place) node ≤ look_ups_at (a place) node = at_most (b place) (a place) node (h place) in
+    let more : look_ups_from b (suc place) nodes ≤ look_ups_from a (suc place) nodes = fewer b a (suc place) nodes h in
     omega (arith, one, more)
 
--- and fewer by the parts of a node that it lacks
+-- and fewer by the look-ups of a node that it lacks
 pub fewer_by : (b a : ℕ → Bool) (first i place : ℕ) (nodes : List PlainNode) (node : PlainNode) → ((p : ℕ) → IsTrue (b p) → IsTrue (a p)) → place ≡ first + i → slice_get nodes i ≡ Some node → a place ≡ true → b place ≡ false
-    → edges_from b first nodes + length node.parts ≤ edges_from a first nodes
+    → look_ups_from b first nodes + look_ups_of node ≤ look_ups_from a first nodes
 fewer_by b a first i place [] node h is at there gone = absurd (cc)
 fewer_by b a first zero place (n ∷ nodes) node h is at there gone =
     let same : first ≡ place = omega (arith, is) in
-    let more : edges_from b (suc first) nodes ≤ edges_from a (suc first) nodes = fewer b a (suc first) nodes h in
-    let x : edges_at (a first) n ≡ length node.parts = ap (λ t. edges_at t n) (ap a same ∙ there) ∙ ap (λ m. length m.parts) (inside at) in
-    let y : edges_at (b first) n ≡ 0 = ap (λ t. edges_at t n) (ap b same ∙ gone) in
+    let more : look_ups_from b (suc first) nodes ≤ look_ups_from a (suc first) nodes = fewer b a (suc first) nodes h in
+    let x : look_ups_at (a first) n ≡ look_ups_of node = ap (λ t. look_ups_at t n) (ap a same ∙ there) ∙ ap look_ups_of (inside at) in
+    let y : look_ups_at (b first) n ≡ 0 = ap (λ t. look_ups_at t n) (ap b same ∙ gone) in
     omega (arith, more, x, y)
   where
     inside : {n node : PlainNode} → Some n ≡ Some node → n ≡ node
     inside e = cc
 fewer_by b a first (suc i) place (n ∷ nodes) node h is at there gone =
-    let one : edges_at (b first) n ≤ edges_at (a first) n = at_most (b first) (a first) n (h first) in
-    let more : edges_from b (suc first) nodes + length node.parts ≤ edges_from a (suc first) nodes = fewer_by b a (suc first) i place nodes node h (omega (arith, is)) at there gone in
+    let one : look_ups_at (b first) n ≤ look_ups_at (a first) n = at_most (b first) (a first) n (h first) in
+    let more : look_ups_from b (suc first) nodes + look_ups_of node ≤ look_ups_from a (suc first) nodes = fewer_by b a (suc first) i place nodes node h (omega (arith, is)) at there gone in
     omega (arith, one, more)
 
 -- ---- what a text more leaves
@@ -66,22 +66,22 @@ is_gone false a text some = refl
 is_gone true None text some = absurd (cc)
 is_gone true (Some other) text some = refl
 
--- Behind a node's parts its text is kept: as many look-ups fewer are left as it has parts.
+-- Behind a node's parts its text is kept: as many look-ups fewer are left as it takes.
 pub node_counted : {S E : Type 0} (has : ℕ → Bool) (mid new : Writer S) (id : NodeId) (node : PlainNode) (result : Result (RcStr Global) E) (first steps count left : ℕ)
     → nodes_under new.names ≡ nodes_under mid.names → slice_get (nodes_of (nodes_under mid.names)) (place_of id) ≡ Some node → IsTrue (has (place_of id)) → text_at (texts_under mid.names) id ≡ None
     → ((id : NodeId) (text : List ℕ) → text_at (texts_under mid.names) id ≡ Some text → text_at (texts_under new.names) id ≡ Some text) → IfOk result (λ text. text_at (texts_under new.names) id ≡ Some (rc_str_bytes text))
-    → count ≤ length node.parts → steps + edges_in has mid ≤ first + count + left → OnOk result (steps + edges_in has new ≤ first + left)
+    → count ≤ look_ups_of node → steps + look_ups_in has mid ≤ first + count + left → OnOk result (steps + look_ups_in has new ≤ first + left)
 node_counted has mid new id node (Err e) first steps count left same at there none keeps kept fewer_parts h = tt
 node_counted has mid new id node (Ok text) first steps count left same at there none keeps kept fewer_parts h =
     let i = place_of id in
     let less = fewer_by (λ p. has p && is_none (text_at (texts_under new.names) (record { place = p }))) (λ p. has p && is_none (text_at (texts_under mid.names) (record { place = p }))) 0 i i (nodes_of (nodes_under mid.names)) node
     (λ p. none_before (has p) (text_at (texts_under mid.names) (record { place = p })) (text_at (texts_under new.names) (record { place = p })) (keeps (record { place = p }))) (omega (arith)) at
     (is_left (has i) (text_at (texts_under mid.names) id) there none) (is_gone (has i) (text_at (texts_under new.names) id) (rc_str_bytes text) kept) in
-    let e : edges_in has new ≡ edges (λ p. has p && is_none (text_at (texts_under new.names) (record { place = p }))) (nodes_of (nodes_under mid.names)) = ap (λ (n : Interner). edges_left has n (texts_under new.names)) same in
+    let e : look_ups_in has new ≡ look_ups (λ p. has p && is_none (text_at (texts_under new.names) (record { place = p }))) (nodes_of (nodes_under mid.names)) = ap (λ (n : Interner). look_ups_left has n (texts_under new.names)) same in
     omega (arith, less, e, fewer_parts, h)
 
--- no more edges are left than there are
-pub left_within : (has : ℕ → Bool) (nodes : Interner) (names : NodeNames) → edges_left has nodes names ≤ edges has (nodes_of nodes)
+-- no more look-ups are left than there are
+pub left_within : (has : ℕ → Bool) (nodes : Interner) (names : NodeNames) → look_ups_left has nodes names ≤ look_ups has (nodes_of nodes)
 left_within has nodes names = fewer _ has 0 (nodes_of nodes) (λ p. first_of (has p) _)
   where
     first_of : (t u : Bool) → IsTrue (t && u) → IsTrue t

@@ -3,24 +3,22 @@ use Rattle.std.proofs.Common.{◌≡◌, ℕ, Bool, refl, sym, ap, ◌∙◌, su
 use Rattle.std.specs.Prelude.{IsErrOf, OnOk}
 use Rattle.std.specs.Result.{IsErrAnd}
 use Rattle.std.specs.Rc.{rc_str_bytes}
-use Rattle.std.specs.declared.alloc.Global.{Global}
-use Rattle.std.specs.declared.rc.RcStr.{RcStr}
-use Rattle.smt_meaning.specs.Faults.{Fault, EmptyEnum, EncodeStringFailed, EncodePatternFailed, EnumMissingMember}
+use Rattle.smt_meaning.specs.Faults.{Fault, EmptyEnum, EncodeStringFailed, EncodePatternFailed, EnumMissingMember, ExpectRecord, MalformedRecordGet, MissingTypeEncoding, RecordMissingAttr}
 use Rattle.smt_script.specs.Sink.{Rose}
 use Rattle.smt_script.specs.declared.sink.SinkError.TheVariants.{Fault as Failed, Memory as NoRoom}
 use Rattle.smt_leaves.specs.Entities.{bytes_of_id, bytes_of_type}
 use Rattle.smt_leaves.specs.PatternView.{plain_ord_pattern}
-use Rattle.smt_leaves.specs.declared.entity.EntityType.{EntityType}
-use Rattle.smt_leaves.specs.declared.entity.EntityUID.{EntityUID}
-use Rattle.smt_leaves.specs.declared.pattern.OrdPattern.{OrdPattern}
 use Rattle.smt_encode.specs.Errors.{encode_error}
 use Rattle.smt_encode.specs.Refusals.{write_fault, HasCause, IsComplete}
 use Rattle.smt_spelling.specs.TextFaults.{Finds}
+use Rattle.smt_bits.specs.declared.error.BitVecError.{BitVecError}
 use Rattle.smt_encode.specs.declared.error.EncodeError.{EncodeError}
-use Rattle.smt_encode.specs.declared.error.EncodeError.TheVariants.{Io, Spent, Memory, EmptyEnum as EnumRefused, EncodeStringFailed as StringRefused, EncodePatternFailed as PatternRefused, EnumMissingMember as EntityRefused}
+use Rattle.smt_encode.specs.declared.error.EncodeError.TheVariants.{Io, Spent, Memory, EmptyEnum as EnumRefused, EncodeStringFailed as StringRefused, EncodePatternFailed as PatternRefused, EnumMissingMember as EntityRefused, ExpectRecord as NoRecordRefused, MalformedRecordGet as NoOperandRefused, MissingTypeEncoding as TypeRefused, RecordMissingAttr as AttributeRefused, BitVecError as BitsRefused}
 use Rattle.smt_spelling.specs.declared.error.TextError.TheVariants.{MissingMember, StringFailed, PatternFailed, EmptyEnum as NoMembers, Memory as NoMemory}
 use Rattle.smt_encode.specs.declared.error.WriteError.{WriteError}
-use Rattle.smt_encode.specs.declared.error.WriteError.TheVariants.{Sink, Text}
+use Rattle.smt_encode.specs.declared.error.WriteError.TheVariants.{Selector, Sink, Text}
+use Rattle.smt_encode.specs.declared.error.SelectorError.TheVariants.{Lacks, NoOperand, NoRecord, Unnamed, Memory as NoSpace}
+use Rattle.smt_term.specs.View.{plain_type}
 
 -- ---- errors
 
@@ -37,6 +35,11 @@ failed_is_io (Text (PatternFailed p)) is = absurd (cc)
 failed_is_io (Text (MissingMember x)) is = absurd (cc)
 failed_is_io (Text (NoMembers x)) is = absurd (cc)
 failed_is_io (Text NoMemory) is = absurd (cc)
+failed_is_io (Selector NoOperand) is = absurd (cc)
+failed_is_io (Selector (Unnamed x)) is = absurd (cc)
+failed_is_io (Selector (NoRecord x)) is = absurd (cc)
+failed_is_io (Selector (Lacks x)) is = absurd (cc)
+failed_is_io (Selector NoSpace) is = absurd (cc)
 
 -- what was begun does not say that it was spent
 pub never_spent : (e : WriteError) → encode_error e ≡ Spent → ⊥
@@ -47,6 +50,53 @@ never_spent (Text (PatternFailed p)) is = cc
 never_spent (Text (MissingMember x)) is = cc
 never_spent (Text (NoMembers x)) is = cc
 never_spent (Text NoMemory) is = cc
+never_spent (Selector NoOperand) is = cc
+never_spent (Selector (Unnamed x)) is = cc
+never_spent (Selector (NoRecord x)) is = cc
+never_spent (Selector (Lacks x)) is = cc
+never_spent (Selector NoSpace) is = cc
+
+-- the fault that an answer names
+abbrev answered_fault : EncodeError → Option Fault
+answered_fault (StringRefused text) = Some (EncodeStringFailed (rc_str_bytes text))
+answered_fault (PatternRefused p) = Some (EncodePatternFailed (plain_ord_pattern p))
+answered_fault (EnumRefused ety) = Some (EmptyEnum (bytes_of_type ety))
+answered_fault (EntityRefused x) = Some (EnumMissingMember (bytes_of_type x.ety) (bytes_of_id x.id))
+answered_fault NoOperandRefused = Some MalformedRecordGet
+answered_fault (TypeRefused ty) = Some (MissingTypeEncoding (plain_type ty))
+answered_fault (NoRecordRefused ty) = Some (ExpectRecord (plain_type ty))
+answered_fault (AttributeRefused name) = Some (RecordMissingAttr (rc_str_bytes name))
+answered_fault e = None
+
+-- is that of the error inside
+same_fault : (e : WriteError) → write_fault e ≡ answered_fault (encode_error e)
+same_fault (Sink Failed) = refl
+same_fault (Sink NoRoom) = refl
+same_fault (Text (StringFailed s)) = refl
+same_fault (Text (PatternFailed p)) = refl
+same_fault (Text (MissingMember x)) = refl
+same_fault (Text (NoMembers x)) = refl
+same_fault (Text NoMemory) = refl
+same_fault (Selector NoOperand) = refl
+same_fault (Selector (Unnamed x)) = refl
+same_fault (Selector (NoRecord x)) = refl
+same_fault (Selector (Lacks x)) = refl
+same_fault (Selector NoSpace) = refl
+
+-- no error of a walk is one of bitvectors
+no_bits : (e : WriteError) (x : BitVecError) → encode_error e ≡ BitsRefused x → ⊥
+no_bits (Sink Failed) x is = cc
+no_bits (Sink NoRoom) x is = cc
+no_bits (Text (StringFailed s)) x is = cc
+no_bits (Text (PatternFailed p)) x is = cc
+no_bits (Text (MissingMember y)) x is = cc
+no_bits (Text (NoMembers y)) x is = cc
+no_bits (Text NoMemory) x is = cc
+no_bits (Selector NoOperand) x is = cc
+no_bits (Selector (Unnamed y)) x is = cc
+no_bits (Selector (NoRecord y)) x is = cc
+no_bits (Selector (Lacks y)) x is = cc
+no_bits (Selector NoSpace) x is = cc
 
 module _ (fault : Option Fault) where
   -- ---- answers of a whole walk
@@ -55,49 +105,9 @@ module _ (fault : Option Fault) where
   pub ok_without_fault : {T : Type 0} (walk : Result T WriteError) (x : T) → walk ≡ Ok x → Finds write_fault fault walk → fault ≡ None
   ok_without_fault {T} walk x is walked = subst (λ (r : Result T WriteError). Finds write_fault fault r) is walked
 
-  -- a refusal of a string names the first fault
-  pub string_is_first : (e : WriteError) (text : RcStr Global) → ((f : Fault) → write_fault e ≡ Some f → fault ≡ Some f) → encode_error e ≡ StringRefused text
-      → fault ≡ Some (EncodeStringFailed (rc_str_bytes text))
-  string_is_first (Sink Failed) text h is = absurd (cc)
-  string_is_first (Sink NoRoom) text h is = absurd (cc)
-  string_is_first (Text (StringFailed s)) text h is = h (EncodeStringFailed (rc_str_bytes text)) (cc)
-  string_is_first (Text (PatternFailed p)) text h is = absurd (cc)
-  string_is_first (Text (MissingMember x)) text h is = absurd (cc)
-  string_is_first (Text (NoMembers x)) text h is = absurd (cc)
-  string_is_first (Text NoMemory) text h is = absurd (cc)
-
-  -- and so does one of a pattern
-  pub pattern_is_first : (e : WriteError) (p : OrdPattern) → ((f : Fault) → write_fault e ≡ Some f → fault ≡ Some f) → encode_error e ≡ PatternRefused p
-      → fault ≡ Some (EncodePatternFailed (plain_ord_pattern p))
-  pattern_is_first (Sink Failed) p h is = absurd (cc)
-  pattern_is_first (Sink NoRoom) p h is = absurd (cc)
-  pattern_is_first (Text (StringFailed s)) p h is = absurd (cc)
-  pattern_is_first (Text (PatternFailed q)) p h is = h (EncodePatternFailed (plain_ord_pattern p)) (cc)
-  pattern_is_first (Text (MissingMember x)) p h is = absurd (cc)
-  pattern_is_first (Text (NoMembers x)) p h is = absurd (cc)
-  pattern_is_first (Text NoMemory) p h is = absurd (cc)
-
-  -- so does one of an enum type
-  pub empty_is_first : (e : WriteError) (ety : EntityType) → ((f : Fault) → write_fault e ≡ Some f → fault ≡ Some f) → encode_error e ≡ EnumRefused ety
-      → fault ≡ Some (EmptyEnum (bytes_of_type ety))
-  empty_is_first (Sink Failed) ety h is = absurd (cc)
-  empty_is_first (Sink NoRoom) ety h is = absurd (cc)
-  empty_is_first (Text (MissingMember x)) ety h is = absurd (cc)
-  empty_is_first (Text (StringFailed s)) ety h is = absurd (cc)
-  empty_is_first (Text (PatternFailed q)) ety h is = absurd (cc)
-  empty_is_first (Text (NoMembers x)) ety h is = h (EmptyEnum (bytes_of_type ety)) (cc)
-  empty_is_first (Text NoMemory) ety h is = absurd (cc)
-
-  -- and one of an entity
-  pub member_is_first : (e : WriteError) (x : EntityUID) → ((f : Fault) → write_fault e ≡ Some f → fault ≡ Some f) → encode_error e ≡ EntityRefused x
-      → fault ≡ Some (EnumMissingMember (bytes_of_type x.ety) (bytes_of_id x.id))
-  member_is_first (Sink Failed) x h is = absurd (cc)
-  member_is_first (Sink NoRoom) x h is = absurd (cc)
-  member_is_first (Text (MissingMember y)) x h is = h (EnumMissingMember (bytes_of_type x.ety) (bytes_of_id x.id)) (cc)
-  member_is_first (Text (StringFailed s)) x h is = absurd (cc)
-  member_is_first (Text (PatternFailed q)) x h is = absurd (cc)
-  member_is_first (Text (NoMembers y)) x h is = absurd (cc)
-  member_is_first (Text NoMemory) x h is = absurd (cc)
+  -- a refusal names the first fault
+  is_first : (e : WriteError) (r : EncodeError) (f : Fault) → answered_fault r ≡ Some f → ((f : Fault) → write_fault e ≡ Some f → fault ≡ Some f) → encode_error e ≡ r → fault ≡ Some f
+  is_first e r f k h is = h f (same_fault e ∙ (ap answered_fault is ∙ k))
 
   -- without a fault of the terms or the sink there is one refusal
   pub only_memory : {P : Type 0} (e : WriteError) → ((f : Fault) → write_fault e ≡ Some f → fault ≡ Some f) → fault ≡ None → (e ≡ Sink Failed → P) → (P → ⊥) → encode_error e ≡ Memory
@@ -108,6 +118,11 @@ module _ (fault : Option Fault) where
   only_memory (Text (MissingMember x)) h none failed quiet = let f = sym none ∙ h _ refl in absurd (cc)
   only_memory (Text (NoMembers x)) h none failed quiet = let f = sym none ∙ h _ refl in absurd (cc)
   only_memory (Text NoMemory) h none failed quiet = refl
+  only_memory (Selector NoOperand) h none failed quiet = let f = sym none ∙ h _ refl in absurd (cc)
+  only_memory (Selector (Unnamed x)) h none failed quiet = let f = sym none ∙ h _ refl in absurd (cc)
+  only_memory (Selector (NoRecord x)) h none failed quiet = let f = sym none ∙ h _ refl in absurd (cc)
+  only_memory (Selector (Lacks x)) h none failed quiet = let f = sym none ∙ h _ refl in absurd (cc)
+  only_memory (Selector NoSpace) h none failed quiet = refl
 
   -- ---- an error of the walk, handed on
 
@@ -121,10 +136,15 @@ module _ (fault : Option Fault) where
     has_cause (Ok x) same = absurd same
     has_cause (Err y) same = record {
       io = λ i. rose (is ∙ ap Err (failed_is_io e (sym same ∙ cc)));
-      string = λ text i. string_is_first e text (names_first walk e is walked) (sym same ∙ cc);
-      pattern = λ p i. pattern_is_first e p (names_first walk e is walked) (sym same ∙ cc);
-      empty = λ ety i. empty_is_first e ety (names_first walk e is walked) (sym same ∙ cc);
-      member = λ x i. member_is_first e x (names_first walk e is walked) (sym same ∙ cc);
+      string = λ text i. is_first e (StringRefused text) _ refl (names_first walk e is walked) (sym same ∙ cc);
+      pattern = λ p i. is_first e (PatternRefused p) _ refl (names_first walk e is walked) (sym same ∙ cc);
+      empty = λ ety i. is_first e (EnumRefused ety) _ refl (names_first walk e is walked) (sym same ∙ cc);
+      member = λ x i. is_first e (EntityRefused x) _ refl (names_first walk e is walked) (sym same ∙ cc);
+      no_operand = λ i. is_first e NoOperandRefused _ refl (names_first walk e is walked) (sym same ∙ cc);
+      type = λ ty i. is_first e (TypeRefused ty) _ refl (names_first walk e is walked) (sym same ∙ cc);
+      no_record = λ ty i. is_first e (NoRecordRefused ty) _ refl (names_first walk e is walked) (sym same ∙ cc);
+      attribute = λ name i. is_first e (AttributeRefused name) _ refl (names_first walk e is walked) (sym same ∙ cc);
+      bits = λ x i. no_bits e x (sym same ∙ cc);
     }
 
     pub is_complete : {spent : Bool} (result : Result U EncodeError) → IsErrAnd result (λ y. y ≡ encode_error e) → IsComplete spent before after fault result

@@ -10,7 +10,7 @@ use Rattle.smt_graph.specs.Parts.{label_in, parts_in}
 use Rattle.smt_lines.specs.Lines.{Enums, Written, made_of, ◌>>=◌}
 use Rattle.smt_lines.specs.NameTables.{Tables}
 use Rattle.smt_lines.specs.Spelling.{spelled}
-use Rattle.smt_encode.specs.Entries.{enter_by, entered_by, entry_by, inline_by, is_built, own_lines, rendering_in, written_parts}
+use Rattle.smt_encode.specs.Entries.{enter_by, entered_by, entry_by, head_in, inline_by, is_built, own_lines, rendering_in, written_parts}
 use Rattle.smt_spelling.specs.Entries.{SaysInline}
 use Rattle.smt_encode.specs.NodeLines.{encode_meanings, name_in}
 use Rattle.smt_encode.specs.NodeTexts.{IsText}
@@ -42,7 +42,7 @@ inline_lines enums m s es e is = ap (λ o. elim o [ Some e ↦ made_of e s | Non
 
 -- the own lines of a term that gets a name
 pub entry_lines_are : (enums : Enums) (t : PlainTerm) (s : Tables) (sort : Expression) (es : List Expression) → inline_by (label_in (TermMeaning t)) (sort ∷ es) ≡ None
-    → own_lines enums (TermMeaning t) (sort ∷ es) s ≡ enter_by (entry_by enums (label_in (TermMeaning t)) (rendering_in (TermMeaning t)) sort es) t sort s
+    → own_lines enums (TermMeaning t) (sort ∷ es) s ≡ enter_by (entry_by enums (label_in (TermMeaning t)) (rendering_in (TermMeaning t)) (head_in t s) sort es) t sort s
 entry_lines_are enums t s sort es is = ap (λ o. elim o [ Some e ↦ made_of e s | None ↦ entered_by enums (label_in (TermMeaning t)) (rendering_in (TermMeaning t)) (TermMeaning t) (sort ∷ es) s ]) is
 
 -- the first of several texts, and the others
@@ -65,15 +65,15 @@ taken_off (y ∷ xs) others x h is rest = sym (λ i. is i ∷ rest i)
 -- a term is written by its entry
 pub entry_written : {S E : Type 0} (contents : S → Option (List ℕ)) (old new : Writer S) (enums : Enums) (m : Meaning) (t : PlainTerm) (es : List Expression) (s : Tables) (first : RcStr Global) (others : List (RcStr Global)) (result : Result (RcStr Global) E)
     → m ≡ TermMeaning t → AreSpelled es (first ∷ others) → inline_by (label_in m) es ≡ None
-    → ((e : Expression) (rest : List Expression) → rc_str_bytes first ≡ spelled e → AreSpelled rest others → WritesHere contents old new (enter_by (entry_by enums (label_in m) (rendering_in m) e rest) t e s) IsSpelled result)
+    → ((e : Expression) (rest : List Expression) → rc_str_bytes first ≡ spelled e → AreSpelled rest others → WritesHere contents old new (enter_by (entry_by enums (label_in m) (rendering_in m) (head_in t s) e rest) t e s) IsSpelled result)
     → WritesHere contents old new (own_lines enums m es s) IsSpelled result
 entry_written contents old new enums m t es s first others result is shown none writes =
     let p = split es first others shown in
-    let whole : own_lines enums m es s ≡ enter_by (entry_by enums (label_in m) (rendering_in m) p.sort p.rest) t p.sort s =
+    let whole : own_lines enums m es s ≡ enter_by (entry_by enums (label_in m) (rendering_in m) (head_in t s) p.sort p.rest) t p.sort s =
     ap (λ l. own_lines enums m l s) p.whole
     ∙ ap (λ k. own_lines enums k (p.sort ∷ p.rest) s) is
     ∙ entry_lines_are enums t s p.sort p.rest (ap (λ k. inline_by (label_in k) (p.sort ∷ p.rest)) (sym is) ∙ ap (inline_by (label_in m)) (sym p.whole) ∙ none)
-    ∙ ap (λ k. enter_by (entry_by enums (label_in k) (rendering_in k) p.sort p.rest) t p.sort s) (sym is) in
+    ∙ ap (λ k. enter_by (entry_by enums (label_in k) (rendering_in k) (head_in t s) p.sort p.rest) t p.sort s) (sym is) in
     subst (λ (w : Written Expression). WritesHere contents old new w IsSpelled result) (sym whole) (writes p.sort p.rest p.sort_spelled p.rest_spelled)
 
 -- the last of several texts, and the others

@@ -1,4 +1,5 @@
 pub mod Answered
+pub mod Applying
 pub mod Bodies
 pub mod Built
 pub mod Completing
@@ -18,6 +19,7 @@ pub mod Named
 pub mod NodeOf
 pub mod Rendered
 pub mod Scripted
+pub mod Selecting
 pub mod Stated
 pub mod Typed
 pub mod Walking

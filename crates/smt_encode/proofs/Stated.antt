@@ -3,17 +3,18 @@ use Rattle.std.proofs.Common.{◌≡◌, ◌⊎◌, inl, inr, ℕ, ◌-◌, Bool
 use Rattle.std.proofs.lemmas.Bool.{false≢true}
 use Rattle.smt_lexicon.specs.Reading.{Expression}
 use Rattle.smt_semantics.specs.Script.{group, name}
-use Rattle.smt_meaning.specs.Plain.{PlainType, OptionType, BitVecType, BoolType, EntityType, ExtensionType, RecordType, StringType, SetType, PlainTerm, PlainTerms, no_terms, one_term, PlainFunction, PlainOp, RecordGetOp, UufOp, Application, NoneTerm, LiteralTerm, RecordTerm, SetTerm, SomeTerm, VariableTerm, BitVecLiteral, BoolLiteral, EntityLiteral, ExtensionLiteral, StringLiteral, list_of_terms}
+use Rattle.smt_meaning.specs.Plain.{PlainType, OptionType, BitVecType, BoolType, EntityType, ExtensionType, RecordType, StringType, SetType, AttributeTypes, no_attributes, attribute, PlainTerm, PlainTerms, no_terms, one_term, PlainFields, no_fields, one_field, PlainFunction, PlainOp, UufOp, Application, NoneTerm, LiteralTerm, RecordTerm, SetTerm, SomeTerm, VariableTerm, BitVecLiteral, BoolLiteral, EntityLiteral, ExtensionLiteral, StringLiteral, list_of_terms}
 use Rattle.smt_meaning.specs.Types.{literal_type, type_eq, type_of}
 use Rattle.smt_meaning.proofs.TermTotal.{types_decided}
 use Rattle.smt_lines.proofs.Making.{lookup_new}
 use Rattle.smt_graph.specs.Nodes.{ApplicationLabel, Meaning, TypeMeaning, FunctionMeaning, TermMeaning}
-use Rattle.smt_graph.specs.Parts.{label_in, parts_in, term_label, term_parts, type_label, type_parts}
-use Rattle.smt_lines.specs.LineForms.{function_declaration, function_heading, variable_lines, none_body, set_body, some_body, operator_head, application_body, extension_body, record_body}
-use Rattle.smt_lines.specs.Lines.{Enums, Rendering, AsApplication, AsEqualsIntMin, AsFalse, Written, next_entity, next_function, next_term, declare_entity, declare_kind, declare_record, enter_function, enter_term, encode_attributes, encode_fields, encode_function, encode_head, encode_type, encode_terms, encode_term, define, define_application, define_entity, application_rendering, behind, made_of, members_of, unless_named, ◌>>=◌}
+use Rattle.smt_graph.specs.Parts.{field_terms, label_in, names_in, parts_in, term_label, term_parts, type_label, type_parts, types_in}
+use Rattle.smt_meaning.specs.Formed.{attribute_names}
+use Rattle.smt_lines.specs.LineForms.{function_declaration, function_heading, variable_lines, none_body, set_body, some_body, application_body, extension_body, record_body, record_lines}
+use Rattle.smt_lines.specs.Lines.{Enums, Rendering, AsApplication, AsEqualsIntMin, AsFalse, Written, next_entity, next_function, next_record, next_term, declare_entity, declare_kind, declare_record, enter_function, enter_term, enter_type, encode_attributes, encode_fields, encode_function, encode_head, encode_type, encode_terms, encode_term, define, define_application, define_entity, application_rendering, behind, made_of, members_of, unless_named, ◌>>=◌}
 use Rattle.smt_lines.specs.NameTables.{Tables, name_of_term, name_of_type, text_of_name}
 use Rattle.smt_encode.specs.NodeLines.{encode_meaning, encode_meanings, has_entry, name_in}
-use Rattle.smt_encode.specs.Entries.{Rendered, enter_by, heading, is_built, is_built_op, last_first, op_rendering, own_by, own_lines, rendering_in, written_parts}
+use Rattle.smt_encode.specs.Entries.{Rendered, enter_by, head_at, heading, is_built, is_built_op, last_first, op_rendering, own_by, own_lines, rendering_in, written_parts}
 use Rattle.smt_spelling.specs.Entries.{entity_entry}
 
 -- ---- texts one after the other
@@ -32,6 +33,19 @@ typed_parts w f k =
 terms_in_order : (enums : Enums) (ts : PlainTerms) (s : Tables) → encode_meanings enums (map TermMeaning (list_of_terms ts)) s ≡ encode_terms enums ts s
 terms_in_order enums no_terms s = refl
 terms_in_order enums (one_term t ts) s = ap (λ (f : Tables → Written (List Expression)). encode_term enums t s >>= λ e u. f u >>= λ es v. made_of (e ∷ es) v) (λ i u. terms_in_order enums ts u i)
+
+-- types of attributes, and terms of fields
+types_in_order : (enums : Enums) (x : AttributeTypes) (s : Tables) → encode_meanings enums (types_in x) s ≡ encode_attributes enums x s
+types_in_order enums no_attributes s = refl
+types_in_order enums (attribute a t x) s = ap (λ (f : Tables → Written (List Expression)). encode_type enums t s >>= λ e u. f u >>= λ es v. made_of (e ∷ es) v) (λ i u. types_in_order enums x u i)
+
+fields_in_order : (enums : Enums) (x : PlainFields) (s : Tables) → encode_meanings enums (field_terms x) s ≡ encode_fields enums x s
+fields_in_order enums no_fields s = refl
+fields_in_order enums (one_field a t x) s = ap (λ (f : Tables → Written (List Expression)). encode_term enums t s >>= λ e u. f u >>= λ es v. made_of (e ∷ es) v) (λ i u. fields_in_order enums x u i)
+
+pub names_are : (x : AttributeTypes) → names_in x ≡ attribute_names x
+names_are no_attributes = refl
+names_are (attribute a t x) = ap (λ l. a ∷ l) (names_are x)
 
 -- ---- applications
 
@@ -58,12 +72,10 @@ rendering_of_application o ts t h = refl
 
 pub built_application : (o : PlainOp) (ts : PlainTerms) (t : PlainType) → is_call o ≡ false → is_built (term_label (Application o ts t)) ≡ true → is_built_op o ≡ true
 built_application (UufOp f) ts t u h = absurd (false≢true (sym u))
-built_application (RecordGetOp a) ts t u h = absurd (false≢true h)
 built_application o ts t u h = refl
 
-head_made : (enums : Enums) (o : PlainOp) (ts : PlainTerms) (s : Tables) → is_built_op o ≡ true → encode_head enums o ts s ≡ made_of (operator_head o) s
+head_made : (enums : Enums) (o : PlainOp) (ts : PlainTerms) (s : Tables) → is_built_op o ≡ true → encode_head enums o ts s ≡ made_of (head_at o ts s) s
 head_made enums (UufOp f) ts s h = absurd (false≢true h)
-head_made enums (RecordGetOp a) ts s h = absurd (false≢true h)
 head_made enums o ts s h = refl
 
 -- an application's own lines, behind its type
@@ -160,6 +172,9 @@ stated enums (TypeMeaning (BitVecType n)) s h u none = refl
 stated enums (TypeMeaning BoolType) s h u none = refl
 stated enums (TypeMeaning (EntityType e)) s h u none = ap (λ n. unless_named n s (λ u. declare_entity enums e u)) none
 stated enums (TypeMeaning StringType) s h u none = refl
+stated enums (TypeMeaning (RecordType x)) s h u none =
+    ap (λ n. unless_named n s (λ u. encode_attributes enums x u >>= λ sorts v. declare_record x sorts v)) none
+    ∙ sym (λ i. types_in_order enums x s i >>= λ es u. enter_type (RecordType x) (next_record u) (record_lines (names_are x i) (next_record u) es) u)
 stated enums (TypeMeaning (SetType t)) s h u none = sym (one_part (encode_type enums t s) (λ es u. own_lines enums (TypeMeaning (SetType t)) es u))
 stated enums (TypeMeaning t) s h u none = absurd (false≢true h)
 stated enums (FunctionMeaning f) s h u none = absurd (cc)
@@ -187,7 +202,12 @@ stated enums (TermMeaning (LiteralTerm (EntityLiteral e i))) s h u none =
     ∙ sym (one_part (encode_type enums (EntityType e) s) (λ es u. own_lines enums (TermMeaning (LiteralTerm (EntityLiteral e i))) es u))
 stated enums (TermMeaning (LiteralTerm (StringLiteral x))) s h u none = refl
 stated enums (TermMeaning (LiteralTerm l)) s h u none = absurd (false≢true h)
-stated enums (TermMeaning (RecordTerm fs)) s h u none = absurd (false≢true h)
+stated enums (TermMeaning (RecordTerm fs)) s h u none =
+    let w : Written Expression = encode_type enums (type_of (RecordTerm fs)) s in
+    let k : List Expression → Tables → Written Expression = λ es u. own_lines enums (TermMeaning (RecordTerm fs)) es u in
+    ap (λ n. unless_named n s (λ u. encode_type enums (type_of (RecordTerm fs)) u >>= λ sort v. encode_fields enums fs v >>= λ es x. define (RecordTerm fs) sort (record_body sort es) x)) none
+    ∙ sym (λ i. w >>= λ sort v. fields_in_order enums fs v i >>= λ es u. k (sort ∷ es) u)
+    ∙ sym (typed_parts w (λ u. encode_meanings enums (field_terms fs) u) k)
 stated enums (TermMeaning (SetTerm t ts)) s h u none =
     let w : Written Expression = encode_type enums (SetType t) s in
     let k : List Expression → Tables → Written Expression = λ es u. own_lines enums (TermMeaning (SetTerm t ts)) es u in

@@ -1,5 +1,5 @@
 -- What a call leaves that writes the lines of one name alone.
-use Rattle.std.specs.Prelude.{ℕ, ◌≡◌, ◌++◌, ◌∷◌, IsTrue, List, [], Option, Some, None, Result, Ok, Err, codes, is_some}
+use Rattle.std.specs.Prelude.{ℕ, ◌≡◌, ◌++◌, ◌∷◌, IsTrue, List, [], Option, Some, None, Result, Ok, Err, codes, is_some, map}
 use Rattle.std.specs.Io.KnownBytes.{append_known}
 use Rattle.std.specs.Rc.{rc_str_bytes}
 use Rattle.std.specs.declared.alloc.Global.{Global}
@@ -10,6 +10,8 @@ use Rattle.smt_leaves.specs.Entities.{bytes_of_id, bytes_of_type}
 use Rattle.smt_leaves.specs.declared.entity.EntityType.{EntityType}
 use Rattle.smt_leaves.specs.declared.entity.EntityUID.{EntityUID}
 use Rattle.smt_characters.specs.LineTexts.{define_fun_text, spaced}
+use Rattle.smt_lexicon.specs.Reading.{Expression}
+use Rattle.smt_semantics.specs.Script.{name}
 use Rattle.smt_lines.specs.EntryNames.{enum_member}
 use Rattle.smt_lines.specs.LineForms.{entity_body}
 use Rattle.smt_lines.specs.Lines.{next_term}
@@ -41,6 +43,18 @@ empty_set_text sort = codes "(as set.empty " ++ (sort ++ codes ")")
 abbrev pub set_body_text : (sort : List ℕ) → (elements : List (List ℕ)) → List ℕ
 set_body_text sort [] = empty_set_text sort
 set_body_text sort (e ∷ es) = codes "(set.insert " ++ (spaced ((e ∷ es) ++ empty_set_text sort ∷ []) ++ codes ")")
+
+-- the body of a record, by its sort and its fields as they stand, a space between each two: the sort alone where the joined fields have no character
+abbrev pub body_of_joined : (sort fields : List ℕ) → List ℕ
+body_of_joined sort [] = sort
+body_of_joined sort (b ∷ bs) = codes "(" ++ (sort ++ (codes " " ++ ((b ∷ bs) ++ codes ")")))
+
+abbrev pub record_body_text : (sort : List ℕ) → (fields : List (List ℕ)) → List ℕ
+record_body_text sort fields = body_of_joined sort (spaced fields)
+
+-- the sorts that stand beside attributes, each as it stands
+abbrev pub sorts_given : List (RcStr Global × RcStr Global) → List Expression
+sorts_given pairs = map (λ p. name (rc_str_bytes p.1)) pairs
 
 -- the name of an entity, by the members of its type, where this is an enum type: the constructor of the member, or the next name
 abbrev pub name_of_entity : (members : Option (List (List ℕ))) → (id sort : List ℕ) → Tables → List ℕ

@@ -1,17 +1,19 @@
 -- How nodes are entered: what is known of a node's own lines, by the texts of its parts.
 use Rattle.std.specs.Prelude.{ℕ, ◌-◌, Bool, true, false, codes, List, [], ◌∷◌, ◌++◌, Option, Some, None, is_some, drop, length, nat_eq, take}
 use Rattle.std.specs.Option.{option_or}
-use Rattle.smt_meaning.specs.Faults.{Fault, entity_fault, entity_type_fault}
+use Rattle.smt_meaning.specs.Faults.{Fault, entity_fault, entity_type_fault, record_get_fault}
+use Rattle.smt_meaning.specs.Types.{types_of}
 use Rattle.smt_meaning.specs.Plain.{PlainLiteral, EntityLiteral, ExtensionLiteral, PlainType, BitVecType, BoolType, PlainOp, BvnegoOp, PlainFunction, RecordGetOp, UufOp, PlainTerm, PlainTerms, Application}
-use Rattle.smt_graph.specs.Nodes.{PlainLabel, OptionLabel, BitVecLabel, BoolLabel, EntityLabel, StringLabel, SetLabel, FunctionLabel, ApplicationLabel, CallLabel, NoneLabel, LiteralLabel, SetOfLabel, SomeLabel, VariableLabel, Meaning, FunctionMeaning, TermMeaning, TypeMeaning}
+use Rattle.smt_graph.specs.Nodes.{PlainLabel, OptionLabel, BitVecLabel, BoolLabel, EntityLabel, StringLabel, RecordLabel, SetLabel, FunctionLabel, ApplicationLabel, CallLabel, NoneLabel, LiteralLabel, RecordOfLabel, SetOfLabel, SomeLabel, VariableLabel, Meaning, FunctionMeaning, TermMeaning, TypeMeaning}
 use Rattle.smt_graph.specs.Parts.{label_in}
 use Rattle.smt_lexicon.specs.Reading.{Expression}
 use Rattle.smt_semantics.specs.Script.{group, name}
 use Rattle.smt_semantics.specs.Sorts.{bit_sort, bool_sort, option_sort, set_sort, string_sort}
 use Rattle.smt_lines.specs.Line.{Line}
-use Rattle.smt_lines.specs.LineForms.{application_body, entity_lines, function_declaration, function_heading, least_body, none_body, operator_head, set_body}
-use Rattle.smt_lines.specs.Lines.{Enums, Written, Rendering, AsApplication, AsEqualsIntMin, AsFalse, application_rendering, enter_function, enter_term, enter_type, made_of, members_of, next_entity, next_function, next_term}
-use Rattle.smt_lines.specs.NameTables.{Tables}
+use Rattle.smt_lines.specs.EntryNames.{attribute_name}
+use Rattle.smt_lines.specs.LineForms.{application_body, entity_lines, function_declaration, function_heading, least_body, none_body, operator_head, record_body, record_lines, set_body}
+use Rattle.smt_lines.specs.Lines.{Enums, Written, Rendering, AsApplication, AsEqualsIntMin, AsFalse, application_rendering, attribute_place, enter_function, enter_term, enter_type, first_type, made_of, members_of, next_entity, next_function, next_record, next_term}
+use Rattle.smt_lines.specs.NameTables.{Tables, name_of_type, text_of_name}
 use Rattle.smt_lines.specs.Spelling.{spelled}
 use Rattle.smt_lines.specs.TermTexts.{bool_name}
 use Rattle.smt_spelling.specs.Entries.{PlainEntry, ByBody, ByConstant, ByName, entity_entry, entry_lines, literal_text, string_fault}
@@ -32,11 +34,24 @@ entry_name (ByName name) s = name
 abbrev pub enter_by : PlainEntry → PlainTerm → (sort : Expression) → Tables → Written Expression
 enter_by p t sort s = enter_term t (entry_name p s) (entry_lines p (entry_name p s) sort) s
 
--- how an application is entered, by the texts of its arguments
-abbrev pub application_entry : NodeRendering → PlainOp → List Expression → PlainEntry
-application_entry (Rendered (AsEqualsIntMin width)) op es = ByBody (least_body width es)
-application_entry (Rendered AsFalse) op es = ByName (bool_name false)
-application_entry how op es = ByBody (application_body (operator_head op) op es)
+-- the selector of an attribute at a type, by the name that this has
+abbrev pub selector : (attribute : List ℕ) → PlainType → Tables → Expression
+selector a t s = name (attribute_name (text_of_name (name_of_type s t)) (attribute_place a t))
+
+-- what an application begins with; of `record.get` it is the selector at the type of the operand
+abbrev pub head_at : PlainOp → PlainTerms → Tables → Expression
+head_at (RecordGetOp a) ts s = selector a (first_type ts) s
+head_at op ts s = operator_head op
+
+abbrev pub head_in : PlainTerm → Tables → Expression
+head_in (Application op ts type) s = head_at op ts s
+head_in t s = name []
+
+-- how an application is entered, by what it begins with and the texts of its arguments
+abbrev pub application_entry : NodeRendering → PlainOp → (head : Expression) → List Expression → PlainEntry
+application_entry (Rendered (AsEqualsIntMin width)) op head es = ByBody (least_body width es)
+application_entry (Rendered AsFalse) op head es = ByName (bool_name false)
+application_entry how op head es = ByBody (application_body head op es)
 
 -- the last before the others
 abbrev pub last_first : {A : Type 0} → List A → List A
@@ -51,21 +66,23 @@ abbrev pub literal_entry : Enums → PlainLiteral → (sort : Expression) → Pl
 literal_entry enums (EntityLiteral e i) sort = entity_entry (members_of enums e) i (spelled sort)
 literal_entry enums l sort = ByName []
 
--- how a term is entered, by its sort and the texts of its other parts
-abbrev pub entry_by : Enums → PlainLabel → NodeRendering → (sort : Expression) → List Expression → PlainEntry
-entry_by enums (ApplicationLabel op) how sort es = application_entry how op es
-entry_by enums CallLabel how sort es = ByBody (call_body es)
-entry_by enums (LiteralLabel l) how sort es = literal_entry enums l sort
-entry_by enums NoneLabel how sort es = ByBody (none_body sort)
-entry_by enums SetOfLabel how sort es = ByBody (set_body sort es)
-entry_by enums SomeLabel how sort es = ByBody (group (name (codes "some") ∷ es))
-entry_by enums (VariableLabel id) how sort es = ByConstant id
-entry_by enums l how sort es = ByName []
+-- how a term is entered, by what it begins with, its sort and the texts of its other parts
+abbrev pub entry_by : Enums → PlainLabel → NodeRendering → (head sort : Expression) → List Expression → PlainEntry
+entry_by enums (ApplicationLabel op) how head sort es = application_entry how op head es
+entry_by enums CallLabel how head sort es = ByBody (call_body es)
+entry_by enums (LiteralLabel l) how head sort es = literal_entry enums l sort
+entry_by enums NoneLabel how head sort es = ByBody (none_body sort)
+entry_by enums (RecordOfLabel names) how head sort es = ByBody (record_body sort es)
+entry_by enums SetOfLabel how head sort es = ByBody (set_body sort es)
+entry_by enums SomeLabel how head sort es = ByBody (group (name (codes "some") ∷ es))
+entry_by enums (VariableLabel id) how head sort es = ByConstant id
+entry_by enums l how head sort es = ByName []
 
--- a type's own lines, and its name among the names
-abbrev pub declare_by : Enums → PlainLabel → PlainType → Tables → Written Expression
-declare_by enums (EntityLabel e) t s = enter_type t (next_entity s) (entity_lines (members_of enums e) e (next_entity s)) s
-declare_by enums l t s = made_of (name []) s
+-- a type's own lines, by the texts of its parts, and its name among the names
+abbrev pub declare_by : Enums → PlainLabel → PlainType → List Expression → Tables → Written Expression
+declare_by enums (EntityLabel e) t es s = enter_type t (next_entity s) (entity_lines (members_of enums e) e (next_entity s)) s
+declare_by enums (RecordLabel names) t es s = enter_type t (next_record s) (record_lines names (next_record s) es) s
+declare_by enums l t es s = made_of (name []) s
 
 -- a function's own line, behind those of its types, and its name among the names
 abbrev pub declare_function : PlainFunction → List Expression → Tables → Written Expression
@@ -136,8 +153,8 @@ written_parts how ms = ms
 
 -- what is written of the node itself, by the texts of its parts
 abbrev pub entered_by : Enums → PlainLabel → NodeRendering → Meaning → List Expression → Tables → Written Expression
-entered_by enums l how (TermMeaning t) (sort ∷ es) s = enter_by (entry_by enums l how sort es) t sort s
-entered_by enums l how (TypeMeaning t) es s = declare_by enums l t s
+entered_by enums l how (TermMeaning t) (sort ∷ es) s = enter_by (entry_by enums l how (head_in t s) sort es) t sort s
+entered_by enums l how (TypeMeaning t) es s = declare_by enums l t es s
 entered_by enums l how (FunctionMeaning f) es s = declare_function f es s
 entered_by enums l how m es s = made_of (name []) s
 
@@ -167,12 +184,20 @@ entry_fault enums (ApplicationLabel op) how = application_fault how op
 entry_fault enums (LiteralLabel l) how = literal_entry_fault enums l
 entry_fault enums l how = None
 
-abbrev pub own_fault : Enums → PlainLabel → NodeRendering → Option Fault
-own_fault enums l how = option_or (inline_fault l) (entry_fault enums l how)
+-- the fault of what an application begins with: of `record.get` by the types of its operands
+abbrev pub head_fault : PlainOp → PlainTerms → Option Fault
+head_fault (RecordGetOp a) ts = record_get_fault a (types_of ts)
+head_fault op ts = None
 
--- what the program has nodes for: of extension values and records it has none yet, and a function at arguments is a call
+abbrev pub selection_fault : Meaning → Option Fault
+selection_fault (TermMeaning (Application op ts type)) = head_fault op ts
+selection_fault m = None
+
+abbrev pub own_fault : Enums → PlainLabel → NodeRendering → (head : Option Fault) → Option Fault
+own_fault enums l how head = option_or (inline_fault l) (option_or head (entry_fault enums l how))
+
+-- what the program has nodes for: of extension values it has none yet, and a function at arguments is a call
 abbrev pub is_built_op : PlainOp → Bool
-is_built_op (RecordGetOp a) = false
 is_built_op (UufOp f) = false
 is_built_op o = true
 
@@ -186,12 +211,14 @@ is_built (BitVecLabel n) = true
 is_built BoolLabel = true
 is_built (EntityLabel e) = true
 is_built StringLabel = true
+is_built (RecordLabel names) = true
 is_built SetLabel = true
 is_built (FunctionLabel id) = true
 is_built (ApplicationLabel o) = is_built_op o
 is_built CallLabel = true
 is_built NoneLabel = true
 is_built (LiteralLabel l) = is_built_literal l
+is_built (RecordOfLabel names) = true
 is_built SetOfLabel = true
 is_built SomeLabel = true
 is_built (VariableLabel id) = true
@@ -207,6 +234,7 @@ is_entered (ApplicationLabel o) = true
 is_entered CallLabel = true
 is_entered NoneLabel = true
 is_entered (LiteralLabel l) = is_entered_literal l
+is_entered (RecordOfLabel names) = true
 is_entered SetOfLabel = true
 is_entered SomeLabel = true
 is_entered (VariableLabel id) = true
@@ -215,5 +243,6 @@ is_entered l = false
 -- labels of types that have entries, and of functions
 abbrev pub is_declared : PlainLabel → Bool
 is_declared (EntityLabel e) = true
+is_declared (RecordLabel names) = true
 is_declared (FunctionLabel id) = true
 is_declared l = false

@@ -1,12 +1,14 @@
--- Errors of sinks and of texts as errors of the encoder.
+-- Errors of sinks, of texts and of selectors as errors of the encoder.
 use Rattle.smt_script.specs.declared.sink.SinkError.{SinkError}
 use Rattle.smt_script.specs.declared.sink.SinkError.TheVariants.{Fault, Memory as NoRoom}
 use Rattle.smt_encode.specs.declared.error.EncodeError.{EncodeError}
-use Rattle.smt_encode.specs.declared.error.EncodeError.TheVariants.{Io, EmptyEnum, EncodeStringFailed, EncodePatternFailed, EnumMissingMember, Memory}
+use Rattle.smt_encode.specs.declared.error.EncodeError.TheVariants.{Io, EmptyEnum, EncodeStringFailed, EncodePatternFailed, EnumMissingMember, ExpectRecord, MalformedRecordGet, Memory, MissingTypeEncoding, RecordMissingAttr}
 use Rattle.smt_spelling.specs.declared.error.TextError.{TextError}
 use Rattle.smt_spelling.specs.declared.error.TextError.TheVariants.{MissingMember, StringFailed, PatternFailed, EmptyEnum as NoMembers, Memory as NoMemory}
+use Rattle.smt_encode.specs.declared.error.SelectorError.{SelectorError}
+use Rattle.smt_encode.specs.declared.error.SelectorError.TheVariants.{Lacks, NoOperand, NoRecord, Unnamed, Memory as NoSpace}
 use Rattle.smt_encode.specs.declared.error.WriteError.{WriteError}
-use Rattle.smt_encode.specs.declared.error.WriteError.TheVariants.{Sink, Text}
+use Rattle.smt_encode.specs.declared.error.WriteError.TheVariants.{Selector, Sink, Text}
 
 -- a sink that did not take a line
 abbrev pub refusal_at : SinkError → EncodeError
@@ -21,7 +23,16 @@ refusal_of (PatternFailed pattern) = EncodePatternFailed pattern
 refusal_of (NoMembers ety) = EmptyEnum ety
 refusal_of NoMemory = Memory
 
+-- an attribute without a selector
+abbrev pub refusal_from : SelectorError → EncodeError
+refusal_from NoOperand = MalformedRecordGet
+refusal_from (Unnamed ty) = MissingTypeEncoding ty
+refusal_from (NoRecord ty) = ExpectRecord ty
+refusal_from (Lacks attribute) = RecordMissingAttr attribute
+refusal_from NoSpace = Memory
+
 -- terms that were not written
 abbrev pub encode_error : WriteError → EncodeError
 encode_error (Sink error) = refusal_at error
 encode_error (Text error) = refusal_of error
+encode_error (Selector error) = refusal_from error

@@ -1,4 +1,5 @@
 pub mod Alone
+pub mod Applied
 pub mod Complete
 pub mod Encoded
 pub mod Entries
@@ -10,5 +11,6 @@ pub mod NodeLines
 pub mod NodeTexts
 pub mod Refusals
 pub mod Renderings
+pub mod Selections
 pub mod Steps
 pub mod Texts

@@ -10,7 +10,7 @@ use Rattle.smt_nodes.specs.View.{place_of}
 use Rattle.smt_nodes.specs.declared.id.NodeId.{NodeId}
 use Rattle.smt_encode.specs.Names.{enums_under, nodes_under, texts_under, KeepTables, StandsOn}
 use Rattle.smt_encode.specs.NodeTexts.{text_at}
-use Rattle.smt_encode.specs.LookUps.{edges_left}
+use Rattle.smt_encode.specs.LookUps.{look_ups_left}
 use Rattle.smt_encode.specs.declared.writer.Writer.{Writer}
 
 -- The texts of a writer are those of these tables.
@@ -58,5 +58,5 @@ pub record Walks {S T E : Type 0} (faults : S → ℕ) (place : S → List ℕ) 
   pub later : (id : NodeId) → behind ≤ place_of id → text_at (texts_under new.names) id ≡ text_at (texts_under old.names) id
 
 -- how many parts the nodes of a set have that a writer did not write yet
-abbrev pub edges_in : {S : Type 0} → (ℕ → Bool) → Writer S → ℕ
-edges_in has w = edges_left has (nodes_under w.names) (texts_under w.names)
+abbrev pub look_ups_in : {S : Type 0} → (ℕ → Bool) → Writer S → ℕ
+look_ups_in has w = look_ups_left has (nodes_under w.names) (texts_under w.names)

@@ -1,26 +1,30 @@
 // The lines of one name alone: they are put, and the names stay as they are.
-ghost use Rattle.std.specs.Prelude.{◌≡◌, ◌++◌, ◌||◌, [], IfOk, None};
+ghost use Rattle.std.specs.Prelude.{◌≡◌, ◌++◌, ◌||◌, List, [], IfOk, None};
 ghost use Rattle.std.specs.Rc.{rc_str_bytes};
 ghost use Rattle.std.specs.Result.{is_err};
+ghost use Rattle.std.specs.String.{string_bytes};
 ghost use Rattle.smt_characters.specs.LineTexts.{comment_text, declare_const_text, declare_datatype_text, define_fun_text};
 ghost use Rattle.smt_characters.specs.Quoting.{quoted_id};
 ghost use Rattle.smt_characters.specs.SharedTexts.{texts};
-ghost use Rattle.smt_encode.specs.Alone.{encoded, fault_of_entity, fault_of_type, line_of_entity, name_of_entity, set_body_text};
+ghost use Rattle.smt_encode.specs.Alone.{encoded, fault_of_entity, fault_of_type, line_of_entity, name_of_entity, record_body_text, set_body_text, sorts_given};
 ghost use Rattle.smt_encode.specs.Entries.{entry_name};
 ghost use Rattle.smt_leaves.specs.Entities.{bytes_of_id, bytes_of_type};
+ghost use Rattle.smt_leaves.specs.Pairs.{attributes_in};
 ghost use Rattle.smt_lines.specs.Line.{spelled_lines};
-ghost use Rattle.smt_lines.specs.LineForms.{entity_lines};
-ghost use Rattle.smt_lines.specs.Lines.{members_of, next_entity, next_term};
+ghost use Rattle.smt_lexicon.specs.Reading.{Expression};
+ghost use Rattle.smt_lines.specs.LineForms.{entity_lines, record_lines};
+ghost use Rattle.smt_lines.specs.Lines.{members_of, next_entity, next_record, next_term};
 ghost use Rattle.smt_lines.specs.NameTables.{Tables};
 ghost use Rattle.smt_spelling.specs.Entries.{entry_bytes, PlainEntry, SaysEntry};
+ghost use Rattle.smt_spelling.specs.Spelled.{AreSpelled};
 
 use crate::error::{EncodeError, WriteError};
 use crate::writer::Writer;
 use smt_script::{Sink, SmtLibScript};
-use smt_spelling::{Entry, entity_datatype, entity_entry, set_text};
-use smt_term::{EntityType, EntityUID, TermVar, Text};
-use smt_text::quote_id;
-use std::alloc::AllocError;
+use smt_spelling::{Entry, entity_datatype, entity_entry, record_datatype, set_text};
+use smt_term::{Attr, EntityType, EntityUID, TermVar, Text};
+use smt_text::{push_spaced, quote_id, share_text};
+use std::alloc::{AllocError, Global};
 
 /// Hands an outcome on, and marks a refusal.
 pub(crate) fn settle(
@@ -37,6 +41,35 @@ pub(crate) fn settle(
             Err(EncodeError::from(error))
         }
     }
+}
+
+/// The attributes of pairs, and the sorts beside them, in their order.
+fn attributes_and_sorts(
+    alloc: Global,
+    pairs: &[(Attr, Text)],
+) -> Result<(Vec<Attr>, Vec<Text>), AllocError>
+    ensures attributes { IfOk result (λ made. texts made.0.items ≡ attributes_in pairs.now) }
+    ensures sorts { IfOk result (λ made. AreSpelled (sorts_given pairs.now) made.1.items) }
+{
+    let mut attributes = Vec::with_capacity(alloc, pairs.len())?;
+    let mut sorts = Vec::with_capacity(alloc, pairs.len())?;
+    for (attribute, sort) in pairs {
+        attributes.push(share_text(attribute)?)?;
+        sorts.push(share_text(sort)?)?;
+    }
+    Ok((attributes, sorts))
+}
+
+/// `(SORT x y)`: a record of this sort by its fields, the sort alone where the joined fields have no character.
+fn record_body(alloc: Global, sort: &str, fields: &[Text]) -> Result<String, AllocError>
+    ensures { IfOk result (λ body. string_bytes body ≡ record_body_text sort.now (texts fields.now)) }
+{
+    let mut joined = String::new(alloc);
+    push_spaced(&mut joined, fields)?;
+    if joined.is_empty() {
+        return String::from_str(alloc, sort);
+    }
+    format!(in alloc; "({sort} {joined})")
 }
 
 impl<S: Sink> Writer<'_, S> {
@@ -64,6 +97,35 @@ impl<S: Sink> Writer<'_, S> {
         let datatype = entity_datatype(self.alloc, ety, members, name.as_str())?;
         datatype.put(&mut self.script, name.as_str())?;
         Ok(name)
+    }
+
+    /// Puts the comment and the datatype of a record type, by the sorts of its attributes, under the name that is next.
+    pub(crate) fn put_record_type(
+        &mut self,
+        attributes: &[Attr],
+        sorts: &[Text],
+    ) -> Result<Text, WriteError>
+        ensures lines { (s : Tables) (es : List Expression) → AreTables self.old.names s → AreSpelled es sorts.now →
+            IfOk result (PutUnder S.contents self.old.script self.new.script (next_record s) (spelled_lines (record_lines (texts attributes.now) (next_record s) es))) }
+        ensures alone { PutsAlone S.faults S.place None self.old self.new result }
+    {
+        let name = self.names.next_record()?;
+        let datatype = record_datatype(self.alloc, attributes, sorts, name.as_str())?;
+        datatype.put(&mut self.script, name.as_str())?;
+        Ok(name)
+    }
+
+    /// The same by pairs of attributes and sorts, which are put as they stand.
+    pub(crate) fn put_record_type_of_pairs(
+        &mut self,
+        rty: &[(Attr, Text)],
+    ) -> Result<Text, WriteError>
+        ensures lines { (s : Tables) → AreTables self.old.names s →
+            IfOk result (PutUnder S.contents self.old.script self.new.script (next_record s) (spelled_lines (record_lines (attributes_in rty.now) (next_record s) (sorts_given rty.now)))) }
+        ensures alone { PutsAlone S.faults S.place None self.old self.new result }
+    {
+        let (attributes, sorts) = attributes_and_sorts(self.alloc, rty)?;
+        self.put_record_type(attributes.as_slice(), sorts.as_slice())
     }
 
     /// Puts the declaration of a variable by its sort, behind its id in a comment, under the name that is next.
@@ -95,6 +157,16 @@ impl<S: Sink> Writer<'_, S> {
     {
         let elements = t_encs.to_vec(self.alloc)?;
         let body = set_text(self.alloc, ty_enc, elements)?;
+        self.put_term(ty_enc, body.as_str())
+    }
+
+    /// Puts the definition of a record by its sort and its fields under the name that is next.
+    pub(crate) fn put_record(&mut self, ty_enc: &str, t_encs: &[Text]) -> Result<Text, WriteError>
+        ensures lines { (s : Tables) → AreTables self.old.names s →
+            IfOk result (PutUnder S.contents self.old.script self.new.script (next_term s) (define_fun_text (next_term s) [] ty_enc.now (record_body_text ty_enc.now (texts t_encs.now)))) }
+        ensures alone { PutsAlone S.faults S.place None self.old self.new result }
+    {
+        let body = record_body(self.alloc, ty_enc, t_encs)?;
         self.put_term(ty_enc, body.as_str())
     }
 

@@ -1,25 +1,26 @@
 // The encoder, from terms to the lines of a script.
-ghost use Rattle.std.specs.Prelude.{ℕ, List, ◌≡◌, ◌≤◌, ◌+◌, ◌++◌, ◌||◌, Bool, IsTrue, [], false, length, IfOk, None, OnOk, map, option_map};
+ghost use Rattle.std.specs.Prelude.{ℕ, List, ◌≡◌, ◌≤◌, ◌+◌, ◌++◌, ◌||◌, ◌∷◌, Bool, IsTrue, [], false, length, IfOk, None, OnOk, is_some, map, option_map};
 ghost use Rattle.std.specs.Rc.{rc_str_bytes};
 ghost use Rattle.smt_characters.specs.LineTexts.{comment_text, declare_const_text, declare_datatype_text, define_fun_text};
 ghost use Rattle.smt_characters.specs.Quoting.{quoted_id};
 ghost use Rattle.smt_characters.specs.SharedTexts.{texts};
 ghost use Rattle.smt_leaves.specs.Entities.{bytes_of_id, bytes_of_type};
 ghost use Rattle.smt_leaves.specs.Enums.{enums_of};
+ghost use Rattle.smt_leaves.specs.Pairs.{attributes_in};
 ghost use Rattle.smt_meaning.specs.Faults.{first_fault, term_fault, type_fault};
-ghost use Rattle.smt_meaning.specs.Plain.{PlainTerm};
+ghost use Rattle.smt_meaning.specs.Plain.{PlainTerm, terms};
 ghost use Rattle.smt_meaning.specs.Typing.{AreBoolean, AreTyped};
 ghost use Rattle.smt_graph.specs.Nodes.{FunctionMeaning, TermMeaning, TypeMeaning};
-ghost use Rattle.smt_term.specs.View.{plain_function, plain_term, plain_type};
+ghost use Rattle.smt_term.specs.View.{plain_function, plain_op, plain_term, plain_type};
 ghost use Rattle.smt_lines.specs.Line.{spelled_lines};
-ghost use Rattle.smt_lines.specs.LineForms.{entity_lines};
+ghost use Rattle.smt_lines.specs.LineForms.{entity_lines, record_lines};
 ghost use Rattle.smt_lines.specs.Lines as lines;
-ghost use Rattle.smt_lines.specs.Lines.{members_of, next_entity, next_term};
+ghost use Rattle.smt_lines.specs.Lines.{encode_head, members_of, next_entity, next_record, next_term};
 ghost use Rattle.smt_lines.specs.NameTables.{Tables, no_names};
 ghost use Rattle.smt_lines.specs.Text.{names, text};
 ghost use Rattle.smt_headline.specs.Headline.{Headline};
 ghost use Rattle.smt_encode.specs.Complete.{AreWritten};
-ghost use Rattle.smt_encode.specs.LookUps.{edges, IsClosed};
+ghost use Rattle.smt_encode.specs.LookUps.{look_ups, IsClosed};
 ghost use Rattle.smt_encode.specs.NodeTexts.{HasNoTexts, StandFor};
 ghost use Rattle.smt_encode.specs.NodeLines.{encode_meaning, meaning_fault};
 ghost use Rattle.smt_nodes.specs.Interned.{nodes_of};
@@ -36,21 +37,21 @@ use crate::steps::Steps;
 use crate::writer::Writer;
 use smt_nodes::{Interner, NodeId, Subject};
 use smt_script::Sink;
-use smt_term::{EntityType, EntityUID, EnumTable, Term, TermType, TermVar, Text, Uuf};
+use smt_term::{Attr, EntityType, EntityUID, EnumTable, Op, Term, TermType, TermVar, Text, Uuf};
 use std::alloc::Global;
 use std::marker::Brand;
 use std::sync::ledger::{Blank, Ledger};
 
 /// Writes terms as lines of a script, and keeps the names under which it wrote them.
 ///
-/// Each term that has no inline text gets one name, under which it is declared or defined once, and so does each entity type
-/// and each function. An encoder encodes one list of terms by `encode` or `encode_nodes`; after that, and after an error, it
-/// is spent. `into_script` gives its sink back.
+/// Each term that has no inline text gets one name, under which it is declared or defined once, and so does each entity type,
+/// each record type and each function. An encoder encodes one list of terms by `encode` or `encode_nodes`; after that, and
+/// after an error, it is spent. `into_script` gives its sink back.
 ///
 /// `encode_type`, `encode_uuf` and `encode_term` write the lines of one type, function or term behind what was written, and
-/// enter their names. The calls from `declare_type` to `define_entity` write the lines of one name alone. They answer the name
-/// and enter none, so that two of them may give one name twice. All of these may come before the terms are encoded or after
-/// that.
+/// enter their names. The calls from `declare_type` to `define_app` write the lines of one name alone. They answer the name and
+/// enter none, but for those that a function needs in `define_app`, so that two of them may give one name twice. All of these
+/// may come before the terms are encoded or after that.
 #[derive(Drop)]
 pub struct Encoder<'a, S> {
     writer: Writer<'a, S>,
@@ -193,7 +194,8 @@ impl<'a, S: Drop> Encoder<'a, S> {
 }
 
 impl<S: Sink> Encoder<'_, S> {
-    ghost use Rattle.smt_encode.specs.Alone.{fault_of_entity, fault_of_type, line_of_entity, name_of_entity, set_body_text, NamesStay, PutUnder};
+    ghost use Rattle.smt_encode.specs.Alone.{fault_of_entity, fault_of_type, line_of_entity, name_of_entity, record_body_text, set_body_text, sorts_given, NamesStay, PutUnder};
+    ghost use Rattle.smt_encode.specs.Applied.{begins_with_function, fault_of_application, fault_of_selection, selection_text, PutApplied};
     ghost use Rattle.smt_encode.specs.Encoded.{enums_in, has_failed, is_spent, nodes_in, sink_of, texts_in, HasNames, HasTexts, Keeps, OfNames, OfReceived, PutScript, PutStated, Spends, SpendsOnError, WroteText};
 
     /// Writes the script of these terms: the declaration of the datatype `Option`, what the terms need, and an
@@ -203,26 +205,28 @@ impl<S: Sink> Encoder<'_, S> {
     /// `(declare-const t0 S)` for a variable, `(define-fun t0 () S BODY)` for another term that has no inline text, where
     /// `t0` is its name and `S` its sort. An entity of an enum type is named by a constructor, and an overflow test of the
     /// negation of what is no bitvector is named `false`, both without a line. An entity type has a comment and
-    /// `(declare-datatype E0 ..)`. A type or a term that has a name already is not written again. A term's assertion is `(assert TEXT)`, where `TEXT` is its name or, of a
-    /// literal, its inline text.
+    /// `(declare-datatype E0 ..)`, a record type a comment and `(declare-datatype R0 ..)`, and a function a comment and
+    /// `(declare-fun f0 ..)`. A type, a function or a term that has a name already is not written again. A term's assertion
+    /// is `(assert TEXT)`, where `TEXT` is its name or, of a literal, its inline text.
     ///
     /// After Ok it has put exactly the lines that are stated over the names that it had, and has the names that are stated
-    /// then, and each node that it wrote has its stated text: the name of a term, an entity type or a function, or what
-    /// stands inline for another type or a literal (`put`). Of an encoder none of whose nodes has a text, as `new` gives
-    /// it, this is the stated text with its names (`stated`). Of such an encoder, for Boolean terms, `headline` says what the bytes mean that the sink got in this call, by the names that
-    /// the encoder has then: they are a script by the grammar of SMT-LIB 2.7, each name is declared once and before its
-    /// use, the assertions are the terms' texts in order, and the models are exactly the interpretations that make all
-    /// terms true. `models` says the same of the stated text and its names. By `written` each node of terms that are typed
-    /// has its text then.
+    /// then, and each node that it wrote has its stated text: the name of a term, of an entity or record type or of a
+    /// function, or what stands inline for another type or a literal (`put`). Of an encoder none of whose nodes has a text,
+    /// as `new` gives it, this is the stated text with its names (`stated`). Of such an encoder, for Boolean terms,
+    /// `headline` says what the bytes mean that the sink got in this call, by the names that the encoder has then: they are a
+    /// script by the grammar of SMT-LIB 2.7, each name is declared once and before its use, the assertions are the terms'
+    /// texts in order, and the models are exactly the interpretations that make all terms true. `models` says the same of the
+    /// stated text and its names. By `written` each node of terms that are typed has its text then.
     ///
     /// # Errors
     ///
-    /// `Spent` comes exactly from an encoder that has encoded before or refused before, and leaves it as it is. `Io`
-    /// comes only where the sink's count of faults rose in this call, or stands at its last value.
-    /// `EmptyEnum`, `EnumMissingMember`, `EncodeStringFailed` and `EncodePatternFailed` come only where this is the first
-    /// fault of the terms, from left to right, a term's type before its parts and these before the term; where the terms
-    /// have a fault, the answer is never Ok. `Memory` may come from any encoder that is not spent, where there is no memory
-    /// left. Each of these six spends the encoder and says nothing of what the sink got.
+    /// `Spent` comes exactly from an encoder that has encoded before or refused before, and leaves it as it is. `Io` comes
+    /// only where the sink's count of faults rose in this call, or stands at its last value. `EmptyEnum`,
+    /// `EnumMissingMember`, `EncodeStringFailed`, `EncodePatternFailed`, `MalformedRecordGet`, `MissingTypeEncoding`,
+    /// `ExpectRecord` and `RecordMissingAttr` come only where this is the first fault of the terms, from left to right, a
+    /// term's type before its parts and these before the term; where the terms have a fault, the answer is never Ok. The last
+    /// four never come of typed terms. `Memory` may come from any encoder that is not spent, where there is no memory left.
+    /// Each of these spends the encoder and says nothing of what the sink got.
     pub fn encode(&mut self, terms: &[Term]) -> Result<(), EncodeError>
         ensures put { (s : Tables) → HasTexts self.old s → OnOk result (PutScript S.contents self.old self.new (lines.encode (enums_in self.old) (map plain_term terms.now) s)) }
         ensures stated { HasNoTexts (texts_in self.old) → OnOk result (WroteText S.contents self.old self.new (map plain_term terms.now)) }
@@ -246,8 +250,9 @@ impl<S: Sink> Encoder<'_, S> {
     /// Writes the script of the terms for which these numbers of its nodes stand, in order, as `encode` does for the terms,
     /// and counts its look-ups of nodes.
     ///
-    /// After Ok there are at most as many look-ups as numbers that were given and parts of nodes together, of the nodes
-    /// to which these numbers lead (`steps`, of any set of nodes that has these and the parts of its own).
+    /// After Ok there are at most as many look-ups as numbers that were given, parts of nodes and attributes that are taken
+    /// together, of the nodes to which these numbers lead (`steps`, of any set of nodes that has these and the parts of its
+    /// own).
     ///
     /// # Errors
     ///
@@ -266,7 +271,7 @@ impl<S: Sink> Encoder<'_, S> {
         ensures refused { (ts : List PlainTerm) → StandFor (nodes_in self.old) ids.now ts → HasCause (S.faults (sink_of self.old)) (S.faults (sink_of self.new)) (first_fault (enums_in self.old) ts) result }
         ensures complete { (ts : List PlainTerm) → StandFor (nodes_in self.old) ids.now ts → IsComplete (is_spent self.old) (S.faults (sink_of self.old)) (S.faults (sink_of self.new)) (first_fault (enums_in self.old) ts) result }
         ensures written { (ts : List PlainTerm) → StandFor (nodes_in self.old) ids.now ts → HasNoTexts (texts_in self.old) → AreTyped ts → OnOk result (AreWritten (nodes_in self.new) (texts_in self.new) ids.now) }
-        ensures steps { (has : ℕ → Bool) → IsClosed (nodes_of (nodes_in self.old)) has → AllByRecursion (λ place. IsTrue (has place)) (places_of ids.now) → OnOk result (steps.new ≤ steps.old + length ids.now + edges has (nodes_of (nodes_in self.old))) }
+        ensures steps { (has : ℕ → Bool) → IsClosed (nodes_of (nodes_in self.old)) has → AllByRecursion (λ place. IsTrue (has place)) (places_of ids.now) → OnOk result (steps.new ≤ steps.old + length ids.now + look_ups has (nodes_of (nodes_in self.old))) }
         ensures kept { Keeps S.faults S.place self.old self.new }
     {
         if self.begun || self.failed {
@@ -401,6 +406,32 @@ impl<S: Sink> Encoder<'_, S> {
         settle(&mut self.failed, outcome)
     }
 
+    /// Writes the comment and the datatype of a record type, by its attributes and their sorts in this order, under the name
+    /// `Rk` of the next record type, and answers the name (`; {a, b}` and `(declare-datatype Rk ..)`, SMT-LIB 2.7, chapter 3,
+    /// Lexicon and Scripts).
+    ///
+    /// The datatype has the constructor `Rk`, with a selector `Rk_ai` for the attribute at the place i of the list. The
+    /// sorts are written as they stand. The names that the encoder has stay as they are, so that the next record type gets
+    /// the same name.
+    ///
+    /// # Errors
+    ///
+    /// Those of `declare_type`.
+    pub fn declare_record_type(&mut self, rty: &[(Attr, Text)]) -> Result<Text, EncodeError>
+        ensures put { (s : Tables) → HasNames self.old s →
+            IfOk result (PutUnder S.contents (sink_of self.old) (sink_of self.new) (next_record s) (spelled_lines (record_lines (attributes_in rty.now) (next_record s) (sorts_given rty.now)))) }
+        ensures refused { HasCause (S.faults (sink_of self.old)) (S.faults (sink_of self.new)) None result }
+        ensures complete { IsComplete (has_failed self.old) (S.faults (sink_of self.old)) (S.faults (sink_of self.new)) None result }
+        ensures spent { SpendsOnError self.old self.new result }
+        ensures kept { NamesStay S.faults S.place None self.old self.new }
+    {
+        if self.failed {
+            return Err(EncodeError::Spent);
+        }
+        let outcome = self.writer.put_record_type_of_pairs(rty);
+        settle(&mut self.failed, outcome)
+    }
+
     /// Writes `; "id"` and `(declare-const tm TY_ENC)` of a variable (SMT-LIB 2.7, chapter 3, Lexicon and Scripts), `tm`
     /// being the name of the next term, and answers the name.
     ///
@@ -472,6 +503,29 @@ impl<S: Sink> Encoder<'_, S> {
         settle(&mut self.failed, outcome)
     }
 
+    /// Writes the definition of a record as `define_term` does, with the body `(TY_ENC x y)` of these fields, or `TY_ENC`
+    /// alone where there is no field, or one that has no character, and answers the name.
+    ///
+    /// The sort and the fields are written as they stand. The names that the encoder has stay as they are.
+    ///
+    /// # Errors
+    ///
+    /// Those of `declare_type`.
+    pub fn define_record(&mut self, ty_enc: &str, t_encs: &[Text]) -> Result<Text, EncodeError>
+        ensures put { (s : Tables) → HasNames self.old s →
+            IfOk result (PutUnder S.contents (sink_of self.old) (sink_of self.new) (next_term s) (define_fun_text (next_term s) [] ty_enc.now (record_body_text ty_enc.now (texts t_encs.now)))) }
+        ensures refused { HasCause (S.faults (sink_of self.old)) (S.faults (sink_of self.new)) None result }
+        ensures complete { IsComplete (has_failed self.old) (S.faults (sink_of self.old)) (S.faults (sink_of self.new)) None result }
+        ensures spent { SpendsOnError self.old self.new result }
+        ensures kept { NamesStay S.faults S.place None self.old self.new }
+    {
+        if self.failed {
+            return Err(EncodeError::Spent);
+        }
+        let outcome = self.writer.put_record(ty_enc, t_encs);
+        settle(&mut self.failed, outcome)
+    }
+
     /// Answers the name of an entity whose type has this sort: of an enum type `TY_ENC_mi`, the constructor of the member,
     /// for which there is no line; of another type the name of the next term, for which it writes the definition as
     /// `define_term` does, with the body `(TY_ENC "id")`.
@@ -495,6 +549,72 @@ impl<S: Sink> Encoder<'_, S> {
             return Err(EncodeError::Spent);
         }
         let outcome = self.writer.put_entity(ty_enc, entity);
+        settle(&mut self.failed, outcome)
+    }
+
+    /// Writes the definition of an attribute of a record as `define_term` does, with the body `(Rk_ai T_ENC)`, and answers
+    /// the name: `Rk` is the name that the encoder has for the record type, and i the place of the attribute there.
+    ///
+    /// The sort and the record's text are written as they stand. The names that the encoder has stay as they are.
+    ///
+    /// # Errors
+    ///
+    /// Those of `declare_type`, and where the encoder has no name for the type, `MissingTypeEncoding`; where it has one, and
+    /// the type is no record type, `ExpectRecord`; where the record type does not have the attribute, `RecordMissingAttr`.
+    /// Of these three nothing is written.
+    pub fn define_record_get(
+        &mut self,
+        ty_enc: &str,
+        a: &Attr,
+        t_enc: &str,
+        ty: &TermType,
+    ) -> Result<Text, EncodeError>
+        ensures put { (s : Tables) → HasNames self.old s →
+            IfOk result (PutUnder S.contents (sink_of self.old) (sink_of self.new) (next_term s) (define_fun_text (next_term s) [] ty_enc.now (selection_text (rc_str_bytes a.now) (plain_type ty.now) (t_enc.now ∷ []) s))) }
+        ensures refused { (s : Tables) → HasNames self.old s → HasCause (S.faults (sink_of self.old)) (S.faults (sink_of self.new)) (fault_of_selection s (rc_str_bytes a.now) (plain_type ty.now)) result }
+        ensures complete { (s : Tables) → HasNames self.old s → IsComplete (has_failed self.old) (S.faults (sink_of self.old)) (S.faults (sink_of self.new)) (fault_of_selection s (rc_str_bytes a.now) (plain_type ty.now)) result }
+        ensures spent { SpendsOnError self.old self.new result }
+        ensures kept { (s : Tables) → HasNames self.old s → NamesStay S.faults S.place (fault_of_selection s (rc_str_bytes a.now) (plain_type ty.now)) self.old self.new }
+    {
+        if self.failed {
+            return Err(EncodeError::Spent);
+        }
+        let outcome = self.writer.put_record_get(ty_enc, a, t_enc, ty);
+        settle(&mut self.failed, outcome)
+    }
+
+    /// Writes the definition of an application as `define_term` does, with the body `(HEAD x y)` of these texts of its
+    /// operands, and answers the name. Behind the operands of `string.like` stands the pattern.
+    ///
+    /// The head is the operator's text; of a function it is the function's name, whose lines are written before, as
+    /// `encode_uuf` does; of an attribute it is the selector at the type of the first of the terms, as `define_record_get`
+    /// has it. The sort and the operands are written as they stand, and of other operators the terms do not matter. Only the
+    /// names that a function needs are entered, and the name that is answered is not.
+    ///
+    /// # Errors
+    ///
+    /// Those of `declare_type`, and where an attribute is taken and there is no term, `MalformedRecordGet`; where there is
+    /// one, those of `define_record_get` for its type; of a function those of `encode_uuf`; and of a pattern with a character
+    /// above `SMT_LIB_MAX_CODE_POINT`, `EncodePatternFailed`. Of these nothing is written, unless the operator is a function.
+    pub fn define_app(
+        &mut self,
+        ty_enc: &str,
+        op: &Op,
+        t_encs: &[Text],
+        ts: &[Term],
+    ) -> Result<Text, EncodeError>
+        ensures put { (s : Tables) → HasTexts self.old s →
+            IfOk result (PutApplied S.contents self.old self.new (encode_head (enums_in self.old) (plain_op op.now) (terms (map plain_term ts.now)) s) (plain_op op.now) ty_enc.now (texts t_encs.now)) }
+        ensures refused { (s : Tables) → HasTexts self.old s → HasCause (S.faults (sink_of self.old)) (S.faults (sink_of self.new)) (fault_of_application (enums_in self.old) s (plain_op op.now) (map plain_term ts.now)) result }
+        ensures complete { (s : Tables) → HasTexts self.old s → IsComplete (has_failed self.old) (S.faults (sink_of self.old)) (S.faults (sink_of self.new)) (fault_of_application (enums_in self.old) s (plain_op op.now) (map plain_term ts.now)) result }
+        ensures spent { SpendsOnError self.old self.new result }
+        ensures kept { Keeps S.faults S.place self.old self.new }
+        ensures unput { (s : Tables) → HasTexts self.old s → begins_with_function (plain_op op.now) ≡ false → IsTrue (is_some (fault_of_application (enums_in self.old) s (plain_op op.now) (map plain_term ts.now))) → sink_of self.new ≡ sink_of self.old }
+    {
+        if self.failed {
+            return Err(EncodeError::Spent);
+        }
+        let outcome = self.writer.put_application(ty_enc, op, t_encs, ts);
         settle(&mut self.failed, outcome)
     }
 }

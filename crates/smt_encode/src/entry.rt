@@ -5,7 +5,10 @@ ghost use Rattle.smt_encode.specs.Entries.{call_body, entry_by, entry_fault, has
 ghost use Rattle.smt_spelling.specs.Entries.{ByBody, SaysEntry, SaysInline};
 ghost use Rattle.smt_spelling.specs.Spelled.{AreSpelled};
 ghost use Rattle.smt_encode.specs.Renderings.{plain_rendering};
-ghost use Rattle.smt_spelling.specs.TextFaults.{text_fault, Finds};
+ghost use Rattle.smt_encode.specs.Selections.{BeginsWith, IsHead};
+ghost use Rattle.smt_lines.specs.LineForms.{application_body};
+ghost use Rattle.std.specs.String.{string_bytes};
+ghost use Rattle.smt_spelling.specs.TextFaults.{pattern_fault, text_fault, Finds};
 ghost use Rattle.smt_lexicon.specs.Reading.{Expression};
 ghost use Rattle.smt_lines.specs.Lines.{Enums};
 ghost use Rattle.smt_lines.specs.Spelling.{spelled};
@@ -17,8 +20,8 @@ ghost use Rattle.smt_term.specs.View.{plain_literal, plain_op};
 use crate::rendering::Rendering;
 use smt_nodes::Label;
 use smt_spelling::{
-    Entry, TextError, application_body, as_text, bits_sort, call_text, entity_entry, least_body,
-    literal_text, option_sort, set_sort, set_text, some_text,
+    Entry, TextError, application_body, as_text, bits_sort, call_text, entity_entry, headed_body,
+    least_body, literal_text, option_sort, record_text, set_sort, set_text, some_text,
 };
 use smt_term::{EnumTable, Op, TermPrim, Text};
 use smt_text::quote_id;
@@ -60,7 +63,7 @@ pub(crate) fn inline_text(
         Label::TOption => Ok(option_text(alloc, parts)?),
         Label::TBitvec(width) => Ok(Some(bits_sort(alloc, *width)?)),
         Label::TBool => Ok(Some(Text::from_str(alloc, "Bool")?)),
-        Label::TEntity(_) => Ok(None),
+        Label::TEntity(_) | Label::TRecord(_) => Ok(None),
         Label::TString => Ok(Some(Text::from_str(alloc, "String")?)),
         Label::TSet => Ok(set_sort_text(alloc, parts)?),
         Label::Prim(literal) => literal_text(alloc, literal),
@@ -68,25 +71,43 @@ pub(crate) fn inline_text(
         | Label::Call
         | Label::Fun(_)
         | Label::NoneOf
+        | Label::RecordOf(_)
         | Label::SetOf
         | Label::SomeOf
         | Label::Var(_) => Ok(None),
     }
 }
 
-/// How an application is entered, by the texts of its operands.
+/// The body of an application by what it begins with: a selector, or else the head of its operator.
+fn body_behind(
+    alloc: Global,
+    op: &Op,
+    selector: Option<Text>,
+    operands: Vec<Text>,
+) -> Result<String, TextError>
+    ensures text { (h : Expression) (es : List Expression) → BeginsWith (plain_op op.now) selector h → AreSpelled es operands.items → IfOk result (λ text. string_bytes text ≡ spelled (application_body h (plain_op op.now) es)) }
+    ensures fault { Finds text_fault (pattern_fault (plain_op op.now)) result }
+{
+    match selector {
+        Some(head) => headed_body(alloc, head.as_str(), op, operands),
+        None => application_body(alloc, op, operands),
+    }
+}
+
+/// How an application is entered, by what it begins with and the texts of its operands.
 fn application_entry(
     alloc: Global,
     op: &Op,
     rendering: Rendering,
+    selector: Option<Text>,
     operands: Vec<Text>,
 ) -> Result<Entry, TextError>
-    ensures text { (es : List Expression) → AreSpelled es operands.items → IfOk result (SaysEntry (stated.application_entry (plain_rendering rendering) (plain_op op.now) es)) }
+    ensures text { (h : Expression) (es : List Expression) → BeginsWith (plain_op op.now) selector h → AreSpelled es operands.items → IfOk result (SaysEntry (stated.application_entry (plain_rendering rendering) (plain_op op.now) h es)) }
     ensures fault { (enums : Enums) → Finds text_fault (entry_fault enums (ApplicationLabel (plain_op op.now)) (plain_rendering rendering)) result }
 {
     match rendering {
         Rendering::Application | Rendering::Call => {
-            Ok(Entry::Body(application_body(alloc, op, operands)?))
+            Ok(Entry::Body(body_behind(alloc, op, selector, operands)?))
         }
         Rendering::EqualsIntMin(width) => Ok(Entry::Body(least_body(alloc, width, operands)?)),
         Rendering::False => Ok(Entry::Name(Text::from_str(alloc, "false")?)),
@@ -129,25 +150,34 @@ fn literal_entry(
     }
 }
 
+/// What is known of a term's line beside its texts: its label, how it is written, and the selector with which it begins, if
+/// it selects an attribute.
+#[derive(Drop)]
+pub(crate) struct Shape<'a> {
+    pub(crate) label: &'a Label,
+    pub(crate) rendering: Rendering,
+    pub(crate) selector: Option<Text>,
+}
+
 /// How a term is entered that gets a name, by its sort and the texts of its other parts.
 pub(crate) fn entry_from(
     alloc: Global,
     enums: &EnumTable,
-    label: &Label,
-    rendering: Rendering,
+    shape: Shape<'_>,
     sort: &str,
     operands: Vec<Text>,
 ) -> Result<Entry, TextError>
-    requires entered { IsTrue (is_entered (plain_label label.now)) }
-    requires called { plain_label label.now ≡ CallLabel → 1 ≤ length operands.items }
-    ensures text { (e : Expression) (es : List Expression) → sort.now ≡ spelled e → AreSpelled es operands.items → IfOk result (SaysEntry (entry_by (enums_of enums.now) (plain_label label.now) (plain_rendering rendering) e es)) }
-    ensures fault { Finds text_fault (entry_fault (enums_of enums.now) (plain_label label.now) (plain_rendering rendering)) result }
+    requires entered { IsTrue (is_entered (plain_label shape.label.now)) }
+    requires called { plain_label shape.label.now ≡ CallLabel → 1 ≤ length operands.items }
+    ensures text { (h e : Expression) (es : List Expression) → IsHead (plain_label shape.entry.label.now) shape.entry.selector h → sort.now ≡ spelled e → AreSpelled es operands.items → IfOk result (SaysEntry (entry_by (enums_of enums.now) (plain_label shape.entry.label.now) (plain_rendering shape.entry.rendering) h e es)) }
+    ensures fault { Finds text_fault (entry_fault (enums_of enums.now) (plain_label shape.entry.label.now) (plain_rendering shape.entry.rendering)) result }
 {
-    match label {
-        Label::App(op) => application_entry(alloc, op, rendering, operands),
+    match shape.label {
+        Label::App(op) => application_entry(alloc, op, shape.rendering, shape.selector, operands),
         Label::Call => call_entry(alloc, operands),
         Label::NoneOf => Ok(Entry::Body(as_text(alloc, "none", sort)?)),
         Label::Prim(literal) => literal_entry(alloc, enums, literal, sort),
+        Label::RecordOf(_) => Ok(Entry::Body(record_text(alloc, sort, operands.as_slice())?)),
         Label::SetOf => Ok(Entry::Body(set_text(alloc, sort, operands)?)),
         Label::SomeOf => Ok(Entry::Body(some_text(alloc, operands.as_slice())?)),
         Label::Var(id) => Ok(Entry::Constant(quote_id(alloc, id.as_str())?)),
@@ -157,6 +187,7 @@ pub(crate) fn entry_from(
         | Label::TBool
         | Label::TEntity(_)
         | Label::TString
+        | Label::TRecord(_)
         | Label::TSet
         | Label::Fun(_) => unreachable!(),
     }

@@ -1,9 +1,10 @@
 // Why an encoder refuses.
 ghost use Rattle.std.specs.Prelude.{◌≡◌};
 
+use smt_bits::BitVecError;
 use smt_script::SinkError;
 use smt_spelling::TextError;
-use smt_term::{EntityType, EntityUID, OrdPattern, TermError, Text};
+use smt_term::{Attr, EntityType, EntityUID, OrdPattern, TermError, TermType, Text};
 use std::alloc::{AllocError, AllocFailed};
 use thiserror::Error;
 
@@ -16,6 +17,18 @@ pub enum EncodeError {
     /// This entity is of an enum type, and no member of it.
     #[error("an entity of an enum type is no member of it")]
     EnumMissingMember(EntityUID),
+    /// A term takes this attribute of a record that does not have it.
+    #[error("a record does not have the attribute that is taken of it")]
+    RecordMissingAttr(Attr),
+    /// A term takes an attribute of a value of this type, which is no record type.
+    #[error("an attribute is taken of a type that is no record type")]
+    ExpectRecord(TermType),
+    /// A term takes an attribute of a value of this type, which has no name among the types.
+    #[error("an attribute is taken of a type that has no name")]
+    MissingTypeEncoding(TermType),
+    /// A term takes an attribute of a record, and has no operand.
+    #[error("an attribute is taken of no term")]
+    MalformedRecordGet,
     /// This string literal, or this id of an entity, has a character above `SMT_LIB_MAX_CODE_POINT`.
     #[error("a string has a character above U+2FFFF")]
     EncodeStringFailed(Text),
@@ -28,6 +41,10 @@ pub enum EncodeError {
     /// An earlier call of this encoder refused, or it has encoded its terms already.
     #[error("the encoder is spent")]
     Spent,
+    /// A call on bitvectors was refused. No call of an encoder gives this; it is for callers that build terms and encode them
+    /// under one error.
+    #[error("a call on bitvectors was refused")]
+    BitVecError(BitVecError),
     /// There was no memory for a text, a name, an entry or, in the sink, for a line.
     #[error("out of memory for the script")]
     Memory,
@@ -40,6 +57,23 @@ pub(crate) enum WriteError {
     Sink(SinkError),
     /// There was no text for a line, or no memory for a name.
     Text(TextError),
+    /// There was no selector for an attribute.
+    Selector(SelectorError),
+}
+
+/// Why there is no selector of an attribute.
+#[derive(Drop)]
+pub(crate) enum SelectorError {
+    /// There is no operand.
+    NoOperand,
+    /// The operand's type is this one, which never has a name.
+    Unnamed(TermType),
+    /// The operand's type is this one, which has a name, and is no record type.
+    NoRecord(TermType),
+    /// The operand's type does not have this attribute.
+    Lacks(Attr),
+    /// There was no memory.
+    Memory,
 }
 
 impl From<WriteError> for EncodeError {
@@ -62,6 +96,15 @@ impl From<WriteError> for EncodeError {
             }
             WriteError::Text(TextError::EmptyEnum(ety)) => EncodeError::EmptyEnum(ety),
             WriteError::Text(TextError::Memory) => EncodeError::Memory,
+            WriteError::Selector(SelectorError::NoOperand) => EncodeError::MalformedRecordGet,
+            WriteError::Selector(SelectorError::Unnamed(ty)) => {
+                EncodeError::MissingTypeEncoding(ty)
+            }
+            WriteError::Selector(SelectorError::NoRecord(ty)) => EncodeError::ExpectRecord(ty),
+            WriteError::Selector(SelectorError::Lacks(attribute)) => {
+                EncodeError::RecordMissingAttr(attribute)
+            }
+            WriteError::Selector(SelectorError::Memory) => EncodeError::Memory,
         }
     }
 }
@@ -77,6 +120,17 @@ impl From<SinkError> for EncodeError {
             SinkError::Fault => EncodeError::Io,
             SinkError::Memory => EncodeError::Memory,
         }
+    }
+}
+
+impl From<BitVecError> for EncodeError {
+    ghost use Rattle.std.specs.Prelude.{◌≡◌};
+    ghost use Rattle.smt_encode.specs.declared.error.EncodeError.TheVariants.{BitVecError as BitsRefused};
+
+    ghost from_gives = { λ inner error. error ≡ BitsRefused inner };
+
+    fn from(error: BitVecError) -> EncodeError {
+        EncodeError::BitVecError(error)
     }
 }
 
@@ -134,6 +188,41 @@ impl From<TextError> for WriteError {
 
     fn from(error: TextError) -> WriteError {
         WriteError::Text(error)
+    }
+}
+
+impl From<TermError> for SelectorError {
+    ghost use Rattle.std.specs.Prelude.{◌≡◌};
+    ghost use Rattle.smt_encode.specs.declared.error.SelectorError.TheVariants.{Memory};
+
+    ghost from_gives = { λ _ error. error ≡ Memory };
+
+    fn from(error: TermError) -> SelectorError {
+        match error {
+            TermError::Memory => SelectorError::Memory,
+        }
+    }
+}
+
+impl From<AllocError> for SelectorError {
+    ghost use Rattle.std.specs.Prelude.{◌≡◌};
+    ghost use Rattle.smt_encode.specs.declared.error.SelectorError.TheVariants.{Memory};
+
+    ghost from_gives = { λ _ error. error ≡ Memory };
+
+    fn from(_error: AllocError) -> SelectorError {
+        SelectorError::Memory
+    }
+}
+
+impl From<SelectorError> for WriteError {
+    ghost use Rattle.std.specs.Prelude.{◌≡◌};
+    ghost use Rattle.smt_encode.specs.declared.error.WriteError.TheVariants.{Selector};
+
+    ghost from_gives = { λ inner error. error ≡ Selector inner };
+
+    fn from(error: SelectorError) -> WriteError {
+        WriteError::Selector(error)
     }
 }
 

@@ -11,6 +11,7 @@
 //! | option | `(Option S)`, of the datatype that each script declares first |
 //! | set | `(Set S)`, of finite sets, which are no theory of the standard |
 //! | entity | the name of a datatype, with one constructor that holds the id, or with one for each member of an enum type |
+//! | record | the name of a datatype, with one constructor that has a selector for each attribute |
 //!
 //! | Term | Text |
 //! |---|---|
@@ -18,12 +19,15 @@
 //! | entity | its name, defined as `(E0 "id")`, or the constructor of a member of an enum type |
 //! | variable | its name, declared as a constant of its sort |
 //! | none, some | its name, defined as `(as none S)` or `(some x)` |
+//! | record | its name, defined as `(R0 x y)`, or as `R0` where it has no attribute |
 //! | set | its name, defined as `(set.insert x y (as set.empty S))`, or as `(as set.empty S)` |
 //! | application | its name, defined as `(HEAD x y)` |
+//! | attribute of a record | its name, defined as `(R0_ai x)`, by the selector of the record's type |
 //! | overflow test of a negation | its name, defined as the equality with the least number, or `false` in its place |
 #![tactic(auto, using(smt_term::specs::View::views))]
 
 mod alone;
+mod application;
 mod encoder;
 mod entry;
 mod error;
@@ -31,6 +35,7 @@ pub mod laws;
 mod names;
 mod node_names;
 mod rendering;
+mod selection;
 mod steps;
 mod subject;
 mod walk;

@@ -9,7 +9,7 @@ ghost use Rattle.smt_nodes.specs.Subject.{meaning_of};
 ghost use Rattle.smt_nodes.specs.View.{place_of, places_of};
 ghost use Rattle.smt_leaves.specs.Enums.{enums_of};
 ghost use Rattle.smt_term.specs.View.{plain_term, plain_type};
-ghost use Rattle.smt_lines.specs.Lines.{next_entity, next_function, next_term};
+ghost use Rattle.smt_lines.specs.Lines.{next_entity, next_function, next_record, next_term};
 ghost use Rattle.smt_lines.specs.NameTables.{Tables, no_names};
 ghost use Rattle.smt_encode.specs.NodeLines.{has_entry, meaning_fault, with_name};
 ghost use Rattle.smt_encode.specs.NodeTexts.{text_at, AreSound, HasName, HasNoTexts, IsNodeOf, IsText};
@@ -18,7 +18,7 @@ ghost use Rattle.smt_encode.specs.Texts.{IsKept};
 use crate::node_names::NodeNames;
 use crate::steps::Steps;
 use smt_nodes::{Interner, Node, NodeId, Subject};
-use smt_spelling::{entity_name, function_name, term_name};
+use smt_spelling::{entity_name, function_name, record_name, term_name};
 use smt_term::{EnumTable, Term, TermError, TermPrim, TermType, Text};
 use std::alloc::{AllocError, Global};
 use std::sync::ledger::{Blank, Ledger};
@@ -57,7 +57,7 @@ fn is_inline_type(ty: &TermType) -> bool
         | TermType::Bool
         | TermType::String
         | TermType::Set { .. } => true,
-        TermType::Entity { .. } => false,
+        TermType::Entity { .. } | TermType::Record { .. } => false,
     }
 }
 
@@ -70,7 +70,12 @@ fn is_inline_term(term: &Term) -> bool
             TermPrim::Bitvec(_) | TermPrim::Bool(_) | TermPrim::String(_) => true,
             TermPrim::Entity(_) => false,
         },
-        Term::App { .. } | Term::None(_) | Term::Set { .. } | Term::Some(_) | Term::Var(_) => false,
+        Term::App { .. }
+        | Term::None(_)
+        | Term::Record(_)
+        | Term::Set { .. }
+        | Term::Some(_)
+        | Term::Var(_) => false,
     }
 }
 
@@ -79,7 +84,7 @@ fn is_inline_term(term: &Term) -> bool
 /// What has a text has no fault, so that a node whose text is found needs no second look.
 #[derive(Drop)]
 pub(crate) struct Names<'a> {
-    alloc: Global,
+    pub(crate) alloc: Global,
     enums: &'a EnumTable,
     nodes: Interner,
     pub(crate) texts: NodeNames,
@@ -196,6 +201,13 @@ impl<'a> Names<'a> {
         ensures { (s : Tables) → AreTables self.now s → IfOk result (λ name. rc_str_bytes name ≡ next_entity s) }
     {
         entity_name(self.alloc, self.texts.types)
+    }
+
+    /// The name of the next record type that gets one.
+    pub(crate) fn next_record(&self) -> Result<Text, AllocError>
+        ensures { (s : Tables) → AreTables self.now s → IfOk result (λ name. rc_str_bytes name ≡ next_record s) }
+    {
+        record_name(self.alloc, self.texts.types)
     }
 
     /// The name of the next function that gets one.

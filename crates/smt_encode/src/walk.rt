@@ -1,9 +1,11 @@
 // The lines of nodes, each behind those of its parts.
-ghost use Rattle.std.specs.Prelude.{ℕ, List, ◌≡◌, ◌<◌, ◌≤◌, ◌+◌, Bool, false, None, OnOk, Some, IfOk, IsTrue, length, map, suc};
+ghost use Rattle.std.specs.Prelude.{ℕ, List, [], ◌≡◌, ◌<◌, ◌≤◌, ◌+◌, Bool, false, None, OnOk, Some, IfOk, IsTrue, length, map, suc};
 ghost use Rattle.std.specs.List.{AllByRecursion};
 ghost use Rattle.std.specs.Rc.{rc_str_bytes};
 ghost use Rattle.smt_graph.specs.Meanings.{all_found, meanings};
-ghost use Rattle.smt_graph.specs.Nodes.{EntityLabel, FunctionMeaning, Meaning, TermMeaning, TypeMeaning};
+ghost use Rattle.smt_characters.specs.SharedTexts.{texts};
+ghost use Rattle.smt_graph.specs.Nodes.{EntityLabel, FunctionMeaning, Meaning, RecordLabel, TermMeaning, TypeMeaning};
+ghost use Rattle.smt_nodes.specs.Attributes.{attributes_of};
 ghost use Rattle.smt_graph.specs.Parts.{label_in, parts_in};
 ghost use Rattle.smt_nodes.specs.Interned.{meaning_in, nodes_of, IsMeant};
 ghost use Rattle.smt_nodes.specs.View.{place_of, places_of, plain_label};
@@ -11,7 +13,7 @@ ghost use Rattle.smt_lexicon.specs.Reading.{Expression};
 ghost use Rattle.smt_script.specs.Sink.{Puts};
 ghost use Rattle.smt_leaves.specs.Entities.{bytes_of_type};
 ghost use Rattle.smt_meaning.specs.Faults.{entity_type_fault};
-ghost use Rattle.smt_meaning.specs.Plain.{EntityType as EntityTypeOf, PlainFunction, PlainTerm};
+ghost use Rattle.smt_meaning.specs.Plain.{AttributeTypes, EntityType as EntityTypeOf, PlainFunction, PlainTerm, RecordType};
 ghost use Rattle.smt_lines.specs.Line.{spelled_lines};
 ghost use Rattle.smt_lines.specs.Lines.{made_of, members_of};
 ghost use Rattle.smt_lines.specs.NameTables.{Tables};
@@ -20,19 +22,19 @@ ghost use Rattle.smt_encode.specs.NodeLines.{encode_meaning, encode_meanings, ha
 ghost use Rattle.smt_encode.specs.Entries.{declare_by, declare_function, enter_by, has_inline, heading, inline_by, inline_fault, own_lines, rendering_in, written_parts};
 ghost use Rattle.smt_spelling.specs.Entries.{PlainEntry, SaysEntry};
 ghost use Rattle.smt_encode.specs.Complete.{is_typed, AreTypedMeanings, HaveWrittenParts};
-ghost use Rattle.smt_encode.specs.LookUps.{IsClosed};
+ghost use Rattle.smt_encode.specs.LookUps.{selections, IsClosed};
 ghost use Rattle.smt_encode.specs.NodeTexts.{text_at, IsNodeOf};
 ghost use Rattle.smt_encode.specs.Refusals.{write_fault};
 ghost use Rattle.smt_spelling.specs.TextFaults.{Finds};
 ghost use Rattle.smt_encode.specs.Texts.{kept_at};
 ghost use Rattle.smt_encode.specs.Renderings.{plain_rendering};
 
-use crate::entry::{entry_from, inline_text};
+use crate::entry::{Shape, entry_from, inline_text};
 use crate::error::WriteError;
 use crate::rendering::{Rendering, rendering_of};
 use crate::steps::Steps;
 use crate::writer::Writer;
-use smt_nodes::{Label, Node, NodeId};
+use smt_nodes::{AttrList, Label, Node, NodeId};
 use smt_script::{Sink, SinkError, SmtLibScript};
 use smt_spelling::Entry;
 use smt_term::{EntityType, Text};
@@ -50,7 +52,7 @@ fn put_heading<S: Sink>(script: &mut S, label: &Label) -> Result<(), SinkError>
 
 impl<S: Sink> Writer<'_, S> {
     ghost use Rattle.smt_encode.specs.Names.{enums_under, nodes_under, texts_under, HasRoom};
-    ghost use Rattle.smt_encode.specs.Steps.{edges_in, HasTables, Walks, WritesHere, WritesStated};
+    ghost use Rattle.smt_encode.specs.Steps.{look_ups_in, HasTables, Walks, WritesHere, WritesStated};
     ghost use Rattle.smt_spelling.specs.Spelled.{AreSpelled, IsSpelled};
 
     /// The text of a node: the one that it has, or else a new one, behind the lines that it needs.
@@ -67,7 +69,7 @@ impl<S: Sink> Writer<'_, S> {
         ensures walks { Walks S.faults S.place (WriteError.Sink SinkError.Fault) (suc (place_of id)) self.old self.new result }
         ensures kept { IfOk result (λ text. text_at (texts_under self.new.names) id ≡ Some (rc_str_bytes text)) }
         ensures whole { (m : Meaning) → meaning_in (nodes_under self.old.names) id ≡ Some m → IsTrue (is_typed m) → HaveWrittenParts (nodes_under self.old.names) (texts_under self.old.names) → OnOk result (HaveWrittenParts (nodes_under self.new.names) (texts_under self.new.names)) }
-        ensures steps { (has : ℕ → Bool) → IsClosed (nodes_of (nodes_under self.old.names)) has → IsTrue (has (place_of id)) → OnOk result (steps.new + edges_in has self.new ≤ suc steps.old + edges_in has self.old) }
+        ensures steps { (has : ℕ → Bool) → IsClosed (nodes_of (nodes_under self.old.names)) has → IsTrue (has (place_of id)) → OnOk result (steps.new + look_ups_in has self.new ≤ suc steps.old + look_ups_in has self.old) }
     {
         match self.names.text(id, steps) {
             Some(text) => Ok(text.clone()?),
@@ -90,14 +92,14 @@ impl<S: Sink> Writer<'_, S> {
         ensures walks { Walks S.faults S.place (WriteError.Sink SinkError.Fault) (suc (place_of id)) self.old self.new result }
         ensures kept { IfOk result (λ text. text_at (texts_under self.new.names) id ≡ Some (rc_str_bytes text)) }
         ensures whole { (m : Meaning) → meaning_in (nodes_under self.old.names) id ≡ Some m → IsTrue (is_typed m) → HaveWrittenParts (nodes_under self.old.names) (texts_under self.old.names) → OnOk result (HaveWrittenParts (nodes_under self.new.names) (texts_under self.new.names)) }
-        ensures steps { (has : ℕ → Bool) → IsClosed (nodes_of (nodes_under self.old.names)) has → IsTrue (has (place_of id)) → OnOk result (steps.new + edges_in has self.new ≤ steps.old + edges_in has self.old) }
+        ensures steps { (has : ℕ → Bool) → IsClosed (nodes_of (nodes_under self.old.names)) has → IsTrue (has (place_of id)) → OnOk result (steps.new + look_ups_in has self.new ≤ steps.old + look_ups_in has self.old) }
     {
         let node = self.names.node(id)?;
         let rendering = rendering_of(self.names.nodes(), &node);
         let parts = rendering.written(self.alloc, node.parts.items())?;
         put_heading(&mut self.script, &node.label)?;
         let texts = self.encode_all(parts.items(), id.place(), steps)?;
-        self.finish(id, &node, rendering, texts)
+        self.finish(id, &node, rendering, texts, steps)
     }
 
     /// The texts of nodes in order, all of which stand before a place.
@@ -117,7 +119,7 @@ impl<S: Sink> Writer<'_, S> {
         ensures count { IfOk result (λ texts. length texts.items ≡ length ids.now) }
         ensures kept { IfOk result (λ texts. map (text_at (texts_under self.new.names)) ids.now ≡ map (λ text. Some (rc_str_bytes text)) texts.items) }
         ensures whole { (ms : List Meaning) → all_found (meanings (nodes_of (nodes_under self.old.names))) (places_of ids.now) ≡ Some ms → AreTypedMeanings ms → HaveWrittenParts (nodes_under self.old.names) (texts_under self.old.names) → OnOk result (HaveWrittenParts (nodes_under self.new.names) (texts_under self.new.names)) }
-        ensures steps { (has : ℕ → Bool) → IsClosed (nodes_of (nodes_under self.old.names)) has → AllByRecursion (λ place. IsTrue (has place)) (places_of ids.now) → OnOk result (steps.new + edges_in has self.new ≤ steps.old + length ids.now + edges_in has self.old) }
+        ensures steps { (has : ℕ → Bool) → IsClosed (nodes_of (nodes_under self.old.names)) has → AllByRecursion (λ place. IsTrue (has place)) (places_of ids.now) → OnOk result (steps.new + look_ups_in has self.new ≤ steps.old + length ids.now + look_ups_in has self.old) }
     {
         let mut texts = Vec::with_capacity(self.alloc, ids.len())?;
         for id in ids {
@@ -127,12 +129,13 @@ impl<S: Sink> Writer<'_, S> {
     }
 
     /// Gives a node its text behind the lines of its parts, by their texts.
-    fn finish(
+    fn finish<L: Ledger>(
         &mut self,
         id: NodeId,
         node: &Node,
         rendering: Rendering,
         texts: Vec<Text>,
+        steps: &mut Steps<L>,
     ) -> Result<Text, WriteError>
         requires meant { IsMeant (nodes_under self.old.names) id }
         requires room { HasRoom self.old.names }
@@ -148,23 +151,25 @@ impl<S: Sink> Writer<'_, S> {
         ensures walks { Walks S.faults S.place (WriteError.Sink SinkError.Fault) (suc (place_of id)) self.old self.new result }
         ensures kept { IfOk result (λ text. text_at (texts_under self.new.names) id ≡ Some (rc_str_bytes text)) }
         ensures only { (place : ℕ) → ¬ (place ≡ place_of id) → kept_at (texts_under self.new.names).texts.items place ≡ kept_at (texts_under self.old.names).texts.items place }
+        ensures steps { steps.new ≤ steps.old + selections (plain_label node.now.label) }
     {
         match inline_text(self.alloc, &node.label, texts.as_slice())? {
             Some(text) => {
                 self.names.keep(id, text.clone()?);
                 Ok(text)
             }
-            None => self.name(id, node, rendering, texts),
+            None => self.name(id, node, rendering, texts, steps),
         }
     }
 
     /// Gives a node that has no text of its own its name, behind the lines of its parts, by their texts.
-    fn name(
+    fn name<L: Ledger>(
         &mut self,
         id: NodeId,
         node: &Node,
         rendering: Rendering,
         mut texts: Vec<Text>,
+        steps: &mut Steps<L>,
     ) -> Result<Text, WriteError>
         requires meant { IsMeant (nodes_under self.old.names) id }
         requires room { HasRoom self.old.names }
@@ -180,14 +185,22 @@ impl<S: Sink> Writer<'_, S> {
         ensures walks { Walks S.faults S.place (WriteError.Sink SinkError.Fault) (suc (place_of id)) self.old self.new result }
         ensures kept { IfOk result (λ text. text_at (texts_under self.new.names) id ≡ Some (rc_str_bytes text)) }
         ensures only { (place : ℕ) → ¬ (place ≡ place_of id) → kept_at (texts_under self.new.names).texts.items place ≡ kept_at (texts_under self.old.names).texts.items place }
+        ensures steps { steps.new ≤ steps.old + selections (plain_label node.now.label) }
     {
         match &node.label {
             Label::TEntity(ety) => self.declare(id, ety),
+            Label::TRecord(names) => self.declare_record(id, names, texts.as_slice()),
             Label::Fun(_) => self.declare_function(id, texts.as_slice()),
             label => {
                 let sort = texts.remove(0);
+                let selector = self.names.selector_of(node, steps)?;
+                let shape = Shape {
+                    label,
+                    rendering,
+                    selector,
+                };
                 let enums = self.names.enums();
-                let entry = entry_from(self.alloc, enums, label, rendering, sort.as_str(), texts)?;
+                let entry = entry_from(self.alloc, enums, shape, sort.as_str(), texts)?;
                 self.enter(id, sort.as_str(), &entry)
             }
         }
@@ -219,13 +232,36 @@ impl<S: Sink> Writer<'_, S> {
         requires meant { meaning_in (nodes_under self.old.names) id ≡ Some (TypeMeaning (EntityTypeOf (bytes_of_type ety.now))) }
         requires room { HasRoom self.old.names }
         requires unkept { text_at (texts_under self.old.names) id ≡ None }
-        ensures lines { (s : Tables) → HasTables self.old s → WritesHere S.contents self.old self.new (declare_by (enums_under self.old.names) (EntityLabel (bytes_of_type ety.now)) (EntityTypeOf (bytes_of_type ety.now)) s) IsSpelled result }
+        ensures lines { (s : Tables) → HasTables self.old s → WritesHere S.contents self.old self.new (declare_by (enums_under self.old.names) (EntityLabel (bytes_of_type ety.now)) (EntityTypeOf (bytes_of_type ety.now)) [] s) IsSpelled result }
         ensures fault { Finds write_fault (entity_type_fault (bytes_of_type ety.now) (members_of (enums_under self.old.names) (bytes_of_type ety.now))) result }
         ensures walks { Walks S.faults S.place (WriteError.Sink SinkError.Fault) (suc (place_of id)) self.old self.new result }
         ensures kept { IfOk result (λ text. text_at (texts_under self.new.names) id ≡ Some (rc_str_bytes text)) }
         ensures only { (place : ℕ) → ¬ (place ≡ place_of id) → kept_at (texts_under self.new.names).texts.items place ≡ kept_at (texts_under self.old.names).texts.items place }
     {
         let name = self.put_entity_type(ety)?;
+        self.names.enter_type(id, name.clone()?);
+        Ok(name)
+    }
+
+    /// Puts the lines of a record type that has no name yet, by the sorts of its attributes, and enters it.
+    fn declare_record(
+        &mut self,
+        id: NodeId,
+        names: &AttrList,
+        sorts: &[Text],
+    ) -> Result<Text, WriteError>
+        requires meant { IsMeant (nodes_under self.old.names) id }
+        requires room { HasRoom self.old.names }
+        requires unkept { text_at (texts_under self.old.names) id ≡ None }
+        requires sound { (m : Meaning) → meaning_in (nodes_under self.old.names) id ≡ Some m → meaning_fault (enums_under self.old.names) m ≡ None }
+        ensures lines { (x : AttributeTypes) (es : List Expression) (s : Tables) → meaning_in (nodes_under self.old.names) id ≡ Some (TypeMeaning (RecordType x)) → AreSpelled es sorts.now → HasTables self.old s →
+            WritesHere S.contents self.old self.new (declare_by (enums_under self.old.names) (RecordLabel (texts (attributes_of names.now))) (RecordType x) es s) IsSpelled result }
+        ensures fault { Finds write_fault None result }
+        ensures walks { Walks S.faults S.place (WriteError.Sink SinkError.Fault) (suc (place_of id)) self.old self.new result }
+        ensures kept { IfOk result (λ text. text_at (texts_under self.new.names) id ≡ Some (rc_str_bytes text)) }
+        ensures only { (place : ℕ) → ¬ (place ≡ place_of id) → kept_at (texts_under self.new.names).texts.items place ≡ kept_at (texts_under self.old.names).texts.items place }
+    {
+        let name = self.put_record_type(names.items(), sorts)?;
         self.names.enter_type(id, name.clone()?);
         Ok(name)
     }

@@ -12,7 +12,7 @@ ghost use Rattle.smt_lines.specs.NameTables.{Tables};
 ghost use Rattle.smt_nodes.specs.Interned.{nodes_of};
 ghost use Rattle.smt_nodes.specs.View.{places_of};
 ghost use Rattle.smt_encode.specs.Complete.{AreWritten, HaveWrittenParts};
-ghost use Rattle.smt_encode.specs.LookUps.{edges, IsClosed};
+ghost use Rattle.smt_encode.specs.LookUps.{look_ups, IsClosed};
 ghost use Rattle.smt_encode.specs.NodeTexts.{HasNoTexts, StandFor};
 ghost use Rattle.smt_encode.specs.Refusals.{write_fault};
 ghost use Rattle.smt_spelling.specs.TextFaults.{Finds};
@@ -107,7 +107,7 @@ impl<S: Sink> Writer<'_, S> {
         ensures fault { (ts : List PlainTerm) → StandFor (nodes_under self.old.names) ids.now ts → Finds write_fault (first_fault (enums_under self.old.names) ts) result }
         ensures written { (ts : List PlainTerm) → StandFor (nodes_under self.old.names) ids.now ts → AreTyped ts → HaveWrittenParts (nodes_under self.old.names) (texts_under self.old.names) → OnOk result (AreWritten (nodes_under self.new.names) (texts_under self.new.names) ids.now) }
         ensures nodes { nodes_under self.new.names ≡ nodes_under self.old.names }
-        ensures steps { (has : ℕ → Bool) → IsClosed (nodes_of (nodes_under self.old.names)) has → AllByRecursion (λ place. IsTrue (has place)) (places_of ids.now) → OnOk result (steps.new ≤ steps.old + length ids.now + edges has (nodes_of (nodes_under self.old.names))) }
+        ensures steps { (has : ℕ → Bool) → IsClosed (nodes_of (nodes_under self.old.names)) has → AllByRecursion (λ place. IsTrue (has place)) (places_of ids.now) → OnOk result (steps.new ≤ steps.old + length ids.now + look_ups has (nodes_of (nodes_under self.old.names))) }
     {
         self.names.make_room()?;
         self.put_option()?;

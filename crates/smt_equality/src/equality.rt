@@ -23,7 +23,7 @@ fn is_boolean(t: &Term) -> bool
 {
     match t {
         Term::App { ret_ty, .. } => is_truth_type(ret_ty),
-        Term::None(_) | Term::Set { .. } | Term::Some(_) => false,
+        Term::None(_) | Term::Record(_) | Term::Set { .. } | Term::Some(_) => false,
         Term::Prim(literal) => is_truth(literal),
         Term::Var(variable) => is_truth_type(&variable.ty),
     }
@@ -39,6 +39,7 @@ fn is_truth_type(ty: &TermType) -> bool
         | TermType::Bitvec { .. }
         | TermType::Entity { .. }
         | TermType::String
+        | TermType::Record { .. }
         | TermType::Set { .. } => false,
     }
 }

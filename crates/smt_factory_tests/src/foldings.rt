@@ -11,6 +11,7 @@ use std::alloc::Global;
 use std::test::Fail;
 
 mod functions;
+mod records;
 mod structures;
 
 // A literal of 8 bits.

@@ -1,24 +1,28 @@
 -- What is built for a typed term stands for it.
-use Rattle.std.proofs.Common.{◌≡◌, ℕ, ◌+◌, Bool, true, ◌&&◌, List, [], ◌∷◌, refl, subst}
+use Rattle.std.proofs.Common.{◌≡◌, ℕ, ◌+◌, Bool, true, ◌&&◌, List, [], ◌∷◌, refl, ap, subst}
 use Rattle.std.specs.Prelude.{nat_le}
 use Rattle.std.specs.Bool.{then_some}
+use Rattle.std.specs.Option.{unwrap_or}
 use Rattle.std.specs.Cmp.{first_so, second_so}
 use Rattle.std.specs.List.{AllZip}
-use Rattle.smt_meaning.specs.Plain.{PlainType, OptionType, BitVecType, BoolType, PlainOp, AndOp, BvnegOp, BvnegoOp, EqOp, IteOp, NotOp, OptionGetOp, OrOp, SetInterOp, SetMemberOp, SetSubsetOp, StringLikeOp, ZeroExtendOp, PlainTerm, Application, NoneTerm, LiteralTerm, RecordTerm, SetTerm, SomeTerm, VariableTerm, PlainTerms, no_terms, one_term, PlainFields, no_fields, one_field, list_of_terms, terms, BitsOp, TestOp, OverflowOp}
+use Rattle.smt_meaning.specs.Plain.{PlainType, OptionType, BitVecType, BoolType, PlainOp, AndOp, BvnegOp, BvnegoOp, EqOp, IteOp, NotOp, OptionGetOp, OrOp, RecordGetOp, SetInterOp, SetMemberOp, SetSubsetOp, StringLikeOp, ZeroExtendOp, PlainTerm, Application, NoneTerm, LiteralTerm, RecordTerm, SetTerm, SomeTerm, VariableTerm, PlainTerms, no_terms, one_term, PlainFields, no_fields, one_field, list_of_terms, terms, BitsOp, TestOp, OverflowOp}
 use Rattle.smt_meaning.specs.TermSets.{set_term}
-use Rattle.smt_meaning.specs.Types.{extended_type, inner_type, is_type, result_type, type_of, types_of}
+use Rattle.smt_meaning.specs.Types.{attribute_type, extended_type, inner_type, is_type, result_type, type_of, types_of}
 use Rattle.smt_meaning.specs.Typing.{are_elements, typed, typed_all, typed_fields}
+use Rattle.smt_meaning.proofs.Soundness.{is_type-some}
 use Rattle.smt_meaning.proofs.TypeOrder.{eq_same}
-use Rattle.smt_folding.specs.Applications.{type_inside, wider_type}
+use Rattle.smt_folding.specs.Applications.{type_at, type_inside, wider_type}
 use Rattle.smt_folding.specs.Built.{built, built_all, built_fields, folded}
 use Rattle.smt_folding.specs.FoldBits.{folded_zero_extend}
 use Rattle.smt_folding.specs.FoldOptions.{folded_option_get}
+use Rattle.smt_folding.specs.FoldRecords.{folded_record_get}
 use Rattle.smt_folding.specs.Refinement.{Refines, FieldsRefine}
 use Rattle.smt_folding.proofs.BitsStand.{stands_bits, stands_bvneg, stands_bvnego, stands_overflow, stands_test, stands_zero_extend}
 use Rattle.smt_folding.proofs.ConnectivesStand.{chosen_type, stands_and, stands_not, stands_or}
 use Rattle.smt_folding.proofs.EqualityStands.{stands_eq, stands_ite}
 use Rattle.smt_folding.proofs.OptionsStand.{stands_option_get}
 use Rattle.smt_folding.proofs.Records.{fields}
+use Rattle.smt_folding.proofs.RecordsStand.{stands_record_get}
 use Rattle.smt_folding.proofs.SetLists.{listed_again, set_again}
 use Rattle.smt_folding.proofs.SetsKept.{set_kept}
 use Rattle.smt_folding.proofs.SetsStand.{stands_set_inter, stands_set_member, stands_set_subset}
@@ -39,6 +43,9 @@ held : (u ty : PlainType) → is_type (inner_type u) ty ≡ true → type_inside
 held (OptionType t) ty h = eq_same t ty h
 held u ty h = cc
 
+attribute_at : (x : List ℕ) (u ty : PlainType) → is_type (attribute_type x u) ty ≡ true → type_at x u ≡ ty
+attribute_at x u ty h = ap (λ o. unwrap_or o u) (is_type-some (attribute_type x u) ty h)
+
 pub folded_stands : (o : PlainOp) (ts : List PlainTerm) (ty : PlainType) → typed (Application o (terms ts) ty) ≡ true → Refines (folded o ts ty) (Application o (terms ts) ty)
 folded_stands NotOp (t ∷ []) ty h = with_type NotOp (t ∷ []) _ BoolType ty _ h (stands_not t)
 folded_stands AndOp (t ∷ u ∷ []) ty h = with_type AndOp (t ∷ u ∷ []) _ BoolType ty _ h (stands_and t u)
@@ -57,6 +64,8 @@ folded_stands SetSubsetOp (t ∷ u ∷ []) ty h = with_type SetSubsetOp (t ∷ u
 folded_stands SetInterOp (t ∷ u ∷ []) ty h = with_type SetInterOp (t ∷ u ∷ []) _ (type_of t) ty _ h (stands_set_inter t u)
 folded_stands OptionGetOp (t ∷ []) ty h =
     subst (λ (r : PlainType). Refines (folded_option_get t) (Application OptionGetOp (terms (t ∷ [])) r)) (held (type_of t) ty (second_so (typed_all (terms (t ∷ []))) (is_type (inner_type (type_of t)) ty) h)) (stands_option_get t)
+folded_stands (RecordGetOp x) (t ∷ []) ty h =
+    subst (λ (r : PlainType). Refines (folded_record_get t x) (Application (RecordGetOp x) (terms (t ∷ [])) r)) (attribute_at x (type_of t) ty (second_so (typed_all (terms (t ∷ []))) (is_type (attribute_type x (type_of t)) ty) h)) (stands_record_get t x)
 folded_stands (StringLikeOp p) (t ∷ []) ty h = with_type (StringLikeOp p) (t ∷ []) _ BoolType ty _ h (stands_string_like t p)
 folded_stands o ts ty h = itself (Application o (terms ts) ty)
 

@@ -1,24 +1,25 @@
 -- What a call folds to has no fault where the arguments of the call have none.
 use Rattle.std.proofs.Common.{◌≡◌, ℕ, ◌==◌, Bool, true, false, ◌&&◌, ◌||◌, List, [], ◌∷◌, refl}
-use Rattle.std.specs.Prelude.{cond, filter, Option, Some, None}
+use Rattle.std.specs.Prelude.{bytes_eq, cond, filter, Option, Some, None}
 use Rattle.std.specs.List.{AllByRecursion, list_all}
 use Rattle.std.specs.Option.{option_or, unwrap_or}
 use Rattle.smt_arithmetic.specs.BitOperators.{BitsOperator, bits_entry, test_entry, overflow_entry}
-use Rattle.smt_meaning.specs.Faults.{Fault, unless, is_passed_over, type_fault, operator_fault, term_fault, terms_fault, fields_fault, literal_fault}
+use Rattle.smt_meaning.specs.Faults.{Fault, unless, is_passed_over, type_fault, attribute_types_fault, operator_fault, term_fault, terms_fault, fields_fault, literal_fault}
 use Rattle.smt_meaning.specs.Literals.{is_literal}
-use Rattle.smt_meaning.specs.Plain.{PlainType, OptionType, BitVecType, BoolType, PatternPart, PlainOp, AndOp, BvnegOp, BvnegoOp, EqOp, IteOp, NotOp, OptionGetOp, OrOp, SetInterOp, SetMemberOp, SetSubsetOp, StringLikeOp, ZeroExtendOp, BitVecLiteral, BoolLiteral, StringLiteral, PlainTerm, Application, NoneTerm, LiteralTerm, RecordTerm, SetTerm, SomeTerm, VariableTerm, PlainTerms, no_terms, one_term, list_of_terms, terms, BitsOp, TestOp, OverflowOp}
+use Rattle.smt_meaning.specs.Plain.{PlainType, OptionType, BitVecType, BoolType, RecordType, AttributeTypes, no_attributes, attribute, PatternPart, PlainOp, AndOp, BvnegOp, BvnegoOp, EqOp, IteOp, NotOp, OptionGetOp, OrOp, RecordGetOp, SetInterOp, SetMemberOp, SetSubsetOp, StringLikeOp, ZeroExtendOp, BitVecLiteral, BoolLiteral, StringLiteral, PlainTerm, Application, NoneTerm, LiteralTerm, RecordTerm, SetTerm, SomeTerm, VariableTerm, PlainTerms, no_terms, one_term, PlainFields, no_fields, one_field, list_of_terms, terms, BitsOp, TestOp, OverflowOp}
 use Rattle.smt_meaning.specs.TermOrder.{term_eq}
 use Rattle.smt_meaning.specs.TermSets.{set_term, sorted_terms}
-use Rattle.smt_meaning.specs.Types.{inner_type, is_bits, type_of, types_of}
+use Rattle.smt_meaning.specs.Types.{attribute_in, attribute_type, inner_type, is_bits, type_of, types_of}
 use Rattle.smt_meaning.specs.TypeValues.{Enums}
 use Rattle.smt_meaning.proofs.Soundness.{none-first, none-second}
 use Rattle.smt_meaning.proofs.SortedSets.{all-terms}
-use Rattle.smt_folding.specs.Applications.{true_term, false_term, truth_literal, bits_literal, not_of, and_of, or_of, eq_of, ite_of, bits_of_two, test_of_two, bvneg_of, zero_extend_of, set_member_of, set_subset_of, set_inter_of, option_get_of, type_inside, wider_type}
+use Rattle.smt_folding.specs.Applications.{true_term, false_term, truth_literal, bits_literal, not_of, and_of, or_of, eq_of, ite_of, bits_of_two, test_of_two, bvneg_of, zero_extend_of, set_member_of, set_subset_of, set_inter_of, option_get_of, record_get_of, type_at, type_inside, wider_type}
 use Rattle.smt_folding.specs.Built.{folded}
 use Rattle.smt_folding.specs.FoldBits.{folded_bits, folded_bvneg, folded_bvnego, folded_test_by, folded_zero_extend, takes_right}
 use Rattle.smt_folding.specs.FoldConnectives.{are_opposites, folded_and, folded_not, folded_or}
 use Rattle.smt_folding.specs.FoldEquality.{folded_eq, folded_eq_inside, folded_ite, folded_ite_inside, is_boolean}
 use Rattle.smt_folding.specs.FoldOptions.{folded_option_get}
+use Rattle.smt_folding.specs.FoldRecords.{field_in, folded_record_get}
 use Rattle.smt_folding.specs.FoldSets.{common_set, folded_set_inter, folded_set_member, folded_set_subset, is_among}
 use Rattle.smt_folding.specs.FoldStrings.{folded_string_like}
 use Rattle.smt_folding.specs.Parts.{elements_in, is_empty_set, is_set_literal, negated, negated_bits}
@@ -66,6 +67,19 @@ module _ (enums : Enums) where
   faultless_inside : (ty : PlainType) → type_fault enums ty ≡ None → type_fault enums (type_inside ty) ≡ None
   faultless_inside (OptionType ty) h = h
   faultless_inside ty h = h
+
+  -- of an attribute of a type without fault, and of that type where it has no such attribute
+  faultless_attribute : (x : List ℕ) (fs : AttributeTypes) (u : PlainType) → attribute_types_fault enums fs ≡ None → type_fault enums u ≡ None → type_fault enums (unwrap_or (attribute_in x fs) u) ≡ None
+  faultless_attribute x no_attributes u h k = k
+  faultless_attribute x (attribute a t fs) u h k = by (bytes_eq x a) (faultless_attribute x fs u (none-second (type_fault enums t) (attribute_types_fault enums fs) h) k)
+    where
+      by : (b : Bool) → type_fault enums (unwrap_or (attribute_in x fs) u) ≡ None → type_fault enums (unwrap_or (elim b [ true ↦ Some t | false ↦ attribute_in x fs ]) u) ≡ None
+      by true rest = none-first (type_fault enums t) (attribute_types_fault enums fs) h
+      by false rest = rest
+
+  faultless_at : (x : List ℕ) (ty : PlainType) → type_fault enums ty ≡ None → type_fault enums (type_at x ty) ≡ None
+  faultless_at x (RecordType fs) h = faultless_attribute x fs (RecordType fs) h h
+  faultless_at x ty h = h
 
   -- ---- terms made of terms without fault
 
@@ -239,7 +253,7 @@ module _ (enums : Enums) where
   faultless_zero_extend k t h =
       one_of (is_bits (type_of t)) (zero_extend_of k t) t (faultless_application (ZeroExtendOp k) (t ∷ []) (wider_type k (type_of t)) (h, tt) (faultless_wider k (type_of t) (faultless_type t h)) refl) h
 
-  -- ---- strings, sets and options
+  -- ---- strings, sets, options and records
 
   faultless_string_like : (t : PlainTerm) (p : List PatternPart) → IsFaultless t → operator_fault enums (StringLikeOp p) (type_of t ∷ []) ≡ None → IsFaultless (folded_string_like t p)
   faultless_string_like (LiteralTerm (StringLiteral s)) p h f = refl
@@ -285,6 +299,19 @@ module _ (enums : Enums) where
   faultless_option_get t h =
       by_type (inner_type (type_of t)) (option_get_of t) t (faultless_application OptionGetOp (t ∷ []) (type_inside (type_of t)) (h, tt) (faultless_inside (type_of t) (faultless_type t h)) refl) h
 
+  faultless_field : (x : List ℕ) (fs : PlainFields) → fields_fault enums fs ≡ None → IsFaultlessInside (field_in x fs)
+  faultless_field x no_fields h = tt
+  faultless_field x (one_field a t fs) h = by (bytes_eq x a) (faultless_field x fs (none-second (term_fault enums t) (fields_fault enums fs) h))
+    where
+      by : (b : Bool) → IsFaultlessInside (field_in x fs) → IsFaultlessInside (elim b [ true ↦ Some t | false ↦ field_in x fs ])
+      by true rest = none-first (term_fault enums t) (fields_fault enums fs) h
+      by false rest = rest
+
+  faultless_record_get : (t : PlainTerm) (x : List ℕ) → IsFaultless t → operator_fault enums (RecordGetOp x) (type_of t ∷ []) ≡ None → IsFaultless (folded_record_get t x)
+  faultless_record_get (RecordTerm fs) x h f = inside_or (field_in x fs) (RecordTerm fs) (faultless_field x fs (none-second (type_fault enums (type_of (RecordTerm fs))) (fields_fault enums fs) h)) h
+  faultless_record_get t x h f =
+      by_type (attribute_type x (type_of t)) (record_get_of t x) t (faultless_application (RecordGetOp x) (t ∷ []) (type_at x (type_of t)) (h, tt) (faultless_at x (type_of t) (faultless_type t h)) f) h
+
   -- ---- each operator
 
   pub faultless_folded : (o : PlainOp) (ts : List PlainTerm) (ty : PlainType) → AllByRecursion IsFaultless ts → type_fault enums ty ≡ None → operator_fault enums o (types_of (terms ts)) ≡ None → IsFaultless (folded o ts ty)
@@ -303,5 +330,6 @@ module _ (enums : Enums) where
   faultless_folded SetSubsetOp (t ∷ u ∷ []) ty h y f = faultless_set_subset t u h.0 h.1.0
   faultless_folded SetInterOp (t ∷ u ∷ []) ty h y f = faultless_set_inter t u h.0 h.1.0
   faultless_folded OptionGetOp (t ∷ []) ty h y f = faultless_option_get t h.0
+  faultless_folded (RecordGetOp x) (t ∷ []) ty h y f = faultless_record_get t x h.0 f
   faultless_folded (StringLikeOp p) (t ∷ []) ty h y f = faultless_string_like t p h.0 f
   faultless_folded o ts ty h y f = faultless_application o ts ty h y f

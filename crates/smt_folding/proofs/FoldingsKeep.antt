@@ -1,9 +1,10 @@
 -- The foldings, at terms that stand for others, stand for the applications to those.
-use Rattle.std.proofs.Common.{◌≡◌, ℕ, true, [], ◌∷◌, refl, ap, ◌∙◌, sym, subst}
-use Rattle.std.specs.Prelude.{cond, Some, None}
+use Rattle.std.proofs.Common.{◌≡◌, ℕ, true, List, [], ◌∷◌, refl, ap, ◌∙◌, sym, subst}
+use Rattle.std.specs.Prelude.{cond, option_map, Option, Some, None}
 use Rattle.std.specs.Cmp.{first_so, second_so}
 use Rattle.std.specs.List.{AllByRecursion}
-use Rattle.smt_folding.specs.Applications.{bits_of_two, bvneg_of, ite_of, option_get_of, test_of_two, type_inside, wider_type, zero_extend_of}
+use Rattle.std.specs.Option.{unwrap_or}
+use Rattle.smt_folding.specs.Applications.{bits_of_two, bvneg_of, ite_of, option_get_of, record_get_of, test_of_two, type_at, type_inside, wider_type, zero_extend_of}
 use Rattle.smt_folding.specs.Builder.{applied, folding}
 use Rattle.smt_folding.specs.Composites.{is_none, set_is_empty}
 use Rattle.smt_folding.specs.Congruence.{Congruence, RefinesWithType}
@@ -11,6 +12,7 @@ use Rattle.smt_folding.specs.FoldBits.{folded_bits, folded_bvneg, folded_bvnego,
 use Rattle.smt_folding.specs.FoldConnectives.{folded_and, folded_not, folded_or}
 use Rattle.smt_folding.specs.FoldEquality.{folded_eq, folded_ite}
 use Rattle.smt_folding.specs.FoldOptions.{folded_option_get}
+use Rattle.smt_folding.specs.FoldRecords.{field_in, folded_record_get}
 use Rattle.smt_folding.specs.FoldSets.{folded_set_inter, folded_set_member, folded_set_subset}
 use Rattle.smt_folding.specs.FoldStrings.{folded_string_like}
 use Rattle.smt_folding.specs.Refinement.{Refines}
@@ -19,14 +21,15 @@ use Rattle.smt_folding.proofs.ConnectivesStand.{stands_and, stands_not, stands_o
 use Rattle.smt_folding.proofs.EqualityStands.{stands_eq, stands_ite}
 use Rattle.smt_folding.proofs.OptionsStand.{none_kept, stands_is_none, stands_option_get}
 use Rattle.smt_folding.proofs.Records.{HasFormedType}
+use Rattle.smt_folding.proofs.RecordsStand.{stands_record_get, type_found}
 use Rattle.smt_folding.proofs.SetsStand.{empty_kept, stands_set_inter, stands_set_is_empty, stands_set_member, stands_set_subset}
 use Rattle.smt_folding.proofs.Standing.{application, application_by_arguments, last_of, onward, same_type}
 use Rattle.smt_folding.proofs.StringsStand.{stands_string_like}
 use Rattle.smt_folding.proofs.TypeTests.{stands_never}
 use Rattle.smt_meaning.specs.Formed.{IsFormedType}
-use Rattle.smt_meaning.specs.Plain.{PlainType, OptionType, BitVecType, BoolType, BitVecLiteral, PlainOp, AndOp, BvnegOp, BvnegoOp, EqOp, IteOp, NotOp, OptionGetOp, OrOp, SetInterOp, SetMemberOp, SetSubsetOp, StringLikeOp, ZeroExtendOp, PlainTerm, Application, LiteralTerm, SomeTerm, terms, BitsOp, TestOp, OverflowOp}
+use Rattle.smt_meaning.specs.Plain.{PlainType, OptionType, BitVecType, BoolType, RecordType, BitVecLiteral, PlainOp, AndOp, BvnegOp, BvnegoOp, EqOp, IteOp, NotOp, OptionGetOp, OrOp, RecordGetOp, SetInterOp, SetMemberOp, SetSubsetOp, StringLikeOp, ZeroExtendOp, PlainTerm, Application, LiteralTerm, RecordTerm, SomeTerm, terms, BitsOp, TestOp, OverflowOp}
 use Rattle.smt_meaning.specs.Reached.{opened_of_op, subterms, subterms_of_all}
-use Rattle.smt_meaning.specs.Types.{inner_type, is_bits, type_of}
+use Rattle.smt_meaning.specs.Types.{attribute_type, field_types, inner_type, is_bits, type_of}
 use Rattle.smt_meaning.specs.Typing.{typed, typed_all}
 use Rattle.smt_meaning.proofs.Soundness.{all-back, all-front}
 
@@ -99,6 +102,28 @@ keeps_option_get t u s = record {
     same : type_of t ≡ type_of u → Refines (option_get_of t) (option_get_of u)
     same e = subst (λ (x : PlainType). Refines (Application OptionGetOp (terms (t ∷ [])) x) (option_get_of u)) (sym (ap type_inside e)) (application OptionGetOp (t ∷ []) (u ∷ []) (type_inside (type_of u)) (s.refines, tt))
 
+-- the type of the attribute's term, or of the record
+fallen_back : (o : Option PlainTerm) (t : PlainTerm) → type_of (unwrap_or o t) ≡ unwrap_or (option_map type_of o) (type_of t)
+fallen_back (Some u) t = refl
+fallen_back None t = refl
+
+got_by : (t : PlainTerm) (x : List ℕ) (o : Option PlainType) → attribute_type x (type_of t) ≡ o → type_of (elim o [ Some ty ↦ record_get_of t x | None ↦ t ]) ≡ type_at x (type_of t)
+got_by t x (Some ty) e = refl
+got_by t x None e = sym (ap (λ o. unwrap_or o (type_of t)) e)
+
+got_type : (t : PlainTerm) (x : List ℕ) → type_of (folded_record_get t x) ≡ type_at x (type_of t)
+got_type (RecordTerm fs) x = fallen_back (field_in x fs) (RecordTerm fs) ∙ sym (ap (λ o. unwrap_or o (RecordType (field_types fs))) (type_found x fs))
+got_type t x = got_by t x (attribute_type x (type_of t)) refl
+
+keeps_record_get : (x : List ℕ) (t u : PlainTerm) → RefinesWithType t u → RefinesWithType (folded_record_get t x) (record_get_of u x)
+keeps_record_get x t u s = record {
+  refines = onward (folded_record_get t x) (record_get_of t x) (record_get_of u x) (stands_record_get t x) (same s.type);
+  type = got_type t x ∙ ap (type_at x) s.type;
+}
+  where
+    same : type_of t ≡ type_of u → Refines (record_get_of t x) (record_get_of u x)
+    same e = subst (λ (y : PlainType). Refines (Application (RecordGetOp x) (terms (t ∷ [])) y) (record_get_of u x)) (sym (ap (type_at x) e)) (application (RecordGetOp x) (t ∷ []) (u ∷ []) (type_at x (type_of u)) (s.refines, tt))
+
 -- ---- tests by form and by type
 
 keeps_set_is_empty : (t u : PlainTerm) → Refines t u → Refines (set_is_empty folding t) (set_is_empty applied u)
@@ -129,5 +154,6 @@ related = record {
   set_inter = first_of_two SetInterOp (λ x y. refl) folded_set_inter stands_set_inter _ _ _ _;
   set_is_empty = keeps_set_is_empty _ _;
   option_get = keeps_option_get _ _;
+  record_get = λ x. keeps_record_get x _ _;
   is_none = keeps_is_none _ _;
 }

@@ -13,6 +13,8 @@ pub mod OptionsStand
 pub mod Reaching
 pub mod ReachingLists
 pub mod Records
+pub mod RecordOfFields
+pub mod RecordsStand
 pub mod SetLists
 pub mod SetOfElements
 pub mod SetValues

@@ -1,7 +1,8 @@
 -- The applications that calls of the factory are asked for, before any folding.
 use Rattle.std.specs.Prelude.{ℕ, ◌+◌, Bool, true, false, List, [], ◌∷◌}
-use Rattle.smt_meaning.specs.Types.{type_of}
-use Rattle.smt_meaning.specs.Plain.{PlainType, OptionType, BitVecType, BoolType, PatternPart, PlainOp, AndOp, BvnegOp, BvnegoOp, EqOp, IteOp, NotOp, OptionGetOp, OrOp, SetInterOp, SetMemberOp, SetSubsetOp, StringLikeOp, ZeroExtendOp, BitVecLiteral, BoolLiteral, PlainTerm, Application, LiteralTerm, terms}
+use Rattle.std.specs.Option.{unwrap_or}
+use Rattle.smt_meaning.specs.Types.{attribute_type, type_of}
+use Rattle.smt_meaning.specs.Plain.{PlainType, OptionType, BitVecType, BoolType, PatternPart, PlainOp, AndOp, BvnegOp, BvnegoOp, EqOp, IteOp, NotOp, OptionGetOp, OrOp, RecordGetOp, SetInterOp, SetMemberOp, SetSubsetOp, StringLikeOp, ZeroExtendOp, BitVecLiteral, BoolLiteral, PlainTerm, Application, LiteralTerm, terms}
 
 -- literals
 abbrev pub truth_literal : Bool → PlainTerm
@@ -79,3 +80,11 @@ type_inside t = t
 -- options
 abbrev pub option_get_of : PlainTerm → PlainTerm
 option_get_of t = Application OptionGetOp (terms (t ∷ [])) (type_inside (type_of t))
+
+-- the type of a record type's attribute; a type that does not have the attribute stays
+abbrev pub type_at : (attribute : List ℕ) → PlainType → PlainType
+type_at x t = unwrap_or (attribute_type x t) t
+
+-- records
+abbrev pub record_get_of : PlainTerm → (attribute : List ℕ) → PlainTerm
+record_get_of t x = Application (RecordGetOp x) (terms (t ∷ [])) (type_at x (type_of t))

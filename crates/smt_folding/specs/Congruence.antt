@@ -13,8 +13,8 @@ pub record RefinesWithType (folded original : PlainTerm) : Type 0 where
   pub type : type_of folded ≡ type_of original
 
 -- Each construction of the builders, at terms that stand for others: the first builder's stands for the second's. What
--- `option_get` reaches, and whether the type of `zero_extend` is formed, goes by the type of their argument, also where that is
--- not typed: so there the types are the same, and are afterwards.
+-- `option_get` reaches, and whether the types of `zero_extend` and `record_get` are formed, goes by the type of their argument,
+-- also where that is not typed: so there the types are the same, and are afterwards.
 pub record Related (b c : Builder) : Type 0 where
   pub not : {t u : PlainTerm} → Refines t u → Refines (b.not t) (c.not u)
   pub and : {t u v w : PlainTerm} → Refines t u → Refines v w → Refines (b.and t v) (c.and u w)
@@ -34,6 +34,7 @@ pub record Related (b c : Builder) : Type 0 where
   pub set_inter : {t u v w : PlainTerm} → Refines t u → Refines v w → Refines (b.set_inter t v) (c.set_inter u w)
   pub set_is_empty : {t u : PlainTerm} → Refines t u → Refines (set_is_empty b t) (set_is_empty c u)
   pub option_get : {t u : PlainTerm} → RefinesWithType t u → RefinesWithType (b.option_get t) (c.option_get u)
+  pub record_get : {t u : PlainTerm} → (attribute : List ℕ) → RefinesWithType t u → RefinesWithType (b.record_get t attribute) (c.record_get u attribute)
   pub is_none : {t u : PlainTerm} → Refines t u → Refines (is_none b t) (is_none c u)
 
 -- what the foldings give stands for the applications, at terms that stand for others

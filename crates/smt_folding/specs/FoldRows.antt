@@ -1,7 +1,7 @@
 -- Worked examples of folding.
 use Rattle.std.specs.Prelude.{◌≡◌, ℕ, Bool, true, false, List, [], ◌∷◌, ◌++◌, map, codes}
 use Rattle.smt_arithmetic.specs.BitOperators.{BvaddOp, BvlshrOp, BvshlOp, BvsubOp, BvsltOp, BvultOp, BvsaddoOp, BvsmuloOp, BvssuboOp, bits_operators, test_operators, overflow_operators}
-use Rattle.smt_folding.specs.Applications.{truth_literal, true_term, false_term, bits_literal, not_of, and_of, or_of, eq_of, ite_of, bvneg_of, bits_of_two, test_of_two, bvnego_of, zero_extend_of, string_like_of, set_member_of, set_subset_of, set_inter_of, option_get_of}
+use Rattle.smt_folding.specs.Applications.{truth_literal, true_term, false_term, bits_literal, not_of, and_of, or_of, eq_of, ite_of, bvneg_of, bits_of_two, test_of_two, bvnego_of, zero_extend_of, string_like_of, set_member_of, set_subset_of, set_inter_of, option_get_of, record_get_of}
 use Rattle.smt_folding.specs.Builder.{applied, folding}
 use Rattle.smt_folding.specs.Composites.{any_none, any_of, if_all_some, if_false, if_some, if_true, implies, is_none, is_some, set_intersects, set_is_empty}
 use Rattle.smt_folding.specs.FoldBits.{folded_bits, folded_bvneg, folded_bvnego, folded_overflow, folded_test, folded_zero_extend}
@@ -9,8 +9,10 @@ use Rattle.smt_folding.specs.FoldConnectives.{folded_not, are_opposites, folded_
 use Rattle.smt_folding.specs.FoldEquality.{folded_eq, folded_ite}
 use Rattle.smt_folding.specs.FoldFunctions.{app_of, folded_app}
 use Rattle.smt_folding.specs.FoldOptions.{folded_option_get}
+use Rattle.smt_folding.specs.FoldRecords.{folded_record_get, record_of_pairs, tag_record}
 use Rattle.smt_folding.specs.FoldSets.{folded_set_member, folded_set_subset, folded_set_inter}
 use Rattle.smt_folding.specs.FoldStrings.{folded_string_like}
+use Rattle.smt_folding.specs.RecordOf.{IsRecordOf}
 use Rattle.smt_folding.specs.SetOf.{IsSetOf}
 use Rattle.smt_folding.specs.Refinement.{Refines}
 use Rattle.smt_meaning.specs.Functions.{PlainDefinition, Uninterpreted, Defined, function_value}
@@ -19,7 +21,7 @@ use Rattle.smt_meaning.specs.Tables.{Interpretation}
 use Rattle.smt_meaning.specs.TermSets.{set_term}
 use Rattle.smt_meaning.specs.ValueOrder.{values}
 use Rattle.smt_meaning.specs.Values.{BoolValue, BitVecValue, NoneValue, SetValue, SomeValue}
-use Rattle.smt_meaning.specs.Plain.{OptionType, BitVecType, BoolType, SetType, StringType, PlainFunction, PatternPart, Character, Wildcard, IteOp, UufOp, StringLiteral, PlainTerm, Application, NoneTerm, LiteralTerm, SetTerm, SomeTerm, VariableTerm, terms, BitsOp, TestOp}
+use Rattle.smt_meaning.specs.Plain.{OptionType, BitVecType, BoolType, RecordType, SetType, StringType, no_attributes, attribute, PlainFunction, PatternPart, Character, Wildcard, IteOp, RecordGetOp, UufOp, StringLiteral, PlainTerm, Application, NoneTerm, LiteralTerm, RecordTerm, SetTerm, SomeTerm, VariableTerm, no_fields, one_field, terms, BitsOp, TestOp}
 
 -- variables
 abbrev pub b : PlainTerm
@@ -207,6 +209,32 @@ pub record OptionRows : Type 0 where
   pub if_some_stays : if_some folding o c ∷ if_some folding o p ∷ [] ≡ ite_of (eq_of o no_truth) no_truth (SomeTerm c) ∷ ite_of (eq_of o no_truth) no_truth p ∷ []
   pub any_none_known : map (any_none folding) ([] ∷ (SomeTerm b ∷ []) ∷ (SomeTerm b ∷ no_truth ∷ []) ∷ (o ∷ []) ∷ (o ∷ p ∷ []) ∷ []) ≡ false_term ∷ false_term ∷ true_term ∷ eq_of o no_truth ∷ or_of (eq_of p no_truth) (eq_of o no_truth) ∷ []
   pub if_all_some_known : if_all_some folding [] b ∷ if_all_some folding (no_truth ∷ []) b ∷ if_all_some folding (o ∷ []) p ∷ [] ≡ SomeTerm b ∷ no_truth ∷ ite_of (eq_of o no_truth) no_truth p ∷ []
+
+-- records of bytes: one with an attribute, and a variable of its type
+abbrev pub one_byte : PlainTerm
+one_byte = record_of_pairs ((codes "a", byte 1) ∷ [])
+
+abbrev pub r : PlainTerm
+r = VariableTerm (codes "r") (RecordType (attribute (codes "a") (BitVecType 8) no_attributes))
+
+pub record RecordRows : Type 0 where
+  -- an attribute that is absent is not typed
+  pub applied_values : (I : Interpretation) → map (λ x. term_value I (record_get_of (record_of_pairs ((codes "b", byte 2) ∷ (codes "a", byte 1) ∷ [])) x)) (codes "a" ∷ codes "b" ∷ codes "c" ∷ []) ≡ BitVecValue 8 1 ∷ BitVecValue 8 2 ∷ BoolValue false ∷ []
+  pub no_pairs : record_of_pairs [] ≡ RecordTerm no_fields
+  pub in_order : record_of_pairs ((codes "b", byte 2) ∷ (codes "a", byte 1) ∷ []) ≡ RecordTerm (one_field (codes "a") (byte 1) (one_field (codes "b") (byte 2) no_fields))
+  pub last_stays : record_of_pairs ((codes "a", byte 1) ∷ (codes "b", byte 2) ∷ (codes "a", byte 3) ∷ []) ≡ RecordTerm (one_field (codes "a") (byte 3) (one_field (codes "b") (byte 2) no_fields))
+  -- a proper prefix first
+  pub prefix_first : record_of_pairs ((codes "ab", x) ∷ (codes "a", b) ∷ []) ≡ RecordTerm (one_field (codes "a") b (one_field (codes "ab") x no_fields))
+  pub tagged : record_of_pairs ((codes "entity", x) ∷ (codes "tag", b) ∷ []) ∷ record_of_pairs ((codes "tag", b) ∷ (codes "entity", x) ∷ []) ∷ [] ≡ tag_record x b ∷ tag_record x b ∷ []
+  -- of pairs of one attribute the first is not the value, and no other attribute is there
+  pub not_first : IsRecordOf ((codes "a", byte 1) ∷ (codes "a", byte 2) ∷ []) one_byte → ⊥
+  pub not_more : IsRecordOf [] one_byte → ⊥
+  -- a record with the attribute, and without it
+  pub known : map (folded_record_get one_byte) (codes "a" ∷ codes "b" ∷ []) ≡ byte 1 ∷ one_byte ∷ []
+  pub tag_parts : map (folded_record_get (tag_record x b)) (codes "entity" ∷ codes "tag" ∷ []) ≡ x ∷ b ∷ []
+  -- a variable of a record type with the attribute, and without it
+  pub stays : map (folded_record_get r) (codes "a" ∷ codes "b" ∷ []) ≡ Application (RecordGetOp (codes "a")) (terms (r ∷ [])) (BitVecType 8) ∷ r ∷ []
+  pub no_record : folded_record_get b (codes "a") ≡ b
 
 -- functions from bytes to bytes: one that an interpretation gives, and two tables
 abbrev pub unknown : PlainFunction

@@ -1,9 +1,9 @@
 -- Laws of standing for an application, and that each folding stands for the application that it was asked for.
-use Rattle.std.specs.Prelude.{◌≡◌, ◌↔◌, ℕ, ◌^◌, ◌<◌, Bool, List, [], ◌∷◌, map, IsTrue}
+use Rattle.std.specs.Prelude.{◌≡◌, ◌↔◌, ℕ, ◌^◌, ◌<◌, Bool, List, [], ◌∷◌, map, IsTrue, Some}
 use Rattle.std.specs.List.{AllByRecursion, AllZip, list_any}
 use Rattle.smt_arithmetic.specs.BitOperators.{BitsOperator, TestOperator, OverflowOperator}
 use Rattle.smt_folding.specs.AppOf.{IsAppOf}
-use Rattle.smt_folding.specs.Applications.{truth_literal, bits_literal, not_of, and_of, or_of, eq_of, ite_of, bvneg_of, bits_of_two, test_of_two, bvnego_of, zero_extend_of, string_like_of, set_member_of, set_subset_of, set_inter_of, option_get_of}
+use Rattle.smt_folding.specs.Applications.{truth_literal, bits_literal, not_of, and_of, or_of, eq_of, ite_of, bvneg_of, bits_of_two, test_of_two, bvnego_of, zero_extend_of, string_like_of, set_member_of, set_subset_of, set_inter_of, option_get_of, record_get_of}
 use Rattle.smt_folding.specs.Builder.{applied, folding}
 use Rattle.smt_folding.specs.Composites.{any_none, any_of, if_all_some, if_false, if_some, if_true, implies, is_none, is_some, set_intersects, set_is_empty}
 use Rattle.smt_folding.specs.FoldBits.{folded_bits, folded_bvneg, folded_bvnego, folded_overflow, folded_test, folded_zero_extend}
@@ -11,6 +11,7 @@ use Rattle.smt_folding.specs.FoldConnectives.{folded_not, folded_and, folded_or}
 use Rattle.smt_folding.specs.FoldEquality.{folded_eq, folded_ite}
 use Rattle.smt_folding.specs.FoldFunctions.{app_of, folded_app}
 use Rattle.smt_folding.specs.FoldOptions.{folded_option_get}
+use Rattle.smt_folding.specs.FoldRecords.{folded_record_get}
 use Rattle.smt_folding.specs.FoldSets.{folded_set_member, folded_set_subset, folded_set_inter}
 use Rattle.smt_folding.specs.FoldStrings.{folded_string_like}
 use Rattle.smt_folding.specs.Refinement.{Refines, FieldsRefine}
@@ -19,9 +20,10 @@ use Rattle.smt_meaning.specs.Functions.{PlainUnary, HasLiteralKeys, IsTypedFunct
 use Rattle.smt_meaning.specs.Interpretations.{IsInterpretation}
 use Rattle.smt_meaning.specs.Literals.{is_literal}
 use Rattle.smt_meaning.specs.Meaning.{term_value}
-use Rattle.smt_meaning.specs.Operators.{truth, apply}
+use Rattle.smt_meaning.specs.Operators.{attribute_value, truth, apply}
 use Rattle.smt_meaning.specs.Tables.{Interpretation}
 use Rattle.smt_meaning.specs.TermSets.{set_term}
+use Rattle.smt_meaning.specs.Types.{attribute_type, type_of}
 use Rattle.smt_meaning.specs.Typing.{typed, Typed, AreBoolean}
 use Rattle.smt_meaning.specs.TypeValues.{Enums}
 use Rattle.smt_meaning.specs.Plain.{PlainType, BitVecType, BoolType, PatternPart, PlainOp, PlainTerm, Application, RecordTerm, SomeTerm, PlainFields, terms, BitsOp, TestOp, OverflowOp}
@@ -101,6 +103,13 @@ pub record OptionsAreFolded : Type 0 where
   pub if_some : (g t : PlainTerm) → Refines (if_some folding g t) (if_some applied g t)
   pub any_none : (gs : List PlainTerm) → Refines (any_none folding gs) (any_none applied gs)
   pub if_all_some : (gs : List PlainTerm) (t : PlainTerm) → Refines (if_all_some folding gs t) (if_all_some applied gs t)
+
+-- An attribute of a record. Where a typed term has the attribute, what is given is typed with the attribute's type and has its
+-- value, which is that of the record's attribute in every interpretation.
+pub record RecordsAreFolded : Type 0 where
+  pub record_get : (t : PlainTerm) (x : List ℕ) → Refines (folded_record_get t x) (record_get_of t x)
+  pub type : (t : PlainTerm) (x : List ℕ) (ty : PlainType) → IsTrue (typed t) → attribute_type x (type_of t) ≡ Some ty → Typed (folded_record_get t x) ty
+  pub value : (I : Interpretation) (t : PlainTerm) (x : List ℕ) (ty : PlainType) → IsTrue (typed t) → attribute_type x (type_of t) ≡ Some ty → term_value I (folded_record_get t x) ≡ attribute_value x (term_value I t)
 
 -- A function at a term, where the keys of its table are literals. Where the table and the argument are typed, the folding has the
 -- function's value.

@@ -9,10 +9,12 @@ pub mod FoldConnectives
 pub mod FoldEquality
 pub mod FoldFunctions
 pub mod FoldOptions
+pub mod FoldRecords
 pub mod FoldRows
 pub mod FoldSets
 pub mod FoldStrings
 pub mod Laws
 pub mod Parts
+pub mod RecordOf
 pub mod Refinement
 pub mod SetOf

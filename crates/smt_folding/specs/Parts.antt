@@ -1,7 +1,7 @@
 -- What the foldings look for in a term.
 use Rattle.std.specs.Prelude.{ℕ, Bool, true, false, List, [], ◌∷◌, Option, Some, None}
 use Rattle.smt_meaning.specs.Literals.{are_literals}
-use Rattle.smt_meaning.specs.Plain.{PlainType, SetType, BvnegOp, NotOp, BitVecLiteral, StringLiteral, PlainTerm, Application, LiteralTerm, NoneTerm, SetTerm, SomeTerm, no_terms, one_term, list_of_terms}
+use Rattle.smt_meaning.specs.Plain.{PlainType, SetType, BvnegOp, NotOp, BitVecLiteral, StringLiteral, PlainTerm, Application, LiteralTerm, NoneTerm, RecordTerm, SetTerm, SomeTerm, no_terms, one_term, list_of_terms}
 
 -- the one of a list that has one
 abbrev pub only_one : List PlainTerm → Option PlainTerm
@@ -48,6 +48,11 @@ is_empty_set t = false
 abbrev pub is_set_literal : PlainTerm → Bool
 is_set_literal (SetTerm ty ts) = are_literals ts
 is_set_literal t = false
+
+-- a record that is given by its terms
+abbrev pub is_record_term : PlainTerm → Bool
+is_record_term (RecordTerm fs) = true
+is_record_term t = false
 
 -- the text of a literal
 abbrev pub text_inside : PlainTerm → Option (List ℕ)

@@ -42,7 +42,7 @@ attributes_back (a ∷ names) (TypeMeaning t ∷ ms) x h =
     subst P d (ap (λ z. a ∷ z) p, ap (λ z. TypeMeaning t ∷ z) q)
 attributes_back names ms x h = absurd (cc)
 
-fields_back : (names : List (List ℕ)) (ms : List Meaning) (x : PlainFields) → fields_in names ms ≡ Some x → (names ≡ field_names x) × (ms ≡ field_terms x)
+pub fields_back : (names : List (List ℕ)) (ms : List Meaning) (x : PlainFields) → fields_in names ms ≡ Some x → (names ≡ field_names x) × (ms ≡ field_terms x)
 fields_back [] [] x h = let P : PlainFields → Type 0 = λ y. ([] ≡ field_names y) × ([] ≡ field_terms y) in subst P (some_same no_fields x h) (refl, refl)
 fields_back (a ∷ names) (TermMeaning t ∷ ms) x h =
     let (y, e, d) = map_back (one_field a t) (fields_in names ms) x h in

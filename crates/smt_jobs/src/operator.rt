@@ -73,6 +73,7 @@ fn built_from_one(alloc: Global, op: &Op, a: &Term) -> Result<Option<Term>, Term
         Op::Bvneg => factory::bvneg(alloc, a)?,
         Op::Bvnego => factory::bvnego(alloc, a)?,
         Op::OptionGet => factory::option_get(alloc, a)?,
+        Op::RecordGet(attribute) => factory::record_get(alloc, a, attribute)?,
         Op::StringLike(pattern) => factory::string_like(alloc, a, pattern.share()?)?,
         Op::Uuf(function) => factory::app(alloc, UnaryFunction::Uuf(function.clone()?), a)?,
         Op::ZeroExtend(bits) => factory::zero_extend(alloc, *bits, a)?,
@@ -116,6 +117,7 @@ fn built_from_two(alloc: Global, op: &Op, a: &Term, b: &Term) -> Result<Option<T
         | Op::Ite
         | Op::Not
         | Op::OptionGet
+        | Op::RecordGet(_)
         | Op::StringLike(_)
         | Op::Uuf(_)
         | Op::ZeroExtend(_) => return Ok(None),

@@ -1,3 +1,4 @@
+pub mod AscendingPairs
 pub mod AscendingTexts
 pub mod EnumEntries
 pub mod LastPairs

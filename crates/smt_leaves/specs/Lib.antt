@@ -1,7 +1,9 @@
 pub mod Entities
 pub mod Enums
+pub mod Pairs
 pub mod PatternOrder
 pub mod PatternSearch
 pub mod PatternView
 pub mod SortedPairs
 pub mod TextSets
+pub mod formers

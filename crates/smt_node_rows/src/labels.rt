@@ -3,7 +3,7 @@
 use crate::terms::byte_function;
 use anyhow::{Context, Result, bail};
 use smt_bits::{BitVec, EIGHT, Width};
-use smt_nodes::Label;
+use smt_nodes::{AttrList, Label};
 use smt_term::{Op, TermPrim, Text};
 use std::alloc::Global;
 
@@ -16,6 +16,8 @@ pub(crate) fn label(alloc: Global, spelling: &str) -> Result<Label> {
         "string" => Label::TString,
         "option" => Label::TOption,
         "set" => Label::TSet,
+        "record" => Label::TRecord(names(alloc, held)?),
+        "record_of" => Label::RecordOf(names(alloc, held)?),
         "fun" => Label::Fun(Text::from_str(alloc, held)?),
         "add" => Label::App(Op::Bvadd),
         "neg" => Label::App(Op::Bvneg),
@@ -31,4 +33,13 @@ pub(crate) fn label(alloc: Global, spelling: &str) -> Result<Label> {
         "var" => Label::Var(Text::from_str(alloc, held)?),
         _ => bail!("no label has this spelling"),
     })
+}
+
+/// Attributes, with a comma between two of them.
+fn names(alloc: Global, held: &str) -> Result<AttrList> {
+    let mut names = Vec::new(alloc);
+    for name in held.split_terminator(',') {
+        names.push(Text::from_str(alloc, name)?)?;
+    }
+    Ok(AttrList::new(alloc, names.as_slice())?)
 }

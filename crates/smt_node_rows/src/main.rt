@@ -13,7 +13,15 @@ use std::alloc::Global;
 use std::fs;
 
 /// The files of rows.
-const FILES: [&str; 6] = ["sums", "terms", "found", "sets", "nodes", "functions"];
+const FILES: [&str; 7] = [
+    "sums",
+    "terms",
+    "found",
+    "sets",
+    "nodes",
+    "functions",
+    "records",
+];
 
 /// How many places a row can name.
 const PLACES: usize = 64;

@@ -1,9 +1,10 @@
 //! Terms of 8 bits as rows spell them: variables by their ids, `+` for the sum of the last two terms, `call:` and an id for a
-//! function at the last term, and `set` for the set of all.
+//! function at the last term, `set` for the set of all, and `record:` and attributes for the record of all, in which a comma
+//! stands between two attributes.
 
 use anyhow::{Context, Result};
 use smt_bits::EIGHT;
-use smt_term::{Op, Term, TermList, TermSet, TermType, TermVar, Text, Uuf};
+use smt_term::{Op, Term, TermList, TermMap, TermSet, TermType, TermVar, Text, Uuf};
 use std::alloc::Global;
 use std::rc::Rc;
 
@@ -49,6 +50,15 @@ fn set(alloc: Global, elements: &[Term]) -> Result<Term> {
     })
 }
 
+/// The record of these attributes, each with its term.
+fn record(alloc: Global, names: &str, fields: &[Term]) -> Result<Term> {
+    let mut pairs = Vec::new(alloc);
+    for (name, field) in names.split_terminator(',').zip(fields) {
+        pairs.push((Text::from_str(alloc, name)?, field.share()?))?;
+    }
+    Ok(Term::Record(TermMap::new(alloc, pairs.as_slice())?))
+}
+
 /// The last term of this spelling.
 pub(crate) fn term(alloc: Global, spelling: &str) -> Result<Term> {
     let mut terms: Vec<Term> = Vec::new(alloc);
@@ -60,8 +70,9 @@ pub(crate) fn term(alloc: Global, spelling: &str) -> Result<Term> {
                 sum(alloc, a, b)?
             }
             "set" => set(alloc, terms.as_slice())?,
-            _ => match word.strip_prefix("call:") {
-                Some(id) => call(alloc, id, terms.pop().context("a term")?)?,
+            _ => match word.split_once(':') {
+                Some(("call", id)) => call(alloc, id, terms.pop().context("a term")?)?,
+                Some((_, names)) => record(alloc, names, terms.as_slice())?,
                 None => variable(alloc, word)?,
             },
         };

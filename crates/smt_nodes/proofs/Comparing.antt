@@ -4,31 +4,35 @@ use Rattle.std.proofs.lemmas.Bool.{false≢true}
 use Rattle.std.specs.Cmp.{Equal-is, unsigned_Decides}
 use Rattle.std.specs.Cmp.Lexicographic.{slice_cmp}
 use Rattle.std.specs.List.{AllByRecursion}
-use Rattle.std.specs.Ordering.{is_eq, nat_cmp, ordering_then}
+use Rattle.std.specs.Ordering.{is_eq, match_ordering, nat_cmp, ordering_then}
 use Rattle.std.specs.Prelude.{◌&&◌, IsTrue, Option, Some, eqb, option_and_then, option_map, slice_get}
 use Rattle.std.specs.declared.cmp.Ordering.{Ordering}
 use Rattle.std.specs.declared.cmp.Ordering.TheVariants.{Less, Equal, Greater}
-use Rattle.smt_meaning.specs.Plain.{PlainFunction, PlainType, OptionType, BitVecType, BoolType, EntityType, StringType, SetType, PlainLiteral, PlainOp, UufOp, PlainTerm, Application, NoneTerm, LiteralTerm, SetTerm, SomeTerm, VariableTerm, terms}
+use Rattle.smt_meaning.specs.Plain.{PlainFunction, PlainType, OptionType, BitVecType, BoolType, EntityType, StringType, RecordType, SetType, AttributeTypes, PlainLiteral, PlainOp, UufOp, PlainTerm, Application, NoneTerm, LiteralTerm, RecordTerm, SetTerm, SomeTerm, VariableTerm, PlainFields, terms}
 use Rattle.smt_meaning.specs.TermOrder.{function_cmp, literal_cmp, op_cmp, op_fields_cmp, op_place, term_cmp, terms_cmp}
-use Rattle.smt_meaning.specs.Types.{literal_type, type_cmp, type_of}
-use Rattle.smt_meaning.specs.ValueOrder.{text_cmp}
+use Rattle.smt_meaning.specs.Types.{field_types, literal_type, type_cmp, type_of}
+use Rattle.smt_meaning.specs.ValueOrder.{ascends, text_cmp}
 use Rattle.smt_meaning.proofs.SameTerm.{function_same, literal_same, op_same, term_same}
 use Rattle.smt_meaning.proofs.TermTotal.{terms_decided, types_decided}
 use Rattle.smt_meaning.proofs.TypeOrder.{type_same}
 use Rattle.smt_graph.specs.Fits.{applies_no_function}
 use Rattle.smt_graph.specs.Graphs.{IsGraph}
-use Rattle.smt_graph.specs.Meanings.{all_found, found, meaning_at, meanings, stands_for, term_made, terms_in, typed_as}
-use Rattle.smt_graph.specs.Nodes.{PlainLabel, OptionLabel, BitVecLabel, BoolLabel, EntityLabel, StringLabel, SetLabel, FunctionLabel, ApplicationLabel, CallLabel, NoneLabel, LiteralLabel, SetOfLabel, SomeLabel, VariableLabel, PlainNode, Meaning, TypeMeaning, FunctionMeaning, TermMeaning}
+use Rattle.smt_graph.specs.Meanings.{all_found, attributes_in, fields_in, found, meaning_at, meanings, stands_for, term_made, terms_in, typed_as}
+use Rattle.smt_graph.specs.Nodes.{PlainLabel, OptionLabel, BitVecLabel, BoolLabel, EntityLabel, StringLabel, RecordLabel, SetLabel, FunctionLabel, ApplicationLabel, CallLabel, NoneLabel, LiteralLabel, RecordOfLabel, SetOfLabel, SomeLabel, VariableLabel, PlainNode, Meaning, TypeMeaning, FunctionMeaning, TermMeaning}
 use Rattle.smt_graph.proofs.Distinct.{Stands, node_stands, places_differ}
-use Rattle.smt_graph.proofs.Places.{map_back, some_same, test_back, then_back}
-use Rattle.smt_graph.proofs.Whole.{terms_back, typed_back}
+use Rattle.smt_graph.proofs.Places.{map_back, only_back, some_same, test_back, then_back}
+use Rattle.smt_graph.proofs.Whole.{terms_back, typed_back, whole}
+use Rattle.smt_graph.specs.Parts.{field_names, field_terms, names_in, types_in}
 use Rattle.smt_term.specs.View.{plain_literal, plain_op}
-use Rattle.smt_nodes.proofs.Levels.{label_same, op_itself}
-use Rattle.smt_nodes.specs.Order.{are_alike, difference_of, first_cmp, function_place, label_cmp, meaning_cmp, or_else, parts_apart}
+use Rattle.smt_characters.specs.SharedTexts.{texts}
+use Rattle.smt_nodes.proofs.ComparingRecords.{alike_lists, attributes_cmp, fields_alike, fields_by_attributes, types_alike, types_by_attributes}
+use Rattle.smt_nodes.proofs.Levels.{op_itself}
+use Rattle.smt_nodes.specs.Attributes.{attributes_of}
+use Rattle.smt_nodes.specs.Order.{are_alike, attributes_apart, difference_of, first_cmp, function_place, meaning_cmp, or_else, parts_apart}
 use Rattle.smt_nodes.specs.View.{ids_of, place_of, places_of, plain_label, plain_node}
 use Rattle.smt_nodes.specs.declared.id.NodeId.{NodeId}
 use Rattle.smt_nodes.specs.declared.node.Label.{Label}
-use Rattle.smt_nodes.specs.declared.node.Label.TheVariants.{TOption, TBitvec, TBool, TEntity, TString, TSet, Fun, App, Call, NoneOf, Prim, SetOf, SomeOf, Var}
+use Rattle.smt_nodes.specs.declared.node.Label.TheVariants.{TOption, TBitvec, TBool, TEntity, TString, TRecord, TSet, Fun, App, Call, NoneOf, Prim, RecordOf, SetOf, SomeOf, Var}
 use Rattle.smt_nodes.specs.declared.node.Node.{Node}
 use Rattle.smt_nodes.specs.declared.order.Difference.{Difference}
 use Rattle.smt_nodes.specs.declared.order.Difference.TheVariants.{Nowhere, At, Length}
@@ -40,12 +44,14 @@ pub data Shape : PlainLabel → List Meaning → Meaning → Type 0 where
   a_truth : Shape BoolLabel [] (TypeMeaning BoolType)
   entities : (e : List ℕ) → Shape (EntityLabel e) [] (TypeMeaning (EntityType e))
   a_text : Shape StringLabel [] (TypeMeaning StringType)
+  a_record_type : (x : AttributeTypes) → Shape (RecordLabel (names_in x)) (types_in x) (TypeMeaning (RecordType x))
   a_set : (t : PlainType) → Shape SetLabel (TypeMeaning t ∷ []) (TypeMeaning (SetType t))
   a_function : (id : List ℕ) (t u : PlainType) → Shape (FunctionLabel id) (TypeMeaning t ∷ TypeMeaning u ∷ []) (FunctionMeaning (record { id = id; argument = t; output = u }))
   applied : (o : PlainOp) → applies_no_function (ApplicationLabel o) ≡ true → (t : PlainType) (ts : List PlainTerm) → Shape (ApplicationLabel o) (TypeMeaning t ∷ map TermMeaning ts) (TermMeaning (Application o (terms ts) t))
   called : (f : PlainFunction) (t : PlainType) (ts : List PlainTerm) → Shape CallLabel (TypeMeaning t ∷ FunctionMeaning f ∷ map TermMeaning ts) (TermMeaning (Application (UufOp f) (terms ts) t))
   holds_none : (t : PlainType) → Shape NoneLabel (TypeMeaning (OptionType t) ∷ []) (TermMeaning (NoneTerm t))
   a_literal : (l : PlainLiteral) → Shape (LiteralLabel l) (TypeMeaning (literal_type l) ∷ []) (TermMeaning (LiteralTerm l))
+  a_record : (x : PlainFields) → Shape (RecordOfLabel (field_names x)) (TypeMeaning (RecordType (field_types x)) ∷ field_terms x) (TermMeaning (RecordTerm x))
   elements : (t : PlainType) (ts : List PlainTerm) → Shape SetOfLabel (TypeMeaning (SetType t) ∷ map TermMeaning ts) (TermMeaning (SetTerm t (terms ts)))
   holds_some : (u : PlainTerm) → Shape SomeLabel (TypeMeaning (OptionType (type_of u)) ∷ TermMeaning u ∷ []) (TermMeaning (SomeTerm u))
   a_variable : (id : List ℕ) (t : PlainType) → Shape (VariableLabel id) (TypeMeaning t ∷ []) (TermMeaning (VariableTerm id t))
@@ -95,12 +101,32 @@ set_shape t ms m h =
     let S : List Meaning → Meaning → Type 0 = λ ms m. Shape SetOfLabel (TypeMeaning (SetType t) ∷ ms) m in
     subst (S ms) (ap TermMeaning c ∙ k) (subst (λ ms. S ms (TermMeaning (SetTerm t (terms ts)))) (sym (terms_back ms ts f)) (elements t ts))
 
+-- its label and its parts are those of the record type or the record that it stands for
+record_type_shape : (names : List (List ℕ)) (ms : List Meaning) (m : Meaning) → stands_for (RecordLabel names) ms ≡ Some m → Shape (RecordLabel names) ms m
+record_type_shape names ms m h =
+    let (b, k) = only_back (ascends text_cmp names) (option_map (λ x. TypeMeaning (RecordType x)) (attributes_in names ms)) m h in
+    let (x, e, d) = map_back (λ x. TypeMeaning (RecordType x)) (attributes_in names ms) m k in
+    let (p, q) = whole (RecordLabel names) ms (TypeMeaning (RecordType x)) (h ∙ ap Some (sym d)) in
+    let S : PlainLabel → List Meaning → Type 0 = λ l ms. Shape l ms (TypeMeaning (RecordType x)) in
+    subst (Shape (RecordLabel names) ms) d (subst (λ l. S l ms) (sym p) (subst (S (RecordLabel (names_in x))) (sym q) (a_record_type x)))
+
+record_shape : (names : List (List ℕ)) (t : PlainType) (ms : List Meaning) (m : Meaning) → option_and_then (typed_as t) (term_made (RecordOfLabel names) t ms) ≡ Some m → Shape (RecordOfLabel names) (TypeMeaning t ∷ ms) m
+record_shape names t ms m h =
+    let (u, e, s, k) = typed_back (RecordOfLabel names) t ms m h in
+    let (b, o) = only_back (ascends text_cmp names) (option_map RecordTerm (fields_in names ms)) u e in
+    let (x, f, d) = map_back RecordTerm (fields_in names ms) u o in
+    let same : TermMeaning (RecordTerm x) ≡ m = ap TermMeaning d ∙ k in
+    let (p, q) = whole (RecordOfLabel names) (TypeMeaning t ∷ ms) (TermMeaning (RecordTerm x)) (h ∙ ap Some (sym same)) in
+    let S : PlainLabel → List Meaning → Type 0 = λ l ms. Shape l ms (TermMeaning (RecordTerm x)) in
+    subst (Shape (RecordOfLabel names) (TypeMeaning t ∷ ms)) same (subst (λ l. S l (TypeMeaning t ∷ ms)) (sym p) (subst (S (RecordOfLabel (field_names x))) (sym q) (a_record x)))
+
 pub shape : (l : Label) (ps : List Meaning) (m : Meaning) → stands_for (plain_label l) ps ≡ Some m → Shape (plain_label l) ps m
 shape TOption (TypeMeaning t ∷ []) m h = subst (Shape OptionLabel (TypeMeaning t ∷ [])) (some_same _ _ h) (an_option t)
 shape (TBitvec n) [] m h = subst (Shape (plain_label (TBitvec n)) []) (some_same _ _ h) (some_bits _)
 shape TBool [] m h = subst (Shape BoolLabel []) (some_same _ _ h) a_truth
 shape (TEntity e) [] m h = subst (Shape (plain_label (TEntity e)) []) (some_same _ _ h) (entities _)
 shape TString [] m h = subst (Shape StringLabel []) (some_same _ _ h) a_text
+shape (TRecord names) ms m h = record_type_shape (texts (attributes_of names)) ms m h
 shape TSet (TypeMeaning t ∷ []) m h = subst (Shape SetLabel (TypeMeaning t ∷ [])) (some_same _ _ h) (a_set t)
 shape (Fun id) (TypeMeaning t ∷ TypeMeaning u ∷ []) m h = subst (Shape (plain_label (Fun id)) (TypeMeaning t ∷ TypeMeaning u ∷ [])) (some_same _ _ h) (a_function _ t u)
 shape (App o) (TypeMeaning t ∷ ms) m h = applied_shape (plain_op o) t ms m h
@@ -109,6 +135,7 @@ shape NoneOf (TypeMeaning (OptionType t) ∷ []) m h = none_shape t m h
 shape NoneOf (TypeMeaning t ∷ []) m h = absurd (cc)
 shape NoneOf (TypeMeaning t ∷ n ∷ ms) m h = absurd (cc)
 shape (Prim l) (TypeMeaning t ∷ []) m h = literal_shape (plain_literal l) t m h
+shape (RecordOf names) (TypeMeaning t ∷ ms) m h = record_shape (texts (attributes_of names)) t ms m h
 shape SetOf (TypeMeaning (SetType t) ∷ ms) m h = set_shape t ms m h
 shape SetOf (TypeMeaning t ∷ ms) m h = absurd (cc)
 shape SomeOf (TypeMeaning t ∷ TermMeaning u ∷ []) m h = some_shape u t m h
@@ -117,11 +144,14 @@ shape l (TypeMeaning t ∷ ms) m h = absurd (cc)
 shape l ms m h = absurd (cc)
 
 -- ---- the order by labels and parts
-abbrev pub parts_cmp : PlainLabel → List Meaning → List Meaning → Ordering
-parts_cmp (ApplicationLabel o) (t ∷ ps) (u ∷ qs) = ordering_then (slice_cmp meaning_cmp ps qs) (slice_cmp meaning_cmp (t ∷ []) (u ∷ []))
-parts_cmp CallLabel (t ∷ ps) (u ∷ qs) = ordering_then (slice_cmp meaning_cmp ps qs) (slice_cmp meaning_cmp (t ∷ []) (u ∷ []))
-parts_cmp SomeLabel (t ∷ ps) (u ∷ qs) = ordering_then (slice_cmp meaning_cmp ps qs) (slice_cmp meaning_cmp (t ∷ []) (u ∷ []))
-parts_cmp l ps qs = slice_cmp meaning_cmp ps qs
+-- two nodes whose labels leave them level, by their parts
+abbrev pub parts_cmp : PlainLabel → PlainLabel → List Meaning → List Meaning → Ordering
+parts_cmp (RecordLabel as') (RecordLabel bs) ps qs = attributes_cmp as' bs ps qs
+parts_cmp (RecordOfLabel as') (RecordOfLabel bs) (t ∷ ps) (u ∷ qs) = attributes_cmp as' bs ps qs
+parts_cmp (ApplicationLabel o) k (t ∷ ps) (u ∷ qs) = ordering_then (slice_cmp meaning_cmp ps qs) (slice_cmp meaning_cmp (t ∷ []) (u ∷ []))
+parts_cmp CallLabel k (t ∷ ps) (u ∷ qs) = ordering_then (slice_cmp meaning_cmp ps qs) (slice_cmp meaning_cmp (t ∷ []) (u ∷ []))
+parts_cmp SomeLabel k (t ∷ ps) (u ∷ qs) = ordering_then (slice_cmp meaning_cmp ps qs) (slice_cmp meaning_cmp (t ∷ []) (u ∷ []))
+parts_cmp l k ps qs = slice_cmp meaning_cmp ps qs
 
 then_level : (o : Ordering) → o ≡ ordering_then o Equal
 then_level Less = refl
@@ -184,16 +214,11 @@ apart_before o f h e = no_function_is o f h (op_same o (UufOp f) (op_before o f 
 apart_behind : (o : PlainOp) (f : PlainFunction) → applies_no_function (ApplicationLabel o) ≡ true → ¬ (nat_cmp function_place (op_place o) ≡ Equal)
 apart_behind o f h e = no_function_is o f h (sym (op_same (UufOp f) o (op_behind o f h ∙ e)))
 
--- where labels are level for the order of terms, they are level
-pub labels_level : (l k : PlainLabel) (ps qs : List Meaning) (m n : Meaning) → Shape l ps m → Shape k qs n → first_cmp l k ≡ Equal → label_cmp l k ≡ Equal
-labels_level _ _ _ _ _ _ (applied o a t ts) (called f u us) h = absurd (apart_before o f a h)
-labels_level _ _ _ _ _ _ (called f t ts) (applied o a u us) h = absurd (apart_behind o f a h)
-labels_level _ _ _ _ _ _ s r h = h
-
-pub by_parts : (l k : PlainLabel) (ps qs : List Meaning) (m n : Meaning) → Shape l ps m → Shape k qs n → are_alike m n ≡ true → meaning_cmp m n ≡ ordering_then (first_cmp l k) (parts_cmp l ps qs)
+pub by_parts : (l k : PlainLabel) (ps qs : List Meaning) (m n : Meaning) → Shape l ps m → Shape k qs n → are_alike m n ≡ true → meaning_cmp m n ≡ ordering_then (first_cmp l k) (parts_cmp l k ps qs)
 by_parts _ _ _ _ _ _ (an_option t) (an_option u) h = then_level (type_cmp t u)
 by_parts _ _ _ _ _ _ (some_bits i) (some_bits j) h = then_level (nat_cmp i j)
 by_parts _ _ _ _ _ _ (entities e) (entities f) h = then_level (text_cmp e f)
+by_parts _ _ _ _ _ _ (a_record_type x) (a_record_type y) h = types_by_attributes x y
 by_parts _ _ _ _ _ _ (a_set t) (a_set u) h = then_level (type_cmp t u)
 by_parts _ _ _ _ _ _ (a_function a t u) (a_function b v w) h = ap (λ c. ordering_then (text_cmp a b) (ordering_then (type_cmp t v) c)) (then_level (type_cmp u w))
 by_parts _ _ _ _ _ _ (applied o a t ts) (called f u us) h =
@@ -207,6 +232,7 @@ by_parts _ _ _ _ _ _ (applied o a t ts) (applied p b u us) h =
 by_parts _ _ _ _ _ _ (holds_none t) (holds_none u) h = then_level (type_cmp t u)
 by_parts _ _ _ _ _ _ (a_literal a) (a_literal b) h =
     then_none (literal_cmp a b) (ordering_then (type_cmp (literal_type a) (literal_type b)) Equal) (λ e. sym (then_level (type_cmp (literal_type a) (literal_type b))) ∙ type_level (literal_type a) (literal_type b) (ap literal_type (literal_same a b e)))
+by_parts _ _ _ _ _ _ (a_record x) (a_record y) h = fields_by_attributes x y
 by_parts _ _ _ _ _ _ (elements t ts) (elements u us) h = ap (ordering_then (type_cmp t u)) (terms_as_list ts us)
 by_parts _ _ _ _ _ _ (holds_some t) (holds_some u) h =
     then_none (term_cmp t u) (ordering_then (type_cmp (type_of t) (type_of u)) Equal) (λ e. sym (then_level (type_cmp (type_of t) (type_of u))) ∙ type_level (type_of t) (type_of u) (ap type_of (term_same t u e))) ∙ ap (λ c. ordering_then c (ordering_then (type_cmp (type_of t) (type_of u)) Equal)) (then_level (term_cmp t u))
@@ -221,10 +247,6 @@ pub data Outcome (ms : List (Option Meaning)) : Difference → Ordering → Type
   level : Outcome ms Nowhere Equal
   differing : (x y : NodeId) (m n : Meaning) → found ms (place_of x) ≡ Some m → found ms (place_of y) ≡ Some n → are_alike m n ≡ true → (o : Ordering) → o ≡ meaning_cmp m n → ¬ (o ≡ Equal) → Outcome ms (At x y) o
   longer : (o : Ordering) → ¬ (o ≡ Equal) → Outcome ms (Length o) o
-
-abbrev alike_lists : List Meaning → List Meaning → Bool
-alike_lists (p ∷ ps) (q ∷ qs) = are_alike p q && alike_lists ps qs
-alike_lists ps qs = true
 
 level_same : (m n : Meaning) → are_alike m n ≡ true → meaning_cmp m n ≡ Equal → m ≡ n
 level_same (TypeMeaning t) (TypeMeaning u) a h = ap TypeMeaning (type_same t u h)
@@ -256,15 +278,15 @@ head_found ms i is ps h =
     (m, rest, e, a, b)
 
 -- one step of the search, by whether the numbers are the same
-one_step : (ns : List PlainNode) → IsGraph ns → (x y : NodeId) (xs ys : List NodeId) (m n : Meaning) (o : Ordering) (b : Bool) → eqb (place_of x) (place_of y) ≡ b → meaning_at ns (place_of x) ≡ Some m → meaning_at ns (place_of y) ≡ Some n → are_alike m n ≡ true
-    → Outcome (meanings ns) (difference_of xs ys) o → Outcome (meanings ns) (elim b [ true ↦ difference_of xs ys | false ↦ At x y ]) (ordering_then (meaning_cmp m n) o)
-one_step ns g x y xs ys m n o true e p q a s =
+one_step : (ns : List PlainNode) → IsGraph ns → (x y : NodeId) (d : Difference) (m n : Meaning) (o : Ordering) (b : Bool) → eqb (place_of x) (place_of y) ≡ b → meaning_at ns (place_of x) ≡ Some m → meaning_at ns (place_of y) ≡ Some n → are_alike m n ≡ true
+    → Outcome (meanings ns) (d) o → Outcome (meanings ns) (elim b [ true ↦ d | false ↦ At x y ]) (ordering_then (meaning_cmp m n) o)
+one_step ns g x y d m n o true e p q a s =
     let same : place_of x ≡ place_of y = (unsigned_Decides (place_of x) (place_of y)).0 e in
     let alike : m ≡ n = some_same m n (sym p ∙ (ap (meaning_at ns) same ∙ q)) in
     let lev : meaning_cmp m n ≡ Equal = sym (ap (meaning_cmp m) alike) ∙ meaning_itself m in
-    let O : Ordering → Type 0 = Outcome (meanings ns) (difference_of xs ys) in
+    let O : Ordering → Type 0 = Outcome (meanings ns) (d) in
     subst (λ c. O (ordering_then c o)) (sym lev) s
-one_step ns g x y xs ys m n o false e p q a s =
+one_step ns g x y d m n o false e p q a s =
     let apart : ¬ (meaning_cmp m n ≡ Equal) = λ h. (let same : m ≡ n = level_same m n a h in
     let at : place_of x ≡ place_of y = places_differ ns g (place_of x) (place_of y) m p (q ∙ ap Some (sym same)) in
     false≢true (sym e ∙ (unsigned_Decides (place_of x) (place_of y)).1 at)) in
@@ -289,7 +311,34 @@ outcome ns g (x ∷ xs) (y ∷ ys) ps qs p q a =
     let alike : (are_alike m n && alike_lists ms ks) ≡ true = ap (λ ps. alike_lists ps (n ∷ ks)) d ∙ (ap (alike_lists ps) d' ∙ a) in
     let (here, later) = both_true (are_alike m n) (alike_lists ms ks) alike in
     let O : List Meaning → List Meaning → Type 0 = λ ps qs. Outcome (meanings ns) (difference_of (x ∷ xs) (y ∷ ys)) (slice_cmp meaning_cmp ps qs) in
-    subst (λ ps. O ps qs) d (subst (O (m ∷ ms)) d' (one_step ns g x y xs ys m n (slice_cmp meaning_cmp ms ks) (eqb (place_of x) (place_of y)) refl e e' here (outcome ns g xs ys ms ks f f' later)))
+    subst (λ ps. O ps qs) d (subst (O (m ∷ ms)) d' (one_step ns g x y (difference_of xs ys) m n (slice_cmp meaning_cmp ms ks) (eqb (place_of x) (place_of y)) refl e e' here (outcome ns g xs ys ms ks f f' later)))
+
+-- ---- the same of lists of attributes with their parts
+text_step : (ms : List (Option Meaning)) (d : Difference) (o c r : Ordering) → Outcome ms d (ordering_then c r) → Outcome ms (match_ordering o (Length Less) d (Length Greater)) (ordering_then (ordering_then o c) r)
+text_step ms d Less c r s = longer Less (λ h. cc)
+text_step ms d Equal c r s = s
+text_step ms d Greater c r s = longer Greater (λ h. cc)
+
+attributes_outcome : (ns : List PlainNode) → IsGraph ns → (as' bs : List (List ℕ)) (xs ys : List NodeId) (ps qs : List Meaning) → all_found (meanings ns) (places_of xs) ≡ Some ps → all_found (meanings ns) (places_of ys) ≡ Some qs → alike_lists ps qs ≡ true
+    → Outcome (meanings ns) (attributes_apart as' bs xs ys) (attributes_cmp as' bs ps qs)
+attributes_outcome ns g [] [] xs ys ps qs p q a = level
+attributes_outcome ns g [] (e ∷ bs) xs ys ps qs p q a = longer Less (λ h. cc)
+attributes_outcome ns g (c ∷ as') [] xs ys ps qs p q a = longer Greater (λ h. cc)
+attributes_outcome ns g (c ∷ as') (e ∷ bs) [] ys ps qs p q a =
+    let O : List Meaning → Type 0 = λ ps. Outcome (meanings ns) (difference_of [] ys) (attributes_cmp (c ∷ as') (e ∷ bs) ps qs) in
+    subst O (some_same [] ps p) (outcome ns g [] ys [] qs refl q refl)
+attributes_outcome ns g (c ∷ as') (e ∷ bs) (x ∷ xs) [] ps qs p q a =
+    let (m, rest, i, j, d) = head_found (meanings ns) (place_of x) (places_of xs) ps p in
+    let O : List Meaning → List Meaning → Type 0 = λ ps qs. Outcome (meanings ns) (difference_of (x ∷ xs) []) (attributes_cmp (c ∷ as') (e ∷ bs) ps qs) in
+    subst (λ ps. O ps qs) d (subst (O (m ∷ rest)) (some_same [] qs q) (outcome ns g (x ∷ xs) [] (m ∷ rest) [] (p ∙ ap Some (sym d)) refl refl))
+attributes_outcome ns g (c ∷ as') (e ∷ bs) (x ∷ xs) (y ∷ ys) ps qs p q a =
+    let (m, ms, i, j, d) = head_found (meanings ns) (place_of x) (places_of xs) ps p in
+    let (n, ks, i', j', d') = head_found (meanings ns) (place_of y) (places_of ys) qs q in
+    let alike : (are_alike m n && alike_lists ms ks) ≡ true = ap (λ ps. alike_lists ps (n ∷ ks)) d ∙ (ap (alike_lists ps) d' ∙ a) in
+    let (here, later) = both_true (are_alike m n) (alike_lists ms ks) alike in
+    let rest : Outcome (meanings ns) (attributes_apart as' bs xs ys) (attributes_cmp as' bs ms ks) = attributes_outcome ns g as' bs xs ys ms ks j j' later in
+    let O : List Meaning → List Meaning → Type 0 = λ ps qs. Outcome (meanings ns) (attributes_apart (c ∷ as') (e ∷ bs) (x ∷ xs) (y ∷ ys)) (attributes_cmp (c ∷ as') (e ∷ bs) ps qs) in
+    subst (λ ps. O ps qs) d (subst (O (m ∷ ms)) d' (text_step (meanings ns) _ (text_cmp c e) (meaning_cmp m n) (attributes_cmp as' bs ms ks) (one_step ns g x y (attributes_apart as' bs xs ys) m n (attributes_cmp as' bs ms ks) (eqb (place_of x) (place_of y)) refl i i' here rest)))
 
 or_outcome : (ms : List (Option Meaning)) (c d : Difference) (o p : Ordering) → Outcome ms c o → Outcome ms d p → Outcome ms (or_else c d) (ordering_then o p)
 or_outcome ms _ d _ p level s = s
@@ -297,15 +346,15 @@ or_outcome ms _ d _ p (differing x y m n e f a o k h) s = subst (Outcome ms (At 
 or_outcome ms _ d _ p (longer o h) s = subst (Outcome ms (Length o)) (then_first o p h) (longer o h)
 
 -- ---- what the first difference of the parts says
-abbrev Parts : List PlainNode → PlainLabel → List NodeId → List NodeId → List Meaning → List Meaning → Type 0
-Parts ns l xs ys ps qs = Outcome (meanings ns) (parts_apart l xs ys) (parts_cmp l ps qs)
+abbrev Parts : List PlainNode → PlainLabel → PlainLabel → List NodeId → List NodeId → List Meaning → List Meaning → Type 0
+Parts ns l k xs ys ps qs = Outcome (meanings ns) (parts_apart l k xs ys) (parts_cmp l k ps qs)
 
-type_last : (ns : List PlainNode) → IsGraph ns → (l : PlainLabel) → ((xs ys : List NodeId) (t u : NodeId) → parts_apart l (t ∷ xs) (u ∷ ys) ≡ or_else (difference_of xs ys) (difference_of (t ∷ []) (u ∷ [])))
+type_last : (ns : List PlainNode) → IsGraph ns → (l k : PlainLabel) → ((xs ys : List NodeId) (t u : NodeId) → parts_apart l k (t ∷ xs) (u ∷ ys) ≡ or_else (difference_of xs ys) (difference_of (t ∷ []) (u ∷ [])))
     → (xs ys : List NodeId) (t u : Meaning) (ps qs : List Meaning) → all_found (meanings ns) (places_of xs) ≡ Some (t ∷ ps) → all_found (meanings ns) (places_of ys) ≡ Some (u ∷ qs) → are_alike t u ≡ true → alike_lists ps qs ≡ true
-    → Outcome (meanings ns) (parts_apart l xs ys) (ordering_then (slice_cmp meaning_cmp ps qs) (slice_cmp meaning_cmp (t ∷ []) (u ∷ [])))
-type_last ns g l r [] ys t u ps qs p q a b = absurd (cc)
-type_last ns g l r (x ∷ xs) [] t u ps qs p q a b = absurd (cc)
-type_last ns g l r (x ∷ xs) (y ∷ ys) t u ps qs p q a b =
+    → Outcome (meanings ns) (parts_apart l k xs ys) (ordering_then (slice_cmp meaning_cmp ps qs) (slice_cmp meaning_cmp (t ∷ []) (u ∷ [])))
+type_last ns g l k r [] ys t u ps qs p q a b = absurd (cc)
+type_last ns g l k r (x ∷ xs) [] t u ps qs p q a b = absurd (cc)
+type_last ns g l k r (x ∷ xs) (y ∷ ys) t u ps qs p q a b =
     let (m, ms, e, f, d) = head_found (meanings ns) (place_of x) (places_of xs) (t ∷ ps) p in
     let (n, ks, e', f', d') = head_found (meanings ns) (place_of y) (places_of ys) (u ∷ qs) q in
     let mt : m ≡ t = cc in
@@ -324,28 +373,44 @@ all_alike [] (u ∷ us) = refl
 all_alike (t ∷ ts) [] = refl
 all_alike (t ∷ ts) (u ∷ us) = all_alike ts us
 
--- at equal labels
-pub parts_outcome : (ns : List PlainNode) → IsGraph ns → (l k : PlainLabel) (ps qs : List Meaning) (m n : Meaning) → Shape l ps m → Shape k qs n → l ≡ k → (xs ys : List NodeId) → all_found (meanings ns) (places_of xs) ≡ Some ps → all_found (meanings ns) (places_of ys) ≡ Some qs → Parts ns l xs ys ps qs
+-- the types of records go with their terms
+record_outcome : (ns : List PlainNode) → IsGraph ns → (as' bs : List (List ℕ)) (xs ys : List NodeId) (t u : Meaning) (ps qs : List Meaning) → all_found (meanings ns) (places_of xs) ≡ Some (t ∷ ps) → all_found (meanings ns) (places_of ys) ≡ Some (u ∷ qs) → alike_lists ps qs ≡ true
+    → Outcome (meanings ns) (parts_apart (RecordOfLabel as') (RecordOfLabel bs) xs ys) (attributes_cmp as' bs ps qs)
+record_outcome ns g as' bs [] ys t u ps qs p q a = absurd (cc)
+record_outcome ns g as' bs (x ∷ xs) [] t u ps qs p q a = absurd (cc)
+record_outcome ns g as' bs (x ∷ xs) (y ∷ ys) t u ps qs p q a =
+    let (m, ms, e, f, d) = head_found (meanings ns) (place_of x) (places_of xs) (t ∷ ps) p in
+    let (n, ks, e', f', d') = head_found (meanings ns) (place_of y) (places_of ys) (u ∷ qs) q in
+    let rest : ms ≡ ps = cc in
+    let rest' : ks ≡ qs = cc in
+    attributes_outcome ns g as' bs xs ys ps qs (f ∙ ap Some rest) (f' ∙ ap Some rest') a
+
+-- where the labels leave the order open
+pub parts_outcome : (ns : List PlainNode) → IsGraph ns → (l k : PlainLabel) (ps qs : List Meaning) (m n : Meaning) → Shape l ps m → Shape k qs n → first_cmp l k ≡ Equal → (xs ys : List NodeId) → all_found (meanings ns) (places_of xs) ≡ Some ps → all_found (meanings ns) (places_of ys) ≡ Some qs → Parts ns l k xs ys ps qs
 parts_outcome ns g _ _ _ _ _ _ (an_option t) (an_option u) h xs ys p q = outcome ns g xs ys _ _ p q refl
 parts_outcome ns g _ _ _ _ _ _ (some_bits i) (some_bits j) h xs ys p q = outcome ns g xs ys _ _ p q refl
 parts_outcome ns g _ _ _ _ _ _ a_truth a_truth h xs ys p q = outcome ns g xs ys _ _ p q refl
 parts_outcome ns g _ _ _ _ _ _ (entities e) (entities f) h xs ys p q = outcome ns g xs ys _ _ p q refl
 parts_outcome ns g _ _ _ _ _ _ a_text a_text h xs ys p q = outcome ns g xs ys _ _ p q refl
+parts_outcome ns g _ _ _ _ _ _ (a_record_type v) (a_record_type w) h xs ys p q = attributes_outcome ns g (names_in v) (names_in w) xs ys _ _ p q (types_alike v w)
 parts_outcome ns g _ _ _ _ _ _ (a_set t) (a_set u) h xs ys p q = outcome ns g xs ys _ _ p q refl
-parts_outcome ns g _ _ _ _ _ _ (applied o a t ts) (applied r b u us) h xs ys p q = type_last ns g (ApplicationLabel o) (λ xs ys t u. refl) xs ys _ _ _ _ p q refl (all_alike ts us)
+parts_outcome ns g _ _ _ _ _ _ (applied o a t ts) (applied r b u us) h xs ys p q = type_last ns g (ApplicationLabel o) (ApplicationLabel r) (λ xs ys t u. refl) xs ys _ _ _ _ p q refl (all_alike ts us)
 parts_outcome ns g _ _ _ _ _ _ (a_function a t u) (a_function b v w) h xs ys p q = outcome ns g xs ys _ _ p q refl
-parts_outcome ns g _ _ _ _ _ _ (called f t ts) (called r u us) h xs ys p q = type_last ns g CallLabel (λ xs ys t u. refl) xs ys _ _ _ _ p q refl (all_alike ts us)
+parts_outcome ns g _ _ _ _ _ _ (called f t ts) (called r u us) h xs ys p q = type_last ns g CallLabel CallLabel (λ xs ys t u. refl) xs ys _ _ _ _ p q refl (all_alike ts us)
 parts_outcome ns g _ _ _ _ _ _ (holds_none t) (holds_none u) h xs ys p q = outcome ns g xs ys _ _ p q refl
 parts_outcome ns g _ _ _ _ _ _ (a_literal a) (a_literal b) h xs ys p q = outcome ns g xs ys _ _ p q refl
+parts_outcome ns g _ _ _ _ _ _ (a_record v) (a_record w) h xs ys p q = record_outcome ns g (field_names v) (field_names w) xs ys _ _ _ _ p q (fields_alike v w)
 parts_outcome ns g _ _ _ _ _ _ (elements t ts) (elements u us) h xs ys p q = outcome ns g xs ys _ _ p q (all_alike ts us)
-parts_outcome ns g _ _ _ _ _ _ (holds_some t) (holds_some u) h xs ys p q = type_last ns g SomeLabel (λ xs ys t u. refl) xs ys _ _ _ _ p q refl refl
+parts_outcome ns g _ _ _ _ _ _ (holds_some t) (holds_some u) h xs ys p q = type_last ns g SomeLabel SomeLabel (λ xs ys t u. refl) xs ys _ _ _ _ p q refl refl
 parts_outcome ns g _ _ _ _ _ _ (a_variable a t) (a_variable b u) h xs ys p q = outcome ns g xs ys _ _ p q refl
+parts_outcome ns g _ _ _ _ _ _ (applied o a t ts) (called f u us) h xs ys p q = absurd (apart_before o f a h)
+parts_outcome ns g _ _ _ _ _ _ (called f t ts) (applied o a u us) h xs ys p q = absurd (apart_behind o f a h)
 parts_outcome ns g _ _ _ _ _ _ s r h xs ys p q = absurd (cc)
 
 -- ---- two nodes
 pub record Compared (ns : List PlainNode) (first second : Node) (m n : Meaning) : Type 0 where
   pub apart : ¬ (first_cmp (plain_label first.label) (plain_label second.label) ≡ Equal) → first_cmp (plain_label first.label) (plain_label second.label) ≡ meaning_cmp m n
-  pub same : first_cmp (plain_label first.label) (plain_label second.label) ≡ Equal → Outcome (meanings ns) (parts_apart (plain_label first.label) (ids_of first.parts) (ids_of second.parts)) (meaning_cmp m n)
+  pub same : first_cmp (plain_label first.label) (plain_label second.label) ≡ Equal → Outcome (meanings ns) (parts_apart (plain_label first.label) (plain_label second.label) (ids_of first.parts) (ids_of second.parts)) (meaning_cmp m n)
 
 pub compared : (ns : List PlainNode) → IsGraph ns → (i j : ℕ) (first second : Node) → slice_get ns i ≡ Some (plain_node first) → slice_get ns j ≡ Some (plain_node second)
     → (m n : Meaning) → meaning_at ns i ≡ Some m → meaning_at ns j ≡ Some n → are_alike m n ≡ true → Compared ns first second m n
@@ -358,13 +423,13 @@ compared ns g i j first second a b m n e f h =
     let two : Shape (plain_label second.label) r.parts n = shape second.label r.parts n (r.label ∙ ap Some rn) in
     let l : PlainLabel = plain_label first.label in
     let k : PlainLabel = plain_label second.label in
-    let both : meaning_cmp m n ≡ ordering_then (first_cmp l k) (parts_cmp l s.parts r.parts) = by_parts l k s.parts r.parts m n one two h in
+    let both : meaning_cmp m n ≡ ordering_then (first_cmp l k) (parts_cmp l k s.parts r.parts) = by_parts l k s.parts r.parts m n one two h in
     record {
-      apart = λ d. then_first (first_cmp l k) (parts_cmp l s.parts r.parts) d ∙ sym both;
+      apart = λ d. then_first (first_cmp l k) (parts_cmp l k s.parts r.parts) d ∙ sym both;
       same = λ d.
-          let O : Ordering → Type 0 = Outcome (meanings ns) (parts_apart l (ids_of first.parts) (ids_of second.parts)) in
-          let whole : meaning_cmp m n ≡ parts_cmp l s.parts r.parts = both ∙ ap (λ c. ordering_then c (parts_cmp l s.parts r.parts)) d in
-          subst O (sym whole) (parts_outcome ns g l k s.parts r.parts m n one two (label_same first.label second.label (labels_level l k s.parts r.parts m n one two d)) (ids_of first.parts) (ids_of second.parts) s.found_parts r.found_parts);
+          let O : Ordering → Type 0 = Outcome (meanings ns) (parts_apart l k (ids_of first.parts) (ids_of second.parts)) in
+          let whole : meaning_cmp m n ≡ parts_cmp l k s.parts r.parts = both ∙ ap (λ c. ordering_then c (parts_cmp l k s.parts r.parts)) d in
+          subst O (sym whole) (parts_outcome ns g l k s.parts r.parts m n one two d (ids_of first.parts) (ids_of second.parts) s.found_parts r.found_parts);
     }
 
 pub at_nowhere : (ms : List (Option Meaning)) (d : Difference) (o : Ordering) → Outcome ms d o → Nowhere ≡ d → Equal ≡ o
@@ -386,15 +451,15 @@ at_pair ms _ _ x y r (differing u v m n a b c o k h) e f =
 at_pair ms _ _ x y r (longer o h) e f = cc
 
 -- ---- what differs stands earlier
-step_earlier : (x y u v : NodeId) (xs ys : List NodeId) (i : ℕ) (b : Bool) → place_of x < i → (At u v ≡ difference_of xs ys → place_of u < i) → At u v ≡ elim b [ true ↦ difference_of xs ys | false ↦ At x y ] → place_of u < i
-step_earlier x y u v xs ys i true h f e = f e
-step_earlier x y u v xs ys i false h f e = let same : u ≡ x = cc in subst (λ w. place_of w < i) (sym same) h
+step_earlier : (x y u v : NodeId) (d : Difference) (i : ℕ) (b : Bool) → place_of x < i → (At u v ≡ d → place_of u < i) → At u v ≡ elim b [ true ↦ d | false ↦ At x y ] → place_of u < i
+step_earlier x y u v d i true h f e = f e
+step_earlier x y u v d i false h f e = let same : u ≡ x = cc in subst (λ w. place_of w < i) (sym same) h
 
 earlier : (xs ys : List NodeId) (i : ℕ) → AllByRecursion (λ p. p < i) (places_of xs) → (u v : NodeId) → At u v ≡ difference_of xs ys → place_of u < i
 earlier [] [] i h u v e = absurd (cc)
 earlier [] (y ∷ ys) i h u v e = absurd (cc)
 earlier (x ∷ xs) [] i h u v e = absurd (cc)
-earlier (x ∷ xs) (y ∷ ys) i h u v e = step_earlier x y u v xs ys i (eqb (place_of x) (place_of y)) h.0 (earlier xs ys i h.1 u v) e
+earlier (x ∷ xs) (y ∷ ys) i h u v e = step_earlier x y u v (difference_of xs ys) i (eqb (place_of x) (place_of y)) h.0 (earlier xs ys i h.1 u v) e
 
 or_earlier : (c d : Difference) (u v : NodeId) (i : ℕ) → (At u v ≡ c → place_of u < i) → (At u v ≡ d → place_of u < i) → At u v ≡ or_else c d → place_of u < i
 or_earlier Nowhere d u v i f g e = g e
@@ -404,26 +469,47 @@ or_earlier (Length o) d u v i f g e = f e
 last_earlier : (xs ys : List NodeId) (t w : NodeId) (i : ℕ) → place_of t < i → AllByRecursion (λ p. p < i) (places_of xs) → (u v : NodeId) → At u v ≡ or_else (difference_of xs ys) (difference_of (t ∷ []) (w ∷ [])) → place_of u < i
 last_earlier xs ys t w i a h u v e = or_earlier (difference_of xs ys) (difference_of (t ∷ []) (w ∷ [])) u v i (earlier xs ys i h u v) (earlier (t ∷ []) (w ∷ []) i (a, tt) u v) e
 
-app_earlier : (o : PlainOp) (xs ys : List NodeId) (i : ℕ) → AllByRecursion (λ p. p < i) (places_of xs) → (u v : NodeId) → At u v ≡ parts_apart (ApplicationLabel o) xs ys → place_of u < i
-app_earlier o [] [] i h u v e = absurd (cc)
-app_earlier o [] (y ∷ ys) i h u v e = absurd (cc)
-app_earlier o (x ∷ xs) [] i h u v e = absurd (cc)
-app_earlier o (x ∷ xs) (y ∷ ys) i h u v e = last_earlier xs ys x y i h.0 h.1 u v e
+app_earlier : (o : PlainOp) (k : PlainLabel) (xs ys : List NodeId) (i : ℕ) → AllByRecursion (λ p. p < i) (places_of xs) → (u v : NodeId) → At u v ≡ parts_apart (ApplicationLabel o) k xs ys → place_of u < i
+app_earlier o k [] [] i h u v e = absurd (cc)
+app_earlier o k [] (y ∷ ys) i h u v e = absurd (cc)
+app_earlier o k (x ∷ xs) [] i h u v e = absurd (cc)
+app_earlier o k (x ∷ xs) (y ∷ ys) i h u v e = last_earlier xs ys x y i h.0 h.1 u v e
 
-call_earlier : (xs ys : List NodeId) (i : ℕ) → AllByRecursion (λ p. p < i) (places_of xs) → (u v : NodeId) → At u v ≡ parts_apart CallLabel xs ys → place_of u < i
-call_earlier [] [] i h u v e = absurd (cc)
-call_earlier [] (y ∷ ys) i h u v e = absurd (cc)
-call_earlier (x ∷ xs) [] i h u v e = absurd (cc)
-call_earlier (x ∷ xs) (y ∷ ys) i h u v e = last_earlier xs ys x y i h.0 h.1 u v e
+call_earlier : (k : PlainLabel) (xs ys : List NodeId) (i : ℕ) → AllByRecursion (λ p. p < i) (places_of xs) → (u v : NodeId) → At u v ≡ parts_apart CallLabel k xs ys → place_of u < i
+call_earlier k [] [] i h u v e = absurd (cc)
+call_earlier k [] (y ∷ ys) i h u v e = absurd (cc)
+call_earlier k (x ∷ xs) [] i h u v e = absurd (cc)
+call_earlier k (x ∷ xs) (y ∷ ys) i h u v e = last_earlier xs ys x y i h.0 h.1 u v e
 
-some_earlier : (xs ys : List NodeId) (i : ℕ) → AllByRecursion (λ p. p < i) (places_of xs) → (u v : NodeId) → At u v ≡ parts_apart SomeLabel xs ys → place_of u < i
-some_earlier [] [] i h u v e = absurd (cc)
-some_earlier [] (y ∷ ys) i h u v e = absurd (cc)
-some_earlier (x ∷ xs) [] i h u v e = absurd (cc)
-some_earlier (x ∷ xs) (y ∷ ys) i h u v e = last_earlier xs ys x y i h.0 h.1 u v e
+some_earlier : (k : PlainLabel) (xs ys : List NodeId) (i : ℕ) → AllByRecursion (λ p. p < i) (places_of xs) → (u v : NodeId) → At u v ≡ parts_apart SomeLabel k xs ys → place_of u < i
+some_earlier k [] [] i h u v e = absurd (cc)
+some_earlier k [] (y ∷ ys) i h u v e = absurd (cc)
+some_earlier k (x ∷ xs) [] i h u v e = absurd (cc)
+some_earlier k (x ∷ xs) (y ∷ ys) i h u v e = last_earlier xs ys x y i h.0 h.1 u v e
 
-pub parts_earlier : (l : Label) (xs ys : List NodeId) (i : ℕ) → AllByRecursion (λ p. p < i) (places_of xs) → (u v : NodeId) → At u v ≡ parts_apart (plain_label l) xs ys → place_of u < i
-parts_earlier (App o) xs ys i h u v e = app_earlier (plain_op o) xs ys i h u v e
-parts_earlier Call xs ys i h u v e = call_earlier xs ys i h u v e
-parts_earlier SomeOf xs ys i h u v e = some_earlier xs ys i h u v e
-parts_earlier l xs ys i h u v e = earlier xs ys i h u v e
+text_earlier : (o : Ordering) (d : Difference) (u v : NodeId) (i : ℕ) → (At u v ≡ d → place_of u < i) → At u v ≡ match_ordering o (Length Less) d (Length Greater) → place_of u < i
+text_earlier Less d u v i f e = absurd (cc)
+text_earlier Equal d u v i f e = f e
+text_earlier Greater d u v i f e = absurd (cc)
+
+attributes_earlier : (as' bs : List (List ℕ)) (xs ys : List NodeId) (i : ℕ) → AllByRecursion (λ p. p < i) (places_of xs) → (u v : NodeId) → At u v ≡ attributes_apart as' bs xs ys → place_of u < i
+attributes_earlier [] [] xs ys i h u v e = absurd (cc)
+attributes_earlier [] (b ∷ bs) xs ys i h u v e = absurd (cc)
+attributes_earlier (a ∷ as') [] xs ys i h u v e = absurd (cc)
+attributes_earlier (a ∷ as') (b ∷ bs) [] ys i h u v e = earlier [] ys i h u v e
+attributes_earlier (a ∷ as') (b ∷ bs) (x ∷ xs) [] i h u v e = earlier (x ∷ xs) [] i h u v e
+attributes_earlier (a ∷ as') (b ∷ bs) (x ∷ xs) (y ∷ ys) i h u v e =
+    text_earlier (text_cmp a b) _ u v i (step_earlier x y u v (attributes_apart as' bs xs ys) i (eqb (place_of x) (place_of y)) h.0 (attributes_earlier as' bs xs ys i h.1 u v)) e
+
+record_earlier : (as' bs : List (List ℕ)) (xs ys : List NodeId) (i : ℕ) → AllByRecursion (λ p. p < i) (places_of xs) → (u v : NodeId) → At u v ≡ parts_apart (RecordOfLabel as') (RecordOfLabel bs) xs ys → place_of u < i
+record_earlier as' bs [] ys i h u v e = earlier [] ys i h u v e
+record_earlier as' bs (x ∷ xs) [] i h u v e = earlier (x ∷ xs) [] i h u v e
+record_earlier as' bs (x ∷ xs) (y ∷ ys) i h u v e = attributes_earlier as' bs xs ys i h.1 u v e
+
+pub parts_earlier : (l k : Label) (xs ys : List NodeId) (i : ℕ) → AllByRecursion (λ p. p < i) (places_of xs) → (u v : NodeId) → At u v ≡ parts_apart (plain_label l) (plain_label k) xs ys → place_of u < i
+parts_earlier (TRecord names) (TRecord others) xs ys i h u v e = attributes_earlier (texts (attributes_of names)) (texts (attributes_of others)) xs ys i h u v e
+parts_earlier (RecordOf names) (RecordOf others) xs ys i h u v e = record_earlier (texts (attributes_of names)) (texts (attributes_of others)) xs ys i h u v e
+parts_earlier (App o) k xs ys i h u v e = app_earlier (plain_op o) (plain_label k) xs ys i h u v e
+parts_earlier Call k xs ys i h u v e = call_earlier (plain_label k) xs ys i h u v e
+parts_earlier SomeOf k xs ys i h u v e = some_earlier (plain_label k) xs ys i h u v e
+parts_earlier l k xs ys i h u v e = earlier xs ys i h u v e

@@ -10,13 +10,13 @@ use Rattle.std.specs.Rc.{rc_str_bytes}
 use Rattle.std.specs.declared.alloc.Global.{Global}
 use Rattle.std.specs.declared.rc.RcStr.{RcStr}
 use Rattle.std.specs.Prelude.{◌↔◌, IfSome, bytes_eq, nat_eq, Option, Some, None, option_and_then, option_map, slice_get}
-use Rattle.smt_meaning.specs.Plain.{PlainType, OptionType, RecordType, SetType, AttributeTypes, no_attributes, attribute, PlainLiteral, PlainOp, UufOp, PlainTerm, Application, NoneTerm, LiteralTerm, RecordTerm, SetTerm, SomeTerm, VariableTerm, PlainTerms, no_terms, one_term, PlainFields, no_fields, one_field, terms, list_of_terms}
+use Rattle.smt_meaning.specs.Plain.{PlainType, OptionType, RecordType, SetType, AttributeTypes, PlainLiteral, PlainOp, UufOp, PlainTerm, Application, NoneTerm, LiteralTerm, RecordTerm, SetTerm, SomeTerm, VariableTerm, PlainTerms, no_terms, one_term, PlainFields, terms, list_of_terms}
 use Rattle.smt_meaning.specs.Types.{literal_type, type_of}
 use Rattle.smt_meaning.specs.ValueOrder.{ascends, text_cmp}
 use Rattle.smt_meaning.proofs.TermTotal.{types_decided}
 use Rattle.smt_graph.specs.Graphs.{IsGraph}
 use Rattle.smt_graph.specs.Meanings.{all_found, attributes_in, fields_in, found, meaning_at, meanings, only_if, stands_for, term_made, terms_in, typed_as}
-use Rattle.smt_graph.specs.Nodes.{PlainLabel, EntityLabel, ApplicationLabel, LiteralLabel, VariableLabel, PlainNode, Meaning, TypeMeaning, FunctionMeaning, TermMeaning}
+use Rattle.smt_graph.specs.Nodes.{PlainLabel, EntityLabel, RecordLabel, ApplicationLabel, LiteralLabel, RecordOfLabel, VariableLabel, PlainNode, Meaning, TypeMeaning, FunctionMeaning, TermMeaning}
 use Rattle.smt_graph.specs.Parts.{field_names, field_terms, label_in, names_in, parts_in, term_label, term_parts, type_label, types_in}
 use Rattle.smt_graph.proofs.Distinct.{Stands, node_stands, nothing_past}
 use Rattle.smt_graph.proofs.Places.{map_back, only_back, some_same, test_back, then_back}
@@ -25,40 +25,35 @@ use Rattle.smt_leaves.specs.Entities.{bytes_of_type}
 use Rattle.smt_leaves.specs.contracts.entity.EntityTypePartialEq.TheImpl as entity_type_equality
 use Rattle.smt_leaves.specs.declared.entity.EntityType.{EntityType}
 use Rattle.smt_term.proofs.DerivedEquality.{equal_literals, equal_operators}
-use Rattle.smt_term.specs.View.{plain_function, plain_literal, plain_op, plain_term}
+use Rattle.smt_term.specs.View.{plain_function, plain_literal, plain_op}
 use Rattle.smt_term.specs.contracts.op.OpPartialEq.TheImpl as op_equality
 use Rattle.smt_term.specs.contracts.term.TermPrimPartialEq.TheImpl as literal_equality
 use Rattle.std.specs.declared.rc.Rc.{Rc}
 use Rattle.smt_term.specs.declared.function.Uuf.{Uuf as Function}
 use Rattle.smt_term.specs.declared.op.Op.{Op}
 use Rattle.smt_term.specs.declared.op.Op.TheVariants.{And, Uuf}
-use Rattle.smt_term.specs.declared.term.Term.{Term}
 use Rattle.smt_term.specs.declared.term.TermPrim.{TermPrim}
 use Rattle.smt_nodes.proofs.Comparing.{head_found}
 use Rattle.smt_nodes.proofs.Interning.{are_terms_in}
+use Rattle.smt_nodes.proofs.RecordParts.{Listing, attributes_round, fields_round}
 use Rattle.smt_nodes.proofs.Levels.{label_cmp-is, label_itself, label_same}
 use Rattle.smt_nodes.specs.Kinds.{is_option_of_at, is_type_of_at}
 use Rattle.smt_nodes.specs.Order.{label_cmp}
 use Rattle.smt_nodes.specs.View.{place_of, places_of, plain_label}
 use Rattle.smt_nodes.specs.contracts.node.LabelPartialEq.TheImpl as label_equality
 use Rattle.smt_nodes.specs.contracts.node.LabelOrd.TheImpl.Laws as label_laws
+use Rattle.smt_characters.specs.SharedTexts.{texts}
+use Rattle.smt_nodes.specs.Attributes.{attributes_of}
+use Rattle.smt_nodes.specs.declared.attributes.AttrList.{AttrList}
 use Rattle.smt_nodes.specs.declared.id.NodeId.{NodeId}
 use Rattle.smt_nodes.specs.declared.node.Label.{Label}
-use Rattle.smt_nodes.specs.declared.node.Label.TheVariants.{TEntity, App, Prim, Var}
+use Rattle.smt_nodes.specs.declared.node.Label.TheVariants.{TEntity, TRecord, App, Prim, RecordOf, Var}
 
 -- ---- a meaning is determined by its label and its parts
--- lists of terms, of attributes and of fields, there and back
+-- lists of terms, there and back
 terms_round : (ts : PlainTerms) → terms (list_of_terms ts) ≡ ts
 terms_round no_terms = refl
 terms_round (one_term t ts) = ap (one_term t) (terms_round ts)
-
-attributes_round : (x : AttributeTypes) → attributes_in (names_in x) (types_in x) ≡ Some x
-attributes_round no_attributes = refl
-attributes_round (attribute a t x) = ap (option_map (attribute a t)) (attributes_round x)
-
-fields_round : (x : PlainFields) → fields_in (field_names x) (field_terms x) ≡ Some x
-fields_round no_fields = refl
-fields_round (one_field a t x) = ap (option_map (one_field a t)) (fields_round x)
 
 -- a term that terms make, which are those of a list
 made_of : (f : List PlainTerm → PlainTerm) (ts : PlainTerms) (v : PlainTerm) → option_map f (terms_in (map TermMeaning (list_of_terms ts))) ≡ Some v → f (list_of_terms ts) ≡ v
@@ -122,7 +117,7 @@ some_node ns i m h (Some n) e = (n, e)
 some_node ns i m h None e = let none : None ≡ Some m = sym (nothing_past ns i e) ∙ h in absurd (cc)
 
 -- label and parts of what is meant at a place stand for it
-made_so : (ns : List PlainNode) → IsGraph ns → (i : ℕ) (m : Meaning) → meaning_at ns i ≡ Some m → stands_for (label_in m) (parts_in m) ≡ Some m
+pub made_so : (ns : List PlainNode) → IsGraph ns → (i : ℕ) (m : Meaning) → meaning_at ns i ≡ Some m → stands_for (label_in m) (parts_in m) ≡ Some m
 made_so ns g i m h =
     let (n, e) = some_node ns i m h (slice_get ns i) refl in
     let s : Stands ns i n = node_stands ns g i n e in
@@ -177,13 +172,27 @@ first_wrong ms ids rest id m ps qs a e q f h = (
 others_right : (ms : List (Option Meaning)) (i : ℕ) (is : List ℕ) (m : Meaning) (ps : List Meaning) (b : Bool) → (b ≡ true) ↔ (found ms i ≡ Some m) → all_found ms is ≡ Some ps → (b ≡ true) ↔ (all_found ms (i ∷ is) ≡ Some (m ∷ ps))
 others_right ms i is m ps b f h = (λ t. all_of ms i is m ps (f.0 t) h, λ k. f.1 (first_and_others ms i is m ps k).0)
 
+-- the same where the others are looked at first: b is the test of the first, where that of the others is passed
+pub first_behind : (ms : List (Option Meaning)) (ids rest : List NodeId) (id : NodeId) (m : Meaning) (ps qs : List Meaning) (a b : Bool) → ids ≡ id ∷ rest → qs ≡ m ∷ ps → (a ≡ true) ↔ (all_found ms (places_of rest) ≡ Some ps) → a ≡ true → (b ≡ true) ↔ (found ms (place_of id) ≡ Some m)
+    → (b ≡ true) ↔ (all_found ms (places_of ids) ≡ Some qs)
+first_behind ms ids rest id m ps qs a b e q f h g =
+    let T : List NodeId → List Meaning → Type 0 = λ ids qs. (b ≡ true) ↔ (all_found ms (places_of ids) ≡ Some qs) in
+    subst (λ ids. T ids qs) (sym e) (subst (T (id ∷ rest)) (sym q) (others_right ms (place_of id) (places_of rest) m ps b g (f.0 h)))
+
+pub others_wrong : (ms : List (Option Meaning)) (ids rest : List NodeId) (id : NodeId) (m : Meaning) (ps qs : List Meaning) (a : Bool) → ids ≡ id ∷ rest → qs ≡ m ∷ ps → (a ≡ true) ↔ (all_found ms (places_of rest) ≡ Some ps) → a ≡ false
+    → (a ≡ true) ↔ (all_found ms (places_of ids) ≡ Some qs)
+others_wrong ms ids rest id m ps qs a e q f h = (
+  λ t. absurd (false≢true (sym h ∙ t)),
+  λ k. f.1 (first_and_others ms (place_of id) (places_of rest) m ps (sym (ap (λ ids. all_found ms (places_of ids)) e) ∙ (k ∙ ap Some q))).1,
+)
+
 -- lists by their lengths
 only_one : (xs : List NodeId) (d : NodeId) → 1 ≤ length xs → length xs < 2 → xs ≡ get_or xs 0 d ∷ []
 only_one [] d h k = absurd (omega arith)
 only_one (x ∷ []) d h k = refl
 only_one (x ∷ y ∷ xs) d h k = absurd (omega arith)
 
-as_many_found : (ms : List (Option Meaning)) (is : List ℕ) (ps : List Meaning) → all_found ms is ≡ Some ps → length is ≡ length ps
+pub as_many_found : (ms : List (Option Meaning)) (is : List ℕ) (ps : List Meaning) → all_found ms is ≡ Some ps → length is ≡ length ps
 as_many_found ms [] ps h = ap length (some_same [] ps h)
 as_many_found ms (i ∷ is) ps h =
     let (m, rest, e, f, d) = head_found ms i is ps h in
@@ -251,28 +260,34 @@ some_wrong ms ids rest ty d u qs a e q h k f t =
 pub some_count : (ms : List (Option Meaning)) (ids rest : List NodeId) (ty : NodeId) (m n : Meaning) (qs : List Meaning) → ids ≡ ty ∷ rest → qs ≡ m ∷ n ∷ [] → ¬ (length rest ≡ 1) → (false ≡ true) ↔ (all_found ms (places_of ids) ≡ Some qs)
 some_count ms ids rest ty m n qs e q h = other_count ms ids qs (λ k. (let c : length (ty ∷ rest) ≡ 2 = sym (ap length e) ∙ (k ∙ ap length q) in h (omega arith)))
 
--- one step through numbers and terms: what is left decides Q still; and Q fails
-pub next_right : (ms : List (Option Meaning)) (ids xs : List NodeId) (id : NodeId) (terms us : List Term) (t : Term) (Q : Type 0) (a : Bool) → ids ≡ id ∷ xs → terms ≡ t ∷ us → (a ≡ true) ↔ (found ms (place_of id) ≡ Some (TermMeaning (plain_term t))) → a ≡ true
-    → (all_found ms (places_of ids) ≡ Some (map TermMeaning (map plain_term terms))) ↔ Q → (all_found ms (places_of xs) ≡ Some (map TermMeaning (map plain_term us))) ↔ Q
-next_right ms ids xs id terms us t Q a e f h r g =
-    let T : List NodeId → List Term → Type 0 = λ ids terms. (all_found ms (places_of ids) ≡ Some (map TermMeaning (map plain_term terms))) ↔ Q in
-    let k : T (id ∷ xs) (t ∷ us) = subst (λ ids. T ids (t ∷ us)) e (subst (T ids) f g) in (
-      λ p. k.0 (all_of ms (place_of id) (places_of xs) (TermMeaning (plain_term t)) (map TermMeaning (map plain_term us)) (h.0 r) p),
-      λ q. (first_and_others ms (place_of id) (places_of xs) (TermMeaning (plain_term t)) (map TermMeaning (map plain_term us)) (k.1 q)).1,
-    )
+-- one step through numbers and what they should stand for: what is left decides Q still; and Q fails
+module _ {X : Type 0} {f : X → Meaning} {g : List X → List Meaning} (w : Listing f g) (ms : List (Option Meaning)) where
+  -- whether the numbers stand for the items decides Q
+  abbrev Decide : List NodeId → List X → Type 0 → Type 0
+  Decide ids xs Q = (all_found ms (places_of ids) ≡ Some (g xs)) ↔ Q
 
-pub next_wrong : (ms : List (Option Meaning)) (ids xs : List NodeId) (id : NodeId) (terms us : List Term) (t : Term) (Q : Type 0) (a : Bool) → ids ≡ id ∷ xs → terms ≡ t ∷ us → (a ≡ true) ↔ (found ms (place_of id) ≡ Some (TermMeaning (plain_term t))) → a ≡ false
-    → (all_found ms (places_of ids) ≡ Some (map TermMeaning (map plain_term terms))) ↔ Q → (false ≡ true) ↔ Q
-next_wrong ms ids xs id terms us t Q a e f h r g =
-    let T : List NodeId → List Term → Type 0 = λ ids terms. (all_found ms (places_of ids) ≡ Some (map TermMeaning (map plain_term terms))) ↔ Q in
-    let k : T (id ∷ xs) (t ∷ us) = subst (λ ids. T ids (t ∷ us)) e (subst (T ids) f g) in (
-      λ p. absurd (false≢true p),
-      λ q. absurd (false≢true (sym r ∙ h.1 (first_and_others ms (place_of id) (places_of xs) (TermMeaning (plain_term t)) (map TermMeaning (map plain_term us)) (k.1 q)).0)),
-    )
+  split_listed : (ids is : List NodeId) (id : NodeId) (xs ys : List X) (x : X) (Q : Type 0) → ids ≡ id ∷ is → xs ≡ x ∷ ys → Decide ids xs Q → (all_found ms (places_of (id ∷ is)) ≡ Some (f x ∷ g ys)) ↔ Q
+  split_listed ids is id xs ys x Q e d h =
+      let T : List NodeId → List Meaning → Type 0 = λ ids l. (all_found ms (places_of ids) ≡ Some l) ↔ Q in
+      subst (λ ids. T ids (f x ∷ g ys)) e (subst (T ids) (ap g d ∙ w.more x ys) h)
 
--- where none is left
-pub all_right : (ms : List (Option Meaning)) (ids : List NodeId) (terms : List Term) (Q : Type 0) → ids ≡ [] → terms ≡ [] → (all_found ms (places_of ids) ≡ Some (map TermMeaning (map plain_term terms))) ↔ Q → (true ≡ true) ↔ Q
-all_right ms ids terms Q e f g = (λ t. g.0 (ap (λ ids. all_found ms (places_of ids)) e ∙ ap (λ ts. Some (map TermMeaning (map plain_term ts))) (sym f)), λ q. refl)
+  pub next_right : (ids is : List NodeId) (id : NodeId) (xs ys : List X) (x : X) (Q : Type 0) (a : Bool) → ids ≡ id ∷ is → xs ≡ x ∷ ys → (a ≡ true) ↔ (found ms (place_of id) ≡ Some (f x)) → a ≡ true → Decide ids xs Q → Decide is ys Q
+  next_right ids is id xs ys x Q a e d h r k =
+      let t = split_listed ids is id xs ys x Q e d k in (
+        λ p. t.0 (all_of ms (place_of id) (places_of is) (f x) (g ys) (h.0 r) p),
+        λ q. (first_and_others ms (place_of id) (places_of is) (f x) (g ys) (t.1 q)).1,
+      )
+
+  pub next_wrong : (ids is : List NodeId) (id : NodeId) (xs ys : List X) (x : X) (Q : Type 0) (a : Bool) → ids ≡ id ∷ is → xs ≡ x ∷ ys → (a ≡ true) ↔ (found ms (place_of id) ≡ Some (f x)) → a ≡ false → Decide ids xs Q → (false ≡ true) ↔ Q
+  next_wrong ids is id xs ys x Q a e d h r k =
+      let t = split_listed ids is id xs ys x Q e d k in (
+        λ p. absurd (false≢true p),
+        λ q. absurd (false≢true (sym r ∙ h.1 (first_and_others ms (place_of id) (places_of is) (f x) (g ys) (t.1 q)).0)),
+      )
+
+  -- where none is left
+  pub all_right : (ids : List NodeId) (xs : List X) (Q : Type 0) → ids ≡ [] → xs ≡ [] → Decide ids xs Q → (true ≡ true) ↔ Q
+  all_right ids xs Q e d h = (λ t. h.0 (ap (λ ids. all_found ms (places_of ids)) e ∙ ap Some (sym (ap g d ∙ w.none))), λ q. refl)
 
 -- ---- labels
 -- equal labels of the program say the same
@@ -346,6 +361,25 @@ entity_type_is r l own ety e s = (
       e ∙ (bytes_eq-Decides (bytes_of_type own) (bytes_of_type ety)).1 same,
 )
 
+-- a label of some attributes: given says what these are
+pub record_of_is : (r : Bool) (l : Label) (own : AttrList) (given names fields : List (List ℕ)) → l ≡ RecordOf own → given ≡ texts (attributes_of own) → (r ≡ true) ↔ (given ≡ names) → names ≡ fields → (r ≡ true) ↔ (plain_label l ≡ RecordOfLabel fields)
+record_of_is r l own given names fields s k d e = (
+  λ h. ap plain_label s ∙ ap RecordOfLabel (sym k ∙ (d.0 h ∙ e)),
+  λ h.
+      let both : RecordOfLabel (texts (attributes_of own)) ≡ RecordOfLabel fields = sym (ap plain_label s) ∙ h in
+      let same : texts (attributes_of own) ≡ fields = cc in
+      d.1 (k ∙ (same ∙ sym e)),
+)
+
+pub record_type_is : (r : Bool) (l : Label) (own : AttrList) (given names fields : List (List ℕ)) → l ≡ TRecord own → given ≡ texts (attributes_of own) → (r ≡ true) ↔ (given ≡ names) → names ≡ fields → (r ≡ true) ↔ (plain_label l ≡ RecordLabel fields)
+record_type_is r l own given names fields s k d e = (
+  λ h. ap plain_label s ∙ ap RecordLabel (sym k ∙ (d.0 h ∙ e)),
+  λ h.
+      let both : RecordLabel (texts (attributes_of own)) ≡ RecordLabel fields = sym (ap plain_label s) ∙ h in
+      let same : texts (attributes_of own) ≡ fields = cc in
+      d.1 (k ∙ (same ∙ sym e)),
+)
+
 -- the same label, said otherwise
 pub at_label : (r : Bool) (l : Label) (u v : PlainTerm) → u ≡ v → (r ≡ true) ↔ (plain_label l ≡ term_label v) → (r ≡ true) ↔ (plain_label l ≡ term_label u)
 at_label r l u v e h = (λ t. h.0 t ∙ sym (ap term_label e), λ q. h.1 (q ∙ ap term_label e))
@@ -362,6 +396,14 @@ an_application : (l : Label) (o : PlainOp) → plain_label l ≡ ApplicationLabe
 an_application (App p) o h = (p, refl)
 an_application l o h = absurd (cc)
 
+a_record_type : (l : Label) (names : List (List ℕ)) → plain_label l ≡ RecordLabel names → (own : AttrList) × (l ≡ TRecord own)
+a_record_type (TRecord own) names h = (own, refl)
+a_record_type l names h = absurd (cc)
+
+a_record : (l : Label) (names : List (List ℕ)) → plain_label l ≡ RecordOfLabel names → (own : AttrList) × (l ≡ RecordOf own)
+a_record (RecordOf own) names h = (own, refl)
+a_record l names h = absurd (cc)
+
 a_literal : (l : Label) (p : PlainLiteral) → plain_label l ≡ LiteralLabel p → (q : TermPrim) × (l ≡ Prim q)
 a_literal (Prim q) p h = (q, refl)
 a_literal l p h = absurd (cc)
@@ -375,6 +417,12 @@ no_entity_type l name n = (λ h. absurd (false≢true h), λ h. (let (ety, e) = 
 
 pub no_application : (l : Label) (op : Op) → IsNoFunction op → (ts : PlainTerms) (t : PlainType) → ((p : Op) → l ≡ App p → ⊥) → (false ≡ true) ↔ (plain_label l ≡ term_label (Application (plain_op op) ts t))
 no_application l op d ts t n = (λ h. absurd (false≢true h), λ h. (let (p, e) = an_application l (plain_op op) (h ∙ app_label op d ts t) in absurd (n p e)))
+
+pub no_record_label : (l : Label) (names : List (List ℕ)) → ((own : AttrList) → l ≡ TRecord own → ⊥) → (false ≡ true) ↔ (plain_label l ≡ RecordLabel names)
+no_record_label l names n = (λ h. absurd (false≢true h), λ h. (let (own, e) = a_record_type l names h in absurd (n own e)))
+
+pub no_record : (l : Label) (names : List (List ℕ)) → ((own : AttrList) → l ≡ RecordOf own → ⊥) → (false ≡ true) ↔ (plain_label l ≡ RecordOfLabel names)
+no_record l names n = (λ h. absurd (false≢true h), λ h. (let (own, e) = a_record l names h in absurd (n own e)))
 
 pub no_literal : (l : Label) (p : PlainLiteral) → ((q : TermPrim) → l ≡ Prim q → ⊥) → (false ≡ true) ↔ (plain_label l ≡ LiteralLabel p)
 no_literal l p n = (λ h. absurd (false≢true h), λ h. (let (q, e) = a_literal l p h in absurd (n q e)))

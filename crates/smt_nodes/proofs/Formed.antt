@@ -1,18 +1,19 @@
 -- What a node stands for is formed where its label is and what its parts stand for is.
-use Rattle.std.proofs.Common.{◌≡◌, ℕ, ◌≤◌, List, [], ◌∷◌, map, Some, sym, ap, ◌∙◌, inl, inr, subst}
+use Rattle.std.proofs.Common.{◌≡◌, ℕ, ◌≤◌, List, [], ◌∷◌, map, Some, refl, sym, ap, ◌∙◌, inl, inr, subst}
 use Rattle.std.specs.List.{AllByRecursion}
-use Rattle.std.specs.Prelude.{Option, option_map, ⊤}
-use Rattle.smt_meaning.specs.Formed.{IsFormedLiteral, IsFormedType}
-use Rattle.smt_meaning.specs.Plain.{PlainType, OptionType, BitVecType, RecordType, SetType, UufOp, PlainTerm, Application, NoneTerm, LiteralTerm, RecordTerm, SetTerm, SomeTerm, VariableTerm, PlainTerms, no_terms, one_term, list_of_terms}
-use Rattle.smt_meaning.specs.Reached.{subterms, subterms_of_all}
+use Rattle.std.specs.Prelude.{IsTrue, Option, option_map, ⊤}
+use Rattle.smt_meaning.specs.Formed.{IsFormedHere, IsFormedLiteral, IsFormedType, attribute_names}
+use Rattle.smt_meaning.specs.ValueOrder.{ascends, text_cmp}
+use Rattle.smt_meaning.specs.Plain.{PlainType, OptionType, BitVecType, RecordType, SetType, AttributeTypes, no_attributes, attribute, UufOp, PlainTerm, Application, NoneTerm, LiteralTerm, RecordTerm, SetTerm, SomeTerm, VariableTerm, PlainTerms, no_terms, one_term, PlainFields, no_fields, one_field, list_of_terms}
+use Rattle.smt_meaning.specs.Reached.{subterms, subterms_of_all, subterms_of_fields, types_within, types_within_attributes}
 use Rattle.smt_meaning.proofs.Defaults.{all-join}
 use Rattle.smt_meaning.proofs.Soundness.{all-front, all-last}
 use Rattle.smt_graph.specs.Graphs.{IsGraph}
-use Rattle.smt_graph.specs.Meanings.{all_found, found, meaning_at, meaning_of, meanings, stands_for}
-use Rattle.smt_graph.specs.Nodes.{PlainLabel, BitVecLabel, RecordLabel, LiteralLabel, RecordOfLabel, PlainNode, Meaning, TypeMeaning, FunctionMeaning, TermMeaning}
-use Rattle.smt_graph.specs.Parts.{label_in, parts_in}
+use Rattle.smt_graph.specs.Meanings.{all_found, attributes_in, found, meaning_at, meaning_of, meanings, stands_for}
+use Rattle.smt_graph.specs.Nodes.{PlainLabel, BitVecLabel, RecordLabel, LiteralLabel, PlainNode, Meaning, TypeMeaning, FunctionMeaning, TermMeaning}
+use Rattle.smt_graph.specs.Parts.{field_terms, label_in, names_in, parts_in, type_label, type_parts, types_in}
 use Rattle.smt_graph.proofs.Growth.{Graph, by_nodes, empty, grown}
-use Rattle.smt_graph.proofs.Places.{found_split, map_back, meanings_grow, some_same, then_back}
+use Rattle.smt_graph.proofs.Places.{found_split, map_back, meanings_grow, only_back, some_same, then_back}
 use Rattle.smt_graph.proofs.Whole.{whole}
 use Rattle.smt_term.proofs.FormedTerms.{IsFormedBoth, formed_literal, formed_option, formed_set}
 use Rattle.smt_nodes.specs.View.{plain_label, plain_node}
@@ -20,12 +21,10 @@ use Rattle.smt_nodes.specs.declared.node.Label.{Label}
 use Rattle.smt_nodes.specs.declared.node.Label.TheVariants.{TBitvec, Prim}
 use Rattle.smt_nodes.specs.declared.node.Node.{Node}
 
--- a label as the program has it: no label of the program is a record's
+-- a label as the program has it
 abbrev IsFormedLabel : PlainLabel → Type 0
 IsFormedLabel (BitVecLabel n) = (1 ≤ n) × (n ≤ 128)
-IsFormedLabel (RecordLabel names) = ⊥
 IsFormedLabel (LiteralLabel l) = IsFormedLiteral l
-IsFormedLabel (RecordOfLabel names) = ⊥
 IsFormedLabel l = ⊤
 
 abbrev pub IsFormedMeaning : Meaning → Type 0
@@ -37,16 +36,34 @@ abbrev AreFormed : List Meaning → Type 0
 AreFormed ms = AllByRecursion IsFormedMeaning ms
 
 -- ---- one step, from the parts to the whole
-type_step : (t : PlainType) → IsFormedLabel (label_in (TypeMeaning t)) → AreFormed (parts_in (TypeMeaning t)) → IsFormedType t
-type_step (OptionType t) l h = formed_option t h.0
-type_step (BitVecType n) l h = (l, tt)
-type_step (RecordType x) l h = absurd l
-type_step (SetType t) l h = formed_set t h.0
-type_step t l h = (tt, tt)
+names_are : (x : AttributeTypes) → names_in x ≡ attribute_names x
+names_are no_attributes = refl
+names_are (attribute a t x) = ap (λ l. a ∷ l) (names_are x)
+
+attributes_step : (x : AttributeTypes) → AreFormed (types_in x) → AllByRecursion IsFormedHere (types_within_attributes x)
+attributes_step no_attributes h = tt
+attributes_step (attribute a t x) h = all-join IsFormedHere (types_within t) (types_within_attributes x) h.0 (attributes_step x h.1)
+
+-- the attributes of a record type that something stands for ascend
+attributes_ascend : (x : AttributeTypes) → stands_for (RecordLabel (names_in x)) (types_in x) ≡ Some (TypeMeaning (RecordType x)) → IsTrue (ascends text_cmp (attribute_names x))
+attributes_ascend x h =
+    let P : List (List ℕ) → Type 0 = λ l. IsTrue (ascends text_cmp l) in
+    subst P (names_are x) (only_back (ascends text_cmp (names_in x)) (option_map (λ x. TypeMeaning (RecordType x)) (attributes_in (names_in x) (types_in x))) (TypeMeaning (RecordType x)) h).0
+
+type_step : (t : PlainType) → stands_for (type_label t) (type_parts t) ≡ Some (TypeMeaning t) → IsFormedLabel (type_label t) → AreFormed (type_parts t) → IsFormedType t
+type_step (OptionType t) e l h = formed_option t h.0
+type_step (BitVecType n) e l h = (l, tt)
+type_step (RecordType x) e l h = all-join IsFormedHere (types_within_attributes x) _ (attributes_step x h) (attributes_ascend x e, tt)
+type_step (SetType t) e l h = formed_set t h.0
+type_step t e l h = (tt, tt)
 
 terms_step : (ts : PlainTerms) → AreFormed (map TermMeaning (list_of_terms ts)) → AllByRecursion IsFormedBoth (subterms_of_all ts)
 terms_step no_terms h = tt
 terms_step (one_term t ts) h = all-join IsFormedBoth (subterms t) (subterms_of_all ts) h.0 (terms_step ts h.1)
+
+fields_step : (x : PlainFields) → AreFormed (field_terms x) → AllByRecursion IsFormedBoth (subterms_of_fields x)
+fields_step no_fields h = tt
+fields_step (one_field a t x) h = all-join IsFormedBoth (subterms t) (subterms_of_fields x) h.0 (fields_step x h.1)
 
 -- a term's first part is its type, so that is formed
 term_step : (t : PlainTerm) → IsFormedLabel (label_in (TermMeaning t)) → AreFormed (parts_in (TermMeaning t)) → AllByRecursion IsFormedBoth (subterms t)
@@ -54,15 +71,15 @@ term_step (Application (UufOp f) ts t) l h = all-join IsFormedBoth (subterms_of_
 term_step (Application o ts t) l h = all-join IsFormedBoth (subterms_of_all ts) _ (terms_step ts h.1) ((tt, h.0), tt)
 term_step (NoneTerm t) l h = ((tt, h.0), tt)
 term_step (LiteralTerm x) l h = ((l, h.0), tt)
-term_step (RecordTerm x) l h = absurd l
+term_step (RecordTerm x) l h = all-join IsFormedBoth (subterms_of_fields x) _ (fields_step x h.1) ((tt, h.0), tt)
 term_step (SetTerm t ts) l h = all-join IsFormedBoth (subterms_of_all ts) _ (terms_step ts h.1) ((tt, h.0), tt)
 term_step (SomeTerm t) l h = all-join IsFormedBoth (subterms t) _ h.1.0 ((tt, h.0), tt)
 term_step (VariableTerm id t) l h = ((tt, h.0), tt)
 
-meaning_step : (m : Meaning) → IsFormedLabel (label_in m) → AreFormed (parts_in m) → IsFormedMeaning m
-meaning_step (TypeMeaning t) l h = type_step t l h
-meaning_step (FunctionMeaning f) l h = tt
-meaning_step (TermMeaning t) l h = term_step t l h
+meaning_step : (m : Meaning) → stands_for (label_in m) (parts_in m) ≡ Some m → IsFormedLabel (label_in m) → AreFormed (parts_in m) → IsFormedMeaning m
+meaning_step (TypeMeaning t) e l h = type_step t e l h
+meaning_step (FunctionMeaning f) e l h = tt
+meaning_step (TermMeaning t) e l h = term_step t l h
 
 -- ---- all nodes, each by those before it
 abbrev Formed : List (Option Meaning) → Type 0
@@ -82,7 +99,8 @@ node_formed : (ms : List (Option Meaning)) → Formed ms → (n : PlainNode) →
 node_formed ms w n l m h =
     let (ps, f, k) = then_back (stands_for n.label) (all_found ms n.parts) m h in
     let (same, parts) = whole n.label ps m k in
-    meaning_step m (subst IsFormedLabel same l) (subst AreFormed parts (all_formed ms w n.parts ps f))
+    let made : stands_for (label_in m) (parts_in m) ≡ Some m = sym (ap (λ l. stands_for l ps) same ∙ ap (stands_for (label_in m)) parts) ∙ k in
+    meaning_step m made (subst IsFormedLabel same l) (subst AreFormed parts (all_formed ms w n.parts ps f))
 
 graph_formed : (ns : List PlainNode) → Graph ns → AllByRecursion HasFormedLabel ns → Formed (meanings ns)
 graph_formed _ empty l i m h = absurd (cc)

@@ -1,25 +1,25 @@
 -- What nodes of terms stand for, by what their parts stand for.
-use Rattle.std.proofs.Common.{◌≡◌, ℕ, ◌+◌, ◌<◌, List, [], ◌∷◌, ◌++◌, add-one, get_or, length, map, take, true, refl, sym, ap, ◌∙◌}
-use Rattle.std.proofs.Math.Seq.{take-suc}
+use Rattle.std.proofs.Common.{◌≡◌, ℕ, ◌+◌, ◌<◌, List, [], ◌∷◌, ◌++◌, get_or, length, map, take, true, refl, sym, ap, ◌∙◌}
 use Rattle.std.proofs.lemmas.List.{append_assoc, map-append}
 use Rattle.std.specs.Bool.{then_some}
 use Rattle.std.specs.Prelude.{Result, Ok, Err, IfOk, Option, Some, option_and_then, option_map}
-use Rattle.smt_meaning.specs.Plain.{PlainFunction, PlainType, OptionType, SetType, PlainLiteral, PlainTerm, Application, NoneTerm, LiteralTerm, SetTerm, SomeTerm, UufOp, VariableTerm, terms}
+use Rattle.smt_meaning.specs.Plain.{PlainFunction, PlainType, OptionType, RecordType, SetType, AttributeTypes, PlainFields, PlainLiteral, PlainTerm, Application, NoneTerm, LiteralTerm, RecordTerm, SetTerm, SomeTerm, UufOp, VariableTerm, terms}
 use Rattle.smt_meaning.specs.TermOrder.{term_cmp}
-use Rattle.smt_meaning.specs.Types.{literal_type, type_eq, type_of}
-use Rattle.smt_meaning.specs.ValueOrder.{ascends}
+use Rattle.smt_meaning.specs.Types.{field_types, literal_type, type_eq, type_of}
+use Rattle.smt_meaning.specs.ValueOrder.{ascends, text_cmp}
 use Rattle.smt_meaning.proofs.TermTotal.{types_decided}
-use Rattle.smt_graph.specs.Meanings.{all_found, found, meaning_at, meanings, stands_for, terms_in, typed_as}
-use Rattle.smt_graph.specs.Nodes.{CallLabel, NoneLabel, LiteralLabel, SetOfLabel, SomeLabel, VariableLabel, PlainNode, Meaning, TypeMeaning, FunctionMeaning, TermMeaning}
+use Rattle.smt_graph.specs.Meanings.{all_found, attributes_in, fields_in, found, meaning_at, meanings, only_if, stands_for, terms_in, typed_as}
+use Rattle.smt_graph.specs.Parts.{field_names, field_terms, names_in, types_in}
+use Rattle.smt_graph.specs.Nodes.{RecordLabel, CallLabel, NoneLabel, LiteralLabel, RecordOfLabel, SetOfLabel, SomeLabel, VariableLabel, PlainNode, Meaning, TypeMeaning, FunctionMeaning, TermMeaning}
 use Rattle.smt_graph.proofs.Places.{map_back, some_same, test_back, then_back}
 use Rattle.smt_graph.proofs.Whole.{typed_back}
-use Rattle.smt_term.specs.View.{plain_op, plain_term}
-use Rattle.smt_term.specs.declared.term.Term.{Term}
+use Rattle.smt_term.specs.View.{plain_op}
 use Rattle.std.specs.declared.alloc.Global.{Global}
 use Rattle.std.specs.declared.rc.Rc.{Rc}
 use Rattle.smt_term.specs.declared.function.Uuf.{Uuf as Function}
 use Rattle.smt_term.specs.declared.op.Op.{Op}
 use Rattle.smt_term.specs.declared.op.Op.TheVariants.{And, Uuf}
+use Rattle.smt_nodes.proofs.RecordParts.{Listing, attributes_round, fields_round, listed-take}
 use Rattle.smt_nodes.specs.View.{place_of, places_of, plain_label}
 use Rattle.smt_nodes.specs.declared.id.NodeId.{NodeId}
 use Rattle.smt_nodes.specs.declared.node.Label.TheVariants.{App}
@@ -96,12 +96,17 @@ set_means t ts m h =
     let (b, c) = test_back (ascends term_cmp ts) (SetTerm t (terms ts)) u made in
     ap (λ u. Some (TermMeaning u)) c ∙ ap Some k
 
--- one number more, for the next term
-pub pushed : (ns : List PlainNode) (parts more : List NodeId) (part : NodeId) (ms : List Meaning) (ts : List Term) (i : ℕ) (t : Term) → more ≡ parts ++ part ∷ []
-    → all_found (meanings ns) (places_of parts) ≡ Some (ms ++ map TermMeaning (map plain_term (take i ts))) → meaning_at ns (place_of part) ≡ Some (TermMeaning (plain_term t)) → i < length ts → t ≡ get_or ts i t
-    → all_found (meanings ns) (places_of more) ≡ Some (ms ++ map TermMeaning (map plain_term (take (i + 1) ts)))
-pushed ns parts more part ms ts i t e h k b s =
-    let one : take (i + 1) ts ≡ take i ts ++ t ∷ [] = ap (λ n. take n ts) (add-one i) ∙ (take-suc ts i t b ∙ ap (λ t. take i ts ++ t ∷ []) (sym s)) in
-    let terms : map TermMeaning (map plain_term (take (i + 1) ts)) ≡ map TermMeaning (map plain_term (take i ts)) ++ TermMeaning (plain_term t) ∷ [] =
-    ap (λ l. map TermMeaning (map plain_term l)) one ∙ (ap (map TermMeaning) (map-append plain_term (take i ts) (t ∷ [])) ∙ map-append TermMeaning (map plain_term (take i ts)) (plain_term t ∷ [])) in
-    ap (all_found (meanings ns)) (ap places_of e ∙ map-append place_of parts (part ∷ [])) ∙ (more_found (meanings ns) (places_of parts) _ (place_of part) (TermMeaning (plain_term t)) h k ∙ (ap Some (append_assoc ms (map TermMeaning (map plain_term (take i ts))) (TermMeaning (plain_term t) ∷ [])) ∙ ap (λ l. Some (ms ++ l)) (sym terms)))
+pub record_type_means : (x : AttributeTypes) → ascends text_cmp (names_in x) ≡ true → stands_for (RecordLabel (names_in x)) (types_in x) ≡ Some (TypeMeaning (RecordType x))
+record_type_means x h =
+    ap (λ b. only_if b (option_map (λ x. TypeMeaning (RecordType x)) (attributes_in (names_in x) (types_in x)))) h ∙ ap (option_map (λ x. TypeMeaning (RecordType x))) (attributes_round x)
+
+pub record_means : (x : PlainFields) → ascends text_cmp (field_names x) ≡ true → stands_for (RecordOfLabel (field_names x)) (TypeMeaning (RecordType (field_types x)) ∷ field_terms x) ≡ Some (TermMeaning (RecordTerm x))
+record_means x h =
+    ap (option_and_then (typed_as (RecordType (field_types x)))) (ap (λ b. only_if b (option_map RecordTerm (fields_in (field_names x) (field_terms x)))) h ∙ ap (option_map RecordTerm) (fields_round x)) ∙ typed_right (RecordTerm x) (RecordType (field_types x)) refl
+
+-- one number more, for the next item
+pub pushed : {X : Type 0} {f : X → Meaning} {g : List X → List Meaning} → Listing f g → (ns : List PlainNode) (parts more : List NodeId) (part : NodeId) (ms : List Meaning) (xs : List X) (i : ℕ) (x : X) → more ≡ parts ++ part ∷ []
+    → all_found (meanings ns) (places_of parts) ≡ Some (ms ++ g (take i xs)) → meaning_at ns (place_of part) ≡ Some (f x) → i < length xs → x ≡ get_or xs i x
+    → all_found (meanings ns) (places_of more) ≡ Some (ms ++ g (take (i + 1) xs))
+pushed {f = f} {g = g} w ns parts more part ms xs i x e h k b s =
+    ap (all_found (meanings ns)) (ap places_of e ∙ map-append place_of parts (part ∷ [])) ∙ (more_found (meanings ns) (places_of parts) _ (place_of part) (f x) h k ∙ (ap Some (append_assoc ms (g (take i xs)) (f x ∷ [])) ∙ ap (λ l. Some (ms ++ l)) (sym (listed-take w xs i x b s))))

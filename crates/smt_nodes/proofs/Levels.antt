@@ -2,12 +2,15 @@
 use Rattle.std.proofs.Common.{◌≡◌, ℕ, List, [], ◌∷◌, true, refl, sym, ap, ◌∙◌}
 use Rattle.std.specs.Cmp.{Equal-is, nat_cmp_is}
 use Rattle.std.specs.Cmp.Lexicographic.{slice_cmp}
-use Rattle.std.specs.FinMap.{nat_cmp-IsAntisymmetric}
+use Rattle.std.specs.FinMap.{nat_cmp-IsAntisymmetric, slice_cmp-IsAntisymmetric}
 use Rattle.std.specs.Ordering.{is_eq, nat_cmp, ordering_then}
 use Rattle.std.specs.Rc.{rc_str_bytes}
+use Rattle.std.specs.declared.alloc.Global.{Global}
 use Rattle.std.specs.declared.cmp.Ordering.{Ordering}
 use Rattle.std.specs.declared.cmp.Ordering.TheVariants.{Equal}
+use Rattle.std.specs.declared.rc.RcStr.{RcStr}
 use Rattle.smt_bits.specs.Width.{bits_in}
+use Rattle.smt_characters.specs.SharedTexts.{texts}
 use Rattle.smt_meaning.specs.Plain.{PlainLiteral, PlainOp, LiteralTerm}
 use Rattle.smt_meaning.specs.TermOrder.{literal_cmp, op_cmp}
 use Rattle.smt_meaning.specs.ValueOrder.{text_cmp}
@@ -18,7 +21,8 @@ use Rattle.smt_leaves.specs.Entities.{bytes_of_type}
 use Rattle.smt_term.specs.declared.op.Op.{Op}
 use Rattle.smt_term.proofs.DerivedOrder.{literal_cmp-is, op_cmp-is}
 use Rattle.smt_term.specs.View.{plain_literal, plain_op}
-use Rattle.smt_graph.specs.Nodes.{BitVecLabel, EntityLabel, FunctionLabel, ApplicationLabel, LiteralLabel, VariableLabel, PlainNode}
+use Rattle.smt_graph.specs.Nodes.{BitVecLabel, EntityLabel, RecordLabel, FunctionLabel, ApplicationLabel, LiteralLabel, RecordOfLabel, VariableLabel, PlainNode}
+use Rattle.smt_nodes.specs.Attributes.{attributes_of}
 use Rattle.smt_nodes.specs.Order.{first_cmp, label_cmp}
 use Rattle.smt_nodes.specs.View.{ids_of, place_of, places_of, plain_label, plain_node}
 use Rattle.smt_nodes.specs.contracts.node.LabelOrd.TheImpl as label_order
@@ -27,16 +31,32 @@ use Rattle.smt_nodes.specs.contracts.node.NodeOrd.TheImpl as node_order
 use Rattle.smt_nodes.specs.contracts.table.KeyOrd.TheImpl as key_order
 use Rattle.smt_nodes.specs.declared.id.NodeId.{NodeId}
 use Rattle.smt_nodes.specs.declared.node.Label.{Label}
-use Rattle.smt_nodes.specs.declared.node.Label.TheVariants.{TOption, TBitvec, TBool, TEntity, TString, TSet, Fun, App, Call, NoneOf, Prim, SetOf, SomeOf, Var}
+use Rattle.smt_nodes.specs.declared.node.Label.TheVariants.{TOption, TBitvec, TBool, TEntity, TString, TRecord, TSet, Fun, App, Call, NoneOf, Prim, RecordOf, SetOf, SomeOf, Var}
 use Rattle.smt_nodes.specs.declared.node.Node.{Node}
 use Rattle.smt_nodes.specs.declared.table.Key.{Key}
+
+-- lists of texts compare by their bytes
+texts_cmp-is : (xs ys : List (RcStr Global)) → slice_cmp (λ x y. text_cmp (rc_str_bytes x) (rc_str_bytes y)) xs ys ≡ slice_cmp text_cmp (texts xs) (texts ys)
+texts_cmp-is [] [] = refl
+texts_cmp-is [] (y ∷ ys) = refl
+texts_cmp-is (x ∷ xs) [] = refl
+texts_cmp-is (x ∷ xs) (y ∷ ys) = ap (ordering_then (text_cmp (rc_str_bytes x) (rc_str_bytes y))) (texts_cmp-is xs ys)
+
+texts_same : (xs ys : List (List ℕ)) → slice_cmp text_cmp xs ys ≡ Equal → xs ≡ ys
+texts_same = slice_cmp-IsAntisymmetric text_same
+
+texts_itself : (xs : List (List ℕ)) → slice_cmp text_cmp xs xs ≡ Equal
+texts_itself [] = refl
+texts_itself (x ∷ xs) = ap (λ o. ordering_then o (slice_cmp text_cmp xs xs)) (text_itself x) ∙ texts_itself xs
 
 pub label_cmp-is : (l m : Label) → label_order.ghosts.cmp l m ≡ label_cmp (plain_label l) (plain_label m)
 label_cmp-is (TBitvec n) (TBitvec k) = refl
 label_cmp-is (TEntity e) (TEntity f) = refl
+label_cmp-is (TRecord a) (TRecord b) = texts_cmp-is (attributes_of a) (attributes_of b)
 label_cmp-is (Fun a) (Fun b) = refl
 label_cmp-is (App o) (App p) = op_cmp-is o p
 label_cmp-is (Prim a) (Prim b) = literal_cmp-is a b
+label_cmp-is (RecordOf a) (RecordOf b) = texts_cmp-is (attributes_of a) (attributes_of b)
 label_cmp-is (Var a) (Var b) = refl
 label_cmp-is l TOption = refl
 label_cmp-is l m = refl
@@ -51,9 +71,11 @@ app_first l k o e n = cc
 pub label_same : (l m : Label) → label_cmp (plain_label l) (plain_label m) ≡ Equal → plain_label l ≡ plain_label m
 label_same (TBitvec n) (TBitvec k) h = ap BitVecLabel (nat_cmp-IsAntisymmetric (bits_in n) (bits_in k) h)
 label_same (TEntity e) (TEntity f) h = ap EntityLabel (text_same (bytes_of_type e) (bytes_of_type f) h)
+label_same (TRecord a) (TRecord b) h = ap RecordLabel (texts_same (texts (attributes_of a)) (texts (attributes_of b)) h)
 label_same (Fun a) (Fun b) h = ap FunctionLabel (text_same (rc_str_bytes a) (rc_str_bytes b) h)
 label_same (App o) (App p) h = ap ApplicationLabel (op_same (plain_op o) (plain_op p) h)
 label_same (Prim a) (Prim b) h = ap LiteralLabel (literal_same (plain_literal a) (plain_literal b) h)
+label_same (RecordOf a) (RecordOf b) h = ap RecordOfLabel (texts_same (texts (attributes_of a)) (texts (attributes_of b)) h)
 label_same (Var a) (Var b) h = ap VariableLabel (text_same (rc_str_bytes a) (rc_str_bytes b) h)
 label_same TOption TOption h = refl
 label_same TBool TBool h = refl
@@ -77,9 +99,11 @@ op_itself o = (Equal-is (op_cmp o o)).0 ((ops_decided o o).1 refl)
 pub label_itself : (l : Label) → label_cmp (plain_label l) (plain_label l) ≡ Equal
 label_itself (TBitvec n) = nat_itself (bits_in n)
 label_itself (TEntity e) = text_itself (bytes_of_type e)
+label_itself (TRecord a) = texts_itself (texts (attributes_of a))
 label_itself (Fun a) = text_itself (rc_str_bytes a)
 label_itself (App o) = op_itself (plain_op o)
 label_itself (Prim a) = literal_itself (plain_literal a)
+label_itself (RecordOf a) = texts_itself (texts (attributes_of a))
 label_itself (Var a) = text_itself (rc_str_bytes a)
 label_itself l = refl
 

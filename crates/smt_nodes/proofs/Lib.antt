@@ -1,9 +1,13 @@
 pub mod Ascending
 pub mod Comparing
+pub mod ComparingRecords
 pub mod Finding
 pub mod Fitting
 pub mod Formed
 pub mod Interning
 pub mod Labels
 pub mod Levels
+pub mod Rebuilding
+pub mod RecordFitting
+pub mod RecordParts
 pub mod Tables

@@ -1,12 +1,13 @@
 -- What stands at a place, by its kind and its type.
 use Rattle.std.specs.List.{list_all}
-use Rattle.std.specs.Prelude.{ℕ, Bool, true, false, List, ◌∷◌, Option, Some, None, bytes_eq, is_some, nat_eq, option_and_then}
-use Rattle.smt_meaning.specs.Plain.{OptionType, PlainLiteral, BitVecLiteral, BoolLiteral, EntityLiteral, StringLiteral, PlainTerm}
+use Rattle.std.specs.Prelude.{◌≡◌, ℕ, Bool, true, false, ◌&&◌, List, [], ◌∷◌, Option, Some, None, bytes_eq, is_some, nat_eq, option_and_then}
+use Rattle.smt_meaning.specs.Plain.{PlainType, OptionType, RecordType, AttributeTypes, PlainLiteral, BitVecLiteral, BoolLiteral, EntityLiteral, StringLiteral, PlainTerm}
 use Rattle.smt_meaning.specs.TermOrder.{term_cmp}
 use Rattle.smt_meaning.specs.ValueOrder.{ascends}
 use Rattle.smt_meaning.specs.Types.{inner_type, is_set, literal_type, type_eq, type_of}
 use Rattle.smt_graph.specs.Meanings.{all_found, terms_in}
 use Rattle.smt_graph.specs.Fits.{is_term}
+use Rattle.smt_graph.specs.Parts.{names_in}
 use Rattle.smt_graph.specs.Nodes.{PlainLabel, OptionLabel, BitVecLabel, BoolLabel, EntityLabel, ExtensionLabel, StringLabel, RecordLabel, SetLabel, FunctionLabel, Meaning, TypeMeaning, FunctionMeaning, TermMeaning}
 
 -- labels of types, of functions and of terms
@@ -74,6 +75,24 @@ is_type_of_at l m = false
 abbrev pub is_option_of_at : Option Meaning → Option Meaning → Bool
 is_option_of_at (Some (TypeMeaning t)) (Some (TermMeaning u)) = type_eq (OptionType (type_of u)) t
 is_option_of_at m n = false
+
+-- it is the type of records of these attributes
+abbrev pub IsRecordAt : List (List ℕ) → Option Meaning → Type 0
+IsRecordAt names m = (x : AttributeTypes) × (m ≡ Some (TypeMeaning (RecordType x))) × (names ≡ names_in x)
+
+-- it is a term of this type; they are terms of these types, in order
+abbrev pub is_typed_at : PlainType → Option Meaning → Bool
+is_typed_at u (Some (TermMeaning t)) = type_eq (type_of t) u
+is_typed_at u m = false
+
+abbrev pub are_typed : List PlainType → List Meaning → Bool
+are_typed [] [] = true
+are_typed (u ∷ us) (TermMeaning t ∷ ms) = type_eq (type_of t) u && are_typed us ms
+are_typed us ms = false
+
+abbrev pub are_typed_at : List PlainType → Option (List Meaning) → Bool
+are_typed_at us None = false
+are_typed_at us (Some ms) = are_typed us ms
 
 -- there is a function, and there are terms behind it
 abbrev pub are_called : List Meaning → Bool

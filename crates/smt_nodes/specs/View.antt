@@ -2,7 +2,9 @@
 use Rattle.std.specs.Prelude.{ℕ, List, [], map}
 use Rattle.std.specs.Rc.{rc_slice_items, rc_str_bytes}
 use Rattle.smt_bits.specs.Width.{bits_in}
-use Rattle.smt_graph.specs.Nodes.{PlainLabel, OptionLabel, BitVecLabel, BoolLabel, EntityLabel, StringLabel, SetLabel, FunctionLabel, ApplicationLabel, CallLabel, NoneLabel, LiteralLabel, SetOfLabel, SomeLabel, VariableLabel, PlainNode}
+use Rattle.smt_graph.specs.Nodes.{PlainLabel, OptionLabel, BitVecLabel, BoolLabel, EntityLabel, StringLabel, RecordLabel, SetLabel, FunctionLabel, ApplicationLabel, CallLabel, NoneLabel, LiteralLabel, RecordOfLabel, SetOfLabel, SomeLabel, VariableLabel, PlainNode}
+use Rattle.smt_characters.specs.SharedTexts.{texts}
+use Rattle.smt_nodes.specs.Attributes.{attributes_of}
 use Rattle.smt_leaves.specs.Entities.{bytes_of_type}
 use Rattle.smt_term.specs.View.{plain_literal, plain_op}
 use Rattle.smt_nodes.specs.declared.id.IdList.{IdList}
@@ -10,7 +12,7 @@ use Rattle.smt_nodes.specs.declared.id.Items.{Items}
 use Rattle.smt_nodes.specs.declared.id.Items.TheVariants.{Empty, One, Two, Three, More}
 use Rattle.smt_nodes.specs.declared.id.NodeId.{NodeId}
 use Rattle.smt_nodes.specs.declared.node.Label.{Label}
-use Rattle.smt_nodes.specs.declared.node.Label.TheVariants.{TOption, TBitvec, TBool, TEntity, TString, TSet, Fun, App, Call, NoneOf, Prim, SetOf, SomeOf, Var}
+use Rattle.smt_nodes.specs.declared.node.Label.TheVariants.{TOption, TBitvec, TBool, TEntity, TString, TRecord, TSet, Fun, App, Call, NoneOf, Prim, RecordOf, SetOf, SomeOf, Var}
 use Rattle.smt_nodes.specs.declared.node.Node.{Node}
 
 abbrev pub place_of : NodeId → ℕ
@@ -36,12 +38,14 @@ plain_label (TBitvec n) = BitVecLabel (bits_in n)
 plain_label TBool = BoolLabel
 plain_label (TEntity e) = EntityLabel (bytes_of_type e)
 plain_label TString = StringLabel
+plain_label (TRecord names) = RecordLabel (texts (attributes_of names))
 plain_label TSet = SetLabel
 plain_label (Fun id) = FunctionLabel (rc_str_bytes id)
 plain_label (App o) = ApplicationLabel (plain_op o)
 plain_label Call = CallLabel
 plain_label NoneOf = NoneLabel
 plain_label (Prim literal) = LiteralLabel (plain_literal literal)
+plain_label (RecordOf names) = RecordOfLabel (texts (attributes_of names))
 plain_label SetOf = SetOfLabel
 plain_label SomeOf = SomeLabel
 plain_label (Var id) = VariableLabel (rc_str_bytes id)

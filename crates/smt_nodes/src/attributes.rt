@@ -1,6 +1,8 @@
 // Lists of the attributes of records.
 ghost use Rattle.std.specs.Prelude.{◌≡◌, ◌↔◌, [], IfOk, IsTrue, length};
 ghost use Rattle.smt_characters.specs.SharedTexts.{texts};
+ghost use Rattle.smt_leaves.specs.Pairs.{attributes_in};
+ghost use Rattle.smt_meaning.specs.ValueOrder.{ascends, text_cmp};
 ghost use Rattle.smt_nodes.specs.Attributes.{attributes_of};
 
 use smt_term::{Attr, TermError};
@@ -25,6 +27,19 @@ impl AttrList {
         let mut all = Vec::with_capacity(alloc, items.len())?;
         for item in items {
             all.push(share_text(item)?)?;
+        }
+        Ok(AttrList {
+            items: Rc::new(alloc, all)?,
+        })
+    }
+
+    // The list of the attributes of pairs, in their order.
+    pub(crate) fn of_pairs<T>(alloc: Global, pairs: &[(Attr, T)]) -> Result<AttrList, TermError>
+        ensures { IfOk result (λ list. texts (attributes_of list) ≡ attributes_in pairs.now) }
+    {
+        let mut all = Vec::with_capacity(alloc, pairs.len())?;
+        for (name, _) in pairs {
+            all.push(share_text(name)?)?;
         }
         Ok(AttrList {
             items: Rc::new(alloc, all)?,
@@ -62,5 +77,33 @@ impl AttrList {
         Ok(AttrList {
             items: self.items.clone()?,
         })
+    }
+}
+
+// Whether these are the attributes of the pairs, in their order.
+pub(crate) fn are_attributes_of<T>(names: &[Attr], pairs: &[(Attr, T)]) -> bool
+    ensures { IsTrue result ↔ (texts names.now ≡ attributes_in pairs.now) }
+{
+    if names.len() != pairs.len() {
+        return false;
+    }
+    for (name, (own, _)) in names.iter().zip(pairs) {
+        if name != own {
+            return false;
+        }
+    }
+    true
+}
+
+// Whether each attribute is less than the next one.
+pub(crate) fn are_in_order(names: &[Attr]) -> bool
+    ensures { result ≡ ascends text_cmp (texts names.now) }
+{
+    match names.split_first() {
+        Some((first, others)) => match others.split_first() {
+            Some((next, _)) => first.cmp(next).is_lt() && are_in_order(others),
+            None => true,
+        },
+        None => true,
     }
 }

@@ -2,16 +2,18 @@
 ghost use Rattle.std.specs.Prelude.{◌≡◌, ◌∷◌, ◌↔◌, [], IfNone, IfSome, IsTrue, Some, map};
 ghost use Rattle.smt_graph.specs.Meanings.{all_found, meanings};
 ghost use Rattle.smt_graph.specs.Nodes.{FunctionMeaning, TermMeaning, TypeMeaning};
-ghost use Rattle.smt_graph.specs.Parts.{label_in, parts_in, term_label, term_parts, type_label, type_parts};
-ghost use Rattle.smt_meaning.specs.Plain.{Application, OptionType, PlainTerms, PlainType, SetType, terms};
+ghost use Rattle.smt_graph.specs.Parts.{field_terms, label_in, parts_in, term_label, term_parts, type_label, type_parts, types_in};
+ghost use Rattle.smt_meaning.specs.Plain.{Application, OptionType, PlainTerms, PlainType, RecordType, SetType, terms};
+ghost use Rattle.smt_meaning.specs.Types.{field_types};
 ghost use Rattle.smt_nodes.specs.View.{places_of, plain_label};
-ghost use Rattle.smt_term.specs.View.{plain_function, plain_op, plain_term, plain_type};
+ghost use Rattle.smt_term.specs.View.{attribute_types, plain_attributes, plain_fields, plain_function, plain_op, plain_term, plain_type, record_fields};
 
+use crate::attributes::are_attributes_of;
 use crate::id::NodeId;
 use crate::interner::Interner;
 use crate::node::Label;
 use crate::subject::Subject;
-use smt_term::{Op, Term, TermType, Uuf};
+use smt_term::{Op, Term, TermMap, TermType, TypeMap, Uuf};
 
 impl Interner {
     ghost use Rattle.smt_nodes.specs.Interned.{meaning_in, nodes_of};
@@ -78,6 +80,9 @@ impl Interner {
             }
             Term::None(held) => self.stands_for_option(*ty, held) && inner.is_empty(),
             Term::Prim(literal) => self.is_type_of(*ty, literal) && inner.is_empty(),
+            Term::Record(fields) => {
+                self.stand_for_fields(inner, fields) && self.is_type_of_record(*ty, fields, inner)
+            }
             Term::Set { elts_ty, elts } => {
                 self.stands_for_set(*ty, elts_ty) && self.stand_for_terms(inner, elts.items())
             }
@@ -121,6 +126,37 @@ impl Interner {
             }
         }
         true
+    }
+
+    // Whether the numbers stand for the terms of the fields, in order.
+    #[cycle(find)]
+    fn stand_for_fields(&self, ids: &[NodeId], fields: &TermMap) -> bool
+        ensures { IsTrue result ↔ (all_found (meanings (nodes_of self.now)) (places_of ids.now) ≡ Some (field_terms (record_fields (plain_fields fields.now)))) }
+    {
+        let fields = fields.items();
+        if ids.len() != fields.len() {
+            return false;
+        }
+        for (id, (_, term)) in ids.iter().zip(fields) {
+            if !self.stands_for_term(*id, term) {
+                return false;
+            }
+        }
+        true
+    }
+
+    // Whether the number stands for the type of the record of the fields, for whose terms the others stand.
+    fn is_type_of_record(&self, ty: NodeId, fields: &TermMap, inner: &[NodeId]) -> bool
+        ensures { all_found (meanings (nodes_of self.now)) (places_of inner.now) ≡ Some (field_terms (record_fields (plain_fields fields.now))) →
+            IsTrue result ↔ (meaning_in self.now ty ≡ Some (TypeMeaning (RecordType (field_types (record_fields (plain_fields fields.now)))))) }
+    {
+        match self.label(ty) {
+            Some(Label::TRecord(names)) => {
+                are_attributes_of(names.items(), fields.items())
+                    && self.are_typed(inner, self.parts(ty))
+            }
+            _ => false,
+        }
     }
 
     // Whether the number stands for the function: it has the function's label, and its parts are those of the function.
@@ -185,8 +221,26 @@ impl Interner {
             TermType::Bool => parts.is_empty(),
             TermType::Entity { .. } => parts.is_empty(),
             TermType::String => parts.is_empty(),
+            TermType::Record { rty } => self.stand_for_types(parts, rty),
             TermType::Set { ty } => self.are_one_type(parts, ty),
         }
+    }
+
+    // Whether the numbers stand for the types of the attributes, in order.
+    #[cycle(types)]
+    fn stand_for_types(&self, ids: &[NodeId], types: &TypeMap) -> bool
+        ensures { IsTrue result ↔ (all_found (meanings (nodes_of self.now)) (places_of ids.now) ≡ Some (types_in (attribute_types (plain_attributes types.now)))) }
+    {
+        let attributes = types.items();
+        if ids.len() != attributes.len() {
+            return false;
+        }
+        for (id, (_, ty)) in ids.iter().zip(attributes) {
+            if !self.stands_for_type(*id, ty) {
+                return false;
+            }
+        }
+        true
     }
 
     // Whether there is one number, and it stands for the type.
@@ -212,6 +266,10 @@ impl Label {
             Term::None(_) => *self == Label::NoneOf,
             Term::Prim(literal) => match self {
                 Label::Prim(own) => own == literal,
+                _ => false,
+            },
+            Term::Record(fields) => match self {
+                Label::RecordOf(own) => are_attributes_of(own.items(), fields.items()),
                 _ => false,
             },
             Term::Set { .. } => *self == Label::SetOf,
@@ -259,6 +317,10 @@ impl Label {
                 _ => false,
             },
             TermType::String => *self == Label::TString,
+            TermType::Record { rty } => match self {
+                Label::TRecord(own) => are_attributes_of(own.items(), rty.items()),
+                _ => false,
+            },
             TermType::Set { .. } => *self == Label::TSet,
         }
     }

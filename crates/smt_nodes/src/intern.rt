@@ -1,17 +1,19 @@
 // Terms, functions and types of the program, entered as nodes.
-ghost use Rattle.std.specs.Prelude.{◌≡◌, ◌++◌, IfOk, List, Some, map};
+ghost use Rattle.std.specs.Prelude.{◌≡◌, ◌++◌, ◌∷◌, IfOk, List, Some, map};
 ghost use Rattle.smt_graph.specs.Meanings.{all_found, meanings, stands_for};
 ghost use Rattle.smt_graph.specs.Nodes.{FunctionMeaning, Meaning, TermMeaning, TypeMeaning};
 ghost use Rattle.smt_meaning.specs.Plain.{Application, PlainType, terms};
 ghost use Rattle.smt_meaning.specs.Types.{type_of};
 ghost use Rattle.smt_nodes.specs.View.{places_of, plain_label};
-ghost use Rattle.smt_term.specs.View.{plain_function, plain_op, plain_term, plain_type};
+ghost use Rattle.smt_graph.specs.Parts.{field_terms, types_in};
+ghost use Rattle.smt_term.specs.View.{attribute_types, plain_attributes, plain_fields, plain_function, plain_op, plain_term, plain_type, record_fields};
 
+use crate::attributes::AttrList;
 use crate::id::{IdList, NodeId};
 use crate::interner::Interner;
 use crate::node::{Label, Node};
 use crate::subject::Subject;
-use smt_term::{Op, Term, TermError, TermType, Uuf};
+use smt_term::{Op, Term, TermError, TermMap, TermType, TypeMap, Uuf};
 
 impl Interner {
     ghost use Rattle.smt_nodes.specs.Interned.{meaning_in, nodes_of, IsMeant, KeepsMeanings};
@@ -47,6 +49,11 @@ impl Interner {
             Term::App { op, args, .. } => self.intern_application(ty, op, args.items()),
             Term::None(_) => self.enter(Label::NoneOf, &[ty]),
             Term::Prim(literal) => self.enter(Label::Prim(literal.share()?), &[ty]),
+            Term::Record(fields) => {
+                let names = AttrList::of_pairs(self.alloc, fields.items())?;
+                let parts = self.intern_fields(ty, fields)?;
+                self.enter(Label::RecordOf(names), parts.as_slice())
+            }
             Term::Set { elts, .. } => {
                 let parts = self.intern_all(&[ty], elts.items())?;
                 self.enter(Label::SetOf, parts.as_slice())
@@ -101,6 +108,23 @@ impl Interner {
         Ok(parts)
     }
 
+    // The number of a record's type, and then those of the terms of its fields, in order.
+    #[cycle(intern)]
+    fn intern_fields(&mut self, ty: NodeId, fields: &TermMap) -> Result<Vec<NodeId>, TermError>
+        ensures meanings { (m : Meaning) → meaning_in self.old ty ≡ Some m →
+            IfOk result (λ parts. all_found (meanings (nodes_of self.new)) (places_of parts.items) ≡ Some (m ∷ field_terms (record_fields (plain_fields fields.now)))) }
+        ensures kept { KeepsMeanings self.old self.new }
+    {
+        let fields = fields.items();
+        let mut parts = Vec::new(self.alloc);
+        parts.push(ty)?;
+        for (_, term) in fields {
+            let part = self.intern(term)?;
+            parts.push(part)?;
+        }
+        Ok(parts)
+    }
+
     // The number that stands for the type of a term. Where the term holds its type or the inner one, no type is made.
     fn intern_type_of(&mut self, term: &Term) -> Result<NodeId, TermError>
         ensures meaning { IfOk result (λ id. meaning_in self.new id ≡ Some (TypeMeaning (type_of (plain_term term.now)))) }
@@ -117,7 +141,7 @@ impl Interner {
                 let inner = self.intern_type(elts_ty)?;
                 self.enter(Label::TSet, &[inner])
             }
-            Term::Some(_) => self.intern_type(&term.type_of(self.alloc)?),
+            Term::Record(_) | Term::Some(_) => self.intern_type(&term.type_of(self.alloc)?),
             Term::Var(variable) => self.intern_type(&variable.ty),
         }
     }
@@ -133,6 +157,7 @@ impl Interner {
     }
 
     // The number that stands for a type.
+    #[cycle(intern_types)]
     fn intern_type(&mut self, ty: &TermType) -> Result<NodeId, TermError>
         ensures meaning { IfOk result (λ id. meaning_in self.new id ≡ Some (TypeMeaning (plain_type ty.now))) }
         ensures kept { KeepsMeanings self.old self.new }
@@ -146,11 +171,31 @@ impl Interner {
             TermType::Bool => self.enter(Label::TBool, &[]),
             TermType::Entity { ety } => self.enter(Label::TEntity(ety.share()?), &[]),
             TermType::String => self.enter(Label::TString, &[]),
+            TermType::Record { rty } => {
+                let names = AttrList::of_pairs(self.alloc, rty.items())?;
+                let parts = self.intern_types(rty)?;
+                self.enter(Label::TRecord(names), parts.as_slice())
+            }
             TermType::Set { ty } => {
                 let inner = self.intern_type(ty)?;
                 self.enter(Label::TSet, &[inner])
             }
         }
+    }
+
+    // The numbers of the types of attributes, in order.
+    #[cycle(intern_types)]
+    fn intern_types(&mut self, types: &TypeMap) -> Result<Vec<NodeId>, TermError>
+        ensures meanings { IfOk result (λ parts. all_found (meanings (nodes_of self.new)) (places_of parts.items) ≡ Some (types_in (attribute_types (plain_attributes types.now)))) }
+        ensures kept { KeepsMeanings self.old self.new }
+    {
+        let attributes = types.items();
+        let mut parts = Vec::new(self.alloc);
+        for (_, ty) in attributes {
+            let part = self.intern_type(ty)?;
+            parts.push(part)?;
+        }
+        Ok(parts)
     }
 
     // The number of the node of a label and of parts. A node that is not there is entered, where it fits.

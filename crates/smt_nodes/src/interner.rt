@@ -2,20 +2,22 @@
 ghost use Rattle.std.specs.Prelude.{ℕ, List, ◌≡◌, ◌↔◌, ◌<◌, ◌≤◌, ◌^◌, [], Contains, IfNone, IfOk, IfSome, IsTrue, OnOk, Some, is_some, length, map, option_and_then, option_map, slice_get};
 ghost use Rattle.std.specs.List.{AllByRecursion, list_all};
 ghost use Rattle.smt_graph.specs.Fits.{applies_no_function, fits};
-ghost use Rattle.smt_graph.specs.Nodes.{ApplicationLabel, BitVecLabel, BoolLabel, CallLabel, EntityLabel, FunctionLabel, LiteralLabel, NoneLabel, OptionLabel, SetLabel, SetOfLabel, SomeLabel, StringLabel, VariableLabel};
-ghost use Rattle.smt_meaning.specs.Plain.{PlainOp};
+ghost use Rattle.smt_graph.specs.Nodes.{ApplicationLabel, BitVecLabel, BoolLabel, CallLabel, EntityLabel, FunctionLabel, LiteralLabel, NoneLabel, OptionLabel, RecordLabel, RecordOfLabel, SetLabel, SetOfLabel, SomeLabel, StringLabel, TypeMeaning, VariableLabel};
+ghost use Rattle.smt_characters.specs.SharedTexts.{texts};
+ghost use Rattle.smt_meaning.specs.Plain.{PlainOp, PlainType};
 ghost use Rattle.smt_graph.specs.Graphs.{IsGraph};
 ghost use Rattle.smt_graph.specs.Meanings.{all_found, meaning_at, meanings, stands_for};
 ghost use Rattle.smt_graph.specs.Parts.{label_in, parts_in};
 ghost use Rattle.smt_nodes.specs.Index.{IsIndex, IsKey};
-ghost use Rattle.smt_nodes.specs.Kinds.{are_called_at, ascend_at, is_function_at, is_option_at, is_option_of_at, is_set_at, is_term_at, is_type_at, is_type_of_at, terms_at};
+ghost use Rattle.smt_nodes.specs.Kinds.{are_called_at, are_typed_at, ascend_at, is_function_at, is_option_at, is_option_of_at, is_set_at, is_term_at, is_type_at, is_type_of_at, is_typed_at, terms_at, IsRecordAt};
 ghost use Rattle.smt_nodes.specs.View.{place_of, places_of, plain_label, plain_node};
 ghost use Rattle.smt_term.specs.View.{plain_literal, plain_op};
 
+use crate::attributes::are_in_order;
 use crate::id::NodeId;
 use crate::node::{Label, Node};
 use crate::table::{Key, Table};
-use smt_term::{Op, TermError, TermPrim};
+use smt_term::{Attr, Op, TermError, TermPrim};
 use std::alloc::Global;
 
 /// A list of nodes that each fit the nodes before it, and that each stand for something else.
@@ -120,12 +122,14 @@ impl Interner {
             Label::TBool => self.fits_alone(parts),
             Label::TEntity(_) => self.fits_alone(parts),
             Label::TString => self.fits_alone(parts),
+            Label::TRecord(names) => self.fits_record_type(names.items(), parts),
             Label::TSet => self.fits_around_type(parts),
             Label::Fun(_) => self.fits_function(parts),
             Label::App(op) => self.fits_operator(op, parts),
             Label::Call => self.fits_call(parts),
             Label::NoneOf => self.fits_none(parts),
             Label::Prim(literal) => self.fits_literal(literal, parts),
+            Label::RecordOf(names) => self.fits_record(names.items(), parts),
             Label::SetOf => self.fits_set(parts),
             Label::SomeOf => self.fits_some(parts),
             Label::Var(_) => self.fits_variable(parts),
@@ -202,6 +206,29 @@ impl Interner {
     {
         match ids.split_first() {
             Some((function, args)) => self.is_function(*function) && self.are_terms(args),
+            None => false,
+        }
+    }
+
+    // Whether these are the parts of a record type of these attributes.
+    fn fits_record_type(&self, names: &[Attr], parts: &[NodeId]) -> bool
+        ensures { result ≡ is_some (option_and_then (stands_for (RecordLabel (texts names.now))) (all_found (meanings (nodes_of self.now)) (places_of parts.now))) }
+    {
+        if names.len() != parts.len() {
+            return false;
+        }
+        are_in_order(names) && self.are_types(parts)
+    }
+
+    // Whether these are the parts of a record of these attributes: its type, and then a term for each attribute, of the type
+    // that this one has in the record's type. That the attributes ascend is known of the type.
+    fn fits_record(&self, names: &[Attr], parts: &[NodeId]) -> bool
+        ensures { result ≡ is_some (option_and_then (stands_for (RecordOfLabel (texts names.now))) (all_found (meanings (nodes_of self.now)) (places_of parts.now))) }
+    {
+        match parts.split_first() {
+            Some((ty, fields)) => {
+                self.is_record_type_of(*ty, names) && self.are_typed(fields, self.parts(*ty))
+            }
             None => false,
         }
     }
@@ -321,6 +348,54 @@ impl Interner {
             }
         }
         true
+    }
+
+    fn are_types(&self, ids: &[NodeId]) -> bool
+        ensures { result ≡ list_all (λ place. is_type_at (meaning_at (nodes_of self.now) place)) (places_of ids.now) }
+    {
+        for id in ids {
+            if !self.is_type(*id) {
+                return false;
+            }
+        }
+        true
+    }
+
+    // Whether it is the type of records of these attributes.
+    fn is_record_type_of(&self, ty: NodeId, names: &[Attr]) -> bool
+        ensures { IsTrue result ↔ IsRecordAt (texts names.now) (meaning_in self.now ty) }
+    {
+        match self.label(ty) {
+            Some(Label::TRecord(own)) => own.items() == names,
+            _ => false,
+        }
+    }
+
+    // Whether these are terms of these types, in order.
+    pub(crate) fn are_typed(&self, terms: &[NodeId], types: &[NodeId]) -> bool
+        ensures { (us : List PlainType) → all_found (meanings (nodes_of self.now)) (places_of types.now) ≡ Some (map TypeMeaning us) →
+            result ≡ are_typed_at us (all_found (meanings (nodes_of self.now)) (places_of terms.now)) }
+    {
+        match terms.split_first() {
+            Some((term, terms)) => match types.split_first() {
+                Some((ty, types)) => self.is_typed(*term, *ty) && self.are_typed(terms, types),
+                None => false,
+            },
+            None => types.is_empty(),
+        }
+    }
+
+    // Whether it is a term of this type.
+    fn is_typed(&self, term: NodeId, ty: NodeId) -> bool
+        ensures { (u : PlainType) → meaning_in self.now ty ≡ Some (TypeMeaning u) → result ≡ is_typed_at u (meaning_in self.now term) }
+    {
+        if !self.is_term(term) {
+            return false;
+        }
+        match self.parts(term) {
+            [own, ..] => *own == ty,
+            [] => false,
+        }
     }
 
     pub(crate) fn is_option(&self, id: NodeId) -> bool

@@ -13,6 +13,7 @@ mod interner;
 pub mod laws;
 mod node;
 mod order;
+mod rebuild;
 mod subject;
 mod table;
 

@@ -3,6 +3,7 @@ ghost use Rattle.std.specs.Prelude.{◌≡◌, IfOk};
 ghost use Rattle.smt_nodes.specs.View.{plain_label, plain_node};
 ghost use Rattle.smt_term.specs.View.{plain_literal};
 
+use crate::attributes::AttrList;
 use crate::id::IdList;
 use smt_bits::Width;
 use smt_term::{EntityType, Op, TermError, TermPrim, Text};
@@ -20,6 +21,8 @@ pub enum Label {
     TEntity(EntityType),
     /// The type of texts.
     TString,
+    /// The type of records of these attributes; its parts are their types, in the order of the attributes.
+    TRecord(AttrList),
     /// The type of finite sets; its part is the element type.
     TSet,
     /// An uninterpreted function of this id; its parts are its argument type and its output type.
@@ -33,6 +36,8 @@ pub enum Label {
     NoneOf,
     /// A literal; its part is its type.
     Prim(TermPrim),
+    /// A record of these attributes; its parts are its type and the attributes' terms, in the order of the attributes.
+    RecordOf(AttrList),
     /// A set; its parts are its type and its elements, in the order of terms.
     SetOf,
     /// An option that holds a term; its parts are its type and the term.
@@ -63,12 +68,14 @@ impl Label {
             | Label::TBool
             | Label::TEntity(_)
             | Label::TString
+            | Label::TRecord(_)
             | Label::TSet => true,
             Label::Fun(_)
             | Label::App(_)
             | Label::Call
             | Label::NoneOf
             | Label::Prim(_)
+            | Label::RecordOf(_)
             | Label::SetOf
             | Label::SomeOf
             | Label::Var(_) => false,
@@ -86,11 +93,13 @@ impl Label {
             | Label::TBool
             | Label::TEntity(_)
             | Label::TString
+            | Label::TRecord(_)
             | Label::TSet
             | Label::App(_)
             | Label::Call
             | Label::NoneOf
             | Label::Prim(_)
+            | Label::RecordOf(_)
             | Label::SetOf
             | Label::SomeOf
             | Label::Var(_) => false,
@@ -106,6 +115,7 @@ impl Label {
             | Label::Call
             | Label::NoneOf
             | Label::Prim(_)
+            | Label::RecordOf(_)
             | Label::SetOf
             | Label::SomeOf
             | Label::Var(_) => true,
@@ -114,6 +124,7 @@ impl Label {
             | Label::TBool
             | Label::TEntity(_)
             | Label::TString
+            | Label::TRecord(_)
             | Label::TSet
             | Label::Fun(_) => false,
         }
@@ -156,12 +167,14 @@ impl Label {
             Label::TBool => Label::TBool,
             Label::TEntity(ety) => Label::TEntity(ety.share()?),
             Label::TString => Label::TString,
+            Label::TRecord(names) => Label::TRecord(names.share()?),
             Label::TSet => Label::TSet,
             Label::Fun(id) => Label::Fun(id.clone()?),
             Label::App(op) => Label::App(op.share()?),
             Label::Call => Label::Call,
             Label::NoneOf => Label::NoneOf,
             Label::Prim(literal) => Label::Prim(literal.share()?),
+            Label::RecordOf(names) => Label::RecordOf(names.share()?),
             Label::SetOf => Label::SetOf,
             Label::SomeOf => Label::SomeOf,
             Label::Var(id) => Label::Var(id.clone()?),

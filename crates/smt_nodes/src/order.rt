@@ -1,20 +1,21 @@
 // The order of types, of functions and of terms, by their nodes.
 ghost use Rattle.std.specs.Prelude.{◌≡◌, IfSome, IsTrue, Some};
 ghost use Rattle.std.specs.Ordering.{nat_cmp};
-ghost use Rattle.smt_graph.specs.Nodes.{Meaning, SomeLabel, TermMeaning};
+ghost use Rattle.smt_graph.specs.Nodes.{Meaning, RecordOfLabel, SomeLabel, TermMeaning};
 ghost use Rattle.smt_meaning.specs.Plain.{PlainTerm};
 ghost use Rattle.smt_meaning.specs.TermOrder.{op_place, term_cmp};
 ghost use Rattle.smt_meaning.specs.ValueOrder.{ascends, is_below};
 ghost use Rattle.smt_graph.specs.Meanings.{meanings};
 ghost use Rattle.smt_nodes.specs.Kinds.{terms_at};
-ghost use Rattle.smt_nodes.specs.Order.{are_alike, difference_of, first_cmp, function_place, meaning_cmp, parts_apart};
+ghost use Rattle.smt_nodes.specs.Order.{are_alike, attributes_apart, difference_of, first_cmp, function_place, meaning_cmp, parts_apart};
 ghost use Rattle.smt_nodes.specs.View.{places_of, plain_label};
+ghost use Rattle.smt_characters.specs.SharedTexts.{texts};
 ghost use Rattle.smt_term.specs.View.{plain_op};
 
 use crate::id::NodeId;
 use crate::interner::Interner;
 use crate::node::Label;
-use smt_term::Op;
+use smt_term::{Attr, Op};
 use std::cmp::Ordering;
 
 /// Where two lists of numbers differ.
@@ -50,11 +51,21 @@ fn first_difference(xs: &[NodeId], ys: &[NodeId]) -> Difference
     }
 }
 
-/// The first difference of the parts of two nodes of one label, in the order in which terms compare them.
-fn parts_difference(label: &Label, xs: &[NodeId], ys: &[NodeId]) -> Difference
-    ensures { result ≡ parts_apart (plain_label label.now) xs.now ys.now }
+/// The first difference of the parts of two nodes whose labels leave them level, in the order in which terms compare them.
+fn parts_difference(first: &Label, second: &Label, xs: &[NodeId], ys: &[NodeId]) -> Difference
+    ensures { result ≡ parts_apart (plain_label first.now) (plain_label second.now) xs.now ys.now }
 {
-    match label {
+    match first {
+        Label::TRecord(names) => match second {
+            Label::TRecord(others) => {
+                attributes_difference(names.items(), others.items(), xs, ys)
+            }
+            _ => first_difference(xs, ys),
+        },
+        Label::RecordOf(names) => match second {
+            Label::RecordOf(others) => behind_type(names.items(), others.items(), xs, ys),
+            _ => first_difference(xs, ys),
+        },
         Label::App(_) | Label::Call | Label::SomeOf => type_last(xs, ys),
         Label::TOption
         | Label::TBitvec(_)
@@ -70,9 +81,59 @@ fn parts_difference(label: &Label, xs: &[NodeId], ys: &[NodeId]) -> Difference
     }
 }
 
+// The first difference of two records: of their attributes and of what stands for each, the attribute first.
+fn attributes_difference(
+    names: &[Attr],
+    others: &[Attr],
+    xs: &[NodeId],
+    ys: &[NodeId],
+) -> Difference
+    ensures { result ≡ attributes_apart (texts names.now) (texts others.now) xs.now ys.now }
+{
+    match names {
+        [] => match others {
+            [] => Difference::Nowhere,
+            [_, ..] => Difference::Length(Ordering::Less),
+        },
+        [name, names @ ..] => match others {
+            [] => Difference::Length(Ordering::Greater),
+            [other, others @ ..] => match xs {
+                [] => first_difference(xs, ys),
+                [x, later @ ..] => match ys {
+                    [] => first_difference(xs, ys),
+                    [y, ys @ ..] => match name.cmp(other) {
+                        Ordering::Less => Difference::Length(Ordering::Less),
+                        Ordering::Equal => {
+                            if x.place == y.place {
+                                attributes_difference(names, others, later, ys)
+                            } else {
+                                Difference::At(*x, *y)
+                            }
+                        }
+                        Ordering::Greater => Difference::Length(Ordering::Greater),
+                    },
+                },
+            },
+        },
+    }
+}
+
+// The same of two records, whose types go with their terms.
+fn behind_type(names: &[Attr], others: &[Attr], xs: &[NodeId], ys: &[NodeId]) -> Difference
+    ensures { result ≡ parts_apart (RecordOfLabel (texts names.now)) (RecordOfLabel (texts others.now)) xs.now ys.now }
+{
+    match xs {
+        [] => first_difference(xs, ys),
+        [_, fields @ ..] => match ys {
+            [] => first_difference(xs, ys),
+            [_, ys @ ..] => attributes_difference(names, others, fields, ys),
+        },
+    }
+}
+
 // The first difference of parts of which the first come last.
 fn type_last(xs: &[NodeId], ys: &[NodeId]) -> Difference
-    ensures { result ≡ parts_apart SomeLabel xs.now ys.now }
+    ensures { result ≡ parts_apart SomeLabel SomeLabel xs.now ys.now }
 {
     match xs {
         [] => first_difference(xs, ys),
@@ -98,6 +159,14 @@ fn compare_labels(first: &Label, second: &Label) -> Ordering
         },
         Label::Call => match second {
             Label::App(op) => beside_functions(op).reverse(),
+            _ => first.cmp(second),
+        },
+        Label::TRecord(_) => match second {
+            Label::TRecord(_) => Ordering::Equal,
+            _ => first.cmp(second),
+        },
+        Label::RecordOf(_) => match second {
+            Label::RecordOf(_) => Ordering::Equal,
             _ => first.cmp(second),
         },
         Label::TOption
@@ -145,6 +214,7 @@ fn beside_functions(op: &Op) -> Ordering
         | Op::Not
         | Op::OptionGet
         | Op::Or
+        | Op::RecordGet(_)
         | Op::SetInter
         | Op::SetMember
         | Op::SetSubset
@@ -188,6 +258,7 @@ impl Interner {
                     Ordering::Equal => {
                         match parts_difference(
                             &first.label,
+                            &second.label,
                             first.parts.items(),
                             second.parts.items(),
                         ) {

@@ -48,6 +48,7 @@ pub(crate) fn inner_type(alloc: Global, t: &Term) -> Result<Option<TermType>, Te
         | TermType::Bool
         | TermType::Entity { .. }
         | TermType::String
+        | TermType::Record { .. }
         | TermType::Set { .. } => Ok(None),
     }
 }

@@ -27,7 +27,7 @@ fn none_by_form(alloc: Global, t: &Term) -> Result<Option<Term>, TermError>
             Op::Ite => none_by_arguments(alloc, args),
             _ => Ok(None),
         },
-        Term::Prim(_) | Term::Set { .. } | Term::Var(_) => Ok(None),
+        Term::Prim(_) | Term::Record(_) | Term::Set { .. } | Term::Var(_) => Ok(None),
     }
 }
 

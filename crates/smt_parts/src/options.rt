@@ -31,7 +31,12 @@ pub fn held(t: &Term) -> Option<&Term>
 {
     match t {
         Term::Some(inner) => Some(&**inner),
-        Term::App { .. } | Term::None(_) | Term::Prim(_) | Term::Set { .. } | Term::Var(_) => None,
+        Term::App { .. }
+        | Term::None(_)
+        | Term::Prim(_)
+        | Term::Record(_)
+        | Term::Set { .. }
+        | Term::Var(_) => None,
     }
 }
 
@@ -41,6 +46,11 @@ pub fn is_none_term(t: &Term) -> bool
 {
     match t {
         Term::None(_) => true,
-        Term::App { .. } | Term::Prim(_) | Term::Set { .. } | Term::Some(_) | Term::Var(_) => false,
+        Term::App { .. }
+        | Term::Prim(_)
+        | Term::Record(_)
+        | Term::Set { .. }
+        | Term::Some(_)
+        | Term::Var(_) => false,
     }
 }

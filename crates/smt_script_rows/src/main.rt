@@ -1,11 +1,11 @@
-//! `smt_script_rows`: the scripts of terms over entity types, enum types and functions, for each row of the files in `data/`.
+//! `smt_script_rows`: the scripts of terms over entity types, enum types, record types and functions, for each row of the files in `data/`.
 //!
 //! What is printed is the row behind a `>` and the script that `Encoder::encode` gives for its terms, byte for byte. Where it
 //! refuses, that is what the sink has then, and a line such as `refused: EnumMissingMember Color::"z"`. `Encoder::encode_nodes`
 //! is to answer the same for numbers that stand for the terms; where it does not, its answer is printed too. `stdout` has
 //! scripts from outside.
 //!
-//! A row is words with a space between two. They enter enum types, and leave Boolean terms on a stack, of which the first
+//! A row is words with a space between two. They enter enum types, and leave terms that claim to be Boolean on a stack, of which the first
 //! one is asserted first.
 //!
 //! | Word | What it says |
@@ -16,10 +16,14 @@
 //! | `none:TYPE` | none of an option of this type |
 //! | `set:COUNT:TYPE` | the set of so many last terms, each of this type |
 //! | `call:ID:TYPE:TYPE` | an uninterpreted function at the last term, by its id, the type of its argument and that of its values |
+//! | `record:NAME,NAME` | the record of these attributes, with the last terms in order |
+//! | `get:NAME` | this attribute of the last term |
+//! | `get_of_nothing:NAME` | this attribute, of no term |
 //! | `byte:NUMBER`, `text:CHARACTERS`, `true` | a literal |
 //! | `some`, and the names of operators | as they say, of the last terms |
 //!
-//! A type is `bool`, `byte` of 8 bits, `string`, or `@NAME` of entities; `?TYPE` is that of options, and `*TYPE` that of sets.
+//! A type is `bool`, `byte` of 8 bits, `string`, `@NAME` of entities, or `%NAME=TYPE,NAME=TYPE` of records; `?TYPE` is that of
+//! options, and `*TYPE` that of sets.
 //! In a name, a member, an id and characters `\n`, `\r`, `\\`, `\"` and `\u{2ffff}` stand for a character, so `\u{20}` for a
 //! space and `\u{3a}` for a colon.
 #![tactic(auto)]
@@ -34,12 +38,13 @@ use std::fs;
 use std::io::{self, BufWriter, Write};
 
 /// The files of rows.
-const FILES: [&str; 7] = [
+const FILES: [&str; 8] = [
     "enums",
     "entities",
     "options",
     "sets",
     "functions",
+    "records",
     "characters",
     "refused",
 ];

@@ -8,7 +8,7 @@ use anyhow::Result;
 use smt_encode::{EncodeError, Encoder, Steps};
 use smt_nodes::{Interner, NodeId};
 use smt_script::ListSink;
-use smt_term::{Term, TermError};
+use smt_term::{Term, TermError, TermType};
 use smt_text::quote_id;
 use std::alloc::Global;
 use std::io::Write;
@@ -80,6 +80,14 @@ fn refusal(alloc: Global, error: &EncodeError) -> Result<String> {
         EncodeError::EncodeStringFailed(text) => {
             let text = quote_id(alloc, text.as_str())?;
             format!(in alloc; "EncodeStringFailed {text}")?
+        }
+        EncodeError::RecordMissingAttr(name) => {
+            let name = quote_id(alloc, name.as_str())?;
+            format!(in alloc; "RecordMissingAttr {name}")?
+        }
+        EncodeError::ExpectRecord(TermType::Entity { ety }) => {
+            let ety = ety.0.as_str();
+            format!(in alloc; "ExpectRecord {ety}")?
         }
         _ => format!(in alloc; "{error}")?,
     })

@@ -1,17 +1,42 @@
-//! Types as rows spell them: `@` and the name of an entity type, or the word of another type. A `?` before a type is for its
-//! options, and a `*` for its sets.
+//! Types as rows spell them: `@` and the name of an entity type, `%` and the attributes of a record type, or the word of another
+//! type. A `?` before a type is for its options, and a `*` for its sets. Between two attributes stands a comma, and between an
+//! attribute and its type `=`. An attribute's type is no record type.
 
 use crate::spelling::text;
-use anyhow::{Result, bail};
+use anyhow::{Context, Result, bail};
 use smt_bits::EIGHT;
-use smt_term::{EntityType, TermType};
+use smt_term::{Attr, EntityType, TermType, TypeMap};
 use std::alloc::Global;
 
 /// The type of this spelling.
 pub(crate) fn type_of(alloc: Global, spelling: &str) -> Result<TermType> {
     let inner = spelling.trim_start_matches(['?', '*']);
-    let mut ty = plain_type(alloc, inner)?;
+    let ty = match inner.strip_prefix('%') {
+        Some(attributes) => record_type(alloc, attributes)?,
+        None => plain_type(alloc, inner)?,
+    };
     let marks = spelling.strip_suffix(inner).unwrap_or("");
+    marked(alloc, marks, ty)
+}
+
+/// The type of records with these attributes.
+fn record_type(alloc: Global, attributes: &str) -> Result<TermType> {
+    let mut pairs: Vec<(Attr, TermType)> = Vec::new(alloc);
+    for attribute in attributes.split_terminator(',') {
+        let (name, spelling) = attribute.split_once('=').context("a name and a type")?;
+        let inner = spelling.trim_start_matches(['?', '*']);
+        let marks = spelling.strip_suffix(inner).unwrap_or("");
+        let ty = marked(alloc, marks, plain_type(alloc, inner)?)?;
+        pairs.push((text(alloc, name)?, ty))?;
+    }
+    Ok(TermType::Record {
+        rty: TypeMap::new(alloc, pairs.as_slice())?,
+    })
+}
+
+/// The type with these marks before it.
+fn marked(alloc: Global, marks: &str, inner: TermType) -> Result<TermType> {
+    let mut ty = inner;
     for mark in marks.chars().rev() {
         ty = match mark {
             '?' => TermType::option_of(alloc, ty)?,

@@ -5,7 +5,8 @@ use crate::types::type_of;
 use anyhow::{Context, Result, bail};
 use smt_bits::{BitVec, EIGHT};
 use smt_term::{
-    EntityID, EntityType, EntityUID, EnumTable, Op, Term, TermList, TermSet, TermType, TermVar, Uuf,
+    EntityID, EntityType, EntityUID, EnumTable, Op, Term, TermList, TermMap, TermSet, TermType,
+    TermVar, Uuf,
 };
 use std::alloc::Global;
 use std::rc::Rc;
@@ -19,7 +20,7 @@ pub(crate) struct Row {
     pub terms: Vec<Term>,
 }
 
-/// What these words say, which leave Boolean terms. A space stands between two words.
+/// What these words say, which leave terms that claim to be Boolean. A space stands between two words.
 pub(crate) fn read_row(alloc: Global, words: &str) -> Result<Row> {
     let mut enums = EnumTable::new(alloc);
     let mut terms = Vec::new(alloc);
@@ -33,7 +34,7 @@ pub(crate) fn read_row(alloc: Global, words: &str) -> Result<Row> {
         }
     }
     for term in terms.as_slice() {
-        if !term.has_type(&TermType::Bool) {
+        if term.type_of(alloc)? != TermType::Bool {
             bail!("the words leave a term that is not Boolean");
         }
     }
@@ -65,6 +66,9 @@ fn term(alloc: Global, terms: &mut Vec<Term>, head: &str, held: &str) -> Result<
         "some" => Term::Some(Rc::new(alloc, terms.pop().context("no term is left")?)?),
         "set" => set(alloc, terms, held)?,
         "call" => call(alloc, terms, held)?,
+        "record" => record(alloc, terms, held)?,
+        "get" => attribute(alloc, terms, held)?,
+        "get_of_nothing" => attribute_of(alloc, held, &[], TermType::Bool)?,
         _ => {
             let op = operator(head).context("no word has this head")?;
             applied(alloc, terms, op)?
@@ -114,6 +118,43 @@ fn call(alloc: Global, terms: &mut Vec<Term>, spelling: &str) -> Result<Term> {
     Ok(Term::App {
         op: Op::Uuf(Rc::new(alloc, function)?),
         args: TermList::new(alloc, args.as_slice())?,
+        ret_ty,
+    })
+}
+
+/// The record that has these attributes, with the last terms in order. A comma stands between two attributes.
+fn record(alloc: Global, terms: &mut Vec<Term>, spelling: &str) -> Result<Term> {
+    let mut names = Vec::new(alloc);
+    for name in spelling.split_terminator(',') {
+        names.push(text(alloc, name)?)?;
+    }
+    let fields = taken(terms, names.len())?;
+    let mut pairs = Vec::new(alloc);
+    for (name, field) in names.as_slice().iter().zip(fields.as_slice()) {
+        pairs.push((name.clone()?, field.share()?))?;
+    }
+    Ok(Term::Record(TermMap::new(alloc, pairs.as_slice())?))
+}
+
+/// This attribute of the last term, claimed as a truth value where the term does not have it.
+fn attribute(alloc: Global, terms: &mut Vec<Term>, spelling: &str) -> Result<Term> {
+    let record = terms.pop().context("no term is left")?;
+    let name = text(alloc, spelling)?;
+    let ty = match record.type_of(alloc)? {
+        TermType::Record { rty } => match rty.get(&name) {
+            Some(ty) => ty.share()?,
+            None => TermType::Bool,
+        },
+        _ => TermType::Bool,
+    };
+    attribute_of(alloc, spelling, &[record], ty)
+}
+
+/// The same of these terms, claimed as this type.
+fn attribute_of(alloc: Global, spelling: &str, args: &[Term], ret_ty: TermType) -> Result<Term> {
+    Ok(Term::App {
+        op: Op::RecordGet(text(alloc, spelling)?),
+        args: TermList::new(alloc, args)?,
         ret_ty,
     })
 }

@@ -3,3 +3,5 @@ pub mod Entered
 pub mod Members
 pub mod Numbered
 pub mod Patterned
+pub mod Places
+pub mod Records

@@ -1,8 +1,7 @@
--- The texts of the constructors of an entity type, and the place of a member.
-use Rattle.std.proofs.Common.{◌≡◌, ℕ, zero, suc, ◌+◌, ◌<◌, ◌≤◌, ◌^◌, Bool, true, false, ◌||◌, List, [], ◌∷◌, ◌++◌, length, drop, add-one, refl, sym, ap, ◌∙◌, append_assoc, append-nil, arith}
-use Rattle.std.specs.Prelude.{bytes_eq, codes, decimal, if◌then◌else◌}
-use Rattle.std.specs.List.{list_any}
-use Rattle.smt_lines.specs.EntryNames.{id_name, member_name, place_of}
+-- The texts of the constructors of an entity type.
+use Rattle.std.proofs.Common.{◌≡◌, ℕ, zero, suc, ◌+◌, ◌<◌, ◌≤◌, ◌^◌, List, [], ◌∷◌, ◌++◌, length, drop, add-one, refl, sym, ap, ◌∙◌, append_assoc, append-nil, arith}
+use Rattle.std.specs.Prelude.{codes, decimal}
+use Rattle.smt_lines.specs.EntryNames.{id_name, member_name}
 use Rattle.smt_lines.specs.Line.{spelled_constructor, Bare, Fielded}
 use Rattle.smt_lines.specs.LineForms.{member_constructors}
 use Rattle.smt_semantics.specs.Sorts.{string_sort}
@@ -41,32 +40,3 @@ nothing_from name n (suc i) (m ∷ ms) h = nothing_from name n i ms (omega (arit
 
 pub none_from : (name : List ℕ) (i : ℕ) (ms : List (List ℕ)) → length ms ≤ i → member_constructors name i (drop i ms) ≡ []
 none_from name i ms h = nothing_from name i i ms h
-
--- ---- the place of a text
-
--- The places of a text in a list, and among what is left of the list behind so many that differ.
-pub record Left (text : List ℕ) (i : ℕ) (all left : List (List ℕ)) : Type 0 where
-  pub place : place_of text all ≡ i + place_of text left
-  pub there : list_any (bytes_eq text) all ≡ list_any (bytes_eq text) left
-
-pub place_next : (text : List ℕ) (i : ℕ) (all left : List (List ℕ)) (x : List ℕ) (others : List (List ℕ)) → left ≡ x ∷ others → bytes_eq text x ≡ false → Left text i all left → Left text (i + 1) all others
-place_next text i all left x others is apart l =
-    let p : place_of text left ≡ suc (place_of text others) = ap (place_of text) is ∙ ap (λ b. if b then 0 else suc (place_of text others)) apart in
-    let t : list_any (bytes_eq text) left ≡ list_any (bytes_eq text) others = ap (list_any (bytes_eq text)) is ∙ rest (bytes_eq text x) apart in
-    let e = l.place in
-    record { place = omega (arith, e, p); there = l.there ∙ t }
-  where
-    rest : (b : Bool) → b ≡ false → (b || list_any (bytes_eq text) others) ≡ list_any (bytes_eq text) others
-    rest false h = refl
-    rest true h = cc
-
-pub place_here : (text : List ℕ) (i : ℕ) (all left : List (List ℕ)) (x : List ℕ) (others : List (List ℕ)) → left ≡ x ∷ others → bytes_eq text x ≡ true → Left text i all left → (i ≡ place_of text all) × (true ≡ list_any (bytes_eq text) all)
-place_here text i all left x others is same l =
-    let p : place_of text left ≡ 0 = ap (place_of text) is ∙ ap (λ b. if b then 0 else suc (place_of text others)) same in
-    let t : list_any (bytes_eq text) left ≡ true = ap (list_any (bytes_eq text)) is ∙ here (bytes_eq text x) same in
-    let e = l.place in
-    (omega (arith, e, p), sym (l.there ∙ t))
-  where
-    here : (b : Bool) → b ≡ true → (b || list_any (bytes_eq text) others) ≡ true
-    here true h = refl
-    here false h = cc

@@ -5,7 +5,7 @@ use Rattle.std.specs.Prelude.{codes, decimal}
 use Rattle.smt_meaning.specs.Plain.{ZeroExtendOp}
 use Rattle.smt_semantics.specs.Sorts.{bit_sort}
 use Rattle.smt_lines.specs.LineForms.{operator_head}
-use Rattle.smt_lines.specs.Lines.{bits, next_entity, next_function, next_term}
+use Rattle.smt_lines.specs.Lines.{bits, next_entity, next_function, next_record, next_term}
 use Rattle.smt_lines.specs.NameTables.{Tables}
 use Rattle.smt_lines.specs.Spelling.{numeral, spelled}
 use Rattle.smt_semantics.proofs.Numerals.{numerals_are_printed}
@@ -40,6 +40,11 @@ pub drawn_entity : (n : ℕ) (name : List ℕ) (s : Tables) → n < 2 ^ 63 → n
 drawn_entity n name s small count named =
     let e : numeral n ≡ decimal n = numerals_are_printed n (omega arith) in
     named ∙ ap (λ d. codes "E" ++ d) (sym e) ∙ ap (λ m. codes "E" ++ numeral m) count
+
+pub drawn_record : (n : ℕ) (name : List ℕ) (s : Tables) → n < 2 ^ 63 → n ≡ length s.types → name ≡ codes "R" ++ decimal n → name ≡ next_record s
+drawn_record n name s small count named =
+    let e : numeral n ≡ decimal n = numerals_are_printed n (omega arith) in
+    named ∙ ap (λ d. codes "R" ++ d) (sym e) ∙ ap (λ m. codes "R" ++ numeral m) count
 
 pub drawn_function : (n : ℕ) (name : List ℕ) (s : Tables) → n < 2 ^ 63 → n ≡ length s.functions → name ≡ codes "f" ++ decimal n → name ≡ next_function s
 drawn_function n name s small count named =

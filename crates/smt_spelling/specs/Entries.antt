@@ -16,7 +16,7 @@ use Rattle.smt_lines.specs.LineForms.{entity_body, variable_lines}
 use Rattle.smt_lines.specs.Lines.{bits}
 use Rattle.smt_lines.specs.Spelling.{spelled}
 use Rattle.smt_lines.specs.TermTexts.{bool_text, string_text}
-use Rattle.smt_spelling.specs.declared.entity.Datatype.{Datatype}
+use Rattle.smt_spelling.specs.declared.datatype.Datatype.{Datatype}
 use Rattle.smt_spelling.specs.declared.entry.Entry.{Entry}
 use Rattle.smt_spelling.specs.declared.entry.Entry.TheVariants.{Body, Constant, Name}
 

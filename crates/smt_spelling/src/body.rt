@@ -21,17 +21,32 @@ use smt_term::{Op, Text};
 use std::alloc::{AllocError, Global};
 
 /// The body of an application that is written by its operator, by the texts of its operands.
-pub fn application_body(
-    alloc: Global,
-    op: &Op,
-    mut operands: Vec<Text>,
-) -> Result<String, TextError>
+///
+/// # Errors
+/// `PatternFailed` exactly where the operator's pattern has a character above `SMT_LIB_MAX_CODE_POINT`.
+pub fn application_body(alloc: Global, op: &Op, operands: Vec<Text>) -> Result<String, TextError>
     ensures text { (es : List Expression) → AreSpelled es operands.items → IfOk result (λ text. string_bytes text ≡ spelled (application_body (operator_head (plain_op op.now)) (plain_op op.now) es)) }
     ensures fault { Finds text_fault (pattern_fault (plain_op op.now)) result }
 {
-    push_pattern(alloc, op, &mut operands)?;
     let head = head_text(alloc, op)?;
-    Ok(application_text(alloc, head.as_str(), operands.as_slice())?)
+    headed_body(alloc, head.as_str(), op, operands)
+}
+
+/// The body of an application that begins with this head, by the texts of its operands.
+///
+/// # Errors
+/// `PatternFailed` exactly where the operator's pattern has a character above `SMT_LIB_MAX_CODE_POINT`.
+pub fn headed_body(
+    alloc: Global,
+    head: &str,
+    op: &Op,
+    mut operands: Vec<Text>,
+) -> Result<String, TextError>
+    ensures text { (h : Expression) (es : List Expression) → head.now ≡ spelled h → AreSpelled es operands.items → IfOk result (λ text. string_bytes text ≡ spelled (application_body h (plain_op op.now) es)) }
+    ensures fault { Finds text_fault (pattern_fault (plain_op op.now)) result }
+{
+    push_pattern(alloc, op, &mut operands)?;
+    Ok(application_text(alloc, head, operands.as_slice())?)
 }
 
 /// The equality of an operand with the least number of a width, by the texts of the operands.

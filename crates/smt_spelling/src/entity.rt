@@ -1,5 +1,5 @@
 // Entity types and entities: their datatypes, and the entries of entities.
-ghost use Rattle.std.specs.Prelude.{◌≡◌, ◌++◌, ◌∷◌, [], IfOk, IfSome, OnOk, bytes_eq, codes, is_some, map, option_map};
+ghost use Rattle.std.specs.Prelude.{◌≡◌, ◌++◌, ◌∷◌, [], IfOk, IfSome, bytes_eq, codes, is_some, map, option_map};
 ghost use Rattle.std.specs.List.{list_any};
 ghost use Rattle.std.specs.Rc.{rc_str_bytes};
 ghost use Rattle.std.specs.String.{string_bytes};
@@ -11,34 +11,17 @@ ghost use Rattle.smt_lines.specs.Line.{spelled_constructor, spelled_lines, Bare}
 ghost use Rattle.smt_lines.specs.LineForms.{comma_separated, entity_body, entity_constructors, entity_lines, member_constructors};
 ghost use Rattle.smt_lines.specs.EntryNames.{member_name, place_of};
 ghost use Rattle.smt_lines.specs.Spelling.{spelled};
-ghost use Rattle.smt_script.specs.Sink.{Puts};
 ghost use Rattle.smt_spelling.specs.Entries as stated;
 ghost use Rattle.smt_spelling.specs.Entries.{datatype_bytes, SaysEntry};
 ghost use Rattle.smt_spelling.specs.TextFaults.{text_fault, Finds};
 
+use crate::datatype::{Datatype, push_commas};
 use crate::entry::Entry;
 use crate::error::TextError;
+use crate::record::attribute_place;
 use crate::spell::{application_text, string_literal};
-use smt_script::{Sink, SinkError, SmtLibScript};
 use smt_term::{EntityType, EntityUID, Text, TextSet};
 use std::alloc::{AllocError, Global};
-
-/// The datatype by which a type is declared.
-#[derive(Drop)]
-pub struct Datatype {
-    comment: String,
-    constructors: Vec<Text>,
-}
-
-impl Datatype {
-    /// Puts its lines under a name.
-    pub fn put<S: Sink>(&self, script: &mut S, name: &str) -> Result<(), SinkError>
-        ensures { Puts S.contents S.faults S.has_room S.place script.old script.new (datatype_bytes self.now name.now) result }
-    {
-        script.comment(self.comment.as_str())?;
-        script.declare_datatype(name, &[], self.constructors.as_slice())
-    }
-}
 
 /// The datatype of an entity type under a name: of an enum type, by its members, a constructor for each of them, and of
 /// another type one with the id.
@@ -90,19 +73,6 @@ fn enum_comment(alloc: Global, ety: &EntityType, members: &TextSet) -> Result<St
     push_commas(&mut comment, members.items())?;
     comment.push(']')?;
     Ok(comment)
-}
-
-/// Appends texts with a comma and a space between each two.
-fn push_commas(text: &mut String, pieces: &[Text]) -> Result<(), AllocError>
-    ensures { OnOk result (string_bytes text.new ≡ string_bytes text.old ++ comma_separated (texts pieces.now)) }
-{
-    let mut gap = "";
-    for piece in pieces {
-        text.push_str(gap)?;
-        text.push_str(piece.as_str())?;
-        gap = ", ";
-    }
-    Ok(())
 }
 
 /// `(E0_m0)`, `(E0_m1)` and so on, a constructor for each member.
@@ -173,12 +143,5 @@ fn place_in(set: &TextSet, text: &Text) -> Option<usize>
     ensures place { IfSome result (λ place. place ≡ place_of (rc_str_bytes text.now) (texts_of set.now)) }
     ensures some { is_some result ≡ list_any (bytes_eq (rc_str_bytes text.now)) (texts_of set.now) }
 {
-    let mut place = 0;
-    for item in set.items() {
-        if text == item {
-            return Some(place);
-        }
-        place += 1;
-    }
-    None
+    attribute_place(set.items(), text)
 }

@@ -5,20 +5,24 @@
 #![tactic(auto, using(smt_term::specs::View::views))]
 
 mod body;
+mod datatype;
 mod entity;
 mod entry;
 mod error;
 mod literal;
 mod pattern;
+mod record;
 mod spell;
 
-pub use body::{application_body, least_body};
-pub use entity::{Datatype, entity_datatype, entity_entry};
+pub use body::{application_body, headed_body, least_body};
+pub use datatype::Datatype;
+pub use entity::{entity_datatype, entity_entry};
 pub use entry::Entry;
 pub use error::{SMT_LIB_MAX_CODE_POINT, TextError};
 pub use literal::literal_text;
 pub use pattern::pattern_text;
+pub use record::{attribute_name, attribute_place, record_datatype, record_text};
 pub use spell::{
     application_text, as_text, bits_literal, bits_sort, call_text, entity_name, function_name,
-    option_sort, set_sort, set_text, some_text, string_literal, term_name,
+    head_text, option_sort, record_name, set_sort, set_text, some_text, string_literal, term_name,
 };

@@ -41,6 +41,13 @@ pub fn entity_name(alloc: Global, place: usize) -> Result<Text, AllocError>
     Text::from_string(format!(in alloc; "E{place}")?)
 }
 
+/// `Rk`, the name of the datatype of a record type, where k named sorts are there already.
+pub fn record_name(alloc: Global, place: usize) -> Result<Text, AllocError>
+    ensures { IfOk result (λ name. rc_str_bytes name ≡ codes "R" ++ decimal place) }
+{
+    Text::from_string(format!(in alloc; "R{place}")?)
+}
+
 /// `fj`, the name of a function, where j functions are there already.
 pub fn function_name(alloc: Global, place: usize) -> Result<Text, AllocError>
     ensures { IfOk result (λ name. rc_str_bytes name ≡ codes "f" ++ decimal place) }

@@ -1,17 +1,20 @@
 -- The program's terms are formed.
-use Rattle.std.proofs.Common.{List, [], ◌∷◌}
+use Rattle.std.proofs.Common.{ℕ, List, [], ◌∷◌, IsTrue, refl}
+use Rattle.std.specs.Cmp.{first_so, second_so}
+use Rattle.std.specs.Cmp.Derive.{both_true}
 use Rattle.std.specs.List.{AllByRecursion}
 use Rattle.std.proofs.lemmas.Str.{IsUtf8-string_bytes}
-use Rattle.smt_meaning.specs.Formed.{IsFormed, IsFormedHere, IsFormedLiteral, IsFormedNode, IsFormedType}
+use Rattle.smt_meaning.specs.Formed.{attribute_names, IsFormed, IsFormedHere, IsFormedLiteral, IsFormedNode, IsFormedType}
 use Rattle.smt_meaning.specs.Plain.{PlainType, OptionType, SetType, PlainTerm, Application, NoneTerm, LiteralTerm, RecordTerm, SetTerm, SomeTerm, VariableTerm}
 use Rattle.smt_term.specs.Program.{TermsAreFormed}
-use Rattle.smt_meaning.specs.Reached.{subterms, subterms_of_all, subterms_of_fields, types_within}
-use Rattle.smt_meaning.specs.Types.{literal_type, type_of}
-use Rattle.smt_term.specs.View.{plain_literal, plain_row, plain_term, plain_type}
-use Rattle.smt_term.specs.declared.term.Term.{Term, App', None, Prim, Set', Some', Var, Row_of-Term, end_of-Term, more_of-Term}
+use Rattle.smt_meaning.specs.Reached.{subterms, subterms_of_all, subterms_of_fields, types_within, types_within_attributes}
+use Rattle.smt_meaning.specs.Types.{field_types, literal_type, type_of}
+use Rattle.smt_meaning.specs.ValueOrder.{ascends, is_below, text_cmp}
+use Rattle.smt_term.specs.View.{attributes_of, plain_literal, plain_named, plain_row, plain_term, plain_type, plain_types}
+use Rattle.smt_term.specs.declared.term.Term.{Term, App', None, Prim, Record', Set', Some', Var, Row_of-Term, end_of-Term, more_of-Term}
 use Rattle.smt_term.specs.declared.term.TermPrim.{TermPrim}
 use Rattle.smt_term.specs.declared.term.TermPrim.TheVariants.{Bitvec as BitsLiteral, Bool as TruthLiteral, Entity as EntityOf, String as TextLiteral}
-use Rattle.smt_term.specs.declared.types.TermType.{TermType, Option', Bitvec, Bool, Entity, String, Set' as SetOf'}
+use Rattle.smt_term.specs.declared.types.TermType.{TermType, Option', Bitvec, Bool, Entity, String, Record' as RecordOf', Set' as SetOf', Row_of-TermType, end_of-TermType, more_of-TermType}
 use Rattle.smt_meaning.proofs.Defaults.{all-join}
 use Rattle.smt_meaning.proofs.Soundness.{all-last}
 
@@ -36,14 +39,36 @@ own (SetTerm t ts) h = (all-last IsFormedBoth (subterms_of_all ts) (SetTerm t ts
 own (SomeTerm t) h = (all-last IsFormedBoth (subterms t) (SomeTerm t) h).1
 own (VariableTerm id t) h = h.0.1
 
-formed_type : (t : TermType) → IsFormedType (plain_type t)
-unfolding plain_type
-formed_type (Option' p t) = formed_option (plain_type t) (formed_type t)
-formed_type (Bitvec n) = ((n.at_least_one, n.at_most_128), tt)
-formed_type Bool = (tt, tt)
-formed_type (Entity e) = (tt, tt)
-formed_type String = (tt, tt)
-formed_type (SetOf' p t) = formed_set (plain_type t) (formed_type t)
+-- where attributes ascend, those of the types beside them do
+below_first : {m : _} (n : List ℕ) (ns : List (List ℕ)) (row : Row_of-TermType m) → IsTrue (is_below text_cmp n ns) → IsTrue (is_below text_cmp n (attribute_names (plain_types ns row)))
+unfolding plain_types
+below_first n [] row h = refl
+below_first n (k ∷ ks) end_of-TermType h = refl
+below_first n (k ∷ ks) (more_of-TermType t rest) h = h
+
+attributes_ascend : {m : _} (ns : List (List ℕ)) (row : Row_of-TermType m) → IsTrue (ascends text_cmp ns) → IsTrue (ascends text_cmp (attribute_names (plain_types ns row)))
+unfolding plain_types
+attributes_ascend [] row h = refl
+attributes_ascend (n ∷ ns) end_of-TermType h = refl
+attributes_ascend (n ∷ ns) (more_of-TermType t rest) h =
+    both_true (below_first n ns rest (first_so (is_below text_cmp n ns) (ascends text_cmp ns) h)) (attributes_ascend ns rest (second_so (is_below text_cmp n ns) (ascends text_cmp ns) h))
+
+mutual
+  unfolding plain_type plain_types
+
+  formed_type : (t : TermType) → IsFormedType (plain_type t)
+  formed_type (Option' p t) = formed_option (plain_type t) (formed_type t)
+  formed_type (Bitvec n) = ((n.at_least_one, n.at_most_128), tt)
+  formed_type Bool = (tt, tt)
+  formed_type (Entity e) = (tt, tt)
+  formed_type String = (tt, tt)
+  formed_type (RecordOf' shape row) = all-join IsFormedHere (types_within_attributes (plain_types (attributes_of shape) row)) _ (formed_types (attributes_of shape) row) (attributes_ascend (attributes_of shape) row shape.ascending, tt)
+  formed_type (SetOf' p t) = formed_set (plain_type t) (formed_type t)
+
+  formed_types : {m : _} (ns : List (List ℕ)) (row : Row_of-TermType m) → AllByRecursion IsFormedHere (types_within_attributes (plain_types ns row))
+  formed_types [] row = tt
+  formed_types (n ∷ ns) end_of-TermType = tt
+  formed_types (n ∷ ns) (more_of-TermType t rest) = all-join IsFormedHere (types_within (plain_type t)) (types_within_attributes (plain_types ns rest)) (formed_type t) (formed_types ns rest)
 
 pub formed_literal : (l : TermPrim) → IsFormedLiteral (plain_literal l) × IsFormedType (literal_type (plain_literal l))
 formed_literal (BitsLiteral b) = (b.below_width, ((b.width.at_least_one, b.width.at_most_128), tt))
@@ -51,13 +76,30 @@ formed_literal (TruthLiteral b) = (tt, (tt, tt))
 formed_literal (EntityOf e) = (IsUtf8-string_bytes e.id.0.text.value, (tt, tt))
 formed_literal (TextLiteral s) = (IsUtf8-string_bytes s.text.value, (tt, tt))
 
+-- the same of terms beside attributes
+first_below : {m : _} (n : List ℕ) (ns : List (List ℕ)) (row : Row_of-Term m) → IsTrue (is_below text_cmp n ns) → IsTrue (is_below text_cmp n (attribute_names (field_types (plain_named ns row))))
+unfolding plain_named
+first_below n [] row h = refl
+first_below n (k ∷ ks) end_of-Term h = refl
+first_below n (k ∷ ks) (more_of-Term t rest) h = h
+
+fields_ascend : {m : _} (ns : List (List ℕ)) (row : Row_of-Term m) → IsTrue (ascends text_cmp ns) → IsTrue (ascends text_cmp (attribute_names (field_types (plain_named ns row))))
+unfolding plain_named
+fields_ascend [] row h = refl
+fields_ascend (n ∷ ns) end_of-Term h = refl
+fields_ascend (n ∷ ns) (more_of-Term t rest) h =
+    both_true (first_below n ns rest (first_so (is_below text_cmp n ns) (ascends text_cmp ns) h)) (fields_ascend ns rest (second_so (is_below text_cmp n ns) (ascends text_cmp ns) h))
+
 mutual
-  unfolding plain_term plain_row
+  unfolding plain_term plain_row plain_named
 
   formed_term : (t : Term) → AllByRecursion IsFormedBoth (subterms (plain_term t))
   formed_term (App' op p shape row type) = all-join IsFormedBoth (subterms_of_all (plain_row row)) _ (formed_row row) ((tt, formed_type type), tt)
   formed_term (None type) = ((tt, formed_option (plain_type type) (formed_type type)), tt)
   formed_term (Prim literal) = (formed_literal literal, tt)
+  formed_term (Record' shape row) =
+      all-join IsFormedBoth (subterms_of_fields (plain_named (attributes_of shape) row)) _ (formed_fields (attributes_of shape) row)
+      ((tt, all-join IsFormedHere (types_within_attributes (field_types (plain_named (attributes_of shape) row))) _ (formed_field_types (attributes_of shape) row) (fields_ascend (attributes_of shape) row shape.ascending, tt)), tt)
   formed_term (Set' element p shape row) = all-join IsFormedBoth (subterms_of_all (plain_row row)) _ (formed_row row) ((tt, formed_set (plain_type element) (formed_type element)), tt)
   formed_term (Some' p t) = all-join IsFormedBoth (subterms (plain_term t)) _ (formed_term t) ((tt, formed_option (type_of (plain_term t)) (own (plain_term t) (formed_term t))), tt)
   formed_term (Var v) = ((tt, formed_type v.ty), tt)
@@ -65,6 +107,17 @@ mutual
   formed_row : {m : _} (row : Row_of-Term m) → AllByRecursion IsFormedBoth (subterms_of_all (plain_row row))
   formed_row end_of-Term = tt
   formed_row (more_of-Term t rest) = all-join IsFormedBoth (subterms (plain_term t)) (subterms_of_all (plain_row rest)) (formed_term t) (formed_row rest)
+
+  formed_fields : {m : _} (ns : List (List ℕ)) (row : Row_of-Term m) → AllByRecursion IsFormedBoth (subterms_of_fields (plain_named ns row))
+  formed_fields [] row = tt
+  formed_fields (n ∷ ns) end_of-Term = tt
+  formed_fields (n ∷ ns) (more_of-Term t rest) = all-join IsFormedBoth (subterms (plain_term t)) (subterms_of_fields (plain_named ns rest)) (formed_term t) (formed_fields ns rest)
+
+  formed_field_types : {m : _} (ns : List (List ℕ)) (row : Row_of-Term m) → AllByRecursion IsFormedHere (types_within_attributes (field_types (plain_named ns row)))
+  formed_field_types [] row = tt
+  formed_field_types (n ∷ ns) end_of-Term = tt
+  formed_field_types (n ∷ ns) (more_of-Term t rest) =
+      all-join IsFormedHere (types_within (type_of (plain_term t))) (types_within_attributes (field_types (plain_named ns rest))) (own (plain_term t) (formed_term t)) (formed_field_types ns rest)
 
 nodes : (ts : List PlainTerm) → AllByRecursion IsFormedBoth ts → AllByRecursion IsFormedNode ts
 nodes [] h = tt

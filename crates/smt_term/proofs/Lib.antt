@@ -4,6 +4,8 @@ pub mod FormedTerms
 pub mod InsertedTerms
 pub mod LiteralElements
 pub mod PutPairs
+pub mod RecordFields
+pub mod RecordTypes
 pub mod SameType
 pub mod TermTables
 pub mod TypedArguments

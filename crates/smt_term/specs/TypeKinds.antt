@@ -1,6 +1,6 @@
 -- The kinds of types.
-use Rattle.std.specs.Prelude.{Bool, true, false}
-use Rattle.smt_meaning.specs.Plain.{PlainType, BitVecType, BoolType, EntityType, OptionType, StringType}
+use Rattle.std.specs.Prelude.{ℕ, Bool, true, false, List, codes}
+use Rattle.smt_meaning.specs.Plain.{PlainType, BitVecType, BoolType, EntityType, OptionType, RecordType, StringType, no_attributes, attribute}
 
 -- the type of literals that are no extension value
 abbrev pub is_primitive : PlainType → Bool
@@ -14,7 +14,15 @@ abbrev pub is_entity : PlainType → Bool
 is_entity (EntityType e) = true
 is_entity t = false
 
+abbrev pub is_record : PlainType → Bool
+is_record (RecordType x) = true
+is_record t = false
+
 -- options of entities
 abbrev pub is_entity_option : PlainType → Bool
 is_entity_option (OptionType t) = is_entity t
 is_entity_option t = false
+
+-- the type of the tags of entities of this type: records of an entity and of the text of its tag
+abbrev pub tag_type : List ℕ → PlainType
+tag_type e = RecordType (attribute (codes "entity") (EntityType e) (attribute (codes "tag") StringType no_attributes))

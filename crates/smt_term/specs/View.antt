@@ -1,36 +1,72 @@
 -- The plain form of the program's types, operators and terms: what they say, without where they lie in memory.
-use Rattle.std.specs.Prelude.{List, map, ◌≡◌, refl}
+use Rattle.std.specs.Prelude.{ℕ, List, [], ◌∷◌, map, ◌≡◌, refl}
+use Rattle.std.specs.List.{zip}
 use Rattle.smt_bits.specs.BitVec.{number_of, width_of}
 use Rattle.smt_bits.specs.Width.{bits_in}
 use Rattle.std.proofs.Common.{ap, ◌∙◌}
 use Rattle.std.specs.Rc.{rc_str_bytes}
 use Rattle.std.specs.declared.alloc.Global.{Global}
 use Rattle.std.specs.declared.rc.Rc.{Rc}
+use Rattle.std.specs.declared.rc.RcStr.{RcStr}
 use Rattle.smt_bits.specs.declared.width.Width.{Width}
 use Rattle.smt_leaves.specs.Entities.{bytes_of_id, bytes_of_type}
 use Rattle.smt_leaves.specs.PatternView.{plain_ord_pattern}
 use Rattle.smt_leaves.specs.declared.entity.EntityType.{EntityType as EntityName}
 use Rattle.smt_arithmetic.specs.BitOperators.{BvaddOp, BvlshrOp, BvmulOp, BvsdivOp, BvshlOp, BvsmodOp, BvsremOp, BvsubOp, BvudivOp, BvuremOp, BvsleOp, BvsltOp, BvuleOp, BvultOp, BvsaddoOp, BvsmuloOp, BvssuboOp}
-use Rattle.smt_meaning.specs.Plain.{PlainType, OptionType, BitVecType, BoolType, EntityType, StringType, SetType, PlainFunction, PlainOp, AndOp, BvnegOp, BvnegoOp, EqOp, IteOp, NotOp, OptionGetOp, OrOp, SetInterOp, SetMemberOp, SetSubsetOp, StringLikeOp, UufOp, ZeroExtendOp, PlainLiteral, BitVecLiteral, BoolLiteral, EntityLiteral, StringLiteral, PlainTerm, Application, NoneTerm, LiteralTerm, SetTerm, SomeTerm, VariableTerm, PlainTerms, no_terms, one_term, terms, BitsOp, TestOp, OverflowOp}
-use Rattle.smt_term.specs.declared.types.TermType.{TermType, Option as OptionOf, Option', Bitvec, Bool, Entity, String, Set as SetOf, Set' as SetOf'}
+use Rattle.smt_meaning.specs.Plain.{PlainType, OptionType, BitVecType, BoolType, EntityType, StringType, RecordType, SetType, AttributeTypes, no_attributes, attribute, PlainFunction, PlainOp, AndOp, BvnegOp, BvnegoOp, EqOp, IteOp, NotOp, OptionGetOp, OrOp, RecordGetOp, SetInterOp, SetMemberOp, SetSubsetOp, StringLikeOp, UufOp, ZeroExtendOp, PlainLiteral, BitVecLiteral, BoolLiteral, EntityLiteral, StringLiteral, PlainTerm, Application, NoneTerm, LiteralTerm, RecordTerm, SetTerm, SomeTerm, VariableTerm, PlainFields, no_fields, one_field, PlainTerms, no_terms, one_term, terms, BitsOp, TestOp, OverflowOp}
+use Rattle.smt_leaves.specs.Pairs.{attributes_in, pairs_of}
+use Rattle.smt_leaves.specs.formers.pairs.AttributePairs.{attributes-over}
+use Rattle.smt_leaves.specs.declared.pairs.AttributePairs.{AttributePairs}
+use Rattle.smt_term.specs.declared.maps.TermMap.{TermMap}
+use Rattle.smt_term.specs.declared.maps.TypeMap.{TypeMap}
+use Rattle.smt_term.specs.declared.types.TermType.TheBlock.{hidden-the_row-TermType-0, shape-the_row-TermType-0}
+use Rattle.smt_term.specs.declared.types.TermType.{TermType, Row_of-TermType, end_of-TermType, more_of-TermType, items-the_row-TermType, items_hidden-the_row-TermType-0, Option as OptionOf, Option', Bitvec, Bool, Entity, String, Record as RecordOf, Record' as RecordOf', Set as SetOf, Set' as SetOf'}
 use Rattle.smt_term.specs.declared.function.Uuf.{Uuf as Function}
 use Rattle.smt_term.specs.declared.op.Op.{Op}
-use Rattle.smt_term.specs.declared.op.Op.TheVariants.{And, Bvadd, Bvlshr, Bvmul, Bvneg, Bvnego, Bvsaddo, Bvsdiv, Bvshl, Bvsle, Bvslt, Bvsmod, Bvsmulo, Bvsrem, Bvssubo, Bvsub, Bvudiv, Bvule, Bvult, Bvurem, Eq, Ite, Not, OptionGet, Or, SetInter, SetMember, SetSubset, StringLike, Uuf, ZeroExtend}
+use Rattle.smt_term.specs.declared.op.Op.TheVariants.{And, Bvadd, Bvlshr, Bvmul, Bvneg, Bvnego, Bvsaddo, Bvsdiv, Bvshl, Bvsle, Bvslt, Bvsmod, Bvsmulo, Bvsrem, Bvssubo, Bvsub, Bvudiv, Bvule, Bvult, Bvurem, Eq, Ite, Not, OptionGet, Or, RecordGet, SetInter, SetMember, SetSubset, StringLike, Uuf, ZeroExtend}
 use Rattle.smt_term.specs.declared.term.TermVar.{TermVar}
 use Rattle.smt_term.specs.declared.term.TermPrim.{TermPrim}
 use Rattle.smt_term.specs.declared.term.TermPrim.TheVariants.{Bitvec as BitsLiteral, Bool as TruthLiteral, Entity as EntityOf, String as TextLiteral}
-use Rattle.smt_term.specs.declared.term.Term.{Term, App, App', None, Prim, Set, Set', Some, Some', Var, Row_of-Term, end_of-Term, more_of-Term, items-the_row-Term, items_hidden-the_row-Term-0}
+use Rattle.smt_term.specs.declared.term.Term.{Term, App, App', None, Prim, Record, Record', Set, Set', Some, Some', Var, Row_of-Term, end_of-Term, more_of-Term, items-the_row-Term, items_hidden-the_row-Term-0, items_hidden-the_row-Term-1}
 use Rattle.smt_term.specs.declared.term.TermList.{TermList}
 use Rattle.smt_term.specs.declared.term.TermSet.{TermSet}
-use Rattle.smt_term.specs.declared.term.Term.TheBlock.{hidden-the_row-Term-0}
+use Rattle.smt_term.specs.declared.term.Term.TheBlock.{hidden-the_row-Term-0, hidden-the_row-Term-1, shape-the_row-Term-1}
 
-unfoldable pub plain_type : TermType → PlainType
-plain_type (Option' p t) = OptionType (plain_type t)
-plain_type (Bitvec n) = BitVecType (bits_in n)
-plain_type Bool = BoolType
-plain_type (Entity e) = EntityType (bytes_of_type e)
-plain_type String = StringType
-plain_type (SetOf' p t) = SetType (plain_type t)
+-- the attributes of pairs, in order
+abbrev pub attributes_of : {X : Type 0} → AttributePairs X → List (List ℕ)
+attributes_of ps = attributes_in (pairs_of ps)
+
+unfoldable mutual
+  pub plain_type : TermType → PlainType
+  plain_type (Option' p t) = OptionType (plain_type t)
+  plain_type (Bitvec n) = BitVecType (bits_in n)
+  plain_type Bool = BoolType
+  plain_type (Entity e) = EntityType (bytes_of_type e)
+  plain_type String = StringType
+  plain_type (RecordOf' shape row) = RecordType (plain_types (attributes_of shape) row)
+  plain_type (SetOf' p t) = SetType (plain_type t)
+
+  pub plain_types : {m : _} → List (List ℕ) → Row_of-TermType m → AttributeTypes
+  plain_types [] row = no_attributes
+  plain_types (name ∷ others) end_of-TermType = no_attributes
+  plain_types (name ∷ others) (more_of-TermType t rest) = attribute name (plain_type t) (plain_types others rest)
+
+-- the attributes of a map and their types
+abbrev pub attributes_held : TypeMap → List (RcStr Global × TermType)
+attributes_held m = pairs_of m.pairs
+
+-- what an attribute and its type say
+abbrev pub plain_attribute : RcStr Global × TermType → List ℕ × PlainType
+plain_attribute p = (rc_str_bytes p.0, plain_type p.1)
+
+-- what the pairs of a map say, in order
+abbrev pub plain_attributes : TypeMap → List (List ℕ × PlainType)
+plain_attributes m = map plain_attribute (attributes_held m)
+
+-- attributes and their types as the attributes of a record type
+abbrev pub attribute_types : List (List ℕ × PlainType) → AttributeTypes
+attribute_types [] = no_attributes
+attribute_types (p ∷ ps) = attribute p.0 p.1 (attribute_types ps)
 
 -- an uninterpreted function
 abbrev pub plain_function : Function → PlainFunction
@@ -62,6 +98,7 @@ plain_op Ite = IteOp
 plain_op Not = NotOp
 plain_op OptionGet = OptionGetOp
 plain_op Or = OrOp
+plain_op (RecordGet a) = RecordGetOp (rc_str_bytes a)
 plain_op SetInter = SetInterOp
 plain_op SetMember = SetMemberOp
 plain_op SetSubset = SetSubsetOp
@@ -84,6 +121,7 @@ unfoldable mutual
   plain_term (App' op p shape row type) = Application (plain_op op) (plain_row row) (plain_type type)
   plain_term (None type) = NoneTerm (plain_type type)
   plain_term (Prim literal) = LiteralTerm (plain_literal literal)
+  plain_term (Record' shape row) = RecordTerm (plain_named (attributes_of shape) row)
   plain_term (Set' element p shape row) = SetTerm (plain_type element) (plain_row row)
   plain_term (Some' p t) = SomeTerm (plain_term t)
   plain_term (Var v) = plain_variable v
@@ -91,6 +129,28 @@ unfoldable mutual
   pub plain_row : {m : _} → Row_of-Term m → PlainTerms
   plain_row end_of-Term = no_terms
   plain_row (more_of-Term t rest) = one_term (plain_term t) (plain_row rest)
+
+  pub plain_named : {m : _} → List (List ℕ) → Row_of-Term m → PlainFields
+  plain_named [] row = no_fields
+  plain_named (name ∷ others) end_of-Term = no_fields
+  plain_named (name ∷ others) (more_of-Term t rest) = one_field name (plain_term t) (plain_named others rest)
+
+-- the attributes of a map and their terms
+abbrev pub fields_of : TermMap → List (RcStr Global × Term)
+fields_of m = pairs_of m.pairs
+
+-- what an attribute and its term say
+abbrev pub plain_field : RcStr Global × Term → List ℕ × PlainTerm
+plain_field p = (rc_str_bytes p.0, plain_term p.1)
+
+-- what the pairs of a map say, in order
+abbrev pub plain_fields : TermMap → List (List ℕ × PlainTerm)
+plain_fields m = map plain_field (fields_of m)
+
+-- attributes and their terms as the fields of a record
+abbrev pub record_fields : List (List ℕ × PlainTerm) → PlainFields
+record_fields [] = no_fields
+record_fields (p ∷ ps) = one_field p.0 p.1 (record_fields ps)
 
 -- the terms of a list
 abbrev pub items_of : TermList → List Term
@@ -129,6 +189,24 @@ pub plain_type-String : plain_type String ≡ StringType
 unfolding plain_type
 plain_type-String = refl
 
+types_named : {m : _} (ns : List (List ℕ)) (row : Row_of-TermType m) → plain_types ns row ≡ attribute_types (zip ns (map plain_type (items-the_row-TermType m row)))
+unfolding plain_types
+types_named [] row = refl
+types_named (n ∷ ns) end_of-TermType = refl
+types_named (n ∷ ns) (more_of-TermType t rest) = ap (attribute n (plain_type t)) (types_named ns rest)
+
+zipped : (ps : List (RcStr Global × TermType)) → zip (attributes_in ps) (map plain_type (map (λ p. p.1) ps)) ≡ map plain_attribute ps
+zipped [] = refl
+zipped (p ∷ ps) = ap (λ l. plain_attribute p ∷ l) (zipped ps)
+
+pub plain_type-Record : (m : TypeMap) → plain_type (RecordOf m) ≡ RecordType (attribute_types (plain_attributes m))
+unfolding plain_type shape-the_row-TermType-0
+plain_type-Record m =
+    ap RecordType (types_named (attributes_of (shape-the_row-TermType-0 m.pairs)) (hidden-the_row-TermType-0 m.pairs)
+    ∙ ap (λ ts. attribute_types (zip (attributes_of (shape-the_row-TermType-0 m.pairs)) (map plain_type ts))) (items_hidden-the_row-TermType-0 m.pairs)
+    ∙ ap (λ ns. attribute_types (zip ns (map plain_type (map (λ p. p.1) m.pairs.items.value.items)))) (attributes-over (λ _. tt) m.pairs.items.value.items)
+    ∙ ap attribute_types (zipped m.pairs.items.value.items))
+
 pub plain_type-Set : (t : Rc TermType Global) → plain_type (SetOf t) ≡ SetType (plain_type t.value)
 unfolding plain_type
 plain_type-Set t = refl
@@ -151,6 +229,24 @@ pub plain_term-Prim : (literal : TermPrim) → plain_term (Prim literal) ≡ Lit
 unfolding plain_term
 plain_term-Prim literal = refl
 
+terms_named : {m : _} (ns : List (List ℕ)) (row : Row_of-Term m) → plain_named ns row ≡ record_fields (zip ns (map plain_term (items-the_row-Term m row)))
+unfolding plain_named
+terms_named [] row = refl
+terms_named (n ∷ ns) end_of-Term = refl
+terms_named (n ∷ ns) (more_of-Term t rest) = ap (one_field n (plain_term t)) (terms_named ns rest)
+
+fields-zipped : (ps : List (RcStr Global × Term)) → zip (attributes_in ps) (map plain_term (map (λ p. p.1) ps)) ≡ map plain_field ps
+fields-zipped [] = refl
+fields-zipped (p ∷ ps) = ap (λ l. plain_field p ∷ l) (fields-zipped ps)
+
+pub plain_term-Record : (m : TermMap) → plain_term (Record m) ≡ RecordTerm (record_fields (plain_fields m))
+unfolding plain_term shape-the_row-Term-1
+plain_term-Record m =
+    ap RecordTerm (terms_named (attributes_of (shape-the_row-Term-1 m.pairs)) (hidden-the_row-Term-1 m.pairs)
+    ∙ ap (λ ts. record_fields (zip (attributes_of (shape-the_row-Term-1 m.pairs)) (map plain_term ts))) (items_hidden-the_row-Term-1 m.pairs)
+    ∙ ap (λ ns. record_fields (zip ns (map plain_term (map (λ p. p.1) m.pairs.items.value.items)))) (attributes-over (λ _. tt) m.pairs.items.value.items)
+    ∙ ap record_fields (fields-zipped m.pairs.items.value.items))
+
 pub plain_term-Set : (element : TermType) (ts : TermSet) → plain_term (Set element ts) ≡ SetTerm (plain_type element) (terms (plain_elements ts))
 unfolding plain_term plain_row
 plain_term-Set element ts =
@@ -164,4 +260,4 @@ pub plain_term-Var : (v : TermVar) → plain_term (Var v) ≡ plain_variable v
 unfolding plain_term
 plain_term-Var v = refl
 
-pub ruleset views = (plain_type-Option, plain_type-Bitvec, plain_type-Bool, plain_type-Entity, plain_type-String, plain_type-Set, plain_term-App, plain_term-None, plain_term-Prim, plain_term-Set, plain_term-Some, plain_term-Var)
+pub ruleset views = (plain_type-Option, plain_type-Bitvec, plain_type-Bool, plain_type-Entity, plain_type-String, plain_type-Record, plain_type-Set, plain_term-App, plain_term-None, plain_term-Prim, plain_term-Record, plain_term-Set, plain_term-Some, plain_term-Var)

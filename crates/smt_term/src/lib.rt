@@ -17,11 +17,11 @@ mod types;
 mod typing;
 
 pub use function::{Udf, UnaryFunction, Uuf};
-pub use maps::{Attr, TermMap, TypeMap};
+pub use maps::{TermMap, TypeMap};
 pub use op::Op;
 pub use smt_leaves::{
-    EntityID, EntityType, EntityUID, EnumTable, OrdPattern, Pattern, PatternElem, TermError, Text,
-    TextSet,
+    Attr, EntityID, EntityType, EntityUID, EnumTable, OrdPattern, Pattern, PatternElem, TermError,
+    Text, TextSet,
 };
 pub use table::TermTable;
 pub use term::{Term, TermList, TermPrim, TermSet, TermVar};

@@ -5,11 +5,12 @@ ghost use Rattle.smt_term.specs.OpClass.{class_of};
 ghost use Rattle.smt_term.specs.View.{plain_op};
 
 use crate::function::Uuf;
-use smt_leaves::{OrdPattern, TermError};
+use smt_leaves::{Attr, OrdPattern, TermError};
+use smt_text::share_text;
 use std::rc::Rc;
 
-/// An operator: of the theories Core, FixedSizeBitVectors and UnicodeStrings, of the logic QF_BV, of options or of finite
-/// sets, or an uninterpreted function.
+/// An operator: of the theories Core, FixedSizeBitVectors and UnicodeStrings, of the logic QF_BV, of options, of records
+/// or of finite sets, or an uninterpreted function.
 #[derive(Debug, PartialEq, Eq, PartialOrd, Ord, Drop)]
 pub enum Op {
     /// Conjunction of two Booleans.
@@ -62,6 +63,8 @@ pub enum Op {
     OptionGet,
     /// Disjunction of two Booleans.
     Or,
+    /// The value of this attribute of a record.
+    RecordGet(Attr),
     /// What is in both of two sets.
     SetInter,
     /// Whether a value is in a set.
@@ -118,6 +121,7 @@ impl Op {
             | Op::Not
             | Op::OptionGet
             | Op::Or
+            | Op::RecordGet(_)
             | Op::SetInter
             | Op::SetMember
             | Op::SetSubset
@@ -157,6 +161,7 @@ impl Op {
             Op::Not => "not",
             Op::OptionGet => "option.get",
             Op::Or => "or",
+            Op::RecordGet(_) => "record.get",
             Op::SetInter => "set.inter",
             Op::SetMember => "set.member",
             Op::SetSubset => "set.subset",
@@ -199,6 +204,7 @@ impl Op {
             Op::Not => Op::Not,
             Op::OptionGet => Op::OptionGet,
             Op::Or => Op::Or,
+            Op::RecordGet(name) => Op::RecordGet(share_text(name)?),
             Op::SetInter => Op::SetInter,
             Op::SetMember => Op::SetMember,
             Op::SetSubset => Op::SetSubset,

@@ -3,6 +3,7 @@ ghost use Rattle.std.specs.Prelude.{◌≡◌, ◌↔◌, [], IfOk, IsTrue, leng
 ghost use Rattle.smt_meaning.specs.TermSets.{sorted_terms};
 ghost use Rattle.smt_term.specs.View.{elements_of, items_of, plain_elements, plain_items, plain_literal, plain_term, plain_variable};
 
+use crate::maps::TermMap;
 use crate::op::Op;
 use crate::types::TermType;
 use smt_bits::{BitVec, SIXTY_FOUR};
@@ -48,6 +49,8 @@ pub enum Term {
     None(TermType),
     /// A literal.
     Prim(TermPrim),
+    /// A record that has for each attribute the value of its term.
+    Record(TermMap),
     /// A set of the values of terms of one type.
     Set {
         elts_ty: TermType,
@@ -226,6 +229,7 @@ impl Term {
             }),
             Term::None(ty) => Ok(Term::None(ty.share()?)),
             Term::Prim(literal) => Ok(Term::Prim(literal.share()?)),
+            Term::Record(fields) => Ok(Term::Record(fields.share()?)),
             Term::Set { elts_ty, elts } => Ok(Term::Set {
                 elts_ty: elts_ty.share()?,
                 elts: elts.share()?,

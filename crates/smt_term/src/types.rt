@@ -2,17 +2,21 @@
 ghost use Rattle.std.specs.Prelude.{◌≡◌, IfOk, is_some};
 ghost use Rattle.smt_meaning.specs.Plain.{OptionType, SetType};
 ghost use Rattle.smt_meaning.specs.Types.{inner_type};
-ghost use Rattle.smt_term.specs.TypeKinds.{is_entity, is_entity_option, is_primitive};
+ghost use Rattle.smt_leaves.specs.Entities.{bytes_of_type};
+ghost use Rattle.smt_term.specs.TypeKinds.{is_entity, is_entity_option, is_primitive, is_record, tag_type};
 ghost use Rattle.smt_term.specs.View.{plain_type};
 
+use crate::maps::TypeMap;
 use smt_bits::Width;
 use smt_leaves::{EntityType, TermError};
+use smt_text::Text;
 use std::alloc::Global;
 use std::rc::Rc;
 
-/// The type of a term: a sort of the theories Core, FixedSizeBitVectors and UnicodeStrings, an entity type, an option,
-/// or a finite set. Types order by the variants and fields as declared.
+/// The type of a term: a sort of the theories Core, FixedSizeBitVectors and UnicodeStrings, an entity type, an option, a
+/// record, or a finite set. Types order by the variants and fields as declared.
 #[derive(Debug, PartialEq, Eq, PartialOrd, Ord, Drop)]
+#[cycle(types)]
 pub enum TermType {
     /// None, or a value of a type.
     Option { ty: Rc<TermType> },
@@ -24,6 +28,8 @@ pub enum TermType {
     Entity { ety: EntityType },
     /// Texts: lists of the characters from 0 to 196607.
     String,
+    /// Records that have for each attribute a value of its type.
+    Record { rty: TypeMap },
     /// Finite sets of values of a type.
     Set { ty: Rc<TermType> },
 }
@@ -53,6 +59,20 @@ impl TermType {
         })
     }
 
+    /// The type of the tags of entities of a type: records of an entity and of the text of its tag.
+    ///
+    /// # Errors
+    /// `Memory`, where there is none for the type.
+    pub fn tag_for(alloc: Global, ety: EntityType) -> Result<TermType, TermError>
+        ensures { IfOk result (λ tag. plain_type tag ≡ tag_type (bytes_of_type ety)) }
+    {
+        let entity = Text::from_str(alloc, "entity")?;
+        let tag = Text::from_str(alloc, "tag")?;
+        let items = [(entity, TermType::Entity { ety }), (tag, TermType::String)];
+        let rty = TypeMap::new(alloc, &items)?;
+        Ok(TermType::Record { rty })
+    }
+
     /// Whether it is the type of truth values, bitvectors, texts or entities.
     pub fn is_prim_type(&self) -> bool
         ensures { result ≡ is_primitive (plain_type self.now) }
@@ -60,7 +80,7 @@ impl TermType {
         match self {
             TermType::Bitvec { .. } | TermType::Bool | TermType::Entity { .. } | TermType::String =>
                 true,
-            TermType::Option { .. } | TermType::Set { .. } => false,
+            TermType::Option { .. } | TermType::Record { .. } | TermType::Set { .. } => false,
         }
     }
 
@@ -73,6 +93,22 @@ impl TermType {
             TermType::Option { .. }
             | TermType::Bitvec { .. }
             | TermType::Bool
+            | TermType::String
+            | TermType::Record { .. }
+            | TermType::Set { .. } => false,
+        }
+    }
+
+    /// Whether it is that of records.
+    pub fn is_record_type(&self) -> bool
+        ensures { result ≡ is_record (plain_type self.now) }
+    {
+        match self {
+            TermType::Record { .. } => true,
+            TermType::Option { .. }
+            | TermType::Bitvec { .. }
+            | TermType::Bool
+            | TermType::Entity { .. }
             | TermType::String
             | TermType::Set { .. } => false,
         }
@@ -88,6 +124,7 @@ impl TermType {
             | TermType::Bool
             | TermType::Entity { .. }
             | TermType::String
+            | TermType::Record { .. }
             | TermType::Set { .. } => false,
         }
     }
@@ -102,6 +139,7 @@ impl TermType {
             | TermType::Bool
             | TermType::Entity { .. }
             | TermType::String
+            | TermType::Record { .. }
             | TermType::Set { .. } => false,
         }
     }
@@ -119,6 +157,7 @@ impl TermType {
             TermType::Bool => Ok(TermType::Bool),
             TermType::Entity { ety } => Ok(TermType::Entity { ety: ety.share()? }),
             TermType::String => Ok(TermType::String),
+            TermType::Record { rty } => Ok(TermType::Record { rty: rty.share()? }),
             TermType::Set { ty } => Ok(TermType::Set { ty: ty.clone()? }),
         }
     }

@@ -1,21 +1,24 @@
 // The types of terms, and which terms are typed.
-ghost use Rattle.std.specs.Prelude.{◌≡◌, ◌↔◌, ◌∷◌, [], IfOk, IsTrue, is_some, map, option_map};
+ghost use Rattle.std.specs.Prelude.{◌≡◌, ◌↔◌, ◌∷◌, [], IfOk, IsTrue, bytes_eq, is_some, map, option_map};
 ghost use Rattle.std.specs.List.{list_all};
+ghost use Rattle.std.specs.Rc.{rc_str_bytes};
 ghost use Rattle.smt_bits.specs.Width.{bits_in};
 ghost use Rattle.smt_meaning.specs.Literals.{is_literal};
-ghost use Rattle.smt_meaning.specs.Plain.{EntityType as EntityTypeOf, OptionType, SetType};
+ghost use Rattle.smt_meaning.specs.Plain.{EntityType as EntityTypeOf, OptionType, RecordType, SetType};
 ghost use Rattle.smt_meaning.specs.TermOrder.{term_cmp};
-ghost use Rattle.smt_meaning.specs.Types.{extended_type, inner_type, is_set, is_type, literal_type, result_type, type_eq, type_of, width_in};
+ghost use Rattle.smt_meaning.specs.Types.{attribute_type, extended_type, field_types, inner_type, is_set, is_type, literal_type, result_type, type_eq, type_of, width_in};
 ghost use Rattle.smt_meaning.specs.Typing.{Typed, typed};
 ghost use Rattle.smt_meaning.specs.ValueOrder.{ascends, is_below};
 ghost use Rattle.smt_leaves.specs.Entities.{bytes_of_type};
-ghost use Rattle.smt_term.specs.View.{plain_literal, plain_op, plain_term, plain_type};
+ghost use Rattle.smt_term.specs.View.{attribute_types, plain_attributes, plain_fields, plain_literal, plain_op, plain_term, plain_type, record_fields};
 
+use crate::maps::{TermMap, TypeMap};
 use crate::op::{Op, OpClass};
 use crate::term::{Term, TermPrim};
 use crate::types::TermType;
 use smt_bits::Width;
-use smt_leaves::{EntityType, TermError};
+use smt_leaves::{Attr, EntityType, TermError};
+use smt_text::share_text;
 use std::alloc::Global;
 
 impl TermType {
@@ -38,6 +41,7 @@ impl TermType {
             | TermType::Bitvec { .. }
             | TermType::Bool
             | TermType::String
+            | TermType::Record { .. }
             | TermType::Set { .. } => false,
         }
     }
@@ -52,6 +56,7 @@ impl TermType {
             | TermType::Bool
             | TermType::Entity { .. }
             | TermType::String
+            | TermType::Record { .. }
             | TermType::Set { .. } => { None }
         }
     }
@@ -66,7 +71,8 @@ impl TermType {
             | TermType::Bitvec { .. }
             | TermType::Bool
             | TermType::Entity { .. }
-            | TermType::String => false,
+            | TermType::String
+            | TermType::Record { .. } => false,
         }
     }
 
@@ -80,7 +86,41 @@ impl TermType {
             | TermType::Bool
             | TermType::Entity { .. }
             | TermType::String
+            | TermType::Record { .. }
             | TermType::Set { .. } => { false }
+        }
+    }
+
+    // Whether it is that of records with this attribute.
+    fn has_attribute(&self, name: &Attr) -> bool
+        ensures { result ≡ is_some (attribute_type (rc_str_bytes name.now) (plain_type self.now)) }
+    {
+        match self {
+            TermType::Record { rty } => rty.get(name).is_some(),
+            TermType::Option { .. }
+            | TermType::Bitvec { .. }
+            | TermType::Bool
+            | TermType::Entity { .. }
+            | TermType::String
+            | TermType::Set { .. } => false,
+        }
+    }
+
+    // Whether it is that of records with this attribute, of this type.
+    fn has_attribute_of(&self, name: &Attr, ty: &TermType) -> bool
+        ensures { result ≡ is_type (attribute_type (rc_str_bytes name.now) (plain_type self.now)) (plain_type ty.now) }
+    {
+        match self {
+            TermType::Record { rty } => match rty.get(name) {
+                Some(own) => own.is_same_as(ty),
+                None => false,
+            },
+            TermType::Option { .. }
+            | TermType::Bitvec { .. }
+            | TermType::Bool
+            | TermType::Entity { .. }
+            | TermType::String
+            | TermType::Set { .. } => false,
         }
     }
 
@@ -95,6 +135,7 @@ impl TermType {
             | TermType::Bool
             | TermType::Entity { .. }
             | TermType::String
+            | TermType::Record { .. }
             | TermType::Set { .. } => { false }
         }
     }
@@ -110,7 +151,8 @@ impl TermType {
             | TermType::Bitvec { .. }
             | TermType::Bool
             | TermType::Entity { .. }
-            | TermType::String => false,
+            | TermType::String
+            | TermType::Record { .. } => false,
         }
     }
 }
@@ -169,7 +211,7 @@ impl TermPrim {
 
 impl Term {
     /// The type of the term: of an application the one that it claims, of none and of a set by the type that they name, and
-    /// of some by the term that it holds.
+    /// of some and of a record by the terms that they hold.
     ///
     /// # Errors
     /// `Memory`, where there is none for the type.
@@ -180,6 +222,16 @@ impl Term {
             Term::App { ret_ty, .. } => Ok(ret_ty.share()?),
             Term::None(inner) => TermType::option_of(alloc, inner.share()?),
             Term::Prim(literal) => Ok(literal.type_of()?),
+            Term::Record(fields) => {
+                let fields = fields.items();
+                let mut types = Vec::with_capacity(alloc, fields.len())?;
+                for (name, field) in fields {
+                    types.push((share_text(name)?, field.type_of(alloc)?))?;
+                }
+                Ok(TermType::Record {
+                    rty: TypeMap::of_ascending(alloc, types)?,
+                })
+            }
             Term::Set { elts_ty, .. } => TermType::set_of(alloc, elts_ty.share()?),
             Term::Some(inner) => TermType::option_of(alloc, inner.type_of(alloc)?),
             Term::Var(variable) => Ok(variable.ty.share()?),
@@ -193,6 +245,15 @@ impl Term {
         match self {
             Term::App { .. } | Term::Var(_) => false,
             Term::None(_) | Term::Prim(_) => true,
+            Term::Record(fields) => {
+                let fields = fields.items();
+                for (_, field) in fields {
+                    if !field.is_literal() {
+                        return false;
+                    }
+                }
+                true
+            }
             Term::Set { elts, .. } => {
                 for element in elts.items() {
                     if !element.is_literal() {
@@ -221,6 +282,15 @@ impl Term {
                 op.takes(args) && op.gives(args, ret_ty)
             }
             Term::None(_) | Term::Prim(_) | Term::Var(_) => true,
+            Term::Record(fields) => {
+                let fields = fields.items();
+                for (_, field) in fields {
+                    if !field.well_typed() {
+                        return false;
+                    }
+                }
+                true
+            }
             Term::Set { elts_ty, elts } => {
                 let elements = elts.items();
                 for element in elements {
@@ -247,7 +317,7 @@ impl Term {
     {
         match self {
             Term::App { ret_ty, .. } => ret_ty.width(),
-            Term::None(_) | Term::Set { .. } | Term::Some(_) => None,
+            Term::None(_) | Term::Record(_) | Term::Set { .. } | Term::Some(_) => None,
             Term::Prim(literal) => literal.width(),
             Term::Var(variable) => variable.ty.width(),
         }
@@ -259,7 +329,7 @@ impl Term {
     {
         match self {
             Term::App { ret_ty, .. } => ret_ty.is_set(),
-            Term::None(_) | Term::Prim(_) | Term::Some(_) => false,
+            Term::None(_) | Term::Prim(_) | Term::Record(_) | Term::Some(_) => false,
             Term::Set { .. } => true,
             Term::Var(variable) => variable.ty.is_set(),
         }
@@ -272,12 +342,13 @@ impl Term {
         match self {
             Term::App { ret_ty, .. } => ret_ty.is_option_type(),
             Term::None(_) | Term::Some(_) => true,
-            Term::Prim(_) | Term::Set { .. } => false,
+            Term::Prim(_) | Term::Record(_) | Term::Set { .. } => false,
             Term::Var(variable) => variable.ty.is_option_type(),
         }
     }
 
     // Whether this is the term's type.
+    #[cycle(of_type)]
     fn is_of_type(&self, ty: &TermType) -> bool
         ensures same { result ≡ type_eq (type_of (plain_term self.now)) (plain_type ty.now) }
         ensures turned { result ≡ type_eq (plain_type ty.now) (type_of (plain_term self.now)) }
@@ -286,6 +357,15 @@ impl Term {
             Term::App { ret_ty, .. } => ret_ty.is_same_as(ty),
             Term::None(inner) => inner.is_inside(ty),
             Term::Prim(literal) => literal.is_of_type(ty),
+            Term::Record(fields) => match ty {
+                TermType::Record { rty } => fields.is_of_types(rty),
+                TermType::Option { .. }
+                | TermType::Bitvec { .. }
+                | TermType::Bool
+                | TermType::Entity { .. }
+                | TermType::String
+                | TermType::Set { .. } => false,
+            },
             Term::Set { elts_ty, .. } => elts_ty.is_element_in(ty),
             Term::Some(inner) => match ty {
                 TermType::Option { ty } => inner.is_of_type(ty),
@@ -293,6 +373,7 @@ impl Term {
                 | TermType::Bool
                 | TermType::Entity { .. }
                 | TermType::String
+                | TermType::Record { .. }
                 | TermType::Set { .. } => false,
             },
             Term::Var(variable) => variable.ty.is_same_as(ty),
@@ -309,6 +390,7 @@ impl Term {
             | TermType::Bool
             | TermType::Entity { .. }
             | TermType::String
+            | TermType::Record { .. }
             | TermType::Set { .. } => { false }
         }
     }
@@ -320,9 +402,36 @@ impl Term {
         match self {
             Term::App { ret_ty, .. } => ret_ty.is_option_of(inner),
             Term::None(own) => own.is_same_as(inner),
-            Term::Prim(_) | Term::Set { .. } => false,
+            Term::Prim(_) | Term::Record(_) | Term::Set { .. } => false,
             Term::Some(own) => own.is_of_type(inner),
             Term::Var(variable) => variable.ty.is_option_of(inner),
+        }
+    }
+
+    // Whether it is a record with this attribute.
+    fn has_attribute(&self, name: &Attr) -> bool
+        ensures { result ≡ is_some (attribute_type (rc_str_bytes name.now) (type_of (plain_term self.now))) }
+    {
+        match self {
+            Term::App { ret_ty, .. } => ret_ty.has_attribute(name),
+            Term::Record(fields) => fields.get(name).is_some(),
+            Term::None(_) | Term::Prim(_) | Term::Set { .. } | Term::Some(_) => false,
+            Term::Var(variable) => variable.ty.has_attribute(name),
+        }
+    }
+
+    // Whether it is a record with this attribute, of this type.
+    fn has_attribute_of(&self, name: &Attr, ty: &TermType) -> bool
+        ensures { result ≡ is_type (attribute_type (rc_str_bytes name.now) (type_of (plain_term self.now))) (plain_type ty.now) }
+    {
+        match self {
+            Term::App { ret_ty, .. } => ret_ty.has_attribute_of(name, ty),
+            Term::Record(fields) => match fields.get(name) {
+                Some(own) => own.is_of_type(ty),
+                None => false,
+            },
+            Term::None(_) | Term::Prim(_) | Term::Set { .. } | Term::Some(_) => false,
+            Term::Var(variable) => variable.ty.has_attribute_of(name, ty),
         }
     }
 
@@ -332,7 +441,7 @@ impl Term {
     {
         match set {
             Term::App { ret_ty, .. } => self.is_element_in(ret_ty),
-            Term::None(_) | Term::Prim(_) | Term::Some(_) => false,
+            Term::None(_) | Term::Prim(_) | Term::Record(_) | Term::Some(_) => false,
             Term::Set { elts_ty, .. } => self.is_of_type(elts_ty),
             Term::Var(variable) => self.is_element_in(&variable.ty),
         }
@@ -347,7 +456,8 @@ impl Term {
             | TermType::Bitvec { .. }
             | TermType::Bool
             | TermType::Entity { .. }
-            | TermType::String => false,
+            | TermType::String
+            | TermType::Record { .. } => false,
         }
     }
 
@@ -375,6 +485,7 @@ impl Term {
     }
 
     // Whether both terms have one type.
+    #[cycle(typed_as)]
     fn is_typed_as(&self, other: &Term) -> bool
         ensures { result ≡ type_eq (type_of (plain_term self.now)) (type_of (plain_term other.now)) }
     {
@@ -382,11 +493,17 @@ impl Term {
             Term::App { ret_ty, .. } => other.is_of_type(ret_ty),
             Term::None(inner) => other.is_option_beside(inner),
             Term::Prim(literal) => other.is_typed_as_literal(literal),
+            Term::Record(fields) => match other {
+                Term::App { ret_ty, .. } => self.is_of_type(ret_ty),
+                Term::Record(own) => fields.is_typed_as(own),
+                Term::None(_) | Term::Prim(_) | Term::Set { .. } | Term::Some(_) => false,
+                Term::Var(variable) => self.is_of_type(&variable.ty),
+            },
             Term::Set { elts_ty, .. } => other.is_set_beside(elts_ty),
             Term::Some(inner) => match other {
                 Term::App { ret_ty, .. } => inner.is_inside(ret_ty),
                 Term::None(ty) => inner.is_of_type(ty),
-                Term::Prim(_) | Term::Set { .. } => false,
+                Term::Prim(_) | Term::Record(_) | Term::Set { .. } => false,
                 Term::Some(own) => inner.is_typed_as(own),
                 Term::Var(variable) => inner.is_inside(&variable.ty),
             },
@@ -401,7 +518,7 @@ impl Term {
         match self {
             Term::App { ret_ty, .. } => inner.is_inside(ret_ty),
             Term::None(own) => inner.is_same_as(own),
-            Term::Prim(_) | Term::Set { .. } => false,
+            Term::Prim(_) | Term::Record(_) | Term::Set { .. } => false,
             Term::Some(own) => own.is_of_type(inner),
             Term::Var(variable) => inner.is_inside(&variable.ty),
         }
@@ -413,7 +530,7 @@ impl Term {
     {
         match self {
             Term::App { ret_ty, .. } => element.is_element_in(ret_ty),
-            Term::None(_) | Term::Prim(_) | Term::Some(_) => false,
+            Term::None(_) | Term::Prim(_) | Term::Record(_) | Term::Some(_) => false,
             Term::Set { elts_ty, .. } => element.is_same_as(elts_ty),
             Term::Var(variable) => element.is_element_in(&variable.ty),
         }
@@ -436,11 +553,67 @@ impl Term {
     {
         match self {
             Term::App { ret_ty, .. } => ret_ty.is_of_entities(ety),
-            Term::None(_) | Term::Set { .. } | Term::Some(_) => false,
+            Term::None(_) | Term::Record(_) | Term::Set { .. } | Term::Some(_) => false,
             Term::Prim(literal) => literal.is_entity_of(ety),
             Term::Var(variable) => variable.ty.is_of_entities(ety),
         }
     }
+}
+
+impl TermMap {
+    // Whether the attributes are those of the terms, each with its term's type.
+    #[cycle(of_type)]
+    fn is_of_types(&self, types: &TypeMap) -> bool
+        ensures same { result ≡ type_eq (RecordType (field_types (record_fields (plain_fields self.now)))) (RecordType (attribute_types (plain_attributes types.now))) }
+        ensures turned { result ≡ type_eq (RecordType (attribute_types (plain_attributes types.now))) (RecordType (field_types (record_fields (plain_fields self.now)))) }
+    {
+        let fields = self.items();
+        let types = types.items();
+        if fields.len() != types.len() {
+            return false;
+        }
+        for i in 0..fields.len() {
+            let (name, field) = &fields[i];
+            let (own, ty) = &types[i];
+            if !is_same_attribute(name, own) {
+                return false;
+            }
+            if !field.is_of_type(ty) {
+                return false;
+            }
+        }
+        true
+    }
+
+    // Whether the attributes of both are the same, and each has in both one type.
+    #[cycle(typed_as)]
+    fn is_typed_as(&self, others: &TermMap) -> bool
+        ensures { result ≡ type_eq (RecordType (field_types (record_fields (plain_fields self.now)))) (RecordType (field_types (record_fields (plain_fields others.now)))) }
+    {
+        let fields = self.items();
+        let others = others.items();
+        if fields.len() != others.len() {
+            return false;
+        }
+        for i in 0..fields.len() {
+            let (name, field) = &fields[i];
+            let (own, other) = &others[i];
+            if !is_same_attribute(name, own) {
+                return false;
+            }
+            if !field.is_typed_as(other) {
+                return false;
+            }
+        }
+        true
+    }
+}
+
+// Whether both are one attribute.
+fn is_same_attribute(name: &Attr, other: &Attr) -> bool
+    ensures { result ≡ bytes_eq (rc_str_bytes name.now) (rc_str_bytes other.now) }
+{
+    name == other
 }
 
 // Whether each of the terms has this type.
@@ -498,6 +671,7 @@ impl Op {
         match self {
             Op::Not => a.is_of_type(&TermType::Bool),
             Op::OptionGet => a.is_option(),
+            Op::RecordGet(name) => a.has_attribute(name),
             Op::StringLike(_) => a.is_of_type(&TermType::String),
             Op::Uuf(function) => a.is_of_type(&function.arg),
             Op::Bvneg | Op::Bvnego => a.width().is_some(),
@@ -550,6 +724,7 @@ impl Op {
         match self {
             Op::Bvneg => a.is_of_type(ty),
             Op::OptionGet => a.is_option_of(ty),
+            Op::RecordGet(name) => a.has_attribute_of(name, ty),
             Op::Uuf(function) => function.out.is_same_as(ty),
             Op::ZeroExtend(bits) => a.is_shorter_by(*bits, ty),
             _ => TermType::Bool.is_same_as(ty),

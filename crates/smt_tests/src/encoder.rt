@@ -7,7 +7,9 @@ use std::test::Fail;
 use words::terms;
 
 mod alone;
+mod applied;
 mod calls;
+mod condition;
 mod nodes;
 mod texts;
 mod words;

@@ -2,7 +2,9 @@
 
 use operators::application;
 use smt_bits::{BitVec, EIGHT, Width};
-use smt_term::{EntityID, EntityType, EntityUID, Term, TermSet, TermType, TermVar, Text};
+use smt_term::{
+    EntityID, EntityType, EntityUID, Term, TermMap, TermSet, TermType, TermVar, Text, TypeMap,
+};
 use std::alloc::Global;
 use std::rc::Rc;
 use std::test::Fail;
@@ -14,10 +16,10 @@ mod operators;
 mod order;
 mod structures;
 
-/// The type that a word spells: `B`, `S`, a width, or `E` and the name of entities in small letters, behind an `O` or a `Z`
-/// for each option or set around it.
+/// The type that a word spells: `B`, `S`, a width, or `E` and the name of entities in small letters, behind an `O`, a `Z` or an
+/// `R` for each option, set, or record with the one attribute `a`, around it.
 fn type_named(alloc: Global, word: &str) -> Result<TermType, Fail> {
-    let innermost = word.trim_start_matches(|c| c == 'O' || c == 'Z');
+    let innermost = word.trim_start_matches(|c| c == 'O' || c == 'Z' || c == 'R');
     let mut ty = match innermost {
         "B" => TermType::Bool,
         "S" => TermType::String,
@@ -32,6 +34,7 @@ fn type_named(alloc: Global, word: &str) -> Result<TermType, Fail> {
         ty = match c {
             'O' => TermType::option_of(alloc, ty)?,
             'Z' => TermType::set_of(alloc, ty)?,
+            'R' => record_type_of(alloc, ty)?,
             _ => ty,
         };
     }
@@ -43,6 +46,11 @@ fn type_of_width(bits: u32) -> Result<TermType, Fail> {
         Some(n) => Ok(TermType::Bitvec { n }),
         None => Err(Fail::from("no bitvector has this width")),
     }
+}
+
+fn record_type_of(alloc: Global, ty: TermType) -> Result<TermType, Fail> {
+    let rty = TypeMap::new(alloc, &[(Text::from_str(alloc, "a")?, ty)])?;
+    Ok(TermType::Record { rty })
 }
 
 fn entity_type(alloc: Global, name: &str) -> Result<EntityType, Fail> {
@@ -66,26 +74,32 @@ fn variable(alloc: Global, id: &str, word: &str) -> Result<Term, Fail> {
 /// How many forms `term_of` knows.
 const FORMS: usize = 3;
 
-/// A term of a type in one of its forms: a variable, and where it is that of options, sets, texts or entities, none, some
-/// and a set of a variable, a text, and an entity.
+/// A term of a type in one of its forms: a variable, and where it is that of options, sets, records, texts or entities, none, some
+/// and a set and a record of a variable, a text, and an entity.
 fn term_of(alloc: Global, word: &str, form: usize) -> Result<Term, Fail> {
     match (form, word.chars().next()) {
         (1, Some('O')) => Ok(Term::None(type_named(alloc, inside(word))?)),
         (2, Some('O')) => some_of(alloc, variable(alloc, "x", inside(word))?),
         (1, Some('Z')) => set_of(alloc, inside(word), &[variable(alloc, "x", inside(word))?]),
+        (1, Some('R')) => record_of(alloc, variable(alloc, "x", inside(word))?),
         (1, Some('S')) => Ok(Term::from(Text::from_str(alloc, "a")?)),
         (1, Some('E')) => entity_term(alloc, inside(word)),
         _ => variable(alloc, "x", word),
     }
 }
 
-/// The type that an option or a set is around, or the name of entities.
+/// The type that an option, a set or a record is around, or the name of entities.
 fn inside(word: &str) -> &str {
-    word.strip_prefix(['O', 'Z', 'E']).unwrap_or(word)
+    word.strip_prefix(['O', 'Z', 'R', 'E']).unwrap_or(word)
 }
 
 fn some_of(alloc: Global, inner: Term) -> Result<Term, Fail> {
     Ok(Term::Some(Rc::new(alloc, inner)?))
+}
+
+fn record_of(alloc: Global, field: Term) -> Result<Term, Fail> {
+    let fields = TermMap::new(alloc, &[(Text::from_str(alloc, "a")?, field)])?;
+    Ok(Term::Record(fields))
 }
 
 fn set_of(alloc: Global, element: &str, terms: &[Term]) -> Result<Term, Fail> {
@@ -128,6 +142,7 @@ fn term(alloc: Global, spelling: &str) -> Result<Term, Fail> {
         "entity" => entity_term(alloc, rest),
         "text" => Ok(Term::from(Text::from_str(alloc, rest)?)),
         "set" => set_of(alloc, "B", literals_in(alloc, rest)?.as_slice()),
+        "record" => record_of(alloc, literal(rest)?),
         "some" => some_of(alloc, literal(rest)?),
         "a" | "b" => variable(alloc, kind, rest),
         _ => literal(spelling),
@@ -148,8 +163,8 @@ fn names_type(alloc: Global, term: &Term, ty: &TermType) -> Result<bool, Fail> {
 }
 
 /// Types of which a term has at most one.
-const DISTINCT_TYPES: [&str; 12] = [
-    "B", "1", "8", "64", "128", "S", "Ea", "Eb", "O8", "Z8", "ZS", "ZOS",
+const DISTINCT_TYPES: [&str; 13] = [
+    "B", "1", "8", "64", "128", "S", "Ea", "Eb", "O8", "RB", "Z8", "ZS", "ZOS",
 ];
 
 /// Whether a term has this type, and none of the others.

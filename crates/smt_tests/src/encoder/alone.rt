@@ -16,16 +16,28 @@ const LINES: &str = "\
 (declare-datatype E0 (
   (E0_m0)
   (E0_m1)))
+; {a}
+(declare-datatype R0 (
+  (R0 (R0_a0 Bool))))
+; {c  d, a}
+(declare-datatype R0 (
+  (R0 (R0_a0 Bool) (R0_a1 String))))
 ; \"b\"
 (declare-const t0 Bool)
 (define-fun t0 () Bool true)
 (define-fun t0 () (Set Bool) (set.insert true (as set.empty (Set Bool))))
 (define-fun t0 () (Set Bool) (as set.empty (Set Bool)))
+(define-fun t0 () R0 (R0 true))
+(define-fun t0 () R0 R0)
+(define-fun t0 () R0 R0)
+(define-fun t0 () R0 (R0 true ))
 (define-fun t0 () E0 (E0 \"alice\"))
 ";
 
 /// The names that they give, and the one of a member of an enum type.
-const NAMES: [&str; 9] = ["A", "E0", "E0", "t0", "t0", "t0", "t0", "t0", "E1_m1"];
+const NAMES: [&str; 15] = [
+    "A", "E0", "E0", "R0", "R0", "t0", "t0", "t0", "t0", "t0", "t0", "t0", "t0", "t0", "E1_m1",
+];
 
 fn text(alloc: Global, characters: &str) -> Result<Text, Fail> {
     Ok(Text::from_str(alloc, characters)?)
@@ -61,10 +73,22 @@ fn called(alloc: Global, encoder: &mut Encoder<'_, ListSink>) -> Result<Vec<Text
     names.push(encoder.declare_type("A", &[text(alloc, "(A)")?])?)?;
     names.push(encoder.declare_entity_type(&type_called(alloc, "User")?)?)?;
     names.push(encoder.declare_entity_type(&type_called(alloc, "Color")?)?)?;
+    let attribute = [(text(alloc, "a")?, text(alloc, "Bool")?)];
+    names.push(encoder.declare_record_type(&attribute)?)?;
+    let attributes = [
+        (text(alloc, "c\r\nd")?, text(alloc, "Bool")?),
+        (text(alloc, "a")?, text(alloc, "String")?),
+    ];
+    names.push(encoder.declare_record_type(&attributes)?)?;
     names.push(encoder.declare_var(&variable, "Bool")?)?;
     names.push(encoder.define_term("Bool", "true")?)?;
     names.push(encoder.define_set("(Set Bool)", &[text(alloc, "true")?])?)?;
     names.push(encoder.define_set("(Set Bool)", &[])?)?;
+    let (truth, nothing) = (text(alloc, "true")?, text(alloc, "")?);
+    names.push(encoder.define_record("R0", &[truth.clone()?])?)?;
+    names.push(encoder.define_record("R0", &[])?)?;
+    names.push(encoder.define_record("R0", &[nothing.clone()?])?)?;
+    names.push(encoder.define_record("R0", &[truth, nothing])?)?;
     names.push(encoder.define_entity("E0", &entity(alloc, "User", "alice")?)?)?;
     names.push(encoder.define_entity("E1", &entity(alloc, "Color", "b")?)?)?;
     Ok(names)

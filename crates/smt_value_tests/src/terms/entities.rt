@@ -6,25 +6,28 @@ use smt_term::{Op, Term, TermList, TermPrim, TermType};
 use std::alloc::Global;
 use std::test::Fail;
 
-/// Types, and whether each is primitive, one of entities, one of options, and one of options of entities.
-const KINDS: [(&str, [bool; 4]); 11] = [
-    ("B", [true, false, false, false]),
-    ("8", [true, false, false, false]),
-    ("S", [true, false, false, false]),
-    ("Ea", [true, true, false, false]),
-    ("OB", [false, false, true, false]),
-    ("OS", [false, false, true, false]),
-    ("OEa", [false, false, true, true]),
-    ("OOEa", [false, false, true, false]),
-    ("OZEa", [false, false, true, false]),
-    ("Z8", [false, false, false, false]),
-    ("ZEa", [false, false, false, false]),
+/// Types, and whether each is primitive, one of entities, one of records, one of options, and one of options of entities.
+const KINDS: [(&str, [bool; 5]); 13] = [
+    ("B", [true, false, false, false, false]),
+    ("8", [true, false, false, false, false]),
+    ("S", [true, false, false, false, false]),
+    ("Ea", [true, true, false, false, false]),
+    ("OB", [false, false, false, true, false]),
+    ("OS", [false, false, false, true, false]),
+    ("OEa", [false, false, false, true, true]),
+    ("OOEa", [false, false, false, true, false]),
+    ("OZEa", [false, false, false, true, false]),
+    ("Z8", [false, false, false, false, false]),
+    ("RB", [false, false, true, false, false]),
+    ("ORB", [false, false, false, true, false]),
+    ("ZEa", [false, false, false, false, false]),
 ];
 
-fn kinds_of(ty: &TermType) -> [bool; 4] {
+fn kinds_of(ty: &TermType) -> [bool; 5] {
     [
         ty.is_prim_type(),
         ty.is_entity_type(),
+        ty.is_record_type(),
         ty.is_option_type(),
         ty.is_option_entity_type(),
     ]

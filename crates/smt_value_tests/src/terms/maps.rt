@@ -1,6 +1,6 @@
 //! Maps of attributes and tables of terms: what they keep of what they were given, and what they find.
 
-use super::{term, type_named};
+use super::{entity_type, term, type_named};
 use smt_term::{Attr, Term, TermMap, TermTable, TermType, Text, TypeMap};
 use std::alloc::Global;
 use std::test::Fail;
@@ -44,6 +44,22 @@ fn maps_of_types_keep_the_last(rt: HostRuntime) -> Result<(), Fail> {
         assert!(rt; type_map_is(rt.alloc(), given, expected)?, "{given}");
     }
     assert!(rt; TypeMap::new(rt.alloc(), &[])?.is_empty());
+    Ok(())
+}
+
+#[test]
+fn tags_are_of_an_entity_and_a_name(rt: HostRuntime) -> Result<(), Fail> {
+    let alloc = rt.alloc();
+    let pairs = [
+        (Text::from_str(alloc, "tag")?, TermType::String),
+        (
+            Text::from_str(alloc, "entity")?,
+            type_named(alloc, "EUser")?,
+        ),
+    ];
+    let rty = TypeMap::new(alloc, &pairs)?;
+    let tags = TermType::tag_for(alloc, entity_type(alloc, "User")?)?;
+    assert!(rt; tags == TermType::Record { rty });
     Ok(())
 }
 

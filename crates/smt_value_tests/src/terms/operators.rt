@@ -1,7 +1,7 @@
 //! Each operator: its name, the arguments that it takes, and the type that it gives them.
 
 use super::{DISTINCT_TYPES, FORMS, names_type, term_of, type_named};
-use smt_term::{Op, OrdPattern, Pattern, PatternElem, Term, TermList, TermType};
+use smt_term::{Op, OrdPattern, Pattern, PatternElem, Term, TermList, TermType, Text};
 use std::alloc::Global;
 use std::test::Fail;
 
@@ -39,6 +39,8 @@ not B -> B
 option.get O8 -> 8
 option.get OZS -> ZS
 or B B -> B
+record.get RB -> B
+record.get RZS -> ZS
 set.inter Z8 Z8 -> Z8
 set.inter ZOS ZOS -> ZOS
 set.member 8 Z8 -> B
@@ -78,6 +80,12 @@ bvnego B
 option.get 8
 option.get Z8
 option.get O8 O8
+record.get
+record.get B
+record.get Ea
+record.get ORB
+record.get RB RB
+record.get.b RB
 set.inter Z8
 set.inter Z8 ZS
 set.inter 8 8
@@ -123,6 +131,8 @@ fn op_named(alloc: Global, name: &str, bits: u32) -> Result<Op, Fail> {
         "not" => Op::Not,
         "option.get" => Op::OptionGet,
         "or" => Op::Or,
+        "record.get" => Op::RecordGet(Text::from_str(alloc, "a")?),
+        "record.get.b" => Op::RecordGet(Text::from_str(alloc, "b")?),
         "set.inter" => Op::SetInter,
         "set.member" => Op::SetMember,
         "set.subset" => Op::SetSubset,

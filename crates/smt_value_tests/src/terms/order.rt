@@ -6,7 +6,7 @@ use std::alloc::Global;
 use std::test::Fail;
 
 /// Types in their order.
-const TYPES: &str = "OO8 O8 OB OEa 1 8 128 B Ea Eab Eb S Z8 ZB ZEa ZS ZZ8";
+const TYPES: &str = "OO8 O8 OB OEa 1 8 128 B Ea Eab Eb S RO8 R8 RB REa RS RRB Z8 ZB ZEa ZS ZZ8";
 
 #[test]
 fn types_order_by_their_variants(rt: HostRuntime) -> Result<(), Fail> {
@@ -61,7 +61,7 @@ fn operators_order_by_their_variants(rt: HostRuntime) {
 /// Terms in their order.
 const TERMS: &str =
     "and B B, not B, none B, byte 255, 7, -5, false, true, entity a b, entity a ba, entity ab, \
-    entity ab a, entity b a, text, text a, text aa, text b, text é, text \u{2ffff}, set, set true false, \
+    entity ab a, entity b a, text, text a, text aa, text b, text é, text \u{2ffff}, record 7, record true, set, set true false, \
     some 7, some true, a B, b 64, b B";
 
 #[test]

@@ -9,4 +9,4 @@ use Rattle.smt_encode.proofs.entry.entry_from.Goals as goal
 
 pub returns-in-App-clause-fault : goal.returns-in-App-clause-fault
 returns-in-App-clause-fault c =
-    subst (λ (l : Label). Finds text_fault (entry_fault (enums_of c.args.enums.now) (plain_label l) (plain_rendering c.args.rendering)) c.application_entry.result) (sym c.in-App.is) (c.application_entry.ensures.fault (enums_of c.args.enums.now))
+    subst (λ (l : Label). Finds text_fault (entry_fault (enums_of c.args.enums.now) (plain_label l) (plain_rendering c.args.shape.rendering)) c.application_entry.result) (sym c.in-App.is) (c.application_entry.ensures.fault (enums_of c.args.enums.now))

@@ -7,4 +7,4 @@ everywhere [] = tt
 everywhere (place ∷ places) = (refl, everywhere places)
 
 pub returns : goal.returns
-returns c = record { all_are_closed = λ nodes place node at here. everywhere node.parts; of_negation = refl; of_sums = refl }
+returns c = record { all_are_closed = λ nodes place node at here. everywhere node.parts; of_negation = refl; of_sums = refl; of_attribute = refl }

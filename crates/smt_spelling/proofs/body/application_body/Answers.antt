@@ -1,14 +1,7 @@
-use Rattle.std.proofs.Common.{ap, map, ◌∙◌}
-use Rattle.std.specs.Rc.{rc_str_bytes}
+use Rattle.std.proofs.Common.{◌∙◌}
 use Rattle.smt_term.specs.View.{plain_op}
-use Rattle.smt_lines.specs.LineForms.{operands, operator_head}
-use Rattle.smt_characters.specs.SharedTexts.{texts}
-use Rattle.smt_spelling.proofs.Bracketed.{bracketed}
+use Rattle.smt_lines.specs.LineForms.{operator_head}
 use Rattle.smt_spelling.proofs.body.application_body.Goals as goal
 
 pub returns-clause-text : goal.returns-clause-text
-returns-clause-text c es shown =
-    let op = plain_op c.args.op.now in
-    let head = c.as_str.ensures.value ∙ c.in_ok-head.ensures in
-    let all = ap (map rc_str_bytes) c.as_slice.ensures.value ∙ c.in_ok-push_pattern.ensures.operands es shown in
-    c.in_ok-application_text.ensures ∙ bracketed _ (operator_head op) (texts c.as_slice.result.now) (operands op es) head all
+returns-clause-text c es shown = c.headed_body.ensures.text (operator_head (plain_op c.args.op.now)) es (c.as_str.ensures.value ∙ c.in_ok-head.ensures) shown

@@ -11,12 +11,12 @@ use Rattle.smt_lines.specs.Lines.{Written, ◌>>=◌}
 use Rattle.smt_encode.specs.Entries.{NodeRendering, heading, own_lines, rendering_in, second_last, written_parts}
 use Rattle.smt_encode.specs.Renderings.{plain_rendering}
 use Rattle.smt_encode.specs.Complete.{is_typed, is_written}
-use Rattle.smt_encode.specs.LookUps.{IsClosed}
+use Rattle.smt_encode.specs.LookUps.{selections, IsClosed}
 use Rattle.smt_lines.specs.Lines.{Enums}
-use Rattle.smt_encode.specs.Steps.{edges_in, WritesHere}
+use Rattle.smt_encode.specs.Steps.{look_ups_in, WritesHere}
 use Rattle.smt_spelling.specs.Spelled.{IsSpelled}
 use Rattle.smt_nodes.specs.Interned.{meaning_in, nodes_of}
-use Rattle.smt_nodes.specs.View.{ids_of, place_of, places_of, plain_node}
+use Rattle.smt_nodes.specs.View.{ids_of, place_of, places_of, plain_label, plain_node}
 use Rattle.smt_encode.specs.Names.{enums_under, nodes_under, texts_under}
 use Rattle.std.specs.Option.{option_or}
 use Rattle.std.specs.Prelude.{is_some, slice_get}
@@ -213,8 +213,9 @@ encode_new-returns-clause-steps g t c has closed here =
     let walked = c.in_ok-texts.ensures.walks in
     let there = ap (λ i. slice_get (nodes_of i) (place_of c.args.id)) walked.stands.nodes ∙ is.there in
     let none = walked.later c.args.id (omega (arith, c.place.ensures)) ∙ c.requires.unkept in
-    node_counted has c.encode_all.new.self c.finish.new.self c.args.id (plain_node c.in_ok-node.node) c.finish.result c.args.steps.now c.encode_all.new.steps (length c.items-2.result.now) (edges_in has c.args.self.now)
-    c.finish.ensures.walks.stands.nodes there here none c.finish.ensures.walks.kept c.finish.ensures.kept fewer (c.in_ok-texts.ensures.steps has closed inside)
+    let walked_steps = c.in_ok-texts.ensures.steps has closed inside in
+    node_counted has c.encode_all.new.self c.finish.new.self c.args.id (plain_node c.in_ok-node.node) c.finish.result c.args.steps.now c.finish.new.steps (length c.items-2.result.now + selections (plain_label c.in_ok-node.node.label)) (look_ups_in has c.args.self.now)
+    c.finish.ensures.walks.stands.nodes there here none c.finish.ensures.walks.kept c.finish.ensures.kept (omega (arith, fewer)) (omega (arith, walked_steps, c.finish.ensures.steps))
 
 pub encode_node-returns-in_ok-clone-in-Some-clause-lines : goal.encode_node-returns-in_ok-clone-in-Some-clause-lines
 encode_node-returns-in_ok-clone-in-Some-clause-lines g t c m meant s has =

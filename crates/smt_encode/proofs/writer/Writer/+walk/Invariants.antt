@@ -12,7 +12,7 @@ use Rattle.smt_encode.specs.NodeLines.{meanings_fault}
 use Rattle.smt_encode.specs.NodeTexts.{text_at}
 use Rattle.smt_encode.specs.Complete.{AreTypedMeanings, HaveWrittenParts}
 use Rattle.smt_encode.specs.LookUps.{IsClosed}
-use Rattle.smt_encode.specs.Steps.{edges_in, HasTables, Walks}
+use Rattle.smt_encode.specs.Steps.{look_ups_in, HasTables, Walks}
 use Rattle.smt_encode.specs.declared.error.WriteError.TheVariants.{Sink}
 use Rattle.smt_encode.proofs.Going.{Going}
 use Rattle.smt_encode.proofs.writer.Writer.+walk.Given as goal
@@ -35,5 +35,5 @@ invariant-encode_all-loop-id g l = record {
   kept : map (text_at (texts_under l.self.names)) (take l.id-index l.ids) ≡ map (λ text. Some (rc_str_bytes text)) l.texts.items;
   count : length l.texts.items ≡ l.id-index;
   whole : (ms : List Meaning) → all_found (meanings (nodes_of (nodes_under l.fn.self.names))) (places_of l.ids) ≡ Some ms → AreTypedMeanings ms → HaveWrittenParts (nodes_under l.fn.self.names) (texts_under l.fn.self.names) → HaveWrittenParts (nodes_under l.self.names) (texts_under l.self.names);
-  steps : (has : ℕ → Bool) → IsClosed (nodes_of (nodes_under l.fn.self.names)) has → AllByRecursion (λ place. IsTrue (has place)) (places_of l.ids) → l.steps + edges_in has l.self ≤ l.fn.steps + l.id-index + edges_in has l.fn.self;
+  steps : (has : ℕ → Bool) → IsClosed (nodes_of (nodes_under l.fn.self.names)) has → AllByRecursion (λ place. IsTrue (has place)) (places_of l.ids) → l.steps + look_ups_in has l.self ≤ l.fn.steps + l.id-index + look_ups_in has l.fn.self;
 }

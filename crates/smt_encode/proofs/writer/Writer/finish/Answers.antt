@@ -13,8 +13,8 @@ use Rattle.smt_script.proofs.PutsLemmas.{appends_nothing}
 use Rattle.std.specs.Rc.{rc_str_bytes}
 use Rattle.std.specs.declared.alloc.Global.{Global}
 use Rattle.std.specs.declared.rc.RcStr.{RcStr}
-use Rattle.smt_encode.proofs.Built.{built_meaning, no_entry, no_entry_fault}
-use Rattle.smt_encode.proofs.Faulting.{entry_second, handed_on, inline_first}
+use Rattle.smt_encode.proofs.Built.{built_meaning, no_entry, no_entry_fault, no_selection}
+use Rattle.smt_encode.proofs.Faulting.{entry_last, handed_on, inline_first}
 use Rattle.smt_encode.proofs.Finishing.{inline_lines, inline_stated, says_none, says_some}
 use Rattle.smt_encode.proofs.Writing.{unnamed}
 use Rattle.smt_encode.proofs.writer.Writer.finish.Goals as goal
@@ -30,7 +30,7 @@ keep-requires-clause-sound g c m meant =
     let built = built_meaning (nodes_under c.args.self.now.names) c.args.id m meant in
     let label = c.requires.is_node.label m meant in
     let there : has_inline (plain_label c.args.node.now.label) (length c.as_slice.result.now) ≡ true = sym c.in_ok-text.ensures.some ∙ ap is_some c.in-Some.is in
-    entry_second (enums_under c.args.self.now.names) m built (c.requires.sound m meant) (ap inline_fault (sym label) ∙ c.in_ok-text.ensures.fault)
+    entry_last (enums_under c.args.self.now.names) m built (c.requires.sound m meant) (ap inline_fault (sym label) ∙ c.in_ok-text.ensures.fault) (no_selection m (length c.as_slice.result.now) (ap (λ l. has_inline l (length c.as_slice.result.now)) (sym label) ∙ there))
     ∙ ap (λ l. entry_fault (enums_under c.args.self.now.names) l (rendering_in m)) (sym label) ∙ no_entry_fault (enums_under c.args.self.now.names) (plain_label c.args.node.now.label) (rendering_in m) (length c.as_slice.result.now) there
 
 pub returns-in_ok-clone-in-Some-clause-fault : goal.returns-in_ok-clone-in-Some-clause-fault
@@ -38,7 +38,7 @@ returns-in_ok-clone-in-Some-clause-fault g c m meant =
     let built = built_meaning (nodes_under c.args.self.now.names) c.args.id m meant in
     let label = c.requires.is_node.label m meant in
     let there : has_inline (plain_label c.args.node.now.label) (length c.as_slice.result.now) ≡ true = sym c.in_ok-text.ensures.some ∙ ap is_some c.in-Some.is in
-    entry_second (enums_under c.args.self.now.names) m built (c.requires.sound m meant) (ap inline_fault (sym label) ∙ c.in_ok-text.ensures.fault)
+    entry_last (enums_under c.args.self.now.names) m built (c.requires.sound m meant) (ap inline_fault (sym label) ∙ c.in_ok-text.ensures.fault) (no_selection m (length c.as_slice.result.now) (ap (λ l. has_inline l (length c.as_slice.result.now)) (sym label) ∙ there))
     ∙ ap (λ l. entry_fault (enums_under c.args.self.now.names) l (rendering_in m)) (sym label) ∙ no_entry_fault (enums_under c.args.self.now.names) (plain_label c.args.node.now.label) (rendering_in m) (length c.as_slice.result.now) there
 
 pub returns-in_ok-clone-in-Some-clause-lines : goal.returns-in_ok-clone-in-Some-clause-lines

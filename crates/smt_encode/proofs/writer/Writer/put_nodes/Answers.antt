@@ -11,7 +11,7 @@ use Rattle.smt_lexicon.specs.Reading.{Expression}
 use Rattle.smt_encode.specs.Complete.{AreWritten}
 use Rattle.smt_encode.specs.NodeTexts.{text_at}
 use Rattle.smt_encode.specs.Names.{enums_under, nodes_under, texts_under}
-use Rattle.smt_encode.specs.LookUps.{edges, IsClosed}
+use Rattle.smt_encode.specs.LookUps.{look_ups, IsClosed}
 use Rattle.smt_encode.specs.NodeLines.{encode_meanings, meanings_fault}
 use Rattle.smt_encode.specs.declared.names.Names.{Names}
 use Rattle.smt_encode.specs.Steps.{Wrote}
@@ -73,7 +73,7 @@ returns-clause-steps g c has closed all =
     let same : nodes_under c.put_option.new.self.names ≡ nodes_under c.args.self.now.names = ap (λ (n : Names). n.nodes) c.in_ok-put_option.ensures.line.same_names ∙ c.in_ok-make_room.ensures.nodes in
     let walked = c.in_ok-texts.ensures.steps has (subst (λ (i : Interner). IsClosed (nodes_of i) has) (sym same) closed) all in
     let within = left_within has (nodes_under c.put_option.new.self.names) (texts_under c.put_option.new.self.names) in
-    let e = ap (λ (i : Interner). edges has (nodes_of i)) same in
+    let e = ap (λ (i : Interner). look_ups has (nodes_of i)) same in
     omega (arith, walked, within, e)
 
 pub returns-clause-fault : goal.returns-clause-fault

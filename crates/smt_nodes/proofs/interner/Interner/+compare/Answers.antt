@@ -1,5 +1,5 @@
-use Rattle.std.proofs.Common.{◌≡◌, ◌<◌, None, Some, sym, ap, ◌∙◌, arith, rules}
-use Rattle.smt_graph.specs.Nodes.{Meaning}
+use Rattle.std.proofs.Common.{◌≡◌, ◌<◌, List, None, Some, refl, sym, ◌∙◌, arith, rules}
+use Rattle.smt_graph.specs.Nodes.{Meaning, PlainLabel}
 use Rattle.smt_graph.specs.Meanings.{meanings}
 use Rattle.smt_graph.proofs.Distinct.{nothing_past}
 use Rattle.smt_nodes.proofs.Comparing.{at_length, at_nowhere, at_pair, compared, parts_earlier, Compared}
@@ -8,17 +8,24 @@ use Rattle.std.specs.declared.cmp.Ordering.TheVariants.{Equal}
 use Rattle.smt_nodes.specs.Interned.{nodes_of}
 use Rattle.smt_nodes.specs.Order.{first_cmp, meaning_cmp, parts_apart}
 use Rattle.smt_nodes.specs.View.{ids_of, place_of, plain_label, plain_node}
+use Rattle.smt_nodes.specs.declared.id.NodeId.{NodeId}
+use Rattle.smt_nodes.specs.declared.order.Difference.{Difference}
 use Rattle.smt_nodes.proofs.interner.Interner.+compare.Goals as goal
 
 none_some : (m : Meaning) → None ≡ Some m → ⊥
 none_some m e = cc
 
+-- what a search in equal lists found
+of_parts : (l k : PlainLabel) (xs zs ys ws : List NodeId) (d : Difference) → d ≡ parts_apart l k xs ys → xs ≡ zs → ys ≡ ws → d ≡ parts_apart l k zs ws
+of_parts l k xs zs ys ws d e f g = e ∙ (λ i. parts_apart l k (f i) (g i))
+
 pub compare-requires : goal.compare-requires
 compare-requires t c =
     let s = c.args.self.now in
     let l = c.in-Some.first.now.label in
-    let e = c.in-At.ensures ∙ (ap (λ xs. parts_apart (plain_label l) xs c.items-in-Equal.result.now) c.items.ensures) in
-    let lower : place_of c.in-At.x < place_of c.args.a = parts_earlier l (ids_of c.in-Some.first.now.parts) c.items-in-Equal.result.now (place_of c.args.a) (parts_before (nodes_of s) s.graph (place_of c.args.a) (plain_node c.in-Some.first.now) (sym c.in-Some.ensures)) c.in-At.x c.in-At.y e in
+    let k = c.in-Some-node.second.now.label in
+    let e = of_parts (plain_label l) (plain_label k) c.items.result.now _ c.items-in-Equal.result.now _ _ c.in-At.ensures c.items.ensures refl in
+    let lower : place_of c.in-At.x < place_of c.args.a = parts_earlier l k (ids_of c.in-Some.first.now.parts) c.items-in-Equal.result.now (place_of c.args.a) (parts_before (nodes_of s) s.graph (place_of c.args.a) (plain_node c.in-Some.first.now) (sym c.in-Some.ensures)) c.in-At.x c.in-At.y e in
     let d = c.decreases in (omega (arith, lower, d), tt)
 
 pub returns-in-Nowhere : goal.returns-in-Nowhere
@@ -26,21 +33,21 @@ returns-in-Nowhere t c m n p q a =
     let s = c.args.self.now in
     let k : first_cmp (plain_label c.in-Some.first.now.label) (plain_label c.in-Some-node.second.now.label) ≡ Equal = search rules in
     let r : Compared (nodes_of s) c.in-Some.first.now c.in-Some-node.second.now m n = compared (nodes_of s) s.graph (place_of c.args.a) (place_of c.args.b) c.in-Some.first.now c.in-Some-node.second.now (sym c.in-Some.ensures) (sym c.in-Some-node.ensures) m n p q a in
-    at_nowhere (meanings (nodes_of s)) _ (meaning_cmp m n) (r.same k) (c.in-Nowhere.ensures ∙ (ap (λ xs. parts_apart (plain_label c.in-Some.first.now.label) xs c.items-in-Equal.result.now) c.items.ensures ∙ ap (parts_apart (plain_label c.in-Some.first.now.label) (ids_of c.in-Some.first.now.parts)) c.items-in-Equal.ensures))
+    at_nowhere (meanings (nodes_of s)) _ (meaning_cmp m n) (r.same k) (of_parts (plain_label c.in-Some.first.now.label) (plain_label c.in-Some-node.second.now.label) c.items.result.now _ c.items-in-Equal.result.now _ _ c.in-Nowhere.ensures c.items.ensures c.items-in-Equal.ensures)
 
 pub returns-in-At : goal.returns-in-At
 returns-in-At t c m n p q a =
     let s = c.args.self.now in
     let k : first_cmp (plain_label c.in-Some.first.now.label) (plain_label c.in-Some-node.second.now.label) ≡ Equal = search rules in
     let r : Compared (nodes_of s) c.in-Some.first.now c.in-Some-node.second.now m n = compared (nodes_of s) s.graph (place_of c.args.a) (place_of c.args.b) c.in-Some.first.now c.in-Some-node.second.now (sym c.in-Some.ensures) (sym c.in-Some-node.ensures) m n p q a in
-    at_pair (meanings (nodes_of s)) _ (meaning_cmp m n) c.in-At.x c.in-At.y c.compare.result (r.same k) (c.in-At.ensures ∙ (ap (λ xs. parts_apart (plain_label c.in-Some.first.now.label) xs c.items-in-Equal.result.now) c.items.ensures ∙ ap (parts_apart (plain_label c.in-Some.first.now.label) (ids_of c.in-Some.first.now.parts)) c.items-in-Equal.ensures)) c.compare.ensures
+    at_pair (meanings (nodes_of s)) _ (meaning_cmp m n) c.in-At.x c.in-At.y c.compare.result (r.same k) (of_parts (plain_label c.in-Some.first.now.label) (plain_label c.in-Some-node.second.now.label) c.items.result.now _ c.items-in-Equal.result.now _ _ c.in-At.ensures c.items.ensures c.items-in-Equal.ensures) c.compare.ensures
 
 pub returns-in-Length : goal.returns-in-Length
 returns-in-Length t c m n p q a =
     let s = c.args.self.now in
     let k : first_cmp (plain_label c.in-Some.first.now.label) (plain_label c.in-Some-node.second.now.label) ≡ Equal = search rules in
     let r : Compared (nodes_of s) c.in-Some.first.now c.in-Some-node.second.now m n = compared (nodes_of s) s.graph (place_of c.args.a) (place_of c.args.b) c.in-Some.first.now c.in-Some-node.second.now (sym c.in-Some.ensures) (sym c.in-Some-node.ensures) m n p q a in
-    at_length (meanings (nodes_of s)) _ (meaning_cmp m n) c.in-Length.longer (r.same k) (c.in-Length.ensures ∙ (ap (λ xs. parts_apart (plain_label c.in-Some.first.now.label) xs c.items-in-Equal.result.now) c.items.ensures ∙ ap (parts_apart (plain_label c.in-Some.first.now.label) (ids_of c.in-Some.first.now.parts)) c.items-in-Equal.ensures))
+    at_length (meanings (nodes_of s)) _ (meaning_cmp m n) c.in-Length.longer (r.same k) (of_parts (plain_label c.in-Some.first.now.label) (plain_label c.in-Some-node.second.now.label) c.items.result.now _ c.items-in-Equal.result.now _ _ c.in-Length.ensures c.items.ensures c.items-in-Equal.ensures)
 
 pub returns-in_default : goal.returns-in_default
 returns-in_default t c m n p q a =

@@ -6,11 +6,12 @@ use Rattle.std.specs.Slice.Iter.{iter_rest}
 use Rattle.smt_graph.specs.Meanings.{all_found, meanings}
 use Rattle.smt_graph.specs.Nodes.{FunctionMeaning, TermMeaning, TypeMeaning}
 use Rattle.smt_graph.proofs.Whole.{round}
-use Rattle.smt_graph.specs.Parts.{parts_in, term_parts}
-use Rattle.smt_meaning.specs.Plain.{SetType, PlainTerm, Application, NoneTerm, LiteralTerm, SetTerm, SomeTerm, VariableTerm, terms}
+use Rattle.smt_graph.specs.Parts.{field_terms, parts_in, term_parts}
+use Rattle.smt_meaning.specs.Plain.{SetType, PlainTerm, Application, NoneTerm, LiteralTerm, RecordTerm, SetTerm, SomeTerm, VariableTerm, terms}
 use Rattle.std.specs.Rc.{rc_str_bytes}
-use Rattle.smt_term.specs.View.{plain_elements, plain_function, plain_items, plain_literal, plain_op, plain_term, plain_type, plain_term-App, plain_term-None, plain_term-Prim, plain_term-Set, plain_term-Some, plain_term-Var}
-use Rattle.smt_nodes.proofs.Finding.{all_right, app_parts, at_parts, call_parts, decided_by_parts, first_right, first_wrong, literal_typed, next_right, next_wrong, none_left, other_count, parts_applied, some_count, some_right, some_wrong}
+use Rattle.smt_term.specs.View.{plain_elements, plain_fields, plain_function, plain_items, plain_literal, plain_op, plain_term, plain_type, plain_term-App, plain_term-None, plain_term-Prim, plain_term-Record, plain_term-Set, plain_term-Some, plain_term-Var, record_fields}
+use Rattle.smt_nodes.proofs.Finding.{all_right, app_parts, at_parts, call_parts, decided_by_parts, first_behind, first_right, first_wrong, literal_typed, next_right, next_wrong, none_left, other_count, others_wrong, parts_applied, some_count, some_right, some_wrong}
+use Rattle.smt_nodes.proofs.RecordParts.{fields_listed, fields_meant, listed-length, terms_listed}
 use Rattle.smt_nodes.specs.Interned.{meaning_in, nodes_of}
 use Rattle.smt_nodes.specs.View.{place_of, places_of, plain_label}
 use Rattle.smt_nodes.proofs.interner.Interner.+find.Goals as goal
@@ -113,7 +114,7 @@ stand_for_terms-loop-id-init t c = search rules
 
 pub stand_for_terms-returns-then-not-stands_for_term : goal.stand_for_terms-returns-then-not-stands_for_term
 stand_for_terms-returns-then-not-stands_for_term t c =
-    next_wrong (meanings (nodes_of c.args.self.now)) _ _ c.in-Some.id.now _ _ c.in-Some.term.now _ c.stands_for_term.result c.in-Some.ensures.steps.0 c.in-Some.ensures.steps.1 c.stands_for_term.ensures c.if-not-stands_for_term.true c.loop-id.invariant.1
+    next_wrong terms_listed (meanings (nodes_of c.args.self.now)) _ _ c.in-Some.id.now _ _ c.in-Some.term.now _ c.stands_for_term.result c.in-Some.ensures.steps.0 c.in-Some.ensures.steps.1 c.stands_for_term.ensures c.if-not-stands_for_term.true c.loop-id.invariant.1
 
 pub stand_for_terms-loop-id-preserved : goal.stand_for_terms-loop-id-preserved
 stand_for_terms-loop-id-preserved t c =
@@ -121,15 +122,56 @@ stand_for_terms-loop-id-preserved t c =
     let terms : length (iter_rest (zip_second c.loop-id.id-iterator)) ≡ length (c.in-Some.term.now ∷ iter_rest (zip_second c.next.new.self)) = ap length c.in-Some.ensures.steps.1 in
     let same = c.loop-id.invariant.0 in (
       omega arith,
-      next_right (meanings (nodes_of c.args.self.now)) _ _ c.in-Some.id.now _ _ c.in-Some.term.now _ c.stands_for_term.result c.in-Some.ensures.steps.0 c.in-Some.ensures.steps.1 c.stands_for_term.ensures c.if-not-stands_for_term.false c.loop-id.invariant.1,
+      next_right terms_listed (meanings (nodes_of c.args.self.now)) _ _ c.in-Some.id.now _ _ c.in-Some.term.now _ c.stands_for_term.result c.in-Some.ensures.steps.0 c.in-Some.ensures.steps.1 c.stands_for_term.ensures c.if-not-stands_for_term.false c.loop-id.invariant.1,
     )
 
 pub stand_for_terms-returns : goal.stand_for_terms-returns
 stand_for_terms-returns t c =
     let spent = empty_from_Zip _ c.next.new.self _ c.in-None.is c.next.ensures.steps (c.loop-id.invariant.0) in
-    all_right (meanings (nodes_of c.args.self.now)) _ _ _ spent.0 spent.1 c.loop-id.invariant.1
+    all_right terms_listed (meanings (nodes_of c.args.self.now)) _ _ _ spent.0 spent.1 c.loop-id.invariant.1
 
 pub stands_for_term-returns-then-is_of_term : goal.stands_for_term-returns-then-is_of_term
 stands_for_term-returns-then-is_of_term t c =
     let s = c.args.self.now in
     decided_by_parts (nodes_of s) s.graph (place_of c.args.id) (plain_label c.in-Some.label.now) c.parts.result.now (TermMeaning (plain_term c.args.term.now)) c.are_parts_of_term.result c.in-Some.ensures (c.is_of_term.ensures.0 c.if-is_of_term.true) c.parts.ensures.found c.are_parts_of_term.ensures
+
+pub are_parts_of_term-returns-then-stand_for_fields : goal.are_parts_of_term-returns-then-stand_for_fields
+are_parts_of_term-returns-then-stand_for_fields t c =
+    let whole : plain_term c.args.term.now ≡ RecordTerm (record_fields (plain_fields c.in-Record.fields)) = ap plain_term c.in-Record.is ∙ plain_term-Record c.in-Record.fields in
+    first_behind (meanings (nodes_of c.args.self.now)) c.args.parts.now c.in-Some.inner.now c.in-Some.ty.now _ _ _ c.stand_for_fields.result c.is_type_of_record.result c.in-Some.ensures.cases.0 (ap (λ u. parts_in (TermMeaning u)) whole) c.stand_for_fields.ensures c.if-stand_for_fields.true (c.is_type_of_record.ensures (c.stand_for_fields.ensures.0 c.if-stand_for_fields.true))
+
+pub are_parts_of_term-returns-else-stand_for_fields : goal.are_parts_of_term-returns-else-stand_for_fields
+are_parts_of_term-returns-else-stand_for_fields t c =
+    let whole : plain_term c.args.term.now ≡ RecordTerm (record_fields (plain_fields c.in-Record.fields)) = ap plain_term c.in-Record.is ∙ plain_term-Record c.in-Record.fields in
+    others_wrong (meanings (nodes_of c.args.self.now)) c.args.parts.now c.in-Some.inner.now c.in-Some.ty.now _ _ _ c.stand_for_fields.result c.in-Some.ensures.cases.0 (ap (λ u. parts_in (TermMeaning u)) whole) c.stand_for_fields.ensures c.if-stand_for_fields.false
+
+pub stand_for_fields-returns-then-ids-fields : goal.stand_for_fields-returns-then-ids-fields
+stand_for_fields-returns-then-ids-fields t c =
+    other_count (meanings (nodes_of c.args.self.now)) c.args.ids.now _
+    (λ h. c.if-ids-fields.true (h ∙ (ap (λ ps. length (field_terms (record_fields ps))) (sym c.items-fields.ensures.plain) ∙ listed-length fields_listed c.items-fields.result.now)))
+
+pub stand_for_fields-loop-id-init : goal.stand_for_fields-loop-id-init
+stand_for_fields-loop-id-init t c =
+    let it = c.into_iter-id-iterator.result in
+    let ms = meanings (nodes_of c.args.self.now) in
+    let same : (length (iter_rest (zip_first it)) ≡ length (iter_rest (zip_second it))) × ((all_found ms (places_of (iter_rest (zip_first it))) ≡ Some (fields_meant (iter_rest (zip_second it)))) ↔ (all_found ms (places_of c.args.ids.now) ≡ Some (fields_meant c.items-fields.result.now))) = search rules in
+    let e = ap (λ ps. Some (field_terms (record_fields ps))) c.items-fields.ensures.plain in
+    (same.0, (λ h. same.1.0 h ∙ e, λ h. same.1.1 (h ∙ sym e)))
+
+pub stand_for_fields-returns-then-not-stands_for_term : goal.stand_for_fields-returns-then-not-stands_for_term
+stand_for_fields-returns-then-not-stands_for_term t c =
+    next_wrong fields_listed (meanings (nodes_of c.args.self.now)) _ _ c.in-Some.id.now _ _ _ _ c.stands_for_term.result c.in-Some.ensures.steps.0 c.in-Some.ensures.steps.1 c.stands_for_term.ensures c.if-not-stands_for_term.true c.loop-id.invariant.1
+
+pub stand_for_fields-loop-id-preserved : goal.stand_for_fields-loop-id-preserved
+stand_for_fields-loop-id-preserved t c =
+    let ids = ap length c.in-Some.ensures.steps.0 in
+    let fields = ap length c.in-Some.ensures.steps.1 in
+    let same = c.loop-id.invariant.0 in (
+      omega arith,
+      next_right fields_listed (meanings (nodes_of c.args.self.now)) _ _ c.in-Some.id.now _ _ _ _ c.stands_for_term.result c.in-Some.ensures.steps.0 c.in-Some.ensures.steps.1 c.stands_for_term.ensures c.if-not-stands_for_term.false c.loop-id.invariant.1,
+    )
+
+pub stand_for_fields-returns : goal.stand_for_fields-returns
+stand_for_fields-returns t c =
+    let spent = empty_from_Zip _ c.next.new.self _ c.in-None.is c.next.ensures.steps (c.loop-id.invariant.0) in
+    all_right fields_listed (meanings (nodes_of c.args.self.now)) _ _ _ spent.0 spent.1 c.loop-id.invariant.1

@@ -1,12 +1,18 @@
-use Rattle.std.proofs.Common.{◌≡◌, ◌∷◌, [], Some, map, sym, ap, ◌∙◌}
+use Rattle.std.proofs.Common.{◌≡◌, ◌∷◌, ◌++◌, [], Some, map, sym, ap, ◌∙◌, arith}
+use Rattle.std.proofs.lemmas.List.{take_all}
+use Rattle.smt_characters.specs.SharedTexts.{texts}
+use Rattle.smt_graph.specs.Parts.{field_names, field_terms}
+use Rattle.smt_leaves.specs.Pairs.{attributes_in}
+use Rattle.smt_nodes.specs.Attributes.{attributes_of}
 use Rattle.std.proofs.lemmas.Result.{IfOk-weaker}
 use Rattle.std.specs.Rc.{rc_str_bytes}
-use Rattle.smt_meaning.specs.Plain.{OptionType, SetType, PlainTerm, Application, NoneTerm, LiteralTerm, SetTerm, SomeTerm, UufOp, VariableTerm, terms}
-use Rattle.smt_meaning.specs.Types.{literal_type, type_of}
+use Rattle.smt_meaning.specs.Plain.{OptionType, RecordType, SetType, PlainTerm, Application, NoneTerm, LiteralTerm, RecordTerm, SetTerm, SomeTerm, UufOp, VariableTerm, terms}
+use Rattle.smt_meaning.specs.Types.{field_types, literal_type, type_of}
 use Rattle.smt_graph.specs.Meanings.{all_found, meanings, stands_for}
-use Rattle.smt_graph.specs.Nodes.{ApplicationLabel, LiteralLabel, NoneLabel, SetOfLabel, SomeLabel, VariableLabel, FunctionMeaning, TermMeaning, TypeMeaning}
-use Rattle.smt_term.specs.View.{plain_function, plain_literal, plain_op, plain_term, plain_type, plain_term-App, plain_term-None, plain_term-Prim, plain_term-Set, plain_term-Some, plain_term-Var}
-use Rattle.smt_nodes.proofs.Interning.{app_means, both_ok, call_means, literal_means, none_means, one_found, pushed, all_kept, set_means, some_means, two_found, variable_means}
+use Rattle.smt_graph.specs.Nodes.{ApplicationLabel, LiteralLabel, NoneLabel, RecordOfLabel, SetOfLabel, SomeLabel, VariableLabel, FunctionMeaning, TermMeaning, TypeMeaning}
+use Rattle.smt_term.specs.View.{fields_of, plain_fields, plain_function, plain_literal, plain_op, plain_term, plain_type, plain_term-App, plain_term-None, plain_term-Prim, plain_term-Record, plain_term-Set, plain_term-Some, plain_term-Var, record_fields}
+use Rattle.smt_nodes.proofs.Interning.{app_means, both_ok, call_means, literal_means, none_means, one_found, pushed, all_kept, record_means, set_means, some_means, two_found, variable_means}
+use Rattle.smt_nodes.proofs.RecordParts.{fields_ascend, fields_listed, fields_meant, term_names, terms_listed}
 use Rattle.smt_nodes.specs.Interned.{nodes_of, IsMeant}
 use Rattle.smt_nodes.specs.View.{places_of}
 use Rattle.smt_nodes.proofs.interner.Interner.+intern.Goals as goal
@@ -43,7 +49,7 @@ intern-returns-in_ok-parts-in-Set-clause-meaning t c =
     both_ok _ (IsMeant c.enter-in-Set.new.self) _ c.enter-in-Set.result
     (λ id h (m, e). (let made : stands_for SetOfLabel (TypeMeaning (SetType (plain_type c.in-Set.elts_ty)) ∷ map TermMeaning items) ≡ Some m = ap (λ t. stands_for SetOfLabel (TypeMeaning t ∷ map TermMeaning items)) (sym type) ∙ (sym h ∙ e) in
     e ∙ (sym (set_means (plain_type c.in-Set.elts_ty) items m made) ∙ ap (λ u. Some (TermMeaning u)) (sym whole))))
-    (c.enter-in-Set.ensures.meaning (TypeMeaning (type_of (plain_term c.args.term.now)) ∷ map TermMeaning items) (ap (λ l. all_found (meanings (nodes_of c.intern_all.new.self)) (places_of l)) c.as_slice.ensures.value ∙ c.in_ok-parts-in-Set.ensures.meanings (TypeMeaning (type_of (plain_term c.args.term.now)) ∷ []) (one_found (nodes_of c.intern_type_of.new.self) c.in_ok-ty.ty _ c.in_ok-ty.ensures.meaning)))
+    (c.enter-in-Set.ensures.meaning (TypeMeaning (type_of (plain_term c.args.term.now)) ∷ map TermMeaning items) (ap (λ l. all_found (meanings (nodes_of c.intern_all.new.self)) (places_of l)) c.as_slice-in-Set.ensures.value ∙ c.in_ok-parts-in-Set.ensures.meanings (TypeMeaning (type_of (plain_term c.args.term.now)) ∷ []) (one_found (nodes_of c.intern_type_of.new.self) c.in_ok-ty.ty _ c.in_ok-ty.ensures.meaning)))
     c.enter-in-Set.ensures.meant
 
 pub intern-returns-in_ok-part-in-Some-clause-meaning : goal.intern-returns-in_ok-part-in-Some-clause-meaning
@@ -80,6 +86,35 @@ intern_application-returns-in_ok-share-in_default-clause-meaning t c ty h =
 
 pub intern_all-loop-term-preserved : goal.intern_all-loop-term-preserved
 intern_all-loop-term-preserved t c = (
-  λ ms h. pushed (nodes_of c.intern.new.self) c.loop-term.parts.items c.push.new.self.items c.in_ok-part.part ms c.args.terms.now c.loop-term.term-index c.term-item.result c.in_ok-push.ensures.items (all_kept (nodes_of c.loop-term.self) (nodes_of c.intern.new.self) c.intern.ensures.kept c.loop-term.parts.items _ (c.loop-term.invariant.0 ms h)) c.in_ok-part.ensures.meaning c.loop-term-test.true c.term-item.is,
+  λ ms h. pushed terms_listed (nodes_of c.intern.new.self) c.loop-term.parts.items c.push.new.self.items c.in_ok-part.part ms c.args.terms.now c.loop-term.term-index c.term-item.result c.in_ok-push.ensures.items (all_kept (nodes_of c.loop-term.self) (nodes_of c.intern.new.self) c.intern.ensures.kept c.loop-term.parts.items _ (c.loop-term.invariant.0 ms h)) c.in_ok-part.ensures.meaning c.loop-term-test.true c.term-item.is,
   λ id m h. c.intern.ensures.kept id m (c.loop-term.invariant.1 id m h),
 )
+
+pub intern_fields-loop-term-init : goal.intern_fields-loop-term-init
+intern_fields-loop-term-init t c = (
+  λ m h. ap (λ l. all_found (meanings (nodes_of c.args.self.now)) (places_of l)) (c.in_ok-push.ensures.items ∙ ap (λ l. l ++ c.args.ty ∷ []) c.new-parts.ensures.items) ∙ one_found (nodes_of c.args.self.now) c.args.ty m h,
+  λ id m h. h,
+)
+
+pub intern_fields-loop-term-preserved : goal.intern_fields-loop-term-preserved
+intern_fields-loop-term-preserved t c = (
+  λ m h. pushed fields_listed (nodes_of c.intern.new.self) c.loop-term.parts.items c.push-in-loop-term.new.self.items c.in_ok-part.part (m ∷ []) c.items-fields.result.now c.loop-term.term-index c.loop-term-item.result c.in_ok-push-2.ensures.items (all_kept (nodes_of c.loop-term.self) (nodes_of c.intern.new.self) c.intern.ensures.kept c.loop-term.parts.items _ (c.loop-term.invariant.0 m h)) c.in_ok-part.ensures.meaning c.loop-term-test.true c.loop-term-item.is,
+  λ id m h. c.intern.ensures.kept id m (c.loop-term.invariant.1 id m h),
+)
+
+pub intern_fields-returns-clause-meanings : goal.intern_fields-returns-clause-meanings
+intern_fields-returns-clause-meanings t c m h =
+    c.loop-term.invariant.0 m h ∙ (ap (λ l. Some (m ∷ fields_meant l)) (take_all c.loop-term.term-index c.items-fields.result.now (omega (arith, c.loop-term-test.false))) ∙ ap (λ ps. Some (m ∷ field_terms (record_fields ps))) c.items-fields.ensures.plain)
+
+pub intern-returns-in_ok-parts-in-Record-clause-meaning : goal.intern-returns-in_ok-parts-in-Record-clause-meaning
+intern-returns-in_ok-parts-in-Record-clause-meaning t c =
+    let fields = c.in-Record.fields in
+    let x = record_fields (plain_fields fields) in
+    let whole : plain_term c.args.term.now ≡ RecordTerm x = ap plain_term c.in-Record.is ∙ plain_term-Record fields in
+    let type : type_of (plain_term c.args.term.now) ≡ RecordType (field_types x) = ap type_of whole in
+    let names : texts (attributes_of c.in_ok-names-in-Record.names) ≡ field_names x = c.in_ok-names-in-Record.ensures ∙ (ap attributes_in c.items-in-Record.ensures.same ∙ term_names (fields_of fields)) in
+    IfOk-weaker c.enter-in-Record.result _ _ (λ id h. h ∙ (ap (λ t. stands_for (RecordOfLabel (texts (attributes_of c.in_ok-names-in-Record.names))) (TypeMeaning t ∷ field_terms x)) type ∙ (ap (λ l. stands_for (RecordOfLabel l) (TypeMeaning (RecordType (field_types x)) ∷ field_terms x)) names ∙ (record_means x (fields_ascend fields) ∙ ap (λ u. Some (TermMeaning u)) (sym whole)))))
+    (c.enter-in-Record.ensures.meaning (TypeMeaning (type_of (plain_term c.args.term.now)) ∷ field_terms x) (ap (λ l. all_found (meanings (nodes_of c.intern_fields.new.self)) (places_of l)) c.as_slice.ensures.value ∙ c.in_ok-parts-in-Record.ensures.meanings (TypeMeaning (type_of (plain_term c.args.term.now))) c.in_ok-ty.ensures.meaning))
+
+pub intern-returns-in_ok-parts-in-Record-clause-kept : goal.intern-returns-in_ok-parts-in-Record-clause-kept
+intern-returns-in_ok-parts-in-Record-clause-kept t c id m h = c.enter-in-Record.ensures.kept id m (c.intern_fields.ensures.kept id m (c.intern_type_of.ensures.kept id m h))

@@ -2,7 +2,11 @@ use Rattle.smt_nodes.specs.Interned.{nodes_of}
 use Rattle.smt_bits.specs.Width.{bits_in}
 use Rattle.smt_leaves.specs.Entities.{bytes_of_type}
 use Rattle.std.specs.Rc.{rc_str_bytes}
-use Rattle.smt_nodes.proofs.Fitting.{fits_by}
+use Rattle.std.proofs.Common.{ap, ◌∙◌}
+use Rattle.smt_characters.specs.SharedTexts.{texts}
+use Rattle.smt_graph.specs.Meanings.{meanings}
+use Rattle.smt_graph.specs.Nodes.{RecordLabel, RecordOfLabel}
+use Rattle.smt_nodes.proofs.Fitting.{fits_by, Fits}
 use Rattle.smt_nodes.proofs.interner.Interner.fits.Goals as goal
 
 pub returns-in-TOption : goal.returns-in-TOption
@@ -46,3 +50,13 @@ returns-in-SomeOf c = fits_by (nodes_of c.args.self.now) c.args.node.now _ c.ite
 
 pub returns-in-Var : goal.returns-in-Var
 returns-in-Var c = fits_by (nodes_of c.args.self.now) c.args.node.now _ c.items-parts.result.now c.fits_variable.result c.in-Var.is c.items-parts.ensures (c.fits_variable.ensures (rc_str_bytes c.in-Var.field-0))
+
+pub returns-in-TRecord : goal.returns-in-TRecord
+returns-in-TRecord c =
+    fits_by (nodes_of c.args.self.now) c.args.node.now _ c.items-parts.result.now c.fits_record_type.result c.in-TRecord.is c.items-parts.ensures
+    (c.fits_record_type.ensures ∙ ap (λ l. Fits (RecordLabel (texts l)) (meanings (nodes_of c.args.self.now)) c.items-parts.result.now) c.items.ensures)
+
+pub returns-in-RecordOf : goal.returns-in-RecordOf
+returns-in-RecordOf c =
+    fits_by (nodes_of c.args.self.now) c.args.node.now _ c.items-parts.result.now c.fits_record.result c.in-RecordOf.is c.items-parts.ensures
+    (c.fits_record.ensures ∙ ap (λ l. Fits (RecordOfLabel (texts l)) (meanings (nodes_of c.args.self.now)) c.items-parts.result.now) c.items-in-RecordOf.ensures)

@@ -2,8 +2,11 @@ use Rattle.std.proofs.Common.{sym, ap, ◌∙◌}
 use Rattle.std.specs.Rc.{rc_str_bytes}
 use Rattle.smt_graph.specs.Parts.{term_label}
 use Rattle.smt_meaning.specs.Plain.{terms}
-use Rattle.smt_term.specs.View.{plain_items, plain_term, plain_type, plain_term-App, plain_term-None, plain_term-Prim, plain_term-Set, plain_term-Some, plain_term-Var}
-use Rattle.smt_nodes.proofs.Finding.{at_label, label_is, literal_is, no_literal, no_variable, text_is}
+use Rattle.smt_characters.specs.SharedTexts.{texts}
+use Rattle.smt_leaves.specs.Pairs.{attributes_in}
+use Rattle.smt_nodes.proofs.RecordParts.{term_names}
+use Rattle.smt_term.specs.View.{fields_of, plain_items, plain_term, plain_type, plain_term-App, plain_term-None, plain_term-Prim, plain_term-Record, plain_term-Set, plain_term-Some, plain_term-Var}
+use Rattle.smt_nodes.proofs.Finding.{at_label, label_is, literal_is, no_literal, no_record, no_variable, record_of_is, text_is}
 use Rattle.smt_nodes.specs.declared.node.Label.TheVariants.{NoneOf, SetOf, SomeOf}
 use Rattle.smt_nodes.proofs.node.Label.is_of_term.Goals as goal
 
@@ -31,5 +34,13 @@ pub returns-in-Var-self : goal.returns-in-Var-self
 returns-in-Var-self c =
     at_label c.eq-in-Var-self.result c.args.self.now _ _ (ap plain_term c.in-Var.is ∙ plain_term-Var c.in-Var.variable) (text_is c.eq-in-Var-self.result c.args.self.now c.in-Var-self.own (rc_str_bytes c.in-Var.variable.id) c.eq-in-Var-self.ensures c.in-Var-self.is)
 
+pub returns-in_default-self-2 : goal.returns-in_default-self-2
+returns-in_default-self-2 c = at_label _ c.args.self.now _ _ (ap plain_term c.in-Var.is ∙ plain_term-Var c.in-Var.variable) (no_variable c.args.self.now (rc_str_bytes c.in-Var.variable.id) c.in_default-self-2.not-Var)
+
+pub returns-in-RecordOf : goal.returns-in-RecordOf
+returns-in-RecordOf c =
+    at_label c.are_attributes_of.result c.args.self.now _ _ (ap plain_term c.in-Record.is ∙ plain_term-Record c.in-Record.fields)
+    (record_of_is c.are_attributes_of.result c.args.self.now c.in-RecordOf.own _ _ _ c.in-RecordOf.is (ap texts c.items.ensures) c.are_attributes_of.ensures (ap attributes_in c.items-in-RecordOf.ensures.same ∙ term_names (fields_of c.in-Record.fields)))
+
 pub returns-in_default-self : goal.returns-in_default-self
-returns-in_default-self c = at_label _ c.args.self.now _ _ (ap plain_term c.in-Var.is ∙ plain_term-Var c.in-Var.variable) (no_variable c.args.self.now (rc_str_bytes c.in-Var.variable.id) c.in_default-self.not-Var)
+returns-in_default-self c = at_label _ c.args.self.now _ _ (ap plain_term c.in-Record.is ∙ plain_term-Record c.in-Record.fields) (no_record c.args.self.now _ c.in_default-self.not-RecordOf)

@@ -1,8 +1,11 @@
 use Rattle.std.proofs.Common.{sym, ap, ◌∙◌}
 use Rattle.smt_graph.specs.Parts.{type_label}
 use Rattle.smt_leaves.specs.Entities.{bytes_of_type}
-use Rattle.smt_term.specs.View.{plain_type, plain_type-Option, plain_type-Bitvec, plain_type-Bool, plain_type-Entity, plain_type-String, plain_type-Set}
-use Rattle.smt_nodes.proofs.Finding.{at_type_label, entity_type_is, label_is, no_entity_type}
+use Rattle.smt_characters.specs.SharedTexts.{texts}
+use Rattle.smt_leaves.specs.Pairs.{attributes_in}
+use Rattle.smt_nodes.proofs.RecordParts.{type_names}
+use Rattle.smt_term.specs.View.{attributes_held, plain_type, plain_type-Option, plain_type-Bitvec, plain_type-Bool, plain_type-Entity, plain_type-Record, plain_type-String, plain_type-Set}
+use Rattle.smt_nodes.proofs.Finding.{at_type_label, entity_type_is, label_is, no_entity_type, no_record_label, record_type_is}
 use Rattle.smt_nodes.specs.declared.node.Label.TheVariants.{TOption, TBitvec, TBool, TString, TSet}
 use Rattle.smt_nodes.proofs.node.Label.is_of_type.Goals as goal
 
@@ -26,3 +29,11 @@ returns-in-String c = label_is _ c.args.self.now TString _ c.eq-in-String.ensure
 
 pub returns-in-Set : goal.returns-in-Set
 returns-in-Set c = label_is _ c.args.self.now TSet _ c.eq-in-Set.ensures (sym (ap type_label (ap plain_type c.in-Set.is ∙ plain_type-Set c.in-Set.ty)))
+
+pub returns-in-TRecord : goal.returns-in-TRecord
+returns-in-TRecord c =
+    at_type_label c.are_attributes_of.result c.args.self.now _ _ (ap plain_type c.in-Record.is ∙ plain_type-Record c.in-Record.rty)
+    (record_type_is c.are_attributes_of.result c.args.self.now c.in-TRecord.own _ _ _ c.in-TRecord.is (ap texts c.items.ensures) c.are_attributes_of.ensures (ap attributes_in c.items-in-TRecord.ensures.same ∙ type_names (attributes_held c.in-Record.rty)))
+
+pub returns-in_default-self : goal.returns-in_default-self
+returns-in_default-self c = at_type_label _ c.args.self.now _ _ (ap plain_type c.in-Record.is ∙ plain_type-Record c.in-Record.rty) (no_record_label c.args.self.now _ c.in_default-self.not-TRecord)

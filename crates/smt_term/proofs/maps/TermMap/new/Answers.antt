@@ -1,7 +1,8 @@
-use Rattle.smt_term.proofs.PutPairs.{field_put}
+use Rattle.std.proofs.Common.{map}
+use Rattle.smt_leaves.proofs.AscendingPairs.{pairs_ascend}
+use Rattle.smt_term.specs.Maps.{plain_field}
+use Rattle.smt_term.specs.View.{plain_term}
 use Rattle.smt_term.proofs.maps.TermMap.new.Goals as goal
 
-pub loop-name-preserved : goal.loop-name-preserved
-loop-name-preserved c =
-    field_put c.args.items.now c.loop-name.name-index c.loop-name-item.result c.in_ok-share_text.field-0 c.in_ok-share.field-0 c.loop-name.found.entries c.insert.new.self.entries
-    c.loop-name-test.true c.loop-name-item.is c.in_ok-share_text.ensures c.in_ok-share.ensures c.in_ok-insert.ensures.entries c.loop-name.invariant
+pub new-requires : goal.new-requires
+new-requires c = pairs_ascend plain_term c.in_ok-pairs.pairs.items (map plain_field c.args.items.now) c.in_ok-pairs.ensures

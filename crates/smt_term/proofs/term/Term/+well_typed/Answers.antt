@@ -3,6 +3,7 @@ use Rattle.smt_meaning.specs.Types.{is_type, result_type, type_of}
 use Rattle.smt_meaning.specs.TermOrder.{term_cmp}
 use Rattle.smt_meaning.specs.ValueOrder.{ascends}
 use Rattle.smt_term.specs.View.{plain_op, plain_term, plain_type}
+use Rattle.smt_term.proofs.RecordFields.{are_typed_fields, record_typed, typed_field_more, typed_field_none}
 use Rattle.smt_term.proofs.TypedArguments.{application_typed, are_all, not_given, set_typed, typed_list, typed_more, typed_none}
 use Rattle.smt_term.proofs.term.Term.+well_typed.Goals as goal
 
@@ -38,8 +39,29 @@ returns-else-takes t c =
 
 pub returns-then-not-well_typed-2 : goal.returns-then-not-well_typed-2
 returns-then-not-well_typed-2 t c =
+    let items = c.items-fields.result.now in
+    let untyped = sym c.well_typed-in-loop-field.ensures ∙ c.if-not-well_typed-2.true in
+    let left = typed_field_more items c.loop-field.field-index c.loop-field-item.result c.loop-field-test.true c.loop-field-item.is in
+    let none = sym c.loop-field.invariant ∙ left ∙ ap (λ b. b && are_typed_fields (drop (c.loop-field.field-index + 1) items)) untyped in
+    sym (record_typed c.args.self.now c.in-Record.fields items c.in-Record.is c.items-fields.ensures.same ∙ none)
+
+pub loop-field-preserved : goal.loop-field-preserved
+loop-field-preserved t c =
+    let items = c.items-fields.result.now in
+    let typed = sym c.well_typed-in-loop-field.ensures ∙ c.if-not-well_typed-2.false in
+    let left = typed_field_more items c.loop-field.field-index c.loop-field-item.result c.loop-field-test.true c.loop-field-item.is in
+    sym (left ∙ ap (λ b. b && are_typed_fields (drop (c.loop-field.field-index + 1) items)) typed) ∙ c.loop-field.invariant
+
+pub returns-after-loop-field : goal.returns-after-loop-field
+returns-after-loop-field t c =
+    let items = c.items-fields.result.now in
+    let all = sym c.loop-field.invariant ∙ typed_field_none items c.loop-field.field-index (omega (arith, c.loop-field-test.false)) in
+    sym (record_typed c.args.self.now c.in-Record.fields items c.in-Record.is c.items-fields.ensures.same ∙ all)
+
+pub returns-then-not-well_typed-3 : goal.returns-then-not-well_typed-3
+returns-then-not-well_typed-3 t c =
     let items = c.items-elements.result.now in
-    let untyped = sym c.well_typed-in-loop-element.ensures ∙ c.if-not-well_typed-2.true in
+    let untyped = sym c.well_typed-in-loop-element.ensures ∙ c.if-not-well_typed-3.true in
     let left = typed_more items c.loop-element.element-index c.element-item.result c.loop-element-test.true c.element-item.is in
     let none = sym c.loop-element.invariant ∙ left ∙ ap (λ b. b && typed_list (drop (c.loop-element.element-index + 1) items)) untyped in
     sym (set_typed c.args.self.now c.in-Set.elts_ty c.in-Set.elts items c.in-Set.is c.items-elements.ensures.plain ∙ ap (λ b. b && (are_all c.in-Set.elts_ty items && ascends term_cmp (map plain_term items))) none)
@@ -47,7 +69,7 @@ returns-then-not-well_typed-2 t c =
 pub loop-element-preserved : goal.loop-element-preserved
 loop-element-preserved t c =
     let items = c.items-elements.result.now in
-    let typed = sym c.well_typed-in-loop-element.ensures ∙ c.if-not-well_typed-2.false in
+    let typed = sym c.well_typed-in-loop-element.ensures ∙ c.if-not-well_typed-3.false in
     let left = typed_more items c.loop-element.element-index c.element-item.result c.loop-element-test.true c.element-item.is in
     sym (left ∙ ap (λ b. b && typed_list (drop (c.loop-element.element-index + 1) items)) typed) ∙ c.loop-element.invariant
 

@@ -1,0 +1,28 @@
+use Rattle.std.proofs.Common.{ℕ, List, ap, refl, subst, sym, ◌∙◌}
+use Rattle.std.specs.Io.KnownBytes.{append_known}
+use Rattle.smt_characters.specs.SharedTexts.{texts}
+use Rattle.smt_graph.specs.Nodes.{TypeMeaning}
+use Rattle.smt_lines.specs.Line.{spelled_lines}
+use Rattle.smt_lines.specs.LineForms.{record_lines}
+use Rattle.smt_lines.specs.Lines.{next_record}
+use Rattle.smt_meaning.specs.Plain.{RecordType}
+use Rattle.smt_nodes.specs.Interned.{meaning_in}
+use Rattle.smt_encode.specs.Names.{nodes_under, KeepTables}
+use Rattle.smt_encode.specs.NodeLines.{with_name}
+use Rattle.smt_encode.specs.declared.names.Names.{Names}
+use Rattle.smt_encode.proofs.Named.{names_alone}
+use Rattle.smt_encode.proofs.writer.Writer.declare_record.Goals as goal
+
+pub enter_type-requires-clause-meant : goal.enter_type-requires-clause-meant
+enter_type-requires-clause-meant g c =
+    let (m, meant) = c.requires.meant in
+    (m, ap (λ n. meaning_in (nodes_under n) c.args.id) c.in_ok-name.ensures.alone.names ∙ meant)
+
+pub returns-clause-lines : goal.returns-clause-lines
+returns-clause-lines g c x es s meant shown has =
+    let same = c.in_ok-name.ensures.alone.names in
+    let put = c.in_ok-name.ensures.lines s es (names_alone c.args.self.now.names s has) shown in
+    let keeps = subst (λ (n : Names). KeepTables n s) (sym same) has in
+    let there = ap (λ n. meaning_in (nodes_under n) c.args.id) same ∙ meant in
+    let names = subst (λ (n : List ℕ). KeepTables c.enter_type.new.self (with_name s (TypeMeaning (RecordType x)) n)) (c.in_ok-clone.ensures.cases ∙ put.named) (c.enter_type.ensures.tables s (RecordType x) keeps there refl) in
+    (record { names = names; contents_are = put.got ∙ ap (λ l. append_known (g.S.Sink.contents c.args.self.now.script) (spelled_lines (record_lines (texts l) (next_record s) es))) c.items.ensures }, put.named)

@@ -1,0 +1,35 @@
+-- Records of pairs, and the folding of the calls on records: the cases in the order in which they are tried.
+use Rattle.std.specs.Prelude.{ℕ, true, false, bytes_eq, codes, List, [], ◌∷◌, Option, Some, None}
+use Rattle.std.specs.Option.{unwrap_or}
+use Rattle.smt_folding.specs.Applications.{record_get_of}
+use Rattle.smt_meaning.specs.Types.{attribute_type, type_of}
+use Rattle.smt_meaning.specs.ValueOrder.{sorted, text_cmp}
+use Rattle.smt_meaning.specs.Plain.{PlainTerm, RecordTerm, PlainFields, no_fields, one_field}
+
+-- attributes and their terms as the fields of a record
+abbrev pub fields : List (List ℕ × PlainTerm) → PlainFields
+fields [] = no_fields
+fields (p ∷ ps) = one_field p.0 p.1 (fields ps)
+
+-- the pairs in the order of their attributes' bytes; of pairs of one attribute the last stays
+abbrev pub sorted_fields : List (List ℕ × PlainTerm) → List (List ℕ × PlainTerm)
+sorted_fields ps = sorted (λ p q. text_cmp p.0 q.0) ps
+
+-- the record of these pairs
+abbrev pub record_of_pairs : List (List ℕ × PlainTerm) → PlainTerm
+record_of_pairs ps = RecordTerm (fields (sorted_fields ps))
+
+-- the record of an entity and of its tag
+abbrev pub tag_record : (entity tag : PlainTerm) → PlainTerm
+tag_record t u = RecordTerm (one_field (codes "entity") t (one_field (codes "tag") u no_fields))
+
+-- the term of an attribute
+abbrev pub field_in : List ℕ → PlainFields → Option PlainTerm
+field_in x no_fields = None
+field_in x (one_field a t fs) = elim (bytes_eq x a) [ true ↦ Some t | false ↦ field_in x fs ]
+
+-- A record gives the attribute's term. Another term of a record type with the attribute: the application; what does not have
+-- the attribute, and what is no record, stays.
+abbrev pub folded_record_get : PlainTerm → (attribute : List ℕ) → PlainTerm
+folded_record_get (RecordTerm fs) x = unwrap_or (field_in x fs) (RecordTerm fs)
+folded_record_get t x = elim (attribute_type x (type_of t)) [ Some ty ↦ record_get_of t x | None ↦ t ]
