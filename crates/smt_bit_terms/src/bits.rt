@@ -247,6 +247,7 @@ fn type_width(alloc: Global, t: &Term) -> Result<Option<Width>, TermError>
         TermType::Option { .. }
         | TermType::Bool
         | TermType::Entity { .. }
+        | TermType::Ext { .. }
         | TermType::String
         | TermType::Record { .. }
         | TermType::Set { .. } => Ok(None),

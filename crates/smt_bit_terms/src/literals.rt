@@ -34,7 +34,7 @@ fn literal_bits(literal: &TermPrim) -> Option<BitVec>
 {
     match literal {
         TermPrim::Bitvec(bits) => Some(*bits),
-        TermPrim::Bool(_) | TermPrim::Entity(_) | TermPrim::String(_) => None,
+        TermPrim::Bool(_) | TermPrim::Entity(_) | TermPrim::Ext(_) | TermPrim::String(_) => None,
     }
 }
 

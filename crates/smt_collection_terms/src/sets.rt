@@ -46,6 +46,7 @@ fn element_type(alloc: Global, t: &Term) -> Result<Option<TermType>, TermError>
         | TermType::Bitvec { .. }
         | TermType::Bool
         | TermType::Entity { .. }
+        | TermType::Ext { .. }
         | TermType::String
         | TermType::Record { .. } => Ok(None),
     }

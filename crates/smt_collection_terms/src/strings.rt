@@ -39,7 +39,7 @@ fn literal_text(literal: &TermPrim) -> Option<&Text>
 {
     match literal {
         TermPrim::String(text) => Some(text),
-        TermPrim::Bitvec(_) | TermPrim::Bool(_) | TermPrim::Entity(_) => None,
+        TermPrim::Bitvec(_) | TermPrim::Bool(_) | TermPrim::Entity(_) | TermPrim::Ext(_) => None,
     }
 }
 

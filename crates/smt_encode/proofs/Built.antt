@@ -2,18 +2,16 @@
 use Rattle.std.proofs.Common.{◌≡◌, ◌<◌, ℕ, zero, suc, true, false, List, [], ◌∷◌, length, length-append, map, ◌≤◌, Some, None, refl, sym, ap, ◌∙◌, arith}
 use Rattle.std.specs.Prelude.{nat_eq, option_map, slice_get}
 use Rattle.std.proofs.lemmas.Bool.{false≢true}
-use Rattle.smt_meaning.specs.Plain.{OptionType, BitVecType, BoolType, EntityType, ExtensionType, StringType, RecordType, SetType, AttributeTypes, BitVecLiteral, BoolLiteral, EntityLiteral, ExtensionLiteral, StringLiteral, UufOp, PlainFunction, PlainOp, PlainTerm, PlainTerms, PlainType, list_of_terms, Application, NoneTerm, LiteralTerm, RecordTerm, SetTerm, SomeTerm, VariableTerm}
+use Rattle.smt_meaning.specs.Plain.{ExtensionKind, OptionType, BitVecType, BoolType, EntityType, ExtensionType, StringType, RecordType, SetType, AttributeTypes, BitVecLiteral, BoolLiteral, EntityLiteral, ExtensionLiteral, StringLiteral, UufOp, PlainFunction, PlainOp, PlainTerm, PlainTerms, PlainType, list_of_terms, Application, NoneTerm, LiteralTerm, RecordTerm, SetTerm, SomeTerm, VariableTerm}
 use Rattle.smt_term.specs.View.{plain_function, plain_op}
 use Rattle.std.specs.declared.alloc.Global.{Global}
 use Rattle.std.specs.declared.rc.RcStr.{RcStr}
 use Rattle.smt_leaves.specs.declared.entity.EntityType.{EntityType as EntityName}
+use Rattle.smt_leaves.specs.declared.extension.ExtType.{ExtType}
 use Rattle.smt_meaning.specs.TypeValues.{Enums}
 use Rattle.smt_term.specs.declared.op.Op.{Op}
 use Rattle.smt_term.specs.declared.op.Op.TheVariants.{And, Uuf}
-use Rattle.smt_term.specs.declared.term.TermPrim.{TermPrim}
-use Rattle.smt_term.specs.declared.term.TermPrim.TheVariants.{Bool as Truth}
-use Rattle.smt_term.specs.View.{plain_literal}
-use Rattle.smt_graph.specs.Nodes.{PlainLabel, ApplicationLabel, CallLabel, EntityLabel, FunctionLabel, LiteralLabel, RecordLabel, Meaning, TypeMeaning, FunctionMeaning, TermMeaning}
+use Rattle.smt_graph.specs.Nodes.{PlainLabel, ApplicationLabel, CallLabel, EntityLabel, ExtensionLabel, FunctionLabel, LiteralLabel, RecordLabel, Meaning, TypeMeaning, FunctionMeaning, TermMeaning}
 use Rattle.smt_graph.specs.Parts.{label_in, names_in, parts_in, term_label, term_parts}
 use Rattle.smt_nodes.specs.Interned.{meaning_in, nodes_of}
 use Rattle.smt_nodes.specs.View.{place_of, plain_label, plain_node}
@@ -21,11 +19,11 @@ use Rattle.smt_nodes.specs.declared.id.NodeId.{NodeId}
 use Rattle.smt_nodes.specs.declared.attributes.AttrList.{AttrList}
 use Rattle.smt_nodes.specs.declared.interner.Interner.{Interner}
 use Rattle.smt_nodes.specs.declared.node.Label.{Label}
-use Rattle.smt_nodes.specs.declared.node.Label.TheVariants.{TBool, TEntity, TRecord, Fun, App, Prim}
+use Rattle.smt_nodes.specs.declared.node.Label.TheVariants.{TBool, TEntity, TExt, TRecord, Fun, App}
 use Rattle.smt_nodes.specs.declared.node.Node.{Node}
 use Rattle.smt_nodes.proofs.Labels.{label_is}
 use Rattle.smt_encode.specs.NodeLines.{has_entry}
-use Rattle.smt_encode.specs.Entries.{NodeRendering, AsCall, Rendered, entry_fault, has_inline, heading, inline_by, is_built, is_built_literal, is_built_op, is_declared, is_entered, rendering_in, selection_fault, written_parts}
+use Rattle.smt_encode.specs.Entries.{NodeRendering, AsCall, Rendered, entry_fault, has_inline, heading, inline_by, is_built, is_built_op, is_declared, is_entered, rendering_in, selection_fault, written_parts}
 use Rattle.smt_lexicon.specs.Reading.{Expression}
 use Rattle.smt_lines.specs.Lines.{AsFalse}
 use Rattle.smt_encode.proofs.Named.{meant_within}
@@ -44,13 +42,8 @@ built_op And h = refl
 built_op (Uuf f) h = absurd (h (plain_function f.value) refl)
 built_op o h = refl
 
-pub built_literal : (l : TermPrim) → is_built_literal (plain_literal l) ≡ true
-built_literal (Truth b) = refl
-built_literal l = refl
-
 pub built_label : (l : Label) → ((f : PlainFunction) → plain_label l ≡ ApplicationLabel (UufOp f) → ⊥) → is_built (plain_label l) ≡ true
 built_label (App o) h = built_op o (λ f e. h f (ap ApplicationLabel e))
-built_label (Prim l) h = built_literal l
 built_label TBool h = refl
 built_label l h = refl
 
@@ -86,9 +79,9 @@ enters (TypeMeaning (SetType t)) n b u count none = absurd (false≢true (sym no
 enters (TypeMeaning (BitVecType w)) n b u count none = absurd (false≢true (sym none))
 enters (TypeMeaning BoolType) n b u count none = absurd (false≢true (sym none))
 enters (TypeMeaning (EntityType e)) n b u count none = absurd (false≢true (sym u))
+enters (TypeMeaning (ExtensionType k)) n b u count none = absurd (false≢true (sym u))
 enters (TypeMeaning StringType) n b u count none = absurd (false≢true (sym none))
 enters (TypeMeaning (RecordType x)) n b u count none = absurd (false≢true (sym u))
-enters (TypeMeaning t) n b u count none = absurd (false≢true b)
 enters (FunctionMeaning f) n b u count none = absurd (false≢true (sym u))
 enters (TermMeaning (Application o ts t)) n b u count none =
     let s = some_written (rendering_in (TermMeaning (Application o ts t))) (TypeMeaning t) (term_parts (Application o ts t)) in
@@ -96,7 +89,7 @@ enters (TermMeaning (Application o ts t)) n b u count none =
 enters (TermMeaning (LiteralTerm (BitVecLiteral w x))) n b u count none = absurd (false≢true (sym none))
 enters (TermMeaning (LiteralTerm (BoolLiteral x))) n b u count none = absurd (false≢true (sym none))
 enters (TermMeaning (LiteralTerm (EntityLiteral e i))) n b u count none = (LiteralTerm (EntityLiteral e i), refl, refl, omega (arith, count))
-enters (TermMeaning (LiteralTerm (ExtensionLiteral x))) n b u count none = absurd (false≢true b)
+enters (TermMeaning (LiteralTerm (ExtensionLiteral x))) n b u count none = (LiteralTerm (ExtensionLiteral x), refl, refl, omega (arith, count))
 enters (TermMeaning (LiteralTerm (StringLiteral x))) n b u count none = absurd (false≢true (sym none))
 enters (TermMeaning (RecordTerm fs)) n b u count none = (RecordTerm fs, refl, refl, omega (arith, count))
 enters (TermMeaning (NoneTerm t)) n b u count none = (NoneTerm t, refl, refl, omega (arith, count))
@@ -104,13 +97,14 @@ enters (TermMeaning (SetTerm t ts)) n b u count none = (SetTerm t ts, refl, refl
 enters (TermMeaning (SomeTerm t)) n b u count none = (SomeTerm t, refl, refl, omega (arith, count))
 enters (TermMeaning (VariableTerm id t)) n b u count none = (VariableTerm id t, refl, refl, omega (arith, count))
 
--- a label of the program that is no entity type's, no record type's and no function's declares nothing
-pub undeclared : (l : Label) → ((e : EntityName) → l ≡ TEntity e → ⊥) → ((names : AttrList) → l ≡ TRecord names → ⊥) → ((id : RcStr Global) → l ≡ Fun id → ⊥) → is_declared (plain_label l) ≡ false
-undeclared (TEntity e) h r g = absurd (h e refl)
-undeclared (TRecord names) h r g = absurd (r names refl)
-undeclared (Fun id) h r g = absurd (g id refl)
-undeclared TBool h r g = refl
-undeclared l h r g = refl
+-- a label of the program that is no entity type's, no extension type's, no record type's and no function's declares nothing
+pub undeclared : (l : Label) → ((e : EntityName) → l ≡ TEntity e → ⊥) → ((k : ExtType) → l ≡ TExt k → ⊥) → ((names : AttrList) → l ≡ TRecord names → ⊥) → ((id : RcStr Global) → l ≡ Fun id → ⊥) → is_declared (plain_label l) ≡ false
+undeclared (TEntity e) h x r g = absurd (h e refl)
+undeclared (TExt k) h x r g = absurd (x k refl)
+undeclared (TRecord names) h x r g = absurd (r names refl)
+undeclared (Fun id) h x r g = absurd (g id refl)
+undeclared TBool h x r g = refl
+undeclared l h x r g = refl
 
 -- what an entity type's label stands for
 pub entity_meant : (m : Meaning) (e : List ℕ) → label_in m ≡ EntityLabel e → m ≡ TypeMeaning (EntityType e)
@@ -129,6 +123,19 @@ entity_meant (FunctionMeaning f) e h = absurd (cc)
 entity_meant (TermMeaning (Application (UufOp f) ts t)) e h = absurd (cc)
 entity_meant (TermMeaning (Application o ts t)) e h = absurd (cc)
 entity_meant (TermMeaning t) e h = absurd (cc)
+
+-- what an extension type's label stands for
+pub extension_meant : (m : Meaning) (k : ExtensionKind) → label_in m ≡ ExtensionLabel k → m ≡ TypeMeaning (ExtensionType k)
+extension_meant (TypeMeaning (ExtensionType l)) k h = ap (λ n. TypeMeaning (ExtensionType n)) (same h)
+  where
+    same : ExtensionLabel l ≡ ExtensionLabel k → l ≡ k
+    same h = cc
+extension_meant (TypeMeaning BoolType) k h = absurd (cc)
+extension_meant (TypeMeaning t) k h = absurd (cc)
+extension_meant (FunctionMeaning f) k h = absurd (cc)
+extension_meant (TermMeaning (Application (UufOp f) ts t)) k h = absurd (cc)
+extension_meant (TermMeaning (Application o ts t)) k h = absurd (cc)
+extension_meant (TermMeaning t) k h = absurd (cc)
 
 -- what a record type's label stands for
 pub record_meant : (m : Meaning) (names : List (List ℕ)) → label_in m ≡ RecordLabel names → (x : AttributeTypes) × (m ≡ TypeMeaning (RecordType x)) × (names ≡ names_in x)
@@ -189,6 +196,7 @@ no_selection (FunctionMeaning f) n h = refl
 
 pub entered_has_entry : (t : PlainTerm) → is_entered (label_in (TermMeaning t)) ≡ true → has_entry (TermMeaning t) ≡ true
 entered_has_entry (LiteralTerm (EntityLiteral e i)) h = refl
+entered_has_entry (LiteralTerm (ExtensionLiteral x)) h = refl
 entered_has_entry (LiteralTerm l) h = absurd (false≢true h)
 entered_has_entry t h = refl
 

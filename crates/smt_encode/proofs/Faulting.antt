@@ -5,7 +5,7 @@ use Rattle.std.specs.Option.{option_or}
 use Rattle.std.specs.Prelude.{is_none, not}
 use Rattle.std.proofs.lemmas.Bool.{false≢true}
 use Rattle.smt_meaning.specs.Faults.{Fault, attribute_types_fault, entity_fault, entity_type_fault, fields_fault, operator_fault, record_get_fault, term_fault, terms_fault, type_fault, unless}
-use Rattle.smt_meaning.specs.Plain.{PlainType, OptionType, BitVecType, BoolType, EntityType, StringType, RecordType, SetType, AttributeTypes, no_attributes, attribute, PlainTerm, PlainTerms, no_terms, one_term, PlainFields, no_fields, one_field, PlainFunction, PlainOp, BvnegoOp, RecordGetOp, UufOp, Application, NoneTerm, LiteralTerm, RecordTerm, SetTerm, SomeTerm, VariableTerm, BitVecLiteral, BoolLiteral, EntityLiteral, StringLiteral, list_of_terms}
+use Rattle.smt_meaning.specs.Plain.{PlainType, OptionType, BitVecType, BoolType, EntityType, ExtensionType, StringType, RecordType, SetType, AttributeTypes, no_attributes, attribute, PlainTerm, PlainTerms, no_terms, one_term, PlainFields, no_fields, one_field, PlainFunction, PlainOp, BvnegoOp, RecordGetOp, UufOp, Application, NoneTerm, LiteralTerm, RecordTerm, SetTerm, SomeTerm, VariableTerm, BitVecLiteral, BoolLiteral, EntityLiteral, ExtensionLiteral, StringLiteral, list_of_terms}
 use Rattle.smt_meaning.specs.Types.{is_bits, type_of, types_of}
 use Rattle.smt_meaning.specs.TypeValues.{Enums, members_of}
 use Rattle.smt_graph.specs.Nodes.{ApplicationLabel, Meaning, TypeMeaning, FunctionMeaning, TermMeaning}
@@ -92,10 +92,10 @@ module _ (enums : Enums) where
   faults (TypeMeaning (BitVecType n)) h = refl
   faults (TypeMeaning BoolType) h = refl
   faults (TypeMeaning (EntityType e)) h = refl
+  faults (TypeMeaning (ExtensionType k)) h = refl
   faults (TypeMeaning StringType) h = refl
   faults (TypeMeaning (RecordType x)) h = sym (types_in_order x) ∙ sym (or_none _)
   faults (TypeMeaning (SetType t)) h = alone (type_fault enums t)
-  faults (TypeMeaning t) h = absurd (false≢true h)
   faults (FunctionMeaning f) h = ap (option_or (type_fault enums f.argument)) (sym (or_none (type_fault enums f.output))) ∙ sym (or_none _)
   faults (TermMeaning (Application o ts t)) h = go (call_or_not o)
     where
@@ -110,7 +110,7 @@ module _ (enums : Enums) where
   faults (TermMeaning (LiteralTerm (BoolLiteral b))) h = refl
   faults (TermMeaning (LiteralTerm (EntityLiteral e i))) h = ap (λ f. option_or f (entity_fault e i (members_of enums e))) (sym (or_none (entity_type_fault e (members_of enums e))))
   faults (TermMeaning (LiteralTerm (StringLiteral x))) h = sym (or_none _)
-  faults (TermMeaning (LiteralTerm l)) h = absurd (false≢true h)
+  faults (TermMeaning (LiteralTerm (ExtensionLiteral x))) h = refl
   faults (TermMeaning (RecordTerm fs)) h = ap (option_or (type_fault enums (type_of (RecordTerm fs)))) (sym (fields_in_order fs)) ∙ sym (or_none _)
   faults (TermMeaning (SetTerm t ts)) h = ap (option_or (type_fault enums t)) (sym (terms_in_order ts)) ∙ sym (or_none _)
   faults (TermMeaning (SomeTerm t)) h = ap (option_or (type_fault enums (type_of t))) (sym (or_none (term_fault enums t))) ∙ sym (or_none _)

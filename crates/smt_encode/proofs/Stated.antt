@@ -171,12 +171,12 @@ stated enums (TypeMeaning (OptionType t)) s h u none = sym (one_part (encode_typ
 stated enums (TypeMeaning (BitVecType n)) s h u none = refl
 stated enums (TypeMeaning BoolType) s h u none = refl
 stated enums (TypeMeaning (EntityType e)) s h u none = ap (λ n. unless_named n s (λ u. declare_entity enums e u)) none
+stated enums (TypeMeaning (ExtensionType k)) s h u none = ap (λ n. unless_named n s (λ u. declare_kind k u)) none
 stated enums (TypeMeaning StringType) s h u none = refl
 stated enums (TypeMeaning (RecordType x)) s h u none =
     ap (λ n. unless_named n s (λ u. encode_attributes enums x u >>= λ sorts v. declare_record x sorts v)) none
     ∙ sym (λ i. types_in_order enums x s i >>= λ es u. enter_type (RecordType x) (next_record u) (record_lines (names_are x i) (next_record u) es) u)
 stated enums (TypeMeaning (SetType t)) s h u none = sym (one_part (encode_type enums t s) (λ es u. own_lines enums (TypeMeaning (SetType t)) es u))
-stated enums (TypeMeaning t) s h u none = absurd (false≢true h)
 stated enums (FunctionMeaning f) s h u none = absurd (cc)
 stated enums (TermMeaning (Application o ts t)) s h u none =
     ap (λ n. unless_named n s (λ u. encode_type enums t u >>= λ sort v. define_application enums (application_rendering o ts t) o ts t (λ w. encode_terms enums ts w) sort v)) none
@@ -201,7 +201,9 @@ stated enums (TermMeaning (LiteralTerm (EntityLiteral e i))) s h u none =
     ∙ entity_stated enums e i s (name_of_type s (EntityType e)) refl
     ∙ sym (one_part (encode_type enums (EntityType e) s) (λ es u. own_lines enums (TermMeaning (LiteralTerm (EntityLiteral e i))) es u))
 stated enums (TermMeaning (LiteralTerm (StringLiteral x))) s h u none = refl
-stated enums (TermMeaning (LiteralTerm l)) s h u none = absurd (false≢true h)
+stated enums (TermMeaning (LiteralTerm (ExtensionLiteral x))) s h u none =
+    ap (λ n. unless_named n s (λ u. encode_type enums (literal_type (ExtensionLiteral x)) u >>= λ sort v. define (LiteralTerm (ExtensionLiteral x)) sort (extension_body x) v)) none
+    ∙ sym (one_part (encode_type enums (literal_type (ExtensionLiteral x)) s) (λ es u. own_lines enums (TermMeaning (LiteralTerm (ExtensionLiteral x))) es u))
 stated enums (TermMeaning (RecordTerm fs)) s h u none =
     let w : Written Expression = encode_type enums (type_of (RecordTerm fs)) s in
     let k : List Expression → Tables → Written Expression = λ es u. own_lines enums (TermMeaning (RecordTerm fs)) es u in

@@ -4,14 +4,14 @@ use Rattle.std.specs.Option.{option_or}
 use Rattle.smt_meaning.specs.Faults.{Fault, entity_fault, entity_type_fault, record_get_fault}
 use Rattle.smt_meaning.specs.Types.{types_of}
 use Rattle.smt_meaning.specs.Plain.{PlainLiteral, EntityLiteral, ExtensionLiteral, PlainType, BitVecType, BoolType, PlainOp, BvnegoOp, PlainFunction, RecordGetOp, UufOp, PlainTerm, PlainTerms, Application}
-use Rattle.smt_graph.specs.Nodes.{PlainLabel, OptionLabel, BitVecLabel, BoolLabel, EntityLabel, StringLabel, RecordLabel, SetLabel, FunctionLabel, ApplicationLabel, CallLabel, NoneLabel, LiteralLabel, RecordOfLabel, SetOfLabel, SomeLabel, VariableLabel, Meaning, FunctionMeaning, TermMeaning, TypeMeaning}
+use Rattle.smt_graph.specs.Nodes.{PlainLabel, OptionLabel, BitVecLabel, BoolLabel, EntityLabel, ExtensionLabel, StringLabel, RecordLabel, SetLabel, FunctionLabel, ApplicationLabel, CallLabel, NoneLabel, LiteralLabel, RecordOfLabel, SetOfLabel, SomeLabel, VariableLabel, Meaning, FunctionMeaning, TermMeaning, TypeMeaning}
 use Rattle.smt_graph.specs.Parts.{label_in}
 use Rattle.smt_lexicon.specs.Reading.{Expression}
 use Rattle.smt_semantics.specs.Script.{group, name}
 use Rattle.smt_semantics.specs.Sorts.{bit_sort, bool_sort, option_sort, set_sort, string_sort}
 use Rattle.smt_lines.specs.Line.{Line}
-use Rattle.smt_lines.specs.EntryNames.{attribute_name}
-use Rattle.smt_lines.specs.LineForms.{application_body, entity_lines, function_declaration, function_heading, least_body, none_body, operator_head, record_body, record_lines, set_body}
+use Rattle.smt_lines.specs.EntryNames.{attribute_name, kind_name}
+use Rattle.smt_lines.specs.LineForms.{application_body, entity_lines, extension_body, function_declaration, function_heading, kind_lines, least_body, none_body, operator_head, record_body, record_lines, set_body}
 use Rattle.smt_lines.specs.Lines.{Enums, Written, Rendering, AsApplication, AsEqualsIntMin, AsFalse, application_rendering, attribute_place, enter_function, enter_term, enter_type, first_type, made_of, members_of, next_entity, next_function, next_record, next_term}
 use Rattle.smt_lines.specs.NameTables.{Tables, name_of_type, text_of_name}
 use Rattle.smt_lines.specs.Spelling.{spelled}
@@ -64,6 +64,7 @@ call_body es = group (last_first es)
 -- how a literal is entered that has no text of its own
 abbrev pub literal_entry : Enums → PlainLiteral → (sort : Expression) → PlainEntry
 literal_entry enums (EntityLiteral e i) sort = entity_entry (members_of enums e) i (spelled sort)
+literal_entry enums (ExtensionLiteral x) sort = ByBody (extension_body x)
 literal_entry enums l sort = ByName []
 
 -- how a term is entered, by what it begins with, its sort and the texts of its other parts
@@ -81,6 +82,7 @@ entry_by enums l how head sort es = ByName []
 -- a type's own lines, by the texts of its parts, and its name among the names
 abbrev pub declare_by : Enums → PlainLabel → PlainType → List Expression → Tables → Written Expression
 declare_by enums (EntityLabel e) t es s = enter_type t (next_entity s) (entity_lines (members_of enums e) e (next_entity s)) s
+declare_by enums (ExtensionLabel k) t es s = enter_type t (kind_name k) (kind_lines k (kind_name k)) s
 declare_by enums (RecordLabel names) t es s = enter_type t (next_record s) (record_lines names (next_record s) es) s
 declare_by enums l t es s = made_of (name []) s
 
@@ -196,37 +198,19 @@ selection_fault m = None
 abbrev pub own_fault : Enums → PlainLabel → NodeRendering → (head : Option Fault) → Option Fault
 own_fault enums l how head = option_or (inline_fault l) (option_or head (entry_fault enums l how))
 
--- what the program has nodes for: of extension values it has none yet, and a function at arguments is a call
+-- what the program has nodes for: all but a function as an operator, since a function at arguments is a call
 abbrev pub is_built_op : PlainOp → Bool
 is_built_op (UufOp f) = false
 is_built_op o = true
 
-abbrev pub is_built_literal : PlainLiteral → Bool
-is_built_literal (ExtensionLiteral x) = false
-is_built_literal l = true
-
 abbrev pub is_built : PlainLabel → Bool
-is_built OptionLabel = true
-is_built (BitVecLabel n) = true
-is_built BoolLabel = true
-is_built (EntityLabel e) = true
-is_built StringLabel = true
-is_built (RecordLabel names) = true
-is_built SetLabel = true
-is_built (FunctionLabel id) = true
 is_built (ApplicationLabel o) = is_built_op o
-is_built CallLabel = true
-is_built NoneLabel = true
-is_built (LiteralLabel l) = is_built_literal l
-is_built (RecordOfLabel names) = true
-is_built SetOfLabel = true
-is_built SomeLabel = true
-is_built (VariableLabel id) = true
-is_built l = false
+is_built l = true
 
 -- labels of terms that have entries
 abbrev pub is_entered_literal : PlainLiteral → Bool
 is_entered_literal (EntityLiteral e i) = true
+is_entered_literal (ExtensionLiteral x) = true
 is_entered_literal l = false
 
 abbrev pub is_entered : PlainLabel → Bool
@@ -243,6 +227,7 @@ is_entered l = false
 -- labels of types that have entries, and of functions
 abbrev pub is_declared : PlainLabel → Bool
 is_declared (EntityLabel e) = true
+is_declared (ExtensionLabel k) = true
 is_declared (RecordLabel names) = true
 is_declared (FunctionLabel id) = true
 is_declared l = false

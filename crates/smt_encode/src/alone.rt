@@ -9,10 +9,12 @@ ghost use Rattle.smt_characters.specs.SharedTexts.{texts};
 ghost use Rattle.smt_encode.specs.Alone.{encoded, fault_of_entity, fault_of_type, line_of_entity, name_of_entity, record_body_text, set_body_text, sorts_given};
 ghost use Rattle.smt_encode.specs.Entries.{entry_name};
 ghost use Rattle.smt_leaves.specs.Entities.{bytes_of_id, bytes_of_type};
+ghost use Rattle.smt_leaves.specs.ExtensionView.{plain_kind};
 ghost use Rattle.smt_leaves.specs.Pairs.{attributes_in};
 ghost use Rattle.smt_lines.specs.Line.{spelled_lines};
 ghost use Rattle.smt_lexicon.specs.Reading.{Expression};
-ghost use Rattle.smt_lines.specs.LineForms.{entity_lines, record_lines};
+ghost use Rattle.smt_lines.specs.EntryNames.{kind_name};
+ghost use Rattle.smt_lines.specs.LineForms.{entity_lines, kind_lines, record_lines};
 ghost use Rattle.smt_lines.specs.Lines.{members_of, next_entity, next_record, next_term};
 ghost use Rattle.smt_lines.specs.NameTables.{Tables};
 ghost use Rattle.smt_spelling.specs.Entries.{entry_bytes, PlainEntry, SaysEntry};
@@ -21,8 +23,11 @@ ghost use Rattle.smt_spelling.specs.Spelled.{AreSpelled};
 use crate::error::{EncodeError, WriteError};
 use crate::writer::Writer;
 use smt_script::{Sink, SmtLibScript};
-use smt_spelling::{Entry, entity_datatype, entity_entry, record_datatype, set_text};
-use smt_term::{Attr, EntityType, EntityUID, TermVar, Text};
+use smt_spelling::{
+    Entry, entity_datatype, entity_entry, extension_constructors, extension_name, record_datatype,
+    set_text,
+};
+use smt_term::{Attr, EntityType, EntityUID, ExtType, TermVar, Text};
 use smt_text::{push_spaced, quote_id, share_text};
 use std::alloc::{AllocError, Global};
 
@@ -97,6 +102,15 @@ impl<S: Sink> Writer<'_, S> {
         let datatype = entity_datatype(self.alloc, ety, members, name.as_str())?;
         datatype.put(&mut self.script, name.as_str())?;
         Ok(name)
+    }
+
+    /// Puts the datatype of an extension type under its own name.
+    pub(crate) fn put_ext_type(&mut self, xty: ExtType) -> Result<Text, WriteError>
+        ensures lines { IfOk result (PutUnder S.contents self.old.script self.new.script (kind_name (plain_kind xty)) (spelled_lines (kind_lines (plain_kind xty) (kind_name (plain_kind xty))))) }
+        ensures alone { PutsAlone S.faults S.place None self.old self.new result }
+    {
+        let constructors = extension_constructors(self.alloc, xty)?;
+        self.put_type(extension_name(xty), constructors.as_slice())
     }
 
     /// Puts the comment and the datatype of a record type, by the sorts of its attributes, under the name that is next.

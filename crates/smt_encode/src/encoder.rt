@@ -6,6 +6,7 @@ ghost use Rattle.smt_characters.specs.Quoting.{quoted_id};
 ghost use Rattle.smt_characters.specs.SharedTexts.{texts};
 ghost use Rattle.smt_leaves.specs.Entities.{bytes_of_id, bytes_of_type};
 ghost use Rattle.smt_leaves.specs.Enums.{enums_of};
+ghost use Rattle.smt_leaves.specs.ExtensionView.{plain_kind};
 ghost use Rattle.smt_leaves.specs.Pairs.{attributes_in};
 ghost use Rattle.smt_meaning.specs.Faults.{first_fault, term_fault, type_fault};
 ghost use Rattle.smt_meaning.specs.Plain.{PlainTerm, terms};
@@ -13,7 +14,8 @@ ghost use Rattle.smt_meaning.specs.Typing.{AreBoolean, AreTyped};
 ghost use Rattle.smt_graph.specs.Nodes.{FunctionMeaning, TermMeaning, TypeMeaning};
 ghost use Rattle.smt_term.specs.View.{plain_function, plain_op, plain_term, plain_type};
 ghost use Rattle.smt_lines.specs.Line.{spelled_lines};
-ghost use Rattle.smt_lines.specs.LineForms.{entity_lines, record_lines};
+ghost use Rattle.smt_lines.specs.EntryNames.{kind_name};
+ghost use Rattle.smt_lines.specs.LineForms.{entity_lines, kind_lines, record_lines};
 ghost use Rattle.smt_lines.specs.Lines as lines;
 ghost use Rattle.smt_lines.specs.Lines.{encode_head, members_of, next_entity, next_record, next_term};
 ghost use Rattle.smt_lines.specs.NameTables.{Tables, no_names};
@@ -37,7 +39,9 @@ use crate::steps::Steps;
 use crate::writer::Writer;
 use smt_nodes::{Interner, NodeId, Subject};
 use smt_script::Sink;
-use smt_term::{Attr, EntityType, EntityUID, EnumTable, Op, Term, TermType, TermVar, Text, Uuf};
+use smt_term::{
+    Attr, EntityType, EntityUID, EnumTable, ExtType, Op, Term, TermType, TermVar, Text, Uuf,
+};
 use std::alloc::Global;
 use std::marker::Brand;
 use std::sync::ledger::{Blank, Ledger};
@@ -403,6 +407,30 @@ impl<S: Sink> Encoder<'_, S> {
             return Err(EncodeError::Spent);
         }
         let outcome = self.writer.put_entity_type(ety);
+        settle(&mut self.failed, outcome)
+    }
+
+    /// Writes the datatype of an extension type, as `encode` does, under the name that it has, and answers this name
+    /// (`(declare-datatype Decimal ..)` and so on, SMT-LIB 2.7, chapter 3, Lexicon and Scripts).
+    ///
+    /// The datatypes of decimals, datetimes and durations have one constructor, at a number of 64 bits. That of IP ranges,
+    /// `IPAddr`, has `V4` and `V6`, at an address of 32 or 128 bits and the option of a prefix of 5 or 7 bits. The names
+    /// that the encoder has stay as they are.
+    ///
+    /// # Errors
+    ///
+    /// Those of `declare_type`.
+    pub fn declare_ext_type(&mut self, ext_ty: ExtType) -> Result<Text, EncodeError>
+        ensures put { IfOk result (PutUnder S.contents (sink_of self.old) (sink_of self.new) (kind_name (plain_kind ext_ty)) (spelled_lines (kind_lines (plain_kind ext_ty) (kind_name (plain_kind ext_ty))))) }
+        ensures refused { HasCause (S.faults (sink_of self.old)) (S.faults (sink_of self.new)) None result }
+        ensures complete { IsComplete (has_failed self.old) (S.faults (sink_of self.old)) (S.faults (sink_of self.new)) None result }
+        ensures spent { SpendsOnError self.old self.new result }
+        ensures kept { NamesStay S.faults S.place None self.old self.new }
+    {
+        if self.failed {
+            return Err(EncodeError::Spent);
+        }
+        let outcome = self.writer.put_ext_type(ext_ty);
         settle(&mut self.failed, outcome)
     }
 

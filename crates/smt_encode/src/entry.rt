@@ -20,8 +20,9 @@ ghost use Rattle.smt_term.specs.View.{plain_literal, plain_op};
 use crate::rendering::Rendering;
 use smt_nodes::Label;
 use smt_spelling::{
-    Entry, TextError, application_body, as_text, bits_sort, call_text, entity_entry, headed_body,
-    least_body, literal_text, option_sort, record_text, set_sort, set_text, some_text,
+    Entry, TextError, application_body, as_text, bits_sort, call_text, entity_entry,
+    extension_text, headed_body, least_body, literal_text, option_sort, record_text, set_sort,
+    set_text, some_text,
 };
 use smt_term::{EnumTable, Op, TermPrim, Text};
 use smt_text::quote_id;
@@ -63,7 +64,7 @@ pub(crate) fn inline_text(
         Label::TOption => Ok(option_text(alloc, parts)?),
         Label::TBitvec(width) => Ok(Some(bits_sort(alloc, *width)?)),
         Label::TBool => Ok(Some(Text::from_str(alloc, "Bool")?)),
-        Label::TEntity(_) | Label::TRecord(_) => Ok(None),
+        Label::TEntity(_) | Label::TExt(_) | Label::TRecord(_) => Ok(None),
         Label::TString => Ok(Some(Text::from_str(alloc, "String")?)),
         Label::TSet => Ok(set_sort_text(alloc, parts)?),
         Label::Prim(literal) => literal_text(alloc, literal),
@@ -145,6 +146,7 @@ fn literal_entry(
         TermPrim::Entity(entity) => {
             entity_entry(alloc, enums.members_of(&entity.ety), entity, sort)
         }
+        TermPrim::Ext(value) => Ok(Entry::Body(extension_text(alloc, value)?)),
         // These have their own text.
         TermPrim::Bitvec(_) | TermPrim::Bool(_) | TermPrim::String(_) => unreachable!(),
     }
@@ -186,6 +188,7 @@ pub(crate) fn entry_from(
         | Label::TBitvec(_)
         | Label::TBool
         | Label::TEntity(_)
+        | Label::TExt(_)
         | Label::TString
         | Label::TRecord(_)
         | Label::TSet

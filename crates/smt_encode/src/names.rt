@@ -57,7 +57,7 @@ fn is_inline_type(ty: &TermType) -> bool
         | TermType::Bool
         | TermType::String
         | TermType::Set { .. } => true,
-        TermType::Entity { .. } | TermType::Record { .. } => false,
+        TermType::Entity { .. } | TermType::Ext { .. } | TermType::Record { .. } => false,
     }
 }
 
@@ -68,7 +68,7 @@ fn is_inline_term(term: &Term) -> bool
     match term {
         Term::Prim(literal) => match literal {
             TermPrim::Bitvec(_) | TermPrim::Bool(_) | TermPrim::String(_) => true,
-            TermPrim::Entity(_) => false,
+            TermPrim::Entity(_) | TermPrim::Ext(_) => false,
         },
         Term::App { .. }
         | Term::None(_)

@@ -108,7 +108,7 @@ impl Names<'_> {
                     Err(SelectorError::Lacks(attribute))
                 }
             },
-            Some(Label::TEntity(_)) => {
+            Some(Label::TEntity(_) | Label::TExt(_)) => {
                 let ty = self.nodes().type_at(ty)?;
                 Err(SelectorError::NoRecord(ty))
             }

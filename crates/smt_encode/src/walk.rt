@@ -4,7 +4,7 @@ ghost use Rattle.std.specs.List.{AllByRecursion};
 ghost use Rattle.std.specs.Rc.{rc_str_bytes};
 ghost use Rattle.smt_graph.specs.Meanings.{all_found, meanings};
 ghost use Rattle.smt_characters.specs.SharedTexts.{texts};
-ghost use Rattle.smt_graph.specs.Nodes.{EntityLabel, FunctionMeaning, Meaning, RecordLabel, TermMeaning, TypeMeaning};
+ghost use Rattle.smt_graph.specs.Nodes.{EntityLabel, ExtensionLabel, FunctionMeaning, Meaning, RecordLabel, TermMeaning, TypeMeaning};
 ghost use Rattle.smt_nodes.specs.Attributes.{attributes_of};
 ghost use Rattle.smt_graph.specs.Parts.{label_in, parts_in};
 ghost use Rattle.smt_nodes.specs.Interned.{meaning_in, nodes_of, IsMeant};
@@ -12,8 +12,9 @@ ghost use Rattle.smt_nodes.specs.View.{place_of, places_of, plain_label};
 ghost use Rattle.smt_lexicon.specs.Reading.{Expression};
 ghost use Rattle.smt_script.specs.Sink.{Puts};
 ghost use Rattle.smt_leaves.specs.Entities.{bytes_of_type};
+ghost use Rattle.smt_leaves.specs.ExtensionView.{plain_kind};
 ghost use Rattle.smt_meaning.specs.Faults.{entity_type_fault};
-ghost use Rattle.smt_meaning.specs.Plain.{AttributeTypes, EntityType as EntityTypeOf, PlainFunction, PlainTerm, RecordType};
+ghost use Rattle.smt_meaning.specs.Plain.{AttributeTypes, EntityType as EntityTypeOf, ExtensionType, PlainFunction, PlainTerm, RecordType};
 ghost use Rattle.smt_lines.specs.Line.{spelled_lines};
 ghost use Rattle.smt_lines.specs.Lines.{made_of, members_of};
 ghost use Rattle.smt_lines.specs.NameTables.{Tables};
@@ -37,7 +38,7 @@ use crate::writer::Writer;
 use smt_nodes::{AttrList, Label, Node, NodeId};
 use smt_script::{Sink, SinkError, SmtLibScript};
 use smt_spelling::Entry;
-use smt_term::{EntityType, Text};
+use smt_term::{EntityType, ExtType, Text};
 use std::sync::ledger::Ledger;
 
 /// Puts what stands before the lines of a node's parts: of a function its id in a comment, of another node nothing.
@@ -189,6 +190,7 @@ impl<S: Sink> Writer<'_, S> {
     {
         match &node.label {
             Label::TEntity(ety) => self.declare(id, ety),
+            Label::TExt(xty) => self.declare_extension(id, *xty),
             Label::TRecord(names) => self.declare_record(id, names, texts.as_slice()),
             Label::Fun(_) => self.declare_function(id, texts.as_slice()),
             label => {
@@ -239,6 +241,22 @@ impl<S: Sink> Writer<'_, S> {
         ensures only { (place : ℕ) → ¬ (place ≡ place_of id) → kept_at (texts_under self.new.names).texts.items place ≡ kept_at (texts_under self.old.names).texts.items place }
     {
         let name = self.put_entity_type(ety)?;
+        self.names.enter_type(id, name.clone()?);
+        Ok(name)
+    }
+
+    /// Puts the datatype of an extension type that has no name yet, and enters it.
+    fn declare_extension(&mut self, id: NodeId, xty: ExtType) -> Result<Text, WriteError>
+        requires meant { meaning_in (nodes_under self.old.names) id ≡ Some (TypeMeaning (ExtensionType (plain_kind xty))) }
+        requires room { HasRoom self.old.names }
+        requires unkept { text_at (texts_under self.old.names) id ≡ None }
+        ensures lines { (s : Tables) → HasTables self.old s → WritesHere S.contents self.old self.new (declare_by (enums_under self.old.names) (ExtensionLabel (plain_kind xty)) (ExtensionType (plain_kind xty)) [] s) IsSpelled result }
+        ensures fault { Finds write_fault None result }
+        ensures walks { Walks S.faults S.place (WriteError.Sink SinkError.Fault) (suc (place_of id)) self.old self.new result }
+        ensures kept { IfOk result (λ text. text_at (texts_under self.new.names) id ≡ Some (rc_str_bytes text)) }
+        ensures only { (place : ℕ) → ¬ (place ≡ place_of id) → kept_at (texts_under self.new.names).texts.items place ≡ kept_at (texts_under self.old.names).texts.items place }
+    {
+        let name = self.put_ext_type(xty)?;
         self.names.enter_type(id, name.clone()?);
         Ok(name)
     }

@@ -38,6 +38,7 @@ fn is_truth_type(ty: &TermType) -> bool
         TermType::Option { .. }
         | TermType::Bitvec { .. }
         | TermType::Entity { .. }
+        | TermType::Ext { .. }
         | TermType::String
         | TermType::Record { .. }
         | TermType::Set { .. } => false,
@@ -49,7 +50,7 @@ fn is_truth(literal: &TermPrim) -> bool
 {
     match literal {
         TermPrim::Bool(_) => true,
-        TermPrim::Bitvec(_) | TermPrim::Entity(_) | TermPrim::String(_) => false,
+        TermPrim::Bitvec(_) | TermPrim::Entity(_) | TermPrim::Ext(_) | TermPrim::String(_) => false,
     }
 }
 

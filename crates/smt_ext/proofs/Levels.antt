@@ -21,6 +21,7 @@ use Rattle.smt_ext.specs.declared.ipaddr.prefix.IPv4Prefix.{IPv4Prefix}
 use Rattle.smt_ext.specs.declared.ipaddr.prefix.IPv6Prefix.{IPv6Prefix}
 use Rattle.smt_ext.specs.IpOrder.{prefix_cmp}
 use Rattle.smt_ext.specs.IpView.{v4_prefix, v6_prefix}
+use Rattle.smt_ext.proofs.NumberSame.{same_datetime, same_decimal, same_duration}
 use Rattle.smt_ext.proofs.IpSame.{same_v4_addr, same_v6_addr, same_v4_prefix, same_v6_prefix}
 
 level_prefixes : IsAntisymmetric prefix_cmp
@@ -67,14 +68,14 @@ level_ranges (V4 a) (V6 b) h = cc
 level_ranges (V6 a) (V4 b) h = cc
 level_ranges (V6 a) (V6 b) h = ap V6 (level_v6_ranges a b h)
 
-level_decimals : (a b : Number) → int_cmp a.0 b.0 ≡ Equal → a ≡ b
-level_decimals a b h = search rules
+pub level_decimals : (a b : Number) → int_cmp a.ten_thousandths b.ten_thousandths ≡ Equal → a ≡ b
+level_decimals a b h = same_decimal a b (search rules)
 
-level_datetimes : (a b : Moment) → int_cmp a.milliseconds b.milliseconds ≡ Equal → a ≡ b
-level_datetimes a b h = search rules
+pub level_datetimes : (a b : Moment) → int_cmp a.milliseconds b.milliseconds ≡ Equal → a ≡ b
+level_datetimes a b h = same_datetime a b (search rules)
 
-level_durations : (a b : Span) → int_cmp a.milliseconds b.milliseconds ≡ Equal → a ≡ b
-level_durations a b h = search rules
+pub level_durations : (a b : Span) → int_cmp a.milliseconds b.milliseconds ≡ Equal → a ≡ b
+level_durations a b h = same_duration a b (search rules)
 
 pub level_values : IsAntisymmetric value_order.ghosts.cmp
 level_values (Decimal a) (Decimal b) h = ap Decimal (level_decimals a b h)

@@ -11,6 +11,7 @@ pub mod IpSame
 pub mod IpSplits
 pub mod Levels
 pub mod Midnights
+pub mod NumberSame
 pub mod PrintedDecimals
 pub mod Stamps
 pub mod WorkedDatetimes

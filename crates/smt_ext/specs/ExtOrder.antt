@@ -10,7 +10,7 @@ use Rattle.smt_ext.specs.Milliseconds.{datetime_value, duration_value}
 
 -- the number or the range that a value stands for
 abbrev pub plain_value : Ext → PlainExtension
-plain_value (Decimal d) = DecimalOf d.0
+plain_value (Decimal d) = DecimalOf d.ten_thousandths
 plain_value (Ipaddr ip) = plain_range (range_of ip)
 plain_value (Datetime dt) = DatetimeOf (datetime_value dt)
 plain_value (Duration d) = DurationOf (duration_value d)

@@ -23,7 +23,7 @@ use Rattle.smt_ext.specs.declared.ipaddr.error.IPError.TheVariants as ranges
 
 -- the value of this kind, with this number
 abbrev pub IsDecimal : ℤ → Ext → Type 0
-IsDecimal v (Decimal d) = d.0 ≡ v
+IsDecimal v (Decimal d) = d.ten_thousandths ≡ v
 IsDecimal v x = ⊥
 
 abbrev pub IsDatetime : ℤ → Ext → Type 0
@@ -36,7 +36,7 @@ IsDuration v x = ⊥
 
 -- the text writes this value, which is of this kind
 abbrev pub WritesDecimal : List ℕ → Ext → Type 0
-WritesDecimal text (Decimal d) = IsDecimalText text d.0
+WritesDecimal text (Decimal d) = IsDecimalText text d.ten_thousandths
 WritesDecimal text x = ⊥
 
 abbrev pub WritesDatetime : List ℕ → Ext → Type 0

@@ -5,7 +5,6 @@ ghost use Rattle.smt_ext.specs.DatetimeText.{IsDatetimeText};
 ghost use Rattle.smt_arithmetic.specs.Longs.{IsLong};
 ghost use Rattle.smt_ext.specs.DurationRefusal.{IsDurationRefusal};
 ghost use Rattle.smt_ext.specs.DurationText.{IsDurationText};
-ghost use Rattle.smt_ext.specs.Milliseconds.{datetime_value, duration_value, time_of_day, day_start, whole_seconds, whole_minutes, whole_hours, whole_days};
 
 mod error;
 mod moment;
@@ -23,12 +22,14 @@ const MILLISECONDS_PER_DAY: i64 = 86_400_000;
 #[derive(Clone, Copy, Debug, PartialEq, Eq, PartialOrd, Ord, Hash)]
 pub struct Datetime {
     milliseconds: i64,
+    pub ghost fits: { IsLong milliseconds },
 }
 
 /// A span of time in milliseconds, forwards or backwards.
 #[derive(Clone, Copy, Debug, PartialEq, Eq, PartialOrd, Ord, Hash)]
 pub struct Duration {
     milliseconds: i64,
+    pub ghost fits: { IsLong milliseconds },
 }
 
 // The error that holds a copy of the text.
@@ -42,6 +43,8 @@ fn with_text(alloc: Global, s: &str) -> DatetimeError
 }
 
 impl Datetime {
+    ghost use Rattle.smt_ext.specs.Milliseconds.{datetime_value, day_start, duration_value, time_of_day};
+
     /// Reads `YYYY-MM-DD`, alone or followed by `Thh:mm:ss`, an optional `.SSS`, and `Z` or an
     /// offset `hhmm` behind `+` or `-`.
     ///
@@ -107,6 +110,8 @@ impl Datetime {
 }
 
 impl Duration {
+    ghost use Rattle.smt_ext.specs.Milliseconds.{duration_value, whole_days, whole_hours, whole_minutes, whole_seconds};
+
     /// Reads an optional `-` and at least one of the parts `d`, `h`, `m`, `s`, `ms` in this order,
     /// each of them digits before its unit.
     ///
@@ -164,6 +169,8 @@ impl Duration {
 }
 
 impl Default for Datetime {
+    ghost use Rattle.smt_ext.specs.Milliseconds.{datetime_value};
+
     ghost is_default = { λ d. datetime_value d ≡ pos 0 };
 
     fn default() -> Datetime {
@@ -172,6 +179,8 @@ impl Default for Datetime {
 }
 
 impl Default for Duration {
+    ghost use Rattle.smt_ext.specs.Milliseconds.{duration_value};
+
     ghost is_default = { λ d. duration_value d ≡ pos 0 };
 
     fn default() -> Duration {
@@ -180,6 +189,8 @@ impl Default for Duration {
 }
 
 impl From<i64> for Datetime {
+    ghost use Rattle.smt_ext.specs.Milliseconds.{datetime_value};
+
     ghost from_gives = { λ v d. datetime_value d ≡ v };
 
     fn from(milliseconds: i64) -> Datetime {
@@ -188,6 +199,8 @@ impl From<i64> for Datetime {
 }
 
 impl From<i64> for Duration {
+    ghost use Rattle.smt_ext.specs.Milliseconds.{duration_value};
+
     ghost from_gives = { λ v d. duration_value d ≡ v };
 
     fn from(milliseconds: i64) -> Duration {
@@ -196,6 +209,8 @@ impl From<i64> for Duration {
 }
 
 impl From<Datetime> for i64 {
+    ghost use Rattle.smt_ext.specs.Milliseconds.{datetime_value};
+
     ghost from_gives = { λ d v. v ≡ datetime_value d };
 
     fn from(datetime: Datetime) -> i64 {
@@ -204,6 +219,8 @@ impl From<Datetime> for i64 {
 }
 
 impl From<&Datetime> for i64 {
+    ghost use Rattle.smt_ext.specs.Milliseconds.{datetime_value};
+
     ghost from_gives = { λ d v. v ≡ datetime_value d.now };
 
     fn from(datetime: &Datetime) -> i64 {
@@ -212,6 +229,8 @@ impl From<&Datetime> for i64 {
 }
 
 impl From<Duration> for i64 {
+    ghost use Rattle.smt_ext.specs.Milliseconds.{duration_value};
+
     ghost from_gives = { λ d v. v ≡ duration_value d };
 
     fn from(duration: Duration) -> i64 {
@@ -220,6 +239,8 @@ impl From<Duration> for i64 {
 }
 
 impl From<&Duration> for i64 {
+    ghost use Rattle.smt_ext.specs.Milliseconds.{duration_value};
+
     ghost from_gives = { λ d v. v ≡ duration_value d.now };
 
     fn from(duration: &Duration) -> i64 {

@@ -3,6 +3,7 @@ ghost use Rattle.std.specs.Prelude.{◌≡◌, ℕ, ℤ, ◌-◌, ◌^◌, ◌<�
 ghost use Rattle.std.specs.Option.{SomeIff};
 ghost use Rattle.smt_characters.specs.Digits.{is_numeral};
 ghost use Rattle.smt_ext.specs.Decimal.{HasDecimalParts, ten_thousandths, IsDecimalText, IsNoDecimal, HoldsDecimalText, IsDecimalRefusal};
+ghost use Rattle.smt_arithmetic.specs.Longs.{IsLong};
 ghost use Rattle.smt_ext.specs.Printed.{decimal_text};
 
 use smt_text::{Text, digits};
@@ -10,9 +11,13 @@ use std::alloc::Global;
 use std::fmt;
 use thiserror::Error;
 
-/// A decimal number: the number of its ten-thousandths.
+/// A decimal number, by its ten-thousandths.
 #[derive(Clone, Copy, Debug, PartialEq, Eq, PartialOrd, Ord, Hash)]
-pub struct Decimal(pub i64);
+pub struct Decimal {
+    /// How many ten-thousandths it is.
+    pub ten_thousandths: i64,
+    pub ghost fits: { IsLong ten_thousandths },
+}
 
 /// Why a text is no decimal.
 #[derive(Debug, PartialEq, Eq, Drop, Error)]
@@ -104,23 +109,23 @@ impl Decimal {
     /// A text that is no decimal is refused with `ParseError`, which holds a copy of it; `Memory`
     /// stands in its place where there is none left for the copy.
     pub fn parse(alloc: Global, s: &str) -> Result<Decimal, DecimalError>
-        ensures value { IfOk result (λ d. IsDecimalText s.now d.0) }
-        ensures accepts { (v : ℤ) → IsDecimalText s.now v → IsOkAnd result (λ d. d.0 ≡ v) }
+        ensures value { IfOk result (λ d. IsDecimalText s.now d.ten_thousandths) }
+        ensures accepts { (v : ℤ) → IsDecimalText s.now v → IsOkAnd result (λ d. d.ten_thousandths ≡ v) }
         ensures refused { IfErr result (λ e. IsDecimalRefusal s.now e) }
     {
         match value(s.as_bytes()) {
-            Some(value) => Ok(Decimal(value)),
+            Some(ten_thousandths) => Ok(Decimal { ten_thousandths }),
             None => Err(with_text(alloc, s)),
         }
     }
 }
 
 impl fmt::Display for Decimal {
-    ghost output = { λ d. Some (decimal_text d.0) };
+    ghost output = { λ d. Some (decimal_text d.ten_thousandths) };
 
     fn fmt<W: fmt::Write>(&self, f: &mut fmt::Formatter<W>) -> fmt::Result {
-        let magnitude = self.0.unsigned_abs();
-        let sign = if self.0 < 0 { "-" } else { "" };
+        let magnitude = self.ten_thousandths.unsigned_abs();
+        let sign = if self.ten_thousandths < 0 { "-" } else { "" };
         let units = magnitude / 10000;
         let rest = magnitude % 10000;
         write!(f, "{sign}{units}.{rest:04}")

@@ -59,10 +59,10 @@ pub fn days_start_at_midnight()
 
 /// Decimals, datetimes and durations are ordered by their numbers, and are equal where these are.
 pub fn numbers_are_ordered()
-    ensures decimals { (a b : Number) → ⟦<Decimal as Ord>⟧.cmp a b ≡ int_cmp a.0 b.0 }
+    ensures decimals { (a b : Number) → ⟦<Decimal as Ord>⟧.cmp a b ≡ int_cmp a.ten_thousandths b.ten_thousandths }
     ensures datetimes { (a b : Moment) → ⟦<Datetime as Ord>⟧.cmp a b ≡ int_cmp (datetime_value a) (datetime_value b) }
     ensures durations { (a b : Span) → ⟦<Duration as Ord>⟧.cmp a b ≡ int_cmp (duration_value a) (duration_value b) }
-    ensures equal_decimals { (a b : Number) → IsTrue (⟦<Decimal as PartialEq>⟧.eq a b) ↔ (a.0 ≡ b.0) }
+    ensures equal_decimals { (a b : Number) → IsTrue (⟦<Decimal as PartialEq>⟧.eq a b) ↔ (a.ten_thousandths ≡ b.ten_thousandths) }
     ensures equal_datetimes { (a b : Moment) → IsTrue (⟦<Datetime as PartialEq>⟧.eq a b) ↔ (datetime_value a ≡ datetime_value b) }
     ensures equal_durations { (a b : Span) → IsTrue (⟦<Duration as PartialEq>⟧.eq a b) ↔ (duration_value a ≡ duration_value b) }
 {}

@@ -5,9 +5,9 @@ use Rattle.std.specs.Bool.{then_some}
 use Rattle.std.specs.Option.{unwrap_or}
 use Rattle.std.specs.Cmp.{first_so, second_so}
 use Rattle.std.specs.List.{AllZip}
-use Rattle.smt_meaning.specs.Plain.{PlainType, OptionType, BitVecType, BoolType, PlainOp, AndOp, BvnegOp, BvnegoOp, EqOp, IteOp, NotOp, OptionGetOp, OrOp, RecordGetOp, SetInterOp, SetMemberOp, SetSubsetOp, StringLikeOp, ZeroExtendOp, PlainTerm, Application, NoneTerm, LiteralTerm, RecordTerm, SetTerm, SomeTerm, VariableTerm, PlainTerms, no_terms, one_term, PlainFields, no_fields, one_field, list_of_terms, terms, BitsOp, TestOp, OverflowOp}
+use Rattle.smt_meaning.specs.Plain.{PlainType, OptionType, BitVecType, BoolType, PlainOp, AndOp, BvnegOp, BvnegoOp, EqOp, ExtOp, IteOp, NotOp, OptionGetOp, OrOp, RecordGetOp, SetInterOp, SetMemberOp, SetSubsetOp, StringLikeOp, ZeroExtendOp, PlainTerm, Application, NoneTerm, LiteralTerm, RecordTerm, SetTerm, SomeTerm, VariableTerm, PlainTerms, no_terms, one_term, PlainFields, no_fields, one_field, list_of_terms, terms, BitsOp, TestOp, OverflowOp}
 use Rattle.smt_meaning.specs.TermSets.{set_term}
-use Rattle.smt_meaning.specs.Types.{attribute_type, extended_type, inner_type, is_type, result_type, type_of, types_of}
+use Rattle.smt_meaning.specs.Types.{attribute_type, extended_type, extension_signature, inner_type, is_type, result_type, type_of, types_of}
 use Rattle.smt_meaning.specs.Typing.{are_elements, typed, typed_all, typed_fields}
 use Rattle.smt_meaning.proofs.Soundness.{is_type-some}
 use Rattle.smt_meaning.proofs.TypeOrder.{eq_same}
@@ -20,6 +20,7 @@ use Rattle.smt_folding.specs.Refinement.{Refines, FieldsRefine}
 use Rattle.smt_folding.proofs.BitsStand.{stands_bits, stands_bvneg, stands_bvnego, stands_overflow, stands_test, stands_zero_extend}
 use Rattle.smt_folding.proofs.ConnectivesStand.{chosen_type, stands_and, stands_not, stands_or}
 use Rattle.smt_folding.proofs.EqualityStands.{stands_eq, stands_ite}
+use Rattle.smt_folding.proofs.ExtensionsStand.{stands_extension}
 use Rattle.smt_folding.proofs.OptionsStand.{stands_option_get}
 use Rattle.smt_folding.proofs.Records.{fields}
 use Rattle.smt_folding.proofs.RecordsStand.{stands_record_get}
@@ -66,6 +67,7 @@ folded_stands OptionGetOp (t ∷ []) ty h =
     subst (λ (r : PlainType). Refines (folded_option_get t) (Application OptionGetOp (terms (t ∷ [])) r)) (held (type_of t) ty (second_so (typed_all (terms (t ∷ []))) (is_type (inner_type (type_of t)) ty) h)) (stands_option_get t)
 folded_stands (RecordGetOp x) (t ∷ []) ty h =
     subst (λ (r : PlainType). Refines (folded_record_get t x) (Application (RecordGetOp x) (terms (t ∷ [])) r)) (attribute_at x (type_of t) ty (second_so (typed_all (terms (t ∷ []))) (is_type (attribute_type x (type_of t)) ty) h)) (stands_record_get t x)
+folded_stands (ExtOp o) (t ∷ []) ty h = with_type (ExtOp o) (t ∷ []) _ (extension_signature o).1 ty _ h (stands_extension o t)
 folded_stands (StringLikeOp p) (t ∷ []) ty h = with_type (StringLikeOp p) (t ∷ []) _ BoolType ty _ h (stands_string_like t p)
 folded_stands o ts ty h = itself (Application o (terms ts) ty)
 

@@ -4,20 +4,22 @@ use Rattle.std.specs.Prelude.{bytes_eq, cond, filter, Option, Some, None}
 use Rattle.std.specs.List.{AllByRecursion, list_all}
 use Rattle.std.specs.Option.{option_or, unwrap_or}
 use Rattle.smt_arithmetic.specs.BitOperators.{BitsOperator, bits_entry, test_entry, overflow_entry}
+use Rattle.smt_arithmetic.specs.BitVectors.{signed}
 use Rattle.smt_meaning.specs.Faults.{Fault, unless, is_passed_over, type_fault, attribute_types_fault, operator_fault, term_fault, terms_fault, fields_fault, literal_fault}
 use Rattle.smt_meaning.specs.Literals.{is_literal}
-use Rattle.smt_meaning.specs.Plain.{PlainType, OptionType, BitVecType, BoolType, RecordType, AttributeTypes, no_attributes, attribute, PatternPart, PlainOp, AndOp, BvnegOp, BvnegoOp, EqOp, IteOp, NotOp, OptionGetOp, OrOp, RecordGetOp, SetInterOp, SetMemberOp, SetSubsetOp, StringLikeOp, ZeroExtendOp, BitVecLiteral, BoolLiteral, StringLiteral, PlainTerm, Application, NoneTerm, LiteralTerm, RecordTerm, SetTerm, SomeTerm, VariableTerm, PlainTerms, no_terms, one_term, PlainFields, no_fields, one_field, list_of_terms, terms, BitsOp, TestOp, OverflowOp}
+use Rattle.smt_meaning.specs.Plain.{PlainType, OptionType, BitVecType, BoolType, RecordType, AttributeTypes, no_attributes, attribute, ExtensionOp, DatetimeOfBitVecOp, DatetimeValOp, DecimalValOp, DurationOfBitVecOp, DurationValOp, IpAddrV4Op, IpAddrV6Op, IpIsV4Op, IpPrefixV4Op, IpPrefixV6Op, DecimalOf, Ipv4Of, Ipv6Of, DatetimeOf, DurationOf, PatternPart, PlainOp, AndOp, BvnegOp, BvnegoOp, EqOp, ExtOp, IteOp, NotOp, OptionGetOp, OrOp, RecordGetOp, SetInterOp, SetMemberOp, SetSubsetOp, StringLikeOp, ZeroExtendOp, BitVecLiteral, BoolLiteral, ExtensionLiteral, StringLiteral, PlainTerm, Application, NoneTerm, LiteralTerm, RecordTerm, SetTerm, SomeTerm, VariableTerm, PlainTerms, no_terms, one_term, PlainFields, no_fields, one_field, list_of_terms, terms, BitsOp, TestOp, OverflowOp}
 use Rattle.smt_meaning.specs.TermOrder.{term_eq}
 use Rattle.smt_meaning.specs.TermSets.{set_term, sorted_terms}
-use Rattle.smt_meaning.specs.Types.{attribute_in, attribute_type, inner_type, is_bits, type_of, types_of}
+use Rattle.smt_meaning.specs.Types.{attribute_in, attribute_type, extension_signature, inner_type, is_bits, type_of, types_of}
 use Rattle.smt_meaning.specs.TypeValues.{Enums}
 use Rattle.smt_meaning.proofs.Soundness.{none-first, none-second}
 use Rattle.smt_meaning.proofs.SortedSets.{all-terms}
-use Rattle.smt_folding.specs.Applications.{true_term, false_term, truth_literal, bits_literal, not_of, and_of, or_of, eq_of, ite_of, bits_of_two, test_of_two, bvneg_of, zero_extend_of, set_member_of, set_subset_of, set_inter_of, option_get_of, record_get_of, type_at, type_inside, wider_type}
+use Rattle.smt_folding.specs.Applications.{true_term, false_term, truth_literal, bits_literal, not_of, and_of, or_of, eq_of, ite_of, bits_of_two, test_of_two, bvneg_of, zero_extend_of, set_member_of, set_subset_of, set_inter_of, option_get_of, record_get_of, extension_of, type_at, type_inside, wider_type}
 use Rattle.smt_folding.specs.Built.{folded}
 use Rattle.smt_folding.specs.FoldBits.{folded_bits, folded_bvneg, folded_bvnego, folded_test_by, folded_zero_extend, takes_right}
 use Rattle.smt_folding.specs.FoldConnectives.{are_opposites, folded_and, folded_not, folded_or}
 use Rattle.smt_folding.specs.FoldEquality.{folded_eq, folded_eq_inside, folded_ite, folded_ite_inside, is_boolean}
+use Rattle.smt_folding.specs.FoldExtensions.{extension_literal, folded_extension, prefix_literal}
 use Rattle.smt_folding.specs.FoldOptions.{folded_option_get}
 use Rattle.smt_folding.specs.FoldRecords.{field_in, folded_record_get}
 use Rattle.smt_folding.specs.FoldSets.{common_set, folded_set_inter, folded_set_member, folded_set_subset, is_among}
@@ -312,6 +314,43 @@ module _ (enums : Enums) where
   faultless_record_get t x h f =
       by_type (attribute_type x (type_of t)) (record_get_of t x) t (faultless_application (RecordGetOp x) (t ∷ []) (type_at x (type_of t)) (h, tt) (faultless_at x (type_of t) (faultless_type t h)) f) h
 
+  -- ---- operators of the extension types
+
+  faultless_signature : (o : ExtensionOp) → type_fault enums (extension_signature o).1 ≡ None
+  faultless_signature DatetimeOfBitVecOp = refl
+  faultless_signature DatetimeValOp = refl
+  faultless_signature DecimalValOp = refl
+  faultless_signature DurationOfBitVecOp = refl
+  faultless_signature DurationValOp = refl
+  faultless_signature IpAddrV4Op = refl
+  faultless_signature IpAddrV6Op = refl
+  faultless_signature IpIsV4Op = refl
+  faultless_signature IpPrefixV4Op = refl
+  faultless_signature IpPrefixV6Op = refl
+
+  faultless_extension_of : (o : ExtensionOp) (t : PlainTerm) → IsFaultless t → IsFaultless (extension_of o t)
+  faultless_extension_of o t h = faultless_application (ExtOp o) (t ∷ []) (extension_signature o).1 (h, tt) (faultless_signature o) refl
+
+  faultless_prefix : (n : ℕ) (p : Option ℕ) → IsFaultless (prefix_literal n p)
+  faultless_prefix n None = refl
+  faultless_prefix n (Some p) = refl
+
+  faultless_extension : (o : ExtensionOp) (t : PlainTerm) → IsFaultless t → IsFaultless (folded_extension o t)
+  faultless_extension DecimalValOp (LiteralTerm (ExtensionLiteral (DecimalOf z))) h = refl
+  faultless_extension DatetimeValOp (LiteralTerm (ExtensionLiteral (DatetimeOf z))) h = refl
+  faultless_extension DurationValOp (LiteralTerm (ExtensionLiteral (DurationOf z))) h = refl
+  faultless_extension IpIsV4Op (LiteralTerm (ExtensionLiteral (Ipv4Of a p))) h = refl
+  faultless_extension IpIsV4Op (LiteralTerm (ExtensionLiteral (Ipv6Of a p))) h = refl
+  faultless_extension IpAddrV4Op (LiteralTerm (ExtensionLiteral (Ipv4Of a p))) h = refl
+  faultless_extension IpAddrV6Op (LiteralTerm (ExtensionLiteral (Ipv6Of a p))) h = refl
+  faultless_extension IpPrefixV4Op (LiteralTerm (ExtensionLiteral (Ipv4Of a p))) h = faultless_prefix 5 p
+  faultless_extension IpPrefixV6Op (LiteralTerm (ExtensionLiteral (Ipv6Of a p))) h = faultless_prefix 7 p
+  faultless_extension DatetimeOfBitVecOp (LiteralTerm (BitVecLiteral n a)) h =
+      one_of (n == 64) (extension_literal (DatetimeOf (signed 64 a))) (extension_of DatetimeOfBitVecOp (bits_literal n a)) refl (faultless_extension_of DatetimeOfBitVecOp (bits_literal n a) h)
+  faultless_extension DurationOfBitVecOp (LiteralTerm (BitVecLiteral n a)) h =
+      one_of (n == 64) (extension_literal (DurationOf (signed 64 a))) (extension_of DurationOfBitVecOp (bits_literal n a)) refl (faultless_extension_of DurationOfBitVecOp (bits_literal n a) h)
+  faultless_extension o t h = faultless_extension_of o t h
+
   -- ---- each operator
 
   pub faultless_folded : (o : PlainOp) (ts : List PlainTerm) (ty : PlainType) → AllByRecursion IsFaultless ts → type_fault enums ty ≡ None → operator_fault enums o (types_of (terms ts)) ≡ None → IsFaultless (folded o ts ty)
@@ -331,5 +370,6 @@ module _ (enums : Enums) where
   faultless_folded SetInterOp (t ∷ u ∷ []) ty h y f = faultless_set_inter t u h.0 h.1.0
   faultless_folded OptionGetOp (t ∷ []) ty h y f = faultless_option_get t h.0
   faultless_folded (RecordGetOp x) (t ∷ []) ty h y f = faultless_record_get t x h.0 f
+  faultless_folded (ExtOp o) (t ∷ []) ty h y f = faultless_extension o t h.0
   faultless_folded (StringLikeOp p) (t ∷ []) ty h y f = faultless_string_like t p h.0 f
   faultless_folded o ts ty h y f = faultless_application o ts ty h y f

@@ -1,16 +1,18 @@
 -- The foldings, at terms that stand for others, stand for the applications to those.
-use Rattle.std.proofs.Common.{◌≡◌, ℕ, true, List, [], ◌∷◌, refl, ap, ◌∙◌, sym, subst}
+use Rattle.std.proofs.Common.{◌≡◌, ℕ, ◌==◌, Bool, true, false, List, [], ◌∷◌, refl, ap, ◌∙◌, sym, subst}
 use Rattle.std.specs.Prelude.{cond, option_map, Option, Some, None}
 use Rattle.std.specs.Cmp.{first_so, second_so}
 use Rattle.std.specs.List.{AllByRecursion}
 use Rattle.std.specs.Option.{unwrap_or}
-use Rattle.smt_folding.specs.Applications.{bits_of_two, bvneg_of, ite_of, option_get_of, record_get_of, test_of_two, type_at, type_inside, wider_type, zero_extend_of}
+use Rattle.smt_arithmetic.specs.BitVectors.{signed}
+use Rattle.smt_folding.specs.Applications.{bits_literal, bits_of_two, bvneg_of, extension_of, ite_of, option_get_of, record_get_of, test_of_two, type_at, type_inside, wider_type, zero_extend_of}
 use Rattle.smt_folding.specs.Builder.{applied, folding}
 use Rattle.smt_folding.specs.Composites.{is_none, set_is_empty}
 use Rattle.smt_folding.specs.Congruence.{Congruence, RefinesWithType}
 use Rattle.smt_folding.specs.FoldBits.{folded_bits, folded_bvneg, folded_bvnego, folded_overflow, folded_test, folded_zero_extend}
 use Rattle.smt_folding.specs.FoldConnectives.{folded_and, folded_not, folded_or}
 use Rattle.smt_folding.specs.FoldEquality.{folded_eq, folded_ite}
+use Rattle.smt_folding.specs.FoldExtensions.{extension_literal, folded_extension, prefix_literal}
 use Rattle.smt_folding.specs.FoldOptions.{folded_option_get}
 use Rattle.smt_folding.specs.FoldRecords.{field_in, folded_record_get}
 use Rattle.smt_folding.specs.FoldSets.{folded_set_inter, folded_set_member, folded_set_subset}
@@ -19,6 +21,7 @@ use Rattle.smt_folding.specs.Refinement.{Refines}
 use Rattle.smt_folding.proofs.BitsStand.{stands_bits, stands_bvneg, stands_bvnego, stands_overflow, stands_test, stands_zero_extend}
 use Rattle.smt_folding.proofs.ConnectivesStand.{stands_and, stands_not, stands_or}
 use Rattle.smt_folding.proofs.EqualityStands.{stands_eq, stands_ite}
+use Rattle.smt_folding.proofs.ExtensionsStand.{stands_extension}
 use Rattle.smt_folding.proofs.OptionsStand.{none_kept, stands_is_none, stands_option_get}
 use Rattle.smt_folding.proofs.Records.{HasFormedType}
 use Rattle.smt_folding.proofs.RecordsStand.{stands_record_get, type_found}
@@ -27,9 +30,9 @@ use Rattle.smt_folding.proofs.Standing.{application, application_by_arguments, l
 use Rattle.smt_folding.proofs.StringsStand.{stands_string_like}
 use Rattle.smt_folding.proofs.TypeTests.{stands_never}
 use Rattle.smt_meaning.specs.Formed.{IsFormedType}
-use Rattle.smt_meaning.specs.Plain.{PlainType, OptionType, BitVecType, BoolType, RecordType, BitVecLiteral, PlainOp, AndOp, BvnegOp, BvnegoOp, EqOp, IteOp, NotOp, OptionGetOp, OrOp, RecordGetOp, SetInterOp, SetMemberOp, SetSubsetOp, StringLikeOp, ZeroExtendOp, PlainTerm, Application, LiteralTerm, RecordTerm, SomeTerm, terms, BitsOp, TestOp, OverflowOp}
+use Rattle.smt_meaning.specs.Plain.{PlainType, OptionType, BitVecType, BoolType, RecordType, ExtensionOp, DatetimeOfBitVecOp, DatetimeValOp, DecimalValOp, DurationOfBitVecOp, DurationValOp, IpAddrV4Op, IpAddrV6Op, IpIsV4Op, IpPrefixV4Op, IpPrefixV6Op, DecimalOf, Ipv4Of, Ipv6Of, DatetimeOf, DurationOf, BitVecLiteral, ExtensionLiteral, PlainOp, AndOp, BvnegOp, BvnegoOp, EqOp, ExtOp, IteOp, NotOp, OptionGetOp, OrOp, RecordGetOp, SetInterOp, SetMemberOp, SetSubsetOp, StringLikeOp, ZeroExtendOp, PlainTerm, Application, LiteralTerm, RecordTerm, SomeTerm, terms, BitsOp, TestOp, OverflowOp}
 use Rattle.smt_meaning.specs.Reached.{opened_of_op, subterms, subterms_of_all}
-use Rattle.smt_meaning.specs.Types.{attribute_type, field_types, inner_type, is_bits, type_of}
+use Rattle.smt_meaning.specs.Types.{attribute_type, extension_signature, field_types, inner_type, is_bits, type_of}
 use Rattle.smt_meaning.specs.Typing.{typed, typed_all}
 use Rattle.smt_meaning.proofs.Soundness.{all-back, all-front}
 
@@ -124,6 +127,36 @@ keeps_record_get x t u s = record {
     same : type_of t ≡ type_of u → Refines (record_get_of t x) (record_get_of u x)
     same e = subst (λ (y : PlainType). Refines (Application (RecordGetOp x) (terms (t ∷ [])) y) (record_get_of u x)) (sym (ap (type_at x) e)) (application (RecordGetOp x) (t ∷ []) (u ∷ []) (type_at x (type_of u)) (s.refines, tt))
 
+-- ---- operators of the extension types, whose types are fixed
+
+prefix_type : (n : ℕ) (p : Option ℕ) → type_of (prefix_literal n p) ≡ OptionType (BitVecType n)
+prefix_type n None = refl
+prefix_type n (Some p) = refl
+
+made_type : (b : Bool) (t u : PlainTerm) → type_of t ≡ type_of u → type_of (cond b t u) ≡ type_of u
+made_type true t u e = e
+made_type false t u e = refl
+
+extension_type : (o : ExtensionOp) (t : PlainTerm) → type_of (folded_extension o t) ≡ (extension_signature o).1
+extension_type DecimalValOp (LiteralTerm (ExtensionLiteral (DecimalOf z))) = refl
+extension_type DatetimeValOp (LiteralTerm (ExtensionLiteral (DatetimeOf z))) = refl
+extension_type DurationValOp (LiteralTerm (ExtensionLiteral (DurationOf z))) = refl
+extension_type IpIsV4Op (LiteralTerm (ExtensionLiteral (Ipv4Of a p))) = refl
+extension_type IpIsV4Op (LiteralTerm (ExtensionLiteral (Ipv6Of a p))) = refl
+extension_type IpAddrV4Op (LiteralTerm (ExtensionLiteral (Ipv4Of a p))) = refl
+extension_type IpAddrV6Op (LiteralTerm (ExtensionLiteral (Ipv6Of a p))) = refl
+extension_type IpPrefixV4Op (LiteralTerm (ExtensionLiteral (Ipv4Of a p))) = prefix_type 5 p
+extension_type IpPrefixV6Op (LiteralTerm (ExtensionLiteral (Ipv6Of a p))) = prefix_type 7 p
+extension_type DatetimeOfBitVecOp (LiteralTerm (BitVecLiteral n a)) = made_type (n == 64) (extension_literal (DatetimeOf (signed 64 a))) (extension_of DatetimeOfBitVecOp (bits_literal n a)) refl
+extension_type DurationOfBitVecOp (LiteralTerm (BitVecLiteral n a)) = made_type (n == 64) (extension_literal (DurationOf (signed 64 a))) (extension_of DurationOfBitVecOp (bits_literal n a)) refl
+extension_type o t = refl
+
+keeps_extension : (o : ExtensionOp) (t u : PlainTerm) → Refines t u → RefinesWithType (folded_extension o t) (extension_of o u)
+keeps_extension o t u s = record {
+  refines = onward (folded_extension o t) (extension_of o t) (extension_of o u) (stands_extension o t) (application (ExtOp o) (t ∷ []) (u ∷ []) (extension_signature o).1 (s, tt));
+  type = extension_type o t;
+}
+
 -- ---- tests by form and by type
 
 keeps_set_is_empty : (t u : PlainTerm) → Refines t u → Refines (set_is_empty folding t) (set_is_empty applied u)
@@ -155,5 +188,6 @@ related = record {
   set_is_empty = keeps_set_is_empty _ _;
   option_get = keeps_option_get _ _;
   record_get = λ x. keeps_record_get x _ _;
+  extension = λ o. keeps_extension o _ _;
   is_none = keeps_is_none _ _;
 }

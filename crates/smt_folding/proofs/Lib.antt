@@ -5,6 +5,7 @@ pub mod CompositesKeep
 pub mod CompositesStand
 pub mod ConnectivesStand
 pub mod EqualityStands
+pub mod ExtensionsStand
 pub mod FoldedFaults
 pub mod FoldingsKeep
 pub mod FunctionsStand

@@ -1,8 +1,8 @@
 -- The applications that calls of the factory are asked for, before any folding.
 use Rattle.std.specs.Prelude.{ℕ, ◌+◌, Bool, true, false, List, [], ◌∷◌}
 use Rattle.std.specs.Option.{unwrap_or}
-use Rattle.smt_meaning.specs.Types.{attribute_type, type_of}
-use Rattle.smt_meaning.specs.Plain.{PlainType, OptionType, BitVecType, BoolType, PatternPart, PlainOp, AndOp, BvnegOp, BvnegoOp, EqOp, IteOp, NotOp, OptionGetOp, OrOp, RecordGetOp, SetInterOp, SetMemberOp, SetSubsetOp, StringLikeOp, ZeroExtendOp, BitVecLiteral, BoolLiteral, PlainTerm, Application, LiteralTerm, terms}
+use Rattle.smt_meaning.specs.Types.{attribute_type, extension_signature, type_of}
+use Rattle.smt_meaning.specs.Plain.{PlainType, OptionType, BitVecType, BoolType, ExtensionOp, PatternPart, PlainOp, AndOp, BvnegOp, BvnegoOp, EqOp, ExtOp, IteOp, NotOp, OptionGetOp, OrOp, RecordGetOp, SetInterOp, SetMemberOp, SetSubsetOp, StringLikeOp, ZeroExtendOp, BitVecLiteral, BoolLiteral, PlainTerm, Application, LiteralTerm, terms}
 
 -- literals
 abbrev pub truth_literal : Bool → PlainTerm
@@ -88,3 +88,7 @@ type_at x t = unwrap_or (attribute_type x t) t
 -- records
 abbrev pub record_get_of : PlainTerm → (attribute : List ℕ) → PlainTerm
 record_get_of t x = Application (RecordGetOp x) (terms (t ∷ [])) (type_at x (type_of t))
+
+-- operators of the extension types, whose types are fixed
+abbrev pub extension_of : ExtensionOp → PlainTerm → PlainTerm
+extension_of o t = Application (ExtOp o) (terms (t ∷ [])) (extension_signature o).1

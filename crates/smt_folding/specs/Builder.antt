@@ -2,15 +2,16 @@
 -- are written over it.
 use Rattle.std.specs.Prelude.{ℕ, List, Option, None}
 use Rattle.smt_arithmetic.specs.BitOperators.{BitsOperator, TestOperator, OverflowOperator}
-use Rattle.smt_folding.specs.Applications.{false_term, not_of, and_of, or_of, eq_of, ite_of, never_of, bvneg_of, bits_of_two, test_of_two, bvnego_of, zero_extend_of, string_like_of, set_member_of, set_subset_of, set_inter_of, option_get_of, record_get_of}
+use Rattle.smt_folding.specs.Applications.{false_term, not_of, and_of, or_of, eq_of, ite_of, never_of, bvneg_of, bits_of_two, test_of_two, bvnego_of, zero_extend_of, string_like_of, set_member_of, set_subset_of, set_inter_of, option_get_of, record_get_of, extension_of}
 use Rattle.smt_folding.specs.FoldBits.{folded_bits, folded_bvneg, folded_bvnego, folded_overflow, folded_test, folded_zero_extend}
 use Rattle.smt_folding.specs.FoldConnectives.{folded_not, folded_and, folded_or}
 use Rattle.smt_folding.specs.FoldEquality.{folded_eq, folded_ite}
+use Rattle.smt_folding.specs.FoldExtensions.{folded_extension}
 use Rattle.smt_folding.specs.FoldOptions.{folded_option_get, none_by_form}
 use Rattle.smt_folding.specs.FoldRecords.{folded_record_get}
 use Rattle.smt_folding.specs.FoldSets.{folded_set_member, folded_set_subset, folded_set_inter, empty_by_form}
 use Rattle.smt_folding.specs.FoldStrings.{folded_string_like}
-use Rattle.smt_meaning.specs.Plain.{PatternPart, PlainTerm, BitsOp, TestOp, OverflowOp}
+use Rattle.smt_meaning.specs.Plain.{ExtensionOp, PatternPart, PlainTerm, BitsOp, TestOp, OverflowOp}
 
 -- What the composites are made of: a field for each operator, by the name of its call. Literals, `some` and none are the same
 -- whoever builds, so they are not among these.
@@ -35,6 +36,8 @@ pub record Builder : Type 0 where
   pub set_inter : PlainTerm → PlainTerm → PlainTerm
   pub option_get : PlainTerm → PlainTerm
   pub record_get : PlainTerm → (attribute : List ℕ) → PlainTerm
+  -- operators of the extension types
+  pub extension : ExtensionOp → PlainTerm → PlainTerm
   -- whether a set is empty, and an option none, where the builder tells by the term's form
   pub empty_by_form : PlainTerm → Option PlainTerm
   pub none_by_form : PlainTerm → Option PlainTerm
@@ -60,6 +63,7 @@ applied = record {
   set_inter = set_inter_of;
   option_get = option_get_of;
   record_get = record_get_of;
+  extension = extension_of;
   empty_by_form = λ t. None;
   none_by_form = λ t. None;
 }
@@ -85,6 +89,7 @@ folding = record {
   set_inter = folded_set_inter;
   option_get = folded_option_get;
   record_get = folded_record_get;
+  extension = folded_extension;
   empty_by_form = empty_by_form;
   none_by_form = none_by_form;
 }

@@ -4,13 +4,14 @@ use Rattle.std.specs.Prelude.{◌≡◌, IsTrue, List, [], ◌∷◌, None}
 use Rattle.smt_folding.specs.FoldBits.{folded_bits, folded_bvneg, folded_bvnego, folded_overflow, folded_test, folded_zero_extend}
 use Rattle.smt_folding.specs.FoldConnectives.{folded_not, folded_and, folded_or}
 use Rattle.smt_folding.specs.FoldEquality.{folded_eq, folded_ite}
+use Rattle.smt_folding.specs.FoldExtensions.{folded_extension}
 use Rattle.smt_folding.specs.FoldOptions.{folded_option_get}
 use Rattle.smt_folding.specs.FoldRecords.{folded_record_get}
 use Rattle.smt_folding.specs.FoldSets.{folded_set_member, folded_set_subset, folded_set_inter}
 use Rattle.smt_folding.specs.FoldStrings.{folded_string_like}
 use Rattle.smt_folding.specs.Refinement.{Refines}
 use Rattle.smt_meaning.specs.Faults.{term_fault}
-use Rattle.smt_meaning.specs.Plain.{PlainType, PlainOp, AndOp, BvnegOp, BvnegoOp, EqOp, IteOp, NotOp, OptionGetOp, OrOp, RecordGetOp, SetInterOp, SetMemberOp, SetSubsetOp, StringLikeOp, ZeroExtendOp, PlainTerm, Application, NoneTerm, LiteralTerm, RecordTerm, SetTerm, SomeTerm, VariableTerm, PlainTerms, no_terms, one_term, PlainFields, no_fields, one_field, terms, BitsOp, TestOp, OverflowOp}
+use Rattle.smt_meaning.specs.Plain.{PlainType, PlainOp, AndOp, BvnegOp, BvnegoOp, EqOp, ExtOp, IteOp, NotOp, OptionGetOp, OrOp, RecordGetOp, SetInterOp, SetMemberOp, SetSubsetOp, StringLikeOp, ZeroExtendOp, PlainTerm, Application, NoneTerm, LiteralTerm, RecordTerm, SetTerm, SomeTerm, VariableTerm, PlainTerms, no_terms, one_term, PlainFields, no_fields, one_field, terms, BitsOp, TestOp, OverflowOp}
 use Rattle.smt_meaning.specs.TermSets.{set_term}
 use Rattle.smt_meaning.specs.Typing.{typed}
 use Rattle.smt_meaning.specs.TypeValues.{Enums}
@@ -33,6 +34,7 @@ folded SetSubsetOp (t ∷ u ∷ []) ty = folded_set_subset t u
 folded SetInterOp (t ∷ u ∷ []) ty = folded_set_inter t u
 folded OptionGetOp (t ∷ []) ty = folded_option_get t
 folded (RecordGetOp x) (t ∷ []) ty = folded_record_get t x
+folded (ExtOp o) (t ∷ []) ty = folded_extension o t
 folded (StringLikeOp p) (t ∷ []) ty = folded_string_like t p
 folded o ts ty = Application o (terms ts) ty
 

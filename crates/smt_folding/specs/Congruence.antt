@@ -4,7 +4,7 @@ use Rattle.smt_arithmetic.specs.BitOperators.{BitsOperator, TestOperator, Overfl
 use Rattle.smt_folding.specs.Builder.{Builder, applied, folding}
 use Rattle.smt_folding.specs.Composites.{is_none, set_is_empty}
 use Rattle.smt_folding.specs.Refinement.{Refines}
-use Rattle.smt_meaning.specs.Plain.{PatternPart, PlainTerm}
+use Rattle.smt_meaning.specs.Plain.{ExtensionOp, PatternPart, PlainTerm}
 use Rattle.smt_meaning.specs.Types.{type_of}
 
 -- the first stands for the second, and has its type also where that is not typed
@@ -14,7 +14,8 @@ pub record RefinesWithType (folded original : PlainTerm) : Type 0 where
 
 -- Each construction of the builders, at terms that stand for others: the first builder's stands for the second's. What
 -- `option_get` reaches, and whether the types of `zero_extend` and `record_get` are formed, goes by the type of their argument,
--- also where that is not typed: so there the types are the same, and are afterwards.
+-- also where that is not typed: so there the types are the same, and are afterwards. The type of `extension` is its operator's,
+-- so it is the same whatever the argument's.
 pub record Related (b c : Builder) : Type 0 where
   pub not : {t u : PlainTerm} → Refines t u → Refines (b.not t) (c.not u)
   pub and : {t u v w : PlainTerm} → Refines t u → Refines v w → Refines (b.and t v) (c.and u w)
@@ -35,6 +36,7 @@ pub record Related (b c : Builder) : Type 0 where
   pub set_is_empty : {t u : PlainTerm} → Refines t u → Refines (set_is_empty b t) (set_is_empty c u)
   pub option_get : {t u : PlainTerm} → RefinesWithType t u → RefinesWithType (b.option_get t) (c.option_get u)
   pub record_get : {t u : PlainTerm} → (attribute : List ℕ) → RefinesWithType t u → RefinesWithType (b.record_get t attribute) (c.record_get u attribute)
+  pub extension : (o : ExtensionOp) → {t u : PlainTerm} → Refines t u → RefinesWithType (b.extension o t) (c.extension o u)
   pub is_none : {t u : PlainTerm} → Refines t u → Refines (is_none b t) (is_none c u)
 
 -- what the foldings give stands for the applications, at terms that stand for others

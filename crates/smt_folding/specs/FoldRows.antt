@@ -1,12 +1,13 @@
 -- Worked examples of folding.
-use Rattle.std.specs.Prelude.{◌≡◌, ℕ, Bool, true, false, List, [], ◌∷◌, ◌++◌, map, codes}
+use Rattle.std.specs.Prelude.{◌≡◌, ℕ, pos, negsuc, Bool, true, false, List, [], ◌∷◌, ◌++◌, map, codes, Some, None}
 use Rattle.smt_arithmetic.specs.BitOperators.{BvaddOp, BvlshrOp, BvshlOp, BvsubOp, BvsltOp, BvultOp, BvsaddoOp, BvsmuloOp, BvssuboOp, bits_operators, test_operators, overflow_operators}
-use Rattle.smt_folding.specs.Applications.{truth_literal, true_term, false_term, bits_literal, not_of, and_of, or_of, eq_of, ite_of, bvneg_of, bits_of_two, test_of_two, bvnego_of, zero_extend_of, string_like_of, set_member_of, set_subset_of, set_inter_of, option_get_of, record_get_of}
+use Rattle.smt_folding.specs.Applications.{truth_literal, true_term, false_term, bits_literal, not_of, and_of, or_of, eq_of, ite_of, bvneg_of, bits_of_two, test_of_two, bvnego_of, zero_extend_of, string_like_of, set_member_of, set_subset_of, set_inter_of, option_get_of, record_get_of, extension_of}
 use Rattle.smt_folding.specs.Builder.{applied, folding}
 use Rattle.smt_folding.specs.Composites.{any_none, any_of, if_all_some, if_false, if_some, if_true, implies, is_none, is_some, set_intersects, set_is_empty}
 use Rattle.smt_folding.specs.FoldBits.{folded_bits, folded_bvneg, folded_bvnego, folded_overflow, folded_test, folded_zero_extend}
 use Rattle.smt_folding.specs.FoldConnectives.{folded_not, are_opposites, folded_and, folded_or}
 use Rattle.smt_folding.specs.FoldEquality.{folded_eq, folded_ite}
+use Rattle.smt_folding.specs.FoldExtensions.{extension_literal, folded_extension}
 use Rattle.smt_folding.specs.FoldFunctions.{app_of, folded_app}
 use Rattle.smt_folding.specs.FoldOptions.{folded_option_get}
 use Rattle.smt_folding.specs.FoldRecords.{folded_record_get, record_of_pairs, tag_record}
@@ -17,11 +18,11 @@ use Rattle.smt_folding.specs.SetOf.{IsSetOf}
 use Rattle.smt_folding.specs.Refinement.{Refines}
 use Rattle.smt_meaning.specs.Functions.{PlainDefinition, Uninterpreted, Defined, function_value}
 use Rattle.smt_meaning.specs.Meaning.{term_value}
-use Rattle.smt_meaning.specs.Tables.{Interpretation}
+use Rattle.smt_meaning.specs.Tables.{Interpretation, value_at}
 use Rattle.smt_meaning.specs.TermSets.{set_term}
 use Rattle.smt_meaning.specs.ValueOrder.{values}
-use Rattle.smt_meaning.specs.Values.{BoolValue, BitVecValue, NoneValue, SetValue, SomeValue}
-use Rattle.smt_meaning.specs.Plain.{OptionType, BitVecType, BoolType, RecordType, SetType, StringType, no_attributes, attribute, PlainFunction, PatternPart, Character, Wildcard, IteOp, RecordGetOp, UufOp, StringLiteral, PlainTerm, Application, NoneTerm, LiteralTerm, RecordTerm, SetTerm, SomeTerm, VariableTerm, no_fields, one_field, terms, BitsOp, TestOp}
+use Rattle.smt_meaning.specs.Values.{BoolValue, BitVecValue, ExtensionValue, NoneValue, SetValue, SomeValue}
+use Rattle.smt_meaning.specs.Plain.{DecimalKind, OptionType, BitVecType, BoolType, ExtensionType, RecordType, SetType, StringType, no_attributes, attribute, PlainFunction, DatetimeOfBitVecOp, DatetimeValOp, DecimalValOp, DurationOfBitVecOp, DurationValOp, IpAddrV4Op, IpAddrV6Op, IpIsV4Op, IpPrefixV4Op, IpPrefixV6Op, DecimalOf, Ipv4Of, Ipv6Of, DatetimeOf, DurationOf, PatternPart, Character, Wildcard, IteOp, RecordGetOp, UufOp, StringLiteral, PlainTerm, Application, NoneTerm, LiteralTerm, RecordTerm, SetTerm, SomeTerm, VariableTerm, no_fields, one_field, terms, BitsOp, TestOp}
 
 -- variables
 abbrev pub b : PlainTerm
@@ -235,6 +236,61 @@ pub record RecordRows : Type 0 where
   -- a variable of a record type with the attribute, and without it
   pub stays : map (folded_record_get r) (codes "a" ∷ codes "b" ∷ []) ≡ Application (RecordGetOp (codes "a")) (terms (r ∷ [])) (BitVecType 8) ∷ r ∷ []
   pub no_record : folded_record_get b (codes "a") ≡ b
+
+-- decimals: 1.0, -0.0001 and a variable
+abbrev pub one_point_zero : PlainTerm
+one_point_zero = extension_literal (DecimalOf (pos 10000))
+
+abbrev pub least_below_zero : PlainTerm
+least_below_zero = extension_literal (DecimalOf (negsuc 0))
+
+abbrev pub d : PlainTerm
+d = VariableTerm (codes "d") (ExtensionType DecimalKind)
+
+-- addresses: 1.2.3.4, 10.0.0.0/8, :: and ::1/64
+abbrev pub host_v4 : PlainTerm
+host_v4 = extension_literal (Ipv4Of 16909060 None)
+
+abbrev pub net_v4 : PlainTerm
+net_v4 = extension_literal (Ipv4Of 167772160 (Some 8))
+
+abbrev pub host_v6 : PlainTerm
+host_v6 = extension_literal (Ipv6Of 0 None)
+
+abbrev pub net_v6 : PlainTerm
+net_v6 = extension_literal (Ipv6Of 1 (Some 64))
+
+-- five milliseconds, and one before: as 64 bits, as durations and as datetimes
+abbrev pub times_in_bits : List PlainTerm
+times_in_bits = map (bits_literal 64) (5 ∷ 18446744073709551615 ∷ [])
+
+abbrev pub durations : List PlainTerm
+durations = map (λ z. extension_literal (DurationOf z)) (pos 5 ∷ negsuc 0 ∷ [])
+
+abbrev pub datetimes : List PlainTerm
+datetimes = map (λ z. extension_literal (DatetimeOf z)) (pos 5 ∷ negsuc 0 ∷ [])
+
+pub record ExtensionRows : Type 0 where
+  -- a literal of another kind is not typed; a selector at the other family is the interpretation's
+  pub applied_values : (I : Interpretation) → map (term_value I) (extension_of DecimalValOp least_below_zero ∷ extension_of IpIsV4Op host_v4 ∷ extension_of IpIsV4Op host_v6 ∷ extension_of IpAddrV4Op host_v4 ∷ extension_of IpPrefixV4Op host_v4 ∷ extension_of IpPrefixV6Op net_v6 ∷ extension_of DecimalValOp host_v4 ∷ [])
+      ≡ BitVecValue 64 18446744073709551615 ∷ BoolValue true ∷ BoolValue false ∷ BitVecValue 32 16909060 ∷ NoneValue ∷ SomeValue (BitVecValue 7 64) ∷ BoolValue false ∷ []
+  pub applied_times : (I : Interpretation) → map (λ t. term_value I (extension_of DurationOfBitVecOp t)) times_in_bits ≡ ExtensionValue (DurationOf (pos 5)) ∷ ExtensionValue (DurationOf (negsuc 0)) ∷ []
+  pub applied_other_family : (I : Interpretation) → term_value I (extension_of IpAddrV4Op host_v6) ≡ value_at (I.other_family IpAddrV4Op) (ExtensionValue (Ipv6Of 0 None))
+  pub decimals : map (folded_extension DecimalValOp) (one_point_zero ∷ least_below_zero ∷ []) ≡ map (bits_literal 64) (10000 ∷ 18446744073709551615 ∷ [])
+  pub from_durations : map (folded_extension DurationValOp) durations ≡ times_in_bits
+  pub from_datetimes : map (folded_extension DatetimeValOp) datetimes ≡ times_in_bits
+  pub to_durations : map (folded_extension DurationOfBitVecOp) times_in_bits ≡ durations
+  pub to_datetimes : map (folded_extension DatetimeOfBitVecOp) times_in_bits ≡ datetimes
+  pub is_v4 : map (folded_extension IpIsV4Op) (host_v4 ∷ net_v4 ∷ host_v6 ∷ net_v6 ∷ []) ≡ truths (true ∷ true ∷ false ∷ false ∷ [])
+  pub addresses_v4 : map (folded_extension IpAddrV4Op) (host_v4 ∷ net_v4 ∷ []) ≡ map (bits_literal 32) (16909060 ∷ 167772160 ∷ [])
+  pub addresses_v6 : map (folded_extension IpAddrV6Op) (host_v6 ∷ net_v6 ∷ []) ≡ map (bits_literal 128) (0 ∷ 1 ∷ [])
+  pub prefixes_v4 : map (folded_extension IpPrefixV4Op) (host_v4 ∷ net_v4 ∷ []) ≡ NoneTerm (BitVecType 5) ∷ SomeTerm (bits_literal 5 8) ∷ []
+  pub prefixes_v6 : map (folded_extension IpPrefixV6Op) (host_v6 ∷ net_v6 ∷ []) ≡ NoneTerm (BitVecType 7) ∷ SomeTerm (bits_literal 7 64) ∷ []
+  pub other_family_stays : map (folded_extension IpAddrV4Op) (host_v6 ∷ []) ++ map (folded_extension IpAddrV6Op) (host_v4 ∷ []) ++ map (folded_extension IpPrefixV4Op) (net_v6 ∷ []) ++ map (folded_extension IpPrefixV6Op) (net_v4 ∷ [])
+      ≡ extension_of IpAddrV4Op host_v6 ∷ extension_of IpAddrV6Op host_v4 ∷ extension_of IpPrefixV4Op net_v6 ∷ extension_of IpPrefixV6Op net_v4 ∷ []
+  pub other_kind_stays : map (folded_extension DecimalValOp) (durations ++ host_v4 ∷ byte 1 ∷ []) ≡ map (extension_of DecimalValOp) (durations ++ host_v4 ∷ byte 1 ∷ [])
+  pub other_width_stays : folded_extension DatetimeOfBitVecOp (byte 5) ∷ folded_extension DurationOfBitVecOp (byte 5) ∷ [] ≡ extension_of DatetimeOfBitVecOp (byte 5) ∷ extension_of DurationOfBitVecOp (byte 5) ∷ []
+  pub variable_stays : folded_extension DecimalValOp d ≡ extension_of DecimalValOp d
 
 -- functions from bytes to bytes: one that an interpretation gives, and two tables
 abbrev pub unknown : PlainFunction

@@ -3,12 +3,13 @@ use Rattle.std.specs.Prelude.{◌≡◌, ◌↔◌, ℕ, ◌^◌, ◌<◌, Bool,
 use Rattle.std.specs.List.{AllByRecursion, AllZip, list_any}
 use Rattle.smt_arithmetic.specs.BitOperators.{BitsOperator, TestOperator, OverflowOperator}
 use Rattle.smt_folding.specs.AppOf.{IsAppOf}
-use Rattle.smt_folding.specs.Applications.{truth_literal, bits_literal, not_of, and_of, or_of, eq_of, ite_of, bvneg_of, bits_of_two, test_of_two, bvnego_of, zero_extend_of, string_like_of, set_member_of, set_subset_of, set_inter_of, option_get_of, record_get_of}
+use Rattle.smt_folding.specs.Applications.{truth_literal, bits_literal, not_of, and_of, or_of, eq_of, ite_of, bvneg_of, bits_of_two, test_of_two, bvnego_of, zero_extend_of, string_like_of, set_member_of, set_subset_of, set_inter_of, option_get_of, record_get_of, extension_of}
 use Rattle.smt_folding.specs.Builder.{applied, folding}
 use Rattle.smt_folding.specs.Composites.{any_none, any_of, if_all_some, if_false, if_some, if_true, implies, is_none, is_some, set_intersects, set_is_empty}
 use Rattle.smt_folding.specs.FoldBits.{folded_bits, folded_bvneg, folded_bvnego, folded_overflow, folded_test, folded_zero_extend}
 use Rattle.smt_folding.specs.FoldConnectives.{folded_not, folded_and, folded_or}
 use Rattle.smt_folding.specs.FoldEquality.{folded_eq, folded_ite}
+use Rattle.smt_folding.specs.FoldExtensions.{folded_extension}
 use Rattle.smt_folding.specs.FoldFunctions.{app_of, folded_app}
 use Rattle.smt_folding.specs.FoldOptions.{folded_option_get}
 use Rattle.smt_folding.specs.FoldRecords.{folded_record_get}
@@ -26,7 +27,7 @@ use Rattle.smt_meaning.specs.TermSets.{set_term}
 use Rattle.smt_meaning.specs.Types.{attribute_type, type_of}
 use Rattle.smt_meaning.specs.Typing.{typed, Typed, AreBoolean}
 use Rattle.smt_meaning.specs.TypeValues.{Enums}
-use Rattle.smt_meaning.specs.Plain.{PlainType, BitVecType, BoolType, PatternPart, PlainOp, PlainTerm, Application, RecordTerm, SomeTerm, PlainFields, terms, BitsOp, TestOp, OverflowOp}
+use Rattle.smt_meaning.specs.Plain.{PlainType, BitVecType, BoolType, ExtensionOp, PatternPart, PlainOp, PlainTerm, Application, RecordTerm, SomeTerm, PlainFields, terms, BitsOp, TestOp, OverflowOp}
 use Rattle.smt_meaning.specs.Values.{BoolValue, BitVecValue}
 
 -- standing for is an order that applications, `some`, records and sets keep, and the tests for none and for the empty set
@@ -110,6 +111,10 @@ pub record RecordsAreFolded : Type 0 where
   pub record_get : (t : PlainTerm) (x : List ℕ) → Refines (folded_record_get t x) (record_get_of t x)
   pub type : (t : PlainTerm) (x : List ℕ) (ty : PlainType) → IsTrue (typed t) → attribute_type x (type_of t) ≡ Some ty → Typed (folded_record_get t x) ty
   pub value : (I : Interpretation) (t : PlainTerm) (x : List ℕ) (ty : PlainType) → IsTrue (typed t) → attribute_type x (type_of t) ≡ Some ty → term_value I (folded_record_get t x) ≡ attribute_value x (term_value I t)
+
+-- operators of the extension types
+abbrev pub ExtensionsAreFolded : Type 0
+ExtensionsAreFolded = (o : ExtensionOp) (t : PlainTerm) → Refines (folded_extension o t) (extension_of o t)
 
 -- A function at a term, where the keys of its table are literals. Where the table and the argument are typed, the folding has the
 -- function's value.

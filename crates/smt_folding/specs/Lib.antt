@@ -7,6 +7,7 @@ pub mod Congruence
 pub mod FoldBits
 pub mod FoldConnectives
 pub mod FoldEquality
+pub mod FoldExtensions
 pub mod FoldFunctions
 pub mod FoldOptions
 pub mod FoldRecords

@@ -1,8 +1,8 @@
 //! Laws of foldings and of what stands for what, proved with no code.
 ghost use Rattle.smt_folding.specs.Built.{BuiltTermsRefine, FoldingAddsNoFault};
 ghost use Rattle.smt_folding.specs.Congruence.{Congruence};
-ghost use Rattle.smt_folding.specs.FoldRows.{ApartRows, BitsRows, ConnectiveRows, EqualityRows, FunctionRows, OptionRows, RecordRows, SetRows, StringRows};
-ghost use Rattle.smt_folding.specs.Laws.{AnswersRefine, AnyIsTrue, BitsAreFolded, ConnectivesAreFolded, EqualityAndChoiceAreFolded, FunctionsAreFolded, InterpretationsPass, LiteralsAreEqualByValue, OptionsAreFolded, RecordsAreFolded, SetsAreFolded, RefinementIsKept, StringLikeIsFolded, TestsAreFolded, ValuesPass};
+ghost use Rattle.smt_folding.specs.FoldRows.{ApartRows, BitsRows, ConnectiveRows, EqualityRows, ExtensionRows, FunctionRows, OptionRows, RecordRows, SetRows, StringRows};
+ghost use Rattle.smt_folding.specs.Laws.{AnswersRefine, AnyIsTrue, BitsAreFolded, ConnectivesAreFolded, EqualityAndChoiceAreFolded, ExtensionsAreFolded, FunctionsAreFolded, InterpretationsPass, LiteralsAreEqualByValue, OptionsAreFolded, RecordsAreFolded, SetsAreFolded, RefinementIsKept, StringLikeIsFolded, TestsAreFolded, ValuesPass};
 
 /// A term stands for itself, onward, in applications, `some`, records and sets, and in the tests for none and for the
 /// empty set; and an interpretation of terms is one of the terms that stand for them, in which they have the same values.
@@ -65,6 +65,11 @@ pub fn records_are_folded()
     ensures { RecordsAreFolded }
 {}
 
+/// The operators of the extension types: what they are folded to stands for them.
+pub fn extensions_are_folded()
+    ensures { ExtensionsAreFolded }
+{}
+
 /// A function at a term: what it is folded to stands for the application, where the keys of its table are literals. Where the
 /// table and the argument are typed, it has in every interpretation the function's value at the argument's value.
 pub fn functions_are_folded()
@@ -101,5 +106,6 @@ pub fn fold_rows()
     ensures sets { SetRows }
     ensures options { OptionRows }
     ensures records { RecordRows }
+    ensures extensions { ExtensionRows }
     ensures functions { FunctionRows }
 {}

@@ -72,6 +72,7 @@ fn built_from_one(alloc: Global, op: &Op, a: &Term) -> Result<Option<Term>, Term
         Op::Not => factory::not(alloc, a)?,
         Op::Bvneg => factory::bvneg(alloc, a)?,
         Op::Bvnego => factory::bvnego(alloc, a)?,
+        Op::Ext(op) => factory::extension(alloc, *op, a)?,
         Op::OptionGet => factory::option_get(alloc, a)?,
         Op::RecordGet(attribute) => factory::record_get(alloc, a, attribute)?,
         Op::StringLike(pattern) => factory::string_like(alloc, a, pattern.share()?)?,
@@ -114,6 +115,7 @@ fn built_from_two(alloc: Global, op: &Op, a: &Term, b: &Term) -> Result<Option<T
         Op::SetSubset => factory::set_subset(alloc, a, b)?,
         Op::Bvneg
         | Op::Bvnego
+        | Op::Ext(_)
         | Op::Ite
         | Op::Not
         | Op::OptionGet

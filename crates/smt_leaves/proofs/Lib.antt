@@ -1,6 +1,7 @@
 pub mod AscendingPairs
 pub mod AscendingTexts
 pub mod EnumEntries
+pub mod ExtensionOrder
 pub mod LastPairs
 pub mod PatternOrder
 pub mod PatternSearch

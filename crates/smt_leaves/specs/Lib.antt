@@ -1,5 +1,6 @@
 pub mod Entities
 pub mod Enums
+pub mod ExtensionView
 pub mod Pairs
 pub mod PatternOrder
 pub mod PatternSearch

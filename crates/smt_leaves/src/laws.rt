@@ -1,6 +1,7 @@
-//! Laws of entities, sets of texts and patterns: they compare as what they say, proved with no code.
+//! Laws of entities, sets of texts, extension types and patterns: they compare as what they say, proved with no code.
 ghost use Rattle.smt_leaves.specs.Entities.{EntitiesCompareAsTexts, EntityIdsCompareAsTexts, EntityTypesCompareAsTexts};
 ghost use Rattle.smt_leaves.specs.Enums.{MembersAscend};
+ghost use Rattle.smt_leaves.specs.ExtensionView.{EqualExtensionOpsSayTheSame, EqualExtensionTypesSayTheSame, ExtensionOpsCompareAsPlain, ExtensionTypesCompareAsPlain};
 ghost use Rattle.smt_leaves.specs.PatternOrder.{ElementOrderIsTotal, ElementsCompareAsPlain, EqualElementsSayTheSame, EqualOrdPatternsSayTheSame, EqualPatternsSayTheSame, LevelElementsAreEqual, LevelPatternsAreEqual, OrdPatternOrderIsTotal, PatternsCompareAsPlain};
 ghost use Rattle.smt_leaves.specs.TextSets.{TextSetsAscend};
 
@@ -26,6 +27,14 @@ pub fn program_entities()
     ensures type_order { EntityTypesCompareAsTexts }
     ensures id_order { EntityIdsCompareAsTexts }
     ensures order { EntitiesCompareAsTexts }
+{}
+
+/// Extension types and the operators on their values compare by their places, and are equal exactly where they say the same.
+pub fn program_extensions()
+    ensures type_order { ExtensionTypesCompareAsPlain }
+    ensures type_equality { EqualExtensionTypesSayTheSame }
+    ensures op_order { ExtensionOpsCompareAsPlain }
+    ensures op_equality { EqualExtensionOpsSayTheSame }
 {}
 
 /// Sets of texts ascend, and so do the members of each enum type in a table.

@@ -28,7 +28,7 @@ function_same f g h =
     let q : f.output ≡ g.output = type_same f.output g.output k.1 in
     λ i. record { id = o i; argument = p i; output = q i }
 
-extension_op_same : (o p : ExtensionOp) → nat_cmp (extension_op_place o) (extension_op_place p) ≡ Equal → o ≡ p
+pub extension_op_same : (o p : ExtensionOp) → nat_cmp (extension_op_place o) (extension_op_place p) ≡ Equal → o ≡ p
 extension_op_same DatetimeOfBitVecOp DatetimeOfBitVecOp h = refl
 extension_op_same DatetimeValOp DatetimeValOp h = refl
 extension_op_same DecimalValOp DecimalValOp h = refl

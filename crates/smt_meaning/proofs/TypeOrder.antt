@@ -11,7 +11,7 @@ use Rattle.smt_meaning.specs.ValueOrder.{text_cmp}
 use Rattle.smt_meaning.proofs.ValueOrder.{text_same, then_equal, text_itself}
 use Rattle.smt_meaning.specs.Plain.{ExtensionKind, IpAddrKind, DecimalKind, DatetimeKind, DurationKind, PlainType, OptionType, BitVecType, BoolType, EntityType, ExtensionType, StringType, RecordType, SetType, AttributeTypes, no_attributes, attribute}
 
-kind_same : (k l : ExtensionKind) → nat_cmp (extension_kind_place k) (extension_kind_place l) ≡ Equal → k ≡ l
+pub kind_same : (k l : ExtensionKind) → nat_cmp (extension_kind_place k) (extension_kind_place l) ≡ Equal → k ≡ l
 kind_same IpAddrKind IpAddrKind h = refl
 kind_same DecimalKind DecimalKind h = refl
 kind_same DatetimeKind DatetimeKind h = refl

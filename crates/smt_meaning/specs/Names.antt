@@ -1,9 +1,22 @@
 -- The names of operators, by which jobs and messages call them.
 use Rattle.std.specs.Prelude.{ℕ, List, codes}
 use Rattle.smt_arithmetic.specs.BitOperators.{bits_entry, test_entry, overflow_entry}
-use Rattle.smt_meaning.specs.Plain.{PlainOp, AndOp, BvnegOp, BvnegoOp, EqOp, ExtOp, IteOp, NotOp, OptionGetOp, OrOp, RecordGetOp, SetInterOp, SetMemberOp, SetSubsetOp, StringLikeOp, UufOp, ZeroExtendOp, BitsOp, TestOp, OverflowOp}
+use Rattle.smt_meaning.specs.Plain.{ExtensionOp, DatetimeOfBitVecOp, DatetimeValOp, DecimalValOp, DurationOfBitVecOp, DurationValOp, IpAddrV4Op, IpAddrV6Op, IpIsV4Op, IpPrefixV4Op, IpPrefixV6Op, PlainOp, AndOp, BvnegOp, BvnegoOp, EqOp, ExtOp, IteOp, NotOp, OptionGetOp, OrOp, RecordGetOp, SetInterOp, SetMemberOp, SetSubsetOp, StringLikeOp, UufOp, ZeroExtendOp, BitsOp, TestOp, OverflowOp}
 
--- one name for all operators of the extension types
+-- each operator of the extension types by itself
+abbrev pub extension_op_name : ExtensionOp → List ℕ
+extension_op_name DatetimeOfBitVecOp = codes "datetime.ofBitVec"
+extension_op_name DatetimeValOp = codes "datetime.val"
+extension_op_name DecimalValOp = codes "decimal.val"
+extension_op_name DurationOfBitVecOp = codes "duration.ofBitVec"
+extension_op_name DurationValOp = codes "duration.val"
+extension_op_name IpAddrV4Op = codes "ipaddr.addrV4"
+extension_op_name IpAddrV6Op = codes "ipaddr.addrV6"
+extension_op_name IpIsV4Op = codes "ipaddr.isV4"
+extension_op_name IpPrefixV4Op = codes "ipaddr.prefixV4"
+extension_op_name IpPrefixV6Op = codes "ipaddr.prefixV6"
+
+-- as operators of terms they have one name for all
 abbrev pub op_name : PlainOp → List ℕ
 op_name AndOp = codes "and"
 op_name (BitsOp o) = (bits_entry o).name

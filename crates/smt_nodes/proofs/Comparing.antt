@@ -8,9 +8,9 @@ use Rattle.std.specs.Ordering.{is_eq, match_ordering, nat_cmp, ordering_then}
 use Rattle.std.specs.Prelude.{◌&&◌, IsTrue, Option, Some, eqb, option_and_then, option_map, slice_get}
 use Rattle.std.specs.declared.cmp.Ordering.{Ordering}
 use Rattle.std.specs.declared.cmp.Ordering.TheVariants.{Less, Equal, Greater}
-use Rattle.smt_meaning.specs.Plain.{PlainFunction, PlainType, OptionType, BitVecType, BoolType, EntityType, StringType, RecordType, SetType, AttributeTypes, PlainLiteral, PlainOp, UufOp, PlainTerm, Application, NoneTerm, LiteralTerm, RecordTerm, SetTerm, SomeTerm, VariableTerm, PlainFields, terms}
+use Rattle.smt_meaning.specs.Plain.{ExtensionKind, PlainFunction, PlainType, OptionType, BitVecType, BoolType, EntityType, ExtensionType, StringType, RecordType, SetType, AttributeTypes, PlainLiteral, PlainOp, UufOp, PlainTerm, Application, NoneTerm, LiteralTerm, RecordTerm, SetTerm, SomeTerm, VariableTerm, PlainFields, terms}
 use Rattle.smt_meaning.specs.TermOrder.{function_cmp, literal_cmp, op_cmp, op_fields_cmp, op_place, term_cmp, terms_cmp}
-use Rattle.smt_meaning.specs.Types.{field_types, literal_type, type_cmp, type_of}
+use Rattle.smt_meaning.specs.Types.{extension_kind_place, field_types, literal_type, type_cmp, type_of}
 use Rattle.smt_meaning.specs.ValueOrder.{ascends, text_cmp}
 use Rattle.smt_meaning.proofs.SameTerm.{function_same, literal_same, op_same, term_same}
 use Rattle.smt_meaning.proofs.TermTotal.{terms_decided, types_decided}
@@ -18,7 +18,7 @@ use Rattle.smt_meaning.proofs.TypeOrder.{type_same}
 use Rattle.smt_graph.specs.Fits.{applies_no_function}
 use Rattle.smt_graph.specs.Graphs.{IsGraph}
 use Rattle.smt_graph.specs.Meanings.{all_found, attributes_in, fields_in, found, meaning_at, meanings, stands_for, term_made, terms_in, typed_as}
-use Rattle.smt_graph.specs.Nodes.{PlainLabel, OptionLabel, BitVecLabel, BoolLabel, EntityLabel, StringLabel, RecordLabel, SetLabel, FunctionLabel, ApplicationLabel, CallLabel, NoneLabel, LiteralLabel, RecordOfLabel, SetOfLabel, SomeLabel, VariableLabel, PlainNode, Meaning, TypeMeaning, FunctionMeaning, TermMeaning}
+use Rattle.smt_graph.specs.Nodes.{PlainLabel, OptionLabel, BitVecLabel, BoolLabel, EntityLabel, ExtensionLabel, StringLabel, RecordLabel, SetLabel, FunctionLabel, ApplicationLabel, CallLabel, NoneLabel, LiteralLabel, RecordOfLabel, SetOfLabel, SomeLabel, VariableLabel, PlainNode, Meaning, TypeMeaning, FunctionMeaning, TermMeaning}
 use Rattle.smt_graph.proofs.Distinct.{Stands, node_stands, places_differ}
 use Rattle.smt_graph.proofs.Places.{map_back, only_back, some_same, test_back, then_back}
 use Rattle.smt_graph.proofs.Whole.{terms_back, typed_back, whole}
@@ -32,7 +32,7 @@ use Rattle.smt_nodes.specs.Order.{are_alike, attributes_apart, difference_of, fi
 use Rattle.smt_nodes.specs.View.{ids_of, place_of, places_of, plain_label, plain_node}
 use Rattle.smt_nodes.specs.declared.id.NodeId.{NodeId}
 use Rattle.smt_nodes.specs.declared.node.Label.{Label}
-use Rattle.smt_nodes.specs.declared.node.Label.TheVariants.{TOption, TBitvec, TBool, TEntity, TString, TRecord, TSet, Fun, App, Call, NoneOf, Prim, RecordOf, SetOf, SomeOf, Var}
+use Rattle.smt_nodes.specs.declared.node.Label.TheVariants.{TOption, TBitvec, TBool, TEntity, TExt, TString, TRecord, TSet, Fun, App, Call, NoneOf, Prim, RecordOf, SetOf, SomeOf, Var}
 use Rattle.smt_nodes.specs.declared.node.Node.{Node}
 use Rattle.smt_nodes.specs.declared.order.Difference.{Difference}
 use Rattle.smt_nodes.specs.declared.order.Difference.TheVariants.{Nowhere, At, Length}
@@ -42,6 +42,7 @@ pub data Shape : PlainLabel → List Meaning → Meaning → Type 0 where
   an_option : (t : PlainType) → Shape OptionLabel (TypeMeaning t ∷ []) (TypeMeaning (OptionType t))
   some_bits : (n : ℕ) → Shape (BitVecLabel n) [] (TypeMeaning (BitVecType n))
   a_truth : Shape BoolLabel [] (TypeMeaning BoolType)
+  extensions : (k : ExtensionKind) → Shape (ExtensionLabel k) [] (TypeMeaning (ExtensionType k))
   entities : (e : List ℕ) → Shape (EntityLabel e) [] (TypeMeaning (EntityType e))
   a_text : Shape StringLabel [] (TypeMeaning StringType)
   a_record_type : (x : AttributeTypes) → Shape (RecordLabel (names_in x)) (types_in x) (TypeMeaning (RecordType x))
@@ -125,6 +126,7 @@ shape TOption (TypeMeaning t ∷ []) m h = subst (Shape OptionLabel (TypeMeaning
 shape (TBitvec n) [] m h = subst (Shape (plain_label (TBitvec n)) []) (some_same _ _ h) (some_bits _)
 shape TBool [] m h = subst (Shape BoolLabel []) (some_same _ _ h) a_truth
 shape (TEntity e) [] m h = subst (Shape (plain_label (TEntity e)) []) (some_same _ _ h) (entities _)
+shape (TExt k) [] m h = subst (Shape (plain_label (TExt k)) []) (some_same _ _ h) (extensions _)
 shape TString [] m h = subst (Shape StringLabel []) (some_same _ _ h) a_text
 shape (TRecord names) ms m h = record_type_shape (texts (attributes_of names)) ms m h
 shape TSet (TypeMeaning t ∷ []) m h = subst (Shape SetLabel (TypeMeaning t ∷ [])) (some_same _ _ h) (a_set t)
@@ -218,6 +220,7 @@ pub by_parts : (l k : PlainLabel) (ps qs : List Meaning) (m n : Meaning) → Sha
 by_parts _ _ _ _ _ _ (an_option t) (an_option u) h = then_level (type_cmp t u)
 by_parts _ _ _ _ _ _ (some_bits i) (some_bits j) h = then_level (nat_cmp i j)
 by_parts _ _ _ _ _ _ (entities e) (entities f) h = then_level (text_cmp e f)
+by_parts _ _ _ _ _ _ (extensions k) (extensions l) h = then_level (nat_cmp (extension_kind_place k) (extension_kind_place l))
 by_parts _ _ _ _ _ _ (a_record_type x) (a_record_type y) h = types_by_attributes x y
 by_parts _ _ _ _ _ _ (a_set t) (a_set u) h = then_level (type_cmp t u)
 by_parts _ _ _ _ _ _ (a_function a t u) (a_function b v w) h = ap (λ c. ordering_then (text_cmp a b) (ordering_then (type_cmp t v) c)) (then_level (type_cmp u w))
@@ -391,6 +394,7 @@ parts_outcome ns g _ _ _ _ _ _ (an_option t) (an_option u) h xs ys p q = outcome
 parts_outcome ns g _ _ _ _ _ _ (some_bits i) (some_bits j) h xs ys p q = outcome ns g xs ys _ _ p q refl
 parts_outcome ns g _ _ _ _ _ _ a_truth a_truth h xs ys p q = outcome ns g xs ys _ _ p q refl
 parts_outcome ns g _ _ _ _ _ _ (entities e) (entities f) h xs ys p q = outcome ns g xs ys _ _ p q refl
+parts_outcome ns g _ _ _ _ _ _ (extensions k) (extensions l) h xs ys p q = outcome ns g xs ys _ _ p q refl
 parts_outcome ns g _ _ _ _ _ _ a_text a_text h xs ys p q = outcome ns g xs ys _ _ p q refl
 parts_outcome ns g _ _ _ _ _ _ (a_record_type v) (a_record_type w) h xs ys p q = attributes_outcome ns g (names_in v) (names_in w) xs ys _ _ p q (types_alike v w)
 parts_outcome ns g _ _ _ _ _ _ (a_set t) (a_set u) h xs ys p q = outcome ns g xs ys _ _ p q refl

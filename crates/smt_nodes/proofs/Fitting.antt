@@ -12,7 +12,7 @@ use Rattle.smt_meaning.proofs.TermTotal.{types_decided}
 use Rattle.smt_graph.specs.Fits.{applies_no_function, fits, is_term}
 use Rattle.smt_graph.specs.Graphs.{IsGraph}
 use Rattle.smt_graph.specs.Meanings.{all_found, found, meaning_at, meanings, stands_for, terms_in}
-use Rattle.smt_graph.specs.Nodes.{PlainLabel, OptionLabel, BitVecLabel, BoolLabel, EntityLabel, StringLabel, SetLabel, FunctionLabel, ApplicationLabel, CallLabel, NoneLabel, LiteralLabel, SetOfLabel, SomeLabel, VariableLabel, PlainNode, Meaning, TypeMeaning, FunctionMeaning, TermMeaning}
+use Rattle.smt_graph.specs.Nodes.{PlainLabel, OptionLabel, BitVecLabel, BoolLabel, EntityLabel, ExtensionLabel, StringLabel, SetLabel, FunctionLabel, ApplicationLabel, CallLabel, NoneLabel, LiteralLabel, SetOfLabel, SomeLabel, VariableLabel, PlainNode, Meaning, TypeMeaning, FunctionMeaning, TermMeaning}
 use Rattle.smt_graph.specs.Parts.{parts_in, term_parts}
 use Rattle.smt_graph.proofs.Distinct.{places_differ}
 use Rattle.smt_graph.proofs.Fitting.{are_terms, fitting, parts_fit}
@@ -315,6 +315,7 @@ abbrev pub stands_alone : PlainLabel → Bool
 stands_alone (BitVecLabel n) = true
 stands_alone BoolLabel = true
 stands_alone (EntityLabel e) = true
+stands_alone (ExtensionLabel k) = true
 stands_alone StringLabel = true
 stands_alone l = false
 
@@ -322,6 +323,7 @@ alone_none : (l : PlainLabel) → stands_alone l ≡ true → (ms : List (Option
 alone_none (BitVecLabel n) h ms = refl
 alone_none BoolLabel h ms = refl
 alone_none (EntityLabel e) h ms = refl
+alone_none (ExtensionLabel k) h ms = refl
 alone_none StringLabel h ms = refl
 alone_none l h ms = cc
 
@@ -331,10 +333,12 @@ alone_at l h (Some m) None = refl
 alone_at (BitVecLabel n) h (Some (TypeMeaning t)) (Some ms) = refl
 alone_at BoolLabel h (Some (TypeMeaning t)) (Some ms) = refl
 alone_at (EntityLabel e) h (Some (TypeMeaning t)) (Some ms) = refl
+alone_at (ExtensionLabel k) h (Some (TypeMeaning t)) (Some ms) = refl
 alone_at StringLabel h (Some (TypeMeaning t)) (Some ms) = refl
 alone_at (BitVecLabel n) h (Some m) (Some ms) = refl
 alone_at BoolLabel h (Some m) (Some ms) = refl
 alone_at (EntityLabel e) h (Some m) (Some ms) = refl
+alone_at (ExtensionLabel k) h (Some m) (Some ms) = refl
 alone_at StringLabel h (Some m) (Some ms) = refl
 alone_at l h (Some m) (Some ms) = cc
 

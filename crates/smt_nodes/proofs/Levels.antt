@@ -1,5 +1,5 @@
 -- Labels, nodes and keys that the derived order holds equal say the same, and the other way round.
-use Rattle.std.proofs.Common.{◌≡◌, ℕ, List, [], ◌∷◌, true, refl, sym, ap, ◌∙◌}
+use Rattle.std.proofs.Common.{◌≡◌, ◌⊎◌, inl, inr, ℕ, List, [], ◌∷◌, true, refl, sym, ap, ◌∙◌}
 use Rattle.std.specs.Cmp.{Equal-is, nat_cmp_is}
 use Rattle.std.specs.Cmp.Lexicographic.{slice_cmp}
 use Rattle.std.specs.FinMap.{nat_cmp-IsAntisymmetric, slice_cmp-IsAntisymmetric}
@@ -18,10 +18,14 @@ use Rattle.smt_meaning.proofs.SameTerm.{op_same, literal_same}
 use Rattle.smt_meaning.proofs.TermTotal.{ops_decided, terms_decided}
 use Rattle.smt_meaning.proofs.ValueOrder.{text_itself, text_same, then_equal}
 use Rattle.smt_leaves.specs.Entities.{bytes_of_type}
+use Rattle.smt_leaves.specs.ExtensionView.{plain_kind}
+use Rattle.smt_leaves.proofs.ExtensionOrder.{kind_cmp-is}
+use Rattle.smt_meaning.proofs.TypeOrder.{kind_same}
+use Rattle.smt_meaning.specs.Types.{extension_kind_place}
 use Rattle.smt_term.specs.declared.op.Op.{Op}
 use Rattle.smt_term.proofs.DerivedOrder.{literal_cmp-is, op_cmp-is}
 use Rattle.smt_term.specs.View.{plain_literal, plain_op}
-use Rattle.smt_graph.specs.Nodes.{BitVecLabel, EntityLabel, RecordLabel, FunctionLabel, ApplicationLabel, LiteralLabel, RecordOfLabel, VariableLabel, PlainNode}
+use Rattle.smt_graph.specs.Nodes.{BitVecLabel, EntityLabel, ExtensionLabel, RecordLabel, FunctionLabel, ApplicationLabel, LiteralLabel, RecordOfLabel, VariableLabel, PlainNode}
 use Rattle.smt_nodes.specs.Attributes.{attributes_of}
 use Rattle.smt_nodes.specs.Order.{first_cmp, label_cmp}
 use Rattle.smt_nodes.specs.View.{ids_of, place_of, places_of, plain_label, plain_node}
@@ -31,7 +35,7 @@ use Rattle.smt_nodes.specs.contracts.node.NodeOrd.TheImpl as node_order
 use Rattle.smt_nodes.specs.contracts.table.KeyOrd.TheImpl as key_order
 use Rattle.smt_nodes.specs.declared.id.NodeId.{NodeId}
 use Rattle.smt_nodes.specs.declared.node.Label.{Label}
-use Rattle.smt_nodes.specs.declared.node.Label.TheVariants.{TOption, TBitvec, TBool, TEntity, TString, TRecord, TSet, Fun, App, Call, NoneOf, Prim, RecordOf, SetOf, SomeOf, Var}
+use Rattle.smt_nodes.specs.declared.node.Label.TheVariants.{TOption, TBitvec, TBool, TEntity, TExt, TString, TRecord, TSet, Fun, App, Call, NoneOf, Prim, RecordOf, SetOf, SomeOf, Var}
 use Rattle.smt_nodes.specs.declared.node.Node.{Node}
 use Rattle.smt_nodes.specs.declared.table.Key.{Key}
 
@@ -52,6 +56,7 @@ texts_itself (x ∷ xs) = ap (λ o. ordering_then o (slice_cmp text_cmp xs xs)) 
 pub label_cmp-is : (l m : Label) → label_order.ghosts.cmp l m ≡ label_cmp (plain_label l) (plain_label m)
 label_cmp-is (TBitvec n) (TBitvec k) = refl
 label_cmp-is (TEntity e) (TEntity f) = refl
+label_cmp-is (TExt k) (TExt l) = kind_cmp-is k l
 label_cmp-is (TRecord a) (TRecord b) = texts_cmp-is (attributes_of a) (attributes_of b)
 label_cmp-is (Fun a) (Fun b) = refl
 label_cmp-is (App o) (App p) = op_cmp-is o p
@@ -60,6 +65,11 @@ label_cmp-is (RecordOf a) (RecordOf b) = texts_cmp-is (attributes_of a) (attribu
 label_cmp-is (Var a) (Var b) = refl
 label_cmp-is l TOption = refl
 label_cmp-is l m = refl
+
+-- by one of two
+pub either : {A B C : Type 0} → (A → C) → (B → C) → A ⊎ B → C
+either f g (inl a) = f a
+either f g (inr b) = g b
 
 -- an application compares with any label but a call by the order of labels
 pub app_first : (l k : Label) (o : Op) → l ≡ App o → ¬ (k ≡ Call) → label_cmp (plain_label l) (plain_label k) ≡ first_cmp (plain_label l) (plain_label k)
@@ -71,6 +81,7 @@ app_first l k o e n = cc
 pub label_same : (l m : Label) → label_cmp (plain_label l) (plain_label m) ≡ Equal → plain_label l ≡ plain_label m
 label_same (TBitvec n) (TBitvec k) h = ap BitVecLabel (nat_cmp-IsAntisymmetric (bits_in n) (bits_in k) h)
 label_same (TEntity e) (TEntity f) h = ap EntityLabel (text_same (bytes_of_type e) (bytes_of_type f) h)
+label_same (TExt k) (TExt l) h = ap ExtensionLabel (kind_same (plain_kind k) (plain_kind l) h)
 label_same (TRecord a) (TRecord b) h = ap RecordLabel (texts_same (texts (attributes_of a)) (texts (attributes_of b)) h)
 label_same (Fun a) (Fun b) h = ap FunctionLabel (text_same (rc_str_bytes a) (rc_str_bytes b) h)
 label_same (App o) (App p) h = ap ApplicationLabel (op_same (plain_op o) (plain_op p) h)
@@ -99,6 +110,7 @@ op_itself o = (Equal-is (op_cmp o o)).0 ((ops_decided o o).1 refl)
 pub label_itself : (l : Label) → label_cmp (plain_label l) (plain_label l) ≡ Equal
 label_itself (TBitvec n) = nat_itself (bits_in n)
 label_itself (TEntity e) = text_itself (bytes_of_type e)
+label_itself (TExt k) = nat_itself (extension_kind_place (plain_kind k))
 label_itself (TRecord a) = texts_itself (texts (attributes_of a))
 label_itself (Fun a) = text_itself (rc_str_bytes a)
 label_itself (App o) = op_itself (plain_op o)

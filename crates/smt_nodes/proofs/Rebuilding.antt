@@ -13,9 +13,9 @@ use Rattle.smt_nodes.proofs.RecordParts.{listed-append, types_listing, types_mea
 use Rattle.std.proofs.lemmas.List.{length-map, map-append}
 use Rattle.std.specs.List.{AllByRecursion}
 use Rattle.std.specs.Prelude.{IfSome, Option, option_map}
-use Rattle.smt_meaning.specs.Plain.{PlainType, BitVecType, BoolType, EntityType, StringType, RecordType, AttributeTypes, no_attributes, attribute}
+use Rattle.smt_meaning.specs.Plain.{ExtensionKind, PlainType, BitVecType, BoolType, EntityType, ExtensionType, StringType, RecordType, AttributeTypes, no_attributes, attribute}
 use Rattle.smt_graph.specs.Meanings.{all_found, found}
-use Rattle.smt_graph.specs.Nodes.{PlainLabel, BitVecLabel, BoolLabel, EntityLabel, StringLabel, RecordLabel, Meaning, TypeMeaning}
+use Rattle.smt_graph.specs.Nodes.{PlainLabel, BitVecLabel, BoolLabel, EntityLabel, ExtensionLabel, StringLabel, RecordLabel, Meaning, TypeMeaning}
 use Rattle.smt_graph.specs.Parts.{label_in, names_in, parts_in, type_label, type_parts, types_in}
 use Rattle.smt_nodes.proofs.Comparing.{head_found}
 use Rattle.smt_nodes.proofs.Finding.{as_many_found}
@@ -44,6 +44,11 @@ pub of_entity : (t : PlainType) (e : List ℕ) → EntityLabel e ≡ type_label 
 of_entity (EntityType f) e h = let same : e ≡ f = cc in ap EntityType (sym same)
 of_entity BoolType e h = absurd (cc)
 of_entity t e h = absurd (cc)
+
+pub of_extension : (t : PlainType) (k : ExtensionKind) → ExtensionLabel k ≡ type_label t → t ≡ ExtensionType k
+of_extension (ExtensionType l) k h = let same : k ≡ l = cc in ap ExtensionType (sym same)
+of_extension BoolType k h = absurd (cc)
+of_extension t k h = absurd (cc)
 
 pub of_text : (t : PlainType) → StringLabel ≡ type_label t → t ≡ StringType
 of_text StringType h = refl

@@ -1,10 +1,10 @@
 -- What stands at a place, by its kind and its type.
 use Rattle.std.specs.List.{list_all}
 use Rattle.std.specs.Prelude.{◌≡◌, ℕ, Bool, true, false, ◌&&◌, List, [], ◌∷◌, Option, Some, None, bytes_eq, is_some, nat_eq, option_and_then}
-use Rattle.smt_meaning.specs.Plain.{PlainType, OptionType, RecordType, AttributeTypes, PlainLiteral, BitVecLiteral, BoolLiteral, EntityLiteral, StringLiteral, PlainTerm}
+use Rattle.smt_meaning.specs.Plain.{PlainType, OptionType, RecordType, AttributeTypes, PlainLiteral, BitVecLiteral, BoolLiteral, EntityLiteral, ExtensionLiteral, StringLiteral, PlainTerm}
 use Rattle.smt_meaning.specs.TermOrder.{term_cmp}
 use Rattle.smt_meaning.specs.ValueOrder.{ascends}
-use Rattle.smt_meaning.specs.Types.{inner_type, is_set, literal_type, type_eq, type_of}
+use Rattle.smt_meaning.specs.Types.{extension_kind_place, inner_type, is_set, kind_of, literal_type, type_eq, type_of}
 use Rattle.smt_graph.specs.Meanings.{all_found, terms_in}
 use Rattle.smt_graph.specs.Fits.{is_term}
 use Rattle.smt_graph.specs.Parts.{names_in}
@@ -38,11 +38,12 @@ is_term_label SetLabel = false
 is_term_label (FunctionLabel id) = false
 is_term_label l = true
 
--- the label of the type of a literal that the program has
+-- the label of the type of a literal
 abbrev pub is_literal_label : PlainLiteral → PlainLabel → Bool
 is_literal_label (BitVecLiteral n a) (BitVecLabel m) = nat_eq n m
 is_literal_label (BoolLiteral b) BoolLabel = true
 is_literal_label (EntityLiteral e i) (EntityLabel f) = bytes_eq e f
+is_literal_label (ExtensionLiteral x) (ExtensionLabel k) = nat_eq (extension_kind_place (kind_of x)) (extension_kind_place k)
 is_literal_label (StringLiteral s) StringLabel = true
 is_literal_label l m = false
 

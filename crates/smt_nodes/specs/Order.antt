@@ -5,7 +5,7 @@ use Rattle.std.specs.Ordering.{match_ordering, nat_cmp}
 use Rattle.std.specs.declared.cmp.Ordering.{Ordering}
 use Rattle.std.specs.declared.cmp.Ordering.TheVariants.{Less, Equal, Greater}
 use Rattle.smt_meaning.specs.TermOrder.{function_cmp, literal_cmp, op_cmp, op_place, term_cmp}
-use Rattle.smt_meaning.specs.Types.{type_cmp}
+use Rattle.smt_meaning.specs.Types.{extension_kind_place, type_cmp}
 use Rattle.smt_meaning.specs.ValueOrder.{text_cmp}
 use Rattle.smt_graph.specs.Nodes.{PlainLabel, OptionLabel, BitVecLabel, BoolLabel, EntityLabel, ExtensionLabel, StringLabel, RecordLabel, SetLabel, FunctionLabel, ApplicationLabel, CallLabel, NoneLabel, LiteralLabel, RecordOfLabel, SetOfLabel, SomeLabel, VariableLabel, Meaning, TypeMeaning, FunctionMeaning, TermMeaning}
 use Rattle.smt_nodes.specs.View.{place_of}
@@ -50,6 +50,7 @@ label_place (VariableLabel id) = 16
 abbrev pub label_cmp : PlainLabel → PlainLabel → Ordering
 label_cmp (BitVecLabel n) (BitVecLabel m) = nat_cmp n m
 label_cmp (EntityLabel e) (EntityLabel f) = text_cmp e f
+label_cmp (ExtensionLabel k) (ExtensionLabel l) = nat_cmp (extension_kind_place k) (extension_kind_place l)
 label_cmp (RecordLabel xs) (RecordLabel ys) = slice_cmp text_cmp xs ys
 label_cmp (FunctionLabel a) (FunctionLabel b) = text_cmp a b
 label_cmp (ApplicationLabel o) (ApplicationLabel p) = op_cmp o p

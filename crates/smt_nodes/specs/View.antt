@@ -2,17 +2,18 @@
 use Rattle.std.specs.Prelude.{ℕ, List, [], map}
 use Rattle.std.specs.Rc.{rc_slice_items, rc_str_bytes}
 use Rattle.smt_bits.specs.Width.{bits_in}
-use Rattle.smt_graph.specs.Nodes.{PlainLabel, OptionLabel, BitVecLabel, BoolLabel, EntityLabel, StringLabel, RecordLabel, SetLabel, FunctionLabel, ApplicationLabel, CallLabel, NoneLabel, LiteralLabel, RecordOfLabel, SetOfLabel, SomeLabel, VariableLabel, PlainNode}
+use Rattle.smt_graph.specs.Nodes.{PlainLabel, OptionLabel, BitVecLabel, BoolLabel, EntityLabel, ExtensionLabel, StringLabel, RecordLabel, SetLabel, FunctionLabel, ApplicationLabel, CallLabel, NoneLabel, LiteralLabel, RecordOfLabel, SetOfLabel, SomeLabel, VariableLabel, PlainNode}
 use Rattle.smt_characters.specs.SharedTexts.{texts}
 use Rattle.smt_nodes.specs.Attributes.{attributes_of}
 use Rattle.smt_leaves.specs.Entities.{bytes_of_type}
+use Rattle.smt_leaves.specs.ExtensionView.{plain_kind}
 use Rattle.smt_term.specs.View.{plain_literal, plain_op}
 use Rattle.smt_nodes.specs.declared.id.IdList.{IdList}
 use Rattle.smt_nodes.specs.declared.id.Items.{Items}
 use Rattle.smt_nodes.specs.declared.id.Items.TheVariants.{Empty, One, Two, Three, More}
 use Rattle.smt_nodes.specs.declared.id.NodeId.{NodeId}
 use Rattle.smt_nodes.specs.declared.node.Label.{Label}
-use Rattle.smt_nodes.specs.declared.node.Label.TheVariants.{TOption, TBitvec, TBool, TEntity, TString, TRecord, TSet, Fun, App, Call, NoneOf, Prim, RecordOf, SetOf, SomeOf, Var}
+use Rattle.smt_nodes.specs.declared.node.Label.TheVariants.{TOption, TBitvec, TBool, TEntity, TExt, TString, TRecord, TSet, Fun, App, Call, NoneOf, Prim, RecordOf, SetOf, SomeOf, Var}
 use Rattle.smt_nodes.specs.declared.node.Node.{Node}
 
 abbrev pub place_of : NodeId → ℕ
@@ -37,6 +38,7 @@ plain_label TOption = OptionLabel
 plain_label (TBitvec n) = BitVecLabel (bits_in n)
 plain_label TBool = BoolLabel
 plain_label (TEntity e) = EntityLabel (bytes_of_type e)
+plain_label (TExt k) = ExtensionLabel (plain_kind k)
 plain_label TString = StringLabel
 plain_label (TRecord names) = RecordLabel (texts (attributes_of names))
 plain_label TSet = SetLabel

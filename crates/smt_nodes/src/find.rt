@@ -220,6 +220,7 @@ impl Interner {
             TermType::Bitvec { .. } => parts.is_empty(),
             TermType::Bool => parts.is_empty(),
             TermType::Entity { .. } => parts.is_empty(),
+            TermType::Ext { .. } => parts.is_empty(),
             TermType::String => parts.is_empty(),
             TermType::Record { rty } => self.stand_for_types(parts, rty),
             TermType::Set { ty } => self.are_one_type(parts, ty),
@@ -316,6 +317,7 @@ impl Label {
                 Label::TEntity(own) => own == ety,
                 _ => false,
             },
+            TermType::Ext { xty } => *self == Label::TExt(*xty),
             TermType::String => *self == Label::TString,
             TermType::Record { rty } => match self {
                 Label::TRecord(own) => are_attributes_of(own.items(), rty.items()),

@@ -170,6 +170,7 @@ impl Interner {
             TermType::Bitvec { n } => self.enter(Label::TBitvec(*n), &[]),
             TermType::Bool => self.enter(Label::TBool, &[]),
             TermType::Entity { ety } => self.enter(Label::TEntity(ety.share()?), &[]),
+            TermType::Ext { xty } => self.enter(Label::TExt(*xty), &[]),
             TermType::String => self.enter(Label::TString, &[]),
             TermType::Record { rty } => {
                 let names = AttrList::of_pairs(self.alloc, rty.items())?;

@@ -2,9 +2,9 @@
 ghost use Rattle.std.specs.Prelude.{ℕ, List, ◌≡◌, ◌↔◌, ◌<◌, ◌≤◌, ◌^◌, [], Contains, IfNone, IfOk, IfSome, IsTrue, OnOk, Some, is_some, length, map, option_and_then, option_map, slice_get};
 ghost use Rattle.std.specs.List.{AllByRecursion, list_all};
 ghost use Rattle.smt_graph.specs.Fits.{applies_no_function, fits};
-ghost use Rattle.smt_graph.specs.Nodes.{ApplicationLabel, BitVecLabel, BoolLabel, CallLabel, EntityLabel, FunctionLabel, LiteralLabel, NoneLabel, OptionLabel, RecordLabel, RecordOfLabel, SetLabel, SetOfLabel, SomeLabel, StringLabel, TypeMeaning, VariableLabel};
+ghost use Rattle.smt_graph.specs.Nodes.{ApplicationLabel, BitVecLabel, BoolLabel, CallLabel, EntityLabel, ExtensionLabel, FunctionLabel, LiteralLabel, NoneLabel, OptionLabel, RecordLabel, RecordOfLabel, SetLabel, SetOfLabel, SomeLabel, StringLabel, TypeMeaning, VariableLabel};
 ghost use Rattle.smt_characters.specs.SharedTexts.{texts};
-ghost use Rattle.smt_meaning.specs.Plain.{PlainOp, PlainType};
+ghost use Rattle.smt_meaning.specs.Plain.{ExtensionKind, PlainOp, PlainType};
 ghost use Rattle.smt_graph.specs.Graphs.{IsGraph};
 ghost use Rattle.smt_graph.specs.Meanings.{all_found, meaning_at, meanings, stands_for};
 ghost use Rattle.smt_graph.specs.Parts.{label_in, parts_in};
@@ -121,6 +121,7 @@ impl Interner {
             Label::TBitvec(_) => self.fits_alone(parts),
             Label::TBool => self.fits_alone(parts),
             Label::TEntity(_) => self.fits_alone(parts),
+            Label::TExt(_) => self.fits_alone(parts),
             Label::TString => self.fits_alone(parts),
             Label::TRecord(names) => self.fits_record_type(names.items(), parts),
             Label::TSet => self.fits_around_type(parts),
@@ -141,6 +142,7 @@ impl Interner {
         ensures bits { (n : ℕ) → result ≡ is_some (option_and_then (stands_for (BitVecLabel n)) (all_found (meanings (nodes_of self.now)) (places_of parts.now))) }
         ensures truths { result ≡ is_some (option_and_then (stands_for BoolLabel) (all_found (meanings (nodes_of self.now)) (places_of parts.now))) }
         ensures entities { (name : List ℕ) → result ≡ is_some (option_and_then (stands_for (EntityLabel name)) (all_found (meanings (nodes_of self.now)) (places_of parts.now))) }
+        ensures extensions { (kind : ExtensionKind) → result ≡ is_some (option_and_then (stands_for (ExtensionLabel kind)) (all_found (meanings (nodes_of self.now)) (places_of parts.now))) }
         ensures texts { result ≡ is_some (option_and_then (stands_for StringLabel) (all_found (meanings (nodes_of self.now)) (places_of parts.now))) }
     {
         match parts {

@@ -6,7 +6,7 @@ ghost use Rattle.smt_term.specs.View.{plain_literal};
 use crate::attributes::AttrList;
 use crate::id::IdList;
 use smt_bits::Width;
-use smt_term::{EntityType, Op, TermError, TermPrim, Text};
+use smt_term::{EntityType, ExtType, Op, TermError, TermPrim, Text};
 
 /// What a type, a function or a term is, apart from its parts. The types come first, and then the functions.
 #[derive(Debug, PartialEq, Eq, PartialOrd, Ord, Drop)]
@@ -19,6 +19,8 @@ pub enum Label {
     TBool,
     /// The type of entities of a type.
     TEntity(EntityType),
+    /// An extension type.
+    TExt(ExtType),
     /// The type of texts.
     TString,
     /// The type of records of these attributes; its parts are their types, in the order of the attributes.
@@ -67,6 +69,7 @@ impl Label {
             | Label::TBitvec(_)
             | Label::TBool
             | Label::TEntity(_)
+            | Label::TExt(_)
             | Label::TString
             | Label::TRecord(_)
             | Label::TSet => true,
@@ -92,6 +95,7 @@ impl Label {
             | Label::TBitvec(_)
             | Label::TBool
             | Label::TEntity(_)
+            | Label::TExt(_)
             | Label::TString
             | Label::TRecord(_)
             | Label::TSet
@@ -123,6 +127,7 @@ impl Label {
             | Label::TBitvec(_)
             | Label::TBool
             | Label::TEntity(_)
+            | Label::TExt(_)
             | Label::TString
             | Label::TRecord(_)
             | Label::TSet
@@ -147,6 +152,10 @@ impl Label {
                 Label::TEntity(ety) => entity.ety == *ety,
                 _ => false,
             },
+            TermPrim::Ext(value) => match self {
+                Label::TExt(xty) => ExtType::of(value) == *xty,
+                _ => false,
+            },
             TermPrim::String(_) => match self {
                 Label::TString => true,
                 _ => false,
@@ -166,6 +175,7 @@ impl Label {
             Label::TBitvec(width) => Label::TBitvec(*width),
             Label::TBool => Label::TBool,
             Label::TEntity(ety) => Label::TEntity(ety.share()?),
+            Label::TExt(xty) => Label::TExt(*xty),
             Label::TString => Label::TString,
             Label::TRecord(names) => Label::TRecord(names.share()?),
             Label::TSet => Label::TSet,

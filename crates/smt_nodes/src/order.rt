@@ -71,6 +71,7 @@ fn parts_difference(first: &Label, second: &Label, xs: &[NodeId], ys: &[NodeId])
         | Label::TBitvec(_)
         | Label::TBool
         | Label::TEntity(_)
+        | Label::TExt(_)
         | Label::TString
         | Label::TSet
         | Label::Fun(_)
@@ -173,6 +174,7 @@ fn compare_labels(first: &Label, second: &Label) -> Ordering
         | Label::TBitvec(_)
         | Label::TBool
         | Label::TEntity(_)
+        | Label::TExt(_)
         | Label::TString
         | Label::TSet
         | Label::Fun(_)
@@ -210,6 +212,7 @@ fn beside_functions(op: &Op) -> Ordering
         | Op::Bvult
         | Op::Bvurem
         | Op::Eq
+        | Op::Ext(_)
         | Op::Ite
         | Op::Not
         | Op::OptionGet

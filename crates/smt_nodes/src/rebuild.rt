@@ -35,6 +35,7 @@ impl Interner {
             Some(Label::TBitvec(width)) => Ok(TermType::Bitvec { n: *width }),
             Some(Label::TBool) => Ok(TermType::Bool),
             Some(Label::TEntity(ety)) => Ok(TermType::Entity { ety: ety.share()? }),
+            Some(Label::TExt(xty)) => Ok(TermType::Ext { xty: *xty }),
             Some(Label::TString) => Ok(TermType::String),
             Some(Label::TRecord(names)) => self.record_type_at(id, names.items(), parts),
             Some(Label::TSet) => TermType::set_of(self.alloc, self.type_at(parts[0])?),

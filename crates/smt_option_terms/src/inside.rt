@@ -47,6 +47,7 @@ pub(crate) fn inner_type(alloc: Global, t: &Term) -> Result<Option<TermType>, Te
         TermType::Bitvec { .. }
         | TermType::Bool
         | TermType::Entity { .. }
+        | TermType::Ext { .. }
         | TermType::String
         | TermType::Record { .. }
         | TermType::Set { .. } => Ok(None),

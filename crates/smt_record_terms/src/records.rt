@@ -105,6 +105,7 @@ fn attribute_type(alloc: Global, t: &Term, a: &Attr) -> Result<Option<TermType>,
         | TermType::Bitvec { .. }
         | TermType::Bool
         | TermType::Entity { .. }
+        | TermType::Ext { .. }
         | TermType::String
         | TermType::Set { .. } => Ok(None),
     }

@@ -3,6 +3,7 @@ ghost use Rattle.std.specs.Prelude.{◌≡◌, ◌<◌, IfOk, map};
 ghost use Rattle.smt_nodes.specs.Interned.{StandFor};
 ghost use Rattle.smt_term.specs.View.{plain_term};
 
+use crate::spelling::spelling_of;
 use crate::words::Row;
 use anyhow::Result;
 use smt_encode::{EncodeError, Encoder, Steps};
@@ -19,6 +20,8 @@ use std::sync::ledger::{Blank, Ledger};
 #[derive(Drop)]
 struct Script {
     outcome: Result<(), EncodeError>,
+    /// Whether it answers a second call that it is spent.
+    spent: bool,
     sink: ListSink,
 }
 
@@ -26,8 +29,10 @@ struct Script {
 fn by_terms(alloc: Global, row: &Row) -> Script {
     let mut encoder = Encoder::new(alloc, &row.enums, ListSink::new(alloc));
     let outcome = encoder.encode(row.terms.as_slice());
+    let spent = encoder.encode(&[]) == Err(EncodeError::Spent);
     Script {
         outcome,
+        spent,
         sink: encoder.into_script(),
     }
 }
@@ -59,8 +64,10 @@ fn by_numbers<L: Ledger>(alloc: Global, row: &Row, blank: Blank) -> Result<Scrip
     let mut encoder = Encoder::with_nodes(alloc, &row.enums, nodes, ListSink::new(alloc));
     let mut steps = Steps::<L>::new(blank);
     let outcome = encoder.encode_nodes(ids.as_slice(), &mut steps);
+    let spent = encoder.encode(&[]) == Err(EncodeError::Spent);
     Ok(Script {
         outcome,
+        spent,
         sink: encoder.into_script(),
     })
 }
@@ -81,6 +88,10 @@ fn refusal(alloc: Global, error: &EncodeError) -> Result<String> {
             let text = quote_id(alloc, text.as_str())?;
             format!(in alloc; "EncodeStringFailed {text}")?
         }
+        EncodeError::EncodePatternFailed(pattern) => {
+            let pattern = quote_id(alloc, spelling_of(alloc, pattern)?.as_str())?;
+            format!(in alloc; "EncodePatternFailed {pattern}")?
+        }
         EncodeError::RecordMissingAttr(name) => {
             let name = quote_id(alloc, name.as_str())?;
             format!(in alloc; "RecordMissingAttr {name}")?
@@ -93,12 +104,15 @@ fn refusal(alloc: Global, error: &EncodeError) -> Result<String> {
     })
 }
 
-/// Prints the bytes of a script, and behind them why it has no more.
+/// Prints the bytes of a script, behind them why it has no more, and whether the encoder would still encode.
 fn print(alloc: Global, printer: &mut (impl Write + Drop), script: &Script) -> Result<()> {
     printer.write_all(script.sink.bytes())?;
     if let Err(error) = &script.outcome {
         let refusal = refusal(alloc, error)?;
         writeln!(printer, "refused: {refusal}")?;
+    }
+    if !script.spent {
+        writeln!(printer, "but not spent")?;
     }
     Ok(())
 }

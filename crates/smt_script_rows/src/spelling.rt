@@ -1,7 +1,7 @@
 //! Texts as rows spell them.
 
 use anyhow::{Context, Result, bail};
-use smt_term::Text;
+use smt_term::{OrdPattern, Pattern, PatternElem, Text};
 use std::alloc::Global;
 
 /// What there is of an escape.
@@ -44,6 +44,31 @@ pub(crate) fn text(alloc: Global, spelling: &str) -> Result<Text> {
         Escape::Closed => Ok(Text::from_string(text)?),
         Escape::Begun | Escape::Code(_) => bail!("an escape does not end"),
     }
+}
+
+/// The pattern of this spelling, in which `*` stands for any text.
+pub(crate) fn pattern(alloc: Global, spelling: &str) -> Result<OrdPattern> {
+    let characters = text(alloc, spelling)?;
+    let mut elems = Vec::new(alloc);
+    for c in characters.as_str().chars() {
+        elems.push(match c {
+            '*' => PatternElem::Wildcard,
+            _ => PatternElem::Char(c),
+        })?;
+    }
+    Ok(OrdPattern::from(Pattern::new(alloc, elems.as_slice())?))
+}
+
+/// The spelling of a pattern, with no escapes.
+pub(crate) fn spelling_of(alloc: Global, pattern: &OrdPattern) -> Result<String> {
+    let mut spelling = String::new(alloc);
+    for elem in pattern.get_elems() {
+        spelling.push(match elem {
+            PatternElem::Wildcard => '*',
+            PatternElem::Char(c) => *c,
+        })?;
+    }
+    Ok(spelling)
 }
 
 /// The character of the escape with this letter.

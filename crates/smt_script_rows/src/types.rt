@@ -1,11 +1,11 @@
-//! Types as rows spell them: `@` and the name of an entity type, `%` and the attributes of a record type, or the word of another
-//! type. A `?` before a type is for its options, and a `*` for its sets. Between two attributes stands a comma, and between an
-//! attribute and its type `=`. An attribute's type is no record type.
+//! Types as rows spell them: `@` and the name of an entity type, `%` and the attributes of a record type, `#` and a number
+//! of bits, or the word of another type. A `?` before a type is for its options, and a `*` for its sets. Between two
+//! attributes stands a comma, and between an attribute and its type `=`. An attribute's type is no record type.
 
 use crate::spelling::text;
 use anyhow::{Context, Result, bail};
-use smt_bits::EIGHT;
-use smt_term::{Attr, EntityType, TermType, TypeMap};
+use smt_bits::{EIGHT, Width};
+use smt_term::{Attr, EntityType, ExtType, TermType, TypeMap};
 use std::alloc::Global;
 
 /// The type of this spelling.
@@ -52,11 +52,36 @@ fn plain_type(alloc: Global, spelling: &str) -> Result<TermType> {
         "bool" => Ok(TermType::Bool),
         "byte" => Ok(TermType::Bitvec { n: EIGHT }),
         "string" => Ok(TermType::String),
-        _ => match spelling.strip_prefix('@') {
-            Some(name) => Ok(TermType::Entity {
-                ety: EntityType(text(alloc, name)?),
-            }),
-            None => bail!("no type has this spelling"),
-        },
+        "decimal" => Ok(TermType::Ext {
+            xty: ExtType::Decimal,
+        }),
+        "datetime" => Ok(TermType::Ext {
+            xty: ExtType::DateTime,
+        }),
+        "duration" => Ok(TermType::Ext {
+            xty: ExtType::Duration,
+        }),
+        "ip" => Ok(TermType::Ext {
+            xty: ExtType::IpAddr,
+        }),
+        _ => marked_type(alloc, spelling),
     }
+}
+
+/// The type of a spelling that begins with a mark of its own.
+fn marked_type(alloc: Global, spelling: &str) -> Result<TermType> {
+    if let Some(n) = spelling.strip_prefix('#') {
+        return Ok(TermType::Bitvec { n: width(n)? });
+    }
+    match spelling.strip_prefix('@') {
+        Some(name) => Ok(TermType::Entity {
+            ety: EntityType(text(alloc, name)?),
+        }),
+        None => bail!("no type has this spelling"),
+    }
+}
+
+/// So many bits.
+pub(crate) fn width(digits: &str) -> Result<Width> {
+    Width::new(digits.parse()?).context("no bitvector has so many bits")
 }

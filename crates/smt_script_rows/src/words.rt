@@ -1,12 +1,14 @@
 //! Rows by their words. A word enters an enum type, or puts a term on a stack, and an operator takes its arguments from there.
 
-use crate::spelling::text;
-use crate::types::type_of;
+use crate::made::made;
+use crate::operators::{applied, operator};
+use crate::spelling::{pattern, text};
+use crate::types::{type_of, width};
 use anyhow::{Context, Result, bail};
 use smt_bits::{BitVec, EIGHT};
 use smt_term::{
-    EntityID, EntityType, EntityUID, EnumTable, Op, Term, TermList, TermMap, TermSet, TermType,
-    TermVar, Uuf,
+    EntityID, EntityType, EntityUID, EnumTable, Ext, Op, Term, TermList, TermMap, TermSet,
+    TermType, TermVar, Uuf,
 };
 use std::alloc::Global;
 use std::rc::Rc;
@@ -20,7 +22,7 @@ pub(crate) struct Row {
     pub terms: Vec<Term>,
 }
 
-/// What these words say, which leave terms that claim to be Boolean. A space stands between two words.
+/// What these words say, which leave terms that claim to be Boolean. A space stands between two words, and there may be none.
 pub(crate) fn read_row(alloc: Global, words: &str) -> Result<Row> {
     let mut enums = EnumTable::new(alloc);
     let mut terms = Vec::new(alloc);
@@ -28,7 +30,7 @@ pub(crate) fn read_row(alloc: Global, words: &str) -> Result<Row> {
         let (head, held) = word.split_once(':').unwrap_or((word, ""));
         if head == "enum" {
             enter(alloc, &mut enums, held)?;
-        } else {
+        } else if !words.is_empty() {
             let made = term(alloc, &mut terms, head, held)?;
             terms.push(made)?;
         }
@@ -59,6 +61,7 @@ fn term(alloc: Global, terms: &mut Vec<Term>, head: &str, held: &str) -> Result<
     Ok(match head {
         "true" => Term::from(true),
         "byte" => Term::from(BitVec::of_nat(EIGHT, held.parse::<u128>()?)),
+        "bits" => bits(held)?,
         "text" => Term::from(text(alloc, held)?),
         "entity" => entity(alloc, held)?,
         "var" => variable(alloc, held)?,
@@ -69,11 +72,31 @@ fn term(alloc: Global, terms: &mut Vec<Term>, head: &str, held: &str) -> Result<
         "record" => record(alloc, terms, held)?,
         "get" => attribute(alloc, terms, held)?,
         "get_of_nothing" => attribute_of(alloc, held, &[], TermType::Bool)?,
+        "decimal" | "datetime" | "duration" | "ip" => extension(alloc, head, held)?,
+        "like" => applied(alloc, terms, Op::StringLike(pattern(alloc, held)?))?,
+        "zero_extend" => applied(alloc, terms, Op::ZeroExtend(held.parse()?))?,
+        "made" => made(alloc, terms, held)?,
         _ => {
             let op = operator(head).context("no word has this head")?;
             applied(alloc, terms, op)?
         }
     })
+}
+
+/// A bitvector by its width and its number.
+fn bits(spelling: &str) -> Result<Term> {
+    let (n, number) = spelling.split_once(':').context("a width and a number")?;
+    Ok(Term::from(BitVec::of_nat(width(n)?, number.parse::<u128>()?)))
+}
+
+/// A value of an extension type, by its reader and its text.
+fn extension(alloc: Global, reader: &str, text: &str) -> Result<Term> {
+    Ok(Term::from(match reader {
+        "decimal" => Ext::parse_decimal(alloc, text)?,
+        "datetime" => Ext::parse_datetime(alloc, text)?,
+        "duration" => Ext::parse_duration(alloc, text)?,
+        _ => Ext::parse_ip(alloc, text)?,
+    }))
 }
 
 /// An entity by its type and its id.
@@ -106,19 +129,24 @@ fn set(alloc: Global, terms: &mut Vec<Term>, spelling: &str) -> Result<Term> {
 
 /// An uninterpreted function at the last term, by its id, the type of its argument and that of its values.
 fn call(alloc: Global, terms: &mut Vec<Term>, spelling: &str) -> Result<Term> {
-    let (id, types) = spelling.split_once(':').context("an id and two types")?;
-    let (arg, out) = types.split_once(':').context("two types")?;
-    let function = Uuf {
-        id: text(alloc, id)?,
-        arg: type_of(alloc, arg)?,
-        out: type_of(alloc, out)?,
-    };
+    let function = function(alloc, spelling)?;
     let args = taken(terms, 1)?;
     let ret_ty = function.out.share()?;
     Ok(Term::App {
         op: Op::Uuf(Rc::new(alloc, function)?),
         args: TermList::new(alloc, args.as_slice())?,
         ret_ty,
+    })
+}
+
+/// A function by its id, the type of its argument and that of its values.
+pub(crate) fn function(alloc: Global, spelling: &str) -> Result<Uuf> {
+    let (id, types) = spelling.split_once(':').context("an id and two types")?;
+    let (arg, out) = types.split_once(':').context("two types")?;
+    Ok(Uuf {
+        id: text(alloc, id)?,
+        arg: type_of(alloc, arg)?,
+        out: type_of(alloc, out)?,
     })
 }
 
@@ -160,55 +188,7 @@ fn attribute_of(alloc: Global, spelling: &str, args: &[Term], ret_ty: TermType) 
 }
 
 /// So many last terms, which the stack then has no longer.
-fn taken(terms: &mut Vec<Term>, count: usize) -> Result<Vec<Term>> {
+pub(crate) fn taken(terms: &mut Vec<Term>, count: usize) -> Result<Vec<Term>> {
     let left = terms.len().checked_sub(count).context("too few terms")?;
     Ok(terms.split_off(left)?)
-}
-
-/// The operator of this name, by which jobs call it too.
-fn operator(name: &str) -> Option<Op> {
-    Some(match name {
-        "and" => Op::And,
-        "or" => Op::Or,
-        "not" => Op::Not,
-        "ite" => Op::Ite,
-        "eq" => Op::Eq,
-        "option.get" => Op::OptionGet,
-        "set.member" => Op::SetMember,
-        "set.subset" => Op::SetSubset,
-        "set.inter" => Op::SetInter,
-        _ => return None,
-    })
-}
-
-/// The operator at its arguments, which are the last terms.
-fn applied(alloc: Global, terms: &mut Vec<Term>, op: Op) -> Result<Term> {
-    let args = taken(terms, count_of_arguments(&op))?;
-    let ret_ty = type_of_result(alloc, &op, args.as_slice())?;
-    Ok(Term::App {
-        op,
-        args: TermList::new(alloc, args.as_slice())?,
-        ret_ty,
-    })
-}
-
-fn count_of_arguments(op: &Op) -> usize {
-    match op {
-        Op::Not | Op::OptionGet => 1,
-        Op::Ite => 3,
-        _ => 2,
-    }
-}
-
-/// The type of an operator's result by its arguments.
-fn type_of_result(alloc: Global, op: &Op, args: &[Term]) -> Result<TermType> {
-    match (op, args) {
-        (Op::OptionGet, [option, ..]) => match option.type_of(alloc)? {
-            TermType::Option { ty } => Ok(ty.share()?),
-            _ => bail!("the argument is no option"),
-        },
-        (Op::SetInter, [set, ..]) => Ok(set.type_of(alloc)?),
-        (Op::Ite, [_, chosen, ..]) => Ok(chosen.type_of(alloc)?),
-        _ => Ok(TermType::Bool),
-    }
 }

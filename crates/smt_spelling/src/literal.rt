@@ -9,7 +9,8 @@ use crate::spell::{bits_literal, string_literal};
 use smt_term::{TermPrim, Text};
 use std::alloc::Global;
 
-/// The text of a literal, which stands wherever it is used, or its refusal. None of an entity, which gets a name.
+/// The text of a literal, which stands wherever it is used, or its refusal. None of an entity and of
+/// an extension value, which get a name.
 pub fn literal_text(alloc: Global, literal: &TermPrim) -> Result<Option<Text>, TextError>
     ensures text { IfOk result (SaysInline (stated_text (plain_literal literal.now))) }
     ensures fault { Finds text_fault (string_fault (plain_literal literal.now)) result }
@@ -20,7 +21,7 @@ pub fn literal_text(alloc: Global, literal: &TermPrim) -> Result<Option<Text>, T
             let text = if *truth { "true" } else { "false" };
             Ok(Some(Text::from_str(alloc, text)?))
         }
-        TermPrim::Entity(_) => Ok(None),
+        TermPrim::Entity(_) | TermPrim::Ext(_) => Ok(None),
         TermPrim::String(text) => Ok(Some(string_literal(alloc, text)?)),
     }
 }

@@ -22,6 +22,7 @@ ghost use Rattle.smt_term.specs.View.{plain_op};
 ghost use Rattle.smt_characters.specs.SharedTexts.{texts};
 
 use crate::error::TextError;
+use crate::extension::extension_head;
 use smt_bits::{BitVec, Width};
 use smt_term::{Op, Text};
 use smt_text::{push_spaced, quote_string};
@@ -138,6 +139,7 @@ pub fn head_text(alloc: Global, op: &Op) -> Result<Text, AllocError>
 {
     match op {
         Op::Eq => Text::from_str(alloc, "="),
+        Op::Ext(op) => Text::from_str(alloc, extension_head(*op)),
         Op::OptionGet => Text::from_str(alloc, "val"),
         Op::StringLike(_) => Text::from_str(alloc, "str.in_re"),
         Op::ZeroExtend(bits) => zero_extension(alloc, *bits),

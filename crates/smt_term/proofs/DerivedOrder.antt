@@ -15,6 +15,8 @@ use denote.Hole.Carrier
 use denote.Hole.Carrier.{shown}
 use denote.Hole.Compared
 use mathlib.Core.Former
+use Rattle.smt_term.proofs.ExtensionValues.{ext_cmp-is}
+use Rattle.smt_leaves.proofs.ExtensionOrder.{extension_op_cmp-is, kind_cmp-is}
 use Rattle.smt_leaves.proofs.PatternOrder.{pattern_cmp-is}
 use Rattle.smt_term.specs.Program.{FunctionsCompareAsPlain, ListsCompareAsPlain, SetsCompareAsPlain, VariablesCompareAsPlain}
 use Rattle.smt_meaning.specs.TermOrder.{fields_cmp, op_cmp, literal_cmp, term_cmp, terms_cmp}
@@ -27,13 +29,13 @@ use Rattle.smt_term.specs.declared.maps.TermMap.{TermMap}
 use Rattle.smt_term.specs.declared.maps.TypeMap.{TypeMap}
 use Rattle.smt_term.specs.declared.types.TermType.TheBlock as type_block
 use Rattle.smt_term.specs.View.{attributes_of, plain_type, plain_types, plain_op, plain_literal, plain_named, plain_term, plain_row}
-use Rattle.smt_term.specs.declared.types.TermType.{TermType, Option', Bitvec, Bool, Entity, String, Record' as RecordOf', Set' as SetOf', Row_of-TermType, end_of-TermType, more_of-TermType, items-the_row-TermType, items_shown-the_row-TermType-0, view-the_row-TermType}
+use Rattle.smt_term.specs.declared.types.TermType.{TermType, Option', Bitvec, Bool, Entity, Ext, String, Record' as RecordOf', Set' as SetOf', Row_of-TermType, end_of-TermType, more_of-TermType, items-the_row-TermType, items_shown-the_row-TermType-0, view-the_row-TermType}
 use Rattle.smt_term.specs.declared.types.TermType.TheViews as type_views
 use Rattle.smt_term.specs.contracts.types.TermTypeOrd.TheImpl.Laws as type_laws
 use Rattle.smt_term.specs.declared.op.Op.{Op}
-use Rattle.smt_term.specs.declared.op.Op.TheVariants.{And, StringLike, Uuf}
+use Rattle.smt_term.specs.declared.op.Op.TheVariants.{And, Ext as ExtensionOf, StringLike, Uuf}
 use Rattle.smt_term.specs.declared.term.TermPrim.{TermPrim}
-use Rattle.smt_term.specs.declared.term.TermPrim.TheVariants.{Bitvec as BitsLiteral, Bool as TruthLiteral, Entity as EntityOf, String as TextLiteral}
+use Rattle.smt_term.specs.declared.term.TermPrim.TheVariants.{Bitvec as BitsLiteral, Bool as TruthLiteral, Entity as EntityOf, Ext as ValueOf, String as TextLiteral}
 use Rattle.smt_term.specs.declared.term.Term.{Term, App', None, Prim, Record', Set', Some', Var, Row_of-Term, end_of-Term, more_of-Term}
 use Rattle.smt_term.specs.declared.term.Term.TheViews as views
 use Rattle.smt_term.specs.declared.term.Term.TheBlock as block
@@ -116,6 +118,7 @@ mutual
   type_cmp-is (Bitvec n) (Bitvec m) = type_laws.is (Bitvec n) (Bitvec m)
   type_cmp-is Bool Bool = type_laws.is Bool Bool
   type_cmp-is (Entity e) (Entity f) = type_laws.is (Entity e) (Entity f)
+  type_cmp-is (Ext k) (Ext l) = type_laws.is (Ext k) (Ext l) ∙ kind_cmp-is k l
   type_cmp-is String String = type_laws.is String String
   type_cmp-is (RecordOf' sh row) (RecordOf' sh' row') = cmp-Record sh row sh' row' ∙ (map_made-is sh row sh' row' ∙ types_cmp-is (attributes_of sh) (attributes_of sh') row row')
   type_cmp-is (SetOf' p t) (SetOf' q u) = type_laws.is (SetOf' p t) (SetOf' q u) ∙ type_cmp-is t u
@@ -140,6 +143,7 @@ function_cmp-is f g =
     ∙ ap (λ o. ordering_then (text_cmp (rc_str_bytes f.id) (rc_str_bytes g.id)) (ordering_then (type_cmp (plain_type f.arg) (plain_type g.arg)) o)) (type_cmp-is f.out g.out)
 
 pub op_cmp-is : (a b : Op) → op_ord.ghosts.cmp a b ≡ op_cmp (plain_op a) (plain_op b)
+op_cmp-is (ExtensionOf o) (ExtensionOf p) = extension_op_cmp-is o p
 op_cmp-is (StringLike p) (StringLike q) = pattern_cmp-is p q
 op_cmp-is (Uuf f) (Uuf g) = function_cmp-is f.value g.value
 op_cmp-is a And = refl
@@ -149,6 +153,7 @@ pub literal_cmp-is : (a b : TermPrim) → literal_ord.ghosts.cmp a b ≡ literal
 literal_cmp-is (BitsLiteral x) (BitsLiteral y) = refl
 literal_cmp-is (TruthLiteral x) (TruthLiteral y) = refl
 literal_cmp-is (EntityOf x) (EntityOf y) = refl
+literal_cmp-is (ValueOf x) (ValueOf y) = ext_cmp-is x y
 literal_cmp-is (TextLiteral x) (TextLiteral y) = refl
 literal_cmp-is a b = refl
 

@@ -13,8 +13,9 @@ use Rattle.smt_meaning.specs.ValueOrder.{ascends, is_below, text_cmp}
 use Rattle.smt_term.specs.View.{attributes_of, plain_literal, plain_named, plain_row, plain_term, plain_type, plain_types}
 use Rattle.smt_term.specs.declared.term.Term.{Term, App', None, Prim, Record', Set', Some', Var, Row_of-Term, end_of-Term, more_of-Term}
 use Rattle.smt_term.specs.declared.term.TermPrim.{TermPrim}
-use Rattle.smt_term.specs.declared.term.TermPrim.TheVariants.{Bitvec as BitsLiteral, Bool as TruthLiteral, Entity as EntityOf, String as TextLiteral}
-use Rattle.smt_term.specs.declared.types.TermType.{TermType, Option', Bitvec, Bool, Entity, String, Record' as RecordOf', Set' as SetOf', Row_of-TermType, end_of-TermType, more_of-TermType}
+use Rattle.smt_term.specs.declared.term.TermPrim.TheVariants.{Bitvec as BitsLiteral, Bool as TruthLiteral, Entity as EntityOf, Ext as ValueOf, String as TextLiteral}
+use Rattle.smt_term.specs.declared.types.TermType.{TermType, Option', Bitvec, Bool, Entity, Ext, String, Record' as RecordOf', Set' as SetOf', Row_of-TermType, end_of-TermType, more_of-TermType}
+use Rattle.smt_term.proofs.ExtensionValues.{formed_value}
 use Rattle.smt_meaning.proofs.Defaults.{all-join}
 use Rattle.smt_meaning.proofs.Soundness.{all-last}
 
@@ -61,6 +62,7 @@ mutual
   formed_type (Bitvec n) = ((n.at_least_one, n.at_most_128), tt)
   formed_type Bool = (tt, tt)
   formed_type (Entity e) = (tt, tt)
+  formed_type (Ext k) = (tt, tt)
   formed_type String = (tt, tt)
   formed_type (RecordOf' shape row) = all-join IsFormedHere (types_within_attributes (plain_types (attributes_of shape) row)) _ (formed_types (attributes_of shape) row) (attributes_ascend (attributes_of shape) row shape.ascending, tt)
   formed_type (SetOf' p t) = formed_set (plain_type t) (formed_type t)
@@ -74,6 +76,7 @@ pub formed_literal : (l : TermPrim) → IsFormedLiteral (plain_literal l) × IsF
 formed_literal (BitsLiteral b) = (b.below_width, ((b.width.at_least_one, b.width.at_most_128), tt))
 formed_literal (TruthLiteral b) = (tt, (tt, tt))
 formed_literal (EntityOf e) = (IsUtf8-string_bytes e.id.0.text.value, (tt, tt))
+formed_literal (ValueOf x) = (formed_value x, (tt, tt))
 formed_literal (TextLiteral s) = (IsUtf8-string_bytes s.text.value, (tt, tt))
 
 -- the same of terms beside attributes

@@ -1,5 +1,6 @@
 pub mod DerivedEquality
 pub mod DerivedOrder
+pub mod ExtensionValues
 pub mod FormedTerms
 pub mod InsertedTerms
 pub mod LiteralElements

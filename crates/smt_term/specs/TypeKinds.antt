@@ -1,12 +1,13 @@
 -- The kinds of types.
 use Rattle.std.specs.Prelude.{ℕ, Bool, true, false, List, codes}
-use Rattle.smt_meaning.specs.Plain.{PlainType, BitVecType, BoolType, EntityType, OptionType, RecordType, StringType, no_attributes, attribute}
+use Rattle.smt_meaning.specs.Plain.{PlainType, BitVecType, BoolType, EntityType, ExtensionType, OptionType, RecordType, StringType, no_attributes, attribute}
 
--- the type of literals that are no extension value
+-- the type of literals
 abbrev pub is_primitive : PlainType → Bool
 is_primitive (BitVecType n) = true
 is_primitive BoolType = true
 is_primitive (EntityType e) = true
+is_primitive (ExtensionType k) = true
 is_primitive StringType = true
 is_primitive t = false
 

@@ -10,23 +10,26 @@ use Rattle.std.specs.declared.rc.Rc.{Rc}
 use Rattle.std.specs.declared.rc.RcStr.{RcStr}
 use Rattle.smt_bits.specs.declared.width.Width.{Width}
 use Rattle.smt_leaves.specs.Entities.{bytes_of_id, bytes_of_type}
+use Rattle.smt_ext.specs.ExtOrder.{plain_value}
+use Rattle.smt_leaves.specs.ExtensionView.{plain_extension_op, plain_kind}
 use Rattle.smt_leaves.specs.PatternView.{plain_ord_pattern}
 use Rattle.smt_leaves.specs.declared.entity.EntityType.{EntityType as EntityName}
+use Rattle.smt_leaves.specs.declared.extension.ExtType.{ExtType}
 use Rattle.smt_arithmetic.specs.BitOperators.{BvaddOp, BvlshrOp, BvmulOp, BvsdivOp, BvshlOp, BvsmodOp, BvsremOp, BvsubOp, BvudivOp, BvuremOp, BvsleOp, BvsltOp, BvuleOp, BvultOp, BvsaddoOp, BvsmuloOp, BvssuboOp}
-use Rattle.smt_meaning.specs.Plain.{PlainType, OptionType, BitVecType, BoolType, EntityType, StringType, RecordType, SetType, AttributeTypes, no_attributes, attribute, PlainFunction, PlainOp, AndOp, BvnegOp, BvnegoOp, EqOp, IteOp, NotOp, OptionGetOp, OrOp, RecordGetOp, SetInterOp, SetMemberOp, SetSubsetOp, StringLikeOp, UufOp, ZeroExtendOp, PlainLiteral, BitVecLiteral, BoolLiteral, EntityLiteral, StringLiteral, PlainTerm, Application, NoneTerm, LiteralTerm, RecordTerm, SetTerm, SomeTerm, VariableTerm, PlainFields, no_fields, one_field, PlainTerms, no_terms, one_term, terms, BitsOp, TestOp, OverflowOp}
+use Rattle.smt_meaning.specs.Plain.{PlainType, OptionType, BitVecType, BoolType, EntityType, ExtensionType, StringType, RecordType, SetType, AttributeTypes, no_attributes, attribute, PlainFunction, PlainOp, AndOp, BvnegOp, BvnegoOp, EqOp, ExtOp, IteOp, NotOp, OptionGetOp, OrOp, RecordGetOp, SetInterOp, SetMemberOp, SetSubsetOp, StringLikeOp, UufOp, ZeroExtendOp, PlainLiteral, BitVecLiteral, BoolLiteral, EntityLiteral, ExtensionLiteral, StringLiteral, PlainTerm, Application, NoneTerm, LiteralTerm, RecordTerm, SetTerm, SomeTerm, VariableTerm, PlainFields, no_fields, one_field, PlainTerms, no_terms, one_term, terms, BitsOp, TestOp, OverflowOp}
 use Rattle.smt_leaves.specs.Pairs.{attributes_in, pairs_of}
 use Rattle.smt_leaves.specs.formers.pairs.AttributePairs.{attributes-over}
 use Rattle.smt_leaves.specs.declared.pairs.AttributePairs.{AttributePairs}
 use Rattle.smt_term.specs.declared.maps.TermMap.{TermMap}
 use Rattle.smt_term.specs.declared.maps.TypeMap.{TypeMap}
 use Rattle.smt_term.specs.declared.types.TermType.TheBlock.{hidden-the_row-TermType-0, shape-the_row-TermType-0}
-use Rattle.smt_term.specs.declared.types.TermType.{TermType, Row_of-TermType, end_of-TermType, more_of-TermType, items-the_row-TermType, items_hidden-the_row-TermType-0, Option as OptionOf, Option', Bitvec, Bool, Entity, String, Record as RecordOf, Record' as RecordOf', Set as SetOf, Set' as SetOf'}
+use Rattle.smt_term.specs.declared.types.TermType.{TermType, Row_of-TermType, end_of-TermType, more_of-TermType, items-the_row-TermType, items_hidden-the_row-TermType-0, Option as OptionOf, Option', Bitvec, Bool, Entity, Ext, String, Record as RecordOf, Record' as RecordOf', Set as SetOf, Set' as SetOf'}
 use Rattle.smt_term.specs.declared.function.Uuf.{Uuf as Function}
 use Rattle.smt_term.specs.declared.op.Op.{Op}
-use Rattle.smt_term.specs.declared.op.Op.TheVariants.{And, Bvadd, Bvlshr, Bvmul, Bvneg, Bvnego, Bvsaddo, Bvsdiv, Bvshl, Bvsle, Bvslt, Bvsmod, Bvsmulo, Bvsrem, Bvssubo, Bvsub, Bvudiv, Bvule, Bvult, Bvurem, Eq, Ite, Not, OptionGet, Or, RecordGet, SetInter, SetMember, SetSubset, StringLike, Uuf, ZeroExtend}
+use Rattle.smt_term.specs.declared.op.Op.TheVariants.{And, Bvadd, Bvlshr, Bvmul, Bvneg, Bvnego, Bvsaddo, Bvsdiv, Bvshl, Bvsle, Bvslt, Bvsmod, Bvsmulo, Bvsrem, Bvssubo, Bvsub, Bvudiv, Bvule, Bvult, Bvurem, Eq, Ext as ExtensionOf, Ite, Not, OptionGet, Or, RecordGet, SetInter, SetMember, SetSubset, StringLike, Uuf, ZeroExtend}
 use Rattle.smt_term.specs.declared.term.TermVar.{TermVar}
 use Rattle.smt_term.specs.declared.term.TermPrim.{TermPrim}
-use Rattle.smt_term.specs.declared.term.TermPrim.TheVariants.{Bitvec as BitsLiteral, Bool as TruthLiteral, Entity as EntityOf, String as TextLiteral}
+use Rattle.smt_term.specs.declared.term.TermPrim.TheVariants.{Bitvec as BitsLiteral, Bool as TruthLiteral, Entity as EntityOf, Ext as ValueOf, String as TextLiteral}
 use Rattle.smt_term.specs.declared.term.Term.{Term, App, App', None, Prim, Record, Record', Set, Set', Some, Some', Var, Row_of-Term, end_of-Term, more_of-Term, items-the_row-Term, items_hidden-the_row-Term-0, items_hidden-the_row-Term-1}
 use Rattle.smt_term.specs.declared.term.TermList.{TermList}
 use Rattle.smt_term.specs.declared.term.TermSet.{TermSet}
@@ -42,6 +45,7 @@ unfoldable mutual
   plain_type (Bitvec n) = BitVecType (bits_in n)
   plain_type Bool = BoolType
   plain_type (Entity e) = EntityType (bytes_of_type e)
+  plain_type (Ext k) = ExtensionType (plain_kind k)
   plain_type String = StringType
   plain_type (RecordOf' shape row) = RecordType (plain_types (attributes_of shape) row)
   plain_type (SetOf' p t) = SetType (plain_type t)
@@ -94,6 +98,7 @@ plain_op Bvule = TestOp BvuleOp
 plain_op Bvult = TestOp BvultOp
 plain_op Bvurem = BitsOp BvuremOp
 plain_op Eq = EqOp
+plain_op (ExtensionOf o) = ExtOp (plain_extension_op o)
 plain_op Ite = IteOp
 plain_op Not = NotOp
 plain_op OptionGet = OptionGetOp
@@ -110,6 +115,7 @@ abbrev pub plain_literal : TermPrim → PlainLiteral
 plain_literal (BitsLiteral b) = BitVecLiteral (width_of b) (number_of b)
 plain_literal (TruthLiteral b) = BoolLiteral b
 plain_literal (EntityOf e) = EntityLiteral (bytes_of_type e.ety) (bytes_of_id e.id)
+plain_literal (ValueOf x) = ExtensionLiteral (plain_value x)
 plain_literal (TextLiteral s) = StringLiteral (rc_str_bytes s)
 
 -- a variable as a term
@@ -184,6 +190,10 @@ plain_type-Bool = refl
 pub plain_type-Entity : (e : EntityName) → plain_type (Entity e) ≡ EntityType (bytes_of_type e)
 unfolding plain_type
 plain_type-Entity e = refl
+
+pub plain_type-Ext : (k : ExtType) → plain_type (Ext k) ≡ ExtensionType (plain_kind k)
+unfolding plain_type
+plain_type-Ext k = refl
 
 pub plain_type-String : plain_type String ≡ StringType
 unfolding plain_type
@@ -260,4 +270,4 @@ pub plain_term-Var : (v : TermVar) → plain_term (Var v) ≡ plain_variable v
 unfolding plain_term
 plain_term-Var v = refl
 
-pub ruleset views = (plain_type-Option, plain_type-Bitvec, plain_type-Bool, plain_type-Entity, plain_type-String, plain_type-Record, plain_type-Set, plain_term-App, plain_term-None, plain_term-Prim, plain_term-Record, plain_term-Set, plain_term-Some, plain_term-Var)
+pub ruleset views = (plain_type-Option, plain_type-Bitvec, plain_type-Bool, plain_type-Entity, plain_type-Ext, plain_type-String, plain_type-Record, plain_type-Set, plain_term-App, plain_term-None, plain_term-Prim, plain_term-Record, plain_term-Set, plain_term-Some, plain_term-Var)

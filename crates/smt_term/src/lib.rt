@@ -19,9 +19,10 @@ mod typing;
 pub use function::{Udf, UnaryFunction, Uuf};
 pub use maps::{TermMap, TypeMap};
 pub use op::Op;
+pub use smt_ext::Ext;
 pub use smt_leaves::{
-    Attr, EntityID, EntityType, EntityUID, EnumTable, OrdPattern, Pattern, PatternElem, TermError,
-    Text, TextSet,
+    Attr, EntityID, EntityType, EntityUID, EnumTable, ExtOp, ExtType, OrdPattern, Pattern,
+    PatternElem, TermError, Text, TextSet,
 };
 pub use table::TermTable;
 pub use term::{Term, TermList, TermPrim, TermSet, TermVar};

@@ -5,12 +5,12 @@ ghost use Rattle.smt_term.specs.OpClass.{class_of};
 ghost use Rattle.smt_term.specs.View.{plain_op};
 
 use crate::function::Uuf;
-use smt_leaves::{Attr, OrdPattern, TermError};
+use smt_leaves::{Attr, ExtOp, OrdPattern, TermError};
 use smt_text::share_text;
 use std::rc::Rc;
 
-/// An operator: of the theories Core, FixedSizeBitVectors and UnicodeStrings, of the logic QF_BV, of options, of records
-/// or of finite sets, or an uninterpreted function.
+/// An operator: of the theories Core, FixedSizeBitVectors and UnicodeStrings, of the logic QF_BV, of the extension types, of
+/// options, of records or of finite sets, or an uninterpreted function.
 #[derive(Debug, PartialEq, Eq, PartialOrd, Ord, Drop)]
 pub enum Op {
     /// Conjunction of two Booleans.
@@ -55,6 +55,8 @@ pub enum Op {
     Bvurem,
     /// Equality of two terms of one type.
     Eq,
+    /// An operator on values of the extension types.
+    Ext(ExtOp),
     /// A choice: of three arguments the second where the first is true, and else the third.
     Ite,
     /// Negation, from Bool to Bool.
@@ -117,6 +119,7 @@ impl Op {
             | Op::Bvneg
             | Op::Bvnego
             | Op::Eq
+            | Op::Ext(_)
             | Op::Ite
             | Op::Not
             | Op::OptionGet
@@ -131,7 +134,7 @@ impl Op {
         }
     }
 
-    /// The name of the operator, by which jobs and messages call it.
+    /// The name of the operator, by which jobs and messages call it; those of the extension types have one name for all.
     pub fn mk_name(&self) -> &'static str
         ensures { result.now ≡ op_name (plain_op self.now) }
     {
@@ -157,6 +160,7 @@ impl Op {
             Op::Bvult => "bvult",
             Op::Bvurem => "bvurem",
             Op::Eq => "eq",
+            Op::Ext(_) => "ext",
             Op::Ite => "ite",
             Op::Not => "not",
             Op::OptionGet => "option.get",
@@ -200,6 +204,7 @@ impl Op {
             Op::Bvult => Op::Bvult,
             Op::Bvurem => Op::Bvurem,
             Op::Eq => Op::Eq,
+            Op::Ext(op) => Op::Ext(*op),
             Op::Ite => Op::Ite,
             Op::Not => Op::Not,
             Op::OptionGet => Op::OptionGet,

@@ -7,6 +7,7 @@ use crate::maps::TermMap;
 use crate::op::Op;
 use crate::types::TermType;
 use smt_bits::{BitVec, SIXTY_FOUR};
+use smt_ext::Ext;
 use smt_leaves::{EntityUID, TermError};
 use smt_text::{Text, share_text};
 use std::alloc::Global;
@@ -31,6 +32,8 @@ pub enum TermPrim {
     Bool(bool),
     /// An entity.
     Entity(EntityUID),
+    /// A value of an extension type.
+    Ext(Ext),
     /// A text.
     String(Text),
 }
@@ -193,6 +196,7 @@ impl TermPrim {
             TermPrim::Bitvec(bits) => Ok(TermPrim::Bitvec(*bits)),
             TermPrim::Bool(truth) => Ok(TermPrim::Bool(*truth)),
             TermPrim::Entity(entity) => Ok(TermPrim::Entity(entity.share()?)),
+            TermPrim::Ext(value) => Ok(TermPrim::Ext(*value)),
             TermPrim::String(text) => Ok(TermPrim::String(share_text(text)?)),
         }
     }
@@ -288,6 +292,19 @@ impl From<EntityUID> for Term {
 
     fn from(entity: EntityUID) -> Term {
         Term::Prim(TermPrim::Entity(entity))
+    }
+}
+
+impl From<Ext> for Term {
+    ghost use Rattle.std.specs.Prelude.{◌≡◌};
+    ghost use Rattle.smt_ext.specs.ExtOrder.{plain_value};
+    ghost use Rattle.smt_meaning.specs.Plain.{ExtensionLiteral, LiteralTerm};
+    ghost use Rattle.smt_term.specs.View.{plain_term};
+
+    ghost from_gives = { λ value term. plain_term term ≡ LiteralTerm (ExtensionLiteral (plain_value value)) };
+
+    fn from(value: Ext) -> Term {
+        Term::Prim(TermPrim::Ext(value))
     }
 }
 

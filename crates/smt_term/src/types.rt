@@ -8,13 +8,13 @@ ghost use Rattle.smt_term.specs.View.{plain_type};
 
 use crate::maps::TypeMap;
 use smt_bits::Width;
-use smt_leaves::{EntityType, TermError};
+use smt_leaves::{EntityType, ExtType, TermError};
 use smt_text::Text;
 use std::alloc::Global;
 use std::rc::Rc;
 
-/// The type of a term: a sort of the theories Core, FixedSizeBitVectors and UnicodeStrings, an entity type, an option, a
-/// record, or a finite set. Types order by the variants and fields as declared.
+/// The type of a term: a sort of the theories Core, FixedSizeBitVectors and UnicodeStrings, an entity type, an extension
+/// type, an option, a record, or a finite set. Types order by the variants and fields as declared.
 #[derive(Debug, PartialEq, Eq, PartialOrd, Ord, Drop)]
 #[cycle(types)]
 pub enum TermType {
@@ -26,6 +26,8 @@ pub enum TermType {
     Bool,
     /// Entities of a type.
     Entity { ety: EntityType },
+    /// Values of an extension type.
+    Ext { xty: ExtType },
     /// Texts: lists of the characters from 0 to 196607.
     String,
     /// Records that have for each attribute a value of its type.
@@ -73,13 +75,16 @@ impl TermType {
         Ok(TermType::Record { rty })
     }
 
-    /// Whether it is the type of truth values, bitvectors, texts or entities.
+    /// Whether it is the type of truth values, bitvectors, texts, entities, or values of an extension type.
     pub fn is_prim_type(&self) -> bool
         ensures { result ≡ is_primitive (plain_type self.now) }
     {
         match self {
-            TermType::Bitvec { .. } | TermType::Bool | TermType::Entity { .. } | TermType::String =>
-                true,
+            TermType::Bitvec { .. }
+            | TermType::Bool
+            | TermType::Entity { .. }
+            | TermType::Ext { .. }
+            | TermType::String => true,
             TermType::Option { .. } | TermType::Record { .. } | TermType::Set { .. } => false,
         }
     }
@@ -93,6 +98,7 @@ impl TermType {
             TermType::Option { .. }
             | TermType::Bitvec { .. }
             | TermType::Bool
+            | TermType::Ext { .. }
             | TermType::String
             | TermType::Record { .. }
             | TermType::Set { .. } => false,
@@ -109,6 +115,7 @@ impl TermType {
             | TermType::Bitvec { .. }
             | TermType::Bool
             | TermType::Entity { .. }
+            | TermType::Ext { .. }
             | TermType::String
             | TermType::Set { .. } => false,
         }
@@ -123,6 +130,7 @@ impl TermType {
             TermType::Bitvec { .. }
             | TermType::Bool
             | TermType::Entity { .. }
+            | TermType::Ext { .. }
             | TermType::String
             | TermType::Record { .. }
             | TermType::Set { .. } => false,
@@ -138,6 +146,7 @@ impl TermType {
             TermType::Bitvec { .. }
             | TermType::Bool
             | TermType::Entity { .. }
+            | TermType::Ext { .. }
             | TermType::String
             | TermType::Record { .. }
             | TermType::Set { .. } => false,
@@ -156,6 +165,7 @@ impl TermType {
             TermType::Bitvec { n } => Ok(TermType::Bitvec { n: *n }),
             TermType::Bool => Ok(TermType::Bool),
             TermType::Entity { ety } => Ok(TermType::Entity { ety: ety.share()? }),
+            TermType::Ext { xty } => Ok(TermType::Ext { xty: *xty }),
             TermType::String => Ok(TermType::String),
             TermType::Record { rty } => Ok(TermType::Record { rty: rty.share()? }),
             TermType::Set { ty } => Ok(TermType::Set { ty: ty.clone()? }),

@@ -6,18 +6,19 @@ ghost use Rattle.smt_bits.specs.Width.{bits_in};
 ghost use Rattle.smt_meaning.specs.Literals.{is_literal};
 ghost use Rattle.smt_meaning.specs.Plain.{EntityType as EntityTypeOf, OptionType, RecordType, SetType};
 ghost use Rattle.smt_meaning.specs.TermOrder.{term_cmp};
-ghost use Rattle.smt_meaning.specs.Types.{attribute_type, extended_type, field_types, inner_type, is_set, is_type, literal_type, result_type, type_eq, type_of, width_in};
+ghost use Rattle.smt_meaning.specs.Types.{attribute_type, extended_type, extension_signature, field_types, inner_type, is_set, is_type, literal_type, result_type, type_eq, type_of, width_in};
 ghost use Rattle.smt_meaning.specs.Typing.{Typed, typed};
 ghost use Rattle.smt_meaning.specs.ValueOrder.{ascends, is_below};
 ghost use Rattle.smt_leaves.specs.Entities.{bytes_of_type};
+ghost use Rattle.smt_leaves.specs.ExtensionView.{plain_extension_op};
 ghost use Rattle.smt_term.specs.View.{attribute_types, plain_attributes, plain_fields, plain_literal, plain_op, plain_term, plain_type, record_fields};
 
 use crate::maps::{TermMap, TypeMap};
 use crate::op::{Op, OpClass};
 use crate::term::{Term, TermPrim};
 use crate::types::TermType;
-use smt_bits::Width;
-use smt_leaves::{Attr, EntityType, TermError};
+use smt_bits::{FIVE, HUNDRED_TWENTY_EIGHT, SEVEN, SIXTY_FOUR, THIRTY_TWO, Width};
+use smt_leaves::{Attr, EntityType, ExtOp, ExtType, TermError};
 use smt_text::share_text;
 use std::alloc::Global;
 
@@ -40,6 +41,7 @@ impl TermType {
             TermType::Option { .. }
             | TermType::Bitvec { .. }
             | TermType::Bool
+            | TermType::Ext { .. }
             | TermType::String
             | TermType::Record { .. }
             | TermType::Set { .. } => false,
@@ -55,6 +57,7 @@ impl TermType {
             TermType::Option { .. }
             | TermType::Bool
             | TermType::Entity { .. }
+            | TermType::Ext { .. }
             | TermType::String
             | TermType::Record { .. }
             | TermType::Set { .. } => { None }
@@ -71,6 +74,7 @@ impl TermType {
             | TermType::Bitvec { .. }
             | TermType::Bool
             | TermType::Entity { .. }
+            | TermType::Ext { .. }
             | TermType::String
             | TermType::Record { .. } => false,
         }
@@ -85,6 +89,7 @@ impl TermType {
             TermType::Bitvec { .. }
             | TermType::Bool
             | TermType::Entity { .. }
+            | TermType::Ext { .. }
             | TermType::String
             | TermType::Record { .. }
             | TermType::Set { .. } => { false }
@@ -101,6 +106,7 @@ impl TermType {
             | TermType::Bitvec { .. }
             | TermType::Bool
             | TermType::Entity { .. }
+            | TermType::Ext { .. }
             | TermType::String
             | TermType::Set { .. } => false,
         }
@@ -119,6 +125,7 @@ impl TermType {
             | TermType::Bitvec { .. }
             | TermType::Bool
             | TermType::Entity { .. }
+            | TermType::Ext { .. }
             | TermType::String
             | TermType::Set { .. } => false,
         }
@@ -134,6 +141,7 @@ impl TermType {
             TermType::Bitvec { .. }
             | TermType::Bool
             | TermType::Entity { .. }
+            | TermType::Ext { .. }
             | TermType::String
             | TermType::Record { .. }
             | TermType::Set { .. } => { false }
@@ -151,6 +159,7 @@ impl TermType {
             | TermType::Bitvec { .. }
             | TermType::Bool
             | TermType::Entity { .. }
+            | TermType::Ext { .. }
             | TermType::String
             | TermType::Record { .. } => false,
         }
@@ -171,6 +180,9 @@ impl TermPrim {
             TermPrim::Entity(entity) => Ok(TermType::Entity {
                 ety: entity.ety.share()?,
             }),
+            TermPrim::Ext(value) => Ok(TermType::Ext {
+                xty: ExtType::of(value),
+            }),
             TermPrim::String(_) => Ok(TermType::String),
         }
     }
@@ -181,7 +193,8 @@ impl TermPrim {
     {
         match self {
             TermPrim::Bitvec(bits) => Some(bits.width()),
-            TermPrim::Bool(_) | TermPrim::Entity(_) | TermPrim::String(_) => None,
+            TermPrim::Bool(_) | TermPrim::Entity(_) | TermPrim::Ext(_) | TermPrim::String(_) =>
+                None,
         }
     }
 
@@ -194,6 +207,10 @@ impl TermPrim {
             TermPrim::Bitvec(bits) => TermType::Bitvec { n: bits.width() }.is_same_as(ty),
             TermPrim::Bool(_) => TermType::Bool.is_same_as(ty),
             TermPrim::Entity(entity) => ty.is_of_entities(&entity.ety),
+            TermPrim::Ext(value) => {
+                let xty = ExtType::of(value);
+                TermType::Ext { xty }.is_same_as(ty)
+            }
             TermPrim::String(_) => TermType::String.is_same_as(ty),
         }
     }
@@ -204,7 +221,8 @@ impl TermPrim {
     {
         match self {
             TermPrim::Entity(entity) => *ety == entity.ety,
-            TermPrim::Bitvec(_) | TermPrim::Bool(_) | TermPrim::String(_) => false,
+            TermPrim::Bitvec(_) | TermPrim::Bool(_) | TermPrim::Ext(_) | TermPrim::String(_) =>
+                false,
         }
     }
 }
@@ -363,6 +381,7 @@ impl Term {
                 | TermType::Bitvec { .. }
                 | TermType::Bool
                 | TermType::Entity { .. }
+                | TermType::Ext { .. }
                 | TermType::String
                 | TermType::Set { .. } => false,
             },
@@ -372,6 +391,7 @@ impl Term {
                 TermType::Bitvec { .. }
                 | TermType::Bool
                 | TermType::Entity { .. }
+                | TermType::Ext { .. }
                 | TermType::String
                 | TermType::Record { .. }
                 | TermType::Set { .. } => false,
@@ -389,6 +409,7 @@ impl Term {
             TermType::Bitvec { .. }
             | TermType::Bool
             | TermType::Entity { .. }
+            | TermType::Ext { .. }
             | TermType::String
             | TermType::Record { .. }
             | TermType::Set { .. } => { false }
@@ -456,6 +477,7 @@ impl Term {
             | TermType::Bitvec { .. }
             | TermType::Bool
             | TermType::Entity { .. }
+            | TermType::Ext { .. }
             | TermType::String
             | TermType::Record { .. } => false,
         }
@@ -543,6 +565,10 @@ impl Term {
             TermPrim::Bitvec(bits) => self.is_of_type(&TermType::Bitvec { n: bits.width() }),
             TermPrim::Bool(_) => self.is_of_type(&TermType::Bool),
             TermPrim::Entity(entity) => self.is_entity_of(&entity.ety),
+            TermPrim::Ext(value) => {
+                let xty = ExtType::of(value);
+                self.is_of_type(&TermType::Ext { xty })
+            }
             TermPrim::String(_) => self.is_of_type(&TermType::String),
         }
     }
@@ -609,6 +635,58 @@ impl TermMap {
     }
 }
 
+// The type that an operator of the extension types takes.
+fn taken_by(op: ExtOp) -> TermType
+    ensures { plain_type result ≡ (extension_signature (plain_extension_op op)).0 }
+{
+    match op {
+        ExtOp::DatetimeOfBitVec | ExtOp::DurationOfBitVec => TermType::Bitvec { n: SIXTY_FOUR },
+        ExtOp::DatetimeVal => TermType::Ext {
+            xty: ExtType::DateTime,
+        },
+        ExtOp::DecimalVal => TermType::Ext {
+            xty: ExtType::Decimal,
+        },
+        ExtOp::DurationVal => TermType::Ext {
+            xty: ExtType::Duration,
+        },
+        ExtOp::IpaddrAddrV4
+        | ExtOp::IpaddrAddrV6
+        | ExtOp::IpaddrIsV4
+        | ExtOp::IpaddrPrefixV4
+        | ExtOp::IpaddrPrefixV6 => TermType::Ext {
+            xty: ExtType::IpAddr,
+        },
+    }
+}
+
+// Whether an operator of the extension types gives this type.
+fn is_given_by(op: ExtOp, ty: &TermType) -> bool
+    ensures { result ≡ type_eq (extension_signature (plain_extension_op op)).1 (plain_type ty.now) }
+{
+    match op {
+        ExtOp::DatetimeOfBitVec => TermType::Ext {
+            xty: ExtType::DateTime,
+        }
+        .is_same_as(ty),
+        ExtOp::DurationOfBitVec => TermType::Ext {
+            xty: ExtType::Duration,
+        }
+        .is_same_as(ty),
+        ExtOp::DatetimeVal | ExtOp::DecimalVal | ExtOp::DurationVal => {
+            TermType::Bitvec { n: SIXTY_FOUR }.is_same_as(ty)
+        }
+        ExtOp::IpaddrAddrV4 => TermType::Bitvec { n: THIRTY_TWO }.is_same_as(ty),
+        ExtOp::IpaddrAddrV6 => TermType::Bitvec {
+            n: HUNDRED_TWENTY_EIGHT,
+        }
+        .is_same_as(ty),
+        ExtOp::IpaddrIsV4 => TermType::Bool.is_same_as(ty),
+        ExtOp::IpaddrPrefixV4 => TermType::Bitvec { n: FIVE }.is_inside(ty),
+        ExtOp::IpaddrPrefixV6 => TermType::Bitvec { n: SEVEN }.is_inside(ty),
+    }
+}
+
 // Whether both are one attribute.
 fn is_same_attribute(name: &Attr, other: &Attr) -> bool
     ensures { result ≡ bytes_eq (rc_str_bytes name.now) (rc_str_bytes other.now) }
@@ -669,6 +747,7 @@ impl Op {
         ensures { result ≡ is_some (result_type (plain_op self.now) (type_of (plain_term a.now) ∷ [])) }
     {
         match self {
+            Op::Ext(op) => a.is_of_type(&taken_by(*op)),
             Op::Not => a.is_of_type(&TermType::Bool),
             Op::OptionGet => a.is_option(),
             Op::RecordGet(name) => a.has_attribute(name),
@@ -723,6 +802,7 @@ impl Op {
     {
         match self {
             Op::Bvneg => a.is_of_type(ty),
+            Op::Ext(op) => is_given_by(*op, ty),
             Op::OptionGet => a.is_option_of(ty),
             Op::RecordGet(name) => a.has_attribute_of(name, ty),
             Op::Uuf(function) => function.out.is_same_as(ty),

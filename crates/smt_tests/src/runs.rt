@@ -10,7 +10,7 @@ use std::test::Fail;
 const NOT_B: &str = "(job (enums) (vars (\"b\" Bool)) (funs) (terms (not (var \"b\"))))";
 
 /// Its script.
-const SCRIPT: &str = "\
+pub const SCRIPT: &str = "\
 (declare-datatype Option (par (X) (
   (none)
   (some (val X)))))

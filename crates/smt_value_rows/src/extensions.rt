@@ -100,8 +100,14 @@ fn moved(alloc: Global, call: &str, operands: &str) -> Result<String> {
 /// What a call answers at a text, or at numbers.
 pub(crate) fn answer(alloc: Global, call: &str, operands: &str) -> Result<String> {
     match call {
-        "decimal" => shown(alloc, Decimal::parse(alloc, operands).map(|d| d.0)),
-        "decimal_text" => Ok(Decimal(operands.parse()?).to_string(alloc)?),
+        "decimal" => shown(
+            alloc,
+            Decimal::parse(alloc, operands).map(|d| d.ten_thousandths),
+        ),
+        "decimal_text" => {
+            let ten_thousandths = operands.parse()?;
+            Ok(Decimal { ten_thousandths }.to_string(alloc)?)
+        }
         "datetime" => shown(alloc, Datetime::parse(alloc, operands).map(i64::from)),
         "duration" => shown(alloc, Duration::parse(alloc, operands).map(i64::from)),
         "counts" => counts(alloc, operands),

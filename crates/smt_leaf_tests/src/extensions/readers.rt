@@ -15,7 +15,9 @@ fn decimal_is_refused(alloc: Global, text: &str) -> Result<bool, AllocError> {
 #[test]
 fn a_decimal_is_read_as_a_value(rt: HostRuntime) -> Result<(), Fail> {
     let want = Ext::Decimal {
-        d: Decimal(-120340),
+        d: Decimal {
+            ten_thousandths: -120340,
+        },
     };
     assert_eq!(rt; Ext::parse_decimal(rt.alloc(), "-12.034"), Ok(want));
     assert!(rt; decimal_is_refused(rt.alloc(), "12")?);

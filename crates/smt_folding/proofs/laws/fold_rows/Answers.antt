@@ -38,5 +38,6 @@ returns c = record {
   sets = record { applied_values = λ I. refl; applied_empty = λ I. refl; applied_inter = λ I. refl; each_once = refl; set_of_bytes = set_of_elements (BitVecType 8) (byte 2 ∷ byte 1 ∷ byte 2 ∷ []) _ refl (a_byte 2, (a_byte 1, (a_byte 2, tt))); value_of_bytes = λ I. refl; set_lacks_one = lacks_one; member = refl; member_stays = refl; member_of_unknown = refl; subset = refl; subset_stays = refl; inter = refl; inter_known = refl; inter_first = refl; inter_stays = refl; is_empty = refl; is_empty_stays = refl; intersect = refl; intersect_stays = refl };
   options = record { applied_values = λ I. refl; applied_guards = λ I. refl; held = refl; is_none_known = refl; is_none_stays = refl; is_none_of_choices = refl; other_choices = refl; choice_of_no_option = refl; is_some_known = refl; guarded = refl; guarded_stays = refl; if_some_known = refl; if_some_stays = refl; any_none_known = refl; if_all_some_known = refl };
   records = record { applied_values = λ I. refl; no_pairs = refl; in_order = refl; last_stays = refl; prefix_first = refl; tagged = refl; not_first = not_first; not_more = not_more; known = refl; tag_parts = refl; stays = refl; no_record = refl };
+  extensions = record { applied_values = λ I. refl; applied_times = λ I. refl; applied_other_family = λ I. refl; decimals = refl; from_durations = refl; from_datetimes = refl; to_durations = refl; to_datetimes = refl; is_v4 = refl; addresses_v4 = refl; addresses_v6 = refl; prefixes_v4 = refl; prefixes_v6 = refl; other_family_stays = refl; other_kind_stays = refl; other_width_stays = refl; variable_stays = refl };
   functions = record { values = λ I. refl; applied_values = λ I. refl; at_key = refl; at_no_key = refl; at_variable = refl; choices_folded = refl; uninterpreted = refl };
 }

@@ -6,9 +6,10 @@ use Rattle.smt_nodes.specs.Attributes.{attributes_of}
 use Rattle.smt_graph.specs.Parts.{label_in, parts_in}
 use Rattle.smt_leaves.specs.Entities.{bytes_of_type}
 use Rattle.smt_leaves.specs.Enums.{enums_of}
+use Rattle.smt_leaves.specs.ExtensionView.{plain_kind}
 use Rattle.smt_lines.specs.Lines.{Enums}
 use Rattle.smt_meaning.specs.Faults.{Fault}
-use Rattle.smt_meaning.specs.Plain.{EntityType, RecordType}
+use Rattle.smt_meaning.specs.Plain.{EntityType, ExtensionType, RecordType}
 use Rattle.smt_nodes.specs.View.{plain_label}
 use Rattle.smt_spelling.specs.Entries.{SaysEntry}
 use Rattle.smt_spelling.specs.Spelled.{AreSpelled, IsSpelled}
@@ -19,7 +20,7 @@ use Rattle.smt_encode.specs.NodeLines.{meaning_fault}
 use Rattle.smt_encode.specs.Refusals.{write_fault}
 use Rattle.smt_encode.specs.Renderings.{plain_rendering}
 use Rattle.smt_encode.specs.Steps.{WritesHere}
-use Rattle.smt_encode.proofs.Built.{built_meaning, call_parts, entered_has_entry, enters, entity_meant, function_meant, record_meant, undeclared}
+use Rattle.smt_encode.proofs.Built.{built_meaning, call_parts, entered_has_entry, enters, entity_meant, extension_meant, function_meant, record_meant, undeclared}
 use Rattle.smt_encode.proofs.Named.{names_alone}
 use Rattle.smt_encode.proofs.Faulting.{entry_last, handed_from, handed_on, selection_second}
 use Rattle.smt_encode.proofs.Finishing.{entry_written, taken_off}
@@ -43,6 +44,25 @@ returns-in-TEntity-clause-lines g c m es s meant shown has plain =
     let e = bytes_of_type c.in-TEntity.ety in
     let is : m ≡ TypeMeaning (EntityType e) = entity_meant m e (sym (c.requires.is_node.label m meant) ∙ ap plain_label c.in-TEntity.is) in
     subst (λ (k : Meaning). WritesHere g.S.Sink.contents c.args.self.now c.declare.new.self (own_lines (enums_under c.args.self.now.names) k es s) IsSpelled c.declare.result) (sym is) (c.declare.ensures.lines s has)
+
+-- ---- an extension type
+
+pub declare_extension-requires-clause-meant : goal.declare_extension-requires-clause-meant
+declare_extension-requires-clause-meant g c =
+    let (m, meant) = c.requires.meant in
+    meant ∙ ap Some (extension_meant m (plain_kind c.in-TExt.xty) (sym (c.requires.is_node.label m meant) ∙ ap plain_label c.in-TExt.is))
+
+pub returns-in-TExt-clause-fault : goal.returns-in-TExt-clause-fault
+returns-in-TExt-clause-fault g c m meant =
+    let k = plain_kind c.in-TExt.xty in
+    let is : m ≡ TypeMeaning (ExtensionType k) = extension_meant m k (sym (c.requires.is_node.label m meant) ∙ ap plain_label c.in-TExt.is) in
+    subst (λ (n : Meaning). Finds write_fault (meaning_fault (enums_under c.args.self.now.names) n) c.declare_extension.result) (sym is) c.declare_extension.ensures.fault
+
+pub returns-in-TExt-clause-lines : goal.returns-in-TExt-clause-lines
+returns-in-TExt-clause-lines g c m es s meant shown has plain =
+    let k = plain_kind c.in-TExt.xty in
+    let is : m ≡ TypeMeaning (ExtensionType k) = extension_meant m k (sym (c.requires.is_node.label m meant) ∙ ap plain_label c.in-TExt.is) in
+    subst (λ (n : Meaning). WritesHere g.S.Sink.contents c.args.self.now c.declare_extension.new.self (own_lines (enums_under c.args.self.now.names) n es s) IsSpelled c.declare_extension.result) (sym is) (c.declare_extension.ensures.lines s has)
 
 -- ---- a function
 
@@ -116,7 +136,7 @@ remove-sort-requires g c =
     let built = built_meaning (nodes_under c.args.self.now.names) c.args.id m meant in
     let label = c.requires.is_node.label m meant in
     let none : has_inline (label_in m) (length c.args.texts.items) ≡ false = ap (λ l. has_inline l (length c.args.texts.items)) (sym label) ∙ c.requires.plain in
-    let (t, is, entered, some) = enters m (length c.args.texts.items) built (ap is_declared (sym label) ∙ undeclared c.args.node.now.label c.in_default.not-TEntity c.in_default.not-TRecord c.in_default.not-Fun) (c.requires.count m meant) none in
+    let (t, is, entered, some) = enters m (length c.args.texts.items) built (ap is_declared (sym label) ∙ undeclared c.args.node.now.label c.in_default.not-TEntity c.in_default.not-TExt c.in_default.not-TRecord c.in_default.not-Fun) (c.requires.count m meant) none in
     omega (arith, some, c.args.texts.ok)
 
 pub returns-in_err-selector-in_default-clause-fault : goal.returns-in_err-selector-in_default-clause-fault
@@ -133,7 +153,7 @@ entry_from-requires-clause-entered g c =
     let built = built_meaning (nodes_under c.args.self.now.names) c.args.id m meant in
     let label = c.requires.is_node.label m meant in
     let none : has_inline (label_in m) (length c.args.texts.items) ≡ false = ap (λ l. has_inline l (length c.args.texts.items)) (sym label) ∙ c.requires.plain in
-    let (t, is, entered, some) = enters m (length c.args.texts.items) built (ap is_declared (sym label) ∙ undeclared c.args.node.now.label c.in_default.not-TEntity c.in_default.not-TRecord c.in_default.not-Fun) (c.requires.count m meant) none in
+    let (t, is, entered, some) = enters m (length c.args.texts.items) built (ap is_declared (sym label) ∙ undeclared c.args.node.now.label c.in_default.not-TEntity c.in_default.not-TExt c.in_default.not-TRecord c.in_default.not-Fun) (c.requires.count m meant) none in
     ap is_entered label ∙ entered
 
 pub entry_from-requires-clause-called : goal.entry_from-requires-clause-called
@@ -186,7 +206,7 @@ returns-in_ok-entry-in_default-clause-lines g c m es s meant shown has plain =
     let built = built_meaning (nodes_under c.args.self.now.names) c.args.id m meant in
     let label = c.requires.is_node.label m meant in
     let none : has_inline (label_in m) (length c.args.texts.items) ≡ false = ap (λ l. has_inline l (length c.args.texts.items)) (sym label) ∙ c.requires.plain in
-    let (t, is, entered, some) = enters m (length c.args.texts.items) built (ap is_declared (sym label) ∙ undeclared c.args.node.now.label c.in_default.not-TEntity c.in_default.not-TRecord c.in_default.not-Fun) (c.requires.count m meant) none in
+    let (t, is, entered, some) = enters m (length c.args.texts.items) built (ap is_declared (sym label) ∙ undeclared c.args.node.now.label c.in_default.not-TEntity c.in_default.not-TExt c.in_default.not-TRecord c.in_default.not-Fun) (c.requires.count m meant) none in
     let texts : c.args.texts.items ≡ c.remove-sort.result ∷ c.remove-sort.new.self.items = taken_off c.args.texts.items c.remove-sort.new.self.items c.remove-sort.result (omega (arith, some)) c.remove-sort.ensures.value c.remove-sort.ensures.items in
     let shown' : AreSpelled es (c.remove-sort.result ∷ c.remove-sort.new.self.items) = ap (λ l. map rc_str_bytes l) (sym texts) ∙ shown in
     entry_written g.S.Sink.contents c.args.self.now c.enter.new.self enums m t es s c.remove-sort.result c.remove-sort.new.self.items c.enter.result is shown' plain

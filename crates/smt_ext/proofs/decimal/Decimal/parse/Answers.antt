@@ -7,7 +7,7 @@ use Rattle.smt_ext.proofs.decimal.Decimal.parse.Goals as goal
 pub returns-in-Some-clause-accepts : goal.returns-in-Some-clause-accepts
 returns-in-Some-clause-accepts c = λ v d. (
     let P : List ℕ → Type 0 = λ text. IsDecimalText text v in
-    let e = one_value c.as_bytes.result.now c.in-Some.value v c.in-Some.ensures.found (subst P (sym c.as_bytes.ensures.value) d) in
+    let e = one_value c.as_bytes.result.now c.in-Some.ten_thousandths v c.in-Some.ensures.found (subst P (sym c.as_bytes.ensures.value) d) in
     rw e (to_z-of_z w64 v d.fits)
     )
 

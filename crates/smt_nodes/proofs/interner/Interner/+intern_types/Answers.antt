@@ -11,7 +11,7 @@ use Rattle.std.proofs.lemmas.Result.{IfOk-weaker}
 use Rattle.smt_meaning.specs.Plain.{EntityType, OptionType, RecordType, SetType}
 use Rattle.smt_graph.specs.Nodes.{RecordLabel, TypeMeaning}
 use Rattle.smt_leaves.specs.Entities.{bytes_of_type}
-use Rattle.smt_term.specs.View.{attribute_types, attributes_held, plain_attributes, plain_type, plain_type-Record, plain_type-Option, plain_type-Bitvec, plain_type-Bool, plain_type-Entity, plain_type-String, plain_type-Set}
+use Rattle.smt_term.specs.View.{attribute_types, attributes_held, plain_attributes, plain_type, plain_type-Record, plain_type-Option, plain_type-Bitvec, plain_type-Bool, plain_type-Entity, plain_type-Ext, plain_type-String, plain_type-Set}
 use Rattle.smt_nodes.proofs.Interning.{all_kept, one_found, pushed, record_type_means}
 use Rattle.smt_nodes.specs.Interned.{nodes_of}
 use Rattle.smt_nodes.proofs.interner.Interner.+intern_types.Goals as goal
@@ -34,6 +34,10 @@ intern_type-returns-in_ok-share-in-Entity-clause-meaning t c =
     let name : bytes_of_type c.in_ok-share-in-Entity.field-0 ≡ bytes_of_type c.in-Entity.ety = c.in_ok-share-in-Entity.ensures in
     let same : EntityType (bytes_of_type c.in_ok-share-in-Entity.field-0) ≡ plain_type c.args.ty.now = ap EntityType name ∙ sym (ap plain_type c.in-Entity.is ∙ plain_type-Entity c.in-Entity.ety) in
     IfOk-weaker c.enter-in-Entity.result _ _ (λ id h. h ∙ ap (λ t. Some (TypeMeaning t)) same) (c.enter-in-Entity.ensures.meaning [] refl)
+
+pub intern_type-returns-in-Ext-clause-meaning : goal.intern_type-returns-in-Ext-clause-meaning
+intern_type-returns-in-Ext-clause-meaning t c =
+    IfOk-weaker c.enter-in-Ext.result _ _ (λ id h. h ∙ ap (λ t. Some (TypeMeaning t)) (sym (ap plain_type c.in-Ext.is ∙ plain_type-Ext c.in-Ext.xty))) (c.enter-in-Ext.ensures.meaning [] refl)
 
 pub intern_type-returns-in-String-clause-meaning : goal.intern_type-returns-in-String-clause-meaning
 intern_type-returns-in-String-clause-meaning t c =

@@ -7,11 +7,12 @@ use Rattle.smt_graph.specs.Nodes.{TypeMeaning}
 use Rattle.smt_graph.specs.Parts.{names_in, types_in}
 use Rattle.smt_graph.proofs.Places.{some_same}
 use Rattle.smt_leaves.specs.Entities.{bytes_of_type}
+use Rattle.smt_leaves.specs.ExtensionView.{plain_kind}
 use Rattle.smt_meaning.specs.Plain.{EntityType, RecordType}
 use Rattle.smt_meaning.specs.ValueOrder.{ascends, text_cmp}
 use Rattle.smt_bits.specs.Width.{bits_in}
-use Rattle.smt_term.specs.View.{attribute_types, plain_attribute, plain_type-Bitvec, plain_type-Bool, plain_type-Entity, plain_type-Record, plain_type-String}
-use Rattle.smt_nodes.proofs.Rebuilding.{a_type, as_many_types, by_names, found_parts, holds_at, labelled, of_bits, of_entity, of_record, of_text, of_truth, pushed_names, pushed_types, type_of_part}
+use Rattle.smt_term.specs.View.{attribute_types, plain_attribute, plain_type-Bitvec, plain_type-Bool, plain_type-Entity, plain_type-Ext, plain_type-Record, plain_type-String}
+use Rattle.smt_nodes.proofs.Rebuilding.{a_type, as_many_types, by_names, found_parts, holds_at, labelled, of_bits, of_entity, of_extension, of_record, of_text, of_truth, pushed_names, pushed_types, type_of_part}
 use Rattle.smt_nodes.proofs.RecordFitting.{record_ascends}
 use Rattle.smt_nodes.proofs.RecordParts.{type_names, types_meant}
 use Rattle.smt_nodes.specs.Attributes.{attributes_of}
@@ -90,6 +91,13 @@ type_at-returns-in_ok-share-in-Some-TEntity t c =
     let (u, is) = a_type o c.requires in
     let type = of_entity u (bytes_of_type c.in-Some-TEntity.ety) (labelled o u _ is (ap (λ l. Some (plain_label l)) (sym c.in-Some-TEntity.field-0-is) ∙ c.in-Some-TEntity.ensures)) in
     is ∙ ap (λ t. Some (TypeMeaning t)) (type ∙ (ap EntityType (sym c.in_ok-share-in-Some-TEntity.ensures) ∙ sym (plain_type-Entity c.in_ok-share-in-Some-TEntity.field-0)))
+
+pub type_at-returns-in-Some-TExt : goal.type_at-returns-in-Some-TExt
+type_at-returns-in-Some-TExt t c =
+    let o = meaning_in c.args.self.now c.args.id in
+    let (u, is) = a_type o c.requires in
+    let type = of_extension u (plain_kind c.in-Some-TExt.xty) (labelled o u _ is (ap (λ l. Some (plain_label l)) (sym c.in-Some-TExt.field-0-is) ∙ c.in-Some-TExt.ensures)) in
+    is ∙ ap (λ t. Some (TypeMeaning t)) (type ∙ sym (plain_type-Ext c.in-Some-TExt.xty))
 
 pub type_at-returns-in-Some-TString : goal.type_at-returns-in-Some-TString
 type_at-returns-in-Some-TString t c =

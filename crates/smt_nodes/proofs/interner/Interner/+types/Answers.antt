@@ -5,7 +5,7 @@ use Rattle.std.proofs.lemmas.Iterator.{empty_from_Zip}
 use Rattle.smt_graph.specs.Meanings.{all_found, meanings}
 use Rattle.smt_graph.specs.Nodes.{TypeMeaning}
 use Rattle.smt_graph.specs.Parts.{type_parts, types_in}
-use Rattle.smt_term.specs.View.{attribute_types, plain_type, plain_type-Record, plain_type-Option, plain_type-Bitvec, plain_type-Bool, plain_type-Entity, plain_type-String, plain_type-Set}
+use Rattle.smt_term.specs.View.{attribute_types, plain_type, plain_type-Record, plain_type-Option, plain_type-Bitvec, plain_type-Bool, plain_type-Entity, plain_type-Ext, plain_type-String, plain_type-Set}
 use Rattle.smt_nodes.proofs.Finding.{all_right, at_parts, decided_by_parts, next_right, next_wrong, none_left, other_count}
 use Rattle.smt_nodes.proofs.RecordParts.{listed-length, types_listing, types_meant}
 use Rattle.smt_nodes.specs.Interned.{nodes_of}
@@ -24,6 +24,9 @@ are_parts_of_type-returns-in-Bool t c = none_left (meanings (nodes_of c.args.sel
 
 pub are_parts_of_type-returns-in-Entity : goal.are_parts_of_type-returns-in-Entity
 are_parts_of_type-returns-in-Entity t c = none_left (meanings (nodes_of c.args.self.now)) c.args.parts.now _ c.is_empty-in-Entity.result c.is_empty-in-Entity.ensures (ap type_parts (ap plain_type c.in-Entity.is ∙ plain_type-Entity c.in-Entity.ety))
+
+pub are_parts_of_type-returns-in-Ext : goal.are_parts_of_type-returns-in-Ext
+are_parts_of_type-returns-in-Ext t c = none_left (meanings (nodes_of c.args.self.now)) c.args.parts.now _ c.is_empty-in-Ext.result c.is_empty-in-Ext.ensures (ap type_parts (ap plain_type c.in-Ext.is ∙ plain_type-Ext c.in-Ext.xty))
 
 pub are_parts_of_type-returns-in-String : goal.are_parts_of_type-returns-in-String
 are_parts_of_type-returns-in-String t c = none_left (meanings (nodes_of c.args.self.now)) c.args.parts.now _ c.is_empty-in-String.result c.is_empty-in-String.ensures (ap type_parts (ap plain_type c.in-String.is ∙ plain_type-String))

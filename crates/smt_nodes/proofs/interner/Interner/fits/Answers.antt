@@ -1,6 +1,7 @@
 use Rattle.smt_nodes.specs.Interned.{nodes_of}
 use Rattle.smt_bits.specs.Width.{bits_in}
 use Rattle.smt_leaves.specs.Entities.{bytes_of_type}
+use Rattle.smt_leaves.specs.ExtensionView.{plain_kind}
 use Rattle.std.specs.Rc.{rc_str_bytes}
 use Rattle.std.proofs.Common.{ap, ◌∙◌}
 use Rattle.smt_characters.specs.SharedTexts.{texts}
@@ -20,6 +21,9 @@ returns-in-TBool c = fits_by (nodes_of c.args.self.now) c.args.node.now _ c.item
 
 pub returns-in-TEntity : goal.returns-in-TEntity
 returns-in-TEntity c = fits_by (nodes_of c.args.self.now) c.args.node.now _ c.items-parts.result.now c.fits_alone-in-TEntity.result c.in-TEntity.is c.items-parts.ensures (c.fits_alone-in-TEntity.ensures.entities (bytes_of_type c.in-TEntity.field-0))
+
+pub returns-in-TExt : goal.returns-in-TExt
+returns-in-TExt c = fits_by (nodes_of c.args.self.now) c.args.node.now _ c.items-parts.result.now c.fits_alone-in-TExt.result c.in-TExt.is c.items-parts.ensures (c.fits_alone-in-TExt.ensures.extensions (plain_kind c.in-TExt.field-0))
 
 pub returns-in-TString : goal.returns-in-TString
 returns-in-TString c = fits_by (nodes_of c.args.self.now) c.args.node.now _ c.items-parts.result.now c.fits_alone-in-TString.result c.in-TString.is c.items-parts.ensures (c.fits_alone-in-TString.ensures.texts)

@@ -4,9 +4,9 @@ use Rattle.smt_leaves.specs.Entities.{bytes_of_type}
 use Rattle.smt_characters.specs.SharedTexts.{texts}
 use Rattle.smt_leaves.specs.Pairs.{attributes_in}
 use Rattle.smt_nodes.proofs.RecordParts.{type_names}
-use Rattle.smt_term.specs.View.{attributes_held, plain_type, plain_type-Option, plain_type-Bitvec, plain_type-Bool, plain_type-Entity, plain_type-Record, plain_type-String, plain_type-Set}
+use Rattle.smt_term.specs.View.{attributes_held, plain_type, plain_type-Option, plain_type-Bitvec, plain_type-Bool, plain_type-Entity, plain_type-Ext, plain_type-Record, plain_type-String, plain_type-Set}
 use Rattle.smt_nodes.proofs.Finding.{at_type_label, entity_type_is, label_is, no_entity_type, no_record_label, record_type_is}
-use Rattle.smt_nodes.specs.declared.node.Label.TheVariants.{TOption, TBitvec, TBool, TString, TSet}
+use Rattle.smt_nodes.specs.declared.node.Label.TheVariants.{TOption, TBitvec, TBool, TExt, TString, TSet}
 use Rattle.smt_nodes.proofs.node.Label.is_of_type.Goals as goal
 
 pub returns-in-Option : goal.returns-in-Option
@@ -23,6 +23,9 @@ returns-in-TEntity c = at_type_label c.eq-in-TEntity.result c.args.self.now _ _ 
 
 pub returns-in_default : goal.returns-in_default
 returns-in_default c = at_type_label _ c.args.self.now _ _ (ap plain_type c.in-Entity.is ∙ plain_type-Entity c.in-Entity.ety) (no_entity_type c.args.self.now (bytes_of_type c.in-Entity.ety) c.in_default.not-TEntity)
+
+pub returns-in-Ext : goal.returns-in-Ext
+returns-in-Ext c = label_is _ c.args.self.now (TExt c.in-Ext.xty) _ c.eq-in-Ext.ensures (sym (ap type_label (ap plain_type c.in-Ext.is ∙ plain_type-Ext c.in-Ext.xty)))
 
 pub returns-in-String : goal.returns-in-String
 returns-in-String c = label_is _ c.args.self.now TString _ c.eq-in-String.ensures (sym (ap type_label (ap plain_type c.in-String.is ∙ plain_type-String)))

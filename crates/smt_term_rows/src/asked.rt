@@ -1,0 +1,220 @@
+//! Words for questions about terms, which stay on the stack.
+
+use crate::asked_types;
+use crate::printed::{put_term, put_type};
+use crate::stack::pairs;
+use crate::types::{operator, type_of};
+use anyhow::{Context, Result, bail};
+use smt_factory::opposites;
+use smt_term::{Op, Term, TermList, TermTable, TermType, Text};
+use std::alloc::Global;
+
+/// Types of which a term has at most one.
+const DISTINCT: [&str; 13] = [
+    "bool", "1", "8", "64", "128", "string", "@a", "@b", "?8", ".bool", "*8", "*string", "*?string",
+];
+
+/// Puts the answer of a word by its head and what it holds behind the colon.
+pub(crate) fn put_answer(
+    alloc: Global,
+    out: &mut String,
+    terms: &[Term],
+    head: &str,
+    held: &str,
+) -> Result<()> {
+    if let Some(truth) = truth(alloc, terms, head, held)? {
+        return Ok(write!(out, "{truth}")?);
+    }
+    match head {
+        "type_of" => put_type(out, &last(terms)?.type_of(alloc)?),
+        "type_of_literal" => put_type_of_literal(out, last(terms)?),
+        "has_types" => put_types_of(alloc, out, last(terms)?),
+        "size" => put_size(out, last(terms)?),
+        "at" => put_fields(alloc, out, last(terms)?, held),
+        "compare" => {
+            let (a, b) = last_two(terms)?;
+            Ok(out.push_str(order(a, b))?)
+        }
+        "typed_as" => put_types_given(alloc, out, terms, held),
+        "table" => put_table(alloc, out, terms, held.parse()?),
+        _ => asked_types::put_answer(alloc, out, head, held),
+    }
+}
+
+/// Whether it is as a word asks, None where no such question has this head.
+fn truth(alloc: Global, terms: &[Term], head: &str, held: &str) -> Result<Option<bool>> {
+    Ok(Some(match head {
+        "is_literal" => last(terms)?.is_literal(),
+        "well_typed" => last(terms)?.well_typed(),
+        "has_type" => last(terms)?.has_type(&type_of(alloc, held)?),
+        "shared" => is_shared(last(terms)?)?,
+        "opposites" => {
+            let (a, b) = last_two(terms)?;
+            opposites(a, b)
+        }
+        "same" => {
+            let (a, b) = last_two(terms)?;
+            a == b
+        }
+        "takes" => {
+            let (op, args) = call(alloc, terms, held)?;
+            op.takes(args)
+        }
+        _ => return Ok(None),
+    }))
+}
+
+fn last(terms: &[Term]) -> Result<&Term> {
+    terms.last().context("no term is left")
+}
+
+fn last_two(terms: &[Term]) -> Result<(&Term, &Term)> {
+    match terms {
+        [.., a, b] => Ok((a, b)),
+        _ => bail!("too few terms"),
+    }
+}
+
+/// So many last terms.
+fn last_of(terms: &[Term], count: usize) -> Result<(&[Term], &[Term])> {
+    let left = terms.len().checked_sub(count).context("too few terms")?;
+    Ok(terms.split_at(left))
+}
+
+/// An operator and so many last terms, by the operator and this count.
+fn call<'a>(alloc: Global, terms: &'a [Term], spelling: &str) -> Result<(Op, &'a [Term])> {
+    let (op, count) = spelling.split_once(':').context("an operator and a count")?;
+    let (_, args) = last_of(terms, count.parse()?)?;
+    Ok((operator(alloc, op)?, args))
+}
+
+/// How two values are ordered.
+pub(crate) fn order<T: Ord>(a: &T, b: &T) -> &'static str {
+    if a < b {
+        "less"
+    } else if a == b {
+        "equal"
+    } else {
+        "greater"
+    }
+}
+
+/// Whether a term and what it is made of are equal to what they share.
+fn is_shared(term: &Term) -> Result<bool> {
+    let parts = match term {
+        Term::App { op, args, ret_ty } => {
+            op.share()? == *op && args.share()? == *args && ret_ty.share()? == *ret_ty
+        }
+        Term::None(ty) => ty.share()? == *ty,
+        Term::Prim(literal) => literal.share()? == *literal,
+        Term::Record(fields) => fields.share()? == *fields,
+        Term::Set { elts_ty, elts } => elts_ty.share()? == *elts_ty && elts.share()? == *elts,
+        Term::Some(inner) => inner.share()? == **inner,
+        Term::Var(variable) => variable.share()? == *variable,
+    };
+    Ok(parts && term.share()? == *term)
+}
+
+/// Puts the type of the literal that a term is.
+fn put_type_of_literal(out: &mut String, term: &Term) -> Result<()> {
+    match term {
+        Term::Prim(literal) => put_type(out, &literal.type_of()?),
+        _ => bail!("the term is no literal of its own"),
+    }
+}
+
+/// Puts those of the distinct types that a term has.
+fn put_types_of(alloc: Global, out: &mut String, term: &Term) -> Result<()> {
+    out.push_str("(types")?;
+    for spelling in &DISTINCT {
+        if term.has_type(&type_of(alloc, spelling)?) {
+            write!(out, " {spelling}")?;
+        }
+    }
+    Ok(out.push(')')?)
+}
+
+/// Puts how many parts a term has, and whether it has none.
+fn put_size(out: &mut String, term: &Term) -> Result<()> {
+    let (count, empty) = match term {
+        Term::App { args, .. } => (args.len(), args.is_empty()),
+        Term::Record(fields) => (fields.len(), fields.is_empty()),
+        Term::Set { elts, .. } => (elts.len(), elts.is_empty()),
+        _ => bail!("the term has no parts"),
+    };
+    Ok(write!(out, "{count} {empty}")?)
+}
+
+/// Puts what a record has at each of these attributes.
+fn put_fields(alloc: Global, out: &mut String, term: &Term, names: &str) -> Result<()> {
+    let Term::Record(fields) = term else {
+        bail!("the term is no record");
+    };
+    out.push_str("(found")?;
+    for name in names.split(',') {
+        put_found(out, fields.get(&Text::from_str(alloc, name)?))?;
+    }
+    Ok(out.push(')')?)
+}
+
+/// Puts a term that was looked for, with a space before it.
+fn put_found(out: &mut String, found: Option<&Term>) -> Result<()> {
+    out.push(' ')?;
+    match found {
+        Some(term) => put_term(out, term),
+        None => Ok(out.push_str("nothing")?),
+    }
+}
+
+/// Puts those of the distinct types as which an operator's application to so many last terms is well typed. An application is
+/// never a literal, names the type that it claims, and is of this type exactly where it is well typed; where it is not so, `but:`
+/// stands before the type.
+fn put_types_given(alloc: Global, out: &mut String, terms: &[Term], spelling: &str) -> Result<()> {
+    let (op, args) = call(alloc, terms, spelling)?;
+    out.push_str("(types")?;
+    for spelling in &DISTINCT {
+        let ty = type_of(alloc, spelling)?;
+        let claim = Term::App {
+            op: op.share()?,
+            args: TermList::new(alloc, args)?,
+            ret_ty: ty.share()?,
+        };
+        if !is_claim(alloc, &claim, &ty)? {
+            write!(out, " but:{spelling}")?;
+        } else if claim.well_typed() {
+            write!(out, " {spelling}")?;
+        }
+    }
+    Ok(out.push(')')?)
+}
+
+/// Whether a term is an application that names the type that it claims, and is of it exactly where it is well typed.
+fn is_claim(alloc: Global, claim: &Term, ty: &TermType) -> Result<bool> {
+    Ok(
+        !claim.is_literal()
+            && claim.type_of(alloc)? == *ty
+            && claim.has_type(ty) == claim.well_typed()
+            && is_shared(claim)?,
+    )
+}
+
+/// Puts the table of so many pairs of last terms, a key and its value: its entries, how many they are, whether there are none,
+/// whether it is equal to what it shares, and what it has at each term before these.
+fn put_table(alloc: Global, out: &mut String, terms: &[Term], count: usize) -> Result<()> {
+    let (keys, entries) = last_of(terms, count.checked_mul(2).context("too few terms")?)?;
+    let table = TermTable::new(alloc, pairs(alloc, entries)?.as_slice())?;
+    out.push_str("(table")?;
+    for (key, value) in table.items() {
+        out.push_str(" (")?;
+        put_term(out, key)?;
+        out.push(' ')?;
+        put_term(out, value)?;
+        out.push(')')?;
+    }
+    let (count, empty, shared) = (table.len(), table.is_empty(), table.share()? == table);
+    write!(out, ") {count} {empty} {shared} (found")?;
+    for key in keys {
+        put_found(out, table.get(key))?;
+    }
+    Ok(out.push(')')?)
+}

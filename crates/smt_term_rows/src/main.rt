@@ -1,0 +1,121 @@
+//! `smt_term_rows`: what the factory's calls give, and what terms, types and operators answer, for each row of the files in
+//! `data/`.
+//!
+//! What is printed is the row and its answers, and `stdout` has the answers that there should be. A row is words with a space
+//! between two. A word leaves a term on a stack, or asks about what is there. Of a row that asks nothing the terms that it leaves
+//! are printed, so that no two terms are printed alike.
+//!
+//! These words leave terms as they are:
+//!
+//! | Word | What it says |
+//! |---|---|
+//! | `true`, `false`, `int:NUMBER`, `byte:NUMBER`, `bits:WIDTH:NUMBER` | a literal: `int` of 64 bits with sign, `byte` of 8 bits |
+//! | `text:CHARACTERS`, `entity:NAME:ID` | a text, and an entity of the type of this name |
+//! | `decimal:TEXT`, `datetime:TEXT`, `duration:TEXT`, `ip:TEXT` | a value of an extension type, by its text |
+//! | `var:ID:TYPE`, `none:TYPE` | a variable, and none of an option of this type |
+//! | `some`, `set:COUNT:TYPE`, `record:NAME,NAME` | some of the last term, the set of so many last terms, each of this type, and the record of these attributes with the last terms in order |
+//! | `app:OPERATOR:COUNT:TYPE` | the operator at so many last terms, which claims this type |
+//!
+//! These words call the factory, which folds:
+//!
+//! | Word | What it calls |
+//! |---|---|
+//! | `not`, `or`, `implies`, `eq`, `ite`, `some_of`, `option_get`, `is_none`, `is_some`, `if_true`, `if_false`, `if_some`, `set_member`, `set_subset`, `set_inter`, `set_intersects`, `set_is_empty`, `tag_of` | the call of this name, at the last terms in order |
+//! | `ext_decimal_val`, `ext_datetime_val`, `ext_duration_val`, `ext_ipaddr_is_v4`, `ext_ipaddr_addr_v4`, `ext_ipaddr_addr_v6`, `ext_ipaddr_prefix_v4`, `ext_ipaddr_prefix_v6`, `ext_datetime_of_bitvec`, `ext_duration_of_bitvec` | the call of this name, at the last term |
+//! | `none_of:TYPE`, `set_of:COUNT:TYPE`, `record_of:NAME,NAME`, `record_get:NAME`, `string_like:PATTERN` | the call of this name, at the last terms too |
+//! | `any_none:COUNT`, `if_all_some:COUNT` | the call of this name at so many last terms, of `if_all_some` those before the last one |
+//! | `any_negated:COUNT` | `any_true` of `not`, at so many last terms |
+//! | `bvapp_by`, `bvapp`, `bvso` | the sum by the rule of `BitVec::add`, the difference by `BitVec::sub`, and the overflow test of the sum by a call that always answers none |
+//! | `call:ID:TYPE:TYPE` | `app` of an uninterpreted function at the last term, by its id, the type of its argument and that of its values |
+//! | `call_table:COUNT:TYPE:TYPE` | `app` of a function that a table defines: before the last term so many keys, each with its value behind it, and before these what the function gives elsewhere |
+//!
+//! These words ask. What they ask about stays on the stack:
+//!
+//! | Word | What it asks |
+//! |---|---|
+//! | `type_of`, `is_literal`, `well_typed`, `has_type:TYPE` | this, of the last term |
+//! | `type_of_literal`, `has_types` | the type of the literal that the last term is, and those of thirteen types that the last term has |
+//! | `shared` | whether the last term and its parts are equal to what they share |
+//! | `size` | how many arguments, attributes or elements the last term has, and whether it has none |
+//! | `at:NAME,NAME` | what the last term, which is a record, has at these attributes |
+//! | `compare`, `same`, `opposites` | the order of the last two terms, whether they are equal, and whether they are opposites |
+//! | `takes:OPERATOR:COUNT`, `typed_as:OPERATOR:COUNT` | whether the operator takes so many last terms, and as which of thirteen types its application is well typed; `but:` stands before a type where the answers of the application contradict one another |
+//! | `table:COUNT` | the table of so many keys, each with its value behind it: its entries, how many they are, whether there are none, whether it is equal to what it shares, and what it has at each term before them |
+//! | `type:TYPE`, `tag_for:NAME` | this type, and that of the tags of entities of this type |
+//! | `kinds:TYPE` | whether it is primitive, one of entities, of records, of options, and of options of entities |
+//! | `shared_type:TYPE` | whether the type is equal to what it shares |
+//! | `size_of_type:TYPE`, `type_at:NAME,NAME:TYPE` | of a record type how many attributes it has, whether none, and whether these are equal to what they share; its types at these attributes |
+//! | `operator:OPERATOR` | the name of the operator, and whether it is equal to what it shares |
+//! | `compare_types:TYPE:TYPE`, `compare_operators:OPERATOR:OPERATOR` | the order of the two |
+//!
+//! A type is the number of bits of bitvectors, `bool`, `string`, `decimal`, `datetime`, `duration`, `ip`, `@NAME` of entities, or `%NAME=TYPE,NAME=TYPE` of records;
+//! `?TYPE` is that of options, `*TYPE` that of sets, and `.TYPE` that of records with the one attribute `a`. An operator is its
+//! name, and behind `=` what it holds, as `zero_extend=56`, `record.get=a` and `string.like=a*z`. In a pattern `*` is any text.
+#![tactic(auto)]
+
+mod asked;
+mod asked_types;
+mod built;
+mod folded;
+mod printed;
+mod stack;
+mod types;
+
+use anyhow::Result;
+use smt_term::Term;
+use std::alloc::Global;
+use std::fs;
+use std::io::{self, BufWriter, Write};
+
+/// The files of rows.
+const FILES: [&str; 14] = [
+    "connectives",
+    "options",
+    "collections",
+    "fields",
+    "applied",
+    "extensions",
+    "types",
+    "literals",
+    "forms",
+    "parts",
+    "operators",
+    "refused",
+    "ill_typed",
+    "order",
+];
+
+/// What a row answers: each answer behind a space, or the terms that are left.
+fn answer(alloc: Global, row: &str) -> Result<String> {
+    let mut out = String::new(alloc);
+    let mut terms: Vec<Term> = Vec::new(alloc);
+    for word in row.split(' ') {
+        let (head, held) = word.split_once(':').unwrap_or((word, ""));
+        if let Some(term) = built::term(alloc, &mut terms, head, held)? {
+            terms.push(term)?;
+        } else if let Some(term) = folded::term(alloc, &mut terms, head, held)? {
+            terms.push(term)?;
+        } else {
+            out.push(' ')?;
+            asked::put_answer(alloc, &mut out, terms.as_slice(), head, held)?;
+        }
+    }
+    if out.is_empty() {
+        printed::put_terms(&mut out, terms.as_slice())?;
+    }
+    Ok(out)
+}
+
+fn main(rt: HostRuntime) -> Result<()> {
+    let alloc = rt.alloc();
+    let mut printer = BufWriter::new(alloc, io::writer(&rt))?;
+    for file in FILES {
+        let rows = fs::read_to_string(&rt, file)?;
+        for row in rows.lines() {
+            let answer = answer(alloc, row)?;
+            writeln!(printer, "{row} ={answer}")?;
+        }
+    }
+    printer.flush()?;
+    Ok(())
+}

@@ -1,0 +1,52 @@
+//! The terms that the words of a row take and leave.
+
+use anyhow::{Context, Result};
+use smt_term::{Attr, Term, Text};
+use std::alloc::Global;
+
+/// The last term, which the stack then has no longer.
+pub(crate) fn one(terms: &mut Vec<Term>) -> Result<Term> {
+    terms.pop().context("no term is left")
+}
+
+/// The last two terms, which the stack then has no longer.
+pub(crate) fn two(terms: &mut Vec<Term>) -> Result<(Term, Term)> {
+    let second = one(terms)?;
+    Ok((one(terms)?, second))
+}
+
+/// So many last terms, which the stack then has no longer.
+pub(crate) fn taken(terms: &mut Vec<Term>, count: usize) -> Result<Vec<Term>> {
+    let left = terms.len().checked_sub(count).context("too few terms")?;
+    Ok(terms.split_off(left)?)
+}
+
+/// A term and the one behind it, and so on.
+pub(crate) fn pairs(alloc: Global, terms: &[Term]) -> Result<Vec<(Term, Term)>> {
+    let mut pairs = Vec::new(alloc);
+    for pair in terms.chunks_exact(2) {
+        if let [first, second] = pair {
+            pairs.push((first.share()?, second.share()?))?;
+        }
+    }
+    Ok(pairs)
+}
+
+/// These attributes, with a comma between two of them, each with one of the last terms in order, which the stack then has no
+/// longer.
+pub(crate) fn fields(
+    alloc: Global,
+    terms: &mut Vec<Term>,
+    names: &str,
+) -> Result<Vec<(Attr, Term)>> {
+    let mut all = Vec::new(alloc);
+    for name in names.split_terminator(',') {
+        all.push(Text::from_str(alloc, name)?)?;
+    }
+    let held = taken(terms, all.len())?;
+    let mut fields = Vec::new(alloc);
+    for (name, term) in all.as_slice().iter().zip(held.as_slice()) {
+        fields.push((name.clone()?, term.share()?))?;
+    }
+    Ok(fields)
+}
