@@ -1,0 +1,14 @@
+pub mod Blocks
+pub mod Bounds
+pub mod Choices
+pub mod Containment
+pub mod Days
+pub mod Decimals
+pub mod Durations
+pub mod FreeBits
+pub mod FunctionsKeep
+pub mod FunctionsStand
+pub mod InLists
+pub mod Longs
+pub mod Moments
+pub mod Shifts

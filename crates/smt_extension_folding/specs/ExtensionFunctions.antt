@@ -1,0 +1,143 @@
+-- The functions on values of the extension types, as they are made of other calls, each written once over what builds terms:
+-- `applied` gives the application that is asked for, `folding` what the call gives. Literals are the same whoever builds.
+use Rattle.std.specs.Prelude.{ℕ, ◌-◌, ◌*◌, ◌^◌, List, [], ◌∷◌, Some, None}
+use Rattle.smt_arithmetic.specs.BitOperators.{BvaddOp, BvlshrOp, BvsdivOp, BvshlOp, BvsmodOp, BvsremOp, BvsubOp, BvsleOp, BvsltOp, BvuleOp, BvsaddoOp, BvssuboOp}
+use Rattle.smt_folding.specs.Applications.{false_term, bits_literal}
+use Rattle.smt_folding.specs.Builder.{Builder}
+use Rattle.smt_folding.specs.Composites.{if_false, is_none}
+use Rattle.smt_folding.specs.FoldExtensions.{extension_literal}
+use Rattle.smt_meaning.specs.Plain.{DatetimeOfBitVecOp, DatetimeValOp, DecimalValOp, DurationOfBitVecOp, DurationValOp, ExtensionOp, IpAddrV4Op, IpAddrV6Op, IpIsV4Op, IpPrefixV4Op, IpPrefixV6Op, Ipv4Of, Ipv6Of, PlainExtension, PlainTerm}
+
+-- ---- decimals
+
+abbrev pub less_than : Builder → PlainTerm → PlainTerm → PlainTerm
+less_than b t u = b.test BvsltOp (b.extension DecimalValOp t) (b.extension DecimalValOp u)
+
+abbrev pub less_than_or_equal : Builder → PlainTerm → PlainTerm → PlainTerm
+less_than_or_equal b t u = b.test BvsleOp (b.extension DecimalValOp t) (b.extension DecimalValOp u)
+
+abbrev pub greater_than : Builder → PlainTerm → PlainTerm → PlainTerm
+greater_than b t u = b.test BvsltOp (b.extension DecimalValOp u) (b.extension DecimalValOp t)
+
+abbrev pub greater_than_or_equal : Builder → PlainTerm → PlainTerm → PlainTerm
+greater_than_or_equal b t u = b.test BvsleOp (b.extension DecimalValOp u) (b.extension DecimalValOp t)
+
+-- ---- IP ranges
+
+abbrev pub is_ipv4 : Builder → PlainTerm → PlainTerm
+is_ipv4 b t = b.extension IpIsV4Op t
+
+abbrev pub is_ipv6 : Builder → PlainTerm → PlainTerm
+is_ipv6 b t = b.not (is_ipv4 b t)
+
+-- The number of free bits of an address, by its prefix of w bits: an address has N bits, where N is 2 to the w, and so has the
+-- number. No prefix leaves none free.
+abbrev pub subnet_width : Builder → (width : ℕ) → (prefix : PlainTerm) → PlainTerm
+subnet_width b w p =
+    b.ite (is_none b p) (bits_literal (2 ^ w) 0) (b.bits BvsubOp (bits_literal (2 ^ w) (2 ^ w)) (b.zero_extend (2 ^ w - w) (b.option_get p)))
+
+-- an address of n bits with its free bits cleared, and with its free bits set
+abbrev pub lowest_address : Builder → (address free : PlainTerm) → PlainTerm
+lowest_address b a f = b.bits BvshlOp (b.bits BvlshrOp a f) f
+
+abbrev pub highest_address : Builder → (width : ℕ) → (address free : PlainTerm) → PlainTerm
+highest_address b n a f = b.bits BvsubOp (b.bits BvaddOp (lowest_address b a f) (b.bits BvshlOp (bits_literal n 1) f)) (bits_literal n 1)
+
+-- the lowest and the highest address
+abbrev pub range_by : Builder → (width : ℕ) → (address free : PlainTerm) → (PlainTerm × PlainTerm)
+range_by b n a f = (lowest_address b a f, highest_address b n a f)
+
+abbrev pub range_v4 : Builder → PlainTerm → (PlainTerm × PlainTerm)
+range_v4 b t = range_by b 32 (b.extension IpAddrV4Op t) (subnet_width b 5 (b.extension IpPrefixV4Op t))
+
+abbrev pub range_v6 : Builder → PlainTerm → (PlainTerm × PlainTerm)
+range_v6 b t = range_by b 128 (b.extension IpAddrV6Op t) (subnet_width b 7 (b.extension IpPrefixV6Op t))
+
+-- the first's highest address is at most the second's, and its lowest at least the second's, by a function that gives both
+abbrev pub in_range : Builder → (range : PlainTerm → (PlainTerm × PlainTerm)) → PlainTerm → PlainTerm → PlainTerm
+in_range b range t u = b.and (b.test BvuleOp (range t).1 (range u).1) (b.test BvuleOp (range u).0 (range t).0)
+
+-- One of the list is of the family and has the first in its range, from what came of those in front on.
+abbrev pub in_one_from : Builder → (is_ip : PlainTerm → PlainTerm) → (range : PlainTerm → (PlainTerm × PlainTerm)) → PlainTerm → (so_far : PlainTerm) → List PlainTerm → PlainTerm
+in_one_from b is_ip range t so_far [] = so_far
+in_one_from b is_ip range t so_far (x ∷ xs) = in_one_from b is_ip range t (b.or so_far (b.and (is_ip x) (in_range b range t x))) xs
+
+-- the first is of the family, and lies in one of the list that is
+abbrev pub in_range_v : Builder → (is_ip : PlainTerm → PlainTerm) → (range : PlainTerm → (PlainTerm × PlainTerm)) → PlainTerm → List PlainTerm → PlainTerm
+in_range_v b is_ip range t ts = b.and (is_ip t) (in_one_from b is_ip range t false_term ts)
+
+abbrev pub is_in_range : Builder → PlainTerm → List PlainTerm → PlainTerm
+is_in_range b t ts = b.or (in_range_v b (is_ipv4 b) (range_v4 b) t ts) (in_range_v b (is_ipv6 b) (range_v6 b) t ts)
+
+-- in the one of two ranges that is of its family
+abbrev pub in_range_lit : Builder → PlainTerm → (cidr4 cidr6 : PlainExtension) → PlainTerm
+in_range_lit b t x y = b.ite (is_ipv4 b t) (in_range b (range_v4 b) t (extension_literal x)) (in_range b (range_v6 b) t (extension_literal y))
+
+-- 127.0.0.0/8 and ::1
+abbrev pub loopback_v4 : PlainExtension
+loopback_v4 = Ipv4Of (127 * 2 ^ 24) (Some 8)
+
+abbrev pub loopback_v6 : PlainExtension
+loopback_v6 = Ipv6Of 1 None
+
+-- 224.0.0.0/4 and ff00::/8
+abbrev pub multicast_v4 : PlainExtension
+multicast_v4 = Ipv4Of (224 * 2 ^ 24) (Some 4)
+
+abbrev pub multicast_v6 : PlainExtension
+multicast_v6 = Ipv6Of (0xff * 2 ^ 120) (Some 8)
+
+abbrev pub is_loopback : Builder → PlainTerm → PlainTerm
+is_loopback b t = in_range_lit b t loopback_v4 loopback_v6
+
+abbrev pub is_multicast : Builder → PlainTerm → PlainTerm
+is_multicast b t = in_range_lit b t multicast_v4 multicast_v6
+
+-- ---- datetimes and durations
+
+abbrev pub to_milliseconds : Builder → PlainTerm → PlainTerm
+to_milliseconds b t = b.extension DurationValOp t
+
+abbrev pub to_seconds : Builder → PlainTerm → PlainTerm
+to_seconds b t = b.bits BvsdivOp (to_milliseconds b t) (bits_literal 64 1000)
+
+abbrev pub to_minutes : Builder → PlainTerm → PlainTerm
+to_minutes b t = b.bits BvsdivOp (to_seconds b t) (bits_literal 64 60)
+
+abbrev pub to_hours : Builder → PlainTerm → PlainTerm
+to_hours b t = b.bits BvsdivOp (to_minutes b t) (bits_literal 64 60)
+
+abbrev pub to_days : Builder → PlainTerm → PlainTerm
+to_days b t = b.bits BvsdivOp (to_hours b t) (bits_literal 64 24)
+
+-- what an operator makes of the sum, and of the difference, of two numbers; none where it leaves the 64 bits
+abbrev pub sum_as : Builder → ExtensionOp → PlainTerm → PlainTerm → PlainTerm
+sum_as b o x y = if_false b (b.overflow BvsaddoOp x y) (b.extension o (b.bits BvaddOp x y))
+
+abbrev pub difference_as : Builder → ExtensionOp → PlainTerm → PlainTerm → PlainTerm
+difference_as b o x y = if_false b (b.overflow BvssuboOp x y) (b.extension o (b.bits BvsubOp x y))
+
+-- the datetime a duration later
+abbrev pub offset : Builder → (datetime duration : PlainTerm) → PlainTerm
+offset b t u = sum_as b DatetimeOfBitVecOp (b.extension DatetimeValOp t) (b.extension DurationValOp u)
+
+-- the duration from the second datetime to the first
+abbrev pub duration_since : Builder → PlainTerm → PlainTerm → PlainTerm
+duration_since b t u = difference_as b DurationOfBitVecOp (b.extension DatetimeValOp t) (b.extension DatetimeValOp u)
+
+-- a day in milliseconds
+abbrev pub day_literal : PlainTerm
+day_literal = bits_literal 64 86400000
+
+-- the last midnight: what is left of the day, which has the sign of the day, taken off
+abbrev pub to_date : Builder → PlainTerm → PlainTerm
+to_date b t = difference_as b DatetimeOfBitVecOp (b.extension DatetimeValOp t) (b.bits BvsmodOp (b.extension DatetimeValOp t) day_literal)
+
+-- The milliseconds since the last midnight, of a number and of what is left of the day rounded towards zero: that, and where the
+-- number is below zero 0 or a day more.
+abbrev pub since_midnight : Builder → (number left : PlainTerm) → PlainTerm
+since_midnight b x r = b.ite (b.test BvsleOp (bits_literal 64 0) x) r (b.ite (b.eq r (bits_literal 64 0)) (bits_literal 64 0) (b.bits BvaddOp r day_literal))
+
+-- the duration since the last midnight
+abbrev pub to_time : Builder → PlainTerm → PlainTerm
+to_time b t = b.extension DurationOfBitVecOp (since_midnight b (b.extension DatetimeValOp t) (b.bits BvsremOp (b.extension DatetimeValOp t) day_literal))

@@ -1,0 +1,5 @@
+pub mod Bounds
+pub mod ExtensionFunctions
+pub mod Laws
+pub mod Literals
+pub mod Rows
