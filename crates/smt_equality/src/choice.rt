@@ -25,6 +25,13 @@ pub fn ite(alloc: Global, t1: Term, t2: Term, t3: Term) -> Result<Term, TermErro
     ensures folded { IfOk result (λ r. plain_term r ≡ folded_ite (plain_term t1) (plain_term t2) (plain_term t3)) }
     ensures refines { IfOk result (λ r. Refines (plain_term r) (ite_of (plain_term t1) (plain_term t2) (plain_term t3))) }
 {
+    folded_ite(alloc, t1, t2, t3)
+}
+
+// The choice, folded.
+fn folded_ite(alloc: Global, t1: Term, t2: Term, t3: Term) -> Result<Term, TermError>
+    ensures { IfOk result (λ r. plain_term r ≡ folded_ite (plain_term t1) (plain_term t2) (plain_term t3)) }
+{
     if let Some((held2, held3)) = both_held(&t2, &t3) {
         return some_of(
             alloc,

@@ -1,10 +1,10 @@
 //! Equality of the theory Core.
-#![tactic(auto, using(crate::proofs::Folding::comparing))]
 
 ghost use Rattle.std.specs.Prelude.{◌≡◌, ◌&&◌, IfOk};
 ghost use Rattle.smt_folding.specs.Applications.{eq_of, truth_literal};
 ghost use Rattle.smt_folding.specs.FoldEquality.{folded_eq, folded_eq_inside, is_boolean};
 ghost use Rattle.smt_folding.specs.Refinement.{Refines};
+ghost use Rattle.smt_meaning.specs.Literals.{is_literal};
 ghost use Rattle.smt_meaning.specs.Plain.{BoolType};
 ghost use Rattle.smt_meaning.specs.TermOrder.{term_eq};
 ghost use Rattle.smt_meaning.specs.Types.{literal_type, type_eq};
@@ -54,6 +54,13 @@ fn is_truth(literal: &TermPrim) -> bool
     }
 }
 
+// Whether both are literals.
+fn are_literals(t1: &Term, t2: &Term) -> bool
+    ensures { result ≡ (is_literal (plain_term t1.now) && is_literal (plain_term t2.now)) }
+{
+    t1.is_literal() && t2.is_literal()
+}
+
 // Whether the first is this literal, and the second a Boolean term.
 fn is_beside_boolean(truth: bool, t1: &Term, t2: &Term) -> bool
     ensures { result ≡ (term_eq (plain_term t1.now) (truth_literal truth) && is_boolean (plain_term t2.now)) }
@@ -68,6 +75,7 @@ fn is_beside_boolean(truth: bool, t1: &Term, t2: &Term) -> bool
 ///
 /// # Errors
 /// `Memory`, where there is none for the term.
+#[tactic(auto, using(crate::proofs::Folding::comparing))]
 pub fn eq(alloc: Global, t1: Term, t2: Term) -> Result<Term, TermError>
     ensures folded { IfOk result (λ r. plain_term r ≡ folded_eq (plain_term t1) (plain_term t2)) }
     ensures refines { IfOk result (λ r. Refines (plain_term r) (eq_of (plain_term t1) (plain_term t2))) }
@@ -76,6 +84,7 @@ pub fn eq(alloc: Global, t1: Term, t2: Term) -> Result<Term, TermError>
 }
 
 // The equality, folded.
+#[tactic(auto, using(crate::proofs::Folding::comparing))]
 fn folded_eq(alloc: Global, t1: Term, t2: Term) -> Result<Term, TermError>
     ensures { IfOk result (λ r. plain_term r ≡ folded_eq (plain_term t1) (plain_term t2)) }
 {
@@ -96,7 +105,7 @@ fn eq_inside(alloc: Global, t1: Term, t2: Term) -> Result<Term, TermError>
     if t1 == t2 {
         return Ok(Term::from(true));
     }
-    if t1.is_literal() && t2.is_literal() {
+    if are_literals(&t1, &t2) {
         return Ok(Term::from(false));
     }
     if is_beside_boolean(true, &t1, &t2) {

@@ -15,10 +15,7 @@ pub(crate) fn both_held<'a>(t1: &'a Term, t2: &'a Term) -> Option<(&'a Term, &'a
         (are_some (plain_term t1.now) (plain_term t2.now) ≡ false)
         (λ r. (plain_term t1.now ≡ SomeTerm (plain_term r.0.now)) × (plain_term t2.now ≡ SomeTerm (plain_term r.1.now))) }
 {
-    match (held(t1), held(t2)) {
-        (Some(first), Some(second)) => Some((first, second)),
-        (Some(_), None) | (None, Some(_)) | (None, None) => None,
-    }
+    Some((held(t1)?, held(t2)?))
 }
 
 // Whether the first is a `some` and the second none.

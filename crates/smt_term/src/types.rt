@@ -1,14 +1,16 @@
 // The types of terms.
-ghost use Rattle.std.specs.Prelude.{◌≡◌, IfOk, is_some};
-ghost use Rattle.smt_meaning.specs.Plain.{OptionType, SetType};
-ghost use Rattle.smt_meaning.specs.Types.{inner_type};
+ghost use Rattle.std.specs.Prelude.{◌≡◌, IfOk, is_some, option_map};
+ghost use Rattle.std.specs.Rc.{rc_str_bytes};
+ghost use Rattle.smt_bits.specs.Width.{bits_in};
+ghost use Rattle.smt_meaning.specs.Plain.{EntityType as EntityTypeOf, OptionType, SetType};
+ghost use Rattle.smt_meaning.specs.Types.{attribute_type, inner_type, is_set, is_type, type_eq, width_in};
 ghost use Rattle.smt_leaves.specs.Entities.{bytes_of_type};
 ghost use Rattle.smt_term.specs.TypeKinds.{is_entity, is_entity_option, is_primitive, is_record, tag_type};
 ghost use Rattle.smt_term.specs.View.{plain_type};
 
 use crate::maps::TypeMap;
 use smt_bits::Width;
-use smt_leaves::{EntityType, ExtType, TermError};
+use smt_leaves::{Attr, EntityType, ExtType, TermError};
 use smt_text::Text;
 use std::alloc::Global;
 use std::rc::Rc;
@@ -169,6 +171,148 @@ impl TermType {
             TermType::String => Ok(TermType::String),
             TermType::Record { rty } => Ok(TermType::Record { rty: rty.share()? }),
             TermType::Set { ty } => Ok(TermType::Set { ty: ty.clone()? }),
+        }
+    }
+
+    // Whether this is the same type.
+    pub(crate) fn is_same_as(&self, other: &TermType) -> bool
+        ensures same { result ≡ type_eq (plain_type self.now) (plain_type other.now) }
+        ensures turned { result ≡ type_eq (plain_type other.now) (plain_type self.now) }
+    {
+        *self == *other
+    }
+
+    // Whether it is that of entities of this type.
+    pub(crate) fn is_of_entities(&self, ety: &EntityType) -> bool
+        ensures same { result ≡ type_eq (EntityTypeOf (bytes_of_type ety.now)) (plain_type self.now) }
+        ensures turned { result ≡ type_eq (plain_type self.now) (EntityTypeOf (bytes_of_type ety.now)) }
+    {
+        match self {
+            TermType::Entity { ety: own } => *ety == *own,
+            TermType::Option { .. }
+            | TermType::Bitvec { .. }
+            | TermType::Bool
+            | TermType::Ext { .. }
+            | TermType::String
+            | TermType::Record { .. }
+            | TermType::Set { .. } => false,
+        }
+    }
+
+    // How many bits a value has, where it is a bitvector.
+    pub(crate) fn width(&self) -> Option<Width>
+        ensures { option_map bits_in result ≡ width_in (plain_type self.now) }
+    {
+        match self {
+            TermType::Bitvec { n } => Some(*n),
+            TermType::Option { .. }
+            | TermType::Bool
+            | TermType::Entity { .. }
+            | TermType::Ext { .. }
+            | TermType::String
+            | TermType::Record { .. }
+            | TermType::Set { .. } => { None }
+        }
+    }
+
+    // Whether it is that of sets.
+    pub(crate) fn is_set(&self) -> bool
+        ensures { result ≡ is_set (plain_type self.now) }
+    {
+        match self {
+            TermType::Set { .. } => true,
+            TermType::Option { .. }
+            | TermType::Bitvec { .. }
+            | TermType::Bool
+            | TermType::Entity { .. }
+            | TermType::Ext { .. }
+            | TermType::String
+            | TermType::Record { .. } => false,
+        }
+    }
+
+    // Whether it is that of options of values of this type.
+    pub(crate) fn is_option_of(&self, inner: &TermType) -> bool
+        ensures { result ≡ is_type (inner_type (plain_type self.now)) (plain_type inner.now) }
+    {
+        match self {
+            TermType::Option { ty } => ty.is_same_as(inner),
+            TermType::Bitvec { .. }
+            | TermType::Bool
+            | TermType::Entity { .. }
+            | TermType::Ext { .. }
+            | TermType::String
+            | TermType::Record { .. }
+            | TermType::Set { .. } => { false }
+        }
+    }
+
+    // Whether it is that of records with this attribute.
+    pub(crate) fn has_attribute(&self, name: &Attr) -> bool
+        ensures { result ≡ is_some (attribute_type (rc_str_bytes name.now) (plain_type self.now)) }
+    {
+        match self {
+            TermType::Record { rty } => rty.get(name).is_some(),
+            TermType::Option { .. }
+            | TermType::Bitvec { .. }
+            | TermType::Bool
+            | TermType::Entity { .. }
+            | TermType::Ext { .. }
+            | TermType::String
+            | TermType::Set { .. } => false,
+        }
+    }
+
+    // Whether it is that of records with this attribute, of this type.
+    pub(crate) fn has_attribute_of(&self, name: &Attr, ty: &TermType) -> bool
+        ensures { result ≡ is_type (attribute_type (rc_str_bytes name.now) (plain_type self.now)) (plain_type ty.now) }
+    {
+        match self {
+            TermType::Record { rty } => match rty.get(name) {
+                Some(own) => own.is_same_as(ty),
+                None => false,
+            },
+            TermType::Option { .. }
+            | TermType::Bitvec { .. }
+            | TermType::Bool
+            | TermType::Entity { .. }
+            | TermType::Ext { .. }
+            | TermType::String
+            | TermType::Set { .. } => false,
+        }
+    }
+
+    // Whether a type is that of options of this one.
+    pub(crate) fn is_inside(&self, option: &TermType) -> bool
+        ensures same { result ≡ type_eq (OptionType (plain_type self.now)) (plain_type option.now) }
+        ensures turned { result ≡ type_eq (plain_type option.now) (OptionType (plain_type self.now)) }
+    {
+        match option {
+            TermType::Option { ty } => self.is_same_as(ty),
+            TermType::Bitvec { .. }
+            | TermType::Bool
+            | TermType::Entity { .. }
+            | TermType::Ext { .. }
+            | TermType::String
+            | TermType::Record { .. }
+            | TermType::Set { .. } => { false }
+        }
+    }
+
+    // Whether a type is that of sets of this one.
+    pub(crate) fn is_element_in(&self, set: &TermType) -> bool
+        ensures same { result ≡ type_eq (SetType (plain_type self.now)) (plain_type set.now) }
+        ensures turned { result ≡ type_eq (plain_type set.now) (SetType (plain_type self.now)) }
+    {
+        match set {
+            TermType::Set { ty } => self.is_same_as(ty),
+            TermType::Option { .. }
+            | TermType::Bitvec { .. }
+            | TermType::Bool
+            | TermType::Entity { .. }
+            | TermType::Ext { .. }
+            | TermType::String
+            | TermType::Record { .. } => false,
         }
     }
 }
