@@ -17,7 +17,7 @@ pub at_width : (o : BitsOperator) (n a b : ℕ) → takes_right o b ≡ true →
 at_width o n a b h =
     cond-true (n == n && takes_right o b) (bits_literal n ((bits_entry o).function n a b)) (bits_of_two (BitsOp o) (bits_literal n a) (bits_literal n b)) (and_from (n == n) (takes_right o b) (eq-eqb n n refl) h)
 
-below_power : (w : ℕ) → w < 2 ^ w
+pub below_power : (w : ℕ) → w < 2 ^ w
 below_power zero = omega arith
 below_power (suc w) = let h = below_power w in omega (arith, pow-suc 2 w)
 

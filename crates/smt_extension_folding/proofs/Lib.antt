@@ -1,3 +1,4 @@
+pub mod Alike
 pub mod Blocks
 pub mod Bounds
 pub mod Choices
@@ -6,9 +7,12 @@ pub mod Days
 pub mod Decimals
 pub mod Durations
 pub mod FreeBits
+pub mod FunctionsAlike
 pub mod FunctionsKeep
 pub mod FunctionsStand
 pub mod InLists
 pub mod Longs
 pub mod Moments
+pub mod OfValues
+pub mod RuleTells
 pub mod Shifts

@@ -3,3 +3,5 @@ pub mod ExtensionFunctions
 pub mod Laws
 pub mod Literals
 pub mod Rows
+pub mod Rules
+pub mod Values

@@ -1,6 +1,8 @@
 //! Laws of the functions on values of the extension types, proved with no code.
 ghost use Rattle.smt_extension_folding.specs.Laws.{ContainmentIsTold, DatetimesAreMoved, DatetimesAreSplit, DecimalsAreCompared, DurationsAreMeasured, ExtensionFunctionsAreFolded, FamiliesAreTold, FreeBitsAreCounted, RangesAreBlocks, RangesAreBounded};
 ghost use Rattle.smt_extension_folding.specs.Rows.{DecimalRows, IpRows, TimeRows};
+ghost use Rattle.smt_extension_folding.specs.Rules.{RulesAreKept};
+ghost use Rattle.smt_extension_folding.specs.Values.{ContainmentHasValues, TimesHaveValues};
 
 /// Each function: what it is folded to stands for the application.
 pub fn extension_functions_are_folded()
@@ -28,6 +30,19 @@ pub fn times_are_computed()
     ensures units { DurationsAreMeasured }
     ensures moved { DatetimesAreMoved }
     ensures split { DatetimesAreSplit }
+{}
+
+/// Any terms, in an interpretation: containment is that of the ranges which are their values, and the answer of the arithmetic of
+/// datetimes and durations is that at their values.
+pub fn extension_functions_have_values()
+    ensures containment { ContainmentHasValues }
+    ensures times { TimesHaveValues }
+{}
+
+/// Rules on IP ranges: each family's test with its bounds is one, and by any rule what is built of a term and a list is true
+/// exactly where the term is of the family and lies in one of the list that is.
+pub fn range_rules_are_kept()
+    ensures { RulesAreKept }
 {}
 
 /// Foldings of the functions at chosen literals.

@@ -1,0 +1,105 @@
+-- What the functions answer in an interpretation: what they are folded to at the literals of their arguments' values.
+use Rattle.std.proofs.Common.{◌≡◌, ℕ, List, [], ◌∷◌, map, Option, refl, ap, ◌∙◌, sym, subst, arith}
+use Rattle.std.specs.Prelude.{ℤ, ◌+ℤ◌, ◌-ℤ◌}
+use Rattle.std.specs.List.{AllByRecursion, AllZip}
+use Rattle.smt_ext.specs.IpRanges.{Family, Range, Version4, Version6}
+use Rattle.smt_ext.specs.Milliseconds.{day_start}
+use Rattle.smt_extension_folding.specs.Bounds.{IsRange, as_extension, range_literal}
+use Rattle.smt_extension_folding.specs.ExtensionFunctions.{loopback_v4, loopback_v6, multicast_v4, multicast_v6}
+use Rattle.smt_extension_folding.specs.Laws.{IsSomeWhereLong, IsTruthOf}
+use Rattle.smt_extension_folding.specs.Literals.{datetime, duration}
+use Rattle.smt_extension_folding.specs.Values.{ContainmentHasValues, HasDatetime, HasDuration, HasRange, HasValue, IsSomeIn, Tells, TimesHaveValues}
+use Rattle.smt_extension_folding.proofs.Alike.{Alike, literal}
+use Rattle.smt_extension_folding.proofs.Days.{datetimes_are_split}
+use Rattle.smt_extension_folding.proofs.FunctionsAlike.{date_alike, datetime_alike, duration_alike, in_any_alike, in_literal_alike, offset_alike, since_alike, time_alike}
+use Rattle.smt_extension_folding.proofs.FunctionsStand.{functions_stand}
+use Rattle.smt_extension_folding.proofs.InLists.{containment_is_told}
+use Rattle.smt_extension_folding.proofs.Moments.{datetimes_are_moved}
+use Rattle.smt_folding.specs.FoldExtensions.{extension_literal}
+use Rattle.smt_folding.specs.Refinement.{Refines}
+use Rattle.smt_folding.proofs.Standing.{valued}
+use Rattle.smt_meaning.specs.Formed.{IsFormedExtension}
+use Rattle.smt_meaning.specs.Interpretations.{IsGiven, IsInterpretation}
+use Rattle.smt_meaning.specs.Meaning.{term_value}
+use Rattle.smt_meaning.specs.Plain.{DatetimeKind, DatetimeOf, DurationKind, DurationOf, ExtensionKind, ExtensionLiteral, ExtensionType, IpAddrKind, PlainExtension, PlainTerm, PlainType}
+use Rattle.smt_meaning.specs.Reached.{subterms}
+use Rattle.smt_meaning.specs.Tables.{Interpretation}
+use Rattle.smt_meaning.specs.Types.{kind_of}
+use Rattle.smt_meaning.specs.TypeValues.{Enums}
+use Rattle.smt_meaning.specs.Values.{NoneValue}
+use Rattle.smt_meaning.proofs.Defaults.{all-join}
+use Rattle.smt_meaning.proofs.Soundness.{all-front}
+
+module _ (enums : Enums) (I : Interpretation) where
+  -- the literal of a term's value
+  at_value : (k : ExtensionKind) (x : PlainExtension) (t : PlainTerm) → kind_of x ≡ k → IsFormedExtension x → HasValue I k t x → Alike enums I (ExtensionType k) (extension_literal x) t
+  at_value k x t e f h = record {
+    typed_first = refl;
+    typed_second = h.typed.parts;
+    type_first = ap ExtensionType e;
+    type_second = h.typed.type;
+    formed_first = record { literals = (f, tt); types = ((tt, tt), tt) };
+    formed_second = h.formed;
+    given = λ g. (tt, tt);
+    value = sym h.value ∙ valued I t h.typed.parts;
+  }
+
+  range_kind : (f : Family) (a : ℕ) (p : Option ℕ) → kind_of (as_extension (record { family = f; address = a; prefix = p })) ≡ IpAddrKind
+  range_kind Version4 a p = refl
+  range_kind Version6 a p = refl
+
+  range_formed : (f : Family) (a : ℕ) (p : Option ℕ) → IsRange (record { family = f; address = a; prefix = p }) → IsFormedExtension (as_extension (record { family = f; address = a; prefix = p }))
+  range_formed Version4 a p h = (h.address, h.prefix)
+  range_formed Version6 a p h = (h.address, h.prefix)
+
+  pub at_range : (r : Range) (t : PlainTerm) → HasRange I t r → Alike enums I (ExtensionType IpAddrKind) (range_literal r) t
+  at_range r t h = at_value IpAddrKind (as_extension r) t (range_kind r.family r.address r.prefix) (range_formed r.family r.address r.prefix h.fits) h.range
+
+  at_ranges : (ts : List PlainTerm) (rs : List Range) → AllZip (HasRange I) ts rs → AllZip (Alike enums I (ExtensionType IpAddrKind)) (map range_literal rs) ts
+  at_ranges [] [] z = tt
+  at_ranges (t ∷ ts) (r ∷ rs) z = (at_range r t z.0, at_ranges ts rs z.1)
+  at_ranges [] (r ∷ rs) z = elim z [ ]
+  at_ranges (t ∷ ts) [] z = elim z [ ]
+
+  ranges_fit : (ts : List PlainTerm) (rs : List Range) → AllZip (HasRange I) ts rs → AllByRecursion IsRange rs
+  ranges_fit [] [] z = tt
+  ranges_fit (t ∷ ts) (r ∷ rs) z = (z.0.fits, ranges_fit ts rs z.1)
+  ranges_fit [] (r ∷ rs) z = elim z [ ]
+  ranges_fit (t ∷ ts) [] z = elim z [ ]
+
+  -- the value of a term is that of what the other is folded to
+  pub answered : {ty : PlainType} {u t v : PlainTerm} → Alike enums I ty u t → Refines v u → IsInterpretation enums (t ∷ []) I → term_value I t ≡ term_value I v
+  answered {ty} {u} {t} {v} a s i =
+      let g : IsInterpretation enums (u ∷ []) I = all-join (IsGiven enums I) (subterms u) [] (a.given (all-front (IsGiven enums I) (subterms t) [] i)) tt in
+      valued I t a.typed_second ∙ sym a.value ∙ sym (valued I u a.typed_first) ∙ sym (s.value ty enums I a.formed_first (record { parts = a.typed_first; type = a.type_first }) g)
+
+  told : {u t v : PlainTerm} {ty : PlainType} {P : Type 0} → Alike enums I ty u t → Refines v u → IsInterpretation enums (t ∷ []) I → IsTruthOf v P → Tells I t P
+  told a s i w = record { truth = w.value; value = answered a s i ∙ ap (term_value I) w.literal; says = w.says }
+
+  some_in : {u t v : PlainTerm} {ty : PlainType} (z : ℤ) (valued_by : ℤ → PlainExtension) (none : PlainTerm) → term_value I none ≡ NoneValue → Alike enums I ty u t → Refines v u → IsInterpretation enums (t ∷ []) I → IsSomeWhereLong v z (λ x. extension_literal (valued_by x)) none → IsSomeIn I t z valued_by
+  some_in z valued_by none e a s i w = record { some = λ h. answered a s i ∙ ap (term_value I) (w.some h); none = λ h. answered a s i ∙ ap (term_value I) (w.none h) ∙ e }
+
+  at_datetime : (z : ℤ) (t : PlainTerm) → HasDatetime I t z → Alike enums I (ExtensionType DatetimeKind) (datetime z) t
+  at_datetime z t h = at_value DatetimeKind (DatetimeOf z) t refl h.fits h.datetime
+
+  at_duration : (z : ℤ) (t : PlainTerm) → HasDuration I t z → Alike enums I (ExtensionType DurationKind) (duration z) t
+  at_duration z t h = at_value DurationKind (DurationOf z) t refl h.fits h.duration
+
+  -- a literal beside itself
+  block : (x : PlainExtension) → kind_of x ≡ IpAddrKind → IsFormedExtension x → Alike enums I (ExtensionType IpAddrKind) (extension_literal x) (extension_literal x)
+  block x e f = subst (λ (k : ExtensionKind). Alike enums I (ExtensionType k) (extension_literal x) (extension_literal x)) e (literal enums I (ExtensionLiteral x) f (tt, tt))
+
+pub containment_has_values : ContainmentHasValues
+containment_has_values = record {
+  is_in_range = λ enums I t ts r rs h z i. told enums I (in_any_alike enums I (map range_literal rs) ts (at_range enums I r t h) (at_ranges enums I ts rs z)) (functions_stand.is_in_range (range_literal r) (map range_literal rs)) i (containment_is_told.is_in_range r rs h.fits (ranges_fit enums I ts rs z));
+  is_loopback = λ enums I t r h i. told enums I (in_literal_alike enums I loopback_v4 loopback_v6 (block enums I loopback_v4 refl (omega arith, omega arith)) (block enums I loopback_v6 refl (omega arith, tt)) (at_range enums I r t h)) (functions_stand.is_loopback (range_literal r)) i (containment_is_told.is_loopback r h.fits);
+  is_multicast = λ enums I t r h i. told enums I (in_literal_alike enums I multicast_v4 multicast_v6 (block enums I multicast_v4 refl (omega arith, omega arith)) (block enums I multicast_v6 refl (omega arith, omega arith)) (at_range enums I r t h)) (functions_stand.is_multicast (range_literal r)) i (containment_is_told.is_multicast r h.fits);
+}
+
+pub times_have_values : TimesHaveValues
+times_have_values = record {
+  offset = λ enums I t u z w h k i. some_in enums I (z +ℤ w) DatetimeOf _ refl (offset_alike enums I (datetime_alike enums I (at_datetime enums I z t h)) (duration_alike enums I (at_duration enums I w u k))) (functions_stand.offset (datetime z) (duration w)) i (datetimes_are_moved.offset z w h.fits k.fits);
+  duration_since = λ enums I t u z w h k i. some_in enums I (z -ℤ w) DurationOf _ refl (since_alike enums I (datetime_alike enums I (at_datetime enums I z t h)) (datetime_alike enums I (at_datetime enums I w u k))) (functions_stand.duration_since (datetime z) (datetime w)) i (datetimes_are_moved.duration_since z w h.fits k.fits);
+  to_date = λ enums I t z h i. some_in enums I (day_start z) DatetimeOf _ refl (date_alike enums I (at_datetime enums I z t h)) (functions_stand.to_date (datetime z)) i (datetimes_are_split.date z h.fits);
+  to_time = λ enums I t z h i. answered enums I (time_alike enums I (at_datetime enums I z t h)) (functions_stand.to_time (datetime z)) i ∙ ap (term_value I) (datetimes_are_split.time z h.fits);
+}
