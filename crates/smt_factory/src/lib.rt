@@ -8,7 +8,8 @@
 //! that this is shown once and not at each exit.
 //!
 //! The calls stand in crates by subject, which this one passes on: `smt_connectives`, `smt_equality`, `smt_bit_terms`,
-//! `smt_option_terms`, `smt_collection_terms`, `smt_record_terms`, `smt_function_terms` and `smt_extension_terms`, all over `smt_parts`.
+//! `smt_option_terms`, `smt_collection_terms`, `smt_record_terms`, `smt_function_terms`, `smt_extension_terms` and
+//! `smt_extension_functions`, all over `smt_parts`.
 #![tactic(auto)]
 
 pub use smt_bit_terms::{
@@ -21,6 +22,12 @@ pub use smt_collection_terms::{
 };
 pub use smt_connectives::{and, any_true, implies, laws, not, opposites, or};
 pub use smt_equality::{eq, ite};
+pub use smt_extension_functions::{
+    RangeRule, duration_since, greater_than, greater_than_or_equal, in_range, in_range_lit,
+    in_range_v, ip_term, is_in_range, is_ipv4, is_ipv6, is_loopback, is_multicast, less_than,
+    less_than_or_equal, offset, range_v4, range_v6, subnet_width, to_date, to_days, to_hours,
+    to_milliseconds, to_minutes, to_seconds, to_time,
+};
 pub use smt_extension_terms::{
     ext_datetime_of_bitvec, ext_datetime_val, ext_decimal_val, ext_duration_of_bitvec,
     ext_duration_val, ext_ipaddr_addr_v4, ext_ipaddr_addr_v6, ext_ipaddr_is_v4,

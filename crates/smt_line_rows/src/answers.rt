@@ -1,11 +1,11 @@
 //! Answers as they are printed.
 
 use crate::lines::Answer;
-use crate::spelling::spelling_of;
 use anyhow::Result;
 use smt_encode::EncodeError;
 use smt_term::{TermType, Text};
 use smt_text::quote_id;
+use smt_words::spelling_of;
 use std::alloc::Global;
 
 /// A name that was given, or the refusal.

@@ -2,11 +2,11 @@
 
 use crate::answers::{given, named, refused};
 use crate::lines::answer_by;
-use crate::terms::{function, terms, type_of};
 use anyhow::{Context, Result};
 use smt_encode::Encoder;
 use smt_script::ListSink;
 use smt_term::Term;
+use smt_words::{function, terms, type_of};
 use std::alloc::Global;
 
 /// What the call of this row answers, on one line.

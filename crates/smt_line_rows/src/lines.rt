@@ -1,12 +1,10 @@
 //! The calls that write the lines of one name or one application alone.
 
-use crate::operators::operator;
-use crate::spelling::{pairs, text, texts};
-use crate::terms::{entity, extension_type, type_of, variable};
 use anyhow::{Context, Result, bail};
 use smt_encode::{EncodeError, Encoder};
 use smt_script::ListSink;
-use smt_term::{EntityType, Term, Text};
+use smt_term::{Attr, EntityType, Term, Text};
+use smt_words::{entity, extension_type, operator, text, texts, type_of, variable};
 use std::alloc::Global;
 
 /// What a call answers: a name or a refusal.
@@ -22,7 +20,10 @@ pub(crate) fn answer_by(
 ) -> Result<Answer> {
     match name {
         "declare_entity_type" => declare_entity_type(alloc, encoder, held),
-        "declare_ext_type" => Ok(encoder.declare_ext_type(extension_type(held)?)),
+        "declare_ext_type" => {
+            let xty = extension_type(held).context("no type has this name")?;
+            Ok(encoder.declare_ext_type(xty))
+        }
         "declare_record_type" => declare_record_type(alloc, encoder, held),
         _ => {
             let (first, behind) = held.split_once(':').context("two arguments")?;
@@ -64,6 +65,16 @@ fn declare_record_type(
 ) -> Result<Answer> {
     let attributes = pairs(alloc, attributes)?;
     Ok(encoder.declare_record_type(attributes.as_slice()))
+}
+
+/// Names with sorts, a `=` between the two and a comma behind each pair.
+fn pairs(alloc: Global, spelling: &str) -> Result<Vec<(Attr, Text)>> {
+    let mut pairs = Vec::new(alloc);
+    for word in spelling.split_terminator(',') {
+        let (name, sort) = word.split_once('=').context("a name and a sort")?;
+        pairs.push((text(alloc, name)?, text(alloc, sort)?))?;
+    }
+    Ok(pairs)
 }
 
 /// The declaration of a variable, whose sort stands behind the last colon.

@@ -24,35 +24,42 @@
 //! | `name_of_type:TYPE`, `name_of_uuf:FUNCTION`, `name_of_term TERMS` | the name that the encoder has, or `no name` |
 //! | `term_count` | how many terms have names |
 //!
-//! `TEXTS` are texts with a comma behind each; behind the last, where it has a character, the comma may be left out.
-//! `TERMS` are words with a space between two: `true`, `var:ID:TYPE`, `entity:NAME:ID`, and `not` and `call:FUNCTION` at
-//! the last term. An `OPERATOR` is `and`, `not`, `bvnego`, `get=NAME`, `like=PATTERN`, in which `*` stands for any text, or
-//! `call=FUNCTION`. A `FUNCTION` is `ID`, the type of its argument and that of its values, with a `:` between two, or in an
-//! operator a `=`. A `TYPE` is `bool`, `decimal`, `datetime`, `duration`, `ip`, `@NAME` of entities, `%NAME` of records with this one attribute, a truth value, and
-//! behind a `*` that of sets. In names, ids, sorts, texts and patterns `\u{20}` stands for a space, and so each other
-//! character may be written by its code.
+//! `TERMS` are words with a space between two, as `smt_words` has them, and so are a `TYPE`, a `FUNCTION`, an `OPERATOR` and
+//! `TEXTS`, which stand with a comma behind each; names, ids, sorts and texts have the escapes of a text there.
 #![tactic(auto)]
 
 mod answers;
 mod calls;
 mod lines;
-mod operators;
-mod spelling;
-mod terms;
 
-use anyhow::{Context, Result};
+use anyhow::{Context, Result, bail};
 use smt_encode::Encoder;
 use smt_script::ListSink;
+use smt_term::EnumTable;
+use smt_words::enter;
 use std::alloc::Global;
 use std::fs;
 use std::io::{self, BufWriter, Write};
+
+/// The enum types of an encoder's row.
+fn enum_types(alloc: Global, row: &str) -> Result<EnumTable> {
+    let mut enums = EnumTable::new(alloc);
+    let mut words = row.split(' ');
+    if words.next() != Some("encoder") {
+        bail!("no encoder is named");
+    }
+    for word in words {
+        enter(alloc, &mut enums, word)?;
+    }
+    Ok(enums)
+}
 
 /// Prints the answers of the calls of one encoder, and what its sink has then.
 fn show(alloc: Global, printer: &mut (impl Write + Drop), rows: &str) -> Result<()> {
     let mut rows = rows.lines();
     let first = rows.next().context("no encoder is named")?;
     writeln!(printer, "> {first}")?;
-    let enums = terms::enum_types(alloc, first)?;
+    let enums = enum_types(alloc, first)?;
     let mut encoder = Encoder::new(alloc, &enums, ListSink::new(alloc));
     for row in rows {
         let answer = calls::answer_of(alloc, &mut encoder, row)?;

@@ -1,10 +1,10 @@
 //! Labels as rows spell them: a word, and behind a colon what the label holds.
 
-use crate::terms::byte_function;
 use anyhow::{Context, Result, bail};
-use smt_bits::{BitVec, EIGHT, Width};
+use smt_bits::Width;
 use smt_nodes::{AttrList, Label};
-use smt_term::{Op, TermPrim, Text};
+use smt_term::{Term, TermPrim};
+use smt_words::{extension_type, one, operator, terms, text, texts};
 use std::alloc::Global;
 
 /// The label of this spelling.
@@ -14,32 +14,32 @@ pub(crate) fn label(alloc: Global, spelling: &str) -> Result<Label> {
         "bits" => Label::TBitvec(Width::new(held.parse()?).context("no width")?),
         "bool" => Label::TBool,
         "string" => Label::TString,
+        "ext" => Label::TExt(extension_type(held).context("no type has this name")?),
         "option" => Label::TOption,
         "set" => Label::TSet,
         "record" => Label::TRecord(names(alloc, held)?),
         "record_of" => Label::RecordOf(names(alloc, held)?),
-        "fun" => Label::Fun(Text::from_str(alloc, held)?),
-        "add" => Label::App(Op::Bvadd),
-        "neg" => Label::App(Op::Bvneg),
-        "extend" => Label::App(Op::ZeroExtend(held.parse()?)),
-        "uuf" => Label::App(byte_function(alloc, held)?),
+        "fun" => Label::Fun(text(alloc, held)?),
+        "app" => Label::App(operator(alloc, held)?),
         "call" => Label::Call,
         "none" => Label::NoneOf,
-        "byte" => Label::Prim(TermPrim::Bitvec(BitVec::of_nat(EIGHT, held.parse()?))),
-        "true" => Label::Prim(TermPrim::Bool(true)),
-        "text" => Label::Prim(TermPrim::String(Text::from_str(alloc, held)?)),
+        "prim" => Label::Prim(literal(alloc, held)?),
         "set_of" => Label::SetOf,
         "some" => Label::SomeOf,
-        "var" => Label::Var(Text::from_str(alloc, held)?),
+        "var" => Label::Var(text(alloc, held)?),
         _ => bail!("no label has this spelling"),
     })
 }
 
-/// Attributes, with a comma between two of them.
-fn names(alloc: Global, held: &str) -> Result<AttrList> {
-    let mut names = Vec::new(alloc);
-    for name in held.split_terminator(',') {
-        names.push(Text::from_str(alloc, name)?)?;
+/// The literal of this word.
+fn literal(alloc: Global, word: &str) -> Result<TermPrim> {
+    match one(&mut terms(alloc, word)?)? {
+        Term::Prim(literal) => Ok(literal),
+        _ => bail!("the term is no literal"),
     }
-    Ok(AttrList::new(alloc, names.as_slice())?)
+}
+
+/// Attributes.
+fn names(alloc: Global, held: &str) -> Result<AttrList> {
+    Ok(AttrList::new(alloc, texts(alloc, held)?.as_slice())?)
 }

@@ -1,19 +1,31 @@
 //! `smt_node_rows`: the numbers of nodes and of terms, for each row of the files in `data/`, each over an interner of its own.
 //!
-//! A row is a node's label and the places of its parts, or a term behind the word `term`, or behind `find` where it is to be
-//! found alone. What is printed is the row and the number that it gets, and `stdout` has the numbers that there should be.
+//! A row is a node's label and the places of its parts, or the words of a term behind the word `term`, or behind `find` where it
+//! is to be found alone. Of the terms that the words leave the last one is meant. What is printed is the row and the number that
+//! it gets, and `stdout` has the numbers that there should be.
+//!
+//! | Label | What it is |
+//! |---|---|
+//! | `bits:WIDTH`, `bool`, `string`, `ext:NAME`, `option`, `set`, `record:NAME,NAME` | that of a type |
+//! | `fun:ID`, `call` | that of an uninterpreted function, and of its application |
+//! | `app:OPERATOR` | that of an application of the operator |
+//! | `prim:WORD`, `var:ID` | that of a literal, by its word, and of a variable |
+//! | `none`, `some`, `set_of`, `record_of:NAME,NAME` | that of none of an option, of some, of a set and of a record of terms |
+//!
+//! The words for terms, and how names, ids and operators are spelled, are those of `smt_words`.
 #![tactic(auto)]
 
 mod labels;
-mod terms;
 
 use anyhow::{Context, Result};
 use smt_nodes::{IdList, Interner, Label, Node, NodeId};
+use smt_term::Term;
+use smt_words::{one, terms};
 use std::alloc::Global;
 use std::fs;
 
 /// The files of rows.
-const FILES: [&str; 7] = [
+const FILES: [&str; 8] = [
     "sums",
     "terms",
     "found",
@@ -21,6 +33,7 @@ const FILES: [&str; 7] = [
     "nodes",
     "functions",
     "records",
+    "extensions",
 ];
 
 /// How many places a row can name.
@@ -80,16 +93,21 @@ fn placed(alloc: Global, nodes: &Interner, id: Option<NodeId>, none: &str) -> Re
     })
 }
 
+/// The last term of these words.
+fn term(alloc: Global, words: &str) -> Result<Term> {
+    one(&mut terms(alloc, words)?)
+}
+
 /// What a row gets: its number and how many nodes there are then, and for a term that is entered how many parts its node has.
 fn answer(alloc: Global, nodes: &mut Interner, numbers: &[NodeId], row: &str) -> Result<String> {
     let (label, rest) = row.split_once(' ').unwrap_or((row, ""));
     match label {
         "find" => {
-            let id = nodes.find(&terms::term(alloc, rest)?);
+            let id = nodes.find(&term(alloc, rest)?);
             placed(alloc, nodes, id, "not found")
         }
         "term" => {
-            let id = nodes.intern(&terms::term(alloc, rest)?)?;
+            let id = nodes.intern(&term(alloc, rest)?)?;
             let parts = nodes.node(id).context("no node")?.parts.len();
             let place = placed(alloc, nodes, Some(id), "")?;
             Ok(format!(in alloc; "{place}, {parts} parts")?)

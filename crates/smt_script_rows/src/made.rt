@@ -1,21 +1,19 @@
 //! Terms as the calls of the factory make them.
 
-use crate::operators::extension_operator;
-use crate::spelling::{pattern, text};
-use crate::words::function;
 use anyhow::{Context, Result, bail};
 use smt_factory::{and, app, bvlshr, bvslt, eq, extension, record_get, set_member, string_like};
 use smt_term::{Term, UnaryFunction};
+use smt_words::{extension_operator, function, one, pattern, text};
 use std::alloc::Global;
 use std::rc::Rc;
 
 /// What the call of this name makes of the last terms and of what stands behind the colon.
 pub(crate) fn made(alloc: Global, terms: &mut Vec<Term>, spelling: &str) -> Result<Term> {
     let (call, held) = spelling.split_once(':').unwrap_or((spelling, ""));
-    let last = terms.pop().context("no term is left")?;
+    let last = one(terms)?;
     match call {
         "app" => {
-            let function = UnaryFunction::Uuf(Rc::new(alloc, function(alloc, held)?)?);
+            let function = UnaryFunction::Uuf(Rc::new(alloc, function(alloc, held, ':')?)?);
             Ok(app(alloc, function, last)?)
         }
         "extension" => {
@@ -24,7 +22,7 @@ pub(crate) fn made(alloc: Global, terms: &mut Vec<Term>, spelling: &str) -> Resu
         }
         "record_get" => Ok(record_get(alloc, last, &text(alloc, held)?)?),
         "string_like" => Ok(string_like(alloc, last, pattern(alloc, held)?)?),
-        _ => made_of_two(alloc, call, terms.pop().context("too few terms")?, last),
+        _ => made_of_two(alloc, call, one(terms)?, last),
     }
 }
 

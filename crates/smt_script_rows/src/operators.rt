@@ -1,69 +1,10 @@
-//! Operators by their names, at the last terms of a row.
+//! Operators at the last terms of a row.
 
-use crate::words::taken;
 use anyhow::{Context, Result, bail};
 use smt_bits::{FIVE, HUNDRED_TWENTY_EIGHT, SEVEN, SIXTY_FOUR, THIRTY_TWO, Width};
-use smt_term::{ExtOp, ExtType, Op, Term, TermList, TermType};
+use smt_term::{Attr, ExtOp, ExtType, Op, Term, TermList, TermType};
+use smt_words::taken;
 use std::alloc::Global;
-
-/// The operator of this name, by which jobs call it too, where the name says all of it.
-pub(crate) fn operator(name: &str) -> Option<Op> {
-    Some(match name {
-        "and" => Op::And,
-        "or" => Op::Or,
-        "not" => Op::Not,
-        "ite" => Op::Ite,
-        "eq" => Op::Eq,
-        "option.get" => Op::OptionGet,
-        "set.member" => Op::SetMember,
-        "set.subset" => Op::SetSubset,
-        "set.inter" => Op::SetInter,
-        _ => return bit_operator(name).or_else(|| extension_operator(name).map(Op::Ext)),
-    })
-}
-
-/// The operator on bitvectors of this name.
-fn bit_operator(name: &str) -> Option<Op> {
-    Some(match name {
-        "bvadd" => Op::Bvadd,
-        "bvsub" => Op::Bvsub,
-        "bvmul" => Op::Bvmul,
-        "bvneg" => Op::Bvneg,
-        "bvudiv" => Op::Bvudiv,
-        "bvurem" => Op::Bvurem,
-        "bvsdiv" => Op::Bvsdiv,
-        "bvsrem" => Op::Bvsrem,
-        "bvsmod" => Op::Bvsmod,
-        "bvshl" => Op::Bvshl,
-        "bvlshr" => Op::Bvlshr,
-        "bvult" => Op::Bvult,
-        "bvule" => Op::Bvule,
-        "bvslt" => Op::Bvslt,
-        "bvsle" => Op::Bvsle,
-        "bvnego" => Op::Bvnego,
-        "bvsaddo" => Op::Bvsaddo,
-        "bvssubo" => Op::Bvssubo,
-        "bvsmulo" => Op::Bvsmulo,
-        _ => return None,
-    })
-}
-
-/// The operator of the extension types of this name.
-pub(crate) fn extension_operator(name: &str) -> Option<ExtOp> {
-    Some(match name {
-        "datetime.ofBitVec" => ExtOp::DatetimeOfBitVec,
-        "datetime.val" => ExtOp::DatetimeVal,
-        "decimal.val" => ExtOp::DecimalVal,
-        "duration.ofBitVec" => ExtOp::DurationOfBitVec,
-        "duration.val" => ExtOp::DurationVal,
-        "ipaddr.addrV4" => ExtOp::IpaddrAddrV4,
-        "ipaddr.addrV6" => ExtOp::IpaddrAddrV6,
-        "ipaddr.isV4" => ExtOp::IpaddrIsV4,
-        "ipaddr.prefixV4" => ExtOp::IpaddrPrefixV4,
-        "ipaddr.prefixV6" => ExtOp::IpaddrPrefixV6,
-        _ => return None,
-    })
-}
 
 /// The operator at its arguments, which are the last terms.
 pub(crate) fn applied(alloc: Global, terms: &mut Vec<Term>, op: Op) -> Result<Term> {
@@ -83,6 +24,7 @@ fn count_of_arguments(op: &Op) -> usize {
         | Op::Bvneg
         | Op::Bvnego
         | Op::Ext(_)
+        | Op::RecordGet(_)
         | Op::ZeroExtend(_)
         | Op::StringLike(_) => 1,
         Op::Ite => 3,
@@ -97,12 +39,23 @@ fn type_of_result(alloc: Global, op: &Op, args: &[Term]) -> Result<TermType> {
             TermType::Option { ty } => Ok(ty.share()?),
             _ => bail!("the argument is no option"),
         },
+        (Op::RecordGet(name), [record, ..]) => type_of_attribute(alloc, record, name),
         (Op::Ext(op), _) => extension_result(alloc, *op),
         (Op::ZeroExtend(count), [bits, ..]) => longer(&bits.type_of(alloc)?, *count),
         (Op::Ite, [_, chosen, ..]) => Ok(chosen.type_of(alloc)?),
         (_, [first, ..]) if keeps_type(op) => Ok(first.type_of(alloc)?),
         _ => Ok(TermType::Bool),
     }
+}
+
+/// The type of this attribute of a term, that of truth values where the term does not have it.
+fn type_of_attribute(alloc: Global, record: &Term, name: &Attr) -> Result<TermType> {
+    if let TermType::Record { rty } = record.type_of(alloc)? {
+        if let Some(ty) = rty.get(name) {
+            return Ok(ty.share()?);
+        }
+    }
+    Ok(TermType::Bool)
 }
 
 /// The type that an operator of the extension types gives.

@@ -3,7 +3,6 @@ ghost use Rattle.std.specs.Prelude.{◌≡◌, ◌<◌, IfOk, map};
 ghost use Rattle.smt_nodes.specs.Interned.{StandFor};
 ghost use Rattle.smt_term.specs.View.{plain_term};
 
-use crate::spelling::spelling_of;
 use crate::words::Row;
 use anyhow::Result;
 use smt_encode::{EncodeError, Encoder, Steps};
@@ -11,6 +10,7 @@ use smt_nodes::{Interner, NodeId};
 use smt_script::ListSink;
 use smt_term::{Term, TermError, TermType};
 use smt_text::quote_id;
+use smt_words::spelling_of;
 use std::alloc::Global;
 use std::io::Write;
 use std::marker::Brand;

@@ -2,11 +2,10 @@
 
 use crate::asked_types;
 use crate::printed::{put_term, put_type};
-use crate::stack::pairs;
-use crate::types::{operator, type_of};
 use anyhow::{Context, Result, bail};
 use smt_factory::opposites;
-use smt_term::{Op, Term, TermList, TermTable, TermType, Text};
+use smt_term::{Op, Term, TermList, TermTable, TermType};
+use smt_words::{operator, pairs, text, type_of};
 use std::alloc::Global;
 
 /// Types of which a term has at most one.
@@ -14,31 +13,33 @@ const DISTINCT: [&str; 13] = [
     "bool", "1", "8", "64", "128", "string", "@a", "@b", "?8", ".bool", "*8", "*string", "*?string",
 ];
 
-/// Puts the answer of a word by its head and what it holds behind the colon.
-pub(crate) fn put_answer(
+/// The answer of a word by its head and what it holds behind the colon, None where no question has this head.
+pub(crate) fn answer(
     alloc: Global,
-    out: &mut String,
     terms: &[Term],
     head: &str,
     held: &str,
-) -> Result<()> {
+) -> Result<Option<String>> {
+    let mut out = String::new(alloc);
     if let Some(truth) = truth(alloc, terms, head, held)? {
-        return Ok(write!(out, "{truth}")?);
+        write!(out, "{truth}")?;
+        return Ok(Some(out));
     }
     match head {
-        "type_of" => put_type(out, &last(terms)?.type_of(alloc)?),
-        "type_of_literal" => put_type_of_literal(out, last(terms)?),
-        "has_types" => put_types_of(alloc, out, last(terms)?),
-        "size" => put_size(out, last(terms)?),
-        "at" => put_fields(alloc, out, last(terms)?, held),
+        "type_of" => put_type(&mut out, &last(terms)?.type_of(alloc)?)?,
+        "type_of_literal" => put_type_of_literal(&mut out, last(terms)?)?,
+        "has_types" => put_types_of(alloc, &mut out, last(terms)?)?,
+        "size" => put_size(&mut out, last(terms)?)?,
+        "at" => put_fields(alloc, &mut out, last(terms)?, held)?,
         "compare" => {
             let (a, b) = last_two(terms)?;
-            Ok(out.push_str(order(a, b))?)
+            out.push_str(order(a, b))?;
         }
-        "typed_as" => put_types_given(alloc, out, terms, held),
-        "table" => put_table(alloc, out, terms, held.parse()?),
-        _ => asked_types::put_answer(alloc, out, head, held),
+        "typed_as" => put_types_given(alloc, &mut out, terms, held)?,
+        "table" => put_table(alloc, &mut out, terms, held.parse()?)?,
+        _ => return asked_types::answer(alloc, head, held),
     }
+    Ok(Some(out))
 }
 
 /// Whether it is as a word asks, None where no such question has this head.
@@ -152,7 +153,7 @@ fn put_fields(alloc: Global, out: &mut String, term: &Term, names: &str) -> Resu
     };
     out.push_str("(found")?;
     for name in names.split(',') {
-        put_found(out, fields.get(&Text::from_str(alloc, name)?))?;
+        put_found(out, fields.get(&text(alloc, name)?))?;
     }
     Ok(out.push(')')?)
 }

@@ -2,39 +2,39 @@
 
 use crate::asked::order;
 use crate::printed::put_type;
-use crate::types::{operator, type_of};
 use anyhow::{Context, Result, bail};
-use smt_term::{EntityType, TermType, Text, TypeMap};
+use smt_term::{EntityType, TermType, TypeMap};
+use smt_words::{operator, text, type_of};
 use std::alloc::Global;
 
-/// Puts the answer of a word by its head and what it holds behind the colon.
-pub(crate) fn put_answer(alloc: Global, out: &mut String, head: &str, held: &str) -> Result<()> {
+/// The answer of a word by its head and what it holds behind the colon, None where no question has this head.
+pub(crate) fn answer(alloc: Global, head: &str, held: &str) -> Result<Option<String>> {
+    let mut out = String::new(alloc);
     match head {
-        "type" => put_type(out, &type_of(alloc, held)?),
-        "tag_for" => put_type(
-            out,
-            &TermType::tag_for(alloc, EntityType(Text::from_str(alloc, held)?))?,
-        ),
-        "kinds" => put_kinds(out, &type_of(alloc, held)?),
-        "shared_type" => put_whether_shared(out, &type_of(alloc, held)?),
-        "size_of_type" => put_size(out, &types_in(type_of(alloc, held)?)?),
+        "type" => put_type(&mut out, &type_of(alloc, held)?)?,
+        "tag_for" => {
+            let ety = EntityType(text(alloc, held)?);
+            put_type(&mut out, &TermType::tag_for(alloc, ety)?)?;
+        }
+        "kinds" => put_kinds(&mut out, &type_of(alloc, held)?)?,
+        "shared_type" => put_whether_shared(&mut out, &type_of(alloc, held)?)?,
+        "size_of_type" => put_size(&mut out, &types_in(type_of(alloc, held)?)?)?,
         "type_at" => {
             let (names, ty) = held.split_once(':').context("attributes and a type")?;
-            put_types(alloc, out, &types_in(type_of(alloc, ty)?)?, names)
+            put_types(alloc, &mut out, &types_in(type_of(alloc, ty)?)?, names)?;
         }
         "compare_types" => {
             let (a, b) = held.split_once(':').context("two types")?;
-            let (a, b) = (type_of(alloc, a)?, type_of(alloc, b)?);
-            Ok(out.push_str(order(&a, &b))?)
+            out.push_str(order(&type_of(alloc, a)?, &type_of(alloc, b)?))?;
         }
-        "operator" => put_name(alloc, out, held),
+        "operator" => put_name(alloc, &mut out, held)?,
         "compare_operators" => {
             let (a, b) = held.split_once(':').context("two operators")?;
-            let (a, b) = (operator(alloc, a)?, operator(alloc, b)?);
-            Ok(out.push_str(order(&a, &b))?)
+            out.push_str(order(&operator(alloc, a)?, &operator(alloc, b)?))?;
         }
-        _ => bail!("no word has this head"),
+        _ => return Ok(None),
     }
+    Ok(Some(out))
 }
 
 /// Puts whether a type is primitive, one of entities, one of records, one of options, and one of options of entities.
@@ -69,7 +69,7 @@ fn put_types(alloc: Global, out: &mut String, types: &TypeMap, names: &str) -> R
     out.push_str("(found")?;
     for name in names.split(',') {
         out.push(' ')?;
-        match types.get(&Text::from_str(alloc, name)?) {
+        match types.get(&text(alloc, name)?) {
             Some(ty) => put_type(out, ty)?,
             None => out.push_str("nothing")?,
         }

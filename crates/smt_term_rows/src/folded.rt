@@ -1,100 +1,89 @@
 //! Words for the calls of the factory, which fold.
 
-use crate::stack::{fields, one, pairs, taken, two};
-use crate::types::{pattern, type_of};
-use anyhow::{Context, Result};
+use anyhow::{Context, Result, bail};
 use smt_bits::{BitVec, Int};
 use smt_factory::*;
-use smt_term::{Op, Term, TermError, TermTable, Text, Udf, UnaryFunction, Uuf};
+use smt_term::{Op, Term, TermError, TermTable, Udf, UnaryFunction};
+use smt_words::{fields, function, one, pairs, pattern, taken, text, two, type_of};
 use std::alloc::Global;
 use std::rc::Rc;
 
-/// The term of a word by its head and what it holds behind the colon, None where no call has this head.
-pub(crate) fn term(
-    alloc: Global,
-    terms: &mut Vec<Term>,
-    head: &str,
-    held: &str,
-) -> Result<Option<Term>> {
-    if let Some(term) = of_core(alloc, terms, head)? {
-        return Ok(Some(term));
+/// The term of a word by its head and what it holds behind the colon.
+pub(crate) fn term(alloc: Global, terms: &mut Vec<Term>, head: &str, held: &str) -> Result<Term> {
+    match head {
+        "none_of" => Ok(none_of(type_of(alloc, held)?)),
+        "record_of" => Ok(record_of(alloc, fields(alloc, terms, held)?.as_slice())?),
+        "set_of" => set(alloc, terms, held),
+        "any_negated" => Ok(any_negated(alloc, taken(terms, held.parse()?)?.as_slice())?),
+        "any_none" => Ok(any_none(alloc, taken(terms, held.parse()?)?.as_slice())?),
+        "app_of_table" => app_of_table(alloc, terms, held),
+        _ => {
+            let last = one(terms)?;
+            match head {
+                "if_all_some" => {
+                    let options = taken(terms, held.parse()?)?;
+                    Ok(if_all_some(alloc, options.as_slice(), last)?)
+                }
+                "app_of" => {
+                    let function = Rc::new(alloc, function(alloc, held, ':')?)?;
+                    Ok(app(alloc, UnaryFunction::Uuf(function), last)?)
+                }
+                "record_get" => Ok(record_get(alloc, last, &text(alloc, held)?)?),
+                "string_like" => Ok(string_like(alloc, last, pattern(alloc, held)?)?),
+                _ => of_last(alloc, terms, head, last),
+            }
+        }
     }
-    if let Some(term) = of_bits(alloc, terms, head)? {
-        return Ok(Some(term));
-    }
-    if let Some(term) = of_options(alloc, terms, head)? {
-        return Ok(Some(term));
-    }
-    if let Some(term) = of_sets(alloc, terms, head)? {
-        return Ok(Some(term));
-    }
-    if let Some(term) = of_many(alloc, terms, head, held)? {
-        return Ok(Some(term));
-    }
-    if let Some(term) = of_extensions(alloc, terms, head)? {
-        return Ok(Some(term));
-    }
-    of_held(alloc, terms, head, held)
 }
 
-/// Operators of the extension types.
-fn of_extensions(alloc: Global, terms: &mut Vec<Term>, head: &str) -> Result<Option<Term>> {
-    Ok(Some(match head {
-        "ext_decimal_val" => ext_decimal_val(alloc, one(terms)?)?,
-        "ext_datetime_val" => ext_datetime_val(alloc, one(terms)?)?,
-        "ext_duration_val" => ext_duration_val(alloc, one(terms)?)?,
-        "ext_ipaddr_is_v4" => ext_ipaddr_is_v4(alloc, one(terms)?)?,
-        "ext_ipaddr_addr_v4" => ext_ipaddr_addr_v4(alloc, one(terms)?)?,
-        "ext_ipaddr_addr_v6" => ext_ipaddr_addr_v6(alloc, one(terms)?)?,
-        "ext_ipaddr_prefix_v4" => ext_ipaddr_prefix_v4(alloc, one(terms)?)?,
-        "ext_ipaddr_prefix_v6" => ext_ipaddr_prefix_v6(alloc, one(terms)?)?,
-        "ext_datetime_of_bitvec" => ext_datetime_of_bitvec(alloc, one(terms)?)?,
-        "ext_duration_of_bitvec" => ext_duration_of_bitvec(alloc, one(terms)?)?,
-        _ => return Ok(None),
-    }))
-}
-
-/// Connectives, equality and choice.
-fn of_core(alloc: Global, terms: &mut Vec<Term>, head: &str) -> Result<Option<Term>> {
-    Ok(Some(match head {
-        "not" => not(alloc, one(terms)?)?,
-        "or" => {
-            let (a, b) = two(terms)?;
-            or(alloc, a, b)?
-        }
-        "implies" => {
-            let (a, b) = two(terms)?;
-            implies(alloc, a, b)?
-        }
-        "eq" => {
-            let (a, b) = two(terms)?;
-            eq(alloc, a, b)?
-        }
+/// The call of this name at the last term, or at this and those before it.
+fn of_last(alloc: Global, terms: &mut Vec<Term>, head: &str, last: Term) -> Result<Term> {
+    let folded = match head {
+        "not" => not(alloc, last),
+        "some_of" => some_of(alloc, last),
+        "option_get" => option_get(alloc, last),
+        "is_none" => is_none(alloc, last),
+        "is_some" => is_some(alloc, last),
+        "set_is_empty" => set_is_empty(alloc, last),
+        "ext_decimal_val" => ext_decimal_val(alloc, last),
+        "ext_datetime_val" => ext_datetime_val(alloc, last),
+        "ext_duration_val" => ext_duration_val(alloc, last),
+        "ext_ipaddr_is_v4" => ext_ipaddr_is_v4(alloc, last),
+        "ext_ipaddr_addr_v4" => ext_ipaddr_addr_v4(alloc, last),
+        "ext_ipaddr_addr_v6" => ext_ipaddr_addr_v6(alloc, last),
+        "ext_ipaddr_prefix_v4" => ext_ipaddr_prefix_v4(alloc, last),
+        "ext_ipaddr_prefix_v6" => ext_ipaddr_prefix_v6(alloc, last),
+        "ext_datetime_of_bitvec" => ext_datetime_of_bitvec(alloc, last),
+        "ext_duration_of_bitvec" => ext_duration_of_bitvec(alloc, last),
         "ite" => {
-            let (a, b) = two(terms)?;
-            ite(alloc, one(terms)?, a, b)?
+            let (test, chosen) = two(terms)?;
+            ite(alloc, test, chosen, last)
         }
-        _ => return Ok(None),
-    }))
+        _ => return of_two(alloc, head, one(terms)?, last),
+    };
+    Ok(folded?)
 }
 
-/// Operators on bitvectors by what answers their values: a rule, a call, and a call that never answers.
-fn of_bits(alloc: Global, terms: &mut Vec<Term>, head: &str) -> Result<Option<Term>> {
-    Ok(Some(match head {
-        "bvapp_by" => {
-            let (a, b) = two(terms)?;
-            sum_by_rule(alloc, a, b)?
-        }
-        "bvapp" => {
-            let (a, b) = two(terms)?;
-            difference(alloc, a, b)?
-        }
-        "bvso" => {
-            let (a, b) = two(terms)?;
-            overflow_by_none(alloc, a, b)?
-        }
-        _ => return Ok(None),
-    }))
+/// The call of this name at two terms.
+fn of_two(alloc: Global, head: &str, a: Term, b: Term) -> Result<Term> {
+    let folded = match head {
+        "or" => or(alloc, a, b),
+        "implies" => implies(alloc, a, b),
+        "eq" => eq(alloc, a, b),
+        "if_true" => if_true(alloc, a, b),
+        "if_false" => if_false(alloc, a, b),
+        "if_some" => if_some(alloc, a, b),
+        "set_member" => set_member(alloc, a, b),
+        "set_subset" => set_subset(alloc, a, b),
+        "set_inter" => set_inter(alloc, a, b),
+        "set_intersects" => set_intersects(alloc, a, b),
+        "tag_of" => tag_of(alloc, a, b),
+        "bvapp_by" => sum_by_rule(alloc, a, b),
+        "bvapp" => difference(alloc, a, b),
+        "bvso" => overflow_by_none(alloc, a, b),
+        _ => bail!("no word has this head"),
+    };
+    Ok(folded?)
 }
 
 /// What the rule of sums gives.
@@ -115,88 +104,10 @@ fn overflow_by_none(alloc: Global, a: Term, b: Term) -> Result<Term, TermError> 
     bvso(alloc, Op::Bvsaddo, &never, a, b)
 }
 
-/// Options, and what is given where options hold something.
-fn of_options(alloc: Global, terms: &mut Vec<Term>, head: &str) -> Result<Option<Term>> {
-    Ok(Some(match head {
-        "some_of" => some_of(alloc, one(terms)?)?,
-        "option_get" => option_get(alloc, one(terms)?)?,
-        "is_none" => is_none(alloc, one(terms)?)?,
-        "is_some" => is_some(alloc, one(terms)?)?,
-        "if_true" => {
-            let (a, b) = two(terms)?;
-            if_true(alloc, a, b)?
-        }
-        "if_false" => {
-            let (a, b) = two(terms)?;
-            if_false(alloc, a, b)?
-        }
-        "if_some" => {
-            let (a, b) = two(terms)?;
-            if_some(alloc, a, b)?
-        }
-        _ => return Ok(None),
-    }))
-}
-
-/// Sets.
-fn of_sets(alloc: Global, terms: &mut Vec<Term>, head: &str) -> Result<Option<Term>> {
-    Ok(Some(match head {
-        "set_member" => {
-            let (a, b) = two(terms)?;
-            set_member(alloc, a, b)?
-        }
-        "set_subset" => {
-            let (a, b) = two(terms)?;
-            set_subset(alloc, a, b)?
-        }
-        "set_inter" => {
-            let (a, b) = two(terms)?;
-            set_inter(alloc, a, b)?
-        }
-        "set_intersects" => {
-            let (a, b) = two(terms)?;
-            set_intersects(alloc, a, b)?
-        }
-        "set_is_empty" => set_is_empty(alloc, one(terms)?)?,
-        _ => return Ok(None),
-    }))
-}
-
-/// Calls at as many terms as the word says.
-fn of_many(alloc: Global, terms: &mut Vec<Term>, head: &str, count: &str) -> Result<Option<Term>> {
-    Ok(Some(match head {
-        "any_negated" => any_negated(alloc, taken(terms, count.parse()?)?.as_slice())?,
-        "any_none" => any_none(alloc, taken(terms, count.parse()?)?.as_slice())?,
-        "if_all_some" => {
-            let value = one(terms)?;
-            if_all_some(alloc, taken(terms, count.parse()?)?.as_slice(), value)?
-        }
-        _ => return Ok(None),
-    }))
-}
-
 /// The disjunction of the negations of these terms.
 fn any_negated(alloc: Global, terms: &[Term]) -> Result<Term, TermError> {
     let negated = |t: Term| not(alloc, t);
     any_true(alloc, &negated, terms)
-}
-
-/// Calls that are given a type, a pattern, attributes or a function besides terms.
-fn of_held(alloc: Global, terms: &mut Vec<Term>, head: &str, held: &str) -> Result<Option<Term>> {
-    Ok(Some(match head {
-        "none_of" => none_of(type_of(alloc, held)?),
-        "set_of" => set(alloc, terms, held)?,
-        "string_like" => string_like(alloc, one(terms)?, pattern(alloc, held)?)?,
-        "record_of" => record_of(alloc, fields(alloc, terms, held)?.as_slice())?,
-        "record_get" => record_get(alloc, one(terms)?, &Text::from_str(alloc, held)?)?,
-        "tag_of" => {
-            let (entity, tag) = two(terms)?;
-            tag_of(alloc, entity, tag)?
-        }
-        "call" => call(alloc, terms, held)?,
-        "call_table" => call_table(alloc, terms, held)?,
-        _ => return Ok(None),
-    }))
 }
 
 /// The set of so many last terms, by this count and the type of elements.
@@ -206,22 +117,9 @@ fn set(alloc: Global, terms: &mut Vec<Term>, spelling: &str) -> Result<Term> {
     Ok(set_of(alloc, elements.as_slice(), type_of(alloc, ty)?)?)
 }
 
-/// An uninterpreted function at the last term, by its id, the type of its argument and that of its values.
-fn call(alloc: Global, terms: &mut Vec<Term>, spelling: &str) -> Result<Term> {
-    let (id, types) = spelling.split_once(':').context("an id and two types")?;
-    let (arg, out) = types.split_once(':').context("two types")?;
-    let function = Uuf {
-        id: Text::from_str(alloc, id)?,
-        arg: type_of(alloc, arg)?,
-        out: type_of(alloc, out)?,
-    };
-    let function = UnaryFunction::Uuf(Rc::new(alloc, function)?);
-    Ok(app(alloc, function, one(terms)?)?)
-}
-
 /// A function at the last term that so many pairs of terms before it define, with the term before these elsewhere, by this
 /// count, the type of its argument and that of its values.
-fn call_table(alloc: Global, terms: &mut Vec<Term>, spelling: &str) -> Result<Term> {
+fn app_of_table(alloc: Global, terms: &mut Vec<Term>, spelling: &str) -> Result<Term> {
     let (count, types) = spelling.split_once(':').context("a count and two types")?;
     let (arg, out) = types.split_once(':').context("two types")?;
     let count: usize = count.parse()?;

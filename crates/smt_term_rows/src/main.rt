@@ -5,16 +5,7 @@
 //! between two. A word leaves a term on a stack, or asks about what is there. Of a row that asks nothing the terms that it leaves
 //! are printed, so that no two terms are printed alike.
 //!
-//! These words leave terms as they are:
-//!
-//! | Word | What it says |
-//! |---|---|
-//! | `true`, `false`, `int:NUMBER`, `byte:NUMBER`, `bits:WIDTH:NUMBER` | a literal: `int` of 64 bits with sign, `byte` of 8 bits |
-//! | `text:CHARACTERS`, `entity:NAME:ID` | a text, and an entity of the type of this name |
-//! | `decimal:TEXT`, `datetime:TEXT`, `duration:TEXT`, `ip:TEXT` | a value of an extension type, by its text |
-//! | `var:ID:TYPE`, `none:TYPE` | a variable, and none of an option of this type |
-//! | `some`, `set:COUNT:TYPE`, `record:NAME,NAME` | some of the last term, the set of so many last terms, each of this type, and the record of these attributes with the last terms in order |
-//! | `app:OPERATOR:COUNT:TYPE` | the operator at so many last terms, which claims this type |
+//! What a word of `smt_words` says is said there: texts, types, operators, and the words that leave terms as they are.
 //!
 //! These words call the factory, which folds:
 //!
@@ -26,8 +17,18 @@
 //! | `any_none:COUNT`, `if_all_some:COUNT` | the call of this name at so many last terms, of `if_all_some` those before the last one |
 //! | `any_negated:COUNT` | `any_true` of `not`, at so many last terms |
 //! | `bvapp_by`, `bvapp`, `bvso` | the sum by the rule of `BitVec::add`, the difference by `BitVec::sub`, and the overflow test of the sum by a call that always answers none |
-//! | `call:ID:TYPE:TYPE` | `app` of an uninterpreted function at the last term, by its id, the type of its argument and that of its values |
-//! | `call_table:COUNT:TYPE:TYPE` | `app` of a function that a table defines: before the last term so many keys, each with its value behind it, and before these what the function gives elsewhere |
+//! | `app_of:ID:TYPE:TYPE` | `app` of an uninterpreted function at the last term, by its id, the type of its argument and that of its values |
+//! | `app_of_table:COUNT:TYPE:TYPE` | `app` of a function that a table defines: before the last term so many keys, each with its value behind it, and before these what the function gives elsewhere |
+//!
+//! These words call the functions on values of the extension types, which fold too:
+//!
+//! | Word | What it calls |
+//! |---|---|
+//! | `less_than`, `less_than_or_equal`, `greater_than`, `greater_than_or_equal`, `to_milliseconds`, `to_seconds`, `to_minutes`, `to_hours`, `to_days`, `to_date`, `to_time`, `offset`, `duration_since`, `is_ipv4`, `is_ipv6`, `is_loopback`, `is_multicast` | the call of this name, at the last terms in order |
+//! | `range_v4`, `range_v6` | the call of this name, which leaves the lowest and the highest address of the last term |
+//! | `in_range_v4` | `in_range` by `range_v4`, at the last two terms |
+//! | `is_in_range:COUNT` | `is_in_range` of the term before so many last terms, at these |
+//! | `in_range_lit:RANGE,RANGE` | `in_range_lit` of the last term, at these two ranges |
 //!
 //! These words ask. What they ask about stays on the stack:
 //!
@@ -47,19 +48,13 @@
 //! | `size_of_type:TYPE`, `type_at:NAME,NAME:TYPE` | of a record type how many attributes it has, whether none, and whether these are equal to what they share; its types at these attributes |
 //! | `operator:OPERATOR` | the name of the operator, and whether it is equal to what it shares |
 //! | `compare_types:TYPE:TYPE`, `compare_operators:OPERATOR:OPERATOR` | the order of the two |
-//!
-//! A type is the number of bits of bitvectors, `bool`, `string`, `decimal`, `datetime`, `duration`, `ip`, `@NAME` of entities, or `%NAME=TYPE,NAME=TYPE` of records;
-//! `?TYPE` is that of options, `*TYPE` that of sets, and `.TYPE` that of records with the one attribute `a`. An operator is its
-//! name, and behind `=` what it holds, as `zero_extend=56`, `record.get=a` and `string.like=a*z`. In a pattern `*` is any text.
 #![tactic(auto)]
 
 mod asked;
 mod asked_types;
-mod built;
 mod folded;
+mod functions;
 mod printed;
-mod stack;
-mod types;
 
 use anyhow::Result;
 use smt_term::Term;
@@ -68,13 +63,14 @@ use std::fs;
 use std::io::{self, BufWriter, Write};
 
 /// The files of rows.
-const FILES: [&str; 14] = [
+const FILES: [&str; 15] = [
     "connectives",
     "options",
     "collections",
     "fields",
     "applied",
     "extensions",
+    "functions",
     "types",
     "literals",
     "forms",
@@ -91,13 +87,15 @@ fn answer(alloc: Global, row: &str) -> Result<String> {
     let mut terms: Vec<Term> = Vec::new(alloc);
     for word in row.split(' ') {
         let (head, held) = word.split_once(':').unwrap_or((word, ""));
-        if let Some(term) = built::term(alloc, &mut terms, head, held)? {
+        if let Some(term) = smt_words::term(alloc, &mut terms, head, held)? {
             terms.push(term)?;
-        } else if let Some(term) = folded::term(alloc, &mut terms, head, held)? {
+        } else if let Some(term) = functions::term(alloc, &mut terms, head, held)? {
             terms.push(term)?;
+        } else if let Some(answer) = asked::answer(alloc, terms.as_slice(), head, held)? {
+            write!(out, " {answer}")?;
         } else {
-            out.push(' ')?;
-            asked::put_answer(alloc, &mut out, terms.as_slice(), head, held)?;
+            let term = folded::term(alloc, &mut terms, head, held)?;
+            terms.push(term)?;
         }
     }
     if out.is_empty() {

@@ -1,28 +1,29 @@
 //! The terms that the words of a row take and leave.
 
+use crate::spelling::texts;
 use anyhow::{Context, Result};
-use smt_term::{Attr, Term, Text};
+use smt_term::{Attr, Term};
 use std::alloc::Global;
 
 /// The last term, which the stack then has no longer.
-pub(crate) fn one(terms: &mut Vec<Term>) -> Result<Term> {
+pub fn one(terms: &mut Vec<Term>) -> Result<Term> {
     terms.pop().context("no term is left")
 }
 
 /// The last two terms, which the stack then has no longer.
-pub(crate) fn two(terms: &mut Vec<Term>) -> Result<(Term, Term)> {
+pub fn two(terms: &mut Vec<Term>) -> Result<(Term, Term)> {
     let second = one(terms)?;
     Ok((one(terms)?, second))
 }
 
 /// So many last terms, which the stack then has no longer.
-pub(crate) fn taken(terms: &mut Vec<Term>, count: usize) -> Result<Vec<Term>> {
+pub fn taken(terms: &mut Vec<Term>, count: usize) -> Result<Vec<Term>> {
     let left = terms.len().checked_sub(count).context("too few terms")?;
     Ok(terms.split_off(left)?)
 }
 
 /// A term and the one behind it, and so on.
-pub(crate) fn pairs(alloc: Global, terms: &[Term]) -> Result<Vec<(Term, Term)>> {
+pub fn pairs(alloc: Global, terms: &[Term]) -> Result<Vec<(Term, Term)>> {
     let mut pairs = Vec::new(alloc);
     for pair in terms.chunks_exact(2) {
         if let [first, second] = pair {
@@ -32,20 +33,12 @@ pub(crate) fn pairs(alloc: Global, terms: &[Term]) -> Result<Vec<(Term, Term)>> 
     Ok(pairs)
 }
 
-/// These attributes, with a comma between two of them, each with one of the last terms in order, which the stack then has no
-/// longer.
-pub(crate) fn fields(
-    alloc: Global,
-    terms: &mut Vec<Term>,
-    names: &str,
-) -> Result<Vec<(Attr, Term)>> {
-    let mut all = Vec::new(alloc);
-    for name in names.split_terminator(',') {
-        all.push(Text::from_str(alloc, name)?)?;
-    }
-    let held = taken(terms, all.len())?;
+/// These attributes, each with one of the last terms in order, which the stack then has no longer.
+pub fn fields(alloc: Global, terms: &mut Vec<Term>, names: &str) -> Result<Vec<(Attr, Term)>> {
+    let names = texts(alloc, names)?;
+    let held = taken(terms, names.len())?;
     let mut fields = Vec::new(alloc);
-    for (name, term) in all.as_slice().iter().zip(held.as_slice()) {
+    for (name, term) in names.as_slice().iter().zip(held.as_slice()) {
         fields.push((name.clone()?, term.share()?))?;
     }
     Ok(fields)

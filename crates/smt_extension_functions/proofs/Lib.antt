@@ -1,0 +1,3 @@
+pub mod FunctionsFold
+pub mod Rules
+pub mod Widths

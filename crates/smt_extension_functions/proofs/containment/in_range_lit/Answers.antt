@@ -1,0 +1,16 @@
+use Rattle.std.proofs.lemmas.Result.{IfOk-weaker}
+use Rattle.smt_ext.specs.IpOrder.{plain_range}
+use Rattle.smt_ext.specs.IpView.{range_of}
+use Rattle.smt_extension_functions.proofs.FunctionsFold.{literal_folds, literal_stands}
+use Rattle.smt_extension_functions.proofs.containment.in_range_lit.Goals as goal
+use Rattle.smt_term.specs.View.{plain_term}
+
+pub returns-clause-folded : goal.returns-clause-folded
+returns-clause-folded c =
+    IfOk-weaker c.ite.result _ _
+    (λ r h. literal_folds (plain_term c.args.t) (plain_term c.in_ok-share.field-0) (plain_term c.in_ok-share-2.field-0) (plain_range (range_of c.args.cidr4)) (plain_range (range_of c.args.cidr6)) (plain_term c.in_ok-is_ipv4.field-0) (plain_term c.in_ok-in_v4.in_v4)
+    (plain_term c.in_ok-in_v6.in_v6) (plain_term r) c.in_ok-share.ensures c.in_ok-share-2.ensures c.in_ok-is_ipv4.ensures.folded c.in_ok-in_v4.ensures c.in_ok-in_v6.ensures h)
+    c.ite.ensures.folded
+
+pub returns-clause-refines : goal.returns-clause-refines
+returns-clause-refines c = IfOk-weaker c.ite.result _ _ (λ r h. literal_stands (plain_term r) (plain_term c.args.t) (plain_range (range_of c.args.cidr4)) (plain_range (range_of c.args.cidr6)) h) (returns-clause-folded c)

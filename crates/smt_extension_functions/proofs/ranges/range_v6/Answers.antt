@@ -1,0 +1,8 @@
+use Rattle.std.proofs.lemmas.Result.{IfOk-weaker}
+use Rattle.smt_extension_functions.specs.Pairs.{plain_pair}
+use Rattle.smt_extension_functions.proofs.FunctionsFold.{bounds_stand_v6}
+use Rattle.smt_extension_functions.proofs.ranges.range_v6.Goals as goal
+use Rattle.smt_term.specs.View.{plain_term}
+
+pub returns-clause-refines : goal.returns-clause-refines
+returns-clause-refines c = IfOk-weaker c.folded_range_v6.result _ _ (λ r h. bounds_stand_v6 (plain_pair r) (plain_term c.args.t) h) c.folded_range_v6.ensures

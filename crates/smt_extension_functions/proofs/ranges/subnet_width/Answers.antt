@@ -1,0 +1,8 @@
+use Rattle.std.proofs.lemmas.Result.{IfOk-weaker}
+use Rattle.smt_bits.specs.Width.{bits_in}
+use Rattle.smt_extension_functions.proofs.FunctionsFold.{free_stands}
+use Rattle.smt_extension_functions.proofs.ranges.subnet_width.Goals as goal
+use Rattle.smt_term.specs.View.{plain_term}
+
+pub returns-clause-refines : goal.returns-clause-refines
+returns-clause-refines c = IfOk-weaker c.folded_subnet_width.result _ _ (λ r h. free_stands (plain_term r) (bits_in c.args.w) (plain_term c.args.prefix) h) c.folded_subnet_width.ensures
