@@ -7,11 +7,13 @@
 //! `specs/Sink.antt`; the bytes of each line stand in `specs/LineTexts.antt` of `smt_characters`.
 #![tactic(auto)]
 
+mod bytes;
 mod memory;
 mod script;
 mod sink;
 mod writer;
 
+pub use bytes::Bytes;
 pub use memory::{ListSink, MemorySink};
 pub use script::SmtLibScript;
 pub use sink::{Sink, SinkError};

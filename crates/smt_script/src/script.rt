@@ -1,6 +1,7 @@
 // The lines of a script, put to any sink.
 ghost use Rattle.std.specs.Prelude.{◌≡◌, ◌↔◌, [], map, position, IsTrue};
 ghost use Rattle.std.specs.List.{join_by};
+ghost use Rattle.smt_script.specs.CommandTexts.{check_sat_text, exit_text, get_model_text, reset_text, set_logic_text, set_option_text};
 ghost use Rattle.smt_script.specs.Sink.{Puts};
 ghost use Rattle.smt_characters.specs.Characters.{is_line_end};
 ghost use Rattle.smt_characters.specs.LineTexts.{in_comment, spaced, sorted_names, datatype_body, constructor_lines, comment_text, assert_text, define_fun_text, declare_const_text, declare_fun_text, declare_datatype_text};
@@ -113,8 +114,24 @@ fn put_datatype<S: Sink>(
 /// was put; on an error a first part of it. `Fault` comes only where the sink's count of faults
 /// rose in this call, or stands at its last value; `Memory` only where the sink answered it. What
 /// is handed in is written as it stands, so that a line is a command only where the parts are
-/// symbols, sorts and terms as SMT-LIB 2.7 spells them (chapter 3).
+/// symbols, sorts, terms and values as SMT-LIB 2.7 spells them (chapter 3).
 pub trait SmtLibScript: Sink {
+    /// `(set-logic LOGIC)`.
+    fn set_logic(&mut self, logic: &str) -> Result<(), SinkError>
+        ensures { Puts Self.contents Self.faults Self.has_room Self.place self.old self.new
+            (set_logic_text logic.now) result }
+    {
+        put_all(self, &["(set-logic ", logic, ")\n"])
+    }
+
+    /// `(set-option :OPTION VALUE)`.
+    fn set_option(&mut self, option: &str, value: &str) -> Result<(), SinkError>
+        ensures { Puts Self.contents Self.faults Self.has_room Self.place self.old self.new
+            (set_option_text option.now value.now) result }
+    {
+        put_all(self, &["(set-option :", option, " ", value, ")\n"])
+    }
+
     /// `; COMMENT`, each CR and LF in the text replaced by a space, since either would end the
     /// comment (SMT-LIB 2.7, chapter 3, Lexicon).
     fn comment(&mut self, comment: &str) -> Result<(), SinkError>
@@ -183,6 +200,38 @@ pub trait SmtLibScript: Sink {
         put_all(self, &["(declare-datatype ", id, " "])?;
         put_datatype(self, params, constructors)?;
         self.put(b")\n")
+    }
+
+    /// `(check-sat)`, which asks whether the assertions have a model.
+    fn check_sat(&mut self) -> Result<(), SinkError>
+        ensures { Puts Self.contents Self.faults Self.has_room Self.place self.old self.new
+            check_sat_text result }
+    {
+        self.put(b"(check-sat)\n")
+    }
+
+    /// `(get-model)`, which asks for the model that the last check found.
+    fn get_model(&mut self) -> Result<(), SinkError>
+        ensures { Puts Self.contents Self.faults Self.has_room Self.place self.old self.new
+            get_model_text result }
+    {
+        self.put(b"(get-model)\n")
+    }
+
+    /// `(reset)`, after which no declaration, assertion or option is left.
+    fn reset(&mut self) -> Result<(), SinkError>
+        ensures { Puts Self.contents Self.faults Self.has_room Self.place self.old self.new
+            reset_text result }
+    {
+        self.put(b"(reset)\n")
+    }
+
+    /// `(exit)`, which ends the script.
+    fn exit(&mut self) -> Result<(), SinkError>
+        ensures { Puts Self.contents Self.faults Self.has_room Self.place self.old self.new
+            exit_text result }
+    {
+        self.put(b"(exit)\n")
     }
 }
 
