@@ -1,5 +1,6 @@
 -- Labels, nodes and keys that the derived order holds equal say the same, and the other way round.
-use Rattle.std.proofs.Common.{◌≡◌, ◌⊎◌, inl, inr, ℕ, List, [], ◌∷◌, true, refl, sym, ap, ◌∙◌}
+use Rattle.std.proofs.Common.{◌≡◌, ◌⊎◌, inl, inr, ℕ, List, [], ◌∷◌, true, false, refl, sym, ap, ◌∙◌}
+use Rattle.std.proofs.lemmas.Bool.{false≢true}
 use Rattle.std.specs.Cmp.{Equal-is, nat_cmp_is}
 use Rattle.std.specs.Cmp.Lexicographic.{slice_cmp}
 use Rattle.std.specs.FinMap.{nat_cmp-IsAntisymmetric, slice_cmp-IsAntisymmetric}
@@ -78,6 +79,11 @@ app_first (App p) k o e n = refl
 app_first l k o e n = cc
 
 -- ---- equal labels
+
+-- an order that computes to another is not level
+differ : (o : Ordering) → is_eq o ≡ false → o ≡ Equal → ⊥
+differ o n e = false≢true (sym n ∙ ap is_eq e)
+
 pub label_same : (l m : Label) → label_cmp (plain_label l) (plain_label m) ≡ Equal → plain_label l ≡ plain_label m
 label_same (TBitvec n) (TBitvec k) h = ap BitVecLabel (nat_cmp-IsAntisymmetric (bits_in n) (bits_in k) h)
 label_same (TEntity e) (TEntity f) h = ap EntityLabel (text_same (bytes_of_type e) (bytes_of_type f) h)
@@ -96,7 +102,7 @@ label_same Call Call h = refl
 label_same NoneOf NoneOf h = refl
 label_same SetOf SetOf h = refl
 label_same SomeOf SomeOf h = refl
-label_same l m h = absurd (cc)
+label_same l m h = absurd (differ (label_cmp (plain_label l) (plain_label m)) refl h)
 
 nat_itself : (n : ℕ) → nat_cmp n n ≡ Equal
 nat_itself n = sym (nat_cmp_is n n Equal refl)

@@ -435,9 +435,12 @@ impl Interner {
         if !self.is_option(ty) || !self.is_term(term) {
             return false;
         }
-        match (self.parts(ty), self.parts(term)) {
-            ([inner, ..], [own, ..]) => *inner == *own,
-            _ => false,
-        }
+        let [inner, ..] = self.parts(ty) else {
+            return false;
+        };
+        let [own, ..] = self.parts(term) else {
+            return false;
+        };
+        *inner == *own
     }
 }

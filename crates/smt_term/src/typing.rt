@@ -354,12 +354,13 @@ impl Term {
         ensures { IsTrue (is_some (extended_type bits (type_of (plain_term self.now)))) →
             result ≡ is_type (extended_type bits (type_of (plain_term self.now))) (plain_type ty.now) }
     {
-        match (self.width(), ty.width()) {
-            (Some(short), Some(long)) => {
-                short.get() <= long.get() && long.get() - short.get() == bits
-            }
-            (Some(_), None) | (None, Some(_)) | (None, None) => false,
-        }
+        let Some(short) = self.width() else {
+            return false;
+        };
+        let Some(long) = ty.width() else {
+            return false;
+        };
+        short.get() <= long.get() && long.get() - short.get() == bits
     }
 
     // Whether both terms have one type.
