@@ -15,7 +15,7 @@ ghost use Rattle.smt_term.specs.View.{plain_op, plain_term};
 
 use crate::literals::{answer, bits_inside};
 use smt_bits::{BitVec, BitVecError, Width};
-use smt_parts::{application, only_one};
+use smt_parts::{binary_application, only_one, unary_application};
 use smt_term::{Op, Term, TermError, TermType};
 use std::alloc::Global;
 
@@ -38,16 +38,16 @@ where
 {
     match answer(f, &t1, &t2) {
         Some(bits) => Ok(Term::from(bits)),
-        None => of_two(alloc, op, t1, t2),
+        None => of_two(alloc, op, &t1, &t2),
     }
 }
 
 // The application of an operator at two arguments, with the type of the first.
-fn of_two(alloc: Global, op: Op, t1: Term, t2: Term) -> Result<Term, TermError>
-    ensures { IfOk result (λ r. plain_term r ≡ bits_of_two (plain_op op) (plain_term t1) (plain_term t2)) }
+fn of_two(alloc: Global, op: Op, t1: &Term, t2: &Term) -> Result<Term, TermError>
+    ensures { IfOk result (λ r. plain_term r ≡ bits_of_two (plain_op op) (plain_term t1.now) (plain_term t2.now)) }
 {
     let ty = t1.type_of(alloc)?;
-    application(alloc, op, &[t1, t2], ty)
+    binary_application(alloc, op, t1, t2, ty)
 }
 
 /// The negation. Of a literal it is a literal, and of a negation what that is of.
@@ -58,21 +58,20 @@ pub fn bvneg(alloc: Global, t: Term) -> Result<Term, TermError>
     ensures folded { IfOk result (λ r. plain_term r ≡ folded_bvneg (plain_term t)) }
     ensures refines { IfOk result (λ r. Refines (plain_term r) (bvneg_of (plain_term t))) }
 {
-    folded_bvneg(alloc, t)
+    folded_bvneg(alloc, &t)
 }
 
 // The negation, folded.
-fn folded_bvneg(alloc: Global, t: Term) -> Result<Term, TermError>
-    ensures { IfOk result (λ r. plain_term r ≡ folded_bvneg (plain_term t)) }
+fn folded_bvneg(alloc: Global, t: &Term) -> Result<Term, TermError>
+    ensures { IfOk result (λ r. plain_term r ≡ folded_bvneg (plain_term t.now)) }
 {
-    if let Some(bits) = bits_inside(&t) {
+    if let Some(bits) = bits_inside(t) {
         return Ok(Term::from(bits.neg()));
     }
-    if let Some(operand) = negated_bits(&t) {
-        return Ok(operand.share()?);
+    if let Some(operand) = negated_bits(t) {
+        return operand.share();
     }
-    let ty = t.type_of(alloc)?;
-    application(alloc, Op::Bvneg, &[t], ty)
+    unary_application(alloc, Op::Bvneg, t, t.type_of(alloc)?)
 }
 
 // What a negation of bits is of.
@@ -216,24 +215,24 @@ pub fn zero_extend(alloc: Global, n: u32, t: Term) -> Result<Term, TermError>
     ensures folded { IfOk result (λ r. plain_term r ≡ folded_zero_extend n (plain_term t)) }
     ensures refines { IfOk result (λ r. Refines (plain_term r) (zero_extend_of n (plain_term t))) }
 {
-    folded_zero_extend(alloc, n, t)
+    folded_zero_extend(alloc, n, &t)
 }
 
 // The same number with more bits, folded.
 #[tactic(auto, using(crate::proofs::Folding::extending, smt_term::specs::View::views))]
-fn folded_zero_extend(alloc: Global, n: u32, t: Term) -> Result<Term, TermError>
-    requires { IfSome (width_in (type_of (plain_term t))) (λ width. width + n ≤ 128) }
-    ensures { IfOk result (λ r. plain_term r ≡ folded_zero_extend n (plain_term t)) }
+fn folded_zero_extend(alloc: Global, n: u32, t: &Term) -> Result<Term, TermError>
+    requires { IfSome (width_in (type_of (plain_term t.now))) (λ width. width + n ≤ 128) }
+    ensures { IfOk result (λ r. plain_term r ≡ folded_zero_extend n (plain_term t.now)) }
 {
-    if let Some(bits) = bits_inside(&t) {
+    if let Some(bits) = bits_inside(t) {
         return Ok(Term::from(extended(&bits, n)));
     }
-    match type_width(alloc, &t)? {
+    match type_width(alloc, t)? {
         Some(width) => {
             let ty = TermType::Bitvec { n: wider(width, n) };
-            application(alloc, Op::ZeroExtend(n), &[t], ty)
+            unary_application(alloc, Op::ZeroExtend(n), t, ty)
         }
-        None => Ok(t),
+        None => t.share(),
     }
 }
 

@@ -11,7 +11,7 @@ ghost use Rattle.smt_term.specs.View.{plain_op, plain_term};
 
 use crate::literals::answer;
 use smt_bits::{BitVec, BitVecError};
-use smt_parts::truth_application;
+use smt_parts::binary_test;
 use smt_term::{Op, Term, TermError};
 use std::alloc::Global;
 
@@ -24,7 +24,7 @@ where
 {
     match answer(f, &t1, &t2) {
         Some(holds) => Ok(Term::from(holds)),
-        None => truth_application(alloc, op, &[t1, t2]),
+        None => binary_test(alloc, op, &t1, &t2),
     }
 }
 

@@ -13,7 +13,7 @@ ghost use Rattle.smt_term.specs.View.{plain_op, plain_term};
 
 use crate::literals::bits_inside;
 use smt_bits::{BitVec, Int, Width};
-use smt_parts::truth_application;
+use smt_parts::{binary_test, unary_test};
 use smt_term::{Op, Term, TermError};
 use std::alloc::Global;
 
@@ -25,16 +25,16 @@ pub fn bvnego(alloc: Global, t: Term) -> Result<Term, TermError>
     ensures folded { IfOk result (λ r. plain_term r ≡ folded_bvnego (plain_term t)) }
     ensures refines { IfOk result (λ r. Refines (plain_term r) (bvnego_of (plain_term t))) }
 {
-    folded_bvnego(alloc, t)
+    folded_bvnego(alloc, &t)
 }
 
 // Whether the negation leaves the signed range, folded.
-fn folded_bvnego(alloc: Global, t: Term) -> Result<Term, TermError>
-    ensures { IfOk result (λ r. plain_term r ≡ folded_bvnego (plain_term t)) }
+fn folded_bvnego(alloc: Global, t: &Term) -> Result<Term, TermError>
+    ensures { IfOk result (λ r. plain_term r ≡ folded_bvnego (plain_term t.now)) }
 {
-    match bits_inside(&t) {
+    match bits_inside(t) {
         Some(bits) => Ok(Term::from(bits.to_nat() == BitVec::int_min(bits.width()).to_nat())),
-        None => truth_application(alloc, Op::Bvnego, &[t]),
+        None => unary_test(alloc, Op::Bvnego, t),
     }
 }
 
@@ -57,7 +57,7 @@ where
 {
     match overflow(f, &t1, &t2) {
         Some(leaves) => Ok(Term::from(leaves)),
-        None => truth_application(alloc, op, &[t1, t2]),
+        None => binary_test(alloc, op, &t1, &t2),
     }
 }
 

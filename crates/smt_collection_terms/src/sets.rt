@@ -15,7 +15,7 @@ ghost use Rattle.smt_term.specs.View.{plain_elements, plain_term, plain_type};
 
 use smt_connectives::not;
 use smt_equality::eq;
-use smt_parts::{application, truth_application};
+use smt_parts::{binary_application, binary_test};
 use smt_term::{Op, Term, TermError, TermSet, TermType};
 use std::alloc::Global;
 
@@ -136,20 +136,20 @@ pub fn set_member(alloc: Global, t: Term, ts: Term) -> Result<Term, TermError>
     ensures folded { IfOk result (λ r. plain_term r ≡ folded_set_member (plain_term t) (plain_term ts)) }
     ensures refines { IfOk result (λ r. Refines (plain_term r) (set_member_of (plain_term t) (plain_term ts))) }
 {
-    folded_set_member(alloc, t, ts)
+    folded_set_member(alloc, &t, &ts)
 }
 
 // Membership, folded.
-fn folded_set_member(alloc: Global, t: Term, ts: Term) -> Result<Term, TermError>
-    ensures { IfOk result (λ r. plain_term r ≡ folded_set_member (plain_term t) (plain_term ts)) }
+fn folded_set_member(alloc: Global, t: &Term, ts: &Term) -> Result<Term, TermError>
+    ensures { IfOk result (λ r. plain_term r ≡ folded_set_member (plain_term t.now) (plain_term ts.now)) }
 {
-    if is_empty_set(&ts) {
+    if is_empty_set(ts) {
         return Ok(Term::from(false));
     }
-    if t.is_literal() && is_set_literal(&ts) {
-        return Ok(Term::from(is_among(elements_in(&ts), &t)));
+    if t.is_literal() && is_set_literal(ts) {
+        return Ok(Term::from(is_among(elements_in(ts), t)));
     }
-    truth_application(alloc, Op::SetMember, &[t, ts])
+    binary_test(alloc, Op::SetMember, t, ts)
 }
 
 /// Whether all of a first set is in a second. Equal terms and an empty first give true, and two literals a literal.
@@ -160,20 +160,20 @@ pub fn set_subset(alloc: Global, sub: Term, sup: Term) -> Result<Term, TermError
     ensures folded { IfOk result (λ r. plain_term r ≡ folded_set_subset (plain_term sub) (plain_term sup)) }
     ensures refines { IfOk result (λ r. Refines (plain_term r) (set_subset_of (plain_term sub) (plain_term sup))) }
 {
-    folded_set_subset(alloc, sub, sup)
+    folded_set_subset(alloc, &sub, &sup)
 }
 
 // Whether a set is in another, folded.
-fn folded_set_subset(alloc: Global, sub: Term, sup: Term) -> Result<Term, TermError>
-    ensures { IfOk result (λ r. plain_term r ≡ folded_set_subset (plain_term sub) (plain_term sup)) }
+fn folded_set_subset(alloc: Global, sub: &Term, sup: &Term) -> Result<Term, TermError>
+    ensures { IfOk result (λ r. plain_term r ≡ folded_set_subset (plain_term sub.now) (plain_term sup.now)) }
 {
-    if sub == sup || is_empty_set(&sub) {
+    if sub == sup || is_empty_set(sub) {
         return Ok(Term::from(true));
     }
-    if is_set_literal(&sub) && is_set_literal(&sup) {
-        return Ok(Term::from(are_among(elements_in(&sub), elements_in(&sup))));
+    if is_set_literal(sub) && is_set_literal(sup) {
+        return Ok(Term::from(are_among(elements_in(sub), elements_in(sup))));
     }
-    truth_application(alloc, Op::SetSubset, &[sub, sup])
+    binary_test(alloc, Op::SetSubset, sub, sup)
 }
 
 // The terms of the first list that are among those of the second.
@@ -219,24 +219,23 @@ pub fn set_inter(alloc: Global, ts1: Term, ts2: Term) -> Result<Term, TermError>
     ensures folded { IfOk result (λ r. plain_term r ≡ folded_set_inter (plain_term ts1) (plain_term ts2)) }
     ensures refines { IfOk result (λ r. Refines (plain_term r) (set_inter_of (plain_term ts1) (plain_term ts2))) }
 {
-    folded_set_inter(alloc, ts1, ts2)
+    folded_set_inter(alloc, &ts1, &ts2)
 }
 
 // The intersection, folded.
-fn folded_set_inter(alloc: Global, ts1: Term, ts2: Term) -> Result<Term, TermError>
-    ensures { IfOk result (λ r. plain_term r ≡ folded_set_inter (plain_term ts1) (plain_term ts2)) }
+fn folded_set_inter(alloc: Global, ts1: &Term, ts2: &Term) -> Result<Term, TermError>
+    ensures { IfOk result (λ r. plain_term r ≡ folded_set_inter (plain_term ts1.now) (plain_term ts2.now)) }
 {
-    if ts1 == ts2 || is_empty_set(&ts1) {
-        return Ok(ts1);
+    if ts1 == ts2 || is_empty_set(ts1) {
+        return ts1.share();
     }
-    if is_empty_set(&ts2) {
-        return Ok(ts2);
+    if is_empty_set(ts2) {
+        return ts2.share();
     }
-    if is_set_literal(&ts1) && is_set_literal(&ts2) {
-        return common_set(alloc, &ts1, &ts2);
+    if is_set_literal(ts1) && is_set_literal(ts2) {
+        return common_set(alloc, ts1, ts2);
     }
-    let ty = ts1.type_of(alloc)?;
-    application(alloc, Op::SetInter, &[ts1, ts2], ty)
+    binary_application(alloc, Op::SetInter, ts1, ts2, ts1.type_of(alloc)?)
 }
 
 /// Whether a set is empty; what is no set is not.
@@ -249,20 +248,20 @@ pub fn set_is_empty(alloc: Global, t: Term) -> Result<Term, TermError>
     ensures folded { IfOk result (λ r. plain_term r ≡ set_is_empty folding (plain_term t)) }
     ensures refines { IfOk result (λ r. Refines (plain_term r) (set_is_empty applied (plain_term t))) }
 {
-    folded_set_is_empty(alloc, t)
+    folded_set_is_empty(alloc, &t)
 }
 
 // Whether a set is empty, folded.
-fn folded_set_is_empty(alloc: Global, t: Term) -> Result<Term, TermError>
-    ensures { IfOk result (λ r. plain_term r ≡ set_is_empty folding (plain_term t)) }
+fn folded_set_is_empty(alloc: Global, t: &Term) -> Result<Term, TermError>
+    ensures { IfOk result (λ r. plain_term r ≡ set_is_empty folding (plain_term t.now)) }
 {
-    if is_set_term(&t) {
-        return Ok(Term::from(is_empty_set(&t)));
+    if is_set_term(t) {
+        return Ok(Term::from(is_empty_set(t)));
     }
-    match element_type(alloc, &t)? {
+    match element_type(alloc, t)? {
         Some(ty) => {
             let empty = set_of(alloc, &[], ty)?;
-            eq(alloc, t, empty)
+            eq(alloc, t.share()?, empty)
         }
         None => Ok(Term::from(false)),
     }

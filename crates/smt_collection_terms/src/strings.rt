@@ -11,7 +11,7 @@ ghost use Rattle.smt_leaves.specs.PatternView.{plain_ord_pattern};
 ghost use Rattle.smt_meaning.specs.Plain.{LiteralTerm, StringLiteral};
 ghost use Rattle.smt_term.specs.View.{plain_literal, plain_term};
 
-use smt_parts::truth_application;
+use smt_parts::unary_test;
 use smt_term::{Op, OrdPattern, Term, TermError, TermPrim, Text};
 use std::alloc::Global;
 
@@ -51,8 +51,18 @@ pub fn string_like(alloc: Global, t: Term, p: OrdPattern) -> Result<Term, TermEr
     ensures folded { IfOk result (λ r. plain_term r ≡ folded_string_like (plain_term t) (plain_ord_pattern p)) }
     ensures refines { IfOk result (λ r. Refines (plain_term r) (string_like_of (plain_term t) (plain_ord_pattern p))) }
 {
-    if let Some(text) = text_inside(&t) {
-        return Ok(Term::from(p.wildcard_match(text)));
+    folded_string_like(alloc, &t, &p)
+}
+
+// Whether a string matches a pattern, folded.
+fn folded_string_like(alloc: Global, t: &Term, p: &OrdPattern) -> Result<Term, TermError>
+    ensures { IfOk result (λ r. plain_term r ≡ folded_string_like (plain_term t.now) (plain_ord_pattern p.now)) }
+{
+    match text_inside(t) {
+        Some(text) => Ok(Term::from(p.wildcard_match(text))),
+        None => {
+            let op = Op::StringLike(p.share()?);
+            unary_test(alloc, op, t)
+        }
     }
-    truth_application(alloc, Op::StringLike(p), &[t])
 }

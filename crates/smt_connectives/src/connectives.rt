@@ -8,7 +8,7 @@ ghost use Rattle.smt_folding.specs.Parts.{negated};
 ghost use Rattle.smt_folding.specs.Refinement.{Refines};
 ghost use Rattle.smt_term.specs.View.{plain_term};
 
-use smt_parts::{is_truth_value, only_one, truth_application};
+use smt_parts::{binary_test, is_truth_value, only_one, unary_test};
 use smt_term::{Op, Term, TermError};
 use std::alloc::Global;
 
@@ -56,23 +56,23 @@ pub fn not(alloc: Global, t: Term) -> Result<Term, TermError>
     ensures folded { IfOk result (λ r. plain_term r ≡ folded_not (plain_term t)) }
     ensures refines { IfOk result (λ r. Refines (plain_term r) (not_of (plain_term t))) }
 {
-    folded_not(alloc, t)
+    folded_not(alloc, &t)
 }
 
-// The negation, folded.
-fn folded_not(alloc: Global, t: Term) -> Result<Term, TermError>
-    ensures { IfOk result (λ r. plain_term r ≡ folded_not (plain_term t)) }
+// The negation, folded. By reference, as each folding: what is let go at several exits is dear to prove.
+fn folded_not(alloc: Global, t: &Term) -> Result<Term, TermError>
+    ensures { IfOk result (λ r. plain_term r ≡ folded_not (plain_term t.now)) }
 {
-    if is_truth_value(&t, true) {
+    if is_truth_value(t, true) {
         return Ok(Term::from(false));
     }
-    if is_truth_value(&t, false) {
+    if is_truth_value(t, false) {
         return Ok(Term::from(true));
     }
-    if let Some(operand) = negated(&t) {
-        return Ok(operand.share()?);
+    match negated(t) {
+        Some(operand) => operand.share(),
+        None => unary_test(alloc, Op::Not, t),
     }
-    truth_application(alloc, Op::Not, &[t])
 }
 
 /// The conjunction of two Boolean terms.
@@ -86,23 +86,23 @@ pub fn and(alloc: Global, t1: Term, t2: Term) -> Result<Term, TermError>
     ensures folded { IfOk result (λ r. plain_term r ≡ folded_and (plain_term t1) (plain_term t2)) }
     ensures refines { IfOk result (λ r. Refines (plain_term r) (and_of (plain_term t1) (plain_term t2))) }
 {
-    folded_and(alloc, t1, t2)
+    folded_and(alloc, &t1, &t2)
 }
 
 // The conjunction, folded.
-fn folded_and(alloc: Global, t1: Term, t2: Term) -> Result<Term, TermError>
-    ensures { IfOk result (λ r. plain_term r ≡ folded_and (plain_term t1) (plain_term t2)) }
+fn folded_and(alloc: Global, t1: &Term, t2: &Term) -> Result<Term, TermError>
+    ensures { IfOk result (λ r. plain_term r ≡ folded_and (plain_term t1.now) (plain_term t2.now)) }
 {
-    if t1 == t2 || is_truth_value(&t2, true) {
-        return Ok(t1);
+    if t1 == t2 || is_truth_value(t2, true) {
+        return t1.share();
     }
-    if is_truth_value(&t1, true) {
-        return Ok(t2);
+    if is_truth_value(t1, true) {
+        return t2.share();
     }
-    if is_truth_value(&t1, false) || is_truth_value(&t2, false) || opposites(&t1, &t2) {
+    if is_truth_value(t1, false) || is_truth_value(t2, false) || opposites(t1, t2) {
         return Ok(Term::from(false));
     }
-    truth_application(alloc, Op::And, &[t1, t2])
+    binary_test(alloc, Op::And, t1, t2)
 }
 
 /// The disjunction of two Boolean terms.
@@ -116,23 +116,23 @@ pub fn or(alloc: Global, t1: Term, t2: Term) -> Result<Term, TermError>
     ensures folded { IfOk result (λ r. plain_term r ≡ folded_or (plain_term t1) (plain_term t2)) }
     ensures refines { IfOk result (λ r. Refines (plain_term r) (or_of (plain_term t1) (plain_term t2))) }
 {
-    folded_or(alloc, t1, t2)
+    folded_or(alloc, &t1, &t2)
 }
 
 // The disjunction, folded.
-fn folded_or(alloc: Global, t1: Term, t2: Term) -> Result<Term, TermError>
-    ensures { IfOk result (λ r. plain_term r ≡ folded_or (plain_term t1) (plain_term t2)) }
+fn folded_or(alloc: Global, t1: &Term, t2: &Term) -> Result<Term, TermError>
+    ensures { IfOk result (λ r. plain_term r ≡ folded_or (plain_term t1.now) (plain_term t2.now)) }
 {
-    if t1 == t2 || is_truth_value(&t2, false) {
-        return Ok(t1);
+    if t1 == t2 || is_truth_value(t2, false) {
+        return t1.share();
     }
-    if is_truth_value(&t1, false) {
-        return Ok(t2);
+    if is_truth_value(t1, false) {
+        return t2.share();
     }
-    if is_truth_value(&t1, true) || is_truth_value(&t2, true) || opposites(&t1, &t2) {
+    if is_truth_value(t1, true) || is_truth_value(t2, true) || opposites(t1, t2) {
         return Ok(Term::from(true));
     }
-    truth_application(alloc, Op::Or, &[t1, t2])
+    binary_test(alloc, Op::Or, t1, t2)
 }
 
 /// The implication from one Boolean term to another: the disjunction of the first's negation with the second.

@@ -9,7 +9,7 @@ ghost use Rattle.smt_term.specs.View.{plain_term};
 
 use crate::pairs::both_held;
 use smt_connectives::{and, not, or};
-use smt_parts::{application, is_truth_value, some_of};
+use smt_parts::{is_truth_value, some_of, ternary_application};
 use smt_term::{Op, Term, TermError};
 use std::alloc::Global;
 
@@ -25,45 +25,41 @@ pub fn ite(alloc: Global, t1: Term, t2: Term, t3: Term) -> Result<Term, TermErro
     ensures folded { IfOk result (λ r. plain_term r ≡ folded_ite (plain_term t1) (plain_term t2) (plain_term t3)) }
     ensures refines { IfOk result (λ r. Refines (plain_term r) (ite_of (plain_term t1) (plain_term t2) (plain_term t3))) }
 {
-    folded_ite(alloc, t1, t2, t3)
+    folded_ite(alloc, &t1, &t2, &t3)
 }
 
 // The choice, folded.
-fn folded_ite(alloc: Global, t1: Term, t2: Term, t3: Term) -> Result<Term, TermError>
-    ensures { IfOk result (λ r. plain_term r ≡ folded_ite (plain_term t1) (plain_term t2) (plain_term t3)) }
+fn folded_ite(alloc: Global, t1: &Term, t2: &Term, t3: &Term) -> Result<Term, TermError>
+    ensures { IfOk result (λ r. plain_term r ≡ folded_ite (plain_term t1.now) (plain_term t2.now) (plain_term t3.now)) }
 {
-    if let Some((held2, held3)) = both_held(&t2, &t3) {
-        return some_of(
-            alloc,
-            ite_inside(alloc, t1, held2.share()?, held3.share()?)?,
-        );
+    match both_held(t2, t3) {
+        Some((held2, held3)) => some_of(alloc, ite_inside(alloc, t1, held2, held3)?),
+        None => ite_inside(alloc, t1, t2, t3),
     }
-    ite_inside(alloc, t1, t2, t3)
 }
 
 // Choice, where what two `some` hold has been taken out.
 #[tactic(auto, using(crate::proofs::Folding::equal))]
-fn ite_inside(alloc: Global, t1: Term, t2: Term, t3: Term) -> Result<Term, TermError>
-    ensures { IfOk result (λ r. plain_term r ≡ folded_ite_inside (plain_term t1) (plain_term t2) (plain_term t3)) }
+fn ite_inside(alloc: Global, t1: &Term, t2: &Term, t3: &Term) -> Result<Term, TermError>
+    ensures { IfOk result (λ r. plain_term r ≡ folded_ite_inside (plain_term t1.now) (plain_term t2.now) (plain_term t3.now)) }
 {
-    if is_truth_value(&t1, true) || t2 == t3 {
-        return Ok(t2);
+    if is_truth_value(t1, true) || t2 == t3 {
+        return t2.share();
     }
-    if is_truth_value(&t1, false) {
-        return Ok(t3);
+    if is_truth_value(t1, false) {
+        return t3.share();
     }
-    if is_truth_value(&t2, true) && is_truth_value(&t3, false) {
-        return Ok(t1);
+    if is_truth_value(t2, true) && is_truth_value(t3, false) {
+        return t1.share();
     }
-    if is_truth_value(&t2, false) && is_truth_value(&t3, true) {
-        return not(alloc, t1);
+    if is_truth_value(t2, false) && is_truth_value(t3, true) {
+        return not(alloc, t1.share()?);
     }
-    if is_truth_value(&t3, false) {
-        return and(alloc, t1, t2);
+    if is_truth_value(t3, false) {
+        return and(alloc, t1.share()?, t2.share()?);
     }
-    if is_truth_value(&t2, true) {
-        return or(alloc, t1, t3);
+    if is_truth_value(t2, true) {
+        return or(alloc, t1.share()?, t3.share()?);
     }
-    let ty = t2.type_of(alloc)?;
-    application(alloc, Op::Ite, &[t1, t2, t3], ty)
+    ternary_application(alloc, Op::Ite, t1, t2, t3, t2.type_of(alloc)?)
 }

@@ -12,7 +12,7 @@ ghost use Rattle.smt_term.specs.View.{plain_literal, plain_term, plain_type};
 
 use crate::pairs::{are_some_and_none, both_held};
 use smt_connectives::not;
-use smt_parts::{is_truth_value, truth_application};
+use smt_parts::{binary_test, is_truth_value};
 use smt_term::{Op, Term, TermError, TermPrim, TermType};
 use std::alloc::Global;
 
@@ -80,18 +80,18 @@ pub fn eq(alloc: Global, t1: Term, t2: Term) -> Result<Term, TermError>
     ensures folded { IfOk result (λ r. plain_term r ≡ folded_eq (plain_term t1) (plain_term t2)) }
     ensures refines { IfOk result (λ r. Refines (plain_term r) (eq_of (plain_term t1) (plain_term t2))) }
 {
-    folded_eq(alloc, t1, t2)
+    folded_eq(alloc, &t1, &t2)
 }
 
 // The equality, folded.
 #[tactic(auto, using(crate::proofs::Folding::comparing))]
-fn folded_eq(alloc: Global, t1: Term, t2: Term) -> Result<Term, TermError>
-    ensures { IfOk result (λ r. plain_term r ≡ folded_eq (plain_term t1) (plain_term t2)) }
+fn folded_eq(alloc: Global, t1: &Term, t2: &Term) -> Result<Term, TermError>
+    ensures { IfOk result (λ r. plain_term r ≡ folded_eq (plain_term t1.now) (plain_term t2.now)) }
 {
-    if let Some((held1, held2)) = both_held(&t1, &t2) {
-        return eq_inside(alloc, held1.share()?, held2.share()?);
+    if let Some((held1, held2)) = both_held(t1, t2) {
+        return eq_inside(alloc, held1, held2);
     }
-    if are_some_and_none(&t1, &t2) || are_some_and_none(&t2, &t1) {
+    if are_some_and_none(t1, t2) || are_some_and_none(t2, t1) {
         return Ok(Term::from(false));
     }
     eq_inside(alloc, t1, t2)
@@ -99,26 +99,26 @@ fn folded_eq(alloc: Global, t1: Term, t2: Term) -> Result<Term, TermError>
 
 // Equality, where what `some` and none hold has been looked at.
 #[tactic(auto, using(crate::proofs::Folding::equal))]
-fn eq_inside(alloc: Global, t1: Term, t2: Term) -> Result<Term, TermError>
-    ensures { IfOk result (λ r. plain_term r ≡ folded_eq_inside (plain_term t1) (plain_term t2)) }
+fn eq_inside(alloc: Global, t1: &Term, t2: &Term) -> Result<Term, TermError>
+    ensures { IfOk result (λ r. plain_term r ≡ folded_eq_inside (plain_term t1.now) (plain_term t2.now)) }
 {
     if t1 == t2 {
         return Ok(Term::from(true));
     }
-    if are_literals(&t1, &t2) {
+    if are_literals(t1, t2) {
         return Ok(Term::from(false));
     }
-    if is_beside_boolean(true, &t1, &t2) {
-        return Ok(t2);
+    if is_beside_boolean(true, t1, t2) {
+        return t2.share();
     }
-    if is_beside_boolean(true, &t2, &t1) {
-        return Ok(t1);
+    if is_beside_boolean(true, t2, t1) {
+        return t1.share();
     }
-    if is_beside_boolean(false, &t1, &t2) {
-        return not(alloc, t2);
+    if is_beside_boolean(false, t1, t2) {
+        return not(alloc, t2.share()?);
     }
-    if is_beside_boolean(false, &t2, &t1) {
-        return not(alloc, t1);
+    if is_beside_boolean(false, t2, t1) {
+        return not(alloc, t1.share()?);
     }
-    truth_application(alloc, Op::Eq, &[t1, t2])
+    binary_test(alloc, Op::Eq, t1, t2)
 }

@@ -14,7 +14,6 @@ use std::alloc::Global;
 ///
 /// # Errors
 /// `Memory`, where there is none for the term.
-#[tactic(auto, using(crate::proofs::FunctionsFold::less))]
 pub fn less_than(alloc: Global, t1: Term, t2: Term) -> Result<Term, TermError>
     ensures folded { IfOk result (λ r. plain_term r ≡ less_than folding (plain_term t1) (plain_term t2)) }
     ensures refines { IfOk result (λ r. Refines (plain_term r) (less_than applied (plain_term t1) (plain_term t2))) }
@@ -30,7 +29,6 @@ pub fn less_than(alloc: Global, t1: Term, t2: Term) -> Result<Term, TermError>
 ///
 /// # Errors
 /// `Memory`, where there is none for the term.
-#[tactic(auto, using(crate::proofs::FunctionsFold::less_or_equal))]
 pub fn less_than_or_equal(alloc: Global, t1: Term, t2: Term) -> Result<Term, TermError>
     ensures folded { IfOk result (λ r. plain_term r ≡ less_than_or_equal folding (plain_term t1) (plain_term t2)) }
     ensures refines { IfOk result (λ r. Refines (plain_term r) (less_than_or_equal applied (plain_term t1) (plain_term t2))) }
@@ -46,7 +44,6 @@ pub fn less_than_or_equal(alloc: Global, t1: Term, t2: Term) -> Result<Term, Ter
 ///
 /// # Errors
 /// `Memory`, where there is none for the term.
-#[tactic(auto, using(crate::proofs::FunctionsFold::greater))]
 pub fn greater_than(alloc: Global, t1: Term, t2: Term) -> Result<Term, TermError>
     ensures folded { IfOk result (λ r. plain_term r ≡ greater_than folding (plain_term t1) (plain_term t2)) }
     ensures refines { IfOk result (λ r. Refines (plain_term r) (greater_than applied (plain_term t1) (plain_term t2))) }
@@ -62,7 +59,6 @@ pub fn greater_than(alloc: Global, t1: Term, t2: Term) -> Result<Term, TermError
 ///
 /// # Errors
 /// `Memory`, where there is none for the term.
-#[tactic(auto, using(crate::proofs::FunctionsFold::greater_or_equal))]
 pub fn greater_than_or_equal(alloc: Global, t1: Term, t2: Term) -> Result<Term, TermError>
     ensures folded { IfOk result (λ r. plain_term r ≡ greater_than_or_equal folding (plain_term t1) (plain_term t2)) }
     ensures refines { IfOk result (λ r. Refines (plain_term r) (greater_than_or_equal applied (plain_term t1) (plain_term t2))) }

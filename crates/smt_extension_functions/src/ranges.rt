@@ -12,7 +12,7 @@ ghost use Rattle.smt_folding.specs.Applications.{bits_literal};
 ghost use Rattle.smt_folding.specs.Builder.{applied, folding};
 ghost use Rattle.smt_folding.specs.FoldExtensions.{extension_literal};
 ghost use Rattle.smt_folding.specs.Refinement.{Refines};
-ghost use Rattle.smt_meaning.specs.Plain.{BitVecType, OptionType};
+ghost use Rattle.smt_meaning.specs.Plain.{BitVecType, IpPrefixV4Op, IpPrefixV6Op, OptionType};
 ghost use Rattle.smt_meaning.specs.Types.{type_of};
 ghost use Rattle.smt_term.specs.View.{plain_term};
 
@@ -52,7 +52,6 @@ pub fn is_ipv4(alloc: Global, t: Term) -> Result<Term, TermError>
 ///
 /// # Errors
 /// `Memory`, where there is none for the term.
-#[tactic(auto, using(crate::proofs::FunctionsFold::family))]
 pub fn is_ipv6(alloc: Global, t: Term) -> Result<Term, TermError>
     ensures folded { IfOk result (λ r. plain_term r ≡ is_ipv6 folding (plain_term t)) }
     ensures refines { IfOk result (λ r. Refines (plain_term r) (is_ipv6 applied (plain_term t))) }
@@ -81,13 +80,13 @@ fn literal(width: Width, number: u32) -> Term
 }
 
 // The number of bits that a prefix counts, in as many bits as an address has.
-fn counted_bits(alloc: Global, w: Width, prefix: Term) -> Result<Term, TermError>
+fn counted_bits(alloc: Global, w: Width, prefix: &Term) -> Result<Term, TermError>
     requires width { bits_in w ≤ 7 }
-    requires option { type_of (plain_term prefix) ≡ OptionType (BitVecType (bits_in w)) }
-    ensures { IfOk result (λ r. plain_term r ≡ folding.zero_extend (2 ^ bits_in w - bits_in w) (folding.option_get (plain_term prefix))) }
+    requires option { type_of (plain_term prefix.now) ≡ OptionType (BitVecType (bits_in w)) }
+    ensures { IfOk result (λ r. plain_term r ≡ folding.zero_extend (2 ^ bits_in w - bits_in w) (folding.option_get (plain_term prefix.now))) }
 {
     let more = address_width(w).get() - w.get();
-    zero_extend(alloc, more, option_get(alloc, prefix)?)
+    zero_extend(alloc, more, option_get(alloc, prefix.share()?)?)
 }
 
 /// How many last bits of an address are free, by its prefix, an option of `w` bits: of the N bits of the address, where N is
@@ -104,40 +103,35 @@ pub fn subnet_width(alloc: Global, w: Width, prefix: Term) -> Result<Term, TermE
     ensures folded { IfOk result (λ r. plain_term r ≡ subnet_width folding (bits_in w) (plain_term prefix)) }
     ensures refines { IfOk result (λ r. Refines (plain_term r) (subnet_width applied (bits_in w) (plain_term prefix))) }
 {
-    folded_subnet_width(alloc, w, prefix)
+    folded_subnet_width(alloc, w, &prefix)
 }
 
 // The number of free bits, folded.
-fn folded_subnet_width(alloc: Global, w: Width, prefix: Term) -> Result<Term, TermError>
+fn folded_subnet_width(alloc: Global, w: Width, prefix: &Term) -> Result<Term, TermError>
     requires width { bits_in w ≤ 7 }
-    requires option { type_of (plain_term prefix) ≡ OptionType (BitVecType (bits_in w)) }
-    ensures { IfOk result (λ r. plain_term r ≡ subnet_width folding (bits_in w) (plain_term prefix)) }
+    requires option { type_of (plain_term prefix.now) ≡ OptionType (BitVecType (bits_in w)) }
+    ensures { IfOk result (λ r. plain_term r ≡ subnet_width folding (bits_in w) (plain_term prefix.now)) }
 {
     let bits = address_width(w);
-    let all = literal(bits, bits.get());
-    let counted = counted_bits(alloc, w, prefix.share()?)?;
-    let none = literal(bits, 0);
-    ite(
-        alloc,
-        is_none(alloc, prefix)?,
-        none,
-        bvsub(alloc, all, counted)?,
-    )
+    let counted = counted_bits(alloc, w, prefix)?;
+    let uncounted = bvsub(alloc, literal(bits, bits.get()), counted)?;
+    let is_none = is_none(alloc, prefix.share()?)?;
+    ite(alloc, is_none, literal(bits, 0), uncounted)
 }
 
 // An address with its free bits cleared.
-fn lowest_address(alloc: Global, address: Term, free: &Term) -> Result<Term, TermError>
-    ensures { IfOk result (λ r. plain_term r ≡ lowest_address folding (plain_term address) (plain_term free.now)) }
+fn lowest_address(alloc: Global, address: &Term, free: &Term) -> Result<Term, TermError>
+    ensures { IfOk result (λ r. plain_term r ≡ lowest_address folding (plain_term address.now) (plain_term free.now)) }
 {
-    let kept = bvlshr(alloc, address, free.share()?)?;
+    let kept = bvlshr(alloc, address.share()?, free.share()?)?;
     bvshl(alloc, kept, free.share()?)
 }
 
 // The last address of so many free bits from the lowest one on.
-fn last_address(alloc: Global, width: Width, lowest: &Term, free: Term) -> Result<Term, TermError>
-    ensures { IfOk result (λ r. plain_term r ≡ last_from (bits_in width) (plain_term lowest.now) (plain_term free)) }
+fn last_address(alloc: Global, width: Width, lowest: &Term, free: &Term) -> Result<Term, TermError>
+    ensures { IfOk result (λ r. plain_term r ≡ last_from (bits_in width) (plain_term lowest.now) (plain_term free.now)) }
 {
-    let size = bvshl(alloc, literal(width, 1), free)?;
+    let size = bvshl(alloc, literal(width, 1), free.share()?)?;
     let behind = bvadd(alloc, lowest.share()?, size)?;
     bvsub(alloc, behind, literal(width, 1))
 }
@@ -146,12 +140,12 @@ fn last_address(alloc: Global, width: Width, lowest: &Term, free: Term) -> Resul
 fn range_by(
     alloc: Global,
     width: Width,
-    address: Term,
-    free: Term,
+    address: &Term,
+    free: &Term,
 ) -> Result<(Term, Term), TermError>
-    ensures { IfOk result (λ r. plain_pair r ≡ range_by folding (bits_in width) (plain_term address) (plain_term free)) }
+    ensures { IfOk result (λ r. plain_pair r ≡ range_by folding (bits_in width) (plain_term address.now) (plain_term free.now)) }
 {
-    let lowest = lowest_address(alloc, address, &free)?;
+    let lowest = lowest_address(alloc, address, free)?;
     let highest = last_address(alloc, width, &lowest, free)?;
     Ok((lowest, highest))
 }
@@ -164,16 +158,24 @@ pub fn range_v4(alloc: Global, t: Term) -> Result<(Term, Term), TermError>
     ensures folded { IfOk result (λ r. plain_pair r ≡ range_v4 folding (plain_term t)) }
     ensures refines { IfOk result (λ r. BothRefine (plain_pair r) (range_v4 applied (plain_term t))) }
 {
-    folded_range_v4(alloc, t)
+    folded_range_v4(alloc, &t)
+}
+
+// How many last bits of an IPv4 range's address are free.
+fn free_bits_v4(alloc: Global, t: &Term) -> Result<Term, TermError>
+    ensures { IfOk result (λ r. plain_term r ≡ subnet_width folding 5 (folding.extension IpPrefixV4Op (plain_term t.now))) }
+{
+    let prefix = ext_ipaddr_prefix_v4(alloc, t.share()?)?;
+    subnet_width(alloc, FIVE, prefix)
 }
 
 // The lowest and the highest address, folded.
-fn folded_range_v4(alloc: Global, t: Term) -> Result<(Term, Term), TermError>
-    ensures { IfOk result (λ r. plain_pair r ≡ range_v4 folding (plain_term t)) }
+fn folded_range_v4(alloc: Global, t: &Term) -> Result<(Term, Term), TermError>
+    ensures { IfOk result (λ r. plain_pair r ≡ range_v4 folding (plain_term t.now)) }
 {
-    let prefix = ext_ipaddr_prefix_v4(alloc, t.share()?)?;
-    let free = subnet_width(alloc, FIVE, prefix)?;
-    range_by(alloc, THIRTY_TWO, ext_ipaddr_addr_v4(alloc, t)?, free)
+    let free = free_bits_v4(alloc, t)?;
+    let address = ext_ipaddr_addr_v4(alloc, t.share()?)?;
+    range_by(alloc, THIRTY_TWO, &address, &free)
 }
 
 /// The lowest and the highest address of an IPv6 range, of 128 bits each.
@@ -184,19 +186,22 @@ pub fn range_v6(alloc: Global, t: Term) -> Result<(Term, Term), TermError>
     ensures folded { IfOk result (λ r. plain_pair r ≡ range_v6 folding (plain_term t)) }
     ensures refines { IfOk result (λ r. BothRefine (plain_pair r) (range_v6 applied (plain_term t))) }
 {
-    folded_range_v6(alloc, t)
+    folded_range_v6(alloc, &t)
+}
+
+// How many last bits of an IPv6 range's address are free.
+fn free_bits_v6(alloc: Global, t: &Term) -> Result<Term, TermError>
+    ensures { IfOk result (λ r. plain_term r ≡ subnet_width folding 7 (folding.extension IpPrefixV6Op (plain_term t.now))) }
+{
+    let prefix = ext_ipaddr_prefix_v6(alloc, t.share()?)?;
+    subnet_width(alloc, SEVEN, prefix)
 }
 
 // The lowest and the highest address, folded.
-fn folded_range_v6(alloc: Global, t: Term) -> Result<(Term, Term), TermError>
-    ensures { IfOk result (λ r. plain_pair r ≡ range_v6 folding (plain_term t)) }
+fn folded_range_v6(alloc: Global, t: &Term) -> Result<(Term, Term), TermError>
+    ensures { IfOk result (λ r. plain_pair r ≡ range_v6 folding (plain_term t.now)) }
 {
-    let prefix = ext_ipaddr_prefix_v6(alloc, t.share()?)?;
-    let free = subnet_width(alloc, SEVEN, prefix)?;
-    range_by(
-        alloc,
-        HUNDRED_TWENTY_EIGHT,
-        ext_ipaddr_addr_v6(alloc, t)?,
-        free,
-    )
+    let free = free_bits_v6(alloc, t)?;
+    let address = ext_ipaddr_addr_v6(alloc, t.share()?)?;
+    range_by(alloc, HUNDRED_TWENTY_EIGHT, &address, &free)
 }

@@ -3,6 +3,7 @@
 ghost use Rattle.std.specs.Prelude.{◌≡◌, IfOk};
 ghost use Rattle.smt_arithmetic.specs.BitOperators.{BvsremOp};
 ghost use Rattle.smt_extension_folding.specs.ExtensionFunctions.{day_literal, difference_as, duration_since, offset, since_midnight, sum_as, to_date, to_days, to_hours, to_milliseconds, to_minutes, to_seconds, to_time};
+ghost use Rattle.smt_extension_functions.specs.Days.{a_day_more};
 ghost use Rattle.smt_folding.specs.Builder.{applied, folding};
 ghost use Rattle.smt_folding.specs.Refinement.{Refines};
 ghost use Rattle.smt_leaves.specs.ExtensionView.{plain_extension_op};
@@ -40,7 +41,6 @@ pub fn to_milliseconds(alloc: Global, t: Term) -> Result<Term, TermError>
 ///
 /// # Errors
 /// `Memory`, where there is none for the term.
-#[tactic(auto, using(crate::proofs::FunctionsFold::seconds))]
 pub fn to_seconds(alloc: Global, t: Term) -> Result<Term, TermError>
     ensures folded { IfOk result (λ r. plain_term r ≡ to_seconds folding (plain_term t)) }
     ensures refines { IfOk result (λ r. Refines (plain_term r) (to_seconds applied (plain_term t))) }
@@ -56,7 +56,6 @@ pub fn to_seconds(alloc: Global, t: Term) -> Result<Term, TermError>
 ///
 /// # Errors
 /// `Memory`, where there is none for the term.
-#[tactic(auto, using(crate::proofs::FunctionsFold::minutes))]
 pub fn to_minutes(alloc: Global, t: Term) -> Result<Term, TermError>
     ensures folded { IfOk result (λ r. plain_term r ≡ to_minutes folding (plain_term t)) }
     ensures refines { IfOk result (λ r. Refines (plain_term r) (to_minutes applied (plain_term t))) }
@@ -72,7 +71,6 @@ pub fn to_minutes(alloc: Global, t: Term) -> Result<Term, TermError>
 ///
 /// # Errors
 /// `Memory`, where there is none for the term.
-#[tactic(auto, using(crate::proofs::FunctionsFold::hours))]
 pub fn to_hours(alloc: Global, t: Term) -> Result<Term, TermError>
     ensures folded { IfOk result (λ r. plain_term r ≡ to_hours folding (plain_term t)) }
     ensures refines { IfOk result (λ r. Refines (plain_term r) (to_hours applied (plain_term t))) }
@@ -84,7 +82,6 @@ pub fn to_hours(alloc: Global, t: Term) -> Result<Term, TermError>
 ///
 /// # Errors
 /// `Memory`, where there is none for the term.
-#[tactic(auto, using(crate::proofs::FunctionsFold::days))]
 pub fn to_days(alloc: Global, t: Term) -> Result<Term, TermError>
     ensures folded { IfOk result (λ r. plain_term r ≡ to_days folding (plain_term t)) }
     ensures refines { IfOk result (λ r. Refines (plain_term r) (to_days applied (plain_term t))) }
@@ -93,69 +90,58 @@ pub fn to_days(alloc: Global, t: Term) -> Result<Term, TermError>
 }
 
 // What an operator makes of the sum of two numbers, none where it leaves the 64 bits.
-fn sum_as(alloc: Global, op: ExtOp, x: Term, y: Term) -> Result<Term, TermError>
-    ensures { IfOk result (λ r. plain_term r ≡ sum_as folding (plain_extension_op op) (plain_term x) (plain_term y)) }
+fn sum_as(alloc: Global, op: ExtOp, x: &Term, y: &Term) -> Result<Term, TermError>
+    ensures { IfOk result (λ r. plain_term r ≡ sum_as folding (plain_extension_op op) (plain_term x.now) (plain_term y.now)) }
 {
-    let overflows = bvsaddo(alloc, x.share()?, y.share()?)?;
-    if_false(alloc, overflows, extension(alloc, op, bvadd(alloc, x, y)?)?)
+    let sum = extension(alloc, op, bvadd(alloc, x.share()?, y.share()?)?)?;
+    if_false(alloc, bvsaddo(alloc, x.share()?, y.share()?)?, sum)
 }
 
 // What an operator makes of the difference of two numbers, none where it leaves the 64 bits.
-fn difference_as(alloc: Global, op: ExtOp, x: Term, y: Term) -> Result<Term, TermError>
-    ensures { IfOk result (λ r. plain_term r ≡ difference_as folding (plain_extension_op op) (plain_term x) (plain_term y)) }
+fn difference_as(alloc: Global, op: ExtOp, x: &Term, y: &Term) -> Result<Term, TermError>
+    ensures { IfOk result (λ r. plain_term r ≡ difference_as folding (plain_extension_op op) (plain_term x.now) (plain_term y.now)) }
 {
-    let overflows = bvssubo(alloc, x.share()?, y.share()?)?;
-    if_false(alloc, overflows, extension(alloc, op, bvsub(alloc, x, y)?)?)
+    let difference = extension(alloc, op, bvsub(alloc, x.share()?, y.share()?)?)?;
+    if_false(alloc, bvssubo(alloc, x.share()?, y.share()?)?, difference)
 }
 
 /// Some of the datetime that lies a duration after a datetime; none where that leaves the 64 bits.
 ///
 /// # Errors
 /// `Memory`, where there is none for the term.
-#[tactic(auto, using(crate::proofs::FunctionsFold::moving))]
 pub fn offset(alloc: Global, datetime: Term, duration: Term) -> Result<Term, TermError>
     ensures folded { IfOk result (λ r. plain_term r ≡ offset folding (plain_term datetime) (plain_term duration)) }
     ensures refines { IfOk result (λ r. Refines (plain_term r) (offset applied (plain_term datetime) (plain_term duration))) }
 {
     let start = ext_datetime_val(alloc, datetime)?;
-    sum_as(
-        alloc,
-        ExtOp::DatetimeOfBitVec,
-        start,
-        ext_duration_val(alloc, duration)?,
-    )
+    let length = ext_duration_val(alloc, duration)?;
+    sum_as(alloc, ExtOp::DatetimeOfBitVec, &start, &length)
 }
 
 /// Some of the duration from the second datetime to the first; none where that leaves the 64 bits.
 ///
 /// # Errors
 /// `Memory`, where there is none for the term.
-#[tactic(auto, using(crate::proofs::FunctionsFold::measuring))]
 pub fn duration_since(alloc: Global, datetime: Term, start: Term) -> Result<Term, TermError>
     ensures folded { IfOk result (λ r. plain_term r ≡ duration_since folding (plain_term datetime) (plain_term start)) }
     ensures refines { IfOk result (λ r. Refines (plain_term r) (duration_since applied (plain_term datetime) (plain_term start))) }
 {
     let end = ext_datetime_val(alloc, datetime)?;
-    difference_as(
-        alloc,
-        ExtOp::DurationOfBitVec,
-        end,
-        ext_datetime_val(alloc, start)?,
-    )
+    let start = ext_datetime_val(alloc, start)?;
+    difference_as(alloc, ExtOp::DurationOfBitVec, &end, &start)
 }
 
 /// Some of the last midnight at a datetime; none where that leaves the 64 bits.
 ///
 /// # Errors
 /// `Memory`, where there is none for the term.
-#[tactic(auto, using(crate::proofs::FunctionsFold::dating))]
 pub fn to_date(alloc: Global, datetime: Term) -> Result<Term, TermError>
     ensures folded { IfOk result (λ r. plain_term r ≡ to_date folding (plain_term datetime)) }
     ensures refines { IfOk result (λ r. Refines (plain_term r) (to_date applied (plain_term datetime))) }
 {
     let number = ext_datetime_val(alloc, datetime)?;
     let of_day = bvsmod(alloc, number.share()?, Term::from(MILLISECONDS_IN_A_DAY))?;
-    difference_as(alloc, ExtOp::DatetimeOfBitVec, number, of_day)
+    difference_as(alloc, ExtOp::DatetimeOfBitVec, &number, &of_day)
 }
 
 /// The duration since the last midnight at a datetime.
@@ -174,18 +160,25 @@ fn folded_to_time(alloc: Global, datetime: Term) -> Result<Term, TermError>
     ensures { IfOk result (λ r. plain_term r ≡ to_time folding (plain_term datetime)) }
 {
     let number = ext_datetime_val(alloc, datetime)?;
-    ext_duration_of_bitvec(alloc, since_midnight(alloc, number)?)
+    ext_duration_of_bitvec(alloc, since_midnight(alloc, &number)?)
 }
 
 // The milliseconds since the last midnight, of a number. What division by a day leaves is below zero where the number is, and a
 // day less then.
-fn since_midnight(alloc: Global, number: Term) -> Result<Term, TermError>
-    ensures { IfOk result (λ r. plain_term r ≡ since_midnight folding (plain_term number) (folding.bits BvsremOp (plain_term number) day_literal)) }
+fn since_midnight(alloc: Global, number: &Term) -> Result<Term, TermError>
+    ensures { IfOk result (λ r. plain_term r ≡ since_midnight folding (plain_term number.now) (folding.bits BvsremOp (plain_term number.now) day_literal)) }
 {
     let left = bvsrem(alloc, number.share()?, Term::from(MILLISECONDS_IN_A_DAY))?;
-    let is_after_1970 = bvsle(alloc, Term::from(0i64), number)?;
-    let is_midnight = eq(alloc, left.share()?, Term::from(0i64))?;
-    let day_more = bvadd(alloc, left.share()?, Term::from(MILLISECONDS_IN_A_DAY))?;
-    let before_1970 = ite(alloc, is_midnight, Term::from(0i64), day_more)?;
+    let before_1970 = a_day_more(alloc, &left)?;
+    let is_after_1970 = bvsle(alloc, Term::from(0i64), number.share()?)?;
     ite(alloc, is_after_1970, left, before_1970)
+}
+
+// A day more than a number, where it is not zero.
+fn a_day_more(alloc: Global, left: &Term) -> Result<Term, TermError>
+    ensures { IfOk result (λ r. plain_term r ≡ a_day_more folding (plain_term left.now)) }
+{
+    let day_more = bvadd(alloc, left.share()?, Term::from(MILLISECONDS_IN_A_DAY))?;
+    let is_midnight = eq(alloc, left.share()?, Term::from(0i64))?;
+    ite(alloc, is_midnight, Term::from(0i64), day_more)
 }

@@ -12,7 +12,7 @@ ghost use Rattle.smt_term.specs.View.{plain_term, plain_type};
 
 use crate::literals::given;
 use smt_bits::{FIVE, HUNDRED_TWENTY_EIGHT, SEVEN, SIXTY_FOUR, THIRTY_TWO};
-use smt_parts::application;
+use smt_parts::unary_application;
 use smt_term::{ExtOp, ExtType, Op, Term, TermError, TermType};
 use std::alloc::Global;
 
@@ -25,16 +25,16 @@ pub fn extension(alloc: Global, op: ExtOp, t: Term) -> Result<Term, TermError>
     ensures folded { IfOk result (λ r. plain_term r ≡ folded_extension (plain_extension_op op) (plain_term t)) }
     ensures refines { IfOk result (λ r. Refines (plain_term r) (extension_of (plain_extension_op op) (plain_term t))) }
 {
-    folded_extension(alloc, op, t)
+    folded_extension(alloc, op, &t)
 }
 
 // An operator at a term, folded.
-fn folded_extension(alloc: Global, op: ExtOp, t: Term) -> Result<Term, TermError>
-    ensures { IfOk result (λ r. plain_term r ≡ folded_extension (plain_extension_op op) (plain_term t)) }
+fn folded_extension(alloc: Global, op: ExtOp, t: &Term) -> Result<Term, TermError>
+    ensures { IfOk result (λ r. plain_term r ≡ folded_extension (plain_extension_op op) (plain_term t.now)) }
 {
-    match given(alloc, op, &t)? {
+    match given(alloc, op, t)? {
         Some(r) => Ok(r),
-        None => application(alloc, Op::Ext(op), &[t], type_given(alloc, op)?),
+        None => unary_application(alloc, Op::Ext(op), t, type_given(alloc, op)?),
     }
 }
 

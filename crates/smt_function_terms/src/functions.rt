@@ -13,7 +13,7 @@ ghost use Rattle.smt_term.specs.Maps.{plain_entry};
 ghost use Rattle.smt_term.specs.View.{plain_function, plain_term};
 
 use smt_equality::{eq, ite};
-use smt_parts::application;
+use smt_parts::unary_application;
 use smt_term::{Op, Term, TermError, Udf, UnaryFunction, Uuf};
 use std::alloc::Global;
 use std::rc::Rc;
@@ -35,30 +35,30 @@ pub fn app(alloc: Global, f: UnaryFunction, t: Term) -> Result<Term, TermError>
     ensures value { HasLiteralKeys (plain_unary f) → IsTypedFunction (plain_unary f) → Typed (plain_term t) (argument_type (plain_unary f)) →
         IfOk result (λ r. IsAppOf (plain_unary f) (plain_term t) (plain_term r)) }
 {
-    folded_app(alloc, f, t)
+    folded_app(alloc, &f, &t)
 }
 
 // A function at a term, folded.
-fn folded_app(alloc: Global, f: UnaryFunction, t: Term) -> Result<Term, TermError>
-    ensures { IfOk result (λ r. plain_term r ≡ folded_app (plain_unary f) (plain_term t)) }
+fn folded_app(alloc: Global, f: &UnaryFunction, t: &Term) -> Result<Term, TermError>
+    ensures { IfOk result (λ r. plain_term r ≡ folded_app (plain_unary f.now) (plain_term t.now)) }
 {
     match f {
         UnaryFunction::Uuf(function) => uninterpreted(alloc, function, t),
         UnaryFunction::Udf(function) => {
             if t.is_literal() {
-                return entry(&function, &t);
+                return entry(function, t);
             }
-            choice(alloc, function.table.items(), &function.default, &t)
+            choice(alloc, function.table.items(), &function.default, t)
         }
     }
 }
 
 // The application of a function that an interpretation gives.
-fn uninterpreted(alloc: Global, function: Rc<Uuf>, t: Term) -> Result<Term, TermError>
-    ensures { IfOk result (λ r. plain_term r ≡ uuf_of (plain_function function.value) (plain_term t)) }
+fn uninterpreted(alloc: Global, function: &Rc<Uuf>, t: &Term) -> Result<Term, TermError>
+    ensures { IfOk result (λ r. plain_term r ≡ uuf_of (plain_function function.now.value) (plain_term t.now)) }
 {
     let ty = function.out.share()?;
-    application(alloc, Op::Uuf(function), &[t], ty)
+    unary_application(alloc, Op::Uuf(function.clone()?), t, ty)
 }
 
 // The term of the entry that has a term as its key, and else the default.

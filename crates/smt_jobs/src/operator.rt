@@ -1,7 +1,7 @@
 // Operators by their names, and what is built for them.
 ghost use Rattle.std.specs.Prelude.{◌≡◌, ◌∷◌, [], Some, IfOk, IsTrue, is_some, map, option_map};
 ghost use Rattle.smt_folding.specs.Built.{folded};
-ghost use Rattle.smt_meaning.specs.Plain.{PlainType};
+ghost use Rattle.smt_meaning.specs.Plain.{PlainTerm, PlainType};
 ghost use Rattle.smt_meaning.specs.Types.{result_type, type_of};
 ghost use Rattle.smt_term.specs.View.{plain_op, plain_term};
 ghost use Rattle.smt_jobs.specs.Job.{operator_named};
@@ -62,24 +62,34 @@ pub(crate) fn built_from(
     }
 }
 
+// Some of what was built: one exit for all calls, since each exit is proved by itself.
+fn some(built: Result<Term, TermError>) -> Result<Option<Term>, TermError>
+    ensures { (u : PlainTerm) → IfOk built (λ t. plain_term t ≡ u) → IfOk result (λ found. option_map plain_term found ≡ Some u) }
+{
+    Ok(Some(built?))
+}
+
 // Of one operand that the operator takes.
 fn built_from_one(alloc: Global, op: &Op, a: &Term) -> Result<Option<Term>, TermError>
     requires { IsTrue (is_some (result_type (plain_op op.now) (type_of (plain_term a.now) ∷ []))) }
     ensures { (ty : PlainType) → result_type (plain_op op.now) (type_of (plain_term a.now) ∷ []) ≡ Some ty → IfOk result (λ found. option_map plain_term found ≡ Some (folded (plain_op op.now) (plain_term a.now ∷ []) ty)) }
 {
     let a = a.share()?;
-    Ok(Some(match op {
-        Op::Not => factory::not(alloc, a)?,
-        Op::Bvneg => factory::bvneg(alloc, a)?,
-        Op::Bvnego => factory::bvnego(alloc, a)?,
-        Op::Ext(op) => factory::extension(alloc, *op, a)?,
-        Op::OptionGet => factory::option_get(alloc, a)?,
-        Op::RecordGet(attribute) => factory::record_get(alloc, a, attribute)?,
-        Op::StringLike(pattern) => factory::string_like(alloc, a, pattern.share()?)?,
-        Op::Uuf(function) => factory::app(alloc, UnaryFunction::Uuf(function.clone()?), a)?,
-        Op::ZeroExtend(bits) => factory::zero_extend(alloc, *bits, a)?,
-        _ => return Ok(None),
-    }))
+    match op {
+        Op::Not => some(factory::not(alloc, a)),
+        Op::Bvneg => some(factory::bvneg(alloc, a)),
+        Op::Bvnego => some(factory::bvnego(alloc, a)),
+        Op::Ext(op) => some(factory::extension(alloc, *op, a)),
+        Op::OptionGet => some(factory::option_get(alloc, a)),
+        Op::RecordGet(attribute) => some(factory::record_get(alloc, a, attribute)),
+        Op::StringLike(pattern) => some(factory::string_like(alloc, a, pattern.share()?)),
+        Op::Uuf(function) => {
+            let function = UnaryFunction::Uuf(function.clone()?);
+            some(factory::app(alloc, function, a))
+        }
+        Op::ZeroExtend(bits) => some(factory::zero_extend(alloc, *bits, a)),
+        _ => Ok(None),
+    }
 }
 
 // Of two operands that the operator takes.
@@ -89,30 +99,30 @@ fn built_from_two(alloc: Global, op: &Op, a: &Term, b: &Term) -> Result<Option<T
 {
     let a = a.share()?;
     let b = b.share()?;
-    Ok(Some(match op {
-        Op::And => factory::and(alloc, a, b)?,
-        Op::Or => factory::or(alloc, a, b)?,
-        Op::Eq => factory::eq(alloc, a, b)?,
-        Op::Bvadd => factory::bvadd(alloc, a, b)?,
-        Op::Bvsub => factory::bvsub(alloc, a, b)?,
-        Op::Bvmul => factory::bvmul(alloc, a, b)?,
-        Op::Bvudiv => factory::bvudiv(alloc, a, b)?,
-        Op::Bvurem => factory::bvurem(alloc, a, b)?,
-        Op::Bvsdiv => factory::bvsdiv(alloc, a, b)?,
-        Op::Bvsrem => factory::bvsrem(alloc, a, b)?,
-        Op::Bvsmod => factory::bvsmod(alloc, a, b)?,
-        Op::Bvshl => factory::bvshl(alloc, a, b)?,
-        Op::Bvlshr => factory::bvlshr(alloc, a, b)?,
-        Op::Bvult => factory::bvult(alloc, a, b)?,
-        Op::Bvule => factory::bvule(alloc, a, b)?,
-        Op::Bvslt => factory::bvslt(alloc, a, b)?,
-        Op::Bvsle => factory::bvsle(alloc, a, b)?,
-        Op::Bvsaddo => factory::bvsaddo(alloc, a, b)?,
-        Op::Bvssubo => factory::bvssubo(alloc, a, b)?,
-        Op::Bvsmulo => factory::bvsmulo(alloc, a, b)?,
-        Op::SetInter => factory::set_inter(alloc, a, b)?,
-        Op::SetMember => factory::set_member(alloc, a, b)?,
-        Op::SetSubset => factory::set_subset(alloc, a, b)?,
+    match op {
+        Op::And => some(factory::and(alloc, a, b)),
+        Op::Or => some(factory::or(alloc, a, b)),
+        Op::Eq => some(factory::eq(alloc, a, b)),
+        Op::Bvadd => some(factory::bvadd(alloc, a, b)),
+        Op::Bvsub => some(factory::bvsub(alloc, a, b)),
+        Op::Bvmul => some(factory::bvmul(alloc, a, b)),
+        Op::Bvudiv => some(factory::bvudiv(alloc, a, b)),
+        Op::Bvurem => some(factory::bvurem(alloc, a, b)),
+        Op::Bvsdiv => some(factory::bvsdiv(alloc, a, b)),
+        Op::Bvsrem => some(factory::bvsrem(alloc, a, b)),
+        Op::Bvsmod => some(factory::bvsmod(alloc, a, b)),
+        Op::Bvshl => some(factory::bvshl(alloc, a, b)),
+        Op::Bvlshr => some(factory::bvlshr(alloc, a, b)),
+        Op::Bvult => some(factory::bvult(alloc, a, b)),
+        Op::Bvule => some(factory::bvule(alloc, a, b)),
+        Op::Bvslt => some(factory::bvslt(alloc, a, b)),
+        Op::Bvsle => some(factory::bvsle(alloc, a, b)),
+        Op::Bvsaddo => some(factory::bvsaddo(alloc, a, b)),
+        Op::Bvssubo => some(factory::bvssubo(alloc, a, b)),
+        Op::Bvsmulo => some(factory::bvsmulo(alloc, a, b)),
+        Op::SetInter => some(factory::set_inter(alloc, a, b)),
+        Op::SetMember => some(factory::set_member(alloc, a, b)),
+        Op::SetSubset => some(factory::set_subset(alloc, a, b)),
         Op::Bvneg
         | Op::Bvnego
         | Op::Ext(_)
@@ -122,8 +132,8 @@ fn built_from_two(alloc: Global, op: &Op, a: &Term, b: &Term) -> Result<Option<T
         | Op::RecordGet(_)
         | Op::StringLike(_)
         | Op::Uuf(_)
-        | Op::ZeroExtend(_) => return Ok(None),
-    }))
+        | Op::ZeroExtend(_) => Ok(None),
+    }
 }
 
 // Of three operands that the operator takes.
@@ -138,7 +148,7 @@ fn built_from_three(
     ensures { (ty : PlainType) → IfOk result (λ found. option_map plain_term found ≡ Some (folded (plain_op op.now) (plain_term a.now ∷ plain_term b.now ∷ plain_term c.now ∷ []) ty)) }
 {
     match op {
-        Op::Ite => Ok(Some(factory::ite(alloc, a.share()?, b.share()?, c.share()?)?)),
+        Op::Ite => some(factory::ite(alloc, a.share()?, b.share()?, c.share()?)),
         _ => Ok(None),
     }
 }

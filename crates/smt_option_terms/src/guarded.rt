@@ -39,12 +39,12 @@ pub fn if_true(alloc: Global, g: Term, t: Term) -> Result<Term, TermError>
 }
 
 // Where the guard is false an option itself, and some of another term; else none.
-fn unless(alloc: Global, g: Term, t: Term) -> Result<Term, TermError>
-    ensures { IfOk result (λ r. plain_term r ≡ unless folding (plain_term g) (plain_term t)) }
+fn unless(alloc: Global, g: Term, t: &Term) -> Result<Term, TermError>
+    ensures { IfOk result (λ r. plain_term r ≡ unless folding (plain_term g) (plain_term t.now)) }
 {
-    match inner_type(alloc, &t)? {
-        Some(ty) => ite(alloc, g, none_of(ty), t),
-        None => if_false(alloc, g, t),
+    match inner_type(alloc, t)? {
+        Some(ty) => ite(alloc, g, none_of(ty), t.share()?),
+        None => if_false(alloc, g, t.share()?),
     }
 }
 
@@ -56,7 +56,7 @@ pub fn if_some(alloc: Global, g: Term, t: Term) -> Result<Term, TermError>
     ensures folded { IfOk result (λ r. plain_term r ≡ if_some folding (plain_term g) (plain_term t)) }
     ensures refines { IfOk result (λ r. Refines (plain_term r) (if_some applied (plain_term g) (plain_term t))) }
 {
-    unless(alloc, is_none(alloc, g)?, t)
+    unless(alloc, is_none(alloc, g)?, &t)
 }
 
 /// A term as an option, where each of these options is some, and else none. A term that is an option stays what it is.
@@ -67,5 +67,5 @@ pub fn if_all_some(alloc: Global, gs: &[Term], t: Term) -> Result<Term, TermErro
     ensures folded { IfOk result (λ r. plain_term r ≡ if_all_some folding (map plain_term gs.now) (plain_term t)) }
     ensures refines { IfOk result (λ r. Refines (plain_term r) (if_all_some applied (map plain_term gs.now) (plain_term t))) }
 {
-    unless(alloc, any_none(alloc, gs)?, t)
+    unless(alloc, any_none(alloc, gs)?, &t)
 }

@@ -8,7 +8,7 @@ ghost use Rattle.smt_folding.specs.Refinement.{Refines};
 ghost use Rattle.smt_meaning.specs.Types.{inner_type, type_of};
 ghost use Rattle.smt_term.specs.View.{plain_term, plain_type};
 
-use smt_parts::{application, held};
+use smt_parts::{held, unary_application};
 use smt_term::{Op, Term, TermError, TermType};
 use std::alloc::Global;
 
@@ -21,19 +21,19 @@ pub fn option_get(alloc: Global, t: Term) -> Result<Term, TermError>
     ensures folded { IfOk result (λ r. plain_term r ≡ folded_option_get (plain_term t)) }
     ensures refines { IfOk result (λ r. Refines (plain_term r) (option_get_of (plain_term t))) }
 {
-    folded_option_get(alloc, t)
+    folded_option_get(alloc, &t)
 }
 
 // What an option holds, folded.
-fn folded_option_get(alloc: Global, t: Term) -> Result<Term, TermError>
-    ensures { IfOk result (λ r. plain_term r ≡ folded_option_get (plain_term t)) }
+fn folded_option_get(alloc: Global, t: &Term) -> Result<Term, TermError>
+    ensures { IfOk result (λ r. plain_term r ≡ folded_option_get (plain_term t.now)) }
 {
-    if let Some(inner) = held(&t) {
-        return Ok(inner.share()?);
+    if let Some(inner) = held(t) {
+        return inner.share();
     }
-    match inner_type(alloc, &t)? {
-        Some(ty) => application(alloc, Op::OptionGet, &[t], ty),
-        None => Ok(t),
+    match inner_type(alloc, t)? {
+        Some(ty) => unary_application(alloc, Op::OptionGet, t, ty),
+        None => t.share(),
     }
 }
 

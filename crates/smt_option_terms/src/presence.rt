@@ -51,32 +51,26 @@ fn none_by_branches(
         (none_by_branches (plain_term guard.now) (plain_term first.now) (plain_term second.now) ≡ None)
         (λ r. none_by_branches (plain_term guard.now) (plain_term first.now) (plain_term second.now) ≡ Some (plain_term r))) }
 {
-    match (held(first), held(second)) {
-        (Some(_), Some(_)) => Ok(Some(Term::from(false))),
-        (Some(_), None) => {
-            if is_none_term(second) {
-                Ok(Some(not(alloc, guard.share()?)?))
-            } else {
-                Ok(None)
-            }
-        }
-        (None, Some(_)) => {
-            if is_none_term(first) {
-                Ok(Some(guard.share()?))
-            } else {
-                Ok(None)
-            }
-        }
-        (None, None) => Ok(None),
+    let first_holds = held(first).is_some();
+    let second_holds = held(second).is_some();
+    if first_holds && second_holds {
+        return Ok(Some(Term::from(false)));
     }
+    if first_holds && is_none_term(second) {
+        return Ok(Some(not(alloc, guard.share()?)?));
+    }
+    if second_holds && is_none_term(first) {
+        return Ok(Some(guard.share()?));
+    }
+    Ok(None)
 }
 
 // Whether a term equals the none of its type; false for what is no option.
-fn none_by_type(alloc: Global, t: Term) -> Result<Term, TermError>
-    ensures { IfOk result (λ r. plain_term r ≡ none_by_type folding (plain_term t)) }
+fn none_by_type(alloc: Global, t: &Term) -> Result<Term, TermError>
+    ensures { IfOk result (λ r. plain_term r ≡ none_by_type folding (plain_term t.now)) }
 {
-    match inner_type(alloc, &t)? {
-        Some(ty) => eq(alloc, t, none_of(ty)),
+    match inner_type(alloc, t)? {
+        Some(ty) => eq(alloc, t.share()?, none_of(ty)),
         None => Ok(Term::from(false)),
     }
 }
@@ -92,14 +86,14 @@ pub fn is_none(alloc: Global, t: Term) -> Result<Term, TermError>
     ensures folded { IfOk result (λ r. plain_term r ≡ is_none folding (plain_term t)) }
     ensures refines { IfOk result (λ r. Refines (plain_term r) (is_none applied (plain_term t))) }
 {
-    folded_is_none(alloc, t)
+    folded_is_none(alloc, &t)
 }
 
 // Whether an option is none, folded.
-fn folded_is_none(alloc: Global, t: Term) -> Result<Term, TermError>
-    ensures { IfOk result (λ r. plain_term r ≡ is_none folding (plain_term t)) }
+fn folded_is_none(alloc: Global, t: &Term) -> Result<Term, TermError>
+    ensures { IfOk result (λ r. plain_term r ≡ is_none folding (plain_term t.now)) }
 {
-    match none_by_form(alloc, &t)? {
+    match none_by_form(alloc, t)? {
         Some(known) => Ok(known),
         None => none_by_type(alloc, t),
     }

@@ -1,33 +1,96 @@
 //! Applications as calls are asked for them.
-ghost use Rattle.std.specs.Prelude.{◌≡◌, IfOk, map};
+ghost use Rattle.std.specs.Prelude.{◌≡◌, ◌∷◌, [], IfOk};
 ghost use Rattle.smt_meaning.specs.Plain.{Application, BoolType, terms};
-ghost use Rattle.smt_term.specs.View.{plain_op, plain_term, plain_type};
+ghost use Rattle.smt_term.specs.View.{plain_items, plain_op, plain_term, plain_type};
 
 use smt_term::{Op, Term, TermError, TermList, TermType};
 use std::alloc::Global;
 
-/// The application of an operator to these arguments, with this type.
+/// The application of an operator to this argument, with this type.
 ///
 /// # Errors
 /// `Memory`, where there is none for the term.
-pub fn application(
+pub fn unary_application(
     alloc: Global,
     op: Op,
-    args: &[Term],
+    t: &Term,
     ret_ty: TermType,
 ) -> Result<Term, TermError>
-    ensures { IfOk result (λ r. plain_term r ≡ Application (plain_op op) (terms (map plain_term args.now)) (plain_type ret_ty)) }
+    ensures { IfOk result (λ r. plain_term r ≡ Application (plain_op op) (terms (plain_term t.now ∷ [])) (plain_type ret_ty)) }
 {
-    let args = TermList::new(alloc, args)?;
+    let args = list_of_one(alloc, t)?;
     Ok(Term::App { op, args, ret_ty })
 }
 
-/// The application of an operator that gives a truth value.
+/// The application of an operator to these two arguments, with this type.
 ///
 /// # Errors
 /// `Memory`, where there is none for the term.
-pub fn truth_application(alloc: Global, op: Op, args: &[Term]) -> Result<Term, TermError>
-    ensures { IfOk result (λ r. plain_term r ≡ Application (plain_op op) (terms (map plain_term args.now)) BoolType) }
+pub fn binary_application(
+    alloc: Global,
+    op: Op,
+    t1: &Term,
+    t2: &Term,
+    ret_ty: TermType,
+) -> Result<Term, TermError>
+    ensures { IfOk result (λ r. plain_term r ≡ Application (plain_op op) (terms (plain_term t1.now ∷ plain_term t2.now ∷ [])) (plain_type ret_ty)) }
 {
-    application(alloc, op, args, TermType::Bool)
+    let args = list_of_two(alloc, t1, t2)?;
+    Ok(Term::App { op, args, ret_ty })
+}
+
+/// The application of an operator to these three arguments, with this type.
+///
+/// # Errors
+/// `Memory`, where there is none for the term.
+pub fn ternary_application(
+    alloc: Global,
+    op: Op,
+    t1: &Term,
+    t2: &Term,
+    t3: &Term,
+    ret_ty: TermType,
+) -> Result<Term, TermError>
+    ensures { IfOk result (λ r. plain_term r ≡ Application (plain_op op) (terms (plain_term t1.now ∷ plain_term t2.now ∷ plain_term t3.now ∷ [])) (plain_type ret_ty)) }
+{
+    let args = list_of_three(alloc, t1, t2, t3)?;
+    Ok(Term::App { op, args, ret_ty })
+}
+
+/// The application to this argument of an operator that gives a truth value.
+///
+/// # Errors
+/// `Memory`, where there is none for the term.
+pub fn unary_test(alloc: Global, op: Op, t: &Term) -> Result<Term, TermError>
+    ensures { IfOk result (λ r. plain_term r ≡ Application (plain_op op) (terms (plain_term t.now ∷ [])) BoolType) }
+{
+    unary_application(alloc, op, t, TermType::Bool)
+}
+
+/// The application to these two arguments of an operator that gives a truth value.
+///
+/// # Errors
+/// `Memory`, where there is none for the term.
+pub fn binary_test(alloc: Global, op: Op, t1: &Term, t2: &Term) -> Result<Term, TermError>
+    ensures { IfOk result (λ r. plain_term r ≡ Application (plain_op op) (terms (plain_term t1.now ∷ plain_term t2.now ∷ [])) BoolType) }
+{
+    binary_application(alloc, op, t1, t2, TermType::Bool)
+}
+
+fn list_of_one(alloc: Global, t: &Term) -> Result<TermList, TermError>
+    ensures { IfOk result (λ ts. plain_items ts ≡ plain_term t.now ∷ []) }
+{
+    TermList::new(alloc, &[t.share()?])
+}
+
+fn list_of_two(alloc: Global, t1: &Term, t2: &Term) -> Result<TermList, TermError>
+    ensures { IfOk result (λ ts. plain_items ts ≡ plain_term t1.now ∷ plain_term t2.now ∷ []) }
+{
+    TermList::new(alloc, &[t1.share()?, t2.share()?])
+}
+
+fn list_of_three(alloc: Global, t1: &Term, t2: &Term, t3: &Term) -> Result<TermList, TermError>
+    ensures { IfOk result (λ ts. plain_items ts ≡ plain_term t1.now ∷ plain_term t2.now ∷ plain_term t3.now ∷ []) }
+{
+    TermList::new(alloc, &[t1.share()?, t2.share()?, t3.share()?])
 }

@@ -8,6 +8,8 @@ mod applications;
 mod options;
 mod parts;
 
-pub use applications::{application, truth_application};
+pub use applications::{
+    binary_application, binary_test, ternary_application, unary_application, unary_test,
+};
 pub use options::{held, is_none_term, none_of, some_of};
 pub use parts::{is_truth_value, only_one};

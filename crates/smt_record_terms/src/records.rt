@@ -14,7 +14,7 @@ ghost use Rattle.smt_meaning.specs.Typing.{AreTyped};
 ghost use Rattle.smt_term.specs.Maps.{plain_field, plain_fields};
 ghost use Rattle.smt_term.specs.View.{plain_term, plain_type, record_fields};
 
-use smt_parts::application;
+use smt_parts::unary_application;
 use smt_term::{Attr, Op, Term, TermError, TermMap, TermType, Text};
 use smt_text::share_text;
 use std::alloc::Global;
@@ -56,22 +56,22 @@ pub fn record_get(alloc: Global, t: Term, a: &Attr) -> Result<Term, TermError>
     ensures folded { IfOk result (λ r. plain_term r ≡ folded_record_get (plain_term t) (rc_str_bytes a.now)) }
     ensures refines { IfOk result (λ r. Refines (plain_term r) (record_get_of (plain_term t) (rc_str_bytes a.now))) }
 {
-    folded_record_get(alloc, t, a)
+    folded_record_get(alloc, &t, a)
 }
 
 // The value of a record's attribute, folded.
-fn folded_record_get(alloc: Global, t: Term, a: &Attr) -> Result<Term, TermError>
-    ensures { IfOk result (λ r. plain_term r ≡ folded_record_get (plain_term t) (rc_str_bytes a.now)) }
+fn folded_record_get(alloc: Global, t: &Term, a: &Attr) -> Result<Term, TermError>
+    ensures { IfOk result (λ r. plain_term r ≡ folded_record_get (plain_term t.now) (rc_str_bytes a.now)) }
 {
-    if let Some(fields) = given_fields(&t) {
+    if let Some(fields) = given_fields(t) {
         return match fields.get(a) {
             Some(field) => field.share(),
             None => t.share(),
         };
     }
-    match attribute_type(alloc, &t, a)? {
-        Some(ty) => application(alloc, Op::RecordGet(share_text(a)?), &[t], ty),
-        None => Ok(t),
+    match attribute_type(alloc, t, a)? {
+        Some(ty) => unary_application(alloc, Op::RecordGet(share_text(a)?), t, ty),
+        None => t.share(),
     }
 }
 

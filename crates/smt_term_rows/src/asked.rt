@@ -4,7 +4,7 @@ use crate::asked_types;
 use crate::printed::{put_term, put_type};
 use anyhow::{Context, Result, bail};
 use smt_factory::opposites;
-use smt_term::{Op, Term, TermList, TermTable, TermType};
+use smt_term::{Op, Term, TermError, TermList, TermTable, TermType};
 use smt_words::{operator, pairs, text, type_of};
 use std::alloc::Global;
 
@@ -13,33 +13,33 @@ const DISTINCT: [&str; 13] = [
     "bool", "1", "8", "64", "128", "string", "@a", "@b", "?8", ".bool", "*8", "*string", "*?string",
 ];
 
-/// The answer of a word by its head and what it holds behind the colon, None where no question has this head.
-pub(crate) fn answer(
+/// Puts the answer of a word by its head and what it holds behind the colon; false where no question has this head.
+pub(crate) fn answered(
     alloc: Global,
+    out: &mut String,
     terms: &[Term],
     head: &str,
     held: &str,
-) -> Result<Option<String>> {
-    let mut out = String::new(alloc);
+) -> Result<bool> {
     if let Some(truth) = truth(alloc, terms, head, held)? {
         write!(out, "{truth}")?;
-        return Ok(Some(out));
+        return Ok(true);
     }
     match head {
-        "type_of" => put_type(&mut out, &last(terms)?.type_of(alloc)?)?,
-        "type_of_literal" => put_type_of_literal(&mut out, last(terms)?)?,
-        "has_types" => put_types_of(alloc, &mut out, last(terms)?)?,
-        "size" => put_size(&mut out, last(terms)?)?,
-        "at" => put_fields(alloc, &mut out, last(terms)?, held)?,
+        "type_of" => put_type_of(alloc, out, last(terms)?)?,
+        "type_of_literal" => put_type_of_literal(out, last(terms)?)?,
+        "has_types" => put_types_of(alloc, out, last(terms)?)?,
+        "size" => put_size(out, last(terms)?)?,
+        "at" => put_fields(alloc, out, last(terms)?, held)?,
         "compare" => {
             let (a, b) = last_two(terms)?;
             out.push_str(order(a, b))?;
         }
-        "typed_as" => put_types_given(alloc, &mut out, terms, held)?,
-        "table" => put_table(alloc, &mut out, terms, held.parse()?)?,
-        _ => return asked_types::answer(alloc, head, held),
+        "typed_as" => put_types_given(alloc, out, terms, held)?,
+        "table" => put_table(alloc, out, terms, held.parse()?)?,
+        _ => return asked_types::answered(alloc, out, head, held),
     }
-    Ok(Some(out))
+    Ok(true)
 }
 
 /// Whether it is as a word asks, None where no such question has this head.
@@ -104,16 +104,32 @@ pub(crate) fn order<T: Ord>(a: &T, b: &T) -> &'static str {
 fn is_shared(term: &Term) -> Result<bool> {
     let parts = match term {
         Term::App { op, args, ret_ty } => {
-            op.share()? == *op && args.share()? == *args && ret_ty.share()? == *ret_ty
+            equals(op.share(), op)?
+                && equals(args.share(), args)?
+                && equals(ret_ty.share(), ret_ty)?
         }
-        Term::None(ty) => ty.share()? == *ty,
-        Term::Prim(literal) => literal.share()? == *literal,
-        Term::Record(fields) => fields.share()? == *fields,
-        Term::Set { elts_ty, elts } => elts_ty.share()? == *elts_ty && elts.share()? == *elts,
-        Term::Some(inner) => inner.share()? == **inner,
-        Term::Var(variable) => variable.share()? == *variable,
+        Term::None(ty) => equals(ty.share(), ty)?,
+        Term::Prim(literal) => equals(literal.share(), literal)?,
+        Term::Record(fields) => equals(fields.share(), fields)?,
+        Term::Set { elts_ty, elts } => {
+            equals(elts_ty.share(), elts_ty)? && equals(elts.share(), elts)?
+        }
+        Term::Some(inner) => equals(inner.share(), inner)?,
+        Term::Var(variable) => equals(variable.share(), variable)?,
     };
-    Ok(parts && term.share()? == *term)
+    Ok(parts && equals(term.share(), term)?)
+}
+
+/// Whether what was shared is equal to this.
+pub(crate) fn equals<T: PartialEq + Drop>(shared: Result<T, TermError>, own: &T) -> Result<bool> {
+    let shared = shared?;
+    Ok(shared == *own)
+}
+
+/// Puts the type of a term.
+fn put_type_of(alloc: Global, out: &mut String, term: &Term) -> Result<()> {
+    let ty = term.type_of(alloc)?;
+    put_type(out, &ty)
 }
 
 /// Puts the type of the literal that a term is.
@@ -172,28 +188,41 @@ fn put_found(out: &mut String, found: Option<&Term>) -> Result<()> {
 /// stands before the type.
 fn put_types_given(alloc: Global, out: &mut String, terms: &[Term], spelling: &str) -> Result<()> {
     let (op, args) = call(alloc, terms, spelling)?;
+    put_types_by(alloc, out, &op, args)
+}
+
+fn put_types_by(alloc: Global, out: &mut String, op: &Op, args: &[Term]) -> Result<()> {
     out.push_str("(types")?;
     for spelling in &DISTINCT {
         let ty = type_of(alloc, spelling)?;
-        let claim = Term::App {
-            op: op.share()?,
-            args: TermList::new(alloc, args)?,
-            ret_ty: ty.share()?,
-        };
-        if !is_claim(alloc, &claim, &ty)? {
-            write!(out, " but:{spelling}")?;
-        } else if claim.well_typed() {
-            write!(out, " {spelling}")?;
+        match is_well_typed_as(alloc, op, args, &ty)? {
+            Some(true) => write!(out, " {spelling}")?,
+            Some(false) => {}
+            None => write!(out, " but:{spelling}")?,
         }
     }
     Ok(out.push(')')?)
+}
+
+/// Whether an application is well typed as this type, None where its answers contradict one another.
+fn is_well_typed_as(alloc: Global, op: &Op, args: &[Term], ty: &TermType) -> Result<Option<bool>> {
+    let claim = claim_of(alloc, op, args, ty)?;
+    let holds = is_claim(alloc, &claim, ty)?;
+    Ok(holds.then_some(claim.well_typed()))
+}
+
+fn claim_of(alloc: Global, op: &Op, args: &[Term], ty: &TermType) -> Result<Term> {
+    let op = op.share()?;
+    let args = TermList::new(alloc, args)?;
+    let ret_ty = ty.share()?;
+    Ok(Term::App { op, args, ret_ty })
 }
 
 /// Whether a term is an application that names the type that it claims, and is of it exactly where it is well typed.
 fn is_claim(alloc: Global, claim: &Term, ty: &TermType) -> Result<bool> {
     Ok(
         !claim.is_literal()
-            && claim.type_of(alloc)? == *ty
+            && equals(claim.type_of(alloc), ty)?
             && claim.has_type(ty) == claim.well_typed()
             && is_shared(claim)?,
     )
@@ -203,7 +232,13 @@ fn is_claim(alloc: Global, claim: &Term, ty: &TermType) -> Result<bool> {
 /// whether it is equal to what it shares, and what it has at each term before these.
 fn put_table(alloc: Global, out: &mut String, terms: &[Term], count: usize) -> Result<()> {
     let (keys, entries) = last_of(terms, count.checked_mul(2).context("too few terms")?)?;
-    let table = TermTable::new(alloc, pairs(alloc, entries)?.as_slice())?;
+    let entries = pairs(alloc, entries)?;
+    let table = TermTable::new(alloc, entries.as_slice())?;
+    put_entries(out, &table)?;
+    put_values(out, &table, keys)
+}
+
+fn put_entries(out: &mut String, table: &TermTable) -> Result<()> {
     out.push_str("(table")?;
     for (key, value) in table.items() {
         out.push_str(" (")?;
@@ -212,7 +247,12 @@ fn put_table(alloc: Global, out: &mut String, terms: &[Term], count: usize) -> R
         put_term(out, value)?;
         out.push(')')?;
     }
-    let (count, empty, shared) = (table.len(), table.is_empty(), table.share()? == table);
+    Ok(())
+}
+
+fn put_values(out: &mut String, table: &TermTable, keys: &[Term]) -> Result<()> {
+    let (count, empty) = (table.len(), table.is_empty());
+    let shared = equals(table.share(), table)?;
     write!(out, ") {count} {empty} {shared} (found")?;
     for key in keys {
         put_found(out, table.get(key))?;

@@ -1,40 +1,51 @@
 //! Words for questions about types and operators.
 
-use crate::asked::order;
+use crate::asked::{equals, order};
 use crate::printed::put_type;
 use anyhow::{Context, Result, bail};
 use smt_term::{EntityType, TermType, TypeMap};
 use smt_words::{operator, text, type_of};
 use std::alloc::Global;
 
-/// The answer of a word by its head and what it holds behind the colon, None where no question has this head.
-pub(crate) fn answer(alloc: Global, head: &str, held: &str) -> Result<Option<String>> {
-    let mut out = String::new(alloc);
+/// Puts the answer of a word by its head and what it holds behind the colon; false where no question has this head.
+pub(crate) fn answered(alloc: Global, out: &mut String, head: &str, held: &str) -> Result<bool> {
     match head {
-        "type" => put_type(&mut out, &type_of(alloc, held)?)?,
-        "tag_for" => {
-            let ety = EntityType(text(alloc, held)?);
-            put_type(&mut out, &TermType::tag_for(alloc, ety)?)?;
-        }
-        "kinds" => put_kinds(&mut out, &type_of(alloc, held)?)?,
-        "shared_type" => put_whether_shared(&mut out, &type_of(alloc, held)?)?,
-        "size_of_type" => put_size(&mut out, &types_in(type_of(alloc, held)?)?)?,
+        "type" => put_type(out, &type_of(alloc, held)?)?,
+        "tag_for" => put_tag_type(alloc, out, held)?,
+        "kinds" => put_kinds(out, &type_of(alloc, held)?)?,
+        "shared_type" => put_whether_shared(out, &type_of(alloc, held)?)?,
+        "size_of_type" => put_size(out, &types_in(type_of(alloc, held)?)?)?,
         "type_at" => {
             let (names, ty) = held.split_once(':').context("attributes and a type")?;
-            put_types(alloc, &mut out, &types_in(type_of(alloc, ty)?)?, names)?;
+            put_types(alloc, out, &types_in(type_of(alloc, ty)?)?, names)?;
         }
-        "compare_types" => {
-            let (a, b) = held.split_once(':').context("two types")?;
-            out.push_str(order(&type_of(alloc, a)?, &type_of(alloc, b)?))?;
-        }
-        "operator" => put_name(alloc, &mut out, held)?,
-        "compare_operators" => {
-            let (a, b) = held.split_once(':').context("two operators")?;
-            out.push_str(order(&operator(alloc, a)?, &operator(alloc, b)?))?;
-        }
-        _ => return Ok(None),
+        "compare_types" => put_order_of_types(alloc, out, held)?,
+        "operator" => put_name(alloc, out, held)?,
+        "compare_operators" => put_order_of_operators(alloc, out, held)?,
+        _ => return Ok(false),
     }
-    Ok(Some(out))
+    Ok(true)
+}
+
+/// Puts the type of the tags of entities of the type of this name.
+fn put_tag_type(alloc: Global, out: &mut String, name: &str) -> Result<()> {
+    let ety = EntityType(text(alloc, name)?);
+    let ty = TermType::tag_for(alloc, ety)?;
+    put_type(out, &ty)
+}
+
+fn put_order_of_types(alloc: Global, out: &mut String, held: &str) -> Result<()> {
+    let (a, b) = held.split_once(':').context("two types")?;
+    let a = type_of(alloc, a)?;
+    let b = type_of(alloc, b)?;
+    Ok(out.push_str(order(&a, &b))?)
+}
+
+fn put_order_of_operators(alloc: Global, out: &mut String, held: &str) -> Result<()> {
+    let (a, b) = held.split_once(':').context("two operators")?;
+    let a = operator(alloc, a)?;
+    let b = operator(alloc, b)?;
+    Ok(out.push_str(order(&a, &b))?)
 }
 
 /// Puts whether a type is primitive, one of entities, one of records, one of options, and one of options of entities.
@@ -46,7 +57,7 @@ fn put_kinds(out: &mut String, ty: &TermType) -> Result<()> {
 
 /// Puts whether a type is equal to what it shares.
 fn put_whether_shared(out: &mut String, ty: &TermType) -> Result<()> {
-    let shared = ty.share()? == *ty;
+    let shared = equals(ty.share(), ty)?;
     Ok(write!(out, "{shared}")?)
 }
 
@@ -60,7 +71,8 @@ fn types_in(ty: TermType) -> Result<TypeMap> {
 
 /// Puts how many attributes there are, whether there are none, and whether they are equal to what they share.
 fn put_size(out: &mut String, types: &TypeMap) -> Result<()> {
-    let (count, empty, shared) = (types.len(), types.is_empty(), types.share()? == *types);
+    let (count, empty) = (types.len(), types.is_empty());
+    let shared = equals(types.share(), types)?;
     Ok(write!(out, "{count} {empty} {shared}")?)
 }
 
@@ -80,6 +92,7 @@ fn put_types(alloc: Global, out: &mut String, types: &TypeMap, names: &str) -> R
 /// Puts the name of an operator, and whether it is equal to what it shares.
 fn put_name(alloc: Global, out: &mut String, spelling: &str) -> Result<()> {
     let op = operator(alloc, spelling)?;
-    let (name, shared) = (op.mk_name(), op.share()? == op);
+    let shared = equals(op.share(), &op)?;
+    let name = op.mk_name();
     Ok(write!(out, "{name} {shared}")?)
 }

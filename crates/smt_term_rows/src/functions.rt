@@ -1,101 +1,100 @@
 //! Words for the functions on values of the extension types.
 
+use crate::folded::built;
 use anyhow::{Context, Result};
 use smt_ext::IPNet;
 use smt_factory::*;
-use smt_term::Term;
+use smt_term::{Term, TermError};
 use smt_words::{one, taken, two};
 use std::alloc::Global;
 
-/// The term of a word by its head and what it holds behind the colon, None where no call has this head.
+/// What the function of this name gives of the last terms, which the stack then has no longer; None where none has this name.
 pub(crate) fn term(
     alloc: Global,
     terms: &mut Vec<Term>,
     head: &str,
     held: &str,
 ) -> Result<Option<Term>> {
-    if let Some(term) = of_decimals(alloc, terms, head)? {
-        return Ok(Some(term));
+    match head {
+        "less_than"
+        | "less_than_or_equal"
+        | "greater_than"
+        | "greater_than_or_equal"
+        | "offset"
+        | "duration_since"
+        | "in_range_v4" => of_two(alloc, terms, head),
+        "to_milliseconds"
+        | "to_seconds"
+        | "to_minutes"
+        | "to_hours"
+        | "to_days"
+        | "to_date"
+        | "to_time"
+        | "is_ipv4"
+        | "is_ipv6"
+        | "is_loopback"
+        | "is_multicast" => { of_last(alloc, terms, head) }
+        "range_v4" | "range_v6" => range(alloc, terms, head),
+        "is_in_range" => in_any_range(alloc, terms, held),
+        "in_range_lit" => in_literal(alloc, terms, held),
+        _ => Ok(None),
     }
-    if let Some(term) = of_times(alloc, terms, head)? {
-        return Ok(Some(term));
+}
+
+/// Some of what was built, with the error of the program.
+fn found(folded: Result<Term, TermError>) -> Result<Option<Term>> {
+    Ok(Some(built(folded)?))
+}
+
+fn of_two(alloc: Global, terms: &mut Vec<Term>, head: &str) -> Result<Option<Term>> {
+    let (a, b) = two(terms)?;
+    match head {
+        "less_than" => found(less_than(alloc, a, b)),
+        "less_than_or_equal" => found(less_than_or_equal(alloc, a, b)),
+        "greater_than" => found(greater_than(alloc, a, b)),
+        "greater_than_or_equal" => found(greater_than_or_equal(alloc, a, b)),
+        "offset" => found(offset(alloc, a, b)),
+        "duration_since" => found(duration_since(alloc, a, b)),
+        _ => found(in_range(alloc, &|t: Term| range_v4(alloc, t), a, b)),
     }
-    of_ranges(alloc, terms, head, held)
 }
 
-fn of_decimals(alloc: Global, terms: &mut Vec<Term>, head: &str) -> Result<Option<Term>> {
-    Ok(Some(match head {
-        "less_than" => {
-            let (a, b) = two(terms)?;
-            less_than(alloc, a, b)?
-        }
-        "less_than_or_equal" => {
-            let (a, b) = two(terms)?;
-            less_than_or_equal(alloc, a, b)?
-        }
-        "greater_than" => {
-            let (a, b) = two(terms)?;
-            greater_than(alloc, a, b)?
-        }
-        "greater_than_or_equal" => {
-            let (a, b) = two(terms)?;
-            greater_than_or_equal(alloc, a, b)?
-        }
-        _ => return Ok(None),
-    }))
+fn of_last(alloc: Global, terms: &mut Vec<Term>, head: &str) -> Result<Option<Term>> {
+    let last = one(terms)?;
+    match head {
+        "to_milliseconds" => found(to_milliseconds(alloc, last)),
+        "to_seconds" => found(to_seconds(alloc, last)),
+        "to_minutes" => found(to_minutes(alloc, last)),
+        "to_hours" => found(to_hours(alloc, last)),
+        "to_days" => found(to_days(alloc, last)),
+        "to_date" => found(to_date(alloc, last)),
+        "to_time" => found(to_time(alloc, last)),
+        "is_ipv4" => found(is_ipv4(alloc, last)),
+        "is_ipv6" => found(is_ipv6(alloc, last)),
+        "is_loopback" => found(is_loopback(alloc, last)),
+        _ => found(is_multicast(alloc, last)),
+    }
 }
 
-fn of_times(alloc: Global, terms: &mut Vec<Term>, head: &str) -> Result<Option<Term>> {
-    Ok(Some(match head {
-        "to_milliseconds" => to_milliseconds(alloc, one(terms)?)?,
-        "to_seconds" => to_seconds(alloc, one(terms)?)?,
-        "to_minutes" => to_minutes(alloc, one(terms)?)?,
-        "to_hours" => to_hours(alloc, one(terms)?)?,
-        "to_days" => to_days(alloc, one(terms)?)?,
-        "to_date" => to_date(alloc, one(terms)?)?,
-        "to_time" => to_time(alloc, one(terms)?)?,
-        "offset" => {
-            let (a, b) = two(terms)?;
-            offset(alloc, a, b)?
-        }
-        "duration_since" => {
-            let (a, b) = two(terms)?;
-            duration_since(alloc, a, b)?
-        }
-        _ => return Ok(None),
-    }))
+/// The lowest address stays on the stack, and the highest is answered.
+fn range(alloc: Global, terms: &mut Vec<Term>, head: &str) -> Result<Option<Term>> {
+    let last = one(terms)?;
+    let (lowest, highest) = match head {
+        "range_v4" => range_v4(alloc, last)?,
+        _ => range_v6(alloc, last)?,
+    };
+    terms.push(lowest)?;
+    Ok(Some(highest))
 }
 
-/// IP ranges. A word for the lowest and the highest address leaves both.
-fn of_ranges(alloc: Global, terms: &mut Vec<Term>, head: &str, held: &str) -> Result<Option<Term>> {
-    Ok(Some(match head {
-        "is_ipv4" => is_ipv4(alloc, one(terms)?)?,
-        "is_ipv6" => is_ipv6(alloc, one(terms)?)?,
-        "is_loopback" => is_loopback(alloc, one(terms)?)?,
-        "is_multicast" => is_multicast(alloc, one(terms)?)?,
-        "range_v4" => {
-            let (lowest, highest) = range_v4(alloc, one(terms)?)?;
-            terms.push(lowest)?;
-            highest
-        }
-        "range_v6" => {
-            let (lowest, highest) = range_v6(alloc, one(terms)?)?;
-            terms.push(lowest)?;
-            highest
-        }
-        "in_range_v4" => {
-            let (a, b) = two(terms)?;
-            in_range(alloc, &|t: Term| range_v4(alloc, t), a, b)?
-        }
-        "is_in_range" => {
-            let ranges = taken(terms, held.parse()?)?;
-            is_in_range(alloc, one(terms)?, ranges.as_slice())?
-        }
-        "in_range_lit" => {
-            let (v4, v6) = held.split_once(',').context("two ranges")?;
-            let (v4, v6) = (IPNet::parse(alloc, v4)?, IPNet::parse(alloc, v6)?);
-            in_range_lit(alloc, one(terms)?, v4, v6)?
-        }
-        _ => return Ok(None),
-    }))
+fn in_any_range(alloc: Global, terms: &mut Vec<Term>, count: &str) -> Result<Option<Term>> {
+    let ranges = taken(terms, count.parse()?)?;
+    let last = one(terms)?;
+    found(is_in_range(alloc, last, ranges.as_slice()))
+}
+
+fn in_literal(alloc: Global, terms: &mut Vec<Term>, held: &str) -> Result<Option<Term>> {
+    let (v4, v6) = held.split_once(',').context("two ranges")?;
+    let (v4, v6) = (IPNet::parse(alloc, v4)?, IPNet::parse(alloc, v6)?);
+    found(in_range_lit(alloc, one(terms)?, v4, v6))
 }

@@ -84,24 +84,43 @@ const FILES: [&str; 15] = [
 /// What a row answers: each answer behind a space, or the terms that are left.
 fn answer(alloc: Global, row: &str) -> Result<String> {
     let mut out = String::new(alloc);
+    put_answer(alloc, &mut out, row)?;
+    Ok(out)
+}
+
+fn put_answer(alloc: Global, out: &mut String, row: &str) -> Result<()> {
     let mut terms: Vec<Term> = Vec::new(alloc);
+    put_answers(alloc, out, &mut terms, row)?;
+    if out.is_empty() {
+        printed::put_terms(out, terms.as_slice())?;
+    }
+    Ok(())
+}
+
+fn put_answers(alloc: Global, out: &mut String, terms: &mut Vec<Term>, row: &str) -> Result<()> {
+    let mut answer = String::new(alloc);
     for word in row.split(' ') {
         let (head, held) = word.split_once(':').unwrap_or((word, ""));
-        if let Some(term) = smt_words::term(alloc, &mut terms, head, held)? {
+        if let Some(term) = made(alloc, terms, head, held)? {
             terms.push(term)?;
-        } else if let Some(term) = functions::term(alloc, &mut terms, head, held)? {
-            terms.push(term)?;
-        } else if let Some(answer) = asked::answer(alloc, terms.as_slice(), head, held)? {
-            write!(out, " {answer}")?;
+        } else if asked::answered(alloc, &mut answer, terms.as_slice(), head, held)? {
+            out.push(' ')?;
+            out.push_str(answer.as_str())?;
+            answer.clear();
         } else {
-            let term = folded::term(alloc, &mut terms, head, held)?;
+            let term = folded::term(alloc, terms, head, held)?;
             terms.push(term)?;
         }
     }
-    if out.is_empty() {
-        printed::put_terms(&mut out, terms.as_slice())?;
+    Ok(())
+}
+
+/// The term of a word that makes it as it is, or by a function on values of the extension types.
+fn made(alloc: Global, terms: &mut Vec<Term>, head: &str, held: &str) -> Result<Option<Term>> {
+    match smt_words::term(alloc, terms, head, held)? {
+        Some(term) => Ok(Some(term)),
+        None => functions::term(alloc, terms, head, held),
     }
-    Ok(out)
 }
 
 fn main(rt: HostRuntime) -> Result<()> {

@@ -1,7 +1,8 @@
 use Rattle.std.proofs.lemmas.Result.{IfOk-weaker}
 use Rattle.smt_ext.specs.IpOrder.{plain_range}
 use Rattle.smt_ext.specs.IpView.{range_of}
-use Rattle.smt_extension_functions.proofs.FunctionsFold.{literal_folds, literal_stands}
+use Rattle.smt_extension_folding.proofs.FunctionsStand.{functions_stand}
+use Rattle.smt_extension_functions.proofs.FunctionsFold.{literal_folds, stands_as}
 use Rattle.smt_extension_functions.proofs.containment.in_range_lit.Goals as goal
 use Rattle.smt_term.specs.View.{plain_term}
 
@@ -13,4 +14,4 @@ returns-clause-folded c =
     c.ite.ensures.folded
 
 pub returns-clause-refines : goal.returns-clause-refines
-returns-clause-refines c = IfOk-weaker c.ite.result _ _ (λ r h. literal_stands (plain_term r) (plain_term c.args.t) (plain_range (range_of c.args.cidr4)) (plain_range (range_of c.args.cidr6)) h) (returns-clause-folded c)
+returns-clause-refines c = IfOk-weaker c.ite.result _ _ (λ r h. stands_as (plain_term r) _ _ h (functions_stand.in_range_lit (plain_term c.args.t) (plain_range (range_of c.args.cidr4)) (plain_range (range_of c.args.cidr6)))) (returns-clause-folded c)

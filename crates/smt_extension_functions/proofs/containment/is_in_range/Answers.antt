@@ -1,6 +1,7 @@
 use Rattle.std.proofs.Common.{map}
 use Rattle.std.proofs.lemmas.Result.{IfOk-weaker}
-use Rattle.smt_extension_functions.proofs.FunctionsFold.{any_folds, any_stands}
+use Rattle.smt_extension_folding.proofs.FunctionsStand.{functions_stand}
+use Rattle.smt_extension_functions.proofs.FunctionsFold.{any_folds, stands_as}
 use Rattle.smt_extension_functions.proofs.containment.is_in_range.Goals as goal
 use Rattle.smt_term.specs.View.{plain_term}
 
@@ -11,4 +12,4 @@ returns-clause-folded c =
     c.or.ensures.folded
 
 pub returns-clause-refines : goal.returns-clause-refines
-returns-clause-refines c = IfOk-weaker c.or.result _ _ (λ r h. any_stands (plain_term r) (plain_term c.args.t) (map plain_term c.args.ts.now) h) (returns-clause-folded c)
+returns-clause-refines c = IfOk-weaker c.or.result _ _ (λ r h. stands_as (plain_term r) _ _ h (functions_stand.is_in_range (plain_term c.args.t) (map plain_term c.args.ts.now))) (returns-clause-folded c)
