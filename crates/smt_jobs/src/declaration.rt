@@ -42,7 +42,7 @@ fn type_from(expression: &SExpr) -> Option<TermType>
 {
     match expression {
         SExpr::App(_) => bits_type(number_in(sole(section("BitVec", expression)?)?)?),
-        SExpr::Numeral(_) | SExpr::String(_) | SExpr::Symbol(_) => {
+        SExpr::BitVec(_) | SExpr::Numeral(_) | SExpr::String(_) | SExpr::Symbol(_) => {
             type_by_name(name_in(expression)?.as_str())
         }
     }
@@ -94,7 +94,8 @@ impl Declared {
     {
         let inside = match expression {
             SExpr::App(inside) => inside,
-            SExpr::Numeral(_) | SExpr::String(_) | SExpr::Symbol(_) => return None,
+            SExpr::BitVec(_) | SExpr::Numeral(_) | SExpr::String(_) | SExpr::Symbol(_) =>
+                return None,
         };
         let [id, ty] = inside.items() else {
             return None;

@@ -16,7 +16,7 @@ pub(crate) fn name_in(expression: &SExpr) -> Option<&Text>
 {
     match expression {
         SExpr::Symbol(name) => Some(name),
-        SExpr::Numeral(_) | SExpr::String(_) | SExpr::App(_) => None,
+        SExpr::BitVec(_) | SExpr::Numeral(_) | SExpr::String(_) | SExpr::App(_) => None,
     }
 }
 
@@ -26,7 +26,7 @@ pub(crate) fn text_in(expression: &SExpr) -> Option<&Text>
 {
     match expression {
         SExpr::String(text) => Some(text),
-        SExpr::Numeral(_) | SExpr::Symbol(_) | SExpr::App(_) => None,
+        SExpr::BitVec(_) | SExpr::Numeral(_) | SExpr::Symbol(_) | SExpr::App(_) => None,
     }
 }
 
@@ -36,7 +36,7 @@ pub(crate) fn number_in(expression: &SExpr) -> Option<u128>
 {
     match expression {
         SExpr::Numeral(number) => Some(*number),
-        SExpr::String(_) | SExpr::Symbol(_) | SExpr::App(_) => None,
+        SExpr::BitVec(_) | SExpr::String(_) | SExpr::Symbol(_) | SExpr::App(_) => None,
     }
 }
 
@@ -56,7 +56,7 @@ pub(crate) fn section<'e>(head: &str, expression: &'e SExpr) -> Option<&'e [SExp
 {
     let inside = match expression {
         SExpr::App(inside) => inside,
-        SExpr::Numeral(_) | SExpr::String(_) | SExpr::Symbol(_) => return None,
+        SExpr::BitVec(_) | SExpr::Numeral(_) | SExpr::String(_) | SExpr::Symbol(_) => return None,
     };
     let (first, others) = inside.items().split_first()?;
     if head == name_in(first)?.as_str() {

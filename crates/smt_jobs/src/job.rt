@@ -71,13 +71,15 @@ impl From<TermError> for JobError {
 
 impl From<SExprParseError> for JobError {
     ghost use Rattle.std.specs.Prelude.{◌≡◌};
+    ghost use Rattle.smt_sexpr.specs.declared.error.SExprParseError.TheVariants.{Memory as NoMemory};
     ghost use Rattle.smt_jobs.specs.declared.job.JobError.TheVariants.{Memory};
 
-    ghost from_gives = { λ _ error. error ≡ Memory };
+    ghost from_gives = { λ cause error. cause ≡ NoMemory → error ≡ Memory };
 
-    fn from(error: SExprParseError) -> JobError {
-        match error {
+    fn from(cause: SExprParseError) -> JobError {
+        match cause {
             SExprParseError::Memory => JobError::Memory,
+            _ => JobError::BadForm,
         }
     }
 }

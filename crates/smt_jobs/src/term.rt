@@ -184,7 +184,7 @@ fn term_from(alloc: Global, declared: &Declared, expression: &SExpr) -> Result<T
     let items = match expression {
         SExpr::Symbol(name) => return literal_from(name.as_str()),
         SExpr::App(inside) => inside.items(),
-        SExpr::Numeral(_) | SExpr::String(_) => return Err(JobError::BadForm),
+        SExpr::BitVec(_) | SExpr::Numeral(_) | SExpr::String(_) => return Err(JobError::BadForm),
     };
     match form_from(declared, items)? {
         Form::Whole(term) => Ok(term),

@@ -24,6 +24,12 @@ const LINES: &str = "\
 (define-fun f ((x Int) (y Bool)) Int x)
 (declare-datatype D (\n  (c)))
 (declare-datatype D (par ( ) (\n  (c))))
+(set-logic ALL)
+(set-option :produce-models true)
+(check-sat)
+(get-model)
+(reset)
+(exit)
 ";
 
 fn texts(alloc: Global, items: &[&str]) -> Result<Vec<Text>, AllocError> {
@@ -68,6 +74,16 @@ fn put_negation<S: Sink>(sink: &mut S) -> Result<(), SinkError> {
     sink.assert("t1")
 }
 
+/// The lines by which a script speaks to a solver.
+fn put_questions<S: Sink>(sink: &mut S) -> Result<(), SinkError> {
+    sink.set_logic("ALL")?;
+    sink.set_option("produce-models", "true")?;
+    sink.check_sat()?;
+    sink.get_model()?;
+    sink.reset()?;
+    sink.exit()
+}
+
 fn put_lines<S: Sink>(sink: &mut S, alloc: Global) -> Result<(), Fail> {
     declare_datatype(sink, alloc, "Option", &["X"], &["(none)", "(some (val X))"])?;
     put_negation(sink)?;
@@ -75,7 +91,9 @@ fn put_lines<S: Sink>(sink: &mut S, alloc: Global) -> Result<(), Fail> {
     sink.comment("a\r\nb\nc")?;
     define_first(sink, alloc)?;
     declare_datatype(sink, alloc, "D", &[""], &["(c)"])?;
-    declare_datatype(sink, alloc, "D", &["", ""], &["(c)"])
+    declare_datatype(sink, alloc, "D", &["", ""], &["(c)"])?;
+    put_questions(sink)?;
+    Ok(())
 }
 
 #[test]

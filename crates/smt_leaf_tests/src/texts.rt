@@ -2,3 +2,4 @@
 
 mod quoting;
 mod reading;
+mod whole;

@@ -1,2 +1,10 @@
+pub mod Atoms
+pub mod Cuts
+pub mod Decoding
+pub mod Digits
+pub mod Excluded
+pub mod QuotedTexts
 pub mod Same
 pub mod Scans
+pub mod Texts
+pub mod TokenLists

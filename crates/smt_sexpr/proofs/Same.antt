@@ -7,10 +7,11 @@ use Rattle.std.specs.declared.alloc.Global.{Global}
 use Rattle.std.specs.declared.rc.RcStr.{RcStr}
 use Rattle.std.proofs.lemmas.Bool.{and_parts, and_from, eqb-true, eq-eqb, false≢true}
 use Rattle.std.proofs.lemmas.Str.{IsUtf8-string_bytes, encodes-chars}
-use Rattle.smt_lexicon.specs.Lexicon.{Number, Text, Name}
+use Rattle.smt_bits.specs.BitVec.{width_of, number_of}
+use Rattle.smt_lexicon.specs.Lexicon.{Bits, Number, Text, Name}
 use Rattle.smt_lexicon.specs.Reading.{Expression, Leaf, Node, Expressions, Cons}
 use Rattle.smt_sexpr.specs.View.{plain, plain_row}
-use Rattle.smt_sexpr.specs.declared.expression.SExpr.{SExpr, Numeral, String, Symbol, App', Row_of-SExpr, end_of-SExpr, more_of-SExpr, items-the_row-SExpr}
+use Rattle.smt_sexpr.specs.declared.expression.SExpr.{SExpr, BitVec, Numeral, String, Symbol, App', Row_of-SExpr, end_of-SExpr, more_of-SExpr, items-the_row-SExpr}
 use Rattle.smt_sexpr.specs.declared.expression.SExprs.{SExprs, items_shown-the_row-SExpr-0}
 use Rattle.smt_sexpr.specs.contracts.expression.SExprPartialEq.TheImpl as sexpr_eq
 use Rattle.smt_sexpr.specs.contracts.expression.SExprPartialEq.TheImpl.Laws as eq_laws
@@ -76,6 +77,9 @@ bytes_same s t e =
     ∙ ap encode_utf8_all e
     ∙ encodes-chars (rc_str_bytes t) (IsUtf8-string_bytes t.text.value)
 
+bits_are : (v w n m : ℕ) → Leaf (Bits v n) ≡ Leaf (Bits w m) → (v ≡ w) × (n ≡ m)
+bits_are v w n m e = (cc, cc)
+
 number_is : (n m : ℕ) → Leaf (Number n) ≡ Leaf (Number m) → n ≡ m
 number_is n m e = cc
 
@@ -97,6 +101,9 @@ mutual
   unfolding plain plain_row views.out-SExpr Carrier.out
 
   pub same_from_eq : (a b : SExpr) → expr_eq a b ≡ true → plain a ≡ plain b
+  same_from_eq (BitVec x) (BitVec y) h =
+      let p = and_parts (eqb (width_of x) (width_of y)) (eqb (number_of x) (number_of y)) (sym (eq_laws.is (BitVec x) (BitVec y)) ∙ h) in
+      ap₂ (λ v n. Leaf (Bits v n)) (eqb-true (width_of x) (width_of y) p.0) (eqb-true (number_of x) (number_of y) p.1)
   same_from_eq (Numeral n) (Numeral m) h = ap (λ v. Leaf (Number v)) (eqb-true n m (sym (eq_laws.is (Numeral n) (Numeral m)) ∙ h))
   same_from_eq (String s) (String t) h = ap (λ v. Leaf (Text (chars v))) (texts_same (rc_str_bytes s) (rc_str_bytes t) (sym (eq_laws.is (String s) (String t)) ∙ h))
   same_from_eq (Symbol s) (Symbol t) h = ap (λ v. Leaf (Name v)) (texts_same (rc_str_bytes s) (rc_str_bytes t) (sym (eq_laws.is (Symbol s) (Symbol t)) ∙ h))
@@ -115,6 +122,9 @@ mutual
   unfolding plain plain_row views.out-SExpr Carrier.out
 
   pub eq_from_same : (a b : SExpr) → plain a ≡ plain b → expr_eq a b ≡ true
+  eq_from_same (BitVec x) (BitVec y) h =
+      let p = bits_are (width_of x) (width_of y) (number_of x) (number_of y) h in
+      eq_laws.is (BitVec x) (BitVec y) ∙ and_from (eqb (width_of x) (width_of y)) (eqb (number_of x) (number_of y)) (eq-eqb (width_of x) (width_of y) p.0) (eq-eqb (number_of x) (number_of y) p.1)
   eq_from_same (Numeral n) (Numeral m) h = eq_laws.is (Numeral n) (Numeral m) ∙ eq-eqb n m (number_is n m h)
   eq_from_same (String s) (String t) h =
       eq_laws.is (String s) (String t) ∙ texts_eq (rc_str_bytes s) (rc_str_bytes t) (bytes_same s t (points_are (chars (rc_str_bytes s)) (chars (rc_str_bytes t)) h))

@@ -1,1 +1,5 @@
+pub mod Literals
+pub mod OpenLists
+pub mod Pieces
+pub mod Refusals
 pub mod View

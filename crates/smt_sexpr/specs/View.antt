@@ -1,19 +1,25 @@
 -- What an expression of the program says, without where it lies in memory.
-use Rattle.std.specs.Prelude.{◌≡◌, ℕ, List, map, refl}
+use Rattle.std.specs.Prelude.{◌≡◌, ℕ, List, [], ◌∷◌, map, refl}
 use Rattle.std.proofs.Common.{ap, ◌∙◌}
 use Rattle.std.specs.Rc.{rc_str_bytes}
 use Rattle.std.specs.Str.{chars}
 use Rattle.std.specs.declared.alloc.Global.{Global}
 use Rattle.std.specs.declared.rc.RcStr.{RcStr}
-use Rattle.smt_lexicon.specs.Lexicon.{Number, Text, Name}
-use Rattle.smt_lexicon.specs.Reading.{Expression, Leaf, Node, Expressions, Nil, Cons, expressions}
-use Rattle.smt_sexpr.specs.declared.expression.SExpr.{SExpr, Numeral, String, Symbol, App, App', Row_of-SExpr, end_of-SExpr, more_of-SExpr, items-the_row-SExpr, items_hidden-the_row-SExpr-0}
+use Rattle.smt_bits.specs.BitVec.{width_of, number_of}
+use Rattle.smt_bits.specs.declared.bitvec.BitVec.{BitVec as Bitvector}
+use Rattle.smt_lexicon.specs.Lexicon.{Bits, Number, Text, Name, Token, Begin, End}
+use Rattle.smt_lexicon.specs.PlainTexts.{nesting}
+use Rattle.smt_lexicon.specs.Reading.{Expression, Leaf, Node, Expressions, Nil, Cons, expressions, brackets}
+use Rattle.smt_sexpr.specs.declared.expression.SExpr.{SExpr, BitVec, Numeral, String, Symbol, App, App', Row_of-SExpr, end_of-SExpr, more_of-SExpr, items-the_row-SExpr, items_hidden-the_row-SExpr-0}
 use Rattle.smt_sexpr.specs.declared.expression.SExpr.TheBlock.{hidden-the_row-SExpr-0}
 use Rattle.smt_sexpr.specs.declared.expression.SExprs.{SExprs}
+use Rattle.smt_sexpr.specs.declared.token.Lexeme.{Lexeme}
+use Rattle.smt_sexpr.specs.declared.token.Lexeme.TheVariants.{Blank, Open, Close, Atom}
 
 -- a string is its code points, a name its bytes
 unfoldable mutual
   pub plain : SExpr → Expression
+  plain (BitVec b) = Leaf (Bits (width_of b) (number_of b))
   plain (Numeral n) = Leaf (Number n)
   plain (String s) = Leaf (Text (chars (rc_str_bytes s)))
   plain (Symbol s) = Leaf (Name (rc_str_bytes s))
@@ -37,6 +43,10 @@ unfolding plain plain_row
 plain_row-items end_of-SExpr = refl
 plain_row-items (more_of-SExpr e rest) = ap (Cons (plain e)) (plain_row-items rest)
 
+pub plain-BitVec : (b : Bitvector) → plain (BitVec b) ≡ Leaf (Bits (width_of b) (number_of b))
+unfolding plain
+plain-BitVec b = refl
+
 pub plain-Numeral : (n : ℕ) → plain (Numeral n) ≡ Leaf (Number n)
 unfolding plain
 plain-Numeral n = refl
@@ -54,4 +64,22 @@ unfolding plain plain_row
 plain-App xs =
     ap Node (plain_row-items (hidden-the_row-SExpr-0 xs.items) ∙ ap (λ l. expressions (map plain l)) (items_hidden-the_row-SExpr-0 xs.items))
 
-pub ruleset views = (plain-Numeral, plain-String, plain-Symbol, plain-App)
+pub ruleset views = (plain-BitVec, plain-Numeral, plain-String, plain-Symbol, plain-App)
+
+-- the tokens of a piece
+abbrev pub lexeme_tokens : Lexeme → List Token
+lexeme_tokens Blank = []
+lexeme_tokens Open = Begin ∷ []
+lexeme_tokens Close = End ∷ []
+lexeme_tokens (Atom e) = brackets (plain e)
+
+-- what lists of expressions say
+abbrev pub lists_in : List SExprs → List (List Expression)
+lists_in lists = map plains lists
+
+-- how many brackets are open at the deepest place of a piece's expression
+abbrev pub lexeme_nesting : Lexeme → ℕ
+lexeme_nesting Blank = 0
+lexeme_nesting Open = 0
+lexeme_nesting Close = 0
+lexeme_nesting (Atom e) = nesting (plain e)

@@ -4,6 +4,7 @@
 ghost use Rattle.std.specs.Prelude.{◌≡◌, [], ◌∷◌, ◌++◌, length, OnOk, OnErr};
 ghost use Rattle.smt_sexpr.specs.View.{plain, plains, items_of};
 
+use smt_bits::BitVec;
 use smt_text::Text;
 use std::alloc::{AllocError, Global};
 
@@ -11,6 +12,8 @@ use std::alloc::{AllocError, Global};
 #[derive(Debug, PartialEq, Eq, Drop)]
 #[cycle(sexpr)]
 pub enum SExpr {
+    /// A literal in base 2 or 16: its width is that of its digits.
+    BitVec(BitVec),
     /// A number in decimal digits, without a sign.
     Numeral(u128),
     /// The characters between the quotes, a doubled quote counted once.

@@ -1,7 +1,7 @@
 //! Strings, numerals and symbols at the front of a text.
 #![tactic(auto, using(crate::specs::View::views))]
 
-ghost use Rattle.std.specs.Prelude.{◌≡◌, ℕ, ◌<◌, ◌∷◌, ◌++◌, List, length, not, true, false, ◌==◌, OnOk, IfSome, IfNone};
+ghost use Rattle.std.specs.Prelude.{◌≡◌, ℕ, ◌<◌, ◌∷◌, ◌++◌, List, length, not, true, false, ◌==◌, OnOk, IfErr, IfSome, IfNone};
 ghost use Rattle.std.specs.List.{list_all, take_while};
 ghost use Rattle.std.specs.String.{string_bytes};
 ghost use Rattle.smt_lexicon.specs.Front.{Begins, BeginsWithAtom, BeginsWithNone, IfRead, IfUnread, IsQuoted, begins_no_symbol, begins_number, skip_space};
@@ -34,7 +34,7 @@ pub fn is_plain_text(src: &[u8]) -> bool
     src.iter().all(|byte| is_plain(*byte))
 }
 
-fn is_white_space(byte: u8) -> bool
+pub fn is_white_space(byte: u8) -> bool
     ensures { result ≡ is_space byte }
 {
     matches!(byte, b' ' | b'\t' | b'\n' | b'\r' | b'\x0c')
@@ -52,14 +52,14 @@ fn space_len(src: &[u8]) -> usize
     src.iter().take_while(|byte| is_white_space(**byte)).count()
 }
 
-fn symbol_len(src: &[u8]) -> usize
+pub fn symbol_len(src: &[u8]) -> usize
     ensures { result ≡ length (take_while is_symbol_byte src.now) }
 {
     src.iter().take_while(|byte| goes_on_symbol(**byte)).count()
 }
 
 // How many bytes stand before the next quote.
-fn run_len(src: &[u8]) -> usize
+pub fn run_len(src: &[u8]) -> usize
     ensures { result ≡ length (take_while (λ b. not (b == 34)) src.now) }
 {
     src.iter().take_while(|byte| **byte != b'"').count()
@@ -141,6 +141,7 @@ pub fn read_symbol(alloc: Global, src: &[u8]) -> Result<Option<(SExpr, &[u8])>, 
     ensures none { IfUnread result ((depth : ℕ) → BeginsWithNone depth src.now) }
     ensures rest_plain { IfRead result (λ x. IsPlainText x.1.now) }
     ensures shorter { IfRead result (λ x. length x.1.now < length src.now) }
+    ensures error { IfErr result (λ e. e ≡ SExprParseError.Memory) }
 {
     let Some((name, rest)) = split_symbol(src) else {
         return Ok(None);
@@ -186,6 +187,7 @@ pub fn read_string(alloc: Global, src: &[u8]) -> Result<Option<(SExpr, &[u8])>, 
     ensures none { IfUnread result ((depth : ℕ) → BeginsWithNone depth (34 ∷ src.now)) }
     ensures rest_plain { IfRead result (λ x. IsPlainText x.1.now) }
     ensures shorter { IfRead result (λ x. length x.1.now < length src.now) }
+    ensures error { IfErr result (λ e. e ≡ SExprParseError.Memory) }
 {
     let Some((text, rest)) = read_quoted(alloc, src)? else {
         return Ok(None);

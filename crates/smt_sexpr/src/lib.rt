@@ -2,16 +2,21 @@
 #![tactic(auto)]
 
 pub mod error;
+mod escape;
 pub mod expression;
 pub mod laws;
 mod lexeme;
+mod number;
+pub mod parse;
 pub mod quote;
 pub mod read;
 pub mod scan;
+mod token;
 
-pub use error::SExprParseError;
+pub use error::{IntFault, SExprParseError};
 pub use expression::{SExpr, SExprs};
 pub use lexeme::without_space;
+pub use parse::{parse_sexpr, parse_sexpr_within};
 pub use quote::quote_string;
 pub use read::{read_front, read_plain};
 pub use scan::is_plain_expression;

@@ -30,6 +30,7 @@ pub fn read_front(
     ensures none { IfUnread result (BeginsWithNone depth src.now) }
     ensures rest_plain { IfRead result (λ x. IsPlainText x.1.now) }
     ensures shorter { IfRead result (λ x. length x.1.now < length src.now) }
+    ensures error { IfErr result (λ e. e ≡ SExprParseError.Memory) }
 {
     let Some((first, inside)) = src.split_first() else {
         return Ok(None);
@@ -62,6 +63,7 @@ fn read_items(
     ensures none { IfUnread result (InsideIsNone depth (skip_space src.now)) }
     ensures rest_plain { IfRead result (λ x. IsPlainText x.1.now) }
     ensures shorter { IfRead result (λ x. length x.1.now < length src.now) }
+    ensures error { IfErr result (λ e. e ≡ SExprParseError.Memory) }
 {
     let mut items = SExprs::new(alloc);
     let mut rest = without_space(src);

@@ -37,6 +37,16 @@ returns-in_err-condition_from g c vs has es end i =
     plain_term c.from_residual-in_err-condition_from.result c.in_err-condition_from.field-0.0 (conditions_of vs es) _ c.from_residual-in_err-condition_from.ensures.1 (c.in_err-condition_from.ensures vs has)
     (λ none. not_taken vs es end _ _ _ t first.0 first.1 (ap (condition_of vs) first.2.0 ∙ built_from_none built _ none))
 
+pub loop-after-preserved : goal.loop-after-preserved
+loop-after-preserved g c = (
+  c.in_ok-expression.ensures.rest_plain,
+  λ vs has es end i. (
+      let t = c.loop-after.invariant.1 vs has es end i in
+      let first = c.in_ok-expression.ensures.stated t.left end t.begins in
+      taken_more vs es end _ _ _ t first.0 first.1 c.in_ok-expression.after.now _ _ first.2.1 (ap (λ e. option_map built (condition_of vs e)) first.2.0 ∙ c.in_ok-condition_from.ensures vs has) c.in_ok-take.ensures
+      ),
+)
+
 pub loop-after-preserved-in_ok-take-2 : goal.loop-after-preserved-in_ok-take-2
 loop-after-preserved-in_ok-take-2 g c = (
   c.in_ok-expression.ensures.rest_plain,

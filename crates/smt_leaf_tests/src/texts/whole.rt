@@ -1,0 +1,97 @@
+//! What the reader of S-expressions gives of texts, by values from outside.
+
+use smt_sexpr::{IntFault, SExprParseError, parse_sexpr, parse_sexpr_within};
+use std::alloc::Global;
+use std::test::Fail;
+
+// A text, and what is read, as `{:?}` prints it.
+type Row = (&'static [u8], &'static str);
+
+const READ: [Row; 20] = [
+    (
+        b"#b01",
+        "Ok(BitVec(BitVec { width: Width { bits: 2 }, number: 1 }))",
+    ),
+    (
+        b"#xDEAD",
+        "Ok(BitVec(BitVec { width: Width { bits: 16 }, number: 57005 }))",
+    ),
+    (b"#b", "Err(ParseIntError(Empty))"),
+    (b"#x;", "Err(ParseIntError(Empty))"),
+    (b"(a #", "Err(UnexpectedEnd)"),
+    (
+        b"#xFFFFFFFFFFFFFFFFFFFFFFFFFFFFFFFF1",
+        "Err(ParseIntError(PosOverflow))",
+    ),
+    (
+        b"#x0FFFFFFFFFFFFFFFFFFFFFFFFFFFFFFFF",
+        "Err(IntegerOverflow)",
+    ),
+    (b"(a) (b)", "Err(TrailingTokens)"),
+    (b") )", "Err(UnclosedSExpr)"),
+    (b"(a", "Err(UnexpectedEnd)"),
+    (b"a) #", "Err(UnexpectedEnd)"),
+    (b"a\xff", "Err(Utf8Error)"),
+    (
+        b"; c1\r(foo); c2\n",
+        "Ok(App(SExprs { items: [Symbol(\"foo\")] }))",
+    ),
+    (b"\"a;b\"", "Ok(String(\"a;b\"))"),
+    (
+        b"\"\\u{01dcef}\\u{32344}\"",
+        "Ok(String(\"\\\\u{01dcef}\\\\u{32344}\"))",
+    ),
+    (b"\"\\u{1dcef}\"", "Ok(String(\"\\u{1dcef}\"))"),
+    (b"\"a\\u{5c}\"\"\"", "Ok(String(\"a\\\\\\\"\"))"),
+    (b"\"\xe9\"", "Ok(String(\"\u{e9}\"))"),
+    (b"\"\\u0041\"", "Ok(String(\"A\"))"),
+    (
+        b"\"\"\"\\ud800\"",
+        "Err(StringParseError(Bytes { items: [34, 34, 92, 117, 100, 56, 48, 48] }))",
+    ),
+];
+
+fn reads_as(alloc: Global, src: &[u8], want: &str) -> Result<bool, Fail> {
+    let read = parse_sexpr(alloc, src);
+    let text = format!(in alloc; "{read:?}")?;
+    Ok(text.as_str() == want)
+}
+
+#[test]
+fn reads_texts(rt: HostRuntime) -> Result<(), Fail> {
+    for &(src, want) in &READ {
+        assert!(rt; reads_as(rt.alloc(), src, want)?, "{want}");
+    }
+    Ok(())
+}
+
+fn literal(alloc: Global, first: u8, ones: usize) -> Result<Vec<u8>, Fail> {
+    let mut text = Vec::new(alloc);
+    text.extend_from_slice(b"#b")?;
+    text.push(first)?;
+    for _ in 0..ones {
+        text.push(b'1')?;
+    }
+    Ok(text)
+}
+
+#[test]
+fn refuses_wide_literals(rt: HostRuntime) -> Result<(), Fail> {
+    let text = literal(rt.alloc(), b'1', 128)?;
+    assert!(rt;
+        parse_sexpr(rt.alloc(), &text) == Err(SExprParseError::ParseIntError(IntFault::PosOverflow))
+    );
+    let text = literal(rt.alloc(), b'0', 128)?;
+    assert!(rt; parse_sexpr(rt.alloc(), &text) == Err(SExprParseError::IntegerOverflow));
+    let text = literal(rt.alloc(), b'0', 127)?;
+    assert!(rt; parse_sexpr(rt.alloc(), &text).is_ok());
+    Ok(())
+}
+
+#[test]
+fn stops_within_the_depth(rt: HostRuntime) -> Result<(), Fail> {
+    assert!(rt; parse_sexpr_within(rt.alloc(), b"((a))", 1) == Err(SExprParseError::TooDeep));
+    assert!(rt; parse_sexpr_within(rt.alloc(), b"((a))", 2).is_ok());
+    assert!(rt; parse_sexpr_within(rt.alloc(), b"a", 0) != parse_sexpr(rt.alloc(), b"b"));
+    Ok(())
+}

@@ -1,0 +1,5 @@
+use Rattle.smt_sexpr.proofs.TokenLists.{atom_some}
+use Rattle.smt_sexpr.proofs.parse.is_blank.Goals as goal
+
+pub returns-in-Atom-clause-token : goal.returns-in-Atom-clause-token
+returns-in-Atom-clause-token c = λ h. atom_some c.args.lexeme.now _ c.in-Atom.is
