@@ -1,0 +1,6 @@
+pub mod AnswerLemmas
+pub mod LinkLemmas
+pub mod MemoryLemmas
+pub mod ModelLemmas
+pub mod QuestionLemmas
+pub mod Utf8Lemmas

@@ -1,0 +1,75 @@
+-- The lines by which a solver answers.
+use Rattle.std.specs.Prelude.{ℕ, ◌-◌, ◌<◌, ◌≡◌, ◌≢◌, ◌==◌, ◌||◌, Bool, IsTrue, List, ◌++◌, All, codes, length, nat_eq, slice_index_or}
+use Rattle.std.specs.List.{starts_with}
+use Rattle.std.specs.Fmt.{signed_decimal}
+use Rattle.smt_solve.specs.declared.link.Ended.{Ended}
+use Rattle.smt_solve.specs.declared.link.Ended.TheVariants.{Running, Code, Killed}
+use Rattle.smt_solve.specs.declared.answer.Decision.{Decision}
+use Rattle.smt_solve.specs.declared.answer.Decision.TheVariants.{Sat, Unsat, Unknown}
+
+-- space, tab, line feed and carriage return
+abbrev pub is_blank : ℕ → Bool
+is_blank b = (b == 32) || (b == 9) || (b == 10) || (b == 13)
+
+abbrev pub AllBlank : List ℕ → Type 0
+AllBlank bytes = All (λ b. IsTrue (is_blank b)) bytes
+
+-- Neither the first nor the last byte is blank.
+pub record HasSharpEnds (text : List ℕ) : Type 0 where
+  pub first : 0 < length text → ¬ IsTrue (is_blank (slice_index_or text 0 0))
+  pub last : 0 < length text → ¬ IsTrue (is_blank (slice_index_or text (length text - 1) 0))
+
+-- The text is the line without the blanks at its ends.
+pub record StripsTo (line text : List ℕ) : Type 0 where
+  pub front : List ℕ
+  pub back : List ℕ
+  pub whole : line ≡ front ++ (text ++ back)
+  pub blank_front : AllBlank front
+  pub blank_back : AllBlank back
+  pub sharp : HasSharpEnds text
+
+-- the word of a decision
+abbrev pub decision_word : Decision → List ℕ
+decision_word Sat = codes "sat"
+decision_word Unsat = codes "unsat"
+decision_word Unknown = codes "unknown"
+
+-- The text is no decision.
+abbrev pub IsNoDecision : List ℕ → Type 0
+IsNoDecision text = (d : Decision) → text ≢ decision_word d
+
+-- the line by which a solver tells of an error with this message
+abbrev pub error_line : List ℕ → List ℕ
+error_line message = codes "(error \"" ++ (message ++ codes "\")")
+
+-- The text tells of no error.
+abbrev pub IsNoError : List ℕ → Type 0
+IsNoError text = (message : List ℕ) → text ≢ error_line message
+
+-- the message says that the solver could not read what it was sent
+abbrev pub is_parse_error : List ℕ → Bool
+is_parse_error message = starts_with nat_eq message (codes "Parse Error: ")
+
+-- the code with which a solver ended
+abbrev pub status_text : Ended → List ℕ
+status_text Running = codes "Running"
+status_text (Code code) = codes "Some(" ++ (signed_decimal code ++ codes ")")
+status_text Killed = codes "None"
+
+-- what tells that a solver has ended
+abbrev pub end_message : Ended → List ℕ
+end_message ended = codes "Solver process terminated unexpectedly with status: " ++ status_text ended
+
+-- how many bytes of a line are read at most
+abbrev pub line_limit : ℕ
+line_limit = 65536
+
+-- how many bytes a model has at most
+abbrev pub model_limit : ℕ
+model_limit = 16777216
+
+abbrev pub opening : List ℕ
+opening = codes "("
+
+abbrev pub closing : List ℕ
+closing = codes ")"

@@ -1,0 +1,10 @@
+-- What a session ends as, where its input is lent.
+use Rattle.std.specs.Borrow.{Lends, Fml, RattleType, MutBor}
+use Rattle.smt_solve.specs.contracts.input.SessionInput.{the_row as input_row}
+use Rattle.smt_solve.specs.contracts.session.LocalSolver.{the_row}
+use Rattle.smt_solve.specs.declared.input.SessionInput.{SessionInput}
+use Rattle.smt_solve.specs.declared.session.LocalSolver.{LocalSolver}
+
+module _ (L : RattleType) (s : MutBor (LocalSolver L.Denot)) where
+  abbrev pub LendsInput : MutBor (SessionInput L.Denot) → Fml
+  LendsInput r = Lends (the_row L) (input_row L) s r (λ w. record { input = w; alloc = s.now.alloc })

@@ -1,0 +1,10 @@
+pub mod Answers
+pub mod Lends
+pub mod Link
+pub mod LinkList
+pub mod MemoryLink
+pub mod MemoryStarter
+pub mod Model
+pub mod Question
+pub mod Session
+pub mod Starter

@@ -1,0 +1,71 @@
+-- What a session over a link has, and how it starts.
+use Rattle.std.specs.Prelude.{ℕ, ◌+◌, ◌-◌, ◌^◌, ◌≤◌, ◌≡◌, ◌⊎◌, min, Bool, IsTrue, List, codes, is_err, IfErr, OnOk, IsErrOf, Option, Result}
+use Rattle.smt_script.specs.Sink.{Rose}
+use Rattle.smt_script.specs.declared.sink.SinkError.{SinkError}
+use Rattle.smt_script.specs.declared.sink.SinkError.TheVariants.{Fault}
+use Rattle.smt_solve.specs.Link.{AllowsTheSame, LinkState}
+use Rattle.smt_solve.specs.Starter.{Command, StarterState, add_told}
+use Rattle.smt_solve.specs.declared.error.SolverError.{SolverError}
+use Rattle.smt_solve.specs.declared.error.SolverError.TheVariants.{Io, SolverMarkedFailed, Memory}
+use Rattle.smt_solve.specs.declared.session.LocalSolver.{LocalSolver}
+use Rattle.smt_solve.specs.declared.input.SessionInput.{SessionInput}
+
+-- the link of an input
+abbrev pub input_link : {L : Type 0} → SessionInput L → L
+input_link s = s.link
+
+-- whether its session has failed
+abbrev pub input_failed : {L : Type 0} → SessionInput L → Bool
+input_failed s = s.failed
+
+-- how many puts and flushes it refused since its session had failed; the count stands still at 2^64 - 1
+abbrev pub input_refused : {L : Type 0} → SessionInput L → ℕ
+input_refused s = s.refused
+
+-- what its link sent, where the link tells it
+abbrev pub sent_by : {L : Type 0} → (L → LinkState) → SessionInput L → Option (List ℕ)
+sent_by state s = (state (input_link s)).sent
+
+-- the faults of its link and its own refusals together, at most 2^64 - 1
+abbrev pub faults_by : {L : Type 0} → (L → LinkState) → SessionInput L → ℕ
+faults_by state s = min ((state (input_link s)).faults + input_refused s) (2 ^ 64 - 1)
+
+-- A session that has failed does nothing. Any other sends, and an error is its end.
+pub record OnlySends {L T : Type 0} (state : L → LinkState) (allows : L → List ℕ → List ℕ → List ℕ → Type 0) (old new : SessionInput L) (result : Result T SinkError) : Type 0 where
+  pub refused : IsTrue (input_failed old) → IsErrOf result Fault × (input_link new ≡ input_link old)
+  pub failed : input_failed new ≡ is_err result
+  pub same_read : (state (input_link new)).was_read ≡ (state (input_link old)).was_read
+  pub same_killed : (state (input_link new)).killed ≡ (state (input_link old)).killed
+  pub same_allows : AllowsTheSame (allows (input_link old)) (allows (input_link new))
+
+-- the link of a session
+abbrev pub session_link : {L : Type 0} → LocalSolver L → L
+session_link s = input_link s.input
+
+-- whether it has failed
+abbrev pub session_failed : {L : Type 0} → LocalSolver L → Bool
+session_failed s = input_failed s.input
+
+-- what its link tells
+abbrev pub state_by : {L : Type 0} → (L → LinkState) → LocalSolver L → LinkState
+state_by state s = state (session_link s)
+
+-- A session that has failed does nothing, and says so. After this call it has failed exactly where there is an error.
+pub record Guards {L T : Type 0} (allows : L → List ℕ → List ℕ → List ℕ → Type 0) (old new : LocalSolver L) (result : Result T SolverError) : Type 0 where
+  pub marked : IsTrue (session_failed old) → IsErrOf result SolverMarkedFailed × (session_link new ≡ session_link old)
+  pub failed : session_failed new ≡ is_err result
+  pub same_allows : AllowsTheSame (allows (session_link old)) (allows (session_link new))
+
+-- the option by which a solver keeps its models
+abbrev pub enable_models_text : List ℕ
+enable_models_text = codes "(set-option :produce-models true)\n"
+
+-- A session is started by this command.
+pub record StartsSession {L T : Type 0} (old new : StarterState L) (command : Command) (result : Result T SolverError) : Type 0 where
+  pub ok : OnOk result (new.commands ≡ add_told old.commands command)
+  pub io : IsErrOf result Io → (new.commands ≡ add_told old.commands command) × Rose old.failed_starts new.failed_starts
+  pub memory : IsErrOf result Memory → (new.commands ≡ add_told old.commands command) ⊎ (new.commands ≡ old.commands)
+  pub only : IfErr result (λ e. (e ≡ Io) ⊎ (e ≡ Memory))
+  pub same_returned : new.returned ≡ old.returned
+  pub same_link_faults : new.link_faults ≡ old.link_faults
+  pub later : old.failed_starts ≤ new.failed_starts

@@ -1,0 +1,277 @@
+// Sessions over links in memory, row by row.
+use crate::*;
+use smt_script::{Bytes, Sink, SinkError, SmtLibScript, Text};
+use std::alloc::Global;
+use std::test::Fail;
+
+/// A session with a solver that answers with these bytes, and whose calls with these numbers fail.
+fn session(
+    alloc: Global,
+    answers: &[u8],
+    fails: &[u64],
+) -> Result<LocalSolver<MemoryLink>, LinkError> {
+    let link = MemoryLink::new(alloc, answers, fails, None)?;
+    Ok(LocalSolver::new(alloc, link))
+}
+
+/// The name of an answer, and the line that it holds.
+fn told<D>(answer: &Result<D, SolverError>) -> (&str, &str) {
+    match answer {
+        Ok(_) => ("decision", ""),
+        Err(SolverError::Io) => ("io", ""),
+        Err(SolverError::Solver(line)) => ("solver", line.as_str()),
+        Err(SolverError::UnrecognizedSolverOutput(line)) => ("unrecognized", line.as_str()),
+        Err(SolverError::SolverMarkedFailed) => ("failed before", ""),
+        Err(SolverError::AnswerTooLong) => ("too long", ""),
+        Err(SolverError::Memory) => ("memory", ""),
+    }
+}
+
+#[test]
+fn decisions(rt: HostRuntime) -> Result<(), Fail> {
+    let rows = [
+        (b"sat\n".as_slice(), Decision::Sat),
+        (b"unsat\n".as_slice(), Decision::Unsat),
+        (b" \t unknown \r\n".as_slice(), Decision::Unknown),
+        (b"\tunsat\r\nsat\n".as_slice(), Decision::Unsat),
+        (b"unsat".as_slice(), Decision::Unsat),
+    ];
+    for (answers, decision) in rows {
+        let mut solver = session(rt.alloc(), answers, &[])?;
+        let answer = solver.check_sat();
+        assert!(rt; answer == Ok(decision));
+        assert_eq!(rt; solver.link().sent(), b"(check-sat)\n".as_slice());
+        assert!(rt; !solver.is_failed());
+    }
+    let mut solver = session(rt.alloc(), b"sat\nunsat\n", &[])?;
+    assert!(rt; solver.check_sat() == Ok(Decision::Sat));
+    assert!(rt; solver.check_sat() == Ok(Decision::Unsat));
+    assert_eq!(rt;
+        solver.link().sent(),
+        b"(check-sat)\n(check-sat)\n".as_slice()
+    );
+    Ok(())
+}
+
+/// What is told of answers that ended.
+const ENDED: &str = "Solver process terminated unexpectedly with status: None";
+
+#[test]
+fn refusals(rt: HostRuntime) -> Result<(), Fail> {
+    let none = [].as_slice();
+    let rows = [
+        (b"(error \"x\")\n".as_slice(), none, ("solver", "x"), false),
+        (
+            b" (error \"Parse Error: x\")\r\n".as_slice(),
+            none,
+            ("solver", "Parse Error: x"),
+            true,
+        ),
+        (b"(error \"\")".as_slice(), none, ("solver", ""), false),
+        (
+            b"(error \")\n".as_slice(),
+            none,
+            ("unrecognized", "(error \")"),
+            false,
+        ),
+        (
+            b" error: no\r\n".as_slice(),
+            none,
+            ("unrecognized", "error: no"),
+            false,
+        ),
+        (
+            b"unsat.\nunsat\n".as_slice(),
+            none,
+            ("unrecognized", "unsat."),
+            false,
+        ),
+        (b"\n".as_slice(), none, ("unrecognized", ""), false),
+        (b"".as_slice(), none, ("solver", ENDED), true),
+        (b"\xff\n".as_slice(), none, ("io", ""), false),
+        (b"sat\n".as_slice(), [1].as_slice(), ("io", ""), false),
+        (b"sat\n".as_slice(), [2].as_slice(), ("io", ""), false),
+        (b"sat\n".as_slice(), [3].as_slice(), ("io", ""), false),
+    ];
+    for (answers, fails, wanted, killed) in rows {
+        let mut solver = session(rt.alloc(), answers, fails)?;
+        assert!(rt; told(&solver.check_sat()) == wanted);
+        assert!(rt; solver.is_failed());
+        let sent = solver.link().sent().len();
+        assert!(rt; told(&solver.check_sat()) == ("failed before", ""));
+        assert!(rt; told(&solver.check_sat_with_model()) == ("failed before", ""));
+        assert!(rt; told(&solver.enable_models()) == ("failed before", ""));
+        assert!(rt; solver.smtlib_input().assert("true") == Err(SinkError::Fault));
+        assert_eq!(rt; solver.link().sent().len(), sent);
+        let mut link = solver.into_link();
+        assert!(rt; (link.ended() == Ok(Ended::Killed)) == killed);
+    }
+    Ok(())
+}
+
+#[test]
+fn ended_solvers(rt: HostRuntime) -> Result<(), Fail> {
+    let alloc = rt.alloc();
+    let link = MemoryLink::new(alloc, b"sat\n", &[], Some(-3))?;
+    let mut solver = LocalSolver::new(alloc, link);
+    let message = "Solver process terminated unexpectedly with status: Some(-3)";
+    assert!(rt; told(&solver.check_sat()) == ("solver", message));
+    assert_eq!(rt; solver.link().sent(), b"".as_slice());
+    let mut killed = session(alloc, b"sat\n", &[])?;
+    killed.clean_up()?;
+    assert!(rt; !killed.is_failed());
+    assert!(rt; told(&killed.check_sat_with_model()) == ("solver", ENDED));
+    assert_eq!(rt; killed.link().sent(), b"".as_slice());
+    killed.clean_up()?;
+    assert!(rt; killed.is_failed());
+    Ok(())
+}
+
+#[test]
+fn long_lines(rt: HostRuntime) -> Result<(), Fail> {
+    let mut answers = Vec::from_elem(rt.alloc(), b' ', LINE_LIMIT - 4)?;
+    answers.extend_from_slice(b"sat\n")?;
+    let mut solver = session(rt.alloc(), answers.as_slice(), &[])?;
+    assert!(rt; solver.check_sat() == Ok(Decision::Sat));
+    answers.insert(0, b' ')?;
+    let mut solver = session(rt.alloc(), answers.as_slice(), &[])?;
+    assert!(rt; told(&solver.check_sat()) == ("too long", ""));
+    assert!(rt; solver.is_failed());
+    let blanks = Vec::from_elem(rt.alloc(), b' ', LINE_LIMIT)?;
+    let mut solver = session(rt.alloc(), blanks.as_slice(), &[])?;
+    assert!(rt; told(&solver.check_sat()) == ("too long", ""));
+    assert!(rt; told(&solver.check_sat()) == ("failed before", ""));
+    Ok(())
+}
+
+#[test]
+fn models(rt: HostRuntime) -> Result<(), Fail> {
+    let rows = [
+        (
+            b"sat\n(\n(define-fun x () Bool true)\n)\n".as_slice(),
+            "(\n(define-fun x () Bool true)\n)\n",
+        ),
+        (b"sat\n ( \n ) \nsat\n".as_slice(), " ( \n ) \n"),
+        (
+            b"sat\n(\n(error \"x\")\n)".as_slice(),
+            "(\n(error \"x\")\n)",
+        ),
+    ];
+    for (answers, text) in rows {
+        let model = Text::from_str(rt.alloc(), text)?;
+        let mut solver = session(rt.alloc(), answers, &[])?;
+        assert!(rt; solver.check_sat_with_model() == Ok(DecisionWithModel::Sat { model }));
+        assert_eq!(rt;
+            solver.link().sent(),
+            b"(check-sat)\n(get-model)\n".as_slice()
+        );
+    }
+    let mut solver = session(rt.alloc(), b"unsat\nunknown\n", &[])?;
+    assert!(rt; solver.check_sat_with_model() == Ok(DecisionWithModel::Unsat));
+    assert!(rt; solver.check_sat_with_model() == Ok(DecisionWithModel::Unknown));
+    assert_eq!(rt;
+        solver.link().sent(),
+        b"(check-sat)\n(check-sat)\n".as_slice()
+    );
+    Ok(())
+}
+
+#[test]
+fn no_models(rt: HostRuntime) -> Result<(), Fail> {
+    let none = [].as_slice();
+    let rows = [
+        (
+            b"sat\n(error \"x\")\n".as_slice(),
+            none,
+            ("solver", "x"),
+            false,
+        ),
+        (
+            b"sat\n(error \"Parse Error: x\")\n".as_slice(),
+            none,
+            ("solver", "Parse Error: x"),
+            true,
+        ),
+        (b"sat\n()\n".as_slice(), none, ("unrecognized", "()"), false),
+        (
+            b"sat\nunsat\n".as_slice(),
+            none,
+            ("unrecognized", "unsat"),
+            false,
+        ),
+        (b"sat\n".as_slice(), none, ("solver", ENDED), true),
+        (b"sat\n(\nx".as_slice(), none, ("solver", ENDED), true),
+        (b"sat\n(\n\xff\n)\n".as_slice(), none, ("io", ""), false),
+        (b"sat\n(\n)\n".as_slice(), [6].as_slice(), ("io", ""), false),
+        (
+            b"satisfied\n".as_slice(),
+            none,
+            ("unrecognized", "satisfied"),
+            false,
+        ),
+    ];
+    for (answers, fails, wanted, killed) in rows {
+        let mut solver = session(rt.alloc(), answers, fails)?;
+        assert!(rt; told(&solver.check_sat_with_model()) == wanted);
+        assert!(rt; solver.is_failed());
+        let mut link = solver.into_link();
+        assert!(rt; (link.ended() == Ok(Ended::Killed)) == killed);
+    }
+    Ok(())
+}
+
+#[test]
+fn scripts(rt: HostRuntime) -> Result<(), Fail> {
+    let mut solver = session(rt.alloc(), b"sat\n", &[9])?;
+    solver.enable_models()?;
+    solver.smtlib_input().assert("true")?;
+    solver.smtlib_input().flush()?;
+    assert!(rt; solver.check_sat() == Ok(Decision::Sat));
+    assert!(rt; told(&solver.enable_models()) == ("io", ""));
+    let mut input = solver.smtlib_input();
+    assert!(rt; input.flush() == Err(SinkError::Fault));
+    assert!(rt; solver.is_failed());
+    solver.clean_up()?;
+    let mut link = solver.into_link();
+    assert!(rt; link.ended() == Ok(Ended::Killed));
+    assert_eq!(rt;
+        link.sent(),
+        b"(set-option :produce-models true)\n(assert true)\n(check-sat)\n".as_slice()
+    );
+    Ok(())
+}
+
+#[test]
+fn links(rt: HostRuntime) -> Result<(), Fail> {
+    let alloc = rt.alloc();
+    let mut link = MemoryLink::new(alloc, b"ab\ncd", &[2], Some(3))?;
+    assert!(rt; link.ended() == Ok(Ended::Code(3)));
+    let mut line = Bytes::new(alloc);
+    assert!(rt; link.read_line(&mut line, 2) == Ok(LineEnd::TooLong));
+    assert!(rt; link.read_line(&mut line, 2) == Err(LinkError::Fault));
+    assert!(rt; link.read_line(&mut line, 1) == Ok(LineEnd::Line));
+    assert!(rt; link.read_line(&mut line, 3) == Ok(LineEnd::End));
+    assert!(rt; link.read_line(&mut line, 0) == Ok(LineEnd::TooLong));
+    assert_eq!(rt; line.items(), b"ab\ncd".as_slice());
+    link.kill()?;
+    assert!(rt; link.ended() == Ok(Ended::Killed));
+    Ok(())
+}
+
+#[test]
+fn starters(rt: HostRuntime) -> Result<(), Fail> {
+    let alloc = rt.alloc();
+    let mut links = LinkList::new(alloc);
+    links.push(MemoryLink::new(alloc, b"unsat\n", &[], None)?)?;
+    let mut starter = MemoryStarter::new(alloc, links, &[1])?;
+    let cmd = SolverCommand::new(alloc, "cvc5", &[Text::from_str(alloc, "--lang=smt")?])?;
+    let refused = LocalSolver::from_command(alloc, &mut starter, &cmd);
+    assert!(rt; told(&refused) == ("io", ""));
+    let mut solver = LocalSolver::from_command(alloc, &mut &mut starter, &cmd)?;
+    assert!(rt; solver.check_sat() == Ok(Decision::Unsat));
+    starter.finish(solver.into_link())?;
+    assert!(rt; starter.start(alloc, &cmd).err() == Some(StartError::Fault));
+    assert_eq!(rt; starter.commands().len(), 3);
+    assert_eq!(rt; starter.returned().len(), 1);
+    Ok(())
+}
