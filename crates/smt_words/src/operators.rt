@@ -1,5 +1,9 @@
 //! Operators and functions.
 
+ghost use Rattle.std.specs.Prelude.{◌≡◌, IfNone, IfSome};
+ghost use Rattle.smt_leaves.specs.ExtensionView.{plain_extension_op};
+ghost use Rattle.smt_meaning.specs.Names.{extension_op_name};
+
 use crate::spelling::{pattern, text};
 use crate::types::type_of;
 use anyhow::{Context, Result};
@@ -76,7 +80,9 @@ fn bits_operator(name: &str) -> Option<Op> {
 }
 
 /// The operator of the extension types of this name.
-pub fn extension_operator(name: &str) -> Option<ExtOp> {
+pub fn extension_operator(name: &str) -> Option<ExtOp>
+    ensures found { IfSome result (λ op. extension_op_name (plain_extension_op op) ≡ name.now) }
+{
     Some(match name {
         "datetime.ofBitVec" => ExtOp::DatetimeOfBitVec,
         "datetime.val" => ExtOp::DatetimeVal,

@@ -1,23 +1,32 @@
 //! The terms that the words of a row take and leave.
 
+ghost use Rattle.std.specs.Prelude.{◌≡◌, [], ◌∷◌, ◌++◌, IfOk, length};
+
 use crate::spelling::texts;
 use anyhow::{Context, Result};
 use smt_term::{Attr, Term};
 use std::alloc::Global;
 
 /// The last term, which the stack then has no longer.
-pub fn one(terms: &mut Vec<Term>) -> Result<Term> {
+pub fn one(terms: &mut Vec<Term>) -> Result<Term>
+    ensures { IfOk result (λ t. terms.old.items ≡ terms.new.items ++ t ∷ []) }
+{
     terms.pop().context("no term is left")
 }
 
 /// The last two terms, which the stack then has no longer.
-pub fn two(terms: &mut Vec<Term>) -> Result<(Term, Term)> {
+pub fn two(terms: &mut Vec<Term>) -> Result<(Term, Term)>
+    ensures { IfOk result (λ x. terms.old.items ≡ terms.new.items ++ x.0 ∷ x.1 ∷ []) }
+{
     let second = one(terms)?;
     Ok((one(terms)?, second))
 }
 
 /// So many last terms, which the stack then has no longer.
-pub fn taken(terms: &mut Vec<Term>, count: usize) -> Result<Vec<Term>> {
+pub fn taken(terms: &mut Vec<Term>, count: usize) -> Result<Vec<Term>>
+    ensures all { IfOk result (λ ts. terms.old.items ≡ terms.new.items ++ ts.items) }
+    ensures count { IfOk result (λ ts. length ts.items ≡ count) }
+{
     let left = terms.len().checked_sub(count).context("too few terms")?;
     Ok(terms.split_off(left)?)
 }
