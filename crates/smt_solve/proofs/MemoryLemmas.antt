@@ -1,5 +1,5 @@
 -- What the calls of a link in memory do, over plain values.
-use Rattle.std.proofs.Common.{◌≡◌, ◌≤◌, ℕ, ◌+◌, Bool, true, false, List, [], ◌++◌, take, drop, Some, Ok, Err, refl, sym, ap, ◌∙◌, append-nil, subst, rules, arith}
+use Rattle.std.proofs.Common.{◌≡◌, ◌≤◌, ℕ, ◌+◌, Bool, true, false, List, [], ◌++◌, take, drop, Some, Ok, Err, refl, sym, ap, ◌∙◌, append-nil, subst, arith}
 use Rattle.std.proofs.lemmas.List.{take-append-drop, drop-drop, drop-take, take-take}
 use Rattle.smt_solve.specs.Link.{HandsOn, Sends, ReadsLine, EndsAs}
 use Rattle.smt_solve.specs.MemoryLink.{memory_state, memory_allows, bytes_left, counts_call}
@@ -37,7 +37,7 @@ fails_read s t b line limit e f l = rw (f, e) (record {
   came = refl;
   was_read = ap Some (sym (append-nil (take s.at s.answers.items)));
   ending = tt;
-  allowed = λ g. tt;
+  allowed = tt;
   same_sent = refl;
   same_killed = refl;
   end = same_end (Some s.end);
@@ -53,7 +53,7 @@ lacks_memory s t b before after limit e f g = rw (f, e) (record {
   came = refl;
   was_read = ap Some (sym (append-nil (take s.at s.answers.items)));
   ending = tt;
-  allowed = λ _. tt;
+  allowed = tt;
   same_sent = refl;
   same_killed = refl;
   end = same_end (Some s.end);
@@ -82,7 +82,7 @@ next_given s left before after n limit how g h k =
       came = ap Some (came_on s.at n s.answers.items);
       was_read = ap Some (taken_on s.at n s.answers.items);
       ending = rw (← drop-drop n s.at s.answers.items) (subst P g h);
-      allowed = λ _. search rules;
+      allowed = λ _. tt;
       same_sent = refl;
       same_killed = refl;
       end = same_end (Some s.end);

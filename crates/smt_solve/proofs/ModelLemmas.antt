@@ -1,5 +1,5 @@
 -- Lines of a model one after another.
-use Rattle.std.proofs.Common.{◌≡◌, ℕ, ◌≤◌, ◌<◌, List, [], ◌∷◌, ◌++◌, length, Bool, true, false, Option, refl, sym, ap, ◌∙◌, append-nil, append_assoc, subst, arith, inl, inr, Err, Ok, Result}
+use Rattle.std.proofs.Common.{◌≡◌, ◌≢◌, ℕ, ◌≤◌, ◌<◌, List, [], ◌∷◌, ◌++◌, length, Bool, true, false, Option, refl, sym, ap, ◌∙◌, append-nil, append_assoc, subst, arith, inl, inr, Err, Ok, Result}
 use Rattle.std.specs.Prelude.{◌⊎◌}
 use Rattle.std.specs.List.{concat}
 use Rattle.std.specs.Io.KnownBytes.{append_known}
@@ -8,12 +8,12 @@ use Rattle.std.specs.declared.alloc.Global.{Global}
 use Rattle.std.specs.declared.rc.RcStr.{RcStr}
 use Rattle.smt_script.proofs.PutsLemmas.{appends_nothing, appends_then}
 use Rattle.smt_script.specs.CommandTexts.{get_model_text}
-use Rattle.smt_solve.specs.Answers.{StripsTo, model_limit, opening}
-use Rattle.smt_solve.specs.Link.{AllowsOnly, IsKilled, LinkState}
+use Rattle.smt_solve.specs.Answers.{StripsTo, line_limit, model_limit, opening}
+use Rattle.smt_solve.specs.Link.{AllowsOnly, HasNoLineFeed, IsKilled, IsLine, LinkState}
 use Rattle.smt_solve.specs.Model.{ArePieces, AreInner, AsksModel, AsksWithModel, BeginsModel, BeginsRest, GivesModel, GivesPast, IsInner, IsNextLine, IsNotOpening, IsPastLine, IsPastRest, IsPieceAt, KillsAtEnd, ReadsInModel, ReadsInRest, ReadsModel, ReadsNextLine, ReadsOpening, ReadsRest, RefusesModel, RefusesNext, TakesLine, TakesOpening}
 use Rattle.smt_solve.specs.Question.{AsksDecision, BeginsExchange, CallsForKill, Exchanges, GivesRefusal, IsNever, IsNothing, IsPiece, IsReply, KillsOnly, Leaves, ReadsReply, Refuses, Spares}
 use Rattle.smt_solve.proofs.LinkLemmas.{same_end}
-use Rattle.smt_solve.proofs.QuestionLemmas.{after_read, all_begun, allowed_at, begun_after, ended_left, exchanged_left, exchanges_then, killed_then, kills_later, line_kills, line_refuses, refuses_later, reply_ends, reply_left, reply_short, rose_later, same_only, sent_and_read, spares_then}
+use Rattle.smt_solve.proofs.QuestionLemmas.{after_read, all_begun, allowed_at, begun_after, ended_left, exchanged_left, exchanges_then, killed_then, kills_later, line_kills, line_refuses, refuses_later, reply_ends, reply_left, reply_short, rose_later, same_only, says_bytes, sent_and_read, spares_then}
 use Rattle.smt_solve.specs.declared.answer.Decision.{Decision}
 use Rattle.smt_solve.specs.declared.answer.Decision.TheVariants as decisions
 use Rattle.smt_solve.specs.declared.answer.DecisionWithModel.TheVariants.{Sat as SatWith, Unsat as UnsatWith, Unknown as UnknownWith}
@@ -32,8 +32,7 @@ all_one (x ∷ xs) line p h = (p.0, all_one xs line p.1 h)
 
 piece_same : {allows allows' : List ℕ → List ℕ → List ℕ → Type 0} (line : List ℕ) → AllowsOnly allows' allows → {sent sent' was_read was_read' : Option (List ℕ)} → sent' ≡ sent → was_read' ≡ was_read
     → IsPieceAt allows' sent was_read line → IsPieceAt allows sent' was_read' line
-piece_same line f e g (inl h) = inl (h.0, allowed_at line f e g h.1, h.2)
-piece_same line f e g (inr h) = inr h
+piece_same line f e g h = (allowed_at line f e g h.0, h.1, h.2)
 
 pieces_same : {allows allows' : List ℕ → List ℕ → List ℕ → Type 0} (lines : List (List ℕ)) → AllowsOnly allows' allows → {sent sent' was_read was_read' : Option (List ℕ)} → sent' ≡ sent → was_read' ≡ was_read
     → ArePieces allows' sent was_read lines → ArePieces allows sent' was_read' lines
@@ -48,9 +47,13 @@ one_more_piece allows sent was_read (x ∷ xs) line p h =
     appends_then was_read (append_known was_read x) (append_known (append_known was_read x) (concat xs)) x (concat xs) refl refl in
     (p.0, one_more_piece allows sent (append_known was_read x) xs line p.1 (piece_same line (same_only allows) refl e h))
 
-pub piece_of : (allows : List ℕ → List ℕ → List ℕ → Type 0) (a b : LinkState) (line : List ℕ) → length line ≤ 65536 → IsPiece allows a b line → IsPieceAt allows b.sent a.was_read line
-piece_of allows a b line l (inl h) = inl (h.0, h.1, l)
-piece_of allows a b line l (inr h) = inr (h.0, h.1)
+piece_ends : (b : LinkState) (line : List ℕ) → IsPiece b line → IsLine line ⊎ (HasNoLineFeed line × (length line < line_limit))
+piece_ends b line (inl h) = inl h
+piece_ends b line (inr h) = inr (h.0, h.1)
+
+-- A reply that has bytes is a line of a model.
+pub piece_of : {a b : LinkState} {t line : List ℕ} (allows : List ℕ → List ℕ → List ℕ → Type 0) → line ≢ [] → IsReply allows a b t line → IsPieceAt allows b.sent a.was_read line
+piece_of {a} {b} {t} {line} allows n p = (p.allowed n, p.short, piece_ends b line p.piece)
 
 -- The first line.
 
@@ -71,7 +74,7 @@ opening_taken {a = a} {b} {c} {line} {after} allows (Ok x) p s q =
     let reply : IsReply allows a c [] line = reply_left allows p q.ok.3 in
     let P : List ℕ → Type 0 = λ t. Exchanges a c [] t × StripsTo t opening × IsPieceAt allows c.sent a.was_read t × Spares a c in
     record {
-      ok = subst P (sym q.ok.0) (reply.exchanged, q.ok.1, piece_of allows a c line reply.short reply.piece, spares_then s q.ok.2);
+      ok = subst P (sym q.ok.0) (reply.exchanged, q.ok.1, piece_of allows (says_bytes line opening (omega arith) q.ok.1) reply, spares_then s q.ok.2);
       err = tt;
       begun = all_begun reply.exchanged;
       kills = inl (spares_then s q.ok.2);
@@ -95,10 +98,10 @@ opening_unread {a = a} {c} allows line e q = record {
 next_why : (a b c : LinkState) (line before : List ℕ) (allows : List ℕ → List ℕ → List ℕ → Type 0) (e : SolverError) → IsReply allows a b [] line → Spares a b → Leaves b c
     → RefusesNext line before b c e → Refuses (Exchanges a c []) IsNever IsNever a c e ⊎ IsPastLine a c before e
 next_why a b c line before allows Io p s q (inl r) = inl (inl (rose_later a.faults b.faults c.faults p.exchanged.later r))
-next_why a b c line before allows Io p s q (inr h) = inl (inr (line, exchanged_left p.exchanged q, reply_short a b allows line p.piece, h.0, spares_then s h.1))
+next_why a b c line before allows Io p s q (inr h) = inl (inr (line, exchanged_left p.exchanged q, reply_short b line p.piece, h.0, spares_then s h.1))
 next_why a b c line before allows (Solver m) p s q h =
     let P : List ℕ → Type 0 = λ u. Exchanges a c [] u in
-    inl (inl (subst P h.0 (exchanged_left p.exchanged q), ended_left b c q (reply_ends a b allows line p.piece h.0), h.1, killed_then s h.2))
+    inl (inl (subst P h.0 (exchanged_left p.exchanged q), ended_left b c q (reply_ends b line p.piece h.0), h.1, killed_then s h.2))
 next_why a b c line before allows (UnrecognizedSolverOutput m) p s q h = absurd h
 next_why a b c line before allows SolverMarkedFailed p s q h = absurd h
 next_why a b c line before allows AnswerTooLong p s q h = inr (refl, line, exchanged_left p.exchanged q, h.0, spares_then s h.1)
@@ -107,7 +110,7 @@ next_why a b c line before allows Memory p s q h = inl tt
 next_kills : (a b c : LinkState) (line : List ℕ) (allows : List ℕ → List ℕ → List ℕ → Type 0) → IsReply allows a b [] line → Spares a b → Leaves b c
     → Spares b c ⊎ ((line ≡ []) × IsKilled b c) → KillsAtEnd IsNothing a c []
 next_kills a b c line allows p s q (inl h) = inl (spares_then s h)
-next_kills a b c line allows p s q (inr h) = inr (line, exchanged_left p.exchanged q, h.0, ended_left b c q (reply_ends a b allows line p.piece h.0), killed_then s h.1)
+next_kills a b c line allows p s q (inr h) = inr (line, exchanged_left p.exchanged q, h.0, ended_left b c q (reply_ends b line p.piece h.0), killed_then s h.1)
 
 pub next_taken : {a b c : LinkState} {line before after : List ℕ} (allows : List ℕ → List ℕ → List ℕ → Type 0) (r : Result Bool SolverError) → IsReply allows a b [] line → Spares a b
     → TakesLine line b c before after r → ReadsNextLine allows a c before after r
@@ -119,7 +122,7 @@ next_taken {a} {b} {c} {line} {before} {after} allows (Ok closes) p s q =
         exchanged = reply.exchanged;
         appended = q.ok.0;
         short = q.ok.1;
-        piece = piece_of allows a c line reply.short reply.piece;
+        piece = piece_of allows q.ok.2 reply;
         says = q.ok.3;
         spared = spares_then s q.ok.4;
       };

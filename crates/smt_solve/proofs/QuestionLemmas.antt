@@ -1,5 +1,5 @@
 -- Steps of a question one after another, and what its refusals say.
-use Rattle.std.proofs.Common.{◌≡◌, ◌≢◌, ℕ, ◌≤◌, Bool, true, false, IsTrue, List, [], ◌∷◌, ◌++◌, length, drop, Result, Ok, Err, Option, None, Some, IsErrAnd, refl, sym, ap, ◌∙◌, append-nil, length-append, subst, arith, inl, inr}
+use Rattle.std.proofs.Common.{◌≡◌, ◌≢◌, ℕ, ◌<◌, ◌≤◌, Bool, true, false, IsTrue, List, [], ◌∷◌, ◌++◌, length, drop, Result, Ok, Err, Option, None, Some, IsErrAnd, refl, sym, ap, ◌∙◌, append-nil, length-append, subst, arith, inl, inr}
 use Rattle.std.specs.Prelude.{codes, ◌⊎◌, IfSome, MatchBool, MatchOption, ◌==◌}
 use Rattle.std.specs.Borrow.{Bor}
 use Rattle.std.specs.Option.{option_map}
@@ -13,6 +13,7 @@ use Rattle.smt_solve.specs.Link.{AllowsOnly, IsAllowed, IsKilled, IsLine, KeepsE
 use Rattle.smt_solve.specs.Question.{AnswersEnded, AsksDecision, AsksRunner, AsksRunning, BeginsExchange, CallsForKill, Exchanges, FailsToSend, GivesRefusal, IsNever, IsNotAsked, IsNotLong, IsNothing, IsPiece, IsReply, JudgesLine, KillsFor, KillsForLine, KillsOnly, Leaves, ReadsReply, Refuses, RefusesLine, RefusesText, Spares, TellsMessage, TellsMessageAs, TellsText}
 use Rattle.smt_solve.proofs.Utf8Lemmas.{message_utf8, stripped_utf8}
 use Rattle.smt_solve.specs.declared.answer.Decision.{Decision}
+use Rattle.smt_solve.specs.declared.answer.Decision.TheVariants as decisions
 use Rattle.smt_solve.specs.declared.error.SolverError.{SolverError}
 use Rattle.smt_solve.specs.declared.error.SolverError.TheVariants.{Io, Solver, UnrecognizedSolverOutput, SolverMarkedFailed, AnswerTooLong, Memory}
 use Rattle.smt_solve.specs.declared.link.Ended.{Ended}
@@ -149,30 +150,32 @@ allowed_at {allows} line f {sent} {sent'} {was_read} {was_read'} e g h = rw (e, 
 pub same_only : (allows : List ℕ → List ℕ → List ℕ → Type 0) → AllowsOnly allows allows
 same_only allows = λ text earlier line h. h
 
-piece_at : {allows allows' : List ℕ → List ℕ → List ℕ → Type 0} (a b c d : LinkState) (line : List ℕ) → AllowsOnly allows' allows → d.sent ≡ c.sent → b.was_read ≡ a.was_read → (AnswersEnded c → AnswersEnded d)
-    → IsPiece allows' a c line → IsPiece allows b d line
-piece_at a b c d line f e g k (inl h) = inl (h.0, allowed_at line f e g h.1)
-piece_at a b c d line f e g k (inr h) = inr (h.0, h.1, k h.2)
+piece_left : (b c : LinkState) (line : List ℕ) → Leaves b c → IsPiece b line → IsPiece c line
+piece_left b c line q (inl h) = inl h
+piece_left b c line q (inr h) = inr (h.0, h.1, ended_left b c q h.2)
 
 pub reply_left : {a b c : LinkState} {t line : List ℕ} (allows : List ℕ → List ℕ → List ℕ → Type 0) → IsReply allows a b t line → Leaves b c → IsReply allows a c t line
 reply_left {a} {b} {c} {t} {line} allows p q = record {
   exchanged = exchanged_left p.exchanged q;
   short = p.short;
-  piece = piece_at a a b c line (same_only allows) q.same_sent refl (ended_left b c q) p.piece;
+  piece = piece_left b c line q p.piece;
+  allowed = λ n. allowed_at line (same_only allows) q.same_sent refl (p.allowed n);
 }
 
 pub reply_sent : {a b c : LinkState} {t line : List ℕ} {allows allows' : List ℕ → List ℕ → List ℕ → Type 0} → AllowsOnly allows' allows → Exchanges a b t [] → IsReply allows' b c [] line → IsReply allows a c t line
 reply_sent {a} {b} {c} {t} {line} f p q = record {
   exchanged = sent_and_read line p q.exchanged;
   short = q.short;
-  piece = piece_at b a c c line f refl (appends_nothing a.was_read ∙ sym p.was_read) (λ h. h) q.piece;
+  piece = q.piece;
+  allowed = λ n. allowed_at line f refl (appends_nothing a.was_read ∙ sym p.was_read) (q.allowed n);
 }
 
 left_reply : {a b c : LinkState} {t line : List ℕ} {allows allows' : List ℕ → List ℕ → List ℕ → Type 0} → AllowsOnly allows' allows → Leaves a b → IsReply allows' b c t line → IsReply allows a c t line
 left_reply {a} {b} {c} {t} {line} f p q = record {
   exchanged = left_exchanged p q.exchanged;
   short = q.short;
-  piece = piece_at b a c c line f refl (sym p.same_read) (λ h. h) q.piece;
+  piece = q.piece;
+  allowed = λ n. allowed_at line f refl (sym p.same_read) (q.allowed n);
 }
 
 line_has_bytes : (line : List ℕ) → IsLine line → line ≡ [] → ⊥
@@ -181,14 +184,25 @@ line_has_bytes line h e =
     omega (arith, l, length-append h.0 (10 ∷ []))
 
 -- A reply of no byte is the end.
-pub reply_ends : (a b : LinkState) (allows : List ℕ → List ℕ → List ℕ → Type 0) (line : List ℕ) → IsPiece allows a b line → line ≡ [] → AnswersEnded b
-reply_ends a b allows line (inl h) e = absurd (line_has_bytes line h.0 e)
-reply_ends a b allows line (inr h) e = h.2
+pub reply_ends : (b : LinkState) (line : List ℕ) → IsPiece b line → line ≡ [] → AnswersEnded b
+reply_ends b line (inl h) e = absurd (line_has_bytes line h e)
+reply_ends b line (inr h) e = h.2
 
 -- A reply is not too long.
-pub reply_short : (a b : LinkState) (allows : List ℕ → List ℕ → List ℕ → Type 0) (line : List ℕ) → IsPiece allows a b line → IsNotLong line
-reply_short a b allows line (inl h) = inl h.0
-reply_short a b allows line (inr h) = inr h.1
+pub reply_short : (b : LinkState) (line : List ℕ) → IsPiece b line → IsNotLong line
+reply_short b line (inl h) = inl h
+reply_short b line (inr h) = inr h.1
+
+-- A line that says something has bytes.
+pub says_bytes : (line text : List ℕ) → 0 < length text → StripsTo line text → line ≢ []
+says_bytes line text l s e =
+    let none : length (s.front ++ (text ++ s.back)) ≡ 0 = ap (λ (t : List ℕ). length t) (sym s.whole ∙ e) in
+    omega (arith, l, none, length-append s.front (text ++ s.back), length-append text s.back)
+
+word_bytes : (d : Decision) → 0 < length (decision_word d)
+word_bytes decisions.Sat = omega arith
+word_bytes decisions.Unsat = omega arith
+word_bytes decisions.Unknown = omega arith
 
 -- the exit of a `?`, which hands the error on
 pub exits : {T E : Type 0} (P : Result T E → Type 0) (r : Result T E) (e : E) → IsErrAnd r (λ y. y ≡ e) → P (Err e) → P r
@@ -234,12 +248,12 @@ kills_later a b c begins begins' t u s f (inr (bytes, x, h, k)) =
 line_why : (a b c : LinkState) (allows : List ℕ → List ℕ → List ℕ → Type 0) (t line : List ℕ) (other : List ℕ → Type 0) (e : SolverError) → IsReply allows a b t line → Spares a b → Leaves b c
     → RefusesLine other line b c e → Refuses (Exchanges a c t) (Exchanges a c t) other a c e
 line_why a b c allows t line other Io p s q (inl r) = inl (rose_later a.faults b.faults c.faults p.exchanged.later r)
-line_why a b c allows t line other Io p s q (inr h) = inr (line, exchanged_left p.exchanged q, reply_short a b allows line p.piece, h.0, spares_then s h.1)
+line_why a b c allows t line other Io p s q (inr h) = inr (line, exchanged_left p.exchanged q, reply_short b line p.piece, h.0, spares_then s h.1)
 line_why a b c allows t line other (Solver m) p s q (inl h) =
     let P : List ℕ → Type 0 = λ u. Exchanges a c t u in
-    inl (subst P h.0 (exchanged_left p.exchanged q), ended_left b c q (reply_ends a b allows line p.piece h.0), h.1, killed_then s h.2)
-line_why a b c allows t line other (Solver m) p s q (inr h) = inr (line, exchanged_left p.exchanged q, reply_short a b allows line p.piece, h.0, kills_then (is_parse_error (rc_str_bytes m)) a b c s h.1)
-line_why a b c allows t line other (UnrecognizedSolverOutput m) p s q (n, h, o, w, k) = (line, exchanged_left p.exchanged q, reply_short a b allows line p.piece, n, h, o, w, spares_then s k)
+    inl (subst P h.0 (exchanged_left p.exchanged q), ended_left b c q (reply_ends b line p.piece h.0), h.1, killed_then s h.2)
+line_why a b c allows t line other (Solver m) p s q (inr h) = inr (line, exchanged_left p.exchanged q, reply_short b line p.piece, h.0, kills_then (is_parse_error (rc_str_bytes m)) a b c s h.1)
+line_why a b c allows t line other (UnrecognizedSolverOutput m) p s q (n, h, o, w, k) = (line, exchanged_left p.exchanged q, reply_short b line p.piece, n, h, o, w, spares_then s k)
 line_why a b c allows t line other SolverMarkedFailed p s q h = absurd h
 line_why a b c allows t line other AnswerTooLong p s q h = absurd h
 line_why a b c allows t line other Memory p s q h = tt
@@ -250,7 +264,7 @@ line_refuses {a} {b} {c} {t} {line} allows other e p s q = line_why a b c allows
 
 kills_for : (a b c : LinkState) (allows : List ℕ → List ℕ → List ℕ → Type 0) (t line : List ℕ) → IsReply allows a b t line → Spares a b → Leaves b c → KillsForLine line b c → KillsOnly IsNothing a c t
 kills_for a b c allows t line p s q (inl h) = inl (spares_then s h)
-kills_for a b c allows t line p s q (inr (inl e, k)) = inr (line, exchanged_left p.exchanged q, inl (e, ended_left b c q (reply_ends a b allows line p.piece e)), killed_then s k)
+kills_for a b c allows t line p s q (inr (inl e, k)) = inr (line, exchanged_left p.exchanged q, inl (e, ended_left b c q (reply_ends b line p.piece e)), killed_then s k)
 kills_for a b c allows t line p s q (inr (inr h, k)) = inr (line, exchanged_left p.exchanged q, inr h, killed_then s k)
 
 pub line_kills : {a b c : LinkState} {t line : List ℕ} (allows : List ℕ → List ℕ → List ℕ → Type 0) (other : List ℕ → Type 0) (e : SolverError) → IsReply allows a b t line → Spares a b
@@ -320,7 +334,7 @@ runner_judged {a} {b} {c} {line} allows (Ok d) p s q =
     let reply : IsReply allows a c check_sat_text line = reply_left allows p q.ok.2 in
     let spared : Spares a c = spares_then s q.ok.1 in
     record {
-      ok = record { line = line; reply = reply; says = q.ok.0; spared = spared };
+      ok = record { line = line; reply = reply; allowed = reply.allowed (says_bytes line (decision_word d) (word_bytes d) q.ok.0); says = q.ok.0; spared = spared };
       err = tt;
       begun = all_begun reply.exchanged;
       kills = inl spared;
@@ -349,7 +363,13 @@ runs_on (Some x) Q h = λ n. absurd (n h)
 pub runner_asked : {T : Type 0} {a b c : LinkState} {allows allows' : List ℕ → List ℕ → List ℕ → Type 0} (x : T) (r : Result Decision SolverError) → AllowsOnly allows' allows → AsksRunning a b (Ok x)
     → AsksRunner allows' b c r → AsksDecision allows a c r
 runner_asked {a = a} {b} {c} x (Ok d) f p q = record {
-  ok = record { line = q.ok.line; reply = left_reply f p.left q.ok.reply; says = q.ok.says; spared = spares_then p.spared q.ok.spared };
+  ok = record {
+    line = q.ok.line;
+    reply = left_reply f p.left q.ok.reply;
+    allowed = allowed_at q.ok.line f refl (sym p.left.same_read) q.ok.allowed;
+    says = q.ok.says;
+    spared = spares_then p.spared q.ok.spared;
+  };
   err = tt;
   ended = runs_on a.ended (λ how. IsNotAsked a c how (Ok d)) p.ok;
   begun = left_begun p.left q.begun;

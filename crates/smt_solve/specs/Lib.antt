@@ -1,5 +1,8 @@
 pub mod Answers
+pub mod Cvc5
+pub mod FailedWriter
 pub mod Lends
+pub mod LendsWriter
 pub mod Link
 pub mod LinkList
 pub mod MemoryLink
@@ -8,3 +11,4 @@ pub mod Model
 pub mod Question
 pub mod Session
 pub mod Starter
+pub mod WriterSolver

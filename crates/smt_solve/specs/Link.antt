@@ -1,5 +1,5 @@
 -- What a link to a solver tells, and what its calls do to it.
-use Rattle.std.specs.Prelude.{ℕ, ◌<◌, ◌≤◌, ◌≡◌, ◌≢◌, Bool, true, false, List, [], ◌∷◌, ◌++◌, length, All, IfOk, IfSome, IsErrOf, OnOk, OnErr, is_some, ◌⊎◌, Option, None, Some, Ok, Result}
+use Rattle.std.specs.Prelude.{ℕ, ◌<◌, ◌≤◌, ◌≡◌, ◌≢◌, ⊤, Bool, true, false, List, [], ◌∷◌, ◌++◌, length, All, IfOk, IfSome, IsErrOf, OnOk, OnErr, is_some, ◌⊎◌, Option, None, Some, Result}
 use Rattle.std.specs.Option.{option_map}
 use Rattle.std.specs.Io.KnownBytes.{append_known, prepend_known}
 use Rattle.smt_script.specs.Sink.{AppendsPart, Rose}
@@ -59,6 +59,12 @@ EndsAs Line piece limit to_come = IsLine piece × (length piece ≤ limit)
 EndsAs End piece limit to_come = HasNoLineFeed piece × (length piece < limit) × IfSome to_come (λ left. left ≡ [])
 EndsAs TooLong piece limit to_come = HasNoLineFeed piece × (length piece ≡ limit)
 
+-- A read that ended so gave this line. What came before the end of the answers is a line like any other, unless it has no byte.
+abbrev pub GivesLine : LineEnd → (piece : List ℕ) → Type 0
+GivesLine Line piece = ⊤
+GivesLine End piece = piece ≢ []
+GivesLine TooLong piece = ⊥
+
 -- What has ended stays as it ended, and what is not told stays so.
 abbrev pub KeepsEnd : (old new : Option Ended) → Type 0
 KeepsEnd None new = new ≡ None
@@ -104,7 +110,7 @@ pub record ReadsLine (allows : List ℕ → List ℕ → List ℕ → Type 0) (o
   pub was_read : new.was_read ≡ append_known old.was_read piece
   pub ending : IfOk result (λ how. EndsAs how piece limit new.to_come)
   -- a line that is given is one that the link allows
-  pub allowed : result ≡ Ok Line → IsAllowed allows old.sent old.was_read piece
+  pub allowed : IfOk result (λ how. GivesLine how piece → IsAllowed allows old.sent old.was_read piece)
   pub same_sent : new.sent ≡ old.sent
   pub same_killed : new.killed ≡ old.killed
   pub end : KeepsEnd old.ended new.ended

@@ -25,9 +25,9 @@ IsInner line = (line ≢ []) × (said : List ℕ) × StripsTo line said × (said
 abbrev pub AreInner : List (List ℕ) → Type 0
 AreInner lines = AllByRecursion IsInner lines
 
--- The bytes are a line, which the link allows there, or what came before the end, and are not too long.
+-- The link allows these bytes there. They are a line with its line feed, or what came before the end, and are not too long.
 abbrev pub IsPieceAt : (allows : List ℕ → List ℕ → List ℕ → Type 0) → (sent was_read : Option (List ℕ)) → List ℕ → Type 0
-IsPieceAt allows sent was_read line = (IsLine line × IsAllowed allows sent was_read line × (length line ≤ line_limit)) ⊎ (HasNoLineFeed line × (length line < line_limit))
+IsPieceAt allows sent was_read line = IsAllowed allows sent was_read line × (length line ≤ line_limit) × (IsLine line ⊎ (HasNoLineFeed line × (length line < line_limit)))
 
 -- So are these, one behind another.
 abbrev pub ArePieces : (allows : List ℕ → List ℕ → List ℕ → Type 0) → (sent was_read : Option (List ℕ)) → List (List ℕ) → Type 0

@@ -42,9 +42,9 @@ pub record Spares (old new : LinkState) : Type 0 where
 abbrev pub AnswersEnded : LinkState → Type 0
 AnswersEnded s = IfSome s.to_come (λ left. left ≡ [])
 
--- The bytes are a line, which the link allows there, or what came before the end.
-abbrev pub IsPiece : (allows : List ℕ → List ℕ → List ℕ → Type 0) → (old new : LinkState) → List ℕ → Type 0
-IsPiece allows old new line = (IsLine line × IsAllowed allows new.sent old.was_read line) ⊎ (HasNoLineFeed line × (length line < line_limit) × AnswersEnded new)
+-- The bytes are a line with its line feed, or what came before the end.
+abbrev pub IsPiece : (new : LinkState) → List ℕ → Type 0
+IsPiece new line = IsLine line ⊎ (HasNoLineFeed line × (length line < line_limit) × AnswersEnded new)
 
 -- The bytes are not too long for a line.
 abbrev pub IsNotLong : List ℕ → Type 0
@@ -54,12 +54,15 @@ IsNotLong line = IsLine line ⊎ (length line < line_limit)
 pub record IsReply (allows : List ℕ → List ℕ → List ℕ → Type 0) (old new : LinkState) (text line : List ℕ) : Type 0 where
   pub exchanged : Exchanges old new text line
   pub short : length line ≤ line_limit
-  pub piece : IsPiece allows old new line
+  pub piece : IsPiece new line
+  -- unless the answers ended without a byte, the link allows the line there
+  pub allowed : line ≢ [] → IsAllowed allows new.sent old.was_read line
 
 -- This text was sent, and one line was read, which says this and which the link allows there. The end counts as its line feed.
 pub record Answers (allows : List ℕ → List ℕ → List ℕ → Type 0) (old new : LinkState) (text said : List ℕ) : Type 0 where
   pub line : List ℕ
   pub reply : IsReply allows old new text line
+  pub allowed : IsAllowed allows new.sent old.was_read line
   pub says : StripsTo line said
   pub spared : Spares old new
 

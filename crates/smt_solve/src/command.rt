@@ -1,6 +1,7 @@
 // Commands that start a solver.
-ghost use Rattle.std.specs.Prelude.{◌≡◌, IfOk, IsOkUnless};
+ghost use Rattle.std.specs.Prelude.{◌≡◌, ◌∷◌, codes, IfOk, IsOkUnless};
 ghost use Rattle.smt_characters.specs.SharedTexts.{texts};
+ghost use Rattle.smt_solve.specs.Cvc5.{cvc5_command};
 ghost use Rattle.smt_solve.specs.Starter.{command_of, texts_in};
 
 use crate::error::SolverError;
@@ -33,6 +34,19 @@ impl TextList {
     }
 }
 
+/// The arguments by which cvc5 reads SMT-LIB, and these behind them.
+fn cvc5_args(alloc: Global, args: &[Text]) -> Result<Vec<Text>, AllocError>
+    ensures { IfOk result (λ all. texts all.items ≡ codes "--lang" ∷ codes "smt" ∷ texts args.now) }
+{
+    let mut all = Vec::new(alloc);
+    all.push(Text::from_str(alloc, "--lang")?)?;
+    all.push(Text::from_str(alloc, "smt")?)?;
+    for arg in args {
+        all.push(share_text(arg)?)?;
+    }
+    Ok(all)
+}
+
 /// A program that is a solver, and its arguments.
 #[derive(Debug, Drop)]
 pub struct SolverCommand {
@@ -54,6 +68,23 @@ impl SolverCommand {
             return Err(SolverError::Memory);
         };
         Ok(SolverCommand { program, args })
+    }
+
+    /// A command that starts cvc5: the program of `setting`, or `cvc5` where there is none, with the arguments `--lang` and
+    /// `smt`, and these behind them. Its only error is `Memory`.
+    pub fn cvc5(
+        alloc: Global,
+        setting: Option<&str>,
+        args: &[Text],
+    ) -> Result<SolverCommand, SolverError>
+        ensures ok { IfOk result (λ cmd. command_of cmd ≡ cvc5_command setting.entry (texts args.now)) }
+        ensures refusal { IsOkUnless result SolverError.Memory }
+    {
+        let program = setting.unwrap_or("cvc5");
+        let Ok(all) = cvc5_args(alloc, args) else {
+            return Err(SolverError::Memory);
+        };
+        SolverCommand::new(alloc, program, all.as_slice())
     }
 
     /// A command that says the same, and shares the texts.

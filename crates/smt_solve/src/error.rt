@@ -5,7 +5,7 @@ use thiserror::Error;
 /// Why a solver gave no answer.
 #[derive(Debug, PartialEq, Eq, Drop, Error)]
 pub enum SolverError {
-    /// The link to the solver failed, or the solver answered with bytes that are no UTF-8.
+    /// The link to the solver or what takes the script failed, or the solver answered with bytes that are no UTF-8.
     #[error("the link to the solver failed, or its answer is no UTF-8")]
     Io,
     /// The solver answered with an error of this message, or has ended, as this message tells.

@@ -62,7 +62,8 @@ pub trait Link {
 
     /// Appends the next line with its LF to `line`, at most `limit` bytes, and answers how it ended.
     ///
-    /// The bytes that it appends, also on an error, are those that it takes from what is to come.
+    /// The bytes that it appends, also on an error, are those that it takes from what is to come. A line that it gives is one
+    /// that it allows, also a last line that ends without LF because the answers ended.
     fn read_line(&mut self, line: &mut Bytes, limit: usize) -> Result<LineEnd, LinkError>
         ensures reads { ReadsLine (allows self.old) (state self.old) (state self.new)
             (bytes_in line.old) (bytes_in line.new) limit result }

@@ -1,6 +1,8 @@
 // A session with a solver, over a link.
-ghost use Rattle.std.specs.Prelude.{◌≡◌, ◌||◌, IfOk, false, is_err};
+ghost use Rattle.std.specs.Prelude.{◌≡◌, ◌||◌, [], ◌∷◌, IfOk, false, is_err};
 ghost use Rattle.std.specs.Borrow.{sem};
+ghost use Rattle.smt_characters.specs.SharedTexts.{texts};
+ghost use Rattle.smt_solve.specs.Cvc5.{cvc5_command, cvc5_limit};
 ghost use Rattle.smt_solve.specs.Lends.{LendsInput};
 ghost use Rattle.smt_solve.specs.Link.{AllowsOnly, AllowsTheSame, IsUnused};
 ghost use Rattle.smt_solve.specs.Model.{AsksWithModel};
@@ -17,6 +19,7 @@ use crate::model::ask_with_model;
 use crate::question::{ask_decision, kill_link, send_text};
 use crate::starter::{StartError, Starter};
 use smt_script::Sink;
+use smt_text::Text;
 use std::alloc::Global;
 
 /// A solver that takes a script and answers questions about it.
@@ -89,6 +92,59 @@ impl<L: Link> LocalSolver<L> {
         }
     }
 
+    /// Starts cvc5 with a limit of a minute on each question, and opens a session with it.
+    ///
+    /// The program is that of `setting`, or `cvc5` where there is none, and the arguments are `--lang`, `smt` and
+    /// `--tlimit=60000`.
+    ///
+    /// # Errors
+    ///
+    /// As those of `from_command`.
+    pub fn cvc5<P: Starter<L = L>>(
+        alloc: Global,
+        starter: &mut P,
+        setting: Option<&str>,
+    ) -> Result<LocalSolver<L>, SolverError>
+        ensures starts { StartsSession (P.state starter.old) (P.state starter.new)
+            (cvc5_command setting.entry (cvc5_limit ∷ [])) result }
+        ensures unused { IfOk result (λ s. IsUnused (L.state (session_link s))) }
+        ensures unfailed { IfOk result (λ s. session_failed s ≡ false) }
+        ensures honest { IfOk result
+            (λ s. AllowsOnly (L.allows (session_link s)) (P.allows starter.old)) }
+        ensures allows { AllowsTheSame (P.allows starter.old) (P.allows starter.new) }
+    {
+        let Ok(limit) = Text::from_str(alloc, "--tlimit=60000") else {
+            return Err(SolverError::Memory);
+        };
+        LocalSolver::cvc5_with_args(alloc, starter, setting, &[limit])
+    }
+
+    /// Starts cvc5, and opens a session with it.
+    ///
+    /// The program is that of `setting`, or `cvc5` where there is none, and the arguments are `--lang`, `smt` and those of
+    /// `args`.
+    ///
+    /// # Errors
+    ///
+    /// As those of `from_command`.
+    pub fn cvc5_with_args<P: Starter<L = L>>(
+        alloc: Global,
+        starter: &mut P,
+        setting: Option<&str>,
+        args: &[Text],
+    ) -> Result<LocalSolver<L>, SolverError>
+        ensures starts { StartsSession (P.state starter.old) (P.state starter.new)
+            (cvc5_command setting.entry (texts args.now)) result }
+        ensures unused { IfOk result (λ s. IsUnused (L.state (session_link s))) }
+        ensures unfailed { IfOk result (λ s. session_failed s ≡ false) }
+        ensures honest { IfOk result
+            (λ s. AllowsOnly (L.allows (session_link s)) (P.allows starter.old)) }
+        ensures allows { AllowsTheSame (P.allows starter.old) (P.allows starter.new) }
+    {
+        let cmd = SolverCommand::cvc5(alloc, setting, args)?;
+        LocalSolver::from_command(alloc, starter, &cmd)
+    }
+
     /// The link.
     pub fn link(&self) -> &L
         ensures { result.now ≡ session_link self.now }
@@ -114,6 +170,26 @@ impl<L: Link> LocalSolver<L> {
             refused: _,
         } = input;
         link
+    }
+
+    /// Sends these lines of a script as they stand, as a put on the session's input does. They may be held back until the next
+    /// question.
+    ///
+    /// # Errors
+    ///
+    /// `SolverMarkedFailed` comes where the session has failed before, `Io` where the link failed, and `Memory` where the link
+    /// has no memory. The session has failed after any of them.
+    pub fn send_lines(&mut self, lines: &[u8]) -> Result<(), SolverError>
+        ensures guards { Guards L.allows self.old self.new result }
+        ensures sends { session_failed self.old ≡ false →
+            SendsCommand (state_by L.state self.old) (state_by L.state self.new) lines.now result }
+    {
+        if self.input.failed {
+            return Err(SolverError::SolverMarkedFailed);
+        }
+        let done = send_text(&mut self.input.link, lines);
+        self.input.failed = done.is_err();
+        done
     }
 
     /// Kills the solver, whether the session has failed or not.
@@ -154,12 +230,7 @@ impl<L: Link> Solver for LocalSolver<L> {
         ensures sends { session_failed self.old ≡ false →
             SendsCommand (state_by L.state self.old) (state_by L.state self.new) enable_models_text result }
     {
-        if self.input.failed {
-            return Err(SolverError::SolverMarkedFailed);
-        }
-        let done = send_text(&mut self.input.link, b"(set-option :produce-models true)\n");
-        self.input.failed = done.is_err();
-        done
+        self.send_lines(b"(set-option :produce-models true)\n")
     }
 
     /// Sends `(check-sat)`, hands it on, and reads one line of at most 65536 bytes.

@@ -1,7 +1,8 @@
 // Sessions over links in memory, row by row.
 use crate::*;
-use smt_script::{Bytes, Sink, SinkError, SmtLibScript, Text};
+use smt_script::{Bytes, ListSink, Sink, SinkError, SmtLibScript, Text};
 use std::alloc::Global;
+use std::process::Abort;
 use std::test::Fail;
 
 /// A session with a solver that answers with these bytes, and whose calls with these numbers fail.
@@ -34,7 +35,7 @@ fn decisions(rt: HostRuntime) -> Result<(), Fail> {
         (b"unsat\n".as_slice(), Decision::Unsat),
         (b" \t unknown \r\n".as_slice(), Decision::Unknown),
         (b"\tunsat\r\nsat\n".as_slice(), Decision::Unsat),
-        (b"unsat".as_slice(), Decision::Unsat),
+        (b"sat".as_slice(), Decision::Sat),
     ];
     for (answers, decision) in rows {
         let mut solver = session(rt.alloc(), answers, &[])?;
@@ -56,55 +57,61 @@ fn decisions(rt: HostRuntime) -> Result<(), Fail> {
 /// What is told of answers that ended.
 const ENDED: &str = "Solver process terminated unexpectedly with status: None";
 
+/// Asks for a decision, and expects that this is told, that nothing more is sent, and that the solver is killed or not.
+fn expect_refusal(
+    rt: &impl Abort,
+    mut solver: LocalSolver<MemoryLink>,
+    wanted: (&str, &str),
+    killed: bool,
+) {
+    assert!(rt; told(&solver.check_sat()) == wanted);
+    assert!(rt; solver.is_failed());
+    let sent = solver.link().sent().len();
+    assert!(rt; told(&solver.check_sat()) == ("failed before", ""));
+    assert!(rt; told(&solver.check_sat_with_model()) == ("failed before", ""));
+    assert!(rt; told(&solver.enable_models()) == ("failed before", ""));
+    assert!(rt; solver.smtlib_input().assert("true") == Err(SinkError::Fault));
+    assert_eq!(rt; solver.link().sent().len(), sent);
+    let mut link = solver.into_link();
+    assert!(rt; (link.ended() == Ok(Ended::Killed)) == killed);
+}
+
 #[test]
 fn refusals(rt: HostRuntime) -> Result<(), Fail> {
-    let none = [].as_slice();
+    let parse_error = b" (error \"Parse Error: x\")\r\n".as_slice();
     let rows = [
-        (b"(error \"x\")\n".as_slice(), none, ("solver", "x"), false),
-        (
-            b" (error \"Parse Error: x\")\r\n".as_slice(),
-            none,
-            ("solver", "Parse Error: x"),
-            true,
-        ),
-        (b"(error \"\")".as_slice(), none, ("solver", ""), false),
+        (b"(error \"x\")\n".as_slice(), ("solver", "x"), false),
+        (parse_error, ("solver", "Parse Error: x"), true),
+        (b"(error \"\")".as_slice(), ("solver", ""), false),
         (
             b"(error \")\n".as_slice(),
-            none,
             ("unrecognized", "(error \")"),
             false,
         ),
         (
             b" error: no\r\n".as_slice(),
-            none,
             ("unrecognized", "error: no"),
             false,
         ),
         (
             b"unsat.\nunsat\n".as_slice(),
-            none,
             ("unrecognized", "unsat."),
             false,
         ),
-        (b"\n".as_slice(), none, ("unrecognized", ""), false),
-        (b"".as_slice(), none, ("solver", ENDED), true),
-        (b"\xff\n".as_slice(), none, ("io", ""), false),
-        (b"sat\n".as_slice(), [1].as_slice(), ("io", ""), false),
-        (b"sat\n".as_slice(), [2].as_slice(), ("io", ""), false),
-        (b"sat\n".as_slice(), [3].as_slice(), ("io", ""), false),
+        (b"\n".as_slice(), ("unrecognized", ""), false),
+        (b"".as_slice(), ("solver", ENDED), true),
+        (b"\xff\n".as_slice(), ("io", ""), false),
     ];
-    for (answers, fails, wanted, killed) in rows {
-        let mut solver = session(rt.alloc(), answers, fails)?;
-        assert!(rt; told(&solver.check_sat()) == wanted);
-        assert!(rt; solver.is_failed());
-        let sent = solver.link().sent().len();
-        assert!(rt; told(&solver.check_sat()) == ("failed before", ""));
-        assert!(rt; told(&solver.check_sat_with_model()) == ("failed before", ""));
-        assert!(rt; told(&solver.enable_models()) == ("failed before", ""));
-        assert!(rt; solver.smtlib_input().assert("true") == Err(SinkError::Fault));
-        assert_eq!(rt; solver.link().sent().len(), sent);
-        let mut link = solver.into_link();
-        assert!(rt; (link.ended() == Ok(Ended::Killed)) == killed);
+    for (answers, wanted, killed) in rows {
+        expect_refusal(&rt, session(rt.alloc(), answers, &[])?, wanted, killed);
+    }
+    for call in [1, 2, 3] {
+        expect_refusal(
+            &rt,
+            session(rt.alloc(), b"sat\n", &[call])?,
+            ("io", ""),
+            false,
+        );
     }
     Ok(())
 }
@@ -178,45 +185,29 @@ fn models(rt: HostRuntime) -> Result<(), Fail> {
 
 #[test]
 fn no_models(rt: HostRuntime) -> Result<(), Fail> {
-    let none = [].as_slice();
+    let error = b"sat\n(error \"x\")\n".as_slice();
+    let parse_error = b"sat\n(error \"Parse Error: x\")\n".as_slice();
+    let other = b"satisfied\n".as_slice();
     let rows = [
-        (
-            b"sat\n(error \"x\")\n".as_slice(),
-            none,
-            ("solver", "x"),
-            false,
-        ),
-        (
-            b"sat\n(error \"Parse Error: x\")\n".as_slice(),
-            none,
-            ("solver", "Parse Error: x"),
-            true,
-        ),
-        (b"sat\n()\n".as_slice(), none, ("unrecognized", "()"), false),
-        (
-            b"sat\nunsat\n".as_slice(),
-            none,
-            ("unrecognized", "unsat"),
-            false,
-        ),
-        (b"sat\n".as_slice(), none, ("solver", ENDED), true),
-        (b"sat\n(\nx".as_slice(), none, ("solver", ENDED), true),
-        (b"sat\n(\n\xff\n)\n".as_slice(), none, ("io", ""), false),
-        (b"sat\n(\n)\n".as_slice(), [6].as_slice(), ("io", ""), false),
-        (
-            b"satisfied\n".as_slice(),
-            none,
-            ("unrecognized", "satisfied"),
-            false,
-        ),
+        (error, ("solver", "x"), false),
+        (parse_error, ("solver", "Parse Error: x"), true),
+        (b"sat\n()\n".as_slice(), ("unrecognized", "()"), false),
+        (b"sat\nunsat\n".as_slice(), ("unrecognized", "unsat"), false),
+        (b"sat\n".as_slice(), ("solver", ENDED), true),
+        (b"sat\n(\nx".as_slice(), ("solver", ENDED), true),
+        (b"sat\n(\n\xff\n)\n".as_slice(), ("io", ""), false),
+        (other, ("unrecognized", "satisfied"), false),
     ];
-    for (answers, fails, wanted, killed) in rows {
-        let mut solver = session(rt.alloc(), answers, fails)?;
+    for (answers, wanted, killed) in rows {
+        let mut solver = session(rt.alloc(), answers, &[])?;
         assert!(rt; told(&solver.check_sat_with_model()) == wanted);
         assert!(rt; solver.is_failed());
         let mut link = solver.into_link();
         assert!(rt; (link.ended() == Ok(Ended::Killed)) == killed);
     }
+    let mut solver = session(rt.alloc(), b"sat\n(\n)\n", &[6])?;
+    assert!(rt; told(&solver.check_sat_with_model()) == ("io", ""));
+    assert!(rt; solver.is_failed());
     Ok(())
 }
 
@@ -274,4 +265,70 @@ fn starters(rt: HostRuntime) -> Result<(), Fail> {
     assert_eq!(rt; starter.commands().len(), 3);
     assert_eq!(rt; starter.returned().len(), 1);
     Ok(())
+}
+
+/// A starter of one solver, which answers `unsat`.
+fn starter_of_one(alloc: Global) -> Result<MemoryStarter, Fail> {
+    let mut links = LinkList::new(alloc);
+    links.push(MemoryLink::new(alloc, b"unsat\n", &[], None)?)?;
+    Ok(MemoryStarter::new(alloc, links, &[])?)
+}
+
+/// Expects that a starter was asked for one command, of this program with these arguments.
+fn expect_command(rt: &impl Abort, starter: &MemoryStarter, program: &str, args: &[&str]) {
+    assert_eq!(rt; starter.commands().len(), 1);
+    for cmd in starter.commands() {
+        assert_eq!(rt; cmd.program.as_str(), program);
+        assert_eq!(rt; cmd.args.items().len(), args.len());
+        for (given, wanted) in cmd.args.items().iter().zip(args) {
+            assert_eq!(rt; given.as_str(), *wanted);
+        }
+    }
+}
+
+#[test]
+fn cvc5_commands(rt: HostRuntime) -> Result<(), Fail> {
+    let alloc = rt.alloc();
+    let seed = [Text::from_str(alloc, "--seed=1")?];
+    for (setting, program) in [(None, "cvc5"), (Some("/opt/my cvc5"), "/opt/my cvc5")] {
+        let mut starter = starter_of_one(alloc)?;
+        let mut solver = LocalSolver::cvc5(alloc, &mut starter, setting)?;
+        assert!(rt; solver.check_sat() == Ok(Decision::Unsat));
+        expect_command(&rt, &starter, program, &["--lang", "smt", "--tlimit=60000"]);
+        let mut starter = starter_of_one(alloc)?;
+        let mut solver = LocalSolver::cvc5_with_args(alloc, &mut starter, setting, &seed)?;
+        assert!(rt; solver.check_sat() == Ok(Decision::Unsat));
+        expect_command(&rt, &starter, program, &["--lang", "smt", "--seed=1"]);
+    }
+    let mut none = MemoryStarter::new(alloc, LinkList::new(alloc), &[])?;
+    assert!(rt; told(&LocalSolver::cvc5(alloc, &mut none, None)) == ("io", ""));
+    Ok(())
+}
+
+#[test]
+fn written_scripts(rt: HostRuntime) -> Result<(), Fail> {
+    let mut solver = WriterSolver {
+        w: ListSink::new(rt.alloc()),
+    };
+    solver.enable_models()?;
+    solver.smtlib_input().assert("true")?;
+    assert!(rt; solver.check_sat() == Ok(Decision::Unknown));
+    assert!(rt; solver.check_sat_with_model() == Ok(DecisionWithModel::Unknown));
+    assert_eq!(rt;
+        solver.w.bytes(),
+        b"(set-option :produce-models true)\n(assert true)\n(check-sat)\n(check-sat)\n".as_slice()
+    );
+    Ok(())
+}
+
+#[test]
+fn failed_writers(rt: HostRuntime) {
+    let mut solver = WriterSolver {
+        w: FailedWriter::new(),
+    };
+    assert!(rt; told(&solver.enable_models()) == ("io", ""));
+    assert!(rt; told(&solver.check_sat()) == ("io", ""));
+    assert!(rt; told(&solver.check_sat_with_model()) == ("io", ""));
+    assert!(rt; solver.smtlib_input().flush() == Err(SinkError::Fault));
+    assert_eq!(rt; solver.w.faults(), 4);
 }
