@@ -1,0 +1,3 @@
+pub mod Children
+pub mod Line
+pub mod Starters
