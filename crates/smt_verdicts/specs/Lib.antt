@@ -1,0 +1,3 @@
+pub mod Honesty
+pub mod Joined
+pub mod Verdicts

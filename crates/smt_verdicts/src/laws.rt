@@ -1,0 +1,27 @@
+//! Laws of verdicts, proved with no code.
+ghost use Rattle.smt_verdicts.specs.Joined.{ScriptsJoin, TextsJoin};
+ghost use Rattle.smt_verdicts.specs.Verdicts.{AnyLineIsNotHonest, ChecksAreInTurn, LogicIsBlank, SilenceIsHonest, UnsatIsBelieved};
+
+/// The commands of whole texts follow one another.
+pub fn texts_join()
+    ensures commands { TextsJoin }
+    ensures scripts { ScriptsJoin }
+{}
+
+/// A check of the text of conditions, on which nothing was asked before, is in turn.
+pub fn checks_are_in_turn()
+    ensures { ChecksAreInTurn }
+{}
+
+/// Where a line that tells the truth says `unsat` to a check in turn, no interpretation makes all terms true that the script
+/// stands for. `(set-logic ALL)` may stand before the script.
+pub fn unsat_is_believed()
+    ensures logic { LogicIsBlank }
+    ensures believed { UnsatIsBelieved }
+{}
+
+/// A link that gives no line is honest, and one that may give any line is not.
+pub fn honesty_is_meant()
+    ensures silent { SilenceIsHonest }
+    ensures any { AnyLineIsNotHonest }
+{}
