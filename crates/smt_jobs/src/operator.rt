@@ -6,7 +6,6 @@ ghost use Rattle.smt_meaning.specs.Types.{result_type, type_of};
 ghost use Rattle.smt_term.specs.View.{plain_op, plain_term};
 ghost use Rattle.smt_jobs.specs.Job.{operator_named};
 
-use smt_factory as factory;
 use smt_term::{Op, Term, TermError, UnaryFunction};
 use std::alloc::Global;
 
@@ -76,18 +75,22 @@ fn built_from_one(alloc: Global, op: &Op, a: &Term) -> Result<Option<Term>, Term
 {
     let a = a.share()?;
     match op {
-        Op::Not => some(factory::not(alloc, a)),
-        Op::Bvneg => some(factory::bvneg(alloc, a)),
-        Op::Bvnego => some(factory::bvnego(alloc, a)),
-        Op::Ext(op) => some(factory::extension(alloc, *op, a)),
-        Op::OptionGet => some(factory::option_get(alloc, a)),
-        Op::RecordGet(attribute) => some(factory::record_get(alloc, a, attribute)),
-        Op::StringLike(pattern) => some(factory::string_like(alloc, a, pattern.share()?)),
+        Op::Not => some(smt_connectives::not(alloc, a)),
+        Op::Bvneg => some(smt_bit_terms::bvneg(alloc, a)),
+        Op::Bvnego => some(smt_bit_terms::bvnego(alloc, a)),
+        Op::Ext(op) => some(smt_extension_terms::extension(alloc, *op, a)),
+        Op::OptionGet => some(smt_option_terms::option_get(alloc, a)),
+        Op::RecordGet(attribute) => some(smt_record_terms::record_get(alloc, a, attribute)),
+        Op::StringLike(pattern) => some(smt_collection_terms::string_like(
+            alloc,
+            a,
+            pattern.share()?,
+        )),
         Op::Uuf(function) => {
             let function = UnaryFunction::Uuf(function.clone()?);
-            some(factory::app(alloc, function, a))
+            some(smt_function_terms::app(alloc, function, a))
         }
-        Op::ZeroExtend(bits) => some(factory::zero_extend(alloc, *bits, a)),
+        Op::ZeroExtend(bits) => some(smt_bit_terms::zero_extend(alloc, *bits, a)),
         _ => Ok(None),
     }
 }
@@ -100,29 +103,29 @@ fn built_from_two(alloc: Global, op: &Op, a: &Term, b: &Term) -> Result<Option<T
     let a = a.share()?;
     let b = b.share()?;
     match op {
-        Op::And => some(factory::and(alloc, a, b)),
-        Op::Or => some(factory::or(alloc, a, b)),
-        Op::Eq => some(factory::eq(alloc, a, b)),
-        Op::Bvadd => some(factory::bvadd(alloc, a, b)),
-        Op::Bvsub => some(factory::bvsub(alloc, a, b)),
-        Op::Bvmul => some(factory::bvmul(alloc, a, b)),
-        Op::Bvudiv => some(factory::bvudiv(alloc, a, b)),
-        Op::Bvurem => some(factory::bvurem(alloc, a, b)),
-        Op::Bvsdiv => some(factory::bvsdiv(alloc, a, b)),
-        Op::Bvsrem => some(factory::bvsrem(alloc, a, b)),
-        Op::Bvsmod => some(factory::bvsmod(alloc, a, b)),
-        Op::Bvshl => some(factory::bvshl(alloc, a, b)),
-        Op::Bvlshr => some(factory::bvlshr(alloc, a, b)),
-        Op::Bvult => some(factory::bvult(alloc, a, b)),
-        Op::Bvule => some(factory::bvule(alloc, a, b)),
-        Op::Bvslt => some(factory::bvslt(alloc, a, b)),
-        Op::Bvsle => some(factory::bvsle(alloc, a, b)),
-        Op::Bvsaddo => some(factory::bvsaddo(alloc, a, b)),
-        Op::Bvssubo => some(factory::bvssubo(alloc, a, b)),
-        Op::Bvsmulo => some(factory::bvsmulo(alloc, a, b)),
-        Op::SetInter => some(factory::set_inter(alloc, a, b)),
-        Op::SetMember => some(factory::set_member(alloc, a, b)),
-        Op::SetSubset => some(factory::set_subset(alloc, a, b)),
+        Op::And => some(smt_connectives::and(alloc, a, b)),
+        Op::Or => some(smt_connectives::or(alloc, a, b)),
+        Op::Eq => some(smt_equality::eq(alloc, a, b)),
+        Op::Bvadd => some(smt_bit_terms::bvadd(alloc, a, b)),
+        Op::Bvsub => some(smt_bit_terms::bvsub(alloc, a, b)),
+        Op::Bvmul => some(smt_bit_terms::bvmul(alloc, a, b)),
+        Op::Bvudiv => some(smt_bit_terms::bvudiv(alloc, a, b)),
+        Op::Bvurem => some(smt_bit_terms::bvurem(alloc, a, b)),
+        Op::Bvsdiv => some(smt_bit_terms::bvsdiv(alloc, a, b)),
+        Op::Bvsrem => some(smt_bit_terms::bvsrem(alloc, a, b)),
+        Op::Bvsmod => some(smt_bit_terms::bvsmod(alloc, a, b)),
+        Op::Bvshl => some(smt_bit_terms::bvshl(alloc, a, b)),
+        Op::Bvlshr => some(smt_bit_terms::bvlshr(alloc, a, b)),
+        Op::Bvult => some(smt_bit_terms::bvult(alloc, a, b)),
+        Op::Bvule => some(smt_bit_terms::bvule(alloc, a, b)),
+        Op::Bvslt => some(smt_bit_terms::bvslt(alloc, a, b)),
+        Op::Bvsle => some(smt_bit_terms::bvsle(alloc, a, b)),
+        Op::Bvsaddo => some(smt_bit_terms::bvsaddo(alloc, a, b)),
+        Op::Bvssubo => some(smt_bit_terms::bvssubo(alloc, a, b)),
+        Op::Bvsmulo => some(smt_bit_terms::bvsmulo(alloc, a, b)),
+        Op::SetInter => some(smt_collection_terms::set_inter(alloc, a, b)),
+        Op::SetMember => some(smt_collection_terms::set_member(alloc, a, b)),
+        Op::SetSubset => some(smt_collection_terms::set_subset(alloc, a, b)),
         Op::Bvneg
         | Op::Bvnego
         | Op::Ext(_)
@@ -148,7 +151,7 @@ fn built_from_three(
     ensures { (ty : PlainType) → IfOk result (λ found. option_map plain_term found ≡ Some (folded (plain_op op.now) (plain_term a.now ∷ plain_term b.now ∷ plain_term c.now ∷ []) ty)) }
 {
     match op {
-        Op::Ite => some(factory::ite(alloc, a.share()?, b.share()?, c.share()?)),
+        Op::Ite => some(smt_equality::ite(alloc, a.share()?, b.share()?, c.share()?)),
         _ => Ok(None),
     }
 }
