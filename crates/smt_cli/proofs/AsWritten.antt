@@ -1,7 +1,8 @@
 -- What a script says of the terms of a job as they are written, and not as they are built.
-use Rattle.std.proofs.Common.{◌≡◌, List, [], ◌∷◌, map, sym, ◌∙◌, subst}
+use Rattle.std.proofs.Common.{◌≡◌, List, [], ◌∷◌, map, sym, ◌∙◌, subst, None}
 use Rattle.std.specs.List.{AllByRecursion, AllZip}
 use Rattle.std.specs.Prelude.{◌↔◌}
+use Rattle.smt_meaning.specs.Faults.{first_fault}
 use Rattle.smt_meaning.specs.Formed.{IsFormed}
 use Rattle.smt_meaning.specs.Interpretations.{Agree, GiveSame, GiveSameOp, IsGiven, IsGivenOp, IsInterpretation, IsTable, IsOfOtherFamily, restrict}
 use Rattle.smt_meaning.specs.Meaning.{term_value}
@@ -20,6 +21,7 @@ use Rattle.smt_folding.proofs.Records.{interpretations, values}
 use Rattle.smt_semantics.specs.Value.{IsModel}
 use Rattle.smt_lines.specs.Text.{names, text}
 use Rattle.smt_carrying.specs.CarriedInterpretations.{carry_interpretation}
+use Rattle.smt_headline.specs.Conditions.{AreConditions}
 use Rattle.smt_headline.specs.Headline.{AreTrue, Headline}
 use Rattle.smt_jobs.proofs.TypedJobs.{IsCondition}
 
@@ -92,6 +94,12 @@ module _ (enums : Enums) (I : Interpretation) where
       let others : map (term_value I) ts ≡ map (term_value I) us = cc in
       (sym first ∙ h.0, true_together ts us others h.1)
 
+  -- an interpretation that makes the written terms true is one of the built terms, and makes these true
+  pub true_as_built : (ts : List PlainTerm) → AllByRecursion IsCondition ts → IsInterpretation enums ts I → AreTrue I ts → IsInterpretation enums (map built ts) I × AreTrue I (map built ts)
+  true_as_built ts h given hold =
+      let zip = all_built ts h in
+      (interpretations enums I (map built ts) ts zip given, true_together ts (map built ts) (sym (values enums I (map built ts) ts zip (all_formed ts h) (are_typed ts h) given)) hold)
+
   pub as_written : (ts : List PlainTerm) (headline : Headline enums (names enums (map built ts)) (map built ts) (text enums (map built ts))) → AllByRecursion IsCondition ts → IsInterpretation enums ts I
       → AreTrue I ts ↔ IsModel (carry_interpretation enums (names enums (map built ts)) (restrict I (map built ts))) headline.state
   as_written ts headline h given =
@@ -107,3 +115,11 @@ module _ (enums : Enums) (I : Interpretation) where
 pub built_booleans : (ts : List PlainTerm) → AllByRecursion IsCondition ts → AreBoolean (map built ts)
 built_booleans [] h = tt
 built_booleans (t ∷ ts) h = ((built_stands t h.0.boolean.parts).type BoolType h.0.boolean, built_booleans ts h.1)
+
+built_formed : (ts : List PlainTerm) → AllByRecursion IsCondition ts → AllByRecursion IsFormed (map built ts)
+built_formed [] h = tt
+built_formed (t ∷ ts) h = ((built_stands t h.0.boolean.parts).formed h.0.formed, built_formed ts h.1)
+
+-- What is built of conditions without fault is such.
+pub built_conditions : (enums : Enums) (ts : List PlainTerm) → AllByRecursion IsCondition ts → first_fault enums (map built ts) ≡ None → AreConditions enums (map built ts)
+built_conditions enums ts h none = record { are_typed = built_booleans ts h; are_formed = built_formed ts h; have_no_fault = none }

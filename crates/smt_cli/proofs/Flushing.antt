@@ -1,62 +1,119 @@
 -- What a flush behind the puts changes: the sink's count of faults may rise, and an error of its own may come.
 use Rattle.std.proofs.Common.{◌≡◌, ◌∙◌, ℕ, List, Option, Some, None, Ok, Err, Result, ap, refl, subst, sym}
-use Rattle.std.specs.Prelude.{IfErr, IfSome, IsErrAnd, IsErrOf, OnOk}
+use Rattle.std.specs.Prelude.{⊤, IfErr, IfSome, IsErrAnd, IsErrOf, OnOk}
+use Rattle.smt_script.specs.Sink.{Rose}
 use Rattle.smt_script.specs.declared.sink.SinkError.{SinkError}
 use Rattle.smt_script.specs.declared.sink.SinkError.TheVariants.{Fault as SinkFault, Memory as SinkWant}
+use Rattle.smt_solve.specs.Link.{LinkState}
+use Rattle.smt_solve.specs.Starter.{Command as SolverCall}
+use Rattle.smt_checks.specs.Checks.{Returns}
+use Rattle.smt_cli.specs.Causes.{Around, HasCause, HasCheckCause, HasPutCause, HasScriptCause, IsAJob, LeavesOutput, SinkFailed}
 use Rattle.smt_cli.specs.Refusal.{sink_refusal}
-use Rattle.smt_cli.specs.Run.{HasCause, HasPutCause, HasScriptCause, IsAJob, IsDone, LeavesOutput, Prints}
-use Rattle.smt_cli.specs.declared.program.Command.{Command}
-use Rattle.smt_cli.specs.declared.program.Command.TheVariants.{Script, Help, Version}
+use Rattle.smt_cli.specs.Run.{Checks, IsDone, Prints}
+use Rattle.smt_cli.specs.declared.command.Command.{Command}
+use Rattle.smt_cli.specs.declared.command.Command.TheVariants.{Script, Check, Help, Version}
 use Rattle.smt_cli.specs.declared.refusal.JobRefusal.TheVariants.{TooLarge, BadForm}
 use Rattle.smt_cli.specs.declared.refusal.Refusal.{Refusal}
-use Rattle.smt_cli.specs.declared.refusal.Refusal.TheVariants.{Usage, Job, Encode, Source, Sink, Memory}
+use Rattle.smt_cli.specs.declared.refusal.Refusal.TheVariants.{Usage, Job, Encode, Source, Sink, Start, Session, Memory}
 
--- A refusal that had its cause before the flush has it after it.
-module _ (source_failed before now : Type 0) (later : before → now) where
-  script_cause : (remaining : Option (List ℕ)) (r : Refusal) → HasScriptCause remaining source_failed before r → HasScriptCause remaining source_failed now r
-  script_cause remaining Usage h = h
-  script_cause remaining (Job TooLarge) h = h
-  script_cause remaining (Job BadForm) h = h
-  script_cause remaining (Encode kind) h = h
-  script_cause remaining Source h = h
-  script_cause remaining Sink h = (later h.0, h.1)
-  script_cause remaining Memory h = h
+-- A refusal that had its cause before the flush, after which the sink has failed `faults` times, has it after it.
+module _ {L : Type 0} (state : L → LinkState) (call : SolverCall) (before after : Around L) (held : Option (List ℕ)) (faults : ℕ) (later : SinkFailed before after → Rose before.sink_faults faults) where
+  -- what stands behind the flush
+  abbrev flushed : Around L
+  flushed = record after { held = held; sink_faults = faults }
 
-  text_cause : (r : Refusal) → HasPutCause before r → HasPutCause now r
+  script_cause : (r : Refusal) → HasScriptCause before after r → HasScriptCause before flushed r
+  script_cause Usage h = h
+  script_cause (Job TooLarge) h = h
+  script_cause (Job BadForm) h = h
+  script_cause (Encode kind) h = h
+  script_cause Source h = h
+  script_cause Sink h = (later h.0, h.1)
+  script_cause Start h = h
+  script_cause (Session kind) h = h
+  script_cause Memory h = h
+
+  check_cause : (r : Refusal) → HasCheckCause state call before after r → HasCheckCause state call before flushed r
+  check_cause Usage h = h
+  check_cause (Job TooLarge) h = h
+  check_cause (Job BadForm) h = h
+  check_cause (Encode kind) h = h
+  check_cause Source h = h
+  check_cause Sink h = (later h.0, h.1, h.2)
+  check_cause Start h = h
+  check_cause (Session kind) h = h
+  check_cause Memory h = h
+
+  text_cause : (r : Refusal) → HasPutCause (SinkFailed before after) r → HasPutCause (SinkFailed before flushed) r
   text_cause Sink h = later h
   text_cause Memory h = h
   text_cause r h = absurd h
 
-  pub cause_stays : (c : Option Command) (remaining : Option (List ℕ)) (r : Refusal) → HasCause c remaining source_failed before r → HasCause c remaining source_failed now r
-  cause_stays (Some Script) remaining r h = script_cause remaining r h
-  cause_stays (Some Help) remaining r h = text_cause r h
-  cause_stays (Some Version) remaining r h = text_cause r h
-  cause_stays None remaining r h = h
+  pub cause_stays : (c : Option Command) (r : Refusal) → HasCause state c call before after r → HasCause state c call before flushed r
+  cause_stays (Some Script) r h = script_cause r h
+  cause_stays (Some Check) r h = check_cause r h
+  cause_stays (Some Help) r h = text_cause r h
+  cause_stays (Some Version) r h = text_cause r h
+  cause_stays None r h = h
 
--- some job has the bytes whose script was put
-is_a_job : (remaining old new : Option (List ℕ)) → IfSome remaining (Prints old new) → IfSome remaining IsAJob
-is_a_job (Some bytes) old new p = (p.job, p.is_job)
-is_a_job None old new p = tt
+-- some job has the bytes that were read
+is_a_job : (P : List ℕ → Type 0) (left : Option (List ℕ)) → ((bytes : List ℕ) → P bytes → IsAJob bytes) → IfSome left P → IfSome left IsAJob
+is_a_job P (Some bytes) jobs p = jobs bytes p
+is_a_job P None jobs p = tt
 
--- an error of the flush has its cause, where what was asked for was put
-flush_cause : (c : Option Command) (remaining left old new : Option (List ℕ)) (source_failed sink_failed : Type 0) (error : SinkError) → IsDone c remaining left old new → (error ≡ SinkFault → sink_failed) → HasCause c remaining source_failed sink_failed (sink_refusal error)
-flush_cause (Some Script) remaining left old new source_failed sink_failed SinkFault done failed = (failed refl, is_a_job remaining old new done.prints)
-flush_cause (Some Help) remaining left old new source_failed sink_failed SinkFault done failed = failed refl
-flush_cause (Some Version) remaining left old new source_failed sink_failed SinkFault done failed = failed refl
-flush_cause (Some Script) remaining left old new source_failed sink_failed SinkWant done failed = tt
-flush_cause (Some Help) remaining left old new source_failed sink_failed SinkWant done failed = tt
-flush_cause (Some Version) remaining left old new source_failed sink_failed SinkWant done failed = tt
-flush_cause None remaining left old new source_failed sink_failed error done failed = absurd done
+module _ {L : Type 0} (state : L → LinkState) (allows : List ℕ → List ℕ → List ℕ → Type 0) (call : SolverCall) (before after : Around L) where
+  -- the link of a check had come back, where the source told what was read
+  came_back : (left : Option (List ℕ)) → IfSome left (Checks state allows call before after) → IfSome left (λ bytes. Returns (λ link. ⊤) before.starter after.starter call)
+  came_back None h = tt
+  came_back (Some bytes) h = let r = h.checked.decides in record { link = r.link; started = r.started; returned = r.returned; of_link = tt }
+
+  -- an error of the flush has its cause, where what was asked for was put
+  flush_cause : (c : Option Command) (error : SinkError) → IsDone state allows call before after c → (error ≡ SinkFault → SinkFailed before after) → HasCause state c call before after (sink_refusal error)
+  flush_cause (Some Script) SinkFault done failed = (failed refl, is_a_job (Prints before.held after.held) before.left (λ bytes p. (p.job, p.is_job)) done.holds)
+  flush_cause (Some Check) SinkFault done failed = (failed refl, is_a_job (Checks state allows call before after) before.left (λ bytes p. (p.checked.job, p.checked.is_job)) done.holds, came_back before.left done.holds)
+  flush_cause (Some Help) SinkFault done failed = failed refl
+  flush_cause (Some Version) SinkFault done failed = failed refl
+  flush_cause (Some Script) SinkWant done failed = tt
+  flush_cause (Some Check) SinkWant done failed = tt
+  flush_cause (Some Help) SinkWant done failed = tt
+  flush_cause (Some Version) SinkWant done failed = tt
+  flush_cause None error done failed = absurd done
+
+  -- The run's refusal has its cause, where the flush failed.
+  pub flush_refused : {T U : Type 0} (outcome : Result T SinkError) (result : Result U Refusal) (error : SinkError) (c : Option Command) → outcome ≡ Err error → IsErrAnd result (λ x. x ≡ sink_refusal error) → IsDone state allows call before after c
+      → (IsErrOf outcome SinkFault → SinkFailed before after) → IfErr result (HasCause state c call before after)
+  flush_refused outcome (Ok y) error c was e done failed = tt
+  flush_refused outcome (Err x) error c was e done failed =
+      subst (λ (r : Refusal). HasCause state c call before after r) (sym e) (flush_cause c error done (λ fault. failed (was ∙ ap Err fault)))
+
+-- What was asked for is still put behind the flush, which changed nothing that is held.
+module _ {L : Type 0} (state : L → LinkState) (allows : List ℕ → List ℕ → List ℕ → Type 0) (call : SolverCall) (before after : Around L) (faults : ℕ) where
+  abbrev counted : Around L
+  counted = record after { sink_faults = faults }
+
+  still_checked : (left : Option (List ℕ)) → IfSome left (Checks state allows call before after) → IfSome left (Checks state allows call before counted)
+  still_checked None h = tt
+  still_checked (Some bytes) h = record {
+    decision = h.decision;
+    checked = record { job = h.checked.job; is_job = h.checked.is_job; decides = h.checked.decides; believed = h.checked.believed };
+    printed = h.printed;
+  }
+
+  still_done : (c : Option Command) → IsDone state allows call before after c → IsDone state allows call before counted c
+  still_done (Some Script) d = d
+  still_done (Some Check) d = record { holds = still_checked before.left d.holds; ended = d.ended }
+  still_done (Some Help) d = d
+  still_done (Some Version) d = d
+  still_done None d = d
+
+  pub done_stays : {T : Type 0} (outcome : Result T Refusal) (x : T) (c : Option Command) (held : Option (List ℕ)) → outcome ≡ Ok x → OnOk outcome (IsDone state allows call before after c) → held ≡ after.held → IsDone state allows call before (record after { held = held; sink_faults = faults }) c
+  done_stays (Ok y) x c held was done same = subst (λ (h : Option (List ℕ)). IsDone state allows call before (record after { held = h; sink_faults = faults }) c) (sym same) (still_done c done)
+  done_stays (Err r) x c held was done same = absurd (cc)
 
 -- nothing is said of what the sink holds behind an error of its own
 flush_output : (old new : Option (List ℕ)) (error : SinkError) → LeavesOutput old new (sink_refusal error)
 flush_output old new SinkFault = tt
 flush_output old new SinkWant = tt
-
--- What was asked for is still put behind the flush.
-pub done_stays : {T : Type 0} (outcome : Result T Refusal) (x : T) (c : Option Command) (remaining left old before now : Option (List ℕ)) → outcome ≡ Ok x → OnOk outcome (IsDone c remaining left old before) → now ≡ before → IsDone c remaining left old now
-done_stays (Ok y) x c remaining left old before now was done same = subst (λ (held : Option (List ℕ)). IsDone c remaining left old held) (sym same) done
-done_stays (Err r) x c remaining left old before now was done same = absurd (cc)
 
 -- What holds of the refusal of a put holds of the run's, as far as the flush left it.
 pub refusal_stays : {T U : Type 0} (P Q : Refusal → Type 0) (outcome : Result T Refusal) (result : Result U Refusal) (r : Refusal) → outcome ≡ Err r → IsErrAnd result (λ x. x ≡ r) → ((x : Refusal) → P x → Q x) → IfErr outcome P → IfErr result Q
@@ -65,13 +122,6 @@ refusal_stays P Q (Ok y) (Err x) r was e stays h = absurd (cc)
 refusal_stays P Q (Err z) (Err x) r was e stays h =
     let same : z ≡ x = cc in
     stays x (subst P same h)
-
--- The run's refusal has its cause, where the flush failed.
-pub flush_refused : {T U : Type 0} (flushed : Result T SinkError) (result : Result U Refusal) (error : SinkError) (c : Option Command) (remaining left old new : Option (List ℕ)) (source_failed sink_failed : Type 0) → flushed ≡ Err error → IsErrAnd result (λ x. x ≡ sink_refusal error) → IsDone c remaining left old new
-    → (IsErrOf flushed SinkFault → sink_failed) → IfErr result (HasCause c remaining source_failed sink_failed)
-flush_refused flushed (Ok y) error c remaining left old new source_failed sink_failed was e done failed = tt
-flush_refused flushed (Err x) error c remaining left old new source_failed sink_failed was e done failed =
-    subst (λ (r : Refusal). HasCause c remaining source_failed sink_failed r) (sym e) (flush_cause c remaining left old new source_failed sink_failed error done (λ fault. failed (was ∙ ap Err fault)))
 
 pub flush_leaves : {U : Type 0} (result : Result U Refusal) (error : SinkError) (old new : Option (List ℕ)) → IsErrAnd result (λ x. x ≡ sink_refusal error) → IfErr result (LeavesOutput old new)
 flush_leaves (Ok y) error old new e = tt

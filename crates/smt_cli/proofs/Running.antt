@@ -16,7 +16,9 @@ use Rattle.smt_jobs.proofs.Giving.{other_text}
 use Rattle.smt_jobs.proofs.TypedJobs.{IsCondition, job_conditions}
 use Rattle.smt_jobs.specs.Job.{IsBuiltFrom, PlainJob, built_job, greatest_length}
 use Rattle.smt_cli.specs.Refusal.{job_refusal}
-use Rattle.smt_cli.specs.Run.{commanded, HasNoForm, HasReadCause, IsNoJob, Prints}
+use Rattle.smt_cli.specs.Causes.{HasNoForm, HasReadCause, IsNoJob}
+use Rattle.smt_cli.specs.Run.{Prints}
+use Rattle.smt_cli.specs.Words.{commanded}
 use Rattle.smt_jobs.specs.declared.job.JobError.{JobError}
 use Rattle.smt_jobs.specs.declared.job.JobError.TheVariants.{TooLarge as JobTooLarge, BadForm as JobBadForm, Memory as JobWant}
 use Rattle.smt_cli.specs.declared.refusal.ReadRefusal.{ReadRefusal}
@@ -29,6 +31,14 @@ unasked (x ∷ []) word w l m p q a b d =
     rw (e, other_text w (codes "script") a, other_text w (codes "--help") b, other_text w (codes "--version") d) refl
 unasked [] word w l m p q a b d = absurd (omega (arith, l))
 unasked (x ∷ y ∷ words) word w l m p q a b d = absurd (omega (arith, m))
+
+-- words that begin with another than `check`
+pub unchecked : (words : List (RcStr Global)) (word : RcStr Global) (w : List ℕ) → 2 ≤ length words → word ≡ get_or words 0 word → w ≡ rc_str_bytes word → (w ≡ codes "check" → ⊥) → None ≡ commanded (texts words)
+unchecked (x ∷ y ∷ words) word w l p q other =
+    let e : rc_str_bytes x ≡ w = sym (q ∙ ap (λ (t : RcStr Global). rc_str_bytes t) p) in
+    rw (e, other_text w (codes "check") other) refl
+unchecked [] word w l p q other = absurd (omega (arith, l))
+unchecked (x ∷ []) word w l p q other = absurd (omega (arith, l))
 
 -- what was read whole has not the form of a job
 pub no_form : (remaining : Option (List ℕ)) (bytes : List ℕ) → IfSome remaining (λ all. all ≡ bytes) → HasNoForm bytes → IfSome remaining HasNoForm

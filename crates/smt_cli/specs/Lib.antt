@@ -1,2 +1,4 @@
+pub mod Causes
 pub mod Refusal
 pub mod Run
+pub mod Words

@@ -6,14 +6,17 @@ use Rattle.smt_source.specs.declared.input.InputError.{InputError}
 use Rattle.smt_source.specs.declared.input.InputError.TheVariants.{Fault as InputFault, TooLarge as InputTooLarge, Memory as InputWant}
 use Rattle.smt_jobs.specs.declared.job.JobError.{JobError}
 use Rattle.smt_jobs.specs.declared.job.JobError.TheVariants.{TooLarge as JobTooLarge, BadForm as JobBadForm, Memory as JobWant}
+use Rattle.smt_checks.specs.declared.error.CheckError.{CheckError}
+use Rattle.smt_checks.specs.declared.error.CheckError.TheVariants.{Start as CheckStart, Session as CheckSession, Memory as CheckWant}
 use Rattle.smt_cli.specs.declared.refusal.EncodeRefusal.TheVariants.{EmptyEnum, EncodeStringFailed, EncodePatternFailed, EnumMissingMember, ExpectRecord, MalformedRecordGet, MissingTypeEncoding, RecordMissingAttr}
 use Rattle.smt_cli.specs.declared.refusal.JobRefusal.TheVariants.{TooLarge, BadForm}
 use Rattle.smt_cli.specs.declared.refusal.PrintRefusal.{PrintRefusal}
 use Rattle.smt_cli.specs.declared.refusal.PrintRefusal.TheVariants.{Encode as PrintEncode, Sink as PrintSink, Memory as PrintWant}
 use Rattle.smt_cli.specs.declared.refusal.ReadRefusal.{ReadRefusal}
 use Rattle.smt_cli.specs.declared.refusal.ReadRefusal.TheVariants.{Job as ReadJob, Source as ReadSource, Memory as ReadWant}
+use Rattle.smt_checks.specs.declared.error.SessionFault.TheVariants.{Io, Solver, UnrecognizedSolverOutput, AnswerTooLong}
 use Rattle.smt_cli.specs.declared.refusal.Refusal.{Refusal}
-use Rattle.smt_cli.specs.declared.refusal.Refusal.TheVariants.{Usage, Job, Encode, Source, Sink, Memory}
+use Rattle.smt_cli.specs.declared.refusal.Refusal.TheVariants.{Usage, Job, Encode, Source, Sink, Start, Session, Memory}
 
 -- the status of a refusal
 abbrev pub status_of : Refusal → ℕ
@@ -23,10 +26,12 @@ status_of (Encode why) = 4
 status_of Source = 5
 status_of Sink = 6
 status_of Memory = 7
+status_of (Session kind) = 8
+status_of Start = 9
 
 -- what is said of a refusal
 abbrev pub line_of : Refusal → List ℕ
-line_of Usage = codes "usage: smtcli script\n"
+line_of Usage = codes "usage: smtcli script or check PATH ARGS..\n"
 line_of (Job TooLarge) = codes "job refused: TooLarge\n"
 line_of (Job BadForm) = codes "job refused: BadForm\n"
 line_of (Encode EnumMissingMember) = codes "encode refused: EnumMissingMember\n"
@@ -39,6 +44,11 @@ line_of (Encode ExpectRecord) = codes "encode refused: ExpectRecord\n"
 line_of (Encode RecordMissingAttr) = codes "encode refused: RecordMissingAttr\n"
 line_of Source = codes "source fault\n"
 line_of Sink = codes "sink fault\n"
+line_of Start = codes "no start\n"
+line_of (Session Io) = codes "session fault: Io\n"
+line_of (Session Solver) = codes "session fault: Solver\n"
+line_of (Session UnrecognizedSolverOutput) = codes "session fault: UnrecognizedSolverOutput\n"
+line_of (Session AnswerTooLong) = codes "session fault: AnswerTooLong\n"
 line_of Memory = codes "memory\n"
 
 -- ---- which refusal an error becomes
@@ -71,3 +81,9 @@ print_refusal PrintWant = Memory
 abbrev pub sink_refusal : SinkError → Refusal
 sink_refusal SinkFault = Sink
 sink_refusal SinkWant = Memory
+
+-- of a run, where a solver was not asked, or did not answer
+abbrev pub check_refusal : CheckError → Refusal
+check_refusal CheckStart = Start
+check_refusal (CheckSession kind) = Session kind
+check_refusal CheckWant = Memory

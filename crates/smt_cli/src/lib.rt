@@ -1,11 +1,15 @@
-//! The program's run: a job read from a source, its script put to a sink.
+//! The program's run: a job read from a source, its script put to a sink, or the verdict of a solver on it.
 #![tactic(auto, using(smt_term::specs::View::views))]
 
+mod command;
+mod printing;
 mod program;
 mod refusal;
 
-pub use program::{Command, run};
+pub use command::Command;
+pub use program::run;
 pub use refusal::{EncodeRefusal, JobRefusal, Refusal};
+pub use smt_checks::SessionFault;
 pub use smt_jobs::{Job, JobError, TermSink, VarList, laws, read_job};
 pub use smt_source::{
     InputError, MemorySource, ReadSource, Source, SourceError, SourceFault, read_input,

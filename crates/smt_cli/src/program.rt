@@ -1,71 +1,24 @@
 // The run of the program, from its words to its status.
-ghost use Rattle.std.specs.Prelude.{◌≡◌, ◌≢◌, ◌↔◌, ◌<◌, ◌≤◌, [], IsErrOf, None, Some, IfErr, IfOk, IfSome, OnOk, option_map};
+ghost use Rattle.std.specs.Prelude.{◌≡◌, ◌≢◌, ◌↔◌, ◌≤◌, [], None, Some, IfErr, IfOk, IfSome, OnOk, option_map};
 ghost use Rattle.std.specs.Io.KnownBytes.{append_known};
-ghost use Rattle.smt_leaves.specs.Enums.{enums_of};
-ghost use Rattle.smt_meaning.specs.Faults.{first_fault};
-ghost use Rattle.smt_meaning.specs.Typing.{AreBoolean};
-ghost use Rattle.smt_headline.specs.Headline.{Headline};
-ghost use Rattle.smt_lines.specs.Text.{names, text};
-ghost use Rattle.smt_script.specs.Sink.{Rose};
 ghost use Rattle.smt_characters.specs.SharedTexts.{texts};
 ghost use Rattle.smt_jobs.specs.Job.{IsBuiltFrom};
-ghost use Rattle.smt_jobs.specs.Numbered.{numbered_job, numbered_terms};
-ghost use Rattle.smt_encode.specs.Refusals.{HasCause as CausedBy};
-ghost use Rattle.smt_cli.specs.Run.{commanded, HasCause, HasPrintCause, HasReadCause, IsComplete, IsDone, IsJustified, LeavesOutput, Reports};
+ghost use Rattle.smt_jobs.specs.Numbered.{numbered_job};
+ghost use Rattle.smt_script.specs.Sink.{Rose};
+ghost use Rattle.smt_cli.specs.Causes.{HasCause, HasCheckCause, HasReadCause, LeavesOutput, around, standing};
+ghost use Rattle.smt_cli.specs.Run.{IsChecked, IsComplete, IsDone, Reads, Reports, verdict_line};
+ghost use Rattle.smt_cli.specs.Words.{commanded, solver_named};
 
-use crate::refusal::{EncodeRefusal, PrintRefusal, ReadRefusal, Refusal};
-use smt_encode::{EncodeError, Encoder, Steps};
-use smt_jobs::{GREATEST_JOB, NumberedJob, NumberedTerms, read_numbered};
+use crate::command::{Command, HELP, VERSION, command_of, solver_of};
+use crate::printing::{put_script, script_of};
+use crate::refusal::{ReadRefusal, Refusal};
+use smt_checks::check_script;
+use smt_jobs::{GREATEST_JOB, NumberedJob, read_numbered};
 use smt_script::Sink;
+use smt_solve::{Decision, Starter};
 use smt_source::{Source, read_input};
 use smt_term::Text;
 use std::alloc::Global;
-use std::marker::Brand;
-use std::sync::ledger::{Blank, Ledger};
-
-/// What `smtcli --help` prints.
-const HELP: &str = "\
-usage: smtcli script
-
-Reads a job from standard input and prints its script in SMT-LIB 2.7.
-
-job:  (job (enums) (vars (\"id\" TYPE) ..) (funs) (terms t ..))
-TYPE: Bool or (BitVec N)
-term: true, false, (var \"id\"), (bv W N), (long \"-5\"), (zero_extend N t) or (name t ..)
-name: not and or eq ite bvneg bvadd bvsub bvmul bvudiv bvurem bvsdiv bvsrem bvsmod bvshl bvlshr
-      bvult bvule bvslt bvsle bvnego bvsaddo bvssubo bvsmulo
-
-status: 0 done, 2 no such command, 3 job refused, 4 no script for a term, 5 source fault, 6 sink fault, 7 out of memory
-";
-
-/// What `smtcli --version` prints.
-const VERSION: &str = "smtcli 0.1.0\n";
-
-/// What the words of a command line ask for.
-#[derive(Clone, Copy, Debug, PartialEq, Eq, Drop)]
-pub enum Command {
-    /// `script`: the script of a job.
-    Script,
-    /// `--help`.
-    Help,
-    /// `--version`.
-    Version,
-}
-
-/// What the words ask for, None where they are no command.
-fn command_of(words: &[Text]) -> Option<Command>
-    ensures { result ≡ commanded (texts words.now) }
-{
-    match words {
-        [word] => match word.as_str() {
-            "script" => Some(Command::Script),
-            "--help" => Some(Command::Help),
-            "--version" => Some(Command::Version),
-            _ => None,
-        },
-        _ => None,
-    }
-}
 
 /// Reads the source to its end, and the job that it gave.
 fn read_source<R: Source>(alloc: Global, source: &mut R) -> Result<NumberedJob, ReadRefusal>
@@ -77,82 +30,68 @@ fn read_source<R: Source>(alloc: Global, source: &mut R) -> Result<NumberedJob, 
     Ok(read_numbered(alloc, bytes.as_slice())?)
 }
 
-/// Encodes the terms of a job, and counts the look-ups by a ledger of its own.
-fn encode_job<L: Ledger, W: Sink>(
-    alloc: Global,
-    job: NumberedJob,
-    out: &mut W,
-    blank: Blank,
-) -> Result<(), EncodeError>
-    requires name { blank.name ≡ L.name }
-    requires parts { blank.parts ≡ L.parts }
-    requires some { 0 < blank.parts }
-    ensures text { OnOk result (W.contents out.new ≡ append_known (W.contents out.old) (text (enums_of job.enums) (numbered_terms job.terms))) }
-    ensures headline { AreBoolean (numbered_terms job.terms) → OnOk result (Headline (enums_of job.enums) (names (enums_of job.enums) (numbered_terms job.terms)) (numbered_terms job.terms) (text (enums_of job.enums) (numbered_terms job.terms))) }
-    ensures refused { CausedBy (W.faults out.old) (W.faults out.new) (first_fault (enums_of job.enums) (numbered_terms job.terms)) result }
-    ensures fresh { IsErrOf result EncodeError.Spent → ⊥ }
-    ensures later { W.faults out.old ≤ W.faults out.new }
+/// The line that says a decision.
+fn line_of(decision: Decision) -> &'static str
+    ensures { result.now ≡ verdict_line decision }
 {
-    let NumberedJob { enums, terms, .. } = job;
-    let NumberedTerms { nodes, ids } = terms;
-    let mut steps = Steps::<L>::new(blank);
-    let mut encoder = Encoder::with_nodes(alloc, &enums, nodes, out);
-    let outcome = encoder.encode_nodes(ids.as_slice(), &mut steps);
-    let _ = encoder.into_script();
-    outcome
-}
-
-/// Puts the script of a job.
-fn put_script<W: Sink>(alloc: Global, job: NumberedJob, out: &mut W) -> Result<(), PrintRefusal>
-    ensures text { OnOk result (W.contents out.new ≡ append_known (W.contents out.old) (text (enums_of job.enums) (numbered_terms job.terms))) }
-    ensures headline { AreBoolean (numbered_terms job.terms) → OnOk result (Headline (enums_of job.enums) (names (enums_of job.enums) (numbered_terms job.terms)) (numbered_terms job.terms) (text (enums_of job.enums) (numbered_terms job.terms))) }
-    ensures refused { IfErr result (HasPrintCause (first_fault (enums_of job.enums) (numbered_terms job.terms)) (Rose (W.faults out.old) (W.faults out.new))) }
-    ensures later { W.faults out.old ≤ W.faults out.new }
-{
-    match encode_job::<Brand, W>(alloc, job, out, Blank::new(1)) {
-        Ok(()) => Ok(()),
-        Err(EncodeError::Io) => Err(PrintRefusal::Sink),
-        Err(EncodeError::EnumMissingMember(_)) => {
-            Err(PrintRefusal::Encode(EncodeRefusal::EnumMissingMember))
-        }
-        Err(EncodeError::EncodeStringFailed(_)) => {
-            Err(PrintRefusal::Encode(EncodeRefusal::EncodeStringFailed))
-        }
-        Err(EncodeError::EncodePatternFailed(_)) => {
-            Err(PrintRefusal::Encode(EncodeRefusal::EncodePatternFailed))
-        }
-        Err(EncodeError::EmptyEnum(_)) => Err(PrintRefusal::Encode(EncodeRefusal::EmptyEnum)),
-        Err(EncodeError::MalformedRecordGet) => {
-            Err(PrintRefusal::Encode(EncodeRefusal::MalformedRecordGet))
-        }
-        Err(EncodeError::MissingTypeEncoding(_)) => {
-            Err(PrintRefusal::Encode(EncodeRefusal::MissingTypeEncoding))
-        }
-        Err(EncodeError::ExpectRecord(_)) => {
-            Err(PrintRefusal::Encode(EncodeRefusal::ExpectRecord))
-        }
-        Err(EncodeError::RecordMissingAttr(_)) => {
-            Err(PrintRefusal::Encode(EncodeRefusal::RecordMissingAttr))
-        }
-        Err(EncodeError::Memory) => Err(PrintRefusal::Memory),
-        // The encoder was a new one.
-        Err(EncodeError::Spent) => unreachable!(),
-        // No call of an encoder gives this.
-        Err(EncodeError::BitVecError(_)) => unreachable!(),
+    match decision {
+        Decision::Sat => "sat\n",
+        Decision::Unsat => "unsat\n",
+        Decision::Unknown => "unknown\n",
     }
 }
 
-/// Puts what the words ask for.
-fn put_answer<R: Source, W: Sink>(
+/// Reads a job, and asks a solver about its script.
+fn verdict_of<R: Source, P: Starter>(
+    alloc: Global,
+    words: &[Text],
+    source: &mut R,
+    starter: &mut P,
+) -> Result<Decision, Refusal>
+    requires { commanded (texts words.now) ≡ Some Command.Check }
+    ensures checked { IfOk result (λ decision. Reads (IsChecked P.L.state (P.allows starter.old) (solver_named (texts words.now)) (standing R.remaining R.faults P.state source.old starter.old) (standing R.remaining R.faults P.state source.new starter.new) decision) (R.remaining source.old) (R.remaining source.new)) }
+    ensures refused { IfErr result (HasCheckCause P.L.state (solver_named (texts words.now)) (standing R.remaining R.faults P.state source.old starter.old) (standing R.remaining R.faults P.state source.new starter.new)) }
+    ensures unput { IfErr result (λ refusal. refusal ≢ Refusal.Sink) }
+{
+    let job = read_source(alloc, source)?;
+    let script = script_of(alloc, job)?;
+    let Ok(solver) = solver_of(alloc, words) else {
+        return Err(Refusal::Memory);
+    };
+    Ok(check_script(alloc, script.bytes(), &solver, starter)?)
+}
+
+/// Reads a job, asks a solver about its script, and puts the verdict.
+fn put_verdict<R: Source, W: Sink, P: Starter>(
     alloc: Global,
     words: &[Text],
     source: &mut R,
     out: &mut W,
+    starter: &mut P,
 ) -> Result<(), Refusal>
-    ensures done { OnOk result (IsDone (commanded (texts words.now)) (R.remaining source.old) (R.remaining source.new) (W.contents out.old) (W.contents out.new)) }
-    ensures refused { IfErr result (HasCause (commanded (texts words.now)) (R.remaining source.old) (Rose (R.faults source.old) (R.faults source.new)) (Rose (W.faults out.old) (W.faults out.new))) }
+    requires { commanded (texts words.now) ≡ Some Command.Check }
+    ensures done { OnOk result (IsDone P.L.state (P.allows starter.old) (solver_named (texts words.now)) (around R.remaining R.faults W.contents W.faults P.state source.old out.old starter.old) (around R.remaining R.faults W.contents W.faults P.state source.new out.new starter.new) (Some Command.Check)) }
+    ensures refused { IfErr result (HasCheckCause P.L.state (solver_named (texts words.now)) (around R.remaining R.faults W.contents W.faults P.state source.old out.old starter.old) (around R.remaining R.faults W.contents W.faults P.state source.new out.new starter.new)) }
     ensures untouched { IfErr result (LeavesOutput (W.contents out.old) (W.contents out.new)) }
-    ensures unread { commanded (texts words.now) ≢ Some Command.Script → source.new ≡ source.old }
+    ensures later { W.faults out.old ≤ W.faults out.new }
+{
+    let decision = verdict_of(alloc, words, source, starter)?;
+    Ok(out.put(line_of(decision).as_bytes())?)
+}
+
+/// Puts what the words ask for.
+fn put_answer<R: Source, W: Sink, P: Starter>(
+    alloc: Global,
+    words: &[Text],
+    source: &mut R,
+    out: &mut W,
+    starter: &mut P,
+) -> Result<(), Refusal>
+    ensures done { OnOk result (IsDone P.L.state (P.allows starter.old) (solver_named (texts words.now)) (around R.remaining R.faults W.contents W.faults P.state source.old out.old starter.old) (around R.remaining R.faults W.contents W.faults P.state source.new out.new starter.new) (commanded (texts words.now))) }
+    ensures refused { IfErr result (HasCause P.L.state (commanded (texts words.now)) (solver_named (texts words.now)) (around R.remaining R.faults W.contents W.faults P.state source.old out.old starter.old) (around R.remaining R.faults W.contents W.faults P.state source.new out.new starter.new)) }
+    ensures untouched { IfErr result (LeavesOutput (W.contents out.old) (W.contents out.new)) }
+    ensures unread { commanded (texts words.now) ≢ Some Command.Script → commanded (texts words.now) ≢ Some Command.Check → source.new ≡ source.old }
+    ensures unstarted { commanded (texts words.now) ≢ Some Command.Check → starter.new ≡ starter.old }
     ensures later { W.faults out.old ≤ W.faults out.new }
 {
     match command_of(words) {
@@ -160,6 +99,7 @@ fn put_answer<R: Source, W: Sink>(
             let job = read_source(alloc, source)?;
             put_script(alloc, job, out)?;
         }
+        Some(Command::Check) => put_verdict(alloc, words, source, out, starter)?,
         Some(Command::Help) => out.put(HELP.as_bytes())?,
         Some(Command::Version) => out.put(VERSION.as_bytes())?,
         None => return Err(Refusal::Usage),
@@ -168,18 +108,20 @@ fn put_answer<R: Source, W: Sink>(
 }
 
 /// Does what the words ask for: puts it, and flushes `out`, also where not all of it was put.
-fn answer<R: Source, W: Sink>(
+fn answer<R: Source, W: Sink, P: Starter>(
     alloc: Global,
     words: &[Text],
     source: &mut R,
     out: &mut W,
+    starter: &mut P,
 ) -> Result<(), Refusal>
-    ensures done { OnOk result (IsDone (commanded (texts words.now)) (R.remaining source.old) (R.remaining source.new) (W.contents out.old) (W.contents out.new)) }
-    ensures refused { IfErr result (HasCause (commanded (texts words.now)) (R.remaining source.old) (Rose (R.faults source.old) (R.faults source.new)) (Rose (W.faults out.old) (W.faults out.new))) }
+    ensures done { OnOk result (IsDone P.L.state (P.allows starter.old) (solver_named (texts words.now)) (around R.remaining R.faults W.contents W.faults P.state source.old out.old starter.old) (around R.remaining R.faults W.contents W.faults P.state source.new out.new starter.new) (commanded (texts words.now))) }
+    ensures refused { IfErr result (HasCause P.L.state (commanded (texts words.now)) (solver_named (texts words.now)) (around R.remaining R.faults W.contents W.faults P.state source.old out.old starter.old) (around R.remaining R.faults W.contents W.faults P.state source.new out.new starter.new)) }
     ensures untouched { IfErr result (LeavesOutput (W.contents out.old) (W.contents out.new)) }
-    ensures unread { commanded (texts words.now) ≢ Some Command.Script → source.new ≡ source.old }
+    ensures unread { commanded (texts words.now) ≢ Some Command.Script → commanded (texts words.now) ≢ Some Command.Check → source.new ≡ source.old }
+    ensures unstarted { commanded (texts words.now) ≢ Some Command.Check → starter.new ≡ starter.old }
 {
-    let outcome = put_answer(alloc, words, source, out);
+    let outcome = put_answer(alloc, words, source, out, starter);
     let flushed = out.flush();
     outcome?;
     Ok(flushed?)
@@ -187,31 +129,40 @@ fn answer<R: Source, W: Sink>(
 
 /// Runs the program over these words, and answers the status with which it ends.
 ///
-/// 0: what was asked for is put to `out`, and for `script` the source is read to its end. 2: the words are no command. 3: the
-/// job was refused. 4: a term of the job has no script. 5: the source failed. 6: `out` failed. 7: there was no memory. With 2,
-/// 3 and 5 nothing is put to `out`. But for 0, one line is put to `diag`; whether that went well changes no status.
+/// 0: what was asked for is put to `out`, and for `script` and `check` the source is read to its end. 2: the words are no
+/// command. 3: the job was refused. 4: a term of the job has no script. 5: the source failed. 6: `out` failed. 7: there was no
+/// memory. 8: the session with the solver failed. 9: the solver did not start. With 2, 3, 5, 8 and 9 nothing is put to `out`.
+/// But for 0, one line is put to `diag`; whether that went well changes no status.
+///
+/// `check PATH ARGS..` makes the script of the job in memory, starts the solver, sends it `(set-logic ALL)`, the script and
+/// `(check-sat)`, and puts the word of the one line that it reads: `sat`, `unsat` or `unknown`. Where the solver is honest, so
+/// that it says `unsat` only of scripts without a model, `unsat` means that no interpretation makes all terms of the job true. A
+/// link to a solver that was started goes back to the starter before the run ends, whatever the status.
 ///
 /// The run flushes `out` once at its end, so that nothing of what was put is held back. A flush that fails ends it as a put that
 /// fails does. Where the run is refused before that, `out` is flushed for what was put until then, and whether that goes well
 /// changes no status.
 ///
-/// 3, 4 and 5 come of `script` alone. Other words leave the source as it was, unread. Where neither the source nor `out` failed
-/// and there was memory, `script` ends with 0 for a job and with 3 for any other bytes, and `--help` and `--version` end with 0.
-pub fn run<R: Source, W: Sink, D: Sink>(
+/// 3, 4 and 5 come of `script` and `check` alone, 8 and 9 of `check`. Other words leave the source as it was, unread, and but for
+/// `check` the starter is left as it was. Where neither the source nor `out` nor the start failed and there was memory, `script`
+/// ends with 0 for a job and with 3 for any other bytes, `check` with 0 or 8 for a job and with 3 for any other bytes, and
+/// `--help` and `--version` end with 0.
+pub fn run<R: Source, W: Sink, D: Sink, P: Starter>(
     alloc: Global,
     words: &[Text],
     source: &mut R,
     out: &mut W,
     diag: &mut D,
+    starter: &mut P,
 ) -> u8
-    ensures done { result ≡ 0 → IsDone (commanded (texts words.now)) (R.remaining source.old) (R.remaining source.new) (W.contents out.old) (W.contents out.new) }
+    ensures done { result ≡ 0 → IsDone P.L.state (P.allows starter.old) (solver_named (texts words.now)) (around R.remaining R.faults W.contents W.faults P.state source.old out.old starter.old) (around R.remaining R.faults W.contents W.faults P.state source.new out.new starter.new) (commanded (texts words.now)) }
     ensures usage { result ≡ 2 ↔ (commanded (texts words.now) ≡ None) }
-    ensures refused { IsJustified (commanded (texts words.now)) (R.remaining source.old) (Rose (R.faults source.old) (R.faults source.new)) (Rose (W.faults out.old) (W.faults out.new)) (W.contents out.old) (W.contents out.new) result }
-    ensures complete { IsComplete (commanded (texts words.now)) (R.remaining source.old) (Rose (R.faults source.old) (R.faults source.new)) (Rose (W.faults out.old) (W.faults out.new)) result }
-    ensures unread { commanded (texts words.now) ≢ Some Command.Script → source.new ≡ source.old }
-    ensures report { Reports (HasCause (commanded (texts words.now)) (R.remaining source.old) (Rose (R.faults source.old) (R.faults source.new)) (Rose (W.faults out.old) (W.faults out.new))) D.contents D.faults D.has_room D.place diag.old diag.new result }
+    ensures complete { IsComplete (commanded (texts words.now)) (around R.remaining R.faults W.contents W.faults P.state source.old out.old starter.old) (around R.remaining R.faults W.contents W.faults P.state source.new out.new starter.new) result }
+    ensures unread { commanded (texts words.now) ≢ Some Command.Script → commanded (texts words.now) ≢ Some Command.Check → source.new ≡ source.old }
+    ensures unstarted { commanded (texts words.now) ≢ Some Command.Check → starter.new ≡ starter.old }
+    ensures report { Reports (HasCause P.L.state (commanded (texts words.now)) (solver_named (texts words.now)) (around R.remaining R.faults W.contents W.faults P.state source.old out.old starter.old) (around R.remaining R.faults W.contents W.faults P.state source.new out.new starter.new)) (W.contents out.old) (W.contents out.new) D.contents D.faults D.has_room D.place diag.old diag.new result }
 {
-    match answer(alloc, words, source, out) {
+    match answer(alloc, words, source, out, starter) {
         Ok(()) => 0,
         Err(refusal) => {
             // A diagnosis that is not put changes no status.

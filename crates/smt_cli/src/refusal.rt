@@ -2,6 +2,7 @@
 ghost use Rattle.std.specs.Prelude.{◌≡◌};
 ghost use Rattle.smt_cli.specs.Refusal.{line_of, status_of};
 
+use smt_checks::{CheckError, SessionFault};
 use smt_jobs::JobError;
 use smt_script::SinkError;
 use smt_source::InputError;
@@ -19,6 +20,10 @@ pub enum Refusal {
     Source,
     /// The sink failed.
     Sink,
+    /// The solver did not start.
+    Start,
+    /// The session with the solver failed.
+    Session(SessionFault),
     /// There was no memory.
     Memory,
 }
@@ -65,6 +70,8 @@ impl Refusal {
             Refusal::Source => 5,
             Refusal::Sink => 6,
             Refusal::Memory => 7,
+            Refusal::Session(_) => 8,
+            Refusal::Start => 9,
         }
     }
 
@@ -73,7 +80,7 @@ impl Refusal {
         ensures { result.now ≡ line_of self }
     {
         match self {
-            Refusal::Usage => "usage: smtcli script\n",
+            Refusal::Usage => "usage: smtcli script or check PATH ARGS..\n",
             Refusal::Job(JobRefusal::TooLarge) => "job refused: TooLarge\n",
             Refusal::Job(JobRefusal::BadForm) => "job refused: BadForm\n",
             Refusal::Encode(EncodeRefusal::EnumMissingMember) => {
@@ -98,6 +105,13 @@ impl Refusal {
             }
             Refusal::Source => "source fault\n",
             Refusal::Sink => "sink fault\n",
+            Refusal::Start => "no start\n",
+            Refusal::Session(SessionFault::Io) => "session fault: Io\n",
+            Refusal::Session(SessionFault::Solver) => "session fault: Solver\n",
+            Refusal::Session(SessionFault::UnrecognizedSolverOutput) => {
+                "session fault: UnrecognizedSolverOutput\n"
+            }
+            Refusal::Session(SessionFault::AnswerTooLong) => "session fault: AnswerTooLong\n",
             Refusal::Memory => "memory\n",
         }
     }
@@ -195,6 +209,21 @@ impl From<SinkError> for Refusal {
         match error {
             SinkError::Fault => Refusal::Sink,
             SinkError::Memory => Refusal::Memory,
+        }
+    }
+}
+
+impl From<CheckError> for Refusal {
+    ghost use Rattle.std.specs.Prelude.{◌≡◌};
+    ghost use Rattle.smt_cli.specs.Refusal.{check_refusal};
+
+    ghost from_gives = { λ why refusal. refusal ≡ check_refusal why };
+
+    fn from(why: CheckError) -> Refusal {
+        match why {
+            CheckError::Start => Refusal::Start,
+            CheckError::Session(fault) => Refusal::Session(fault),
+            CheckError::Memory => Refusal::Memory,
         }
     }
 }

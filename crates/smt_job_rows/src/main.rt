@@ -7,6 +7,7 @@
 use anyhow::Result;
 use smt_cli::{MemorySource, run};
 use smt_script::ListSink;
+use smt_solve::{LinkList, MemoryStarter};
 use smt_term::Text;
 use std::alloc::Global;
 use std::fs;
@@ -18,7 +19,15 @@ fn show(alloc: Global, printer: &mut (impl Write + Drop), name: &str, job: &[u8]
     let mut source = MemorySource::new(alloc, job, &[])?;
     let mut out = ListSink::new(alloc);
     let mut diag = ListSink::new(alloc);
-    let status = run(alloc, &words, &mut source, &mut out, &mut diag);
+    let mut starter = MemoryStarter::new(alloc, LinkList::new(alloc), &[])?;
+    let status = run(
+        alloc,
+        &words,
+        &mut source,
+        &mut out,
+        &mut diag,
+        &mut starter,
+    );
     let (put, said) = (out.bytes(), diag.bytes());
     let (put_count, said_count) = (put.len(), said.len());
     writeln!(printer, "> {name}")?;

@@ -3,6 +3,8 @@
 #![tactic(auto, using(smt_term::specs::View::views))]
 
 #[cfg(test)]
+mod checks;
+#[cfg(test)]
 mod encoder;
 #[cfg(test)]
 mod jobs;

@@ -1,6 +1,7 @@
 // Whole runs of the program where no job shows how they end: words, sources and sinks that fail, and the greatest job.
-use smt_cli::{EncodeRefusal, MemorySource, Refusal, Source, run};
+use smt_cli::{EncodeRefusal, MemorySource, Refusal, SessionFault, Source, run};
 use smt_script::{BufferedSink, ListSink, MemorySink};
+use smt_solve::{LinkList, MemoryStarter, StartError};
 use smt_term::Text;
 use std::alloc::{AllocError, Global};
 use std::io::{self, BufWriter, Write};
@@ -20,7 +21,7 @@ pub const SCRIPT: &str = "\
 (assert t1)
 ";
 
-const USAGE: &str = "usage: smtcli script\n";
+const USAGE: &str = "usage: smtcli script or check PATH ARGS..\n";
 
 const VERSION: &str = "smtcli 0.1.0\n";
 
@@ -69,7 +70,12 @@ const ENDS: [Row; 16] = [
     ("--version", "", 0, 0, 5, VERSION, 6, "sink fault\n"),
 ];
 
-fn texts(alloc: Global, items: &[&str]) -> Result<Vec<Text>, AllocError> {
+/// A starter that has no solver.
+fn no_solver(alloc: Global) -> Result<MemoryStarter, StartError> {
+    MemoryStarter::new(alloc, LinkList::new(alloc), &[])
+}
+
+pub fn texts(alloc: Global, items: &[&str]) -> Result<Vec<Text>, AllocError> {
     let mut texts = Vec::new(alloc);
     for item in items {
         texts.push(Text::from_str(alloc, item)?)?;
@@ -83,7 +89,14 @@ fn end_of(alloc: Global, row: &Row, fails: &[u64]) -> Result<(u8, Vec<u8>, Vec<u
     let mut source = MemorySource::new(alloc, row.1.as_bytes(), &[row.2])?;
     let mut out = MemorySink::new(alloc, &[row.3], row.4)?;
     let mut diag = MemorySink::new(alloc, fails, 100)?;
-    let status = run(alloc, words.as_slice(), &mut source, &mut out, &mut diag);
+    let status = run(
+        alloc,
+        words.as_slice(),
+        &mut source,
+        &mut out,
+        &mut diag,
+        &mut no_solver(alloc)?,
+    );
     Ok((
         status,
         out.bytes().to_vec(alloc)?,
@@ -153,7 +166,14 @@ fn run_held(
     let mut source = MemorySource::new(alloc, bytes.as_bytes(), &[])?;
     let mut out = BufferedSink::new(BufWriter::with_capacity(alloc, 4096, writer)?);
     let mut diag = ListSink::new(alloc);
-    let status = run(alloc, words.as_slice(), &mut source, &mut out, &mut diag);
+    let status = run(
+        alloc,
+        words.as_slice(),
+        &mut source,
+        &mut out,
+        &mut diag,
+        &mut no_solver(alloc)?,
+    );
     Ok((status, diag.bytes().to_vec(alloc)?))
 }
 
@@ -189,7 +209,14 @@ fn run_from(
     let words = texts(alloc, words)?;
     let mut out = ListSink::new(alloc);
     let mut diag = ListSink::new(alloc);
-    let status = run(alloc, words.as_slice(), source, &mut out, &mut diag);
+    let status = run(
+        alloc,
+        words.as_slice(),
+        source,
+        &mut out,
+        &mut diag,
+        &mut no_solver(alloc)?,
+    );
     Ok((
         status,
         out.bytes().to_vec(alloc)?,
@@ -200,7 +227,7 @@ fn run_from(
 #[test]
 fn refused_words_read_nothing(rt: HostRuntime) -> Result<(), Fail> {
     let alloc = rt.alloc();
-    let rows: [&[&str]; 3] = [&[], &["scripts"], &["script", "x"]];
+    let rows: [&[&str]; 4] = [&[], &["scripts"], &["script", "x"], &["check"]];
     for words in rows {
         let mut source = MemorySource::new(alloc, NOT_B.as_bytes(), &[])?;
         let (status, out, diag) = run_from(alloc, words, &mut source)?;
@@ -231,6 +258,11 @@ fn refusals_have_a_status_and_a_line(rt: HostRuntime) {
             "encode refused: EncodePatternFailed\n",
         ),
         (Refusal::Memory, 7, "memory\n"),
+        (
+            Refusal::Session(SessionFault::AnswerTooLong),
+            8,
+            "session fault: AnswerTooLong\n",
+        ),
     ];
     for (refusal, status, line) in rows {
         assert_eq!(rt; refusal.status(), status);

@@ -1,6 +1,7 @@
-//! `smtcli`: the script of a job, or why there is none.
+//! `smtcli`: the script of a job, a solver's verdict on it, or why there is none.
 #![tactic(auto)]
 
+use smt_children::ChildStarter;
 use smt_cli::{ReadSource, Refusal, run};
 use smt_script::{BufferedSink, WriteSink};
 use smt_term::Text;
@@ -48,5 +49,16 @@ fn main(rt: HostRuntime) -> ExitCode {
     // The run flushes it at its end.
     let mut out = BufferedSink::new(stdout);
     let mut diag = WriteSink::new(rt.stderr());
-    ExitCode::from(run(alloc, words.as_slice(), &mut source, &mut out, &mut diag))
+    let Ok(processes) = rt.clone() else {
+        return no_memory();
+    };
+    let mut starter = ChildStarter::new(processes);
+    ExitCode::from(run(
+        alloc,
+        words.as_slice(),
+        &mut source,
+        &mut out,
+        &mut diag,
+        &mut starter,
+    ))
 }

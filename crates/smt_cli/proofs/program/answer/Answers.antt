@@ -1,24 +1,27 @@
-use Rattle.std.proofs.Common.{arith, ℕ, List, Option, sym, subst}
+use Rattle.std.proofs.Common.{arith, List, Option, ℕ, sym, subst}
 use Rattle.smt_characters.specs.SharedTexts.{texts}
-use Rattle.smt_script.specs.Sink.{Rose}
-use Rattle.smt_cli.specs.Run.{commanded, HasCause, LeavesOutput}
+use Rattle.smt_cli.specs.Causes.{HasCause, LeavesOutput, around}
+use Rattle.smt_cli.specs.Words.{commanded, solver_named}
 use Rattle.smt_cli.proofs.Flushing.{cause_stays, done_stays, flush_leaves, flush_refused, refusal_stays}
 use Rattle.smt_cli.proofs.program.answer.Goals as goal
 
 pub returns-clause-done : goal.returns-clause-done
 returns-clause-done g c =
-    done_stays c.put_answer-outcome.result c.in_ok-outcome.field-0 (commanded (texts c.args.words.now)) (g.R.Source.remaining c.args.source.now) (g.R.Source.remaining c.put_answer-outcome.new.source) (g.W.Sink.contents c.args.out.now) (g.W.Sink.contents c.put_answer-outcome.new.out) (g.W.Sink.contents c.flush-flushed.new.self)
+    let before = around g.R.Source.remaining g.R.Source.faults g.W.Sink.contents g.W.Sink.faults g.P.Starter.state c.args.source.now c.args.out.now c.args.starter.now in
+    let after = around g.R.Source.remaining g.R.Source.faults g.W.Sink.contents g.W.Sink.faults g.P.Starter.state c.put_answer-outcome.new.source c.put_answer-outcome.new.out c.put_answer-outcome.new.starter in
+    done_stays g.P.L.Link.state (g.P.Starter.allows c.args.starter.now) (solver_named (texts c.args.words.now)) before after (g.W.Sink.faults c.flush-flushed.new.self) c.put_answer-outcome.result c.in_ok-outcome.field-0 (commanded (texts c.args.words.now)) (g.W.Sink.contents c.flush-flushed.new.self)
     c.in_ok-outcome.was c.put_answer-outcome.ensures.done c.flush-flushed.ensures.same_contents
 
 pub returns-in_err-outcome-clause-refused : goal.returns-in_err-outcome-clause-refused
 returns-in_err-outcome-clause-refused g c =
     let asked = commanded (texts c.args.words.now) in
-    let remaining = g.R.Source.remaining c.args.source.now in
-    let source_failed = Rose (g.R.Source.faults c.args.source.now) (g.R.Source.faults c.put_answer-outcome.new.source) in
-    let before = Rose (g.W.Sink.faults c.args.out.now) (g.W.Sink.faults c.put_answer-outcome.new.out) in
-    let now = Rose (g.W.Sink.faults c.args.out.now) (g.W.Sink.faults c.flush-flushed.new.self) in
-    refusal_stays (HasCause asked remaining source_failed before) (HasCause asked remaining source_failed now) c.put_answer-outcome.result c.from_residual.result c.in_err-outcome.field-0.0 c.in_err-outcome.was c.from_residual.ensures.1
-    (cause_stays source_failed before now (λ rose. omega (arith, rose, c.flush-flushed.ensures.later)) asked remaining) c.put_answer-outcome.ensures.refused
+    let call = solver_named (texts c.args.words.now) in
+    let state = g.P.L.Link.state in
+    let before = around g.R.Source.remaining g.R.Source.faults g.W.Sink.contents g.W.Sink.faults g.P.Starter.state c.args.source.now c.args.out.now c.args.starter.now in
+    let after = around g.R.Source.remaining g.R.Source.faults g.W.Sink.contents g.W.Sink.faults g.P.Starter.state c.put_answer-outcome.new.source c.put_answer-outcome.new.out c.put_answer-outcome.new.starter in
+    let now = around g.R.Source.remaining g.R.Source.faults g.W.Sink.contents g.W.Sink.faults g.P.Starter.state c.put_answer-outcome.new.source c.flush-flushed.new.self c.put_answer-outcome.new.starter in
+    refusal_stays (HasCause state asked call before after) (HasCause state asked call before now) c.put_answer-outcome.result c.from_residual.result c.in_err-outcome.field-0.0 c.in_err-outcome.was c.from_residual.ensures.1
+    (cause_stays state call before after (g.W.Sink.contents c.flush-flushed.new.self) (g.W.Sink.faults c.flush-flushed.new.self) (λ rose. omega (arith, rose, c.flush-flushed.ensures.later)) asked) c.put_answer-outcome.ensures.refused
 
 pub returns-in_err-outcome-clause-untouched : goal.returns-in_err-outcome-clause-untouched
 returns-in_err-outcome-clause-untouched g c =
@@ -31,12 +34,14 @@ returns-in_err-outcome-clause-untouched g c =
 pub returns-in_err-flushed-clause-refused : goal.returns-in_err-flushed-clause-refused
 returns-in_err-flushed-clause-refused g c =
     let asked = commanded (texts c.args.words.now) in
-    let remaining = g.R.Source.remaining c.args.source.now in
-    let left = g.R.Source.remaining c.put_answer-outcome.new.source in
-    let held = g.W.Sink.contents c.args.out.now in
-    let now = g.W.Sink.contents c.flush-flushed.new.self in
-    flush_refused c.flush-flushed.result c.from_residual-in_err-flushed.result c.in_err-flushed.field-0.0 asked remaining left held now _ _ c.in_err-flushed.was c.from_residual-in_err-flushed.ensures.1
-    (done_stays c.put_answer-outcome.result c.in_ok-outcome.field-0 asked remaining left held (g.W.Sink.contents c.put_answer-outcome.new.out) now c.in_ok-outcome.was c.put_answer-outcome.ensures.done c.flush-flushed.ensures.same_contents)
+    let call = solver_named (texts c.args.words.now) in
+    let state = g.P.L.Link.state in
+    let allows = g.P.Starter.allows c.args.starter.now in
+    let before = around g.R.Source.remaining g.R.Source.faults g.W.Sink.contents g.W.Sink.faults g.P.Starter.state c.args.source.now c.args.out.now c.args.starter.now in
+    let after = around g.R.Source.remaining g.R.Source.faults g.W.Sink.contents g.W.Sink.faults g.P.Starter.state c.put_answer-outcome.new.source c.put_answer-outcome.new.out c.put_answer-outcome.new.starter in
+    let now = around g.R.Source.remaining g.R.Source.faults g.W.Sink.contents g.W.Sink.faults g.P.Starter.state c.put_answer-outcome.new.source c.flush-flushed.new.self c.put_answer-outcome.new.starter in
+    flush_refused state allows call before now c.flush-flushed.result c.from_residual-in_err-flushed.result c.in_err-flushed.field-0.0 asked c.in_err-flushed.was c.from_residual-in_err-flushed.ensures.1
+    (done_stays state allows call before after (g.W.Sink.faults c.flush-flushed.new.self) c.put_answer-outcome.result c.in_ok-outcome.field-0 asked (g.W.Sink.contents c.flush-flushed.new.self) c.in_ok-outcome.was c.put_answer-outcome.ensures.done c.flush-flushed.ensures.same_contents)
     (λ fault. omega (arith, c.flush-flushed.ensures.cause fault, c.put_answer-outcome.ensures.later))
 
 pub returns-in_err-flushed-clause-untouched : goal.returns-in_err-flushed-clause-untouched

@@ -6,7 +6,7 @@ use Rattle.smt_lines.specs.Text.{names, text}
 use Rattle.smt_jobs.specs.Numbered.{numbered_terms}
 use Rattle.smt_jobs.proofs.NumberedLemmas.{stood_by}
 use Rattle.smt_cli.proofs.Encoding.{text_of}
-use Rattle.smt_cli.proofs.program.encode_job.Goals as goal
+use Rattle.smt_cli.proofs.printing.encode_job.Goals as goal
 
 pub encode_nodes-outcome-requires : goal.encode_nodes-outcome-requires
 encode_nodes-outcome-requires g c = record { stand = (numbered_terms c.args.job.terms, stood_by c.args.job.terms.nodes c.with_nodes-encoder.result.writer.names.nodes c.args.job.terms.ids.items c.as_slice.result.now c.args.job.terms.stand c.with_nodes-encoder.ensures.nodes c.as_slice.ensures.value) }

@@ -1,0 +1,165 @@
+-- Why a run is refused.
+use Rattle.std.specs.Prelude.{ℕ, ◌≡◌, ◌≤◌, ◌<◌, ⊤, length, map, IfSome, List, Option, Some, None}
+use Rattle.smt_meaning.specs.Faults.{Fault, EmptyEnum as EnumFault, EncodeStringFailed as StringFault, EncodePatternFailed as PatternFault, EnumMissingMember as MemberFault, ExpectRecord as NoRecordFault, MalformedRecordGet as NoOperandFault, MissingTypeEncoding as TypeFault, RecordMissingAttr as AttributeFault}
+use Rattle.smt_meaning.specs.Plain.{PatternPart, PlainType}
+use Rattle.smt_folding.specs.Built.{built}
+use Rattle.smt_lines.specs.Text.{text}
+use Rattle.smt_script.specs.Sink.{Rose}
+use Rattle.smt_jobs.specs.Job.{IsJob, PlainJob, fault_of, greatest_length}
+use Rattle.smt_solve.specs.Link.{LinkState}
+use Rattle.smt_solve.specs.Starter.{Command as SolverCall, StarterState}
+use Rattle.smt_checks.specs.Checks.{Returns, WhyUnchecked}
+use Rattle.smt_cli.specs.declared.command.Command.{Command}
+use Rattle.smt_cli.specs.declared.command.Command.TheVariants.{Script, Check, Help, Version}
+use Rattle.smt_checks.specs.declared.error.CheckError.TheVariants.{Session as CheckSession}
+use Rattle.smt_checks.specs.declared.error.SessionFault.{SessionFault}
+use Rattle.smt_cli.specs.declared.refusal.EncodeRefusal.{EncodeRefusal}
+use Rattle.smt_cli.specs.declared.refusal.EncodeRefusal.TheVariants.{EmptyEnum, EncodeStringFailed, EncodePatternFailed, EnumMissingMember, ExpectRecord, MalformedRecordGet, MissingTypeEncoding, RecordMissingAttr}
+use Rattle.smt_cli.specs.declared.refusal.JobRefusal.TheVariants.{TooLarge, BadForm}
+use Rattle.smt_cli.specs.declared.refusal.PrintRefusal.{PrintRefusal}
+use Rattle.smt_cli.specs.declared.refusal.PrintRefusal.TheVariants.{Encode as PrintEncode, Sink as PrintSink, Memory as PrintWant}
+use Rattle.smt_cli.specs.declared.refusal.ReadRefusal.{ReadRefusal}
+use Rattle.smt_cli.specs.declared.refusal.ReadRefusal.TheVariants.{Job as ReadJob, Source as ReadSource, Memory as ReadWant}
+use Rattle.smt_cli.specs.declared.refusal.Refusal.{Refusal}
+use Rattle.smt_cli.specs.declared.refusal.Refusal.TheVariants.{Usage, Job, Encode, Source, Sink, Start, Session, Memory}
+
+-- What a run stands on at a moment: what the source has left and how often it failed, what the sink holds and how often it
+-- failed, and what the starter tells, whose links are of type `L`.
+pub record Around (L : Type 0) : Type 0 where
+  pub left : Option (List ℕ)
+  pub source_faults : ℕ
+  pub held : Option (List ℕ)
+  pub sink_faults : ℕ
+  pub starter : StarterState L
+
+-- that of a source, a sink and a starter, by their meanings
+abbrev pub around : {R W P L : Type 0} → (R → Option (List ℕ)) → (R → ℕ) → (W → Option (List ℕ)) → (W → ℕ) → (P → StarterState L) → R → W → P → Around L
+around remaining source_faults contents sink_faults state source out starter = record {
+  left = remaining source;
+  source_faults = source_faults source;
+  held = contents out;
+  sink_faults = sink_faults out;
+  starter = state starter;
+}
+
+-- that of a source and a starter, beside a sink that holds nothing
+abbrev pub standing : {R P L : Type 0} → (R → Option (List ℕ)) → (R → ℕ) → (P → StarterState L) → R → P → Around L
+standing remaining source_faults state source starter = record {
+  left = remaining source;
+  source_faults = source_faults source;
+  held = None;
+  sink_faults = 0;
+  starter = state starter;
+}
+
+-- ---- jobs
+
+-- some job has these bytes
+abbrev pub IsAJob : List ℕ → Type 0
+IsAJob bytes = (job : PlainJob) × IsJob bytes job
+
+-- no job has these bytes: there are more than a job may have, or they have not its form
+abbrev pub IsNoJob : List ℕ → Type 0
+IsNoJob bytes = (job : PlainJob) → IsJob bytes job → ⊥
+
+-- the first fault of a job is of this kind
+abbrev pub IsFaultOf : EncodeRefusal → Option Fault → Type 0
+IsFaultOf EnumMissingMember fault = (type : List ℕ) × (id : List ℕ) × (fault ≡ Some (MemberFault type id))
+IsFaultOf EncodeStringFailed fault = (text : List ℕ) × (fault ≡ Some (StringFault text))
+IsFaultOf EncodePatternFailed fault = (pattern : List PatternPart) × (fault ≡ Some (PatternFault pattern))
+IsFaultOf EmptyEnum fault = (type : List ℕ) × (fault ≡ Some (EnumFault type))
+IsFaultOf MalformedRecordGet fault = fault ≡ Some NoOperandFault
+IsFaultOf MissingTypeEncoding fault = (type : PlainType) × (fault ≡ Some (TypeFault type))
+IsFaultOf ExpectRecord fault = (type : PlainType) × (fault ≡ Some (NoRecordFault type))
+IsFaultOf RecordMissingAttr fault = (attribute : List ℕ) × (fault ≡ Some (AttributeFault attribute))
+
+abbrev pub HasFaultOf : EncodeRefusal → List ℕ → Type 0
+HasFaultOf kind bytes = (job : PlainJob) × IsJob bytes job × IsFaultOf kind (fault_of job)
+
+abbrev pub IsTooLong : List ℕ → Type 0
+IsTooLong bytes = greatest_length < length bytes
+
+abbrev pub HasNoForm : List ℕ → Type 0
+HasNoForm bytes = (length bytes ≤ greatest_length) × IsNoJob bytes
+
+-- the script of what is built of a job
+abbrev pub script_of_job : PlainJob → List ℕ
+script_of_job job = text job.enums (map built job.terms)
+
+-- ---- steps: `failed` is the fact that a count of faults rose
+
+-- why no job was read
+abbrev pub HasReadCause : (left : Option (List ℕ)) → (failed : Type 0) → ReadRefusal → Type 0
+HasReadCause left failed (ReadJob TooLarge) = IfSome left IsTooLong
+HasReadCause left failed (ReadJob BadForm) = IfSome left HasNoForm
+HasReadCause left failed ReadSource = failed
+HasReadCause left failed ReadWant = ⊤
+
+-- why no script was put of terms with this first fault
+abbrev pub HasPrintCause : Option Fault → (failed : Type 0) → PrintRefusal → Type 0
+HasPrintCause fault failed (PrintEncode kind) = IsFaultOf kind fault
+HasPrintCause fault failed PrintSink = failed
+HasPrintCause fault failed PrintWant = ⊤
+
+-- why a text was not put
+abbrev pub HasPutCause : (failed : Type 0) → Refusal → Type 0
+HasPutCause failed Sink = failed
+HasPutCause failed Memory = ⊤
+HasPutCause failed refusal = ⊥
+
+-- ---- runs
+
+module _ {L : Type 0} where
+  abbrev pub SourceFailed : (before after : Around L) → Type 0
+  SourceFailed before after = Rose before.source_faults after.source_faults
+
+  abbrev pub SinkFailed : (before after : Around L) → Type 0
+  SinkFailed before after = Rose before.sink_faults after.sink_faults
+
+  abbrev pub StartFailed : (before after : Around L) → Type 0
+  StartFailed before after = Rose before.starter.failed_starts after.starter.failed_starts
+
+  -- why `script` was refused; a script is put only of a job
+  abbrev pub HasScriptCause : (before after : Around L) → Refusal → Type 0
+  HasScriptCause before after Usage = ⊥
+  HasScriptCause before after (Job TooLarge) = IfSome before.left IsTooLong
+  HasScriptCause before after (Job BadForm) = IfSome before.left HasNoForm
+  HasScriptCause before after (Encode kind) = IfSome before.left (HasFaultOf kind)
+  HasScriptCause before after Source = SourceFailed before after
+  HasScriptCause before after Sink = SinkFailed before after × IfSome before.left IsAJob
+  HasScriptCause before after Start = ⊥
+  HasScriptCause before after (Session kind) = ⊥
+  HasScriptCause before after Memory = ⊤
+
+  -- why there is no verdict on the job of these bytes
+  abbrev pub IsUnchecked : (state : L → LinkState) → SolverCall → (before after : Around L) → SessionFault → List ℕ → Type 0
+  IsUnchecked state call before after kind bytes = (job : PlainJob) × IsJob bytes job × WhyUnchecked state before.starter after.starter call (script_of_job job) (CheckSession kind)
+
+  -- why `check` was refused; where the verdict was not put, the link had come back
+  abbrev pub HasCheckCause : (state : L → LinkState) → SolverCall → (before after : Around L) → Refusal → Type 0
+  HasCheckCause state call before after Usage = ⊥
+  HasCheckCause state call before after (Job TooLarge) = IfSome before.left IsTooLong
+  HasCheckCause state call before after (Job BadForm) = IfSome before.left HasNoForm
+  HasCheckCause state call before after (Encode kind) = IfSome before.left (HasFaultOf kind)
+  HasCheckCause state call before after Source = SourceFailed before after
+  HasCheckCause state call before after Sink = SinkFailed before after × IfSome before.left IsAJob × IfSome before.left (λ bytes. Returns (λ link. ⊤) before.starter after.starter call)
+  HasCheckCause state call before after Start = StartFailed before after × IfSome before.left IsAJob
+  HasCheckCause state call before after (Session kind) = IfSome before.left (IsUnchecked state call before after kind)
+  HasCheckCause state call before after Memory = ⊤
+
+  -- why what was asked for was refused
+  abbrev pub HasCause : (state : L → LinkState) → Option Command → SolverCall → (before after : Around L) → Refusal → Type 0
+  HasCause state (Some Script) call before after refusal = HasScriptCause before after refusal
+  HasCause state (Some Check) call before after refusal = HasCheckCause state call before after refusal
+  HasCause state (Some Help) call before after refusal = HasPutCause (SinkFailed before after) refusal
+  HasCause state (Some Version) call before after refusal = HasPutCause (SinkFailed before after) refusal
+  HasCause state None call before after refusal = refusal ≡ Usage
+
+-- What a sink holds behind a refusal: what it held, where the words, the source or the job were refused, or no verdict came.
+abbrev pub LeavesOutput : (old new : Option (List ℕ)) → Refusal → Type 0
+LeavesOutput old new Usage = new ≡ old
+LeavesOutput old new (Job why) = new ≡ old
+LeavesOutput old new Source = new ≡ old
+LeavesOutput old new Start = new ≡ old
+LeavesOutput old new (Session kind) = new ≡ old
+LeavesOutput old new refusal = ⊤

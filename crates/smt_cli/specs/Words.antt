@@ -1,0 +1,28 @@
+-- What words ask for, and the texts that some of them print.
+use Rattle.std.specs.Prelude.{ℕ, if◌then◌else◌, bytes_eq, codes, List, [], ◌∷◌, Option, Some, None}
+use Rattle.smt_solve.specs.Starter.{Command as SolverCall}
+use Rattle.smt_cli.specs.declared.command.Command.{Command}
+use Rattle.smt_cli.specs.declared.command.Command.TheVariants.{Script, Check, Help, Version}
+
+-- what one word asks for; None where it is no command
+abbrev pub word_asks : List ℕ → Option Command
+word_asks w =
+    if bytes_eq w (codes "script") then Some Script
+    else (if bytes_eq w (codes "--help") then Some Help else (if bytes_eq w (codes "--version") then Some Version else None))
+
+-- what words ask for: `check` has at least the path of a solver behind it
+abbrev pub commanded : List (List ℕ) → Option Command
+commanded [] = None
+commanded (w ∷ []) = word_asks w
+commanded (w ∷ path ∷ args) = if bytes_eq w (codes "check") then Some Check else None
+
+-- the solver that stands behind the first word, with its arguments
+abbrev pub solver_named : List (List ℕ) → SolverCall
+solver_named (w ∷ path ∷ args) = record { program = path; args = args }
+solver_named words = record { program = []; args = [] }
+
+abbrev pub help_text : List ℕ
+help_text = codes "usage: smtcli script or check PATH ARGS..\n\nscript  reads a job from standard input and prints its script in SMT-LIB 2.7\ncheck   reads a job from standard input, asks the solver PATH with these ARGS whether all its terms can be true together, and\n        prints sat, unsat or unknown; for example: smtcli check cvc5 --lang smt < FILE\n\njob:  (job (enums) (vars (\"id\" TYPE) ..) (funs) (terms t ..))\nTYPE: Bool or (BitVec N)\nterm: true, false, (var \"id\"), (bv W N), (long \"-5\"), (zero_extend N t) or (name t ..)\nname: not and or eq ite bvneg bvadd bvsub bvmul bvudiv bvurem bvsdiv bvsrem bvsmod bvshl bvlshr\n      bvult bvule bvslt bvsle bvnego bvsaddo bvssubo bvsmulo\n\nstatus: 0 done, 2 no such command, 3 job refused, 4 no script for a term, 5 source fault, 6 sink fault, 7 out of memory,\n        8 session fault, 9 the solver did not start\n"
+
+abbrev pub version_text : List ℕ
+version_text = codes "smtcli 0.1.0\n"
