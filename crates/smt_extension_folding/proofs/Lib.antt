@@ -6,6 +6,7 @@ pub mod Containment
 pub mod Days
 pub mod Decimals
 pub mod Durations
+pub mod Examples
 pub mod FreeBits
 pub mod FunctionsAlike
 pub mod FunctionsKeep

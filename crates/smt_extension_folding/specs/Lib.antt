@@ -1,4 +1,5 @@
 pub mod Bounds
+pub mod Examples
 pub mod ExtensionFunctions
 pub mod Laws
 pub mod Literals

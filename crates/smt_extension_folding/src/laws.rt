@@ -1,4 +1,5 @@
 //! Laws of the functions on values of the extension types, proved with no code.
+ghost use Rattle.smt_extension_folding.specs.Examples.{ContainmentExamples, RuleExamples, TimeExamples};
 ghost use Rattle.smt_extension_folding.specs.Laws.{ContainmentIsTold, DatetimesAreMoved, DatetimesAreSplit, DecimalsAreCompared, DurationsAreMeasured, ExtensionFunctionsAreFolded, FamiliesAreTold, FreeBitsAreCounted, RangesAreBlocks, RangesAreBounded};
 ghost use Rattle.smt_extension_folding.specs.Rows.{DecimalRows, IpRows, TimeRows};
 ghost use Rattle.smt_extension_folding.specs.Rules.{RulesAreKept};
@@ -50,4 +51,11 @@ pub fn extension_function_rows()
     ensures decimals { DecimalRows }
     ensures ranges { IpRows }
     ensures times { TimeRows }
+{}
+
+/// The functions at a variable, by the values that an interpretation gives it, and rules on IP ranges.
+pub fn values_of_extension_functions()
+    ensures containment { ContainmentExamples }
+    ensures rules { RuleExamples }
+    ensures times { TimeExamples }
 {}
