@@ -1,0 +1,5 @@
+pub mod Config
+pub mod Lends
+pub mod Pool
+pub mod Pooled
+pub mod Sessions

@@ -1,0 +1,44 @@
+-- What a session has that a pool has handed out, and what guards its calls.
+use Rattle.std.specs.Prelude.{ℕ, ◌≡◌, ◌||◌, Bool, IsTrue, List, is_err, IsErrOf, Result}
+use Rattle.smt_solve.specs.Link.{AllowsTheSame, LinkState}
+use Rattle.smt_solve.specs.Session.{session_failed, session_link, state_by}
+use Rattle.smt_solve.specs.declared.error.SolverError.{SolverError}
+use Rattle.smt_solve.specs.declared.error.SolverError.TheVariants.{SolverMarkedFailed}
+use Rattle.smt_solve.specs.declared.input.SessionInput.{SessionInput}
+use Rattle.smt_solve.specs.declared.session.LocalSolver.{LocalSolver}
+use Rattle.smt_pool.specs.declared.pooled.PooledSolver.{PooledSolver}
+
+-- its session
+abbrev pub pooled_session : {L : Type 0} → PooledSolver L → LocalSolver L
+pooled_session s = s.session
+
+-- its link
+abbrev pub pooled_link : {L : Type 0} → PooledSolver L → L
+pooled_link s = session_link (pooled_session s)
+
+-- what takes its lines
+abbrev pub pooled_input : {L : Type 0} → PooledSolver L → SessionInput L
+pooled_input s = (pooled_session s).input
+
+-- whether it is marked failed
+abbrev pub pooled_marked : {L : Type 0} → PooledSolver L → Bool
+pooled_marked s = s.marked
+
+-- whether it has failed: it is marked, or has answered an error
+abbrev pub pooled_failed : {L : Type 0} → PooledSolver L → Bool
+pooled_failed s = pooled_marked s || session_failed (pooled_session s)
+
+-- the number of the pool that handed it out
+abbrev pub pooled_number : {L : Type 0} → PooledSolver L → ℕ
+pooled_number s = s.number
+
+-- what its link tells
+abbrev pub pooled_state : {L : Type 0} → (L → LinkState) → PooledSolver L → LinkState
+pooled_state state s = state_by state (pooled_session s)
+
+-- A session that has failed does nothing, and says so. After this call it has failed exactly where there is an error.
+pub record Guards {L T : Type 0} (allows : L → List ℕ → List ℕ → List ℕ → Type 0) (old new : PooledSolver L) (result : Result T SolverError) : Type 0 where
+  pub marked : IsTrue (pooled_failed old) → IsErrOf result SolverMarkedFailed × (pooled_link new ≡ pooled_link old)
+  pub failed : pooled_failed new ≡ is_err result
+  pub same_number : pooled_number new ≡ pooled_number old
+  pub same_allows : AllowsTheSame (allows (pooled_link old)) (allows (pooled_link new))
