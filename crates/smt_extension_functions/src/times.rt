@@ -1,9 +1,10 @@
 //! The arithmetic of datetimes and durations.
 
 ghost use Rattle.std.specs.Prelude.{◌≡◌, IfOk};
-ghost use Rattle.smt_arithmetic.specs.BitOperators.{BvsremOp};
+ghost use Rattle.smt_arithmetic.specs.BitOperators.{BvaddOp, BvsaddoOp, BvsleOp, BvsremOp, BvssuboOp, BvsubOp};
 ghost use Rattle.smt_extension_folding.specs.ExtensionFunctions.{day_literal, difference_as, duration_since, offset, since_midnight, sum_as, to_date, to_days, to_hours, to_milliseconds, to_minutes, to_seconds, to_time};
 ghost use Rattle.smt_extension_functions.specs.Days.{a_day_more};
+ghost use Rattle.smt_folding.specs.Applications.{bits_literal};
 ghost use Rattle.smt_folding.specs.Builder.{applied, folding};
 ghost use Rattle.smt_folding.specs.Refinement.{Refines};
 ghost use Rattle.smt_leaves.specs.ExtensionView.{plain_extension_op};
@@ -93,16 +94,54 @@ pub fn to_days(alloc: Global, t: Term) -> Result<Term, TermError>
 fn sum_as(alloc: Global, op: ExtOp, x: &Term, y: &Term) -> Result<Term, TermError>
     ensures { IfOk result (λ r. plain_term r ≡ sum_as folding (plain_extension_op op) (plain_term x.now) (plain_term y.now)) }
 {
-    let sum = extension(alloc, op, bvadd(alloc, x.share()?, y.share()?)?)?;
-    if_false(alloc, bvsaddo(alloc, x.share()?, y.share()?)?, sum)
+    let sum = extension(alloc, op, sum_of(alloc, x, y)?)?;
+    let leaves = sum_leaves(alloc, x, y)?;
+    if_false(alloc, leaves, sum)
+}
+
+// The sum of two numbers.
+fn sum_of(alloc: Global, x: &Term, y: &Term) -> Result<Term, TermError>
+    ensures { IfOk result (λ r. plain_term r ≡ folding.bits BvaddOp (plain_term x.now) (plain_term y.now)) }
+{
+    let x = x.share()?;
+    let y = y.share()?;
+    bvadd(alloc, x, y)
+}
+
+// Whether the sum of two numbers leaves the 64 bits.
+fn sum_leaves(alloc: Global, x: &Term, y: &Term) -> Result<Term, TermError>
+    ensures { IfOk result (λ r. plain_term r ≡ folding.overflow BvsaddoOp (plain_term x.now) (plain_term y.now)) }
+{
+    let x = x.share()?;
+    let y = y.share()?;
+    bvsaddo(alloc, x, y)
 }
 
 // What an operator makes of the difference of two numbers, none where it leaves the 64 bits.
 fn difference_as(alloc: Global, op: ExtOp, x: &Term, y: &Term) -> Result<Term, TermError>
     ensures { IfOk result (λ r. plain_term r ≡ difference_as folding (plain_extension_op op) (plain_term x.now) (plain_term y.now)) }
 {
-    let difference = extension(alloc, op, bvsub(alloc, x.share()?, y.share()?)?)?;
-    if_false(alloc, bvssubo(alloc, x.share()?, y.share()?)?, difference)
+    let difference = extension(alloc, op, difference_of(alloc, x, y)?)?;
+    let leaves = difference_leaves(alloc, x, y)?;
+    if_false(alloc, leaves, difference)
+}
+
+// The difference of two numbers.
+fn difference_of(alloc: Global, x: &Term, y: &Term) -> Result<Term, TermError>
+    ensures { IfOk result (λ r. plain_term r ≡ folding.bits BvsubOp (plain_term x.now) (plain_term y.now)) }
+{
+    let x = x.share()?;
+    let y = y.share()?;
+    bvsub(alloc, x, y)
+}
+
+// Whether the difference of two numbers leaves the 64 bits.
+fn difference_leaves(alloc: Global, x: &Term, y: &Term) -> Result<Term, TermError>
+    ensures { IfOk result (λ r. plain_term r ≡ folding.overflow BvssuboOp (plain_term x.now) (plain_term y.now)) }
+{
+    let x = x.share()?;
+    let y = y.share()?;
+    bvssubo(alloc, x, y)
 }
 
 /// Some of the datetime that lies a duration after a datetime; none where that leaves the 64 bits.
@@ -168,10 +207,26 @@ fn folded_to_time(alloc: Global, datetime: Term) -> Result<Term, TermError>
 fn since_midnight(alloc: Global, number: &Term) -> Result<Term, TermError>
     ensures { IfOk result (λ r. plain_term r ≡ since_midnight folding (plain_term number.now) (folding.bits BvsremOp (plain_term number.now) day_literal)) }
 {
-    let left = bvsrem(alloc, number.share()?, Term::from(MILLISECONDS_IN_A_DAY))?;
+    let left = left_of_day(alloc, number)?;
     let before_1970 = a_day_more(alloc, &left)?;
-    let is_after_1970 = bvsle(alloc, Term::from(0i64), number.share()?)?;
+    let is_after_1970 = is_after_1970(alloc, number)?;
     ite(alloc, is_after_1970, left, before_1970)
+}
+
+// What division by a day leaves of a number.
+fn left_of_day(alloc: Global, number: &Term) -> Result<Term, TermError>
+    ensures { IfOk result (λ r. plain_term r ≡ folding.bits BvsremOp (plain_term number.now) day_literal) }
+{
+    let number = number.share()?;
+    bvsrem(alloc, number, Term::from(MILLISECONDS_IN_A_DAY))
+}
+
+// Whether a number is that of 1970 or later.
+fn is_after_1970(alloc: Global, number: &Term) -> Result<Term, TermError>
+    ensures { IfOk result (λ r. plain_term r ≡ folding.test BvsleOp (bits_literal 64 0) (plain_term number.now)) }
+{
+    let number = number.share()?;
+    bvsle(alloc, Term::from(0i64), number)
 }
 
 // A day more than a number, where it is not zero.
