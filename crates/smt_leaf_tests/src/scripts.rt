@@ -5,7 +5,7 @@ ghost use Rattle.smt_characters.specs.LineTexts.{declare_const_text};
 ghost use Rattle.smt_script.specs.Memory.{memory_bytes, memory_has_room};
 
 use smt_script::{
-    BufferedSink, ListSink, MemorySink, Sink, SinkError, SmtLibScript, Text, WriteSink,
+    BufferedSink, CountSink, ListSink, MemorySink, Sink, SinkError, SmtLibScript, Text, WriteSink,
 };
 use std::alloc::{AllocError, Global};
 use std::io::{self, Write};
@@ -256,4 +256,27 @@ fn flushes_fail(rt: HostRuntime) -> Result<(), Fail> {
     assert_eq!(rt; sink.flush(), Err(SinkError::Fault));
     assert_eq!(rt; writer.bytes.as_slice(), b"a\nb\n".as_slice());
     Ok(())
+}
+
+/// How many bytes these pieces have, and their sum, as a sink that counts says it.
+fn counted(pieces: &[&str]) -> Result<(u64, u64), SinkError> {
+    let mut sink = CountSink::new();
+    for piece in pieces {
+        sink.put(piece.as_bytes())?;
+    }
+    Ok((sink.bytes(), sink.sum()))
+}
+
+#[test]
+fn bytes_are_counted(rt: HostRuntime) {
+    let rows: [(&[&str], u64, u64); 5] = [
+        (&[], 0, 0),
+        (&["", ""], 0, 0),
+        (&["abc"], 3, 294),
+        (&["(assert ", "t0", ")\n"], 12, 945),
+        (&["é", "~"], 3, 490),
+    ];
+    for (pieces, bytes, sum) in &rows {
+        assert_eq!(rt; counted(pieces), Ok((*bytes, *sum)));
+    }
 }

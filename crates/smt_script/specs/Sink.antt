@@ -53,6 +53,10 @@ untold s = None
 abbrev pub uncertain : {S : Type 0} → S → ℕ → Type 0
 uncertain s n = ⊥
 
+-- It certainly takes any number of bytes.
+abbrev pub certain : {S : Type 0} → S → ℕ → Type 0
+certain s n = Unit {0}
+
 -- It never fails.
 abbrev pub faultless : {S : Type 0} → S → ℕ
 faultless s = 0

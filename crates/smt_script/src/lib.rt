@@ -8,12 +8,15 @@
 #![tactic(auto)]
 
 mod bytes;
+mod count;
 mod memory;
 mod script;
 mod sink;
+mod told;
 mod writer;
 
 pub use bytes::Bytes;
+pub use count::CountSink;
 pub use memory::{ListSink, MemorySink};
 pub use script::SmtLibScript;
 pub use sink::{Sink, SinkError};
