@@ -1,0 +1,7 @@
+pub mod Addresses
+pub mod Datetimes
+pub mod Decimals
+pub mod Durations
+pub mod Examples
+pub mod Ranges
+pub mod Signs
