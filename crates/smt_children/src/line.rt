@@ -1,11 +1,10 @@
 // Lines out of a buffered reader.
-ghost use Rattle.std.specs.Prelude.{◌≤◌, ◌<◌, length, take, drop, Some};
-ghost use Rattle.smt_solve.specs.Link.{EndsAs};
+ghost use Rattle.std.specs.Prelude.{◌<◌};
 ghost use Rattle.smt_script.specs.Bytes.{bytes_in};
 ghost use Rattle.smt_children.specs.Line.{AppendsLine, AppendsStep};
 
 use smt_script::Bytes;
-use smt_solve::LineEnd;
+use smt_solve::{LineEnd, next_line};
 use std::io;
 use std::io::{BufRead, ErrorKind};
 
@@ -16,24 +15,6 @@ pub(crate) enum Step {
     More(usize),
     /// The line has ended.
     Ended(LineEnd),
-}
-
-/// How many bytes the next line has, at most `limit`, and how it ends.
-fn next_line(bytes: &[u8], limit: usize) -> (usize, LineEnd)
-    ensures within { result.0 ≤ length bytes.now }
-    ensures ending { EndsAs result.1 (take result.0 bytes.now) limit (Some (drop result.0 bytes.now)) }
-{
-    let mut at = 0;
-    while at < limit {
-        if at == bytes.len() {
-            return (at, LineEnd::End);
-        }
-        if bytes[at] == b'\n' {
-            return (at + 1, LineEnd::Line);
-        }
-        at += 1;
-    }
-    (at, LineEnd::TooLong)
 }
 
 /// Appends what the reader has at hand of the line, at most `room` bytes.

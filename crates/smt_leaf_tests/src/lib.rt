@@ -1,7 +1,7 @@
 //! Tests of what stands without terms: the values and leaves of which terms are made, as bitvectors, values of the extension
-//! types, entities, tables of enum types, sets of texts and patterns; texts between quotes and S-expressions; and the lines
-//! of a script. They stand outside the crates that they call: a crate with tests is proved twice, with them and without, and
-//! here they are proved alone.
+//! types, entities, tables of enum types, sets of texts and patterns; texts between quotes and S-expressions; the lines of a
+//! script; sessions with solvers over links in memory, and pools of them. They stand outside the crates that they call: a crate
+//! with tests is proved twice, with them and without, and here they are proved alone.
 #![tactic(auto)]
 
 #[cfg(test)]
@@ -15,7 +15,11 @@ mod extensions;
 #[cfg(test)]
 mod patterns;
 #[cfg(test)]
+mod pools;
+#[cfg(test)]
 mod scripts;
+#[cfg(test)]
+mod sessions;
 #[cfg(test)]
 mod sets;
 #[cfg(test)]

@@ -7,4 +7,4 @@ use Rattle.smt_pool.specs.declared.pooled.PooledSolver.{PooledSolver}
 
 module _ (L : RattleType) (s : MutBor (PooledSolver L.Denot)) where
   abbrev pub LendsInput : MutBor (SessionInput L.Denot) → Fml
-  LendsInput r = Lends (the_row L) (input_row L) s r (λ w. record { session = record { input = w; alloc = s.now.session.alloc }; marked = s.now.marked; number = s.now.number })
+  LendsInput r = Lends (the_row L) (input_row L) s r (λ w. record { session = record { input = w; alloc = s.now.session.alloc }; number = s.now.number })

@@ -1,9 +1,8 @@
 -- What a session has that a pool has handed out, and what guards its calls.
-use Rattle.std.specs.Prelude.{ℕ, ◌≡◌, ◌||◌, Bool, IsTrue, List, is_err, IsErrOf, Result}
-use Rattle.smt_solve.specs.Link.{AllowsTheSame, LinkState}
-use Rattle.smt_solve.specs.Session.{session_failed, session_link, state_by}
+use Rattle.std.specs.Prelude.{ℕ, ◌≡◌, Bool, List, Result}
+use Rattle.smt_solve.specs.Link.{LinkState}
+use Rattle.smt_solve.specs.Session.{Guards as SessionGuards, session_failed, session_link, state_by}
 use Rattle.smt_solve.specs.declared.error.SolverError.{SolverError}
-use Rattle.smt_solve.specs.declared.error.SolverError.TheVariants.{SolverMarkedFailed}
 use Rattle.smt_solve.specs.declared.input.SessionInput.{SessionInput}
 use Rattle.smt_solve.specs.declared.session.LocalSolver.{LocalSolver}
 use Rattle.smt_pool.specs.declared.pooled.PooledSolver.{PooledSolver}
@@ -20,13 +19,9 @@ pooled_link s = session_link (pooled_session s)
 abbrev pub pooled_input : {L : Type 0} → PooledSolver L → SessionInput L
 pooled_input s = (pooled_session s).input
 
--- whether it is marked failed
-abbrev pub pooled_marked : {L : Type 0} → PooledSolver L → Bool
-pooled_marked s = s.marked
-
--- whether it has failed: it is marked, or has answered an error
+-- whether its session has failed: it was marked, or has answered an error
 abbrev pub pooled_failed : {L : Type 0} → PooledSolver L → Bool
-pooled_failed s = pooled_marked s || session_failed (pooled_session s)
+pooled_failed s = session_failed (pooled_session s)
 
 -- the number of the pool that handed it out
 abbrev pub pooled_number : {L : Type 0} → PooledSolver L → ℕ
@@ -36,9 +31,7 @@ pooled_number s = s.number
 abbrev pub pooled_state : {L : Type 0} → (L → LinkState) → PooledSolver L → LinkState
 pooled_state state s = state_by state (pooled_session s)
 
--- A session that has failed does nothing, and says so. After this call it has failed exactly where there is an error.
+-- A call goes as one of its session, which guards it: one that has failed does nothing, and says so. The number stays.
 pub record Guards {L T : Type 0} (allows : L → List ℕ → List ℕ → List ℕ → Type 0) (old new : PooledSolver L) (result : Result T SolverError) : Type 0 where
-  pub marked : IsTrue (pooled_failed old) → IsErrOf result SolverMarkedFailed × (pooled_link new ≡ pooled_link old)
-  pub failed : pooled_failed new ≡ is_err result
+  pub session : SessionGuards allows (pooled_session old) (pooled_session new) result
   pub same_number : pooled_number new ≡ pooled_number old
-  pub same_allows : AllowsTheSame (allows (pooled_link old)) (allows (pooled_link new))

@@ -11,6 +11,3 @@ pub use config::SolverPoolConfig;
 pub use error::{PoolRefused, SolverPoolError};
 pub use pool::SolverPool;
 pub use pooled::PooledSolver;
-
-#[cfg(test)]
-mod tests;

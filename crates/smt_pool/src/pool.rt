@@ -145,7 +145,6 @@ impl<P: Starter> SolverPool<P> {
         self.permits -= 1;
         Ok(PooledSolver {
             session,
-            marked: false,
             number: self.number,
         })
     }
@@ -168,11 +167,10 @@ impl<P: Starter> SolverPool<P> {
     {
         let PooledSolver {
             mut session,
-            marked,
             number: _,
         } = s;
         self.permits += 1;
-        if marked || session.is_failed() {
+        if session.is_failed() {
             return finish_session(&mut self.starter, session);
         }
         match reset_session(&mut session) {

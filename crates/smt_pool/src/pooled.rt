@@ -17,7 +17,6 @@ use smt_solve::{
 #[derive(Debug)]
 pub struct PooledSolver<L> {
     pub(crate) session: LocalSolver<L>,
-    pub(crate) marked: bool,
     pub(crate) number: u64,
 }
 
@@ -29,13 +28,13 @@ impl<L: Link> PooledSolver<L> {
         self.number
     }
 
-    /// Marks the session failed, so that it asks nothing more and the pool does not keep it.
+    /// Marks the session failed, as `LocalSolver::mark_failed` does: it sends and asks nothing more, and the pool does not keep it.
     pub fn mark_failed(&mut self)
         ensures failed { pooled_failed self.new ≡ true }
         ensures link { pooled_link self.new ≡ pooled_link self.old }
         ensures number { pooled_number self.new ≡ pooled_number self.old }
     {
-        self.marked = true;
+        self.session.mark_failed();
     }
 
     /// The link.
@@ -67,9 +66,6 @@ impl<L: Link> Solver for PooledSolver<L> {
         ensures sends { pooled_failed self.old ≡ false →
             SendsCommand (pooled_state L.state self.old) (pooled_state L.state self.new) enable_models_text result }
     {
-        if self.marked {
-            return Err(SolverError::SolverMarkedFailed);
-        }
         self.session.enable_models()
     }
 
@@ -84,9 +80,6 @@ impl<L: Link> Solver for PooledSolver<L> {
         ensures asks { pooled_failed self.old ≡ false →
             AsksDecision (L.allows (pooled_link self.old)) (pooled_state L.state self.old) (pooled_state L.state self.new) result }
     {
-        if self.marked {
-            return Err(SolverError::SolverMarkedFailed);
-        }
         self.session.check_sat()
     }
 
@@ -101,9 +94,6 @@ impl<L: Link> Solver for PooledSolver<L> {
         ensures asks { pooled_failed self.old ≡ false →
             AsksWithModel (L.allows (pooled_link self.old)) (pooled_state L.state self.old) (pooled_state L.state self.new) result }
     {
-        if self.marked {
-            return Err(SolverError::SolverMarkedFailed);
-        }
         self.session.check_sat_with_model()
     }
 }

@@ -22,6 +22,7 @@ pub use command::{SolverCommand, TextList};
 pub use error::SolverError;
 pub use failed_writer::FailedWriter;
 pub use input::SessionInput;
+pub use line::next_line;
 pub use link::{Ended, LineEnd, Link, LinkError};
 pub use list::LinkList;
 pub use memory::MemoryLink;
@@ -31,6 +32,3 @@ pub use question::LINE_LIMIT;
 pub use session::{LocalSolver, Solver};
 pub use starter::{StartError, Starter};
 pub use writer_solver::WriterSolver;
-
-#[cfg(test)]
-mod tests;

@@ -1,5 +1,5 @@
 // A session with a solver, over a link.
-ghost use Rattle.std.specs.Prelude.{◌≡◌, ◌||◌, [], ◌∷◌, IfOk, false, is_err};
+ghost use Rattle.std.specs.Prelude.{◌≡◌, ◌||◌, [], ◌∷◌, IfOk, true, false, is_err};
 ghost use Rattle.std.specs.Borrow.{sem};
 ghost use Rattle.smt_characters.specs.SharedTexts.{texts};
 ghost use Rattle.smt_solve.specs.Cvc5.{cvc5_command, cvc5_limit};
@@ -42,8 +42,8 @@ pub trait Solver {
 
 /// A session with a solver behind a link.
 ///
-/// After any error it has failed: it sends nothing more, and answers `SolverMarkedFailed` to each question. It may still be
-/// cleaned up.
+/// After any error it has failed, and so it has once it was marked: it sends nothing more, and answers `SolverMarkedFailed` to
+/// each question. It may still be cleaned up.
 #[derive(Debug, Drop)]
 pub struct LocalSolver<L> {
     pub(crate) input: SessionInput<L>,
@@ -157,6 +157,17 @@ impl<L: Link> LocalSolver<L> {
         ensures { result ≡ session_failed self.now }
     {
         self.input.failed
+    }
+
+    /// Marks the session failed, and sends nothing. It takes no memory and never fails.
+    ///
+    /// The session is then as it is after an error: a put or a flush on its input sends nothing and answers `Fault`, and each
+    /// question is answered `SolverMarkedFailed`.
+    pub fn mark_failed(&mut self)
+        ensures failed { session_failed self.new ≡ true }
+        ensures link { session_link self.new ≡ session_link self.old }
+    {
+        self.input.failed = true;
     }
 
     /// Ends the session, and gives its link back.

@@ -1,3 +1,4 @@
+pub mod HandedOut
 pub mod Honesty
 pub mod Joined
 pub mod Verdicts

@@ -1,4 +1,5 @@
 //! Laws of verdicts, proved with no code.
+ghost use Rattle.smt_verdicts.specs.HandedOut.{BlankScriptsAreEmpty, ExitStays, HandOutsAreBlank, HoldersStandAlone, ResetLeavesNothing};
 ghost use Rattle.smt_verdicts.specs.Joined.{ScriptsJoin, TextsJoin};
 ghost use Rattle.smt_verdicts.specs.Verdicts.{AnyLineIsNotHonest, ChecksAreInTurn, LogicIsBlank, SilenceIsHonest, UnsatIsBelieved};
 
@@ -18,6 +19,18 @@ pub fn checks_are_in_turn()
 pub fn unsat_is_believed()
     ensures logic { LogicIsBlank }
     ensures believed { UnsatIsBelieved }
+{}
+
+/// `(reset)` leaves nothing of whole commands before it, unless one of them is `(exit)`.
+///
+/// So a session is handed out with nothing declared or asserted where each of those that held it before left whole commands
+/// without `(exit)`, and what the next holder sends comes to what it would come to alone.
+pub fn hand_outs_are_blank()
+    ensures reset { ResetLeavesNothing }
+    ensures holders { HandOutsAreBlank }
+    ensures empty { BlankScriptsAreEmpty }
+    ensures alone { HoldersStandAlone }
+    ensures ended { ExitStays }
 {}
 
 /// A link that gives no line is honest, and one that may give any line is not.

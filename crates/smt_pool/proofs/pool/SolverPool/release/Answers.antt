@@ -1,13 +1,9 @@
-use Rattle.std.proofs.Common.{◌≡◌, Bool, false, ◌||◌, refl, subst, sym}
-use Rattle.smt_solve.specs.Session.{session_failed}
+use Rattle.std.proofs.Common.{refl, sym}
 use Rattle.smt_pool.proofs.pool.SolverPool.release.Goals as goal
-
-neither : (first second : Bool) → first ≡ false → false ≡ second → (first || second) ≡ false
-neither first second e f = subst (λ (b : Bool). (b || second) ≡ false) (sym e) (sym f)
 
 pub returns-in-Ok-clause-kept : goal.returns-in-Ok-clause-kept
 returns-in-Ok-clause-kept g c = λ _. record {
-  unfailed = neither c.args.s.marked (session_failed c.args.s.session) c.if-marked.false c.if-is_failed.ensures;
+  unfailed = sym c.if-is_failed.ensures;
   session = c.reset_session.new.session;
   last = c.push_back_reserved.ensures.items;
   reset = c.in-Ok.ensures.resets.sent;

@@ -1,11 +1,12 @@
-// Pools over links in memory.
+//! Pools over links in memory.
+
 ghost use Rattle.std.specs.Prelude.{◌≡◌, IfOk};
 ghost use Rattle.smt_solve.specs.MemoryStarter.{memory_starter_state};
 ghost use Rattle.smt_pool.specs.Pool.{IsSamePool, pool_state};
 ghost use Rattle.smt_pool.specs.Pooled.{pooled_number};
 
-use crate::*;
-use smt_script::SmtLibScript;
+use smt_pool::{PooledSolver, SolverPool, SolverPoolConfig, SolverPoolError};
+use smt_script::{SinkError, SmtLibScript};
 use smt_solve::{
     Decision, LinkList, MemoryLink, MemoryStarter, Solver, SolverCommand, SolverError,
 };
@@ -151,6 +152,25 @@ fn failed_sessions(rt: HostRuntime) -> Result<(), Fail> {
         assert!(rt; (pool.available_count(), pool.permits_available()) == (0, 2));
         assert_eq!(rt; pool.starter().returned().len(), 1);
     }
+    Ok(())
+}
+
+/// A session that is only marked failed sends nothing that is put to its input.
+#[test]
+fn marked_sessions(rt: HostRuntime) -> Result<(), Fail> {
+    let starter = starter_of(rt.alloc(), &[b"sat\n".as_slice()], &[], &[])?;
+    let mut pool = pool_of(rt.alloc(), sessions(0, 1), starter)?;
+    let mut s = pool.acquire()?;
+    let before = s.smtlib_input().assert("true");
+    s.mark_failed();
+    let behind = s.smtlib_input().assert("false");
+    assert!(rt; (before, behind) == (Ok(()), Err(SinkError::Fault)));
+    assert_eq!(rt; s.link().sent(), b"(assert true)\n".as_slice());
+    assert!(rt; pool.release(s) == Ok(false));
+    for link in pool.starter().returned() {
+        assert_eq!(rt; link.sent(), b"(assert true)\n".as_slice());
+    }
+    assert_eq!(rt; pool.starter().returned().len(), 1);
     Ok(())
 }
 

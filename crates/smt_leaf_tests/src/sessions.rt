@@ -1,6 +1,11 @@
-// Sessions over links in memory, row by row.
-use crate::*;
+//! Sessions over links in memory, row by row.
+
 use smt_script::{Bytes, ListSink, Sink, SinkError, SmtLibScript, Text};
+use smt_solve::{
+    Decision, DecisionWithModel, Ended, FailedWriter, LINE_LIMIT, LineEnd, Link, LinkError,
+    LinkList, LocalSolver, MemoryLink, MemoryStarter, Solver, SolverCommand, SolverError,
+    StartError, Starter, WriterSolver, next_line,
+};
 use std::alloc::Global;
 use std::process::Abort;
 use std::test::Fail;
@@ -230,6 +235,35 @@ fn scripts(rt: HostRuntime) -> Result<(), Fail> {
         b"(set-option :produce-models true)\n(assert true)\n(check-sat)\n".as_slice()
     );
     Ok(())
+}
+
+/// A session that is marked is as one that has failed, and what was sent before stays sent.
+#[test]
+fn marked_sessions(rt: HostRuntime) -> Result<(), Fail> {
+    let mut solver = session(rt.alloc(), b"sat\nsat\n", &[])?;
+    assert!(rt; solver.check_sat() == Ok(Decision::Sat));
+    solver.mark_failed();
+    expect_refusal(&rt, solver, ("failed before", ""), false);
+    Ok(())
+}
+
+#[test]
+fn next_lines(rt: HostRuntime) {
+    let rows = [
+        ("", 0, (0, LineEnd::TooLong)),
+        ("", 1, (0, LineEnd::End)),
+        ("ab\ncd", 3, (3, LineEnd::Line)),
+        ("ab\ncd", 2, (2, LineEnd::TooLong)),
+        ("\n", 9, (1, LineEnd::Line)),
+        ("ab", 2, (2, LineEnd::TooLong)),
+        ("ab", 3, (2, LineEnd::End)),
+    ];
+    for (bytes, limit, wanted) in rows {
+        assert!(rt;
+            next_line(bytes.as_bytes(), limit) == wanted,
+            "{bytes} {limit}"
+        );
+    }
 }
 
 #[test]
