@@ -11,7 +11,7 @@ use Rattle.smt_cli.specs.Causes.{Around, HasCause, HasCheckCause, HasPutCause, H
 use Rattle.smt_cli.specs.Refusal.{sink_refusal}
 use Rattle.smt_cli.specs.Run.{Checks, IsDone, Prints}
 use Rattle.smt_cli.specs.declared.command.Command.{Command}
-use Rattle.smt_cli.specs.declared.command.Command.TheVariants.{Script, Check, Help, Version}
+use Rattle.smt_cli.specs.declared.command.Command.TheVariants.{Script, Check, Generate, Help, Version}
 use Rattle.smt_cli.specs.declared.refusal.JobRefusal.TheVariants.{TooLarge, BadForm}
 use Rattle.smt_cli.specs.declared.refusal.Refusal.{Refusal}
 use Rattle.smt_cli.specs.declared.refusal.Refusal.TheVariants.{Usage, Job, Encode, Source, Sink, Start, Session, Memory}
@@ -52,6 +52,7 @@ module _ {L : Type 0} (state : L → LinkState) (call : SolverCall) (before afte
   pub cause_stays : (c : Option Command) (r : Refusal) → HasCause state c call before after r → HasCause state c call before flushed r
   cause_stays (Some Script) r h = script_cause r h
   cause_stays (Some Check) r h = check_cause r h
+  cause_stays (Some Generate) r h = text_cause r h
   cause_stays (Some Help) r h = text_cause r h
   cause_stays (Some Version) r h = text_cause r h
   cause_stays None r h = h
@@ -68,23 +69,25 @@ module _ {L : Type 0} (state : L → LinkState) (allows : List ℕ → List ℕ 
   came_back (Some bytes) h = let r = h.checked.decides in record { link = r.link; started = r.started; returned = r.returned; of_link = tt }
 
   -- an error of the flush has its cause, where what was asked for was put
-  flush_cause : (c : Option Command) (error : SinkError) → IsDone state allows call before after c → (error ≡ SinkFault → SinkFailed before after) → HasCause state c call before after (sink_refusal error)
-  flush_cause (Some Script) SinkFault done failed = (failed refl, is_a_job (Prints before.held after.held) before.left (λ bytes p. (p.job, p.is_job)) done.holds)
-  flush_cause (Some Check) SinkFault done failed = (failed refl, is_a_job (Checks state allows call before after) before.left (λ bytes p. (p.checked.job, p.checked.is_job)) done.holds, came_back before.left done.holds)
-  flush_cause (Some Help) SinkFault done failed = failed refl
-  flush_cause (Some Version) SinkFault done failed = failed refl
-  flush_cause (Some Script) SinkWant done failed = tt
-  flush_cause (Some Check) SinkWant done failed = tt
-  flush_cause (Some Help) SinkWant done failed = tt
-  flush_cause (Some Version) SinkWant done failed = tt
-  flush_cause None error done failed = absurd done
+  flush_cause : (generation : Option (ℕ × ℕ)) (c : Option Command) (error : SinkError) → IsDone state allows call before after generation c → (error ≡ SinkFault → SinkFailed before after) → HasCause state c call before after (sink_refusal error)
+  flush_cause generation (Some Script) SinkFault done failed = (failed refl, is_a_job (Prints before.held after.held) before.left (λ bytes p. (p.job, p.is_job)) done.holds)
+  flush_cause generation (Some Check) SinkFault done failed = (failed refl, is_a_job (Checks state allows call before after) before.left (λ bytes p. (p.checked.job, p.checked.is_job)) done.holds, came_back before.left done.holds)
+  flush_cause generation (Some Generate) SinkFault done failed = failed refl
+  flush_cause generation (Some Help) SinkFault done failed = failed refl
+  flush_cause generation (Some Version) SinkFault done failed = failed refl
+  flush_cause generation (Some Script) SinkWant done failed = tt
+  flush_cause generation (Some Check) SinkWant done failed = tt
+  flush_cause generation (Some Generate) SinkWant done failed = tt
+  flush_cause generation (Some Help) SinkWant done failed = tt
+  flush_cause generation (Some Version) SinkWant done failed = tt
+  flush_cause generation None error done failed = absurd done
 
   -- The run's refusal has its cause, where the flush failed.
-  pub flush_refused : {T U : Type 0} (outcome : Result T SinkError) (result : Result U Refusal) (error : SinkError) (c : Option Command) → outcome ≡ Err error → IsErrAnd result (λ x. x ≡ sink_refusal error) → IsDone state allows call before after c
+  pub flush_refused : {T U : Type 0} (outcome : Result T SinkError) (result : Result U Refusal) (error : SinkError) (generation : Option (ℕ × ℕ)) (c : Option Command) → outcome ≡ Err error → IsErrAnd result (λ x. x ≡ sink_refusal error) → IsDone state allows call before after generation c
       → (IsErrOf outcome SinkFault → SinkFailed before after) → IfErr result (HasCause state c call before after)
-  flush_refused outcome (Ok y) error c was e done failed = tt
-  flush_refused outcome (Err x) error c was e done failed =
-      subst (λ (r : Refusal). HasCause state c call before after r) (sym e) (flush_cause c error done (λ fault. failed (was ∙ ap Err fault)))
+  flush_refused outcome (Ok y) error generation c was e done failed = tt
+  flush_refused outcome (Err x) error generation c was e done failed =
+      subst (λ (r : Refusal). HasCause state c call before after r) (sym e) (flush_cause generation c error done (λ fault. failed (was ∙ ap Err fault)))
 
 -- What was asked for is still put behind the flush, which changed nothing that is held.
 module _ {L : Type 0} (state : L → LinkState) (allows : List ℕ → List ℕ → List ℕ → Type 0) (call : SolverCall) (before after : Around L) (faults : ℕ) where
@@ -99,16 +102,18 @@ module _ {L : Type 0} (state : L → LinkState) (allows : List ℕ → List ℕ 
     printed = h.printed;
   }
 
-  still_done : (c : Option Command) → IsDone state allows call before after c → IsDone state allows call before counted c
-  still_done (Some Script) d = d
-  still_done (Some Check) d = record { holds = still_checked before.left d.holds; ended = d.ended }
-  still_done (Some Help) d = d
-  still_done (Some Version) d = d
-  still_done None d = d
+  still_done : (generation : Option (ℕ × ℕ)) (c : Option Command) → IsDone state allows call before after generation c → IsDone state allows call before counted generation c
+  still_done generation (Some Script) d = d
+  still_done generation (Some Check) d = record { holds = still_checked before.left d.holds; ended = d.ended }
+  still_done generation (Some Generate) d = d
+  still_done generation (Some Help) d = d
+  still_done generation (Some Version) d = d
+  still_done generation None d = d
 
-  pub done_stays : {T : Type 0} (outcome : Result T Refusal) (x : T) (c : Option Command) (held : Option (List ℕ)) → outcome ≡ Ok x → OnOk outcome (IsDone state allows call before after c) → held ≡ after.held → IsDone state allows call before (record after { held = held; sink_faults = faults }) c
-  done_stays (Ok y) x c held was done same = subst (λ (h : Option (List ℕ)). IsDone state allows call before (record after { held = h; sink_faults = faults }) c) (sym same) (still_done c done)
-  done_stays (Err r) x c held was done same = absurd (cc)
+  pub done_stays : {T : Type 0} (outcome : Result T Refusal) (x : T) (generation : Option (ℕ × ℕ)) (c : Option Command) (held : Option (List ℕ)) → outcome ≡ Ok x → OnOk outcome (IsDone state allows call before after generation c) → held ≡ after.held
+      → IsDone state allows call before (record after { held = held; sink_faults = faults }) generation c
+  done_stays (Ok y) x generation c held was done same = subst (λ (h : Option (List ℕ)). IsDone state allows call before (record after { held = h; sink_faults = faults }) generation c) (sym same) (still_done generation c done)
+  done_stays (Err r) x generation c held was done same = absurd (cc)
 
 -- nothing is said of what the sink holds behind an error of its own
 flush_output : (old new : Option (List ℕ)) (error : SinkError) → LeavesOutput old new (sink_refusal error)

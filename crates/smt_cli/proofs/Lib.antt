@@ -4,4 +4,5 @@ pub mod Encoding
 pub mod Flushing
 pub mod Running
 pub mod Statuses
+pub mod Summarizing
 pub mod Verdicts

@@ -18,7 +18,8 @@ use Rattle.smt_jobs.specs.Job.{IsBuiltFrom, PlainJob, built_job, greatest_length
 use Rattle.smt_cli.specs.Refusal.{job_refusal}
 use Rattle.smt_cli.specs.Causes.{HasNoForm, HasReadCause, IsNoJob}
 use Rattle.smt_cli.specs.Run.{Prints}
-use Rattle.smt_cli.specs.Words.{commanded}
+use Rattle.smt_cli.specs.Words.{commanded, generate_by, generation_named}
+use Rattle.smt_cli.specs.declared.command.Command.{Command}
 use Rattle.smt_jobs.specs.declared.job.JobError.{JobError}
 use Rattle.smt_jobs.specs.declared.job.JobError.TheVariants.{TooLarge as JobTooLarge, BadForm as JobBadForm, Memory as JobWant}
 use Rattle.smt_cli.specs.declared.refusal.ReadRefusal.{ReadRefusal}
@@ -33,12 +34,19 @@ unasked [] word w l m p q a b d = absurd (omega (arith, l))
 unasked (x ∷ y ∷ words) word w l m p q a b d = absurd (omega (arith, m))
 
 -- words that begin with another than `check`
-pub unchecked : (words : List (RcStr Global)) (word : RcStr Global) (w : List ℕ) → 2 ≤ length words → word ≡ get_or words 0 word → w ≡ rc_str_bytes word → (w ≡ codes "check" → ⊥) → None ≡ commanded (texts words)
-unchecked (x ∷ y ∷ words) word w l p q other =
-    let e : rc_str_bytes x ≡ w = sym (q ∙ ap (λ (t : RcStr Global). rc_str_bytes t) p) in
-    rw (e, other_text w (codes "check") other) refl
-unchecked [] word w l p q other = absurd (omega (arith, l))
-unchecked (x ∷ []) word w l p q other = absurd (omega (arith, l))
+pub unchecked : (words : List (RcStr Global)) (word : RcStr Global) (w : List ℕ) (asked : Option Command) → 2 ≤ length words → word ≡ get_or words 0 word → w ≡ rc_str_bytes word → (w ≡ codes "check" → ⊥)
+    → asked ≡ generate_by (generation_named (texts words)) → asked ≡ commanded (texts words)
+unchecked (x ∷ y ∷ words) word w asked l p q other e = e ∙ sym (rw (sym (q ∙ ap (λ (t : RcStr Global). rc_str_bytes t) p), other_text w (codes "check") other) refl)
+unchecked [] word w asked l p q other e = absurd (omega (arith, l))
+unchecked (x ∷ []) word w asked l p q other e = absurd (omega (arith, l))
+
+-- three words that begin with another than `gen`
+pub ungenerated : (words : List (RcStr Global)) (word : RcStr Global) (w : List ℕ) → 3 ≤ length words → length words < 4 → word ≡ get_or words 0 word → w ≡ rc_str_bytes word → (w ≡ codes "gen" → ⊥) → None ≡ generation_named (texts words)
+ungenerated (x ∷ y ∷ z ∷ []) word w l m p q other = sym (rw (sym (q ∙ ap (λ (t : RcStr Global). rc_str_bytes t) p), other_text w (codes "gen") other) refl)
+ungenerated [] word w l m p q other = absurd (omega (arith, l))
+ungenerated (x ∷ []) word w l m p q other = absurd (omega (arith, l))
+ungenerated (x ∷ y ∷ []) word w l m p q other = absurd (omega (arith, l))
+ungenerated (x ∷ y ∷ z ∷ t ∷ words) word w l m p q other = absurd (omega (arith, m))
 
 -- what was read whole has not the form of a job
 pub no_form : (remaining : Option (List ℕ)) (bytes : List ℕ) → IfSome remaining (λ all. all ≡ bytes) → HasNoForm bytes → IfSome remaining HasNoForm

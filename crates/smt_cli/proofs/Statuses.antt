@@ -11,7 +11,7 @@ use Rattle.smt_cli.specs.Causes.{Around, HasCause, HasCheckCause, HasFaultOf, Ha
 use Rattle.smt_cli.specs.Refusal.{status_of}
 use Rattle.smt_cli.specs.Run.{Checks, IsComplete, IsDone, Prints}
 use Rattle.smt_cli.specs.declared.command.Command.{Command}
-use Rattle.smt_cli.specs.declared.command.Command.TheVariants.{Script, Check, Help, Version}
+use Rattle.smt_cli.specs.declared.command.Command.TheVariants.{Script, Check, Generate, Help, Version}
 use Rattle.smt_cli.specs.declared.refusal.EncodeRefusal.{EncodeRefusal}
 use Rattle.smt_cli.specs.declared.refusal.EncodeRefusal.TheVariants.{EmptyEnum, EncodeStringFailed, EncodePatternFailed, EnumMissingMember, ExpectRecord, MalformedRecordGet, MissingTypeEncoding, RecordMissingAttr}
 use Rattle.smt_cli.specs.declared.refusal.JobRefusal.TheVariants.{TooLarge, BadForm}
@@ -98,17 +98,26 @@ module _ {L : Type 0} (state : L → LinkState) (call : SolverCall) (before afte
     accepted = λ p. accepted before.left r h;
     checked = λ p. absurd cc;
     rejected = λ p. rejected before.left r h;
+    summarized = λ p. absurd cc;
     printed = λ p taken. absurd (⊎_elim (λ q. cc) (λ q. cc) p);
   }
   refused_complete (Some Check) r h = record {
     accepted = λ p. absurd cc;
     checked = λ p. checked before.left r h;
     rejected = λ p. unchecked before.left r h;
+    summarized = λ p. absurd cc;
     printed = λ p taken. absurd (⊎_elim (λ q. cc) (λ q. cc) p);
   }
-  refused_complete (Some Help) r h = record { accepted = λ p. absurd cc; checked = λ p. absurd cc; rejected = λ p. absurd (⊎_elim (λ q. cc) (λ q. cc) p); printed = λ p. printed r h }
-  refused_complete (Some Version) r h = record { accepted = λ p. absurd cc; checked = λ p. absurd cc; rejected = λ p. absurd (⊎_elim (λ q. cc) (λ q. cc) p); printed = λ p. printed r h }
-  refused_complete None r h = record { accepted = λ p. absurd cc; checked = λ p. absurd cc; rejected = λ p. absurd (⊎_elim (λ q. cc) (λ q. cc) p); printed = λ p taken. absurd (⊎_elim (λ q. cc) (λ q. cc) p) }
+  refused_complete (Some Generate) r h = record {
+    accepted = λ p. absurd cc;
+    checked = λ p. absurd cc;
+    rejected = λ p. absurd (⊎_elim (λ q. cc) (λ q. cc) p);
+    summarized = λ p. printed r h;
+    printed = λ p taken. absurd (⊎_elim (λ q. cc) (λ q. cc) p);
+  }
+  refused_complete (Some Help) r h = record { accepted = λ p. absurd cc; checked = λ p. absurd cc; rejected = λ p. absurd (⊎_elim (λ q. cc) (λ q. cc) p); summarized = λ p. absurd cc; printed = λ p. printed r h }
+  refused_complete (Some Version) r h = record { accepted = λ p. absurd cc; checked = λ p. absurd cc; rejected = λ p. absurd (⊎_elim (λ q. cc) (λ q. cc) p); summarized = λ p. absurd cc; printed = λ p. printed r h }
+  refused_complete None r h = record { accepted = λ p. absurd cc; checked = λ p. absurd cc; rejected = λ p. absurd (⊎_elim (λ q. cc) (λ q. cc) p); summarized = λ p. absurd cc; printed = λ p taken. absurd (⊎_elim (λ q. cc) (λ q. cc) p) }
 
 -- no script of what is no job is put, and no verdict on it
 no_job_read : (status : ℕ) (P : List ℕ → Type 0) (left : Option (List ℕ)) → ((bytes : List ℕ) → P bytes → IsAJob bytes) → IfSome left P → IfSome left (λ bytes. IsNoJob bytes → (status ≡ 3) ⊎ (status ≡ 7))
@@ -125,17 +134,19 @@ job_checked status (Some bytes) zero = λ j. inl zero
 
 module _ {L : Type 0} (state : L → LinkState) (allows : List ℕ → List ℕ → List ℕ → Type 0) (call : SolverCall) (before after : Around L) (status : ℕ) where
   -- what is no job is neither printed nor checked
-  no_job_done : (c : Option Command) → IsDone state allows call before after c → (c ≡ Some Script) ⊎ (c ≡ Some Check) → IfSome before.left (λ bytes. IsNoJob bytes → (status ≡ 3) ⊎ (status ≡ 7))
-  no_job_done (Some Script) d p = no_job_read status (Prints before.held after.held) before.left (λ bytes x. (x.job, x.is_job)) d.holds
-  no_job_done (Some Check) d p = no_job_read status (Checks state allows call before after) before.left (λ bytes x. (x.checked.job, x.checked.is_job)) d.holds
-  no_job_done (Some Help) d p = absurd (⊎_elim (λ q. cc) (λ q. cc) p)
-  no_job_done (Some Version) d p = absurd (⊎_elim (λ q. cc) (λ q. cc) p)
-  no_job_done None d p = absurd d
+  no_job_done : (generation : Option (ℕ × ℕ)) (c : Option Command) → IsDone state allows call before after generation c → (c ≡ Some Script) ⊎ (c ≡ Some Check) → IfSome before.left (λ bytes. IsNoJob bytes → (status ≡ 3) ⊎ (status ≡ 7))
+  no_job_done generation (Some Script) d p = no_job_read status (Prints before.held after.held) before.left (λ bytes x. (x.job, x.is_job)) d.holds
+  no_job_done generation (Some Check) d p = no_job_read status (Checks state allows call before after) before.left (λ bytes x. (x.checked.job, x.checked.is_job)) d.holds
+  no_job_done generation (Some Generate) d p = absurd (⊎_elim (λ q. cc) (λ q. cc) p)
+  no_job_done generation (Some Help) d p = absurd (⊎_elim (λ q. cc) (λ q. cc) p)
+  no_job_done generation (Some Version) d p = absurd (⊎_elim (λ q. cc) (λ q. cc) p)
+  no_job_done generation None d p = absurd d
 
-  pub done_complete : (c : Option Command) → status ≡ 0 → IsDone state allows call before after c → IsComplete c before after status
-  done_complete c zero d = record {
+  pub done_complete : (generation : Option (ℕ × ℕ)) (c : Option Command) → status ≡ 0 → IsDone state allows call before after generation c → IsComplete c before after status
+  done_complete generation c zero d = record {
     accepted = λ p given taken. job_done status before.left zero;
     checked = λ p given taken started. job_checked status before.left zero;
-    rejected = λ p given. no_job_done c d p;
+    rejected = λ p given. no_job_done generation c d p;
+    summarized = λ p taken. inl zero;
     printed = λ p taken. inl zero;
   }

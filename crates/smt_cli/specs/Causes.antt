@@ -10,7 +10,7 @@ use Rattle.smt_solve.specs.Link.{LinkState}
 use Rattle.smt_solve.specs.Starter.{Command as SolverCall, StarterState}
 use Rattle.smt_checks.specs.Checks.{Returns, WhyUnchecked}
 use Rattle.smt_cli.specs.declared.command.Command.{Command}
-use Rattle.smt_cli.specs.declared.command.Command.TheVariants.{Script, Check, Help, Version}
+use Rattle.smt_cli.specs.declared.command.Command.TheVariants.{Script, Check, Generate, Help, Version}
 use Rattle.smt_checks.specs.declared.error.CheckError.TheVariants.{Session as CheckSession}
 use Rattle.smt_checks.specs.declared.error.SessionFault.{SessionFault}
 use Rattle.smt_cli.specs.declared.refusal.EncodeRefusal.{EncodeRefusal}
@@ -151,6 +151,7 @@ module _ {L : Type 0} where
   abbrev pub HasCause : (state : L → LinkState) → Option Command → SolverCall → (before after : Around L) → Refusal → Type 0
   HasCause state (Some Script) call before after refusal = HasScriptCause before after refusal
   HasCause state (Some Check) call before after refusal = HasCheckCause state call before after refusal
+  HasCause state (Some Generate) call before after refusal = HasPutCause (SinkFailed before after) refusal
   HasCause state (Some Help) call before after refusal = HasPutCause (SinkFailed before after) refusal
   HasCause state (Some Version) call before after refusal = HasPutCause (SinkFailed before after) refusal
   HasCause state None call before after refusal = refusal ≡ Usage

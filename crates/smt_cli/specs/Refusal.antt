@@ -31,7 +31,7 @@ status_of Start = 9
 
 -- what is said of a refusal
 abbrev pub line_of : Refusal → List ℕ
-line_of Usage = codes "usage: smtcli script or check PATH ARGS..\n"
+line_of Usage = codes "usage: smtcli script or check PATH ARGS.. or gen SEED N\n"
 line_of (Job TooLarge) = codes "job refused: TooLarge\n"
 line_of (Job BadForm) = codes "job refused: BadForm\n"
 line_of (Encode EnumMissingMember) = codes "encode refused: EnumMissingMember\n"

@@ -19,10 +19,11 @@ use Rattle.smt_verdicts.specs.Honesty.{IsHonest}
 use Rattle.smt_jobs.specs.Job.{IsJob, PlainJob}
 use Rattle.smt_cli.specs.Causes.{Around, IsAJob, IsNoJob, LeavesOutput, SinkFailed, SourceFailed, StartFailed, script_of_job}
 use Rattle.smt_checks.specs.Checks.{Decides}
+use Rattle.smt_cli.specs.Generation.{Summarizes}
 use Rattle.smt_cli.specs.Refusal.{line_of, status_of}
 use Rattle.smt_cli.specs.Words.{help_text, version_text}
 use Rattle.smt_cli.specs.declared.command.Command.{Command}
-use Rattle.smt_cli.specs.declared.command.Command.TheVariants.{Script, Check, Help, Version}
+use Rattle.smt_cli.specs.declared.command.Command.TheVariants.{Script, Check, Generate, Help, Version}
 use Rattle.smt_cli.specs.declared.refusal.Refusal.{Refusal}
 
 -- ---- `script`
@@ -68,22 +69,24 @@ module _ {L : Type 0} (state : L → LinkState) (allows : List ℕ → List ℕ 
     pub checked : IsChecked decision bytes
     pub printed : after.held ≡ append_known before.held (verdict_line decision)
 
-  -- What was asked for is done.
-  abbrev pub IsDone : Option Command → Type 0
-  IsDone (Some Script) = Reads (Prints before.held after.held) before.left after.left
-  IsDone (Some Check) = Reads Checks before.left after.left
-  IsDone (Some Help) = after.held ≡ append_known before.held help_text
-  IsDone (Some Version) = after.held ≡ append_known before.held version_text
-  IsDone None = ⊥
+  -- What was asked for is done, where `gen` names this generated job.
+  abbrev pub IsDone : (generation : Option (ℕ × ℕ)) → Option Command → Type 0
+  IsDone generation (Some Script) = Reads (Prints before.held after.held) before.left after.left
+  IsDone generation (Some Check) = Reads Checks before.left after.left
+  IsDone generation (Some Generate) = Summarizes before.held after.held generation
+  IsDone generation (Some Help) = after.held ≡ append_known before.held help_text
+  IsDone generation (Some Version) = after.held ≡ append_known before.held version_text
+  IsDone generation None = ⊥
 
 -- ---- what a status says
 
 -- But for want of memory, and where nothing failed, the script of a job is printed, a job is checked or its session fails, what
--- is no job is refused as such, and the text of another word is printed.
+-- is no job is refused as such, the summary of a generated job is printed, and so is the text of another word.
 pub record IsComplete {L : Type 0} (command : Option Command) (before after : Around L) (status : ℕ) : Type 0 where
   pub accepted : command ≡ Some Script → ¬ SourceFailed before after → ¬ SinkFailed before after → IfSome before.left (λ bytes. IsAJob bytes → (status ≡ 0) ⊎ (status ≡ 7))
   pub checked : command ≡ Some Check → ¬ SourceFailed before after → ¬ SinkFailed before after → ¬ StartFailed before after → IfSome before.left (λ bytes. IsAJob bytes → (status ≡ 0) ⊎ ((status ≡ 7) ⊎ (status ≡ 8)))
   pub rejected : (command ≡ Some Script) ⊎ (command ≡ Some Check) → ¬ SourceFailed before after → IfSome before.left (λ bytes. IsNoJob bytes → (status ≡ 3) ⊎ (status ≡ 7))
+  pub summarized : command ≡ Some Generate → ¬ SinkFailed before after → (status ≡ 0) ⊎ (status ≡ 7)
   pub printed : (command ≡ Some Help) ⊎ (command ≡ Some Version) → ¬ SinkFailed before after → (status ≡ 0) ⊎ (status ≡ 7)
 
 -- A status, and what was said: the line of a refusal of this status, which has its cause, was put, as far as that went. With

@@ -1,8 +1,10 @@
 -- What words ask for, and the texts that some of them print.
-use Rattle.std.specs.Prelude.{ℕ, if◌then◌else◌, bytes_eq, codes, List, [], ◌∷◌, Option, Some, None}
+use Rattle.std.specs.Prelude.{ℕ, ◌^◌, if◌then◌else◌, ◌&&◌, bytes_eq, codes, nat_le, nat_lt, List, [], ◌∷◌, Option, Some, None}
+use Rattle.smt_characters.specs.Digits.{decimal_number, is_numeral}
+use Rattle.smt_semantics.specs.Script.{◌>>=◌}
 use Rattle.smt_solve.specs.Starter.{Command as SolverCall}
 use Rattle.smt_cli.specs.declared.command.Command.{Command}
-use Rattle.smt_cli.specs.declared.command.Command.TheVariants.{Script, Check, Help, Version}
+use Rattle.smt_cli.specs.declared.command.Command.TheVariants.{Script, Check, Generate, Help, Version}
 
 -- what one word asks for; None where it is no command
 abbrev pub word_asks : List ℕ → Option Command
@@ -10,11 +12,36 @@ word_asks w =
     if bytes_eq w (codes "script") then Some Script
     else (if bytes_eq w (codes "--help") then Some Help else (if bytes_eq w (codes "--version") then Some Version else None))
 
--- what words ask for: `check` has at least the path of a solver behind it
+-- the number below 2 to the 64 that digits write
+abbrev pub number_named : List ℕ → Option ℕ
+number_named digits = if is_numeral digits && nat_lt (decimal_number digits) (2 ^ 64) then Some (decimal_number digits) else None
+
+-- the greatest number of terms that a generated job may have
+abbrev pub greatest_count : ℕ
+greatest_count = 100000
+
+-- how many terms a job may have
+abbrev pub count_within : ℕ → Option ℕ
+count_within n = if nat_le 1 n && nat_le n greatest_count then Some n else None
+
+-- a seed and a number of terms
+abbrev pub generation_in : (seed count : List ℕ) → Option (ℕ × ℕ)
+generation_in seed count = number_named seed >>= λ s. number_named count >>= count_within >>= λ n. Some (s, n)
+
+-- the same, behind `gen`
+abbrev pub generation_named : List (List ℕ) → Option (ℕ × ℕ)
+generation_named (w ∷ seed ∷ count ∷ []) = if bytes_eq w (codes "gen") then generation_in seed count else None
+generation_named words = None
+
+abbrev pub generate_by : Option (ℕ × ℕ) → Option Command
+generate_by (Some generation) = Some Generate
+generate_by None = None
+
+-- what words ask for: `check` has at least the path of a solver behind it, and `gen` a seed and a number of terms
 abbrev pub commanded : List (List ℕ) → Option Command
 commanded [] = None
 commanded (w ∷ []) = word_asks w
-commanded (w ∷ path ∷ args) = if bytes_eq w (codes "check") then Some Check else None
+commanded (w ∷ path ∷ args) = if bytes_eq w (codes "check") then Some Check else generate_by (generation_named (w ∷ path ∷ args))
 
 -- the solver that stands behind the first word, with its arguments
 abbrev pub solver_named : List (List ℕ) → SolverCall
@@ -22,7 +49,7 @@ solver_named (w ∷ path ∷ args) = record { program = path; args = args }
 solver_named words = record { program = []; args = [] }
 
 abbrev pub help_text : List ℕ
-help_text = codes "usage: smtcli script or check PATH ARGS..\n\nscript  reads a job from standard input and prints its script in SMT-LIB 2.7\ncheck   reads a job from standard input, asks the solver PATH with these ARGS whether all its terms can be true together, and\n        prints sat, unsat or unknown; for example: smtcli check cvc5 --lang smt < FILE\n\njob:  (job (enums) (vars (\"id\" TYPE) ..) (funs) (terms t ..))\nTYPE: Bool or (BitVec N)\nterm: true, false, (var \"id\"), (bv W N), (long \"-5\"), (zero_extend N t) or (name t ..)\nname: not and or eq ite bvneg bvadd bvsub bvmul bvudiv bvurem bvsdiv bvsrem bvsmod bvshl bvlshr\n      bvult bvule bvslt bvsle bvnego bvsaddo bvssubo bvsmulo\n\nstatus: 0 done, 2 no such command, 3 job refused, 4 no script for a term, 5 source fault, 6 sink fault, 7 out of memory,\n        8 session fault, 9 the solver did not start\n"
+help_text = codes "usage: smtcli script or check PATH ARGS.. or gen SEED N\n\nscript  reads a job from standard input and prints its script in SMT-LIB 2.7\ncheck   reads a job from standard input, asks the solver PATH with these ARGS whether all its terms can be true together, and\n        prints sat, unsat or unknown; for example: smtcli check cvc5 --lang smt < FILE\ngen     makes a job of N terms from the number SEED, N from 1 to 100000 and SEED below 2^64, and prints six lines: how many\n        terms it has, how many variables, definitions, assertions and bytes its script has, and the sum of these bytes\n\njob:  (job (enums) (vars (\"id\" TYPE) ..) (funs) (terms t ..))\nTYPE: Bool or (BitVec N)\nterm: true, false, (var \"id\"), (bv W N), (long \"-5\"), (zero_extend N t) or (name t ..)\nname: not and or eq ite bvneg bvadd bvsub bvmul bvudiv bvurem bvsdiv bvsrem bvsmod bvshl bvlshr\n      bvult bvule bvslt bvsle bvnego bvsaddo bvssubo bvsmulo\n\nstatus: 0 done, 2 no such command, 3 job refused, 4 no script for a term, 5 source fault, 6 sink fault, 7 out of memory,\n        8 session fault, 9 the solver did not start\n"
 
 abbrev pub version_text : List ℕ
 version_text = codes "smtcli 0.1.0\n"

@@ -1,20 +1,24 @@
 // What the words of a command line ask for.
 ghost use Rattle.std.specs.Prelude.{◌≡◌, IfOk, IsOkUnless, Some};
+ghost use Rattle.std.specs.Rc.{rc_str_bytes};
 ghost use Rattle.smt_characters.specs.SharedTexts.{texts};
 ghost use Rattle.smt_solve.specs.Starter.{command_of as solver_call};
-ghost use Rattle.smt_cli.specs.Words.{commanded, solver_named};
+ghost use Rattle.smt_cli.specs.Words.{commanded, count_within, generate_by, generation_in, generation_named, number_named, solver_named};
 
 use smt_solve::{SolverCommand, SolverError};
 use smt_term::Text;
+use smt_text::digits;
 use std::alloc::Global;
 
 /// What `smtcli --help` prints.
 pub(crate) const HELP: &str = "\
-usage: smtcli script or check PATH ARGS..
+usage: smtcli script or check PATH ARGS.. or gen SEED N
 
 script  reads a job from standard input and prints its script in SMT-LIB 2.7
 check   reads a job from standard input, asks the solver PATH with these ARGS whether all its terms can be true together, and
         prints sat, unsat or unknown; for example: smtcli check cvc5 --lang smt < FILE
+gen     makes a job of N terms from the number SEED, N from 1 to 100000 and SEED below 2^64, and prints six lines: how many
+        terms it has, how many variables, definitions, assertions and bytes its script has, and the sum of these bytes
 
 job:  (job (enums) (vars (\"id\" TYPE) ..) (funs) (terms t ..))
 TYPE: Bool or (BitVec N)
@@ -36,10 +40,70 @@ pub enum Command {
     Script,
     /// `check PATH ARGS..`: the verdict of a solver on a job.
     Check,
+    /// `gen SEED N`: the summary of a generated job.
+    Generate,
     /// `--help`.
     Help,
     /// `--version`.
     Version,
+}
+
+/// The greatest number of terms that a generated job may have.
+const GREATEST_COUNT: u64 = 100_000;
+
+/// The number below 2 to the 64 that a word writes in digits alone.
+fn number_in(word: &Text) -> Option<u64>
+    ensures { result ≡ number_named (rc_str_bytes word.now) }
+{
+    let digits = word.as_str().as_bytes();
+    if digits::are_digits(digits) {
+        digits::number(digits)
+    } else {
+        None
+    }
+}
+
+/// How many terms a job is to have, where it may have so many.
+fn count_of(number: u64) -> Option<u32>
+    ensures { result ≡ count_within number }
+{
+    if 1 <= number && number <= GREATEST_COUNT {
+        Some(number as u32)
+    } else {
+        None
+    }
+}
+
+/// The seed and the number of terms that two words write.
+fn generation_in(seed: &Text, count: &Text) -> Option<(u64, u32)>
+    ensures { result ≡ generation_in (rc_str_bytes seed.now) (rc_str_bytes count.now) }
+{
+    let seed = number_in(seed)?;
+    let count = count_of(number_in(count)?)?;
+    Some((seed, count))
+}
+
+/// The seed and the number of terms that `gen` names, None where the words are others.
+fn generation_of(words: &[Text]) -> Option<(u64, u32)>
+    ensures { result ≡ generation_named (texts words.now) }
+{
+    match words {
+        [word, seed, count] => match word.as_str() {
+            "gen" => generation_in(seed, count),
+            _ => None,
+        },
+        _ => None,
+    }
+}
+
+/// `Generate`, where the words name a generated job.
+fn generate_of(words: &[Text]) -> Option<Command>
+    ensures { result ≡ generate_by (generation_named (texts words.now)) }
+{
+    match generation_of(words) {
+        Some(_) => Some(Command::Generate),
+        None => None,
+    }
 }
 
 /// What the words ask for, None where they are no command.
@@ -55,7 +119,7 @@ pub(crate) fn command_of(words: &[Text]) -> Option<Command>
         },
         [word, _, ..] => match word.as_str() {
             "check" => Some(Command::Check),
-            _ => None,
+            _ => generate_of(words),
         },
         [] => None,
     }
@@ -68,4 +132,15 @@ pub(crate) fn solver_of(alloc: Global, words: &[Text]) -> Result<SolverCommand, 
     ensures refusal { IsOkUnless result SolverError.Memory }
 {
     SolverCommand::new(alloc, words[1].as_str(), &words[2..])
+}
+
+/// The seed and the number of terms that the words of `gen` name.
+pub(crate) fn seed_and_count(words: &[Text]) -> (u64, u32)
+    requires { commanded (texts words.now) ≡ Some Command.Generate }
+    ensures { generation_named (texts words.now) ≡ Some result }
+{
+    match generation_of(words) {
+        Some(generation) => generation,
+        None => unreachable!(),
+    }
 }

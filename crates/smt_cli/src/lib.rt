@@ -1,10 +1,14 @@
-//! The program's run: a job read from a source, its script put to a sink, or the verdict of a solver on it.
+//! The program's run: a job read from a source, its script put to a sink, or the verdict of a solver on it; or the summary of a
+//! generated job.
 #![tactic(auto, using(smt_term::specs::View::views))]
 
 mod command;
+mod generation;
 mod printing;
 mod program;
 mod refusal;
+mod summary;
+pub mod summary_laws;
 
 pub use command::Command;
 pub use program::run;

@@ -7,9 +7,10 @@ ghost use Rattle.smt_jobs.specs.Numbered.{numbered_job};
 ghost use Rattle.smt_script.specs.Sink.{Rose};
 ghost use Rattle.smt_cli.specs.Causes.{HasCause, HasCheckCause, HasReadCause, LeavesOutput, around, standing};
 ghost use Rattle.smt_cli.specs.Run.{IsChecked, IsComplete, IsDone, Reads, Reports, verdict_line};
-ghost use Rattle.smt_cli.specs.Words.{commanded, solver_named};
+ghost use Rattle.smt_cli.specs.Words.{commanded, generation_named, solver_named};
 
-use crate::command::{Command, HELP, VERSION, command_of, solver_of};
+use crate::command::{Command, HELP, VERSION, command_of, seed_and_count, solver_of};
+use crate::generation::put_summary;
 use crate::printing::{put_script, script_of};
 use crate::refusal::{ReadRefusal, Refusal};
 use smt_checks::check_script;
@@ -70,7 +71,7 @@ fn put_verdict<R: Source, W: Sink, P: Starter>(
     starter: &mut P,
 ) -> Result<(), Refusal>
     requires { commanded (texts words.now) ≡ Some Command.Check }
-    ensures done { OnOk result (IsDone P.L.state (P.allows starter.old) (solver_named (texts words.now)) (around R.remaining R.faults W.contents W.faults P.state source.old out.old starter.old) (around R.remaining R.faults W.contents W.faults P.state source.new out.new starter.new) (Some Command.Check)) }
+    ensures done { OnOk result (IsDone P.L.state (P.allows starter.old) (solver_named (texts words.now)) (around R.remaining R.faults W.contents W.faults P.state source.old out.old starter.old) (around R.remaining R.faults W.contents W.faults P.state source.new out.new starter.new) (generation_named (texts words.now)) (Some Command.Check)) }
     ensures refused { IfErr result (HasCheckCause P.L.state (solver_named (texts words.now)) (around R.remaining R.faults W.contents W.faults P.state source.old out.old starter.old) (around R.remaining R.faults W.contents W.faults P.state source.new out.new starter.new)) }
     ensures untouched { IfErr result (LeavesOutput (W.contents out.old) (W.contents out.new)) }
     ensures later { W.faults out.old ≤ W.faults out.new }
@@ -87,7 +88,7 @@ fn put_answer<R: Source, W: Sink, P: Starter>(
     out: &mut W,
     starter: &mut P,
 ) -> Result<(), Refusal>
-    ensures done { OnOk result (IsDone P.L.state (P.allows starter.old) (solver_named (texts words.now)) (around R.remaining R.faults W.contents W.faults P.state source.old out.old starter.old) (around R.remaining R.faults W.contents W.faults P.state source.new out.new starter.new) (commanded (texts words.now))) }
+    ensures done { OnOk result (IsDone P.L.state (P.allows starter.old) (solver_named (texts words.now)) (around R.remaining R.faults W.contents W.faults P.state source.old out.old starter.old) (around R.remaining R.faults W.contents W.faults P.state source.new out.new starter.new) (generation_named (texts words.now)) (commanded (texts words.now))) }
     ensures refused { IfErr result (HasCause P.L.state (commanded (texts words.now)) (solver_named (texts words.now)) (around R.remaining R.faults W.contents W.faults P.state source.old out.old starter.old) (around R.remaining R.faults W.contents W.faults P.state source.new out.new starter.new)) }
     ensures untouched { IfErr result (LeavesOutput (W.contents out.old) (W.contents out.new)) }
     ensures unread { commanded (texts words.now) ≢ Some Command.Script → commanded (texts words.now) ≢ Some Command.Check → source.new ≡ source.old }
@@ -100,6 +101,10 @@ fn put_answer<R: Source, W: Sink, P: Starter>(
             put_script(alloc, job, out)?;
         }
         Some(Command::Check) => put_verdict(alloc, words, source, out, starter)?,
+        Some(Command::Generate) => {
+            let (seed, count) = seed_and_count(words);
+            put_summary(alloc, seed, count, out)?;
+        }
         Some(Command::Help) => out.put(HELP.as_bytes())?,
         Some(Command::Version) => out.put(VERSION.as_bytes())?,
         None => return Err(Refusal::Usage),
@@ -115,7 +120,7 @@ fn answer<R: Source, W: Sink, P: Starter>(
     out: &mut W,
     starter: &mut P,
 ) -> Result<(), Refusal>
-    ensures done { OnOk result (IsDone P.L.state (P.allows starter.old) (solver_named (texts words.now)) (around R.remaining R.faults W.contents W.faults P.state source.old out.old starter.old) (around R.remaining R.faults W.contents W.faults P.state source.new out.new starter.new) (commanded (texts words.now))) }
+    ensures done { OnOk result (IsDone P.L.state (P.allows starter.old) (solver_named (texts words.now)) (around R.remaining R.faults W.contents W.faults P.state source.old out.old starter.old) (around R.remaining R.faults W.contents W.faults P.state source.new out.new starter.new) (generation_named (texts words.now)) (commanded (texts words.now))) }
     ensures refused { IfErr result (HasCause P.L.state (commanded (texts words.now)) (solver_named (texts words.now)) (around R.remaining R.faults W.contents W.faults P.state source.old out.old starter.old) (around R.remaining R.faults W.contents W.faults P.state source.new out.new starter.new)) }
     ensures untouched { IfErr result (LeavesOutput (W.contents out.old) (W.contents out.new)) }
     ensures unread { commanded (texts words.now) ≢ Some Command.Script → commanded (texts words.now) ≢ Some Command.Check → source.new ≡ source.old }
@@ -139,6 +144,10 @@ fn answer<R: Source, W: Sink, P: Starter>(
 /// that it says `unsat` only of scripts without a model, `unsat` means that no interpretation makes all terms of the job true. A
 /// link to a solver that was started goes back to the starter before the run ends, whatever the status.
 ///
+/// `gen SEED N` makes a job of N terms from the number SEED, encodes it onto a sink that counts, and puts six lines: how many
+/// terms the job has, how many of its variables the script declares, how many other names of terms it has, how many assertions,
+/// how many bytes, at most 2^64 - 1, and the sum of these bytes modulo 2^64. No line of the script is kept.
+///
 /// The run flushes `out` once at its end, so that nothing of what was put is held back. A flush that fails ends it as a put that
 /// fails does. Where the run is refused before that, `out` is flushed for what was put until then, and whether that goes well
 /// changes no status.
@@ -146,7 +155,7 @@ fn answer<R: Source, W: Sink, P: Starter>(
 /// 3, 4 and 5 come of `script` and `check` alone, 8 and 9 of `check`. Other words leave the source as it was, unread, and but for
 /// `check` the starter is left as it was. Where neither the source nor `out` nor the start failed and there was memory, `script`
 /// ends with 0 for a job and with 3 for any other bytes, `check` with 0 or 8 for a job and with 3 for any other bytes, and
-/// `--help` and `--version` end with 0.
+/// `gen`, `--help` and `--version` end with 0.
 pub fn run<R: Source, W: Sink, D: Sink, P: Starter>(
     alloc: Global,
     words: &[Text],
@@ -155,7 +164,7 @@ pub fn run<R: Source, W: Sink, D: Sink, P: Starter>(
     diag: &mut D,
     starter: &mut P,
 ) -> u8
-    ensures done { result ≡ 0 → IsDone P.L.state (P.allows starter.old) (solver_named (texts words.now)) (around R.remaining R.faults W.contents W.faults P.state source.old out.old starter.old) (around R.remaining R.faults W.contents W.faults P.state source.new out.new starter.new) (commanded (texts words.now)) }
+    ensures done { result ≡ 0 → IsDone P.L.state (P.allows starter.old) (solver_named (texts words.now)) (around R.remaining R.faults W.contents W.faults P.state source.old out.old starter.old) (around R.remaining R.faults W.contents W.faults P.state source.new out.new starter.new) (generation_named (texts words.now)) (commanded (texts words.now)) }
     ensures usage { result ≡ 2 ↔ (commanded (texts words.now) ≡ None) }
     ensures complete { IsComplete (commanded (texts words.now)) (around R.remaining R.faults W.contents W.faults P.state source.old out.old starter.old) (around R.remaining R.faults W.contents W.faults P.state source.new out.new starter.new) result }
     ensures unread { commanded (texts words.now) ≢ Some Command.Script → commanded (texts words.now) ≢ Some Command.Check → source.new ≡ source.old }

@@ -80,7 +80,7 @@ impl Refusal {
         ensures { result.now ≡ line_of self }
     {
         match self {
-            Refusal::Usage => "usage: smtcli script or check PATH ARGS..\n",
+            Refusal::Usage => "usage: smtcli script or check PATH ARGS.. or gen SEED N\n",
             Refusal::Job(JobRefusal::TooLarge) => "job refused: TooLarge\n",
             Refusal::Job(JobRefusal::BadForm) => "job refused: BadForm\n",
             Refusal::Encode(EncodeRefusal::EnumMissingMember) => {

@@ -21,7 +21,7 @@ pub const SCRIPT: &str = "\
 (assert t1)
 ";
 
-const USAGE: &str = "usage: smtcli script or check PATH ARGS..\n";
+const USAGE: &str = "usage: smtcli script or check PATH ARGS.. or gen SEED N\n";
 
 const VERSION: &str = "smtcli 0.1.0\n";
 
@@ -227,7 +227,22 @@ fn run_from(
 #[test]
 fn refused_words_read_nothing(rt: HostRuntime) -> Result<(), Fail> {
     let alloc = rt.alloc();
-    let rows: [&[&str]; 4] = [&[], &["scripts"], &["script", "x"], &["check"]];
+    let rows: [&[&str]; 14] = [
+        &[],
+        &["scripts"],
+        &["script", "x"],
+        &["check"],
+        &["gen"],
+        &["gen", "1"],
+        &["gen", "0", "0"],
+        &["gen", "0", "100001"],
+        &["gen", "-1", "5"],
+        &["gen", "1", "+5"],
+        &["gen", "", "5"],
+        &["gen", "18446744073709551616", "5"],
+        &["gen", "1", "5", "5"],
+        &["generate", "1", "5"],
+    ];
     for words in rows {
         let mut source = MemorySource::new(alloc, NOT_B.as_bytes(), &[])?;
         let (status, out, diag) = run_from(alloc, words, &mut source)?;
@@ -239,6 +254,41 @@ fn refused_words_read_nothing(rt: HostRuntime) -> Result<(), Fail> {
             source.read(&mut buffer) == Ok(4) && buffer == *b"(job",
             "{words:?}"
         );
+    }
+    Ok(())
+}
+
+/// What a run prints of the generated job of seed 0 with nine terms, and of the greatest seed with one.
+const NINE: &str = "\
+terms 9
+variables 8
+definitions 17
+assertions 9
+bytes 1481
+sum 103923
+";
+
+const ONE: &str = "\
+terms 1
+variables 2
+definitions 2
+assertions 1
+bytes 269
+sum 19277
+";
+
+#[test]
+fn generated_jobs_are_summarized(rt: HostRuntime) -> Result<(), Fail> {
+    let alloc = rt.alloc();
+    for (seed, count, lines) in [
+        ("0", "9", NINE),
+        ("000", "0009", NINE),
+        ("18446744073709551615", "1", ONE),
+    ] {
+        let mut source = MemorySource::new(alloc, NOT_B.as_bytes(), &[])?;
+        let (status, out, diag) = run_from(alloc, &["gen", seed, count], &mut source)?;
+        let printed = status == 0 && out.as_slice() == lines.as_bytes() && diag.is_empty();
+        assert!(rt; printed, "{seed} {count}");
     }
     Ok(())
 }

@@ -7,4 +7,4 @@ returns-in_default c =
 
 pub returns-in_default-as_str : goal.returns-in_default-as_str
 returns-in_default-as_str c =
-    unchecked c.args.words.now c.word-item-2.result c.as_str-in-len2-up.result.now c.in-len2-up.len_at_least c.word-item-2.is c.as_str-in-len2-up.ensures.value c.in_default-as_str.not-check
+    unchecked c.args.words.now c.word-item-2.result c.as_str-in-len2-up.result.now c.generate_of.result c.in-len2-up.len_at_least c.word-item-2.is c.as_str-in-len2-up.ensures.value c.in_default-as_str.not-check c.generate_of.ensures

@@ -1,7 +1,7 @@
 use Rattle.std.proofs.Common.{arith, List, Option, ℕ, sym, subst}
 use Rattle.smt_characters.specs.SharedTexts.{texts}
 use Rattle.smt_cli.specs.Causes.{HasCause, LeavesOutput, around}
-use Rattle.smt_cli.specs.Words.{commanded, solver_named}
+use Rattle.smt_cli.specs.Words.{commanded, generation_named, solver_named}
 use Rattle.smt_cli.proofs.Flushing.{cause_stays, done_stays, flush_leaves, flush_refused, refusal_stays}
 use Rattle.smt_cli.proofs.program.answer.Goals as goal
 
@@ -9,7 +9,7 @@ pub returns-clause-done : goal.returns-clause-done
 returns-clause-done g c =
     let before = around g.R.Source.remaining g.R.Source.faults g.W.Sink.contents g.W.Sink.faults g.P.Starter.state c.args.source.now c.args.out.now c.args.starter.now in
     let after = around g.R.Source.remaining g.R.Source.faults g.W.Sink.contents g.W.Sink.faults g.P.Starter.state c.put_answer-outcome.new.source c.put_answer-outcome.new.out c.put_answer-outcome.new.starter in
-    done_stays g.P.L.Link.state (g.P.Starter.allows c.args.starter.now) (solver_named (texts c.args.words.now)) before after (g.W.Sink.faults c.flush-flushed.new.self) c.put_answer-outcome.result c.in_ok-outcome.field-0 (commanded (texts c.args.words.now)) (g.W.Sink.contents c.flush-flushed.new.self)
+    done_stays g.P.L.Link.state (g.P.Starter.allows c.args.starter.now) (solver_named (texts c.args.words.now)) before after (g.W.Sink.faults c.flush-flushed.new.self) c.put_answer-outcome.result c.in_ok-outcome.field-0 (generation_named (texts c.args.words.now)) (commanded (texts c.args.words.now)) (g.W.Sink.contents c.flush-flushed.new.self)
     c.in_ok-outcome.was c.put_answer-outcome.ensures.done c.flush-flushed.ensures.same_contents
 
 pub returns-in_err-outcome-clause-refused : goal.returns-in_err-outcome-clause-refused
@@ -40,8 +40,8 @@ returns-in_err-flushed-clause-refused g c =
     let before = around g.R.Source.remaining g.R.Source.faults g.W.Sink.contents g.W.Sink.faults g.P.Starter.state c.args.source.now c.args.out.now c.args.starter.now in
     let after = around g.R.Source.remaining g.R.Source.faults g.W.Sink.contents g.W.Sink.faults g.P.Starter.state c.put_answer-outcome.new.source c.put_answer-outcome.new.out c.put_answer-outcome.new.starter in
     let now = around g.R.Source.remaining g.R.Source.faults g.W.Sink.contents g.W.Sink.faults g.P.Starter.state c.put_answer-outcome.new.source c.flush-flushed.new.self c.put_answer-outcome.new.starter in
-    flush_refused state allows call before now c.flush-flushed.result c.from_residual-in_err-flushed.result c.in_err-flushed.field-0.0 asked c.in_err-flushed.was c.from_residual-in_err-flushed.ensures.1
-    (done_stays state allows call before after (g.W.Sink.faults c.flush-flushed.new.self) c.put_answer-outcome.result c.in_ok-outcome.field-0 asked (g.W.Sink.contents c.flush-flushed.new.self) c.in_ok-outcome.was c.put_answer-outcome.ensures.done c.flush-flushed.ensures.same_contents)
+    flush_refused state allows call before now c.flush-flushed.result c.from_residual-in_err-flushed.result c.in_err-flushed.field-0.0 (generation_named (texts c.args.words.now)) asked c.in_err-flushed.was c.from_residual-in_err-flushed.ensures.1
+    (done_stays state allows call before after (g.W.Sink.faults c.flush-flushed.new.self) c.put_answer-outcome.result c.in_ok-outcome.field-0 (generation_named (texts c.args.words.now)) asked (g.W.Sink.contents c.flush-flushed.new.self) c.in_ok-outcome.was c.put_answer-outcome.ensures.done c.flush-flushed.ensures.same_contents)
     (λ fault. omega (arith, c.flush-flushed.ensures.cause fault, c.put_answer-outcome.ensures.later))
 
 pub returns-in_err-flushed-clause-untouched : goal.returns-in_err-flushed-clause-untouched

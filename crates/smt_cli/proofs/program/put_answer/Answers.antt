@@ -3,7 +3,7 @@ use Rattle.smt_characters.specs.SharedTexts.{texts}
 use Rattle.smt_jobs.specs.Numbered.{numbered_job}
 use Rattle.smt_cli.specs.Causes.{around}
 use Rattle.smt_cli.specs.Run.{IsDone}
-use Rattle.smt_cli.specs.Words.{commanded, help_text, solver_named, version_text}
+use Rattle.smt_cli.specs.Words.{commanded, generation_named, help_text, solver_named, version_text}
 use Rattle.smt_cli.specs.declared.command.Command.{Command}
 use Rattle.smt_cli.specs.declared.command.Command.TheVariants.{Script, Help, Version}
 use Rattle.smt_cli.proofs.Running.{prints, text_put}
@@ -16,7 +16,7 @@ returns-in_ok-put_script-in-Some-Script-clause-done g c =
     let put = c.in_ok-put_script-in-Some-Script.ensures in
     let before = around g.R.Source.remaining g.R.Source.faults g.W.Sink.contents g.W.Sink.faults g.P.Starter.state c.args.source.now c.args.out.now c.args.starter.now in
     let after = around g.R.Source.remaining g.R.Source.faults g.W.Sink.contents g.W.Sink.faults g.P.Starter.state c.read_source.new.source c.put_script.new.out c.args.starter.now in
-    subst (λ (o : Option Command). IsDone g.P.L.Link.state (g.P.Starter.allows c.args.starter.now) (solver_named (texts c.args.words.now)) before after o) asked
+    subst (λ (o : Option Command). IsDone g.P.L.Link.state (g.P.Starter.allows c.args.starter.now) (solver_named (texts c.args.words.now)) before after (generation_named (texts c.args.words.now)) o) asked
     (record { holds = prints _ (numbered_job c.in_ok-job-in-Some-Script.job) _ _ read.job put.text put.headline; ended = read.ended })
 
 pub returns-in_ok-put-in-Some-Help-clause-done : goal.returns-in_ok-put-in-Some-Help-clause-done
@@ -25,7 +25,7 @@ returns-in_ok-put-in-Some-Help-clause-done g c =
     let held = g.W.Sink.contents c.args.out.now in
     let before = around g.R.Source.remaining g.R.Source.faults g.W.Sink.contents g.W.Sink.faults g.P.Starter.state c.args.source.now c.args.out.now c.args.starter.now in
     let after = around g.R.Source.remaining g.R.Source.faults g.W.Sink.contents g.W.Sink.faults g.P.Starter.state c.args.source.now c.put.new.self c.args.starter.now in
-    subst (λ (o : Option Command). IsDone g.P.L.Link.state (g.P.Starter.allows c.args.starter.now) (solver_named (texts c.args.words.now)) before after o) asked
+    subst (λ (o : Option Command). IsDone g.P.L.Link.state (g.P.Starter.allows c.args.starter.now) (solver_named (texts c.args.words.now)) before after (generation_named (texts c.args.words.now)) o) asked
     (text_put held _ c.as_bytes.result.now help_text c.in_ok-put-in-Some-Help.ensures.ok c.as_bytes.ensures.value)
 
 pub returns-in_ok-put-in-Some-Version-clause-done : goal.returns-in_ok-put-in-Some-Version-clause-done
@@ -34,5 +34,5 @@ returns-in_ok-put-in-Some-Version-clause-done g c =
     let held = g.W.Sink.contents c.args.out.now in
     let before = around g.R.Source.remaining g.R.Source.faults g.W.Sink.contents g.W.Sink.faults g.P.Starter.state c.args.source.now c.args.out.now c.args.starter.now in
     let after = around g.R.Source.remaining g.R.Source.faults g.W.Sink.contents g.W.Sink.faults g.P.Starter.state c.args.source.now c.put-in-Some-Version.new.self c.args.starter.now in
-    subst (λ (o : Option Command). IsDone g.P.L.Link.state (g.P.Starter.allows c.args.starter.now) (solver_named (texts c.args.words.now)) before after o) asked
+    subst (λ (o : Option Command). IsDone g.P.L.Link.state (g.P.Starter.allows c.args.starter.now) (solver_named (texts c.args.words.now)) before after (generation_named (texts c.args.words.now)) o) asked
     (text_put held _ c.as_bytes-in-Some-Version.result.now version_text c.in_ok-put-in-Some-Version.ensures.ok c.as_bytes-in-Some-Version.ensures.value)

@@ -2,7 +2,7 @@ use Rattle.std.proofs.Common.{ℕ, refl, sym, subst}
 use Rattle.smt_characters.specs.SharedTexts.{texts}
 use Rattle.smt_cli.specs.Causes.{around}
 use Rattle.smt_cli.specs.Run.{IsComplete}
-use Rattle.smt_cli.specs.Words.{commanded, solver_named}
+use Rattle.smt_cli.specs.Words.{commanded, generation_named, solver_named}
 use Rattle.smt_cli.proofs.Statuses.{done_complete, refused_complete}
 use Rattle.smt_cli.proofs.program.run.Goals as goal
 
@@ -10,7 +10,7 @@ pub returns-in-Ok-clause-complete : goal.returns-in-Ok-clause-complete
 returns-in-Ok-clause-complete g c =
     let before = around g.R.Source.remaining g.R.Source.faults g.W.Sink.contents g.W.Sink.faults g.P.Starter.state c.args.source.now c.args.out.now c.args.starter.now in
     let after = around g.R.Source.remaining g.R.Source.faults g.W.Sink.contents g.W.Sink.faults g.P.Starter.state c.answer.new.source c.answer.new.out c.answer.new.starter in
-    done_complete g.P.L.Link.state (g.P.Starter.allows c.args.starter.now) (solver_named (texts c.args.words.now)) before after 0 (commanded (texts c.args.words.now)) refl c.in-Ok.ensures.done
+    done_complete g.P.L.Link.state (g.P.Starter.allows c.args.starter.now) (solver_named (texts c.args.words.now)) before after 0 (generation_named (texts c.args.words.now)) (commanded (texts c.args.words.now)) refl c.in-Ok.ensures.done
 
 pub returns-in-Err-clause-complete : goal.returns-in-Err-clause-complete
 returns-in-Err-clause-complete g c =

@@ -1,0 +1,7 @@
+use Rattle.std.proofs.Common.{◌≡◌}
+use Rattle.smt_jobs.specs.JobView.{declarations}
+use Rattle.smt_generated.specs.Generated.{variables_below}
+use Rattle.smt_generated.proofs.generate.variables.Given as goal
+
+abbrev pub invariant-loop-number : goal.invariant-loop-number
+invariant-loop-number l = declarations l.variables ≡ variables_below l.number
