@@ -9,6 +9,9 @@ A fifth family is a sum of a term with itself, 10, 20 and 40 deep. No job can wr
 a term. So it is measured with programs of its own, which are called as `PROGRAM DEPTH` and print the script of such a
 term. Ours is `smt_shared_sum`.
 
+A sixth family is the job that `gen 7 N` makes from the number 7, of a thousand, ten thousand and a hundred thousand terms.
+Both programs are called as `PROGRAM gen 7 N`. They keep no script, and print six numbers of it.
+
 Time is processor time, of the program and of the system for it, and memory is the peak of what was resident. Of several
 runs the least of each counts. The programs take turns, so that other work on the machine falls on both. Their outputs
 are compared by their SHA-256. The status is 1 where these differ or a program fails.
@@ -30,6 +33,7 @@ import tempfile
 TOP = pathlib.Path(__file__).resolve().parent.parent
 SIZES = [1_000_000, 4_000_000, 16_000_000]
 DEPTHS = [10, 20, 40]
+COUNTS = [1_000, 10_000, 100_000]
 VARIABLES = 1000
 SEED = 1
 
@@ -84,6 +88,7 @@ JOBS = [
     ("sums 450 deep", "(BitVec 64)", deep_sum),
 ]
 SHARED = "a sum of a term with itself"
+GENERATED = "a job from a number"
 
 
 def write_job(path, size, sort, term):
@@ -163,6 +168,12 @@ def shared_cases():
         yield f"depth {depth}", [str(depth)], os.devnull
 
 
+def generated_cases():
+    """The same of a job from a number."""
+    for count in COUNTS:
+        yield f"{count} terms", ["gen", "7", str(count)], os.devnull
+
+
 def row(found):
     """The cells of a row: what each program took, and both beside each other where there are two without fault."""
     cells = []
@@ -198,6 +209,7 @@ def families(folder, options):
     """Each family: its name, the programs that are measured, and its sizes."""
     for family, sort, term in JOBS:
         yield family, [path for path in (options.ours, options.public) if path], job_cases(sort, term, folder)
+    yield GENERATED, [path for path in (options.ours, options.public) if path], generated_cases()
     if options.shared:
         yield SHARED, [path for path in (options.shared, options.public_shared) if path], shared_cases()
 
