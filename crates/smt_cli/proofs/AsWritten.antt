@@ -23,7 +23,7 @@ use Rattle.smt_lines.specs.Text.{names, text}
 use Rattle.smt_carrying.specs.CarriedInterpretations.{carry_interpretation}
 use Rattle.smt_headline.specs.Conditions.{AreConditions}
 use Rattle.smt_headline.specs.Headline.{AreTrue, Headline}
-use Rattle.smt_jobs.proofs.TypedJobs.{IsCondition}
+use Rattle.smt_job_grammar.specs.Laws.{IsCondition}
 
 -- ---- interpretations that give the same
 

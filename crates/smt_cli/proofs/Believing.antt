@@ -3,6 +3,7 @@ use Rattle.std.proofs.Common.{◌≡◌, ℕ, List, [], map, Option, Some, None,
 use Rattle.std.proofs.lemmas.Bool.{false≢true}
 use Rattle.std.specs.List.{AllByRecursion}
 use Rattle.std.specs.Prelude.{IfSome, IsTrue, is_some}
+use Rattle.smt_meaning.specs.Faults.{first_fault}
 use Rattle.smt_meaning.specs.Interpretations.{IsInterpretation}
 use Rattle.smt_meaning.specs.Tables.{Interpretation}
 use Rattle.smt_meaning.specs.Typing.{AreBoolean}
@@ -22,38 +23,12 @@ use Rattle.smt_verdicts.specs.Verdicts.{logic_text, question_of}
 use Rattle.smt_verdicts.proofs.Asking.{checks_are_in_turn}
 use Rattle.smt_verdicts.proofs.Believing.{logic_is_blank, unsat_is_believed}
 use Rattle.smt_checks.specs.Checks.{Decides, IsAnswered}
-use Rattle.smt_jobs.proofs.TypedJobs.{IsCondition, bound, job_conditions, jobs_are_faultless}
-use Rattle.smt_jobs.specs.Job.{IsBuiltFrom, IsJob, PlainJob, built_job, conditions_of, declared_by, empty_section, job_of_sections, section}
+use Rattle.smt_job_grammar.proofs.Jobs.{job_conditions, job_without_enums}
+use Rattle.smt_job_grammar.specs.Jobs.{IsBuiltFrom, IsJob, PlainJob, built_job, fault_of}
+use Rattle.smt_job_grammar.specs.Laws.{IsCondition}
 use Rattle.smt_cli.specs.Causes.{Around}
 use Rattle.smt_cli.specs.Run.{IsChecked, IsTold}
 use Rattle.smt_cli.proofs.AsWritten.{built_booleans, built_conditions, true_as_built}
-
--- ---- jobs have no enum types yet
-
-abbrev HasNoEnums : PlainJob → Type 0
-HasNoEnums job = job.enums ≡ []
-
-each : {A : Type 0} (P : A → Type 0) (o : Option A) → ((a : A) → P a) → IfSome o P
-each P (Some a) h = h a
-each P None h = tt
-
-no_enums_in : (es : Expressions) → IfSome (job_of_sections es) HasNoEnums
-no_enums_in (Cons enums (Cons variables (Cons functions (Cons conditions Nil)))) =
-    bound HasNoEnums (empty_section (codes "enums") enums) _ (each _ (empty_section (codes "enums") enums) (λ a.
-    bound HasNoEnums (section (codes "vars") variables) _ (each _ (section (codes "vars") variables) (λ vs.
-    bound HasNoEnums (empty_section (codes "funs") functions) _ (each _ (empty_section (codes "funs") functions) (λ b.
-    bound HasNoEnums (section (codes "terms") conditions) _ (each _ (section (codes "terms") conditions) (λ ts.
-    bound HasNoEnums (declared_by [] vs) _ (each _ (declared_by [] vs) (λ declared.
-    bound HasNoEnums (conditions_of declared ts) _ (each _ (conditions_of declared ts) (λ written. refl))))))))))))
-no_enums_in Nil = tt
-no_enums_in (Cons a Nil) = tt
-no_enums_in (Cons a (Cons b Nil)) = tt
-no_enums_in (Cons a (Cons b (Cons c Nil))) = tt
-no_enums_in (Cons a (Cons b (Cons c (Cons d (Cons e es))))) = tt
-
-no_enums : (bytes : List ℕ) (job : PlainJob) → IsJob bytes job → job.enums ≡ []
-no_enums bytes job is =
-    subst (λ (o : Option PlainJob). IfSome o HasNoEnums) is.stated (bound HasNoEnums (section (codes "job") is.expression) job_of_sections (each _ (section (codes "job") is.expression) no_enums_in))
 
 are_enums : (enums : Enums) → enums ≡ [] → AreEnums enums
 are_enums enums none = subst AreEnums (sym none) tt
@@ -65,37 +40,39 @@ told_allowed allows (Some s) (Some r) question line p q h = h
 told_allowed allows None r question line p q h = absurd (false≢true p)
 told_allowed allows (Some s) None question line p q h = absurd (false≢true q)
 
-believed : (bytes : List ℕ) (job : PlainJob) → IsJob bytes job → Headline job.enums (names job.enums (map built job.terms)) (map built job.terms) (text job.enums (map built job.terms))
+believed : (bytes : List ℕ) (job : PlainJob) → IsJob bytes job → fault_of job ≡ None → Headline job.enums (names job.enums (map built job.terms)) (map built job.terms) (text job.enums (map built job.terms))
     → (allows : List ℕ → List ℕ → List ℕ → Type 0) (s : LinkState) (d : Decision) → IsAnswered allows s (question_of (text job.enums (map built job.terms))) d
     → IsTold s → IsHonest allows → d ≡ Unsat → (I : Interpretation) → IsInterpretation job.enums job.terms I → AreTrue I job.terms → ⊥
-believed bytes job is h allows s d a told honest unsat I given hold =
+believed bytes job is none h allows s d a told honest unsat I given hold =
     let ts = map built job.terms in
     let script = text job.enums ts in
     let conditions = job_conditions bytes job is in
     let allowed = told_allowed allows s.sent s.was_read (question_of script) a.line told.0 told.1 a.allowed in
     let says = subst (λ (e : Decision). StripsTo a.line (decision_word e)) unsat a.says in
-    let turn = checks_are_in_turn job.enums ts (are_enums job.enums (no_enums bytes job is)) (built_conditions job.enums job.terms conditions (jobs_are_faultless bytes job is)) in
+    let turn = checks_are_in_turn job.enums ts (are_enums job.enums (job_without_enums bytes job is)) (built_conditions job.enums job.terms conditions none) in
     let built_too = true_as_built job.enums I job.terms conditions given hold in
     unsat_is_believed job.enums (names job.enums ts) ts logic_text script [] a.line logic_is_blank h turn (honest (question_of script) [] a.line allowed) says I built_too.0 built_too.1
 
 -- What was read whole is a job that was checked.
 module _ {L : Type 0} (state : L → LinkState) (allows : List ℕ → List ℕ → List ℕ → Type 0) (call : SolverCall) (before after : Around L) where
   pub checked : (left : Option (List ℕ)) (job : PlainJob) (script : List ℕ) (d : Decision) → IfSome left (λ bytes. IsBuiltFrom bytes job) → script ≡ text job.enums job.terms
-      → (AreBoolean job.terms → Headline job.enums (names job.enums job.terms) job.terms (text job.enums job.terms)) → Decides state allows before.starter after.starter call script d → IfSome left (IsChecked state allows call before after d)
-  checked None job script d is same means decides = tt
-  checked (Some bytes) job script d is same means decides = shown job is.is_built same means
+      → (AreBoolean job.terms → Headline job.enums (names job.enums job.terms) job.terms (text job.enums job.terms)) → first_fault job.enums job.terms ≡ None → Decides state allows before.starter after.starter call script d → IfSome left (IsChecked state allows call before after d)
+  checked None job script d is same means faultless decides = tt
+  checked (Some bytes) job script d is same means faultless decides = shown job is.is_built same means faultless
     where
       conditions : AllByRecursion IsCondition is.written.terms
       conditions = job_conditions bytes is.written is.is_job
 
-      shown : (j : PlainJob) → j ≡ built_job is.written → script ≡ text j.enums j.terms → (AreBoolean j.terms → Headline j.enums (names j.enums j.terms) j.terms (text j.enums j.terms)) → IsChecked state allows call before after d bytes
-      shown j e p m =
+      shown : (j : PlainJob) → j ≡ built_job is.written → script ≡ text j.enums j.terms → (AreBoolean j.terms → Headline j.enums (names j.enums j.terms) j.terms (text j.enums j.terms)) → first_fault j.enums j.terms ≡ None → IsChecked state allows call before after d bytes
+      shown j e p m none =
           let mean : Headline is.written.enums (names is.written.enums (map built is.written.terms)) (map built is.written.terms) (text is.written.enums (map built is.written.terms)) = subst (λ (x : PlainJob). (AreBoolean x.terms → Headline x.enums (names x.enums x.terms) x.terms (text x.enums x.terms))) e m (built_booleans is.written.terms conditions) in
           let script_is : script ≡ text is.written.enums (map built is.written.terms) = subst (λ (x : PlainJob). script ≡ text x.enums x.terms) e p in
           let d_is : Decides state allows before.starter after.starter call (text is.written.enums (map built is.written.terms)) d = subst (λ (t : List ℕ). Decides state allows before.starter after.starter call t d) script_is decides in
+          let none_is : fault_of is.written ≡ None = subst (λ (x : PlainJob). first_fault x.enums x.terms ≡ None) e none in
           record {
             job = is.written;
             is_job = is.is_job;
+            faultless = none_is;
             decides = d_is;
-            believed = believed bytes is.written is.is_job mean allows (state d_is.link) d d_is.of_link;
+            believed = believed bytes is.written is.is_job none_is mean allows (state d_is.link) d d_is.of_link;
           }

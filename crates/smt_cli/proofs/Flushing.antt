@@ -7,12 +7,11 @@ use Rattle.smt_script.specs.declared.sink.SinkError.TheVariants.{Fault as SinkFa
 use Rattle.smt_solve.specs.Link.{LinkState}
 use Rattle.smt_solve.specs.Starter.{Command as SolverCall}
 use Rattle.smt_checks.specs.Checks.{Returns}
-use Rattle.smt_cli.specs.Causes.{Around, HasCause, HasCheckCause, HasPutCause, HasScriptCause, IsAJob, LeavesOutput, SinkFailed}
+use Rattle.smt_cli.specs.Causes.{Around, HasCause, HasCheckCause, HasPutCause, HasScriptCause, IsAJob, IsFaultlessJob, LeavesOutput, SinkFailed}
 use Rattle.smt_cli.specs.Refusal.{sink_refusal}
 use Rattle.smt_cli.specs.Run.{Checks, IsDone, Prints}
 use Rattle.smt_cli.specs.declared.command.Command.{Command}
 use Rattle.smt_cli.specs.declared.command.Command.TheVariants.{Script, Check, Generate, Help, Version}
-use Rattle.smt_cli.specs.declared.refusal.JobRefusal.TheVariants.{TooLarge, BadForm}
 use Rattle.smt_cli.specs.declared.refusal.Refusal.{Refusal}
 use Rattle.smt_cli.specs.declared.refusal.Refusal.TheVariants.{Usage, Job, Encode, Source, Sink, Start, Session, Memory}
 
@@ -24,8 +23,7 @@ module _ {L : Type 0} (state : L → LinkState) (call : SolverCall) (before afte
 
   script_cause : (r : Refusal) → HasScriptCause before after r → HasScriptCause before flushed r
   script_cause Usage h = h
-  script_cause (Job TooLarge) h = h
-  script_cause (Job BadForm) h = h
+  script_cause (Job kind) h = h
   script_cause (Encode kind) h = h
   script_cause Source h = h
   script_cause Sink h = (later h.0, h.1)
@@ -35,8 +33,7 @@ module _ {L : Type 0} (state : L → LinkState) (call : SolverCall) (before afte
 
   check_cause : (r : Refusal) → HasCheckCause state call before after r → HasCheckCause state call before flushed r
   check_cause Usage h = h
-  check_cause (Job TooLarge) h = h
-  check_cause (Job BadForm) h = h
+  check_cause (Job kind) h = h
   check_cause (Encode kind) h = h
   check_cause Source h = h
   check_cause Sink h = (later h.0, h.1, h.2)
@@ -57,10 +54,10 @@ module _ {L : Type 0} (state : L → LinkState) (call : SolverCall) (before afte
   cause_stays (Some Version) r h = text_cause r h
   cause_stays None r h = h
 
--- some job has the bytes that were read
-is_a_job : (P : List ℕ → Type 0) (left : Option (List ℕ)) → ((bytes : List ℕ) → P bytes → IsAJob bytes) → IfSome left P → IfSome left IsAJob
-is_a_job P (Some bytes) jobs p = jobs bytes p
-is_a_job P None jobs p = tt
+-- what follows for the bytes that were read
+of_told : (P Q : List ℕ → Type 0) (left : Option (List ℕ)) → ((bytes : List ℕ) → P bytes → Q bytes) → IfSome left P → IfSome left Q
+of_told P Q (Some bytes) follows p = follows bytes p
+of_told P Q None follows p = tt
 
 module _ {L : Type 0} (state : L → LinkState) (allows : List ℕ → List ℕ → List ℕ → Type 0) (call : SolverCall) (before after : Around L) where
   -- the link of a check had come back, where the source told what was read
@@ -70,8 +67,8 @@ module _ {L : Type 0} (state : L → LinkState) (allows : List ℕ → List ℕ 
 
   -- an error of the flush has its cause, where what was asked for was put
   flush_cause : (generation : Option (ℕ × ℕ)) (c : Option Command) (error : SinkError) → IsDone state allows call before after generation c → (error ≡ SinkFault → SinkFailed before after) → HasCause state c call before after (sink_refusal error)
-  flush_cause generation (Some Script) SinkFault done failed = (failed refl, is_a_job (Prints before.held after.held) before.left (λ bytes p. (p.job, p.is_job)) done.holds)
-  flush_cause generation (Some Check) SinkFault done failed = (failed refl, is_a_job (Checks state allows call before after) before.left (λ bytes p. (p.checked.job, p.checked.is_job)) done.holds, came_back before.left done.holds)
+  flush_cause generation (Some Script) SinkFault done failed = (failed refl, of_told (Prints before.held after.held) IsAJob before.left (λ bytes p. (p.job, p.is_job)) done.holds)
+  flush_cause generation (Some Check) SinkFault done failed = (failed refl, of_told (Checks state allows call before after) IsFaultlessJob before.left (λ bytes p. (p.checked.job, p.checked.is_job, p.checked.faultless)) done.holds, came_back before.left done.holds)
   flush_cause generation (Some Generate) SinkFault done failed = failed refl
   flush_cause generation (Some Help) SinkFault done failed = failed refl
   flush_cause generation (Some Version) SinkFault done failed = failed refl
@@ -98,7 +95,7 @@ module _ {L : Type 0} (state : L → LinkState) (allows : List ℕ → List ℕ 
   still_checked None h = tt
   still_checked (Some bytes) h = record {
     decision = h.decision;
-    checked = record { job = h.checked.job; is_job = h.checked.is_job; decides = h.checked.decides; believed = h.checked.believed };
+    checked = record { job = h.checked.job; is_job = h.checked.is_job; faultless = h.checked.faultless; decides = h.checked.decides; believed = h.checked.believed };
     printed = h.printed;
   }
 

@@ -6,23 +6,27 @@ use Rattle.std.specs.Rc.{rc_str_bytes}
 use Rattle.std.specs.declared.alloc.Global.{Global}
 use Rattle.std.specs.declared.rc.RcStr.{RcStr}
 use Rattle.std.specs.List.{AllByRecursion}
+use Rattle.smt_meaning.specs.Faults.{first_fault}
 use Rattle.smt_meaning.specs.Typing.{AreBoolean}
 use Rattle.smt_folding.specs.Built.{built}
 use Rattle.smt_headline.specs.Headline.{Headline}
 use Rattle.smt_lines.specs.Text.{names, text}
 use Rattle.smt_characters.specs.SharedTexts.{texts}
 use Rattle.smt_cli.proofs.AsWritten.{as_written, built_booleans}
-use Rattle.smt_jobs.proofs.Giving.{other_text}
-use Rattle.smt_jobs.proofs.TypedJobs.{IsCondition, job_conditions}
-use Rattle.smt_jobs.specs.Job.{IsBuiltFrom, PlainJob, built_job, greatest_length}
+use Rattle.smt_jobs.proofs.FormsRead.{other_text}
+use Rattle.smt_job_grammar.proofs.Jobs.{job_conditions}
+use Rattle.smt_job_grammar.specs.Jobs.{HasFault, IsBuiltFrom, IsTooLong, PlainJob, built_job, greatest_length}
+use Rattle.smt_job_grammar.specs.Laws.{IsCondition}
+use Rattle.smt_jobs.specs.JobView.{fault_in}
 use Rattle.smt_cli.specs.Refusal.{job_refusal}
-use Rattle.smt_cli.specs.Causes.{HasNoForm, HasReadCause, IsNoJob}
+use Rattle.smt_cli.specs.Causes.{HasReadCause}
 use Rattle.smt_cli.specs.Run.{Prints}
 use Rattle.smt_cli.specs.Words.{commanded, generate_by, generation_named}
 use Rattle.smt_cli.specs.declared.command.Command.{Command}
-use Rattle.smt_jobs.specs.declared.job.JobError.{JobError}
-use Rattle.smt_jobs.specs.declared.job.JobError.TheVariants.{TooLarge as JobTooLarge, BadForm as JobBadForm, Memory as JobWant}
+use Rattle.smt_jobs.specs.declared.error.JobError.{JobError}
+use Rattle.smt_jobs.specs.declared.error.JobError.TheVariants.{TooLarge as JobTooLarge, BadForm as JobBadForm, UnknownName as JobUnknownName, DuplicateName as JobDuplicateName, BadType as JobBadType, BadWidth as JobBadWidth, BadLiteral as JobBadLiteral, IllTyped as JobIllTyped, NotBool as JobNotBool, Memory as JobWant}
 use Rattle.smt_cli.specs.declared.refusal.ReadRefusal.{ReadRefusal}
+use Rattle.smt_cli.specs.declared.refusal.ReadRefusal.TheVariants.{Job as ReadJob, Source as ReadSource, Memory as ReadWant}
 
 -- a word that is no command
 pub unasked : (words : List (RcStr Global)) (word : RcStr Global) (w : List ℕ) → 1 ≤ length words → length words < 2 → word ≡ get_or words 0 word → w ≡ rc_str_bytes word
@@ -48,39 +52,66 @@ ungenerated (x ∷ []) word w l m p q other = absurd (omega (arith, l))
 ungenerated (x ∷ y ∷ []) word w l m p q other = absurd (omega (arith, l))
 ungenerated (x ∷ y ∷ z ∷ t ∷ words) word w l m p q other = absurd (omega (arith, m))
 
--- what was read whole has not the form of a job
-pub no_form : (remaining : Option (List ℕ)) (bytes : List ℕ) → IfSome remaining (λ all. all ≡ bytes) → HasNoForm bytes → IfSome remaining HasNoForm
-no_form (Some all) bytes p none = subst (λ (b : List ℕ). HasNoForm b) (sym p) none
-no_form None bytes p none = tt
+-- why bytes were refused as a job
+abbrev WhyRefused : List ℕ → ReadRefusal → Type 0
+WhyRefused bytes r = HasReadCause (Some bytes) ⊥ r
+
+module _ (bytes : List ℕ) (within : length bytes ≤ greatest_length) where
+  why_refused : (error : JobError) → (error ≡ JobTooLarge → IsTooLong bytes) → IfSome (fault_in error) (HasFault bytes) → WhyRefused bytes (job_refusal error)
+  why_refused JobTooLarge long refused = absurd (let l = long refl in omega (arith, within, l))
+  why_refused JobBadForm long refused = (_, refl, refused)
+  why_refused (JobUnknownName text) long refused = (_, refl, refused)
+  why_refused (JobDuplicateName text) long refused = (_, refl, refused)
+  why_refused JobBadType long refused = (_, refl, refused)
+  why_refused JobBadWidth long refused = (_, refl, refused)
+  why_refused (JobBadLiteral text) long refused = (_, refl, refused)
+  why_refused JobIllTyped long refused = (_, refl, refused)
+  why_refused JobNotBool long refused = (_, refl, refused)
+  why_refused JobWant long refused = tt
+
+-- the source failed or not: a cause that needs no failure is one beside it
+beside : (source_failed : Type 0) (bytes : List ℕ) (r : ReadRefusal) → WhyRefused bytes r → HasReadCause (Some bytes) source_failed r
+beside source_failed bytes (ReadJob kind) h = h
+beside source_failed bytes ReadSource h = absurd h
+beside source_failed bytes ReadWant h = tt
+
+untold : (source_failed : Type 0) (r : ReadRefusal) (bytes : List ℕ) → WhyRefused bytes r → HasReadCause None source_failed r
+untold source_failed (ReadJob kind) bytes h = tt
+untold source_failed ReadSource bytes h = absurd h
+untold source_failed ReadWant bytes h = tt
+
+cause_read : (remaining : Option (List ℕ)) (source_failed : Type 0) (bytes : List ℕ) (r : ReadRefusal) → IfSome remaining (λ told. told ≡ bytes) → WhyRefused bytes r → HasReadCause remaining source_failed r
+cause_read (Some told) source_failed bytes r same h = subst (λ (b : List ℕ). HasReadCause (Some b) source_failed r) (sym same) (beside source_failed bytes r h)
+cause_read None source_failed bytes r same h = untold source_failed r bytes h
 
 -- what was read whole and is no job is refused as such
 pub job_unread : {T : Type 0} (result : Result T ReadRefusal) (error : JobError) (remaining : Option (List ℕ)) (source_failed : Type 0) (all bytes : List ℕ) → IsErrAnd result (λ r. r ≡ job_refusal error) → IfSome remaining (λ told. told ≡ all) → bytes ≡ all
-    → length bytes ≤ greatest_length → (error ≡ JobTooLarge → greatest_length < length bytes) → (error ≡ JobBadForm → IsNoJob bytes) → IfErr result (HasReadCause remaining source_failed)
-job_unread (Ok job) error remaining source_failed all bytes e whole same short long none = tt
-job_unread (Err r) JobTooLarge remaining source_failed all bytes e whole same short long none = absurd (omega (arith, short, long refl))
-job_unread (Err r) JobBadForm remaining source_failed all bytes e whole same short long none =
-    subst (λ (x : ReadRefusal). HasReadCause remaining source_failed x) (sym e) (no_form remaining all whole (subst (λ (b : List ℕ). HasNoForm b) same (short, none refl)))
-job_unread (Err r) JobWant remaining source_failed all bytes e whole same short long none = subst (λ (x : ReadRefusal). HasReadCause remaining source_failed x) (sym e) tt
+    → length bytes ≤ greatest_length → (error ≡ JobTooLarge → IsTooLong bytes) → IfSome (fault_in error) (HasFault bytes) → IfErr result (HasReadCause remaining source_failed)
+job_unread (Ok job) error remaining source_failed all bytes e whole same short long refused = tt
+job_unread (Err r) error remaining source_failed all bytes e whole same short long refused =
+    subst (λ (x : ReadRefusal). HasReadCause remaining source_failed x) (sym e)
+    (cause_read remaining source_failed all (job_refusal error) whole (subst (λ (b : List ℕ). WhyRefused b (job_refusal error)) same (why_refused bytes short error long refused)))
 
 -- what was read whole is a job whose script was put
 pub prints : (remaining : Option (List ℕ)) (job : PlainJob) (old new : Option (List ℕ)) → IfSome remaining (λ bytes. IsBuiltFrom bytes job) → new ≡ append_known old (text job.enums job.terms)
-    → (AreBoolean job.terms → Headline job.enums (names job.enums job.terms) job.terms (text job.enums job.terms)) → IfSome remaining (Prints old new)
-prints (Some bytes) job old new is put means = shown job is.is_built put means
+    → (AreBoolean job.terms → Headline job.enums (names job.enums job.terms) job.terms (text job.enums job.terms)) → first_fault job.enums job.terms ≡ None → IfSome remaining (Prints old new)
+prints (Some bytes) job old new is put means faultless = shown job is.is_built put means faultless
   where
     conditions : AllByRecursion IsCondition is.written.terms
     conditions = job_conditions bytes is.written is.is_job
 
-    shown : (j : PlainJob) → j ≡ built_job is.written → new ≡ append_known old (text j.enums j.terms) → (AreBoolean j.terms → Headline j.enums (names j.enums j.terms) j.terms (text j.enums j.terms)) → Prints old new bytes
-    shown j e p m =
+    shown : (j : PlainJob) → j ≡ built_job is.written → new ≡ append_known old (text j.enums j.terms) → (AreBoolean j.terms → Headline j.enums (names j.enums j.terms) j.terms (text j.enums j.terms)) → first_fault j.enums j.terms ≡ None → Prints old new bytes
+    shown j e p m none =
         let mean : Headline is.written.enums (names is.written.enums (map built is.written.terms)) (map built is.written.terms) (text is.written.enums (map built is.written.terms)) = subst (λ (x : PlainJob). (AreBoolean x.terms → Headline x.enums (names x.enums x.terms) x.terms (text x.enums x.terms))) e m (built_booleans is.written.terms conditions) in
         record {
           job = is.written;
           is_job = is.is_job;
+          faultless = subst (λ (x : PlainJob). first_fault x.enums x.terms ≡ None) e none;
           printed = p ∙ ap (λ (x : PlainJob). append_known old (text x.enums x.terms)) e;
           means = mean;
           true_as_written = λ I given. as_written is.written.enums I is.written.terms mean conditions given;
         }
-prints None job old new is put means = tt
+prints None job old new is put means faultless = tt
 
 -- what a text was put as
 pub text_put : (old new : Option (List ℕ)) (bytes text : List ℕ) → new ≡ append_known old bytes → bytes ≡ text → new ≡ append_known old text

@@ -3,18 +3,19 @@ use Rattle.std.proofs.Common.{◌≡◌, ℕ, true, List, Option, Some, None, re
 use Rattle.std.specs.Prelude.{◌⊎◌, IfSome, is_some}
 use Rattle.std.proofs.lemmas.Bool.{false≢true}
 use Rattle.smt_meaning.specs.Faults.{Fault}
-use Rattle.smt_jobs.proofs.TypedJobs.{jobs_are_faultless}
-use Rattle.smt_jobs.specs.Job.{fault_of}
+use Rattle.smt_job_grammar.proofs.Jobs.{job_has_no_fault, job_is_short, one_job}
+use Rattle.smt_job_grammar.specs.Jobs.{fault_of}
 use Rattle.smt_solve.specs.Link.{LinkState}
 use Rattle.smt_solve.specs.Starter.{Command as SolverCall}
-use Rattle.smt_cli.specs.Causes.{Around, HasCause, HasCheckCause, HasFaultOf, HasPutCause, HasScriptCause, IsAJob, IsFaultOf, IsNoJob, SinkFailed, SourceFailed, StartFailed}
+use Rattle.smt_cli.specs.Causes.{Around, HasCause, HasCheckCause, HasFaultOf, HasPutCause, HasScriptCause, IsAJob, IsFaultOf, IsFaultlessJob, IsFaultyScript, IsNoJob, IsRefusedAs, SinkFailed, SourceFailed, StartFailed}
 use Rattle.smt_cli.specs.Refusal.{status_of}
 use Rattle.smt_cli.specs.Run.{Checks, IsComplete, IsDone, Prints}
 use Rattle.smt_cli.specs.declared.command.Command.{Command}
 use Rattle.smt_cli.specs.declared.command.Command.TheVariants.{Script, Check, Generate, Help, Version}
 use Rattle.smt_cli.specs.declared.refusal.EncodeRefusal.{EncodeRefusal}
 use Rattle.smt_cli.specs.declared.refusal.EncodeRefusal.TheVariants.{EmptyEnum, EncodeStringFailed, EncodePatternFailed, EnumMissingMember, ExpectRecord, MalformedRecordGet, MissingTypeEncoding, RecordMissingAttr}
-use Rattle.smt_cli.specs.declared.refusal.JobRefusal.TheVariants.{TooLarge, BadForm}
+use Rattle.smt_cli.specs.declared.refusal.JobRefusal.{JobRefusal}
+use Rattle.smt_cli.specs.declared.refusal.JobRefusal.TheVariants.{TooLarge, BadForm, UnknownName, DuplicateName, BadType, BadWidth, BadLiteral, IllTyped, NotBool}
 use Rattle.smt_cli.specs.declared.refusal.Refusal.{Refusal}
 use Rattle.smt_cli.specs.declared.refusal.Refusal.TheVariants.{Usage, Job, Encode, Source, Sink, Start, Session, Memory}
 
@@ -29,9 +30,24 @@ is_fault MissingTypeEncoding fault h = ap is_some h.1
 is_fault ExpectRecord fault h = ap is_some h.1
 is_fault RecordMissingAttr fault h = ap is_some h.1
 
--- no job has one
-no_fault : (bytes : List ℕ) (kind : EncodeRefusal) → HasFaultOf kind bytes → ⊥
-no_fault bytes kind h = false≢true (sym (ap is_some (jobs_are_faultless bytes h.0 h.1)) ∙ is_fault kind (fault_of h.0) h.2)
+-- what is built of a job has a fault or not
+no_fault : (bytes : List ℕ) (kind : EncodeRefusal) → IsFaultlessJob bytes → HasFaultOf kind bytes → ⊥
+no_fault bytes kind j h = false≢true (sym (ap is_some j.2) ∙ ap (λ job. is_some (fault_of job)) (one_job bytes j.0 h.0 j.1 h.1) ∙ is_fault kind (fault_of h.0) h.2)
+
+some_fault : (bytes : List ℕ) → IsFaultyScript bytes → IsFaultlessJob bytes → ⊥
+some_fault bytes j h = false≢true (sym (ap is_some h.2) ∙ ap (λ job. is_some (fault_of job)) (one_job bytes h.0 j.0 h.1 j.1) ∙ j.2)
+
+-- a job is not refused as none
+not_refused : (bytes : List ℕ) (kind : JobRefusal) → IsAJob bytes → IsRefusedAs kind bytes → ⊥
+not_refused bytes TooLarge j h = job_is_short bytes j.0 j.1 h
+not_refused bytes BadForm j h = job_has_no_fault bytes j.0 h.0 j.1 h.2
+not_refused bytes UnknownName j h = job_has_no_fault bytes j.0 h.0 j.1 h.2
+not_refused bytes DuplicateName j h = job_has_no_fault bytes j.0 h.0 j.1 h.2
+not_refused bytes BadType j h = job_has_no_fault bytes j.0 h.0 j.1 h.2
+not_refused bytes BadWidth j h = job_has_no_fault bytes j.0 h.0 j.1 h.2
+not_refused bytes BadLiteral j h = job_has_no_fault bytes j.0 h.0 j.1 h.2
+not_refused bytes IllTyped j h = job_has_no_fault bytes j.0 h.0 j.1 h.2
+not_refused bytes NotBool j h = job_has_no_fault bytes j.0 h.0 j.1 h.2
 
 module _ {L : Type 0} (state : L → LinkState) (call : SolverCall) (before after : Around L) where
   -- what stood before, with this left in the source
@@ -39,12 +55,11 @@ module _ {L : Type 0} (state : L → LinkState) (call : SolverCall) (before afte
   leaving left = record before { left = left }
 
   -- a job is refused for want of memory alone
-  accepted : (left : Option (List ℕ)) (r : Refusal) → HasScriptCause (leaving left) after r → ¬ SourceFailed before after → ¬ SinkFailed before after → IfSome left (λ bytes. IsAJob bytes → (status_of r ≡ 0) ⊎ (status_of r ≡ 7))
+  accepted : (left : Option (List ℕ)) (r : Refusal) → HasScriptCause (leaving left) after r → ¬ SourceFailed before after → ¬ SinkFailed before after → IfSome left (λ bytes. IsFaultlessJob bytes → (status_of r ≡ 0) ⊎ (status_of r ≡ 7))
   accepted None r h given taken = tt
   accepted (Some bytes) Usage h given taken = absurd h
-  accepted (Some bytes) (Job TooLarge) h given taken = λ j. absurd (omega (arith, j.1.short, h))
-  accepted (Some bytes) (Job BadForm) h given taken = λ j. absurd (h.1 j.0 j.1)
-  accepted (Some bytes) (Encode kind) h given taken = λ j. absurd (no_fault bytes kind h)
+  accepted (Some bytes) (Job kind) h given taken = λ j. absurd (not_refused bytes kind (j.0, j.1) h)
+  accepted (Some bytes) (Encode kind) h given taken = λ j. absurd (no_fault bytes kind j h)
   accepted (Some bytes) Source h given taken = absurd (given h)
   accepted (Some bytes) Sink h given taken = absurd (taken h.0)
   accepted (Some bytes) Start h given taken = absurd h
@@ -52,17 +67,39 @@ module _ {L : Type 0} (state : L → LinkState) (call : SolverCall) (before afte
   accepted (Some bytes) Memory h given taken = λ j. inr refl
 
   -- a job is not checked for want of memory, or because its session failed
-  checked : (left : Option (List ℕ)) (r : Refusal) → HasCheckCause state call (leaving left) after r → ¬ SourceFailed before after → ¬ SinkFailed before after → ¬ StartFailed before after → IfSome left (λ bytes. IsAJob bytes → (status_of r ≡ 0) ⊎ ((status_of r ≡ 7) ⊎ (status_of r ≡ 8)))
+  checked : (left : Option (List ℕ)) (r : Refusal) → HasCheckCause state call (leaving left) after r → ¬ SourceFailed before after → ¬ SinkFailed before after → ¬ StartFailed before after → IfSome left (λ bytes. IsFaultlessJob bytes → (status_of r ≡ 0) ⊎ ((status_of r ≡ 7) ⊎ (status_of r ≡ 8)))
   checked None r h given taken started = tt
   checked (Some bytes) Usage h given taken started = absurd h
-  checked (Some bytes) (Job TooLarge) h given taken started = λ j. absurd (omega (arith, j.1.short, h))
-  checked (Some bytes) (Job BadForm) h given taken started = λ j. absurd (h.1 j.0 j.1)
-  checked (Some bytes) (Encode kind) h given taken started = λ j. absurd (no_fault bytes kind h)
+  checked (Some bytes) (Job kind) h given taken started = λ j. absurd (not_refused bytes kind (j.0, j.1) h)
+  checked (Some bytes) (Encode kind) h given taken started = λ j. absurd (no_fault bytes kind j h)
   checked (Some bytes) Source h given taken started = absurd (given h)
   checked (Some bytes) Sink h given taken started = absurd (taken h.0)
   checked (Some bytes) Start h given taken started = absurd (started h.0)
   checked (Some bytes) (Session kind) h given taken started = λ j. inr (inr refl)
   checked (Some bytes) Memory h given taken started = λ j. inr (inl refl)
+
+  -- a job with a fault is refused by the encoder, but for want of memory
+  unwritten : (left : Option (List ℕ)) (r : Refusal) → HasScriptCause (leaving left) after r → ¬ SourceFailed before after → ¬ SinkFailed before after → IfSome left (λ bytes. IsFaultyScript bytes → (status_of r ≡ 4) ⊎ (status_of r ≡ 7))
+  unwritten None r h given taken = tt
+  unwritten (Some bytes) Usage h given taken = absurd h
+  unwritten (Some bytes) (Job kind) h given taken = λ j. absurd (not_refused bytes kind (j.0, j.1) h)
+  unwritten (Some bytes) (Encode kind) h given taken = λ j. inl refl
+  unwritten (Some bytes) Source h given taken = absurd (given h)
+  unwritten (Some bytes) Sink h given taken = absurd (taken h.0)
+  unwritten (Some bytes) Start h given taken = absurd h
+  unwritten (Some bytes) (Session kind) h given taken = absurd h
+  unwritten (Some bytes) Memory h given taken = λ j. inr refl
+
+  unasked : (left : Option (List ℕ)) (r : Refusal) → HasCheckCause state call (leaving left) after r → ¬ SourceFailed before after → ¬ SinkFailed before after → IfSome left (λ bytes. IsFaultyScript bytes → (status_of r ≡ 4) ⊎ (status_of r ≡ 7))
+  unasked None r h given taken = tt
+  unasked (Some bytes) Usage h given taken = absurd h
+  unasked (Some bytes) (Job kind) h given taken = λ j. absurd (not_refused bytes kind (j.0, j.1) h)
+  unasked (Some bytes) (Encode kind) h given taken = λ j. inl refl
+  unasked (Some bytes) Source h given taken = absurd (given h)
+  unasked (Some bytes) Sink h given taken = absurd (taken h.0)
+  unasked (Some bytes) Start h given taken = λ j. absurd (some_fault bytes j h.1)
+  unasked (Some bytes) (Session kind) h given taken = λ j. absurd (some_fault bytes j (h.0, h.1, h.2))
+  unasked (Some bytes) Memory h given taken = λ j. inr refl
 
   -- what is no job is refused as such, but for want of memory
   rejected : (left : Option (List ℕ)) (r : Refusal) → HasScriptCause (leaving left) after r → ¬ SourceFailed before after → IfSome left (λ bytes. IsNoJob bytes → (status_of r ≡ 3) ⊎ (status_of r ≡ 7))
@@ -97,6 +134,7 @@ module _ {L : Type 0} (state : L → LinkState) (call : SolverCall) (before afte
   refused_complete (Some Script) r h = record {
     accepted = λ p. accepted before.left r h;
     checked = λ p. absurd cc;
+    unwritten = λ p. unwritten before.left r h;
     rejected = λ p. rejected before.left r h;
     summarized = λ p. absurd cc;
     printed = λ p taken. absurd (⊎_elim (λ q. cc) (λ q. cc) p);
@@ -104,6 +142,7 @@ module _ {L : Type 0} (state : L → LinkState) (call : SolverCall) (before afte
   refused_complete (Some Check) r h = record {
     accepted = λ p. absurd cc;
     checked = λ p. checked before.left r h;
+    unwritten = λ p. unasked before.left r h;
     rejected = λ p. unchecked before.left r h;
     summarized = λ p. absurd cc;
     printed = λ p taken. absurd (⊎_elim (λ q. cc) (λ q. cc) p);
@@ -111,26 +150,32 @@ module _ {L : Type 0} (state : L → LinkState) (call : SolverCall) (before afte
   refused_complete (Some Generate) r h = record {
     accepted = λ p. absurd cc;
     checked = λ p. absurd cc;
+    unwritten = λ p. absurd (⊎_elim (λ q. cc) (λ q. cc) p);
     rejected = λ p. absurd (⊎_elim (λ q. cc) (λ q. cc) p);
     summarized = λ p. printed r h;
     printed = λ p taken. absurd (⊎_elim (λ q. cc) (λ q. cc) p);
   }
-  refused_complete (Some Help) r h = record { accepted = λ p. absurd cc; checked = λ p. absurd cc; rejected = λ p. absurd (⊎_elim (λ q. cc) (λ q. cc) p); summarized = λ p. absurd cc; printed = λ p. printed r h }
-  refused_complete (Some Version) r h = record { accepted = λ p. absurd cc; checked = λ p. absurd cc; rejected = λ p. absurd (⊎_elim (λ q. cc) (λ q. cc) p); summarized = λ p. absurd cc; printed = λ p. printed r h }
-  refused_complete None r h = record { accepted = λ p. absurd cc; checked = λ p. absurd cc; rejected = λ p. absurd (⊎_elim (λ q. cc) (λ q. cc) p); summarized = λ p. absurd cc; printed = λ p taken. absurd (⊎_elim (λ q. cc) (λ q. cc) p) }
+  refused_complete (Some Help) r h = record { accepted = λ p. absurd cc; checked = λ p. absurd cc; unwritten = λ p. absurd (⊎_elim (λ q. cc) (λ q. cc) p); rejected = λ p. absurd (⊎_elim (λ q. cc) (λ q. cc) p); summarized = λ p. absurd cc; printed = λ p. printed r h }
+  refused_complete (Some Version) r h = record { accepted = λ p. absurd cc; checked = λ p. absurd cc; unwritten = λ p. absurd (⊎_elim (λ q. cc) (λ q. cc) p); rejected = λ p. absurd (⊎_elim (λ q. cc) (λ q. cc) p); summarized = λ p. absurd cc; printed = λ p. printed r h }
+  refused_complete None r h = record { accepted = λ p. absurd cc; checked = λ p. absurd cc; unwritten = λ p. absurd (⊎_elim (λ q. cc) (λ q. cc) p); rejected = λ p. absurd (⊎_elim (λ q. cc) (λ q. cc) p); summarized = λ p. absurd cc; printed = λ p taken. absurd (⊎_elim (λ q. cc) (λ q. cc) p) }
 
 -- no script of what is no job is put, and no verdict on it
 no_job_read : (status : ℕ) (P : List ℕ → Type 0) (left : Option (List ℕ)) → ((bytes : List ℕ) → P bytes → IsAJob bytes) → IfSome left P → IfSome left (λ bytes. IsNoJob bytes → (status ≡ 3) ⊎ (status ≡ 7))
 no_job_read status P None jobs p = tt
 no_job_read status P (Some bytes) jobs p = λ none. let j = jobs bytes p in absurd (none j.0 j.1)
 
-job_done : (status : ℕ) (left : Option (List ℕ)) → status ≡ 0 → IfSome left (λ bytes. IsAJob bytes → (status ≡ 0) ⊎ (status ≡ 7))
+job_done : (status : ℕ) (left : Option (List ℕ)) → status ≡ 0 → IfSome left (λ bytes. IsFaultlessJob bytes → (status ≡ 0) ⊎ (status ≡ 7))
 job_done status None zero = tt
 job_done status (Some bytes) zero = λ j. inl zero
 
-job_checked : (status : ℕ) (left : Option (List ℕ)) → status ≡ 0 → IfSome left (λ bytes. IsAJob bytes → (status ≡ 0) ⊎ ((status ≡ 7) ⊎ (status ≡ 8)))
+job_checked : (status : ℕ) (left : Option (List ℕ)) → status ≡ 0 → IfSome left (λ bytes. IsFaultlessJob bytes → (status ≡ 0) ⊎ ((status ≡ 7) ⊎ (status ≡ 8)))
 job_checked status None zero = tt
 job_checked status (Some bytes) zero = λ j. inl zero
+
+-- a job with a fault is not done
+not_written : (status : ℕ) (P : List ℕ → Type 0) (left : Option (List ℕ)) → ((bytes : List ℕ) → P bytes → IsFaultlessJob bytes) → IfSome left P → IfSome left (λ bytes. IsFaultyScript bytes → (status ≡ 4) ⊎ (status ≡ 7))
+not_written status P None jobs p = tt
+not_written status P (Some bytes) jobs p = λ j. absurd (some_fault bytes j (jobs bytes p))
 
 module _ {L : Type 0} (state : L → LinkState) (allows : List ℕ → List ℕ → List ℕ → Type 0) (call : SolverCall) (before after : Around L) (status : ℕ) where
   -- what is no job is neither printed nor checked
@@ -142,10 +187,20 @@ module _ {L : Type 0} (state : L → LinkState) (allows : List ℕ → List ℕ 
   no_job_done generation (Some Version) d p = absurd (⊎_elim (λ q. cc) (λ q. cc) p)
   no_job_done generation None d p = absurd d
 
+  -- nor is one with a fault
+  no_fault_done : (generation : Option (ℕ × ℕ)) (c : Option Command) → IsDone state allows call before after generation c → (c ≡ Some Script) ⊎ (c ≡ Some Check) → IfSome before.left (λ bytes. IsFaultyScript bytes → (status ≡ 4) ⊎ (status ≡ 7))
+  no_fault_done generation (Some Script) d p = not_written status (Prints before.held after.held) before.left (λ bytes x. (x.job, x.is_job, x.faultless)) d.holds
+  no_fault_done generation (Some Check) d p = not_written status (Checks state allows call before after) before.left (λ bytes x. (x.checked.job, x.checked.is_job, x.checked.faultless)) d.holds
+  no_fault_done generation (Some Generate) d p = absurd (⊎_elim (λ q. cc) (λ q. cc) p)
+  no_fault_done generation (Some Help) d p = absurd (⊎_elim (λ q. cc) (λ q. cc) p)
+  no_fault_done generation (Some Version) d p = absurd (⊎_elim (λ q. cc) (λ q. cc) p)
+  no_fault_done generation None d p = absurd d
+
   pub done_complete : (generation : Option (ℕ × ℕ)) (c : Option Command) → status ≡ 0 → IsDone state allows call before after generation c → IsComplete c before after status
   done_complete generation c zero d = record {
     accepted = λ p given taken. job_done status before.left zero;
     checked = λ p given taken started. job_checked status before.left zero;
+    unwritten = λ p given taken. no_fault_done generation c d p;
     rejected = λ p given. no_job_done generation c d p;
     summarized = λ p taken. inl zero;
     printed = λ p taken. inl zero;

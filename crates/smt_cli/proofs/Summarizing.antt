@@ -15,7 +15,7 @@ use Rattle.smt_lines.specs.NameTables.{Tables}
 use Rattle.smt_lines.specs.Text.{names, text}
 use Rattle.smt_script.specs.Count.{count_bytes, count_contents}
 use Rattle.smt_script.specs.declared.count.CountSink.{CountSink}
-use Rattle.smt_jobs.specs.Job.{PlainJob}
+use Rattle.smt_job_grammar.specs.Jobs.{PlainJob}
 use Rattle.smt_encode.specs.NodeTexts.{HasName}
 use Rattle.smt_encode.specs.declared.error.EncodeError.{EncodeError}
 use Rattle.smt_encode.specs.declared.error.EncodeError.TheVariants.{Memory}

@@ -4,7 +4,7 @@ use Rattle.std.specs.Io.KnownBytes.{append_known}
 use Rattle.std.specs.Prelude.{IfErr, IfSome, IsErrAnd}
 use Rattle.smt_meaning.specs.Faults.{Fault, first_fault}
 use Rattle.smt_lines.specs.Text.{text}
-use Rattle.smt_jobs.specs.Job.{IsBuiltFrom, PlainJob}
+use Rattle.smt_job_grammar.specs.Jobs.{IsBuiltFrom, PlainJob}
 use Rattle.smt_solve.specs.Link.{LinkState}
 use Rattle.smt_solve.specs.Starter.{Command as SolverCall}
 use Rattle.smt_solve.specs.declared.answer.Decision.{Decision}
@@ -12,11 +12,10 @@ use Rattle.smt_checks.specs.Checks.{WhyUnchecked}
 use Rattle.smt_checks.specs.declared.error.CheckError.{CheckError}
 use Rattle.smt_checks.specs.declared.error.CheckError.TheVariants.{Start as CheckStart, Session as CheckSession, Memory as CheckWant}
 use Rattle.smt_checks.specs.declared.error.SessionFault.{SessionFault}
-use Rattle.smt_cli.specs.Causes.{Around, HasCheckCause, HasFaultOf, HasPrintCause, HasReadCause, IsAJob, IsFaultOf, IsUnchecked, SourceFailed}
+use Rattle.smt_cli.specs.Causes.{Around, HasCheckCause, HasFaultOf, HasPrintCause, HasReadCause, IsFaultOf, IsFaultlessJob, IsUnchecked, SourceFailed}
 use Rattle.smt_cli.specs.Refusal.{check_refusal, print_refusal, read_refusal}
 use Rattle.smt_cli.specs.Run.{Checks, IsChecked, verdict_line}
 use Rattle.smt_cli.specs.declared.refusal.EncodeRefusal.{EncodeRefusal}
-use Rattle.smt_cli.specs.declared.refusal.JobRefusal.TheVariants.{TooLarge, BadForm}
 use Rattle.smt_cli.specs.declared.refusal.PrintRefusal.{PrintRefusal}
 use Rattle.smt_cli.specs.declared.refusal.PrintRefusal.TheVariants.{Encode as PrintEncode, Sink as PrintSink, Memory as PrintWant}
 use Rattle.smt_cli.specs.declared.refusal.ReadRefusal.{ReadRefusal}
@@ -29,10 +28,10 @@ pub by_refusal : {T : Type 0} (P : Refusal → Type 0) (result : Result T Refusa
 by_refusal P (Ok y) r e h = tt
 by_refusal P (Err x) r e h = subst P (sym e) h
 
--- some job has the bytes that were read
-job_read : (left : Option (List ℕ)) (job : PlainJob) → IfSome left (λ bytes. IsBuiltFrom bytes job) → IfSome left IsAJob
-job_read None job is = tt
-job_read (Some bytes) job is = (is.written, is.is_job)
+-- some job without fault has the bytes that were read
+job_read : (left : Option (List ℕ)) (job : PlainJob) → IfSome left (λ bytes. IsBuiltFrom bytes job) → first_fault job.enums job.terms ≡ None → IfSome left IsFaultlessJob
+job_read None job is none = tt
+job_read (Some bytes) job is none = (is.written, is.is_job, subst (λ (j : PlainJob). first_fault j.enums j.terms ≡ None) is.is_built none)
 
 -- a fault of what is built is one of the job
 fault_in : (left : Option (List ℕ)) (job : PlainJob) (kind : EncodeRefusal) → IfSome left (λ bytes. IsBuiltFrom bytes job) → IsFaultOf kind (first_fault job.enums job.terms) → IfSome left (HasFaultOf kind)
@@ -60,8 +59,7 @@ checking_puts_nothing CheckWant e = cc
 
 module _ {L : Type 0} (state : L → LinkState) (call : SolverCall) (before after : Around L) where
   pub read_cause : (why : ReadRefusal) → HasReadCause before.left (SourceFailed before after) why → HasCheckCause state call before after (read_refusal why)
-  read_cause (ReadJob TooLarge) h = h
-  read_cause (ReadJob BadForm) h = h
+  read_cause (ReadJob kind) h = h
   read_cause ReadSource h = h
   read_cause ReadWant h = tt
 
@@ -70,17 +68,17 @@ module _ {L : Type 0} (state : L → LinkState) (call : SolverCall) (before afte
   print_cause job is PrintSink h = absurd h
   print_cause job is PrintWant h = tt
 
-  unchecked_in : (left : Option (List ℕ)) (job : PlainJob) (script : List ℕ) (kind : SessionFault) → IfSome left (λ bytes. IsBuiltFrom bytes job) → script ≡ text job.enums job.terms
+  unchecked_in : (left : Option (List ℕ)) (job : PlainJob) (script : List ℕ) (kind : SessionFault) → IfSome left (λ bytes. IsBuiltFrom bytes job) → first_fault job.enums job.terms ≡ None → script ≡ text job.enums job.terms
       → WhyUnchecked state before.starter after.starter call script (CheckSession kind) → IfSome left (IsUnchecked state call before after kind)
-  unchecked_in None job script kind is same h = tt
-  unchecked_in (Some bytes) job script kind is same h =
-      (is.written, is.is_job, subst (λ (t : List ℕ). WhyUnchecked state before.starter after.starter call t (CheckSession kind)) (same ∙ ap (λ (j : PlainJob). text j.enums j.terms) is.is_built) h)
+  unchecked_in None job script kind is none same h = tt
+  unchecked_in (Some bytes) job script kind is none same h =
+      (is.written, is.is_job, subst (λ (j : PlainJob). first_fault j.enums j.terms ≡ None) is.is_built none, subst (λ (t : List ℕ). WhyUnchecked state before.starter after.starter call t (CheckSession kind)) (same ∙ ap (λ (j : PlainJob). text j.enums j.terms) is.is_built) h)
 
-  pub check_cause : (job : PlainJob) (script : List ℕ) → IfSome before.left (λ bytes. IsBuiltFrom bytes job) → script ≡ text job.enums job.terms → (why : CheckError) → WhyUnchecked state before.starter after.starter call script why
+  pub check_cause : (job : PlainJob) (script : List ℕ) → IfSome before.left (λ bytes. IsBuiltFrom bytes job) → first_fault job.enums job.terms ≡ None → script ≡ text job.enums job.terms → (why : CheckError) → WhyUnchecked state before.starter after.starter call script why
       → HasCheckCause state call before after (check_refusal why)
-  check_cause job script is same CheckStart h = (h, job_read before.left job is)
-  check_cause job script is same (CheckSession kind) h = unchecked_in before.left job script kind is same h
-  check_cause job script is same CheckWant h = tt
+  check_cause job script is none same CheckStart h = (h, job_read before.left job is none)
+  check_cause job script is none same (CheckSession kind) h = unchecked_in before.left job script kind is none same h
+  check_cause job script is none same CheckWant h = tt
 
 -- ---- beside a sink
 
@@ -94,7 +92,7 @@ module _ {L : Type 0} (state : L → LinkState) (allows : List ℕ → List ℕ 
 
   pub checked_beside : (left : Option (List ℕ)) (d : Decision) → IfSome left (IsChecked state allows call before after d) → IfSome left (IsChecked state allows call first last d)
   checked_beside None d h = tt
-  checked_beside (Some bytes) d h = record { job = h.job; is_job = h.is_job; decides = h.decides; believed = h.believed }
+  checked_beside (Some bytes) d h = record { job = h.job; is_job = h.is_job; faultless = h.faultless; decides = h.decides; believed = h.believed }
 
   -- the verdict was put behind what the sink held
   pub verdict_put : (left : Option (List ℕ)) (d : Decision) → IfSome left (IsChecked state allows call before after d) → now ≡ append_known held (verdict_line d) → IfSome left (Checks state allows call first last)
@@ -103,8 +101,7 @@ module _ {L : Type 0} (state : L → LinkState) (allows : List ℕ → List ℕ 
 
   pub cause_beside : (r : Refusal) → (r ≡ Sink → ⊥) → HasCheckCause state call before after r → HasCheckCause state call first last r
   cause_beside Usage n h = h
-  cause_beside (Job TooLarge) n h = h
-  cause_beside (Job BadForm) n h = h
+  cause_beside (Job kind) n h = h
   cause_beside (Encode kind) n h = h
   cause_beside Source n h = h
   cause_beside Sink n h = absurd (n refl)

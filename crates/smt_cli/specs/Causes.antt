@@ -1,11 +1,12 @@
 -- Why a run is refused.
-use Rattle.std.specs.Prelude.{ℕ, ◌≡◌, ◌≤◌, ◌<◌, ⊤, length, map, IfSome, List, Option, Some, None}
+use Rattle.std.specs.Prelude.{ℕ, ◌≡◌, ⊤, is_some, map, IfSome, IsTrue, List, Option, Some, None}
 use Rattle.smt_meaning.specs.Faults.{Fault, EmptyEnum as EnumFault, EncodeStringFailed as StringFault, EncodePatternFailed as PatternFault, EnumMissingMember as MemberFault, ExpectRecord as NoRecordFault, MalformedRecordGet as NoOperandFault, MissingTypeEncoding as TypeFault, RecordMissingAttr as AttributeFault}
 use Rattle.smt_meaning.specs.Plain.{PatternPart, PlainType}
 use Rattle.smt_folding.specs.Built.{built}
 use Rattle.smt_lines.specs.Text.{text}
 use Rattle.smt_script.specs.Sink.{Rose}
-use Rattle.smt_jobs.specs.Job.{IsJob, PlainJob, fault_of, greatest_length}
+use Rattle.smt_job_grammar.specs.Jobs.{HasFault, IsJob, IsTooLong, PlainJob, fault_of}
+use Rattle.smt_job_grammar.specs.Outcomes.{JobFault, DuplicateFault, FormFault, LiteralFault, TruthFault, TypeFault as NoTypeFault, TypingFault, UnknownFault, WidthFault}
 use Rattle.smt_solve.specs.Link.{LinkState}
 use Rattle.smt_solve.specs.Starter.{Command as SolverCall, StarterState}
 use Rattle.smt_checks.specs.Checks.{Returns, WhyUnchecked}
@@ -15,7 +16,8 @@ use Rattle.smt_checks.specs.declared.error.CheckError.TheVariants.{Session as Ch
 use Rattle.smt_checks.specs.declared.error.SessionFault.{SessionFault}
 use Rattle.smt_cli.specs.declared.refusal.EncodeRefusal.{EncodeRefusal}
 use Rattle.smt_cli.specs.declared.refusal.EncodeRefusal.TheVariants.{EmptyEnum, EncodeStringFailed, EncodePatternFailed, EnumMissingMember, ExpectRecord, MalformedRecordGet, MissingTypeEncoding, RecordMissingAttr}
-use Rattle.smt_cli.specs.declared.refusal.JobRefusal.TheVariants.{TooLarge, BadForm}
+use Rattle.smt_cli.specs.declared.refusal.JobRefusal.{JobRefusal}
+use Rattle.smt_cli.specs.declared.refusal.JobRefusal.TheVariants.{TooLarge, BadForm, UnknownName, DuplicateName, BadType, BadWidth, BadLiteral, IllTyped, NotBool}
 use Rattle.smt_cli.specs.declared.refusal.PrintRefusal.{PrintRefusal}
 use Rattle.smt_cli.specs.declared.refusal.PrintRefusal.TheVariants.{Encode as PrintEncode, Sink as PrintSink, Memory as PrintWant}
 use Rattle.smt_cli.specs.declared.refusal.ReadRefusal.{ReadRefusal}
@@ -58,7 +60,7 @@ standing remaining source_faults state source starter = record {
 abbrev pub IsAJob : List ℕ → Type 0
 IsAJob bytes = (job : PlainJob) × IsJob bytes job
 
--- no job has these bytes: there are more than a job may have, or they have not its form
+-- no job has these bytes
 abbrev pub IsNoJob : List ℕ → Type 0
 IsNoJob bytes = (job : PlainJob) → IsJob bytes job → ⊥
 
@@ -76,11 +78,29 @@ IsFaultOf RecordMissingAttr fault = (attribute : List ℕ) × (fault ≡ Some (A
 abbrev pub HasFaultOf : EncodeRefusal → List ℕ → Type 0
 HasFaultOf kind bytes = (job : PlainJob) × IsJob bytes job × IsFaultOf kind (fault_of job)
 
-abbrev pub IsTooLong : List ℕ → Type 0
-IsTooLong bytes = greatest_length < length bytes
+-- a job has these bytes, and what is built of it has no fault
+abbrev pub IsFaultlessJob : List ℕ → Type 0
+IsFaultlessJob bytes = (job : PlainJob) × IsJob bytes job × (fault_of job ≡ None)
 
-abbrev pub HasNoForm : List ℕ → Type 0
-HasNoForm bytes = (length bytes ≤ greatest_length) × IsNoJob bytes
+-- a job has these bytes, and what is built of it has a fault
+abbrev pub IsFaultyScript : List ℕ → Type 0
+IsFaultyScript bytes = (job : PlainJob) × IsJob bytes job × IsTrue (is_some (fault_of job))
+
+-- the kind of a fault
+abbrev pub kind_of : JobFault → JobRefusal
+kind_of FormFault = BadForm
+kind_of (UnknownFault name) = UnknownName
+kind_of (DuplicateFault name) = DuplicateName
+kind_of NoTypeFault = BadType
+kind_of WidthFault = BadWidth
+kind_of (LiteralFault text) = BadLiteral
+kind_of TypingFault = IllTyped
+kind_of TruthFault = NotBool
+
+-- The bytes are no job: there are too many, or their first fault is of this kind.
+abbrev pub IsRefusedAs : JobRefusal → List ℕ → Type 0
+IsRefusedAs TooLarge bytes = IsTooLong bytes
+IsRefusedAs kind bytes = (fault : JobFault) × (kind_of fault ≡ kind) × HasFault bytes fault
 
 -- the script of what is built of a job
 abbrev pub script_of_job : PlainJob → List ℕ
@@ -90,8 +110,7 @@ script_of_job job = text job.enums (map built job.terms)
 
 -- why no job was read
 abbrev pub HasReadCause : (left : Option (List ℕ)) → (failed : Type 0) → ReadRefusal → Type 0
-HasReadCause left failed (ReadJob TooLarge) = IfSome left IsTooLong
-HasReadCause left failed (ReadJob BadForm) = IfSome left HasNoForm
+HasReadCause left failed (ReadJob kind) = IfSome left (IsRefusedAs kind)
 HasReadCause left failed ReadSource = failed
 HasReadCause left failed ReadWant = ⊤
 
@@ -122,8 +141,7 @@ module _ {L : Type 0} where
   -- why `script` was refused; a script is put only of a job
   abbrev pub HasScriptCause : (before after : Around L) → Refusal → Type 0
   HasScriptCause before after Usage = ⊥
-  HasScriptCause before after (Job TooLarge) = IfSome before.left IsTooLong
-  HasScriptCause before after (Job BadForm) = IfSome before.left HasNoForm
+  HasScriptCause before after (Job kind) = IfSome before.left (IsRefusedAs kind)
   HasScriptCause before after (Encode kind) = IfSome before.left (HasFaultOf kind)
   HasScriptCause before after Source = SourceFailed before after
   HasScriptCause before after Sink = SinkFailed before after × IfSome before.left IsAJob
@@ -133,17 +151,16 @@ module _ {L : Type 0} where
 
   -- why there is no verdict on the job of these bytes
   abbrev pub IsUnchecked : (state : L → LinkState) → SolverCall → (before after : Around L) → SessionFault → List ℕ → Type 0
-  IsUnchecked state call before after kind bytes = (job : PlainJob) × IsJob bytes job × WhyUnchecked state before.starter after.starter call (script_of_job job) (CheckSession kind)
+  IsUnchecked state call before after kind bytes = (job : PlainJob) × IsJob bytes job × (fault_of job ≡ None) × WhyUnchecked state before.starter after.starter call (script_of_job job) (CheckSession kind)
 
   -- why `check` was refused; where the verdict was not put, the link had come back
   abbrev pub HasCheckCause : (state : L → LinkState) → SolverCall → (before after : Around L) → Refusal → Type 0
   HasCheckCause state call before after Usage = ⊥
-  HasCheckCause state call before after (Job TooLarge) = IfSome before.left IsTooLong
-  HasCheckCause state call before after (Job BadForm) = IfSome before.left HasNoForm
+  HasCheckCause state call before after (Job kind) = IfSome before.left (IsRefusedAs kind)
   HasCheckCause state call before after (Encode kind) = IfSome before.left (HasFaultOf kind)
   HasCheckCause state call before after Source = SourceFailed before after
-  HasCheckCause state call before after Sink = SinkFailed before after × IfSome before.left IsAJob × IfSome before.left (λ bytes. Returns (λ link. ⊤) before.starter after.starter call)
-  HasCheckCause state call before after Start = StartFailed before after × IfSome before.left IsAJob
+  HasCheckCause state call before after Sink = SinkFailed before after × IfSome before.left IsFaultlessJob × IfSome before.left (λ bytes. Returns (λ link. ⊤) before.starter after.starter call)
+  HasCheckCause state call before after Start = StartFailed before after × IfSome before.left IsFaultlessJob
   HasCheckCause state call before after (Session kind) = IfSome before.left (IsUnchecked state call before after kind)
   HasCheckCause state call before after Memory = ⊤
 

@@ -4,7 +4,7 @@ use Rattle.std.specs.Io.KnownBytes.{append_known}
 use Rattle.smt_meaning.specs.Plain.{PlainType, VariableTerm}
 use Rattle.smt_lines.specs.NameTables.{Tables, name_of_term}
 use Rattle.smt_lines.specs.Text.{names, text}
-use Rattle.smt_jobs.specs.Job.{PlainJob}
+use Rattle.smt_job_grammar.specs.Jobs.{PlainJob}
 use Rattle.smt_generated.specs.Jobs.{job_generated}
 use Rattle.smt_cli.specs.declared.summary.Summary.{Summary}
 

@@ -4,12 +4,12 @@ use Rattle.smt_script.specs.declared.sink.SinkError.{SinkError}
 use Rattle.smt_script.specs.declared.sink.SinkError.TheVariants.{Fault as SinkFault, Memory as SinkWant}
 use Rattle.smt_source.specs.declared.input.InputError.{InputError}
 use Rattle.smt_source.specs.declared.input.InputError.TheVariants.{Fault as InputFault, TooLarge as InputTooLarge, Memory as InputWant}
-use Rattle.smt_jobs.specs.declared.job.JobError.{JobError}
-use Rattle.smt_jobs.specs.declared.job.JobError.TheVariants.{TooLarge as JobTooLarge, BadForm as JobBadForm, Memory as JobWant}
+use Rattle.smt_jobs.specs.declared.error.JobError.{JobError}
+use Rattle.smt_jobs.specs.declared.error.JobError.TheVariants.{TooLarge as JobTooLarge, BadForm as JobBadForm, UnknownName as JobUnknownName, DuplicateName as JobDuplicateName, BadType as JobBadType, BadWidth as JobBadWidth, BadLiteral as JobBadLiteral, IllTyped as JobIllTyped, NotBool as JobNotBool, Memory as JobWant}
 use Rattle.smt_checks.specs.declared.error.CheckError.{CheckError}
 use Rattle.smt_checks.specs.declared.error.CheckError.TheVariants.{Start as CheckStart, Session as CheckSession, Memory as CheckWant}
 use Rattle.smt_cli.specs.declared.refusal.EncodeRefusal.TheVariants.{EmptyEnum, EncodeStringFailed, EncodePatternFailed, EnumMissingMember, ExpectRecord, MalformedRecordGet, MissingTypeEncoding, RecordMissingAttr}
-use Rattle.smt_cli.specs.declared.refusal.JobRefusal.TheVariants.{TooLarge, BadForm}
+use Rattle.smt_cli.specs.declared.refusal.JobRefusal.TheVariants.{TooLarge, BadForm, UnknownName, DuplicateName, BadType, BadWidth, BadLiteral, IllTyped, NotBool}
 use Rattle.smt_cli.specs.declared.refusal.PrintRefusal.{PrintRefusal}
 use Rattle.smt_cli.specs.declared.refusal.PrintRefusal.TheVariants.{Encode as PrintEncode, Sink as PrintSink, Memory as PrintWant}
 use Rattle.smt_cli.specs.declared.refusal.ReadRefusal.{ReadRefusal}
@@ -34,6 +34,13 @@ abbrev pub line_of : Refusal → List ℕ
 line_of Usage = codes "usage: smtcli script or check PATH ARGS.. or gen SEED N\n"
 line_of (Job TooLarge) = codes "job refused: TooLarge\n"
 line_of (Job BadForm) = codes "job refused: BadForm\n"
+line_of (Job UnknownName) = codes "job refused: UnknownName\n"
+line_of (Job DuplicateName) = codes "job refused: DuplicateName\n"
+line_of (Job BadType) = codes "job refused: BadType\n"
+line_of (Job BadWidth) = codes "job refused: BadWidth\n"
+line_of (Job BadLiteral) = codes "job refused: BadLiteral\n"
+line_of (Job IllTyped) = codes "job refused: IllTyped\n"
+line_of (Job NotBool) = codes "job refused: NotBool\n"
 line_of (Encode EnumMissingMember) = codes "encode refused: EnumMissingMember\n"
 line_of (Encode EncodeStringFailed) = codes "encode refused: EncodeStringFailed\n"
 line_of (Encode EncodePatternFailed) = codes "encode refused: EncodePatternFailed\n"
@@ -63,6 +70,13 @@ input_refusal InputWant = ReadWant
 abbrev pub job_refusal : JobError → ReadRefusal
 job_refusal JobTooLarge = ReadJob TooLarge
 job_refusal JobBadForm = ReadJob BadForm
+job_refusal (JobUnknownName text) = ReadJob UnknownName
+job_refusal (JobDuplicateName text) = ReadJob DuplicateName
+job_refusal JobBadType = ReadJob BadType
+job_refusal JobBadWidth = ReadJob BadWidth
+job_refusal (JobBadLiteral text) = ReadJob BadLiteral
+job_refusal JobIllTyped = ReadJob IllTyped
+job_refusal JobNotBool = ReadJob NotBool
 job_refusal JobWant = ReadWant
 
 -- of a run, where no job was read

@@ -16,8 +16,8 @@ use Rattle.smt_solve.specs.Starter.{Command as SolverCall}
 use Rattle.smt_solve.specs.declared.answer.Decision.{Decision}
 use Rattle.smt_solve.specs.declared.answer.Decision.TheVariants.{Unsat}
 use Rattle.smt_verdicts.specs.Honesty.{IsHonest}
-use Rattle.smt_jobs.specs.Job.{IsJob, PlainJob}
-use Rattle.smt_cli.specs.Causes.{Around, IsAJob, IsNoJob, LeavesOutput, SinkFailed, SourceFailed, StartFailed, script_of_job}
+use Rattle.smt_job_grammar.specs.Jobs.{IsJob, PlainJob, fault_of}
+use Rattle.smt_cli.specs.Causes.{Around, IsFaultlessJob, IsFaultyScript, IsNoJob, LeavesOutput, SinkFailed, SourceFailed, StartFailed, script_of_job}
 use Rattle.smt_checks.specs.Checks.{Decides}
 use Rattle.smt_cli.specs.Generation.{Summarizes}
 use Rattle.smt_cli.specs.Refusal.{line_of, status_of}
@@ -34,6 +34,7 @@ use Rattle.smt_cli.specs.declared.refusal.Refusal.{Refusal}
 pub record Prints (old new : Option (List ℕ)) (bytes : List ℕ) : Type 0 where
   pub job : PlainJob
   pub is_job : IsJob bytes job
+  pub faultless : fault_of job ≡ None
   pub printed : new ≡ append_known old (text job.enums (map built job.terms))
   pub means : Headline job.enums (names job.enums (map built job.terms)) (map built job.terms) (text job.enums (map built job.terms))
   pub true_as_written : (I : Interpretation) → IsInterpretation job.enums job.terms I → AreTrue I job.terms ↔ IsModel (carry_interpretation job.enums (names job.enums (map built job.terms)) (restrict I (map built job.terms))) means.state
@@ -60,6 +61,7 @@ module _ {L : Type 0} (state : L → LinkState) (allows : List ℕ → List ℕ 
   pub record IsChecked (decision : Decision) (bytes : List ℕ) : Type 0 where
     pub job : PlainJob
     pub is_job : IsJob bytes job
+    pub faultless : fault_of job ≡ None
     pub decides : Decides state allows before.starter after.starter call (script_of_job job) decision
     pub believed : IsTold (state decides.link) → IsHonest allows → decision ≡ Unsat → (I : Interpretation) → IsInterpretation job.enums job.terms I → AreTrue I job.terms → ⊥
 
@@ -80,11 +82,13 @@ module _ {L : Type 0} (state : L → LinkState) (allows : List ℕ → List ℕ 
 
 -- ---- what a status says
 
--- But for want of memory, and where nothing failed, the script of a job is printed, a job is checked or its session fails, what
--- is no job is refused as such, the summary of a generated job is printed, and so is the text of another word.
+-- But for want of memory, and where nothing failed, the script of a job without fault is printed, such a job is checked or its
+-- session fails, a job with a fault is refused by the encoder, what is no job is refused as such, the summary of a generated job
+-- is printed, and so is the text of another word.
 pub record IsComplete {L : Type 0} (command : Option Command) (before after : Around L) (status : ℕ) : Type 0 where
-  pub accepted : command ≡ Some Script → ¬ SourceFailed before after → ¬ SinkFailed before after → IfSome before.left (λ bytes. IsAJob bytes → (status ≡ 0) ⊎ (status ≡ 7))
-  pub checked : command ≡ Some Check → ¬ SourceFailed before after → ¬ SinkFailed before after → ¬ StartFailed before after → IfSome before.left (λ bytes. IsAJob bytes → (status ≡ 0) ⊎ ((status ≡ 7) ⊎ (status ≡ 8)))
+  pub accepted : command ≡ Some Script → ¬ SourceFailed before after → ¬ SinkFailed before after → IfSome before.left (λ bytes. IsFaultlessJob bytes → (status ≡ 0) ⊎ (status ≡ 7))
+  pub checked : command ≡ Some Check → ¬ SourceFailed before after → ¬ SinkFailed before after → ¬ StartFailed before after → IfSome before.left (λ bytes. IsFaultlessJob bytes → (status ≡ 0) ⊎ ((status ≡ 7) ⊎ (status ≡ 8)))
+  pub unwritten : (command ≡ Some Script) ⊎ (command ≡ Some Check) → ¬ SourceFailed before after → ¬ SinkFailed before after → IfSome before.left (λ bytes. IsFaultyScript bytes → (status ≡ 4) ⊎ (status ≡ 7))
   pub rejected : (command ≡ Some Script) ⊎ (command ≡ Some Check) → ¬ SourceFailed before after → IfSome before.left (λ bytes. IsNoJob bytes → (status ≡ 3) ⊎ (status ≡ 7))
   pub summarized : command ≡ Some Generate → ¬ SinkFailed before after → (status ≡ 0) ⊎ (status ≡ 7)
   pub printed : (command ≡ Some Help) ⊎ (command ≡ Some Version) → ¬ SinkFailed before after → (status ≡ 0) ⊎ (status ≡ 7)

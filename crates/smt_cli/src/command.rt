@@ -20,11 +20,15 @@ check   reads a job from standard input, asks the solver PATH with these ARGS wh
 gen     makes a job of N terms from the number SEED, N from 1 to 100000 and SEED below 2^64, and prints six lines: how many
         terms it has, how many variables, definitions, assertions and bytes its script has, and the sum of these bytes
 
-job:  (job (enums) (vars (\"id\" TYPE) ..) (funs) (terms t ..))
-TYPE: Bool or (BitVec N)
-term: true, false, (var \"id\"), (bv W N), (long \"-5\"), (zero_extend N t) or (name t ..)
-name: not and or eq ite bvneg bvadd bvsub bvmul bvudiv bvurem bvsdiv bvsrem bvsmod bvshl bvlshr
-      bvult bvule bvslt bvsle bvnego bvsaddo bvssubo bvsmulo
+job:  (job (enums) (vars (\"id\" TYPE) ..) (funs (\"id\" TYPE TYPE) ..) (terms t ..))
+TYPE: Bool, (BitVec N), String, (Entity \"T\"), (Option TYPE), (Set TYPE), (Record (\"a\" TYPE) ..), Decimal, IpAddr, Datetime
+      or Duration
+t:    true, false, \"text\", (bv N NUMBER), (long \"-5\"), (entity \"T\" \"id\"), (none TYPE), (some t), (set TYPE t ..),
+      (record (\"a\" t) ..), (var \"id\"), (uuf \"id\" t), (record.get \"a\" t), (string.like (\"text\" * ..) t), (zero_extend N t)
+      or (name t ..)
+name: not and or eq ite option.get set.member set.subset set.inter bvneg bvadd bvsub bvmul bvudiv bvurem bvsdiv bvsrem bvsmod
+      bvshl bvlshr bvult bvule bvslt bvsle bvnego bvsaddo bvssubo bvsmulo decimal.val ipaddr.isV4 ipaddr.addrV4 ipaddr.addrV6
+      ipaddr.prefixV4 ipaddr.prefixV6 datetime.val datetime.ofBitVec duration.val duration.ofBitVec
 
 status: 0 done, 2 no such command, 3 job refused, 4 no script for a term, 5 source fault, 6 sink fault, 7 out of memory,
         8 session fault, 9 the solver did not start

@@ -87,7 +87,12 @@ fn count_script<L: Ledger>(
     ensures summary { IfOk result (λ summary. summary ≡ summary_of (numbered_job job)) }
     ensures refused { first_fault (enums_of job.enums) (numbered_terms job.terms) ≡ None → IsOkUnless result EncodeError.Memory }
 {
-    let NumberedJob { enums, vars, terms } = job;
+    let NumberedJob {
+        enums,
+        vars,
+        terms,
+        ..
+    } = job;
     let NumberedTerms { nodes, ids } = terms;
     let mut steps = Steps::<L>::new(blank);
     let mut encoder = Encoder::with_nodes(alloc, &enums, nodes, CountSink::new());

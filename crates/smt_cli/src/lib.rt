@@ -14,7 +14,7 @@ pub use command::Command;
 pub use program::run;
 pub use refusal::{EncodeRefusal, JobRefusal, Refusal};
 pub use smt_checks::SessionFault;
-pub use smt_jobs::{Job, JobError, TermSink, VarList, laws, read_job};
+pub use smt_jobs::{Job, JobError, TermSink, UufList, VarList, read_job};
 pub use smt_source::{
     InputError, MemorySource, ReadSource, Source, SourceError, SourceFault, read_input,
 };

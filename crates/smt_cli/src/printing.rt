@@ -1,5 +1,5 @@
 // The script of a job.
-ghost use Rattle.std.specs.Prelude.{◌≡◌, ◌<◌, ◌≤◌, IfErr, IfOk, IsErrOf, OnOk, Some};
+ghost use Rattle.std.specs.Prelude.{◌≡◌, ◌<◌, ◌≤◌, IfErr, IfOk, IsErrOf, None, OnOk, Some};
 ghost use Rattle.std.specs.Io.KnownBytes.{append_known};
 ghost use Rattle.smt_leaves.specs.Enums.{enums_of};
 ghost use Rattle.smt_meaning.specs.Faults.{first_fault};
@@ -33,6 +33,7 @@ fn encode_job<L: Ledger, W: Sink>(
     ensures text { OnOk result (W.contents out.new ≡ append_known (W.contents out.old) (text (enums_of job.enums) (numbered_terms job.terms))) }
     ensures headline { AreBoolean (numbered_terms job.terms) → OnOk result (Headline (enums_of job.enums) (names (enums_of job.enums) (numbered_terms job.terms)) (numbered_terms job.terms) (text (enums_of job.enums) (numbered_terms job.terms))) }
     ensures refused { CausedBy (W.faults out.old) (W.faults out.new) (first_fault (enums_of job.enums) (numbered_terms job.terms)) result }
+    ensures faultless { OnOk result (first_fault (enums_of job.enums) (numbered_terms job.terms) ≡ None) }
     ensures fresh { IsErrOf result EncodeError.Spent → ⊥ }
     ensures later { W.faults out.old ≤ W.faults out.new }
 {
@@ -53,6 +54,7 @@ pub(crate) fn put_script<W: Sink>(
 ) -> Result<(), PrintRefusal>
     ensures text { OnOk result (W.contents out.new ≡ append_known (W.contents out.old) (text (enums_of job.enums) (numbered_terms job.terms))) }
     ensures headline { AreBoolean (numbered_terms job.terms) → OnOk result (Headline (enums_of job.enums) (names (enums_of job.enums) (numbered_terms job.terms)) (numbered_terms job.terms) (text (enums_of job.enums) (numbered_terms job.terms))) }
+    ensures faultless { OnOk result (first_fault (enums_of job.enums) (numbered_terms job.terms) ≡ None) }
     ensures refused { IfErr result (HasPrintCause (first_fault (enums_of job.enums) (numbered_terms job.terms)) (Rose (W.faults out.old) (W.faults out.new))) }
     ensures later { W.faults out.old ≤ W.faults out.new }
 {
@@ -93,6 +95,7 @@ pub(crate) fn put_script<W: Sink>(
 pub(crate) fn script_of(alloc: Global, job: NumberedJob) -> Result<ListSink, PrintRefusal>
     ensures text { IfOk result (λ script. list_bytes script ≡ text (enums_of job.enums) (numbered_terms job.terms)) }
     ensures headline { AreBoolean (numbered_terms job.terms) → OnOk result (Headline (enums_of job.enums) (names (enums_of job.enums) (numbered_terms job.terms)) (numbered_terms job.terms) (text (enums_of job.enums) (numbered_terms job.terms))) }
+    ensures faultless { OnOk result (first_fault (enums_of job.enums) (numbered_terms job.terms) ≡ None) }
     ensures refused { IfErr result (HasPrintCause (first_fault (enums_of job.enums) (numbered_terms job.terms)) ⊥) }
 {
     let mut script = ListSink::new(alloc);

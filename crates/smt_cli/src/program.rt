@@ -2,7 +2,7 @@
 ghost use Rattle.std.specs.Prelude.{◌≡◌, ◌≢◌, ◌↔◌, ◌≤◌, [], None, Some, IfErr, IfOk, IfSome, OnOk, option_map};
 ghost use Rattle.std.specs.Io.KnownBytes.{append_known};
 ghost use Rattle.smt_characters.specs.SharedTexts.{texts};
-ghost use Rattle.smt_jobs.specs.Job.{IsBuiltFrom};
+ghost use Rattle.smt_job_grammar.specs.Jobs.{IsBuiltFrom};
 ghost use Rattle.smt_jobs.specs.Numbered.{numbered_job};
 ghost use Rattle.smt_script.specs.Sink.{Rose};
 ghost use Rattle.smt_cli.specs.Causes.{HasCause, HasCheckCause, HasReadCause, LeavesOutput, around, standing};
@@ -154,8 +154,8 @@ fn answer<R: Source, W: Sink, P: Starter>(
 ///
 /// 3, 4 and 5 come of `script` and `check` alone, 8 and 9 of `check`. Other words leave the source as it was, unread, and but for
 /// `check` the starter is left as it was. Where neither the source nor `out` nor the start failed and there was memory, `script`
-/// ends with 0 for a job and with 3 for any other bytes, `check` with 0 or 8 for a job and with 3 for any other bytes, and
-/// `gen`, `--help` and `--version` end with 0.
+/// ends with 0 for a job whose built terms have no fault, and `check` with 0 or 8 for one. Both end with 4 for another job, and
+/// with 3 for any other bytes. `gen`, `--help` and `--version` end with 0.
 pub fn run<R: Source, W: Sink, D: Sink, P: Starter>(
     alloc: Global,
     words: &[Text],

@@ -28,13 +28,27 @@ pub enum Refusal {
     Memory,
 }
 
-/// Why bytes are no job.
+/// Why bytes are no job. Of several faults it is the first, as [`JobError`] orders them.
 #[derive(Clone, Copy, Debug, PartialEq, Eq, Drop)]
 pub enum JobRefusal {
     /// There are more than 16777216 bytes.
     TooLarge,
-    /// The bytes are no job of declarations and typed Boolean terms.
+    /// The bytes are no expression of printable ASCII, or a section, a declaration or a term has no form.
     BadForm,
+    /// No variable, function or form of terms has a name that is used.
+    UnknownName,
+    /// A variable, a function or an attribute has a name that was given before.
+    DuplicateName,
+    /// A type has no form.
+    BadType,
+    /// A width is no numeral from 1 to 128, or none from 0 to 127 for `zero_extend`.
+    BadWidth,
+    /// A literal's text has no value.
+    BadLiteral,
+    /// An operator or a set does not take parts of these types.
+    IllTyped,
+    /// A whole term is no Boolean.
+    NotBool,
 }
 
 /// Why a term has no script.
@@ -83,6 +97,13 @@ impl Refusal {
             Refusal::Usage => "usage: smtcli script or check PATH ARGS.. or gen SEED N\n",
             Refusal::Job(JobRefusal::TooLarge) => "job refused: TooLarge\n",
             Refusal::Job(JobRefusal::BadForm) => "job refused: BadForm\n",
+            Refusal::Job(JobRefusal::UnknownName) => "job refused: UnknownName\n",
+            Refusal::Job(JobRefusal::DuplicateName) => "job refused: DuplicateName\n",
+            Refusal::Job(JobRefusal::BadType) => "job refused: BadType\n",
+            Refusal::Job(JobRefusal::BadWidth) => "job refused: BadWidth\n",
+            Refusal::Job(JobRefusal::BadLiteral) => "job refused: BadLiteral\n",
+            Refusal::Job(JobRefusal::IllTyped) => "job refused: IllTyped\n",
+            Refusal::Job(JobRefusal::NotBool) => "job refused: NotBool\n",
             Refusal::Encode(EncodeRefusal::EnumMissingMember) => {
                 "encode refused: EnumMissingMember\n"
             }
@@ -153,6 +174,13 @@ impl From<JobError> for ReadRefusal {
         match error {
             JobError::TooLarge => ReadRefusal::Job(JobRefusal::TooLarge),
             JobError::BadForm => ReadRefusal::Job(JobRefusal::BadForm),
+            JobError::UnknownName(_) => ReadRefusal::Job(JobRefusal::UnknownName),
+            JobError::DuplicateName(_) => ReadRefusal::Job(JobRefusal::DuplicateName),
+            JobError::BadType => ReadRefusal::Job(JobRefusal::BadType),
+            JobError::BadWidth => ReadRefusal::Job(JobRefusal::BadWidth),
+            JobError::BadLiteral(_) => ReadRefusal::Job(JobRefusal::BadLiteral),
+            JobError::IllTyped => ReadRefusal::Job(JobRefusal::IllTyped),
+            JobError::NotBool => ReadRefusal::Job(JobRefusal::NotBool),
             JobError::Memory => ReadRefusal::Memory,
         }
     }

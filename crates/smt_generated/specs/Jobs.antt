@@ -1,8 +1,8 @@
 -- The job of a seed.
 use Rattle.std.specs.Prelude.{ℕ, []}
-use Rattle.smt_jobs.specs.Job.{PlainJob}
+use Rattle.smt_job_grammar.specs.Jobs.{PlainJob}
 use Rattle.smt_generated.specs.Generated.{generated_terms, generated_variables}
 
 -- with so many terms, over no enum types
 abbrev pub job_generated : (seed count : ℕ) → PlainJob
-job_generated seed count = record { enums = []; variables = generated_variables; terms = generated_terms seed count }
+job_generated seed count = record { enums = []; variables = generated_variables; functions = []; terms = generated_terms seed count }

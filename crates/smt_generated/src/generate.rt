@@ -6,7 +6,7 @@ ghost use Rattle.smt_generated.specs.Generated.{generated_terms, generated_varia
 ghost use Rattle.smt_generated.specs.Jobs.{job_generated};
 
 use crate::terms::{VARIABLES, comparison, next_number, variable};
-use smt_jobs::{NumberedJob, NumberedTerms, TermSink, VarList};
+use smt_jobs::{NumberedJob, NumberedTerms, TermSink, UufList, VarList};
 use smt_nodes::Interner;
 use smt_term::{EnumTable, TermError};
 use std::alloc::Global;
@@ -52,6 +52,7 @@ pub fn generated_job(alloc: Global, seed: u64, count: u32) -> Result<NumberedJob
     Ok(NumberedJob {
         enums: EnumTable::new(alloc),
         vars,
+        funs: UufList::new(alloc),
         terms: numbered(alloc, seed, count)?,
     })
 }

@@ -1,8 +1,12 @@
-pub mod Declarations
-pub mod Forms
-pub mod Giving
+pub mod DeclaredLists
+pub mod Declaring
+pub mod FormsRead
 pub mod NumberedLemmas
-pub mod OperatorNames
+pub mod Operators
+pub mod PatternsRead
+pub mod Reading
 pub mod Shapes
-pub mod TypedJobs
+pub mod TermsRead
+pub mod TypesRead
 pub mod Walking
+pub mod WholeTerms

@@ -1,49 +1,36 @@
 -- The walk over the bytes of a job: what each part gives, and what they give together.
-use Rattle.std.proofs.Common.{◌≡◌, ℕ, ◌-◌, ◌≤◌, List, [], ◌∷◌, ◌++◌, Option, Some, None, Ok, Err, Result, bytes_eq, codes, length, map, option_map, refl, sym, ap, ◌∙◌, subst, append_assoc, append-nil, arith}
-use Rattle.std.specs.Prelude.{IfOk, IsErrAnd, IsErrOf, if◌then◌else◌}
+use Rattle.std.proofs.Common.{◌≡◌, ℕ, ◌-◌, ◌<◌, ◌≤◌, List, [], ◌∷◌, ◌++◌, Option, Some, None, Ok, Err, Result, false, nat_eq, bytes_eq, codes, length, map, option_map, refl, sym, ap, ◌∙◌, subst, inr, append_assoc, append-nil, arith}
+use Rattle.std.specs.Prelude.{IfErr, IfOk, IfSome, IsErrAnd, IsErrOf}
+use Rattle.std.specs.Bool.{then_some}
+use Rattle.std.specs.Option.{option_and_then}
 use Rattle.std.proofs.lemmas.List.{map-append}
-use Rattle.smt_semantics.specs.Script.{◌>>=◌}
 use Rattle.smt_folding.specs.Built.{built}
-use Rattle.smt_meaning.specs.Plain.{PlainTerm}
+use Rattle.smt_meaning.specs.Plain.{PlainFunction, PlainTerm, PlainType}
 use Rattle.smt_lexicon.specs.Front.{Begins, BeginsInside, skip_space}
+use Rattle.smt_lexicon.specs.Lexicon.{Name, Number, Text, Bits}
 use Rattle.smt_lexicon.specs.PlainTexts.{IsPlainText, IsPlainRead}
 use Rattle.smt_lexicon.specs.Reading.{Expression, Leaf, Node, Expressions, Nil, Cons}
 use Rattle.smt_characters.proofs.Runs.{head_is}
 use Rattle.smt_lexicon.proofs.Items.{none_yet, one_inside, one_read_more, too_deep}
-use Rattle.smt_lexicon.proofs.Readings.{one_expression}
-use Rattle.smt_jobs.specs.Job.{IsJob, PlainJob, Variables, condition_of, conditions_of, declared_by, empty_section, greatest_length, job_of, job_of_sections, name_in, section}
-use Rattle.smt_jobs.specs.JobView.{IsReadAs, declarations}
-use Rattle.smt_jobs.specs.Walk.{Gives, Takes, TakesJob, declared_first, first_and_others}
-use Rattle.smt_jobs.specs.declared.job.JobError.{JobError}
-use Rattle.smt_jobs.specs.declared.job.VarList.{VarList}
-use Rattle.smt_jobs.specs.declared.job.JobError.TheVariants.{TooLarge, BadForm, Memory}
-use Rattle.smt_jobs.proofs.Giving.{behind, built_of, each_condition, each_of, one_behind}
+use Rattle.smt_job_grammar.specs.Outcomes.{JobFault, Outcome, ◌>>=◌, FormFault, demanded, followed, mapped}
+use Rattle.smt_job_grammar.specs.Parts.{name_in, section}
+use Rattle.smt_job_grammar.specs.Declarations.{Declarations, Declared as Stated, functions_of, variables_of}
+use Rattle.smt_job_grammar.specs.Jobs.{HasFault, PlainJob, declared_first, greatest_length, job_of, no_enums, nothing, section_of, terms_last}
+use Rattle.smt_job_grammar.specs.Terms.{condition_of, conditions_of}
+use Rattle.smt_jobs.specs.JobView.{IsFault, IsFaultIn, declared_in, fault_in, plain_list}
+use Rattle.smt_jobs.specs.Walk.{Gives, Takes, TakesJob, first_and_others}
+use Rattle.smt_sexpr.specs.declared.expression.SExpr.{SExpr}
+use Rattle.smt_jobs.specs.declared.declaration.Declared.{Declared}
+use Rattle.smt_jobs.specs.declared.error.JobError.{JobError}
+use Rattle.smt_jobs.specs.declared.error.JobError.TheVariants.{TooLarge, BadForm, UnknownName, DuplicateName, BadType, BadWidth, BadLiteral, IllTyped, NotBool, Memory}
+use Rattle.smt_jobs.proofs.Reading.{IsMappedOf, behind, fault_behind, fault_passes, mapped_fault, mapped_of, nothing_behind, one_behind}
 
 -- ---- errors that are passed on
 
-gives_error : {A A' B B' : Type 0} (P : A → B → Type 0) (P' : A' → B' → Type 0) (e : JobError) (stated : Option B) (inner : Option B') → Gives P' (Err e) inner → (inner ≡ None → stated ≡ None) → Gives P (Err e) stated
-gives_error P P' BadForm stated inner g f = f g
-gives_error P P' Memory stated inner g f = tt
-gives_error P P' TooLarge stated inner g f = g
-
--- an error of a part is one of the whole, where the whole is not stated without the part
-pub gives_passes : {A A' B B' : Type 0} (P : A → B → Type 0) (P' : A' → B' → Type 0) (r : Result A JobError) (e : JobError) (stated : Option B) (inner : Option B') → IsErrAnd r (λ y. y ≡ e) → Gives P' (Err e) inner → (inner ≡ None → stated ≡ None) → Gives P r stated
-gives_passes P P' (Ok x) e stated inner h g f = absurd h
-gives_passes P P' (Err y) e stated inner h g f = subst (λ (x : JobError). Gives P (Err x) stated) (sym h) (gives_error P P' e stated inner g f)
-
-read_error : {A A' B B' : Type 0} (P : A → B → Type 0) (view : A' → B') (e : JobError) (stated : Option B) (inner : Option B') → IsReadAs view (Err e) inner → (inner ≡ None → stated ≡ None) → Gives P (Err e) stated
-read_error P view BadForm stated inner g f = f g
-read_error P view Memory stated inner g f = tt
-read_error P view TooLarge stated inner g f = g
-
--- so is one of a part that is seen by a view
-pub reading_passes : {A A' B B' : Type 0} (P : A → B → Type 0) (view : A' → B') (r : Result A JobError) (e : JobError) (stated : Option B) (inner : Option B') → IsErrAnd r (λ y. y ≡ e) → IsReadAs view (Err e) inner → (inner ≡ None → stated ≡ None) → Gives P r stated
-reading_passes P view (Ok x) e stated inner h g f = absurd h
-reading_passes P view (Err y) e stated inner h g f = subst (λ (x : JobError). Gives P (Err x) stated) (sym h) (read_error P view e stated inner g f)
-
-pub error_of : {A A' : Type 0} (r : Result A JobError) (x e : JobError) → IsErrAnd r (λ y. y ≡ x) → IsErrOf r e → IsErrOf {T = A'} (Err x) e
-error_of (Ok a) x e h k = absurd h
-error_of (Err y) x e h k = (let f : y ≡ e = cc in ap Err (sym h ∙ f))
+-- an error of a part is one of the whole, where the fault of the part is that of the whole
+pub gives_passes : {A B B' : Type 0} (P : A → B → Type 0) (r : Result A JobError) (e : JobError) (whole : Outcome B) (part : Outcome B') → IsErrAnd r (λ y. y ≡ e) → IsFaultIn e part → ((f : JobFault) → part ≡ Err f → whole ≡ Err f) → Gives P r whole
+gives_passes P (Ok x) e whole part h g f = absurd h
+gives_passes P (Err y) e whole part h g f = subst (λ (x : JobError). Gives P (Err x) whole) (sym h) (fault_passes e whole part g f)
 
 -- ---- the first of the expressions inside brackets
 
@@ -57,13 +44,13 @@ first_read depth es e src after rest end p i b q h l =
     let s = (one_read_more depth src [] (e ∷ []) e src after rest (none_yet depth src [] refl p) b refl q h l).back es end i in
     record { others = s.0; whole = s.1; begins = s.2 }
 
-pub cons_from : (es : Expressions) (p : Expression × Expressions) → first_and_others es ≡ Some p → es ≡ Cons p.0 p.1
+pub cons_from : (es : Expressions) (p : Expression × Expressions) → first_and_others es ≡ Ok p → es ≡ Cons p.0 p.1
 cons_from Nil p h = absurd (cc)
 cons_from (Cons e es) p h = (let f : (e, es) ≡ p = cc in ap (λ (x : Expression × Expressions). Cons x.0 x.1) f)
 
-pub nil_from : (es : Expressions) → first_and_others es ≡ None → es ≡ Nil
-nil_from Nil h = refl
-nil_from (Cons e es) h = absurd (cc)
+pub nil_from : (es : Expressions) (f : JobFault) → first_and_others es ≡ Err f → (es ≡ Nil) × (FormFault ≡ f)
+nil_from Nil f h = (refl, (let e : FormFault ≡ f = cc in e))
+nil_from (Cons e es) f h = absurd (cc)
 
 -- ---- brackets and their heads
 
@@ -83,135 +70,148 @@ opened depth (Node es) src inside end b o = record {
   begins = subst (λ v. BeginsInside (depth - 1) es (skip_space v) end) (bracket_is b.0 inside (sym b.2 ∙ o)) b.3;
 }
 
-pub section_of : (head : List ℕ) (e : Expression) (es : Expressions) (p : Expression × Expressions) (first : Expression) → e ≡ Node es → first_and_others es ≡ Some p → p.0 ≡ first → section head e ≡ (name_in first >>= λ n. if bytes_eq head n then Some p.1 else None)
-section_of head e es p first w h f =
-    ap (section head) (w ∙ ap Node (cons_from es p h)) ∙ ap (λ (x : Expression). name_in x >>= λ n. if bytes_eq head n then Some p.1 else None) f
+-- what does not open is no section
+pub unopened : (head : List ℕ) (depth : ℕ) (e : Expression) (src end : List ℕ) → Begins depth e src end → ((inside : List ℕ) → src ≡ 40 ∷ inside → ⊥) → section_of head e ≡ Err FormFault
+unopened head depth (Leaf a) src end b o = refl
+unopened head depth (Node es) src end b o = absurd (o b.0 b.2)
+
+abbrev headed : List ℕ → Expression → Expressions → Option Expressions
+headed head first others = option_and_then (λ n. then_some (bytes_eq head n) others) (name_in first)
+
+headed_is : (head : List ℕ) (first : Expression) (others : Expressions) → section head (Node (Cons first others)) ≡ headed head first others
+headed_is head (Leaf (Name n)) others = refl
+headed_is head (Leaf (Number n)) others = refl
+headed_is head (Leaf (Text t)) others = refl
+headed_is head (Leaf (Bits n w)) others = refl
+headed_is head (Node es) others = refl
+
+pub section_is : (head : List ℕ) (e : Expression) (es : Expressions) (p : Expression × Expressions) (first : Expression) → e ≡ Node es → first_and_others es ≡ Ok p → p.0 ≡ first → section_of head e ≡ demanded FormFault (headed head first p.1)
+section_is head e es p first w h f =
+    ap (section_of head) (w ∙ ap Node (cons_from es p h)) ∙ ap (demanded FormFault) (headed_is head p.0 p.1 ∙ ap (λ (x : Expression). headed head x p.1) f)
+
+pub no_head : (head : List ℕ) (e : Expression) (es : Expressions) (f : JobFault) → e ≡ Node es → first_and_others es ≡ Err f → section_of head e ≡ Err f
+no_head head e es f w h = (let n = nil_from es f h in ap (section_of head) (w ∙ ap Node n.0) ∙ ap Err n.1)
 
 -- ---- the terms
 
 -- these were taken of the terms of a job, and those are left
-pub record Taking (vs : Variables) (es : Expressions) (end rest : List ℕ) (old now : List PlainTerm) : Type 0 where
+pub record Taking (ds : Stated) (es : Expressions) (end rest : List ℕ) (old now : List PlainTerm) : Type 0 where
   pub left : Expressions
   pub begins : BeginsInside 510 left rest end
   pub done : List PlainTerm
-  pub whole : each_of (condition_of vs) es ≡ behind done (each_of (condition_of vs) left)
+  pub whole : conditions_of ds es ≡ behind done (conditions_of ds left)
   pub takes : now ≡ old ++ map built done
 
-nothing_behind : {A : Type 0} (o : Option (List A)) → o ≡ behind [] o
-nothing_behind (Some ts) = refl
-nothing_behind None = refl
-
-pub taking_none : (vs : Variables) (es : Expressions) (src rest end : List ℕ) (old : List PlainTerm) → BeginsInside 510 es src end → rest ≡ src → Taking vs es end rest old old
-taking_none vs es src rest end old i e = record {
+pub taking_none : (ds : Stated) (es : Expressions) (src rest end : List ℕ) (old : List PlainTerm) → BeginsInside 510 es src end → rest ≡ src → Taking ds es end rest old old
+taking_none ds es src rest end old i e = record {
   left = es;
   begins = subst (λ v. BeginsInside 510 es v end) (sym e) i;
   done = [];
-  whole = nothing_behind (each_of (condition_of vs) es);
+  whole = nothing_behind (conditions_of ds es);
   takes = sym (append-nil old);
 }
 
-module _ (vs : Variables) (es : Expressions) (end rest : List ℕ) (old now : List PlainTerm) (t : Taking vs es end rest old now) where
+module _ (ds : Stated) (es : Expressions) (end rest : List ℕ) (old now : List PlainTerm) (t : Taking ds es end rest old now) where
   -- at the closing bracket
-  pub all_taken : (after : List ℕ) → rest ≡ 41 ∷ after → (written : List PlainTerm) × (conditions_of vs es ≡ Some written) × (after ≡ end) × (now ≡ old ++ map built written)
+  pub all_taken : (after : List ℕ) → rest ≡ 41 ∷ after → (written : List PlainTerm) × (conditions_of ds es ≡ Ok written) × (after ≡ end) × (now ≡ old ++ map built written)
   all_taken after e =
       let same = one_inside 510 t.left Nil rest end after t.begins e in (
         t.done,
-        each_condition vs es ∙ t.whole ∙ ap (λ x. behind t.done (each_of (condition_of vs) x)) same.0 ∙ ap Some (append-nil t.done),
+        t.whole ∙ ap (λ x. behind t.done (conditions_of ds x)) same.0 ∙ ap Ok (append-nil t.done),
         sym same.1,
         t.takes,
       )
 
-  module _ (p : Expression × Expressions) (first : first_and_others t.left ≡ Some p) where
-    whole_of : each_of (condition_of vs) es ≡ behind t.done (condition_of vs p.0 >>= λ a. each_of (condition_of vs) p.1 >>= λ ts. Some (a ∷ ts))
-    whole_of = t.whole ∙ ap (λ x. behind t.done (each_of (condition_of vs) x)) (cons_from t.left p first)
+  module _ (p : Expression × Expressions) (first : first_and_others t.left ≡ Ok p) where
+    abbrev with_first : Outcome PlainTerm → Outcome (List PlainTerm)
+    with_first o = behind t.done (o >>= λ a. followed a (conditions_of ds p.1))
 
-    pub not_taken : condition_of vs p.0 ≡ None → conditions_of vs es ≡ None
-    not_taken none = each_condition vs es ∙ whole_of ∙ ap (λ o. behind t.done (o >>= λ a. each_of (condition_of vs) p.1 >>= λ ts. Some (a ∷ ts))) none
+    whole_of : conditions_of ds es ≡ with_first (condition_of ds p.0)
+    whole_of = t.whole ∙ ap (λ x. behind t.done (conditions_of ds x)) (cons_from t.left p first)
 
-    pub taken_more : (more : List ℕ) (term : PlainTerm) (new : List PlainTerm) → BeginsInside 510 p.1 more end → option_map built (condition_of vs p.0) ≡ Some term → new ≡ now ++ term ∷ [] → Taking vs es end more old new
+    pub not_taken : (f : JobFault) → condition_of ds p.0 ≡ Err f → conditions_of ds es ≡ Err f
+    not_taken f none = whole_of ∙ ap with_first none
+
+    pub taken_more : (more : List ℕ) (term : PlainTerm) (new : List PlainTerm) → BeginsInside 510 p.1 more end → mapped built (condition_of ds p.0) ≡ Ok term → new ≡ now ++ term ∷ [] → Taking ds es end more old new
     taken_more more term new i b n =
-        let o = built_of built (condition_of vs p.0) term b in
+        let o = mapped_of built (condition_of ds p.0) term b in
         record {
           left = p.1;
           begins = i;
           done = t.done ++ o.stated ∷ [];
-          whole = whole_of ∙ ap (λ o. behind t.done (o >>= λ a. each_of (condition_of vs) p.1 >>= λ ts. Some (a ∷ ts))) o.is_stated ∙ one_behind t.done o.stated (each_of (condition_of vs) p.1);
+          whole = whole_of ∙ ap with_first o.is_stated ∙ one_behind t.done o.stated (conditions_of ds p.1);
           takes =
               n
-              ∙ (λ k. t.takes k ++ o.is_built k ∷ [])
+              ∙ (λ k. t.takes k ++ o.is_mapped k ∷ [])
               ∙ append_assoc old (map built t.done) (built o.stated ∷ [])
               ∙ ap (λ l. old ++ l) (sym (map-append built t.done (o.stated ∷ [])));
         }
 
-  pub nothing_more : first_and_others t.left ≡ None → ((after : List ℕ) → rest ≡ 41 ∷ after → ⊥) → ⊥
-  nothing_more none unclosed = unclosed end (subst (λ x. BeginsInside 510 x rest end) (nil_from t.left none) t.begins)
+  pub nothing_more : (f : JobFault) → first_and_others t.left ≡ Err f → ((after : List ℕ) → rest ≡ 41 ∷ after → ⊥) → ⊥
+  nothing_more f none unclosed = unclosed end (subst (λ x. BeginsInside 510 x rest end) (nil_from t.left f none).0 t.begins)
 
--- ---- the sections of a job
+-- ---- what the first three sections declare
 
--- what the first three sections declare
-pub declared_is : (es : Expressions) (p q r : Expression × Expressions) (enums variables functions : Expression) (inside : Expressions) (declared : Variables)
-    → first_and_others es ≡ Some p → p.0 ≡ enums → first_and_others p.1 ≡ Some q → q.0 ≡ variables → first_and_others q.1 ≡ Some r → r.0 ≡ functions
-    → empty_section (codes "enums") enums ≡ Some Nil → section (codes "vars") variables ≡ Some inside → empty_section (codes "funs") functions ≡ Some Nil → declared_by [] inside ≡ Some declared
-    → declared_first es ≡ Some (declared, r.1)
-declared_is es p q r enums variables functions inside declared a e b v c f no_enums section_is no_functions by =
-    let third : q.1 ≡ Cons functions r.1 = cons_from q.1 r c ∙ ap (λ (x : Expression). Cons x r.1) f in
-    let second : p.1 ≡ Cons variables (Cons functions r.1) = cons_from p.1 q b ∙ (λ i. Cons (v i) (third i)) in
-    let shape : es ≡ Cons enums (Cons variables (Cons functions r.1)) = cons_from es p a ∙ (λ i. Cons (e i) (second i)) in
-    rw (shape, no_enums, section_is, no_functions, by) refl
+-- of three outcomes one behind the other
+abbrev declared_by : {A : Type 0} → Outcome A → Outcome (Declarations PlainType) → Outcome (Declarations PlainFunction) → Expressions → Outcome (Stated × Expressions)
+declared_by enums variables functions others = enums >>= λ none. variables >>= λ vs. functions >>= λ fs. Ok (record { variables = vs; functions = fs }, others)
 
--- the job of what was declared and of what these state
-abbrev job_of_conditions : Variables → Expressions → Option PlainJob
-job_of_conditions declared ts = conditions_of declared ts >>= λ written. Some (record { enums = []; variables = declared; terms = written })
+module _ (es : Expressions) where
+  pub no_first : (f : JobFault) → first_and_others es ≡ Err f → declared_first es ≡ Err f
+  no_first f h = (let n = nil_from es f h in ap declared_first n.0 ∙ ap Err n.1)
 
--- the same, by the expressions behind the declarations
-abbrev pub job_of_terms : Variables → Expressions → Option PlainJob
-job_of_terms declared (Cons conditions Nil) = section (codes "terms") conditions >>= job_of_conditions declared
-job_of_terms declared es = None
+  module _ (p : Expression × Expressions) (first : first_and_others es ≡ Ok p) where
+    pub no_second : (f : JobFault) → first_and_others p.1 ≡ Err f → declared_first es ≡ Err f
+    no_second f h = (let n = nil_from p.1 f h in ap declared_first (cons_from es p first ∙ ap (Cons p.0) n.0) ∙ ap Err n.1)
 
-abbrev no_job : Expressions → Option PlainJob
-no_job es = None
+    module _ (q : Expression × Expressions) (second : first_and_others p.1 ≡ Ok q) where
+      pub no_third : (f : JobFault) → first_and_others q.1 ≡ Err f → declared_first es ≡ Err f
+      no_third f h = (let n = nil_from q.1 f h in ap declared_first (cons_from es p first ∙ ap (Cons p.0) (cons_from p.1 q second ∙ ap (Cons q.0) n.0)) ∙ ap Err n.1)
 
-abbrev with_others : Expressions → Variables → Option (Variables × Expressions)
-with_others others declared = Some (declared, others)
+      module _ (r : Expression × Expressions) (third : first_and_others q.1 ≡ Ok r) (enums variables functions : Expression) (a : p.0 ≡ enums) (b : q.0 ≡ variables) (c : r.0 ≡ functions) where
+        abbrev variables_in : Outcome (Declarations PlainType)
+        variables_in = section_of (codes "vars") variables >>= variables_of
 
-abbrev declared_by_parts : (enums variables functions : Option Expressions) (of : Expressions → Option Variables) (others : Expressions) → Option (Variables × Expressions)
-declared_by_parts enums variables functions of others = enums >>= λ a. variables >>= λ vs. functions >>= λ b. of vs >>= with_others others
+        abbrev functions_in : Outcome (Declarations PlainFunction)
+        functions_in = section_of (codes "funs") functions >>= functions_of
 
-nothing_of : (o : Option Expressions) → (o >>= no_job) ≡ None
-nothing_of None = refl
-nothing_of (Some ts) = refl
+        sections : declared_first es ≡ declared_by (no_enums enums) variables_in functions_in r.1
+        sections =
+            ap declared_first (cons_from es p first ∙ (λ i. Cons (a i) ((cons_from p.1 q second ∙ (λ j. Cons (b j) ((cons_from q.1 r third ∙ ap (λ x. Cons x r.1) c) j))) i)))
 
-terms_behind : (conditions : Expression) (d : Option Variables) → (section (codes "terms") conditions >>= λ ts. d >>= λ declared. job_of_conditions declared ts) ≡ ((d >>= with_others (Cons conditions Nil)) >>= λ p. job_of_terms p.0 p.1)
-terms_behind conditions None = nothing_of (section (codes "terms") conditions)
-terms_behind conditions (Some d) = refl
+        pub enums_refused : (f : JobFault) → no_enums enums ≡ Err f → declared_first es ≡ Err f
+        enums_refused f h = sections ∙ ap (λ o. declared_by o variables_in functions_in r.1) h
 
-terms_last : (a v b : Option Expressions) (of : Expressions → Option Variables) (conditions : Expression)
-    → (a >>= λ _. v >>= λ vs. b >>= λ _. section (codes "terms") conditions >>= λ ts. of vs >>= λ declared. job_of_conditions declared ts) ≡ (declared_by_parts a v b of (Cons conditions Nil) >>= λ p. job_of_terms p.0 p.1)
-terms_last None v b of conditions = refl
-terms_last (Some a) None b of conditions = refl
-terms_last (Some a) (Some vs) None of conditions = refl
-terms_last (Some a) (Some vs) (Some b) of conditions = terms_behind conditions (of vs)
+        module _ (none : List (List ℕ)) (without : no_enums enums ≡ Ok none) where
+          without_enums : declared_first es ≡ declared_by (Ok none) variables_in functions_in r.1
+          without_enums = sections ∙ ap (λ o. declared_by o variables_in functions_in r.1) without
 
-not_one : (d : Option Variables) (others : Expressions) → ((declared : Variables) → job_of_terms declared others ≡ None) → None ≡ ((d >>= with_others others) >>= λ p. job_of_terms p.0 p.1)
-not_one None others h = refl
-not_one (Some d) others h = sym (h d)
+          pub variables_refused : (f : JobFault) → variables_in ≡ Err f → declared_first es ≡ Err f
+          variables_refused f h = without_enums ∙ ap (λ o. declared_by (Ok none) o functions_in r.1) h
 
-no_terms : (a v b : Option Expressions) (of : Expressions → Option Variables) (others : Expressions) → ((declared : Variables) → job_of_terms declared others ≡ None) → None ≡ (declared_by_parts a v b of others >>= λ p. job_of_terms p.0 p.1)
-no_terms None v b of others h = refl
-no_terms (Some a) None b of others h = refl
-no_terms (Some a) (Some vs) None of others h = refl
-no_terms (Some a) (Some vs) (Some b) of others h = not_one (of vs) others h
+          module _ (vs : Declarations PlainType) (declared : variables_in ≡ Ok vs) where
+            pub functions_refused : (f : JobFault) → functions_in ≡ Err f → declared_first es ≡ Err f
+            functions_refused f h = without_enums ∙ (λ i. declared_by (Ok none) (declared i) (h i) r.1)
 
-pub job_in_parts : (es : Expressions) → job_of_sections es ≡ (declared_first es >>= λ p. job_of_terms p.0 p.1)
-job_in_parts Nil = refl
-job_in_parts (Cons enums Nil) = refl
-job_in_parts (Cons enums (Cons variables Nil)) = refl
-job_in_parts (Cons enums (Cons variables (Cons functions Nil))) =
-    no_terms (empty_section (codes "enums") enums) (section (codes "vars") variables) (empty_section (codes "funs") functions) (declared_by []) Nil (λ d. refl)
-job_in_parts (Cons enums (Cons variables (Cons functions (Cons conditions Nil)))) =
-    terms_last (empty_section (codes "enums") enums) (section (codes "vars") variables) (empty_section (codes "funs") functions) (declared_by []) conditions
-job_in_parts (Cons enums (Cons variables (Cons functions (Cons conditions (Cons e es))))) =
-    no_terms (empty_section (codes "enums") enums) (section (codes "vars") variables) (empty_section (codes "funs") functions) (declared_by []) (Cons conditions (Cons e es)) (λ d. refl)
+            pub all_declared : (fs : Declarations PlainFunction) → functions_in ≡ Ok fs → declared_first es ≡ Ok (record { variables = vs; functions = fs }, r.1)
+            all_declared fs h = without_enums ∙ (λ i. declared_by (Ok none) (declared i) (h i) r.1)
+
+-- what a section states, where its expressions are these
+pub of_section : {B : Type 0} (of : Expressions → Outcome B) (head : List ℕ) (e : Expression) (es : Expressions) → section_of head e ≡ Ok es → (section_of head e >>= of) ≡ of es
+of_section of head e es h = ap (λ o. o >>= of) h
+
+pub not_of_section : {B : Type 0} (of : Expressions → Outcome B) (head : List ℕ) (e : Expression) (f : JobFault) → section_of head e ≡ Err f → (section_of head e >>= of) ≡ Err f
+not_of_section of head e f h = ap (λ o. o >>= of) h
+
+-- where enum types stand, they are refused
+pub not_nothing : (items : List SExpr) → nat_eq (length items) 0 ≡ false → nothing (plain_list items) ≡ Err FormFault
+not_nothing [] h = absurd (cc)
+not_nothing (e ∷ es) h = refl
+
+pub some_enums : (e : Expression) (items : List SExpr) → section_of (codes "enums") e ≡ Ok (plain_list items) → nat_eq (length items) 0 ≡ false → no_enums e ≡ Err FormFault
+some_enums e items s h = ap (λ o. o >>= nothing) s ∙ not_nothing items h
+
+-- ---- the section of the terms
 
 -- the section of the terms is entered
 pub record IsEntered (others : Expressions) (terms end : List ℕ) : Type 0 where
@@ -219,13 +219,13 @@ pub record IsEntered (others : Expressions) (terms end : List ℕ) : Type 0 wher
   pub more : Expressions
   pub whole : others ≡ Cons first more
   pub conditions : Expressions
-  pub stated : section (codes "terms") first ≡ Some conditions
+  pub stated : section_of (codes "terms") first ≡ Ok conditions
   pub after : List ℕ
   pub inside : BeginsInside 510 conditions terms after
   pub behind : BeginsInside 511 more (skip_space after) end
 
 pub entered : (others : Expressions) (rest terms end inner : List ℕ) → BeginsInside 511 others rest end → rest ≡ 40 ∷ inner
-    → ((e : Expression) (after : List ℕ) → Begins 511 e rest after → (es : Expressions) × (section (codes "terms") e ≡ Some es) × BeginsInside 510 es terms after) → IsEntered others terms end
+    → ((e : Expression) (after : List ℕ) → Begins 511 e rest after → (es : Expressions) × (section_of (codes "terms") e ≡ Ok es) × BeginsInside 510 es terms after) → IsEntered others terms end
 entered Nil rest terms end inner i o stated = absurd (let h = (head_is 41 40 end inner (sym i ∙ o)).0 in omega arith)
 entered (Cons f fs) rest terms end inner i o stated =
     let s = stated f i.0 i.1 in
@@ -240,59 +240,84 @@ entered (Cons f fs) rest terms end inner i o stated =
       behind = i.2;
     }
 
-no_section : (declared : Variables) (f : Expression) (fs : Expressions) → section (codes "terms") f ≡ None → job_of_terms declared (Cons f fs) ≡ None
-no_section declared f Nil none = ap (λ o. o >>= job_of_conditions declared) none
-no_section declared f (Cons x xs) none = refl
+no_section : (ds : Stated) (e : Expression) (more : Expressions) (f : JobFault) → section_of (codes "terms") e ≡ Err f → terms_last ds (Cons e more) ≡ Err f
+no_section ds e Nil f none = ap (λ o. o >>= conditions_of ds) none
+no_section ds e (Cons x xs) f none = ap (λ o. o >>= conditions_of ds >>= λ ts. Err FormFault) none
 
-pub not_entered : (declared : Variables) (others : Expressions) (rest end : List ℕ) (e : JobError) {A : Type 0} (P : List ℕ → A → Expressions → Type 0) → BeginsInside 511 others rest end → (e ≡ TooLarge → ⊥)
-    → ((f : Expression) (after : List ℕ) → Begins 511 f rest after → Gives (P after) (Err e) (section (codes "terms") f)) → {B : Type 0} (Q : B → PlainJob → Type 0) → Gives Q (Err e) (job_of_terms declared others)
-not_entered declared Nil rest end BadForm P i small stated Q = refl
-not_entered declared Nil rest end Memory P i small stated Q = tt
-not_entered declared Nil rest end TooLarge P i small stated Q = small refl
-not_entered declared (Cons f fs) rest end e P i small stated Q = gives_error Q (P i.0) e (job_of_terms declared (Cons f fs)) (section (codes "terms") f) (stated f i.0 i.1) (no_section declared f fs)
+abbrev no_form : Outcome ℕ
+no_form = Err FormFault
 
-module _ (declared : Variables) (others : Expressions) (terms end : List ℕ) (s : IsEntered others terms end) where
-  stated_by : job_of_terms declared others ≡ job_of_terms declared (Cons s.first s.more)
-  stated_by = ap (job_of_terms declared) s.whole
+pub not_entered : (ds : Stated) (others : Expressions) (rest end : List ℕ) (error : JobError) → BeginsInside 511 others rest end → IsFault error FormFault
+    → ((e : Expression) (after : List ℕ) → Begins 511 e rest after → IsFaultIn error (section_of (codes "terms") e)) → IsFaultIn error (terms_last ds others)
+not_entered ds Nil rest end error i form stated = fault_passes error (terms_last ds Nil) no_form form (λ f same. (let e : FormFault ≡ f = cc in ap Err e))
+not_entered ds (Cons e es) rest end error i form stated = fault_passes error (terms_last ds (Cons e es)) (section_of (codes "terms") e) (stated e i.0 i.1) (no_section ds e es)
 
-  by_more : (more : Expressions) → conditions_of declared s.conditions ≡ None → job_of_terms declared (Cons s.first more) ≡ None
-  by_more Nil none =
-      ap (λ o. o >>= job_of_conditions declared) s.stated
-      ∙ ap (λ o. o >>= λ written. Some (record { enums = []; variables = declared; terms = written })) none
-  by_more (Cons x xs) none = refl
+module _ (ds : Stated) (others : Expressions) (terms end : List ℕ) (s : IsEntered others terms end) where
+  stated_by : terms_last ds others ≡ terms_last ds (Cons s.first s.more)
+  stated_by = ap (terms_last ds) s.whole
 
-  pub no_conditions : conditions_of declared s.conditions ≡ None → job_of_terms declared others ≡ None
-  no_conditions none = stated_by ∙ by_more s.more none
+  by_more : (more : Expressions) (f : JobFault) → conditions_of ds s.conditions ≡ Err f → terms_last ds (Cons s.first more) ≡ Err f
+  by_more Nil f none = ap (λ o. o >>= conditions_of ds) s.stated ∙ none
+  by_more (Cons x xs) f none = ap (λ o. o >>= conditions_of ds >>= λ ts. Err FormFault) s.stated ∙ ap (λ o. o >>= λ ts. Err FormFault) none
+
+  pub no_conditions : (f : JobFault) → conditions_of ds s.conditions ≡ Err f → terms_last ds others ≡ Err f
+  no_conditions f none = stated_by ∙ by_more s.more f none
 
   -- the job ends behind its terms
-  pub ended : (rest after : List ℕ) (written : List PlainTerm) → rest ≡ skip_space s.after → rest ≡ 41 ∷ after → conditions_of declared s.conditions ≡ Some written → job_of_terms declared others ≡ Some (record { enums = []; variables = declared; terms = written })
+  pub ended : (rest after : List ℕ) (written : List PlainTerm) → rest ≡ skip_space s.after → rest ≡ 41 ∷ after → conditions_of ds s.conditions ≡ Ok written → terms_last ds others ≡ Ok written
   ended rest after written e close w =
       let nothing = (one_inside 511 s.more Nil (skip_space s.after) end after s.behind (sym e ∙ close)).0 in
-      stated_by
-      ∙ ap (λ more. job_of_terms declared (Cons s.first more)) nothing
-      ∙ ap (λ o. o >>= job_of_conditions declared) s.stated
-      ∙ ap (λ o. o >>= λ written. Some (record { enums = []; variables = declared; terms = written })) w
+      stated_by ∙ ap (λ more. terms_last ds (Cons s.first more)) nothing ∙ ap (λ o. o >>= conditions_of ds) s.stated ∙ w
 
-  more_follows : (more : Expressions) (rest : List ℕ) → rest ≡ skip_space s.after → ((after : List ℕ) → rest ≡ 41 ∷ after → ⊥) → BeginsInside 511 more (skip_space s.after) end → job_of_terms declared (Cons s.first more) ≡ None
-  more_follows Nil rest e unclosed i = absurd (unclosed end (e ∙ i))
-  more_follows (Cons x xs) rest e unclosed i = refl
+  more_follows : (more : Expressions) (rest : List ℕ) (written : List PlainTerm) → rest ≡ skip_space s.after → ((after : List ℕ) → rest ≡ 41 ∷ after → ⊥) → BeginsInside 511 more (skip_space s.after) end → conditions_of ds s.conditions ≡ Ok written
+      → terms_last ds (Cons s.first more) ≡ Err FormFault
+  more_follows Nil rest written e unclosed i w = absurd (unclosed end (e ∙ i))
+  more_follows (Cons x xs) rest written e unclosed i w = ap (λ o. o >>= conditions_of ds >>= λ ts. Err FormFault) s.stated ∙ ap (λ o. o >>= λ ts. Err FormFault) w
 
   -- or it does not
-  pub not_ended : (rest : List ℕ) → rest ≡ skip_space s.after → ((after : List ℕ) → rest ≡ 41 ∷ after → ⊥) → job_of_terms declared others ≡ None
-  not_ended rest e unclosed = stated_by ∙ more_follows s.more rest e unclosed s.behind
+  pub not_ended : (rest : List ℕ) (written : List PlainTerm) → rest ≡ skip_space s.after → ((after : List ℕ) → rest ≡ 41 ∷ after → ⊥) → conditions_of ds s.conditions ≡ Ok written → terms_last ds others ≡ Err FormFault
+  not_ended rest written e unclosed w = stated_by ∙ more_follows s.more rest written e unclosed s.behind w
 
-pub job_is : (e : Expression) (es : Expressions) (p : Variables × Expressions) (declared : Variables) → section (codes "job") e ≡ Some es → declared_first es ≡ Some p → declared ≡ p.0 → job_of e ≡ job_of_terms declared p.1
-job_is e es p declared s d v =
-    ap (λ o. o >>= job_of_sections) s ∙ job_in_parts es ∙ ap (λ o. o >>= λ q. job_of_terms q.0 q.1) d ∙ ap (λ vs. job_of_terms vs p.1) (sym v)
+-- ---- a job of its sections
+
+pub record IsSectioned (e : Expression) (ds : Stated) (others : Expressions) : Type 0 where
+  pub inside : Expressions
+  pub is_job : section_of (codes "job") e ≡ Ok inside
+  pub p : Stated × Expressions
+  pub declares : declared_first inside ≡ Ok p
+  pub declared : ds ≡ p.0
+  pub others_are : others ≡ p.1
+
+abbrev pub job_by : Stated → Outcome (List PlainTerm) → Outcome PlainJob
+job_by ds o = o >>= λ ts. Ok (record { enums = []; variables = ds.variables; functions = ds.functions; terms = ts })
+
+pub no_job : (e : Expression) (f : JobFault) → section_of (codes "job") e ≡ Err f → job_of e ≡ Err f
+no_job e f h = ap (λ o. o >>= λ es. declared_first es >>= λ p. job_by p.0 (terms_last p.0 p.1)) h
+
+pub not_declared : (e : Expression) (es : Expressions) (f : JobFault) → section_of (codes "job") e ≡ Ok es → declared_first es ≡ Err f → job_of e ≡ Err f
+not_declared e es f s h = ap (λ o. o >>= λ es. declared_first es >>= λ p. job_by p.0 (terms_last p.0 p.1)) s ∙ ap (λ o. o >>= λ p. job_by p.0 (terms_last p.0 p.1)) h
+
+module _ (e : Expression) (ds : Stated) (others : Expressions) (s : IsSectioned e ds others) where
+  job_is : job_of e ≡ job_by ds (terms_last ds others)
+  job_is =
+      ap (λ o. o >>= λ es. declared_first es >>= λ p. job_by p.0 (terms_last p.0 p.1)) s.is_job
+      ∙ ap (λ o. o >>= λ p. job_by p.0 (terms_last p.0 p.1)) s.declares
+      ∙ sym (λ i. job_by (s.declared i) (terms_last (s.declared i) (s.others_are i)))
+
+  pub no_terms : (f : JobFault) → terms_last ds others ≡ Err f → job_of e ≡ Err f
+  no_terms f h = job_is ∙ ap (job_by ds) h
+
+  pub with_terms : (written : List PlainTerm) → terms_last ds others ≡ Ok written → job_of e ≡ Ok (record { enums = []; variables = ds.variables; functions = ds.functions; terms = written })
+  with_terms written h = job_is ∙ ap (job_by ds) h
 
 -- ---- the whole
 
 module _ (bytes : List ℕ) (e : Expression) (read : IsPlainRead bytes 512 e) (old new : List PlainTerm) where
-  abbrev IsWalked : Result VarList JobError → Type 0
-  IsWalked r = Gives (λ vars job. Takes (declarations vars) old new job) r (job_of e)
+  abbrev IsWalked : Result Declared JobError → Type 0
+  IsWalked r = Gives (λ declared job. Takes (declared_in declared) old new job) r (job_of e)
 
-  pub job_taken : (r : Result VarList JobError) → length bytes ≤ greatest_length → IsWalked r → IfOk r (λ vars. TakesJob bytes (declarations vars) old new)
-  job_taken (Ok vars) short w = record {
+  pub job_taken : (r : Result Declared JobError) → length bytes ≤ greatest_length → IsWalked r → IfOk r (λ declared. TakesJob bytes (declared_in declared) old new)
+  job_taken (Ok declared) short w = record {
     written = w.0;
     is_job = record {
       short = short;
@@ -304,19 +329,35 @@ module _ (bytes : List ℕ) (e : Expression) (read : IsPlainRead bytes 512 e) (o
   }
   job_taken (Err x) short w = tt
 
-  pub not_too_large : (r : Result VarList JobError) → IsWalked r → IsErrOf r TooLarge → ⊥
-  not_too_large (Ok vars) w h = absurd (cc)
-  not_too_large (Err BadForm) w h = absurd (cc)
-  not_too_large (Err Memory) w h = absurd (cc)
+  pub not_too_large : (r : Result Declared JobError) → IsWalked r → IsErrOf r TooLarge → ⊥
+  not_too_large (Ok declared) w h = absurd (cc)
   not_too_large (Err TooLarge) w h = w
+  not_too_large (Err BadForm) w h = absurd (cc)
+  not_too_large (Err (UnknownName n)) w h = absurd (cc)
+  not_too_large (Err (DuplicateName n)) w h = absurd (cc)
+  not_too_large (Err BadType) w h = absurd (cc)
+  not_too_large (Err BadWidth) w h = absurd (cc)
+  not_too_large (Err (BadLiteral n)) w h = absurd (cc)
+  not_too_large (Err IllTyped) w h = absurd (cc)
+  not_too_large (Err NotBool) w h = absurd (cc)
+  not_too_large (Err Memory) w h = absurd (cc)
 
-  not_stated : (job : PlainJob) → job_of e ≡ None → IsJob bytes job → ⊥
-  not_stated job none is =
-      let some = sym is.stated ∙ ap job_of (one_expression bytes 512 e is.expression read is.read.reads) ∙ none in
-      absurd (cc)
+  refused_by : (fault : JobFault) → length bytes ≤ greatest_length → job_of e ≡ Err fault → HasFault bytes fault
+  refused_by fault short h = (short, inr (record { expression = e; read = read; stated = h }))
 
-  pub no_form : (r : Result VarList JobError) → IsWalked r → IsErrOf r BadForm → (job : PlainJob) → IsJob bytes job → ⊥
-  no_form (Ok vars) w h job is = absurd (cc)
-  no_form (Err BadForm) w h job is = not_stated job w is
-  no_form (Err Memory) w h job is = absurd (cc)
-  no_form (Err TooLarge) w h job is = w
+  error_refused : (x : JobError) → length bytes ≤ greatest_length → IsFaultIn x (job_of e) → IfSome (fault_in x) (HasFault bytes)
+  error_refused TooLarge short w = tt
+  error_refused BadForm short w = refused_by _ short w
+  error_refused (UnknownName n) short w = refused_by _ short w
+  error_refused (DuplicateName n) short w = refused_by _ short w
+  error_refused BadType short w = refused_by _ short w
+  error_refused BadWidth short w = refused_by _ short w
+  error_refused (BadLiteral n) short w = refused_by _ short w
+  error_refused IllTyped short w = refused_by _ short w
+  error_refused NotBool short w = refused_by _ short w
+  error_refused Memory short w = tt
+
+  -- the fault of an error is that of the job
+  pub job_refused : (r : Result Declared JobError) → length bytes ≤ greatest_length → IsWalked r → IfErr r (λ x. IfSome (fault_in x) (HasFault bytes))
+  job_refused (Ok declared) short w = tt
+  job_refused (Err x) short w = error_refused x short w

@@ -1,4 +1,3 @@
-pub mod Job
 pub mod JobView
 pub mod Numbered
 pub mod Numbers

@@ -2,8 +2,8 @@
 use Rattle.std.specs.Prelude.{List}
 use Rattle.smt_meaning.specs.Plain.{PlainTerm}
 use Rattle.smt_leaves.specs.Enums.{enums_of}
-use Rattle.smt_jobs.specs.Job.{PlainJob}
-use Rattle.smt_jobs.specs.JobView.{declarations}
+use Rattle.smt_job_grammar.specs.Jobs.{PlainJob}
+use Rattle.smt_jobs.specs.JobView.{declarations, functions}
 use Rattle.smt_jobs.specs.Numbers.{terms_of}
 use Rattle.smt_jobs.specs.declared.numbered.NumberedJob.{NumberedJob}
 use Rattle.smt_jobs.specs.declared.numbered.NumberedTerms.{NumberedTerms}
@@ -12,4 +12,4 @@ abbrev pub numbered_terms : NumberedTerms → List PlainTerm
 numbered_terms terms = terms_of terms.nodes terms.ids.items
 
 abbrev pub numbered_job : NumberedJob → PlainJob
-numbered_job job = record { enums = enums_of job.enums; variables = declarations job.vars; terms = numbered_terms job.terms }
+numbered_job job = record { enums = enums_of job.enums; variables = declarations job.vars; functions = functions job.funs; terms = numbered_terms job.terms }

@@ -1,66 +1,37 @@
-// Declarations of variables.
-ghost use Rattle.std.specs.Prelude.{◌≡◌, ◌++◌, ◌∷◌, [], None, IfOk, IfSome, OnOk, IsOkUnless, map, option_map};
+// Declarations of variables and of functions.
+ghost use Rattle.std.specs.Prelude.{◌≡◌, ◌++◌, ◌∷◌, [], None, IfOk, OnOk, IsOkUnless, option_map};
 ghost use Rattle.std.specs.Rc.{rc_str_bytes};
+ghost use Rattle.smt_meaning.specs.Plain.{PlainFunction, PlainType};
 ghost use Rattle.smt_sexpr.specs.View.{plain};
-ghost use Rattle.smt_lexicon.specs.Reading.{expressions};
-ghost use Rattle.smt_term.specs.View.{plain_type};
-ghost use Rattle.smt_jobs.specs.Job.{Variables, bits_type, declared_by, type_declared, type_named, type_of_expression, variable_of};
+ghost use Rattle.smt_term.specs.View.{plain_function, plain_type};
+ghost use Rattle.smt_job_grammar.specs.Declarations as stated;
+ghost use Rattle.smt_job_grammar.specs.Declarations.{Declarations, declared};
 ghost use Rattle.smt_jobs.specs.JobView as view;
-ghost use Rattle.smt_jobs.specs.JobView.{HasVariables, DeclaresNext, IsReadAs};
+ghost use Rattle.smt_jobs.specs.JobView.{DeclaresNext, HasFunctions, HasVariables, IsReadAs};
 
-use crate::expression::{name_in, number_in, section, sole, text_in};
-use crate::job::{JobError, VarList};
-use smt_bits::Width;
+use crate::error::{JobError, duplicate};
+use crate::expression::{pair_in, text_in, triple_in};
+use crate::lists::{UufList, VarList};
+use crate::types::type_from;
 use smt_sexpr::SExpr;
-use smt_term::{TermType, TermVar, Text};
+use smt_term::{TermType, TermVar, Text, Uuf};
 use std::alloc::Global;
 use std::collections::BTreeMap;
-
-/// The type of a name.
-fn type_by_name(name: &str) -> Option<TermType>
-    ensures { option_map plain_type result ≡ type_named name.now }
-{
-    match name {
-        "Bool" => Some(TermType::Bool),
-        _ => None,
-    }
-}
-
-/// The type of bitvectors of as many bits, from 1 to 128.
-fn bits_type(width: u128) -> Option<TermType>
-    ensures { option_map plain_type result ≡ bits_type width }
-{
-    let width = u32::try_from(width).ok()?;
-    Some(TermType::Bitvec {
-        n: Width::new(width)?,
-    })
-}
-
-/// The type that an expression states.
-fn type_from(expression: &SExpr) -> Option<TermType>
-    ensures { option_map plain_type result ≡ type_of_expression (plain expression.now) }
-{
-    match expression {
-        SExpr::App(_) => bits_type(number_in(sole(section("BitVec", expression)?)?)?),
-        SExpr::BitVec(_) | SExpr::Numeral(_) | SExpr::String(_) | SExpr::Symbol(_) => {
-            type_by_name(name_in(expression)?.as_str())
-        }
-    }
-}
+use std::rc::Rc;
 
 /// The variables that are declared so far.
 #[derive(Drop)]
-pub(crate) struct Declared {
+pub(crate) struct Variables {
     pub(crate) vars: VarList,
     types: BTreeMap<Text, TermType>,
 }
 
-impl Declared {
+impl Variables {
     /// No variable. Takes no memory.
-    fn new(alloc: Global) -> Declared
+    fn new(alloc: Global) -> Variables
         ensures { HasVariables result [] }
     {
-        Declared {
+        Variables {
             vars: VarList::new(alloc),
             types: BTreeMap::new(alloc),
         }
@@ -68,14 +39,14 @@ impl Declared {
 
     /// The type of an id, None exactly where it is not declared.
     pub(crate) fn type_of(&self, id: &Text) -> Option<&TermType>
-        ensures { (vs : Variables) → HasVariables self.now vs → option_map (λ ty. plain_type ty.now) result ≡ type_declared vs (rc_str_bytes id.now) }
+        ensures { (vs : Declarations PlainType) → HasVariables self.now vs → option_map (λ ty. plain_type ty.now) result ≡ declared vs (rc_str_bytes id.now) }
     {
         self.types.get(id)
     }
 
     /// Declares an id that is not declared yet.
     fn enter(&mut self, id: &Text, ty: TermType) -> Result<(), JobError>
-        ensures entered { (vs : Variables) → HasVariables self.old vs → type_declared vs (rc_str_bytes id.now) ≡ None →
+        ensures entered { (vs : Declarations PlainType) → HasVariables self.old vs → declared vs (rc_str_bytes id.now) ≡ None →
             OnOk result (HasVariables self.new (vs ++ (rc_str_bytes id.now, plain_type ty) ∷ [])) }
         ensures refusal { IsOkUnless result JobError.Memory }
     {
@@ -87,46 +58,142 @@ impl Declared {
         Ok(())
     }
 
-    /// The id and the type of the variable that an expression states, where the id is not declared yet.
-    fn variable_from<'e>(&self, expression: &'e SExpr) -> Option<(&'e Text, TermType)>
-        ensures stated { (vs : Variables) → HasVariables self.now vs → option_map (λ v. (rc_str_bytes v.0.now, plain_type v.1)) result ≡ variable_of vs (plain expression.now) }
-        ensures undeclared { (vs : Variables) → HasVariables self.now vs → IfSome result (λ v. type_declared vs (rc_str_bytes v.0.now) ≡ None) }
+    /// An id that is not declared yet.
+    fn new_id<'e>(&self, expression: &'e SExpr) -> Result<&'e Text, JobError>
+        ensures stated { (vs : Declarations PlainType) → HasVariables self.now vs → IsReadAs (λ id. rc_str_bytes id.now) result (stated.new_id vs (plain expression.now)) }
+        ensures undeclared { (vs : Declarations PlainType) → HasVariables self.now vs → IfOk result (λ id. declared vs (rc_str_bytes id.now) ≡ None) }
     {
-        let inside = match expression {
-            SExpr::App(inside) => inside,
-            SExpr::BitVec(_) | SExpr::Numeral(_) | SExpr::String(_) | SExpr::Symbol(_) =>
-                return None,
-        };
-        let [id, ty] = inside.items() else {
-            return None;
-        };
-        let id = text_in(id)?;
-        let ty = type_from(ty)?;
+        let id = text_in(expression).ok_or(JobError::BadForm)?;
         match self.type_of(id) {
-            Some(_) => None,
-            None => Some((id, ty)),
+            Some(_) => Err(duplicate(id)),
+            None => Ok(id),
         }
     }
 
-    /// Declares the variable that an expression states.
-    fn declare(&mut self, expression: &SExpr) -> Result<(), JobError>
-        ensures { (vs : Variables) → HasVariables self.old vs → DeclaresNext self.new vs (variable_of vs (plain expression.now)) result }
+    /// The id and the type that an expression states.
+    fn stated<'e>(
+        &self,
+        alloc: Global,
+        expression: &'e SExpr,
+    ) -> Result<(&'e Text, TermType), JobError>
+        ensures stated { (vs : Declarations PlainType) → HasVariables self.now vs → IsReadAs (λ v. (rc_str_bytes v.0.now, plain_type v.1)) result (stated.variable_of vs (plain expression.now)) }
+        ensures undeclared { (vs : Declarations PlainType) → HasVariables self.now vs → IfOk result (λ v. declared vs (rc_str_bytes v.0.now) ≡ None) }
     {
-        match self.variable_from(expression) {
-            Some((id, ty)) => self.enter(id, ty),
-            None => Err(JobError::BadForm),
+        let (id, ty) = pair_in(expression).ok_or(JobError::BadForm)?;
+        let id = self.new_id(id)?;
+        let ty = type_from(alloc, ty)?;
+        Ok((id, ty))
+    }
+
+    /// Declares the variable that an expression states.
+    fn declare(&mut self, alloc: Global, expression: &SExpr) -> Result<(), JobError>
+        ensures { (vs : Declarations PlainType) → HasVariables self.old vs → DeclaresNext (HasVariables self.new) vs (stated.variable_of vs (plain expression.now)) result }
+    {
+        let (id, ty) = self.stated(alloc, expression)?;
+        self.enter(id, ty)
+    }
+}
+
+/// The functions that are declared so far.
+#[derive(Drop)]
+pub(crate) struct Functions {
+    pub(crate) funs: UufList,
+    found: BTreeMap<Text, Rc<Uuf>>,
+}
+
+impl Functions {
+    /// No function. Takes no memory.
+    fn new(alloc: Global) -> Functions
+        ensures { HasFunctions result [] }
+    {
+        Functions {
+            funs: UufList::new(alloc),
+            found: BTreeMap::new(alloc),
         }
+    }
+
+    /// The function of an id, None exactly where it is not declared.
+    pub(crate) fn function_of(&self, id: &Text) -> Option<&Rc<Uuf>>
+        ensures { (fs : Declarations PlainFunction) → HasFunctions self.now fs → option_map (λ f. plain_function f.now.value) result ≡ declared fs (rc_str_bytes id.now) }
+    {
+        self.found.get(id)
+    }
+
+    /// Declares a function whose id is not declared yet.
+    fn enter(&mut self, alloc: Global, function: Uuf) -> Result<(), JobError>
+        ensures entered { (fs : Declarations PlainFunction) → HasFunctions self.old fs → declared fs (rc_str_bytes function.id) ≡ None →
+            OnOk result (HasFunctions self.new (fs ++ (rc_str_bytes function.id, plain_function function) ∷ [])) }
+        ensures refusal { IsOkUnless result JobError.Memory }
+    {
+        self.found
+            .insert(function.id.clone()?, Rc::new(alloc, function.share()?)?)?;
+        Ok(self.funs.push(function)?)
+    }
+
+    /// An id that is not declared yet.
+    fn new_id<'e>(&self, expression: &'e SExpr) -> Result<&'e Text, JobError>
+        ensures stated { (fs : Declarations PlainFunction) → HasFunctions self.now fs → IsReadAs (λ id. rc_str_bytes id.now) result (stated.new_id fs (plain expression.now)) }
+        ensures undeclared { (fs : Declarations PlainFunction) → HasFunctions self.now fs → IfOk result (λ id. declared fs (rc_str_bytes id.now) ≡ None) }
+    {
+        let id = text_in(expression).ok_or(JobError::BadForm)?;
+        match self.function_of(id) {
+            Some(_) => Err(duplicate(id)),
+            None => Ok(id),
+        }
+    }
+
+    /// The function that an expression states.
+    fn stated(&self, alloc: Global, expression: &SExpr) -> Result<Uuf, JobError>
+        ensures stated { (fs : Declarations PlainFunction) → HasFunctions self.now fs → IsReadAs (λ f. (rc_str_bytes f.id, plain_function f)) result (stated.function_of fs (plain expression.now)) }
+        ensures undeclared { (fs : Declarations PlainFunction) → HasFunctions self.now fs → IfOk result (λ f. declared fs (rc_str_bytes f.id) ≡ None) }
+    {
+        let (id, arg, out) = triple_in(expression).ok_or(JobError::BadForm)?;
+        let id = self.new_id(id)?;
+        let arg = type_from(alloc, arg)?;
+        let out = type_from(alloc, out)?;
+        Ok(Uuf {
+            id: id.clone()?,
+            arg,
+            out,
+        })
+    }
+
+    /// Declares the function that an expression states.
+    fn declare(&mut self, alloc: Global, expression: &SExpr) -> Result<(), JobError>
+        ensures { (fs : Declarations PlainFunction) → HasFunctions self.old fs → DeclaresNext (HasFunctions self.new) fs (stated.function_of fs (plain expression.now)) result }
+    {
+        let function = self.stated(alloc, expression)?;
+        self.enter(alloc, function)
     }
 }
 
 /// The variables that these expressions state.
-pub(crate) fn declared_from(alloc: Global, declarations: &[SExpr]) -> Result<Declared, JobError>
-    ensures stated { IsReadAs (λ d. view.declarations d.vars) result (declared_by [] (expressions (map plain declarations.now))) }
-    ensures declares { IfOk result (λ d. HasVariables d (view.declarations d.vars)) }
+pub(crate) fn variables_from(alloc: Global, items: &[SExpr]) -> Result<Variables, JobError>
+    ensures stated { IsReadAs (λ v. view.declarations v.vars) result (stated.variables_of (view.plain_list items.now)) }
+    ensures declares { IfOk result (λ v. HasVariables v (view.declarations v.vars)) }
 {
-    let mut declared = Declared::new(alloc);
-    for declaration in declarations {
-        declared.declare(declaration)?;
+    let mut variables = Variables::new(alloc);
+    for item in items {
+        variables.declare(alloc, item)?;
     }
-    Ok(declared)
+    Ok(variables)
+}
+
+/// The functions that these expressions state.
+pub(crate) fn functions_from(alloc: Global, items: &[SExpr]) -> Result<Functions, JobError>
+    ensures stated { IsReadAs (λ f. view.functions f.funs) result (stated.functions_of (view.plain_list items.now)) }
+    ensures declares { IfOk result (λ f. HasFunctions f (view.functions f.funs)) }
+{
+    let mut functions = Functions::new(alloc);
+    for item in items {
+        functions.declare(alloc, item)?;
+    }
+    Ok(functions)
+}
+
+/// What the terms of a job may name.
+#[derive(Drop)]
+pub(crate) struct Declared {
+    pub(crate) variables: Variables,
+    pub(crate) functions: Functions,
 }

@@ -1,18 +1,18 @@
 // The parts of expressions that jobs are made of.
-ghost use Rattle.std.specs.Prelude.{◌≡◌, None, Some, if◌then◌else◌, option_map};
+ghost use Rattle.std.specs.Prelude.{◌≡◌, option_map};
 ghost use Rattle.std.specs.Rc.{rc_str_bytes};
-ghost use Rattle.smt_lexicon.specs.Reading.{Nil};
+ghost use Rattle.smt_bits.specs.Width.{bits_in};
 ghost use Rattle.smt_sexpr.specs.View.{plain};
-ghost use Rattle.smt_jobs.specs.Job as expressions_in;
-ghost use Rattle.smt_jobs.specs.Job.{empty_section};
+ghost use Rattle.smt_job_grammar.specs.Parts as parts;
 ghost use Rattle.smt_jobs.specs.JobView as view;
 
+use smt_bits::Width;
 use smt_sexpr::SExpr;
 use smt_term::Text;
 
 /// The bytes of a symbol.
 pub(crate) fn name_in(expression: &SExpr) -> Option<&Text>
-    ensures { option_map (λ name. rc_str_bytes name.now) result ≡ expressions_in.name_in (plain expression.now) }
+    ensures { option_map (λ name. rc_str_bytes name.now) result ≡ parts.name_in (plain expression.now) }
 {
     match expression {
         SExpr::Symbol(name) => Some(name),
@@ -22,7 +22,7 @@ pub(crate) fn name_in(expression: &SExpr) -> Option<&Text>
 
 /// What stands between the quotes of a string.
 pub(crate) fn text_in(expression: &SExpr) -> Option<&Text>
-    ensures { option_map (λ text. rc_str_bytes text.now) result ≡ expressions_in.text_in (plain expression.now) }
+    ensures { option_map (λ text. rc_str_bytes text.now) result ≡ parts.text_in (plain expression.now) }
 {
     match expression {
         SExpr::String(text) => Some(text),
@@ -32,7 +32,7 @@ pub(crate) fn text_in(expression: &SExpr) -> Option<&Text>
 
 /// The number of a numeral.
 pub(crate) fn number_in(expression: &SExpr) -> Option<u128>
-    ensures { result ≡ expressions_in.number_in (plain expression.now) }
+    ensures { result ≡ parts.number_in (plain expression.now) }
 {
     match expression {
         SExpr::Numeral(number) => Some(*number),
@@ -40,9 +40,26 @@ pub(crate) fn number_in(expression: &SExpr) -> Option<u128>
     }
 }
 
+/// A width from 1 to 128.
+pub(crate) fn width_in(expression: &SExpr) -> Option<Width>
+    ensures { option_map bits_in result ≡ parts.width_in (plain expression.now) }
+{
+    Width::new(u32::try_from(number_in(expression)?).ok()?)
+}
+
+/// What stands in brackets.
+pub(crate) fn inside_of(expression: &SExpr) -> Option<&[SExpr]>
+    ensures { option_map (λ items. view.plain_list items.now) result ≡ parts.inside_of (plain expression.now) }
+{
+    match expression {
+        SExpr::App(inside) => Some(inside.items()),
+        SExpr::BitVec(_) | SExpr::Numeral(_) | SExpr::String(_) | SExpr::Symbol(_) => None,
+    }
+}
+
 /// The one expression of a list.
 pub(crate) fn sole(items: &[SExpr]) -> Option<&SExpr>
-    ensures { option_map (λ item. plain item.now) result ≡ expressions_in.sole (view.plain_list items.now) }
+    ensures { option_map (λ item. plain item.now) result ≡ parts.sole (view.plain_list items.now) }
 {
     match items {
         [item] => Some(item),
@@ -50,28 +67,62 @@ pub(crate) fn sole(items: &[SExpr]) -> Option<&SExpr>
     }
 }
 
+/// The two expressions of a list.
+pub(crate) fn both(items: &[SExpr]) -> Option<(&SExpr, &SExpr)>
+    ensures { option_map (λ p. (plain p.0.now, plain p.1.now)) result ≡ parts.both (view.plain_list items.now) }
+{
+    match items {
+        [first, second] => Some((first, second)),
+        _ => None,
+    }
+}
+
+/// The three expressions of a list.
+fn three(items: &[SExpr]) -> Option<(&SExpr, &SExpr, &SExpr)>
+    ensures { option_map (λ p. (plain p.0.now, plain p.1.now, plain p.2.now)) result ≡ parts.three (view.plain_list items.now) }
+{
+    match items {
+        [first, second, third] => Some((first, second, third)),
+        _ => None,
+    }
+}
+
+/// The two expressions in brackets.
+pub(crate) fn pair_in(expression: &SExpr) -> Option<(&SExpr, &SExpr)>
+    ensures { option_map (λ p. (plain p.0.now, plain p.1.now)) result ≡ parts.pair_in (plain expression.now) }
+{
+    both(inside_of(expression)?)
+}
+
+/// The three expressions in brackets.
+pub(crate) fn triple_in(expression: &SExpr) -> Option<(&SExpr, &SExpr, &SExpr)>
+    ensures { option_map (λ p. (plain p.0.now, plain p.1.now, plain p.2.now)) result ≡ parts.triple_in (plain expression.now) }
+{
+    three(inside_of(expression)?)
+}
+
+/// The first expression of a list.
+pub(crate) fn first_in(items: &[SExpr]) -> Option<&SExpr>
+    ensures { option_map (λ item. plain item.now) result ≡ parts.first_in (view.plain_list items.now) }
+{
+    items.first()
+}
+
+/// The text of the one expression of a list.
+pub(crate) fn sole_text(items: &[SExpr]) -> Option<&Text>
+    ensures { option_map (λ text. rc_str_bytes text.now) result ≡ parts.sole_text (view.plain_list items.now) }
+{
+    text_in(sole(items)?)
+}
+
 /// What stands behind this head in brackets.
 pub(crate) fn section<'e>(head: &str, expression: &'e SExpr) -> Option<&'e [SExpr]>
-    ensures { option_map (λ items. view.plain_list items.now) result ≡ expressions_in.section head.now (plain expression.now) }
+    ensures { option_map (λ items. view.plain_list items.now) result ≡ parts.section head.now (plain expression.now) }
 {
-    let inside = match expression {
-        SExpr::App(inside) => inside,
-        SExpr::BitVec(_) | SExpr::Numeral(_) | SExpr::String(_) | SExpr::Symbol(_) => return None,
-    };
-    let (first, others) = inside.items().split_first()?;
+    let (first, others) = inside_of(expression)?.split_first()?;
     if head == name_in(first)?.as_str() {
         Some(others)
     } else {
         None
-    }
-}
-
-/// Whether nothing stands behind this head in brackets.
-pub(crate) fn is_empty_section(head: &str, expression: &SExpr) -> bool
-    ensures { empty_section head.now (plain expression.now) ≡ (if result then Some Nil else None) }
-{
-    match section(head, expression) {
-        Some(items) => items.is_empty(),
-        None => false,
     }
 }

@@ -2,7 +2,7 @@
 ghost use Rattle.std.specs.Prelude.{IsTrue};
 ghost use Rattle.smt_jobs.specs.Numbers.{all_stand};
 
-use crate::job::VarList;
+use crate::lists::{UufList, VarList};
 use crate::walk::TermSink;
 use smt_nodes::{Interner, NodeId};
 use smt_term::{EnumTable, Term, TermError};
@@ -17,13 +17,15 @@ pub struct NumberedTerms {
     ghost stand: { IsTrue (all_stand nodes ids.items) },
 }
 
-/// A job: its enum types, its variables and its terms, by their numbers.
+/// A job: its enum types, its variables, its functions and its terms, by their numbers.
 #[derive(Drop)]
 pub struct NumberedJob {
     /// The enum types that the terms may name. A job that was read has none.
     pub enums: EnumTable,
     /// The declared variables, in order.
     pub vars: VarList,
+    /// The declared functions, in order.
+    pub funs: UufList,
     /// The terms, in order, as they are built.
     pub terms: NumberedTerms,
 }

@@ -4,14 +4,14 @@ ghost use Rattle.smt_folding.specs.Built.{folded};
 ghost use Rattle.smt_meaning.specs.Plain.{PlainTerm, PlainType};
 ghost use Rattle.smt_meaning.specs.Types.{result_type, type_of};
 ghost use Rattle.smt_term.specs.View.{plain_op, plain_term};
-ghost use Rattle.smt_jobs.specs.Job.{operator_named};
+ghost use Rattle.smt_job_grammar.specs.Terms.{extension_named, operator_named, other_named};
 
-use smt_term::{Op, Term, TermError, UnaryFunction};
+use smt_term::{ExtOp, Op, Term, TermError, UnaryFunction};
 use std::alloc::Global;
 
-/// The operator of a name, but for the extension, whose number belongs to it.
-pub(crate) fn operator_named(name: &str) -> Option<Op>
-    ensures { option_map plain_op result ≡ operator_named name.now }
+/// The operator of a name, but for those on values of the extension types and those to which something else belongs.
+fn other_named(name: &str) -> Option<Op>
+    ensures { option_map plain_op result ≡ other_named name.now }
 {
     match name {
         "not" => Some(Op::Not),
@@ -38,7 +38,40 @@ pub(crate) fn operator_named(name: &str) -> Option<Op>
         "bvsaddo" => Some(Op::Bvsaddo),
         "bvssubo" => Some(Op::Bvssubo),
         "bvsmulo" => Some(Op::Bvsmulo),
+        "option.get" => Some(Op::OptionGet),
+        "set.member" => Some(Op::SetMember),
+        "set.subset" => Some(Op::SetSubset),
+        "set.inter" => Some(Op::SetInter),
         _ => None,
+    }
+}
+
+/// The operator of a name on values of the extension types.
+fn extension_named(name: &str) -> Option<Op>
+    ensures { option_map plain_op result ≡ extension_named name.now }
+{
+    match name {
+        "datetime.ofBitVec" => Some(Op::Ext(ExtOp::DatetimeOfBitVec)),
+        "datetime.val" => Some(Op::Ext(ExtOp::DatetimeVal)),
+        "decimal.val" => Some(Op::Ext(ExtOp::DecimalVal)),
+        "duration.ofBitVec" => Some(Op::Ext(ExtOp::DurationOfBitVec)),
+        "duration.val" => Some(Op::Ext(ExtOp::DurationVal)),
+        "ipaddr.addrV4" => Some(Op::Ext(ExtOp::IpaddrAddrV4)),
+        "ipaddr.addrV6" => Some(Op::Ext(ExtOp::IpaddrAddrV6)),
+        "ipaddr.isV4" => Some(Op::Ext(ExtOp::IpaddrIsV4)),
+        "ipaddr.prefixV4" => Some(Op::Ext(ExtOp::IpaddrPrefixV4)),
+        "ipaddr.prefixV6" => Some(Op::Ext(ExtOp::IpaddrPrefixV6)),
+        _ => None,
+    }
+}
+
+/// The operator of a name, but for those to which something else belongs.
+pub(crate) fn operator_named(name: &str) -> Option<Op>
+    ensures { option_map plain_op result ≡ operator_named name.now }
+{
+    match other_named(name) {
+        Some(op) => Some(op),
+        None => extension_named(name),
     }
 }
 

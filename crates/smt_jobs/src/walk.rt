@@ -1,5 +1,5 @@
 // The walk over the bytes of a job: its parts are read one behind the other, and each expression is let go once it is used.
-ghost use Rattle.std.specs.Prelude.{ℕ, List, ◌≡◌, ◌-◌, ◌<◌, ◌↔◌, ◌++◌, ◌∷◌, [], IfOk, OnOk, IsErrOf, length, map};
+ghost use Rattle.std.specs.Prelude.{ℕ, List, ◌≡◌, ◌-◌, ◌<◌, ◌↔◌, ◌++◌, ◌∷◌, [], IfErr, IfOk, IfSome, OnOk, IsErrOf, length, map};
 ghost use Rattle.smt_folding.specs.Built.{built};
 ghost use Rattle.smt_meaning.specs.Plain.{PlainTerm};
 ghost use Rattle.smt_term.specs.View.{plain_term};
@@ -7,14 +7,19 @@ ghost use Rattle.smt_lexicon.specs.Front.{Begins, BeginsInside, skip_space};
 ghost use Rattle.smt_lexicon.specs.PlainTexts.{IsPlainText};
 ghost use Rattle.smt_lexicon.specs.Reading.{Expression, Expressions};
 ghost use Rattle.smt_sexpr.specs.View.{plain};
-ghost use Rattle.smt_jobs.specs.Job.{IsJob, PlainJob, Variables, conditions_of, greatest_length, greatest_nesting, job_of, section};
+ghost use Rattle.smt_job_grammar.specs.Declarations.{Declared as Stated};
+ghost use Rattle.smt_job_grammar.specs.Jobs as stated;
+ghost use Rattle.smt_job_grammar.specs.Jobs.{HasFault, IsTooLong, PlainJob, greatest_length, greatest_nesting};
+ghost use Rattle.smt_job_grammar.specs.Outcomes.{FormFault};
+ghost use Rattle.smt_job_grammar.specs.Terms.{conditions_of};
 ghost use Rattle.smt_jobs.specs.JobView as view;
-ghost use Rattle.smt_jobs.specs.JobView.{HasVariables};
-ghost use Rattle.smt_jobs.specs.Walk.{Gives, Takes, TakesJob, declared_first, first_and_others};
+ghost use Rattle.smt_jobs.specs.JobView.{HasDeclared, IsFault, IsReadAs, declared_in, fault_in};
+ghost use Rattle.smt_jobs.specs.Walk.{Gives, Takes, TakesJob, first_and_others};
 
-use crate::declaration::{Declared, declared_from};
-use crate::expression::{is_empty_section, name_in, section};
-use crate::job::{GREATEST_JOB, GREATEST_NESTING, JobError, VarList};
+use crate::declaration::{Declared, functions_from, variables_from};
+use crate::error::JobError;
+use crate::expression::{name_in, section};
+use crate::job::{GREATEST_JOB, GREATEST_NESTING};
 use crate::term::condition_from;
 use smt_sexpr::{SExpr, is_plain_expression, read_front, without_space};
 use smt_term::{Term, TermError};
@@ -44,7 +49,7 @@ fn next_expression(alloc: Global, src: &[u8], depth: usize) -> Result<(SExpr, &[
         Gives (λ x p. (p.0 ≡ plain x.0) × BeginsInside depth p.1 x.1.now end) result (first_and_others es) }
     ensures rest_plain { IfOk result (λ x. IsPlainText x.1.now) }
     ensures shorter { IfOk result (λ x. length x.1.now < length src.now) }
-    ensures within { IsErrOf result JobError.TooLarge → ⊥ }
+    ensures form { IfErr result (λ error. IsFault error FormFault) }
 {
     let (expression, rest) = read_front(alloc, src, depth)?.ok_or(JobError::BadForm)?;
     Ok((expression, without_space(rest)))
@@ -60,10 +65,10 @@ fn enter_section<'t>(
     requires is_plain { IsPlainText src.now }
     requires may_open { 0 < depth }
     ensures stated { (e : Expression) (end : List ℕ) → Begins depth e src.now end →
-        Gives (λ rest es. BeginsInside (depth - 1) es rest.now end) result (section head.now e) }
+        Gives (λ rest es. BeginsInside (depth - 1) es rest.now end) result (stated.section_of head.now e) }
     ensures opens { IfOk result (λ rest. (inner : List ℕ) × (src.now ≡ 40 ∷ inner)) }
     ensures rest_plain { IfOk result (λ rest. IsPlainText rest.now) }
-    ensures within { IsErrOf result JobError.TooLarge → ⊥ }
+    ensures form { IfErr result (λ error. IsFault error FormFault) }
 {
     let inside = behind(src, b'(').ok_or(JobError::BadForm)?;
     let (first, rest) = next_expression(alloc, without_space(inside), depth - 1)?;
@@ -75,22 +80,45 @@ fn enter_section<'t>(
     }
 }
 
-/// The variables that a job declares, and what stands behind the declarations. There is no enum type and no function.
+/// What stands behind this head in brackets.
+fn section_of<'e>(head: &str, expression: &'e SExpr) -> Result<&'e [SExpr], JobError>
+    ensures { IsReadAs (λ items. view.plain_list items.now) result (stated.section_of head.now (plain expression.now)) }
+{
+    section(head, expression).ok_or(JobError::BadForm)
+}
+
+/// Refuses enum types: there are none yet.
+fn refuse_enums(expression: &SExpr) -> Result<(), JobError>
+    ensures { IsReadAs (λ _. []) result (stated.no_enums (plain expression.now)) }
+{
+    if section_of("enums", expression)?.is_empty() {
+        Ok(())
+    } else {
+        Err(JobError::BadForm)
+    }
+}
+
+/// The variables and functions that a job declares, and what stands behind the declarations. There is no enum type.
 fn read_declarations(alloc: Global, src: &[u8]) -> Result<(Declared, &[u8]), JobError>
     requires { IsPlainText src.now }
     ensures stated { (es : Expressions) (end : List ℕ) → BeginsInside (greatest_nesting - 1) es src.now end →
-        Gives (λ x p. (view.declarations x.0.vars ≡ p.0) × BeginsInside (greatest_nesting - 1) p.1 x.1.now end) result (declared_first es) }
-    ensures declares { IfOk result (λ x. HasVariables x.0 (view.declarations x.0.vars)) }
+        Gives (λ x p. (declared_in x.0 ≡ p.0) × BeginsInside (greatest_nesting - 1) p.1 x.1.now end) result (stated.declared_first es) }
+    ensures declares { IfOk result (λ x. HasDeclared x.0 (declared_in x.0)) }
     ensures rest_plain { IfOk result (λ x. IsPlainText x.1.now) }
 {
     let (enums, rest) = next_expression(alloc, src, NESTING_IN_JOB)?;
     let (vars, rest) = next_expression(alloc, rest, NESTING_IN_JOB)?;
     let (funs, rest) = next_expression(alloc, rest, NESTING_IN_JOB)?;
-    if !is_empty_section("enums", &enums) || !is_empty_section("funs", &funs) {
-        return Err(JobError::BadForm);
-    }
-    let declarations = section("vars", &vars).ok_or(JobError::BadForm)?;
-    Ok((declared_from(alloc, declarations)?, rest))
+    refuse_enums(&enums)?;
+    let variables = variables_from(alloc, section_of("vars", &vars)?)?;
+    let functions = functions_from(alloc, section_of("funs", &funs)?)?;
+    Ok((
+        Declared {
+            variables,
+            functions,
+        },
+        rest,
+    ))
 }
 
 /// Gives the Boolean terms up to the closing bracket to `out`, each as it is built, and answers what stands behind it.
@@ -101,8 +129,8 @@ fn take_terms<'t, T: TermSink>(
     out: &mut T,
 ) -> Result<&'t [u8], JobError>
     requires { IsPlainText src.now }
-    ensures { (vs : Variables) → HasVariables declared.now vs → (es : Expressions) (end : List ℕ) → BeginsInside (greatest_nesting - 2) es src.now end →
-        Gives (λ rest written. (rest.now ≡ skip_space end) × (T.taken out.new ≡ T.taken out.old ++ map built written)) result (conditions_of vs es) }
+    ensures { (ds : Stated) → HasDeclared declared.now ds → (es : Expressions) (end : List ℕ) → BeginsInside (greatest_nesting - 2) es src.now end →
+        Gives (λ rest written. (rest.now ≡ skip_space end) × (T.taken out.new ≡ T.taken out.old ++ map built written)) result (conditions_of ds es) }
 {
     let mut rest = src;
     loop {
@@ -115,23 +143,23 @@ fn take_terms<'t, T: TermSink>(
     }
 }
 
-/// The variables of the job that stands at the front of a text. Its terms go to `out`.
-fn walk_sections<T: TermSink>(alloc: Global, src: &[u8], out: &mut T) -> Result<VarList, JobError>
+/// The declarations of the job that stands at the front of a text. Its terms go to `out`.
+fn walk_sections<T: TermSink>(alloc: Global, src: &[u8], out: &mut T) -> Result<Declared, JobError>
     requires { IsPlainText src.now }
     ensures { (e : Expression) (end : List ℕ) → Begins greatest_nesting e src.now end →
-        Gives (λ vars job. Takes (view.declarations vars) (T.taken out.old) (T.taken out.new) job) result (job_of e) }
+        Gives (λ declared job. Takes (declared_in declared) (T.taken out.old) (T.taken out.new) job) result (stated.job_of e) }
 {
     let inside = enter_section(alloc, "job", src, GREATEST_NESTING)?;
     let (declared, rest) = read_declarations(alloc, inside)?;
     let terms = enter_section(alloc, "terms", rest, NESTING_IN_JOB)?;
     let rest = take_terms(alloc, &declared, terms, out)?;
     match behind(rest, b')') {
-        Some(_) => Ok(declared.vars),
+        Some(_) => Ok(declared),
         None => Err(JobError::BadForm),
     }
 }
 
-/// The variables of a job. Its terms go to `out`, each as it is built, and its expression is let go before the next is read.
+/// The declarations of a job. Its terms go to `out`, each as it is built, and its expression is let go before the next is read.
 /// On an error `out` may have taken terms.
 ///
 /// # Errors
@@ -141,10 +169,10 @@ pub(crate) fn walk_job<T: TermSink>(
     alloc: Global,
     bytes: &[u8],
     out: &mut T,
-) -> Result<VarList, JobError>
-    ensures job { IfOk result (λ vars. TakesJob bytes.now (view.declarations vars) (T.taken out.old) (T.taken out.new)) }
-    ensures too_large { IsErrOf result JobError.TooLarge ↔ (greatest_length < length bytes.now) }
-    ensures bad_form { IsErrOf result JobError.BadForm → (job : PlainJob) → IsJob bytes.now job → ⊥ }
+) -> Result<Declared, JobError>
+    ensures job { IfOk result (λ declared. TakesJob bytes.now (declared_in declared) (T.taken out.old) (T.taken out.new)) }
+    ensures too_large { IsErrOf result JobError.TooLarge ↔ IsTooLong bytes.now }
+    ensures refused { IfErr result (λ error. IfSome (fault_in error) (HasFault bytes.now)) }
 {
     if bytes.len() > GREATEST_JOB {
         return Err(JobError::TooLarge);

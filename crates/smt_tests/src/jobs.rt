@@ -78,3 +78,96 @@ fn long_jobs_are_too_large(rt: HostRuntime) -> Result<(), Fail> {
     );
     Ok(())
 }
+
+/// How many variables, functions and terms a job has, or why the text is none.
+fn outcome(alloc: Global, text: &str) -> Result<String, Fail> {
+    match read_job(alloc, text.as_bytes()) {
+        Ok(job) => {
+            let (vars, funs, terms) = (job.vars.len(), job.funs.len(), job.terms.len());
+            Ok(format!(in alloc; "{vars} {funs} {terms}")?)
+        }
+        Err(error) => Ok(format!(in alloc; "{error}")?),
+    }
+}
+
+/// Jobs, and what reading gives. Of two faults the first is named.
+const OUTCOMES: [(&str, &str); 18] = [
+    ("(job (enums) (vars) (funs) (terms))", "0 0 0"),
+    (
+        "(job (enums) (vars (\"x\" (Option (Entity \"U\")))) (funs (\"f\" (Entity \"U\") (Set (Entity \"G\")))) (terms (set.member (entity \"G\" \"g\") (uuf \"f\" (option.get (var \"x\"))))))",
+        "1 1 1",
+    ),
+    (
+        "(job (enums) (vars (\"x\" (Record (\"b\" Bool) (\"a\" (BitVec 8))))) (funs) (terms (record.get \"b\" (var \"x\")) (eq (var \"x\") (record (\"a\" (bv 8 3)) (\"b\" true)))))",
+        "1 0 2",
+    ),
+    (
+        "(job (enums) (vars (\"x\" (Record (\"b\" Bool) (\"b\" Foo)))) (funs) (terms))",
+        "duplicate name b",
+    ),
+    (
+        "(job (enums) (vars (\"x\" Bool) (\"x\" Foo)) (funs) (terms))",
+        "duplicate name x",
+    ),
+    (
+        "(job (enums) (vars (\"x\" Foo) (\"x\" Foo)) (funs) (terms))",
+        "a type has no form",
+    ),
+    (
+        "(job (enums) (vars) (funs (\"f\" (BitVec 0) Foo)) (terms))",
+        "a width is out of bounds",
+    ),
+    (
+        "(job (enums) (vars) (funs) (terms (foo (bar))))",
+        "unknown name foo",
+    ),
+    (
+        "(job (enums) (vars) (funs) (terms (not (foo (bar)))))",
+        "unknown name foo",
+    ),
+    (
+        "(job (enums) (vars) (funs) (terms (bv 2 4)))",
+        "bad literal 4",
+    ),
+    (
+        "(job (enums) (vars) (funs) (terms (eq (long \"5 \") (foo))))",
+        "bad literal 5 ",
+    ),
+    (
+        "(job (enums) (vars) (funs) (terms (not (bv 3 4))))",
+        "a term is ill typed",
+    ),
+    (
+        "(job (enums) (vars) (funs) (terms (bv 3 4) (foo)))",
+        "a term is no Boolean",
+    ),
+    (
+        "(job (enums) (vars) (funs) (terms (eq (set Bool true) (set Bool \"x\"))))",
+        "a term is ill typed",
+    ),
+    (
+        "(job (enums) (vars) (funs) (terms (eq (record (\"a\" (foo)) (\"a\" true)) (foo))))",
+        "duplicate name a",
+    ),
+    (
+        "(job (enums) (vars) (funs) (terms (string.like (\"a\" ?) (foo))))",
+        "the job has not the form (job (enums) (vars ..) (funs ..) (terms ..))",
+    ),
+    (
+        "(job (enums) (vars) (funs) (terms (zero_extend 128 (foo))))",
+        "a width is out of bounds",
+    ),
+    (
+        "(job (enums) (vars) (funs) (terms (eq (none Bool) (some true)) (var \"y\")))",
+        "unknown name y",
+    ),
+];
+
+#[test]
+fn the_first_fault_is_named(rt: HostRuntime) -> Result<(), Fail> {
+    for (text, wanted) in OUTCOMES {
+        let found = outcome(rt.alloc(), text)?;
+        assert!(rt; found.as_str() == wanted, "{text} gives {found}");
+    }
+    Ok(())
+}

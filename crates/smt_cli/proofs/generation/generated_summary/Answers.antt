@@ -1,6 +1,6 @@
 use Rattle.std.proofs.Common.{ap, ◌∙◌}
 use Rattle.smt_meaning.specs.Faults.{first_fault}
-use Rattle.smt_jobs.specs.Job.{PlainJob}
+use Rattle.smt_job_grammar.specs.Jobs.{PlainJob}
 use Rattle.smt_generated.proofs.Conditions.{generated_conditions}
 use Rattle.smt_cli.proofs.generation.generated_summary.Goals as goal
 

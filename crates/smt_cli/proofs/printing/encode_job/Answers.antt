@@ -1,5 +1,6 @@
-use Rattle.std.proofs.Common.{subst, rules}
+use Rattle.std.proofs.Common.{◌≡◌, None, subst, rules}
 use Rattle.std.specs.Prelude.{OnOk}
+use Rattle.smt_meaning.specs.Faults.{first_fault}
 use Rattle.smt_meaning.specs.TypeValues.{Enums}
 use Rattle.smt_headline.specs.Headline.{Headline}
 use Rattle.smt_lines.specs.Text.{names, text}
@@ -28,3 +29,9 @@ returns-clause-refused g c =
     let stand = stood_by c.args.job.terms.nodes c.with_nodes-encoder.result.writer.names.nodes c.args.job.terms.ids.items c.as_slice.result.now c.args.job.terms.stand c.with_nodes-encoder.ensures.nodes c.as_slice.ensures.value in
     let refused = c.encode_nodes-outcome.ensures.refused (numbered_terms c.args.job.terms) stand in
     search (rules, refused)
+
+pub returns-clause-faultless : goal.returns-clause-faultless
+returns-clause-faultless g c =
+    let ts = numbered_terms c.args.job.terms in
+    let stand = stood_by c.args.job.terms.nodes c.with_nodes-encoder.result.writer.names.nodes c.args.job.terms.ids.items c.as_slice.result.now c.args.job.terms.stand c.with_nodes-encoder.ensures.nodes c.as_slice.ensures.value in
+    subst (λ (e : Enums). OnOk c.encode_nodes-outcome.result (first_fault e ts ≡ None)) c.with_nodes-encoder.ensures.enums (c.encode_nodes-outcome.ensures.complete ts stand).faultless

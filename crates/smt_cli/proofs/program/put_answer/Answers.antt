@@ -17,7 +17,7 @@ returns-in_ok-put_script-in-Some-Script-clause-done g c =
     let before = around g.R.Source.remaining g.R.Source.faults g.W.Sink.contents g.W.Sink.faults g.P.Starter.state c.args.source.now c.args.out.now c.args.starter.now in
     let after = around g.R.Source.remaining g.R.Source.faults g.W.Sink.contents g.W.Sink.faults g.P.Starter.state c.read_source.new.source c.put_script.new.out c.args.starter.now in
     subst (λ (o : Option Command). IsDone g.P.L.Link.state (g.P.Starter.allows c.args.starter.now) (solver_named (texts c.args.words.now)) before after (generation_named (texts c.args.words.now)) o) asked
-    (record { holds = prints _ (numbered_job c.in_ok-job-in-Some-Script.job) _ _ read.job put.text put.headline; ended = read.ended })
+    (record { holds = prints _ (numbered_job c.in_ok-job-in-Some-Script.job) _ _ read.job put.text put.headline put.faultless; ended = read.ended })
 
 pub returns-in_ok-put-in-Some-Help-clause-done : goal.returns-in_ok-put-in-Some-Help-clause-done
 returns-in_ok-put-in-Some-Help-clause-done g c =

@@ -19,7 +19,7 @@ returns-in_err-check_script-clause-refused g c =
     let error = c.in_err-check_script.field-0.0 in
     let why = subst (λ (k : SolverCall). WhyUnchecked state before.starter after.starter k c.bytes.result.now error) c.in-Ok.ensures.named c.in_err-check_script.ensures.refused in
     by_refusal (HasCheckCause state call before after) c.from_residual-in_err-check_script.result (check_refusal error) c.from_residual-in_err-check_script.ensures.1
-    (check_cause state call before after (numbered_job c.in_ok-job.job) c.bytes.result.now c.in_ok-job.ensures.job (c.bytes.ensures ∙ c.in_ok-script.ensures.text) error why)
+    (check_cause state call before after (numbered_job c.in_ok-job.job) c.bytes.result.now c.in_ok-job.ensures.job c.in_ok-script.ensures.faultless (c.bytes.ensures ∙ c.in_ok-script.ensures.text) error why)
 
 pub returns-clause-checked : goal.returns-clause-checked
 returns-clause-checked g c =
@@ -31,6 +31,6 @@ returns-clause-checked g c =
     let decision = c.in_ok-check_script.field-0 in
     let decides = subst (λ (k : SolverCall). Decides state allows before.starter after.starter k c.bytes.result.now decision) c.in-Ok.ensures.named c.in_ok-check_script.ensures.decided in
     record {
-      holds = checked state allows call before after before.left (numbered_job c.in_ok-job.job) c.bytes.result.now decision c.in_ok-job.ensures.job (c.bytes.ensures ∙ c.in_ok-script.ensures.text) c.in_ok-script.ensures.headline decides;
+      holds = checked state allows call before after before.left (numbered_job c.in_ok-job.job) c.bytes.result.now decision c.in_ok-job.ensures.job (c.bytes.ensures ∙ c.in_ok-script.ensures.text) c.in_ok-script.ensures.headline c.in_ok-script.ensures.faultless decides;
       ended = c.in_ok-job.ensures.ended;
     }

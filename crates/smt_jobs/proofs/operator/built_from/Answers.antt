@@ -1,7 +1,7 @@
 use Rattle.std.proofs.Common.{rules}
 use Rattle.smt_term.specs.View.{plain_op}
 use Rattle.smt_term.proofs.TypedArguments.{not_taken}
-use Rattle.smt_jobs.proofs.Forms.{nothing_built, nothing_taken}
+use Rattle.smt_jobs.proofs.Operators.{nothing_built, nothing_taken}
 use Rattle.smt_jobs.proofs.operator.built_from.Goals as goal
 use Rattle.smt_jobs.proofs.operator.built_from.Goals.{in_default-via-then-operands-lt1, in_default-via-else-operands-lt1+else-operands-lt2+else-operands-lt3+else-operands-lt4}
 

@@ -1,13 +1,14 @@
 use Rattle.std.proofs.Common.{Bor, Some, None, [], ◌∷◌, ◌-◌, bytes_eq, option_map, sym, ap, ◌∙◌, subst}
-use Rattle.std.specs.Prelude.{if◌then◌else◌}
+use Rattle.std.specs.Bool.{then_some}
+use Rattle.std.specs.Option.{option_and_then}
 use Rattle.std.specs.Rc.{rc_str_bytes}
 use Rattle.std.specs.declared.alloc.Global.{Global}
 use Rattle.std.specs.declared.rc.RcStr.{RcStr}
-use Rattle.smt_semantics.specs.Script.{◌>>=◌}
 use Rattle.smt_lexicon.specs.Front.{BeginsInside}
 use Rattle.smt_lexicon.proofs.Runs.{plain_back, plain_skip}
 use Rattle.smt_sexpr.specs.View.{plain}
-use Rattle.smt_jobs.proofs.Walking.{opened, section_of}
+use Rattle.smt_job_grammar.specs.Outcomes.{FormFault, demanded}
+use Rattle.smt_jobs.proofs.Walking.{opened, section_is}
 use Rattle.smt_jobs.proofs.walk.enter_section.Goals as goal
 
 pub next_expression-requires : goal.next_expression-requires
@@ -23,8 +24,8 @@ returns-then-eq-clause-stated c e end begins =
     let named = ap (option_map (λ (name : Bor (RcStr Global)). rc_str_bytes name.now)) (sym c.in_ok-name.ensures.ok_part) ∙ c.name_in.ensures in
     let same = sym (c.if-eq.ensures ∙ ap (bytes_eq c.args.head.now) c.as_str.ensures.value) in (
       first.0.1,
-      section_of c.args.head.now e inside.es first.0 (plain c.in_ok-first.first) inside.whole first.1 first.2.0
-          ∙ ap (λ o. o >>= λ n. if bytes_eq c.args.head.now n then Some first.0.1 else None) (sym named)
-          ∙ ap (λ b. if b then Some first.0.1 else None) same,
+      section_is c.args.head.now e inside.es first.0 (plain c.in_ok-first.first) inside.whole first.1 first.2.0
+          ∙ ap (λ o. demanded FormFault (option_and_then (λ n. then_some (bytes_eq c.args.head.now n) first.0.1) o)) (sym named)
+          ∙ ap (λ b. demanded FormFault (then_some b first.0.1)) same,
       first.2.1,
     )

@@ -1,68 +1,74 @@
-use Rattle.std.proofs.Common.{Bor, List, ℕ, ◌≡◌, ◌++◌, map, option_map, refl, ap, ◌∙◌}
+use Rattle.std.proofs.Common.{Bor, List, ℕ, ◌≡◌, ◌++◌, map, refl, ap, ◌∙◌}
 use Rattle.smt_folding.specs.Built.{built}
 use Rattle.smt_meaning.specs.Plain.{PlainTerm}
-use Rattle.smt_term.specs.View.{plain_term}
-use Rattle.smt_lexicon.specs.Front.{BeginsInside, skip_space}
-use Rattle.smt_lexicon.specs.Reading.{Expression, Expressions}
-use Rattle.smt_sexpr.specs.View.{plain}
-use Rattle.smt_sexpr.specs.declared.expression.SExpr.{SExpr}
-use Rattle.smt_jobs.specs.Job.{condition_of, conditions_of}
+use Rattle.smt_lexicon.specs.Front.{skip_space}
+use Rattle.smt_job_grammar.specs.Outcomes.{mapped}
+use Rattle.smt_job_grammar.specs.Terms.{condition_of, conditions_of}
 use Rattle.smt_jobs.specs.Walk.{first_and_others}
-use Rattle.smt_jobs.proofs.Giving.{built_from_none}
-use Rattle.smt_jobs.proofs.Walking.{all_taken, gives_passes, not_taken, nothing_more, reading_passes, taken_more, taking_none}
+use Rattle.smt_jobs.proofs.Reading.{mapped_fault}
+use Rattle.smt_jobs.proofs.Walking.{all_taken, gives_passes, not_taken, nothing_more, taken_more, taking_none}
 use Rattle.smt_jobs.proofs.walk.take_terms.Goals as goal
 
 pub loop-after-init : goal.loop-after-init
-loop-after-init g c = (c.requires, λ vs has es end i. taking_none vs es c.args.src.now _ end _ i refl)
+loop-after-init g c = (c.requires, λ ds has es end i. taking_none ds es c.args.src.now _ end _ i refl)
 
 pub returns-in-Some : goal.returns-in-Some
-returns-in-Some g c vs has es end i =
-    let t = c.loop-after.invariant.1 vs has es end i in
-    let all = all_taken vs es end _ _ _ t c.in-Some.after.now c.in-Some.ensures.found in
+returns-in-Some g c ds has es end i =
+    let t = c.loop-after.invariant.1 ds has es end i in
+    let all = all_taken ds es end _ _ _ t c.in-Some.after.now c.in-Some.ensures.found in
     (all.0, all.1, (c.without_space.ensures ∙ ap skip_space all.2, all.3))
 
 pub returns-in_err-expression : goal.returns-in_err-expression
-returns-in_err-expression g c vs has es end i =
-    let t = c.loop-after.invariant.1 vs has es end i in
+returns-in_err-expression g c ds has es end i =
+    let t = c.loop-after.invariant.1 ds has es end i in
     gives_passes (λ (rest : Bor (List ℕ)) (written : List PlainTerm). (rest.now ≡ skip_space end) × (g.T.TermSink.taken c.loop-after.out ≡ g.T.TermSink.taken c.args.out.now ++ map built written))
-    (λ (x : SExpr × Bor (List ℕ)) (p : Expression × Expressions). (p.0 ≡ plain x.0) × BeginsInside 510 p.1 x.1.now end)
-    c.from_residual.result c.in_err-expression.field-0.0 (conditions_of vs es) (first_and_others t.left) c.from_residual.ensures.1 (c.in_err-expression.ensures.stated t.left end t.begins)
-    (λ none. absurd (nothing_more vs es end _ _ _ t none c.in_default.ensures.none))
+    c.from_residual.result c.in_err-expression.field-0.0 (conditions_of ds es) (first_and_others t.left) c.from_residual.ensures.1 (c.in_err-expression.ensures.stated t.left end t.begins)
+    (λ f none. absurd (nothing_more ds es end _ _ _ t f none c.in_default.ensures.none))
 
 pub returns-in_err-condition_from : goal.returns-in_err-condition_from
-returns-in_err-condition_from g c vs has es end i =
-    let t = c.loop-after.invariant.1 vs has es end i in
+returns-in_err-condition_from g c ds has es end i =
+    let t = c.loop-after.invariant.1 ds has es end i in
     let first = c.in_ok-expression.ensures.stated t.left end t.begins in
-    reading_passes (λ (rest : Bor (List ℕ)) (written : List PlainTerm). (rest.now ≡ skip_space end) × (g.T.TermSink.taken c.loop-after.out ≡ g.T.TermSink.taken c.args.out.now ++ map built written))
-    plain_term c.from_residual-in_err-condition_from.result c.in_err-condition_from.field-0.0 (conditions_of vs es) _ c.from_residual-in_err-condition_from.ensures.1 (c.in_err-condition_from.ensures vs has)
-    (λ none. not_taken vs es end _ _ _ t first.0 first.1 (ap (condition_of vs) first.2.0 ∙ built_from_none built _ none))
+    gives_passes (λ (rest : Bor (List ℕ)) (written : List PlainTerm). (rest.now ≡ skip_space end) × (g.T.TermSink.taken c.loop-after.out ≡ g.T.TermSink.taken c.args.out.now ++ map built written))
+    c.from_residual-in_err-condition_from.result c.in_err-condition_from.field-0.0 (conditions_of ds es) _ c.from_residual-in_err-condition_from.ensures.1 (c.in_err-condition_from.ensures ds has)
+    (λ f none. not_taken ds es end _ _ _ t first.0 first.1 f (ap (condition_of ds) first.2.0 ∙ mapped_fault built _ f none))
 
 pub loop-after-preserved : goal.loop-after-preserved
 loop-after-preserved g c = (
   c.in_ok-expression.ensures.rest_plain,
-  λ vs has es end i. (
-      let t = c.loop-after.invariant.1 vs has es end i in
+  λ ds has es end i. (
+      let t = c.loop-after.invariant.1 ds has es end i in
       let first = c.in_ok-expression.ensures.stated t.left end t.begins in
-      taken_more vs es end _ _ _ t first.0 first.1 c.in_ok-expression.after.now _ _ first.2.1 (ap (λ e. option_map built (condition_of vs e)) first.2.0 ∙ c.in_ok-condition_from.ensures vs has) c.in_ok-take.ensures
+      taken_more ds es end _ _ _ t first.0 first.1 c.in_ok-expression.after.now _ _ first.2.1 (ap (λ e. mapped built (condition_of ds e)) first.2.0 ∙ c.in_ok-condition_from.ensures ds has) c.in_ok-take.ensures
+      ),
+)
+
+pub loop-after-preserved-in_ok-take : goal.loop-after-preserved-in_ok-take
+loop-after-preserved-in_ok-take g c = (
+  c.in_ok-expression.ensures.rest_plain,
+  λ ds has es end i. (
+      let t = c.loop-after.invariant.1 ds has es end i in
+      let first = c.in_ok-expression.ensures.stated t.left end t.begins in
+      taken_more ds es end _ _ _ t first.0 first.1 c.in_ok-expression.after.now _ _ first.2.1 (ap (λ e. mapped built (condition_of ds e)) first.2.0 ∙ c.in_ok-condition_from.ensures ds has) c.in_ok-take.ensures
       ),
 )
 
 pub loop-after-preserved-in_ok-take-2 : goal.loop-after-preserved-in_ok-take-2
 loop-after-preserved-in_ok-take-2 g c = (
   c.in_ok-expression.ensures.rest_plain,
-  λ vs has es end i. (
-      let t = c.loop-after.invariant.1 vs has es end i in
+  λ ds has es end i. (
+      let t = c.loop-after.invariant.1 ds has es end i in
       let first = c.in_ok-expression.ensures.stated t.left end t.begins in
-      taken_more vs es end _ _ _ t first.0 first.1 c.in_ok-expression.after.now _ _ first.2.1 (ap (λ e. option_map built (condition_of vs e)) first.2.0 ∙ c.in_ok-condition_from.ensures vs has) c.in_ok-take.ensures
+      taken_more ds es end _ _ _ t first.0 first.1 c.in_ok-expression.after.now _ _ first.2.1 (ap (λ e. mapped built (condition_of ds e)) first.2.0 ∙ c.in_ok-condition_from.ensures ds has) c.in_ok-take.ensures
       ),
 )
 
 pub loop-after-preserved-in_ok-take-3 : goal.loop-after-preserved-in_ok-take-3
 loop-after-preserved-in_ok-take-3 g c = (
   c.in_ok-expression.ensures.rest_plain,
-  λ vs has es end i. (
-      let t = c.loop-after.invariant.1 vs has es end i in
+  λ ds has es end i. (
+      let t = c.loop-after.invariant.1 ds has es end i in
       let first = c.in_ok-expression.ensures.stated t.left end t.begins in
-      taken_more vs es end _ _ _ t first.0 first.1 c.in_ok-expression.after.now _ _ first.2.1 (ap (λ e. option_map built (condition_of vs e)) first.2.0 ∙ c.in_ok-condition_from.ensures vs has) c.in_ok-take.ensures
+      taken_more ds es end _ _ _ t first.0 first.1 c.in_ok-expression.after.now _ _ first.2.1 (ap (λ e. mapped built (condition_of ds e)) first.2.0 ∙ c.in_ok-condition_from.ensures ds has) c.in_ok-take.ensures
       ),
 )

@@ -1,0 +1,85 @@
+-- The terms of a job are typed and formed, and they are Booleans; a job has no enum types, and bytes that are a job have no fault.
+use Rattle.std.proofs.Common.{◌≡◌, ℕ, List, [], Ok, Err, codes, refl, ap, ◌∙◌, subst, inl, inr, arith}
+use Rattle.std.specs.Prelude.{IfOk, IfSome}
+use Rattle.std.specs.Bool.{then_some}
+use Rattle.std.specs.List.{AllByRecursion}
+use Rattle.smt_meaning.specs.Plain.{BoolType, PlainTerm}
+use Rattle.smt_meaning.specs.Types.{type_eq, type_of}
+use Rattle.smt_meaning.proofs.TypeOrder.{eq_same}
+use Rattle.smt_lexicon.specs.Reading.{Expression, Expressions, Nil, Cons}
+use Rattle.smt_lexicon.proofs.Readings.{one_expression}
+use Rattle.smt_job_grammar.specs.Outcomes.{JobFault, Outcome, ◌>>=◌, TruthFault}
+use Rattle.smt_job_grammar.specs.Declarations.{Declared, functions_of, variables_of}
+use Rattle.smt_job_grammar.specs.Jobs.{HasFault, IsJob, IsTooLong, PlainJob, declared_first, job_of, job_of_sections, no_enums, section_of, terms_last}
+use Rattle.smt_job_grammar.specs.Laws.{IsCondition}
+use Rattle.smt_job_grammar.specs.Terms.{condition_of, conditions_of, term_of}
+use Rattle.smt_job_grammar.proofs.Outcomes.{bound, if_demanded, if_followed, if_some, onward, whichever}
+use Rattle.smt_job_grammar.proofs.FormedTypes.{AreDeclaredFormed, functions_formed, variables_formed}
+use Rattle.smt_job_grammar.proofs.SoundTerms.{IsSound, term_sound}
+
+chosen_condition : (t : PlainTerm) → IsSound t → IfSome (then_some (type_eq (type_of t) BoolType) t) IsCondition
+chosen_condition t s = if_some IsCondition (type_eq (type_of t) BoolType) t (λ e. record { boolean = record { parts = s.is_typed; type = eq_same (type_of t) BoolType e }; formed = s.formed })
+
+condition_sound : (ds : Declared) → AreDeclaredFormed ds → (e : Expression) → IfOk (condition_of ds e) IsCondition
+condition_sound ds f e =
+    bound IsCondition (term_of ds e) _ (onward (term_of ds e) (term_sound ds f e) (λ t s. if_demanded IsCondition TruthFault (then_some (type_eq (type_of t) BoolType) t) (chosen_condition t s)))
+
+conditions_sound : (ds : Declared) → AreDeclaredFormed ds → (es : Expressions) → IfOk (conditions_of ds es) (AllByRecursion IsCondition)
+conditions_sound ds f Nil = tt
+conditions_sound ds f (Cons e es) =
+    bound (AllByRecursion IsCondition) (condition_of ds e) _ (onward (condition_of ds e) (condition_sound ds f e) (λ t c.
+    if_followed (AllByRecursion IsCondition) t (conditions_of ds es) (onward (conditions_of ds es) (conditions_sound ds f es) (λ ts r. (c, r)))))
+
+declared_sound : (es : Expressions) → IfOk (declared_first es) (λ p. AreDeclaredFormed p.0)
+declared_sound Nil = tt
+declared_sound (Cons a Nil) = tt
+declared_sound (Cons a (Cons b Nil)) = tt
+declared_sound (Cons enums (Cons variables (Cons functions others))) =
+    bound _ (no_enums enums) _ (whichever _ (no_enums enums) (λ none.
+    bound _ (section_of (codes "vars") variables >>= variables_of) _ (onward (section_of (codes "vars") variables >>= variables_of) (bound _ (section_of (codes "vars") variables) variables_of (whichever _ (section_of (codes "vars") variables) variables_formed)) (λ vs f.
+    bound _ (section_of (codes "funs") functions >>= functions_of) _ (onward (section_of (codes "funs") functions >>= functions_of) (bound _ (section_of (codes "funs") functions) functions_of (whichever _ (section_of (codes "funs") functions) functions_formed)) (λ fs g.
+    record { variables = f; functions = g }))))))
+
+last_sound : (ds : Declared) → AreDeclaredFormed ds → (es : Expressions) → IfOk (terms_last ds es) (AllByRecursion IsCondition)
+last_sound ds f Nil = tt
+last_sound ds f (Cons conditions Nil) = bound _ (section_of (codes "terms") conditions) (conditions_of ds) (whichever _ (section_of (codes "terms") conditions) (conditions_sound ds f))
+last_sound ds f (Cons conditions (Cons e es)) = bound _ (section_of (codes "terms") conditions >>= conditions_of ds) _ (whichever _ (section_of (codes "terms") conditions >>= conditions_of ds) (λ ts. tt))
+
+sections_sound : (es : Expressions) → IfOk (job_of_sections es) (λ job. AllByRecursion IsCondition job.terms)
+sections_sound es =
+    bound _ (declared_first es) _ (onward (declared_first es) (declared_sound es) (λ p f.
+    bound _ (terms_last p.0 p.1) _ (onward (terms_last p.0 p.1) (last_sound p.0 f p.1) (λ ts c. c))))
+
+pub job_conditions : (bytes : List ℕ) (job : PlainJob) → IsJob bytes job → AllByRecursion IsCondition job.terms
+job_conditions bytes job is =
+    subst (λ (o : Outcome PlainJob). IfOk o (λ j. AllByRecursion IsCondition j.terms)) is.stated (bound _ (section_of (codes "job") is.expression) job_of_sections (whichever _ (section_of (codes "job") is.expression) sections_sound))
+
+-- ---- there are no enum types yet
+
+without_enums : (es : Expressions) → IfOk (job_of_sections es) (λ job. job.enums ≡ [])
+without_enums es =
+    bound _ (declared_first es) _ (whichever _ (declared_first es) (λ p.
+    bound _ (terms_last p.0 p.1) _ (whichever _ (terms_last p.0 p.1) (λ ts. refl))))
+
+pub job_without_enums : (bytes : List ℕ) (job : PlainJob) → IsJob bytes job → job.enums ≡ []
+job_without_enums bytes job is =
+    subst (λ (o : Outcome PlainJob). IfOk o (λ j. j.enums ≡ [])) is.stated (bound _ (section_of (codes "job") is.expression) job_of_sections (whichever _ (section_of (codes "job") is.expression) without_enums))
+
+-- ---- bytes are one job at most, and a job has no fault
+
+same_outcome : (o : Outcome PlainJob) (j k : PlainJob) → o ≡ Ok j → o ≡ Ok k → j ≡ k
+same_outcome o j k h i = cc
+
+pub one_job : (bytes : List ℕ) (j k : PlainJob) → IsJob bytes j → IsJob bytes k → j ≡ k
+one_job bytes j k is too = same_outcome (job_of is.expression) j k is.stated (ap job_of (one_expression bytes 512 too.expression is.expression too.read is.read.reads) ∙ too.stated)
+
+both : (o : Outcome PlainJob) (job : PlainJob) (fault : JobFault) → o ≡ Ok job → o ≡ Err fault → ⊥
+both o job fault h k = cc
+
+pub job_has_no_fault : (bytes : List ℕ) (job : PlainJob) (fault : JobFault) → IsJob bytes job → HasFault bytes fault → ⊥
+job_has_no_fault bytes job fault is (short, inl none) = none.1 is.expression is.read
+job_has_no_fault bytes job fault is (short, inr faulty) =
+    both (job_of is.expression) job fault is.stated (ap job_of (one_expression bytes 512 faulty.expression is.expression faulty.read is.read.reads) ∙ faulty.stated)
+
+pub job_is_short : (bytes : List ℕ) (job : PlainJob) → IsJob bytes job → IsTooLong bytes → ⊥
+job_is_short bytes job is long = (let short = is.short in omega (arith, short, long))

@@ -1,0 +1,6 @@
+pub mod FormedTypes
+pub mod Jobs
+pub mod OperatorNames
+pub mod Outcomes
+pub mod SortedLists
+pub mod SoundTerms

@@ -1,0 +1,35 @@
+-- What is known of jobs.
+use Rattle.std.specs.Prelude.{ℕ, ◌≡◌, IfSome, List, Some}
+use Rattle.std.specs.List.{AllByRecursion}
+use Rattle.smt_meaning.specs.Formed.{IsFormed}
+use Rattle.smt_meaning.specs.Names.{extension_op_name, op_name}
+use Rattle.smt_meaning.specs.Plain.{BoolType, PlainOp, ExtOp, PlainTerm}
+use Rattle.smt_meaning.specs.Typing.{Typed}
+use Rattle.smt_job_grammar.specs.Jobs.{HasFault, IsJob, IsTooLong, PlainJob}
+use Rattle.smt_job_grammar.specs.Outcomes.{JobFault}
+use Rattle.smt_job_grammar.specs.Terms.{extension_operators, named_operators, operator_named}
+
+-- a term that is typed as a Boolean, and formed
+pub record IsCondition (t : PlainTerm) : Type 0 where
+  pub boolean : Typed t BoolType
+  pub formed : IsFormed t
+
+-- Each term of a job is.
+abbrev pub JobsHaveConditions : Type 0
+JobsHaveConditions = (bytes : List ℕ) (job : PlainJob) → IsJob bytes job → AllByRecursion IsCondition job.terms
+
+-- Bytes that are a job are not too many, and have no fault. So they are refused for want of memory alone.
+pub record JobsAreNotRefused : Type 0 where
+  pub short : (bytes : List ℕ) (job : PlainJob) → IsJob bytes job → IsTooLong bytes → ⊥
+  pub sound : (bytes : List ℕ) (job : PlainJob) (fault : JobFault) → IsJob bytes job → HasFault bytes fault → ⊥
+
+-- the name of an operator in jobs: an operator on extension values has a name of its own, and others have that of terms
+abbrev pub job_name : PlainOp → List ℕ
+job_name (ExtOp o) = extension_op_name o
+job_name o = op_name o
+
+-- A name finds the operator that has it, and no other, and each operator of jobs is found by its name.
+pub record OperatorsAreFoundByName : Type 0 where
+  pub named : (n : List ℕ) → IfSome (operator_named n) (λ o. job_name o ≡ n)
+  pub found : AllByRecursion (λ e. operator_named e.0 ≡ Some e.1) named_operators
+  pub found_on_extensions : AllByRecursion (λ o. operator_named (extension_op_name o) ≡ Some (ExtOp o)) extension_operators

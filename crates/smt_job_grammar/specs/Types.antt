@@ -1,0 +1,76 @@
+-- The types that jobs state: `Bool`, `String`, `Decimal`, `IpAddr`, `Datetime`, `Duration`, `(BitVec N)` with N from 1 to 128,
+-- `(Option TYPE)`, `(Set TYPE)`, `(Entity "T")`, and `(Record ("a" TYPE) ..)`.
+use Rattle.std.specs.Prelude.{ℕ, bytes_eq, codes, if◌then◌else◌, List, [], ◌∷◌, ◌++◌, Option, Ok, Err}
+use Rattle.std.specs.List.{list_any}
+use Rattle.std.specs.Map.{lookup}
+use Rattle.std.specs.Option.{option_and_then}
+use Rattle.smt_meaning.specs.Plain.{IpAddrKind, DecimalKind, DatetimeKind, DurationKind, PlainType, OptionType, BitVecType, BoolType, EntityType, ExtensionType, StringType, RecordType, SetType, AttributeTypes, no_attributes, attribute}
+use Rattle.smt_meaning.specs.ValueOrder.{sorted, text_cmp}
+use Rattle.smt_lexicon.specs.Reading.{Expression, Leaf, Node, Expressions, Nil, Cons}
+use Rattle.smt_job_grammar.specs.Outcomes.{Outcome, ◌>>=◌, demanded, followed, DuplicateFault, TypeFault, WidthFault}
+use Rattle.smt_job_grammar.specs.Parts.{name_in, sole, sole_text, text_in, width_in}
+
+-- the types that a symbol names
+abbrev pub named_types : List (List ℕ × PlainType)
+named_types =
+    (codes "Bool", BoolType) ∷ (codes "String", StringType) ∷ (codes "Decimal", ExtensionType DecimalKind) ∷ (codes "IpAddr", ExtensionType IpAddrKind)
+    ∷ (codes "Datetime", ExtensionType DatetimeKind) ∷ (codes "Duration", ExtensionType DurationKind) ∷ []
+
+abbrev pub type_named : List ℕ → Option PlainType
+type_named n = lookup (bytes_eq n) named_types
+
+-- bitvectors of so many bits
+abbrev pub bits_type : Expressions → Outcome PlainType
+bits_type es = demanded TypeFault (sole es) >>= λ e. demanded WidthFault (width_in e) >>= λ n. Ok (BitVecType n)
+
+-- entities of a name
+abbrev pub entity_type : Expressions → Outcome PlainType
+entity_type es = demanded TypeFault (sole_text es) >>= λ name. Ok (EntityType name)
+
+-- a name that was not given before
+abbrev pub new_name : (given : List (List ℕ)) → List ℕ → Outcome (List ℕ)
+new_name given a = if list_any (bytes_eq a) given then Err (DuplicateFault a) else Ok a
+
+-- the name of one more attribute
+abbrev pub new_attribute : (given : List (List ℕ)) → Expression → Outcome (List ℕ)
+new_attribute given e = demanded TypeFault (text_in e) >>= new_name given
+
+-- attributes and their types, in the order of the attributes' bytes
+abbrev pub attributes : List (List ℕ × PlainType) → AttributeTypes
+attributes [] = no_attributes
+attributes (p ∷ ps) = attribute p.0 p.1 (attributes ps)
+
+abbrev pub record_type : List (List ℕ × PlainType) → PlainType
+record_type ps = RecordType (attributes (sorted (λ p q. text_cmp p.0 q.0) ps))
+
+-- the type of records of these attributes
+abbrev pub stated_record_type : Outcome (List (List ℕ × PlainType)) → Outcome PlainType
+stated_record_type ps = ps >>= λ pairs. Ok (record_type pairs)
+
+-- a type by its head, by what stands behind it, and by the type and the attributes that this states
+abbrev pub headed_type : (head : List ℕ) → Expressions → (inner : Outcome PlainType) → (attributes : Outcome (List (List ℕ × PlainType))) → Outcome PlainType
+headed_type head es inner attributes =
+    if bytes_eq head (codes "BitVec") then bits_type es
+    else (if bytes_eq head (codes "Option") then (inner >>= λ t. Ok (OptionType t))
+    else (if bytes_eq head (codes "Set") then (inner >>= λ t. Ok (SetType t))
+    else (if bytes_eq head (codes "Entity") then entity_type es
+    else (if bytes_eq head (codes "Record") then stated_record_type attributes
+    else Err TypeFault))))
+
+abbrev mutual
+  pub type_of_expression : Expression → Outcome PlainType
+  type_of_expression (Leaf a) = demanded TypeFault (option_and_then type_named (name_in (Leaf a)))
+  type_of_expression (Node Nil) = Err TypeFault
+  type_of_expression (Node (Cons head es)) = demanded TypeFault (name_in head) >>= λ n. headed_type n es (sole_type es) (attributes_of [] es)
+
+  -- the type that the one expression of a list states
+  pub sole_type : Expressions → Outcome PlainType
+  sole_type (Cons e Nil) = type_of_expression e
+  sole_type es = Err TypeFault
+
+  -- pairs `("a" TYPE)`, none of whose names was given before
+  pub attributes_of : (given : List (List ℕ)) → Expressions → Outcome (List (List ℕ × PlainType))
+  attributes_of given Nil = Ok []
+  attributes_of given (Cons (Node (Cons name (Cons type Nil))) es) =
+      new_attribute given name >>= λ a. type_of_expression type >>= λ t. followed (a, t) (attributes_of (given ++ a ∷ []) es)
+  attributes_of given (Cons e es) = Err TypeFault

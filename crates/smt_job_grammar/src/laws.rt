@@ -1,0 +1,17 @@
+// The laws of jobs and of the names of operators in them.
+ghost use Rattle.smt_job_grammar.specs.Laws.{JobsAreNotRefused, JobsHaveConditions, OperatorsAreFoundByName};
+
+/// Each term of a job is typed as a Boolean, and formed.
+pub fn jobs_have_conditions()
+    ensures { JobsHaveConditions }
+{}
+
+/// Bytes that are a job are not too many, and have no fault.
+pub fn jobs_are_not_refused()
+    ensures { JobsAreNotRefused }
+{}
+
+/// The operator that a job's name finds is the one that has this name, and each operator of jobs is found by its name.
+pub fn operators_are_found_by_name()
+    ensures { OperatorsAreFoundByName }
+{}
