@@ -1,5 +1,5 @@
 -- What the verdict on a job says of its terms.
-use Rattle.std.proofs.Common.{◌≡◌, ℕ, List, [], map, Option, Some, None, codes, refl, sym, subst}
+use Rattle.std.proofs.Common.{◌≡◌, ℕ, List, [], map, Option, Some, None, sym, subst}
 use Rattle.std.proofs.lemmas.Bool.{false≢true}
 use Rattle.std.specs.List.{AllByRecursion}
 use Rattle.std.specs.Prelude.{IfSome, IsTrue, is_some}
@@ -9,7 +9,6 @@ use Rattle.smt_meaning.specs.Tables.{Interpretation}
 use Rattle.smt_meaning.specs.Typing.{AreBoolean}
 use Rattle.smt_meaning.specs.TypeValues.{Enums}
 use Rattle.smt_folding.specs.Built.{built}
-use Rattle.smt_lexicon.specs.Reading.{Expressions, Nil, Cons}
 use Rattle.smt_lines.specs.Text.{names, text}
 use Rattle.smt_carrying.specs.CarriedOrder.{AreEnums}
 use Rattle.smt_headline.specs.Headline.{AreTrue, Headline}

@@ -1,5 +1,5 @@
 -- Ids that are declared one behind the other.
-use Rattle.std.proofs.Common.{◌≡◌, ℕ, ◌+◌, ◌<◌, ◌≤◌, Bool, true, false, cond, List, [], ◌∷◌, ◌++◌, Option, Some, None, bytes_eq, drop, get_or, length, option_map, refl, sym, ap, ◌∙◌, subst, inl, inr, Ok, Err, Result}
+use Rattle.std.proofs.Common.{◌≡◌, ℕ, ◌+◌, ◌<◌, ◌≤◌, Bool, true, false, cond, List, [], ◌∷◌, ◌++◌, Option, Some, None, bytes_eq, drop, get_or, length, option_map, sym, ap, ◌∙◌, subst, inl, inr, Ok, Err, Result}
 use Rattle.std.specs.Prelude.{IsErrAnd, IsOkUnless, OnOk}
 use Rattle.std.specs.Rc.{rc_str_bytes}
 use Rattle.std.specs.declared.alloc.Global.{Global}
@@ -8,10 +8,10 @@ use Rattle.std.proofs.lemmas.Bool.{cases_Bool, false≢true}
 use Rattle.std.proofs.lemmas.List.{at_drop_more, at_drop_all}
 use Rattle.std.proofs.lemmas.Slice.Eq.{bytes_eq-Decides}
 use Rattle.smt_lines.proofs.Making.{lookup_new, lookup_other}
-use Rattle.smt_lexicon.specs.Reading.{Expression, Expressions, Nil, Cons}
+use Rattle.smt_lexicon.specs.Reading.{Expression, Cons}
 use Rattle.smt_sexpr.specs.View.{plain}
 use Rattle.smt_sexpr.specs.declared.expression.SExpr.{SExpr}
-use Rattle.smt_job_grammar.specs.Outcomes.{JobFault, Outcome, ◌>>=◌}
+use Rattle.smt_job_grammar.specs.Outcomes.{Outcome, ◌>>=◌}
 use Rattle.smt_job_grammar.specs.Declarations.{Declarations, declared, declared_by}
 use Rattle.smt_jobs.specs.JobView.{DeclaresNext, IsFaultIn, IsReadAs, plain_list}
 use Rattle.smt_jobs.specs.declared.error.JobError.{JobError}

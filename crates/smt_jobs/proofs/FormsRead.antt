@@ -1,25 +1,22 @@
 -- What terms are made of, as it is read.
-use Rattle.std.proofs.Common.{◌≡◌, ℕ, ◌+◌, ◌<◌, ◌≤◌, Bool, true, false, List, [], ◌∷◌, ◌++◌, Option, Some, None, Ok, Err, drop, take, get_or, length, map, bytes_eq, codes, inl, inr, option_map, refl, sym, ap, ◌∙◌, subst, arith, append-nil}
-use Rattle.std.specs.List.{list_any}
+use Rattle.std.proofs.Common.{◌≡◌, ℕ, ◌+◌, ◌<◌, ◌≤◌, false, List, [], ◌∷◌, ◌++◌, Some, None, Ok, Err, drop, take, get_or, length, map, bytes_eq, codes, inl, inr, option_map, refl, sym, ap, ◌∙◌, append-nil}
 use Rattle.std.proofs.lemmas.Bool.{cases_Bool}
 use Rattle.std.proofs.lemmas.Slice.Eq.{bytes_eq-Decides}
-use Rattle.std.specs.Prelude.{if◌then◌else◌}
 use Rattle.std.specs.Rc.{rc_str_bytes}
 use Rattle.std.specs.declared.alloc.Global.{Global}
 use Rattle.std.specs.declared.rc.RcStr.{RcStr}
 use Rattle.std.proofs.lemmas.List.{at_drop_more, at_drop_all, map-append}
-use Rattle.smt_lexicon.specs.Reading.{Expression, Leaf, Node, Expressions, Nil, Cons}
+use Rattle.smt_lexicon.specs.Reading.{Expressions, Cons}
 use Rattle.smt_meaning.specs.Plain.{LiteralTerm, StringLiteral}
 use Rattle.smt_sexpr.specs.View.{plain, plain-String}
 use Rattle.smt_sexpr.specs.declared.expression.SExpr.{SExpr, String}
-use Rattle.smt_job_grammar.specs.Outcomes.{JobFault, Outcome, ◌>>=◌, demanded, followed, DuplicateFault, FormFault}
+use Rattle.smt_job_grammar.specs.Outcomes.{◌>>=◌, demanded, followed, FormFault}
 use Rattle.smt_job_grammar.specs.Parts.{text_in}
 use Rattle.smt_job_grammar.specs.Terms.{field_name, field_names, form_of, new_names, operator_form}
 use Rattle.smt_job_grammar.specs.Declarations.{Declared}
-use Rattle.smt_job_grammar.specs.Types.{new_name}
 use Rattle.smt_jobs.specs.JobView.{atom_outcome, plain_list}
 use Rattle.smt_jobs.proofs.Shapes.{text_of_string}
-use Rattle.smt_jobs.proofs.Reading.{behind, fault_behind, nothing_behind, one_behind}
+use Rattle.smt_jobs.proofs.Reading.{behind, nothing_behind, one_behind}
 
 -- ---- names of fields
 

@@ -1,5 +1,5 @@
 -- Operators at arguments of which they take as many as there are, or not.
-use Rattle.std.proofs.Common.{◌≡◌, ◌<◌, Bool, false, List, [], ◌∷◌, Option, Some, None, length, map, option_map, refl, arith}
+use Rattle.std.proofs.Common.{◌≡◌, ◌<◌, false, List, [], ◌∷◌, Option, Some, None, length, map, option_map, refl, arith}
 use Rattle.std.specs.Prelude.{is_some}
 use Rattle.smt_meaning.specs.Plain.{PlainOp, NotOp}
 use Rattle.smt_meaning.specs.Types.{result_type, type_of}

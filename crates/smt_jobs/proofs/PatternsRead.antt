@@ -1,8 +1,8 @@
 -- Patterns as they are read.
-use Rattle.std.proofs.Common.{◌≡◌, ℕ, ◌+◌, ◌<◌, ◌≤◌, Bool, true, false, List, [], ◌∷◌, ◌++◌, Option, Some, None, Ok, Err, Result, drop, get_or, length, map, option_map, refl, sym, ap, ◌∙◌, subst, append_assoc, append-nil}
+use Rattle.std.proofs.Common.{◌≡◌, ℕ, ◌+◌, ◌<◌, ◌≤◌, List, [], ◌++◌, Option, Some, None, Ok, Err, Result, drop, get_or, length, map, option_map, refl, sym, ap, ◌∙◌, append_assoc, append-nil}
 use Rattle.std.specs.Bool.{then_some}
 use Rattle.std.specs.Option.{option_and_then}
-use Rattle.std.specs.Prelude.{IsErrAnd, IsOkUnless, OnOk}
+use Rattle.std.specs.Prelude.{IsOkUnless, OnOk}
 use Rattle.std.specs.Rc.{rc_str_bytes}
 use Rattle.std.specs.Str.{chars}
 use Rattle.std.specs.declared.alloc.Global.{Global}
@@ -13,12 +13,11 @@ use Rattle.std.proofs.lemmas.Str.{IsUtf8-string_bytes, scalars-chars}
 use Rattle.smt_leaves.specs.PatternView.{plain_part}
 use Rattle.smt_leaves.specs.declared.pattern.PatternElem.{PatternElem}
 use Rattle.smt_meaning.specs.Plain.{Character, PatternPart}
-use Rattle.smt_lexicon.specs.Reading.{Expression, Expressions, Nil, Cons}
+use Rattle.smt_lexicon.specs.Reading.{Cons}
 use Rattle.smt_sexpr.specs.View.{plain, plain-String}
 use Rattle.smt_sexpr.specs.declared.expression.SExpr.{SExpr, String}
-use Rattle.smt_job_grammar.specs.Outcomes.{JobFault, Outcome, demanded, FormFault}
 use Rattle.smt_job_grammar.specs.Terms.{pattern_part, pattern_parts}
-use Rattle.smt_jobs.specs.JobView.{AppendsParts, IsFault, IsReadAs, plain_list}
+use Rattle.smt_jobs.specs.JobView.{AppendsParts, plain_list}
 use Rattle.smt_jobs.specs.declared.error.JobError.{JobError}
 use Rattle.smt_jobs.specs.declared.error.JobError.TheVariants.{TooLarge, BadForm, UnknownName, DuplicateName, BadType, BadWidth, BadLiteral, IllTyped, NotBool, Memory}
 

@@ -1,12 +1,8 @@
 -- What reading a part gives, and what the whole gives.
-use Rattle.std.proofs.Common.{◌≡◌, ℕ, ◌+◌, ◌<◌, ◌≤◌, List, [], ◌∷◌, ◌++◌, Option, Some, None, Ok, Err, Result, drop, get_or, length, map, refl, sym, ap, ◌∙◌, subst, append_assoc, append-nil}
+use Rattle.std.proofs.Common.{◌≡◌, List, [], ◌∷◌, ◌++◌, Ok, Err, Result, refl, sym, ap, subst, append_assoc}
 use Rattle.std.specs.Prelude.{IsErrAnd}
-use Rattle.std.proofs.lemmas.List.{at_drop_more, at_drop_all, map-append}
-use Rattle.smt_lexicon.specs.Reading.{Expression, Expressions, Nil, Cons}
-use Rattle.smt_sexpr.specs.View.{plain}
-use Rattle.smt_sexpr.specs.declared.expression.SExpr.{SExpr}
-use Rattle.smt_job_grammar.specs.Outcomes.{JobFault, Outcome, ◌>>=◌, demanded, followed, mapped}
-use Rattle.smt_jobs.specs.JobView.{IsFaultIn, IsReadAs, plain_list}
+use Rattle.smt_job_grammar.specs.Outcomes.{JobFault, Outcome, followed, mapped}
+use Rattle.smt_jobs.specs.JobView.{IsFaultIn, IsReadAs}
 use Rattle.smt_jobs.specs.declared.error.JobError.{JobError}
 use Rattle.smt_jobs.specs.declared.error.JobError.TheVariants.{TooLarge, BadForm, UnknownName, DuplicateName, BadType, BadWidth, BadLiteral, IllTyped, NotBool, Memory}
 

@@ -1,7 +1,7 @@
 -- The parts of expressions of the program, and of what they say.
-use Rattle.std.proofs.Common.{◌≡◌, ℕ, suc, false, ◌<◌, ◌≤◌, Bool, ◌-◌, List, [], ◌∷◌, Some, None, length, drop, take, get_or, cond, bytes_eq, refl, sym, ap, ◌∙◌, arith, inl, inr}
+use Rattle.std.proofs.Common.{◌≡◌, ℕ, ◌<◌, ◌≤◌, ◌-◌, List, [], ◌∷◌, Some, None, length, drop, take, get_or, refl, sym, ap, ◌∙◌, arith, inl, inr}
 use Rattle.std.specs.Bool.{then_some}
-use Rattle.std.specs.Prelude.{◌⊎◌, encode_utf8_all, if◌then◌else◌}
+use Rattle.std.specs.Prelude.{◌⊎◌, encode_utf8_all}
 use Rattle.std.proofs.lemmas.List.{take_all}
 use Rattle.std.proofs.lemmas.Str.{IsUtf8-string_bytes, encodes-chars, scalars-chars}
 use Rattle.std.specs.Rc.{rc_str_bytes}
@@ -15,7 +15,7 @@ use Rattle.smt_lexicon.specs.Reading.{Expression, Leaf, Node, Nil, Cons}
 use Rattle.smt_sexpr.specs.View.{items_of, plain, plain-App, plain-BitVec, plain-Numeral, plain-String, plain-Symbol}
 use Rattle.smt_sexpr.specs.declared.expression.SExpr.{SExpr, App, BitVec, Numeral, String, Symbol}
 use Rattle.smt_sexpr.specs.declared.expression.SExprs.{SExprs}
-use Rattle.smt_job_grammar.specs.Parts.{both, name_in, section, sole, text_in, three}
+use Rattle.smt_job_grammar.specs.Parts.{both, sole, text_in, three}
 use Rattle.smt_jobs.specs.JobView.{plain_list}
 
 -- what stands between the quotes of a string are its bytes

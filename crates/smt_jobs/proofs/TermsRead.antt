@@ -4,12 +4,11 @@ use Rattle.std.specs.declared.alloc.Global.{Global}
 use Rattle.std.specs.declared.rc.RcStr.{RcStr}
 use Rattle.std.proofs.Common.{Bor, ◌≡◌, ℕ, ◌+◌, ◌<◌, ◌≤◌, Bool, true, false, List, [], ◌∷◌, ◌++◌, Option, Some, None, Ok, Err, Result, drop, get_or, length, map, option_map, refl, sym, ap, ◌∙◌, subst, arith, append-nil}
 use Rattle.std.specs.Bool.{then_some}
-use Rattle.std.specs.List.{AllByRecursion, list_all, zip}
+use Rattle.std.specs.List.{zip}
 use Rattle.std.specs.Option.{ok_or}
-use Rattle.std.specs.Prelude.{IfOk, ◌&&◌}
+use Rattle.std.specs.Prelude.{◌&&◌}
 use Rattle.std.proofs.lemmas.List.{at_drop_more, at_drop_all, map-append}
-use Rattle.smt_meaning.specs.Formed.{IsFormed, IsFormedType}
-use Rattle.smt_meaning.specs.Plain.{PlainType, BoolType, PlainOp, PlainTerm, Application, SomeTerm, terms}
+use Rattle.smt_meaning.specs.Plain.{PlainType, PlainOp, PlainTerm, Application, SomeTerm, terms}
 use Rattle.smt_meaning.specs.TermSets.{set_term}
 use Rattle.smt_meaning.specs.Types.{result_type, type_eq, type_of}
 use Rattle.smt_meaning.specs.Typing.{AreTyped}
@@ -17,19 +16,16 @@ use Rattle.smt_folding.specs.Built.{built, built_all, folded}
 use Rattle.smt_folding.specs.FoldRecords.{record_of_pairs}
 use Rattle.smt_folding.proofs.BuiltTerms.{built_stands}
 use Rattle.smt_folding.proofs.Standing.{same_type}
-use Rattle.smt_term.specs.View.{plain_field, plain_op, plain_term, plain_type, plain_term-Var}
-use Rattle.smt_term.specs.declared.term.Term.{Term, Var}
-use Rattle.smt_term.specs.declared.term.TermVar.{TermVar}
-use Rattle.smt_term.proofs.FormedTerms.{terms_are_formed}
-use Rattle.smt_lexicon.specs.Reading.{Expression, Leaf, Node, Expressions, Nil, Cons}
+use Rattle.smt_term.specs.View.{plain_field, plain_term}
+use Rattle.smt_term.specs.declared.term.Term.{Term}
+use Rattle.smt_lexicon.specs.Reading.{Expression, Node, Expressions, Nil, Cons}
 use Rattle.smt_sexpr.specs.View.{plain}
 use Rattle.smt_sexpr.specs.declared.expression.SExpr.{SExpr}
 use Rattle.smt_job_grammar.specs.Declarations.{Declared}
-use Rattle.smt_job_grammar.specs.Outcomes.{JobFault, Outcome, ◌>>=◌, demanded, followed, mapped, FormFault, TruthFault, TypingFault}
-use Rattle.smt_job_grammar.specs.Parts.{name_in}
-use Rattle.smt_job_grammar.specs.Terms.{TermForm, Whole, Operator, OperatorBehind, Present, Elements, Fields, applied, are_of_type, condition_of, form_of, made, other_terms, second_terms, term_of, terms_of}
+use Rattle.smt_job_grammar.specs.Outcomes.{JobFault, Outcome, ◌>>=◌, demanded, followed, mapped, FormFault, TypingFault}
+use Rattle.smt_job_grammar.specs.Terms.{Present, Elements, Fields, applied, are_of_type, made, second_terms, term_of, terms_of}
 use Rattle.smt_job_grammar.proofs.SortedLists.{record_built, set_built}
-use Rattle.smt_jobs.specs.JobView.{AreBuilt, IsReadAs, plain_list, parts_of}
+use Rattle.smt_jobs.specs.JobView.{AreBuilt, IsReadAs, plain_list}
 use Rattle.smt_jobs.specs.declared.error.JobError.{JobError}
 use Rattle.smt_jobs.specs.declared.error.JobError.TheVariants.{IllTyped}
 use Rattle.smt_jobs.proofs.Reading.{behind, fault_behind, nothing_behind, one_behind}

@@ -1,19 +1,17 @@
 -- Types as they are read.
-use Rattle.std.proofs.Common.{◌≡◌, ℕ, ◌+◌, ◌<◌, ◌≤◌, Bool, List, [], ◌∷◌, ◌++◌, Option, Some, None, Ok, Err, drop, get_or, length, map, bytes_eq, refl, sym, ap, ◌∙◌, subst, arith, append-nil}
+use Rattle.std.proofs.Common.{◌≡◌, ℕ, ◌+◌, ◌<◌, ◌≤◌, Bool, List, [], ◌∷◌, ◌++◌, Some, None, Ok, Err, drop, get_or, length, map, refl, sym, ap, ◌∙◌, arith, append-nil}
 use Rattle.std.specs.List.{list_any}
 use Rattle.std.specs.Prelude.{◌||◌}
 use Rattle.std.specs.Rc.{rc_str_bytes}
 use Rattle.std.specs.declared.alloc.Global.{Global}
 use Rattle.std.specs.declared.rc.RcStr.{RcStr}
 use Rattle.std.proofs.lemmas.List.{at_drop_more, at_drop_all, map-append}
-use Rattle.smt_meaning.specs.Plain.{PlainType}
 use Rattle.smt_term.specs.View.{plain_attribute, plain_type}
 use Rattle.smt_term.specs.declared.types.TermType.{TermType}
-use Rattle.smt_lexicon.specs.Reading.{Expression, Leaf, Node, Expressions, Nil, Cons}
-use Rattle.smt_sexpr.specs.View.{items_of, plain}
-use Rattle.smt_sexpr.specs.declared.expression.SExpr.{SExpr, App}
-use Rattle.smt_sexpr.specs.declared.expression.SExprs.{SExprs}
-use Rattle.smt_job_grammar.specs.Outcomes.{JobFault, Outcome, ◌>>=◌, demanded, followed, TypeFault}
+use Rattle.smt_lexicon.specs.Reading.{Expression, Node, Expressions, Nil, Cons}
+use Rattle.smt_sexpr.specs.View.{plain}
+use Rattle.smt_sexpr.specs.declared.expression.SExpr.{SExpr}
+use Rattle.smt_job_grammar.specs.Outcomes.{JobFault, ◌>>=◌, demanded, followed, TypeFault}
 use Rattle.smt_job_grammar.specs.Parts.{name_in}
 use Rattle.smt_job_grammar.specs.Types.{attributes_of, headed_type, new_attribute, sole_type, type_of_expression}
 use Rattle.smt_jobs.specs.JobView.{plain_list}

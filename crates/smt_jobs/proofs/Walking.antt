@@ -1,5 +1,5 @@
 -- The walk over the bytes of a job: what each part gives, and what they give together.
-use Rattle.std.proofs.Common.{◌≡◌, ℕ, ◌-◌, ◌<◌, ◌≤◌, List, [], ◌∷◌, ◌++◌, Option, Some, None, Ok, Err, Result, false, nat_eq, bytes_eq, codes, length, map, option_map, refl, sym, ap, ◌∙◌, subst, inr, append_assoc, append-nil, arith}
+use Rattle.std.proofs.Common.{◌≡◌, ℕ, ◌-◌, ◌≤◌, List, [], ◌∷◌, ◌++◌, Option, Ok, Err, Result, false, nat_eq, bytes_eq, codes, length, map, refl, sym, ap, ◌∙◌, subst, inr, append_assoc, append-nil, arith}
 use Rattle.std.specs.Prelude.{IfErr, IfOk, IfSome, IsErrAnd, IsErrOf}
 use Rattle.std.specs.Bool.{then_some}
 use Rattle.std.specs.Option.{option_and_then}
@@ -23,7 +23,7 @@ use Rattle.smt_sexpr.specs.declared.expression.SExpr.{SExpr}
 use Rattle.smt_jobs.specs.declared.declaration.Declared.{Declared}
 use Rattle.smt_jobs.specs.declared.error.JobError.{JobError}
 use Rattle.smt_jobs.specs.declared.error.JobError.TheVariants.{TooLarge, BadForm, UnknownName, DuplicateName, BadType, BadWidth, BadLiteral, IllTyped, NotBool, Memory}
-use Rattle.smt_jobs.proofs.Reading.{IsMappedOf, behind, fault_behind, fault_passes, mapped_fault, mapped_of, nothing_behind, one_behind}
+use Rattle.smt_jobs.proofs.Reading.{behind, fault_passes, mapped_of, nothing_behind, one_behind}
 
 -- ---- errors that are passed on
 

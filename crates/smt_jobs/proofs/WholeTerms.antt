@@ -1,14 +1,12 @@
 -- Whole terms, by their heads, forms and parts.
-use Rattle.std.proofs.Common.{◌≡◌, ℕ, ◌-◌, ◌<◌, ◌≤◌, Bool, true, false, List, [], ◌∷◌, Option, Some, None, Ok, Err, Result, drop, take, length, length-drop, map, refl, sym, ap, ◌∙◌, subst, arith}
+use Rattle.std.proofs.Common.{◌≡◌, ℕ, ◌-◌, ◌<◌, ◌≤◌, Bool, true, false, List, [], ◌∷◌, Some, Ok, Err, Result, drop, take, length, length-drop, map, refl, sym, ap, ◌∙◌, subst, arith}
 use Rattle.std.specs.Bool.{then_some}
-use Rattle.std.specs.List.{AllByRecursion}
 use Rattle.std.specs.Prelude.{IfOk}
-use Rattle.std.specs.Rc.{rc_str_bytes}
 use Rattle.std.specs.declared.alloc.Global.{Global}
 use Rattle.std.specs.declared.rc.RcStr.{RcStr}
 use Rattle.std.proofs.lemmas.List.{take_all}
 use Rattle.smt_meaning.specs.Formed.{IsFormed, IsFormedType}
-use Rattle.smt_meaning.specs.Plain.{PlainFunction, PlainType, BoolType, PlainTerm}
+use Rattle.smt_meaning.specs.Plain.{BoolType, PlainTerm}
 use Rattle.smt_meaning.specs.Types.{type_eq, type_of}
 use Rattle.smt_meaning.specs.Typing.{AreTyped}
 use Rattle.smt_folding.specs.Built.{built}
@@ -20,7 +18,7 @@ use Rattle.smt_term.specs.declared.term.Term.{Term, Var}
 use Rattle.smt_term.specs.declared.term.TermVar.{TermVar}
 use Rattle.smt_term.specs.declared.types.TermType.{TermType}
 use Rattle.smt_term.proofs.FormedTerms.{terms_are_formed}
-use Rattle.smt_lexicon.specs.Reading.{Expression, Leaf, Node, Expressions, Nil, Cons}
+use Rattle.smt_lexicon.specs.Reading.{Expression, Node, Expressions, Nil, Cons}
 use Rattle.smt_sexpr.specs.declared.expression.SExpr.{SExpr}
 use Rattle.smt_job_grammar.specs.Declarations.{Declared}
 use Rattle.smt_job_grammar.specs.Outcomes.{JobFault, Outcome, ◌>>=◌, demanded, mapped, FormFault, TruthFault}

@@ -1,6 +1,4 @@
 use Rattle.std.proofs.Common.{Ok, sym, ap, ◌∙◌}
-use Rattle.smt_term.specs.View.{plain_term}
-use Rattle.smt_jobs.proofs.Shapes.{text_of_string}
 use Rattle.smt_jobs.proofs.FormsRead.{string_stated}
 use Rattle.smt_jobs.proofs.form.atom_from.Goals as goal
 

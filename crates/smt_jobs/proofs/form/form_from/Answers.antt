@@ -1,4 +1,4 @@
-use Rattle.std.proofs.Common.{sym, subst, ◌∙◌}
+use Rattle.std.proofs.Common.{sym, ◌∙◌}
 use Rattle.std.specs.Rc.{rc_str_bytes}
 use Rattle.smt_jobs.specs.JobView.{plain_form, plain_list}
 use Rattle.smt_jobs.proofs.FormsRead.{other_form}

@@ -1,4 +1,4 @@
-use Rattle.std.proofs.Common.{List, ◌++◌, ◌≡◌, ℕ, map, sym, subst}
+use Rattle.std.proofs.Common.{List, ◌++◌, ◌≡◌, ℕ, map, subst}
 use Rattle.std.specs.Prelude.{OnOk}
 use Rattle.std.specs.Str.{chars}
 use Rattle.smt_leaves.specs.PatternView.{plain_part}

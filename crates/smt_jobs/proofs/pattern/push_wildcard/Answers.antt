@@ -1,4 +1,4 @@
-use Rattle.std.proofs.Common.{[], ◌∷◌, bytes_eq, map, ap, sym, ◌∙◌}
+use Rattle.std.proofs.Common.{[], ◌∷◌, map, ap, sym, ◌∙◌}
 use Rattle.std.specs.Bool.{then_some}
 use Rattle.std.proofs.lemmas.List.{map-append}
 use Rattle.smt_leaves.specs.PatternView.{plain_part}

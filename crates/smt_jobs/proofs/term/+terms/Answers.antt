@@ -1,4 +1,4 @@
-use Rattle.std.proofs.Common.{rules, Bor, ◌<◌, ◌≤◌, List, drop, length, map, option_map, refl, sym, subst, ap, ◌∙◌, arith}
+use Rattle.std.proofs.Common.{rules, Bor, List, map, option_map, refl, sym, subst, ap, ◌∙◌, arith}
 use Rattle.std.specs.Rc.{rc_str_bytes}
 use Rattle.std.specs.declared.alloc.Global.{Global}
 use Rattle.std.specs.declared.rc.RcStr.{RcStr}

@@ -1,16 +1,14 @@
 use Rattle.std.proofs.Common.{rules, ap, sym, ◌∙◌}
-use Rattle.smt_term.specs.View.{plain_attribute, plain_type}
+use Rattle.smt_term.specs.View.{plain_type}
 use Rattle.std.specs.Rc.{rc_str_bytes}
 use Rattle.std.specs.declared.alloc.Global.{Global}
 use Rattle.std.specs.declared.rc.RcStr.{RcStr}
-use Rattle.std.proofs.Common.{Bor, List, [], drop, map, option_map, refl}
+use Rattle.std.proofs.Common.{Bor, [], option_map, refl}
 use Rattle.smt_lexicon.specs.Reading.{Node}
 use Rattle.smt_jobs.proofs.Reading.{passes_on, read_of}
 use Rattle.smt_jobs.proofs.Shapes.{bracketed, first_and_rest, is_atom, others, nothing_listed, two_listed}
 use Rattle.smt_jobs.proofs.TypesRead.{attribute_fault, few_parts, many_parts, name_fault, names_of, one_more, sole_few, sole_many, sole_one, type_headed, unformed}
-use Rattle.smt_lexicon.specs.Reading.{Expressions}
 use Rattle.smt_sexpr.specs.View.{plain}
-use Rattle.smt_sexpr.specs.declared.expression.SExpr.{SExpr}
 use Rattle.smt_jobs.specs.JobView.{plain_list}
 use Rattle.smt_job_grammar.specs.Types.{attributes_of, headed_type, new_attribute, sole_type, type_of_expression}
 use Rattle.smt_jobs.proofs.types.+types.Goals as goal

@@ -1,4 +1,4 @@
-use Rattle.std.proofs.Common.{rules, bytes_eq, List, map, ◌∙◌}
+use Rattle.std.proofs.Common.{rules, bytes_eq, ◌∙◌}
 use Rattle.std.proofs.lemmas.Iterator.{YieldsList-from_slice}
 use Rattle.std.proofs.lemmas.Iterator.Search.{any_from_yields_List}
 use Rattle.std.specs.Rc.{rc_str_bytes}

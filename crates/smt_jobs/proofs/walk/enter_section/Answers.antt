@@ -1,4 +1,4 @@
-use Rattle.std.proofs.Common.{Bor, Some, None, [], ◌∷◌, ◌-◌, bytes_eq, option_map, sym, ap, ◌∙◌, subst}
+use Rattle.std.proofs.Common.{Bor, [], ◌∷◌, ◌-◌, bytes_eq, option_map, sym, ap, ◌∙◌, subst}
 use Rattle.std.specs.Bool.{then_some}
 use Rattle.std.specs.Option.{option_and_then}
 use Rattle.std.specs.Rc.{rc_str_bytes}

@@ -1,4 +1,4 @@
-use Rattle.std.proofs.Common.{[], refl, ◌∙◌}
+use Rattle.std.proofs.Common.{[], refl}
 use Rattle.smt_job_grammar.specs.Jobs.{PlainJob, job_of, terms_last}
 use Rattle.smt_job_grammar.specs.Terms.{conditions_of}
 use Rattle.smt_jobs.specs.JobView.{declared_in}
