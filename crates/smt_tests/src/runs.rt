@@ -258,7 +258,7 @@ fn refused_words_read_nothing(rt: HostRuntime) -> Result<(), Fail> {
     Ok(())
 }
 
-/// What a run prints of the generated job of seed 0 with nine terms, and of the greatest seed with one.
+/// What a run prints of a generated job of nine terms, and of one of a single term.
 const NINE: &str = "\
 terms 9
 variables 8
