@@ -45,3 +45,7 @@ lookup-entered ety set es new e made =
     ap (λ l. lookup (bytes_eq e) (map said_entry l)) made
     ∙ (ap (lookup (bytes_eq e)) (said-inserted type_order.ghosts.cmp text_cmp bytes_of_type texts_of (λ a b. refl) es ety set)
     ∙ lookup-put text_cmp bytes_eq nat_list_cmp_total text_same (λ x y. sym (is_eq-slice_cmp x y)) (bytes_of_type ety) (texts_of set) (map said_entry es) e)
+
+-- a new entry goes to its place among what the entries say
+pub said-entered : (ety : EntityType) (set : TextSet) (es new : List (EntityType × TextSet)) → new ≡ insert_entry type_order.ghosts.cmp es ety set → map said_entry new ≡ insert_entry text_cmp (map said_entry es) (bytes_of_type ety) (texts_of set)
+said-entered ety set es new made = ap (map said_entry) made ∙ said-inserted type_order.ghosts.cmp text_cmp bytes_of_type texts_of (λ a b. refl) es ety set

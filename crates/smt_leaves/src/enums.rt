@@ -1,9 +1,11 @@
 // The enum types that an encoder reads of its environment.
 ghost use Rattle.std.specs.Prelude.{◌≡◌, [], ℕ, List, IfOk, OnErr, bytes_eq, is_some, map, not, option_map};
 ghost use Rattle.std.specs.Bool.{OnFalse, OnTrue};
+ghost use Rattle.std.specs.BTreeMap.{insert_entry};
 ghost use Rattle.std.specs.Map.{update};
 ghost use Rattle.std.specs.Rc.{rc_str_bytes};
 ghost use Rattle.smt_meaning.specs.TypeValues.{members_of};
+ghost use Rattle.smt_meaning.specs.ValueOrder.{text_cmp};
 ghost use Rattle.smt_leaves.specs.Entities.{bytes_of_type};
 ghost use Rattle.smt_leaves.specs.Enums.{enums_of};
 ghost use Rattle.smt_leaves.specs.TextSets.{sorted_texts, texts_of};
@@ -15,7 +17,8 @@ use smt_text::Text;
 use std::alloc::Global;
 use std::collections::BTreeMap;
 
-/// Entity types whose entities are listed by name, each with its members in the order of their bytes.
+/// Entity types whose entities are listed by name, in the order of the types' names, each with its members in the order of
+/// their bytes.
 #[derive(Debug, Drop)]
 pub struct EnumTable {
     alloc: Global,
@@ -42,6 +45,7 @@ impl EnumTable {
         ensures added { IfOk result (λ added. added ≡ not (is_some (members_of (enums_of self.old) (bytes_of_type ety)))) }
         ensures entered { IfOk result (λ added. OnTrue added ((e : List ℕ) →
             members_of (enums_of self.new) e ≡ update bytes_eq (members_of (enums_of self.old)) (bytes_of_type ety) (Some (sorted_texts (map rc_str_bytes members.now))) e)) }
+        ensures placed { IfOk result (λ added. OnTrue added (enums_of self.new ≡ insert_entry text_cmp (enums_of self.old) (bytes_of_type ety) (sorted_texts (map rc_str_bytes members.now)))) }
         ensures kept { IfOk result (λ added. OnFalse added (enums_of self.new ≡ enums_of self.old)) }
         ensures unchanged { OnErr result (enums_of self.new ≡ enums_of self.old) }
     {

@@ -1,6 +1,7 @@
 pub mod Functions
 pub mod Maps
 pub mod OpClass
+pub mod Printed
 pub mod Program
 pub mod TypeKinds
 pub mod View

@@ -1,5 +1,5 @@
 //! Typed terms of policies: their types, operators, literals and lists; entities, and tables of enum types; maps of
-//! attributes, tables of terms, and functions of one argument.
+//! attributes, tables of terms, and functions of one argument; and how terms and literals are printed.
 //!
 //! Contracts speak of terms by their plain form (`Plain` of `smt_meaning`), which says what a value says and not
 //! where it lies in memory: `plain_term`, `plain_type` and their kin of `specs/View.antt` give it. What a
@@ -11,6 +11,7 @@ mod function;
 pub mod laws;
 mod maps;
 mod op;
+mod printed;
 mod table;
 mod term;
 mod types;
