@@ -1,18 +1,24 @@
 -- The worked examples of the functions at a variable, and of rules on IP ranges.
-use Rattle.std.proofs.Common.{◌≡◌, ℕ, ◌≤◌, Bool, true, false, [], ◌∷◌, map, Some, None, refl, inl, inr, arith, rules}
+use Rattle.std.proofs.Common.{◌≡◌, ℕ, ◌^◌, ◌<◌, ◌≤◌, Bool, true, false, [], ◌∷◌, map, Some, None, refl, inl, inr, arith, rules}
 use Rattle.std.specs.Prelude.{ℤ, negsuc}
 use Rattle.smt_arithmetic.specs.Longs.{IsLong}
-use Rattle.smt_ext.specs.IpRanges.{Range}
+use Rattle.smt_ext.specs.IpRanges.{Range, Version4}
 use Rattle.smt_extension_folding.specs.Bounds.{IsRange, as_extension, range_literal}
-use Rattle.smt_extension_folding.specs.Examples.{ContainmentExamples, RuleExamples, TimeExamples, blocks, given, in_ten, moment, source, v4, v6}
-use Rattle.smt_extension_folding.specs.ExtensionFunctions.{is_in_range}
-use Rattle.smt_extension_folding.specs.Values.{HasDatetime, HasRange}
+use Rattle.smt_extension_folding.specs.Examples.{ContainmentExamples, RuleExamples, TimeExamples, blocks, delay, given, in_ten, moment, source, two_blocks, v4, v6}
+use Rattle.smt_extension_folding.specs.ExtensionFunctions.{in_range_v, is_in_range, is_ipv4, range_v4}
+use Rattle.smt_extension_folding.specs.Literals.{duration}
+use Rattle.smt_extension_folding.specs.Rows.{address_v4}
+use Rattle.smt_extension_folding.specs.Rules.{HoldsIn, LiesInOneOfFamily, RuleTells}
+use Rattle.smt_extension_folding.specs.Values.{HasDatetime, HasDuration, HasRange, Tells}
 use Rattle.smt_extension_folding.proofs.Blocks.{lies_between, lies_in}
 use Rattle.smt_extension_folding.proofs.OfValues.{containment_has_values, times_have_values}
-use Rattle.smt_folding.specs.Applications.{bits_literal, truth_literal}
+use Rattle.smt_extension_folding.proofs.RuleTells.{rules_are_kept}
+use Rattle.smt_folding.specs.Applications.{bits_literal, false_term, true_term, truth_literal}
 use Rattle.smt_folding.specs.Builder.{applied}
+use Rattle.smt_folding.proofs.Standing.{itself}
+use Rattle.smt_meaning.specs.Formed.{IsFormed}
 use Rattle.smt_meaning.specs.Interpretations.{IsInterpretation}
-use Rattle.smt_meaning.specs.Plain.{BitVecType, BoolType, DatetimeOf}
+use Rattle.smt_meaning.specs.Plain.{BitVecType, BoolType, DatetimeOf, DurationOf, PlainTerm}
 use Rattle.smt_meaning.specs.Tables.{Interpretation}
 use Rattle.smt_meaning.specs.Typing.{Typed}
 use Rattle.smt_meaning.specs.Values.{BoolValue}
@@ -28,11 +34,18 @@ variable_has_range r h = record {
   fits = h;
 }
 
-literal_v4 : (I : Interpretation) → HasRange I (range_literal ten) ten
-literal_v4 I = record {
-  range = record { typed = record { parts = refl; type = refl }; formed = record { literals = ((omega arith, omega arith), tt); types = ((tt, tt), tt) }; value = refl };
-  fits = record { address = omega arith; prefix = omega arith };
+-- a block of version 4 whose prefix is of 8 bits
+abbrev wide : ℕ → Range
+wide a = record { family = Version4; address = a; prefix = Some 8 }
+
+literal_v4 : (I : Interpretation) (a : ℕ) → a < 2 ^ 32 → HasRange I (range_literal (wide a)) (wide a)
+literal_v4 I a h = record {
+  range = record { typed = record { parts = refl; type = refl }; formed = record { literals = ((h, omega arith), tt); types = ((tt, tt), tt) }; value = refl };
+  fits = record { address = h; prefix = omega arith };
 }
+
+literal_ten : (I : Interpretation) → HasRange I (range_literal ten) ten
+literal_ten I = literal_v4 I (address_v4 (10, 0, 0, 0)) (omega arith)
 
 literal_v6 : (I : Interpretation) → HasRange I (range_literal (v6 1 None)) (v6 1 None)
 literal_v6 I = record {
@@ -58,9 +71,9 @@ containment_examples = record {
   lies_outside = λ s. elim s [ inl lies ↦ (let b = (lies_between (v4 (11, 0, 0, 1) None) ten (omega arith) lies).0 in absurd (omega (arith, b))) | inr s ↦ elim s [ inl lies ↦ (let e = lies.one_family in cc) | inr empty ↦ empty ] ];
   other_family = λ s. elim s [ inl lies ↦ (let e = lies.one_family in cc) | inr s ↦ elim s [ inl lies ↦ (let b = (lies_between (v6 167838211 None) (v6 1 None) (omega arith) lies).0 in absurd (omega (arith, b))) | inr empty ↦ empty ] ];
   of_variable = variable_has_range;
-  of_literals = λ I. (literal_v4 I, (literal_v6 I, tt));
+  of_literals = λ I. (literal_ten I, (literal_v6 I, tt));
   interpreted = interpreted;
-  told = containment_has_values.is_in_range [] in_ten source (map range_literal blocks) (v4 (10, 1, 2, 3) None) blocks (variable_has_range (v4 (10, 1, 2, 3) None) fits_v4) (literal_v4 in_ten, (literal_v6 in_ten, tt)) interpreted;
+  told = containment_has_values.is_in_range [] in_ten source (map range_literal blocks) (v4 (10, 1, 2, 3) None) blocks (variable_has_range (v4 (10, 1, 2, 3) None) fits_v4) (literal_ten in_ten, (literal_v6 in_ten, tt)) interpreted;
 }
 
 -- ---- rules
@@ -74,6 +87,49 @@ bits_typed n a = record { parts = refl; type = refl }
 apart_widths : (w : ℕ) → BitVecType 8 ≡ BitVecType w → BitVecType 16 ≡ BitVecType w → ⊥
 apart_widths w e d = let same : ◌≡◌ {A = ℕ} 8 16 = cc in absurd (omega (arith, same))
 
+-- what is built of the variable and the two blocks
+abbrev built : PlainTerm
+built = in_range_v applied (is_ipv4 applied) (range_v4 applied) source two_blocks
+
+built_is_formed : IsFormed built
+built_is_formed = record { literals = search (rules, arith); types = search (rules, arith) }
+
+-- an address of version 4
+abbrev single : ℕ → Range
+single a = record { family = Version4; address = a; prefix = None }
+
+-- the interpretation in which the variable is this address
+abbrev at_address : ℕ → Interpretation
+at_address a = given (as_extension (single a))
+
+-- the address is of version 4 and lies in one of the two blocks
+abbrev IsInOne : ℕ → Type 0
+IsInOne a = HoldsIn (at_address a) (is_ipv4 applied source) × LiesInOneOfFamily (at_address a) (is_ipv4 applied) (range_v4 applied) source two_blocks
+
+-- what a term tells where the variable is this address
+told_at : (a : ℕ) (u : PlainTerm) → IsRange (single a) → RuleTells (is_ipv4 applied) (range_v4 applied) source two_blocks u → Tells (at_address a) u (IsInOne a)
+told_at a u h tells = tells [] (at_address a) (single a) (v4 (11, 0, 0, 0) (Some 8) ∷ ten ∷ []) (variable_has_range (single a) h) (literal_v4 (at_address a) (address_v4 (11, 0, 0, 0)) (omega arith), (literal_ten (at_address a), tt)) built_is_formed (search (rules, h))
+
+ten_is_in_one : IsInOne (address_v4 (10, 1, 2, 3))
+ten_is_in_one = (refl, inr (inl (refl, λ a h. (let low : 167838211 ≤ a = h.0 in omega arith, let high : a ≤ 167838211 = h.1 in omega arith))))
+
+twelve_is_in_none : IsInOne (address_v4 (12, 0, 0, 0)) → ⊥
+twelve_is_in_none q = elim q.1 [ inl here ↦ (let below : 201326592 ≤ 201326591 = (here.1 201326592 (omega arith, omega arith)).1 in absurd (omega (arith, below))) | inr s ↦ elim s [ inl here ↦ (let below : 201326592 ≤ 184549375 = (here.1 201326592 (omega arith, omega arith)).1 in absurd (omega (arith, below))) | inr empty ↦ empty ] ]
+
+true_tells_not : RuleTells (is_ipv4 applied) (range_v4 applied) source two_blocks true_term → ⊥
+true_tells_not tells =
+    let told = told_at (address_v4 (12, 0, 0, 0)) true_term (record { address = omega arith; prefix = tt }) tells in
+    let e : BoolValue true ≡ BoolValue told.truth = told.value in
+    let truth : told.truth ≡ true = cc in
+    twelve_is_in_none (told.says.0 truth)
+
+false_tells_not : RuleTells (is_ipv4 applied) (range_v4 applied) source two_blocks false_term → ⊥
+false_tells_not tells =
+    let told = told_at (address_v4 (10, 1, 2, 3)) false_term fits_v4 tells in
+    let e : BoolValue false ≡ BoolValue told.truth = told.value in
+    let truth : told.truth ≡ true = told.says.1 ten_is_in_one in
+    cc
+
 pub rule_examples : RuleExamples
 rule_examples = record {
   by_v4 = refl;
@@ -81,8 +137,13 @@ rule_examples = record {
   of_family = refl;
   not_of_family = λ h. (let e : BoolValue false ≡ BoolValue true = h in cc);
   bounds = refl;
-  in_second = inr (inl (refl, λ a h. (let low : 167838211 ≤ a = h.0 in omega arith, let high : a ≤ 167838211 = h.1 in omega arith)));
+  narrower = λ a h. (let low : 167837696 ≤ a = h.0 in omega arith, let high : a ≤ 167903231 = h.1 in omega arith);
+  wider = λ lies. (let low : 167837696 ≤ 167772160 = (lies 167772160 (omega arith, omega arith)).0 in absurd (omega (arith, low)));
+  in_second = ten_is_in_one.1;
   not_in_first = λ s. elim s [ inl here ↦ (let above : 184549376 ≤ 167838211 = (here.1 167838211 (omega arith, omega arith)).0 in absurd (omega (arith, above))) | inr empty ↦ empty ];
+  built_tells = rules_are_kept.in_range_v (is_ipv4 applied) (range_v4 applied) source two_blocks built rules_are_kept.v4 (itself built);
+  true_tells_not = true_tells_not;
+  false_tells_not = false_tells_not;
   one_block = record { width = 8; tested = λ I t r h. truth_typed true; bounded = λ I t r h. (bits_typed 8 3, bits_typed 8 5); block = λ enums I t r h i e. omega arith };
   upside_down = λ rule. (let order : 5 ≤ 3 = rule.block [] in_ten source (v4 (10, 1, 2, 3) None) (variable_has_range (v4 (10, 1, 2, 3) None) fits_v4) (tt, (tt, (tt, tt))) refl in absurd (omega (arith, order)));
   never_tested = record { width = 8; tested = λ I t r h. truth_typed false; bounded = λ I t r h. (bits_typed 8 5, bits_typed 8 3); block = λ enums I t r h i e. (let apart : BoolValue false ≡ BoolValue true = e in absurd (cc)) };
@@ -97,6 +158,18 @@ variable_has_datetime z h = record {
   fits = h;
 }
 
+variable_has_duration : (z : ℤ) → IsLong z → HasDuration (given (DurationOf z)) delay z
+variable_has_duration z h = record {
+  duration = record { typed = record { parts = refl; type = refl }; formed = record { literals = (tt, tt); types = ((tt, tt), tt) }; value = refl };
+  fits = h;
+}
+
+literal_has_duration : (I : Interpretation) (z : ℤ) → IsLong z → HasDuration I (duration z) z
+literal_has_duration I z h = record {
+  duration = record { typed = record { parts = refl; type = refl }; formed = record { literals = (h, tt); types = ((tt, tt), tt) }; value = refl };
+  fits = h;
+}
+
 before_1970 : IsLong (negsuc 0)
 before_1970 = record { sfits = omega arith }
 
@@ -107,6 +180,8 @@ time_examples = record {
   dates = refl;
   times = refl;
   of_variable = variable_has_datetime;
+  duration_of_variable = variable_has_duration;
+  duration_of_literal = literal_has_duration;
   interpreted = λ z h. search (rules, h);
   told = times_have_values.to_date [] (given (DatetimeOf (negsuc 0))) moment (negsuc 0) (variable_has_datetime (negsuc 0) before_1970) (search (rules, before_1970));
 }

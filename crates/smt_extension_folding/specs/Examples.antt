@@ -8,23 +8,26 @@ use Rattle.smt_extension_folding.specs.Bounds.{IsRange, LiesInOne, as_extension,
 use Rattle.smt_extension_folding.specs.ExtensionFunctions.{duration_since, in_range_v, is_in_range, is_ipv4, is_ipv6, is_loopback, is_multicast, offset, range_v4, range_v6, to_date, to_time}
 use Rattle.smt_extension_folding.specs.Literals.{datetime, duration}
 use Rattle.smt_extension_folding.specs.Rows.{address_v4, greatest, least}
-use Rattle.smt_extension_folding.specs.Rules.{HoldsIn, IsRangeRule, LiesInOneOfFamily, number_in}
-use Rattle.smt_extension_folding.specs.Values.{HasDatetime, HasRange, IsSomeIn, Tells}
+use Rattle.smt_extension_folding.specs.Rules.{BlockLiesIn, HoldsIn, IsRangeRule, LiesInOneOfFamily, RuleTells, number_in}
+use Rattle.smt_extension_folding.specs.Values.{HasDatetime, HasDuration, HasRange, IsSomeIn, Tells}
 use Rattle.smt_folding.specs.Applications.{bits_literal, false_term, true_term}
 use Rattle.smt_folding.specs.Builder.{applied}
 use Rattle.smt_meaning.specs.Defaults.{default_interpretation}
 use Rattle.smt_meaning.specs.Interpretations.{IsInterpretation}
 use Rattle.smt_meaning.specs.Meaning.{term_value}
-use Rattle.smt_meaning.specs.Plain.{DatetimeKind, DatetimeOf, DurationOf, ExtensionType, IpAddrKind, PlainExtension, PlainTerm, VariableTerm}
+use Rattle.smt_meaning.specs.Plain.{DatetimeKind, DatetimeOf, DurationKind, DurationOf, ExtensionType, IpAddrKind, PlainExtension, PlainTerm, VariableTerm}
 use Rattle.smt_meaning.specs.Tables.{Interpretation}
 use Rattle.smt_meaning.specs.Values.{BoolValue, ExtensionValue, NoneValue, SomeValue, Value}
 
--- a variable of IP ranges, and one of datetimes
+-- a variable of IP ranges, one of datetimes, and one of durations
 abbrev pub source : PlainTerm
 source = VariableTerm (codes "source") (ExtensionType IpAddrKind)
 
 abbrev pub moment : PlainTerm
 moment = VariableTerm (codes "moment") (ExtensionType DatetimeKind)
+
+abbrev pub delay : PlainTerm
+delay = VariableTerm (codes "delay") (ExtensionType DurationKind)
 
 -- the interpretation in which each variable has this value
 abbrev pub given : PlainExtension → Interpretation
@@ -79,6 +82,10 @@ pub record ContainmentExamples : Type 0 where
 abbrev pub two_blocks : List PlainTerm
 two_blocks = map range_literal (v4 (11, 0, 0, 0) (Some 8) ∷ v4 (10, 0, 0, 0) (Some 8) ∷ [])
 
+-- the lowest and the highest address of a literal of version 4
+abbrev pub block_of : Range → (PlainTerm × PlainTerm)
+block_of r = range_v4 applied (range_literal r)
+
 -- bounds that are the same for every term
 abbrev pub fixed : (lowest highest : PlainTerm) → PlainTerm → (PlainTerm × PlainTerm)
 fixed l h t = (l, h)
@@ -89,9 +96,16 @@ pub record RuleExamples : Type 0 where
   pub of_family : HoldsIn in_ten (is_ipv4 applied source)
   pub not_of_family : HoldsIn in_ten (is_ipv6 applied source) → ⊥
   pub bounds : map (λ t. number_in (given (as_extension (v4 (10, 1, 2, 3) (Some 8)))) t) ((range_v4 applied source).0 ∷ (range_v4 applied source).1 ∷ []) ≡ address_v4 (10, 0, 0, 0) ∷ address_v4 (10, 255, 255, 255) ∷ []
+  -- a narrower block lies in a wider one, which does not lie in it
+  pub narrower : BlockLiesIn in_ten (block_of (v4 (10, 1, 0, 0) (Some 16))) (block_of (v4 (10, 0, 0, 0) (Some 8)))
+  pub wider : BlockLiesIn in_ten (block_of (v4 (10, 0, 0, 0) (Some 8))) (block_of (v4 (10, 1, 0, 0) (Some 16))) → ⊥
   -- the second block of the two contains the variable's, the first does not
   pub in_second : LiesInOneOfFamily in_ten (is_ipv4 applied) (range_v4 applied) source two_blocks
   pub not_in_first : LiesInOneOfFamily in_ten (is_ipv4 applied) (range_v4 applied) source (range_literal (v4 (11, 0, 0, 0) (Some 8)) ∷ []) → ⊥
+  -- What is built of the variable and the two blocks tells whether it lies in one. The literal true does not, nor does false.
+  pub built_tells : RuleTells (is_ipv4 applied) (range_v4 applied) source two_blocks (in_range_v applied (is_ipv4 applied) (range_v4 applied) source two_blocks)
+  pub true_tells_not : RuleTells (is_ipv4 applied) (range_v4 applied) source two_blocks true_term → ⊥
+  pub false_tells_not : RuleTells (is_ipv4 applied) (range_v4 applied) source two_blocks false_term → ⊥
   -- A rule may give every range one block. Its lowest address is at most its highest, unless the test is false.
   pub one_block : IsRangeRule (λ t. true_term) (fixed (bits_literal 8 3) (bits_literal 8 5))
   pub upside_down : IsRangeRule (λ t. true_term) (fixed (bits_literal 8 5) (bits_literal 8 3)) → ⊥
@@ -127,5 +141,8 @@ pub record TimeExamples : Type 0 where
   pub times : at_moments (to_time applied) (leap_day ∷ before_leap_day ∷ negsuc 0 ∷ []) ≡ map (λ z. ExtensionValue (DurationOf z)) (pos 0 ∷ pos 86399999 ∷ pos 86399999 ∷ [])
   -- a variable has the datetime that it is given
   pub of_variable : (z : ℤ) → IsLong z → HasDatetime (given (DatetimeOf z)) moment z
+  -- a variable has the duration that it is given, and a literal has its own
+  pub duration_of_variable : (z : ℤ) → IsLong z → HasDuration (given (DurationOf z)) delay z
+  pub duration_of_literal : (I : Interpretation) (z : ℤ) → IsLong z → HasDuration I (duration z) z
   pub interpreted : (z : ℤ) → IsLong z → IsInterpretation [] (to_date applied moment ∷ to_time applied moment ∷ []) (given (DatetimeOf z))
   pub told : IsSomeIn (given (DatetimeOf (negsuc 0))) (to_date applied moment) (negsuc 86399999) DatetimeOf
