@@ -1,0 +1,3 @@
+mod LastName
+mod PutPairs
+mod TypesGiven

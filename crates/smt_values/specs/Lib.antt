@@ -1,0 +1,4 @@
+pub mod Cedar
+pub mod Refused
+pub mod TypeOfCedar
+pub mod View
