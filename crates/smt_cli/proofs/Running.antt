@@ -15,16 +15,16 @@ use Rattle.smt_characters.specs.SharedTexts.{texts}
 use Rattle.smt_cli.proofs.AsWritten.{as_written, built_booleans}
 use Rattle.smt_jobs.proofs.FormsRead.{other_text}
 use Rattle.smt_job_grammar.proofs.Jobs.{job_conditions}
-use Rattle.smt_job_grammar.specs.Jobs.{HasFault, IsBuiltFrom, IsTooLong, PlainJob, built_job, greatest_length}
+use Rattle.smt_job_grammar.specs.Jobs.{IsBuiltFrom, PlainJob, built_job, greatest_length}
 use Rattle.smt_job_grammar.specs.Laws.{IsCondition}
-use Rattle.smt_jobs.specs.JobView.{fault_in}
+use Rattle.smt_jobs.specs.Refused.{IsRefusal}
 use Rattle.smt_cli.specs.Refusal.{job_refusal}
 use Rattle.smt_cli.specs.Causes.{HasReadCause}
 use Rattle.smt_cli.specs.Run.{Prints}
 use Rattle.smt_cli.specs.Words.{commanded, generate_by, generation_named}
 use Rattle.smt_cli.specs.declared.command.Command.{Command}
 use Rattle.smt_jobs.specs.declared.error.JobError.{JobError}
-use Rattle.smt_jobs.specs.declared.error.JobError.TheVariants.{TooLarge as JobTooLarge, BadForm as JobBadForm, UnknownName as JobUnknownName, DuplicateName as JobDuplicateName, BadType as JobBadType, BadWidth as JobBadWidth, BadLiteral as JobBadLiteral, IllTyped as JobIllTyped, NotBool as JobNotBool, Memory as JobWant}
+use Rattle.smt_jobs.specs.declared.error.JobError.TheVariants.{TooLarge as JobTooLarge, Parse as JobParse, TooDeep as JobTooDeep, BadForm as JobBadForm, UnknownName as JobUnknownName, DuplicateName as JobDuplicateName, BadType as JobBadType, BadWidth as JobBadWidth, BadLiteral as JobBadLiteral, IllTyped as JobIllTyped, NotBool as JobNotBool, Memory as JobWant}
 use Rattle.smt_cli.specs.declared.refusal.ReadRefusal.{ReadRefusal}
 use Rattle.smt_cli.specs.declared.refusal.ReadRefusal.TheVariants.{Job as ReadJob, Source as ReadSource, Memory as ReadWant}
 
@@ -57,17 +57,19 @@ abbrev WhyRefused : List ℕ → ReadRefusal → Type 0
 WhyRefused bytes r = HasReadCause (Some bytes) ⊥ r
 
 module _ (bytes : List ℕ) (within : length bytes ≤ greatest_length) where
-  why_refused : (error : JobError) → (error ≡ JobTooLarge → IsTooLong bytes) → IfSome (fault_in error) (HasFault bytes) → WhyRefused bytes (job_refusal error)
-  why_refused JobTooLarge long refused = absurd (let l = long refl in omega (arith, within, l))
-  why_refused JobBadForm long refused = (_, refl, refused)
-  why_refused (JobUnknownName text) long refused = (_, refl, refused)
-  why_refused (JobDuplicateName text) long refused = (_, refl, refused)
-  why_refused JobBadType long refused = (_, refl, refused)
-  why_refused JobBadWidth long refused = (_, refl, refused)
-  why_refused (JobBadLiteral text) long refused = (_, refl, refused)
-  why_refused JobIllTyped long refused = (_, refl, refused)
-  why_refused JobNotBool long refused = (_, refl, refused)
-  why_refused JobWant long refused = tt
+  why_refused : (error : JobError) → IsRefusal error bytes → WhyRefused bytes (job_refusal error)
+  why_refused JobTooLarge refused = absurd (omega (arith, within, refused))
+  why_refused (JobParse fault) refused = (refused.0, (fault, refused.1))
+  why_refused JobTooDeep refused = refused
+  why_refused JobBadForm refused = (_, refl, refused)
+  why_refused (JobUnknownName text) refused = (_, refl, refused)
+  why_refused (JobDuplicateName text) refused = (_, refl, refused)
+  why_refused JobBadType refused = (_, refl, refused)
+  why_refused JobBadWidth refused = (_, refl, refused)
+  why_refused (JobBadLiteral text) refused = (_, refl, refused)
+  why_refused JobIllTyped refused = (_, refl, refused)
+  why_refused JobNotBool refused = (_, refl, refused)
+  why_refused JobWant refused = tt
 
 -- the source failed or not: a cause that needs no failure is one beside it
 beside : (source_failed : Type 0) (bytes : List ℕ) (r : ReadRefusal) → WhyRefused bytes r → HasReadCause (Some bytes) source_failed r
@@ -86,11 +88,11 @@ cause_read None source_failed bytes r same h = untold source_failed r bytes h
 
 -- what was read whole and is no job is refused as such
 pub job_unread : {T : Type 0} (result : Result T ReadRefusal) (error : JobError) (remaining : Option (List ℕ)) (source_failed : Type 0) (all bytes : List ℕ) → IsErrAnd result (λ r. r ≡ job_refusal error) → IfSome remaining (λ told. told ≡ all) → bytes ≡ all
-    → length bytes ≤ greatest_length → (error ≡ JobTooLarge → IsTooLong bytes) → IfSome (fault_in error) (HasFault bytes) → IfErr result (HasReadCause remaining source_failed)
-job_unread (Ok job) error remaining source_failed all bytes e whole same short long refused = tt
-job_unread (Err r) error remaining source_failed all bytes e whole same short long refused =
+    → length bytes ≤ greatest_length → IsRefusal error bytes → IfErr result (HasReadCause remaining source_failed)
+job_unread (Ok job) error remaining source_failed all bytes e whole same short refused = tt
+job_unread (Err r) error remaining source_failed all bytes e whole same short refused =
     subst (λ (x : ReadRefusal). HasReadCause remaining source_failed x) (sym e)
-    (cause_read remaining source_failed all (job_refusal error) whole (subst (λ (b : List ℕ). WhyRefused b (job_refusal error)) same (why_refused bytes short error long refused)))
+    (cause_read remaining source_failed all (job_refusal error) whole (subst (λ (b : List ℕ). WhyRefused b (job_refusal error)) same (why_refused bytes short error refused)))
 
 -- what was read whole is a job whose script was put
 pub prints : (remaining : Option (List ℕ)) (job : PlainJob) (old new : Option (List ℕ)) → IfSome remaining (λ bytes. IsBuiltFrom bytes job) → new ≡ append_known old (text job.enums job.terms)

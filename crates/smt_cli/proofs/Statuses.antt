@@ -5,6 +5,11 @@ use Rattle.std.proofs.lemmas.Bool.{false≢true}
 use Rattle.smt_meaning.specs.Faults.{Fault}
 use Rattle.smt_job_grammar.proofs.Jobs.{job_has_no_fault, job_is_short, one_job}
 use Rattle.smt_job_grammar.specs.Jobs.{fault_of}
+use Rattle.smt_sexpr.proofs.Excluded.{excluded}
+use Rattle.smt_sexpr.specs.Refusals.{IsRefused}
+use Rattle.smt_sexpr.specs.declared.error.SExprParseError.{SExprParseError}
+use Rattle.smt_sexpr.specs.declared.error.SExprParseError.TheVariants.{UnexpectedEnd, Utf8Error, StringParseError, ParseIntError, UnclosedSExpr, TrailingTokens, IntegerOverflow, ZeroWidthBitVec, TooDeep as TextTooDeep, Memory as TextWant}
+use Rattle.smt_jobs.specs.Refused.{IsTextFault}
 use Rattle.smt_solve.specs.Link.{LinkState}
 use Rattle.smt_solve.specs.Starter.{Command as SolverCall}
 use Rattle.smt_cli.specs.Causes.{Around, HasCause, HasCheckCause, HasFaultOf, HasPutCause, HasScriptCause, IsAJob, IsFaultOf, IsFaultlessJob, IsFaultyScript, IsNoJob, IsRefusedAs, SinkFailed, SourceFailed, StartFailed}
@@ -15,7 +20,7 @@ use Rattle.smt_cli.specs.declared.command.Command.TheVariants.{Script, Check, Ge
 use Rattle.smt_cli.specs.declared.refusal.EncodeRefusal.{EncodeRefusal}
 use Rattle.smt_cli.specs.declared.refusal.EncodeRefusal.TheVariants.{EmptyEnum, EncodeStringFailed, EncodePatternFailed, EnumMissingMember, ExpectRecord, MalformedRecordGet, MissingTypeEncoding, RecordMissingAttr}
 use Rattle.smt_cli.specs.declared.refusal.JobRefusal.{JobRefusal}
-use Rattle.smt_cli.specs.declared.refusal.JobRefusal.TheVariants.{TooLarge, BadForm, UnknownName, DuplicateName, BadType, BadWidth, BadLiteral, IllTyped, NotBool}
+use Rattle.smt_cli.specs.declared.refusal.JobRefusal.TheVariants.{TooLarge, Parse, TooDeep, BadForm, UnknownName, DuplicateName, BadType, BadWidth, BadLiteral, IllTyped, NotBool}
 use Rattle.smt_cli.specs.declared.refusal.Refusal.{Refusal}
 use Rattle.smt_cli.specs.declared.refusal.Refusal.TheVariants.{Usage, Job, Encode, Source, Sink, Start, Session, Memory}
 
@@ -37,9 +42,27 @@ no_fault bytes kind j h = false≢true (sym (ap is_some j.2) ∙ ap (λ job. is_
 some_fault : (bytes : List ℕ) → IsFaultyScript bytes → IsFaultlessJob bytes → ⊥
 some_fault bytes j h = false≢true (sym (ap is_some h.2) ∙ ap (λ job. is_some (fault_of job)) (one_job bytes h.0 j.0 h.1 j.1) ∙ j.2)
 
+-- a job is an expression
+unreadable : (bytes : List ℕ) (fault : SExprParseError) → (fault ≡ TextWant → ⊥) → IsAJob bytes → IsRefused fault 512 bytes → ⊥
+unreadable bytes fault given j r = given (excluded fault 512 bytes j.1.expression r j.1.read)
+
+no_text_fault : (bytes : List ℕ) (fault : SExprParseError) → IsAJob bytes → IsTextFault fault bytes → ⊥
+no_text_fault bytes TextTooDeep j f = f
+no_text_fault bytes TextWant j f = f
+no_text_fault bytes UnexpectedEnd j f = unreadable bytes UnexpectedEnd (λ e. cc) j f
+no_text_fault bytes Utf8Error j f = unreadable bytes Utf8Error (λ e. cc) j f
+no_text_fault bytes (StringParseError raw) j f = unreadable bytes (StringParseError raw) (λ e. cc) j f
+no_text_fault bytes (ParseIntError x) j f = unreadable bytes (ParseIntError x) (λ e. cc) j f
+no_text_fault bytes UnclosedSExpr j f = unreadable bytes UnclosedSExpr (λ e. cc) j f
+no_text_fault bytes TrailingTokens j f = unreadable bytes TrailingTokens (λ e. cc) j f
+no_text_fault bytes IntegerOverflow j f = unreadable bytes IntegerOverflow (λ e. cc) j f
+no_text_fault bytes ZeroWidthBitVec j f = unreadable bytes ZeroWidthBitVec (λ e. cc) j f
+
 -- a job is not refused as none
 not_refused : (bytes : List ℕ) (kind : JobRefusal) → IsAJob bytes → IsRefusedAs kind bytes → ⊥
 not_refused bytes TooLarge j h = job_is_short bytes j.0 j.1 h
+not_refused bytes Parse j h = no_text_fault bytes h.1.0 j h.1.1
+not_refused bytes TooDeep j h = unreadable bytes TextTooDeep (λ e. cc) j h.1
 not_refused bytes BadForm j h = job_has_no_fault bytes j.0 h.0 j.1 h.2
 not_refused bytes UnknownName j h = job_has_no_fault bytes j.0 h.0 j.1 h.2
 not_refused bytes DuplicateName j h = job_has_no_fault bytes j.0 h.0 j.1 h.2

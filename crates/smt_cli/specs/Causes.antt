@@ -1,12 +1,16 @@
 -- Why a run is refused.
-use Rattle.std.specs.Prelude.{ℕ, ◌≡◌, ⊤, is_some, map, IfSome, IsTrue, List, Option, Some, None}
+use Rattle.std.specs.Prelude.{ℕ, ◌≡◌, ◌≤◌, ⊤, is_some, length, map, IfSome, IsTrue, List, Option, Some, None}
 use Rattle.smt_meaning.specs.Faults.{Fault, EmptyEnum as EnumFault, EncodeStringFailed as StringFault, EncodePatternFailed as PatternFault, EnumMissingMember as MemberFault, ExpectRecord as NoRecordFault, MalformedRecordGet as NoOperandFault, MissingTypeEncoding as TypeFault, RecordMissingAttr as AttributeFault}
 use Rattle.smt_meaning.specs.Plain.{PatternPart, PlainType}
 use Rattle.smt_folding.specs.Built.{built}
 use Rattle.smt_lines.specs.Text.{text}
 use Rattle.smt_script.specs.Sink.{Rose}
-use Rattle.smt_job_grammar.specs.Jobs.{HasFault, IsJob, IsTooLong, PlainJob, fault_of}
+use Rattle.smt_sexpr.specs.Refusals.{IsRefused}
+use Rattle.smt_sexpr.specs.declared.error.SExprParseError.{SExprParseError}
+use Rattle.smt_sexpr.specs.declared.error.SExprParseError.TheVariants.{TooDeep as TextTooDeep}
+use Rattle.smt_job_grammar.specs.Jobs.{HasFault, IsJob, IsTooLong, PlainJob, fault_of, greatest_length, greatest_nesting}
 use Rattle.smt_job_grammar.specs.Outcomes.{JobFault, DuplicateFault, FormFault, LiteralFault, TruthFault, TypeFault as NoTypeFault, TypingFault, UnknownFault, WidthFault}
+use Rattle.smt_jobs.specs.Refused.{IsTextFault}
 use Rattle.smt_solve.specs.Link.{LinkState}
 use Rattle.smt_solve.specs.Starter.{Command as SolverCall, StarterState}
 use Rattle.smt_checks.specs.Checks.{Returns, WhyUnchecked}
@@ -17,7 +21,7 @@ use Rattle.smt_checks.specs.declared.error.SessionFault.{SessionFault}
 use Rattle.smt_cli.specs.declared.refusal.EncodeRefusal.{EncodeRefusal}
 use Rattle.smt_cli.specs.declared.refusal.EncodeRefusal.TheVariants.{EmptyEnum, EncodeStringFailed, EncodePatternFailed, EnumMissingMember, ExpectRecord, MalformedRecordGet, MissingTypeEncoding, RecordMissingAttr}
 use Rattle.smt_cli.specs.declared.refusal.JobRefusal.{JobRefusal}
-use Rattle.smt_cli.specs.declared.refusal.JobRefusal.TheVariants.{TooLarge, BadForm, UnknownName, DuplicateName, BadType, BadWidth, BadLiteral, IllTyped, NotBool}
+use Rattle.smt_cli.specs.declared.refusal.JobRefusal.TheVariants.{TooLarge, Parse, TooDeep, BadForm, UnknownName, DuplicateName, BadType, BadWidth, BadLiteral, IllTyped, NotBool}
 use Rattle.smt_cli.specs.declared.refusal.PrintRefusal.{PrintRefusal}
 use Rattle.smt_cli.specs.declared.refusal.PrintRefusal.TheVariants.{Encode as PrintEncode, Sink as PrintSink, Memory as PrintWant}
 use Rattle.smt_cli.specs.declared.refusal.ReadRefusal.{ReadRefusal}
@@ -97,9 +101,11 @@ kind_of (LiteralFault text) = BadLiteral
 kind_of TypingFault = IllTyped
 kind_of TruthFault = NotBool
 
--- The bytes are no job: there are too many, or their first fault is of this kind.
+-- The bytes are no job: there are too many, or they are no expression, or their first fault is of this kind.
 abbrev pub IsRefusedAs : JobRefusal → List ℕ → Type 0
 IsRefusedAs TooLarge bytes = IsTooLong bytes
+IsRefusedAs Parse bytes = (length bytes ≤ greatest_length) × ((fault : SExprParseError) × IsTextFault fault bytes)
+IsRefusedAs TooDeep bytes = (length bytes ≤ greatest_length) × IsRefused TextTooDeep greatest_nesting bytes
 IsRefusedAs kind bytes = (fault : JobFault) × (kind_of fault ≡ kind) × HasFault bytes fault
 
 -- the script of what is built of a job

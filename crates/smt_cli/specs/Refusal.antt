@@ -5,11 +5,11 @@ use Rattle.smt_script.specs.declared.sink.SinkError.TheVariants.{Fault as SinkFa
 use Rattle.smt_source.specs.declared.input.InputError.{InputError}
 use Rattle.smt_source.specs.declared.input.InputError.TheVariants.{Fault as InputFault, TooLarge as InputTooLarge, Memory as InputWant}
 use Rattle.smt_jobs.specs.declared.error.JobError.{JobError}
-use Rattle.smt_jobs.specs.declared.error.JobError.TheVariants.{TooLarge as JobTooLarge, BadForm as JobBadForm, UnknownName as JobUnknownName, DuplicateName as JobDuplicateName, BadType as JobBadType, BadWidth as JobBadWidth, BadLiteral as JobBadLiteral, IllTyped as JobIllTyped, NotBool as JobNotBool, Memory as JobWant}
+use Rattle.smt_jobs.specs.declared.error.JobError.TheVariants.{TooLarge as JobTooLarge, Parse as JobParse, TooDeep as JobTooDeep, BadForm as JobBadForm, UnknownName as JobUnknownName, DuplicateName as JobDuplicateName, BadType as JobBadType, BadWidth as JobBadWidth, BadLiteral as JobBadLiteral, IllTyped as JobIllTyped, NotBool as JobNotBool, Memory as JobWant}
 use Rattle.smt_checks.specs.declared.error.CheckError.{CheckError}
 use Rattle.smt_checks.specs.declared.error.CheckError.TheVariants.{Start as CheckStart, Session as CheckSession, Memory as CheckWant}
 use Rattle.smt_cli.specs.declared.refusal.EncodeRefusal.TheVariants.{EmptyEnum, EncodeStringFailed, EncodePatternFailed, EnumMissingMember, ExpectRecord, MalformedRecordGet, MissingTypeEncoding, RecordMissingAttr}
-use Rattle.smt_cli.specs.declared.refusal.JobRefusal.TheVariants.{TooLarge, BadForm, UnknownName, DuplicateName, BadType, BadWidth, BadLiteral, IllTyped, NotBool}
+use Rattle.smt_cli.specs.declared.refusal.JobRefusal.TheVariants.{TooLarge, Parse, TooDeep, BadForm, UnknownName, DuplicateName, BadType, BadWidth, BadLiteral, IllTyped, NotBool}
 use Rattle.smt_cli.specs.declared.refusal.PrintRefusal.{PrintRefusal}
 use Rattle.smt_cli.specs.declared.refusal.PrintRefusal.TheVariants.{Encode as PrintEncode, Sink as PrintSink, Memory as PrintWant}
 use Rattle.smt_cli.specs.declared.refusal.ReadRefusal.{ReadRefusal}
@@ -33,6 +33,8 @@ status_of Start = 9
 abbrev pub line_of : Refusal → List ℕ
 line_of Usage = codes "usage: smtcli script or check PATH ARGS.. or gen SEED N\n"
 line_of (Job TooLarge) = codes "job refused: TooLarge\n"
+line_of (Job Parse) = codes "job refused: Parse\n"
+line_of (Job TooDeep) = codes "job refused: TooDeep\n"
 line_of (Job BadForm) = codes "job refused: BadForm\n"
 line_of (Job UnknownName) = codes "job refused: UnknownName\n"
 line_of (Job DuplicateName) = codes "job refused: DuplicateName\n"
@@ -69,6 +71,8 @@ input_refusal InputWant = ReadWant
 -- of a job
 abbrev pub job_refusal : JobError → ReadRefusal
 job_refusal JobTooLarge = ReadJob TooLarge
+job_refusal (JobParse fault) = ReadJob Parse
+job_refusal JobTooDeep = ReadJob TooDeep
 job_refusal JobBadForm = ReadJob BadForm
 job_refusal (JobUnknownName text) = ReadJob UnknownName
 job_refusal (JobDuplicateName text) = ReadJob DuplicateName

@@ -20,12 +20,14 @@ check   reads a job from standard input, asks the solver PATH with these ARGS wh
 gen     makes a job of N terms from the number SEED, N from 1 to 100000 and SEED below 2^64, and prints six lines: how many
         terms it has, how many variables, definitions, assertions and bytes its script has, and the sum of these bytes
 
-job:  (job (enums) (vars (\"id\" TYPE) ..) (funs (\"id\" TYPE TYPE) ..) (terms t ..))
+job:  (job (enums (\"T\" \"member\" ..) ..) (vars (\"id\" TYPE) ..) (funs (\"id\" TYPE TYPE) ..) (terms t ..)), where ; begins
+      a comment, and \\u{e9} in a string is the character of this code point
 TYPE: Bool, (BitVec N), String, (Entity \"T\"), (Option TYPE), (Set TYPE), (Record (\"a\" TYPE) ..), Decimal, IpAddr, Datetime
       or Duration
-t:    true, false, \"text\", (bv N NUMBER), (long \"-5\"), (entity \"T\" \"id\"), (none TYPE), (some t), (set TYPE t ..),
-      (record (\"a\" t) ..), (var \"id\"), (uuf \"id\" t), (record.get \"a\" t), (string.like (\"text\" * ..) t), (zero_extend N t)
-      or (name t ..)
+t:    true, false, \"text\", #b01, #x2a, (bv N NUMBER), (long \"-5\"), (entity \"T\" \"id\"), (decimal \"-1.5\"),
+      (ip \"10.0.0.0/8\"), (datetime \"2024-10-15\"), (duration \"1d2h\"), (none TYPE), (some t), (set TYPE t ..),
+      (record (\"a\" t) ..), (var \"id\"), (uuf \"id\" t), (record.get \"a\" t), (string.like (\"text\" * ..) t),
+      (zero_extend N t) or (name t ..)
 name: not and or eq ite option.get set.member set.subset set.inter bvneg bvadd bvsub bvmul bvudiv bvurem bvsdiv bvsrem bvsmod
       bvshl bvlshr bvult bvule bvslt bvsle bvnego bvsaddo bvssubo bvsmulo decimal.val ipaddr.isV4 ipaddr.addrV4 ipaddr.addrV6
       ipaddr.prefixV4 ipaddr.prefixV6 datetime.val datetime.ofBitVec duration.val duration.ofBitVec

@@ -33,11 +33,15 @@ pub enum Refusal {
 pub enum JobRefusal {
     /// There are more than 16777216 bytes.
     TooLarge,
-    /// The bytes are no expression of printable ASCII, or a section, a declaration or a term has no form.
+    /// The bytes are no expression, by a fault of a token or of a bracket.
+    Parse,
+    /// More than 512 brackets are open at a place.
+    TooDeep,
+    /// A section, a declaration or a term has no form.
     BadForm,
     /// No variable, function or form of terms has a name that is used.
     UnknownName,
-    /// A variable, a function or an attribute has a name that was given before.
+    /// An enum type, a variable, a function or an attribute has a name that was given before.
     DuplicateName,
     /// A type has no form.
     BadType,
@@ -96,6 +100,8 @@ impl Refusal {
         match self {
             Refusal::Usage => "usage: smtcli script or check PATH ARGS.. or gen SEED N\n",
             Refusal::Job(JobRefusal::TooLarge) => "job refused: TooLarge\n",
+            Refusal::Job(JobRefusal::Parse) => "job refused: Parse\n",
+            Refusal::Job(JobRefusal::TooDeep) => "job refused: TooDeep\n",
             Refusal::Job(JobRefusal::BadForm) => "job refused: BadForm\n",
             Refusal::Job(JobRefusal::UnknownName) => "job refused: UnknownName\n",
             Refusal::Job(JobRefusal::DuplicateName) => "job refused: DuplicateName\n",
@@ -173,6 +179,8 @@ impl From<JobError> for ReadRefusal {
     fn from(error: JobError) -> ReadRefusal {
         match error {
             JobError::TooLarge => ReadRefusal::Job(JobRefusal::TooLarge),
+            JobError::Parse(_) => ReadRefusal::Job(JobRefusal::Parse),
+            JobError::TooDeep => ReadRefusal::Job(JobRefusal::TooDeep),
             JobError::BadForm => ReadRefusal::Job(JobRefusal::BadForm),
             JobError::UnknownName(_) => ReadRefusal::Job(JobRefusal::UnknownName),
             JobError::DuplicateName(_) => ReadRefusal::Job(JobRefusal::DuplicateName),

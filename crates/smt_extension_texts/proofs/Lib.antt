@@ -1,4 +1,5 @@
 pub mod Addresses
+pub mod Bounds
 pub mod Datetimes
 pub mod Decimals
 pub mod Durations

@@ -150,7 +150,7 @@ function_formed fs e =
     bound _ (type_of_expression p.2) _ (onward (type_of_expression p.2) (type_formed p.2) (λ u g. (h, g)))))))))
 
 module _ {A : Type 0} (P : A → Type 0) (of : Declarations A → Expression → Outcome (List ℕ × A)) (each : (ds : Declarations A) (e : Expression) → IfOk (of ds e) (λ d. P d.1)) where
-  all_formed : (ds : Declarations A) (es : Expressions) → AreFormed P ds → IfOk (declared_by of ds es) (AreFormed P)
+  pub all_formed : (ds : Declarations A) (es : Expressions) → AreFormed P ds → IfOk (declared_by of ds es) (AreFormed P)
   all_formed ds Nil h = h
   all_formed ds (Cons e es) h = bound (AreFormed P) (of ds e) _ (onward (of ds e) (each ds e) (λ d p. all_formed (ds ++ d ∷ []) es (one_more P ds d h p)))
 

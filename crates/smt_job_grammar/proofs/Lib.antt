@@ -1,3 +1,4 @@
+pub mod EnumsInOrder
 pub mod FormedTypes
 pub mod Jobs
 pub mod OperatorNames

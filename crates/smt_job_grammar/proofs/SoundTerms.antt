@@ -12,9 +12,16 @@ use Rattle.std.proofs.lemmas.Bool.{and_parts, leb-true, ltb-true}
 use Rattle.smt_arithmetic.specs.BitVectors.{bits_of}
 use Rattle.smt_arithmetic.specs.Widths.{are_bits, is_width}
 use Rattle.smt_arithmetic.proofs.BitRanges as ranges
-use Rattle.smt_meaning.specs.Formed.{IsFormed, IsFormedLiteral, IsFormedNode, IsFormedType, IsFormedHere}
+use Rattle.smt_ext.specs.IpOrder.{plain_range}
+use Rattle.smt_ext.specs.IpRanges.{Family, Version4, Version6, Range}
+use Rattle.smt_extension_texts.specs.Datetimes.{datetime_in}
+use Rattle.smt_extension_texts.specs.Decimals.{decimal_in}
+use Rattle.smt_extension_texts.specs.Durations.{duration_in}
+use Rattle.smt_extension_texts.specs.Ranges.{range_in}
+use Rattle.smt_extension_texts.proofs.Bounds.{IsInBits, datetime_fits, decimal_fits, duration_fits, range_fits}
+use Rattle.smt_meaning.specs.Formed.{IsFormed, IsFormedExtension, IsFormedLiteral, IsFormedNode, IsFormedType, IsFormedHere}
 use Rattle.smt_meaning.specs.Names.{extension_op_name}
-use Rattle.smt_meaning.specs.Plain.{PlainType, OptionType, BitVecType, BoolType, RecordType, SetType, AttributeTypes, no_attributes, attribute, ExtensionOp, DatetimeOfBitVecOp, DatetimeValOp, DecimalValOp, DurationOfBitVecOp, DurationValOp, IpAddrV4Op, IpAddrV6Op, IpIsV4Op, IpPrefixV4Op, IpPrefixV6Op, PlainOp, AndOp, BvnegOp, BvnegoOp, EqOp, ExtOp, IteOp, NotOp, OptionGetOp, OrOp, RecordGetOp, SetInterOp, SetMemberOp, SetSubsetOp, StringLikeOp, UufOp, ZeroExtendOp, PlainLiteral, BitVecLiteral, BoolLiteral, EntityLiteral, StringLiteral, PlainTerm, Application, NoneTerm, LiteralTerm, SomeTerm, VariableTerm, terms, BitsOp, TestOp, OverflowOp}
+use Rattle.smt_meaning.specs.Plain.{PlainType, OptionType, BitVecType, BoolType, RecordType, SetType, AttributeTypes, no_attributes, attribute, ExtensionOp, DatetimeOfBitVecOp, DatetimeValOp, DecimalValOp, DurationOfBitVecOp, DurationValOp, IpAddrV4Op, IpAddrV6Op, IpIsV4Op, IpPrefixV4Op, IpPrefixV6Op, PlainOp, AndOp, BvnegOp, BvnegoOp, EqOp, ExtOp, IteOp, NotOp, OptionGetOp, OrOp, RecordGetOp, SetInterOp, SetMemberOp, SetSubsetOp, StringLikeOp, UufOp, ZeroExtendOp, PlainExtension, DatetimeOf, DecimalOf, DurationOf, PlainLiteral, BitVecLiteral, BoolLiteral, EntityLiteral, ExtensionLiteral, StringLiteral, PlainTerm, Application, NoneTerm, LiteralTerm, SomeTerm, VariableTerm, terms, BitsOp, TestOp, OverflowOp}
 use Rattle.smt_meaning.specs.Reached.{subterms, subterms_of_all, subterms_of_fields, types_within, types_within_attributes}
 use Rattle.smt_meaning.specs.TermSets.{set_term}
 use Rattle.smt_meaning.specs.Types.{attribute_in, attribute_type, extended_type, extension_signature, field_types, inner_type, result_type, type_eq, type_of, types_of}
@@ -36,7 +43,7 @@ use Rattle.smt_job_grammar.specs.Outcomes.{Outcome, ◌>>=◌, demanded, FormFau
 use Rattle.smt_job_grammar.specs.Parts.{both, first_in, name_in, number_in, sole, sole_text, text_in, width_in}
 use Rattle.smt_job_grammar.specs.Types.{attributes, record_type, type_of_expression}
 use Rattle.smt_job_grammar.specs.Declarations.{Declared, declared}
-use Rattle.smt_job_grammar.specs.Terms.{TermForm, Whole, Operator, OperatorBehind, Present, Elements, Fields, applied, are_of_type, atom_term, bits_form, bits_literal, entity_form, extension_by, extension_form, extension_named, extension_operators, field_names, form_of, function_form, like_form, literal_form, long_in, long_literal, made, named_operators, new_names, none_form, operator_form, operator_named, other_named, other_terms, parts_of, pattern_in, record_form, second_terms, selection_form, set_form, some_form, term_of, terms_of, truth_named, variable_form, whole_literal}
+use Rattle.smt_job_grammar.specs.Terms.{TermForm, Whole, Operator, OperatorBehind, Present, Elements, Fields, applied, are_of_type, atom_term, bits_form, bits_literal, datetime_literal, decimal_literal, duration_literal, entity_form, extension_by, extension_form, extension_named, extension_operators, field_names, form_of, function_form, like_form, literal_form, long_in, long_literal, made, named_operators, new_names, none_form, operator_form, operator_named, other_named, other_terms, parts_of, pattern_in, range_literal, record_form, second_terms, selection_form, set_form, some_form, term_of, terms_of, truth_named, variable_form, whole_literal}
 use Rattle.smt_job_grammar.proofs.Outcomes.{bound, either, if_demanded, if_followed, if_some, onward, whichever}
 use Rattle.smt_job_grammar.proofs.SortedLists.{sorted_mapped}
 use Rattle.smt_job_grammar.proofs.FormedTypes.{AreDeclaredFormed, IsFormedFunction, bool_formed, declared_formed, found_among, record_formed, type_formed, width_formed}
@@ -73,7 +80,7 @@ truth_sound n = go (bytes_eq n (codes "true")) (bytes_eq n (codes "false"))
     go false false = tt
 
 -- what stands between quotes is UTF-8
-text_utf8 : (e : Expression) → IfSome (text_in e) IsUtf8
+pub text_utf8 : (e : Expression) → IfSome (text_in e) IsUtf8
 text_utf8 (Leaf (Text points)) = if_some IsUtf8 (scalars points) (encode_utf8_all points) (λ h. (points, (h, refl)))
 text_utf8 (Leaf (Name n)) = tt
 text_utf8 (Leaf (Bits w n)) = tt
@@ -337,6 +344,27 @@ long_sound s = go (long_in s)
     go (Some z) = literal_sound (BitVecLiteral 64 (bits_of 64 z)) (ranges.bits_of-below 64 z) ((omega arith, omega arith), tt)
     go None = tt
 
+-- a value of an extension type that a text is read to
+extension_sound : {A : Type 0} (view : A → PlainExtension) (o : Option A) → ((a : A) → o ≡ Some a → IsFormedExtension (view a)) → IfSome (option_map (λ a. ExtensionLiteral (view a)) o) (λ l. IsSoundLeaf (LiteralTerm l))
+extension_sound view (Some a) h = literal_sound (ExtensionLiteral (view a)) (h a refl) (tt, tt)
+extension_sound view None h = tt
+
+decimal_sound : (s : List ℕ) → IfSome (decimal_literal s) (λ l. IsSoundLeaf (LiteralTerm l))
+decimal_sound s = extension_sound DecimalOf (decimal_in s) (decimal_fits s)
+
+formed_range : (f : Family) (a : ℕ) (p : Option ℕ) → let r : Range = record { family = f; address = a; prefix = p } in IsInBits r → IsFormedExtension (plain_range r)
+formed_range Version4 a p h = (h.address, h.prefix)
+formed_range Version6 a p h = (h.address, h.prefix)
+
+range_sound : (s : List ℕ) → IfSome (range_literal s) (λ l. IsSoundLeaf (LiteralTerm l))
+range_sound s = extension_sound plain_range (range_in s) (λ r e. formed_range r.family r.address r.prefix (range_fits s r e))
+
+datetime_sound : (s : List ℕ) → IfSome (datetime_literal s) (λ l. IsSoundLeaf (LiteralTerm l))
+datetime_sound s = extension_sound DatetimeOf (datetime_in s) (datetime_fits s)
+
+duration_sound : (s : List ℕ) → IfSome (duration_literal s) (λ l. IsSoundLeaf (LiteralTerm l))
+duration_sound s = extension_sound DurationOf (duration_in s) (duration_fits s)
+
 module _ (ds : Declared) (formed : AreDeclaredFormed ds) where
   variable_form_sound : (es : Expressions) → IfOk (variable_form ds es) IsSoundForm
   variable_form_sound es =
@@ -406,6 +434,10 @@ form_sound ds formed n es =
     (either IsSoundForm (bytes_eq n (codes "bv")) _ _ (bits_form_sound es)
     (either IsSoundForm (bytes_eq n (codes "long")) _ _ (literal_form_sound long_literal long_sound es)
     (either IsSoundForm (bytes_eq n (codes "entity")) _ _ (entity_form_sound es)
+    (either IsSoundForm (bytes_eq n (codes "decimal")) _ _ (literal_form_sound decimal_literal decimal_sound es)
+    (either IsSoundForm (bytes_eq n (codes "ip")) _ _ (literal_form_sound range_literal range_sound es)
+    (either IsSoundForm (bytes_eq n (codes "datetime")) _ _ (literal_form_sound datetime_literal datetime_sound es)
+    (either IsSoundForm (bytes_eq n (codes "duration")) _ _ (literal_form_sound duration_literal duration_sound es)
     (either IsSoundForm (bytes_eq n (codes "none")) _ _ (none_form_sound es)
     (either IsSoundForm (bytes_eq n (codes "some")) _ _ (some_form_sound es)
     (either IsSoundForm (bytes_eq n (codes "set")) _ _ (set_form_sound es)
@@ -413,7 +445,7 @@ form_sound ds formed n es =
     (either IsSoundForm (bytes_eq n (codes "zero_extend")) _ _ (extension_form_sound es)
     (either IsSoundForm (bytes_eq n (codes "record.get")) _ _ (selection_form_sound es)
     (either IsSoundForm (bytes_eq n (codes "string.like")) _ _ (like_form_sound es)
-    (either IsSoundForm (bytes_eq n (codes "uuf")) _ _ (function_form_sound ds formed es) (operator_form_sound n))))))))))))
+    (either IsSoundForm (bytes_eq n (codes "uuf")) _ _ (function_form_sound ds formed es) (operator_form_sound n))))))))))))))))
 
 -- what a form is of sound parts
 pub made_sound : (form : TermForm) → IsSoundForm form → (us : List PlainTerm) → AreSound us → IfOk (made form us) IsSound

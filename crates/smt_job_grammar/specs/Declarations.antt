@@ -2,6 +2,7 @@
 use Rattle.std.specs.Prelude.{ℕ, bytes_eq, List, [], ◌∷◌, ◌++◌, Option, Some, None, Ok, Err}
 use Rattle.std.specs.Map.{lookup}
 use Rattle.smt_meaning.specs.Plain.{PlainFunction, PlainType}
+use Rattle.smt_meaning.specs.TypeValues.{Enums}
 use Rattle.smt_lexicon.specs.Reading.{Expression, Expressions, Nil, Cons}
 use Rattle.smt_job_grammar.specs.Outcomes.{Outcome, ◌>>=◌, demanded, DuplicateFault, FormFault}
 use Rattle.smt_job_grammar.specs.Parts.{pair_in, text_in, triple_in}
@@ -44,7 +45,8 @@ variables_of es = declared_by variable_of [] es
 abbrev pub functions_of : Expressions → Outcome (Declarations PlainFunction)
 functions_of es = declared_by function_of [] es
 
--- what the terms of a job may name
+-- the enum types of a job, and the variables and functions that its terms may name
 pub record Declared : Type 0 where
+  pub enums : Enums
   pub variables : Declarations PlainType
   pub functions : Declarations PlainFunction

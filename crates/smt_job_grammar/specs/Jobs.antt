@@ -1,17 +1,18 @@
 -- Jobs. A job is one S-expression,
--- (job (enums) (vars ("id" TYPE) ..) (funs ("id" TYPE TYPE) ..) (terms t ..)),
--- of at most 16777216 bytes in which at most 512 brackets are open at a place. The ids of variables are distinct, and so are
--- those of functions. Each term is a Boolean.
-use Rattle.std.specs.Prelude.{ℕ, ◌<◌, ◌≤◌, ◌≡◌, ◌⊎◌, codes, length, map, List, [], Option, Ok, Err}
+-- (job (enums ("T" "member" ..) ..) (vars ("id" TYPE) ..) (funs ("id" TYPE TYPE) ..) (terms t ..)),
+-- of at most 16777216 bytes in which at most 512 brackets are open at a place. The names of enum types are distinct, and so are
+-- the ids of variables and those of functions. Each term is a Boolean.
+use Rattle.std.specs.Prelude.{ℕ, ◌<◌, ◌≤◌, ◌≡◌, ⊤, codes, length, map, List, Option, Ok, Err}
 use Rattle.smt_folding.specs.Built.{built}
 use Rattle.smt_meaning.specs.Faults.{Fault, first_fault}
 use Rattle.smt_meaning.specs.Plain.{PlainFunction, PlainTerm, PlainType}
 use Rattle.smt_meaning.specs.TypeValues.{Enums}
-use Rattle.smt_lexicon.specs.PlainTexts.{IsPlainRead}
 use Rattle.smt_lexicon.specs.Reading.{Expression, Expressions, Nil, Cons}
+use Rattle.smt_lexicon.specs.Tokens.{IsReadWithin}
 use Rattle.smt_job_grammar.specs.Outcomes.{JobFault, Outcome, ◌>>=◌, demanded, FormFault}
 use Rattle.smt_job_grammar.specs.Parts.{section}
 use Rattle.smt_job_grammar.specs.Declarations.{Declarations, Declared, functions_of, variables_of}
+use Rattle.smt_job_grammar.specs.Enums.{enums_in}
 use Rattle.smt_job_grammar.specs.Terms.{conditions_of}
 
 -- a job without where it lies in memory: its enum types, the declared variables and functions, and its terms as written
@@ -25,29 +26,29 @@ pub record PlainJob : Type 0 where
 abbrev pub section_of : List ℕ → Expression → Outcome Expressions
 section_of head e = demanded FormFault (section head e)
 
-abbrev pub nothing : Expressions → Outcome (List (List ℕ))
-nothing Nil = Ok []
-nothing (Cons e es) = Err FormFault
+-- the enum types, the variables and the functions that three sections declare
+abbrev pub declared_in_sections : (enums variables functions : Expression) → Outcome Declared
+declared_in_sections enums variables functions =
+    section_of (codes "enums") enums >>= enums_in >>= λ types. section_of (codes "vars") variables >>= variables_of >>= λ vs.
+    section_of (codes "funs") functions >>= functions_of >>= λ fs. Ok (record { enums = types; variables = vs; functions = fs })
 
--- the section of enum types, of which there are none yet
-abbrev pub no_enums : Expression → Outcome (List (List ℕ))
-no_enums e = section_of (codes "enums") e >>= nothing
-
--- the enum types, the variables and the functions, and the expressions behind them
+-- what the first three sections declare, and the expressions behind them
 abbrev pub declared_first : Expressions → Outcome (Declared × Expressions)
-declared_first (Cons enums (Cons variables (Cons functions others))) =
-    no_enums enums >>= λ none. section_of (codes "vars") variables >>= variables_of >>= λ vs.
-    section_of (codes "funs") functions >>= functions_of >>= λ fs. Ok (record { variables = vs; functions = fs }, others)
+declared_first (Cons enums (Cons variables (Cons functions others))) = declared_in_sections enums variables functions >>= λ ds. Ok (ds, others)
 declared_first es = Err FormFault
+
+-- no expression follows
+abbrev pub nothing_more : Expressions → Outcome ⊤
+nothing_more Nil = Ok tt
+nothing_more (Cons e es) = Err FormFault
 
 -- the terms, in the last section
 abbrev pub terms_last : Declared → Expressions → Outcome (List PlainTerm)
-terms_last ds (Cons conditions Nil) = section_of (codes "terms") conditions >>= conditions_of ds
-terms_last ds (Cons conditions (Cons e es)) = section_of (codes "terms") conditions >>= conditions_of ds >>= λ ts. Err FormFault
+terms_last ds (Cons conditions others) = section_of (codes "terms") conditions >>= conditions_of ds >>= λ ts. nothing_more others >>= λ u. Ok ts
 terms_last ds Nil = Err FormFault
 
 abbrev pub job_of_sections : Expressions → Outcome PlainJob
-job_of_sections es = declared_first es >>= λ p. terms_last p.0 p.1 >>= λ ts. Ok (record { enums = []; variables = p.0.variables; functions = p.0.functions; terms = ts })
+job_of_sections es = declared_first es >>= λ p. terms_last p.0 p.1 >>= λ ts. Ok (record { enums = p.0.enums; variables = p.0.variables; functions = p.0.functions; terms = ts })
 
 abbrev pub job_of : Expression → Outcome PlainJob
 job_of e = section_of (codes "job") e >>= job_of_sections
@@ -63,26 +64,22 @@ greatest_nesting = 512
 pub record IsJob (bytes : List ℕ) (job : PlainJob) : Type 0 where
   pub short : length bytes ≤ greatest_length
   pub expression : Expression
-  pub read : IsPlainRead bytes greatest_nesting expression
+  pub read : IsReadWithin bytes greatest_nesting expression
   pub stated : job_of expression ≡ Ok job
 
 -- The bytes are an expression that is no job, by this first fault.
 pub record IsFaultyJob (bytes : List ℕ) (fault : JobFault) : Type 0 where
   pub expression : Expression
-  pub read : IsPlainRead bytes greatest_nesting expression
+  pub read : IsReadWithin bytes greatest_nesting expression
   pub stated : job_of expression ≡ Err fault
-
--- no expression has these bytes
-abbrev pub IsNoExpression : List ℕ → Type 0
-IsNoExpression bytes = (e : Expression) → IsPlainRead bytes greatest_nesting e → ⊥
 
 -- more bytes than a job may have
 abbrev pub IsTooLong : List ℕ → Type 0
 IsTooLong bytes = greatest_length < length bytes
 
--- The bytes are no job, by this first fault: they are not too many, and no expression, or one that is no job.
+-- The bytes are an expression of this first fault, and not too many.
 abbrev pub HasFault : List ℕ → JobFault → Type 0
-HasFault bytes fault = (length bytes ≤ greatest_length) × (((fault ≡ FormFault) × IsNoExpression bytes) ⊎ IsFaultyJob bytes fault)
+HasFault bytes fault = (length bytes ≤ greatest_length) × IsFaultyJob bytes fault
 
 -- the job with its terms as they are built: each application is folded, its operands first
 abbrev pub built_job : PlainJob → PlainJob

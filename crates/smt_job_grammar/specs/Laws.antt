@@ -1,10 +1,12 @@
 -- What is known of jobs.
-use Rattle.std.specs.Prelude.{ℕ, ◌≡◌, IfSome, List, Some}
+use Rattle.std.specs.Prelude.{ℕ, ◌≡◌, IfSome, IsTrue, IsUtf8, List, Some}
 use Rattle.std.specs.List.{AllByRecursion}
 use Rattle.smt_meaning.specs.Formed.{IsFormed}
 use Rattle.smt_meaning.specs.Names.{extension_op_name, op_name}
 use Rattle.smt_meaning.specs.Plain.{BoolType, PlainOp, ExtOp, PlainTerm}
+use Rattle.smt_meaning.specs.TypeValues.{Enums}
 use Rattle.smt_meaning.specs.Typing.{Typed}
+use Rattle.smt_meaning.specs.ValueOrder.{ascends, text_cmp}
 use Rattle.smt_job_grammar.specs.Jobs.{HasFault, IsJob, IsTooLong, PlainJob}
 use Rattle.smt_job_grammar.specs.Outcomes.{JobFault}
 use Rattle.smt_job_grammar.specs.Terms.{extension_operators, named_operators, operator_named}
@@ -17,6 +19,16 @@ pub record IsCondition (t : PlainTerm) : Type 0 where
 -- Each term of a job is.
 abbrev pub JobsHaveConditions : Type 0
 JobsHaveConditions = (bytes : List ℕ) (job : PlainJob) → IsJob bytes job → AllByRecursion IsCondition job.terms
+
+-- The enum types stand in the order of their names, each name once, and so do the members of each, which are texts in UTF-8.
+pub record AreInOrder (enums : Enums) : Type 0 where
+  pub names : IsTrue (ascends (λ p q. text_cmp p.0 q.0) enums)
+  pub members : AllByRecursion (λ e. IsTrue (ascends text_cmp e.1)) enums
+  pub texts : AllByRecursion (λ e. AllByRecursion IsUtf8 e.1) enums
+
+-- Those of a job do.
+abbrev pub JobsHaveEnumsInOrder : Type 0
+JobsHaveEnumsInOrder = (bytes : List ℕ) (job : PlainJob) → IsJob bytes job → AreInOrder job.enums
 
 -- Bytes that are a job are not too many, and have no fault. So they are refused for want of memory alone.
 pub record JobsAreNotRefused : Type 0 where

@@ -7,7 +7,7 @@ pub data JobFault : Type 0 where
   FormFault : JobFault
   -- no variable, function or form of terms has this name
   UnknownFault : (name : List ℕ) → JobFault
-  -- a variable, a function or an attribute has a name that was given before
+  -- an enum type, a variable, a function or an attribute has a name that was given before
   DuplicateFault : (name : List ℕ) → JobFault
   -- a type has no form
   TypeFault : JobFault

@@ -1,6 +1,7 @@
 -- The terms that jobs state: `true`, `false`, a string, a literal in base 2 or 16, `(var "id")`, `(bv W N)`, `(long "-5")`,
--- `(entity "T" "id")`, `(none TYPE)`, `(some t)`, `(set TYPE t ..)`, `(record ("a" t) ..)`, `(zero_extend N t)`,
--- `(record.get "a" t)`, `(string.like (P ..) t)`, each P a string or `*`, `(uuf "f" t)`, and `(name t ..)` of another operator.
+-- `(entity "T" "id")`, `(decimal "1.5")`, `(ip "10.0.0.0/8")`, `(datetime "2024-10-15")`, `(duration "1d2h")`, `(none TYPE)`,
+-- `(some t)`, `(set TYPE t ..)`, `(record ("a" t) ..)`, `(zero_extend N t)`, `(record.get "a" t)`, `(string.like (P ..) t)`, each P a
+-- string or `*`, `(uuf "f" t)`, and `(name t ..)` of another operator.
 use Rattle.std.specs.Prelude.{ℕ, ◌==◌, Bool, true, false, not, ◌&&◌, nat_le, ℤ, bytes_eq, codes, decimal, if◌then◌else◌, map, List, [], ◌∷◌, ◌++◌, Option, Some, None, Ok, Err, option_map}
 use Rattle.std.specs.Bool.{then_some}
 use Rattle.std.specs.List.{list_all, zip}
@@ -11,9 +12,14 @@ use Rattle.smt_arithmetic.specs.BitOperators.{bits_operators, test_operators, ov
 use Rattle.smt_arithmetic.specs.BitVectors.{bits_of, overflows}
 use Rattle.smt_arithmetic.specs.Widths.{are_bits}
 use Rattle.smt_characters.specs.Digits.{is_numeral, decimal_number, signed_number}
+use Rattle.smt_ext.specs.IpOrder.{plain_range}
+use Rattle.smt_extension_texts.specs.Datetimes.{datetime_in}
+use Rattle.smt_extension_texts.specs.Decimals.{decimal_in}
+use Rattle.smt_extension_texts.specs.Durations.{duration_in}
+use Rattle.smt_extension_texts.specs.Ranges.{range_in}
 use Rattle.smt_folding.specs.FoldRecords.{record_of_pairs}
 use Rattle.smt_meaning.specs.Names.{extension_op_name, op_name}
-use Rattle.smt_meaning.specs.Plain.{PlainType, BoolType, ExtensionOp, DatetimeOfBitVecOp, DatetimeValOp, DecimalValOp, DurationOfBitVecOp, DurationValOp, IpAddrV4Op, IpAddrV6Op, IpIsV4Op, IpPrefixV4Op, IpPrefixV6Op, PatternPart, Character, Wildcard, PlainOp, AndOp, BvnegOp, BvnegoOp, EqOp, ExtOp, IteOp, NotOp, OptionGetOp, OrOp, RecordGetOp, SetInterOp, SetMemberOp, SetSubsetOp, StringLikeOp, UufOp, ZeroExtendOp, PlainLiteral, BitVecLiteral, BoolLiteral, EntityLiteral, StringLiteral, PlainTerm, Application, LiteralTerm, NoneTerm, SomeTerm, VariableTerm, terms, BitsOp, TestOp, OverflowOp}
+use Rattle.smt_meaning.specs.Plain.{PlainType, BoolType, ExtensionOp, DatetimeOfBitVecOp, DatetimeValOp, DecimalValOp, DurationOfBitVecOp, DurationValOp, IpAddrV4Op, IpAddrV6Op, IpIsV4Op, IpPrefixV4Op, IpPrefixV6Op, PatternPart, Character, Wildcard, PlainOp, AndOp, BvnegOp, BvnegoOp, EqOp, ExtOp, IteOp, NotOp, OptionGetOp, OrOp, RecordGetOp, SetInterOp, SetMemberOp, SetSubsetOp, StringLikeOp, UufOp, ZeroExtendOp, DatetimeOf, DecimalOf, DurationOf, PlainLiteral, BitVecLiteral, BoolLiteral, EntityLiteral, ExtensionLiteral, StringLiteral, PlainTerm, Application, LiteralTerm, NoneTerm, SomeTerm, VariableTerm, terms, BitsOp, TestOp, OverflowOp}
 use Rattle.smt_meaning.specs.TermSets.{set_term}
 use Rattle.smt_meaning.specs.Types.{result_type, type_eq, type_of}
 use Rattle.smt_lexicon.specs.Lexicon.{Atom, Bits, Name, Number, Text}
@@ -50,6 +56,22 @@ long_in (b ∷ bs) = if b == 45 then long_of true bs else long_of false (b ∷ b
 
 abbrev pub long_literal : List ℕ → Option PlainLiteral
 long_literal text = option_map (λ z. BitVecLiteral 64 (bits_of 64 z)) (long_in text)
+
+-- a decimal, by its text
+abbrev pub decimal_literal : List ℕ → Option PlainLiteral
+decimal_literal text = option_map (λ z. ExtensionLiteral (DecimalOf z)) (decimal_in text)
+
+-- an IP range, by its text
+abbrev pub range_literal : List ℕ → Option PlainLiteral
+range_literal text = option_map (λ r. ExtensionLiteral (plain_range r)) (range_in text)
+
+-- a datetime, by its text
+abbrev pub datetime_literal : List ℕ → Option PlainLiteral
+datetime_literal text = option_map (λ z. ExtensionLiteral (DatetimeOf z)) (datetime_in text)
+
+-- a duration, by its text
+abbrev pub duration_literal : List ℕ → Option PlainLiteral
+duration_literal text = option_map (λ z. ExtensionLiteral (DurationOf z)) (duration_in text)
 
 -- ---- patterns
 
@@ -179,6 +201,10 @@ form_of ds head es =
     else (if bytes_eq head (codes "bv") then bits_form es
     else (if bytes_eq head (codes "long") then literal_form long_literal es
     else (if bytes_eq head (codes "entity") then entity_form es
+    else (if bytes_eq head (codes "decimal") then literal_form decimal_literal es
+    else (if bytes_eq head (codes "ip") then literal_form range_literal es
+    else (if bytes_eq head (codes "datetime") then literal_form datetime_literal es
+    else (if bytes_eq head (codes "duration") then literal_form duration_literal es
     else (if bytes_eq head (codes "none") then none_form es
     else (if bytes_eq head (codes "some") then some_form es
     else (if bytes_eq head (codes "set") then set_form es
@@ -187,7 +213,7 @@ form_of ds head es =
     else (if bytes_eq head (codes "record.get") then selection_form es
     else (if bytes_eq head (codes "string.like") then like_form es
     else (if bytes_eq head (codes "uuf") then function_form ds es
-    else operator_form head)))))))))))
+    else operator_form head)))))))))))))))
 
 -- ---- terms
 

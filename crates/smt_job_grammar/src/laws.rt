@@ -1,9 +1,14 @@
 // The laws of jobs and of the names of operators in them.
-ghost use Rattle.smt_job_grammar.specs.Laws.{JobsAreNotRefused, JobsHaveConditions, OperatorsAreFoundByName};
+ghost use Rattle.smt_job_grammar.specs.Laws.{JobsAreNotRefused, JobsHaveConditions, JobsHaveEnumsInOrder, OperatorsAreFoundByName};
 
 /// Each term of a job is typed as a Boolean, and formed.
 pub fn jobs_have_conditions()
     ensures { JobsHaveConditions }
+{}
+
+/// The enum types of a job stand in the order of their names, and so do the members of each.
+pub fn jobs_have_enums_in_order()
+    ensures { JobsHaveEnumsInOrder }
 {}
 
 /// Bytes that are a job are not too many, and have no fault.

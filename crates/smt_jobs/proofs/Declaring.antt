@@ -15,7 +15,7 @@ use Rattle.smt_job_grammar.specs.Outcomes.{Outcome, ◌>>=◌}
 use Rattle.smt_job_grammar.specs.Declarations.{Declarations, declared, declared_by}
 use Rattle.smt_jobs.specs.JobView.{DeclaresNext, IsFaultIn, IsReadAs, plain_list}
 use Rattle.smt_jobs.specs.declared.error.JobError.{JobError}
-use Rattle.smt_jobs.specs.declared.error.JobError.TheVariants.{TooLarge, BadForm, UnknownName, DuplicateName, BadType, BadWidth, BadLiteral, IllTyped, NotBool, Memory}
+use Rattle.smt_jobs.specs.declared.error.JobError.TheVariants.{TooLarge, Parse, TooDeep, BadForm, UnknownName, DuplicateName, BadType, BadWidth, BadLiteral, IllTyped, NotBool, Memory}
 use Rattle.smt_jobs.proofs.Reading.{passes_on}
 
 other_bytes : (xs ys : List ℕ) → bytes_eq xs ys ≡ false → bytes_eq ys xs ≡ false
@@ -41,6 +41,8 @@ pub declares_next : {B : Type 0} (has : Declarations B → Type 0) (ds : Declara
 declares_next has ds d stated (Ok u) p q r = (d, p, q)
 declares_next has ds d stated (Err Memory) p q r = tt
 declares_next has ds d stated (Err TooLarge) p q r = absurd (cc)
+declares_next has ds d stated (Err (Parse f)) p q r = absurd (cc)
+declares_next has ds d stated (Err TooDeep) p q r = absurd (cc)
 declares_next has ds d stated (Err BadForm) p q r = absurd (cc)
 declares_next has ds d stated (Err (UnknownName n)) p q r = absurd (cc)
 declares_next has ds d stated (Err (DuplicateName n)) p q r = absurd (cc)

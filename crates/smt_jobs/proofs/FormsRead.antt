@@ -72,20 +72,24 @@ other_text n m h = elim (cases_Bool (bytes_eq n m)) [
   | inr other ↦ other
 ]
 
-pub other_form : (ds : Declared) (n : List ℕ) (es : Expressions) → (n ≡ codes "var" → ⊥) → (n ≡ codes "bv" → ⊥) → (n ≡ codes "long" → ⊥) → (n ≡ codes "entity" → ⊥) → (n ≡ codes "none" → ⊥) → (n ≡ codes "some" → ⊥) → (n ≡ codes "set" → ⊥)
+pub other_form : (ds : Declared) (n : List ℕ) (es : Expressions) → (n ≡ codes "var" → ⊥) → (n ≡ codes "bv" → ⊥) → (n ≡ codes "long" → ⊥) → (n ≡ codes "entity" → ⊥) → (n ≡ codes "decimal" → ⊥) → (n ≡ codes "ip" → ⊥) → (n ≡ codes "datetime" → ⊥) → (n ≡ codes "duration" → ⊥) → (n ≡ codes "none" → ⊥) → (n ≡ codes "some" → ⊥) → (n ≡ codes "set" → ⊥)
     → (n ≡ codes "record" → ⊥) → (n ≡ codes "zero_extend" → ⊥) → (n ≡ codes "record.get" → ⊥) → (n ≡ codes "string.like" → ⊥) → (n ≡ codes "uuf" → ⊥) → form_of ds n es ≡ operator_form n
-other_form ds n es a b c d e f g h i j k l =
+other_form ds n es a b c d e f g h i j k l m o p q =
     rw (
       other_text n (codes "var") a,
       other_text n (codes "bv") b,
       other_text n (codes "long") c,
       other_text n (codes "entity") d,
-      other_text n (codes "none") e,
-      other_text n (codes "some") f,
-      other_text n (codes "set") g,
-      other_text n (codes "record") h,
-      other_text n (codes "zero_extend") i,
-      other_text n (codes "record.get") j,
-      other_text n (codes "string.like") k,
-      other_text n (codes "uuf") l,
+      other_text n (codes "decimal") e,
+      other_text n (codes "ip") f,
+      other_text n (codes "datetime") g,
+      other_text n (codes "duration") h,
+      other_text n (codes "none") i,
+      other_text n (codes "some") j,
+      other_text n (codes "set") k,
+      other_text n (codes "record") l,
+      other_text n (codes "zero_extend") m,
+      other_text n (codes "record.get") o,
+      other_text n (codes "string.like") p,
+      other_text n (codes "uuf") q,
     ) refl

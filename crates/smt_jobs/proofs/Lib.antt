@@ -1,5 +1,7 @@
 pub mod DeclaredLists
 pub mod Declaring
+pub mod EnumsEntered
+pub mod ExtensionsRead
 pub mod FormsRead
 pub mod NumberedLemmas
 pub mod Operators

@@ -19,7 +19,7 @@ use Rattle.smt_sexpr.specs.declared.expression.SExpr.{SExpr, String}
 use Rattle.smt_job_grammar.specs.Terms.{pattern_part, pattern_parts}
 use Rattle.smt_jobs.specs.JobView.{AppendsParts, plain_list}
 use Rattle.smt_jobs.specs.declared.error.JobError.{JobError}
-use Rattle.smt_jobs.specs.declared.error.JobError.TheVariants.{TooLarge, BadForm, UnknownName, DuplicateName, BadType, BadWidth, BadLiteral, IllTyped, NotBool, Memory}
+use Rattle.smt_jobs.specs.declared.error.JobError.TheVariants.{TooLarge, Parse, TooDeep, BadForm, UnknownName, DuplicateName, BadType, BadWidth, BadLiteral, IllTyped, NotBool, Memory}
 
 -- what was appended is what is stated
 pub appended : (old new : Vec PatternElem Global) (parts : List PatternPart) (stated : Option (List PatternPart)) (r : Result (Unit {0}) JobError) → stated ≡ Some parts
@@ -27,6 +27,8 @@ pub appended : (old new : Vec PatternElem Global) (parts : List PatternPart) (st
 appended old new parts stated (Ok u) is h g = (parts, is, h)
 appended old new parts stated (Err Memory) is h g = (tt, λ e. absurd (cc))
 appended old new parts stated (Err TooLarge) is h g = absurd (cc)
+appended old new parts stated (Err (Parse f)) is h g = absurd (cc)
+appended old new parts stated (Err TooDeep) is h g = absurd (cc)
 appended old new parts stated (Err BadForm) is h g = absurd (cc)
 appended old new parts stated (Err (UnknownName n)) is h g = absurd (cc)
 appended old new parts stated (Err (DuplicateName n)) is h g = absurd (cc)

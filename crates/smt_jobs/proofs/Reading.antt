@@ -4,13 +4,15 @@ use Rattle.std.specs.Prelude.{IsErrAnd}
 use Rattle.smt_job_grammar.specs.Outcomes.{JobFault, Outcome, followed, mapped}
 use Rattle.smt_jobs.specs.JobView.{IsFaultIn, IsReadAs}
 use Rattle.smt_jobs.specs.declared.error.JobError.{JobError}
-use Rattle.smt_jobs.specs.declared.error.JobError.TheVariants.{TooLarge, BadForm, UnknownName, DuplicateName, BadType, BadWidth, BadLiteral, IllTyped, NotBool, Memory}
+use Rattle.smt_jobs.specs.declared.error.JobError.TheVariants.{TooLarge, Parse, TooDeep, BadForm, UnknownName, DuplicateName, BadType, BadWidth, BadLiteral, IllTyped, NotBool, Memory}
 
 -- ---- errors that are passed on
 
 -- the fault of a part is that of the whole
 pub fault_passes : {B B' : Type 0} (e : JobError) (whole : Outcome B) (part : Outcome B') → IsFaultIn e part → ((f : JobFault) → part ≡ Err f → whole ≡ Err f) → IsFaultIn e whole
 fault_passes TooLarge whole part h p = h
+fault_passes (Parse f) whole part h p = h
+fault_passes TooDeep whole part h p = h
 fault_passes BadForm whole part h p = p _ h
 fault_passes (UnknownName n) whole part h p = p _ h
 fault_passes (DuplicateName n) whole part h p = p _ h

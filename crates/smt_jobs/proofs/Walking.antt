@@ -1,29 +1,40 @@
 -- The walk over the bytes of a job: what each part gives, and what they give together.
-use Rattle.std.proofs.Common.{◌≡◌, ℕ, ◌-◌, ◌≤◌, List, [], ◌∷◌, ◌++◌, Option, Ok, Err, Result, false, nat_eq, bytes_eq, codes, length, map, refl, sym, ap, ◌∙◌, subst, inr, append_assoc, append-nil, arith}
-use Rattle.std.specs.Prelude.{IfErr, IfOk, IfSome, IsErrAnd, IsErrOf}
+use Rattle.std.proofs.Common.{◌≡◌, ℕ, ◌-◌, ◌≤◌, List, [], ◌∷◌, ◌++◌, Option, Some, Ok, Err, Result, true, bytes_eq, codes, length, map, refl, sym, ap, ◌∙◌, subst, inl, inr, append_assoc, append-nil, arith}
+use Rattle.std.specs.Prelude.{IsErrAnd, max}
 use Rattle.std.specs.Bool.{then_some}
+use Rattle.std.specs.List.{flat_map}
 use Rattle.std.specs.Option.{option_and_then}
+use Rattle.std.proofs.lemmas.Slice.Eq.{bytes_eq-Decides}
 use Rattle.std.proofs.lemmas.List.{map-append}
+use Rattle.std.proofs.lemmas.List.Concat.{flat_map-append}
 use Rattle.smt_folding.specs.Built.{built}
 use Rattle.smt_meaning.specs.Plain.{PlainFunction, PlainTerm, PlainType}
-use Rattle.smt_lexicon.specs.Front.{Begins, BeginsInside, skip_space}
-use Rattle.smt_lexicon.specs.Lexicon.{Name, Number, Text, Bits}
-use Rattle.smt_lexicon.specs.PlainTexts.{IsPlainText, IsPlainRead}
-use Rattle.smt_lexicon.specs.Reading.{Expression, Leaf, Node, Expressions, Nil, Cons}
-use Rattle.smt_characters.proofs.Runs.{head_is}
-use Rattle.smt_lexicon.proofs.Items.{none_yet, one_inside, one_read_more, too_deep}
+use Rattle.smt_meaning.specs.TypeValues.{Enums}
+use Rattle.smt_lexicon.specs.Lexicon.{Atom, Name, Number, Text, Bits, Token, Begin, End, Word}
+use Rattle.smt_lexicon.specs.Reading.{Expression, Leaf, Node, Expressions, Nil, Cons, brackets, deepest, expressions, followed_by, inside, nesting}
+use Rattle.smt_lexicon.specs.Tokens.{HasTokens, IsReadWithin, Spans}
+use Rattle.smt_lexicon.proofs.Spans.{goes_on, has_tokens, joined, no_span, none_before_end, one_first, one_token, read_from}
+use Rattle.smt_lexicon.proofs.Trees.{end_begins}
+use Rattle.smt_sexpr.specs.Refusals.{IsRefused}
+use Rattle.smt_sexpr.specs.declared.error.SExprParseError.{SExprParseError}
+use Rattle.smt_sexpr.specs.declared.error.SExprParseError.TheVariants.{UnexpectedEnd, Utf8Error, StringParseError, ParseIntError, UnclosedSExpr, TrailingTokens, IntegerOverflow, ZeroWidthBitVec, TooDeep as TextTooDeep, Memory as NoMemory}
+use Rattle.smt_sexpr.proofs.TokenLists.{deepest_push, inside_is}
 use Rattle.smt_job_grammar.specs.Outcomes.{JobFault, Outcome, ◌>>=◌, FormFault, demanded, followed, mapped}
 use Rattle.smt_job_grammar.specs.Parts.{name_in, section}
 use Rattle.smt_job_grammar.specs.Declarations.{Declarations, Declared as Stated, functions_of, variables_of}
-use Rattle.smt_job_grammar.specs.Jobs.{HasFault, PlainJob, declared_first, greatest_length, job_of, no_enums, nothing, section_of, terms_last}
+use Rattle.smt_job_grammar.specs.Enums.{enums_in}
+use Rattle.smt_job_grammar.specs.Jobs.{IsTooLong, PlainJob, declared_first, declared_in_sections, greatest_length, job_of, nothing_more, section_of, terms_last}
 use Rattle.smt_job_grammar.specs.Terms.{condition_of, conditions_of}
-use Rattle.smt_jobs.specs.JobView.{IsFault, IsFaultIn, declared_in, fault_in, plain_list}
-use Rattle.smt_jobs.specs.Walk.{Gives, Takes, TakesJob, first_and_others}
-use Rattle.smt_sexpr.specs.declared.expression.SExpr.{SExpr}
+use Rattle.smt_jobs.specs.JobView.{IsFault, IsFaultIn, declared_in}
+use Rattle.smt_jobs.specs.Refused.{IsFirstFault, IsRefusal, IsTextFault, IsUnreadable}
+use Rattle.smt_jobs.specs.Walk.{Begins, BeginsInside, Gives, ReadsSome, Takes, TakesJob, first_and_others}
 use Rattle.smt_jobs.specs.declared.declaration.Declared.{Declared}
 use Rattle.smt_jobs.specs.declared.error.JobError.{JobError}
-use Rattle.smt_jobs.specs.declared.error.JobError.TheVariants.{TooLarge, BadForm, UnknownName, DuplicateName, BadType, BadWidth, BadLiteral, IllTyped, NotBool, Memory}
+use Rattle.smt_jobs.specs.declared.error.JobError.TheVariants.{TooLarge, Parse, TooDeep, BadForm, UnknownName, DuplicateName, BadType, BadWidth, BadLiteral, IllTyped, NotBool, Memory}
 use Rattle.smt_jobs.proofs.Reading.{behind, fault_passes, mapped_of, nothing_behind, one_behind}
+
+abbrev no_form : Outcome ℕ
+no_form = Err FormFault
 
 -- ---- errors that are passed on
 
@@ -34,15 +45,30 @@ gives_passes P (Err y) e whole part h g f = subst (λ (x : JobError). Gives P (E
 
 -- ---- the first of the expressions inside brackets
 
-pub record IsFirst (depth : ℕ) (es : Expressions) (e : Expression) (rest end : List ℕ) : Type 0 where
+pub record IsFirst (depth : ℕ) (es : Expressions) (e : Expression) (rest : List ℕ) (end : List Token) : Type 0 where
   pub others : Expressions
   pub whole : es ≡ Cons e others
   pub begins : BeginsInside depth others rest end
 
-pub first_read : (depth : ℕ) (es : Expressions) (e : Expression) (src after rest end : List ℕ) → IsPlainText src → BeginsInside depth es src end → Begins depth e src after → rest ≡ skip_space after → IsPlainText rest → length rest ≤ length src → IsFirst depth es e rest end
-first_read depth es e src after rest end p i b q h l =
-    let s = (one_read_more depth src [] (e ∷ []) e src after rest (none_yet depth src [] refl p) b refl q h l).back es end i in
-    record { others = s.0; whole = s.1; begins = s.2 }
+pub first_read : (depth : ℕ) (es : Expressions) (e : Expression) (src rest : List ℕ) (end : List Token) → BeginsInside depth es src end → Spans src (brackets e) rest → IsFirst depth es e rest end
+first_read depth Nil e src rest end i s = absurd (none_before_end src rest e end i.has s)
+first_read depth (Cons f fs) e src rest end i s =
+    let o = one_first src rest f e (inside fs ++ (End ∷ end)) (subst (HasTokens src) (append_assoc (brackets f) (inside fs) (End ∷ end)) i.has) s in
+    let within = i.shallow in
+    record {
+      others = fs;
+      whole = ap (λ (x : Expression). Cons x fs) (sym o.0);
+      begins = record { has = o.1; shallow = omega arith };
+    }
+
+-- where none is read, none stands there, unless memory ran out
+pub first_unread : (depth : ℕ) (es : Expressions) (src : List ℕ) (end : List Token) (cause : SExprParseError) (error : JobError) → BeginsInside depth es src end
+    → ((e : Expression) (ts : List Token) → HasTokens src (brackets e ++ ts) → nesting e ≤ depth → cause ≡ NoMemory) → (cause ≡ NoMemory → error ≡ Memory) → IsFault error FormFault → IsFaultIn error (first_and_others es)
+first_unread depth Nil src end cause error i complete want form = fault_passes error (first_and_others Nil) no_form form (λ f same. (let e : FormFault ≡ f = cc in ap Err e))
+first_unread depth (Cons f fs) src end cause error i complete want form =
+    let within = i.shallow in
+    let shallow : nesting f ≤ depth = omega arith in
+    subst (λ (x : JobError). IsFaultIn x (first_and_others (Cons f fs))) (sym (want (complete f (inside fs ++ (End ∷ end)) (subst (HasTokens src) (append_assoc (brackets f) (inside fs) (End ∷ end)) i.has) shallow))) tt
 
 pub cons_from : (es : Expressions) (p : Expression × Expressions) → first_and_others es ≡ Ok p → es ≡ Cons p.0 p.1
 cons_from Nil p h = absurd (cc)
@@ -54,26 +80,29 @@ nil_from (Cons e es) f h = absurd (cc)
 
 -- ---- brackets and their heads
 
-pub record IsOpened (depth : ℕ) (e : Expression) (inside end : List ℕ) : Type 0 where
+pub record IsOpened (depth : ℕ) (e : Expression) (inner : List ℕ) (end : List Token) : Type 0 where
   pub es : Expressions
   pub whole : e ≡ Node es
-  pub begins : BeginsInside (depth - 1) es (skip_space inside) end
+  pub begins : BeginsInside (depth - 1) es inner end
 
-bracket_is : (xs ys : List ℕ) → 40 ∷ xs ≡ 40 ∷ ys → xs ≡ ys
-bracket_is xs ys h = cc
+no_word : (a : Atom) (u : Token) → u ≡ Begin → u ≡ Word a → ⊥
+no_word a u h k = (let e : Begin ≡ Word a = sym h ∙ k in cc)
 
-pub opened : (depth : ℕ) (e : Expression) (src inside end : List ℕ) → Begins depth e src end → src ≡ 40 ∷ inside → IsOpened depth e inside end
-opened depth (Leaf a) src inside end b o = absurd (too_deep 0 src inside refl o (Leaf a) end b)
-opened depth (Node es) src inside end b o = record {
-  es = es;
-  whole = refl;
-  begins = subst (λ v. BeginsInside (depth - 1) es (skip_space v) end) (bracket_is b.0 inside (sym b.2 ∙ o)) b.3;
-}
+pub opened : (depth : ℕ) (e : Expression) (src inner : List ℕ) (end : List Token) → Begins depth e src end → Spans src (Begin ∷ []) inner → IsOpened depth e inner end
+opened depth (Leaf a) src inner end b o = absurd (no_word a Begin refl (one_token src inner (Word a) Begin end b.has o).0)
+opened depth (Node es) src inner end b o =
+    let t = one_token src inner Begin Begin ((inside es ++ End ∷ []) ++ end) b.has o in
+    let within = b.shallow in
+    record {
+      es = es;
+      whole = refl;
+      begins = record { has = subst (HasTokens inner) (append_assoc (inside es) (End ∷ []) end) t.1; shallow = omega arith };
+    }
 
 -- what does not open is no section
-pub unopened : (head : List ℕ) (depth : ℕ) (e : Expression) (src end : List ℕ) → Begins depth e src end → ((inside : List ℕ) → src ≡ 40 ∷ inside → ⊥) → section_of head e ≡ Err FormFault
+pub unopened : (head : List ℕ) (depth : ℕ) (e : Expression) (src : List ℕ) (end : List Token) → Begins depth e src end → ((ts : List Token) → HasTokens src (Begin ∷ ts) → ⊥) → section_of head e ≡ Err FormFault
 unopened head depth (Leaf a) src end b o = refl
-unopened head depth (Node es) src end b o = absurd (o b.0 b.2)
+unopened head depth (Node es) src end b o = absurd (o ((inside es ++ End ∷ []) ++ end) b.has)
 
 abbrev headed : List ℕ → Expression → Expressions → Option Expressions
 headed head first others = option_and_then (λ n. then_some (bytes_eq head n) others) (name_in first)
@@ -92,33 +121,48 @@ section_is head e es p first w h f =
 pub no_head : (head : List ℕ) (e : Expression) (es : Expressions) (f : JobFault) → e ≡ Node es → first_and_others es ≡ Err f → section_of head e ≡ Err f
 no_head head e es f w h = (let n = nil_from es f h in ap (section_of head) (w ∙ ap Node n.0) ∙ ap Err n.1)
 
+-- the token of a head
+pub headed_token : (e : Expression) (head n : List ℕ) → name_in e ≡ Some n → bytes_eq head n ≡ true → brackets e ≡ Word (Name head) ∷ []
+headed_token (Leaf (Name m)) head n h s = ap (λ v. Word (Name v) ∷ []) (named m n h ∙ sym ((bytes_eq-Decides head n).0 s))
+  where
+    named : (a b : List ℕ) → Some a ≡ Some b → a ≡ b
+    named a b k = cc
+headed_token e head n h s = absurd (cc)
+
 -- ---- the terms
 
 -- these were taken of the terms of a job, and those are left
-pub record Taking (ds : Stated) (es : Expressions) (end rest : List ℕ) (old now : List PlainTerm) : Type 0 where
+pub record Taking (ds : Stated) (es : Expressions) (end : List Token) (rest : List ℕ) (old now : List PlainTerm) : Type 0 where
   pub left : Expressions
   pub begins : BeginsInside 510 left rest end
   pub done : List PlainTerm
   pub whole : conditions_of ds es ≡ behind done (conditions_of ds left)
   pub takes : now ≡ old ++ map built done
 
-pub taking_none : (ds : Stated) (es : Expressions) (src rest end : List ℕ) (old : List PlainTerm) → BeginsInside 510 es src end → rest ≡ src → Taking ds es end rest old old
-taking_none ds es src rest end old i e = record {
+pub taking_none : (ds : Stated) (es : Expressions) (src : List ℕ) (end : List Token) (old : List PlainTerm) → BeginsInside 510 es src end → Taking ds es end src old old
+taking_none ds es src end old i = record {
   left = es;
-  begins = subst (λ v. BeginsInside 510 es v end) (sym e) i;
+  begins = i;
   done = [];
   whole = nothing_behind (conditions_of ds es);
   takes = sym (append-nil old);
 }
 
-module _ (ds : Stated) (es : Expressions) (end rest : List ℕ) (old now : List PlainTerm) (t : Taking ds es end rest old now) where
+-- no expression begins with the bracket that closes
+pub nothing_before_end : (depth : ℕ) (es : Expressions) (src rest : List ℕ) (end : List Token) → BeginsInside depth es src end → Spans src (End ∷ []) rest → (es ≡ Nil) × HasTokens rest end
+nothing_before_end depth Nil src rest end i s = (refl, (one_token src rest End End end i.has s).1)
+nothing_before_end depth (Cons f fs) src rest end i s =
+    let g = goes_on src rest (inside (Cons f fs) ++ (End ∷ end)) (End ∷ []) i.has s in
+    absurd (end_begins f g.others (inside fs ++ (End ∷ end)) (sym g.whole ∙ append_assoc (brackets f) (inside fs) (End ∷ end)))
+
+module _ (ds : Stated) (es : Expressions) (end : List Token) (rest : List ℕ) (old now : List PlainTerm) (t : Taking ds es end rest old now) where
   -- at the closing bracket
-  pub all_taken : (after : List ℕ) → rest ≡ 41 ∷ after → (written : List PlainTerm) × (conditions_of ds es ≡ Ok written) × (after ≡ end) × (now ≡ old ++ map built written)
-  all_taken after e =
-      let same = one_inside 510 t.left Nil rest end after t.begins e in (
+  pub all_taken : (after : List ℕ) → Spans rest (End ∷ []) after → (written : List PlainTerm) × (conditions_of ds es ≡ Ok written) × HasTokens after end × (now ≡ old ++ map built written)
+  all_taken after s =
+      let nothing = nothing_before_end 510 t.left rest after end t.begins s in (
         t.done,
-        t.whole ∙ ap (λ x. behind t.done (conditions_of ds x)) same.0 ∙ ap Ok (append-nil t.done),
-        sym same.1,
+        t.whole ∙ ap (λ x. behind t.done (conditions_of ds x)) nothing.0 ∙ ap Ok (append-nil t.done),
+        nothing.1,
         t.takes,
       )
 
@@ -147,14 +191,27 @@ module _ (ds : Stated) (es : Expressions) (end rest : List ℕ) (old now : List 
               ∙ ap (λ l. old ++ l) (sym (map-append built t.done (o.stated ∷ [])));
         }
 
-  pub nothing_more : (f : JobFault) → first_and_others t.left ≡ Err f → ((after : List ℕ) → rest ≡ 41 ∷ after → ⊥) → ⊥
-  nothing_more f none unclosed = unclosed end (subst (λ x. BeginsInside 510 x rest end) (nil_from t.left f none).0 t.begins)
+  pub nothing_more_there : (f : JobFault) → first_and_others t.left ≡ Err f → ((ts : List Token) → HasTokens rest (End ∷ ts) → ⊥) → ⊥
+  nothing_more_there f none unclosed = unclosed end (subst (λ x. HasTokens rest (inside x ++ (End ∷ end))) (nil_from t.left f none).0 t.begins.has)
+
+-- ---- expressions that are read so far
+
+pub read_none : (src : List ℕ) (depth : ℕ) → ReadsSome src depth src
+read_none src depth = record { read = []; span = no_span src; shallow = omega arith }
+
+pub read_more : (src between rest : List ℕ) (depth : ℕ) (e : Expression) → ReadsSome src depth between → Spans between (brackets e) rest → nesting e ≤ depth → ReadsSome src depth rest
+read_more src between rest depth e r s n =
+    let before = r.shallow in
+    let deeper = deepest_push r.read e in
+    record {
+      read = r.read ++ e ∷ [];
+      span =
+          subst (λ ts. Spans src ts rest) (sym (flat_map-append brackets r.read (e ∷ []) ∙ ap (λ ts. flat_map brackets r.read ++ ts) (append-nil (brackets e))))
+          (joined src between rest (flat_map brackets r.read) (brackets e) r.span s);
+      shallow = omega arith;
+    }
 
 -- ---- what the first three sections declare
-
--- of three outcomes one behind the other
-abbrev declared_by : {A : Type 0} → Outcome A → Outcome (Declarations PlainType) → Outcome (Declarations PlainFunction) → Expressions → Outcome (Stated × Expressions)
-declared_by enums variables functions others = enums >>= λ none. variables >>= λ vs. functions >>= λ fs. Ok (record { variables = vs; functions = fs }, others)
 
 module _ (es : Expressions) where
   pub no_first : (f : JobFault) → first_and_others es ≡ Err f → declared_first es ≡ Err f
@@ -169,32 +226,43 @@ module _ (es : Expressions) where
       no_third f h = (let n = nil_from q.1 f h in ap declared_first (cons_from es p first ∙ ap (Cons p.0) (cons_from p.1 q second ∙ ap (Cons q.0) n.0)) ∙ ap Err n.1)
 
       module _ (r : Expression × Expressions) (third : first_and_others q.1 ≡ Ok r) (enums variables functions : Expression) (a : p.0 ≡ enums) (b : q.0 ≡ variables) (c : r.0 ≡ functions) where
-        abbrev variables_in : Outcome (Declarations PlainType)
-        variables_in = section_of (codes "vars") variables >>= variables_of
-
-        abbrev functions_in : Outcome (Declarations PlainFunction)
-        functions_in = section_of (codes "funs") functions >>= functions_of
-
-        sections : declared_first es ≡ declared_by (no_enums enums) variables_in functions_in r.1
+        pub sections : declared_first es ≡ (declared_in_sections enums variables functions >>= λ ds. Ok (ds, r.1))
         sections =
             ap declared_first (cons_from es p first ∙ (λ i. Cons (a i) ((cons_from p.1 q second ∙ (λ j. Cons (b j) ((cons_from q.1 r third ∙ ap (λ x. Cons x r.1) c) j))) i)))
 
-        pub enums_refused : (f : JobFault) → no_enums enums ≡ Err f → declared_first es ≡ Err f
-        enums_refused f h = sections ∙ ap (λ o. declared_by o variables_in functions_in r.1) h
+        pub not_declared_there : (f : JobFault) → declared_in_sections enums variables functions ≡ Err f → declared_first es ≡ Err f
+        not_declared_there f h = sections ∙ ap (λ o. o >>= λ ds. Ok (ds, r.1)) h
 
-        module _ (none : List (List ℕ)) (without : no_enums enums ≡ Ok none) where
-          without_enums : declared_first es ≡ declared_by (Ok none) variables_in functions_in r.1
-          without_enums = sections ∙ ap (λ o. declared_by o variables_in functions_in r.1) without
+        pub declared_there : (ds : Stated) → declared_in_sections enums variables functions ≡ Ok ds → declared_first es ≡ Ok (ds, r.1)
+        declared_there ds h = sections ∙ ap (λ o. o >>= λ x. Ok (x, r.1)) h
 
-          pub variables_refused : (f : JobFault) → variables_in ≡ Err f → declared_first es ≡ Err f
-          variables_refused f h = without_enums ∙ ap (λ o. declared_by (Ok none) o functions_in r.1) h
+-- of three outcomes one behind the other
+abbrev declared_by : Outcome Enums → Outcome (Declarations PlainType) → Outcome (Declarations PlainFunction) → Outcome Stated
+declared_by enums variables functions = enums >>= λ types. variables >>= λ vs. functions >>= λ fs. Ok (record { enums = types; variables = vs; functions = fs })
 
-          module _ (vs : Declarations PlainType) (declared : variables_in ≡ Ok vs) where
-            pub functions_refused : (f : JobFault) → functions_in ≡ Err f → declared_first es ≡ Err f
-            functions_refused f h = without_enums ∙ (λ i. declared_by (Ok none) (declared i) (h i) r.1)
+module _ (enums variables functions : Expression) where
+  abbrev enums_there : Outcome Enums
+  enums_there = section_of (codes "enums") enums >>= enums_in
 
-            pub all_declared : (fs : Declarations PlainFunction) → functions_in ≡ Ok fs → declared_first es ≡ Ok (record { variables = vs; functions = fs }, r.1)
-            all_declared fs h = without_enums ∙ (λ i. declared_by (Ok none) (declared i) (h i) r.1)
+  abbrev variables_there : Outcome (Declarations PlainType)
+  variables_there = section_of (codes "vars") variables >>= variables_of
+
+  abbrev functions_there : Outcome (Declarations PlainFunction)
+  functions_there = section_of (codes "funs") functions >>= functions_of
+
+  pub enums_refused : (f : JobFault) → enums_there ≡ Err f → declared_in_sections enums variables functions ≡ Err f
+  enums_refused f h = ap (λ o. declared_by o variables_there functions_there) h
+
+  module _ (types : Enums) (listed : enums_there ≡ Ok types) where
+    pub variables_refused : (f : JobFault) → variables_there ≡ Err f → declared_in_sections enums variables functions ≡ Err f
+    variables_refused f h = (λ i. declared_by (listed i) (h i) functions_there)
+
+    module _ (vs : Declarations PlainType) (declared : variables_there ≡ Ok vs) where
+      pub functions_refused : (f : JobFault) → functions_there ≡ Err f → declared_in_sections enums variables functions ≡ Err f
+      functions_refused f h = (λ i. declared_by (listed i) (declared i) (h i))
+
+      pub all_declared : (fs : Declarations PlainFunction) → functions_there ≡ Ok fs → declared_in_sections enums variables functions ≡ Ok (record { enums = types; variables = vs; functions = fs })
+      all_declared fs h = (λ i. declared_by (listed i) (declared i) (h i))
 
 -- what a section states, where its expressions are these
 pub of_section : {B : Type 0} (of : Expressions → Outcome B) (head : List ℕ) (e : Expression) (es : Expressions) → section_of head e ≡ Ok es → (section_of head e >>= of) ≡ of es
@@ -203,80 +271,79 @@ of_section of head e es h = ap (λ o. o >>= of) h
 pub not_of_section : {B : Type 0} (of : Expressions → Outcome B) (head : List ℕ) (e : Expression) (f : JobFault) → section_of head e ≡ Err f → (section_of head e >>= of) ≡ Err f
 not_of_section of head e f h = ap (λ o. o >>= of) h
 
--- where enum types stand, they are refused
-pub not_nothing : (items : List SExpr) → nat_eq (length items) 0 ≡ false → nothing (plain_list items) ≡ Err FormFault
-not_nothing [] h = absurd (cc)
-not_nothing (e ∷ es) h = refl
-
-pub some_enums : (e : Expression) (items : List SExpr) → section_of (codes "enums") e ≡ Ok (plain_list items) → nat_eq (length items) 0 ≡ false → no_enums e ≡ Err FormFault
-some_enums e items s h = ap (λ o. o >>= nothing) s ∙ not_nothing items h
-
 -- ---- the section of the terms
 
 -- the section of the terms is entered
-pub record IsEntered (others : Expressions) (terms end : List ℕ) : Type 0 where
+pub record IsEntered (others : Expressions) (terms : List ℕ) (end : List Token) : Type 0 where
   pub first : Expression
   pub more : Expressions
   pub whole : others ≡ Cons first more
   pub conditions : Expressions
   pub stated : section_of (codes "terms") first ≡ Ok conditions
-  pub after : List ℕ
-  pub inside : BeginsInside 510 conditions terms after
-  pub behind : BeginsInside 511 more (skip_space after) end
+  pub inner : BeginsInside 510 conditions terms (inside more ++ (End ∷ end))
+  pub shallow : deepest more ≤ 511
 
-pub entered : (others : Expressions) (rest terms end inner : List ℕ) → BeginsInside 511 others rest end → rest ≡ 40 ∷ inner
-    → ((e : Expression) (after : List ℕ) → Begins 511 e rest after → (es : Expressions) × (section_of (codes "terms") e ≡ Ok es) × BeginsInside 510 es terms after) → IsEntered others terms end
-entered Nil rest terms end inner i o stated = absurd (let h = (head_is 41 40 end inner (sym i ∙ o)).0 in omega arith)
-entered (Cons f fs) rest terms end inner i o stated =
-    let s = stated f i.0 i.1 in
+-- the first of some expressions begins what is inside
+first_begins : (e : Expression) (es : Expressions) (src : List ℕ) (end : List Token) → BeginsInside 511 (Cons e es) src end → Begins 511 e src (inside es ++ (End ∷ end))
+first_begins e es src end i = (let within = i.shallow in record { has = subst (HasTokens src) (append_assoc (brackets e) (inside es) (End ∷ end)) i.has; shallow = omega arith })
+
+bracket_no_end : (ts us : List Token) → End ∷ ts ≡ Begin ∷ us → ⊥
+bracket_no_end ts us h = cc
+
+pub entered : (others : Expressions) (rest terms : List ℕ) (end : List Token) → BeginsInside 511 others rest end → Spans rest (Begin ∷ Word (Name (codes "terms")) ∷ []) terms
+    → ((e : Expression) (after : List Token) → Begins 511 e rest after → (es : Expressions) × (section_of (codes "terms") e ≡ Ok es) × BeginsInside 510 es terms after) → IsEntered others terms end
+entered Nil rest terms end i s stated =
+    let g = goes_on rest terms (End ∷ end) (Begin ∷ Word (Name (codes "terms")) ∷ []) i.has s in
+    absurd (bracket_no_end end (Word (Name (codes "terms")) ∷ g.others) g.whole)
+entered (Cons f fs) rest terms end i s stated =
+    let t = stated f (inside fs ++ (End ∷ end)) (first_begins f fs rest end i) in
+    let within = i.shallow in
     record {
       first = f;
       more = fs;
       whole = refl;
-      conditions = s.0;
-      stated = s.1;
-      after = i.0;
-      inside = s.2;
-      behind = i.2;
+      conditions = t.0;
+      stated = t.1;
+      inner = t.2;
+      shallow = omega arith;
     }
 
-no_section : (ds : Stated) (e : Expression) (more : Expressions) (f : JobFault) → section_of (codes "terms") e ≡ Err f → terms_last ds (Cons e more) ≡ Err f
-no_section ds e Nil f none = ap (λ o. o >>= conditions_of ds) none
-no_section ds e (Cons x xs) f none = ap (λ o. o >>= conditions_of ds >>= λ ts. Err FormFault) none
-
-abbrev no_form : Outcome ℕ
-no_form = Err FormFault
-
-pub not_entered : (ds : Stated) (others : Expressions) (rest end : List ℕ) (error : JobError) → BeginsInside 511 others rest end → IsFault error FormFault
-    → ((e : Expression) (after : List ℕ) → Begins 511 e rest after → IsFaultIn error (section_of (codes "terms") e)) → IsFaultIn error (terms_last ds others)
+pub not_entered : (ds : Stated) (others : Expressions) (rest : List ℕ) (end : List Token) (error : JobError) → BeginsInside 511 others rest end → IsFault error FormFault
+    → ((e : Expression) (after : List Token) → Begins 511 e rest after → IsFaultIn error (section_of (codes "terms") e)) → IsFaultIn error (terms_last ds others)
 not_entered ds Nil rest end error i form stated = fault_passes error (terms_last ds Nil) no_form form (λ f same. (let e : FormFault ≡ f = cc in ap Err e))
-not_entered ds (Cons e es) rest end error i form stated = fault_passes error (terms_last ds (Cons e es)) (section_of (codes "terms") e) (stated e i.0 i.1) (no_section ds e es)
+not_entered ds (Cons e es) rest end error i form stated =
+    fault_passes error (terms_last ds (Cons e es)) (section_of (codes "terms") e) (stated e (inside es ++ (End ∷ end)) (first_begins e es rest end i)) (λ f none. ap (λ o. o >>= conditions_of ds >>= λ ts. nothing_more es >>= λ u. Ok ts) none)
 
-module _ (ds : Stated) (others : Expressions) (terms end : List ℕ) (s : IsEntered others terms end) where
-  stated_by : terms_last ds others ≡ terms_last ds (Cons s.first s.more)
-  stated_by = ap (terms_last ds) s.whole
-
-  by_more : (more : Expressions) (f : JobFault) → conditions_of ds s.conditions ≡ Err f → terms_last ds (Cons s.first more) ≡ Err f
-  by_more Nil f none = ap (λ o. o >>= conditions_of ds) s.stated ∙ none
-  by_more (Cons x xs) f none = ap (λ o. o >>= conditions_of ds >>= λ ts. Err FormFault) s.stated ∙ ap (λ o. o >>= λ ts. Err FormFault) none
+module _ (ds : Stated) (others : Expressions) (terms : List ℕ) (end : List Token) (s : IsEntered others terms end) where
+  stated_by : terms_last ds others ≡ (conditions_of ds s.conditions >>= λ ts. nothing_more s.more >>= λ u. Ok ts)
+  stated_by = ap (terms_last ds) s.whole ∙ ap (λ o. o >>= conditions_of ds >>= λ ts. nothing_more s.more >>= λ u. Ok ts) s.stated
 
   pub no_conditions : (f : JobFault) → conditions_of ds s.conditions ≡ Err f → terms_last ds others ≡ Err f
-  no_conditions f none = stated_by ∙ by_more s.more f none
+  no_conditions f none = stated_by ∙ ap (λ o. o >>= λ ts. nothing_more s.more >>= λ u. Ok ts) none
 
-  -- the job ends behind its terms
-  pub ended : (rest after : List ℕ) (written : List PlainTerm) → rest ≡ skip_space s.after → rest ≡ 41 ∷ after → conditions_of ds s.conditions ≡ Ok written → terms_last ds others ≡ Ok written
-  ended rest after written e close w =
-      let nothing = (one_inside 511 s.more Nil (skip_space s.after) end after s.behind (sym e ∙ close)).0 in
-      stated_by ∙ ap (λ more. terms_last ds (Cons s.first more)) nothing ∙ ap (λ o. o >>= conditions_of ds) s.stated ∙ w
+  -- what stands behind the terms
+  pub behind_terms : (rest : List ℕ) → HasTokens rest (inside s.more ++ (End ∷ end)) → BeginsInside 511 s.more rest end
+  behind_terms rest h = record { has = h; shallow = s.shallow }
 
-  more_follows : (more : Expressions) (rest : List ℕ) (written : List PlainTerm) → rest ≡ skip_space s.after → ((after : List ℕ) → rest ≡ 41 ∷ after → ⊥) → BeginsInside 511 more (skip_space s.after) end → conditions_of ds s.conditions ≡ Ok written
-      → terms_last ds (Cons s.first more) ≡ Err FormFault
-  more_follows Nil rest written e unclosed i w = absurd (unclosed end (e ∙ i))
-  more_follows (Cons x xs) rest written e unclosed i w = ap (λ o. o >>= conditions_of ds >>= λ ts. Err FormFault) s.stated ∙ ap (λ o. o >>= λ ts. Err FormFault) w
+  module _ (written : List PlainTerm) (w : conditions_of ds s.conditions ≡ Ok written) where
+    by_more : terms_last ds others ≡ (nothing_more s.more >>= λ u. Ok written)
+    by_more = stated_by ∙ ap (λ o. o >>= λ ts. nothing_more s.more >>= λ u. Ok ts) w
 
-  -- or it does not
-  pub not_ended : (rest : List ℕ) (written : List PlainTerm) → rest ≡ skip_space s.after → ((after : List ℕ) → rest ≡ 41 ∷ after → ⊥) → conditions_of ds s.conditions ≡ Ok written → terms_last ds others ≡ Err FormFault
-  not_ended rest written e unclosed w = stated_by ∙ more_follows s.more rest written e unclosed s.behind w
+    -- the job ends behind its terms
+    pub ended : nothing_more s.more ≡ Ok tt → terms_last ds others ≡ Ok written
+    ended none = by_more ∙ ap (λ o. o >>= λ u. Ok written) none
+
+    -- or it does not
+    pub not_ended : (f : JobFault) → nothing_more s.more ≡ Err f → terms_last ds others ≡ Err f
+    not_ended f some = by_more ∙ ap (λ o. o >>= λ u. Ok written) some
+
+-- the end of a job is its closing bracket
+pub closes : (es : Expressions) (src after : List ℕ) → BeginsInside 511 es src [] → Spans src (End ∷ []) after → (nothing_more es ≡ Ok tt) × HasTokens after []
+closes es src after i s = (let n = nothing_before_end 511 es src after [] i s in (ap nothing_more n.0, n.1))
+
+pub does_not_close : (es : Expressions) (src : List ℕ) → BeginsInside 511 es src [] → ((ts : List Token) → HasTokens src (End ∷ ts) → ⊥) → nothing_more es ≡ Err FormFault
+does_not_close Nil src i none = absurd (none [] i.has)
+does_not_close (Cons e es) src i none = refl
 
 -- ---- a job of its sections
 
@@ -289,7 +356,7 @@ pub record IsSectioned (e : Expression) (ds : Stated) (others : Expressions) : T
   pub others_are : others ≡ p.1
 
 abbrev pub job_by : Stated → Outcome (List PlainTerm) → Outcome PlainJob
-job_by ds o = o >>= λ ts. Ok (record { enums = []; variables = ds.variables; functions = ds.functions; terms = ts })
+job_by ds o = o >>= λ ts. Ok (record { enums = ds.enums; variables = ds.variables; functions = ds.functions; terms = ts })
 
 pub no_job : (e : Expression) (f : JobFault) → section_of (codes "job") e ≡ Err f → job_of e ≡ Err f
 no_job e f h = ap (λ o. o >>= λ es. declared_first es >>= λ p. job_by p.0 (terms_last p.0 p.1)) h
@@ -307,57 +374,108 @@ module _ (e : Expression) (ds : Stated) (others : Expressions) (s : IsSectioned 
   pub no_terms : (f : JobFault) → terms_last ds others ≡ Err f → job_of e ≡ Err f
   no_terms f h = job_is ∙ ap (job_by ds) h
 
-  pub with_terms : (written : List PlainTerm) → terms_last ds others ≡ Ok written → job_of e ≡ Ok (record { enums = []; variables = ds.variables; functions = ds.functions; terms = written })
+  pub with_terms : (written : List PlainTerm) → terms_last ds others ≡ Ok written → job_of e ≡ Ok (record { enums = ds.enums; variables = ds.variables; functions = ds.functions; terms = written })
   with_terms written h = job_is ∙ ap (job_by ds) h
+
+-- ---- the tokens of a job
+
+inside_followed : (es : List Expression) (others : Expressions) → inside (followed_by es others) ≡ flat_map brackets es ++ inside others
+inside_followed [] others = refl
+inside_followed (e ∷ es) others = ap (λ ts. brackets e ++ ts) (inside_followed es others) ∙ sym (append_assoc (brackets e) (flat_map brackets es) (inside others))
+
+deepest_followed : (es : List Expression) (others : Expressions) → deepest (followed_by es others) ≡ max (deepest (expressions es)) (deepest others)
+deepest_followed [] others = omega arith
+deepest_followed (e ∷ es) others = let h = deepest_followed es others in omega arith
+
+abbrev headed_by : List ℕ → Expressions → Expression
+headed_by head es = Node (Cons (Leaf (Name head)) es)
+
+-- brackets with a head, of what is inside
+headed_tokens : (head : List ℕ) (es : Expressions) (ts : List Token) → inside es ≡ ts → brackets (headed_by head es) ≡ (Begin ∷ Word (Name head) ∷ []) ++ (ts ++ End ∷ [])
+headed_tokens head es ts h = ap (λ us. Begin ∷ Word (Name head) ∷ (us ++ End ∷ [])) h
+
+pub job_read : (src inner rest terms closing behind_it : List ℕ) → Spans src (Begin ∷ Word (Name (codes "job")) ∷ []) inner → ReadsSome inner 511 rest → Spans rest (Begin ∷ Word (Name (codes "terms")) ∷ []) terms
+    → ReadsSome terms 510 closing → Spans closing (End ∷ []) behind_it → HasTokens behind_it (End ∷ []) → (e : Expression) × IsReadWithin src 512 e
+job_read src inner rest terms closing behind_it opens declares enters takes closes_terms closes_job =
+    let last = headed_by (codes "terms") (expressions takes.read) in
+    let sections = followed_by declares.read (Cons last Nil) in
+    let whole = headed_by (codes "job") sections in
+    let declared = flat_map brackets declares.read in
+    let taken = flat_map brackets takes.read in
+    let in_terms = joined terms closing behind_it taken (End ∷ []) takes.span closes_terms in
+    let of_terms : Spans rest (brackets last) behind_it =
+    subst (λ ts. Spans rest ts behind_it) (sym (headed_tokens (codes "terms") (expressions takes.read) taken (inside_is takes.read)))
+    (joined rest terms behind_it (Begin ∷ Word (Name (codes "terms")) ∷ []) (taken ++ End ∷ []) enters in_terms) in
+    let in_job = joined inner rest behind_it declared (brackets last) declares.span of_terms in
+    let inside_job : inside sections ≡ declared ++ brackets last = inside_followed declares.read (Cons last Nil) ∙ ap (λ ts. declared ++ ts) (append-nil (brackets last)) in
+    let all = joined src inner [] (Begin ∷ Word (Name (codes "job")) ∷ []) ((declared ++ brackets last) ++ End ∷ []) opens (joined inner behind_it [] (declared ++ brackets last) (End ∷ []) in_job closes_job) in
+    let depth_of_all = deepest_followed declares.read (Cons last Nil) in
+    let a = declares.shallow in
+    let b = takes.shallow in
+    (whole, read_from src 512 whole (subst (HasTokens src) (sym (headed_tokens (codes "job") sections (declared ++ brackets last) inside_job)) all) (omega arith))
 
 -- ---- the whole
 
-module _ (bytes : List ℕ) (e : Expression) (read : IsPlainRead bytes 512 e) (old new : List PlainTerm) where
+pub whole_begins : (bytes : List ℕ) (e : Expression) → IsReadWithin bytes 512 e → Begins 512 e bytes []
+whole_begins bytes e r = record { has = subst (HasTokens bytes) (sym (append-nil (brackets e))) (has_tokens bytes 512 e r); shallow = r.shallow }
+
+module _ (bytes : List ℕ) (old new : List PlainTerm) where
   abbrev IsWalked : Result Declared JobError → Type 0
-  IsWalked r = Gives (λ declared job. Takes (declared_in declared) old new job) r (job_of e)
+  IsWalked r = (e : Expression) → IsReadWithin bytes 512 e → Gives (λ declared job. Takes (declared_in declared) old new job) r (job_of e)
 
-  pub job_taken : (r : Result Declared JobError) → length bytes ≤ greatest_length → IsWalked r → IfOk r (λ declared. TakesJob bytes (declared_in declared) old new)
-  job_taken (Ok declared) short w = record {
-    written = w.0;
-    is_job = record {
-      short = short;
-      expression = e;
-      read = read;
-      stated = w.1;
-    };
-    is_taken = w.2;
-  }
-  job_taken (Err x) short w = tt
+  pub job_taken : (declared : Declared) → length bytes ≤ greatest_length → ((e : Expression) × IsReadWithin bytes 512 e) → IsWalked (Ok declared) → TakesJob bytes (declared_in declared) old new
+  job_taken declared short read w =
+      let t = w read.0 read.1 in
+      record {
+        written = t.0;
+        is_job = record {
+          short = short;
+          expression = read.0;
+          read = read.1;
+          stated = t.1;
+        };
+        is_taken = t.2;
+      }
 
-  pub not_too_large : (r : Result Declared JobError) → IsWalked r → IsErrOf r TooLarge → ⊥
-  not_too_large (Ok declared) w h = absurd (cc)
-  not_too_large (Err TooLarge) w h = w
-  not_too_large (Err BadForm) w h = absurd (cc)
-  not_too_large (Err (UnknownName n)) w h = absurd (cc)
-  not_too_large (Err (DuplicateName n)) w h = absurd (cc)
-  not_too_large (Err BadType) w h = absurd (cc)
-  not_too_large (Err BadWidth) w h = absurd (cc)
-  not_too_large (Err (BadLiteral n)) w h = absurd (cc)
-  not_too_large (Err IllTyped) w h = absurd (cc)
-  not_too_large (Err NotBool) w h = absurd (cc)
-  not_too_large (Err Memory) w h = absurd (cc)
+  -- an error of the walk is the fault of the job, unless the text is unreadable
+  fault_of_job : (e : Expression) → IsReadWithin bytes 512 e → (x : JobError) → length bytes ≤ greatest_length → IsFaultIn x (job_of e) → IsRefusal x bytes
+  fault_of_job e read TooLarge short w = absurd w
+  fault_of_job e read (Parse f) short w = absurd w
+  fault_of_job e read TooDeep short w = absurd w
+  fault_of_job e read BadForm short w = (short, record { expression = e; read = read; stated = w })
+  fault_of_job e read (UnknownName n) short w = (short, record { expression = e; read = read; stated = w })
+  fault_of_job e read (DuplicateName n) short w = (short, record { expression = e; read = read; stated = w })
+  fault_of_job e read BadType short w = (short, record { expression = e; read = read; stated = w })
+  fault_of_job e read BadWidth short w = (short, record { expression = e; read = read; stated = w })
+  fault_of_job e read (BadLiteral n) short w = (short, record { expression = e; read = read; stated = w })
+  fault_of_job e read IllTyped short w = (short, record { expression = e; read = read; stated = w })
+  fault_of_job e read NotBool short w = (short, record { expression = e; read = read; stated = w })
+  fault_of_job e read Memory short w = tt
 
-  refused_by : (fault : JobFault) → length bytes ≤ greatest_length → job_of e ≡ Err fault → HasFault bytes fault
-  refused_by fault short h = (short, inr (record { expression = e; read = read; stated = h }))
+  fault_of_text : (x : JobError) → length bytes ≤ greatest_length → IsUnreadable x bytes → IsRefusal x bytes
+  fault_of_text (Parse f) short u = (short, u)
+  fault_of_text TooDeep short u = (short, u)
+  fault_of_text Memory short u = tt
+  fault_of_text x short u = absurd u
 
-  error_refused : (x : JobError) → length bytes ≤ greatest_length → IsFaultIn x (job_of e) → IfSome (fault_in x) (HasFault bytes)
-  error_refused TooLarge short w = tt
-  error_refused BadForm short w = refused_by _ short w
-  error_refused (UnknownName n) short w = refused_by _ short w
-  error_refused (DuplicateName n) short w = refused_by _ short w
-  error_refused BadType short w = refused_by _ short w
-  error_refused BadWidth short w = refused_by _ short w
-  error_refused (BadLiteral n) short w = refused_by _ short w
-  error_refused IllTyped short w = refused_by _ short w
-  error_refused NotBool short w = refused_by _ short w
-  error_refused Memory short w = tt
+  pub first_refused : (fault first : JobError) → length bytes ≤ greatest_length → IsWalked (Err fault) → IsFirstFault bytes fault first → IsRefusal first bytes
+  first_refused fault first short w (inl r) = subst (λ (x : JobError). IsRefusal x bytes) (sym r.2) (fault_of_job r.0 r.1 fault short (w r.0 r.1))
+  first_refused fault first short w (inr u) = fault_of_text first short u
 
-  -- the fault of an error is that of the job
-  pub job_refused : (r : Result Declared JobError) → length bytes ≤ greatest_length → IsWalked r → IfErr r (λ x. IfSome (fault_in x) (HasFault bytes))
-  job_refused (Ok declared) short w = tt
-  job_refused (Err x) short w = error_refused x short w
+-- a refusal for its length is of bytes that are too many
+pub too_large : (bytes : List ℕ) (x : JobError) → IsRefusal x bytes → x ≡ TooLarge → IsTooLong bytes
+too_large bytes x r h = subst (λ (y : JobError). IsRefusal y bytes) h r
+
+-- ---- the first of two faults
+
+pub text_fault : (bytes : List ℕ) (fault : SExprParseError) → (fault ≡ TextTooDeep → ⊥) → (fault ≡ NoMemory → ⊥) → IsRefused fault 512 bytes → IsTextFault fault bytes
+text_fault bytes UnexpectedEnd d m r = r
+text_fault bytes Utf8Error d m r = r
+text_fault bytes (StringParseError raw) d m r = r
+text_fault bytes (ParseIntError e) d m r = r
+text_fault bytes UnclosedSExpr d m r = r
+text_fault bytes TrailingTokens d m r = r
+text_fault bytes IntegerOverflow d m r = r
+text_fault bytes ZeroWidthBitVec d m r = r
+text_fault bytes TextTooDeep d m r = absurd (d refl)
+text_fault bytes NoMemory d m r = absurd (m refl)

@@ -29,7 +29,7 @@ use Rattle.smt_jobs.specs.declared.declaration.Declared.{Declared}
 use Rattle.smt_jobs.specs.declared.declaration.Functions.{Functions}
 use Rattle.smt_jobs.specs.declared.declaration.Variables.{Variables}
 use Rattle.smt_jobs.specs.declared.error.JobError.{JobError}
-use Rattle.smt_jobs.specs.declared.error.JobError.TheVariants.{TooLarge, BadForm, UnknownName, DuplicateName, BadType, BadWidth, BadLiteral, IllTyped, NotBool, Memory}
+use Rattle.smt_jobs.specs.declared.error.JobError.TheVariants.{TooLarge, Parse, TooDeep, BadForm, UnknownName, DuplicateName, BadType, BadWidth, BadLiteral, IllTyped, NotBool, Memory}
 use Rattle.smt_jobs.specs.declared.form.Form.{Form}
 use Rattle.smt_jobs.specs.declared.form.Form.TheVariants.{Whole, Operator, OperatorBehind, Present, Elements, Fields}
 use Rattle.smt_jobs.specs.declared.job.Job.{Job}
@@ -78,13 +78,15 @@ pub record HasDeclared (d : Declared) (ds : Stated) : Type 0 where
 
 -- what the program's lists say of what is declared
 abbrev pub declared_in : Declared → Stated
-declared_in d = record { variables = declarations d.variables.vars; functions = functions d.functions.funs }
+declared_in d = record { enums = enums_of d.enums; variables = declarations d.variables.vars; functions = functions d.functions.funs }
 
 -- ---- what reading gives
 
--- An error is the fault that is stated; `Memory` is free.
+-- An error is the fault that is stated, of an expression that is not too long; `Memory` is free.
 abbrev pub IsFaultIn : {B : Type 0} → JobError → Outcome B → Type 0
 IsFaultIn TooLarge stated = ⊥
+IsFaultIn (Parse fault) stated = ⊥
+IsFaultIn TooDeep stated = ⊥
 IsFaultIn BadForm stated = stated ≡ Err FormFault
 IsFaultIn (UnknownName name) stated = stated ≡ Err (UnknownFault (rc_str_bytes name))
 IsFaultIn (DuplicateName name) stated = stated ≡ Err (DuplicateFault (rc_str_bytes name))
@@ -99,9 +101,11 @@ IsFaultIn Memory stated = ⊤
 abbrev pub IsFault : JobError → JobFault → Type 0
 IsFault e fault = IsFaultIn {B = ℕ} e (Err fault)
 
--- the fault that an error names; a job that is too long and a want of memory name none
+-- the fault of a job that an error names; a job that is too long, a text that is no expression and a want of memory name none
 abbrev pub fault_in : JobError → Option JobFault
 fault_in TooLarge = None
+fault_in (Parse fault) = None
+fault_in TooDeep = None
 fault_in BadForm = Some FormFault
 fault_in (UnknownName name) = Some (UnknownFault (rc_str_bytes name))
 fault_in (DuplicateName name) = Some (DuplicateFault (rc_str_bytes name))

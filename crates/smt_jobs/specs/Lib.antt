@@ -1,4 +1,6 @@
+pub mod EnumView
 pub mod JobView
 pub mod Numbered
 pub mod Numbers
+pub mod Refused
 pub mod Walk

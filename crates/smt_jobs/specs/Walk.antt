@@ -1,13 +1,40 @@
--- What the walk over the bytes of a job gives, part by part.
-use Rattle.std.specs.Prelude.{ℕ, ◌≡◌, map, List, [], ◌++◌, Ok, Err, Result}
+-- What the walk over the bytes of a job reads and gives, part by part.
+use Rattle.std.specs.Prelude.{ℕ, ◌≡◌, ◌≤◌, map, List, [], ◌∷◌, ◌++◌, Ok, Err, Result}
+use Rattle.std.specs.List.{flat_map}
 use Rattle.smt_folding.specs.Built.{built}
 use Rattle.smt_meaning.specs.Plain.{PlainTerm}
-use Rattle.smt_lexicon.specs.Reading.{Expression, Expressions, Nil, Cons}
+use Rattle.smt_lexicon.specs.Lexicon.{Token, End}
+use Rattle.smt_lexicon.specs.Reading.{Expression, Expressions, Nil, Cons, brackets, deepest, expressions, inside, nesting}
+use Rattle.smt_lexicon.specs.Tokens.{HasTokens, Spans}
 use Rattle.smt_job_grammar.specs.Declarations.{Declared}
 use Rattle.smt_job_grammar.specs.Jobs.{IsJob, PlainJob}
 use Rattle.smt_job_grammar.specs.Outcomes.{Outcome, FormFault}
 use Rattle.smt_jobs.specs.JobView.{IsFaultIn}
 use Rattle.smt_jobs.specs.declared.error.JobError.{JobError}
+
+-- ---- what stands at the front of a text
+
+-- The text is this expression, within the depth, and then these tokens.
+pub record Begins (depth : ℕ) (e : Expression) (bytes : List ℕ) (more : List Token) : Type 0 where
+  pub has : HasTokens bytes (brackets e ++ more)
+  pub shallow : nesting e ≤ depth
+
+-- The text is these expressions, within the depth, the bracket that closes, and then these tokens.
+pub record BeginsInside (depth : ℕ) (es : Expressions) (bytes : List ℕ) (more : List Token) : Type 0 where
+  pub has : HasTokens bytes (inside es ++ (End ∷ more))
+  pub shallow : deepest es ≤ depth
+
+-- The bytes before the rest are some expressions within the depth.
+pub record ReadsSome (bytes : List ℕ) (depth : ℕ) (rest : List ℕ) : Type 0 where
+  pub read : List Expression
+  pub span : Spans bytes (flat_map brackets read) rest
+  pub shallow : deepest (expressions read) ≤ depth
+
+-- The bytes before the rest are some expressions within the depth, and a bracket that closes.
+abbrev pub ReadsInside : List ℕ → ℕ → List ℕ → Type 0
+ReadsInside bytes depth rest = (closing : List ℕ) × ReadsSome bytes depth closing × Spans closing (End ∷ []) rest
+
+-- ---- what is stated
 
 -- What was found is as P says of what is stated, and an error is the fault that is stated.
 abbrev pub Gives : {A B : Type 0} → (A → B → Type 0) → Result A JobError → Outcome B → Type 0
@@ -19,9 +46,9 @@ abbrev pub first_and_others : Expressions → Outcome (Expression × Expressions
 first_and_others Nil = Err FormFault
 first_and_others (Cons e es) = Ok (e, es)
 
--- The job has these declarations and no enum types, and its terms as they are built were taken, behind those that were there.
+-- The job has these declarations, and its terms as they are built were taken, behind those that were there.
 pub record Takes (declared : Declared) (old new : List PlainTerm) (job : PlainJob) : Type 0 where
-  pub no_enums : job.enums ≡ []
+  pub enums : declared.enums ≡ job.enums
   pub variables : declared.variables ≡ job.variables
   pub functions : declared.functions ≡ job.functions
   pub takes : new ≡ old ++ map built job.terms

@@ -14,7 +14,7 @@ use crate::expression::{pair_in, text_in, triple_in};
 use crate::lists::{UufList, VarList};
 use crate::types::type_from;
 use smt_sexpr::SExpr;
-use smt_term::{TermType, TermVar, Text, Uuf};
+use smt_term::{EnumTable, TermType, TermVar, Text, Uuf};
 use std::alloc::Global;
 use std::collections::BTreeMap;
 use std::rc::Rc;
@@ -191,9 +191,10 @@ pub(crate) fn functions_from(alloc: Global, items: &[SExpr]) -> Result<Functions
     Ok(functions)
 }
 
-/// What the terms of a job may name.
+/// The enum types of a job, and the variables and functions that its terms may name.
 #[derive(Drop)]
 pub(crate) struct Declared {
+    pub(crate) enums: EnumTable,
     pub(crate) variables: Variables,
     pub(crate) functions: Functions,
 }

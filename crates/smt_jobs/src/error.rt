@@ -8,21 +8,27 @@ use smt_term::{TermError, Text};
 use std::alloc::{AllocError, AllocFailed};
 use thiserror::Error;
 
-/// Why the bytes are no job. Of several faults it is the first: that of the length, then that of the whole form as an
-/// expression, and then the first from the left. Within a term its form comes first, then its own names, types and literals,
-/// then its parts in order, then whether it takes them.
+/// Why the bytes are no job. Of several faults it is the first: that of the length, then that of the text as one expression,
+/// and then the first from the left. Within a term its form comes first, then its own names, types and literals, then its parts
+/// in order, then whether it takes them.
 #[derive(Debug, PartialEq, Eq, Drop, Error)]
 pub enum JobError {
     /// There are more than 16777216 bytes.
     #[error("the job is longer than 16777216 bytes")]
     TooLarge,
-    /// The bytes are no expression of printable ASCII, or a section, a declaration or a term has no form.
-    #[error("the job has not the form (job (enums) (vars ..) (funs ..) (terms ..))")]
+    /// The bytes are no expression: the first fault of a token, or else of a bracket. It is none of `TooDeep` and `Memory`.
+    #[error("{0}")]
+    Parse(SExprParseError),
+    /// More than 512 brackets are open at a place.
+    #[error("more than 512 brackets are open")]
+    TooDeep,
+    /// A section, a declaration or a term has no form.
+    #[error("the job has not the form (job (enums ..) (vars ..) (funs ..) (terms ..))")]
     BadForm,
     /// No variable, function or form of terms has this name.
     #[error("unknown name {0}")]
     UnknownName(Text),
-    /// A variable, a function or an attribute has a name that was given before.
+    /// An enum type, a variable, a function or an attribute has a name that was given before.
     #[error("duplicate name {0}")]
     DuplicateName(Text),
     /// A type has no form.
@@ -113,9 +119,12 @@ impl From<TermError> for JobError {
 impl From<SExprParseError> for JobError {
     ghost use Rattle.std.specs.Prelude.{◌≡◌};
     ghost use Rattle.smt_sexpr.specs.declared.error.SExprParseError.TheVariants.{Memory as NoMemory};
+    ghost use Rattle.smt_job_grammar.specs.Outcomes.{FormFault};
+    ghost use Rattle.smt_jobs.specs.JobView.{IsFault};
     ghost use Rattle.smt_jobs.specs.declared.error.JobError.TheVariants.{Memory};
 
-    ghost from_gives = { λ cause error. cause ≡ NoMemory → error ≡ Memory };
+    // Where the text is no expression, `first_fault` answers why; until then it has no form.
+    ghost from_gives = { λ cause error. (cause ≡ NoMemory → error ≡ Memory) × IsFault error FormFault };
 
     fn from(cause: SExprParseError) -> JobError {
         match cause {

@@ -14,6 +14,7 @@ ghost use Rattle.smt_jobs.specs.JobView.{HasDeclared, IsFault, IsReadAs, plain_f
 use crate::declaration::Declared;
 use crate::error::{JobError, bad_literal, duplicate, unknown};
 use crate::expression::{both, first_in, number_in, pair_in, sole, sole_text, text_in, width_in};
+use crate::extension::{datetime_in, decimal_in, duration_in, range_in};
 use crate::operator::operator_named;
 use crate::pattern::pattern_from;
 use crate::types::type_from;
@@ -153,6 +154,50 @@ fn entity_form(operands: &[SExpr]) -> Result<Form, JobError>
         ety: EntityType(ty.clone()?),
         id: EntityID(id.clone()?),
     })))
+}
+
+/// The decimal of the text that is stated.
+fn decimal_form(alloc: Global, operands: &[SExpr]) -> Result<Form, JobError>
+    ensures { IsReadAs plain_form result (stated.literal_form stated.decimal_literal (view.plain_list operands.now)) }
+{
+    let text = sole_text(operands).ok_or(JobError::BadForm)?;
+    match decimal_in(alloc, text.as_str())? {
+        Some(value) => Ok(Form::Whole(Term::from(value))),
+        None => Err(bad_literal(text)),
+    }
+}
+
+/// The IP range of the text that is stated.
+fn range_form(alloc: Global, operands: &[SExpr]) -> Result<Form, JobError>
+    ensures { IsReadAs plain_form result (stated.literal_form stated.range_literal (view.plain_list operands.now)) }
+{
+    let text = sole_text(operands).ok_or(JobError::BadForm)?;
+    match range_in(alloc, text.as_str())? {
+        Some(value) => Ok(Form::Whole(Term::from(value))),
+        None => Err(bad_literal(text)),
+    }
+}
+
+/// The datetime of the text that is stated.
+fn datetime_form(alloc: Global, operands: &[SExpr]) -> Result<Form, JobError>
+    ensures { IsReadAs plain_form result (stated.literal_form stated.datetime_literal (view.plain_list operands.now)) }
+{
+    let text = sole_text(operands).ok_or(JobError::BadForm)?;
+    match datetime_in(alloc, text.as_str())? {
+        Some(value) => Ok(Form::Whole(Term::from(value))),
+        None => Err(bad_literal(text)),
+    }
+}
+
+/// The duration of the text that is stated.
+fn duration_form(alloc: Global, operands: &[SExpr]) -> Result<Form, JobError>
+    ensures { IsReadAs plain_form result (stated.literal_form stated.duration_literal (view.plain_list operands.now)) }
+{
+    let text = sole_text(operands).ok_or(JobError::BadForm)?;
+    match duration_in(alloc, text.as_str())? {
+        Some(value) => Ok(Form::Whole(Term::from(value))),
+        None => Err(bad_literal(text)),
+    }
 }
 
 /// The absent option of the type that is stated.
@@ -300,6 +345,10 @@ pub(crate) fn form_from(
         "bv" => bits_form(alloc, operands),
         "long" => long_form(operands),
         "entity" => entity_form(operands),
+        "decimal" => decimal_form(alloc, operands),
+        "ip" => range_form(alloc, operands),
+        "datetime" => datetime_form(alloc, operands),
+        "duration" => duration_form(alloc, operands),
         "none" => none_form(alloc, operands),
         "some" => some_form(operands),
         "set" => set_form(alloc, operands),

@@ -1,9 +1,10 @@
 // Jobs: declarations and terms in one S-expression.
-ghost use Rattle.std.specs.Prelude.{◌≡◌, ◌↔◌, IfErr, IfOk, IfSome, IsErrOf, map};
+ghost use Rattle.std.specs.Prelude.{◌≡◌, ◌↔◌, IfErr, IfOk, IsErrOf, map};
 ghost use Rattle.smt_term.specs.View.{plain_term};
-ghost use Rattle.smt_job_grammar.specs.Jobs.{HasFault, IsBuiltFrom, IsTooLong};
-ghost use Rattle.smt_jobs.specs.JobView.{fault_in, plain_job};
+ghost use Rattle.smt_job_grammar.specs.Jobs.{IsBuiltFrom, IsTooLong};
+ghost use Rattle.smt_jobs.specs.JobView.{plain_job};
 ghost use Rattle.smt_jobs.specs.Numbered.{numbered_job};
+ghost use Rattle.smt_jobs.specs.Refused.{IsRefusal};
 
 use crate::declaration::Declared;
 use crate::error::JobError;
@@ -23,7 +24,7 @@ pub(crate) const GREATEST_NESTING: usize = 512;
 /// A job: its enum types, its variables, its functions and its terms.
 #[derive(Debug, Drop)]
 pub struct Job {
-    /// The enum types that the terms may name. A job that was read has none.
+    /// The enum types that the terms may name, in the order of their names.
     pub enums: EnumTable,
     /// The declared variables, in order.
     pub vars: VarList,
@@ -54,21 +55,22 @@ impl TermSink for TermVec {
 /// # Errors
 ///
 /// `TooLarge` comes exactly where there are more than 16777216 bytes. Each other refusal but `Memory` is the first fault of bytes
-/// that are no job, as [`JobError`] orders them. `Memory` comes where there is no memory for the job.
+/// that are no job, as [`JobError`] orders them: `Parse` and `TooDeep` that of bytes that are no expression. `Memory` comes where there is no memory for the job.
 pub fn read_job(alloc: Global, bytes: &[u8]) -> Result<Job, JobError>
     ensures job { IfOk result (λ job. IsBuiltFrom bytes.now (plain_job job)) }
     ensures too_large { IsErrOf result JobError.TooLarge ↔ IsTooLong bytes.now }
-    ensures refused { IfErr result (λ error. IfSome (fault_in error) (HasFault bytes.now)) }
+    ensures refused { IfErr result (λ error. IsRefusal error bytes.now) }
 {
     let mut terms = TermVec {
         items: Vec::new(alloc),
     };
     let Declared {
+        enums,
         variables,
         functions,
     } = walk_job(alloc, bytes, &mut terms)?;
     Ok(Job {
-        enums: EnumTable::new(alloc),
+        enums,
         vars: variables.vars,
         funs: functions.funs,
         terms: TermList::new(alloc, terms.items.as_slice())?,
@@ -83,18 +85,19 @@ pub fn read_job(alloc: Global, bytes: &[u8]) -> Result<Job, JobError>
 pub fn read_numbered(alloc: Global, bytes: &[u8]) -> Result<NumberedJob, JobError>
     ensures job { IfOk result (λ job. IsBuiltFrom bytes.now (numbered_job job)) }
     ensures too_large { IsErrOf result JobError.TooLarge ↔ IsTooLong bytes.now }
-    ensures refused { IfErr result (λ error. IfSome (fault_in error) (HasFault bytes.now)) }
+    ensures refused { IfErr result (λ error. IsRefusal error bytes.now) }
 {
     let mut terms = NumberedTerms {
         nodes: Interner::new(alloc),
         ids: Vec::new(alloc),
     };
     let Declared {
+        enums,
         variables,
         functions,
     } = walk_job(alloc, bytes, &mut terms)?;
     Ok(NumberedJob {
-        enums: EnumTable::new(alloc),
+        enums,
         vars: variables.vars,
         funs: functions.funs,
         terms,

@@ -1,13 +1,15 @@
 //! Jobs: declarations and terms as a text, read and built.
 //!
-//! A job is one expression, `(job (enums) (vars ..) (funs ..) (terms ..))`. What a text has to be for that, what is built of it,
-//! and what the first fault of another text is, stands in `smt_job_grammar`. The walk over a job builds one term after the other
-//! and hands it on, so no expression is kept: `read_job` keeps the terms, and `read_numbered` their numbers.
+//! A job is one expression, `(job (enums ..) (vars ..) (funs ..) (terms ..))`. What a text has to be for that, what is built of
+//! it, and what the first fault of another text is, stands in `smt_job_grammar`. The walk over a job builds one term after the
+//! other and hands it on, so no expression is kept: `read_job` keeps the terms, and `read_numbered` their numbers.
 #![tactic(auto, using(smt_term::specs::View::views, smt_sexpr::specs::View::views))]
 
 mod declaration;
+mod enums;
 mod error;
 mod expression;
+mod extension;
 mod form;
 mod job;
 mod lists;

@@ -20,7 +20,7 @@ pub struct NumberedTerms {
 /// A job: its enum types, its variables, its functions and its terms, by their numbers.
 #[derive(Drop)]
 pub struct NumberedJob {
-    /// The enum types that the terms may name. A job that was read has none.
+    /// The enum types that the terms may name, in the order of their names.
     pub enums: EnumTable,
     /// The declared variables, in order.
     pub vars: VarList,

@@ -1,9 +1,6 @@
-pub mod Atoms
-pub mod Items
-pub mod PlainText
 pub mod Quotes
-pub mod Readings
 pub mod Runs
+pub mod Spans
 pub mod Strings
 pub mod Trees
 pub mod Unique

@@ -1,12 +1,13 @@
--- White space, plain texts and their parts, and what their lengths tell.
-use Rattle.std.proofs.Common.{inl, inr, ◌≡◌, ℕ, ◌<◌, ◌≤◌, true, false, eqb, List, [], ◌∷◌, ◌++◌, refl, sym, ap, ◌∙◌, drop, length, arith, length-append}
-use Rattle.std.specs.List.{list_all, prefix_len, take_while}
+-- White space and digits at the front of a text, and what lengths tell.
+use Rattle.std.proofs.Common.{inl, inr, ◌≡◌, ℕ, ◌<◌, ◌≤◌, true, false, not, eqb, List, [], ◌∷◌, refl, sym, ap, ◌∙◌, drop, length, arith}
+use Rattle.std.specs.List.{prefix_len, take_while}
 use Rattle.std.proofs.Math.Numerals.{one-add}
-use Rattle.std.proofs.lemmas.Bool.{and_parts, cases_Bool, eqb-true, true≢false}
-use Rattle.std.proofs.lemmas.List.Folds.{length-prefix_len, list_all-append}
-use Rattle.smt_lexicon.specs.Lexicon.{is_space}
-use Rattle.smt_lexicon.specs.Front.{skip_space}
-use Rattle.smt_lexicon.specs.PlainTexts.{is_plain_text_byte, IsPlainText}
+use Rattle.std.proofs.lemmas.Bool.{cases_Bool, eqb-true, false≢true, true≢false}
+use Rattle.std.proofs.lemmas.List.Folds.{length-prefix_len}
+use Rattle.smt_characters.specs.Front.{IsRun}
+use Rattle.smt_characters.proofs.Runs.{head_is}
+use Rattle.smt_lexicon.specs.Lexicon.{is_digit, is_space}
+use Rattle.smt_lexicon.specs.Front.{begins_number, skip_space}
 
 pub skip_space_is : (bytes : List ℕ) → skip_space bytes ≡ drop (length (take_while is_space bytes)) bytes
 skip_space_is bytes = by_prefix bytes ∙ ap (λ n. drop n bytes) (sym (length-prefix_len is_space bytes))
@@ -18,24 +19,6 @@ skip_space_is bytes = by_prefix bytes ∙ ap (λ n. drop n bytes) (sym (length-p
       | inr h ↦ rw h refl
     ]
 
--- ---- what a plain text is made of is plain
-
-pub plain_parts : (front back : List ℕ) → IsPlainText (front ++ back) → IsPlainText front × IsPlainText back
-plain_parts front back h = and_parts (list_all is_plain_text_byte front) (list_all is_plain_text_byte back) (sym (list_all-append is_plain_text_byte front back) ∙ h)
-
-pub plain_back : (bytes front back : List ℕ) → bytes ≡ front ++ back → IsPlainText bytes → IsPlainText back
-plain_back bytes front back e h = (plain_parts front back (rw (← e) h)).1
-
-pub plain_front : (bytes front back : List ℕ) → bytes ≡ front ++ back → IsPlainText bytes → IsPlainText front
-plain_front bytes front back e h = (plain_parts front back (rw (← e) h)).0
-
-pub plain_skip : (bytes : List ℕ) → IsPlainText bytes → IsPlainText (skip_space bytes)
-plain_skip [] h = h
-plain_skip (b ∷ bs) h = elim (cases_Bool (is_space b)) [
-  | inl s ↦ rw s (plain_skip bs (and_parts (is_plain_text_byte b) (list_all is_plain_text_byte bs) h).1)
-  | inr s ↦ rw s h
-]
-
 pub length-skip_space : (bytes : List ℕ) → length (skip_space bytes) ≤ length bytes
 length-skip_space [] = omega arith
 length-skip_space (b ∷ bs) = elim (cases_Bool (is_space b)) [
@@ -43,8 +26,12 @@ length-skip_space (b ∷ bs) = elim (cases_Bool (is_space b)) [
   | inr s ↦ rw s (omega arith)
 ]
 
-pub shorter_back : (bytes front back : List ℕ) → bytes ≡ front ++ back → 0 < length front → length back < length bytes
-shorter_back bytes front back e h = omega (arith, length-append front back, ap length e)
+-- a numeral has a digit
+pub digits_some : (src digits rest : List ℕ) → IsRun is_digit src digits rest → begins_number src ≡ true → 0 < length digits
+digits_some [] digits rest r h = absurd (false≢true h)
+digits_some (b ∷ bs) [] [] r h = absurd (let e = r.whole in cc)
+digits_some (b ∷ bs) [] (c ∷ cs) r h = absurd (false≢true (sym (ap not (ap is_digit (sym (head_is b c bs cs r.whole).0) ∙ h)) ∙ r.longest))
+digits_some (b ∷ bs) (d ∷ ds) rest r h = omega arith
 
 -- ---- what `is_empty` tells
 

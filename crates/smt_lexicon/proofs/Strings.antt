@@ -1,16 +1,14 @@
 -- The text of a string, read run by run up to its closing quote.
 use Rattle.std.proofs.Common.{ap₂, inl, inr, ◌≡◌, ℕ, Bool, true, not, eqb, List, [], ◌∷◌, ◌++◌, refl, sym, ap, ◌∙◌, append_assoc}
 use Rattle.std.specs.List.{flat_map, list_all}
-use Rattle.std.proofs.lemmas.Bool.{and_parts, and_from, and_right, false≢true, cases_Bool, eq-eqb, eqb-true, not-true, not_from_false}
+use Rattle.std.proofs.lemmas.Bool.{and_parts, and_right, false≢true, cases_Bool, eq-eqb, eqb-true, not-true, not_from_false}
 use Rattle.std.proofs.lemmas.List.Folds.{list_all-append}
 use Rattle.std.proofs.lemmas.List.Concat.{flat_map-append}
 use Rattle.smt_lexicon.specs.Lexicon.{Quoted, quote_twice, stops}
 use Rattle.smt_lexicon.specs.Front.{IsQuoted}
-use Rattle.smt_lexicon.specs.PlainTexts.{is_plain_text_byte, IsPlainText}
 use Rattle.smt_characters.specs.Front.{begins_without, IsRun}
 use Rattle.smt_characters.proofs.Runs.{head_is}
 use Rattle.smt_lexicon.proofs.Unique.{not_sooner, twice_quote, twice_other}
-use Rattle.smt_lexicon.proofs.Runs.{plain_back, plain_front, plain_parts}
 
 abbrev pub is_no_quote : ℕ → Bool
 is_no_quote b = not (eqb b 34)
@@ -92,25 +90,3 @@ pub quoted_none : (src text rest run quote : List ℕ) → src ≡ flat_map quot
 quoted_none src text rest run quote e r h other end q =
     no_end (text ++ run) [] other end refl (ends_from other end q.closed)
     (ap (λ v. flat_map quote_twice (text ++ run) ++ v) (sym (run_to_end rest run quote r h)) ∙ sym (one_run_more src text rest run quote e r) ∙ q.spelled)
-
--- what is doubled in a plain text is plain
-plain_once : (text : List ℕ) → IsPlainText (flat_map quote_twice text) → IsPlainText text
-plain_once [] h = refl
-plain_once (b ∷ bs) h =
-    let p = plain_parts (quote_twice b) (flat_map quote_twice bs) h in
-    and_from (is_plain_text_byte b) (list_all is_plain_text_byte bs)
-    (elim (cases_Bool (eqb b 34)) [
-      | inl e ↦ ap is_plain_text_byte (eqb-true b 34 e)
-      | inr e ↦ (let g : IsPlainText (b ∷ []) = rw e at p.0 in (and_parts (is_plain_text_byte b) true g).0)
-    ])
-    (plain_once bs p.1)
-
-pub quoted_plain : (src text rest : List ℕ) → IsQuoted src text rest → IsPlainText src → IsPlainText text
-quoted_plain src text rest q h = plain_once text (plain_front src (flat_map quote_twice text) (34 ∷ rest) q.spelled h)
-
-pub quoted_rest : (src text rest : List ℕ) → IsQuoted src text rest → IsPlainText src → IsPlainText rest
-quoted_rest src text rest q h = plain_back src (flat_map quote_twice text ++ 34 ∷ []) rest (q.spelled ∙ sym (append_assoc (flat_map quote_twice text) (34 ∷ []) rest)) h
-
-pub plain_more : (rest run quote after more : List ℕ) → IsRun is_no_quote rest run quote → quote ≡ 34 ∷ after → after ≡ 34 ∷ more → IsPlainText rest → IsPlainText more
-plain_more rest run quote after more r q a h =
-    plain_back after (34 ∷ []) more a (plain_back quote (34 ∷ []) after q (plain_back rest run quote r.whole h))

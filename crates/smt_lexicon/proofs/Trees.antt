@@ -5,22 +5,22 @@ use Rattle.smt_lexicon.specs.Lexicon.{Token, Begin, End, Word, Atom, tokens}
 use Rattle.smt_lexicon.specs.Reading.{Expression, Leaf, Node, Expressions, Nil, Cons, brackets, inside, Reads}
 use Rattle.smt_lexicon.proofs.Unique.{one_cut}
 
-token_is : (a b : Token) (xs ys : List Token) → a ∷ xs ≡ b ∷ ys → (a ≡ b) × (xs ≡ ys)
+pub token_is : (a b : Token) (xs ys : List Token) → a ∷ xs ≡ b ∷ ys → (a ≡ b) × (xs ≡ ys)
 token_is a b xs ys e = (cc, cc)
 
 word_is : (a b : Atom) → Word a ≡ Word b → a ≡ b
 word_is a b e = cc
 
-end_begins : (f : Expression) (r s : List Token) → End ∷ r ≡ brackets f ++ s → ⊥
+pub end_begins : (f : Expression) (r s : List Token) → End ∷ r ≡ brackets f ++ s → ⊥
 end_begins (Leaf b) r s h = cc
 end_begins (Node fs) r s h = cc
 
-empty_begins : (f : Expression) (s : List Token) → [] ≡ brackets f ++ s → ⊥
+pub empty_begins : (f : Expression) (s : List Token) → [] ≡ brackets f ++ s → ⊥
 empty_begins (Leaf b) s h = cc
 empty_begins (Node fs) s h = cc
 
 mutual
-  one_expr : (e f : Expression) (r s : List Token) → brackets e ++ r ≡ brackets f ++ s → (e ≡ f) × (r ≡ s)
+  pub one_expr : (e f : Expression) (r s : List Token) → brackets e ++ r ≡ brackets f ++ s → (e ≡ f) × (r ≡ s)
   one_expr (Leaf a) (Leaf b) r s h = let t = token_is (Word a) (Word b) r s h in (ap Leaf (word_is a b t.0), t.1)
   one_expr (Leaf a) (Node fs) r s h = absurd cc
   one_expr (Node es) (Leaf b) r s h = absurd cc
@@ -29,7 +29,7 @@ mutual
       let u = one_inside es fs r s (sym (append_assoc (inside es) (End ∷ []) r) ∙ t.1 ∙ append_assoc (inside fs) (End ∷ []) s) in
       (ap Node u.0, u.1)
 
-  one_inside : (es fs : Expressions) (r s : List Token) → inside es ++ (End ∷ r) ≡ inside fs ++ (End ∷ s) → (es ≡ fs) × (r ≡ s)
+  pub one_inside : (es fs : Expressions) (r s : List Token) → inside es ++ (End ∷ r) ≡ inside fs ++ (End ∷ s) → (es ≡ fs) × (r ≡ s)
   one_inside Nil Nil r s h = (refl, (token_is End End r s h).1)
   one_inside Nil (Cons f fs) r s h = absurd (end_begins f r (inside fs ++ (End ∷ s)) (h ∙ append_assoc (brackets f) (inside fs) (End ∷ s)))
   one_inside (Cons e es) Nil r s h = absurd (end_begins e s (inside es ++ (End ∷ r)) (sym h ∙ append_assoc (brackets e) (inside es) (End ∷ r)))

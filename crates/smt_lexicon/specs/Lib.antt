@@ -1,5 +1,5 @@
 pub mod Front
 pub mod Lexicon
-pub mod PlainTexts
 pub mod Quoting
 pub mod Reading
+pub mod Tokens

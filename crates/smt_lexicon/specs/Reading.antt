@@ -1,5 +1,5 @@
 -- S-expressions: brackets and atoms.
-use Rattle.std.specs.Prelude.{◌≡◌, ℕ, List, [], ◌∷◌, ◌++◌}
+use Rattle.std.specs.Prelude.{◌≡◌, ℕ, ◌+◌, max, List, [], ◌∷◌, ◌++◌}
 use Rattle.std.specs.List.{flat_map}
 use Rattle.smt_lexicon.specs.Lexicon.{Piece, Token, Begin, End, Word, Atom, IsCutInto, tokens}
 
@@ -30,6 +30,16 @@ abbrev mutual
   pub inside : Expressions → List Token
   inside Nil = []
   inside (Cons e es) = brackets e ++ inside es
+
+-- How many brackets are open at the deepest place: none at a leaf, and one more than inside.
+abbrev mutual
+  pub nesting : Expression → ℕ
+  nesting (Leaf a) = 0
+  nesting (Node es) = deepest es + 1
+
+  pub deepest : Expressions → ℕ
+  deepest Nil = 0
+  deepest (Cons e es) = max (nesting e) (deepest es)
 
 -- The tokens of the text are these expressions.
 pub record Reads (bytes : List ℕ) (es : List Expression) : Type 0 where

@@ -14,9 +14,10 @@ use Rattle.smt_bits.specs.BitVec.{width_of, number_of}
 use Rattle.smt_bits.specs.declared.bitvec.BitVec.{BitVec}
 use Rattle.smt_lexicon.specs.Front.{IsQuoted, begins_number}
 use Rattle.smt_lexicon.specs.Lexicon.{Piece, Space, Comment, Open, Close, Quoted, Binary, Hexadecimal, Numeral, Symbol, Bits, Number, Text, Name, Begin, End, Word, some_all, is_symbol, goes_on, stops, quote_twice, is_digit, is_binary, is_hexadecimal, is_line_end, is_symbol_byte, is_space, number_in, decoded}
-use Rattle.smt_lexicon.proofs.Atoms.{digits_some}
+use Rattle.smt_lexicon.proofs.Runs.{digits_some}
 use Rattle.smt_sexpr.specs.Literals.{IsLiteral, IsLiteralFault}
-use Rattle.smt_sexpr.specs.Pieces.{StandsFirst, StandsFor, begins_atom, begins_symbol}
+use Rattle.smt_lexicon.specs.Tokens.{StandsFirst}
+use Rattle.smt_sexpr.specs.Pieces.{StandsFor, begins_atom, begins_symbol}
 use Rattle.smt_sexpr.specs.Refusals.{IsTokenFault, IsRawString}
 use Rattle.smt_sexpr.specs.declared.error.IntFault.TheVariants.{Empty, PosOverflow}
 use Rattle.smt_sexpr.specs.declared.error.SExprParseError.{SExprParseError}

@@ -1,13 +1,14 @@
 -- Texts that are cut piece by piece.
-use Rattle.std.proofs.Common.{◌≡◌, ℕ, ◌+◌, ◌<◌, length, length-append, arith, Bool, true, false, ◌&&◌, List, [], ◌∷◌, ◌++◌, refl, sym, ap, ◌∙◌, subst}
+use Rattle.std.proofs.Common.{◌≡◌, ℕ, ◌+◌, ◌<◌, ◌≤◌, length, length-append, arith, Bool, true, false, ◌&&◌, List, [], ◌∷◌, ◌++◌, refl, sym, ap, ◌∙◌, subst}
 use Rattle.std.specs.List.{list_all}
-use Rattle.std.proofs.lemmas.Bool.{and_from, false≢true}
+use Rattle.std.proofs.lemmas.Bool.{false≢true}
 use Rattle.std.proofs.lemmas.List.{append-nil}
 use Rattle.std.proofs.lemmas.List.Concat.{flat_map-append}
-use Rattle.std.proofs.lemmas.List.Folds.{list_all-append}
-use Rattle.smt_lexicon.specs.Lexicon.{Piece, Space, Comment, Open, Close, Quoted, Binary, Hexadecimal, Numeral, Symbol, spelling, is_piece, stops, spell, each_longest, Token, token, tokens}
+use Rattle.smt_lexicon.specs.Lexicon.{Piece, Space, Comment, Open, Close, Quoted, Binary, Hexadecimal, Numeral, Symbol, spelling, is_piece, Token, token, tokens}
+use Rattle.smt_lexicon.specs.Tokens.{StandsFirst, IsCut, AreHeld, is_held}
+use Rattle.smt_lexicon.proofs.Spans.{cut_join, held_join, tokens_join}
 use Rattle.smt_sexpr.specs.OpenLists.{IsScanned}
-use Rattle.smt_sexpr.specs.Pieces.{StandsFirst, StandsFor, IsCut, AreHeld, is_held}
+use Rattle.smt_sexpr.specs.Pieces.{StandsFor}
 use Rattle.smt_sexpr.specs.Refusals.{HasTokenFault, IsTokenFault}
 use Rattle.smt_sexpr.specs.declared.error.SExprParseError.{SExprParseError}
 
@@ -15,26 +16,8 @@ pub cut_more : (xs : List Piece) (x : Piece) (bytes rest after : List ℕ) → I
 cut_more [] x bytes rest after e s = (after, record { spelled = e ∙ s.spelled; is_one = s.is_one; longest = s.longest }, refl)
 cut_more (y ∷ ys) x bytes rest after c s = (c.0, c.1, cut_more ys x c.0 rest after c.2 s)
 
-pub cut_join : (xs ys : List Piece) (bytes between rest : List ℕ) → IsCut xs bytes between → IsCut ys between rest → IsCut (xs ++ ys) bytes rest
-cut_join [] ys bytes between rest e c = subst (λ v. IsCut ys v rest) (sym e) c
-cut_join (x ∷ xs) ys bytes between rest c d = (c.0, c.1, cut_join xs ys c.0 between rest c.2 d)
-
-pub cut_into : (xs : List Piece) (bytes : List ℕ) → IsCut xs bytes [] → (bytes ≡ spell xs) × (each_longest xs ≡ true)
-cut_into [] bytes e = (e, refl)
-cut_into (x ∷ xs) bytes c =
-    let r = cut_into xs c.0 c.2 in (
-      c.1.spelled ∙ ap (λ v. spelling x ++ v) r.0,
-      and_from (is_piece x) (stops x (spell xs) && each_longest xs) c.1.is_one (and_from (stops x (spell xs)) (each_longest xs) (ap (λ v. stops x v) (sym r.0) ∙ c.1.longest) r.1),
-    )
-
-pub tokens_join : (xs ys : List Piece) → tokens (xs ++ ys) ≡ tokens xs ++ tokens ys
-tokens_join xs ys = flat_map-append token xs ys
-
 pub tokens_more : (xs : List Piece) (x : Piece) (ts : List Token) → token x ≡ ts → tokens (xs ++ x ∷ []) ≡ tokens xs ++ ts
 tokens_more xs x ts e = flat_map-append token xs (x ∷ []) ∙ ap (λ v. tokens xs ++ v) (append-nil (token x) ∙ e)
-
-pub held_join : (ts us : List Token) → AreHeld ts → AreHeld us → AreHeld (ts ++ us)
-held_join ts us h k = list_all-append is_held ts us ∙ and_from (list_all is_held ts) (list_all is_held us) h k
 
 pub held_more : (xs : List Piece) (x : Piece) (ts : List Token) → token x ≡ ts → AreHeld (tokens xs) → AreHeld ts → AreHeld (tokens (xs ++ x ∷ []))
 held_more xs x ts e h k = ap (list_all is_held) (tokens_more xs x ts e) ∙ held_join (tokens xs) ts h k
@@ -95,3 +78,11 @@ shorter ts bytes rest s = by_piece s.piece s.first.is_one (ap length s.first.spe
     by_piece (Numeral (d ∷ ds)) h e = omega arith
     by_piece (Symbol []) h e = absurd (false≢true h)
     by_piece (Symbol (d ∷ ds)) h e = omega arith
+
+-- pieces leave no more than there was
+pub no_longer : (xs : List Piece) (bytes rest : List ℕ) → IsCut xs bytes rest → length rest ≤ length bytes
+no_longer [] bytes rest e = omega (arith, ap length e)
+no_longer (x ∷ xs) bytes rest c =
+    let n = no_longer xs c.0 rest c.2 in
+    let l = ap length c.1.spelled ∙ length-append (spelling x) c.0 in
+    omega arith

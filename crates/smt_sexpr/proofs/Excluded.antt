@@ -1,5 +1,5 @@
 -- What is refused is no expression within the limits.
-use Rattle.std.proofs.Common.{inl, inr, ◌⊎◌, ap₂, ◌≡◌, ℕ, ◌*◌, ◌^◌, ◌<◌, ◌≤◌, Bool, true, false, not, ◌&&◌, ◌||◌, eqb, List, [], ◌∷◌, ◌++◌, refl, sym, ap, ◌∙◌, subst, append_assoc, arith, length, length-append}
+use Rattle.std.proofs.Common.{inl, inr, ◌⊎◌, ◌≡◌, ℕ, ◌*◌, ◌^◌, ◌<◌, ◌≤◌, Bool, true, false, not, ◌||◌, eqb, List, [], ◌∷◌, ◌++◌, refl, sym, ap, ◌∙◌, subst, append_assoc, arith, length, length-append}
 use Rattle.std.specs.Prelude.{nat_le, nat_lt}
 use Rattle.std.specs.List.{flat_map, list_all}
 use Rattle.std.specs.Str.{is_utf8}
@@ -8,35 +8,24 @@ use Rattle.std.proofs.Math.Utf8.{scalars}
 use Rattle.std.proofs.lemmas.Bool.{and_parts, cases_Bool, false≢true, leb-true, not-true, cond-true, cond-false}
 use Rattle.std.proofs.lemmas.Bool.Decides.{nat_tests}
 use Rattle.std.proofs.lemmas.List.{append-nil}
-use Rattle.std.proofs.lemmas.List.Folds.{list_all-append}
 use Rattle.smt_characters.specs.Front.{begins_without}
 use Rattle.smt_characters.proofs.Runs.{head_is, one_run}
 use Rattle.smt_lexicon.specs.Front.{IsQuoted}
-use Rattle.smt_lexicon.specs.Lexicon.{Piece, Space, Comment, Open, Close, Quoted, Binary, Hexadecimal, Numeral, Symbol, Atom, Bits, Number, Text, Name, Token, Begin, End, Word, token, tokens, spelling, spell, some_all, is_symbol, is_piece, goes_on, stops, each_longest, quote_twice, is_digit, is_binary, is_hexadecimal, is_symbol_byte, number_in, decoded}
-use Rattle.smt_lexicon.specs.PlainTexts.{nesting, deepest}
-use Rattle.smt_lexicon.specs.Reading.{Expression, Leaf, Node, Expressions, Nil, Cons, brackets, inside, Reads}
+use Rattle.smt_lexicon.specs.Lexicon.{Piece, Space, Comment, Open, Close, Quoted, Binary, Hexadecimal, Numeral, Symbol, Bits, Number, Text, Name, Token, Begin, End, Word, token, tokens, spelling, some_all, is_symbol, is_piece, goes_on, stops, quote_twice, is_digit, is_binary, is_hexadecimal, is_symbol_byte, number_in, decoded}
+use Rattle.smt_lexicon.specs.Reading.{Expression, Leaf, Node, Expressions, Nil, Cons, brackets, deepest, inside, nesting, Reads}
+use Rattle.smt_lexicon.specs.Tokens.{StandsFirst, IsCut, AreHeld, is_held, IsReadWithin}
+use Rattle.smt_lexicon.proofs.Spans.{cut_into, held_parts, into_cut}
+use Rattle.smt_lexicon.proofs.Trees.{end_begins, one_expr, token_is}
 use Rattle.smt_lexicon.proofs.Unique.{begins, first_one, kind, kind_is, number, one_cut, second}
-use Rattle.smt_sexpr.specs.Pieces.{StandsFirst, IsCut, AreHeld, is_held, IsReadWithin}
 use Rattle.smt_sexpr.specs.Refusals.{IsBracketFault, IsRefused, IsTokenFault, number_of_token, open_list, open_lists}
 use Rattle.smt_sexpr.specs.declared.error.IntFault.TheVariants.{Empty, PosOverflow}
 use Rattle.smt_sexpr.specs.declared.error.SExprParseError.{SExprParseError}
 use Rattle.smt_sexpr.specs.declared.error.SExprParseError.TheVariants.{UnexpectedEnd, Utf8Error, StringParseError, ParseIntError, UnclosedSExpr, TrailingTokens, IntegerOverflow, ZeroWidthBitVec, TooDeep, Memory}
-use Rattle.smt_sexpr.proofs.Cuts.{cut_into}
 use Rattle.smt_sexpr.proofs.Digits.{below, binary_digits, hexadecimal_digits, literal_below}
 
 -- ---- the pieces behind those that stand before a fault
 
-into_cut : (xs : List Piece) (bytes : List ℕ) → each_longest xs ≡ true → bytes ≡ spell xs → IsCut xs bytes []
-into_cut [] bytes h e = e
-into_cut (x ∷ xs) bytes h e =
-    let p = and_parts (is_piece x) (stops x (spell xs) && each_longest xs) h in
-    let q = and_parts (stops x (spell xs)) (each_longest xs) p.1 in
-    (spell xs, record { spelled = e; is_one = p.0; longest = q.0 }, into_cut xs (spell xs) q.1 refl)
-
-held_parts : (ts us : List Token) → AreHeld (ts ++ us) → AreHeld ts × AreHeld us
-held_parts ts us h = and_parts (list_all is_held ts) (list_all is_held us) (sym (list_all-append is_held ts us) ∙ h)
-
-behind : (xs ys : List Piece) (bytes rest : List ℕ) → IsCut xs bytes rest → IsCut ys bytes [] → AreHeld (tokens ys) → (zs : List Piece) × IsCut zs rest [] × AreHeld (tokens zs)
+pub behind : (xs ys : List Piece) (bytes rest : List ℕ) → IsCut xs bytes rest → IsCut ys bytes [] → AreHeld (tokens ys) → (zs : List Piece) × IsCut zs rest [] × AreHeld (tokens zs)
 behind [] ys bytes rest e c h = (ys, subst (λ v. IsCut ys v []) e c, h)
 behind (x ∷ xs) [] bytes rest c e h = absurd (begins x c.0 c.1.is_one (sym e ∙ c.1.spelled))
 behind (x ∷ xs) (y ∷ ys) bytes rest c d h =
@@ -180,7 +169,7 @@ not_nothing : (name r rest : List ℕ) → is_symbol name ≡ true → rest ≡ 
 not_nothing [] r rest h e f = false≢true h
 not_nothing (c ∷ cs) r rest h e f = nothing c (cs ++ r) (sym f ∙ e)
 
-token_excluded : (fault : SExprParseError) (rest : List ℕ) (zs : List Piece) → IsCut zs rest [] → AreHeld (tokens zs) → IsTokenFault fault rest → fault ≡ Memory
+pub token_excluded : (fault : SExprParseError) (rest : List ℕ) (zs : List Piece) → IsCut zs rest [] → AreHeld (tokens zs) → IsTokenFault fault rest → fault ≡ Memory
 token_excluded UnexpectedEnd rest zs c k (inl f) = absurd (let p = some_piece zs rest c (not_empty 35 f.0 rest f.1) in no_base f.0 p.0 p.1 f.2 p.2.is_one (sym f.1 ∙ p.2.spelled))
 token_excluded UnexpectedEnd rest zs c k (inr f) = absurd (let p = some_piece zs rest c (not_empty 34 f.0 rest f.1) in no_end f.0 f.2 p.0 p.1 p.2.is_one p.2.longest (sym f.1 ∙ p.2.spelled))
 token_excluded Utf8Error rest zs c k f =
@@ -205,37 +194,6 @@ token_excluded ZeroWidthBitVec rest zs c k f = absurd f
 token_excluded TooDeep rest zs c k f = absurd f
 token_excluded Memory rest zs c k f = refl
 
--- ---- no expression begins another
-
-token_is : (a b : Token) (xs ys : List Token) → a ∷ xs ≡ b ∷ ys → (a ≡ b) × (xs ≡ ys)
-token_is a b xs ys e = (cc, cc)
-
-word_is : (a b : Atom) → Word a ≡ Word b → a ≡ b
-word_is a b e = cc
-
-end_begins : (f : Expression) (r s : List Token) → End ∷ r ≡ brackets f ++ s → ⊥
-end_begins (Leaf b) r s h = cc
-end_begins (Node fs) r s h = cc
-
-mutual
-  one_expr : (e f : Expression) (r s : List Token) → brackets e ++ r ≡ brackets f ++ s → (e ≡ f) × (r ≡ s)
-  one_expr (Leaf a) (Leaf b) r s h = let t = token_is (Word a) (Word b) r s h in (ap Leaf (word_is a b t.0), t.1)
-  one_expr (Leaf a) (Node fs) r s h = absurd cc
-  one_expr (Node es) (Leaf b) r s h = absurd cc
-  one_expr (Node es) (Node fs) r s h =
-      let t = token_is Begin Begin ((inside es ++ End ∷ []) ++ r) ((inside fs ++ End ∷ []) ++ s) h in
-      let u = one_inside es fs r s (sym (append_assoc (inside es) (End ∷ []) r) ∙ t.1 ∙ append_assoc (inside fs) (End ∷ []) s) in
-      (ap Node u.0, u.1)
-
-  one_inside : (es fs : Expressions) (r s : List Token) → inside es ++ (End ∷ r) ≡ inside fs ++ (End ∷ s) → (es ≡ fs) × (r ≡ s)
-  one_inside Nil Nil r s h = (refl, (token_is End End r s h).1)
-  one_inside Nil (Cons f fs) r s h = absurd (end_begins f r (inside fs ++ (End ∷ s)) (h ∙ append_assoc (brackets f) (inside fs) (End ∷ s)))
-  one_inside (Cons e es) Nil r s h = absurd (end_begins e s (inside es ++ (End ∷ r)) (sym h ∙ append_assoc (brackets e) (inside es) (End ∷ r)))
-  one_inside (Cons e es) (Cons f fs) r s h =
-      let t = one_expr e f (inside es ++ (End ∷ r)) (inside fs ++ (End ∷ s)) (sym (append_assoc (brackets e) (inside es) (End ∷ r)) ∙ h ∙ append_assoc (brackets f) (inside fs) (End ∷ s)) in
-      let u = one_inside es fs r s t.1 in
-      (ap₂ Cons t.0 u.0, u.1)
-
 -- open lists at the front of an expression are no more than its brackets are deep
 mutual
   deep : (e : Expression) (lists : List (List Expression)) (after r : List Token) → open_lists lists ++ after ≡ brackets e ++ r → length lists ≤ nesting e
@@ -259,30 +217,44 @@ mutual
       let d = deep_inside fs es lists after r t.1 in
       omega arith
 
-bracket_excluded : (fault : SExprParseError) (depth : ℕ) (ts : List Token) (e : Expression) → IsBracketFault fault depth ts → ts ≡ brackets e → nesting e ≤ depth → ⊥
-bracket_excluded UnexpectedEnd depth ts e f h n =
-    let o = one_expr e f.0 (f.1 ∷ f.2) [] (ap (λ v. v ++ f.1 ∷ f.2) (sym h) ∙ f.3 ∙ sym (append-nil (brackets f.0))) in
-    no_more f.1 f.2 o.1
+-- where an expression stands at the front, no bracket before its end is at fault
+pub front_excluded : (fault : SExprParseError) (depth : ℕ) (ts : List Token) (e : Expression) (us : List Token) → (fault ≡ TrailingTokens → ⊥) → IsBracketFault fault depth ts → ts ≡ brackets e ++ us → nesting e ≤ depth → ⊥
+front_excluded UnexpectedEnd depth ts e us k f h n =
+    let o = one_expr e f.0 (us ++ f.1 ∷ f.2) [] (sym (append_assoc (brackets e) us (f.1 ∷ f.2)) ∙ ap (λ v. v ++ f.1 ∷ f.2) (sym h) ∙ f.3 ∙ sym (append-nil (brackets f.0))) in
+    no_more us f.1 f.2 o.1
   where
-    no_more : (t : Token) (us : List Token) → t ∷ us ≡ [] → ⊥
-    no_more t us k = cc
-bracket_excluded UnclosedSExpr depth ts e f h n = end_begins e f.0 [] (sym f.1 ∙ h ∙ sym (append-nil (brackets e)))
+    no_more : (vs : List Token) (t : Token) (ws : List Token) → vs ++ t ∷ ws ≡ [] → ⊥
+    no_more [] t ws l = cc
+    no_more (v ∷ vs) t ws l = cc
+front_excluded UnclosedSExpr depth ts e us k f h n = end_begins e f.0 us (sym f.1 ∙ h)
+front_excluded TrailingTokens depth ts e us k f h n = k refl
+front_excluded TooDeep depth ts e us k f h n =
+    let d = deep e f.0 f.1 us (sym f.2 ∙ h) in
+    let more = f.3 in
+    omega arith
+front_excluded Utf8Error depth ts e us k f h n = f
+front_excluded (StringParseError raw) depth ts e us k f h n = f
+front_excluded (ParseIntError x) depth ts e us k f h n = f
+front_excluded IntegerOverflow depth ts e us k f h n = f
+front_excluded ZeroWidthBitVec depth ts e us k f h n = f
+front_excluded Memory depth ts e us k f h n = f
+
+bracket_excluded : (fault : SExprParseError) (depth : ℕ) (ts : List Token) (e : Expression) → IsBracketFault fault depth ts → ts ≡ brackets e → nesting e ≤ depth → ⊥
 bracket_excluded TrailingTokens depth ts e f h n =
     let o = one_expr e f.0 [] (f.1 ∷ f.2) (append-nil (brackets e) ∙ sym h ∙ f.3) in
     no_more f.1 f.2 o.1
   where
     no_more : (t : Token) (us : List Token) → [] ≡ t ∷ us → ⊥
     no_more t us k = cc
-bracket_excluded TooDeep depth ts e f h n =
-    let d = deep e f.0 f.1 [] (sym f.2 ∙ h ∙ sym (append-nil (brackets e))) in
-    let more = f.3 in
-    omega arith
-bracket_excluded Utf8Error depth ts e f h n = f
-bracket_excluded (StringParseError raw) depth ts e f h n = f
-bracket_excluded (ParseIntError x) depth ts e f h n = f
-bracket_excluded IntegerOverflow depth ts e f h n = f
-bracket_excluded ZeroWidthBitVec depth ts e f h n = f
-bracket_excluded Memory depth ts e f h n = f
+bracket_excluded UnexpectedEnd depth ts e f h n = front_excluded UnexpectedEnd depth ts e [] (λ k. cc) f (h ∙ sym (append-nil (brackets e))) n
+bracket_excluded UnclosedSExpr depth ts e f h n = front_excluded UnclosedSExpr depth ts e [] (λ k. cc) f (h ∙ sym (append-nil (brackets e))) n
+bracket_excluded TooDeep depth ts e f h n = front_excluded TooDeep depth ts e [] (λ k. cc) f (h ∙ sym (append-nil (brackets e))) n
+bracket_excluded Utf8Error depth ts e f h n = front_excluded Utf8Error depth ts e [] (λ k. cc) f (h ∙ sym (append-nil (brackets e))) n
+bracket_excluded (StringParseError raw) depth ts e f h n = front_excluded (StringParseError raw) depth ts e [] (λ k. cc) f (h ∙ sym (append-nil (brackets e))) n
+bracket_excluded (ParseIntError x) depth ts e f h n = front_excluded (ParseIntError x) depth ts e [] (λ k. cc) f (h ∙ sym (append-nil (brackets e))) n
+bracket_excluded IntegerOverflow depth ts e f h n = front_excluded IntegerOverflow depth ts e [] (λ k. cc) f (h ∙ sym (append-nil (brackets e))) n
+bracket_excluded ZeroWidthBitVec depth ts e f h n = front_excluded ZeroWidthBitVec depth ts e [] (λ k. cc) f (h ∙ sym (append-nil (brackets e))) n
+bracket_excluded Memory depth ts e f h n = front_excluded Memory depth ts e [] (λ k. cc) f (h ∙ sym (append-nil (brackets e))) n
 
 -- ---- texts
 

@@ -3,8 +3,9 @@ pub mod Cuts
 pub mod Decoding
 pub mod Digits
 pub mod Excluded
+pub mod Fronts
+pub mod PrintedTexts
 pub mod QuotedTexts
 pub mod Same
-pub mod Scans
 pub mod Texts
 pub mod TokenLists

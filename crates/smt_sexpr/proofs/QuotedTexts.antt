@@ -7,9 +7,9 @@ use Rattle.smt_characters.specs.Characters.{is_code_point}
 use Rattle.smt_characters.specs.Quoting.{quoted}
 use Rattle.smt_lexicon.specs.Lexicon.{Text}
 use Rattle.smt_lexicon.specs.Reading.{Expression, Leaf, Reads}
+use Rattle.smt_lexicon.specs.Tokens.{IsRead}
 use Rattle.smt_lexicon.proofs.Quotes.{quoted_texts_are_read}
 use Rattle.smt_lexicon.proofs.Trees.{one_reading}
-use Rattle.smt_sexpr.specs.Pieces.{IsRead}
 
 pub quoted_read : (cs bytes : List ℕ) → bytes ≡ quoted cs → true ≡ list_all is_code_point cs → scalars cs ≡ true → IsRead bytes (Leaf (Text cs))
 quoted_read cs bytes e h s = record {

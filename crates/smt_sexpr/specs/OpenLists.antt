@@ -1,13 +1,12 @@
 -- Lists that are open while a text is read, and what a token makes of them (SMT-LIB 2.7, chapter 3, S-expressions).
 use Rattle.std.specs.Prelude.{◌≡◌, ℕ, ◌+◌, ◌≤◌, max, Bool, true, false, Option, Some, None, List, [], ◌∷◌, ◌++◌}
 use Rattle.smt_lexicon.specs.Lexicon.{Piece, Token, tokens}
-use Rattle.smt_lexicon.specs.PlainTexts.{nesting, deepest}
-use Rattle.smt_lexicon.specs.Reading.{Expression, brackets, expressions}
-use Rattle.smt_sexpr.specs.Pieces.{IsCut, AreHeld}
+use Rattle.smt_lexicon.specs.Reading.{Expression, brackets, deepest, expressions, nesting}
+use Rattle.smt_lexicon.specs.Tokens.{IsCut, AreHeld}
 use Rattle.smt_sexpr.specs.Refusals.{IsBracketFault, open_lists}
 use Rattle.smt_sexpr.specs.View.{plain}
 use Rattle.smt_sexpr.specs.declared.error.SExprParseError.{SExprParseError}
-use Rattle.smt_sexpr.specs.declared.error.SExprParseError.TheVariants.{Memory}
+use Rattle.smt_sexpr.specs.declared.error.SExprParseError.TheVariants.{Memory, TrailingTokens}
 use Rattle.smt_sexpr.specs.declared.expression.SExpr.{SExpr}
 
 -- How many brackets are open at the deepest place of open lists, the outermost first.
@@ -27,9 +26,10 @@ abbrev pub IsNext : Option SExpr → ℕ → List (List Expression) → List Tok
 IsNext None depth old ts new = (open_lists old ++ ts ≡ open_lists new) × (levels new ≤ depth)
 IsNext (Some e) depth old ts new = (open_lists old ++ ts ≡ brackets (plain e)) × (nesting (plain e) ≤ depth)
 
--- Or they are refused, whatever follows them.
+-- Or they are refused, whatever follows them. Nothing that follows an expression is looked at.
 abbrev pub IsStepFault : SExprParseError → ℕ → List Token → Type 0
 IsStepFault Memory depth ts = Unit {0}
+IsStepFault TrailingTokens depth ts = ⊥
 IsStepFault e depth ts = (more : List Token) → IsBracketFault e depth (ts ++ more)
 
 -- The bytes up to the rest are cut into pieces that are held, without a token or with one.

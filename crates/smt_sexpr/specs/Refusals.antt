@@ -7,10 +7,9 @@ use Rattle.std.proofs.Math.Utf8.{scalars}
 use Rattle.smt_characters.specs.Front.{begins_without, IsRun}
 use Rattle.smt_lexicon.specs.Front.{IsQuoted}
 use Rattle.smt_lexicon.specs.Lexicon.{Piece, Quoted, is_symbol, is_symbol_byte, is_binary, is_hexadecimal, Bits, Number, Token, Begin, End, Word, tokens, token, quote_twice, decoded}
-use Rattle.smt_lexicon.specs.PlainTexts.{nesting}
-use Rattle.smt_lexicon.specs.Reading.{Expression, brackets}
+use Rattle.smt_lexicon.specs.Reading.{Expression, brackets, nesting}
+use Rattle.smt_lexicon.specs.Tokens.{StandsFirst, IsCut, AreHeld}
 use Rattle.smt_script.specs.Bytes.{bytes_in}
-use Rattle.smt_sexpr.specs.Pieces.{StandsFirst, IsCut, AreHeld}
 use Rattle.smt_sexpr.specs.declared.error.IntFault.TheVariants.{Empty, PosOverflow}
 use Rattle.smt_sexpr.specs.declared.error.SExprParseError.{SExprParseError}
 use Rattle.smt_sexpr.specs.declared.error.SExprParseError.TheVariants.{UnexpectedEnd, Utf8Error, StringParseError, ParseIntError, UnclosedSExpr, TrailingTokens, IntegerOverflow, ZeroWidthBitVec, TooDeep, Memory}

@@ -114,6 +114,9 @@ fn split_point(text: &[u8]) -> Option<(u32, &[u8])>
     ensures none { IfNone result (text.now ≡ []) }
 {
     let (byte, rest) = text.split_first()?;
+    if *byte != b'\\' {
+        return Some((u32::from(*byte), rest));
+    }
     match escape_at(text) {
         Some((point, len)) => Some((point, without(rest, len.saturating_sub(1)))),
         None => Some((u32::from(*byte), rest)),

@@ -4,20 +4,18 @@
 pub mod error;
 mod escape;
 pub mod expression;
+pub mod front;
 pub mod laws;
 mod lexeme;
 mod number;
 pub mod parse;
+mod printed;
 pub mod quote;
-pub mod read;
-pub mod scan;
 mod token;
 
 pub use error::{IntFault, SExprParseError};
 pub use expression::{SExpr, SExprs};
-pub use lexeme::without_space;
-pub use parse::{parse_sexpr, parse_sexpr_within};
+pub use front::{behind_close, behind_open, is_blank};
+pub use parse::{parse_sexpr, parse_sexpr_within, read_next};
 pub use quote::quote_string;
-pub use read::{read_front, read_plain};
-pub use scan::is_plain_expression;
 pub use smt_text::Text;

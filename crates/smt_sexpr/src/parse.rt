@@ -1,12 +1,11 @@
 //! The reader of texts that hold one expression (SMT-LIB 2.7, chapter 3, Lexicon and S-expressions).
 #![tactic(auto, using(crate::specs::View::views))]
 
-ghost use Rattle.std.specs.Prelude.{◌≡◌, ◌≢◌, ◌+◌, ◌≤◌, ◌&&◌, ◌⊎◌, Bool, true, false, [], ◌∷◌, ◌++◌, List, length, IfOk, IfErr, IfSome, IfNone};
+ghost use Rattle.std.specs.Prelude.{◌≡◌, ◌≢◌, ◌+◌, ◌<◌, ◌≤◌, ◌&&◌, ◌⊎◌, Bool, true, false, [], ◌∷◌, ◌++◌, List, length, IfOk, IfErr, IfSome, IfNone};
 ghost use Rattle.smt_lexicon.specs.Lexicon.{Token, Begin, End};
-ghost use Rattle.smt_lexicon.specs.PlainTexts.{nesting};
-ghost use Rattle.smt_lexicon.specs.Reading.{Expression, brackets};
+ghost use Rattle.smt_lexicon.specs.Reading.{Expression, brackets, nesting};
+ghost use Rattle.smt_lexicon.specs.Tokens.{HasTokens, IsReadWithin, IsRead, Spans};
 ghost use Rattle.smt_sexpr.specs.OpenLists.{Adds, IsNext, IsScanned, IsStepFault, levels};
-ghost use Rattle.smt_sexpr.specs.Pieces.{IsReadWithin, IsRead};
 ghost use Rattle.smt_sexpr.specs.Refusals.{HasTokenFault, IsRefused, open_lists};
 ghost use Rattle.smt_sexpr.specs.View.{plain, lexeme_nesting, lexeme_tokens, lists_in};
 ghost use Rattle.smt_sexpr.specs.declared.error.SExprParseError.TheVariants.{TrailingTokens, TooDeep, Memory};
@@ -16,7 +15,7 @@ use crate::expression::{SExpr, SExprs};
 use crate::token::{Lexeme, split_lexeme};
 use std::alloc::Global;
 
-fn is_blank(lexeme: &Lexeme) -> bool
+fn has_no_token(lexeme: &Lexeme) -> bool
     ensures blank { result ≡ true → lexeme_tokens lexeme.now ≡ [] }
     ensures token { result ≡ false → (t : Token) × (ts : List Token) × (lexeme_tokens lexeme.now ≡ t ∷ ts) }
 {
@@ -33,7 +32,7 @@ fn was_blank(lexeme: Lexeme) -> bool
     ensures blank { result ≡ true → lexeme_tokens lexeme ≡ [] }
     ensures token { result ≡ false → (t : Token) × (ts : List Token) × (lexeme_tokens lexeme ≡ t ∷ ts) }
 {
-    is_blank(&lexeme)
+    has_no_token(&lexeme)
 }
 
 fn both(one: bool, other: bool) -> bool
@@ -170,10 +169,22 @@ fn step(
     }
 }
 
-// The one expression that a text holds, by the lists that are open.
-fn read_one(alloc: Global, src: &[u8], max_depth: usize) -> Result<SExpr, SExprParseError>
-    ensures found { IfOk result (λ e. IsReadWithin src.now max_depth (plain e)) }
+/// The expression at the front of a text, with at most `max_depth` brackets open at a place, and what follows it. White
+/// space and comments may stand before it. The grammar is that of [`parse_sexpr_within`].
+///
+/// # Errors
+///
+/// As [`parse_sexpr_within`] of the whole text, but `TrailingTokens`.
+pub fn read_next(
+    alloc: Global,
+    src: &[u8],
+    max_depth: usize,
+) -> Result<(SExpr, &[u8]), SExprParseError>
+    ensures found { IfOk result (λ x. Spans src.now (brackets (plain x.0)) x.1.now) }
+    ensures shallow { IfOk result (λ x. nesting (plain x.0) ≤ max_depth) }
+    ensures shorter { IfOk result (λ x. length x.1.now < length src.now) }
     ensures refused { IfErr result (λ fault. IsRefused fault max_depth src.now) }
+    ensures complete { IfErr result (λ fault. (e : Expression) (ts : List Token) → HasTokens src.now (brackets e ++ ts) → nesting e ≤ max_depth → fault ≡ Memory) }
 {
     let mut lists: Vec<SExprs> = Vec::new(alloc);
     let mut rest = src;
@@ -181,13 +192,24 @@ fn read_one(alloc: Global, src: &[u8], max_depth: usize) -> Result<SExpr, SExprP
         match split_lexeme(alloc, rest) {
             Ok((lexeme, after)) => match step(alloc, &mut lists, lexeme, max_depth) {
                 Ok(None) => rest = after,
-                Ok(Some(whole)) => return finish(alloc, after, whole),
+                Ok(Some(whole)) => return Ok((whole, after)),
                 Err(fault) => return Err(refused(alloc, after, fault)),
             },
             Err(fault) => return Err(fault),
         }
     }
     Err(SExprParseError::UnexpectedEnd)
+}
+
+// The one expression that a text holds.
+fn read_one(alloc: Global, src: &[u8], max_depth: usize) -> Result<SExpr, SExprParseError>
+    ensures found { IfOk result (λ e. IsReadWithin src.now max_depth (plain e)) }
+    ensures refused { IfErr result (λ fault. IsRefused fault max_depth src.now) }
+{
+    match read_next(alloc, src, max_depth) {
+        Ok((expression, rest)) => finish(alloc, rest, expression),
+        Err(fault) => Err(fault),
+    }
 }
 
 /// The one expression that a text holds (SMT-LIB 2.7, chapter 3, Lexicon and S-expressions), with at most `max_depth`

@@ -1,10 +1,10 @@
 //! The piece at the front of a text: white space, a comment, a bracket or an atom (SMT-LIB 2.7, chapter 3, Lexicon).
 #![tactic(auto, using(crate::specs::View::views))]
 
-ghost use Rattle.std.specs.Prelude.{◌≡◌, ℕ, ◌<◌, not, [], ◌∷◌, List, length, IfOk, IfErr, true};
+ghost use Rattle.std.specs.Prelude.{◌≡◌, ℕ, ◌<◌, [], ◌∷◌, List, length, IfOk, IfErr, true};
 ghost use Rattle.std.specs.List.{flat_map, take_while};
 ghost use Rattle.smt_lexicon.specs.Front.{IfRead, IfUnread, IsQuoted, begins_number};
-ghost use Rattle.smt_lexicon.specs.Lexicon.{is_binary, is_hexadecimal, is_line_end, quote_twice};
+ghost use Rattle.smt_lexicon.specs.Lexicon.{is_binary, is_hexadecimal, quote_twice};
 ghost use Rattle.smt_lexicon.specs.Reading.{brackets};
 ghost use Rattle.smt_script.specs.Bytes.{bytes_in};
 ghost use Rattle.smt_sexpr.specs.Pieces.{StandsFor, begins_atom, begins_symbol};
@@ -14,7 +14,7 @@ ghost use Rattle.smt_sexpr.specs.View.{plain, lexeme_tokens};
 use crate::error::{IntFault, SExprParseError};
 use crate::escape::{decode, is_base_16};
 use crate::expression::SExpr;
-use crate::lexeme::{is_white_space, run_len, symbol_len};
+use crate::lexeme::{comment_len, is_white_space, run_len, symbol_len};
 use crate::number::literal;
 use smt_script::Bytes;
 use smt_text::Text;
@@ -33,19 +33,6 @@ pub enum Lexeme {
     Close,
     /// A literal, a numeral, a string or a symbol.
     Atom(SExpr),
-}
-
-fn ends_line(byte: u8) -> bool
-    ensures { result ≡ is_line_end byte }
-{
-    matches!(byte, b'\n' | b'\r')
-}
-
-// How many bytes stand before the end of a line.
-fn comment_len(src: &[u8]) -> usize
-    ensures { result ≡ length (take_while (λ b. not (is_line_end b)) src.now) }
-{
-    src.iter().take_while(|byte| !ends_line(**byte)).count()
 }
 
 fn is_base_2(byte: u8) -> bool

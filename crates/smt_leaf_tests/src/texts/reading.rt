@@ -1,116 +1,99 @@
-//! Texts that hold one expression, texts that do not, and lists of expressions.
+//! Texts that are read part by part, and lists of expressions.
 
-use smt_sexpr::{SExpr, SExprs, read_plain};
+use smt_sexpr::{SExpr, SExprs, behind_close, behind_open, is_blank, read_next};
 use std::alloc::Global;
 use std::test::Fail;
 
-// A text, the depth that is allowed, and what is read, as `{:?}` prints it.
-type Row = (&'static [u8], usize, &'static str);
+// A text, the depth that is allowed, and the expression at its front and what follows it, as `{:?}` prints them, or why there
+// is none.
+type Row = (&'static str, usize, &'static str);
 
-const READ: [Row; 16] = [
+const READ: [Row; 15] = [
     (
-        b"(a \"x\"\"y\" 12 ())",
+        "(a \"x\"\"y\" 12 ()) b)",
         2,
-        "Some(App(SExprs { items: [Symbol(\"a\"), String(\"x\\\"y\"), Numeral(12), App(SExprs { items: [] })] }))",
+        "(App(SExprs { items: [Symbol(\"a\"), String(\"x\\\"y\"), Numeral(12), App(SExprs { items: [] })] }), \" b)\")",
     ),
-    (b"a", 0, "Some(Symbol(\"a\"))"),
-    (b"\r\n\t |a:b'{},~ ", 0, "Some(Symbol(\"|a:b'{},~\"))"),
+    ("a", 0, "(Symbol(\"a\"), \"\")"),
+    (" ; (\n a;b", 0, "(Symbol(\"a\"), \";b\")"),
+    ("12ab", 0, "(Numeral(12), \"ab\")"),
+    ("\"a;\"(b", 0, "(String(\"a;\"), \"(b\")"),
     (
-        b"\"two\r\n\tlines\"",
+        "#b01)",
         0,
-        "Some(String(\"two\\r\\n\\tlines\"))",
+        "(BitVec(BitVec { width: Width { bits: 2 }, number: 1 }), \")\")",
     ),
-    (b"\"\"", 0, "Some(String(\"\"))"),
-    (b"\"\"\"\"", 0, "Some(String(\"\\\"\"))"),
-    (b"\"();", 0, "None"),
-    (b"\"a\"\"", 0, "None"),
-    (b"007", 0, "Some(Numeral(7))"),
     (
-        b"340282366920938463463374607431768211455",
-        0,
-        "Some(Numeral(340282366920938463463374607431768211455))",
-    ),
-    (b"340282366920938463463374607431768211456", 0, "None"),
-    (b"((a))", 1, "None"),
-    (
-        b"((a))",
-        2,
-        "Some(App(SExprs { items: [App(SExprs { items: [Symbol(\"a\")] })] }))",
-    ),
-    (b"12ab", 1, "None"),
-    (
-        b"(12ab)",
+        "(a)(b",
         1,
-        "Some(App(SExprs { items: [Numeral(12), Symbol(\"ab\")] }))",
+        "(App(SExprs { items: [Symbol(\"a\")] }), \"(b\")",
     ),
+    // What follows is not looked at.
+    ("a #", 0, "(Symbol(\"a\"), \" #\")"),
+    ("a) \"", 0, "(Symbol(\"a\"), \") \\\"\")"),
+    // The first fault of a token, also behind one of a bracket.
+    (")", 0, "UnclosedSExpr"),
+    (") #", 0, "UnexpectedEnd"),
     (
-        b"(a\"b\"c\"\"(d)e)",
-        2,
-        "Some(App(SExprs { items: [Symbol(\"a\"), String(\"b\"), Symbol(\"c\"), String(\"\"), App(SExprs { items: [Symbol(\"d\")] }), Symbol(\"e\")] }))",
+        "((a)) \"\\ud800\"",
+        1,
+        "StringParseError(Bytes { items: [92, 117, 100, 56, 48, 48] })",
     ),
+    ("((a))", 1, "TooDeep"),
+    ("(a", 1, "UnexpectedEnd"),
+    (" ; a", 1, "UnexpectedEnd"),
 ];
 
-const REFUSED: [&[u8]; 15] = [
-    b"",
-    b" \n",
-    b"(",
-    b")",
-    b"(()",
-    b"())",
-    b"(a) (b)",
-    b"(a \"b)",
-    b"(a) ; b",
-    b"#b01",
-    b"(a #x0f)",
-    b"\"a\\b\"",
-    b"a\x0c",
-    b"a\x7f",
-    b"\"\xc8\"",
+// A text, what follows a bracket that opens at its front, what follows one that closes, and whether it is blank.
+const FRONTS: [(&str, &str, &str, bool); 8] = [
+    ("(a", "Some(\"a\")", "None", false),
+    (" \t\r\n\x0c(", "Some(\"\")", "None", false),
+    ("; (\n; )\r )a", "None", "Some(\"a\")", false),
+    ("a(", "None", "None", false),
+    ("\")\"", "None", "None", false),
+    ("", "None", "None", true),
+    (" \x0c\n", "None", "None", true),
+    ("; )", "None", "None", true),
 ];
 
-fn is_read_as(alloc: Global, src: &[u8], depth: usize, want: &str) -> Result<bool, Fail> {
-    let read = read_plain(alloc, src, depth)?;
-    let text = format!(in alloc; "{read:?}")?;
+fn is_read_as(alloc: Global, src: &str, depth: usize, want: &str) -> Result<bool, Fail> {
+    let text = match read_next(alloc, src.as_bytes(), depth) {
+        Ok((expression, rest)) => {
+            let rest = str::from_utf8(rest).unwrap_or("");
+            format!(in alloc; "({expression:?}, {rest:?})")?
+        }
+        Err(fault) => format!(in alloc; "{fault:?}")?,
+    };
     Ok(text.as_str() == want)
 }
 
 #[test]
-fn reads_one_expression(rt: HostRuntime) -> Result<(), Fail> {
+fn reads_the_next_expression(rt: HostRuntime) -> Result<(), Fail> {
     for &(src, depth, want) in &READ {
-        assert!(rt; is_read_as(rt.alloc(), src, depth, want)?, "{want}");
+        assert!(rt; is_read_as(rt.alloc(), src, depth, want)?, "{src}");
     }
     Ok(())
 }
 
-fn is_refused(alloc: Global, src: &[u8], depth: usize) -> Result<bool, Fail> {
-    Ok(read_plain(alloc, src, depth)?.is_none())
+fn shown(alloc: Global, rest: Option<&[u8]>) -> Result<String, Fail> {
+    match rest {
+        Some(rest) => {
+            let rest = str::from_utf8(rest).unwrap_or("");
+            Ok(format!(in alloc; "Some({rest:?})")?)
+        }
+        None => Ok(format!(in alloc; "None")?),
+    }
 }
 
 #[test]
-fn refuses_what_is_not_plain_or_not_one(rt: HostRuntime) -> Result<(), Fail> {
-    for &src in &REFUSED {
-        assert!(rt; is_refused(rt.alloc(), src, 512)?, "at {src:?}");
+fn finds_brackets_behind_blanks(rt: HostRuntime) -> Result<(), Fail> {
+    for &(src, open, close, blank) in &FRONTS {
+        let opened = shown(rt.alloc(), behind_open(src.as_bytes()))?;
+        let closed = shown(rt.alloc(), behind_close(src.as_bytes()))?;
+        assert!(rt; opened.as_str() == open, "{src}");
+        assert!(rt; closed.as_str() == close, "{src}");
+        assert!(rt; is_blank(src.as_bytes()) == blank, "{src}");
     }
-    Ok(())
-}
-
-fn nested(alloc: Global, depth: usize) -> Result<Vec<u8>, Fail> {
-    let mut text = Vec::new(alloc);
-    for _ in 0..depth {
-        text.push(b'(')?;
-    }
-    for _ in 0..depth {
-        text.push(b')')?;
-    }
-    Ok(text)
-}
-
-#[test]
-fn stops_at_the_depth(rt: HostRuntime) -> Result<(), Fail> {
-    let text = nested(rt.alloc(), 512)?;
-    assert!(rt; !is_refused(rt.alloc(), &text, 512)?);
-    let text = nested(rt.alloc(), 513)?;
-    assert!(rt; is_refused(rt.alloc(), &text, 512)?);
     Ok(())
 }
 

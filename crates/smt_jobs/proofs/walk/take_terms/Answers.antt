@@ -1,41 +1,45 @@
-use Rattle.std.proofs.Common.{Bor, List, ℕ, ◌≡◌, ◌++◌, map, refl, ap, ◌∙◌}
+use Rattle.std.proofs.Common.{Bor, List, ℕ, ◌≡◌, ◌++◌, map, ap, ◌∙◌}
 use Rattle.smt_folding.specs.Built.{built}
 use Rattle.smt_meaning.specs.Plain.{PlainTerm}
-use Rattle.smt_lexicon.specs.Front.{skip_space}
+use Rattle.smt_lexicon.specs.Tokens.{HasTokens}
+use Rattle.smt_sexpr.specs.View.{plain}
 use Rattle.smt_job_grammar.specs.Outcomes.{mapped}
 use Rattle.smt_job_grammar.specs.Terms.{condition_of, conditions_of}
 use Rattle.smt_jobs.specs.Walk.{first_and_others}
 use Rattle.smt_jobs.proofs.Reading.{mapped_fault}
-use Rattle.smt_jobs.proofs.Walking.{all_taken, gives_passes, not_taken, nothing_more, taken_more, taking_none}
+use Rattle.smt_jobs.proofs.Walking.{all_taken, gives_passes, not_taken, nothing_more_there, read_more, read_none, taken_more, taking_none}
 use Rattle.smt_jobs.proofs.walk.take_terms.Goals as goal
 
 pub loop-after-init : goal.loop-after-init
-loop-after-init g c = (c.requires, λ ds has es end i. taking_none ds es c.args.src.now _ end _ i refl)
+loop-after-init g c = (read_none c.args.src.now 510, λ ds has es end i. taking_none ds es c.args.src.now end _ i)
 
-pub returns-in-Some : goal.returns-in-Some
-returns-in-Some g c ds has es end i =
+pub returns-in-Some-clause-read : goal.returns-in-Some-clause-read
+returns-in-Some-clause-read g c = (c.loop-after.rest.now, c.loop-after.invariant.0, c.in-Some.ensures.found)
+
+pub returns-in-Some-clause-stated : goal.returns-in-Some-clause-stated
+returns-in-Some-clause-stated g c ds has es end i =
     let t = c.loop-after.invariant.1 ds has es end i in
     let all = all_taken ds es end _ _ _ t c.in-Some.after.now c.in-Some.ensures.found in
-    (all.0, all.1, (c.without_space.ensures ∙ ap skip_space all.2, all.3))
+    (all.0, all.1, (all.2, all.3))
 
-pub returns-in_err-expression : goal.returns-in_err-expression
-returns-in_err-expression g c ds has es end i =
+pub returns-in_err-expression-clause-stated : goal.returns-in_err-expression-clause-stated
+returns-in_err-expression-clause-stated g c ds has es end i =
     let t = c.loop-after.invariant.1 ds has es end i in
-    gives_passes (λ (rest : Bor (List ℕ)) (written : List PlainTerm). (rest.now ≡ skip_space end) × (g.T.TermSink.taken c.loop-after.out ≡ g.T.TermSink.taken c.args.out.now ++ map built written))
+    gives_passes (λ (rest : Bor (List ℕ)) (written : List PlainTerm). HasTokens rest.now end × (g.T.TermSink.taken c.loop-after.out ≡ g.T.TermSink.taken c.args.out.now ++ map built written))
     c.from_residual.result c.in_err-expression.field-0.0 (conditions_of ds es) (first_and_others t.left) c.from_residual.ensures.1 (c.in_err-expression.ensures.stated t.left end t.begins)
-    (λ f none. absurd (nothing_more ds es end _ _ _ t f none c.in_default.ensures.none))
+    (λ f none. absurd (nothing_more_there ds es end _ _ _ t f none c.in_default.ensures.none))
 
-pub returns-in_err-condition_from : goal.returns-in_err-condition_from
-returns-in_err-condition_from g c ds has es end i =
+pub returns-in_err-condition_from-clause-stated : goal.returns-in_err-condition_from-clause-stated
+returns-in_err-condition_from-clause-stated g c ds has es end i =
     let t = c.loop-after.invariant.1 ds has es end i in
     let first = c.in_ok-expression.ensures.stated t.left end t.begins in
-    gives_passes (λ (rest : Bor (List ℕ)) (written : List PlainTerm). (rest.now ≡ skip_space end) × (g.T.TermSink.taken c.loop-after.out ≡ g.T.TermSink.taken c.args.out.now ++ map built written))
+    gives_passes (λ (rest : Bor (List ℕ)) (written : List PlainTerm). HasTokens rest.now end × (g.T.TermSink.taken c.loop-after.out ≡ g.T.TermSink.taken c.args.out.now ++ map built written))
     c.from_residual-in_err-condition_from.result c.in_err-condition_from.field-0.0 (conditions_of ds es) _ c.from_residual-in_err-condition_from.ensures.1 (c.in_err-condition_from.ensures ds has)
     (λ f none. not_taken ds es end _ _ _ t first.0 first.1 f (ap (condition_of ds) first.2.0 ∙ mapped_fault built _ f none))
 
 pub loop-after-preserved : goal.loop-after-preserved
 loop-after-preserved g c = (
-  c.in_ok-expression.ensures.rest_plain,
+  read_more c.args.src.now c.loop-after.rest.now c.in_ok-expression.after.now 510 (plain c.in_ok-expression.expression) c.loop-after.invariant.0 c.in_ok-expression.ensures.read c.in_ok-expression.ensures.shallow,
   λ ds has es end i. (
       let t = c.loop-after.invariant.1 ds has es end i in
       let first = c.in_ok-expression.ensures.stated t.left end t.begins in
@@ -45,7 +49,7 @@ loop-after-preserved g c = (
 
 pub loop-after-preserved-in_ok-take : goal.loop-after-preserved-in_ok-take
 loop-after-preserved-in_ok-take g c = (
-  c.in_ok-expression.ensures.rest_plain,
+  read_more c.args.src.now c.loop-after.rest.now c.in_ok-expression.after.now 510 (plain c.in_ok-expression.expression) c.loop-after.invariant.0 c.in_ok-expression.ensures.read c.in_ok-expression.ensures.shallow,
   λ ds has es end i. (
       let t = c.loop-after.invariant.1 ds has es end i in
       let first = c.in_ok-expression.ensures.stated t.left end t.begins in
@@ -55,7 +59,7 @@ loop-after-preserved-in_ok-take g c = (
 
 pub loop-after-preserved-in_ok-take-2 : goal.loop-after-preserved-in_ok-take-2
 loop-after-preserved-in_ok-take-2 g c = (
-  c.in_ok-expression.ensures.rest_plain,
+  read_more c.args.src.now c.loop-after.rest.now c.in_ok-expression.after.now 510 (plain c.in_ok-expression.expression) c.loop-after.invariant.0 c.in_ok-expression.ensures.read c.in_ok-expression.ensures.shallow,
   λ ds has es end i. (
       let t = c.loop-after.invariant.1 ds has es end i in
       let first = c.in_ok-expression.ensures.stated t.left end t.begins in
@@ -65,7 +69,7 @@ loop-after-preserved-in_ok-take-2 g c = (
 
 pub loop-after-preserved-in_ok-take-3 : goal.loop-after-preserved-in_ok-take-3
 loop-after-preserved-in_ok-take-3 g c = (
-  c.in_ok-expression.ensures.rest_plain,
+  read_more c.args.src.now c.loop-after.rest.now c.in_ok-expression.after.now 510 (plain c.in_ok-expression.expression) c.loop-after.invariant.0 c.in_ok-expression.ensures.read c.in_ok-expression.ensures.shallow,
   λ ds has es end i. (
       let t = c.loop-after.invariant.1 ds has es end i in
       let first = c.in_ok-expression.ensures.stated t.left end t.begins in

@@ -1,14 +1,14 @@
-use Rattle.std.proofs.Common.{List, ℕ, length}
-use Rattle.smt_lexicon.specs.Front.{BeginsInside}
-use Rattle.smt_lexicon.specs.PlainTexts.{IsPlainText}
+use Rattle.std.proofs.Common.{List, length}
+use Rattle.smt_lexicon.specs.Lexicon.{Token}
 use Rattle.smt_lexicon.specs.Reading.{Expressions}
 use Rattle.smt_job_grammar.specs.Declarations.{Declared}
 use Rattle.smt_jobs.specs.JobView.{HasDeclared}
+use Rattle.smt_jobs.specs.Walk.{BeginsInside, ReadsSome}
 use Rattle.smt_jobs.proofs.Walking.{Taking}
 use Rattle.smt_jobs.proofs.walk.take_terms.Given as goal
 
 abbrev pub invariant-loop-after : goal.invariant-loop-after
-invariant-loop-after g l = IsPlainText l.rest × ((ds : Declared) → HasDeclared l.declared ds → (es : Expressions) (end : List ℕ) → BeginsInside 510 es l.src end → Taking ds es end l.rest (g.T.TermSink.taken l.initial.out) (g.T.TermSink.taken l.out))
+invariant-loop-after g l = ReadsSome l.src 510 l.rest × ((ds : Declared) → HasDeclared l.declared ds → (es : Expressions) (end : List Token) → BeginsInside 510 es l.src end → Taking ds es end l.rest (g.T.TermSink.taken l.initial.out) (g.T.TermSink.taken l.out))
 
 abbrev pub decreases-loop-after : goal.decreases-loop-after
 decreases-loop-after g l = length l.rest

@@ -1,37 +1,27 @@
-use Rattle.std.proofs.Common.{◌≤◌, rules, refl, sym, subst, length}
-use Rattle.smt_lexicon.specs.Front.{Begins}
-use Rattle.smt_lexicon.proofs.Readings.{front_is}
-use Rattle.smt_lexicon.proofs.Runs.{plain_skip}
+use Rattle.std.proofs.Common.{◌≡◌, ◌≤◌, Err, length, rules}
+use Rattle.std.specs.Prelude.{IsErrOf}
 use Rattle.smt_job_grammar.specs.Jobs.{greatest_length}
-use Rattle.smt_jobs.proofs.Walking.{job_refused, job_taken, not_too_large}
+use Rattle.smt_jobs.specs.declared.declaration.Declared.{Declared}
+use Rattle.smt_jobs.specs.declared.error.JobError.{JobError}
+use Rattle.smt_jobs.specs.declared.error.JobError.TheVariants.{TooLarge}
+use Rattle.smt_jobs.proofs.Walking.{first_refused, job_taken, too_large}
 use Rattle.smt_jobs.proofs.walk.walk_job.Goals as goal
 
-pub walk_sections-requires : goal.walk_sections-requires
-walk_sections-requires g c =
-    let whole = c.if-not-is_plain_expression.ensures.0 refl in
-    rw c.without_space.ensures (plain_skip c.args.bytes.now whole.1.is_plain)
-
-pub returns-clause-job : goal.returns-clause-job
-returns-clause-job g c =
-    let whole = c.if-not-is_plain_expression.ensures.0 refl in
-    let front = front_is 512 c.args.bytes.now whole.0 whole.1 in
-    let walked = c.walk_sections.ensures whole.0 front.rest (subst (λ v. Begins 512 whole.0 v front.rest) (sym c.without_space.ensures) front.begins) in
+pub returns-in-Ok-clause-job : goal.returns-in-Ok-clause-job
+returns-in-Ok-clause-job g c =
     let short : length c.args.bytes.now ≤ greatest_length = search rules in
-    job_taken c.args.bytes.now whole.0 whole.1 _ _ c.walk_sections.result short walked
+    job_taken c.args.bytes.now (g.T.TermSink.taken c.args.out.now) (g.T.TermSink.taken c.walk_sections.new.out) c.in-Ok.declared short c.in-Ok.ensures.read c.in-Ok.ensures.stated
 
-pub returns-clause-too_large : goal.returns-clause-too_large
-returns-clause-too_large g c =
-    let whole = c.if-not-is_plain_expression.ensures.0 refl in
-    let front = front_is 512 c.args.bytes.now whole.0 whole.1 in
-    let walked = c.walk_sections.ensures whole.0 front.rest (subst (λ v. Begins 512 whole.0 v front.rest) (sym c.without_space.ensures) front.begins) in (
-      λ error. absurd (not_too_large c.args.bytes.now whole.0 whole.1 _ _ c.walk_sections.result walked error),
-      λ long. absurd (search rules),
-    )
-
-pub returns-clause-refused : goal.returns-clause-refused
-returns-clause-refused g c =
-    let whole = c.if-not-is_plain_expression.ensures.0 refl in
-    let front = front_is 512 c.args.bytes.now whole.0 whole.1 in
-    let walked = c.walk_sections.ensures whole.0 front.rest (subst (λ v. Begins 512 whole.0 v front.rest) (sym c.without_space.ensures) front.begins) in
+pub returns-in-Err-clause-refused : goal.returns-in-Err-clause-refused
+returns-in-Err-clause-refused g c =
     let short : length c.args.bytes.now ≤ greatest_length = search rules in
-    job_refused c.args.bytes.now whole.0 whole.1 _ _ c.walk_sections.result short walked
+    first_refused c.args.bytes.now (g.T.TermSink.taken c.args.out.now) (g.T.TermSink.taken c.walk_sections.new.out) c.in-Err.fault c.first_fault.result short c.in-Err.ensures.stated c.first_fault.ensures
+
+same_error : (a b : JobError) → IsErrOf {T = Declared} (Err a) b → a ≡ b
+same_error a b h = cc
+
+pub returns-in-Err-clause-too_large : goal.returns-in-Err-clause-too_large
+returns-in-Err-clause-too_large g c = (
+  λ error. too_large c.args.bytes.now c.first_fault.result (returns-in-Err-clause-refused g c) (same_error c.first_fault.result TooLarge error),
+  λ long. absurd (search rules),
+)

@@ -1,7 +1,7 @@
 use Rattle.std.proofs.Common.{length}
 use Rattle.smt_sexpr.specs.OpenLists.{IsOpenAt}
 use Rattle.smt_sexpr.specs.View.{lists_in}
-use Rattle.smt_sexpr.proofs.parse.read_one.Given as goal
+use Rattle.smt_sexpr.proofs.parse.read_next.Given as goal
 
 abbrev pub invariant-loop-rest : goal.invariant-loop-rest
 invariant-loop-rest l = IsOpenAt l.src l.rest l.max_depth (lists_in l.lists.items)

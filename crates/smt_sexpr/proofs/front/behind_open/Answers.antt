@@ -1,0 +1,15 @@
+use Rattle.std.proofs.Common.{[], ◌∷◌}
+use Rattle.std.proofs.lemmas.Option.{IfSome_then}
+use Rattle.smt_lexicon.specs.Lexicon.{Begin}
+use Rattle.smt_lexicon.proofs.Spans.{joined}
+use Rattle.smt_sexpr.proofs.Fronts.{open_span, no_open, where_none}
+use Rattle.smt_sexpr.proofs.front.behind_open.Goals as goal
+
+pub returns-clause-found : goal.returns-clause-found
+returns-clause-found c =
+    IfSome_then c.behind.result c.behind.ensures.found
+    (λ rest e. joined c.args.src.now c.without_blanks.result.now rest.now [] (Begin ∷ []) c.without_blanks.ensures.blank (open_span c.without_blanks.result.now rest.now e))
+
+pub returns-clause-none : goal.returns-clause-none
+returns-clause-none c =
+    where_none c.behind.result c.behind.ensures.none (λ none ts h. no_open c.args.src.now c.without_blanks.result.now ts c.without_blanks.ensures.blank c.without_blanks.ensures.first none h)
