@@ -1,9 +1,9 @@
 #!/usr/bin/env python3
 """Scripts of random jobs, beside those of another program.
 
-Each job declares variables and functions of random types and has well-typed random terms in all forms of jobs. It is
-given to both programs, as `PROGRAM script` on standard input. The scripts are compared byte by byte, and each job with
-a difference is printed. Jobs at which the public crate panics, since a shift is by 2 to the 32 or more, are counted
+Each job declares enum types, variables and functions of random types and has well-typed random terms in all forms of
+jobs, with escapes and other alphabets in its strings and comments between its parts. It is given to both programs, as
+`PROGRAM script` on standard input. The scripts are compared byte by byte, and each job with a difference is printed. Jobs at which the public crate panics, since a shift is by 2 to the 32 or more, are counted
 apart. The status is 1 where there is another difference.
 """
 
@@ -16,8 +16,9 @@ import sys
 
 TOP = pathlib.Path(__file__).resolve().parent.parent
 WIDTHS = [1, 5, 7, 8, 32, 64, 128]
-ENTITIES = ["User", "Role", "App::Group", "a b"]
-LETTERS = "abcXYZ09 _-.,:()[]{}|!?*'<>=~@$%^&/+"
+ENTITIES = ["User", "Role", "App::Group", "a b", "caf\u00e9"]
+ENUMS = {"Color": ["red", "green", "b;l#u\\e", "\u6f22"], "App::Level\n": ["1", "", "\"2\""]}
+LETTERS = "abcuXYZ09 _-.,:()[]{}|!?*'<>=~@$%^&/+;#\\\t\n\r\0\x01\x1f\x7f\u00e9\u03bb\u0416\u6f22\u05d0\U0001f600\U0002ffff"
 EXTENSIONS = ["Decimal", "IpAddr", "Datetime", "Duration"]
 ARITHMETIC = "bvadd bvsub bvmul bvudiv bvurem bvsdiv bvsrem bvsmod bvshl bvlshr".split()
 TESTS = "bvult bvule bvslt bvsle bvsaddo bvssubo bvsmulo".split()
@@ -37,7 +38,37 @@ OF_EXTENSIONS = [
 
 
 def quoted(text):
-    return '"' + text.replace('"', '""') + '"'
+    """A text between quotes as jobs write it: a character outside ASCII by an escape, and so is a backslash."""
+    def written(c):
+        if c == '"':
+            return '""'
+        if c == "\\" or ord(c) > 127:
+            return f"\\u{{{ord(c):x}}}" if ord(c) % 2 or ord(c) > 0xFFFF else f"\\u{ord(c):04X}"
+        return c
+
+    return '"' + "".join(map(written, text)) + '"'
+
+
+def extension(draw, ty):
+    """A literal of an extension type."""
+    sign = draw.choice(["", "-"])
+    if ty == "Decimal":
+        return f'(decimal "{sign}{draw.randrange(10 ** draw.randrange(1, 15))}.{draw.choice(["0", "5", "25", "0001"])}")'
+    if ty == "IpAddr" and draw.randrange(2):
+        return f'(ip "{".".join(str(draw.choice([0, 1, 10, 127, 255])) for _ in range(4))}{draw.choice(["", "/0", "/8", "/31", "/32"])}")'
+    if ty == "IpAddr":
+        return f'(ip "{draw.choice(["::", "::1", "ff00::", "1:2:3:4:5:6:7:8", "fe80::1:0"])}{draw.choice(["", "/0", "/64", "/128"])}")'
+    if ty == "Datetime":
+        day = f"{draw.choice(['0000', '1969', '1970', '2024', '9999'])}-{draw.randrange(1, 13):02}-{draw.randrange(1, 29):02}"
+        return f'(datetime "{day}{draw.choice(["", "T23:59:59Z", "T00:00:00.001Z", "T11:38:02.101+0130", "T11:38:02-2359"])}")'
+    return f'(duration "{sign}{draw.choice(["0ms", "1d2h3m4s5ms", "7ms", "99999d", "24h1s"])}")'
+
+
+def in_base(draw, width, number):
+    """A literal of bits in base 2, or in base 16 where the width allows it."""
+    if width % 4 == 0 and draw.randrange(2):
+        return f"#x{number:0{width // 4}x}"
+    return f"#b{number:0{width}b}"
 
 
 def spelled(ty):
@@ -79,7 +110,7 @@ class Jobs:
         if choice == 2:
             return "String"
         if choice == 3:
-            return ("Entity", self.draw.choice(ENTITIES))
+            return ("Entity", self.draw.choice(ENTITIES + list(ENUMS)))
         if choice == 4:
             return self.draw.choice(EXTENSIONS)
         if choice == 5:
@@ -98,19 +129,21 @@ class Jobs:
             return self.draw.choice(["true", "false"])
         if ty == "String":
             return quoted(self.text(5))
-        if ty in ("Datetime", "Duration"):
+        if ty in ("Datetime", "Duration") and self.draw.randrange(2):
             return f"({ty.lower()}.ofBitVec {self.leaf(('BitVec', 64))})"
         if isinstance(ty, str):
-            return f"(var {quoted(ids[0])})" if ids else None
+            return extension(self.draw, ty)
         return self.small(*ty)
 
     def small(self, head, inside):
         if head == "BitVec":
             if inside == 64 and self.draw.randrange(2):
                 return f'(long "{self.draw.choice([0, -1, 5, -(2**63), 2**63 - 1])}")'
-            return f"(bv {inside} {self.draw.choice([0, 1, 2**inside - 1, self.draw.randrange(2**inside)])})"
+            number = self.draw.choice([0, 1, 2**inside - 1, self.draw.randrange(2**inside)])
+            return in_base(self.draw, inside, number) if self.draw.randrange(2) else f"(bv {inside} {number})"
         if head == "Entity":
-            return f"(entity {quoted(inside)} {quoted(self.text(4))})"
+            id = self.draw.choice(ENUMS[inside]) if inside in ENUMS else self.text(4)
+            return f"(entity {quoted(inside)} {quoted(id)})"
         if head == "Option":
             return f"(none {spelled(inside)})"
         if head == "Set":
@@ -191,8 +224,10 @@ class Jobs:
     def job(self):
         variables = "".join(f" ({quoted(name)} {spelled(of)})" for name, of in self.variables)
         functions = "".join(f" ({quoted(name)} {spelled(a)} {spelled(b)})" for name, (a, b) in self.functions.items())
+        enums = "".join(f" ({quoted(name)} {' '.join(map(quoted, members))})" for name, members in ENUMS.items())
         terms = [self.term("Bool", 5) for _ in range(self.draw.randrange(1, 5))]
-        return f"(job (enums) (vars{variables}) (funs{functions}) (terms {' '.join(terms)}))"
+        gap = self.draw.choice([" ", "\n  ", " ; \"a comment (\n", "\t\f\r\n"])
+        return f"(job{gap}(enums{enums}){gap}(vars{variables}){gap}(funs{functions}){gap}(terms{gap}{gap.join(terms)})){gap}"
 
 
 def outcome(program, job):
