@@ -28,8 +28,8 @@ const VERSION: &str = "smtcli 0.1.0\n";
 /// A run and how it ends: its word, the bytes of its source, which read of it and which put to `out` are to fail (0: none), the
 /// room of `out`, what `out` gets where nothing fails, or a first part of that, the status, and what is said on diag.
 ///
-/// 3 comes of too many bytes as well, which `length_has_a_limit` has. 4 comes of no job yet, and 7 of want of memory, which no
-/// table can force.
+/// 3 comes of too many bytes as well, which `length_has_a_limit` has. Rows of 4 stand in `smt_job_rows`, and 7 comes of want of
+/// memory, which no table can force.
 type Row = (
     &'static str,
     &'static str,
