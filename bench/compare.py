@@ -18,7 +18,8 @@ TOP = pathlib.Path(__file__).resolve().parent.parent
 WIDTHS = [1, 5, 7, 8, 32, 64, 128]
 ENTITIES = ["User", "Role", "App::Group", "a b", "caf\u00e9"]
 ENUMS = {"Color": ["red", "green", "b;l#u\\e", "\u6f22"], "App::Level\n": ["1", "", "\"2\""]}
-LETTERS = "abcuXYZ09 _-.,:()[]{}|!?*'<>=~@$%^&/+;#\\\t\n\r\0\x01\x1f\x7f\u00e9\u03bb\u0416\u6f22\u05d0\U0001f600\U0002ffff"
+# Comments differ by design at CR, and at characters outside ASCII that can't be printed: neither is here.
+LETTERS = "abcuXYZ09 _-.,:()[]{}|!?*'<>=~@$%^&/+;#\\\t\n\0\x01\x1f\x7f\u00e9\u03bb\u0416\u6f22\u05d0\U0001f600"
 EXTENSIONS = ["Decimal", "IpAddr", "Datetime", "Duration"]
 ARITHMETIC = "bvadd bvsub bvmul bvudiv bvurem bvsdiv bvsrem bvsmod bvshl bvlshr".split()
 TESTS = "bvult bvule bvslt bvsle bvsaddo bvssubo bvsmulo".split()
