@@ -1,5 +1,7 @@
 //! Words for questions about terms, which stay on the stack.
 
+ghost use Rattle.std.specs.Prelude.{◌≡◌, ◌++◌, IfOk, length};
+
 use crate::asked_types;
 use crate::printed::{put_term, put_type};
 use anyhow::{Context, Result, bail};
@@ -31,6 +33,10 @@ pub(crate) fn answered(
         "has_types" => put_types_of(alloc, out, last(terms)?)?,
         "size" => put_size(out, last(terms)?)?,
         "at" => put_fields(alloc, out, last(terms)?, held)?,
+        "print" => {
+            let term = last(terms)?;
+            write!(out, "{term}")?;
+        }
         "compare" => {
             let (a, b) = last_two(terms)?;
             out.push_str(order(a, b))?;
@@ -76,8 +82,11 @@ fn last_two(terms: &[Term]) -> Result<(&Term, &Term)> {
     }
 }
 
-/// So many last terms.
-fn last_of(terms: &[Term], count: usize) -> Result<(&[Term], &[Term])> {
+/// The terms before so many last ones, and these.
+fn last_of(terms: &[Term], count: usize) -> Result<(&[Term], &[Term])>
+    ensures all { IfOk result (λ x. x.0.now ++ x.1.now ≡ terms.now) }
+    ensures count { IfOk result (λ x. length x.1.now ≡ count) }
+{
     let left = terms.len().checked_sub(count).context("too few terms")?;
     Ok(terms.split_at(left))
 }

@@ -39,6 +39,7 @@
 //! | `shared` | whether the last term and its parts are equal to what they share |
 //! | `size` | how many arguments, attributes or elements the last term has, and whether it has none |
 //! | `at:NAME,NAME` | what the last term, which is a record, has at these attributes |
+//! | `print` | the text that the last term prints |
 //! | `compare`, `same`, `opposites` | the order of the last two terms, whether they are equal, and whether they are opposites |
 //! | `takes:OPERATOR:COUNT`, `typed_as:OPERATOR:COUNT` | whether the operator takes so many last terms, and as which of thirteen types its application is well typed; `but:` stands before a type where the answers of the application contradict one another |
 //! | `table:COUNT` | the table of so many keys, each with its value behind it: its entries, how many they are, whether there are none, whether it is equal to what it shares, and what it has at each term before them |
@@ -63,7 +64,7 @@ use std::fs;
 use std::io::{self, BufWriter, Write};
 
 /// The files of rows.
-const FILES: [&str; 15] = [
+const FILES: [&str; 16] = [
     "connectives",
     "options",
     "collections",
@@ -79,6 +80,7 @@ const FILES: [&str; 15] = [
     "refused",
     "ill_typed",
     "order",
+    "texts",
 ];
 
 /// What a row answers: each answer behind a space, or the terms that are left.
