@@ -1,0 +1,4 @@
+mod Examples
+mod PutPairs
+mod ReadBack
+mod ReadTexts

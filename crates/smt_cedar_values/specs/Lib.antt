@@ -1,0 +1,6 @@
+pub mod Constructed
+pub mod Constructors
+pub mod Examples
+pub mod Plain
+pub mod Refused
+pub mod View
