@@ -13,7 +13,7 @@ use Rattle.smt_headline.specs.Headline.{Headline}
 use Rattle.smt_lines.specs.Text.{names, text}
 use Rattle.smt_characters.specs.SharedTexts.{texts}
 use Rattle.smt_cli.proofs.AsWritten.{as_written, built_booleans}
-use Rattle.smt_jobs.proofs.FormsRead.{other_text}
+use Rattle.smt_job_declarations.proofs.Shapes.{other_text}
 use Rattle.smt_job_grammar.proofs.Jobs.{job_conditions}
 use Rattle.smt_job_grammar.specs.Jobs.{IsBuiltFrom, PlainJob, built_job, greatest_length}
 use Rattle.smt_job_grammar.specs.Laws.{IsCondition}
@@ -23,8 +23,8 @@ use Rattle.smt_cli.specs.Causes.{HasReadCause}
 use Rattle.smt_cli.specs.Run.{Prints}
 use Rattle.smt_cli.specs.Words.{commanded, generate_by, generation_named}
 use Rattle.smt_cli.specs.declared.command.Command.{Command}
-use Rattle.smt_jobs.specs.declared.error.JobError.{JobError}
-use Rattle.smt_jobs.specs.declared.error.JobError.TheVariants.{TooLarge as JobTooLarge, Parse as JobParse, TooDeep as JobTooDeep, BadForm as JobBadForm, UnknownName as JobUnknownName, DuplicateName as JobDuplicateName, BadType as JobBadType, BadWidth as JobBadWidth, BadLiteral as JobBadLiteral, IllTyped as JobIllTyped, NotBool as JobNotBool, Memory as JobWant}
+use Rattle.smt_job_declarations.specs.declared.error.JobError.{JobError}
+use Rattle.smt_job_declarations.specs.declared.error.JobError.TheVariants.{TooLarge as JobTooLarge, Parse as JobParse, TooDeep as JobTooDeep, BadForm as JobBadForm, UnknownName as JobUnknownName, DuplicateName as JobDuplicateName, BadType as JobBadType, BadWidth as JobBadWidth, BadLiteral as JobBadLiteral, IllTyped as JobIllTyped, NotBool as JobNotBool, Memory as JobWant}
 use Rattle.smt_cli.specs.declared.refusal.ReadRefusal.{ReadRefusal}
 use Rattle.smt_cli.specs.declared.refusal.ReadRefusal.TheVariants.{Job as ReadJob, Source as ReadSource, Memory as ReadWant}
 

@@ -4,8 +4,8 @@ use Rattle.smt_script.specs.declared.sink.SinkError.{SinkError}
 use Rattle.smt_script.specs.declared.sink.SinkError.TheVariants.{Fault as SinkFault, Memory as SinkWant}
 use Rattle.smt_source.specs.declared.input.InputError.{InputError}
 use Rattle.smt_source.specs.declared.input.InputError.TheVariants.{Fault as InputFault, TooLarge as InputTooLarge, Memory as InputWant}
-use Rattle.smt_jobs.specs.declared.error.JobError.{JobError}
-use Rattle.smt_jobs.specs.declared.error.JobError.TheVariants.{TooLarge as JobTooLarge, Parse as JobParse, TooDeep as JobTooDeep, BadForm as JobBadForm, UnknownName as JobUnknownName, DuplicateName as JobDuplicateName, BadType as JobBadType, BadWidth as JobBadWidth, BadLiteral as JobBadLiteral, IllTyped as JobIllTyped, NotBool as JobNotBool, Memory as JobWant}
+use Rattle.smt_job_declarations.specs.declared.error.JobError.{JobError}
+use Rattle.smt_job_declarations.specs.declared.error.JobError.TheVariants.{TooLarge as JobTooLarge, Parse as JobParse, TooDeep as JobTooDeep, BadForm as JobBadForm, UnknownName as JobUnknownName, DuplicateName as JobDuplicateName, BadType as JobBadType, BadWidth as JobBadWidth, BadLiteral as JobBadLiteral, IllTyped as JobIllTyped, NotBool as JobNotBool, Memory as JobWant}
 use Rattle.smt_checks.specs.declared.error.CheckError.{CheckError}
 use Rattle.smt_checks.specs.declared.error.CheckError.TheVariants.{Start as CheckStart, Session as CheckSession, Memory as CheckWant}
 use Rattle.smt_cli.specs.declared.refusal.EncodeRefusal.TheVariants.{EmptyEnum, EncodeStringFailed, EncodePatternFailed, EnumMissingMember, ExpectRecord, MalformedRecordGet, MissingTypeEncoding, RecordMissingAttr}

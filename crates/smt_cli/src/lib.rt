@@ -14,7 +14,8 @@ pub use command::Command;
 pub use program::run;
 pub use refusal::{EncodeRefusal, JobRefusal, Refusal};
 pub use smt_checks::SessionFault;
-pub use smt_jobs::{Job, JobError, TermSink, UufList, VarList, read_job};
+pub use smt_job_declarations::{JobError, UufList, VarList};
+pub use smt_jobs::{Job, TermSink, read_job};
 pub use smt_source::{
     InputError, MemorySource, ReadSource, Source, SourceError, SourceFault, read_input,
 };

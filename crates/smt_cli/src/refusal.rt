@@ -3,7 +3,7 @@ ghost use Rattle.std.specs.Prelude.{◌≡◌};
 ghost use Rattle.smt_cli.specs.Refusal.{line_of, status_of};
 
 use smt_checks::{CheckError, SessionFault};
-use smt_jobs::JobError;
+use smt_job_declarations::JobError;
 use smt_script::SinkError;
 use smt_source::InputError;
 

@@ -1,12 +1,13 @@
 // Jobs by their seeds.
 ghost use Rattle.std.specs.Prelude.{◌≡◌, IfOk};
-ghost use Rattle.smt_jobs.specs.JobView.{declarations};
+ghost use Rattle.smt_job_declarations.specs.DeclarationView.{declarations};
 ghost use Rattle.smt_jobs.specs.Numbered.{numbered_job, numbered_terms};
 ghost use Rattle.smt_generated.specs.Generated.{generated_terms, generated_variables};
 ghost use Rattle.smt_generated.specs.Jobs.{job_generated};
 
 use crate::terms::{VARIABLES, comparison, next_number, variable};
-use smt_jobs::{NumberedJob, NumberedTerms, TermSink, UufList, VarList};
+use smt_job_declarations::{UufList, VarList};
+use smt_jobs::{NumberedJob, NumberedTerms, TermSink};
 use smt_nodes::Interner;
 use smt_term::{EnumTable, TermError};
 use std::alloc::Global;

@@ -1,14 +1,2 @@
-pub mod DeclaredLists
-pub mod Declaring
-pub mod EnumsEntered
-pub mod ExtensionsRead
-pub mod FormsRead
 pub mod NumberedLemmas
-pub mod Operators
-pub mod PatternsRead
-pub mod Reading
-pub mod Shapes
-pub mod TermsRead
-pub mod TypesRead
 pub mod Walking
-pub mod WholeTerms

@@ -25,13 +25,14 @@ use Rattle.smt_job_grammar.specs.Declarations.{Declarations, Declared as Stated,
 use Rattle.smt_job_grammar.specs.Enums.{enums_in}
 use Rattle.smt_job_grammar.specs.Jobs.{IsTooLong, PlainJob, declared_first, declared_in_sections, greatest_length, job_of, nothing_more, section_of, terms_last}
 use Rattle.smt_job_grammar.specs.Terms.{condition_of, conditions_of}
-use Rattle.smt_jobs.specs.JobView.{IsFault, IsFaultIn, declared_in}
+use Rattle.smt_job_declarations.specs.DeclarationView.{declared_in}
+use Rattle.smt_job_declarations.specs.ReadAs.{IsFault, IsFaultIn}
 use Rattle.smt_jobs.specs.Refused.{IsFirstFault, IsRefusal, IsTextFault, IsUnreadable}
 use Rattle.smt_jobs.specs.Walk.{Begins, BeginsInside, Gives, ReadsSome, Takes, TakesJob, first_and_others}
-use Rattle.smt_jobs.specs.declared.declaration.Declared.{Declared}
-use Rattle.smt_jobs.specs.declared.error.JobError.{JobError}
-use Rattle.smt_jobs.specs.declared.error.JobError.TheVariants.{TooLarge, Parse, TooDeep, BadForm, UnknownName, DuplicateName, BadType, BadWidth, BadLiteral, IllTyped, NotBool, Memory}
-use Rattle.smt_jobs.proofs.Reading.{behind, fault_passes, mapped_of, nothing_behind, one_behind}
+use Rattle.smt_job_declarations.specs.declared.declaration.Declared.{Declared}
+use Rattle.smt_job_declarations.specs.declared.error.JobError.{JobError}
+use Rattle.smt_job_declarations.specs.declared.error.JobError.TheVariants.{TooLarge, Parse, TooDeep, BadForm, UnknownName, DuplicateName, BadType, BadWidth, BadLiteral, IllTyped, NotBool, Memory}
+use Rattle.smt_job_declarations.proofs.Reading.{behind, fault_passes, mapped_of, nothing_behind, one_behind}
 
 abbrev no_form : Outcome ℕ
 no_form = Err FormFault

@@ -1,4 +1,3 @@
-pub mod EnumView
 pub mod JobView
 pub mod Numbered
 pub mod Numbers

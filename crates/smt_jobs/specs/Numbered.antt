@@ -3,7 +3,7 @@ use Rattle.std.specs.Prelude.{List}
 use Rattle.smt_meaning.specs.Plain.{PlainTerm}
 use Rattle.smt_leaves.specs.Enums.{enums_of}
 use Rattle.smt_job_grammar.specs.Jobs.{PlainJob}
-use Rattle.smt_jobs.specs.JobView.{declarations, functions}
+use Rattle.smt_job_declarations.specs.DeclarationView.{declarations, functions}
 use Rattle.smt_jobs.specs.Numbers.{terms_of}
 use Rattle.smt_jobs.specs.declared.numbered.NumberedJob.{NumberedJob}
 use Rattle.smt_jobs.specs.declared.numbered.NumberedTerms.{NumberedTerms}

@@ -6,9 +6,9 @@ use Rattle.smt_sexpr.specs.Refusals.{IsRefused}
 use Rattle.smt_sexpr.specs.declared.error.SExprParseError.{SExprParseError}
 use Rattle.smt_sexpr.specs.declared.error.SExprParseError.TheVariants.{TooDeep as TextTooDeep, Memory as TextWant}
 use Rattle.smt_job_grammar.specs.Jobs.{HasFault, IsTooLong, greatest_length, greatest_nesting}
-use Rattle.smt_jobs.specs.JobView.{fault_in}
-use Rattle.smt_jobs.specs.declared.error.JobError.{JobError}
-use Rattle.smt_jobs.specs.declared.error.JobError.TheVariants.{TooLarge, Parse, TooDeep, Memory}
+use Rattle.smt_job_declarations.specs.ReadAs.{fault_in}
+use Rattle.smt_job_declarations.specs.declared.error.JobError.{JobError}
+use Rattle.smt_job_declarations.specs.declared.error.JobError.TheVariants.{TooLarge, Parse, TooDeep, Memory}
 
 -- the first fault of the bytes as one expression; its depth and a want of memory have errors of their own
 abbrev pub IsTextFault : SExprParseError → List ℕ → Type 0

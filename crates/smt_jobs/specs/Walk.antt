@@ -9,8 +9,8 @@ use Rattle.smt_lexicon.specs.Tokens.{HasTokens, Spans}
 use Rattle.smt_job_grammar.specs.Declarations.{Declared}
 use Rattle.smt_job_grammar.specs.Jobs.{IsJob, PlainJob}
 use Rattle.smt_job_grammar.specs.Outcomes.{Outcome, FormFault}
-use Rattle.smt_jobs.specs.JobView.{IsFaultIn}
-use Rattle.smt_jobs.specs.declared.error.JobError.{JobError}
+use Rattle.smt_job_declarations.specs.ReadAs.{IsFaultIn}
+use Rattle.smt_job_declarations.specs.declared.error.JobError.{JobError}
 
 -- ---- what stands at the front of a text
 

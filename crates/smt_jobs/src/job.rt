@@ -6,11 +6,9 @@ ghost use Rattle.smt_jobs.specs.JobView.{plain_job};
 ghost use Rattle.smt_jobs.specs.Numbered.{numbered_job};
 ghost use Rattle.smt_jobs.specs.Refused.{IsRefusal};
 
-use crate::declaration::Declared;
-use crate::error::JobError;
-use crate::lists::{UufList, VarList};
 use crate::numbered::{NumberedJob, NumberedTerms};
 use crate::walk::{TermSink, walk_job};
+use smt_job_declarations::{Declared, JobError, UufList, VarList};
 use smt_nodes::Interner;
 use smt_term::{EnumTable, Term, TermError, TermList};
 use std::alloc::Global;

@@ -5,23 +5,10 @@
 //! other and hands it on, so no expression is kept: `read_job` keeps the terms, and `read_numbered` their numbers.
 #![tactic(auto, using(smt_term::specs::View::views, smt_sexpr::specs::View::views))]
 
-mod declaration;
-mod enums;
-mod error;
-mod expression;
-mod extension;
-mod form;
 mod job;
-mod lists;
 mod numbered;
-mod operator;
-mod pattern;
-mod term;
-mod types;
 mod walk;
 
-pub use error::JobError;
 pub use job::{GREATEST_JOB, Job, read_job, read_numbered};
-pub use lists::{UufList, VarList};
 pub use numbered::{NumberedJob, NumberedTerms};
 pub use walk::TermSink;

@@ -2,8 +2,8 @@
 ghost use Rattle.std.specs.Prelude.{IsTrue};
 ghost use Rattle.smt_jobs.specs.Numbers.{all_stand};
 
-use crate::lists::{UufList, VarList};
 use crate::walk::TermSink;
+use smt_job_declarations::{UufList, VarList};
 use smt_nodes::{Interner, NodeId};
 use smt_term::{EnumTable, Term, TermError};
 

@@ -12,17 +12,16 @@ ghost use Rattle.smt_job_grammar.specs.Jobs as stated;
 ghost use Rattle.smt_job_grammar.specs.Jobs.{IsTooLong, PlainJob, greatest_nesting};
 ghost use Rattle.smt_job_grammar.specs.Outcomes.{FormFault};
 ghost use Rattle.smt_job_grammar.specs.Terms.{conditions_of};
-ghost use Rattle.smt_jobs.specs.JobView as view;
-ghost use Rattle.smt_jobs.specs.JobView.{HasDeclared, IsFault, IsReadAs, declared_in};
+ghost use Rattle.smt_job_declarations.specs.DeclarationView.{HasDeclared, declared_in};
+ghost use Rattle.smt_job_declarations.specs.ReadAs.{IsFault, IsReadAs, plain_list};
 ghost use Rattle.smt_jobs.specs.Refused.{IsFirstFault, IsRefusal};
 ghost use Rattle.smt_jobs.specs.Walk.{Begins, BeginsInside, Gives, ReadsInside, ReadsSome, Takes, TakesJob, first_and_others};
 
-use crate::declaration::{Declared, functions_from, variables_from};
-use crate::enums::enums_from;
-use crate::error::JobError;
-use crate::expression::{name_in, section};
 use crate::job::{GREATEST_JOB, GREATEST_NESTING};
-use crate::term::condition_from;
+use smt_job_declarations::{
+    Declared, JobError, enums_from, functions_from, name_in, section, variables_from,
+};
+use smt_job_terms::condition_from;
 use smt_sexpr::{
     SExpr, SExprParseError, behind_close, behind_open, is_blank, parse_sexpr_within, read_next,
 };
@@ -87,7 +86,7 @@ fn enter_section<'t>(
 
 /// What stands behind this head in brackets.
 fn section_of<'e>(head: &str, expression: &'e SExpr) -> Result<&'e [SExpr], JobError>
-    ensures { IsReadAs (λ items. view.plain_list items.now) result (stated.section_of head.now (plain expression.now)) }
+    ensures { IsReadAs (λ items. plain_list items.now) result (stated.section_of head.now (plain expression.now)) }
 {
     section(head, expression).ok_or(JobError::BadForm)
 }

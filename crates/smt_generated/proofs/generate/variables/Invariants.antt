@@ -1,5 +1,5 @@
 use Rattle.std.proofs.Common.{◌≡◌}
-use Rattle.smt_jobs.specs.JobView.{declarations}
+use Rattle.smt_job_declarations.specs.DeclarationView.{declarations}
 use Rattle.smt_generated.specs.Generated.{variables_below}
 use Rattle.smt_generated.proofs.generate.variables.Given as goal
 

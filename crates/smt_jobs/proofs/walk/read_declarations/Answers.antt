@@ -3,9 +3,9 @@ use Rattle.smt_lexicon.specs.Reading.{Expressions}
 use Rattle.smt_sexpr.specs.View.{plain}
 use Rattle.smt_job_grammar.specs.Declarations.{Declared as Stated}
 use Rattle.smt_job_grammar.specs.Jobs.{declared_in_sections}
-use Rattle.smt_jobs.specs.JobView.{declared_in}
+use Rattle.smt_job_declarations.specs.DeclarationView.{declared_in}
 use Rattle.smt_jobs.specs.Walk.{BeginsInside}
-use Rattle.smt_jobs.specs.declared.declaration.Declared.{Declared}
+use Rattle.smt_job_declarations.specs.declared.declaration.Declared.{Declared}
 use Rattle.smt_jobs.proofs.Walking.{declared_there, gives_passes, not_declared_there, read_more, read_none}
 use Rattle.smt_jobs.proofs.walk.read_declarations.Goals as goal
 

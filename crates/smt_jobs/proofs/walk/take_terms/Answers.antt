@@ -6,7 +6,7 @@ use Rattle.smt_sexpr.specs.View.{plain}
 use Rattle.smt_job_grammar.specs.Outcomes.{mapped}
 use Rattle.smt_job_grammar.specs.Terms.{condition_of, conditions_of}
 use Rattle.smt_jobs.specs.Walk.{first_and_others}
-use Rattle.smt_jobs.proofs.Reading.{mapped_fault}
+use Rattle.smt_job_declarations.proofs.Reading.{mapped_fault}
 use Rattle.smt_jobs.proofs.Walking.{all_taken, gives_passes, not_taken, nothing_more_there, read_more, read_none, taken_more, taking_none}
 use Rattle.smt_jobs.proofs.walk.take_terms.Goals as goal
 

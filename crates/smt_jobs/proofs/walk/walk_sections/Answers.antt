@@ -3,9 +3,9 @@ use Rattle.smt_lexicon.specs.Lexicon.{End}
 use Rattle.smt_lexicon.specs.Reading.{inside}
 use Rattle.smt_job_grammar.specs.Jobs.{PlainJob, declared_first, job_of, nothing_more, section_of, terms_last}
 use Rattle.smt_job_grammar.specs.Terms.{conditions_of}
-use Rattle.smt_jobs.specs.JobView.{declared_in}
+use Rattle.smt_job_declarations.specs.DeclarationView.{declared_in}
 use Rattle.smt_jobs.specs.Walk.{Takes}
-use Rattle.smt_jobs.specs.declared.declaration.Declared.{Declared}
+use Rattle.smt_job_declarations.specs.declared.declaration.Declared.{Declared}
 use Rattle.smt_jobs.proofs.Walking.{IsSectioned, behind_terms, ended, entered, gives_passes, job_read, no_conditions, no_job, no_terms, not_declared, not_ended, not_entered, whole_begins, with_terms}
 use Rattle.smt_jobs.proofs.walk.walk_sections.Goals as goal
 

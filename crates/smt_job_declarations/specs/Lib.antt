@@ -1,0 +1,3 @@
+pub mod DeclarationView
+pub mod EnumView
+pub mod ReadAs
