@@ -1,0 +1,6 @@
+mod Examples
+mod Faults
+mod Fields
+mod Literals
+mod Parts
+mod Walks
