@@ -1,0 +1,4 @@
+pub mod CedarMeaning
+pub mod CedarTyping
+pub mod Examples
+pub mod Laws
