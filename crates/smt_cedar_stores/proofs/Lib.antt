@@ -1,0 +1,4 @@
+mod Examples
+mod LastAction
+mod PutEntity
+mod PutEntry

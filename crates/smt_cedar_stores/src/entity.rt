@@ -1,0 +1,56 @@
+// Entities, and how one gets into a list of them.
+ghost use Rattle.std.specs.Prelude.{◌≡◌, OnErr, OnOk, map};
+ghost use Rattle.std.specs.List.{position_or_len};
+ghost use Rattle.smt_leaves.specs.Entities.{texts_of_entity};
+ghost use Rattle.smt_cedar_stores.specs.Stores.{is_named, put_entity};
+ghost use Rattle.smt_cedar_stores.specs.View.{plain_stored};
+
+use crate::uids::UidList;
+use smt_cedar_values::PartialMap;
+use smt_leaves::EntityUID;
+use std::alloc::AllocError;
+
+/// A stored entity.
+#[derive(Debug, PartialEq, Eq, Drop)]
+pub struct Entity {
+    /// The entity.
+    pub uid: EntityUID,
+    /// Its attributes, each with what is known of its value.
+    pub attrs: PartialMap,
+    /// Its ancestors.
+    pub ancestors: UidList,
+    /// Its tags, each with what is known of its value.
+    pub tags: PartialMap,
+}
+
+/// Puts an entity in the place of the one of its uid, or else at the end.
+///
+/// # Errors
+/// Want of memory. The list stays as it is.
+#[tactic(auto, using(crate::proofs::PutEntity::entity_set, crate::proofs::PutEntity::entity_push))]
+pub(crate) fn put(items: &mut Vec<Entity>, entity: Entity) -> Result<(), AllocError>
+    ensures put { OnOk result (map plain_stored items.new.items ≡ put_entity (plain_stored entity) (map plain_stored items.old.items)) }
+    ensures unchanged { OnErr result (items.new.items ≡ items.old.items) }
+{
+    let place = place_of(items.as_slice(), &entity.uid);
+    if place < items.len() {
+        items[place] = entity;
+        return Ok(());
+    }
+    items.push(entity)?;
+    Ok(())
+}
+
+// The place of the first entity of this uid, or the count of all.
+fn place_of(items: &[Entity], uid: &EntityUID) -> usize
+    ensures { result ≡ position_or_len (is_named (texts_of_entity uid.now)) (map plain_stored items.now) }
+{
+    let mut place = 0;
+    for item in items {
+        if item.uid == *uid {
+            return place;
+        }
+        place += 1;
+    }
+    place
+}
