@@ -34,9 +34,9 @@ only_memory : (e : SymbolizeError) (u : PlainTerm) → IsRefusal {A = PlainTerm}
 only_memory (UnableToSymbolizeValue given) u h = cc
 only_memory (CompileError e) u h = absurd (no_unsupported e u h)
 only_memory (ExtError e) u h = absurd (no_missing e u h)
-only_memory PartialRequest u h = absurd h
-only_memory PartialValue u h = absurd h
-only_memory IllFormedTypeEnv u h = absurd h
+only_memory PartialRequest u h = cc
+only_memory PartialValue u h = cc
+only_memory IllFormedTypeEnv u h = cc
 only_memory EntitiesError u h = absurd h
 only_memory Memory u h = refl
 

@@ -1,5 +1,4 @@
 pub mod Answers
-pub mod Ascending
 mod Examples
 pub mod Meanings
 pub mod ProgramTypes

@@ -29,7 +29,7 @@ use Rattle.smt_values.specs.TermOfValue.{extension_term, field_named, term_held,
 use Rattle.smt_value_meaning.specs.CedarMeaning.{attribute_meaning, attribute_meanings, cedar_value, elements_of, extension_meaning, value_named}
 use Rattle.smt_value_meaning.specs.CedarTyping.{AreInOrder, HasAttributes, IsInOrder, IsOfAttribute, IsOfExtension, IsOfType, names_of_type}
 use Rattle.smt_value_meaning.specs.Laws.{IsLiteralOf, TermsHaveMeanings}
-use Rattle.smt_value_meaning.proofs.Ascending.{pairs_in_order}
+use Rattle.smt_values.proofs.Ascending.{pairs_in_order}
 use Rattle.smt_value_meaning.proofs.Types.{IsAttributeBefore, IsRecordOfTypes, IsSetOfType, attribute_stated, one_stated, record_stated, set_stated}
 
 -- what is stated is a literal of this type that has this value
@@ -165,7 +165,7 @@ pair_given name names own rest types w ws (Err fault) os same h g = elim h [ ]
 record_literal : (names : List (List ℕ)) (types : AttributeTypes) (t : PlainType) (ws : FieldValues) (ps : List (List ℕ × PlainTerm)) → ascends text_cmp names ≡ true → RecordType types ≡ t → AreFieldsOf names types ws ps
     → IsLiteralOf t (ValueOfRecord ws) (record_of_pairs ps)
 record_literal names types t ws ps up same h =
-    let sorted_same : sorted_fields ps ≡ ps = pairs_in_order ps (ap (λ l. ascends text_cmp l) h.named ∙ up) in
+    let sorted_same : sorted_fields ps ≡ ps = pairs_in_order text_cmp ps (ap (λ l. ascends text_cmp l) h.named ∙ up) in
     subst (λ (l : List (List ℕ × PlainTerm)). IsLiteralOf t (ValueOfRecord ws) (RecordTerm (fields l))) (sym sorted_same) (record {
       typed = record { parts = h.parts; type = ap RecordType h.same ∙ same };
       literal = h.literals;

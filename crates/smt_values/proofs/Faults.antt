@@ -37,9 +37,9 @@ pub refusal_passes : {B B' : Type 0} (e : SymbolizeError) (whole : Outcome B) (p
 refusal_passes (UnableToSymbolizeValue given) whole part h p = p _ h
 refusal_passes (CompileError e) whole part h p = unsupported_passes e whole part h p
 refusal_passes (ExtError e) whole part h p = no_extension_passes e whole part h p
-refusal_passes PartialRequest whole part h p = absurd h
-refusal_passes PartialValue whole part h p = absurd h
-refusal_passes IllFormedTypeEnv whole part h p = absurd h
+refusal_passes PartialRequest whole part h p = p _ h
+refusal_passes PartialValue whole part h p = p _ h
+refusal_passes IllFormedTypeEnv whole part h p = p _ h
 refusal_passes EntitiesError whole part h p = absurd h
 refusal_passes Memory whole part h p = tt
 

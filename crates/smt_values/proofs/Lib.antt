@@ -1,6 +1,7 @@
+pub mod Ascending
 mod Examples
-mod Faults
+pub mod Faults
 mod Fields
 mod Literals
 mod Parts
-mod Walks
+pub mod Walks

@@ -18,7 +18,7 @@ use Rattle.smt_cedar_values.specs.View.{plain_value_of}
 use Rattle.smt_cedar_values.specs.declared.value.Value.{Value}
 use Rattle.smt_values.specs.Outcomes.{SymbolizeFault, Outcome, ◌>>=◌, converted}
 use Rattle.smt_values.specs.TermOfValue.{field_named, term_of_attribute, term_of_value, terms_of_attributes, terms_of_elements}
-use Rattle.smt_values.proofs.Walks.{each}
+use Rattle.smt_values.specs.Outcomes.{each}
 
 -- ---- the elements of sets
 

@@ -1,12 +1,7 @@
 -- Lists whose elements are symbolized one after the other.
 use Rattle.std.proofs.Common.{◌≡◌, ℕ, ◌+◌, ◌<◌, ◌≤◌, List, [], ◌∷◌, ◌++◌, Ok, Err, drop, get_or, length, refl, sym, ap, ◌∙◌, append-nil, append_assoc}
 use Rattle.std.proofs.lemmas.List.{at_drop_more, at_drop_all}
-use Rattle.smt_values.specs.Outcomes.{SymbolizeFault, Outcome, ◌>>=◌}
-
--- what is stated of each, in order, or the first fault
-abbrev pub each : {X A : Type 0} → (X → Outcome A) → List X → Outcome (List A)
-each f [] = Ok []
-each f (x ∷ xs) = f x >>= λ a. each f xs >>= λ rest. Ok (a ∷ rest)
+use Rattle.smt_values.specs.Outcomes.{SymbolizeFault, Outcome, ◌>>=◌, each}
 
 -- these in front of what is stated
 abbrev pub behind : {A : Type 0} → List A → Outcome (List A) → Outcome (List A)

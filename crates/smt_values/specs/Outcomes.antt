@@ -1,5 +1,5 @@
 -- What is stated of symbolizing a value, or why it has no term.
-use Rattle.std.specs.Prelude.{ℕ, List, Result, Ok, Err}
+use Rattle.std.specs.Prelude.{ℕ, List, [], ◌∷◌, Result, Ok, Err}
 use Rattle.smt_cedar_types.specs.TypeOfCedar.{Stated}
 use Rattle.smt_cedar_values.specs.Plain.{PlainValue}
 
@@ -11,6 +11,12 @@ pub data SymbolizeFault : Type 0 where
   NoExtension : PlainValue → SymbolizeFault
   -- no type of terms stands for a Cedar type, for this reason
   Unsupported : (reason : List ℕ) → SymbolizeFault
+  -- a part of a request is not known
+  IncompleteRequest : SymbolizeFault
+  -- the value of an attribute, or of a tag, is not known
+  UnknownValue : SymbolizeFault
+  -- a request is of no environment of its schema
+  ForeignRequest : SymbolizeFault
 
 -- what is stated, or the first fault
 abbrev pub Outcome : Type 0 → Type 0
@@ -26,3 +32,8 @@ Err fault >>= f = Err fault
 abbrev pub converted : {A : Type 0} → Stated A → Outcome A
 converted (Ok a) = Ok a
 converted (Err reason) = Err (Unsupported reason)
+
+-- what is stated of each, in order, or the first fault
+abbrev pub each : {X A : Type 0} → (X → Outcome A) → List X → Outcome (List A)
+each f [] = Ok []
+each f (x ∷ xs) = f x >>= λ a. each f xs >>= λ rest. Ok (a ∷ rest)

@@ -8,7 +8,7 @@ use Rattle.smt_cedar_values.specs.Plain.{PlainValue}
 use Rattle.smt_cedar_values.specs.View.{plain_value_of}
 use Rattle.smt_cedar_values.specs.declared.error.ExtError.{ExtError as ValueError}
 use Rattle.smt_cedar_values.specs.declared.error.ExtError.TheVariants as values
-use Rattle.smt_values.specs.Outcomes.{Outcome, NoTerm, NoExtension, Unsupported}
+use Rattle.smt_values.specs.Outcomes.{Outcome, NoTerm, NoExtension, Unsupported, IncompleteRequest, UnknownValue, ForeignRequest}
 use Rattle.smt_values.specs.declared.error.SymbolizeError.{SymbolizeError}
 use Rattle.smt_values.specs.declared.error.SymbolizeError.TheVariants.{UnableToSymbolizeValue, CompileError, ExtError, PartialRequest, PartialValue, IllFormedTypeEnv, EntitiesError, Memory}
 
@@ -27,9 +27,9 @@ abbrev pub IsRefusal : {A : Type 0} → SymbolizeError → Outcome A → Type 0
 IsRefusal (UnableToSymbolizeValue given) outcome = outcome ≡ Err (NoTerm (plain_value_of given))
 IsRefusal (CompileError e) outcome = IsUnsupported e outcome
 IsRefusal (ExtError e) outcome = IsNoExtension e outcome
-IsRefusal PartialRequest outcome = ⊥
-IsRefusal PartialValue outcome = ⊥
-IsRefusal IllFormedTypeEnv outcome = ⊥
+IsRefusal PartialRequest outcome = outcome ≡ Err IncompleteRequest
+IsRefusal PartialValue outcome = outcome ≡ Err UnknownValue
+IsRefusal IllFormedTypeEnv outcome = outcome ≡ Err ForeignRequest
 IsRefusal EntitiesError outcome = ⊥
 IsRefusal Memory outcome = ⊤
 

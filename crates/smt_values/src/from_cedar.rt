@@ -2,6 +2,7 @@
 ghost use Rattle.std.specs.Prelude.{◌≡◌, IfErr, IfOk, Ok, map, option_map};
 ghost use Rattle.std.specs.Rc.{rc_str_bytes};
 ghost use Rattle.smt_term.specs.View.{plain_field, plain_term};
+ghost use Rattle.smt_cedar_types.specs.Cedar.{ClosedRecordType};
 ghost use Rattle.smt_cedar_types.specs.View.{plain_cedar, plain_cedar_attributes, record_with, set_with};
 ghost use Rattle.smt_cedar_values.specs.Constructors.{value_of_value};
 ghost use Rattle.smt_cedar_values.specs.Plain.{RecordValue, SetValue, record_fields, values};
@@ -265,4 +266,18 @@ fn term_of(alloc: Global, ty: &CedarType, v: &Value) -> Result<Term, SymbolizeEr
         Value::Record(fields) => term_of_record(alloc, ty, fields),
         Value::ExtensionValue(_) => extension_term(alloc, v),
     }
+}
+
+/// The term that stands for a record at the closed record type of these attributes.
+///
+/// # Errors
+/// Those of `from_value`.
+pub fn from_record(
+    alloc: Global,
+    fields: &ValueMap,
+    attrs: &Attributes,
+) -> Result<Term, SymbolizeError>
+    ensures { IsGiven plain_term result (term_of_value (ClosedRecordType (plain_cedar_attributes attrs.now)) (RecordValue (record_fields (named_fields fields.now)))) }
+{
+    record_term(alloc, attrs, OpenTag::ClosedAttributes, fields)
 }

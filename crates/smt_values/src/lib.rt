@@ -14,4 +14,4 @@ mod tests;
 
 pub use defaults::default_literal;
 pub use error::SymbolizeError;
-pub use from_cedar::FromCedar;
+pub use from_cedar::{FromCedar, from_record};
