@@ -12,6 +12,9 @@ use Rattle.smt_cedar_values.specs.Plain.{PlainValue, RecordValue, record_fields}
 use Rattle.smt_cedar_stores.specs.Plain.{PlainEntity, StandardType, PlainAction, PlainSchema, PlainRequestEnv, PlainRequest, PlainEnv}
 use Rattle.smt_cedar_stores.specs.Stores.{action_of}
 use Rattle.smt_cedar_stores.specs.Uids.{Uid, same_uid}
+use Rattle.smt_cedar_stores.specs.View.{plain_entities, plain_schema}
+use Rattle.smt_cedar_stores.specs.declared.schema.Schema.{Schema}
+use Rattle.smt_cedar_stores.specs.declared.store.Entities.{Entities}
 use Rattle.smt_values.specs.Outcomes.{◌>>=◌}
 use Rattle.smt_values.specs.TermOfValue.{term_of_value}
 use Rattle.smt_symbolic_environments.specs.Plain.{PlainTags, PlainData, PlainSymbolicRequest, PlainSymbolicEnvironment}
@@ -20,14 +23,21 @@ use Rattle.smt_symbolic_environments.specs.Tables.{entity_term, fields_term, kno
 
 -- ---- stores and schemas
 
--- no uid stands twice, and the keys of an entity's tags ascend: every store of the program is so
+-- no uid stands twice, and the keys of an entity's tags ascend
 pub record IsStore (entities : List PlainEntity) : Type 0 where
   pub distinct : IsDistinct same_uid (map (λ entity. entity.uid) entities)
   pub tags : AllByRecursion (λ entity. IsTrue (ascends text_cmp (keys_of entity.tags))) entities
 
--- the names of entity types ascend: in every schema of the program they do
+-- the names of entity types ascend
 abbrev pub IsSchema : PlainSchema → Type 0
 IsSchema schema = IsTrue (ascends text_cmp (keys_of schema.entity_types))
+
+-- the stores and the schemas of the program are so
+abbrev pub ProgramStoresAreStores : Type 0
+ProgramStoresAreStores = (entities : Entities) → IsStore (plain_entities entities)
+
+abbrev pub ProgramSchemasAreInOrder : Type 0
+ProgramSchemasAreInOrder = (schema : Schema) → IsSchema (plain_schema schema)
 
 -- ---- a stored entity of a type with these ancestors' types, these attributes and tags of this type
 
