@@ -16,10 +16,10 @@ use Rattle.smt_lines.specs.Text.{names, text}
 use Rattle.smt_script.specs.Count.{count_bytes, count_contents}
 use Rattle.smt_script.specs.declared.count.CountSink.{CountSink}
 use Rattle.smt_job_grammar.specs.Jobs.{PlainJob}
-use Rattle.smt_encode.specs.NodeTexts.{HasName}
+use Rattle.smt_node_texts.specs.NodeTexts.{HasName}
 use Rattle.smt_encode.specs.declared.error.EncodeError.{EncodeError}
 use Rattle.smt_encode.specs.declared.error.EncodeError.TheVariants.{Memory}
-use Rattle.smt_encode.specs.declared.node_names.NodeNames.{NodeNames}
+use Rattle.smt_node_texts.specs.declared.node_names.NodeNames.{NodeNames}
 use Rattle.smt_generated.specs.Jobs.{job_generated}
 use Rattle.smt_cli.specs.Generation.{summary_by, summary_lines, summary_of, summary_text}
 use Rattle.smt_cli.specs.declared.summary.Summary.{Summary}

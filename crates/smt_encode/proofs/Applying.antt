@@ -1,26 +1,20 @@
 -- The lines and the faults of applications whose operands are written as they stand.
-use Rattle.std.proofs.Common.{◌≡◌, ℕ, Bool, true, false, List, [], ◌∷◌, get_or, length, map, ◌≤◌, Option, Some, None, Result, Ok, Err, arith, refl, sym, ap, subst, ◌∙◌}
-use Rattle.std.specs.Prelude.{is_some, option_map, IfOk, IsErrOf, IsTrue}
+use Rattle.std.proofs.Common.{◌≡◌, ℕ, List, [], ◌∷◌, get_or, length, map, ◌≤◌, Option, Result, Ok, Err, arith, refl, sym, ap, subst}
+use Rattle.std.specs.Prelude.{IfOk, IsErrOf}
 use Rattle.std.specs.Result.{IsErrAnd}
 use Rattle.std.specs.Io.KnownBytes.{append_known}
 use Rattle.std.specs.declared.alloc.Global.{Global}
 use Rattle.std.specs.declared.rc.Rc.{Rc}
 use Rattle.std.specs.declared.rc.RcStr.{RcStr}
-use Rattle.std.proofs.lemmas.Bool.{false≢true}
 use Rattle.smt_characters.specs.LineTexts.{define_fun_text}
-use Rattle.smt_graph.specs.Nodes.{Meaning, TypeMeaning}
 use Rattle.smt_lexicon.specs.Reading.{Expression}
 use Rattle.smt_lines.specs.Line.{spelled_lines}
 use Rattle.smt_lines.specs.LineForms.{application_body, operator_head}
 use Rattle.smt_lines.specs.Lines.{Enums, Written, encode_head, first_type, made_of, next_term}
 use Rattle.smt_lines.specs.Spelling.{spelled}
-use Rattle.smt_lines.specs.NameTables.{Tables, name_of_type}
-use Rattle.smt_meaning.specs.Faults.{Fault, MissingTypeEncoding, record_get_fault}
-use Rattle.smt_meaning.specs.Plain.{PlainType, EntityType, ExtensionType, RecordType, PlainOp, PlainTerm, terms}
+use Rattle.smt_lines.specs.NameTables.{Tables}
+use Rattle.smt_meaning.specs.Plain.{PlainOp, PlainTerm, terms}
 use Rattle.smt_meaning.specs.Types.{type_of}
-use Rattle.smt_nodes.specs.Interned.{meaning_in}
-use Rattle.smt_nodes.specs.declared.id.NodeId.{NodeId}
-use Rattle.smt_nodes.specs.declared.interner.Interner.{Interner}
 use Rattle.smt_script.proofs.PutsLemmas.{appends_then}
 use Rattle.smt_script.specs.declared.sink.SinkError.TheVariants.{Fault as Failed}
 use Rattle.smt_semantics.specs.Script.{name}
@@ -31,65 +25,16 @@ use Rattle.smt_term.specs.declared.op.Op.{Op}
 use Rattle.smt_term.specs.declared.op.Op.TheVariants.{RecordGet, Uuf}
 use Rattle.smt_term.specs.declared.term.Term.{Term}
 use Rattle.smt_encode.specs.Alone.{encoded, PutUnder}
-use Rattle.smt_encode.specs.Applied.{application_line, fault_of_application, fault_of_selection, PutApplied, WroteApplied}
-use Rattle.smt_encode.specs.Names.{AreTables, KeepTables}
+use Rattle.smt_encode.specs.Applied.{application_line, fault_of_application, PutApplied, WroteApplied}
+use Rattle.smt_node_texts.specs.Names.{KeepTables}
 use Rattle.smt_encode.specs.Steps.{HasTables, Wrote}
 use Rattle.smt_encode.specs.declared.encoder.Encoder.{Encoder}
 use Rattle.smt_encode.specs.declared.error.EncodeError.{EncodeError}
-use Rattle.smt_encode.specs.declared.error.SelectorError.{SelectorError}
+use Rattle.smt_node_texts.specs.declared.error.SelectorError.{SelectorError}
 use Rattle.smt_encode.specs.declared.error.WriteError.{WriteError}
 use Rattle.smt_encode.specs.declared.error.WriteError.TheVariants.{Selector, Sink}
 use Rattle.smt_encode.specs.declared.writer.Writer.{Writer}
-use Rattle.smt_encode.specs.NodeLines.{has_entry}
-use Rattle.smt_encode.specs.NodeTexts.{HasName}
-use Rattle.smt_encode.specs.declared.names.Names.{Names}
-use Rattle.smt_encode.specs.declared.node_names.NodeNames.{NodeNames}
-
--- ---- types and their names
-
--- what has no entry has no name
-nameless : (i : Interner) (names : NodeNames) (m : Meaning) (o : Option (List ℕ)) → has_entry m ≡ false → HasName i names m o → o ≡ None
-nameless i names m None none h = refl
-nameless i names m (Some x) none (id, meant, entry, there) = absurd (false≢true (sym none ∙ entry))
-
--- what no number stands for has no name
-pub name_of_none : (i j : Interner) (names : NodeNames) (m : Meaning) (o : Option (List ℕ)) → j ≡ i → ((id : NodeId) → meaning_in j id ≡ Some m → ⊥) → HasName i names m o → None ≡ o
-name_of_none i j names m None same none h = refl
-name_of_none i j names m (Some x) same none (id, meant, entry, there) = absurd (none id (ap (λ k. meaning_in k id) same ∙ meant))
-
--- what is found is found under another view of it
-pub same_finding : {A B : Type 0} (f : A → B) (r : Option A) (o : Option B) → option_map f r ≡ o → is_some r ≡ is_some o
-same_finding f None o is = ap is_some is
-same_finding f (Some x) o is = ap is_some is
-
--- of a type without an entry an attribute is not taken, since it has no name
-missing : (a : List ℕ) (t : PlainType) → has_entry (TypeMeaning t) ≡ false → record_get_fault a (t ∷ []) ≡ Some (MissingTypeEncoding t)
-missing a (RecordType x) h = absurd (false≢true (sym h))
-missing a (EntityType e) h = absurd (false≢true (sym h))
-missing a (ExtensionType k) h = absurd (false≢true (sym h))
-missing a t h = refl
-
--- the fault of a type by its name
-abbrev by_name : (a : List ℕ) (t : PlainType) → Option (List ℕ) → Option Fault
-by_name a t o = elim o [ None ↦ Some (MissingTypeEncoding t) | Some n ↦ record_get_fault a (t ∷ []) ]
-
--- where a type that has an entry has a name, the fault is that of the attribute
-pub fault_at_name : (n : Names) (s : Tables) (a : List ℕ) (t : PlainType) → AreTables n s → (IsTrue (has_entry (TypeMeaning t)) → true ≡ is_some (name_of_type s t)) → record_get_fault a (t ∷ []) ≡ fault_of_selection s a t
-fault_at_name n s a t are named = go (has_entry (TypeMeaning t)) (name_of_type s t) refl (are.names (TypeMeaning t)) named
-  where
-    go : (b : Bool) (o : Option (List ℕ)) → has_entry (TypeMeaning t) ≡ b → HasName n.nodes n.texts (TypeMeaning t) o → (IsTrue (has_entry (TypeMeaning t)) → true ≡ is_some o) → record_get_fault a (t ∷ []) ≡ by_name a t o
-    go b (Some x) e has h = refl
-    go true None e has h = absurd (false≢true (sym (h e)))
-    go false None e has h = missing a t e
-
--- and where it has none, the fault is that
-pub fault_without_name : (n : Names) (s : Tables) (a : List ℕ) (t : PlainType) → AreTables n s → (IsTrue (has_entry (TypeMeaning t)) → false ≡ is_some (name_of_type s t)) → fault_of_selection s a t ≡ Some (MissingTypeEncoding t)
-fault_without_name n s a t are unnamed = go (has_entry (TypeMeaning t)) (name_of_type s t) refl (are.names (TypeMeaning t)) unnamed
-  where
-    go : (b : Bool) (o : Option (List ℕ)) → has_entry (TypeMeaning t) ≡ b → HasName n.nodes n.texts (TypeMeaning t) o → (IsTrue (has_entry (TypeMeaning t)) → false ≡ is_some o) → by_name a t o ≡ Some (MissingTypeEncoding t)
-    go b None e has h = refl
-    go true (Some x) e has h = absurd (false≢true (h e))
-    go false (Some x) e has h = absurd (false≢true (sym e ∙ has.2))
+use Rattle.smt_node_texts.specs.declared.names.Names.{Names}
 
 -- the type of the first term
 pub first_typed : (ts : List Term) (x : Term) → 1 ≤ length ts → x ≡ get_or ts 0 x → first_type (terms (map plain_term ts)) ≡ type_of (plain_term x)

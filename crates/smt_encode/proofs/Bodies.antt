@@ -19,7 +19,7 @@ use Rattle.smt_spelling.specs.declared.entry.Entry.{Entry}
 use Rattle.smt_spelling.specs.declared.entry.Entry.TheVariants.{Body, Constant, Name}
 use Rattle.smt_spelling.proofs.Bracketed.{bracketed}
 use Rattle.smt_encode.specs.Alone.{empty_set_text, line_of_entity, name_of_entity, set_body_text}
-use Rattle.smt_encode.specs.Entries.{entry_name}
+use Rattle.smt_node_texts.specs.Entries.{entry_name}
 
 -- texts as they stand are spelled as names
 pub as_they_stand : (xs : List (List ℕ)) → xs ≡ map spelled (map name xs)

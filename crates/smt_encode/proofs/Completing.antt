@@ -17,12 +17,12 @@ use Rattle.smt_nodes.specs.View.{place_of, places_of}
 use Rattle.smt_nodes.specs.declared.id.NodeId.{NodeId}
 use Rattle.smt_nodes.specs.declared.interner.Interner.{Interner}
 use Rattle.smt_encode.specs.Complete.{is_typed, is_written, AreTypedMeanings, HaveWrittenParts}
-use Rattle.smt_encode.specs.Names.{nodes_under, texts_under}
-use Rattle.smt_encode.specs.NodeTexts.{text_at, HasNoTexts}
-use Rattle.smt_encode.specs.Texts.{kept_at}
-use Rattle.smt_encode.proofs.Named.{none_at, one_id}
+use Rattle.smt_node_texts.specs.Names.{nodes_under, texts_under}
+use Rattle.smt_node_texts.specs.NodeTexts.{text_at, HasNoTexts}
+use Rattle.smt_node_texts.specs.Texts.{kept_at}
+use Rattle.smt_node_texts.proofs.Named.{none_at, one_id}
 use Rattle.smt_encode.specs.declared.writer.Writer.{Writer}
-use Rattle.smt_encode.specs.declared.node_names.NodeNames.{NodeNames}
+use Rattle.smt_node_texts.specs.declared.node_names.NodeNames.{NodeNames}
 
 -- what has a text keeps one
 stays : (a b : Option (List ℕ)) → ((text : List ℕ) → a ≡ Some text → b ≡ Some text) → IsTrue (is_some a) → IsTrue (is_some b)

@@ -17,7 +17,7 @@ use Rattle.smt_nodes.specs.Interned.{nodes_of}
 use Rattle.smt_nodes.specs.View.{place_of, places_of}
 use Rattle.smt_nodes.specs.declared.id.NodeId.{NodeId}
 use Rattle.smt_nodes.specs.declared.interner.Interner.{Interner}
-use Rattle.smt_encode.specs.NodeTexts.{StandFor}
+use Rattle.smt_node_texts.specs.NodeTexts.{StandFor}
 use Rattle.smt_term.specs.View.{plain_term}
 use Rattle.smt_leaves.specs.declared.enums.EnumTable.{EnumTable}
 use Rattle.smt_term.specs.declared.term.Term.{Term}
@@ -31,8 +31,8 @@ use Rattle.smt_carrying.specs.CarriedOrder.{AreEnums}
 use Rattle.smt_headline.specs.Headline.{Headline}
 use Rattle.smt_headline.proofs.FitKept.{conditions_are_their_scripts}
 use Rattle.smt_encode.specs.Encoded.{OfReceived}
-use Rattle.smt_encode.specs.Names.{AreTables}
-use Rattle.smt_encode.specs.declared.names.Names.{Names}
+use Rattle.smt_node_texts.specs.Names.{AreTables}
+use Rattle.smt_node_texts.specs.declared.names.Names.{Names}
 
 all_formed : (ts : List Term) → AllByRecursion IsFormed (map plain_term ts)
 all_formed [] = tt

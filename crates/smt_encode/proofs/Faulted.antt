@@ -17,7 +17,7 @@ use Rattle.smt_encode.specs.declared.error.EncodeError.TheVariants.{Io, Spent, M
 use Rattle.smt_spelling.specs.declared.error.TextError.TheVariants.{MissingMember, StringFailed, PatternFailed, EmptyEnum as NoMembers, Memory as NoMemory}
 use Rattle.smt_encode.specs.declared.error.WriteError.{WriteError}
 use Rattle.smt_encode.specs.declared.error.WriteError.TheVariants.{Selector, Sink, Text}
-use Rattle.smt_encode.specs.declared.error.SelectorError.TheVariants.{Lacks, NoOperand, NoRecord, Unnamed, Memory as NoSpace}
+use Rattle.smt_node_texts.specs.declared.error.SelectorError.TheVariants.{Lacks, NoOperand, NoRecord, Unnamed, Memory as NoSpace}
 use Rattle.smt_term.specs.View.{plain_type}
 
 -- ---- errors

@@ -1,5 +1,5 @@
 -- A node's own lines, by the texts of its parts.
-use Rattle.std.proofs.Common.{◌≡◌, ℕ, true, List, [], ◌∷◌, ◌++◌, drop, get_or, length, ◌≤◌, refl, sym, ap, ◌∙◌, subst, arith, Option, Some, None, Result}
+use Rattle.std.proofs.Common.{◌≡◌, ℕ, true, List, [], ◌∷◌, drop, get_or, length, ◌≤◌, refl, sym, ap, ◌∙◌, subst, arith, Option, Some, None, Result}
 use Rattle.std.specs.Rc.{rc_str_bytes}
 use Rattle.std.specs.declared.alloc.Global.{Global}
 use Rattle.std.specs.declared.rc.RcStr.{RcStr}
@@ -10,15 +10,15 @@ use Rattle.smt_graph.specs.Parts.{label_in, parts_in}
 use Rattle.smt_lines.specs.Lines.{Enums, Written, made_of, ◌>>=◌}
 use Rattle.smt_lines.specs.NameTables.{Tables}
 use Rattle.smt_lines.specs.Spelling.{spelled}
-use Rattle.smt_encode.specs.Entries.{enter_by, entered_by, entry_by, head_in, inline_by, is_built, own_lines, rendering_in, written_parts}
+use Rattle.smt_node_texts.specs.Entries.{enter_by, entered_by, entry_by, head_in, inline_by, is_built, own_lines, rendering_in, written_parts}
 use Rattle.smt_spelling.specs.Entries.{SaysInline}
-use Rattle.smt_encode.specs.NodeLines.{encode_meanings, name_in}
-use Rattle.smt_encode.specs.NodeTexts.{IsText}
+use Rattle.smt_node_texts.specs.NodeLines.{encode_meanings, name_in}
+use Rattle.smt_node_texts.specs.NodeTexts.{IsText}
 use Rattle.smt_encode.specs.Steps.{WritesHere}
 use Rattle.smt_spelling.specs.Spelled.{AreSpelled, IsSpelled}
 use Rattle.smt_encode.specs.declared.writer.Writer.{Writer}
-use Rattle.smt_encode.proofs.Built.{inline_headless}
-use Rattle.smt_encode.proofs.Stated.{stated}
+use Rattle.smt_node_texts.proofs.Built.{inline_headless}
+use Rattle.smt_node_texts.proofs.Stated.{stated}
 
 -- an inline text is stated
 pub says_some : (o : Option Expression) (text : RcStr Global) → SaysInline o (Some text) → (e : Expression) × (o ≡ Some e) × (rc_str_bytes text ≡ spelled e)
@@ -75,21 +75,3 @@ entry_written contents old new enums m t es s first others result is shown none 
     ∙ entry_lines_are enums t s p.sort p.rest (ap (λ k. inline_by (label_in k) (p.sort ∷ p.rest)) (sym is) ∙ ap (inline_by (label_in m)) (sym p.whole) ∙ none)
     ∙ ap (λ k. enter_by (entry_by enums (label_in k) (rendering_in k) (head_in t s) p.sort p.rest) t p.sort s) (sym is) in
     subst (λ (w : Written Expression). WritesHere contents old new w IsSpelled result) (sym whole) (writes p.sort p.rest p.sort_spelled p.rest_spelled)
-
--- the last of several texts, and the others
-pub record SplitLast (es : List Expression) (others : List (RcStr Global)) (last : RcStr Global) : Type 0 where
-  pub rest : List Expression
-  pub function : Expression
-  pub whole : es ≡ rest ++ function ∷ []
-  pub rest_spelled : AreSpelled rest others
-  pub function_spelled : rc_str_bytes last ≡ spelled function
-
-pub split_last : (es : List Expression) (others : List (RcStr Global)) (last : RcStr Global) → AreSpelled es (others ++ last ∷ []) → SplitLast es others last
-split_last [] [] last h = absurd (cc)
-split_last [] (x ∷ others) last h = absurd (cc)
-split_last (e ∷ []) [] last h = record { rest = []; function = e; whole = refl; rest_spelled = refl; function_spelled = cc }
-split_last (e ∷ f ∷ es) [] last h = absurd (cc)
-split_last (e ∷ es) (x ∷ others) last h =
-    let one : rc_str_bytes x ≡ spelled e = cc in
-    let more = split_last es others last (cc) in
-    record { rest = e ∷ more.rest; function = more.function; whole = ap (λ l. e ∷ l) more.whole; rest_spelled = λ i. one i ∷ more.rest_spelled i; function_spelled = more.function_spelled }

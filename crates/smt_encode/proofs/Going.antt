@@ -16,7 +16,7 @@ use Rattle.smt_lines.specs.Line.{Line}
 use Rattle.smt_lines.specs.Lines.{Enums, Written}
 use Rattle.smt_lines.specs.NameTables.{Tables}
 use Rattle.smt_lines.specs.Spelling.{spelled}
-use Rattle.smt_encode.specs.NodeLines.{encode_meaning, encode_meanings, meaning_fault, meanings_fault}
+use Rattle.smt_node_texts.specs.NodeLines.{encode_meaning, encode_meanings, meaning_fault, meanings_fault}
 use Rattle.smt_encode.specs.Steps.{HasTables, Wrote}
 use Rattle.smt_spelling.specs.Spelled.{AreSpelled, IsSpelled}
 use Rattle.smt_encode.specs.declared.writer.Writer.{Writer}

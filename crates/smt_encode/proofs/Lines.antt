@@ -9,9 +9,9 @@ use Rattle.smt_lines.specs.NameTables.{Tables}
 use Rattle.smt_characters.specs.LineTexts.{declare_datatype_text}
 use Rattle.smt_script.proofs.PutsLemmas.{appends_then, appends_nothing}
 use Rattle.smt_encode.specs.Steps.{HasTables, PutsLine, WritesHere, Wrote}
-use Rattle.smt_encode.specs.Names.{KeepTables}
+use Rattle.smt_node_texts.specs.Names.{KeepTables}
 use Rattle.smt_encode.specs.declared.writer.Writer.{Writer}
-use Rattle.smt_encode.specs.declared.names.Names.{Names}
+use Rattle.smt_node_texts.specs.declared.names.Names.{Names}
 
 -- the line that declares `Option`
 pub option_bytes : (parameter nothing something : List ℕ) → parameter ≡ codes "X" → nothing ≡ codes "(none)" → something ≡ codes "(some (val X))"

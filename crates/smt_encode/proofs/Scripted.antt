@@ -13,7 +13,7 @@ use Rattle.smt_lines.specs.Lines.{Enums, encode, encode_terms, option_line}
 use Rattle.smt_lines.specs.NameTables.{Tables, no_names}
 use Rattle.smt_lines.specs.Spelling.{spelled}
 use Rattle.smt_lines.specs.Text.{text}
-use Rattle.smt_encode.specs.Names.{enums_under}
+use Rattle.smt_node_texts.specs.Names.{enums_under}
 use Rattle.smt_encode.specs.Steps.{Wrote}
 use Rattle.smt_spelling.specs.Spelled.{AreSpelled}
 use Rattle.smt_encode.specs.declared.writer.Writer.{Writer}

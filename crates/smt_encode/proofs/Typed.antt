@@ -7,7 +7,7 @@ use Rattle.smt_graph.specs.Nodes.{Meaning, TypeMeaning, FunctionMeaning, TermMea
 use Rattle.smt_graph.specs.Parts.{field_terms, parts_in, term_parts, types_in}
 use Rattle.smt_lines.specs.Lines.{least_rendering}
 use Rattle.smt_encode.specs.Complete.{is_typed, AreTypedMeanings}
-use Rattle.smt_encode.specs.Entries.{Rendered, op_rendering, rendering_in, second_last, written_parts}
+use Rattle.smt_node_texts.specs.Entries.{Rendered, op_rendering, rendering_in, second_last, written_parts}
 
 and_first : (a b : Bool) → IsTrue (a && b) → IsTrue a
 and_first true b h = refl

@@ -19,16 +19,16 @@ use Rattle.smt_script.proofs.PutsLemmas.{appends_then}
 use Rattle.smt_lines.specs.Line.{Line, spelled_lines}
 use Rattle.smt_lines.specs.Lines.{AsApplication, AsEqualsIntMin, AsFalse, Written, behind, ◌>>=◌}
 use Rattle.smt_lines.specs.NameTables.{Tables}
-use Rattle.smt_encode.specs.Entries.{NodeRendering, AsCall, Rendered, rendering_in, second_last, written_parts}
+use Rattle.smt_node_texts.specs.Entries.{NodeRendering, AsCall, Rendered, rendering_in, second_last, written_parts}
 use Rattle.smt_encode.proofs.Lines.{binds, lines_append}
-use Rattle.smt_encode.proofs.Rendered.{found_length}
+use Rattle.smt_node_texts.proofs.Rendered.{found_length}
 use Rattle.smt_nodes.specs.View.{ids_of, place_of, places_of, plain_node}
 use Rattle.smt_nodes.specs.declared.id.NodeId.{NodeId}
-use Rattle.smt_encode.specs.Names.{texts_under, HasRoom, StandsOn}
-use Rattle.smt_encode.specs.NodeTexts.{text_at, IsNodeOf}
+use Rattle.smt_node_texts.specs.Names.{texts_under, HasRoom, StandsOn}
+use Rattle.smt_node_texts.specs.NodeTexts.{text_at, IsNodeOf}
 use Rattle.smt_encode.specs.Steps.{FaultCounted, Walks, WritesHere, Wrote}
 use Rattle.smt_encode.specs.declared.writer.Writer.{Writer}
-use Rattle.smt_encode.specs.declared.names.Names.{Names}
+use Rattle.smt_node_texts.specs.declared.names.Names.{Names}
 
 -- what holds of the places of a list holds of one of them
 pub holds_at : (P : ℕ → Type 0) (ids : List NodeId) (i : ℕ) (d : NodeId) → AllByRecursion P (places_of ids) → i < length ids → P (place_of (get_or ids i d))

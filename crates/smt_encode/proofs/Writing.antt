@@ -14,16 +14,16 @@ use Rattle.smt_nodes.specs.View.{place_of, places_of}
 use Rattle.smt_nodes.specs.declared.id.NodeId.{NodeId}
 use Rattle.smt_lines.specs.Lines.{Enums, made_of, ◌>>=◌}
 use Rattle.smt_lines.specs.NameTables.{Tables}
-use Rattle.smt_encode.specs.Names.{enums_under, KeepTables}
-use Rattle.smt_encode.specs.NodeLines.{encode_meaning, encode_meanings, has_entry, name_in}
-use Rattle.smt_encode.specs.NodeTexts.{text_at, AreTexts, HasName, IsText}
+use Rattle.smt_node_texts.specs.Names.{enums_under, KeepTables}
+use Rattle.smt_node_texts.specs.NodeLines.{encode_meaning, encode_meanings, has_entry, name_in}
+use Rattle.smt_node_texts.specs.NodeTexts.{text_at, AreTexts, HasName, IsText}
 use Rattle.smt_encode.specs.Steps.{HasTables, Wrote}
 use Rattle.smt_spelling.specs.Spelled.{AreSpelled, IsSpelled}
 use Rattle.smt_encode.specs.declared.writer.Writer.{Writer}
-use Rattle.smt_encode.specs.declared.names.Names.{Names}
+use Rattle.smt_node_texts.specs.declared.names.Names.{Names}
 use Rattle.smt_encode.proofs.Lines.{nothing_written}
-use Rattle.smt_encode.proofs.Named.{named_at, one_id}
-use Rattle.smt_encode.proofs.Stated.{named_stated}
+use Rattle.smt_node_texts.proofs.Named.{named_at, one_id}
+use Rattle.smt_node_texts.proofs.Stated.{named_stated}
 
 -- a text that is kept
 pub kept_text : (n : Names) (s : Tables) → KeepTables n s → (id : NodeId) (m : Meaning) (x : List ℕ) → meaning_in n.nodes id ≡ Some m → text_at n.texts id ≡ Some x → IsText (enums_under n) s m x

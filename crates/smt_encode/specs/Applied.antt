@@ -1,10 +1,10 @@
 -- What the calls leave that write the line of one application, by the texts of its operands as they stand.
-use Rattle.std.specs.Prelude.{ℕ, ◌≡◌, Bool, true, false, List, [], ◌∷◌, ◌++◌, map, Option, Some, None}
+use Rattle.std.specs.Prelude.{ℕ, ◌≡◌, Bool, true, false, List, [], ◌∷◌, ◌++◌, map, Option, Some}
 use Rattle.std.specs.Io.KnownBytes.{append_known}
 use Rattle.std.specs.Rc.{rc_str_bytes}
 use Rattle.std.specs.declared.alloc.Global.{Global}
 use Rattle.std.specs.declared.rc.RcStr.{RcStr}
-use Rattle.smt_meaning.specs.Faults.{Fault, MalformedRecordGet, MissingTypeEncoding, record_get_fault}
+use Rattle.smt_meaning.specs.Faults.{Fault, MalformedRecordGet}
 use Rattle.smt_meaning.specs.Plain.{PlainOp, RecordGetOp, UufOp, PlainTerm, PlainType}
 use Rattle.smt_meaning.specs.TypeValues.{Enums}
 use Rattle.smt_meaning.specs.Types.{type_of}
@@ -15,12 +15,13 @@ use Rattle.smt_semantics.specs.Script.{name}
 use Rattle.smt_lines.specs.Line.{spelled_lines}
 use Rattle.smt_lines.specs.LineForms.{application_body}
 use Rattle.smt_lines.specs.Lines.{Written, next_term}
-use Rattle.smt_lines.specs.NameTables.{Tables, name_of_type}
+use Rattle.smt_lines.specs.NameTables.{Tables}
 use Rattle.smt_lines.specs.Spelling.{spelled}
 use Rattle.smt_spelling.specs.TextFaults.{pattern_fault}
 use Rattle.smt_encode.specs.Encoded.{sink_of, HasTexts}
-use Rattle.smt_encode.specs.Entries.{selector}
-use Rattle.smt_encode.specs.NodeLines.{meaning_fault}
+use Rattle.smt_node_texts.specs.Entries.{selector}
+use Rattle.smt_node_texts.specs.NodeLines.{meaning_fault}
+use Rattle.smt_node_texts.specs.SelectorFaults.{fault_of_selection}
 use Rattle.smt_encode.specs.Steps.{HasTables}
 use Rattle.smt_encode.specs.declared.encoder.Encoder.{Encoder}
 use Rattle.smt_encode.specs.declared.writer.Writer.{Writer}
@@ -42,10 +43,6 @@ pub record PutApplied {S : Type 0} (contents : S → Option (List ℕ)) (old new
   pub names : HasTexts new w.tables
 
 -- ---- why it refuses
-
--- the fault of an attribute that is taken of a value of a type: first that the type has no name
-abbrev pub fault_of_selection : Tables → (attribute : List ℕ) → PlainType → Option Fault
-fault_of_selection s a t = elim (name_of_type s t) [ None ↦ Some (MissingTypeEncoding t) | Some n ↦ record_get_fault a (t ∷ []) ]
 
 -- the fault of an application by its terms: of `record.get` that there is no term, or else the fault at the first one's type; of a function its own; of any other operator that of its pattern
 abbrev pub fault_of_application : Enums → Tables → PlainOp → List PlainTerm → Option Fault

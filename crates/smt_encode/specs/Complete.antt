@@ -7,9 +7,9 @@ use Rattle.smt_nodes.specs.Interned.{nodes_of}
 use Rattle.smt_nodes.specs.View.{places_of}
 use Rattle.smt_nodes.specs.declared.id.NodeId.{NodeId}
 use Rattle.smt_nodes.specs.declared.interner.Interner.{Interner}
-use Rattle.smt_encode.specs.LookUps.{IsClosed}
-use Rattle.smt_encode.specs.Texts.{kept_at}
-use Rattle.smt_encode.specs.declared.node_names.NodeNames.{NodeNames}
+use Rattle.smt_node_texts.specs.LookUps.{IsClosed}
+use Rattle.smt_node_texts.specs.Texts.{kept_at}
+use Rattle.smt_node_texts.specs.declared.node_names.NodeNames.{NodeNames}
 
 -- whether a text is kept for the node at a place
 abbrev pub is_written : NodeNames → ℕ → Bool

@@ -15,9 +15,9 @@ use Rattle.smt_lines.specs.Lines.{Written, option_line}
 use Rattle.smt_lines.specs.Spelling.{spelled}
 use Rattle.smt_lines.specs.Text as stated
 use Rattle.smt_nodes.specs.declared.interner.Interner.{Interner}
-use Rattle.smt_encode.specs.Names.{enums_under, nodes_under, texts_under, AreTables, KeepTables}
-use Rattle.smt_encode.specs.NodeTexts.{AreTexts, HasName}
-use Rattle.smt_encode.specs.declared.node_names.NodeNames.{NodeNames}
+use Rattle.smt_node_texts.specs.Names.{enums_under, nodes_under, texts_under, AreTables, KeepTables}
+use Rattle.smt_node_texts.specs.NodeTexts.{AreTexts, HasName}
+use Rattle.smt_node_texts.specs.declared.node_names.NodeNames.{NodeNames}
 use Rattle.smt_encode.specs.declared.encoder.Encoder.{Encoder}
 use Rattle.smt_encode.specs.declared.error.EncodeError.{EncodeError}
 use Rattle.smt_encode.specs.declared.error.EncodeError.TheVariants.{Spent}

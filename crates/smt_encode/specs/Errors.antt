@@ -5,8 +5,8 @@ use Rattle.smt_encode.specs.declared.error.EncodeError.{EncodeError}
 use Rattle.smt_encode.specs.declared.error.EncodeError.TheVariants.{Io, EmptyEnum, EncodeStringFailed, EncodePatternFailed, EnumMissingMember, ExpectRecord, MalformedRecordGet, Memory, MissingTypeEncoding, RecordMissingAttr}
 use Rattle.smt_spelling.specs.declared.error.TextError.{TextError}
 use Rattle.smt_spelling.specs.declared.error.TextError.TheVariants.{MissingMember, StringFailed, PatternFailed, EmptyEnum as NoMembers, Memory as NoMemory}
-use Rattle.smt_encode.specs.declared.error.SelectorError.{SelectorError}
-use Rattle.smt_encode.specs.declared.error.SelectorError.TheVariants.{Lacks, NoOperand, NoRecord, Unnamed, Memory as NoSpace}
+use Rattle.smt_node_texts.specs.declared.error.SelectorError.{SelectorError}
+use Rattle.smt_node_texts.specs.declared.error.SelectorError.TheVariants.{Lacks, NoOperand, NoRecord, Unnamed, Memory as NoSpace}
 use Rattle.smt_encode.specs.declared.error.WriteError.{WriteError}
 use Rattle.smt_encode.specs.declared.error.WriteError.TheVariants.{Selector, Sink, Text}
 

@@ -2,15 +2,6 @@ pub mod Alone
 pub mod Applied
 pub mod Complete
 pub mod Encoded
-pub mod Entries
 pub mod Errors
-pub mod LookUpRows
-pub mod LookUps
-pub mod Names
-pub mod NodeLines
-pub mod NodeTexts
 pub mod Refusals
-pub mod Renderings
-pub mod Selections
 pub mod Steps
-pub mod Texts

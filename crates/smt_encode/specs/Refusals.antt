@@ -14,20 +14,11 @@ use Rattle.smt_spelling.specs.TextFaults.{text_fault}
 use Rattle.smt_bits.specs.declared.error.BitVecError.{BitVecError}
 use Rattle.smt_encode.specs.declared.error.EncodeError.{EncodeError}
 use Rattle.smt_encode.specs.declared.error.EncodeError.TheVariants.{Io, Memory, EmptyEnum as EnumRefused, EncodeStringFailed as StringRefused, EncodePatternFailed as PatternRefused, EnumMissingMember as EntityRefused, ExpectRecord as NoRecordRefused, MalformedRecordGet as NoOperandRefused, MissingTypeEncoding as TypeRefused, RecordMissingAttr as AttributeRefused, BitVecError as BitsRefused}
-use Rattle.smt_encode.specs.declared.error.SelectorError.{SelectorError}
-use Rattle.smt_encode.specs.declared.error.SelectorError.TheVariants.{Lacks, NoOperand, NoRecord, Unnamed, Memory as NoSpace}
+use Rattle.smt_node_texts.specs.SelectorFaults.{selector_fault}
 use Rattle.smt_encode.specs.declared.error.WriteError.{WriteError}
 use Rattle.smt_encode.specs.declared.error.WriteError.TheVariants.{Selector, Sink, Text}
 use Rattle.smt_term.specs.View.{plain_type}
 use Rattle.smt_term.specs.declared.types.TermType.{TermType}
-
--- the fault of an attribute without a selector
-abbrev pub selector_fault : SelectorError → Option Fault
-selector_fault NoOperand = Some MalformedRecordGet
-selector_fault (Unnamed ty) = Some (MissingTypeEncoding (plain_type ty))
-selector_fault (NoRecord ty) = Some (ExpectRecord (plain_type ty))
-selector_fault (Lacks attribute) = Some (RecordMissingAttr (rc_str_bytes attribute))
-selector_fault NoSpace = None
 
 -- the fault of terms that were not written
 abbrev pub write_fault : WriteError → Option Fault

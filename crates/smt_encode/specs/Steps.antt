@@ -8,9 +8,9 @@ use Rattle.smt_lines.specs.NameTables.{Tables}
 use Rattle.smt_script.specs.Sink.{Rose}
 use Rattle.smt_nodes.specs.View.{place_of}
 use Rattle.smt_nodes.specs.declared.id.NodeId.{NodeId}
-use Rattle.smt_encode.specs.Names.{enums_under, nodes_under, texts_under, KeepTables, StandsOn}
-use Rattle.smt_encode.specs.NodeTexts.{text_at}
-use Rattle.smt_encode.specs.LookUps.{look_ups_left}
+use Rattle.smt_node_texts.specs.Names.{enums_under, nodes_under, texts_under, KeepTables, StandsOn}
+use Rattle.smt_node_texts.specs.NodeTexts.{text_at}
+use Rattle.smt_node_texts.specs.LookUps.{look_ups_left}
 use Rattle.smt_encode.specs.declared.writer.Writer.{Writer}
 
 -- The texts of a writer are those of these tables.

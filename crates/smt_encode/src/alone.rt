@@ -7,7 +7,7 @@ ghost use Rattle.smt_characters.specs.LineTexts.{comment_text, declare_const_tex
 ghost use Rattle.smt_characters.specs.Quoting.{quoted_id};
 ghost use Rattle.smt_characters.specs.SharedTexts.{texts};
 ghost use Rattle.smt_encode.specs.Alone.{encoded, fault_of_entity, fault_of_type, line_of_entity, name_of_entity, record_body_text, set_body_text, sorts_given};
-ghost use Rattle.smt_encode.specs.Entries.{entry_name};
+ghost use Rattle.smt_node_texts.specs.Entries.{entry_name};
 ghost use Rattle.smt_leaves.specs.Entities.{bytes_of_id, bytes_of_type};
 ghost use Rattle.smt_leaves.specs.ExtensionView.{plain_kind};
 ghost use Rattle.smt_leaves.specs.Pairs.{attributes_in};
@@ -79,7 +79,7 @@ fn record_body(alloc: Global, sort: &str, fields: &[Text]) -> Result<String, All
 
 impl<S: Sink> Writer<'_, S> {
     ghost use Rattle.smt_encode.specs.Alone.{PutsAlone, PutUnder};
-    ghost use Rattle.smt_encode.specs.Names.{enums_under, AreTables};
+    ghost use Rattle.smt_node_texts.specs.Names.{enums_under, AreTables};
 
     /// Puts the datatype of these constructors.
     pub(crate) fn put_type(&mut self, id: &str, mks: &[Text]) -> Result<Text, WriteError>

@@ -22,21 +22,20 @@ ghost use Rattle.smt_lines.specs.NameTables.{Tables, no_names};
 ghost use Rattle.smt_lines.specs.Text.{names, text};
 ghost use Rattle.smt_headline.specs.Headline.{Headline};
 ghost use Rattle.smt_encode.specs.Complete.{AreWritten};
-ghost use Rattle.smt_encode.specs.LookUps.{look_ups, IsClosed};
-ghost use Rattle.smt_encode.specs.NodeTexts.{HasNoTexts, StandFor};
-ghost use Rattle.smt_encode.specs.NodeLines.{encode_meaning, meaning_fault};
+ghost use Rattle.smt_node_texts.specs.LookUps.{look_ups, IsClosed};
+ghost use Rattle.smt_node_texts.specs.NodeTexts.{HasNoTexts, StandFor};
+ghost use Rattle.smt_node_texts.specs.NodeLines.{encode_meaning, meaning_fault};
 ghost use Rattle.smt_nodes.specs.Interned.{nodes_of};
 ghost use Rattle.smt_nodes.specs.Subject.{meaning_of};
 ghost use Rattle.smt_nodes.specs.View.{places_of};
 ghost use Rattle.std.specs.List.{AllByRecursion};
+ghost use Rattle.smt_node_texts.specs.SelectorFaults.{fault_of_selection};
 ghost use Rattle.smt_encode.specs.Refusals.{HasCause, IsComplete};
 
 use crate::alone::settle;
 use crate::error::EncodeError;
-use crate::names::Names;
-use crate::node_names::NodeNames;
-use crate::steps::Steps;
 use crate::writer::Writer;
+use smt_node_texts::{Names, NodeNames, Steps};
 use smt_nodes::{Interner, NodeId, Subject};
 use smt_script::Sink;
 use smt_term::{
@@ -144,14 +143,14 @@ impl<'a, S> Encoder<'a, S> {
     pub fn names(&self) -> &NodeNames
         ensures { result.now ≡ texts_in self.now }
     {
-        &self.writer.names.texts
+        self.writer.names.texts()
     }
 
     /// How many terms have names. Takes no memory.
     pub fn term_count(&self) -> usize
         ensures { (s : Tables) → HasNames self.now s → result ≡ length s.terms }
     {
-        self.writer.names.texts.terms
+        self.writer.names.term_count()
     }
 
     /// The sink that it held, with what was put to it, also after an error.
@@ -199,7 +198,7 @@ impl<'a, S: Drop> Encoder<'a, S> {
 
 impl<S: Sink> Encoder<'_, S> {
     ghost use Rattle.smt_encode.specs.Alone.{fault_of_entity, fault_of_type, line_of_entity, name_of_entity, record_body_text, set_body_text, sorts_given, NamesStay, PutUnder};
-    ghost use Rattle.smt_encode.specs.Applied.{begins_with_function, fault_of_application, fault_of_selection, selection_text, PutApplied};
+    ghost use Rattle.smt_encode.specs.Applied.{begins_with_function, fault_of_application, selection_text, PutApplied};
     ghost use Rattle.smt_encode.specs.Encoded.{enums_in, has_failed, is_spent, nodes_in, sink_of, texts_in, HasNames, HasTexts, Keeps, OfNames, OfReceived, PutScript, PutStated, Spends, SpendsOnError, WroteText};
 
     /// Writes the script of these terms: the declaration of the datatype `Option`, what the terms need, and an

@@ -2,6 +2,7 @@
 ghost use Rattle.std.specs.Prelude.{◌≡◌};
 
 use smt_bits::BitVecError;
+use smt_node_texts::SelectorError;
 use smt_script::SinkError;
 use smt_spelling::TextError;
 use smt_term::{Attr, EntityType, EntityUID, OrdPattern, TermError, TermType, Text};
@@ -59,21 +60,6 @@ pub(crate) enum WriteError {
     Text(TextError),
     /// There was no selector for an attribute.
     Selector(SelectorError),
-}
-
-/// Why there is no selector of an attribute.
-#[derive(Drop)]
-pub(crate) enum SelectorError {
-    /// There is no operand.
-    NoOperand,
-    /// The operand's type is this one, which never has a name.
-    Unnamed(TermType),
-    /// The operand's type is this one, which has a name, and is no record type.
-    NoRecord(TermType),
-    /// The operand's type does not have this attribute.
-    Lacks(Attr),
-    /// There was no memory.
-    Memory,
 }
 
 impl From<WriteError> for EncodeError {
@@ -188,30 +174,6 @@ impl From<TextError> for WriteError {
 
     fn from(error: TextError) -> WriteError {
         WriteError::Text(error)
-    }
-}
-
-impl From<TermError> for SelectorError {
-    ghost use Rattle.std.specs.Prelude.{◌≡◌};
-    ghost use Rattle.smt_encode.specs.declared.error.SelectorError.TheVariants.{Memory};
-
-    ghost from_gives = { λ _ error. error ≡ Memory };
-
-    fn from(error: TermError) -> SelectorError {
-        match error {
-            TermError::Memory => SelectorError::Memory,
-        }
-    }
-}
-
-impl From<AllocError> for SelectorError {
-    ghost use Rattle.std.specs.Prelude.{◌≡◌};
-    ghost use Rattle.smt_encode.specs.declared.error.SelectorError.TheVariants.{Memory};
-
-    ghost from_gives = { λ _ error. error ≡ Memory };
-
-    fn from(_error: AllocError) -> SelectorError {
-        SelectorError::Memory
     }
 }
 

@@ -29,20 +29,12 @@
 mod alone;
 mod application;
 mod encoder;
-mod entry;
 mod error;
-pub mod laws;
-mod names;
-mod node_names;
-mod rendering;
-mod selection;
-mod steps;
 mod subject;
 mod walk;
 mod writer;
 
 pub use encoder::Encoder;
 pub use error::EncodeError;
-pub use node_names::NodeNames;
+pub use smt_node_texts::{NodeNames, Steps, laws};
 pub use smt_spelling::SMT_LIB_MAX_CODE_POINT;
-pub use steps::Steps;

@@ -19,22 +19,20 @@ ghost use Rattle.smt_lines.specs.Line.{spelled_lines};
 ghost use Rattle.smt_lines.specs.Lines.{made_of, members_of};
 ghost use Rattle.smt_lines.specs.NameTables.{Tables};
 ghost use Rattle.smt_lines.specs.Spelling.{spelled};
-ghost use Rattle.smt_encode.specs.NodeLines.{encode_meaning, encode_meanings, has_entry, meaning_fault, meanings_fault};
-ghost use Rattle.smt_encode.specs.Entries.{declare_by, declare_function, enter_by, has_inline, heading, inline_by, inline_fault, own_lines, rendering_in, written_parts};
+ghost use Rattle.smt_node_texts.specs.NodeLines.{encode_meaning, encode_meanings, has_entry, meaning_fault, meanings_fault};
+ghost use Rattle.smt_node_texts.specs.Entries.{declare_by, declare_function, enter_by, has_inline, heading, inline_by, inline_fault, own_lines, rendering_in, written_parts};
 ghost use Rattle.smt_spelling.specs.Entries.{PlainEntry, SaysEntry};
 ghost use Rattle.smt_encode.specs.Complete.{is_typed, AreTypedMeanings, HaveWrittenParts};
-ghost use Rattle.smt_encode.specs.LookUps.{selections, IsClosed};
-ghost use Rattle.smt_encode.specs.NodeTexts.{text_at, IsNodeOf};
+ghost use Rattle.smt_node_texts.specs.LookUps.{selections, IsClosed};
+ghost use Rattle.smt_node_texts.specs.NodeTexts.{text_at, IsNodeOf};
 ghost use Rattle.smt_encode.specs.Refusals.{write_fault};
 ghost use Rattle.smt_spelling.specs.TextFaults.{Finds};
-ghost use Rattle.smt_encode.specs.Texts.{kept_at};
-ghost use Rattle.smt_encode.specs.Renderings.{plain_rendering};
+ghost use Rattle.smt_node_texts.specs.Texts.{kept_at};
+ghost use Rattle.smt_node_texts.specs.Renderings.{plain_rendering};
 
-use crate::entry::{Shape, entry_from, inline_text};
 use crate::error::WriteError;
-use crate::rendering::{Rendering, rendering_of};
-use crate::steps::Steps;
 use crate::writer::Writer;
+use smt_node_texts::{Rendering, Shape, Steps, entry_from, inline_text, rendering_of};
 use smt_nodes::{AttrList, Label, Node, NodeId};
 use smt_script::{Sink, SinkError, SmtLibScript};
 use smt_spelling::Entry;
@@ -52,7 +50,7 @@ fn put_heading<S: Sink>(script: &mut S, label: &Label) -> Result<(), SinkError>
 }
 
 impl<S: Sink> Writer<'_, S> {
-    ghost use Rattle.smt_encode.specs.Names.{enums_under, nodes_under, texts_under, HasRoom};
+    ghost use Rattle.smt_node_texts.specs.Names.{enums_under, nodes_under, texts_under, HasRoom};
     ghost use Rattle.smt_encode.specs.Steps.{look_ups_in, HasTables, Walks, WritesHere, WritesStated};
     ghost use Rattle.smt_spelling.specs.Spelled.{AreSpelled, IsSpelled};
 

@@ -12,14 +12,13 @@ ghost use Rattle.smt_lines.specs.NameTables.{Tables};
 ghost use Rattle.smt_nodes.specs.Interned.{nodes_of};
 ghost use Rattle.smt_nodes.specs.View.{places_of};
 ghost use Rattle.smt_encode.specs.Complete.{AreWritten, HaveWrittenParts};
-ghost use Rattle.smt_encode.specs.LookUps.{look_ups, IsClosed};
-ghost use Rattle.smt_encode.specs.NodeTexts.{HasNoTexts, StandFor};
+ghost use Rattle.smt_node_texts.specs.LookUps.{look_ups, IsClosed};
+ghost use Rattle.smt_node_texts.specs.NodeTexts.{HasNoTexts, StandFor};
 ghost use Rattle.smt_encode.specs.Refusals.{write_fault};
 ghost use Rattle.smt_spelling.specs.TextFaults.{Finds};
 
 use crate::error::WriteError;
-use crate::names::Names;
-use crate::steps::Steps;
+use smt_node_texts::{Names, Steps};
 use smt_nodes::NodeId;
 use smt_script::{Sink, SinkError, SmtLibScript};
 use smt_term::{Term, Text};
@@ -38,7 +37,7 @@ pub(crate) struct Writer<'a, S> {
 }
 
 impl<S: Sink> Writer<'_, S> {
-    ghost use Rattle.smt_encode.specs.Names.{enums_under, nodes_under, texts_under};
+    ghost use Rattle.smt_node_texts.specs.Names.{enums_under, nodes_under, texts_under};
     ghost use Rattle.smt_encode.specs.Steps.{FaultCounted, HasTables, PutsLine, Wrote, WritesScript};
     ghost use Rattle.smt_spelling.specs.Spelled.{AreSpelled};
 

@@ -1,6 +1,6 @@
 use Rattle.smt_nodes.specs.Interned.{nodes_of}
 use Rattle.smt_nodes.proofs.Interning.{all_kept}
-use Rattle.smt_encode.proofs.Interned.{one_pushed}
+use Rattle.smt_node_texts.proofs.Interned.{one_pushed}
 use Rattle.smt_script_rows.proofs.scripts.numbers_of.Goals as goal
 
 pub loop-term-preserved : goal.loop-term-preserved

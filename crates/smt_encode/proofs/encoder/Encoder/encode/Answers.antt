@@ -6,7 +6,7 @@ use Rattle.smt_lines.specs.Text.{names, text}
 use Rattle.smt_encode.specs.Encoded.{enums_in}
 use Rattle.smt_encode.proofs.Conditions.{headline, received}
 use Rattle.smt_encode.proofs.Faulted.{at_ok, has_cause, is_complete, ok_without_fault}
-use Rattle.smt_encode.proofs.Named.{names_alone, no_tables}
+use Rattle.smt_node_texts.proofs.Named.{names_alone, no_tables}
 use Rattle.smt_encode.proofs.Scripted.{text_written}
 use Rattle.smt_encode.proofs.Writing.{are_texts}
 use Rattle.smt_encode.proofs.encoder.Encoder.encode.Goals as goal

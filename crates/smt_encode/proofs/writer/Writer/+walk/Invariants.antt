@@ -7,11 +7,11 @@ use Rattle.smt_nodes.specs.Interned.{nodes_of}
 use Rattle.smt_nodes.specs.View.{place_of, places_of}
 use Rattle.smt_lines.specs.NameTables.{Tables}
 use Rattle.smt_script.specs.declared.sink.SinkError.TheVariants.{Fault}
-use Rattle.smt_encode.specs.Names.{enums_under, nodes_under, texts_under}
-use Rattle.smt_encode.specs.NodeLines.{meanings_fault}
-use Rattle.smt_encode.specs.NodeTexts.{text_at}
+use Rattle.smt_node_texts.specs.Names.{enums_under, nodes_under, texts_under}
+use Rattle.smt_node_texts.specs.NodeLines.{meanings_fault}
+use Rattle.smt_node_texts.specs.NodeTexts.{text_at}
 use Rattle.smt_encode.specs.Complete.{AreTypedMeanings, HaveWrittenParts}
-use Rattle.smt_encode.specs.LookUps.{IsClosed}
+use Rattle.smt_node_texts.specs.LookUps.{IsClosed}
 use Rattle.smt_encode.specs.Steps.{look_ups_in, HasTables, Walks}
 use Rattle.smt_encode.specs.declared.error.WriteError.TheVariants.{Sink}
 use Rattle.smt_encode.proofs.Going.{Going}

@@ -3,10 +3,10 @@ use Rattle.smt_graph.specs.Nodes.{TypeMeaning}
 use Rattle.smt_leaves.specs.Entities.{bytes_of_type}
 use Rattle.smt_meaning.specs.Plain.{EntityType}
 use Rattle.smt_nodes.specs.Interned.{meaning_in}
-use Rattle.smt_encode.specs.Names.{nodes_under, KeepTables}
-use Rattle.smt_encode.specs.NodeLines.{with_name}
-use Rattle.smt_encode.specs.declared.names.Names.{Names}
-use Rattle.smt_encode.proofs.Named.{names_alone}
+use Rattle.smt_node_texts.specs.Names.{nodes_under, KeepTables}
+use Rattle.smt_node_texts.specs.NodeLines.{with_name}
+use Rattle.smt_node_texts.specs.declared.names.Names.{Names}
+use Rattle.smt_node_texts.proofs.Named.{names_alone}
 use Rattle.smt_encode.proofs.writer.Writer.declare.Goals as goal
 
 pub enter_type-requires-clause-meant : goal.enter_type-requires-clause-meant

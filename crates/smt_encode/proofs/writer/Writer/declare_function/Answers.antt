@@ -5,12 +5,12 @@ use Rattle.smt_lexicon.specs.Reading.{Expression}
 use Rattle.smt_lines.specs.Lines.{next_function}
 use Rattle.smt_graph.specs.Nodes.{FunctionMeaning}
 use Rattle.smt_spelling.specs.Spelled.{IsSpelled}
-use Rattle.smt_encode.specs.Entries.{declare_function}
-use Rattle.smt_encode.specs.Names.{KeepTables}
-use Rattle.smt_encode.specs.NodeLines.{with_name}
+use Rattle.smt_node_texts.specs.Entries.{declare_function}
+use Rattle.smt_node_texts.specs.Names.{KeepTables}
+use Rattle.smt_node_texts.specs.NodeLines.{with_name}
 use Rattle.smt_encode.specs.Steps.{Wrote}
 use Rattle.smt_encode.proofs.Declared.{declaration_spelled, two_spelled}
-use Rattle.smt_encode.proofs.Named.{names_alone}
+use Rattle.smt_node_texts.proofs.Named.{names_alone}
 use Rattle.smt_encode.proofs.writer.Writer.declare_function.Goals as goal
 
 pub returns-clause-lines : goal.returns-clause-lines

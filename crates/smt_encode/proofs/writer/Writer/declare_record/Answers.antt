@@ -7,10 +7,10 @@ use Rattle.smt_lines.specs.LineForms.{record_lines}
 use Rattle.smt_lines.specs.Lines.{next_record}
 use Rattle.smt_meaning.specs.Plain.{RecordType}
 use Rattle.smt_nodes.specs.Interned.{meaning_in}
-use Rattle.smt_encode.specs.Names.{nodes_under, KeepTables}
-use Rattle.smt_encode.specs.NodeLines.{with_name}
-use Rattle.smt_encode.specs.declared.names.Names.{Names}
-use Rattle.smt_encode.proofs.Named.{names_alone}
+use Rattle.smt_node_texts.specs.Names.{nodes_under, KeepTables}
+use Rattle.smt_node_texts.specs.NodeLines.{with_name}
+use Rattle.smt_node_texts.specs.declared.names.Names.{Names}
+use Rattle.smt_node_texts.proofs.Named.{names_alone}
 use Rattle.smt_encode.proofs.writer.Writer.declare_record.Goals as goal
 
 pub enter_type-requires-clause-meant : goal.enter_type-requires-clause-meant

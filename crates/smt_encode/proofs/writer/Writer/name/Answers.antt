@@ -14,15 +14,16 @@ use Rattle.smt_nodes.specs.View.{plain_label}
 use Rattle.smt_spelling.specs.Entries.{SaysEntry}
 use Rattle.smt_spelling.specs.Spelled.{AreSpelled, IsSpelled}
 use Rattle.smt_spelling.specs.TextFaults.{Finds}
-use Rattle.smt_encode.specs.Entries.{NodeRendering, declare_by, entry_by, entry_fault, has_inline, head_in, inline_fault, is_declared, is_entered, own_lines, rendering_in, selection_fault, written_parts}
-use Rattle.smt_encode.specs.Names.{enums_under, nodes_under}
-use Rattle.smt_encode.specs.NodeLines.{meaning_fault}
+use Rattle.smt_node_texts.specs.Entries.{NodeRendering, declare_by, entry_by, entry_fault, has_inline, head_in, inline_fault, is_declared, is_entered, own_lines, rendering_in, selection_fault, written_parts}
+use Rattle.smt_node_texts.specs.Names.{enums_under, nodes_under}
+use Rattle.smt_node_texts.specs.NodeLines.{meaning_fault}
 use Rattle.smt_encode.specs.Refusals.{write_fault}
-use Rattle.smt_encode.specs.Renderings.{plain_rendering}
+use Rattle.smt_node_texts.specs.Renderings.{plain_rendering}
 use Rattle.smt_encode.specs.Steps.{WritesHere}
-use Rattle.smt_encode.proofs.Built.{built_meaning, call_parts, entered_has_entry, enters, entity_meant, extension_meant, function_meant, record_meant, undeclared}
-use Rattle.smt_encode.proofs.Named.{names_alone}
-use Rattle.smt_encode.proofs.Faulting.{entry_last, handed_from, handed_on, selection_second}
+use Rattle.smt_node_texts.proofs.Built.{built_meaning, call_parts, entered_has_entry, enters, entity_meant, extension_meant, function_meant, record_meant, undeclared}
+use Rattle.smt_node_texts.proofs.Named.{names_alone}
+use Rattle.smt_encode.proofs.Handed.{handed_from, handed_on}
+use Rattle.smt_node_texts.proofs.Faulting.{entry_last, selection_second}
 use Rattle.smt_encode.proofs.Finishing.{entry_written, taken_off}
 use Rattle.smt_encode.proofs.writer.Writer.name.Goals as goal
 

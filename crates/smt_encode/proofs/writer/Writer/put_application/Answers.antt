@@ -8,10 +8,10 @@ use Rattle.smt_meaning.specs.Faults.{Fault}
 use Rattle.smt_spelling.specs.TextFaults.{Finds}
 use Rattle.smt_term.specs.View.{plain_op, plain_term}
 use Rattle.smt_encode.specs.Applied.{WroteApplied}
-use Rattle.smt_encode.specs.Names.{enums_under}
+use Rattle.smt_node_texts.specs.Names.{enums_under}
 use Rattle.smt_encode.specs.Refusals.{write_fault}
 use Rattle.smt_encode.proofs.Applying.{applied_alone, own_text}
-use Rattle.smt_encode.proofs.Named.{names_alone}
+use Rattle.smt_node_texts.proofs.Named.{names_alone}
 use Rattle.smt_encode.proofs.writer.Writer.put_application.Goals as goal
 
 pub returns-in_default : goal.returns-in_default

@@ -4,10 +4,10 @@ use Rattle.smt_meaning.specs.Plain.{UufOp}
 use Rattle.smt_semantics.specs.Script.{name}
 use Rattle.smt_term.specs.View.{plain_function}
 use Rattle.std.proofs.Common.{map, ◌∙◌}
-use Rattle.smt_encode.specs.Names.{enums_under}
+use Rattle.smt_node_texts.specs.Names.{enums_under}
 use Rattle.smt_encode.proofs.Applying.{applied}
 use Rattle.smt_encode.proofs.Bodies.{as_they_stand}
-use Rattle.smt_encode.proofs.Named.{names_alone}
+use Rattle.smt_node_texts.proofs.Named.{names_alone}
 use Rattle.smt_encode.proofs.writer.Writer.put_call.Goals as goal
 
 pub returns-clause-lines : goal.returns-clause-lines

@@ -5,7 +5,7 @@ use Rattle.smt_lines.specs.Line.{spelled_lines}
 use Rattle.smt_lines.specs.LineForms.{entity_lines}
 use Rattle.smt_lines.specs.Lines.{members_of, next_entity}
 use Rattle.smt_spelling.specs.Entries.{datatype_bytes}
-use Rattle.smt_encode.specs.Names.{enums_under}
+use Rattle.smt_node_texts.specs.Names.{enums_under}
 use Rattle.smt_encode.proofs.writer.Writer.put_entity_type.Goals as goal
 
 pub returns-clause-lines : goal.returns-clause-lines

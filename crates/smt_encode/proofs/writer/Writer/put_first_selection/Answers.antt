@@ -6,9 +6,9 @@ use Rattle.smt_lines.specs.Lines.{made_of}
 use Rattle.smt_meaning.specs.Plain.{RecordGetOp, PlainType}
 use Rattle.smt_term.specs.View.{plain_type}
 use Rattle.smt_encode.specs.Applied.{WroteApplied}
-use Rattle.smt_encode.specs.Entries.{selector}
+use Rattle.smt_node_texts.specs.Entries.{selector}
 use Rattle.smt_encode.proofs.Applying.{applied_alone, first_typed}
-use Rattle.smt_encode.proofs.Named.{names_alone}
+use Rattle.smt_node_texts.proofs.Named.{names_alone}
 use Rattle.smt_encode.proofs.writer.Writer.put_first_selection.Goals as goal
 
 pub returns-in_ok-ty-in-len1-up-clause-lines : goal.returns-in_ok-ty-in-len1-up-clause-lines

@@ -9,18 +9,18 @@ use Rattle.smt_meaning.specs.Plain.{terms}
 use Rattle.smt_lines.specs.Lines.{Enums, Written, encode_terms, option_line}
 use Rattle.smt_lexicon.specs.Reading.{Expression}
 use Rattle.smt_encode.specs.Complete.{AreWritten}
-use Rattle.smt_encode.specs.NodeTexts.{text_at}
-use Rattle.smt_encode.specs.Names.{enums_under, nodes_under, texts_under}
-use Rattle.smt_encode.specs.LookUps.{look_ups, IsClosed}
-use Rattle.smt_encode.specs.NodeLines.{encode_meanings, meanings_fault}
-use Rattle.smt_encode.specs.declared.names.Names.{Names}
+use Rattle.smt_node_texts.specs.NodeTexts.{text_at}
+use Rattle.smt_node_texts.specs.Names.{enums_under, nodes_under, texts_under}
+use Rattle.smt_node_texts.specs.LookUps.{look_ups, IsClosed}
+use Rattle.smt_node_texts.specs.NodeLines.{encode_meanings, meanings_fault}
+use Rattle.smt_node_texts.specs.declared.names.Names.{Names}
 use Rattle.smt_encode.specs.Steps.{Wrote}
 use Rattle.smt_spelling.specs.Spelled.{AreSpelled}
 use Rattle.smt_encode.proofs.Completing.{have_texts, same_whole, terms_are_typed}
 use Rattle.smt_encode.proofs.Counted.{left_within}
-use Rattle.smt_encode.proofs.Faulting.{handed_over}
+use Rattle.smt_encode.proofs.Handed.{handed_over}
 use Rattle.smt_encode.proofs.Lines.{put}
-use Rattle.smt_encode.proofs.Listing.{all_within, terms_fault_is, terms_stated}
+use Rattle.smt_node_texts.proofs.Listing.{all_within, terms_fault_is, terms_stated}
 use Rattle.smt_encode.proofs.Scripted.{scripted}
 use Rattle.smt_encode.proofs.writer.Writer.put_nodes.Goals as goal
 

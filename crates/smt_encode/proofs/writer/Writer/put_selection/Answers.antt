@@ -7,11 +7,12 @@ use Rattle.smt_lines.specs.Lines.{next_term}
 use Rattle.smt_semantics.specs.Script.{name}
 use Rattle.smt_term.specs.View.{plain_type}
 use Rattle.smt_encode.specs.Alone.{PutUnder}
-use Rattle.smt_encode.specs.Applied.{fault_of_selection, selection_text}
-use Rattle.smt_encode.specs.Entries.{selector}
+use Rattle.smt_encode.specs.Applied.{selection_text}
+use Rattle.smt_node_texts.specs.SelectorFaults.{fault_of_selection}
+use Rattle.smt_node_texts.specs.Entries.{selector}
 use Rattle.smt_encode.proofs.Applying.{no_failure}
 use Rattle.smt_encode.proofs.Bodies.{as_they_stand}
-use Rattle.smt_encode.proofs.Faulting.{handed_from}
+use Rattle.smt_encode.proofs.Handed.{handed_from}
 use Rattle.smt_encode.proofs.writer.Writer.put_selection.Goals as goal
 
 pub returns-in_err-selector-clause-counted : goal.returns-in_err-selector-clause-counted

@@ -8,9 +8,9 @@ use Rattle.smt_nodes.specs.Interned.{nodes_of}
 use Rattle.smt_nodes.specs.View.{places_of}
 use Rattle.smt_term.specs.View.{plain_term}
 use Rattle.smt_encode.specs.Complete.{AreWritten}
-use Rattle.smt_encode.specs.Names.{nodes_under, texts_under}
-use Rattle.smt_encode.specs.NodeTexts.{HasNoTexts, StandFor}
-use Rattle.smt_encode.specs.declared.node_names.NodeNames.{NodeNames}
+use Rattle.smt_node_texts.specs.Names.{nodes_under, texts_under}
+use Rattle.smt_node_texts.specs.NodeTexts.{HasNoTexts, StandFor}
+use Rattle.smt_node_texts.specs.declared.node_names.NodeNames.{NodeNames}
 use Rattle.smt_encode.proofs.Completing.{none_whole, same_numbers}
 use Rattle.smt_encode.proofs.Scripted.{wrote_here}
 use Rattle.smt_encode.proofs.writer.Writer.put_terms.Goals as goal

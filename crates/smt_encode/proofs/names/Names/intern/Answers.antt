@@ -1,9 +1,0 @@
-use Rattle.std.proofs.Common.{refl}
-use Rattle.smt_encode.proofs.Named.{no_fewer, sound_grows, tables_grow}
-use Rattle.smt_encode.proofs.names.Names.intern.Goals as goal
-
-pub invariant_of-self : goal.invariant_of-self
-invariant_of-self c = record { sound = sound_grows _ c.args.self.now.nodes c.numbers_of.new.nodes c.args.self.now.texts c.numbers_of.ensures.kept (no_fewer c.args.self.now.nodes c.numbers_of.new.nodes c.numbers_of.ensures.kept) c.args.self.now.sound }
-
-pub returns-clause-tables : goal.returns-clause-tables
-returns-clause-tables c s are = tables_grow c.args.self.now c.numbers_of.new.nodes s c.numbers_of.ensures.kept c.args.self.now.sound are _ refl refl refl

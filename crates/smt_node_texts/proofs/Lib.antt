@@ -1,0 +1,12 @@
+pub mod Built
+pub mod Calls
+pub mod Faulting
+pub mod Inline
+pub mod Interned
+pub mod Kept
+pub mod Listing
+pub mod Named
+pub mod NodeOf
+pub mod Rendered
+pub mod Selecting
+pub mod Stated

@@ -1,0 +1,10 @@
+pub mod Entries
+pub mod LookUpRows
+pub mod LookUps
+pub mod Names
+pub mod NodeLines
+pub mod NodeTexts
+pub mod Renderings
+pub mod Selections
+pub mod SelectorFaults
+pub mod Texts
