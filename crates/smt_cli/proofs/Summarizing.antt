@@ -7,8 +7,8 @@ use Rattle.smt_meaning.specs.Plain.{PlainTerm}
 use Rattle.smt_graph.specs.Meanings.{meanings}
 use Rattle.smt_graph.specs.Nodes.{Meaning, TermMeaning}
 use Rattle.smt_nodes.specs.Interned.{nodes_of, StandFor}
-use Rattle.smt_nodes.specs.View.{place_of, places_of}
-use Rattle.smt_nodes.specs.declared.id.NodeId.{NodeId}
+use Rattle.smt_node_tables.specs.View.{place_of, places_of}
+use Rattle.smt_node_tables.specs.declared.id.NodeId.{NodeId}
 use Rattle.smt_nodes.proofs.Finding.{as_many_found}
 use Rattle.smt_nodes.specs.declared.interner.Interner.{Interner}
 use Rattle.smt_lines.specs.NameTables.{Tables}

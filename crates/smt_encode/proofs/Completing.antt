@@ -13,8 +13,8 @@ use Rattle.smt_graph.specs.Meanings.{all_found, found, meanings}
 use Rattle.smt_graph.specs.Nodes.{PlainNode, Meaning, TermMeaning}
 use Rattle.smt_graph.proofs.Places.{map_back, some_same, then_back}
 use Rattle.smt_nodes.specs.Interned.{nodes_of}
-use Rattle.smt_nodes.specs.View.{place_of, places_of}
-use Rattle.smt_nodes.specs.declared.id.NodeId.{NodeId}
+use Rattle.smt_node_tables.specs.View.{place_of, places_of}
+use Rattle.smt_node_tables.specs.declared.id.NodeId.{NodeId}
 use Rattle.smt_nodes.specs.declared.interner.Interner.{Interner}
 use Rattle.smt_encode.specs.Complete.{is_typed, is_written, AreTypedMeanings, HaveWrittenParts}
 use Rattle.smt_node_texts.specs.Names.{nodes_under, texts_under}

@@ -14,8 +14,8 @@ use Rattle.smt_graph.specs.Meanings.{all_found, found, meanings}
 use Rattle.smt_graph.specs.Nodes.{TermMeaning}
 use Rattle.smt_graph.proofs.Places.{map_back, then_back}
 use Rattle.smt_nodes.specs.Interned.{nodes_of}
-use Rattle.smt_nodes.specs.View.{place_of, places_of}
-use Rattle.smt_nodes.specs.declared.id.NodeId.{NodeId}
+use Rattle.smt_node_tables.specs.View.{place_of, places_of}
+use Rattle.smt_node_tables.specs.declared.id.NodeId.{NodeId}
 use Rattle.smt_nodes.specs.declared.interner.Interner.{Interner}
 use Rattle.smt_node_texts.specs.NodeTexts.{StandFor}
 use Rattle.smt_term.specs.View.{plain_term}

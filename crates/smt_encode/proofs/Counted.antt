@@ -7,8 +7,8 @@ use Rattle.std.specs.declared.alloc.Global.{Global}
 use Rattle.std.specs.declared.rc.RcStr.{RcStr}
 use Rattle.smt_graph.specs.Nodes.{PlainNode}
 use Rattle.smt_nodes.specs.Interned.{nodes_of}
-use Rattle.smt_nodes.specs.View.{place_of}
-use Rattle.smt_nodes.specs.declared.id.NodeId.{NodeId}
+use Rattle.smt_node_tables.specs.View.{place_of}
+use Rattle.smt_node_tables.specs.declared.id.NodeId.{NodeId}
 use Rattle.smt_nodes.specs.declared.interner.Interner.{Interner}
 use Rattle.smt_node_texts.specs.Names.{nodes_under, texts_under}
 use Rattle.smt_node_texts.specs.LookUps.{look_ups, look_ups_at, look_ups_from, look_ups_left, look_ups_of}

@@ -10,8 +10,8 @@ use Rattle.smt_lexicon.specs.Reading.{Expression}
 use Rattle.smt_graph.specs.Meanings.{all_found, found}
 use Rattle.smt_graph.specs.Nodes.{Meaning}
 use Rattle.smt_graph.proofs.Places.{map_back, then_back, some_same}
-use Rattle.smt_nodes.specs.View.{place_of, places_of}
-use Rattle.smt_nodes.specs.declared.id.NodeId.{NodeId}
+use Rattle.smt_node_tables.specs.View.{place_of, places_of}
+use Rattle.smt_node_tables.specs.declared.id.NodeId.{NodeId}
 use Rattle.smt_lines.specs.Line.{Line}
 use Rattle.smt_lines.specs.Lines.{Enums, Written}
 use Rattle.smt_lines.specs.NameTables.{Tables}

@@ -13,7 +13,7 @@ use Rattle.smt_graph.specs.Parts.{parts_in}
 use Rattle.smt_graph.proofs.Places.{map_back, some_same, then_back}
 use Rattle.smt_nodes.specs.Interned.{meaning_in, nodes_of}
 use Rattle.smt_nodes.specs.declared.interner.Interner.{Interner}
-use Rattle.smt_nodes.specs.declared.node.Node.{Node}
+use Rattle.smt_node_tables.specs.declared.node.Node.{Node}
 use Rattle.std.specs.Io.KnownBytes.{append_known}
 use Rattle.smt_script.proofs.PutsLemmas.{appends_then}
 use Rattle.smt_lines.specs.Line.{Line, spelled_lines}
@@ -22,8 +22,8 @@ use Rattle.smt_lines.specs.NameTables.{Tables}
 use Rattle.smt_node_texts.specs.Entries.{NodeRendering, AsCall, Rendered, rendering_in, second_last, written_parts}
 use Rattle.smt_encode.proofs.Lines.{binds, lines_append}
 use Rattle.smt_node_texts.proofs.Rendered.{found_length}
-use Rattle.smt_nodes.specs.View.{ids_of, place_of, places_of, plain_node}
-use Rattle.smt_nodes.specs.declared.id.NodeId.{NodeId}
+use Rattle.smt_node_tables.specs.View.{ids_of, place_of, places_of, plain_node}
+use Rattle.smt_node_tables.specs.declared.id.NodeId.{NodeId}
 use Rattle.smt_node_texts.specs.Names.{texts_under, HasRoom, StandsOn}
 use Rattle.smt_node_texts.specs.NodeTexts.{text_at, IsNodeOf}
 use Rattle.smt_encode.specs.Steps.{FaultCounted, Walks, WritesHere, Wrote}

@@ -10,8 +10,8 @@ use Rattle.smt_graph.specs.Meanings.{all_found, found, meanings}
 use Rattle.smt_graph.specs.Nodes.{Meaning}
 use Rattle.smt_graph.proofs.Places.{map_back, then_back, some_same}
 use Rattle.smt_nodes.specs.Interned.{meaning_in, nodes_of}
-use Rattle.smt_nodes.specs.View.{place_of, places_of}
-use Rattle.smt_nodes.specs.declared.id.NodeId.{NodeId}
+use Rattle.smt_node_tables.specs.View.{place_of, places_of}
+use Rattle.smt_node_tables.specs.declared.id.NodeId.{NodeId}
 use Rattle.smt_lines.specs.Lines.{Enums, made_of, ◌>>=◌}
 use Rattle.smt_lines.specs.NameTables.{Tables}
 use Rattle.smt_node_texts.specs.Names.{enums_under, KeepTables}

@@ -6,8 +6,8 @@ use Rattle.smt_lines.specs.Line.{Line, spelled_lines}
 use Rattle.smt_lines.specs.Lines.{Enums, Written, encode, option_line}
 use Rattle.smt_lines.specs.NameTables.{Tables}
 use Rattle.smt_script.specs.Sink.{Rose}
-use Rattle.smt_nodes.specs.View.{place_of}
-use Rattle.smt_nodes.specs.declared.id.NodeId.{NodeId}
+use Rattle.smt_node_tables.specs.View.{place_of}
+use Rattle.smt_node_tables.specs.declared.id.NodeId.{NodeId}
 use Rattle.smt_node_texts.specs.Names.{enums_under, nodes_under, texts_under, KeepTables, StandsOn}
 use Rattle.smt_node_texts.specs.NodeTexts.{text_at}
 use Rattle.smt_node_texts.specs.LookUps.{look_ups_left}

@@ -2,8 +2,8 @@
 ghost use Rattle.std.specs.Prelude.{ℕ, ◌≡◌, ◌<◌, None, Some};
 ghost use Rattle.smt_graph.specs.Nodes.{Meaning};
 ghost use Rattle.smt_nodes.specs.Interned.{meaning_in, IsMeant};
-ghost use Rattle.smt_nodes.specs.Subject.{meaning_of};
-ghost use Rattle.smt_nodes.specs.View.{place_of};
+ghost use Rattle.smt_node_tables.specs.Subject.{meaning_of};
+ghost use Rattle.smt_node_tables.specs.View.{place_of};
 ghost use Rattle.smt_node_texts.specs.NodeLines.{encode_meaning, meaning_fault};
 ghost use Rattle.smt_encode.specs.Refusals.{write_fault};
 ghost use Rattle.smt_spelling.specs.TextFaults.{Finds};

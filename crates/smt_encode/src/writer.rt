@@ -10,7 +10,7 @@ ghost use Rattle.smt_lines.specs.Line.{Assert, spelled_line};
 ghost use Rattle.smt_lines.specs.Lines.{option_line};
 ghost use Rattle.smt_lines.specs.NameTables.{Tables};
 ghost use Rattle.smt_nodes.specs.Interned.{nodes_of};
-ghost use Rattle.smt_nodes.specs.View.{places_of};
+ghost use Rattle.smt_node_tables.specs.View.{places_of};
 ghost use Rattle.smt_encode.specs.Complete.{AreWritten, HaveWrittenParts};
 ghost use Rattle.smt_node_texts.specs.LookUps.{look_ups, IsClosed};
 ghost use Rattle.smt_node_texts.specs.NodeTexts.{HasNoTexts, StandFor};

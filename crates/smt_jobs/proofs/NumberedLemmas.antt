@@ -8,8 +8,8 @@ use Rattle.smt_graph.proofs.Places.{map_back}
 use Rattle.std.proofs.lemmas.Bool.{false≢true}
 use Rattle.smt_meaning.specs.Plain.{PlainTerm}
 use Rattle.smt_nodes.specs.Interned.{meaning_in, nodes_of, KeepsMeanings, StandFor}
-use Rattle.smt_nodes.specs.View.{place_of, places_of}
-use Rattle.smt_nodes.specs.declared.id.NodeId.{NodeId}
+use Rattle.smt_node_tables.specs.View.{place_of, places_of}
+use Rattle.smt_node_tables.specs.declared.id.NodeId.{NodeId}
 use Rattle.smt_nodes.specs.declared.interner.Interner.{Interner}
 use Rattle.smt_nodes.proofs.Interning.{all_kept, are_terms_in, more_found}
 use Rattle.smt_jobs.specs.Numbers.{all_stand, terms_of}

@@ -4,8 +4,8 @@ use Rattle.smt_graph.specs.Meanings.{meanings}
 use Rattle.smt_meaning.specs.Plain.{PlainTerm}
 use Rattle.smt_nodes.specs.Interned.{nodes_of}
 use Rattle.smt_nodes.specs.Kinds.{terms_at}
-use Rattle.smt_nodes.specs.View.{places_of}
-use Rattle.smt_nodes.specs.declared.id.NodeId.{NodeId}
+use Rattle.smt_node_tables.specs.View.{places_of}
+use Rattle.smt_node_tables.specs.declared.id.NodeId.{NodeId}
 use Rattle.smt_nodes.specs.declared.interner.Interner.{Interner}
 
 -- the terms for which these numbers stand, in order; none where one of them stands for no term

@@ -14,13 +14,13 @@ use Rattle.smt_term.specs.declared.op.Op.TheVariants.{And, Uuf}
 use Rattle.smt_graph.specs.Nodes.{PlainLabel, ApplicationLabel, CallLabel, EntityLabel, ExtensionLabel, FunctionLabel, LiteralLabel, RecordLabel, Meaning, TypeMeaning, FunctionMeaning, TermMeaning}
 use Rattle.smt_graph.specs.Parts.{label_in, names_in, parts_in, term_label, term_parts}
 use Rattle.smt_nodes.specs.Interned.{meaning_in, nodes_of}
-use Rattle.smt_nodes.specs.View.{place_of, plain_label, plain_node}
-use Rattle.smt_nodes.specs.declared.id.NodeId.{NodeId}
-use Rattle.smt_nodes.specs.declared.attributes.AttrList.{AttrList}
+use Rattle.smt_node_tables.specs.View.{place_of, plain_label, plain_node}
+use Rattle.smt_node_tables.specs.declared.id.NodeId.{NodeId}
+use Rattle.smt_node_tables.specs.declared.attributes.AttrList.{AttrList}
 use Rattle.smt_nodes.specs.declared.interner.Interner.{Interner}
-use Rattle.smt_nodes.specs.declared.node.Label.{Label}
-use Rattle.smt_nodes.specs.declared.node.Label.TheVariants.{TBool, TEntity, TExt, TRecord, Fun, App}
-use Rattle.smt_nodes.specs.declared.node.Node.{Node}
+use Rattle.smt_node_tables.specs.declared.node.Label.{Label}
+use Rattle.smt_node_tables.specs.declared.node.Label.TheVariants.{TBool, TEntity, TExt, TRecord, Fun, App}
+use Rattle.smt_node_tables.specs.declared.node.Node.{Node}
 use Rattle.smt_nodes.proofs.Labels.{label_is}
 use Rattle.smt_node_texts.specs.NodeLines.{has_entry}
 use Rattle.smt_node_texts.specs.Entries.{NodeRendering, AsCall, Rendered, entry_fault, has_inline, heading, inline_by, is_built, is_built_op, is_declared, is_entered, rendering_in, selection_fault, written_parts}

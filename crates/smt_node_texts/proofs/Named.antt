@@ -12,8 +12,8 @@ use Rattle.smt_graph.specs.Meanings.{meanings}
 use Rattle.smt_graph.proofs.Distinct.{places_differ, places_mean}
 use Rattle.smt_graph.proofs.Places.{as_many, found_within}
 use Rattle.smt_nodes.specs.Interned.{meaning_in, nodes_of, KeepsMeanings}
-use Rattle.smt_nodes.specs.View.{place_of}
-use Rattle.smt_nodes.specs.declared.id.NodeId.{NodeId}
+use Rattle.smt_node_tables.specs.View.{place_of}
+use Rattle.smt_node_tables.specs.declared.id.NodeId.{NodeId}
 use Rattle.smt_nodes.specs.declared.interner.Interner.{Interner}
 use Rattle.smt_lines.specs.NameTables.{Tables, name_of_function, name_of_term, name_of_type, no_names}
 use Rattle.smt_lines.proofs.Making.{lookup_new, lookup_other}

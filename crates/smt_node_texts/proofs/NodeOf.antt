@@ -5,10 +5,10 @@ use Rattle.smt_graph.specs.Meanings.{all_found, meanings}
 use Rattle.smt_graph.specs.Nodes.{Meaning}
 use Rattle.smt_graph.specs.Parts.{label_in, parts_in}
 use Rattle.smt_nodes.specs.Interned.{nodes_of}
-use Rattle.smt_nodes.specs.View.{ids_of, place_of, places_of, plain_node}
-use Rattle.smt_nodes.specs.declared.id.NodeId.{NodeId}
+use Rattle.smt_node_tables.specs.View.{ids_of, place_of, places_of, plain_node}
+use Rattle.smt_node_tables.specs.declared.id.NodeId.{NodeId}
 use Rattle.smt_nodes.specs.declared.interner.Interner.{Interner}
-use Rattle.smt_nodes.specs.declared.node.Node.{Node}
+use Rattle.smt_node_tables.specs.declared.node.Node.{Node}
 use Rattle.smt_nodes.proofs.Labels.{label_is, parts_are, parts_before}
 use Rattle.smt_node_texts.specs.NodeTexts.{IsNodeOf}
 

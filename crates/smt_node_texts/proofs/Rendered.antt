@@ -8,8 +8,8 @@ use Rattle.smt_graph.specs.Meanings.{all_found, found}
 use Rattle.smt_graph.specs.Nodes.{Meaning, TypeMeaning, FunctionMeaning, TermMeaning}
 use Rattle.smt_graph.specs.Parts.{label_in, parts_in}
 use Rattle.smt_graph.proofs.Places.{map_back, then_back, some_same}
-use Rattle.smt_nodes.specs.View.{place_of, places_of}
-use Rattle.smt_nodes.specs.declared.id.NodeId.{NodeId}
+use Rattle.smt_node_tables.specs.View.{place_of, places_of}
+use Rattle.smt_node_tables.specs.declared.id.NodeId.{NodeId}
 use Rattle.smt_lines.specs.Lines.{AsApplication, AsEqualsIntMin, AsFalse, least_rendering, negation_rendering}
 use Rattle.smt_node_texts.specs.Entries.{AsCall, Rendered, is_call_label, is_negation_label, is_truth_type, rendering_in, width_of_type}
 

@@ -18,9 +18,9 @@ use Rattle.smt_lines.specs.Lines.{first_type}
 use Rattle.smt_lines.specs.Spelling.{spelled}
 use Rattle.smt_lines.specs.NameTables.{Tables, name_of_type, text_of_name}
 use Rattle.smt_nodes.specs.Interned.{meaning_in, nodes_of}
-use Rattle.smt_nodes.specs.View.{ids_of, place_of, places_of, plain_label}
-use Rattle.smt_nodes.specs.declared.node.Node.{Node}
-use Rattle.smt_nodes.specs.declared.id.NodeId.{NodeId}
+use Rattle.smt_node_tables.specs.View.{ids_of, place_of, places_of, plain_label}
+use Rattle.smt_node_tables.specs.declared.node.Node.{Node}
+use Rattle.smt_node_tables.specs.declared.id.NodeId.{NodeId}
 use Rattle.smt_nodes.specs.declared.interner.Interner.{Interner}
 use Rattle.smt_node_texts.specs.Entries.{head_in, selection_fault, selector}
 use Rattle.smt_node_texts.specs.LookUps.{selections}

@@ -4,7 +4,7 @@ use Rattle.smt_meaning.specs.TypeValues.{Enums}
 use Rattle.smt_leaves.specs.Enums.{enums_of}
 use Rattle.smt_graph.specs.Nodes.{Meaning}
 use Rattle.smt_nodes.specs.Interned.{meaning_in, nodes_of}
-use Rattle.smt_nodes.specs.declared.id.NodeId.{NodeId}
+use Rattle.smt_node_tables.specs.declared.id.NodeId.{NodeId}
 use Rattle.smt_nodes.specs.declared.interner.Interner.{Interner}
 use Rattle.smt_lines.specs.NameTables.{Tables}
 use Rattle.smt_node_texts.specs.NodeLines.{has_entry, name_in}

@@ -7,10 +7,10 @@ use Rattle.smt_graph.specs.Nodes.{Meaning}
 use Rattle.smt_graph.specs.Parts.{label_in, parts_in}
 pub use Rattle.smt_nodes.specs.Interned.{StandFor}
 use Rattle.smt_nodes.specs.Interned.{meaning_in, nodes_of}
-use Rattle.smt_nodes.specs.View.{ids_of, place_of, places_of, plain_label, plain_node}
-use Rattle.smt_nodes.specs.declared.id.NodeId.{NodeId}
+use Rattle.smt_node_tables.specs.View.{ids_of, place_of, places_of, plain_label, plain_node}
+use Rattle.smt_node_tables.specs.declared.id.NodeId.{NodeId}
 use Rattle.smt_nodes.specs.declared.interner.Interner.{Interner}
-use Rattle.smt_nodes.specs.declared.node.Node.{Node}
+use Rattle.smt_node_tables.specs.declared.node.Node.{Node}
 use Rattle.smt_lexicon.specs.Reading.{Expression}
 use Rattle.smt_lines.specs.Lines.{made_of}
 use Rattle.smt_lines.specs.NameTables.{Tables}

@@ -3,7 +3,7 @@ use Rattle.std.specs.Prelude.{List}
 use Rattle.smt_bits.specs.Width.{bits_in}
 use Rattle.smt_lines.specs.Lines.{AsApplication, AsEqualsIntMin, AsFalse}
 use Rattle.smt_node_texts.specs.Entries.{NodeRendering, AsCall, Rendered}
-use Rattle.smt_nodes.specs.declared.id.NodeId.{NodeId}
+use Rattle.smt_node_tables.specs.declared.id.NodeId.{NodeId}
 use Rattle.smt_node_texts.specs.declared.rendering.Rendering.{Rendering}
 use Rattle.smt_node_texts.specs.declared.rendering.Rendering.TheVariants.{False, Application, Call, EqualsIntMin}
 use Rattle.smt_node_texts.specs.declared.rendering.WrittenParts.{WrittenParts}

@@ -13,7 +13,7 @@ ghost use Rattle.smt_lexicon.specs.Reading.{Expression};
 ghost use Rattle.smt_lines.specs.Lines.{Enums};
 ghost use Rattle.smt_lines.specs.Spelling.{spelled};
 ghost use Rattle.smt_graph.specs.Nodes.{ApplicationLabel, CallLabel, OptionLabel, SetLabel};
-ghost use Rattle.smt_nodes.specs.View.{plain_label};
+ghost use Rattle.smt_node_tables.specs.View.{plain_label};
 ghost use Rattle.smt_leaves.specs.Enums.{enums_of};
 ghost use Rattle.smt_term.specs.View.{plain_literal, plain_op};
 

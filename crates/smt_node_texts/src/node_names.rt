@@ -2,7 +2,7 @@
 ghost use Rattle.std.specs.Prelude.{◌≡◌, ◌≤◌, ◌<◌, ◌+◌, ℕ, [], None, OnOk, length, option_map};
 ghost use Rattle.std.specs.Rc.{rc_str_bytes};
 ghost use Rattle.smt_node_texts.specs.Texts.{kept_at, kept_count, IsKept};
-ghost use Rattle.smt_nodes.specs.View.{place_of};
+ghost use Rattle.smt_node_tables.specs.View.{place_of};
 
 use crate::steps::Steps;
 use smt_nodes::NodeId;

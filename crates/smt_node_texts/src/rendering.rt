@@ -7,7 +7,7 @@ ghost use Rattle.smt_node_texts.specs.NodeTexts.{IsNodeOf};
 ghost use Rattle.smt_graph.specs.Meanings.{all_found, meanings};
 ghost use Rattle.smt_graph.specs.Nodes.{Meaning, TermMeaning, TypeMeaning};
 ghost use Rattle.smt_nodes.specs.Interned.{meaning_in, nodes_of};
-ghost use Rattle.smt_nodes.specs.View.{places_of, plain_label};
+ghost use Rattle.smt_node_tables.specs.View.{places_of, plain_label};
 ghost use Rattle.smt_lines.specs.Lines as lines;
 ghost use Rattle.smt_meaning.specs.Plain.{PlainTerm, PlainType, terms};
 ghost use Rattle.smt_meaning.specs.Types.{type_of};

@@ -18,7 +18,7 @@ ghost use Rattle.smt_meaning.specs.Faults.{record_get_fault};
 ghost use Rattle.smt_meaning.specs.Plain.{PlainTerm, PlainType, terms};
 ghost use Rattle.smt_meaning.specs.Types.{types_of};
 ghost use Rattle.smt_nodes.specs.Interned.{meaning_in, nodes_of, IsMeant};
-ghost use Rattle.smt_nodes.specs.View.{places_of, plain_label};
+ghost use Rattle.smt_node_tables.specs.View.{places_of, plain_label};
 ghost use Rattle.smt_spelling.specs.TextFaults.{Finds};
 ghost use Rattle.smt_term.specs.View.{plain_type};
 

@@ -9,8 +9,8 @@ use Rattle.smt_meaning.specs.ValueOrder.{ascends, is_below}
 use Rattle.smt_graph.specs.Meanings.{all_found, found, terms_in}
 use Rattle.smt_graph.specs.Nodes.{Meaning, TermMeaning}
 use Rattle.smt_nodes.specs.Kinds.{terms_at}
-use Rattle.smt_nodes.specs.View.{place_of, places_of}
-use Rattle.smt_nodes.specs.declared.id.NodeId.{NodeId}
+use Rattle.smt_node_tables.specs.View.{place_of, places_of}
+use Rattle.smt_node_tables.specs.declared.id.NodeId.{NodeId}
 
 -- a term before terms
 below_terms : (t u : PlainTerm) (z : Option (List PlainTerm)) (r : Bool) → r ≡ is_lt (term_cmp t u) → IfSome (option_map (λ us. u ∷ us) z) (λ us. r ≡ is_below term_cmp t us)

@@ -26,16 +26,17 @@ use Rattle.smt_graph.specs.Parts.{field_names, field_terms, names_in, types_in}
 use Rattle.smt_term.specs.View.{plain_literal, plain_op}
 use Rattle.smt_characters.specs.SharedTexts.{texts}
 use Rattle.smt_nodes.proofs.ComparingRecords.{alike_lists, attributes_cmp, fields_alike, fields_by_attributes, types_alike, types_by_attributes}
-use Rattle.smt_nodes.proofs.Levels.{op_itself}
-use Rattle.smt_nodes.specs.Attributes.{attributes_of}
-use Rattle.smt_nodes.specs.Order.{are_alike, attributes_apart, difference_of, first_cmp, function_place, meaning_cmp, or_else, parts_apart}
-use Rattle.smt_nodes.specs.View.{ids_of, place_of, places_of, plain_label, plain_node}
-use Rattle.smt_nodes.specs.declared.id.NodeId.{NodeId}
-use Rattle.smt_nodes.specs.declared.node.Label.{Label}
-use Rattle.smt_nodes.specs.declared.node.Label.TheVariants.{TOption, TBitvec, TBool, TEntity, TExt, TString, TRecord, TSet, Fun, App, Call, NoneOf, Prim, RecordOf, SetOf, SomeOf, Var}
-use Rattle.smt_nodes.specs.declared.node.Node.{Node}
-use Rattle.smt_nodes.specs.declared.order.Difference.{Difference}
-use Rattle.smt_nodes.specs.declared.order.Difference.TheVariants.{Nowhere, At, Length}
+use Rattle.smt_node_tables.proofs.Levels.{op_itself}
+use Rattle.smt_node_tables.specs.Attributes.{attributes_of}
+use Rattle.smt_node_tables.specs.Order.{attributes_apart, difference_of, first_cmp, function_place, or_else, parts_apart}
+use Rattle.smt_nodes.specs.Order.{are_alike, meaning_cmp}
+use Rattle.smt_node_tables.specs.View.{ids_of, place_of, places_of, plain_label, plain_node}
+use Rattle.smt_node_tables.specs.declared.id.NodeId.{NodeId}
+use Rattle.smt_node_tables.specs.declared.node.Label.{Label}
+use Rattle.smt_node_tables.specs.declared.node.Label.TheVariants.{TOption, TBitvec, TBool, TEntity, TExt, TString, TRecord, TSet, Fun, App, Call, NoneOf, Prim, RecordOf, SetOf, SomeOf, Var}
+use Rattle.smt_node_tables.specs.declared.node.Node.{Node}
+use Rattle.smt_node_tables.specs.declared.order.Difference.{Difference}
+use Rattle.smt_node_tables.specs.declared.order.Difference.TheVariants.{Nowhere, At, Length}
 
 -- the labels of the program, what their parts stand for and what they stand for
 pub data Shape : PlainLabel → List Meaning → Meaning → Type 0 where

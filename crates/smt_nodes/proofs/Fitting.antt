@@ -18,10 +18,10 @@ use Rattle.smt_graph.proofs.Distinct.{places_differ}
 use Rattle.smt_graph.proofs.Fitting.{are_terms, fitting, parts_fit}
 use Rattle.smt_graph.proofs.Places.{map_back, then_back}
 use Rattle.smt_nodes.specs.Kinds.{are_called_at, ascend_at, is_function_at, is_option_at, is_option_of_at, is_set_at, is_term_at, is_type_at, is_type_of_at, terms_at}
-use Rattle.smt_nodes.specs.View.{ids_of, place_of, places_of, plain_label, plain_node}
-use Rattle.smt_nodes.specs.declared.node.Label.{Label}
-use Rattle.smt_nodes.specs.declared.node.Node.{Node}
-use Rattle.smt_nodes.specs.declared.id.NodeId.{NodeId}
+use Rattle.smt_node_tables.specs.View.{ids_of, place_of, places_of, plain_label, plain_node}
+use Rattle.smt_node_tables.specs.declared.node.Label.{Label}
+use Rattle.smt_node_tables.specs.declared.node.Node.{Node}
+use Rattle.smt_node_tables.specs.declared.id.NodeId.{NodeId}
 
 -- ---- what is found first
 pub first_found : (ms : List (Option Meaning)) (xs : List NodeId) (d : NodeId) (m : Meaning) (ps : List Meaning) → all_found ms (places_of xs) ≡ Some (m ∷ ps) → found ms (place_of (get_or xs 0 d)) ≡ Some m

@@ -16,10 +16,10 @@ use Rattle.smt_graph.proofs.Growth.{Graph, by_nodes, empty, grown}
 use Rattle.smt_graph.proofs.Places.{found_split, map_back, meanings_grow, only_back, some_same, then_back}
 use Rattle.smt_graph.proofs.Whole.{whole}
 use Rattle.smt_term.proofs.FormedTerms.{IsFormedBoth, formed_literal, formed_option, formed_set}
-use Rattle.smt_nodes.specs.View.{plain_label, plain_node}
-use Rattle.smt_nodes.specs.declared.node.Label.{Label}
-use Rattle.smt_nodes.specs.declared.node.Label.TheVariants.{TBitvec, Prim}
-use Rattle.smt_nodes.specs.declared.node.Node.{Node}
+use Rattle.smt_node_tables.specs.View.{plain_label, plain_node}
+use Rattle.smt_node_tables.specs.declared.node.Label.{Label}
+use Rattle.smt_node_tables.specs.declared.node.Label.TheVariants.{TBitvec, Prim}
+use Rattle.smt_node_tables.specs.declared.node.Node.{Node}
 
 -- a label as the program has it
 abbrev IsFormedLabel : PlainLabel → Type 0

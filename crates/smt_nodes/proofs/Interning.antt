@@ -20,9 +20,9 @@ use Rattle.smt_term.specs.declared.function.Uuf.{Uuf as Function}
 use Rattle.smt_term.specs.declared.op.Op.{Op}
 use Rattle.smt_term.specs.declared.op.Op.TheVariants.{And, Uuf}
 use Rattle.smt_nodes.proofs.RecordParts.{Listing, attributes_round, fields_round, listed-take}
-use Rattle.smt_nodes.specs.View.{place_of, places_of, plain_label}
-use Rattle.smt_nodes.specs.declared.id.NodeId.{NodeId}
-use Rattle.smt_nodes.specs.declared.node.Label.TheVariants.{App}
+use Rattle.smt_node_tables.specs.View.{place_of, places_of, plain_label}
+use Rattle.smt_node_tables.specs.declared.id.NodeId.{NodeId}
+use Rattle.smt_node_tables.specs.declared.node.Label.TheVariants.{App}
 
 -- ---- what is found stays so
 abbrev Keeps : List PlainNode → List PlainNode → Type 0

@@ -4,10 +4,9 @@ pub mod ComparingRecords
 pub mod Finding
 pub mod Fitting
 pub mod Formed
+pub mod Growing
 pub mod Interning
 pub mod Labels
-pub mod Levels
 pub mod Rebuilding
 pub mod RecordFitting
 pub mod RecordParts
-pub mod Tables

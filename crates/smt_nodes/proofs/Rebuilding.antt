@@ -20,8 +20,8 @@ use Rattle.smt_graph.specs.Parts.{label_in, names_in, parts_in, type_label, type
 use Rattle.smt_nodes.proofs.Comparing.{head_found}
 use Rattle.smt_nodes.proofs.Finding.{as_many_found}
 use Rattle.smt_nodes.specs.Kinds.{is_type_at}
-use Rattle.smt_nodes.specs.View.{place_of, places_of}
-use Rattle.smt_nodes.specs.declared.id.NodeId.{NodeId}
+use Rattle.smt_node_tables.specs.View.{place_of, places_of}
+use Rattle.smt_node_tables.specs.declared.id.NodeId.{NodeId}
 
 pub a_type : (o : Option Meaning) → is_type_at o ≡ true → (t : PlainType) × (o ≡ Some (TypeMeaning t))
 a_type (Some (TypeMeaning t)) h = (t, refl)

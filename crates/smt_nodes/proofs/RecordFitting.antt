@@ -35,8 +35,8 @@ use Rattle.smt_nodes.proofs.Finding.{as_many_found, made_so}
 use Rattle.smt_nodes.proofs.Fitting.{first_found, Fits}
 use Rattle.smt_nodes.proofs.RecordParts.{field_names-typed, fields_round, types_in-listed, types_listed}
 use Rattle.smt_nodes.specs.Kinds.{are_typed, are_typed_at, is_term_at, is_type_at, is_typed_at, IsRecordAt}
-use Rattle.smt_nodes.specs.View.{place_of, places_of}
-use Rattle.smt_nodes.specs.declared.id.NodeId.{NodeId}
+use Rattle.smt_node_tables.specs.View.{place_of, places_of}
+use Rattle.smt_node_tables.specs.declared.id.NodeId.{NodeId}
 
 and-false : (b : Bool) → (b && false) ≡ false
 and-false true = refl

@@ -2,13 +2,11 @@
 use Rattle.std.proofs.Common.{◌≡◌, ℕ, suc, ◌+◌, ◌<◌, List, [], ◌∷◌, ◌++◌, Some, add-one, get_or, length, map, take, refl, sym, ap, ◌∙◌, subst}
 use Rattle.std.proofs.Math.Seq.{take-suc}
 use Rattle.std.specs.Prelude.{IsTrue, option_map}
-use Rattle.std.specs.Rc.{rc_str_bytes}
 use Rattle.std.specs.declared.alloc.Global.{Global}
 use Rattle.std.specs.declared.rc.RcStr.{RcStr}
 use Rattle.smt_meaning.specs.Plain.{PlainType, AttributeTypes, no_attributes, attribute, PlainFields, no_fields, one_field}
 use Rattle.smt_meaning.specs.Types.{field_types}
 use Rattle.smt_meaning.specs.ValueOrder.{ascends, text_cmp}
-use Rattle.smt_leaves.specs.Pairs.{attributes_in as attributes_beside}
 use Rattle.smt_graph.specs.Meanings.{attributes_in, fields_in}
 use Rattle.smt_graph.specs.Nodes.{Meaning, TypeMeaning, TermMeaning}
 use Rattle.smt_graph.specs.Parts.{field_names, field_terms, names_in, types_in}
@@ -17,6 +15,7 @@ use Rattle.smt_term.specs.declared.maps.TermMap.{TermMap}
 use Rattle.smt_term.specs.declared.maps.TypeMap.{TypeMap}
 use Rattle.smt_term.specs.declared.term.Term.{Term}
 use Rattle.smt_term.specs.declared.types.TermType.{TermType}
+use Rattle.smt_node_tables.proofs.MapNames.{term_names, type_names}
 
 -- ---- there and back
 pub attributes_round : (x : AttributeTypes) → attributes_in (names_in x) (types_in x) ≡ Some x
@@ -86,15 +85,7 @@ module _ {X : Type 0} {f : X → Meaning} {g : List X → List Meaning} (w : Lis
       let one : take (i + 1) xs ≡ take i xs ++ x ∷ [] = ap (λ n. take n xs) (add-one i) ∙ (take-suc xs i x h ∙ ap (λ x. take i xs ++ x ∷ []) (sym s)) in
       ap g one ∙ listed-append (take i xs) x
 
--- ---- the attributes of maps ascend, and those of pairs are those of what they say
-pub type_names : (ps : List (RcStr Global × TermType)) → attributes_beside ps ≡ names_in (attribute_types (map plain_attribute ps))
-type_names [] = refl
-type_names (p ∷ ps) = ap (λ l. rc_str_bytes p.0 ∷ l) (type_names ps)
-
-pub term_names : (ps : List (RcStr Global × Term)) → attributes_beside ps ≡ field_names (record_fields (map plain_field ps))
-term_names [] = refl
-term_names (p ∷ ps) = ap (λ l. rc_str_bytes p.0 ∷ l) (term_names ps)
-
+-- ---- the attributes of maps ascend
 abbrev Ascends : List (List ℕ) → Type 0
 Ascends l = IsTrue (ascends text_cmp l)
 

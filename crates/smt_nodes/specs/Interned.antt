@@ -3,8 +3,8 @@ use Rattle.std.specs.Prelude.{◌≡◌, ◌⊎◌, ◌++◌, List, [], ◌∷�
 use Rattle.smt_meaning.specs.Plain.{PlainTerm}
 use Rattle.smt_graph.specs.Meanings.{all_found, meaning_at, meaning_of, meanings}
 use Rattle.smt_graph.specs.Nodes.{Meaning, PlainNode, TermMeaning}
-use Rattle.smt_nodes.specs.View.{place_of, places_of, plain_node}
-use Rattle.smt_nodes.specs.declared.id.NodeId.{NodeId}
+use Rattle.smt_node_tables.specs.View.{place_of, places_of, plain_node}
+use Rattle.smt_node_tables.specs.declared.id.NodeId.{NodeId}
 use Rattle.smt_nodes.specs.declared.interner.Interner.{Interner}
 
 -- the nodes, in the order of their numbers

@@ -1,51 +1,14 @@
 -- What stands at a place, by its kind and its type.
 use Rattle.std.specs.List.{list_all}
-use Rattle.std.specs.Prelude.{◌≡◌, ℕ, Bool, true, false, ◌&&◌, List, [], ◌∷◌, Option, Some, None, bytes_eq, is_some, nat_eq, option_and_then}
-use Rattle.smt_meaning.specs.Plain.{PlainType, OptionType, RecordType, AttributeTypes, PlainLiteral, BitVecLiteral, BoolLiteral, EntityLiteral, ExtensionLiteral, StringLiteral, PlainTerm}
+use Rattle.std.specs.Prelude.{◌≡◌, ℕ, Bool, true, false, ◌&&◌, List, [], ◌∷◌, Option, Some, None, is_some, option_and_then}
+use Rattle.smt_meaning.specs.Plain.{PlainType, BoolType, OptionType, RecordType, AttributeTypes, PlainLiteral, PlainTerm}
 use Rattle.smt_meaning.specs.TermOrder.{term_cmp}
 use Rattle.smt_meaning.specs.ValueOrder.{ascends}
-use Rattle.smt_meaning.specs.Types.{extension_kind_place, inner_type, is_set, kind_of, literal_type, type_eq, type_of}
+use Rattle.smt_meaning.specs.Types.{inner_type, is_set, literal_type, type_eq, type_of}
 use Rattle.smt_graph.specs.Meanings.{all_found, terms_in}
 use Rattle.smt_graph.specs.Fits.{is_term}
 use Rattle.smt_graph.specs.Parts.{names_in}
-use Rattle.smt_graph.specs.Nodes.{PlainLabel, OptionLabel, BitVecLabel, BoolLabel, EntityLabel, ExtensionLabel, StringLabel, RecordLabel, SetLabel, FunctionLabel, Meaning, TypeMeaning, FunctionMeaning, TermMeaning}
-
--- labels of types, of functions and of terms
-abbrev pub is_type_label : PlainLabel → Bool
-is_type_label OptionLabel = true
-is_type_label (BitVecLabel n) = true
-is_type_label BoolLabel = true
-is_type_label (EntityLabel e) = true
-is_type_label (ExtensionLabel k) = true
-is_type_label StringLabel = true
-is_type_label (RecordLabel names) = true
-is_type_label SetLabel = true
-is_type_label l = false
-
-abbrev pub is_function_label : PlainLabel → Bool
-is_function_label (FunctionLabel id) = true
-is_function_label l = false
-
-abbrev pub is_term_label : PlainLabel → Bool
-is_term_label OptionLabel = false
-is_term_label (BitVecLabel n) = false
-is_term_label BoolLabel = false
-is_term_label (EntityLabel e) = false
-is_term_label (ExtensionLabel k) = false
-is_term_label StringLabel = false
-is_term_label (RecordLabel names) = false
-is_term_label SetLabel = false
-is_term_label (FunctionLabel id) = false
-is_term_label l = true
-
--- the label of the type of a literal
-abbrev pub is_literal_label : PlainLiteral → PlainLabel → Bool
-is_literal_label (BitVecLiteral n a) (BitVecLabel m) = nat_eq n m
-is_literal_label (BoolLiteral b) BoolLabel = true
-is_literal_label (EntityLiteral e i) (EntityLabel f) = bytes_eq e f
-is_literal_label (ExtensionLiteral x) (ExtensionLabel k) = nat_eq (extension_kind_place (kind_of x)) (extension_kind_place k)
-is_literal_label (StringLiteral s) StringLabel = true
-is_literal_label l m = false
+use Rattle.smt_graph.specs.Nodes.{Meaning, TypeMeaning, FunctionMeaning, TermMeaning}
 
 -- it is a type; a function; a term
 abbrev pub is_type_at : Option Meaning → Bool
@@ -59,6 +22,11 @@ is_function_at m = false
 abbrev pub is_term_at : Option Meaning → Bool
 is_term_at (Some (TermMeaning t)) = true
 is_term_at m = false
+
+-- it is the type of truth values
+abbrev pub is_bool_at : Option Meaning → Bool
+is_bool_at (Some (TypeMeaning BoolType)) = true
+is_bool_at m = false
 
 -- it is a type of options; of sets; of this literal; of options of this term's type
 abbrev pub is_option_at : Option Meaning → Bool

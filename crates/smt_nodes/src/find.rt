@@ -2,22 +2,19 @@
 ghost use Rattle.std.specs.Prelude.{◌≡◌, ◌∷◌, ◌↔◌, [], IfNone, IfSome, IsTrue, Some, map};
 ghost use Rattle.smt_graph.specs.Meanings.{all_found, meanings};
 ghost use Rattle.smt_graph.specs.Nodes.{FunctionMeaning, TermMeaning, TypeMeaning};
-ghost use Rattle.smt_graph.specs.Parts.{field_terms, label_in, parts_in, term_label, term_parts, type_label, type_parts, types_in};
-ghost use Rattle.smt_meaning.specs.Plain.{Application, OptionType, PlainTerms, PlainType, RecordType, SetType, terms};
+ghost use Rattle.smt_graph.specs.Parts.{field_terms, parts_in, term_parts, type_parts, types_in};
+ghost use Rattle.smt_meaning.specs.Plain.{Application, OptionType, PlainType, RecordType, SetType, terms};
 ghost use Rattle.smt_meaning.specs.Types.{field_types};
-ghost use Rattle.smt_nodes.specs.View.{places_of, plain_label};
+ghost use Rattle.smt_node_tables.specs.View.{places_of};
 ghost use Rattle.smt_term.specs.View.{attribute_types, plain_attributes, plain_fields, plain_function, plain_op, plain_term, plain_type, record_fields};
 
-use crate::attributes::are_attributes_of;
-use crate::id::NodeId;
 use crate::interner::Interner;
-use crate::node::Label;
-use crate::subject::Subject;
+use smt_node_tables::{Label, NodeId, Subject, are_attributes_of};
 use smt_term::{Op, Term, TermMap, TermType, TypeMap, Uuf};
 
 impl Interner {
     ghost use Rattle.smt_nodes.specs.Interned.{meaning_in, nodes_of};
-    ghost use Rattle.smt_nodes.specs.Subject.{meaning_of};
+    ghost use Rattle.smt_node_tables.specs.Subject.{meaning_of};
 
     /// The number that stands for a term, None exactly where none does. Takes no memory; it compares the term with one node
     /// after the other.
@@ -253,77 +250,6 @@ impl Interner {
             [] => false,
             [id] => self.stands_for_type(*id, ty),
             [_, _, ..] => false,
-        }
-    }
-}
-
-impl Label {
-    // Whether it is that of the term.
-    fn is_of_term(&self, term: &Term) -> bool
-        ensures { IsTrue result ↔ (plain_label self.now ≡ term_label (plain_term term.now)) }
-    {
-        match term {
-            Term::App { op, .. } => self.is_of_operator(op),
-            Term::None(_) => *self == Label::NoneOf,
-            Term::Prim(literal) => match self {
-                Label::Prim(own) => own == literal,
-                _ => false,
-            },
-            Term::Record(fields) => match self {
-                Label::RecordOf(own) => are_attributes_of(own.items(), fields.items()),
-                _ => false,
-            },
-            Term::Set { .. } => *self == Label::SetOf,
-            Term::Some(_) => *self == Label::SomeOf,
-            Term::Var(variable) => match self {
-                Label::Var(own) => *own == variable.id,
-                _ => false,
-            },
-        }
-    }
-
-    // Whether it is that of the operator's applications.
-    fn is_of_operator(&self, op: &Op) -> bool
-        ensures { (ts : PlainTerms) (t : PlainType) → IsTrue result ↔ (plain_label self.now ≡ term_label (Application (plain_op op.now) ts t)) }
-    {
-        match op {
-            Op::Uuf(_) => *self == Label::Call,
-            _ => match self {
-                Label::App(own) => own == op,
-                _ => false,
-            },
-        }
-    }
-
-    // Whether it is that of the function.
-    fn is_of_function(&self, function: &Uuf) -> bool
-        ensures { IsTrue result ↔ (plain_label self.now ≡ label_in (FunctionMeaning (plain_function function.now))) }
-    {
-        match self {
-            Label::Fun(own) => *own == function.id,
-            _ => false,
-        }
-    }
-
-    // Whether it is that of the type.
-    fn is_of_type(&self, ty: &TermType) -> bool
-        ensures { IsTrue result ↔ (plain_label self.now ≡ type_label (plain_type ty.now)) }
-    {
-        match ty {
-            TermType::Option { .. } => *self == Label::TOption,
-            TermType::Bitvec { n } => *self == Label::TBitvec(*n),
-            TermType::Bool => *self == Label::TBool,
-            TermType::Entity { ety } => match self {
-                Label::TEntity(own) => own == ety,
-                _ => false,
-            },
-            TermType::Ext { xty } => *self == Label::TExt(*xty),
-            TermType::String => *self == Label::TString,
-            TermType::Record { rty } => match self {
-                Label::TRecord(own) => are_attributes_of(own.items(), rty.items()),
-                _ => false,
-            },
-            TermType::Set { .. } => *self == Label::TSet,
         }
     }
 }

@@ -2,22 +2,19 @@
 ghost use Rattle.std.specs.Prelude.{◌≡◌, ◌++◌, ◌∷◌, IfOk, List, Some, map};
 ghost use Rattle.smt_graph.specs.Meanings.{all_found, meanings, stands_for};
 ghost use Rattle.smt_graph.specs.Nodes.{FunctionMeaning, Meaning, TermMeaning, TypeMeaning};
-ghost use Rattle.smt_meaning.specs.Plain.{Application, PlainType, terms};
+ghost use Rattle.smt_meaning.specs.Plain.{Application, BoolType, PlainType, terms};
 ghost use Rattle.smt_meaning.specs.Types.{type_of};
-ghost use Rattle.smt_nodes.specs.View.{places_of, plain_label};
+ghost use Rattle.smt_node_tables.specs.View.{places_of, plain_label};
 ghost use Rattle.smt_graph.specs.Parts.{field_terms, types_in};
 ghost use Rattle.smt_term.specs.View.{attribute_types, plain_attributes, plain_fields, plain_function, plain_op, plain_term, plain_type, record_fields};
 
-use crate::attributes::AttrList;
-use crate::id::{IdList, NodeId};
 use crate::interner::Interner;
-use crate::node::{Label, Node};
-use crate::subject::Subject;
+use smt_node_tables::{AttrList, IdList, Label, Node, NodeId, Subject};
 use smt_term::{Op, Term, TermError, TermMap, TermType, TypeMap, Uuf};
 
 impl Interner {
     ghost use Rattle.smt_nodes.specs.Interned.{meaning_in, nodes_of, IsMeant, KeepsMeanings};
-    ghost use Rattle.smt_nodes.specs.Subject.{meaning_of};
+    ghost use Rattle.smt_node_tables.specs.Subject.{meaning_of};
 
     /// The number that stands for a term, a type or a function. What is inside it gets numbers before it.
     ///
@@ -156,6 +153,19 @@ impl Interner {
         self.enter(Label::Fun(function.id.clone()?), &[arg, out])
     }
 
+    // The number that stands for the type of truth values. It is looked for until it is known, and then kept.
+    fn intern_bool_type(&mut self) -> Result<NodeId, TermError>
+        ensures meaning { IfOk result (λ id. meaning_in self.new id ≡ Some (TypeMeaning BoolType)) }
+        ensures kept { KeepsMeanings self.old self.new }
+    {
+        if let Some(id) = self.bool_type {
+            return Ok(id);
+        }
+        let id = self.enter(Label::TBool, &[])?;
+        self.bool_type = Some(id);
+        Ok(id)
+    }
+
     // The number that stands for a type.
     #[cycle(intern_types)]
     fn intern_type(&mut self, ty: &TermType) -> Result<NodeId, TermError>
@@ -168,7 +178,7 @@ impl Interner {
                 self.enter(Label::TOption, &[inner])
             }
             TermType::Bitvec { n } => self.enter(Label::TBitvec(*n), &[]),
-            TermType::Bool => self.enter(Label::TBool, &[]),
+            TermType::Bool => self.intern_bool_type(),
             TermType::Entity { ety } => self.enter(Label::TEntity(ety.share()?), &[]),
             TermType::Ext { xty } => self.enter(Label::TExt(*xty), &[]),
             TermType::String => self.enter(Label::TString, &[]),

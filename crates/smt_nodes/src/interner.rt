@@ -1,5 +1,6 @@
 // Nodes that stand for different things, by number.
-ghost use Rattle.std.specs.Prelude.{ℕ, List, ◌≡◌, ◌↔◌, ◌<◌, ◌≤◌, ◌^◌, [], Contains, IfNone, IfOk, IfSome, IsTrue, OnOk, Some, is_some, length, map, option_and_then, option_map, slice_get};
+ghost use Rattle.std.specs.Prelude.{ℕ, List, ◌≡◌, ◌↔◌, ◌+◌, ◌<◌, ◌≤◌, ◌^◌, [], Contains, IfNone, IfOk, IfSome, IsTrue, OnOk, Some, is_some, length, map, option_and_then, option_map, slice_get};
+ghost use Rattle.std.specs.Option.{ForSome};
 ghost use Rattle.std.specs.List.{AllByRecursion, list_all};
 ghost use Rattle.smt_graph.specs.Fits.{applies_no_function, fits};
 ghost use Rattle.smt_graph.specs.Nodes.{ApplicationLabel, BitVecLabel, BoolLabel, CallLabel, EntityLabel, ExtensionLabel, FunctionLabel, LiteralLabel, NoneLabel, OptionLabel, RecordLabel, RecordOfLabel, SetLabel, SetOfLabel, SomeLabel, StringLabel, TypeMeaning, VariableLabel};
@@ -8,15 +9,12 @@ ghost use Rattle.smt_meaning.specs.Plain.{ExtensionKind, PlainOp, PlainType};
 ghost use Rattle.smt_graph.specs.Graphs.{IsGraph};
 ghost use Rattle.smt_graph.specs.Meanings.{all_found, meaning_at, meanings, stands_for};
 ghost use Rattle.smt_graph.specs.Parts.{label_in, parts_in};
-ghost use Rattle.smt_nodes.specs.Index.{IsIndex, IsKey};
-ghost use Rattle.smt_nodes.specs.Kinds.{are_called_at, are_typed_at, ascend_at, is_function_at, is_option_at, is_option_of_at, is_set_at, is_term_at, is_type_at, is_type_of_at, is_typed_at, terms_at, IsRecordAt};
-ghost use Rattle.smt_nodes.specs.View.{place_of, places_of, plain_label, plain_node};
+ghost use Rattle.smt_node_tables.specs.Index.{IsIndex, IsKey};
+ghost use Rattle.smt_nodes.specs.Kinds.{are_called_at, are_typed_at, ascend_at, is_bool_at, is_function_at, is_option_at, is_option_of_at, is_set_at, is_term_at, is_type_at, is_type_of_at, is_typed_at, terms_at, IsRecordAt};
+ghost use Rattle.smt_node_tables.specs.View.{place_of, places_of, plain_label, plain_node};
 ghost use Rattle.smt_term.specs.View.{plain_literal, plain_op};
 
-use crate::attributes::are_in_order;
-use crate::id::NodeId;
-use crate::node::{Label, Node};
-use crate::table::{Key, Table};
+use smt_node_tables::{Key, Label, Node, NodeId, Table, are_in_order};
 use smt_term::{Attr, Op, TermError, TermPrim};
 use std::alloc::Global;
 
@@ -25,9 +23,12 @@ use std::alloc::Global;
 pub struct Interner {
     pub(crate) alloc: Global,
     table: Table,
+    // The number of the type of truth values, once it is known. Most terms have this type.
+    pub(crate) bool_type: Option<NodeId>,
     ghost graph: { IsGraph (map plain_node table.nodes.items) },
     ghost index: { IsIndex table },
     ghost few: { length table.nodes.items ≤ 2 ^ 32 },
+    ghost truths: { ForSome bool_type (λ id. IsTrue (is_bool_at (meaning_at (map plain_node table.nodes.items) (place_of id)))) },
 }
 
 impl Interner {
@@ -40,6 +41,7 @@ impl Interner {
         Interner {
             alloc,
             table: Table::new(alloc),
+            bool_type: None,
         }
     }
 
@@ -94,7 +96,18 @@ impl Interner {
         ensures found { (node : Node) → IsKey self.now.table node key.now → IfSome result (λ id. slice_get (nodes_of self.now) (place_of id) ≡ Some (plain_node node)) }
         ensures missing { (node : Node) → IsKey self.now.table node key.now → IfNone result (¬ Contains (nodes_of self.now) (plain_node node)) }
     {
-        self.table.find(key)
+        match key.parts() {
+            // A node stands behind its parts, so none has the newest one for a part.
+            [.., last] if self.is_newest(*last) => None,
+            _ => self.table.find(key),
+        }
+    }
+
+    // Whether the number is the last one that was given.
+    fn is_newest(&self, id: NodeId) -> bool
+        ensures { IsTrue result → place_of id + 1 ≡ length (nodes_of self.now) }
+    {
+        id.place() < self.len() && self.len() - id.place() == 1
     }
 
     // Enters a node that fits and that the interner does not have.

@@ -7,13 +7,12 @@ ghost use Rattle.smt_graph.specs.Parts.{names_in, types_in};
 ghost use Rattle.smt_meaning.specs.Plain.{AttributeTypes, RecordType};
 ghost use Rattle.smt_meaning.specs.ValueOrder.{ascends, text_cmp};
 ghost use Rattle.smt_nodes.specs.Kinds.{is_type_at};
-ghost use Rattle.smt_nodes.specs.View.{place_of, places_of};
+ghost use Rattle.smt_node_tables.specs.View.{place_of, places_of};
 ghost use Rattle.std.specs.List.{AllByRecursion};
 ghost use Rattle.smt_term.specs.View.{plain_type};
 
-use crate::id::NodeId;
 use crate::interner::Interner;
-use crate::node::Label;
+use smt_node_tables::{Label, NodeId};
 use smt_term::{Attr, TermError, TermType, TypeMap};
 use smt_text::share_text;
 

@@ -1,7 +1,7 @@
 use Rattle.std.proofs.Common.{sym, subst}
 use Rattle.smt_leaves.specs.Enums.{enums_of}
-use Rattle.smt_nodes.specs.View.{plain_label}
-use Rattle.smt_nodes.specs.declared.node.Label.{Label}
+use Rattle.smt_node_tables.specs.View.{plain_label}
+use Rattle.smt_node_tables.specs.declared.node.Label.{Label}
 use Rattle.smt_spelling.specs.TextFaults.{text_fault, Finds}
 use Rattle.smt_node_texts.specs.Entries.{entry_fault}
 use Rattle.smt_node_texts.specs.Renderings.{plain_rendering}

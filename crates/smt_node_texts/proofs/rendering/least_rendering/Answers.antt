@@ -6,7 +6,7 @@ use Rattle.smt_graph.specs.Meanings.{all_found, meanings}
 use Rattle.smt_graph.specs.Nodes.{Meaning, TypeMeaning}
 use Rattle.smt_graph.specs.Parts.{parts_in}
 use Rattle.smt_nodes.specs.Interned.{nodes_of}
-use Rattle.smt_nodes.specs.View.{places_of}
+use Rattle.smt_node_tables.specs.View.{places_of}
 use Rattle.smt_node_texts.proofs.Rendered.{first_found, of_none, of_width}
 use Rattle.smt_node_texts.proofs.rendering.least_rendering.Goals as goal
 

@@ -6,7 +6,7 @@ use Rattle.smt_graph.specs.Nodes.{TypeMeaning, TermMeaning}
 use Rattle.smt_lines.specs.Lines as lines
 use Rattle.smt_node_texts.specs.Entries.{Rendered}
 use Rattle.smt_nodes.specs.Interned.{nodes_of}
-use Rattle.smt_nodes.specs.View.{place_of, places_of}
+use Rattle.smt_node_tables.specs.View.{place_of, places_of}
 use Rattle.smt_node_texts.proofs.Rendered.{found_length, no_truth, not_one, of_truth, first_found, two_found}
 use Rattle.smt_node_texts.proofs.rendering.negation_rendering.Goals as goal
 

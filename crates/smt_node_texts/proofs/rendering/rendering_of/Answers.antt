@@ -1,7 +1,7 @@
 use Rattle.std.proofs.Common.{Some, sym, ap, ◌∙◌}
 use Rattle.smt_graph.specs.Meanings.{all_found, meanings}
 use Rattle.smt_nodes.specs.Interned.{nodes_of}
-use Rattle.smt_nodes.specs.View.{places_of}
+use Rattle.smt_node_tables.specs.View.{places_of}
 use Rattle.smt_node_texts.specs.Entries.{is_call_label, is_negation_label}
 use Rattle.smt_node_texts.proofs.Rendered.{called, negation, no_negation}
 use Rattle.smt_node_texts.proofs.rendering.rendering_of.Goals as goal

@@ -16,7 +16,7 @@ use Rattle.smt_lines.specs.Lines.{Enums}
 use Rattle.smt_encode.specs.Steps.{look_ups_in, WritesHere}
 use Rattle.smt_spelling.specs.Spelled.{IsSpelled}
 use Rattle.smt_nodes.specs.Interned.{meaning_in, nodes_of}
-use Rattle.smt_nodes.specs.View.{ids_of, place_of, places_of, plain_label, plain_node}
+use Rattle.smt_node_tables.specs.View.{ids_of, place_of, places_of, plain_label, plain_node}
 use Rattle.smt_node_texts.specs.Names.{enums_under, nodes_under, texts_under}
 use Rattle.std.specs.Option.{option_or}
 use Rattle.std.specs.Prelude.{is_some, slice_get}

@@ -4,7 +4,7 @@ use Rattle.std.specs.Rc.{rc_str_bytes}
 use Rattle.smt_graph.specs.Meanings.{all_found, meanings}
 use Rattle.smt_graph.specs.Nodes.{Meaning}
 use Rattle.smt_nodes.specs.Interned.{nodes_of}
-use Rattle.smt_nodes.specs.View.{place_of, places_of}
+use Rattle.smt_node_tables.specs.View.{place_of, places_of}
 use Rattle.smt_lines.specs.NameTables.{Tables}
 use Rattle.smt_script.specs.declared.sink.SinkError.TheVariants.{Fault}
 use Rattle.smt_node_texts.specs.Names.{enums_under, nodes_under, texts_under}

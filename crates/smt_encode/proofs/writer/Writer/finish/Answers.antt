@@ -2,7 +2,7 @@ use Rattle.std.proofs.Common.{◌≡◌, ℕ, true, List, Option, Some, None, le
 use Rattle.std.specs.Prelude.{is_some}
 use Rattle.smt_graph.specs.Nodes.{PlainLabel}
 use Rattle.smt_graph.specs.Parts.{label_in}
-use Rattle.smt_nodes.specs.View.{plain_label}
+use Rattle.smt_node_tables.specs.View.{plain_label}
 use Rattle.smt_node_texts.specs.Names.{enums_under, nodes_under, KeepTables}
 use Rattle.smt_node_texts.specs.Entries.{entry_fault, has_inline, inline_by, inline_fault, rendering_in}
 use Rattle.smt_spelling.specs.Entries.{SaysInline}

@@ -2,7 +2,7 @@ use Rattle.std.proofs.Common.{◌≡◌, ℕ, List, false, ◌∷◌, Some, None
 use Rattle.std.specs.Rc.{rc_str_bytes}
 use Rattle.smt_characters.specs.SharedTexts.{texts}
 use Rattle.smt_graph.specs.Nodes.{Meaning, PlainLabel, RecordLabel, TypeMeaning}
-use Rattle.smt_nodes.specs.Attributes.{attributes_of}
+use Rattle.smt_node_tables.specs.Attributes.{attributes_of}
 use Rattle.smt_graph.specs.Parts.{label_in, parts_in}
 use Rattle.smt_leaves.specs.Entities.{bytes_of_type}
 use Rattle.smt_leaves.specs.Enums.{enums_of}
@@ -10,7 +10,7 @@ use Rattle.smt_leaves.specs.ExtensionView.{plain_kind}
 use Rattle.smt_lines.specs.Lines.{Enums}
 use Rattle.smt_meaning.specs.Faults.{Fault}
 use Rattle.smt_meaning.specs.Plain.{EntityType, ExtensionType, RecordType}
-use Rattle.smt_nodes.specs.View.{plain_label}
+use Rattle.smt_node_tables.specs.View.{plain_label}
 use Rattle.smt_spelling.specs.Entries.{SaysEntry}
 use Rattle.smt_spelling.specs.Spelled.{AreSpelled, IsSpelled}
 use Rattle.smt_spelling.specs.TextFaults.{Finds}

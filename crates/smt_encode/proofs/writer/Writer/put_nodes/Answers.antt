@@ -4,7 +4,7 @@ use Rattle.smt_graph.specs.Meanings.{all_found, meanings}
 use Rattle.smt_graph.specs.Nodes.{TermMeaning}
 use Rattle.smt_nodes.specs.Interned.{nodes_of}
 use Rattle.smt_nodes.specs.declared.interner.Interner.{Interner}
-use Rattle.smt_nodes.specs.View.{places_of}
+use Rattle.smt_node_tables.specs.View.{places_of}
 use Rattle.smt_meaning.specs.Plain.{terms}
 use Rattle.smt_lines.specs.Lines.{Enums, Written, encode_terms, option_line}
 use Rattle.smt_lexicon.specs.Reading.{Expression}

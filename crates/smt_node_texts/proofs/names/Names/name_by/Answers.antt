@@ -1,6 +1,6 @@
 use Rattle.std.proofs.Common.{◌≡◌, Bool, true, false, sym, ◌∙◌}
 use Rattle.std.specs.Prelude.{not}
-use Rattle.smt_nodes.specs.Subject.{meaning_of}
+use Rattle.smt_node_tables.specs.Subject.{meaning_of}
 use Rattle.smt_node_texts.specs.NodeLines.{has_entry}
 use Rattle.smt_node_texts.proofs.Named.{name_found}
 use Rattle.smt_node_texts.proofs.names.Names.name_by.Goals as goal

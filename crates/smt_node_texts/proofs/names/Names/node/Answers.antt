@@ -2,7 +2,7 @@ use Rattle.std.proofs.Common.{sym}
 use Rattle.std.proofs.lemmas.Result.{IfOk-weaker}
 use Rattle.smt_graph.proofs.Distinct.{nothing_past}
 use Rattle.smt_nodes.specs.Interned.{nodes_of}
-use Rattle.smt_nodes.specs.View.{place_of}
+use Rattle.smt_node_tables.specs.View.{place_of}
 use Rattle.smt_node_texts.proofs.NodeOf.{is_node_of}
 use Rattle.smt_node_texts.proofs.names.Names.node.Goals as goal
 

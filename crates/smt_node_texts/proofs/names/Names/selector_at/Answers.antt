@@ -6,9 +6,9 @@ use Rattle.smt_characters.specs.SharedTexts.{texts}
 use Rattle.smt_graph.specs.Nodes.{RecordLabel, TypeMeaning}
 use Rattle.smt_graph.specs.Parts.{label_in}
 use Rattle.smt_meaning.specs.Faults.{Fault, RecordMissingAttr}
-use Rattle.smt_nodes.specs.Attributes.{attributes_of}
+use Rattle.smt_node_tables.specs.Attributes.{attributes_of}
 use Rattle.smt_nodes.specs.Interned.{meaning_in}
-use Rattle.smt_nodes.specs.View.{plain_label}
+use Rattle.smt_node_tables.specs.View.{plain_label}
 use Rattle.smt_spelling.specs.TextFaults.{Finds}
 use Rattle.smt_node_texts.specs.SelectorFaults.{selector_fault}
 use Rattle.smt_node_texts.proofs.Selecting.{labelled, record_faultless, record_lacks}

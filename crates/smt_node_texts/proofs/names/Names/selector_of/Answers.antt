@@ -2,7 +2,7 @@ use Rattle.std.proofs.Common.{◌≡◌, None, ap, sym, subst, ◌∙◌}
 use Rattle.std.specs.Prelude.{option_map}
 use Rattle.smt_graph.specs.Nodes.{PlainLabel, TermMeaning}
 use Rattle.smt_graph.specs.Parts.{label_in}
-use Rattle.smt_nodes.specs.View.{plain_label}
+use Rattle.smt_node_tables.specs.View.{plain_label}
 use Rattle.smt_node_texts.specs.Entries.{head_in, selection_fault}
 use Rattle.smt_node_texts.specs.Names.{nodes_under}
 use Rattle.smt_node_texts.specs.Selections.{selected_by, IsHead}

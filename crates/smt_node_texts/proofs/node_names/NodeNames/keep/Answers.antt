@@ -1,6 +1,6 @@
 use Rattle.std.proofs.Common.{◌≡◌, ℕ, ◌<◌, Some, None, ap, sym, subst, arith, length, set as placed, ◌∙◌}
 use Rattle.std.specs.Rc.{rc_str_bytes}
-use Rattle.smt_nodes.specs.View.{place_of}
+use Rattle.smt_node_tables.specs.View.{place_of}
 use Rattle.smt_node_texts.specs.Texts.{kept_at, IsKept}
 use Rattle.smt_node_texts.proofs.Kept.{set}
 use Rattle.smt_node_texts.proofs.node_names.NodeNames.keep.Goals as goal

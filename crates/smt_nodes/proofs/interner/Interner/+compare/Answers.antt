@@ -6,10 +6,11 @@ use Rattle.smt_nodes.proofs.Comparing.{at_length, at_nowhere, at_pair, compared,
 use Rattle.smt_nodes.proofs.Labels.{parts_before}
 use Rattle.std.specs.declared.cmp.Ordering.TheVariants.{Equal}
 use Rattle.smt_nodes.specs.Interned.{nodes_of}
-use Rattle.smt_nodes.specs.Order.{first_cmp, meaning_cmp, parts_apart}
-use Rattle.smt_nodes.specs.View.{ids_of, place_of, plain_label, plain_node}
-use Rattle.smt_nodes.specs.declared.id.NodeId.{NodeId}
-use Rattle.smt_nodes.specs.declared.order.Difference.{Difference}
+use Rattle.smt_node_tables.specs.Order.{first_cmp, parts_apart}
+use Rattle.smt_nodes.specs.Order.{meaning_cmp}
+use Rattle.smt_node_tables.specs.View.{ids_of, place_of, plain_label, plain_node}
+use Rattle.smt_node_tables.specs.declared.id.NodeId.{NodeId}
+use Rattle.smt_node_tables.specs.declared.order.Difference.{Difference}
 use Rattle.smt_nodes.proofs.interner.Interner.+compare.Goals as goal
 
 none_some : (m : Meaning) → None ≡ Some m → ⊥

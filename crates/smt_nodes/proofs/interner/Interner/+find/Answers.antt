@@ -13,7 +13,7 @@ use Rattle.smt_term.specs.View.{plain_elements, plain_fields, plain_function, pl
 use Rattle.smt_nodes.proofs.Finding.{all_right, app_parts, at_parts, call_parts, decided_by_parts, first_behind, first_right, first_wrong, literal_typed, next_right, next_wrong, none_left, other_count, others_wrong, parts_applied, some_count, some_right, some_wrong}
 use Rattle.smt_nodes.proofs.RecordParts.{fields_listed, fields_meant, listed-length, terms_listed}
 use Rattle.smt_nodes.specs.Interned.{meaning_in, nodes_of}
-use Rattle.smt_nodes.specs.View.{place_of, places_of, plain_label}
+use Rattle.smt_node_tables.specs.View.{place_of, places_of, plain_label}
 use Rattle.smt_nodes.proofs.interner.Interner.+find.Goals as goal
 
 pub are_parts_of_term-returns-then-stands_for_type : goal.are_parts_of_term-returns-then-stands_for_type

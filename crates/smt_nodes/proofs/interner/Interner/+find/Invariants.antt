@@ -7,7 +7,7 @@ use Rattle.smt_graph.specs.Parts.{field_terms}
 use Rattle.smt_nodes.proofs.RecordParts.{fields_meant}
 use Rattle.smt_term.specs.View.{plain_fields, plain_term, record_fields}
 use Rattle.smt_nodes.specs.Interned.{nodes_of}
-use Rattle.smt_nodes.specs.View.{places_of}
+use Rattle.smt_node_tables.specs.View.{places_of}
 use Rattle.smt_nodes.proofs.interner.Interner.+find.Given as goal
 
 -- as many numbers as terms are left, and whether they stand for these decides it of all

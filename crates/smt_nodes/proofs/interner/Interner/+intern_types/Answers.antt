@@ -4,9 +4,10 @@ use Rattle.smt_characters.specs.SharedTexts.{texts}
 use Rattle.smt_graph.specs.Meanings.{all_found, meanings, stands_for}
 use Rattle.smt_graph.specs.Parts.{names_in, types_in}
 use Rattle.smt_leaves.specs.Pairs.{attributes_in}
-use Rattle.smt_nodes.proofs.RecordParts.{type_names, types_ascend, types_listing, types_meant}
-use Rattle.smt_nodes.specs.Attributes.{attributes_of}
-use Rattle.smt_nodes.specs.View.{places_of}
+use Rattle.smt_node_tables.proofs.MapNames.{type_names}
+use Rattle.smt_nodes.proofs.RecordParts.{types_ascend, types_listing, types_meant}
+use Rattle.smt_node_tables.specs.Attributes.{attributes_of}
+use Rattle.smt_node_tables.specs.View.{places_of}
 use Rattle.std.proofs.lemmas.Result.{IfOk-weaker}
 use Rattle.smt_meaning.specs.Plain.{EntityType, OptionType, RecordType, SetType}
 use Rattle.smt_graph.specs.Nodes.{RecordLabel, TypeMeaning}
@@ -27,7 +28,7 @@ intern_type-returns-in-Bitvec-clause-meaning t c =
 
 pub intern_type-returns-in-Bool-clause-meaning : goal.intern_type-returns-in-Bool-clause-meaning
 intern_type-returns-in-Bool-clause-meaning t c =
-    IfOk-weaker c.enter-in-Bool.result _ _ (λ id h. h ∙ ap (λ t. Some (TypeMeaning t)) (sym (ap plain_type c.in-Bool.is ∙ plain_type-Bool))) (c.enter-in-Bool.ensures.meaning [] refl)
+    IfOk-weaker c.intern_bool_type.result _ _ (λ id h. h ∙ ap (λ t. Some (TypeMeaning t)) (sym (ap plain_type c.in-Bool.is ∙ plain_type-Bool))) c.intern_bool_type.ensures.meaning
 
 pub intern_type-returns-in_ok-share-in-Entity-clause-meaning : goal.intern_type-returns-in_ok-share-in-Entity-clause-meaning
 intern_type-returns-in_ok-share-in-Entity-clause-meaning t c =

@@ -14,10 +14,11 @@ use Rattle.smt_bits.specs.Width.{bits_in}
 use Rattle.smt_term.specs.View.{attribute_types, plain_attribute, plain_type-Bitvec, plain_type-Bool, plain_type-Entity, plain_type-Ext, plain_type-Record, plain_type-String}
 use Rattle.smt_nodes.proofs.Rebuilding.{a_type, as_many_types, by_names, found_parts, holds_at, labelled, of_bits, of_entity, of_extension, of_record, of_text, of_truth, pushed_names, pushed_types, type_of_part}
 use Rattle.smt_nodes.proofs.RecordFitting.{record_ascends}
-use Rattle.smt_nodes.proofs.RecordParts.{type_names, types_meant}
-use Rattle.smt_nodes.specs.Attributes.{attributes_of}
+use Rattle.smt_node_tables.proofs.MapNames.{type_names}
+use Rattle.smt_nodes.proofs.RecordParts.{types_meant}
+use Rattle.smt_node_tables.specs.Attributes.{attributes_of}
 use Rattle.smt_nodes.specs.Interned.{meaning_in, nodes_of}
-use Rattle.smt_nodes.specs.View.{place_of, places_of, plain_label}
+use Rattle.smt_node_tables.specs.View.{place_of, places_of, plain_label}
 use Rattle.smt_nodes.proofs.interner.Interner.+rebuild.Goals as goal
 
 -- ---- a record type

@@ -9,7 +9,7 @@ use Rattle.smt_term.specs.View.{attribute_types, plain_type, plain_type-Record, 
 use Rattle.smt_nodes.proofs.Finding.{all_right, at_parts, decided_by_parts, next_right, next_wrong, none_left, other_count}
 use Rattle.smt_nodes.proofs.RecordParts.{listed-length, types_listing, types_meant}
 use Rattle.smt_nodes.specs.Interned.{nodes_of}
-use Rattle.smt_nodes.specs.View.{place_of, places_of, plain_label}
+use Rattle.smt_node_tables.specs.View.{place_of, places_of, plain_label}
 use Rattle.smt_nodes.proofs.interner.Interner.+types.Goals as goal
 
 pub are_parts_of_type-returns-in-Option : goal.are_parts_of_type-returns-in-Option

@@ -6,7 +6,7 @@ use Rattle.smt_graph.specs.Parts.{types_in}
 use Rattle.smt_term.specs.View.{attribute_types, plain_attributes}
 use Rattle.smt_nodes.proofs.RecordParts.{types_meant}
 use Rattle.smt_nodes.specs.Interned.{nodes_of}
-use Rattle.smt_nodes.specs.View.{places_of}
+use Rattle.smt_node_tables.specs.View.{places_of}
 use Rattle.smt_nodes.proofs.interner.Interner.+types.Given as goal
 
 -- as many numbers as attributes are left, and whether they stand for the types of these decides it of all

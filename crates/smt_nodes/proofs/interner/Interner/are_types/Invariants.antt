@@ -3,7 +3,7 @@ use Rattle.std.specs.List.{list_all}
 use Rattle.smt_graph.specs.Meanings.{meaning_at}
 use Rattle.smt_nodes.specs.Interned.{nodes_of}
 use Rattle.smt_nodes.specs.Kinds.{is_type_at}
-use Rattle.smt_nodes.specs.View.{places_of}
+use Rattle.smt_node_tables.specs.View.{places_of}
 use Rattle.smt_nodes.proofs.interner.Interner.are_types.Given as goal
 
 -- whether what is left are types decides it of all

@@ -5,7 +5,7 @@ use Rattle.smt_graph.specs.Meanings.{all_found, meanings, stands_for}
 use Rattle.smt_graph.proofs.Distinct.{fit_has}
 use Rattle.smt_nodes.proofs.Labels.{means_so}
 use Rattle.smt_nodes.specs.Interned.{nodes_of}
-use Rattle.smt_nodes.specs.View.{ids_of, places_of, plain_label}
+use Rattle.smt_node_tables.specs.View.{ids_of, places_of, plain_label}
 use Rattle.smt_nodes.proofs.interner.Interner.enter.Goals as goal
 
 pub enter_new-requires-clause-missing : goal.enter_new-requires-clause-missing

@@ -4,8 +4,8 @@ use Rattle.smt_graph.specs.Meanings.{meanings}
 use Rattle.smt_graph.proofs.Places.{as_many, found_within}
 use Rattle.smt_nodes.proofs.Finding.{none_before}
 use Rattle.smt_nodes.specs.Interned.{nodes_of}
-use Rattle.smt_nodes.specs.Subject.{meaning_of}
-use Rattle.smt_nodes.specs.View.{place_of}
+use Rattle.smt_node_tables.specs.Subject.{meaning_of}
+use Rattle.smt_node_tables.specs.View.{place_of}
 use Rattle.smt_nodes.proofs.interner.Interner.find_subject.Goals as goal
 
 pub loop-place-init : goal.loop-place-init

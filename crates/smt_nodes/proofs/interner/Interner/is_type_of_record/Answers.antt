@@ -6,11 +6,11 @@ use Rattle.smt_graph.specs.Parts.{field_names}
 use Rattle.smt_leaves.specs.Pairs.{attributes_in}
 use Rattle.smt_term.specs.View.{fields_of, plain_fields, record_fields}
 use Rattle.smt_nodes.proofs.RecordFitting.{other_attributes, record_at, type_of_fields}
-use Rattle.smt_nodes.proofs.RecordParts.{term_names}
-use Rattle.smt_nodes.specs.Attributes.{attributes_of}
+use Rattle.smt_node_tables.proofs.MapNames.{term_names}
+use Rattle.smt_node_tables.specs.Attributes.{attributes_of}
 use Rattle.smt_nodes.specs.Interned.{meaning_in, nodes_of}
 use Rattle.smt_nodes.specs.Kinds.{IsRecordAt}
-use Rattle.smt_nodes.specs.View.{plain_label}
+use Rattle.smt_node_tables.specs.View.{plain_label}
 use Rattle.smt_nodes.proofs.interner.Interner.is_type_of_record.Goals as goal
 
 pub returns-then-are_attributes_of : goal.returns-then-are_attributes_of

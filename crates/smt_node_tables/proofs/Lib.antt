@@ -1,0 +1,4 @@
+pub mod Levels
+pub mod Matching
+pub mod MapNames
+pub mod Tables
