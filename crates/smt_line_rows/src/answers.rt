@@ -1,15 +1,11 @@
 //! Answers as they are printed.
-ghost use Rattle.std.specs.Option.{option_map_or};
-ghost use Rattle.std.specs.Prelude.{◌≡◌, IfOk, codes};
-ghost use Rattle.std.specs.Rc.{rc_str_bytes};
-ghost use Rattle.std.specs.String.{string_bytes};
 
 use crate::lines::Answer;
 use anyhow::Result;
 use smt_encode::EncodeError;
 use smt_term::{TermType, Text};
 use smt_text::quote_id;
-use smt_words::spelling_of;
+use smt_words::{spelling_of, text_or};
 use std::alloc::Global;
 
 /// A name that was given, or the refusal.
@@ -21,14 +17,8 @@ pub(crate) fn given(alloc: Global, answer: &Answer) -> Result<String> {
 }
 
 /// A name that was found, or that there is none.
-pub(crate) fn named(alloc: Global, name: Option<&Text>) -> Result<String>
-    ensures { IfOk result (λ line. string_bytes line ≡ option_map_or (λ found. rc_str_bytes found.now) name.entry (codes "no name")) }
-{
-    let line = match name {
-        Some(found) => found.as_str(),
-        None => "no name",
-    };
-    Ok(String::from_str(alloc, line)?)
+pub(crate) fn named(alloc: Global, name: Option<&Text>) -> Result<String> {
+    text_or(alloc, name, "no name")
 }
 
 /// A refusal by its name, by what it names, and by what it says.

@@ -1,13 +1,11 @@
 //! Words for questions about terms, which stay on the stack.
 
-ghost use Rattle.std.specs.Prelude.{◌≡◌, ◌++◌, IfOk, length};
-
 use crate::asked_types;
 use crate::printed::{put_term, put_type};
 use anyhow::{Context, Result, bail};
 use smt_factory::opposites;
 use smt_term::{Op, Term, TermError, TermList, TermTable, TermType};
-use smt_words::{operator, pairs, text, type_of};
+use smt_words::{last_of, operator, pairs, text, type_of};
 use std::alloc::Global;
 
 /// Types of which a term has at most one.
@@ -80,15 +78,6 @@ fn last_two(terms: &[Term]) -> Result<(&Term, &Term)> {
         [.., a, b] => Ok((a, b)),
         _ => bail!("too few terms"),
     }
-}
-
-/// The terms before so many last ones, and these.
-fn last_of(terms: &[Term], count: usize) -> Result<(&[Term], &[Term])>
-    ensures all { IfOk result (λ x. x.0.now ++ x.1.now ≡ terms.now) }
-    ensures count { IfOk result (λ x. length x.1.now ≡ count) }
-{
-    let left = terms.len().checked_sub(count).context("too few terms")?;
-    Ok(terms.split_at(left))
 }
 
 /// An operator and so many last terms, by the operator and this count.

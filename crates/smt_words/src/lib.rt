@@ -34,6 +34,6 @@ mod types;
 
 pub use operators::{extension_operator, function, operator};
 pub use plain::{entity, term, terms, variable};
-pub use spelling::{enter, pattern, spelling_of, text, texts};
-pub use stack::{fields, one, pairs, taken, two};
+pub use spelling::{enter, pattern, spelling_of, text, text_or, texts};
+pub use stack::{fields, last_of, one, pairs, taken, two};
 pub use types::{extension_type, type_of};

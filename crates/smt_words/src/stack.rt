@@ -1,6 +1,6 @@
 //! The terms that the words of a row take and leave.
 
-ghost use Rattle.std.specs.Prelude.{◌≡◌, [], ◌∷◌, ◌++◌, IfOk, length};
+ghost use Rattle.std.specs.Prelude.{◌≡◌, ◌+◌, [], ◌∷◌, ◌++◌, IfOk, length};
 
 use crate::spelling::texts;
 use anyhow::{Context, Result};
@@ -22,13 +22,29 @@ pub fn two(terms: &mut Vec<Term>) -> Result<(Term, Term)>
     Ok((one(terms)?, second))
 }
 
+// How many stand before so many last ones.
+fn before(len: usize, count: usize) -> Result<usize>
+    ensures { IfOk result (λ left. left + count ≡ len) }
+{
+    len.checked_sub(count).context("too few terms")
+}
+
 /// So many last terms, which the stack then has no longer.
 pub fn taken(terms: &mut Vec<Term>, count: usize) -> Result<Vec<Term>>
     ensures all { IfOk result (λ ts. terms.old.items ≡ terms.new.items ++ ts.items) }
     ensures count { IfOk result (λ ts. length ts.items ≡ count) }
 {
-    let left = terms.len().checked_sub(count).context("too few terms")?;
+    let left = before(terms.len(), count)?;
     Ok(terms.split_off(left)?)
+}
+
+/// The terms before so many last ones, and these.
+pub fn last_of(terms: &[Term], count: usize) -> Result<(&[Term], &[Term])>
+    ensures all { IfOk result (λ x. x.0.now ++ x.1.now ≡ terms.now) }
+    ensures count { IfOk result (λ x. length x.1.now ≡ count) }
+{
+    let left = before(terms.len(), count)?;
+    Ok(terms.split_at(left))
 }
 
 /// A term and the one behind it, and so on.
