@@ -1,0 +1,9 @@
+mod ActionTables
+mod Entered
+mod Given
+mod KnownPairs
+mod SameDefaults
+mod Saying
+mod SortedTypes
+mod StoredTypes
+mod Walked

@@ -1,0 +1,18 @@
+-- The program's symbolic environments say what is stored.
+use Rattle.std.proofs.Common.{◌≡◌, IfOk, Ok, Err, Result}
+use Rattle.smt_cedar_stores.specs.Plain.{PlainRequestEnv}
+use Rattle.smt_cedar_stores.specs.View.{plain_env, plain_schema}
+use Rattle.smt_cedar_stores.specs.declared.request.Env.{Env}
+use Rattle.smt_cedar_stores.specs.declared.schema.Schema.{Schema}
+use Rattle.smt_symbolic_environments.proofs.Program.{program_schemas, program_stores}
+use Rattle.smt_symbolic_environments.proofs.Whole.{tables_say}
+use Rattle.smt_symbolic_environments.specs.Laws.{IsSymbolicOf}
+use Rattle.smt_symbolic_environments.specs.Symbolized.{symbolized}
+use Rattle.smt_symbolizer.specs.View.{plain_environment}
+use Rattle.smt_symbolizer.specs.declared.environment.SymEnv.{SymEnv}
+use Rattle.smt_values.specs.declared.error.SymbolizeError.{SymbolizeError}
+
+pub says_stored : (asked : PlainRequestEnv) (schema : Schema) (env : Env) (r : Result SymEnv SymbolizeError) → IfOk r (λ made. symbolized asked (plain_schema schema) (plain_env env) ≡ Ok (plain_environment made))
+    → IfOk r (λ made. IsSymbolicOf asked (plain_schema schema) (plain_env env) (plain_environment made))
+says_stored asked schema env (Ok made) h = tables_say asked (plain_schema schema) (plain_env env) (plain_environment made) (program_schemas schema) (program_stores env.entities) h
+says_stored asked schema env (Err e) h = tt

@@ -1,0 +1,5 @@
+pub mod ByType
+pub mod Listed
+pub mod Named
+pub mod Stored
+pub mod View

@@ -1,0 +1,74 @@
+// What is said by entity types.
+ghost use Rattle.std.specs.Prelude.{◌≡◌, IfOk, IsTrue, bytes_eq, length, map, option_map};
+ghost use Rattle.std.specs.Map.{lookup};
+ghost use Rattle.smt_leaves.specs.Entities.{bytes_of_type};
+ghost use Rattle.smt_leaves.specs.SortedPairs.{sorted_pairs};
+ghost use Rattle.smt_meaning.specs.ValueOrder.{ascends, text_cmp};
+ghost use Rattle.smt_symbolizer.specs.Named.{named};
+
+use smt_leaves::{EntityType, TermError};
+use std::alloc::Global;
+use std::collections::BTreeMap;
+
+/// Entity types, each with a value: pairs in the order of the types' bytes, each type once.
+#[derive(Debug, PartialEq, Eq, Drop)]
+pub struct ByType<V> {
+    items: Vec<(EntityType, V)>,
+    pub ghost ascending: { IsTrue (ascends text_cmp (map (λ p. bytes_of_type p.0) items.items)) },
+}
+
+impl<V: Drop> ByType<V> {
+    ghost use Rattle.smt_symbolizer.specs.ByType.{pairs_held};
+
+    /// The values of these pairs, which it sorts; of pairs of one type the last stays.
+    ///
+    /// # Errors
+    /// `Memory`, where there is none for the pairs.
+    pub fn new(alloc: Global, items: Vec<(EntityType, V)>) -> Result<ByType<V>, TermError>
+        ensures { IfOk result (λ made. map named (pairs_held made) ≡ sorted_pairs text_cmp (map named items.items)) }
+    {
+        Ok(ByType {
+            items: in_order(alloc, items)?,
+        })
+    }
+
+    /// How many types it has.
+    pub fn len(&self) -> usize
+        ensures { result ≡ length (pairs_held self.now) }
+    {
+        self.items.len()
+    }
+
+    /// The types with their values, in order.
+    pub fn items(&self) -> &[(EntityType, V)]
+        ensures { result.now ≡ pairs_held self.now }
+    {
+        self.items.as_slice()
+    }
+
+    /// The value of a type, or `None` exactly where the type is not there.
+    pub fn get(&self, ety: &EntityType) -> Option<&V>
+        ensures { option_map (λ value. value.now) result ≡ lookup (bytes_eq (bytes_of_type ety.now)) (map named (pairs_held self.now)) }
+    {
+        for (name, value) in self.items.as_slice() {
+            if ety == name {
+                return Some(value);
+            }
+        }
+        None
+    }
+}
+
+/// The pairs in the order of their types; of pairs of one type the last stays.
+fn in_order<V: Drop>(
+    alloc: Global,
+    items: Vec<(EntityType, V)>,
+) -> Result<Vec<(EntityType, V)>, TermError>
+    ensures { IfOk result (λ pairs. map named pairs.items ≡ sorted_pairs text_cmp (map named items.items)) }
+{
+    let mut found = BTreeMap::new(alloc);
+    for (ety, value) in items {
+        found.insert(ety, value)?;
+    }
+    Ok(found.into_iter().collect(alloc)?)
+}

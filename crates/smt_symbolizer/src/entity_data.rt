@@ -1,0 +1,32 @@
+// What there is to say of entities.
+use crate::by_type::ByType;
+use smt_leaves::TextSet;
+use smt_term::UnaryFunction;
+
+/// What there is to say of the tags of the entities of a type.
+#[derive(Debug, PartialEq, Eq, Drop)]
+pub struct SymTags {
+    /// The set of the keys of an entity's tags, by the entity.
+    pub keys: UnaryFunction,
+    /// The value of a tag, by the record of the entity and of the tag's key.
+    pub vals: UnaryFunction,
+}
+
+/// What there is to say of the entities of a type.
+#[derive(Debug, PartialEq, Eq, Drop)]
+pub struct SymEntityData {
+    /// The record of an entity's attributes, by the entity.
+    pub attrs: UnaryFunction,
+    /// For each type of ancestors the set of an entity's ancestors of that type, by the entity.
+    pub ancestors: AncestorMap,
+    /// The ids of all of the type's entities, where these are listed.
+    pub members: Option<TextSet>,
+    /// The tags of the entities, where they may have any.
+    pub tags: Option<SymTags>,
+}
+
+/// The sets of ancestors of the entities of a type, by the type of the ancestors.
+pub type AncestorMap = ByType<UnaryFunction>;
+
+/// What there is to say of entities, by their types.
+pub type SymEntities = ByType<SymEntityData>;

@@ -1,0 +1,26 @@
+//! The step from a schema, a request and a store to a symbolic environment: terms for the request, and for each entity type
+//! functions that say what is stored of its entities.
+//!
+//! Contracts speak of symbolic environments by their plain form, which `specs/View.antt` gives. What a schema, a request
+//! and a store are symbolized to, and the first fault of others, stands in the crate `smt_symbolic_environments`.
+#![tactic(auto, using(smt_cedar_types::specs::View::cedar_views, smt_cedar_values::specs::View::value_views, smt_term::specs::View::views))]
+
+mod by_type;
+mod entities;
+mod entity_data;
+mod entries;
+mod environment;
+mod names;
+mod request;
+mod schema_types;
+mod tables;
+#[cfg(test)]
+mod tests;
+mod values;
+#[cfg(test)]
+mod worlds;
+
+pub use by_type::ByType;
+pub use entity_data::{AncestorMap, SymEntities, SymEntityData, SymTags};
+pub use environment::{SymEnv, SymRequest};
+pub use names::{core_entity_type_into_entity_type, core_uid_into_uid};
