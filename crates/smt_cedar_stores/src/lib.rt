@@ -14,8 +14,6 @@ pub mod laws;
 mod request;
 mod schema;
 mod store;
-#[cfg(test)]
-mod tests;
 mod uids;
 
 pub use actions::{ActionEntry, ActionList};

@@ -9,8 +9,6 @@ mod attributes;
 mod cedar_type;
 mod error;
 mod of_type;
-#[cfg(test)]
-mod tests;
 
 pub use attributes::{AttributeType, Attributes};
 pub use cedar_type::{BoolType, CedarType, EntityKind, EntityTypeList, OpenTag};

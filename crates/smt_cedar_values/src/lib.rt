@@ -12,8 +12,6 @@ mod expression;
 pub mod laws;
 mod literal;
 mod reading;
-#[cfg(test)]
-mod tests;
 mod value;
 
 pub use constructed::value_of_ext;

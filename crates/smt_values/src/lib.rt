@@ -9,8 +9,6 @@ mod defaults;
 mod error;
 mod from_cedar;
 pub mod laws;
-#[cfg(test)]
-mod tests;
 
 pub use defaults::default_literal;
 pub use error::SymbolizeError;

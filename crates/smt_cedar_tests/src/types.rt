@@ -1,7 +1,7 @@
 // The types of terms of Cedar types, and each refusal.
-use crate::{
+use smt_cedar_types::{
     AttributeType, Attributes, BoolType, CedarType, CompileError, EntityKind, EntityTypeList,
-    OfType, OpenTag,
+    OfType, OpenTag, of_record_type,
 };
 use smt_leaves::{EntityType, Text};
 use smt_term::TermType;
@@ -124,5 +124,13 @@ fn types_and_refusals(rt: HostRuntime) -> Result<(), Fail> {
         let text = format!(in alloc; "{given:?}")?;
         assert_eq!(rt; text.as_str(), *answer, "at {at}");
     }
+    Ok(())
+}
+
+#[test]
+fn no_attributes_have_no_types(rt: HostRuntime) -> Result<(), Fail> {
+    let alloc = rt.alloc();
+    let types = of_record_type(alloc, &Attributes::new(alloc, Vec::new(alloc))?)?;
+    assert!(rt; types.is_empty());
     Ok(())
 }

@@ -1,5 +1,4 @@
 // Schemas, requests and stores of tests, as data, and what the program has of them.
-use crate::SymEnv;
 use smt_cedar_stores::{
     ActionEntry, ActionList, Entities, Entity, EntityEntry, EntryMap, Env, Request, RequestEnv,
     Schema, UidList,
@@ -7,6 +6,7 @@ use smt_cedar_stores::{
 use smt_cedar_types::{AttributeType, Attributes, CedarType, EntityTypeList};
 use smt_cedar_values::{Literal, PartialMap, PartialValue, Value, ValueList, ValueMap};
 use smt_leaves::{EntityID, EntityType, EntityUID, Text, TextSet};
+use smt_symbolizer::SymEnv;
 use smt_values::SymbolizeError;
 use std::alloc::{AllocError, Global};
 

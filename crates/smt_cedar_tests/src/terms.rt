@@ -1,10 +1,10 @@
 // The terms of values at types, each refusal, and the defaults of types.
-use crate::{FromCedar, SymbolizeError, default_literal};
 use smt_bits::SIXTY_FOUR;
 use smt_cedar_types::{AttributeType, Attributes, BoolType, CedarType, OpenTag};
 use smt_cedar_values::{ExprList, Literal, RestrictedExpr, Value, ValueList, ValueMap};
 use smt_leaves::{EntityID, EntityType, EntityUID, EnumTable, ExtType, TermError, Text};
 use smt_term::{Term, TermType, TypeMap};
+use smt_values::{FromCedar, SymbolizeError, default_literal};
 use std::alloc::{AllocError, Global};
 use std::rc::Rc;
 use std::test::Fail;
@@ -423,5 +423,23 @@ fn defaults_of_types(rt: HostRuntime) -> Result<(), Fail> {
         let text = format!(in alloc; "{term}")?;
         assert_eq!(rt; text.as_str(), *answer, "at {at}");
     }
+    Ok(())
+}
+
+#[test]
+fn an_attribute_alone(rt: HostRuntime) -> Result<(), Fail> {
+    let alloc = rt.alloc();
+    let mut pairs = Vec::new(alloc);
+    let optional = AttributeType {
+        attr_type: CedarType::Long,
+        is_required: false,
+    };
+    pairs.push((text(alloc, "a")?, optional))?;
+    let ty = CedarType::Record {
+        attrs: Attributes::new(alloc, pairs)?,
+        open_attributes: OpenTag::ClosedAttributes,
+    };
+    let v = record(alloc, &[("a", TEN)])?;
+    assert_eq!(rt; said(alloc, &v, &ty)?.as_str(), "{ a: Some((bv64 10)) }");
     Ok(())
 }

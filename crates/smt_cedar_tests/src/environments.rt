@@ -3,12 +3,12 @@ use crate::worlds::{
     Action, Kind, Name, Part, Plain, World, attributes, context, env, known, schema, symbolized,
     text, type_named, uid,
 };
-use crate::{SymEntityData, SymEnv, core_entity_type_into_entity_type, core_uid_into_uid};
 use smt_cedar_stores::Request;
 use smt_cedar_values::{PartialValue, ValueList, ValueMap};
 use smt_function_terms::app;
 use smt_leaves::{EnumTable, Text};
 use smt_record_terms::tag_of;
+use smt_symbolizer::{SymEntityData, SymEnv, core_entity_type_into_entity_type, core_uid_into_uid};
 use smt_term::{Term, UnaryFunction};
 use smt_values::SymbolizeError;
 use std::alloc::{AllocError, Global};

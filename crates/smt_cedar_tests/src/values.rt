@@ -1,5 +1,5 @@
 // The values of constructor calls, each refusal, and the calls that are made of values.
-use crate::{
+use smt_cedar_values::{
     ExprList, ExtError, ExtFromCedar, Literal, PartialMap, PartialValue, RestrictedExpr, Value,
     ValueList, ValueMap, value_of_ext,
 };

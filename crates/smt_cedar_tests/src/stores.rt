@@ -1,5 +1,5 @@
 // Stores with entities that replace others, schemas and the request environments that are theirs, and entity types in order.
-use crate::{
+use smt_cedar_stores::{
     ActionEntry, ActionList, Entities, Entity, EntityEntry, EntryMap, Env, Request, RequestEnv,
     Schema, UidList,
 };
