@@ -6,10 +6,11 @@ use crate::worlds::{
 use smt_cedar_stores::Request;
 use smt_cedar_values::{PartialValue, ValueList, ValueMap};
 use smt_function_terms::app;
+use smt_functions::UnaryFunction;
 use smt_leaves::{EnumTable, Text};
 use smt_record_terms::tag_of;
 use smt_symbolizer::{SymEntityData, SymEnv, core_entity_type_into_entity_type, core_uid_into_uid};
-use smt_term::{Term, UnaryFunction};
+use smt_term::Term;
 use smt_values::SymbolizeError;
 use std::alloc::{AllocError, Global};
 use std::test::Fail;

@@ -10,7 +10,7 @@ use Rattle.smt_leaves.specs.Entities.{bytes_of_type}
 use Rattle.smt_leaves.specs.declared.entity.EntityType.{EntityType as EntityName}
 use Rattle.smt_leaves.specs.Pairs.{attributes_in}
 use Rattle.smt_term.specs.View.{plain_type}
-use Rattle.smt_term.specs.declared.types.TermType.{TermType}
+use Rattle.smt_types.specs.declared.types.TermType.{TermType}
 use Rattle.smt_cedar_types.specs.Refused.{IsGiven, IsRefusal}
 use Rattle.smt_cedar_types.specs.TypeOfCedar.{Stated, ◌>>=◌, type_held, type_of_cedar, type_of_entities, types_of_attributes}
 use Rattle.smt_cedar_types.specs.View.{attributes_in_order, pairs_held, plain_attributes-named, plain_cedar, plain_cedar_attributes, types_in_order}

@@ -14,8 +14,8 @@ use Rattle.smt_leaves.specs.Pairs.{attributes_in, pairs_of}
 use Rattle.smt_leaves.specs.formers.pairs.AttributePairs.{attributes-over}
 use Rattle.smt_leaves.specs.declared.pairs.AttributePairs.{AttributePairs}
 use Rattle.smt_term.specs.View.{attribute_types, plain_attribute, plain_attributes}
-use Rattle.smt_term.specs.declared.maps.TypeMap.{TypeMap}
-use Rattle.smt_term.specs.declared.types.TermType.{TermType}
+use Rattle.smt_types.specs.declared.maps.TypeMap.{TypeMap}
+use Rattle.smt_types.specs.declared.types.TermType.{TermType}
 use Rattle.smt_cedar_types.specs.declared.attributes.Attributes.{Attributes, Attributes', Row_of-AttributeType, end_of-AttributeType, more_of-AttributeType, items-the_row-AttributeType, items_hidden-the_row-AttributeType-0, out-Attributes, roll-Attributes, roll-out-Attributes}
 use Rattle.smt_cedar_types.specs.declared.attributes.AttributeType.{AttributeType}
 use Rattle.smt_cedar_types.specs.declared.cedar_type.BoolType.{BoolType}

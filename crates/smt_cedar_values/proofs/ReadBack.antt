@@ -14,15 +14,15 @@ use Rattle.smt_characters.proofs.Numbers.{from_digits}
 use Rattle.smt_ext.specs.DatetimeReading.{clock_at, day_at, field_at, fraction_at, stamp_at, zone_at}
 use Rattle.smt_ext.specs.DurationText.{IsDurationText}
 use Rattle.smt_ext.specs.ExtOrder.{plain_value}
-use Rattle.smt_ext.specs.IpOrder.{plain_range}
-use Rattle.smt_ext.specs.IpPrinted.{range_text}
-use Rattle.smt_ext.specs.IpView.{range_of}
+use Rattle.smt_ip.specs.IpOrder.{plain_range}
+use Rattle.smt_ip.specs.IpPrinted.{range_text}
+use Rattle.smt_ip.specs.IpView.{range_of}
 use Rattle.smt_ext.specs.Printed.{decimal_text, is_below_zero}
 use Rattle.smt_ext.specs.declared.ext.Ext.{Ext}
 use Rattle.smt_ext.specs.declared.ext.Ext.TheVariants.{Decimal, Ipaddr, Datetime, Duration}
-use Rattle.smt_ext.specs.declared.ipaddr.net.IPNet.{IPNet}
-use Rattle.smt_ext.specs.declared.ipaddr.net.IPNet.TheVariants.{V4, V6}
-use Rattle.smt_ext.proofs.IpPrinted.{net_is_read}
+use Rattle.smt_ip.specs.declared.net.IPNet.{IPNet}
+use Rattle.smt_ip.specs.declared.net.IPNet.TheVariants.{V4, V6}
+use Rattle.smt_ip.proofs.IpPrinted.{net_is_read}
 use Rattle.smt_ext.proofs.PrintedDecimals.{printed_is_read, signed_again}
 use Rattle.smt_extension_texts.specs.Datetimes.{datetime_in}
 use Rattle.smt_extension_texts.specs.Durations.{duration_in}

@@ -2,8 +2,8 @@
 use Rattle.std.specs.Prelude.{ℕ, ℤ, codes, List, ◌++◌}
 use Rattle.std.specs.Fmt.{signed_decimal}
 use Rattle.smt_arithmetic.specs.Extensions.{PlainExtension, DecimalOf, Ipv4Of, Ipv6Of, DatetimeOf, DurationOf}
-use Rattle.smt_ext.specs.IpPrinted.{range_text}
-use Rattle.smt_ext.specs.IpRanges.{Version4, Version6}
+use Rattle.smt_ip.specs.IpPrinted.{range_text}
+use Rattle.smt_ip.specs.IpRanges.{Version4, Version6}
 use Rattle.smt_ext.specs.Printed.{decimal_text}
 use Rattle.smt_cedar_values.specs.Plain.{TextOf, PlainExpression, LiteralExpression, CallOf, no_arguments, argument}
 

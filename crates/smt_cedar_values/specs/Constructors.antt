@@ -3,7 +3,7 @@ use Rattle.std.specs.Prelude.{ℕ, ℤ, ◌+ℤ◌, bytes_eq, codes, if◌then�
 use Rattle.std.specs.Map.{lookup}
 use Rattle.smt_arithmetic.specs.Extensions.{PlainExtension, DecimalOf, DatetimeOf, DurationOf}
 use Rattle.smt_ext.specs.DatetimeReading.{◌>>=◌}
-use Rattle.smt_ext.specs.IpOrder.{plain_range}
+use Rattle.smt_ip.specs.IpOrder.{plain_range}
 use Rattle.smt_extension_texts.specs.Datetimes.{datetime_in}
 use Rattle.smt_extension_texts.specs.Decimals.{decimal_in}
 use Rattle.smt_extension_texts.specs.Durations.{duration_in}

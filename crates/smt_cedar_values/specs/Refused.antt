@@ -8,8 +8,8 @@ use Rattle.smt_ext.specs.declared.decimal.DecimalError.TheVariants as decimals
 use Rattle.smt_ext.specs.declared.ext.Ext.{Ext}
 use Rattle.smt_ext.specs.declared.ext.ExtParseError.{ExtParseError}
 use Rattle.smt_ext.specs.declared.ext.ExtParseError.TheVariants as readers
-use Rattle.smt_ext.specs.declared.ipaddr.error.IPError.{IPError as RangeError}
-use Rattle.smt_ext.specs.declared.ipaddr.error.IPError.TheVariants as ranges
+use Rattle.smt_ip.specs.declared.error.IPError.{IPError as RangeError}
+use Rattle.smt_ip.specs.declared.error.IPError.TheVariants as ranges
 use Rattle.smt_cedar_values.specs.Constructors.{value_of_expression, value_of_value}
 use Rattle.smt_cedar_values.specs.Plain.{PlainExpression, PlainValue}
 use Rattle.smt_cedar_values.specs.View.{plain_expression, plain_value_of}

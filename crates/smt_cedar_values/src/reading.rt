@@ -4,7 +4,7 @@ ghost use Rattle.std.specs.Rc.{rc_str_bytes};
 ghost use Rattle.smt_ext.specs.ExtOrder.{plain_value};
 ghost use Rattle.smt_ext.specs.Milliseconds.{datetime_value, duration_value};
 ghost use Rattle.smt_arithmetic.specs.Extensions.{DatetimeOf, DecimalOf};
-ghost use Rattle.smt_ext.specs.IpOrder.{plain_range};
+ghost use Rattle.smt_ip.specs.IpOrder.{plain_range};
 ghost use Rattle.smt_extension_texts.specs.Datetimes as datetimes;
 ghost use Rattle.smt_extension_texts.specs.Decimals as decimals;
 ghost use Rattle.smt_extension_texts.specs.Durations as durations;

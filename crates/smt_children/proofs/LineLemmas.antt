@@ -1,8 +1,9 @@
 -- Lines that are appended in parts.
-use Rattle.std.proofs.Common.{◌≡◌, ◌≢◌, ℕ, ◌+◌, ◌-◌, List, [], ◌∷◌, ◌++◌, length, OnSome, Option, None, Some, Ok, sym, append_assoc, length-append, arith}
+use Rattle.std.proofs.Common.{◌≡◌, ◌≢◌, ℕ, ◌+◌, ◌-◌, ◌<◌, List, [], ◌∷◌, ◌++◌, length, OnSome, Option, None, Some, Ok, refl, sym, append_assoc, length-append, arith}
 use Rattle.std.proofs.lemmas.List.Elements.{All-append}
-use Rattle.std.proofs.KnownBytes.{Consumes-trans}
-use Rattle.std.specs.Io.KnownBytes.{Consumes, IsAtEnd}
+use Rattle.std.proofs.KnownBytes.{Consumes-kept, Consumes-nil, Consumes-trans}
+use Rattle.std.proofs.lemmas.List.{append-nil}
+use Rattle.std.specs.Io.KnownBytes.{Consumes, IsAtEnd, Keeps}
 use Rattle.smt_solve.specs.Link.{EndsAs, HasNoLineFeed}
 use Rattle.smt_solve.specs.declared.link.LineEnd.{LineEnd}
 use Rattle.smt_solve.specs.declared.link.LineEnd.TheVariants.{Line, End, TooLong}
@@ -63,3 +64,13 @@ ends_part a b c before now after limit room step end is h k =
       ending = ends_whole end h.piece k.piece limit room h.none h.long came;
       at_end = λ e. still_at_end a b c h.piece h.taken (k.at_end (cc));
     }
+
+-- A step that a signal ended appended nothing, and there is as much room as before.
+pub appends_none : {E : Type 0} (left left' : Option (List ℕ)) (before : List ℕ) (room : ℕ) → 0 < room → Keeps left left' → AppendsStep {E = E} left left' before before room (Ok (More 0))
+appends_none left left' before room more kept = record {
+  piece = [];
+  appended = sym (append-nil before);
+  taken = Consumes-kept left left left' [] (Consumes-nil left) kept;
+  came = (λ k d lt. absurd (omega (arith, lt)), refl, more);
+  at_end = λ e. absurd (cc);
+}

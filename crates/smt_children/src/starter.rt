@@ -23,6 +23,13 @@ fn system_command(alloc: Global, cmd: &SolverCommand) -> Result<Command, AllocEr
     Ok(command)
 }
 
+/// Asks for a pipe at each of the three streams.
+fn pipe_streams(command: &mut Command) {
+    command.stdin(Stdio::piped());
+    command.stdout(Stdio::piped());
+    command.stderr(Stdio::piped());
+}
+
 /// Starts children by a runtime, one for each link.
 ///
 /// It tells neither the commands that it was asked for nor the links that came back, and counts the starts that failed and
@@ -52,9 +59,7 @@ impl<R: Processes> ChildStarter<R> {
         ensures { IfOk result (λ link. child_faults link ≡ 0) }
     {
         let mut command = system_command(alloc, cmd)?;
-        command.stdin(Stdio::piped());
-        command.stdout(Stdio::piped());
-        command.stderr(Stdio::piped());
+        pipe_streams(&mut command);
         ChildLink::new(alloc, command.spawn(&self.rt)?)
     }
 }

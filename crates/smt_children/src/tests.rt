@@ -1,211 +1,319 @@
 // Sessions with children that are shells, each with a few lines to run.
-use crate::ChildStarter;
+use crate::{ChildLink, ChildStarter};
 use smt_script::{Bytes, SmtLibScript};
 use smt_solve::{
     Decision, DecisionWithModel, Ended, LineEnd, Link, LinkError, LocalSolver, Solver,
     SolverCommand, SolverError, StartError, Starter,
 };
 use smt_text::Text;
-use std::alloc::Global;
+use std::alloc::{AllocError, Global};
+use std::process::Abort;
 use std::test::Fail;
 use std::thread;
 use std::time::Duration;
 
 /// The command of a shell that runs these lines.
-fn shell(alloc: Global, lines: &str) -> Result<SolverCommand, SolverError> {
+fn command(alloc: Global, lines: &str) -> Result<SolverCommand, SolverError> {
     let (Ok(option), Ok(lines)) = (Text::from_str(alloc, "-c"), Text::from_str(alloc, lines)) else {
         return Err(SolverError::Memory);
     };
     SolverCommand::new(alloc, "sh", &[option, lines])
 }
 
-/// Appends lines until the answers end.
-fn read_to_end(link: &mut impl Link, line: &mut Bytes) -> Result<(), LinkError> {
-    for _ in 0..1_000_000 {
-        if link.read_line(line, 65536)? == LineEnd::End {
-            return Ok(());
-        }
-    }
-    Ok(())
+/// The link to a shell, and its starter.
+#[derive(Drop)]
+struct Shell {
+    starter: ChildStarter<HostRuntime>,
+    link: ChildLink<HostRuntime>,
+}
+
+/// Starts a shell that runs these lines.
+fn start(rt: &HostRuntime, lines: &str) -> Result<Shell, Fail> {
+    let cmd = command(rt.alloc(), lines)?;
+    let mut starter = ChildStarter::new(rt.clone()?);
+    let link = starter.start(rt.alloc(), &cmd)?;
+    Ok(Shell { starter, link })
+}
+
+/// Gives the link back to the starter.
+fn finish(shell: Shell) -> Result<(), Fail> {
+    let Shell { mut starter, link } = shell;
+    Ok(starter.finish(link)?)
+}
+
+/// Opens a session with a shell that runs these lines.
+fn solver(
+    alloc: Global,
+    starter: &mut ChildStarter<HostRuntime>,
+    lines: &str,
+) -> Result<LocalSolver<ChildLink<HostRuntime>>, SolverError> {
+    let cmd = command(alloc, lines)?;
+    LocalSolver::from_command(alloc, starter, &cmd)
+}
+
+/// A session with a shell, and its starter.
+#[derive(Drop)]
+struct Session {
+    starter: ChildStarter<HostRuntime>,
+    solver: LocalSolver<ChildLink<HostRuntime>>,
+}
+
+/// Opens a session with a shell that runs these lines, by a starter of its own.
+fn open(rt: &HostRuntime, lines: &str) -> Result<Session, Fail> {
+    let mut starter = ChildStarter::new(rt.clone()?);
+    let solver = solver(rt.alloc(), &mut starter, lines)?;
+    Ok(Session { starter, solver })
+}
+
+/// Ends the session.
+fn close(session: Session) -> Shell {
+    let Session { starter, solver } = session;
+    let link = solver.into_link();
+    Shell { starter, link }
+}
+
+/// Whether a session with a shell that runs these lines decides so.
+fn decides(
+    alloc: Global,
+    starter: &mut ChildStarter<HostRuntime>,
+    lines: &str,
+    expected: Decision,
+) -> bool {
+    let Ok(mut solver) = solver(alloc, starter, lines) else {
+        return false;
+    };
+    let is_decided = solver.check_sat() == Ok(expected);
+    starter.finish(solver.into_link()) == Ok(()) && is_decided
 }
 
 #[test]
 fn decisions(rt: HostRuntime) -> Result<(), Fail> {
     let alloc = rt.alloc();
     let mut starter = ChildStarter::new(rt.clone()?);
-    let rows = [
-        ("read line && printf 'sat\\r\\n'", Decision::Sat),
-        ("read line && printf unsat", Decision::Unsat),
-        (
-            "read line && printf 'unk' && sleep 0.1 && echo nown",
-            Decision::Unknown,
-        ),
-        (
-            "read a && read b && test \"$a\" = '(assert true)' && echo sat",
-            Decision::Sat,
-        ),
-    ];
-    for (at, (lines, decision)) in rows.into_iter().enumerate() {
-        let cmd = shell(alloc, lines)?;
-        let mut solver = LocalSolver::from_command(alloc, &mut starter, &cmd)?;
-        if at == 3 {
-            solver.smtlib_input().assert("true")?;
-        }
-        assert!(rt; solver.check_sat() == Ok(decision), "at {at}");
-        starter.finish(solver.into_link())?;
-    }
+    let lines = "read line && printf 'sat\\r\\n'";
+    assert!(rt; decides(alloc, &mut starter, lines, Decision::Sat));
+    let lines = "read line && printf unsat";
+    assert!(rt; decides(alloc, &mut starter, lines, Decision::Unsat));
+    let lines = "read line && printf 'unk' && sleep 0.1 && echo nown";
+    assert!(rt; decides(alloc, &mut starter, lines, Decision::Unknown));
     Ok(())
+}
+
+/// Whether the input of a session takes an assertion.
+fn takes_assertion(solver: &mut LocalSolver<ChildLink<HostRuntime>>) -> bool {
+    solver.smtlib_input().assert("true").is_ok()
+}
+
+#[test]
+fn assertions(rt: HostRuntime) -> Result<(), Fail> {
+    let lines = "read a && read b && test \"$a\" = '(assert true)' && echo sat";
+    let mut session = open(&rt, lines)?;
+    assert!(rt; takes_assertion(&mut session.solver));
+    assert!(rt; session.solver.check_sat() == Ok(Decision::Sat));
+    finish(close(session))
+}
+
+/// The model that the solver gives. Any other answer is a failure.
+fn ask_model(solver: &mut LocalSolver<ChildLink<HostRuntime>>) -> Result<Text, Fail> {
+    match solver.check_sat_with_model()? {
+        DecisionWithModel::Sat { model } => Ok(model),
+        _ => Err(Fail::new("no model")),
+    }
+}
+
+/// The model that a session gives with a shell that runs these lines.
+fn model(rt: &HostRuntime, lines: &str) -> Result<Text, Fail> {
+    let mut session = open(rt, lines)?;
+    let model = ask_model(&mut session.solver)?;
+    finish(close(session))?;
+    Ok(model)
 }
 
 #[test]
 fn models(rt: HostRuntime) -> Result<(), Fail> {
-    let alloc = rt.alloc();
-    let mut starter = ChildStarter::new(rt.clone()?);
     let lines =
         "read a && printf 'sat\\r\\n' && read b && printf '(\\r\\n  (define-fun t0 () Bool true)\\r\\n)\\r\\n'";
-    let cmd = shell(alloc, lines)?;
-    let mut solver = LocalSolver::from_command(alloc, &mut starter, &cmd)?;
-    let model = Text::from_str(alloc, "(\r\n  (define-fun t0 () Bool true)\r\n)\r\n")?;
-    assert!(rt; solver.check_sat_with_model() == Ok(DecisionWithModel::Sat { model }));
-    starter.finish(solver.into_link())?;
+    let expected = "(\r\n  (define-fun t0 () Bool true)\r\n)\r\n";
+    assert!(rt; model(&rt, lines)?.as_str() == expected);
+    let lines =
+        "read a && echo sat && read b && echo '(' && yes '(define-fun t0 () Bool false )' | head -n 5000 && echo ')'";
     // Of 5000 lines of 31 bytes each, and the two that hold them.
-    let cmd = shell(
-        alloc,
-        "read a && echo sat && read b && echo '(' && yes '(define-fun t0 () Bool false )' | head -n 5000 && echo ')'",
-    )?;
-    let mut solver = LocalSolver::from_command(alloc, &mut starter, &cmd)?;
-    match solver.check_sat_with_model()? {
-        DecisionWithModel::Sat { model } => {
-            assert_eq!(rt; model.as_str().len(), 5000 * 31 + 4);
-        }
-        _ => assert!(rt; false),
-    }
-    starter.finish(solver.into_link())?;
+    assert!(rt; model(&rt, lines)?.as_str().len() == 5000 * 31 + 4);
     Ok(())
 }
 
 #[test]
-fn ends(rt: HostRuntime) -> Result<(), Fail> {
+fn refused_starts(rt: HostRuntime) -> Result<(), Fail> {
     let alloc = rt.alloc();
     let mut starter = ChildStarter::new(rt.clone()?);
     let cmd = SolverCommand::new(alloc, "no-such-solver-as-this", &[])?;
     let refused = LocalSolver::from_command(alloc, &mut starter, &cmd);
     assert!(rt; refused.err() == Some(SolverError::Io));
     assert!(rt; starter.start(alloc, &cmd).err() == Some(StartError::Fault));
+    Ok(())
+}
 
-    let mut link = starter.start(alloc, &shell(alloc, "exit 3")?)?;
-    let mut line = Bytes::new(alloc);
-    read_to_end(&mut link, &mut line)?;
-    // The child has closed its output, and ends soon.
+/// Whether the answers come to their end, appended to the line.
+fn reads_to_end(link: &mut ChildLink<HostRuntime>, line: &mut Bytes) -> bool {
+    for _ in 0..1_000_000 {
+        match link.read_line(line, 65536) {
+            Ok(LineEnd::End) => return true,
+            Ok(_) => {}
+            Err(_) => return false,
+        }
+    }
+    false
+}
+
+/// Waits until a child has ended that closed its output, which it soon does.
+fn wait(rt: &HostRuntime, link: &mut ChildLink<HostRuntime>) {
     for _ in 0..10_000 {
         if link.ended() != Ok(Ended::Running) {
-            break;
+            return;
         }
-        thread::sleep(&rt, Duration::from_millis(1));
+        thread::sleep(rt, Duration::from_millis(1));
     }
-    let message = Text::from_str(
-        alloc,
-        "Solver process terminated unexpectedly with status: Some(3)",
-    )?;
-    let mut solver = LocalSolver::new(alloc, link);
-    assert!(rt; solver.check_sat() == Err(SolverError::Solver(message)));
-    solver.clean_up()?;
-    let mut link = solver.into_link();
-    assert!(rt; link.ended() == Ok(Ended::Code(3)));
-    starter.finish(link)?;
-    Ok(())
+}
+
+/// Whether a question is answered by this message.
+fn tells(solver: &mut LocalSolver<ChildLink<HostRuntime>>, expected: &str) -> bool {
+    match solver.check_sat() {
+        Err(SolverError::Solver(message)) => message.as_str() == expected,
+        _ => false,
+    }
+}
+
+/// Opens a session over the link of a shell.
+fn resume(alloc: Global, shell: Shell) -> Session {
+    let Shell { starter, link } = shell;
+    let solver = LocalSolver::new(alloc, link);
+    Session { starter, solver }
+}
+
+#[test]
+fn ends(rt: HostRuntime) -> Result<(), Fail> {
+    let mut shell = start(&rt, "exit 3")?;
+    assert!(rt; reads_to_end(&mut shell.link, &mut Bytes::new(rt.alloc())));
+    wait(&rt, &mut shell.link);
+    let mut session = resume(rt.alloc(), shell);
+    let message = "Solver process terminated unexpectedly with status: Some(3)";
+    assert!(rt; tells(&mut session.solver, message));
+    assert!(rt; session.solver.clean_up() == Ok(()));
+    let mut shell = close(session);
+    assert!(rt; shell.link.ended() == Ok(Ended::Code(3)));
+    finish(shell)
 }
 
 #[test]
 fn kills(rt: HostRuntime) -> Result<(), Fail> {
-    let alloc = rt.alloc();
-    let mut starter = ChildStarter::new(rt.clone()?);
-    let mut link = starter.start(alloc, &shell(alloc, "exec sleep 1000")?)?;
-    assert!(rt; link.ended() == Ok(Ended::Running));
-    link.send(b"(exit)\n")?;
-    link.kill()?;
-    link.kill()?;
-    assert!(rt; link.ended() == Ok(Ended::Killed));
-    assert!(rt; link.send(b"(exit)\n") == Err(LinkError::Fault));
-    starter.finish(link)?;
-
-    // One that is not killed before, and one that the session kills where its answers have ended.
-    let link = starter.start(alloc, &shell(alloc, "exec sleep 1000")?)?;
-    starter.finish(link)?;
-    let cmd = shell(alloc, "exec >&- && exec sleep 1000")?;
-    let mut solver = LocalSolver::from_command(alloc, &mut starter, &cmd)?;
-    let message = Text::from_str(
-        alloc,
-        "Solver process terminated unexpectedly with status: None",
-    )?;
-    assert!(rt; solver.check_sat() == Err(SolverError::Solver(message)));
-    starter.finish(solver.into_link())?;
-    Ok(())
+    let mut shell = start(&rt, "exec sleep 1000")?;
+    assert!(rt; shell.link.ended() == Ok(Ended::Running));
+    assert!(rt; shell.link.send(b"(exit)\n") == Ok(()));
+    assert!(rt; shell.link.kill() == Ok(()));
+    assert!(rt; shell.link.kill() == Ok(()));
+    assert!(rt; shell.link.ended() == Ok(Ended::Killed));
+    assert!(rt; shell.link.send(b"(exit)\n") == Err(LinkError::Fault));
+    finish(shell)
 }
 
 #[test]
-fn closed_inputs(rt: HostRuntime) -> Result<(), Fail> {
-    let alloc = rt.alloc();
-    let mut starter = ChildStarter::new(rt.clone()?);
-    let mut link = starter.start(alloc, &shell(alloc, "exit 0")?)?;
-    let mut line = Bytes::new(alloc);
-    read_to_end(&mut link, &mut line)?;
+fn running_children(rt: HostRuntime) -> Result<(), Fail> {
+    finish(start(&rt, "exec sleep 1000")?)
+}
+
+// The session kills a child where its answers have ended.
+#[test]
+fn closed_outputs(rt: HostRuntime) -> Result<(), Fail> {
+    let mut session = open(&rt, "exec >&- && exec sleep 1000")?;
+    let message = "Solver process terminated unexpectedly with status: None";
+    assert!(rt; tells(&mut session.solver, message));
+    finish(close(session))
+}
+
+/// Sends more than a pipe holds to a child that may have closed its input.
+fn overfill(
+    rt: &impl Abort,
+    alloc: Global,
+    link: &mut ChildLink<HostRuntime>,
+) -> Result<(), AllocError> {
     let bytes = Vec::from_elem(alloc, b'a', 100_000)?;
     for _ in 0..4 {
         let sent = link.send(bytes.as_slice());
         assert!(rt; sent == Ok(()) || sent == Err(LinkError::Fault));
     }
-    let _ = link.send(b"b");
-    assert!(rt; link.flush() == Err(LinkError::Fault));
-    starter.finish(link)?;
     Ok(())
 }
+
+#[test]
+fn closed_inputs(rt: HostRuntime) -> Result<(), Fail> {
+    let mut shell = start(&rt, "exit 0")?;
+    assert!(rt; reads_to_end(&mut shell.link, &mut Bytes::new(rt.alloc())));
+    assert!(rt; overfill(&rt, rt.alloc(), &mut shell.link).is_ok());
+    let _ = shell.link.send(b"b");
+    assert!(rt; shell.link.flush() == Err(LinkError::Fault));
+    finish(shell)
+}
+
+/// Whether a read of at most `limit` bytes ends so, and the line has `length` bytes then.
+fn reads(
+    link: &mut ChildLink<HostRuntime>,
+    line: &mut Bytes,
+    limit: usize,
+    length: usize,
+    end: LineEnd,
+) -> bool {
+    link.read_line(line, limit) == Ok(end) && line.items().len() == length
+}
+
+/// The limits of reads, and the length of the line and the end behind each.
+///
+/// Of a line of 150000 bytes and its LF, an empty line, and one of 2 bytes without LF.
+const READS: [(usize, usize, LineEnd); 7] = [
+    (100_000, 100_000, LineEnd::TooLong),
+    (50_000, 150_000, LineEnd::TooLong),
+    (0, 150_000, LineEnd::TooLong),
+    (50_001, 150_001, LineEnd::Line),
+    (1, 150_002, LineEnd::Line),
+    (2, 150_004, LineEnd::TooLong),
+    (2, 150_004, LineEnd::End),
+];
 
 #[test]
 fn lines(rt: HostRuntime) -> Result<(), Fail> {
-    let alloc = rt.alloc();
-    let mut starter = ChildStarter::new(rt.clone()?);
-    // A line of 150000 bytes and its LF, an empty line, and one of 2 bytes without LF.
-    let cmd = shell(
-        alloc,
-        "head -c 150000 /dev/zero | tr '\\0' a; printf '\\n\\nab'",
-    )?;
-    let mut link = starter.start(alloc, &cmd)?;
-    let rows = [
-        (100_000, 100_000, LineEnd::TooLong),
-        (50_000, 150_000, LineEnd::TooLong),
-        (0, 150_000, LineEnd::TooLong),
-        (50_001, 150_001, LineEnd::Line),
-        (1, 150_002, LineEnd::Line),
-        (2, 150_004, LineEnd::TooLong),
-        (2, 150_004, LineEnd::End),
-    ];
-    let mut line = Bytes::new(alloc);
-    for (limit, length, end) in rows {
-        assert!(rt; link.read_line(&mut line, limit) == Ok(end), "at {length}");
-        assert_eq!(rt; line.items().len(), length);
+    let lines = "head -c 150000 /dev/zero | tr '\\0' a; printf '\\n\\nab'";
+    let mut shell = start(&rt, lines)?;
+    let mut line = Bytes::new(rt.alloc());
+    for &(limit, length, end) in &READS {
+        assert!(rt;
+            reads(&mut shell.link, &mut line, limit, length, end),
+            "at {length}"
+        );
     }
     assert!(rt; line.items().ends_with(b"a\n\nab"));
-    starter.finish(link)?;
-    Ok(())
+    finish(shell)
 }
 
-#[test]
-fn whole_scripts(rt: HostRuntime) -> Result<(), Fail> {
-    let alloc = rt.alloc();
-    let mut starter = ChildStarter::new(rt.clone()?);
-    let cmd = shell(alloc, "head -n 20000 | cksum && cat")?;
-    let mut link = starter.start(alloc, &cmd)?;
+/// Sends 20000 lines, each in three parts.
+fn send_script(link: &mut ChildLink<HostRuntime>) -> Result<(), LinkError> {
     for _ in 0..20_000 {
         link.send(b"(assert ")?;
         link.send(b"true")?;
         link.send(b")\n")?;
     }
-    link.flush()?;
+    link.flush()
+}
+
+/// Whether the next line is this.
+fn reads_line(link: &mut ChildLink<HostRuntime>, alloc: Global, expected: &[u8]) -> bool {
     let mut line = Bytes::new(alloc);
-    assert!(rt; link.read_line(&mut line, 100) == Ok(LineEnd::Line));
-    assert_eq!(rt; line.items(), b"3906320773 280000\n".as_slice());
-    link.kill()?;
-    starter.finish(link)?;
-    Ok(())
+    link.read_line(&mut line, 100) == Ok(LineEnd::Line) && line.items() == expected
+}
+
+#[test]
+fn whole_scripts(rt: HostRuntime) -> Result<(), Fail> {
+    let mut shell = start(&rt, "head -n 20000 | cksum && cat")?;
+    assert!(rt; send_script(&mut shell.link) == Ok(()));
+    assert!(rt; reads_line(&mut shell.link, rt.alloc(), b"3906320773 280000\n"));
+    assert!(rt; shell.link.kill() == Ok(()));
+    finish(shell)
 }

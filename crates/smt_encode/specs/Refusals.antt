@@ -18,7 +18,7 @@ use Rattle.smt_node_texts.specs.SelectorFaults.{selector_fault}
 use Rattle.smt_encode.specs.declared.error.WriteError.{WriteError}
 use Rattle.smt_encode.specs.declared.error.WriteError.TheVariants.{Selector, Sink, Text}
 use Rattle.smt_term.specs.View.{plain_type}
-use Rattle.smt_term.specs.declared.types.TermType.{TermType}
+use Rattle.smt_types.specs.declared.types.TermType.{TermType}
 
 -- the fault of terms that were not written
 abbrev pub write_fault : WriteError → Option Fault

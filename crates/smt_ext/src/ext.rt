@@ -4,13 +4,12 @@ ghost use Rattle.smt_ext.specs.DatetimeText.{IsDatetimeText};
 ghost use Rattle.smt_ext.specs.Decimal.{IsDecimalText};
 ghost use Rattle.smt_ext.specs.DurationText.{IsDurationText};
 ghost use Rattle.smt_ext.specs.Extensions.{IsDatetime, IsDecimal, IsDuration, IsRangeText, RefusesDatetime, RefusesDecimal, RefusesDuration, RefusesRange, WritesDatetime, WritesDecimal, WritesDuration};
-ghost use Rattle.smt_ext.specs.IpText.{WritesRange};
-ghost use Rattle.smt_ext.specs.IpView.{range_of};
+ghost use Rattle.smt_ip.specs.IpText.{WritesRange};
+ghost use Rattle.smt_ip.specs.IpView.{range_of};
 
 use crate::datetime::{Datetime, DatetimeError, Duration};
 use crate::decimal::{Decimal, DecimalError};
-use crate::ipaddr::error::IPError;
-use crate::ipaddr::net::IPNet;
+use smt_ip::{IPError, IPNet};
 use std::alloc::Global;
 use thiserror::Error;
 

@@ -19,8 +19,9 @@ ghost use Rattle.smt_ext.specs.declared.ext.Ext.{Ext as Value};
 
 use crate::{Datetime, Decimal, Duration, Ext};
 
-pub mod ip;
 pub mod orders;
+
+pub use smt_ip::laws as ip;
 
 /// Texts at the limits, and their values.
 pub fn worked_texts()

@@ -2,7 +2,7 @@
 use Rattle.std.proofs.Common.{◌≡◌, ℕ, ◌+◌, ◌-◌, ◌*◌, ◌/◌, ◌%◌, ◌^◌, ◌<◌, ◌≤◌, ap, ◌∙◌, subst, arith}
 use Rattle.std.proofs.Math.Nat.{div-add-mod', mod-lt}
 use Rattle.std.proofs.lemmas.Nat.{pow_pos, div-mul-add}
-use Rattle.smt_ext.specs.IpRanges.{IsIn, LiesIn, Range, address_bits, free_bits}
+use Rattle.smt_ip.specs.IpRanges.{IsIn, LiesIn, Range, address_bits, free_bits}
 use Rattle.smt_extension_folding.specs.Bounds.{highest, lowest}
 use Rattle.smt_extension_folding.specs.Laws.{RangesAreBlocks}
 use Rattle.smt_extension_folding.proofs.Shifts.{block_fits}

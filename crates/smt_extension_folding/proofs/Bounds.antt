@@ -5,7 +5,7 @@ use Rattle.std.proofs.lemmas.Bool.{le-leb}
 use Rattle.smt_arithmetic.specs.BitOperators.{BvaddOp, BvlshrOp, BvshlOp, BvsubOp}
 use Rattle.smt_arithmetic.specs.BitVectors.{bvadd, bvlshr, bvshl, bvsub}
 use Rattle.smt_arithmetic.specs.Shifts.{greatest_shift}
-use Rattle.smt_ext.specs.IpRanges.{Family, Range, Version4, Version6}
+use Rattle.smt_ip.specs.IpRanges.{Family, Range, Version4, Version6}
 use Rattle.smt_extension_folding.specs.Bounds.{IsRange, highest, lowest, range_literal}
 use Rattle.smt_extension_folding.specs.ExtensionFunctions.{highest_address, lowest_address, range_by, range_v4, range_v6}
 use Rattle.smt_extension_folding.specs.Laws.{FamiliesAreTold, RangesAreBounded}

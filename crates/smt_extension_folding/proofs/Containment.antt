@@ -3,7 +3,7 @@ use Rattle.std.proofs.Common.{◌≡◌, ℕ, true, false, Option, refl, ap, sym
 use Rattle.std.specs.Prelude.{◌⊎◌, ◌&&◌, ◌==◌, nat_le}
 use Rattle.std.proofs.lemmas.Bool.{and_from, and_parts, cond-true, eq-eqb, false≢true, le-leb, leb-true}
 use Rattle.smt_arithmetic.specs.BitOperators.{BvuleOp}
-use Rattle.smt_ext.specs.IpRanges.{Family, LiesIn, Range, Version4, Version6}
+use Rattle.smt_ip.specs.IpRanges.{Family, LiesIn, Range, Version4, Version6}
 use Rattle.smt_extension_folding.specs.Bounds.{IsRange, as_extension, highest, lowest, range_literal}
 use Rattle.smt_extension_folding.specs.ExtensionFunctions.{in_range, in_range_lit, is_ipv4, is_ipv6, range_v4, range_v6}
 use Rattle.smt_extension_folding.specs.Laws.{IsTruthOf}

@@ -2,7 +2,7 @@
 use Rattle.std.proofs.Common.{◌≡◌, ℕ, ◌^◌, ◌<◌, ◌≤◌, Bool, true, false, [], ◌∷◌, map, Some, None, refl, inl, inr, arith, rules}
 use Rattle.std.specs.Prelude.{ℤ, negsuc}
 use Rattle.smt_arithmetic.specs.Longs.{IsLong}
-use Rattle.smt_ext.specs.IpRanges.{Range, Version4}
+use Rattle.smt_ip.specs.IpRanges.{Range, Version4}
 use Rattle.smt_extension_folding.specs.Bounds.{IsRange, as_extension, range_literal}
 use Rattle.smt_extension_folding.specs.Examples.{ContainmentExamples, RuleExamples, TimeExamples, blocks, delay, given, in_ten, moment, source, two_blocks, v4, v6}
 use Rattle.smt_extension_folding.specs.ExtensionFunctions.{in_range_v, is_in_range, is_ipv4, range_v4}

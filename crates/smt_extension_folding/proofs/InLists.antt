@@ -3,8 +3,8 @@ use Rattle.std.proofs.Common.{◌≡◌, ℕ, true, List, [], ◌∷◌, map, Op
 use Rattle.std.specs.Prelude.{◌⊎◌, ◌||◌}
 use Rattle.std.specs.List.{AllByRecursion}
 use Rattle.std.proofs.lemmas.Bool.{or_cases, or_left, or_right}
-use Rattle.smt_ext.specs.IpRanges.{Family, LiesIn, Range, Version4, Version6}
-use Rattle.smt_ext.specs.IpRanges as ip
+use Rattle.smt_ip.specs.IpRanges.{Family, LiesIn, Range, Version4, Version6}
+use Rattle.smt_ip.specs.IpRanges as ip
 use Rattle.smt_extension_folding.specs.Bounds.{IsRange, LiesInOne, range_literal}
 use Rattle.smt_extension_folding.specs.ExtensionFunctions.{in_one_from, in_range, in_range_v, is_in_range, is_ipv4, is_ipv6, range_v4, range_v6}
 use Rattle.smt_extension_folding.specs.Laws.{ContainmentIsTold, IsTruthOf}

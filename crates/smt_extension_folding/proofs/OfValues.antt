@@ -2,7 +2,7 @@
 use Rattle.std.proofs.Common.{◌≡◌, ℕ, List, [], ◌∷◌, map, Option, refl, ap, ◌∙◌, sym, subst, arith}
 use Rattle.std.specs.Prelude.{ℤ, ◌+ℤ◌, ◌-ℤ◌}
 use Rattle.std.specs.List.{AllByRecursion, AllZip}
-use Rattle.smt_ext.specs.IpRanges.{Family, Range, Version4, Version6}
+use Rattle.smt_ip.specs.IpRanges.{Family, Range, Version4, Version6}
 use Rattle.smt_ext.specs.Milliseconds.{day_start}
 use Rattle.smt_extension_folding.specs.Bounds.{IsRange, as_extension, range_literal}
 use Rattle.smt_extension_folding.specs.ExtensionFunctions.{loopback_v4, loopback_v6, multicast_v4, multicast_v6}

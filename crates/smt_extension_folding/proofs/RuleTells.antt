@@ -6,7 +6,7 @@ use Rattle.std.specs.Cmp.Derive.{both_true}
 use Rattle.std.specs.List.{AllZip}
 use Rattle.std.proofs.lemmas.Bool.{and_from, and_parts, false≢true, le-leb, leb-true, or_cases, or_left, or_right}
 use Rattle.smt_arithmetic.specs.BitOperators.{BvuleOp}
-use Rattle.smt_ext.specs.IpRanges.{Family, Range, Version4, Version6}
+use Rattle.smt_ip.specs.IpRanges.{Family, Range, Version4, Version6}
 use Rattle.smt_extension_folding.specs.Bounds.{highest, lowest, range_literal}
 use Rattle.smt_extension_folding.specs.ExtensionFunctions.{in_one_from, in_range, in_range_v, is_ipv4, is_ipv6, range_v4, range_v6}
 use Rattle.smt_extension_folding.specs.Rules.{BlockLiesIn, HoldsIn, IsRangeRule, LiesInOneOfFamily, RuleTells, RulesAreKept, number_in}

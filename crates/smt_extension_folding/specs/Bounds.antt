@@ -1,6 +1,6 @@
 -- IP ranges as literals, and their lowest and highest addresses as numbers.
 use Rattle.std.specs.Prelude.{ℕ, ◌+◌, ◌-◌, ◌*◌, ◌/◌, ◌^◌, ◌<◌, ◌⊎◌, List, [], ◌∷◌}
-use Rattle.smt_ext.specs.IpRanges.{Family, LiesIn, Range, Version4, Version6, address_bits, free_bits}
+use Rattle.smt_ip.specs.IpRanges.{Family, LiesIn, Range, Version4, Version6, address_bits, free_bits}
 use Rattle.smt_folding.specs.FoldExtensions.{extension_literal}
 use Rattle.smt_meaning.specs.Plain.{Ipv4Of, Ipv6Of, PlainExtension, PlainTerm}
 use Rattle.smt_meaning.specs.TypeValues.{IsPrefix}

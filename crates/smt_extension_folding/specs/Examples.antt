@@ -3,7 +3,7 @@
 use Rattle.std.specs.Prelude.{◌≡◌, ℕ, ◌*◌, ◌+◌, ◌^◌, ℤ, pos, negsuc, true, false, List, [], ◌∷◌, map, codes, Option, Some, None}
 use Rattle.std.specs.List.{AllZip}
 use Rattle.smt_arithmetic.specs.Longs.{IsLong}
-use Rattle.smt_ext.specs.IpRanges.{Range, Version4, Version6}
+use Rattle.smt_ip.specs.IpRanges.{Range, Version4, Version6}
 use Rattle.smt_extension_folding.specs.Bounds.{IsRange, LiesInOne, as_extension, range_literal}
 use Rattle.smt_extension_folding.specs.ExtensionFunctions.{duration_since, in_range_v, is_in_range, is_ipv4, is_ipv6, is_loopback, is_multicast, offset, range_v4, range_v6, to_date, to_time}
 use Rattle.smt_extension_folding.specs.Literals.{datetime, duration}

@@ -3,7 +3,7 @@
 use Rattle.std.specs.Prelude.{◌≡◌, ◌↔◌, ◌⊎◌, ℕ, ◌-◌, ◌^◌, ◌≤◌, ℤ, ◌+ℤ◌, ◌-ℤ◌, int_lt, int_le, Bool, IsTrue, List, map, Option, unwrap_or}
 use Rattle.std.specs.List.{AllByRecursion}
 use Rattle.smt_arithmetic.specs.Longs.{IsLong}
-use Rattle.smt_ext.specs.IpRanges.{IsIn, IsLoopback, IsMulticast, LiesIn, Range, Version4, Version6}
+use Rattle.smt_ip.specs.IpRanges.{IsIn, IsLoopback, IsMulticast, LiesIn, Range, Version4, Version6}
 use Rattle.smt_ext.specs.Milliseconds.{day_start, time_of_day, whole_days, whole_hours, whole_minutes, whole_seconds}
 use Rattle.smt_extension_folding.specs.Bounds.{IsRange, LiesInOne, as_extension, highest, lowest, range_literal}
 use Rattle.smt_extension_folding.specs.ExtensionFunctions.{duration_since, greater_than, greater_than_or_equal, in_range, in_range_lit, in_range_v, is_in_range, is_ipv4, is_ipv6, is_loopback, is_multicast, less_than, less_than_or_equal, offset, range_v4, range_v6, subnet_width, to_date, to_days, to_hours, to_milliseconds, to_minutes, to_seconds, to_time}

@@ -2,7 +2,7 @@
 -- known then of a range and a list.
 use Rattle.std.specs.Prelude.{◌≡◌, ◌⊎◌, ℕ, ◌≤◌, true, List, [], ◌∷◌}
 use Rattle.std.specs.List.{AllZip}
-use Rattle.smt_ext.specs.IpRanges.{Range}
+use Rattle.smt_ip.specs.IpRanges.{Range}
 use Rattle.smt_extension_folding.specs.ExtensionFunctions.{in_range_v, is_ipv4, is_ipv6, range_v4, range_v6}
 use Rattle.smt_extension_folding.specs.Values.{HasRange, Tells}
 use Rattle.smt_folding.specs.Builder.{applied}

@@ -2,7 +2,7 @@
 use Rattle.std.specs.Prelude.{◌≡◌, ◌↔◌, ℤ, ◌+ℤ◌, ◌-ℤ◌, Bool, IsTrue, List, [], ◌∷◌}
 use Rattle.std.specs.List.{AllZip}
 use Rattle.smt_arithmetic.specs.Longs.{IsLong}
-use Rattle.smt_ext.specs.IpRanges.{IsLoopback, IsMulticast, Range}
+use Rattle.smt_ip.specs.IpRanges.{IsLoopback, IsMulticast, Range}
 use Rattle.smt_ext.specs.Milliseconds.{day_start, time_of_day}
 use Rattle.smt_extension_folding.specs.Bounds.{IsRange, LiesInOne, as_extension}
 use Rattle.smt_extension_folding.specs.ExtensionFunctions.{duration_since, is_in_range, is_loopback, is_multicast, offset, to_date, to_time}

@@ -1,8 +1,8 @@
 -- What is equal to a folding stands for its application; how composites of shared terms are foldings.
 use Rattle.std.proofs.Common.{◌≡◌, List, ap, ◌∙◌, sym, subst}
-use Rattle.smt_ext.specs.IpOrder.{plain_range}
-use Rattle.smt_ext.specs.IpRanges.{Range}
-use Rattle.smt_ext.specs.IpRanges as ip
+use Rattle.smt_ip.specs.IpOrder.{plain_range}
+use Rattle.smt_ip.specs.IpRanges.{Range}
+use Rattle.smt_ip.specs.IpRanges as ip
 use Rattle.smt_extension_folding.specs.ExtensionFunctions.{in_range, in_range_lit, in_range_v, is_in_range, is_ipv4, is_ipv6, is_loopback, is_multicast, loopback_v4, loopback_v6, multicast_v4, multicast_v6, range_v4, range_v6}
 use Rattle.smt_extension_folding.specs.Laws.{BothRefine}
 use Rattle.smt_folding.specs.Builder.{folding}

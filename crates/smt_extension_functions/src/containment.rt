@@ -1,8 +1,8 @@
 //! Which IP ranges lie in which.
 
 ghost use Rattle.std.specs.Prelude.{◌≡◌, IfOk, map};
-ghost use Rattle.smt_ext.specs.IpOrder.{plain_range};
-ghost use Rattle.smt_ext.specs.IpView.{range_of};
+ghost use Rattle.smt_ip.specs.IpOrder.{plain_range};
+ghost use Rattle.smt_ip.specs.IpView.{range_of};
 ghost use Rattle.smt_extension_folding.specs.ExtensionFunctions.{in_range, in_range_lit, in_range_v, is_in_range, is_ipv4, is_ipv6, is_loopback, is_multicast, range_v4, range_v6};
 ghost use Rattle.smt_extension_folding.specs.Rules.{RuleTells};
 ghost use Rattle.smt_extension_functions.specs.Closures.{AreByRule, GivesPairs, GivesTerms, StandsForPairs, StandsForTerms};

@@ -3,8 +3,8 @@
 
 ghost use Rattle.std.specs.Prelude.{◌≡◌, ◌<◌, ◌≤◌, ◌-◌, ◌^◌, IfOk};
 ghost use Rattle.smt_bits.specs.Width.{bits_in};
-ghost use Rattle.smt_ext.specs.IpOrder.{plain_range};
-ghost use Rattle.smt_ext.specs.IpView.{range_of};
+ghost use Rattle.smt_ip.specs.IpOrder.{plain_range};
+ghost use Rattle.smt_ip.specs.IpView.{range_of};
 ghost use Rattle.smt_extension_folding.specs.ExtensionFunctions.{is_ipv4, is_ipv6, lowest_address, range_by, range_v4, range_v6, subnet_width};
 ghost use Rattle.smt_extension_folding.specs.Laws.{BothRefine};
 ghost use Rattle.smt_extension_functions.specs.Pairs.{last_from, plain_pair};

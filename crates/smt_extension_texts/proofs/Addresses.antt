@@ -12,9 +12,9 @@ use Rattle.std.proofs.NetLemmas.Arrays.{eight_items}
 use Rattle.std.proofs.NetLemmas.Ipv4.{read_ipv4_complete, read_ipv4_sound}
 use Rattle.std.proofs.NetLemmas.Ipv6.{read_ipv6_complete, read_ipv6_sound, EndsGroups-nil}
 use Rattle.std.proofs.NetLemmas.Options.{and_then_some, cond_none, cond_some, map_some}
-use Rattle.smt_ext.specs.IpRanges.{Family, Version4, Version6}
-use Rattle.smt_ext.specs.IpText.{IsDotted, IsColonText, WritesAddress, joined_groups}
-use Rattle.smt_ext.proofs.IpGrammar.{HasNo-colon_text, HasNo-fails_test, HasNo-from_test, colon_text_from_std, colon_to_std, dotted_to_std}
+use Rattle.smt_ip.specs.IpRanges.{Family, Version4, Version6}
+use Rattle.smt_ip.specs.IpText.{IsDotted, IsColonText, WritesAddress, joined_groups}
+use Rattle.smt_ip.proofs.IpGrammar.{HasNo-colon_text, HasNo-fails_test, HasNo-from_test, colon_text_from_std, colon_to_std, dotted_to_std}
 use Rattle.smt_extension_texts.specs.Ranges.{address_in, colon_text_in, dotted_in}
 
 empty : {A : Type 0} (xs : List A) → eqb (length xs) 0 ≡ true → xs ≡ []

@@ -8,8 +8,8 @@ use Rattle.std.proofs.NetLemmas.Arrays.{eight_items}
 use Rattle.std.proofs.lemmas.Bool.{eqb-false}
 use Rattle.std.proofs.lemmas.Int.Digits.{digits_value-lt}
 use Rattle.smt_arithmetic.specs.Longs.{IsLong}
-use Rattle.smt_ext.specs.IpRanges.{Family, Version4, Version6, Range, address_bits, prefix_of}
-use Rattle.smt_ext.specs.IpText.{AreGroupsBehind, IsColonText, IsDotted, IsGroup, WritesAddress, WritesPrefix, WritesRange, joined_groups}
+use Rattle.smt_ip.specs.IpRanges.{Family, Version4, Version6, Range, address_bits, prefix_of}
+use Rattle.smt_ip.specs.IpText.{AreGroupsBehind, IsColonText, IsDotted, IsGroup, WritesAddress, WritesPrefix, WritesRange, joined_groups}
 use Rattle.smt_extension_texts.specs.Datetimes.{datetime_in}
 use Rattle.smt_extension_texts.specs.Decimals.{decimal_in}
 use Rattle.smt_extension_texts.specs.Durations.{duration_in}

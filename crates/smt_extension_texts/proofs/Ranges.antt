@@ -15,10 +15,10 @@ use Rattle.smt_characters.specs.Digits.{decimal_number}
 use Rattle.smt_characters.specs.Front.{begins_without, IsRun}
 use Rattle.smt_characters.proofs.Numbers.{from_digits}
 use Rattle.smt_characters.proofs.Runs.{run_at}
-use Rattle.smt_ext.specs.IpRanges.{Family, Version4, Version6, Range, address_bits, prefix_of}
-use Rattle.smt_ext.specs.IpReader.{HasNo, WritesParts}
-use Rattle.smt_ext.specs.IpText.{WritesPrefix, WritesRange, behind_slash}
-use Rattle.smt_ext.proofs.IpSplits as Splits
+use Rattle.smt_ip.specs.IpRanges.{Family, Version4, Version6, Range, address_bits, prefix_of}
+use Rattle.smt_ip.specs.IpReader.{HasNo, WritesParts}
+use Rattle.smt_ip.specs.IpText.{WritesPrefix, WritesRange, behind_slash}
+use Rattle.smt_ip.proofs.IpSplits as Splits
 use Rattle.smt_extension_texts.specs.Ranges.{address_in, before_slash, behind_first, digits_behind_slash, prefix_in, range_in, range_of_parts}
 use Rattle.smt_extension_texts.specs.Readings.{RangesAreRead}
 use Rattle.smt_extension_texts.proofs.Addresses.{address_is_read, read_is_address}

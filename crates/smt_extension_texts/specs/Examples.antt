@@ -1,6 +1,6 @@
 -- Texts that are read, each with its value, and texts that are refused.
 use Rattle.std.specs.Prelude.{◌≡◌, ◌+◌, ◌*◌, ◌^◌, pos, negsuc, Some, None, codes}
-use Rattle.smt_ext.specs.IpRanges.{Version4, Version6, loopback_v6}
+use Rattle.smt_ip.specs.IpRanges.{Version4, Version6, loopback_v6}
 use Rattle.smt_extension_texts.specs.Datetimes.{datetime_in}
 use Rattle.smt_extension_texts.specs.Decimals.{decimal_in}
 use Rattle.smt_extension_texts.specs.Durations.{duration_in}

@@ -5,8 +5,8 @@ use Rattle.std.specs.Net.Reader.{read_ipv4, read_ipv6, whole_value}
 use Rattle.std.specs.Option.{option_or}
 use Rattle.smt_characters.specs.Digits.{decimal_number}
 use Rattle.smt_ext.specs.DatetimeReading.{◌>>=◌}
-use Rattle.smt_ext.specs.IpRanges.{Family, Version4, Version6, Range, address_bits, prefix_of}
-use Rattle.smt_ext.specs.IpText.{joined_groups}
+use Rattle.smt_ip.specs.IpRanges.{Family, Version4, Version6, Range, address_bits, prefix_of}
+use Rattle.smt_ip.specs.IpText.{joined_groups}
 
 -- the text before its first slash, or the whole text where there is none
 abbrev pub before_slash : List ℕ → List ℕ

@@ -3,8 +3,8 @@ use Rattle.std.specs.Prelude.{◌≡◌, ◌↔◌, ℕ, ℤ, List, Some}
 use Rattle.smt_ext.specs.DatetimeText.{IsDatetimeText}
 use Rattle.smt_ext.specs.Decimal.{IsDecimalText}
 use Rattle.smt_ext.specs.DurationText.{IsDurationText}
-use Rattle.smt_ext.specs.IpRanges.{Range}
-use Rattle.smt_ext.specs.IpText.{WritesRange}
+use Rattle.smt_ip.specs.IpRanges.{Range}
+use Rattle.smt_ip.specs.IpText.{WritesRange}
 use Rattle.smt_extension_texts.specs.Datetimes.{datetime_in}
 use Rattle.smt_extension_texts.specs.Decimals.{decimal_in}
 use Rattle.smt_extension_texts.specs.Durations.{duration_in}

@@ -8,7 +8,7 @@ use Rattle.std.specs.List.{AllByRecursion, list_all}
 use Rattle.std.specs.Ordering.{match_ordering}
 use Rattle.std.specs.declared.cmp.Ordering.{Ordering}
 use Rattle.std.specs.declared.cmp.Ordering.TheVariants.{Less, Equal, Greater}
-use Rattle.std.proofs.lemmas.Bool.{or_cases}
+use Rattle.std.proofs.lemmas.Bool.{false≢true, or_cases}
 use Rattle.smt_folding.specs.Applications.{truth_literal, true_term, false_term, set_member_of, set_subset_of, set_inter_of}
 use Rattle.smt_folding.specs.Builder.{applied, folding}
 use Rattle.smt_folding.specs.Composites.{set_is_empty}
@@ -72,8 +72,8 @@ one_element_type a b h = let e : SetType a ≡ SetType b = eq_same (SetType a) (
 
 no_member : (t u : PlainTerm) → is_empty_set u ≡ true → Refines false_term (set_member_of t u)
 no_member t (SetTerm ty no_terms) e = truth_standing false (set_member_of t (SetTerm ty no_terms)) refl (λ enums I h f g. refl)
-no_member t (SetTerm ty (one_term u us)) e = cc
-no_member t u e = cc
+no_member t (SetTerm ty (one_term u us)) e = absurd (false≢true e)
+no_member t u e = absurd (false≢true e)
 
 literal_member : (t u : PlainTerm) → is_literal t ≡ true → is_set_literal u ≡ true → Refines (truth_literal (is_among (elements_in u) t)) (set_member_of t u)
 literal_member t (SetTerm ty us) l k =
@@ -85,7 +85,7 @@ literal_member t (SetTerm ty us) l k =
     ap BoolValue (among_is I ty t us
     (record { literal = l; element = record { parts = p.first; type = d }; formed = first_argument IsFormedNode SetMemberOp t (SetTerm ty us) BoolType f.literals })
     (literal_elements ty us k p.second (second_argument IsFormedNode SetMemberOp t (SetTerm ty us) BoolType f.literals)))))
-literal_member t u l k = cc
+literal_member t u l k = absurd (false≢true k)
 
 pub stands_set_member : (t u : PlainTerm) → Refines (folded_set_member t u) (set_member_of t u)
 stands_set_member t u =
@@ -102,8 +102,8 @@ subset_of_itself t u e =
 
 empty_subset : (t u : PlainTerm) → is_empty_set t ≡ true → Refines true_term (set_subset_of t u)
 empty_subset (SetTerm ty no_terms) u e = truth_standing true (set_subset_of (SetTerm ty no_terms) u) refl (λ enums I h f g. refl)
-empty_subset (SetTerm ty (one_term t ts)) u e = cc
-empty_subset t u e = cc
+empty_subset (SetTerm ty (one_term t ts)) u e = absurd (false≢true e)
+empty_subset t u e = absurd (false≢true e)
 
 literal_subset : (t u : PlainTerm) → is_set_literal t ≡ true → is_set_literal u ≡ true → Refines (truth_literal (list_all (is_among (elements_in u)) (elements_in t))) (set_subset_of t u)
 literal_subset (SetTerm a ts) (SetTerm b us) l k =
@@ -113,8 +113,8 @@ literal_subset (SetTerm a ts) (SetTerm b us) l k =
     let x : AllByRecursion (IsLiteralElement b) (list_of_terms us) = literal_elements b us k p.second (second_argument IsFormedNode SetSubsetOp (SetTerm a ts) (SetTerm b us) BoolType f.literals) in
     ap BoolValue (subset_is I a ts us (literal_elements a ts l p.first (first_argument IsFormedNode SetSubsetOp (SetTerm a ts) (SetTerm b us) BoolType f.literals))
     (subst (λ (y : PlainType). AllByRecursion (IsLiteralElement y) (list_of_terms us)) (sym (one_element_type a b p.holds)) x))))
-literal_subset (SetTerm a ts) u l k = cc
-literal_subset t u l k = cc
+literal_subset (SetTerm a ts) u l k = absurd (false≢true k)
+literal_subset t u l k = absurd (false≢true l)
 
 pub stands_set_subset : (t u : PlainTerm) → Refines (folded_set_subset t u) (set_subset_of t u)
 stands_set_subset t u =
@@ -136,16 +136,16 @@ inter_with_itself t u e =
 empty_first : (t u : PlainTerm) → is_empty_set t ≡ true → Refines t (set_inter_of t u)
 empty_first (SetTerm ty no_terms) u e =
     standing_within (SetTerm ty no_terms) (set_inter_of (SetTerm ty no_terms) u) (λ P n h. first_argument P SetInterOp (SetTerm ty no_terms) u (SetType ty) h) (λ h. (refl, refl)) (λ enums I h f g. refl)
-empty_first (SetTerm ty (one_term t ts)) u e = cc
-empty_first t u e = cc
+empty_first (SetTerm ty (one_term t ts)) u e = absurd (false≢true e)
+empty_first t u e = absurd (false≢true e)
 
 empty_second : (t u : PlainTerm) → is_empty_set u ≡ true → Refines u (set_inter_of t u)
 empty_second t (SetTerm ty no_terms) e =
     standing_within (SetTerm ty no_terms) (set_inter_of t (SetTerm ty no_terms)) (λ P n h. second_argument P SetInterOp t (SetTerm ty no_terms) (type_of t) h)
     (λ h. (refl, sym (eq_same (type_of t) (SetType ty) (second_so (is_set (type_of t)) (type_eq (type_of t) (SetType ty)) (inter_parts t (SetTerm ty no_terms) h).holds))))
     (λ enums I h f g. ap set_of (none_common (elements (meaning I t))))
-empty_second t (SetTerm ty (one_term u us)) e = cc
-empty_second t u e = cc
+empty_second t (SetTerm ty (one_term u us)) e = absurd (false≢true e)
+empty_second t u e = absurd (false≢true e)
 
 module _ (a : PlainType) (ts : PlainTerms) (b : PlainType) (us : PlainTerms) where
   abbrev Common : List PlainTerm
@@ -172,8 +172,8 @@ module _ (a : PlainType) (ts : PlainTerms) (b : PlainType) (us : PlainTerms) whe
 
 literal_inter : (t u : PlainTerm) → is_set_literal t ≡ true → is_set_literal u ≡ true → Refines (common_set t u) (set_inter_of t u)
 literal_inter (SetTerm a ts) (SetTerm b us) l k = common_stands a ts b us l k
-literal_inter (SetTerm a ts) u l k = cc
-literal_inter t u l k = cc
+literal_inter (SetTerm a ts) u l k = absurd (false≢true k)
+literal_inter t u l k = absurd (false≢true l)
 
 pub stands_set_inter : (t u : PlainTerm) → Refines (folded_set_inter t u) (set_inter_of t u)
 stands_set_inter t u =

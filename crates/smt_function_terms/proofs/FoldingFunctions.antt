@@ -14,11 +14,11 @@ use Rattle.smt_meaning.specs.Functions.{PlainDefinition, PlainUnary, HasLiteralK
 use Rattle.smt_meaning.specs.Plain.{PlainTerm}
 use Rattle.smt_meaning.specs.TermOrder.{term_eq}
 use Rattle.smt_meaning.specs.Typing.{Typed}
-use Rattle.smt_term.specs.Functions.{plain_unary}
-use Rattle.smt_term.specs.Maps.{plain_entry}
+use Rattle.smt_functions.specs.Functions.{plain_unary}
+use Rattle.smt_functions.specs.Tables.{plain_entry}
 use Rattle.smt_term.specs.View.{plain_term}
-use Rattle.smt_term.specs.declared.function.UnaryFunction.{UnaryFunction}
-use Rattle.smt_term.specs.declared.function.UnaryFunction.TheVariants.{Uuf, Udf}
+use Rattle.smt_functions.specs.declared.function.UnaryFunction.{UnaryFunction}
+use Rattle.smt_functions.specs.declared.function.UnaryFunction.TheVariants.{Uuf, Udf}
 use Rattle.smt_term.specs.declared.term.Term.{Term}
 use Rattle.smt_term.proofs.FormedTerms.{terms_are_formed}
 

@@ -6,15 +6,16 @@ ghost use Rattle.smt_folding.specs.AppOf.{IsAppOf};
 ghost use Rattle.smt_folding.specs.Builder.{folding};
 ghost use Rattle.smt_folding.specs.FoldFunctions.{app_of, choice_among, entry_at, folded_app, uuf_of};
 ghost use Rattle.smt_folding.specs.Refinement.{Refines};
+ghost use Rattle.smt_functions.specs.Functions.{plain_definition, plain_unary};
+ghost use Rattle.smt_functions.specs.Tables.{plain_entry};
 ghost use Rattle.smt_meaning.specs.Functions.{HasLiteralKeys, IsTypedFunction, argument_type};
 ghost use Rattle.smt_meaning.specs.Typing.{Typed};
-ghost use Rattle.smt_term.specs.Functions.{plain_definition, plain_unary};
-ghost use Rattle.smt_term.specs.Maps.{plain_entry};
 ghost use Rattle.smt_term.specs.View.{plain_function, plain_term};
 
 use smt_equality::{eq, ite};
+use smt_functions::{Udf, UnaryFunction, Uuf};
 use smt_parts::unary_application;
-use smt_term::{Op, Term, TermError, Udf, UnaryFunction, Uuf};
+use smt_term::{Op, Term, TermError};
 use std::alloc::Global;
 use std::rc::Rc;
 

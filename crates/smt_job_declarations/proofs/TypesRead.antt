@@ -7,7 +7,7 @@ use Rattle.std.specs.declared.alloc.Global.{Global}
 use Rattle.std.specs.declared.rc.RcStr.{RcStr}
 use Rattle.std.proofs.lemmas.List.{at_drop_more, at_drop_all, map-append}
 use Rattle.smt_term.specs.View.{plain_attribute, plain_type}
-use Rattle.smt_term.specs.declared.types.TermType.{TermType}
+use Rattle.smt_types.specs.declared.types.TermType.{TermType}
 use Rattle.smt_lexicon.specs.Reading.{Expression, Node, Expressions, Nil, Cons}
 use Rattle.smt_sexpr.specs.View.{plain}
 use Rattle.smt_sexpr.specs.declared.expression.SExpr.{SExpr}

@@ -12,8 +12,8 @@ use Rattle.std.proofs.lemmas.Bool.{and_parts, leb-true, ltb-true}
 use Rattle.smt_arithmetic.specs.BitVectors.{bits_of}
 use Rattle.smt_arithmetic.specs.Widths.{are_bits, is_width}
 use Rattle.smt_arithmetic.proofs.BitRanges as ranges
-use Rattle.smt_ext.specs.IpOrder.{plain_range}
-use Rattle.smt_ext.specs.IpRanges.{Family, Version4, Version6, Range}
+use Rattle.smt_ip.specs.IpOrder.{plain_range}
+use Rattle.smt_ip.specs.IpRanges.{Family, Version4, Version6, Range}
 use Rattle.smt_extension_texts.specs.Datetimes.{datetime_in}
 use Rattle.smt_extension_texts.specs.Decimals.{decimal_in}
 use Rattle.smt_extension_texts.specs.Durations.{duration_in}

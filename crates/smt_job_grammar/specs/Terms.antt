@@ -12,7 +12,7 @@ use Rattle.smt_arithmetic.specs.BitOperators.{bits_operators, test_operators, ov
 use Rattle.smt_arithmetic.specs.BitVectors.{bits_of, overflows}
 use Rattle.smt_arithmetic.specs.Widths.{are_bits}
 use Rattle.smt_characters.specs.Digits.{is_numeral, decimal_number, signed_number}
-use Rattle.smt_ext.specs.IpOrder.{plain_range}
+use Rattle.smt_ip.specs.IpOrder.{plain_range}
 use Rattle.smt_extension_texts.specs.Datetimes.{datetime_in}
 use Rattle.smt_extension_texts.specs.Decimals.{decimal_in}
 use Rattle.smt_extension_texts.specs.Durations.{duration_in}

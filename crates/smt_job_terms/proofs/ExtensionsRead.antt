@@ -5,14 +5,14 @@ use Rattle.smt_ext.specs.Decimal.{IsDecimalText}
 use Rattle.smt_ext.specs.DurationText.{IsDurationText}
 use Rattle.smt_ext.specs.ExtOrder.{plain_value}
 use Rattle.smt_ext.specs.Extensions.{IsRangeText, RefusesRange, WritesDatetime, WritesDecimal, WritesDuration}
-use Rattle.smt_ext.specs.IpOrder.{plain_range}
-use Rattle.smt_ext.specs.IpView.{IsNoRange, RefusesText, range_of}
+use Rattle.smt_ip.specs.IpOrder.{plain_range}
+use Rattle.smt_ip.specs.IpView.{IsNoRange, RefusesText, range_of}
 use Rattle.smt_ext.specs.Milliseconds.{datetime_value, duration_value}
 use Rattle.smt_ext.specs.declared.ext.Ext.{Ext}
 use Rattle.smt_ext.specs.declared.ext.Ext.TheVariants.{Decimal, Ipaddr, Datetime, Duration}
 use Rattle.smt_ext.specs.declared.ext.ExtParseError.{ExtParseError}
-use Rattle.smt_ext.specs.declared.ipaddr.error.IPError.{IPError}
-use Rattle.smt_ext.specs.declared.ipaddr.error.IPError.TheVariants.{ParseError, BitVecError, ExepectedOctet, Memory}
+use Rattle.smt_ip.specs.declared.error.IPError.{IPError}
+use Rattle.smt_ip.specs.declared.error.IPError.TheVariants.{ParseError, BitVecError, ExepectedOctet, Memory}
 use Rattle.smt_extension_texts.specs.Datetimes.{datetime_in}
 use Rattle.smt_extension_texts.specs.Decimals.{decimal_in}
 use Rattle.smt_extension_texts.specs.Durations.{duration_in}

@@ -16,7 +16,7 @@ use Rattle.smt_term.specs.View.{plain_term, plain_type, plain_term-Var}
 use Rattle.smt_term.specs.declared.function.Uuf.{Uuf}
 use Rattle.smt_term.specs.declared.term.Term.{Term, Var}
 use Rattle.smt_term.specs.declared.term.TermVar.{TermVar}
-use Rattle.smt_term.specs.declared.types.TermType.{TermType}
+use Rattle.smt_types.specs.declared.types.TermType.{TermType}
 use Rattle.smt_term.proofs.FormedTerms.{terms_are_formed}
 use Rattle.smt_lexicon.specs.Reading.{Expression, Node, Expressions, Nil, Cons}
 use Rattle.smt_sexpr.specs.declared.expression.SExpr.{SExpr}

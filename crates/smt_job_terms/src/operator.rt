@@ -6,7 +6,8 @@ ghost use Rattle.smt_meaning.specs.Types.{result_type, type_of};
 ghost use Rattle.smt_term.specs.View.{plain_op, plain_term};
 ghost use Rattle.smt_job_grammar.specs.Terms.{extension_named, operator_named, other_named};
 
-use smt_term::{ExtOp, Op, Term, TermError, UnaryFunction};
+use smt_functions::UnaryFunction;
+use smt_term::{ExtOp, Op, Term, TermError};
 use std::alloc::Global;
 
 /// The operator of a name, but for those on values of the extension types and those to which something else belongs.

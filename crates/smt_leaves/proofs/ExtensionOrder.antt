@@ -5,10 +5,10 @@ use Rattle.std.specs.Ordering.{is_eq}
 use Rattle.std.specs.declared.cmp.Ordering.{Ordering}
 use Rattle.std.specs.declared.cmp.Ordering.TheVariants.{Equal}
 use Rattle.std.proofs.lemmas.Cmp.{tied_itself}
-use Rattle.smt_ext.specs.IpOrder.{plain_range}
-use Rattle.smt_ext.specs.IpView.{range_of}
-use Rattle.smt_ext.specs.declared.ipaddr.net.IPNet.{IPNet}
-use Rattle.smt_ext.specs.declared.ipaddr.net.IPNet.TheVariants.{V4, V6}
+use Rattle.smt_ip.specs.IpOrder.{plain_range}
+use Rattle.smt_ip.specs.IpView.{range_of}
+use Rattle.smt_ip.specs.declared.net.IPNet.{IPNet}
+use Rattle.smt_ip.specs.declared.net.IPNet.TheVariants.{V4, V6}
 use Rattle.smt_meaning.specs.Plain.{IpAddrKind}
 use Rattle.smt_meaning.specs.Types.{kind_of}
 use Rattle.smt_leaves.specs.ExtensionView.{EqualExtensionOpsSayTheSame, EqualExtensionTypesSayTheSame, ExtensionOpsCompareAsPlain, ExtensionTypesCompareAsPlain, plain_extension_op, plain_kind}

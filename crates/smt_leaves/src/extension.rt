@@ -1,5 +1,5 @@
 // The extension types of Cedar, and the operators on their values.
-ghost use Rattle.std.specs.Prelude.{◌≡◌};
+ghost use Rattle.std.specs.Prelude.{◌≡◌, IfSome};
 ghost use Rattle.smt_ext.specs.ExtOrder.{plain_value};
 ghost use Rattle.smt_meaning.specs.Names.{extension_op_name};
 ghost use Rattle.smt_meaning.specs.Types.{kind_of};
@@ -76,5 +76,24 @@ impl ExtOp {
             ExtOp::IpaddrPrefixV4 => "ipaddr.prefixV4",
             ExtOp::IpaddrPrefixV6 => "ipaddr.prefixV6",
         }
+    }
+
+    /// The operator of this name, or `None` where no operator has it.
+    pub fn of_name(name: &str) -> Option<ExtOp>
+        ensures found { IfSome result (λ op. extension_op_name (plain_extension_op op) ≡ name.now) }
+    {
+        Some(match name {
+            "datetime.ofBitVec" => ExtOp::DatetimeOfBitVec,
+            "datetime.val" => ExtOp::DatetimeVal,
+            "decimal.val" => ExtOp::DecimalVal,
+            "duration.ofBitVec" => ExtOp::DurationOfBitVec,
+            "duration.val" => ExtOp::DurationVal,
+            "ipaddr.addrV4" => ExtOp::IpaddrAddrV4,
+            "ipaddr.addrV6" => ExtOp::IpaddrAddrV6,
+            "ipaddr.isV4" => ExtOp::IpaddrIsV4,
+            "ipaddr.prefixV4" => ExtOp::IpaddrPrefixV4,
+            "ipaddr.prefixV6" => ExtOp::IpaddrPrefixV6,
+            _ => return None,
+        })
     }
 }

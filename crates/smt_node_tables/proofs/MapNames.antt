@@ -7,7 +7,7 @@ use Rattle.smt_leaves.specs.Pairs.{attributes_in as attributes_beside}
 use Rattle.smt_graph.specs.Parts.{field_names, names_in}
 use Rattle.smt_term.specs.View.{attribute_types, plain_attribute, plain_field, record_fields}
 use Rattle.smt_term.specs.declared.term.Term.{Term}
-use Rattle.smt_term.specs.declared.types.TermType.{TermType}
+use Rattle.smt_types.specs.declared.types.TermType.{TermType}
 
 pub type_names : (ps : List (RcStr Global × TermType)) → attributes_beside ps ≡ names_in (attribute_types (map plain_attribute ps))
 type_names [] = refl

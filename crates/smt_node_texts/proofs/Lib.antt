@@ -2,7 +2,6 @@ pub mod Built
 pub mod Calls
 pub mod Faulting
 pub mod Inline
-pub mod Interned
 pub mod Kept
 pub mod Listing
 pub mod Named

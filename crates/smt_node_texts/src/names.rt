@@ -23,19 +23,6 @@ use smt_term::{EnumTable, Term, TermError, TermPrim, TermType, Text};
 use std::alloc::{AllocError, Global};
 use std::sync::ledger::{Blank, Ledger};
 
-/// The numbers that stand for terms, in order.
-fn numbers_of(alloc: Global, nodes: &mut Interner, terms: &[Term]) -> Result<Vec<NodeId>, TermError>
-    ensures meanings { IfOk result (λ ids. all_found (meanings (nodes_of nodes.new)) (places_of ids.items) ≡ Some (map TermMeaning (map plain_term terms.now))) }
-    ensures kept { KeepsMeanings nodes.old nodes.new }
-{
-    let mut ids = Vec::with_capacity(alloc, terms.len())?;
-    for term in terms {
-        let id = nodes.intern(term)?;
-        ids.push(id)?;
-    }
-    Ok(ids)
-}
-
 /// Whether a subject has a text of its own, which stands wherever it is used, so that it gets no name.
 fn is_inline(subject: Subject<'_>) -> bool
     ensures { result ≡ not (has_entry (meaning_of subject.entry)) }
@@ -184,7 +171,7 @@ impl<'a> Names<'a> {
         ensures tables { (s : Tables) → KeepTables self.old s → KeepTables self.new s }
         ensures enums { enums_under self.new ≡ enums_under self.old }
     {
-        numbers_of(self.alloc, &mut self.nodes, terms)
+        self.nodes.intern_terms(terms)
     }
 
     /// It gives the number that stands for a term, a type or a function, and enters as nodes what has no number yet.

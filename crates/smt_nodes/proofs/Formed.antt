@@ -15,7 +15,8 @@ use Rattle.smt_graph.specs.Parts.{field_terms, label_in, names_in, parts_in, typ
 use Rattle.smt_graph.proofs.Growth.{Graph, by_nodes, empty, grown}
 use Rattle.smt_graph.proofs.Places.{found_split, map_back, meanings_grow, only_back, some_same, then_back}
 use Rattle.smt_graph.proofs.Whole.{whole}
-use Rattle.smt_term.proofs.FormedTerms.{IsFormedBoth, formed_literal, formed_option, formed_set}
+use Rattle.smt_term.proofs.FormedTerms.{IsFormedBoth, formed_literal}
+use Rattle.smt_types.proofs.FormedTypes.{formed_option, formed_set}
 use Rattle.smt_node_tables.specs.View.{plain_label, plain_node}
 use Rattle.smt_node_tables.specs.declared.node.Label.{Label}
 use Rattle.smt_node_tables.specs.declared.node.Label.TheVariants.{TBitvec, Prim}

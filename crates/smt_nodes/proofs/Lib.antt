@@ -5,6 +5,7 @@ pub mod Finding
 pub mod Fitting
 pub mod Formed
 pub mod Growing
+pub mod InternedTerms
 pub mod Interning
 pub mod Labels
 pub mod Rebuilding

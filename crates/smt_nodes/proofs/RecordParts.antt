@@ -12,9 +12,9 @@ use Rattle.smt_graph.specs.Nodes.{Meaning, TypeMeaning, TermMeaning}
 use Rattle.smt_graph.specs.Parts.{field_names, field_terms, names_in, types_in}
 use Rattle.smt_term.specs.View.{attribute_types, fields_of, plain_attribute, plain_attributes, plain_field, plain_fields, plain_term, plain_type, record_fields}
 use Rattle.smt_term.specs.declared.maps.TermMap.{TermMap}
-use Rattle.smt_term.specs.declared.maps.TypeMap.{TypeMap}
+use Rattle.smt_types.specs.declared.maps.TypeMap.{TypeMap}
 use Rattle.smt_term.specs.declared.term.Term.{Term}
-use Rattle.smt_term.specs.declared.types.TermType.{TermType}
+use Rattle.smt_types.specs.declared.types.TermType.{TermType}
 use Rattle.smt_node_tables.proofs.MapNames.{term_names, type_names}
 
 -- ---- there and back

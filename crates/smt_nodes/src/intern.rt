@@ -13,7 +13,7 @@ use smt_node_tables::{AttrList, IdList, Label, Node, NodeId, Subject};
 use smt_term::{Op, Term, TermError, TermMap, TermType, TypeMap, Uuf};
 
 impl Interner {
-    ghost use Rattle.smt_nodes.specs.Interned.{meaning_in, nodes_of, IsMeant, KeepsMeanings};
+    ghost use Rattle.smt_nodes.specs.Interned.{meaning_in, nodes_of, IsMeant, KeepsMeanings, StandFor};
     ghost use Rattle.smt_node_tables.specs.Subject.{meaning_of};
 
     /// The number that stands for a term, a type or a function. What is inside it gets numbers before it.
@@ -29,6 +29,22 @@ impl Interner {
             Subject::Type(ty) => self.intern_type(ty),
             Subject::Function(function) => self.intern_function(function),
         }
+    }
+
+    /// The numbers that stand for terms, in order.
+    ///
+    /// # Errors
+    /// Those of `intern`.
+    pub fn intern_terms(&mut self, terms: &[Term]) -> Result<Vec<NodeId>, TermError>
+        ensures meanings { IfOk result (λ ids. StandFor self.new ids.items (map plain_term terms.now)) }
+        ensures kept { KeepsMeanings self.old self.new }
+    {
+        let mut ids = Vec::with_capacity(self.alloc, terms.len())?;
+        for term in terms {
+            let id = self.intern(term)?;
+            ids.push(id)?;
+        }
+        Ok(ids)
     }
 
     /// The number that stands for a term. Its type and its parts get numbers before it.

@@ -24,7 +24,7 @@ use Rattle.smt_leaves.proofs.LastPairs.{last_pairs}
 use Rattle.smt_term.specs.View.{plain_field, plain_fields, plain_term, plain_term-Record, record_fields}
 use Rattle.smt_term.specs.declared.maps.TermMap.{TermMap}
 use Rattle.smt_term.specs.declared.term.Term.{Term, Record}
-use Rattle.smt_term.proofs.RecordTypes.{attribute_found}
+use Rattle.smt_types.proofs.RecordTypes.{attribute_found}
 
 -- ---- the record of pairs
 

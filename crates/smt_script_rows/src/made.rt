@@ -2,8 +2,9 @@
 
 use anyhow::{Context, Result, bail};
 use smt_factory::{and, app, bvlshr, bvslt, eq, extension, record_get, set_member, string_like};
-use smt_term::{Term, UnaryFunction};
-use smt_words::{extension_operator, function, one, pattern, text};
+use smt_functions::UnaryFunction;
+use smt_term::{ExtOp, Term};
+use smt_words::{function, one, pattern, text};
 use std::alloc::Global;
 use std::rc::Rc;
 
@@ -17,7 +18,7 @@ pub(crate) fn made(alloc: Global, terms: &mut Vec<Term>, spelling: &str) -> Resu
             Ok(app(alloc, function, last)?)
         }
         "extension" => {
-            let op = extension_operator(held).context("no operator has this name")?;
+            let op = ExtOp::of_name(held).context("no operator has this name")?;
             Ok(extension(alloc, op, last)?)
         }
         "record_get" => Ok(record_get(alloc, last, &text(alloc, held)?)?),

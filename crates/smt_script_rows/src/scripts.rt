@@ -1,14 +1,12 @@
 //! Scripts of rows, by their terms and by numbers that stand for these.
-ghost use Rattle.std.specs.Prelude.{◌≡◌, ◌<◌, IfOk, map};
-ghost use Rattle.smt_nodes.specs.Interned.{StandFor};
-ghost use Rattle.smt_term.specs.View.{plain_term};
+ghost use Rattle.std.specs.Prelude.{◌≡◌, ◌<◌};
 
 use crate::words::Row;
 use anyhow::Result;
 use smt_encode::{EncodeError, Encoder, Steps};
-use smt_nodes::{Interner, NodeId};
+use smt_nodes::Interner;
 use smt_script::ListSink;
-use smt_term::{Term, TermError, TermType};
+use smt_term::TermType;
 use smt_text::quote_id;
 use smt_words::spelling_of;
 use std::alloc::Global;
@@ -37,18 +35,6 @@ fn by_terms(alloc: Global, row: &Row) -> Script {
     }
 }
 
-/// The numbers that stand for terms, in order.
-fn numbers_of(alloc: Global, nodes: &mut Interner, terms: &[Term]) -> Result<Vec<NodeId>, TermError>
-    ensures { IfOk result (λ ids. StandFor nodes.new ids.items (map plain_term terms.now)) }
-{
-    let mut ids = Vec::new(alloc);
-    for term in terms {
-        let id = nodes.intern(term)?;
-        ids.push(id)?;
-    }
-    Ok(ids)
-}
-
 /// The same by numbers, with the look-ups counted by a ledger of its own. The terms are entered from the last one to the
 /// first before their numbers are taken, so that the numbers are in another order than by `encode`.
 fn by_numbers<L: Ledger>(alloc: Global, row: &Row, blank: Blank) -> Result<Script>
@@ -60,7 +46,7 @@ fn by_numbers<L: Ledger>(alloc: Global, row: &Row, blank: Blank) -> Result<Scrip
     for term in row.terms.as_slice().iter().rev() {
         nodes.intern(term)?;
     }
-    let ids = numbers_of(alloc, &mut nodes, row.terms.as_slice())?;
+    let ids = nodes.intern_terms(row.terms.as_slice())?;
     let mut encoder = Encoder::with_nodes(alloc, &row.enums, nodes, ListSink::new(alloc));
     let mut steps = Steps::<L>::new(blank);
     let outcome = encoder.encode_nodes(ids.as_slice(), &mut steps);

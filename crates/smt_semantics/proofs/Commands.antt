@@ -1,5 +1,6 @@
 -- Expressions state one list of commands, so a script comes to one state.
 use Rattle.std.proofs.Common.{ap₂, ◌≡◌, ℕ, List, [], ◌∷◌, ◌++◌, refl, sym, ap, ◌∙◌, map}
+use Rattle.std.proofs.lemmas.Bool.{eq-eqb, false≢true}
 use Rattle.std.proofs.lemmas.List.{append_cancel_left}
 use Rattle.std.specs.Prelude.{codes, bytes_eq, cond}
 use Rattle.smt_lexicon.specs.Reading.{Expression, expressions}
@@ -46,7 +47,7 @@ one_datatype (p ∷ ps) (q ∷ qs) cs ds h =
     let f : expressions (map constructor cs) ≡ expressions (map constructor ds) = cc in
     (one_map name one_name (p ∷ ps) (q ∷ qs) (one_group (map name (p ∷ ps)) (map name (q ∷ qs)) e), one_map constructor one_constructor cs ds (one_group (map constructor cs) (map constructor ds) f))
 
-abbrev number : Command → ℕ
+abbrev pub number : Command → ℕ
 number (DeclareDatatype d ps cs) = 0
 number (DeclareConst c sort) = 1
 number (DefineFun f sort body) = 2
@@ -61,10 +62,10 @@ number Exit = 10
 number Push = 11
 number Pop = 12
 
-abbrev number_from : List ℕ → ℕ
+abbrev pub number_from : List ℕ → ℕ
 number_from word = cond (bytes_eq word (codes "declare-datatype")) 0 (cond (bytes_eq word (codes "declare-const")) 1 (cond (bytes_eq word (codes "define-fun")) 2 (cond (bytes_eq word (codes "assert")) 3 (cond (bytes_eq word (codes "declare-fun")) 4 (cond (bytes_eq word (codes "set-logic")) 5 (cond (bytes_eq word (codes "set-option")) 6 (cond (bytes_eq word (codes "check-sat")) 7 (cond (bytes_eq word (codes "get-model")) 8 (cond (bytes_eq word (codes "reset")) 9 (cond (bytes_eq word (codes "exit")) 10 (cond (bytes_eq word (codes "push")) 11 12)))))))))))
 
-number_is : (c : Command) → number_from (keyword c) ≡ number c
+pub number_is : (c : Command) → number_from (keyword c) ≡ number c
 number_is (DeclareDatatype d ps cs) = refl
 number_is (DeclareConst c sort) = refl
 number_is (DefineFun f sort body) = refl
@@ -100,9 +101,9 @@ same_operands Reset Reset n h = refl
 same_operands Exit Exit n h = refl
 same_operands Push Push n h = refl
 same_operands Pop Pop n h = refl
-same_operands c d n h = absurd cc
+same_operands c d n h = absurd (false≢true (eq-eqb (number c) (number d) n))
 
-group_is : (m n : List ℕ) (es fs : List Expression) → group (name m ∷ es) ≡ group (name n ∷ fs) → (m ≡ n) × (es ≡ fs)
+pub group_is : (m n : List ℕ) (es fs : List Expression) → group (name m ∷ es) ≡ group (name n ∷ fs) → (m ≡ n) × (es ≡ fs)
 group_is m n es fs h = (cc, one_group es fs cc)
 
 one_statement : (c d : Command) → stated c ≡ stated d → c ≡ d

@@ -2,17 +2,18 @@
 use Rattle.std.proofs.Common.{◌≡◌, ℕ, List, [], ◌∷◌, ◌++◌, refl, sym, ap, ◌∙◌, map, Some, None}
 use Rattle.std.specs.Prelude.{codes}
 use Rattle.std.specs.List.{flat_map}
-use Rattle.std.proofs.lemmas.Bool.{false≢true}
+use Rattle.std.proofs.lemmas.Bool.{eq-eqb, false≢true}
 use Rattle.std.specs.Str.{is_utf8, chars}
 use Rattle.std.specs.Char.{encode_utf8}
 use Rattle.smt_lexicon.specs.Lexicon.{Comment, Open, Close, Quoted, Space, Symbol, Text, Token, Begin, End, tokens}
 use Rattle.smt_lexicon.specs.Reading.{Expression, Leaf, Node, Reads, brackets, inside}
-use Rattle.smt_semantics.specs.Script.{State, Command, DeclareDatatype, DeclareConst, DefineFun, Assert, DeclareFun, SetLogic, SetOption, CheckSat, GetModel, Reset, Exit, Push, Pop, constructor, start, step, name, group, stated, is_keyword}
+use Rattle.smt_semantics.specs.Script.{State, Command, DeclareDatatype, DeclareConst, DefineFun, Assert, DeclareFun, SetLogic, SetOption, CheckSat, GetModel, Reset, Exit, Push, Pop, constructor, start, step, name, group, stated, keyword, operands, is_keyword}
 use Rattle.smt_semantics.specs.Written.{IsLine, ReadsAs}
 use Rattle.smt_semantics.specs.CommandLines.{ConstructorPart}
 use Rattle.smt_semantics.specs.NoScripts.{IsNoScript, IsScript, NoScripts, NoCommands, WholeTexts, bare}
 use Rattle.smt_lexicon.proofs.Trees.{one_reading}
 use Rattle.smt_lexicon.proofs.Unique.{one_cut}
+use Rattle.smt_semantics.proofs.Commands.{group_is, number, number_from, number_is}
 use Rattle.smt_semantics.proofs.Lines.{lines_add, names_write, commands_are_lines}
 use Rattle.smt_semantics.proofs.First.{declare_const_line, assert_line}
 use Rattle.smt_semantics.proofs.Going.{part, begins}
@@ -106,20 +107,12 @@ parameters_line p q v w = commands_are_lines (codes "(declare-datatype d " ++ (p
 abbrev set_no_option : Expression
 set_no_option = group (name (codes "set-option") ∷ name (codes "produce-models") ∷ name (codes "true") ∷ [])
 
+head_of_option : (c : Command) → stated c ≡ set_no_option → number c ≡ 6
+head_of_option c h = sym (number_is c) ∙ ap number_from (group_is (keyword c) (codes "set-option") (operands c) (name (codes "produce-models") ∷ name (codes "true") ∷ []) h).0
+
 no_option : (c : Command) → stated c ≡ set_no_option → ⊥
-no_option (DeclareDatatype d ps cs) h = cc
-no_option (DeclareConst n sort) h = cc
-no_option (DefineFun n sort body) h = cc
-no_option (Assert e) h = cc
-no_option (DeclareFun f a sort) h = cc
-no_option (SetLogic l) h = cc
 no_option (SetOption o v) h = let e : codes ":" ++ o ≡ codes "produce-models" = cc in false≢true (sym (ap is_keyword e))
-no_option CheckSat h = cc
-no_option GetModel h = cc
-no_option Reset h = cc
-no_option Exit h = cc
-no_option Push h = cc
-no_option Pop h = cc
+no_option c h = false≢true (eq-eqb (number c) 6 (head_of_option c h))
 
 option_reads : Reads (codes "(set-option produce-models true)\n") (set_no_option ∷ [])
 unfolding is_utf8 chars encode_utf8

@@ -9,7 +9,7 @@ use Rattle.smt_meaning.specs.Plain.{PlainType, EntityType, StringType, SetType, 
 use Rattle.smt_meaning.specs.TermOrder.{term_cmp}
 use Rattle.smt_meaning.specs.TermSets.{set_term}
 use Rattle.smt_meaning.specs.ValueOrder.{text_cmp}
-use Rattle.smt_term.specs.TypeKinds.{tag_type}
+use Rattle.smt_types.specs.TypeKinds.{tag_type}
 use Rattle.smt_cedar_types.specs.Cedar.{PlainCedar, ClosedRecordType, CedarAttributes}
 use Rattle.smt_cedar_types.specs.TypeOfCedar.{type_of_cedar}
 use Rattle.smt_cedar_values.specs.Plain.{PlainValue, RecordValue, record_fields}

@@ -18,7 +18,7 @@ use Rattle.smt_symbolizer.specs.Named.{named, said}
 use Rattle.smt_symbolizer.specs.Stored.{data_of, keys_of_tags, tags_held_of}
 use Rattle.smt_symbolizer.specs.View.{plain_data}
 use Rattle.smt_symbolizer.specs.declared.entity_data.SymEntityData.{SymEntityData}
-use Rattle.smt_term.specs.TypeKinds.{tag_type}
+use Rattle.smt_types.specs.TypeKinds.{tag_type}
 use Rattle.smt_values.specs.Outcomes.{Outcome, ◌>>=◌, converted, each}
 
 abbrev tags_with : (keys tag_values : PlainUnary) → PlainTags

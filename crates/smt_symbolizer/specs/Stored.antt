@@ -6,7 +6,7 @@ use Rattle.smt_leaves.specs.TextSets.{sorted_texts}
 use Rattle.smt_meaning.specs.Functions.{PlainUnary}
 use Rattle.smt_meaning.specs.Plain.{PlainType, EntityType, RecordType, SetType, StringType, no_attributes, PlainTerm}
 use Rattle.smt_meaning.specs.ValueOrder.{text_cmp}
-use Rattle.smt_term.specs.TypeKinds.{tag_type}
+use Rattle.smt_types.specs.TypeKinds.{tag_type}
 use Rattle.smt_cedar_types.specs.Cedar.{PlainCedar, ClosedRecordType, CedarAttributes}
 use Rattle.smt_cedar_types.specs.TypeOfCedar.{type_of_cedar}
 use Rattle.smt_cedar_stores.specs.Plain.{PlainEntity, PlainAction}

@@ -1,7 +1,7 @@
 -- The plain form of symbolic environments: what they say, without where it lies in memory.
 use Rattle.std.specs.Prelude.{option_map}
 use Rattle.smt_leaves.specs.TextSets.{texts_of}
-use Rattle.smt_term.specs.Functions.{plain_unary}
+use Rattle.smt_functions.specs.Functions.{plain_unary}
 use Rattle.smt_term.specs.View.{plain_term}
 use Rattle.smt_symbolic_environments.specs.Plain.{PlainTags, PlainData, PlainEntities, PlainSymbolicRequest, PlainSymbolicEnvironment}
 use Rattle.smt_symbolizer.specs.ByType.{said_by}

@@ -2,6 +2,8 @@
 ghost use Rattle.std.specs.Prelude.{◌≡◌, IfOk, map, option_map};
 ghost use Rattle.smt_cedar_stores.specs.View.{entry_named, plain_action, plain_entry, plain_schema, plain_stored, plain_types};
 ghost use Rattle.smt_cedar_types.specs.View.{plain_cedar, plain_cedar_attributes};
+ghost use Rattle.smt_functions.specs.Functions.{plain_unary};
+ghost use Rattle.smt_functions.specs.Tables.{plain_entry as plain_pair};
 ghost use Rattle.smt_leaves.specs.Entities.{bytes_of_type};
 ghost use Rattle.smt_leaves.specs.Enums.{enums_of};
 ghost use Rattle.smt_leaves.specs.TextSets.{texts_of};
@@ -10,8 +12,6 @@ ghost use Rattle.smt_symbolic_environments.specs.Tables.{stored_of};
 ghost use Rattle.smt_symbolizer.specs.Named.{said};
 ghost use Rattle.smt_symbolizer.specs.Stored as held;
 ghost use Rattle.smt_symbolizer.specs.View.{plain_data, plain_entities, plain_tags};
-ghost use Rattle.smt_term.specs.Functions.{plain_unary};
-ghost use Rattle.smt_term.specs.Maps.{plain_entry as plain_pair};
 ghost use Rattle.smt_values.specs.DefaultTerm.{default_term};
 ghost use Rattle.smt_values.specs.Outcomes.{each};
 ghost use Rattle.smt_values.specs.Refused.{IsGiven};
@@ -22,8 +22,9 @@ use crate::schema_types::{action_ids, action_types, actions_of, own_types};
 use crate::tables::{ancestors_tables, attributes_table, table_of, table_of_sets, tags_tables};
 use smt_cedar_stores::{ActionEntry, Entity, EntityEntry, Schema};
 use smt_cedar_types::{Attributes, CedarType, EntityTypeList};
+use smt_functions::UnaryFunction;
 use smt_leaves::{EntityType, EnumTable, TermError, TextSet};
-use smt_term::{Term, TermType, TypeMap, UnaryFunction};
+use smt_term::{Term, TermType, TypeMap};
 use smt_values::SymbolizeError;
 use std::alloc::{AllocError, Global};
 

@@ -1,7 +1,7 @@
 // What there is to say of entities.
 use crate::by_type::ByType;
+use smt_functions::UnaryFunction;
 use smt_leaves::TextSet;
-use smt_term::UnaryFunction;
 
 /// What there is to say of the tags of the entities of a type.
 #[derive(Debug, PartialEq, Eq, Drop)]

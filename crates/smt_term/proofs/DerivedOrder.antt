@@ -1,5 +1,4 @@
--- The derived orders of types, operators, literals, terms, and of variables and lists of terms are the orders of what they
--- say.
+-- The derived orders of operators, literals, terms, and of variables and lists of terms are the orders of what they say.
 use Rattle.std.proofs.Common.{◌≡◌, ℕ, List, [], ◌∷◌, map, refl, ap, ◌∙◌}
 use Rattle.std.specs.List.{zip}
 use Rattle.std.specs.Rc.{rc_str_bytes}
@@ -7,7 +6,6 @@ use Rattle.std.specs.Ordering.{ordering_then}
 use Rattle.std.specs.Cmp.Lexicographic.{slice_cmp}
 use Rattle.std.specs.declared.alloc.Global.{Global}
 use Rattle.std.specs.declared.rc.Rc.{Rc}
-use Rattle.std.specs.declared.rc.RcStr.{RcStr}
 use Rattle.std.specs.declared.cmp.Ordering.{Ordering}
 use Rattle.std.specs.declared.cmp.Ordering.TheVariants.{Equal}
 use Rattle.std.specs.formers.vec.Vec as vec
@@ -16,22 +14,20 @@ use denote.Hole.Carrier.{shown}
 use denote.Hole.Compared
 use mathlib.Core.Former
 use Rattle.smt_term.proofs.ExtensionValues.{ext_cmp-is}
-use Rattle.smt_leaves.proofs.ExtensionOrder.{extension_op_cmp-is, kind_cmp-is}
+use Rattle.smt_types.proofs.DerivedOrder.{derived_type_cmp, type_cmp-is}
+use Rattle.smt_types.proofs.NamedPairs.{by_names, by_pairs, pairs-zipped, values}
+use Rattle.smt_leaves.proofs.ExtensionOrder.{extension_op_cmp-is}
 use Rattle.smt_leaves.proofs.PatternOrder.{pattern_cmp-is}
 use Rattle.smt_term.specs.Program.{FunctionsCompareAsPlain, ListsCompareAsPlain, SetsCompareAsPlain, VariablesCompareAsPlain}
 use Rattle.smt_meaning.specs.TermOrder.{fields_cmp, op_cmp, literal_cmp, term_cmp, terms_cmp}
-use Rattle.smt_meaning.specs.Types.{attribute_types_cmp, type_cmp}
+use Rattle.smt_meaning.specs.Types.{type_cmp}
 use Rattle.smt_meaning.specs.ValueOrder.{text_cmp}
 use Rattle.smt_leaves.specs.Pairs.{attributes_in, pairs_of}
 use Rattle.smt_leaves.specs.formers.pairs.AttributePairs as pairs
 use Rattle.smt_leaves.specs.formers.pairs.AttributePairs.{attributes-got}
 use Rattle.smt_term.specs.declared.maps.TermMap.{TermMap}
-use Rattle.smt_term.specs.declared.maps.TypeMap.{TypeMap}
-use Rattle.smt_term.specs.declared.types.TermType.TheBlock as type_block
-use Rattle.smt_term.specs.View.{attributes_of, plain_type, plain_types, plain_op, plain_literal, plain_named, plain_term, plain_row}
-use Rattle.smt_term.specs.declared.types.TermType.{TermType, Option', Bitvec, Bool, Entity, Ext, String, Record' as RecordOf', Set' as SetOf', Row_of-TermType, end_of-TermType, more_of-TermType, items-the_row-TermType, items_shown-the_row-TermType-0, view-the_row-TermType}
-use Rattle.smt_term.specs.declared.types.TermType.TheViews as type_views
-use Rattle.smt_term.specs.contracts.types.TermTypeOrd.TheImpl.Laws as type_laws
+use Rattle.smt_term.specs.View.{attributes_of, plain_type, plain_op, plain_literal, plain_named, plain_term, plain_row}
+use Rattle.smt_types.specs.declared.types.TermType.{TermType}
 use Rattle.smt_term.specs.declared.op.Op.{Op}
 use Rattle.smt_term.specs.declared.op.Op.TheVariants.{And, Ext as ExtensionOf, StringLike, Uuf}
 use Rattle.smt_term.specs.declared.term.TermPrim.{TermPrim}
@@ -41,101 +37,14 @@ use Rattle.smt_term.specs.declared.term.Term.TheViews as views
 use Rattle.smt_term.specs.declared.term.Term.TheBlock as block
 use Rattle.smt_term.specs.declared.term.TermSet.{TermSet}
 use Rattle.smt_term.specs.declared.term.TermList.{TermList, items-the_row-Term, items_shown-the_row-Term-0, items_shown-the_row-Term-1, view-the_row-Term}
-use Rattle.smt_term.specs.contracts.types.TermTypeOrd.TheImpl as type_ord
 use Rattle.smt_term.specs.contracts.op.OpOrd.TheImpl as op_ord
 use Rattle.smt_term.specs.contracts.term.TermPrimOrd.TheImpl as literal_ord
 use Rattle.smt_term.specs.contracts.term.TermOrd.TheImpl as term_ord
 use Rattle.smt_term.specs.contracts.term.TermOrd.TheImpl.Laws as term_laws
 
--- the derived orders
-abbrev pub derived_type_cmp : TermType → TermType → Ordering
-derived_type_cmp = type_ord.ghosts.cmp
-
+-- the derived order
 abbrev pub derived_term_cmp : Term → Term → Ordering
 derived_term_cmp = term_ord.ghosts.cmp
-
--- pairs by their attributes, and of one attribute by their values
-abbrev by_pairs : {X : Type 0} → (X → X → Ordering) → RcStr Global × X → RcStr Global × X → Ordering
-by_pairs cmp p q = ordering_then (text_cmp (rc_str_bytes p.0) (rc_str_bytes q.0)) (cmp p.1 q.1)
-
-abbrev by_names : {X : Type 0} → (X → X → Ordering) → List ℕ × X → List ℕ × X → Ordering
-by_names cmp p q = ordering_then (text_cmp p.0 q.0) (cmp p.1 q.1)
-
-abbrev values : {X : Type 0} → List (RcStr Global × X) → List X
-values ps = map (λ p. p.1) ps
-
-pairs-zipped : {X : Type 0} (cmp : X → X → Ordering) (ps qs : List (RcStr Global × X)) → slice_cmp (by_pairs cmp) ps qs ≡ slice_cmp (by_names cmp) (zip (attributes_in ps) (values ps)) (zip (attributes_in qs) (values qs))
-pairs-zipped cmp [] [] = refl
-pairs-zipped cmp [] (q ∷ qs) = refl
-pairs-zipped cmp (p ∷ ps) [] = refl
-pairs-zipped cmp (p ∷ ps) (q ∷ qs) = ap (λ o. ordering_then (by_pairs cmp p q) o) (pairs-zipped cmp ps qs)
-
--- the order of maps of types, as the derived order of types has it
-abbrev map_family : TypeMap → TypeMap → Ordering
-map_family = type_laws.family type_block.member-TypeMap
-
-map_family-is : (x y : TypeMap) → map_family x y ≡ slice_cmp (by_pairs derived_type_cmp) x.pairs.items.value.items y.pairs.items.value.items
-unfolding Carrier.out
-map_family-is x y =
-    Compared.compared_is type_block.the_members (Carrier.Values type_block.the_members type_block.the_sigs type_block.the_carrier) type_block.the_depth Ordering Equal type_ord.the_step type_laws.local type_block.member-TypeMap x y
-
--- a map of types, taken apart into its attributes and its types
-abbrev MapShape : Type 0
-MapShape = (pairs.the_former (Former.this {0})).Shape
-
-abbrev MapRow : MapShape → Type 0
-MapRow sh = Row_of-TermType (Former.arity (pairs.the_former (Former.this {0})) sh)
-
-abbrev map_made : (sh : MapShape) (row : MapRow sh) → TypeMap
-map_made sh row = record { pairs = type_block.shown-the_row-TermType-0 sh row }
-
-names-made : (sh : MapShape) (row : MapRow sh) → attributes_in (map_made sh row).pairs.items.value.items ≡ attributes_of sh
-unfolding type_block.shown-the_row-TermType-0 shown
-names-made sh row = attributes-got (Former.this {0}) TermType (pairs_of sh) Former.none_left (view-the_row-TermType _ row)
-
-abbrev named : {m : _} → List (List ℕ) → Row_of-TermType m → List (List ℕ × TermType)
-named ns row = zip ns (items-the_row-TermType _ row)
-
-zipped-made : (sh : MapShape) (row : MapRow sh) → zip (attributes_in (map_made sh row).pairs.items.value.items) (values (map_made sh row).pairs.items.value.items) ≡ named (attributes_of sh) row
-zipped-made sh row = ap (λ ns. zip ns (values (map_made sh row).pairs.items.value.items)) (names-made sh row) ∙ ap (λ ts. zip (attributes_of sh) ts) (items_shown-the_row-TermType-0 sh row)
-
-map_made-is : (sh : MapShape) (row : MapRow sh) (sh' : MapShape) (row' : MapRow sh') → map_family (map_made sh row) (map_made sh' row') ≡ slice_cmp (by_names derived_type_cmp) (named (attributes_of sh) row) (named (attributes_of sh') row')
-map_made-is sh row sh' row' =
-    let xs = (map_made sh row).pairs.items.value.items in
-    let ys = (map_made sh' row').pairs.items.value.items in
-    map_family-is (map_made sh row) (map_made sh' row') ∙ (pairs-zipped derived_type_cmp xs ys ∙ (ap (λ l. slice_cmp (by_names derived_type_cmp) l (zip (attributes_in ys) (values ys))) (zipped-made sh row) ∙ ap (λ l. slice_cmp (by_names derived_type_cmp) (named (attributes_of sh) row) l) (zipped-made sh' row')))
-
-cmp-Record : (sh : MapShape) (row : MapRow sh) (sh' : MapShape) (row' : MapRow sh') → derived_type_cmp (RecordOf' sh row) (RecordOf' sh' row') ≡ map_family (map_made sh row) (map_made sh' row')
-unfolding type_views.out-TermType Carrier.out
-cmp-Record sh row sh' row' = type_laws.is (RecordOf' sh row) (RecordOf' sh' row')
-
-mutual
-  unfolding plain_type plain_types type_views.out-TermType Carrier.out
-
-  -- the derived order of types is the order of what they say
-  pub type_cmp-is : (a b : TermType) → derived_type_cmp a b ≡ type_cmp (plain_type a) (plain_type b)
-  type_cmp-is (Option' p t) (Option' q u) = type_laws.is (Option' p t) (Option' q u) ∙ type_cmp-is t u
-  type_cmp-is (Bitvec n) (Bitvec m) = type_laws.is (Bitvec n) (Bitvec m)
-  type_cmp-is Bool Bool = type_laws.is Bool Bool
-  type_cmp-is (Entity e) (Entity f) = type_laws.is (Entity e) (Entity f)
-  type_cmp-is (Ext k) (Ext l) = type_laws.is (Ext k) (Ext l) ∙ kind_cmp-is k l
-  type_cmp-is String String = type_laws.is String String
-  type_cmp-is (RecordOf' sh row) (RecordOf' sh' row') = cmp-Record sh row sh' row' ∙ (map_made-is sh row sh' row' ∙ types_cmp-is (attributes_of sh) (attributes_of sh') row row')
-  type_cmp-is (SetOf' p t) (SetOf' q u) = type_laws.is (SetOf' p t) (SetOf' q u) ∙ type_cmp-is t u
-  type_cmp-is a b = type_laws.is a b
-
-  types_cmp-is : {m n : _} (ns ks : List (List ℕ)) (r : Row_of-TermType m) (s : Row_of-TermType n) → slice_cmp (by_names derived_type_cmp) (named ns r) (named ks s) ≡ attribute_types_cmp (plain_types ns r) (plain_types ks s)
-  types_cmp-is [] [] r s = refl
-  types_cmp-is [] (k ∷ ks) r end_of-TermType = refl
-  types_cmp-is [] (k ∷ ks) r (more_of-TermType u s) = refl
-  types_cmp-is (n ∷ ns) [] end_of-TermType s = refl
-  types_cmp-is (n ∷ ns) [] (more_of-TermType t r) s = refl
-  types_cmp-is (n ∷ ns) (k ∷ ks) end_of-TermType end_of-TermType = refl
-  types_cmp-is (n ∷ ns) (k ∷ ks) end_of-TermType (more_of-TermType u s) = refl
-  types_cmp-is (n ∷ ns) (k ∷ ks) (more_of-TermType t r) end_of-TermType = refl
-  types_cmp-is (n ∷ ns) (k ∷ ks) (more_of-TermType t r) (more_of-TermType u s) =
-      ap (λ o. ordering_then (ordering_then (text_cmp n k) o) (slice_cmp (by_names derived_type_cmp) (named ns r) (named ks s))) (type_cmp-is t u)
-      ∙ ap (λ o. ordering_then (ordering_then (text_cmp n k) (type_cmp (plain_type t) (plain_type u))) o) (types_cmp-is ns ks r s)
 
 pub function_cmp-is : FunctionsCompareAsPlain
 function_cmp-is f g =
@@ -216,29 +125,32 @@ unfolding Carrier.out
 record_family-is x y =
     Compared.compared_is block.the_members (Carrier.Values block.the_members block.the_sigs block.the_carrier) block.the_depth Ordering Equal term_ord.the_step term_laws.local block.member-TermMap x y
 
-abbrev RecordRow : MapShape → Type 0
+abbrev RecordShape : Type 0
+RecordShape = (pairs.the_former (Former.this {0})).Shape
+
+abbrev RecordRow : RecordShape → Type 0
 RecordRow sh = Row_of-Term (Former.arity (pairs.the_former (Former.this {0})) sh)
 
-abbrev record_made : (sh : MapShape) (row : RecordRow sh) → TermMap
+abbrev record_made : (sh : RecordShape) (row : RecordRow sh) → TermMap
 record_made sh row = record { pairs = block.shown-the_row-Term-1 sh row }
 
-record-names : (sh : MapShape) (row : RecordRow sh) → attributes_in (record_made sh row).pairs.items.value.items ≡ attributes_of sh
+record-names : (sh : RecordShape) (row : RecordRow sh) → attributes_in (record_made sh row).pairs.items.value.items ≡ attributes_of sh
 unfolding block.shown-the_row-Term-1 shown
 record-names sh row = attributes-got (Former.this {0}) Term (pairs_of sh) Former.none_left (view-the_row-Term _ row)
 
 abbrev named_terms : {m : _} → List (List ℕ) → Row_of-Term m → List (List ℕ × Term)
 named_terms ns row = zip ns (items-the_row-Term _ row)
 
-record-zipped : (sh : MapShape) (row : RecordRow sh) → zip (attributes_in (record_made sh row).pairs.items.value.items) (values (record_made sh row).pairs.items.value.items) ≡ named_terms (attributes_of sh) row
+record-zipped : (sh : RecordShape) (row : RecordRow sh) → zip (attributes_in (record_made sh row).pairs.items.value.items) (values (record_made sh row).pairs.items.value.items) ≡ named_terms (attributes_of sh) row
 record-zipped sh row = ap (λ ns. zip ns (values (record_made sh row).pairs.items.value.items)) (record-names sh row) ∙ ap (λ ts. zip (attributes_of sh) ts) (items_shown-the_row-Term-1 sh row)
 
-record_made-is : (sh : MapShape) (row : RecordRow sh) (sh' : MapShape) (row' : RecordRow sh') → record_family (record_made sh row) (record_made sh' row') ≡ slice_cmp (by_names derived_term_cmp) (named_terms (attributes_of sh) row) (named_terms (attributes_of sh') row')
+record_made-is : (sh : RecordShape) (row : RecordRow sh) (sh' : RecordShape) (row' : RecordRow sh') → record_family (record_made sh row) (record_made sh' row') ≡ slice_cmp (by_names derived_term_cmp) (named_terms (attributes_of sh) row) (named_terms (attributes_of sh') row')
 record_made-is sh row sh' row' =
     let xs = (record_made sh row).pairs.items.value.items in
     let ys = (record_made sh' row').pairs.items.value.items in
     record_family-is (record_made sh row) (record_made sh' row') ∙ (pairs-zipped derived_term_cmp xs ys ∙ (ap (λ l. slice_cmp (by_names derived_term_cmp) l (zip (attributes_in ys) (values ys))) (record-zipped sh row) ∙ ap (λ l. slice_cmp (by_names derived_term_cmp) (named_terms (attributes_of sh) row) l) (record-zipped sh' row')))
 
-cmp-Fields : (sh : MapShape) (row : RecordRow sh) (sh' : MapShape) (row' : RecordRow sh') → derived_term_cmp (Record' sh row) (Record' sh' row') ≡ record_family (record_made sh row) (record_made sh' row')
+cmp-Fields : (sh : RecordShape) (row : RecordRow sh) (sh' : RecordShape) (row' : RecordRow sh') → derived_term_cmp (Record' sh row) (Record' sh' row') ≡ record_family (record_made sh row) (record_made sh' row')
 unfolding views.out-Term Carrier.out
 cmp-Fields sh row sh' row' = term_laws.is (Record' sh row) (Record' sh' row')
 

@@ -5,30 +5,23 @@ use Rattle.std.specs.Cmp.Derive.{both_true}
 use Rattle.std.specs.List.{AllByRecursion}
 use Rattle.std.proofs.lemmas.Str.{IsUtf8-string_bytes}
 use Rattle.smt_meaning.specs.Formed.{attribute_names, IsFormed, IsFormedHere, IsFormedLiteral, IsFormedNode, IsFormedType}
-use Rattle.smt_meaning.specs.Plain.{PlainType, OptionType, SetType, PlainTerm, Application, NoneTerm, LiteralTerm, RecordTerm, SetTerm, SomeTerm, VariableTerm}
+use Rattle.smt_meaning.specs.Plain.{PlainTerm, Application, NoneTerm, LiteralTerm, RecordTerm, SetTerm, SomeTerm, VariableTerm}
 use Rattle.smt_term.specs.Program.{TermsAreFormed}
 use Rattle.smt_meaning.specs.Reached.{subterms, subterms_of_all, subterms_of_fields, types_within, types_within_attributes}
 use Rattle.smt_meaning.specs.Types.{field_types, literal_type, type_of}
 use Rattle.smt_meaning.specs.ValueOrder.{ascends, is_below, text_cmp}
-use Rattle.smt_term.specs.View.{attributes_of, plain_literal, plain_named, plain_row, plain_term, plain_type, plain_types}
+use Rattle.smt_term.specs.View.{attributes_of, plain_literal, plain_named, plain_row, plain_term, plain_type}
 use Rattle.smt_term.specs.declared.term.Term.{Term, App', None, Prim, Record', Set', Some', Var, Row_of-Term, end_of-Term, more_of-Term}
 use Rattle.smt_term.specs.declared.term.TermPrim.{TermPrim}
 use Rattle.smt_term.specs.declared.term.TermPrim.TheVariants.{Bitvec as BitsLiteral, Bool as TruthLiteral, Entity as EntityOf, Ext as ValueOf, String as TextLiteral}
-use Rattle.smt_term.specs.declared.types.TermType.{TermType, Option', Bitvec, Bool, Entity, Ext, String, Record' as RecordOf', Set' as SetOf', Row_of-TermType, end_of-TermType, more_of-TermType}
 use Rattle.smt_term.proofs.ExtensionValues.{formed_value}
+use Rattle.smt_types.proofs.FormedTypes.{formed_option, formed_set, formed_type}
 use Rattle.smt_meaning.proofs.Defaults.{all-join}
 use Rattle.smt_meaning.proofs.Soundness.{all-last}
 
 -- a term by itself and its type are formed
 abbrev pub IsFormedBoth : PlainTerm → Type 0
 IsFormedBoth t = IsFormedNode t × IsFormedType (type_of t)
-
--- options and sets of a formed type are formed
-pub formed_option : (t : PlainType) → IsFormedType t → IsFormedType (OptionType t)
-formed_option t h = all-join IsFormedHere (types_within t) _ h (tt, tt)
-
-pub formed_set : (t : PlainType) → IsFormedType t → IsFormedType (SetType t)
-formed_set t h = all-join IsFormedHere (types_within t) _ h (tt, tt)
 
 -- a term is the last of its subterms
 own : (t : PlainTerm) → AllByRecursion IsFormedBoth (subterms t) → IsFormedType (type_of t)
@@ -40,38 +33,6 @@ own (SetTerm t ts) h = (all-last IsFormedBoth (subterms_of_all ts) (SetTerm t ts
 own (SomeTerm t) h = (all-last IsFormedBoth (subterms t) (SomeTerm t) h).1
 own (VariableTerm id t) h = h.0.1
 
--- where attributes ascend, those of the types beside them do
-below_first : {m : _} (n : List ℕ) (ns : List (List ℕ)) (row : Row_of-TermType m) → IsTrue (is_below text_cmp n ns) → IsTrue (is_below text_cmp n (attribute_names (plain_types ns row)))
-unfolding plain_types
-below_first n [] row h = refl
-below_first n (k ∷ ks) end_of-TermType h = refl
-below_first n (k ∷ ks) (more_of-TermType t rest) h = h
-
-attributes_ascend : {m : _} (ns : List (List ℕ)) (row : Row_of-TermType m) → IsTrue (ascends text_cmp ns) → IsTrue (ascends text_cmp (attribute_names (plain_types ns row)))
-unfolding plain_types
-attributes_ascend [] row h = refl
-attributes_ascend (n ∷ ns) end_of-TermType h = refl
-attributes_ascend (n ∷ ns) (more_of-TermType t rest) h =
-    both_true (below_first n ns rest (first_so (is_below text_cmp n ns) (ascends text_cmp ns) h)) (attributes_ascend ns rest (second_so (is_below text_cmp n ns) (ascends text_cmp ns) h))
-
-mutual
-  unfolding plain_type plain_types
-
-  formed_type : (t : TermType) → IsFormedType (plain_type t)
-  formed_type (Option' p t) = formed_option (plain_type t) (formed_type t)
-  formed_type (Bitvec n) = ((n.at_least_one, n.at_most_128), tt)
-  formed_type Bool = (tt, tt)
-  formed_type (Entity e) = (tt, tt)
-  formed_type (Ext k) = (tt, tt)
-  formed_type String = (tt, tt)
-  formed_type (RecordOf' shape row) = all-join IsFormedHere (types_within_attributes (plain_types (attributes_of shape) row)) _ (formed_types (attributes_of shape) row) (attributes_ascend (attributes_of shape) row shape.ascending, tt)
-  formed_type (SetOf' p t) = formed_set (plain_type t) (formed_type t)
-
-  formed_types : {m : _} (ns : List (List ℕ)) (row : Row_of-TermType m) → AllByRecursion IsFormedHere (types_within_attributes (plain_types ns row))
-  formed_types [] row = tt
-  formed_types (n ∷ ns) end_of-TermType = tt
-  formed_types (n ∷ ns) (more_of-TermType t rest) = all-join IsFormedHere (types_within (plain_type t)) (types_within_attributes (plain_types ns rest)) (formed_type t) (formed_types ns rest)
-
 pub formed_literal : (l : TermPrim) → IsFormedLiteral (plain_literal l) × IsFormedType (literal_type (plain_literal l))
 formed_literal (BitsLiteral b) = (b.below_width, ((b.width.at_least_one, b.width.at_most_128), tt))
 formed_literal (TruthLiteral b) = (tt, (tt, tt))
@@ -79,7 +40,7 @@ formed_literal (EntityOf e) = (IsUtf8-string_bytes e.id.0.text.value, (tt, tt))
 formed_literal (ValueOf x) = (formed_value x, (tt, tt))
 formed_literal (TextLiteral s) = (IsUtf8-string_bytes s.text.value, (tt, tt))
 
--- the same of terms beside attributes
+-- where attributes ascend, those of the terms beside them do
 first_below : {m : _} (n : List ℕ) (ns : List (List ℕ)) (row : Row_of-Term m) → IsTrue (is_below text_cmp n ns) → IsTrue (is_below text_cmp n (attribute_names (field_types (plain_named ns row))))
 unfolding plain_named
 first_below n [] row h = refl

@@ -7,7 +7,4 @@ pub mod LiteralElements
 pub mod PrintedTexts
 pub mod PutPairs
 pub mod RecordFields
-pub mod RecordTypes
-pub mod SameType
-pub mod TermTables
 pub mod TypedArguments

@@ -19,7 +19,7 @@ use Rattle.smt_meaning.specs.ValueOrder.{ascends, text_cmp}
 use Rattle.smt_term.specs.View.{attribute_types, fields_of, plain_attribute, plain_field, plain_fields, plain_term, plain_term-Record, plain_type, record_fields}
 use Rattle.smt_term.specs.declared.maps.TermMap.{TermMap}
 use Rattle.smt_term.specs.declared.term.Term.{Term, Record}
-use Rattle.smt_term.specs.declared.types.TermType.{TermType}
+use Rattle.smt_types.specs.declared.types.TermType.{TermType}
 
 -- attributes with the types of what stands beside them
 abbrev pub typed_pairs : {X : Type 0} → (X → PlainType) → List (RcStr Global × X) → List (List ℕ × PlainType)

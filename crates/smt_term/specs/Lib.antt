@@ -1,7 +1,5 @@
-pub mod Functions
 pub mod Maps
 pub mod OpClass
 pub mod Printed
 pub mod Program
-pub mod TypeKinds
 pub mod View

@@ -1,34 +1,11 @@
--- What maps and tables say: their pairs in order.
-use Rattle.std.specs.Prelude.{ℕ, List, IsTrue, bytes_eq, map}
-use Rattle.std.specs.Map.{keys_of}
-use Rattle.smt_meaning.specs.Plain.{PlainTerm, PlainType}
-use Rattle.smt_meaning.specs.TermOrder.{term_cmp, term_eq}
-use Rattle.smt_meaning.specs.ValueOrder.{ascends, text_cmp}
+-- What maps of attributes say: their pairs in order.
+use Rattle.std.specs.Prelude.{ℕ, List, bytes_eq}
+use Rattle.smt_meaning.specs.Plain.{PlainTerm}
+use Rattle.smt_meaning.specs.ValueOrder.{text_cmp}
 use Rattle.smt_leaves.specs.SortedPairs.{AreLastPairs, sorted_pairs}
-use Rattle.smt_term.specs.View.{plain_term}
 pub use Rattle.smt_term.specs.View.{plain_attribute, plain_attributes, plain_field, plain_fields}
-use Rattle.smt_term.specs.declared.table.TermTable.{TermTable}
-use Rattle.smt_term.specs.declared.term.Term.{Term}
+pub use Rattle.smt_types.specs.Maps.{TypePairsAreSorted}
 
--- in order, pairs of attributes and types are the last pairs of those that were given
-abbrev pub TypePairsAreSorted : Type 0
-TypePairsAreSorted = (ps : List (List ℕ × PlainType)) → AreLastPairs text_cmp bytes_eq ps (sorted_pairs text_cmp ps)
-
--- the same of attributes and terms, and of terms and terms
+-- in order, pairs of attributes and terms are the last pairs of those that were given
 abbrev pub FieldPairsAreSorted : Type 0
 FieldPairsAreSorted = (ps : List (List ℕ × PlainTerm)) → AreLastPairs text_cmp bytes_eq ps (sorted_pairs text_cmp ps)
-
-abbrev pub TermPairsAreSorted : Type 0
-TermPairsAreSorted = (ps : List (PlainTerm × PlainTerm)) → AreLastPairs term_cmp term_eq ps (sorted_pairs term_cmp ps)
-
--- what a term and the one beside it say
-abbrev pub plain_entry : Term × Term → PlainTerm × PlainTerm
-plain_entry p = (plain_term p.0, plain_term p.1)
-
--- what the pairs of a table say, in order
-abbrev pub plain_entries : TermTable → List (PlainTerm × PlainTerm)
-plain_entries m = map plain_entry m.items.value.items
-
--- the keys of each table ascend
-abbrev pub TermTablesAscend : Type 0
-TermTablesAscend = (table : TermTable) → IsTrue (ascends term_cmp (keys_of (plain_entries table)))

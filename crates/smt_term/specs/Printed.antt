@@ -5,8 +5,8 @@ use Rattle.std.specs.Fmt.{decimal, signed_decimal}
 use Rattle.std.specs.List.{flat_map, join_by}
 use Rattle.std.specs.Str.{chars}
 use Rattle.smt_characters.specs.Quoting.{quoted_id_byte}
-use Rattle.smt_ext.specs.IpPrinted.{range_text}
-use Rattle.smt_ext.specs.IpRanges.{Version4, Version6}
+use Rattle.smt_ip.specs.IpPrinted.{range_text}
+use Rattle.smt_ip.specs.IpRanges.{Version4, Version6}
 use Rattle.smt_ext.specs.Printed.{decimal_text}
 use Rattle.smt_meaning.specs.Names.{extension_op_name, op_name}
 use Rattle.smt_meaning.specs.Plain.{PlainExtension, DecimalOf, Ipv4Of, Ipv6Of, DatetimeOf, DurationOf, PatternPart, Character, Wildcard, PlainOp, ExtOp, RecordGetOp, StringLikeOp, UufOp, PlainLiteral, BitVecLiteral, BoolLiteral, EntityLiteral, ExtensionLiteral, StringLiteral, PlainTerm, Application, NoneTerm, LiteralTerm, RecordTerm, SetTerm, SomeTerm, VariableTerm, PlainTerms, no_terms, one_term, PlainFields, no_fields, one_field}

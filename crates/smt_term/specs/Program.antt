@@ -1,10 +1,9 @@
--- Laws of the program's types and terms, and of what terms are made of: what their code keeps, said of their plain form.
+-- Laws of the program's terms, and of what terms are made of: what their code keeps, said of their plain form.
 use Rattle.std.specs.Prelude.{◌≡◌, ◌↔◌, IsTrue}
 use Rattle.std.specs.Cmp.Lexicographic.{slice_cmp}
 use Rattle.smt_meaning.specs.Formed.{IsFormed}
 use Rattle.smt_meaning.specs.TermOrder.{function_cmp, op_cmp, literal_cmp, term_cmp}
-use Rattle.smt_meaning.specs.Types.{type_cmp}
-use Rattle.smt_term.specs.View.{plain_elements, plain_function, plain_items, plain_literal, plain_op, plain_term, plain_type, plain_variable}
+use Rattle.smt_term.specs.View.{plain_elements, plain_function, plain_items, plain_literal, plain_op, plain_term, plain_variable}
 use Rattle.smt_term.specs.contracts.function.UufOrd.TheImpl as function_order
 use Rattle.smt_term.specs.contracts.function.UufPartialEq.TheImpl as function_equality
 use Rattle.smt_term.specs.contracts.op.OpOrd.TheImpl as op_order
@@ -19,8 +18,6 @@ use Rattle.smt_term.specs.contracts.term.TermListOrd.TheImpl as list_order
 use Rattle.smt_term.specs.contracts.term.TermListPartialEq.TheImpl as list_equality
 use Rattle.smt_term.specs.contracts.term.TermSetOrd.TheImpl as set_order
 use Rattle.smt_term.specs.contracts.term.TermSetPartialEq.TheImpl as set_equality
-use Rattle.smt_term.specs.contracts.types.TermTypeOrd.TheImpl as type_order
-use Rattle.smt_term.specs.contracts.types.TermTypePartialEq.TheImpl as type_equality
 use Rattle.smt_term.specs.declared.function.Uuf.{Uuf}
 use Rattle.smt_term.specs.declared.op.Op.{Op}
 use Rattle.smt_term.specs.declared.term.Term.{Term}
@@ -28,18 +25,15 @@ use Rattle.smt_term.specs.declared.term.TermList.{TermList}
 use Rattle.smt_term.specs.declared.term.TermPrim.{TermPrim}
 use Rattle.smt_term.specs.declared.term.TermSet.{TermSet}
 use Rattle.smt_term.specs.declared.term.TermVar.{TermVar}
-use Rattle.smt_term.specs.declared.types.TermType.{TermType}
+pub use Rattle.smt_types.specs.Program.{EqualTypesSayTheSame, TypesCompareAsPlain}
 
 -- every term is formed
 abbrev pub TermsAreFormed : Type 0
 TermsAreFormed = (t : Term) → IsFormed (plain_term t)
 
--- terms and types compare as what they say
+-- terms compare as what they say
 abbrev pub TermsCompareAsPlain : Type 0
 TermsCompareAsPlain = (s t : Term) → term_order.ghosts.cmp s t ≡ term_cmp (plain_term s) (plain_term t)
-
-abbrev pub TypesCompareAsPlain : Type 0
-TypesCompareAsPlain = (s t : TermType) → type_order.ghosts.cmp s t ≡ type_cmp (plain_type s) (plain_type t)
 
 -- the same of functions, operators, literals and variables
 abbrev pub FunctionsCompareAsPlain : Type 0
@@ -64,9 +58,6 @@ SetsCompareAsPlain = (ts us : TermSet) → set_order.ghosts.cmp ts us ≡ slice_
 -- two terms are equal exactly where they say the same
 abbrev pub EqualTermsSayTheSame : Type 0
 EqualTermsSayTheSame = (s t : Term) → IsTrue (term_equality.ghosts.eq s t) ↔ (plain_term s ≡ plain_term t)
-
-abbrev pub EqualTypesSayTheSame : Type 0
-EqualTypesSayTheSame = (s t : TermType) → IsTrue (type_equality.ghosts.eq s t) ↔ (plain_type s ≡ plain_type t)
 
 -- the same of functions, operators, literals and variables
 abbrev pub EqualFunctionsSayTheSame : Type 0

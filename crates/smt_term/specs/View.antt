@@ -1,29 +1,25 @@
--- The plain form of the program's types, operators and terms: what they say, without where they lie in memory.
+-- The plain form of the program's operators and terms: what they say, without where they lie in memory. That of types is
+-- the one of `smt_types`.
 use Rattle.std.specs.Prelude.{ℕ, List, [], ◌∷◌, map, ◌≡◌, refl}
 use Rattle.std.specs.List.{zip}
 use Rattle.smt_bits.specs.BitVec.{number_of, width_of}
-use Rattle.smt_bits.specs.Width.{bits_in}
 use Rattle.std.proofs.Common.{ap, ◌∙◌}
 use Rattle.std.specs.Rc.{rc_str_bytes}
 use Rattle.std.specs.declared.alloc.Global.{Global}
 use Rattle.std.specs.declared.rc.Rc.{Rc}
 use Rattle.std.specs.declared.rc.RcStr.{RcStr}
-use Rattle.smt_bits.specs.declared.width.Width.{Width}
 use Rattle.smt_leaves.specs.Entities.{bytes_of_id, bytes_of_type}
 use Rattle.smt_ext.specs.ExtOrder.{plain_value}
-use Rattle.smt_leaves.specs.ExtensionView.{plain_extension_op, plain_kind}
+use Rattle.smt_leaves.specs.ExtensionView.{plain_extension_op}
 use Rattle.smt_leaves.specs.PatternView.{plain_ord_pattern}
-use Rattle.smt_leaves.specs.declared.entity.EntityType.{EntityType as EntityName}
-use Rattle.smt_leaves.specs.declared.extension.ExtType.{ExtType}
 use Rattle.smt_arithmetic.specs.BitOperators.{BvaddOp, BvlshrOp, BvmulOp, BvsdivOp, BvshlOp, BvsmodOp, BvsremOp, BvsubOp, BvudivOp, BvuremOp, BvsleOp, BvsltOp, BvuleOp, BvultOp, BvsaddoOp, BvsmuloOp, BvssuboOp}
-use Rattle.smt_meaning.specs.Plain.{PlainType, OptionType, BitVecType, BoolType, EntityType, ExtensionType, StringType, RecordType, SetType, AttributeTypes, no_attributes, attribute, PlainFunction, PlainOp, AndOp, BvnegOp, BvnegoOp, EqOp, ExtOp, IteOp, NotOp, OptionGetOp, OrOp, RecordGetOp, SetInterOp, SetMemberOp, SetSubsetOp, StringLikeOp, UufOp, ZeroExtendOp, PlainLiteral, BitVecLiteral, BoolLiteral, EntityLiteral, ExtensionLiteral, StringLiteral, PlainTerm, Application, NoneTerm, LiteralTerm, RecordTerm, SetTerm, SomeTerm, VariableTerm, PlainFields, no_fields, one_field, PlainTerms, no_terms, one_term, terms, BitsOp, TestOp, OverflowOp}
+use Rattle.smt_meaning.specs.Plain.{PlainFunction, PlainOp, AndOp, BvnegOp, BvnegoOp, EqOp, ExtOp, IteOp, NotOp, OptionGetOp, OrOp, RecordGetOp, SetInterOp, SetMemberOp, SetSubsetOp, StringLikeOp, UufOp, ZeroExtendOp, PlainLiteral, BitVecLiteral, BoolLiteral, EntityLiteral, ExtensionLiteral, StringLiteral, PlainTerm, Application, NoneTerm, LiteralTerm, RecordTerm, SetTerm, SomeTerm, VariableTerm, PlainFields, no_fields, one_field, PlainTerms, no_terms, one_term, terms, BitsOp, TestOp, OverflowOp}
 use Rattle.smt_leaves.specs.Pairs.{attributes_in, pairs_of}
 use Rattle.smt_leaves.specs.formers.pairs.AttributePairs.{attributes-over}
-use Rattle.smt_leaves.specs.declared.pairs.AttributePairs.{AttributePairs}
 use Rattle.smt_term.specs.declared.maps.TermMap.{TermMap}
-use Rattle.smt_term.specs.declared.maps.TypeMap.{TypeMap}
-use Rattle.smt_term.specs.declared.types.TermType.TheBlock.{hidden-the_row-TermType-0, shape-the_row-TermType-0}
-use Rattle.smt_term.specs.declared.types.TermType.{TermType, Row_of-TermType, end_of-TermType, more_of-TermType, items-the_row-TermType, items_hidden-the_row-TermType-0, Option as OptionOf, Option', Bitvec, Bool, Entity, Ext, String, Record as RecordOf, Record' as RecordOf', Set as SetOf, Set' as SetOf'}
+unfoldable pub use Rattle.smt_types.specs.View.{plain_type, plain_types}
+pub use Rattle.smt_types.specs.View.{attribute_types, attributes_held, attributes_of, plain_attribute, plain_attributes, plain_type-Option, plain_type-Bitvec, plain_type-Bool, plain_type-Entity, plain_type-Ext, plain_type-String, plain_type-Record, plain_type-Set}
+use Rattle.smt_types.specs.declared.types.TermType.{TermType}
 use Rattle.smt_term.specs.declared.function.Uuf.{Uuf as Function}
 use Rattle.smt_term.specs.declared.op.Op.{Op}
 use Rattle.smt_term.specs.declared.op.Op.TheVariants.{And, Bvadd, Bvlshr, Bvmul, Bvneg, Bvnego, Bvsaddo, Bvsdiv, Bvshl, Bvsle, Bvslt, Bvsmod, Bvsmulo, Bvsrem, Bvssubo, Bvsub, Bvudiv, Bvule, Bvult, Bvurem, Eq, Ext as ExtensionOf, Ite, Not, OptionGet, Or, RecordGet, SetInter, SetMember, SetSubset, StringLike, Uuf, ZeroExtend}
@@ -34,43 +30,6 @@ use Rattle.smt_term.specs.declared.term.Term.{Term, App, App', None, Prim, Recor
 use Rattle.smt_term.specs.declared.term.TermList.{TermList}
 use Rattle.smt_term.specs.declared.term.TermSet.{TermSet}
 use Rattle.smt_term.specs.declared.term.Term.TheBlock.{hidden-the_row-Term-0, hidden-the_row-Term-1, shape-the_row-Term-1}
-
--- the attributes of pairs, in order
-abbrev pub attributes_of : {X : Type 0} → AttributePairs X → List (List ℕ)
-attributes_of ps = attributes_in (pairs_of ps)
-
-unfoldable mutual
-  pub plain_type : TermType → PlainType
-  plain_type (Option' p t) = OptionType (plain_type t)
-  plain_type (Bitvec n) = BitVecType (bits_in n)
-  plain_type Bool = BoolType
-  plain_type (Entity e) = EntityType (bytes_of_type e)
-  plain_type (Ext k) = ExtensionType (plain_kind k)
-  plain_type String = StringType
-  plain_type (RecordOf' shape row) = RecordType (plain_types (attributes_of shape) row)
-  plain_type (SetOf' p t) = SetType (plain_type t)
-
-  pub plain_types : {m : _} → List (List ℕ) → Row_of-TermType m → AttributeTypes
-  plain_types [] row = no_attributes
-  plain_types (name ∷ others) end_of-TermType = no_attributes
-  plain_types (name ∷ others) (more_of-TermType t rest) = attribute name (plain_type t) (plain_types others rest)
-
--- the attributes of a map and their types
-abbrev pub attributes_held : TypeMap → List (RcStr Global × TermType)
-attributes_held m = pairs_of m.pairs
-
--- what an attribute and its type say
-abbrev pub plain_attribute : RcStr Global × TermType → List ℕ × PlainType
-plain_attribute p = (rc_str_bytes p.0, plain_type p.1)
-
--- what the pairs of a map say, in order
-abbrev pub plain_attributes : TypeMap → List (List ℕ × PlainType)
-plain_attributes m = map plain_attribute (attributes_held m)
-
--- attributes and their types as the attributes of a record type
-abbrev pub attribute_types : List (List ℕ × PlainType) → AttributeTypes
-attribute_types [] = no_attributes
-attribute_types (p ∷ ps) = attribute p.0 p.1 (attribute_types ps)
 
 -- an uninterpreted function
 abbrev pub plain_function : Function → PlainFunction
@@ -175,52 +134,6 @@ abbrev pub plain_elements : TermSet → List PlainTerm
 plain_elements ts = map plain_term (elements_of ts)
 
 -- The equations of the views, by which a proof reads them.
-pub plain_type-Option : (t : Rc TermType Global) → plain_type (OptionOf t) ≡ OptionType (plain_type t.value)
-unfolding plain_type
-plain_type-Option t = refl
-
-pub plain_type-Bitvec : (n : Width) → plain_type (Bitvec n) ≡ BitVecType (bits_in n)
-unfolding plain_type
-plain_type-Bitvec n = refl
-
-pub plain_type-Bool : plain_type Bool ≡ BoolType
-unfolding plain_type
-plain_type-Bool = refl
-
-pub plain_type-Entity : (e : EntityName) → plain_type (Entity e) ≡ EntityType (bytes_of_type e)
-unfolding plain_type
-plain_type-Entity e = refl
-
-pub plain_type-Ext : (k : ExtType) → plain_type (Ext k) ≡ ExtensionType (plain_kind k)
-unfolding plain_type
-plain_type-Ext k = refl
-
-pub plain_type-String : plain_type String ≡ StringType
-unfolding plain_type
-plain_type-String = refl
-
-types_named : {m : _} (ns : List (List ℕ)) (row : Row_of-TermType m) → plain_types ns row ≡ attribute_types (zip ns (map plain_type (items-the_row-TermType m row)))
-unfolding plain_types
-types_named [] row = refl
-types_named (n ∷ ns) end_of-TermType = refl
-types_named (n ∷ ns) (more_of-TermType t rest) = ap (attribute n (plain_type t)) (types_named ns rest)
-
-zipped : (ps : List (RcStr Global × TermType)) → zip (attributes_in ps) (map plain_type (map (λ p. p.1) ps)) ≡ map plain_attribute ps
-zipped [] = refl
-zipped (p ∷ ps) = ap (λ l. plain_attribute p ∷ l) (zipped ps)
-
-pub plain_type-Record : (m : TypeMap) → plain_type (RecordOf m) ≡ RecordType (attribute_types (plain_attributes m))
-unfolding plain_type shape-the_row-TermType-0
-plain_type-Record m =
-    ap RecordType (types_named (attributes_of (shape-the_row-TermType-0 m.pairs)) (hidden-the_row-TermType-0 m.pairs)
-    ∙ ap (λ ts. attribute_types (zip (attributes_of (shape-the_row-TermType-0 m.pairs)) (map plain_type ts))) (items_hidden-the_row-TermType-0 m.pairs)
-    ∙ ap (λ ns. attribute_types (zip ns (map plain_type (map (λ p. p.1) m.pairs.items.value.items)))) (attributes-over (λ _. tt) m.pairs.items.value.items)
-    ∙ ap attribute_types (zipped m.pairs.items.value.items))
-
-pub plain_type-Set : (t : Rc TermType Global) → plain_type (SetOf t) ≡ SetType (plain_type t.value)
-unfolding plain_type
-plain_type-Set t = refl
-
 pub plain_row-items : {m : _} (row : Row_of-Term m) → plain_row row ≡ terms (map plain_term (items-the_row-Term m row))
 unfolding plain_term plain_row
 plain_row-items end_of-Term = refl

@@ -1,5 +1,5 @@
 //! Laws of the program's terms: they compare as what they say, proved with no code.
-ghost use Rattle.smt_term.specs.Maps.{FieldPairsAreSorted, TermPairsAreSorted, TermTablesAscend, TypePairsAreSorted};
+ghost use Rattle.smt_term.specs.Maps.{FieldPairsAreSorted, TypePairsAreSorted};
 ghost use Rattle.smt_term.specs.Program.{EqualFunctionsSayTheSame, EqualListsSayTheSame, EqualLiteralsSayTheSame, EqualOperatorsSayTheSame, EqualSetsSayTheSame, EqualTermsSayTheSame, EqualTypesSayTheSame, EqualVariablesSayTheSame, FunctionsCompareAsPlain, ListsCompareAsPlain, LiteralsCompareAsPlain, OperatorsCompareAsPlain, SetsCompareAsPlain, TermsAreFormed, TermsCompareAsPlain, TypesCompareAsPlain, VariablesCompareAsPlain};
 
 /// What the program's terms and types keep.
@@ -27,10 +27,8 @@ pub fn program_parts()
     ensures set_equality { EqualSetsSayTheSame }
 {}
 
-/// Tables of terms ascend, and maps have of each key the value of its last pair.
+/// Maps have of each attribute the value of its last pair.
 pub fn program_maps()
-    ensures term_tables { TermTablesAscend }
     ensures type_pairs { TypePairsAreSorted }
     ensures field_pairs { FieldPairsAreSorted }
-    ensures term_pairs { TermPairsAreSorted }
 {}

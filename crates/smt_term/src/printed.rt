@@ -162,6 +162,7 @@ fn put_name<W: fmt::Write>(op: &Op, f: &mut fmt::Formatter<W>) -> fmt::Result
 
 // A term.
 #[cycle(print)]
+#[tactic(auto, using(crate::specs::View::views))]
 fn put_term<W: fmt::Write>(term: &Term, f: &mut fmt::Formatter<W>) -> fmt::Result
     ensures { WritesOnOk W.write_str_gives f.old result (term_text (plain_term term.now)) f.new }
 {

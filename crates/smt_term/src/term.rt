@@ -5,11 +5,11 @@ ghost use Rattle.smt_term.specs.View.{elements_of, items_of, plain_elements, pla
 
 use crate::maps::TermMap;
 use crate::op::Op;
-use crate::types::TermType;
 use smt_bits::{BitVec, SIXTY_FOUR};
 use smt_ext::Ext;
 use smt_leaves::{EntityUID, TermError};
 use smt_text::{Text, share_text};
+use smt_types::TermType;
 use std::alloc::Global;
 use std::collections::BTreeSet;
 use std::rc::Rc;
@@ -222,6 +222,7 @@ impl Term {
     ///
     /// # Errors
     /// `Memory`, where there is none for the term.
+    #[tactic(auto, using(crate::specs::View::views))]
     pub fn share(&self) -> Result<Term, TermError>
         ensures { IfOk result (λ term. plain_term term ≡ plain_term self.now) }
     {

@@ -13,13 +13,13 @@ ghost use Rattle.smt_leaves.specs.Entities.{bytes_of_type};
 ghost use Rattle.smt_leaves.specs.ExtensionView.{plain_extension_op};
 ghost use Rattle.smt_term.specs.View.{attribute_types, plain_attributes, plain_fields, plain_literal, plain_op, plain_term, plain_type, record_fields};
 
-use crate::maps::{TermMap, TypeMap};
+use crate::maps::TermMap;
 use crate::op::{Op, OpClass};
 use crate::term::{Term, TermPrim};
-use crate::types::TermType;
 use smt_bits::{FIVE, HUNDRED_TWENTY_EIGHT, SEVEN, SIXTY_FOUR, THIRTY_TWO, Width};
 use smt_leaves::{Attr, EntityType, ExtOp, ExtType, TermError};
 use smt_text::share_text;
+use smt_types::{TermType, TypeMap};
 use std::alloc::Global;
 
 impl TermPrim {

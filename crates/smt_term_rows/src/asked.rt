@@ -4,7 +4,8 @@ use crate::asked_types;
 use crate::printed::{put_term, put_type};
 use anyhow::{Context, Result, bail};
 use smt_factory::opposites;
-use smt_term::{Op, Term, TermError, TermList, TermTable, TermType};
+use smt_functions::TermTable;
+use smt_term::{Op, Term, TermError, TermList, TermType};
 use smt_words::{last_of, operator, pairs, text, type_of};
 use std::alloc::Global;
 

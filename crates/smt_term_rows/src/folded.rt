@@ -3,7 +3,8 @@
 use anyhow::{Context, Result, bail};
 use smt_bits::{BitVec, Int};
 use smt_factory::*;
-use smt_term::{Op, Term, TermError, TermTable, Udf, UnaryFunction};
+use smt_functions::{TermTable, Udf, UnaryFunction};
+use smt_term::{Op, Term, TermError};
 use smt_words::{fields, function, one, pairs, pattern, taken, text, two, type_of};
 use std::alloc::Global;
 use std::rc::Rc;

@@ -32,8 +32,9 @@ mod spelling;
 mod stack;
 mod types;
 
-pub use operators::{extension_operator, function, operator};
+pub use operators::{function, operator};
 pub use plain::{entity, term, terms, variable};
-pub use spelling::{enter, pattern, spelling_of, text, text_or, texts};
-pub use stack::{fields, last_of, one, pairs, taken, two};
+pub use smt_row_parts::{last_of, one, taken, text_or, two};
+pub use spelling::{enter, pattern, spelling_of, text, texts};
+pub use stack::{fields, pairs};
 pub use types::{extension_type, type_of};

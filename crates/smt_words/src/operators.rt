@@ -1,9 +1,5 @@
 //! Operators and functions.
 
-ghost use Rattle.std.specs.Prelude.{◌≡◌, IfNone, IfSome};
-ghost use Rattle.smt_leaves.specs.ExtensionView.{plain_extension_op};
-ghost use Rattle.smt_meaning.specs.Names.{extension_op_name};
-
 use crate::spelling::{pattern, text};
 use crate::types::type_of;
 use anyhow::{Context, Result};
@@ -46,7 +42,7 @@ fn plain_operator(name: &str) -> Option<Op> {
         "set.inter" => Op::SetInter,
         "set.member" => Op::SetMember,
         "set.subset" => Op::SetSubset,
-        _ => match extension_operator(name) {
+        _ => match ExtOp::of_name(name) {
             Some(op) => Op::Ext(op),
             None => return bits_operator(name),
         },
@@ -75,25 +71,6 @@ fn bits_operator(name: &str) -> Option<Op> {
         "bvule" => Op::Bvule,
         "bvult" => Op::Bvult,
         "bvurem" => Op::Bvurem,
-        _ => return None,
-    })
-}
-
-/// The operator of the extension types of this name.
-pub fn extension_operator(name: &str) -> Option<ExtOp>
-    ensures found { IfSome result (λ op. extension_op_name (plain_extension_op op) ≡ name.now) }
-{
-    Some(match name {
-        "datetime.ofBitVec" => ExtOp::DatetimeOfBitVec,
-        "datetime.val" => ExtOp::DatetimeVal,
-        "decimal.val" => ExtOp::DecimalVal,
-        "duration.ofBitVec" => ExtOp::DurationOfBitVec,
-        "duration.val" => ExtOp::DurationVal,
-        "ipaddr.addrV4" => ExtOp::IpaddrAddrV4,
-        "ipaddr.addrV6" => ExtOp::IpaddrAddrV6,
-        "ipaddr.isV4" => ExtOp::IpaddrIsV4,
-        "ipaddr.prefixV4" => ExtOp::IpaddrPrefixV4,
-        "ipaddr.prefixV6" => ExtOp::IpaddrPrefixV6,
         _ => return None,
     })
 }

@@ -1,10 +1,5 @@
 //! Texts and patterns, and enum types, which are texts.
 
-ghost use Rattle.std.specs.Option.{option_map_or};
-ghost use Rattle.std.specs.Prelude.{◌≡◌, IfOk};
-ghost use Rattle.std.specs.Rc.{rc_str_bytes};
-ghost use Rattle.std.specs.String.{string_bytes};
-
 use anyhow::{Context, Result, bail};
 use smt_term::{EntityType, EnumTable, OrdPattern, Pattern, PatternElem, Text};
 use std::alloc::Global;
@@ -35,17 +30,6 @@ pub fn text(alloc: Global, spelling: &str) -> Result<Text> {
         Escape::Closed => Ok(Text::from_string(text)?),
         Escape::Begun | Escape::Code(_) => bail!("an escape does not end"),
     }
-}
-
-/// A text as it is, or other words where there is none.
-pub fn text_or(alloc: Global, text: Option<&Text>, missing: &str) -> Result<String>
-    ensures { IfOk result (λ line. string_bytes line ≡ option_map_or (λ found. rc_str_bytes found.now) text.entry missing.now) }
-{
-    let line = match text {
-        Some(found) => found.as_str(),
-        None => missing,
-    };
-    Ok(String::from_str(alloc, line)?)
 }
 
 /// What there is of an escape behind one character more, and the character that this ends; None where no escape goes on so.

@@ -1,6 +1,6 @@
 use Rattle.std.proofs.lemmas.Result.{IfOk-weaker}
-use Rattle.smt_ext.specs.IpOrder.{plain_range}
-use Rattle.smt_ext.specs.IpView.{range_of}
+use Rattle.smt_ip.specs.IpOrder.{plain_range}
+use Rattle.smt_ip.specs.IpView.{range_of}
 use Rattle.smt_extension_folding.proofs.FunctionsStand.{functions_stand}
 use Rattle.smt_extension_functions.proofs.FunctionsFold.{literal_folds, stands_as}
 use Rattle.smt_extension_functions.proofs.containment.in_range_lit.Goals as goal

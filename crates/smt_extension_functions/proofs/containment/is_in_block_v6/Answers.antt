@@ -1,6 +1,6 @@
 use Rattle.std.proofs.lemmas.Result.{IfOk-weaker}
-use Rattle.smt_ext.specs.IpOrder.{plain_range}
-use Rattle.smt_ext.specs.IpView.{range_of}
+use Rattle.smt_ip.specs.IpOrder.{plain_range}
+use Rattle.smt_ip.specs.IpView.{range_of}
 use Rattle.smt_extension_folding.specs.ExtensionFunctions.{range_v6}
 use Rattle.smt_extension_functions.specs.Pairs.{plain_pair}
 use Rattle.smt_extension_functions.proofs.Rules.{block_folds}

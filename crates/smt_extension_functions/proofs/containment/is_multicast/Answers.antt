@@ -1,5 +1,5 @@
 use Rattle.std.proofs.lemmas.Result.{IfOk-weaker}
-use Rattle.smt_ext.specs.IpView.{range_of}
+use Rattle.smt_ip.specs.IpView.{range_of}
 use Rattle.smt_extension_folding.proofs.FunctionsStand.{functions_stand}
 use Rattle.smt_extension_functions.proofs.FunctionsFold.{multicast_folds, stands_as}
 use Rattle.smt_extension_functions.proofs.containment.is_multicast.Goals as goal

@@ -5,7 +5,7 @@ use Rattle.smt_folding.specs.FoldFunctions.{app_of, folded_app}
 use Rattle.smt_folding.specs.Refinement.{Refines}
 use Rattle.smt_function_terms.proofs.FoldingFunctions.{has_value, stands_for_app}
 use Rattle.smt_function_terms.proofs.functions.app.Goals as goal
-use Rattle.smt_term.specs.Functions.{plain_unary}
+use Rattle.smt_functions.specs.Functions.{plain_unary}
 use Rattle.smt_term.specs.View.{plain_term}
 
 pub returns-clause-refines : goal.returns-clause-refines

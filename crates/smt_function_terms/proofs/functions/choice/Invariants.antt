@@ -1,7 +1,7 @@
 use Rattle.std.proofs.Common.{◌≡◌, drop, map}
 use Rattle.smt_folding.specs.Builder.{folding}
 use Rattle.smt_folding.specs.FoldFunctions.{choice_among}
-use Rattle.smt_term.specs.Maps.{plain_entry}
+use Rattle.smt_functions.specs.Tables.{plain_entry}
 use Rattle.smt_term.specs.View.{plain_term}
 use Rattle.smt_function_terms.proofs.functions.choice.Given as goal
 

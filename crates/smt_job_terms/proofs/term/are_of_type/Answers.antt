@@ -1,6 +1,6 @@
 use Rattle.std.proofs.Common.{true, false, ap, sym, ◌∙◌}
 use Rattle.smt_meaning.specs.Types.{type_eq}
-use Rattle.smt_term.proofs.SameType.{type_eq-is}
+use Rattle.smt_types.proofs.SameType.{type_eq-is}
 use Rattle.smt_term.specs.View.{plain_type}
 use Rattle.smt_job_terms.proofs.TermsRead.{this_operand}
 use Rattle.smt_job_terms.proofs.term.are_of_type.Goals as goal

@@ -1,9 +1,9 @@
 use Rattle.std.proofs.Common.{sym, ap, ◌∙◌}
-use Rattle.smt_term.proofs.SameType.{type_eq-is}
+use Rattle.smt_types.proofs.SameType.{type_eq-is}
 use Rattle.smt_meaning.specs.Plain.{BoolType}
 use Rattle.smt_meaning.specs.Types.{type_eq}
 use Rattle.smt_term.specs.View.{plain_term, plain_type}
-use Rattle.smt_term.specs.declared.types.TermType.{Bool}
+use Rattle.smt_types.specs.declared.types.TermType.{Bool}
 use Rattle.smt_sexpr.specs.View.{plain}
 use Rattle.smt_job_declarations.proofs.Reading.{passes_on}
 use Rattle.smt_job_terms.proofs.WholeTerms.{condition_fault, declared_formed, is_condition, no_condition}

@@ -5,9 +5,9 @@ use Rattle.std.specs.Rc.{rc_str_bytes}
 use Rattle.std.proofs.lemmas.Result.{IfOk-weaker}
 use Rattle.smt_bits.specs.BitVec.{number_of}
 use Rattle.smt_bits.specs.declared.bitvec.BitVec.{BitVec}
-use Rattle.smt_ext.specs.IpOrder.{plain_range}
-use Rattle.smt_ext.specs.IpView.{range_of, v4_bits, v4_prefix, v6_bits, v6_prefix}
-use Rattle.smt_ext.specs.declared.ipaddr.net.IPNet.{IPNet}
+use Rattle.smt_ip.specs.IpOrder.{plain_range}
+use Rattle.smt_ip.specs.IpView.{range_of, v4_bits, v4_prefix, v6_bits, v6_prefix}
+use Rattle.smt_ip.specs.declared.net.IPNet.{IPNet}
 use Rattle.smt_semantics.specs.Script.{name}
 use Rattle.smt_lines.specs.EntryNames.{v4_name, v6_name}
 use Rattle.smt_lines.specs.LineForms.{extension_body, prefix_body}

@@ -4,7 +4,7 @@ use Rattle.smt_leaves.specs.Entities.{bytes_of_type}
 use Rattle.smt_leaves.specs.Enums.{enums_of}
 use Rattle.smt_symbolizer.specs.Named.{said}
 use Rattle.smt_symbolizer.specs.Stored.{action_table}
-use Rattle.smt_term.specs.Functions.{plain_unary}
+use Rattle.smt_functions.specs.Functions.{plain_unary}
 use Rattle.smt_values.specs.DefaultTerm.{default_term}
 use Rattle.smt_symbolizer.proofs.entities.action_tables.Given as goal
 

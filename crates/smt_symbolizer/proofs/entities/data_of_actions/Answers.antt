@@ -3,7 +3,7 @@ use Rattle.smt_leaves.specs.SortedPairs.{sorted_pairs}
 use Rattle.smt_meaning.specs.ValueOrder.{text_cmp}
 use Rattle.smt_symbolizer.proofs.SortedTypes.{said_in_order}
 use Rattle.smt_symbolizer.specs.ByType.{pairs_held}
-use Rattle.smt_term.specs.Functions.{plain_unary}
+use Rattle.smt_functions.specs.Functions.{plain_unary}
 use Rattle.smt_symbolizer.proofs.entities.data_of_actions.Goals as goal
 
 pub returns : goal.returns

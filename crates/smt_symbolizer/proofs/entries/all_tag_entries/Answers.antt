@@ -3,7 +3,7 @@ use Rattle.smt_cedar_stores.specs.View.{plain_stored}
 use Rattle.smt_cedar_types.specs.View.{plain_cedar}
 use Rattle.smt_symbolic_environments.specs.Tables as stated
 use Rattle.smt_symbolizer.proofs.Walked.{all_joined, joined_mapped, joined_refused}
-use Rattle.smt_term.specs.Maps.{plain_entry}
+use Rattle.smt_functions.specs.Tables.{plain_entry}
 use Rattle.smt_values.proofs.Faults.{passes_on}
 use Rattle.smt_symbolizer.proofs.entries.all_tag_entries.Goals as goal
 

@@ -2,7 +2,7 @@ use Rattle.std.proofs.Common.{◌≡◌, ◌++◌, drop, map}
 use Rattle.smt_cedar_stores.specs.View.{plain_stored}
 use Rattle.smt_leaves.specs.Entities.{bytes_of_type}
 use Rattle.smt_symbolic_environments.specs.Tables.{ancestors_entry}
-use Rattle.smt_term.specs.Maps.{plain_entry}
+use Rattle.smt_functions.specs.Tables.{plain_entry}
 use Rattle.smt_symbolizer.proofs.entries.ancestors_entries.Given as goal
 
 -- what is made and what there is of those that are left is what there is of all

@@ -2,7 +2,7 @@ use Rattle.std.proofs.Common.{drop, map}
 use Rattle.smt_cedar_stores.specs.View.{plain_stored}
 use Rattle.smt_cedar_types.specs.View.{plain_cedar_attributes}
 use Rattle.smt_symbolic_environments.specs.Tables.{attributes_entry}
-use Rattle.smt_term.specs.Maps.{plain_entry}
+use Rattle.smt_functions.specs.Tables.{plain_entry}
 use Rattle.smt_values.proofs.Walks.{Walking}
 use Rattle.smt_symbolizer.proofs.entries.attributes_entries.Given as goal
 

@@ -4,7 +4,7 @@ use Rattle.smt_cedar_values.specs.View.{known_field}
 use Rattle.smt_leaves.specs.Entities.{texts_of_entity}
 use Rattle.smt_symbolic_environments.specs.Tables as stated
 use Rattle.smt_symbolizer.proofs.Walked.{mapped_done, mapped_more, mapped_refused}
-use Rattle.smt_term.specs.Maps.{plain_entry}
+use Rattle.smt_functions.specs.Tables.{plain_entry}
 use Rattle.smt_values.proofs.Faults.{passes_on}
 use Rattle.smt_values.specs.Outcomes.{each}
 use Rattle.smt_symbolizer.proofs.entries.tag_entries.Goals as goal

@@ -3,7 +3,7 @@ use Rattle.smt_cedar_types.specs.View.{plain_cedar}
 use Rattle.smt_cedar_values.specs.View.{known_field}
 use Rattle.smt_leaves.specs.Entities.{texts_of_entity}
 use Rattle.smt_symbolic_environments.specs.Tables.{tag_entry}
-use Rattle.smt_term.specs.Maps.{plain_entry}
+use Rattle.smt_functions.specs.Tables.{plain_entry}
 use Rattle.smt_values.proofs.Walks.{Walking}
 use Rattle.smt_symbolizer.proofs.entries.tag_entries.Given as goal
 

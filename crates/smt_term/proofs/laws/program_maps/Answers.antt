@@ -1,20 +1,14 @@
 use Rattle.std.proofs.lemmas.Cmp.{nat_list_cmp_total}
 use Rattle.std.proofs.lemmas.Map.Text.{is_eq-slice_cmp}
-use Rattle.std.proofs.Common.{refl, sym}
-use Rattle.smt_meaning.specs.TermOrder.{term_cmp, term_eq}
+use Rattle.std.proofs.Common.{sym}
 use Rattle.smt_meaning.specs.ValueOrder.{text_cmp}
-use Rattle.smt_meaning.proofs.SameTerm.{term_same}
-use Rattle.smt_meaning.proofs.TermTotal.{terms_total}
 use Rattle.smt_meaning.proofs.ValueOrder.{text_same}
 use Rattle.std.specs.Prelude.{bytes_eq}
 use Rattle.smt_leaves.proofs.LastPairs.{last_pairs}
-use Rattle.smt_term.proofs.TermTables.{term_tables_ascend}
 use Rattle.smt_term.proofs.laws.program_maps.Goals as goal
 
 pub returns : goal.returns
 returns c = record {
-  term_tables = term_tables_ascend;
   type_pairs = last_pairs text_cmp bytes_eq nat_list_cmp_total text_same (λ x y. sym (is_eq-slice_cmp x y));
   field_pairs = last_pairs text_cmp bytes_eq nat_list_cmp_total text_same (λ x y. sym (is_eq-slice_cmp x y));
-  term_pairs = last_pairs term_cmp term_eq terms_total term_same (λ x y. refl);
 }

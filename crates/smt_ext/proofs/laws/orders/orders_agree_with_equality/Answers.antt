@@ -4,24 +4,10 @@ use Rattle.smt_ext.specs.contracts.datetime.DatetimeOrd.TheImpl as datetime_orde
 use Rattle.smt_ext.specs.contracts.datetime.DatetimeOrd.TheImpl.Laws as datetime_laws
 use Rattle.smt_ext.specs.contracts.datetime.DurationOrd.TheImpl as duration_order
 use Rattle.smt_ext.specs.contracts.datetime.DurationOrd.TheImpl.Laws as duration_laws
-use Rattle.smt_ext.specs.contracts.ipaddr.address.IPv4AddrOrd.TheImpl as v4_address_order
-use Rattle.smt_ext.specs.contracts.ipaddr.address.IPv4AddrOrd.TheImpl.Laws as v4_address_laws
-use Rattle.smt_ext.specs.contracts.ipaddr.address.IPv6AddrOrd.TheImpl as v6_address_order
-use Rattle.smt_ext.specs.contracts.ipaddr.address.IPv6AddrOrd.TheImpl.Laws as v6_address_laws
-use Rattle.smt_ext.specs.contracts.ipaddr.prefix.IPv4PrefixOrd.TheImpl as v4_prefix_order
-use Rattle.smt_ext.specs.contracts.ipaddr.prefix.IPv4PrefixOrd.TheImpl.Laws as v4_prefix_laws
-use Rattle.smt_ext.specs.contracts.ipaddr.prefix.IPv6PrefixOrd.TheImpl as v6_prefix_order
-use Rattle.smt_ext.specs.contracts.ipaddr.prefix.IPv6PrefixOrd.TheImpl.Laws as v6_prefix_laws
-use Rattle.smt_ext.specs.contracts.ipaddr.net.CIDRv4Ord.TheImpl as v4_range_order
-use Rattle.smt_ext.specs.contracts.ipaddr.net.CIDRv4Ord.TheImpl.Laws as v4_range_laws
-use Rattle.smt_ext.specs.contracts.ipaddr.net.CIDRv6Ord.TheImpl as v6_range_order
-use Rattle.smt_ext.specs.contracts.ipaddr.net.CIDRv6Ord.TheImpl.Laws as v6_range_laws
-use Rattle.smt_ext.specs.contracts.ipaddr.net.IPNetOrd.TheImpl as range_order
-use Rattle.smt_ext.specs.contracts.ipaddr.net.IPNetOrd.TheImpl.Laws as range_laws
 use Rattle.smt_ext.specs.contracts.ext.ExtOrd.TheImpl as value_order
 use Rattle.smt_ext.specs.contracts.ext.ExtOrd.TheImpl.Laws as value_laws
 use Rattle.smt_bits.proofs.Levels.{level_where_equal}
-use Rattle.smt_ext.proofs.Levels.{level_datetimes, level_decimals, level_durations, level_v4_addresses, level_v6_addresses, level_v4_prefixes, level_v6_prefixes, level_v4_ranges, level_v6_ranges, level_ranges, level_values}
+use Rattle.smt_ext.proofs.Levels.{level_datetimes, level_decimals, level_durations, level_values}
 use Rattle.smt_ext.proofs.laws.orders.orders_agree_with_equality.Goals as goal
 
 pub returns-clause-decimals : goal.returns-clause-decimals
@@ -32,27 +18,6 @@ returns-clause-datetimes c = level_where_equal datetime_order.ghosts.cmp datetim
 
 pub returns-clause-durations : goal.returns-clause-durations
 returns-clause-durations c = level_where_equal duration_order.ghosts.cmp duration_laws.total-law level_durations
-
-pub returns-clause-v4_addresses : goal.returns-clause-v4_addresses
-returns-clause-v4_addresses c = level_where_equal v4_address_order.ghosts.cmp v4_address_laws.total-law level_v4_addresses
-
-pub returns-clause-v6_addresses : goal.returns-clause-v6_addresses
-returns-clause-v6_addresses c = level_where_equal v6_address_order.ghosts.cmp v6_address_laws.total-law level_v6_addresses
-
-pub returns-clause-v4_prefixes : goal.returns-clause-v4_prefixes
-returns-clause-v4_prefixes c = level_where_equal v4_prefix_order.ghosts.cmp v4_prefix_laws.total-law level_v4_prefixes
-
-pub returns-clause-v6_prefixes : goal.returns-clause-v6_prefixes
-returns-clause-v6_prefixes c = level_where_equal v6_prefix_order.ghosts.cmp v6_prefix_laws.total-law level_v6_prefixes
-
-pub returns-clause-v4_ranges : goal.returns-clause-v4_ranges
-returns-clause-v4_ranges c = level_where_equal v4_range_order.ghosts.cmp v4_range_laws.total-law level_v4_ranges
-
-pub returns-clause-v6_ranges : goal.returns-clause-v6_ranges
-returns-clause-v6_ranges c = level_where_equal v6_range_order.ghosts.cmp v6_range_laws.total-law level_v6_ranges
-
-pub returns-clause-ranges : goal.returns-clause-ranges
-returns-clause-ranges c = level_where_equal range_order.ghosts.cmp range_laws.total-law level_ranges
 
 pub returns-clause-values : goal.returns-clause-values
 returns-clause-values c = level_where_equal value_order.ghosts.cmp value_laws.total-law level_values

@@ -3,7 +3,7 @@ use Rattle.smt_meaning.specs.Plain.{EntityType}
 use Rattle.smt_meaning.specs.Types.{literal_type, type_eq}
 use Rattle.smt_leaves.specs.Entities.{bytes_of_type}
 use Rattle.smt_term.specs.View.{plain_literal}
-use Rattle.smt_term.proofs.SameType.{entity_eq-is}
+use Rattle.smt_types.proofs.SameType.{entity_eq-is}
 use Rattle.smt_term.proofs.term.TermPrim.is_entity_of.Goals as goal
 
 pub returns-in-Entity : goal.returns-in-Entity

@@ -1,0 +1,2 @@
+mod PutPairs
+mod TermTables

@@ -1,0 +1,14 @@
+-- What functions of one argument say.
+use Rattle.smt_meaning.specs.Functions.{PlainDefinition, PlainUnary, Uninterpreted, Defined}
+use Rattle.smt_functions.specs.Tables.{plain_entries}
+use Rattle.smt_term.specs.View.{plain_function, plain_term, plain_type}
+use Rattle.smt_functions.specs.declared.function.Udf.{Udf}
+use Rattle.smt_functions.specs.declared.function.UnaryFunction.{UnaryFunction}
+use Rattle.smt_functions.specs.declared.function.UnaryFunction.TheVariants.{Uuf, Udf as ByTable}
+
+abbrev pub plain_definition : Udf → PlainDefinition
+plain_definition f = record { argument = plain_type f.arg; output = plain_type f.out; entries = plain_entries f.table; elsewhere = plain_term f.default }
+
+abbrev pub plain_unary : UnaryFunction → PlainUnary
+plain_unary (Uuf f) = Uninterpreted (plain_function f.value)
+plain_unary (ByTable f) = Defined (plain_definition f.value)

@@ -1,0 +1,6 @@
+pub mod DerivedOrder
+pub mod FormedTypes
+pub mod NamedPairs
+pub mod PutPairs
+pub mod RecordTypes
+pub mod SameType

@@ -1,0 +1,4 @@
+pub mod Maps
+pub mod Program
+pub mod TypeKinds
+pub mod View

@@ -1,0 +1,15 @@
+-- Laws of the program's types: what their code keeps, said of their plain form.
+use Rattle.std.specs.Prelude.{◌≡◌, ◌↔◌, IsTrue}
+use Rattle.smt_meaning.specs.Types.{type_cmp}
+use Rattle.smt_types.specs.View.{plain_type}
+use Rattle.smt_types.specs.contracts.types.TermTypeOrd.TheImpl as type_order
+use Rattle.smt_types.specs.contracts.types.TermTypePartialEq.TheImpl as type_equality
+use Rattle.smt_types.specs.declared.types.TermType.{TermType}
+
+-- types compare as what they say
+abbrev pub TypesCompareAsPlain : Type 0
+TypesCompareAsPlain = (s t : TermType) → type_order.ghosts.cmp s t ≡ type_cmp (plain_type s) (plain_type t)
+
+-- two types are equal exactly where they say the same
+abbrev pub EqualTypesSayTheSame : Type 0
+EqualTypesSayTheSame = (s t : TermType) → IsTrue (type_equality.ghosts.eq s t) ↔ (plain_type s ≡ plain_type t)
