@@ -80,17 +80,17 @@ pub fn binary_test(alloc: Global, op: Op, t1: &Term, t2: &Term) -> Result<Term, 
 fn list_of_one(alloc: Global, t: &Term) -> Result<TermList, TermError>
     ensures { IfOk result (λ ts. plain_items ts ≡ plain_term t.now ∷ []) }
 {
-    TermList::new(alloc, &[t.share()?])
+    TermList::of_references(alloc, &[t])
 }
 
 fn list_of_two(alloc: Global, t1: &Term, t2: &Term) -> Result<TermList, TermError>
     ensures { IfOk result (λ ts. plain_items ts ≡ plain_term t1.now ∷ plain_term t2.now ∷ []) }
 {
-    TermList::new(alloc, &[t1.share()?, t2.share()?])
+    TermList::of_references(alloc, &[t1, t2])
 }
 
 fn list_of_three(alloc: Global, t1: &Term, t2: &Term, t3: &Term) -> Result<TermList, TermError>
     ensures { IfOk result (λ ts. plain_items ts ≡ plain_term t1.now ∷ plain_term t2.now ∷ plain_term t3.now ∷ []) }
 {
-    TermList::new(alloc, &[t1.share()?, t2.share()?, t3.share()?])
+    TermList::of_references(alloc, &[t1, t2, t3])
 }

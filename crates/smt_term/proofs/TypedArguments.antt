@@ -3,7 +3,7 @@ use Rattle.std.proofs.Common.{◌≡◌, ℕ, ◌+◌, ◌<◌, ◌≤◌, Bool,
 use Rattle.std.proofs.lemmas.List.{at_drop_more, at_drop_all}
 use Rattle.std.specs.Prelude.{◌≢◌, IsTrue, is_some}
 use Rattle.std.specs.Bool.{then_some}
-use Rattle.std.proofs.lemmas.Bool.{false≢true}
+use Rattle.std.proofs.lemmas.Bool.{and_from, false≢true}
 use Rattle.smt_meaning.specs.Plain.{PlainType, BoolType, PlainOp, BitsOp, TestOp, OverflowOp, NotOp, PlainTerm, Application, SetTerm, terms}
 use Rattle.smt_meaning.specs.Types.{is_type, result_type, type_eq, type_of, types_of}
 use Rattle.smt_meaning.specs.TermOrder.{term_cmp}
@@ -16,6 +16,7 @@ use Rattle.smt_term.specs.View.{plain_elements, plain_items, plain_op, plain_ter
 use Rattle.smt_term.specs.declared.op.Op.{Op}
 use Rattle.smt_term.specs.OpClass.{class_of}
 use Rattle.smt_term.specs.declared.op.Op.TheVariants.{And, Eq, Or, SetInter, SetMember, SetSubset}
+use Rattle.smt_term.specs.declared.op.OpClass.{OpClass}
 use Rattle.smt_term.specs.declared.op.OpClass.TheVariants.{Bits, Test, Other}
 use Rattle.smt_term.specs.declared.term.Term.{Term, App, Set}
 use Rattle.smt_term.specs.declared.term.TermSet.{TermSet}
@@ -64,15 +65,28 @@ then_given : (b : Bool) (r ty : PlainType) → IsTrue (is_some (then_some b r)) 
 then_given true r ty h = refl
 then_given false r ty h = absurd (false≢true h)
 
+-- tests of a class, by which what is of another is refused
+abbrev is_bits_class : OpClass → Bool
+is_bits_class Bits = true
+is_bits_class c = false
+
+abbrev is_test_class : OpClass → Bool
+is_test_class Test = true
+is_test_class c = false
+
+abbrev is_other_class : OpClass → Bool
+is_other_class Other = true
+is_other_class c = false
+
 -- of two bitvectors an operator gives the type of the first, or a truth value
 pub bits_given : (o : PlainOp) (t u ty : PlainType) → class_of o ≡ Bits → IsTrue (is_some (result_type o (t ∷ u ∷ []))) → type_eq t ty ≡ is_type (result_type o (t ∷ u ∷ [])) ty
 bits_given (BitsOp o) t u ty c h = then_given _ t ty h
-bits_given o t u ty c h = cc
+bits_given o t u ty c h = absurd (false≢true (ap is_bits_class c))
 
 pub test_given : (o : PlainOp) (t u ty : PlainType) → class_of o ≡ Test → IsTrue (is_some (result_type o (t ∷ u ∷ []))) → type_eq BoolType ty ≡ is_type (result_type o (t ∷ u ∷ [])) ty
 test_given (TestOp o) t u ty c h = then_given _ BoolType ty h
 test_given (OverflowOp o) t u ty c h = then_given _ BoolType ty h
-test_given o t u ty c h = cc
+test_given o t u ty c h = absurd (false≢true (ap is_test_class c))
 
 -- any other gives a truth value of two arguments, where it takes them, but for the intersection
 pub truth_given : (o : Op) (t u ty : PlainType) → class_of (plain_op o) ≡ Other → o ≢ SetInter → IsTrue (is_some (result_type (plain_op o) (t ∷ u ∷ []))) → type_eq BoolType ty ≡ is_type (result_type (plain_op o) (t ∷ u ∷ [])) ty
@@ -82,7 +96,7 @@ truth_given Eq t u ty c n h = then_given _ BoolType ty h
 truth_given SetInter t u ty c n h = absurd (n refl)
 truth_given SetMember t u ty c n h = then_given _ BoolType ty h
 truth_given SetSubset t u ty c n h = then_given _ BoolType ty h
-truth_given o t u ty c n h = cc
+truth_given o t u ty c n h = absurd (false≢true (and_from _ _ (ap is_other_class c) h))
 
 -- each term is of the type
 abbrev pub are_all : TermType → List Term → Bool

@@ -89,6 +89,22 @@ impl TermList {
         })
     }
 
+    /// The list of the terms behind these references, in this order.
+    ///
+    /// # Errors
+    /// `Memory`, where there is none for the list.
+    pub fn of_references(alloc: Global, items: &[&Term]) -> Result<TermList, TermError>
+        ensures { IfOk result (λ list. plain_items list ≡ map (λ item. plain_term item.now) items.now) }
+    {
+        let mut all = Vec::with_capacity(alloc, items.len())?;
+        for item in items {
+            all.push(item.share()?)?;
+        }
+        Ok(TermList {
+            items: Rc::new(alloc, all)?,
+        })
+    }
+
     /// How many terms it has.
     pub fn len(&self) -> usize
         ensures { result ≡ length (plain_items self.now) }
