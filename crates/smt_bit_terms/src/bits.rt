@@ -36,9 +36,19 @@ where
     ensures folded { IfOk result (λ r. IsFoldedBy (FnReturnsAtPair F.Fn f.now) (plain_op op) (plain_term t1) (plain_term t2) (plain_term r)) }
     ensures refines { AnswersValues (FnReturnsAtPair F.Fn f.now) (plain_op op) → IfOk result (λ r. Refines (plain_term r) (bits_of_two (plain_op op) (plain_term t1) (plain_term t2))) }
 {
-    match answer(f, &t1, &t2) {
+    folded_by(alloc, op, f, &t1, &t2)
+}
+
+// The application of an operator from bits to bits, where the call answers its value, folded.
+fn folded_by<F>(alloc: Global, op: Op, f: &F, t1: &Term, t2: &Term) -> Result<Term, TermError>
+where
+    F: Fn(&BitVec, &BitVec) -> Result<BitVec, BitVecError>,
+    requires { F.IsAlwaysCallable f.now }
+    ensures { IfOk result (λ r. IsFoldedBy (FnReturnsAtPair F.Fn f.now) (plain_op op) (plain_term t1.now) (plain_term t2.now) (plain_term r)) }
+{
+    match answer(f, t1, t2) {
         Some(bits) => Ok(Term::from(bits)),
-        None => of_two(alloc, op, &t1, &t2),
+        None => of_two(alloc, op, t1, t2),
     }
 }
 

@@ -22,9 +22,19 @@ where
     requires { F.IsAlwaysCallable f.now }
     ensures { IfOk result (λ r. IsTestedBy (FnReturnsAtPair F.Fn f.now) (plain_op op) (plain_term t1) (plain_term t2) (plain_term r)) }
 {
-    match answer(f, &t1, &t2) {
+    folded_by(alloc, op, f, &t1, &t2)
+}
+
+// The application of a test of bits, where the call answers its value, folded.
+fn folded_by<F>(alloc: Global, op: Op, f: &F, t1: &Term, t2: &Term) -> Result<Term, TermError>
+where
+    F: Fn(&BitVec, &BitVec) -> Result<bool, BitVecError>,
+    requires { F.IsAlwaysCallable f.now }
+    ensures { IfOk result (λ r. IsTestedBy (FnReturnsAtPair F.Fn f.now) (plain_op op) (plain_term t1.now) (plain_term t2.now) (plain_term r)) }
+{
+    match answer(f, t1, t2) {
         Some(holds) => Ok(Term::from(holds)),
-        None => binary_test(alloc, op, &t1, &t2),
+        None => binary_test(alloc, op, t1, t2),
     }
 }
 

@@ -55,9 +55,19 @@ where
     ensures folded { IfOk result (λ r. IsOverflowBy (FnReturnsAtPair F.Fn f.now) (plain_op op) (plain_term t1) (plain_term t2) (plain_term r)) }
     ensures refines { TellsOverflow (FnReturnsAtPair F.Fn f.now) (plain_op op) → IfOk result (λ r. Refines (plain_term r) (test_of_two (plain_op op) (plain_term t1) (plain_term t2))) }
 {
-    match overflow(f, &t1, &t2) {
+    folded_by(alloc, op, f, &t1, &t2)
+}
+
+// The test whether what the call answers leaves the signed range, folded.
+fn folded_by<F>(alloc: Global, op: Op, f: &F, t1: &Term, t2: &Term) -> Result<Term, TermError>
+where
+    F: Fn(&Int, &Int) -> Option<Int>,
+    requires { F.IsAlwaysCallable f.now }
+    ensures { IfOk result (λ r. IsOverflowBy (FnReturnsAtPair F.Fn f.now) (plain_op op) (plain_term t1.now) (plain_term t2.now) (plain_term r)) }
+{
+    match overflow(f, t1, t2) {
         Some(leaves) => Ok(Term::from(leaves)),
-        None => binary_test(alloc, op, &t1, &t2),
+        None => binary_test(alloc, op, t1, t2),
     }
 }
 
