@@ -16,12 +16,9 @@ stands_as r f a e s = subst (λ (x : PlainTerm). Refines x a) (sym e) s
 pub both_stand_as : (r f a : PlainTerm × PlainTerm) → r ≡ f → BothRefine f a → BothRefine r a
 both_stand_as r f a e s = subst (λ (x : PlainTerm × PlainTerm). BothRefine x a) (sym e) s
 
--- the choice by the family, of terms that are shared
-pub literal_folds : (t u v : PlainTerm) (x y : PlainExtension) (g a b r : PlainTerm) → u ≡ t → v ≡ t → g ≡ is_ipv4 folding t → a ≡ in_range folding (range_v4 folding) u (extension_literal x) → b ≡ in_range folding (range_v6 folding) v (extension_literal y) → r ≡ folding.ite g a b → r ≡ in_range_lit folding t x y
-literal_folds t u v x y g a b r su sv e d f z =
-    let k : a ≡ in_range folding (range_v4 folding) t (extension_literal x) = d ∙ ap (λ w. in_range folding (range_v4 folding) w (extension_literal x)) su in
-    let l : b ≡ in_range folding (range_v6 folding) t (extension_literal y) = f ∙ ap (λ w. in_range folding (range_v6 folding) w (extension_literal y)) sv in
-    z ∙ λ i. folding.ite (e i) (k i) (l i)
+-- the choice by the family, of terms that are given by name
+pub literal_folds : (t : PlainTerm) (x y : PlainExtension) (g a b r : PlainTerm) → g ≡ is_ipv4 folding t → a ≡ in_range folding (range_v4 folding) t (extension_literal x) → b ≡ in_range folding (range_v6 folding) t (extension_literal y) → r ≡ folding.ite g a b → r ≡ in_range_lit folding t x y
+literal_folds t x y g a b r e d f z = z ∙ λ i. folding.ite (e i) (d i) (f i)
 
 pub any_folds : (t u : PlainTerm) (ts : List PlainTerm) (a b r : PlainTerm) → u ≡ t → a ≡ in_range_v folding (is_ipv4 folding) (range_v4 folding) u ts → b ≡ in_range_v folding (is_ipv6 folding) (range_v6 folding) t ts → r ≡ folding.or a b → r ≡ is_in_range folding t ts
 any_folds t u ts a b r s e d z =

@@ -13,7 +13,9 @@ ghost use Rattle.smt_folding.specs.Refinement.{Refines};
 ghost use Rattle.smt_meaning.specs.Plain.{PlainTerm};
 ghost use Rattle.smt_term.specs.View.{plain_term};
 
-use crate::ranges::{ip_term, is_ipv4, is_ipv6, range_v4, range_v6};
+use crate::ranges::{
+    folded_range_v4, folded_range_v6, ip_term, is_ipv4, is_ipv6, range_v4, range_v6,
+};
 use crate::rule::RangeRule;
 use smt_bit_terms::bvule;
 use smt_connectives::{and, or};
@@ -128,18 +130,18 @@ pub fn is_in_range(alloc: Global, t: Term, ts: &[Term]) -> Result<Term, TermErro
 }
 
 // Whether a range lies in a literal, by their addresses of version 4.
-fn is_in_block_v4(alloc: Global, t: Term, block: IPNet) -> Result<Term, TermError>
-    ensures { IfOk result (λ r. plain_term r ≡ in_range folding (range_v4 folding) (plain_term t) (extension_literal (plain_range (range_of block)))) }
+fn is_in_block_v4(alloc: Global, t: &Term, block: IPNet) -> Result<Term, TermError>
+    ensures { IfOk result (λ r. plain_term r ≡ in_range folding (range_v4 folding) (plain_term t.now) (extension_literal (plain_range (range_of block)))) }
 {
-    let inner = range_v4(alloc, t)?;
+    let inner = folded_range_v4(alloc, t)?;
     lies_in(alloc, inner, range_v4(alloc, ip_term(block))?)
 }
 
 // Whether a range lies in a literal, by their addresses of version 6.
-fn is_in_block_v6(alloc: Global, t: Term, block: IPNet) -> Result<Term, TermError>
-    ensures { IfOk result (λ r. plain_term r ≡ in_range folding (range_v6 folding) (plain_term t) (extension_literal (plain_range (range_of block)))) }
+fn is_in_block_v6(alloc: Global, t: &Term, block: IPNet) -> Result<Term, TermError>
+    ensures { IfOk result (λ r. plain_term r ≡ in_range folding (range_v6 folding) (plain_term t.now) (extension_literal (plain_range (range_of block)))) }
 {
-    let inner = range_v6(alloc, t)?;
+    let inner = folded_range_v6(alloc, t)?;
     lies_in(alloc, inner, range_v6(alloc, ip_term(block))?)
 }
 
@@ -151,9 +153,30 @@ pub fn in_range_lit(alloc: Global, t: Term, cidr4: IPNet, cidr6: IPNet) -> Resul
     ensures folded { IfOk result (λ r. plain_term r ≡ in_range_lit folding (plain_term t) (plain_range (range_of cidr4)) (plain_range (range_of cidr6))) }
     ensures refines { IfOk result (λ r. Refines (plain_term r) (in_range_lit applied (plain_term t) (plain_range (range_of cidr4)) (plain_range (range_of cidr6)))) }
 {
-    let in_v4 = is_in_block_v4(alloc, t.share()?, cidr4)?;
-    let in_v6 = is_in_block_v6(alloc, t.share()?, cidr6)?;
-    ite(alloc, is_ipv4(alloc, t)?, in_v4, in_v6)
+    folded_in_range_lit(alloc, &t, cidr4, cidr6)
+}
+
+// Whether a range lies in the one of two literals that is of its family, folded.
+fn folded_in_range_lit(
+    alloc: Global,
+    t: &Term,
+    cidr4: IPNet,
+    cidr6: IPNet,
+) -> Result<Term, TermError>
+    ensures { IfOk result (λ r. plain_term r ≡ in_range_lit folding (plain_term t.now) (plain_range (range_of cidr4)) (plain_range (range_of cidr6))) }
+{
+    let in_v4 = is_in_block_v4(alloc, t, cidr4)?;
+    let in_v6 = is_in_block_v6(alloc, t, cidr6)?;
+    let is_v4 = is_v4(alloc, t)?;
+    ite(alloc, is_v4, in_v4, in_v6)
+}
+
+// Whether a range is of IPv4.
+fn is_v4(alloc: Global, t: &Term) -> Result<Term, TermError>
+    ensures { IfOk result (λ r. plain_term r ≡ is_ipv4 folding (plain_term t.now)) }
+{
+    let t = t.share()?;
+    is_ipv4(alloc, t)
 }
 
 /// Whether a range lies in `127.0.0.0/8` or in `::1`.

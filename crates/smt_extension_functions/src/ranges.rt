@@ -170,7 +170,7 @@ fn free_bits_v4(alloc: Global, t: &Term) -> Result<Term, TermError>
 }
 
 // The lowest and the highest address, folded.
-fn folded_range_v4(alloc: Global, t: &Term) -> Result<(Term, Term), TermError>
+pub(crate) fn folded_range_v4(alloc: Global, t: &Term) -> Result<(Term, Term), TermError>
     ensures { IfOk result (λ r. plain_pair r ≡ range_v4 folding (plain_term t.now)) }
 {
     let free = free_bits_v4(alloc, t)?;
@@ -198,7 +198,7 @@ fn free_bits_v6(alloc: Global, t: &Term) -> Result<Term, TermError>
 }
 
 // The lowest and the highest address, folded.
-fn folded_range_v6(alloc: Global, t: &Term) -> Result<(Term, Term), TermError>
+pub(crate) fn folded_range_v6(alloc: Global, t: &Term) -> Result<(Term, Term), TermError>
     ensures { IfOk result (λ r. plain_pair r ≡ range_v6 folding (plain_term t.now)) }
 {
     let free = free_bits_v6(alloc, t)?;

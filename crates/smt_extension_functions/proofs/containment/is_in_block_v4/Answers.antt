@@ -12,6 +12,6 @@ use Rattle.smt_term.specs.View.{plain_term}
 pub returns : goal.returns
 returns c =
     IfOk-weaker c.lies_in.result _ _
-    (λ r h. block_folds (range_v4 folding) (plain_term c.args.t) (plain_term c.ip_term.result) (extension_literal (plain_range (range_of c.args.block))) (plain_term r) (plain_pair c.in_ok-inner.inner) (plain_pair c.in_ok-range_v4.field-0)
-    c.ip_term.ensures c.in_ok-inner.ensures.folded c.in_ok-range_v4.ensures.folded h)
+    (λ r h. block_folds (range_v4 folding) (plain_term c.args.t.now) (plain_term c.ip_term.result) (extension_literal (plain_range (range_of c.args.block))) (plain_term r) (plain_pair c.in_ok-inner.inner) (plain_pair c.in_ok-range_v4.field-0)
+    c.ip_term.ensures c.in_ok-inner.ensures c.in_ok-range_v4.ensures.folded h)
     c.lies_in.ensures
