@@ -30,6 +30,8 @@ enum Question {
     Members(&'static str),
     /// Whom the request names, and its context.
     Request,
+    /// How many types have tables.
+    Types,
 }
 
 /// A function at a term, as a text.
@@ -80,7 +82,7 @@ fn of_type(alloc: Global, env: &SymEnv, question: Question) -> Result<String, Sy
     let (ety, _id) = match question {
         Question::Attrs(name) | Question::Ancestors(name, _) => name,
         Question::Keys(name) | Question::Tag(name, _) => name,
-        Question::Members(_) | Question::Request => ("", ""),
+        Question::Members(_) | Question::Request | Question::Types => ("", ""),
     };
     let held = match env.entities.get(&type_named(alloc, ety)?) {
         Some(held) => held,
@@ -96,7 +98,9 @@ fn of_type(alloc: Global, env: &SymEnv, question: Question) -> Result<String, Sy
             None => at_entity(alloc, None, name),
         },
         Question::Tag(name, key) => tag(alloc, held, name, key),
-        Question::Members(_) | Question::Request => Ok(String::from_str(alloc, "")?),
+        Question::Members(_) | Question::Request | Question::Types => {
+            Ok(String::from_str(alloc, "")?)
+        }
     }
 }
 
@@ -104,6 +108,7 @@ fn of_type(alloc: Global, env: &SymEnv, question: Question) -> Result<String, Sy
 fn answer(alloc: Global, env: &SymEnv, question: Question) -> Result<String, SymbolizeError> {
     match question {
         Question::Members(name) => members(alloc, &env.enum_table(alloc)?, name),
+        Question::Types => Ok(format!(in alloc; "{}", env.entities.len())?),
         Question::Request => {
             let asked = &env.request;
             let (principal, action) = (&asked.principal, &asked.action);
@@ -132,7 +137,7 @@ const EMPTY: World = World {
 };
 
 /// Users with ages, groups and tags, and groups with maybe a name.
-const USERS: World = World {
+const USERS: &World = &World {
     types: &[
         (
             "User",
@@ -196,7 +201,8 @@ const USERS: World = World {
     ],
 };
 
-const QUESTIONS: [(Question, &str); 27] = [
+const QUESTIONS: &[(Question, &str)] = &[
+    (Question::Types, "6"),
     (Question::Attrs(A), "{ age: (bv64 3) }"),
     (Question::Attrs(("User", "z")), "{ age: (bv64 0) }"),
     (
@@ -241,19 +247,38 @@ const QUESTIONS: [(Question, &str); 27] = [
     ),
 ];
 
+/// The place of the first of these questions that has another answer.
+fn wrong_answer(
+    alloc: Global,
+    env: &SymEnv,
+    rows: &[(Question, &str)],
+) -> Result<Option<usize>, Fail> {
+    for (at, (question, said)) in rows.iter().enumerate() {
+        if answer(alloc, env, *question)?.as_str() != *said {
+            return Ok(Some(at));
+        }
+    }
+    Ok(None)
+}
+
+/// The same of questions about the environment of a world.
+fn wrong_answer_of(
+    alloc: Global,
+    world: &World,
+    rows: &[(Question, &str)],
+) -> Result<Option<usize>, Fail> {
+    let env = symbolized(alloc, world)?;
+    wrong_answer(alloc, &env, rows)
+}
+
 #[test]
 fn tables_of_a_store(rt: HostRuntime) -> Result<(), Fail> {
-    let alloc = rt.alloc();
-    let env = symbolized(alloc, &USERS)?;
-    assert_eq!(rt; env.entities.len(), 6);
-    for (at, (question, said)) in QUESTIONS.iter().enumerate() {
-        assert_eq!(rt; answer(alloc, &env, *question)?.as_str(), *said, "at {at}");
-    }
+    assert_eq!(rt; wrong_answer_of(rt.alloc(), USERS, QUESTIONS)?, None);
     Ok(())
 }
 
 /// A type that the schema lists and an action has too, with attributes that are not known.
-const ACTIONS_ALONE: World = World {
+const ACTIONS_ALONE: &World = &World {
     types: &[
         ("Action", Kind::Enum(&["listed"])),
         (
@@ -271,27 +296,26 @@ const ACTIONS_ALONE: World = World {
     ..EMPTY
 };
 
+const QUESTIONS_OF_ACTIONS: &[(Question, &str)] = &[
+    (Question::Types, "2"),
+    (Question::Members("Action"), "[\"view\"]"),
+    (Question::Members("Other"), "[\"o\"]"),
+    (Question::Attrs(("Other", "o")), "{}"),
+    (Question::Keys(("Other", "o")), "no table"),
+    (Question::Ancestors(("Other", "o"), "Other"), "[]"),
+    (Question::Attrs(("User", "a")), "no type"),
+    (
+        Question::Request,
+        "User::\"a\" Action::\"view\" User::\"b\" {}",
+    ),
+];
+
 #[test]
 fn types_of_actions(rt: HostRuntime) -> Result<(), Fail> {
-    let alloc = rt.alloc();
-    let env = symbolized(alloc, &ACTIONS_ALONE)?;
-    assert_eq!(rt; env.entities.len(), 2);
-    let rows = [
-        (Question::Members("Action"), "[\"view\"]"),
-        (Question::Members("Other"), "[\"o\"]"),
-        (Question::Attrs(("Other", "o")), "{}"),
-        (Question::Keys(("Other", "o")), "no table"),
-        (Question::Ancestors(("Other", "o"), "Other"), "[]"),
-        (Question::Attrs(("User", "a")), "no type"),
-        (
-            Question::Request,
-            "User::\"a\" Action::\"view\" User::\"b\" {}",
-        ),
-    ];
-    for (at, (question, said)) in rows.iter().enumerate() {
-        let text = answer(alloc, &env, *question)?;
-        assert_eq!(rt; text.as_str(), *said, "at {at}");
-    }
+    assert_eq!(rt;
+        wrong_answer_of(rt.alloc(), ACTIONS_ALONE, QUESTIONS_OF_ACTIONS)?,
+        None
+    );
     Ok(())
 }
 
@@ -328,7 +352,7 @@ const NO_RECORD: &str =
     "UnableToSymbolizeValue(Record(ValueMap { pairs: AttributePairs { items: [] } }))";
 
 /// Worlds whose request, or whose context, is refused first, and one that is not refused.
-const REQUESTS: [(World, &str); 10] = [
+const REQUESTS: &[(World, &str)] = &[
     (EMPTY, "none"),
     (
         World {
@@ -400,7 +424,7 @@ const REQUESTS: [(World, &str); 10] = [
 ];
 
 /// Worlds whose types, or the attributes of whose entities, are refused first.
-const TYPES: [(World, &str); 6] = [
+const TYPES: &[(World, &str)] = &[
     (
         World {
             types: &[("A", NEVER)],
@@ -459,7 +483,7 @@ const TYPES: [(World, &str); 6] = [
 ];
 
 /// Worlds whose tags, or what stands before them, are refused first, and one whose entity is of no type.
-const TAGS: [(World, &str); 6] = [
+const TAGS: &[(World, &str)] = &[
     (
         World {
             types: &[("A", NEVER_TAGS)],
@@ -545,19 +569,19 @@ fn wrong(alloc: Global, rows: &[(World, &str)]) -> Result<Option<usize>, Fail> {
 
 #[test]
 fn requests_are_refused(rt: HostRuntime) -> Result<(), Fail> {
-    assert_eq!(rt; wrong(rt.alloc(), &REQUESTS)?, None);
+    assert_eq!(rt; wrong(rt.alloc(), REQUESTS)?, None);
     Ok(())
 }
 
 #[test]
 fn types_are_refused(rt: HostRuntime) -> Result<(), Fail> {
-    assert_eq!(rt; wrong(rt.alloc(), &TYPES)?, None);
+    assert_eq!(rt; wrong(rt.alloc(), TYPES)?, None);
     Ok(())
 }
 
 #[test]
 fn tags_are_refused(rt: HostRuntime) -> Result<(), Fail> {
-    assert_eq!(rt; wrong(rt.alloc(), &TAGS)?, None);
+    assert_eq!(rt; wrong(rt.alloc(), TAGS)?, None);
     Ok(())
 }
 

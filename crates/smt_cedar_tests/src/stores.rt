@@ -60,7 +60,7 @@ fn marks(alloc: Global, entities: &Entities) -> Result<String, Fail> {
 }
 
 /// Entities with their marks, and the marks of the store that they make.
-const STORES: [(&[(&str, &str, &str)], &str); 6] = [
+const STORES: &[(&[(&str, &str, &str)], &str)] = &[
     (&[], ""),
     (&[("User", "ann", "1"), ("User", "bob", "2")], " 1 2"),
     (
@@ -135,7 +135,7 @@ fn action(
 }
 
 /// Entries of actions, and whether a schema of them has a `User` who does `view` to a `Photo`.
-const SCHEMAS: [(&[(&str, &[&str], &[&str])], bool); 8] = [
+const SCHEMAS: &[(&[(&str, &[&str], &[&str])], bool)] = &[
     (&[], false),
     (&[("view", &["User"], &["Photo"])], true),
     (&[("view", &["Group", "User"], &["Album", "Photo"])], true),

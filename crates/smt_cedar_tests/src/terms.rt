@@ -214,7 +214,7 @@ const NO_DECIMAL: &str =
 
 const NO_DECIMAL_PART: Part = Part::Call("decimal", "1.00000");
 
-const ROWS: [(Given, At, &str); 36] = [
+const ROWS: &[(Given, At, &str)] = &[
     (Given::One(Part::Long(7)), At::One(Plain::Long), "(bv64 7)"),
     (
         Given::One(Part::Long(-1)),

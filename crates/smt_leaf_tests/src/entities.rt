@@ -5,7 +5,7 @@ use std::alloc::Global;
 use std::test::Fail;
 
 /// Entities in ascending order: by type, then by id.
-const ENTITIES: [(&str, &str); 5] = [("A", "b"), ("A", "ba"), ("AB", "a"), ("a", ""), ("é", "z")];
+const ENTITIES: &[(&str, &str)] = &[("A", "b"), ("A", "ba"), ("AB", "a"), ("a", ""), ("é", "z")];
 
 fn entity(alloc: Global, ety: &str, id: &str) -> Result<EntityUID, Fail> {
     Ok(EntityUID {
@@ -23,7 +23,7 @@ fn has_parts(alloc: Global, ety: &str, id: &str) -> Result<bool, Fail> {
 
 #[test]
 fn entities_have_their_parts(rt: HostRuntime) -> Result<(), Fail> {
-    for &(ety, id) in &ENTITIES {
+    for &(ety, id) in ENTITIES {
         assert!(rt; has_parts(rt.alloc(), ety, id)?, "{ety} {id}");
     }
     Ok(())
@@ -32,7 +32,7 @@ fn entities_have_their_parts(rt: HostRuntime) -> Result<(), Fail> {
 #[test]
 fn entities_are_ordered(rt: HostRuntime) -> Result<(), Fail> {
     let mut entities = Vec::new(rt.alloc());
-    for &(ety, id) in &ENTITIES {
+    for &(ety, id) in ENTITIES {
         entities.push(entity(rt.alloc(), ety, id)?)?;
     }
     assert!(rt; entities.as_slice().is_sorted_by(|a, b| a < b));

@@ -6,7 +6,7 @@ use std::alloc::Global;
 use std::test::Fail;
 
 /// Enum types in the order in which they are given, with their members, and whether they enter.
-const ENTRIES: [(&str, &str, bool); 5] = [
+const ENTRIES: &[(&str, &str, bool)] = &[
     ("Color", "b a b", true),
     ("Color", "c", false),
     ("Empty", "", true),
@@ -15,7 +15,7 @@ const ENTRIES: [(&str, &str, bool); 5] = [
 ];
 
 /// Entity types, and the members that the table has of them.
-const MEMBERS: [(&str, Option<&str>); 5] = [
+const MEMBERS: &[(&str, Option<&str>)] = &[
     ("Color", Some("a b")),
     ("Empty", Some("")),
     ("A", Some("x")),
@@ -46,14 +46,14 @@ fn enum_types_enter_once(rt: HostRuntime) -> Result<(), Fail> {
     let alloc = rt.alloc();
     let mut table = EnumTable::new(alloc);
     assert!(rt; has_members(alloc, &table, "Color", None)?);
-    for &(name, members, enters) in &ENTRIES {
+    for &(name, members, enters) in ENTRIES {
         let members = texts_in(alloc, members)?;
         assert!(rt;
             table.insert(type_called(alloc, name)?, members.as_slice())? == enters,
             "{name}"
         );
     }
-    for &(name, members) in &MEMBERS {
+    for &(name, members) in MEMBERS {
         assert!(rt; has_members(alloc, &table, name, members)?, "{name}");
     }
     Ok(())

@@ -133,17 +133,18 @@ fn use_session(
     Ok(())
 }
 
+/// The answers, the numbers of the calls of the link that fail, whether the session is marked and whether it is asked.
+const FAILED: &[(&[u8], &[u64], bool, bool)] = &[
+    (b"(error \"boom\")\nsat\n", &[9], false, true),
+    (b"sat\n", &[9], true, false),
+    (b"sat\n", &[1], false, false),
+    (b"sat\n", &[4], false, true),
+];
+
 #[test]
 fn failed_sessions(rt: HostRuntime) -> Result<(), Fail> {
-    // The answers, the numbers of the calls of the link that fail, whether the session is marked and whether it is asked.
-    let rows = [
-        (b"(error \"boom\")\nsat\n".as_slice(), [9], false, true),
-        (b"sat\n".as_slice(), [9], true, false),
-        (b"sat\n".as_slice(), [1], false, false),
-        (b"sat\n".as_slice(), [4], false, true),
-    ];
-    for (answers, fails, is_marked, is_asked) in rows {
-        let starter = starter_of(rt.alloc(), &[answers], &fails, &[])?;
+    for &(answers, fails, is_marked, is_asked) in FAILED {
+        let starter = starter_of(rt.alloc(), &[answers], fails, &[])?;
         let mut pool = pool_of(rt.alloc(), sessions(0, 2), starter)?;
         let mut s = pool.acquire()?;
         let used = use_session(&mut s, is_marked, is_asked);

@@ -267,16 +267,18 @@ fn counted(pieces: &[&str]) -> Result<(u64, u64), SinkError> {
     Ok((sink.bytes(), sink.sum()))
 }
 
+/// Pieces, how many bytes they have, and their sum.
+const COUNTED: &[(&[&str], u64, u64)] = &[
+    (&[], 0, 0),
+    (&["", ""], 0, 0),
+    (&["abc"], 3, 294),
+    (&["(assert ", "t0", ")\n"], 12, 945),
+    (&["é", "~"], 3, 490),
+];
+
 #[test]
 fn bytes_are_counted(rt: HostRuntime) {
-    let rows: [(&[&str], u64, u64); 5] = [
-        (&[], 0, 0),
-        (&["", ""], 0, 0),
-        (&["abc"], 3, 294),
-        (&["(assert ", "t0", ")\n"], 12, 945),
-        (&["é", "~"], 3, 490),
-    ];
-    for (pieces, bytes, sum) in &rows {
-        assert_eq!(rt; counted(pieces), Ok((*bytes, *sum)));
+    for &(pieces, bytes, sum) in COUNTED {
+        assert_eq!(rt; counted(pieces), Ok((bytes, sum)));
     }
 }

@@ -33,16 +33,17 @@ fn told<D>(answer: &Result<D, SolverError>) -> (&str, &str) {
     }
 }
 
+const DECISIONS: &[(&[u8], Decision)] = &[
+    (b"sat\n", Decision::Sat),
+    (b"unsat\n", Decision::Unsat),
+    (b" \t unknown \r\n", Decision::Unknown),
+    (b"\tunsat\r\nsat\n", Decision::Unsat),
+    (b"sat", Decision::Sat),
+];
+
 #[test]
 fn decisions(rt: HostRuntime) -> Result<(), Fail> {
-    let rows = [
-        (b"sat\n".as_slice(), Decision::Sat),
-        (b"unsat\n".as_slice(), Decision::Unsat),
-        (b" \t unknown \r\n".as_slice(), Decision::Unknown),
-        (b"\tunsat\r\nsat\n".as_slice(), Decision::Unsat),
-        (b"sat".as_slice(), Decision::Sat),
-    ];
-    for (answers, decision) in rows {
+    for &(answers, decision) in DECISIONS {
         let mut solver = session(rt.alloc(), answers, &[])?;
         let answer = solver.check_sat();
         assert!(rt; answer == Ok(decision));
@@ -81,33 +82,26 @@ fn expect_refusal(
     assert!(rt; (link.ended() == Ok(Ended::Killed)) == killed);
 }
 
+/// Answers with what is told of them, and whether the solver is killed.
+const REFUSALS: &[(&[u8], (&str, &str), bool)] = &[
+    (b"(error \"x\")\n", ("solver", "x"), false),
+    (
+        b" (error \"Parse Error: x\")\r\n",
+        ("solver", "Parse Error: x"),
+        true,
+    ),
+    (b"(error \"\")", ("solver", ""), false),
+    (b"(error \")\n", ("unrecognized", "(error \")"), false),
+    (b" error: no\r\n", ("unrecognized", "error: no"), false),
+    (b"unsat.\nunsat\n", ("unrecognized", "unsat."), false),
+    (b"\n", ("unrecognized", ""), false),
+    (b"", ("solver", ENDED), true),
+    (b"\xff\n", ("io", ""), false),
+];
+
 #[test]
 fn refusals(rt: HostRuntime) -> Result<(), Fail> {
-    let parse_error = b" (error \"Parse Error: x\")\r\n".as_slice();
-    let rows = [
-        (b"(error \"x\")\n".as_slice(), ("solver", "x"), false),
-        (parse_error, ("solver", "Parse Error: x"), true),
-        (b"(error \"\")".as_slice(), ("solver", ""), false),
-        (
-            b"(error \")\n".as_slice(),
-            ("unrecognized", "(error \")"),
-            false,
-        ),
-        (
-            b" error: no\r\n".as_slice(),
-            ("unrecognized", "error: no"),
-            false,
-        ),
-        (
-            b"unsat.\nunsat\n".as_slice(),
-            ("unrecognized", "unsat."),
-            false,
-        ),
-        (b"\n".as_slice(), ("unrecognized", ""), false),
-        (b"".as_slice(), ("solver", ENDED), true),
-        (b"\xff\n".as_slice(), ("io", ""), false),
-    ];
-    for (answers, wanted, killed) in rows {
+    for &(answers, wanted, killed) in REFUSALS {
         expect_refusal(&rt, session(rt.alloc(), answers, &[])?, wanted, killed);
     }
     for call in [1, 2, 3] {
@@ -156,20 +150,19 @@ fn long_lines(rt: HostRuntime) -> Result<(), Fail> {
     Ok(())
 }
 
+/// Answers with the models that they hold.
+const MODELS: &[(&[u8], &str)] = &[
+    (
+        b"sat\n(\n(define-fun x () Bool true)\n)\n",
+        "(\n(define-fun x () Bool true)\n)\n",
+    ),
+    (b"sat\n ( \n ) \nsat\n", " ( \n ) \n"),
+    (b"sat\n(\n(error \"x\")\n)", "(\n(error \"x\")\n)"),
+];
+
 #[test]
 fn models(rt: HostRuntime) -> Result<(), Fail> {
-    let rows = [
-        (
-            b"sat\n(\n(define-fun x () Bool true)\n)\n".as_slice(),
-            "(\n(define-fun x () Bool true)\n)\n",
-        ),
-        (b"sat\n ( \n ) \nsat\n".as_slice(), " ( \n ) \n"),
-        (
-            b"sat\n(\n(error \"x\")\n)".as_slice(),
-            "(\n(error \"x\")\n)",
-        ),
-    ];
-    for (answers, text) in rows {
+    for &(answers, text) in MODELS {
         let model = Text::from_str(rt.alloc(), text)?;
         let mut solver = session(rt.alloc(), answers, &[])?;
         assert!(rt; solver.check_sat_with_model() == Ok(DecisionWithModel::Sat { model }));
@@ -188,22 +181,25 @@ fn models(rt: HostRuntime) -> Result<(), Fail> {
     Ok(())
 }
 
+/// Answers to a question for a model that hold none, with what is told of them, and whether the solver is killed.
+const NO_MODELS: &[(&[u8], (&str, &str), bool)] = &[
+    (b"sat\n(error \"x\")\n", ("solver", "x"), false),
+    (
+        b"sat\n(error \"Parse Error: x\")\n",
+        ("solver", "Parse Error: x"),
+        true,
+    ),
+    (b"sat\n()\n", ("unrecognized", "()"), false),
+    (b"sat\nunsat\n", ("unrecognized", "unsat"), false),
+    (b"sat\n", ("solver", ENDED), true),
+    (b"sat\n(\nx", ("solver", ENDED), true),
+    (b"sat\n(\n\xff\n)\n", ("io", ""), false),
+    (b"satisfied\n", ("unrecognized", "satisfied"), false),
+];
+
 #[test]
 fn no_models(rt: HostRuntime) -> Result<(), Fail> {
-    let error = b"sat\n(error \"x\")\n".as_slice();
-    let parse_error = b"sat\n(error \"Parse Error: x\")\n".as_slice();
-    let other = b"satisfied\n".as_slice();
-    let rows = [
-        (error, ("solver", "x"), false),
-        (parse_error, ("solver", "Parse Error: x"), true),
-        (b"sat\n()\n".as_slice(), ("unrecognized", "()"), false),
-        (b"sat\nunsat\n".as_slice(), ("unrecognized", "unsat"), false),
-        (b"sat\n".as_slice(), ("solver", ENDED), true),
-        (b"sat\n(\nx".as_slice(), ("solver", ENDED), true),
-        (b"sat\n(\n\xff\n)\n".as_slice(), ("io", ""), false),
-        (other, ("unrecognized", "satisfied"), false),
-    ];
-    for (answers, wanted, killed) in rows {
+    for &(answers, wanted, killed) in NO_MODELS {
         let mut solver = session(rt.alloc(), answers, &[])?;
         assert!(rt; told(&solver.check_sat_with_model()) == wanted);
         assert!(rt; solver.is_failed());
@@ -247,18 +243,20 @@ fn marked_sessions(rt: HostRuntime) -> Result<(), Fail> {
     Ok(())
 }
 
+/// Bytes, the limit of a line, and how many of them are the next one and how it ends.
+const NEXT_LINES: &[(&str, usize, (usize, LineEnd))] = &[
+    ("", 0, (0, LineEnd::TooLong)),
+    ("", 1, (0, LineEnd::End)),
+    ("ab\ncd", 3, (3, LineEnd::Line)),
+    ("ab\ncd", 2, (2, LineEnd::TooLong)),
+    ("\n", 9, (1, LineEnd::Line)),
+    ("ab", 2, (2, LineEnd::TooLong)),
+    ("ab", 3, (2, LineEnd::End)),
+];
+
 #[test]
 fn next_lines(rt: HostRuntime) {
-    let rows = [
-        ("", 0, (0, LineEnd::TooLong)),
-        ("", 1, (0, LineEnd::End)),
-        ("ab\ncd", 3, (3, LineEnd::Line)),
-        ("ab\ncd", 2, (2, LineEnd::TooLong)),
-        ("\n", 9, (1, LineEnd::Line)),
-        ("ab", 2, (2, LineEnd::TooLong)),
-        ("ab", 3, (2, LineEnd::End)),
-    ];
-    for (bytes, limit, wanted) in rows {
+    for &(bytes, limit, wanted) in NEXT_LINES {
         assert!(rt;
             next_line(bytes.as_bytes(), limit) == wanted,
             "{bytes} {limit}"

@@ -25,7 +25,7 @@ use std::alloc::Global;
 use std::fs;
 
 /// The files of rows.
-const FILES: [&str; 8] = [
+const FILES: &[&str] = &[
     "sums",
     "terms",
     "found",
@@ -122,7 +122,7 @@ fn answer(alloc: Global, nodes: &mut Interner, numbers: &[NodeId], row: &str) ->
 fn main(rt: HostRuntime) -> Result<()> {
     let alloc = rt.alloc();
     let numbers = numbers(alloc)?;
-    for file in FILES {
+    for &file in FILES {
         let rows = fs::read_to_string(&rt, file)?;
         let mut nodes = Interner::new(alloc);
         for row in rows.lines() {

@@ -27,7 +27,7 @@ use std::fs;
 use std::io::{self, BufWriter, Write};
 
 /// The files of rows.
-const FILES: [&str; 13] = [
+const FILES: &[&str] = &[
     "booleans",
     "bitvectors",
     "strings",
@@ -46,7 +46,7 @@ const FILES: [&str; 13] = [
 fn main(rt: HostRuntime) -> Result<()> {
     let alloc = rt.alloc();
     let mut printer = BufWriter::new(alloc, io::writer(&rt))?;
-    for file in FILES {
+    for &file in FILES {
         let rows = fs::read_to_string(&rt, file)?;
         for row in rows.lines() {
             writeln!(printer, "> {row}")?;

@@ -10,7 +10,7 @@ use smt_words::{last_of, operator, pairs, text, type_of};
 use std::alloc::Global;
 
 /// Types of which a term has at most one.
-const DISTINCT: [&str; 13] = [
+const DISTINCT: &[&str] = &[
     "bool", "1", "8", "64", "128", "string", "@a", "@b", "?8", ".bool", "*8", "*string", "*?string",
 ];
 
@@ -142,7 +142,7 @@ fn put_type_of_literal(out: &mut String, term: &Term) -> Result<()> {
 /// Puts those of the distinct types that a term has.
 fn put_types_of(alloc: Global, out: &mut String, term: &Term) -> Result<()> {
     out.push_str("(types")?;
-    for spelling in &DISTINCT {
+    for spelling in DISTINCT {
         if term.has_type(&type_of(alloc, spelling)?) {
             write!(out, " {spelling}")?;
         }
@@ -192,7 +192,7 @@ fn put_types_given(alloc: Global, out: &mut String, terms: &[Term], spelling: &s
 
 fn put_types_by(alloc: Global, out: &mut String, op: &Op, args: &[Term]) -> Result<()> {
     out.push_str("(types")?;
-    for spelling in &DISTINCT {
+    for spelling in DISTINCT {
         let ty = type_of(alloc, spelling)?;
         match is_well_typed_as(alloc, op, args, &ty)? {
             Some(true) => write!(out, " {spelling}")?,

@@ -64,7 +64,7 @@ use std::fs;
 use std::io::{self, BufWriter, Write};
 
 /// The files of rows.
-const FILES: [&str; 16] = [
+const FILES: &[&str] = &[
     "connectives",
     "options",
     "collections",
@@ -128,7 +128,7 @@ fn made(alloc: Global, terms: &mut Vec<Term>, head: &str, held: &str) -> Result<
 fn main(rt: HostRuntime) -> Result<()> {
     let alloc = rt.alloc();
     let mut printer = BufWriter::new(alloc, io::writer(&rt))?;
-    for file in FILES {
+    for &file in FILES {
         let rows = fs::read_to_string(&rt, file)?;
         for row in rows.lines() {
             let answer = answer(alloc, row)?;

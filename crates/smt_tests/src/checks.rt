@@ -77,7 +77,7 @@ const SAYS_IO: Check = Check {
     ..UNSAT
 };
 
-const CHECKS: [Check; 19] = [
+const CHECKS: &[Check] = &[
     UNSAT,
     Check {
         answers: b"sat\r\n",
@@ -233,7 +233,7 @@ fn sent_by(starter: &MemoryStarter) -> Option<&[u8]> {
 #[test]
 fn checks_end_as_they_should(rt: HostRuntime) -> Result<(), Fail> {
     let alloc = rt.alloc();
-    for row in &CHECKS {
+    for row in CHECKS {
         let end = end_of(alloc, row)?;
         assert!(rt; end.status == row.status, "{} {}", row.status, row.said);
         assert!(rt;

@@ -96,7 +96,7 @@ fn outcome(alloc: Global, text: &str) -> Result<String, Fail> {
 }
 
 /// Jobs, and what reading gives. Of two faults the first is named.
-const OUTCOMES: [(&str, &str); 25] = [
+const OUTCOMES: &[(&str, &str)] = &[
     ("(job (enums) (vars) (funs) (terms))", "0 0 0"),
     (
         "(job (enums) (vars (\"x\" (Option (Entity \"U\")))) (funs (\"f\" (Entity \"U\") (Set (Entity \"G\")))) (terms (set.member (entity \"G\" \"g\") (uuf \"f\" (option.get (var \"x\"))))))",
@@ -198,7 +198,7 @@ const OUTCOMES: [(&str, &str); 25] = [
 
 #[test]
 fn the_first_fault_is_named(rt: HostRuntime) -> Result<(), Fail> {
-    for (text, wanted) in OUTCOMES {
+    for &(text, wanted) in OUTCOMES {
         let found = outcome(rt.alloc(), text)?;
         assert!(rt; found.as_str() == wanted, "{text} gives {found}");
     }

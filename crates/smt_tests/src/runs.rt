@@ -41,7 +41,7 @@ type Row = (
     &'static str,
 );
 
-const ENDS: [Row; 16] = [
+const ENDS: &[Row] = &[
     ("script", NOT_B, 0, 0, 200, SCRIPT, 0, ""),
     ("--help", "", 0, 0, 2000, USAGE, 0, ""),
     ("--version", "", 0, 0, 200, VERSION, 0, ""),
@@ -115,7 +115,7 @@ fn is_put(status: u8, out: &[u8], whole: &[u8]) -> bool {
 
 #[test]
 fn runs_end_as_they_should(rt: HostRuntime) -> Result<(), Fail> {
-    for row in &ENDS {
+    for row in ENDS {
         let (status, out, said) = end_of(rt.alloc(), row, &[])?;
         assert_eq!(rt; status, row.6, "{} {}", row.0, row.7);
         assert!(rt; said.as_slice() == row.7.as_bytes(), "{} {}", row.0, row.7);
@@ -131,7 +131,7 @@ fn runs_end_as_they_should(rt: HostRuntime) -> Result<(), Fail> {
 
 #[test]
 fn a_failing_diag_changes_no_status(rt: HostRuntime) -> Result<(), Fail> {
-    for row in &ENDS {
+    for row in ENDS {
         let (status, _, said) = end_of(rt.alloc(), row, &[1])?;
         assert!(rt; status == row.6 && said.is_empty(), "{} {}", row.0, row.7);
     }
@@ -224,26 +224,27 @@ fn run_from(
     ))
 }
 
+const REFUSED_WORDS: &[&[&str]] = &[
+    &[],
+    &["scripts"],
+    &["script", "x"],
+    &["check"],
+    &["gen"],
+    &["gen", "1"],
+    &["gen", "0", "0"],
+    &["gen", "0", "100001"],
+    &["gen", "-1", "5"],
+    &["gen", "1", "+5"],
+    &["gen", "", "5"],
+    &["gen", "18446744073709551616", "5"],
+    &["gen", "1", "5", "5"],
+    &["generate", "1", "5"],
+];
+
 #[test]
 fn refused_words_read_nothing(rt: HostRuntime) -> Result<(), Fail> {
     let alloc = rt.alloc();
-    let rows: [&[&str]; 14] = [
-        &[],
-        &["scripts"],
-        &["script", "x"],
-        &["check"],
-        &["gen"],
-        &["gen", "1"],
-        &["gen", "0", "0"],
-        &["gen", "0", "100001"],
-        &["gen", "-1", "5"],
-        &["gen", "1", "+5"],
-        &["gen", "", "5"],
-        &["gen", "18446744073709551616", "5"],
-        &["gen", "1", "5", "5"],
-        &["generate", "1", "5"],
-    ];
-    for words in rows {
+    for &words in REFUSED_WORDS {
         let mut source = MemorySource::new(alloc, NOT_B.as_bytes(), &[])?;
         let (status, out, diag) = run_from(alloc, words, &mut source)?;
         let refused = status == 2 && out.is_empty() && diag.as_slice() == USAGE.as_bytes();
@@ -277,14 +278,16 @@ bytes 269
 sum 19277
 ";
 
+const GENERATED: &[(&str, &str, &str)] = &[
+    ("0", "9", NINE),
+    ("000", "0009", NINE),
+    ("18446744073709551615", "1", ONE),
+];
+
 #[test]
 fn generated_jobs_are_summarized(rt: HostRuntime) -> Result<(), Fail> {
     let alloc = rt.alloc();
-    for (seed, count, lines) in [
-        ("0", "9", NINE),
-        ("000", "0009", NINE),
-        ("18446744073709551615", "1", ONE),
-    ] {
+    for &(seed, count, lines) in GENERATED {
         let mut source = MemorySource::new(alloc, NOT_B.as_bytes(), &[])?;
         let (status, out, diag) = run_from(alloc, &["gen", seed, count], &mut source)?;
         let printed = status == 0 && out.as_slice() == lines.as_bytes() && diag.is_empty();

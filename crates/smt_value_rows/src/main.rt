@@ -11,7 +11,7 @@ use std::alloc::Global;
 use std::fs;
 
 /// The files of rows.
-const FILES: [&str; 6] = [
+const FILES: &[&str] = &[
     "bitvectors",
     "decimals",
     "datetimes",
@@ -31,7 +31,7 @@ fn answer(alloc: Global, file: &str, row: &str) -> Result<String> {
 
 fn main(rt: HostRuntime) -> Result<()> {
     let alloc = rt.alloc();
-    for file in FILES {
+    for &file in FILES {
         let rows = fs::read_to_string(&rt, file)?;
         for row in rows.lines() {
             let answer = answer(alloc, file, row)?;

@@ -7,7 +7,7 @@ use std::test::Fail;
 // The text of an expression, and what its value prints.
 type Row = (&'static [u8], &'static str);
 
-const PRINTED: [Row; 16] = [
+const PRINTED: &[Row] = &[
     (b"#b01", "BitVec { width: 2, v: 1 }"),
     (b"#xff", "BitVec { width: 8, v: 255 }"),
     (
@@ -45,7 +45,7 @@ fn prints_as(alloc: Global, src: &[u8], want: &str) -> Result<bool, Fail> {
 
 #[test]
 fn prints_expressions(rt: HostRuntime) -> Result<(), Fail> {
-    for &(src, want) in &PRINTED {
+    for &(src, want) in PRINTED {
         assert!(rt; prints_as(rt.alloc(), src, want)?, "{want}");
     }
     Ok(())

@@ -5,7 +5,7 @@ use std::alloc::Global;
 use std::test::Fail;
 
 // A text and what stands for it in a script (SMT-LIB 2.7, theory UnicodeStrings).
-const QUOTED: [(&str, &str); 15] = [
+const QUOTED: &[(&str, &str)] = &[
     ("", "\"\""),
     ("a\\\"", "\"a\\u{5c}\"\"\""),
     ("\"", "\"\"\"\""),
@@ -23,7 +23,7 @@ const QUOTED: [(&str, &str); 15] = [
     ("\u{2ffff}", "\"\\u{2ffff}\""),
 ];
 
-const NOT_QUOTED: [&str; 3] = ["\u{30000}", "a\u{30000}", "\u{10ffff}\""];
+const NOT_QUOTED: &[&str] = &["\u{30000}", "a\u{30000}", "\u{10ffff}\""];
 
 /// Whether the text is quoted so, or not at all.
 fn is_quoted(alloc: Global, text: &str, want: Option<&str>) -> Result<bool, Fail> {
@@ -33,7 +33,7 @@ fn is_quoted(alloc: Global, text: &str, want: Option<&str>) -> Result<bool, Fail
 
 #[test]
 fn quotes_each_character(rt: HostRuntime) -> Result<(), Fail> {
-    for &(text, want) in &QUOTED {
+    for &(text, want) in QUOTED {
         assert!(rt; is_quoted(rt.alloc(), text, Some(want))?, "at {text:?}");
     }
     Ok(())
@@ -41,7 +41,7 @@ fn quotes_each_character(rt: HostRuntime) -> Result<(), Fail> {
 
 #[test]
 fn quotes_no_character_above_the_theory(rt: HostRuntime) -> Result<(), Fail> {
-    for &text in &NOT_QUOTED {
+    for &text in NOT_QUOTED {
         assert!(rt; is_quoted(rt.alloc(), text, None)?, "at {text:?}");
     }
     Ok(())

@@ -8,7 +8,7 @@ use std::test::Fail;
 // is none.
 type Row = (&'static str, usize, &'static str);
 
-const READ: [Row; 15] = [
+const READ: &[Row] = &[
     (
         "(a \"x\"\"y\" 12 ()) b)",
         2,
@@ -45,7 +45,7 @@ const READ: [Row; 15] = [
 ];
 
 // A text, what follows a bracket that opens at its front, what follows one that closes, and whether it is blank.
-const FRONTS: [(&str, &str, &str, bool); 8] = [
+const FRONTS: &[(&str, &str, &str, bool)] = &[
     ("(a", "Some(\"a\")", "None", false),
     (" \t\r\n\x0c(", "Some(\"\")", "None", false),
     ("; (\n; )\r )a", "None", "Some(\"a\")", false),
@@ -69,7 +69,7 @@ fn is_read_as(alloc: Global, src: &str, depth: usize, want: &str) -> Result<bool
 
 #[test]
 fn reads_the_next_expression(rt: HostRuntime) -> Result<(), Fail> {
-    for &(src, depth, want) in &READ {
+    for &(src, depth, want) in READ {
         assert!(rt; is_read_as(rt.alloc(), src, depth, want)?, "{src}");
     }
     Ok(())
@@ -87,7 +87,7 @@ fn shown(alloc: Global, rest: Option<&[u8]>) -> Result<String, Fail> {
 
 #[test]
 fn finds_brackets_behind_blanks(rt: HostRuntime) -> Result<(), Fail> {
-    for &(src, open, close, blank) in &FRONTS {
+    for &(src, open, close, blank) in FRONTS {
         let opened = shown(rt.alloc(), behind_open(src.as_bytes()))?;
         let closed = shown(rt.alloc(), behind_close(src.as_bytes()))?;
         assert!(rt; opened.as_str() == open, "{src}");

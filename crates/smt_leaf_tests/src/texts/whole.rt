@@ -7,7 +7,7 @@ use std::test::Fail;
 // A text, and what is read, as `{:?}` prints it.
 type Row = (&'static [u8], &'static str);
 
-const READ: [Row; 20] = [
+const READ: &[Row] = &[
     (
         b"#b01",
         "Ok(BitVec(BitVec { width: Width { bits: 2 }, number: 1 }))",
@@ -59,7 +59,7 @@ fn reads_as(alloc: Global, src: &[u8], want: &str) -> Result<bool, Fail> {
 
 #[test]
 fn reads_texts(rt: HostRuntime) -> Result<(), Fail> {
-    for &(src, want) in &READ {
+    for &(src, want) in READ {
         assert!(rt; reads_as(rt.alloc(), src, want)?, "{want}");
     }
     Ok(())
