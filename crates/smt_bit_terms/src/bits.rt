@@ -251,8 +251,8 @@ fn folded_zero_extend(alloc: Global, n: u32, t: &Term) -> Result<Term, TermError
 fn type_width(alloc: Global, t: &Term) -> Result<Option<Width>, TermError>
     ensures { IfOk result (λ o. MatchOption o (width_in (type_of (plain_term t.now)) ≡ None) (λ n. width_in (type_of (plain_term t.now)) ≡ Some (bits_in n))) }
 {
-    match t.type_of(alloc)? {
-        TermType::Bitvec { n } => Ok(Some(n)),
+    match &t.type_of(alloc)? {
+        TermType::Bitvec { n } => Ok(Some(*n)),
         TermType::Option { .. }
         | TermType::Bool
         | TermType::Entity { .. }

@@ -392,36 +392,59 @@ fn enum_types(alloc: Global) -> Result<EnumTable, TermError> {
     Ok(enums)
 }
 
+/// The type of this spelling; any other spelling is the name of an entity type.
+fn spelled(alloc: Global, spelling: &str) -> Result<TermType, TermError> {
+    match spelling {
+        "Bool" => Ok(TermType::Bool),
+        "Long" => Ok(TermType::Bitvec { n: SIXTY_FOUR }),
+        "String" => Ok(TermType::String),
+        "Option<Bool>" => TermType::option_of(alloc, TermType::Bool),
+        "Set<Bool>" => TermType::set_of(alloc, TermType::Bool),
+        "decimal" => Ok(TermType::Ext {
+            xty: ExtType::Decimal,
+        }),
+        "ipaddr" => Ok(TermType::Ext {
+            xty: ExtType::IpAddr,
+        }),
+        "datetime" => Ok(TermType::Ext {
+            xty: ExtType::DateTime,
+        }),
+        "duration" => Ok(TermType::Ext {
+            xty: ExtType::Duration,
+        }),
+        "two attributes" => two_attributes(alloc),
+        name => entities(alloc, name),
+    }
+}
+
+/// Types, each with its default.
+const DEFAULTS: &[(&str, &str)] = &[
+    ("Bool", "false"),
+    ("Long", "(bv64 0)"),
+    ("String", "\"\""),
+    ("User", "User::\"\""),
+    ("Color", "Color::\"blue\""),
+    ("Nothing", "Nothing::\"\""),
+    ("Option<Bool>", "None"),
+    ("Set<Bool>", "[]"),
+    ("decimal", "decimal(\"0.0000\")"),
+    ("ipaddr", "ip(\"0.0.0.0/32\")"),
+    (
+        "datetime",
+        "datetime(\"1970-01-01\").offset(duration(\"0ms\"))",
+    ),
+    ("duration", "duration(\"0ms\")"),
+    ("two attributes", "{ a: false, b: \"\" }"),
+];
+
 #[test]
 fn defaults_of_types(rt: HostRuntime) -> Result<(), Fail> {
     let alloc = rt.alloc();
     let enums = enum_types(alloc)?;
-    let decimal = ExtType::Decimal;
-    let ip = ExtType::IpAddr;
-    let datetime = ExtType::DateTime;
-    let duration = ExtType::Duration;
-    let rows = [
-        (TermType::Bool, "false"),
-        (TermType::Bitvec { n: SIXTY_FOUR }, "(bv64 0)"),
-        (TermType::String, "\"\""),
-        (entities(alloc, "User")?, "User::\"\""),
-        (entities(alloc, "Color")?, "Color::\"blue\""),
-        (entities(alloc, "Nothing")?, "Nothing::\"\""),
-        (TermType::option_of(alloc, TermType::Bool)?, "None"),
-        (TermType::set_of(alloc, TermType::Bool)?, "[]"),
-        (TermType::Ext { xty: decimal }, "decimal(\"0.0000\")"),
-        (TermType::Ext { xty: ip }, "ip(\"0.0.0.0/32\")"),
-        (
-            TermType::Ext { xty: datetime },
-            "datetime(\"1970-01-01\").offset(duration(\"0ms\"))",
-        ),
-        (TermType::Ext { xty: duration }, "duration(\"0ms\")"),
-        (two_attributes(alloc)?, "{ a: false, b: \"\" }"),
-    ];
-    for (at, (ty, answer)) in rows.iter().enumerate() {
-        let term = default_literal(alloc, ty, &enums)?;
+    for &(spelling, answer) in DEFAULTS {
+        let term = default_literal(alloc, &spelled(alloc, spelling)?, &enums)?;
         let text = format!(in alloc; "{term}")?;
-        assert_eq!(rt; text.as_str(), *answer, "at {at}");
+        assert_eq!(rt; text.as_str(), answer, "{spelling}");
     }
     Ok(())
 }

@@ -56,73 +56,88 @@ fn extension(alloc: Global, name: &str) -> Result<CedarType, CompileError> {
     })
 }
 
+/// The Cedar type of this spelling; any other spelling is the name of an extension type.
+fn spelled(alloc: Global, spelling: &str) -> Result<CedarType, CompileError> {
+    let closed = OpenTag::ClosedAttributes;
+    match spelling {
+        "Bool" => Ok(CedarType::Bool(BoolType::AnyBool)),
+        "True" => Ok(CedarType::Bool(BoolType::True)),
+        "Long" => Ok(CedarType::Long),
+        "String" => Ok(CedarType::String),
+        "any entity" => Ok(CedarType::Entity(EntityKind::AnyEntity)),
+        "App::User" => entity(alloc, &["App::User"]),
+        "User or Group" => entity(alloc, &["User", "Group"]),
+        "Set<String>" => set(alloc, CedarType::String),
+        "Set<empty Set>" => set(alloc, CedarType::Set { element_type: None }),
+        "{b: String, a?: String}" => record(alloc, closed, CedarType::String, CedarType::String),
+        "{b: False, a?: Never}" => record(
+            alloc,
+            closed,
+            CedarType::Bool(BoolType::False),
+            CedarType::Never,
+        ),
+        "{b: Never, a?: Never, ..}" => record(
+            alloc,
+            OpenTag::OpenAttributes,
+            CedarType::Never,
+            CedarType::Never,
+        ),
+        name => extension(alloc, name),
+    }
+}
+
+/// Cedar types, each with what is answered of it.
+const TYPES: &[(&str, &str)] = &[
+    ("Bool", "Ok(Bool)"),
+    ("Long", "Ok(Bitvec { n: Width { bits: 64 } })"),
+    ("String", "Ok(String)"),
+    ("Set<String>", "Ok(Set { ty: String })"),
+    (
+        "{b: String, a?: String}",
+        "Ok(Record { rty: TypeMap { pairs: AttributePairs { items: [(\"a\", Option { ty: String }), (\"b\", String)] } } })",
+    ),
+    ("App::User", "Ok(Entity { ety: EntityType(\"App::User\") })"),
+    ("ipaddr", "Ok(Ext { xty: IpAddr })"),
+    ("a::decimal", "Ok(Ext { xty: Decimal })"),
+    ("a::b::datetime", "Ok(Ext { xty: DateTime })"),
+    ("a:::duration", "Ok(Ext { xty: Duration })"),
+    (
+        "decimal::money",
+        "Err(UnsupportedFeature(\"unsupported extension money\"))",
+    ),
+    (
+        "True",
+        "Err(UnsupportedFeature(\"singleton Bool type is not supported\"))",
+    ),
+    (
+        "any entity",
+        "Err(UnsupportedFeature(\"AnyEntity is not supported\"))",
+    ),
+    (
+        "User or Group",
+        "Err(UnsupportedFeature(\"EntityLUB has multiple elements\"))",
+    ),
+    (
+        "Set<empty Set>",
+        "Err(UnsupportedFeature(\"empty set type is unsupported\"))",
+    ),
+    (
+        "{b: Never, a?: Never, ..}",
+        "Err(UnsupportedFeature(\"unsupported open attributes\"))",
+    ),
+    (
+        "{b: False, a?: Never}",
+        "Err(UnsupportedFeature(\"never type is not supported\"))",
+    ),
+];
+
 #[test]
 fn types_and_refusals(rt: HostRuntime) -> Result<(), Fail> {
     let alloc = rt.alloc();
-    let closed = OpenTag::ClosedAttributes;
-    let open = OpenTag::OpenAttributes;
-    let any = CedarType::Bool(BoolType::AnyBool);
-    let rows = [
-        (any, "Ok(Bool)"),
-        (CedarType::Long, "Ok(Bitvec { n: Width { bits: 64 } })"),
-        (CedarType::String, "Ok(String)"),
-        (set(alloc, CedarType::String)?, "Ok(Set { ty: String })"),
-        (
-            record(alloc, closed, CedarType::String, CedarType::String)?,
-            "Ok(Record { rty: TypeMap { pairs: AttributePairs { items: [(\"a\", Option { ty: String }), (\"b\", String)] } } })",
-        ),
-        (
-            entity(alloc, &["App::User"])?,
-            "Ok(Entity { ety: EntityType(\"App::User\") })",
-        ),
-        (extension(alloc, "ipaddr")?, "Ok(Ext { xty: IpAddr })"),
-        (extension(alloc, "a::decimal")?, "Ok(Ext { xty: Decimal })"),
-        (
-            extension(alloc, "a::b::datetime")?,
-            "Ok(Ext { xty: DateTime })",
-        ),
-        (
-            extension(alloc, "a:::duration")?,
-            "Ok(Ext { xty: Duration })",
-        ),
-        (
-            extension(alloc, "decimal::money")?,
-            "Err(UnsupportedFeature(\"unsupported extension money\"))",
-        ),
-        (
-            CedarType::Bool(BoolType::True),
-            "Err(UnsupportedFeature(\"singleton Bool type is not supported\"))",
-        ),
-        (
-            CedarType::Entity(EntityKind::AnyEntity),
-            "Err(UnsupportedFeature(\"AnyEntity is not supported\"))",
-        ),
-        (
-            entity(alloc, &["User", "Group"])?,
-            "Err(UnsupportedFeature(\"EntityLUB has multiple elements\"))",
-        ),
-        (
-            set(alloc, CedarType::Set { element_type: None })?,
-            "Err(UnsupportedFeature(\"empty set type is unsupported\"))",
-        ),
-        (
-            record(alloc, open, CedarType::Never, CedarType::Never)?,
-            "Err(UnsupportedFeature(\"unsupported open attributes\"))",
-        ),
-        (
-            record(
-                alloc,
-                closed,
-                CedarType::Bool(BoolType::False),
-                CedarType::Never,
-            )?,
-            "Err(UnsupportedFeature(\"never type is not supported\"))",
-        ),
-    ];
-    for (at, (ty, answer)) in rows.iter().enumerate() {
-        let given = TermType::of_type(alloc, ty);
+    for &(spelling, answer) in TYPES {
+        let given = TermType::of_type(alloc, &spelled(alloc, spelling)?);
         let text = format!(in alloc; "{given:?}")?;
-        assert_eq!(rt; text.as_str(), *answer, "at {at}");
+        assert_eq!(rt; text.as_str(), answer, "{spelling}");
     }
     Ok(())
 }

@@ -249,7 +249,7 @@ fn calls_made_of_values(rt: HostRuntime) -> Result<(), Fail> {
     let alloc = rt.alloc();
     for &(name, bytes, answer) in MADE {
         let read = Ext::try_from_restricted(alloc, &call_with(alloc, name, bytes)?)?;
-        if let Value::ExtensionValue(made) = value_of_ext(alloc, &read)? {
+        if let Value::ExtensionValue(made) = &value_of_ext(alloc, &read)? {
             let answered = format!(in alloc; "{made:?}")?;
             assert_eq!(rt; answered.as_str(), answer, "{name}");
         }

@@ -9,7 +9,7 @@ use std::alloc::Global;
 use std::rc::Rc;
 
 /// An expression that needs no request to have a value: by such an expression Cedar says an extension value.
-#[derive(Debug, PartialEq, Eq, Drop)]
+#[derive(Debug, PartialEq, Eq)]
 #[cycle(expression)]
 pub enum RestrictedExpr {
     /// A literal.
@@ -23,6 +23,18 @@ pub enum RestrictedExpr {
     },
     /// Any other expression, such as a set or a record.
     Other,
+}
+
+// By hand, so that what lets an expression go calls this, and has no account of its parts.
+impl Drop for RestrictedExpr {
+    #[cycle(expression)]
+    fn drop(self) {
+        match self {
+            RestrictedExpr::Lit(_) => {}
+            RestrictedExpr::Call { name: _, args: _ } => {}
+            RestrictedExpr::Other => {}
+        }
+    }
 }
 
 /// A list of expressions in the order in which they were given; its holders share it.

@@ -12,7 +12,7 @@ use std::collections::BTreeMap;
 use std::rc::Rc;
 
 /// A value of Cedar.
-#[derive(Debug, PartialEq, Eq, Drop)]
+#[derive(Debug, PartialEq, Eq)]
 #[cycle(value)]
 pub enum Value {
     /// A literal.
@@ -23,6 +23,19 @@ pub enum Value {
     Record(ValueMap),
     /// A value of an extension type, by a call that makes it.
     ExtensionValue(RestrictedExpr),
+}
+
+// By hand, so that what lets a value go calls this, and has no account of its parts.
+impl Drop for Value {
+    #[cycle(value)]
+    fn drop(self) {
+        match self {
+            Value::Lit(_) => {}
+            Value::Set(_) => {}
+            Value::Record(_) => {}
+            Value::ExtensionValue(_) => {}
+        }
+    }
 }
 
 /// A list of values in the order in which they were given; its holders share it.

@@ -40,7 +40,7 @@ pub fn set_of(alloc: Global, ts: &[Term], elts_ty: TermType) -> Result<Term, Ter
 fn element_type(alloc: Global, t: &Term) -> Result<Option<TermType>, TermError>
     ensures { IfOk result (λ o. MatchOption o (element_type (type_of (plain_term t.now)) ≡ None) (λ ty. element_type (type_of (plain_term t.now)) ≡ Some (plain_type ty))) }
 {
-    match t.type_of(alloc)? {
+    match &t.type_of(alloc)? {
         TermType::Set { ty } => Ok(Some(ty.share()?)),
         TermType::Option { .. }
         | TermType::Bitvec { .. }

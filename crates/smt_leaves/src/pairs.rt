@@ -16,10 +16,17 @@ use std::rc::Rc;
 pub type Attr = Text;
 
 /// Attributes, each with a value: pairs in the order of the attributes' bytes, each attribute once. Its holders share them.
-#[derive(Debug, Drop)]
+#[derive(Debug)]
 pub struct AttributePairs<T> {
     items: Rc<Vec<(Attr, T)>>,
     pub ghost ascending: { IsTrue (ascends text_cmp (map (λ p. rc_str_bytes p.0) items.value.items)) },
+}
+
+// By hand, so that what lets pairs go calls this.
+impl<T: Drop> Drop for AttributePairs<T> {
+    fn drop(self) {
+        let AttributePairs { items: _ } = self;
+    }
 }
 
 impl<T: Drop> AttributePairs<T> {

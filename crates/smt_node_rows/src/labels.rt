@@ -33,8 +33,8 @@ pub(crate) fn label(alloc: Global, spelling: &str) -> Result<Label> {
 
 /// The literal of this word.
 fn literal(alloc: Global, word: &str) -> Result<TermPrim> {
-    match one(&mut terms(alloc, word)?)? {
-        Term::Prim(literal) => Ok(literal),
+    match &one(&mut terms(alloc, word)?)? {
+        Term::Prim(literal) => Ok(literal.share()?),
         _ => bail!("the term is no literal"),
     }
 }

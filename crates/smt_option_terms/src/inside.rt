@@ -42,7 +42,7 @@ fn folded_option_get(alloc: Global, t: &Term) -> Result<Term, TermError>
 pub(crate) fn inner_type(alloc: Global, t: &Term) -> Result<Option<TermType>, TermError>
     ensures { IfOk result (λ o. MatchOption o (inner_type (type_of (plain_term t.now)) ≡ None) (λ ty. inner_type (type_of (plain_term t.now)) ≡ Some (plain_type ty))) }
 {
-    match t.type_of(alloc)? {
+    match &t.type_of(alloc)? {
         TermType::Option { ty } => Ok(Some(ty.share()?)),
         TermType::Bitvec { .. }
         | TermType::Bool

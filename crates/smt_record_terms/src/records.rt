@@ -96,7 +96,7 @@ fn attribute_type(alloc: Global, t: &Term, a: &Attr) -> Result<Option<TermType>,
         (attribute_type (rc_str_bytes a.now) (type_of (plain_term t.now)) ≡ None)
         (λ ty. attribute_type (rc_str_bytes a.now) (type_of (plain_term t.now)) ≡ Some (plain_type ty))) }
 {
-    match t.type_of(alloc)? {
+    match &t.type_of(alloc)? {
         TermType::Record { rty } => match rty.get(a) {
             Some(ty) => Ok(Some(ty.share()?)),
             None => Ok(None),

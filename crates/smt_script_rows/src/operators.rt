@@ -35,7 +35,7 @@ fn count_of_arguments(op: &Op) -> usize {
 /// The type of an operator's result by its arguments.
 fn type_of_result(alloc: Global, op: &Op, args: &[Term]) -> Result<TermType> {
     match (op, args) {
-        (Op::OptionGet, [option, ..]) => match option.type_of(alloc)? {
+        (Op::OptionGet, [option, ..]) => match &option.type_of(alloc)? {
             TermType::Option { ty } => Ok(ty.share()?),
             _ => bail!("the argument is no option"),
         },
@@ -50,7 +50,7 @@ fn type_of_result(alloc: Global, op: &Op, args: &[Term]) -> Result<TermType> {
 
 /// The type of this attribute of a term, that of truth values where the term does not have it.
 fn type_of_attribute(alloc: Global, record: &Term, name: &Attr) -> Result<TermType> {
-    if let TermType::Record { rty } = record.type_of(alloc)? {
+    if let TermType::Record { rty } = &record.type_of(alloc)? {
         if let Some(ty) = rty.get(name) {
             return Ok(ty.share()?);
         }

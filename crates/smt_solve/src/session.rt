@@ -44,10 +44,17 @@ pub trait Solver {
 ///
 /// After any error it has failed, and so it has once it was marked: it sends nothing more, and answers `SolverMarkedFailed` to
 /// each question. It may still be cleaned up.
-#[derive(Debug, Drop)]
+#[derive(Debug)]
 pub struct LocalSolver<L> {
     pub(crate) input: SessionInput<L>,
     pub(crate) alloc: Global,
+}
+
+// By hand, so that what lets a session go calls this, and has no account of its parts.
+impl<L: Drop> Drop for LocalSolver<L> {
+    fn drop(self) {
+        let LocalSolver { input: _, alloc: _ } = self;
+    }
 }
 
 impl<L: Link> LocalSolver<L> {

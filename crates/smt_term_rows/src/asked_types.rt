@@ -14,10 +14,10 @@ pub(crate) fn answered(alloc: Global, out: &mut String, head: &str, held: &str) 
         "tag_for" => put_tag_type(alloc, out, held)?,
         "kinds" => put_kinds(out, &type_of(alloc, held)?)?,
         "shared_type" => put_whether_shared(out, &type_of(alloc, held)?)?,
-        "size_of_type" => put_size(out, &types_in(type_of(alloc, held)?)?)?,
+        "size_of_type" => put_size(out, types_in(&type_of(alloc, held)?)?)?,
         "type_at" => {
             let (names, ty) = held.split_once(':').context("attributes and a type")?;
-            put_types(alloc, out, &types_in(type_of(alloc, ty)?)?, names)?;
+            put_types(alloc, out, types_in(&type_of(alloc, ty)?)?, names)?;
         }
         "compare_types" => put_order_of_types(alloc, out, held)?,
         "operator" => put_name(alloc, out, held)?,
@@ -62,7 +62,7 @@ fn put_whether_shared(out: &mut String, ty: &TermType) -> Result<()> {
 }
 
 /// The attributes of a record type, with their types.
-fn types_in(ty: TermType) -> Result<TypeMap> {
+fn types_in(ty: &TermType) -> Result<&TypeMap> {
     match ty {
         TermType::Record { rty } => Ok(rty),
         _ => bail!("the type is none of records"),

@@ -17,7 +17,7 @@ use std::rc::Rc;
 
 /// The type of a term: a sort of the theories Core, FixedSizeBitVectors and UnicodeStrings, an entity type, an extension
 /// type, an option, a record, or a finite set. Types order by the variants and fields as declared.
-#[derive(Debug, PartialEq, Eq, PartialOrd, Ord, Drop)]
+#[derive(Debug, PartialEq, Eq, PartialOrd, Ord)]
 #[cycle(types)]
 pub enum TermType {
     /// None, or a value of a type.
@@ -36,6 +36,21 @@ pub enum TermType {
     Record { rty: TypeMap },
     /// Finite sets of values of a type.
     Set { ty: Rc<TermType> },
+}
+
+// By hand, so that what lets a type go calls this, and has no account of its parts.
+impl Drop for TermType {
+    #[cycle(types)]
+    fn drop(self) {
+        match self {
+            TermType::Option { ty: _ } | TermType::Set { ty: _ } => {}
+            TermType::Bitvec { n: _ } => {}
+            TermType::Entity { ety: _ } => {}
+            TermType::Ext { xty: _ } => {}
+            TermType::Record { rty: _ } => {}
+            TermType::Bool | TermType::String => {}
+        }
+    }
 }
 
 impl TermType {
