@@ -10,7 +10,7 @@ use smt_leaves::EntityUID;
 use std::alloc::{AllocError, Global};
 
 /// What a schema says of an action.
-#[derive(Debug, PartialEq, Eq, Drop)]
+#[derive(Debug, PartialEq, Eq)]
 pub struct ActionEntry {
     /// The action.
     pub uid: EntityUID,
@@ -22,6 +22,19 @@ pub struct ActionEntry {
     pub resources: EntityTypeList,
     /// The attributes of its requests' contexts.
     pub context: Attributes,
+}
+
+// By hand, since a derived one is written out in each function that lets an entry go.
+impl Drop for ActionEntry {
+    fn drop(self) {
+        let ActionEntry {
+            uid: _,
+            ancestors: _,
+            principals: _,
+            resources: _,
+            context: _,
+        } = self;
+    }
 }
 
 /// The actions of a schema, in the order in which they were given. Of two entries of one action the last counts.

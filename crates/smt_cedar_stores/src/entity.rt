@@ -11,7 +11,7 @@ use smt_leaves::EntityUID;
 use std::alloc::AllocError;
 
 /// A stored entity.
-#[derive(Debug, PartialEq, Eq, Drop)]
+#[derive(Debug, PartialEq, Eq)]
 pub struct Entity {
     /// The entity.
     pub uid: EntityUID,
@@ -21,6 +21,18 @@ pub struct Entity {
     pub ancestors: UidList,
     /// Its tags, each with what is known of its value.
     pub tags: PartialMap,
+}
+
+// By hand, since a derived one is written out in each function that lets an entity go.
+impl Drop for Entity {
+    fn drop(self) {
+        let Entity {
+            uid: _,
+            attrs: _,
+            ancestors: _,
+            tags: _,
+        } = self;
+    }
 }
 
 /// Puts an entity in the place of the one of its uid, or else at the end.

@@ -13,7 +13,7 @@ use std::alloc::AllocError;
 use std::cmp::Ordering;
 
 /// What a schema says of an entity type.
-#[derive(Debug, PartialEq, Eq, Drop)]
+#[derive(Debug, PartialEq, Eq)]
 pub enum EntityEntry {
     /// A type whose entities have attributes, ancestors and maybe tags.
     Standard {
@@ -26,6 +26,20 @@ pub enum EntityEntry {
     },
     /// A type whose entities are those of these ids.
     Enum(TextSet),
+}
+
+// By hand, since a derived one is written out in each function that lets an entry go.
+impl Drop for EntityEntry {
+    fn drop(self) {
+        match self {
+            EntityEntry::Standard {
+                ancestors: _,
+                attrs: _,
+                tags: _,
+            } => {}
+            EntityEntry::Enum(_) => {}
+        }
+    }
 }
 
 /// Puts an entry in the place of its type.

@@ -22,7 +22,7 @@ pub struct RequestEnv {
 }
 
 /// A request, of which any part may not be known.
-#[derive(Debug, PartialEq, Eq, Drop)]
+#[derive(Debug, PartialEq, Eq)]
 pub struct Request {
     /// Who asks, where that is known.
     pub principal: Option<EntityUID>,
@@ -34,13 +34,35 @@ pub struct Request {
     pub context: Option<ValueMap>,
 }
 
+// By hand, since a derived one is written out in each function that lets a request go.
+impl Drop for Request {
+    fn drop(self) {
+        let Request {
+            principal: _,
+            action: _,
+            resource: _,
+            context: _,
+        } = self;
+    }
+}
+
 /// A request, and the entities that are stored when it is decided.
-#[derive(Debug, PartialEq, Eq, Drop)]
+#[derive(Debug, PartialEq, Eq)]
 pub struct Env {
     /// The request.
     pub request: Request,
     /// The stored entities.
     pub entities: Entities,
+}
+
+// By hand, since a derived one is written out in each function that lets an environment go.
+impl Drop for Env {
+    fn drop(self) {
+        let Env {
+            request: _,
+            entities: _,
+        } = self;
+    }
 }
 
 impl RequestEnv {

@@ -12,7 +12,7 @@ use smt_term::{Term, TermType, Uuf};
 use std::rc::Rc;
 
 /// A function that a table defines.
-#[derive(Debug, PartialEq, Eq, PartialOrd, Ord, Drop)]
+#[derive(Debug, PartialEq, Eq, PartialOrd, Ord)]
 pub struct Udf {
     /// The type of its argument.
     pub arg: TermType,
@@ -24,13 +24,35 @@ pub struct Udf {
     pub default: Term,
 }
 
+// By hand, since a derived one is written out in each function that lets a function go.
+impl Drop for Udf {
+    fn drop(self) {
+        let Udf {
+            arg: _,
+            out: _,
+            table: _,
+            default: _,
+        } = self;
+    }
+}
+
 /// A function of one argument.
-#[derive(Debug, PartialEq, Eq, PartialOrd, Ord, Drop)]
+#[derive(Debug, PartialEq, Eq, PartialOrd, Ord)]
 pub enum UnaryFunction {
     /// One that an interpretation gives.
     Uuf(Rc<Uuf>),
     /// One that a table defines.
     Udf(Rc<Udf>),
+}
+
+// By hand, since a derived one is written out in each function that lets a function go.
+impl Drop for UnaryFunction {
+    fn drop(self) {
+        match self {
+            UnaryFunction::Uuf(_) => {}
+            UnaryFunction::Udf(_) => {}
+        }
+    }
 }
 
 impl Udf {

@@ -35,9 +35,15 @@ impl NodeId {
 
 /// A list of numbers in the order in which they were given. A short one lies in the list itself; the holders of a longer one
 /// share it.
-#[derive(Drop)]
 pub struct IdList {
     items: Items,
+}
+
+// By hand, since a derived one is written out in each function that lets a list go.
+impl Drop for IdList {
+    fn drop(self) {
+        let IdList { items: _ } = self;
+    }
 }
 
 // The numbers of a list. Those of most nodes are few, so they take no memory of their own.

@@ -12,7 +12,7 @@ use smt_bits::Width;
 use smt_term::{EntityType, ExtType, Op, Term, TermError, TermPrim, TermType, Text, Uuf};
 
 /// What a type, a function or a term is, apart from its parts. The types come first, and then the functions.
-#[derive(Debug, PartialEq, Eq, PartialOrd, Ord, Drop)]
+#[derive(Debug, PartialEq, Eq, PartialOrd, Ord)]
 pub enum Label {
     /// The type of options; its part is the inner type.
     TOption,
@@ -49,6 +49,29 @@ pub enum Label {
     SomeOf,
     /// A variable of this id; its part is its type.
     Var(Text),
+}
+
+// By hand, since a derived one is written out, with all its variants, in each function that lets a label go.
+impl Drop for Label {
+    fn drop(self) {
+        match self {
+            Label::TEntity(_) => {}
+            Label::TRecord(_) | Label::RecordOf(_) => {}
+            Label::Fun(_) | Label::Var(_) => {}
+            Label::App(_) => {}
+            Label::Prim(_) => {}
+            Label::TOption
+            | Label::TBitvec(_)
+            | Label::TBool
+            | Label::TExt(_)
+            | Label::TString
+            | Label::TSet
+            | Label::Call
+            | Label::NoneOf
+            | Label::SetOf
+            | Label::SomeOf => {}
+        }
+    }
 }
 
 /// A type, a function or a term by its label and the numbers of its parts. A term has first its type.

@@ -27,12 +27,22 @@ impl Key {
 }
 
 /// Nodes in the order in which they were entered. Each label has a number, and each key of a node has the node's place.
-#[derive(Drop)]
 pub struct Table {
     /// The nodes, in the order in which they were entered.
     pub nodes: Vec<Node>,
     labels: BTreeMap<Label, usize>,
     ids: BTreeMap<Key, NodeId>,
+}
+
+// By hand, since a derived one is written out in each function that lets a table go.
+impl Drop for Table {
+    fn drop(self) {
+        let Table {
+            nodes: _,
+            labels: _,
+            ids: _,
+        } = self;
+    }
 }
 
 impl Table {

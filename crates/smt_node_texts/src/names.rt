@@ -69,13 +69,24 @@ fn is_inline_term(term: &Term) -> bool
 /// The nodes that stand for terms, and the text of each node that was written, over the enum types of the terms.
 ///
 /// What has a text has no fault, so that a node whose text is found needs no second look.
-#[derive(Drop)]
 pub struct Names<'a> {
     pub(crate) alloc: Global,
     enums: &'a EnumTable,
     nodes: Interner,
     pub(crate) texts: NodeNames,
     ghost sound: { AreSound (enums_of enums.now) nodes texts },
+}
+
+// By hand, since a derived one is written out in each function that lets names go.
+impl Drop for Names<'_> {
+    fn drop(self) {
+        let Names {
+            alloc: _,
+            enums: _,
+            nodes: _,
+            texts: _,
+        } = self;
+    }
 }
 
 impl<'a> Names<'a> {

@@ -19,7 +19,6 @@ use smt_term::{Attr, Op, TermError, TermPrim};
 use std::alloc::Global;
 
 /// A list of nodes that each fit the nodes before it, and that each stand for something else.
-#[derive(Drop)]
 pub struct Interner {
     pub(crate) alloc: Global,
     table: Table,
@@ -29,6 +28,17 @@ pub struct Interner {
     ghost index: { IsIndex table },
     ghost few: { length table.nodes.items ≤ 2 ^ 32 },
     ghost truths: { ForSome bool_type (λ id. IsTrue (is_bool_at (meaning_at (map plain_node table.nodes.items) (place_of id)))) },
+}
+
+// By hand, since a derived one is written out in each function that lets an interner go.
+impl Drop for Interner {
+    fn drop(self) {
+        let Interner {
+            alloc: _,
+            table: _,
+            bool_type: _,
+        } = self;
+    }
 }
 
 impl Interner {

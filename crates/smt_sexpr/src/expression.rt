@@ -9,7 +9,7 @@ use smt_text::Text;
 use std::alloc::{AllocError, Global};
 
 /// An expression between brackets and spaces (SMT-LIB 2.7, S-expressions).
-#[derive(Debug, PartialEq, Eq, Drop)]
+#[derive(Debug, PartialEq, Eq)]
 #[cycle(sexpr)]
 pub enum SExpr {
     /// A literal in base 2 or 16: its width is that of its digits.
@@ -22,6 +22,18 @@ pub enum SExpr {
     Symbol(Text),
     /// What stands between two brackets.
     App(SExprs),
+}
+
+// By hand, since a derived one is written out in each function that lets an expression go.
+impl Drop for SExpr {
+    #[cycle(sexpr)]
+    fn drop(self) {
+        match self {
+            SExpr::BitVec(_) | SExpr::Numeral(_) => {}
+            SExpr::String(_) | SExpr::Symbol(_) => {}
+            SExpr::App(_) => {}
+        }
+    }
 }
 
 /// A list of expressions.

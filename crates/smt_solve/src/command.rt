@@ -48,12 +48,22 @@ fn cvc5_args(alloc: Global, args: &[Text]) -> Result<Vec<Text>, AllocError>
 }
 
 /// A program that is a solver, and its arguments.
-#[derive(Debug, Drop)]
+#[derive(Debug)]
 pub struct SolverCommand {
     /// The name or the path of the program.
     pub program: Text,
     /// The arguments in their order.
     pub args: TextList,
+}
+
+// By hand, since a derived one is written out in each function that lets a command go.
+impl Drop for SolverCommand {
+    fn drop(self) {
+        let SolverCommand {
+            program: _,
+            args: _,
+        } = self;
+    }
 }
 
 impl SolverCommand {

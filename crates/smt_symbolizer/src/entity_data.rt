@@ -4,7 +4,7 @@ use smt_functions::UnaryFunction;
 use smt_leaves::TextSet;
 
 /// What there is to say of the tags of the entities of a type.
-#[derive(Debug, PartialEq, Eq, Drop)]
+#[derive(Debug, PartialEq, Eq)]
 pub struct SymTags {
     /// The set of the keys of an entity's tags, by the entity.
     pub keys: UnaryFunction,
@@ -12,8 +12,15 @@ pub struct SymTags {
     pub vals: UnaryFunction,
 }
 
+// By hand, since a derived one is written out in each function that lets tags go.
+impl Drop for SymTags {
+    fn drop(self) {
+        let SymTags { keys: _, vals: _ } = self;
+    }
+}
+
 /// What there is to say of the entities of a type.
-#[derive(Debug, PartialEq, Eq, Drop)]
+#[derive(Debug, PartialEq, Eq)]
 pub struct SymEntityData {
     /// The record of an entity's attributes, by the entity.
     pub attrs: UnaryFunction,
@@ -23,6 +30,18 @@ pub struct SymEntityData {
     pub members: Option<TextSet>,
     /// The tags of the entities, where they may have any.
     pub tags: Option<SymTags>,
+}
+
+// By hand, since a derived one is written out in each function that lets what is said of entities go.
+impl Drop for SymEntityData {
+    fn drop(self) {
+        let SymEntityData {
+            attrs: _,
+            ancestors: _,
+            members: _,
+            tags: _,
+        } = self;
+    }
 }
 
 /// The sets of ancestors of the entities of a type, by the type of the ancestors.

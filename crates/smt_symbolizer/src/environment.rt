@@ -24,7 +24,7 @@ use smt_values::SymbolizeError;
 use std::alloc::Global;
 
 /// The terms of a request.
-#[derive(Debug, PartialEq, Eq, Drop)]
+#[derive(Debug, PartialEq, Eq)]
 pub struct SymRequest {
     /// Who asks.
     pub principal: Term,
@@ -36,13 +36,35 @@ pub struct SymRequest {
     pub context: Term,
 }
 
+// By hand, since a derived one is written out in each function that lets a request go.
+impl Drop for SymRequest {
+    fn drop(self) {
+        let SymRequest {
+            principal: _,
+            action: _,
+            resource: _,
+            context: _,
+        } = self;
+    }
+}
+
 /// What a schema, a request and a store are symbolized to.
-#[derive(Debug, PartialEq, Eq, Drop)]
+#[derive(Debug, PartialEq, Eq)]
 pub struct SymEnv {
     /// The request.
     pub request: SymRequest,
     /// The entities.
     pub entities: SymEntities,
+}
+
+// By hand, since a derived one is written out in each function that lets an environment go.
+impl Drop for SymEnv {
+    fn drop(self) {
+        let SymEnv {
+            request: _,
+            entities: _,
+        } = self;
+    }
 }
 
 impl SymEnv {

@@ -11,7 +11,7 @@ use std::rc::Rc;
 
 /// An operator: of the theories Core, FixedSizeBitVectors and UnicodeStrings, of the logic QF_BV, of the extension types, of
 /// options, of records or of finite sets, or an uninterpreted function.
-#[derive(Debug, PartialEq, Eq, PartialOrd, Ord, Drop)]
+#[derive(Debug, PartialEq, Eq, PartialOrd, Ord)]
 pub enum Op {
     /// Conjunction of two Booleans.
     And,
@@ -79,6 +79,47 @@ pub enum Op {
     Uuf(Rc<Uuf>),
     /// The same number with this many bits more.
     ZeroExtend(u32),
+}
+
+// By hand, since a derived one is written out, with all its variants, in each function that lets an operator go.
+impl Drop for Op {
+    fn drop(self) {
+        match self {
+            Op::Uuf(_) => {}
+            Op::RecordGet(_) => {}
+            Op::StringLike(_) => {}
+            Op::And
+            | Op::Bvadd
+            | Op::Bvlshr
+            | Op::Bvmul
+            | Op::Bvneg
+            | Op::Bvnego
+            | Op::Bvsaddo
+            | Op::Bvsdiv
+            | Op::Bvshl
+            | Op::Bvsle
+            | Op::Bvslt
+            | Op::Bvsmod
+            | Op::Bvsmulo
+            | Op::Bvsrem
+            | Op::Bvssubo
+            | Op::Bvsub
+            | Op::Bvudiv
+            | Op::Bvule
+            | Op::Bvult
+            | Op::Bvurem
+            | Op::Eq
+            | Op::Ext(_)
+            | Op::Ite
+            | Op::Not
+            | Op::OptionGet
+            | Op::Or
+            | Op::SetInter
+            | Op::SetMember
+            | Op::SetSubset
+            | Op::ZeroExtend(_) => {}
+        }
+    }
 }
 
 /// The class of an operator, by which it is typed.

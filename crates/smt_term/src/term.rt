@@ -24,7 +24,7 @@ pub struct TermVar {
 }
 
 /// A literal.
-#[derive(Debug, PartialEq, Eq, PartialOrd, Ord, Drop)]
+#[derive(Debug, PartialEq, Eq, PartialOrd, Ord)]
 pub enum TermPrim {
     /// A bitvector.
     Bitvec(BitVec),
@@ -36,6 +36,19 @@ pub enum TermPrim {
     Ext(Ext),
     /// A text.
     String(Text),
+}
+
+// By hand, since a derived one is written out, with all its variants, in each function that lets a literal go.
+impl Drop for TermPrim {
+    fn drop(self) {
+        match self {
+            TermPrim::Bitvec(_) => {}
+            TermPrim::Bool(_) => {}
+            TermPrim::Entity(_) => {}
+            TermPrim::Ext(_) => {}
+            TermPrim::String(_) => {}
+        }
+    }
 }
 
 /// A term. Terms order by the variants and fields as declared, lists by their first difference.

@@ -46,33 +46,3 @@ loop-after-preserved g c = (
       taken_more ds es end _ _ _ t first.0 first.1 c.in_ok-expression.after.now _ _ first.2.1 (ap (λ e. mapped built (condition_of ds e)) first.2.0 ∙ c.in_ok-condition_from.ensures ds has) c.in_ok-take.ensures
       ),
 )
-
-pub loop-after-preserved-in_ok-take : goal.loop-after-preserved-in_ok-take
-loop-after-preserved-in_ok-take g c = (
-  read_more c.args.src.now c.loop-after.rest.now c.in_ok-expression.after.now 510 (plain c.in_ok-expression.expression) c.loop-after.invariant.0 c.in_ok-expression.ensures.read c.in_ok-expression.ensures.shallow,
-  λ ds has es end i. (
-      let t = c.loop-after.invariant.1 ds has es end i in
-      let first = c.in_ok-expression.ensures.stated t.left end t.begins in
-      taken_more ds es end _ _ _ t first.0 first.1 c.in_ok-expression.after.now _ _ first.2.1 (ap (λ e. mapped built (condition_of ds e)) first.2.0 ∙ c.in_ok-condition_from.ensures ds has) c.in_ok-take.ensures
-      ),
-)
-
-pub loop-after-preserved-in_ok-take-2 : goal.loop-after-preserved-in_ok-take-2
-loop-after-preserved-in_ok-take-2 g c = (
-  read_more c.args.src.now c.loop-after.rest.now c.in_ok-expression.after.now 510 (plain c.in_ok-expression.expression) c.loop-after.invariant.0 c.in_ok-expression.ensures.read c.in_ok-expression.ensures.shallow,
-  λ ds has es end i. (
-      let t = c.loop-after.invariant.1 ds has es end i in
-      let first = c.in_ok-expression.ensures.stated t.left end t.begins in
-      taken_more ds es end _ _ _ t first.0 first.1 c.in_ok-expression.after.now _ _ first.2.1 (ap (λ e. mapped built (condition_of ds e)) first.2.0 ∙ c.in_ok-condition_from.ensures ds has) c.in_ok-take.ensures
-      ),
-)
-
-pub loop-after-preserved-in_ok-take-3 : goal.loop-after-preserved-in_ok-take-3
-loop-after-preserved-in_ok-take-3 g c = (
-  read_more c.args.src.now c.loop-after.rest.now c.in_ok-expression.after.now 510 (plain c.in_ok-expression.expression) c.loop-after.invariant.0 c.in_ok-expression.ensures.read c.in_ok-expression.ensures.shallow,
-  λ ds has es end i. (
-      let t = c.loop-after.invariant.1 ds has es end i in
-      let first = c.in_ok-expression.ensures.stated t.left end t.begins in
-      taken_more ds es end _ _ _ t first.0 first.1 c.in_ok-expression.after.now _ _ first.2.1 (ap (λ e. mapped built (condition_of ds e)) first.2.0 ∙ c.in_ok-condition_from.ensures ds has) c.in_ok-take.ensures
-      ),
-)
