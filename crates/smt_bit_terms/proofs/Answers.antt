@@ -1,17 +1,17 @@
 -- Foldings by what a call answers at two literals.
 use Rattle.std.proofs.Common.{◌≡◌, ℕ, ◌^◌, ◌<◌, ◌≤◌, Bool, true, false, [], ◌∷◌, refl, ◌∙◌, sym, subst, inl, inr, arith}
-use Rattle.std.specs.Prelude.{◌==◌, Result}
+use Rattle.std.specs.Prelude.{◌==◌, ℤ, Option, Result}
 use Rattle.std.specs.Bool.{then_some}
 use Rattle.std.specs.Cmp.{second_so}
 use Rattle.std.proofs.lemmas.Bool.{eqb-true, eq-eqb, false≢true}
 use Rattle.smt_bits.specs.BitVec.{number_of, width_of}
 use Rattle.smt_bits.specs.declared.bitvec.BitVec.{BitVec}
 use Rattle.smt_bits.specs.declared.error.BitVecError.{BitVecError}
-use Rattle.smt_folding.specs.Applications.{bits_literal, bits_of_two, test_of_two}
+use Rattle.smt_folding.specs.Applications.{bits_literal, bits_of_two, test_of_two, truth_literal}
 use Rattle.smt_folding.specs.FoldBits.{folded_test_by}
-use Rattle.smt_bit_terms.specs.FoldBy.{literal_of, NotTwoLiterals, IsFoldedBy, IsValue, AnswersValues, value_at}
+use Rattle.smt_bit_terms.specs.FoldBy.{literal_of, NotTwoLiterals, IsFoldedBy, IsOverflowBy, IsValue, AnswersValues, TellsOverflow, leaves, value_at}
 use Rattle.smt_folding.specs.Refinement.{Refines}
-use Rattle.smt_folding.proofs.BitsStand.{literal_standing, bits_formed, bits_answered}
+use Rattle.smt_folding.proofs.BitsStand.{literal_standing, bits_formed, bits_answered, test_answered}
 use Rattle.smt_folding.proofs.ConnectivesStand.{chosen_type}
 use Rattle.smt_folding.proofs.Standing.{itself}
 use Rattle.smt_meaning.specs.Operators.{apply, number, width}
@@ -74,6 +74,18 @@ stands_by answers o t u r v (inl (c, a, e)) =
     let R : PlainTerm → Type 0 = λ x. Refines (literal_of c) (bits_of_two o (literal_of a.left) x) in
     subst P (sym e) (subst Q (sym a.first) (subst R (sym a.second) (value_stands o a.left a.right c (λ w. v a.left a.right c w a.gives))))
 stands_by answers o t u r v (inr (w, e)) = let P : PlainTerm → Type 0 = λ x. Refines x (bits_of_two o t u) in subst P (sym e) (itself (bits_of_two o t u))
+
+-- what tells an overflow stands for the test
+pub stands_by_overflow : (answers : ℤ → ℤ → Option ℤ → Type 0) (o : PlainOp) (t u r : PlainTerm) → TellsOverflow answers o → IsOverflowBy answers o t u r → Refines r (test_of_two o t u)
+stands_by_overflow answers o t u r v (inl (b, a, e)) =
+    let P : PlainTerm → Type 0 = λ x. Refines x (test_of_two o t u) in
+    let Q : PlainTerm → Type 0 = λ x. Refines (truth_literal b) (test_of_two o x u) in
+    let R : PlainTerm → Type 0 = λ x. Refines (truth_literal b) (test_of_two o (literal_of a.left) x) in
+    let S : ℕ → Type 0 = λ n. Refines (truth_literal b) (test_of_two o (literal_of a.left) (bits_literal n (number_of a.right))) in
+    let B : Bool → Type 0 = λ x. Refines (truth_literal x) (test_of_two o (literal_of a.left) (bits_literal (width_of a.left) (number_of a.right))) in
+    let h = test_answered o (width_of a.left) (number_of a.left) (width_of a.left) (number_of a.right) (leaves (width_of a.left) a.answer) (v a.left a.right a.answer a.widths a.gives) in
+    subst P (sym e) (subst Q (sym a.first) (subst R (sym a.second) (subst S a.widths (subst B (sym a.tells) h))))
+stands_by_overflow answers o t u r v (inr (w, e)) = let P : PlainTerm → Type 0 = λ x. Refines x (test_of_two o t u) in subst P (sym e) (itself (test_of_two o t u))
 
 -- ---- a test at what is no two literals
 

@@ -4,7 +4,7 @@ use Rattle.std.specs.Prelude.{cond, IfSome, Option, Some, None}
 use Rattle.std.proofs.Math.Nat.{mod-eq_of_lt}
 use Rattle.smt_arithmetic.specs.BitOperators.{OverflowOperator}
 use Rattle.smt_arithmetic.proofs.BitRanges as ranges
-use Rattle.smt_folding.specs.Applications.{bvneg_of, bvnego_of, test_of_two, wider_type, zero_extend_of}
+use Rattle.smt_folding.specs.Applications.{bits_literal, bvneg_of, bvnego_of, test_of_two, wider_type, zero_extend_of}
 use Rattle.smt_folding.specs.FoldBits.{folded_bvneg, folded_bvnego, folded_overflow, folded_zero_extend}
 use Rattle.smt_folding.specs.Parts.{bits_inside}
 use Rattle.smt_folding.specs.Refinement.{Refines}
@@ -30,6 +30,10 @@ stands_for_overflow o r t u e = subst (λ (x : PlainTerm). Refines x (test_of_tw
 pub same_extended : (n k w a : ℕ) → a < 2 ^ n → w ≡ n + k → a % 2 ^ w ≡ a
 same_extended n k w a l e = ap (λ x. a % 2 ^ x) e ∙ mod-eq_of_lt (ranges.wider n k a l)
 
+-- zero extension of a literal
+pub zero_extend-literal : (k m b n a : ℕ) (t : PlainTerm) → t ≡ bits_literal n a → m ≡ n + k → b ≡ a → bits_literal m b ≡ folded_zero_extend k t
+zero_extend-literal k m b n a t h d e = ap (λ x. bits_literal x b) d ∙ (ap (λ x. bits_literal (n + k) x) e ∙ sym (ap (λ x. folded_zero_extend k x) h))
+
 -- zero extension of what is no literal, by the width of its type
 fits : (o : Option ℕ) (n k : ℕ) → o ≡ Some n → IfSome o (λ width. width + k ≤ 128) → n + k ≤ 128
 fits o n k e h = subst (λ (p : Option ℕ). IfSome p (λ width. width + k ≤ 128)) e h
@@ -54,7 +58,3 @@ zero_extend-bits k n w t h e d = by_type k t h ∙ (extended_by k n t (type_of t
 
 pub zero_extend-other : (k : ℕ) (t : PlainTerm) → bits_inside t ≡ None → width_in (type_of t) ≡ None → folded_zero_extend k t ≡ t
 zero_extend-other k t h e = by_type k t h ∙ kept_by k t (type_of t) e
-
-pub ruleset folding = (stands_for_bvneg, stands_for_bvnego, stands_for_zero_extend)
-
-pub ruleset extending = (width_fits, zero_extend-bits, zero_extend-other)

@@ -1,3 +1,4 @@
 pub mod Answers
 pub mod Folding
 pub mod OutOfRange
+pub mod Values

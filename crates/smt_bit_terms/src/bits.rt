@@ -229,7 +229,7 @@ pub fn zero_extend(alloc: Global, n: u32, t: Term) -> Result<Term, TermError>
 }
 
 // The same number with more bits, folded.
-#[tactic(auto, using(crate::proofs::Folding::extending, smt_term::specs::View::views))]
+#[tactic(auto, using(crate::proofs::Folding::width_fits))]
 fn folded_zero_extend(alloc: Global, n: u32, t: &Term) -> Result<Term, TermError>
     requires { IfSome (width_in (type_of (plain_term t.now))) (λ width. width + n ≤ 128) }
     ensures { IfOk result (λ r. plain_term r ≡ folded_zero_extend n (plain_term t.now)) }

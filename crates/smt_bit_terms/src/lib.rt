@@ -3,7 +3,7 @@
 //! Operators of two bitvectors stand in three classes: from bits to bits, comparisons, and tests whether a signed result leaves
 //! its range. Each class has one call that takes the operator and the call that answers its values at two literals (`bvapp`,
 //! `test` and `bvso`), and each operator is a line over that of its class.
-#![tactic(auto, using(crate::proofs::Folding::folding))]
+#![tactic(auto)]
 
 mod bits;
 mod comparisons;

@@ -11,7 +11,6 @@ use Rattle.smt_folding.specs.Parts.{element_type, elements_in, is_empty_set, is_
 use Rattle.smt_folding.specs.Refinement.{Refines}
 use Rattle.smt_folding.proofs.SetsStand.{stands_set_inter, stands_set_member, stands_set_subset}
 use Rattle.smt_folding.proofs.CompositesStand.{stands_set_intersects}
-use Rattle.smt_term.proofs.DerivedEquality.{eq-is}
 use Rattle.smt_meaning.proofs.Listed.{listed}
 use Rattle.smt_meaning.specs.Literals.{is_literal}
 use Rattle.smt_meaning.specs.TermOrder.{term_eq}
@@ -81,4 +80,4 @@ stands_for_set_subset r t u e = subst (λ (x : PlainTerm). Refines x (set_subset
 pub stands_for_set_inter : (r t u : PlainTerm) → r ≡ folded_set_inter t u → Refines r (set_inter_of t u)
 stands_for_set_inter r t u e = subst (λ (x : PlainTerm). Refines x (set_inter_of t u)) (sym e) (stands_set_inter t u)
 
-pub ruleset set_folding = (eq-is, elements_in-set, set_literal-is, common_set-set, is_empty-elements, is_empty-set, is_empty-other, stands_for_set_member, stands_for_set_subset, stands_for_set_inter, stands_set_intersects)
+pub ruleset set_folding = (elements_in-set, set_literal-is, common_set-set, is_empty-elements, is_empty-set, is_empty-other, stands_for_set_member, stands_for_set_subset, stands_for_set_inter, stands_set_intersects)

@@ -15,7 +15,7 @@ ghost use Rattle.smt_term.specs.View.{plain_elements, plain_term, plain_type};
 
 use smt_connectives::not;
 use smt_equality::eq;
-use smt_parts::{binary_application, binary_test};
+use smt_parts::{are_equal, binary_application, binary_test};
 use smt_term::{Op, Term, TermError, TermSet, TermType};
 use std::alloc::Global;
 
@@ -36,7 +36,7 @@ pub fn set_of(alloc: Global, ts: &[Term], elts_ty: TermType) -> Result<Term, Ter
 }
 
 // The type of a set's elements.
-#[tactic(auto, using(smt_term::specs::View::views))]
+#[tactic(auto, using(smt_term::specs::View::views), unfolding(smt_types::specs::View::plain_type))]
 fn element_type(alloc: Global, t: &Term) -> Result<Option<TermType>, TermError>
     ensures { IfOk result (λ o. MatchOption o (element_type (type_of (plain_term t.now)) ≡ None) (λ ty. element_type (type_of (plain_term t.now)) ≡ Some (plain_type ty))) }
 {
@@ -53,7 +53,7 @@ fn element_type(alloc: Global, t: &Term) -> Result<Option<TermType>, TermError>
 }
 
 // The elements of a set, where it is given by them.
-#[tactic(auto, using(smt_term::specs::View::views))]
+#[tactic(auto, using(smt_term::specs::View::views), unfolding(smt_term::specs::View::plain_term))]
 fn given_elements(t: &Term) -> Option<&TermSet>
     ensures given { is_some result ≡ is_set_term (plain_term t.now) }
     ensures elements { IfSome result (λ elts. elements_in (plain_term t.now) ≡ plain_elements elts.now) }
@@ -167,7 +167,7 @@ pub fn set_subset(alloc: Global, sub: Term, sup: Term) -> Result<Term, TermError
 fn folded_set_subset(alloc: Global, sub: &Term, sup: &Term) -> Result<Term, TermError>
     ensures { IfOk result (λ r. plain_term r ≡ folded_set_subset (plain_term sub.now) (plain_term sup.now)) }
 {
-    if sub == sup || is_empty_set(sub) {
+    if are_equal(sub, sup) || is_empty_set(sub) {
         return Ok(Term::from(true));
     }
     if is_set_literal(sub) && is_set_literal(sup) {
@@ -226,7 +226,7 @@ pub fn set_inter(alloc: Global, ts1: Term, ts2: Term) -> Result<Term, TermError>
 fn folded_set_inter(alloc: Global, ts1: &Term, ts2: &Term) -> Result<Term, TermError>
     ensures { IfOk result (λ r. plain_term r ≡ folded_set_inter (plain_term ts1.now) (plain_term ts2.now)) }
 {
-    if ts1 == ts2 || is_empty_set(ts1) {
+    if are_equal(ts1, ts2) || is_empty_set(ts1) {
         return ts1.share();
     }
     if is_empty_set(ts2) {

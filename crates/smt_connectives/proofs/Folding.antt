@@ -8,7 +8,6 @@ use Rattle.smt_folding.proofs.CompositesStand.{stands_implies}
 use Rattle.smt_folding.proofs.ConnectivesStand.{stands_not, stands_and, stands_or}
 use Rattle.smt_meaning.specs.Plain.{NotOp, PlainTerm, Application, no_terms, one_term}
 use Rattle.smt_meaning.specs.TermOrder.{term_eq}
-use Rattle.smt_term.proofs.DerivedEquality.{eq-is}
 
 pub is_negation-some : (t u v : PlainTerm) → negated u ≡ Some v → is_negation t u ≡ term_eq t v
 is_negation-some t (Application NotOp (one_term w no_terms) ty) v e = let same : w ≡ v = cc in let P : PlainTerm → Type 0 = λ x. term_eq t w ≡ term_eq t x in subst P same refl
@@ -23,4 +22,4 @@ stands_for_and r t u e = subst (λ (x : PlainTerm). Refines x (and_of t u)) (sym
 pub stands_for_or : (r t u : PlainTerm) → r ≡ folded_or t u → Refines r (or_of t u)
 stands_for_or r t u e = subst (λ (x : PlainTerm). Refines x (or_of t u)) (sym e) (stands_or t u)
 
-pub ruleset folding = (eq-is, is_negation-some, stands_for_not, stands_for_and, stands_for_or, stands_implies)
+pub ruleset folding = (is_negation-some, stands_for_not, stands_for_and, stands_for_or, stands_implies)

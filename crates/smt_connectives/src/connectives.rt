@@ -8,7 +8,7 @@ ghost use Rattle.smt_folding.specs.Parts.{negated};
 ghost use Rattle.smt_folding.specs.Refinement.{Refines};
 ghost use Rattle.smt_term.specs.View.{plain_term};
 
-use smt_parts::{binary_test, is_truth_value, only_one, unary_test};
+use smt_parts::{are_equal, binary_test, is_truth_value, only_one, unary_test};
 use smt_term::{Op, Term, TermError};
 use std::alloc::Global;
 
@@ -36,7 +36,7 @@ fn is_negation(t1: &Term, t2: &Term) -> bool
     ensures { result ≡ is_negation (plain_term t1.now) (plain_term t2.now) }
 {
     match negated(t2) {
-        Some(t) => t1 == t,
+        Some(t) => are_equal(t1, t),
         None => false,
     }
 }
@@ -90,10 +90,11 @@ pub fn and(alloc: Global, t1: Term, t2: Term) -> Result<Term, TermError>
 }
 
 // The conjunction, folded.
+#[tactic(auto)]
 fn folded_and(alloc: Global, t1: &Term, t2: &Term) -> Result<Term, TermError>
     ensures { IfOk result (λ r. plain_term r ≡ folded_and (plain_term t1.now) (plain_term t2.now)) }
 {
-    if t1 == t2 || is_truth_value(t2, true) {
+    if are_equal(t1, t2) || is_truth_value(t2, true) {
         return t1.share();
     }
     if is_truth_value(t1, true) {
@@ -120,10 +121,11 @@ pub fn or(alloc: Global, t1: Term, t2: Term) -> Result<Term, TermError>
 }
 
 // The disjunction, folded.
+#[tactic(auto)]
 fn folded_or(alloc: Global, t1: &Term, t2: &Term) -> Result<Term, TermError>
     ensures { IfOk result (λ r. plain_term r ≡ folded_or (plain_term t1.now) (plain_term t2.now)) }
 {
-    if t1 == t2 || is_truth_value(t2, false) {
+    if are_equal(t1, t2) || is_truth_value(t2, false) {
         return t1.share();
     }
     if is_truth_value(t1, false) {

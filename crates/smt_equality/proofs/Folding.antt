@@ -6,7 +6,6 @@ use Rattle.smt_folding.specs.Parts.{are_some, are_some_and_none, held, is_none_t
 use Rattle.smt_folding.specs.Refinement.{Refines}
 use Rattle.smt_folding.proofs.EqualityStands.{stands_eq, stands_ite}
 use Rattle.smt_meaning.specs.Plain.{PlainTerm, NoneTerm, SomeTerm}
-use Rattle.smt_term.proofs.DerivedEquality.{eq-is}
 
 -- two `some`, some and none, and all else
 pub are_some-first : (t u : PlainTerm) → held t ≡ None → are_some t u ≡ false
@@ -67,13 +66,10 @@ pub stands_for_ite : (r g t u : PlainTerm) → r ≡ folded_ite g t u → Refine
 stands_for_ite r g t u e = subst (λ (x : PlainTerm). Refines x (ite_of g t u)) (sym e) (stands_ite g t u)
 
 -- for equality
-pub ruleset comparing = (eq-is, folded_eq-held, folded_eq-apart, folded_eq-turned, folded_eq-inside, stands_for_eq)
+pub ruleset comparing = (folded_eq-held, folded_eq-apart, folded_eq-turned, folded_eq-inside, stands_for_eq)
 
 -- for choice
-pub ruleset choosing = (eq-is, folded_ite-held, folded_ite-inside, stands_for_ite)
-
--- for what is decided by equal terms alone
-pub ruleset equal = (eq-is)
+pub ruleset choosing = (folded_ite-held, folded_ite-inside, stands_for_ite)
 
 -- for what two options hold
 pub ruleset holding = (are_some-first, are_some-second, some_and_none-some, some_and_none-other)

@@ -9,7 +9,7 @@ ghost use Rattle.smt_term.specs.View.{plain_term};
 
 use crate::pairs::both_held;
 use smt_connectives::{and, not, or};
-use smt_parts::{is_truth_value, some_of, ternary_application};
+use smt_parts::{are_equal, is_truth_value, some_of, ternary_application};
 use smt_term::{Op, Term, TermError};
 use std::alloc::Global;
 
@@ -39,11 +39,11 @@ fn folded_ite(alloc: Global, t1: &Term, t2: &Term, t3: &Term) -> Result<Term, Te
 }
 
 // Choice, where what two `some` hold has been taken out.
-#[tactic(auto, using(crate::proofs::Folding::equal))]
+#[tactic(auto)]
 fn ite_inside(alloc: Global, t1: &Term, t2: &Term, t3: &Term) -> Result<Term, TermError>
     ensures { IfOk result (λ r. plain_term r ≡ folded_ite_inside (plain_term t1.now) (plain_term t2.now) (plain_term t3.now)) }
 {
-    if is_truth_value(t1, true) || t2 == t3 {
+    if is_truth_value(t1, true) || are_equal(t2, t3) {
         return t2.share();
     }
     if is_truth_value(t1, false) {

@@ -12,36 +12,20 @@ ghost use Rattle.smt_term.specs.View.{plain_literal, plain_term, plain_type};
 
 use crate::pairs::{are_some_and_none, both_held};
 use smt_connectives::not;
-use smt_parts::{binary_test, is_truth_value};
+use smt_parts::{are_equal, binary_test, is_truth_value};
 use smt_term::{Op, Term, TermError, TermPrim, TermType};
 use std::alloc::Global;
 
 // Whether the term has the type of truth values.
-#[tactic(auto, using(smt_term::specs::View::views))]
+#[tactic(auto, using(smt_term::specs::View::views), unfolding(smt_term::specs::View::plain_term))]
 fn is_boolean(t: &Term) -> bool
     ensures { result ≡ is_boolean (plain_term t.now) }
 {
     match t {
-        Term::App { ret_ty, .. } => is_truth_type(ret_ty),
+        Term::App { ret_ty, .. } => ret_ty.is_same_as(&TermType::Bool),
         Term::None(_) | Term::Record(_) | Term::Set { .. } | Term::Some(_) => false,
         Term::Prim(literal) => is_truth(literal),
-        Term::Var(variable) => is_truth_type(&variable.ty),
-    }
-}
-
-#[tactic(auto, using(smt_term::specs::View::views))]
-fn is_truth_type(ty: &TermType) -> bool
-    ensures { result ≡ type_eq (plain_type ty.now) BoolType }
-{
-    match ty {
-        TermType::Bool => true,
-        TermType::Option { .. }
-        | TermType::Bitvec { .. }
-        | TermType::Entity { .. }
-        | TermType::Ext { .. }
-        | TermType::String
-        | TermType::Record { .. }
-        | TermType::Set { .. } => false,
+        Term::Var(variable) => variable.ty.is_same_as(&TermType::Bool),
     }
 }
 
@@ -98,11 +82,10 @@ fn folded_eq(alloc: Global, t1: &Term, t2: &Term) -> Result<Term, TermError>
 }
 
 // Equality, where what `some` and none hold has been looked at.
-#[tactic(auto, using(crate::proofs::Folding::equal))]
 fn eq_inside(alloc: Global, t1: &Term, t2: &Term) -> Result<Term, TermError>
     ensures { IfOk result (λ r. plain_term r ≡ folded_eq_inside (plain_term t1.now) (plain_term t2.now)) }
 {
-    if t1 == t2 {
+    if are_equal(t1, t2) {
         return Ok(Term::from(true));
     }
     if are_literals(t1, t2) {

@@ -12,4 +12,4 @@ pub use applications::{
     binary_application, binary_test, ternary_application, unary_application, unary_test,
 };
 pub use options::{held, is_none_term, none_of, some_of};
-pub use parts::{is_truth_value, only_one};
+pub use parts::{are_equal, is_truth_value, only_one};

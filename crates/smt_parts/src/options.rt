@@ -26,6 +26,7 @@ pub fn some_of(alloc: Global, t: Term) -> Result<Term, TermError>
 }
 
 /// What a `some` holds.
+#[tactic(auto, using(smt_term::specs::View::views), unfolding(smt_term::specs::View::plain_term))]
 pub fn held(t: &Term) -> Option<&Term>
     ensures { MatchOption result (held (plain_term t.now) ≡ None) (λ u. plain_term t.now ≡ SomeTerm (plain_term u.now)) }
 {
@@ -41,6 +42,7 @@ pub fn held(t: &Term) -> Option<&Term>
 }
 
 /// Whether it is none.
+#[tactic(auto, using(smt_term::specs::View::views), unfolding(smt_term::specs::View::plain_term))]
 pub fn is_none_term(t: &Term) -> bool
     ensures { result ≡ is_none_term (plain_term t.now) }
 {

@@ -17,6 +17,13 @@ pub fn only_one(ts: &TermList) -> Option<&Term>
     }
 }
 
+/// Whether the two are the same term.
+pub fn are_equal(t1: &Term, t2: &Term) -> bool
+    ensures { result ≡ term_eq (plain_term t1.now) (plain_term t2.now) }
+{
+    t1 == t2
+}
+
 /// Whether it is this truth value.
 pub fn is_truth_value(t: &Term, truth: bool) -> bool
     ensures { result ≡ term_eq (plain_term t.now) (truth_literal truth) }

@@ -2,7 +2,7 @@
 //! and the entries by which terms are declared or defined.
 //!
 //! What each text spells is stated as an expression of a script (`smt_lines`), apart from this code.
-#![tactic(auto, using(smt_term::specs::View::views))]
+#![tactic(auto)]
 
 mod body;
 mod datatype;

@@ -1,4 +1,6 @@
-// How terms and literals are printed.
+//! How terms and literals are printed.
+#![tactic(auto)]
+
 ghost use Rattle.std.specs.Prelude.{◌++◌, Some, codes, map};
 ghost use Rattle.std.specs.Fmt.{WritesOnOk};
 ghost use Rattle.std.specs.List.{flat_map};

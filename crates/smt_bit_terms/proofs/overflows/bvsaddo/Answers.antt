@@ -13,4 +13,4 @@ pub returns-clause-folded : goal.returns-clause-folded
 returns-clause-folded c = IfOk-weaker c.bvso.result _ (λ r. plain_term r ≡ folded_overflow BvsaddoOp (plain_term c.args.t1) (plain_term c.args.t2)) (λ r h. overflow_by _ (OverflowOp BvsaddoOp) (λ x y. x +ℤ y) (λ x y z k. search rules) _ _ _ h) c.bvso.ensures.folded
 
 pub returns-clause-refines : goal.returns-clause-refines
-returns-clause-refines c = IfOk-weaker c.bvso.result _ _ (λ r h. stands_for_overflow BvsaddoOp _ _ _ (overflow_by _ (OverflowOp BvsaddoOp) (λ x y. x +ℤ y) (λ x y z k. search rules) _ _ _ h)) c.bvso.ensures.folded
+returns-clause-refines c = IfOk-weaker c.bvso.result _ _ (λ r h. stands_for_overflow BvsaddoOp _ _ _ h) (returns-clause-folded c)

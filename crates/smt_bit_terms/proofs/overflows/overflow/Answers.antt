@@ -1,4 +1,4 @@
-use Rattle.std.proofs.Common.{◌≡◌, ap, ◌∙◌, sym, refl, inl, arith, rules}
+use Rattle.std.proofs.Common.{◌≡◌, ap, ◌∙◌, sym, refl, inl, inr, arith, rules}
 use Rattle.std.specs.Prelude.{FitsSigned}
 use Rattle.std.specs.Int.{w128}
 use Rattle.std.proofs.lemmas.Fn.{says_at_two}
@@ -11,6 +11,9 @@ use Rattle.smt_bit_terms.proofs.overflows.overflow.Goals as goal
 
 pub returns-then-ne : goal.returns-then-ne
 returns-then-ne g c = inl (record { left = c.in-Some.left; right = c.in-Some-bits_inside.right; first = c.in-Some.ensures; second = c.in-Some-bits_inside.ensures; widths = λ e. grind arith })
+
+pub returns-in_default : goal.returns-in_default
+returns-in_default g c = inr (inl c.in_default.ensures)
 
 pub returns : goal.returns
 returns g c =
