@@ -190,32 +190,46 @@ fn one_member(alloc: Global, id: &str) -> Result<EntityEntry, Fail> {
     Ok(EntityEntry::Enum(TextSet::new(alloc, &member)?))
 }
 
-#[test]
-fn types_are_in_order(rt: HostRuntime) -> Result<(), Fail> {
-    let alloc = rt.alloc();
+/// What a schema says of a type that may have these ancestors and tags that are numbers.
+fn with_tags(alloc: Global, ancestors: &[&str]) -> Result<EntityEntry, Fail> {
+    Ok(EntityEntry::Standard {
+        ancestors: types(alloc, ancestors)?,
+        attrs: Attributes::new(alloc, Vec::new(alloc))?,
+        tags: Some(CedarType::Long),
+    })
+}
+
+/// Enum types in this order, one of them twice, and then another of them as a type with tags.
+fn entries(alloc: Global) -> Result<EntryMap, Fail> {
     let mut entries = EntryMap::new(alloc);
     for name in ["b", "a::b", "", "a", "\u{e9}", "b", "B"] {
         let mark = if entries.len() < 5 { "first" } else { "second" };
-        entries.push((
-            EntityType(Text::from_str(alloc, name)?),
-            one_member(alloc, mark)?,
-        ))?;
+        let ety = EntityType(Text::from_str(alloc, name)?);
+        entries.push((ety, one_member(alloc, mark)?))?;
     }
-    let standard = EntityEntry::Standard {
-        ancestors: types(alloc, &["b"])?,
-        attrs: Attributes::new(alloc, Vec::new(alloc))?,
-        tags: Some(CedarType::Long),
-    };
-    entries.push((EntityType(Text::from_str(alloc, "a")?), standard))?;
+    let ety = EntityType(Text::from_str(alloc, "a")?);
+    entries.push((ety, with_tags(alloc, &["b"])?))?;
+    Ok(entries)
+}
+
+#[test]
+fn types_are_in_order(rt: HostRuntime) -> Result<(), Fail> {
+    let entries = entries(rt.alloc())?;
     let names = ["", "B", "a", "a::b", "b", "\u{e9}"];
     assert_eq!(rt; entries.len(), names.len());
     for ((ety, _entry), name) in entries.items().iter().zip(names) {
         assert_eq!(rt; ety.0.as_str(), name);
     }
-    let replaced = entries.get(&EntityType(Text::from_str(alloc, "b")?))
-        == Some(&one_member(alloc, "second")?);
-    assert!(rt; replaced, "the last entry stays");
-    let absent = EntityType(Text::from_str(alloc, "c")?);
+    Ok(())
+}
+
+#[test]
+fn the_last_entry_of_a_type_stays(rt: HostRuntime) -> Result<(), Fail> {
+    let entries = entries(rt.alloc())?;
+    let given = EntityType(Text::from_str(rt.alloc(), "b")?);
+    let second = one_member(rt.alloc(), "second")?;
+    assert!(rt; entries.get(&given) == Some(&second));
+    let absent = EntityType(Text::from_str(rt.alloc(), "c")?);
     assert!(rt; entries.get(&absent).is_none());
     Ok(())
 }

@@ -257,31 +257,58 @@ fn calls_made_of_values(rt: HostRuntime) -> Result<(), Fail> {
     Ok(())
 }
 
-#[test]
-fn values_of_no_extension_type(rt: HostRuntime) -> Result<(), Fail> {
-    let alloc = rt.alloc();
-    let mut items = Vec::new(alloc);
-    items.push(Value::ExtensionValue(call_with(alloc, "decimal", "1.0")?))?;
-    let set = Value::Set(ValueList::new(alloc, items)?);
-    let answered = said_by_value(alloc, &set)?;
-    assert_eq!(rt; answered.as_str(), "none", "a set");
+/// Attributes, one of them twice, each with a number.
+const NUMBERED: &[(&str, i64)] = &[("b", 1), ("a", 2), ("b", 3), ("", 4)];
+
+/// The record of these attributes, of those of one name the last.
+fn numbered(alloc: Global) -> Result<ValueMap, Fail> {
     let mut pairs = Vec::new(alloc);
+    for &(name, number) in NUMBERED {
+        pairs.push((
+            Text::from_str(alloc, name)?,
+            Value::Lit(Literal::Long(number)),
+        ))?;
+    }
+    Ok(ValueMap::new(alloc, pairs)?)
+}
+
+/// The same attributes, of whose values nothing is known.
+fn unknown(alloc: Global) -> Result<PartialMap, Fail> {
     let mut parts = Vec::new(alloc);
-    for (name, number) in [("b", 1), ("a", 2), ("b", 3), ("", 4)] {
-        let value = Value::Lit(Literal::Long(number));
-        pairs.push((Text::from_str(alloc, name)?, value))?;
+    for &(name, _) in NUMBERED {
         parts.push((Text::from_str(alloc, name)?, PartialValue::Residual))?;
     }
-    let record = Value::Record(ValueMap::new(alloc, pairs)?);
-    let answered = said_by_value(alloc, &record)?;
+    Ok(PartialMap::new(alloc, parts)?)
+}
+
+/// The list of one value of an extension type.
+fn one_decimal(alloc: Global) -> Result<ValueList, Fail> {
+    let mut items = Vec::new(alloc);
+    items.push(Value::ExtensionValue(call_with(alloc, "decimal", "1.0")?))?;
+    Ok(ValueList::new(alloc, items)?)
+}
+
+#[test]
+fn values_of_no_extension_type(rt: HostRuntime) -> Result<(), Fail> {
+    let set = Value::Set(one_decimal(rt.alloc())?);
+    let answered = said_by_value(rt.alloc(), &set)?;
+    assert_eq!(rt; answered.as_str(), "none", "a set");
+    let record = Value::Record(numbered(rt.alloc())?);
+    let answered = said_by_value(rt.alloc(), &record)?;
     assert_eq!(rt; answered.as_str(), "none", "a record");
-    let answered = format!(in alloc; "{record:?}")?;
+    Ok(())
+}
+
+#[test]
+fn records_are_in_order(rt: HostRuntime) -> Result<(), Fail> {
+    let record = Value::Record(numbered(rt.alloc())?);
+    let answered = format!(in rt.alloc(); "{record:?}")?;
     assert_eq!(rt;
         answered.as_str(),
         "Record(ValueMap { pairs: AttributePairs { items: [(\"\", Lit(Long(4))), (\"a\", Lit(Long(2))), (\"b\", Lit(Long(3)))] } })"
     );
-    let known = PartialMap::new(alloc, parts)?.share()?;
-    let answered = format!(in alloc; "{:?}", known.items())?;
+    let known = unknown(rt.alloc())?.share()?;
+    let answered = format!(in rt.alloc(); "{:?}", known.items())?;
     assert_eq!(rt;
         answered.as_str(),
         "[(\"\", Residual), (\"a\", Residual), (\"b\", Residual)]"

@@ -180,6 +180,22 @@ pub(crate) fn entry(alloc: Global, given: Kind) -> Result<EntityEntry, Symbolize
     }
 }
 
+/// What a schema says of an action, by its name, its ancestors and the attributes of its contexts.
+fn action(
+    alloc: Global,
+    name: Name,
+    ancestors: &[Name],
+    context: Types,
+) -> Result<ActionEntry, SymbolizeError> {
+    Ok(ActionEntry {
+        uid: uid(alloc, name)?,
+        ancestors: uids(alloc, ancestors)?,
+        principals: types_named(alloc, &["User"])?,
+        resources: types_named(alloc, &["User"])?,
+        context: attributes(alloc, context)?,
+    })
+}
+
 /// The schema of a world.
 pub(crate) fn schema(alloc: Global, world: &World) -> Result<Schema, SymbolizeError> {
     let mut entity_types = EntryMap::new(alloc);
@@ -188,13 +204,7 @@ pub(crate) fn schema(alloc: Global, world: &World) -> Result<Schema, SymbolizeEr
     }
     let mut actions = ActionList::new(alloc);
     for (name, ancestors, context) in world.actions {
-        actions.push(ActionEntry {
-            uid: uid(alloc, *name)?,
-            ancestors: uids(alloc, ancestors)?,
-            principals: types_named(alloc, &["User"])?,
-            resources: types_named(alloc, &["User"])?,
-            context: attributes(alloc, context)?,
-        })?;
+        actions.push(action(alloc, *name, ancestors, context)?)?;
     }
     Ok(Schema {
         entity_types,

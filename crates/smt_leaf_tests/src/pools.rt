@@ -5,12 +5,13 @@ ghost use Rattle.smt_solve.specs.MemoryStarter.{memory_starter_state};
 ghost use Rattle.smt_pool.specs.Pool.{IsSamePool, pool_state};
 ghost use Rattle.smt_pool.specs.Pooled.{pooled_number};
 
-use smt_pool::{PooledSolver, SolverPool, SolverPoolConfig, SolverPoolError};
+use smt_pool::{PoolRefused, PooledSolver, SolverPool, SolverPoolConfig, SolverPoolError};
 use smt_script::{SinkError, SmtLibScript};
 use smt_solve::{
     Decision, LinkList, MemoryLink, MemoryStarter, Solver, SolverCommand, SolverError,
 };
 use std::alloc::Global;
+use std::process::Abort;
 use std::test::Fail;
 
 /// Solvers that answer with these bytes, one after the other. The calls with the numbers in `fails` fail on each of their
@@ -66,52 +67,132 @@ fn refusal(pool: &mut SolverPool<MemoryStarter>) -> Option<SolverPoolError>
     }
 }
 
+/// A pool over solvers that answer with these bytes. The calls of a link with the numbers in `fails` fail.
+fn pool_over(
+    alloc: Global,
+    config: SolverPoolConfig,
+    answers: &[&[u8]],
+    fails: &[u64],
+) -> Result<SolverPool<MemoryStarter>, Fail>
+    ensures { IfOk result (λ pool. (pool_state memory_starter_state pool).permits ≡ (pool_state memory_starter_state pool).max) }
+{
+    Ok(pool_of(alloc, config, starter_of(alloc, answers, fails, &[])?)?)
+}
+
+/// Whether a session was taken back, and kept or not. It takes the answer, so that no test has an account of how one is let go.
+fn is_kept(answer: Result<bool, SolverPoolError>, kept: bool) -> bool {
+    answer == Ok(kept)
+}
+
+/// Whether no session is handed out, for this reason.
+fn is_refusal(refusal: Option<SolverPoolError>, wanted: SolverPoolError) -> bool {
+    refusal == Some(wanted)
+}
+
+/// Expects that this was sent to the session that is handed out next, and that it is kept.
+fn expect_sent(
+    rt: &impl Abort,
+    pool: &mut SolverPool<MemoryStarter>,
+    sent: &[u8],
+) -> Result<(), SolverPoolError>
+    ensures same_max { (pool_state memory_starter_state pool.new).max ≡ (pool_state memory_starter_state pool.old).max }
+    ensures same_permits { (pool_state memory_starter_state pool.new).permits ≡ (pool_state memory_starter_state pool.old).permits }
+{
+    let s = pool.acquire()?;
+    assert_eq!(rt; s.link().sent(), sent);
+    assert!(rt; is_kept(pool.release(s), true));
+    Ok(())
+}
+
+/// Asks the only session of a pool for a decision, while no second one is handed out.
+fn use_only_session(
+    rt: &impl Abort,
+    pool: &mut SolverPool<MemoryStarter>,
+) -> Result<(), SolverPoolError>
+    ensures same_max { (pool_state memory_starter_state pool.new).max ≡ (pool_state memory_starter_state pool.old).max }
+    ensures same_permits { (pool_state memory_starter_state pool.new).permits ≡ (pool_state memory_starter_state pool.old).permits }
+{
+    let mut s = pool.acquire()?;
+    assert!(rt; s.pool_number() == 7);
+    assert!(rt; pool.available_count() == 0);
+    assert!(rt; pool.permits_available() == 0);
+    assert!(rt; is_refusal(refusal(pool), SolverPoolError::AcquireTimeout));
+    assert!(rt; s.check_sat().ok() == Some(Decision::Unsat));
+    assert!(rt; is_kept(pool.release(s), true));
+    Ok(())
+}
+
+/// Uses the only session of a pool of number 7 twice.
+fn use_one_session(
+    rt: &impl Abort,
+    pool: &mut SolverPool<MemoryStarter>,
+) -> Result<(), SolverPoolError>
+    ensures same_max { (pool_state memory_starter_state pool.new).max ≡ (pool_state memory_starter_state pool.old).max }
+    ensures same_permits { (pool_state memory_starter_state pool.new).permits ≡ (pool_state memory_starter_state pool.old).permits }
+{
+    assert!(rt; pool.number() == 7);
+    assert!(rt; pool.available_count() == 1);
+    assert!(rt; pool.permits_available() == 1);
+    use_only_session(rt, pool)?;
+    expect_sent(rt, pool, b"(check-sat)\n(reset)\n")
+}
+
 #[test]
 fn one_session(rt: HostRuntime) -> Result<(), Fail> {
-    let starter = starter_of(rt.alloc(), &[b"unsat\n".as_slice()], &[], &[])?;
-    let mut pool = pool_of(rt.alloc(), sessions(1, 1), starter)?;
-    assert!(rt;
-        (
-            pool.number(),
-            pool.available_count(),
-            pool.permits_available()
-        ) == (7, 1, 1)
-    );
-    let mut s = pool.acquire()?;
-    assert!(rt;
-        (
-            s.pool_number(),
-            pool.available_count(),
-            pool.permits_available()
-        ) == (7, 0, 0)
-    );
-    assert!(rt; refusal(&mut pool) == Some(SolverPoolError::AcquireTimeout));
-    assert!(rt; s.check_sat() == Ok(Decision::Unsat));
-    assert!(rt; pool.release(s) == Ok(true));
-    let s = pool.acquire()?;
-    assert_eq!(rt; s.link().sent(), b"(check-sat)\n(reset)\n".as_slice());
-    assert!(rt; pool.release(s) == Ok(true));
+    let mut pool = pool_over(rt.alloc(), sessions(1, 1), &[b"unsat\n".as_slice()], &[])?;
+    use_one_session(&rt, &mut pool)?;
     let starter = pool.close()?;
     assert!(rt; (starter.commands().len(), starter.returned().len()) == (1, 1));
     Ok(())
 }
 
-#[test]
-fn last_idle_first(rt: HostRuntime) -> Result<(), Fail> {
-    let starter = starter_of(rt.alloc(), &[b"".as_slice(), b"".as_slice()], &[], &[])?;
-    let mut pool = pool_of(rt.alloc(), sessions(2, 2), starter)?;
+/// Puts an assertion to the session that is handed out next.
+fn put_assertion(
+    rt: &impl Abort,
+    pool: &mut SolverPool<MemoryStarter>,
+) -> Result<(), SolverPoolError>
+    ensures same_max { (pool_state memory_starter_state pool.new).max ≡ (pool_state memory_starter_state pool.old).max }
+    ensures same_permits { (pool_state memory_starter_state pool.new).permits ≡ (pool_state memory_starter_state pool.old).permits }
+{
     let mut s = pool.acquire()?;
     let put = s.smtlib_input().assert("true");
     assert!(rt; put == Ok(()));
-    assert!(rt; pool.release(s) == Ok(true));
-    let s = pool.acquire()?;
-    assert_eq!(rt; s.link().sent(), b"(assert true)\n(reset)\n".as_slice());
-    assert!(rt; pool.release(s) == Ok(true));
-    let starter = pool.close()?;
-    for (link, sent) in starter.returned().iter().zip([0, 30]) {
-        assert_eq!(rt; link.sent().len(), sent);
+    assert!(rt; is_kept(pool.release(s), true));
+    Ok(())
+}
+
+/// Puts an assertion to a session, and expects that the same session is handed out next.
+fn use_last_session(
+    rt: &impl Abort,
+    pool: &mut SolverPool<MemoryStarter>,
+) -> Result<(), SolverPoolError>
+    ensures same_max { (pool_state memory_starter_state pool.new).max ≡ (pool_state memory_starter_state pool.old).max }
+    ensures same_permits { (pool_state memory_starter_state pool.new).permits ≡ (pool_state memory_starter_state pool.old).permits }
+{
+    put_assertion(rt, pool)?;
+    expect_sent(rt, pool, b"(assert true)\n(reset)\n")
+}
+
+/// Whether the links that were given back were sent this, first to last.
+fn were_sent(starter: &MemoryStarter, sent: &[&[u8]]) -> bool {
+    for (link, bytes) in starter.returned().iter().zip(sent) {
+        if link.sent() != *bytes {
+            return false;
+        }
     }
-    assert_eq!(rt; starter.returned().len(), 2);
+    starter.returned().len() == sent.len()
+}
+
+/// What the links of `last_idle_first` are sent: the first none, and the second all.
+const SENT_TO_SECOND: &[&[u8]] = &[b"", b"(assert true)\n(reset)\n(reset)\n"];
+
+#[test]
+fn last_idle_first(rt: HostRuntime) -> Result<(), Fail> {
+    let answers = [b"".as_slice(), b"".as_slice()];
+    let mut pool = pool_over(rt.alloc(), sessions(2, 2), &answers, &[])?;
+    use_last_session(&rt, &mut pool)?;
+    let starter = pool.close()?;
+    assert!(rt; were_sent(&starter, SENT_TO_SECOND));
     Ok(())
 }
 
@@ -141,58 +222,111 @@ const FAILED: &[(&[u8], &[u64], bool, bool)] = &[
     (b"sat\n", &[4], false, true),
 ];
 
+/// Whether a question was refused since its session is marked.
+fn is_marked_refusal(used: Result<(), SolverError>) -> bool {
+    used == Err(SolverError::SolverMarkedFailed)
+}
+
+/// Uses a session so that it fails, and expects that its permit and its link come back.
+fn expect_given_up(
+    rt: &impl Abort,
+    pool: &mut SolverPool<MemoryStarter>,
+    is_marked: bool,
+    is_asked: bool,
+) -> Result<(), SolverPoolError> {
+    let mut s = pool.acquire()?;
+    let is_refused = is_marked_refusal(use_session(&mut s, is_marked, is_asked));
+    assert!(rt; is_refused == is_marked);
+    assert!(rt; is_kept(pool.release(s), false));
+    assert!(rt; pool.available_count() == 0);
+    assert!(rt; pool.permits_available() == 2);
+    assert!(rt; pool.starter().returned().len() == 1);
+    Ok(())
+}
+
 #[test]
 fn failed_sessions(rt: HostRuntime) -> Result<(), Fail> {
     for &(answers, fails, is_marked, is_asked) in FAILED {
-        let starter = starter_of(rt.alloc(), &[answers], fails, &[])?;
-        let mut pool = pool_of(rt.alloc(), sessions(0, 2), starter)?;
-        let mut s = pool.acquire()?;
-        let used = use_session(&mut s, is_marked, is_asked);
-        assert!(rt; (used == Err(SolverError::SolverMarkedFailed)) == is_marked);
-        assert!(rt; pool.release(s) == Ok(false));
-        assert!(rt; (pool.available_count(), pool.permits_available()) == (0, 2));
-        assert_eq!(rt; pool.starter().returned().len(), 1);
+        let mut pool = pool_over(rt.alloc(), sessions(0, 2), &[answers], fails)?;
+        expect_given_up(&rt, &mut pool, is_marked, is_asked)?;
     }
+    Ok(())
+}
+
+/// Marks a session between two puts to its input, and expects that the second one fails.
+fn mark_between_puts(rt: &impl Abort, s: &mut PooledSolver<MemoryLink>)
+    ensures { pooled_number s.new ≡ pooled_number s.old }
+{
+    let before = s.smtlib_input().assert("true");
+    s.mark_failed();
+    let behind = s.smtlib_input().assert("false");
+    assert!(rt; (before, behind) == (Ok(()), Err(SinkError::Fault)));
+}
+
+/// Expects that a session which is marked between two puts sends the first alone, and is given up.
+fn expect_first_put_alone(
+    rt: &impl Abort,
+    pool: &mut SolverPool<MemoryStarter>,
+) -> Result<(), SolverPoolError> {
+    let mut s = pool.acquire()?;
+    mark_between_puts(rt, &mut s);
+    assert_eq!(rt; s.link().sent(), b"(assert true)\n".as_slice());
+    assert!(rt; is_kept(pool.release(s), false));
+    assert!(rt; were_sent(pool.starter(), &[b"(assert true)\n".as_slice()]));
     Ok(())
 }
 
 /// A session that is only marked failed sends nothing that is put to its input.
 #[test]
 fn marked_sessions(rt: HostRuntime) -> Result<(), Fail> {
-    let starter = starter_of(rt.alloc(), &[b"sat\n".as_slice()], &[], &[])?;
-    let mut pool = pool_of(rt.alloc(), sessions(0, 1), starter)?;
-    let mut s = pool.acquire()?;
-    let before = s.smtlib_input().assert("true");
-    s.mark_failed();
-    let behind = s.smtlib_input().assert("false");
-    assert!(rt; (before, behind) == (Ok(()), Err(SinkError::Fault)));
-    assert_eq!(rt; s.link().sent(), b"(assert true)\n".as_slice());
-    assert!(rt; pool.release(s) == Ok(false));
-    for link in pool.starter().returned() {
-        assert_eq!(rt; link.sent(), b"(assert true)\n".as_slice());
+    let mut pool = pool_over(rt.alloc(), sessions(0, 1), &[b"sat\n".as_slice()], &[])?;
+    expect_first_put_alone(&rt, &mut pool)?;
+    Ok(())
+}
+
+/// A starter of two solvers, whose start of this number fails.
+fn starter_with_failure(alloc: Global, failed_start: u64) -> Result<MemoryStarter, Fail> {
+    let answers = [b"".as_slice(), b"".as_slice()];
+    starter_of(alloc, &answers, &[], &[failed_start])
+}
+
+/// Whether a pool was not opened since a start failed, and one link came back to its starter.
+fn is_refused(opened: Result<SolverPool<MemoryStarter>, PoolRefused<MemoryStarter>>) -> bool {
+    match opened {
+        Ok(_) => false,
+        Err(refused) => {
+            refused.error == SolverError::Io && refused.starter.returned().len() == 1
+        }
     }
-    assert_eq!(rt; pool.starter().returned().len(), 1);
+}
+
+/// Expects that a pool of three sessions is not opened, of which the second does not start.
+fn expect_not_opened(rt: &impl Abort, alloc: Global) -> Result<(), Fail> {
+    let command = SolverCommand::new(alloc, "cvc5", &[])?;
+    let starter = starter_with_failure(alloc, 2)?;
+    let opened = SolverPool::new(alloc, 0, sessions(3, 1), command, starter);
+    assert!(rt; is_refused(opened));
+    Ok(())
+}
+
+/// Expects that a session is handed out behind one that did not start, and that the latter took no permit.
+fn expect_second_start(
+    rt: &impl Abort,
+    pool: &mut SolverPool<MemoryStarter>,
+) -> Result<(), SolverPoolError> {
+    assert!(rt; is_refusal(refusal(pool), SolverPoolError::from(SolverError::Io)));
+    assert!(rt; pool.permits_available() == 1);
+    let s = pool.acquire()?;
+    assert!(rt; is_kept(pool.release(s), true));
     Ok(())
 }
 
 #[test]
 fn failed_starts(rt: HostRuntime) -> Result<(), Fail> {
-    let answers = [b"".as_slice(), b"".as_slice()];
-    let starter = starter_of(rt.alloc(), &answers, &[], &[2])?;
-    let command = SolverCommand::new(rt.alloc(), "cvc5", &[])?;
-    match SolverPool::new(rt.alloc(), 0, sessions(3, 1), command, starter) {
-        Ok(_) => assert!(rt; false, "the pool was opened"),
-        Err(refused) => {
-            assert!(rt; refused.error == SolverError::Io);
-            assert_eq!(rt; refused.starter.returned().len(), 1);
-        }
-    }
-    let starter = starter_of(rt.alloc(), &answers, &[], &[1])?;
+    expect_not_opened(&rt, rt.alloc())?;
+    let starter = starter_with_failure(rt.alloc(), 1)?;
     let mut pool = pool_of(rt.alloc(), sessions(0, 1), starter)?;
-    assert!(rt; refusal(&mut pool) == Some(SolverPoolError::from(SolverError::Io)));
-    assert_eq!(rt; pool.permits_available(), 1);
-    let s = pool.acquire()?;
-    assert!(rt; pool.release(s) == Ok(true));
+    expect_second_start(&rt, &mut pool)?;
     Ok(())
 }
 

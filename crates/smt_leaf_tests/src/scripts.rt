@@ -96,21 +96,42 @@ fn put_lines<S: Sink>(sink: &mut S, alloc: Global) -> Result<(), Fail> {
     Ok(())
 }
 
+/// Expects that these are the bytes of the lines.
+fn expect_lines(rt: &impl Abort, bytes: &[u8]) {
+    assert_eq!(rt; bytes, LINES.as_bytes());
+}
+
+/// The sink has room for just the lines.
 #[test]
-fn lines_are_spelled(rt: HostRuntime) -> Result<(), Fail> {
-    let alloc = rt.alloc();
-    let mut memory = MemorySink::new(alloc, &[], LINES.len())?;
-    put_lines(&mut memory, alloc)?;
-    assert_eq!(rt; memory.bytes(), LINES.as_bytes());
-    let mut list = ListSink::new(alloc);
-    put_lines(&mut &mut list, alloc)?;
-    assert_eq!(rt; list.bytes(), LINES.as_bytes());
-    let mut writer = ShortWriter::new(alloc, 1000);
-    put_lines(&mut WriteSink::new(&mut writer), alloc)?;
-    assert_eq!(rt; writer.bytes.as_slice(), LINES.as_bytes());
-    let mut writer = ShortWriter::new(alloc, 1000);
-    put_lines(&mut BufferedSink::new(&mut writer), alloc)?;
-    assert_eq!(rt; writer.bytes.as_slice(), LINES.as_bytes());
+fn lines_are_spelled_in_memory(rt: HostRuntime) -> Result<(), Fail> {
+    let mut memory = MemorySink::new(rt.alloc(), &[], LINES.len())?;
+    put_lines(&mut memory, rt.alloc())?;
+    expect_lines(&rt, memory.bytes());
+    Ok(())
+}
+
+/// Here through a reference to the sink.
+#[test]
+fn lines_are_spelled_in_a_list(rt: HostRuntime) -> Result<(), Fail> {
+    let mut list = ListSink::new(rt.alloc());
+    put_lines(&mut &mut list, rt.alloc())?;
+    expect_lines(&rt, list.bytes());
+    Ok(())
+}
+
+#[test]
+fn lines_are_spelled_to_a_writer(rt: HostRuntime) -> Result<(), Fail> {
+    let mut writer = ShortWriter::new(rt.alloc(), 1000);
+    put_lines(&mut WriteSink::new(&mut writer), rt.alloc())?;
+    expect_lines(&rt, writer.bytes.as_slice());
+    Ok(())
+}
+
+#[test]
+fn lines_are_spelled_through_a_buffer(rt: HostRuntime) -> Result<(), Fail> {
+    let mut writer = ShortWriter::new(rt.alloc(), 1000);
+    put_lines(&mut BufferedSink::new(&mut writer), rt.alloc())?;
+    expect_lines(&rt, writer.bytes.as_slice());
     Ok(())
 }
 
@@ -123,31 +144,46 @@ fn declare_in_room(sink: &mut MemorySink, id: &str) -> Result<(), SinkError>
     sink.declare_const(id, "Bool")
 }
 
+/// Puts to a sink whose second put and fourth are planned to fail, with what they answer.
+const PLANNED: &[(&str, Result<(), SinkError>)] = &[
+    ("ab", Ok(())),
+    ("cd", Err(SinkError::Fault)),
+    ("ef", Ok(())),
+    ("gh", Err(SinkError::Fault)),
+];
+
+/// Whether each of the planned puts answers so.
+fn puts_are_planned(planned: &mut MemorySink) -> bool {
+    for &(bytes, want) in PLANNED {
+        if planned.put(bytes.as_bytes()) != want {
+            return false;
+        }
+    }
+    planned.bytes() == b"abef".as_slice()
+}
+
 /// The second put and the fourth are planned to fail.
 fn puts_fail_as_planned(rt: &impl Abort, alloc: Global) -> Result<(), Fail> {
     let mut planned = MemorySink::new(alloc, &[2, 4], 10)?;
-    for &(bytes, want) in &[
-        ("ab", Ok(())),
-        ("cd", Err(SinkError::Fault)),
-        ("ef", Ok(())),
-        ("gh", Err(SinkError::Fault)),
-    ] {
-        assert_eq!(rt; planned.put(bytes.as_bytes()), want, "{bytes}");
-    }
-    assert_eq!(rt; planned.bytes(), b"abef".as_slice());
+    assert!(rt; puts_are_planned(&mut planned));
     Ok(())
+}
+
+/// Expects that a sink with room for one line takes the front of a second one.
+fn expect_front_of_second(rt: &impl Abort, small: &mut MemorySink) {
+    assert!(rt; small.assert("t0") == Err(SinkError::Fault));
+    assert_eq!(rt;
+        small.bytes(),
+        b"(declare-const t0 Bool)\n(asser".as_slice()
+    );
 }
 
 #[test]
 fn memory_sinks_fail(rt: HostRuntime) -> Result<(), Fail> {
     puts_fail_as_planned(&rt, rt.alloc())?;
     let mut small = MemorySink::new(rt.alloc(), &[], 30)?;
-    assert_eq!(rt; declare_in_room(&mut small, "t0"), Ok(()));
-    assert_eq!(rt; small.assert("t0"), Err(SinkError::Fault));
-    assert_eq!(rt;
-        small.bytes(),
-        b"(declare-const t0 Bool)\n(asser".as_slice()
-    );
+    assert!(rt; declare_in_room(&mut small, "t0") == Ok(()));
+    expect_front_of_second(&rt, &mut small);
     Ok(())
 }
 
@@ -242,18 +278,28 @@ impl Write for StuckWriter {
     }
 }
 
+/// Puts a line through a buffer. It is held back, and its flush fails.
+fn flush_buffered(rt: &impl Abort, writer: &mut StuckWriter) {
+    let mut sink = BufferedSink::new(writer);
+    assert!(rt; sink.put(b"a\n") == Ok(()));
+    assert!(rt; (&mut sink).flush() == Err(SinkError::Fault));
+}
+
+/// Puts a line to a writer. It is flushed at its end, which fails, as each flush does.
+fn flush_at_end(rt: &impl Abort, writer: &mut StuckWriter) {
+    let mut sink = WriteSink::new(writer);
+    assert!(rt; sink.put(b"b") == Ok(()));
+    assert!(rt; sink.put(b"\n") == Err(SinkError::Fault));
+    assert!(rt; sink.flush() == Err(SinkError::Fault));
+}
+
 #[test]
 fn flushes_fail(rt: HostRuntime) -> Result<(), Fail> {
     let mut writer = StuckWriter {
         bytes: Vec::new(rt.alloc()),
     };
-    let mut sink = BufferedSink::new(&mut writer);
-    assert_eq!(rt; sink.put(b"a\n"), Ok(()));
-    assert_eq!(rt; (&mut sink).flush(), Err(SinkError::Fault));
-    let mut sink = WriteSink::new(&mut writer);
-    assert_eq!(rt; sink.put(b"b"), Ok(()));
-    assert_eq!(rt; sink.put(b"\n"), Err(SinkError::Fault));
-    assert_eq!(rt; sink.flush(), Err(SinkError::Fault));
+    flush_buffered(&rt, &mut writer);
+    flush_at_end(&rt, &mut writer);
     assert_eq!(rt; writer.bytes.as_slice(), b"a\nb\n".as_slice());
     Ok(())
 }

@@ -33,6 +33,16 @@ fn told<D>(answer: &Result<D, SolverError>) -> (&str, &str) {
     }
 }
 
+/// Whether this is told of an answer. It takes the answer, so that no test has an account of how one is let go.
+fn is_told<D: Drop>(answer: Result<D, SolverError>, wanted: (&str, &str)) -> bool {
+    told(&answer) == wanted
+}
+
+/// Whether an answer is this decision, with this model where it has one.
+fn is_model(answer: Result<DecisionWithModel, SolverError>, wanted: DecisionWithModel) -> bool {
+    answer == Ok(wanted)
+}
+
 const DECISIONS: &[(&[u8], Decision)] = &[
     (b"sat\n", Decision::Sat),
     (b"unsat\n", Decision::Unsat),
@@ -45,14 +55,13 @@ const DECISIONS: &[(&[u8], Decision)] = &[
 fn decisions(rt: HostRuntime) -> Result<(), Fail> {
     for &(answers, decision) in DECISIONS {
         let mut solver = session(rt.alloc(), answers, &[])?;
-        let answer = solver.check_sat();
-        assert!(rt; answer == Ok(decision));
+        assert!(rt; solver.check_sat().ok() == Some(decision));
         assert_eq!(rt; solver.link().sent(), b"(check-sat)\n".as_slice());
         assert!(rt; !solver.is_failed());
     }
     let mut solver = session(rt.alloc(), b"sat\nunsat\n", &[])?;
-    assert!(rt; solver.check_sat() == Ok(Decision::Sat));
-    assert!(rt; solver.check_sat() == Ok(Decision::Unsat));
+    assert!(rt; solver.check_sat().ok() == Some(Decision::Sat));
+    assert!(rt; solver.check_sat().ok() == Some(Decision::Unsat));
     assert_eq!(rt;
         solver.link().sent(),
         b"(check-sat)\n(check-sat)\n".as_slice()
@@ -70,12 +79,12 @@ fn expect_refusal(
     wanted: (&str, &str),
     killed: bool,
 ) {
-    assert!(rt; told(&solver.check_sat()) == wanted);
+    assert!(rt; is_told(solver.check_sat(), wanted));
     assert!(rt; solver.is_failed());
     let sent = solver.link().sent().len();
-    assert!(rt; told(&solver.check_sat()) == ("failed before", ""));
-    assert!(rt; told(&solver.check_sat_with_model()) == ("failed before", ""));
-    assert!(rt; told(&solver.enable_models()) == ("failed before", ""));
+    assert!(rt; is_told(solver.check_sat(), ("failed before", "")));
+    assert!(rt; is_told(solver.check_sat_with_model(), ("failed before", "")));
+    assert!(rt; is_told(solver.enable_models(), ("failed before", "")));
     assert!(rt; solver.smtlib_input().assert("true") == Err(SinkError::Fault));
     assert_eq!(rt; solver.link().sent().len(), sent);
     let mut link = solver.into_link();
@@ -121,12 +130,12 @@ fn ended_solvers(rt: HostRuntime) -> Result<(), Fail> {
     let link = MemoryLink::new(alloc, b"sat\n", &[], Some(-3))?;
     let mut solver = LocalSolver::new(alloc, link);
     let message = "Solver process terminated unexpectedly with status: Some(-3)";
-    assert!(rt; told(&solver.check_sat()) == ("solver", message));
+    assert!(rt; is_told(solver.check_sat(), ("solver", message)));
     assert_eq!(rt; solver.link().sent(), b"".as_slice());
     let mut killed = session(alloc, b"sat\n", &[])?;
     killed.clean_up()?;
     assert!(rt; !killed.is_failed());
-    assert!(rt; told(&killed.check_sat_with_model()) == ("solver", ENDED));
+    assert!(rt; is_told(killed.check_sat_with_model(), ("solver", ENDED)));
     assert_eq!(rt; killed.link().sent(), b"".as_slice());
     killed.clean_up()?;
     assert!(rt; killed.is_failed());
@@ -138,15 +147,15 @@ fn long_lines(rt: HostRuntime) -> Result<(), Fail> {
     let mut answers = Vec::from_elem(rt.alloc(), b' ', LINE_LIMIT - 4)?;
     answers.extend_from_slice(b"sat\n")?;
     let mut solver = session(rt.alloc(), answers.as_slice(), &[])?;
-    assert!(rt; solver.check_sat() == Ok(Decision::Sat));
+    assert!(rt; solver.check_sat().ok() == Some(Decision::Sat));
     answers.insert(0, b' ')?;
     let mut solver = session(rt.alloc(), answers.as_slice(), &[])?;
-    assert!(rt; told(&solver.check_sat()) == ("too long", ""));
+    assert!(rt; is_told(solver.check_sat(), ("too long", "")));
     assert!(rt; solver.is_failed());
     let blanks = Vec::from_elem(rt.alloc(), b' ', LINE_LIMIT)?;
     let mut solver = session(rt.alloc(), blanks.as_slice(), &[])?;
-    assert!(rt; told(&solver.check_sat()) == ("too long", ""));
-    assert!(rt; told(&solver.check_sat()) == ("failed before", ""));
+    assert!(rt; is_told(solver.check_sat(), ("too long", "")));
+    assert!(rt; is_told(solver.check_sat(), ("failed before", "")));
     Ok(())
 }
 
@@ -165,15 +174,20 @@ fn models(rt: HostRuntime) -> Result<(), Fail> {
     for &(answers, text) in MODELS {
         let model = Text::from_str(rt.alloc(), text)?;
         let mut solver = session(rt.alloc(), answers, &[])?;
-        assert!(rt; solver.check_sat_with_model() == Ok(DecisionWithModel::Sat { model }));
+        assert!(rt;
+            is_model(
+                solver.check_sat_with_model(),
+                DecisionWithModel::Sat { model }
+            )
+        );
         assert_eq!(rt;
             solver.link().sent(),
             b"(check-sat)\n(get-model)\n".as_slice()
         );
     }
     let mut solver = session(rt.alloc(), b"unsat\nunknown\n", &[])?;
-    assert!(rt; solver.check_sat_with_model() == Ok(DecisionWithModel::Unsat));
-    assert!(rt; solver.check_sat_with_model() == Ok(DecisionWithModel::Unknown));
+    assert!(rt; is_model(solver.check_sat_with_model(), DecisionWithModel::Unsat));
+    assert!(rt; is_model(solver.check_sat_with_model(), DecisionWithModel::Unknown));
     assert_eq!(rt;
         solver.link().sent(),
         b"(check-sat)\n(check-sat)\n".as_slice()
@@ -201,13 +215,13 @@ const NO_MODELS: &[(&[u8], (&str, &str), bool)] = &[
 fn no_models(rt: HostRuntime) -> Result<(), Fail> {
     for &(answers, wanted, killed) in NO_MODELS {
         let mut solver = session(rt.alloc(), answers, &[])?;
-        assert!(rt; told(&solver.check_sat_with_model()) == wanted);
+        assert!(rt; is_told(solver.check_sat_with_model(), wanted));
         assert!(rt; solver.is_failed());
         let mut link = solver.into_link();
         assert!(rt; (link.ended() == Ok(Ended::Killed)) == killed);
     }
     let mut solver = session(rt.alloc(), b"sat\n(\n)\n", &[6])?;
-    assert!(rt; told(&solver.check_sat_with_model()) == ("io", ""));
+    assert!(rt; is_told(solver.check_sat_with_model(), ("io", "")));
     assert!(rt; solver.is_failed());
     Ok(())
 }
@@ -218,8 +232,8 @@ fn scripts(rt: HostRuntime) -> Result<(), Fail> {
     solver.enable_models()?;
     solver.smtlib_input().assert("true")?;
     solver.smtlib_input().flush()?;
-    assert!(rt; solver.check_sat() == Ok(Decision::Sat));
-    assert!(rt; told(&solver.enable_models()) == ("io", ""));
+    assert!(rt; solver.check_sat().ok() == Some(Decision::Sat));
+    assert!(rt; is_told(solver.enable_models(), ("io", "")));
     let mut input = solver.smtlib_input();
     assert!(rt; input.flush() == Err(SinkError::Fault));
     assert!(rt; solver.is_failed());
@@ -237,7 +251,7 @@ fn scripts(rt: HostRuntime) -> Result<(), Fail> {
 #[test]
 fn marked_sessions(rt: HostRuntime) -> Result<(), Fail> {
     let mut solver = session(rt.alloc(), b"sat\nsat\n", &[])?;
-    assert!(rt; solver.check_sat() == Ok(Decision::Sat));
+    assert!(rt; solver.check_sat().ok() == Some(Decision::Sat));
     solver.mark_failed();
     expect_refusal(&rt, solver, ("failed before", ""), false);
     Ok(())
@@ -289,9 +303,9 @@ fn starters(rt: HostRuntime) -> Result<(), Fail> {
     let mut starter = MemoryStarter::new(alloc, links, &[1])?;
     let cmd = SolverCommand::new(alloc, "cvc5", &[Text::from_str(alloc, "--lang=smt")?])?;
     let refused = LocalSolver::from_command(alloc, &mut starter, &cmd);
-    assert!(rt; told(&refused) == ("io", ""));
+    assert!(rt; is_told(refused, ("io", "")));
     let mut solver = LocalSolver::from_command(alloc, &mut &mut starter, &cmd)?;
-    assert!(rt; solver.check_sat() == Ok(Decision::Unsat));
+    assert!(rt; solver.check_sat().ok() == Some(Decision::Unsat));
     starter.finish(solver.into_link())?;
     assert!(rt; starter.start(alloc, &cmd).err() == Some(StartError::Fault));
     assert_eq!(rt; starter.commands().len(), 3);
@@ -325,15 +339,15 @@ fn cvc5_commands(rt: HostRuntime) -> Result<(), Fail> {
     for (setting, program) in [(None, "cvc5"), (Some("/opt/my cvc5"), "/opt/my cvc5")] {
         let mut starter = starter_of_one(alloc)?;
         let mut solver = LocalSolver::cvc5(alloc, &mut starter, setting)?;
-        assert!(rt; solver.check_sat() == Ok(Decision::Unsat));
+        assert!(rt; solver.check_sat().ok() == Some(Decision::Unsat));
         expect_command(&rt, &starter, program, &["--lang", "smt", "--tlimit=60000"]);
         let mut starter = starter_of_one(alloc)?;
         let mut solver = LocalSolver::cvc5_with_args(alloc, &mut starter, setting, &seed)?;
-        assert!(rt; solver.check_sat() == Ok(Decision::Unsat));
+        assert!(rt; solver.check_sat().ok() == Some(Decision::Unsat));
         expect_command(&rt, &starter, program, &["--lang", "smt", "--seed=1"]);
     }
     let mut none = MemoryStarter::new(alloc, LinkList::new(alloc), &[])?;
-    assert!(rt; told(&LocalSolver::cvc5(alloc, &mut none, None)) == ("io", ""));
+    assert!(rt; is_told(LocalSolver::cvc5(alloc, &mut none, None), ("io", "")));
     Ok(())
 }
 
@@ -344,8 +358,8 @@ fn written_scripts(rt: HostRuntime) -> Result<(), Fail> {
     };
     solver.enable_models()?;
     solver.smtlib_input().assert("true")?;
-    assert!(rt; solver.check_sat() == Ok(Decision::Unknown));
-    assert!(rt; solver.check_sat_with_model() == Ok(DecisionWithModel::Unknown));
+    assert!(rt; solver.check_sat().ok() == Some(Decision::Unknown));
+    assert!(rt; is_model(solver.check_sat_with_model(), DecisionWithModel::Unknown));
     assert_eq!(rt;
         solver.w.bytes(),
         b"(set-option :produce-models true)\n(assert true)\n(check-sat)\n(check-sat)\n".as_slice()
@@ -358,9 +372,9 @@ fn failed_writers(rt: HostRuntime) {
     let mut solver = WriterSolver {
         w: FailedWriter::new(),
     };
-    assert!(rt; told(&solver.enable_models()) == ("io", ""));
-    assert!(rt; told(&solver.check_sat()) == ("io", ""));
-    assert!(rt; told(&solver.check_sat_with_model()) == ("io", ""));
+    assert!(rt; is_told(solver.enable_models(), ("io", "")));
+    assert!(rt; is_told(solver.check_sat(), ("io", "")));
+    assert!(rt; is_told(solver.check_sat_with_model(), ("io", "")));
     assert!(rt; solver.smtlib_input().flush() == Err(SinkError::Fault));
     assert_eq!(rt; solver.w.faults(), 4);
 }

@@ -26,25 +26,35 @@ pub(crate) fn answered(
         write!(out, "{truth}")?;
         return Ok(true);
     }
-    match head {
-        "type_of" => put_type_of(alloc, out, last(terms)?)?,
-        "type_of_literal" => put_type_of_literal(out, last(terms)?)?,
-        "has_types" => put_types_of(alloc, out, last(terms)?)?,
-        "size" => put_size(out, last(terms)?)?,
-        "at" => put_fields(alloc, out, last(terms)?, held)?,
-        "print" => {
-            let term = last(terms)?;
-            write!(out, "{term}")?;
+    let put = match head {
+        "type_of" | "type_of_literal" | "has_types" | "size" | "at" | "print" => {
+            put_of_last(alloc, out, last(terms)?, head, held)
         }
-        "compare" => {
-            let (a, b) = last_two(terms)?;
-            out.push_str(order(a, b))?;
-        }
-        "typed_as" => put_types_given(alloc, out, terms, held)?,
-        "table" => put_table(alloc, out, terms, held.parse()?)?,
+        "compare" => put_order(out, terms),
+        "typed_as" => put_types_given(alloc, out, terms, held),
+        "table" => put_table(alloc, out, terms, held),
         _ => return asked_types::answered(alloc, out, head, held),
-    }
+    };
+    put?;
     Ok(true)
+}
+
+/// Puts the answer of a word that asks of the last term.
+fn put_of_last(alloc: Global, out: &mut String, term: &Term, head: &str, held: &str) -> Result<()> {
+    match head {
+        "type_of" => put_type_of(alloc, out, term),
+        "type_of_literal" => put_type_of_literal(out, term),
+        "has_types" => put_types_of(alloc, out, term),
+        "size" => put_size(out, term),
+        "at" => put_fields(alloc, out, term, held),
+        _ => Ok(write!(out, "{term}")?),
+    }
+}
+
+/// Puts how the last two terms are ordered.
+fn put_order(out: &mut String, terms: &[Term]) -> Result<()> {
+    let (a, b) = last_two(terms)?;
+    Ok(out.push_str(order(a, b))?)
 }
 
 /// Whether it is as a word asks, None where no such question has this head.
@@ -227,9 +237,10 @@ fn is_claim(alloc: Global, claim: &Term, ty: &TermType) -> Result<bool> {
     )
 }
 
-/// Puts the table of so many pairs of last terms, a key and its value: its entries, how many they are, whether there are none,
+/// Puts the table of so many pairs of last terms, by this count, a key and its value: its entries, how many they are, whether there are none,
 /// whether it is equal to what it shares, and what it has at each term before these.
-fn put_table(alloc: Global, out: &mut String, terms: &[Term], count: usize) -> Result<()> {
+fn put_table(alloc: Global, out: &mut String, terms: &[Term], count: &str) -> Result<()> {
+    let count: usize = count.parse()?;
     let (keys, entries) = last_of(terms, count.checked_mul(2).context("too few terms")?)?;
     let entries = pairs(alloc, entries)?;
     let table = TermTable::new(alloc, entries.as_slice())?;

@@ -8,6 +8,32 @@ use smt_term::{Term, TermError};
 use smt_words::{one, taken, two};
 use std::alloc::Global;
 
+/// The functions of the last two terms.
+const OF_TWO: &[&str] = &[
+    "less_than",
+    "less_than_or_equal",
+    "greater_than",
+    "greater_than_or_equal",
+    "offset",
+    "duration_since",
+    "in_range_v4",
+];
+
+/// The functions of the last term.
+const OF_LAST: &[&str] = &[
+    "to_milliseconds",
+    "to_seconds",
+    "to_minutes",
+    "to_hours",
+    "to_days",
+    "to_date",
+    "to_time",
+    "is_ipv4",
+    "is_ipv6",
+    "is_loopback",
+    "is_multicast",
+];
+
 /// What the function of this name gives of the last terms, which the stack then has no longer; None where none has this name.
 pub(crate) fn term(
     alloc: Global,
@@ -15,25 +41,13 @@ pub(crate) fn term(
     head: &str,
     held: &str,
 ) -> Result<Option<Term>> {
+    if OF_TWO.contains(&head) {
+        return of_two(alloc, terms, head);
+    }
+    if OF_LAST.contains(&head) {
+        return of_last(alloc, terms, head);
+    }
     match head {
-        "less_than"
-        | "less_than_or_equal"
-        | "greater_than"
-        | "greater_than_or_equal"
-        | "offset"
-        | "duration_since"
-        | "in_range_v4" => of_two(alloc, terms, head),
-        "to_milliseconds"
-        | "to_seconds"
-        | "to_minutes"
-        | "to_hours"
-        | "to_days"
-        | "to_date"
-        | "to_time"
-        | "is_ipv4"
-        | "is_ipv6"
-        | "is_loopback"
-        | "is_multicast" => { of_last(alloc, terms, head) }
         "range_v4" | "range_v6" => range(alloc, terms, head),
         "is_in_range" => in_any_range(alloc, terms, held),
         "in_range_lit" => in_literal(alloc, terms, held),

@@ -100,21 +100,40 @@ fn put_answer(alloc: Global, out: &mut String, row: &str) -> Result<()> {
 }
 
 fn put_answers(alloc: Global, out: &mut String, terms: &mut Vec<Term>, row: &str) -> Result<()> {
-    let mut answer = String::new(alloc);
     for word in row.split(' ') {
-        let (head, held) = word.split_once(':').unwrap_or((word, ""));
-        if let Some(term) = made(alloc, terms, head, held)? {
-            terms.push(term)?;
-        } else if asked::answered(alloc, &mut answer, terms.as_slice(), head, held)? {
-            out.push(' ')?;
-            out.push_str(answer.as_str())?;
-            answer.clear();
-        } else {
-            let term = folded::term(alloc, terms, head, held)?;
-            terms.push(term)?;
-        }
+        put_word(alloc, out, terms, word)?;
     }
     Ok(())
+}
+
+/// Puts what a word answers, or leaves the term that it makes on the stack.
+fn put_word(alloc: Global, out: &mut String, terms: &mut Vec<Term>, word: &str) -> Result<()> {
+    let (head, held) = word.split_once(':').unwrap_or((word, ""));
+    if let Some(term) = made(alloc, terms, head, held)? {
+        return Ok(terms.push(term)?);
+    }
+    if is_answered(alloc, out, terms.as_slice(), head, held)? {
+        return Ok(());
+    }
+    let term = folded::term(alloc, terms, head, held)?;
+    Ok(terms.push(term)?)
+}
+
+/// Puts the answer of a word behind a space; false where the word does not ask.
+fn is_answered(
+    alloc: Global,
+    out: &mut String,
+    terms: &[Term],
+    head: &str,
+    held: &str,
+) -> Result<bool> {
+    let mut answer = String::new(alloc);
+    if !asked::answered(alloc, &mut answer, terms, head, held)? {
+        return Ok(false);
+    }
+    out.push(' ')?;
+    out.push_str(answer.as_str())?;
+    Ok(true)
 }
 
 /// The term of a word that makes it as it is, or by a function on values of the extension types.

@@ -1,6 +1,6 @@
 //! Texts that are read part by part, and lists of expressions.
 
-use smt_sexpr::{SExpr, SExprs, behind_close, behind_open, is_blank, read_next};
+use smt_sexpr::{SExpr, SExprParseError, SExprs, behind_close, behind_open, is_blank, read_next};
 use std::alloc::Global;
 use std::test::Fail;
 
@@ -56,15 +56,21 @@ const FRONTS: &[(&str, &str, &str, bool)] = &[
     ("; )", "None", "None", true),
 ];
 
+fn shown_read(alloc: Global, expression: &SExpr, rest: &[u8]) -> Result<String, Fail> {
+    let rest = str::from_utf8(rest).unwrap_or("");
+    Ok(format!(in alloc; "({expression:?}, {rest:?})")?)
+}
+
+fn shown_fault(alloc: Global, fault: &SExprParseError) -> Result<String, Fail> {
+    Ok(format!(in alloc; "{fault:?}")?)
+}
+
 fn is_read_as(alloc: Global, src: &str, depth: usize, want: &str) -> Result<bool, Fail> {
     let text = match read_next(alloc, src.as_bytes(), depth) {
-        Ok((expression, rest)) => {
-            let rest = str::from_utf8(rest).unwrap_or("");
-            format!(in alloc; "({expression:?}, {rest:?})")?
-        }
-        Err(fault) => format!(in alloc; "{fault:?}")?,
+        Ok((expression, rest)) => shown_read(alloc, &expression, rest),
+        Err(fault) => shown_fault(alloc, &fault),
     };
-    Ok(text.as_str() == want)
+    Ok(text?.as_str() == want)
 }
 
 #[test]
