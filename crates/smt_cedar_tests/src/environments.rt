@@ -1,19 +1,14 @@
 // What tables say of stored entities and of actions, what requests are refused, and which refusal comes first.
-use crate::worlds::{
-    Action, Kind, Name, Part, Plain, World, attributes, context, env, known, schema, symbolized,
-    text, type_named, uid,
-};
-use smt_cedar_stores::Request;
-use smt_cedar_values::{PartialValue, ValueList, ValueMap};
+use crate::AMPLE;
+use crate::worlds::{Action, Kind, Name, Part, Plain, World, symbolized, text, type_named, uid};
 use smt_function_terms::app;
 use smt_functions::UnaryFunction;
-use smt_leaves::{EnumTable, Text};
+use smt_leaves::EnumTable;
 use smt_record_terms::tag_of;
 use smt_symbolizer::{SymEntityData, SymEnv, core_entity_type_into_entity_type, core_uid_into_uid};
 use smt_term::Term;
-use smt_values::SymbolizeError;
-use std::alloc::{AllocError, Global};
-use std::test::Fail;
+use std::alloc::Global;
+use std::process::Abort;
 
 /// What is asked of a symbolic environment.
 #[derive(Clone, Copy)]
@@ -35,87 +30,91 @@ enum Question {
 }
 
 /// A function at a term, as a text.
-fn at(alloc: Global, f: &UnaryFunction, t: Term) -> Result<String, SymbolizeError> {
-    let term = app(alloc, f.share()?, t)?;
-    Ok(format!(in alloc; "{term}")?)
+fn at(rt: &impl Abort, alloc: Global, f: &UnaryFunction, t: Term) -> String {
+    let shared = f.share().expect(rt, AMPLE);
+    let term = app(alloc, shared, t).expect(rt, AMPLE);
+    format!(in alloc; "{term}").expect(rt, AMPLE)
+}
+
+/// A text that is an answer.
+fn says(rt: &impl Abort, alloc: Global, bytes: &str) -> String {
+    String::from_str(alloc, bytes).expect(rt, AMPLE)
 }
 
 /// What a function that may be missing has at an entity, as a text.
-fn at_entity(
-    alloc: Global,
-    f: Option<&UnaryFunction>,
-    name: Name,
-) -> Result<String, SymbolizeError> {
+fn at_entity(rt: &impl Abort, alloc: Global, f: Option<&UnaryFunction>, name: Name) -> String {
     match f {
-        Some(f) => at(alloc, f, Term::from(uid(alloc, name)?)),
-        None => Ok(String::from_str(alloc, "no table")?),
+        Some(f) => at(rt, alloc, f, Term::from(uid(rt, alloc, name))),
+        None => says(rt, alloc, "no table"),
     }
 }
 
 /// A tag of an entity, as a text.
-fn tag(
-    alloc: Global,
-    held: &SymEntityData,
-    name: Name,
-    key: &str,
-) -> Result<String, SymbolizeError> {
+fn tag(rt: &impl Abort, alloc: Global, held: &SymEntityData, name: Name, key: &str) -> String {
     match &held.tags {
         Some(tags) => {
-            let key = Term::from(text(alloc, key)?);
-            let entity = Term::from(uid(alloc, name)?);
-            at(alloc, &tags.vals, tag_of(alloc, entity, key)?)
+            let key = Term::from(text(rt, alloc, key));
+            let entity = Term::from(uid(rt, alloc, name));
+            let asked = tag_of(alloc, entity, key).expect(rt, AMPLE);
+            at(rt, alloc, &tags.vals, asked)
         }
-        None => Ok(String::from_str(alloc, "no table")?),
+        None => says(rt, alloc, "no table"),
     }
 }
 
 /// The members of a type in the table of enum types, as a text.
-fn members(alloc: Global, table: &EnumTable, name: &str) -> Result<String, SymbolizeError> {
-    match table.members_of(&type_named(alloc, name)?) {
-        Some(members) => Ok(format!(in alloc; "{:?}", members.items())?),
-        None => Ok(String::from_str(alloc, "not listed")?),
+fn members(rt: &impl Abort, alloc: Global, table: &EnumTable, name: &str) -> String {
+    match table.members_of(&type_named(rt, alloc, name)) {
+        Some(members) => format!(in alloc; "{:?}", members.items()).expect(rt, AMPLE),
+        None => says(rt, alloc, "not listed"),
+    }
+}
+
+/// What there is to say of a type that has tables, as a text.
+fn of_held(rt: &impl Abort, alloc: Global, held: &SymEntityData, question: Question) -> String {
+    match question {
+        Question::Attrs(name) => at_entity(rt, alloc, Some(&held.attrs), name),
+        Question::Ancestors(name, other) => {
+            let other = type_named(rt, alloc, other);
+            at_entity(rt, alloc, held.ancestors.get(&other), name)
+        }
+        Question::Keys(name) => match &held.tags {
+            Some(tags) => at_entity(rt, alloc, Some(&tags.keys), name),
+            None => at_entity(rt, alloc, None, name),
+        },
+        Question::Tag(name, key) => tag(rt, alloc, held, name, key),
+        Question::Members(_) | Question::Request | Question::Types => says(rt, alloc, ""),
     }
 }
 
 /// What there is to say of a type, as a text.
-fn of_type(alloc: Global, env: &SymEnv, question: Question) -> Result<String, SymbolizeError> {
+fn of_type(rt: &impl Abort, alloc: Global, env: &SymEnv, question: Question) -> String {
     let (ety, _id) = match question {
         Question::Attrs(name) | Question::Ancestors(name, _) => name,
         Question::Keys(name) | Question::Tag(name, _) => name,
         Question::Members(_) | Question::Request | Question::Types => ("", ""),
     };
-    let held = match env.entities.get(&type_named(alloc, ety)?) {
-        Some(held) => held,
-        None => return Ok(String::from_str(alloc, "no type")?),
-    };
-    match question {
-        Question::Attrs(name) => at_entity(alloc, Some(&held.attrs), name),
-        Question::Ancestors(name, other) => {
-            at_entity(alloc, held.ancestors.get(&type_named(alloc, other)?), name)
-        }
-        Question::Keys(name) => match &held.tags {
-            Some(tags) => at_entity(alloc, Some(&tags.keys), name),
-            None => at_entity(alloc, None, name),
-        },
-        Question::Tag(name, key) => tag(alloc, held, name, key),
-        Question::Members(_) | Question::Request | Question::Types => {
-            Ok(String::from_str(alloc, "")?)
-        }
+    match env.entities.get(&type_named(rt, alloc, ety)) {
+        Some(held) => of_held(rt, alloc, held, question),
+        None => says(rt, alloc, "no type"),
     }
 }
 
 /// The answer to a question, as a text.
-fn answer(alloc: Global, env: &SymEnv, question: Question) -> Result<String, SymbolizeError> {
+fn answer(rt: &impl Abort, alloc: Global, env: &SymEnv, question: Question) -> String {
     match question {
-        Question::Members(name) => members(alloc, &env.enum_table(alloc)?, name),
-        Question::Types => Ok(format!(in alloc; "{}", env.entities.len())?),
+        Question::Members(name) => {
+            let table = env.enum_table(alloc).expect(rt, AMPLE);
+            members(rt, alloc, &table, name)
+        }
+        Question::Types => format!(in alloc; "{}", env.entities.len()).expect(rt, AMPLE),
         Question::Request => {
             let asked = &env.request;
             let (principal, action) = (&asked.principal, &asked.action);
             let (resource, context) = (&asked.resource, &asked.context);
-            Ok(format!(in alloc; "{principal} {action} {resource} {context}")?)
+            format!(in alloc; "{principal} {action} {resource} {context}").expect(rt, AMPLE)
         }
-        other => of_type(alloc, env, other),
+        other => of_type(rt, alloc, env, other),
     }
 }
 
@@ -249,32 +248,34 @@ const QUESTIONS: &[(Question, &str)] = &[
 
 /// The place of the first of these questions that has another answer.
 fn wrong_answer(
+    rt: &impl Abort,
     alloc: Global,
     env: &SymEnv,
     rows: &[(Question, &str)],
-) -> Result<Option<usize>, Fail> {
+) -> Option<usize> {
     for (at, (question, said)) in rows.iter().enumerate() {
-        if answer(alloc, env, *question)?.as_str() != *said {
-            return Ok(Some(at));
+        if answer(rt, alloc, env, *question).as_str() != *said {
+            return Some(at);
         }
     }
-    Ok(None)
+    None
 }
 
 /// The same of questions about the environment of a world.
 fn wrong_answer_of(
+    rt: &impl Abort,
     alloc: Global,
     world: &World,
     rows: &[(Question, &str)],
-) -> Result<Option<usize>, Fail> {
-    let env = symbolized(alloc, world)?;
-    wrong_answer(alloc, &env, rows)
+) -> Option<usize> {
+    let env = symbolized(rt, alloc, world).expect(rt, "the world is not refused");
+    wrong_answer(rt, alloc, &env, rows)
 }
 
 #[test]
-fn tables_of_a_store(rt: HostRuntime) -> Result<(), Fail> {
-    assert_eq!(rt; wrong_answer_of(rt.alloc(), USERS, QUESTIONS)?, None);
-    Ok(())
+fn tables_of_a_store(rt: HostRuntime) {
+    let wrong = wrong_answer_of(&rt, rt.alloc(), USERS, QUESTIONS);
+    assert_eq!(rt; wrong, None);
 }
 
 /// A type that the schema lists and an action has too, with attributes that are not known.
@@ -311,19 +312,16 @@ const QUESTIONS_OF_ACTIONS: &[(Question, &str)] = &[
 ];
 
 #[test]
-fn types_of_actions(rt: HostRuntime) -> Result<(), Fail> {
-    assert_eq!(rt;
-        wrong_answer_of(rt.alloc(), ACTIONS_ALONE, QUESTIONS_OF_ACTIONS)?,
-        None
-    );
-    Ok(())
+fn types_of_actions(rt: HostRuntime) {
+    let wrong = wrong_answer_of(&rt, rt.alloc(), ACTIONS_ALONE, QUESTIONS_OF_ACTIONS);
+    assert_eq!(rt; wrong, None);
 }
 
 /// The refusal of a world, as a text.
-fn refused(alloc: Global, world: &World) -> Result<String, AllocError> {
-    match symbolized(alloc, world) {
-        Ok(_) => String::from_str(alloc, "none"),
-        Err(error) => format!(in alloc; "{error:?}"),
+fn refused(rt: &impl Abort, alloc: Global, world: &World) -> String {
+    match symbolized(rt, alloc, world) {
+        Ok(_) => says(rt, alloc, "none"),
+        Err(error) => format!(in alloc; "{error:?}").expect(rt, AMPLE),
     }
 }
 
@@ -558,38 +556,33 @@ const TAGS: &[(World, &str)] = &[
 ];
 
 /// The place of the first of these worlds that is refused for something else.
-fn wrong(alloc: Global, rows: &[(World, &str)]) -> Result<Option<usize>, Fail> {
+fn wrong(rt: &impl Abort, alloc: Global, rows: &[(World, &str)]) -> Option<usize> {
     for (at, (world, said)) in rows.iter().enumerate() {
-        if refused(alloc, world)?.as_str() != *said {
-            return Ok(Some(at));
+        if refused(rt, alloc, world).as_str() != *said {
+            return Some(at);
         }
     }
-    Ok(None)
+    None
 }
 
 #[test]
-fn requests_are_refused(rt: HostRuntime) -> Result<(), Fail> {
-    assert_eq!(rt; wrong(rt.alloc(), REQUESTS)?, None);
-    Ok(())
+fn requests_are_refused(rt: HostRuntime) {
+    assert_eq!(rt; wrong(&rt, rt.alloc(), REQUESTS), None);
 }
 
 #[test]
-fn types_are_refused(rt: HostRuntime) -> Result<(), Fail> {
-    assert_eq!(rt; wrong(rt.alloc(), TYPES)?, None);
-    Ok(())
+fn types_are_refused(rt: HostRuntime) {
+    assert_eq!(rt; wrong(&rt, rt.alloc(), TYPES), None);
 }
 
 #[test]
-fn tags_are_refused(rt: HostRuntime) -> Result<(), Fail> {
-    assert_eq!(rt; wrong(rt.alloc(), TAGS)?, None);
-    Ok(())
+fn tags_are_refused(rt: HostRuntime) {
+    assert_eq!(rt; wrong(&rt, rt.alloc(), TAGS), None);
 }
 
 #[test]
-fn names_stay(rt: HostRuntime) -> Result<(), Fail> {
-    let alloc = rt.alloc();
-    let user = uid(alloc, A)?;
+fn names_stay(rt: HostRuntime) {
+    let user = uid(&rt, rt.alloc(), A);
     assert!(rt; core_uid_into_uid(&user) == &user);
     assert!(rt; core_entity_type_into_entity_type(&user.ety) == &user.ety);
-    Ok(())
 }

@@ -14,3 +14,7 @@ mod types;
 mod values;
 #[cfg(test)]
 mod worlds;
+
+/// Why a test stops where a call gives nothing.
+#[cfg(test)]
+pub(crate) const AMPLE: &str = "there is memory for the test";

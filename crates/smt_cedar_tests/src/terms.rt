@@ -1,13 +1,15 @@
 // The terms of values at types, each refusal, and the defaults of types.
+use crate::AMPLE;
+use crate::worlds::{text, type_named, uid};
 use smt_bits::SIXTY_FOUR;
 use smt_cedar_types::{AttributeType, Attributes, BoolType, CedarType, OpenTag};
 use smt_cedar_values::{ExprList, Literal, RestrictedExpr, Value, ValueList, ValueMap};
-use smt_leaves::{EntityID, EntityType, EntityUID, EnumTable, ExtType, TermError, Text};
+use smt_leaves::{EnumTable, ExtType};
 use smt_term::{Term, TermType, TypeMap};
 use smt_values::{FromCedar, SymbolizeError, default_literal};
-use std::alloc::{AllocError, Global};
+use std::alloc::Global;
+use std::process::Abort;
 use std::rc::Rc;
-use std::test::Fail;
 
 /// A value with no parts.
 #[derive(Clone, Copy)]
@@ -67,69 +69,60 @@ enum At {
     Open { b: Plain, a: Plain },
 }
 
-/// A text that is held.
-fn text(alloc: Global, bytes: &str) -> Result<Text, AllocError> {
-    Text::from_str(alloc, bytes)
-}
-
-/// An entity.
-fn entity(alloc: Global, ty: &str, id: &str) -> Result<EntityUID, AllocError> {
-    Ok(EntityUID {
-        ety: EntityType(text(alloc, ty)?),
-        id: EntityID(text(alloc, id)?),
-    })
-}
-
 /// A call of a function with a text.
-fn call(alloc: Global, name: &str, bytes: &str) -> Result<RestrictedExpr, SymbolizeError> {
+fn call(rt: &impl Abort, alloc: Global, name: &str, bytes: &str) -> RestrictedExpr {
     let mut args = Vec::new(alloc);
-    args.push(RestrictedExpr::Lit(Literal::String(text(alloc, bytes)?)))?;
-    Ok(RestrictedExpr::Call {
-        name: text(alloc, name)?,
-        args: ExprList::new(alloc, args)?,
-    })
+    let arg = RestrictedExpr::Lit(Literal::String(text(rt, alloc, bytes)));
+    args.push(arg).expect(rt, AMPLE);
+    RestrictedExpr::Call {
+        name: text(rt, alloc, name),
+        args: ExprList::new(alloc, args).expect(rt, AMPLE),
+    }
 }
 
 /// A value with no parts.
-fn part_value(alloc: Global, given: Part) -> Result<Value, SymbolizeError> {
+fn part_value(rt: &impl Abort, alloc: Global, given: Part) -> Value {
     match given {
-        Part::Truth(truth) => Ok(Value::Lit(Literal::Bool(truth))),
-        Part::Long(number) => Ok(Value::Lit(Literal::Long(number))),
-        Part::Text(bytes) => Ok(Value::Lit(Literal::String(text(alloc, bytes)?))),
-        Part::Entity(ty, id) => Ok(Value::Lit(Literal::EntityUID(entity(alloc, ty, id)?))),
-        Part::Call(name, bytes) => Ok(Value::ExtensionValue(call(alloc, name, bytes)?)),
+        Part::Truth(truth) => Value::Lit(Literal::Bool(truth)),
+        Part::Long(number) => Value::Lit(Literal::Long(number)),
+        Part::Text(bytes) => Value::Lit(Literal::String(text(rt, alloc, bytes))),
+        Part::Entity(ty, id) => Value::Lit(Literal::EntityUID(uid(rt, alloc, (ty, id)))),
+        Part::Call(name, bytes) => Value::ExtensionValue(call(rt, alloc, name, bytes)),
     }
 }
 
 /// The set of some values.
-fn set(alloc: Global, given: &[Part]) -> Result<Value, SymbolizeError> {
+fn set(rt: &impl Abort, alloc: Global, given: &[Part]) -> Value {
     let mut items = Vec::new(alloc);
     for element in given {
-        items.push(part_value(alloc, *element)?)?;
+        items
+            .push(part_value(rt, alloc, *element))
+            .expect(rt, AMPLE);
     }
-    Ok(Value::Set(ValueList::new(alloc, items)?))
+    Value::Set(ValueList::new(alloc, items).expect(rt, AMPLE))
 }
 
 /// The record of some attributes.
-fn record(alloc: Global, given: &[(&'static str, Part)]) -> Result<Value, SymbolizeError> {
+fn record(rt: &impl Abort, alloc: Global, given: &[(&'static str, Part)]) -> Value {
     let mut pairs = Vec::new(alloc);
     for (name, field) in given {
-        pairs.push((text(alloc, name)?, part_value(alloc, *field)?))?;
+        let pair = (text(rt, alloc, name), part_value(rt, alloc, *field));
+        pairs.push(pair).expect(rt, AMPLE);
     }
-    Ok(Value::Record(ValueMap::new(alloc, pairs)?))
+    Value::Record(ValueMap::new(alloc, pairs).expect(rt, AMPLE))
 }
 
 /// A value.
-fn value(alloc: Global, given: Given) -> Result<Value, SymbolizeError> {
+fn value(rt: &impl Abort, alloc: Global, given: Given) -> Value {
     match given {
-        Given::One(one) => part_value(alloc, one),
-        Given::Set(elements) => set(alloc, elements),
+        Given::One(one) => part_value(rt, alloc, one),
+        Given::Set(elements) => set(rt, alloc, elements),
         Given::SetOfSet(elements) => {
             let mut items = Vec::new(alloc);
-            items.push(set(alloc, elements)?)?;
-            Ok(Value::Set(ValueList::new(alloc, items)?))
+            items.push(set(rt, alloc, elements)).expect(rt, AMPLE);
+            Value::Set(ValueList::new(alloc, items).expect(rt, AMPLE))
         }
-        Given::Record(fields) => record(alloc, fields),
+        Given::Record(fields) => record(rt, alloc, fields),
     }
 }
 
@@ -145,43 +138,47 @@ fn plain_type(ty: Plain) -> CedarType {
 }
 
 /// The attributes `b` and `a`, of which the first alone is required.
-fn attributes(alloc: Global, b: Plain, a: Plain) -> Result<Attributes, SymbolizeError> {
+fn attributes(rt: &impl Abort, alloc: Global, b: Plain, a: Plain) -> Attributes {
     let mut pairs = Vec::new(alloc);
     let required = AttributeType {
         attr_type: plain_type(b),
         is_required: true,
     };
-    pairs.push((text(alloc, "b")?, required))?;
+    pairs
+        .push((text(rt, alloc, "b"), required))
+        .expect(rt, AMPLE);
     let optional = AttributeType {
         attr_type: plain_type(a),
         is_required: false,
     };
-    pairs.push((text(alloc, "a")?, optional))?;
-    Ok(Attributes::new(alloc, pairs)?)
+    pairs
+        .push((text(rt, alloc, "a"), optional))
+        .expect(rt, AMPLE);
+    Attributes::new(alloc, pairs).expect(rt, AMPLE)
 }
 
 /// A Cedar type.
-fn type_at(alloc: Global, at: At) -> Result<CedarType, SymbolizeError> {
+fn type_at(rt: &impl Abort, alloc: Global, at: At) -> CedarType {
     match at {
-        At::One(ty) => Ok(plain_type(ty)),
-        At::Set(element) => Ok(CedarType::Set {
-            element_type: Some(Rc::new(alloc, plain_type(element))?),
-        }),
-        At::EmptySet => Ok(CedarType::Set { element_type: None }),
-        At::Record { b, a } => Ok(CedarType::Record {
-            attrs: attributes(alloc, b, a)?,
+        At::One(ty) => plain_type(ty),
+        At::Set(element) => CedarType::Set {
+            element_type: Some(Rc::new(alloc, plain_type(element)).expect(rt, AMPLE)),
+        },
+        At::EmptySet => CedarType::Set { element_type: None },
+        At::Record { b, a } => CedarType::Record {
+            attrs: attributes(rt, alloc, b, a),
             open_attributes: OpenTag::ClosedAttributes,
-        }),
-        At::Open { b, a } => Ok(CedarType::Record {
-            attrs: attributes(alloc, b, a)?,
+        },
+        At::Open { b, a } => CedarType::Record {
+            attrs: attributes(rt, alloc, b, a),
             open_attributes: OpenTag::OpenAttributes,
-        }),
+        },
     }
 }
 
 /// The term of a value at a type, or the refusal; `the value`, where that has the whole value.
-fn said(alloc: Global, v: &Value, ty: &CedarType) -> Result<String, AllocError> {
-    match Term::from_value(alloc, v, ty) {
+fn said(rt: &impl Abort, alloc: Global, v: &Value, ty: &CedarType) -> String {
+    let text = match Term::from_value(alloc, v, ty) {
         Ok(term) => format!(in alloc; "{term}"),
         Err(SymbolizeError::UnableToSymbolizeValue(given)) => {
             if given == *v {
@@ -191,7 +188,8 @@ fn said(alloc: Global, v: &Value, ty: &CedarType) -> Result<String, AllocError> 
             }
         }
         Err(other) => format!(in alloc; "{other:?}"),
-    }
+    };
+    text.expect(rt, AMPLE)
 }
 
 const NEVER: At = At::One(Plain::Never);
@@ -334,86 +332,84 @@ const ROWS: &[(Given, At, &str)] = &[
 ];
 
 #[test]
-fn values_at_types(rt: HostRuntime) -> Result<(), Fail> {
+fn values_at_types(rt: HostRuntime) {
     let alloc = rt.alloc();
     for (at, (given, ty, answer)) in ROWS.iter().enumerate() {
-        let v = value(alloc, *given)?;
-        let ty = type_at(alloc, *ty)?;
-        let text = said(alloc, &v, &ty)?;
-        assert_eq!(rt; text.as_str(), *answer, "at {at}");
+        let v = value(&rt, alloc, *given);
+        let ty = type_at(&rt, alloc, *ty);
+        assert_eq!(rt; said(&rt, alloc, &v, &ty).as_str(), *answer, "at {at}");
     }
-    Ok(())
 }
 
 /// What none is of, which no text of a term says.
 #[test]
-fn none_of_its_type(rt: HostRuntime) -> Result<(), Fail> {
+fn none_of_its_type(rt: HostRuntime) {
     let alloc = rt.alloc();
-    let v = record(alloc, &[("b", ONE)])?;
+    let v = record(&rt, alloc, &[("b", ONE)]);
     let ty = type_at(
+        &rt,
         alloc,
         At::Record {
             b: Plain::Long,
             a: Plain::Text,
         },
-    )?;
-    let text = format!(in alloc; "{:?}", Term::from_value(alloc, &v, &ty))?;
+    );
+    let text = format!(in alloc; "{:?}", Term::from_value(alloc, &v, &ty)).expect(&rt, AMPLE);
     assert_eq!(rt;
         text.as_str(),
         "Ok(Record(TermMap { pairs: AttributePairs { items: [(\"a\", None(String)), (\"b\", Prim(Bitvec(BitVec { width: Width { bits: 64 }, number: 1 })))] } }))"
     );
-    Ok(())
 }
 
 /// The type of entities of this name.
-fn entities(alloc: Global, name: &str) -> Result<TermType, TermError> {
-    Ok(TermType::Entity {
-        ety: EntityType(text(alloc, name)?),
-    })
+fn entities(rt: &impl Abort, alloc: Global, name: &str) -> TermType {
+    TermType::Entity {
+        ety: type_named(rt, alloc, name),
+    }
 }
 
 /// The type of records of a text `b` and a truth value `a`.
-fn two_attributes(alloc: Global) -> Result<TermType, TermError> {
-    let b = (text(alloc, "b")?, TermType::String);
-    let a = (text(alloc, "a")?, TermType::Bool);
-    Ok(TermType::Record {
-        rty: TypeMap::new(alloc, &[b, a])?,
-    })
+fn two_attributes(rt: &impl Abort, alloc: Global) -> TermType {
+    let b = (text(rt, alloc, "b"), TermType::String);
+    let a = (text(rt, alloc, "a"), TermType::Bool);
+    TermType::Record {
+        rty: TypeMap::new(alloc, &[b, a]).expect(rt, AMPLE),
+    }
 }
 
 /// The enum types `Color`, of `red` and `blue`, and `Nothing`, of none.
-fn enum_types(alloc: Global) -> Result<EnumTable, TermError> {
+fn enum_types(rt: &impl Abort, alloc: Global) -> EnumTable {
     let mut enums = EnumTable::new(alloc);
-    let colors = [text(alloc, "red")?, text(alloc, "blue")?];
-    let color = EntityType(text(alloc, "Color")?);
-    enums.insert(color, &colors)?;
-    let nothing = EntityType(text(alloc, "Nothing")?);
-    enums.insert(nothing, &[])?;
-    Ok(enums)
+    let colors = [text(rt, alloc, "red"), text(rt, alloc, "blue")];
+    let color = type_named(rt, alloc, "Color");
+    enums.insert(color, &colors).expect(rt, AMPLE);
+    let nothing = type_named(rt, alloc, "Nothing");
+    enums.insert(nothing, &[]).expect(rt, AMPLE);
+    enums
 }
 
 /// The type of this spelling; any other spelling is the name of an entity type.
-fn spelled(alloc: Global, spelling: &str) -> Result<TermType, TermError> {
+fn spelled(rt: &impl Abort, alloc: Global, spelling: &str) -> TermType {
     match spelling {
-        "Bool" => Ok(TermType::Bool),
-        "Long" => Ok(TermType::Bitvec { n: SIXTY_FOUR }),
-        "String" => Ok(TermType::String),
-        "Option<Bool>" => TermType::option_of(alloc, TermType::Bool),
-        "Set<Bool>" => TermType::set_of(alloc, TermType::Bool),
-        "decimal" => Ok(TermType::Ext {
+        "Bool" => TermType::Bool,
+        "Long" => TermType::Bitvec { n: SIXTY_FOUR },
+        "String" => TermType::String,
+        "Option<Bool>" => TermType::option_of(alloc, TermType::Bool).expect(rt, AMPLE),
+        "Set<Bool>" => TermType::set_of(alloc, TermType::Bool).expect(rt, AMPLE),
+        "decimal" => TermType::Ext {
             xty: ExtType::Decimal,
-        }),
-        "ipaddr" => Ok(TermType::Ext {
+        },
+        "ipaddr" => TermType::Ext {
             xty: ExtType::IpAddr,
-        }),
-        "datetime" => Ok(TermType::Ext {
+        },
+        "datetime" => TermType::Ext {
             xty: ExtType::DateTime,
-        }),
-        "duration" => Ok(TermType::Ext {
+        },
+        "duration" => TermType::Ext {
             xty: ExtType::Duration,
-        }),
-        "two attributes" => two_attributes(alloc),
-        name => entities(alloc, name),
+        },
+        "two attributes" => two_attributes(rt, alloc),
+        name => entities(rt, alloc, name),
     }
 }
 
@@ -438,31 +434,35 @@ const DEFAULTS: &[(&str, &str)] = &[
 ];
 
 #[test]
-fn defaults_of_types(rt: HostRuntime) -> Result<(), Fail> {
+fn defaults_of_types(rt: HostRuntime) {
     let alloc = rt.alloc();
-    let enums = enum_types(alloc)?;
+    let enums = enum_types(&rt, alloc);
     for &(spelling, answer) in DEFAULTS {
-        let term = default_literal(alloc, &spelled(alloc, spelling)?, &enums)?;
-        let text = format!(in alloc; "{term}")?;
+        let ty = spelled(&rt, alloc, spelling);
+        let term = default_literal(alloc, &ty, &enums).expect(&rt, AMPLE);
+        let text = format!(in alloc; "{term}").expect(&rt, AMPLE);
         assert_eq!(rt; text.as_str(), answer, "{spelling}");
     }
-    Ok(())
 }
 
 #[test]
-fn an_attribute_alone(rt: HostRuntime) -> Result<(), Fail> {
+fn an_attribute_alone(rt: HostRuntime) {
     let alloc = rt.alloc();
     let mut pairs = Vec::new(alloc);
     let optional = AttributeType {
         attr_type: CedarType::Long,
         is_required: false,
     };
-    pairs.push((text(alloc, "a")?, optional))?;
+    pairs
+        .push((text(&rt, alloc, "a"), optional))
+        .expect(&rt, AMPLE);
     let ty = CedarType::Record {
-        attrs: Attributes::new(alloc, pairs)?,
+        attrs: Attributes::new(alloc, pairs).expect(&rt, AMPLE),
         open_attributes: OpenTag::ClosedAttributes,
     };
-    let v = record(alloc, &[("a", TEN)])?;
-    assert_eq!(rt; said(alloc, &v, &ty)?.as_str(), "{ a: Some((bv64 10)) }");
-    Ok(())
+    let v = record(&rt, alloc, &[("a", TEN)]);
+    assert_eq!(rt;
+        said(&rt, alloc, &v, &ty).as_str(),
+        "{ a: Some((bv64 10)) }"
+    );
 }

@@ -1,88 +1,97 @@
 // The types of terms of Cedar types, and each refusal.
+use crate::AMPLE;
+use crate::worlds::{text, types_named};
 use smt_cedar_types::{
-    AttributeType, Attributes, BoolType, CedarType, CompileError, EntityKind, EntityTypeList,
-    OfType, OpenTag, of_record_type,
+    AttributeType, Attributes, BoolType, CedarType, EntityKind, OfType, OpenTag, of_record_type,
 };
-use smt_leaves::{EntityType, Text};
 use smt_term::TermType;
 use std::alloc::Global;
+use std::process::Abort;
 use std::rc::Rc;
-use std::test::Fail;
 
 /// The Cedar type of sets of values of a type.
-fn set(alloc: Global, element: CedarType) -> Result<CedarType, CompileError> {
-    Ok(CedarType::Set {
-        element_type: Some(Rc::new(alloc, element)?),
-    })
+fn set(rt: &impl Abort, alloc: Global, element: CedarType) -> CedarType {
+    CedarType::Set {
+        element_type: Some(Rc::new(alloc, element).expect(rt, AMPLE)),
+    }
 }
 
 /// The Cedar type of records of two attributes, `b` and then `a`, of which the first alone is required.
 fn record(
+    rt: &impl Abort,
     alloc: Global,
     open_attributes: OpenTag,
     b: CedarType,
     a: CedarType,
-) -> Result<CedarType, CompileError> {
+) -> CedarType {
     let mut pairs = Vec::new(alloc);
     let required = AttributeType {
         attr_type: b,
         is_required: true,
     };
-    pairs.push((Text::from_str(alloc, "b")?, required))?;
+    pairs
+        .push((text(rt, alloc, "b"), required))
+        .expect(rt, AMPLE);
     let optional = AttributeType {
         attr_type: a,
         is_required: false,
     };
-    pairs.push((Text::from_str(alloc, "a")?, optional))?;
-    Ok(CedarType::Record {
-        attrs: Attributes::new(alloc, pairs)?,
+    pairs
+        .push((text(rt, alloc, "a"), optional))
+        .expect(rt, AMPLE);
+    CedarType::Record {
+        attrs: Attributes::new(alloc, pairs).expect(rt, AMPLE),
         open_attributes,
-    })
+    }
 }
 
 /// The Cedar type of entities of one of these types.
-fn entity(alloc: Global, names: &[&str]) -> Result<CedarType, CompileError> {
-    let mut items = Vec::new(alloc);
-    for name in names {
-        items.push(EntityType(Text::from_str(alloc, name)?))?;
-    }
-    Ok(CedarType::Entity(EntityKind::Entity(EntityTypeList { items })))
+fn entity(rt: &impl Abort, alloc: Global, names: &[&str]) -> CedarType {
+    CedarType::Entity(EntityKind::Entity(types_named(rt, alloc, names)))
 }
 
 /// The Cedar type of values of an extension type.
-fn extension(alloc: Global, name: &str) -> Result<CedarType, CompileError> {
-    Ok(CedarType::ExtensionType {
-        name: Text::from_str(alloc, name)?,
-    })
+fn extension(rt: &impl Abort, alloc: Global, name: &str) -> CedarType {
+    CedarType::ExtensionType {
+        name: text(rt, alloc, name),
+    }
 }
 
 /// The Cedar type of this spelling; any other spelling is the name of an extension type.
-fn spelled(alloc: Global, spelling: &str) -> Result<CedarType, CompileError> {
+fn spelled(rt: &impl Abort, alloc: Global, spelling: &str) -> CedarType {
     let closed = OpenTag::ClosedAttributes;
     match spelling {
-        "Bool" => Ok(CedarType::Bool(BoolType::AnyBool)),
-        "True" => Ok(CedarType::Bool(BoolType::True)),
-        "Long" => Ok(CedarType::Long),
-        "String" => Ok(CedarType::String),
-        "any entity" => Ok(CedarType::Entity(EntityKind::AnyEntity)),
-        "App::User" => entity(alloc, &["App::User"]),
-        "User or Group" => entity(alloc, &["User", "Group"]),
-        "Set<String>" => set(alloc, CedarType::String),
-        "Set<empty Set>" => set(alloc, CedarType::Set { element_type: None }),
-        "{b: String, a?: String}" => record(alloc, closed, CedarType::String, CedarType::String),
+        "Bool" => CedarType::Bool(BoolType::AnyBool),
+        "True" => CedarType::Bool(BoolType::True),
+        "Long" => CedarType::Long,
+        "String" => CedarType::String,
+        "any entity" => CedarType::Entity(EntityKind::AnyEntity),
+        "App::User" => entity(rt, alloc, &["App::User"]),
+        "User or Group" => entity(rt, alloc, &["User", "Group"]),
+        "Set<String>" => set(rt, alloc, CedarType::String),
+        "Set<empty Set>" => set(rt, alloc, CedarType::Set { element_type: None }),
+        "{b: String, a?: String}" => record(
+            rt,
+            alloc,
+            closed,
+            CedarType::String,
+            CedarType::String,
+        ),
         "{b: False, a?: Never}" => record(
+            rt,
             alloc,
             closed,
             CedarType::Bool(BoolType::False),
             CedarType::Never,
         ),
         "{b: Never, a?: Never, ..}" => record(
+            rt,
             alloc,
             OpenTag::OpenAttributes,
             CedarType::Never,
             CedarType::Never,
         ),
-        name => extension(alloc, name),
+        name => extension(rt, alloc, name),
     }
 }
 
@@ -132,20 +141,19 @@ const TYPES: &[(&str, &str)] = &[
 ];
 
 #[test]
-fn types_and_refusals(rt: HostRuntime) -> Result<(), Fail> {
+fn types_and_refusals(rt: HostRuntime) {
     let alloc = rt.alloc();
     for &(spelling, answer) in TYPES {
-        let given = TermType::of_type(alloc, &spelled(alloc, spelling)?);
-        let text = format!(in alloc; "{given:?}")?;
+        let given = TermType::of_type(alloc, &spelled(&rt, alloc, spelling));
+        let text = format!(in alloc; "{given:?}").expect(&rt, AMPLE);
         assert_eq!(rt; text.as_str(), answer, "{spelling}");
     }
-    Ok(())
 }
 
 #[test]
-fn no_attributes_have_no_types(rt: HostRuntime) -> Result<(), Fail> {
+fn no_attributes_have_no_types(rt: HostRuntime) {
     let alloc = rt.alloc();
-    let types = of_record_type(alloc, &Attributes::new(alloc, Vec::new(alloc))?)?;
+    let none = Attributes::new(alloc, Vec::new(alloc)).expect(&rt, AMPLE);
+    let types = of_record_type(alloc, &none).expect(&rt, "no attribute is refused");
     assert!(rt; types.is_empty());
-    Ok(())
 }

@@ -1,12 +1,13 @@
 // The values of constructor calls, each refusal, and the calls that are made of values.
+use crate::AMPLE;
 use smt_cedar_values::{
     ExprList, ExtError, ExtFromCedar, Literal, PartialMap, PartialValue, RestrictedExpr, Value,
     ValueList, ValueMap, value_of_ext,
 };
 use smt_ext::{DatetimeError, DecimalError, Ext, ExtParseError, IPError};
 use smt_leaves::Text;
-use std::alloc::{AllocError, Global};
-use std::test::Fail;
+use std::alloc::Global;
+use std::process::Abort;
 
 /// An argument of a call.
 #[derive(Clone, Copy)]
@@ -22,46 +23,46 @@ enum Arg {
 }
 
 /// A call of a function with these arguments.
-fn call(alloc: Global, name: &str, given: &[Arg]) -> Result<RestrictedExpr, ExtError> {
+fn call(rt: &impl Abort, alloc: Global, name: &str, given: &[Arg]) -> RestrictedExpr {
     let mut args = Vec::new(alloc);
     for arg in given {
-        args.push(argument(alloc, *arg)?)?;
+        args.push(argument(rt, alloc, *arg)).expect(rt, AMPLE);
     }
-    Ok(RestrictedExpr::Call {
-        name: Text::from_str(alloc, name)?,
-        args: ExprList::new(alloc, args)?,
-    })
+    RestrictedExpr::Call {
+        name: Text::from_str(alloc, name).expect(rt, AMPLE),
+        args: ExprList::new(alloc, args).expect(rt, AMPLE),
+    }
 }
 
 /// An argument as an expression.
-fn argument(alloc: Global, arg: Arg) -> Result<RestrictedExpr, ExtError> {
+fn argument(rt: &impl Abort, alloc: Global, arg: Arg) -> RestrictedExpr {
     match arg {
-        Arg::Text(bytes) => text(alloc, bytes),
-        Arg::Long(number) => Ok(RestrictedExpr::Lit(Literal::Long(number))),
-        Arg::Call(name, bytes) => call_with(alloc, name, bytes),
-        Arg::Other => Ok(RestrictedExpr::Other),
+        Arg::Text(bytes) => text(rt, alloc, bytes),
+        Arg::Long(number) => RestrictedExpr::Lit(Literal::Long(number)),
+        Arg::Call(name, bytes) => call_with(rt, alloc, name, bytes),
+        Arg::Other => RestrictedExpr::Other,
     }
 }
 
 /// A text as an expression.
-fn text(alloc: Global, bytes: &str) -> Result<RestrictedExpr, ExtError> {
-    let text = Text::from_str(alloc, bytes)?;
-    Ok(RestrictedExpr::Lit(Literal::String(text)))
+fn text(rt: &impl Abort, alloc: Global, bytes: &str) -> RestrictedExpr {
+    let text = Text::from_str(alloc, bytes).expect(rt, AMPLE);
+    RestrictedExpr::Lit(Literal::String(text))
 }
 
 /// A call of a function with one text.
-fn call_with(alloc: Global, name: &str, bytes: &str) -> Result<RestrictedExpr, ExtError> {
+fn call_with(rt: &impl Abort, alloc: Global, name: &str, bytes: &str) -> RestrictedExpr {
     let mut args = Vec::new(alloc);
-    args.push(text(alloc, bytes)?)?;
-    Ok(RestrictedExpr::Call {
-        name: Text::from_str(alloc, name)?,
-        args: ExprList::new(alloc, args)?,
-    })
+    args.push(text(rt, alloc, bytes)).expect(rt, AMPLE);
+    RestrictedExpr::Call {
+        name: Text::from_str(alloc, name).expect(rt, AMPLE),
+        args: ExprList::new(alloc, args).expect(rt, AMPLE),
+    }
 }
 
 /// A value of an extension type, by its kind and its number or its range.
-fn kind_and_value(alloc: Global, value: &Ext) -> Result<String, AllocError> {
-    match value {
+fn kind_and_value(rt: &impl Abort, alloc: Global, value: &Ext) -> String {
+    let text = match value {
         Ext::Decimal { d } => format!(in alloc; "decimal {d}"),
         Ext::Ipaddr { ip } => format!(in alloc; "ip {ip}"),
         Ext::Datetime { dt } => {
@@ -72,30 +73,31 @@ fn kind_and_value(alloc: Global, value: &Ext) -> Result<String, AllocError> {
             let milliseconds = d.to_milliseconds();
             format!(in alloc; "duration {milliseconds}")
         }
-    }
+    };
+    text.expect(rt, AMPLE)
 }
 
 /// What an expression says: a value, `none` where it is refused with an equal expression, and else the error's text.
-fn said(alloc: Global, e: &RestrictedExpr) -> Result<String, AllocError> {
+fn said(rt: &impl Abort, alloc: Global, e: &RestrictedExpr) -> String {
     match Ext::try_from_restricted(alloc, e) {
-        Ok(value) => kind_and_value(alloc, &value),
+        Ok(value) => kind_and_value(rt, alloc, &value),
         Err(ExtError::FromRestrictedExpr(given)) => {
             let answer = if given == *e { "none" } else { "another" };
-            String::from_str(alloc, answer)
+            String::from_str(alloc, answer).expect(rt, AMPLE)
         }
-        Err(other) => format!(in alloc; "{other}"),
+        Err(other) => message(rt, alloc, other),
     }
 }
 
 /// The same of a value.
-fn said_by_value(alloc: Global, v: &Value) -> Result<String, AllocError> {
+fn said_by_value(rt: &impl Abort, alloc: Global, v: &Value) -> String {
     match Ext::try_from_value(alloc, v) {
-        Ok(value) => kind_and_value(alloc, &value),
+        Ok(value) => kind_and_value(rt, alloc, &value),
         Err(ExtError::FromValue(given)) => {
             let answer = if given == *v { "none" } else { "another" };
-            String::from_str(alloc, answer)
+            String::from_str(alloc, answer).expect(rt, AMPLE)
         }
-        Err(other) => format!(in alloc; "{other}"),
+        Err(other) => message(rt, alloc, other),
     }
 }
 
@@ -172,53 +174,57 @@ const ROWS: &[(&str, &[Arg], &str)] = &[
 
 /// What says something else of a value that is made of what the call gives.
 fn wrong_again(
+    rt: &impl Abort,
     alloc: Global,
     given: &RestrictedExpr,
     answer: &str,
-) -> Result<Option<&'static str>, Fail> {
-    let Ok(read) = Ext::try_from_restricted(alloc, given) else {
-        return Ok(None);
-    };
-    let made = value_of_ext(alloc, &read)?;
-    let answered = said_by_value(alloc, &made)?;
-    Ok((answered.as_str() != answer).then_some("the value that is made again"))
+) -> Option<&'static str> {
+    match Ext::try_from_restricted(alloc, given) {
+        Ok(read) => {
+            let made = value_of_ext(alloc, &read).expect(rt, AMPLE);
+            let answered = said_by_value(rt, alloc, &made);
+            (answered.as_str() != answer).then_some("the value that is made again")
+        }
+        Err(_) => None,
+    }
 }
 
 /// What says something else of a value that is this call.
 fn wrong_by_value(
+    rt: &impl Abort,
     alloc: Global,
     given: &RestrictedExpr,
     answer: &str,
-) -> Result<Option<&'static str>, Fail> {
-    let value = Value::ExtensionValue(given.share()?);
-    let answered = said_by_value(alloc, &value)?;
-    Ok((answered.as_str() != answer).then_some("the value"))
+) -> Option<&'static str> {
+    let value = Value::ExtensionValue(given.share().expect(rt, AMPLE));
+    let answered = said_by_value(rt, alloc, &value);
+    (answered.as_str() != answer).then_some("the value")
 }
 
 /// Which of the readings of a call says something else, none where each says this.
 fn wrong_reading(
+    rt: &impl Abort,
     alloc: Global,
     given: &RestrictedExpr,
     answer: &str,
-) -> Result<Option<&'static str>, Fail> {
-    if said(alloc, given)?.as_str() != answer {
-        return Ok(Some("the call"));
+) -> Option<&'static str> {
+    if said(rt, alloc, given).as_str() != answer {
+        return Some("the call");
     }
-    match wrong_by_value(alloc, given, answer)? {
-        Some(reading) => Ok(Some(reading)),
-        None => wrong_again(alloc, given, answer),
+    match wrong_by_value(rt, alloc, given, answer) {
+        Some(reading) => Some(reading),
+        None => wrong_again(rt, alloc, given, answer),
     }
 }
 
 #[test]
-fn calls_and_values(rt: HostRuntime) -> Result<(), Fail> {
+fn calls_and_values(rt: HostRuntime) {
     let alloc = rt.alloc();
     for &(name, args, answer) in ROWS {
-        let given = call(alloc, name, args)?;
-        let wrong = wrong_reading(alloc, &given, answer)?;
+        let given = call(&rt, alloc, name, args);
+        let wrong = wrong_reading(&rt, alloc, &given, answer);
         assert_eq!(rt; wrong, None, "{name}");
     }
-    Ok(())
 }
 
 const MADE: &[(&str, &str, &str)] = &[
@@ -245,84 +251,87 @@ const MADE: &[(&str, &str, &str)] = &[
 ];
 
 #[test]
-fn calls_made_of_values(rt: HostRuntime) -> Result<(), Fail> {
+fn calls_made_of_values(rt: HostRuntime) {
     let alloc = rt.alloc();
     for &(name, bytes, answer) in MADE {
-        let read = Ext::try_from_restricted(alloc, &call_with(alloc, name, bytes)?)?;
-        if let Value::ExtensionValue(made) = &value_of_ext(alloc, &read)? {
-            let answered = format!(in alloc; "{made:?}")?;
+        let given = call_with(&rt, alloc, name, bytes);
+        let read = Ext::try_from_restricted(alloc, &given).expect(&rt, "the call has a value");
+        if let Value::ExtensionValue(made) = &value_of_ext(alloc, &read).expect(&rt, AMPLE) {
+            let answered = format!(in alloc; "{made:?}").expect(&rt, AMPLE);
             assert_eq!(rt; answered.as_str(), answer, "{name}");
         }
     }
-    Ok(())
 }
 
 /// Attributes, one of them twice, each with a number.
 const NUMBERED: &[(&str, i64)] = &[("b", 1), ("a", 2), ("b", 3), ("", 4)];
 
 /// The record of these attributes, of those of one name the last.
-fn numbered(alloc: Global) -> Result<ValueMap, Fail> {
+fn numbered(rt: &impl Abort, alloc: Global) -> ValueMap {
     let mut pairs = Vec::new(alloc);
     for &(name, number) in NUMBERED {
-        pairs.push((
-            Text::from_str(alloc, name)?,
-            Value::Lit(Literal::Long(number)),
-        ))?;
+        let name = Text::from_str(alloc, name).expect(rt, AMPLE);
+        let pair = (name, Value::Lit(Literal::Long(number)));
+        pairs.push(pair).expect(rt, AMPLE);
     }
-    Ok(ValueMap::new(alloc, pairs)?)
+    ValueMap::new(alloc, pairs).expect(rt, AMPLE)
 }
 
 /// The same attributes, of whose values nothing is known.
-fn unknown(alloc: Global) -> Result<PartialMap, Fail> {
+fn unknown(rt: &impl Abort, alloc: Global) -> PartialMap {
     let mut parts = Vec::new(alloc);
     for &(name, _) in NUMBERED {
-        parts.push((Text::from_str(alloc, name)?, PartialValue::Residual))?;
+        let name = Text::from_str(alloc, name).expect(rt, AMPLE);
+        parts.push((name, PartialValue::Residual)).expect(rt, AMPLE);
     }
-    Ok(PartialMap::new(alloc, parts)?)
+    PartialMap::new(alloc, parts).expect(rt, AMPLE)
 }
 
 /// The list of one value of an extension type.
-fn one_decimal(alloc: Global) -> Result<ValueList, Fail> {
+fn one_decimal(rt: &impl Abort, alloc: Global) -> ValueList {
     let mut items = Vec::new(alloc);
-    items.push(Value::ExtensionValue(call_with(alloc, "decimal", "1.0")?))?;
-    Ok(ValueList::new(alloc, items)?)
+    let call = call_with(rt, alloc, "decimal", "1.0");
+    items.push(Value::ExtensionValue(call)).expect(rt, AMPLE);
+    ValueList::new(alloc, items).expect(rt, AMPLE)
 }
 
 #[test]
-fn values_of_no_extension_type(rt: HostRuntime) -> Result<(), Fail> {
-    let set = Value::Set(one_decimal(rt.alloc())?);
-    let answered = said_by_value(rt.alloc(), &set)?;
-    assert_eq!(rt; answered.as_str(), "none", "a set");
-    let record = Value::Record(numbered(rt.alloc())?);
-    let answered = said_by_value(rt.alloc(), &record)?;
-    assert_eq!(rt; answered.as_str(), "none", "a record");
-    Ok(())
+fn values_of_no_extension_type(rt: HostRuntime) {
+    let alloc = rt.alloc();
+    let set = Value::Set(one_decimal(&rt, alloc));
+    assert_eq!(rt; said_by_value(&rt, alloc, &set).as_str(), "none", "a set");
+    let record = Value::Record(numbered(&rt, alloc));
+    assert_eq!(rt;
+        said_by_value(&rt, alloc, &record).as_str(),
+        "none",
+        "a record"
+    );
 }
 
 #[test]
-fn records_are_in_order(rt: HostRuntime) -> Result<(), Fail> {
-    let record = Value::Record(numbered(rt.alloc())?);
-    let answered = format!(in rt.alloc(); "{record:?}")?;
+fn records_are_in_order(rt: HostRuntime) {
+    let alloc = rt.alloc();
+    let record = Value::Record(numbered(&rt, alloc));
+    let answered = format!(in alloc; "{record:?}").expect(&rt, AMPLE);
     assert_eq!(rt;
         answered.as_str(),
         "Record(ValueMap { pairs: AttributePairs { items: [(\"\", Lit(Long(4))), (\"a\", Lit(Long(2))), (\"b\", Lit(Long(3)))] } })"
     );
-    let known = unknown(rt.alloc())?.share()?;
-    let answered = format!(in rt.alloc(); "{:?}", known.items())?;
+    let known = unknown(&rt, alloc).share().expect(&rt, AMPLE);
+    let answered = format!(in alloc; "{:?}", known.items()).expect(&rt, AMPLE);
     assert_eq!(rt;
         answered.as_str(),
         "[(\"\", Residual), (\"a\", Residual), (\"b\", Residual)]"
     );
-    Ok(())
 }
 
 /// The text of an error.
-fn message(alloc: Global, error: ExtError) -> Result<String, AllocError> {
-    format!(in alloc; "{error}")
+fn message(rt: &impl Abort, alloc: Global, error: ExtError) -> String {
+    format!(in alloc; "{error}").expect(rt, AMPLE)
 }
 
 #[test]
-fn messages(rt: HostRuntime) -> Result<(), Fail> {
+fn messages(rt: HostRuntime) {
     let alloc = rt.alloc();
     let rows = [
         (ExtError::from(DecimalError::Memory), "out of memory"),
@@ -344,8 +353,6 @@ fn messages(rt: HostRuntime) -> Result<(), Fail> {
         ),
     ];
     for (error, answer) in rows {
-        let answered = message(alloc, error)?;
-        assert_eq!(rt; answered.as_str(), answer);
+        assert_eq!(rt; message(&rt, alloc, error).as_str(), answer);
     }
-    Ok(())
 }

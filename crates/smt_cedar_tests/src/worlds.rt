@@ -1,4 +1,5 @@
 // Schemas, requests and stores of tests, as data, and what the program has of them.
+use crate::AMPLE;
 use smt_cedar_stores::{
     ActionEntry, ActionList, Entities, Entity, EntityEntry, EntryMap, Env, Request, RequestEnv,
     Schema, UidList,
@@ -8,7 +9,8 @@ use smt_cedar_values::{Literal, PartialMap, PartialValue, Value, ValueList, Valu
 use smt_leaves::{EntityID, EntityType, EntityUID, Text, TextSet};
 use smt_symbolizer::SymEnv;
 use smt_values::SymbolizeError;
-use std::alloc::{AllocError, Global};
+use std::alloc::Global;
+use std::process::Abort;
 
 /// A Cedar type.
 #[derive(Clone, Copy)]
@@ -70,42 +72,39 @@ pub(crate) struct World {
 }
 
 /// A text that is held.
-pub(crate) fn text(alloc: Global, bytes: &str) -> Result<Text, AllocError> {
-    Text::from_str(alloc, bytes)
+pub(crate) fn text(rt: &impl Abort, alloc: Global, bytes: &str) -> Text {
+    Text::from_str(alloc, bytes).expect(rt, AMPLE)
 }
 
 /// The type of this name.
-pub(crate) fn type_named(alloc: Global, name: &str) -> Result<EntityType, AllocError> {
-    Ok(EntityType(text(alloc, name)?))
+pub(crate) fn type_named(rt: &impl Abort, alloc: Global, name: &str) -> EntityType {
+    EntityType(text(rt, alloc, name))
 }
 
 /// The entity of a type with an id.
-pub(crate) fn uid(alloc: Global, (ety, id): Name) -> Result<EntityUID, AllocError> {
-    Ok(EntityUID {
-        ety: type_named(alloc, ety)?,
-        id: EntityID(text(alloc, id)?),
-    })
+pub(crate) fn uid(rt: &impl Abort, alloc: Global, (ety, id): (&str, &str)) -> EntityUID {
+    EntityUID {
+        ety: type_named(rt, alloc, ety),
+        id: EntityID(text(rt, alloc, id)),
+    }
 }
 
 /// A list of entities.
-pub(crate) fn uids(alloc: Global, names: &[Name]) -> Result<UidList, AllocError> {
+pub(crate) fn uids(rt: &impl Abort, alloc: Global, names: &[Name]) -> UidList {
     let mut list = UidList::new(alloc);
     for name in names {
-        list.push(uid(alloc, *name)?)?;
+        list.push(uid(rt, alloc, *name)).expect(rt, AMPLE);
     }
-    Ok(list)
+    list
 }
 
 /// The types of these names.
-pub(crate) fn types_named(
-    alloc: Global,
-    names: &[&'static str],
-) -> Result<EntityTypeList, AllocError> {
+pub(crate) fn types_named(rt: &impl Abort, alloc: Global, names: &[&str]) -> EntityTypeList {
     let mut items = Vec::new(alloc);
     for name in names {
-        items.push(type_named(alloc, name)?)?;
+        items.push(type_named(rt, alloc, name)).expect(rt, AMPLE);
     }
-    Ok(EntityTypeList { items })
+    EntityTypeList { items }
 }
 
 /// A Cedar type.
@@ -118,146 +117,166 @@ pub(crate) fn cedar(ty: Plain) -> CedarType {
 }
 
 /// The attributes of a record type.
-pub(crate) fn attributes(alloc: Global, types: Types) -> Result<Attributes, SymbolizeError> {
+pub(crate) fn attributes(rt: &impl Abort, alloc: Global, types: Types) -> Attributes {
     let mut pairs = Vec::new(alloc);
     for (name, ty, is_required) in types {
         let ty = AttributeType {
             attr_type: cedar(*ty),
             is_required: *is_required,
         };
-        pairs.push((text(alloc, name)?, ty))?;
+        pairs.push((text(rt, alloc, name), ty)).expect(rt, AMPLE);
     }
-    Ok(Attributes::new(alloc, pairs)?)
+    Attributes::new(alloc, pairs).expect(rt, AMPLE)
 }
 
 /// What is known of a value.
-pub(crate) fn partial(alloc: Global, part: Part) -> Result<PartialValue, SymbolizeError> {
+pub(crate) fn partial(rt: &impl Abort, alloc: Global, part: Part) -> PartialValue {
     match part {
-        Part::Long(number) => Ok(PartialValue::Value(Value::Lit(Literal::Long(number)))),
-        Part::Text(bytes) => Ok(PartialValue::Value(Value::Lit(Literal::String(text(
-            alloc, bytes,
-        )?)))),
-        Part::Set => Ok(PartialValue::Value(Value::Set(ValueList::new(alloc, Vec::new(alloc))?))),
-        Part::Unknown => Ok(PartialValue::Residual),
+        Part::Long(number) => PartialValue::Value(Value::Lit(Literal::Long(number))),
+        Part::Text(bytes) => {
+            PartialValue::Value(Value::Lit(Literal::String(text(rt, alloc, bytes))))
+        }
+        Part::Set => {
+            let none = ValueList::new(alloc, Vec::new(alloc)).expect(rt, AMPLE);
+            PartialValue::Value(Value::Set(none))
+        }
+        Part::Unknown => PartialValue::Residual,
     }
 }
 
 /// What is known of attributes, or of tags.
-pub(crate) fn partials(alloc: Global, parts: Parts) -> Result<PartialMap, SymbolizeError> {
+pub(crate) fn partials(rt: &impl Abort, alloc: Global, parts: Parts) -> PartialMap {
     let mut pairs = Vec::new(alloc);
     for (name, part) in parts {
-        pairs.push((text(alloc, name)?, partial(alloc, *part)?))?;
+        let pair = (text(rt, alloc, name), partial(rt, alloc, *part));
+        pairs.push(pair).expect(rt, AMPLE);
     }
-    Ok(PartialMap::new(alloc, pairs)?)
+    PartialMap::new(alloc, pairs).expect(rt, AMPLE)
 }
 
 /// A context, of the values of these that are known.
-pub(crate) fn context(alloc: Global, parts: Parts) -> Result<ValueMap, SymbolizeError> {
+pub(crate) fn context(rt: &impl Abort, alloc: Global, parts: Parts) -> ValueMap {
     let mut pairs = Vec::new(alloc);
     for (name, part) in parts {
-        if let PartialValue::Value(v) = partial(alloc, *part)? {
-            pairs.push((text(alloc, name)?, v))?;
+        if let PartialValue::Value(v) = partial(rt, alloc, *part) {
+            pairs.push((text(rt, alloc, name), v)).expect(rt, AMPLE);
         }
     }
-    Ok(ValueMap::new(alloc, pairs)?)
+    ValueMap::new(alloc, pairs).expect(rt, AMPLE)
 }
 
 /// What a schema says of a type.
-pub(crate) fn entry(alloc: Global, given: Kind) -> Result<EntityEntry, SymbolizeError> {
+pub(crate) fn entry(rt: &impl Abort, alloc: Global, given: Kind) -> EntityEntry {
     match given {
-        Kind::Standard(ancestors, attrs, tags) => Ok(EntityEntry::Standard {
-            ancestors: types_named(alloc, ancestors)?,
-            attrs: attributes(alloc, attrs)?,
+        Kind::Standard(ancestors, attrs, tags) => EntityEntry::Standard {
+            ancestors: types_named(rt, alloc, ancestors),
+            attrs: attributes(rt, alloc, attrs),
             tags: tags.map(cedar),
-        }),
+        },
         Kind::Enum(ids) => {
             let mut members = Vec::new(alloc);
             for id in ids {
-                members.push(text(alloc, id)?)?;
+                members.push(text(rt, alloc, id)).expect(rt, AMPLE);
             }
-            Ok(EntityEntry::Enum(TextSet::new(alloc, members.as_slice())?))
+            EntityEntry::Enum(TextSet::new(alloc, members.as_slice()).expect(rt, AMPLE))
         }
     }
 }
 
 /// What a schema says of an action, by its name, its ancestors and the attributes of its contexts.
 fn action(
+    rt: &impl Abort,
     alloc: Global,
     name: Name,
     ancestors: &[Name],
     context: Types,
-) -> Result<ActionEntry, SymbolizeError> {
-    Ok(ActionEntry {
-        uid: uid(alloc, name)?,
-        ancestors: uids(alloc, ancestors)?,
-        principals: types_named(alloc, &["User"])?,
-        resources: types_named(alloc, &["User"])?,
-        context: attributes(alloc, context)?,
-    })
+) -> ActionEntry {
+    ActionEntry {
+        uid: uid(rt, alloc, name),
+        ancestors: uids(rt, alloc, ancestors),
+        principals: types_named(rt, alloc, &["User"]),
+        resources: types_named(rt, alloc, &["User"]),
+        context: attributes(rt, alloc, context),
+    }
 }
 
 /// The schema of a world.
-pub(crate) fn schema(alloc: Global, world: &World) -> Result<Schema, SymbolizeError> {
+pub(crate) fn schema(rt: &impl Abort, alloc: Global, world: &World) -> Schema {
     let mut entity_types = EntryMap::new(alloc);
     for (name, given) in world.types {
-        entity_types.push((type_named(alloc, name)?, entry(alloc, *given)?))?;
+        let pair = (type_named(rt, alloc, name), entry(rt, alloc, *given));
+        entity_types.push(pair).expect(rt, AMPLE);
     }
     let mut actions = ActionList::new(alloc);
     for (name, ancestors, context) in world.actions {
-        actions.push(action(alloc, *name, ancestors, context)?)?;
+        actions
+            .push(action(rt, alloc, *name, ancestors, context))
+            .expect(rt, AMPLE);
     }
-    Ok(Schema {
+    Schema {
         entity_types,
         actions,
-    })
+    }
 }
 
 /// An entity, where it is known.
 pub(crate) fn known(
+    rt: &impl Abort,
     alloc: Global,
     is_known: bool,
     name: Name,
-) -> Result<Option<EntityUID>, AllocError> {
+) -> Option<EntityUID> {
     if is_known {
-        Ok(Some(uid(alloc, name)?))
+        Some(uid(rt, alloc, name))
     } else {
-        Ok(None)
+        None
     }
+}
+
+/// The store of a world.
+fn store(rt: &impl Abort, alloc: Global, stored: &[Stored]) -> Entities {
+    let mut entities = Entities::new(alloc);
+    for (name, attrs, ancestors, tags) in stored {
+        let entity = Entity {
+            uid: uid(rt, alloc, *name),
+            attrs: partials(rt, alloc, attrs),
+            ancestors: uids(rt, alloc, ancestors),
+            tags: partials(rt, alloc, tags),
+        };
+        entities.push(entity).expect(rt, AMPLE);
+    }
+    entities
 }
 
 /// The request and the store of a world.
-pub(crate) fn env(alloc: Global, world: &World) -> Result<Env, SymbolizeError> {
-    let mut entities = Entities::new(alloc);
-    for (name, attrs, ancestors, tags) in world.stored {
-        entities.push(Entity {
-            uid: uid(alloc, *name)?,
-            attrs: partials(alloc, attrs)?,
-            ancestors: uids(alloc, ancestors)?,
-            tags: partials(alloc, tags)?,
-        })?;
-    }
+pub(crate) fn env(rt: &impl Abort, alloc: Global, world: &World) -> Env {
     let (principal, action, resource) = world.known;
     let context = match world.context {
-        Some(parts) => Some(context(alloc, parts)?),
+        Some(parts) => Some(context(rt, alloc, parts)),
         None => None,
     };
-    Ok(Env {
+    Env {
         request: Request {
-            principal: known(alloc, principal, ("User", "a"))?,
-            action: known(alloc, action, world.asked)?,
-            resource: known(alloc, resource, ("User", "b"))?,
+            principal: known(rt, alloc, principal, ("User", "a")),
+            action: known(rt, alloc, action, world.asked),
+            resource: known(rt, alloc, resource, ("User", "b")),
             context,
         },
-        entities,
-    })
+        entities: store(rt, alloc, world.stored),
+    }
 }
 
-/// The symbolic environment of a world.
-pub(crate) fn symbolized(alloc: Global, world: &World) -> Result<SymEnv, SymbolizeError> {
+/// The symbolic environment of a world, or its refusal.
+pub(crate) fn symbolized(
+    rt: &impl Abort,
+    alloc: Global,
+    world: &World,
+) -> Result<SymEnv, SymbolizeError> {
     let asked = RequestEnv {
-        principal: type_named(alloc, "User")?,
-        action: uid(alloc, world.asked)?,
-        resource: type_named(alloc, "User")?,
+        principal: type_named(rt, alloc, "User"),
+        action: uid(rt, alloc, world.asked),
+        resource: type_named(rt, alloc, "User"),
     };
-    SymEnv::from_concrete_env(alloc, &asked, &schema(alloc, world)?, &env(alloc, world)?)
+    let schema = schema(rt, alloc, world);
+    SymEnv::from_concrete_env(alloc, &asked, &schema, &env(rt, alloc, world))
 }

@@ -11,6 +11,3 @@ mod starter;
 
 pub use link::ChildLink;
 pub use starter::ChildStarter;
-
-#[cfg(test)]
-mod tests;

@@ -1,9 +1,10 @@
 //! Tables of enum types: which entries enter, and which members are found.
 
+use crate::AMPLE;
 use crate::sets::texts_in;
 use smt_leaves::{EntityType, EnumTable, Text};
 use std::alloc::Global;
-use std::test::Fail;
+use std::process::Abort;
 
 /// Enum types in the order in which they are given, with their members, and whether they enter.
 const ENTRIES: &[(&str, &str, bool)] = &[
@@ -23,38 +24,39 @@ const MEMBERS: &[(&str, Option<&str>)] = &[
     ("color", None),
 ];
 
-fn type_called(alloc: Global, name: &str) -> Result<EntityType, Fail> {
-    Ok(EntityType(Text::from_str(alloc, name)?))
+/// The entity type of a name.
+fn type_called(rt: &impl Abort, alloc: Global, name: &str) -> EntityType {
+    EntityType(Text::from_str(alloc, name).expect(rt, AMPLE))
 }
 
 /// Whether the table has these members of a type, or does not have the type.
 fn has_members(
+    rt: &impl Abort,
     alloc: Global,
     table: &EnumTable,
     name: &str,
     members: Option<&str>,
-) -> Result<bool, Fail> {
-    match (table.members_of(&type_called(alloc, name)?), members) {
-        (Some(set), Some(words)) => Ok(set.items() == texts_in(alloc, words)?.as_slice()),
-        (None, None) => Ok(true),
-        (Some(_), None) | (None, Some(_)) => Ok(false),
+) -> bool {
+    match (table.members_of(&type_called(rt, alloc, name)), members) {
+        (Some(set), Some(words)) => set.items() == texts_in(rt, alloc, words).as_slice(),
+        (None, None) => true,
+        (Some(_), None) | (None, Some(_)) => false,
     }
 }
 
 #[test]
-fn enum_types_enter_once(rt: HostRuntime) -> Result<(), Fail> {
+fn enum_types_enter_once(rt: HostRuntime) {
     let alloc = rt.alloc();
     let mut table = EnumTable::new(alloc);
-    assert!(rt; has_members(alloc, &table, "Color", None)?);
+    assert!(rt; has_members(&rt, alloc, &table, "Color", None));
     for &(name, members, enters) in ENTRIES {
-        let members = texts_in(alloc, members)?;
-        assert!(rt;
-            table.insert(type_called(alloc, name)?, members.as_slice())? == enters,
-            "{name}"
-        );
+        let members = texts_in(&rt, alloc, members);
+        let entered = table
+            .insert(type_called(&rt, alloc, name), members.as_slice())
+            .expect(&rt, AMPLE);
+        assert!(rt; entered == enters, "{name}");
     }
     for &(name, members) in MEMBERS {
-        assert!(rt; has_members(alloc, &table, name, members)?, "{name}");
+        assert!(rt; has_members(&rt, alloc, &table, name, members), "{name}");
     }
-    Ok(())
 }

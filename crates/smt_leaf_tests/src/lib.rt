@@ -1,7 +1,7 @@
 //! Tests of what stands without terms: the values and leaves of which terms are made, as bitvectors, values of the extension
 //! types, entities, tables of enum types, sets of texts and patterns; texts between quotes and S-expressions; the lines of a
-//! script; sessions with solvers over links in memory, and pools of them. They stand outside the crates that they call: a crate
-//! with tests is proved twice, with them and without, and here they are proved alone.
+//! script. They stand outside the crates that they call: a crate with tests is proved twice, with them and without, and here
+//! they are proved alone.
 #![tactic(auto)]
 
 #[cfg(test)]
@@ -15,12 +15,12 @@ mod extensions;
 #[cfg(test)]
 mod patterns;
 #[cfg(test)]
-mod pools;
-#[cfg(test)]
 mod scripts;
-#[cfg(test)]
-mod sessions;
 #[cfg(test)]
 mod sets;
 #[cfg(test)]
 mod texts;
+
+/// Why a test stops where a call gives nothing.
+#[cfg(test)]
+pub(crate) const AMPLE: &str = "there is memory for the test";

@@ -4,13 +4,13 @@ ghost use Rattle.std.specs.Prelude.{◌++◌, ◌≡◌, IsOk, codes, length};
 ghost use Rattle.smt_characters.specs.LineTexts.{declare_const_text};
 ghost use Rattle.smt_script.specs.Memory.{memory_bytes, memory_has_room};
 
+use crate::AMPLE;
 use smt_script::{
     BufferedSink, CountSink, ListSink, MemorySink, Sink, SinkError, SmtLibScript, Text, WriteSink,
 };
-use std::alloc::{AllocError, Global};
+use std::alloc::Global;
 use std::io::{self, Write};
 use std::process::Abort;
-use std::test::Fail;
 
 /// What `put_lines` puts, as the table of lines spells it.
 const LINES: &str = "\
@@ -32,68 +32,88 @@ const LINES: &str = "\
 (exit)
 ";
 
-fn texts(alloc: Global, items: &[&str]) -> Result<Vec<Text>, AllocError> {
+/// Why a test stops where a sink takes no line.
+const TAKEN: &str = "the sink takes the line";
+
+/// The texts of these items.
+fn texts(rt: &impl Abort, alloc: Global, items: &[&str]) -> Vec<Text> {
     let mut texts = Vec::new(alloc);
     for item in items {
-        texts.push(Text::from_str(alloc, item)?)?;
+        let text = Text::from_str(alloc, item).expect(rt, AMPLE);
+        texts.push(text).expect(rt, AMPLE);
     }
-    Ok(texts)
+    texts
 }
 
+/// A datatype with these parameters and constructors.
 fn declare_datatype<S: Sink>(
+    rt: &impl Abort,
     sink: &mut S,
     alloc: Global,
     id: &str,
     parameters: &[&str],
     constructors: &[&str],
-) -> Result<(), Fail> {
-    let parameters = texts(alloc, parameters)?;
-    let constructors = texts(alloc, constructors)?;
-    sink.declare_datatype(id, parameters.as_slice(), constructors.as_slice())?;
-    Ok(())
+) {
+    let parameters = texts(rt, alloc, parameters);
+    let constructors = texts(rt, alloc, constructors);
+    sink.declare_datatype(id, parameters.as_slice(), constructors.as_slice())
+        .expect(rt, TAKEN);
 }
 
-fn argument(alloc: Global, id: &str, sort: &str) -> Result<(Text, Text), AllocError> {
-    Ok((Text::from_str(alloc, id)?, Text::from_str(alloc, sort)?))
+/// An argument of a function, with its sort.
+fn argument(rt: &impl Abort, alloc: Global, id: &str, sort: &str) -> (Text, Text) {
+    (
+        Text::from_str(alloc, id).expect(rt, AMPLE),
+        Text::from_str(alloc, sort).expect(rt, AMPLE),
+    )
 }
 
 /// A function of two arguments, which gives the first.
-fn define_first<S: Sink>(sink: &mut S, alloc: Global) -> Result<(), Fail> {
-    let mut arguments = Vec::new(alloc);
-    arguments.push(argument(alloc, "x", "Int")?)?;
-    arguments.push(argument(alloc, "y", "Bool")?)?;
-    sink.define_fun("f", arguments.as_slice(), "Int", "x")?;
-    Ok(())
+fn define_first<S: Sink>(rt: &impl Abort, sink: &mut S, alloc: Global) {
+    let arguments = [
+        argument(rt, alloc, "x", "Int"),
+        argument(rt, alloc, "y", "Bool"),
+    ];
+    sink.define_fun("f", &arguments, "Int", "x")
+        .expect(rt, TAKEN);
 }
 
 /// The lines of a variable and of its negation.
-fn put_negation<S: Sink>(sink: &mut S) -> Result<(), SinkError> {
-    sink.comment("\"b\"")?;
-    sink.declare_const("t0", "Bool")?;
-    sink.define_fun("t1", &[], "Bool", "(not t0)")?;
-    sink.assert("t1")
+fn put_negation<S: Sink>(rt: &impl Abort, sink: &mut S) {
+    sink.comment("\"b\"").expect(rt, TAKEN);
+    sink.declare_const("t0", "Bool").expect(rt, TAKEN);
+    sink.define_fun("t1", &[], "Bool", "(not t0)")
+        .expect(rt, TAKEN);
+    sink.assert("t1").expect(rt, TAKEN);
 }
 
 /// The lines by which a script speaks to a solver.
-fn put_questions<S: Sink>(sink: &mut S) -> Result<(), SinkError> {
-    sink.set_logic("ALL")?;
-    sink.set_option("produce-models", "true")?;
-    sink.check_sat()?;
-    sink.get_model()?;
-    sink.reset()?;
-    sink.exit()
+fn put_questions<S: Sink>(rt: &impl Abort, sink: &mut S) {
+    sink.set_logic("ALL").expect(rt, TAKEN);
+    sink.set_option("produce-models", "true").expect(rt, TAKEN);
+    sink.check_sat().expect(rt, TAKEN);
+    sink.get_model().expect(rt, TAKEN);
+    sink.reset().expect(rt, TAKEN);
+    sink.exit().expect(rt, TAKEN);
 }
 
-fn put_lines<S: Sink>(sink: &mut S, alloc: Global) -> Result<(), Fail> {
-    declare_datatype(sink, alloc, "Option", &["X"], &["(none)", "(some (val X))"])?;
-    put_negation(sink)?;
-    declare_datatype(sink, alloc, "E0", &[], &[])?;
-    sink.comment("a\r\nb\nc")?;
-    define_first(sink, alloc)?;
-    declare_datatype(sink, alloc, "D", &[""], &["(c)"])?;
-    declare_datatype(sink, alloc, "D", &["", ""], &["(c)"])?;
-    put_questions(sink)?;
-    Ok(())
+/// Puts the lines of the table.
+fn put_lines<S: Sink>(rt: &impl Abort, sink: &mut S, alloc: Global) {
+    declare_datatype(
+        rt,
+        sink,
+        alloc,
+        "Option",
+        &["X"],
+        &["(none)", "(some (val X))"],
+    );
+    put_negation(rt, sink);
+    declare_datatype(rt, sink, alloc, "E0", &[], &[]);
+    sink.comment("a\r\nb\nc").expect(rt, TAKEN);
+    define_first(rt, sink, alloc);
+    declare_datatype(rt, sink, alloc, "D", &[""], &["(c)"]);
+    declare_datatype(rt, sink, alloc, "D", &["", ""], &["(c)"]);
+    put_questions(rt, sink);
 }
 
 /// Expects that these are the bytes of the lines.
@@ -103,36 +123,32 @@ fn expect_lines(rt: &impl Abort, bytes: &[u8]) {
 
 /// The sink has room for just the lines.
 #[test]
-fn lines_are_spelled_in_memory(rt: HostRuntime) -> Result<(), Fail> {
-    let mut memory = MemorySink::new(rt.alloc(), &[], LINES.len())?;
-    put_lines(&mut memory, rt.alloc())?;
+fn lines_are_spelled_in_memory(rt: HostRuntime) {
+    let mut memory = MemorySink::new(rt.alloc(), &[], LINES.len()).expect(&rt, AMPLE);
+    put_lines(&rt, &mut memory, rt.alloc());
     expect_lines(&rt, memory.bytes());
-    Ok(())
 }
 
 /// Here through a reference to the sink.
 #[test]
-fn lines_are_spelled_in_a_list(rt: HostRuntime) -> Result<(), Fail> {
+fn lines_are_spelled_in_a_list(rt: HostRuntime) {
     let mut list = ListSink::new(rt.alloc());
-    put_lines(&mut &mut list, rt.alloc())?;
+    put_lines(&rt, &mut &mut list, rt.alloc());
     expect_lines(&rt, list.bytes());
-    Ok(())
 }
 
 #[test]
-fn lines_are_spelled_to_a_writer(rt: HostRuntime) -> Result<(), Fail> {
+fn lines_are_spelled_to_a_writer(rt: HostRuntime) {
     let mut writer = ShortWriter::new(rt.alloc(), 1000);
-    put_lines(&mut WriteSink::new(&mut writer), rt.alloc())?;
+    put_lines(&rt, &mut WriteSink::new(&mut writer), rt.alloc());
     expect_lines(&rt, writer.bytes.as_slice());
-    Ok(())
 }
 
 #[test]
-fn lines_are_spelled_through_a_buffer(rt: HostRuntime) -> Result<(), Fail> {
+fn lines_are_spelled_through_a_buffer(rt: HostRuntime) {
     let mut writer = ShortWriter::new(rt.alloc(), 1000);
-    put_lines(&mut BufferedSink::new(&mut writer), rt.alloc())?;
+    put_lines(&rt, &mut BufferedSink::new(&mut writer), rt.alloc());
     expect_lines(&rt, writer.bytes.as_slice());
-    Ok(())
 }
 
 /// In a sink with room a line is put, whatever the allocator does.
@@ -163,10 +179,9 @@ fn puts_are_planned(planned: &mut MemorySink) -> bool {
 }
 
 /// The second put and the fourth are planned to fail.
-fn puts_fail_as_planned(rt: &impl Abort, alloc: Global) -> Result<(), Fail> {
-    let mut planned = MemorySink::new(alloc, &[2, 4], 10)?;
+fn puts_fail_as_planned(rt: &impl Abort, alloc: Global) {
+    let mut planned = MemorySink::new(alloc, &[2, 4], 10).expect(rt, AMPLE);
     assert!(rt; puts_are_planned(&mut planned));
-    Ok(())
 }
 
 /// Expects that a sink with room for one line takes the front of a second one.
@@ -179,12 +194,11 @@ fn expect_front_of_second(rt: &impl Abort, small: &mut MemorySink) {
 }
 
 #[test]
-fn memory_sinks_fail(rt: HostRuntime) -> Result<(), Fail> {
-    puts_fail_as_planned(&rt, rt.alloc())?;
-    let mut small = MemorySink::new(rt.alloc(), &[], 30)?;
+fn memory_sinks_fail(rt: HostRuntime) {
+    puts_fail_as_planned(&rt, rt.alloc());
+    let mut small = MemorySink::new(rt.alloc(), &[], 30).expect(&rt, AMPLE);
     assert!(rt; declare_in_room(&mut small, "t0") == Ok(()));
     expect_front_of_second(&rt, &mut small);
-    Ok(())
 }
 
 /// Takes at most three bytes a write, and fails where it has `room` bytes.
@@ -222,7 +236,7 @@ impl Write for ShortWriter {
 }
 
 #[test]
-fn writers_fail(rt: HostRuntime) -> Result<(), Fail> {
+fn writers_fail(rt: HostRuntime) {
     let mut writer = ShortWriter::new(rt.alloc(), 28);
     let mut sink = WriteSink::new(&mut writer);
     assert_eq!(rt; sink.declare_const("t0", "Bool"), Ok(()));
@@ -234,7 +248,6 @@ fn writers_fail(rt: HostRuntime) -> Result<(), Fail> {
         b"(declare-const t0 Bool)\n(ass".as_slice()
     );
     assert_eq!(rt; writer.flushes, 1);
-    Ok(())
 }
 
 /// Puts two lines to a sink with room for one, and flushes it behind each.
@@ -246,7 +259,7 @@ fn put_and_flush<S: Sink>(rt: &impl Abort, sink: &mut S) {
 }
 
 #[test]
-fn sinks_are_flushed(rt: HostRuntime) -> Result<(), Fail> {
+fn sinks_are_flushed(rt: HostRuntime) {
     let alloc = rt.alloc();
     // A line is flushed where it ends, and by each flush.
     let mut writer = ShortWriter::new(alloc, 28);
@@ -257,8 +270,8 @@ fn sinks_are_flushed(rt: HostRuntime) -> Result<(), Fail> {
     put_and_flush(&rt, &mut BufferedSink::new(&mut writer));
     assert_eq!(rt; writer.flushes, 2);
     // This one holds nothing back.
-    put_and_flush(&rt, &mut &mut MemorySink::new(alloc, &[], 28)?);
-    Ok(())
+    let mut memory = MemorySink::new(alloc, &[], 28).expect(&rt, AMPLE);
+    put_and_flush(&rt, &mut &mut memory);
 }
 
 /// Takes all bytes, and fails at each flush.
@@ -294,14 +307,13 @@ fn flush_at_end(rt: &impl Abort, writer: &mut StuckWriter) {
 }
 
 #[test]
-fn flushes_fail(rt: HostRuntime) -> Result<(), Fail> {
+fn flushes_fail(rt: HostRuntime) {
     let mut writer = StuckWriter {
         bytes: Vec::new(rt.alloc()),
     };
     flush_buffered(&rt, &mut writer);
     flush_at_end(&rt, &mut writer);
     assert_eq!(rt; writer.bytes.as_slice(), b"a\nb\n".as_slice());
-    Ok(())
 }
 
 /// How many bytes these pieces have, and their sum, as a sink that counts says it.

@@ -1,16 +1,18 @@
 //! Sets of texts: what they keep of what they were given, and what they find.
 
+use crate::AMPLE;
 use smt_leaves::{Text, TextSet};
 use std::alloc::Global;
-use std::test::Fail;
+use std::process::Abort;
 
 /// The texts that a row has between spaces.
-pub(crate) fn texts_in(alloc: Global, words: &str) -> Result<Vec<Text>, Fail> {
+pub(crate) fn texts_in(rt: &impl Abort, alloc: Global, words: &str) -> Vec<Text> {
     let mut texts = Vec::new(alloc);
     for word in words.split_whitespace() {
-        texts.push(Text::from_str(alloc, word)?)?;
+        let text = Text::from_str(alloc, word).expect(rt, AMPLE);
+        texts.push(text).expect(rt, AMPLE);
     }
-    Ok(texts)
+    texts
 }
 
 /// Texts that are given, and the texts of the set in order.
@@ -22,28 +24,36 @@ const TEXT_SETS: &[(&str, &str)] = &[
     ("é z a", "a z é"),
 ];
 
-fn text_set_is(alloc: Global, given: &str, expected: &str) -> Result<bool, Fail> {
-    let set = TextSet::new(alloc, texts_in(alloc, given)?.as_slice())?;
-    Ok(set.share()? == set && has_texts(&set, texts_in(alloc, expected)?.as_slice()))
+/// The set of the texts that a row has between spaces.
+fn set_of(rt: &impl Abort, alloc: Global, given: &str) -> TextSet {
+    TextSet::new(alloc, texts_in(rt, alloc, given).as_slice()).expect(rt, AMPLE)
 }
 
+/// Whether the set of the texts has these texts in order, and is equal to what it shares.
+fn text_set_is(rt: &impl Abort, alloc: Global, given: &str, expected: &str) -> bool {
+    let set = set_of(rt, alloc, given);
+    set.share().expect(rt, AMPLE) == set
+        && has_texts(&set, texts_in(rt, alloc, expected).as_slice())
+}
+
+/// Whether a set has these texts in order.
 fn has_texts(set: &TextSet, texts: &[Text]) -> bool {
     set.items() == texts && set.len() == texts.len() && set.is_empty() == texts.is_empty()
 }
 
 /// Whether the set of the texts has this one.
-fn set_has(alloc: Global, given: &str, text: &str) -> Result<bool, Fail> {
-    let set = TextSet::new(alloc, texts_in(alloc, given)?.as_slice())?;
-    Ok(set.contains(&Text::from_str(alloc, text)?))
+fn set_has(rt: &impl Abort, alloc: Global, given: &str, text: &str) -> bool {
+    let text = Text::from_str(alloc, text).expect(rt, AMPLE);
+    set_of(rt, alloc, given).contains(&text)
 }
 
 #[test]
-fn sets_of_texts_are_sorted(rt: HostRuntime) -> Result<(), Fail> {
+fn sets_of_texts_are_sorted(rt: HostRuntime) {
+    let alloc = rt.alloc();
     for &(given, expected) in TEXT_SETS {
-        assert!(rt; text_set_is(rt.alloc(), given, expected)?, "{given}");
+        assert!(rt; text_set_is(&rt, alloc, given, expected), "{given}");
     }
-    assert!(rt; set_has(rt.alloc(), "b a b", "b")?);
-    assert!(rt; !set_has(rt.alloc(), "b a b", "ab")?);
-    assert!(rt; !set_has(rt.alloc(), "", "a")?);
-    Ok(())
+    assert!(rt; set_has(&rt, alloc, "b a b", "b"));
+    assert!(rt; !set_has(&rt, alloc, "b a b", "ab"));
+    assert!(rt; !set_has(&rt, alloc, "", "a"));
 }

@@ -1,10 +1,11 @@
 // Whole runs of `check`, over a starter in memory.
+use crate::AMPLE;
 use crate::runs::texts;
 use smt_cli::{MemorySource, run};
 use smt_script::MemorySink;
 use smt_solve::{LinkList, MemoryLink, MemoryStarter};
 use std::alloc::Global;
-use std::test::Fail;
+use std::process::Abort;
 
 /// The job of `true`.
 const TRUE: &str = "(job (enums) (vars) (funs) (terms true))";
@@ -184,11 +185,11 @@ const CHECKS: &[Check] = &[
 ];
 
 /// A starter of one link.
-fn starter_of(alloc: Global, row: &Check) -> Result<MemoryStarter, Fail> {
-    let link = MemoryLink::new(alloc, row.answers, &[row.link_fails], row.ended)?;
+fn starter_of(rt: &impl Abort, alloc: Global, row: &Check) -> MemoryStarter {
+    let link = MemoryLink::new(alloc, row.answers, &[row.link_fails], row.ended);
     let mut links = LinkList::new(alloc);
-    links.push(link)?;
-    Ok(MemoryStarter::new(alloc, links, &[row.start_fails])?)
+    links.push(link.expect(rt, AMPLE)).expect(rt, AMPLE);
+    MemoryStarter::new(alloc, links, &[row.start_fails]).expect(rt, AMPLE)
 }
 
 /// How a run ended: its status, what was put and said, and the starter with the links that came back.
@@ -200,12 +201,15 @@ struct End {
     starter: MemoryStarter,
 }
 
-fn end_of(alloc: Global, row: &Check) -> Result<End, Fail> {
-    let words = texts(alloc, &["check", "cvc5", "--lang", "smt"])?;
-    let mut source = MemorySource::new(alloc, row.job.as_bytes(), &[row.source_fails])?;
-    let mut out = MemorySink::new(alloc, &[row.out_fails], 100)?;
-    let mut diag = MemorySink::new(alloc, &[], 100)?;
-    let mut starter = starter_of(alloc, row)?;
+/// Runs a row.
+fn end_of(rt: &impl Abort, alloc: Global, row: &Check) -> End {
+    let words = texts(rt, alloc, &["check", "cvc5", "--lang", "smt"]);
+    let mut source = MemorySource::new(alloc, row.job.as_bytes(), &[row.source_fails]).expect(
+        rt, AMPLE,
+    );
+    let mut out = MemorySink::new(alloc, &[row.out_fails], 100).expect(rt, AMPLE);
+    let mut diag = MemorySink::new(alloc, &[], 100).expect(rt, AMPLE);
+    let mut starter = starter_of(rt, alloc, row);
     let status = run(
         alloc,
         words.as_slice(),
@@ -214,12 +218,12 @@ fn end_of(alloc: Global, row: &Check) -> Result<End, Fail> {
         &mut diag,
         &mut starter,
     );
-    Ok(End {
+    End {
         status,
         out,
         diag,
         starter,
-    })
+    }
 }
 
 /// What the link was sent that came back, None where none or several did.
@@ -231,10 +235,10 @@ fn sent_by(starter: &MemoryStarter) -> Option<&[u8]> {
 }
 
 #[test]
-fn checks_end_as_they_should(rt: HostRuntime) -> Result<(), Fail> {
+fn checks_end_as_they_should(rt: HostRuntime) {
     let alloc = rt.alloc();
     for row in CHECKS {
-        let end = end_of(alloc, row)?;
+        let end = end_of(&rt, alloc, row);
         assert!(rt; end.status == row.status, "{} {}", row.status, row.said);
         assert!(rt;
             end.out.bytes() == row.put.as_bytes(),
@@ -255,17 +259,15 @@ fn checks_end_as_they_should(rt: HostRuntime) -> Result<(), Fail> {
             row.said
         );
     }
-    Ok(())
 }
 
 #[test]
-fn a_solver_is_started_as_it_is_named(rt: HostRuntime) -> Result<(), Fail> {
-    let end = end_of(rt.alloc(), &UNSAT)?;
+fn a_solver_is_started_as_it_is_named(rt: HostRuntime) {
+    let end = end_of(&rt, rt.alloc(), &UNSAT);
     let [solver] = end.starter.commands() else {
-        return Err(Fail::new("not one solver was started"));
+        panic!(rt; "not one solver was started");
     };
     assert_eq!(rt; solver.program.as_str(), "cvc5");
     let args = solver.args.items();
     assert!(rt; args.len() == 2 && args[0].as_str() == "--lang" && args[1].as_str() == "smt");
-    Ok(())
 }

@@ -3,27 +3,28 @@
 ghost use Rattle.std.specs.Prelude.{◌≡◌};
 ghost use Rattle.smt_meaning.specs.TypeValues.{is_code_point};
 
+use crate::AMPLE;
 use crate::runs::SCRIPT;
 use smt_encode::{EncodeError, Encoder, SMT_LIB_MAX_CODE_POINT};
 use smt_script::MemorySink;
-use smt_term::{EnumTable, Op, Term, TermError, TermList, TermType, TermVar, Text};
+use smt_term::{EnumTable, Op, Term, TermList, TermType, TermVar, Text};
 use std::alloc::Global;
-use std::test::Fail;
+use std::process::Abort;
 
 /// How many bytes the declaration of the datatype `Option` has, with which each script begins.
 const OPTION_LENGTH: usize = 65;
 
 /// The term `not b`, whose script is `SCRIPT`.
-fn negation(alloc: Global) -> Result<Term, TermError> {
+fn negation(rt: &impl Abort, alloc: Global) -> Term {
     let b = Term::from(TermVar {
-        id: Text::from_str(alloc, "b")?,
+        id: Text::from_str(alloc, "b").expect(rt, AMPLE),
         ty: TermType::Bool,
     });
-    Ok(Term::App {
+    Term::App {
         op: Op::Not,
-        args: TermList::new(alloc, &[b])?,
+        args: TermList::new(alloc, &[b]).expect(rt, AMPLE),
         ret_ty: TermType::Bool,
-    })
+    }
 }
 
 /// A sink that fails at these puts, with the script of these terms. On an error the encoder is let go with it.
@@ -41,35 +42,34 @@ fn encode_to(alloc: Global, sink: &mut MemorySink, terms: &[Term]) -> Result<(),
 }
 
 #[test]
-fn an_encoder_is_let_go_at_an_error(rt: HostRuntime) -> Result<(), Fail> {
+fn an_encoder_is_let_go_at_an_error(rt: HostRuntime) {
     let alloc = rt.alloc();
-    let terms = [negation(alloc)?];
-    let sink = encoded(alloc, &[], &terms)?;
+    let terms = [negation(&rt, alloc)];
+    let sink = encoded(alloc, &[], &terms).expect(&rt, "the script is put");
     assert!(rt; sink.bytes() == SCRIPT.as_bytes());
     let failed = encoded(alloc, &[3], &terms);
     assert!(rt; failed.is_err_and(|error| error == EncodeError::Io));
-    let mut sink = MemorySink::new(alloc, &[], 200)?;
-    encode_to(alloc, &mut sink, &terms)?;
+    let mut sink = MemorySink::new(alloc, &[], 200).expect(&rt, AMPLE);
+    encode_to(alloc, &mut sink, &terms).expect(&rt, "the script is put");
     assert!(rt; sink.bytes() == SCRIPT.as_bytes());
-    Ok(())
 }
 
 /// Whether an encoder whose sink fails at the third put says so, is spent, and has put some of the script.
-fn is_spent_by_its_sink(alloc: Global) -> Result<bool, Fail> {
-    let terms = [negation(alloc)?];
+fn is_spent_by_its_sink(rt: &impl Abort, alloc: Global) -> bool {
+    let terms = [negation(rt, alloc)];
     let enums = EnumTable::new(alloc);
-    let mut encoder = Encoder::new(alloc, &enums, MemorySink::new(alloc, &[3], 200)?);
+    let sink = MemorySink::new(alloc, &[3], 200).expect(rt, AMPLE);
+    let mut encoder = Encoder::new(alloc, &enums, sink);
     let failed = encoder.encode(&terms) == Err(EncodeError::Io);
     let spent = encoder.encode(&terms) == Err(EncodeError::Spent);
     let sink = encoder.into_script();
     let begun = sink.bytes().len() < OPTION_LENGTH && SCRIPT.as_bytes().starts_with(sink.bytes());
-    Ok(failed && spent && begun)
+    failed && spent && begun
 }
 
 #[test]
-fn a_failing_sink_spends_the_encoder(rt: HostRuntime) -> Result<(), Fail> {
-    assert!(rt; is_spent_by_its_sink(rt.alloc())?);
-    Ok(())
+fn a_failing_sink_spends_the_encoder(rt: HostRuntime) {
+    assert!(rt; is_spent_by_its_sink(&rt, rt.alloc()));
 }
 
 /// Whether a character is not above the constant: this is proved to be the rule by which strings are refused.

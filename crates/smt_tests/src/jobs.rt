@@ -1,63 +1,65 @@
 // What is read of jobs: their variables and their terms in order, and how long they may be.
+use crate::AMPLE;
 use smt_bits::EIGHT;
 use smt_cli::{Job, JobError, read_job};
 use smt_term::{Term, TermType, TermVar};
 use std::alloc::Global;
-use std::test::Fail;
+use std::process::Abort;
 
 /// The most bytes that a job may have.
 const GREATEST_JOB: usize = 16_777_216;
 
 /// The job of these terms, over a truth value `b` and 8 bits `x`.
-fn job_of(alloc: Global, terms: &str) -> Result<Job, Fail> {
+fn job_of(rt: &impl Abort, alloc: Global, terms: &str) -> Job {
     let text = format!(in alloc;
         "(job (enums) (vars (\"b\" Bool) (\"x\" (BitVec 8))) (funs) (terms {terms}))"
-    )?;
-    Ok(read_job(alloc, text.as_bytes())?)
+    );
+    let text = text.expect(rt, AMPLE);
+    read_job(alloc, text.as_bytes()).expect(rt, "the text is a job")
 }
 
+/// Whether a variable has this name and this type.
 fn is_variable(variable: &TermVar, id: &str, ty: &TermType) -> bool {
     variable.id.as_str() == id && variable.ty == *ty
 }
 
 /// Whether both variables are declared, in this order.
-fn declares_both(alloc: Global) -> Result<bool, Fail> {
-    let job = job_of(alloc, "")?;
+fn declares_both(rt: &impl Abort, alloc: Global) -> bool {
+    let job = job_of(rt, alloc, "");
     match job.vars.items() {
-        [b, x] => Ok(
+        [b, x] => {
             job.vars.len() == 2
                 && is_variable(b, "b", &TermType::Bool)
-                && is_variable(x, "x", &TermType::Bitvec { n: EIGHT }),
-        ),
-        _ => Ok(false),
+                && is_variable(x, "x", &TermType::Bitvec { n: EIGHT })
+        }
+        _ => false,
     }
 }
 
 #[test]
-fn variables_are_in_order(rt: HostRuntime) -> Result<(), Fail> {
-    assert!(rt; declares_both(rt.alloc())?);
-    Ok(())
+fn variables_are_in_order(rt: HostRuntime) {
+    assert!(rt; declares_both(&rt, rt.alloc()));
 }
 
+/// Whether a term is the constant `false`.
 fn is_false(term: &Term) -> bool {
     *term == Term::from(false)
 }
 
 /// Whether the terms of a job stand as they are written.
-fn terms_stand_in_order(alloc: Global) -> Result<bool, Fail> {
-    let job = job_of(alloc, "false (var \"b\") false")?;
+fn terms_stand_in_order(rt: &impl Abort, alloc: Global) -> bool {
+    let job = job_of(rt, alloc, "false (var \"b\") false");
     match job.terms.items() {
         [first, Term::Var(second), third] => {
-            Ok(is_false(first) && is_variable(second, "b", &TermType::Bool) && is_false(third))
+            is_false(first) && is_variable(second, "b", &TermType::Bool) && is_false(third)
         }
-        _ => Ok(false),
+        _ => false,
     }
 }
 
 #[test]
-fn terms_are_in_order(rt: HostRuntime) -> Result<(), Fail> {
-    assert!(rt; terms_stand_in_order(rt.alloc())?);
-    Ok(())
+fn terms_are_in_order(rt: HostRuntime) {
+    assert!(rt; terms_stand_in_order(&rt, rt.alloc()));
 }
 
 /// Why the bytes are no job, None where they are one.
@@ -74,24 +76,23 @@ fn is_unreadable(refusal: Option<JobError>) -> bool {
 }
 
 #[test]
-fn long_jobs_are_too_large(rt: HostRuntime) -> Result<(), Fail> {
-    let bytes = vec![in rt.alloc(); b' '; GREATEST_JOB + 1]?;
+fn long_jobs_are_too_large(rt: HostRuntime) {
+    let bytes = vec![in rt.alloc(); b' '; GREATEST_JOB + 1].expect(&rt, AMPLE);
     assert_eq!(rt;
         refusal_of(rt.alloc(), bytes.as_slice()),
         Some(JobError::TooLarge)
     );
     assert!(rt; is_unreadable(refusal_of(rt.alloc(), &bytes.as_slice()[1..])));
-    Ok(())
 }
 
 /// How many variables, functions and terms a job has, or why the text is none.
-fn outcome(alloc: Global, text: &str) -> Result<String, Fail> {
+fn outcome(rt: &impl Abort, alloc: Global, text: &str) -> String {
     match read_job(alloc, text.as_bytes()) {
         Ok(job) => {
             let (vars, funs, terms) = (job.vars.len(), job.funs.len(), job.terms.len());
-            Ok(format!(in alloc; "{vars} {funs} {terms}")?)
+            format!(in alloc; "{vars} {funs} {terms}").expect(rt, AMPLE)
         }
-        Err(error) => Ok(format!(in alloc; "{error}")?),
+        Err(error) => format!(in alloc; "{error}").expect(rt, AMPLE),
     }
 }
 
@@ -197,10 +198,9 @@ const OUTCOMES: &[(&str, &str)] = &[
 ];
 
 #[test]
-fn the_first_fault_is_named(rt: HostRuntime) -> Result<(), Fail> {
+fn the_first_fault_is_named(rt: HostRuntime) {
     for &(text, wanted) in OUTCOMES {
-        let found = outcome(rt.alloc(), text)?;
+        let found = outcome(&rt, rt.alloc(), text);
         assert!(rt; found.as_str() == wanted, "{text} gives {found}");
     }
-    Ok(())
 }

@@ -12,3 +12,7 @@ mod jobs;
 mod runs;
 #[cfg(test)]
 mod sources;
+
+/// Why a test stops where a call gives nothing.
+#[cfg(test)]
+pub(crate) const AMPLE: &str = "there is memory for the test";

@@ -1,11 +1,12 @@
 // Whole runs of the program where no job shows how they end: words, sources and sinks that fail, and the greatest job.
+use crate::AMPLE;
 use smt_cli::{EncodeRefusal, MemorySource, Refusal, SessionFault, Source, run};
 use smt_script::{BufferedSink, ListSink, MemorySink};
-use smt_solve::{LinkList, MemoryStarter, StartError};
+use smt_solve::{LinkList, MemoryStarter};
 use smt_term::Text;
-use std::alloc::{AllocError, Global};
+use std::alloc::Global;
 use std::io::{self, BufWriter, Write};
-use std::test::Fail;
+use std::process::Abort;
 
 /// The job of `not b`.
 const NOT_B: &str = "(job (enums) (vars (\"b\" Bool)) (funs) (terms (not (var \"b\"))))";
@@ -71,37 +72,39 @@ const ENDS: &[Row] = &[
 ];
 
 /// A starter that has no solver.
-fn no_solver(alloc: Global) -> Result<MemoryStarter, StartError> {
-    MemoryStarter::new(alloc, LinkList::new(alloc), &[])
+fn no_solver(rt: &impl Abort, alloc: Global) -> MemoryStarter {
+    MemoryStarter::new(alloc, LinkList::new(alloc), &[]).expect(rt, AMPLE)
 }
 
-pub fn texts(alloc: Global, items: &[&str]) -> Result<Vec<Text>, AllocError> {
+/// The texts of these strings.
+pub fn texts(rt: &impl Abort, alloc: Global, items: &[&str]) -> Vec<Text> {
     let mut texts = Vec::new(alloc);
     for item in items {
-        texts.push(Text::from_str(alloc, item)?)?;
+        let text = Text::from_str(alloc, item).expect(rt, AMPLE);
+        texts.push(text).expect(rt, AMPLE);
     }
-    Ok(texts)
+    texts
 }
 
 /// The status of a row's run, with what it put to `out` and said on diag. The numbers are those of the puts to diag that fail.
-fn end_of(alloc: Global, row: &Row, fails: &[u64]) -> Result<(u8, Vec<u8>, Vec<u8>), Fail> {
-    let words = texts(alloc, &[row.0])?;
-    let mut source = MemorySource::new(alloc, row.1.as_bytes(), &[row.2])?;
-    let mut out = MemorySink::new(alloc, &[row.3], row.4)?;
-    let mut diag = MemorySink::new(alloc, fails, 100)?;
+fn end_of(rt: &impl Abort, alloc: Global, row: &Row, fails: &[u64]) -> (u8, Vec<u8>, Vec<u8>) {
+    let words = texts(rt, alloc, &[row.0]);
+    let mut source = MemorySource::new(alloc, row.1.as_bytes(), &[row.2]).expect(rt, AMPLE);
+    let mut out = MemorySink::new(alloc, &[row.3], row.4).expect(rt, AMPLE);
+    let mut diag = MemorySink::new(alloc, fails, 100).expect(rt, AMPLE);
     let status = run(
         alloc,
         words.as_slice(),
         &mut source,
         &mut out,
         &mut diag,
-        &mut no_solver(alloc)?,
+        &mut no_solver(rt, alloc),
     );
-    Ok((
+    (
         status,
-        out.bytes().to_vec(alloc)?,
-        diag.bytes().to_vec(alloc)?,
-    ))
+        out.bytes().to_vec(alloc).expect(rt, AMPLE),
+        diag.bytes().to_vec(alloc).expect(rt, AMPLE),
+    )
 }
 
 /// Whether `out` has all where the run is done, not all where the sink failed, and else nothing.
@@ -114,9 +117,9 @@ fn is_put(status: u8, out: &[u8], whole: &[u8]) -> bool {
 }
 
 #[test]
-fn runs_end_as_they_should(rt: HostRuntime) -> Result<(), Fail> {
+fn runs_end_as_they_should(rt: HostRuntime) {
     for row in ENDS {
-        let (status, out, said) = end_of(rt.alloc(), row, &[])?;
+        let (status, out, said) = end_of(&rt, rt.alloc(), row, &[]);
         assert_eq!(rt; status, row.6, "{} {}", row.0, row.7);
         assert!(rt; said.as_slice() == row.7.as_bytes(), "{} {}", row.0, row.7);
         assert!(rt;
@@ -126,16 +129,14 @@ fn runs_end_as_they_should(rt: HostRuntime) -> Result<(), Fail> {
             row.7
         );
     }
-    Ok(())
 }
 
 #[test]
-fn a_failing_diag_changes_no_status(rt: HostRuntime) -> Result<(), Fail> {
+fn a_failing_diag_changes_no_status(rt: HostRuntime) {
     for row in ENDS {
-        let (status, _, said) = end_of(rt.alloc(), row, &[1])?;
+        let (status, _, said) = end_of(&rt, rt.alloc(), row, &[1]);
         assert!(rt; status == row.6 && said.is_empty(), "{} {}", row.0, row.7);
     }
-    Ok(())
 }
 
 /// Takes all bytes, and fails at each flush.
@@ -157,14 +158,16 @@ impl Write for StuckWriter {
 
 /// The status of a run whose `out` holds bytes back for this writer, and what it said on diag.
 fn run_held(
+    rt: &impl Abort,
     alloc: Global,
     word: &str,
     bytes: &str,
     writer: &mut StuckWriter,
-) -> Result<(u8, Vec<u8>), Fail> {
-    let words = texts(alloc, &[word])?;
-    let mut source = MemorySource::new(alloc, bytes.as_bytes(), &[])?;
-    let mut out = BufferedSink::new(BufWriter::with_capacity(alloc, 4096, writer)?);
+) -> (u8, Vec<u8>) {
+    let words = texts(rt, alloc, &[word]);
+    let mut source = MemorySource::new(alloc, bytes.as_bytes(), &[]).expect(rt, AMPLE);
+    let held = BufWriter::with_capacity(alloc, 4096, writer).expect(rt, AMPLE);
+    let mut out = BufferedSink::new(held);
     let mut diag = ListSink::new(alloc);
     let status = run(
         alloc,
@@ -172,13 +175,13 @@ fn run_held(
         &mut source,
         &mut out,
         &mut diag,
-        &mut no_solver(alloc)?,
+        &mut no_solver(rt, alloc),
     );
-    Ok((status, diag.bytes().to_vec(alloc)?))
+    (status, diag.bytes().to_vec(alloc).expect(rt, AMPLE))
 }
 
 #[test]
-fn a_failing_flush_is_a_sink_fault(rt: HostRuntime) -> Result<(), Fail> {
+fn a_failing_flush_is_a_sink_fault(rt: HostRuntime) {
     let alloc = rt.alloc();
     for (word, bytes, put, status, line) in [
         ("script", NOT_B, SCRIPT, 6, "sink fault\n"),
@@ -190,23 +193,23 @@ fn a_failing_flush_is_a_sink_fault(rt: HostRuntime) -> Result<(), Fail> {
         let mut writer = StuckWriter {
             bytes: Vec::new(alloc),
         };
-        let (ended, said) = run_held(alloc, word, bytes, &mut writer)?;
+        let (ended, said) = run_held(&rt, alloc, word, bytes, &mut writer);
         assert!(rt;
             ended == status && said.as_slice() == line.as_bytes(),
             "{word} {line}"
         );
         assert_eq!(rt; writer.bytes.as_slice(), put.as_bytes());
     }
-    Ok(())
 }
 
 /// The status of a run over these words and this source, and the bytes that it put to out and to diag.
 fn run_from(
+    rt: &impl Abort,
     alloc: Global,
     words: &[&str],
     source: &mut MemorySource,
-) -> Result<(u8, Vec<u8>, Vec<u8>), Fail> {
-    let words = texts(alloc, words)?;
+) -> (u8, Vec<u8>, Vec<u8>) {
+    let words = texts(rt, alloc, words);
     let mut out = ListSink::new(alloc);
     let mut diag = ListSink::new(alloc);
     let status = run(
@@ -215,13 +218,13 @@ fn run_from(
         source,
         &mut out,
         &mut diag,
-        &mut no_solver(alloc)?,
+        &mut no_solver(rt, alloc),
     );
-    Ok((
+    (
         status,
-        out.bytes().to_vec(alloc)?,
-        diag.bytes().to_vec(alloc)?,
-    ))
+        out.bytes().to_vec(alloc).expect(rt, AMPLE),
+        diag.bytes().to_vec(alloc).expect(rt, AMPLE),
+    )
 }
 
 const REFUSED_WORDS: &[&[&str]] = &[
@@ -242,11 +245,11 @@ const REFUSED_WORDS: &[&[&str]] = &[
 ];
 
 #[test]
-fn refused_words_read_nothing(rt: HostRuntime) -> Result<(), Fail> {
+fn refused_words_read_nothing(rt: HostRuntime) {
     let alloc = rt.alloc();
     for &words in REFUSED_WORDS {
-        let mut source = MemorySource::new(alloc, NOT_B.as_bytes(), &[])?;
-        let (status, out, diag) = run_from(alloc, words, &mut source)?;
+        let mut source = MemorySource::new(alloc, NOT_B.as_bytes(), &[]).expect(&rt, AMPLE);
+        let (status, out, diag) = run_from(&rt, alloc, words, &mut source);
         let refused = status == 2 && out.is_empty() && diag.as_slice() == USAGE.as_bytes();
         assert!(rt; refused, "{words:?}");
         // The first read is still to come, and gives the first bytes.
@@ -256,7 +259,6 @@ fn refused_words_read_nothing(rt: HostRuntime) -> Result<(), Fail> {
             "{words:?}"
         );
     }
-    Ok(())
 }
 
 /// What a run prints of a generated job of nine terms, and of one of a single term.
@@ -285,15 +287,14 @@ const GENERATED: &[(&str, &str, &str)] = &[
 ];
 
 #[test]
-fn generated_jobs_are_summarized(rt: HostRuntime) -> Result<(), Fail> {
+fn generated_jobs_are_summarized(rt: HostRuntime) {
     let alloc = rt.alloc();
     for &(seed, count, lines) in GENERATED {
-        let mut source = MemorySource::new(alloc, NOT_B.as_bytes(), &[])?;
-        let (status, out, diag) = run_from(alloc, &["gen", seed, count], &mut source)?;
+        let mut source = MemorySource::new(alloc, NOT_B.as_bytes(), &[]).expect(&rt, AMPLE);
+        let (status, out, diag) = run_from(&rt, alloc, &["gen", seed, count], &mut source);
         let printed = status == 0 && out.as_slice() == lines.as_bytes() && diag.is_empty();
         assert!(rt; printed, "{seed} {count}");
     }
-    Ok(())
 }
 
 /// These refusals come of no job yet, so they are looked at by themselves.
@@ -324,24 +325,20 @@ fn refusals_have_a_status_and_a_line(rt: HostRuntime) {
 }
 
 /// The status of a run on these bytes, and the bytes that it put to out and to diag.
-fn run_on(alloc: Global, bytes: &[u8]) -> Result<(u8, Vec<u8>, Vec<u8>), Fail> {
-    run_from(
-        alloc,
-        &["script"],
-        &mut MemorySource::new(alloc, bytes, &[])?,
-    )
+fn run_on(rt: &impl Abort, alloc: Global, bytes: &[u8]) -> (u8, Vec<u8>, Vec<u8>) {
+    let mut source = MemorySource::new(alloc, bytes, &[]).expect(rt, AMPLE);
+    run_from(rt, alloc, &["script"], &mut source)
 }
 
 #[test]
-fn length_has_a_limit(rt: HostRuntime) -> Result<(), Fail> {
+fn length_has_a_limit(rt: HostRuntime) {
     let alloc = rt.alloc();
-    let mut job = NOT_B.as_bytes().to_vec(alloc)?;
-    job.resize(16_777_216, b' ')?;
-    let (status, out, diag) = run_on(alloc, job.as_slice())?;
+    let mut job = NOT_B.as_bytes().to_vec(alloc).expect(&rt, AMPLE);
+    job.resize(16_777_216, b' ').expect(&rt, AMPLE);
+    let (status, out, diag) = run_on(&rt, alloc, job.as_slice());
     assert!(rt; status == 0 && out.as_slice() == SCRIPT.as_bytes() && diag.is_empty());
-    job.push(b' ')?;
-    let (status, out, diag) = run_on(alloc, job.as_slice())?;
+    job.push(b' ').expect(&rt, AMPLE);
+    let (status, out, diag) = run_on(&rt, alloc, job.as_slice());
     let line = b"job refused: TooLarge\n".as_slice();
     assert!(rt; status == 3 && out.is_empty() && diag.as_slice() == line);
-    Ok(())
 }

@@ -1,14 +1,14 @@
 // Sources, and whole inputs that are read of them.
 ghost use Rattle.std.specs.Prelude.{◌≡◌, ◌≤◌, length, MatchResult};
 
+use crate::AMPLE;
 use smt_cli::{InputError, MemorySource, ReadSource, Source, SourceFault, read_input};
 use std::alloc::Global;
 use std::io::{self, Read};
-use std::test::Fail;
 
 #[test]
-fn memory_is_read_in_pieces(rt: HostRuntime) -> Result<(), Fail> {
-    let mut source = MemorySource::new(rt.alloc(), b"abcde", &[2])?;
+fn memory_is_read_in_pieces(rt: HostRuntime) {
+    let mut source = MemorySource::new(rt.alloc(), b"abcde", &[2]).expect(&rt, AMPLE);
     let mut buffer = *b"....";
     assert_eq!(rt; source.read(&mut buffer), Ok(4));
     assert_eq!(rt; buffer, *b"abcd");
@@ -17,7 +17,6 @@ fn memory_is_read_in_pieces(rt: HostRuntime) -> Result<(), Fail> {
     assert_eq!(rt; (&mut source).read(&mut buffer), Ok(1));
     assert_eq!(rt; buffer, *b"ebcd");
     assert_eq!(rt; source.read(&mut buffer), Ok(0));
-    Ok(())
 }
 
 /// Gives what it has, three bytes a read, and then fails.
@@ -39,13 +38,11 @@ impl Read for BrokenReader {
 }
 
 #[test]
-fn readers_are_read(rt: HostRuntime) -> Result<(), Fail> {
+fn readers_are_read(rt: HostRuntime) {
     let alloc = rt.alloc();
     let mut whole = ReadSource::new(b"abcd".as_slice());
-    assert_eq!(rt;
-        read_input(alloc, &mut whole, 4)?.as_slice(),
-        b"abcd".as_slice()
-    );
+    let read = read_input(alloc, &mut whole, 4).expect(&rt, "an input of four bytes is read");
+    assert_eq!(rt; read.as_slice(), b"abcd".as_slice());
     let mut long = ReadSource::new(b"abcde".as_slice());
     assert_eq!(rt;
         read_input(alloc, &mut long, 4).err(),
@@ -56,7 +53,6 @@ fn readers_are_read(rt: HostRuntime) -> Result<(), Fail> {
         read_input(alloc, &mut broken, 4).err(),
         Some(InputError::Fault)
     );
-    Ok(())
 }
 
 /// From memory an input that is not too large is read whole, but for want of memory.
@@ -72,19 +68,19 @@ fn read_memory(alloc: Global, bytes: &[u8], greatest: usize) -> Result<Vec<u8>, 
 }
 
 #[test]
-fn inputs_of_many_pieces(rt: HostRuntime) -> Result<(), Fail> {
+fn inputs_of_many_pieces(rt: HostRuntime) {
     let alloc = rt.alloc();
-    let bytes = vec![in alloc; 7u8; 200_000]?;
-    assert!(rt; read_memory(alloc, bytes.as_slice(), bytes.len())? == bytes);
-    let mut long = MemorySource::new(alloc, bytes.as_slice(), &[])?;
+    let bytes = vec![in alloc; 7u8; 200_000].expect(&rt, AMPLE);
+    let read = read_memory(alloc, bytes.as_slice(), bytes.len()).expect(&rt, AMPLE);
+    assert!(rt; read == bytes);
+    let mut long = MemorySource::new(alloc, bytes.as_slice(), &[]).expect(&rt, AMPLE);
     assert_eq!(rt;
         read_input(alloc, &mut long, 199_999).err(),
         Some(InputError::TooLarge)
     );
-    let mut failing = MemorySource::new(alloc, bytes.as_slice(), &[3])?;
+    let mut failing = MemorySource::new(alloc, bytes.as_slice(), &[3]).expect(&rt, AMPLE);
     assert_eq!(rt;
         read_input(alloc, &mut &mut failing, 200_000).err(),
         Some(InputError::Fault)
     );
-    Ok(())
 }

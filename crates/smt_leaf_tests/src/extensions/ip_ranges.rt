@@ -6,27 +6,38 @@ use smt_ext::{
     loop_back_cidr_v4, loop_back_cidr_v6, multicast_cidr_v4, multicast_cidr_v6,
 };
 use std::alloc::{AllocError, Global};
-use std::test::Fail;
+use std::process::Abort;
 
+/// The bits of a prefix of this length, or of that of all bits.
 fn prefix(width: Width, number: Option<u128>) -> Option<BitVec> {
     number.map(|number| BitVec::of_nat(width, number))
 }
 
+/// The address of these bits.
+fn v4_address(rt: &impl Abort, bits: BitVec) -> IPv4Addr {
+    IPv4Addr::try_from_bitvec(bits).expect(rt, "32 bits")
+}
+
+/// The prefix of these bits, or that of all bits.
+fn v4_prefix(rt: &impl Abort, bits: Option<BitVec>) -> IPv4Prefix {
+    IPv4Prefix::try_from_bitvec(bits).expect(rt, "5 bits")
+}
+
 /// The range of IPv4 of this address and so many bits, or all.
-pub(super) fn v4(address: u128, bits: Option<u128>) -> Option<IPNet> {
-    Some(IPNet::V4(CIDRv4 {
-        addr: IPv4Addr::try_from_bitvec(BitVec::of_nat(THIRTY_TWO, address))?,
-        prefix: IPv4Prefix::try_from_bitvec(prefix(FIVE, bits))?,
-    }))
+pub(super) fn v4(rt: &impl Abort, address: u128, bits: Option<u128>) -> IPNet {
+    IPNet::V4(CIDRv4 {
+        addr: v4_address(rt, BitVec::of_nat(THIRTY_TWO, address)),
+        prefix: v4_prefix(rt, prefix(FIVE, bits)),
+    })
 }
 
 /// Whether the text is read as this range.
-fn is_range(alloc: Global, net: IPNet, text: &str) -> Result<bool, IPError> {
-    Ok(IPNet::parse(alloc, text)? == net)
+fn is_range(rt: &impl Abort, alloc: Global, net: IPNet, text: &str) -> bool {
+    IPNet::parse(alloc, text).expect(rt, "the text of a range") == net
 }
 
 #[test]
-fn ranges_have_texts(rt: HostRuntime) -> Result<(), Fail> {
+fn ranges_have_texts(rt: HostRuntime) {
     for &(net, text) in &[
         (IPNet::default(), "0.0.0.0"),
         (loop_back_cidr_v4(), "127.0.0.0/8"),
@@ -34,29 +45,32 @@ fn ranges_have_texts(rt: HostRuntime) -> Result<(), Fail> {
         (multicast_cidr_v4(), "224.0.0.0/4"),
         (multicast_cidr_v6(), "ff00::/8"),
     ] {
-        assert!(rt; is_range(rt.alloc(), net, text)?, "{text}");
+        assert!(rt; is_range(&rt, rt.alloc(), net, text), "{text}");
     }
-    Ok(())
 }
 
-fn v4_address_holds(bits: BitVec) -> Result<bool, Fail> {
-    let addr = IPv4Addr::try_from_bitvec(bits).ok_or("32 bits")?;
-    Ok(*addr.as_bitvec() == bits && addr.into_bitvec() == bits)
+/// Whether an address of IPv4 holds its bits.
+fn v4_address_holds(rt: &impl Abort, bits: BitVec) -> bool {
+    let addr = v4_address(rt, bits);
+    *addr.as_bitvec() == bits && addr.into_bitvec() == bits
 }
 
-fn v6_address_holds(bits: BitVec) -> Result<bool, Fail> {
-    let addr = IPv6Addr::try_from_bitvec(bits).ok_or("128 bits")?;
-    Ok(*addr.as_bitvec() == bits && addr.into_bitvec() == bits)
+/// Whether an address of IPv6 holds its bits.
+fn v6_address_holds(rt: &impl Abort, bits: BitVec) -> bool {
+    let addr = IPv6Addr::try_from_bitvec(bits).expect(rt, "128 bits");
+    *addr.as_bitvec() == bits && addr.into_bitvec() == bits
 }
 
-fn v4_prefix_holds(bits: Option<BitVec>) -> Result<bool, Fail> {
-    let prefix = IPv4Prefix::try_from_bitvec(bits).ok_or("5 bits")?;
-    Ok(prefix.as_bitvec().copied() == bits && prefix.into_bitvec() == bits)
+/// Whether a prefix of IPv4 holds its bits.
+fn v4_prefix_holds(rt: &impl Abort, bits: Option<BitVec>) -> bool {
+    let prefix = v4_prefix(rt, bits);
+    prefix.as_bitvec().copied() == bits && prefix.into_bitvec() == bits
 }
 
-fn v6_prefix_holds(bits: Option<BitVec>) -> Result<bool, Fail> {
-    let prefix = IPv6Prefix::try_from_bitvec(bits).ok_or("7 bits")?;
-    Ok(prefix.as_bitvec().copied() == bits && prefix.into_bitvec() == bits)
+/// Whether a prefix of IPv6 holds its bits.
+fn v6_prefix_holds(rt: &impl Abort, bits: Option<BitVec>) -> bool {
+    let prefix = IPv6Prefix::try_from_bitvec(bits).expect(rt, "7 bits");
+    prefix.as_bitvec().copied() == bits && prefix.into_bitvec() == bits
 }
 
 /// Prefixes of bits come before that of all bits.
@@ -66,7 +80,7 @@ fn prefixes_are_ordered(five: BitVec, seven: BitVec) -> bool {
 }
 
 #[test]
-fn parts_of_ranges(rt: HostRuntime) -> Result<(), Fail> {
+fn parts_of_ranges(rt: HostRuntime) {
     let five = BitVec::of_nat(FIVE, 24);
     let seven = BitVec::of_nat(SEVEN, 24);
     let short = BitVec::of_nat(THIRTY_TWO, 9);
@@ -75,16 +89,15 @@ fn parts_of_ranges(rt: HostRuntime) -> Result<(), Fail> {
     assert!(rt; IPv6Addr::try_from_bitvec(short).is_none());
     assert!(rt; IPv4Prefix::try_from_bitvec(Some(seven)).is_none());
     assert!(rt; IPv6Prefix::try_from_bitvec(Some(five)).is_none());
-    assert!(rt; v4_address_holds(short)?);
-    assert!(rt; v6_address_holds(long)?);
+    assert!(rt; v4_address_holds(&rt, short));
+    assert!(rt; v6_address_holds(&rt, long));
     for &bits in &[None, Some(five)] {
-        assert!(rt; v4_prefix_holds(bits)?);
+        assert!(rt; v4_prefix_holds(&rt, bits));
     }
     for &bits in &[None, Some(seven)] {
-        assert!(rt; v6_prefix_holds(bits)?);
+        assert!(rt; v6_prefix_holds(&rt, bits));
     }
     assert!(rt; prefixes_are_ordered(five, seven));
     let refused = IPError::from(BitVecError::WidthTooLarge);
     assert_eq!(rt; refused, IPError::BitVecError(BitVecError::WidthTooLarge));
-    Ok(())
 }

@@ -1,11 +1,12 @@
 //! The readers of values of all four types, each on a text that it takes and on one that it refuses.
 
 use super::ip_ranges::v4;
+use crate::AMPLE;
 use smt_ext::{
     Datetime, DatetimeError, Decimal, DecimalError, Duration, Ext, ExtParseError, IPError, Text,
 };
-use std::alloc::{AllocError, Global};
-use std::test::Fail;
+use std::alloc::Global;
+use std::process::Abort;
 
 /// Whether a text is read as this value.
 fn is_value(found: Result<Ext, ExtParseError>, want: Ext) -> bool {
@@ -17,24 +18,25 @@ fn is_refused(found: Result<Ext, ExtParseError>, refusal: ExtParseError) -> bool
     found == Err(refusal)
 }
 
-fn decimal_is_refused(alloc: Global, text: &str) -> Result<bool, AllocError> {
-    let refusal = DecimalError::ParseError(Text::from_str(alloc, text)?);
+/// Whether a text is refused as that of a decimal.
+fn decimal_is_refused(rt: &impl Abort, alloc: Global, text: &str) -> bool {
+    let refusal = DecimalError::ParseError(Text::from_str(alloc, text).expect(rt, AMPLE));
     let found = Ext::parse_decimal(alloc, text);
-    Ok(is_refused(found, ExtParseError::DecimalError(refusal)))
+    is_refused(found, ExtParseError::DecimalError(refusal))
 }
 
 #[test]
-fn a_decimal_is_read_as_a_value(rt: HostRuntime) -> Result<(), Fail> {
+fn a_decimal_is_read_as_a_value(rt: HostRuntime) {
     let want = Ext::Decimal {
         d: Decimal {
             ten_thousandths: -120340,
         },
     };
     assert!(rt; is_value(Ext::parse_decimal(rt.alloc(), "-12.034"), want));
-    assert!(rt; decimal_is_refused(rt.alloc(), "12")?);
-    Ok(())
+    assert!(rt; decimal_is_refused(&rt, rt.alloc(), "12"));
 }
 
+/// Whether a text is refused as that of a datetime, with this error.
 fn datetime_is_refused(alloc: Global, text: &str, refusal: DatetimeError) -> bool {
     let found = Ext::parse_datetime(alloc, text);
     is_refused(found, ExtParseError::DatetimeError(refusal))
@@ -51,33 +53,33 @@ fn a_datetime_is_read_as_a_value(rt: HostRuntime) {
     assert!(rt; datetime_is_refused(rt.alloc(), "2023-02-29", refusal));
 }
 
-fn duration_is_refused(alloc: Global, text: &str) -> Result<bool, AllocError> {
-    let refusal = DatetimeError::DatetimeParseError(Text::from_str(alloc, text)?);
+/// Whether a text is refused as that of a duration.
+fn duration_is_refused(rt: &impl Abort, alloc: Global, text: &str) -> bool {
+    let refusal = DatetimeError::DatetimeParseError(Text::from_str(alloc, text).expect(rt, AMPLE));
     let found = Ext::parse_duration(alloc, text);
-    Ok(is_refused(found, ExtParseError::DatetimeError(refusal)))
+    is_refused(found, ExtParseError::DatetimeError(refusal))
 }
 
 #[test]
-fn a_duration_is_read_as_a_value(rt: HostRuntime) -> Result<(), Fail> {
+fn a_duration_is_read_as_a_value(rt: HostRuntime) {
     let want = Ext::Duration {
         d: Duration::from(-93_784_005),
     };
     assert!(rt; is_value(Ext::parse_duration(rt.alloc(), "-1d2h3m4s5ms"), want));
-    assert!(rt; duration_is_refused(rt.alloc(), "1s1d")?);
-    Ok(())
+    assert!(rt; duration_is_refused(&rt, rt.alloc(), "1s1d"));
 }
 
-fn range_is_refused(alloc: Global, text: &str) -> Result<bool, AllocError> {
-    let refusal = IPError::ParseError(Text::from_str(alloc, text)?);
+/// Whether a text is refused as that of an IP range.
+fn range_is_refused(rt: &impl Abort, alloc: Global, text: &str) -> bool {
+    let refusal = IPError::ParseError(Text::from_str(alloc, text).expect(rt, AMPLE));
     let found = Ext::parse_ip(alloc, text);
-    Ok(is_refused(found, ExtParseError::IPError(refusal)))
+    is_refused(found, ExtParseError::IPError(refusal))
 }
 
 #[test]
-fn an_ip_range_is_read_as_a_value(rt: HostRuntime) -> Result<(), Fail> {
-    let ip = v4(167_772_161, Some(8)).ok_or("no range")?;
+fn an_ip_range_is_read_as_a_value(rt: HostRuntime) {
+    let ip = v4(&rt, 167_772_161, Some(8));
     let found = Ext::parse_ip(rt.alloc(), "10.0.0.1/8");
     assert!(rt; is_value(found, Ext::Ipaddr { ip }));
-    assert!(rt; range_is_refused(rt.alloc(), "10.0.0.1/33")?);
-    Ok(())
+    assert!(rt; range_is_refused(&rt, rt.alloc(), "10.0.0.1/33"));
 }

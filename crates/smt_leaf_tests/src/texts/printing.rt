@@ -1,8 +1,9 @@
 //! How expressions are printed.
 
+use crate::AMPLE;
 use smt_sexpr::parse_sexpr;
 use std::alloc::Global;
-use std::test::Fail;
+use std::process::Abort;
 
 // The text of an expression, and what its value prints.
 type Row = (&'static [u8], &'static str);
@@ -35,18 +36,18 @@ const PRINTED: &[Row] = &[
     (b"(((((((((((())))))))))))", "(((((((((((())))))))))))"),
 ];
 
-fn prints_as(alloc: Global, src: &[u8], want: &str) -> Result<bool, Fail> {
+/// Whether a text is that of an expression which prints so.
+fn prints_as(rt: &impl Abort, alloc: Global, src: &[u8], want: &str) -> bool {
     let Ok(expression) = parse_sexpr(alloc, src) else {
-        return Ok(false);
+        return false;
     };
-    let text = format!(in alloc; "{expression}")?;
-    Ok(text.as_str() == want)
+    let text = format!(in alloc; "{expression}").expect(rt, AMPLE);
+    text.as_str() == want
 }
 
 #[test]
-fn prints_expressions(rt: HostRuntime) -> Result<(), Fail> {
+fn prints_expressions(rt: HostRuntime) {
     for &(src, want) in PRINTED {
-        assert!(rt; prints_as(rt.alloc(), src, want)?, "{want}");
+        assert!(rt; prints_as(&rt, rt.alloc(), src, want), "{want}");
     }
-    Ok(())
 }

@@ -1,8 +1,9 @@
 //! Texts between quotes.
 
+use crate::AMPLE;
 use smt_sexpr::quote_string;
 use std::alloc::Global;
-use std::test::Fail;
+use std::process::Abort;
 
 // A text and what stands for it in a script (SMT-LIB 2.7, theory UnicodeStrings).
 const QUOTED: &[(&str, &str)] = &[
@@ -26,23 +27,21 @@ const QUOTED: &[(&str, &str)] = &[
 const NOT_QUOTED: &[&str] = &["\u{30000}", "a\u{30000}", "\u{10ffff}\""];
 
 /// Whether the text is quoted so, or not at all.
-fn is_quoted(alloc: Global, text: &str, want: Option<&str>) -> Result<bool, Fail> {
-    let quoted = quote_string(alloc, text)?;
-    Ok(quoted.as_ref().map(|text| text.as_str()) == want)
+fn is_quoted(rt: &impl Abort, alloc: Global, text: &str, want: Option<&str>) -> bool {
+    let quoted = quote_string(alloc, text).expect(rt, AMPLE);
+    quoted.as_ref().map(|text| text.as_str()) == want
 }
 
 #[test]
-fn quotes_each_character(rt: HostRuntime) -> Result<(), Fail> {
+fn quotes_each_character(rt: HostRuntime) {
     for &(text, want) in QUOTED {
-        assert!(rt; is_quoted(rt.alloc(), text, Some(want))?, "at {text:?}");
+        assert!(rt; is_quoted(&rt, rt.alloc(), text, Some(want)), "at {text:?}");
     }
-    Ok(())
 }
 
 #[test]
-fn quotes_no_character_above_the_theory(rt: HostRuntime) -> Result<(), Fail> {
+fn quotes_no_character_above_the_theory(rt: HostRuntime) {
     for &text in NOT_QUOTED {
-        assert!(rt; is_quoted(rt.alloc(), text, None)?, "at {text:?}");
+        assert!(rt; is_quoted(&rt, rt.alloc(), text, None), "at {text:?}");
     }
-    Ok(())
 }

@@ -1,8 +1,9 @@
 //! Texts that are read part by part, and lists of expressions.
 
+use crate::AMPLE;
 use smt_sexpr::{SExpr, SExprParseError, SExprs, behind_close, behind_open, is_blank, read_next};
 use std::alloc::Global;
-use std::test::Fail;
+use std::process::Abort;
 
 // A text, the depth that is allowed, and the expression at its front and what follows it, as `{:?}` prints them, or why there
 // is none.
@@ -56,62 +57,64 @@ const FRONTS: &[(&str, &str, &str, bool)] = &[
     ("; )", "None", "None", true),
 ];
 
-fn shown_read(alloc: Global, expression: &SExpr, rest: &[u8]) -> Result<String, Fail> {
+/// An expression and what follows it, as `{:?}` prints them.
+fn shown_read(rt: &impl Abort, alloc: Global, expression: &SExpr, rest: &[u8]) -> String {
     let rest = str::from_utf8(rest).unwrap_or("");
-    Ok(format!(in alloc; "({expression:?}, {rest:?})")?)
+    format!(in alloc; "({expression:?}, {rest:?})").expect(rt, AMPLE)
 }
 
-fn shown_fault(alloc: Global, fault: &SExprParseError) -> Result<String, Fail> {
-    Ok(format!(in alloc; "{fault:?}")?)
+/// Why there is no expression, as `{:?}` prints it.
+fn shown_fault(rt: &impl Abort, alloc: Global, fault: &SExprParseError) -> String {
+    format!(in alloc; "{fault:?}").expect(rt, AMPLE)
 }
 
-fn is_read_as(alloc: Global, src: &str, depth: usize, want: &str) -> Result<bool, Fail> {
+/// Whether this is at the front of a text.
+fn is_read_as(rt: &impl Abort, alloc: Global, src: &str, depth: usize, want: &str) -> bool {
     let text = match read_next(alloc, src.as_bytes(), depth) {
-        Ok((expression, rest)) => shown_read(alloc, &expression, rest),
-        Err(fault) => shown_fault(alloc, &fault),
+        Ok((expression, rest)) => shown_read(rt, alloc, &expression, rest),
+        Err(fault) => shown_fault(rt, alloc, &fault),
     };
-    Ok(text?.as_str() == want)
+    text.as_str() == want
 }
 
 #[test]
-fn reads_the_next_expression(rt: HostRuntime) -> Result<(), Fail> {
+fn reads_the_next_expression(rt: HostRuntime) {
     for &(src, depth, want) in READ {
-        assert!(rt; is_read_as(rt.alloc(), src, depth, want)?, "{src}");
+        assert!(rt; is_read_as(&rt, rt.alloc(), src, depth, want), "{src}");
     }
-    Ok(())
 }
 
-fn shown(alloc: Global, rest: Option<&[u8]>) -> Result<String, Fail> {
-    match rest {
+/// What follows a bracket, as `{:?}` prints it.
+fn shown(rt: &impl Abort, alloc: Global, rest: Option<&[u8]>) -> String {
+    let text = match rest {
         Some(rest) => {
             let rest = str::from_utf8(rest).unwrap_or("");
-            Ok(format!(in alloc; "Some({rest:?})")?)
+            format!(in alloc; "Some({rest:?})")
         }
-        None => Ok(format!(in alloc; "None")?),
-    }
+        None => format!(in alloc; "None"),
+    };
+    text.expect(rt, AMPLE)
 }
 
 #[test]
-fn finds_brackets_behind_blanks(rt: HostRuntime) -> Result<(), Fail> {
+fn finds_brackets_behind_blanks(rt: HostRuntime) {
     for &(src, open, close, blank) in FRONTS {
-        let opened = shown(rt.alloc(), behind_open(src.as_bytes()))?;
-        let closed = shown(rt.alloc(), behind_close(src.as_bytes()))?;
+        let opened = shown(&rt, rt.alloc(), behind_open(src.as_bytes()));
+        let closed = shown(&rt, rt.alloc(), behind_close(src.as_bytes()));
         assert!(rt; opened.as_str() == open, "{src}");
         assert!(rt; closed.as_str() == close, "{src}");
         assert!(rt; is_blank(src.as_bytes()) == blank, "{src}");
     }
-    Ok(())
 }
 
 #[test]
-fn pushes_in_order(rt: HostRuntime) -> Result<(), Fail> {
+fn pushes_in_order(rt: HostRuntime) {
     let mut items = SExprs::new(rt.alloc());
-    items.push(SExpr::Numeral(1))?;
-    items.push(SExpr::Numeral(2))?;
+    items.push(SExpr::Numeral(1)).expect(&rt, AMPLE);
+    items.push(SExpr::Numeral(2)).expect(&rt, AMPLE);
     assert_eq!(rt; items.len(), 2);
     assert_eq!(rt;
         items.items(),
         [SExpr::Numeral(1), SExpr::Numeral(2)].as_slice()
     );
-    Ok(())
 }

@@ -1,8 +1,9 @@
 //! What the reader of S-expressions gives of texts, by values from outside.
 
+use crate::AMPLE;
 use smt_sexpr::{IntFault, SExprParseError, parse_sexpr, parse_sexpr_within};
 use std::alloc::Global;
-use std::test::Fail;
+use std::process::Abort;
 
 // A text, and what is read, as `{:?}` prints it.
 type Row = (&'static [u8], &'static str);
@@ -51,47 +52,46 @@ const READ: &[Row] = &[
     ),
 ];
 
-fn reads_as(alloc: Global, src: &[u8], want: &str) -> Result<bool, Fail> {
+/// Whether this is read of a text.
+fn reads_as(rt: &impl Abort, alloc: Global, src: &[u8], want: &str) -> bool {
     let read = parse_sexpr(alloc, src);
-    let text = format!(in alloc; "{read:?}")?;
-    Ok(text.as_str() == want)
+    let text = format!(in alloc; "{read:?}").expect(rt, AMPLE);
+    text.as_str() == want
 }
 
 #[test]
-fn reads_texts(rt: HostRuntime) -> Result<(), Fail> {
+fn reads_texts(rt: HostRuntime) {
     for &(src, want) in READ {
-        assert!(rt; reads_as(rt.alloc(), src, want)?, "{want}");
+        assert!(rt; reads_as(&rt, rt.alloc(), src, want), "{want}");
     }
-    Ok(())
 }
 
-fn literal(alloc: Global, first: u8, ones: usize) -> Result<Vec<u8>, Fail> {
+/// The text of a bitvector: this digit, and so many ones behind it.
+fn literal(rt: &impl Abort, alloc: Global, first: u8, ones: usize) -> Vec<u8> {
     let mut text = Vec::new(alloc);
-    text.extend_from_slice(b"#b")?;
-    text.push(first)?;
+    text.extend_from_slice(b"#b").expect(rt, AMPLE);
+    text.push(first).expect(rt, AMPLE);
     for _ in 0..ones {
-        text.push(b'1')?;
+        text.push(b'1').expect(rt, AMPLE);
     }
-    Ok(text)
+    text
 }
 
 #[test]
-fn refuses_wide_literals(rt: HostRuntime) -> Result<(), Fail> {
-    let text = literal(rt.alloc(), b'1', 128)?;
+fn refuses_wide_literals(rt: HostRuntime) {
+    let text = literal(&rt, rt.alloc(), b'1', 128);
     assert!(rt;
         parse_sexpr(rt.alloc(), &text) == Err(SExprParseError::ParseIntError(IntFault::PosOverflow))
     );
-    let text = literal(rt.alloc(), b'0', 128)?;
+    let text = literal(&rt, rt.alloc(), b'0', 128);
     assert!(rt; parse_sexpr(rt.alloc(), &text) == Err(SExprParseError::IntegerOverflow));
-    let text = literal(rt.alloc(), b'0', 127)?;
+    let text = literal(&rt, rt.alloc(), b'0', 127);
     assert!(rt; parse_sexpr(rt.alloc(), &text).is_ok());
-    Ok(())
 }
 
 #[test]
-fn stops_within_the_depth(rt: HostRuntime) -> Result<(), Fail> {
+fn stops_within_the_depth(rt: HostRuntime) {
     assert!(rt; parse_sexpr_within(rt.alloc(), b"((a))", 1) == Err(SExprParseError::TooDeep));
     assert!(rt; parse_sexpr_within(rt.alloc(), b"((a))", 2).is_ok());
     assert!(rt; parse_sexpr_within(rt.alloc(), b"a", 0) != parse_sexpr(rt.alloc(), b"b"));
-    Ok(())
 }

@@ -1,0 +1,50 @@
+// The rows, answered one after the other.
+use crate::calls::answer_of;
+use crate::tables::ROWS;
+use anyhow::{Context, Result};
+use smt_encode::Encoder;
+use smt_script::ListSink;
+use smt_term::EnumTable;
+use smt_words::enter;
+use std::alloc::Global;
+use std::io::Write;
+
+/// The enum types of an encoder.
+fn enum_types(alloc: Global, words: &str) -> Result<EnumTable> {
+    let mut enums = EnumTable::new(alloc);
+    for word in words.split_whitespace() {
+        enter(alloc, &mut enums, word)?;
+    }
+    Ok(enums)
+}
+
+/// Prints the answers of the calls of one encoder, and what its sink has then. Its enum types are on the first line.
+fn show(alloc: Global, printer: &mut (impl Write + Drop), rows: &str) -> Result<()> {
+    let mut calls = rows.lines();
+    let words = calls.next().context("no encoder is named")?;
+    writeln!(printer, "> encoder{words}")?;
+    let enums = enum_types(alloc, words)?;
+    let mut encoder = Encoder::new(alloc, &enums, ListSink::new(alloc));
+    for line in calls {
+        if let Some(row) = line.strip_prefix("> ") {
+            let answer = answer_of(alloc, &mut encoder, row)?;
+            writeln!(printer, "> {row}\n{answer}")?;
+        }
+    }
+    printer.write_all(encoder.into_script().bytes())?;
+    Ok(())
+}
+
+#[test]
+fn calls_are_answered(rt: HostRuntime) {
+    let alloc = rt.alloc();
+    let mut printed: Vec<u8> = Vec::new(alloc);
+    for of_one in ROWS.split("> encoder").skip(1) {
+        show(alloc, &mut printed, of_one).expect(&rt, "the rows say calls");
+    }
+    let said = str::from_utf8(printed.as_slice()).expect(&rt, "what is written is UTF-8");
+    for (said, stated) in said.lines().zip(ROWS.lines()) {
+        assert_eq!(rt; said, stated);
+    }
+    assert_eq!(rt; said.len(), ROWS.len());
+}

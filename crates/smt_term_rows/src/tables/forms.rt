@@ -1,0 +1,35 @@
+//! Terms of each form.
+
+/// The rows.
+pub(crate) const ROWS: &str =
+    r#"var:x:bool shared type_of is_literal well_typed has_type:bool has_types = true Bool false true true (types bool)
+var:x:1 shared type_of is_literal well_typed has_type:1 has_types = true (BitVec 1) false true true (types 1)
+var:x:8 shared type_of is_literal well_typed has_type:8 has_types = true (BitVec 8) false true true (types 8)
+var:x:128 shared type_of is_literal well_typed has_type:128 has_types = true (BitVec 128) false true true (types 128)
+var:x:string shared type_of is_literal well_typed has_type:string has_types = true String false true true (types string)
+text:a shared type_of is_literal well_typed has_type:string has_types = true String true true true (types string)
+var:x:@a shared type_of is_literal well_typed has_type:@a has_types = true (Entity "a") false true true (types @a)
+entity:a: shared type_of is_literal well_typed has_type:@a has_types = true (Entity "a") true true true (types @a)
+var:x:?8 shared type_of is_literal well_typed has_type:?8 has_types = true (Option (BitVec 8)) false true true (types ?8)
+none:8 shared type_of is_literal well_typed has_type:?8 has_types = true (Option (BitVec 8)) true true true (types ?8)
+var:x:8 some shared type_of is_literal well_typed has_type:?8 has_types = true (Option (BitVec 8)) false true true (types ?8)
+var:x:?string shared type_of is_literal well_typed has_type:?string has_types = true (Option String) false true true (types)
+none:string shared type_of is_literal well_typed has_type:?string has_types = true (Option String) true true true (types)
+var:x:string some shared type_of is_literal well_typed has_type:?string has_types = true (Option String) false true true (types)
+var:x:?@a shared type_of is_literal well_typed has_type:?@a has_types = true (Option (Entity "a")) false true true (types)
+none:@a shared type_of is_literal well_typed has_type:?@a has_types = true (Option (Entity "a")) true true true (types)
+var:x:@a some shared type_of is_literal well_typed has_type:?@a has_types = true (Option (Entity "a")) false true true (types)
+var:x:??bool shared type_of is_literal well_typed has_type:??bool has_types = true (Option (Option Bool)) false true true (types)
+none:?bool shared type_of is_literal well_typed has_type:??bool has_types = true (Option (Option Bool)) true true true (types)
+var:x:?bool some shared type_of is_literal well_typed has_type:??bool has_types = true (Option (Option Bool)) false true true (types)
+var:x:*8 shared type_of is_literal well_typed has_type:*8 has_types = true (Set (BitVec 8)) false true true (types *8)
+var:x:8 set:1:8 shared type_of is_literal well_typed has_type:*8 has_types = true (Set (BitVec 8)) false true true (types *8)
+var:x:*?string shared type_of is_literal well_typed has_type:*?string has_types = true (Set (Option String)) false true true (types *?string)
+var:x:?string set:1:?string shared type_of is_literal well_typed has_type:*?string has_types = true (Set (Option String)) false true true (types *?string)
+var:x:*@a shared type_of is_literal well_typed has_type:*@a has_types = true (Set (Entity "a")) false true true (types)
+var:x:@a set:1:@a shared type_of is_literal well_typed has_type:*@a has_types = true (Set (Entity "a")) false true true (types)
+var:x:?**bool shared type_of is_literal well_typed has_type:?**bool has_types = true (Option (Set (Set Bool))) false true true (types)
+none:**bool shared type_of is_literal well_typed has_type:?**bool has_types = true (Option (Set (Set Bool))) true true true (types)
+var:x:**bool some shared type_of is_literal well_typed has_type:?**bool has_types = true (Option (Set (Set Bool))) false true true (types)
+var:b:bool shared = true
+"#;
