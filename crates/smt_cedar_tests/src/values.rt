@@ -256,9 +256,12 @@ fn calls_made_of_values(rt: HostRuntime) {
     for &(name, bytes, answer) in MADE {
         let given = call_with(&rt, alloc, name, bytes);
         let read = Ext::try_from_restricted(alloc, &given).expect(&rt, "the call has a value");
-        if let Value::ExtensionValue(made) = &value_of_ext(alloc, &read).expect(&rt, AMPLE) {
-            let answered = format!(in alloc; "{made:?}").expect(&rt, AMPLE);
-            assert_eq!(rt; answered.as_str(), answer, "{name}");
+        match &value_of_ext(alloc, &read).expect(&rt, AMPLE) {
+            Value::ExtensionValue(made) => {
+                let answered = format!(in alloc; "{made:?}").expect(&rt, AMPLE);
+                assert_eq!(rt; answered.as_str(), answer, "{name}");
+            }
+            _ => panic!(rt; "{name} makes another kind of value"),
         }
     }
 }
