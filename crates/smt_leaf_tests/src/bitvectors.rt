@@ -1,4 +1,4 @@
-//! Bitvectors: the calls that `smt_value_rows` has no rows of, each once.
+//! Bitvectors: the calls that `smt_value_tests` has no rows of, each once.
 
 use smt_bits::{
     BitVec, EIGHT, Fin, HUNDRED_TWENTY_EIGHT, ONE, SIXTEEN, SIXTY_FOUR, TWO, Width, nat,

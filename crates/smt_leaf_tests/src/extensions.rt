@@ -1,4 +1,4 @@
-//! Decimals, datetimes, durations and IP ranges: the calls that `smt_value_rows` has no rows of, each once.
+//! Decimals, datetimes, durations and IP ranges: the calls that `smt_value_tests` has no rows of, each once.
 
 mod ip_ranges;
 mod readers;

@@ -1,5 +1,5 @@
 // What an encoder answers over a sink that fails, that it may be let go at an error, and which characters strings may have.
-// What it writes and refuses else is in the rows of `smt_script_rows` and `smt_line_rows`.
+// What it writes and refuses else is in the rows of `smt_script_tests` and `smt_line_tests`.
 ghost use Rattle.std.specs.Prelude.{◌≡◌};
 ghost use Rattle.smt_meaning.specs.TypeValues.{is_code_point};
 

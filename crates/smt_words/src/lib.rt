@@ -1,4 +1,4 @@
-//! The words in which the rows of `smt_node_rows`, `smt_line_rows`, `smt_script_rows` and `smt_term_rows` say texts, types,
+//! The words in which the rows of `smt_node_tests`, `smt_line_tests`, `smt_script_tests` and `smt_term_tests` say texts, types,
 //! functions, operators, enum types and terms. What else a row may say stands with its test.
 //!
 //! A row is words with a space between two. A word has a head and, behind a colon, what it holds, as `var:x:bool`.
