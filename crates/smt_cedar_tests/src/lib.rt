@@ -1,9 +1,12 @@
-//! Tests of Cedar's types, values and stores, of the terms that stand for values, and of symbolic environments. They stand
-//! outside the crates that they call: a crate with tests is proved twice, with them and without, and here they are proved alone.
+//! Tests of Cedar's types, values and stores, of the terms that stand for values, of symbolic environments, and of the script
+//! of a question about a store. They stand outside the crates that they call: a crate with tests is proved twice, with them and
+//! without, and here they are proved alone.
 #![tactic(auto)]
 
 #[cfg(test)]
 mod environments;
+#[cfg(test)]
+mod questions;
 #[cfg(test)]
 mod stores;
 #[cfg(test)]

@@ -9,9 +9,13 @@ mod encoder;
 #[cfg(test)]
 mod jobs;
 #[cfg(test)]
+mod rows;
+#[cfg(test)]
 mod runs;
 #[cfg(test)]
 mod sources;
+#[cfg(test)]
+mod tables;
 
 /// Why a test stops where a call gives nothing.
 #[cfg(test)]

@@ -29,8 +29,7 @@ const VERSION: &str = "smtcli 0.1.0\n";
 /// A run and how it ends: its word, the bytes of its source, which read of it and which put to `out` are to fail (0: none), the
 /// room of `out`, what `out` gets where nothing fails, or a first part of that, the status, and what is said on diag.
 ///
-/// 3 comes of too many bytes as well, which `length_has_a_limit` has. Rows of 4 stand in `smt_job_rows`, and 7 comes of want of
-/// memory, which no table can force.
+/// 3 comes of too many bytes as well, which `length_has_a_limit` has, and 7 comes of want of memory, which no table can force.
 type Row = (
     &'static str,
     &'static str,
@@ -261,7 +260,7 @@ fn refused_words_read_nothing(rt: HostRuntime) {
     }
 }
 
-/// What a run prints of a generated job of nine terms, and of one of a single term.
+/// What a run prints of generated jobs of nine terms, of a single one, and of as many as may be.
 const NINE: &str = "\
 terms 9
 variables 8
@@ -280,8 +279,28 @@ bytes 269
 sum 19277
 ";
 
+const FIRST: &str = "\
+terms 1
+variables 2
+definitions 2
+assertions 1
+bytes 268
+sum 19246
+";
+
+const MANY: &str = "\
+terms 100000
+variables 8
+definitions 100008
+assertions 100000
+bytes 8481204
+sum 569419128
+";
+
 const GENERATED: &[(&str, &str, &str)] = &[
     ("0", "9", NINE),
+    ("0", "1", FIRST),
+    ("7", "100000", MANY),
     ("000", "0009", NINE),
     ("18446744073709551615", "1", ONE),
 ];
@@ -325,7 +344,7 @@ fn refusals_have_a_status_and_a_line(rt: HostRuntime) {
 }
 
 /// The status of a run on these bytes, and the bytes that it put to out and to diag.
-fn run_on(rt: &impl Abort, alloc: Global, bytes: &[u8]) -> (u8, Vec<u8>, Vec<u8>) {
+pub(crate) fn run_on(rt: &impl Abort, alloc: Global, bytes: &[u8]) -> (u8, Vec<u8>, Vec<u8>) {
     let mut source = MemorySource::new(alloc, bytes, &[]).expect(rt, AMPLE);
     run_from(rt, alloc, &["script"], &mut source)
 }

@@ -26,15 +26,16 @@
 //! | `call:FUNCTION` | an uninterpreted function at the last term |
 #![tactic(auto)]
 
+mod missing;
 mod operators;
 mod plain;
 mod spelling;
 mod stack;
 mod types;
 
+pub use missing::text_or;
 pub use operators::{function, operator};
 pub use plain::{entity, term, terms, variable};
-pub use smt_row_parts::{last_of, one, taken, text_or, two};
 pub use spelling::{enter, pattern, spelling_of, text, texts};
-pub use stack::{fields, pairs};
+pub use stack::{fields, last_of, one, pairs, taken, two};
 pub use types::{extension_type, type_of};

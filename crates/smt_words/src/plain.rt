@@ -2,11 +2,10 @@
 
 use crate::operators::{function, operator};
 use crate::spelling::text;
-use crate::stack::fields;
+use crate::stack::{fields, one, taken};
 use crate::types::{type_of, width};
 use anyhow::{Context, Result};
 use smt_bits::{BitVec, EIGHT};
-use smt_row_parts::{one, taken};
 use smt_term::{
     EntityID, EntityType, EntityUID, Ext, Op, Term, TermList, TermMap, TermSet, TermVar,
 };

@@ -1,11 +1,11 @@
-// Texts that may be missing.
+//! Texts that may be missing.
 ghost use Rattle.std.specs.Option.{option_map_or};
 ghost use Rattle.std.specs.Prelude.{◌≡◌, IfOk};
 ghost use Rattle.std.specs.Rc.{rc_str_bytes};
 ghost use Rattle.std.specs.String.{string_bytes};
 
 use anyhow::Result;
-use smt_text::Text;
+use smt_term::Text;
 use std::alloc::Global;
 
 /// A text as it is, or other words where there is none.
