@@ -11,6 +11,7 @@ pub record IsTakenIntoRange (n : ℕ) (z taken : ℤ) : Type 0 where
   pub in_range : overflows n taken ≡ false
   pub off : (k : ℤ) × (z ≡ taken +ℤ k *ℤ pos (2 ^ n))
 
+-- the bits of every whole number, read in two's complement, are that number taken into the signed range
 abbrev pub BitsAreTakenIntoRange : Type 0
 BitsAreTakenIntoRange = (n : ℕ) (z : ℤ) → 1 ≤ n → IsTakenIntoRange n z (signed n (bits_of n z))
 
@@ -19,6 +20,7 @@ pub record RoundsTowardZero (n a b : ℕ) : Type 0 where
   pub quotient : bvsdiv n a b ≡ bits_of n (int_div (signed n a) (signed n b))
   pub remainder : bvsrem n a b ≡ bits_of n (int_rem (signed n a) (signed n b))
 
+-- bvsdiv and bvsrem round toward 0, for all bitvectors and every divisor but 0
 abbrev pub DivisionRoundsTowardZero : Type 0
 DivisionRoundsTowardZero = (n a b : ℕ) → a < 2 ^ n → b < 2 ^ n → 0 < b → RoundsTowardZero n a b
 
@@ -32,5 +34,6 @@ pub record IsModulus (z d r : ℤ) : Type 0 where
   pub left : (k : ℤ) × (z ≡ r +ℤ k *ℤ d)
   pub below : IsBelowDivisor d r
 
+-- bvsmod gives a remainder with the divisor's sign, for all bitvectors and every divisor but 0
 abbrev pub ModulusHasDivisorsSign : Type 0
 ModulusHasDivisorsSign = (n a b : ℕ) → a < 2 ^ n → b < 2 ^ n → 0 < b → IsModulus (signed n a) (signed n b) (signed n (bvsmod n a b))

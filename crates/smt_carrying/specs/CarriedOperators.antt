@@ -26,6 +26,7 @@ AreValues enums [] [] = ⊤
 AreValues enums (t ∷ ts) (v ∷ vs) = IsValue enums t v × AreValues enums ts vs
 AreValues enums ts vs = ⊥
 
+-- values, each carried by its type
 abbrev pub carry_each : Enums → Tables → List PlainType → List Value → List ScriptValue
 carry_each enums s (t ∷ ts) (v ∷ vs) = carry enums s t v ∷ carry_each enums s ts vs
 carry_each enums s ts vs = []
@@ -80,7 +81,7 @@ TablesAreRead = (enums : Enums) (s : Tables) (argument output : PlainType) (tabl
     → AllByRecursion (λ e. IsValue enums argument e.0) table.entries → IsValue enums argument v
     → in_table (carry_table enums s argument output table) (carry enums s argument v) ≡ carry enums s output (value_at table v)
 
--- the selectors of the extension types: datatype, constructor, place there
+-- the datatype to which a selector of an extension type belongs
 abbrev pub selector_datatype : ExtensionOp → List ℕ
 selector_datatype DecimalValOp = kind_name DecimalKind
 selector_datatype DatetimeValOp = kind_name DatetimeKind
@@ -91,6 +92,7 @@ selector_datatype IpPrefixV4Op = kind_name IpAddrKind
 selector_datatype IpPrefixV6Op = kind_name IpAddrKind
 selector_datatype o = []
 
+-- the constructor to which a selector of an extension type belongs
 abbrev pub selector_constructor : ExtensionOp → List ℕ
 selector_constructor IpAddrV4Op = v4_name
 selector_constructor IpAddrV6Op = v6_name
@@ -98,11 +100,13 @@ selector_constructor IpPrefixV4Op = v4_name
 selector_constructor IpPrefixV6Op = v6_name
 selector_constructor o = selector_datatype o
 
+-- the place of a selector of an extension type in its constructor
 abbrev pub selector_place : ExtensionOp → ℕ
 selector_place IpPrefixV4Op = 1
 selector_place IpPrefixV6Op = 1
 selector_place o = 0
 
+-- an operator of extension types that scripts write as a selector: no constructor, and not the test of the family
 abbrev pub is_selector : ExtensionOp → Bool
 is_selector DatetimeOfBitVecOp = false
 is_selector DurationOfBitVecOp = false
@@ -113,6 +117,7 @@ is_selector o = true
 abbrev pub carry_selector : Enums → Tables → Interpretation → ExtensionOp → script.Table
 carry_selector enums s I o = carry_table enums s (ExtensionType IpAddrKind) (extension_signature o).1 (I.other_family o)
 
+-- Each key of the table is an IP range.
 abbrev pub AreRanges : Enums → Table → Type 0
 AreRanges enums table = AllByRecursion (λ e. IsValue enums (ExtensionType IpAddrKind) e.0) table.entries
 

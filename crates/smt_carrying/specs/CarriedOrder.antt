@@ -15,6 +15,7 @@ pub record AreMembers (members : List (List ℕ)) : Type 0 where
   pub ascending : IsTrue (ascends text_cmp members)
   pub texts : AllByRecursion IsUtf8 members
 
+-- In each enum type the members ascend strictly by their bytes, and are texts. The theorem asks it of the enum types.
 abbrev pub AreEnums : Enums → Type 0
 AreEnums enums = AllByRecursion (λ e. AreMembers e.1) enums
 
@@ -28,6 +29,7 @@ abbrev pub CarryingIsOneToOne : Type 0
 CarryingIsOneToOne = (enums : Enums) (s : Tables) (ty : PlainType) (v w : Value) → AreEnums enums → IsValue enums ty v → IsValue enums ty w
     → (carry enums s ty v ≡ carry enums s ty w → v ≡ w) × (same (carry enums s ty v) (carry enums s ty w) ≡ value_eq v w)
 
+-- The elements of a carried set ascend, as the elements of sets of scripts do.
 abbrev pub SetsStaySorted : Type 0
 SetsStaySorted = (enums : Enums) (s : Tables) (ty : PlainType) (vs : Values) → AreEnums enums → IsValue enums (SetType ty) (SetValue vs)
     → IsTrue (script.ascends (carry_values enums s ty vs))

@@ -19,16 +19,19 @@ use Rattle.smt_carrying.specs.CarriedOrder.{AreEnums}
 
 -- ---- datatypes
 
--- the constructors that are declared, each with the sorts of its fields
+-- the constructors that are declared for members of an enum type, from a place on: none of them has a field
 abbrev pub shown_members : (type : List ℕ) → ℕ → List (List ℕ) → Constructors
 shown_members type place members = shown (all_built (forms.member_constructors type place members))
 
+-- the constructors that are declared for an entity type, each with the sorts of its fields: one for each member, or one with the id
 abbrev pub shown_entity : (members : Option (List (List ℕ))) → (type : List ℕ) → Constructors
 shown_entity members type = shown (all_built (forms.entity_constructors members type))
 
+-- the constructors that are declared for an extension type, each with the sorts of its fields
 abbrev pub shown_kind : ExtensionKind → Constructors
 shown_kind kind = shown (all_built (forms.kind_constructors kind))
 
+-- the constructors that are declared for options, each with the sorts of its fields
 abbrev pub shown_option : Constructors
 shown_option = shown (all_built lines.option_constructors)
 
@@ -55,8 +58,8 @@ pub record IsNamed (here : Entries) (n : List ℕ) (cs : Constructors) : Type 0 
   pub not_string : bytes_eq n (codes "String") ≡ false
   pub datatype : IsDatatype here n [] cs
 
--- Each type that has a name, in this type, is declared; and widths are those of bitvectors.
 abbrev mutual
+  -- Each type that has a name, in this type, is declared; and widths are those of bitvectors.
   pub TypeIsDeclared : Enums → Tables → Entries → PlainType → Type 0
   TypeIsDeclared enums s here (OptionType t) = TypeIsDeclared enums s here t
   TypeIsDeclared enums s here (BitVecType width) = (1 ≤ width) × (width ≤ 128)
@@ -67,6 +70,7 @@ abbrev mutual
   TypeIsDeclared enums s here (RecordType x) = IsNamed here (type_name s (RecordType x)) ((type_name s (RecordType x), attribute_sorts s x) ∷ []) × AttributesAreDeclared enums s here x
   TypeIsDeclared enums s here (SetType t) = TypeIsDeclared enums s here t
 
+  -- The same of the type of each attribute.
   pub AttributesAreDeclared : Enums → Tables → Entries → AttributeTypes → Type 0
   AttributesAreDeclared enums s here no_attributes = ⊤
   AttributesAreDeclared enums s here (attribute a t x) = TypeIsDeclared enums s here t × AttributesAreDeclared enums s here x

@@ -20,22 +20,28 @@ key_of (e ∷ es) n = if bytes_eq e.1 n then Some e.0 else key_of es n
 abbrev pub nothing_carried : ScriptValue
 nothing_carried = TruthOf false
 
+-- what stands for a value of a script that is none of the type's sort
 abbrev pub nothing_back : Value
 nothing_back = BoolValue false
 
+-- one value as the arguments of a constructor
 abbrev pub alone : ScriptValue → ScriptValues
 alone v = one_script_value v no_script_values
 
+-- `none` of the datatype `Option`
 abbrev pub none_carried : ScriptValue
 none_carried = ConstructorOf 0 (codes "none") no_script_values
 
+-- `some` of the datatype `Option`, at a value
 abbrev pub some_carried : ScriptValue → ScriptValue
 some_carried v = ConstructorOf 1 (codes "some") (alone v)
 
+-- the prefix of an IP range as an option of bits; no prefix is `none`
 abbrev pub carry_prefix : (width : ℕ) → Option ℕ → ScriptValue
 carry_prefix width None = none_carried
 carry_prefix width (Some p) = some_carried (BitsOf width p)
 
+-- an extension value: its constructor at its 64 bits, or at the bits of its address and its prefix
 abbrev pub carry_extension : PlainExtension → ScriptValue
 carry_extension (DecimalOf x) = ConstructorOf 0 (kind_name DecimalKind) (alone (BitsOf 64 (bits_of 64 x)))
 carry_extension (Ipv4Of a p) = ConstructorOf 0 v4_name (one_script_value (BitsOf 32 a) (alone (carry_prefix 5 p)))
@@ -50,6 +56,8 @@ carry_entity (Some members) sort id =
     ConstructorOf (place_of id (map chars members)) (enum_member (map chars members) sort id) no_script_values
 
 abbrev mutual
+  -- A value of a type as one of the script: Booleans, bits and strings stay, and sets go element by element. An option, an entity, an
+  -- extension value and a record become constructors at what they hold, and a member of an enum type the constructor of its place.
   pub carry : Enums → Tables → PlainType → Value → ScriptValue
   carry enums s BoolType (BoolValue b) = TruthOf b
   carry enums s (BitVecType n) (BitVecValue width number) = BitsOf width number
@@ -63,10 +71,12 @@ abbrev mutual
   carry enums s (SetType t) (SetValue vs) = SetOf (carry_values enums s t vs)
   carry enums s t v = nothing_carried
 
+  -- the elements of a set, each carried
   pub carry_values : Enums → Tables → PlainType → Values → ScriptValues
   carry_values enums s t no_values = no_script_values
   carry_values enums s t (one_value v vs) = one_script_value (carry enums s t v) (carry_values enums s t vs)
 
+  -- the values of a record's attributes in order, each carried by its attribute's type
   pub carry_fields : Enums → Tables → AttributeTypes → FieldValues → ScriptValues
   carry_fields enums s (attribute a t attributes) (one_field_value b v fields) =
       one_script_value (carry enums s t v) (carry_fields enums s attributes fields)
@@ -74,14 +84,17 @@ abbrev mutual
 
 -- ---- the way back
 
+-- the prefix that an option of bits holds, if it holds one
 abbrev pub back_prefix : ScriptValue → Option ℕ
 back_prefix (ConstructorOf place n (one_script_value (BitsOf width number) vs)) = Some number
 back_prefix v = None
 
+-- an IP range by the place of its constructor: at place 0 IPv4, and else IPv6
 abbrev pub back_address : (place address : ℕ) → Option ℕ → PlainExtension
 back_address zero a p = Ipv4Of a p
 back_address (suc place) a p = Ipv6Of a p
 
+-- an extension value, by its kind and what its constructor holds
 abbrev pub back_extension : ExtensionKind → (place : ℕ) → ScriptValues → PlainExtension
 back_extension IpAddrKind place (one_script_value (BitsOf width a) (one_script_value v vs)) = back_address place a (back_prefix v)
 back_extension DecimalKind place (one_script_value (BitsOf width n) vs) = DecimalOf (signed 64 n)
@@ -95,16 +108,18 @@ text_at [] place = []
 text_at (x ∷ xs) zero = x
 text_at (x ∷ xs) (suc place) = text_at xs place
 
+-- the text that a constructor holds first
 abbrev pub first_text : ScriptValues → List ℕ
 first_text (one_script_value (TextOf text) vs) = text
 first_text vs = []
 
+-- an entity: the member at the constructor's place, or else the id that the constructor holds
 abbrev pub back_entity : (members : Option (List (List ℕ))) → (type : List ℕ) → (place : ℕ) → ScriptValues → Value
 back_entity None type place vs = EntityValue type (first_text vs)
 back_entity (Some members) type place vs = EntityValue type (chars (text_at members place))
 
--- By the script's value, along the type.
 abbrev mutual
+  -- A value of the script as one of the type, the other way of `carry`: by the script's value, along the type.
   pub back : Enums → PlainType → ScriptValue → Value
   back enums BoolType (TruthOf b) = BoolValue b
   back enums (BitVecType n) (BitsOf width number) = BitVecValue width number
@@ -116,14 +131,17 @@ abbrev mutual
   back enums (SetType t) (SetOf vs) = SetValue (back_values enums t vs)
   back enums t v = nothing_back
 
+  -- none where the constructor holds nothing, and else some of what it holds
   pub back_option : Enums → PlainType → ScriptValues → Value
   back_option enums t no_script_values = NoneValue
   back_option enums t (one_script_value v vs) = SomeValue (back enums t v)
 
+  -- the elements of a set, each taken back
   pub back_values : Enums → PlainType → ScriptValues → Values
   back_values enums t no_script_values = no_values
   back_values enums t (one_script_value v vs) = one_value (back enums t v) (back_values enums t vs)
 
+  -- the values of a record in order, each taken back along its attribute's type
   pub back_fields : Enums → AttributeTypes → ScriptValues → FieldValues
   back_fields enums (attribute a t attributes) (one_script_value v vs) = one_field_value a (back enums t v) (back_fields enums attributes vs)
   back_fields enums x vs = no_field_values

@@ -37,20 +37,26 @@ NewDatatypesAreDeclared = (d : List ℕ) (ps : List (List ℕ)) (cs : List Const
 
 -- ---- an example: options and an enum type
 
+-- an enum type with two members
 abbrev pub colors : Enums
 colors = (codes "Color", codes "a" ∷ codes "b" ∷ []) ∷ []
 
+-- tables in which that enum type has the name E0
 abbrev pub color_tables : Tables
 color_tables = record { terms = []; types = (EntityType (codes "Color"), codes "E0") ∷ []; functions = [] }
 
+-- the constructors of options, as their declaration has them
 abbrev pub option_declared : List Constructor
 option_declared = all_built option_constructors
 
+-- the constructors of the enum type, as its declaration has them
 abbrev pub color_declared : List Constructor
 color_declared = record { name = codes "E0_m0"; selectors = [] } ∷ record { name = codes "E0_m1"; selectors = [] } ∷ []
 
+-- the state that these two declarations come to
 abbrev pub color_state : State
 color_state = unwrap_or (run (DeclareDatatype (codes "Option") (codes "X" ∷ []) option_declared ∷ DeclareDatatype (codes "E0") [] color_declared ∷ []) start) start
 
+-- That state declares options of this enum type as carrying asks.
 abbrev pub ColorsAreDeclared : Type 0
 ColorsAreDeclared = AreEnums colors × DeclaresOption (entries color_state) × TypeIsDeclared colors color_tables (entries color_state) (OptionType (EntityType (codes "Color")))

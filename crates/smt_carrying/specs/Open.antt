@@ -16,10 +16,12 @@ use Rattle.smt_lines.specs.EntryNames.{selector_name}
 use Rattle.smt_carrying.specs.CarriedOperators.{selector_constructor}
 use Rattle.smt_carrying.specs.CarriedInterpretations.{ip_type, is_range_selector, variable_name, function_name, GivesReachedNames, AgreeOnNames}
 
+-- the term is one of these
 abbrev pub Occurs : PlainTerm → List PlainTerm → Type 0
 Occurs t [] = ⊥
 Occurs t (u ∷ us) = (u ≡ t) ⊎ Occurs t us
 
+-- A declared constant has the name and the sort of a variable that is reached.
 pub record IsVariable (s : Tables) (us : List PlainTerm) (n : List ℕ) (sort : Expression) : Type 0 where
   pub id : List ℕ
   pub type : PlainType
@@ -27,6 +29,7 @@ pub record IsVariable (s : Tables) (us : List PlainTerm) (n : List ℕ) (sort : 
   pub named : n ≡ variable_name s id type
   pub sorted : sort ≡ type_sort s type
 
+-- A declared function has the name and the sorts of a function that is reached.
 pub record IsFunction (s : Tables) (us : List PlainTerm) (n : List ℕ) (argument sort : Expression) : Type 0 where
   pub function : PlainFunction
   pub arguments : PlainTerms
@@ -36,6 +39,7 @@ pub record IsFunction (s : Tables) (us : List PlainTerm) (n : List ℕ) (argumen
   pub argument_sorted : argument ≡ type_sort s function.argument
   pub sorted : sort ≡ type_sort s function.output
 
+-- A selector is that of an operator on IP ranges that is reached, and belongs to the constructor of its family.
 pub record IsRange (s : Tables) (us : List PlainTerm) (n c : List ℕ) (sort field : Expression) : Type 0 where
   pub selector : ExtensionOp
   pub arguments : PlainTerms
@@ -47,6 +51,7 @@ pub record IsRange (s : Tables) (us : List PlainTerm) (n c : List ℕ) (sort fie
   pub argument_sorted : sort ≡ type_sort s ip_type
   pub sorted : field ≡ type_sort s (extension_signature selector).1
 
+-- A selector is `val` of the datatype `Option`, at the sort of an option type whose `option.get` is reached.
 pub record IsOption (s : Tables) (us : List PlainTerm) (d : List ℕ) (ps : List (List ℕ)) (sort field : Expression) : Type 0 where
   pub arguments : PlainTerms
   pub type : PlainType
@@ -68,10 +73,12 @@ IsOpenHere s us n sort d ps c field (Some ValueOfSort) = IsOption s us d ps sort
 IsOpenHere s us n sort d ps c field (Some TableOfSelector) = IsRange s us n c sort field
 IsOpenHere s us n sort d ps c field None = ⊤
 
+-- What is left open of an applied selector stands for what a term reaches.
 abbrev pub IsOpenSelection : Tables → List PlainTerm → List ℕ → Expression → Entry → Type 0
 IsOpenSelection s us n sort (Selects d ps c place field) = IsOpenHere s us n sort d ps c field (open_selector n d ps)
 IsOpenSelection s us n sort x = ⊤
 
+-- All that the state of a script leaves to an interpretation stands for what the terms reach.
 pub record LeavesOpen (s : Tables) (ts : List PlainTerm) (state : State) : Type 0 where
   pub names : AllByRecursion (λ p. IsOpenEntry s (reached_terms ts) p.0 p.1) (names_of state)
   pub selectors : AllByRecursion (λ p. IsOpenSelection s (reached_terms ts) p.selector p.sort p.entry) (applied_selectors state)

@@ -2,3 +2,4 @@ mod Examples
 mod LastAction
 mod PutEntity
 mod PutEntry
+mod Shared

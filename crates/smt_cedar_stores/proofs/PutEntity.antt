@@ -78,7 +78,7 @@ distinct-put e [] h = (tt, tt)
 distinct-put e (d ∷ ds) h = distinct-chosen (is_named e.uid d) e d ds refl h.0 h.1 (distinct-put e ds h.1)
 
 -- the same of the program's entities
-uids-said : (es : List Entity) → uids_in (map plain_stored es) ≡ map (λ e. texts_of_entity e.uid) es
+pub uids-said : (es : List Entity) → uids_in (map plain_stored es) ≡ map (λ e. texts_of_entity e.uid) es
 uids-said [] = refl
 uids-said (e ∷ es) = ap (λ l. texts_of_entity e.uid ∷ l) (uids-said es)
 

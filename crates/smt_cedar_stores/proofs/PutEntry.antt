@@ -101,7 +101,7 @@ keys-put k v [] = refl
 keys-put k v (e ∷ es) = keys-chosen (text_cmp k e.0) k v e es (insert_entry text_cmp es k v) (insert_key text_cmp (keys_of es) k) (keys-put k v es)
 
 -- the same of the program's entries
-keys-said : (es : List (EntityType × EntityEntry)) → keys_of (map entry_named es) ≡ map (λ p. bytes_of_type p.0) es
+pub keys-said : (es : List (EntityType × EntityEntry)) → keys_of (map entry_named es) ≡ map (λ p. bytes_of_type p.0) es
 keys-said [] = refl
 keys-said (e ∷ es) = ap (λ l. bytes_of_type e.0 ∷ l) (keys-said es)
 

@@ -4,8 +4,9 @@ use Rattle.smt_leaves.specs.Entities.{bytes_of_type, texts_of_entity}
 use Rattle.smt_leaves.specs.TextSets.{texts_of}
 use Rattle.smt_leaves.specs.declared.entity.EntityType.{EntityType}
 use Rattle.smt_leaves.specs.declared.entity.EntityUID.{EntityUID}
+use Rattle.smt_cedar_types.specs.EntityTypes.{names_held}
 use Rattle.smt_cedar_types.specs.View.{plain_cedar, plain_cedar_attributes}
-use Rattle.smt_cedar_types.specs.declared.cedar_type.EntityTypeList.{EntityTypeList}
+use Rattle.smt_cedar_types.specs.declared.entity_types.EntityTypeList.{EntityTypeList}
 use Rattle.smt_cedar_values.specs.View.{known_fields, named_fields}
 use Rattle.smt_cedar_stores.specs.declared.actions.ActionEntry.{ActionEntry}
 use Rattle.smt_cedar_stores.specs.declared.actions.ActionList.{ActionList}
@@ -31,7 +32,7 @@ plain_uids list = map texts_of_entity (uids_held list)
 
 -- the names of types
 abbrev pub plain_types : EntityTypeList → List (List ℕ)
-plain_types list = map bytes_of_type list.items.items
+plain_types list = names_held list
 
 -- ---- schemas
 

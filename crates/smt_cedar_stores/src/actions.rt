@@ -1,12 +1,12 @@
 // What a schema says of actions.
-ghost use Rattle.std.specs.Prelude.{◌≡◌, ◌++◌, ◌∷◌, [], OnErr, OnOk, length, map, option_map};
+ghost use Rattle.std.specs.Prelude.{◌≡◌, ◌++◌, ◌∷◌, [], IfOk, OnErr, OnOk, length, map, option_map};
 ghost use Rattle.smt_leaves.specs.Entities.{texts_of_entity};
 ghost use Rattle.smt_cedar_stores.specs.Stores.{action_of};
 ghost use Rattle.smt_cedar_stores.specs.View.{actions_held, plain_action, plain_actions};
 
 use crate::uids::UidList;
 use smt_cedar_types::{Attributes, EntityTypeList};
-use smt_leaves::EntityUID;
+use smt_leaves::{EntityUID, TermError};
 use std::alloc::{AllocError, Global};
 
 /// What a schema says of an action.
@@ -91,5 +91,38 @@ impl ActionList {
             }
         }
         found
+    }
+
+    /// An equal list, whose texts are shared.
+    ///
+    /// # Errors
+    /// `Memory`, where there is none for the list.
+    pub fn share(&self) -> Result<ActionList, TermError>
+        ensures { IfOk result (λ shared. plain_actions shared ≡ plain_actions self.now) }
+    {
+        let mut items: Vec<ActionEntry> = Vec::new(*self.items.allocator());
+        for item in self.items.as_slice() {
+            items.push(item.share()?)?;
+        }
+        Ok(ActionList { items })
+    }
+}
+
+impl ActionEntry {
+    /// An equal entry, whose texts are shared.
+    ///
+    /// # Errors
+    /// `Memory`, where there is none for the entry.
+    #[tactic(auto, using(crate::proofs::Shared::attributes_alike))]
+    pub fn share(&self) -> Result<ActionEntry, TermError>
+        ensures { IfOk result (λ shared. plain_action shared ≡ plain_action self.now) }
+    {
+        Ok(ActionEntry {
+            uid: self.uid.share()?,
+            ancestors: self.ancestors.share()?,
+            principals: self.principals.share()?,
+            resources: self.resources.share()?,
+            context: self.context.share()?,
+        })
     }
 }

@@ -1,5 +1,5 @@
 // Entities, and how one gets into a list of them.
-ghost use Rattle.std.specs.Prelude.{◌≡◌, OnErr, OnOk, map};
+ghost use Rattle.std.specs.Prelude.{◌≡◌, IfOk, OnErr, OnOk, map};
 ghost use Rattle.std.specs.List.{position_or_len};
 ghost use Rattle.smt_leaves.specs.Entities.{texts_of_entity};
 ghost use Rattle.smt_cedar_stores.specs.Stores.{is_named, put_entity};
@@ -7,7 +7,7 @@ ghost use Rattle.smt_cedar_stores.specs.View.{plain_stored};
 
 use crate::uids::UidList;
 use smt_cedar_values::PartialMap;
-use smt_leaves::EntityUID;
+use smt_leaves::{EntityUID, TermError};
 use std::alloc::AllocError;
 
 /// A stored entity.
@@ -32,6 +32,23 @@ impl Drop for Entity {
             ancestors: _,
             tags: _,
         } = self;
+    }
+}
+
+impl Entity {
+    /// An equal entity, whose texts are shared.
+    ///
+    /// # Errors
+    /// `Memory`, where there is none for the entity.
+    pub fn share(&self) -> Result<Entity, TermError>
+        ensures { IfOk result (λ shared. plain_stored shared ≡ plain_stored self.now) }
+    {
+        Ok(Entity {
+            uid: self.uid.share()?,
+            attrs: self.attrs.share()?,
+            ancestors: self.ancestors.share()?,
+            tags: self.tags.share()?,
+        })
     }
 }
 

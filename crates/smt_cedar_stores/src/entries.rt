@@ -1,14 +1,15 @@
 // What a schema says of an entity type, and how that gets into a list.
-ghost use Rattle.std.specs.Prelude.{◌≡◌, ◌≤◌, OnErr, OnOk, length, map};
+ghost use Rattle.std.specs.Prelude.{◌≡◌, ◌≤◌, IfOk, OnErr, OnOk, length, map, option_map};
 ghost use Rattle.std.specs.BTreeMap.{insert_entry};
 ghost use Rattle.std.specs.List.{position_or_len};
 ghost use Rattle.smt_meaning.specs.ValueOrder.{text_cmp};
 ghost use Rattle.smt_leaves.specs.Entities.{bytes_of_type};
+ghost use Rattle.smt_cedar_types.specs.View.{plain_cedar};
 ghost use Rattle.smt_cedar_stores.specs.Entries.{is_not_above};
 ghost use Rattle.smt_cedar_stores.specs.View.{entry_named, plain_entry};
 
 use smt_cedar_types::{Attributes, CedarType, EntityTypeList};
-use smt_leaves::{EntityType, TextSet};
+use smt_leaves::{EntityType, TermError, TextSet};
 use std::alloc::AllocError;
 use std::cmp::Ordering;
 
@@ -39,6 +40,40 @@ impl Drop for EntityEntry {
             } => {}
             EntityEntry::Enum(_) => {}
         }
+    }
+}
+
+impl EntityEntry {
+    /// An equal entry, whose texts are shared.
+    ///
+    /// # Errors
+    /// `Memory`, where there is none for the entry.
+    #[tactic(auto, using(crate::proofs::Shared::attributes_alike))]
+    pub fn share(&self) -> Result<EntityEntry, TermError>
+        ensures { IfOk result (λ shared. plain_entry shared ≡ plain_entry self.now) }
+    {
+        match self {
+            EntityEntry::Standard {
+                ancestors,
+                attrs,
+                tags,
+            } => Ok(EntityEntry::Standard {
+                ancestors: ancestors.share()?,
+                attrs: attrs.share()?,
+                tags: shared_type(tags)?,
+            }),
+            EntityEntry::Enum(members) => Ok(EntityEntry::Enum(members.share()?)),
+        }
+    }
+}
+
+// The type of tags, where there is one, shared.
+fn shared_type(tags: &Option<CedarType>) -> Result<Option<CedarType>, TermError>
+    ensures { IfOk result (λ shared. option_map plain_cedar shared ≡ option_map plain_cedar tags.now) }
+{
+    match tags {
+        Some(ty) => Ok(Some(ty.share()?)),
+        None => Ok(None),
     }
 }
 

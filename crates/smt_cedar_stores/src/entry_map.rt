@@ -1,10 +1,10 @@
 // What a schema says of its entity types.
-ghost use Rattle.std.specs.Prelude.{◌≡◌, [], IsTrue, OnErr, OnOk, bytes_eq, length, map, option_map};
+ghost use Rattle.std.specs.Prelude.{◌≡◌, [], IfOk, IsTrue, OnErr, OnOk, bytes_eq, length, map, option_map};
 ghost use Rattle.smt_meaning.specs.ValueOrder.{ascends, text_cmp};
 ghost use Rattle.smt_leaves.specs.Entities.{bytes_of_type};
 
 use crate::entries::{EntityEntry, put};
-use smt_leaves::EntityType;
+use smt_leaves::{EntityType, TermError};
 use std::alloc::{AllocError, Global};
 
 /// What a schema says of its entity types: pairs in the order of the types' bytes, each type once.
@@ -66,5 +66,19 @@ impl EntryMap {
             }
         }
         None
+    }
+
+    /// An equal map, whose texts are shared.
+    ///
+    /// # Errors
+    /// `Memory`, where there is none for the map.
+    pub fn share(&self) -> Result<EntryMap, TermError>
+        ensures { IfOk result (λ shared. plain_entries shared ≡ plain_entries self.now) }
+    {
+        let mut items: Vec<(EntityType, EntityEntry)> = Vec::new(*self.items.allocator());
+        for (name, entry) in self.items.as_slice() {
+            items.push((name.share()?, entry.share()?))?;
+        }
+        Ok(EntryMap { items })
     }
 }

@@ -84,7 +84,7 @@ impl RequestEnv {
 fn lists(types: &EntityTypeList, ety: &EntityType) -> bool
     ensures { result ≡ has_type (bytes_of_type ety.now) (plain_types types.now) }
 {
-    for item in types.items.as_slice() {
+    for item in types.items() {
         if ety == item {
             return true;
         }

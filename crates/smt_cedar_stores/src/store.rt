@@ -1,12 +1,12 @@
 // Stores of entities.
-ghost use Rattle.std.specs.Prelude.{◌≡◌, [], OnErr, OnOk, length, map, option_map};
+ghost use Rattle.std.specs.Prelude.{◌≡◌, [], IfOk, OnErr, OnOk, length, map, option_map};
 ghost use Rattle.std.proofs.Props.{props};
 ghost use Rattle.std.specs.List.{IsDistinct};
 ghost use Rattle.smt_leaves.specs.Entities.{texts_of_entity};
 ghost use Rattle.smt_cedar_stores.specs.Uids.{same_uid};
 
 use crate::entity::{Entity, put};
-use smt_leaves::EntityUID;
+use smt_leaves::{EntityUID, TermError};
 use std::alloc::{AllocError, Global};
 
 /// Stored entities, in the order in which they first came, one of each uid.
@@ -67,5 +67,19 @@ impl Entities {
             }
         }
         None
+    }
+
+    /// An equal store, whose texts are shared.
+    ///
+    /// # Errors
+    /// `Memory`, where there is none for the store.
+    pub fn share(&self) -> Result<Entities, TermError>
+        ensures { IfOk result (λ shared. plain_entities shared ≡ plain_entities self.now) }
+    {
+        let mut items: Vec<Entity> = Vec::new(*self.items.allocator());
+        for item in self.items.as_slice() {
+            items.push(item.share()?)?;
+        }
+        Ok(Entities { items })
     }
 }

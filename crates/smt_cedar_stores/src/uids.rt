@@ -1,9 +1,9 @@
 // Lists of entities' names.
-ghost use Rattle.std.specs.Prelude.{◌≡◌, ◌++◌, ◌∷◌, [], OnErr, OnOk, length, map};
+ghost use Rattle.std.specs.Prelude.{◌≡◌, ◌++◌, ◌∷◌, [], IfOk, OnErr, OnOk, length, map};
 ghost use Rattle.smt_leaves.specs.Entities.{texts_of_entity};
 ghost use Rattle.smt_cedar_stores.specs.View.{plain_uids, uids_held};
 
-use smt_leaves::EntityUID;
+use smt_leaves::{EntityUID, TermError};
 use std::alloc::{AllocError, Global};
 
 /// A list of entities, such as the ancestors of one, in the order in which they were given.
@@ -47,5 +47,19 @@ impl UidList {
         ensures named { map texts_of_entity result.now ≡ plain_uids self.now }
     {
         self.items.as_slice()
+    }
+
+    /// An equal list, whose texts are shared.
+    ///
+    /// # Errors
+    /// `Memory`, where there is none for the list.
+    pub fn share(&self) -> Result<UidList, TermError>
+        ensures { IfOk result (λ shared. plain_uids shared ≡ plain_uids self.now) }
+    {
+        let mut items: Vec<EntityUID> = Vec::new(*self.items.allocator());
+        for item in self.items.as_slice() {
+            items.push(item.share()?)?;
+        }
+        Ok(UidList { items })
     }
 }

@@ -1,5 +1,6 @@
 // What tables say of stored entities and of actions, what requests are refused, and which refusal comes first.
 use crate::AMPLE;
+use crate::expected::{expect, expect_none_wrong};
 use crate::worlds::{Action, Kind, Name, Part, Plain, World, symbolized, text, type_named, uid};
 use smt_function_terms::app;
 use smt_functions::UnaryFunction;
@@ -275,7 +276,7 @@ fn wrong_answer_of(
 #[test]
 fn tables_of_a_store(rt: HostRuntime) {
     let wrong = wrong_answer_of(&rt, rt.alloc(), USERS, QUESTIONS);
-    assert_eq!(rt; wrong, None);
+    expect_none_wrong(&rt, wrong);
 }
 
 /// A type that the schema lists and an action has too, with attributes that are not known.
@@ -314,7 +315,7 @@ const QUESTIONS_OF_ACTIONS: &[(Question, &str)] = &[
 #[test]
 fn types_of_actions(rt: HostRuntime) {
     let wrong = wrong_answer_of(&rt, rt.alloc(), ACTIONS_ALONE, QUESTIONS_OF_ACTIONS);
-    assert_eq!(rt; wrong, None);
+    expect_none_wrong(&rt, wrong);
 }
 
 /// The refusal of a world, as a text.
@@ -347,7 +348,7 @@ const UNSUPPORTED: &str = "CompileError(UnsupportedFeature(\"never type is not s
 const NO_SET: &str = "UnableToSymbolizeValue(Set(ValueList { items: [] }))";
 
 const NO_RECORD: &str =
-    "UnableToSymbolizeValue(Record(ValueMap { pairs: AttributePairs { items: [] } }))";
+    "UnableToSymbolizeValue(Record(ValueMap { pairs: AttributeMap { items: [] } }))";
 
 /// Worlds whose request, or whose context, is refused first, and one that is not refused.
 const REQUESTS: &[(World, &str)] = &[
@@ -567,22 +568,23 @@ fn wrong(rt: &impl Abort, alloc: Global, rows: &[(World, &str)]) -> Option<usize
 
 #[test]
 fn requests_are_refused(rt: HostRuntime) {
-    assert_eq!(rt; wrong(&rt, rt.alloc(), REQUESTS), None);
+    expect_none_wrong(&rt, wrong(&rt, rt.alloc(), REQUESTS));
 }
 
 #[test]
 fn types_are_refused(rt: HostRuntime) {
-    assert_eq!(rt; wrong(&rt, rt.alloc(), TYPES), None);
+    expect_none_wrong(&rt, wrong(&rt, rt.alloc(), TYPES));
 }
 
 #[test]
 fn tags_are_refused(rt: HostRuntime) {
-    assert_eq!(rt; wrong(&rt, rt.alloc(), TAGS), None);
+    expect_none_wrong(&rt, wrong(&rt, rt.alloc(), TAGS));
 }
 
 #[test]
 fn names_stay(rt: HostRuntime) {
     let user = uid(&rt, rt.alloc(), A);
-    assert!(rt; core_uid_into_uid(&user) == &user);
-    assert!(rt; core_entity_type_into_entity_type(&user.ety) == &user.ety);
+    expect(&rt, core_uid_into_uid(&user) == &user, "an entity");
+    let ety = core_entity_type_into_entity_type(&user.ety);
+    expect(&rt, ety == &user.ety, "its type");
 }

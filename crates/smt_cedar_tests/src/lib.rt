@@ -6,6 +6,12 @@
 #[cfg(test)]
 mod environments;
 #[cfg(test)]
+mod examples;
+#[cfg(test)]
+mod expected;
+#[cfg(test)]
+mod lists;
+#[cfg(test)]
 mod questions;
 #[cfg(test)]
 mod stores;

@@ -1,5 +1,6 @@
 // A question about a store: which other user than the one who asks is an admin of less than 18 years.
 use crate::AMPLE;
+use crate::expected::expect_text;
 use crate::worlds::{Kind, Part, Plain, World, symbolized, text, type_named, uid};
 use smt_encode::Encoder;
 use smt_factory::{app, bvslt, eq, not, record_get, set_member};
@@ -146,5 +147,5 @@ fn a_question_has_its_script(rt: HostRuntime) {
         .expect(&rt, "the terms have a script");
     let sink = encoder.into_script();
     let script = str::from_utf8(sink.bytes()).expect(&rt, "a script is UTF-8");
-    assert_eq!(rt; script, SCRIPT);
+    expect_text(&rt, "the script", script, SCRIPT);
 }

@@ -1,5 +1,6 @@
 // Stores with entities that replace others, schemas and the request environments that are theirs, and entity types in order.
 use crate::AMPLE;
+use crate::expected::{expect, expect_at, expect_text, expect_text_at};
 use crate::worlds::{text, type_named, types_named, uid};
 use smt_cedar_stores::{
     ActionEntry, ActionList, Entities, Entity, EntityEntry, EntryMap, Env, Request, RequestEnv,
@@ -19,9 +20,9 @@ fn entity(rt: &impl Abort, alloc: Global, ety: &str, id: &str, mark: &str) -> En
         .expect(rt, AMPLE);
     Entity {
         uid: uid(rt, alloc, (ety, id)),
-        attrs: PartialMap::new(alloc, Vec::new(alloc)).expect(rt, AMPLE),
+        attrs: PartialMap::new(alloc),
         ancestors,
-        tags: PartialMap::new(alloc, Vec::new(alloc)).expect(rt, AMPLE),
+        tags: PartialMap::new(alloc),
     }
 }
 
@@ -89,19 +90,42 @@ const STORES: &[(&[(&str, &str, &str)], &str)] = &[
     ),
 ];
 
+/// Whether a store has the entity of this name.
+fn has(rt: &impl Abort, alloc: Global, entities: &Entities, name: (&str, &str)) -> bool {
+    let asked = uid(rt, alloc, name);
+    match entities.get(&asked) {
+        Some(found) => found.uid == asked,
+        None => false,
+    }
+}
+
+/// Whether a store has each of these entities.
+fn has_each(
+    rt: &impl Abort,
+    alloc: Global,
+    entities: &Entities,
+    given: &[(&str, &str, &str)],
+) -> bool {
+    for &(ety, id, _mark) in given {
+        if !has(rt, alloc, entities, (ety, id)) {
+            return false;
+        }
+    }
+    true
+}
+
 #[test]
 fn entities_are_put_in_place(rt: HostRuntime) {
     let alloc = rt.alloc();
     for (at, (given, answer)) in STORES.iter().enumerate() {
         let entities = store(&rt, alloc, given);
-        assert_eq!(rt; marks(&rt, alloc, &entities).as_str(), *answer, "at {at}");
-        for &(ety, id, _mark) in *given {
-            let asked = uid(&rt, alloc, (ety, id));
-            let found = entities.get(&asked).is_some_and(|e| e.uid == asked);
-            assert!(rt; found, "an entity of {at} is not found");
-        }
+        let marks = marks(&rt, alloc, &entities);
+        expect_text_at(&rt, at, marks.as_str(), *answer);
+        let found = has_each(&rt, alloc, &entities, given);
+        expect_at(&rt, found, "each entity is found", at);
         let absent = uid(&rt, alloc, ("User", "nobody"));
-        assert!(rt; entities.get(&absent).is_none(), "at {at}");
+        let is_absent = entities.get(&absent).is_none();
+        expect_at(&rt, is_absent, "nobody is not found", at);
     }
 }
 
@@ -118,7 +142,7 @@ fn action(
         ancestors: UidList::new(alloc),
         principals: types_named(rt, alloc, principals),
         resources: types_named(rt, alloc, resources),
-        context: Attributes::new(alloc, Vec::new(alloc)).expect(rt, AMPLE),
+        context: Attributes::new(alloc),
     }
 }
 
@@ -150,6 +174,19 @@ const SCHEMAS: &[(&[(&str, &[&str], &[&str])], bool)] = &[
     ),
 ];
 
+/// A schema of these actions.
+fn schema_of(rt: &impl Abort, alloc: Global, given: &[(&str, &[&str], &[&str])]) -> Schema {
+    let mut actions = ActionList::new(alloc);
+    for (id, principals, resources) in given {
+        let entry = action(rt, alloc, id, principals, resources);
+        actions.push(entry).expect(rt, AMPLE);
+    }
+    Schema {
+        entity_types: EntryMap::new(alloc),
+        actions,
+    }
+}
+
 #[test]
 fn environments_of_schemas(rt: HostRuntime) {
     let alloc = rt.alloc();
@@ -159,17 +196,9 @@ fn environments_of_schemas(rt: HostRuntime) {
         resource: type_named(&rt, alloc, "Photo"),
     };
     for (at, (given, answer)) in SCHEMAS.iter().enumerate() {
-        let mut actions = ActionList::new(alloc);
-        for (id, principals, resources) in *given {
-            actions
-                .push(action(&rt, alloc, id, principals, resources))
-                .expect(&rt, AMPLE);
-        }
-        let schema = Schema {
-            entity_types: EntryMap::new(alloc),
-            actions,
-        };
-        assert_eq!(rt; asked.is_of(&schema), *answer, "at {at}");
+        let schema = schema_of(&rt, alloc, given);
+        let is_right = asked.is_of(&schema) == *answer;
+        expect_at(&rt, is_right, "whether it is of the schema", at);
     }
 }
 
@@ -183,7 +212,7 @@ fn one_member(rt: &impl Abort, alloc: Global, id: &str) -> EntityEntry {
 fn with_tags(rt: &impl Abort, alloc: Global, ancestors: &[&str]) -> EntityEntry {
     EntityEntry::Standard {
         ancestors: types_named(rt, alloc, ancestors),
-        attrs: Attributes::new(alloc, Vec::new(alloc)).expect(rt, AMPLE),
+        attrs: Attributes::new(alloc),
         tags: Some(CedarType::Long),
     }
 }
@@ -201,13 +230,19 @@ fn entries(rt: &impl Abort, alloc: Global) -> EntryMap {
     entries
 }
 
+/// The names of the types in order.
+const NAMES: &[&str] = &["", "B", "a", "a::b", "b", "\u{e9}"];
+
 #[test]
 fn types_are_in_order(rt: HostRuntime) {
     let entries = entries(&rt, rt.alloc());
-    let names = ["", "B", "a", "a::b", "b", "\u{e9}"];
-    assert_eq!(rt; entries.len(), names.len());
-    for ((ety, _entry), name) in entries.items().iter().zip(names) {
-        assert_eq!(rt; ety.0.as_str(), name);
+    expect(
+        &rt,
+        entries.len() == NAMES.len(),
+        "how many types there are",
+    );
+    for ((ety, _entry), name) in entries.items().iter().zip(NAMES) {
+        expect_text(&rt, "a type", ety.0.as_str(), *name);
     }
 }
 
@@ -216,8 +251,10 @@ fn the_last_entry_of_a_type_stays(rt: HostRuntime) {
     let alloc = rt.alloc();
     let entries = entries(&rt, alloc);
     let second = one_member(&rt, alloc, "second");
-    assert!(rt; entries.get(&type_named(&rt, alloc, "b")) == Some(&second));
-    assert!(rt; entries.get(&type_named(&rt, alloc, "c")).is_none());
+    let b = type_named(&rt, alloc, "b");
+    expect(&rt, entries.get(&b) == Some(&second), "the last entry of b");
+    let c = type_named(&rt, alloc, "c");
+    expect(&rt, entries.get(&c).is_none(), "no entry of c");
 }
 
 #[test]
@@ -228,11 +265,11 @@ fn environments_hold_requests(rt: HostRuntime) {
             principal: Some(uid(&rt, alloc, ("User", "ann"))),
             action: None,
             resource: None,
-            context: Some(ValueMap::new(alloc, Vec::new(alloc)).expect(&rt, AMPLE)),
+            context: Some(ValueMap::new(alloc)),
         },
         entities: store(&rt, alloc, &[("User", "ann", "1")]),
     };
     let principal = env.request.principal.as_ref().expect(&rt, "the one given");
-    assert!(rt; env.entities.get(principal).is_some());
-    assert_eq!(rt; env.entities.len(), 1);
+    expect(&rt, env.entities.get(principal).is_some(), "the principal");
+    expect(&rt, env.entities.len() == 1, "how many entities there are");
 }

@@ -1,5 +1,6 @@
 // The terms of values at types, each refusal, and the defaults of types.
 use crate::AMPLE;
+use crate::expected::{expect_text, expect_text_at};
 use crate::worlds::{text, type_named, uid};
 use smt_bits::SIXTY_FOUR;
 use smt_cedar_types::{AttributeType, Attributes, BoolType, CedarType, OpenTag};
@@ -76,7 +77,7 @@ fn call(rt: &impl Abort, alloc: Global, name: &str, bytes: &str) -> RestrictedEx
     args.push(arg).expect(rt, AMPLE);
     RestrictedExpr::Call {
         name: text(rt, alloc, name),
-        args: ExprList::new(alloc, args).expect(rt, AMPLE),
+        args: ExprList::of_items(args),
     }
 }
 
@@ -99,7 +100,7 @@ fn set(rt: &impl Abort, alloc: Global, given: &[Part]) -> Value {
             .push(part_value(rt, alloc, *element))
             .expect(rt, AMPLE);
     }
-    Value::Set(ValueList::new(alloc, items).expect(rt, AMPLE))
+    Value::Set(ValueList::of_items(items))
 }
 
 /// The record of some attributes.
@@ -109,7 +110,7 @@ fn record(rt: &impl Abort, alloc: Global, given: &[(&'static str, Part)]) -> Val
         let pair = (text(rt, alloc, name), part_value(rt, alloc, *field));
         pairs.push(pair).expect(rt, AMPLE);
     }
-    Value::Record(ValueMap::new(alloc, pairs).expect(rt, AMPLE))
+    Value::Record(ValueMap::of_pairs(alloc, pairs).expect(rt, AMPLE))
 }
 
 /// A value.
@@ -120,7 +121,7 @@ fn value(rt: &impl Abort, alloc: Global, given: Given) -> Value {
         Given::SetOfSet(elements) => {
             let mut items = Vec::new(alloc);
             items.push(set(rt, alloc, elements)).expect(rt, AMPLE);
-            Value::Set(ValueList::new(alloc, items).expect(rt, AMPLE))
+            Value::Set(ValueList::of_items(items))
         }
         Given::Record(fields) => record(rt, alloc, fields),
     }
@@ -154,7 +155,7 @@ fn attributes(rt: &impl Abort, alloc: Global, b: Plain, a: Plain) -> Attributes 
     pairs
         .push((text(rt, alloc, "a"), optional))
         .expect(rt, AMPLE);
-    Attributes::new(alloc, pairs).expect(rt, AMPLE)
+    Attributes::of_pairs(alloc, pairs).expect(rt, AMPLE)
 }
 
 /// A Cedar type.
@@ -331,13 +332,19 @@ const ROWS: &[(Given, At, &str)] = &[
     (Given::Record(&[("b", NO_DECIMAL_PART)]), NEVER, WHOLE),
 ];
 
+/// What is said of this value at this type.
+fn said_at(rt: &impl Abort, alloc: Global, given: Given, ty: At) -> String {
+    let v = value(rt, alloc, given);
+    let ty = type_at(rt, alloc, ty);
+    said(rt, alloc, &v, &ty)
+}
+
 #[test]
 fn values_at_types(rt: HostRuntime) {
     let alloc = rt.alloc();
     for (at, (given, ty, answer)) in ROWS.iter().enumerate() {
-        let v = value(&rt, alloc, *given);
-        let ty = type_at(&rt, alloc, *ty);
-        assert_eq!(rt; said(&rt, alloc, &v, &ty).as_str(), *answer, "at {at}");
+        let said = said_at(&rt, alloc, *given, *ty);
+        expect_text_at(&rt, at, said.as_str(), *answer);
     }
 }
 
@@ -355,9 +362,11 @@ fn none_of_its_type(rt: HostRuntime) {
         },
     );
     let text = format!(in alloc; "{:?}", Term::from_value(alloc, &v, &ty)).expect(&rt, AMPLE);
-    assert_eq!(rt;
+    expect_text(
+        &rt,
+        "a record",
         text.as_str(),
-        "Ok(Record(TermMap { pairs: AttributePairs { items: [(\"a\", None(String)), (\"b\", Prim(Bitvec(BitVec { width: Width { bits: 64 }, number: 1 })))] } }))"
+        "Ok(Record(TermMap { pairs: AttributePairs { items: [(\"a\", None(String)), (\"b\", Prim(Bitvec(BitVec { width: Width { bits: 64 }, number: 1 })))] } }))",
     );
 }
 
@@ -433,15 +442,20 @@ const DEFAULTS: &[(&str, &str)] = &[
     ("two attributes", "{ a: false, b: \"\" }"),
 ];
 
+/// The default of the type of this spelling, as a text.
+fn default_of(rt: &impl Abort, alloc: Global, enums: &EnumTable, spelling: &str) -> String {
+    let ty = spelled(rt, alloc, spelling);
+    let term = default_literal(alloc, &ty, enums).expect(rt, AMPLE);
+    format!(in alloc; "{term}").expect(rt, AMPLE)
+}
+
 #[test]
 fn defaults_of_types(rt: HostRuntime) {
     let alloc = rt.alloc();
     let enums = enum_types(&rt, alloc);
     for &(spelling, answer) in DEFAULTS {
-        let ty = spelled(&rt, alloc, spelling);
-        let term = default_literal(alloc, &ty, &enums).expect(&rt, AMPLE);
-        let text = format!(in alloc; "{term}").expect(&rt, AMPLE);
-        assert_eq!(rt; text.as_str(), answer, "{spelling}");
+        let text = default_of(&rt, alloc, &enums, spelling);
+        expect_text(&rt, spelling, text.as_str(), answer);
     }
 }
 
@@ -457,12 +471,10 @@ fn an_attribute_alone(rt: HostRuntime) {
         .push((text(&rt, alloc, "a"), optional))
         .expect(&rt, AMPLE);
     let ty = CedarType::Record {
-        attrs: Attributes::new(alloc, pairs).expect(&rt, AMPLE),
+        attrs: Attributes::of_pairs(alloc, pairs).expect(&rt, AMPLE),
         open_attributes: OpenTag::ClosedAttributes,
     };
     let v = record(&rt, alloc, &[("a", TEN)]);
-    assert_eq!(rt;
-        said(&rt, alloc, &v, &ty).as_str(),
-        "{ a: Some((bv64 10)) }"
-    );
+    let said = said(&rt, alloc, &v, &ty);
+    expect_text(&rt, "a record", said.as_str(), "{ a: Some((bv64 10)) }");
 }

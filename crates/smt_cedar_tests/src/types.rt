@@ -1,5 +1,6 @@
 // The types of terms of Cedar types, and each refusal.
 use crate::AMPLE;
+use crate::expected::{expect, expect_text};
 use crate::worlds::{text, types_named};
 use smt_cedar_types::{
     AttributeType, Attributes, BoolType, CedarType, EntityKind, OfType, OpenTag, of_record_type,
@@ -40,7 +41,7 @@ fn record(
         .push((text(rt, alloc, "a"), optional))
         .expect(rt, AMPLE);
     CedarType::Record {
-        attrs: Attributes::new(alloc, pairs).expect(rt, AMPLE),
+        attrs: Attributes::of_pairs(alloc, pairs).expect(rt, AMPLE),
         open_attributes,
     }
 }
@@ -140,20 +141,26 @@ const TYPES: &[(&str, &str)] = &[
     ),
 ];
 
+/// What is answered of the Cedar type of this spelling.
+fn answered(rt: &impl Abort, alloc: Global, spelling: &str) -> String {
+    let ty = spelled(rt, alloc, spelling);
+    let given = TermType::of_type(alloc, &ty);
+    format!(in alloc; "{given:?}").expect(rt, AMPLE)
+}
+
 #[test]
 fn types_and_refusals(rt: HostRuntime) {
     let alloc = rt.alloc();
     for &(spelling, answer) in TYPES {
-        let given = TermType::of_type(alloc, &spelled(&rt, alloc, spelling));
-        let text = format!(in alloc; "{given:?}").expect(&rt, AMPLE);
-        assert_eq!(rt; text.as_str(), answer, "{spelling}");
+        let text = answered(&rt, alloc, spelling);
+        expect_text(&rt, spelling, text.as_str(), answer);
     }
 }
 
 #[test]
 fn no_attributes_have_no_types(rt: HostRuntime) {
     let alloc = rt.alloc();
-    let none = Attributes::new(alloc, Vec::new(alloc)).expect(&rt, AMPLE);
+    let none = Attributes::new(alloc);
     let types = of_record_type(alloc, &none).expect(&rt, "no attribute is refused");
-    assert!(rt; types.is_empty());
+    expect(&rt, types.is_empty(), "no types");
 }

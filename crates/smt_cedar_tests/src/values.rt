@@ -1,5 +1,6 @@
 // The values of constructor calls, each refusal, and the calls that are made of values.
 use crate::AMPLE;
+use crate::expected::expect_text;
 use smt_cedar_values::{
     ExprList, ExtError, ExtFromCedar, Literal, PartialMap, PartialValue, RestrictedExpr, Value,
     ValueList, ValueMap, value_of_ext,
@@ -30,7 +31,7 @@ fn call(rt: &impl Abort, alloc: Global, name: &str, given: &[Arg]) -> Restricted
     }
     RestrictedExpr::Call {
         name: Text::from_str(alloc, name).expect(rt, AMPLE),
-        args: ExprList::new(alloc, args).expect(rt, AMPLE),
+        args: ExprList::of_items(args),
     }
 }
 
@@ -56,7 +57,7 @@ fn call_with(rt: &impl Abort, alloc: Global, name: &str, bytes: &str) -> Restric
     args.push(text(rt, alloc, bytes)).expect(rt, AMPLE);
     RestrictedExpr::Call {
         name: Text::from_str(alloc, name).expect(rt, AMPLE),
-        args: ExprList::new(alloc, args).expect(rt, AMPLE),
+        args: ExprList::of_items(args),
     }
 }
 
@@ -217,13 +218,20 @@ fn wrong_reading(
     }
 }
 
+/// Stops the test where a reading says something else of a call, and names both.
+fn expect_no_other(rt: &impl Abort, name: &str, wrong: Option<&'static str>) {
+    if let Some(reading) = wrong {
+        panic!(rt; "{name}: {reading} says something else");
+    }
+}
+
 #[test]
 fn calls_and_values(rt: HostRuntime) {
     let alloc = rt.alloc();
     for &(name, args, answer) in ROWS {
         let given = call(&rt, alloc, name, args);
         let wrong = wrong_reading(&rt, alloc, &given, answer);
-        assert_eq!(rt; wrong, None, "{name}");
+        expect_no_other(&rt, name, wrong);
     }
 }
 
@@ -250,19 +258,28 @@ const MADE: &[(&str, &str, &str)] = &[
     ),
 ];
 
+/// The value that is made of the value of a call with one text.
+fn made_again(rt: &impl Abort, alloc: Global, name: &str, bytes: &str) -> Value {
+    let given = call_with(rt, alloc, name, bytes);
+    let read = Ext::try_from_restricted(alloc, &given).expect(rt, "the call has a value");
+    value_of_ext(alloc, &read).expect(rt, AMPLE)
+}
+
+/// The call that a value is, as `{:?}` prints it.
+fn shown_call(rt: &impl Abort, alloc: Global, made: &Value) -> String {
+    match made {
+        Value::ExtensionValue(made) => format!(in alloc; "{made:?}").expect(rt, AMPLE),
+        _ => panic!(rt; "another kind of value is made"),
+    }
+}
+
 #[test]
 fn calls_made_of_values(rt: HostRuntime) {
     let alloc = rt.alloc();
     for &(name, bytes, answer) in MADE {
-        let given = call_with(&rt, alloc, name, bytes);
-        let read = Ext::try_from_restricted(alloc, &given).expect(&rt, "the call has a value");
-        match &value_of_ext(alloc, &read).expect(&rt, AMPLE) {
-            Value::ExtensionValue(made) => {
-                let answered = format!(in alloc; "{made:?}").expect(&rt, AMPLE);
-                assert_eq!(rt; answered.as_str(), answer, "{name}");
-            }
-            _ => panic!(rt; "{name} makes another kind of value"),
-        }
+        let made = made_again(&rt, alloc, name, bytes);
+        let answered = shown_call(&rt, alloc, &made);
+        expect_text(&rt, name, answered.as_str(), answer);
     }
 }
 
@@ -277,7 +294,7 @@ fn numbered(rt: &impl Abort, alloc: Global) -> ValueMap {
         let pair = (name, Value::Lit(Literal::Long(number)));
         pairs.push(pair).expect(rt, AMPLE);
     }
-    ValueMap::new(alloc, pairs).expect(rt, AMPLE)
+    ValueMap::of_pairs(alloc, pairs).expect(rt, AMPLE)
 }
 
 /// The same attributes, of whose values nothing is known.
@@ -287,7 +304,7 @@ fn unknown(rt: &impl Abort, alloc: Global) -> PartialMap {
         let name = Text::from_str(alloc, name).expect(rt, AMPLE);
         parts.push((name, PartialValue::Residual)).expect(rt, AMPLE);
     }
-    PartialMap::new(alloc, parts).expect(rt, AMPLE)
+    PartialMap::of_pairs(alloc, parts).expect(rt, AMPLE)
 }
 
 /// The list of one value of an extension type.
@@ -295,20 +312,18 @@ fn one_decimal(rt: &impl Abort, alloc: Global) -> ValueList {
     let mut items = Vec::new(alloc);
     let call = call_with(rt, alloc, "decimal", "1.0");
     items.push(Value::ExtensionValue(call)).expect(rt, AMPLE);
-    ValueList::new(alloc, items).expect(rt, AMPLE)
+    ValueList::of_items(items)
 }
 
 #[test]
 fn values_of_no_extension_type(rt: HostRuntime) {
     let alloc = rt.alloc();
     let set = Value::Set(one_decimal(&rt, alloc));
-    assert_eq!(rt; said_by_value(&rt, alloc, &set).as_str(), "none", "a set");
+    let said = said_by_value(&rt, alloc, &set);
+    expect_text(&rt, "a set", said.as_str(), "none");
     let record = Value::Record(numbered(&rt, alloc));
-    assert_eq!(rt;
-        said_by_value(&rt, alloc, &record).as_str(),
-        "none",
-        "a record"
-    );
+    let said = said_by_value(&rt, alloc, &record);
+    expect_text(&rt, "a record", said.as_str(), "none");
 }
 
 #[test]
@@ -316,16 +331,16 @@ fn records_are_in_order(rt: HostRuntime) {
     let alloc = rt.alloc();
     let record = Value::Record(numbered(&rt, alloc));
     let answered = format!(in alloc; "{record:?}").expect(&rt, AMPLE);
-    assert_eq!(rt;
+    expect_text(
+        &rt,
+        "known values",
         answered.as_str(),
-        "Record(ValueMap { pairs: AttributePairs { items: [(\"\", Lit(Long(4))), (\"a\", Lit(Long(2))), (\"b\", Lit(Long(3)))] } })"
+        "Record(ValueMap { pairs: AttributeMap { items: [(\"\", Lit(Long(4))), (\"a\", Lit(Long(2))), (\"b\", Lit(Long(3)))] } })",
     );
     let known = unknown(&rt, alloc).share().expect(&rt, AMPLE);
     let answered = format!(in alloc; "{:?}", known.items()).expect(&rt, AMPLE);
-    assert_eq!(rt;
-        answered.as_str(),
-        "[(\"\", Residual), (\"a\", Residual), (\"b\", Residual)]"
-    );
+    let wanted = "[(\"\", Residual), (\"a\", Residual), (\"b\", Residual)]";
+    expect_text(&rt, "values not known", answered.as_str(), wanted);
 }
 
 /// The text of an error.
@@ -356,6 +371,7 @@ fn messages(rt: HostRuntime) {
         ),
     ];
     for (error, answer) in rows {
-        assert_eq!(rt; message(&rt, alloc, error).as_str(), answer);
+        let message = message(&rt, alloc, error);
+        expect_text(&rt, "the text of an error", message.as_str(), answer);
     }
 }

@@ -104,7 +104,7 @@ pub(crate) fn types_named(rt: &impl Abort, alloc: Global, names: &[&str]) -> Ent
     for name in names {
         items.push(type_named(rt, alloc, name)).expect(rt, AMPLE);
     }
-    EntityTypeList { items }
+    EntityTypeList::of_items(items)
 }
 
 /// A Cedar type.
@@ -126,7 +126,7 @@ pub(crate) fn attributes(rt: &impl Abort, alloc: Global, types: Types) -> Attrib
         };
         pairs.push((text(rt, alloc, name), ty)).expect(rt, AMPLE);
     }
-    Attributes::new(alloc, pairs).expect(rt, AMPLE)
+    Attributes::of_pairs(alloc, pairs).expect(rt, AMPLE)
 }
 
 /// What is known of a value.
@@ -137,7 +137,7 @@ pub(crate) fn partial(rt: &impl Abort, alloc: Global, part: Part) -> PartialValu
             PartialValue::Value(Value::Lit(Literal::String(text(rt, alloc, bytes))))
         }
         Part::Set => {
-            let none = ValueList::new(alloc, Vec::new(alloc)).expect(rt, AMPLE);
+            let none = ValueList::new(alloc);
             PartialValue::Value(Value::Set(none))
         }
         Part::Unknown => PartialValue::Residual,
@@ -151,7 +151,7 @@ pub(crate) fn partials(rt: &impl Abort, alloc: Global, parts: Parts) -> PartialM
         let pair = (text(rt, alloc, name), partial(rt, alloc, *part));
         pairs.push(pair).expect(rt, AMPLE);
     }
-    PartialMap::new(alloc, pairs).expect(rt, AMPLE)
+    PartialMap::of_pairs(alloc, pairs).expect(rt, AMPLE)
 }
 
 /// A context, of the values of these that are known.
@@ -162,7 +162,7 @@ pub(crate) fn context(rt: &impl Abort, alloc: Global, parts: Parts) -> ValueMap 
             pairs.push((text(rt, alloc, name), v)).expect(rt, AMPLE);
         }
     }
-    ValueMap::new(alloc, pairs).expect(rt, AMPLE)
+    ValueMap::of_pairs(alloc, pairs).expect(rt, AMPLE)
 }
 
 /// What a schema says of a type.

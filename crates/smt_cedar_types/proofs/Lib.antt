@@ -1,3 +1,3 @@
 mod LastName
-mod PutPairs
+mod Pairs
 mod TypesGiven

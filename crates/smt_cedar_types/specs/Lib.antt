@@ -1,4 +1,5 @@
 pub mod Cedar
+pub mod EntityTypes
 pub mod Refused
 pub mod TypeOfCedar
 pub mod View

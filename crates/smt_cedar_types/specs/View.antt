@@ -10,9 +10,10 @@ use Rattle.std.specs.declared.rc.Rc.{Rc}
 use Rattle.std.specs.declared.rc.RcStr.{RcStr}
 use Rattle.smt_meaning.specs.Plain.{AttributeTypes}
 use Rattle.smt_leaves.specs.Entities.{bytes_of_type}
-use Rattle.smt_leaves.specs.Pairs.{attributes_in, pairs_of}
-use Rattle.smt_leaves.specs.formers.pairs.AttributePairs.{attributes-over}
-use Rattle.smt_leaves.specs.declared.pairs.AttributePairs.{AttributePairs}
+use Rattle.smt_leaves.specs.Pairs.{attributes_in}
+use Rattle.smt_cedar_lists.specs.AttributeMaps.{pairs_of}
+use Rattle.smt_cedar_lists.specs.formers.attribute_map.AttributeMap.{attributes-over}
+use Rattle.smt_cedar_lists.specs.declared.attribute_map.AttributeMap.{AttributeMap}
 use Rattle.smt_term.specs.View.{attribute_types, plain_attribute, plain_attributes}
 use Rattle.smt_types.specs.declared.maps.TypeMap.{TypeMap}
 use Rattle.smt_types.specs.declared.types.TermType.{TermType}
@@ -33,7 +34,7 @@ abbrev pub pairs_held : Attributes → List (RcStr Global × AttributeType)
 pairs_held held = pairs_of (out-Attributes held).pairs
 
 -- the names of pairs, in order
-abbrev pub names_in : {X : Type 0} → AttributePairs X → List (List ℕ)
+abbrev pub names_in : {X : Type 0} → AttributeMap X → List (List ℕ)
 names_in ps = attributes_in (pairs_of ps)
 
 -- truth values of a type
@@ -148,13 +149,13 @@ zipped : (ps : List (RcStr Global × AttributeType)) → zip (attributes_in ps) 
 zipped [] = refl
 zipped (p ∷ ps) = ap (λ l. named_attribute p ∷ l) (zipped ps)
 
-pairs_named : (held : AttributePairs AttributeType) → plain_row (names_in (shape-the_row-AttributeType-0 held)) (hidden-the_row-AttributeType-0 held) ≡ cedar_attributes (map named_attribute (pairs_of held))
+pairs_named : (held : AttributeMap AttributeType) → plain_row (names_in (shape-the_row-AttributeType-0 held)) (hidden-the_row-AttributeType-0 held) ≡ cedar_attributes (map named_attribute (pairs_of held))
 unfolding shape-the_row-AttributeType-0
 pairs_named held =
     rows_named (names_in (shape-the_row-AttributeType-0 held)) (hidden-the_row-AttributeType-0 held)
     ∙ ap (λ ts. cedar_attributes (zip (names_in (shape-the_row-AttributeType-0 held)) (map plain_attribute_type ts))) (items_hidden-the_row-AttributeType-0 held)
-    ∙ ap (λ ns. cedar_attributes (zip ns (map plain_attribute_type (map (λ p. p.1) held.items.value.items)))) (attributes-over (λ _. tt) held.items.value.items)
-    ∙ ap cedar_attributes (zipped held.items.value.items)
+    ∙ ap (λ ns. cedar_attributes (zip ns (map plain_attribute_type (map (λ p. p.1) held.items.items)))) (attributes-over (λ _. tt) held.items.items)
+    ∙ ap cedar_attributes (zipped held.items.items)
 
 pub plain_attributes-named : (attrs : Attributes) → plain_cedar_attributes attrs ≡ cedar_attributes (named_attributes attrs)
 unfolding plain_cedar_attributes roll-Attributes shape-the_row-AttributeType-0 denote.Hole.Carrier.roll out-Attributes

@@ -1,6 +1,11 @@
 // The types of Cedar.
+ghost use Rattle.std.specs.Prelude.{◌≡◌, IfOk};
+ghost use Rattle.smt_cedar_types.specs.View.{plain_cedar, plain_entity, set_with};
+
 use crate::attributes::Attributes;
-use smt_leaves::{EntityType, Text};
+use crate::entity_types::EntityTypeList;
+use smt_leaves::{TermError, Text};
+use smt_text::share_text;
 use std::rc::Rc;
 
 /// Which truth values a Cedar type has.
@@ -21,13 +26,6 @@ pub enum OpenTag {
     OpenAttributes,
     /// They may not.
     ClosedAttributes,
-}
-
-/// The types that an entity may be of, each one of them.
-#[derive(Debug, PartialEq, Eq, Drop)]
-pub struct EntityTypeList {
-    /// The types, in the order in which they were given.
-    pub items: Vec<EntityType>,
 }
 
 /// Which entities a Cedar type has.
@@ -87,5 +85,63 @@ impl Drop for CedarType {
             CedarType::Entity(_) => {}
             CedarType::ExtensionType { name: _ } => {}
         }
+    }
+}
+
+impl EntityKind {
+    /// The same entities, by names that are shared.
+    ///
+    /// # Errors
+    /// `Memory`, where there is none for the list of types.
+    pub fn share(&self) -> Result<EntityKind, TermError>
+        ensures { IfOk result (λ shared. plain_entity shared ≡ plain_entity self.now) }
+    {
+        match self {
+            EntityKind::AnyEntity => Ok(EntityKind::AnyEntity),
+            EntityKind::Entity(types) => Ok(EntityKind::Entity(types.share()?)),
+        }
+    }
+}
+
+impl CedarType {
+    /// An equal type, whose texts and types of elements are shared.
+    ///
+    /// # Errors
+    /// `Memory`, where there is none for the type.
+    #[cycle(share)]
+    #[tactic(auto, using(crate::proofs::Pairs::record_shared))]
+    pub fn share(&self) -> Result<CedarType, TermError>
+        ensures { IfOk result (λ shared. plain_cedar shared ≡ plain_cedar self.now) }
+    {
+        match self {
+            CedarType::Never => Ok(CedarType::Never),
+            CedarType::Bool(kind) => Ok(CedarType::Bool(*kind)),
+            CedarType::Long => Ok(CedarType::Long),
+            CedarType::String => Ok(CedarType::String),
+            CedarType::Set { element_type } => Ok(CedarType::Set {
+                element_type: shared_element(element_type)?,
+            }),
+            CedarType::Record {
+                attrs,
+                open_attributes,
+            } => Ok(CedarType::Record {
+                attrs: attrs.share()?,
+                open_attributes: *open_attributes,
+            }),
+            CedarType::Entity(kind) => Ok(CedarType::Entity(kind.share()?)),
+            CedarType::ExtensionType { name } => Ok(CedarType::ExtensionType {
+                name: share_text(name)?,
+            }),
+        }
+    }
+}
+
+// The same type of elements, shared.
+fn shared_element(element: &Option<Rc<CedarType>>) -> Result<Option<Rc<CedarType>>, TermError>
+    ensures { IfOk result (λ shared. set_with shared ≡ set_with element.now) }
+{
+    match element {
+        Some(ty) => Ok(Some(ty.clone()?)),
+        None => Ok(None),
     }
 }

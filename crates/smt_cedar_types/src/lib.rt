@@ -7,10 +7,12 @@
 
 mod attributes;
 mod cedar_type;
+mod entity_types;
 mod error;
 mod of_type;
 
 pub use attributes::{AttributeType, Attributes};
-pub use cedar_type::{BoolType, CedarType, EntityKind, EntityTypeList, OpenTag};
+pub use cedar_type::{BoolType, CedarType, EntityKind, OpenTag};
+pub use entity_types::EntityTypeList;
 pub use error::CompileError;
 pub use of_type::{OfType, of_record_type};

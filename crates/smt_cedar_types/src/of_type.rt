@@ -101,7 +101,7 @@ fn entities_type(alloc: Global, kind: &EntityKind) -> Result<TermType, CompileEr
 {
     match kind {
         EntityKind::AnyEntity => Err(unsupported(alloc, "AnyEntity is not supported")),
-        EntityKind::Entity(types) => entity_type(alloc, types.items.as_slice()),
+        EntityKind::Entity(types) => entity_type(alloc, types.items()),
     }
 }
 

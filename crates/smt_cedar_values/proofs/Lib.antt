@@ -1,4 +1,4 @@
 mod Examples
-mod PutPairs
+mod Pairs
 mod ReadBack
 mod ReadTexts

@@ -6,9 +6,10 @@ use Rattle.std.specs.Rc.{rc_str_bytes}
 use Rattle.std.specs.declared.alloc.Global.{Global}
 use Rattle.std.specs.declared.rc.RcStr.{RcStr}
 use Rattle.smt_leaves.specs.Entities.{bytes_of_id, bytes_of_type}
-use Rattle.smt_leaves.specs.Pairs.{attributes_in, pairs_of}
-use Rattle.smt_leaves.specs.formers.pairs.AttributePairs.{attributes-over}
-use Rattle.smt_leaves.specs.declared.pairs.AttributePairs.{AttributePairs}
+use Rattle.smt_leaves.specs.Pairs.{attributes_in}
+use Rattle.smt_cedar_lists.specs.AttributeMaps.{pairs_of}
+use Rattle.smt_cedar_lists.specs.formers.attribute_map.AttributeMap.{attributes-over}
+use Rattle.smt_cedar_lists.specs.declared.attribute_map.AttributeMap.{AttributeMap}
 use Rattle.smt_cedar_values.specs.declared.literal.Literal.{Literal}
 use Rattle.smt_cedar_values.specs.declared.literal.Literal.TheVariants.{Bool as TruthLiteral, Long as LongLiteral, String as TextLiteral, EntityUID as EntityLiteral}
 use Rattle.smt_cedar_values.specs.declared.expression.ExprList.{ExprList}
@@ -34,7 +35,7 @@ plain_literal (EntityLiteral e) = EntityOf (bytes_of_type e.ety) (bytes_of_id e.
 unfoldable mutual
   pub plain_expression : RestrictedExpr → PlainExpression
   plain_expression (LitExpression literal) = LiteralExpression (plain_literal literal)
-  plain_expression (Call' name p shape row) = CallOf (rc_str_bytes name) (plain_arguments row)
+  plain_expression (Call' name shape row) = CallOf (rc_str_bytes name) (plain_arguments row)
   plain_expression Other = OtherExpression
 
   pub plain_arguments : {m : _} → Row_of-RestrictedExpr m → PlainArguments
@@ -43,7 +44,11 @@ unfoldable mutual
 
 -- the expressions of a list
 abbrev pub expressions_held : ExprList → List RestrictedExpr
-expressions_held es = es.items.value.items
+expressions_held es = es.items.items
+
+-- what the expressions of a list say, in order
+abbrev pub plain_expressions : ExprList → List PlainExpression
+plain_expressions es = map plain_expression (expressions_held es)
 
 -- what expressions say, as the arguments of a call
 abbrev pub arguments_of : List RestrictedExpr → PlainArguments
@@ -52,13 +57,13 @@ arguments_of es = arguments (map plain_expression es)
 -- ---- values
 
 -- the attributes of pairs, in order
-abbrev pub attributes_of : {X : Type 0} → AttributePairs X → List (List ℕ)
+abbrev pub attributes_of : {X : Type 0} → AttributeMap X → List (List ℕ)
 attributes_of ps = attributes_in (pairs_of ps)
 
 unfoldable mutual
   pub plain_value_of : Value → PlainValue
   plain_value_of (Lit literal) = LiteralValue (plain_literal literal)
-  plain_value_of (Set' p shape row) = SetValue (plain_values row)
+  plain_value_of (Set' shape row) = SetValue (plain_values row)
   plain_value_of (Record' shape row) = RecordValue (plain_fields (attributes_of shape) row)
   plain_value_of (ExtensionOf e) = ExtensionValue (plain_expression e)
 
@@ -73,7 +78,11 @@ unfoldable mutual
 
 -- the values of a list
 abbrev pub values_held : ValueList → List Value
-values_held vs = vs.items.value.items
+values_held vs = vs.items.items
+
+-- what the values of a list say, in order
+abbrev pub plain_values_in : ValueList → List PlainValue
+plain_values_in vs = map plain_value_of (values_held vs)
 
 -- the attributes of a map and their values
 abbrev pub fields_held : ValueMap → List (RcStr Global × Value)
@@ -120,7 +129,7 @@ arguments-items (more_of-RestrictedExpr e rest) = ap (argument (plain_expression
 pub plain_expression-Call : (name : RcStr Global) (args : ExprList) → plain_expression (Call name args) ≡ CallOf (rc_str_bytes name) (arguments_of (expressions_held args))
 unfolding plain_expression plain_arguments
 plain_expression-Call name args =
-    ap (CallOf (rc_str_bytes name)) (arguments-items (hidden-the_row-RestrictedExpr-0 args.items.value) ∙ ap (λ l. arguments (map plain_expression l)) (items_hidden-the_row-RestrictedExpr-0 args.items.value))
+    ap (CallOf (rc_str_bytes name)) (arguments-items (hidden-the_row-RestrictedExpr-0 args.items) ∙ ap (λ l. arguments (map plain_expression l)) (items_hidden-the_row-RestrictedExpr-0 args.items))
 
 pub plain_expression-Other : plain_expression Other ≡ OtherExpression
 unfolding plain_expression
@@ -138,7 +147,7 @@ values-items (more_of-Value v rest) = ap (one_value (plain_value_of v)) (values-
 pub plain_value-Set : (vs : ValueList) → plain_value_of (Set vs) ≡ SetValue (values (map plain_value_of (values_held vs)))
 unfolding plain_value_of plain_values
 plain_value-Set vs =
-    ap SetValue (values-items (hidden-the_row-Value-0 vs.items.value) ∙ ap (λ l. values (map plain_value_of l)) (items_hidden-the_row-Value-0 vs.items.value))
+    ap SetValue (values-items (hidden-the_row-Value-0 vs.items) ∙ ap (λ l. values (map plain_value_of l)) (items_hidden-the_row-Value-0 vs.items))
 
 fields_named : {m : _} (ns : List (List ℕ)) (row : Row_of-Value m) → plain_fields ns row ≡ record_fields (zip ns (map plain_value_of (items-the_row-Value m row)))
 unfolding plain_fields
@@ -155,8 +164,8 @@ unfolding plain_value_of shape-the_row-Value-1
 plain_value-Record m =
     ap RecordValue (fields_named (attributes_of (shape-the_row-Value-1 m.pairs)) (hidden-the_row-Value-1 m.pairs)
     ∙ ap (λ vs. record_fields (zip (attributes_of (shape-the_row-Value-1 m.pairs)) (map plain_value_of vs))) (items_hidden-the_row-Value-1 m.pairs)
-    ∙ ap (λ ns. record_fields (zip ns (map plain_value_of (map (λ p. p.1) m.pairs.items.value.items)))) (attributes-over (λ _. tt) m.pairs.items.value.items)
-    ∙ ap record_fields (zipped m.pairs.items.value.items))
+    ∙ ap (λ ns. record_fields (zip ns (map plain_value_of (map (λ p. p.1) m.pairs.items.items)))) (attributes-over (λ _. tt) m.pairs.items.items)
+    ∙ ap record_fields (zipped m.pairs.items.items))
 
 pub plain_value-Extension : (e : RestrictedExpr) → plain_value_of (ExtensionOf e) ≡ ExtensionValue (plain_expression e)
 unfolding plain_value_of

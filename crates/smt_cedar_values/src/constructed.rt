@@ -49,11 +49,11 @@ fn call_with_text(alloc: Global, name: &str, text: &str) -> Result<RestrictedExp
     ensures { IfOk result (λ call. plain_expression call ≡ call_with name.now text.now) }
 {
     let sole = RestrictedExpr::Lit(Literal::String(Text::from_str(alloc, text)?));
-    let mut args = Vec::new(alloc);
+    let mut args = ExprList::new(alloc);
     args.push(sole)?;
     Ok(RestrictedExpr::Call {
         name: Text::from_str(alloc, name)?,
-        args: ExprList::new(alloc, args)?,
+        args,
     })
 }
 
@@ -71,11 +71,11 @@ fn offset_call(alloc: Global, milliseconds: i64) -> Result<RestrictedExpr, TermE
 {
     let start = call_with_text(alloc, "datetime", "1970-01-01")?;
     let span = duration_call_of(alloc, milliseconds)?;
-    let mut args = Vec::new(alloc);
+    let mut args = ExprList::new(alloc);
     args.push(start)?;
     args.push(span)?;
     Ok(RestrictedExpr::Call {
         name: Text::from_str(alloc, "offset")?,
-        args: ExprList::new(alloc, args)?,
+        args,
     })
 }

@@ -1,12 +1,11 @@
 // Restricted expressions and lists of them.
-ghost use Rattle.std.specs.Prelude.{◌≡◌, IfOk, map};
-ghost use Rattle.smt_cedar_values.specs.View.{expressions_held, plain_expression};
+ghost use Rattle.std.specs.Prelude.{◌≡◌, ◌++◌, ◌∷◌, [], IfOk, OnErr, OnOk, length, map};
+ghost use Rattle.smt_cedar_values.specs.View.{expressions_held, plain_expression, plain_expressions};
 
 use crate::literal::Literal;
 use smt_leaves::{TermError, Text};
 use smt_text::share_text;
-use std::alloc::Global;
-use std::rc::Rc;
+use std::alloc::{AllocError, Global};
 
 /// An expression that needs no request to have a value: by such an expression Cedar says an extension value.
 #[derive(Debug, PartialEq, Eq)]
@@ -37,24 +36,47 @@ impl Drop for RestrictedExpr {
     }
 }
 
-/// A list of expressions in the order in which they were given; its holders share it.
+/// A list of expressions in the order in which they were given.
 #[derive(Debug, PartialEq, Eq, Drop)]
 #[cycle(expression)]
 pub struct ExprList {
-    items: Rc<Vec<RestrictedExpr>>,
+    items: Vec<RestrictedExpr>,
 }
 
 impl ExprList {
-    /// The list of these expressions, in this order.
+    /// The empty list. Takes no memory.
+    pub fn new(alloc: Global) -> ExprList
+        ensures { expressions_held result ≡ [] }
+    {
+        ExprList {
+            items: Vec::new(alloc),
+        }
+    }
+
+    /// The list of these expressions, in this order. Takes no memory.
+    pub fn of_items(items: Vec<RestrictedExpr>) -> ExprList
+        ensures { expressions_held result ≡ items.items }
+    {
+        ExprList { items }
+    }
+
+    /// Appends an expression.
     ///
     /// # Errors
-    /// `Memory`, where there is none for the list.
-    pub fn new(alloc: Global, items: Vec<RestrictedExpr>) -> Result<ExprList, TermError>
-        ensures { IfOk result (λ list. expressions_held list ≡ items.items) }
+    /// Want of memory. The list stays as it is.
+    pub fn push(&mut self, item: RestrictedExpr) -> Result<(), AllocError>
+        ensures pushed { OnOk result (expressions_held self.new ≡ expressions_held self.old ++ item ∷ []) }
+        ensures unchanged { OnErr result (expressions_held self.new ≡ expressions_held self.old) }
     {
-        Ok(ExprList {
-            items: Rc::new(alloc, items)?,
-        })
+        self.items.push(item)?;
+        Ok(())
+    }
+
+    /// How many expressions it has.
+    pub fn len(&self) -> usize
+        ensures { result ≡ length (expressions_held self.now) }
+    {
+        self.items.len()
     }
 
     /// The expressions, in order.
@@ -64,24 +86,28 @@ impl ExprList {
         self.items.as_slice()
     }
 
-    /// An equal list that shares the expressions.
+    /// An equal list, whose texts are shared.
     ///
     /// # Errors
     /// `Memory`, where there is none for the list.
+    #[cycle(share)]
     pub fn share(&self) -> Result<ExprList, TermError>
-        ensures { IfOk result (λ shared. expressions_held shared ≡ expressions_held self.now) }
+        ensures { IfOk result (λ shared. plain_expressions shared ≡ plain_expressions self.now) }
     {
-        Ok(ExprList {
-            items: self.items.clone()?,
-        })
+        let mut items: Vec<RestrictedExpr> = Vec::new(*self.items.allocator());
+        for item in self.items() {
+            items.push(item.share()?)?;
+        }
+        Ok(ExprList { items })
     }
 }
 
 impl RestrictedExpr {
-    /// An equal expression that shares its parts.
+    /// An equal expression, whose texts are shared.
     ///
     /// # Errors
     /// `Memory`, where there is none for the expression.
+    #[cycle(share)]
     pub fn share(&self) -> Result<RestrictedExpr, TermError>
         ensures { IfOk result (λ shared. plain_expression shared ≡ plain_expression self.now) }
     {

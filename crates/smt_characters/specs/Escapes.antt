@@ -31,6 +31,7 @@ braced_escape k bs =
     then Some (record { len = k + 4; point = number_in 16 (take k (drop 3 bs)) })
     else None
 
+-- the escape that stands first, if one does: four digits, or one to five of them between braces and a value up to 196607
 abbrev pub escape : List ℕ → Option Escape
 escape bs = option_or (short_escape bs) (option_or (braced_escape 1 bs) (option_or (braced_escape 2 bs) (option_or (braced_escape 3 bs) (option_or (braced_escape 4 bs) (braced_escape 5 bs)))))
 

@@ -10,7 +10,8 @@ use Rattle.smt_characters.specs.Escapes.{escaped}
 abbrev pub quote_twice : ℕ → List ℕ
 quote_twice b = if b == 34 then (34 ∷ 34 ∷ []) else (b ∷ [])
 
--- a character between the quotes of a string
+-- A character between the quotes of a string: a quote is written twice, a backslash and what is not printable as an escape, and any
+-- other character as itself.
 abbrev pub quoted_character : ℕ → List ℕ
 quoted_character c =
     if c == 34 then codes "\"\""

@@ -1,10 +1,10 @@
 -- The question to a solver whether a script has a model: what comes of it, and why nothing does.
-use Rattle.std.specs.Prelude.{ℕ, ◌<◌, ◌≡◌, ◌⊎◌, ⊤, false, List, [], ◌++◌, IfSome}
+use Rattle.std.specs.Prelude.{ℕ, ◌<◌, ◌≤◌, ◌≡◌, ◌⊎◌, ⊤, false, List, [], ◌++◌, length, IfSome}
 use Rattle.smt_script.specs.CommandTexts.{check_sat_text}
 use Rattle.smt_script.specs.Sink.{Rose}
-use Rattle.smt_solve.specs.Answers.{IsNoDecision, StripsTo, decision_word}
+use Rattle.smt_solve.specs.Answers.{IsNoDecision, StripsTo, decision_word, line_limit}
 use Rattle.smt_solve.specs.Link.{LinkState}
-use Rattle.smt_solve.specs.Question.{Exchanges, Refuses, RefusesEnded}
+use Rattle.smt_solve.specs.Question.{Exchanges, IsNothing, IsPiece, KillsOnly, Refuses, RefusesEnded}
 use Rattle.smt_solve.specs.Starter.{Command as SolverCall, StarterState, add_told}
 use Rattle.smt_solve.specs.declared.answer.Decision.{Decision}
 use Rattle.smt_solve.specs.declared.error.SolverError.{SolverError}
@@ -24,42 +24,58 @@ session_error SolverMarkedFailed = Memory
 session_error TooLongAnswer = Session AnswerTooLong
 session_error SolverWant = Memory
 
+-- It was not killed, where it tells that.
+abbrev pub IsUnkilled : LinkState → Type 0
+IsUnkilled s = IfSome s.killed (λ killed. killed ≡ false)
+
 -- Nothing was asked yet: these lines were sent, where a link tells it, nothing was read, and it was not killed.
 pub record IsReady (s : LinkState) (lines : List ℕ) : Type 0 where
   pub sent : IfSome s.sent (λ text. text ≡ lines)
   pub was_read : IfSome s.was_read (λ bytes. bytes ≡ [])
-  pub spared : IfSome s.killed (λ killed. killed ≡ false)
+  pub spared : IsUnkilled s
 
 -- A link that was ready is ready still, with these lines more.
 abbrev pub Lengthens : (old new : LinkState) → (lines : List ℕ) → Type 0
 Lengthens old new lines = (text : List ℕ) → IsReady old text → IsReady new (text ++ lines)
 
--- why lines could not be sent
+-- why lines could not be sent, for which nothing is killed
 abbrev pub CannotSend : (old new : LinkState) → CheckError → Type 0
-CannotSend old new (Session Io) = Rose old.faults new.faults
+CannotSend old new (Session Io) = Rose old.faults new.faults × (new.killed ≡ old.killed)
 CannotSend old new Memory = ⊤
 CannotSend old new r = ⊥
 
 -- A link was sent this question alone, where it tells that, and read one line, which says the decision and which it may give there.
+-- The end of the answers counts as its line feed. The link was not killed.
 pub record IsAnswered (allows : List ℕ → List ℕ → List ℕ → Type 0) (s : LinkState) (question : List ℕ) (d : Decision) : Type 0 where
   pub sent : IfSome s.sent (λ text. text ≡ question)
   pub line : List ℕ
   pub was_read : IfSome s.was_read (λ bytes. bytes ≡ line)
+  pub is_line : IsPiece s line
+  pub short : length line ≤ line_limit
   pub says : StripsTo line (decision_word d)
   pub allowed : IfSome s.sent (λ text. IfSome s.was_read (λ bytes. allows question [] line))
+  pub spared : IsUnkilled s
 
--- The check failed by an error of this kind, on a link that was ready with these lines and tells this now.
+-- The check failed by an error of this kind, on a link that was ready with these lines and tells this now. The link was killed
+-- only for what it answered.
 pub record FailsToAnswer (now : LinkState) (lines : List ℕ) (kind : SessionFault) : Type 0 where
   pub before : LinkState
   pub ready : IsReady before lines
   pub error : SolverError
   pub is_kind : session_error error ≡ Session kind
   pub why : RefusesEnded before now error ⊎ Refuses (Exchanges before now check_sat_text) (Exchanges before now check_sat_text) IsNoDecision before now error
+  pub kills : KillsOnly IsNothing before now check_sat_text
+
+-- Lines before the check could not be sent to a link that tells this now, and it was not killed.
+pub record FailsToSendLines (now : LinkState) (kind : SessionFault) : Type 0 where
+  pub is_kind : kind ≡ Io
+  pub failed : 0 < now.faults
+  pub spared : IsUnkilled now
 
 -- Why a script was not decided, on a link that tells this now: the check failed, or lines before it could not be sent.
 abbrev pub WhyUndecided : (now : LinkState) → (script : List ℕ) → CheckError → Type 0
 WhyUndecided now script Start = ⊥
-WhyUndecided now script (Session kind) = FailsToAnswer now (logic_text ++ script) kind ⊎ ((kind ≡ Io) × (0 < now.faults))
+WhyUndecided now script (Session kind) = FailsToAnswer now (logic_text ++ script) kind ⊎ FailsToSendLines now kind
 WhyUndecided now script Memory = ⊤
 
 -- A solver was started by this command, and its link came back, of which this holds.

@@ -61,13 +61,14 @@ fn decide<L: Link>(session: &mut LocalSolver<L>, script: &[u8]) -> Result<Decisi
 /// Starts a solver, asks it whether a script has a model, and gives its link back to the starter.
 ///
 /// The solver is sent `(set-logic ALL)`, the script as it stands and `(check-sat)`, each with an LF at its end, and the verdict is
-/// that of the one line that it answers, which is at most 65536 bytes long. The script's last line has to end with LF.
+/// that of the one line that it answers, which is at most 65536 bytes long. The script's last line has to end with LF. A solver
+/// that gave a verdict is not killed. What lines the starter's links may give stays as it was.
 ///
 /// # Errors
 ///
 /// `Start` comes where the solver did not start, which the starter's count of failed starts shows. `Session` comes where the
-/// session failed, by the cause of its kind on the link that came back; where the link failed, the starter's count of link faults
-/// shows it. `Memory` comes where there is no memory for the session, for its answer or for the link's return; the link may be
+/// session failed, by the cause of its kind on the link that came back, which was killed only for what it answered; where the
+/// link failed, the starter's count of link faults shows it. `Memory` comes where there is no memory for the session, for its answer or for the link's return; the link may be
 /// lost then.
 pub fn check_script<P: Starter>(
     alloc: Global,
@@ -77,6 +78,7 @@ pub fn check_script<P: Starter>(
 ) -> Result<Decision, CheckError>
     ensures decided { IfOk result (Decides P.L.state (P.allows starter.old) (P.state starter.old) (P.state starter.new) (command_of solver.now) script.now) }
     ensures refused { IfErr result (WhyUnchecked P.L.state (P.state starter.old) (P.state starter.new) (command_of solver.now) script.now) }
+    ensures allows { AllowsTheSame (P.allows starter.old) (P.allows starter.new) }
 {
     let mut session = match LocalSolver::from_command(alloc, starter, solver) {
         Ok(session) => session,

@@ -13,8 +13,8 @@ with_faults faults = record { sent = None; was_read = None; to_come = None; ende
 
 -- An error is counted where it is a fault.
 error_counts : {T : Type 0} (old new : ℕ) (e : LinkError) → old ≤ new → new ≡ faults_with old e → Counts {T = T} (with_faults old) (with_faults new) (Err e)
-error_counts old new Fault later exact = record { later = later; cause = λ _. omega (arith, exact) }
-error_counts old new Memory later exact = record { later = later; cause = λ h. absurd (cc) }
+error_counts old new Fault later exact = record { later = later; no_fault = tt; cause = λ _. omega (arith, exact) }
+error_counts old new Memory later exact = record { later = later; no_fault = tt; cause = λ h. absurd (cc) }
 
 pub reads_line : {F : Type 0} {left left' : Option (List ℕ)} (allows : List ℕ → List ℕ → List ℕ → Type 0) (faults : ℕ) (before after : List ℕ) (limit : ℕ) (end : LineEnd)
     → AppendsLine {E = F} left left' before after limit (Ok end) → ReadsLine allows (with_faults faults) (with_faults faults) before after limit (Ok end)
@@ -28,7 +28,7 @@ reads_line allows faults before after limit end h = record {
   same_sent = refl;
   same_killed = refl;
   end = refl;
-  counts = record { later = omega arith; cause = λ h. absurd (cc) };
+  counts = record { later = omega arith; no_fault = refl; cause = λ h. absurd (cc) };
 }
 
 pub fails_read : {F : Type 0} {left left' : Option (List ℕ)} (allows : List ℕ → List ℕ → List ℕ → Type 0) (old new : ℕ) (before after : List ℕ) (limit : ℕ) (e : LinkError) (error : F)

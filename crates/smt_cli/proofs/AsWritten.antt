@@ -1,19 +1,17 @@
 -- What a script says of the terms of a job as they are written, and not as they are built.
-use Rattle.std.proofs.Common.{◌≡◌, List, [], ◌∷◌, map, sym, ◌∙◌, subst, None}
+use Rattle.std.proofs.Common.{◌≡◌, ℕ, List, [], ◌∷◌, map, sym, ◌∙◌, None}
 use Rattle.std.specs.List.{AllByRecursion, AllZip}
-use Rattle.std.specs.Prelude.{◌↔◌}
+use Rattle.std.specs.Prelude.{◌↔◌, IsTrue, IsUtf8}
 use Rattle.smt_meaning.specs.Faults.{first_fault}
 use Rattle.smt_meaning.specs.Formed.{IsFormed}
-use Rattle.smt_meaning.specs.Interpretations.{Agree, GiveSame, GiveSameOp, IsGiven, IsGivenOp, IsInterpretation, IsTable, IsOfOtherFamily, restrict}
-use Rattle.smt_meaning.specs.Meaning.{term_value}
-use Rattle.smt_meaning.specs.Plain.{PlainType, ExtensionType, BoolType, IpAddrKind, ExtensionOp, IpAddrV4Op, IpAddrV6Op, IpPrefixV4Op, IpPrefixV6Op, PlainOp, ExtOp, OptionGetOp, UufOp, PlainTerm, Application, VariableTerm}
-use Rattle.smt_meaning.specs.Reached.{reached_terms}
-use Rattle.smt_meaning.specs.Tables.{Interpretation, Table}
-use Rattle.smt_meaning.specs.Types.{extension_signature}
-use Rattle.smt_meaning.specs.Typing.{AreBoolean, AreTyped}
-use Rattle.smt_meaning.specs.TypeValues.{Enums, IsValue}
-use Rattle.smt_meaning.proofs.Agreement.{restricted, same_values}
-use Rattle.smt_meaning.specs.Values.{Value}
+use Rattle.smt_meaning.specs.Interpretations.{IsInterpretation, restrict}
+use Rattle.smt_meaning.specs.Meaning.{AreTrue, term_value}
+use Rattle.smt_meaning.specs.Plain.{PlainTerm}
+use Rattle.smt_meaning.specs.Tables.{Interpretation}
+use Rattle.smt_meaning.specs.Typing.{AreTyped}
+use Rattle.smt_meaning.specs.TypeValues.{Enums}
+use Rattle.smt_meaning.proofs.Agreement.{agreeing, restricted, same_values, true_before, true_too}
+use Rattle.smt_meaning.specs.ValueOrder.{ascends, text_cmp}
 use Rattle.smt_folding.specs.Built.{built}
 use Rattle.smt_folding.specs.Refinement.{Refines}
 use Rattle.smt_folding.proofs.BuiltTerms.{built_stands}
@@ -21,50 +19,13 @@ use Rattle.smt_folding.proofs.Records.{interpretations, values}
 use Rattle.smt_semantics.specs.Value.{IsModel}
 use Rattle.smt_lines.specs.Text.{names, text}
 use Rattle.smt_carrying.specs.CarriedInterpretations.{carry_interpretation}
+use Rattle.smt_carrying.specs.CarriedOrder.{AreEnums}
 use Rattle.smt_headline.specs.Conditions.{AreConditions}
-use Rattle.smt_headline.specs.Headline.{AreTrue, Headline}
+use Rattle.smt_headline.specs.Headline.{Headline}
+use Rattle.smt_job_grammar.proofs.BuiltConditions.{built_booleans, built_formed}
+use Rattle.smt_job_grammar.proofs.Jobs.{job_enums_in_order}
+use Rattle.smt_job_grammar.specs.Jobs.{IsJob, PlainJob}
 use Rattle.smt_job_grammar.specs.Laws.{IsCondition}
-
--- ---- interpretations that give the same
-
-module _ (enums : Enums) (I J : Interpretation) where
-  selector_too : (o : ExtensionOp) → I.other_family o ≡ J.other_family o → IsTable (λ v. IsOfOtherFamily o v × IsValue enums (ExtensionType IpAddrKind) v) enums (extension_signature o).1 (I.other_family o)
-      → IsTable (λ v. IsOfOtherFamily o v × IsValue enums (ExtensionType IpAddrKind) v) enums (extension_signature o).1 (J.other_family o)
-  selector_too o same h = subst (λ (table : Table). IsTable (λ v. IsOfOtherFamily o v × IsValue enums (ExtensionType IpAddrKind) v) enums (extension_signature o).1 table) same h
-
-  extension_too : (o : ExtensionOp) (t : PlainType) → GiveSameOp I J (ExtOp o) t → IsGivenOp enums I (ExtOp o) t → IsGivenOp enums J (ExtOp o) t
-  extension_too IpAddrV4Op t same h = selector_too IpAddrV4Op same h
-  extension_too IpAddrV6Op t same h = selector_too IpAddrV6Op same h
-  extension_too IpPrefixV4Op t same h = selector_too IpPrefixV4Op same h
-  extension_too IpPrefixV6Op t same h = selector_too IpPrefixV6Op same h
-  extension_too o t same h = tt
-
-  op_too : (o : PlainOp) (t : PlainType) → GiveSameOp I J o t → IsGivenOp enums I o t → IsGivenOp enums J o t
-  op_too (UufOp f) t same h = subst (λ (table : Table). IsTable (IsValue enums f.argument) enums f.output table) same h
-  op_too OptionGetOp t same h = subst (λ (v : Value). IsValue enums t v) same h
-  op_too (ExtOp o) t same h = extension_too o t same h
-  op_too o t same h = tt
-
-  given_too : (t : PlainTerm) → GiveSame I J t → IsGiven enums I t → IsGiven enums J t
-  given_too (VariableTerm id t) same h = subst (λ (v : Value). IsValue enums t v) same h
-  given_too (Application o ts t) same h = op_too o t same h
-  given_too t same h = tt
-
-  all_too : (ts : List PlainTerm) → AllByRecursion (GiveSame I J) ts → AllByRecursion (IsGiven enums I) ts → AllByRecursion (IsGiven enums J) ts
-  all_too [] same h = tt
-  all_too (t ∷ ts) same h = (given_too t same.0 h.0, all_too ts same.1 h.1)
-
-  -- what agrees with an interpretation is one
-  agreeing : (ts : List PlainTerm) → Agree ts I J → IsInterpretation enums ts I → IsInterpretation enums ts J
-  agreeing ts same h = all_too (reached_terms ts) same h
-
-true_too : (I J : Interpretation) (ts : List PlainTerm) → AllByRecursion (λ t. term_value I t ≡ term_value J t) ts → AreTrue I ts → AreTrue J ts
-true_too I J [] same h = tt
-true_too I J (t ∷ ts) same h = (sym same.0 ∙ h.0, true_too I J ts same.1 h.1)
-
-true_before : (I J : Interpretation) (ts : List PlainTerm) → AllByRecursion (λ t. term_value I t ≡ term_value J t) ts → AreTrue J ts → AreTrue I ts
-true_before I J [] same h = tt
-true_before I J (t ∷ ts) same h = (same.0 ∙ h.0, true_before I J ts same.1 h.1)
 
 -- ---- terms as they are written, and as they are built
 
@@ -112,14 +73,14 @@ module _ (enums : Enums) (I : Interpretation) where
       let models = headline.represents.true_in kept (agreeing enums I kept (map built ts) agree passed) in
       (λ true. models.0 (true_too I kept (map built ts) alike (true_together ts (map built ts) (sym same) true)), λ model. true_together (map built ts) ts same (true_before I kept (map built ts) alike (models.1 model)))
 
-pub built_booleans : (ts : List PlainTerm) → AllByRecursion IsCondition ts → AreBoolean (map built ts)
-built_booleans [] h = tt
-built_booleans (t ∷ ts) h = ((built_stands t h.0.boolean.parts).type BoolType h.0.boolean, built_booleans ts h.1)
-
-built_formed : (ts : List PlainTerm) → AllByRecursion IsCondition ts → AllByRecursion IsFormed (map built ts)
-built_formed [] h = tt
-built_formed (t ∷ ts) h = ((built_stands t h.0.boolean.parts).formed h.0.formed, built_formed ts h.1)
-
 -- What is built of conditions without fault is such.
 pub built_conditions : (enums : Enums) (ts : List PlainTerm) → AllByRecursion IsCondition ts → first_fault enums (map built ts) ≡ None → AreConditions enums (map built ts)
 built_conditions enums ts h none = record { are_typed = built_booleans ts h; are_formed = built_formed ts h; have_no_fault = none }
+
+-- the members of the enum types of a job ascend
+are_enums : (enums : Enums) → AllByRecursion (λ e. IsTrue (ascends text_cmp e.1)) enums → AllByRecursion (λ e. AllByRecursion IsUtf8 e.1) enums → AreEnums enums
+are_enums [] h g = tt
+are_enums (e ∷ enums) h g = (record { ascending = h.0; texts = g.0 }, are_enums enums h.1 g.1)
+
+pub job_enums : (bytes : List ℕ) (job : PlainJob) → IsJob bytes job → AreEnums job.enums
+job_enums bytes job is = let order = job_enums_in_order bytes job is in are_enums job.enums order.members order.texts

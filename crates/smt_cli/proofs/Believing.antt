@@ -1,18 +1,16 @@
 -- What the verdict on a job says of its terms.
-use Rattle.std.proofs.Common.{◌≡◌, ℕ, List, [], ◌∷◌, map, Option, Some, None, subst}
+use Rattle.std.proofs.Common.{◌≡◌, ℕ, List, [], map, Option, Some, None, subst}
 use Rattle.std.proofs.lemmas.Bool.{false≢true}
 use Rattle.std.specs.List.{AllByRecursion}
-use Rattle.std.specs.Prelude.{IfSome, IsTrue, IsUtf8, is_some}
+use Rattle.std.specs.Prelude.{IfSome, IsTrue, is_some}
 use Rattle.smt_meaning.specs.Faults.{first_fault}
 use Rattle.smt_meaning.specs.Interpretations.{IsInterpretation}
 use Rattle.smt_meaning.specs.Tables.{Interpretation}
 use Rattle.smt_meaning.specs.Typing.{AreBoolean}
-use Rattle.smt_meaning.specs.TypeValues.{Enums}
-use Rattle.smt_meaning.specs.ValueOrder.{ascends, text_cmp}
 use Rattle.smt_folding.specs.Built.{built}
 use Rattle.smt_lines.specs.Text.{names, text}
-use Rattle.smt_carrying.specs.CarriedOrder.{AreEnums}
-use Rattle.smt_headline.specs.Headline.{AreTrue, Headline}
+use Rattle.smt_headline.specs.Headline.{Headline}
+use Rattle.smt_meaning.specs.Meaning.{AreTrue}
 use Rattle.smt_solve.specs.Answers.{StripsTo, decision_word}
 use Rattle.smt_solve.specs.Link.{LinkState}
 use Rattle.smt_solve.specs.Starter.{Command as SolverCall}
@@ -23,16 +21,13 @@ use Rattle.smt_verdicts.specs.Verdicts.{logic_text, question_of}
 use Rattle.smt_verdicts.proofs.Asking.{checks_are_in_turn}
 use Rattle.smt_verdicts.proofs.Believing.{logic_is_blank, unsat_is_believed}
 use Rattle.smt_checks.specs.Checks.{Decides, IsAnswered}
-use Rattle.smt_job_grammar.proofs.Jobs.{job_conditions, job_enums_in_order}
+use Rattle.smt_job_grammar.proofs.BuiltConditions.{built_booleans}
+use Rattle.smt_job_grammar.proofs.Jobs.{job_conditions}
 use Rattle.smt_job_grammar.specs.Jobs.{IsBuiltFrom, IsJob, PlainJob, built_job, fault_of}
 use Rattle.smt_job_grammar.specs.Laws.{IsCondition}
 use Rattle.smt_cli.specs.Causes.{Around}
 use Rattle.smt_cli.specs.Run.{IsChecked, IsTold}
-use Rattle.smt_cli.proofs.AsWritten.{built_booleans, built_conditions, true_as_built}
-
-are_enums : (enums : Enums) → AllByRecursion (λ e. IsTrue (ascends text_cmp e.1)) enums → AllByRecursion (λ e. AllByRecursion IsUtf8 e.1) enums → AreEnums enums
-are_enums [] h g = tt
-are_enums (e ∷ enums) h g = (record { ascending = h.0; texts = g.0 }, are_enums enums h.1 g.1)
+use Rattle.smt_cli.proofs.AsWritten.{built_conditions, job_enums, true_as_built}
 
 -- ---- what is believed
 
@@ -50,8 +45,7 @@ believed bytes job is none h allows s d a told honest unsat I given hold =
     let conditions = job_conditions bytes job is in
     let allowed = told_allowed allows s.sent s.was_read (question_of script) a.line told.0 told.1 a.allowed in
     let says = subst (λ (e : Decision). StripsTo a.line (decision_word e)) unsat a.says in
-    let order = job_enums_in_order bytes job is in
-    let turn = checks_are_in_turn job.enums ts (are_enums job.enums order.members order.texts) (built_conditions job.enums job.terms conditions none) in
+    let turn = checks_are_in_turn job.enums ts (job_enums bytes job is) (built_conditions job.enums job.terms conditions none) in
     let built_too = true_as_built job.enums I job.terms conditions given hold in
     unsat_is_believed job.enums (names job.enums ts) ts logic_text script [] a.line logic_is_blank h turn (honest (question_of script) [] a.line allowed) says I built_too.0 built_too.1
 

@@ -10,12 +10,14 @@ use Rattle.smt_meaning.specs.Faults.{first_fault}
 use Rattle.smt_meaning.specs.Typing.{AreBoolean}
 use Rattle.smt_folding.specs.Built.{built}
 use Rattle.smt_headline.specs.Headline.{Headline}
+use Rattle.smt_sorted.proofs.Calls.{texts_are_well_written}
 use Rattle.smt_lines.specs.Text.{names, text}
 use Rattle.smt_characters.specs.SharedTexts.{texts}
-use Rattle.smt_cli.proofs.AsWritten.{as_written, built_booleans}
+use Rattle.smt_cli.proofs.AsWritten.{as_written, built_conditions, job_enums}
 use Rattle.smt_job_declarations.proofs.Shapes.{other_text}
+use Rattle.smt_job_grammar.proofs.BuiltConditions.{built_booleans}
 use Rattle.smt_job_grammar.proofs.Jobs.{job_conditions}
-use Rattle.smt_job_grammar.specs.Jobs.{IsBuiltFrom, PlainJob, built_job, greatest_length}
+use Rattle.smt_job_grammar.specs.Jobs.{IsBuiltFrom, PlainJob, built_job, fault_of, greatest_length}
 use Rattle.smt_job_grammar.specs.Laws.{IsCondition}
 use Rattle.smt_jobs.specs.Refused.{IsRefusal}
 use Rattle.smt_cli.specs.Refusal.{job_refusal}
@@ -105,12 +107,14 @@ prints (Some bytes) job old new is put means faultless = shown job is.is_built p
     shown : (j : PlainJob) → j ≡ built_job is.written → new ≡ append_known old (text j.enums j.terms) → (AreBoolean j.terms → Headline j.enums (names j.enums j.terms) j.terms (text j.enums j.terms)) → first_fault j.enums j.terms ≡ None → Prints old new bytes
     shown j e p m none =
         let mean : Headline is.written.enums (names is.written.enums (map built is.written.terms)) (map built is.written.terms) (text is.written.enums (map built is.written.terms)) = subst (λ (x : PlainJob). (AreBoolean x.terms → Headline x.enums (names x.enums x.terms) x.terms (text x.enums x.terms))) e m (built_booleans is.written.terms conditions) in
+        let none_is : fault_of is.written ≡ None = subst (λ (x : PlainJob). first_fault x.enums x.terms ≡ None) e none in
         record {
           job = is.written;
           is_job = is.is_job;
-          faultless = subst (λ (x : PlainJob). first_fault x.enums x.terms ≡ None) e none;
+          faultless = none_is;
           printed = p ∙ ap (λ (x : PlainJob). append_known old (text x.enums x.terms)) e;
           means = mean;
+          well_written = texts_are_well_written is.written.enums (map built is.written.terms) (job_enums bytes is.written is.is_job) (built_conditions is.written.enums is.written.terms conditions none_is);
           true_as_written = λ I given. as_written is.written.enums I is.written.terms mean conditions given;
         }
 prints None job old new is put means faultless = tt

@@ -1,12 +1,14 @@
 -- What a run does, and what it says.
-use Rattle.std.specs.Prelude.{ℕ, ◌≡◌, ◌↔◌, ◌⊎◌, map, option_map, codes, IfSome, IsTrue, is_some, List, [], ◌++◌, Option, Some, None, Result}
+use Rattle.std.specs.Prelude.{ℕ, ◌+◌, ◌≡◌, ◌↔◌, ◌⊎◌, map, option_map, codes, IfSome, IsTrue, is_some, List, [], ◌++◌, Option, Some, None, Result}
 use Rattle.std.specs.Io.KnownBytes.{append_known}
 use Rattle.smt_meaning.specs.Interpretations.{IsInterpretation, restrict}
 use Rattle.smt_meaning.specs.Tables.{Interpretation}
 use Rattle.smt_folding.specs.Built.{built}
 use Rattle.smt_semantics.specs.Value.{IsModel}
 use Rattle.smt_carrying.specs.CarriedInterpretations.{carry_interpretation}
-use Rattle.smt_headline.specs.Headline.{AreTrue, Headline}
+use Rattle.smt_headline.specs.Headline.{Headline}
+use Rattle.smt_sorted.specs.WellWritten.{IsWellWritten, most_for_terms}
+use Rattle.smt_meaning.specs.Meaning.{AreTrue}
 use Rattle.smt_lines.specs.Text.{names, text}
 use Rattle.smt_script.specs.Sink.{Puts}
 use Rattle.smt_script.specs.declared.sink.SinkError.{SinkError}
@@ -30,13 +32,15 @@ use Rattle.smt_cli.specs.declared.refusal.Refusal.{Refusal}
 
 -- The bytes are a job, and the script of what is built of its terms was put. That is a script whose models are exactly the
 -- interpretations that make the built terms true, and an interpretation of the terms as they are written makes them true
--- exactly where what the built terms reach of it is carried to a model.
+-- exactly where what the built terms reach of it is carried to a model. The script is well sorted, defines each
+-- built term once from the names and the inline literals of its parts, and has no more commands than what they reach asks for.
 pub record Prints (old new : Option (List ℕ)) (bytes : List ℕ) : Type 0 where
   pub job : PlainJob
   pub is_job : IsJob bytes job
   pub faultless : fault_of job ≡ None
   pub printed : new ≡ append_known old (text job.enums (map built job.terms))
   pub means : Headline job.enums (names job.enums (map built job.terms)) (map built job.terms) (text job.enums (map built job.terms))
+  pub well_written : IsWellWritten job.enums (text job.enums (map built job.terms)) (map built job.terms) (names job.enums (map built job.terms)) (1 + most_for_terms (map built job.terms))
   pub true_as_written : (I : Interpretation) → IsInterpretation job.enums job.terms I → AreTrue I job.terms ↔ IsModel (carry_interpretation job.enums (names job.enums (map built job.terms)) (restrict I (map built job.terms))) means.state
 
 -- The source is read to its end, and what it had left, where it told that, is as said.

@@ -5,6 +5,7 @@ ghost use Rattle.smt_characters.specs.SharedTexts.{texts};
 ghost use Rattle.smt_job_grammar.specs.Jobs.{IsBuiltFrom};
 ghost use Rattle.smt_jobs.specs.Numbered.{numbered_job};
 ghost use Rattle.smt_script.specs.Sink.{Rose};
+ghost use Rattle.smt_solve.specs.Link.{AllowsTheSame};
 ghost use Rattle.smt_cli.specs.Causes.{HasCause, HasCheckCause, HasReadCause, LeavesOutput, around, standing};
 ghost use Rattle.smt_cli.specs.Run.{IsChecked, IsComplete, IsDone, Reads, Reports, verdict_line};
 ghost use Rattle.smt_cli.specs.Words.{commanded, generation_named, solver_named};
@@ -53,6 +54,7 @@ fn verdict_of<R: Source, P: Starter>(
     ensures checked { IfOk result (λ decision. Reads (IsChecked P.L.state (P.allows starter.old) (solver_named (texts words.now)) (standing R.remaining R.faults P.state source.old starter.old) (standing R.remaining R.faults P.state source.new starter.new) decision) (R.remaining source.old) (R.remaining source.new)) }
     ensures refused { IfErr result (HasCheckCause P.L.state (solver_named (texts words.now)) (standing R.remaining R.faults P.state source.old starter.old) (standing R.remaining R.faults P.state source.new starter.new)) }
     ensures unput { IfErr result (λ refusal. refusal ≢ Refusal.Sink) }
+    ensures allows { AllowsTheSame (P.allows starter.old) (P.allows starter.new) }
 {
     let job = read_source(alloc, source)?;
     let script = script_of(alloc, job)?;
@@ -75,6 +77,7 @@ fn put_verdict<R: Source, W: Sink, P: Starter>(
     ensures refused { IfErr result (HasCheckCause P.L.state (solver_named (texts words.now)) (around R.remaining R.faults W.contents W.faults P.state source.old out.old starter.old) (around R.remaining R.faults W.contents W.faults P.state source.new out.new starter.new)) }
     ensures untouched { IfErr result (LeavesOutput (W.contents out.old) (W.contents out.new)) }
     ensures later { W.faults out.old ≤ W.faults out.new }
+    ensures allows { AllowsTheSame (P.allows starter.old) (P.allows starter.new) }
 {
     let decision = verdict_of(alloc, words, source, starter)?;
     Ok(out.put(line_of(decision).as_bytes())?)
@@ -94,6 +97,7 @@ fn put_answer<R: Source, W: Sink, P: Starter>(
     ensures unread { commanded (texts words.now) ≢ Some Command.Script → commanded (texts words.now) ≢ Some Command.Check → source.new ≡ source.old }
     ensures unstarted { commanded (texts words.now) ≢ Some Command.Check → starter.new ≡ starter.old }
     ensures later { W.faults out.old ≤ W.faults out.new }
+    ensures allows { AllowsTheSame (P.allows starter.old) (P.allows starter.new) }
 {
     match command_of(words) {
         Some(Command::Script) => {
@@ -125,6 +129,7 @@ fn answer<R: Source, W: Sink, P: Starter>(
     ensures untouched { IfErr result (LeavesOutput (W.contents out.old) (W.contents out.new)) }
     ensures unread { commanded (texts words.now) ≢ Some Command.Script → commanded (texts words.now) ≢ Some Command.Check → source.new ≡ source.old }
     ensures unstarted { commanded (texts words.now) ≢ Some Command.Check → starter.new ≡ starter.old }
+    ensures allows { AllowsTheSame (P.allows starter.old) (P.allows starter.new) }
 {
     let outcome = put_answer(alloc, words, source, out, starter);
     let flushed = out.flush();
@@ -139,10 +144,14 @@ fn answer<R: Source, W: Sink, P: Starter>(
 /// memory. 8: the session with the solver failed. 9: the solver did not start. With 2, 3, 5, 8 and 9 nothing is put to `out`.
 /// But for 0, one line is put to `diag`; whether that went well changes no status.
 ///
+/// What `script` puts with 0 is a script that means the terms of the job. It is well sorted, defines each term that they reach
+/// at most once, from the names and the inline literals of its parts, and has no more commands than what they reach asks for.
+///
 /// `check PATH ARGS..` makes the script of the job in memory, starts the solver, sends it `(set-logic ALL)`, the script and
 /// `(check-sat)`, and puts the word of the one line that it reads: `sat`, `unsat` or `unknown`. Where the solver is honest, so
 /// that it says `unsat` only of scripts without a model, `unsat` means that no interpretation makes all terms of the job true. A
-/// link to a solver that was started goes back to the starter before the run ends, whatever the status.
+/// link to a solver that was started goes back to the starter before the run ends, whatever the status, and with 0 the
+/// solver was not killed, with 8 only for what it answered. What lines the starter's links may give stays as it was.
 ///
 /// `gen SEED N` makes a job of N terms from the number SEED, encodes it onto a sink that counts, and puts six lines: how many
 /// terms the job has, how many of its variables the script declares, how many other names of terms it has, how many assertions,
@@ -170,6 +179,7 @@ pub fn run<R: Source, W: Sink, D: Sink, P: Starter>(
     ensures unread { commanded (texts words.now) ≢ Some Command.Script → commanded (texts words.now) ≢ Some Command.Check → source.new ≡ source.old }
     ensures unstarted { commanded (texts words.now) ≢ Some Command.Check → starter.new ≡ starter.old }
     ensures report { Reports (HasCause P.L.state (commanded (texts words.now)) (solver_named (texts words.now)) (around R.remaining R.faults W.contents W.faults P.state source.old out.old starter.old) (around R.remaining R.faults W.contents W.faults P.state source.new out.new starter.new)) (W.contents out.old) (W.contents out.new) D.contents D.faults D.has_room D.place diag.old diag.new result }
+    ensures allows { AllowsTheSame (P.allows starter.old) (P.allows starter.new) }
 {
     match answer(alloc, words, source, out, starter) {
         Ok(()) => 0,

@@ -1,5 +1,5 @@
 -- The program's terms are conditions where they are typed as Booleans and have no fault: they are formed.
-use Rattle.std.proofs.Common.{◌≡◌, ℕ, List, [], ◌∷◌, ◌++◌, Option, Some, None, map, sym, ap, ◌∙◌}
+use Rattle.std.proofs.Common.{◌≡◌, ℕ, ◌+◌, List, [], ◌∷◌, ◌++◌, Option, Some, None, map, sym, ap, ◌∙◌}
 use Rattle.std.specs.Prelude.{unwrap_or}
 use Rattle.std.specs.Io.KnownBytes.{append_known}
 use Rattle.std.specs.List.{AllByRecursion}
@@ -28,8 +28,11 @@ use Rattle.smt_nodes.proofs.Formed.{nodes_formed}
 use Rattle.smt_lines.specs.NameTables.{Tables}
 use Rattle.smt_lines.specs.Text.{names, text}
 use Rattle.smt_carrying.specs.CarriedOrder.{AreEnums}
+use Rattle.smt_headline.specs.Conditions.{AreConditions}
 use Rattle.smt_headline.specs.Headline.{Headline}
 use Rattle.smt_headline.proofs.FitKept.{conditions_are_their_scripts}
+use Rattle.smt_sorted.specs.WellWritten.{IsWellWritten, most_for_terms}
+use Rattle.smt_sorted.proofs.Calls.{texts_are_well_written}
 use Rattle.smt_encode.specs.Encoded.{OfReceived}
 use Rattle.smt_node_texts.specs.Names.{AreTables}
 use Rattle.smt_node_texts.specs.declared.names.Names.{Names}
@@ -46,10 +49,16 @@ are_members (e ∷ enums) h = (record { ascending = h.0.ascending; texts = h.0.t
 are_enums : (table : EnumTable) → AreEnums (enums_of table)
 are_enums table = are_members (enums_of table) (members_ascend table)
 
+-- The terms that were handed in are conditions.
+conditions : (table : EnumTable) (ts : List Term) → AreBoolean (map plain_term ts) → first_fault (enums_of table) (map plain_term ts) ≡ None → AreConditions (enums_of table) (map plain_term ts)
+conditions table ts typed none = record { are_typed = typed; are_formed = all_formed ts; have_no_fault = none }
+
 pub headline : (table : EnumTable) (ts : List Term) → AreBoolean (map plain_term ts) → first_fault (enums_of table) (map plain_term ts) ≡ None → Headline (enums_of table) (names (enums_of table) (map plain_term ts)) (map plain_term ts) (text (enums_of table) (map plain_term ts))
-headline table ts typed none =
-    conditions_are_their_scripts (enums_of table) (map plain_term ts) (are_enums table)
-    (record { are_typed = typed; are_formed = all_formed ts; have_no_fault = none })
+headline table ts typed none = conditions_are_their_scripts (enums_of table) (map plain_term ts) (are_enums table) (conditions table ts typed none)
+
+pub well_written : (table : EnumTable) (ts : List Term) → AreBoolean (map plain_term ts) → first_fault (enums_of table) (map plain_term ts) ≡ None
+    → IsWellWritten (enums_of table) (text (enums_of table) (map plain_term ts)) (map plain_term ts) (names (enums_of table) (map plain_term ts)) (1 + most_for_terms (map plain_term ts))
+well_written table ts typed none = texts_are_well_written (enums_of table) (map plain_term ts) (are_enums table) (conditions table ts typed none)
 
 -- the same of the terms for which numbers stand
 stand_formed : (i : Interner) (ids : List NodeId) (ts : List PlainTerm) → StandFor i ids ts → AllByRecursion IsFormed ts
@@ -62,14 +71,19 @@ stand_formed i (id ∷ ids) (t ∷ ts) h =
     let others : more ≡ map TermMeaning ts = cc in
     (both_formed t (nodes_formed i.table.nodes.items i.graph (place_of id) (TermMeaning t) (e ∙ ap Some first)), stand_formed i ids ts (f ∙ ap Some others))
 
-pub node_headline : (table : EnumTable) (i : Interner) (ids : List NodeId) (ts : List PlainTerm) → StandFor i ids ts → AreBoolean ts → first_fault (enums_of table) ts ≡ None → Headline (enums_of table) (names (enums_of table) ts) ts (text (enums_of table) ts)
-node_headline table i ids ts stand typed none =
-    conditions_are_their_scripts (enums_of table) ts (are_enums table)
-    (record { are_typed = typed; are_formed = stand_formed i ids ts stand; have_no_fault = none })
+node_conditions : (table : EnumTable) (i : Interner) (ids : List NodeId) (ts : List PlainTerm) → StandFor i ids ts → AreBoolean ts → first_fault (enums_of table) ts ≡ None → AreConditions (enums_of table) ts
+node_conditions table i ids ts stand typed none = record { are_typed = typed; are_formed = stand_formed i ids ts stand; have_no_fault = none }
 
--- What a text and names say of terms, the bytes that were received say of them with these names.
-pub received : (n : Names) (enums : Enums) (ts : List PlainTerm) (s : Tables) (bytes : List ℕ) (before after : Option (List ℕ)) → after ≡ append_known before bytes → AreTables n s → Headline enums s ts bytes
-    → OfReceived before after (λ got. (t : Tables) × AreTables n t × Headline enums t ts got)
-received n enums ts s bytes before after put has h old new was is =
+pub node_headline : (table : EnumTable) (i : Interner) (ids : List NodeId) (ts : List PlainTerm) → StandFor i ids ts → AreBoolean ts → first_fault (enums_of table) ts ≡ None → Headline (enums_of table) (names (enums_of table) ts) ts (text (enums_of table) ts)
+node_headline table i ids ts stand typed none = conditions_are_their_scripts (enums_of table) ts (are_enums table) (node_conditions table i ids ts stand typed none)
+
+pub node_well_written : (table : EnumTable) (i : Interner) (ids : List NodeId) (ts : List PlainTerm) → StandFor i ids ts → AreBoolean ts → first_fault (enums_of table) ts ≡ None
+    → IsWellWritten (enums_of table) (text (enums_of table) ts) ts (names (enums_of table) ts) (1 + most_for_terms ts)
+node_well_written table i ids ts stand typed none = texts_are_well_written (enums_of table) ts (are_enums table) (node_conditions table i ids ts stand typed none)
+
+-- What holds of a text and names, holds of the bytes that were received, with these names.
+pub received : (P : Tables → List ℕ → Type 0) (n : Names) (s : Tables) (bytes : List ℕ) (before after : Option (List ℕ)) → after ≡ append_known before bytes → AreTables n s → P s bytes
+    → OfReceived before after (λ got. (t : Tables) × AreTables n t × P t got)
+received P n s bytes before after put has h old new was is =
     let known : ◌≡◌ {A = Option (List ℕ)} (Some new) (Some (old ++ bytes)) = sym is ∙ put ∙ ap (λ (o : Option (List ℕ)). append_known o bytes) was in
     (bytes, ap (λ (o : Option (List ℕ)). unwrap_or o new) known, (s, has, h))

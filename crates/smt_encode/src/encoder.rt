@@ -21,6 +21,7 @@ ghost use Rattle.smt_lines.specs.Lines.{encode_head, members_of, next_entity, ne
 ghost use Rattle.smt_lines.specs.NameTables.{Tables, no_names};
 ghost use Rattle.smt_lines.specs.Text.{names, text};
 ghost use Rattle.smt_headline.specs.Headline.{Headline};
+ghost use Rattle.smt_sorted.specs.WellWritten.{IsWellWritten, most_for_terms};
 ghost use Rattle.smt_encode.specs.Complete.{AreWritten};
 ghost use Rattle.smt_node_texts.specs.LookUps.{look_ups, IsClosed};
 ghost use Rattle.smt_node_texts.specs.NodeTexts.{HasNoTexts, StandFor};
@@ -219,7 +220,11 @@ impl<S: Sink> Encoder<'_, S> {
     /// `headline` says what the bytes mean that the sink got in this call, by the names that the encoder has then: they are a
     /// script by the grammar of SMT-LIB 2.7, each name is declared once and before its use, the assertions are the terms'
     /// texts in order, and the models are exactly the interpretations that make all terms true. `models` says the same of the
-    /// stated text and its names. By `written` each node of terms that are typed has its text then.
+    /// stated text and its names. Of such an encoder and such terms, `well_written` says that each definition's body has the
+    /// definition's sort and each assertion the sort Bool (SMT-LIB 2.7, chapter 3, Terms and Formulas), by the declarations
+    /// before it; that each term is defined at most once, by a body in which its parts stand by name or as an inline literal;
+    /// and that there are at most as many commands as assertions, distinct named sorts, functions and subterms that the terms
+    /// reach, and one for `Option`. By `written` each node of terms that are typed has its text then.
     ///
     /// # Errors
     ///
@@ -234,6 +239,7 @@ impl<S: Sink> Encoder<'_, S> {
         ensures put { (s : Tables) → HasTexts self.old s → OnOk result (PutScript S.contents self.old self.new (lines.encode (enums_in self.old) (map plain_term terms.now) s)) }
         ensures stated { HasNoTexts (texts_in self.old) → OnOk result (WroteText S.contents self.old self.new (map plain_term terms.now)) }
         ensures headline { HasNoTexts (texts_in self.old) → AreBoolean (map plain_term terms.now) → OnOk result (OfReceived (S.contents (sink_of self.old)) (S.contents (sink_of self.new)) (λ bytes. OfNames self.new (λ names. Headline (enums_in self.old) names (map plain_term terms.now) bytes))) }
+        ensures well_written { HasNoTexts (texts_in self.old) → AreBoolean (map plain_term terms.now) → OnOk result (OfReceived (S.contents (sink_of self.old)) (S.contents (sink_of self.new)) (λ bytes. OfNames self.new (λ names. IsWellWritten (enums_in self.old) bytes (map plain_term terms.now) names (1 + most_for_terms (map plain_term terms.now))))) }
         ensures models { AreBoolean (map plain_term terms.now) → OnOk result (Headline (enums_in self.old) (names (enums_in self.old) (map plain_term terms.now)) (map plain_term terms.now) (text (enums_in self.old) (map plain_term terms.now))) }
         ensures spent { Spends self.old self.new result }
         ensures refused { HasCause (S.faults (sink_of self.old)) (S.faults (sink_of self.new)) (first_fault (enums_in self.old) (map plain_term terms.now)) result }
@@ -269,6 +275,7 @@ impl<S: Sink> Encoder<'_, S> {
         ensures put { (ts : List PlainTerm) (s : Tables) → StandFor (nodes_in self.old) ids.now ts → HasTexts self.old s → OnOk result (PutScript S.contents self.old self.new (lines.encode (enums_in self.old) ts s)) }
         ensures stated { (ts : List PlainTerm) → StandFor (nodes_in self.old) ids.now ts → HasNoTexts (texts_in self.old) → OnOk result (WroteText S.contents self.old self.new ts) }
         ensures headline { (ts : List PlainTerm) → StandFor (nodes_in self.old) ids.now ts → HasNoTexts (texts_in self.old) → AreBoolean ts → OnOk result (OfReceived (S.contents (sink_of self.old)) (S.contents (sink_of self.new)) (λ bytes. OfNames self.new (λ names. Headline (enums_in self.old) names ts bytes))) }
+        ensures well_written { (ts : List PlainTerm) → StandFor (nodes_in self.old) ids.now ts → HasNoTexts (texts_in self.old) → AreBoolean ts → OnOk result (OfReceived (S.contents (sink_of self.old)) (S.contents (sink_of self.new)) (λ bytes. OfNames self.new (λ names. IsWellWritten (enums_in self.old) bytes ts names (1 + most_for_terms ts)))) }
         ensures models { (ts : List PlainTerm) → StandFor (nodes_in self.old) ids.now ts → AreBoolean ts → OnOk result (Headline (enums_in self.old) (names (enums_in self.old) ts) ts (text (enums_in self.old) ts)) }
         ensures spent { Spends self.old self.new result }
         ensures refused { (ts : List PlainTerm) → StandFor (nodes_in self.old) ids.now ts → HasCause (S.faults (sink_of self.old)) (S.faults (sink_of self.new)) (first_fault (enums_in self.old) ts) result }

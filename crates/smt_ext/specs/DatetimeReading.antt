@@ -11,21 +11,23 @@ use Rattle.smt_characters.specs.Characters.{is_digit}
 use Rattle.smt_characters.specs.Digits.{decimal_number}
 use Rattle.smt_characters.specs.Front.{byte_at}
 
--- `option_and_then` of std, written between what is read first and what is read then
 infixl 10 ◌>>=◌
+-- `option_and_then` of std, written between what is read first and what is read then
 abbrev pub ◌>>=◌ : {A B : Type 0} → Option A → (A → Option B) → Option B
 o >>= f = option_and_then f o
 
+-- nothing is left
 abbrev pub is_empty : List ℕ → Bool
 is_empty text = length text == 0
 
--- so many digits: their number
+-- so many digits at the front: their number, and what follows
 unfoldable pub field_at : ℕ → List ℕ → Option (ℕ × List ℕ)
 field_at k text =
     if (length (take k text) == k) && list_all is_digit (take k text)
     then Some (decimal_number (take k text), drop k text)
     else None
 
+-- `YYYY-MM-DD` at the front, and what follows
 unfoldable pub day_at : List ℕ → Option (Day × List ℕ)
 day_at text = do
   year ← field_at 4 text
@@ -42,6 +44,7 @@ offset_at west text = do
   minutes ← field_at 2 hours.1
   if is_empty minutes.1 then Some (Offset west hours.0 minutes.0) else None
 
+-- `Z`, or an offset `hhmm` behind its sign, and nothing behind it
 unfoldable pub zone_at : List ℕ → Option Zone
 zone_at [] = None
 zone_at (b ∷ rest) =
@@ -53,9 +56,11 @@ abbrev pub fraction_behind : List ℕ → Option (List ℕ) → Option (Option �
 fraction_behind text None = Some (None, text)
 fraction_behind text (Some rest) = field_at 3 rest >>= (λ milliseconds. Some (Some milliseconds.0, milliseconds.1))
 
+-- `.SSS` at the front, where there is a point, and what follows
 unfoldable pub fraction_at : List ℕ → Option (Option ℕ × List ℕ)
 fraction_at text = fraction_behind text (byte_at 46 text)
 
+-- `Thh:mm:ss`, perhaps a fraction, and the zone, and nothing behind it
 unfoldable pub clock_at : List ℕ → Option Clock
 clock_at text = do
   time ← byte_at 84 text
@@ -68,6 +73,7 @@ clock_at text = do
   zone ← zone_at fraction.1
   Some (record { hour = hour.0; minute = minute.0; second = seconds.0; millisecond = fraction.0; zone = zone })
 
+-- the numbers of a datetime's text, where it has the shape: a date alone, or with a time and a zone
 unfoldable pub stamp_at : List ℕ → Option Stamp
 stamp_at text = do
   day ← day_at text

@@ -15,11 +15,11 @@ HoldsText text ParseIntError = ⊥
 HoldsText text (InvalidUnit unit) = ⊥
 HoldsText text Memory = Unit {0}
 
--- The text has another shape, or a leap second or a far offset.
+-- The text has another shape, or the second 60, or a far offset.
 abbrev pub IsMisshapen : List ℕ → Type 0
 IsMisshapen text = (s : Stamp) → HasStamp text s → is_barred s.clock ≡ false → ⊥
 
--- The text has the shape, and neither, but its date or its time is none.
+-- The text has the shape, and neither, but there is no such date or time of day, as in `2023-02-29`.
 pub record IsUnreal (text : List ℕ) : Type 0 where
   pub stamp : Stamp
   pub written : HasStamp text stamp

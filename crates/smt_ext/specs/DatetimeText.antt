@@ -12,43 +12,51 @@ use Rattle.smt_arithmetic.specs.Longs.{IsLong}
 
 -- ---- the shape: YYYY-MM-DD, alone or with Thh:mm:ss, an optional .SSS, and Z or an offset hhmm behind its sign
 
+-- `YYYY-MM-DD`
 abbrev pub day_text : Day → List ℕ
 day_text d = padded 4 d.year ++ (codes "-" ++ (padded 2 d.month ++ (codes "-" ++ padded 2 d.day)))
 
+-- `Z`, or an offset as `+hhmm` or `-hhmm`
 abbrev pub zone_text : Zone → List ℕ
 zone_text Utc = codes "Z"
 zone_text (Offset west hours minutes) = (if west then codes "-" else codes "+") ++ (padded 2 hours ++ padded 2 minutes)
 
+-- `.SSS`, or nothing
 abbrev pub fraction_text : Option ℕ → List ℕ
 fraction_text None = []
 fraction_text (Some milliseconds) = codes "." ++ padded 3 milliseconds
 
+-- `Thh:mm:ss`, with a fraction where there is one, and the zone
 abbrev pub clock_text : Option Clock → List ℕ
 clock_text None = []
 clock_text (Some c) =
     codes "T" ++ (padded 2 c.hour ++ (codes ":" ++ (padded 2 c.minute ++ (codes ":" ++ (padded 2 c.second
     ++ (fraction_text c.millisecond ++ zone_text c.zone))))))
 
+-- `2024-10-15` or `2024-10-15T11:38:02.101-1134`, by the numbers
 abbrev pub stamp_text : Stamp → List ℕ
 stamp_text s = day_text s.day ++ clock_text s.clock
 
--- each number has no more digits than its place
+-- each number of a date has no more digits than its place
 abbrev pub DayFits : Day → Type 0
 DayFits d = (d.year < 10000) × (d.month < 100) × (d.day < 100)
 
+-- the hours and minutes of an offset have two digits at most
 abbrev pub ZoneFits : Zone → Type 0
 ZoneFits Utc = Unit {0}
 ZoneFits (Offset west hours minutes) = (hours < 100) × (minutes < 100)
 
+-- milliseconds have three digits at most
 abbrev pub FractionFits : Option ℕ → Type 0
 FractionFits None = Unit {0}
 FractionFits (Some milliseconds) = milliseconds < 1000
 
+-- each number of a time has no more digits than its place
 abbrev pub ClockFits : Option Clock → Type 0
 ClockFits None = Unit {0}
 ClockFits (Some c) = (c.hour < 100) × (c.minute < 100) × (c.second < 100) × FractionFits c.millisecond × ZoneFits c.zone
 
--- The text is written with these numbers.
+-- The text is written with these numbers: it has the shape, and may still be no date or time, as `2023-02-29`.
 pub record HasStamp (text : List ℕ) (s : Stamp) : Type 0 where
   pub spelled : text ≡ stamp_text s
   pub day : DayFits s.day
@@ -61,17 +69,17 @@ abbrev pub is_far : Zone → Bool
 is_far Utc = false
 is_far (Offset west hours minutes) = nat_lt 23 hours || nat_lt 59 minutes
 
--- a leap second, or a far offset
+-- a leap second, or a far offset: such a text is refused like one of another shape
 abbrev pub is_barred : Option Clock → Bool
 is_barred None = false
 is_barred (Some c) = (c.second == 60) || is_far c.zone
 
--- a time of the day
+-- the numbers are a time of the day, in which the hour is below 24, and the minute and the second below 60
 abbrev pub is_time : Option Clock → Bool
 is_time None = true
 is_time (Some c) = nat_lt c.hour 24 && (nat_lt c.minute 60 && nat_lt c.second 60)
 
--- a date of the calendar
+-- a date of the calendar, which is that of civil dates as the library jiff has it
 abbrev pub IsRealDay : Day → Type 0
 IsRealDay d = IsDate (pos d.year) (pos d.month) (pos d.day)
 
@@ -103,7 +111,8 @@ pub record IsStampValue (s : Stamp) (value : ℤ) : Type 0 where
   pub is_day : IsDayNumber s.day day
   pub number : value ≡ day *ℤ pos 86400000 +ℤ clock_value s.clock
 
--- The text is a datetime, and this is its number of milliseconds since 1970-01-01T00:00:00Z, in 64 bits.
+-- The text is a datetime, and this is its number of milliseconds since 1970-01-01T00:00:00Z, in 64 bits. `2022-10-10` has the value
+-- 1665360000000.
 pub record IsDatetimeText (text : List ℕ) (value : ℤ) : Type 0 where
   pub stamp : Stamp
   pub written : HasStamp text stamp

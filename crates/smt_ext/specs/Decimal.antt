@@ -17,7 +17,7 @@ pub record HasDecimalParts (text : List ℕ) (negative : Bool) (whole fraction :
 abbrev pub ten_thousandths : List ℕ → List ℕ → ℕ
 ten_thousandths whole fraction = decimal_number whole * 10000 + decimal_number fraction * 10 ^ (4 - length fraction)
 
--- The text is a decimal, and the value is its number times 10000, in 64 bits.
+-- The text is a decimal, and the value is its number times 10000, in 64 bits. `-12.034` has the value -120340.
 pub record IsDecimalText (text : List ℕ) (value : ℤ) : Type 0 where
   pub negative : Bool
   pub whole : List ℕ
@@ -26,7 +26,7 @@ pub record IsDecimalText (text : List ℕ) (value : ℤ) : Type 0 where
   pub number : value ≡ signed_number negative (ten_thousandths whole fraction)
   pub fits : IsLong value
 
--- no value's text
+-- the text is that of no decimal
 abbrev pub IsNoDecimal : List ℕ → Type 0
 IsNoDecimal text = (value : ℤ) → IsDecimalText text value → ⊥
 

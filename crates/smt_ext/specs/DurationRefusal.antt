@@ -13,6 +13,7 @@ use Rattle.smt_characters.specs.Digits.{decimal_number, signed_number}
 use Rattle.smt_arithmetic.specs.Longs.{IsLong}
 use Rattle.smt_characters.specs.Front.{begins_without, IsSigned}
 
+-- how a unit is written
 abbrev pub unit_name : TimeUnit → List ℕ
 unit_name Millisecond = codes "ms"
 unit_name Second = codes "s"
@@ -20,6 +21,7 @@ unit_name Minute = codes "m"
 unit_name Hour = codes "h"
 unit_name FullDay = codes "d"
 
+-- how many milliseconds a unit has
 abbrev pub unit_milliseconds : TimeUnit → ℕ
 unit_milliseconds Millisecond = 1
 unit_milliseconds Second = 1000
@@ -27,7 +29,7 @@ unit_milliseconds Minute = 60000
 unit_milliseconds Hour = 3600000
 unit_milliseconds FullDay = 86400000
 
--- from the right end of a text
+-- the units in the order in which they are looked at, from the right end of a text
 abbrev pub all_units : List TimeUnit
 all_units = Millisecond ∷ Second ∷ Minute ∷ Hour ∷ FullDay ∷ []
 
@@ -41,6 +43,7 @@ pub record EndsInPart (unit : TimeUnit) (rest front digits : List ℕ) : Type 0 
 abbrev pub HasNoPart : TimeUnit → List ℕ → Type 0
 HasNoPart unit rest = (front : List ℕ) → rest ≡ front ++ unit_name unit → ⊥
 
+-- a byte above 127 stands first
 abbrev pub begins_past_ascii : List ℕ → Bool
 begins_past_ascii [] = false
 begins_past_ascii (b ∷ bs) = nat_lt 127 b
@@ -87,6 +90,8 @@ IsFaultBehindSign negative rest fault =
     ⊎ ((0 < length rest) × IsFirstFault negative all_units rest fault)
     ⊎ ((n : ℕ) × (0 < length rest) × HasSum negative all_units rest n × (IsLong (signed_number negative n) → ⊥) × (fault ≡ OutOfRange))
 
+-- The text has this fault behind its sign, the first one from the right end. `1s1d` has the fault `Form`, since `1s` is left over in
+-- front of the days, and `d` has `NoDigits`.
 pub record HasFault (text : List ℕ) (fault : Fault) : Type 0 where
   pub negative : Bool
   pub rest : List ℕ

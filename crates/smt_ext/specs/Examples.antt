@@ -5,6 +5,7 @@ use Rattle.smt_ext.specs.DatetimeText.{HasStamp, IsDatetimeText}
 use Rattle.smt_ext.specs.Decimal.{IsDecimalText}
 use Rattle.smt_ext.specs.DurationText.{IsDurationText}
 
+-- Texts of each kind with their values; `negsuc n` is -(n + 1).
 pub record WorkedTexts : Type 0 where
   pub least_decimal : IsDecimalText (codes "-922337203685477.5808") (negsuc 9223372036854775807)
   pub small_decimal : IsDecimalText (codes "-0.0001") (negsuc 0)

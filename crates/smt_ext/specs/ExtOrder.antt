@@ -8,14 +8,15 @@ use Rattle.smt_ip.specs.IpOrder.{plain_range}
 use Rattle.smt_ip.specs.IpView.{range_of}
 use Rattle.smt_ext.specs.Milliseconds.{datetime_value, duration_value}
 
--- the number or the range that a value stands for
+-- the number or the range that a value stands for, as literals of terms have it
 abbrev pub plain_value : Ext → PlainExtension
 plain_value (Decimal d) = DecimalOf d.ten_thousandths
 plain_value (Ipaddr ip) = plain_range (range_of ip)
 plain_value (Datetime dt) = DatetimeOf (datetime_value dt)
 plain_value (Duration d) = DurationOf (duration_value d)
 
--- decimals first, then IP ranges, datetimes and durations, and inside a kind by the number or the range
+-- Decimals first, then IP ranges, datetimes and durations, and inside a kind by the signed number or the range. Literals of terms have
+-- this order too.
 abbrev pub ext_cmp : Ext → Ext → Ordering
 ext_cmp x y = extension_literal_cmp (plain_value x) (plain_value y)
 

@@ -5,10 +5,11 @@ use Rattle.std.specs.Int.RustNames.{int_div}
 use Rattle.smt_ext.specs.declared.datetime.Datetime.{Datetime}
 use Rattle.smt_ext.specs.declared.datetime.Duration.{Duration}
 
--- milliseconds since 1970-01-01T00:00:00Z
+-- the number of a datetime: milliseconds since 1970-01-01T00:00:00Z
 abbrev pub datetime_value : Datetime → ℤ
 datetime_value d = d.milliseconds
 
+-- the number of a duration: milliseconds
 abbrev pub duration_value : Duration → ℤ
 duration_value d = d.milliseconds
 
@@ -27,15 +28,18 @@ pub record IsLastMidnight (value start : ℤ) : Type 0 where
   pub not_above : start ≤ℤ value
   pub next_above : value <ℤ (start +ℤ pos 86400000)
 
--- whole seconds, minutes, hours and days, rounded towards zero
+-- whole seconds of milliseconds, rounded towards zero
 abbrev pub whole_seconds : ℤ → ℤ
 whole_seconds v = int_div v (pos 1000)
 
+-- whole minutes of milliseconds, rounded towards zero
 abbrev pub whole_minutes : ℤ → ℤ
 whole_minutes v = int_div (whole_seconds v) (pos 60)
 
+-- whole hours of milliseconds, rounded towards zero
 abbrev pub whole_hours : ℤ → ℤ
 whole_hours v = int_div (whole_minutes v) (pos 60)
 
+-- whole days of milliseconds, rounded towards zero
 abbrev pub whole_days : ℤ → ℤ
 whole_days v = int_div (whole_hours v) (pos 24)

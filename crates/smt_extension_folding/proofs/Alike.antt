@@ -46,7 +46,7 @@ abbrev HasFormedType : PlainTerm → Type 0
 HasFormedType t = IsFormedType (type_of t)
 
 -- an application of formed terms
-formed_of : (o : PlainOp) (ts : List PlainTerm) (ty : PlainType) → IsFormedType ty → AllByRecursion IsFormedNode (subterms_of_all (terms ts)) → AllByRecursion HasFormedType (subterms_of_all (terms ts)) → IsFormed (Application o (terms ts) ty)
+pub formed_of : (o : PlainOp) (ts : List PlainTerm) (ty : PlainType) → IsFormedType ty → AllByRecursion IsFormedNode (subterms_of_all (terms ts)) → AllByRecursion HasFormedType (subterms_of_all (terms ts)) → IsFormed (Application o (terms ts) ty)
 formed_of o ts ty f l h = record {
   literals = all-join IsFormedNode (subterms_of_all (terms ts)) (Application o (terms ts) ty ∷ []) l (tt, tt);
   types = all-join HasFormedType (subterms_of_all (terms ts)) (Application o (terms ts) ty ∷ []) h (f, tt);

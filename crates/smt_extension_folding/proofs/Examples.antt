@@ -8,7 +8,7 @@ use Rattle.smt_extension_folding.specs.Examples.{ContainmentExamples, RuleExampl
 use Rattle.smt_extension_folding.specs.ExtensionFunctions.{in_range_v, is_in_range, is_ipv4, range_v4}
 use Rattle.smt_extension_folding.specs.Literals.{duration}
 use Rattle.smt_extension_folding.specs.Rows.{address_v4}
-use Rattle.smt_extension_folding.specs.Rules.{HoldsIn, LiesInOneOfFamily, RuleTells}
+use Rattle.smt_extension_folding.specs.Rules.{HoldsIn, IsTermOf, LiesInOneOfFamily, RuleTells}
 use Rattle.smt_extension_folding.specs.Values.{HasDatetime, HasDuration, HasRange, Tells}
 use Rattle.smt_extension_folding.proofs.Blocks.{lies_between, lies_in}
 use Rattle.smt_extension_folding.proofs.OfValues.{containment_has_values, times_have_values}
@@ -16,11 +16,9 @@ use Rattle.smt_extension_folding.proofs.RuleTells.{rules_are_kept}
 use Rattle.smt_folding.specs.Applications.{bits_literal, false_term, true_term, truth_literal}
 use Rattle.smt_folding.specs.Builder.{applied}
 use Rattle.smt_folding.proofs.Standing.{itself}
-use Rattle.smt_meaning.specs.Formed.{IsFormed}
 use Rattle.smt_meaning.specs.Interpretations.{IsInterpretation}
 use Rattle.smt_meaning.specs.Plain.{BitVecType, BoolType, DatetimeOf, DurationOf, PlainTerm}
 use Rattle.smt_meaning.specs.Tables.{Interpretation}
-use Rattle.smt_meaning.specs.Typing.{Typed}
 use Rattle.smt_meaning.specs.Values.{BoolValue}
 
 -- ---- IP ranges
@@ -78,11 +76,11 @@ containment_examples = record {
 
 -- ---- rules
 
-truth_typed : (b : Bool) → Typed (truth_literal b) BoolType
-truth_typed b = record { parts = refl; type = refl }
+truth_of : (b : Bool) → IsTermOf BoolType (truth_literal b)
+truth_of b = record { typed = record { parts = refl; type = refl }; formed = record { literals = (tt, tt); types = ((tt, tt), tt) } }
 
-bits_typed : (n a : ℕ) → Typed (bits_literal n a) (BitVecType n)
-bits_typed n a = record { parts = refl; type = refl }
+byte_of : (a : ℕ) → a < 2 ^ 8 → IsTermOf (BitVecType 8) (bits_literal 8 a)
+byte_of a h = record { typed = record { parts = refl; type = refl }; formed = record { literals = (h, tt); types = (((omega arith, omega arith), tt), tt) } }
 
 apart_widths : (w : ℕ) → BitVecType 8 ≡ BitVecType w → BitVecType 16 ≡ BitVecType w → ⊥
 apart_widths w e d = let same : ◌≡◌ {A = ℕ} 8 16 = cc in absurd (omega (arith, same))
@@ -90,9 +88,6 @@ apart_widths w e d = let same : ◌≡◌ {A = ℕ} 8 16 = cc in absurd (omega (
 -- what is built of the variable and the two blocks
 abbrev built : PlainTerm
 built = in_range_v applied (is_ipv4 applied) (range_v4 applied) source two_blocks
-
-built_is_formed : IsFormed built
-built_is_formed = record { literals = search (rules, arith); types = search (rules, arith) }
 
 -- an address of version 4
 abbrev single : ℕ → Range
@@ -108,7 +103,7 @@ IsInOne a = HoldsIn (at_address a) (is_ipv4 applied source) × LiesInOneOfFamily
 
 -- what a term tells where the variable is this address
 told_at : (a : ℕ) (u : PlainTerm) → IsRange (single a) → RuleTells (is_ipv4 applied) (range_v4 applied) source two_blocks u → Tells (at_address a) u (IsInOne a)
-told_at a u h tells = tells [] (at_address a) (single a) (v4 (11, 0, 0, 0) (Some 8) ∷ ten ∷ []) (variable_has_range (single a) h) (literal_v4 (at_address a) (address_v4 (11, 0, 0, 0)) (omega arith), (literal_ten (at_address a), tt)) built_is_formed (search (rules, h))
+told_at a u h tells = tells [] (at_address a) (single a) (v4 (11, 0, 0, 0) (Some 8) ∷ ten ∷ []) (variable_has_range (single a) h) (literal_v4 (at_address a) (address_v4 (11, 0, 0, 0)) (omega arith), (literal_ten (at_address a), tt)) (search (rules, h))
 
 ten_is_in_one : IsInOne (address_v4 (10, 1, 2, 3))
 ten_is_in_one = (refl, inr (inl (refl, λ a h. (let low : 167838211 ≤ a = h.0 in omega arith, let high : a ≤ 167838211 = h.1 in omega arith))))
@@ -144,10 +139,10 @@ rule_examples = record {
   built_tells = rules_are_kept.in_range_v (is_ipv4 applied) (range_v4 applied) source two_blocks built rules_are_kept.v4 (itself built);
   true_tells_not = true_tells_not;
   false_tells_not = false_tells_not;
-  one_block = record { width = 8; tested = λ I t r h. truth_typed true; bounded = λ I t r h. (bits_typed 8 3, bits_typed 8 5); block = λ enums I t r h i e. omega arith };
+  one_block = record { width = 8; tested = λ I t r h. truth_of true; bounded = λ I t r h. (byte_of 3 (omega arith), byte_of 5 (omega arith)); block = λ enums I t r h i e. omega arith };
   upside_down = λ rule. (let order : 5 ≤ 3 = rule.block [] in_ten source (v4 (10, 1, 2, 3) None) (variable_has_range (v4 (10, 1, 2, 3) None) fits_v4) (tt, (tt, (tt, tt))) refl in absurd (omega (arith, order)));
-  never_tested = record { width = 8; tested = λ I t r h. truth_typed false; bounded = λ I t r h. (bits_typed 8 5, bits_typed 8 3); block = λ enums I t r h i e. (let apart : BoolValue false ≡ BoolValue true = e in absurd (cc)) };
-  two_widths = λ rule. (let widths = rule.bounded in_ten source (v4 (10, 1, 2, 3) None) (variable_has_range (v4 (10, 1, 2, 3) None) fits_v4) in apart_widths rule.width widths.0.type widths.1.type);
+  never_tested = record { width = 8; tested = λ I t r h. truth_of false; bounded = λ I t r h. (byte_of 5 (omega arith), byte_of 3 (omega arith)); block = λ enums I t r h i e. (let apart : BoolValue false ≡ BoolValue true = e in absurd (cc)) };
+  two_widths = λ rule. (let widths = rule.bounded in_ten source (v4 (10, 1, 2, 3) None) (variable_has_range (v4 (10, 1, 2, 3) None) fits_v4) in apart_widths rule.width widths.0.typed.type widths.1.typed.type);
 }
 
 -- ---- datetimes

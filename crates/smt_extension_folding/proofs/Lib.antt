@@ -14,6 +14,7 @@ pub mod FunctionsStand
 pub mod InLists
 pub mod Longs
 pub mod Moments
+pub mod OfAnswers
 pub mod OfValues
 pub mod RuleTells
 pub mod Shifts

@@ -5,7 +5,7 @@ use Rattle.std.specs.List.{AllByRecursion, AllZip}
 use Rattle.smt_ip.specs.IpRanges.{Family, Range, Version4, Version6}
 use Rattle.smt_ext.specs.Milliseconds.{day_start}
 use Rattle.smt_extension_folding.specs.Bounds.{IsRange, as_extension, range_literal}
-use Rattle.smt_extension_folding.specs.ExtensionFunctions.{loopback_v4, loopback_v6, multicast_v4, multicast_v6}
+use Rattle.smt_extension_folding.specs.ExtensionFunctions.{duration_since, is_in_range, is_loopback, is_multicast, loopback_v4, loopback_v6, multicast_v4, multicast_v6, offset, to_date, to_time}
 use Rattle.smt_extension_folding.specs.Laws.{IsSomeWhereLong, IsTruthOf}
 use Rattle.smt_extension_folding.specs.Literals.{datetime, duration}
 use Rattle.smt_extension_folding.specs.Values.{ContainmentHasValues, HasDatetime, HasDuration, HasRange, HasValue, IsSomeIn, Tells, TimesHaveValues}
@@ -15,13 +15,14 @@ use Rattle.smt_extension_folding.proofs.FunctionsAlike.{date_alike, datetime_ali
 use Rattle.smt_extension_folding.proofs.FunctionsStand.{functions_stand}
 use Rattle.smt_extension_folding.proofs.InLists.{containment_is_told}
 use Rattle.smt_extension_folding.proofs.Moments.{datetimes_are_moved}
+use Rattle.smt_folding.specs.Builder.{applied}
 use Rattle.smt_folding.specs.FoldExtensions.{extension_literal}
 use Rattle.smt_folding.specs.Refinement.{Refines}
 use Rattle.smt_folding.proofs.Standing.{valued}
 use Rattle.smt_meaning.specs.Formed.{IsFormedExtension}
 use Rattle.smt_meaning.specs.Interpretations.{IsGiven, IsInterpretation}
 use Rattle.smt_meaning.specs.Meaning.{term_value}
-use Rattle.smt_meaning.specs.Plain.{DatetimeKind, DatetimeOf, DurationKind, DurationOf, ExtensionKind, ExtensionLiteral, ExtensionType, IpAddrKind, PlainExtension, PlainTerm, PlainType}
+use Rattle.smt_meaning.specs.Plain.{BoolType, DatetimeKind, DatetimeOf, DurationKind, DurationOf, ExtensionKind, ExtensionLiteral, ExtensionType, IpAddrKind, OptionType, PlainExtension, PlainTerm, PlainType}
 use Rattle.smt_meaning.specs.Reached.{subterms}
 use Rattle.smt_meaning.specs.Tables.{Interpretation}
 use Rattle.smt_meaning.specs.Types.{kind_of}
@@ -89,17 +90,40 @@ module _ (enums : Enums) (I : Interpretation) where
   block : (x : PlainExtension) → kind_of x ≡ IpAddrKind → IsFormedExtension x → Alike enums I (ExtensionType IpAddrKind) (extension_literal x) (extension_literal x)
   block x e f = subst (λ (k : ExtensionKind). Alike enums I (ExtensionType k) (extension_literal x) (extension_literal x)) e (literal enums I (ExtensionLiteral x) f (tt, tt))
 
+  -- ---- each application, at literals of the values and at the terms
+
+  pub in_range_at_values : (t : PlainTerm) (ts : List PlainTerm) (r : Range) (rs : List Range) → HasRange I t r → AllZip (HasRange I) ts rs → Alike enums I BoolType (is_in_range applied (range_literal r) (map range_literal rs)) (is_in_range applied t ts)
+  in_range_at_values t ts r rs h z = in_any_alike enums I (map range_literal rs) ts (at_range r t h) (at_ranges ts rs z)
+
+  pub loopback_at_values : (t : PlainTerm) (r : Range) → HasRange I t r → Alike enums I BoolType (is_loopback applied (range_literal r)) (is_loopback applied t)
+  loopback_at_values t r h = in_literal_alike enums I loopback_v4 loopback_v6 (block loopback_v4 refl (omega arith, omega arith)) (block loopback_v6 refl (omega arith, tt)) (at_range r t h)
+
+  pub multicast_at_values : (t : PlainTerm) (r : Range) → HasRange I t r → Alike enums I BoolType (is_multicast applied (range_literal r)) (is_multicast applied t)
+  multicast_at_values t r h = in_literal_alike enums I multicast_v4 multicast_v6 (block multicast_v4 refl (omega arith, omega arith)) (block multicast_v6 refl (omega arith, omega arith)) (at_range r t h)
+
+  pub offset_at_values : (t u : PlainTerm) (z w : ℤ) → HasDatetime I t z → HasDuration I u w → Alike enums I (OptionType (ExtensionType DatetimeKind)) (offset applied (datetime z) (duration w)) (offset applied t u)
+  offset_at_values t u z w h k = offset_alike enums I (datetime_alike enums I (at_datetime z t h)) (duration_alike enums I (at_duration w u k))
+
+  pub since_at_values : (t u : PlainTerm) (z w : ℤ) → HasDatetime I t z → HasDatetime I u w → Alike enums I (OptionType (ExtensionType DurationKind)) (duration_since applied (datetime z) (datetime w)) (duration_since applied t u)
+  since_at_values t u z w h k = since_alike enums I (datetime_alike enums I (at_datetime z t h)) (datetime_alike enums I (at_datetime w u k))
+
+  pub date_at_value : (t : PlainTerm) (z : ℤ) → HasDatetime I t z → Alike enums I (OptionType (ExtensionType DatetimeKind)) (to_date applied (datetime z)) (to_date applied t)
+  date_at_value t z h = date_alike enums I (at_datetime z t h)
+
+  pub time_at_value : (t : PlainTerm) (z : ℤ) → HasDatetime I t z → Alike enums I (ExtensionType DurationKind) (to_time applied (datetime z)) (to_time applied t)
+  time_at_value t z h = time_alike enums I (at_datetime z t h)
+
 pub containment_has_values : ContainmentHasValues
 containment_has_values = record {
-  is_in_range = λ enums I t ts r rs h z i. told enums I (in_any_alike enums I (map range_literal rs) ts (at_range enums I r t h) (at_ranges enums I ts rs z)) (functions_stand.is_in_range (range_literal r) (map range_literal rs)) i (containment_is_told.is_in_range r rs h.fits (ranges_fit enums I ts rs z));
-  is_loopback = λ enums I t r h i. told enums I (in_literal_alike enums I loopback_v4 loopback_v6 (block enums I loopback_v4 refl (omega arith, omega arith)) (block enums I loopback_v6 refl (omega arith, tt)) (at_range enums I r t h)) (functions_stand.is_loopback (range_literal r)) i (containment_is_told.is_loopback r h.fits);
-  is_multicast = λ enums I t r h i. told enums I (in_literal_alike enums I multicast_v4 multicast_v6 (block enums I multicast_v4 refl (omega arith, omega arith)) (block enums I multicast_v6 refl (omega arith, omega arith)) (at_range enums I r t h)) (functions_stand.is_multicast (range_literal r)) i (containment_is_told.is_multicast r h.fits);
+  is_in_range = λ enums I t ts r rs h z i. told enums I (in_range_at_values enums I t ts r rs h z) (functions_stand.is_in_range (range_literal r) (map range_literal rs)) i (containment_is_told.is_in_range r rs h.fits (ranges_fit enums I ts rs z));
+  is_loopback = λ enums I t r h i. told enums I (loopback_at_values enums I t r h) (functions_stand.is_loopback (range_literal r)) i (containment_is_told.is_loopback r h.fits);
+  is_multicast = λ enums I t r h i. told enums I (multicast_at_values enums I t r h) (functions_stand.is_multicast (range_literal r)) i (containment_is_told.is_multicast r h.fits);
 }
 
 pub times_have_values : TimesHaveValues
 times_have_values = record {
-  offset = λ enums I t u z w h k i. some_in enums I (z +ℤ w) DatetimeOf _ refl (offset_alike enums I (datetime_alike enums I (at_datetime enums I z t h)) (duration_alike enums I (at_duration enums I w u k))) (functions_stand.offset (datetime z) (duration w)) i (datetimes_are_moved.offset z w h.fits k.fits);
-  duration_since = λ enums I t u z w h k i. some_in enums I (z -ℤ w) DurationOf _ refl (since_alike enums I (datetime_alike enums I (at_datetime enums I z t h)) (datetime_alike enums I (at_datetime enums I w u k))) (functions_stand.duration_since (datetime z) (datetime w)) i (datetimes_are_moved.duration_since z w h.fits k.fits);
-  to_date = λ enums I t z h i. some_in enums I (day_start z) DatetimeOf _ refl (date_alike enums I (at_datetime enums I z t h)) (functions_stand.to_date (datetime z)) i (datetimes_are_split.date z h.fits);
-  to_time = λ enums I t z h i. answered enums I (time_alike enums I (at_datetime enums I z t h)) (functions_stand.to_time (datetime z)) i ∙ ap (term_value I) (datetimes_are_split.time z h.fits);
+  offset = λ enums I t u z w h k i. some_in enums I (z +ℤ w) DatetimeOf _ refl (offset_at_values enums I t u z w h k) (functions_stand.offset (datetime z) (duration w)) i (datetimes_are_moved.offset z w h.fits k.fits);
+  duration_since = λ enums I t u z w h k i. some_in enums I (z -ℤ w) DurationOf _ refl (since_at_values enums I t u z w h k) (functions_stand.duration_since (datetime z) (datetime w)) i (datetimes_are_moved.duration_since z w h.fits k.fits);
+  to_date = λ enums I t z h i. some_in enums I (day_start z) DatetimeOf _ refl (date_at_value enums I t z h) (functions_stand.to_date (datetime z)) i (datetimes_are_split.date z h.fits);
+  to_time = λ enums I t z h i. answered enums I (time_at_value enums I t z h) (functions_stand.to_time (datetime z)) i ∙ ap (term_value I) (datetimes_are_split.time z h.fits);
 }

@@ -9,9 +9,9 @@ use Rattle.smt_arithmetic.specs.BitOperators.{BvuleOp}
 use Rattle.smt_ip.specs.IpRanges.{Family, Range, Version4, Version6}
 use Rattle.smt_extension_folding.specs.Bounds.{highest, lowest, range_literal}
 use Rattle.smt_extension_folding.specs.ExtensionFunctions.{in_one_from, in_range, in_range_v, is_ipv4, is_ipv6, range_v4, range_v6}
-use Rattle.smt_extension_folding.specs.Rules.{BlockLiesIn, HoldsIn, IsRangeRule, LiesInOneOfFamily, RuleTells, RulesAreKept, number_in}
+use Rattle.smt_extension_folding.specs.Rules.{BlockLiesIn, HoldsIn, IsRangeRule, IsTermOf, LiesInOneOfFamily, RuleTells, RulesAreKept, number_in}
 use Rattle.smt_extension_folding.specs.Values.{HasRange}
-use Rattle.smt_extension_folding.proofs.Alike.{typed_at}
+use Rattle.smt_extension_folding.proofs.Alike.{Alike, formed_of, typed_at}
 use Rattle.smt_extension_folding.proofs.Bounds.{ranges_are_bounded}
 use Rattle.smt_extension_folding.proofs.FunctionsAlike.{range_v4_alike, range_v6_alike, v4_alike, v6_alike}
 use Rattle.smt_extension_folding.proofs.FunctionsStand.{functions_stand}
@@ -19,15 +19,16 @@ use Rattle.smt_extension_folding.proofs.OfValues.{answered, at_range}
 use Rattle.smt_folding.specs.Applications.{and_of, false_term, or_of, test_of_two}
 use Rattle.smt_folding.specs.Builder.{applied, folding}
 use Rattle.smt_folding.specs.Refinement.{Refines}
-use Rattle.smt_folding.proofs.Standing.{valued}
+use Rattle.smt_folding.proofs.Standing.{Given, valued}
+use Rattle.smt_meaning.specs.Formed.{IsFormed, IsFormedNode, IsFormedType}
 use Rattle.smt_meaning.specs.Interpretations.{IsGiven, IsInterpretation}
 use Rattle.smt_meaning.specs.Meaning.{meaning, term_value}
 use Rattle.smt_meaning.specs.Operators.{number, truth}
-use Rattle.smt_meaning.specs.Plain.{AndOp, BitVecType, BoolType, OrOp, PlainTerm, PlainType, TestOp, terms}
-use Rattle.smt_meaning.specs.Reached.{reached_terms, subterms}
+use Rattle.smt_meaning.specs.Plain.{AndOp, Application, BitVecType, BoolType, OrOp, PlainOp, PlainTerm, PlainType, TestOp, terms}
+use Rattle.smt_meaning.specs.Reached.{reached_terms, subterms, subterms_of_all}
 use Rattle.smt_meaning.specs.Tables.{Interpretation}
 use Rattle.smt_meaning.specs.Types.{type_eq, type_of, types_of}
-use Rattle.smt_meaning.specs.Typing.{Typed, typed, typed_all}
+use Rattle.smt_meaning.specs.Typing.{typed, typed_all}
 use Rattle.smt_meaning.specs.TypeValues.{Enums}
 use Rattle.smt_meaning.specs.Values.{BitVecValue, BoolValue, Value}
 use Rattle.smt_meaning.proofs.Defaults.{all-join}
@@ -46,10 +47,11 @@ module _ (enums : Enums) (I : Interpretation) where
   record Says (t : PlainTerm) (P : Type 0) : Type 0 where
     parts : typed t ≡ true
     type : type_of t ≡ BoolType
+    formed : IsFormed t
     says : (truth (meaning I t) ≡ true) ↔ P
 
   said_of : {t : PlainTerm} {P Q : Type 0} → (P → Q) → (Q → P) → Says t P → Says t Q
-  said_of to from s = record { parts = s.parts; type = s.type; says = (λ h. to (s.says.0 h), λ q. s.says.1 (from q)) }
+  said_of to from s = record { parts = s.parts; type = s.type; formed = s.formed; says = (λ h. to (s.says.0 h), λ q. s.says.1 (from q)) }
 
   both_typed : (t u : PlainTerm) → typed t ≡ true → typed u ≡ true → typed_all (terms (t ∷ u ∷ [])) ≡ true
   both_typed t u h k = both_true h (both_true k refl)
@@ -57,10 +59,17 @@ module _ (enums : Enums) (I : Interpretation) where
   both_types : (t u : PlainTerm) (ty : PlainType) → type_of t ≡ ty → type_of u ≡ ty → types_of (terms (t ∷ u ∷ [])) ≡ ty ∷ ty ∷ []
   both_types t u ty e d = λ i. e i ∷ d i ∷ []
 
+  -- a Boolean application of two formed terms
+  two_formed : (o : PlainOp) (t u : PlainTerm) → IsFormed t → IsFormed u → IsFormed (Application o (terms (t ∷ u ∷ [])) BoolType)
+  two_formed o t u f g =
+      formed_of o (t ∷ u ∷ []) BoolType (tt, tt) (all-join IsFormedNode (subterms t) (subterms_of_all (terms (u ∷ []))) f.literals (all-join IsFormedNode (subterms u) [] g.literals tt))
+      (all-join (λ v. IsFormedType (type_of v)) (subterms t) (subterms_of_all (terms (u ∷ []))) f.types (all-join (λ v. IsFormedType (type_of v)) (subterms u) [] g.types tt))
+
   said_and : {t u : PlainTerm} {P Q : Type 0} → Says t P → Says u Q → Says (and_of t u) (P × Q)
   said_and {t} {u} s z = record {
     parts = typed_at enums I AndOp (BoolType ∷ BoolType ∷ []) (t ∷ u ∷ []) BoolType (both_typed t u s.parts z.parts) (both_types t u BoolType s.type z.type) refl;
     type = refl;
+    formed = two_formed AndOp t u s.formed z.formed;
     says = (λ h. let p = and_parts (truth (meaning I t)) (truth (meaning I u)) h in (s.says.0 p.0, z.says.0 p.1), λ q. and_from (truth (meaning I t)) (truth (meaning I u)) (s.says.1 q.0) (z.says.1 q.1));
   }
 
@@ -68,6 +77,7 @@ module _ (enums : Enums) (I : Interpretation) where
   said_or {t} {u} s z = record {
     parts = typed_at enums I OrOp (BoolType ∷ BoolType ∷ []) (t ∷ u ∷ []) BoolType (both_typed t u s.parts z.parts) (both_types t u BoolType s.type z.type) refl;
     type = refl;
+    formed = two_formed OrOp t u s.formed z.formed;
     says = (
       λ h. elim (or_cases (truth (meaning I t)) (truth (meaning I u)) h) [ inl x ↦ inl (s.says.0 x) | inr y ↦ inr (z.says.0 y) ],
       λ q. elim q [ inl x ↦ or_left (truth (meaning I t)) (truth (meaning I u)) (s.says.1 x) | inr y ↦ or_right (truth (meaning I t)) (truth (meaning I u)) (z.says.1 y) ],
@@ -75,26 +85,37 @@ module _ (enums : Enums) (I : Interpretation) where
   }
 
   -- a Boolean term says that it holds
-  said_itself : (t : PlainTerm) → Typed t BoolType → Says t (HoldsIn I t)
+  said_itself : (t : PlainTerm) → IsTermOf BoolType t → Says t (HoldsIn I t)
   said_itself t h = record {
-    parts = h.parts;
-    type = h.type;
-    says = (λ e. valued I t h.parts ∙ true_value (meaning I t) e, λ e. ap truth (sym (valued I t h.parts) ∙ e));
+    parts = h.typed.parts;
+    type = h.typed.type;
+    formed = h.formed;
+    says = (λ e. valued I t h.typed.parts ∙ true_value (meaning I t) e, λ e. ap truth (sym (valued I t h.typed.parts) ∙ e));
   }
 
   -- two terms of bits are compared by their numbers
-  said_at_most : (n : ℕ) (t u : PlainTerm) → Typed t (BitVecType n) → Typed u (BitVecType n) → Says (test_of_two (TestOp BvuleOp) t u) (number_in I t ≤ number_in I u)
+  said_at_most : (n : ℕ) (t u : PlainTerm) → IsTermOf (BitVecType n) t → IsTermOf (BitVecType n) u → Says (test_of_two (TestOp BvuleOp) t u) (number_in I t ≤ number_in I u)
   said_at_most n t u h k =
-      let p : number_in I t ≡ number (meaning I t) = ap number (valued I t h.parts) in
-      let q : number_in I u ≡ number (meaning I u) = ap number (valued I u k.parts) in
+      let p : number_in I t ≡ number (meaning I t) = ap number (valued I t h.typed.parts) in
+      let q : number_in I u ≡ number (meaning I u) = ap number (valued I u k.typed.parts) in
       record {
-        parts = typed_at enums I (TestOp BvuleOp) (BitVecType n ∷ BitVecType n ∷ []) (t ∷ u ∷ []) BoolType (both_typed t u h.parts k.parts) (both_types t u (BitVecType n) h.type k.type) (ap (λ x. then_some x BoolType) (same (BitVecType n)));
+        parts = typed_at enums I (TestOp BvuleOp) (BitVecType n ∷ BitVecType n ∷ []) (t ∷ u ∷ []) BoolType (both_typed t u h.typed.parts k.typed.parts) (both_types t u (BitVecType n) h.typed.type k.typed.type) (ap (λ x. then_some x BoolType) (same (BitVecType n)));
         type = refl;
+        formed = two_formed (TestOp BvuleOp) t u h.formed k.formed;
         says = (
           λ e. subst (λ (x : ℕ). x ≤ number_in I u) (sym p) (subst (λ (y : ℕ). number (meaning I t) ≤ y) (sym q) (leb-true (number (meaning I t)) (number (meaning I u)) e)),
           λ l. le-leb (number (meaning I t)) (number (meaning I u)) (subst (λ (x : ℕ). x ≤ number (meaning I u)) p (subst (λ (y : ℕ). number_in I t ≤ y) q l)),
         );
       }
+
+  -- ---- what an interpretation of an application of two gives of each
+
+  first_given : (o : PlainOp) (ty : PlainType) (t u : PlainTerm) → Given enums I (Application o (terms (t ∷ u ∷ [])) ty) → Given enums I t
+  first_given o ty t u g = all-front (IsGiven enums I) (subterms t) (subterms_of_all (terms (u ∷ []))) (all-front (IsGiven enums I) (subterms_of_all (terms (t ∷ u ∷ []))) (Application o (terms (t ∷ u ∷ [])) ty ∷ []) g)
+
+  second_given : (o : PlainOp) (ty : PlainType) (t u : PlainTerm) → Given enums I (Application o (terms (t ∷ u ∷ [])) ty) → Given enums I u
+  second_given o ty t u g =
+      all-front (IsGiven enums I) (subterms u) [] (all-back (IsGiven enums I) (subterms t) (subterms_of_all (terms (u ∷ []))) (all-front (IsGiven enums I) (subterms_of_all (terms (t ∷ u ∷ []))) (Application o (terms (t ∷ u ∷ [])) ty ∷ []) g))
 
   module _ (test : PlainTerm → PlainTerm) (bounds : PlainTerm → (PlainTerm × PlainTerm)) (rule : IsRangeRule test bounds) (t : PlainTerm) (r : Range) (h : HasRange I t r) where
     -- one block in another, by their bounds
@@ -136,19 +157,42 @@ module _ (enums : Enums) (I : Interpretation) where
       one_compared (x ∷ xs) o = elim o [ inl here ↦ inl (here.0, compared_by x here.1) | inr there ↦ inr (one_compared xs there) ]
 
     said_false : Says false_term ⊥
-    said_false = record { parts = refl; type = refl; says = (λ e. absurd (false≢true e), λ empty. absurd empty) }
+    said_false = record { parts = refl; type = refl; formed = record { literals = (tt, tt); types = ((tt, tt), tt) }; says = (λ e. absurd (false≢true e), λ empty. absurd empty) }
 
-    said_rule : (xs : List PlainTerm) (ss : List Range) → AllZip (HasRange I) xs ss → IsInterpretation enums (test t ∷ (bounds t).0 ∷ (bounds t).1 ∷ []) I → Says (in_range_v applied test bounds t xs) (HoldsIn I (test t) × LiesInOneOfFamily I test bounds t xs)
-    said_rule xs ss z i =
-        said_of (λ q. (q.0, elim q.1 [ inl empty ↦ absurd empty | inr o ↦ one_lies (rule.block enums I t r h i q.0) xs o ])) (λ q. (q.0, inr (one_compared (rule.block enums I t r h i q.0) xs q.1)))
+    -- what came so far is given where what is built of it and a list is
+    so_far_given : (xs : List PlainTerm) (v : PlainTerm) → Given enums I (in_one_from applied test bounds t v xs) → Given enums I v
+    so_far_given [] v g = g
+    so_far_given (x ∷ xs) v g = first_given OrOp BoolType v (and_of (test x) (in_range applied bounds t x)) (so_far_given xs (or_of v (and_of (test x) (in_range applied bounds t x))) g)
+
+    -- the test and the bounds are given where what is built of a list that is not empty is
+    bounds_given : (x : PlainTerm) (xs : List PlainTerm) → Given enums I (in_range_v applied test bounds t (x ∷ xs)) → IsInterpretation enums (test t ∷ (bounds t).0 ∷ (bounds t).1 ∷ []) I
+    bounds_given x xs g =
+        let P = IsGiven enums I in
+        let one : PlainTerm = and_of (test x) (in_range applied bounds t x) in
+        let highest : PlainTerm = test_of_two (TestOp BvuleOp) (bounds t).1 (bounds x).1 in
+        let lowest : PlainTerm = test_of_two (TestOp BvuleOp) (bounds x).0 (bounds t).0 in
+        let in_one = so_far_given xs (or_of false_term one) (second_given AndOp BoolType (test t) (in_one_from applied test bounds t false_term (x ∷ xs)) g) in
+        let in_x = second_given AndOp BoolType (test x) (in_range applied bounds t x) (second_given OrOp BoolType false_term one in_one) in
+        let low = second_given (TestOp BvuleOp) BoolType (bounds x).0 (bounds t).0 (second_given AndOp BoolType highest lowest in_x) in
+        let high = first_given (TestOp BvuleOp) BoolType (bounds t).1 (bounds x).1 (first_given AndOp BoolType highest lowest in_x) in
+        all-join P (subterms (test t)) (reached_terms ((bounds t).0 ∷ (bounds t).1 ∷ [])) (first_given AndOp BoolType (test t) (in_one_from applied test bounds t false_term (x ∷ xs)) g)
+        (all-join P (subterms (bounds t).0) (reached_terms ((bounds t).1 ∷ [])) low (all-join P (subterms (bounds t).1) [] high tt))
+
+    -- one of the list is compared so exactly where the first's block lies in one of theirs
+    compared_is_in_one : (xs : List PlainTerm) → Given enums I (in_range_v applied test bounds t xs) → HoldsIn I (test t) → OneIsCompared xs ↔ LiesInOneOfFamily I test bounds t xs
+    compared_is_in_one [] g e = (λ o. o, λ o. o)
+    compared_is_in_one (x ∷ xs) g e = let l = rule.block enums I t r h (bounds_given x xs g) e in (one_lies l (x ∷ xs), one_compared l (x ∷ xs))
+
+    said_rule : (xs : List PlainTerm) (ss : List Range) → AllZip (HasRange I) xs ss → Given enums I (in_range_v applied test bounds t xs) → Says (in_range_v applied test bounds t xs) (HoldsIn I (test t) × LiesInOneOfFamily I test bounds t xs)
+    said_rule xs ss z g =
+        said_of (λ q. (q.0, elim q.1 [ inl empty ↦ absurd empty | inr o ↦ (compared_is_in_one xs g q.0).0 o ])) (λ q. (q.0, inr ((compared_is_in_one xs g q.0).1 q.1)))
         (said_and (said_itself (test t) (rule.tested I t r h)) (said_in_one xs ss false_term ⊥ z said_false))
 
 rule_tells : (test : PlainTerm → PlainTerm) (bounds : PlainTerm → (PlainTerm × PlainTerm)) (t : PlainTerm) (ts : List PlainTerm) (u : PlainTerm) → IsRangeRule test bounds → Refines u (in_range_v applied test bounds t ts) → RuleTells test bounds t ts u
-rule_tells test bounds t ts u rule stands enums I r rs h z f i =
+rule_tells test bounds t ts u rule stands enums I r rs h z i =
     let o : PlainTerm = in_range_v applied test bounds t ts in
-    let s : Says enums I o (HoldsIn I (test t) × LiesInOneOfFamily I test bounds t ts) = said_rule enums I test bounds rule t r h ts rs z (all-back (IsGiven enums I) (subterms o) (reached_terms (test t ∷ (bounds t).0 ∷ (bounds t).1 ∷ [])) i) in
-    let g : IsInterpretation enums (o ∷ []) I = all-join (IsGiven enums I) (subterms o) [] (all-front (IsGiven enums I) (subterms o) (reached_terms (test t ∷ (bounds t).0 ∷ (bounds t).1 ∷ [])) i) tt in
-    record { truth = truth (meaning I o); value = stands.value BoolType enums I f (record { parts = s.parts; type = s.type }) g ∙ valued I o s.parts; says = s.says }
+    let s : Says enums I o (HoldsIn I (test t) × LiesInOneOfFamily I test bounds t ts) = said_rule enums I test bounds rule t r h ts rs z (all-front (IsGiven enums I) (subterms o) [] i) in
+    record { truth = truth (meaning I o); value = stands.value BoolType enums I s.formed (record { parts = s.parts; type = s.type }) i ∙ valued I o s.parts; says = s.says }
 
 -- ---- the rules of both families
 
@@ -189,11 +233,15 @@ not_v4 Version6 a p I e = cc
 both_apart : {v : Value} → v ≡ BoolValue true → v ≡ BoolValue false → ⊥
 both_apart e d = false≢true (ap truth (sym d ∙ e))
 
+-- a term beside a literal is of their type
+term_of : (I : Interpretation) {ty : PlainType} {u t : PlainTerm} → Alike [] I ty u t → IsTermOf ty t
+term_of I a = record { typed = record { parts = a.typed_second; type = a.type_second }; formed = a.formed_second }
+
 rule_v4 : IsRangeRule (is_ipv4 applied) (range_v4 applied)
 rule_v4 = record {
   width = 32;
-  tested = λ I t r h. (let a = v4_alike [] I (at_range [] I r t h) in record { parts = a.typed_second; type = a.type_second });
-  bounded = λ I t r h. (let a = range_v4_alike [] I (at_range [] I r t h) in (record { parts = a.0.typed_second; type = a.0.type_second }, record { parts = a.1.typed_second; type = a.1.type_second }));
+  tested = λ I t r h. term_of I (v4_alike [] I (at_range [] I r t h));
+  bounded = λ I t r h. (let a = range_v4_alike [] I (at_range [] I r t h) in (term_of I a.0, term_of I a.1));
   block = λ enums I t r h i e. (
       let literal = at_range enums I r t h in
       let a = range_v4_alike enums I literal in
@@ -207,8 +255,8 @@ rule_v4 = record {
 rule_v6 : IsRangeRule (is_ipv6 applied) (range_v6 applied)
 rule_v6 = record {
   width = 128;
-  tested = λ I t r h. (let a = v6_alike [] I (at_range [] I r t h) in record { parts = a.typed_second; type = a.type_second });
-  bounded = λ I t r h. (let a = range_v6_alike [] I (at_range [] I r t h) in (record { parts = a.0.typed_second; type = a.0.type_second }, record { parts = a.1.typed_second; type = a.1.type_second }));
+  tested = λ I t r h. term_of I (v6_alike [] I (at_range [] I r t h));
+  bounded = λ I t r h. (let a = range_v6_alike [] I (at_range [] I r t h) in (term_of I a.0, term_of I a.1));
   block = λ enums I t r h i e. (
       let literal = at_range enums I r t h in
       let a = range_v6_alike enums I literal in

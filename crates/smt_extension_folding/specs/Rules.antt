@@ -11,7 +11,7 @@ use Rattle.smt_meaning.specs.Formed.{IsFormed}
 use Rattle.smt_meaning.specs.Interpretations.{IsInterpretation}
 use Rattle.smt_meaning.specs.Meaning.{term_value}
 use Rattle.smt_meaning.specs.Operators.{number}
-use Rattle.smt_meaning.specs.Plain.{BitVecType, BoolType, PlainTerm}
+use Rattle.smt_meaning.specs.Plain.{BitVecType, BoolType, PlainTerm, PlainType}
 use Rattle.smt_meaning.specs.Tables.{Interpretation}
 use Rattle.smt_meaning.specs.TypeValues.{Enums}
 use Rattle.smt_meaning.specs.Typing.{Typed}
@@ -29,12 +29,17 @@ number_in I t = number (term_value I t)
 abbrev pub LiesBetween : Interpretation → ℕ → (PlainTerm × PlainTerm) → Type 0
 LiesBetween I a p = (number_in I p.0 ≤ a) × (a ≤ number_in I p.1)
 
+-- a term that is typed with this type, and formed as every term of the program is
+pub record IsTermOf (ty : PlainType) (t : PlainTerm) : Type 0 where
+  pub typed : Typed t ty
+  pub formed : IsFormed t
+
 -- Of every term with a range for its value: the test is a Boolean term, the bounds are terms of bits of one width, which is the
 -- same for every term, and where the test is true, they bound a block: the lowest address is at most the highest.
 pub record IsRangeRule (test : PlainTerm → PlainTerm) (bounds : PlainTerm → (PlainTerm × PlainTerm)) : Type 0 where
   pub width : ℕ
-  pub tested : (I : Interpretation) (t : PlainTerm) (r : Range) → HasRange I t r → Typed (test t) BoolType
-  pub bounded : (I : Interpretation) (t : PlainTerm) (r : Range) → HasRange I t r → Typed (bounds t).0 (BitVecType width) × Typed (bounds t).1 (BitVecType width)
+  pub tested : (I : Interpretation) (t : PlainTerm) (r : Range) → HasRange I t r → IsTermOf BoolType (test t)
+  pub bounded : (I : Interpretation) (t : PlainTerm) (r : Range) → HasRange I t r → IsTermOf (BitVecType width) (bounds t).0 × IsTermOf (BitVecType width) (bounds t).1
   pub block : (enums : Enums) (I : Interpretation) (t : PlainTerm) (r : Range) → HasRange I t r → IsInterpretation enums (test t ∷ (bounds t).0 ∷ (bounds t).1 ∷ []) I → HoldsIn I (test t) → number_in I (bounds t).0 ≤ number_in I (bounds t).1
 
 -- every address of the first's block is one of the second's
@@ -46,12 +51,12 @@ abbrev pub LiesInOneOfFamily : Interpretation → (test : PlainTerm → PlainTer
 LiesInOneOfFamily I test bounds t [] = ⊥
 LiesInOneOfFamily I test bounds t (x ∷ xs) = (HoldsIn I (test x) × BlockLiesIn I (bounds t) (bounds x)) ⊎ LiesInOneOfFamily I test bounds t xs
 
--- By a rule, what is built of a term and a list, and what stands for that, is true exactly where the term is of the family and lies
--- in one of the list that is.
+-- By a rule, what is built of a term and a list, and what stands for that, is true in every interpretation of what is built exactly
+-- where the term is of the family and lies in one of the list that is.
 abbrev pub RuleTells : (test : PlainTerm → PlainTerm) → (bounds : PlainTerm → (PlainTerm × PlainTerm)) → PlainTerm → List PlainTerm → PlainTerm → Type 0
 RuleTells test bounds t ts u =
-    (enums : Enums) (I : Interpretation) (r : Range) (rs : List Range) → HasRange I t r → AllZip (HasRange I) ts rs → IsFormed (in_range_v applied test bounds t ts)
-    → IsInterpretation enums (in_range_v applied test bounds t ts ∷ test t ∷ (bounds t).0 ∷ (bounds t).1 ∷ []) I → Tells I u (HoldsIn I (test t) × LiesInOneOfFamily I test bounds t ts)
+    (enums : Enums) (I : Interpretation) (r : Range) (rs : List Range) → HasRange I t r → AllZip (HasRange I) ts rs → IsInterpretation enums (in_range_v applied test bounds t ts ∷ []) I
+    → Tells I u (HoldsIn I (test t) × LiesInOneOfFamily I test bounds t ts)
 
 -- the rules of both families, and what is known by any rule
 pub record RulesAreKept : Type 0 where

@@ -1,4 +1,5 @@
 //! Laws of the functions on values of the extension types, proved with no code.
+ghost use Rattle.smt_extension_folding.specs.Answers.{AnswersHaveValues, ArgumentsHaveValues};
 ghost use Rattle.smt_extension_folding.specs.Examples.{ContainmentExamples, RuleExamples, TimeExamples};
 ghost use Rattle.smt_extension_folding.specs.Laws.{ContainmentIsTold, DatetimesAreMoved, DatetimesAreSplit, DecimalsAreCompared, DurationsAreMeasured, ExtensionFunctionsAreFolded, FamiliesAreTold, FreeBitsAreCounted, RangesAreBlocks, RangesAreBounded};
 ghost use Rattle.smt_extension_folding.specs.Rows.{DecimalRows, IpRows, TimeRows};
@@ -38,6 +39,13 @@ pub fn times_are_computed()
 pub fn extension_functions_have_values()
     ensures containment { ContainmentHasValues }
     ensures times { TimesHaveValues }
+{}
+
+/// Whatever stands for an application tells the same in every interpretation of that application, and a typed term without fault
+/// has a value of its type for it to be told of.
+pub fn answers_have_values()
+    ensures answers { AnswersHaveValues }
+    ensures arguments { ArgumentsHaveValues }
 {}
 
 /// Rules on IP ranges: each family's test with its bounds is one, and by any rule what is built of a term and a list is true

@@ -3,6 +3,7 @@
 ghost use Rattle.std.specs.Prelude.{◌≡◌, IfOk, map};
 ghost use Rattle.smt_ip.specs.IpOrder.{plain_range};
 ghost use Rattle.smt_ip.specs.IpView.{range_of};
+ghost use Rattle.smt_extension_folding.specs.Answers.{TellsContainment, TellsLoopback, TellsMulticast};
 ghost use Rattle.smt_extension_folding.specs.ExtensionFunctions.{in_range, in_range_lit, in_range_v, is_in_range, is_ipv4, is_ipv6, is_loopback, is_multicast, range_v4, range_v6};
 ghost use Rattle.smt_extension_folding.specs.Rules.{RuleTells};
 ghost use Rattle.smt_extension_functions.specs.Closures.{AreByRule, GivesPairs, GivesTerms, StandsForPairs, StandsForTerms};
@@ -64,8 +65,8 @@ fn lies_in(alloc: Global, inner: (Term, Term), outer: (Term, Term)) -> Result<Te
 ///
 /// Where the rule's calls give what functions give of their terms, so does this call, and where they give terms that stand
 /// for the functions', the result stands for what would be built of these. Where these are a test and bounds as
-/// [`RangeRule::new`] asks for, the result is true exactly where the range is of the family and its addresses are all among
-/// those of one of the ranges that is.
+/// [`RangeRule::new`] asks for, the result is true, in every interpretation of what would be built in which the terms have ranges
+/// for their values, exactly where the range is of the family and its addresses are all among those of one of the ranges that is.
 ///
 /// # Conditions
 /// The rule's calls may be called at any term.
@@ -117,13 +118,15 @@ fn is_in_v6(alloc: Global, t: Term, ts: &[Term]) -> Result<Term, TermError>
     in_range_v(alloc, &RangeRule::new(is_ip, range), t, ts)
 }
 
-/// Whether a range lies in one of the ranges.
+/// Whether a range lies in one of the ranges: in every interpretation in which the terms have ranges for their values, whether the
+/// addresses of the first are all among those of one of the others.
 ///
 /// # Errors
 /// `Memory`, where there is none for the term.
 pub fn is_in_range(alloc: Global, t: Term, ts: &[Term]) -> Result<Term, TermError>
     ensures folded { IfOk result (λ r. plain_term r ≡ is_in_range folding (plain_term t) (map plain_term ts.now)) }
     ensures refines { IfOk result (λ r. Refines (plain_term r) (is_in_range applied (plain_term t) (map plain_term ts.now))) }
+    ensures value { IfOk result (λ r. TellsContainment (plain_term t) (map plain_term ts.now) (plain_term r)) }
 {
     let in_v4 = is_in_v4(alloc, t.share()?, ts)?;
     or(alloc, in_v4, is_in_v6(alloc, t, ts)?)
@@ -179,24 +182,28 @@ fn is_v4(alloc: Global, t: &Term) -> Result<Term, TermError>
     is_ipv4(alloc, t)
 }
 
-/// Whether a range lies in `127.0.0.0/8` or in `::1`.
+/// Whether a range lies in `127.0.0.0/8` or in `::1`: in every interpretation in which the term has a range for its value, whether
+/// the addresses of that range are all among those of one of the two.
 ///
 /// # Errors
 /// `Memory`, where there is none for the term.
 pub fn is_loopback(alloc: Global, t: Term) -> Result<Term, TermError>
     ensures folded { IfOk result (λ r. plain_term r ≡ is_loopback folding (plain_term t)) }
     ensures refines { IfOk result (λ r. Refines (plain_term r) (is_loopback applied (plain_term t))) }
+    ensures value { IfOk result (λ r. TellsLoopback (plain_term t) (plain_term r)) }
 {
     in_range_lit(alloc, t, loop_back_cidr_v4(), loop_back_cidr_v6())
 }
 
-/// Whether a range lies in `224.0.0.0/4` or in `ff00::/8`.
+/// Whether a range lies in `224.0.0.0/4` or in `ff00::/8`: in every interpretation in which the term has a range for its value,
+/// whether the addresses of that range are all among those of one of the two.
 ///
 /// # Errors
 /// `Memory`, where there is none for the term.
 pub fn is_multicast(alloc: Global, t: Term) -> Result<Term, TermError>
     ensures folded { IfOk result (λ r. plain_term r ≡ is_multicast folding (plain_term t)) }
     ensures refines { IfOk result (λ r. Refines (plain_term r) (is_multicast applied (plain_term t))) }
+    ensures value { IfOk result (λ r. TellsMulticast (plain_term t) (plain_term r)) }
 {
     in_range_lit(alloc, t, multicast_cidr_v4(), multicast_cidr_v6())
 }

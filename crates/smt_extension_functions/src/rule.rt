@@ -19,9 +19,9 @@ where
     /// The rule of these two calls.
     ///
     /// # Conditions
-    /// Both may be called at any term. At a term whose value is an IP range, `is_ip` gives a Boolean term, and `range` the
-    /// lowest and the highest address as bitvectors of one width, the same for every term; where the Boolean is true, the
-    /// lowest is at most the highest.
+    /// Both may be called at any term. At a term whose value is an IP range, `is_ip` gives what stands for a Boolean term, and
+    /// `range` what stands for the lowest and the highest address as bitvectors of one width, the same for every term; where the
+    /// Boolean is true, the lowest is at most the highest.
     pub fn new(is_ip: F, range: G) -> RangeRule<F, G>
         requires test { F.IsAlwaysCallable is_ip }
         requires bounds { G.IsAlwaysCallable range }

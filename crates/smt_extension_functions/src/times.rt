@@ -2,6 +2,7 @@
 
 ghost use Rattle.std.specs.Prelude.{◌≡◌, IfOk};
 ghost use Rattle.smt_arithmetic.specs.BitOperators.{BvaddOp, BvsaddoOp, BvsleOp, BvsremOp, BvssuboOp, BvsubOp};
+ghost use Rattle.smt_extension_folding.specs.Answers.{TellsDate, TellsDurationSince, TellsOffset, TellsTime};
 ghost use Rattle.smt_extension_folding.specs.ExtensionFunctions.{day_literal, difference_as, duration_since, offset, since_midnight, sum_as, to_date, to_days, to_hours, to_milliseconds, to_minutes, to_seconds, to_time};
 ghost use Rattle.smt_extension_functions.specs.Days.{a_day_more};
 ghost use Rattle.smt_folding.specs.Applications.{bits_literal};
@@ -144,52 +145,59 @@ fn difference_leaves(alloc: Global, x: &Term, y: &Term) -> Result<Term, TermErro
     bvssubo(alloc, x, y)
 }
 
-/// Some of the datetime that lies a duration after a datetime; none where that leaves the 64 bits.
+/// Some of the datetime that lies a duration after a datetime; none where that leaves the 64 bits. So it is of the values of the
+/// terms in every interpretation.
 ///
 /// # Errors
 /// `Memory`, where there is none for the term.
 pub fn offset(alloc: Global, datetime: Term, duration: Term) -> Result<Term, TermError>
     ensures folded { IfOk result (λ r. plain_term r ≡ offset folding (plain_term datetime) (plain_term duration)) }
     ensures refines { IfOk result (λ r. Refines (plain_term r) (offset applied (plain_term datetime) (plain_term duration))) }
+    ensures value { IfOk result (λ r. TellsOffset (plain_term datetime) (plain_term duration) (plain_term r)) }
 {
     let start = ext_datetime_val(alloc, datetime)?;
     let length = ext_duration_val(alloc, duration)?;
     sum_as(alloc, ExtOp::DatetimeOfBitVec, &start, &length)
 }
 
-/// Some of the duration from the second datetime to the first; none where that leaves the 64 bits.
+/// Some of the duration from the second datetime to the first; none where that leaves the 64 bits. So it is of the values of the
+/// terms in every interpretation.
 ///
 /// # Errors
 /// `Memory`, where there is none for the term.
 pub fn duration_since(alloc: Global, datetime: Term, start: Term) -> Result<Term, TermError>
     ensures folded { IfOk result (λ r. plain_term r ≡ duration_since folding (plain_term datetime) (plain_term start)) }
     ensures refines { IfOk result (λ r. Refines (plain_term r) (duration_since applied (plain_term datetime) (plain_term start))) }
+    ensures value { IfOk result (λ r. TellsDurationSince (plain_term datetime) (plain_term start) (plain_term r)) }
 {
     let end = ext_datetime_val(alloc, datetime)?;
     let start = ext_datetime_val(alloc, start)?;
     difference_as(alloc, ExtOp::DurationOfBitVec, &end, &start)
 }
 
-/// Some of the last midnight at a datetime; none where that leaves the 64 bits.
+/// Some of the last midnight at a datetime; none where that leaves the 64 bits. So it is of the value of the term in every
+/// interpretation.
 ///
 /// # Errors
 /// `Memory`, where there is none for the term.
 pub fn to_date(alloc: Global, datetime: Term) -> Result<Term, TermError>
     ensures folded { IfOk result (λ r. plain_term r ≡ to_date folding (plain_term datetime)) }
     ensures refines { IfOk result (λ r. Refines (plain_term r) (to_date applied (plain_term datetime))) }
+    ensures value { IfOk result (λ r. TellsDate (plain_term datetime) (plain_term r)) }
 {
     let number = ext_datetime_val(alloc, datetime)?;
     let of_day = bvsmod(alloc, number.share()?, Term::from(MILLISECONDS_IN_A_DAY))?;
     difference_as(alloc, ExtOp::DatetimeOfBitVec, &number, &of_day)
 }
 
-/// The duration since the last midnight at a datetime.
+/// The duration since the last midnight at a datetime: in every interpretation, of the value of the term.
 ///
 /// # Errors
 /// `Memory`, where there is none for the term.
 pub fn to_time(alloc: Global, datetime: Term) -> Result<Term, TermError>
     ensures folded { IfOk result (λ r. plain_term r ≡ to_time folding (plain_term datetime)) }
     ensures refines { IfOk result (λ r. Refines (plain_term r) (to_time applied (plain_term datetime))) }
+    ensures value { IfOk result (λ r. TellsTime (plain_term datetime) (plain_term r)) }
 {
     folded_to_time(alloc, datetime)
 }

@@ -20,6 +20,6 @@ stamp_value s = days_from_civil (pos s.day.year) s.day.month s.day.day *ℤ pos 
 abbrev pub datetime_of : Stamp → Option ℤ
 datetime_of s = long_where (not (is_barred s.clock) && (is_real_day s.day && is_time s.clock)) (stamp_value s)
 
--- the value of a datetime's text
+-- the milliseconds since 1970-01-01T00:00:00Z of a datetime's text, or none where the text is no datetime
 abbrev pub datetime_in : List ℕ → Option ℤ
 datetime_in text = stamp_at text >>= datetime_of

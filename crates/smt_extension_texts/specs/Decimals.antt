@@ -22,6 +22,6 @@ decimal_of text negative whole fraction =
     && (is_numeral whole && (is_numeral fraction && nat_le (length fraction) 4)))
     (signed_number negative (ten_thousandths whole fraction))
 
--- the value of a decimal's text
+-- the value of a decimal's text in ten-thousandths, or none where the text is no decimal
 abbrev pub decimal_in : List ℕ → Option ℤ
 decimal_in text = decimal_of text (has_minus text) (whole_digits text) (fraction_digits text)

@@ -44,6 +44,6 @@ duration_of text negative parts =
     (bytes_eq text (minus_if negative ++ parts_text parts) && nat_lt 0 (length (parts_text parts)))
     (signed_number negative (parts_number parts))
 
--- the value of a duration's text
+-- the value of a duration's text in milliseconds, or none where the text is no duration
 abbrev pub duration_in : List ℕ → Option ℤ
 duration_in text = duration_of text (has_minus text) (parts_at (without_minus text))

@@ -50,7 +50,7 @@ range_of_parts family text digits = do
   prefix ← prefix_in (address_bits family) digits
   Some (record { family = family; address = address; prefix = prefix })
 
--- the range of IPv4 that a text writes, or else that of IPv6
+-- the range of IPv4 that a text writes, or else that of IPv6, or none where the text writes no range
 abbrev pub range_in : List ℕ → Option Range
 range_in text =
     option_or

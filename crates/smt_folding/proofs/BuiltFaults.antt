@@ -9,10 +9,10 @@ use Rattle.smt_meaning.specs.Plain.{PlainTerm, Application, NoneTerm, LiteralTer
 use Rattle.smt_meaning.specs.Types.{is_type, result_type, type_of, types_of}
 use Rattle.smt_meaning.specs.Typing.{are_elements, typed, typed_all, typed_fields}
 use Rattle.smt_meaning.specs.TypeValues.{Enums}
-use Rattle.smt_meaning.proofs.Soundness.{is_type-some, none-first, none-second, not-passed, walked}
+use Rattle.smt_meaning.proofs.Soundness.{is_type-some, none-first, none-second, none_both, not-passed, walked}
 use Rattle.smt_folding.specs.Built.{built, built_all, built_fields}
 use Rattle.smt_folding.proofs.BuiltTerms.{built_stands}
-use Rattle.smt_folding.proofs.FoldedFaults.{IsFaultless, faultless_folded, faultless_set, faultless_some, none_both}
+use Rattle.smt_folding.proofs.FoldedFaults.{IsFaultless, faultless_folded, faultless_set, faultless_some}
 use Rattle.smt_folding.proofs.Standing.{same_type}
 
 -- ---- types

@@ -1,10 +1,9 @@
 -- The foldings of equality and of choice stand for them.
 use Rattle.std.proofs.Common.{◌≡◌, Bool, true, false, not, ◌&&◌, ◌||◌, cond, [], ◌∷◌, ◌++◌, refl, ap, ◌∙◌, sym, subst, ⊎_elim}
 use Rattle.std.specs.Bool.{then_some}
-use Rattle.std.specs.Cmp.{Equal-is, first_so, second_so}
+use Rattle.std.specs.Cmp.{first_so, second_so}
 use Rattle.std.specs.Cmp.Derive.{both_true}
 use Rattle.std.specs.List.{AllByRecursion}
-use Rattle.std.specs.Ordering.{is_eq}
 use Rattle.std.proofs.lemmas.Bool.{or_cases}
 use Rattle.smt_folding.specs.Applications.{true_term, false_term, truth_literal, not_of, and_of, or_of, eq_of, ite_of}
 use Rattle.smt_folding.specs.FoldConnectives.{folded_not, folded_and, folded_or}
@@ -23,23 +22,23 @@ use Rattle.smt_meaning.specs.TermOrder.{term_eq}
 use Rattle.smt_meaning.specs.Types.{type_eq, type_of, is_type}
 use Rattle.smt_meaning.specs.Typing.{typed}
 use Rattle.smt_meaning.specs.TypeValues.{Enums}
-use Rattle.smt_meaning.specs.ValueOrder.{value_eq, value_cmp}
+use Rattle.smt_meaning.specs.ValueOrder.{value_eq}
 use Rattle.smt_meaning.proofs.Defaults.{all-join}
 use Rattle.smt_meaning.proofs.LiteralValues.{same}
 use Rattle.smt_meaning.proofs.Soundness.{all-front, all-back}
 use Rattle.smt_meaning.proofs.TermTotal.{terms_decided, types_decided}
 use Rattle.smt_meaning.proofs.TypeOrder.{eq_same}
-use Rattle.smt_meaning.proofs.ValueOrder.{value_same, value_itself}
+use Rattle.smt_meaning.proofs.ValueOrder.{values_decided}
 use Rattle.smt_meaning.specs.Plain.{PlainType, OptionType, BoolType, EqOp, IteOp, PlainTerm, Application, NoneTerm, SomeTerm, terms}
 use Rattle.smt_meaning.specs.Values.{Value, BoolValue, SomeValue}
 
 -- ---- values
 
 pub equal_values : (v w : Value) → v ≡ w → value_eq v w ≡ true
-equal_values v w e = sym (ap (λ u. value_eq v u) e) ∙ ap is_eq (value_itself v)
+equal_values v w = (values_decided v w).1
 
 pub value_is : (v w : Value) → value_eq v w ≡ true → v ≡ w
-value_is v w h = value_same v w ((Equal-is (value_cmp v w)).0 h)
+value_is v w = (values_decided v w).0
 
 true_is : (x : Bool) → BoolValue x ≡ BoolValue (value_eq (BoolValue true) (BoolValue x))
 true_is true = refl

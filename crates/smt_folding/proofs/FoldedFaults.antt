@@ -12,7 +12,7 @@ use Rattle.smt_meaning.specs.TermOrder.{term_eq}
 use Rattle.smt_meaning.specs.TermSets.{set_term, sorted_terms}
 use Rattle.smt_meaning.specs.Types.{attribute_in, attribute_type, extension_signature, inner_type, is_bits, type_of, types_of}
 use Rattle.smt_meaning.specs.TypeValues.{Enums}
-use Rattle.smt_meaning.proofs.Soundness.{none-first, none-second}
+use Rattle.smt_meaning.proofs.Soundness.{none-first, none-second, none_both}
 use Rattle.smt_meaning.proofs.SortedSets.{all-terms}
 use Rattle.smt_folding.specs.Applications.{true_term, false_term, truth_literal, bits_literal, not_of, and_of, or_of, eq_of, ite_of, bits_of_two, test_of_two, bvneg_of, zero_extend_of, set_member_of, set_subset_of, set_inter_of, option_get_of, record_get_of, extension_of, type_at, type_inside, wider_type}
 use Rattle.smt_folding.specs.Built.{folded}
@@ -28,10 +28,6 @@ use Rattle.smt_folding.specs.Parts.{elements_in, is_empty_set, is_set_literal, n
 use Rattle.smt_folding.proofs.SetLists.{filtered}
 
 -- ---- faults
-
-pub none_both : (f g : Option Fault) → f ≡ None → g ≡ None → option_or f g ≡ None
-none_both None g h k = k
-none_both (Some f) g h k = cc
 
 none_unless : (b : Bool) (f : Option Fault) → f ≡ None → unless b f ≡ None
 none_unless true f h = refl

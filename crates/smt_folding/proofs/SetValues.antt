@@ -1,10 +1,8 @@
 -- Sets of literals have an element, a subset and common elements where their values do.
 use Rattle.std.proofs.Common.{◌≡◌, true, List, [], ◌∷◌, refl, ap, ◌∙◌, sym, subst}
 use Rattle.std.specs.Prelude.{filter}
-use Rattle.std.specs.Bool.{Decides}
 use Rattle.std.specs.List.{AllByRecursion, list_all}
 use Rattle.smt_folding.specs.FoldSets.{is_among}
-use Rattle.smt_folding.proofs.EqualityStands.{equal_values, value_is}
 use Rattle.smt_folding.proofs.SetLists.{HasValue, IsElement, each_of, each_passed, elements_typed, find, found, keep, kept, listed_again, literal_each, meaning_from, meaning_in, of_each, passed_each, same_set, same_truth}
 use Rattle.smt_meaning.specs.Formed.{IsFormedNode}
 use Rattle.smt_meaning.specs.Literals.{are_literals, is_literal}
@@ -25,11 +23,9 @@ use Rattle.smt_meaning.proofs.SortedValues.{ascends-sorted, list-values}
 use Rattle.smt_meaning.proofs.Soundness.{all-back, all-front}
 use Rattle.smt_meaning.proofs.TermTotal.{terms_decided}
 use Rattle.smt_meaning.proofs.TotalOrder.{values_total}
+use Rattle.smt_meaning.proofs.ValueOrder.{values_decided}
 use Rattle.smt_meaning.specs.Plain.{PlainType, SetType, PlainTerm, SetTerm, PlainTerms, no_terms, one_term, list_of_terms, terms}
 use Rattle.smt_meaning.specs.Values.{Value, SetValue, Values, no_values, one_value}
-
-values_decided : (v w : Value) → Decides (value_eq v w) (v ≡ w)
-values_decided v w = (value_is v w, equal_values v w)
 
 -- ---- the elements of a set's value
 

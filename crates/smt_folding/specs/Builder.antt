@@ -42,7 +42,7 @@ pub record Builder : Type 0 where
   pub empty_by_form : PlainTerm → Option PlainTerm
   pub none_by_form : PlainTerm → Option PlainTerm
 
--- the applications as they are asked for; nothing is known by form
+-- the builder of the applications as they are asked for; it knows nothing by form
 abbrev pub applied : Builder
 applied = record {
   not = not_of;
@@ -68,7 +68,7 @@ applied = record {
   none_by_form = λ t. None;
 }
 
--- the foldings
+-- the builder of what the calls give: each operator folded, and none and the empty set known by form
 abbrev pub folding : Builder
 folding = record {
   not = folded_not;

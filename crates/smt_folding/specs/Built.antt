@@ -16,7 +16,8 @@ use Rattle.smt_meaning.specs.TermSets.{set_term}
 use Rattle.smt_meaning.specs.Typing.{typed}
 use Rattle.smt_meaning.specs.TypeValues.{Enums}
 
--- an application by the call of its operator; what no call folds stays
+-- An operator at arguments that are built already, with the type that was claimed: what the call of the operator gives. An
+-- operator that no call folds (an uninterpreted function), and one at a wrong number of arguments, stays an application.
 abbrev pub folded : PlainOp → List PlainTerm → PlainType → PlainTerm
 folded NotOp (t ∷ []) ty = folded_not t
 folded AndOp (t ∷ u ∷ []) ty = folded_and t u
@@ -39,6 +40,8 @@ folded (StringLikeOp p) (t ∷ []) ty = folded_string_like t p
 folded o ts ty = Application o (terms ts) ty
 
 abbrev mutual
+  -- What is built for a whole term: parts first, and then the call of the operator. `(and b (not (not b)))` is `b`. A set's elements
+  -- are put in order anew, since what is built of two of them may be one term.
   pub built : PlainTerm → PlainTerm
   built (Application o ts ty) = folded o (built_all ts) ty
   built (NoneTerm ty) = NoneTerm ty
@@ -48,10 +51,12 @@ abbrev mutual
   built (SomeTerm t) = SomeTerm (built t)
   built (VariableTerm id ty) = VariableTerm id ty
 
+  -- what is built for each term of a list
   pub built_all : PlainTerms → List PlainTerm
   built_all no_terms = []
   built_all (one_term t ts) = built t ∷ built_all ts
 
+  -- what is built for the term of each field, under the same attribute
   pub built_fields : PlainFields → PlainFields
   built_fields no_fields = no_fields
   built_fields (one_field a t fs) = one_field a (built t) (built_fields fs)

@@ -13,11 +13,12 @@ use Rattle.smt_meaning.specs.Plain.{PlainTerm, NoneTerm, SetTerm, SomeTerm, no_t
 abbrev pub implies : Builder → PlainTerm → PlainTerm → PlainTerm
 implies b t u = b.or (b.not t) u
 
--- the disjunction of terms, from false on: each is put before what came of those in front of it
+-- what a disjunction has come to, and the terms that are left: each is put before what came of those in front of it
 abbrev pub any_of_from : Builder → PlainTerm → List PlainTerm → PlainTerm
 any_of_from b so_far [] = so_far
 any_of_from b so_far (t ∷ ts) = any_of_from b (b.or t so_far) ts
 
+-- the disjunction of a list of terms, from false on; of none it is false
 abbrev pub any_of : Builder → List PlainTerm → PlainTerm
 any_of b ts = any_of_from b false_term ts
 
@@ -45,26 +46,31 @@ none_by_type b t = elim (inner_type (type_of t)) [ Some ty ↦ b.eq t (NoneTerm 
 abbrev pub is_none : Builder → PlainTerm → PlainTerm
 is_none b t = elim (b.none_by_form t) [ Some x ↦ x | None ↦ none_by_type b t ]
 
+-- whether an option is some: the negation of its being none. What is no option always is.
 abbrev pub is_some : Builder → PlainTerm → PlainTerm
 is_some b t = b.not (is_none b t)
 
--- some of the term where the guard is false, or where it is true, and else none
+-- some of the term where the guard is false, and else none
 abbrev pub if_false : Builder → (guard : PlainTerm) → PlainTerm → PlainTerm
 if_false b g t = b.ite g (NoneTerm (type_of t)) (SomeTerm t)
 
+-- some of the term where the guard is true, and else none
 abbrev pub if_true : Builder → (guard : PlainTerm) → PlainTerm → PlainTerm
 if_true b g t = b.ite g (SomeTerm t) (NoneTerm (type_of t))
 
--- where the guard is false an option itself, and some of another term; else none
+-- An option where the guard is false, and none where it is true: the term itself where it is an option, and else some of it.
+-- So the result is an option in both cases, and never an option of an option.
 abbrev pub unless : Builder → (guard : PlainTerm) → PlainTerm → PlainTerm
 unless b g t = elim (inner_type (type_of t)) [ Some ty ↦ b.ite g (NoneTerm ty) t | None ↦ if_false b g t ]
 
+-- the term as an option where another option is some, and else none
 abbrev pub if_some : Builder → PlainTerm → PlainTerm → PlainTerm
 if_some b g t = unless b (is_none b g) t
 
--- one of the terms is none
+-- whether one of the options of a list is none
 abbrev pub any_none : Builder → List PlainTerm → PlainTerm
 any_none b gs = any_of b (map (is_none b) gs)
 
+-- the term as an option where all options of a list are some, and else none
 abbrev pub if_all_some : Builder → List PlainTerm → PlainTerm → PlainTerm
 if_all_some b gs t = unless b (any_none b gs) t

@@ -39,6 +39,7 @@ pub record Related (b c : Builder) : Type 0 where
   pub extension : (o : ExtensionOp) → {t u : PlainTerm} → Refines t u → RefinesWithType (b.extension o t) (c.extension o u)
   pub is_none : {t u : PlainTerm} → Refines t u → Refines (is_none b t) (is_none c u)
 
--- what the foldings give stands for the applications, at terms that stand for others
+-- What the foldings give stands for the applications, at terms that stand for others: so a composite of folded parts stands
+-- for the composite that is asked for.
 abbrev pub Congruence : Type 0
 Congruence = Related folding applied

@@ -9,12 +9,13 @@ use Rattle.smt_folding.specs.Parts.{negated_bits}
 use Rattle.smt_meaning.specs.Types.{type_of, is_bits}
 use Rattle.smt_meaning.specs.Plain.{PlainOp, BitVecLiteral, PlainTerm, LiteralTerm, BitsOp, TestOp, OverflowOp}
 
--- a literal's negation, and what a negation is of
+-- the negation of bits, folded: of a literal its value, of a negation what that is of; all else stays
 abbrev pub folded_bvneg : PlainTerm → PlainTerm
 folded_bvneg (LiteralTerm (BitVecLiteral n a)) = bits_literal n (bits.bvneg n a)
 folded_bvneg t = unwrap_or (negated_bits t) (bvneg_of t)
 
--- which numbers an operator takes on the right: a shift those of 32 bits, and any other all
+-- Which numbers a folding takes on the right: of a shift those of 32 bits, and of any other operator all. A literal shift by more
+-- stays an application, which is our own limit and not the standard's.
 abbrev pub takes_right : BitsOperator → ℕ → Bool
 takes_right BvshlOp b = nat_le b greatest_shift
 takes_right BvlshrOp b = nat_le b greatest_shift
@@ -32,19 +33,20 @@ folded_test_by o f (LiteralTerm (BitVecLiteral n a)) (LiteralTerm (BitVecLiteral
     cond (n == m) (truth_literal (f n a b)) (test_of_two o (bits_literal n a) (bits_literal m b))
 folded_test_by o f t u = test_of_two o t u
 
--- the comparisons and the overflow tests
+-- a comparison of two bitvectors, folded, by the table of comparisons
 abbrev pub folded_test : TestOperator → PlainTerm → PlainTerm → PlainTerm
 folded_test o = folded_test_by (TestOp o) (test_entry o).function
 
+-- an overflow test of two bitvectors, folded, by the table of overflow tests
 abbrev pub folded_overflow : OverflowOperator → PlainTerm → PlainTerm → PlainTerm
 folded_overflow o = folded_test_by (OverflowOp o) (overflow_entry o).function
 
--- a literal: whether it is the least value
+-- whether negation overflows, folded: of a literal whether it is the least number of its width
 abbrev pub folded_bvnego : PlainTerm → PlainTerm
 folded_bvnego (LiteralTerm (BitVecLiteral n a)) = truth_literal (a == 2 ^ (n - 1))
 folded_bvnego t = bvnego_of t
 
--- a literal, with as many more places; what is no bits stays
+-- bits with k zeros in front, folded: of a literal its number in a wider type. A term that is no bits is given back as it is.
 abbrev pub folded_zero_extend : ℕ → PlainTerm → PlainTerm
 folded_zero_extend k (LiteralTerm (BitVecLiteral n a)) = bits_literal (n + k) a
 folded_zero_extend k t = cond (is_bits (type_of t)) (zero_extend_of k t) t

@@ -19,14 +19,14 @@ is_negation t u = option_map_or (term_eq t) (negated u) false
 abbrev pub are_opposites : PlainTerm → PlainTerm → Bool
 are_opposites t u = is_negation t u || is_negation u t
 
--- equal terms, or the second true: the first; the first true: the second; a false one, or opposites: false
+-- equal terms, or the second true: the first; the first true: the second; a false one, or opposites: false; else the conjunction
 abbrev pub folded_and : PlainTerm → PlainTerm → PlainTerm
 folded_and t u =
     cond (term_eq t u || term_eq u true_term) t
     (cond (term_eq t true_term) u
     (cond (term_eq t false_term || (term_eq u false_term || are_opposites t u)) false_term (and_of t u)))
 
--- the same with true and false changed
+-- equal terms, or the second false: the first; the first false: the second; a true one, or opposites: true; else the disjunction
 abbrev pub folded_or : PlainTerm → PlainTerm → PlainTerm
 folded_or t u =
     cond (term_eq t u || term_eq u false_term) t

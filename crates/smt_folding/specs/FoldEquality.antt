@@ -7,10 +7,12 @@ use Rattle.smt_meaning.specs.TermOrder.{term_eq}
 use Rattle.smt_meaning.specs.Types.{type_of, type_eq}
 use Rattle.smt_meaning.specs.Plain.{BoolType, PlainTerm, NoneTerm, SomeTerm}
 
+-- the term has the type Bool
 abbrev pub is_boolean : PlainTerm → Bool
 is_boolean t = type_eq (type_of t) BoolType
 
--- equal terms: true; two literals: false; true and a Boolean term: that; false and a Boolean term: its negation
+-- Equal terms: true; two literals: false; true and a Boolean term: that; false and a Boolean term: its negation; else the equality.
+-- Two literals that differ as terms are not equal, since typed literals of one type are equal exactly where their values are.
 abbrev pub folded_eq_inside : PlainTerm → PlainTerm → PlainTerm
 folded_eq_inside t u =
     cond (term_eq t u) true_term
@@ -20,7 +22,7 @@ folded_eq_inside t u =
     (cond (term_eq t false_term && is_boolean u) (folded_not u)
     (cond (term_eq u false_term && is_boolean t) (folded_not t) (eq_of t u))))))
 
--- two `some` by what they hold; some and none: false
+-- equality, folded: two `some` by what they hold, `some` and none false, and all else as above
 abbrev pub folded_eq : PlainTerm → PlainTerm → PlainTerm
 folded_eq (SomeTerm t) (SomeTerm u) = folded_eq_inside t u
 folded_eq (SomeTerm t) (NoneTerm ty) = false_term
@@ -38,7 +40,7 @@ folded_ite_inside g t u =
     (cond (term_eq u false_term) (folded_and g t)
     (cond (term_eq t true_term) (folded_or g u) (ite_of g t u))))))
 
--- two `some`: some of the choice between what they hold
+-- a choice, folded: between two `some` it is some of the choice between what they hold, and all else as above
 abbrev pub folded_ite : (guard : PlainTerm) → PlainTerm → PlainTerm → PlainTerm
 folded_ite g (SomeTerm t) (SomeTerm u) = SomeTerm (folded_ite_inside g t u)
 folded_ite g t u = folded_ite_inside g t u

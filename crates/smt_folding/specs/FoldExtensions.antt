@@ -4,10 +4,11 @@ use Rattle.smt_arithmetic.specs.BitVectors.{bits_of, signed}
 use Rattle.smt_folding.specs.Applications.{true_term, false_term, bits_literal, extension_of}
 use Rattle.smt_meaning.specs.Plain.{BitVecType, ExtensionOp, DatetimeOfBitVecOp, DatetimeValOp, DecimalValOp, DurationOfBitVecOp, DurationValOp, IpAddrV4Op, IpAddrV6Op, IpIsV4Op, IpPrefixV4Op, IpPrefixV6Op, PlainExtension, DecimalOf, Ipv4Of, Ipv6Of, DatetimeOf, DurationOf, BitVecLiteral, ExtensionLiteral, PlainTerm, LiteralTerm, NoneTerm, SomeTerm}
 
--- literals of the extension types, and of signed numbers of 64 bits
+-- a value of an extension type as a literal
 abbrev pub extension_literal : PlainExtension → PlainTerm
 extension_literal x = LiteralTerm (ExtensionLiteral x)
 
+-- a whole number as a literal of 64 bits, in two's complement
 abbrev pub signed_literal : ℤ → PlainTerm
 signed_literal z = bits_literal 64 (bits_of 64 z)
 

@@ -12,11 +12,12 @@ use Rattle.smt_meaning.specs.Plain.{PlainFunction, UufOp, PlainTerm, Application
 abbrev pub uuf_of : PlainFunction → PlainTerm → PlainTerm
 uuf_of f t = Application (UufOp f) (terms (t ∷ [])) f.output
 
--- the value of the first entry whose key is equal to the argument, and else the term elsewhere
+-- nested choices by whether the argument is equal to each entry's key, in order, with the term elsewhere at the end
 abbrev pub choice_among : Builder → List (PlainTerm × PlainTerm) → (elsewhere argument : PlainTerm) → PlainTerm
 choice_among b [] d t = d
 choice_among b (e ∷ es) d t = b.ite (b.eq t e.0) e.1 (choice_among b es d t)
 
+-- a function that a table defines, at a term: the choice among the table's entries
 abbrev pub choice_by : Builder → PlainDefinition → (argument : PlainTerm) → PlainTerm
 choice_by b f t = choice_among b f.entries f.elsewhere t
 
@@ -29,7 +30,8 @@ abbrev pub app_of : PlainUnary → (argument : PlainTerm) → PlainTerm
 app_of (Uninterpreted f) t = uuf_of f t
 app_of (Defined f) t = choice_by applied f t
 
--- a table at a literal: the entry; at another term: the choice, folded
+-- A table at a literal: the entry; at another term: the choice, folded. The entry found by its key as a term is the one found by its
+-- value where the keys are literals, since two literals of one type are equal exactly where their values are.
 abbrev pub folded_app : PlainUnary → (argument : PlainTerm) → PlainTerm
 folded_app (Uninterpreted f) t = uuf_of f t
 folded_app (Defined f) t = cond (is_literal t) (entry_at f t) (choice_by folding f t)

@@ -23,13 +23,13 @@ record_of_pairs ps = RecordTerm (fields (sorted_fields ps))
 abbrev pub tag_record : (entity tag : PlainTerm) → PlainTerm
 tag_record t u = RecordTerm (one_field (codes "entity") t (one_field (codes "tag") u no_fields))
 
--- the term of an attribute
+-- the term of an attribute among fields, if one has it
 abbrev pub field_in : List ℕ → PlainFields → Option PlainTerm
 field_in x no_fields = None
 field_in x (one_field a t fs) = elim (bytes_eq x a) [ true ↦ Some t | false ↦ field_in x fs ]
 
--- A record gives the attribute's term. Another term of a record type with the attribute: the application; what does not have
--- the attribute, and what is no record, stays.
+-- A record gives the attribute's term. Another term of a record type with the attribute: the application. What does not have the
+-- attribute, and what is no record, stays: `record.get` takes neither, so that application is not typed, and any term stands for it.
 abbrev pub folded_record_get : PlainTerm → (attribute : List ℕ) → PlainTerm
 folded_record_get (RecordTerm fs) x = unwrap_or (field_in x fs) (RecordTerm fs)
 folded_record_get t x = elim (attribute_type x (type_of t)) [ Some ty ↦ record_get_of t x | None ↦ t ]

@@ -24,36 +24,45 @@ use Rattle.smt_meaning.specs.ValueOrder.{values}
 use Rattle.smt_meaning.specs.Values.{BoolValue, BitVecValue, ExtensionValue, NoneValue, SetValue, SomeValue}
 use Rattle.smt_meaning.specs.Plain.{DecimalKind, OptionType, BitVecType, BoolType, ExtensionType, RecordType, SetType, StringType, no_attributes, attribute, PlainFunction, DatetimeOfBitVecOp, DatetimeValOp, DecimalValOp, DurationOfBitVecOp, DurationValOp, IpAddrV4Op, IpAddrV6Op, IpIsV4Op, IpPrefixV4Op, IpPrefixV6Op, DecimalOf, Ipv4Of, Ipv6Of, DatetimeOf, DurationOf, PatternPart, Character, Wildcard, IteOp, RecordGetOp, UufOp, StringLiteral, PlainTerm, Application, NoneTerm, LiteralTerm, RecordTerm, SetTerm, SomeTerm, VariableTerm, no_fields, one_field, terms, BitsOp, TestOp}
 
--- variables
+-- a Boolean variable
 abbrev pub b : PlainTerm
 b = VariableTerm (codes "b") BoolType
 
+-- another Boolean variable
 abbrev pub c : PlainTerm
 c = VariableTerm (codes "c") BoolType
 
+-- a variable of 8 bits
 abbrev pub x : PlainTerm
 x = VariableTerm (codes "x") (BitVecType 8)
 
+-- a number as a literal of 8 bits
 abbrev pub byte : ℕ → PlainTerm
 byte a = bits_literal 8 a
 
--- what each of these folds two literals of 8 bits to
+-- what each of some foldings gives of two literals of 8 bits
 abbrev pub at_bytes : List (PlainTerm → PlainTerm → PlainTerm) → ℕ → ℕ → List PlainTerm
 at_bytes fs a b = map (λ f. f (byte a) (byte b)) fs
 
+-- the foldings of the ten operators from two bitvectors to bits, in the order of their table
 abbrev pub bit_foldings : List (PlainTerm → PlainTerm → PlainTerm)
 bit_foldings = map folded_bits bits_operators
 
+-- the foldings of the four comparisons and the three overflow tests, in the order of their tables
 abbrev pub test_foldings : List (PlainTerm → PlainTerm → PlainTerm)
 test_foldings = map folded_test test_operators ++ map folded_overflow overflow_operators
 
+-- truth values as literals
 abbrev pub truths : List Bool → List PlainTerm
 truths bs = map truth_literal bs
 
+-- Worked examples of connectives, as they are asked for and folded; the applications of choice, bits and tests, by their values,
+-- stand here too.
 pub record ConnectiveRows : Type 0 where
   -- the applications themselves, by their values, which are false where a term is not typed
   pub applied_values : (I : Interpretation) → map (term_value I) (not_of false_term ∷ and_of true_term false_term ∷ or_of true_term false_term ∷ implies applied true_term false_term ∷ implies applied false_term true_term ∷ eq_of (byte 1) (byte 1) ∷ any_of applied (false_term ∷ true_term ∷ []) ∷ [])
       ≡ BoolValue true ∷ BoolValue false ∷ BoolValue true ∷ BoolValue false ∷ BoolValue true ∷ BoolValue true ∷ BoolValue true ∷ []
+  -- choice, and the applications of bits: one of a wrong type would be false here
   pub applied_bits : (I : Interpretation) → map (term_value I) (ite_of true_term (byte 1) (byte 2) ∷ ite_of false_term (byte 1) (byte 2) ∷ bvneg_of (byte 1) ∷ bits_of_two (BitsOp BvsubOp) (byte 0) (byte 2) ∷ test_of_two (TestOp BvultOp) (byte 1) (byte 2) ∷ test_of_two (TestOp BvultOp) (byte 2) (byte 1) ∷ bvnego_of (byte 128) ∷ zero_extend_of 8 (byte 5) ∷ [])
       ≡ BitVecValue 8 1 ∷ BitVecValue 8 2 ∷ BitVecValue 8 255 ∷ BitVecValue 8 254 ∷ BoolValue true ∷ BoolValue false ∷ BoolValue true ∷ BitVecValue 16 5 ∷ []
   pub double_negation : folded_not (folded_not b) ≡ b
@@ -71,15 +80,18 @@ pub record ConnectiveRows : Type 0 where
   pub not_of_known : folded_not true_term ∷ folded_not false_term ∷ folded_not b ∷ [] ≡ false_term ∷ true_term ∷ not_of b ∷ []
   pub stays : folded_or b c ∷ implies folding b c ∷ [] ≡ or_of b c ∷ implies applied b c ∷ []
   pub any_of_none : any_of folding [] ≡ false_term
+  -- the later term stands before the earlier one
   pub any_in_turn : any_of folding (b ∷ c ∷ []) ≡ or_of c b
   pub any_true : any_of folding (b ∷ true_term ∷ c ∷ []) ≡ true_term
 
+-- Worked examples of equality and choice, folded.
 pub record EqualityRows : Type 0 where
   pub eq_true : folded_eq true_term b ≡ b
   pub eq_false : folded_eq b false_term ≡ not_of b
   pub eq_literals : folded_eq (byte 1) (byte 2) ≡ false_term
   pub eq_inside : folded_eq (SomeTerm true_term) (SomeTerm b) ≡ b
   pub eq_none : folded_eq (SomeTerm x) (NoneTerm (BitVecType 8)) ≡ false_term
+  -- a variable and a literal may be equal or not
   pub eq_stays : folded_eq x (byte 1) ≡ eq_of x (byte 1)
   pub eq_same : folded_eq x x ∷ folded_eq b true_term ∷ folded_eq false_term b ∷ folded_eq (NoneTerm BoolType) (SomeTerm b) ∷ [] ≡ true_term ∷ b ∷ not_of b ∷ false_term ∷ []
   -- the guard is known, or both branches are one
@@ -91,18 +103,21 @@ pub record EqualityRows : Type 0 where
   pub ite_or : folded_ite b true_term c ≡ or_of b c
   pub ite_inside : folded_ite b (SomeTerm x) (SomeTerm (byte 1)) ≡ SomeTerm (ite_of b x (byte 1))
 
+-- Worked examples of operators and tests on bits, folded.
 pub record BitsRows : Type 0 where
   pub negation : folded_bvneg (byte 1) ≡ byte 255
   pub negation_twice : folded_bvneg (folded_bvneg x) ≡ x
   pub sum : folded_bits BvaddOp (byte 255) (byte 1) ≡ byte 0
   -- 249 is -7
   pub each : at_bytes bit_foldings 249 3 ≡ map byte (252 ∷ 31 ∷ 235 ∷ 254 ∷ 200 ∷ 2 ∷ 255 ∷ 246 ∷ 83 ∷ 0 ∷ [])
+  -- at these four pairs no two of the seven tests agree
   pub each_test : at_bytes test_foldings 128 255 ≡ truths (true ∷ true ∷ true ∷ true ∷ true ∷ true ∷ false ∷ [])
   pub each_test_of_equal : at_bytes test_foldings 16 16 ≡ truths (true ∷ false ∷ true ∷ false ∷ false ∷ true ∷ false ∷ [])
   pub each_test_of_small : at_bytes test_foldings 2 3 ≡ truths (true ∷ true ∷ true ∷ true ∷ false ∷ false ∷ false ∷ [])
   pub each_test_of_least : at_bytes test_foldings 128 2 ≡ truths (true ∷ true ∷ false ∷ false ∷ false ∷ true ∷ true ∷ [])
   pub sum_stays : folded_bits BvaddOp x (byte 1) ≡ bits_of_two (BitsOp BvaddOp) x (byte 1)
   pub widths_differ : folded_bits BvaddOp (byte 1) (bits_literal 16 1) ≡ bits_of_two (BitsOp BvaddOp) (byte 1) (bits_literal 16 1)
+  -- the greatest number by which a shift folds, and the first by which it does not
   pub shift : folded_bits BvshlOp (bits_literal 64 1) (bits_literal 64 4294967295) ≡ bits_literal 64 0
   pub far_shift : folded_bits BvshlOp (bits_literal 64 1) (bits_literal 64 4294967296) ≡ bits_of_two (BitsOp BvshlOp) (bits_literal 64 1) (bits_literal 64 4294967296)
   pub far_shift_right : folded_bits BvlshrOp (bits_literal 64 1) (bits_literal 64 4294967296) ≡ bits_of_two (BitsOp BvlshrOp) (bits_literal 64 1) (bits_literal 64 4294967296)
@@ -116,40 +131,48 @@ pub record BitsRows : Type 0 where
   pub product_overflows : folded_overflow BvsmuloOp (byte 16) (byte 8) ≡ true_term
   pub extended : folded_zero_extend 8 (byte 5) ≡ bits_literal 16 5
   pub extended_stays : folded_zero_extend 8 x ≡ zero_extend_of 8 x
+  -- what is no bits is given back
   pub no_bits : folded_zero_extend 8 b ≡ b
 
--- a pattern that takes a character, any text and a character; a literal and a variable
+-- the pattern of a character a, any text, and a character z
 abbrev pub a_star_z : List PatternPart
 a_star_z = Character 97 ∷ Wildcard ∷ Character 122 ∷ []
 
+-- a text as a string literal
 abbrev pub text : List ℕ → PlainTerm
 text s = LiteralTerm (StringLiteral s)
 
+-- a string variable
 abbrev pub y : PlainTerm
 y = VariableTerm (codes "y") StringType
 
+-- Worked examples of the match of a string with a pattern, by its value and folded.
 pub record StringRows : Type 0 where
   pub applied_values : (I : Interpretation) → map (term_value I) (string_like_of (text (codes "abz")) a_star_z ∷ string_like_of (text (codes "az!")) a_star_z ∷ []) ≡ BoolValue true ∷ BoolValue false ∷ []
   pub matched : map (λ s. folded_string_like (text s) a_star_z) (codes "abz" ∷ codes "az" ∷ codes "ab" ∷ codes "abzy" ∷ []) ≡ truths (true ∷ true ∷ false ∷ false ∷ [])
   pub empty : folded_string_like (text []) [] ∷ folded_string_like (text (codes "a")) [] ∷ [] ≡ truths (true ∷ false ∷ [])
   pub stays : folded_string_like y a_star_z ≡ string_like_of y a_star_z
 
--- sets of bytes: of literals, of a variable, and a variable
+-- the set of these numbers as literals of 8 bits, in order and each once
 abbrev pub bytes : List ℕ → PlainTerm
 bytes ns = set_term (BitVecType 8) (map byte ns)
 
+-- the set of a variable of 8 bits alone, which is no literal
 abbrev pub of_x : PlainTerm
 of_x = set_term (BitVecType 8) (x ∷ [])
 
+-- a variable for a set of bytes
 abbrev pub s : PlainTerm
 s = VariableTerm (codes "s") (SetType (BitVecType 8))
 
+-- Worked examples of sets: by their values as they are asked for, and folded.
 pub record SetRows : Type 0 where
   pub applied_values : (I : Interpretation) → map (term_value I) (set_member_of (byte 1) (bytes (1 ∷ 2 ∷ [])) ∷ set_member_of (byte 3) (bytes (1 ∷ 2 ∷ [])) ∷ set_subset_of (bytes (1 ∷ [])) (bytes (1 ∷ 2 ∷ [])) ∷ set_subset_of (bytes (1 ∷ 2 ∷ [])) (bytes (1 ∷ [])) ∷ [])
       ≡ BoolValue true ∷ BoolValue false ∷ BoolValue true ∷ BoolValue false ∷ []
   -- what is no set is not empty
   pub applied_empty : (I : Interpretation) → map (term_value I) (set_is_empty applied (bytes []) ∷ set_is_empty applied (bytes (1 ∷ [])) ∷ set_is_empty applied true_term ∷ set_intersects applied (bytes (1 ∷ 2 ∷ [])) (bytes (2 ∷ 3 ∷ [])) ∷ set_intersects applied (bytes (1 ∷ [])) (bytes (2 ∷ [])) ∷ [])
       ≡ BoolValue true ∷ BoolValue false ∷ BoolValue false ∷ BoolValue true ∷ BoolValue false ∷ []
+  -- what both have, and not what one has
   pub applied_inter : (I : Interpretation) → term_value I (set_inter_of (bytes (1 ∷ 2 ∷ [])) (bytes (2 ∷ 3 ∷ []))) ≡ term_value I (bytes (2 ∷ []))
   pub each_once : bytes (2 ∷ 1 ∷ 2 ∷ []) ≡ SetTerm (BitVecType 8) (terms (byte 1 ∷ byte 2 ∷ []))
   -- the set of 2, 1 and 2, and its value; a set that lacks 2 is not that of 1 and 2
@@ -173,20 +196,23 @@ pub record SetRows : Type 0 where
   pub intersect : set_intersects folding (bytes (1 ∷ [])) (bytes (1 ∷ [])) ∷ set_intersects folding (bytes (1 ∷ [])) (bytes (2 ∷ [])) ∷ set_intersects folding s (bytes []) ∷ [] ≡ truths (true ∷ false ∷ false ∷ [])
   pub intersect_stays : set_intersects folding s s ≡ not_of (eq_of s (bytes []))
 
--- options of truth values
+-- the none of Bool
 abbrev pub no_truth : PlainTerm
 no_truth = NoneTerm BoolType
 
+-- a variable for an option of a truth value
 abbrev pub o : PlainTerm
 o = VariableTerm (codes "o") (OptionType BoolType)
 
+-- another variable for an option of a truth value
 abbrev pub p : PlainTerm
 p = VariableTerm (codes "p") (OptionType BoolType)
 
--- a choice between options
+-- a choice of these arguments with the type of an option of a truth value, of whatever number they are
 abbrev pub choice : List PlainTerm → PlainTerm
 choice ts = Application IteOp (terms ts) (OptionType BoolType)
 
+-- Worked examples of options: by their values as they are asked for, and folded.
 pub record OptionRows : Type 0 where
   -- what is no option is not none
   pub applied_values : (I : Interpretation) → map (term_value I) (is_none applied no_truth ∷ is_none applied (SomeTerm true_term) ∷ is_none applied true_term ∷ is_some applied no_truth ∷ is_some applied (SomeTerm true_term) ∷ any_none applied [] ∷ any_none applied (SomeTerm true_term ∷ no_truth ∷ []) ∷ option_get_of (SomeTerm true_term) ∷ [])
@@ -211,18 +237,21 @@ pub record OptionRows : Type 0 where
   pub any_none_known : map (any_none folding) ([] ∷ (SomeTerm b ∷ []) ∷ (SomeTerm b ∷ no_truth ∷ []) ∷ (o ∷ []) ∷ (o ∷ p ∷ []) ∷ []) ≡ false_term ∷ false_term ∷ true_term ∷ eq_of o no_truth ∷ or_of (eq_of p no_truth) (eq_of o no_truth) ∷ []
   pub if_all_some_known : if_all_some folding [] b ∷ if_all_some folding (no_truth ∷ []) b ∷ if_all_some folding (o ∷ []) p ∷ [] ≡ SomeTerm b ∷ no_truth ∷ ite_of (eq_of o no_truth) no_truth p ∷ []
 
--- records of bytes: one with an attribute, and a variable of its type
+-- the record of one attribute a, the byte 1
 abbrev pub one_byte : PlainTerm
 one_byte = record_of_pairs ((codes "a", byte 1) ∷ [])
 
+-- a variable for a record of one attribute a, a byte
 abbrev pub r : PlainTerm
 r = VariableTerm (codes "r") (RecordType (attribute (codes "a") (BitVecType 8) no_attributes))
 
+-- Worked examples of records made of pairs, and of an attribute that is taken.
 pub record RecordRows : Type 0 where
   -- an attribute that is absent is not typed
   pub applied_values : (I : Interpretation) → map (λ x. term_value I (record_get_of (record_of_pairs ((codes "b", byte 2) ∷ (codes "a", byte 1) ∷ [])) x)) (codes "a" ∷ codes "b" ∷ codes "c" ∷ []) ≡ BitVecValue 8 1 ∷ BitVecValue 8 2 ∷ BoolValue false ∷ []
   pub no_pairs : record_of_pairs [] ≡ RecordTerm no_fields
   pub in_order : record_of_pairs ((codes "b", byte 2) ∷ (codes "a", byte 1) ∷ []) ≡ RecordTerm (one_field (codes "a") (byte 1) (one_field (codes "b") (byte 2) no_fields))
+  -- the first pair would give 1
   pub last_stays : record_of_pairs ((codes "a", byte 1) ∷ (codes "b", byte 2) ∷ (codes "a", byte 3) ∷ []) ≡ RecordTerm (one_field (codes "a") (byte 3) (one_field (codes "b") (byte 2) no_fields))
   -- a proper prefix first
   pub prefix_first : record_of_pairs ((codes "ab", x) ∷ (codes "a", b) ∷ []) ≡ RecordTerm (one_field (codes "a") b (one_field (codes "ab") x no_fields))
@@ -237,39 +266,47 @@ pub record RecordRows : Type 0 where
   pub stays : map (folded_record_get r) (codes "a" ∷ codes "b" ∷ []) ≡ Application (RecordGetOp (codes "a")) (terms (r ∷ [])) (BitVecType 8) ∷ r ∷ []
   pub no_record : folded_record_get b (codes "a") ≡ b
 
--- decimals: 1.0, -0.0001 and a variable
+-- the decimal 1.0
 abbrev pub one_point_zero : PlainTerm
 one_point_zero = extension_literal (DecimalOf (pos 10000))
 
+-- the decimal -0.0001
 abbrev pub least_below_zero : PlainTerm
 least_below_zero = extension_literal (DecimalOf (negsuc 0))
 
+-- a variable for a decimal
 abbrev pub d : PlainTerm
 d = VariableTerm (codes "d") (ExtensionType DecimalKind)
 
--- addresses: 1.2.3.4, 10.0.0.0/8, :: and ::1/64
+-- the address 1.2.3.4
 abbrev pub host_v4 : PlainTerm
 host_v4 = extension_literal (Ipv4Of 16909060 None)
 
+-- the range 10.0.0.0/8
 abbrev pub net_v4 : PlainTerm
 net_v4 = extension_literal (Ipv4Of 167772160 (Some 8))
 
+-- the address ::
 abbrev pub host_v6 : PlainTerm
 host_v6 = extension_literal (Ipv6Of 0 None)
 
+-- the range ::1/64
 abbrev pub net_v6 : PlainTerm
 net_v6 = extension_literal (Ipv6Of 1 (Some 64))
 
--- five milliseconds, and one before: as 64 bits, as durations and as datetimes
+-- 5 and -1 as literals of 64 bits
 abbrev pub times_in_bits : List PlainTerm
 times_in_bits = map (bits_literal 64) (5 ∷ 18446744073709551615 ∷ [])
 
+-- 5 milliseconds and -1 millisecond as durations
 abbrev pub durations : List PlainTerm
 durations = map (λ z. extension_literal (DurationOf z)) (pos 5 ∷ negsuc 0 ∷ [])
 
+-- 5 milliseconds behind 1970, and 1 before, as datetimes
 abbrev pub datetimes : List PlainTerm
 datetimes = map (λ z. extension_literal (DatetimeOf z)) (pos 5 ∷ negsuc 0 ∷ [])
 
+-- Worked examples of the operators of extension types: by their values as they are asked for, and folded.
 pub record ExtensionRows : Type 0 where
   -- a literal of another kind is not typed; a selector at the other family is the interpretation's
   pub applied_values : (I : Interpretation) → map (term_value I) (extension_of DecimalValOp least_below_zero ∷ extension_of IpIsV4Op host_v4 ∷ extension_of IpIsV4Op host_v6 ∷ extension_of IpAddrV4Op host_v4 ∷ extension_of IpPrefixV4Op host_v4 ∷ extension_of IpPrefixV6Op net_v6 ∷ extension_of DecimalValOp host_v4 ∷ [])
@@ -292,10 +329,11 @@ pub record ExtensionRows : Type 0 where
   pub other_width_stays : folded_extension DatetimeOfBitVecOp (byte 5) ∷ folded_extension DurationOfBitVecOp (byte 5) ∷ [] ≡ extension_of DatetimeOfBitVecOp (byte 5) ∷ extension_of DurationOfBitVecOp (byte 5) ∷ []
   pub variable_stays : folded_extension DecimalValOp d ≡ extension_of DecimalValOp d
 
--- functions from bytes to bytes: one that an interpretation gives, and two tables
+-- a function from bytes to bytes that an interpretation gives
 abbrev pub unknown : PlainFunction
 unknown = record { id = codes "unknown"; argument = BitVecType 8; output = BitVecType 8 }
 
+-- a function from bytes to bytes that a table defines: 10 at 1, 20 at 2, and 0 elsewhere
 abbrev pub tens : PlainDefinition
 tens = record { argument = BitVecType 8; output = BitVecType 8; entries = (byte 1, byte 10) ∷ (byte 2, byte 20) ∷ []; elsewhere = byte 0 }
 
@@ -303,17 +341,22 @@ tens = record { argument = BitVecType 8; output = BitVecType 8; entries = (byte 
 abbrev pub is_one : PlainDefinition
 is_one = record { argument = BitVecType 8; output = BoolType; entries = (byte 1, true_term) ∷ (byte 2, false_term) ∷ []; elsewhere = false_term }
 
--- at a key, at a literal that is no key, at a variable
+-- Worked examples of functions at a key of their table, at a literal that is no key, and at a variable.
 pub record FunctionRows : Type 0 where
   pub values : (I : Interpretation) → map (λ n. function_value I (Defined tens) (BitVecValue 8 n)) (1 ∷ 2 ∷ 3 ∷ []) ≡ BitVecValue 8 10 ∷ BitVecValue 8 20 ∷ BitVecValue 8 0 ∷ []
   pub applied_values : (I : Interpretation) → map (λ n. term_value I (app_of (Defined tens) (byte n))) (1 ∷ 2 ∷ 3 ∷ []) ≡ BitVecValue 8 10 ∷ BitVecValue 8 20 ∷ BitVecValue 8 0 ∷ []
   pub at_key : folded_app (Defined tens) (byte 2) ≡ byte 20
   pub at_no_key : folded_app (Defined tens) (byte 3) ≡ byte 0
   pub at_variable : folded_app (Defined tens) x ≡ ite_of (eq_of x (byte 1)) (byte 10) (ite_of (eq_of x (byte 2)) (byte 20) (byte 0))
+  -- a choice whose branches are one folds away, and one of true and false is its guard
   pub choices_folded : folded_app (Defined is_one) x ≡ eq_of x (byte 1)
   pub uninterpreted : folded_app (Uninterpreted unknown) x ∷ folded_app (Uninterpreted unknown) (byte 1) ∷ [] ≡ Application (UufOp unknown) (terms (x ∷ [])) (BitVecType 8) ∷ Application (UufOp unknown) (terms (byte 1 ∷ [])) (BitVecType 8) ∷ []
 
+-- Terms that do not stand for one another: of another value, of another type, and one that reaches a variable more.
 pub record ApartRows : Type 0 where
+  -- b may be false
   pub values : Refines true_term b → ⊥
+  -- a byte in place of a truth value
   pub types : Refines (byte 1) true_term → ⊥
+  -- the same value, but the variable b is reached
   pub reached : Refines (and_of b false_term) false_term → ⊥

@@ -8,7 +8,7 @@ use Rattle.smt_meaning.specs.TermOrder.{term_eq}
 use Rattle.smt_meaning.specs.TermSets.{set_term}
 use Rattle.smt_meaning.specs.Plain.{PlainTerm, SetTerm, list_of_terms}
 
--- the term is one of a list
+-- the term is one of a list, compared as a term: of two literals of one type this is so exactly where their values are one
 abbrev pub is_among : List PlainTerm → PlainTerm → Bool
 is_among ts t = list_any (term_eq t) ts
 

@@ -53,7 +53,7 @@ ValuesPass = (enums : Enums) (I : Interpretation) (ts us : List PlainTerm) → A
 abbrev pub LiteralsAreEqualByValue : Type 0
 LiteralsAreEqualByValue = (I : Interpretation) (t u : PlainTerm) (ty : PlainType) → IsTrue (is_literal t) → IsTrue (is_literal u) → Typed t ty → Typed u ty → IsFormed t → IsFormed u → (t ≡ u) ↔ (term_value I t ≡ term_value I u)
 
--- the connectives
+-- what the folding of each connective gives stands for the application that is asked for
 pub record ConnectivesAreFolded : Type 0 where
   pub not : (t : PlainTerm) → Refines (folded_not t) (not_of t)
   pub and : (t u : PlainTerm) → Refines (folded_and t u) (and_of t u)
@@ -61,32 +61,32 @@ pub record ConnectivesAreFolded : Type 0 where
   pub implies : (t u : PlainTerm) → Refines (implies folding t u) (implies applied t u)
   pub any : (ts us : List PlainTerm) → AllZip Refines ts us → Refines (any_of folding ts) (any_of applied us)
 
--- the disjunction of many is true where one of them is
+-- the disjunction of Boolean terms is true in an interpretation exactly where one of them is; of none it is false
 abbrev pub AnyIsTrue : Type 0
 AnyIsTrue = (I : Interpretation) (ts : List PlainTerm) → AreBoolean ts → term_value I (any_of applied ts) ≡ BoolValue (list_any (λ t. truth (term_value I t)) ts)
 
--- equality and choice
+-- what the foldings of equality and choice give stands for the application that is asked for
 pub record EqualityAndChoiceAreFolded : Type 0 where
   pub eq : (t u : PlainTerm) → Refines (folded_eq t u) (eq_of t u)
   pub ite : (g t u : PlainTerm) → Refines (folded_ite g t u) (ite_of g t u)
 
--- operators from bits to bits
+-- what the foldings of operators from bits to bits give stands for the application that is asked for
 pub record BitsAreFolded : Type 0 where
   pub bvneg : (t : PlainTerm) → Refines (folded_bvneg t) (bvneg_of t)
   pub bits : (o : BitsOperator) (t u : PlainTerm) → Refines (folded_bits o t u) (bits_of_two (BitsOp o) t u)
   pub zero_extend : (k : ℕ) (t : PlainTerm) → Refines (folded_zero_extend k t) (zero_extend_of k t)
 
--- tests of bits
+-- what the foldings of comparisons and overflow tests give stands for the application that is asked for
 pub record TestsAreFolded : Type 0 where
   pub test : (o : TestOperator) (t u : PlainTerm) → Refines (folded_test o t u) (test_of_two (TestOp o) t u)
   pub overflow : (o : OverflowOperator) (t u : PlainTerm) → Refines (folded_overflow o t u) (test_of_two (OverflowOp o) t u)
   pub bvnego : (t : PlainTerm) → Refines (folded_bvnego t) (bvnego_of t)
 
--- the match of a string with a pattern
+-- what the folding of a match of a string with a pattern gives stands for the application that is asked for
 abbrev pub StringLikeIsFolded : Type 0
 StringLikeIsFolded = (t : PlainTerm) (p : List PatternPart) → Refines (folded_string_like t p) (string_like_of t p)
 
--- the calls on sets
+-- what each call on sets gives stands for the term that is asked for
 pub record SetsAreFolded : Type 0 where
   pub set_member : (t u : PlainTerm) → Refines (folded_set_member t u) (set_member_of t u)
   pub set_subset : (t u : PlainTerm) → Refines (folded_set_subset t u) (set_subset_of t u)
@@ -94,7 +94,7 @@ pub record SetsAreFolded : Type 0 where
   pub set_is_empty : (t : PlainTerm) → Refines (set_is_empty folding t) (set_is_empty applied t)
   pub set_intersects : (t u : PlainTerm) → Refines (set_intersects folding t u) (set_intersects applied t u)
 
--- the calls on options
+-- what each call on options gives stands for the term that is asked for
 pub record OptionsAreFolded : Type 0 where
   pub option_get : (t : PlainTerm) → Refines (folded_option_get t) (option_get_of t)
   pub is_none : (t : PlainTerm) → Refines (is_none folding t) (is_none applied t)
@@ -112,7 +112,7 @@ pub record RecordsAreFolded : Type 0 where
   pub type : (t : PlainTerm) (x : List ℕ) (ty : PlainType) → IsTrue (typed t) → attribute_type x (type_of t) ≡ Some ty → Typed (folded_record_get t x) ty
   pub value : (I : Interpretation) (t : PlainTerm) (x : List ℕ) (ty : PlainType) → IsTrue (typed t) → attribute_type x (type_of t) ≡ Some ty → term_value I (folded_record_get t x) ≡ attribute_value x (term_value I t)
 
--- operators of the extension types
+-- what the foldings of the operators of extension types give stands for the application that is asked for
 abbrev pub ExtensionsAreFolded : Type 0
 ExtensionsAreFolded = (o : ExtensionOp) (t : PlainTerm) → Refines (folded_extension o t) (extension_of o t)
 

@@ -3,7 +3,7 @@ use Rattle.std.specs.Prelude.{ℕ, Bool, true, false, List, [], ◌∷◌, Optio
 use Rattle.smt_meaning.specs.Literals.{are_literals}
 use Rattle.smt_meaning.specs.Plain.{PlainType, SetType, BvnegOp, NotOp, BitVecLiteral, StringLiteral, PlainTerm, Application, LiteralTerm, NoneTerm, RecordTerm, SetTerm, SomeTerm, no_terms, one_term, list_of_terms}
 
--- the one of a list that has one
+-- the one term of a list that has exactly one
 abbrev pub only_one : List PlainTerm → Option PlainTerm
 only_one [] = None
 only_one (t ∷ []) = Some t
@@ -59,20 +59,22 @@ abbrev pub text_inside : PlainTerm → Option (List ℕ)
 text_inside (LiteralTerm (StringLiteral s)) = Some s
 text_inside t = None
 
--- what `some` holds
+-- what `some` of a term holds
 abbrev pub held : PlainTerm → Option PlainTerm
 held (SomeTerm t) = Some t
 held t = None
 
--- two `some`, and `some` and none
+-- both terms are `some`
 abbrev pub are_some : PlainTerm → PlainTerm → Bool
 are_some (SomeTerm t) (SomeTerm u) = true
 are_some t u = false
 
+-- the term is the none of some type
 abbrev pub is_none_term : PlainTerm → Bool
 is_none_term (NoneTerm ty) = true
 is_none_term t = false
 
+-- the first term is `some`, and the second a none
 abbrev pub are_some_and_none : PlainTerm → PlainTerm → Bool
 are_some_and_none (SomeTerm t) (NoneTerm ty) = true
 are_some_and_none t u = false

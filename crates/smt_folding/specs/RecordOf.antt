@@ -15,8 +15,8 @@ use Rattle.smt_meaning.specs.Values.{BoolValue}
 abbrev pub last_given : List (List ℕ × PlainTerm) → List ℕ → Option PlainTerm
 last_given ps x = lookup (bytes_eq x) (reverse ps)
 
--- r is a typed record that has the attributes of the pairs, each with the type of the term that was given last with it. In each
--- interpretation an attribute's value is the value of that term. It reaches no more than the terms do.
+-- r is a typed record that has the attributes of the pairs and no other, each with the type of the term that was given last with
+-- it. In each interpretation an attribute's value is the value of that term. It reaches no more than the terms do.
 pub record IsRecordOf (ps : List (List ℕ × PlainTerm)) (r : PlainTerm) : Type 0 where
   pub typed : IsTrue (typed r)
   pub types : (x : List ℕ) → attribute_type x (type_of r) ≡ option_map type_of (last_given ps x)

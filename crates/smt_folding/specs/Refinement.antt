@@ -20,8 +20,9 @@ pub record ReachNoMore (ts us : List PlainTerm) : Type 0 where
   pub options : AreAmong (reached_options ts) (reached_options us)
   pub selectors : AreAmong (reached_selectors ts) (reached_selectors us)
 
--- The folded term has the original's type and its value in every interpretation of it, and reaches nothing that is open to
--- interpretation and that the original does not reach.
+-- The first term stands for the second and may be put in its place: it is formed and typed where the original is, with the same
+-- type, reaches no variable, function, option or selector that the original does not reach, and has the original's value in every
+-- interpretation of it. The other way round nothing is said: the folded term may reach less, and then leaves more free.
 pub record Refines (folded original : PlainTerm) : Type 0 where
   pub formed : IsFormed original → IsFormed folded
   pub type : (ty : PlainType) → Typed original ty → Typed folded ty

@@ -1,2 +1,3 @@
+mod FunctionOrders
 mod PutPairs
 mod TermTables

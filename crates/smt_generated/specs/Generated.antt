@@ -11,7 +11,7 @@ use Rattle.smt_meaning.specs.Typing.{AreBoolean}
 
 -- ---- the numbers
 
--- the number behind a number
+-- the number behind a number: multiplied by one constant and added to another, modulo 2 to the 64
 abbrev pub next_number : ℕ → ℕ
 next_number s = (s * 6364136223846793005 + 1442695040888963407) % 2 ^ 64
 
@@ -22,6 +22,7 @@ number_after seed (suc k) = next_number (number_after seed k)
 
 -- ---- the variables, `x0` to `x7`, of 64 bits
 
+-- the type of bitvectors of 64 bits
 abbrev pub long_type : PlainType
 long_type = BitVecType 64
 
@@ -34,6 +35,7 @@ abbrev pub variables_below : ℕ → List (List ℕ × PlainType)
 variables_below zero = []
 variables_below (suc i) = variables_below i ++ (variable_id i, long_type) ∷ []
 
+-- the eight variables of a generated job, `x0` to `x7`
 abbrev pub generated_variables : List (List ℕ × PlainType)
 generated_variables = variables_below 8
 
@@ -51,7 +53,8 @@ sum_at k = bits_of_two (BitsOp BvaddOp) (variable_at k) (variable_at (k + 1))
 abbrev pub comparison : (place number : ℕ) → PlainTerm
 comparison k n = test_of_two (TestOp BvsltOp) (sum_at k) (bits_literal 64 n)
 
--- the term of place k, which has the number behind so many steps and one
+-- The term of place k: whether the sum of the variables k and k + 1, counted modulo 8, is less in two's complement
+-- than the number k + 1 steps behind the seed.
 abbrev pub generated_term : (seed place : ℕ) → PlainTerm
 generated_term seed k = comparison k (number_after seed (suc k))
 
@@ -69,5 +72,6 @@ pub record AreConditions (terms : List PlainTerm) : Type 0 where
   pub faultless : first_fault [] terms ≡ None
   pub as_built : map built terms ≡ terms
 
+-- The terms of every seed and count are so.
 abbrev pub GeneratedTermsAreConditions : Type 0
 GeneratedTermsAreConditions = (seed count : ℕ) → AreConditions (generated_terms seed count)

@@ -3,6 +3,6 @@ use Rattle.std.specs.Prelude.{ℕ, []}
 use Rattle.smt_job_grammar.specs.Jobs.{PlainJob}
 use Rattle.smt_generated.specs.Generated.{generated_terms, generated_variables}
 
--- with so many terms, over no enum types
+-- the job of a seed: so many terms over the eight variables, without enum types and functions
 abbrev pub job_generated : (seed count : ℕ) → PlainJob
 job_generated seed count = record { enums = []; variables = generated_variables; functions = []; terms = generated_terms seed count }

@@ -4,6 +4,7 @@ use Rattle.smt_arithmetic.specs.BitOperators.{BvaddOp, BvsltOp}
 use Rattle.smt_meaning.specs.Plain.{BitVecLiteral, BitVecType, BitsOp, BoolType, Application, LiteralTerm, TestOp, VariableTerm, terms}
 use Rattle.smt_generated.specs.Generated.{generated_term, generated_terms, generated_variables, number_after}
 
+-- the numbers behind some seeds, the ids of the variables, and terms at chosen places
 pub record GeneratedRows : Type 0 where
   -- the first two numbers behind 0, and the first behind the greatest seed
   pub first_number : number_after 0 1 ≡ 1442695040888963407

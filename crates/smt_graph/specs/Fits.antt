@@ -8,14 +8,17 @@ use Rattle.smt_meaning.specs.ValueOrder.{ascends, text_cmp}
 use Rattle.smt_graph.specs.Meanings.{all_found, fields_in, meanings, terms_in}
 use Rattle.smt_graph.specs.Nodes.{PlainLabel, OptionLabel, BitVecLabel, BoolLabel, EntityLabel, ExtensionLabel, StringLabel, RecordLabel, SetLabel, FunctionLabel, ApplicationLabel, CallLabel, NoneLabel, LiteralLabel, RecordOfLabel, SetOfLabel, SomeLabel, VariableLabel, PlainNode, Meaning, TypeMeaning, FunctionMeaning, TermMeaning}
 
+-- a part that is a type
 abbrev pub is_type : Meaning → Bool
 is_type (TypeMeaning t) = true
 is_type m = false
 
+-- a part that is a term
 abbrev pub is_term : Meaning → Bool
 is_term (TermMeaning t) = true
 is_term m = false
 
+-- two lists have as many items
 abbrev pub same_length : {A B : Type 0} → List A → List B → Bool
 same_length [] [] = true
 same_length (x ∷ xs) (y ∷ ys) = same_length xs ys
@@ -42,7 +45,8 @@ has_kinds SomeLabel (TypeMeaning t ∷ TermMeaning u ∷ []) = true
 has_kinds (VariableLabel id) (TypeMeaning t ∷ []) = true
 has_kinds l ms = false
 
--- a term's first part is the type that the term has; of an application, a call and a variable it is the claimed one
+-- A term's first part is the type that the term has. Of an application, a call and a variable it is the claimed one, which may be
+-- any type, as in terms.
 abbrev pub has_type : PlainLabel → List Meaning → Bool
 has_type NoneLabel (TypeMeaning t ∷ ms) = is_some (inner_type t)
 has_type (LiteralLabel l) (TypeMeaning t ∷ ms) = type_eq (literal_type l) t
@@ -51,12 +55,13 @@ has_type SetOfLabel (TypeMeaning t ∷ ms) = is_set t
 has_type SomeLabel (TypeMeaning t ∷ TermMeaning u ∷ ms) = type_eq (OptionType (type_of u)) t
 has_type l ms = true
 
--- the attributes that a label names, the elements of a set
+-- the attributes that a label names
 abbrev pub attributes_of : PlainLabel → List (List ℕ)
 attributes_of (RecordLabel names) = names
 attributes_of (RecordOfLabel names) = names
 attributes_of l = []
 
+-- the elements of a set, where the label is of one
 abbrev pub elements_of : PlainLabel → List Meaning → List PlainTerm
 elements_of SetOfLabel (TypeMeaning t ∷ ms) = unwrap_or (terms_in ms) []
 elements_of l ms = []
@@ -70,6 +75,7 @@ applies_no_function l = true
 abbrev pub fits_parts : PlainLabel → List Meaning → Bool
 fits_parts l ms = has_kinds l ms && has_type l ms && ascends text_cmp (attributes_of l) && ascends term_cmp (elements_of l ms) && applies_no_function l
 
--- a node fits the nodes before it: its parts stand before it, and its label fits what they stand for
+-- A node fits the nodes before it: its parts stand before it, and its label fits what they stand for. This is the test for having a
+-- meaning.
 abbrev pub fits : List PlainNode → PlainNode → Bool
 fits ns n = list_all (λ i. nat_lt i (length ns)) n.parts && elim (all_found (meanings ns) n.parts) [ None ↦ false | Some ms ↦ fits_parts n.label ms ]

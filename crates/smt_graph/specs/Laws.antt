@@ -10,17 +10,19 @@ use Rattle.smt_graph.specs.Parts.{label_in, parts_in}
 abbrev pub FittingNodesHaveMeanings : Type 0
 FittingNodesHaveMeanings = (ns : List PlainNode) (n : PlainNode) → is_some (meaning_of (meanings ns) n) ≡ fits ns n
 
--- every place of a graph has a meaning, and no two have one meaning
+-- every place of a graph has a meaning
 abbrev pub PlacesHaveMeanings : Type 0
 PlacesHaveMeanings = (ns : List PlainNode) → IsGraph ns → (i : ℕ) → i < length ns → (m : Meaning) × (meaning_at ns i ≡ Some m)
 
+-- no two places of a graph have one meaning
 abbrev pub PlacesDiffer : Type 0
 PlacesDiffer = (ns : List PlainNode) → IsGraph ns → (i j : ℕ) (m : Meaning) → meaning_at ns i ≡ Some m → meaning_at ns j ≡ Some m → i ≡ j
 
--- one node more leaves every older meaning, and has its own
+-- one node more leaves every older meaning
 abbrev pub OlderMeaningsStay : Type 0
 OlderMeaningsStay = (ns : List PlainNode) (n : PlainNode) (i : ℕ) → i < length ns → meaning_at (ns ++ n ∷ []) i ≡ meaning_at ns i
 
+-- the last node has the meaning that it has by the nodes before it
 abbrev pub TheLastHasItsMeaning : Type 0
 TheLastHasItsMeaning = (ns : List PlainNode) (n : PlainNode) → meaning_at (ns ++ n ∷ []) (length ns) ≡ meaning_of (meanings ns) n
 

@@ -13,12 +13,13 @@ terms_in [] = Some []
 terms_in (TermMeaning t ∷ ms) = option_map (λ ts. t ∷ ts) (terms_in ms)
 terms_in ms = None
 
--- the attributes of a record type, and the fields of a record
+-- the attributes of a record type, from their names and what their types stand for; none where these do not go together
 abbrev pub attributes_in : List (List ℕ) → List Meaning → Option AttributeTypes
 attributes_in [] [] = Some no_attributes
 attributes_in (a ∷ names) (TypeMeaning t ∷ ms) = option_map (attribute a t) (attributes_in names ms)
 attributes_in names ms = None
 
+-- the fields of a record, from their names and what their terms stand for; none where these do not go together
 abbrev pub fields_in : List (List ℕ) → List Meaning → Option PlainFields
 fields_in [] [] = Some no_fields
 fields_in (a ∷ names) (TermMeaning t ∷ ms) = option_map (one_field a t) (fields_in names ms)
@@ -42,7 +43,7 @@ term_made SomeLabel t (TermMeaning u ∷ []) = Some (SomeTerm u)
 term_made (VariableLabel id) t [] = Some (VariableTerm id t)
 term_made l t ms = None
 
--- that term, where its type is this one
+-- a term as what a node stands for, where its type is this one
 abbrev pub typed_as : PlainType → PlainTerm → Option Meaning
 typed_as t u = then_some (type_eq (type_of u) t) (TermMeaning u)
 

@@ -2,7 +2,8 @@
 use Rattle.std.specs.Prelude.{ℕ, List}
 use Rattle.smt_meaning.specs.Plain.{ExtensionKind, PlainFunction, PlainLiteral, PlainOp, PlainTerm, PlainType}
 
--- what a type, a function or a term is, apart from its parts: the types, then the functions, then the terms
+-- What a type, a function or a term is, apart from its parts: the types, then the functions, then the terms. It has the operator of an
+-- application, the id of a variable or a function, and the names of a record's attributes.
 pub data PlainLabel : Type 0 where
   OptionLabel : PlainLabel
   BitVecLabel : (width : ℕ) → PlainLabel
@@ -22,7 +23,8 @@ pub data PlainLabel : Type 0 where
   SomeLabel : PlainLabel
   VariableLabel : (id : List ℕ) → PlainLabel
 
--- A node. A function has its argument type and its output type, a term first its type; a call has then its function.
+-- A node: its label, and the places of its parts, which are nodes before it. A function has its argument type and its output type, a
+-- term first its type; a call has then its function.
 pub record PlainNode : Type 0 where
   pub label : PlainLabel
   pub parts : List ℕ

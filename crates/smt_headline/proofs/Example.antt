@@ -26,7 +26,8 @@ use Rattle.smt_carrying.proofs.Onto.{onto}
 use Rattle.smt_headline.specs.Conditions.{AreConditions}
 use Rattle.smt_headline.specs.Example.{NegationIsItsScript, true_term}
 use Rattle.smt_headline.specs.Fits.{Fits, new_stages, stages_after_calls}
-use Rattle.smt_headline.specs.Headline.{AreTexts, HaveTermValues, AreTrue, Headline}
+use Rattle.smt_headline.specs.Headline.{AreTexts, HaveTermValues, Headline}
+use Rattle.smt_meaning.specs.Meaning.{AreTrue}
 use Rattle.smt_headline.proofs.FitKept.{conditions_are_their_scripts, stated_calls_fit}
 use Rattle.smt_headline.proofs.Models.{truth_carried}
 use Rattle.smt_headline.proofs.SelectionsGiven.{interpretations_give_reached}

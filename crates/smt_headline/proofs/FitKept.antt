@@ -97,7 +97,7 @@ stands_then text state ls after s h r e = record {
   running = e;
 }
 
-is_running : (b : Bool) → not b ≡ true → b ≡ false
+pub is_running : (b : Bool) → not b ≡ true → b ≡ false
 is_running true h = absurd cc
 is_running false h = refl
 
@@ -193,7 +193,7 @@ empty_text_fits enums good = record {
 -- ---- lists of calls
 
 -- what a call leaves of the names is what it leaves of the stages
-encodings_agree : (enums : Enums) (c : Call) (x : Stages) → encoding_of (stages_after enums c x) ≡ after_call enums c (encoding_of x)
+pub encodings_agree : (enums : Enums) (c : Call) (x : Stages) → encoding_of (stages_after enums c x) ≡ after_call enums c (encoding_of x)
 encodings_agree enums PushCall x = refl
 encodings_agree enums PopCall x = by x.below
   where

@@ -56,14 +56,14 @@ use Rattle.smt_headline.proofs.Worth.{Follows, carried, Worth, AreWorth, IsEnter
 use Rattle.smt_meaning.proofs.Soundness.{chosen}
 use Rattle.smt_semantics.specs.DeclarationLines.{at_place}
 
-none_is : (t : PlainType) → None ≡ Some t → ⊥
+pub none_is : (t : PlainType) → None ≡ Some t → ⊥
 none_is t h = cc
 
 none_as_many : (n : ℕ) → (zero == suc n) ≡ true → ⊥
 none_as_many n h = let z : zero ≡ suc n = eqb-true zero (suc n) h in omega arith
 
 -- every operator but the overflow of a negation
-abbrev stands_as_it_is : PlainOp → Bool
+abbrev pub stands_as_it_is : PlainOp → Bool
 stands_as_it_is BvnegoOp = false
 stands_as_it_is op = true
 
@@ -76,7 +76,7 @@ place_of_chars : (i : List ℕ) (ms : List (List ℕ)) → IsUtf8 i → AllByRec
 place_of_chars i [] h k = refl
 place_of_chars i (m ∷ ms) h k = let e = same_chars i m h k.0 in let r = place_of_chars i ms h k.1 in λ z. if e z then 0 else suc (r z)
 
-member_at : (d : List ℕ) (from : ℕ) (ms : List (List ℕ)) (place : ℕ) → place < length ms → at_place (shown_members d from ms) place ≡ Some (member_name d (from + place), [])
+pub member_at : (d : List ℕ) (from : ℕ) (ms : List (List ℕ)) (place : ℕ) → place < length ms → at_place (shown_members d from ms) place ≡ Some (member_name d (from + place), [])
 member_at d from [] place lt = absurd (omega arith)
 member_at d from (m ∷ ms) zero lt = let z : from ≡ from + zero = omega arith in ap (λ (k : ℕ). Some (member_name d k, [])) z
 member_at d from (m ∷ ms) (suc place) lt =

@@ -5,7 +5,7 @@ use Rattle.std.specs.List.{AllByRecursion}
 use Rattle.std.proofs.lemmas.List.Elements.{All-from_recursion, recursion_from_All}
 use Rattle.smt_meaning.specs.Plain.{PlainType, BoolType, PlainTerm}
 use Rattle.smt_meaning.specs.Interpretations.{IsInterpretation}
-use Rattle.smt_meaning.specs.Meaning.{meaning, term_value}
+use Rattle.smt_meaning.specs.Meaning.{AreTrue, meaning, term_value}
 use Rattle.smt_meaning.specs.Operators.{truth}
 use Rattle.smt_meaning.specs.Reached.{subterms, reached_terms}
 use Rattle.smt_meaning.specs.Tables.{Interpretation}
@@ -30,7 +30,7 @@ use Rattle.smt_carrying.specs.CarriedOrder.{AreEnums}
 use Rattle.smt_carrying.proofs.Interpretations as carrying
 use Rattle.smt_carrying.proofs.Open.{names_interpret, names_agree}
 use Rattle.smt_headline.specs.Fits.{Stage, FitsAt}
-use Rattle.smt_headline.specs.Headline.{AreTexts, HaveTermValues, AreTrue, Represents}
+use Rattle.smt_headline.specs.Headline.{AreTexts, HaveTermValues, Represents}
 use Rattle.smt_headline.specs.TextValues.{HasText, ReachedHaveTexts}
 use Rattle.smt_headline.proofs.Distinct.{drawn_names_differ, kinds_named}
 use Rattle.smt_headline.proofs.FineTerms.{conditions_are_fine, parts_typed}

@@ -90,7 +90,7 @@ module _ (enums : Enums) (s : Tables) (state : State) (I : Interpretation) (x : 
   by_name P t (Some n) e h f = f n e
   by_name P t None e h f = absurd (false≢true h)
 
-  application_sorted : (m : Rendering) (op : PlainOp) (ts : PlainTerms) (type : PlainType) (n : List ℕ) → (m ≡ AsFalse → ⊥) → EachLine (LineIsDeclared state) (application_lines enums s m op ts type n) → sorts.expression_sort state (name n) ≡ Some (type_sort s type)
+  pub application_sorted : (m : Rendering) (op : PlainOp) (ts : PlainTerms) (type : PlainType) (n : List ℕ) → (m ≡ AsFalse → ⊥) → EachLine (LineIsDeclared state) (application_lines enums s m op ts type n) → sorts.expression_sort state (name n) ≡ Some (type_sort s type)
   application_sorted AsApplication op ts type n k h = (x.last.bodies n _ _ h.0).2
   application_sorted (AsEqualsIntMin w) op ts type n k h = (x.last.bodies n _ _ h.0).2
   application_sorted AsFalse op ts type n k h = absurd (k refl)

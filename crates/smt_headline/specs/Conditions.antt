@@ -26,12 +26,15 @@ AttributesAreFound = (a : List ℕ) (x : AttributeTypes) → nat_lt (place_of a 
 
 -- ---- terms
 
+-- A formed type without fault can be encoded: each width is one, and each enum type has a member.
 abbrev pub FormedTypesAreEncodable : Type 0
 FormedTypesAreEncodable = (enums : Enums) (t : PlainType) → type_fault enums t ≡ None → IsFormedType t → IsEncodableType enums t
 
+-- A term that is typed and formed and has no fault can be encoded.
 abbrev pub TypedTermsAreEncodable : Type 0
 TypedTermsAreEncodable = (enums : Enums) (t : PlainTerm) → IsTrue (typed t) → IsFormed t → first_fault enums (t ∷ []) ≡ None → IsEncodable enums t
 
+-- Terms that are typed and formed and have no fault can be encoded.
 abbrev pub TypedListsAreEncodable : Type 0
 TypedListsAreEncodable = (enums : Enums) (ts : List PlainTerm) → AreTyped ts → AllByRecursion IsFormed ts → first_fault enums ts ≡ None → AreEncodable enums (terms ts)
 
@@ -47,6 +50,7 @@ IsCallOfConditions enums PushCall s = Unit {0}
 IsCallOfConditions enums PopCall s = HasBelow s.below
 IsCallOfConditions enums (EncodeCall ts) s = AreConditions enums ts
 
+-- Each call of a list is such after those before it: what is encoded are conditions, and what is popped was pushed.
 abbrev pub AreCallsOfConditions : Enums → List Call → Encoding → Type 0
 AreCallsOfConditions enums [] s = Unit {0}
 AreCallsOfConditions enums (c ∷ cs) s = IsCallOfConditions enums c s × AreCallsOfConditions enums cs (after_call enums c s)

@@ -12,11 +12,14 @@ use Rattle.smt_lines.specs.Rows.{bool_variable, not_b, Negation}
 use Rattle.smt_lines.specs.Text.{names, text}
 use Rattle.smt_carrying.specs.CarriedInterpretations.{carry_interpretation, back_interpretation}
 use Rattle.smt_headline.specs.Conditions.{AreConditions}
-use Rattle.smt_headline.specs.Headline.{AreTexts, HaveTermValues, AreTrue, Headline}
+use Rattle.smt_headline.specs.Headline.{AreTexts, HaveTermValues, Headline}
+use Rattle.smt_meaning.specs.Meaning.{AreTrue}
 
+-- the literal `true`
 abbrev pub true_term : PlainTerm
 true_term = LiteralTerm (BoolLiteral true)
 
+-- The main theorem at the one condition `not b`, with what its words come to there.
 pub record NegationIsItsScript : Type 0 where
   pub condition : AreConditions [] (not_b ∷ [])
   -- The text, byte for byte: b is t0, and its negation t1, which is asserted.

@@ -37,9 +37,11 @@ pub record Stages : Type 0 where
   pub below : List Stage
   pub begun : Bool
 
+-- a stage without names and terms
 abbrev pub no_stage : Stage
 no_stage = record { tables = no_names; terms = [] }
 
+-- the stages of an encoder that has written nothing
 abbrev pub new_stages : Stages
 new_stages = record { now = no_stage; below = []; begun = false }
 
@@ -47,6 +49,7 @@ new_stages = record { now = no_stage; below = []; begun = false }
 abbrev pub encoding_of : Stages → Encoding
 encoding_of x = record { tables = x.now.tables; below = map (λ y. y.tables) x.below; begun = x.begun }
 
+-- the stages without the last level; the same stages, where there is no level below
 abbrev pub popped_stages : List Stage → Stages → Stages
 popped_stages [] x = x
 popped_stages (y ∷ below) x = record { now = y; below = below; begun = x.begun }
@@ -57,12 +60,14 @@ stages_after enums PushCall x = record { now = x.now; below = x.now ∷ x.below;
 stages_after enums PopCall x = popped_stages x.below x
 stages_after enums (EncodeCall ts) x = record { now = record { tables = (encode enums ts x.now.tables).tables; terms = x.now.terms ++ ts }; below = x.below; begun = true }
 
+-- what calls, one after the other, make of stages
 abbrev pub stages_after_calls : Enums → List Call → Stages → Stages
 stages_after_calls enums [] x = x
 stages_after_calls enums (c ∷ cs) x = stages_after_calls enums cs (stages_after enums c x)
 
 -- ---- keys
 
+-- x is one of these
 abbrev pub IsAmong : {A : Type 0} → A → List A → Type 0
 IsAmong {A} x [] = ⊥
 IsAmong {A} x (y ∷ ys) = (y ≡ x) ⊎ IsAmong x ys
@@ -198,6 +203,7 @@ pub record Fits (enums : Enums) (text : List ℕ) (x : Stages) : Type 0 where
 
 -- ---- the laws
 
+-- Where names are drawn by the places of entries, two keys of a table have two names.
 abbrev pub DrawnNamesDiffer : Type 0
 DrawnNamesDiffer = (enums : Enums) (s : Tables) → NamesAreDrawn enums s → IsOneToOne s
 
@@ -217,11 +223,12 @@ KeysAreSound = (enums : Enums) (x : Stage) (state : State) → FitsAt enums x st
 abbrev pub EmptyTextFits : Type 0
 EmptyTextFits = (enums : Enums) → AreEnums enums → Fits enums [] new_stages
 
--- a call's lines keep it
+-- the lines of a call keep that a text and stages fit
 abbrev pub CallsKeepFit : Type 0
 CallsKeepFit = (enums : Enums) (text : List ℕ) (x : Stages) (c : Call) → Fits enums text x → IsCallOfConditions enums c (encoding_of x)
     → Fits enums (text ++ spelled_lines (lines_of_call enums c (encoding_of x))) (stages_after enums c x)
 
+-- the lines of a list of calls keep that a text and stages fit
 abbrev pub CallListsKeepFit : Type 0
 CallListsKeepFit = (enums : Enums) (text : List ℕ) (x : Stages) (cs : List Call) → Fits enums text x → AreCallsOfConditions enums cs (encoding_of x)
     → Fits enums (text ++ spelled_lines (lines_of_calls enums cs (encoding_of x))) (stages_after_calls enums cs x)
@@ -234,9 +241,10 @@ IsIdle c = (s : State) → step c s ≡ Some s
 abbrev pub TheseAreIdle : Type 0
 TheseAreIdle = IsIdle CheckSat × IsIdle GetModel × IsIdle (SetLogic (codes "ALL"))
 
--- a line of such a command keeps it, and so does a comment
+-- a line of a command that leaves each state as it is keeps that a text and stages fit
 abbrev pub IdleLinesKeepFit : Type 0
 IdleLinesKeepFit = (enums : Enums) (text line : List ℕ) (x : Stages) (c : Command) → Fits enums text x → IsIdle c → IsLine line (c ∷ []) → Fits enums (text ++ line) x
 
+-- a comment keeps that a text and stages fit
 abbrev pub CommentsKeepFit : Type 0
 CommentsKeepFit = (enums : Enums) (text line : List ℕ) (x : Stages) → Fits enums text x → IsLine line [] → Fits enums (text ++ line) x

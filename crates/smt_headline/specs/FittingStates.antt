@@ -19,6 +19,7 @@ use Rattle.smt_carrying.specs.CarriedOrder.{AreEnums}
 use Rattle.smt_carrying.specs.CarriedSorts.{DeclaresOption, TypeIsDeclared}
 use Rattle.smt_headline.specs.Fits.{Stage, FitsAt}
 
+-- A state that fits tables declares the datatype `Option`, and none by the name of a sort that is built in.
 abbrev pub OptionIsDeclared : Type 0
 OptionIsDeclared = (enums : Enums) (s : Tables) (state : State) → Fit enums s state → DeclaresOption (entries state)
 
@@ -38,6 +39,7 @@ ReachedIsDeclared = (enums : Enums) (s : Tables) (ts : List PlainTerm) (state : 
 
 -- ---- free names
 
+-- where the operator is a function, it is declared with its sorts, and has no body
 abbrev pub IsOpOpen : Tables → Entries → PlainOp → Type 0
 IsOpOpen s here (UufOp f) = here (function_name s f) ≡ Some (Function (type_sort s f.argument) (type_sort s f.output))
 IsOpOpen s here op = ⊤
@@ -48,6 +50,7 @@ IsOpen s here (VariableTerm id t) = here (variable_name s id t) ≡ Some (Consta
 IsOpen s here (Application op ts t) = IsOpOpen s here op
 IsOpen s here t = ⊤
 
+-- Where a state fits tables, the variables and functions that the terms reach are declared with their sorts, without bodies.
 abbrev pub ReachedAreOpen : Type 0
 ReachedAreOpen = (enums : Enums) (s : Tables) (state : State) (ts : List PlainTerm) → Fit enums s state → DeclaresReached enums s (entries state) ts
     → AllByRecursion (IsOpen s (entries state)) (reached_terms ts)
@@ -67,11 +70,12 @@ FittingStagesDeclare = (enums : Enums) (x : Stage) (state : State) → AreEnums 
 abbrev pub AssertionsSelectNothing : Type 0
 AssertionsSelectNothing = (enums : Enums) (x : Stage) (state : State) → FitsAt enums x state → selections_in (entries state) (assertions_of state) ≡ []
 
--- J gives a variable a value, and a function a table, of its sort.
+-- J gives a function a table of its sorts.
 abbrev pub IsOpGiven : Tables → Entries → ScriptInterpretation → PlainOp → Type 0
 IsOpGiven s here J (UufOp f) = IsTrue (is_table here (type_sort s f.argument) (type_sort s f.output) (J.functions (function_name s f)))
 IsOpGiven s here J op = ⊤
 
+-- J gives a variable a value, and a function a table, of its sort.
 abbrev pub IsNameGiven : Tables → Entries → ScriptInterpretation → PlainTerm → Type 0
 IsNameGiven s here J (VariableTerm id t) = IsTrue (has_sort_in here (type_sort s t) (J.constants (variable_name s id t)))
 IsNameGiven s here J (Application op ts t) = IsOpGiven s here J op

@@ -1,14 +1,12 @@
 -- What the main theorem says: bytes are a script, and its models are exactly the interpretations that make all terms true.
-use Rattle.std.specs.Prelude.{◌≡◌, ◌↔◌, ℕ, true, IsTrue, map, List, [], ◌∷◌, ◌++◌, Some, ⊤}
-use Rattle.std.specs.List.{AllByRecursion}
+use Rattle.std.specs.Prelude.{◌≡◌, ◌↔◌, ℕ, IsTrue, map, List, [], ◌∷◌, ◌++◌, Some, ⊤}
 use Rattle.smt_meaning.specs.Plain.{PlainTerm}
 use Rattle.smt_meaning.specs.Defaults.{default_interpretation}
 use Rattle.smt_meaning.specs.Interpretations.{IsInterpretation}
-use Rattle.smt_meaning.specs.Meaning.{term_value}
+use Rattle.smt_meaning.specs.Meaning.{AreTrue, term_value}
 use Rattle.smt_meaning.specs.Operators.{truth}
 use Rattle.smt_meaning.specs.Reached.{reached_variables, reached_functions}
 use Rattle.smt_meaning.specs.Tables.{Interpretation}
-use Rattle.smt_meaning.specs.Values.{BoolValue}
 use Rattle.smt_meaning.specs.TypeValues.{Enums}
 use Rattle.smt_lexicon.specs.Reading.{Expression}
 use Rattle.smt_semantics.specs.Script.{State, is_in, assertions_of}
@@ -36,10 +34,6 @@ HaveTermValues I J state ts es = ⊥
 abbrev pub reached_names : Tables → List PlainTerm → List (List ℕ)
 reached_names s ts = map (λ v. variable_name s v.0 v.1) (reached_variables ts) ++ map (function_name s) (reached_functions ts)
 
--- each term is true
-abbrev pub AreTrue : Interpretation → List PlainTerm → Type 0
-AreTrue I ts = AllByRecursion (λ t. term_value I t ≡ BoolValue true) ts
-
 -- What the state of a script is for terms, with the names that were given for them.
 pub record Represents (enums : Enums) (s : Tables) (ts : List PlainTerm) (state : State) : Type 0 where
   -- There is one assertion for each term, in order: the term's text.
@@ -58,7 +52,8 @@ pub record Represents (enums : Enums) (s : Tables) (ts : List PlainTerm) (state 
   pub models : (J : ScriptInterpretation) → IsScriptInterpretation J state → IsModel J state ↔ AreTrue (back_interpretation enums s J) ts
   pub true_in : (I : Interpretation) → IsInterpretation enums ts I → AreTrue I ts ↔ IsModel (carry_interpretation enums s I) state
 
--- What bytes say of terms, with the names that were given for them.
+-- What bytes say of terms, with the names that were given for them. Nothing is said of whether the script is well sorted, nor of terms
+-- that are not typed, of functions that are no finite table, and of a solver.
 pub record Headline (enums : Enums) (s : Tables) (ts : List PlainTerm) (bytes : List ℕ) : Type 0 where
   -- what the bytes come to
   pub state : State

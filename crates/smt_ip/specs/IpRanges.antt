@@ -11,7 +11,8 @@ abbrev pub address_bits : Family → ℕ
 address_bits Version4 = 32
 address_bits Version6 = 128
 
--- A range: an address, and how many of its first bits all addresses of the range have. No prefix stands for all bits.
+-- A range: an address, and how many of its first bits all addresses of the range have. No prefix stands for all bits: a range of one
+-- address.
 pub record Range : Type 0 where
   pub family : Family
   pub address : ℕ
@@ -39,27 +40,30 @@ pub record LiesIn (inner outer : Range) : Type 0 where
   pub one_family : inner.family ≡ outer.family
   pub every : (address : ℕ) → IsIn address inner → IsIn address outer
 
--- 127.0.0.0/8 and ::1
+-- 127.0.0.0/8
 abbrev pub loopback_v4 : Range
 loopback_v4 = record { family = Version4; address = 127 * 2 ^ 24; prefix = Some 8 }
 
+-- ::1
 abbrev pub loopback_v6 : Range
 loopback_v6 = record { family = Version6; address = 1; prefix = None }
 
--- 224.0.0.0/4 and ff00::/8
+-- 224.0.0.0/4
 abbrev pub multicast_v4 : Range
 multicast_v4 = record { family = Version4; address = 224 * 2 ^ 24; prefix = Some 4 }
 
+-- ff00::/8
 abbrev pub multicast_v6 : Range
 multicast_v6 = record { family = Version6; address = 0xff * 2 ^ 120; prefix = Some 8 }
 
--- 0.0.0.0
+-- the address 0.0.0.0
 abbrev pub zero_v4 : Range
 zero_v4 = record { family = Version4; address = 0; prefix = None }
 
--- every address of the range is a loopback address, or every one a multicast address
+-- every address of the range is a loopback address: it lies in 127.0.0.0/8 or is ::1
 abbrev pub IsLoopback : Range → Type 0
 IsLoopback r = LiesIn r loopback_v4 ⊎ LiesIn r loopback_v6
 
+-- every address of the range is a multicast address: it lies in 224.0.0.0/4 or in ff00::/8
 abbrev pub IsMulticast : Range → Type 0
 IsMulticast r = LiesIn r multicast_v4 ⊎ LiesIn r multicast_v6

@@ -51,7 +51,7 @@ pub record IsColonText (text : List ℕ) (address : ℕ) : Type 0 where
   pub groups : AreGroups text numbers ⊎ IsShortened text numbers
   pub address_is : address ≡ joined_groups numbers
 
--- the text writes the address
+-- the text writes the address of this family: with dots for version 4, and with colons for version 6
 abbrev pub WritesAddress : Family → List ℕ → ℕ → Type 0
 WritesAddress Version4 text address = IsDotted text address
 WritesAddress Version6 text address = IsColonText text address
@@ -66,7 +66,8 @@ abbrev pub WritesPrefix : ℕ → Option (List ℕ) → Option ℕ → Type 0
 WritesPrefix most None prefix = prefix ≡ None
 WritesPrefix most (Some digits) prefix = (n : ℕ) × (n ≤ most) × (digits ≡ decimal n) × (prefix ≡ prefix_of most n)
 
--- The text writes the range: an address, and where there is a slash a prefix.
+-- The text writes the range: an address, and where there is a slash a prefix. `7:70:700:7000::a00/128` writes an address without
+-- prefix.
 pub record WritesRange (text : List ℕ) (r : Range) : Type 0 where
   pub address_text : List ℕ
   pub digits : Option (List ℕ)

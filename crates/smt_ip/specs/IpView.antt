@@ -17,31 +17,35 @@ use Rattle.smt_ip.specs.IpPrefixBits.{given}
 use Rattle.smt_ip.specs.IpRanges.{Family, Version4, Version6, Range}
 use Rattle.smt_ip.specs.IpText.{WritesRange}
 
--- the bits of an address, of width 32 and 128
+-- the bits of an IPv4 address, of width 32
 abbrev pub v4_bits : IPv4Addr → BitVec
 v4_bits a = a.bits
 
+-- the bits of an IPv6 address, of width 128
 abbrev pub v6_bits : IPv6Addr → BitVec
 v6_bits a = a.bits
 
--- the bits of a prefix, of width 5 and 7, where there is one
+-- the bits of an IPv4 prefix, of width 5, where there is one
 abbrev pub v4_prefix_bits : IPv4Prefix → Option BitVec
 v4_prefix_bits p = given p.bits
 
+-- the bits of an IPv6 prefix, of width 7, where there is one
 abbrev pub v6_prefix_bits : IPv6Prefix → Option BitVec
 v6_prefix_bits p = given p.bits
 
--- the prefix as a number of bits
+-- an IPv4 prefix as a number of bits
 abbrev pub v4_prefix : IPv4Prefix → Option ℕ
 v4_prefix p = option_map number_of (v4_prefix_bits p)
 
+-- an IPv6 prefix as a number of bits
 abbrev pub v6_prefix : IPv6Prefix → Option ℕ
 v6_prefix p = option_map number_of (v6_prefix_bits p)
 
--- the range of an address and a prefix
+-- the range of an IPv4 address and its prefix
 abbrev pub v4_range : CIDRv4 → Range
 v4_range c = record { family = Version4; address = number_of (v4_bits c.addr); prefix = v4_prefix c.prefix }
 
+-- the range of an IPv6 address and its prefix
 abbrev pub v6_range : CIDRv6 → Range
 v6_range c = record { family = Version6; address = number_of (v6_bits c.addr); prefix = v6_prefix c.prefix }
 
@@ -50,7 +54,7 @@ abbrev pub range_of : IPNet → Range
 range_of (V4 c) = v4_range c
 range_of (V6 c) = v6_range c
 
--- its family
+-- the family of the range that a value stands for
 abbrev pub family_of : IPNet → Family
 family_of net = (range_of net).family
 

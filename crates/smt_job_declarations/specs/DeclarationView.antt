@@ -52,7 +52,7 @@ pub record HasFunctions (f : Functions) (fs : Declarations PlainFunction) : Type
   pub listed : functions f.funs ≡ fs
   pub found : (id : RcStr Global) → option_map (λ g. plain_function g.value) (get text_order f.found id) ≡ declared fs (rc_str_bytes id)
 
--- Both are these.
+-- The variables and the functions of the program are these.
 pub record HasDeclared (d : Declared) (ds : Stated) : Type 0 where
   pub variables : HasVariables d.variables ds.variables
   pub functions : HasFunctions d.functions ds.functions

@@ -40,7 +40,7 @@ sections_formed enums variables functions =
     bound _ (section_of (codes "funs") functions >>= functions_of) _ (onward (section_of (codes "funs") functions >>= functions_of) (bound _ (section_of (codes "funs") functions) functions_of (whichever _ (section_of (codes "funs") functions) functions_formed)) (λ fs g.
     record { variables = f; functions = g }))))))
 
-declared_sound : (es : Expressions) → IfOk (declared_first es) (λ p. AreDeclaredFormed p.0)
+pub declared_sound : (es : Expressions) → IfOk (declared_first es) (λ p. AreDeclaredFormed p.0)
 declared_sound Nil = tt
 declared_sound (Cons a Nil) = tt
 declared_sound (Cons a (Cons b Nil)) = tt
@@ -53,7 +53,7 @@ last_sound ds f (Cons conditions others) =
     bound _ (section_of (codes "terms") conditions >>= conditions_of ds) _ (onward (section_of (codes "terms") conditions >>= conditions_of ds) (bound _ (section_of (codes "terms") conditions) (conditions_of ds) (whichever _ (section_of (codes "terms") conditions) (conditions_sound ds f))) (λ ts c.
     bound _ (nothing_more others) _ (whichever _ (nothing_more others) (λ u. c))))
 
-sections_sound : (es : Expressions) → IfOk (job_of_sections es) (λ job. AllByRecursion IsCondition job.terms)
+pub sections_sound : (es : Expressions) → IfOk (job_of_sections es) (λ job. AllByRecursion IsCondition job.terms)
 sections_sound es =
     bound _ (declared_first es) _ (onward (declared_first es) (declared_sound es) (λ p f.
     bound _ (terms_last p.0 p.1) _ (onward (terms_last p.0 p.1) (last_sound p.0 f p.1) (λ ts c. c))))
@@ -89,8 +89,8 @@ job_enums_in_order bytes job is =
 -- ---- bytes are one job at most, and a job has no fault
 
 -- a text is one expression at most
-one_expression : (bytes : List ℕ) (e f : Expression) → IsReadWithin bytes 512 e → IsReadWithin bytes 512 f → f ≡ e
-one_expression bytes e f r s = one_of e f (one_reading bytes (f ∷ []) (e ∷ []) s.reads r.reads)
+pub one_expression : (bytes : List ℕ) (most : ℕ) (e f : Expression) → IsReadWithin bytes most e → IsReadWithin bytes most f → f ≡ e
+one_expression bytes most e f r s = one_of e f (one_reading bytes (f ∷ []) (e ∷ []) s.reads r.reads)
   where
     one_of : (x y : Expression) → y ∷ [] ≡ x ∷ [] → y ≡ x
     one_of x y h = cc
@@ -99,14 +99,14 @@ same_outcome : (o : Outcome PlainJob) (j k : PlainJob) → o ≡ Ok j → o ≡ 
 same_outcome o j k h i = cc
 
 pub one_job : (bytes : List ℕ) (j k : PlainJob) → IsJob bytes j → IsJob bytes k → j ≡ k
-one_job bytes j k is too = same_outcome (job_of is.expression) j k is.stated (ap job_of (one_expression bytes too.expression is.expression too.read is.read) ∙ too.stated)
+one_job bytes j k is too = same_outcome (job_of is.expression) j k is.stated (ap job_of (one_expression bytes 512 too.expression is.expression too.read is.read) ∙ too.stated)
 
 both : (o : Outcome PlainJob) (job : PlainJob) (fault : JobFault) → o ≡ Ok job → o ≡ Err fault → ⊥
 both o job fault h k = cc
 
 pub job_has_no_fault : (bytes : List ℕ) (job : PlainJob) (fault : JobFault) → IsJob bytes job → HasFault bytes fault → ⊥
 job_has_no_fault bytes job fault is faulty =
-    both (job_of is.expression) job fault is.stated (ap job_of (one_expression bytes faulty.1.expression is.expression faulty.1.read is.read) ∙ faulty.1.stated)
+    both (job_of is.expression) job fault is.stated (ap job_of (one_expression bytes 512 faulty.1.expression is.expression faulty.1.read is.read) ∙ faulty.1.stated)
 
 pub job_is_short : (bytes : List ℕ) (job : PlainJob) → IsJob bytes job → IsTooLong bytes → ⊥
 job_is_short bytes job is long = (let short = is.short in omega (arith, short, long))

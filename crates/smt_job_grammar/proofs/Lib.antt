@@ -1,3 +1,4 @@
+pub mod BuiltConditions
 pub mod EnumsInOrder
 pub mod FormedTypes
 pub mod Jobs

@@ -22,7 +22,7 @@ pub record PlainJob : Type 0 where
   pub functions : Declarations PlainFunction
   pub terms : List PlainTerm
 
--- what stands behind a head in brackets
+-- what stands behind a head in brackets, or the fault that it is no such section
 abbrev pub section_of : List ℕ → Expression → Outcome Expressions
 section_of head e = demanded FormFault (section head e)
 
@@ -37,30 +37,34 @@ abbrev pub declared_first : Expressions → Outcome (Declared × Expressions)
 declared_first (Cons enums (Cons variables (Cons functions others))) = declared_in_sections enums variables functions >>= λ ds. Ok (ds, others)
 declared_first es = Err FormFault
 
--- no expression follows
+-- no expression follows, or else the fault that one does
 abbrev pub nothing_more : Expressions → Outcome ⊤
 nothing_more Nil = Ok tt
 nothing_more (Cons e es) = Err FormFault
 
--- the terms, in the last section
+-- the terms of the last section, behind which nothing stands
 abbrev pub terms_last : Declared → Expressions → Outcome (List PlainTerm)
 terms_last ds (Cons conditions others) = section_of (codes "terms") conditions >>= conditions_of ds >>= λ ts. nothing_more others >>= λ u. Ok ts
 terms_last ds Nil = Err FormFault
 
+-- the job of four sections: enum types, variables, functions and terms, in this order and each of them there
 abbrev pub job_of_sections : Expressions → Outcome PlainJob
 job_of_sections es = declared_first es >>= λ p. terms_last p.0 p.1 >>= λ ts. Ok (record { enums = p.0.enums; variables = p.0.variables; functions = p.0.functions; terms = ts })
 
+-- the job that an expression states, `(job ..)`, or its first fault
 abbrev pub job_of : Expression → Outcome PlainJob
 job_of e = section_of (codes "job") e >>= job_of_sections
 
--- the longest job, in bytes, and the most brackets that are open at a place
+-- the longest job, in bytes
 abbrev pub greatest_length : ℕ
 greatest_length = 16777216
 
+-- the most brackets that are open at a place of a job
 abbrev pub greatest_nesting : ℕ
 greatest_nesting = 512
 
--- The bytes are this job.
+-- The bytes are this job: at most 16777216 of them, read as one expression within the limits of a reader, with at most 512
+-- brackets open at a place, and the expression states the job.
 pub record IsJob (bytes : List ℕ) (job : PlainJob) : Type 0 where
   pub short : length bytes ≤ greatest_length
   pub expression : Expression
@@ -73,15 +77,16 @@ pub record IsFaultyJob (bytes : List ℕ) (fault : JobFault) : Type 0 where
   pub read : IsReadWithin bytes greatest_nesting expression
   pub stated : job_of expression ≡ Err fault
 
--- more bytes than a job may have
+-- there are more bytes than a job may have
 abbrev pub IsTooLong : List ℕ → Type 0
 IsTooLong bytes = greatest_length < length bytes
 
--- The bytes are an expression of this first fault, and not too many.
+-- The bytes have this first fault: they are not too many, and an expression within the limits that is no job by it. Bytes that are no
+-- expression have no such fault, but one as a text.
 abbrev pub HasFault : List ℕ → JobFault → Type 0
 HasFault bytes fault = (length bytes ≤ greatest_length) × IsFaultyJob bytes fault
 
--- the job with its terms as they are built: each application is folded, its operands first
+-- the job with its terms as they are built: each application is folded, its operands first. All else is as the job has it.
 abbrev pub built_job : PlainJob → PlainJob
 built_job job = record { enums = job.enums; variables = job.variables; functions = job.functions; terms = map built job.terms }
 
@@ -91,6 +96,6 @@ pub record IsBuiltFrom (bytes : List ℕ) (job : PlainJob) : Type 0 where
   pub is_job : IsJob bytes written
   pub is_built : job ≡ built_job written
 
--- the first fault of the terms that are built of a job
+-- the first fault of the terms that are built of a job, with its enum types: why they have no script
 abbrev pub fault_of : PlainJob → Option Fault
 fault_of job = first_fault job.enums (map built job.terms)

@@ -11,12 +11,12 @@ use Rattle.smt_job_grammar.specs.Jobs.{HasFault, IsJob, IsTooLong, PlainJob}
 use Rattle.smt_job_grammar.specs.Outcomes.{JobFault}
 use Rattle.smt_job_grammar.specs.Terms.{extension_operators, named_operators, operator_named}
 
--- a term that is typed as a Boolean, and formed
+-- a term that is typed with the type Bool, and formed: what the theorem asks of each term
 pub record IsCondition (t : PlainTerm) : Type 0 where
   pub boolean : Typed t BoolType
   pub formed : IsFormed t
 
--- Each term of a job is.
+-- Each term of a job is typed with the type Bool, and formed: it is a condition.
 abbrev pub JobsHaveConditions : Type 0
 JobsHaveConditions = (bytes : List ℕ) (job : PlainJob) → IsJob bytes job → AllByRecursion IsCondition job.terms
 
@@ -26,7 +26,7 @@ pub record AreInOrder (enums : Enums) : Type 0 where
   pub members : AllByRecursion (λ e. IsTrue (ascends text_cmp e.1)) enums
   pub texts : AllByRecursion (λ e. AllByRecursion IsUtf8 e.1) enums
 
--- Those of a job do.
+-- The enum types of a job stand in the order of their names, and the members of each in the order of their bytes, each once.
 abbrev pub JobsHaveEnumsInOrder : Type 0
 JobsHaveEnumsInOrder = (bytes : List ℕ) (job : PlainJob) → IsJob bytes job → AreInOrder job.enums
 

@@ -1,7 +1,7 @@
 -- What a part of a job states: itself, or the first fault in it.
 use Rattle.std.specs.Prelude.{ℕ, List, ◌∷◌, Option, Some, None, Ok, Err, Result}
 
--- why an expression is no job
+-- why an expression is no job: the reasons that a reader of jobs tells apart, with the name or text where there is one
 pub data JobFault : Type 0 where
   -- a section, a declaration or a term has no form
   FormFault : JobFault
@@ -20,11 +20,12 @@ pub data JobFault : Type 0 where
   -- a whole term is no Boolean
   TruthFault : JobFault
 
+-- what is stated of an expression: the thing that it states, or the first fault in it
 abbrev pub Outcome : Type 0 → Type 0
 Outcome A = Result A JobFault
 
--- the first fault of the one and then of the other, which reads what the one states
 infixl 10 ◌>>=◌
+-- the fault of the one, or else what the other makes of the thing that the one states: so what stands first has its fault told first
 abbrev pub ◌>>=◌ : {A B : Type 0} → Outcome A → (A → Outcome B) → Outcome B
 Ok a >>= f = f a
 Err fault >>= f = Err fault
@@ -34,7 +35,7 @@ abbrev pub demanded : {A : Type 0} → JobFault → Option A → Outcome A
 demanded fault (Some a) = Ok a
 demanded fault None = Err fault
 
--- a thing behind which others stand
+-- a thing in front of others, or their first fault
 abbrev pub followed : {A : Type 0} → A → Outcome (List A) → Outcome (List A)
 followed a (Ok rest) = Ok (a ∷ rest)
 followed a (Err fault) = Err fault

@@ -10,24 +10,25 @@ use Rattle.smt_lexicon.specs.Reading.{Expression, Leaf, Node, Expressions, Nil, 
 use Rattle.smt_job_grammar.specs.Outcomes.{Outcome, ◌>>=◌, demanded, followed, DuplicateFault, TypeFault, WidthFault}
 use Rattle.smt_job_grammar.specs.Parts.{name_in, sole, sole_text, text_in, width_in}
 
--- the types that a symbol names
+-- the types that a symbol alone names
 abbrev pub named_types : List (List ℕ × PlainType)
 named_types =
     (codes "Bool", BoolType) ∷ (codes "String", StringType) ∷ (codes "Decimal", ExtensionType DecimalKind) ∷ (codes "IpAddr", ExtensionType IpAddrKind)
     ∷ (codes "Datetime", ExtensionType DatetimeKind) ∷ (codes "Duration", ExtensionType DurationKind) ∷ []
 
+-- the type that a symbol names, if it names one
 abbrev pub type_named : List ℕ → Option PlainType
 type_named n = lookup (bytes_eq n) named_types
 
--- bitvectors of so many bits
+-- the type of bitvectors of so many bits, from 1 to 128: `(BitVec N)`
 abbrev pub bits_type : Expressions → Outcome PlainType
 bits_type es = demanded TypeFault (sole es) >>= λ e. demanded WidthFault (width_in e) >>= λ n. Ok (BitVecType n)
 
--- entities of a name
+-- the type of entities of a name: `(Entity "T")`
 abbrev pub entity_type : Expressions → Outcome PlainType
 entity_type es = demanded TypeFault (sole_text es) >>= λ name. Ok (EntityType name)
 
--- a name that was not given before
+-- a name that was not given before, or else the fault of a name that stands twice
 abbrev pub new_name : (given : List (List ℕ)) → List ℕ → Outcome (List ℕ)
 new_name given a = if list_any (bytes_eq a) given then Err (DuplicateFault a) else Ok a
 
@@ -35,19 +36,21 @@ new_name given a = if list_any (bytes_eq a) given then Err (DuplicateFault a) el
 abbrev pub new_attribute : (given : List (List ℕ)) → Expression → Outcome (List ℕ)
 new_attribute given e = demanded TypeFault (text_in e) >>= new_name given
 
--- attributes and their types, in the order of the attributes' bytes
+-- attributes and their types as those of a record type, in the order of the list
 abbrev pub attributes : List (List ℕ × PlainType) → AttributeTypes
 attributes [] = no_attributes
 attributes (p ∷ ps) = attribute p.0 p.1 (attributes ps)
 
+-- the record type of attributes, which may stand in any order in a job: here they are in the order of their names' bytes
 abbrev pub record_type : List (List ℕ × PlainType) → PlainType
 record_type ps = RecordType (attributes (sorted (λ p q. text_cmp p.0 q.0) ps))
 
--- the type of records of these attributes
+-- the record type of the attributes that are stated, or their first fault
 abbrev pub stated_record_type : Outcome (List (List ℕ × PlainType)) → Outcome PlainType
 stated_record_type ps = ps >>= λ pairs. Ok (record_type pairs)
 
--- a type by its head, by what stands behind it, and by the type and the attributes that this states
+-- A type by its head, by what stands behind the head, and by the type and the attributes that this would state: which of these
+-- counts, the head says. The heads are `BitVec`, `Option`, `Set`, `Entity` and `Record`.
 abbrev pub headed_type : (head : List ℕ) → Expressions → (inner : Outcome PlainType) → (attributes : Outcome (List (List ℕ × PlainType))) → Outcome PlainType
 headed_type head es inner attributes =
     if bytes_eq head (codes "BitVec") then bits_type es
@@ -58,6 +61,7 @@ headed_type head es inner attributes =
     else Err TypeFault))))
 
 abbrev mutual
+  -- the type that an expression states: a symbol that names one, or a head in brackets with what stands behind it
   pub type_of_expression : Expression → Outcome PlainType
   type_of_expression (Leaf a) = demanded TypeFault (option_and_then type_named (name_in (Leaf a)))
   type_of_expression (Node Nil) = Err TypeFault

@@ -5,5 +5,6 @@ use Rattle.smt_job_grammar.specs.Jobs.{PlainJob}
 use Rattle.smt_job_declarations.specs.DeclarationView.{declarations, functions}
 use Rattle.smt_jobs.specs.declared.job.Job.{Job}
 
+-- a job of the program: its enum types, its declarations in order, and its terms
 abbrev pub plain_job : Job → PlainJob
 plain_job job = record { enums = enums_of job.enums; variables = declarations job.vars; functions = functions job.funs; terms = plain_items job.terms }

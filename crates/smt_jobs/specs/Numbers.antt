@@ -8,7 +8,7 @@ use Rattle.smt_node_tables.specs.View.{places_of}
 use Rattle.smt_node_tables.specs.declared.id.NodeId.{NodeId}
 use Rattle.smt_nodes.specs.declared.interner.Interner.{Interner}
 
--- the terms for which these numbers stand, in order; none where one of them stands for no term
+-- the terms for which these numbers stand, in order; no terms at all where one of them stands for none
 abbrev pub terms_of : Interner → List NodeId → List PlainTerm
 terms_of nodes ids = unwrap_or (terms_at (meanings (nodes_of nodes)) (places_of ids)) []
 

@@ -10,7 +10,8 @@ use Rattle.smt_job_declarations.specs.ReadAs.{fault_in}
 use Rattle.smt_job_declarations.specs.declared.error.JobError.{JobError}
 use Rattle.smt_job_declarations.specs.declared.error.JobError.TheVariants.{TooLarge, Parse, TooDeep, Memory}
 
--- the first fault of the bytes as one expression; its depth and a want of memory have errors of their own
+-- The first fault of the bytes as one expression, with at most 512 brackets open at a place; that they are too deep and a want of
+-- memory have errors of their own.
 abbrev pub IsTextFault : SExprParseError → List ℕ → Type 0
 IsTextFault TextTooDeep bytes = ⊥
 IsTextFault TextWant bytes = ⊥
@@ -23,7 +24,7 @@ IsUnreadable TooDeep bytes = IsRefused TextTooDeep greatest_nesting bytes
 IsUnreadable Memory bytes = ⊤
 IsUnreadable error bytes = ⊥
 
--- Of this fault of the job and what the text says, it is the first: the fault of the text where the text is no expression.
+-- Of this fault of a job and what the text says, the first: the fault of the text where the text is no expression.
 abbrev pub IsFirstFault : List ℕ → JobError → JobError → Type 0
 IsFirstFault bytes fault first = ((e : Expression) × IsReadWithin bytes greatest_nesting e × (first ≡ fault)) ⊎ IsUnreadable first bytes
 

@@ -1,6 +1,7 @@
 //! Entities: their parts, what they share, and their order.
 
 use crate::AMPLE;
+use crate::expected::expect;
 use smt_leaves::{EntityID, EntityType, EntityUID, Text};
 use std::alloc::Global;
 use std::process::Abort;
@@ -19,8 +20,13 @@ fn entity(rt: &impl Abort, alloc: Global, ety: &str, id: &str) -> EntityUID {
 /// Whether an entity has these parts, and is equal to what it shares.
 fn has_parts(rt: &impl Abort, alloc: Global, ety: &str, id: &str) -> bool {
     let made = entity(rt, alloc, ety, id);
-    let parts = made.type_name().0.as_str() == ety && made.id().0.as_str() == id;
-    parts && made.share().expect(rt, AMPLE) == made
+    let shared = made.share().expect(rt, AMPLE);
+    are_parts(&made, ety, id) && shared == made
+}
+
+/// Whether these are the parts of an entity.
+fn are_parts(made: &EntityUID, ety: &str, id: &str) -> bool {
+    made.type_name().0.as_str() == ety && made.id().0.as_str() == id
 }
 
 #[test]
@@ -30,14 +36,23 @@ fn entities_have_their_parts(rt: HostRuntime) {
     }
 }
 
-#[test]
-fn entities_are_ordered(rt: HostRuntime) {
-    let alloc = rt.alloc();
+/// The entities of the table.
+fn all_entities(rt: &impl Abort, alloc: Global) -> Vec<EntityUID> {
     let mut entities = Vec::new(alloc);
     for &(ety, id) in ENTITIES {
-        entities
-            .push(entity(&rt, alloc, ety, id))
-            .expect(&rt, AMPLE);
+        let made = entity(rt, alloc, ety, id);
+        entities.push(made).expect(rt, AMPLE);
     }
-    assert!(rt; entities.as_slice().is_sorted_by(|a, b| a < b));
+    entities
+}
+
+/// Whether each entity is less than the next.
+fn are_ordered(entities: &[EntityUID]) -> bool {
+    entities.is_sorted_by(|a, b| a < b)
+}
+
+#[test]
+fn entities_are_ordered(rt: HostRuntime) {
+    let entities = all_entities(&rt, rt.alloc());
+    expect(&rt, are_ordered(entities.as_slice()), "the entities");
 }

@@ -1,6 +1,7 @@
 //! Tables of enum types: which entries enter, and which members are found.
 
 use crate::AMPLE;
+use crate::expected::expect;
 use crate::sets::texts_in;
 use smt_leaves::{EntityType, EnumTable, Text};
 use std::alloc::Global;
@@ -44,19 +45,36 @@ fn has_members(
     }
 }
 
+/// Whether a type with these members enters the table.
+fn enters(
+    rt: &impl Abort,
+    alloc: Global,
+    table: &mut EnumTable,
+    name: &str,
+    members: &str,
+) -> bool {
+    let ety = type_called(rt, alloc, name);
+    let members = texts_in(rt, alloc, members);
+    table.insert(ety, members.as_slice()).expect(rt, AMPLE)
+}
+
+/// Enters the types of the table of entries, and expects that each enters or not, as it should.
+fn enter_all(rt: &impl Abort, alloc: Global, table: &mut EnumTable) {
+    for &(name, members, wanted) in ENTRIES {
+        let entered = enters(rt, alloc, table, name, members);
+        expect(rt, entered == wanted, name);
+    }
+}
+
 #[test]
 fn enum_types_enter_once(rt: HostRuntime) {
     let alloc = rt.alloc();
     let mut table = EnumTable::new(alloc);
-    assert!(rt; has_members(&rt, alloc, &table, "Color", None));
-    for &(name, members, enters) in ENTRIES {
-        let members = texts_in(&rt, alloc, members);
-        let entered = table
-            .insert(type_called(&rt, alloc, name), members.as_slice())
-            .expect(&rt, AMPLE);
-        assert!(rt; entered == enters, "{name}");
-    }
+    let has_none = has_members(&rt, alloc, &table, "Color", None);
+    expect(&rt, has_none, "no type before the first enters");
+    enter_all(&rt, alloc, &mut table);
     for &(name, members) in MEMBERS {
-        assert!(rt; has_members(&rt, alloc, &table, name, members), "{name}");
+        let has = has_members(&rt, alloc, &table, name, members);
+        expect(&rt, has, name);
     }
 }

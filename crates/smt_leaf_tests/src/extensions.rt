@@ -3,15 +3,18 @@
 mod ip_ranges;
 mod readers;
 
+use crate::expected::expect_int;
 use smt_ext::{Datetime, Duration};
 
 #[test]
 fn numbers_are_those_of_values(rt: HostRuntime) {
     let numbers = [
-        i64::from(Duration::default()),
-        i64::from(&Duration::from(-5)),
-        i64::from(Datetime::from(7)),
-        i64::from(&Datetime::default()),
+        ("Duration::default", i64::from(Duration::default()), 0),
+        ("Duration::from", i64::from(&Duration::from(-5)), -5),
+        ("Datetime::from", i64::from(Datetime::from(7)), 7),
+        ("Datetime::default", i64::from(&Datetime::default()), 0),
     ];
-    assert_eq!(rt; numbers, [0, -5, 7, 0]);
+    for &(call, number, wanted) in &numbers {
+        expect_int(&rt, call, i128::from(number), wanted);
+    }
 }

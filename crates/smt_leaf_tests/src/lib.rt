@@ -11,6 +11,8 @@ mod entities;
 #[cfg(test)]
 mod enums;
 #[cfg(test)]
+mod expected;
+#[cfg(test)]
 mod extensions;
 #[cfg(test)]
 mod patterns;

@@ -1,6 +1,7 @@
 //! Patterns at texts, their order, and each call once.
 
 use crate::AMPLE;
+use crate::expected::expect;
 use smt_leaves::PatternElem::{Char, Wildcard};
 use smt_leaves::{OrdPattern, Pattern, PatternElem};
 use std::alloc::Global;
@@ -69,28 +70,35 @@ fn matches(rt: &impl Abort, alloc: Global, row: &str) -> bool {
 #[test]
 fn patterns_match_texts(rt: HostRuntime) {
     for row in MATCHED.lines() {
-        assert!(rt; matches(&rt, rt.alloc(), row), "{row}");
+        expect(&rt, matches(&rt, rt.alloc(), row), row);
     }
 }
 
 #[test]
 fn patterns_differ_from_texts(rt: HostRuntime) {
     for row in DIFFERENT.lines() {
-        assert!(rt; !matches(&rt, rt.alloc(), row), "{row}");
+        expect(&rt, !matches(&rt, rt.alloc(), row), row);
     }
+}
+
+/// A text of `a` 2000 times.
+fn long_text(rt: &impl Abort, alloc: Global) -> String {
+    let mut text = String::new(alloc);
+    for _ in 0..2000 {
+        text.push('a').expect(rt, AMPLE);
+    }
+    text
 }
 
 #[test]
 fn many_wildcards_take_few_steps(rt: HostRuntime) {
-    let alloc = rt.alloc();
-    let mut text = String::new(alloc);
-    for _ in 0..2000 {
-        text.push('a').expect(&rt, AMPLE);
-    }
-    let found = pattern(&rt, alloc, "a*a*a*a*a*a*a*a*b");
-    assert!(rt; !found.wildcard_match(text.as_str()));
+    let found = pattern(&rt, rt.alloc(), "a*a*a*a*a*a*a*a*b");
+    let mut text = long_text(&rt, rt.alloc());
+    let matches = found.wildcard_match(text.as_str());
+    expect(&rt, !matches, "a text without b does not match");
     text.push('b').expect(&rt, AMPLE);
-    assert!(rt; found.wildcard_match(text.as_str()));
+    let matches = found.wildcard_match(text.as_str());
+    expect(&rt, matches, "one with b at its end matches");
 }
 
 #[test]
@@ -102,8 +110,9 @@ fn patterns_order_by_their_elements(rt: HostRuntime) {
     ] {
         all.push(pattern(&rt, alloc, spelling)).expect(&rt, AMPLE);
     }
-    assert!(rt; all.as_slice().is_sorted_by(|a, b| a < b));
-    assert!(rt; Char('😀') < Wildcard);
+    let are_ordered = all.as_slice().is_sorted_by(|a, b| a < b);
+    expect(&rt, are_ordered, "the patterns");
+    expect(&rt, Char('😀') < Wildcard, "a character and a wildcard");
 }
 
 /// Whether a pattern holds its elements, as what it shares does.
@@ -117,7 +126,8 @@ fn holds_elements(rt: &impl Abort, given: Pattern, elems: &[PatternElem]) -> boo
 fn patterns_hold_their_elements(rt: HostRuntime) {
     let elems = [Char('a'), Wildcard, Char('*')];
     let given = Pattern::new(rt.alloc(), &elems).expect(&rt, AMPLE);
-    assert!(rt; holds_elements(&rt, given, &elems));
+    let holds = holds_elements(&rt, given, &elems);
+    expect(&rt, holds, "the elements of a pattern");
 }
 
 #[test]
@@ -125,5 +135,5 @@ fn patterns_differ_by_their_elements(rt: HostRuntime) {
     let alloc = rt.alloc();
     let longer = Pattern::new(alloc, &[Char('a'), Wildcard, Char('*')]).expect(&rt, AMPLE);
     let shorter = Pattern::new(alloc, &[Char('a')]).expect(&rt, AMPLE);
-    assert!(rt; longer != shorter);
+    expect(&rt, longer != shorter, "a longer pattern");
 }

@@ -5,6 +5,7 @@ ghost use Rattle.smt_characters.specs.LineTexts.{declare_const_text};
 ghost use Rattle.smt_script.specs.Memory.{memory_bytes, memory_has_room};
 
 use crate::AMPLE;
+use crate::expected::{expect, expect_bytes};
 use smt_script::{
     BufferedSink, CountSink, ListSink, MemorySink, Sink, SinkError, SmtLibScript, Text, WriteSink,
 };
@@ -116,9 +117,19 @@ fn put_lines<S: Sink>(rt: &impl Abort, sink: &mut S, alloc: Global) {
     put_questions(rt, sink);
 }
 
+/// Stops the test where this is not put, and names it.
+fn expect_put(rt: &impl Abort, label: &str, put: Result<(), SinkError>) {
+    assert!(rt; put == Ok(()), "{label} is not put");
+}
+
+/// Stops the test where this is not refused for a fault of the sink, and names it.
+fn expect_fault(rt: &impl Abort, label: &str, put: Result<(), SinkError>) {
+    assert!(rt; put == Err(SinkError::Fault), "{label} is not refused");
+}
+
 /// Expects that these are the bytes of the lines.
 fn expect_lines(rt: &impl Abort, bytes: &[u8]) {
-    assert_eq!(rt; bytes, LINES.as_bytes());
+    expect_bytes(rt, "the lines", bytes, LINES.as_bytes());
 }
 
 /// The sink has room for just the lines.
@@ -181,23 +192,21 @@ fn puts_are_planned(planned: &mut MemorySink) -> bool {
 /// The second put and the fourth are planned to fail.
 fn puts_fail_as_planned(rt: &impl Abort, alloc: Global) {
     let mut planned = MemorySink::new(alloc, &[2, 4], 10).expect(rt, AMPLE);
-    assert!(rt; puts_are_planned(&mut planned));
+    expect(rt, puts_are_planned(&mut planned), "puts that are planned");
 }
 
 /// Expects that a sink with room for one line takes the front of a second one.
 fn expect_front_of_second(rt: &impl Abort, small: &mut MemorySink) {
-    assert!(rt; small.assert("t0") == Err(SinkError::Fault));
-    assert_eq!(rt;
-        small.bytes(),
-        b"(declare-const t0 Bool)\n(asser".as_slice()
-    );
+    expect_fault(rt, "a second line", small.assert("t0"));
+    let front = b"(declare-const t0 Bool)\n(asser";
+    expect_bytes(rt, "the front of the second line", small.bytes(), front);
 }
 
 #[test]
 fn memory_sinks_fail(rt: HostRuntime) {
     puts_fail_as_planned(&rt, rt.alloc());
     let mut small = MemorySink::new(rt.alloc(), &[], 30).expect(&rt, AMPLE);
-    assert!(rt; declare_in_room(&mut small, "t0") == Ok(()));
+    expect_put(&rt, "a line with room", declare_in_room(&mut small, "t0"));
     expect_front_of_second(&rt, &mut small);
 }
 
@@ -235,27 +244,31 @@ impl Write for ShortWriter {
     }
 }
 
+/// Stops the test where a writer was not flushed so many times.
+fn expect_flushes(rt: &impl Abort, writer: &ShortWriter, wanted: u32) {
+    let flushes = writer.flushes;
+    assert!(rt; flushes == wanted, "{flushes} flushes, not {wanted}");
+}
+
 #[test]
 fn writers_fail(rt: HostRuntime) {
     let mut writer = ShortWriter::new(rt.alloc(), 28);
     let mut sink = WriteSink::new(&mut writer);
-    assert_eq!(rt; sink.declare_const("t0", "Bool"), Ok(()));
-    assert_eq!(rt; sink.put(b"(as"), Ok(()));
-    assert_eq!(rt; sink.put(b"sert"), Err(SinkError::Fault));
-    assert_eq!(rt; sink.put(b""), Ok(()));
-    assert_eq!(rt;
-        writer.bytes.as_slice(),
-        b"(declare-const t0 Bool)\n(ass".as_slice()
-    );
-    assert_eq!(rt; writer.flushes, 1);
+    expect_put(&rt, "a line", sink.declare_const("t0", "Bool"));
+    expect_put(&rt, "what fills the writer", sink.put(b"(as"));
+    expect_fault(&rt, "what has no room", sink.put(b"sert"));
+    expect_put(&rt, "no byte", sink.put(b""));
+    let taken = b"(declare-const t0 Bool)\n(ass";
+    expect_bytes(&rt, "what the writer took", writer.bytes.as_slice(), taken);
+    expect_flushes(&rt, &writer, 1);
 }
 
 /// Puts two lines to a sink with room for one, and flushes it behind each.
 fn put_and_flush<S: Sink>(rt: &impl Abort, sink: &mut S) {
-    assert_eq!(rt; sink.declare_const("t0", "Bool"), Ok(()));
-    assert_eq!(rt; sink.flush(), Ok(()));
-    assert_eq!(rt; sink.assert("t0"), Err(SinkError::Fault));
-    assert_eq!(rt; sink.flush(), Ok(()));
+    expect_put(rt, "the first line", sink.declare_const("t0", "Bool"));
+    expect_put(rt, "a flush behind it", sink.flush());
+    expect_fault(rt, "the second line", sink.assert("t0"));
+    expect_put(rt, "a flush behind that", sink.flush());
 }
 
 #[test]
@@ -264,11 +277,11 @@ fn sinks_are_flushed(rt: HostRuntime) {
     // A line is flushed where it ends, and by each flush.
     let mut writer = ShortWriter::new(alloc, 28);
     put_and_flush(&rt, &mut WriteSink::new(&mut writer));
-    assert_eq!(rt; writer.flushes, 3);
+    expect_flushes(&rt, &writer, 3);
     // Here by each flush alone.
     let mut writer = ShortWriter::new(alloc, 28);
     put_and_flush(&rt, &mut BufferedSink::new(&mut writer));
-    assert_eq!(rt; writer.flushes, 2);
+    expect_flushes(&rt, &writer, 2);
     // This one holds nothing back.
     let mut memory = MemorySink::new(alloc, &[], 28).expect(&rt, AMPLE);
     put_and_flush(&rt, &mut &mut memory);
@@ -294,16 +307,16 @@ impl Write for StuckWriter {
 /// Puts a line through a buffer. It is held back, and its flush fails.
 fn flush_buffered(rt: &impl Abort, writer: &mut StuckWriter) {
     let mut sink = BufferedSink::new(writer);
-    assert!(rt; sink.put(b"a\n") == Ok(()));
-    assert!(rt; (&mut sink).flush() == Err(SinkError::Fault));
+    expect_put(rt, "a line", sink.put(b"a\n"));
+    expect_fault(rt, "its flush", (&mut sink).flush());
 }
 
 /// Puts a line to a writer. It is flushed at its end, which fails, as each flush does.
 fn flush_at_end(rt: &impl Abort, writer: &mut StuckWriter) {
     let mut sink = WriteSink::new(writer);
-    assert!(rt; sink.put(b"b") == Ok(()));
-    assert!(rt; sink.put(b"\n") == Err(SinkError::Fault));
-    assert!(rt; sink.flush() == Err(SinkError::Fault));
+    expect_put(rt, "the front of a line", sink.put(b"b"));
+    expect_fault(rt, "its end", sink.put(b"\n"));
+    expect_fault(rt, "a flush behind it", sink.flush());
 }
 
 #[test]
@@ -313,7 +326,8 @@ fn flushes_fail(rt: HostRuntime) {
     };
     flush_buffered(&rt, &mut writer);
     flush_at_end(&rt, &mut writer);
-    assert_eq!(rt; writer.bytes.as_slice(), b"a\nb\n".as_slice());
+    let bytes = writer.bytes.as_slice();
+    expect_bytes(&rt, "what the writer took", bytes, b"a\nb\n");
 }
 
 /// How many bytes these pieces have, and their sum, as a sink that counts says it.
@@ -334,9 +348,15 @@ const COUNTED: &[(&[&str], u64, u64)] = &[
     (&["é", "~"], 3, 490),
 ];
 
+/// Stops the test where these pieces do not have so many bytes and this sum, and names them.
+fn expect_counted(rt: &impl Abort, pieces: &[&str], bytes: u64, sum: u64) {
+    let counted = counted(pieces);
+    assert!(rt; counted == Ok((bytes, sum)), "{pieces:?}: {counted:?}");
+}
+
 #[test]
 fn bytes_are_counted(rt: HostRuntime) {
     for &(pieces, bytes, sum) in COUNTED {
-        assert_eq!(rt; counted(pieces), Ok((bytes, sum)));
+        expect_counted(&rt, pieces, bytes, sum);
     }
 }

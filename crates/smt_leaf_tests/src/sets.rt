@@ -1,6 +1,7 @@
 //! Sets of texts: what they keep of what they were given, and what they find.
 
 use crate::AMPLE;
+use crate::expected::expect;
 use smt_leaves::{Text, TextSet};
 use std::alloc::Global;
 use std::process::Abort;
@@ -51,9 +52,9 @@ fn set_has(rt: &impl Abort, alloc: Global, given: &str, text: &str) -> bool {
 fn sets_of_texts_are_sorted(rt: HostRuntime) {
     let alloc = rt.alloc();
     for &(given, expected) in TEXT_SETS {
-        assert!(rt; text_set_is(&rt, alloc, given, expected), "{given}");
+        expect(&rt, text_set_is(&rt, alloc, given, expected), given);
     }
-    assert!(rt; set_has(&rt, alloc, "b a b", "b"));
-    assert!(rt; !set_has(&rt, alloc, "b a b", "ab"));
-    assert!(rt; !set_has(&rt, alloc, "", "a"));
+    expect(&rt, set_has(&rt, alloc, "b a b", "b"), "b in b a b");
+    expect(&rt, !set_has(&rt, alloc, "b a b", "ab"), "ab not in b a b");
+    expect(&rt, !set_has(&rt, alloc, "", "a"), "a not in the empty set");
 }

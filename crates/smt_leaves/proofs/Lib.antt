@@ -1,8 +1,11 @@
 pub mod AscendingPairs
 pub mod AscendingTexts
 pub mod EnumEntries
+pub mod ExtensionNames
 pub mod ExtensionOrder
 pub mod LastPairs
+pub mod LeafOrders
+pub mod Orders
 pub mod PatternOrder
 pub mod PatternSearch
 pub mod PutTexts

@@ -3,7 +3,11 @@ use Rattle.std.specs.Prelude.{◌≡◌, ℕ, List}
 use Rattle.std.specs.Ordering.{ordering_then}
 use Rattle.std.specs.Rc.{rc_str_bytes}
 use Rattle.smt_meaning.specs.ValueOrder.{text_cmp}
+use Rattle.smt_leaves.specs.Orders.{AreOrdered, pair_cmp}
 use Rattle.smt_leaves.specs.contracts.entity.EntityIDOrd.TheImpl as id_order
+use Rattle.smt_leaves.specs.contracts.entity.EntityIDPartialEq.TheImpl as id_equality
+use Rattle.smt_leaves.specs.contracts.entity.EntityTypePartialEq.TheImpl as type_equality
+use Rattle.smt_leaves.specs.contracts.entity.EntityUIDPartialEq.TheImpl as entity_equality
 use Rattle.smt_leaves.specs.contracts.entity.EntityTypeOrd.TheImpl as type_order
 use Rattle.smt_leaves.specs.contracts.entity.EntityUIDOrd.TheImpl as entity_order
 use Rattle.smt_leaves.specs.declared.entity.EntityID.{EntityID}
@@ -32,3 +36,13 @@ EntityIdsCompareAsTexts = (a b : EntityID) → id_order.ghosts.cmp a b ≡ text_
 -- entities compare by their types, and those of one type by their ids
 abbrev pub EntitiesCompareAsTexts : Type 0
 EntitiesCompareAsTexts = (a b : EntityUID) → entity_order.ghosts.cmp a b ≡ ordering_then (text_cmp (bytes_of_type a.ety) (bytes_of_type b.ety)) (text_cmp (bytes_of_id a.id) (bytes_of_id b.id))
+
+-- types, ids and entities are ordered by these texts, and are equal where they have the same
+abbrev pub EntityTypesAreOrdered : Type 0
+EntityTypesAreOrdered = AreOrdered type_order.ghosts.cmp type_equality.ghosts.eq bytes_of_type text_cmp
+
+abbrev pub EntityIdsAreOrdered : Type 0
+EntityIdsAreOrdered = AreOrdered id_order.ghosts.cmp id_equality.ghosts.eq bytes_of_id text_cmp
+
+abbrev pub EntitiesAreOrdered : Type 0
+EntitiesAreOrdered = AreOrdered entity_order.ghosts.cmp entity_equality.ghosts.eq texts_of_entity (pair_cmp text_cmp text_cmp)

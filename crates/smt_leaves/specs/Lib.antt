@@ -1,6 +1,7 @@
 pub mod Entities
 pub mod Enums
 pub mod ExtensionView
+pub mod Orders
 pub mod Pairs
 pub mod PatternOrder
 pub mod PatternSearch

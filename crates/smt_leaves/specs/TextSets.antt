@@ -1,8 +1,12 @@
 -- What sets of texts say.
 use Rattle.std.specs.Prelude.{ℕ, List, IsTrue, IsUtf8, map}
+use Rattle.std.specs.Cmp.Lexicographic.{slice_cmp}
 use Rattle.std.specs.List.{AllByRecursion}
 use Rattle.std.specs.Rc.{rc_str_bytes}
 use Rattle.smt_meaning.specs.ValueOrder.{ascends, sorted, text_cmp}
+use Rattle.smt_leaves.specs.Orders.{AreOrdered}
+use Rattle.smt_leaves.specs.contracts.texts.TextSetOrd.TheImpl as set_order
+use Rattle.smt_leaves.specs.contracts.texts.TextSetPartialEq.TheImpl as set_equality
 use Rattle.smt_leaves.specs.declared.texts.TextSet.{TextSet}
 
 -- texts in the order of their bytes, each once
@@ -21,3 +25,7 @@ pub record AreAscending (ts : List (List ℕ)) : Type 0 where
 -- the texts of each set ascend
 abbrev pub TextSetsAscend : Type 0
 TextSetsAscend = (set : TextSet) → AreAscending (texts_of set)
+
+-- sets are ordered as lists of their texts, by the first difference, and are equal where they have the same texts
+abbrev pub TextSetsAreOrdered : Type 0
+TextSetsAreOrdered = AreOrdered set_order.ghosts.cmp set_equality.ghosts.eq texts_of (slice_cmp text_cmp)

@@ -1,7 +1,8 @@
 // The extension types of Cedar, and the operators on their values.
-ghost use Rattle.std.specs.Prelude.{◌≡◌, IfSome};
+ghost use Rattle.std.specs.Prelude.{◌≡◌, ◌↔◌, Some, option_map};
 ghost use Rattle.smt_ext.specs.ExtOrder.{plain_value};
 ghost use Rattle.smt_meaning.specs.Names.{extension_op_name};
+ghost use Rattle.smt_meaning.specs.Plain.{ExtensionOp};
 ghost use Rattle.smt_meaning.specs.Types.{kind_of};
 ghost use Rattle.smt_leaves.specs.ExtensionView.{plain_extension_op, plain_kind};
 
@@ -45,6 +46,20 @@ pub enum ExtOp {
     IpaddrPrefixV6,
 }
 
+// All operators, in their order.
+const OPERATORS: [ExtOp; 10] = [
+    ExtOp::DatetimeOfBitVec,
+    ExtOp::DatetimeVal,
+    ExtOp::DecimalVal,
+    ExtOp::DurationOfBitVec,
+    ExtOp::DurationVal,
+    ExtOp::IpaddrAddrV4,
+    ExtOp::IpaddrAddrV6,
+    ExtOp::IpaddrIsV4,
+    ExtOp::IpaddrPrefixV4,
+    ExtOp::IpaddrPrefixV6,
+];
+
 impl ExtType {
     /// The extension type of a value.
     pub fn of(value: &Ext) -> ExtType
@@ -78,22 +93,16 @@ impl ExtOp {
         }
     }
 
-    /// The operator of this name, or `None` where no operator has it.
+    /// The operator of this name, or `None` exactly where no operator has it.
+    #[tactic(auto, using(crate::proofs::ExtensionNames::by_name))]
     pub fn of_name(name: &str) -> Option<ExtOp>
-        ensures found { IfSome result (λ op. extension_op_name (plain_extension_op op) ≡ name.now) }
+        ensures { (op : ExtensionOp) → (option_map plain_extension_op result ≡ Some op) ↔ (extension_op_name op ≡ name.now) }
     {
-        Some(match name {
-            "datetime.ofBitVec" => ExtOp::DatetimeOfBitVec,
-            "datetime.val" => ExtOp::DatetimeVal,
-            "decimal.val" => ExtOp::DecimalVal,
-            "duration.ofBitVec" => ExtOp::DurationOfBitVec,
-            "duration.val" => ExtOp::DurationVal,
-            "ipaddr.addrV4" => ExtOp::IpaddrAddrV4,
-            "ipaddr.addrV6" => ExtOp::IpaddrAddrV6,
-            "ipaddr.isV4" => ExtOp::IpaddrIsV4,
-            "ipaddr.prefixV4" => ExtOp::IpaddrPrefixV4,
-            "ipaddr.prefixV6" => ExtOp::IpaddrPrefixV6,
-            _ => return None,
-        })
+        for op in OPERATORS {
+            if name == op.mk_name() {
+                return Some(op);
+            }
+        }
+        None
     }
 }

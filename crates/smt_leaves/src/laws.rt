@@ -1,9 +1,9 @@
 //! Laws of entities, sets of texts, extension types and patterns: they compare as what they say, proved with no code.
-ghost use Rattle.smt_leaves.specs.Entities.{EntitiesCompareAsTexts, EntityIdsCompareAsTexts, EntityTypesCompareAsTexts};
+ghost use Rattle.smt_leaves.specs.Entities.{EntitiesAreOrdered, EntitiesCompareAsTexts, EntityIdsAreOrdered, EntityIdsCompareAsTexts, EntityTypesAreOrdered, EntityTypesCompareAsTexts};
 ghost use Rattle.smt_leaves.specs.Enums.{MembersAscend};
 ghost use Rattle.smt_leaves.specs.ExtensionView.{EqualExtensionOpsSayTheSame, EqualExtensionTypesSayTheSame, ExtensionOpsCompareAsPlain, ExtensionTypesCompareAsPlain};
 ghost use Rattle.smt_leaves.specs.PatternOrder.{ElementOrderIsTotal, ElementsCompareAsPlain, EqualElementsSayTheSame, EqualOrdPatternsSayTheSame, EqualPatternsSayTheSame, LevelElementsAreEqual, LevelPatternsAreEqual, OrdPatternOrderIsTotal, PatternsCompareAsPlain};
-ghost use Rattle.smt_leaves.specs.TextSets.{TextSetsAscend};
+ghost use Rattle.smt_leaves.specs.TextSets.{TextSetsAreOrdered, TextSetsAscend};
 
 /// Patterns and their elements compare as what they say, and are equal exactly where they say the same.
 pub fn program_patterns()
@@ -41,4 +41,13 @@ pub fn program_extensions()
 pub fn program_texts()
     ensures sets { TextSetsAscend }
     ensures members { MembersAscend }
+{}
+
+/// The orders of entities, of their types and ids, and of sets of texts are total, and hold two level exactly where they are equal,
+/// which is exactly where they say the same.
+pub fn leaves_are_ordered()
+    ensures types { EntityTypesAreOrdered }
+    ensures ids { EntityIdsAreOrdered }
+    ensures entities { EntitiesAreOrdered }
+    ensures sets { TextSetsAreOrdered }
 {}

@@ -4,10 +4,12 @@ use Rattle.std.specs.List.{flat_map}
 use Rattle.smt_lexicon.specs.Lexicon.{Piece, Token, Begin, End, Word, Atom, IsCutInto, tokens}
 
 mutual
+  -- An S-expression: an atom, or a list between brackets (SMT-LIB 2.7, chapter 3, "S-expressions").
   pub data Expression : Type 0 where
     Leaf : Atom → Expression
     Node : Expressions → Expression
 
+  -- the expressions of a list, in order
   pub data Expressions : Type 0 where
     Nil : Expressions
     Cons : Expression → Expressions → Expressions
@@ -21,31 +23,34 @@ followed_by (e ∷ es) others = Cons e (followed_by es others)
 abbrev pub expressions : List Expression → Expressions
 expressions es = followed_by es Nil
 
--- the brackets and atoms of an expression
 abbrev mutual
+  -- the brackets and atoms of an expression
   pub brackets : Expression → List Token
   brackets (Leaf a) = Word a ∷ []
   brackets (Node es) = Begin ∷ (inside es ++ End ∷ [])
 
+  -- the brackets and atoms of several expressions
   pub inside : Expressions → List Token
   inside Nil = []
   inside (Cons e es) = brackets e ++ inside es
 
--- How many brackets are open at the deepest place: none at a leaf, and one more than inside.
 abbrev mutual
+  -- How many brackets are open at the deepest place: none at a leaf, and one more than inside.
   pub nesting : Expression → ℕ
   nesting (Leaf a) = 0
   nesting (Node es) = deepest es + 1
 
+  -- how many brackets are open at the deepest place of several expressions
   pub deepest : Expressions → ℕ
   deepest Nil = 0
   deepest (Cons e es) = max (nesting e) (deepest es)
 
--- The tokens of the text are these expressions.
+-- The tokens of the text are these expressions: the text can be cut into pieces that have exactly their brackets and atoms.
 pub record Reads (bytes : List ℕ) (es : List Expression) : Type 0 where
   pub pieces : List Piece
   pub cut : IsCutInto bytes pieces
   pub tokens_are : tokens pieces ≡ flat_map brackets es
 
+-- A text has at most one reading.
 abbrev pub OneReading : Type 0
 OneReading = (bytes : List ℕ) (es fs : List Expression) → Reads bytes es → Reads bytes fs → es ≡ fs

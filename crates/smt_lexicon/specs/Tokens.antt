@@ -25,6 +25,7 @@ is_held (Word (Number n)) = nat_lt n (2 ^ 128)
 is_held (Word (Text points)) = scalars points
 is_held (Word (Name bytes)) = true
 
+-- Each of the tokens is held.
 abbrev pub AreHeld : List Token → Type 0
 AreHeld ts = IsTrue (list_all is_held ts)
 

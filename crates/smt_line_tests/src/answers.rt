@@ -3,7 +3,7 @@
 use crate::lines::Answer;
 use anyhow::Result;
 use smt_encode::EncodeError;
-use smt_term::{TermType, Text};
+use smt_term::{EntityUID, OrdPattern, TermType, Text};
 use smt_text::quote_id;
 use smt_words::{spelling_of, text_or};
 use std::alloc::Global;
@@ -28,29 +28,37 @@ pub(crate) fn refused(alloc: Global, error: &EncodeError) -> Result<String> {
 }
 
 fn cause_of(alloc: Global, error: &EncodeError) -> Result<String> {
-    Ok(match error {
-        EncodeError::EnumMissingMember(entity) => {
-            let ety = entity.ety.0.as_str();
-            let id = quote_id(alloc, entity.id.0.as_str())?;
-            format!(in alloc; "EnumMissingMember {ety}::{id}")?
-        }
-        EncodeError::EmptyEnum(ety) => with(alloc, "EmptyEnum", ety.0.as_str())?,
+    match error {
+        EncodeError::EnumMissingMember(entity) => missing_member(alloc, entity),
+        EncodeError::EmptyEnum(ety) => with(alloc, "EmptyEnum", ety.0.as_str()),
         EncodeError::EncodeStringFailed(text) => {
-            with_quoted(alloc, "EncodeStringFailed", text.as_str())?
+            with_quoted(alloc, "EncodeStringFailed", text.as_str())
         }
-        EncodeError::EncodePatternFailed(pattern) => {
-            let spelling = spelling_of(alloc, pattern)?;
-            with_quoted(alloc, "EncodePatternFailed", spelling.as_str())?
-        }
+        EncodeError::EncodePatternFailed(pattern) => failed_pattern(alloc, pattern),
         EncodeError::RecordMissingAttr(name) => {
-            with_quoted(alloc, "RecordMissingAttr", name.as_str())?
+            with_quoted(alloc, "RecordMissingAttr", name.as_str())
         }
-        EncodeError::ExpectRecord(ty) => with(alloc, "ExpectRecord", type_name(ty))?,
-        EncodeError::MissingTypeEncoding(ty) => with(alloc, "MissingTypeEncoding", type_name(ty))?,
-        EncodeError::MalformedRecordGet => String::from_str(alloc, "MalformedRecordGet")?,
-        EncodeError::Spent => String::from_str(alloc, "Spent")?,
-        _ => String::from_str(alloc, "another cause")?,
-    })
+        EncodeError::ExpectRecord(ty) => with(alloc, "ExpectRecord", type_name(ty)),
+        EncodeError::MissingTypeEncoding(ty) => with(alloc, "MissingTypeEncoding", type_name(ty)),
+        EncodeError::MalformedRecordGet => alone(alloc, "MalformedRecordGet"),
+        EncodeError::Spent => alone(alloc, "Spent"),
+        _ => alone(alloc, "another cause"),
+    }
+}
+
+fn missing_member(alloc: Global, entity: &EntityUID) -> Result<String> {
+    let ety = entity.ety.0.as_str();
+    let id = quote_id(alloc, entity.id.0.as_str())?;
+    Ok(format!(in alloc; "EnumMissingMember {ety}::{id}")?)
+}
+
+fn failed_pattern(alloc: Global, pattern: &OrdPattern) -> Result<String> {
+    let spelling = spelling_of(alloc, pattern)?;
+    with_quoted(alloc, "EncodePatternFailed", spelling.as_str())
+}
+
+fn alone(alloc: Global, cause: &str) -> Result<String> {
+    Ok(String::from_str(alloc, cause)?)
 }
 
 fn with(alloc: Global, cause: &str, named: &str) -> Result<String> {

@@ -33,6 +33,8 @@ mod answers;
 #[cfg(test)]
 mod calls;
 #[cfg(test)]
+mod expected;
+#[cfg(test)]
 mod lines;
 #[cfg(test)]
 mod rows;

@@ -1,5 +1,6 @@
 // The rows, answered one after the other.
 use crate::calls::answer_of;
+use crate::expected::expect_lines;
 use crate::tables::ROWS;
 use anyhow::{Context, Result};
 use smt_encode::Encoder;
@@ -35,16 +36,18 @@ fn show(alloc: Global, printer: &mut (impl Write + Drop), rows: &str) -> Result<
     Ok(())
 }
 
+/// The rows, each with what its call answers now.
+fn shown(alloc: Global, rows: &str) -> Result<Vec<u8>> {
+    let mut printed: Vec<u8> = Vec::new(alloc);
+    for of_one in rows.split("> encoder").skip(1) {
+        show(alloc, &mut printed, of_one)?;
+    }
+    Ok(printed)
+}
+
 #[test]
 fn calls_are_answered(rt: HostRuntime) {
-    let alloc = rt.alloc();
-    let mut printed: Vec<u8> = Vec::new(alloc);
-    for of_one in ROWS.split("> encoder").skip(1) {
-        show(alloc, &mut printed, of_one).expect(&rt, "the rows say calls");
-    }
+    let printed = shown(rt.alloc(), ROWS).expect(&rt, "the rows say calls");
     let said = str::from_utf8(printed.as_slice()).expect(&rt, "what is written is UTF-8");
-    for (said, stated) in said.lines().zip(ROWS.lines()) {
-        assert_eq!(rt; said, stated);
-    }
-    assert_eq!(rt; said.len(), ROWS.len());
+    expect_lines(&rt, said, ROWS);
 }

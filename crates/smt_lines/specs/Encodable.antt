@@ -15,8 +15,8 @@ abbrev pub HasMember : Option (List (List ℕ)) → Type 0
 HasMember (Some []) = ⊥
 HasMember members = Unit {0}
 
--- each width is one, and each enum type has a member
 abbrev mutual
+  -- a type that a sort can stand for: each width is one, and each enum type has a member
   pub IsEncodableType : Enums → PlainType → Type 0
   IsEncodableType enums (OptionType t) = IsEncodableType enums t
   IsEncodableType enums (BitVecType width) = is_width width ≡ true
@@ -25,6 +25,7 @@ abbrev mutual
   IsEncodableType enums (SetType t) = IsEncodableType enums t
   IsEncodableType enums t = Unit {0}
 
+  -- the type of each attribute is such a type
   pub AreEncodableTypes : Enums → AttributeTypes → Type 0
   AreEncodableTypes enums no_attributes = Unit {0}
   AreEncodableTypes enums (attribute a t attributes) = IsEncodableType enums t × AreEncodableTypes enums attributes
@@ -34,6 +35,7 @@ abbrev pub IsEncodableId : Option (List (List ℕ)) → (id : List ℕ) → Type
 IsEncodableId None id = list_all is_code_point (chars id) ≡ true
 IsEncodableId (Some members) id = nat_lt (place_of id members) (length members) ≡ true
 
+-- an entity whose id can be written, a string of characters up to 196607, or any other literal
 abbrev pub IsEncodableLiteral : Enums → PlainLiteral → Type 0
 IsEncodableLiteral enums (EntityLiteral type id) = IsEncodableId (members_of enums type) id
 IsEncodableLiteral enums (StringLiteral text) = list_all is_code_point (chars text) ≡ true
@@ -52,6 +54,7 @@ kind_of_op IpIsV4Op = IpAddrKind
 kind_of_op IpPrefixV4Op = IpAddrKind
 kind_of_op IpPrefixV6Op = IpAddrKind
 
+-- the application is written as an equality with the least number of its width
 abbrev pub IsLeast : Rendering → Type 0
 IsLeast AsApplication = ⊥
 IsLeast (AsEqualsIntMin width) = Unit {0}
@@ -62,11 +65,15 @@ abbrev pub HasArgument : PlainTerms → Type 0
 HasArgument no_terms = ⊥
 HasArgument (one_term t ts) = Unit {0}
 
+-- there is exactly one argument
 abbrev pub IsOne : PlainTerms → Type 0
 IsOne no_terms = ⊥
 IsOne (one_term t no_terms) = Unit {0}
 IsOne (one_term t (one_term u ts)) = ⊥
 
+-- An operator that can be written at these arguments: `bvnego` as an equality with the least number; an operator of an extension
+-- type, at or to a value of it; an attribute that the record type has; a pattern of characters up to 196607 at one argument; a
+-- function whose types have sorts; and every other.
 abbrev pub IsEncodableOp : Enums → PlainOp → PlainTerms → PlainType → Type 0
 IsEncodableOp enums BvnegoOp ts type = IsLeast (application_rendering BvnegoOp ts type)
 IsEncodableOp enums (ExtOp x) ts type = (first_type ts ≡ ExtensionType (kind_of_op x)) ⊎ (type ≡ ExtensionType (kind_of_op x))
@@ -77,6 +84,8 @@ IsEncodableOp enums (UufOp f) ts type = IsEncodableType enums f.argument × IsEn
 IsEncodableOp enums op ts type = Unit {0}
 
 abbrev mutual
+  -- A term for which lines can be written: its types have sorts, its parts are such terms, and its operator can be written at its
+  -- arguments, of which there is one at least.
   pub IsEncodable : Enums → PlainTerm → Type 0
   IsEncodable enums (Application op ts type) = IsEncodableType enums type × AreEncodable enums ts × IsEncodableOp enums op ts type × HasArgument ts
   IsEncodable enums (NoneTerm type) = IsEncodableType enums type
@@ -86,10 +95,12 @@ abbrev mutual
   IsEncodable enums (SomeTerm t) = IsEncodableType enums (type_of t) × IsEncodable enums t
   IsEncodable enums (VariableTerm id type) = IsEncodableType enums type
 
+  -- each of the terms is such a term
   pub AreEncodable : Enums → PlainTerms → Type 0
   AreEncodable enums no_terms = Unit {0}
   AreEncodable enums (one_term t ts) = IsEncodable enums t × AreEncodable enums ts
 
+  -- the term of each field is such a term
   pub AreEncodableFields : Enums → PlainFields → Type 0
   AreEncodableFields enums no_fields = Unit {0}
   AreEncodableFields enums (one_field a t fields) = IsEncodable enums t × AreEncodableFields enums fields

@@ -42,10 +42,12 @@ option_names = names_of_line option_line
 
 -- ---- names of entries that are there: drawn before the next, or those of a kind that has an entry
 
+-- the first byte of a name, which is the letter of a drawn one
 abbrev pub first : List ℕ → ℕ
 first [] = 0
 first (c ∷ cs) = c
 
+-- what stands behind the first byte
 abbrev pub behind_first : List ℕ → List ℕ
 behind_first [] = []
 behind_first (c ∷ cs) = cs
@@ -54,6 +56,7 @@ behind_first (c ∷ cs) = cs
 abbrev pub drawn_number : List ℕ → ℕ
 drawn_number n = number_in 10 (take_while is_digit (behind_first n))
 
+-- the extension type has an entry
 abbrev pub has_kind : Tables → ExtensionKind → Bool
 has_kind s kind = is_some (name_of_type s (ExtensionType kind))
 
@@ -62,6 +65,8 @@ abbrev pub of_kinds : (test kinds : ExtensionKind → Bool) → Bool
 of_kinds test kinds =
     (test IpAddrKind && kinds IpAddrKind) || ((test DecimalKind && kinds DecimalKind) || ((test DatetimeKind && kinds DatetimeKind) || (test DurationKind && kinds DurationKind)))
 
+-- A name that is not drawn any more, by these numbers of entries: one whose number is below that of the entries of its letter, one
+-- of options, or one of a kind that has an entry.
 abbrev pub is_old : (terms functions types : ℕ) → (ExtensionKind → Bool) → List ℕ → Bool
 is_old terms functions types kinds n =
     if first n == 116 then nat_lt (drawn_number n) terms
@@ -69,14 +74,17 @@ is_old terms functions types kinds n =
     else (if (first n == 69) || (first n == 82) then nat_lt (drawn_number n) types
     else (is_in n option_names || of_kinds (λ k. is_in n (kind_names k)) kinds)))
 
+-- the name of a datatype that is not drawn any more: with a number below that of the types' entries, `Option`, or such a kind
 abbrev pub is_old_sort : (types : ℕ) → (ExtensionKind → Bool) → List ℕ → Bool
 is_old_sort types kinds n =
     if (first n == 69) || (first n == 82) then nat_lt (drawn_number n) types
     else (bytes_eq n (codes "Option") || of_kinds (λ k. bytes_eq n (kind_name k)) kinds)
 
+-- a name that no later entry of these tables is given
 abbrev pub is_old_name_in : Tables → List ℕ → Bool
 is_old_name_in s n = is_old (length s.terms) (length s.functions) (length s.types) (has_kind s) n
 
+-- the name of a datatype that no later entry of these tables is given
 abbrev pub is_old_sort_in : Tables → List ℕ → Bool
 is_old_sort_in s n = is_old_sort (length s.types) (has_kind s) n
 
@@ -100,6 +108,7 @@ is_sort_of_entry s n = bytes_eq n (codes "Option") || list_any (has_entry_name n
 
 -- ---- the facts
 
+-- the state declares the name, at any level
 abbrev pub declares : State → List ℕ → Bool
 declares state n = is_in n (map (λ p. p.0) (names_of state))
 
@@ -108,6 +117,7 @@ abbrev pub IsKindNamed : PlainType → List ℕ → Type 0
 IsKindNamed (ExtensionType kind) n = n ≡ kind_name kind
 IsKindNamed t n = Unit {0}
 
+-- a type's entry in a state: its datatype is there, and all names that its lines declare
 pub record TypeEntryIsDeclared (enums : Enums) (state : State) (t : PlainType) (n : List ℕ) : Type 0 where
   pub sort : has_sort state n 0 ≡ true
   pub name : is_name n ≡ true
@@ -115,15 +125,18 @@ pub record TypeEntryIsDeclared (enums : Enums) (state : State) (t : PlainType) (
   pub names : list_all is_name (names_of_type enums t n) ≡ true
   pub kind : IsKindNamed t n
 
+-- a function's entry in a state: its name is declared
 pub record FunctionEntryIsDeclared (state : State) (f : PlainFunction) (n : List ℕ) : Type 0 where
   pub declared : declares state n ≡ true
   pub name : is_name n ≡ true
 
+-- a term's entry in a state: its name is there, and its type has the entries that it needs
 pub record TermEntryIsDeclared (s : Tables) (state : State) (t : PlainTerm) (n : List ℕ) : Type 0 where
   pub declared : has_name state n ≡ true
   pub name : is_name n ≡ true
   pub sort : TypeHasEntries s (type_of t)
 
+-- the state declares a datatype of this name, at any level
 abbrev pub declares_sort : State → List ℕ → Bool
 declares_sort state d = is_in d (map (λ p. p.0) (declared_sorts state))
 
@@ -143,6 +156,7 @@ LineIsDeclared state (DeclareFun n argument sort) = entries state n ≡ Some (Fu
 LineIsDeclared state (DefineFun n sort body) = entries state n ≡ Some (Defined sort body)
 LineIsDeclared state l = Unit {0}
 
+-- P holds of each line
 abbrev pub EachLine : (Line → Type 0) → List Line → Type 0
 EachLine P [] = Unit {0}
 EachLine P (l ∷ ls) = P l × EachLine P ls
@@ -154,17 +168,20 @@ pub record EntryOf (lines_of : Tables → List Line) (Parts : Tables → Type 0)
   pub parts : Parts tables
   pub lines : EachLine (LineIsDeclared state) (lines_of tables)
 
+-- What the own lines of a type's entry declare is in the state.
 abbrev pub TypeEntry : Enums → Tables → State → PlainType → List ℕ → Type 0
 TypeEntry enums s state t n = EntryOf (λ r. type_lines enums r t n) (λ r. TypePartsHaveEntries r t) s state
 
+-- What the own lines of a function's entry declare is in the state.
 abbrev pub FunctionEntry : Tables → State → PlainFunction → List ℕ → Type 0
 FunctionEntry s state f n = EntryOf (λ r. function_lines r f n) (λ r. TypeHasEntries r f.argument × TypeHasEntries r f.output) s state
 
--- the record type whose selector an application is written with
+-- the record type whose selector an application is written with has an entry
 abbrev pub HasRecord : Tables → PlainOp → PlainTerms → Type 0
 HasRecord s (RecordGetOp a) ts = IsSome (name_of_type s (first_type ts))
 HasRecord s op ts = Unit {0}
 
+-- the record type of which a term takes an attribute has an entry
 abbrev pub RecordHasEntry : Tables → PlainTerm → Type 0
 RecordHasEntry s (Application op ts type) = HasRecord s op ts
 RecordHasEntry s t = Unit {0}
@@ -173,9 +190,12 @@ RecordHasEntry s t = Unit {0}
 abbrev pub PartsHaveEntries : Tables → PlainTerm → Type 0
 PartsHaveEntries s t = TermPartsHaveEntries s t × RecordHasEntry s t
 
+-- What the own lines of a term's entry declare is in the state.
 abbrev pub TermEntry : Enums → Tables → State → PlainTerm → List ℕ → Type 0
 TermEntry enums s state t n = EntryOf (λ r. term_lines enums r t n) (λ r. PartsHaveEntries r t × TypeHasEntries r (type_of t)) s state
 
+-- Tables and a state belong together: what the entries name is declared as their lines say, what is declared is of an entry or of
+-- options, and none of it is a name that a later entry is given.
 pub record Fit (enums : Enums) (s : Tables) (state : State) : Type 0 where
   pub running : state.ended ≡ false
   pub option : has_sort state (codes "Option") 1 ≡ true
@@ -188,6 +208,7 @@ pub record Fit (enums : Enums) (s : Tables) (state : State) : Type 0 where
   pub term_entries : EachEntry (TermEntry enums s state) s.terms
   pub option_is_declared : LineIsDeclared state option_line
   pub rooted : IsRooted state
+  -- What is declared is no name that a later entry is given.
   pub old : list_all (λ p. is_old_name_in s p.0) (names_of state) ≡ true
   pub old_sorts : list_all (λ p. is_old_sort_in s p.0) (declared_sorts state) ≡ true
   -- Nothing else is declared.
@@ -216,5 +237,6 @@ pub record Reach (enums : Enums) (state : State) (ls : List Line) (u : Tables) :
 abbrev pub Steps : Enums → Tables → List Line → Tables → Type 0
 Steps enums s ls u = (state : State) → Fit enums s state → Reach enums state ls u
 
+-- The lines of what was written can be obeyed wherever the tables before fit, and those after fit then.
 abbrev pub StepsOf : {A : Type 0} → Enums → Tables → Written A → Type 0
 StepsOf {A} enums s w = Steps enums s w.lines w.tables

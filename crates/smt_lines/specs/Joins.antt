@@ -11,10 +11,11 @@ use Rattle.smt_lines.specs.Line.{Line, spelled_lines}
 abbrev pub TextsReplaceExpressions : Type 0
 TextsReplaceExpressions = (e : Expression) (es : List Expression) → spelled (group (e ∷ es)) ≡ spelled (group (name (spelled e) ∷ map (λ x. name (spelled x)) es))
 
+-- lines one after the other have their bytes one after the other
 abbrev pub LinesJoin : Type 0
 LinesJoin = (ls ms : List Line) → spelled_lines (ls ++ ms) ≡ spelled_lines ls ++ spelled_lines ms
 
--- calls one after the other
+-- calls one after the other write their lines one after the other
 abbrev pub CallsJoin : Type 0
 CallsJoin = (enums : Enums) (cs ds : List Call) (s : Encoding)
     → (lines_of_calls enums (cs ++ ds) s ≡ lines_of_calls enums cs s ++ lines_of_calls enums ds (after_calls enums cs s))

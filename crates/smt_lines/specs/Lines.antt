@@ -40,13 +40,16 @@ pub record Written (A : Type 0) : Type 0 where
   pub lines : List Line
   pub tables : Tables
 
+-- what is made with no line written
 abbrev pub made_of : {A : Type 0} → A → Tables → Written A
 made_of a s = record { made = a; lines = []; tables = s }
 
+-- what was written, with these lines before its own
 abbrev pub behind : {A : Type 0} → List Line → Written A → Written A
 behind ls w = record { made = w.made; lines = ls ++ w.lines; tables = w.tables }
 
 infixl 10 ◌>>=◌
+-- what is made next from what was made, with the lines of both in order
 abbrev pub ◌>>=◌ : {A B : Type 0} → Written A → (A → Tables → Written B) → Written B
 w >>= f = behind w.lines (f w.made w.tables)
 
@@ -55,12 +58,15 @@ abbrev pub unless_named : Option (List ℕ) → Tables → (Tables → Written E
 unless_named (Some n) s f = made_of (name n) s
 unless_named None s f = f s
 
+-- a type's new entry under a name, with its lines
 abbrev pub enter_type : PlainType → List ℕ → List Line → Tables → Written Expression
 enter_type t n ls s = record { made = name n; lines = ls; tables = record s { types = s.types ++ (t, n) ∷ [] } }
 
+-- a function's new entry under a name, with its lines
 abbrev pub enter_function : PlainFunction → List ℕ → List Line → Tables → Written Expression
 enter_function f n ls s = record { made = name n; lines = ls; tables = record s { functions = s.functions ++ (f, n) ∷ [] } }
 
+-- a term's new entry under a name, with its lines
 abbrev pub enter_term : PlainTerm → List ℕ → List Line → Tables → Written Expression
 enter_term t n ls s = record { made = name n; lines = ls; tables = record s { terms = s.terms ++ (t, n) ∷ [] } }
 
@@ -85,6 +91,7 @@ declare_record attributes sorts s =
     enter_type (RecordType attributes) (next_record s) (record_lines (attribute_names attributes) (next_record s) sorts) s
 
 abbrev mutual
+  -- The sort of a type. An entity, extension or record type that has no entry is declared, its parts first.
   pub encode_type : Enums → PlainType → Tables → Written Expression
   encode_type enums (OptionType t) s = encode_type enums t s >>= λ sort u. made_of (option_sort sort) u
   encode_type enums (BitVecType width) s = made_of (bit_sort width) s
@@ -99,11 +106,13 @@ abbrev mutual
       (λ u. encode_attributes enums attributes u >>= λ sorts v. declare_record attributes sorts v)
   encode_type enums (SetType t) s = encode_type enums t s >>= λ sort u. made_of (set_sort sort) u
 
+  -- the sorts of attributes, in order
   pub encode_attributes : Enums → AttributeTypes → Tables → Written (List Expression)
   encode_attributes enums no_attributes s = made_of [] s
   encode_attributes enums (attribute a t attributes) s =
       encode_type enums t s >>= λ sort u. encode_attributes enums attributes u >>= λ sorts v. made_of (sort ∷ sorts) v
 
+-- The name of a function. One that has no entry is declared: its id in a comment, the lines of its types, and `declare-fun`.
 -- The name is drawn first, but neither type has an entry among the functions.
 abbrev pub encode_function : Enums → PlainFunction → Tables → Written Expression
 encode_function enums f s =
@@ -122,6 +131,7 @@ define_entity (Some members) type id sort s =
 define_entity None type id sort s =
     define (LiteralTerm (EntityLiteral type id)) (name sort) (entity_body sort id) s
 
+-- The text of a literal: bits, truth values and strings are written where they stand, others have an entry.
 abbrev pub encode_literal : Enums → PlainLiteral → Tables → Written Expression
 encode_literal enums (BitVecLiteral width number) s = made_of (bits width number) s
 encode_literal enums (BoolLiteral b) s = made_of (bool_text b) s
@@ -160,14 +170,17 @@ pub data Rendering : Type 0 where
   AsEqualsIntMin : (width : ℕ) → Rendering
   AsFalse : Rendering
 
+-- `bvnego` of a bitvector is an equality with the least number of its width; of another type no typed term has it
 abbrev pub least_rendering : PlainType → Rendering
 least_rendering (BitVecType width) = AsEqualsIntMin width
 least_rendering t = AsFalse
 
+-- `bvnego` of one argument that claims the type Bool, and else an application as it stands
 abbrev pub negation_rendering : PlainTerms → PlainType → Rendering
 negation_rendering (one_term t no_terms) BoolType = least_rendering (type_of t)
 negation_rendering ts type = AsApplication
 
+-- how the application of an operator is written: only `bvnego` is not written as it stands
 abbrev pub application_rendering : PlainOp → PlainTerms → PlainType → Rendering
 application_rendering BvnegoOp ts type = negation_rendering ts type
 application_rendering op ts type = AsApplication
@@ -185,6 +198,8 @@ define_application enums AsFalse op ts type arguments sort s = enter_term (Appli
 -- ---- terms
 
 abbrev mutual
+  -- The text of a term. What has an entry is not written again. What has none gets first its sort, then its parts in order, then its
+  -- own line, at which its name is drawn.
   pub encode_term : Enums → PlainTerm → Tables → Written Expression
   encode_term enums (Application op ts type) s =
       unless_named (name_of_term s (Application op ts type)) s
@@ -211,11 +226,13 @@ abbrev mutual
       (λ u. encode_type enums type u >>= λ sort v.
       enter_term (VariableTerm id type) (next_term v) (variable_lines id (next_term v) sort) v)
 
+  -- the texts of arguments or elements, in order
   pub encode_terms : Enums → PlainTerms → Tables → Written (List Expression)
   encode_terms enums no_terms s = made_of [] s
   encode_terms enums (one_term t ts) s =
       encode_term enums t s >>= λ e u. encode_terms enums ts u >>= λ es v. made_of (e ∷ es) v
 
+  -- the texts of the terms of a record's fields, in order
   pub encode_fields : Enums → PlainFields → Tables → Written (List Expression)
   encode_fields enums no_fields s = made_of [] s
   encode_fields enums (one_field a t fields) s =
@@ -227,6 +244,7 @@ encode enums ts s = encode_terms enums (terms ts) s >>= λ es u. record { made =
 
 -- ---- calls
 
+-- a call of an encoder: a push, a pop, or terms to be asserted
 pub data Call : Type 0 where
   PushCall : Call
   PopCall : Call
@@ -238,9 +256,11 @@ pub record Encoding : Type 0 where
   pub below : List Tables
   pub begun : Bool
 
+-- an encoder before its first call
 abbrev pub fresh : Encoding
 fresh = record { tables = no_names; below = []; begun = false }
 
+-- the constructors of options: `none`, and `some` with the selector `val`
 abbrev pub option_constructors : List Constructor
 option_constructors = Bare (codes "none") ∷ Fielded (codes "some") ((codes "val", name (codes "X")) ∷ []) ∷ []
 
@@ -248,28 +268,34 @@ option_constructors = Bare (codes "none") ∷ Fielded (codes "some") ((codes "va
 abbrev pub option_line : Line
 option_line = DeclareDatatype (codes "Option") (codes "X" ∷ []) option_constructors
 
+-- the lines before the first ones: the datatype of options
 abbrev pub beginning : Bool → List Line
 beginning true = []
 beginning false = option_line ∷ []
 
+-- the lines that a call writes
 abbrev pub lines_of_call : Enums → Call → Encoding → List Line
 lines_of_call enums PushCall s = beginning s.begun ++ Push ∷ []
 lines_of_call enums PopCall s = Pop ∷ []
 lines_of_call enums (EncodeCall ts) s = beginning s.begun ++ (encode enums ts s.tables).lines
 
+-- an encoder with the tables of the moment of the last open push; with no open push it is as it was
 abbrev pub popped : List Tables → Encoding → Encoding
 popped [] s = s
 popped (t ∷ below) s = record { tables = t; below = below; begun = s.begun }
 
+-- an encoder after a call
 abbrev pub after_call : Enums → Call → Encoding → Encoding
 after_call enums PushCall s = record { tables = s.tables; below = s.tables ∷ s.below; begun = true }
 after_call enums PopCall s = popped s.below s
 after_call enums (EncodeCall ts) s = record { tables = (encode enums ts s.tables).tables; below = s.below; begun = true }
 
+-- an encoder after calls, one after the other
 abbrev pub after_calls : Enums → List Call → Encoding → Encoding
 after_calls enums [] s = s
 after_calls enums (c ∷ cs) s = after_calls enums cs (after_call enums c s)
 
+-- the lines that calls write, one after the other
 abbrev pub lines_of_calls : Enums → List Call → Encoding → List Line
 lines_of_calls enums [] s = []
 lines_of_calls enums (c ∷ cs) s = lines_of_call enums c s ++ lines_of_calls enums cs (after_call enums c s)

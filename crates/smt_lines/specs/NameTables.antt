@@ -12,15 +12,19 @@ pub record Tables : Type 0 where
   pub types : List (PlainType × List ℕ)
   pub functions : List (PlainFunction × List ℕ)
 
+-- the tables before anything has a name
 abbrev pub no_names : Tables
 no_names = record { terms = []; types = []; functions = [] }
 
+-- the name of a term's entry
 abbrev pub name_of_term : Tables → PlainTerm → Option (List ℕ)
 name_of_term s t = lookup (term_eq t) s.terms
 
+-- the name of a type's entry, which is its datatype's
 abbrev pub name_of_type : Tables → PlainType → Option (List ℕ)
 name_of_type s t = lookup (type_eq t) s.types
 
+-- the name of a function's entry
 abbrev pub name_of_function : Tables → PlainFunction → Option (List ℕ)
 name_of_function s f = lookup (function_eq f) s.functions
 

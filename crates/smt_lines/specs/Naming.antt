@@ -6,6 +6,7 @@ use Rattle.smt_semantics.specs.Script.{name}
 use Rattle.smt_semantics.specs.Sorts.{bool_sort, string_sort, bit_sort, option_sort, set_sort}
 use Rattle.smt_lines.specs.NameTables.{Tables, name_of_type, text_of_name}
 
+-- the name of a type's datatype, and an empty name where it has none
 abbrev pub type_name : Tables → PlainType → List ℕ
 type_name s t = text_of_name (name_of_type s t)
 
@@ -20,6 +21,7 @@ type_sort s StringType = string_sort
 type_sort s (RecordType attributes) = name (type_name s (RecordType attributes))
 type_sort s (SetType t) = set_sort (type_sort s t)
 
+-- a table has an entry of this key and this name
 abbrev pub HasEntry : {K : Type 0} → List (K × List ℕ) → K → List ℕ → Type 0
 HasEntry {K} [] k n = ⊥
 HasEntry {K} (e ∷ es) k n = ((e.0 ≡ k) × (e.1 ≡ n)) ⊎ HasEntry es k n
@@ -28,6 +30,7 @@ HasEntry {K} (e ∷ es) k n = ((e.0 ≡ k) × (e.1 ≡ n)) ⊎ HasEntry es k n
 abbrev pub HasDistinctNames : {K : Type 0} → List (K × List ℕ) → Type 0
 HasDistinctNames {K} es = (n : List ℕ) (k l : K) → HasEntry es k n → HasEntry es l n → k ≡ l
 
+-- in each of the three tables two keys have two names
 pub record IsOneToOne (s : Tables) : Type 0 where
   pub terms : HasDistinctNames s.terms
   pub types : HasDistinctNames s.types

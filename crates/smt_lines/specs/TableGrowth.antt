@@ -9,17 +9,19 @@ use Rattle.smt_lines.specs.Lines.{Written, encode_type, encode_function, encode_
 use Rattle.smt_lines.specs.NameTables.{Tables, no_names, name_of_term, name_of_type, name_of_function}
 use Rattle.smt_lines.specs.Entries.{AreNumbered, undrawn_name}
 
+-- how many datatypes lines declare
 abbrev pub datatypes : List Line → ℕ
 datatypes [] = 0
 datatypes (DeclareDatatype n ps cs ∷ ls) = suc (datatypes ls)
 datatypes (l ∷ ls) = datatypes ls
 
+-- how many functions lines declare
 abbrev pub declared_functions : List Line → ℕ
 declared_functions [] = 0
 declared_functions (DeclareFun n argument sort ∷ ls) = suc (declared_functions ls)
 declared_functions (l ∷ ls) = declared_functions ls
 
--- constants and definitions
+-- how many constants and definitions lines have
 abbrev pub definitions : List Line → ℕ
 definitions [] = 0
 definitions (DeclareConst n sort ∷ ls) = suc (definitions ls)
@@ -30,6 +32,7 @@ definitions (l ∷ ls) = definitions ls
 abbrev pub is_drawn : Enums → PlainTerm → Bool
 is_drawn enums t = is_none (undrawn_name enums no_names t)
 
+-- each entry that draws its name has the name of its place, from a place on
 abbrev pub AreDrawn : Enums → ℕ → List (PlainTerm × List ℕ) → Type 0
 AreDrawn enums place [] = Unit {0}
 AreDrawn enums place (e ∷ es) = (is_drawn enums e.0 ≡ true → e.1 ≡ stated_term_name place) × AreDrawn enums (suc place) es
@@ -49,18 +52,23 @@ pub record Extends (enums : Enums) (s : Tables) (ls : List Line) (u : Tables) : 
   pub term_names : AreDrawn enums (length s.terms) new_terms
   pub term_lines : definitions ls ≤ length new_terms
 
+-- the tables of what was written have entries behind those of s, for which its lines were written
 abbrev pub Grown : {A : Type 0} → Enums → Tables → Written A → Type 0
 Grown {A} enums s w = Extends enums s w.lines w.tables
 
+-- writing a type adds entries
 abbrev pub TypesGrow : Type 0
 TypesGrow = (enums : Enums) (t : PlainType) (s : Tables) → Grown enums s (encode_type enums t s)
 
+-- writing a function adds entries
 abbrev pub FunctionsGrow : Type 0
 FunctionsGrow = (enums : Enums) (f : PlainFunction) (s : Tables) → Grown enums s (encode_function enums f s)
 
+-- writing a term adds entries
 abbrev pub TermsGrow : Type 0
 TermsGrow = (enums : Enums) (t : PlainTerm) (s : Tables) → Grown enums s (encode_term enums t s)
 
+-- writing terms adds entries
 abbrev pub TermListsGrow : Type 0
 TermListsGrow = (enums : Enums) (ts : PlainTerms) (s : Tables) → Grown enums s (encode_terms enums ts s)
 
@@ -70,15 +78,17 @@ pub record Keeps (s u : Tables) : Type 0 where
   pub types : (t : PlainType) (n : List ℕ) → name_of_type s t ≡ Some n → name_of_type u t ≡ Some n
   pub functions : (f : PlainFunction) (n : List ℕ) → name_of_function s f ≡ Some n → name_of_function u f ≡ Some n
 
+-- where entries are added, every name that was given stays
 abbrev pub NamesStay : Type 0
 NamesStay = (enums : Enums) (s : Tables) (ls : List Line) (u : Tables) → Extends enums s ls u → Keeps s u
 
 -- ---- names of entries
 
--- Functions, and types, that have one name are one.
+-- Functions that have one name are one.
 abbrev pub FunctionNamesDiffer : Type 0
 FunctionNamesDiffer = (es : List (PlainFunction × List ℕ)) → AreNumbered (λ f place. stated_function_name place) 0 es → HasDistinctNames es
 
+-- Types that have one name are one.
 abbrev pub TypeNamesDiffer : Type 0
 TypeNamesDiffer = (es : List (PlainType × List ℕ)) → AreNumbered stated_type_name 0 es → HasDistinctNames es
 

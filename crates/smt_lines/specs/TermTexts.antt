@@ -28,6 +28,7 @@ inline_text (BoolLiteral b) = Some (bool_text b)
 inline_text (StringLiteral text) = Some (string_text text)
 inline_text p = None
 
+-- a name as an expression
 abbrev pub named_text : Option (List ℕ) → Option Expression
 named_text (Some n) = Some (name n)
 named_text None = None

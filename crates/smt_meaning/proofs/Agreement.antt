@@ -1,23 +1,24 @@
 -- Interpretations that agree on what is reached give the same values; a restriction agrees.
-use Rattle.std.proofs.Common.{◌≡◌, ℕ, Bool, true, false, ◌&&◌, List, [], ◌∷◌, refl, ap, ◌∙◌, sym}
+use Rattle.std.proofs.Common.{◌≡◌, ℕ, Bool, true, false, ◌&&◌, List, [], ◌∷◌, refl, ap, ◌∙◌, sym, subst}
 use Rattle.std.specs.Prelude.{bytes_eq, Option, Some, None, IfSome, cond}
 use Rattle.std.proofs.lemmas.Bool.{eq-eqb}
 use Rattle.std.specs.Cmp.Derive.{both_true}
 use Rattle.std.specs.List.{AllByRecursion, list_any, filter_map, cons_option}
 use Rattle.std.specs.Ordering.{is_eq}
-use Rattle.smt_meaning.specs.Interpretations.{GiveSameOp, GiveSame, Agree, restrict, function_eq, selector_eq, extension_op_place, nothing, empty_table}
-use Rattle.smt_meaning.specs.Meaning.{meaning, meanings, field_meanings, term_value}
+use Rattle.smt_meaning.specs.Interpretations.{GiveSameOp, GiveSame, Agree, IsGiven, IsGivenOp, IsGivenSelector, IsInterpretation, IsOfOtherFamily, IsSelectorTable, IsTable, restrict, function_eq, selector_eq, extension_op_place, nothing, empty_table}
+use Rattle.smt_meaning.specs.Meaning.{AreTrue, meaning, meanings, field_meanings, term_value}
 use Rattle.smt_meaning.specs.Operators.{apply_extension, apply}
 use Rattle.smt_meaning.specs.Reached.{subterms, subterms_of_all, subterms_of_fields, reached_terms, reached_variables, reached_functions, reached_options, reached_selectors, variable_of, function_of, function_of_op, opened_of, opened_of_op, selector_of, selector_of_op, selector_of_extension}
-use Rattle.smt_meaning.specs.Tables.{Interpretation, value_at}
-use Rattle.smt_meaning.specs.Types.{type_eq}
+use Rattle.smt_meaning.specs.Tables.{Interpretation, Table, value_at}
+use Rattle.smt_meaning.specs.Types.{extension_signature, type_eq}
+use Rattle.smt_meaning.specs.TypeValues.{Enums, IsValue}
 use Rattle.smt_meaning.specs.Typing.{typed}
 use Rattle.smt_meaning.specs.ValueOrder.{set_of}
 use Rattle.smt_meaning.proofs.Matching.{or_first, or_second}
 use Rattle.smt_meaning.proofs.Soundness.{all-front, all-back, all-last}
 use Rattle.smt_meaning.proofs.TypeOrder.{type_itself}
 use Rattle.smt_meaning.proofs.ValueOrder.{bytes_itself}
-use Rattle.smt_meaning.specs.Plain.{PlainType, PlainTerm, Application, NoneTerm, LiteralTerm, RecordTerm, SetTerm, SomeTerm, VariableTerm, PlainTerms, no_terms, one_term, PlainFields, no_fields, one_field, PlainFunction, ExtensionOp, DatetimeValOp, DecimalValOp, DurationValOp, IpAddrV4Op, IpAddrV6Op, IpIsV4Op, IpPrefixV4Op, IpPrefixV6Op, PlainOp, AndOp, BvnegOp, BvnegoOp, EqOp, ExtOp, IteOp, NotOp, OptionGetOp, OrOp, RecordGetOp, SetInterOp, SetMemberOp, SetSubsetOp, StringLikeOp, UufOp, ZeroExtendOp, DecimalOf, Ipv4Of, Ipv6Of, DatetimeOf, DurationOf, BitsOp, TestOp, OverflowOp}
+use Rattle.smt_meaning.specs.Plain.{PlainType, ExtensionType, IpAddrKind, PlainTerm, Application, NoneTerm, LiteralTerm, RecordTerm, SetTerm, SomeTerm, VariableTerm, PlainTerms, no_terms, one_term, PlainFields, no_fields, one_field, PlainFunction, ExtensionOp, DatetimeValOp, DecimalValOp, DurationValOp, IpAddrV4Op, IpAddrV6Op, IpIsV4Op, IpPrefixV4Op, IpPrefixV6Op, PlainOp, AndOp, BvnegOp, BvnegoOp, EqOp, ExtOp, IteOp, NotOp, OptionGetOp, OrOp, RecordGetOp, SetInterOp, SetMemberOp, SetSubsetOp, StringLikeOp, UufOp, ZeroExtendOp, DecimalOf, Ipv4Of, Ipv6Of, DatetimeOf, DurationOf, BitsOp, TestOp, OverflowOp}
 use Rattle.smt_meaning.specs.Values.{Value, BoolValue, ExtensionValue, SomeValue, RecordValue, one_field_value}
 
 module _ (I J : Interpretation) where
@@ -151,3 +152,43 @@ module _ (ts : List PlainTerm) (I : Interpretation) where
   pub restricted : Agree ts I (restrict I ts)
   restricted =
       all_kept (reached_terms ts) (found variable_of variable_eq variable_itself (reached_terms ts)) (found function_of function_eq function_itself (reached_terms ts)) (found opened_of type_eq eq_itself (reached_terms ts)) (found selector_of selector_eq selector_itself (reached_terms ts))
+
+-- ---- interpretations that give the same
+
+module _ (enums : Enums) (I J : Interpretation) where
+  selector_too : (o : ExtensionOp) → I.other_family o ≡ J.other_family o → IsSelectorTable enums I o → IsSelectorTable enums J o
+  selector_too o same h = subst (λ (table : Table). IsTable (λ v. IsOfOtherFamily o v × IsValue enums (ExtensionType IpAddrKind) v) enums (extension_signature o).1 table) same h
+
+  extension_too : (o : ExtensionOp) → IfSome (selector_of_extension o) (λ s. I.other_family s ≡ J.other_family s) → IsGivenSelector enums I o → IsGivenSelector enums J o
+  extension_too IpAddrV4Op same h = selector_too IpAddrV4Op same h
+  extension_too IpAddrV6Op same h = selector_too IpAddrV6Op same h
+  extension_too IpPrefixV4Op same h = selector_too IpPrefixV4Op same h
+  extension_too IpPrefixV6Op same h = selector_too IpPrefixV6Op same h
+  extension_too o same h = tt
+
+  op_too : (o : PlainOp) (t : PlainType) → GiveSameOp I J o t → IsGivenOp enums I o t → IsGivenOp enums J o t
+  op_too (UufOp f) t same h = subst (λ (table : Table). IsTable (IsValue enums f.argument) enums f.output table) same h
+  op_too OptionGetOp t same h = subst (λ (v : Value). IsValue enums t v) same h
+  op_too (ExtOp o) t same h = extension_too o same h
+  op_too o t same h = tt
+
+  given_too : (t : PlainTerm) → GiveSame I J t → IsGiven enums I t → IsGiven enums J t
+  given_too (VariableTerm id t) same h = subst (λ (v : Value). IsValue enums t v) same h
+  given_too (Application o ts t) same h = op_too o t same h
+  given_too t same h = tt
+
+  all_too : (ts : List PlainTerm) → AllByRecursion (GiveSame I J) ts → AllByRecursion (IsGiven enums I) ts → AllByRecursion (IsGiven enums J) ts
+  all_too [] same h = tt
+  all_too (t ∷ ts) same h = (given_too t same.0 h.0, all_too ts same.1 h.1)
+
+  -- what agrees with an interpretation is one
+  pub agreeing : (ts : List PlainTerm) → Agree ts I J → IsInterpretation enums ts I → IsInterpretation enums ts J
+  agreeing ts same h = all_too (reached_terms ts) same h
+
+pub true_too : (I J : Interpretation) (ts : List PlainTerm) → AllByRecursion (λ t. term_value I t ≡ term_value J t) ts → AreTrue I ts → AreTrue J ts
+true_too I J [] same h = tt
+true_too I J (t ∷ ts) same h = (sym same.0 ∙ h.0, true_too I J ts same.1 h.1)
+
+pub true_before : (I J : Interpretation) (ts : List PlainTerm) → AllByRecursion (λ t. term_value I t ≡ term_value J t) ts → AreTrue J ts → AreTrue I ts
+true_before I J [] same h = tt
+true_before I J (t ∷ ts) same h = (same.0 ∙ h.0, true_before I J ts same.1 h.1)

@@ -57,6 +57,10 @@ pub none-first : (f g : Option Fault) → option_or f g ≡ None → f ≡ None
 none-first None g h = refl
 none-first (Some f) g h = cc
 
+pub none_both : (f g : Option Fault) → f ≡ None → g ≡ None → option_or f g ≡ None
+none_both None g h k = k
+none_both (Some f) g h k = cc
+
 pub none-second : (f g : Option Fault) → option_or f g ≡ None → g ≡ None
 none-second None g h = h
 none-second (Some f) g h = cc
@@ -160,7 +164,7 @@ module _ (enums : Enums) where
   extended_result k (BitVecType n) ty v h g = elim g [ ]
   extended_result k t ty v h g = cc
 
-  set_value : (t : PlainType) (vs : List Value) → AllByRecursion (λ v. IsValue enums t v) vs → IsValue enums (SetType t) (set_of vs)
+  pub set_value : (t : PlainType) (vs : List Value) → AllByRecursion (λ v. IsValue enums t v) vs → IsValue enums (SetType t) (set_of vs)
   set_value t vs h =
       (ap (ascends value_cmp) (list-values (sorted_values vs)) ∙ ascends-sorted vs, subst (AllByRecursion (λ v. IsValue enums t v)) (sym (list-values (sorted_values vs))) (all-sorted (λ v. IsValue enums t v) vs h))
 

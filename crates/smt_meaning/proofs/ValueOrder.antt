@@ -3,12 +3,14 @@ use Rattle.std.proofs.Common.{◌≡◌, ℕ, Bool, true, false, List, refl, ap,
 use Rattle.std.specs.Prelude.{bytes_eq, ℤ, pos, negsuc, Option, Some, None}
 use Rattle.std.specs.FinMap.{nat_cmp-IsAntisymmetric, slice_cmp-IsAntisymmetric}
 use Rattle.std.specs.Option.{option_cmp}
-use Rattle.std.specs.Ordering.{nat_cmp, bool_cmp, ordering_then, ordering_reverse}
+use Rattle.std.specs.Bool.{Decides}
+use Rattle.std.specs.Cmp.{Equal-is}
+use Rattle.std.specs.Ordering.{nat_cmp, bool_cmp, ordering_then, ordering_reverse, is_eq}
 use Rattle.std.specs.declared.cmp.Ordering.{Ordering}
 use Rattle.std.specs.declared.cmp.Ordering.TheVariants.{Less, Equal, Greater}
 use Rattle.std.proofs.lemmas.Cmp.{nat_cmp_total, nat_list_cmp_total}
 use Rattle.std.proofs.lemmas.Slice.Eq.{bytes_eq-Decides}
-use Rattle.smt_meaning.specs.ValueOrder.{text_cmp, twos_complement_cmp, extension_cmp, value_cmp, values_cmp, field_values_cmp}
+use Rattle.smt_meaning.specs.ValueOrder.{text_cmp, twos_complement_cmp, extension_cmp, value_cmp, value_eq, values_cmp, field_values_cmp}
 use Rattle.smt_meaning.specs.Plain.{PlainExtension, DecimalOf, Ipv4Of, Ipv6Of, DatetimeOf, DurationOf}
 use Rattle.smt_meaning.specs.Values.{Value, BoolValue, BitVecValue, StringValue, EntityValue, ExtensionValue, NoneValue, SomeValue, RecordValue, SetValue, Values, no_values, one_value, FieldValues, no_field_values, one_field_value}
 
@@ -166,6 +168,9 @@ own_turn Greater h = cc
 
 pub value_itself : (v : Value) → value_cmp v v ≡ Equal
 value_itself v = own_turn (value_cmp v v) (value_turned v v)
+
+pub values_decided : (v w : Value) → Decides (value_eq v w) (v ≡ w)
+values_decided v w = (λ h. value_same v w ((Equal-is (value_cmp v w)).0 h), λ e. sym (ap (λ u. value_eq v u) e) ∙ ap is_eq (value_itself v))
 
 pub text_itself : (s : List ℕ) → text_cmp s s ≡ Equal
 text_itself s = own_turn (text_cmp s s) (text_turned s s)

@@ -12,6 +12,7 @@ abbrev pub default_id : Option (List (List ℕ)) → List ℕ
 default_id (Some (m ∷ ms)) = chars m
 default_id members = []
 
+-- the number 0, and of IP addresses the IPv4 address 0 without prefix
 abbrev pub default_extension : ExtensionKind → PlainExtension
 default_extension IpAddrKind = Ipv4Of 0 None
 default_extension DecimalKind = DecimalOf (pos 0)
@@ -20,6 +21,7 @@ default_extension DurationKind = DurationOf (pos 0)
 
 module _ (enums : Enums) where
   abbrev mutual
+    -- A value of the type: none, 0, false, the empty text, an enum's first member, the empty set, and a record of these.
     pub default_value : PlainType → Value
     default_value (OptionType t) = NoneValue
     default_value (BitVecType n) = BitVecValue n 0
@@ -30,9 +32,11 @@ module _ (enums : Enums) where
     default_value (RecordType x) = RecordValue (default_fields x)
     default_value (SetType t) = SetValue no_values
 
+    -- the attributes of a record type, each with the default value of its type
     pub default_fields : AttributeTypes → FieldValues
     default_fields no_attributes = no_field_values
     default_fields (attribute a t x) = one_field_value a (default_value t) (default_fields x)
 
+  -- the interpretation that gives to all that is left open the default value of its type
   abbrev pub default_interpretation : Interpretation
   default_interpretation = record { variable = λ id t. default_value t; function = λ f. record { entries = []; elsewhere = default_value f.output }; inside_none = λ t. default_value t; other_family = λ o. record { entries = []; elsewhere = default_value (extension_signature o).1 } }

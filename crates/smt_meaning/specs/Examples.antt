@@ -20,32 +20,39 @@ use Rattle.smt_arithmetic.specs.BitOperators.{BvaddOp, BvshlOp, bits_operators, 
 use Rattle.smt_meaning.specs.Plain.{IpAddrKind, DecimalKind, PlainType, OptionType, BitVecType, BoolType, EntityType, ExtensionType, StringType, RecordType, SetType, no_attributes, attribute, PlainFunction, PatternPart, Character, Wildcard, DatetimeOfBitVecOp, DecimalValOp, IpAddrV4Op, IpAddrV6Op, IpIsV4Op, IpPrefixV4Op, IpPrefixV6Op, PlainOp, AndOp, BvnegOp, BvnegoOp, EqOp, ExtOp, IteOp, NotOp, OptionGetOp, OrOp, RecordGetOp, SetInterOp, SetMemberOp, SetSubsetOp, StringLikeOp, UufOp, ZeroExtendOp, PlainExtension, DecimalOf, Ipv4Of, Ipv6Of, DatetimeOf, BitVecLiteral, EntityLiteral, ExtensionLiteral, StringLiteral, PlainTerm, Application, NoneTerm, LiteralTerm, RecordTerm, SetTerm, SomeTerm, VariableTerm, no_terms, no_fields, one_field, terms, BitsOp, TestOp, OverflowOp}
 use Rattle.smt_meaning.specs.Values.{Value, BoolValue, BitVecValue, StringValue, EntityValue, ExtensionValue, NoneValue, SomeValue, RecordValue, SetValue, one_value, no_values, one_field_value, no_field_values}
 
--- patterns and sets
+-- the pattern `eng*`
 abbrev pub eng_star : List PatternPart
 eng_star = Character 101 ∷ Character 110 ∷ Character 103 ∷ Wildcard ∷ []
 
+-- the pattern `a*z`
 abbrev pub a_star_z : List PatternPart
 a_star_z = Character 97 ∷ Wildcard ∷ Character 122 ∷ []
 
+-- a number of 8 bits
 abbrev pub byte : ℕ → Value
 byte a = BitVecValue 8 a
 
+-- an IPv4 address without prefix
 abbrev pub ip : ℕ → Value
 ip a = ExtensionValue (Ipv4Of a None)
 
--- an interpretation with 7 for all that is left open
+-- an interpretation with 7 for all that is left open, but true for variables, and 2 for functions at 1
 abbrev pub sevens : Interpretation
 sevens = record { variable = λ id t. BoolValue true; function = λ f. record { entries = (byte 1, byte 2) ∷ []; elsewhere = byte 7 }; inside_none = λ t. byte 7; other_family = λ o. record { entries = []; elsewhere = BitVecValue 32 7 } }
 
+-- the truth value true
 abbrev pub yes : Value
 yes = BoolValue true
 
+-- the truth value false
 abbrev pub no : Value
 no = BoolValue false
 
+-- all operators from two bitvectors to bits
 abbrev pub bit_operators : List PlainOp
 bit_operators = map BitsOp bits_operators
 
+-- the four comparisons and the three overflow tests of two bitvectors
 abbrev pub bit_tests : List PlainOp
 bit_tests = map TestOp test_operators ++ map OverflowOp overflow_operators
 
@@ -57,15 +64,19 @@ at_two os v w = map (λ o. apply sevens o BoolType (v ∷ w ∷ [])) os
 abbrev pub at_each : PlainOp → List Value → List Value
 at_each o vs = map (λ v. apply sevens o BoolType (v ∷ [])) vs
 
+-- a function `f` from 8 bits to 8 bits
 abbrev pub a_function : PlainFunction
 a_function = record { id = codes "f"; argument = BitVecType 8; output = BitVecType 8 }
 
+-- a record with `a` 1 and `b` 2
 abbrev pub two_fields : Value
 two_fields = RecordValue (one_field_value (codes "a") (byte 1) (one_field_value (codes "b") (byte 2) no_field_values))
 
+-- operators at chosen values, patterns at chosen texts, and lists as sets
 pub record OperatorRows : Type 0 where
   pub likes : map (matches eng_star) (codes "eng" ∷ codes "engineering" ∷ codes "en" ∷ codes "Eng" ∷ codes "xeng" ∷ []) ≡ true ∷ true ∷ false ∷ false ∷ false ∷ []
   pub inner_wildcards : map (matches a_star_z) (codes "az" ∷ codes "abzz" ∷ codes "a" ∷ codes "abzy" ∷ []) ≡ true ∷ true ∷ false ∷ false ∷ []
+  -- sorted, each once
   pub sets : set_of (byte 2 ∷ byte 1 ∷ byte 2 ∷ []) ≡ SetValue (one_value (byte 1) (one_value (byte 2) no_values))
   -- by the bits, a negative number comes after those from 0 on
   pub signed_sets : set_of (ExtensionValue (DecimalOf (negsuc 0)) ∷ ExtensionValue (DecimalOf (pos 3)) ∷ []) ≡ SetValue (one_value (ExtensionValue (DecimalOf (pos 3))) (one_value (ExtensionValue (DecimalOf (negsuc 0))) no_values))
@@ -75,6 +86,7 @@ pub record OperatorRows : Type 0 where
   pub members : apply sevens SetMemberOp BoolType (byte 1 ∷ set_of (byte 2 ∷ []) ∷ []) ≡ BoolValue false
   pub extensions : apply sevens (ZeroExtendOp 8) BoolType (byte 5 ∷ []) ≡ BitVecValue 16 5
   pub inside : apply sevens OptionGetOp BoolType (SomeValue (byte 1) ∷ []) ≡ byte 1
+  -- at none, and below at the other family, the value is the interpretation's
   pub inside_none : apply sevens OptionGetOp BoolType (NoneValue ∷ []) ≡ byte 7
   pub addresses : apply sevens (ExtOp IpAddrV4Op) BoolType (ip 9 ∷ []) ≡ BitVecValue 32 9
   pub other_addresses : apply sevens (ExtOp IpAddrV4Op) BoolType (ExtensionValue (Ipv6Of 9 None) ∷ []) ≡ BitVecValue 32 7
@@ -82,8 +94,9 @@ pub record OperatorRows : Type 0 where
   pub one : at_two (AndOp ∷ OrOp ∷ EqOp ∷ []) yes no ≡ no ∷ yes ∷ no ∷ []
   pub neither : at_two (AndOp ∷ OrOp ∷ EqOp ∷ []) no no ≡ no ∷ no ∷ yes ∷ []
   pub choices : map (λ g. apply sevens IteOp BoolType (g ∷ byte 1 ∷ byte 2 ∷ [])) (yes ∷ no ∷ []) ≡ byte 1 ∷ byte 2 ∷ []
-  -- 249 is -7
+  -- 249 is -7; the ten operators give ten different answers at -7 and 3
   pub bits : at_two bit_operators (byte 249) (byte 3) ≡ map byte (252 ∷ 31 ∷ 235 ∷ 254 ∷ 200 ∷ 2 ∷ 255 ∷ 246 ∷ 83 ∷ 0 ∷ [])
+  -- no two of the seven tests agree at all five pairs from here on
   pub less : at_two bit_tests (byte 3) (byte 249) ≡ no ∷ no ∷ yes ∷ yes ∷ no ∷ no ∷ no ∷ []
   pub equal : at_two bit_tests (byte 16) (byte 16) ≡ yes ∷ no ∷ yes ∷ no ∷ no ∷ yes ∷ no ∷ []
   pub least : at_two bit_tests (byte 128) (byte 2) ≡ yes ∷ yes ∷ no ∷ no ∷ no ∷ yes ∷ yes ∷ []
@@ -102,37 +115,48 @@ pub record OperatorRows : Type 0 where
   pub long_addresses : at_each (ExtOp IpAddrV6Op) (ExtensionValue (Ipv6Of 9 None) ∷ ip 9 ∷ []) ≡ BitVecValue 128 9 ∷ BitVecValue 32 7 ∷ []
   pub long_prefixes : at_each (ExtOp IpPrefixV6Op) (ExtensionValue (Ipv6Of 9 (Some 127)) ∷ []) ≡ SomeValue (BitVecValue 7 127) ∷ []
   pub no_parts : map (matches []) ([] ∷ codes "a" ∷ []) ≡ true ∷ false ∷ []
+  -- equal neighbours do not ascend, nor does a list that falls later
   pub ascending : map (ascends nat_cmp) ((1 ∷ 2 ∷ 3 ∷ []) ∷ (1 ∷ 1 ∷ []) ∷ (1 ∷ 3 ∷ 2 ∷ []) ∷ [] ∷ []) ≡ true ∷ false ∷ false ∷ true ∷ []
 
--- terms
+-- ---- terms
+
+-- a string literal
 abbrev pub text : List ℕ → PlainTerm
 text s = LiteralTerm (StringLiteral s)
 
+-- a variable, by its id and type
 abbrev pub variable : List ℕ → PlainType → PlainTerm
 variable = VariableTerm
 
+-- the equality of two terms
 abbrev pub eq : PlainTerm → PlainTerm → PlainTerm
 eq t u = Application EqOp (terms (t ∷ u ∷ [])) BoolType
 
+-- `record.get` of an attribute, at any number of arguments
 abbrev pub get : List ℕ → List PlainTerm → PlainTerm
 get x ts = Application (RecordGetOp x) (terms ts) BoolType
 
+-- the enum types `Color`, with the members `a` and `b`, and `Void`, which has none
 abbrev pub colors : Enums
 colors = (codes "Color", codes "a" ∷ codes "b" ∷ []) ∷ (codes "Void", []) ∷ []
 
+-- the equality of a variable of the type `Color` with a literal
 abbrev pub color : List ℕ → PlainTerm
 color m = eq (variable (codes "c") (EntityType (codes "Color"))) (LiteralTerm (EntityLiteral (codes "Color") m))
 
+-- the enum type without members
 abbrev pub void : PlainType
 void = EntityType (codes "Void")
 
--- U+2FFFF and U+30000
+-- U+2FFFF in UTF-8, the greatest character of strings (theory UnicodeStrings)
 abbrev pub last_character : List ℕ
 last_character = 240 ∷ 175 ∷ 191 ∷ 191 ∷ []
 
+-- U+30000 in UTF-8, the first character that strings do not have
 abbrev pub past_last : List ℕ
 past_last = 240 ∷ 176 ∷ 128 ∷ 128 ∷ []
 
+-- the first faults of chosen terms
 pub record FaultRows : Type 0 where
   pub greatest : first_fault colors (text last_character ∷ []) ≡ None
   pub too_great : first_fault colors (text past_last ∷ []) ≡ Some (EncodeStringFailed past_last)
@@ -158,9 +182,11 @@ pub record FaultRows : Type 0 where
 
 -- ---- types
 
+-- the bitvectors of 8 bits
 abbrev pub bits_8 : PlainType
 bits_8 = BitVecType 8
 
+-- the bitvectors of 16 bits
 abbrev pub bits_16 : PlainType
 bits_16 = BitVecType 16
 
@@ -172,18 +198,23 @@ results os ts = map (λ o. result_type o ts) os
 abbrev pub results_at : PlainOp → List (List PlainType) → List (Option PlainType)
 results_at o tss = map (result_type o) tss
 
+-- one result type for each of some operators
 abbrev pub each_is : Option PlainType → List PlainOp → List (Option PlainType)
 each_is t os = map (λ o. t) os
 
+-- the records with `a` of Bool and `b` of 8 bits
 abbrev pub two_attributes : PlainType
 two_attributes = RecordType (attribute (codes "a") BoolType (attribute (codes "b") bits_8 no_attributes))
 
+-- a literal of 8 bits
 abbrev pub one_byte : ℕ → PlainTerm
 one_byte a = LiteralTerm (BitVecLiteral 8 a)
 
+-- a term that is not typed: `and` of one argument
 abbrev pub ill : PlainTerm
 ill = Application AndOp (terms (variable (codes "b") BoolType ∷ [])) BoolType
 
+-- types of chosen terms, result types of operators, and terms that are typed or not
 pub record TypeRows : Type 0 where
   pub of_parts : map type_of (NoneTerm bits_8 ∷ SomeTerm (one_byte 1) ∷ SetTerm bits_8 no_terms ∷ RecordTerm (one_field (codes "a") (text []) no_fields) ∷ LiteralTerm (EntityLiteral (codes "User") (codes "i")) ∷ LiteralTerm (ExtensionLiteral (Ipv6Of 0 None)) ∷ [])
       ≡ OptionType bits_8 ∷ OptionType bits_8 ∷ SetType bits_8 ∷ RecordType (attribute (codes "a") StringType no_attributes) ∷ EntityType (codes "User") ∷ ExtensionType IpAddrKind ∷ []
@@ -197,6 +228,7 @@ pub record TypeRows : Type 0 where
   pub chosen : results_at IteOp ((BoolType ∷ bits_8 ∷ bits_8 ∷ []) ∷ (bits_8 ∷ bits_8 ∷ bits_8 ∷ []) ∷ (BoolType ∷ bits_8 ∷ bits_16 ∷ []) ∷ []) ≡ Some bits_8 ∷ None ∷ None ∷ []
   pub negations : results (BvnegOp ∷ BvnegoOp ∷ []) (bits_8 ∷ []) ≡ Some bits_8 ∷ Some BoolType ∷ []
   pub no_negations : results (BvnegOp ∷ BvnegoOp ∷ []) (BoolType ∷ []) ≡ None ∷ None ∷ []
+  -- 64 bits become 128 at most
   pub wider : map (λ k. result_type (ZeroExtendOp k) (BitVecType 64 ∷ [])) (0 ∷ 64 ∷ 65 ∷ []) ≡ Some (BitVecType 64) ∷ Some (BitVecType 128) ∷ None ∷ []
   pub members : results_at SetMemberOp ((bits_8 ∷ SetType bits_8 ∷ []) ∷ (bits_8 ∷ SetType bits_16 ∷ []) ∷ (SetType bits_8 ∷ bits_8 ∷ []) ∷ []) ≡ Some BoolType ∷ None ∷ None ∷ []
   pub sets : results (SetSubsetOp ∷ SetInterOp ∷ []) (SetType bits_8 ∷ SetType bits_8 ∷ []) ≡ Some BoolType ∷ Some (SetType bits_8) ∷ []
@@ -217,11 +249,13 @@ pub record TypeRows : Type 0 where
 
 -- ---- values of types
 
+-- a set of one or two numbers of 8 bits, in the order in which they are given
 abbrev pub set_value : List ℕ → Value
 set_value [] = SetValue no_values
 set_value (a ∷ []) = SetValue (one_value (byte a) no_values)
 set_value (a ∷ b ∷ cs) = SetValue (one_value (byte a) (one_value (byte b) no_values))
 
+-- the last values of each type and the first past them, and default values
 pub record ValueRows : Type 0 where
   pub last_byte : IsValue [] bits_8 (byte 255)
   pub past_byte : IsValue [] bits_8 (byte 256) → ⊥
@@ -254,27 +288,35 @@ pub record ValueRows : Type 0 where
 
 -- ---- what is reached, and who gives it
 
+-- a literal of an extension type
 abbrev pub extension : PlainExtension → PlainTerm
 extension x = LiteralTerm (ExtensionLiteral x)
 
+-- a variable of 8 bits
 abbrev pub x : PlainTerm
 x = variable (codes "x") bits_8
 
+-- another variable of 8 bits
 abbrev pub y : PlainTerm
 y = variable (codes "y") bits_8
 
+-- `option.get` of a variable
 abbrev pub inside_o : PlainTerm
 inside_o = Application OptionGetOp (terms (variable (codes "o") (OptionType bits_8) ∷ [])) bits_8
 
+-- the application of `f` to a term
 abbrev pub f_of : PlainTerm → PlainTerm
 f_of t = Application (UufOp a_function) (terms (t ∷ [])) bits_8
 
+-- the IPv4 address of a variable: a selector of IP ranges
 abbrev pub address_of : PlainTerm
 address_of = Application (ExtOp IpAddrV4Op) (terms (variable (codes "i") (ExtensionType IpAddrKind) ∷ [])) (BitVecType 32)
 
+-- the family of a variable: an operator that is no selector
 abbrev pub family_of : PlainTerm
 family_of = Application (ExtOp IpIsV4Op) (terms (variable (codes "i") (ExtensionType IpAddrKind) ∷ [])) BoolType
 
+-- what chosen terms reach, and what of it `sevens` gives
 pub record ReachedRows : Type 0 where
   pub parts_first : subterms (eq x (SomeTerm y)) ≡ x ∷ y ∷ SomeTerm y ∷ eq x (SomeTerm y) ∷ []
   pub variables : reached_variables (eq y x ∷ x ∷ []) ≡ (codes "y", bits_8) ∷ (codes "x", bits_8) ∷ (codes "x", bits_8) ∷ []
@@ -296,22 +338,26 @@ pub record ReachedRows : Type 0 where
   pub other_family : IsOfOtherFamily IpAddrV4Op (ExtensionValue (Ipv6Of 9 None))
   pub own_family : IsOfOtherFamily IpAddrV4Op (ip 9) → ⊥
 
+-- the rows of types, of values and of what is reached, and the values of chosen terms
 pub record TermRows : Type 0 where
   pub types : TypeRows
   pub values : ValueRows
   pub reached : ReachedRows
+  -- two variables with one value are one element
   pub sets : meaning sevens (SetTerm BoolType (terms (variable (codes "p") BoolType ∷ variable (codes "q") BoolType ∷ []))) ≡ SetValue (one_value yes no_values)
+  -- each attribute has the value of its own term
   pub records : meaning sevens (RecordTerm (one_field (codes "a") (one_byte 1) (one_field (codes "b") (one_byte 2) no_fields))) ≡ two_fields
   pub options : map (meaning sevens) (NoneTerm bits_8 ∷ SomeTerm (one_byte 1) ∷ []) ≡ NoneValue ∷ SomeValue (byte 1) ∷ []
   pub ids : meaning sevens (LiteralTerm (EntityLiteral (codes "User") last_character)) ≡ EntityValue (codes "User") (196607 ∷ [])
   pub negation : term_value sevens (Application NotOp (terms (variable (codes "b") BoolType ∷ [])) BoolType) ≡ BoolValue false
   pub ill_typed : typed (Application AndOp (terms (variable (codes "b") BoolType ∷ [])) BoolType) ≡ false
+  -- a term that is not typed is false
   pub ill_typed_value : term_value sevens (SomeTerm (Application AndOp (terms (variable (codes "b") BoolType ∷ [])) BoolType)) ≡ BoolValue false
   pub shifted : term_value sevens (eq (Application (BitsOp BvshlOp) (terms (LiteralTerm (BitVecLiteral 64 1) ∷ LiteralTerm (BitVecLiteral 64 4294967296) ∷ [])) (BitVecType 64)) (LiteralTerm (BitVecLiteral 64 0))) ≡ BoolValue true
   pub past_ascii : term_value sevens (text last_character) ≡ StringValue (196607 ∷ [])
   pub too_wide : typed (Application (ZeroExtendOp 100) (terms (LiteralTerm (BitVecLiteral 64 1) ∷ [])) (BitVecType 164)) ≡ false
 
--- two literals whose terms stand the other way round than their values
+-- pairs of literals whose terms stand the other way round than their values
 pub record OrderRows : Type 0 where
   pub negative_terms : term_cmp (extension (DecimalOf (negsuc 0))) (extension (DecimalOf (pos 3))) ≡ Less
   pub negative_values : value_cmp (ExtensionValue (DecimalOf (negsuc 0))) (ExtensionValue (DecimalOf (pos 3))) ≡ Greater

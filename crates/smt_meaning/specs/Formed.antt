@@ -7,19 +7,22 @@ use Rattle.smt_meaning.specs.TypeValues.{IsExtension}
 use Rattle.smt_meaning.specs.ValueOrder.{text_cmp, ascends}
 use Rattle.smt_meaning.specs.Plain.{IpAddrKind, DecimalKind, DatetimeKind, DurationKind, PlainType, BitVecType, RecordType, AttributeTypes, no_attributes, attribute, PlainExtension, DecimalOf, Ipv4Of, Ipv6Of, DatetimeOf, DurationOf, PlainLiteral, BitVecLiteral, BoolLiteral, EntityLiteral, ExtensionLiteral, StringLiteral, PlainTerm, LiteralTerm}
 
+-- the names of a record type's attributes, in order
 abbrev pub attribute_names : AttributeTypes → List (List ℕ)
 attribute_names no_attributes = []
 attribute_names (attribute a t x) = a ∷ attribute_names x
 
--- one type by itself, and with all types inside it
+-- a type by itself: a width is from 1 to 128, and attributes ascend strictly by their bytes
 abbrev pub IsFormedHere : PlainType → Type 0
 IsFormedHere (BitVecType n) = (1 ≤ n) × (n ≤ 128)
 IsFormedHere (RecordType x) = IsTrue (ascends text_cmp (attribute_names x))
 IsFormedHere t = ⊤
 
+-- the type and all types inside it are formed
 abbrev pub IsFormedType : PlainType → Type 0
 IsFormedType t = AllByRecursion IsFormedHere (types_within t)
 
+-- a value within the range of its extension type
 abbrev pub IsFormedExtension : PlainExtension → Type 0
 IsFormedExtension (DecimalOf z) = IsExtension DecimalKind (DecimalOf z)
 IsFormedExtension (Ipv4Of a p) = IsExtension IpAddrKind (Ipv4Of a p)
@@ -27,6 +30,7 @@ IsFormedExtension (Ipv6Of a p) = IsExtension IpAddrKind (Ipv6Of a p)
 IsFormedExtension (DatetimeOf z) = IsExtension DatetimeKind (DatetimeOf z)
 IsFormedExtension (DurationOf z) = IsExtension DurationKind (DurationOf z)
 
+-- a number below 2 to the width, a text in UTF-8, a value within the range of its extension type
 abbrev pub IsFormedLiteral : PlainLiteral → Type 0
 IsFormedLiteral (BitVecLiteral n a) = a < 2 ^ n
 IsFormedLiteral (BoolLiteral b) = ⊤
@@ -34,11 +38,13 @@ IsFormedLiteral (EntityLiteral e i) = IsUtf8 i
 IsFormedLiteral (ExtensionLiteral x) = IsFormedExtension x
 IsFormedLiteral (StringLiteral s) = IsUtf8 s
 
--- one term by itself, and with all its subterms
+-- a term by itself: where it is a literal, the literal is formed
 abbrev pub IsFormedNode : PlainTerm → Type 0
 IsFormedNode (LiteralTerm l) = IsFormedLiteral l
 IsFormedNode t = ⊤
 
+-- What the program's types keep of every term, and typing does not ask: the literals in the term and the types of all its subterms
+-- are formed.
 pub record IsFormed (t : PlainTerm) : Type 0 where
   pub literals : AllByRecursion IsFormedNode (subterms t)
   pub types : AllByRecursion (λ u. IsFormedType (type_of u)) (subterms t)

@@ -15,15 +15,18 @@ pub record PlainDefinition : Type 0 where
   pub entries : List (PlainTerm × PlainTerm)
   pub elsewhere : PlainTerm
 
--- a function that an interpretation gives, or one that a table defines
+-- A function that an interpretation gives, or one that a table defines. No term has one of the second kind: it is applied while
+-- terms are built, by folding.
 pub data PlainUnary : Type 0 where
   Uninterpreted : PlainFunction → PlainUnary
   Defined : PlainDefinition → PlainUnary
 
+-- the type of the arguments that a function takes
 abbrev pub argument_type : PlainUnary → PlainType
 argument_type (Uninterpreted f) = f.argument
 argument_type (Defined f) = f.argument
 
+-- the type of the values that a function gives
 abbrev pub output_type : PlainUnary → PlainType
 output_type (Uninterpreted f) = f.output
 output_type (Defined f) = f.output
@@ -52,6 +55,7 @@ pub record IsTypedDefinition (f : PlainDefinition) : Type 0 where
   pub answers : AllByRecursion (λ e. Typed e.1 f.output) f.entries
   pub elsewhere : Typed f.elsewhere f.output
 
+-- the terms that define a function are typed with its types; one that an interpretation gives has none
 abbrev pub IsTypedFunction : PlainUnary → Type 0
 IsTypedFunction (Uninterpreted f) = ⊤
 IsTypedFunction (Defined f) = IsTypedDefinition f

@@ -9,11 +9,12 @@ use Rattle.smt_meaning.specs.ValueOrder.{value_eq}
 use Rattle.smt_meaning.specs.Plain.{IpAddrKind, PlainType, ExtensionType, PlainFunction, ExtensionOp, DatetimeOfBitVecOp, DatetimeValOp, DecimalValOp, DurationOfBitVecOp, DurationValOp, IpAddrV4Op, IpAddrV6Op, IpIsV4Op, IpPrefixV4Op, IpPrefixV6Op, PlainOp, ExtOp, OptionGetOp, UufOp, PlainTerm, Application, VariableTerm, Ipv4Of, Ipv6Of}
 use Rattle.smt_meaning.specs.Values.{Value, BoolValue, ExtensionValue}
 
+-- no value stands twice
 abbrev pub AreDistinct : List Value → Type 0
 AreDistinct [] = ⊤
 AreDistinct (v ∷ vs) = IsFalse (list_any (value_eq v) vs) × AreDistinct vs
 
--- a table from the keys that P takes to the values of a type
+-- a table from keys that P takes, no key twice, to values of a type
 pub record IsTable (P : Value → Type 0) (enums : Enums) (out : PlainType) (table : Table) : Type 0 where
   pub keys : AllByRecursion (λ e. P e.0) table.entries
   pub distinct : AreDistinct (map (λ e. e.0) table.entries)
@@ -28,9 +29,11 @@ IsOfOtherFamily IpAddrV6Op (ExtensionValue (Ipv4Of a p)) = ⊤
 IsOfOtherFamily IpPrefixV6Op (ExtensionValue (Ipv4Of a p)) = ⊤
 IsOfOtherFamily o v = ⊥
 
+-- I has for a selector a table from IP ranges of the other family to values of the type that the selector gives
 abbrev pub IsSelectorTable : Enums → Interpretation → ExtensionOp → Type 0
 IsSelectorTable enums I o = IsTable (λ v. IsOfOtherFamily o v × IsValue enums (ExtensionType IpAddrKind) v) enums (extension_signature o).1 (I.other_family o)
 
+-- I gives what a selector of IP ranges asks of it; the other operators of extension types ask nothing
 abbrev pub IsGivenSelector : Enums → Interpretation → ExtensionOp → Type 0
 IsGivenSelector enums I IpAddrV4Op = IsSelectorTable enums I IpAddrV4Op
 IsGivenSelector enums I IpAddrV6Op = IsSelectorTable enums I IpAddrV6Op
@@ -51,17 +54,19 @@ IsGiven enums I (VariableTerm id t) = IsValue enums t (I.variable id t)
 IsGiven enums I (Application o ts t) = IsGivenOp enums I o t
 IsGiven enums I t = ⊤
 
--- I gives values of their types to all that the terms reach
+-- I gives values of their types to all that the terms reach (SMT-LIB 2.7, chapter 5, "Logical Semantics"). What they do not reach
+-- is free.
 abbrev pub IsInterpretation : Enums → List PlainTerm → Interpretation → Type 0
 IsInterpretation enums ts I = AllByRecursion (IsGiven enums I) (reached_terms ts)
 
--- I and J give a term the same
+-- I and J give the same to an operator: to a function its table, to `option.get` its value at none, to a selector its table
 abbrev pub GiveSameOp : Interpretation → Interpretation → PlainOp → PlainType → Type 0
 GiveSameOp I J (UufOp f) t = I.function f ≡ J.function f
 GiveSameOp I J OptionGetOp t = I.inside_none t ≡ J.inside_none t
 GiveSameOp I J (ExtOp o) t = IfSome (selector_of_extension o) (λ s. I.other_family s ≡ J.other_family s)
 GiveSameOp I J o t = ⊤
 
+-- I and J give a term the same: a variable its value, and an application what its operator asks for
 abbrev pub GiveSame : Interpretation → Interpretation → PlainTerm → Type 0
 GiveSame I J (VariableTerm id t) = I.variable id t ≡ J.variable id t
 GiveSame I J (Application o ts t) = GiveSameOp I J o t
@@ -71,10 +76,11 @@ GiveSame I J t = ⊤
 abbrev pub Agree : List PlainTerm → Interpretation → Interpretation → Type 0
 Agree ts I J = AllByRecursion (GiveSame I J) (reached_terms ts)
 
--- equality of functions and of selectors, as tests
+-- equality of functions, as a test
 abbrev pub function_eq : PlainFunction → PlainFunction → Bool
 function_eq f g = bytes_eq f.id g.id && (type_eq f.argument g.argument && type_eq f.output g.output)
 
+-- the place of an operator of extension types in the order of operators
 abbrev pub extension_op_place : ExtensionOp → ℕ
 extension_op_place DatetimeOfBitVecOp = 0
 extension_op_place DatetimeValOp = 1
@@ -87,6 +93,7 @@ extension_op_place IpIsV4Op = 7
 extension_op_place IpPrefixV4Op = 8
 extension_op_place IpPrefixV6Op = 9
 
+-- equality of operators of extension types, as a test
 abbrev pub selector_eq : ExtensionOp → ExtensionOp → Bool
 selector_eq o p = extension_op_place o == extension_op_place p
 
@@ -94,9 +101,10 @@ selector_eq o p = extension_op_place o == extension_op_place p
 abbrev pub nothing : Value
 nothing = BoolValue false
 
+-- the table that stands where the terms reach no function and no selector
 abbrev pub empty_table : Table
 empty_table = record { entries = []; elsewhere = nothing }
 
--- what the terms reach of I
+-- what the terms reach of I, and nothing else of it
 abbrev pub restrict : Interpretation → List PlainTerm → Interpretation
 restrict I ts = record { variable = λ id t. cond (list_any (λ x. bytes_eq x.0 id && type_eq x.1 t) (reached_variables ts)) (I.variable id t) nothing; function = λ f. cond (list_any (function_eq f) (reached_functions ts)) (I.function f) empty_table; inside_none = λ t. cond (list_any (type_eq t) (reached_options ts)) (I.inside_none t) nothing; other_family = λ o. cond (list_any (selector_eq o) (reached_selectors ts)) (I.other_family o) empty_table }

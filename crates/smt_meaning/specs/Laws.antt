@@ -41,37 +41,46 @@ Utf8KeepsOrder = (s t : List ℕ) → IsUtf8 s → IsUtf8 t → text_cmp s t ≡
 abbrev pub TypedTermsGetAttributes : Type 0
 TypedTermsGetAttributes = (enums : Enums) (t : PlainTerm) → IsTrue (typed t) → IfSome (term_fault enums t) (λ f. is_about_records f ≡ false)
 
--- the orders of types, of patterns and their parts, of operators and of terms are total
+-- the order of types is total
 abbrev pub TypeOrderIsTotal : Type 0
 TypeOrderIsTotal = IsTotalOrder type_cmp
 
+-- the order of the parts of patterns is total
 abbrev pub PartOrderIsTotal : Type 0
 PartOrderIsTotal = IsTotalOrder part_cmp
 
+-- the order of patterns is total
 abbrev pub PatternOrderIsTotal : Type 0
 PatternOrderIsTotal = IsTotalOrder pattern_cmp
 
+-- the order of operators is total
 abbrev pub OpOrderIsTotal : Type 0
 OpOrderIsTotal = IsTotalOrder op_cmp
 
+-- the order of terms is total
 abbrev pub TermOrderIsTotal : Type 0
 TermOrderIsTotal = IsTotalOrder term_cmp
 
--- the tests of equality decide it
+-- the test of equality of types decides it
 abbrev pub TypeEqualityIsDecided : Type 0
 TypeEqualityIsDecided = (t u : PlainType) → Decides (type_eq t u) (t ≡ u)
 
+-- the test of equality of functions decides it
 abbrev pub FunctionEqualityIsDecided : Type 0
 FunctionEqualityIsDecided = (f g : PlainFunction) → Decides (function_eq f g) (f ≡ g)
 
+-- two parts of patterns are the same exactly where their order says so
 abbrev pub PartEqualityIsDecided : Type 0
 PartEqualityIsDecided = (x y : PatternPart) → Decides (is_eq (part_cmp x y)) (x ≡ y)
 
+-- two patterns are the same exactly where their order says so
 abbrev pub PatternEqualityIsDecided : Type 0
 PatternEqualityIsDecided = (p q : List PatternPart) → Decides (is_eq (pattern_cmp p q)) (p ≡ q)
 
+-- two operators are the same exactly where their order says so
 abbrev pub OpEqualityIsDecided : Type 0
 OpEqualityIsDecided = (o p : PlainOp) → Decides (is_eq (op_cmp o p)) (o ≡ p)
 
+-- the test of equality of terms decides it
 abbrev pub TermEqualityIsDecided : Type 0
 TermEqualityIsDecided = (t u : PlainTerm) → Decides (term_eq t u) (t ≡ u)

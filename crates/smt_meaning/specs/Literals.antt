@@ -7,6 +7,7 @@ use Rattle.smt_meaning.specs.Typing.{Typed}
 use Rattle.smt_meaning.specs.Plain.{PlainType, PlainTerm, Application, NoneTerm, LiteralTerm, RecordTerm, SetTerm, SomeTerm, VariableTerm, PlainTerms, no_terms, one_term, PlainFields, no_fields, one_field}
 
 abbrev mutual
+  -- a term with no variable and no application in it
   pub is_literal : PlainTerm → Bool
   is_literal (Application o ts t) = false
   is_literal (NoneTerm t) = true
@@ -16,10 +17,12 @@ abbrev mutual
   is_literal (SomeTerm t) = is_literal t
   is_literal (VariableTerm id t) = false
 
+  -- each of the terms is a literal
   pub are_literals : PlainTerms → Bool
   are_literals no_terms = true
   are_literals (one_term t ts) = is_literal t && are_literals ts
 
+  -- the term of each field is a literal
   pub are_literal_fields : PlainFields → Bool
   are_literal_fields no_fields = true
   are_literal_fields (one_field a t fs) = is_literal t && are_literal_fields fs

@@ -3,7 +3,7 @@ use Rattle.std.specs.Prelude.{ℕ, List, codes}
 use Rattle.smt_arithmetic.specs.BitOperators.{bits_entry, test_entry, overflow_entry}
 use Rattle.smt_meaning.specs.Plain.{ExtensionOp, DatetimeOfBitVecOp, DatetimeValOp, DecimalValOp, DurationOfBitVecOp, DurationValOp, IpAddrV4Op, IpAddrV6Op, IpIsV4Op, IpPrefixV4Op, IpPrefixV6Op, PlainOp, AndOp, BvnegOp, BvnegoOp, EqOp, ExtOp, IteOp, NotOp, OptionGetOp, OrOp, RecordGetOp, SetInterOp, SetMemberOp, SetSubsetOp, StringLikeOp, UufOp, ZeroExtendOp, BitsOp, TestOp, OverflowOp}
 
--- each operator of the extension types by itself
+-- the name of each operator of extension types by itself, by which jobs call it
 abbrev pub extension_op_name : ExtensionOp → List ℕ
 extension_op_name DatetimeOfBitVecOp = codes "datetime.ofBitVec"
 extension_op_name DatetimeValOp = codes "datetime.val"
@@ -16,7 +16,8 @@ extension_op_name IpIsV4Op = codes "ipaddr.isV4"
 extension_op_name IpPrefixV4Op = codes "ipaddr.prefixV4"
 extension_op_name IpPrefixV6Op = codes "ipaddr.prefixV6"
 
--- as operators of terms they have one name for all
+-- The name of an operator, by which jobs call it, and scripts where they have no other name for it. The operators of extension types
+-- have one name for all.
 abbrev pub op_name : PlainOp → List ℕ
 op_name AndOp = codes "and"
 op_name (BitsOp o) = (bits_entry o).name

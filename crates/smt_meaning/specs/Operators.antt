@@ -10,42 +10,52 @@ use Rattle.smt_meaning.specs.ValueOrder.{value_eq, list_of_values, set_of}
 use Rattle.smt_meaning.specs.Plain.{PlainType, ExtensionOp, DatetimeOfBitVecOp, DatetimeValOp, DecimalValOp, DurationOfBitVecOp, DurationValOp, IpAddrV4Op, IpAddrV6Op, IpIsV4Op, IpPrefixV4Op, IpPrefixV6Op, PlainOp, AndOp, BvnegOp, BvnegoOp, EqOp, ExtOp, IteOp, NotOp, OptionGetOp, OrOp, RecordGetOp, SetInterOp, SetMemberOp, SetSubsetOp, StringLikeOp, UufOp, ZeroExtendOp, DecimalOf, Ipv4Of, Ipv6Of, DatetimeOf, DurationOf, BitsOp, TestOp, OverflowOp}
 use Rattle.smt_meaning.specs.Values.{Value, BoolValue, BitVecValue, StringValue, ExtensionValue, NoneValue, SomeValue, RecordValue, SetValue, FieldValues, no_field_values, one_field_value}
 
--- what a value holds, where it is of the kind
+-- What a value holds, where it is of the kind. What these give for other values is no matter: typed terms do not come to it.
+
+-- the truth of a Boolean
 abbrev pub truth : Value → Bool
 truth (BoolValue b) = b
 truth v = false
 
+-- the width of a bitvector
 abbrev pub width : Value → ℕ
 width (BitVecValue n a) = n
 width v = 0
 
+-- the number of a bitvector
 abbrev pub number : Value → ℕ
 number (BitVecValue n a) = a
 number v = 0
 
+-- the code points of a string
 abbrev pub characters : Value → List ℕ
 characters (StringValue s) = s
 characters v = []
 
+-- the elements of a set, in order
 abbrev pub elements : Value → List Value
 elements (SetValue vs) = list_of_values vs
 elements v = []
 
+-- the value of the first field of this attribute
 abbrev pub field_value : List ℕ → FieldValues → Value
 field_value x no_field_values = BoolValue false
 field_value x (one_field_value a v fs) = elim (bytes_eq x a) [ true ↦ v | false ↦ field_value x fs ]
 
+-- the value of an attribute of a record
 abbrev pub attribute_value : List ℕ → Value → Value
 attribute_value x (RecordValue fs) = field_value x fs
 attribute_value x v = BoolValue false
 
--- sets by their elements (the theory of finite sets of cvc5)
+-- whether a value is among the elements of a set (cvc5's finite sets, set.member)
 abbrev pub is_member : Value → List Value → Bool
 is_member v vs = list_any (value_eq v) vs
 
+-- whether each element of the first set is one of the second (cvc5's finite sets, set.subset)
 abbrev pub is_subset : List Value → List Value → Bool
 is_subset vs ws = list_all (λ v. is_member v ws) vs
 
+-- the elements of the first set that are in the second (cvc5's finite sets, set.inter)
 abbrev pub intersection : List Value → List Value → List Value
 intersection vs ws = filter (λ v. is_member v ws) vs
 
@@ -54,12 +64,14 @@ abbrev pub value_inside : Value → Value → Value
 value_inside default (SomeValue v) = v
 value_inside default v = default
 
--- prefix bits as an option
+-- the prefix of an IP range, as an option of n bits; none where there is no prefix
 abbrev pub prefix_value : ℕ → Option ℕ → Value
 prefix_value n None = NoneValue
 prefix_value n (Some p) = SomeValue (BitVecValue n p)
 
--- operators of the extension types; a selector at the other family is the interpretation's
+-- The value of an operator of an extension type: the bits of a number in two's complement, the number of such bits, or a part of
+-- an IP range. A selector at a range of the other family is the interpretation's, since SMT-LIB leaves a selector open at a value
+-- of another constructor.
 abbrev pub apply_extension : Interpretation → ExtensionOp → Value → Value
 apply_extension I DecimalValOp (ExtensionValue (DecimalOf z)) = BitVecValue 64 (bits_of 64 z)
 apply_extension I DatetimeValOp (ExtensionValue (DatetimeOf z)) = BitVecValue 64 (bits_of 64 z)
@@ -77,14 +89,17 @@ apply_extension I IpPrefixV4Op v = value_at (I.other_family IpPrefixV4Op) v
 apply_extension I IpPrefixV6Op v = value_at (I.other_family IpPrefixV6Op) v
 apply_extension I o v = BoolValue false
 
--- the bits and the truth that an operation on bits gives
+-- the bits that an operation on two bitvectors gives, in the width of the first
 abbrev pub to_bits : (ℕ → ℕ → ℕ → ℕ) → Value → Value → Value
 to_bits f a b = BitVecValue (width a) (f (width a) (number a) (number b))
 
+-- the truth that a test of two bitvectors gives, by the width of the first
 abbrev pub to_truth : (ℕ → ℕ → ℕ → Bool) → Value → Value → Value
 to_truth f a b = BoolValue (f (width a) (number a) (number b))
 
--- the value of an operator with this result type at these arguments
+-- The value of an operator with this result type at these arguments, as the theories Core, FixedSizeBitVectors and UnicodeStrings,
+-- the logic QF_BV and cvc5's finite sets define it. A function has the interpretation's table, and `option.get` of none the
+-- interpretation's value for the result type. At arguments that no typed term has, the value is false.
 abbrev pub apply : Interpretation → PlainOp → PlainType → List Value → Value
 apply I NotOp t (a ∷ []) = BoolValue (not (truth a))
 apply I AndOp t (a ∷ b ∷ []) = BoolValue (truth a && truth b)

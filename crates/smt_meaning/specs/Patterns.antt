@@ -3,7 +3,7 @@
 use Rattle.std.specs.Prelude.{◌≡◌, ℕ, Bool, true, false, ◌&&◌, ◌||◌, ◌==◌, List, [], ◌∷◌, ◌++◌, Decides}
 use Rattle.smt_meaning.specs.Plain.{PatternPart, Character, Wildcard}
 
--- a character is itself, and a wildcard any list of characters
+-- The list is one that the pattern takes: a character is itself, and a wildcard any list of characters.
 abbrev pub Matches : List PatternPart → List ℕ → Type 0
 Matches [] s = s ≡ []
 Matches (Character c ∷ p) s = (rest : List ℕ) × (s ≡ c ∷ rest) × Matches p rest
@@ -14,7 +14,7 @@ abbrev pub some_end : (List ℕ → Bool) → List ℕ → Bool
 some_end test [] = test []
 some_end test (c ∷ s) = test (c ∷ s) || some_end test s
 
--- the same as a test
+-- whether the pattern takes the list, as a test; the meaning of terms and that of scripts both have it from here
 abbrev pub matches : List PatternPart → List ℕ → Bool
 matches [] [] = true
 matches [] (c ∷ s) = false
@@ -22,5 +22,6 @@ matches (Character c ∷ p) [] = false
 matches (Character c ∷ p) (d ∷ s) = c == d && matches p s
 matches (Wildcard ∷ p) s = some_end (λ rest. matches p rest) s
 
+-- the test says exactly when a pattern matches
 abbrev pub MatchingIsDecided : Type 0
 MatchingIsDecided = (p : List PatternPart) (s : List ℕ) → Decides (matches p s) (Matches p s)

@@ -3,14 +3,16 @@ use Rattle.std.specs.Prelude.{◌≡◌, ℕ, Bool, List, [], ◌∷◌}
 pub use Rattle.smt_arithmetic.specs.BitOperators.{BitsOperator, TestOperator, OverflowOperator}
 pub use Rattle.smt_arithmetic.specs.Extensions.{PlainExtension, DecimalOf, Ipv4Of, Ipv6Of, DatetimeOf, DurationOf}
 
+-- the extension types: IP addresses, decimals, datetimes and durations
 pub data ExtensionKind : Type 0 where
   IpAddrKind : ExtensionKind
   DecimalKind : ExtensionKind
   DatetimeKind : ExtensionKind
   DurationKind : ExtensionKind
 
--- a type; the attributes of a record ascend strictly by their bytes
 mutual
+  -- A type. Bool, bitvectors, strings and sets are sorts of SMT-LIB and of cvc5's finite sets; options, entities of a named type,
+  -- values of an extension type and records are datatypes in a script.
   pub data PlainType : Type 0 where
     OptionType : PlainType → PlainType
     BitVecType : (width : ℕ) → PlainType
@@ -21,16 +23,18 @@ mutual
     RecordType : AttributeTypes → PlainType
     SetType : PlainType → PlainType
 
+  -- the attributes of a record type, each with its type; in a formed type they ascend strictly by their bytes
   pub data AttributeTypes : Type 0 where
     no_attributes : AttributeTypes
     attribute : (name : List ℕ) → PlainType → AttributeTypes → AttributeTypes
 
--- an uninterpreted function
+-- an uninterpreted function of one argument: its id, and the types of its argument and of what it gives
 pub record PlainFunction : Type 0 where
   pub id : List ℕ
   pub argument : PlainType
   pub output : PlainType
 
+-- the operators of extension types: bits of a value, a value from its bits, and the family, address and prefix of an IP range
 pub data ExtensionOp : Type 0 where
   DatetimeOfBitVecOp : ExtensionOp
   DatetimeValOp : ExtensionOp
@@ -43,12 +47,14 @@ pub data ExtensionOp : Type 0 where
   IpPrefixV4Op : ExtensionOp
   IpPrefixV6Op : ExtensionOp
 
--- a character of a pattern is its code point
+-- a part of a pattern: a character by its code point, or a wildcard, which stands for any characters
 pub data PatternPart : Type 0 where
   Character : ℕ → PatternPart
   Wildcard : PatternPart
 
--- an operator; those of two bitvectors stand in three classes
+-- An operator: those of Core, of bitvectors (theory FixedSizeBitVectors and logic QF_BV; those of two bitvectors stand in three
+-- classes), of finite sets (cvc5) and of extension types; the part of an option or of a record, the match of a pattern, and the
+-- application of a function. Each takes a fixed number of arguments: `and` and `or` take two.
 pub data PlainOp : Type 0 where
   AndOp : PlainOp
   BitsOp : BitsOperator → PlainOp
@@ -70,6 +76,7 @@ pub data PlainOp : Type 0 where
   UufOp : PlainFunction → PlainOp
   ZeroExtendOp : (bits : ℕ) → PlainOp
 
+-- a literal: bits by width and number, a truth value, an entity by type and id, a value of an extension type, or a string
 pub data PlainLiteral : Type 0 where
   BitVecLiteral : (width number : ℕ) → PlainLiteral
   BoolLiteral : Bool → PlainLiteral
@@ -77,8 +84,10 @@ pub data PlainLiteral : Type 0 where
   ExtensionLiteral : PlainExtension → PlainLiteral
   StringLiteral : List ℕ → PlainLiteral
 
--- a term; the elements of a set ascend strictly by the order of terms, the attributes of a record by their bytes
 mutual
+  -- A term. An application has the type that is claimed for it, `NoneTerm` the type that the option would have inside. In a typed
+  -- term the elements of a set ascend strictly by the order of terms, in a formed one the attributes of a record by their bytes.
+  -- Left out are quantifiers, `let`, arrays and numbers without bound.
   pub data PlainTerm : Type 0 where
     Application : PlainOp → PlainTerms → (type : PlainType) → PlainTerm
     NoneTerm : PlainType → PlainTerm
@@ -88,21 +97,26 @@ mutual
     SomeTerm : PlainTerm → PlainTerm
     VariableTerm : (id : List ℕ) → PlainType → PlainTerm
 
+  -- the arguments of an application, or the elements of a set, in order
   pub data PlainTerms : Type 0 where
     no_terms : PlainTerms
     one_term : PlainTerm → PlainTerms → PlainTerms
 
+  -- the fields of a record: each attribute with its term
   pub data PlainFields : Type 0 where
     no_fields : PlainFields
     one_field : (attribute : List ℕ) → PlainTerm → PlainFields → PlainFields
 
+-- a list of terms, in the form in which terms have their parts
 abbrev pub terms : List PlainTerm → PlainTerms
 terms [] = no_terms
 terms (t ∷ ts) = one_term t (terms ts)
 
+-- the parts of a term, as a list
 abbrev pub list_of_terms : PlainTerms → List PlainTerm
 list_of_terms no_terms = []
 list_of_terms (one_term t ts) = t ∷ list_of_terms ts
 
+-- a list of terms that is put into a term's form comes out of it the same
 abbrev pub RoundTrip : Type 0
 RoundTrip = (ts : List PlainTerm) → list_of_terms (terms ts) ≡ ts

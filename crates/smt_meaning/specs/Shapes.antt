@@ -12,6 +12,7 @@ use Rattle.smt_meaning.specs.Plain.{PlainType, OptionType, BitVecType, BoolType,
 use Rattle.smt_meaning.specs.Values.{Value, BoolValue, BitVecValue, StringValue, EntityValue, ExtensionValue, NoneValue, SomeValue, RecordValue, SetValue, FieldValues, no_field_values, one_field_value}
 
 abbrev mutual
+  -- a value has the shape of a type: as a value of the type, but with any code points, and any id of an entity
   pub IsShaped : PlainType → Value → Type 0
   IsShaped BoolType (BoolValue b) = ⊤
   IsShaped (BitVecType n) (BitVecValue m a) = (m ≡ n) × (a < 2 ^ n)

@@ -22,6 +22,7 @@ part_cmp Wildcard Wildcard = Equal
 abbrev pub pattern_cmp : List PatternPart → List PatternPart → Ordering
 pattern_cmp p q = slice_cmp part_cmp p q
 
+-- functions by their id, and then by the types of their argument and of what they give
 abbrev pub function_cmp : PlainFunction → PlainFunction → Ordering
 function_cmp f g = ordering_then (text_cmp f.id g.id) (ordering_then (type_cmp f.argument g.argument) (type_cmp f.output g.output))
 
@@ -56,9 +57,11 @@ op_fields_cmp (UufOp f) (UufOp g) = function_cmp f g
 op_fields_cmp (ZeroExtendOp k) (ZeroExtendOp l) = nat_cmp k l
 op_fields_cmp o p = Equal
 
+-- operators by their place, and those of one variant by what they hold
 abbrev pub op_cmp : PlainOp → PlainOp → Ordering
 op_cmp o p = ordering_then (nat_cmp (op_place o) (op_place p)) (op_fields_cmp o p)
 
+-- the place of a literal's kind
 abbrev pub literal_place : PlainLiteral → ℕ
 literal_place (BitVecLiteral n a) = 0
 literal_place (BoolLiteral b) = 1
@@ -66,6 +69,7 @@ literal_place (EntityLiteral e i) = 2
 literal_place (ExtensionLiteral x) = 3
 literal_place (StringLiteral s) = 4
 
+-- literals by their kind, and then part by part; values of extension types have the order of the program's values
 abbrev pub literal_cmp : PlainLiteral → PlainLiteral → Ordering
 literal_cmp (BitVecLiteral n a) (BitVecLiteral m b) = ordering_then (nat_cmp n m) (nat_cmp a b)
 literal_cmp (BoolLiteral b) (BoolLiteral c) = bool_cmp b c
@@ -74,6 +78,7 @@ literal_cmp (ExtensionLiteral x) (ExtensionLiteral y) = extension_literal_cmp x 
 literal_cmp (StringLiteral s) (StringLiteral t) = text_cmp s t
 literal_cmp l m = nat_cmp (literal_place l) (literal_place m)
 
+-- the place of a term's kind
 abbrev pub term_place : PlainTerm → ℕ
 term_place (Application o ts t) = 0
 term_place (NoneTerm t) = 1
@@ -84,6 +89,7 @@ term_place (SomeTerm t) = 5
 term_place (VariableTerm id t) = 6
 
 abbrev mutual
+  -- the order of terms, by kind and then part by part, in which the elements of a set stand; it is not the order of their values
   pub term_cmp : PlainTerm → PlainTerm → Ordering
   term_cmp (Application o ts t) (Application p us u) = ordering_then (op_cmp o p) (ordering_then (terms_cmp ts us) (type_cmp t u))
   term_cmp (NoneTerm t) (NoneTerm u) = type_cmp t u
@@ -94,12 +100,14 @@ abbrev mutual
   term_cmp (VariableTerm a t) (VariableTerm b u) = ordering_then (text_cmp a b) (type_cmp t u)
   term_cmp t u = nat_cmp (term_place t) (term_place u)
 
+  -- lists of terms by their first difference, a proper prefix first
   pub terms_cmp : PlainTerms → PlainTerms → Ordering
   terms_cmp no_terms no_terms = Equal
   terms_cmp no_terms (one_term u us) = Less
   terms_cmp (one_term t ts) no_terms = Greater
   terms_cmp (one_term t ts) (one_term u us) = ordering_then (term_cmp t u) (terms_cmp ts us)
 
+  -- records at their first difference, by the attribute and then the term, a proper prefix first
   pub fields_cmp : PlainFields → PlainFields → Ordering
   fields_cmp no_fields no_fields = Equal
   fields_cmp no_fields (one_field b u gs) = Less

@@ -12,6 +12,6 @@ sorted_terms ts = sorted term_cmp ts
 abbrev pub set_term : PlainType → List PlainTerm → PlainTerm
 set_term element ts = SetTerm element (terms (sorted_terms ts))
 
--- they ascend, and are the terms of the list
+-- the terms of a list in order ascend, and are those of the list
 abbrev pub SortedTermsAscend : Type 0
 SortedTermsAscend = (ts : List PlainTerm) → IsTrue (ascends term_cmp (sorted_terms ts)) × ((t : PlainTerm) → Contains (sorted_terms ts) t ↔ Contains ts t)

@@ -17,7 +17,7 @@ Enums = List (List ℕ × List (List ℕ))
 abbrev pub members_of : Enums → List ℕ → Option (List (List ℕ))
 members_of enums e = lookup (bytes_eq e) enums
 
--- the code points of characters
+-- characters of strings: the code points 0 to 196607, surrogates among them (theory UnicodeStrings)
 abbrev pub AreCodePoints : List ℕ → Type 0
 AreCodePoints s = AllByRecursion (λ c. c ≤ greatest_code_point) s
 
@@ -30,6 +30,8 @@ IsId (Some members) i = IsTrue (list_any (λ m. bytes_eq (chars m) i) members)
 abbrev pub IsPrefix : ℕ → Option ℕ → Type 0
 IsPrefix n p = IfSome p (λ k. k < 2 ^ n)
 
+-- A value of an extension type: a decimal, datetime or duration of 64 bits with sign; an IPv4 address of 32 bits or an IPv6 address
+-- of 128 bits, perhaps with a prefix of 5 or 7 bits. No prefix is the whole address.
 abbrev pub IsExtension : ExtensionKind → PlainExtension → Type 0
 IsExtension DecimalKind (DecimalOf z) = IsLong z
 IsExtension DatetimeKind (DatetimeOf z) = IsLong z
@@ -39,6 +41,9 @@ IsExtension IpAddrKind (Ipv6Of a p) = (a < 2 ^ 128) × IsPrefix 7 p
 IsExtension k x = ⊥
 
 abbrev mutual
+  -- A value of a type (theories Core, FixedSizeBitVectors and UnicodeStrings, and cvc5's finite sets): a number below 2 to the width;
+  -- a string of code points; an entity of the type, of an enum type a member; a record with exactly the attributes of the type; a set
+  -- whose elements are of the element type and ascend strictly.
   pub IsValue : Enums → PlainType → Value → Type 0
   IsValue enums BoolType (BoolValue b) = ⊤
   IsValue enums (BitVecType n) (BitVecValue m a) = (m ≡ n) × (a < 2 ^ n)

@@ -10,9 +10,9 @@ use Rattle.smt_meaning.specs.Plain.{PlainType, BoolType, PlainTerm, Application,
 abbrev pub are_elements : PlainType → PlainTerms → Bool
 are_elements t ts = list_all (type_eq t) (types_of ts) && ascends term_cmp (list_of_terms ts)
 
--- a term whose every application has the argument types of its operator and the result type, and whose every set has
--- elements of its element type in their order
 abbrev mutual
+  -- A term whose every application has the argument types of its operator and the result type, and whose every set has elements of
+  -- its element type in their order. No type can ask the order of a set, since the order of terms is made of their parts.
   pub typed : PlainTerm → Bool
   typed (Application o ts t) = typed_all ts && is_type (result_type o (types_of ts)) t
   typed (NoneTerm t) = true
@@ -22,14 +22,17 @@ abbrev mutual
   typed (SomeTerm t) = typed t
   typed (VariableTerm id t) = true
 
+  -- each of the terms is typed
   pub typed_all : PlainTerms → Bool
   typed_all no_terms = true
   typed_all (one_term t ts) = typed t && typed_all ts
 
+  -- the term of each field is typed
   pub typed_fields : PlainFields → Bool
   typed_fields no_fields = true
   typed_fields (one_field a t fs) = typed t && typed_fields fs
 
+-- a term is typed, and this is its type
 pub record Typed (t : PlainTerm) (ty : PlainType) : Type 0 where
   pub parts : IsTrue (typed t)
   pub type : type_of t ≡ ty

@@ -29,6 +29,7 @@ extension_place (DurationOf z) = 2
 extension_place (Ipv4Of a p) = 3
 extension_place (Ipv6Of a p) = 4
 
+-- the order of extension values: by kind, and then by the bits of the number, or by the address and then no prefix before a prefix
 abbrev pub extension_cmp : PlainExtension → PlainExtension → Ordering
 extension_cmp (DecimalOf x) (DecimalOf y) = twos_complement_cmp x y
 extension_cmp (DatetimeOf x) (DatetimeOf y) = twos_complement_cmp x y
@@ -49,8 +50,9 @@ value_place (SomeValue v) = 6
 value_place (RecordValue fs) = 7
 value_place (SetValue vs) = 8
 
--- the order of values: by kind, then part by part at the first difference
 abbrev mutual
+  -- The order of values: by kind, then part by part at the first difference. It is a choice of ours, by which a set is one list; it
+  -- has no meaning in SMT-LIB.
   pub value_cmp : Value → Value → Ordering
   value_cmp (BoolValue a) (BoolValue b) = bool_cmp a b
   value_cmp (BitVecValue n a) (BitVecValue m b) = ordering_then (nat_cmp n m) (nat_cmp a b)
@@ -62,12 +64,14 @@ abbrev mutual
   value_cmp (SetValue vs) (SetValue ws) = values_cmp vs ws
   value_cmp v w = nat_cmp (value_place v) (value_place w)
 
+  -- lists of elements by their first difference, a proper prefix first
   pub values_cmp : Values → Values → Ordering
   values_cmp no_values no_values = Equal
   values_cmp no_values (one_value w ws) = Less
   values_cmp (one_value v vs) no_values = Greater
   values_cmp (one_value v vs) (one_value w ws) = ordering_then (value_cmp v w) (values_cmp vs ws)
 
+  -- records at their first difference, by the attribute and then the value, a proper prefix first
   pub field_values_cmp : FieldValues → FieldValues → Ordering
   field_values_cmp no_field_values no_field_values = Equal
   field_values_cmp no_field_values (one_field_value b w gs) = Less
@@ -78,11 +82,12 @@ abbrev mutual
 abbrev pub value_eq : Value → Value → Bool
 value_eq v w = is_eq (value_cmp v w)
 
--- the items ascend strictly
+-- an item stands strictly before the first of a list, where the list has one
 abbrev pub is_below : {K : Type 0} → (K → K → Ordering) → K → List K → Bool
 is_below cmp k [] = true
 is_below cmp k (x ∷ xs) = is_lt (cmp k x)
 
+-- the items ascend strictly: each stands before the next
 abbrev pub ascends : {K : Type 0} → (K → K → Ordering) → List K → Bool
 ascends cmp [] = true
 ascends cmp (x ∷ xs) = is_below cmp x xs && ascends cmp xs
@@ -92,24 +97,28 @@ abbrev pub sorted : {K : Type 0} → (K → K → Ordering) → List K → List 
 sorted cmp [] = []
 sorted cmp (k ∷ ks) = insert_key cmp (sorted cmp ks) k
 
+-- the values in order, each once
 abbrev pub sorted_values : List Value → List Value
 sorted_values vs = sorted value_cmp vs
 
+-- a list of values, in the form in which a set has its elements
 abbrev pub values : List Value → Values
 values [] = no_values
 values (v ∷ vs) = one_value v (values vs)
 
+-- the elements of a set, as a list
 abbrev pub list_of_values : Values → List Value
 list_of_values no_values = []
 list_of_values (one_value v vs) = v ∷ list_of_values vs
 
--- the set of the values of a list
+-- the set of the values of a list, in any order and with repeats
 abbrev pub set_of : List Value → Value
 set_of vs = SetValue (values (sorted_values vs))
 
--- the test decides equality
+-- the test of equality of values decides it
 abbrev pub EqualityIsDecided : Type 0
 EqualityIsDecided = (v w : Value) → Decides (value_eq v w) (v ≡ w)
 
+-- the order of values is total
 abbrev pub OrderIsTotal : Type 0
 OrderIsTotal = IsTotalOrder value_cmp

@@ -2,9 +2,10 @@
 use Rattle.std.specs.Prelude.{ℕ, Bool, List}
 use Rattle.smt_meaning.specs.Plain.{PlainExtension}
 
--- A value, as terms have it. Strings and ids are lists of code points. The order of values goes by kind in the order
--- of these constructors, and then part by part.
 mutual
+  -- A value, as terms have it. Strings and ids are lists of code points. A set is the list of its elements in order, each once, so
+  -- that two sets with the same elements are one value. The order of values goes by kind in the order of these constructors, and
+  -- then part by part.
   pub data Value : Type 0 where
     BoolValue : Bool → Value
     BitVecValue : (width number : ℕ) → Value
@@ -16,10 +17,12 @@ mutual
     RecordValue : FieldValues → Value
     SetValue : Values → Value
 
+  -- the elements of a set
   pub data Values : Type 0 where
     no_values : Values
     one_value : Value → Values → Values
 
+  -- the fields of a record: each attribute with its value
   pub data FieldValues : Type 0 where
     no_field_values : FieldValues
     one_field_value : (attribute : List ℕ) → Value → FieldValues → FieldValues

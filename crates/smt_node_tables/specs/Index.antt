@@ -12,10 +12,11 @@ use Rattle.smt_node_tables.specs.declared.node.Node.{Node}
 use Rattle.smt_node_tables.specs.declared.table.Key.{Key}
 use Rattle.smt_node_tables.specs.declared.table.Table.{Table}
 
--- the number of a label, and the number of the node that a key finds
+-- the number that a table gives a label
 abbrev pub number_of : Table → Label → Option ℕ
 number_of t l = get label_order.ghosts.cmp t.labels l
 
+-- the number of the node that a key finds
 abbrev pub id_at : Table → Key → Option NodeId
 id_at t k = get key_order.ghosts.cmp t.ids k
 

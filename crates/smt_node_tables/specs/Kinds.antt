@@ -4,7 +4,7 @@ use Rattle.smt_meaning.specs.Plain.{PlainLiteral, BitVecLiteral, BoolLiteral, En
 use Rattle.smt_meaning.specs.Types.{extension_kind_place, kind_of}
 use Rattle.smt_graph.specs.Nodes.{PlainLabel, OptionLabel, BitVecLabel, BoolLabel, EntityLabel, ExtensionLabel, StringLabel, RecordLabel, SetLabel, FunctionLabel}
 
--- labels of types, of functions and of terms
+-- a label of types
 abbrev pub is_type_label : PlainLabel → Bool
 is_type_label OptionLabel = true
 is_type_label (BitVecLabel n) = true
@@ -16,10 +16,12 @@ is_type_label (RecordLabel names) = true
 is_type_label SetLabel = true
 is_type_label l = false
 
+-- a label of functions
 abbrev pub is_function_label : PlainLabel → Bool
 is_function_label (FunctionLabel id) = true
 is_function_label l = false
 
+-- a label of terms: all that are none of types or functions
 abbrev pub is_term_label : PlainLabel → Bool
 is_term_label OptionLabel = false
 is_term_label (BitVecLabel n) = false

@@ -13,7 +13,7 @@ use Rattle.smt_node_tables.specs.declared.id.NodeId.{NodeId}
 use Rattle.smt_node_tables.specs.declared.order.Difference.{Difference}
 use Rattle.smt_node_tables.specs.declared.order.Difference.TheVariants.{Nowhere, At, Length}
 
--- the order of labels: by their place, and those of one place by what they hold
+-- the place of a label in the order of labels
 abbrev pub label_place : PlainLabel → ℕ
 label_place OptionLabel = 0
 label_place (BitVecLabel n) = 1
@@ -33,6 +33,7 @@ label_place SetOfLabel = 14
 label_place SomeLabel = 15
 label_place (VariableLabel id) = 16
 
+-- the order of labels: by their place, and those of one place by what they hold
 abbrev pub label_cmp : PlainLabel → PlainLabel → Ordering
 label_cmp (BitVecLabel n) (BitVecLabel m) = nat_cmp n m
 label_cmp (EntityLabel e) (EntityLabel f) = text_cmp e f

@@ -16,10 +16,11 @@ use Rattle.smt_node_tables.specs.declared.node.Label.{Label}
 use Rattle.smt_node_tables.specs.declared.node.Label.TheVariants.{TOption, TBitvec, TBool, TEntity, TExt, TString, TRecord, TSet, Fun, App, Call, NoneOf, Prim, RecordOf, SetOf, SomeOf, Var}
 use Rattle.smt_node_tables.specs.declared.node.Node.{Node}
 
+-- the place of the node that a number names, in the list of all nodes
 abbrev pub place_of : NodeId → ℕ
 place_of id = id.place
 
--- the numbers of a list, and their places
+-- the numbers that a list of parts holds, however it is kept
 abbrev pub ids_in : Items → List NodeId
 ids_in Empty = []
 ids_in (One ids) = ids
@@ -27,12 +28,15 @@ ids_in (Two ids) = ids
 ids_in (Three ids) = ids
 ids_in (More ids) = rc_slice_items ids
 
+-- the numbers of a list of parts
 abbrev pub ids_of : IdList → List NodeId
 ids_of list = ids_in list.items
 
+-- the places of numbers, in order
 abbrev pub places_of : List NodeId → List ℕ
 places_of ids = map place_of ids
 
+-- what a label of the program says
 abbrev pub plain_label : Label → PlainLabel
 plain_label TOption = OptionLabel
 plain_label (TBitvec n) = BitVecLabel (bits_in n)
@@ -52,5 +56,6 @@ plain_label SetOf = SetOfLabel
 plain_label SomeOf = SomeLabel
 plain_label (Var id) = VariableLabel (rc_str_bytes id)
 
+-- what a node of the program says: its label, and the places of its parts
 abbrev pub plain_node : Node → PlainNode
 plain_node node = record { label = plain_label node.label; parts = places_of (ids_of node.parts) }

@@ -38,11 +38,12 @@ enter_by p t sort s = enter_term t (entry_name p s) (entry_lines p (entry_name p
 abbrev pub selector : (attribute : List ℕ) → PlainType → Tables → Expression
 selector a t s = name (attribute_name (text_of_name (name_of_type s t)) (attribute_place a t))
 
--- what an application begins with; of `record.get` it is the selector at the type of the operand
+-- what an application begins with: of `record.get` the selector at the type of its operand, and of any other operator its spelling
 abbrev pub head_at : PlainOp → PlainTerms → Tables → Expression
 head_at (RecordGetOp a) ts s = selector a (first_type ts) s
 head_at op ts s = operator_head op
 
+-- the same of a term, where it is an application
 abbrev pub head_in : PlainTerm → Tables → Expression
 head_in (Application op ts type) s = head_at op ts s
 head_in t s = name []
@@ -53,7 +54,7 @@ application_entry (Rendered (AsEqualsIntMin width)) op head es = ByBody (least_b
 application_entry (Rendered AsFalse) op head es = ByName (bool_name false)
 application_entry how op head es = ByBody (application_body head op es)
 
--- the last before the others
+-- a list with its last item before the others
 abbrev pub last_first : {A : Type 0} → List A → List A
 last_first xs = drop (length xs - 1) xs ++ take (length xs - 1) xs
 
@@ -106,11 +107,12 @@ inline_by SetLabel (sort ∷ []) = Some (set_sort sort)
 inline_by (LiteralLabel l) es = literal_text l
 inline_by l es = None
 
--- how a term's own line is written
+-- how the own line of an application is written, by its operator, its arguments and the type that is claimed
 abbrev pub op_rendering : PlainOp → PlainTerms → PlainType → NodeRendering
 op_rendering (UufOp f) ts type = AsCall
 op_rendering op ts type = Rendered (application_rendering op ts type)
 
+-- the same of what a node stands for
 abbrev pub rendering_in : Meaning → NodeRendering
 rendering_in (TermMeaning (Application op ts type)) = op_rendering op ts type
 rendering_in m = Rendered AsApplication
@@ -125,94 +127,107 @@ has_inline SetLabel n = nat_eq n 1
 has_inline (LiteralLabel l) n = is_some (literal_text l)
 has_inline l n = false
 
--- the overflow test of a negation, a call, the type of truth values, the width of a type of bitvectors
+-- the label of `bvnego`, the overflow test of a negation
 abbrev pub is_negation_label : PlainLabel → Bool
 is_negation_label (ApplicationLabel BvnegoOp) = true
 is_negation_label l = false
 
+-- the label of a call of a function
 abbrev pub is_call_label : PlainLabel → Bool
 is_call_label CallLabel = true
 is_call_label l = false
 
+-- the type is Bool
 abbrev pub is_truth_type : PlainType → Bool
 is_truth_type BoolType = true
 is_truth_type t = false
 
+-- the width of a type of bitvectors
 abbrev pub width_of_type : PlainType → Option ℕ
 width_of_type (BitVecType width) = Some width
 width_of_type t = None
 
--- the second behind the others
+-- a list with its second item behind the others
 abbrev pub second_last : {A : Type 0} → List A → List A
 second_last (x ∷ y ∷ xs) = x ∷ (xs ++ y ∷ [])
 second_last xs = xs
 
--- what is written before the node itself, in order: all parts, of a call the function behind the arguments; of what is written as `false` the type alone
+-- What is written before the node itself, in order: all parts, of a call with the function behind the arguments; of what is written as
+-- `false` the type alone.
 abbrev pub written_parts : {A : Type 0} → NodeRendering → List A → List A
 written_parts AsCall ms = second_last ms
 written_parts (Rendered AsFalse) ms = take 1 ms
 written_parts how ms = ms
 
--- what is written of the node itself, by the texts of its parts
+-- what is written of a node that has no text of its own, by the texts of its parts
 abbrev pub entered_by : Enums → PlainLabel → NodeRendering → Meaning → List Expression → Tables → Written Expression
 entered_by enums l how (TermMeaning t) (sort ∷ es) s = enter_by (entry_by enums l how (head_in t s) sort es) t sort s
 entered_by enums l how (TypeMeaning t) es s = declare_by enums l t es s
 entered_by enums l how (FunctionMeaning f) es s = declare_function f es s
 entered_by enums l how m es s = made_of (name []) s
 
+-- what is written of the node itself, by the texts of its parts: nothing where it has a text of its own, and else its own lines
 abbrev pub own_by : Enums → PlainLabel → NodeRendering → Meaning → List Expression → Tables → Written Expression
 own_by enums l how m es s = elim (inline_by l es) [ Some e ↦ made_of e s | None ↦ entered_by enums l how m es s ]
 
+-- the same of what a node stands for
 abbrev pub own_lines : Enums → Meaning → List Expression → Tables → Written Expression
 own_lines enums m es s = own_by enums (label_in m) (rendering_in m) m es s
 
--- the fault of a literal's text, and of an entity type, an entity or an application's head, apart from those of the parts
+-- the fault of a literal that has a text of its own
 abbrev pub inline_fault : PlainLabel → Option Fault
 inline_fault (LiteralLabel l) = string_fault l
 inline_fault l = None
 
+-- the fault of an entity literal: it is no member of its enum type, or its id has a character that no string has
 abbrev pub literal_entry_fault : Enums → PlainLiteral → Option Fault
 literal_entry_fault enums (EntityLiteral e i) = entity_fault e i (members_of enums e)
 literal_entry_fault enums l = None
 
+-- the fault of a pattern with a character that no string has, where the application is written by its head
 abbrev pub application_fault : NodeRendering → PlainOp → Option Fault
 application_fault (Rendered (AsEqualsIntMin width)) op = None
 application_fault (Rendered AsFalse) op = None
 application_fault how op = pattern_fault op
 
+-- the fault of a label's own lines, apart from those of the parts
 abbrev pub entry_fault : Enums → PlainLabel → NodeRendering → Option Fault
 entry_fault enums (EntityLabel e) how = entity_type_fault e (members_of enums e)
 entry_fault enums (ApplicationLabel op) how = application_fault how op
 entry_fault enums (LiteralLabel l) how = literal_entry_fault enums l
 entry_fault enums l how = None
 
--- the fault of what an application begins with: of `record.get` by the types of its operands
+-- the fault of what an application begins with: of `record.get`, by the types of its operands
 abbrev pub head_fault : PlainOp → PlainTerms → Option Fault
 head_fault (RecordGetOp a) ts = record_get_fault a (types_of ts)
 head_fault op ts = None
 
+-- the same of what a node stands for
 abbrev pub selection_fault : Meaning → Option Fault
 selection_fault (TermMeaning (Application op ts type)) = head_fault op ts
 selection_fault m = None
 
+-- the fault of a node, apart from those of its parts: of its text, then of what it begins with, then of its own lines
 abbrev pub own_fault : Enums → PlainLabel → NodeRendering → (head : Option Fault) → Option Fault
 own_fault enums l how head = option_or (inline_fault l) (option_or head (entry_fault enums l how))
 
--- what the program has nodes for: all but a function as an operator, since a function at arguments is a call
+-- an operator that the program has in applications: all but a function, since a function at arguments is a call
 abbrev pub is_built_op : PlainOp → Bool
 is_built_op (UufOp f) = false
 is_built_op o = true
 
+-- a label that the program has nodes for
 abbrev pub is_built : PlainLabel → Bool
 is_built (ApplicationLabel o) = is_built_op o
 is_built l = true
 
--- labels of terms that have entries
+-- a literal that has an entry: entities and values of extension types
 abbrev pub is_entered_literal : PlainLiteral → Bool
 is_entered_literal (EntityLiteral e i) = true
 is_entered_literal (ExtensionLiteral x) = true
 is_entered_literal l = false
 
+-- a label of terms that have entries
 abbrev pub is_entered : PlainLabel → Bool
 is_entered (ApplicationLabel o) = true
 is_entered CallLabel = true
@@ -224,7 +239,7 @@ is_entered SomeLabel = true
 is_entered (VariableLabel id) = true
 is_entered l = false
 
--- labels of types that have entries, and of functions
+-- a label of types that have entries, or of functions
 abbrev pub is_declared : PlainLabel → Bool
 is_declared (EntityLabel e) = true
 is_declared (ExtensionLabel k) = true

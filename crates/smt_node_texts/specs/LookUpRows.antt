@@ -18,6 +18,7 @@ doubled = node (BitVecLabel 64) [] ∷ node BoolLabel [] ∷ node (VariableLabel
 abbrev pub attribute_taken : List PlainNode
 attribute_taken = node BoolLabel [] ∷ node (RecordLabel (codes "a" ∷ [])) (0 ∷ []) ∷ node (VariableLabel (codes "r")) (1 ∷ []) ∷ node (ApplicationLabel (RecordGetOp (codes "a"))) (0 ∷ 2 ∷ []) ∷ []
 
+-- how many look-ups writing takes of a negation, of doubled sums, which are shared, and of an attribute
 pub record LookUpRows : Type 0 where
   -- all nodes of a list are a set that has the parts of its nodes
   pub all_are_closed : (nodes : List PlainNode) → IsClosed nodes (λ place. true)

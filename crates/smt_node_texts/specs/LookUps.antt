@@ -8,7 +8,7 @@ use Rattle.smt_nodes.specs.declared.interner.Interner.{Interner}
 use Rattle.smt_node_texts.specs.Texts.{kept_at}
 use Rattle.smt_node_texts.specs.declared.node_names.NodeNames.{NodeNames}
 
--- A set of nodes, by their places, that has the parts of its nodes too.
+-- A set of nodes, by their places, that has the parts of its nodes too: what is written is such a set.
 abbrev pub IsClosed : List PlainNode → (ℕ → Bool) → Type 0
 IsClosed nodes has = (place : ℕ) (node : PlainNode) → slice_get nodes place ≡ Some node → IsTrue (has place) → AllByRecursion (λ part. IsTrue (has part)) node.parts
 
@@ -31,9 +31,10 @@ abbrev pub look_ups_from : (ℕ → Bool) → (place : ℕ) → List PlainNode �
 look_ups_from has place [] = 0
 look_ups_from has place (node ∷ nodes) = look_ups_at (has place) node + look_ups_from has (suc place) nodes
 
+-- how many look-ups the nodes of a set take together
 abbrev pub look_ups : (ℕ → Bool) → List PlainNode → ℕ
 look_ups has nodes = look_ups_from has 0 nodes
 
--- the same of the nodes of a set that have no text yet
+-- how many look-ups the nodes of a set take together that have no text yet
 abbrev pub look_ups_left : (ℕ → Bool) → Interner → NodeNames → ℕ
 look_ups_left has nodes names = look_ups (λ place. has place && is_none (kept_at names.texts.items place)) (nodes_of nodes)

@@ -12,24 +12,28 @@ use Rattle.smt_node_texts.specs.NodeTexts.{text_at, HasName, IsText}
 use Rattle.smt_node_texts.specs.declared.names.Names.{Names}
 use Rattle.smt_node_texts.specs.declared.node_names.NodeNames.{NodeNames}
 
--- the enum types over which nodes have these texts, and the nodes
+-- the enum types over which nodes have these texts
 abbrev pub enums_under : Names → Enums
 enums_under n = enums_of n.enums.now
 
+-- the nodes that have these texts
 abbrev pub nodes_under : Names → Interner
 nodes_under n = n.nodes
 
+-- the texts of the nodes
 abbrev pub texts_under : Names → NodeNames
 texts_under n = n.texts
 
--- The names are these tables: each type, each function and each term has the name that it has there, and there are as many.
+-- The names are these tables: each type, each function and each term has the name that it has there, or none, and there are as many
+-- names of each kind.
 pub record AreTables (n : Names) (s : Tables) : Type 0 where
   pub names : (m : Meaning) → HasName n.nodes n.texts m (name_in s m)
   pub terms : n.texts.terms ≡ length s.terms
   pub types : n.texts.types ≡ length s.types
   pub functions : n.texts.functions ≡ length s.functions
 
--- The same, and what has no entry has its stated text, where one is kept.
+-- The names are these tables, as above, and what has no entry has its stated text, where one is kept: as a set type of entities, whose
+-- text has a name of the tables in it.
 pub record KeepTables (n : Names) (s : Tables) : Type 0 where
   pub names : (m : Meaning) → HasName n.nodes n.texts m (name_in s m)
   pub inline : (id : NodeId) (m : Meaning) (text : List ℕ) → meaning_in n.nodes id ≡ Some m → has_entry m ≡ false → text_at n.texts id ≡ Some text → IsText (enums_under n) s m text
@@ -37,7 +41,7 @@ pub record KeepTables (n : Names) (s : Tables) : Type 0 where
   pub types : n.texts.types ≡ length s.types
   pub functions : n.texts.functions ≡ length s.functions
 
--- Each node has room for its text.
+-- Each node has room for its text: there are as many places for texts as nodes.
 abbrev pub HasRoom : Names → Type 0
 HasRoom n = length n.texts.texts.items ≡ length (nodes_of n.nodes)
 

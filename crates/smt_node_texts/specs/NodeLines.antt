@@ -20,32 +20,36 @@ with_name s (TypeMeaning t) n = record s { types = s.types ++ (t, n) ∷ [] }
 with_name s (FunctionMeaning f) n = record s { functions = s.functions ++ (f, n) ∷ [] }
 with_name s (TermMeaning t) n = record s { terms = s.terms ++ (t, n) ∷ [] }
 
--- the lines of a type, a function or a term, and of several in order
+-- the stated lines of a type, a function or a term
 abbrev pub encode_meaning : Enums → Meaning → Tables → Written Expression
 encode_meaning enums (TypeMeaning t) s = encode_type enums t s
 encode_meaning enums (FunctionMeaning f) s = encode_function enums f s
 encode_meaning enums (TermMeaning t) s = encode_term enums t s
 
+-- the stated lines of several in order
 abbrev pub encode_meanings : Enums → List Meaning → Tables → Written (List Expression)
 encode_meanings enums [] s = made_of [] s
 encode_meanings enums (m ∷ ms) s = encode_meaning enums m s >>= λ e u. encode_meanings enums ms u >>= λ es v. made_of (e ∷ es) v
 
--- their first fault
+-- the first fault of a type, a function or a term
 abbrev pub meaning_fault : Enums → Meaning → Option Fault
 meaning_fault enums (TypeMeaning t) = type_fault enums t
 meaning_fault enums (FunctionMeaning f) = option_or (type_fault enums f.argument) (type_fault enums f.output)
 meaning_fault enums (TermMeaning t) = term_fault enums t
 
+-- the first fault of several in order
 abbrev pub meanings_fault : Enums → List Meaning → Option Fault
 meanings_fault enums [] = None
 meanings_fault enums (m ∷ ms) = option_or (meaning_fault enums m) (meanings_fault enums ms)
 
--- what has an entry in a table of names; the text of another stands wherever it is used
+-- a literal that has an entry in a table of names: entities and values of extension types
 abbrev pub is_named_literal : PlainLiteral → Bool
 is_named_literal (EntityLiteral e i) = true
 is_named_literal (ExtensionLiteral x) = true
 is_named_literal l = false
 
+-- Whether a type, a function or a term has an entry in a table of names. Literals of bitvectors, Booleans and strings have none, nor
+-- have types other than entity, record and extension types: their text stands wherever they are used.
 abbrev pub has_entry : Meaning → Bool
 has_entry (TypeMeaning (EntityType e)) = true
 has_entry (TypeMeaning (ExtensionType k)) = true

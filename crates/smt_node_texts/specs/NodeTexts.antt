@@ -27,7 +27,8 @@ text_at names id = kept_at names.texts.items (place_of id)
 abbrev pub HasNoTexts : NodeNames → Type 0
 HasNoTexts names = (id : NodeId) → IsTrue (is_none (text_at names id))
 
--- A type, a function or a term has this name, or none, among the texts of these nodes.
+-- A type, a function or a term has this name, or none: it has one where a number of the nodes stands for it, it has an entry, and its
+-- number has a text.
 abbrev pub HasName : Interner → NodeNames → Meaning → Option (List ℕ) → Type 0
 HasName nodes names m (Some name) = (id : NodeId) × (meaning_in nodes id ≡ Some m) × IsTrue (has_entry m) × (text_at names id ≡ Some name)
 HasName nodes names m None = (id : NodeId) → meaning_in nodes id ≡ Some m → IsTrue (has_entry m) → text_at names id ≡ None
@@ -36,7 +37,8 @@ HasName nodes names m None = (id : NodeId) → meaning_in nodes id ≡ Some m �
 abbrev pub IsText : Enums → Tables → Meaning → List ℕ → Type 0
 IsText enums s m text = (e : Expression) × (encode_meaning enums m s ≡ made_of e s) × (text ≡ spelled e)
 
--- The texts are those of these tables: a type, a function or a term that has an entry has its name there, and no text where it has none; and each text that is kept is the one that stands for its node.
+-- The texts are those of these tables: a type, a function or a term that has an entry has its name there, and no text where it has
+-- none; and each text that is kept is the one that stands for its node.
 pub record AreTexts (enums : Enums) (s : Tables) (nodes : Interner) (names : NodeNames) : Type 0 where
   pub named : (id : NodeId) (m : Meaning) → meaning_in nodes id ≡ Some m → IsTrue (has_entry m) → text_at names id ≡ name_in s m
   pub stated : (id : NodeId) (m : Meaning) (text : List ℕ) → meaning_in nodes id ≡ Some m → text_at names id ≡ Some text → IsText enums s m text

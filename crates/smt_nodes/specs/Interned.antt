@@ -7,14 +7,15 @@ use Rattle.smt_node_tables.specs.View.{place_of, places_of, plain_node}
 use Rattle.smt_node_tables.specs.declared.id.NodeId.{NodeId}
 use Rattle.smt_nodes.specs.declared.interner.Interner.{Interner}
 
--- the nodes, in the order of their numbers
+-- the nodes of an interner, in the order of their numbers
 abbrev pub nodes_of : Interner → List PlainNode
 nodes_of i = map plain_node i.table.nodes.items
 
--- what a number stands for, and what one more node would stand for
+-- what a number stands for: a type, a function or a term, or nothing where the interner has no such number
 abbrev pub meaning_in : Interner → NodeId → Option Meaning
 meaning_in i id = meaning_at (nodes_of i) (place_of id)
 
+-- what one more node would stand for, which need not be there
 abbrev pub meaning_for : Interner → PlainNode → Option Meaning
 meaning_for i n = meaning_of (meanings (nodes_of i)) n
 
@@ -26,14 +27,14 @@ KeepsMeanings i j = (id : NodeId) (m : Meaning) → meaning_in i id ≡ Some m �
 abbrev pub IsKnown : Interner → PlainNode → Type 0
 IsKnown i n = (id : NodeId) × (m : Meaning) × (meaning_in i id ≡ Some m) × (meaning_for i n ≡ Some m)
 
--- there is one node more, this one, where no number stood for what it stands for; and else none
+-- there is one node more, this one, where no number stood for what it stands for; and else the nodes are what they were
 abbrev pub GrowsFor : Interner → Interner → PlainNode → Type 0
 GrowsFor i j n = ((nodes_of j ≡ nodes_of i ++ n ∷ []) × ¬ IsKnown i n) ⊎ ((nodes_of j ≡ nodes_of i) × IsKnown i n)
 
--- the number stands for something
+-- the number stands for something: it is one of the interner's
 abbrev pub IsMeant : Interner → NodeId → Type 0
 IsMeant i id = (m : Meaning) × (meaning_in i id ≡ Some m)
 
--- these numbers stand for these terms, in order
+-- these numbers stand for these terms, in order, one for each
 abbrev pub StandFor : Interner → List NodeId → List PlainTerm → Type 0
 StandFor i ids ts = all_found (meanings (nodes_of i)) (places_of ids) ≡ Some (map TermMeaning ts)

@@ -6,7 +6,7 @@ use Rattle.smt_meaning.specs.TermOrder.{function_cmp, term_cmp}
 use Rattle.smt_meaning.specs.Types.{type_cmp}
 use Rattle.smt_graph.specs.Nodes.{Meaning, TypeMeaning, FunctionMeaning, TermMeaning}
 
--- two types, two functions or two terms, in their order
+-- the order of two types, of two functions or of two terms; what is of two kinds is not compared
 abbrev pub meaning_cmp : Meaning → Meaning → Ordering
 meaning_cmp (TypeMeaning t) (TypeMeaning u) = type_cmp t u
 meaning_cmp (FunctionMeaning f) (FunctionMeaning g) = function_cmp f g

@@ -1,4 +1,5 @@
 pub mod Config
+pub mod Errors
 pub mod Lends
 pub mod Pool
 pub mod Pooled

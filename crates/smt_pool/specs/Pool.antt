@@ -2,7 +2,7 @@
 use Rattle.std.specs.Prelude.{ℕ, ◌+◌, ◌<◌, ◌≡◌, ◌⊎◌, ⊤, false, IsTrue, List, [], ◌∷◌, ◌++◌, length, map, replicate, IfSome, IsOkUnless, OnErr, Bool, Result}
 use Rattle.smt_script.specs.CommandTexts.{reset_text}
 use Rattle.smt_script.specs.Sink.{Rose}
-use Rattle.smt_solve.specs.Link.{AllowsTheSame, LinkState}
+use Rattle.smt_solve.specs.Link.{AllowsTheSame, IsOver, LinkState}
 use Rattle.smt_solve.specs.Question.{BeginsExchange, Exchanges, Spares}
 use Rattle.smt_solve.specs.Session.{session_link, state_by}
 use Rattle.smt_solve.specs.Starter.{Command, StarterState, add_told, command_of}
@@ -23,6 +23,8 @@ pub record PoolState (L : Type 0) : Type 0 where
   pub idle : List (LocalSolver L)
   -- the permits that are free
   pub permits : ℕ
+  -- how many sessions are out: handed out, and not yet taken back
+  pub out : ℕ
   -- how many sessions may be out at one time
   pub max : ℕ
   pub number : ℕ
@@ -40,6 +42,7 @@ abbrev pub pool_state : {P L : Type 0} {B C : _} → (P → StarterState L) → 
 pool_state state pool = record {
   idle = pool.idle.items;
   permits = pool.permits;
+  out = pool.out;
   max = pool.max;
   number = pool.number;
   command = command_of pool.command;
@@ -55,6 +58,7 @@ pub record IsSamePool {L : Type 0} (old new : PoolState L) : Type 0 where
 -- A pool was just opened: all permits are free, and as many sessions as are to be at the start were started and are idle.
 pub record Opens {L : Type 0} (state : L → LinkState) (before : StarterState L) (config : SolverPoolConfig) (its_number : ℕ) (its_command : Command) (new : PoolState L) : Type 0 where
   pub permits : new.permits ≡ config.max_solvers
+  pub none_out : new.out ≡ 0
   pub max : new.max ≡ config.max_solvers
   pub count : length new.idle ≡ config.min_solvers
   pub unused : AreUnused state new.idle
@@ -96,6 +100,7 @@ pub record StartsOne {L : Type 0} (state : L → LinkState) (old new : PoolState
 pub record HandsOut {L : Type 0} (state : L → LinkState) (old new : PoolState L) (s : PooledSolver L) : Type 0 where
   pub taken : TakesLast old new (pooled_session s) ⊎ StartsOne state old new (pooled_session s)
   pub permit : new.permits + 1 ≡ old.permits
+  pub out : new.out ≡ old.out + 1
   pub unfailed : pooled_failed s ≡ false
   -- it was sent nothing, or last `(reset)` with its LF
   pub clean : IfSome (pooled_state state s).sent IsClean
@@ -114,6 +119,7 @@ pub record WhyNotAcquired {L : Type 0} (old new : PoolState L) (error : SolverPo
   pub cause : CauseNotAcquired old new error
   pub same_idle : new.idle ≡ old.idle
   pub same_permits : new.permits ≡ old.permits
+  pub same_out : new.out ≡ old.out
   pub same_pool : IsSamePool old new
 
 -- A session that had not failed is sent `(reset)` with its LF, and becomes the last idle one.
@@ -123,25 +129,30 @@ pub record Keeps {L : Type 0} (state : L → LinkState) (allows : L → List ℕ
   pub last : new.idle ≡ old.idle ++ session ∷ []
   pub reset : Exchanges (pooled_state state s) (state_by state session) reset_text []
   pub spared : Spares (pooled_state state s) (state_by state session)
+  -- where its answers ended inside a line, no later holder gets an answer, and the first who asks makes it one that is not kept
+  pub over : IsOver (pooled_state state s) → IsOver (state_by state session)
   pub same_allows : AllowsTheSame (allows (pooled_link s)) (allows (session_link session))
   pub same_starter : new.starter ≡ old.starter
 
--- The link of a session failed while `(reset)` was sent, and the starter shows it.
-pub record FailsToReset {L : Type 0} (state : L → LinkState) (old new : PoolState L) (s : PooledSolver L) (link : L) : Type 0 where
+-- The link of a session failed while `(reset)` was sent, and was not killed.
+pub record FailsToReset {L : Type 0} (state : L → LinkState) (s : PooledSolver L) (link : L) : Type 0 where
   pub sent : BeginsExchange (pooled_state state s) (state link) reset_text
   pub rose : Rose (pooled_state state s).faults (state link).faults
-  pub shown : Rose old.starter.link_faults new.starter.link_faults
+  pub spared : Spares (pooled_state state s) (state link)
 
 -- A session is not kept, and its link comes back to the starter: it had failed before, and is sent nothing, or its link fails now.
+-- Where the link has failed at any time, the starter shows it.
 pub record GivesUp {L : Type 0} (state : L → LinkState) (old new : PoolState L) (s : PooledSolver L) : Type 0 where
   pub link : L
-  pub why : (IsTrue (pooled_failed s) × (link ≡ pooled_link s)) ⊎ FailsToReset state old new s link
+  pub why : (IsTrue (pooled_failed s) × (link ≡ pooled_link s)) ⊎ FailsToReset state s link
+  pub shown : 0 < (state link).faults → Rose old.starter.link_faults new.starter.link_faults
   pub returned : new.starter.returned ≡ add_told old.starter.returned link
   pub same_idle : new.idle ≡ old.idle
 
 -- A session is taken back, and its permit, whatever the answer is.
 pub record TakesBack {L : Type 0} (old new : PoolState L) (result : Result Bool SolverPoolError) : Type 0 where
   pub permit : new.permits ≡ old.permits + 1
+  pub out : new.out + 1 ≡ old.out
   pub lost : OnErr result (new.idle ≡ old.idle)
   pub refusal : IsOkUnless result Memory
   pub same_commands : new.starter.commands ≡ old.starter.commands

@@ -1,6 +1,6 @@
 // Why a pool gave no session, and why it was not opened.
 ghost use Rattle.std.specs.Prelude.{◌≡◌};
-ghost use Rattle.smt_pool.specs.declared.error.SolverPoolError.TheVariants.{Solver};
+ghost use Rattle.smt_pool.specs.Errors.{pool_error};
 
 use smt_solve::SolverError;
 use thiserror::Error;
@@ -22,11 +22,15 @@ pub enum SolverPoolError {
     Memory,
 }
 
+/// Want of memory is the pool's own, and any other error of a session is `Solver`.
 impl From<SolverError> for SolverPoolError {
-    ghost from_gives = { λ error given. given ≡ Solver error };
+    ghost from_gives = { λ error given. given ≡ pool_error error };
 
     fn from(error: SolverError) -> SolverPoolError {
-        SolverPoolError::Solver(error)
+        match error {
+            SolverError::Memory => SolverPoolError::Memory,
+            error => SolverPoolError::Solver(error),
+        }
     }
 }
 

@@ -1,5 +1,5 @@
 // A pool of sessions.
-ghost use Rattle.std.specs.Prelude.{◌+◌, ◌-◌, ◌≤◌};
+ghost use Rattle.std.specs.Prelude.{◌≡◌, ◌+◌, ◌≤◌};
 ghost use Rattle.std.specs.VecDeque.{deque_capacity, deque_len};
 ghost use Rattle.smt_pool.specs.Sessions.{AreReady};
 ghost use Rattle.std.proofs.Props.{props};
@@ -16,20 +16,23 @@ use std::collections::VecDeque;
 
 /// A pool of sessions with solvers that one command starts.
 ///
-/// It hands sessions out, takes them back, and keeps those that did not fail for the next caller. As many sessions are out at one
-/// time as it has permits, at most. It is ended by `close`, which gives its starter back.
+/// It hands sessions out, takes them back, and keeps those that did not fail for the next caller. A session that is out holds a
+/// permit, so that the permits that are free and the sessions that are out are always `max_solvers` together. It is ended by
+/// `close`, which gives its starter back.
 #[derive(Debug, Drop)]
 pub struct SolverPool<P: Starter> {
     starter: P,
     command: SolverCommand,
     idle: VecDeque<LocalSolver<P::L>>,
     permits: usize,
+    // How many sessions are handed out.
+    out: usize,
     max: usize,
     number: u64,
     alloc: Global,
-    ghost free: { permits ≤ max },
+    ghost sum: { permits + out ≡ max },
     ghost enough: { max ≤ deque_capacity idle },
-    ghost room: { deque_len idle + (max - permits) ≤ deque_capacity idle },
+    ghost room: { deque_len idle + out ≤ deque_capacity idle },
     ghost ready: { AreReady P.L.state idle.items } by { Prim.hlevel props },
 }
 
@@ -78,6 +81,7 @@ impl<P: Starter> SolverPool<P> {
                 command,
                 idle,
                 permits: config.max_solvers,
+                out: 0,
                 max: config.max_solvers,
                 number,
                 alloc,
@@ -107,8 +111,11 @@ impl<P: Starter> SolverPool<P> {
     }
 
     /// How many sessions may still be handed out before one is released.
+    ///
+    /// Together with the sessions that are out they are as many as `max_solvers`.
     pub fn permits_available(&self) -> usize
-        ensures { result ≡ (pool_state P.state self.now).permits }
+        ensures permits { result ≡ (pool_state P.state self.now).permits }
+        ensures sum { (pool_state P.state self.now).permits + (pool_state P.state self.now).out ≡ (pool_state P.state self.now).max }
     {
         self.permits
     }
@@ -143,6 +150,7 @@ impl<P: Starter> SolverPool<P> {
             None => start_session(self.alloc, &mut self.starter, &self.command)?,
         };
         self.permits -= 1;
+        self.out += 1;
         Ok(PooledSolver {
             session,
             number: self.number,
@@ -152,7 +160,8 @@ impl<P: Starter> SolverPool<P> {
     /// Takes a session back, and its permit. Answers whether the session is kept.
     ///
     /// A session that has not failed is sent `(reset)`, and becomes the last idle one. One that has failed before, is marked or
-    /// fails now is not kept: its link is given back to the starter.
+    /// fails now is not kept: its link is given back to the starter as it is, and is not killed. Where the link has failed, the
+    /// starter's count of link faults shows it.
     ///
     /// # Errors
     ///
@@ -170,6 +179,7 @@ impl<P: Starter> SolverPool<P> {
             number: _,
         } = s;
         self.permits += 1;
+        self.out -= 1;
         if session.is_failed() {
             return finish_session(&mut self.starter, session);
         }
@@ -208,6 +218,7 @@ impl<P: Starter + Drop> SolverPool<P> {
             command: _,
             idle,
             permits: _,
+            out: _,
             max: _,
             number: _,
             alloc: _,

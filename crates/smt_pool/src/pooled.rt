@@ -1,6 +1,7 @@
 // A session that a pool has handed out.
-ghost use Rattle.std.specs.Prelude.{◌≡◌, false, true};
+ghost use Rattle.std.specs.Prelude.{◌≡◌, IsErr, false, true};
 ghost use Rattle.std.specs.Borrow.{sem};
+ghost use Rattle.smt_solve.specs.Link.{IsOver};
 ghost use Rattle.smt_solve.specs.Model.{AsksWithModel};
 ghost use Rattle.smt_solve.specs.Question.{AsksDecision, SendsCommand};
 ghost use Rattle.smt_solve.specs.Session.{enable_models_text};
@@ -79,6 +80,7 @@ impl<L: Link> Solver for PooledSolver<L> {
         ensures guards { Guards L.allows self.old self.new result }
         ensures asks { pooled_failed self.old ≡ false →
             AsksDecision (L.allows (pooled_link self.old)) (pooled_state L.state self.old) (pooled_state L.state self.new) result }
+        ensures over { IsOver (pooled_state L.state self.old) → IsErr result }
     {
         self.session.check_sat()
     }
@@ -93,6 +95,7 @@ impl<L: Link> Solver for PooledSolver<L> {
         ensures guards { Guards L.allows self.old self.new result }
         ensures asks { pooled_failed self.old ≡ false →
             AsksWithModel (L.allows (pooled_link self.old)) (pooled_state L.state self.old) (pooled_state L.state self.new) result }
+        ensures over { IsOver (pooled_state L.state self.old) → IsErr result }
     {
         self.session.check_sat_with_model()
     }

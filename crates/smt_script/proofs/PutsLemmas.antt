@@ -41,6 +41,7 @@ then {contents = contents} {has_room = has_room} {place = place} {a = a} {b} {c}
   ok = appends_then (contents a) (contents b) (contents c) xs ys p.ok q.ok;
   err = tt;
   later = omega (arith, p.later, q.later);
+  no_fault = q.no_fault ∙ p.no_fault;
   same_place = q.same_place ∙ p.same_place;
   cause = λ e. absurd (cc);
   room = λ n t. q.room n (p.room (length ys + n) (subst (λ (k : ℕ). has_room a k) (more_room xs ys n) t)).1;
@@ -49,6 +50,7 @@ then {contents = contents} {has_room = has_room} {place = place} {a = a} {b} {c}
   ok = tt;
   err = part-then (contents a) (contents b) (contents c) xs ys p.ok q.err;
   later = omega (arith, p.later, q.later);
+  no_fault = tt;
   same_place = q.same_place ∙ p.same_place;
   cause = λ f. let rose = q.cause f in let l = p.later in omega arith;
   room = λ n t. q.room n (p.room (length ys + n) (subst (λ (k : ℕ). has_room a k) (more_room xs ys n) t)).1;
@@ -61,6 +63,7 @@ any_ok v p = record {
   ok = p.ok;
   err = tt;
   later = p.later;
+  no_fault = p.no_fault;
   cause = λ e. absurd (cc);
   room = λ n t. (refl, (p.room n t).1);
   same_place = p.same_place;
@@ -81,6 +84,7 @@ stops {T = T} {U} {contents = contents} {has_room = has_room} {place = place} {a
   ok = tt;
   err = part-of-first (contents a) (contents b) xs ys p.err;
   later = p.later;
+  no_fault = tt;
   same_place = p.same_place;
   cause = λ f. p.cause (cc);
   room = λ n t. absurd (err_is_not_ok T e (p.room (length ys + n) (subst (λ (k : ℕ). has_room a k) (more_room xs ys n) t)).0);
@@ -107,6 +111,7 @@ none_yet {contents = contents} {faults} {has_room} {place} a = record {
   ok = appends_nothing (contents a);
   err = tt;
   later = omega arith;
+  no_fault = refl;
   same_place = refl;
   cause = λ e. absurd (cc);
   room = λ n t. (refl, subst (λ (k : ℕ). has_room a k) (zero-add n) t);

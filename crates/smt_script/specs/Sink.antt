@@ -24,6 +24,8 @@ pub record Puts {S T : Type 0} (contents : S → Option (List ℕ)) (faults : S 
   pub err : OnErr result (AppendsPart (contents old) (contents new) bytes)
   -- the count of faults never falls
   pub later : faults old ≤ faults new
+  -- the count stands still where all was taken
+  pub no_fault : OnOk result (faults new ≡ faults old)
   -- a fault comes only where the count rose
   pub cause : IsErrOf result Fault → Rose (faults old) (faults new)
   -- a sink that certainly takes these and n bytes more took these, and takes the n
@@ -38,6 +40,8 @@ pub record Flushes {S T : Type 0} (contents : S → Option (List ℕ)) (faults :
   pub same_contents : contents new ≡ contents old
   -- the count of faults never falls
   pub later : faults old ≤ faults new
+  -- the count stands still where all was handed on
+  pub no_fault : OnOk result (faults new ≡ faults old)
   -- a fault comes only where the count rose
   pub cause : IsErrOf result Fault → Rose (faults old) (faults new)
   -- a sink that certainly takes n bytes flushed, and takes them still

@@ -1,14 +1,13 @@
 // The lines of a script, put to any sink.
-ghost use Rattle.std.specs.Prelude.{◌≡◌, ◌↔◌, [], map, position, IsTrue};
+ghost use Rattle.std.specs.Prelude.{◌≡◌, ◌↔◌, [], map, IsTrue};
 ghost use Rattle.std.specs.List.{join_by};
 ghost use Rattle.smt_script.specs.CommandTexts.{check_sat_text, exit_text, get_model_text, reset_text, set_logic_text, set_option_text};
 ghost use Rattle.smt_script.specs.Sink.{Puts};
-ghost use Rattle.smt_characters.specs.Characters.{is_line_end};
 ghost use Rattle.smt_characters.specs.LineTexts.{in_comment, spaced, sorted_names, datatype_body, constructor_lines, comment_text, assert_text, define_fun_text, declare_const_text, declare_fun_text, declare_datatype_text};
 ghost use Rattle.smt_characters.specs.SharedTexts.{joined, texts, text_pairs};
 
 use crate::sink::{Sink, SinkError};
-use smt_text::Text;
+use smt_text::{Text, line_end};
 
 /// Puts these texts, one behind the other.
 fn put_all<S: Sink>(sink: &mut S, pieces: &[&str]) -> Result<(), SinkError>
@@ -19,13 +18,6 @@ fn put_all<S: Sink>(sink: &mut S, pieces: &[&str]) -> Result<(), SinkError>
         sink.put(piece.as_bytes())?;
     }
     Ok(())
-}
-
-/// Where the first line end stands.
-fn line_end(text: &[u8]) -> Option<usize>
-    ensures { result ≡ position is_line_end text.now }
-{
-    text.iter().position(|b| *b == b'\n' || *b == b'\r')
 }
 
 /// Puts a text whose line ends become spaces.

@@ -32,15 +32,16 @@ pub trait Sink {
     /// Appends all of `bytes`, or on an error a first part of them.
     ///
     /// `Fault` comes only where the sink's count of faults rose in this call, or stands at its last
-    /// value. `Memory` may come at any put, unless the sink certainly takes the bytes.
+    /// value, and with Ok the count stands still. `Memory` may come at any put, unless the sink
+    /// certainly takes the bytes.
     fn put(&mut self, bytes: &[u8]) -> Result<(), SinkError>
         ensures { Puts contents faults has_room place self.old self.new bytes.now result };
 
     /// Hands on all bytes that it took and still holds back. After an error it may still hold some of them back.
     ///
     /// What it holds and what it certainly takes stay as they are, also on an error. `Fault` comes only where the sink's count
-    /// of faults rose in this call, or stands at its last value, and no error comes of a sink that certainly takes bytes. The
-    /// provided body is for a sink that holds nothing back: it does nothing.
+    /// of faults rose in this call, or stands at its last value, with Ok the count stands still, and no error comes of a sink
+    /// that certainly takes bytes. The provided body is for a sink that holds nothing back: it does nothing.
     fn flush(&mut self) -> Result<(), SinkError>
         ensures { Flushes contents faults has_room place self.old self.new result }
     {

@@ -106,7 +106,7 @@ same_operands c d n h = absurd (false≢true (eq-eqb (number c) (number d) n))
 pub group_is : (m n : List ℕ) (es fs : List Expression) → group (name m ∷ es) ≡ group (name n ∷ fs) → (m ≡ n) × (es ≡ fs)
 group_is m n es fs h = (cc, one_group es fs cc)
 
-one_statement : (c d : Command) → stated c ≡ stated d → c ≡ d
+pub one_statement : (c d : Command) → stated c ≡ stated d → c ≡ d
 one_statement c d h =
     let g = group_is (keyword c) (keyword d) (operands c) (operands d) h in
     same_operands c d (sym (number_is c) ∙ ap number_from g.0 ∙ number_is d) g.1

@@ -250,11 +250,11 @@ declared j n entry s t h =
     let p = if_not (is_taken s n) (Some (with_name n entry s)) t h in
     subst (λ (u : State). IsNew j n entry s u) (some_is (with_name n entry s) t p.1) (new_name j n entry s p.0)
 
-not_ended : (c : Command) (s t : State) → s.ended ≡ false → step c s ≡ Some t → obey c s ≡ Some t
-not_ended c s t e h = elim (step_is c s t h) [ inl p ↦ absurd (false≢true (sym e ∙ p.0)) | inr p ↦ p.1 ]
+pub obeys : (c : Command) (s t : State) → s.ended ≡ false → step c s ≡ Some t → obey c s ≡ Some t
+obeys c s t e h = elim (step_is c s t h) [ inl p ↦ absurd (false≢true (sym e ∙ p.0)) | inr p ↦ p.1 ]
 
 pub names_have_values : NamesHaveValues
 names_have_values j n sort body s t e = (
-  λ h. (let new = declared j n (Defined sort body) s t (if_so (is_sort (has_sort s) sort && knows s body) (declare n (Defined sort body) s) t (not_ended (DefineFun n sort body) s t e h)).1 in (new.there, new.value, new.sort)),
-  λ h. (let new = declared j n (Constant sort) s t (if_so (is_sort (has_sort s) sort) (declare n (Constant sort) s) t (not_ended (DeclareConst n sort) s t e h)).1 in (new.there, new.value, new.sort)),
+  λ h. (let new = declared j n (Defined sort body) s t (if_so (is_sort (has_sort s) sort && knows s body) (declare n (Defined sort body) s) t (obeys (DefineFun n sort body) s t e h)).1 in (new.there, new.value, new.sort)),
+  λ h. (let new = declared j n (Constant sort) s t (if_so (is_sort (has_sort s) sort) (declare n (Constant sort) s) t (obeys (DeclareConst n sort) s t e h)).1 in (new.there, new.value, new.sort)),
 )

@@ -146,13 +146,13 @@ commands_extend text line c s t stands is-line obeys goes-on =
 
 -- ---- well-sorted scripts
 
-more_sorted : (cs ds : List Command) (s t : State) → AreSorted cs s → run cs s ≡ Some t → AreSorted ds t → AreSorted (cs ++ ds) s
+pub more_sorted : (cs ds : List Command) (s t : State) → AreSorted cs s → run cs s ≡ Some t → AreSorted ds t → AreSorted (cs ++ ds) s
 more_sorted cs ds s t h e k = (run_keeps (λ bs u. AreSorted bs u × (AreSorted (bs ++ ds) u → AreSorted (cs ++ ds) s)) one cs s t e (h, λ all. all)).1 k
   where
     one : (c : Command) (bs : List Command) (u v : State) → step c u ≡ Some v → AreSorted (c ∷ bs) u × (AreSorted (c ∷ bs ++ ds) u → AreSorted (cs ++ ds) s) → AreSorted bs v × (AreSorted (bs ++ ds) v → AreSorted (cs ++ ds) s)
     one c bs u v f p = (subst (OnState (AreSorted bs)) f p.0.1, λ all. p.1 (p.0.0, subst (OnState (AreSorted (bs ++ ds))) (sym f) all))
 
-sorted_from : (o : Option State) (t : State) → o ≡ Some t → OnState (AreSorted []) o
+pub sorted_from : (o : Option State) (t : State) → o ≡ Some t → OnState (AreSorted []) o
 sorted_from None t h = absurd cc
 sorted_from (Some s) t h = tt
 

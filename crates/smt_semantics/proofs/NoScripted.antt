@@ -7,7 +7,7 @@ use Rattle.std.specs.Str.{is_utf8, chars}
 use Rattle.std.specs.Char.{encode_utf8}
 use Rattle.smt_lexicon.specs.Lexicon.{Comment, Open, Close, Quoted, Space, Symbol, Text, Token, Begin, End, tokens}
 use Rattle.smt_lexicon.specs.Reading.{Expression, Leaf, Node, Reads, brackets, inside}
-use Rattle.smt_semantics.specs.Script.{State, Command, DeclareDatatype, DeclareConst, DefineFun, Assert, DeclareFun, SetLogic, SetOption, CheckSat, GetModel, Reset, Exit, Push, Pop, constructor, start, step, name, group, stated, keyword, operands, is_keyword}
+use Rattle.smt_semantics.specs.Script.{State, Command, DeclareDatatype, DeclareConst, SetOption, constructor, start, step, name, group, stated, keyword, operands, is_keyword}
 use Rattle.smt_semantics.specs.Written.{IsLine, ReadsAs}
 use Rattle.smt_semantics.specs.CommandLines.{ConstructorPart}
 use Rattle.smt_semantics.specs.NoScripts.{IsNoScript, IsScript, NoScripts, NoCommands, WholeTexts, bare}

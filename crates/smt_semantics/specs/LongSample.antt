@@ -5,6 +5,7 @@ use Rattle.smt_semantics.specs.Value.{free_names}
 use Rattle.smt_semantics.specs.Written.{option_lines}
 use Rattle.smt_semantics.specs.CommandLines.{SortedScript}
 
+-- a user, whose attributes and tags two functions give, and four assertions: on a pattern, a set, an address and a date
 abbrev pub long_sample : List ℕ
 long_sample = option_lines
     ++ codes "(declare-datatype Datetime (\n  (Datetime (datetimeVal (_ BitVec 64)))))\n"
@@ -38,6 +39,7 @@ long_sample = option_lines
     ++ codes "(assert t11)\n"
     ++ codes "(assert t14)\n"
 
+-- It is a well-sorted script. It asserts t3, t5, t11 and t14, and its free names are f1, f0 and t0.
 abbrev pub LongSampleIsScript : Type 0
 LongSampleIsScript = (s : State) × SortedScript long_sample s × (assertions_of s ≡ name (codes "t3") ∷ name (codes "t5") ∷ name (codes "t11") ∷ name (codes "t14") ∷ [])
     × (free_names s ≡ codes "f1" ∷ codes "f0" ∷ codes "t0" ∷ [])

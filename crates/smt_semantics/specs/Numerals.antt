@@ -7,13 +7,15 @@ use Rattle.smt_semantics.specs.Written.{IsName}
 abbrev pub numeral : ℕ → List ℕ
 numeral n = digits_onto (64 + n / 10 ^ 64) 10 false n []
 
+-- letters, and a number in decimal behind them
 abbrev pub numbered : List ℕ → ℕ → List ℕ
 numbered letter n = letter ++ numeral n
 
--- A number's digits are its own, however large it is; below 10 ^ 64 they are what the program prints.
+-- A number's digits are its own, however large it is.
 abbrev pub NumeralsDiffer : Type 0
 NumeralsDiffer = (m n : ℕ) → numeral m ≡ numeral n → m ≡ n
 
+-- The digits of a number below 10 ^ 64 are what the program prints.
 abbrev pub NumeralsArePrinted : Type 0
 NumeralsArePrinted = (n : ℕ) → n < 10 ^ 64 → numeral n ≡ decimal n
 

@@ -12,6 +12,7 @@ abbrev pub pair_sample : List ℕ
 pair_sample = codes "(declare-datatype Pair (par (X Y) ((pair (first X) (second Y)))))\n" ++ (codes "(declare-const t0 (Pair Bool String))\n"
     ++ (codes "(assert (first t0))\n" ++ codes "(assert (= (second t0) \"a\"))\n"))
 
+-- the pair of true and the text a
 abbrev pub the_pair : ScriptValue
 the_pair = ConstructorOf 0 (codes "pair") (one_script_value (TruthOf true) (one_script_value (TextOf (codes "a")) no_script_values))
 
@@ -33,6 +34,7 @@ EitherIsClosed = (s : State) × (run either_commands start ≡ Some s) × (appli
     × ((j : ScriptInterpretation) → j.constants (codes "t0") ≡ ConstructorOf 1 (codes "b") (one_script_value (TruthOf true) no_script_values)
     → expression_value j s (sample_application (codes "x") (name (codes "t0") ∷ [])) ≡ Some (TruthOf true))
 
+-- Samples of which selectors are left open to an interpretation.
 pub record OpenSelectorRows : Type 0 where
   pub inside : open_selector (codes "val") (codes "Option") (codes "X" ∷ []) ≡ Some ValueOfSort
   pub ranges : map (λ f. open_selector f (codes "IPAddr") []) (codes "addrV4" ∷ codes "prefixV4" ∷ codes "addrV6" ∷ codes "prefixV6" ∷ [])

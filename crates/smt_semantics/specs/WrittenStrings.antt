@@ -17,19 +17,23 @@ TextsWrite = (cs : List ℕ) → IsTrue (list_all is_code_point cs) → ReadsAs 
 
 -- ---- patterns
 
+-- `(str.to_re "c")` for a character and `(re.* re.allchar)` for a wildcard, as they are written (theory UnicodeStrings)
 abbrev pub part_text : PatternPart → List ℕ
 part_text (Character c) = codes "(str.to_re " ++ (quoted (c ∷ []) ++ codes ")")
 part_text Wildcard = codes "(re.* re.allchar)"
 
+-- the expression that is written of a part of a pattern
 abbrev pub part_expr : PatternPart → Expression
 part_expr (Character c) = group (name (codes "str.to_re") ∷ Leaf (Text (c ∷ [])) ∷ [])
 part_expr Wildcard = group (name (codes "re.*") ∷ name (codes "re.allchar") ∷ [])
 
+-- a pattern as it is written: `(str.to_re "")` for no part, one part alone, or `(re.++ p q ..)` (theory UnicodeStrings)
 abbrev pub pattern_text : List PatternPart → List ℕ
 pattern_text [] = codes "(str.to_re \"\")"
 pattern_text (x ∷ []) = part_text x
 pattern_text (x ∷ y ∷ ps) = codes "(re.++" ++ spaced (map (λ p. record { text = part_text p; expr = part_expr p }) (x ∷ y ∷ ps)) (codes ")")
 
+-- the expression that is written of a pattern
 abbrev pub pattern_expr : List PatternPart → Expression
 pattern_expr [] = group (name (codes "str.to_re") ∷ Leaf (Text []) ∷ [])
 pattern_expr (x ∷ []) = part_expr x

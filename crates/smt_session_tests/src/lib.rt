@@ -4,6 +4,8 @@
 #![tactic(auto)]
 
 #[cfg(test)]
+mod expected;
+#[cfg(test)]
 mod pools;
 #[cfg(test)]
 mod sessions;

@@ -6,6 +6,7 @@ ghost use Rattle.smt_pool.specs.Pool.{IsSamePool, pool_state};
 ghost use Rattle.smt_pool.specs.Pooled.{pooled_number};
 
 use crate::AMPLE;
+use crate::expected::{expect, expect_bytes, expect_count};
 use smt_pool::{PoolRefused, PooledSolver, SolverPool, SolverPoolConfig, SolverPoolError};
 use smt_script::{SinkError, SmtLibScript};
 use smt_solve::{
@@ -87,14 +88,26 @@ fn pool_over(
     pool_of(rt, alloc, config, starter)
 }
 
-/// Whether a session was taken back, and kept or not. It takes the answer, so that no test has an account of how one is let go.
-fn is_kept(answer: Result<bool, SolverPoolError>, kept: bool) -> bool {
-    answer == Ok(kept)
+/// Stops the test where a session was not taken back, or not kept as it should be. It takes the answer, so that no test has an
+/// account of how one is let go.
+fn expect_kept(rt: &impl Abort, answer: Result<bool, SolverPoolError>, kept: bool) {
+    expect(rt, answer == Ok(kept), "whether the session is kept");
 }
 
-/// Whether no session is handed out, for this reason.
-fn is_refusal(refusal: Option<SolverPoolError>, wanted: SolverPoolError) -> bool {
-    refusal == Some(wanted)
+/// Stops the test where a session is handed out, or refused for another reason.
+fn expect_reason(rt: &impl Abort, refusal: Option<SolverPoolError>, wanted: SolverPoolError) {
+    expect(rt, refusal == Some(wanted), "why no session is handed out");
+}
+
+/// Stops the test where a pool has other numbers of idle sessions and of permits.
+fn expect_numbers(
+    rt: &impl Abort,
+    pool: &SolverPool<MemoryStarter>,
+    available: usize,
+    permits: usize,
+) {
+    expect_count(rt, "idle sessions", pool.available_count(), available);
+    expect_count(rt, "permits", pool.permits_available(), permits);
 }
 
 /// Expects that this was sent to the session that is handed out next, and that it is kept.
@@ -103,8 +116,8 @@ fn expect_sent(rt: &impl Abort, pool: &mut SolverPool<MemoryStarter>, sent: &[u8
     ensures same_permits { (pool_state memory_starter_state pool.new).permits ≡ (pool_state memory_starter_state pool.old).permits }
 {
     let s = pool.acquire().expect(rt, HANDED_OUT);
-    assert_eq!(rt; s.link().sent(), sent);
-    assert!(rt; is_kept(pool.release(s), true));
+    expect_bytes(rt, "sent", s.link().sent(), sent);
+    expect_kept(rt, pool.release(s), true);
 }
 
 /// Asks the only session of a pool for a decision, while no second one is handed out.
@@ -113,12 +126,12 @@ fn use_only_session(rt: &impl Abort, pool: &mut SolverPool<MemoryStarter>)
     ensures same_permits { (pool_state memory_starter_state pool.new).permits ≡ (pool_state memory_starter_state pool.old).permits }
 {
     let mut s = pool.acquire().expect(rt, HANDED_OUT);
-    assert!(rt; s.pool_number() == 7);
-    assert!(rt; pool.available_count() == 0);
-    assert!(rt; pool.permits_available() == 0);
-    assert!(rt; is_refusal(refusal(pool), SolverPoolError::AcquireTimeout));
-    assert!(rt; s.check_sat().ok() == Some(Decision::Unsat));
-    assert!(rt; is_kept(pool.release(s), true));
+    expect(rt, s.pool_number() == 7, "the number of its pool");
+    expect_numbers(rt, pool, 0, 0);
+    expect_reason(rt, refusal(pool), SolverPoolError::AcquireTimeout);
+    let is_unsat = s.check_sat().ok() == Some(Decision::Unsat);
+    expect(rt, is_unsat, "the decision");
+    expect_kept(rt, pool.release(s), true);
 }
 
 /// Uses the only session of a pool of number 7 twice.
@@ -126,9 +139,8 @@ fn use_one_session(rt: &impl Abort, pool: &mut SolverPool<MemoryStarter>)
     ensures same_max { (pool_state memory_starter_state pool.new).max ≡ (pool_state memory_starter_state pool.old).max }
     ensures same_permits { (pool_state memory_starter_state pool.new).permits ≡ (pool_state memory_starter_state pool.old).permits }
 {
-    assert!(rt; pool.number() == 7);
-    assert!(rt; pool.available_count() == 1);
-    assert!(rt; pool.permits_available() == 1);
+    expect(rt, pool.number() == 7, "the number of the pool");
+    expect_numbers(rt, pool, 1, 1);
     use_only_session(rt, pool);
     expect_sent(rt, pool, b"(check-sat)\n(reset)\n");
 }
@@ -139,7 +151,42 @@ fn one_session(rt: HostRuntime) {
     let mut pool = pool_over(&rt, rt.alloc(), sessions(1, 1), &answers, &[]);
     use_one_session(&rt, &mut pool);
     let starter = pool.close().expect(&rt, AMPLE);
-    assert!(rt; (starter.commands().len(), starter.returned().len()) == (1, 1));
+    expect_count(&rt, "commands", starter.commands().len(), 1);
+    expect_count(&rt, "links that came back", starter.returned().len(), 1);
+}
+
+/// Asks the session that is handed out next for a decision, and expects this one, or that the answers have ended. The session
+/// is kept exactly where there is a decision.
+fn ask_next_session(
+    rt: &impl Abort,
+    pool: &mut SolverPool<MemoryStarter>,
+    decision: Option<Decision>,
+) {
+    let mut s = pool.acquire().expect(rt, HANDED_OUT);
+    let answer = s.check_sat().ok();
+    assert!(rt; answer == decision);
+    expect_kept(rt, pool.release(s), decision.is_some());
+}
+
+/// The answer of a session may end without LF. It is the last one, and the session is given up once it is asked again.
+#[test]
+fn broken_lines(rt: HostRuntime) {
+    let answers = [b"unsat".as_slice()];
+    let mut pool = pool_over(&rt, rt.alloc(), sessions(0, 1), &answers, &[]);
+    ask_next_session(&rt, &mut pool, Some(Decision::Unsat));
+    assert!(rt; pool.available_count() == 1);
+    ask_next_session(&rt, &mut pool, None);
+    assert!(rt; pool.available_count() == 0);
+    assert!(rt; pool.starter().returned().len() == 1);
+}
+
+/// Want of memory is the pool's own, and any other error of a session is `Solver`.
+#[test]
+fn solver_errors(rt: HostRuntime) {
+    let want = SolverPoolError::from(SolverError::Memory);
+    assert!(rt; want == SolverPoolError::Memory);
+    let other = SolverPoolError::from(SolverError::AnswerTooLong);
+    assert!(rt; other == SolverPoolError::Solver(SolverError::AnswerTooLong));
 }
 
 /// Puts an assertion to the session that is handed out next.
@@ -149,8 +196,8 @@ fn put_assertion(rt: &impl Abort, pool: &mut SolverPool<MemoryStarter>)
 {
     let mut s = pool.acquire().expect(rt, HANDED_OUT);
     let put = s.smtlib_input().assert("true");
-    assert!(rt; put == Ok(()));
-    assert!(rt; is_kept(pool.release(s), true));
+    expect(rt, put == Ok(()), "the assertion is put");
+    expect_kept(rt, pool.release(s), true);
 }
 
 /// Puts an assertion to a session, and expects that the same session is handed out next.
@@ -181,7 +228,11 @@ fn last_idle_first(rt: HostRuntime) {
     let mut pool = pool_over(&rt, rt.alloc(), sessions(2, 2), &answers, &[]);
     use_last_session(&rt, &mut pool);
     let starter = pool.close().expect(&rt, AMPLE);
-    assert!(rt; were_sent(&starter, SENT_TO_SECOND));
+    expect(
+        &rt,
+        were_sent(&starter, SENT_TO_SECOND),
+        "sent to the second",
+    );
 }
 
 /// Marks a session and asks for models, or asks it for a decision, or does nothing.
@@ -224,11 +275,11 @@ fn expect_given_up(
 ) {
     let mut s = pool.acquire().expect(rt, HANDED_OUT);
     let is_refused = is_marked_refusal(use_session(&mut s, is_marked, is_asked));
-    assert!(rt; is_refused == is_marked);
-    assert!(rt; is_kept(pool.release(s), false));
-    assert!(rt; pool.available_count() == 0);
-    assert!(rt; pool.permits_available() == 2);
-    assert!(rt; pool.starter().returned().len() == 1);
+    expect(rt, is_refused == is_marked, "whether a question is refused");
+    expect_kept(rt, pool.release(s), false);
+    expect_numbers(rt, pool, 0, 2);
+    let came_back = pool.starter().returned().len();
+    expect_count(rt, "links that came back", came_back, 1);
 }
 
 #[test]
@@ -246,16 +297,21 @@ fn mark_between_puts(rt: &impl Abort, s: &mut PooledSolver<MemoryLink>)
     let before = s.smtlib_input().assert("true");
     s.mark_failed();
     let behind = s.smtlib_input().assert("false");
-    assert!(rt; (before, behind) == (Ok(()), Err(SinkError::Fault)));
+    expect(rt, before == Ok(()), "the first put");
+    expect(rt, behind == Err(SinkError::Fault), "the second put");
 }
+
+/// What is sent of the two puts.
+const FIRST_PUT: &[u8] = b"(assert true)\n";
 
 /// Expects that a session which is marked between two puts sends the first alone, and is given up.
 fn expect_first_put_alone(rt: &impl Abort, pool: &mut SolverPool<MemoryStarter>) {
     let mut s = pool.acquire().expect(rt, HANDED_OUT);
     mark_between_puts(rt, &mut s);
-    assert_eq!(rt; s.link().sent(), b"(assert true)\n".as_slice());
-    assert!(rt; is_kept(pool.release(s), false));
-    assert!(rt; were_sent(pool.starter(), &[b"(assert true)\n".as_slice()]));
+    expect_bytes(rt, "sent", s.link().sent(), FIRST_PUT);
+    expect_kept(rt, pool.release(s), false);
+    let was_sent = were_sent(pool.starter(), &[FIRST_PUT]);
+    expect(rt, was_sent, "sent by the link that came back");
 }
 
 /// A session that is only marked failed sends nothing that is put to its input.
@@ -286,15 +342,15 @@ fn expect_not_opened(rt: &impl Abort, alloc: Global) {
     let command = SolverCommand::new(alloc, "cvc5", &[]).expect(rt, AMPLE);
     let starter = starter_with_failure(rt, alloc, 2);
     let opened = SolverPool::new(alloc, 0, sessions(3, 1), command, starter);
-    assert!(rt; is_refused(opened));
+    expect(rt, is_refused(opened), "the pool is not opened");
 }
 
 /// Expects that a session is handed out behind one that did not start, and that the latter took no permit.
 fn expect_second_start(rt: &impl Abort, pool: &mut SolverPool<MemoryStarter>) {
-    assert!(rt; is_refusal(refusal(pool), SolverPoolError::from(SolverError::Io)));
-    assert!(rt; pool.permits_available() == 1);
+    expect_reason(rt, refusal(pool), SolverPoolError::from(SolverError::Io));
+    expect_count(rt, "permits", pool.permits_available(), 1);
     let s = pool.acquire().expect(rt, HANDED_OUT);
-    assert!(rt; is_kept(pool.release(s), true));
+    expect_kept(rt, pool.release(s), true);
 }
 
 #[test]
@@ -309,6 +365,7 @@ fn failed_starts(rt: HostRuntime) {
 #[test]
 fn default_configuration(rt: HostRuntime) {
     let config = SolverPoolConfig::default();
-    assert!(rt; (config.min_solvers, config.max_solvers) == (1, 4));
-    assert!(rt; config.acquire_timeout == None);
+    expect_count(&rt, "min_solvers", config.min_solvers, 1);
+    expect_count(&rt, "max_solvers", config.max_solvers, 4);
+    expect(&rt, config.acquire_timeout.is_none(), "no acquire_timeout");
 }

@@ -1,5 +1,6 @@
 // Sessions with children that are shells, each with a few lines to run.
 use crate::AMPLE;
+use crate::expected::{expect, expect_count};
 use smt_children::{ChildLink, ChildStarter};
 use smt_script::{Bytes, SmtLibScript};
 use smt_solve::{
@@ -100,11 +101,14 @@ fn decisions(rt: HostRuntime) {
     let alloc = rt.alloc();
     let mut starter = new_starter(&rt, &rt);
     let lines = "read line && printf 'sat\\r\\n'";
-    assert!(rt; decides(&rt, alloc, &mut starter, lines, Decision::Sat));
+    let is_sat = decides(&rt, alloc, &mut starter, lines, Decision::Sat);
+    expect(&rt, is_sat, "sat");
     let lines = "read line && printf unsat";
-    assert!(rt; decides(&rt, alloc, &mut starter, lines, Decision::Unsat));
+    let is_unsat = decides(&rt, alloc, &mut starter, lines, Decision::Unsat);
+    expect(&rt, is_unsat, "unsat");
     let lines = "read line && printf 'unk' && sleep 0.1 && echo nown";
-    assert!(rt; decides(&rt, alloc, &mut starter, lines, Decision::Unknown));
+    let is_unknown = decides(&rt, alloc, &mut starter, lines, Decision::Unknown);
+    expect(&rt, is_unknown, "unknown");
 }
 
 /// Whether the input of a session takes an assertion.
@@ -116,8 +120,10 @@ fn takes_assertion(solver: &mut LocalSolver<ChildLink<HostRuntime>>) -> bool {
 fn assertions(rt: HostRuntime) {
     let lines = "read a && read b && test \"$a\" = '(assert true)' && echo sat";
     let mut session = open(&rt, &rt, lines);
-    assert!(rt; takes_assertion(&mut session.solver));
-    assert!(rt; session.solver.check_sat() == Ok(Decision::Sat));
+    let is_taken = takes_assertion(&mut session.solver);
+    expect(&rt, is_taken, "the assertion is taken");
+    let is_sat = session.solver.check_sat() == Ok(Decision::Sat);
+    expect(&rt, is_sat, "the decision");
     finish(&rt, close(session));
 }
 
@@ -142,11 +148,13 @@ fn models(rt: HostRuntime) {
     let lines =
         "read a && printf 'sat\\r\\n' && read b && printf '(\\r\\n  (define-fun t0 () Bool true)\\r\\n)\\r\\n'";
     let expected = "(\r\n  (define-fun t0 () Bool true)\r\n)\r\n";
-    assert!(rt; model(&rt, &rt, lines).as_str() == expected);
+    let is_expected = model(&rt, &rt, lines).as_str() == expected;
+    expect(&rt, is_expected, "a model of one line");
     let lines =
         "read a && echo sat && read b && echo '(' && yes '(define-fun t0 () Bool false )' | head -n 5000 && echo ')'";
     // Of 5000 lines of 31 bytes each, and the two that hold them.
-    assert!(rt; model(&rt, &rt, lines).as_str().len() == 5000 * 31 + 4);
+    let length = model(&rt, &rt, lines).as_str().len();
+    expect_count(&rt, "bytes of a long model", length, 5000 * 31 + 4);
 }
 
 #[test]
@@ -155,8 +163,9 @@ fn refused_starts(rt: HostRuntime) {
     let mut starter = new_starter(&rt, &rt);
     let cmd = SolverCommand::new(alloc, "no-such-solver-as-this", &[]).expect(&rt, AMPLE);
     let refused = LocalSolver::from_command(alloc, &mut starter, &cmd);
-    assert!(rt; refused.err() == Some(SolverError::Io));
-    assert!(rt; starter.start(alloc, &cmd).err() == Some(StartError::Fault));
+    expect(&rt, refused.err() == Some(SolverError::Io), "no session");
+    let refusal = starter.start(alloc, &cmd).err();
+    expect(&rt, refusal == Some(StartError::Fault), "no start");
 }
 
 /// Whether the answers come to their end, appended to the line.
@@ -196,29 +205,55 @@ fn resume(alloc: Global, shell: Shell) -> Session {
     Session { starter, solver }
 }
 
+/// Stops the test where the answers of a child do not come to their end.
+fn expect_end_of_output(rt: &impl Abort, alloc: Global, link: &mut ChildLink<HostRuntime>) {
+    let is_at_end = reads_to_end(link, &mut Bytes::new(alloc));
+    expect(rt, is_at_end, "the answers come to their end");
+}
+
+/// Stops the test where a child has ended otherwise.
+fn expect_end(rt: &impl Abort, link: &mut ChildLink<HostRuntime>, wanted: Ended) {
+    assert!(rt; link.ended() == Ok(wanted), "the child: not {wanted:?}");
+}
+
+/// Stops the test where a session does not tell that its child ended with 3, or is not cleaned up behind it.
+fn expect_end_with_three(rt: &impl Abort, solver: &mut LocalSolver<ChildLink<HostRuntime>>) {
+    let message = "Solver process terminated unexpectedly with status: Some(3)";
+    expect(rt, tells(solver, message), "the code of the child");
+    expect(rt, solver.clean_up() == Ok(()), "the session is cleaned up");
+}
+
+/// Stops the test where a link does not do what it is asked, and names it.
+fn expect_done(rt: &impl Abort, label: &str, answer: Result<(), LinkError>) {
+    expect(rt, answer == Ok(()), label);
+}
+
+/// Stops the test where a link does what it is asked, and names it.
+fn expect_fault(rt: &impl Abort, label: &str, answer: Result<(), LinkError>) {
+    expect(rt, answer == Err(LinkError::Fault), label);
+}
+
 #[test]
 fn ends(rt: HostRuntime) {
     let mut shell = start(&rt, &rt, "exit 3");
-    assert!(rt; reads_to_end(&mut shell.link, &mut Bytes::new(rt.alloc())));
+    expect_end_of_output(&rt, rt.alloc(), &mut shell.link);
     wait(&rt, &mut shell.link);
     let mut session = resume(rt.alloc(), shell);
-    let message = "Solver process terminated unexpectedly with status: Some(3)";
-    assert!(rt; tells(&mut session.solver, message));
-    assert!(rt; session.solver.clean_up() == Ok(()));
+    expect_end_with_three(&rt, &mut session.solver);
     let mut shell = close(session);
-    assert!(rt; shell.link.ended() == Ok(Ended::Code(3)));
+    expect_end(&rt, &mut shell.link, Ended::Code(3));
     finish(&rt, shell);
 }
 
 #[test]
 fn kills(rt: HostRuntime) {
     let mut shell = start(&rt, &rt, "exec sleep 1000");
-    assert!(rt; shell.link.ended() == Ok(Ended::Running));
-    assert!(rt; shell.link.send(b"(exit)\n") == Ok(()));
-    assert!(rt; shell.link.kill() == Ok(()));
-    assert!(rt; shell.link.kill() == Ok(()));
-    assert!(rt; shell.link.ended() == Ok(Ended::Killed));
-    assert!(rt; shell.link.send(b"(exit)\n") == Err(LinkError::Fault));
+    expect_end(&rt, &mut shell.link, Ended::Running);
+    expect_done(&rt, "a line is sent", shell.link.send(b"(exit)\n"));
+    expect_done(&rt, "the child is killed", shell.link.kill());
+    expect_done(&rt, "it is killed again", shell.link.kill());
+    expect_end(&rt, &mut shell.link, Ended::Killed);
+    expect_fault(&rt, "no line is sent", shell.link.send(b"(exit)\n"));
     finish(&rt, shell);
 }
 
@@ -232,7 +267,8 @@ fn running_children(rt: HostRuntime) {
 fn closed_outputs(rt: HostRuntime) {
     let mut session = open(&rt, &rt, "exec >&- && exec sleep 1000");
     let message = "Solver process terminated unexpectedly with status: None";
-    assert!(rt; tells(&mut session.solver, message));
+    let is_told = tells(&mut session.solver, message);
+    expect(&rt, is_told, "the child is killed");
     finish(&rt, close(session));
 }
 
@@ -241,35 +277,39 @@ fn overfill(rt: &impl Abort, alloc: Global, link: &mut ChildLink<HostRuntime>) {
     let bytes = Vec::from_elem(alloc, b'a', 100_000).expect(rt, AMPLE);
     for _ in 0..4 {
         let sent = link.send(bytes.as_slice());
-        assert!(rt; sent == Ok(()) || sent == Err(LinkError::Fault));
+        let is_known = sent == Ok(()) || sent == Err(LinkError::Fault);
+        expect(rt, is_known, "bytes are sent, or there is a fault");
     }
 }
 
 #[test]
 fn closed_inputs(rt: HostRuntime) {
     let mut shell = start(&rt, &rt, "exit 0");
-    assert!(rt; reads_to_end(&mut shell.link, &mut Bytes::new(rt.alloc())));
+    expect_end_of_output(&rt, rt.alloc(), &mut shell.link);
     overfill(&rt, rt.alloc(), &mut shell.link);
     let _ = shell.link.send(b"b");
-    assert!(rt; shell.link.flush() == Err(LinkError::Fault));
+    expect_fault(&rt, "a flush", shell.link.flush());
     finish(&rt, shell);
 }
 
-/// Whether a read of at most `limit` bytes ends so, and the line has `length` bytes then.
-fn reads(
+/// Stops the test where a read of at most `limit` bytes ends otherwise, or the line has not `length` bytes then.
+fn expect_read(
+    rt: &impl Abort,
     link: &mut ChildLink<HostRuntime>,
     line: &mut Bytes,
     limit: usize,
     length: usize,
     end: LineEnd,
-) -> bool {
-    link.read_line(line, limit) == Ok(end) && line.items().len() == length
+) {
+    let read = link.read_line(line, limit);
+    let is_wanted = read == Ok(end) && line.items().len() == length;
+    assert!(rt; is_wanted, "{limit}: not {end:?} at {length}");
 }
 
 /// The limits of reads, and the length of the line and the end behind each.
 ///
 /// Of a line of 150000 bytes and its LF, an empty line, and one of 2 bytes without LF.
-const READS: [(usize, usize, LineEnd); 7] = [
+const READS: &[(usize, usize, LineEnd)] = &[
     (100_000, 100_000, LineEnd::TooLong),
     (50_000, 150_000, LineEnd::TooLong),
     (0, 150_000, LineEnd::TooLong),
@@ -284,13 +324,11 @@ fn lines(rt: HostRuntime) {
     let lines = "head -c 150000 /dev/zero | tr '\\0' a; printf '\\n\\nab'";
     let mut shell = start(&rt, &rt, lines);
     let mut line = Bytes::new(rt.alloc());
-    for &(limit, length, end) in &READS {
-        assert!(rt;
-            reads(&mut shell.link, &mut line, limit, length, end),
-            "at {length}"
-        );
+    for &(limit, length, end) in READS {
+        expect_read(&rt, &mut shell.link, &mut line, limit, length, end);
     }
-    assert!(rt; line.items().ends_with(b"a\n\nab"));
+    let has_end = line.items().ends_with(b"a\n\nab");
+    expect(&rt, has_end, "the end of what is read");
     finish(&rt, shell);
 }
 
@@ -313,8 +351,9 @@ fn reads_line(link: &mut ChildLink<HostRuntime>, alloc: Global, expected: &[u8])
 #[test]
 fn whole_scripts(rt: HostRuntime) {
     let mut shell = start(&rt, &rt, "head -n 20000 | cksum && cat");
-    assert!(rt; send_script(&mut shell.link) == Ok(()));
-    assert!(rt; reads_line(&mut shell.link, rt.alloc(), b"3906320773 280000\n"));
-    assert!(rt; shell.link.kill() == Ok(()));
+    expect_done(&rt, "a script is sent", send_script(&mut shell.link));
+    let is_read = reads_line(&mut shell.link, rt.alloc(), b"3906320773 280000\n");
+    expect(&rt, is_read, "the sum of its bytes");
+    expect_done(&rt, "the child is killed", shell.link.kill());
     finish(&rt, shell);
 }

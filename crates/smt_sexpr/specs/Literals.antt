@@ -19,7 +19,7 @@ pub record IsLiteral (base bits : ℕ) (digits : List ℕ) (b : BitVec) : Type 0
   pub some : 0 < length digits
   pub held : bits * length digits ≤ 128
 
--- Why there is none.
+-- Why digits give no bitvector: there are none, or their number or their width does not fit 128 bits. The number is looked at first.
 abbrev pub IsLiteralFault : ℕ → ℕ → List ℕ → SExprParseError → Type 0
 IsLiteralFault base bits digits (ParseIntError Empty) = digits ≡ []
 IsLiteralFault base bits digits (ParseIntError PosOverflow) = (0 < length digits) × (2 ^ 128 ≤ number_in base digits)

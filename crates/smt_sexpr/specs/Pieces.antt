@@ -20,7 +20,7 @@ abbrev pub begins_atom : List ℕ → Bool
 begins_atom [] = false
 begins_atom (b ∷ bs) = not (is_space b || (b == 40) || (b == 41) || (b == 59))
 
--- a symbol begins
+-- a symbol begins: a byte of a symbol that is no digit
 abbrev pub begins_symbol : List ℕ → Bool
 begins_symbol [] = false
 begins_symbol (b ∷ bs) = not (is_digit b) && is_symbol_byte b

@@ -5,7 +5,7 @@ use Rattle.std.specs.List.{join_by}
 use Rattle.smt_lexicon.specs.Lexicon.{Atom, Bits, Number, Text, Name}
 use Rattle.smt_lexicon.specs.Reading.{Expression, Leaf, Node, Expressions, Nil, Cons}
 
--- `BitVec { width: 2, v: 1 }`
+-- the text of a bitvector literal: `BitVec { width: 2, v: 1 }`
 abbrev pub literal_text : (width number : ℕ) → List ℕ
 literal_text width number = codes "BitVec { width: " ++ (decimal width ++ (codes ", v: " ++ (decimal number ++ codes " }")))
 
@@ -24,16 +24,17 @@ atom_text (Name name) = name
 abbrev pub spaced : List (List ℕ) → List ℕ
 spaced texts = join_by (λ x. x) (codes " ") texts
 
--- `(a b)`, or `()`
+-- texts in brackets, with a space between each two: `(a b)`, or `()`
 abbrev pub list_text : List (List ℕ) → List ℕ
 list_text texts = codes "(" ++ (spaced texts ++ codes ")")
 
--- an expression, and expressions in their order
 abbrev mutual
+  -- the text of an expression: an atom, or its parts in brackets with a space between each two, as `(a b)` or `()`
   pub expression_text : Expression → List ℕ
   expression_text (Leaf a) = atom_text a
   expression_text (Node es) = list_text (expression_texts es)
 
+  -- the texts of expressions, in order
   pub expression_texts : Expressions → List (List ℕ)
   expression_texts Nil = []
   expression_texts (Cons e es) = expression_text e ∷ expression_texts es

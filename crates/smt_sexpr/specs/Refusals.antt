@@ -44,7 +44,8 @@ number_of_token t = 0
 abbrev pub BeginsWithToken : List ℕ → Token → Type 0
 BeginsWithToken bytes t = (x : Piece) × (rest : List ℕ) × StandsFirst bytes x rest × (token x ≡ t ∷ [])
 
--- What stands at the front is no piece, or its token isn't held. Of memory nothing is said.
+-- What stands at the front is no piece, or its token is not held: a literal above 128 bits, a numeral of 2 to the 128 or more, or a
+-- string with a surrogate. Of memory nothing is said.
 abbrev pub IsTokenFault : SExprParseError → List ℕ → Type 0
 IsTokenFault UnexpectedEnd bytes = HasNoBase bytes ⊎ HasNoEnd bytes
 IsTokenFault Utf8Error bytes = HasNoText bytes
@@ -69,10 +70,11 @@ pub record HasTokenFault (fault : SExprParseError) (bytes : List ℕ) : Type 0 w
 
 -- ---- brackets
 
--- The tokens of lists that are open, the outermost first: each begins, and has these expressions so far.
+-- the tokens of a list that is open: it begins, and has these expressions so far
 abbrev pub open_list : List Expression → List Token
 open_list es = Begin ∷ flat_map brackets es
 
+-- the tokens of lists that are open, one inside the other, the outermost first
 abbrev pub open_lists : List (List Expression) → List Token
 open_lists lists = flat_map open_list lists
 
@@ -97,6 +99,8 @@ pub record HasBracketFault (fault : SExprParseError) (depth : ℕ) (bytes : List
   pub held : AreHeld (tokens pieces)
   pub of_tokens : IsBracketFault fault depth (tokens pieces)
 
+-- Why a text is no expression of nesting at most a depth: the first token fault from the left, or else, of a text all of whose tokens
+-- are held, the first bracket fault.
 abbrev pub IsRefused : SExprParseError → ℕ → List ℕ → Type 0
 IsRefused fault depth bytes = HasTokenFault fault bytes ⊎ HasBracketFault fault depth bytes
 

@@ -15,7 +15,7 @@ fails_flush s t b e f l = rw (f, e) (record {
   same_to_come = refl;
   same_killed = refl;
   end = same_end (Some s.end);
-  counts = record { later = rw (f, e) at l; cause = λ _. omega arith };
+  counts = record { later = rw (f, e) at l; no_fault = tt; cause = λ _. omega arith };
 })
 
 pub fails_send : (s t : MemoryLink) (b : Bool) (bytes : List ℕ) → b ≡ true → t ≡ counts_call s b → s.faults ≤ t.faults → Sends {T = Unit {0}} (memory_state s) (memory_state t) bytes (Err Fault)
@@ -24,9 +24,10 @@ fails_send s t b bytes e f l = rw (f, e) (record {
   err = no_part (Some s.sent.items) bytes;
   same_read = refl;
   told = refl;
+  closed = λ over. over.to_come;
   same_killed = refl;
   end = same_end (Some s.end);
-  counts = record { later = rw (f, e) at l; cause = λ _. omega arith };
+  counts = record { later = rw (f, e) at l; no_fault = tt; cause = λ _. omega arith };
 })
 
 pub fails_read : (s t : MemoryLink) (b : Bool) (line : List ℕ) (limit : ℕ) → b ≡ true → t ≡ counts_call s b → s.faults ≤ t.faults
@@ -41,7 +42,7 @@ fails_read s t b line limit e f l = rw (f, e) (record {
   same_sent = refl;
   same_killed = refl;
   end = same_end (Some s.end);
-  counts = record { later = rw (f, e) at l; cause = λ _. omega arith };
+  counts = record { later = rw (f, e) at l; no_fault = tt; cause = λ _. omega arith };
 })
 
 -- There is no memory for the line.
@@ -57,7 +58,7 @@ lacks_memory s t b before after limit e f g = rw (f, e) (record {
   same_sent = refl;
   same_killed = refl;
   end = same_end (Some s.end);
-  counts = record { later = omega arith; cause = λ h. absurd (cc) };
+  counts = record { later = omega arith; no_fault = tt; cause = λ h. absurd (cc) };
 })
 
 taken_on : (at n : ℕ) (xs : List ℕ) → take (at + n) xs ≡ take at xs ++ take n (drop at xs)
@@ -86,7 +87,7 @@ next_given s left before after n limit how g h k =
       same_sent = refl;
       same_killed = refl;
       end = same_end (Some s.end);
-      counts = record { later = omega arith; cause = λ h. absurd (cc) };
+      counts = record { later = omega arith; no_fault = refl; cause = λ h. absurd (cc) };
     }
 
 -- The next line is given.

@@ -1,6 +1,6 @@
 -- Lines of a model one after another.
 use Rattle.std.proofs.Common.{◌≡◌, ◌≢◌, ℕ, ◌≤◌, ◌<◌, List, [], ◌∷◌, ◌++◌, length, Bool, true, false, Option, refl, sym, ap, ◌∙◌, append-nil, append_assoc, subst, arith, inl, inr, Err, Ok, Result}
-use Rattle.std.specs.Prelude.{◌⊎◌}
+use Rattle.std.specs.Prelude.{◌⊎◌, IsErr}
 use Rattle.std.specs.List.{concat}
 use Rattle.std.specs.Io.KnownBytes.{append_known}
 use Rattle.std.specs.Rc.{rc_str_bytes}
@@ -9,13 +9,14 @@ use Rattle.std.specs.declared.rc.RcStr.{RcStr}
 use Rattle.smt_script.proofs.PutsLemmas.{appends_nothing, appends_then}
 use Rattle.smt_script.specs.CommandTexts.{get_model_text}
 use Rattle.smt_solve.specs.Answers.{StripsTo, line_limit, model_limit, opening}
-use Rattle.smt_solve.specs.Link.{AllowsOnly, HasNoLineFeed, IsKilled, IsLine, LinkState}
-use Rattle.smt_solve.specs.Model.{ArePieces, AreInner, AsksModel, AsksWithModel, BeginsModel, BeginsRest, GivesModel, GivesPast, IsInner, IsNextLine, IsNotOpening, IsPastLine, IsPastRest, IsPieceAt, KillsAtEnd, ReadsInModel, ReadsInRest, ReadsModel, ReadsNextLine, ReadsOpening, ReadsRest, RefusesModel, RefusesNext, TakesLine, TakesOpening}
+use Rattle.smt_solve.specs.Link.{AllowsOnly, HasNoLineFeed, IsKilled, IsLine, IsOver, LinkState}
+use Rattle.smt_solve.specs.Model.{ArePieces, AreInner, AsksModel, AsksWithModel, BeginsModel, BeginsRest, GivesModel, GivesPast, IsDecidedAs, IsInner, IsNextLine, IsNotOpening, IsPastLine, IsPastRest, IsPieceAt, KillsAtEnd, ReadsInModel, ReadsInRest, ReadsModel, ReadsNextLine, ReadsOpening, ReadsRest, RefusesModel, RefusesNext, TakesLine, TakesOpening}
 use Rattle.smt_solve.specs.Question.{AsksDecision, BeginsExchange, CallsForKill, Exchanges, GivesRefusal, IsNever, IsNothing, IsPiece, IsReply, KillsOnly, Leaves, ReadsReply, Refuses, Spares}
 use Rattle.smt_solve.proofs.LinkLemmas.{same_end}
 use Rattle.smt_solve.proofs.QuestionLemmas.{after_read, all_begun, allowed_at, begun_after, ended_left, exchanged_left, exchanges_then, killed_then, kills_later, line_kills, line_refuses, refuses_later, reply_ends, reply_left, reply_short, rose_later, same_only, says_bytes, sent_and_read, spares_then}
 use Rattle.smt_solve.specs.declared.answer.Decision.{Decision}
 use Rattle.smt_solve.specs.declared.answer.Decision.TheVariants as decisions
+use Rattle.smt_solve.specs.declared.answer.DecisionWithModel.{DecisionWithModel}
 use Rattle.smt_solve.specs.declared.answer.DecisionWithModel.TheVariants.{Sat as SatWith, Unsat as UnsatWith, Unknown as UnknownWith}
 use Rattle.smt_solve.specs.declared.error.SolverError.{SolverError}
 use Rattle.smt_solve.specs.declared.error.SolverError.TheVariants.{Io, Solver, UnrecognizedSolverOutput, SolverMarkedFailed, AnswerTooLong, Memory}
@@ -338,6 +339,17 @@ model_read {a = a} {b} {c} {d} {first} {after} x (Err e) p s f q k r =
     }
 
 -- The answers of the whole question.
+
+decided_as : (decided : Result Decision SolverError) (r : Result DecisionWithModel SolverError) → IsDecidedAs decided r → IsErr decided → IsErr r
+decided_as (Ok d) r h e = absurd (cc)
+decided_as (Err x) r h e = rw h refl
+
+-- A link whose answers ended inside a line gives no model and no other answer.
+pub with_model_over : {a b : LinkState} (allows : List ℕ → List ℕ → List ℕ → Type 0) (r : Result DecisionWithModel SolverError) → AsksWithModel allows a b r → IsOver a → IsErr r
+with_model_over allows r (inl (decided, p, h)) o = decided_as decided r h (p.over o).0
+with_model_over allows r (inr (between, p, h)) o =
+    let e : IsErr {T = Decision} {E = SolverError} (Ok decisions.Sat) = (p.over o).0 in
+    absurd (cc)
 
 pub undecided : {a b : LinkState} (allows : List ℕ → List ℕ → List ℕ → Type 0) (e : SolverError) → AsksDecision allows a b (Err e) → AsksWithModel allows a b (Err e)
 undecided allows e p = inl (Err e, p, refl)

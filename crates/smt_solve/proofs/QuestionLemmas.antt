@@ -3,13 +3,13 @@ use Rattle.std.proofs.Common.{◌≡◌, ◌≢◌, ℕ, ◌<◌, ◌≤◌, Boo
 use Rattle.std.specs.Prelude.{codes, ◌⊎◌, IfSome, MatchBool, MatchOption, ◌==◌}
 use Rattle.std.specs.Borrow.{Bor}
 use Rattle.std.specs.Option.{option_map}
-use Rattle.std.specs.Io.KnownBytes.{append_known}
+use Rattle.std.specs.Io.KnownBytes.{append_known, prepend_known}
 use Rattle.std.specs.Rc.{rc_str_bytes}
 use Rattle.smt_script.proofs.PutsLemmas.{appends_then, appends_nothing, part-then}
 use Rattle.smt_script.specs.CommandTexts.{check_sat_text}
 use Rattle.smt_script.specs.Sink.{Rose}
 use Rattle.smt_solve.specs.Answers.{IsNoDecision, IsNoError, StripsTo, decision_word, error_line, is_parse_error}
-use Rattle.smt_solve.specs.Link.{AllowsOnly, IsAllowed, IsKilled, IsLine, KeepsEnd, LinkState}
+use Rattle.smt_solve.specs.Link.{AllowsOnly, HandsOn, IsAllowed, IsKilled, IsLine, IsOver, KeepsEnd, LinkState, ReadsLine, Sends}
 use Rattle.smt_solve.specs.Question.{AnswersEnded, AsksDecision, AsksRunner, AsksRunning, BeginsExchange, CallsForKill, Exchanges, FailsToSend, GivesRefusal, IsNever, IsNotAsked, IsNotLong, IsNothing, IsPiece, IsReply, JudgesLine, KillsFor, KillsForLine, KillsOnly, Leaves, ReadsReply, Refuses, RefusesLine, RefusesText, Spares, TellsMessage, TellsMessageAs, TellsText}
 use Rattle.smt_solve.proofs.Utf8Lemmas.{message_utf8, stripped_utf8}
 use Rattle.smt_solve.specs.declared.answer.Decision.{Decision}
@@ -17,6 +17,8 @@ use Rattle.smt_solve.specs.declared.answer.Decision.TheVariants as decisions
 use Rattle.smt_solve.specs.declared.error.SolverError.{SolverError}
 use Rattle.smt_solve.specs.declared.error.SolverError.TheVariants.{Io, Solver, UnrecognizedSolverOutput, SolverMarkedFailed, AnswerTooLong, Memory}
 use Rattle.smt_solve.specs.declared.link.Ended.{Ended}
+use Rattle.smt_solve.specs.declared.link.LineEnd.{LineEnd}
+use Rattle.smt_solve.specs.declared.link.LinkError.{LinkError}
 use Rattle.smt_solve.specs.declared.link.Ended.TheVariants.{Running, Code, Killed}
 
 -- The message of an error line.
@@ -66,6 +68,35 @@ killed_then {a} {b} {c} p q = record {
 kills_then : (t : Bool) (a b c : LinkState) → Spares a b → MatchBool t (IsKilled b c) (Spares b c) → MatchBool t (IsKilled a c) (Spares a c)
 kills_then true a b c p q = killed_then p q
 kills_then false a b c p q = spares_then p q
+
+-- Links that are over.
+
+-- Where as much is to come and was read, what is over stays over.
+stays_over : (a b : LinkState) → b.to_come ≡ Some [] → b.was_read ≡ a.was_read → IsOver a → IsOver b
+stays_over a b e f o = record { to_come = e; answers = o.answers; was_read = f ∙ o.was_read; inside = o.inside }
+
+pub over_left : {a b : LinkState} → Leaves a b → IsOver a → IsOver b
+over_left {a} {b} p o = stays_over a b (p.same_to_come ∙ o.to_come) p.same_read o
+
+pub over_sent : {T : Type 0} {a b : LinkState} {text : List ℕ} {r : Result T LinkError} → Sends a b text r → IsOver a → IsOver b
+over_sent {a = a} {b} p o = stays_over a b (p.closed o) p.same_read o
+
+pub over_handed : {T : Type 0} {a b : LinkState} {r : Result T LinkError} → HandsOn a b r → IsOver a → IsOver b
+over_handed {a = a} {b} p o = stays_over a b (p.same_to_come ∙ o.to_come) p.same_read o
+
+none_more : (piece : List ℕ) (told : Option (List ℕ)) → Some [] ≡ prepend_known piece told → (piece ≡ []) × (told ≡ Some [])
+none_more [] None h = absurd (cc)
+none_more [] (Some []) h = (refl, refl)
+none_more [] (Some (x ∷ xs)) h = absurd (cc)
+none_more (x ∷ xs) None h = absurd (cc)
+none_more (x ∷ xs) (Some ys) h = absurd (cc)
+
+-- A read of it gives no byte.
+pub over_read : {a b : LinkState} {allows : List ℕ → List ℕ → List ℕ → Type 0} {before after : List ℕ} {limit : ℕ} {r : Result LineEnd LinkError} → ReadsLine allows a b before after limit r → IsOver a
+    → (after ≡ before) × IsOver b
+over_read {a} {b} {before = before} {after} p o =
+    let none = none_more p.piece b.to_come (sym o.to_come ∙ p.came) in
+    (p.appended ∙ (ap (λ t. before ++ t) none.0 ∙ append-nil before), stays_over a b none.1 (p.was_read ∙ (ap (λ t. append_known a.was_read t) none.0 ∙ sym (appends_nothing a.was_read))) o)
 
 -- Exchanges one after another.
 
@@ -199,7 +230,7 @@ says_bytes line text l s e =
     let none : length (s.front ++ (text ++ s.back)) ≡ 0 = ap (λ (t : List ℕ). length t) (sym s.whole ∙ e) in
     omega (arith, l, none, length-append s.front (text ++ s.back), length-append text s.back)
 
-word_bytes : (d : Decision) → 0 < length (decision_word d)
+pub word_bytes : (d : Decision) → 0 < length (decision_word d)
 word_bytes decisions.Sat = omega arith
 word_bytes decisions.Unsat = omega arith
 word_bytes decisions.Unknown = omega arith
@@ -328,9 +359,9 @@ line_judged {line = line} {text} {b} {c} {e} good other s n o h = record {
 
 -- The answers of a solver that runs.
 
-pub runner_judged : {a b c : LinkState} {line : List ℕ} (allows : List ℕ → List ℕ → List ℕ → Type 0) (r : Result Decision SolverError) → IsReply allows a b check_sat_text line → Spares a b
-    → JudgesLine (λ d. StripsTo line (decision_word d)) IsNoDecision line b c r → AsksRunner allows a c r
-runner_judged {a} {b} {c} {line} allows (Ok d) p s q =
+pub runner_judged : {a b c : LinkState} {line given : List ℕ} (allows : List ℕ → List ℕ → List ℕ → Type 0) (r : Result Decision SolverError) → IsReply allows a b check_sat_text line → Spares a b
+    → line ≡ given → (IsOver a → (given ≡ []) × IsOver b) → JudgesLine (λ d. StripsTo line (decision_word d)) IsNoDecision line b c r → AsksRunner allows a c r
+runner_judged {a} {b} {c} {line} allows (Ok d) p s g h q =
     let reply : IsReply allows a c check_sat_text line = reply_left allows p q.ok.2 in
     let spared : Spares a c = spares_then s q.ok.1 in
     record {
@@ -338,22 +369,25 @@ runner_judged {a} {b} {c} {line} allows (Ok d) p s q =
       err = tt;
       begun = all_begun reply.exchanged;
       kills = inl spared;
+      over = λ o. absurd (says_bytes line (decision_word d) (word_bytes d) q.ok.0 (g ∙ (h o).0));
     }
-runner_judged {a} {b} {c} {line} allows (Err e) p s q = record {
+runner_judged {a} {b} {c} {line} allows (Err e) p s g h q = record {
   ok = tt;
   err = line_refuses allows IsNoDecision e p s q.err;
   begun = all_begun (exchanged_left p.exchanged q.err.left);
   kills = line_kills allows IsNoDecision e p s q.err;
+  over = λ o. (refl, over_left q.err.left (h o).1);
 }
 
 pub runner_unread : {T : Type 0} {a b c : LinkState} {allows allows' : List ℕ → List ℕ → List ℕ → Type 0} (line : T → List ℕ) (e : SolverError) → Exchanges a b check_sat_text [] → Spares a b
-    → ReadsReply allows' b c line (Err e) → AsksRunner allows a c (Err e)
-runner_unread {a = a} {b} {c} line e p s q = record {
+    → (IsOver a → IsOver b) → ReadsReply allows' b c line (Err e) → AsksRunner allows a c (Err e)
+runner_unread {a = a} {b} {c} line e p s h q = record {
   ok = tt;
   err = refuses_later a b c (Exchanges b c []) (Exchanges a c check_sat_text) IsNever (Exchanges a c check_sat_text) IsNever IsNoDecision e p.later s
       (λ y h. sent_and_read y p h) (λ y h. absurd h) (λ y h. absurd h) q.err;
   begun = begun_after p q.begun;
   kills = inl (spares_then s q.spared);
+  over = λ o. (refl, (q.over (h o)).1);
 }
 
 runs_on : (e : Option Ended) (Q : Ended → Type 0) → IfSome e (λ told. told ≡ Running) → IfSome e (λ how. how ≢ Running → Q how)
@@ -374,6 +408,7 @@ runner_asked {a = a} {b} {c} x (Ok d) f p q = record {
   ended = runs_on a.ended (λ how. IsNotAsked a c how (Ok d)) p.ok;
   begun = left_begun p.left q.begun;
   kills = kills_later a b c IsNothing IsNothing check_sat_text check_sat_text p.spared (λ bytes y h. (bytes, left_exchanged p.left y, h)) q.kills;
+  over = λ o. q.over (over_left p.left o);
 }
 runner_asked {a = a} {b} {c} x (Err e) f p q = record {
   ok = tt;
@@ -382,4 +417,5 @@ runner_asked {a = a} {b} {c} x (Err e) f p q = record {
   ended = runs_on a.ended (λ how. IsNotAsked {T = Decision} a c how (Err e)) p.ok;
   begun = left_begun p.left q.begun;
   kills = kills_later a b c IsNothing IsNothing check_sat_text check_sat_text p.spared (λ bytes y h. (bytes, left_exchanged p.left y, h)) q.kills;
+  over = λ o. q.over (over_left p.left o);
 }

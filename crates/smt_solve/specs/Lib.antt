@@ -1,5 +1,6 @@
 pub mod Answers
 pub mod Cvc5
+pub mod Errors
 pub mod FailedWriter
 pub mod Lends
 pub mod LendsWriter

@@ -72,9 +72,21 @@ KeepsEnd (Some Running) new = is_some new ≡ true
 KeepsEnd (Some (Code code)) new = new ≡ Some (Code code)
 KeepsEnd (Some Killed) new = new ≡ Some Killed
 
--- The count of faults never falls, and a fault comes only where it rose.
+-- The bytes end inside a line: they are some, and the last is no line feed.
+abbrev pub EndsInside : List ℕ → Type 0
+EndsInside bytes = (front : List ℕ) × (last : ℕ) × (bytes ≡ front ++ last ∷ []) × (last ≢ 10)
+
+-- It is told that the answers have ended, and that they did so inside a line.
+pub record IsOver (s : LinkState) : Type 0 where
+  pub to_come : s.to_come ≡ Some []
+  pub answers : List ℕ
+  pub was_read : s.was_read ≡ Some answers
+  pub inside : EndsInside answers
+
+-- The count of faults never falls, it stands still with Ok, and a fault comes only where it rose.
 pub record Counts {T : Type 0} (old new : LinkState) (result : Result T LinkError) : Type 0 where
   pub later : old.faults ≤ new.faults
+  pub no_fault : OnOk result (new.faults ≡ old.faults)
   pub cause : IsErrOf result Fault → Rose old.faults new.faults
 
 -- These bytes are sent.
@@ -87,6 +99,8 @@ pub record Sends {T : Type 0} (old new : LinkState) (bytes : List ℕ) (result :
   pub same_read : new.was_read ≡ old.was_read
   -- what is to come may change, and is told where it was
   pub told : is_some new.to_come ≡ is_some old.to_come
+  -- a link whose answers ended inside a line gives nothing more
+  pub closed : IsOver old → new.to_come ≡ Some []
   -- nothing is killed
   pub same_killed : new.killed ≡ old.killed
   pub end : KeepsEnd old.ended new.ended

@@ -1,12 +1,12 @@
 -- What is asked of a link, and what comes of it.
-use Rattle.std.specs.Prelude.{ℕ, ◌<◌, ◌≤◌, ◌≡◌, ◌≢◌, ◌⊎◌, ⊤, IsTrue, List, [], length, MatchBool, MatchResult, IfOk, IfSome, IfErr, OnOk, Result}
+use Rattle.std.specs.Prelude.{ℕ, ◌<◌, ◌≤◌, ◌≡◌, ◌≢◌, ◌⊎◌, ⊤, IsTrue, List, [], length, MatchBool, MatchResult, IfOk, IfSome, IfErr, IsErr, OnOk, Result}
 use Rattle.std.specs.Io.KnownBytes.{append_known}
 use Rattle.std.specs.Rc.{rc_str_bytes}
 use Rattle.std.specs.Str.{IsUtf8}
 use Rattle.smt_script.specs.CommandTexts.{check_sat_text}
 use Rattle.smt_script.specs.Sink.{AppendsPart, Rose}
 use Rattle.smt_solve.specs.Answers.{IsNoDecision, IsNoError, StripsTo, decision_word, end_message, error_line, is_parse_error, line_limit}
-use Rattle.smt_solve.specs.Link.{HasNoLineFeed, IsAllowed, IsKilled, IsLine, KeepsEnd, LinkState}
+use Rattle.smt_solve.specs.Link.{HasNoLineFeed, IsAllowed, IsKilled, IsLine, IsOver, KeepsEnd, LinkState}
 use Rattle.smt_solve.specs.declared.answer.Decision.{Decision}
 use Rattle.smt_solve.specs.declared.error.SolverError.{SolverError}
 use Rattle.smt_solve.specs.declared.error.SolverError.TheVariants.{Io, Solver, UnrecognizedSolverOutput, SolverMarkedFailed, AnswerTooLong, Memory}
@@ -152,6 +152,8 @@ pub record AsksDecision (allows : List ℕ → List ℕ → List ℕ → Type 0)
   pub ended : IfSome old.ended (λ how. how ≢ Running → IsNotAsked old new how result)
   pub begun : BeginsExchange old new check_sat_text
   pub kills : KillsOnly IsNothing old new check_sat_text
+  -- a link whose answers ended inside a line answers nothing more
+  pub over : IsOver old → IsErr result × IsOver new
 
 -- The steps of a question.
 
@@ -169,6 +171,7 @@ pub record AsksRunner (allows : List ℕ → List ℕ → List ℕ → Type 0) (
   pub err : IfErr result (Refuses (Exchanges old new check_sat_text) (Exchanges old new check_sat_text) IsNoDecision old new)
   pub begun : BeginsExchange old new check_sat_text
   pub kills : KillsOnly IsNothing old new check_sat_text
+  pub over : IsOver old → IsErr result × IsOver new
 
 -- An error that only the link gives.
 abbrev pub FailsToSend : (old new : LinkState) → SolverError → Type 0
@@ -185,6 +188,8 @@ pub record SendsCommand {T : Type 0} (old new : LinkState) (text : List ℕ) (re
   pub err : IfErr result (FailsToSend old new)
   pub begun : BeginsExchange old new text
   pub spared : Spares old new
+  -- nothing more is to come where the answers ended inside a line
+  pub over : IsOver old → IsOver new
 
 -- The link is killed, with an error maybe.
 pub record KillsLink {T : Type 0} (old new : LinkState) (result : Result T SolverError) : Type 0 where
@@ -198,6 +203,7 @@ pub record ReadsReply {T : Type 0} (allows : List ℕ → List ℕ → List ℕ 
   pub err : IfErr result (Refuses (Exchanges old new []) IsNever IsNever old new)
   pub begun : BeginsExchange old new []
   pub spared : Spares old new
+  pub over : IsOver old → IfOk result (λ x. line x ≡ []) × IsOver new
 
 -- Why a line is refused.
 abbrev pub RefusesLine : (other : List ℕ → Type 0) → (line : List ℕ) → (old new : LinkState) → SolverError → Type 0

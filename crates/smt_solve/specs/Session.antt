@@ -1,12 +1,14 @@
 -- What a session over a link has, and how it starts.
-use Rattle.std.specs.Prelude.{ℕ, ◌+◌, ◌-◌, ◌^◌, ◌≤◌, ◌≡◌, ◌⊎◌, min, Bool, IsTrue, List, codes, is_err, IfErr, OnOk, IsErrOf, Option, Result}
+use Rattle.std.specs.Prelude.{ℕ, ◌+◌, ◌-◌, ◌^◌, ◌≤◌, ◌≡◌, ◌⊎◌, min, Bool, false, IsTrue, List, codes, is_err, IfErr, OnOk, IsErrOf, Option, Result, Ok, Err}
 use Rattle.smt_script.specs.Sink.{Rose}
 use Rattle.smt_script.specs.declared.sink.SinkError.{SinkError}
-use Rattle.smt_script.specs.declared.sink.SinkError.TheVariants.{Fault}
+use Rattle.smt_script.specs.declared.sink.SinkError.TheVariants.{Fault, Memory as SinkWant}
 use Rattle.smt_solve.specs.Link.{AllowsTheSame, LinkState}
 use Rattle.smt_solve.specs.Starter.{Command, StarterState, add_told}
 use Rattle.smt_solve.specs.declared.error.SolverError.{SolverError}
 use Rattle.smt_solve.specs.declared.error.SolverError.TheVariants.{Io, SolverMarkedFailed, Memory}
+use Rattle.smt_solve.specs.declared.link.LinkError.{LinkError}
+use Rattle.smt_solve.specs.declared.link.LinkError.TheVariants.{Fault as LinkFault, Memory as LinkWant}
 use Rattle.smt_solve.specs.declared.session.LocalSolver.{LocalSolver}
 use Rattle.smt_solve.specs.declared.input.SessionInput.{SessionInput}
 
@@ -30,9 +32,18 @@ sent_by state s = (state (input_link s)).sent
 abbrev pub faults_by : {L : Type 0} → (L → LinkState) → SessionInput L → ℕ
 faults_by state s = min ((state (input_link s)).faults + input_refused s) (2 ^ 64 - 1)
 
--- A session that has failed does nothing. Any other sends, and an error is its end.
-pub record OnlySends {L T : Type 0} (state : L → LinkState) (allows : L → List ℕ → List ℕ → List ℕ → Type 0) (old new : SessionInput L) (result : Result T SinkError) : Type 0 where
+-- what a link answered where a sink over it answers this
+abbrev pub link_answer : {T : Type 0} → Result T SinkError → Result T LinkError
+link_answer (Ok x) = Ok x
+link_answer (Err Fault) = Err LinkFault
+link_answer (Err SinkWant) = Err LinkWant
+
+-- A session that has failed does nothing. Any other does what its link does, with the link's answer, and an error is its end.
+pub record OnlySends {L T : Type 0} (state : L → LinkState) (allows : L → List ℕ → List ℕ → List ℕ → Type 0) (does : LinkState → LinkState → Result T LinkError → Type 0) (old new : SessionInput L) (result : Result T SinkError) : Type 0 where
   pub refused : IsTrue (input_failed old) → IsErrOf result Fault × (input_link new ≡ input_link old)
+  pub reaches : input_failed old ≡ false → does (state (input_link old)) (state (input_link new)) (link_answer result)
+  -- so it refuses nothing by itself
+  pub same_refused : input_failed old ≡ false → input_refused new ≡ input_refused old
   pub failed : input_failed new ≡ is_err result
   pub same_read : (state (input_link new)).was_read ≡ (state (input_link old)).was_read
   pub same_killed : (state (input_link new)).killed ≡ (state (input_link old)).killed

@@ -4,8 +4,8 @@ ghost use Rattle.smt_solve.specs.Answers.{AllBlank, IsNoDecision, IsNoError, Str
 
 use smt_text::Text;
 
-/// Whether the assertions of a script have a model.
-#[derive(Clone, Copy, Debug, PartialEq, Eq, Drop)]
+/// Whether the assertions of a script have a model. Decisions are ordered as they stand here.
+#[derive(Clone, Copy, Debug, PartialEq, Eq, PartialOrd, Ord, Drop)]
 pub enum Decision {
     /// They have one.
     Sat,
@@ -15,8 +15,9 @@ pub enum Decision {
     Unknown,
 }
 
-/// Whether the assertions of a script have a model, and which.
-#[derive(Debug, PartialEq, Eq, Drop)]
+/// Whether the assertions of a script have a model, and which. Decisions are ordered as they stand here, and two that have a
+/// model by the model's text.
+#[derive(Debug, PartialEq, Eq, PartialOrd, Ord, Drop)]
 pub enum DecisionWithModel {
     /// They have this one, as the solver spells it.
     Sat {

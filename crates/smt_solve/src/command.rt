@@ -1,5 +1,6 @@
 // Commands that start a solver.
-ghost use Rattle.std.specs.Prelude.{◌≡◌, ◌∷◌, codes, IfOk, IsOkUnless};
+ghost use Rattle.std.specs.Prelude.{◌≡◌, ◌++◌, ◌∷◌, [], codes, length, IfOk, IsOkUnless, OnErr, OnOk};
+ghost use Rattle.std.specs.Rc.{rc_str_bytes};
 ghost use Rattle.smt_characters.specs.SharedTexts.{texts};
 ghost use Rattle.smt_solve.specs.Cvc5.{cvc5_command};
 ghost use Rattle.smt_solve.specs.Starter.{command_of, texts_in};
@@ -8,15 +9,24 @@ use crate::error::SolverError;
 use smt_text::{Text, share_text};
 use std::alloc::{AllocError, Global};
 
-/// A list of texts.
+/// A list of texts, in the order in which they were given.
 #[derive(Debug, Drop)]
 pub struct TextList {
     items: Vec<Text>,
 }
 
 impl TextList {
+    /// The empty list. It takes no memory.
+    pub fn new(alloc: Global) -> TextList
+        ensures { texts_in result ≡ [] }
+    {
+        TextList {
+            items: Vec::new(alloc),
+        }
+    }
+
     /// A list that shares these texts.
-    pub fn new(alloc: Global, items: &[Text]) -> Result<TextList, AllocError>
+    fn from_texts(alloc: Global, items: &[Text]) -> Result<TextList, AllocError>
         ensures { IfOk result (λ list. texts_in list ≡ texts items.now) }
     {
         let mut shared = Vec::new(alloc);
@@ -24,6 +34,22 @@ impl TextList {
             shared.push(share_text(item)?)?;
         }
         Ok(TextList { items: shared })
+    }
+
+    /// Appends a text. An `Err` changes nothing.
+    pub fn push(&mut self, item: Text) -> Result<(), AllocError>
+        ensures ok { OnOk result (texts_in self.new ≡ texts_in self.old ++ rc_str_bytes item ∷ []) }
+        ensures err { OnErr result (texts_in self.new ≡ texts_in self.old) }
+    {
+        self.items.push(item)?;
+        Ok(())
+    }
+
+    /// How many texts there are.
+    pub fn len(&self) -> usize
+        ensures { result ≡ length (texts_in self.now) }
+    {
+        self.items.len()
     }
 
     /// The texts in their order.
@@ -73,8 +99,10 @@ impl SolverCommand {
             (λ cmd. command_of cmd ≡ record { program = program.now; args = texts args.now }) }
         ensures refusal { IsOkUnless result SolverError.Memory }
     {
-        let (Ok(program), Ok(args)) = (Text::from_str(alloc, program), TextList::new(alloc, args))
-        else {
+        let (Ok(program), Ok(args)) = (
+            Text::from_str(alloc, program),
+            TextList::from_texts(alloc, args),
+        ) else {
             return Err(SolverError::Memory);
         };
         Ok(SolverCommand { program, args })
@@ -103,7 +131,7 @@ impl SolverCommand {
     {
         Ok(SolverCommand {
             program: share_text(&self.program)?,
-            args: TextList::new(alloc, self.args.items())?,
+            args: TextList::from_texts(alloc, self.args.items())?,
         })
     }
 }

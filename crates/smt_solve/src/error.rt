@@ -1,4 +1,8 @@
 // Why a solver gave no answer.
+ghost use Rattle.std.specs.Prelude.{◌≡◌};
+ghost use Rattle.smt_solve.specs.Errors.{solver_error};
+
+use smt_script::SinkError;
 use smt_text::Text;
 use thiserror::Error;
 
@@ -23,4 +27,16 @@ pub enum SolverError {
     /// There was no memory for the answer.
     #[error("out of memory for the answer of the solver")]
     Memory,
+}
+
+/// A fault of what takes the script is `Io`, and its want of memory is the solver's.
+impl From<SinkError> for SolverError {
+    ghost from_gives = { λ error given. given ≡ solver_error error };
+
+    fn from(error: SinkError) -> SolverError {
+        match error {
+            SinkError::Fault => SolverError::Io,
+            SinkError::Memory => SolverError::Memory,
+        }
+    }
 }

@@ -42,7 +42,7 @@ pub enum Ended {
 /// What leads to a solver: takes the bytes of commands, and gives the lines of answers.
 ///
 /// What a link tells of itself is `LinkState` of `specs/Link.antt`. `LinkError::Fault` comes only where its count of faults
-/// rose in the call, or stands at its last value; `LinkError::Memory` may come of any call.
+/// rose in the call, or stands at its last value, and with Ok the count stands still; `LinkError::Memory` may come of any call.
 pub trait Link {
     /// What was sent, read and is to come, whether it has ended or was killed, and how often it failed.
     ghost state: { Self → LinkState };
@@ -51,6 +51,10 @@ pub trait Link {
     ghost allows: { Self → List ℕ → List ℕ → List ℕ → Type 0 };
 
     /// Sends all of `bytes`, or on an error a first part of them. They may be held back until `flush`.
+    ///
+    /// A solver may answer what it is sent, so that more is to come. But a link whose answers ended inside a line gives nothing
+    /// more, whatever it is sent: where nothing is to come and the last byte that was read is no LF, nothing is to come
+    /// afterwards.
     fn send(&mut self, bytes: &[u8]) -> Result<(), LinkError>
         ensures sends { Sends (state self.old) (state self.new) bytes.now result }
         ensures allows { AllowsTheSame (allows self.old) (allows self.new) };

@@ -14,7 +14,7 @@ pub struct LinkList {
 }
 
 impl LinkList {
-    ghost use Rattle.std.specs.Prelude.{◌≡◌, ◌++◌, ◌∷◌, [], IfSome, OnOk, OnErr, IsOkUnless, MatchOption};
+    ghost use Rattle.std.specs.Prelude.{◌≡◌, ◌++◌, ◌∷◌, [], length, IfSome, OnOk, OnErr, IsOkUnless, MatchOption};
     ghost use Rattle.smt_solve.specs.MemoryLink.{IsUntouched};
     ghost use Rattle.smt_solve.specs.MemoryStarter.{links_in};
 
@@ -38,6 +38,20 @@ impl LinkList {
             Ok(()) => Ok(()),
             Err(_) => Err(LinkError::Memory),
         }
+    }
+
+    /// How many links there are.
+    pub fn len(&self) -> usize
+        ensures { result ≡ length (links_in self.now) }
+    {
+        self.links.len()
+    }
+
+    /// The links, in order.
+    pub fn items(&self) -> &[MemoryLink]
+        ensures { result.now ≡ links_in self.now }
+    {
+        self.links.as_slice()
     }
 
     /// Takes the first link out.

@@ -1,10 +1,10 @@
 // A session with a solver, over a link.
-ghost use Rattle.std.specs.Prelude.{◌≡◌, ◌||◌, [], ◌∷◌, IfOk, true, false, is_err};
+ghost use Rattle.std.specs.Prelude.{◌≡◌, ◌||◌, [], ◌∷◌, IfOk, IsErr, true, false, is_err};
 ghost use Rattle.std.specs.Borrow.{sem};
 ghost use Rattle.smt_characters.specs.SharedTexts.{texts};
 ghost use Rattle.smt_solve.specs.Cvc5.{cvc5_command, cvc5_limit};
 ghost use Rattle.smt_solve.specs.Lends.{LendsInput};
-ghost use Rattle.smt_solve.specs.Link.{AllowsOnly, AllowsTheSame, IsUnused};
+ghost use Rattle.smt_solve.specs.Link.{AllowsOnly, AllowsTheSame, IsOver, IsUnused};
 ghost use Rattle.smt_solve.specs.Model.{AsksWithModel};
 ghost use Rattle.smt_solve.specs.Question.{AsksDecision, KillsLink, SendsCommand};
 ghost use Rattle.smt_solve.specs.Session.{Guards, StartsSession, enable_models_text, session_failed, session_link, state_by};
@@ -254,7 +254,7 @@ impl<L: Link> Solver for LocalSolver<L> {
     /// Sends `(check-sat)`, hands it on, and reads one line of at most 65536 bytes.
     ///
     /// Spaces, tabs, LF and CR at the ends of the line aside, it is `sat`, `unsat` or `unknown`. The end of the answers counts
-    /// as the LF of a line that has bytes.
+    /// as the LF of a line that has bytes. Behind such a line nothing more comes: no later check is `Ok`.
     ///
     /// # Errors
     ///
@@ -267,6 +267,7 @@ impl<L: Link> Solver for LocalSolver<L> {
         ensures guards { Guards L.allows self.old self.new result }
         ensures asks { session_failed self.old ≡ false →
             AsksDecision (L.allows (session_link self.old)) (state_by L.state self.old) (state_by L.state self.new) result }
+        ensures over { IsOver (state_by L.state self.old) → IsErr result }
     {
         if self.input.failed {
             return Err(SolverError::SolverMarkedFailed);
@@ -290,6 +291,7 @@ impl<L: Link> Solver for LocalSolver<L> {
         ensures guards { Guards L.allows self.old self.new result }
         ensures asks { session_failed self.old ≡ false →
             AsksWithModel (L.allows (session_link self.old)) (state_by L.state self.old) (state_by L.state self.new) result }
+        ensures over { IsOver (state_by L.state self.old) → IsErr result }
     {
         if self.input.failed {
             return Err(SolverError::SolverMarkedFailed);

@@ -9,7 +9,7 @@ ghost use Rattle.smt_solve.specs.WriterSolver.{PutsLine, writer_in};
 use crate::answer::{Decision, DecisionWithModel};
 use crate::error::SolverError;
 use crate::session::Solver;
-use smt_script::{Sink, SinkError};
+use smt_script::Sink;
 
 /// Puts its script and its questions to a sink, and answers `Unknown` to each question.
 #[derive(Debug, Drop)]
@@ -22,11 +22,8 @@ pub struct WriterSolver<W> {
 fn put_line<W: Sink>(w: &mut W, line: &[u8]) -> Result<(), SolverError>
     ensures { PutsLine W.contents W.faults W.has_room W.place w.old w.new line.now result }
 {
-    match w.put(line) {
-        Ok(()) => Ok(()),
-        Err(SinkError::Fault) => Err(SolverError::Io),
-        Err(SinkError::Memory) => Err(SolverError::Memory),
-    }
+    w.put(line)?;
+    Ok(())
 }
 
 impl<W: Sink> Solver for WriterSolver<W> {

@@ -44,7 +44,7 @@ literal_text (BoolLiteral b) = Some (bool_text b)
 literal_text (StringLiteral text) = Some (string_text text)
 literal_text l = None
 
--- its fault
+-- the fault of a literal that has no entry: a string with a character that no string can have
 abbrev pub string_fault : PlainLiteral → Option Fault
 string_fault (StringLiteral s) = fault_unless (is_string s) (EncodeStringFailed s)
 string_fault l = None

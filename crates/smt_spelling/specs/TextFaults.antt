@@ -9,7 +9,7 @@ use Rattle.smt_meaning.specs.Plain.{PlainOp, StringLikeOp}
 use Rattle.smt_spelling.specs.declared.error.TextError.{TextError}
 use Rattle.smt_spelling.specs.declared.error.TextError.TheVariants.{MissingMember, StringFailed, PatternFailed, EmptyEnum as NoMembers}
 
--- the fault of a text that has none
+-- the fault that an error of a text names, where it names one
 abbrev pub text_fault : TextError → Option Fault
 text_fault (MissingMember entity) = Some (EnumMissingMember (bytes_of_type entity.ety) (bytes_of_id entity.id))
 text_fault (StringFailed text) = Some (EncodeStringFailed (rc_str_bytes text))

@@ -17,15 +17,19 @@ use Rattle.smt_symbolic_environments.specs.Tables.{entity_term, text_term}
 
 -- ---- the schema
 
+-- the entity type of users
 abbrev pub user : List ℕ
 user = codes "User"
 
+-- the entity type of groups
 abbrev pub group : List ℕ
 group = codes "Group"
 
+-- the entity type of colours
 abbrev pub colour : List ℕ
 colour = codes "Colour"
 
+-- the entity type of actions
 abbrev pub action_type : List ℕ
 action_type = codes "Action"
 
@@ -33,13 +37,15 @@ action_type = codes "Action"
 abbrev pub user_types : (age tags : PlainCedar) → List (List ℕ × PlainEntry)
 user_types age tags = (colour, EnumType (codes "red" ∷ [])) ∷ (user, StandardType (group ∷ []) (attribute (codes "age") age true no_attributes) (Some tags)) ∷ []
 
--- what users may view, and what that is a part of
+-- the action of viewing
 abbrev pub view : Uid
 view = (action_type, codes "view")
 
+-- the action of reading, of which viewing is a part
 abbrev pub read : Uid
 read = (action_type, codes "read")
 
+-- viewing twice, the second time as a part of reading and with an hour in its context, and reading: the last entry of viewing counts
 abbrev pub actions : List PlainAction
 actions =
     record { uid = view; ancestors = []; principals = user ∷ []; resources = user ∷ []; context = no_attributes }
@@ -47,23 +53,29 @@ actions =
     ∷ record { uid = view; ancestors = read ∷ []; principals = user ∷ []; resources = user ∷ []; context = attribute (codes "hour") LongType false no_attributes }
     ∷ []
 
+-- the schema of these types and actions, by the types of a user's age and of tags
 abbrev pub schema_with : (age tags : PlainCedar) → PlainSchema
 schema_with age tags = record { entity_types = user_types age tags; actions = actions }
 
+-- the schema in which an age is a number of 64 bits and a tag a text
 abbrev pub schema : PlainSchema
 schema = schema_with LongType TextType
 
 -- ---- the store
 
+-- the user a
 abbrev pub a : Uid
 a = (user, codes "a")
 
+-- the group g
 abbrev pub g : Uid
 g = (group, codes "g")
 
+-- a number as a value
 abbrev pub long : ℕ → PlainValue
 long n = LiteralValue (LongOf (pos n))
 
+-- a text as a value
 abbrev pub text : List ℕ → PlainValue
 text s = LiteralValue (TextOf s)
 
@@ -71,23 +83,29 @@ text s = LiteralValue (TextOf s)
 abbrev pub user_with : (age tag : Option PlainValue) → PlainEntity
 user_with age tag = record { uid = a; fields = (codes "age", age) ∷ []; ancestors = g ∷ (user, codes "b") ∷ []; tags = (codes "k", tag) ∷ [] }
 
+-- the user a views itself, with this context, which may not be known
 abbrev pub request_with : Option (List (List ℕ × PlainValue)) → PlainRequest
 request_with context = record { principal = Some a; action = Some view; resource = Some a; context = context }
 
+-- that request, and the user a with this age and tag, either of which may not be known
 abbrev pub env_with : Option (List (List ℕ × PlainValue)) → (age tag : Option PlainValue) → PlainEnv
 env_with context age tag = record { request = request_with context; entities = user_with age tag ∷ [] }
 
+-- the request with an empty context, and the user a of the age 3, whose tag has the text v
 abbrev pub env : PlainEnv
 env = env_with (Some []) (Some (long 3)) (Some (text (codes "v")))
 
+-- the request environment of a user that views a user
 abbrev pub asked : PlainRequestEnv
 asked = record { principal = user; action = view; resource = user }
 
 -- ---- what it says
 
+-- a number as a literal of 64 bits
 abbrev pub bits : ℕ → PlainTerm
 bits n = LiteralTerm (BitVecLiteral 64 n)
 
+-- the record of a user's attributes: its age
 abbrev pub of_age : ℕ → PlainTerm
 of_age n = RecordTerm (term_field (codes "age") (bits n) no_term_fields)
 
@@ -95,6 +113,7 @@ of_age n = RecordTerm (term_field (codes "age") (bits n) no_term_fields)
 abbrev pub of_type : {A : Type 0} → (type : List ℕ) → (PlainData → Option A) → Outcome (Option A)
 of_type type f = symbolized asked schema env >>= λ made. Ok (option_and_then f (lookup (bytes_eq type) made.entities))
 
+-- what the tables of the example say, or a default where nothing is stored
 pub record TableExamples : Type 0 where
   pub attributes : of_type user (λ said. Some (folded_app said.attributes (entity_term a))) ≡ Ok (Some (of_age 3))
   -- of an entity that is not stored: the defaults
@@ -116,10 +135,12 @@ pub record TableExamples : Type 0 where
 
 -- ---- first faults
 
+-- the first fault, where there is one
 abbrev pub fault_of : Outcome PlainSymbolicEnvironment → Option SymbolizeFault
 fault_of (Ok made) = None
 fault_of (Err fault) = Some fault
 
+-- the refusal of a type that has no values
 abbrev pub never : SymbolizeFault
 never = Unsupported (codes "never type is not supported")
 
@@ -127,6 +148,7 @@ never = Unsupported (codes "never type is not supported")
 abbrev pub bad_context : Option (List (List ℕ × PlainValue))
 bad_context = Some ((codes "hour", SetValue no_values) ∷ [])
 
+-- which fault of several comes first
 pub record FaultExamples : Type 0 where
   -- a request environment that is not the schema's comes first
   pub foreign : fault_of (symbolized (record { principal = group; action = view; resource = user }) schema (env_with None None None)) ≡ Some ForeignRequest

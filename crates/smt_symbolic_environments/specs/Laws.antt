@@ -23,19 +23,20 @@ use Rattle.smt_symbolic_environments.specs.Tables.{entity_term, fields_term, kno
 
 -- ---- stores and schemas
 
--- no uid stands twice, and the keys of an entity's tags ascend
+-- in a store no uid stands twice, and the keys of each entity's tags ascend
 pub record IsStore (entities : List PlainEntity) : Type 0 where
   pub distinct : IsDistinct same_uid (map (λ entity. entity.uid) entities)
   pub tags : AllByRecursion (λ entity. IsTrue (ascends text_cmp (keys_of entity.tags))) entities
 
--- the names of entity types ascend
+-- the names of a schema's entity types ascend by their bytes, so each stands once
 abbrev pub IsSchema : PlainSchema → Type 0
 IsSchema schema = IsTrue (ascends text_cmp (keys_of schema.entity_types))
 
--- the stores and the schemas of the program are so
+-- no store of the program has a uid twice or tags out of order
 abbrev pub ProgramStoresAreStores : Type 0
 ProgramStoresAreStores = (entities : Entities) → IsStore (plain_entities entities)
 
+-- every schema of the program has its entity types in order
 abbrev pub ProgramSchemasAreInOrder : Type 0
 ProgramSchemasAreInOrder = (schema : Schema) → IsSchema (plain_schema schema)
 

@@ -3,12 +3,13 @@ use Rattle.std.specs.Prelude.{ℕ, List, Option}
 use Rattle.smt_meaning.specs.Functions.{PlainUnary}
 use Rattle.smt_meaning.specs.Plain.{PlainTerm}
 
--- the tags of an entity: the set of their keys, and a tag's value by the record of the entity and of the tag's key
+-- the tags of the entities of a type, as two functions: the set of an entity's keys, and a tag's value by entity and key together
 pub record PlainTags : Type 0 where
   pub keys : PlainUnary
   pub tag_values : PlainUnary
 
--- what there is to say of the entities of a type
+-- What there is to say of the entities of a type, as functions from the term of an entity: what is stored of it is what they give
+-- there, and elsewhere they give a default.
 pub record PlainData : Type 0 where
   -- the record of an entity's attributes
   pub attributes : PlainUnary
@@ -23,12 +24,14 @@ pub record PlainData : Type 0 where
 abbrev pub PlainEntities : Type 0
 PlainEntities = List (List ℕ × PlainData)
 
+-- a request as terms: literals of its principal, action and resource, and the record of its context
 pub record PlainSymbolicRequest : Type 0 where
   pub principal : PlainTerm
   pub action : PlainTerm
   pub resource : PlainTerm
   pub context : PlainTerm
 
+-- the terms of a request, and what is said of the entities of each type: all that Cedar's policies are symbolized over
 pub record PlainSymbolicEnvironment : Type 0 where
   pub request : PlainSymbolicRequest
   pub entities : PlainEntities

@@ -39,7 +39,7 @@ action_ids actions type = sorted_texts (map (λ action. action.uid.1) (actions_o
 abbrev pub own_types : PlainSchema → List (List ℕ × PlainEntry)
 own_types schema = filter (λ p. not (is_action_type schema.actions p.0)) schema.entity_types
 
--- the members of an enum type
+-- the members of an entity type that lists them, and nothing of a standard type
 abbrev pub enum_entry : List ℕ × PlainEntry → Option (List ℕ × List (List ℕ))
 enum_entry (type, StandardType kinds named value) = None
 enum_entry (type, EnumType ids) = Some (type, ids)
@@ -59,13 +59,17 @@ module _ (default : PlainType → PlainTerm) where
   abbrev pub no_attributes_table : (type : List ℕ) → PlainUnary
   no_attributes_table type = table_of default (EntityType type) (RecordType no_attributes) []
 
+  -- what is said of an enum type: no attributes, ancestors and tags, and its members
   abbrev pub enum_data : (type : List ℕ) → (ids : List (List ℕ)) → PlainData
   enum_data type ids = record { attributes = no_attributes_table type; ancestors = []; members = Some ids; tags = None }
 
+  -- the tables of a type's tags, where the schema gives it tags
   abbrev pub tags_held : (type : List ℕ) → Option PlainCedar → List PlainEntity → Outcome (Option PlainTags)
   tags_held type None entities = Ok None
   tags_held type (Some value) entities = tags_tables default type value entities >>= λ tags. Ok (Some tags)
 
+  -- What is said of a standard type: its stored attributes, its ancestors by each type that the schema lists, and its tags. Its
+  -- entities are not listed.
   abbrev pub standard_data : (type : List ℕ) → (kinds : List (List ℕ)) → CedarAttributes → Option PlainCedar → List PlainEntity → Outcome PlainData
   standard_data type kinds attributes value entities =
       attributes_table default type attributes entities >>= λ own. tags_held type value entities >>= λ tags. Ok (record {
@@ -80,13 +84,15 @@ module _ (default : PlainType → PlainTerm) where
   type_data entities type (StandardType kinds named value) = standard_data type kinds named value entities
   type_data entities type (EnumType ids) = Ok (enum_data type ids)
 
+  -- an entity type with what is said of its entities
   abbrev pub typed_data : List PlainEntity → List ℕ × PlainEntry → Outcome (List ℕ × PlainData)
   typed_data entities p = type_data entities p.0 p.1 >>= λ said. Ok (p.0, said)
 
-  -- of two entries with one uid the last counts
+  -- the ancestors of the actions of a type that are of another: of two entries with one uid the last counts
   abbrev pub action_table : List PlainAction → (type kind : List ℕ) → PlainUnary
   action_table actions type kind = table_of default (EntityType type) (SetType (EntityType kind)) (map (action_entry kind) (actions_of type actions))
 
+  -- what is said of a type of actions: no attributes and tags, the ancestors of each type of actions, and the ids of its actions
   abbrev pub action_data : List PlainAction → (type : List ℕ) → PlainData
   action_data actions type = record {
     attributes = no_attributes_table type;
@@ -95,22 +101,23 @@ module _ (default : PlainType → PlainTerm) where
     tags = None;
   }
 
-  -- all types: those of entities in order, and those of actions
+  -- what is said of all types, in the order of their bytes: entity types as the schema has them, and types of actions
   abbrev pub entities_of : PlainSchema → List PlainEntity → Outcome PlainEntities
   entities_of schema entities =
       each (typed_data entities) (own_types schema) >>= λ held. Ok (sorted_pairs text_cmp (held ++ map (λ type. (type, action_data schema.actions type)) (action_types schema.actions)))
 
 -- ---- requests
 
--- the action of a request environment of the schema
+-- the entry of the action that was asked for, or else the fault that the request environment is not the schema's
 abbrev pub action_found : Option PlainAction → Outcome PlainAction
 action_found (Some action) = Ok action
 action_found None = Err ForeignRequest
 
+-- the last entry of the action that was asked for, where the schema lists the types of principal and resource for it
 abbrev pub action_asked : PlainSchema → PlainRequestEnv → Outcome PlainAction
 action_asked schema request = cond (is_of_schema schema request) (action_found (action_of schema.actions request.action)) (Err ForeignRequest)
 
--- a part of a request
+-- a part of a request that is known, or else the fault that the request is not whole
 abbrev pub known_part : {A : Type 0} → Option A → Outcome A
 known_part (Some a) = Ok a
 known_part None = Err IncompleteRequest
@@ -128,11 +135,13 @@ request_of attributes request =
 
 -- ---- the whole
 
--- with these defaults of types
+-- the symbolic environment, or its first fault, with these defaults of types
 abbrev pub environment_with : (PlainType → PlainTerm) → PlainRequestEnv → PlainSchema → PlainEnv → Outcome PlainSymbolicEnvironment
 environment_with default asked schema env =
     action_asked schema asked >>= λ action. request_of action.context env.request >>= λ request. entities_of default schema env.entities >>= λ entities. Ok (record { request = request; entities = entities })
 
--- The request environment has to be the schema's, and the request whole. Then come the context and the entity types in order.
+-- The symbolic environment of a schema, a request environment and a store with a request, or their first fault. The request
+-- environment has to be the schema's, and the request whole; then come the context, and the entity types in the order of their
+-- bytes. The default of a type whose entities are listed is its first member.
 abbrev pub symbolized : PlainRequestEnv → PlainSchema → PlainEnv → Outcome PlainSymbolicEnvironment
 symbolized asked schema env = environment_with (default_term (listed_types schema)) asked schema env

@@ -21,9 +21,11 @@ use Rattle.smt_symbolic_environments.specs.Plain.{PlainTags}
 
 -- ---- entities and texts as terms
 
+-- an entity as a literal
 abbrev pub entity_term : Uid → PlainTerm
 entity_term uid = LiteralTerm (EntityLiteral uid.0 uid.1)
 
+-- a text as a string literal
 abbrev pub text_term : List ℕ → PlainTerm
 text_term text = LiteralTerm (StringLiteral text)
 
@@ -37,10 +39,12 @@ stored_of type entities = filter (λ entity. bytes_eq entity.uid.0 type) entitie
 
 -- ---- values that are known
 
+-- a stored value that is known, or else the fault that it is not
 abbrev pub known_value : Option PlainValue → Outcome PlainValue
 known_value (Some v) = Ok v
 known_value None = Err UnknownValue
 
+-- an attribute with its stored value, which has to be known
 abbrev pub known_field : List ℕ × Option PlainValue → Outcome (List ℕ × PlainValue)
 known_field p = known_value p.1 >>= λ v. Ok (p.0, v)
 
@@ -50,13 +54,15 @@ fields_term attributes fields = each known_field fields >>= λ held. term_of_val
 
 -- ---- what a table has for each stored entity
 
+-- a stored entity with the record of its attributes
 abbrev pub attributes_entry : CedarAttributes → PlainEntity → Outcome (PlainTerm × PlainTerm)
 attributes_entry attributes entity = fields_term attributes entity.fields >>= λ t. Ok (entity_term entity.uid, t)
 
--- its ancestors of a type, as they are stored
+-- a stored entity with the set of its ancestors of one type, which the store has to list all: none is concluded from another
 abbrev pub ancestors_entry : (kind : List ℕ) → PlainEntity → PlainTerm × PlainTerm
 ancestors_entry kind entity = (entity_term entity.uid, set_of_type kind entity.ancestors)
 
+-- a stored entity with the set of the keys of its tags
 abbrev pub keys_entry : PlainEntity → PlainTerm × PlainTerm
 keys_entry entity = (entity_term entity.uid, set_term StringType (map text_term (keys_of entity.tags)))
 
@@ -64,22 +70,24 @@ keys_entry entity = (entity_term entity.uid, set_term StringType (map text_term 
 abbrev pub tag_entry : PlainCedar → Uid → List ℕ × Option PlainValue → Outcome (PlainTerm × PlainTerm)
 tag_entry type uid p = known_value p.1 >>= λ v. term_of_value type v >>= λ t. Ok (tag_record (entity_term uid) (text_term p.0), t)
 
+-- the tags of a stored entity, each with its value
 abbrev pub tag_entries : PlainCedar → PlainEntity → Outcome (List (PlainTerm × PlainTerm))
 tag_entries type entity = each (tag_entry type entity.uid) entity.tags
 
 -- ---- the tables, each of which has the default of its results' type elsewhere
 
 module _ (default : PlainType → PlainTerm) where
-  -- the function that is defined by a table of these pairs; of pairs with one argument the last counts
+  -- The function that a table of these pairs defines, with the default of its results' type elsewhere. Of pairs with one argument
+  -- the last counts.
   abbrev pub table_of : (argument output : PlainType) → List (PlainTerm × PlainTerm) → PlainUnary
   table_of argument output ps = Defined (record { argument = argument; output = output; entries = sorted_pairs term_cmp ps; elsewhere = default output })
 
-  -- the attributes of the entities of a type
+  -- the attributes of the stored entities of a type, as the record that the schema has for it
   abbrev pub attributes_table : (type : List ℕ) → CedarAttributes → List PlainEntity → Outcome PlainUnary
   attributes_table type attributes entities =
       converted (type_of_cedar (ClosedRecordType attributes)) >>= λ own. each (attributes_entry attributes) (stored_of type entities) >>= λ ps. Ok (table_of (EntityType type) own ps)
 
-  -- their ancestors of a type
+  -- the ancestors of the stored entities of a type that are of one other type, as a set
   abbrev pub ancestors_table : (type kind : List ℕ) → List PlainEntity → PlainUnary
   ancestors_table type kind entities = table_of (EntityType type) (SetType (EntityType kind)) (map (ancestors_entry kind) (stored_of type entities))
 
@@ -87,7 +95,7 @@ module _ (default : PlainType → PlainTerm) where
   abbrev pub ancestors_tables : (type : List ℕ) → (kinds : List (List ℕ)) → List PlainEntity → List (List ℕ × PlainUnary)
   ancestors_tables type kinds entities = sorted_pairs text_cmp (map (λ kind. (kind, ancestors_table type kind entities)) kinds)
 
-  -- their tags, whose values are of a Cedar type
+  -- the tags of the stored entities of a type, whose values are of a Cedar type: a table of their keys, and one of their values
   abbrev pub tags_tables : (type : List ℕ) → PlainCedar → List PlainEntity → Outcome PlainTags
   tags_tables type value entities =
       converted (type_of_cedar value) >>= λ own. each (tag_entries value) (stored_of type entities) >>= λ pss. Ok (record {

@@ -1,9 +1,3 @@
-mod ActionTables
-mod Entered
 mod Given
-mod KnownPairs
 mod SameDefaults
 mod Saying
-mod SortedTypes
-mod StoredTypes
-mod Walked

@@ -1,5 +1,3 @@
-pub mod ByType
 pub mod Listed
-pub mod Named
-pub mod Stored
+pub mod Requests
 pub mod View

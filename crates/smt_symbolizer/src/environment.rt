@@ -7,17 +7,18 @@ ghost use Rattle.smt_meaning.specs.TypeValues.{members_of};
 ghost use Rattle.smt_symbolic_environments.specs.Laws.{IsSymbolicOf};
 ghost use Rattle.smt_symbolic_environments.specs.Symbolized.{entities_of, environment_with, symbolized};
 ghost use Rattle.smt_symbolizer.specs.Listed.{listed_in};
-ghost use Rattle.smt_symbolizer.specs.Named.{said};
-ghost use Rattle.smt_symbolizer.specs.Stored.{with_request};
-ghost use Rattle.smt_symbolizer.specs.View.{plain_data, plain_entities, plain_environment, plain_request};
+ghost use Rattle.smt_entity_tables.specs.Named.{said};
+ghost use Rattle.smt_symbolizer.specs.Requests.{with_request};
+ghost use Rattle.smt_symbolizer.specs.View.{plain_environment, plain_request};
+ghost use Rattle.smt_entity_tables.specs.View.{plain_data, plain_entities};
 ghost use Rattle.smt_values.specs.DefaultTerm.{default_term};
 ghost use Rattle.smt_values.specs.Refused.{IsGiven, IsRefusal};
 
-use crate::entities::entities_of;
-use crate::entity_data::{SymEntities, SymEntityData};
 use crate::request::{asked_action, request_of};
-use crate::schema_types::{listed, listed_types, table_of_members};
 use smt_cedar_stores::{Entity, Env, RequestEnv, Schema};
+use smt_entity_tables::{
+    SymEntities, SymEntityData, entities_of, listed, listed_types, table_of_members,
+};
 use smt_leaves::{EntityType, EnumTable, TermError, TextSet};
 use smt_term::Term;
 use smt_values::SymbolizeError;

@@ -1,5 +1,5 @@
 //! The step from a schema, a request and a store to a symbolic environment: terms for the request, and for each entity type
-//! functions that say what is stored of its entities.
+//! functions that say what is stored of its entities, which `smt_entity_tables` makes.
 //!
 //! Contracts speak of symbolic environments by their plain form, which `specs/View.antt` gives. What a schema, a request
 //! and a store are symbolized to, and the first fault of others, stands in the crate `smt_symbolic_environments`.
@@ -8,19 +8,10 @@
 //! names one crate.
 #![tactic(auto, using(smt_cedar_types::specs::View::cedar_views, smt_cedar_values::specs::View::value_views, smt_term::specs::View::views))]
 
-mod by_type;
-mod entities;
-mod entity_data;
-mod entries;
 mod environment;
 mod names;
 mod request;
-mod schema_types;
-mod tables;
-mod values;
 
-pub use by_type::ByType;
-pub use entity_data::{AncestorMap, SymEntities, SymEntityData, SymTags};
 pub use environment::{SymEnv, SymRequest};
 pub use names::{core_entity_type_into_entity_type, core_uid_into_uid};
 pub use smt_cedar_stores::{
@@ -35,4 +26,5 @@ pub use smt_cedar_values::{
     ExprList, ExtError, ExtFromCedar, Literal, PartialMap, PartialValue, RestrictedExpr, Value,
     ValueList, ValueMap, value_of_ext,
 };
+pub use smt_entity_tables::{AncestorMap, ByType, SymEntities, SymEntityData, SymTags};
 pub use smt_values::{FromCedar, SymbolizeError, default_literal, from_record};

@@ -5,16 +5,16 @@ ghost use Rattle.smt_cedar_types.specs.View.{plain_cedar_attributes};
 ghost use Rattle.smt_cedar_values.specs.View.{named_fields};
 ghost use Rattle.smt_leaves.specs.Entities.{texts_of_entity};
 ghost use Rattle.smt_symbolic_environments.specs.Symbolized as stated;
-ghost use Rattle.smt_symbolizer.specs.Stored.{request_with};
+ghost use Rattle.smt_symbolizer.specs.Requests.{request_with};
 ghost use Rattle.smt_symbolizer.specs.View.{plain_request};
 ghost use Rattle.smt_term.specs.View.{plain_term};
 ghost use Rattle.smt_values.specs.Refused.{IsGiven};
 
-use crate::entries::entity_term;
 use crate::environment::SymRequest;
 use smt_cedar_stores::{ActionEntry, Request, RequestEnv, Schema};
 use smt_cedar_types::Attributes;
 use smt_cedar_values::ValueMap;
+use smt_entity_tables::entity_term;
 use smt_leaves::{EntityUID, TermError};
 use smt_term::Term;
 use smt_values::{SymbolizeError, from_record};

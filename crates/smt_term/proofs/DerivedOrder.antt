@@ -117,10 +117,10 @@ unfolding views.out-Term Carrier.out
 cmp-Set t p sh row t' q sh' row' = term_laws.is (Set' t p sh row) (Set' t' q sh' row')
 
 -- the same of records, taken apart into their attributes and their terms
-abbrev record_family : TermMap → TermMap → Ordering
+abbrev pub record_family : TermMap → TermMap → Ordering
 record_family = term_laws.family block.member-TermMap
 
-record_family-is : (x y : TermMap) → record_family x y ≡ slice_cmp (by_pairs derived_term_cmp) x.pairs.items.value.items y.pairs.items.value.items
+pub record_family-is : (x y : TermMap) → record_family x y ≡ slice_cmp (by_pairs derived_term_cmp) x.pairs.items.value.items y.pairs.items.value.items
 unfolding Carrier.out
 record_family-is x y =
     Compared.compared_is block.the_members (Carrier.Values block.the_members block.the_sigs block.the_carrier) block.the_depth Ordering Equal term_ord.the_step term_laws.local block.member-TermMap x y

@@ -4,6 +4,7 @@ pub mod ExtensionValues
 pub mod FormedTerms
 pub mod InsertedTerms
 pub mod LiteralElements
+pub mod MapOrders
 pub mod PrintedTexts
 pub mod PutPairs
 pub mod RecordFields

@@ -3,7 +3,11 @@ use Rattle.std.specs.Prelude.{◌≡◌, ◌↔◌, IsTrue}
 use Rattle.std.specs.Cmp.Lexicographic.{slice_cmp}
 use Rattle.smt_meaning.specs.Formed.{IsFormed}
 use Rattle.smt_meaning.specs.TermOrder.{function_cmp, op_cmp, literal_cmp, term_cmp}
-use Rattle.smt_term.specs.View.{plain_elements, plain_function, plain_items, plain_literal, plain_op, plain_term, plain_variable}
+use Rattle.smt_meaning.specs.ValueOrder.{text_cmp}
+use Rattle.smt_leaves.specs.Orders.{AreOrdered, pair_cmp}
+use Rattle.smt_term.specs.contracts.maps.TermMapOrd.TheImpl as map_order
+use Rattle.smt_term.specs.contracts.maps.TermMapPartialEq.TheImpl as map_equality
+use Rattle.smt_term.specs.View.{plain_elements, plain_fields, plain_function, plain_items, plain_literal, plain_op, plain_term, plain_variable}
 use Rattle.smt_term.specs.contracts.function.UufOrd.TheImpl as function_order
 use Rattle.smt_term.specs.contracts.function.UufPartialEq.TheImpl as function_equality
 use Rattle.smt_term.specs.contracts.op.OpOrd.TheImpl as op_order
@@ -78,3 +82,7 @@ EqualListsSayTheSame = (ts us : TermList) → IsTrue (list_equality.ghosts.eq ts
 
 abbrev pub EqualSetsSayTheSame : Type 0
 EqualSetsSayTheSame = (ts us : TermSet) → IsTrue (set_equality.ghosts.eq ts us) ↔ (plain_elements ts ≡ plain_elements us)
+
+-- maps are ordered as lists of their attributes and terms, by the first difference, and are equal where they have the same
+abbrev pub TermMapsAreOrdered : Type 0
+TermMapsAreOrdered = AreOrdered map_order.ghosts.cmp map_equality.ghosts.eq plain_fields (slice_cmp (pair_cmp text_cmp term_cmp))

@@ -1,6 +1,6 @@
 //! Laws of the program's terms: they compare as what they say, proved with no code.
 ghost use Rattle.smt_term.specs.Maps.{FieldPairsAreSorted, TypePairsAreSorted};
-ghost use Rattle.smt_term.specs.Program.{EqualFunctionsSayTheSame, EqualListsSayTheSame, EqualLiteralsSayTheSame, EqualOperatorsSayTheSame, EqualSetsSayTheSame, EqualTermsSayTheSame, EqualTypesSayTheSame, EqualVariablesSayTheSame, FunctionsCompareAsPlain, ListsCompareAsPlain, LiteralsCompareAsPlain, OperatorsCompareAsPlain, SetsCompareAsPlain, TermsAreFormed, TermsCompareAsPlain, TypesCompareAsPlain, VariablesCompareAsPlain};
+ghost use Rattle.smt_term.specs.Program.{EqualFunctionsSayTheSame, EqualListsSayTheSame, EqualLiteralsSayTheSame, EqualOperatorsSayTheSame, EqualSetsSayTheSame, EqualTermsSayTheSame, EqualTypesSayTheSame, EqualVariablesSayTheSame, FunctionsCompareAsPlain, ListsCompareAsPlain, LiteralsCompareAsPlain, OperatorsCompareAsPlain, SetsCompareAsPlain, TermMapsAreOrdered, TermsAreFormed, TermsCompareAsPlain, TypesCompareAsPlain, VariablesCompareAsPlain};
 
 /// What the program's terms and types keep.
 pub fn program_terms()
@@ -31,4 +31,9 @@ pub fn program_parts()
 pub fn program_maps()
     ensures type_pairs { TypePairsAreSorted }
     ensures field_pairs { FieldPairsAreSorted }
+{}
+
+/// The order of maps of terms is total, and holds two level exactly where they are equal, which is exactly where they say the same.
+pub fn term_maps_are_ordered()
+    ensures { TermMapsAreOrdered }
 {}

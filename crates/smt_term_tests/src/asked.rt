@@ -59,25 +59,46 @@ fn put_order(out: &mut String, terms: &[Term]) -> Result<()> {
 
 /// Whether it is as a word asks, None where no such question has this head.
 fn truth(alloc: Global, terms: &[Term], head: &str, held: &str) -> Result<Option<bool>> {
-    Ok(Some(match head {
-        "is_literal" => last(terms)?.is_literal(),
-        "well_typed" => last(terms)?.well_typed(),
-        "has_type" => last(terms)?.has_type(&type_of(alloc, held)?),
-        "shared" => is_shared(last(terms)?)?,
-        "opposites" => {
-            let (a, b) = last_two(terms)?;
-            opposites(a, b)
+    let truth = match head {
+        "is_literal" | "well_typed" | "has_type" | "shared" => {
+            truth_of_last(alloc, last(terms)?, head, held)
         }
-        "same" => {
-            let (a, b) = last_two(terms)?;
-            a == b
-        }
-        "takes" => {
-            let (op, args) = call(alloc, terms, held)?;
-            op.takes(args)
-        }
+        "opposites" | "same" => truth_of_two(terms, head),
+        "takes" => is_taken(alloc, terms, held),
         _ => return Ok(None),
-    }))
+    };
+    Ok(Some(truth?))
+}
+
+/// Whether the last term is as a word asks.
+fn truth_of_last(alloc: Global, term: &Term, head: &str, held: &str) -> Result<bool> {
+    match head {
+        "is_literal" => Ok(term.is_literal()),
+        "well_typed" => Ok(term.well_typed()),
+        "has_type" => has_type(alloc, term, held),
+        _ => is_shared(term),
+    }
+}
+
+/// Whether a term has the type of this spelling.
+fn has_type(alloc: Global, term: &Term, spelling: &str) -> Result<bool> {
+    let ty = type_of(alloc, spelling)?;
+    Ok(term.has_type(&ty))
+}
+
+/// Whether the last two terms are opposites, or equal.
+fn truth_of_two(terms: &[Term], head: &str) -> Result<bool> {
+    let (a, b) = last_two(terms)?;
+    match head {
+        "opposites" => Ok(opposites(a, b)),
+        _ => Ok(a == b),
+    }
+}
+
+/// Whether an operator takes so many last terms.
+fn is_taken(alloc: Global, terms: &[Term], spelling: &str) -> Result<bool> {
+    let (op, args) = call(alloc, terms, spelling)?;
+    Ok(op.takes(args))
 }
 
 fn last(terms: &[Term]) -> Result<&Term> {

@@ -9,22 +9,35 @@ use std::alloc::Global;
 
 /// Puts the answer of a word by its head and what it holds behind the colon; false where no question has this head.
 pub(crate) fn answered(alloc: Global, out: &mut String, head: &str, held: &str) -> Result<bool> {
-    match head {
-        "type" => put_type(out, &type_of(alloc, held)?)?,
-        "tag_for" => put_tag_type(alloc, out, held)?,
-        "kinds" => put_kinds(out, &type_of(alloc, held)?)?,
-        "shared_type" => put_whether_shared(out, &type_of(alloc, held)?)?,
-        "size_of_type" => put_size(out, types_in(&type_of(alloc, held)?)?)?,
-        "type_at" => {
-            let (names, ty) = held.split_once(':').context("attributes and a type")?;
-            put_types(alloc, out, types_in(&type_of(alloc, ty)?)?, names)?;
-        }
-        "compare_types" => put_order_of_types(alloc, out, held)?,
-        "operator" => put_name(alloc, out, held)?,
-        "compare_operators" => put_order_of_operators(alloc, out, held)?,
+    let put = match head {
+        "type" | "kinds" | "shared_type" | "size_of_type" => put_of_type(alloc, out, head, held),
+        "tag_for" => put_tag_type(alloc, out, held),
+        "type_at" => put_types_at(alloc, out, held),
+        "compare_types" => put_order_of_types(alloc, out, held),
+        "operator" => put_name(alloc, out, held),
+        "compare_operators" => put_order_of_operators(alloc, out, held),
         _ => return Ok(false),
-    }
+    };
+    put?;
     Ok(true)
+}
+
+/// Puts the answer of a word that asks of the type of this spelling.
+fn put_of_type(alloc: Global, out: &mut String, head: &str, spelling: &str) -> Result<()> {
+    let ty = type_of(alloc, spelling)?;
+    match head {
+        "type" => put_type(out, &ty),
+        "kinds" => put_kinds(out, &ty),
+        "shared_type" => put_whether_shared(out, &ty),
+        _ => put_size(out, &ty),
+    }
+}
+
+/// Puts the types of a record type at attributes, whose names stand before it.
+fn put_types_at(alloc: Global, out: &mut String, held: &str) -> Result<()> {
+    let (names, spelling) = held.split_once(':').context("attributes and a type")?;
+    let ty = type_of(alloc, spelling)?;
+    put_types(alloc, out, types_in(&ty)?, names)
 }
 
 /// Puts the type of the tags of entities of the type of this name.
@@ -69,8 +82,9 @@ fn types_in(ty: &TermType) -> Result<&TypeMap> {
     }
 }
 
-/// Puts how many attributes there are, whether there are none, and whether they are equal to what they share.
-fn put_size(out: &mut String, types: &TypeMap) -> Result<()> {
+/// Puts how many attributes a record type has, whether there are none, and whether they are equal to what they share.
+fn put_size(out: &mut String, ty: &TermType) -> Result<()> {
+    let types = types_in(ty)?;
     let (count, empty) = (types.len(), types.is_empty());
     let shared = equals(types.share(), types)?;
     Ok(write!(out, "{count} {empty} {shared}")?)
@@ -80,13 +94,19 @@ fn put_size(out: &mut String, types: &TypeMap) -> Result<()> {
 fn put_types(alloc: Global, out: &mut String, types: &TypeMap, names: &str) -> Result<()> {
     out.push_str("(found")?;
     for name in names.split(',') {
-        out.push(' ')?;
-        match types.get(&text(alloc, name)?) {
-            Some(ty) => put_type(out, ty)?,
-            None => out.push_str("nothing")?,
-        }
+        let name = text(alloc, name)?;
+        put_found(out, types.get(&name))?;
     }
     Ok(out.push(')')?)
+}
+
+/// Puts a type that was looked for, with a space before it.
+fn put_found(out: &mut String, found: Option<&TermType>) -> Result<()> {
+    out.push(' ')?;
+    match found {
+        Some(ty) => put_type(out, ty),
+        None => Ok(out.push_str("nothing")?),
+    }
 }
 
 /// Puts the name of an operator, and whether it is equal to what it shares.

@@ -54,6 +54,8 @@ mod asked;
 #[cfg(test)]
 mod asked_types;
 #[cfg(test)]
+mod expected;
+#[cfg(test)]
 mod folded;
 #[cfg(test)]
 mod functions;

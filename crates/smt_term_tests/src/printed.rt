@@ -2,45 +2,63 @@
 //! that it names.
 
 use anyhow::Result;
-use smt_term::{Ext, ExtType, Op, OrdPattern, PatternElem, Term, TermMap, TermPrim, TermType};
+use smt_bits::BitVec;
+use smt_term::{
+    EntityUID, Ext, ExtType, Op, OrdPattern, PatternElem, Term, TermMap, TermPrim, TermType,
+    TypeMap, Uuf,
+};
+
+/// Puts a text as it is. Each arm of a `match` that puts something is one call, which is answered in its place: an exit by `?`
+/// in an arm is one more to prove.
+fn put(out: &mut String, text: &str) -> Result<()> {
+    Ok(out.push_str(text)?)
+}
+
+/// Puts a name and a text between quotes, in brackets.
+fn put_quoted(out: &mut String, name: &str, text: &str) -> Result<()> {
+    Ok(write!(out, "({name} {text:?})")?)
+}
+
+/// Puts a name and a number, in brackets.
+fn put_number(out: &mut String, name: &str, number: i128) -> Result<()> {
+    Ok(write!(out, "({name} {number})")?)
+}
 
 /// Puts a type.
+#[cycle(types)]
 pub(crate) fn put_type(out: &mut String, ty: &TermType) -> Result<()> {
     match ty {
-        TermType::Bool => out.push_str("Bool")?,
-        TermType::String => out.push_str("String")?,
-        TermType::Bitvec { n } => {
-            let bits = n.get();
-            write!(out, "(BitVec {bits})")?;
-        }
-        TermType::Entity { ety } => {
-            let name = ety.0.as_str();
-            write!(out, "(Entity {name:?})")?;
-        }
-        TermType::Ext { xty } => out.push_str(extension_type(*xty))?,
-        TermType::Option { ty } => {
-            out.push_str("(Option ")?;
-            put_type(out, ty)?;
-            out.push(')')?;
-        }
-        TermType::Set { ty } => {
-            out.push_str("(Set ")?;
-            put_type(out, ty)?;
-            out.push(')')?;
-        }
-        TermType::Record { rty } => {
-            out.push_str("(Record")?;
-            let attributes = rty.items();
-            for (name, ty) in attributes {
-                let name = name.as_str();
-                write!(out, " ({name:?} ")?;
-                put_type(out, ty)?;
-                out.push(')')?;
-            }
-            out.push(')')?;
-        }
+        TermType::Bool => put(out, "Bool"),
+        TermType::String => put(out, "String"),
+        TermType::Bitvec { n } => put_number(out, "BitVec", i128::from(n.get())),
+        TermType::Entity { ety } => put_quoted(out, "Entity", ety.0.as_str()),
+        TermType::Ext { xty } => put(out, extension_type(*xty)),
+        TermType::Option { ty } => put_type_of(out, "(Option ", ty),
+        TermType::Set { ty } => put_type_of(out, "(Set ", ty),
+        TermType::Record { rty } => put_attributes(out, rty),
     }
-    Ok(())
+}
+
+/// Puts the type of options or of sets of a type, behind this.
+#[cycle(types)]
+fn put_type_of(out: &mut String, before: &str, ty: &TermType) -> Result<()> {
+    out.push_str(before)?;
+    put_type(out, ty)?;
+    Ok(out.push(')')?)
+}
+
+/// Puts a record type by its attributes.
+#[cycle(types)]
+fn put_attributes(out: &mut String, rty: &TypeMap) -> Result<()> {
+    out.push_str("(Record")?;
+    let attributes = rty.items();
+    for (name, ty) in attributes {
+        let name = name.as_str();
+        write!(out, " ({name:?} ")?;
+        put_type(out, ty)?;
+        out.push(')')?;
+    }
+    Ok(out.push(')')?)
 }
 
 /// The name of an extension type.
@@ -119,70 +137,66 @@ fn put_fields(out: &mut String, fields: &TermMap) -> Result<()> {
 /// Puts a literal. A bitvector has its width before its number.
 fn put_literal(out: &mut String, literal: &TermPrim) -> Result<()> {
     match literal {
-        TermPrim::Bitvec(bits) => {
-            let (width, number) = (bits.width().get(), bits.to_nat());
-            write!(out, "(bits {width} {number})")?;
-        }
-        TermPrim::Bool(truth) => write!(out, "{truth}")?,
-        TermPrim::Entity(entity) => {
-            let (ety, id) = (entity.ety.0.as_str(), entity.id.0.as_str());
-            write!(out, "(entity {ety:?} {id:?})")?;
-        }
-        TermPrim::Ext(value) => put_value(out, value)?,
-        TermPrim::String(text) => {
-            let text = text.as_str();
-            write!(out, "{text:?}")?;
-        }
+        TermPrim::Bitvec(bits) => put_bits(out, bits),
+        TermPrim::Bool(truth) => Ok(write!(out, "{truth}")?),
+        TermPrim::Entity(entity) => put_entity(out, entity),
+        TermPrim::Ext(value) => put_value(out, value),
+        TermPrim::String(text) => put_text(out, text.as_str()),
     }
-    Ok(())
+}
+
+fn put_bits(out: &mut String, bits: &BitVec) -> Result<()> {
+    let (width, number) = (bits.width().get(), bits.to_nat());
+    Ok(write!(out, "(bits {width} {number})")?)
+}
+
+fn put_entity(out: &mut String, entity: &EntityUID) -> Result<()> {
+    let (ety, id) = (entity.ety.0.as_str(), entity.id.0.as_str());
+    Ok(write!(out, "(entity {ety:?} {id:?})")?)
+}
+
+fn put_text(out: &mut String, text: &str) -> Result<()> {
+    Ok(write!(out, "{text:?}")?)
 }
 
 /// Puts a value of an extension type: its kind, and its number, or the range as it is printed.
 fn put_value(out: &mut String, value: &Ext) -> Result<()> {
     match value {
-        Ext::Decimal { d } => {
-            let number = d.ten_thousandths;
-            write!(out, "(decimal {number})")?;
-        }
-        Ext::Ipaddr { ip } => write!(out, "(ip {ip})")?,
-        Ext::Datetime { dt } => {
-            let number = i64::from(*dt);
-            write!(out, "(datetime {number})")?;
-        }
-        Ext::Duration { d } => {
-            let number = i64::from(*d);
-            write!(out, "(duration {number})")?;
-        }
+        Ext::Decimal { d } => put_number(out, "decimal", i128::from(d.ten_thousandths)),
+        Ext::Ipaddr { ip } => Ok(write!(out, "(ip {ip})")?),
+        Ext::Datetime { dt } => put_number(out, "datetime", i128::from(i64::from(*dt))),
+        Ext::Duration { d } => put_number(out, "duration", i128::from(i64::from(*d))),
     }
-    Ok(())
 }
 
 /// Puts an operator: its name, and in brackets with it what it holds.
 fn put_operator(out: &mut String, op: &Op) -> Result<()> {
     let name = op.mk_name();
     match op {
-        Op::Ext(op) => out.push_str(op.mk_name())?,
-        Op::RecordGet(attribute) => {
-            let attribute = attribute.as_str();
-            write!(out, "({name} {attribute:?})")?;
-        }
-        Op::StringLike(pattern) => {
-            write!(out, "({name}")?;
-            put_pattern(out, pattern)?;
-            out.push(')')?;
-        }
-        Op::Uuf(function) => {
-            let id = function.id.as_str();
-            write!(out, "({name} {id:?} ")?;
-            put_type(out, &function.arg)?;
-            out.push(' ')?;
-            put_type(out, &function.out)?;
-            out.push(')')?;
-        }
-        Op::ZeroExtend(bits) => write!(out, "({name} {bits})")?,
-        _ => out.push_str(name)?,
+        Op::Ext(op) => put(out, op.mk_name()),
+        Op::RecordGet(attribute) => put_quoted(out, name, attribute.as_str()),
+        Op::StringLike(pattern) => put_match(out, name, pattern),
+        Op::Uuf(function) => put_function(out, name, function),
+        Op::ZeroExtend(bits) => Ok(write!(out, "({name} {bits})")?),
+        _ => put(out, name),
     }
-    Ok(())
+}
+
+/// Puts the operator of this name with a pattern.
+fn put_match(out: &mut String, name: &str, pattern: &OrdPattern) -> Result<()> {
+    write!(out, "({name}")?;
+    put_pattern(out, pattern)?;
+    Ok(out.push(')')?)
+}
+
+/// Puts the operator of this name with an uninterpreted function.
+fn put_function(out: &mut String, name: &str, function: &Uuf) -> Result<()> {
+    let id = function.id.as_str();
+    write!(out, "({name} {id:?} ")?;
+    put_type(out, &function.arg)?;
+    out.push(' ')?;
+    put_type(out, &function.out)?;
+    Ok(out.push(')')?)
 }
 
 /// Puts the elements of a pattern, with a space before each.

@@ -1,9 +1,10 @@
 // Whole runs of `check`, over a starter in memory.
 use crate::AMPLE;
+use crate::expected::{expect, expect_status};
 use crate::runs::texts;
 use smt_cli::{MemorySource, run};
 use smt_script::MemorySink;
-use smt_solve::{LinkList, MemoryLink, MemoryStarter};
+use smt_solve::{LinkList, MemoryLink, MemoryStarter, SolverCommand};
 use std::alloc::Global;
 use std::process::Abort;
 
@@ -234,40 +235,41 @@ fn sent_by(starter: &MemoryStarter) -> Option<&[u8]> {
     }
 }
 
+/// Stops the test where a run did not end as its row says, and names what differs, with the row's status and what it says.
+fn expect_row(rt: &impl Abort, end: &End, row: &Check) {
+    let (status, said, put) = (row.status, row.said, row.put);
+    expect_status(rt, said, end.status, status);
+    let is_put = end.out.bytes() == put.as_bytes();
+    assert!(rt; is_put, "put: {status} {put}");
+    let is_said = end.diag.bytes() == said.as_bytes();
+    assert!(rt; is_said, "said: {status} {said}");
+    let is_sent = sent_by(&end.starter) == row.sent;
+    assert!(rt; is_sent, "sent: {status} {said}");
+}
+
 #[test]
 fn checks_end_as_they_should(rt: HostRuntime) {
     let alloc = rt.alloc();
     for row in CHECKS {
-        let end = end_of(&rt, alloc, row);
-        assert!(rt; end.status == row.status, "{} {}", row.status, row.said);
-        assert!(rt;
-            end.out.bytes() == row.put.as_bytes(),
-            "{} {}",
-            row.status,
-            row.put
-        );
-        assert!(rt;
-            end.diag.bytes() == row.said.as_bytes(),
-            "{} {}",
-            row.status,
-            row.said
-        );
-        assert!(rt;
-            sent_by(&end.starter) == row.sent,
-            "{} {}",
-            row.status,
-            row.said
-        );
+        expect_row(&rt, &end_of(&rt, alloc, row), row);
     }
+}
+
+/// Whether a solver was started as it is named, with its arguments.
+fn is_command(solver: &SolverCommand) -> bool {
+    let args = solver.args.items();
+    solver.program.as_str() == "cvc5"
+        && args.len() == 2
+        && args[0].as_str() == "--lang"
+        && args[1].as_str() == "smt"
 }
 
 #[test]
 fn a_solver_is_started_as_it_is_named(rt: HostRuntime) {
     let end = end_of(&rt, rt.alloc(), &UNSAT);
-    let [solver] = end.starter.commands() else {
-        panic!(rt; "not one solver was started");
+    let is_named = match end.starter.commands() {
+        [solver] => is_command(solver),
+        _ => false,
     };
-    assert_eq!(rt; solver.program.as_str(), "cvc5");
-    let args = solver.args.items();
-    assert!(rt; args.len() == 2 && args[0].as_str() == "--lang" && args[1].as_str() == "smt");
+    expect(&rt, is_named, "the command of the one solver");
 }

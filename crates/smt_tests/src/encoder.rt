@@ -4,6 +4,7 @@ ghost use Rattle.std.specs.Prelude.{◌≡◌};
 ghost use Rattle.smt_meaning.specs.TypeValues.{is_code_point};
 
 use crate::AMPLE;
+use crate::expected::{expect, expect_bytes};
 use crate::runs::SCRIPT;
 use smt_encode::{EncodeError, Encoder, SMT_LIB_MAX_CODE_POINT};
 use smt_script::MemorySink;
@@ -41,17 +42,32 @@ fn encode_to(alloc: Global, sink: &mut MemorySink, terms: &[Term]) -> Result<(),
     Encoder::new(alloc, &enums, sink).encode(terms)
 }
 
+/// Stops the test where the script was not put.
+fn expect_encoded(rt: &impl Abort, encoded: Result<MemorySink, EncodeError>) {
+    let sink = encoded.expect(rt, "the script is put");
+    expect_bytes(rt, "the encoder's sink", sink.bytes(), SCRIPT.as_bytes());
+}
+
+/// Whether a script was not put since its sink failed.
+fn is_fault(encoded: Result<MemorySink, EncodeError>) -> bool {
+    encoded.is_err_and(|error| error == EncodeError::Io)
+}
+
 #[test]
 fn an_encoder_is_let_go_at_an_error(rt: HostRuntime) {
     let alloc = rt.alloc();
     let terms = [negation(&rt, alloc)];
-    let sink = encoded(alloc, &[], &terms).expect(&rt, "the script is put");
-    assert!(rt; sink.bytes() == SCRIPT.as_bytes());
+    expect_encoded(&rt, encoded(alloc, &[], &terms));
     let failed = encoded(alloc, &[3], &terms);
-    assert!(rt; failed.is_err_and(|error| error == EncodeError::Io));
+    expect(&rt, is_fault(failed), "a fault of the sink");
     let mut sink = MemorySink::new(alloc, &[], 200).expect(&rt, AMPLE);
     encode_to(alloc, &mut sink, &terms).expect(&rt, "the script is put");
-    assert!(rt; sink.bytes() == SCRIPT.as_bytes());
+    expect_bytes(
+        &rt,
+        "a sink of the caller's",
+        sink.bytes(),
+        SCRIPT.as_bytes(),
+    );
 }
 
 /// Whether an encoder whose sink fails at the third put says so, is spent, and has put some of the script.
@@ -69,7 +85,8 @@ fn is_spent_by_its_sink(rt: &impl Abort, alloc: Global) -> bool {
 
 #[test]
 fn a_failing_sink_spends_the_encoder(rt: HostRuntime) {
-    assert!(rt; is_spent_by_its_sink(&rt, rt.alloc()));
+    let is_spent = is_spent_by_its_sink(&rt, rt.alloc());
+    expect(&rt, is_spent, "an encoder whose sink failed");
 }
 
 /// Whether a character is not above the constant: this is proved to be the rule by which strings are refused.
@@ -81,6 +98,7 @@ fn is_allowed(c: char) -> bool
 
 #[test]
 fn the_greatest_character_is_allowed(rt: HostRuntime) {
-    assert_eq!(rt; SMT_LIB_MAX_CODE_POINT, 0x2ffff);
-    assert!(rt; is_allowed('\u{2ffff}') && !is_allowed('\u{30000}'));
+    expect(&rt, SMT_LIB_MAX_CODE_POINT == 0x2ffff, "the constant");
+    expect(&rt, is_allowed('\u{2ffff}'), "the greatest character");
+    expect(&rt, !is_allowed('\u{30000}'), "the next one");
 }

@@ -1,5 +1,6 @@
 // What is read of jobs: their variables and their terms in order, and how long they may be.
 use crate::AMPLE;
+use crate::expected::{expect, expect_text};
 use smt_bits::EIGHT;
 use smt_cli::{Job, JobError, read_job};
 use smt_term::{Term, TermType, TermVar};
@@ -38,7 +39,8 @@ fn declares_both(rt: &impl Abort, alloc: Global) -> bool {
 
 #[test]
 fn variables_are_in_order(rt: HostRuntime) {
-    assert!(rt; declares_both(&rt, rt.alloc()));
+    let declares = declares_both(&rt, rt.alloc());
+    expect(&rt, declares, "both variables");
 }
 
 /// Whether a term is the constant `false`.
@@ -59,12 +61,21 @@ fn terms_stand_in_order(rt: &impl Abort, alloc: Global) -> bool {
 
 #[test]
 fn terms_are_in_order(rt: HostRuntime) {
-    assert!(rt; terms_stand_in_order(&rt, rt.alloc()));
+    let stand = terms_stand_in_order(&rt, rt.alloc());
+    expect(&rt, stand, "the terms of a job");
 }
 
 /// Why the bytes are no job, None where they are one.
 fn refusal_of(alloc: Global, bytes: &[u8]) -> Option<JobError> {
     read_job(alloc, bytes).err()
+}
+
+/// Whether the bytes were refused as too many.
+fn is_too_large(refusal: Option<JobError>) -> bool {
+    match refusal {
+        Some(JobError::TooLarge) => true,
+        _ => false,
+    }
 }
 
 /// Whether the bytes were refused as no expression.
@@ -78,11 +89,10 @@ fn is_unreadable(refusal: Option<JobError>) -> bool {
 #[test]
 fn long_jobs_are_too_large(rt: HostRuntime) {
     let bytes = vec![in rt.alloc(); b' '; GREATEST_JOB + 1].expect(&rt, AMPLE);
-    assert_eq!(rt;
-        refusal_of(rt.alloc(), bytes.as_slice()),
-        Some(JobError::TooLarge)
-    );
-    assert!(rt; is_unreadable(refusal_of(rt.alloc(), &bytes.as_slice()[1..])));
+    let refusal = refusal_of(rt.alloc(), bytes.as_slice());
+    expect(&rt, is_too_large(refusal), "a byte too many");
+    let refusal = refusal_of(rt.alloc(), &bytes.as_slice()[1..]);
+    expect(&rt, is_unreadable(refusal), "the greatest length");
 }
 
 /// How many variables, functions and terms a job has, or why the text is none.
@@ -201,6 +211,6 @@ const OUTCOMES: &[(&str, &str)] = &[
 fn the_first_fault_is_named(rt: HostRuntime) {
     for &(text, wanted) in OUTCOMES {
         let found = outcome(&rt, rt.alloc(), text);
-        assert!(rt; found.as_str() == wanted, "{text} gives {found}");
+        expect_text(&rt, text, found.as_str(), wanted);
     }
 }

@@ -7,6 +7,8 @@ mod checks;
 #[cfg(test)]
 mod encoder;
 #[cfg(test)]
+mod expected;
+#[cfg(test)]
 mod jobs;
 #[cfg(test)]
 mod rows;

@@ -6,6 +6,7 @@
 #![tactic(auto)]
 
 use crate::AMPLE;
+use crate::expected::{expect, expect_text};
 use crate::runs::run_on;
 use crate::tables::TABLES;
 use crate::tables::bytes::JOBS;
@@ -30,22 +31,32 @@ fn show(rt: &impl Abort, alloc: Global, printed: &mut Vec<u8>, job: &[u8]) {
 fn compare(rt: &impl Abort, printed: &[u8], stated: &str) {
     let said = str::from_utf8(printed).expect(rt, "what is printed is UTF-8");
     for (said, stated) in said.lines().zip(stated.lines()) {
-        assert_eq!(rt; said, stated);
+        expect_text(rt, "a line", said, stated);
     }
-    assert_eq!(rt; said.len(), stated.len());
+    expect(rt, said.len() == stated.len(), "the length of the table");
+}
+
+/// Prints a job and what a run leaves of it.
+fn show_row(rt: &impl Abort, alloc: Global, printed: &mut Vec<u8>, job: &str) {
+    writeln!(printed, "> {job}").expect(rt, AMPLE);
+    show(rt, alloc, printed, job.as_bytes());
+}
+
+/// The jobs of a table, each with what a run leaves of it now.
+fn shown(rt: &impl Abort, alloc: Global, table: &str) -> Vec<u8> {
+    let mut printed: Vec<u8> = Vec::new(alloc);
+    for line in table.lines() {
+        if let Some(job) = line.strip_prefix("> ") {
+            show_row(rt, alloc, &mut printed, job);
+        }
+    }
+    printed
 }
 
 #[test]
 fn jobs_of_one_line(rt: HostRuntime) {
-    let alloc = rt.alloc();
     for table in TABLES {
-        let mut printed: Vec<u8> = Vec::new(alloc);
-        for line in table.lines() {
-            if let Some(job) = line.strip_prefix("> ") {
-                writeln!(printed, "> {job}").expect(&rt, AMPLE);
-                show(&rt, alloc, &mut printed, job.as_bytes());
-            }
-        }
+        let printed = shown(&rt, rt.alloc(), table);
         compare(&rt, printed.as_slice(), table);
     }
 }

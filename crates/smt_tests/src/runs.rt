@@ -1,5 +1,6 @@
 // Whole runs of the program where no job shows how they end: words, sources and sinks that fail, and the greatest job.
 use crate::AMPLE;
+use crate::expected::{expect_bytes, expect_status, expect_text};
 use smt_cli::{EncodeRefusal, MemorySource, Refusal, SessionFault, Source, run};
 use smt_script::{BufferedSink, ListSink, MemorySink};
 use smt_solve::{LinkList, MemoryStarter};
@@ -115,26 +116,34 @@ fn is_put(status: u8, out: &[u8], whole: &[u8]) -> bool {
     }
 }
 
+/// Stops the test where a run did not end as its row says, and names the row.
+fn expect_row(rt: &impl Abort, row: &Row, status: u8, out: &[u8], said: &[u8]) {
+    let (word, line) = (row.0, row.7);
+    assert!(rt; status == row.6, "{word} {line} has the status {status}");
+    assert!(rt; said == line.as_bytes(), "{word} {line} is not said");
+    let is_put = is_put(status, out, row.5.as_bytes());
+    assert!(rt; is_put, "{word} {line} puts something else");
+}
+
 #[test]
 fn runs_end_as_they_should(rt: HostRuntime) {
     for row in ENDS {
         let (status, out, said) = end_of(&rt, rt.alloc(), row, &[]);
-        assert_eq!(rt; status, row.6, "{} {}", row.0, row.7);
-        assert!(rt; said.as_slice() == row.7.as_bytes(), "{} {}", row.0, row.7);
-        assert!(rt;
-            is_put(status, &out, row.5.as_bytes()),
-            "{} {}",
-            row.0,
-            row.7
-        );
+        expect_row(&rt, row, status, out.as_slice(), said.as_slice());
     }
+}
+
+/// Stops the test where a run has another status than its row says, or said something, and names the row.
+fn expect_unsaid(rt: &impl Abort, row: &Row, status: u8, said: &[u8]) {
+    let (word, line) = (row.0, row.7);
+    assert!(rt; status == row.6 && said.is_empty(), "{word} {line}");
 }
 
 #[test]
 fn a_failing_diag_changes_no_status(rt: HostRuntime) {
     for row in ENDS {
         let (status, _, said) = end_of(&rt, rt.alloc(), row, &[1]);
-        assert!(rt; status == row.6 && said.is_empty(), "{} {}", row.0, row.7);
+        expect_unsaid(&rt, row, status, said.as_slice());
     }
 }
 
@@ -179,25 +188,35 @@ fn run_held(
     (status, diag.bytes().to_vec(alloc).expect(rt, AMPLE))
 }
 
+/// Words with the bytes of the source, what the writer gets, the status, and what is said on diag.
+const HELD: &[(&str, &str, &str, u8, &str)] = &[
+    ("script", NOT_B, SCRIPT, 6, "sink fault\n"),
+    ("--version", "", VERSION, 6, "sink fault\n"),
+    // Another refusal comes first.
+    ("script", "(job)", "", 3, "job refused: BadForm\n"),
+    ("scripts", NOT_B, "", 2, USAGE),
+];
+
+/// Stops the test where a run whose `out` holds bytes back ends otherwise, and names its word and its line.
+fn expect_held(
+    rt: &impl Abort,
+    alloc: Global,
+    (word, bytes, put, status, line): (&str, &str, &str, u8, &str),
+) {
+    let mut writer = StuckWriter {
+        bytes: Vec::new(alloc),
+    };
+    let (ended, said) = run_held(rt, alloc, word, bytes, &mut writer);
+    let is_said = ended == status && said.as_slice() == line.as_bytes();
+    assert!(rt; is_said, "{word} {line} is not how it ends");
+    let is_put = writer.bytes.as_slice() == put.as_bytes();
+    assert!(rt; is_put, "{word} {line} puts something else");
+}
+
 #[test]
 fn a_failing_flush_is_a_sink_fault(rt: HostRuntime) {
-    let alloc = rt.alloc();
-    for (word, bytes, put, status, line) in [
-        ("script", NOT_B, SCRIPT, 6, "sink fault\n"),
-        ("--version", "", VERSION, 6, "sink fault\n"),
-        // Another refusal comes first.
-        ("script", "(job)", "", 3, "job refused: BadForm\n"),
-        ("scripts", NOT_B, "", 2, USAGE),
-    ] {
-        let mut writer = StuckWriter {
-            bytes: Vec::new(alloc),
-        };
-        let (ended, said) = run_held(&rt, alloc, word, bytes, &mut writer);
-        assert!(rt;
-            ended == status && said.as_slice() == line.as_bytes(),
-            "{word} {line}"
-        );
-        assert_eq!(rt; writer.bytes.as_slice(), put.as_bytes());
+    for row in HELD {
+        expect_held(&rt, rt.alloc(), *row);
     }
 }
 
@@ -243,20 +262,25 @@ const REFUSED_WORDS: &[&[&str]] = &[
     &["generate", "1", "5"],
 ];
 
+/// Whether a run over these words is refused for them.
+fn is_refused(rt: &impl Abort, alloc: Global, words: &[&str], source: &mut MemorySource) -> bool {
+    let (status, out, diag) = run_from(rt, alloc, words, source);
+    status == 2 && out.is_empty() && diag.as_slice() == USAGE.as_bytes()
+}
+
+/// Whether the first read of the job is still to come, and gives its first bytes.
+fn is_not_read(source: &mut MemorySource) -> bool {
+    let mut buffer = *b"....";
+    source.read(&mut buffer) == Ok(4) && buffer == *b"(job"
+}
+
 #[test]
 fn refused_words_read_nothing(rt: HostRuntime) {
     let alloc = rt.alloc();
     for &words in REFUSED_WORDS {
         let mut source = MemorySource::new(alloc, NOT_B.as_bytes(), &[]).expect(&rt, AMPLE);
-        let (status, out, diag) = run_from(&rt, alloc, words, &mut source);
-        let refused = status == 2 && out.is_empty() && diag.as_slice() == USAGE.as_bytes();
-        assert!(rt; refused, "{words:?}");
-        // The first read is still to come, and gives the first bytes.
-        let mut buffer = *b"....";
-        assert!(rt;
-            source.read(&mut buffer) == Ok(4) && buffer == *b"(job",
-            "{words:?}"
-        );
+        let refused = is_refused(&rt, alloc, words, &mut source);
+        assert!(rt; refused && is_not_read(&mut source), "{words:?}");
     }
 }
 
@@ -304,54 +328,42 @@ const GENERATED: &[(&str, &str, &str)] = &[
     ("18446744073709551615", "1", ONE),
 ];
 
-/// Whether a run of `gen` on this seed and number of terms prints these lines.
-fn is_summarized(rt: &impl Abort, alloc: Global, seed: &str, count: &str, lines: &str) -> bool {
+/// Stops the test where a run of `gen` on this seed and number of terms does not print these lines, and names the two.
+fn expect_summary(rt: &impl Abort, alloc: Global, seed: &str, count: &str, lines: &str) {
     let mut source = MemorySource::new(alloc, NOT_B.as_bytes(), &[]).expect(rt, AMPLE);
     let (status, out, diag) = run_from(rt, alloc, &["gen", seed, count], &mut source);
-    status == 0 && out.as_slice() == lines.as_bytes() && diag.is_empty()
+    let is_printed = status == 0 && out.as_slice() == lines.as_bytes() && diag.is_empty();
+    assert!(rt; is_printed, "{seed} {count}");
 }
 
 #[test]
 fn generated_jobs_are_summarized(rt: HostRuntime) {
-    let alloc = rt.alloc();
     for &(seed, count, lines) in GENERATED {
-        assert!(rt;
-            is_summarized(&rt, alloc, seed, count, lines),
-            "{seed} {count}"
-        );
+        expect_summary(&rt, rt.alloc(), seed, count, lines);
     }
 }
 
 #[test]
 fn the_greatest_generated_job_is_summarized(rt: HostRuntime) {
-    assert!(rt; is_summarized(&rt, rt.alloc(), "7", "100000", MANY));
+    expect_summary(&rt, rt.alloc(), "7", "100000", MANY);
 }
 
 /// These refusals come of no job yet, so they are looked at by themselves.
 #[test]
 fn refusals_have_a_status_and_a_line(rt: HostRuntime) {
-    let rows = [
-        (
-            Refusal::Encode(EncodeRefusal::EncodeStringFailed),
-            4,
-            "encode refused: EncodeStringFailed\n",
-        ),
-        (
-            Refusal::Encode(EncodeRefusal::EncodePatternFailed),
-            4,
-            "encode refused: EncodePatternFailed\n",
-        ),
-        (Refusal::Memory, 7, "memory\n"),
-        (
-            Refusal::Session(SessionFault::AnswerTooLong),
-            8,
-            "session fault: AnswerTooLong\n",
-        ),
-    ];
-    for (refusal, status, line) in rows {
-        assert_eq!(rt; refusal.status(), status);
-        assert_eq!(rt; refusal.line(), line);
-    }
+    let text = Refusal::Encode(EncodeRefusal::EncodeStringFailed);
+    expect_line(&rt, text, 4, "encode refused: EncodeStringFailed\n");
+    let pattern = Refusal::Encode(EncodeRefusal::EncodePatternFailed);
+    expect_line(&rt, pattern, 4, "encode refused: EncodePatternFailed\n");
+    expect_line(&rt, Refusal::Memory, 7, "memory\n");
+    let answer = Refusal::Session(SessionFault::AnswerTooLong);
+    expect_line(&rt, answer, 8, "session fault: AnswerTooLong\n");
+}
+
+/// Stops the test where a refusal has another status or another line, and names the line.
+fn expect_line(rt: &impl Abort, refusal: Refusal, status: u8, line: &str) {
+    expect_status(rt, line, refusal.status(), status);
+    expect_text(rt, "the line", refusal.line(), line);
 }
 
 /// The status of a run on these bytes, and the bytes that it put to out and to diag.
@@ -365,10 +377,16 @@ fn length_has_a_limit(rt: HostRuntime) {
     let alloc = rt.alloc();
     let mut job = NOT_B.as_bytes().to_vec(alloc).expect(&rt, AMPLE);
     job.resize(16_777_216, b' ').expect(&rt, AMPLE);
-    let (status, out, diag) = run_on(&rt, alloc, job.as_slice());
-    assert!(rt; status == 0 && out.as_slice() == SCRIPT.as_bytes() && diag.is_empty());
+    expect_leaves(&rt, alloc, job.as_slice(), (0, SCRIPT, ""));
     job.push(b' ').expect(&rt, AMPLE);
-    let (status, out, diag) = run_on(&rt, alloc, job.as_slice());
-    let line = b"job refused: TooLarge\n".as_slice();
-    assert!(rt; status == 3 && out.is_empty() && diag.as_slice() == line);
+    let refused = (3, "", "job refused: TooLarge\n");
+    expect_leaves(&rt, alloc, job.as_slice(), refused);
+}
+
+/// Stops the test where a run on these bytes leaves another status, or puts or says something else, and names what differs.
+fn expect_leaves(rt: &impl Abort, alloc: Global, bytes: &[u8], wanted: (u8, &str, &str)) {
+    let (status, out, diag) = run_on(rt, alloc, bytes);
+    expect_status(rt, "the status", status, wanted.0);
+    expect_bytes(rt, "put to out", out.as_slice(), wanted.1.as_bytes());
+    expect_bytes(rt, "said on diag", diag.as_slice(), wanted.2.as_bytes());
 }

@@ -29,10 +29,10 @@ abbrev pub derived_type_cmp : TermType → TermType → Ordering
 derived_type_cmp = type_ord.ghosts.cmp
 
 -- the order of maps of types, as the derived order of types has it
-abbrev map_family : TypeMap → TypeMap → Ordering
+abbrev pub map_family : TypeMap → TypeMap → Ordering
 map_family = type_laws.family type_block.member-TypeMap
 
-map_family-is : (x y : TypeMap) → map_family x y ≡ slice_cmp (by_pairs derived_type_cmp) x.pairs.items.value.items y.pairs.items.value.items
+pub map_family-is : (x y : TypeMap) → map_family x y ≡ slice_cmp (by_pairs derived_type_cmp) x.pairs.items.value.items y.pairs.items.value.items
 unfolding Carrier.out
 map_family-is x y =
     Compared.compared_is type_block.the_members (Carrier.Values type_block.the_members type_block.the_sigs type_block.the_carrier) type_block.the_depth Ordering Equal type_ord.the_step type_laws.local type_block.member-TypeMap x y

@@ -1,7 +1,12 @@
 -- Laws of the program's types: what their code keeps, said of their plain form.
 use Rattle.std.specs.Prelude.{◌≡◌, ◌↔◌, IsTrue}
+use Rattle.std.specs.Cmp.Lexicographic.{slice_cmp}
 use Rattle.smt_meaning.specs.Types.{type_cmp}
-use Rattle.smt_types.specs.View.{plain_type}
+use Rattle.smt_meaning.specs.ValueOrder.{text_cmp}
+use Rattle.smt_leaves.specs.Orders.{AreOrdered, pair_cmp}
+use Rattle.smt_types.specs.View.{plain_attributes, plain_type}
+use Rattle.smt_types.specs.contracts.maps.TypeMapOrd.TheImpl as map_order
+use Rattle.smt_types.specs.contracts.maps.TypeMapPartialEq.TheImpl as map_equality
 use Rattle.smt_types.specs.contracts.types.TermTypeOrd.TheImpl as type_order
 use Rattle.smt_types.specs.contracts.types.TermTypePartialEq.TheImpl as type_equality
 use Rattle.smt_types.specs.declared.types.TermType.{TermType}
@@ -13,3 +18,7 @@ TypesCompareAsPlain = (s t : TermType) → type_order.ghosts.cmp s t ≡ type_cm
 -- two types are equal exactly where they say the same
 abbrev pub EqualTypesSayTheSame : Type 0
 EqualTypesSayTheSame = (s t : TermType) → IsTrue (type_equality.ghosts.eq s t) ↔ (plain_type s ≡ plain_type t)
+
+-- maps are ordered as lists of their attributes and types, by the first difference, and are equal where they have the same
+abbrev pub TypeMapsAreOrdered : Type 0
+TypeMapsAreOrdered = AreOrdered map_order.ghosts.cmp map_equality.ghosts.eq plain_attributes (slice_cmp (pair_cmp text_cmp type_cmp))

@@ -8,7 +8,8 @@ use Rattle.smt_term.specs.declared.term.Term.{Term}
 use Rattle.smt_cedar_types.specs.View.{plain_cedar}
 use Rattle.smt_cedar_types.specs.declared.error.CompileError.{CompileError as TypeError}
 use Rattle.smt_cedar_types.specs.declared.error.CompileError.TheVariants as types
-use Rattle.smt_cedar_values.specs.View.{plain_value_of}
+use Rattle.smt_cedar_types.specs.declared.cedar_type.CedarType.{CedarType}
+use Rattle.smt_cedar_values.specs.Plain.{PlainValue}
 use Rattle.smt_cedar_values.specs.declared.error.ExtError.{ExtError as ValueError}
 use Rattle.smt_cedar_values.specs.declared.error.ExtError.TheVariants as values
 use Rattle.smt_values.specs.Outcomes.{Outcome}
@@ -17,7 +18,7 @@ use Rattle.smt_values.specs.TermOfValue.{term_of_value}
 use Rattle.smt_values.specs.declared.error.SymbolizeError.{SymbolizeError}
 use Rattle.smt_values.specs.declared.error.SymbolizeError.TheVariants.{UnableToSymbolizeValue, CompileError, ExtError, PartialRequest, PartialValue, IllFormedTypeEnv, EntitiesError, Memory}
 use Rattle.smt_value_meaning.specs.CedarMeaning.{cedar_value}
-use Rattle.smt_value_meaning.specs.Laws.{AnswersHaveMeanings, IsLiteralOf, IsLiteralOrMemory}
+use Rattle.smt_value_meaning.specs.Laws.{AnswersMeaning, IsLiteralOf, IsLiteralOrMemory}
 use Rattle.smt_value_meaning.proofs.Meanings.{terms_have_meanings}
 use Rattle.smt_value_meaning.proofs.ProgramTypes.{program_types_are_in_order}
 
@@ -52,7 +53,9 @@ answer_means : (t : PlainType) (w : Value) (o : Outcome PlainTerm) (u : PlainTer
 answer_means t w o u (Ok x) stated h given refused = subst (λ (r : PlainTerm). IsLiteralOf t w r) (one_given u (plain_term x) o stated given) h
 answer_means t w o u (Err e) stated h given refused = only_memory e u (subst (λ (r : Outcome PlainTerm). IsRefusal e r) stated refused)
 
-pub answers_have_meanings : AnswersHaveMeanings
-answers_have_meanings type v t answer h e given =
-    let s = terms_have_meanings (plain_cedar type) (plain_value_of v) t (program_types_are_in_order type) h e in
-    answer_means t (cedar_value (plain_cedar type) (plain_value_of v)) (term_of_value (plain_cedar type) (plain_value_of v)) s.0 answer s.1 s.2 given.given given.refused
+-- an answer by the contract of `from_value` has the meaning
+pub answer_has_meaning : (type : CedarType) (v : PlainValue) (answer : Result Term SymbolizeError) → IfOk answer (λ x. term_of_value (plain_cedar type) v ≡ Ok (plain_term x)) → IfErr answer (λ e. IsRefusal e (term_of_value (plain_cedar type) v))
+    → AnswersMeaning (plain_cedar type) v answer
+answer_has_meaning type v answer given refused t h e =
+    let s = terms_have_meanings (plain_cedar type) v t (program_types_are_in_order type) h e in
+    answer_means t (cedar_value (plain_cedar type) v) (term_of_value (plain_cedar type) v) s.0 answer s.1 s.2 given refused

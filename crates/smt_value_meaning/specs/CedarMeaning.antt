@@ -14,7 +14,7 @@ use Rattle.smt_cedar_values.specs.Plain.{CedarLiteral, TruthOf, LongOf, TextOf, 
 
 -- ---- literals and values of extension types: they mean the same at every type
 
--- what is of no use
+-- what a value means where it can be of no use: false
 abbrev pub no_meaning : Value
 no_meaning = BoolValue false
 
@@ -30,6 +30,7 @@ abbrev pub extension_meaning : Option PlainExtension → Value
 extension_meaning (Some x) = ExtensionValue x
 extension_meaning None = no_meaning
 
+-- what a value means that is neither a set nor a record, at whatever type
 abbrev pub meaning_at_any_type : PlainValue → Value
 meaning_at_any_type (LiteralValue literal) = literal_meaning literal
 meaning_at_any_type (CedarExtension e) = extension_meaning (value_of_expression e)
@@ -52,7 +53,8 @@ fields_of (one_field name v others) = (name, v) ∷ fields_of others
 abbrev pub value_named : (name : List ℕ) → PlainFields → Option PlainValue
 value_named name held = lookup (bytes_eq name) (fields_of held)
 
--- an attribute that the type does not require is some of its meaning, or none where the record lacks it
+-- What an attribute means: where the type requires it its meaning, and else some of its meaning, or none where the record lacks
+-- it. One that is required and lacking is of no use.
 abbrev pub attribute_meaning : (meaning_of : PlainValue → Value) → (required : Bool) → Option PlainValue → Value
 attribute_meaning meaning_of true (Some v) = meaning_of v
 attribute_meaning meaning_of false (Some v) = SomeValue (meaning_of v)
@@ -61,8 +63,9 @@ attribute_meaning meaning_of false None = NoneValue
 
 -- ---- all values
 
--- a set means the set of what its elements mean at the element type, and a record the record of the type's attributes
 abbrev mutual
+  -- What a value means at a Cedar type, as a value of terms: a set at a set type the set of what its elements mean, a record at a
+  -- closed record type the record of the type's attributes, and any other value what it means at every type.
   pub cedar_value : PlainCedar → PlainValue → Value
   cedar_value (SetType element) (CedarSet vs) = set_of (map (cedar_value element) (elements_of vs))
   cedar_value (ClosedRecordType named) (CedarRecord held) = RecordValue (attribute_meanings named held)

@@ -33,10 +33,10 @@ IsOfAttribute IsOf required None = required ≡ false
 
 -- ---- all values
 
--- A literal is of its own type: a truth value of that alone too, an entity of types among which its own is. An extension value is
--- of the type that its expression says. A set is of a set type where each element is of the element type. A record is of a record
--- type where it has the type's attributes, and no others where the type is closed.
 abbrev mutual
+  -- A literal is of its own type: a truth value of that alone too, an entity of types among which its own is. An extension value is
+  -- of the type that its expression says. A set is of a set type where each element is of the element type. A record is of a record
+  -- type where it has the type's attributes, and no others where the type is closed.
   pub IsOfType : PlainCedar → PlainValue → Type 0
   IsOfType AnyBoolType (LiteralValue (TruthOf b)) = ⊤
   IsOfType (OneBoolType a) (LiteralValue (TruthOf b)) = b ≡ a
@@ -58,14 +58,15 @@ abbrev mutual
 
 -- ---- types in order
 
--- the attributes of each record type in a type ascend strictly by their bytes
 abbrev mutual
+  -- the attributes of each record type in a type ascend strictly by their bytes, as those of the program's types do
   pub IsInOrder : PlainCedar → Type 0
   IsInOrder (SetType element) = IsInOrder element
   IsInOrder (ClosedRecordType named) = IsTrue (ascends text_cmp (names_of_type named)) × AreInOrder named
   IsInOrder (OpenRecordType named) = IsTrue (ascends text_cmp (names_of_type named)) × AreInOrder named
   IsInOrder type = ⊤
 
+  -- the types of a record type's attributes are in order
   pub AreInOrder : CedarAttributes → Type 0
   AreInOrder no_attributes = ⊤
   AreInOrder (attribute name type required others) = IsInOrder type × AreInOrder others

@@ -11,64 +11,77 @@ use Rattle.smt_value_meaning.specs.CedarTyping.{IsInOrder, IsOfType}
 
 -- ---- values and types
 
+-- the literal true
 abbrev pub yes : PlainValue
 yes = LiteralValue (TruthOf true)
 
+-- a number as a literal
 abbrev pub long : ℕ → PlainValue
 long n = LiteralValue (LongOf (pos n))
 
+-- the number -1
 abbrev pub minus_one : PlainValue
 minus_one = LiteralValue (LongOf (negsuc 0))
 
--- "é", which is spelled in two bytes
+-- "é", which is one code point spelled in two bytes
 abbrev pub accented : PlainValue
 accented = LiteralValue (TextOf (195 ∷ 169 ∷ []))
 
+-- the user ann
 abbrev pub user : PlainValue
 user = LiteralValue (EntityOf (codes "User") (codes "ann"))
 
+-- the type of users
 abbrev pub users : PlainCedar
 users = EntityOfType (codes "User" ∷ [])
 
--- `decimal("1.0")`, and a call that says nothing
+-- `decimal("1.0")`
 abbrev pub one : PlainValue
 one = CedarExtension (call_with (codes "decimal") (codes "1.0"))
 
+-- `decimal("1")`, which says no value
 abbrev pub bad : PlainValue
 bad = CedarExtension (call_with (codes "decimal") (codes "1"))
 
--- `[2, 1, 2]`, `[1, true]` and `[]`
+-- `[2, 1, 2]`
 abbrev pub twos_and_one : PlainValue
 twos_and_one = CedarSet (values (long 2 ∷ long 1 ∷ long 2 ∷ []))
 
+-- `[1, true]`, whose elements are of two types
 abbrev pub mixed : PlainValue
 mixed = CedarSet (values (long 1 ∷ yes ∷ []))
 
+-- `[]`
 abbrev pub nothing : PlainValue
 nothing = CedarSet (values [])
 
--- `{a: .., b: ..}`, `{b: ..}` and `{a: ..}`
+-- `{a: .., b: ..}`
 abbrev pub with_both : (a b : PlainValue) → PlainValue
 with_both a b = CedarRecord (one_field (codes "a") a (one_field (codes "b") b no_fields))
 
+-- `{b: ..}`
 abbrev pub with_b : PlainValue → PlainValue
 with_b b = CedarRecord (one_field (codes "b") b no_fields)
 
+-- `{a: ..}`
 abbrev pub with_a : PlainValue → PlainValue
 with_a a = CedarRecord (one_field (codes "a") a no_fields)
 
--- `{a?: Long, b: Bool}`, and the same out of order
+-- `{a?: Long, b: Bool}`
 abbrev pub named : CedarAttributes
 named = attribute (codes "a") LongType false (attribute (codes "b") AnyBoolType true no_attributes)
 
+-- the same type with its attributes out of order
 abbrev pub turned : CedarAttributes
 turned = attribute (codes "b") AnyBoolType true (attribute (codes "a") LongType false no_attributes)
 
 -- ---- examples
 
+-- a number as a value of 64 bits
 abbrev pub bits : ℕ → Value
 bits n = BitVecValue 64 n
 
+-- what values mean at types, and what is of no use
 pub record MeaningExamples : Type 0 where
   pub truth : cedar_value AnyBoolType yes ≡ BoolValue true
   pub below_zero : cedar_value LongType minus_one ≡ bits 18446744073709551615
@@ -90,6 +103,7 @@ pub record MeaningExamples : Type 0 where
   pub no_record_type : cedar_value (OpenRecordType named) (with_b yes) ≡ BoolValue false
   pub missing : cedar_value (ClosedRecordType named) (with_a (long 5)) ≡ RecordValue (field (codes "a") (SomeValue (bits 5)) (field (codes "b") (BoolValue false) no_field_values))
 
+-- values that are of their types
 pub record TypingExamples : Type 0 where
   pub truth : IsOfType AnyBoolType yes
   pub one_truth : IsOfType (OneBoolType true) yes
@@ -107,6 +121,7 @@ pub record TypingExamples : Type 0 where
   pub absent : IsOfType (ClosedRecordType named) (with_b yes)
   pub others : IsOfType (OpenRecordType (attribute (codes "b") AnyBoolType true no_attributes)) (with_both (long 5) yes)
 
+-- values that are not of these types
 pub record RefusalExamples : Type 0 where
   pub never : ¬ IsOfType NeverType yes
   pub other_truth : ¬ IsOfType (OneBoolType false) yes
@@ -121,6 +136,7 @@ pub record RefusalExamples : Type 0 where
   pub other_attribute : ¬ IsOfType (ClosedRecordType named) (with_b (long 5))
   pub other_name : ¬ IsOfType (ClosedRecordType (attribute (codes "a") LongType false no_attributes)) (with_both (long 5) yes)
 
+-- a type whose attributes are in order, and one whose are not
 pub record OrderExamples : Type 0 where
   pub ascend : IsInOrder (SetType (ClosedRecordType named))
   pub turned_around : ¬ IsInOrder (ClosedRecordType turned)

@@ -61,11 +61,22 @@ fn bits(width: &str, number: &str) -> Result<BitVec> {
 pub(crate) fn answer(alloc: Global, call: &str, operands: &str) -> Result<String> {
     let words: Vec<&str> = operands.split(' ').collect(alloc)?;
     match words.as_slice() {
-        [width, lhs, rhs] => called(alloc, call, &bits(width, lhs)?, &bits(width, rhs)?),
-        [width, number, low, high] => shown(
-            alloc,
-            bits(width, number)?.extract_bits(low.parse()?, high.parse()?),
-        ),
+        [width, lhs, rhs] => called_at(alloc, call, width, lhs, rhs),
+        [width, number, low, high] => extracted(alloc, width, number, low, high),
         _ => bail!("a call on bitvectors has three or four operands"),
     }
+}
+
+/// What a call answers at two numbers of a width.
+fn called_at(alloc: Global, call: &str, width: &str, lhs: &str, rhs: &str) -> Result<String> {
+    let lhs = bits(width, lhs)?;
+    let rhs = bits(width, rhs)?;
+    called(alloc, call, &lhs, &rhs)
+}
+
+/// What is extracted of a number of a width from a place to a place.
+fn extracted(alloc: Global, width: &str, number: &str, low: &str, high: &str) -> Result<String> {
+    let given = bits(width, number)?;
+    let (low, high) = (low.parse()?, high.parse()?);
+    shown(alloc, given.extract_bits(low, high))
 }

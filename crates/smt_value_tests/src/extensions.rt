@@ -75,25 +75,31 @@ fn numbers(pair: &str) -> Result<(i64, i64)> {
 /// What a call on datetimes and durations answers at their numbers.
 fn moved(alloc: Global, call: &str, operands: &str) -> Result<String> {
     match call {
-        "offset" => {
-            let (start, by) = numbers(operands)?;
-            let moment = Datetime::from(start).offset(&Duration::from(by));
-            found(alloc, moment.map(i64::from))
-        }
-        "duration_since" => {
-            let (later, earlier) = numbers(operands)?;
-            let span = Datetime::from(later).duration_since(&Datetime::from(earlier));
-            found(alloc, span.map(i64::from))
-        }
-        "to_date" => {
-            let date = Datetime::from(operands.parse::<i64>()?).to_date();
-            found(alloc, date.map(i64::from))
-        }
-        "to_time" => {
-            let time = Datetime::from(operands.parse::<i64>()?).to_time();
-            found(alloc, time.map(i64::from))
-        }
+        "offset" => offset(alloc, operands),
+        "duration_since" => duration_since(alloc, operands),
+        "to_date" | "to_time" => part(alloc, call, operands),
         _ => bail!("no call on extension values has this name"),
+    }
+}
+
+fn offset(alloc: Global, operands: &str) -> Result<String> {
+    let (start, by) = numbers(operands)?;
+    let moment = Datetime::from(start).offset(&Duration::from(by));
+    found(alloc, moment.map(i64::from))
+}
+
+fn duration_since(alloc: Global, operands: &str) -> Result<String> {
+    let (later, earlier) = numbers(operands)?;
+    let span = Datetime::from(later).duration_since(&Datetime::from(earlier));
+    found(alloc, span.map(i64::from))
+}
+
+/// The date of a moment, or its time.
+fn part(alloc: Global, call: &str, operands: &str) -> Result<String> {
+    let moment = Datetime::from(operands.parse::<i64>()?);
+    match call {
+        "to_date" => found(alloc, moment.to_date().map(i64::from)),
+        _ => found(alloc, moment.to_time().map(i64::from)),
     }
 }
 

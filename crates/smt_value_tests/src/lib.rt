@@ -7,6 +7,8 @@
 #[cfg(test)]
 mod bitvectors;
 #[cfg(test)]
+mod expected;
+#[cfg(test)]
 mod extensions;
 #[cfg(test)]
 mod rows;

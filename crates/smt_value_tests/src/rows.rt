@@ -1,4 +1,5 @@
 // The rows, answered one after the other.
+use crate::expected::expect_text;
 use crate::{bitvectors, extensions, tables};
 use anyhow::Result;
 use std::alloc::Global;
@@ -18,7 +19,7 @@ fn answers_are(rt: &impl Abort, alloc: Global, subject: &str, table: &str) {
     for line in table.lines() {
         let (row, stated) = line.split_once(" = ").expect(rt, "a row and its answer");
         let said = answer(alloc, subject, row).expect(rt, "the row says a call");
-        assert_eq!(rt; said.as_str(), stated, "{row}");
+        expect_text(rt, row, said.as_str(), stated);
     }
 }
 
@@ -50,4 +51,14 @@ fn ip_ranges(rt: HostRuntime) {
 #[test]
 fn containment(rt: HostRuntime) {
     answers_are(&rt, rt.alloc(), "containment", tables::containment::ROWS);
+}
+
+#[test]
+fn texts_past_ascii(rt: HostRuntime) {
+    answers_are(
+        &rt,
+        rt.alloc(),
+        "texts past ASCII",
+        tables::past_ascii::ROWS,
+    );
 }

@@ -6,3 +6,4 @@ pub(crate) mod datetimes;
 pub(crate) mod decimals;
 pub(crate) mod durations;
 pub(crate) mod ip_ranges;
+pub(crate) mod past_ascii;

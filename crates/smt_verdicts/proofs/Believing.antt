@@ -16,14 +16,15 @@ use Rattle.smt_semantics.proofs.Laid.{plain_lines, set_logic_line}
 use Rattle.smt_lines.specs.NameTables.{Tables, no_names}
 use Rattle.smt_lines.proofs.Spelled.{lines_hold, whole_line}
 use Rattle.smt_carrying.specs.CarriedInterpretations.{carry_interpretation}
-use Rattle.smt_headline.specs.Headline.{AreTrue, Headline}
+use Rattle.smt_headline.specs.Headline.{Headline}
+use Rattle.smt_meaning.specs.Meaning.{AreTrue}
 use Rattle.smt_script.specs.CommandTexts.{check_sat_text}
 use Rattle.smt_solve.specs.Answers.{StripsTo}
 use Rattle.smt_verdicts.specs.Honesty.{HasNoModel, IsInTurn}
 use Rattle.smt_verdicts.specs.Verdicts.{AnyLineIsNotHonest, IsBlankScript, LogicIsBlank, SilenceIsHonest, UnsatIsBelieved, logic_text}
 
 -- a check leaves what there is
-check_runs : (s : State) → run (CheckSat ∷ []) s ≡ Some s
+pub check_runs : (s : State) → run (CheckSat ∷ []) s ≡ Some s
 check_runs s = by s.ended
   where
     by : (b : Bool) → run (CheckSat ∷ []) (record s { ended = b }) ≡ Some (record s { ended = b })

@@ -1,3 +1,4 @@
 pub mod Asking
 pub mod Believing
+pub mod Broken
 pub mod HandedOut

@@ -1,3 +1,4 @@
+pub mod Broken
 pub mod HandedOut
 pub mod Honesty
 pub mod Joined

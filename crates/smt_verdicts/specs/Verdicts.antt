@@ -6,7 +6,8 @@ use Rattle.smt_meaning.specs.Tables.{Interpretation}
 use Rattle.smt_meaning.specs.TypeValues.{Enums}
 use Rattle.smt_carrying.specs.CarriedOrder.{AreEnums}
 use Rattle.smt_headline.specs.Conditions.{AreConditions}
-use Rattle.smt_headline.specs.Headline.{AreTrue, Headline}
+use Rattle.smt_headline.specs.Headline.{Headline}
+use Rattle.smt_meaning.specs.Meaning.{AreTrue}
 use Rattle.smt_lines.specs.NameTables.{Tables}
 use Rattle.smt_lines.specs.Text.{text}
 use Rattle.smt_script.specs.CommandTexts.{check_sat_text, set_logic_text}

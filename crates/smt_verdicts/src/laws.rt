@@ -1,4 +1,5 @@
 //! Laws of verdicts, proved with no code.
+ghost use Rattle.smt_verdicts.specs.Broken.{BrokenAnswersAreLast};
 ghost use Rattle.smt_verdicts.specs.HandedOut.{BlankScriptsAreEmpty, ExitStays, HandOutsAreBlank, HoldersStandAlone, ResetLeavesNothing};
 ghost use Rattle.smt_verdicts.specs.Joined.{ScriptsJoin, TextsJoin};
 ghost use Rattle.smt_verdicts.specs.Verdicts.{AnyLineIsNotHonest, ChecksAreInTurn, LogicIsBlank, SilenceIsHonest, UnsatIsBelieved};
@@ -31,6 +32,11 @@ pub fn hand_outs_are_blank()
     ensures empty { BlankScriptsAreEmpty }
     ensures alone { HoldersStandAlone }
     ensures ended { ExitStays }
+{}
+
+/// An answer to a check that ends without a line feed is the link's last: no later check of it is answered.
+pub fn broken_answers_are_last()
+    ensures { BrokenAnswersAreLast }
 {}
 
 /// A link that gives no line is honest, and one that may give any line is not.

@@ -1,5 +1,6 @@
 //! IP ranges.
 
+use crate::expected::expect;
 use smt_bits::{BitVec, BitVecError, FIVE, HUNDRED_TWENTY_EIGHT, SEVEN, THIRTY_TWO, Width};
 use smt_ext::{
     CIDRv4, CIDRv6, IPError, IPNet, IPv4Addr, IPv4Prefix, IPv6Addr, IPv6Prefix, Text,
@@ -45,7 +46,7 @@ fn ranges_have_texts(rt: HostRuntime) {
         (multicast_cidr_v4(), "224.0.0.0/4"),
         (multicast_cidr_v6(), "ff00::/8"),
     ] {
-        assert!(rt; is_range(&rt, rt.alloc(), net, text), "{text}");
+        expect(&rt, is_range(&rt, rt.alloc(), net, text), text);
     }
 }
 
@@ -79,25 +80,45 @@ fn prefixes_are_ordered(five: BitVec, seven: BitVec) -> bool {
         && IPv6Prefix::try_from_bitvec(Some(seven)) < IPv6Prefix::try_from_bitvec(None)
 }
 
+/// Whether no address has bits of this other width.
+fn no_address_has(short: BitVec, long: BitVec) -> bool {
+    IPv4Addr::try_from_bitvec(long).is_none() && IPv6Addr::try_from_bitvec(short).is_none()
+}
+
+/// Whether no prefix has bits of this other width.
+fn no_prefix_has(five: BitVec, seven: BitVec) -> bool {
+    IPv4Prefix::try_from_bitvec(Some(seven)).is_none()
+        && IPv6Prefix::try_from_bitvec(Some(five)).is_none()
+}
+
 #[test]
-fn parts_of_ranges(rt: HostRuntime) {
-    let five = BitVec::of_nat(FIVE, 24);
-    let seven = BitVec::of_nat(SEVEN, 24);
+fn addresses_of_ranges(rt: HostRuntime) {
     let short = BitVec::of_nat(THIRTY_TWO, 9);
     let long = BitVec::of_nat(HUNDRED_TWENTY_EIGHT, 9);
-    assert!(rt; IPv4Addr::try_from_bitvec(long).is_none());
-    assert!(rt; IPv6Addr::try_from_bitvec(short).is_none());
-    assert!(rt; IPv4Prefix::try_from_bitvec(Some(seven)).is_none());
-    assert!(rt; IPv6Prefix::try_from_bitvec(Some(five)).is_none());
-    assert!(rt; v4_address_holds(&rt, short));
-    assert!(rt; v6_address_holds(&rt, long));
-    for &bits in &[None, Some(five)] {
-        assert!(rt; v4_prefix_holds(&rt, bits));
-    }
-    for &bits in &[None, Some(seven)] {
-        assert!(rt; v6_prefix_holds(&rt, bits));
-    }
-    assert!(rt; prefixes_are_ordered(five, seven));
+    expect(
+        &rt,
+        no_address_has(short, long),
+        "addresses of other widths",
+    );
+    expect(&rt, v4_address_holds(&rt, short), "an address of IPv4");
+    expect(&rt, v6_address_holds(&rt, long), "an address of IPv6");
+}
+
+#[test]
+fn prefixes_of_ranges(rt: HostRuntime) {
+    let five = BitVec::of_nat(FIVE, 24);
+    let seven = BitVec::of_nat(SEVEN, 24);
+    expect(&rt, no_prefix_has(five, seven), "prefixes of other widths");
+    expect(&rt, v4_prefix_holds(&rt, None), "no prefix of IPv4");
+    expect(&rt, v4_prefix_holds(&rt, Some(five)), "a prefix of IPv4");
+    expect(&rt, v6_prefix_holds(&rt, None), "no prefix of IPv6");
+    expect(&rt, v6_prefix_holds(&rt, Some(seven)), "a prefix of IPv6");
+    expect(&rt, prefixes_are_ordered(five, seven), "order of prefixes");
+}
+
+#[test]
+fn faults_of_bits_are_faults_of_ranges(rt: HostRuntime) {
     let refused = IPError::from(BitVecError::WidthTooLarge);
-    assert_eq!(rt; refused, IPError::BitVecError(BitVecError::WidthTooLarge));
+    let wanted = IPError::BitVecError(BitVecError::WidthTooLarge);
+    expect(&rt, refused == wanted, "a width that is too large");
 }

@@ -2,6 +2,7 @@
 
 use super::ip_ranges::v4;
 use crate::AMPLE;
+use crate::expected::expect;
 use smt_ext::{
     Datetime, DatetimeError, Decimal, DecimalError, Duration, Ext, ExtParseError, IPError, Text,
 };
@@ -32,8 +33,9 @@ fn a_decimal_is_read_as_a_value(rt: HostRuntime) {
             ten_thousandths: -120340,
         },
     };
-    assert!(rt; is_value(Ext::parse_decimal(rt.alloc(), "-12.034"), want));
-    assert!(rt; decimal_is_refused(&rt, rt.alloc(), "12"));
+    let found = Ext::parse_decimal(rt.alloc(), "-12.034");
+    expect(&rt, is_value(found, want), "the text of a decimal");
+    expect(&rt, decimal_is_refused(&rt, rt.alloc(), "12"), "12");
 }
 
 /// Whether a text is refused as that of a datetime, with this error.
@@ -48,9 +50,10 @@ fn a_datetime_is_read_as_a_value(rt: HostRuntime) {
         dt: Datetime::from(-19_800_001),
     };
     let found = Ext::parse_datetime(rt.alloc(), "1969-12-31T23:59:59.999+0530");
-    assert!(rt; is_value(found, want));
+    expect(&rt, is_value(found, want), "the text of a datetime");
     let refusal = DatetimeError::ChronoParseError;
-    assert!(rt; datetime_is_refused(rt.alloc(), "2023-02-29", refusal));
+    let is_refused = datetime_is_refused(rt.alloc(), "2023-02-29", refusal);
+    expect(&rt, is_refused, "2023-02-29");
 }
 
 /// Whether a text is refused as that of a duration.
@@ -65,8 +68,9 @@ fn a_duration_is_read_as_a_value(rt: HostRuntime) {
     let want = Ext::Duration {
         d: Duration::from(-93_784_005),
     };
-    assert!(rt; is_value(Ext::parse_duration(rt.alloc(), "-1d2h3m4s5ms"), want));
-    assert!(rt; duration_is_refused(&rt, rt.alloc(), "1s1d"));
+    let found = Ext::parse_duration(rt.alloc(), "-1d2h3m4s5ms");
+    expect(&rt, is_value(found, want), "the text of a duration");
+    expect(&rt, duration_is_refused(&rt, rt.alloc(), "1s1d"), "1s1d");
 }
 
 /// Whether a text is refused as that of an IP range.
@@ -80,6 +84,11 @@ fn range_is_refused(rt: &impl Abort, alloc: Global, text: &str) -> bool {
 fn an_ip_range_is_read_as_a_value(rt: HostRuntime) {
     let ip = v4(&rt, 167_772_161, Some(8));
     let found = Ext::parse_ip(rt.alloc(), "10.0.0.1/8");
-    assert!(rt; is_value(found, Ext::Ipaddr { ip }));
-    assert!(rt; range_is_refused(&rt, rt.alloc(), "10.0.0.1/33"));
+    expect(
+        &rt,
+        is_value(found, Ext::Ipaddr { ip }),
+        "the text of a range",
+    );
+    let is_refused = range_is_refused(&rt, rt.alloc(), "10.0.0.1/33");
+    expect(&rt, is_refused, "10.0.0.1/33");
 }

@@ -1,6 +1,7 @@
 //! How expressions are printed.
 
 use crate::AMPLE;
+use crate::expected::expect;
 use smt_sexpr::parse_sexpr;
 use std::alloc::Global;
 use std::process::Abort;
@@ -48,6 +49,6 @@ fn prints_as(rt: &impl Abort, alloc: Global, src: &[u8], want: &str) -> bool {
 #[test]
 fn prints_expressions(rt: HostRuntime) {
     for &(src, want) in PRINTED {
-        assert!(rt; prints_as(&rt, rt.alloc(), src, want), "{want}");
+        expect(&rt, prints_as(&rt, rt.alloc(), src, want), want);
     }
 }

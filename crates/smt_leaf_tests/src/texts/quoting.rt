@@ -1,6 +1,7 @@
 //! Texts between quotes.
 
 use crate::AMPLE;
+use crate::expected::expect;
 use smt_sexpr::quote_string;
 use std::alloc::Global;
 use std::process::Abort;
@@ -35,13 +36,13 @@ fn is_quoted(rt: &impl Abort, alloc: Global, text: &str, want: Option<&str>) -> 
 #[test]
 fn quotes_each_character(rt: HostRuntime) {
     for &(text, want) in QUOTED {
-        assert!(rt; is_quoted(&rt, rt.alloc(), text, Some(want)), "at {text:?}");
+        expect(&rt, is_quoted(&rt, rt.alloc(), text, Some(want)), want);
     }
 }
 
 #[test]
 fn quotes_no_character_above_the_theory(rt: HostRuntime) {
     for &text in NOT_QUOTED {
-        assert!(rt; is_quoted(&rt, rt.alloc(), text, None), "at {text:?}");
+        expect(&rt, is_quoted(&rt, rt.alloc(), text, None), text);
     }
 }

@@ -1,6 +1,7 @@
 //! Texts that are read part by part, and lists of expressions.
 
 use crate::AMPLE;
+use crate::expected::{expect, expect_count};
 use smt_sexpr::{SExpr, SExprParseError, SExprs, behind_close, behind_open, is_blank, read_next};
 use std::alloc::Global;
 use std::process::Abort;
@@ -80,7 +81,7 @@ fn is_read_as(rt: &impl Abort, alloc: Global, src: &str, depth: usize, want: &st
 #[test]
 fn reads_the_next_expression(rt: HostRuntime) {
     for &(src, depth, want) in READ {
-        assert!(rt; is_read_as(&rt, rt.alloc(), src, depth, want), "{src}");
+        expect(&rt, is_read_as(&rt, rt.alloc(), src, depth, want), src);
     }
 }
 
@@ -96,14 +97,27 @@ fn shown(rt: &impl Abort, alloc: Global, rest: Option<&[u8]>) -> String {
     text.expect(rt, AMPLE)
 }
 
+/// Stops the test where something else follows a bracket of a text, and names the bracket and the text.
+fn expect_rest(
+    rt: &impl Abort,
+    alloc: Global,
+    bracket: &str,
+    src: &str,
+    rest: Option<&[u8]>,
+    want: &str,
+) {
+    let rest = shown(rt, alloc, rest);
+    assert!(rt; rest.as_str() == want, "{bracket} of {src}: {rest}");
+}
+
 #[test]
 fn finds_brackets_behind_blanks(rt: HostRuntime) {
+    let alloc = rt.alloc();
     for &(src, open, close, blank) in FRONTS {
-        let opened = shown(&rt, rt.alloc(), behind_open(src.as_bytes()));
-        let closed = shown(&rt, rt.alloc(), behind_close(src.as_bytes()));
-        assert!(rt; opened.as_str() == open, "{src}");
-        assert!(rt; closed.as_str() == close, "{src}");
-        assert!(rt; is_blank(src.as_bytes()) == blank, "{src}");
+        let bytes = src.as_bytes();
+        expect_rest(&rt, alloc, "(", src, behind_open(bytes), open);
+        expect_rest(&rt, alloc, ")", src, behind_close(bytes), close);
+        expect(&rt, is_blank(bytes) == blank, src);
     }
 }
 
@@ -112,9 +126,10 @@ fn pushes_in_order(rt: HostRuntime) {
     let mut items = SExprs::new(rt.alloc());
     items.push(SExpr::Numeral(1)).expect(&rt, AMPLE);
     items.push(SExpr::Numeral(2)).expect(&rt, AMPLE);
-    assert_eq!(rt; items.len(), 2);
-    assert_eq!(rt;
-        items.items(),
-        [SExpr::Numeral(1), SExpr::Numeral(2)].as_slice()
-    );
+    expect_count(&rt, "how many are pushed", items.len(), 2);
+    let are_in_order = match items.items() {
+        [SExpr::Numeral(first), SExpr::Numeral(second)] => *first == 1 && *second == 2,
+        _ => false,
+    };
+    expect(&rt, are_in_order, "the order in which they are pushed");
 }

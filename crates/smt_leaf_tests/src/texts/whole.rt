@@ -1,6 +1,7 @@
 //! What the reader of S-expressions gives of texts, by values from outside.
 
 use crate::AMPLE;
+use crate::expected::expect;
 use smt_sexpr::{IntFault, SExprParseError, parse_sexpr, parse_sexpr_within};
 use std::alloc::Global;
 use std::process::Abort;
@@ -62,7 +63,7 @@ fn reads_as(rt: &impl Abort, alloc: Global, src: &[u8], want: &str) -> bool {
 #[test]
 fn reads_texts(rt: HostRuntime) {
     for &(src, want) in READ {
-        assert!(rt; reads_as(&rt, rt.alloc(), src, want), "{want}");
+        expect(&rt, reads_as(&rt, rt.alloc(), src, want), want);
     }
 }
 
@@ -77,21 +78,47 @@ fn literal(rt: &impl Abort, alloc: Global, first: u8, ones: usize) -> Vec<u8> {
     text
 }
 
+/// Why such a literal is no expression, None where it is one.
+fn refusal_of_literal(
+    rt: &impl Abort,
+    alloc: Global,
+    first: u8,
+    ones: usize,
+) -> Option<SExprParseError> {
+    let text = literal(rt, alloc, first, ones);
+    parse_sexpr(alloc, text.as_slice()).err()
+}
+
+/// Whether this is why a text is no expression. It takes the refusal, so that no test has an account of how one is let go.
+fn is_refusal(refusal: Option<SExprParseError>, wanted: Option<SExprParseError>) -> bool {
+    refusal == wanted
+}
+
 #[test]
 fn refuses_wide_literals(rt: HostRuntime) {
-    let text = literal(&rt, rt.alloc(), b'1', 128);
-    assert!(rt;
-        parse_sexpr(rt.alloc(), &text) == Err(SExprParseError::ParseIntError(IntFault::PosOverflow))
-    );
-    let text = literal(&rt, rt.alloc(), b'0', 128);
-    assert!(rt; parse_sexpr(rt.alloc(), &text) == Err(SExprParseError::IntegerOverflow));
-    let text = literal(&rt, rt.alloc(), b'0', 127);
-    assert!(rt; parse_sexpr(rt.alloc(), &text).is_ok());
+    let alloc = rt.alloc();
+    let too_great = SExprParseError::ParseIntError(IntFault::PosOverflow);
+    let refusal = refusal_of_literal(&rt, alloc, b'1', 128);
+    expect(&rt, is_refusal(refusal, Some(too_great)), "129 bits");
+    let refusal = refusal_of_literal(&rt, alloc, b'0', 128);
+    let too_wide = SExprParseError::IntegerOverflow;
+    expect(&rt, is_refusal(refusal, Some(too_wide)), "0 and 128 bits");
+    let refusal = refusal_of_literal(&rt, alloc, b'0', 127);
+    expect(&rt, is_refusal(refusal, None), "0 and 127 bits");
+}
+
+/// Whether both texts, of which the first has no depth, are read as the same.
+fn are_read_alike(alloc: Global, first: &[u8], second: &[u8]) -> bool {
+    parse_sexpr_within(alloc, first, 0) == parse_sexpr(alloc, second)
 }
 
 #[test]
 fn stops_within_the_depth(rt: HostRuntime) {
-    assert!(rt; parse_sexpr_within(rt.alloc(), b"((a))", 1) == Err(SExprParseError::TooDeep));
-    assert!(rt; parse_sexpr_within(rt.alloc(), b"((a))", 2).is_ok());
-    assert!(rt; parse_sexpr_within(rt.alloc(), b"a", 0) != parse_sexpr(rt.alloc(), b"b"));
+    let alloc = rt.alloc();
+    let refusal = parse_sexpr_within(alloc, b"((a))", 1).err();
+    let too_deep = SExprParseError::TooDeep;
+    expect(&rt, is_refusal(refusal, Some(too_deep)), "a depth of one");
+    let refusal = parse_sexpr_within(alloc, b"((a))", 2).err();
+    expect(&rt, is_refusal(refusal, None), "a depth of two");
+    expect(&rt, !are_read_alike(alloc, b"a", b"b"), "a and b differ");
 }

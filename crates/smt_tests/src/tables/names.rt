@@ -1,4 +1,4 @@
-//! Ids of variables that stand in comments alone.
+//! Ids of variables and functions that stand in comments alone.
 
 /// The rows.
 pub(crate) const ROWS: &str = r##"> (job (enums) (vars ("a""b" Bool)) (funs) (terms (var "a""b")))
@@ -24,6 +24,23 @@ status 0, 0 bytes on diag, 117 on out
   (some (val X)))))
 ; " a:b)(|c|, "
 (declare-const t0 Bool)
+(assert t0)
+> (job (enums) (vars ("x\u{d}(assert false)" Bool)) (funs) (terms (var "x\u{d}(assert false)")))
+status 0, 0 bytes on diag, 123 on out
+(declare-datatype Option (par (X) (
+  (none)
+  (some (val X)))))
+; "x\r(assert false)"
+(declare-const t0 Bool)
+(assert t0)
+> (job (enums) (vars) (funs ("f\u{a}(check-sat)" Bool Bool)) (terms (uuf "f\u{a}(check-sat)" true)))
+status 0, 0 bytes on diag, 156 on out
+(declare-datatype Option (par (X) (
+  (none)
+  (some (val X)))))
+; f (check-sat)
+(declare-fun f0 (Bool) Bool)
+(define-fun t0 () Bool (f0 true))
 (assert t0)
 > (job (enums) (vars ("12" Bool)) (funs) (terms (var "12")))
 status 0, 0 bytes on diag, 108 on out

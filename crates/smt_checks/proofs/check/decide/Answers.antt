@@ -3,7 +3,7 @@ use Rattle.smt_solve.specs.Session.{session_link, state_by}
 use Rattle.smt_verdicts.specs.Verdicts.{logic_text, question_of}
 use Rattle.smt_checks.specs.Checks.{WhyUndecided}
 use Rattle.smt_checks.specs.declared.error.CheckError.{CheckError}
-use Rattle.smt_checks.proofs.Asking.{answered, answered_by, fresh_ready, not_answered, only_then}
+use Rattle.smt_checks.proofs.Asking.{answered, answered_by, cannot_ask, exits, fresh_ready, not_answered, only_then}
 use Rattle.smt_checks.proofs.check.decide.Goals as goal
 
 pub returns-in-Ok-clause-decided : goal.returns-in-Ok-clause-decided
@@ -22,4 +22,12 @@ returns-in-Err-clause-refused g c =
     let before = state_by g.L.Link.state c.send-2.new.session in
     let after = state_by g.L.Link.state c.check_sat.new.self in
     let ready = c.in_ok-send-2.ensures.sent logic_text (c.in_ok-send.ensures.sent [] (fresh_ready (state_by g.L.Link.state c.args.session.now) c.requires.unused)) in
-    subst (λ (e : CheckError). WhyUndecided after c.args.script.now e) (sym c.error_of.ensures) (not_answered before after c.args.script.now c.in-Err.error ready (c.in-Err.ensures.asks c.in_ok-send-2.ensures.unfailed).err)
+    subst (λ (e : CheckError). WhyUndecided after c.args.script.now e) (sym c.error_of.ensures) (not_answered (g.L.Link.allows (session_link c.send-2.new.session)) before after c.args.script.now c.in-Err.error ready (c.in-Err.ensures.asks c.in_ok-send-2.ensures.unfailed))
+
+pub returns-in_err-send-2-clause-refused : goal.returns-in_err-send-2-clause-refused
+returns-in_err-send-2-clause-refused g c =
+    let before = state_by g.L.Link.state c.send.new.session in
+    let after = state_by g.L.Link.state c.send-2.new.session in
+    let ready = c.in_ok-send.ensures.sent [] (fresh_ready (state_by g.L.Link.state c.args.session.now) c.requires.unused) in
+    exits after c.args.script.now c.from_residual-in_err-send-2.result c.in_err-send-2.field-0.0 c.from_residual-in_err-send-2.ensures.1
+    (cannot_ask before after c.args.script.now c.in_err-send-2.field-0.0 ready.spared c.in_err-send-2.ensures.refused)

@@ -1,6 +1,7 @@
 use Rattle.std.proofs.Common.{map}
 use Rattle.std.proofs.lemmas.Result.{IfOk-weaker}
 use Rattle.smt_extension_folding.proofs.FunctionsStand.{functions_stand}
+use Rattle.smt_extension_folding.proofs.OfAnswers.{answers_have_values}
 use Rattle.smt_extension_functions.proofs.FunctionsFold.{any_folds, stands_as}
 use Rattle.smt_extension_functions.proofs.containment.is_in_range.Goals as goal
 use Rattle.smt_term.specs.View.{plain_term}
@@ -13,3 +14,6 @@ returns-clause-folded c =
 
 pub returns-clause-refines : goal.returns-clause-refines
 returns-clause-refines c = IfOk-weaker c.or.result _ _ (λ r h. stands_as (plain_term r) _ _ h (functions_stand.is_in_range (plain_term c.args.t) (map plain_term c.args.ts.now))) (returns-clause-folded c)
+
+pub returns-clause-value : goal.returns-clause-value
+returns-clause-value c = IfOk-weaker c.or.result _ _ (λ r h. answers_have_values.is_in_range (plain_term c.args.t) (map plain_term c.args.ts.now) (plain_term r) h) (returns-clause-refines c)

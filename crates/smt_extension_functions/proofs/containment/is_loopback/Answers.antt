@@ -1,6 +1,7 @@
 use Rattle.std.proofs.lemmas.Result.{IfOk-weaker}
 use Rattle.smt_ip.specs.IpView.{range_of}
 use Rattle.smt_extension_folding.proofs.FunctionsStand.{functions_stand}
+use Rattle.smt_extension_folding.proofs.OfAnswers.{answers_have_values}
 use Rattle.smt_extension_functions.proofs.FunctionsFold.{loopback_folds, stands_as}
 use Rattle.smt_extension_functions.proofs.containment.is_loopback.Goals as goal
 use Rattle.smt_term.specs.View.{plain_term}
@@ -11,3 +12,6 @@ returns-clause-folded c =
 
 pub returns-clause-refines : goal.returns-clause-refines
 returns-clause-refines c = IfOk-weaker c.in_range_lit.result _ _ (λ r h. stands_as (plain_term r) _ _ h (functions_stand.is_loopback (plain_term c.args.t))) (returns-clause-folded c)
+
+pub returns-clause-value : goal.returns-clause-value
+returns-clause-value c = IfOk-weaker c.in_range_lit.result _ _ (λ r h. answers_have_values.is_loopback (plain_term c.args.t) (plain_term r) h) (returns-clause-refines c)

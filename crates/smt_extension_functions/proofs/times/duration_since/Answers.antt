@@ -1,6 +1,7 @@
 use Rattle.std.proofs.Common.{rules}
 use Rattle.std.proofs.lemmas.Result.{IfOk-weaker}
 use Rattle.smt_extension_folding.proofs.FunctionsStand.{functions_stand}
+use Rattle.smt_extension_folding.proofs.OfAnswers.{answers_have_values}
 use Rattle.smt_extension_functions.proofs.FunctionsFold.{stands_as}
 use Rattle.smt_extension_functions.proofs.times.duration_since.Goals as goal
 use Rattle.smt_term.specs.View.{plain_term}
@@ -10,3 +11,6 @@ returns-clause-folded c = search rules
 
 pub returns-clause-refines : goal.returns-clause-refines
 returns-clause-refines c = IfOk-weaker c.difference_as.result _ _ (λ r h. stands_as (plain_term r) _ _ h (functions_stand.duration_since (plain_term c.args.datetime) (plain_term c.args.start))) (returns-clause-folded c)
+
+pub returns-clause-value : goal.returns-clause-value
+returns-clause-value c = IfOk-weaker c.difference_as.result _ _ (λ r h. answers_have_values.duration_since (plain_term c.args.datetime) (plain_term c.args.start) (plain_term r) h) (returns-clause-refines c)

@@ -1,9 +1,12 @@
+use Rattle.std.proofs.Common.{◌+◌}
 use Rattle.smt_meaning.specs.Faults.{first_fault}
 use Rattle.smt_lines.specs.NameTables.{no_names}
 use Rattle.smt_lines.specs.Text.{names, text}
+use Rattle.smt_headline.specs.Headline.{Headline}
+use Rattle.smt_sorted.specs.WellWritten.{IsWellWritten, most_for_terms}
 use Rattle.smt_encode.specs.Encoded.{enums_in, nodes_in, texts_in}
 use Rattle.smt_encode.proofs.Completing.{none_whole}
-use Rattle.smt_encode.proofs.Conditions.{node_headline, received}
+use Rattle.smt_encode.proofs.Conditions.{node_headline, node_well_written, received}
 use Rattle.smt_encode.proofs.Faulted.{at_ok, has_cause, is_complete, ok_without_fault}
 use Rattle.smt_node_texts.proofs.Named.{names_alone, no_tables}
 use Rattle.smt_encode.proofs.Scripted.{text_written}
@@ -25,7 +28,14 @@ returns-clause-headline g c ts stand unwritten typed =
     let enums = enums_in c.args.self.now in
     let none = ok_without_fault (first_fault enums ts) c.put_nodes-outcome.result c.in_ok-outcome.field-0 c.in_ok-outcome.was (c.put_nodes-outcome.ensures.fault ts stand) in
     let wrote = at_ok c.put_nodes-outcome.result c.in_ok-outcome.field-0 c.in_ok-outcome.was (c.put_nodes-outcome.ensures.lines ts stand no_names (no_tables c.args.self.now.writer.names unwritten)) in
-    received c.put_nodes-outcome.new.self.names enums ts (names enums ts) (text enums ts) _ _ (text_written enums ts wrote) (names_alone c.put_nodes-outcome.new.self.names _ wrote.names) (node_headline c.args.self.now.writer.names.enums.now (nodes_in c.args.self.now) c.args.ids.now ts stand typed none)
+    received (λ s bytes. Headline enums s ts bytes) c.put_nodes-outcome.new.self.names (names enums ts) (text enums ts) _ _ (text_written enums ts wrote) (names_alone c.put_nodes-outcome.new.self.names _ wrote.names) (node_headline c.args.self.now.writer.names.enums.now (nodes_in c.args.self.now) c.args.ids.now ts stand typed none)
+
+pub returns-clause-well_written : goal.returns-clause-well_written
+returns-clause-well_written g c ts stand unwritten typed =
+    let enums = enums_in c.args.self.now in
+    let none = ok_without_fault (first_fault enums ts) c.put_nodes-outcome.result c.in_ok-outcome.field-0 c.in_ok-outcome.was (c.put_nodes-outcome.ensures.fault ts stand) in
+    let wrote = at_ok c.put_nodes-outcome.result c.in_ok-outcome.field-0 c.in_ok-outcome.was (c.put_nodes-outcome.ensures.lines ts stand no_names (no_tables c.args.self.now.writer.names unwritten)) in
+    received (λ s bytes. IsWellWritten enums bytes ts s (1 + most_for_terms ts)) c.put_nodes-outcome.new.self.names (names enums ts) (text enums ts) _ _ (text_written enums ts wrote) (names_alone c.put_nodes-outcome.new.self.names _ wrote.names) (node_well_written c.args.self.now.writer.names.enums.now (nodes_in c.args.self.now) c.args.ids.now ts stand typed none)
 
 pub returns-clause-models : goal.returns-clause-models
 returns-clause-models g c ts stand typed =

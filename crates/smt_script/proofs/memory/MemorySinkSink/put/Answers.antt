@@ -13,6 +13,7 @@ returns-then-left-bytes-clause-puts c = record {
     appended = search rules;
   };
   later = omega arith;
+  no_fault = tt;
   cause = λ _. omega arith;
   room = λ n t. absurd (omega (arith, t.1, c.if-left-bytes.true, c.len.ensures));
   same_place = refl;

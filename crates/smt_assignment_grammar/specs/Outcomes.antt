@@ -1,0 +1,43 @@
+-- What a part of an input states: itself, or the first fault in it.
+use Rattle.std.specs.Prelude.{ℕ, List, Option, Some, None, Ok, Err, Result}
+use Rattle.smt_job_grammar.specs.Outcomes.{JobFault, Outcome}
+
+-- why an expression is no job with an assignment
+pub data InputFault : Type 0 where
+  -- a section or an entry has no form, or the type of a get none
+  FormlessInput : InputFault
+  -- the job is refused
+  RefusedJob : JobFault → InputFault
+  -- no variable, function or selector has this name
+  UnknownEntry : (name : List ℕ) → InputFault
+  -- a name, a type, or a key in the entry of this name is given twice
+  DuplicateEntry : (name : List ℕ) → InputFault
+  -- what stands for a value in the entry of this name is none of its type
+  NoValue : (name : List ℕ) → InputFault
+  -- no entry gives what the terms reach
+  MissingEntry : (name : List ℕ) → InputFault
+
+-- what is stated of a part of an input: the thing that it states, or the first fault in it
+abbrev pub InputOutcome : Type 0 → Type 0
+InputOutcome A = Result A InputFault
+
+infixl 10 ◌>>=◌
+-- the fault of the one, or else what the other makes of the thing that the one states: so what stands first has its fault told first
+abbrev pub ◌>>=◌ : {A B : Type 0} → InputOutcome A → (A → InputOutcome B) → InputOutcome B
+Ok a >>= f = f a
+Err fault >>= f = Err fault
+
+-- what there is, or else this fault
+abbrev pub demanded : {A : Type 0} → InputFault → Option A → InputOutcome A
+demanded fault (Some a) = Ok a
+demanded fault None = Err fault
+
+-- a name, unless something is given for it
+abbrev pub unless_given : {A : Type 0} → Option A → (name : List ℕ) → InputOutcome (List ℕ)
+unless_given (Some a) name = Err (DuplicateEntry name)
+unless_given None name = Ok name
+
+-- what a part of a job states, as part of an input
+abbrev pub of_job : {A : Type 0} → Outcome A → InputOutcome A
+of_job (Ok a) = Ok a
+of_job (Err fault) = Err (RefusedJob fault)

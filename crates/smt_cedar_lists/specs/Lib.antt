@@ -1,0 +1,4 @@
+pub mod AttributeMaps
+pub mod Named
+pub mod Places
+pub mod formers

@@ -1,0 +1,6 @@
+mod ActionTables
+mod Entered
+mod KnownPairs
+mod SortedTypes
+mod StoredTypes
+mod Walked

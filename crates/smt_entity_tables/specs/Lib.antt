@@ -1,0 +1,4 @@
+pub mod ByType
+pub mod Named
+pub mod Stored
+pub mod View

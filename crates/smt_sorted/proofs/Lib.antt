@@ -1,0 +1,11 @@
+pub mod Backwards
+pub mod Bodies
+pub mod Calls
+pub mod Distinct
+pub mod Example
+pub mod Flat
+pub mod NewNames
+pub mod NewTypes
+pub mod Operators
+pub mod States
+pub mod Well

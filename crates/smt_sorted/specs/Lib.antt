@@ -1,0 +1,4 @@
+pub mod Example
+pub mod FlatScripts
+pub mod SortedScripts
+pub mod WellWritten
