@@ -8,12 +8,12 @@ work=$(mktemp -d)
 trap 'rm -rf "$work"' EXIT
 
 mkdir -p "$work/repo/crates/bits_bench/src"
-for crate in smt_arithmetic smt_bits; do
+for crate in law_numbers smt_bits; do
     cp -r "$top/crates/$crate" "$work/repo/crates/$crate"
     rm -rf "$work/repo/crates/$crate/out"
 done
 cp "$top/bench/bits/main.rt.txt" "$work/repo/crates/bits_bench/src/main.rt"
-printf 'smt_arithmetic:\nsmt_bits: smt_arithmetic thiserror\nbits_bench: smt_bits anyhow\n' >"$work/repo/crates.txt"
+printf 'law_numbers:\nsmt_bits: law_numbers thiserror\nbits_bench: smt_bits anyhow\n' >"$work/repo/crates.txt"
 (cd "$work/repo" && git init -q && cd crates/bits_bench && rt run --jobs 1) >"$work/proved" 2>"$work/log" || {
     grep -E "error\[|no proof|not-proved" "$work/log" >&2
     exit 1

@@ -7,12 +7,12 @@ work=$(mktemp -d)
 trap 'rm -rf "$work"' EXIT
 
 mkdir -p "$work/repo/crates/ext_bench/src"
-for crate in smt_characters smt_arithmetic smt_text smt_bits smt_ip smt_ext; do
+for crate in law_texts law_numbers smt_text smt_bits smt_ext; do
     cp -r "$top/crates/$crate" "$work/repo/crates/$crate"
     rm -rf "$work/repo/crates/$crate/out"
 done
 cp "$top/bench/ext/main.rt.txt" "$work/repo/crates/ext_bench/src/main.rt"
-printf 'smt_characters:\nsmt_arithmetic:\nsmt_text: smt_characters\nsmt_bits: smt_arithmetic thiserror\nsmt_ip: smt_text smt_arithmetic smt_bits thiserror\nsmt_ext: smt_characters smt_text smt_arithmetic smt_bits smt_ip jiff jiff_core thiserror\next_bench: smt_bits smt_ext anyhow\n' >"$work/repo/crates.txt"
+printf 'law_texts:\nlaw_numbers:\nsmt_text: law_texts\nsmt_bits: law_numbers thiserror\nsmt_ext: law_texts law_numbers smt_text smt_bits jiff jiff_core thiserror\next_bench: smt_bits smt_ext anyhow\n' >"$work/repo/crates.txt"
 (cd "$work/repo" && git init -q && cd crates/ext_bench && rt run --jobs 1) >"$work/run1" 2>"$work/log" || {
     grep -E "error\[|no proof|not-proved" "$work/log" >&2
     exit 1

@@ -7,7 +7,7 @@ The other program is called as smtcli is, as `PROGRAM script` with the job on st
 
 A fifth family is a sum of a term with itself, 10, 20 and 40 deep. No job can write it, since a job has no way to share
 a term. So it is measured with programs of its own, which are called as `PROGRAM DEPTH` and print the script of such a
-term. Ours is `smt_shared_sum`.
+term. Ours is `kembura_uses`.
 
 A sixth family is the job that `gen 7 N` makes from the number 7, of a thousand, ten thousand and a hundred thousand terms.
 Both programs are called as `PROGRAM gen 7 N`. They keep no script, and print six numbers of it.
@@ -250,12 +250,12 @@ def arguments():
 
     parser = argparse.ArgumentParser(description=__doc__, formatter_class=argparse.RawDescriptionHelpFormatter)
     ours = str(TOP / "crates/smtcli/out/smtcli")
-    sums = TOP / "crates/smt_shared_sum/out/smt_shared_sum"
+    sums = TOP / "crates/kembura_uses/out/kembura_uses"
     shared = str(sums) if os.access(sums, os.X_OK) else None
     parser.add_argument("--ours", metavar="PROGRAM", type=program, default=ours, help="smtcli, as `rt run` builds it")
     parser.add_argument("--public", metavar="PROGRAM", type=program, help="the program to compare with")
     parser.add_argument(
-        "--shared", metavar="PROGRAM", type=program, default=shared, help="smt_shared_sum, as `rt run -- 40` builds it"
+        "--shared", metavar="PROGRAM", type=program, default=shared, help="kembura_uses, as `rt run -- 40` builds it"
     )
     parser.add_argument("--public-shared", metavar="PROGRAM", type=program, help="the same of the public crate")
     parser.add_argument("--runs", metavar="N", type=positive, default=3, help="how many runs (3)")

@@ -1,6 +1,6 @@
 -- What contracts see of a bitvector: its width and its number.
 use Rattle.std.specs.Prelude.{◌≡◌, ◌≢◌, ℕ, ◌<◌}
-use Rattle.smt_arithmetic.specs.Shifts.{greatest_shift}
+use Rattle.law_numbers.specs.Shifts.{greatest_shift}
 use Rattle.smt_bits.specs.declared.bitvec.BitVec.{BitVec}
 use Rattle.smt_bits.specs.declared.error.BvCall.{BvCall}
 use Rattle.smt_bits.specs.declared.error.BitVecError.{BitVecError}

@@ -1,7 +1,7 @@
 //! Bitvectors: how they are made from numbers and read as numbers, their signed range, complement
 //! and negation.
 ghost use Rattle.std.specs.Prelude.{◌≡◌, ◌-◌, ◌%◌, ◌^◌, ◌<◌, IfOk, IfErr};
-ghost use Rattle.smt_arithmetic.specs.BitVectors.{is_negative, signed, bits_of, bvnot, bvneg, overflows, least_signed, greatest_signed};
+ghost use Rattle.law_numbers.specs.BitVectors.{is_negative, signed, bits_of, bvnot, bvneg, overflows, least_signed, greatest_signed};
 
 mod arithmetic;
 mod comparison;
@@ -44,6 +44,17 @@ impl BitVec {
     }
 
     /// The number modulo 2 to the width, in two's complement where it is negative.
+    ///
+    /// # Examples
+    ///
+    /// ```
+    /// use kembura::BitVec;
+    /// use kembura::bits::EIGHT;
+    ///
+    /// let bits = BitVec::of_int(EIGHT, -1);
+    /// assert_eq!(rt; bits.to_nat(), 255);
+    /// assert_eq!(rt; bits.to_int(), -1);
+    /// ```
     pub fn of_int(width: Width, v: Int) -> BitVec
         ensures width { width_of result ≡ bits_in width }
         ensures value { number_of result ≡ bits_of (bits_in width) v }

@@ -1,9 +1,8 @@
-//! Bitvectors of 1 to 128 bits, with the arithmetic of SMT-LIB's theory FixedSizeBitVectors and
-//! logic QF_BV.
+//! Bitvectors of 1 to 128 bits, with the arithmetic of SMT-LIB's theory FixedSizeBitVectors and of its logic QF_BV.
 //!
-//! A [`BitVec`] is a [`Width`] and a number below 2 to that width. Contracts see it by `width_of`
-//! and `number_of`, and say of each operation which function of whole numbers it computes
-//! (`BitVectors` of `smt_arithmetic`). No call takes memory.
+//! A [`BitVec`] is a [`Width`] and a number below 2 to that width. Contracts see it by `width_of` and `number_of`
+//! (`specs/BitVec.antt`), and say of each operation which function of whole numbers it computes (`BitVectors` of
+//! `law_numbers`). A [`Fin`] is a number below a bound. No call takes memory.
 #![tactic(auto)]
 
 mod bitvec;

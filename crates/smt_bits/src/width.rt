@@ -34,6 +34,16 @@ impl Width {
     ghost use Rattle.smt_bits.specs.Width.{bits_in};
 
     /// The width of `n` bits; nothing where `n` is 0 or above 128.
+    ///
+    /// # Examples
+    ///
+    /// ```
+    /// use kembura::Width;
+    /// use kembura::bits::SIXTY_FOUR;
+    ///
+    /// assert_eq!(rt; Width::new(64), Some(SIXTY_FOUR));
+    /// assert_eq!(rt; Width::new(129), None);
+    /// ```
     pub fn new(n: u32) -> Option<Width>
         ensures refused { IsNone result ↔ ((n ≡ 0) ⊎ (128 < n)) }
         ensures value { IfSome result (λ w. bits_in w ≡ n) }

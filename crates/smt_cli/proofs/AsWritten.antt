@@ -1,31 +1,29 @@
 -- What a script says of the terms of a job as they are written, and not as they are built.
 use Rattle.std.proofs.Common.{◌≡◌, ℕ, List, [], ◌∷◌, map, sym, ◌∙◌, None}
 use Rattle.std.specs.List.{AllByRecursion, AllZip}
-use Rattle.std.specs.Prelude.{◌↔◌, IsTrue, IsUtf8}
-use Rattle.smt_meaning.specs.Faults.{first_fault}
-use Rattle.smt_meaning.specs.Formed.{IsFormed}
-use Rattle.smt_meaning.specs.Interpretations.{IsInterpretation, restrict}
-use Rattle.smt_meaning.specs.Meaning.{AreTrue, term_value}
-use Rattle.smt_meaning.specs.Plain.{PlainTerm}
-use Rattle.smt_meaning.specs.Tables.{Interpretation}
-use Rattle.smt_meaning.specs.Typing.{AreTyped}
-use Rattle.smt_meaning.specs.TypeValues.{Enums}
-use Rattle.smt_meaning.proofs.Agreement.{agreeing, restricted, same_values, true_before, true_too}
-use Rattle.smt_meaning.specs.ValueOrder.{ascends, text_cmp}
-use Rattle.smt_folding.specs.Built.{built}
-use Rattle.smt_folding.specs.Refinement.{Refines}
-use Rattle.smt_folding.proofs.BuiltTerms.{built_stands}
-use Rattle.smt_folding.proofs.Records.{interpretations, values}
-use Rattle.smt_semantics.specs.Value.{IsModel}
-use Rattle.smt_lines.specs.Text.{names, text}
-use Rattle.smt_carrying.specs.CarriedInterpretations.{carry_interpretation}
-use Rattle.smt_carrying.specs.CarriedOrder.{AreEnums}
-use Rattle.smt_headline.specs.Conditions.{AreConditions}
-use Rattle.smt_headline.specs.Headline.{Headline}
-use Rattle.smt_job_grammar.proofs.BuiltConditions.{built_booleans, built_formed}
-use Rattle.smt_job_grammar.proofs.Jobs.{job_enums_in_order}
-use Rattle.smt_job_grammar.specs.Jobs.{IsJob, PlainJob}
-use Rattle.smt_job_grammar.specs.Laws.{IsCondition}
+use Rattle.std.specs.Prelude.{◌↔◌}
+use Rattle.law_terms.specs.Faults.{first_fault}
+use Rattle.law_terms.specs.Formed.{IsFormed}
+use Rattle.law_terms.specs.Interpretations.{IsInterpretation, restrict}
+use Rattle.law_terms.specs.Meaning.{AreTrue, term_value}
+use Rattle.law_terms.specs.Plain.{PlainTerm}
+use Rattle.law_terms.specs.Tables.{Interpretation}
+use Rattle.law_terms.specs.Typing.{AreTyped}
+use Rattle.law_terms.specs.TypeValues.{Enums, AreEnums}
+use Rattle.law_terms.proofs.Agreement.{agreeing, restricted, same_values, true_before, true_too}
+use Rattle.law_folding.specs.Built.{built}
+use Rattle.law_folding.specs.Refinement.{Refines}
+use Rattle.law_folding.proofs.BuiltTerms.{built_stands}
+use Rattle.law_folding.proofs.Records.{interpretations, values}
+use Rattle.law_scripts.specs.Value.{IsModel}
+use Rattle.law_lines.specs.Text.{names, text}
+use Rattle.law_theorem.specs.CarriedInterpretations.{carry_interpretation}
+use Rattle.law_theorem.specs.Conditions.{AreConditions}
+use Rattle.law_theorem.specs.Headline.{Headline}
+use Rattle.law_jobs.proofs.BuiltConditions.{built_booleans, built_formed}
+use Rattle.law_jobs.proofs.Jobs.{job_enums_in_order}
+use Rattle.law_jobs.specs.Jobs.{IsJob, PlainJob}
+use Rattle.law_jobs.specs.Laws.{IsCondition}
 
 -- ---- terms as they are written, and as they are built
 
@@ -78,9 +76,5 @@ pub built_conditions : (enums : Enums) (ts : List PlainTerm) → AllByRecursion 
 built_conditions enums ts h none = record { are_typed = built_booleans ts h; are_formed = built_formed ts h; have_no_fault = none }
 
 -- the members of the enum types of a job ascend
-are_enums : (enums : Enums) → AllByRecursion (λ e. IsTrue (ascends text_cmp e.1)) enums → AllByRecursion (λ e. AllByRecursion IsUtf8 e.1) enums → AreEnums enums
-are_enums [] h g = tt
-are_enums (e ∷ enums) h g = (record { ascending = h.0; texts = g.0 }, are_enums enums h.1 g.1)
-
 pub job_enums : (bytes : List ℕ) (job : PlainJob) → IsJob bytes job → AreEnums job.enums
-job_enums bytes job is = let order = job_enums_in_order bytes job is in are_enums job.enums order.members order.texts
+job_enums bytes job is = (job_enums_in_order bytes job is).members

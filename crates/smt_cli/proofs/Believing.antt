@@ -3,28 +3,28 @@ use Rattle.std.proofs.Common.{◌≡◌, ℕ, List, [], map, Option, Some, None,
 use Rattle.std.proofs.lemmas.Bool.{false≢true}
 use Rattle.std.specs.List.{AllByRecursion}
 use Rattle.std.specs.Prelude.{IfSome, IsTrue, is_some}
-use Rattle.smt_meaning.specs.Faults.{first_fault}
-use Rattle.smt_meaning.specs.Interpretations.{IsInterpretation}
-use Rattle.smt_meaning.specs.Tables.{Interpretation}
-use Rattle.smt_meaning.specs.Typing.{AreBoolean}
-use Rattle.smt_folding.specs.Built.{built}
-use Rattle.smt_lines.specs.Text.{names, text}
-use Rattle.smt_headline.specs.Headline.{Headline}
-use Rattle.smt_meaning.specs.Meaning.{AreTrue}
+use Rattle.law_terms.specs.Faults.{first_fault}
+use Rattle.law_terms.specs.Interpretations.{IsInterpretation}
+use Rattle.law_terms.specs.Tables.{Interpretation}
+use Rattle.law_terms.specs.Typing.{AreBoolean}
+use Rattle.law_folding.specs.Built.{built}
+use Rattle.law_lines.specs.Text.{names, text}
+use Rattle.law_theorem.specs.Headline.{Headline}
+use Rattle.law_terms.specs.Meaning.{AreTrue}
 use Rattle.smt_solve.specs.Answers.{StripsTo, decision_word}
 use Rattle.smt_solve.specs.Link.{LinkState}
 use Rattle.smt_solve.specs.Starter.{Command as SolverCall}
 use Rattle.smt_solve.specs.declared.answer.Decision.{Decision}
 use Rattle.smt_solve.specs.declared.answer.Decision.TheVariants.{Unsat}
-use Rattle.smt_verdicts.specs.Honesty.{IsHonest}
-use Rattle.smt_verdicts.specs.Verdicts.{logic_text, question_of}
-use Rattle.smt_verdicts.proofs.Asking.{checks_are_in_turn}
-use Rattle.smt_verdicts.proofs.Believing.{logic_is_blank, unsat_is_believed}
-use Rattle.smt_checks.specs.Checks.{Decides, IsAnswered}
-use Rattle.smt_job_grammar.proofs.BuiltConditions.{built_booleans}
-use Rattle.smt_job_grammar.proofs.Jobs.{job_conditions}
-use Rattle.smt_job_grammar.specs.Jobs.{IsBuiltFrom, IsJob, PlainJob, built_job, fault_of}
-use Rattle.smt_job_grammar.specs.Laws.{IsCondition}
+use Rattle.law_verdicts.specs.Honesty.{IsHonest}
+use Rattle.law_verdicts.specs.Verdicts.{logic_text, question_of}
+use Rattle.law_verdicts.proofs.Asking.{checks_are_in_turn}
+use Rattle.law_verdicts.proofs.Believing.{logic_is_blank, unsat_is_believed}
+use Rattle.smt_pool.specs.Checks.{Decides, IsAnswered}
+use Rattle.law_jobs.proofs.BuiltConditions.{built_booleans}
+use Rattle.law_jobs.proofs.Jobs.{job_conditions}
+use Rattle.law_jobs.specs.Jobs.{IsBuiltFrom, IsJob, PlainJob, built_job, fault_of}
+use Rattle.law_jobs.specs.Laws.{IsCondition}
 use Rattle.smt_cli.specs.Causes.{Around}
 use Rattle.smt_cli.specs.Run.{IsChecked, IsTold}
 use Rattle.smt_cli.proofs.AsWritten.{built_conditions, job_enums, true_as_built}

@@ -2,9 +2,9 @@
 use Rattle.std.proofs.Common.{◌≡◌, ℕ, Result, Ok, Err, List, Option, sym, ◌∙◌}
 use Rattle.std.specs.Io.KnownBytes.{append_known}
 use Rattle.std.specs.Prelude.{OnOk}
-use Rattle.smt_meaning.specs.Plain.{PlainTerm}
-use Rattle.smt_meaning.specs.TypeValues.{Enums}
-use Rattle.smt_lines.specs.Text.{text}
+use Rattle.law_terms.specs.Plain.{PlainTerm}
+use Rattle.law_terms.specs.TypeValues.{Enums}
+use Rattle.law_lines.specs.Text.{text}
 use Rattle.smt_encode.specs.Encoded.{enums_in, sink_of, WroteText}
 use Rattle.smt_encode.specs.declared.encoder.Encoder.{Encoder}
 

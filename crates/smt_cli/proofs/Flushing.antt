@@ -6,7 +6,7 @@ use Rattle.smt_script.specs.declared.sink.SinkError.{SinkError}
 use Rattle.smt_script.specs.declared.sink.SinkError.TheVariants.{Fault as SinkFault, Memory as SinkWant}
 use Rattle.smt_solve.specs.Link.{LinkState}
 use Rattle.smt_solve.specs.Starter.{Command as SolverCall}
-use Rattle.smt_checks.specs.Checks.{Returns}
+use Rattle.smt_pool.specs.Checks.{IsUnkilled, Returns}
 use Rattle.smt_cli.specs.Causes.{Around, HasCause, HasCheckCause, HasPutCause, HasScriptCause, IsAJob, IsFaultlessJob, LeavesOutput, SinkFailed}
 use Rattle.smt_cli.specs.Refusal.{sink_refusal}
 use Rattle.smt_cli.specs.Run.{Checks, IsDone, Prints}
@@ -60,10 +60,10 @@ of_told P Q (Some bytes) follows p = follows bytes p
 of_told P Q None follows p = tt
 
 module _ {L : Type 0} (state : L → LinkState) (allows : List ℕ → List ℕ → List ℕ → Type 0) (call : SolverCall) (before after : Around L) where
-  -- the link of a check had come back, where the source told what was read
-  came_back : (left : Option (List ℕ)) → IfSome left (Checks state allows call before after) → IfSome left (λ bytes. Returns (λ link. ⊤) before.starter after.starter call)
+  -- the link of a check had come back and was not killed, where the source told what was read
+  came_back : (left : Option (List ℕ)) → IfSome left (Checks state allows call before after) → IfSome left (λ bytes. Returns (λ link. IsUnkilled (state link)) before.starter after.starter call)
   came_back None h = tt
-  came_back (Some bytes) h = let r = h.checked.decides in record { link = r.link; started = r.started; returned = r.returned; of_link = tt }
+  came_back (Some bytes) h = let r = h.checked.decides in record { link = r.link; started = r.started; returned = r.returned; of_link = r.of_link.spared }
 
   -- an error of the flush has its cause, where what was asked for was put
   flush_cause : (generation : Option (ℕ × ℕ)) (c : Option Command) (error : SinkError) → IsDone state allows call before after generation c → (error ≡ SinkFault → SinkFailed before after) → HasCause state c call before after (sink_refusal error)

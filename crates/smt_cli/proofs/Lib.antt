@@ -1,5 +1,6 @@
 pub mod AsWritten
 pub mod Believing
+pub mod Conditions
 pub mod Encoding
 pub mod Flushing
 pub mod Running

@@ -6,19 +6,19 @@ use Rattle.std.specs.Rc.{rc_str_bytes}
 use Rattle.std.specs.declared.alloc.Global.{Global}
 use Rattle.std.specs.declared.rc.RcStr.{RcStr}
 use Rattle.std.specs.List.{AllByRecursion}
-use Rattle.smt_meaning.specs.Faults.{first_fault}
-use Rattle.smt_meaning.specs.Typing.{AreBoolean}
-use Rattle.smt_folding.specs.Built.{built}
-use Rattle.smt_headline.specs.Headline.{Headline}
-use Rattle.smt_sorted.proofs.Calls.{texts_are_well_written}
-use Rattle.smt_lines.specs.Text.{names, text}
-use Rattle.smt_characters.specs.SharedTexts.{texts}
+use Rattle.law_terms.specs.Faults.{first_fault}
+use Rattle.law_terms.specs.Typing.{AreBoolean}
+use Rattle.law_folding.specs.Built.{built}
+use Rattle.law_theorem.specs.Headline.{Headline}
+use Rattle.law_theorem.proofs.Calls.{texts_are_well_written}
+use Rattle.law_lines.specs.Text.{names, text}
+use Rattle.law_texts.specs.SharedTexts.{texts}
 use Rattle.smt_cli.proofs.AsWritten.{as_written, built_conditions, job_enums}
 use Rattle.smt_job_declarations.proofs.Shapes.{other_text}
-use Rattle.smt_job_grammar.proofs.BuiltConditions.{built_booleans}
-use Rattle.smt_job_grammar.proofs.Jobs.{job_conditions}
-use Rattle.smt_job_grammar.specs.Jobs.{IsBuiltFrom, PlainJob, built_job, fault_of, greatest_length}
-use Rattle.smt_job_grammar.specs.Laws.{IsCondition}
+use Rattle.law_jobs.proofs.BuiltConditions.{built_booleans}
+use Rattle.law_jobs.proofs.Jobs.{job_conditions}
+use Rattle.law_jobs.specs.Jobs.{IsBuiltFrom, PlainJob, built_job, fault_of, greatest_length}
+use Rattle.law_jobs.specs.Laws.{IsCondition}
 use Rattle.smt_jobs.specs.Refused.{IsRefusal}
 use Rattle.smt_cli.specs.Refusal.{job_refusal}
 use Rattle.smt_cli.specs.Causes.{HasReadCause}

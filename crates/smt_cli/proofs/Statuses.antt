@@ -2,9 +2,9 @@
 use Rattle.std.proofs.Common.{◌≡◌, ℕ, true, List, Option, Some, None, refl, sym, ap, ◌∙◌, inl, inr, ⊎_elim}
 use Rattle.std.specs.Prelude.{◌⊎◌, IfSome, is_some}
 use Rattle.std.proofs.lemmas.Bool.{false≢true}
-use Rattle.smt_meaning.specs.Faults.{Fault}
-use Rattle.smt_job_grammar.proofs.Jobs.{job_has_no_fault, job_is_short, one_job}
-use Rattle.smt_job_grammar.specs.Jobs.{fault_of}
+use Rattle.law_terms.specs.Faults.{Fault}
+use Rattle.law_jobs.proofs.Jobs.{job_has_no_fault, job_is_short, one_job}
+use Rattle.law_jobs.specs.Jobs.{fault_of}
 use Rattle.smt_sexpr.proofs.Excluded.{excluded}
 use Rattle.smt_sexpr.specs.Refusals.{IsRefused}
 use Rattle.smt_sexpr.specs.declared.error.SExprParseError.{SExprParseError}

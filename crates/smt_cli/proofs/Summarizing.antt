@@ -3,24 +3,24 @@ use Rattle.std.proofs.Common.{◌≡◌, ℕ, List, [], length, map, Option, Som
 use Rattle.std.specs.Io.KnownBytes.{append_known}
 use Rattle.std.specs.Prelude.{IsErrAnd, IsOkUnless, is_some, option_map}
 use Rattle.std.proofs.lemmas.List.{length-map}
-use Rattle.smt_meaning.specs.Plain.{PlainTerm}
-use Rattle.smt_graph.specs.Meanings.{meanings}
-use Rattle.smt_graph.specs.Nodes.{Meaning, TermMeaning}
+use Rattle.law_terms.specs.Plain.{PlainTerm}
+use Rattle.law_terms.specs.Meanings.{meanings}
+use Rattle.law_terms.specs.Nodes.{Meaning, TermMeaning}
 use Rattle.smt_nodes.specs.Interned.{nodes_of, StandFor}
-use Rattle.smt_node_tables.specs.View.{place_of, places_of}
-use Rattle.smt_node_tables.specs.declared.id.NodeId.{NodeId}
+use Rattle.smt_nodes.specs.View.{place_of, places_of}
+use Rattle.smt_nodes.specs.declared.id.NodeId.{NodeId}
 use Rattle.smt_nodes.proofs.Finding.{as_many_found}
 use Rattle.smt_nodes.specs.declared.interner.Interner.{Interner}
-use Rattle.smt_lines.specs.NameTables.{Tables}
-use Rattle.smt_lines.specs.Text.{names, text}
+use Rattle.law_lines.specs.NameTables.{Tables}
+use Rattle.law_lines.specs.Text.{names, text}
 use Rattle.smt_script.specs.Count.{count_bytes, count_contents}
 use Rattle.smt_script.specs.declared.count.CountSink.{CountSink}
-use Rattle.smt_job_grammar.specs.Jobs.{PlainJob}
-use Rattle.smt_node_texts.specs.NodeTexts.{HasName}
+use Rattle.law_jobs.specs.Jobs.{PlainJob}
+use Rattle.smt_spelling.specs.NodeTexts.{HasName}
 use Rattle.smt_encode.specs.declared.error.EncodeError.{EncodeError}
 use Rattle.smt_encode.specs.declared.error.EncodeError.TheVariants.{Memory}
-use Rattle.smt_node_texts.specs.declared.node_names.NodeNames.{NodeNames}
-use Rattle.smt_generated.specs.Jobs.{job_generated}
+use Rattle.smt_spelling.specs.declared.node_names.NodeNames.{NodeNames}
+use Rattle.smt_cli.specs.Jobs.{job_generated}
 use Rattle.smt_cli.specs.Generation.{summary_by, summary_lines, summary_of, summary_text}
 use Rattle.smt_cli.specs.declared.summary.Summary.{Summary}
 

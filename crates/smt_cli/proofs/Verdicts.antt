@@ -2,16 +2,16 @@
 use Rattle.std.proofs.Common.{◌≡◌, ◌∙◌, ℕ, List, Option, Some, None, Ok, Err, Result, ap, refl, subst, sym}
 use Rattle.std.specs.Io.KnownBytes.{append_known}
 use Rattle.std.specs.Prelude.{IfErr, IfSome, IsErrAnd}
-use Rattle.smt_meaning.specs.Faults.{Fault, first_fault}
-use Rattle.smt_lines.specs.Text.{text}
-use Rattle.smt_job_grammar.specs.Jobs.{IsBuiltFrom, PlainJob}
+use Rattle.law_terms.specs.Faults.{Fault, first_fault}
+use Rattle.law_lines.specs.Text.{text}
+use Rattle.law_jobs.specs.Jobs.{IsBuiltFrom, PlainJob}
 use Rattle.smt_solve.specs.Link.{LinkState}
 use Rattle.smt_solve.specs.Starter.{Command as SolverCall}
 use Rattle.smt_solve.specs.declared.answer.Decision.{Decision}
-use Rattle.smt_checks.specs.Checks.{WhyUnchecked}
-use Rattle.smt_checks.specs.declared.error.CheckError.{CheckError}
-use Rattle.smt_checks.specs.declared.error.CheckError.TheVariants.{Start as CheckStart, Session as CheckSession, Memory as CheckWant}
-use Rattle.smt_checks.specs.declared.error.SessionFault.{SessionFault}
+use Rattle.smt_pool.specs.Checks.{WhyUnchecked}
+use Rattle.smt_pool.specs.declared.check_error.CheckError.{CheckError}
+use Rattle.smt_pool.specs.declared.check_error.CheckError.TheVariants.{Start as CheckStart, Session as CheckSession, Memory as CheckWant}
+use Rattle.smt_pool.specs.declared.check_error.SessionFault.{SessionFault}
 use Rattle.smt_cli.specs.Causes.{Around, HasCheckCause, HasFaultOf, HasPrintCause, HasReadCause, IsFaultOf, IsFaultlessJob, IsUnchecked, SourceFailed}
 use Rattle.smt_cli.specs.Refusal.{check_refusal, print_refusal, read_refusal}
 use Rattle.smt_cli.specs.Run.{Checks, IsChecked, verdict_line}

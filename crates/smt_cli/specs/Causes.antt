@@ -1,23 +1,23 @@
 -- Why a run is refused.
 use Rattle.std.specs.Prelude.{ℕ, ◌≡◌, ◌≤◌, ⊤, is_some, length, map, IfSome, IsTrue, List, Option, Some, None}
-use Rattle.smt_meaning.specs.Faults.{Fault, EmptyEnum as EnumFault, EncodeStringFailed as StringFault, EncodePatternFailed as PatternFault, EnumMissingMember as MemberFault, ExpectRecord as NoRecordFault, MalformedRecordGet as NoOperandFault, MissingTypeEncoding as TypeFault, RecordMissingAttr as AttributeFault}
-use Rattle.smt_meaning.specs.Plain.{PatternPart, PlainType}
-use Rattle.smt_folding.specs.Built.{built}
-use Rattle.smt_lines.specs.Text.{text}
+use Rattle.law_terms.specs.Faults.{Fault, EmptyEnum as EnumFault, EncodeStringFailed as StringFault, EncodePatternFailed as PatternFault, EnumMissingMember as MemberFault, ExpectRecord as NoRecordFault, MalformedRecordGet as NoOperandFault, MissingTypeEncoding as TypeFault, RecordMissingAttr as AttributeFault}
+use Rattle.law_terms.specs.Plain.{PatternPart, PlainType}
+use Rattle.law_folding.specs.Built.{built}
+use Rattle.law_lines.specs.Text.{text}
 use Rattle.smt_script.specs.Sink.{Rose}
 use Rattle.smt_sexpr.specs.Refusals.{IsRefused}
 use Rattle.smt_sexpr.specs.declared.error.SExprParseError.{SExprParseError}
 use Rattle.smt_sexpr.specs.declared.error.SExprParseError.TheVariants.{TooDeep as TextTooDeep}
-use Rattle.smt_job_grammar.specs.Jobs.{HasFault, IsJob, IsTooLong, PlainJob, fault_of, greatest_length, greatest_nesting}
-use Rattle.smt_job_grammar.specs.Outcomes.{JobFault, DuplicateFault, FormFault, LiteralFault, TruthFault, TypeFault as NoTypeFault, TypingFault, UnknownFault, WidthFault}
+use Rattle.law_jobs.specs.Jobs.{HasFault, IsJob, IsTooLong, PlainJob, fault_of, greatest_length, greatest_nesting}
+use Rattle.law_jobs.specs.Outcomes.{JobFault, DuplicateFault, FormFault, LiteralFault, TruthFault, TypeFault as NoTypeFault, TypingFault, UnknownFault, WidthFault}
 use Rattle.smt_jobs.specs.Refused.{IsTextFault}
 use Rattle.smt_solve.specs.Link.{LinkState}
 use Rattle.smt_solve.specs.Starter.{Command as SolverCall, StarterState}
-use Rattle.smt_checks.specs.Checks.{Returns, WhyUnchecked}
+use Rattle.smt_pool.specs.Checks.{IsUnkilled, Returns, WhyUnchecked}
 use Rattle.smt_cli.specs.declared.command.Command.{Command}
 use Rattle.smt_cli.specs.declared.command.Command.TheVariants.{Script, Check, Generate, Help, Version}
-use Rattle.smt_checks.specs.declared.error.CheckError.TheVariants.{Session as CheckSession}
-use Rattle.smt_checks.specs.declared.error.SessionFault.{SessionFault}
+use Rattle.smt_pool.specs.declared.check_error.CheckError.TheVariants.{Session as CheckSession}
+use Rattle.smt_pool.specs.declared.check_error.SessionFault.{SessionFault}
 use Rattle.smt_cli.specs.declared.refusal.EncodeRefusal.{EncodeRefusal}
 use Rattle.smt_cli.specs.declared.refusal.EncodeRefusal.TheVariants.{EmptyEnum, EncodeStringFailed, EncodePatternFailed, EnumMissingMember, ExpectRecord, MalformedRecordGet, MissingTypeEncoding, RecordMissingAttr}
 use Rattle.smt_cli.specs.declared.refusal.JobRefusal.{JobRefusal}
@@ -38,7 +38,7 @@ pub record Around (L : Type 0) : Type 0 where
   pub sink_faults : ℕ
   pub starter : StarterState L
 
--- that of a source, a sink and a starter, by their meanings
+-- what a run stands on, by what is said of its source, its sink and its starter
 abbrev pub around : {R W P L : Type 0} → (R → Option (List ℕ)) → (R → ℕ) → (W → Option (List ℕ)) → (W → ℕ) → (P → StarterState L) → R → W → P → Around L
 around remaining source_faults contents sink_faults state source out starter = record {
   left = remaining source;
@@ -48,7 +48,7 @@ around remaining source_faults contents sink_faults state source out starter = r
   starter = state starter;
 }
 
--- that of a source and a starter, beside a sink that holds nothing
+-- what a run stands on that has a source and a starter, and a sink that holds nothing
 abbrev pub standing : {R P L : Type 0} → (R → Option (List ℕ)) → (R → ℕ) → (P → StarterState L) → R → P → Around L
 standing remaining source_faults state source starter = record {
   left = remaining source;
@@ -68,7 +68,7 @@ IsAJob bytes = (job : PlainJob) × IsJob bytes job
 abbrev pub IsNoJob : List ℕ → Type 0
 IsNoJob bytes = (job : PlainJob) → IsJob bytes job → ⊥
 
--- the first fault of a job is of this kind
+-- there is a fault, and it is of this kind
 abbrev pub IsFaultOf : EncodeRefusal → Option Fault → Type 0
 IsFaultOf EnumMissingMember fault = (type : List ℕ) × (id : List ℕ) × (fault ≡ Some (MemberFault type id))
 IsFaultOf EncodeStringFailed fault = (text : List ℕ) × (fault ≡ Some (StringFault text))
@@ -79,6 +79,7 @@ IsFaultOf MissingTypeEncoding fault = (type : PlainType) × (fault ≡ Some (Typ
 IsFaultOf ExpectRecord fault = (type : PlainType) × (fault ≡ Some (NoRecordFault type))
 IsFaultOf RecordMissingAttr fault = (attribute : List ℕ) × (fault ≡ Some (AttributeFault attribute))
 
+-- a job has these bytes, and the first fault of what is built of it is of this kind
 abbrev pub HasFaultOf : EncodeRefusal → List ℕ → Type 0
 HasFaultOf kind bytes = (job : PlainJob) × IsJob bytes job × IsFaultOf kind (fault_of job)
 
@@ -90,7 +91,7 @@ IsFaultlessJob bytes = (job : PlainJob) × IsJob bytes job × (fault_of job ≡ 
 abbrev pub IsFaultyScript : List ℕ → Type 0
 IsFaultyScript bytes = (job : PlainJob) × IsJob bytes job × IsTrue (is_some (fault_of job))
 
--- the kind of a fault
+-- the kind of a fault of a job, as the program names it
 abbrev pub kind_of : JobFault → JobRefusal
 kind_of FormFault = BadForm
 kind_of (UnknownFault name) = UnknownName
@@ -135,12 +136,15 @@ HasPutCause failed refusal = ⊥
 -- ---- runs
 
 module _ {L : Type 0} where
+  -- the source's count of faults rose, or stands at its last value
   abbrev pub SourceFailed : (before after : Around L) → Type 0
   SourceFailed before after = Rose before.source_faults after.source_faults
 
+  -- the sink's count of faults rose, or stands at its last value
   abbrev pub SinkFailed : (before after : Around L) → Type 0
   SinkFailed before after = Rose before.sink_faults after.sink_faults
 
+  -- the starter's count of failed starts rose, or stands at its last value
   abbrev pub StartFailed : (before after : Around L) → Type 0
   StartFailed before after = Rose before.starter.failed_starts after.starter.failed_starts
 
@@ -159,13 +163,13 @@ module _ {L : Type 0} where
   abbrev pub IsUnchecked : (state : L → LinkState) → SolverCall → (before after : Around L) → SessionFault → List ℕ → Type 0
   IsUnchecked state call before after kind bytes = (job : PlainJob) × IsJob bytes job × (fault_of job ≡ None) × WhyUnchecked state before.starter after.starter call (script_of_job job) (CheckSession kind)
 
-  -- why `check` was refused; where the verdict was not put, the link had come back
+  -- why `check` was refused; where the verdict was not put, the link had come back, and was not killed
   abbrev pub HasCheckCause : (state : L → LinkState) → SolverCall → (before after : Around L) → Refusal → Type 0
   HasCheckCause state call before after Usage = ⊥
   HasCheckCause state call before after (Job kind) = IfSome before.left (IsRefusedAs kind)
   HasCheckCause state call before after (Encode kind) = IfSome before.left (HasFaultOf kind)
   HasCheckCause state call before after Source = SourceFailed before after
-  HasCheckCause state call before after Sink = SinkFailed before after × IfSome before.left IsFaultlessJob × IfSome before.left (λ bytes. Returns (λ link. ⊤) before.starter after.starter call)
+  HasCheckCause state call before after Sink = SinkFailed before after × IfSome before.left IsFaultlessJob × IfSome before.left (λ bytes. Returns (λ link. IsUnkilled (state link)) before.starter after.starter call)
   HasCheckCause state call before after Start = StartFailed before after × IfSome before.left IsFaultlessJob
   HasCheckCause state call before after (Session kind) = IfSome before.left (IsUnchecked state call before after kind)
   HasCheckCause state call before after Memory = ⊤

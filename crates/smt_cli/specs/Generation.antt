@@ -1,11 +1,11 @@
 -- The summary of a job's script.
 use Rattle.std.specs.Prelude.{ℕ, ◌-◌, ◌^◌, ◌%◌, ◌≡◌, Bool, codes, count_by, decimal, is_some, length, min, sum, List, ◌++◌, Option, Some, None}
 use Rattle.std.specs.Io.KnownBytes.{append_known}
-use Rattle.smt_meaning.specs.Plain.{PlainType, VariableTerm}
-use Rattle.smt_lines.specs.NameTables.{Tables, name_of_term}
-use Rattle.smt_lines.specs.Text.{names, text}
-use Rattle.smt_job_grammar.specs.Jobs.{PlainJob}
-use Rattle.smt_generated.specs.Jobs.{job_generated}
+use Rattle.law_terms.specs.Plain.{PlainType, VariableTerm}
+use Rattle.law_lines.specs.NameTables.{Tables, name_of_term}
+use Rattle.law_lines.specs.Text.{names, text}
+use Rattle.law_jobs.specs.Jobs.{PlainJob}
+use Rattle.smt_cli.specs.Jobs.{job_generated}
 use Rattle.smt_cli.specs.declared.summary.Summary.{Summary}
 
 -- whether a variable has a name, so that the script declares it
@@ -32,10 +32,11 @@ summary_by script s variables terms = record {
 unfoldable pub summary_of : PlainJob → Summary
 summary_of job = summary_by (text job.enums job.terms) (names job.enums job.terms) job.variables (length job.terms)
 
--- a word and a number
+-- a line of a word and a number
 abbrev pub number_line : List ℕ → ℕ → List ℕ
 number_line word n = word ++ codes " " ++ decimal n ++ codes "\n"
 
+-- the six lines of a summary, each of a word and its number
 abbrev pub summary_lines : Summary → List ℕ
 summary_lines s =
     number_line (codes "terms") s.terms ++ number_line (codes "variables") s.variables ++ number_line (codes "definitions") s.definitions

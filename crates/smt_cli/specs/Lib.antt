@@ -1,6 +1,9 @@
 pub mod Causes
+pub mod Generated
 pub mod Generation
+pub mod Jobs
 pub mod Refusal
+pub mod Rows
 pub mod Run
 pub mod SummaryRows
 pub mod Words

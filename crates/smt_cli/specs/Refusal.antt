@@ -2,23 +2,23 @@
 use Rattle.std.specs.Prelude.{ℕ, List, codes}
 use Rattle.smt_script.specs.declared.sink.SinkError.{SinkError}
 use Rattle.smt_script.specs.declared.sink.SinkError.TheVariants.{Fault as SinkFault, Memory as SinkWant}
-use Rattle.smt_source.specs.declared.input.InputError.{InputError}
-use Rattle.smt_source.specs.declared.input.InputError.TheVariants.{Fault as InputFault, TooLarge as InputTooLarge, Memory as InputWant}
+use Rattle.smt_script.specs.declared.input.InputError.{InputError}
+use Rattle.smt_script.specs.declared.input.InputError.TheVariants.{Fault as InputFault, TooLarge as InputTooLarge, Memory as InputWant}
 use Rattle.smt_job_declarations.specs.declared.error.JobError.{JobError}
 use Rattle.smt_job_declarations.specs.declared.error.JobError.TheVariants.{TooLarge as JobTooLarge, Parse as JobParse, TooDeep as JobTooDeep, BadForm as JobBadForm, UnknownName as JobUnknownName, DuplicateName as JobDuplicateName, BadType as JobBadType, BadWidth as JobBadWidth, BadLiteral as JobBadLiteral, IllTyped as JobIllTyped, NotBool as JobNotBool, Memory as JobWant}
-use Rattle.smt_checks.specs.declared.error.CheckError.{CheckError}
-use Rattle.smt_checks.specs.declared.error.CheckError.TheVariants.{Start as CheckStart, Session as CheckSession, Memory as CheckWant}
+use Rattle.smt_pool.specs.declared.check_error.CheckError.{CheckError}
+use Rattle.smt_pool.specs.declared.check_error.CheckError.TheVariants.{Start as CheckStart, Session as CheckSession, Memory as CheckWant}
 use Rattle.smt_cli.specs.declared.refusal.EncodeRefusal.TheVariants.{EmptyEnum, EncodeStringFailed, EncodePatternFailed, EnumMissingMember, ExpectRecord, MalformedRecordGet, MissingTypeEncoding, RecordMissingAttr}
 use Rattle.smt_cli.specs.declared.refusal.JobRefusal.TheVariants.{TooLarge, Parse, TooDeep, BadForm, UnknownName, DuplicateName, BadType, BadWidth, BadLiteral, IllTyped, NotBool}
 use Rattle.smt_cli.specs.declared.refusal.PrintRefusal.{PrintRefusal}
 use Rattle.smt_cli.specs.declared.refusal.PrintRefusal.TheVariants.{Encode as PrintEncode, Sink as PrintSink, Memory as PrintWant}
 use Rattle.smt_cli.specs.declared.refusal.ReadRefusal.{ReadRefusal}
 use Rattle.smt_cli.specs.declared.refusal.ReadRefusal.TheVariants.{Job as ReadJob, Source as ReadSource, Memory as ReadWant}
-use Rattle.smt_checks.specs.declared.error.SessionFault.TheVariants.{Io, Solver, UnrecognizedSolverOutput, AnswerTooLong}
+use Rattle.smt_pool.specs.declared.check_error.SessionFault.TheVariants.{Io, Solver, UnrecognizedSolverOutput, AnswerTooLong}
 use Rattle.smt_cli.specs.declared.refusal.Refusal.{Refusal}
 use Rattle.smt_cli.specs.declared.refusal.Refusal.TheVariants.{Usage, Job, Encode, Source, Sink, Start, Session, Memory}
 
--- the status of a refusal
+-- the status with which a run ends that is refused so
 abbrev pub status_of : Refusal → ℕ
 status_of Usage = 2
 status_of (Job why) = 3
@@ -29,7 +29,7 @@ status_of Memory = 7
 status_of (Session kind) = 8
 status_of Start = 9
 
--- what is said of a refusal
+-- the line that says a refusal
 abbrev pub line_of : Refusal → List ℕ
 line_of Usage = codes "usage: smtcli script or check PATH ARGS.. or gen SEED N\n"
 line_of (Job TooLarge) = codes "job refused: TooLarge\n"
@@ -62,13 +62,13 @@ line_of Memory = codes "memory\n"
 
 -- ---- which refusal an error becomes
 
--- of the bytes of a job
+-- why no job is read, where its bytes were not
 abbrev pub input_refusal : InputError → ReadRefusal
 input_refusal InputTooLarge = ReadJob TooLarge
 input_refusal InputFault = ReadSource
 input_refusal InputWant = ReadWant
 
--- of a job
+-- why no job is read, by the error of the reader of jobs
 abbrev pub job_refusal : JobError → ReadRefusal
 job_refusal JobTooLarge = ReadJob TooLarge
 job_refusal (JobParse fault) = ReadJob Parse
@@ -83,24 +83,24 @@ job_refusal JobIllTyped = ReadJob IllTyped
 job_refusal JobNotBool = ReadJob NotBool
 job_refusal JobWant = ReadWant
 
--- of a run, where no job was read
+-- the refusal of a run, where no job was read
 abbrev pub read_refusal : ReadRefusal → Refusal
 read_refusal (ReadJob why) = Job why
 read_refusal ReadSource = Source
 read_refusal ReadWant = Memory
 
--- of a run, where no script was printed
+-- the refusal of a run, where no script was printed
 abbrev pub print_refusal : PrintRefusal → Refusal
 print_refusal (PrintEncode why) = Encode why
 print_refusal PrintSink = Sink
 print_refusal PrintWant = Memory
 
--- of a run, where a text was not put
+-- the refusal of a run, where a text was not put
 abbrev pub sink_refusal : SinkError → Refusal
 sink_refusal SinkFault = Sink
 sink_refusal SinkWant = Memory
 
--- of a run, where a solver was not asked, or did not answer
+-- the refusal of a run, where a solver was not asked, or did not answer
 abbrev pub check_refusal : CheckError → Refusal
 check_refusal CheckStart = Start
 check_refusal (CheckSession kind) = Session kind

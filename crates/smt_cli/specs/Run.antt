@@ -1,15 +1,15 @@
 -- What a run does, and what it says.
 use Rattle.std.specs.Prelude.{ℕ, ◌+◌, ◌≡◌, ◌↔◌, ◌⊎◌, map, option_map, codes, IfSome, IsTrue, is_some, List, [], ◌++◌, Option, Some, None, Result}
 use Rattle.std.specs.Io.KnownBytes.{append_known}
-use Rattle.smt_meaning.specs.Interpretations.{IsInterpretation, restrict}
-use Rattle.smt_meaning.specs.Tables.{Interpretation}
-use Rattle.smt_folding.specs.Built.{built}
-use Rattle.smt_semantics.specs.Value.{IsModel}
-use Rattle.smt_carrying.specs.CarriedInterpretations.{carry_interpretation}
-use Rattle.smt_headline.specs.Headline.{Headline}
-use Rattle.smt_sorted.specs.WellWritten.{IsWellWritten, most_for_terms}
-use Rattle.smt_meaning.specs.Meaning.{AreTrue}
-use Rattle.smt_lines.specs.Text.{names, text}
+use Rattle.law_terms.specs.Interpretations.{IsInterpretation, restrict}
+use Rattle.law_terms.specs.Tables.{Interpretation}
+use Rattle.law_folding.specs.Built.{built}
+use Rattle.law_scripts.specs.Value.{IsModel}
+use Rattle.law_theorem.specs.CarriedInterpretations.{carry_interpretation}
+use Rattle.law_theorem.specs.Headline.{Headline}
+use Rattle.law_theorem.specs.WellWritten.{IsWellWritten, most_for_terms}
+use Rattle.law_terms.specs.Meaning.{AreTrue}
+use Rattle.law_lines.specs.Text.{names, text}
 use Rattle.smt_script.specs.Sink.{Puts}
 use Rattle.smt_script.specs.declared.sink.SinkError.{SinkError}
 use Rattle.smt_solve.specs.Answers.{decision_word}
@@ -17,10 +17,10 @@ use Rattle.smt_solve.specs.Link.{LinkState}
 use Rattle.smt_solve.specs.Starter.{Command as SolverCall}
 use Rattle.smt_solve.specs.declared.answer.Decision.{Decision}
 use Rattle.smt_solve.specs.declared.answer.Decision.TheVariants.{Unsat}
-use Rattle.smt_verdicts.specs.Honesty.{IsHonest}
-use Rattle.smt_job_grammar.specs.Jobs.{IsJob, PlainJob, fault_of}
+use Rattle.law_verdicts.specs.Honesty.{IsHonest}
+use Rattle.law_jobs.specs.Jobs.{IsJob, PlainJob, fault_of}
 use Rattle.smt_cli.specs.Causes.{Around, IsFaultlessJob, IsFaultyScript, IsNoJob, LeavesOutput, SinkFailed, SourceFailed, StartFailed, script_of_job}
-use Rattle.smt_checks.specs.Checks.{Decides}
+use Rattle.smt_pool.specs.Checks.{Decides}
 use Rattle.smt_cli.specs.Generation.{Summarizes}
 use Rattle.smt_cli.specs.Refusal.{line_of, status_of}
 use Rattle.smt_cli.specs.Words.{help_text, version_text}

@@ -1,7 +1,7 @@
 -- What words ask for, and the texts that some of them print.
 use Rattle.std.specs.Prelude.{ℕ, ◌^◌, if◌then◌else◌, ◌&&◌, bytes_eq, codes, nat_le, nat_lt, List, [], ◌∷◌, Option, Some, None}
-use Rattle.smt_characters.specs.Digits.{decimal_number, is_numeral}
-use Rattle.smt_semantics.specs.Script.{◌>>=◌}
+use Rattle.law_texts.specs.Digits.{decimal_number, is_numeral}
+use Rattle.law_texts.specs.Options.{◌>>=◌}
 use Rattle.smt_solve.specs.Starter.{Command as SolverCall}
 use Rattle.smt_cli.specs.declared.command.Command.{Command}
 use Rattle.smt_cli.specs.declared.command.Command.TheVariants.{Script, Check, Generate, Help, Version}
@@ -20,19 +20,20 @@ number_named digits = if is_numeral digits && nat_lt (decimal_number digits) (2 
 abbrev pub greatest_count : ℕ
 greatest_count = 100000
 
--- how many terms a job may have
+-- a number of terms, where a generated job may have so many
 abbrev pub count_within : ℕ → Option ℕ
 count_within n = if nat_le 1 n && nat_le n greatest_count then Some n else None
 
--- a seed and a number of terms
+-- the seed and the number of terms that two words write
 abbrev pub generation_in : (seed count : List ℕ) → Option (ℕ × ℕ)
 generation_in seed count = number_named seed >>= λ s. number_named count >>= count_within >>= λ n. Some (s, n)
 
--- the same, behind `gen`
+-- the seed and the number of terms that three words name, the first of which is `gen`
 abbrev pub generation_named : List (List ℕ) → Option (ℕ × ℕ)
 generation_named (w ∷ seed ∷ count ∷ []) = if bytes_eq w (codes "gen") then generation_in seed count else None
 generation_named words = None
 
+-- the command to generate a job, where a seed and a number of terms are named
 abbrev pub generate_by : Option (ℕ × ℕ) → Option Command
 generate_by (Some generation) = Some Generate
 generate_by None = None
@@ -48,8 +49,10 @@ abbrev pub solver_named : List (List ℕ) → SolverCall
 solver_named (w ∷ path ∷ args) = record { program = path; args = args }
 solver_named words = record { program = []; args = [] }
 
+-- what `--help` prints: the commands, the form of a job, and the statuses
 abbrev pub help_text : List ℕ
 help_text = codes "usage: smtcli script or check PATH ARGS.. or gen SEED N\n\nscript  reads a job from standard input and prints its script in SMT-LIB 2.7\ncheck   reads a job from standard input, asks the solver PATH with these ARGS whether all its terms can be true together, and\n        prints sat, unsat or unknown; for example: smtcli check cvc5 --lang smt < FILE\ngen     makes a job of N terms from the number SEED, N from 1 to 100000 and SEED below 2^64, and prints six lines: how many\n        terms it has, how many variables, definitions, assertions and bytes its script has, and the sum of these bytes\n\njob:  (job (enums (\"T\" \"member\" ..) ..) (vars (\"id\" TYPE) ..) (funs (\"id\" TYPE TYPE) ..) (terms t ..)), where ; begins\n      a comment, and \\u{e9} in a string is the character of this code point\nTYPE: Bool, (BitVec N), String, (Entity \"T\"), (Option TYPE), (Set TYPE), (Record (\"a\" TYPE) ..), Decimal, IpAddr, Datetime\n      or Duration\nt:    true, false, \"text\", #b01, #x2a, (bv N NUMBER), (long \"-5\"), (entity \"T\" \"id\"), (decimal \"-1.5\"),\n      (ip \"10.0.0.0/8\"), (datetime \"2024-10-15\"), (duration \"1d2h\"), (none TYPE), (some t), (set TYPE t ..),\n      (record (\"a\" t) ..), (var \"id\"), (uuf \"id\" t), (record.get \"a\" t), (string.like (\"text\" * ..) t),\n      (zero_extend N t) or (name t ..)\nname: not and or eq ite option.get set.member set.subset set.inter bvneg bvadd bvsub bvmul bvudiv bvurem bvsdiv bvsrem bvsmod\n      bvshl bvlshr bvult bvule bvslt bvsle bvnego bvsaddo bvssubo bvsmulo decimal.val ipaddr.isV4 ipaddr.addrV4 ipaddr.addrV6\n      ipaddr.prefixV4 ipaddr.prefixV6 datetime.val datetime.ofBitVec duration.val duration.ofBitVec\n\nstatus: 0 done, 2 no such command, 3 job refused, 4 no script for a term, 5 source fault, 6 sink fault, 7 out of memory,\n        8 session fault, 9 the solver did not start\n"
 
+-- what `--version` prints
 abbrev pub version_text : List ℕ
 version_text = codes "smtcli 0.1.0\n"

@@ -1,7 +1,7 @@
 // What the words of a command line ask for.
 ghost use Rattle.std.specs.Prelude.{◌≡◌, IfOk, IsOkUnless, Some};
 ghost use Rattle.std.specs.Rc.{rc_str_bytes};
-ghost use Rattle.smt_characters.specs.SharedTexts.{texts};
+ghost use Rattle.law_texts.specs.SharedTexts.{texts};
 ghost use Rattle.smt_solve.specs.Starter.{command_of as solver_call};
 ghost use Rattle.smt_cli.specs.Words.{commanded, count_within, generate_by, generation_in, generation_named, number_named, solver_named};
 

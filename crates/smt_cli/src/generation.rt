@@ -1,24 +1,24 @@
 // What the scripts of generated jobs have.
 ghost use Rattle.std.specs.Prelude.{◌≡◌, ◌<◌, ◌≤◌, IfErr, IfOk, IsOkUnless, None, OnOk, is_some};
 ghost use Rattle.std.specs.Io.KnownBytes.{append_known};
-ghost use Rattle.smt_leaves.specs.Enums.{enums_of};
-ghost use Rattle.smt_meaning.specs.Faults.{first_fault};
+ghost use Rattle.smt_types.specs.Enums.{enums_of};
+ghost use Rattle.law_terms.specs.Faults.{first_fault};
 ghost use Rattle.smt_term.specs.View.{plain_term};
-ghost use Rattle.smt_lines.specs.NameTables.{Tables, name_of_term};
+ghost use Rattle.law_lines.specs.NameTables.{Tables, name_of_term};
 ghost use Rattle.smt_script.specs.Count.{count_bytes};
 ghost use Rattle.smt_script.specs.Sink.{Rose};
 ghost use Rattle.smt_job_declarations.specs.DeclarationView.{declarations, plain_declaration};
 ghost use Rattle.smt_jobs.specs.Numbered.{numbered_job, numbered_terms};
 ghost use Rattle.smt_encode.specs.Encoded.{sink_of, HasNames};
-ghost use Rattle.smt_generated.specs.Jobs.{job_generated};
+ghost use Rattle.smt_cli.specs.Jobs.{job_generated};
 ghost use Rattle.smt_cli.specs.Causes.{HasPutCause};
 ghost use Rattle.smt_cli.specs.Generation as generation;
 ghost use Rattle.smt_cli.specs.Generation.{declared_among, summary_by, summary_of, summary_text};
 
+use crate::generate::generated_job;
 use crate::refusal::Refusal;
 use crate::summary::Summary;
 use smt_encode::{EncodeError, Encoder, Steps};
-use smt_generated::generated_job;
 use smt_job_declarations::VarList;
 use smt_jobs::{NumberedJob, NumberedTerms};
 use smt_script::{CountSink, Sink};

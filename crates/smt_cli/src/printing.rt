@@ -1,11 +1,11 @@
 // The script of a job.
 ghost use Rattle.std.specs.Prelude.{◌≡◌, ◌<◌, ◌≤◌, IfErr, IfOk, IsErrOf, None, OnOk, Some};
 ghost use Rattle.std.specs.Io.KnownBytes.{append_known};
-ghost use Rattle.smt_leaves.specs.Enums.{enums_of};
-ghost use Rattle.smt_meaning.specs.Faults.{first_fault};
-ghost use Rattle.smt_meaning.specs.Typing.{AreBoolean};
-ghost use Rattle.smt_headline.specs.Headline.{Headline};
-ghost use Rattle.smt_lines.specs.Text.{names, text};
+ghost use Rattle.smt_types.specs.Enums.{enums_of};
+ghost use Rattle.law_terms.specs.Faults.{first_fault};
+ghost use Rattle.law_terms.specs.Typing.{AreBoolean};
+ghost use Rattle.law_theorem.specs.Headline.{Headline};
+ghost use Rattle.law_lines.specs.Text.{names, text};
 ghost use Rattle.smt_script.specs.Memory.{list_bytes};
 ghost use Rattle.smt_script.specs.Sink.{Rose};
 ghost use Rattle.smt_jobs.specs.Numbered.{numbered_terms};

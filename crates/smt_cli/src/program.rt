@@ -1,8 +1,8 @@
 // The run of the program, from its words to its status.
 ghost use Rattle.std.specs.Prelude.{◌≡◌, ◌≢◌, ◌↔◌, ◌≤◌, [], None, Some, IfErr, IfOk, IfSome, OnOk, option_map};
 ghost use Rattle.std.specs.Io.KnownBytes.{append_known};
-ghost use Rattle.smt_characters.specs.SharedTexts.{texts};
-ghost use Rattle.smt_job_grammar.specs.Jobs.{IsBuiltFrom};
+ghost use Rattle.law_texts.specs.SharedTexts.{texts};
+ghost use Rattle.law_jobs.specs.Jobs.{IsBuiltFrom};
 ghost use Rattle.smt_jobs.specs.Numbered.{numbered_job};
 ghost use Rattle.smt_script.specs.Sink.{Rose};
 ghost use Rattle.smt_solve.specs.Link.{AllowsTheSame};
@@ -14,11 +14,10 @@ use crate::command::{Command, HELP, VERSION, command_of, seed_and_count, solver_
 use crate::generation::put_summary;
 use crate::printing::{put_script, script_of};
 use crate::refusal::{ReadRefusal, Refusal};
-use smt_checks::check_script;
 use smt_jobs::{GREATEST_JOB, NumberedJob, read_numbered};
-use smt_script::Sink;
+use smt_pool::check_script;
+use smt_script::{Sink, Source, read_input};
 use smt_solve::{Decision, Starter};
-use smt_source::{Source, read_input};
 use smt_term::Text;
 use std::alloc::Global;
 
@@ -150,7 +149,7 @@ fn answer<R: Source, W: Sink, P: Starter>(
 /// `check PATH ARGS..` makes the script of the job in memory, starts the solver, sends it `(set-logic ALL)`, the script and
 /// `(check-sat)`, and puts the word of the one line that it reads: `sat`, `unsat` or `unknown`. Where the solver is honest, so
 /// that it says `unsat` only of scripts without a model, `unsat` means that no interpretation makes all terms of the job true. A
-/// link to a solver that was started goes back to the starter before the run ends, whatever the status, and with 0 the
+/// link to a solver that was started goes back to the starter before the run ends, whatever the status. With 0 and 6 the
 /// solver was not killed, with 8 only for what it answered. What lines the starter's links may give stays as it was.
 ///
 /// `gen SEED N` makes a job of N terms from the number SEED, encodes it onto a sink that counts, and puts six lines: how many
@@ -165,6 +164,20 @@ fn answer<R: Source, W: Sink, P: Starter>(
 /// `check` the starter is left as it was. Where neither the source nor `out` nor the start failed and there was memory, `script`
 /// ends with 0 for a job whose built terms have no fault, and `check` with 0 or 8 for one. Both end with 4 for another job, and
 /// with 3 for any other bytes. `gen`, `--help` and `--version` end with 0.
+///
+/// # Examples
+///
+/// ```
+/// use kembura::script::{ReadSource, WriteSink};
+/// use kembura::{ChildStarter, Text, run};
+///
+/// let words = [Text::from_str(alloc, "script")?];
+/// let mut source = ReadSource::new(rt.stdin());
+/// let mut out = WriteSink::new(rt.stdout());
+/// let mut diag = WriteSink::new(rt.stderr());
+/// let mut starter = ChildStarter::new(rt.clone()?);
+/// let status = run(alloc, &words, &mut source, &mut out, &mut diag, &mut starter);
+/// ```
 pub fn run<R: Source, W: Sink, D: Sink, P: Starter>(
     alloc: Global,
     words: &[Text],

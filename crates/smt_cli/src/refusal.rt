@@ -2,10 +2,9 @@
 ghost use Rattle.std.specs.Prelude.{◌≡◌};
 ghost use Rattle.smt_cli.specs.Refusal.{line_of, status_of};
 
-use smt_checks::{CheckError, SessionFault};
 use smt_job_declarations::JobError;
-use smt_script::SinkError;
-use smt_source::InputError;
+use smt_pool::{CheckError, SessionFault};
+use smt_script::{InputError, SinkError};
 
 /// Why a run was not done.
 #[derive(Clone, Copy, Debug, PartialEq, Eq, Drop)]

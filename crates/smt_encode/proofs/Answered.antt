@@ -3,9 +3,9 @@ use Rattle.std.proofs.Common.{◌≡◌, ℕ, Bool, List, refl, sym, subst, Opti
 use Rattle.std.specs.Prelude.{IfOk, IsErrOf}
 use Rattle.std.specs.declared.alloc.Global.{Global}
 use Rattle.std.specs.declared.rc.RcStr.{RcStr}
-use Rattle.smt_lexicon.specs.Reading.{Expression}
-use Rattle.smt_lines.specs.Lines.{Written}
-use Rattle.smt_meaning.specs.Faults.{Fault}
+use Rattle.law_texts.specs.Reading.{Expression}
+use Rattle.law_lines.specs.Lines.{Written}
+use Rattle.law_terms.specs.Faults.{Fault}
 use Rattle.smt_script.specs.Sink.{Rose}
 use Rattle.smt_script.specs.declared.sink.SinkError.TheVariants.{Fault as Failed}
 use Rattle.smt_spelling.specs.TextFaults.{Finds}

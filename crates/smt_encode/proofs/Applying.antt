@@ -6,18 +6,18 @@ use Rattle.std.specs.Io.KnownBytes.{append_known}
 use Rattle.std.specs.declared.alloc.Global.{Global}
 use Rattle.std.specs.declared.rc.Rc.{Rc}
 use Rattle.std.specs.declared.rc.RcStr.{RcStr}
-use Rattle.smt_characters.specs.LineTexts.{define_fun_text}
-use Rattle.smt_lexicon.specs.Reading.{Expression}
-use Rattle.smt_lines.specs.Line.{spelled_lines}
-use Rattle.smt_lines.specs.LineForms.{application_body, operator_head}
-use Rattle.smt_lines.specs.Lines.{Enums, Written, encode_head, first_type, made_of, next_term}
-use Rattle.smt_lines.specs.Spelling.{spelled}
-use Rattle.smt_lines.specs.NameTables.{Tables}
-use Rattle.smt_meaning.specs.Plain.{PlainOp, PlainTerm, terms}
-use Rattle.smt_meaning.specs.Types.{type_of}
+use Rattle.law_texts.specs.LineTexts.{define_fun_text}
+use Rattle.law_texts.specs.Reading.{Expression}
+use Rattle.law_lines.specs.Line.{spelled_lines}
+use Rattle.law_lines.specs.LineForms.{application_body, operator_head}
+use Rattle.law_lines.specs.Lines.{Enums, Written, encode_head, first_type, made_of, next_term}
+use Rattle.law_lines.specs.Spelling.{spelled}
+use Rattle.law_lines.specs.NameTables.{Tables}
+use Rattle.law_terms.specs.Plain.{PlainOp, PlainTerm, terms}
+use Rattle.law_terms.specs.Types.{type_of}
 use Rattle.smt_script.proofs.PutsLemmas.{appends_then}
 use Rattle.smt_script.specs.declared.sink.SinkError.TheVariants.{Fault as Failed}
-use Rattle.smt_semantics.specs.Script.{name}
+use Rattle.law_scripts.specs.Script.{name}
 use Rattle.smt_spelling.specs.TextFaults.{pattern_fault}
 use Rattle.smt_term.specs.View.{plain_op, plain_term}
 use Rattle.smt_term.specs.declared.function.Uuf.{Uuf as Function}
@@ -26,15 +26,15 @@ use Rattle.smt_term.specs.declared.op.Op.TheVariants.{RecordGet, Uuf}
 use Rattle.smt_term.specs.declared.term.Term.{Term}
 use Rattle.smt_encode.specs.Alone.{encoded, PutUnder}
 use Rattle.smt_encode.specs.Applied.{application_line, fault_of_application, PutApplied, WroteApplied}
-use Rattle.smt_node_texts.specs.Names.{KeepTables}
+use Rattle.smt_spelling.specs.Names.{KeepTables}
 use Rattle.smt_encode.specs.Steps.{HasTables, Wrote}
 use Rattle.smt_encode.specs.declared.encoder.Encoder.{Encoder}
 use Rattle.smt_encode.specs.declared.error.EncodeError.{EncodeError}
-use Rattle.smt_node_texts.specs.declared.error.SelectorError.{SelectorError}
+use Rattle.smt_spelling.specs.declared.selector_error.SelectorError.{SelectorError}
 use Rattle.smt_encode.specs.declared.error.WriteError.{WriteError}
 use Rattle.smt_encode.specs.declared.error.WriteError.TheVariants.{Selector, Sink}
 use Rattle.smt_encode.specs.declared.writer.Writer.{Writer}
-use Rattle.smt_node_texts.specs.declared.names.Names.{Names}
+use Rattle.smt_spelling.specs.declared.names.Names.{Names}
 
 -- the type of the first term
 pub first_typed : (ts : List Term) (x : Term) → 1 ≤ length ts → x ≡ get_or ts 0 x → first_type (terms (map plain_term ts)) ≡ type_of (plain_term x)

@@ -6,20 +6,20 @@ use Rattle.std.specs.Prelude.{codes}
 use Rattle.std.specs.Rc.{rc_str_bytes}
 use Rattle.std.specs.declared.alloc.Global.{Global}
 use Rattle.std.specs.declared.rc.RcStr.{RcStr}
-use Rattle.smt_characters.specs.LineTexts.{define_fun_text}
-use Rattle.smt_characters.specs.SharedTexts.{texts}
-use Rattle.smt_lexicon.specs.Reading.{Expression}
-use Rattle.smt_semantics.specs.Script.{name}
-use Rattle.smt_lines.specs.LineForms.{empty_set, set_body}
-use Rattle.smt_lines.specs.Lines.{next_term}
-use Rattle.smt_lines.specs.NameTables.{Tables}
-use Rattle.smt_lines.specs.Spelling.{spelled}
+use Rattle.law_texts.specs.LineTexts.{define_fun_text}
+use Rattle.law_texts.specs.SharedTexts.{texts}
+use Rattle.law_texts.specs.Reading.{Expression}
+use Rattle.law_scripts.specs.Script.{name}
+use Rattle.law_lines.specs.LineForms.{empty_set, set_body}
+use Rattle.law_lines.specs.Lines.{next_term}
+use Rattle.law_lines.specs.NameTables.{Tables}
+use Rattle.law_lines.specs.Spelling.{spelled}
 use Rattle.smt_spelling.specs.Entries.{entity_entry, entry_bytes, SaysEntry}
 use Rattle.smt_spelling.specs.declared.entry.Entry.{Entry}
 use Rattle.smt_spelling.specs.declared.entry.Entry.TheVariants.{Body, Constant, Name}
 use Rattle.smt_spelling.proofs.Bracketed.{bracketed}
 use Rattle.smt_encode.specs.Alone.{empty_set_text, line_of_entity, name_of_entity, set_body_text}
-use Rattle.smt_node_texts.specs.Entries.{entry_name}
+use Rattle.smt_spelling.specs.NodeEntries.{entry_name}
 
 -- texts as they stand are spelled as names
 pub as_they_stand : (xs : List (List ℕ)) → xs ≡ map spelled (map name xs)

@@ -7,22 +7,22 @@ use Rattle.std.specs.declared.alloc.Global.{Global}
 use Rattle.std.specs.declared.rc.RcStr.{RcStr}
 use Rattle.std.proofs.Math.Dec.{eqb}
 use Rattle.std.proofs.lemmas.Bool.Decides.{eqb_tells}
-use Rattle.smt_meaning.specs.Plain.{PlainTerm}
-use Rattle.smt_meaning.specs.Typing.{AreTyped}
-use Rattle.smt_graph.specs.Meanings.{all_found, found, meanings}
-use Rattle.smt_graph.specs.Nodes.{PlainNode, Meaning, TermMeaning}
-use Rattle.smt_graph.proofs.Places.{map_back, some_same, then_back}
+use Rattle.law_terms.specs.Plain.{PlainTerm}
+use Rattle.law_terms.specs.Typing.{AreTyped}
+use Rattle.law_terms.specs.Meanings.{all_found, found, meanings}
+use Rattle.law_terms.specs.Nodes.{PlainNode, Meaning, TermMeaning}
+use Rattle.law_terms.proofs.Places.{map_back, some_same, then_back}
 use Rattle.smt_nodes.specs.Interned.{nodes_of}
-use Rattle.smt_node_tables.specs.View.{place_of, places_of}
-use Rattle.smt_node_tables.specs.declared.id.NodeId.{NodeId}
+use Rattle.smt_nodes.specs.View.{place_of, places_of}
+use Rattle.smt_nodes.specs.declared.id.NodeId.{NodeId}
 use Rattle.smt_nodes.specs.declared.interner.Interner.{Interner}
 use Rattle.smt_encode.specs.Complete.{is_typed, is_written, AreTypedMeanings, HaveWrittenParts}
-use Rattle.smt_node_texts.specs.Names.{nodes_under, texts_under}
-use Rattle.smt_node_texts.specs.NodeTexts.{text_at, HasNoTexts}
-use Rattle.smt_node_texts.specs.Texts.{kept_at}
-use Rattle.smt_node_texts.proofs.Named.{none_at, one_id}
+use Rattle.smt_spelling.specs.Names.{nodes_under, texts_under}
+use Rattle.smt_spelling.specs.NodeTexts.{text_at, HasNoTexts}
+use Rattle.smt_spelling.specs.Texts.{kept_at}
+use Rattle.smt_spelling.proofs.Named.{none_at, one_id}
 use Rattle.smt_encode.specs.declared.writer.Writer.{Writer}
-use Rattle.smt_node_texts.specs.declared.node_names.NodeNames.{NodeNames}
+use Rattle.smt_spelling.specs.declared.node_names.NodeNames.{NodeNames}
 
 -- what has a text keeps one
 stays : (a b : Option (List ℕ)) → ((text : List ℕ) → a ≡ Some text → b ≡ Some text) → IsTrue (is_some a) → IsTrue (is_some b)

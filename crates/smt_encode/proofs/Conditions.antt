@@ -3,62 +3,51 @@ use Rattle.std.proofs.Common.{◌≡◌, ℕ, ◌+◌, List, [], ◌∷◌, ◌+
 use Rattle.std.specs.Prelude.{unwrap_or}
 use Rattle.std.specs.Io.KnownBytes.{append_known}
 use Rattle.std.specs.List.{AllByRecursion}
-use Rattle.smt_leaves.specs.Enums.{enums_of}
-use Rattle.smt_meaning.specs.Faults.{first_fault}
-use Rattle.smt_meaning.specs.Formed.{IsFormed}
-use Rattle.smt_meaning.specs.Plain.{PlainTerm}
-use Rattle.smt_meaning.specs.TypeValues.{Enums}
-use Rattle.smt_meaning.specs.Typing.{AreBoolean}
+use Rattle.smt_types.specs.Enums.{enums_of}
+use Rattle.law_terms.specs.Faults.{first_fault}
+use Rattle.law_terms.specs.Formed.{IsFormed}
+use Rattle.law_terms.specs.Plain.{PlainTerm}
+use Rattle.law_terms.specs.Typing.{AreBoolean}
 use Rattle.std.specs.Prelude.{option_map}
-use Rattle.smt_graph.specs.Meanings.{all_found, found, meanings}
-use Rattle.smt_graph.specs.Nodes.{TermMeaning}
-use Rattle.smt_graph.proofs.Places.{map_back, then_back}
+use Rattle.law_terms.specs.Meanings.{all_found, found, meanings}
+use Rattle.law_terms.specs.Nodes.{TermMeaning}
+use Rattle.law_terms.proofs.Places.{map_back, then_back}
 use Rattle.smt_nodes.specs.Interned.{nodes_of}
-use Rattle.smt_node_tables.specs.View.{place_of, places_of}
-use Rattle.smt_node_tables.specs.declared.id.NodeId.{NodeId}
+use Rattle.smt_nodes.specs.View.{place_of, places_of}
+use Rattle.smt_nodes.specs.declared.id.NodeId.{NodeId}
 use Rattle.smt_nodes.specs.declared.interner.Interner.{Interner}
-use Rattle.smt_node_texts.specs.NodeTexts.{StandFor}
+use Rattle.smt_spelling.specs.NodeTexts.{StandFor}
 use Rattle.smt_term.specs.View.{plain_term}
-use Rattle.smt_leaves.specs.declared.enums.EnumTable.{EnumTable}
+use Rattle.smt_types.specs.declared.enums.EnumTable.{EnumTable}
 use Rattle.smt_term.specs.declared.term.Term.{Term}
-use Rattle.smt_leaves.proofs.AscendingTexts.{members_ascend}
+use Rattle.smt_types.proofs.AscendingTexts.{members_ascend}
 use Rattle.smt_term.proofs.FormedTerms.{both_formed, terms_are_formed}
-use Rattle.smt_leaves.specs.TextSets.{AreAscending}
 use Rattle.smt_nodes.proofs.Formed.{nodes_formed}
-use Rattle.smt_lines.specs.NameTables.{Tables}
-use Rattle.smt_lines.specs.Text.{names, text}
-use Rattle.smt_carrying.specs.CarriedOrder.{AreEnums}
-use Rattle.smt_headline.specs.Conditions.{AreConditions}
-use Rattle.smt_headline.specs.Headline.{Headline}
-use Rattle.smt_headline.proofs.FitKept.{conditions_are_their_scripts}
-use Rattle.smt_sorted.specs.WellWritten.{IsWellWritten, most_for_terms}
-use Rattle.smt_sorted.proofs.Calls.{texts_are_well_written}
+use Rattle.law_lines.specs.NameTables.{Tables}
+use Rattle.law_lines.specs.Text.{names, text}
+use Rattle.law_theorem.specs.Conditions.{AreConditions}
+use Rattle.law_theorem.specs.Headline.{Headline}
+use Rattle.law_theorem.proofs.FitKept.{conditions_are_their_scripts}
+use Rattle.law_theorem.specs.WellWritten.{IsWellWritten, most_for_terms}
+use Rattle.law_theorem.proofs.Calls.{texts_are_well_written}
 use Rattle.smt_encode.specs.Encoded.{OfReceived}
-use Rattle.smt_node_texts.specs.Names.{AreTables}
-use Rattle.smt_node_texts.specs.declared.names.Names.{Names}
+use Rattle.smt_spelling.specs.Names.{AreTables}
+use Rattle.smt_spelling.specs.declared.names.Names.{Names}
 
 all_formed : (ts : List Term) → AllByRecursion IsFormed (map plain_term ts)
 all_formed [] = tt
 all_formed (t ∷ ts) = (terms_are_formed t, all_formed ts)
-
--- the members of each enum type ascend
-are_members : (enums : Enums) → AllByRecursion (λ e. AreAscending e.1) enums → AreEnums enums
-are_members [] h = tt
-are_members (e ∷ enums) h = (record { ascending = h.0.ascending; texts = h.0.texts }, are_members enums h.1)
-
-are_enums : (table : EnumTable) → AreEnums (enums_of table)
-are_enums table = are_members (enums_of table) (members_ascend table)
 
 -- The terms that were handed in are conditions.
 conditions : (table : EnumTable) (ts : List Term) → AreBoolean (map plain_term ts) → first_fault (enums_of table) (map plain_term ts) ≡ None → AreConditions (enums_of table) (map plain_term ts)
 conditions table ts typed none = record { are_typed = typed; are_formed = all_formed ts; have_no_fault = none }
 
 pub headline : (table : EnumTable) (ts : List Term) → AreBoolean (map plain_term ts) → first_fault (enums_of table) (map plain_term ts) ≡ None → Headline (enums_of table) (names (enums_of table) (map plain_term ts)) (map plain_term ts) (text (enums_of table) (map plain_term ts))
-headline table ts typed none = conditions_are_their_scripts (enums_of table) (map plain_term ts) (are_enums table) (conditions table ts typed none)
+headline table ts typed none = conditions_are_their_scripts (enums_of table) (map plain_term ts) (members_ascend table) (conditions table ts typed none)
 
 pub well_written : (table : EnumTable) (ts : List Term) → AreBoolean (map plain_term ts) → first_fault (enums_of table) (map plain_term ts) ≡ None
     → IsWellWritten (enums_of table) (text (enums_of table) (map plain_term ts)) (map plain_term ts) (names (enums_of table) (map plain_term ts)) (1 + most_for_terms (map plain_term ts))
-well_written table ts typed none = texts_are_well_written (enums_of table) (map plain_term ts) (are_enums table) (conditions table ts typed none)
+well_written table ts typed none = texts_are_well_written (enums_of table) (map plain_term ts) (members_ascend table) (conditions table ts typed none)
 
 -- the same of the terms for which numbers stand
 stand_formed : (i : Interner) (ids : List NodeId) (ts : List PlainTerm) → StandFor i ids ts → AllByRecursion IsFormed ts
@@ -75,11 +64,11 @@ node_conditions : (table : EnumTable) (i : Interner) (ids : List NodeId) (ts : L
 node_conditions table i ids ts stand typed none = record { are_typed = typed; are_formed = stand_formed i ids ts stand; have_no_fault = none }
 
 pub node_headline : (table : EnumTable) (i : Interner) (ids : List NodeId) (ts : List PlainTerm) → StandFor i ids ts → AreBoolean ts → first_fault (enums_of table) ts ≡ None → Headline (enums_of table) (names (enums_of table) ts) ts (text (enums_of table) ts)
-node_headline table i ids ts stand typed none = conditions_are_their_scripts (enums_of table) ts (are_enums table) (node_conditions table i ids ts stand typed none)
+node_headline table i ids ts stand typed none = conditions_are_their_scripts (enums_of table) ts (members_ascend table) (node_conditions table i ids ts stand typed none)
 
 pub node_well_written : (table : EnumTable) (i : Interner) (ids : List NodeId) (ts : List PlainTerm) → StandFor i ids ts → AreBoolean ts → first_fault (enums_of table) ts ≡ None
     → IsWellWritten (enums_of table) (text (enums_of table) ts) ts (names (enums_of table) ts) (1 + most_for_terms ts)
-node_well_written table i ids ts stand typed none = texts_are_well_written (enums_of table) ts (are_enums table) (node_conditions table i ids ts stand typed none)
+node_well_written table i ids ts stand typed none = texts_are_well_written (enums_of table) ts (members_ascend table) (node_conditions table i ids ts stand typed none)
 
 -- What holds of a text and names, holds of the bytes that were received, with these names.
 pub received : (P : Tables → List ℕ → Type 0) (n : Names) (s : Tables) (bytes : List ℕ) (before after : Option (List ℕ)) → after ≡ append_known before bytes → AreTables n s → P s bytes

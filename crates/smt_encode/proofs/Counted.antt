@@ -5,17 +5,17 @@ use Rattle.std.specs.Prelude.{IfOk, OnOk, Result, Ok, Err}
 use Rattle.std.specs.Rc.{rc_str_bytes}
 use Rattle.std.specs.declared.alloc.Global.{Global}
 use Rattle.std.specs.declared.rc.RcStr.{RcStr}
-use Rattle.smt_graph.specs.Nodes.{PlainNode}
+use Rattle.law_terms.specs.Nodes.{PlainNode}
 use Rattle.smt_nodes.specs.Interned.{nodes_of}
-use Rattle.smt_node_tables.specs.View.{place_of}
-use Rattle.smt_node_tables.specs.declared.id.NodeId.{NodeId}
+use Rattle.smt_nodes.specs.View.{place_of}
+use Rattle.smt_nodes.specs.declared.id.NodeId.{NodeId}
 use Rattle.smt_nodes.specs.declared.interner.Interner.{Interner}
-use Rattle.smt_node_texts.specs.Names.{nodes_under, texts_under}
-use Rattle.smt_node_texts.specs.LookUps.{look_ups, look_ups_at, look_ups_from, look_ups_left, look_ups_of}
-use Rattle.smt_node_texts.specs.NodeTexts.{text_at}
+use Rattle.smt_spelling.specs.Names.{nodes_under, texts_under}
+use Rattle.smt_spelling.specs.LookUps.{look_ups, look_ups_at, look_ups_from, look_ups_left, look_ups_of}
+use Rattle.smt_spelling.specs.NodeTexts.{text_at}
 use Rattle.smt_encode.specs.Steps.{look_ups_in}
 use Rattle.smt_encode.specs.declared.writer.Writer.{Writer}
-use Rattle.smt_node_texts.specs.declared.node_names.NodeNames.{NodeNames}
+use Rattle.smt_spelling.specs.declared.node_names.NodeNames.{NodeNames}
 
 -- a smaller set has no more
 at_most : (b a : Bool) (node : PlainNode) → (IsTrue b → IsTrue a) → look_ups_at b node ≤ look_ups_at a node

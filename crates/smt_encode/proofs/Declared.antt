@@ -3,12 +3,12 @@ use Rattle.std.proofs.Common.{◌≡◌, ℕ, List, [], ◌∷◌, get_or, lengt
 use Rattle.std.specs.Rc.{rc_str_bytes}
 use Rattle.std.specs.declared.alloc.Global.{Global}
 use Rattle.std.specs.declared.rc.RcStr.{RcStr}
-use Rattle.smt_characters.specs.LineTexts.{declare_fun_text, spaced}
-use Rattle.smt_characters.specs.SharedTexts.{texts}
-use Rattle.smt_lexicon.specs.Reading.{Expression}
-use Rattle.smt_lines.specs.Line.{spelled_lines}
-use Rattle.smt_lines.specs.LineForms.{function_declaration}
-use Rattle.smt_lines.specs.Spelling.{spelled}
+use Rattle.law_texts.specs.LineTexts.{declare_fun_text, spaced}
+use Rattle.law_texts.specs.SharedTexts.{texts}
+use Rattle.law_texts.specs.Reading.{Expression}
+use Rattle.law_lines.specs.Line.{spelled_lines}
+use Rattle.law_lines.specs.LineForms.{function_declaration}
+use Rattle.law_lines.specs.Spelling.{spelled}
 use Rattle.smt_spelling.specs.Spelled.{AreSpelled}
 
 -- two texts, and what they spell

@@ -3,11 +3,11 @@ use Rattle.std.proofs.Common.{◌≡◌, ℕ, Bool, refl, sym, ap, ◌∙◌, su
 use Rattle.std.specs.Prelude.{IsErrOf, OnOk}
 use Rattle.std.specs.Result.{IsErrAnd}
 use Rattle.std.specs.Rc.{rc_str_bytes}
-use Rattle.smt_meaning.specs.Faults.{Fault, EmptyEnum, EncodeStringFailed, EncodePatternFailed, EnumMissingMember, ExpectRecord, MalformedRecordGet, MissingTypeEncoding, RecordMissingAttr}
+use Rattle.law_terms.specs.Faults.{Fault, EmptyEnum, EncodeStringFailed, EncodePatternFailed, EnumMissingMember, ExpectRecord, MalformedRecordGet, MissingTypeEncoding, RecordMissingAttr}
 use Rattle.smt_script.specs.Sink.{Rose}
 use Rattle.smt_script.specs.declared.sink.SinkError.TheVariants.{Fault as Failed, Memory as NoRoom}
-use Rattle.smt_leaves.specs.Entities.{bytes_of_id, bytes_of_type}
-use Rattle.smt_leaves.specs.PatternView.{plain_ord_pattern}
+use Rattle.smt_types.specs.Entities.{bytes_of_id, bytes_of_type}
+use Rattle.smt_types.specs.PatternView.{plain_ord_pattern}
 use Rattle.smt_encode.specs.Errors.{encode_error}
 use Rattle.smt_encode.specs.Refusals.{write_fault, HasCause, IsComplete}
 use Rattle.smt_spelling.specs.TextFaults.{Finds}
@@ -17,7 +17,7 @@ use Rattle.smt_encode.specs.declared.error.EncodeError.TheVariants.{Io, Spent, M
 use Rattle.smt_spelling.specs.declared.error.TextError.TheVariants.{MissingMember, StringFailed, PatternFailed, EmptyEnum as NoMembers, Memory as NoMemory}
 use Rattle.smt_encode.specs.declared.error.WriteError.{WriteError}
 use Rattle.smt_encode.specs.declared.error.WriteError.TheVariants.{Selector, Sink, Text}
-use Rattle.smt_node_texts.specs.declared.error.SelectorError.TheVariants.{Lacks, NoOperand, NoRecord, Unnamed, Memory as NoSpace}
+use Rattle.smt_spelling.specs.declared.selector_error.SelectorError.TheVariants.{Lacks, NoOperand, NoRecord, Unnamed, Memory as NoSpace}
 use Rattle.smt_term.specs.View.{plain_type}
 
 -- ---- errors

@@ -3,22 +3,22 @@ use Rattle.std.proofs.Common.{◌≡◌, ℕ, true, List, [], ◌∷◌, drop, g
 use Rattle.std.specs.Rc.{rc_str_bytes}
 use Rattle.std.specs.declared.alloc.Global.{Global}
 use Rattle.std.specs.declared.rc.RcStr.{RcStr}
-use Rattle.smt_lexicon.specs.Reading.{Expression}
-use Rattle.smt_meaning.specs.Plain.{PlainTerm}
-use Rattle.smt_graph.specs.Nodes.{Meaning, TermMeaning}
-use Rattle.smt_graph.specs.Parts.{label_in, parts_in}
-use Rattle.smt_lines.specs.Lines.{Enums, Written, made_of, ◌>>=◌}
-use Rattle.smt_lines.specs.NameTables.{Tables}
-use Rattle.smt_lines.specs.Spelling.{spelled}
-use Rattle.smt_node_texts.specs.Entries.{enter_by, entered_by, entry_by, head_in, inline_by, is_built, own_lines, rendering_in, written_parts}
+use Rattle.law_texts.specs.Reading.{Expression}
+use Rattle.law_terms.specs.Plain.{PlainTerm}
+use Rattle.law_terms.specs.Nodes.{Meaning, TermMeaning}
+use Rattle.law_terms.specs.Parts.{label_in, parts_in}
+use Rattle.law_lines.specs.Lines.{Enums, Written, made_of, ◌>>=◌}
+use Rattle.law_lines.specs.NameTables.{Tables}
+use Rattle.law_lines.specs.Spelling.{spelled}
+use Rattle.smt_spelling.specs.NodeEntries.{enter_by, entered_by, entry_by, head_in, inline_by, is_built, own_lines, rendering_in, written_parts}
 use Rattle.smt_spelling.specs.Entries.{SaysInline}
-use Rattle.smt_node_texts.specs.NodeLines.{encode_meanings, name_in}
-use Rattle.smt_node_texts.specs.NodeTexts.{IsText}
+use Rattle.smt_spelling.specs.NodeLines.{encode_meanings, name_in}
+use Rattle.smt_spelling.specs.NodeTexts.{IsText}
 use Rattle.smt_encode.specs.Steps.{WritesHere}
 use Rattle.smt_spelling.specs.Spelled.{AreSpelled, IsSpelled}
 use Rattle.smt_encode.specs.declared.writer.Writer.{Writer}
-use Rattle.smt_node_texts.proofs.Built.{inline_headless}
-use Rattle.smt_node_texts.proofs.Stated.{stated}
+use Rattle.smt_spelling.proofs.Built.{inline_headless}
+use Rattle.smt_spelling.proofs.Stated.{stated}
 
 -- an inline text is stated
 pub says_some : (o : Option Expression) (text : RcStr Global) → SaysInline o (Some text) → (e : Expression) × (o ≡ Some e) × (rc_str_bytes text ≡ spelled e)

@@ -6,17 +6,17 @@ use Rattle.std.specs.declared.alloc.Global.{Global}
 use Rattle.std.specs.declared.rc.RcStr.{RcStr}
 use Rattle.std.specs.Option.{option_or}
 use Rattle.std.proofs.lemmas.List.{map-append}
-use Rattle.smt_lexicon.specs.Reading.{Expression}
-use Rattle.smt_graph.specs.Meanings.{all_found, found}
-use Rattle.smt_graph.specs.Nodes.{Meaning}
-use Rattle.smt_graph.proofs.Places.{map_back, then_back, some_same}
-use Rattle.smt_node_tables.specs.View.{place_of, places_of}
-use Rattle.smt_node_tables.specs.declared.id.NodeId.{NodeId}
-use Rattle.smt_lines.specs.Line.{Line}
-use Rattle.smt_lines.specs.Lines.{Enums, Written}
-use Rattle.smt_lines.specs.NameTables.{Tables}
-use Rattle.smt_lines.specs.Spelling.{spelled}
-use Rattle.smt_node_texts.specs.NodeLines.{encode_meaning, encode_meanings, meaning_fault, meanings_fault}
+use Rattle.law_texts.specs.Reading.{Expression}
+use Rattle.law_terms.specs.Meanings.{all_found, found}
+use Rattle.law_terms.specs.Nodes.{Meaning}
+use Rattle.law_terms.proofs.Places.{map_back, then_back, some_same}
+use Rattle.smt_nodes.specs.View.{place_of, places_of}
+use Rattle.smt_nodes.specs.declared.id.NodeId.{NodeId}
+use Rattle.law_lines.specs.Line.{Line}
+use Rattle.law_lines.specs.Lines.{Enums, Written}
+use Rattle.law_lines.specs.NameTables.{Tables}
+use Rattle.law_lines.specs.Spelling.{spelled}
+use Rattle.smt_spelling.specs.NodeLines.{encode_meaning, encode_meanings, meaning_fault, meanings_fault}
 use Rattle.smt_encode.specs.Steps.{HasTables, Wrote}
 use Rattle.smt_spelling.specs.Spelled.{AreSpelled, IsSpelled}
 use Rattle.smt_encode.specs.declared.writer.Writer.{Writer}

@@ -1,12 +1,12 @@
 -- Errors that are handed on, and the faults that they name.
 use Rattle.std.proofs.Common.{◌≡◌, sym, ap, ◌∙◌, Option, Some, Result, Ok, Err}
 use Rattle.std.specs.Result.{IsErrAnd}
-use Rattle.smt_meaning.specs.Faults.{Fault}
+use Rattle.law_terms.specs.Faults.{Fault}
 use Rattle.smt_encode.specs.Refusals.{write_fault}
 use Rattle.smt_spelling.specs.TextFaults.{text_fault, Finds}
 use Rattle.smt_spelling.specs.declared.error.TextError.{TextError}
-use Rattle.smt_node_texts.specs.SelectorFaults.{selector_fault}
-use Rattle.smt_node_texts.specs.declared.error.SelectorError.{SelectorError}
+use Rattle.smt_spelling.specs.SelectorFaults.{selector_fault}
+use Rattle.smt_spelling.specs.declared.selector_error.SelectorError.{SelectorError}
 use Rattle.smt_encode.specs.declared.error.WriteError.{WriteError}
 use Rattle.smt_encode.specs.declared.error.WriteError.TheVariants.{Selector, Text}
 

@@ -3,15 +3,15 @@ use Rattle.std.proofs.Common.{◌≡◌, ℕ, List, [], ◌∷◌, ◌++◌, ref
 use Rattle.std.proofs.lemmas.Grind.{flat_map-append}
 use Rattle.std.specs.Io.KnownBytes.{append_known}
 use Rattle.std.specs.Prelude.{codes}
-use Rattle.smt_lines.specs.Line.{Line, spelled_line, spelled_lines}
-use Rattle.smt_lines.specs.Lines.{Written, option_line, ◌>>=◌}
-use Rattle.smt_lines.specs.NameTables.{Tables}
-use Rattle.smt_characters.specs.LineTexts.{declare_datatype_text}
+use Rattle.law_lines.specs.Line.{Line, spelled_line, spelled_lines}
+use Rattle.law_lines.specs.Lines.{Written, option_line, ◌>>=◌}
+use Rattle.law_lines.specs.NameTables.{Tables}
+use Rattle.law_texts.specs.LineTexts.{declare_datatype_text}
 use Rattle.smt_script.proofs.PutsLemmas.{appends_then, appends_nothing}
 use Rattle.smt_encode.specs.Steps.{HasTables, PutsLine, WritesHere, Wrote}
-use Rattle.smt_node_texts.specs.Names.{KeepTables}
+use Rattle.smt_spelling.specs.Names.{KeepTables}
 use Rattle.smt_encode.specs.declared.writer.Writer.{Writer}
-use Rattle.smt_node_texts.specs.declared.names.Names.{Names}
+use Rattle.smt_spelling.specs.declared.names.Names.{Names}
 
 -- the line that declares `Option`
 pub option_bytes : (parameter nothing something : List ℕ) → parameter ≡ codes "X" → nothing ≡ codes "(none)" → something ≡ codes "(some (val X))"

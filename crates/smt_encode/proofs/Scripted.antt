@@ -6,14 +6,14 @@ use Rattle.std.specs.Rc.{rc_str_bytes}
 use Rattle.std.specs.declared.alloc.Global.{Global}
 use Rattle.std.specs.declared.rc.RcStr.{RcStr}
 use Rattle.std.proofs.lemmas.List.{map-append}
-use Rattle.smt_meaning.specs.Plain.{PlainTerm, terms}
-use Rattle.smt_lexicon.specs.Reading.{Expression}
-use Rattle.smt_lines.specs.Line.{Line, Assert, spelled_lines}
-use Rattle.smt_lines.specs.Lines.{Enums, encode, encode_terms, option_line}
-use Rattle.smt_lines.specs.NameTables.{Tables, no_names}
-use Rattle.smt_lines.specs.Spelling.{spelled}
-use Rattle.smt_lines.specs.Text.{text}
-use Rattle.smt_node_texts.specs.Names.{enums_under}
+use Rattle.law_terms.specs.Plain.{PlainTerm, terms}
+use Rattle.law_texts.specs.Reading.{Expression}
+use Rattle.law_lines.specs.Line.{Line, Assert, spelled_lines}
+use Rattle.law_lines.specs.Lines.{Enums, encode, encode_terms, option_line}
+use Rattle.law_lines.specs.NameTables.{Tables, no_names}
+use Rattle.law_lines.specs.Spelling.{spelled}
+use Rattle.law_lines.specs.Text.{text}
+use Rattle.smt_spelling.specs.Names.{enums_under}
 use Rattle.smt_encode.specs.Steps.{Wrote}
 use Rattle.smt_spelling.specs.Spelled.{AreSpelled}
 use Rattle.smt_encode.specs.declared.writer.Writer.{Writer}

@@ -1,13 +1,13 @@
 -- Typed terms: their parts are typed, and all of them are written.
 use Rattle.std.proofs.Common.{◌≡◌, ◌⊎◌, inl, inr, ◌&&◌, Bool, true, false, IsTrue, List, [], ◌∷◌, map, refl}
-use Rattle.smt_meaning.specs.Plain.{PlainType, OptionType, BitVecType, BoolType, EntityType, ExtensionType, StringType, RecordType, SetType, AttributeTypes, no_attributes, attribute, PlainTerms, no_terms, one_term, PlainFields, no_fields, one_field, PlainOp, Application, NoneTerm, LiteralTerm, RecordTerm, SetTerm, SomeTerm, VariableTerm, list_of_terms, AndOp, BitsOp, BvnegOp, BvnegoOp, EqOp, ExtOp, IteOp, NotOp, OptionGetOp, OrOp, OverflowOp, RecordGetOp, SetInterOp, SetMemberOp, SetSubsetOp, StringLikeOp, TestOp, UufOp, ZeroExtendOp}
-use Rattle.smt_meaning.specs.Types.{is_type, result_type, type_of, types_of}
-use Rattle.smt_meaning.specs.Typing.{are_elements, typed, typed_all, typed_fields}
-use Rattle.smt_graph.specs.Nodes.{Meaning, TypeMeaning, FunctionMeaning, TermMeaning}
-use Rattle.smt_graph.specs.Parts.{field_terms, parts_in, term_parts, types_in}
-use Rattle.smt_lines.specs.Lines.{least_rendering}
+use Rattle.law_terms.specs.Plain.{PlainType, OptionType, BitVecType, BoolType, EntityType, ExtensionType, StringType, RecordType, SetType, AttributeTypes, no_attributes, attribute, PlainTerms, no_terms, one_term, PlainFields, no_fields, one_field, PlainOp, Application, NoneTerm, LiteralTerm, RecordTerm, SetTerm, SomeTerm, VariableTerm, list_of_terms, AndOp, BitsOp, BvnegOp, BvnegoOp, EqOp, ExtOp, IteOp, NotOp, OptionGetOp, OrOp, OverflowOp, RecordGetOp, SetInterOp, SetMemberOp, SetSubsetOp, StringLikeOp, TestOp, UufOp, ZeroExtendOp}
+use Rattle.law_terms.specs.Types.{is_type, result_type, type_of, types_of}
+use Rattle.law_terms.specs.Typing.{are_elements, typed, typed_all, typed_fields}
+use Rattle.law_terms.specs.Nodes.{Meaning, TypeMeaning, FunctionMeaning, TermMeaning}
+use Rattle.law_terms.specs.Parts.{field_terms, parts_in, term_parts, types_in}
+use Rattle.law_lines.specs.Lines.{least_rendering}
 use Rattle.smt_encode.specs.Complete.{is_typed, AreTypedMeanings}
-use Rattle.smt_node_texts.specs.Entries.{Rendered, op_rendering, rendering_in, second_last, written_parts}
+use Rattle.smt_spelling.specs.NodeEntries.{Rendered, op_rendering, rendering_in, second_last, written_parts}
 
 and_first : (a b : Bool) → IsTrue (a && b) → IsTrue a
 and_first true b h = refl

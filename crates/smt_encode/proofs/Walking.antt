@@ -7,28 +7,28 @@ use Rattle.std.specs.List.{AllByRecursion}
 use Rattle.std.specs.Rc.{rc_str_bytes}
 use Rattle.std.specs.declared.alloc.Global.{Global}
 use Rattle.std.specs.declared.rc.RcStr.{RcStr}
-use Rattle.smt_graph.specs.Meanings.{all_found, found, meanings}
-use Rattle.smt_graph.specs.Nodes.{Meaning}
-use Rattle.smt_graph.specs.Parts.{parts_in}
-use Rattle.smt_graph.proofs.Places.{map_back, some_same, then_back}
+use Rattle.law_terms.specs.Meanings.{all_found, found, meanings}
+use Rattle.law_terms.specs.Nodes.{Meaning}
+use Rattle.law_terms.specs.Parts.{parts_in}
+use Rattle.law_terms.proofs.Places.{map_back, some_same, then_back}
 use Rattle.smt_nodes.specs.Interned.{meaning_in, nodes_of}
 use Rattle.smt_nodes.specs.declared.interner.Interner.{Interner}
-use Rattle.smt_node_tables.specs.declared.node.Node.{Node}
+use Rattle.smt_nodes.specs.declared.node.Node.{Node}
 use Rattle.std.specs.Io.KnownBytes.{append_known}
 use Rattle.smt_script.proofs.PutsLemmas.{appends_then}
-use Rattle.smt_lines.specs.Line.{Line, spelled_lines}
-use Rattle.smt_lines.specs.Lines.{AsApplication, AsEqualsIntMin, AsFalse, Written, behind, ◌>>=◌}
-use Rattle.smt_lines.specs.NameTables.{Tables}
-use Rattle.smt_node_texts.specs.Entries.{NodeRendering, AsCall, Rendered, rendering_in, second_last, written_parts}
+use Rattle.law_lines.specs.Line.{Line, spelled_lines}
+use Rattle.law_lines.specs.Lines.{AsApplication, AsEqualsIntMin, AsFalse, Written, behind, ◌>>=◌}
+use Rattle.law_lines.specs.NameTables.{Tables}
+use Rattle.smt_spelling.specs.NodeEntries.{NodeRendering, AsCall, Rendered, rendering_in, second_last, written_parts}
 use Rattle.smt_encode.proofs.Lines.{binds, lines_append}
-use Rattle.smt_node_texts.proofs.Rendered.{found_length}
-use Rattle.smt_node_tables.specs.View.{ids_of, place_of, places_of, plain_node}
-use Rattle.smt_node_tables.specs.declared.id.NodeId.{NodeId}
-use Rattle.smt_node_texts.specs.Names.{texts_under, HasRoom, StandsOn}
-use Rattle.smt_node_texts.specs.NodeTexts.{text_at, IsNodeOf}
+use Rattle.smt_spelling.proofs.Rendered.{found_length}
+use Rattle.smt_nodes.specs.View.{ids_of, place_of, places_of, plain_node}
+use Rattle.smt_nodes.specs.declared.id.NodeId.{NodeId}
+use Rattle.smt_spelling.specs.Names.{texts_under, HasRoom, StandsOn}
+use Rattle.smt_spelling.specs.NodeTexts.{text_at, IsNodeOf}
 use Rattle.smt_encode.specs.Steps.{FaultCounted, Walks, WritesHere, Wrote}
 use Rattle.smt_encode.specs.declared.writer.Writer.{Writer}
-use Rattle.smt_node_texts.specs.declared.names.Names.{Names}
+use Rattle.smt_spelling.specs.declared.names.Names.{Names}
 
 -- what holds of the places of a list holds of one of them
 pub holds_at : (P : ℕ → Type 0) (ids : List NodeId) (i : ℕ) (d : NodeId) → AllByRecursion P (places_of ids) → i < length ids → P (place_of (get_or ids i d))

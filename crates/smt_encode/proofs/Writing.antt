@@ -4,26 +4,26 @@ use Rattle.std.specs.Prelude.{option_map}
 use Rattle.std.specs.Rc.{rc_str_bytes}
 use Rattle.std.specs.declared.alloc.Global.{Global}
 use Rattle.std.specs.declared.rc.RcStr.{RcStr}
-use Rattle.smt_lexicon.specs.Reading.{Expression}
-use Rattle.smt_semantics.specs.Script.{name}
-use Rattle.smt_graph.specs.Meanings.{all_found, found, meanings}
-use Rattle.smt_graph.specs.Nodes.{Meaning}
-use Rattle.smt_graph.proofs.Places.{map_back, then_back, some_same}
+use Rattle.law_texts.specs.Reading.{Expression}
+use Rattle.law_scripts.specs.Script.{name}
+use Rattle.law_terms.specs.Meanings.{all_found, found, meanings}
+use Rattle.law_terms.specs.Nodes.{Meaning}
+use Rattle.law_terms.proofs.Places.{map_back, then_back, some_same}
 use Rattle.smt_nodes.specs.Interned.{meaning_in, nodes_of}
-use Rattle.smt_node_tables.specs.View.{place_of, places_of}
-use Rattle.smt_node_tables.specs.declared.id.NodeId.{NodeId}
-use Rattle.smt_lines.specs.Lines.{Enums, made_of, ◌>>=◌}
-use Rattle.smt_lines.specs.NameTables.{Tables}
-use Rattle.smt_node_texts.specs.Names.{enums_under, KeepTables}
-use Rattle.smt_node_texts.specs.NodeLines.{encode_meaning, encode_meanings, has_entry, name_in}
-use Rattle.smt_node_texts.specs.NodeTexts.{text_at, AreTexts, HasName, IsText}
+use Rattle.smt_nodes.specs.View.{place_of, places_of}
+use Rattle.smt_nodes.specs.declared.id.NodeId.{NodeId}
+use Rattle.law_lines.specs.Lines.{Enums, made_of, ◌>>=◌}
+use Rattle.law_lines.specs.NameTables.{Tables}
+use Rattle.smt_spelling.specs.Names.{enums_under, KeepTables}
+use Rattle.smt_spelling.specs.NodeLines.{encode_meaning, encode_meanings, has_entry, name_in}
+use Rattle.smt_spelling.specs.NodeTexts.{text_at, AreTexts, HasName, IsText}
 use Rattle.smt_encode.specs.Steps.{HasTables, Wrote}
 use Rattle.smt_spelling.specs.Spelled.{AreSpelled, IsSpelled}
 use Rattle.smt_encode.specs.declared.writer.Writer.{Writer}
-use Rattle.smt_node_texts.specs.declared.names.Names.{Names}
+use Rattle.smt_spelling.specs.declared.names.Names.{Names}
 use Rattle.smt_encode.proofs.Lines.{nothing_written}
-use Rattle.smt_node_texts.proofs.Named.{named_at, one_id}
-use Rattle.smt_node_texts.proofs.Stated.{named_stated}
+use Rattle.smt_spelling.proofs.Named.{named_at, one_id}
+use Rattle.smt_spelling.proofs.Stated.{named_stated}
 
 -- a text that is kept
 pub kept_text : (n : Names) (s : Tables) → KeepTables n s → (id : NodeId) (m : Meaning) (x : List ℕ) → meaning_in n.nodes id ≡ Some m → text_at n.texts id ≡ Some x → IsText (enums_under n) s m x

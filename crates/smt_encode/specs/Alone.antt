@@ -4,19 +4,19 @@ use Rattle.std.specs.Io.KnownBytes.{append_known}
 use Rattle.std.specs.Rc.{rc_str_bytes}
 use Rattle.std.specs.declared.alloc.Global.{Global}
 use Rattle.std.specs.declared.rc.RcStr.{RcStr}
-use Rattle.smt_meaning.specs.Faults.{Fault, entity_fault, entity_type_fault}
-use Rattle.smt_meaning.specs.TypeValues.{Enums, members_of}
-use Rattle.smt_leaves.specs.Entities.{bytes_of_id, bytes_of_type}
-use Rattle.smt_leaves.specs.declared.entity.EntityType.{EntityType}
-use Rattle.smt_leaves.specs.declared.entity.EntityUID.{EntityUID}
-use Rattle.smt_characters.specs.LineTexts.{define_fun_text, spaced}
-use Rattle.smt_lexicon.specs.Reading.{Expression}
-use Rattle.smt_semantics.specs.Script.{name}
-use Rattle.smt_lines.specs.EntryNames.{enum_member}
-use Rattle.smt_lines.specs.LineForms.{entity_body}
-use Rattle.smt_lines.specs.Lines.{next_term}
-use Rattle.smt_lines.specs.NameTables.{Tables}
-use Rattle.smt_lines.specs.Spelling.{spelled}
+use Rattle.law_terms.specs.Faults.{Fault, entity_fault, entity_type_fault}
+use Rattle.law_terms.specs.TypeValues.{Enums, members_of}
+use Rattle.smt_types.specs.Entities.{bytes_of_id, bytes_of_type}
+use Rattle.smt_types.specs.declared.entity.EntityType.{EntityType}
+use Rattle.smt_types.specs.declared.entity.EntityUID.{EntityUID}
+use Rattle.law_texts.specs.LineTexts.{define_fun_text, spaced}
+use Rattle.law_texts.specs.Reading.{Expression}
+use Rattle.law_scripts.specs.Script.{name}
+use Rattle.law_lines.specs.EntryNames.{enum_member}
+use Rattle.law_lines.specs.LineForms.{entity_body}
+use Rattle.law_lines.specs.Lines.{next_term}
+use Rattle.law_lines.specs.NameTables.{Tables}
+use Rattle.law_lines.specs.Spelling.{spelled}
 use Rattle.smt_script.specs.declared.sink.SinkError.TheVariants.{Fault as Failed}
 use Rattle.smt_spelling.specs.TextFaults.{Finds}
 use Rattle.smt_encode.specs.Encoded.{nodes_in, sink_of, texts_in, HasNames, HasTexts, Keeps}
@@ -36,10 +36,11 @@ pub record PutUnder {S : Type 0} (contents : S → Option (List ℕ)) (old new :
   pub got : contents new ≡ append_known (contents old) bytes
   pub named : rc_str_bytes answer ≡ name
 
--- the body of a set, by its sort and its elements as they stand
+-- the empty set of a sort, as a text (cvc5's sets)
 abbrev pub empty_set_text : (sort : List ℕ) → List ℕ
 empty_set_text sort = codes "(as set.empty " ++ (sort ++ codes ")")
 
+-- the body of a set, by its sort and its elements as they stand: these inserted in the empty set (cvc5's sets)
 abbrev pub set_body_text : (sort : List ℕ) → (elements : List (List ℕ)) → List ℕ
 set_body_text sort [] = empty_set_text sort
 set_body_text sort (e ∷ es) = codes "(set.insert " ++ (spaced ((e ∷ es) ++ empty_set_text sort ∷ []) ++ codes ")")
@@ -49,6 +50,7 @@ abbrev pub body_of_joined : (sort fields : List ℕ) → List ℕ
 body_of_joined sort [] = sort
 body_of_joined sort (b ∷ bs) = codes "(" ++ (sort ++ (codes " " ++ ((b ∷ bs) ++ codes ")")))
 
+-- the body of a record, by its sort and its fields as they stand: its constructor, which is named as the sort, at the fields
 abbrev pub record_body_text : (sort : List ℕ) → (fields : List (List ℕ)) → List ℕ
 record_body_text sort fields = body_of_joined sort (spaced fields)
 
@@ -68,10 +70,11 @@ line_of_entity None id sort s = define_fun_text (next_term s) [] sort (spelled (
 
 -- ---- why it refuses
 
--- the fault of an entity type, and that of an entity apart from its type's, over these enum types
+-- the fault of an entity type, over these enum types
 abbrev pub fault_of_type : Enums → EntityType → Option Fault
 fault_of_type enums ety = entity_type_fault (bytes_of_type ety) (members_of enums (bytes_of_type ety))
 
+-- the fault of an entity, over these enum types, apart from that of its type
 abbrev pub fault_of_entity : Enums → EntityUID → Option Fault
 fault_of_entity enums e = entity_fault (bytes_of_type e.ety) (bytes_of_id e.id) (members_of enums (bytes_of_type e.ety))
 

@@ -4,24 +4,24 @@ use Rattle.std.specs.Io.KnownBytes.{append_known}
 use Rattle.std.specs.Rc.{rc_str_bytes}
 use Rattle.std.specs.declared.alloc.Global.{Global}
 use Rattle.std.specs.declared.rc.RcStr.{RcStr}
-use Rattle.smt_meaning.specs.Faults.{Fault, MalformedRecordGet}
-use Rattle.smt_meaning.specs.Plain.{PlainOp, RecordGetOp, UufOp, PlainTerm, PlainType}
-use Rattle.smt_meaning.specs.TypeValues.{Enums}
-use Rattle.smt_meaning.specs.Types.{type_of}
-use Rattle.smt_characters.specs.LineTexts.{define_fun_text}
-use Rattle.smt_graph.specs.Nodes.{FunctionMeaning}
-use Rattle.smt_lexicon.specs.Reading.{Expression}
-use Rattle.smt_semantics.specs.Script.{name}
-use Rattle.smt_lines.specs.Line.{spelled_lines}
-use Rattle.smt_lines.specs.LineForms.{application_body}
-use Rattle.smt_lines.specs.Lines.{Written, next_term}
-use Rattle.smt_lines.specs.NameTables.{Tables}
-use Rattle.smt_lines.specs.Spelling.{spelled}
+use Rattle.law_terms.specs.Faults.{Fault, MalformedRecordGet}
+use Rattle.law_terms.specs.Plain.{PlainOp, RecordGetOp, UufOp, PlainTerm, PlainType}
+use Rattle.law_terms.specs.TypeValues.{Enums}
+use Rattle.law_terms.specs.Types.{type_of}
+use Rattle.law_texts.specs.LineTexts.{define_fun_text}
+use Rattle.law_terms.specs.Nodes.{FunctionMeaning}
+use Rattle.law_texts.specs.Reading.{Expression}
+use Rattle.law_scripts.specs.Script.{name}
+use Rattle.law_lines.specs.Line.{spelled_lines}
+use Rattle.law_lines.specs.LineForms.{application_body}
+use Rattle.law_lines.specs.Lines.{Written, next_term}
+use Rattle.law_lines.specs.NameTables.{Tables}
+use Rattle.law_lines.specs.Spelling.{spelled}
 use Rattle.smt_spelling.specs.TextFaults.{pattern_fault}
 use Rattle.smt_encode.specs.Encoded.{sink_of, HasTexts}
-use Rattle.smt_node_texts.specs.Entries.{selector}
-use Rattle.smt_node_texts.specs.NodeLines.{meaning_fault}
-use Rattle.smt_node_texts.specs.SelectorFaults.{fault_of_selection}
+use Rattle.smt_spelling.specs.NodeEntries.{selector}
+use Rattle.smt_spelling.specs.NodeLines.{meaning_fault}
+use Rattle.smt_spelling.specs.SelectorFaults.{fault_of_selection}
 use Rattle.smt_encode.specs.Steps.{HasTables}
 use Rattle.smt_encode.specs.declared.encoder.Encoder.{Encoder}
 use Rattle.smt_encode.specs.declared.writer.Writer.{Writer}
@@ -58,6 +58,8 @@ begins_with_function op = false
 
 -- ---- the same of a writer
 
+-- A writer's sink got the lines of what an application begins with, and behind them the application's own; the answer is its name.
+-- The writer has the names of what it begins with.
 pub record WroteApplied {S : Type 0} (contents : S → Option (List ℕ)) (old new : Writer S) (w : Written Expression) (op : PlainOp) (sort : List ℕ) (operands : List (List ℕ)) (answer : RcStr Global) : Type 0 where
   pub got : contents new.script ≡ append_known (contents old.script) (spelled_lines w.lines ++ application_line w.made op sort operands w.tables)
   pub named : rc_str_bytes answer ≡ next_term w.tables

@@ -5,19 +5,19 @@ use Rattle.std.specs.Rc.{rc_str_bytes}
 use Rattle.std.specs.Result.{is_err}
 use Rattle.std.specs.declared.alloc.Global.{Global}
 use Rattle.std.specs.declared.rc.RcStr.{RcStr}
-use Rattle.smt_meaning.specs.Plain.{PlainTerm}
-use Rattle.smt_meaning.specs.TypeValues.{Enums}
-use Rattle.smt_graph.specs.Nodes.{Meaning}
-use Rattle.smt_lexicon.specs.Reading.{Expression}
-use Rattle.smt_lines.specs.NameTables.{Tables}
-use Rattle.smt_lines.specs.Line.{spelled_lines}
-use Rattle.smt_lines.specs.Lines.{Written, option_line}
-use Rattle.smt_lines.specs.Spelling.{spelled}
-use Rattle.smt_lines.specs.Text as stated
+use Rattle.law_terms.specs.Plain.{PlainTerm}
+use Rattle.law_terms.specs.TypeValues.{Enums}
+use Rattle.law_terms.specs.Nodes.{Meaning}
+use Rattle.law_texts.specs.Reading.{Expression}
+use Rattle.law_lines.specs.NameTables.{Tables}
+use Rattle.law_lines.specs.Line.{spelled_lines}
+use Rattle.law_lines.specs.Lines.{Written, option_line}
+use Rattle.law_lines.specs.Spelling.{spelled}
+use Rattle.law_lines.specs.Text as stated
 use Rattle.smt_nodes.specs.declared.interner.Interner.{Interner}
-use Rattle.smt_node_texts.specs.Names.{enums_under, nodes_under, texts_under, AreTables, KeepTables}
-use Rattle.smt_node_texts.specs.NodeTexts.{AreTexts, HasName}
-use Rattle.smt_node_texts.specs.declared.node_names.NodeNames.{NodeNames}
+use Rattle.smt_spelling.specs.Names.{enums_under, nodes_under, texts_under, AreTables, KeepTables}
+use Rattle.smt_spelling.specs.NodeTexts.{AreTexts, HasName}
+use Rattle.smt_spelling.specs.declared.node_names.NodeNames.{NodeNames}
 use Rattle.smt_encode.specs.declared.encoder.Encoder.{Encoder}
 use Rattle.smt_encode.specs.declared.error.EncodeError.{EncodeError}
 use Rattle.smt_encode.specs.declared.error.EncodeError.TheVariants.{Spent}
@@ -38,10 +38,11 @@ is_spent e = e.begun || e.failed
 abbrev pub has_failed : {S : Type 0} → Encoder S → Bool
 has_failed e = e.failed
 
--- the nodes of an encoder, and their texts
+-- the nodes of an encoder
 abbrev pub nodes_in : {S : Type 0} → Encoder S → Interner
 nodes_in e = nodes_under e.writer.names
 
+-- the texts that an encoder keeps for its nodes
 abbrev pub texts_in : {S : Type 0} → Encoder S → NodeNames
 texts_in e = texts_under e.writer.names
 
@@ -53,7 +54,7 @@ IsNameOf e m name = HasName (nodes_in e) (texts_in e) m name
 abbrev pub HasNames : {S : Type 0} → Encoder S → Tables → Type 0
 HasNames e s = AreTables e.writer.names s
 
--- The same, and the texts that it keeps for what has no entry are stated over these tables.
+-- The encoder's names are these tables, and the texts that it keeps for what has no entry are stated over these tables.
 abbrev pub HasTexts : {S : Type 0} → Encoder S → Tables → Type 0
 HasTexts e s = KeepTables e.writer.names s
 
@@ -73,7 +74,8 @@ pub record PutStated {S : Type 0} (contents : S → Option (List ℕ)) (old new 
   pub made : rc_str_bytes answer ≡ spelled w.made
   pub names : HasTexts new w.tables
 
--- The same of a whole script: the sink got the declaration of `Option` and the lines of these terms, the encoder has the names that are stated then, and for its nodes the stated texts.
+-- The sink got the declaration of `Option` and the lines of these terms, the encoder has the names that are stated then, and for its
+-- nodes the stated texts.
 pub record PutScript {S : Type 0} (contents : S → Option (List ℕ)) (old new : Encoder S) (w : Written (List Expression)) : Type 0 where
   pub got : contents (sink_of new) ≡ append_known (contents (sink_of old)) (spelled_lines (option_line ∷ w.lines))
   pub names : HasTexts new w.tables
@@ -93,7 +95,9 @@ pub record Spends {S T : Type 0} (old new : Encoder S) (result : Result T Encode
   pub unchanged : IsTrue (is_spent old) → new ≡ old
   pub afterwards : IsTrue (is_spent new)
 
--- The same of a call that an encoder takes also where its terms are encoded: `Spent` is the answer exactly of an encoder that had refused before, which stays as it is. Afterwards it has refused where it had, or where this call did; and it has begun to encode its terms where it had.
+-- Of a call that an encoder takes also where its terms are encoded: `Spent` is the answer exactly of an encoder that had refused
+-- before, which stays as it is. Afterwards it has refused where it had, or where this call did; and it has begun to encode its terms
+-- where it had.
 pub record SpendsOnError {S T : Type 0} (old new : Encoder S) (result : Result T EncodeError) : Type 0 where
   pub answer : IsErrOf result Spent ↔ IsTrue (has_failed old)
   pub unchanged : IsTrue (has_failed old) → new ≡ old

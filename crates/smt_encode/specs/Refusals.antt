@@ -3,18 +3,18 @@ use Rattle.std.specs.Prelude.{ℕ, ◌≡◌, Bool, false, IsErrOf, IsOkUnless, 
 use Rattle.std.specs.Rc.{rc_str_bytes}
 use Rattle.std.specs.declared.alloc.Global.{Global}
 use Rattle.std.specs.declared.rc.RcStr.{RcStr}
-use Rattle.smt_meaning.specs.Faults.{Fault, EmptyEnum, EncodeStringFailed, EncodePatternFailed, EnumMissingMember, ExpectRecord, MalformedRecordGet, MissingTypeEncoding, RecordMissingAttr}
+use Rattle.law_terms.specs.Faults.{Fault, EmptyEnum, EncodeStringFailed, EncodePatternFailed, EnumMissingMember, ExpectRecord, MalformedRecordGet, MissingTypeEncoding, RecordMissingAttr}
 use Rattle.smt_script.specs.Sink.{Rose}
-use Rattle.smt_leaves.specs.Entities.{bytes_of_id, bytes_of_type}
-use Rattle.smt_leaves.specs.PatternView.{plain_ord_pattern}
-use Rattle.smt_leaves.specs.declared.entity.EntityType.{EntityType}
-use Rattle.smt_leaves.specs.declared.entity.EntityUID.{EntityUID}
-use Rattle.smt_leaves.specs.declared.pattern.OrdPattern.{OrdPattern}
+use Rattle.smt_types.specs.Entities.{bytes_of_id, bytes_of_type}
+use Rattle.smt_types.specs.PatternView.{plain_ord_pattern}
+use Rattle.smt_types.specs.declared.entity.EntityType.{EntityType}
+use Rattle.smt_types.specs.declared.entity.EntityUID.{EntityUID}
+use Rattle.smt_types.specs.declared.pattern.OrdPattern.{OrdPattern}
 use Rattle.smt_spelling.specs.TextFaults.{text_fault}
 use Rattle.smt_bits.specs.declared.error.BitVecError.{BitVecError}
 use Rattle.smt_encode.specs.declared.error.EncodeError.{EncodeError}
 use Rattle.smt_encode.specs.declared.error.EncodeError.TheVariants.{Io, Memory, EmptyEnum as EnumRefused, EncodeStringFailed as StringRefused, EncodePatternFailed as PatternRefused, EnumMissingMember as EntityRefused, ExpectRecord as NoRecordRefused, MalformedRecordGet as NoOperandRefused, MissingTypeEncoding as TypeRefused, RecordMissingAttr as AttributeRefused, BitVecError as BitsRefused}
-use Rattle.smt_node_texts.specs.SelectorFaults.{selector_fault}
+use Rattle.smt_spelling.specs.SelectorFaults.{selector_fault}
 use Rattle.smt_encode.specs.declared.error.WriteError.{WriteError}
 use Rattle.smt_encode.specs.declared.error.WriteError.TheVariants.{Selector, Sink, Text}
 use Rattle.smt_term.specs.View.{plain_type}

@@ -1,16 +1,16 @@
 -- What the calls of a writer leave: lines that the sink got, and the names afterwards.
 use Rattle.std.specs.Prelude.{ℕ, ◌≡◌, ◌≤◌, Bool, List, ◌∷◌, Option, Some, Result, IfOk, OnOk, IsErrOf}
 use Rattle.std.specs.Io.KnownBytes.{append_known}
-use Rattle.smt_meaning.specs.Plain.{PlainTerm}
-use Rattle.smt_lines.specs.Line.{Line, spelled_lines}
-use Rattle.smt_lines.specs.Lines.{Enums, Written, encode, option_line}
-use Rattle.smt_lines.specs.NameTables.{Tables}
+use Rattle.law_terms.specs.Plain.{PlainTerm}
+use Rattle.law_lines.specs.Line.{Line, spelled_lines}
+use Rattle.law_lines.specs.Lines.{Enums, Written, encode, option_line}
+use Rattle.law_lines.specs.NameTables.{Tables}
 use Rattle.smt_script.specs.Sink.{Rose}
-use Rattle.smt_node_tables.specs.View.{place_of}
-use Rattle.smt_node_tables.specs.declared.id.NodeId.{NodeId}
-use Rattle.smt_node_texts.specs.Names.{enums_under, nodes_under, texts_under, KeepTables, StandsOn}
-use Rattle.smt_node_texts.specs.NodeTexts.{text_at}
-use Rattle.smt_node_texts.specs.LookUps.{look_ups_left}
+use Rattle.smt_nodes.specs.View.{place_of}
+use Rattle.smt_nodes.specs.declared.id.NodeId.{NodeId}
+use Rattle.smt_spelling.specs.Names.{enums_under, nodes_under, texts_under, KeepTables, StandsOn}
+use Rattle.smt_spelling.specs.NodeTexts.{text_at}
+use Rattle.smt_spelling.specs.LookUps.{look_ups_left}
 use Rattle.smt_encode.specs.declared.writer.Writer.{Writer}
 
 -- The texts of a writer are those of these tables.

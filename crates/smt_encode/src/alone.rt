@@ -3,20 +3,20 @@ ghost use Rattle.std.specs.Prelude.{◌≡◌, ◌++◌, ◌||◌, List, [], IfO
 ghost use Rattle.std.specs.Rc.{rc_str_bytes};
 ghost use Rattle.std.specs.Result.{is_err};
 ghost use Rattle.std.specs.String.{string_bytes};
-ghost use Rattle.smt_characters.specs.LineTexts.{comment_text, declare_const_text, declare_datatype_text, define_fun_text};
-ghost use Rattle.smt_characters.specs.Quoting.{quoted_id};
-ghost use Rattle.smt_characters.specs.SharedTexts.{texts};
+ghost use Rattle.law_texts.specs.LineTexts.{comment_text, declare_const_text, declare_datatype_text, define_fun_text};
+ghost use Rattle.law_texts.specs.Quoting.{quoted_id};
+ghost use Rattle.law_texts.specs.SharedTexts.{texts};
 ghost use Rattle.smt_encode.specs.Alone.{encoded, fault_of_entity, fault_of_type, line_of_entity, name_of_entity, record_body_text, set_body_text, sorts_given};
-ghost use Rattle.smt_node_texts.specs.Entries.{entry_name};
-ghost use Rattle.smt_leaves.specs.Entities.{bytes_of_id, bytes_of_type};
-ghost use Rattle.smt_leaves.specs.ExtensionView.{plain_kind};
-ghost use Rattle.smt_leaves.specs.Pairs.{attributes_in};
-ghost use Rattle.smt_lines.specs.Line.{spelled_lines};
-ghost use Rattle.smt_lexicon.specs.Reading.{Expression};
-ghost use Rattle.smt_lines.specs.EntryNames.{kind_name};
-ghost use Rattle.smt_lines.specs.LineForms.{entity_lines, kind_lines, record_lines};
-ghost use Rattle.smt_lines.specs.Lines.{members_of, next_entity, next_record, next_term};
-ghost use Rattle.smt_lines.specs.NameTables.{Tables};
+ghost use Rattle.smt_spelling.specs.NodeEntries.{entry_name};
+ghost use Rattle.smt_types.specs.Entities.{bytes_of_id, bytes_of_type};
+ghost use Rattle.smt_types.specs.ExtensionView.{plain_kind};
+ghost use Rattle.smt_types.specs.Pairs.{attributes_in};
+ghost use Rattle.law_lines.specs.Line.{spelled_lines};
+ghost use Rattle.law_texts.specs.Reading.{Expression};
+ghost use Rattle.law_lines.specs.EntryNames.{kind_name};
+ghost use Rattle.law_lines.specs.LineForms.{entity_lines, kind_lines, record_lines};
+ghost use Rattle.law_lines.specs.Lines.{members_of, next_entity, next_record, next_term};
+ghost use Rattle.law_lines.specs.NameTables.{Tables};
 ghost use Rattle.smt_spelling.specs.Entries.{entry_bytes, PlainEntry, SaysEntry};
 ghost use Rattle.smt_spelling.specs.Spelled.{AreSpelled};
 
@@ -79,7 +79,7 @@ fn record_body(alloc: Global, sort: &str, fields: &[Text]) -> Result<String, All
 
 impl<S: Sink> Writer<'_, S> {
     ghost use Rattle.smt_encode.specs.Alone.{PutsAlone, PutUnder};
-    ghost use Rattle.smt_node_texts.specs.Names.{enums_under, AreTables};
+    ghost use Rattle.smt_spelling.specs.Names.{enums_under, AreTables};
 
     /// Puts the datatype of these constructors.
     pub(crate) fn put_type(&mut self, id: &str, mks: &[Text]) -> Result<Text, WriteError>

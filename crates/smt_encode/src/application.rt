@@ -1,26 +1,25 @@
 // The line of one application, by the texts of its operands as they stand.
 ghost use Rattle.std.specs.Prelude.{◌≡◌, ◌∷◌, [], IfOk, IsTrue, false, is_some, map};
 ghost use Rattle.std.specs.Rc.{rc_str_bytes};
-ghost use Rattle.smt_characters.specs.LineTexts.{define_fun_text};
-ghost use Rattle.smt_characters.specs.SharedTexts.{texts};
+ghost use Rattle.law_texts.specs.LineTexts.{define_fun_text};
+ghost use Rattle.law_texts.specs.SharedTexts.{texts};
 ghost use Rattle.smt_encode.specs.Applied.{application_line, begins_with_function, fault_of_application, selection_text};
-ghost use Rattle.smt_node_texts.specs.SelectorFaults.{fault_of_selection};
-ghost use Rattle.smt_node_texts.specs.NodeLines.{meaning_fault};
+ghost use Rattle.smt_spelling.specs.SelectorFaults.{fault_of_selection};
+ghost use Rattle.smt_spelling.specs.NodeLines.{meaning_fault};
 ghost use Rattle.smt_encode.specs.Refusals.{write_fault};
-ghost use Rattle.smt_graph.specs.Nodes.{FunctionMeaning};
-ghost use Rattle.smt_lines.specs.LineForms.{operator_head};
-ghost use Rattle.smt_lines.specs.Lines.{encode_function, encode_head, next_term};
-ghost use Rattle.smt_lines.specs.NameTables.{Tables};
-ghost use Rattle.smt_meaning.specs.Plain.{RecordGetOp, UufOp, terms};
+ghost use Rattle.law_terms.specs.Nodes.{FunctionMeaning};
+ghost use Rattle.law_lines.specs.LineForms.{operator_head};
+ghost use Rattle.law_lines.specs.Lines.{encode_function, encode_head, next_term};
+ghost use Rattle.law_lines.specs.NameTables.{Tables};
+ghost use Rattle.law_terms.specs.Plain.{RecordGetOp, UufOp, terms};
 ghost use Rattle.smt_spelling.specs.TextFaults.{pattern_fault, Finds};
 ghost use Rattle.smt_term.specs.View.{plain_function, plain_op, plain_term, plain_type};
 
 use crate::error::WriteError;
 use crate::writer::Writer;
-use smt_node_texts::SelectorError;
 use smt_nodes::Subject;
 use smt_script::{Sink, SinkError};
-use smt_spelling::{application_body, call_text};
+use smt_spelling::{SelectorError, application_body, call_text};
 use smt_term::{Attr, Op, Term, TermType, Text, Uuf};
 use std::marker::Brand;
 use std::sync::ledger::Blank;
@@ -28,7 +27,7 @@ use std::sync::ledger::Blank;
 impl<S: Sink> Writer<'_, S> {
     ghost use Rattle.smt_encode.specs.Alone.{PutsAlone, PutUnder};
     ghost use Rattle.smt_encode.specs.Applied.{WroteApplied};
-    ghost use Rattle.smt_node_texts.specs.Names.{enums_under, AreTables};
+    ghost use Rattle.smt_spelling.specs.Names.{enums_under, AreTables};
     ghost use Rattle.smt_encode.specs.Steps.{FaultCounted, HasTables};
 
     /// Puts the definition of an attribute of a value of this type, by the value's text, under the name that is next.

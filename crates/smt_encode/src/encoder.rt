@@ -1,44 +1,44 @@
 // The encoder, from terms to the lines of a script.
 ghost use Rattle.std.specs.Prelude.{ℕ, List, ◌≡◌, ◌≤◌, ◌+◌, ◌++◌, ◌||◌, ◌∷◌, Bool, IsTrue, [], false, length, IfOk, None, OnOk, is_some, map, option_map};
 ghost use Rattle.std.specs.Rc.{rc_str_bytes};
-ghost use Rattle.smt_characters.specs.LineTexts.{comment_text, declare_const_text, declare_datatype_text, define_fun_text};
-ghost use Rattle.smt_characters.specs.Quoting.{quoted_id};
-ghost use Rattle.smt_characters.specs.SharedTexts.{texts};
-ghost use Rattle.smt_leaves.specs.Entities.{bytes_of_id, bytes_of_type};
-ghost use Rattle.smt_leaves.specs.Enums.{enums_of};
-ghost use Rattle.smt_leaves.specs.ExtensionView.{plain_kind};
-ghost use Rattle.smt_leaves.specs.Pairs.{attributes_in};
-ghost use Rattle.smt_meaning.specs.Faults.{first_fault, term_fault, type_fault};
-ghost use Rattle.smt_meaning.specs.Plain.{PlainTerm, terms};
-ghost use Rattle.smt_meaning.specs.Typing.{AreBoolean, AreTyped};
-ghost use Rattle.smt_graph.specs.Nodes.{FunctionMeaning, TermMeaning, TypeMeaning};
+ghost use Rattle.law_texts.specs.LineTexts.{comment_text, declare_const_text, declare_datatype_text, define_fun_text};
+ghost use Rattle.law_texts.specs.Quoting.{quoted_id};
+ghost use Rattle.law_texts.specs.SharedTexts.{texts};
+ghost use Rattle.smt_types.specs.Entities.{bytes_of_id, bytes_of_type};
+ghost use Rattle.smt_types.specs.Enums.{enums_of};
+ghost use Rattle.smt_types.specs.ExtensionView.{plain_kind};
+ghost use Rattle.smt_types.specs.Pairs.{attributes_in};
+ghost use Rattle.law_terms.specs.Faults.{first_fault, term_fault, type_fault};
+ghost use Rattle.law_terms.specs.Plain.{PlainTerm, terms};
+ghost use Rattle.law_terms.specs.Typing.{AreBoolean, AreTyped};
+ghost use Rattle.law_terms.specs.Nodes.{FunctionMeaning, TermMeaning, TypeMeaning};
 ghost use Rattle.smt_term.specs.View.{plain_function, plain_op, plain_term, plain_type};
-ghost use Rattle.smt_lines.specs.Line.{spelled_lines};
-ghost use Rattle.smt_lines.specs.EntryNames.{kind_name};
-ghost use Rattle.smt_lines.specs.LineForms.{entity_lines, kind_lines, record_lines};
-ghost use Rattle.smt_lines.specs.Lines as lines;
-ghost use Rattle.smt_lines.specs.Lines.{encode_head, members_of, next_entity, next_record, next_term};
-ghost use Rattle.smt_lines.specs.NameTables.{Tables, no_names};
-ghost use Rattle.smt_lines.specs.Text.{names, text};
-ghost use Rattle.smt_headline.specs.Headline.{Headline};
-ghost use Rattle.smt_sorted.specs.WellWritten.{IsWellWritten, most_for_terms};
+ghost use Rattle.law_lines.specs.Line.{spelled_lines};
+ghost use Rattle.law_lines.specs.EntryNames.{kind_name};
+ghost use Rattle.law_lines.specs.LineForms.{entity_lines, kind_lines, record_lines};
+ghost use Rattle.law_lines.specs.Lines as lines;
+ghost use Rattle.law_lines.specs.Lines.{encode_head, members_of, next_entity, next_record, next_term};
+ghost use Rattle.law_lines.specs.NameTables.{Tables, no_names};
+ghost use Rattle.law_lines.specs.Text.{names, text};
+ghost use Rattle.law_theorem.specs.Headline.{Headline};
+ghost use Rattle.law_theorem.specs.WellWritten.{IsWellWritten, most_for_terms};
 ghost use Rattle.smt_encode.specs.Complete.{AreWritten};
-ghost use Rattle.smt_node_texts.specs.LookUps.{look_ups, IsClosed};
-ghost use Rattle.smt_node_texts.specs.NodeTexts.{HasNoTexts, StandFor};
-ghost use Rattle.smt_node_texts.specs.NodeLines.{encode_meaning, meaning_fault};
+ghost use Rattle.smt_spelling.specs.LookUps.{look_ups, IsClosed};
+ghost use Rattle.smt_spelling.specs.NodeTexts.{HasNoTexts, StandFor};
+ghost use Rattle.smt_spelling.specs.NodeLines.{encode_meaning, meaning_fault};
 ghost use Rattle.smt_nodes.specs.Interned.{nodes_of};
-ghost use Rattle.smt_node_tables.specs.Subject.{meaning_of};
-ghost use Rattle.smt_node_tables.specs.View.{places_of};
+ghost use Rattle.smt_nodes.specs.Subject.{meaning_of};
+ghost use Rattle.smt_nodes.specs.View.{places_of};
 ghost use Rattle.std.specs.List.{AllByRecursion};
-ghost use Rattle.smt_node_texts.specs.SelectorFaults.{fault_of_selection};
+ghost use Rattle.smt_spelling.specs.SelectorFaults.{fault_of_selection};
 ghost use Rattle.smt_encode.specs.Refusals.{HasCause, IsComplete};
 
 use crate::alone::settle;
 use crate::error::EncodeError;
 use crate::writer::Writer;
-use smt_node_texts::{Names, NodeNames, Steps};
 use smt_nodes::{Interner, NodeId, Subject};
 use smt_script::Sink;
+use smt_spelling::{Names, NodeNames, Steps};
 use smt_term::{
     Attr, EntityType, EntityUID, EnumTable, ExtType, Op, Term, TermType, TermVar, Text, Uuf,
 };
@@ -67,6 +67,16 @@ impl<'a, S> Encoder<'a, S> {
     ghost use Rattle.smt_encode.specs.Encoded.{enums_in, is_spent, nodes_in, sink_of, texts_in, HasNames, HasTexts, IsNameOf};
 
     /// An encoder without names over this sink, which has not encoded yet. Takes no memory, and puts nothing.
+    ///
+    /// # Examples
+    ///
+    /// ```
+    /// use kembura::{Encoder, EnumTable, ListSink};
+    ///
+    /// let enums = EnumTable::new(alloc);
+    /// let encoder = Encoder::new(alloc, &enums, ListSink::new(alloc));
+    /// assert_eq!(rt; encoder.term_count(), 0);
+    /// ```
     pub fn new(alloc: Global, enums: &'a EnumTable, script: S) -> Encoder<'a, S>
         ensures no_names { HasNames result no_names }
         ensures no_texts { HasTexts result no_names }
@@ -155,6 +165,18 @@ impl<'a, S> Encoder<'a, S> {
     }
 
     /// The sink that it held, with what was put to it, also after an error.
+    ///
+    /// # Examples
+    ///
+    /// ```
+    /// use kembura::{Encoder, EnumTable, ListSink, Term};
+    ///
+    /// let enums = EnumTable::new(alloc);
+    /// let mut encoder = Encoder::new(alloc, &enums, ListSink::new(alloc));
+    /// encoder.encode(&[Term::from(true)])?;
+    /// let script = encoder.into_script();
+    /// assert!(rt; script.bytes().ends_with(b"(assert true)\n"));
+    /// ```
     pub fn into_script(self) -> S
         ensures { result ≡ sink_of self.entry }
     {
@@ -225,6 +247,17 @@ impl<S: Sink> Encoder<'_, S> {
     /// before it; that each term is defined at most once, by a body in which its parts stand by name or as an inline literal;
     /// and that there are at most as many commands as assertions, distinct named sorts, functions and subterms that the terms
     /// reach, and one for `Option`. By `written` each node of terms that are typed has its text then.
+    ///
+    /// # Examples
+    ///
+    /// ```
+    /// use kembura::{Encoder, EnumTable, ListSink, Term};
+    ///
+    /// let enums = EnumTable::new(alloc);
+    /// let mut encoder = Encoder::new(alloc, &enums, ListSink::new(alloc));
+    /// encoder.encode(&[Term::from(true)])?;
+    /// assert!(rt; encoder.encode(&[]).is_err());
+    /// ```
     ///
     /// # Errors
     ///

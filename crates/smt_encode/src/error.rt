@@ -2,9 +2,8 @@
 ghost use Rattle.std.specs.Prelude.{◌≡◌};
 
 use smt_bits::BitVecError;
-use smt_node_texts::SelectorError;
 use smt_script::SinkError;
-use smt_spelling::TextError;
+use smt_spelling::{SelectorError, TextError};
 use smt_term::{Attr, EntityType, EntityUID, OrdPattern, TermError, TermType, Text};
 use std::alloc::{AllocError, AllocFailed};
 use thiserror::Error;

@@ -1,24 +1,24 @@
 // The lines that one term, one type or one function needs.
 ghost use Rattle.std.specs.Prelude.{ℕ, ◌≡◌, ◌<◌, None, Some};
-ghost use Rattle.smt_graph.specs.Nodes.{Meaning};
+ghost use Rattle.law_terms.specs.Nodes.{Meaning};
 ghost use Rattle.smt_nodes.specs.Interned.{meaning_in, IsMeant};
-ghost use Rattle.smt_node_tables.specs.Subject.{meaning_of};
-ghost use Rattle.smt_node_tables.specs.View.{place_of};
-ghost use Rattle.smt_node_texts.specs.NodeLines.{encode_meaning, meaning_fault};
+ghost use Rattle.smt_nodes.specs.Subject.{meaning_of};
+ghost use Rattle.smt_nodes.specs.View.{place_of};
+ghost use Rattle.smt_spelling.specs.NodeLines.{encode_meaning, meaning_fault};
 ghost use Rattle.smt_encode.specs.Refusals.{write_fault};
 ghost use Rattle.smt_spelling.specs.TextFaults.{Finds};
 
 use crate::error::WriteError;
 use crate::writer::Writer;
-use smt_node_texts::Steps;
 use smt_nodes::{NodeId, Subject};
 use smt_script::{Sink, SinkError};
+use smt_spelling::Steps;
 use smt_term::Text;
 use std::marker::Brand;
 use std::sync::ledger::{Blank, Ledger};
 
 impl<S: Sink> Writer<'_, S> {
-    ghost use Rattle.smt_node_texts.specs.Names.{enums_under, nodes_under, HasRoom};
+    ghost use Rattle.smt_spelling.specs.Names.{enums_under, nodes_under, HasRoom};
     ghost use Rattle.smt_encode.specs.Steps.{FaultCounted, WritesStated};
     ghost use Rattle.smt_spelling.specs.Spelled.{IsSpelled};
 

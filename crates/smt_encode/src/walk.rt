@@ -2,40 +2,39 @@
 ghost use Rattle.std.specs.Prelude.{ℕ, List, [], ◌≡◌, ◌<◌, ◌≤◌, ◌+◌, Bool, false, None, OnOk, Some, IfOk, IsTrue, length, map, suc};
 ghost use Rattle.std.specs.List.{AllByRecursion};
 ghost use Rattle.std.specs.Rc.{rc_str_bytes};
-ghost use Rattle.smt_graph.specs.Meanings.{all_found, meanings};
-ghost use Rattle.smt_characters.specs.SharedTexts.{texts};
-ghost use Rattle.smt_graph.specs.Nodes.{EntityLabel, ExtensionLabel, FunctionMeaning, Meaning, RecordLabel, TermMeaning, TypeMeaning};
-ghost use Rattle.smt_node_tables.specs.Attributes.{attributes_of};
-ghost use Rattle.smt_graph.specs.Parts.{label_in, parts_in};
+ghost use Rattle.law_terms.specs.Meanings.{all_found, meanings};
+ghost use Rattle.law_texts.specs.SharedTexts.{texts};
+ghost use Rattle.law_terms.specs.Nodes.{EntityLabel, ExtensionLabel, FunctionMeaning, Meaning, RecordLabel, TermMeaning, TypeMeaning};
+ghost use Rattle.smt_nodes.specs.Attributes.{attributes_of};
+ghost use Rattle.law_terms.specs.Parts.{label_in, parts_in};
 ghost use Rattle.smt_nodes.specs.Interned.{meaning_in, nodes_of, IsMeant};
-ghost use Rattle.smt_node_tables.specs.View.{place_of, places_of, plain_label};
-ghost use Rattle.smt_lexicon.specs.Reading.{Expression};
+ghost use Rattle.smt_nodes.specs.View.{place_of, places_of, plain_label};
+ghost use Rattle.law_texts.specs.Reading.{Expression};
 ghost use Rattle.smt_script.specs.Sink.{Puts};
-ghost use Rattle.smt_leaves.specs.Entities.{bytes_of_type};
-ghost use Rattle.smt_leaves.specs.ExtensionView.{plain_kind};
-ghost use Rattle.smt_meaning.specs.Faults.{entity_type_fault};
-ghost use Rattle.smt_meaning.specs.Plain.{AttributeTypes, EntityType as EntityTypeOf, ExtensionType, PlainFunction, PlainTerm, RecordType};
-ghost use Rattle.smt_lines.specs.Line.{spelled_lines};
-ghost use Rattle.smt_lines.specs.Lines.{made_of, members_of};
-ghost use Rattle.smt_lines.specs.NameTables.{Tables};
-ghost use Rattle.smt_lines.specs.Spelling.{spelled};
-ghost use Rattle.smt_node_texts.specs.NodeLines.{encode_meaning, encode_meanings, has_entry, meaning_fault, meanings_fault};
-ghost use Rattle.smt_node_texts.specs.Entries.{declare_by, declare_function, enter_by, has_inline, heading, inline_by, inline_fault, own_lines, rendering_in, written_parts};
+ghost use Rattle.smt_types.specs.Entities.{bytes_of_type};
+ghost use Rattle.smt_types.specs.ExtensionView.{plain_kind};
+ghost use Rattle.law_terms.specs.Faults.{entity_type_fault};
+ghost use Rattle.law_terms.specs.Plain.{AttributeTypes, EntityType as EntityTypeOf, ExtensionType, PlainFunction, PlainTerm, RecordType};
+ghost use Rattle.law_lines.specs.Line.{spelled_lines};
+ghost use Rattle.law_lines.specs.Lines.{made_of, members_of};
+ghost use Rattle.law_lines.specs.NameTables.{Tables};
+ghost use Rattle.law_lines.specs.Spelling.{spelled};
+ghost use Rattle.smt_spelling.specs.NodeLines.{encode_meaning, encode_meanings, has_entry, meaning_fault, meanings_fault};
+ghost use Rattle.smt_spelling.specs.NodeEntries.{declare_by, declare_function, enter_by, has_inline, heading, inline_by, inline_fault, own_lines, rendering_in, written_parts};
 ghost use Rattle.smt_spelling.specs.Entries.{PlainEntry, SaysEntry};
 ghost use Rattle.smt_encode.specs.Complete.{is_typed, AreTypedMeanings, HaveWrittenParts};
-ghost use Rattle.smt_node_texts.specs.LookUps.{selections, IsClosed};
-ghost use Rattle.smt_node_texts.specs.NodeTexts.{text_at, IsNodeOf};
+ghost use Rattle.smt_spelling.specs.LookUps.{selections, IsClosed};
+ghost use Rattle.smt_spelling.specs.NodeTexts.{text_at, IsNodeOf};
 ghost use Rattle.smt_encode.specs.Refusals.{write_fault};
 ghost use Rattle.smt_spelling.specs.TextFaults.{Finds};
-ghost use Rattle.smt_node_texts.specs.Texts.{kept_at};
-ghost use Rattle.smt_node_texts.specs.Renderings.{plain_rendering};
+ghost use Rattle.smt_spelling.specs.Texts.{kept_at};
+ghost use Rattle.smt_spelling.specs.Renderings.{plain_rendering};
 
 use crate::error::WriteError;
 use crate::writer::Writer;
-use smt_node_texts::{Rendering, Shape, Steps, entry_from, inline_text, rendering_of};
 use smt_nodes::{AttrList, Label, Node, NodeId};
 use smt_script::{Sink, SinkError, SmtLibScript};
-use smt_spelling::Entry;
+use smt_spelling::{Entry, Rendering, Shape, Steps, entry_from, inline_text, rendering_of};
 use smt_term::{EntityType, ExtType, Text};
 use std::sync::ledger::Ledger;
 
@@ -50,7 +49,7 @@ fn put_heading<S: Sink>(script: &mut S, label: &Label) -> Result<(), SinkError>
 }
 
 impl<S: Sink> Writer<'_, S> {
-    ghost use Rattle.smt_node_texts.specs.Names.{enums_under, nodes_under, texts_under, HasRoom};
+    ghost use Rattle.smt_spelling.specs.Names.{enums_under, nodes_under, texts_under, HasRoom};
     ghost use Rattle.smt_encode.specs.Steps.{look_ups_in, HasTables, Walks, WritesHere, WritesStated};
     ghost use Rattle.smt_spelling.specs.Spelled.{AreSpelled, IsSpelled};
 

@@ -1,26 +1,26 @@
 // The writer: lines that are put to a sink, and the names under which they are put.
 ghost use Rattle.std.specs.Prelude.{ℕ, List, ◌≡◌, ◌<◌, ◌≤◌, ◌+◌, Bool, IsTrue, length, OnOk, None, map};
 ghost use Rattle.std.specs.List.{AllByRecursion};
-ghost use Rattle.smt_meaning.specs.Faults.{first_fault};
-ghost use Rattle.smt_meaning.specs.Plain.{PlainTerm};
-ghost use Rattle.smt_meaning.specs.Typing.{AreTyped};
+ghost use Rattle.law_terms.specs.Faults.{first_fault};
+ghost use Rattle.law_terms.specs.Plain.{PlainTerm};
+ghost use Rattle.law_terms.specs.Typing.{AreTyped};
 ghost use Rattle.smt_term.specs.View.{plain_term};
-ghost use Rattle.smt_lexicon.specs.Reading.{Expression};
-ghost use Rattle.smt_lines.specs.Line.{Assert, spelled_line};
-ghost use Rattle.smt_lines.specs.Lines.{option_line};
-ghost use Rattle.smt_lines.specs.NameTables.{Tables};
+ghost use Rattle.law_texts.specs.Reading.{Expression};
+ghost use Rattle.law_lines.specs.Line.{Assert, spelled_line};
+ghost use Rattle.law_lines.specs.Lines.{option_line};
+ghost use Rattle.law_lines.specs.NameTables.{Tables};
 ghost use Rattle.smt_nodes.specs.Interned.{nodes_of};
-ghost use Rattle.smt_node_tables.specs.View.{places_of};
+ghost use Rattle.smt_nodes.specs.View.{places_of};
 ghost use Rattle.smt_encode.specs.Complete.{AreWritten, HaveWrittenParts};
-ghost use Rattle.smt_node_texts.specs.LookUps.{look_ups, IsClosed};
-ghost use Rattle.smt_node_texts.specs.NodeTexts.{HasNoTexts, StandFor};
+ghost use Rattle.smt_spelling.specs.LookUps.{look_ups, IsClosed};
+ghost use Rattle.smt_spelling.specs.NodeTexts.{HasNoTexts, StandFor};
 ghost use Rattle.smt_encode.specs.Refusals.{write_fault};
 ghost use Rattle.smt_spelling.specs.TextFaults.{Finds};
 
 use crate::error::WriteError;
-use smt_node_texts::{Names, Steps};
 use smt_nodes::NodeId;
 use smt_script::{Sink, SinkError, SmtLibScript};
+use smt_spelling::{Names, Steps};
 use smt_term::{Term, Text};
 use std::alloc::Global;
 use std::marker::Brand;
@@ -37,7 +37,7 @@ pub(crate) struct Writer<'a, S> {
 }
 
 impl<S: Sink> Writer<'_, S> {
-    ghost use Rattle.smt_node_texts.specs.Names.{enums_under, nodes_under, texts_under};
+    ghost use Rattle.smt_spelling.specs.Names.{enums_under, nodes_under, texts_under};
     ghost use Rattle.smt_encode.specs.Steps.{FaultCounted, HasTables, PutsLine, Wrote, WritesScript};
     ghost use Rattle.smt_spelling.specs.Spelled.{AreSpelled};
 

@@ -3,11 +3,11 @@ use Rattle.std.proofs.Common.{lit<, ◌≡◌, ℕ, zero, suc, ◌^◌, ◌<◌,
 use Rattle.smt_ext.specs.declared.decimal.DecimalError.{DecimalError}
 use Rattle.smt_ext.specs.declared.decimal.DecimalError.TheVariants.{ParseError, Memory}
 use Rattle.smt_ext.specs.Decimal.{HoldsDecimalText, IsDecimalRefusal, HasDecimalParts, ten_thousandths, IsDecimalText, IsNoDecimal}
-use Rattle.smt_characters.specs.Characters.{is_digit}
-use Rattle.smt_characters.specs.Digits.{signed_number}
-use Rattle.smt_arithmetic.specs.Longs.{IsLong}
-use Rattle.smt_characters.specs.Front.{IsRun, IsSigned}
-use Rattle.smt_characters.proofs.Runs.{one_run, one_sign, sign_of, numeral_unsigned, digits_of_numeral}
+use Rattle.law_texts.specs.Characters.{is_digit}
+use Rattle.law_texts.specs.Digits.{signed_number}
+use Rattle.law_numbers.specs.Longs.{IsLong}
+use Rattle.law_texts.specs.Front.{IsRun, IsSigned}
+use Rattle.law_texts.proofs.Runs.{one_run, one_sign, sign_of, numeral_unsigned, digits_of_numeral}
 
 -- What is split off is the parts.
 pub parts_are : (text rest whole after w f : List ℕ) (negative n : Bool) → IsSigned text negative rest → IsRun is_digit rest whole after → HasDecimalParts text n w f → (negative ≡ n) × (whole ≡ w) × (after ≡ 46 ∷ f)

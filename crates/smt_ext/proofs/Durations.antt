@@ -7,13 +7,14 @@ use Rattle.smt_ext.specs.declared.datetime.span.Fault.{Fault}
 use Rattle.smt_ext.specs.declared.datetime.span.Fault.TheVariants.{Form, NoDigits, OutOfRange}
 use Rattle.smt_ext.specs.declared.datetime.span.TimeUnit.{TimeUnit}
 use Rattle.smt_ext.specs.declared.datetime.span.TimeUnit.TheVariants.{Millisecond, Second, Minute, Hour, FullDay}
-use Rattle.smt_characters.specs.Characters.{is_digit}
-use Rattle.smt_characters.specs.Digits.{is_numeral, decimal_number, minus_if, signed_number}
-use Rattle.smt_arithmetic.specs.Longs.{IsLong}
-use Rattle.smt_characters.specs.Front.{begins_without, IsSigned}
+use Rattle.law_texts.specs.Characters.{is_digit}
+use Rattle.law_texts.specs.Digits.{is_numeral, decimal_number, minus_if, signed_number}
+use Rattle.law_numbers.specs.Longs.{IsLong}
+use Rattle.law_texts.specs.Front.{begins_without, IsSigned}
 use Rattle.smt_ext.specs.DurationRefusal.{unit_name, unit_milliseconds, all_units, EndsInPart, HasNoPart, begins_past_ascii, IsSoundPart, IsPartFault, IsFirstFault, HasSum, IsFaultBehindSign, HasFault}
 use Rattle.smt_ext.specs.DurationText.{Parts, part_text, part_number, IsPart, parts_text, parts_number, ArePartsOfDuration, IsDurationText}
-use Rattle.smt_characters.proofs.Runs.{one_run, one_sign, sign_of, numeral_unsigned, digits_of_numeral, list_all-reverse, head_is}
+use Rattle.law_texts.proofs.Runs.{one_run, one_sign, sign_of, numeral_unsigned, digits_of_numeral, list_all-reverse, head_is}
+use Rattle.law_texts.proofs.Numbers.{numeral_from}
 
 -- ---- one part is found in one way
 
@@ -67,10 +68,6 @@ one_sum negative (unit ∷ units) rest m n (inr s) (inr t) =
     s.6 ∙ ap₂ (λ (a : ℕ) (d : List ℕ). a + decimal_number d * unit_milliseconds unit) more same.1 ∙ sym t.6
 
 -- ---- from a sum to the parts
-
-numeral_from : (ds : List ℕ) → 0 < length ds → list_all is_digit ds ≡ true → is_numeral ds ≡ true
-numeral_from [] l h = absurd (omega arith)
-numeral_from (d ∷ ds) l h = h
 
 some_digits : (ds : List ℕ) → is_numeral ds ≡ true → 0 < length ds
 some_digits [] h = absurd (false≢true h)
@@ -146,10 +143,6 @@ sum_at_end negative units rest u r = rw u (r, refl)
 pub fault_at_end : (negative : Bool) (units : List TimeUnit) (rest : List ℕ) → units ≡ [] → eqb (length rest) 0 ≡ false → IsFirstFault negative units rest Form
 unfolding IsFirstFault
 fault_at_end negative units rest u r = rw u (some_from rest r, refl)
-
-pub empty_from : (bytes : List ℕ) → eqb (length bytes) 0 ≡ true → bytes ≡ []
-empty_from [] h = refl
-empty_from (b ∷ bs) h = absurd (let e = eqb-true (length (b ∷ bs)) 0 h in omega arith)
 
 -- ---- from the parts to their sum
 

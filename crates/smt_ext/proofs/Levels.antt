@@ -8,7 +8,7 @@ use Rattle.smt_ext.specs.declared.datetime.Duration.{Duration as Span}
 use Rattle.smt_ext.specs.declared.decimal.Decimal.{Decimal as Number}
 use Rattle.smt_ext.specs.declared.ext.Ext.TheVariants.{Decimal, Ipaddr, Datetime, Duration}
 use Rattle.smt_ext.proofs.NumberSame.{same_datetime, same_decimal, same_duration}
-use Rattle.smt_ip.proofs.Levels.{level_ranges}
+use Rattle.smt_ext.proofs.IpLevels.{level_ranges}
 
 pub level_decimals : (a b : Number) → int_cmp a.ten_thousandths b.ten_thousandths ≡ Equal → a ≡ b
 level_decimals a b h = same_decimal a b (search rules)

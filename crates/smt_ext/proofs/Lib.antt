@@ -2,6 +2,14 @@ pub mod Choices
 pub mod Datetimes
 pub mod Decimals
 pub mod Durations
+pub mod IpContained
+pub mod IpCounts
+pub mod IpGrammar
+pub mod IpLevels
+pub mod IpPrinted
+pub mod IpReads
+pub mod IpSame
+pub mod IpSplits
 pub mod Levels
 pub mod Midnights
 pub mod NumberSame

@@ -1,18 +1,15 @@
 -- The printed form of a decimal, and that it is read back.
-use Rattle.std.proofs.Common.{◌≡◌, ℕ, ◌+◌, ◌/◌, ◌%◌, ◌^◌, ◌<◌, ◌≤◌, true, false, List, [], ◌∷◌, ◌++◌, refl, sym, ap, ◌∙◌, inl, inr, arith, length, ℤ, pos, negsuc, lit≤, rules}
+use Rattle.std.proofs.Common.{◌≡◌, ℕ, ◌+◌, ◌/◌, ◌%◌, ◌^◌, ◌<◌, ◌≤◌, true, false, List, [], ◌∷◌, ◌++◌, refl, sym, ap, ◌∙◌, inl, inr, arith, ℤ, pos, negsuc, lit≤}
 use Rattle.std.specs.Prelude.{unsigned_abs, int_lt}
-use Rattle.std.specs.List.{list_all}
 use Rattle.std.specs.Fmt.{decimal, styled_decimal, format_spec, padded_integral, char_count}
 use Rattle.std.proofs.lemmas.Bool.{cases_lt, ltb-true, false≢true}
 use Rattle.std.proofs.lemmas.Fmt.{decimal_digit, decimal_step, digits_decimal, digits_value-decimal, decimal_nonempty}
-use Rattle.std.proofs.lemmas.Str.Parse.{IsNumeralModel, numerals_by_fold}
 use Rattle.smt_ext.specs.Decimal.{IsDecimalText}
-use Rattle.smt_characters.specs.Characters.{is_digit}
-use Rattle.smt_characters.specs.Digits.{is_numeral, padded, signed_number}
-use Rattle.smt_arithmetic.specs.Longs.{IsLong}
+use Rattle.law_texts.specs.Digits.{padded, signed_number}
+use Rattle.law_numbers.specs.Longs.{IsLong}
 use Rattle.smt_ext.specs.Printed.{is_below_zero, decimal_text}
-use Rattle.smt_characters.proofs.Numbers.{from_digits}
-use Rattle.smt_characters.proofs.Fields.{padded_digits, number-padded}
+use Rattle.law_texts.proofs.Numbers.{numeral_model, numeral_from}
+use Rattle.law_texts.proofs.Fields.{padded_digits, number-padded}
 
 -- ---- four digits with zeros in front
 
@@ -60,13 +57,6 @@ signed_again (negsuc n) = refl
 
 -- ---- reading back
 
-model : IsNumeralModel (λ ds. list_all is_digit ds ≡ true) (from_digits 0)
-model = numerals_by_fold _ (search rules) from_digits (search rules)
-
-numeral_from : (ds : List ℕ) → 0 < length ds → list_all is_digit ds ≡ true → is_numeral ds ≡ true
-numeral_from [] l h = absurd (omega arith)
-numeral_from (d ∷ ds) l h = h
-
 abs_small : (v : ℤ) → IsLong v → unsigned_abs v < 2 ^ 64
 abs_small (pos n) h = omega arith
 abs_small (negsuc n) h = omega arith
@@ -83,10 +73,10 @@ printed_is_read v h =
       fraction = padded 4 (m % 10000);
       parts = record {
         spelled = refl;
-        whole_digits = numeral_from (decimal (m / 10000)) (decimal_nonempty (m / 10000) small) (digits_decimal model (m / 10000) small);
+        whole_digits = numeral_from (decimal (m / 10000)) (decimal_nonempty (m / 10000) small) (digits_decimal numeral_model (m / 10000) small);
         fraction_digits = padded_digits 4 (m % 10000) low;
         places = lit≤ tt;
       };
-      number = signed_again v ∙ ap (signed_number (is_below_zero v)) (rw (digits_value-decimal model (m / 10000) small, number-padded 4 (m % 10000) low) (omega arith));
+      number = signed_again v ∙ ap (signed_number (is_below_zero v)) (rw (digits_value-decimal numeral_model (m / 10000) small, number-padded 4 (m % 10000) low) (omega arith));
       fits = h;
     }

@@ -1,7 +1,7 @@
 -- What is read of a datetime's text is what it is written with, and nothing else is.
 use Rattle.std.proofs.Common.{subst, inl, inr, ◌≡◌, ℕ, ◌^◌, ◌<◌, Bool, true, false, cond, ◌&&◌, eqb, Option, Some, None, List, [], ◌∷◌, ◌++◌, refl, sym, ap, ap₂, ◌∙◌, take, drop, length, arith}
 use Rattle.std.specs.Prelude.{if◌then◌else◌}
-use Rattle.smt_characters.specs.Front.{begins_without, byte_at}
+use Rattle.law_texts.specs.Front.{begins_without, byte_at}
 use Rattle.std.specs.List.{list_all}
 use Rattle.std.proofs.lemmas.List.{take-append-drop}
 use Rattle.std.proofs.Math.Seq.{take-append_seam, drop-append_seam}
@@ -12,11 +12,12 @@ use Rattle.smt_ext.specs.declared.datetime.stamp.Clock.{Clock}
 use Rattle.smt_ext.specs.declared.datetime.stamp.Stamp.{Stamp}
 use Rattle.smt_ext.specs.declared.datetime.stamp.Zone.{Zone}
 use Rattle.smt_ext.specs.declared.datetime.stamp.Zone.TheVariants.{Utc, Offset}
-use Rattle.smt_ext.specs.DatetimeReading.{◌>>=◌, is_empty, field_at, day_at, offset_at, zone_at, fraction_behind, fraction_at, clock_at, stamp_at}
+use Rattle.smt_ext.specs.DatetimeReading.{is_empty, field_at, day_at, offset_at, zone_at, fraction_behind, fraction_at, clock_at, stamp_at}
+use Rattle.law_texts.specs.Options.{◌>>=◌}
 use Rattle.smt_ext.specs.DatetimeText.{day_text, zone_text, fraction_text, clock_text, DayFits, ZoneFits, FractionFits, ClockFits, HasStamp}
-use Rattle.smt_characters.specs.Characters.{is_digit}
-use Rattle.smt_characters.specs.Digits.{decimal_number, padded}
-use Rattle.smt_characters.proofs.Fields.{length-padded, padded_digits, number-padded, number_below, padded-number}
+use Rattle.law_texts.specs.Characters.{is_digit}
+use Rattle.law_texts.specs.Digits.{decimal_number, padded}
+use Rattle.law_texts.proofs.Fields.{length-padded, padded_digits, number-padded, number_below, padded-number}
 
 -- ---- tools
 

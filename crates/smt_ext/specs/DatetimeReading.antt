@@ -1,20 +1,15 @@
 -- What the readers of a datetime's parts answer: the part at the front of a text, and what follows it.
 use Rattle.std.specs.Prelude.{ℕ, Bool, true, false, ◌&&◌, ◌==◌, if◌then◌else◌, Option, Some, None, length, take, drop, List, [], ◌∷◌}
 use Rattle.std.specs.List.{list_all}
-use Rattle.std.specs.Option.{option_and_then}
 use Rattle.smt_ext.specs.declared.datetime.stamp.Day.{Day}
 use Rattle.smt_ext.specs.declared.datetime.stamp.Clock.{Clock}
 use Rattle.smt_ext.specs.declared.datetime.stamp.Stamp.{Stamp}
 use Rattle.smt_ext.specs.declared.datetime.stamp.Zone.{Zone}
 use Rattle.smt_ext.specs.declared.datetime.stamp.Zone.TheVariants.{Utc, Offset}
-use Rattle.smt_characters.specs.Characters.{is_digit}
-use Rattle.smt_characters.specs.Digits.{decimal_number}
-use Rattle.smt_characters.specs.Front.{byte_at}
-
-infixl 10 ◌>>=◌
--- `option_and_then` of std, written between what is read first and what is read then
-abbrev pub ◌>>=◌ : {A B : Type 0} → Option A → (A → Option B) → Option B
-o >>= f = option_and_then f o
+use Rattle.law_texts.specs.Characters.{is_digit}
+use Rattle.law_texts.specs.Digits.{decimal_number}
+use Rattle.law_texts.specs.Front.{byte_at}
+use Rattle.law_texts.specs.Options.{◌>>=◌}
 
 -- nothing is left
 abbrev pub is_empty : List ℕ → Bool

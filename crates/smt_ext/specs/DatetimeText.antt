@@ -7,8 +7,8 @@ use Rattle.smt_ext.specs.declared.datetime.stamp.Clock.{Clock}
 use Rattle.smt_ext.specs.declared.datetime.stamp.Stamp.{Stamp}
 use Rattle.smt_ext.specs.declared.datetime.stamp.Zone.{Zone}
 use Rattle.smt_ext.specs.declared.datetime.stamp.Zone.TheVariants.{Utc, Offset}
-use Rattle.smt_characters.specs.Digits.{padded, signed_number}
-use Rattle.smt_arithmetic.specs.Longs.{IsLong}
+use Rattle.law_texts.specs.Digits.{padded, signed_number}
+use Rattle.law_numbers.specs.Longs.{IsLong}
 
 -- ---- the shape: YYYY-MM-DD, alone or with Thh:mm:ss, an optional .SSS, and Z or an offset hhmm behind its sign
 

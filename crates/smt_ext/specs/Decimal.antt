@@ -3,8 +3,8 @@ use Rattle.std.specs.Prelude.{◌≡◌, ℕ, ◌+◌, ◌-◌, ◌*◌, ◌^◌
 use Rattle.std.specs.Rc.{rc_str_bytes}
 use Rattle.smt_ext.specs.declared.decimal.DecimalError.{DecimalError}
 use Rattle.smt_ext.specs.declared.decimal.DecimalError.TheVariants.{ParseError, Memory}
-use Rattle.smt_characters.specs.Digits.{is_numeral, decimal_number, minus_if, signed_number}
-use Rattle.smt_arithmetic.specs.Longs.{IsLong}
+use Rattle.law_texts.specs.Digits.{is_numeral, decimal_number, minus_if, signed_number}
+use Rattle.law_numbers.specs.Longs.{IsLong}
 
 -- The text is an optional minus, digits, a point, and one to four digits.
 pub record HasDecimalParts (text : List ℕ) (negative : Bool) (whole fraction : List ℕ) : Type 0 where

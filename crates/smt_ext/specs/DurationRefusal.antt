@@ -8,10 +8,10 @@ use Rattle.smt_ext.specs.declared.datetime.span.Fault.{Fault}
 use Rattle.smt_ext.specs.declared.datetime.span.Fault.TheVariants.{Form, NoDigits, OutOfRange}
 use Rattle.smt_ext.specs.declared.datetime.span.TimeUnit.{TimeUnit}
 use Rattle.smt_ext.specs.declared.datetime.span.TimeUnit.TheVariants.{Millisecond, Second, Minute, Hour, FullDay}
-use Rattle.smt_characters.specs.Characters.{is_digit}
-use Rattle.smt_characters.specs.Digits.{decimal_number, signed_number}
-use Rattle.smt_arithmetic.specs.Longs.{IsLong}
-use Rattle.smt_characters.specs.Front.{begins_without, IsSigned}
+use Rattle.law_texts.specs.Characters.{is_digit}
+use Rattle.law_texts.specs.Digits.{decimal_number, signed_number}
+use Rattle.law_numbers.specs.Longs.{IsLong}
+use Rattle.law_texts.specs.Front.{begins_without, IsSigned}
 
 -- how a unit is written
 abbrev pub unit_name : TimeUnit → List ℕ

@@ -1,7 +1,7 @@
 -- The texts of durations.
 use Rattle.std.specs.Prelude.{◌≡◌, ℕ, ◌+◌, ◌*◌, ◌<◌, Bool, IsTrue, ℤ, Option, Some, None, codes, length, List, [], ◌++◌}
-use Rattle.smt_characters.specs.Digits.{is_numeral, decimal_number, minus_if, signed_number}
-use Rattle.smt_arithmetic.specs.Longs.{IsLong}
+use Rattle.law_texts.specs.Digits.{is_numeral, decimal_number, minus_if, signed_number}
+use Rattle.law_numbers.specs.Longs.{IsLong}
 
 -- The digits of each part, as far as it is there.
 pub record Parts : Type 0 where

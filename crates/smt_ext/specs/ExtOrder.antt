@@ -1,11 +1,11 @@
 -- The order of the values of the four types.
 use Rattle.std.specs.Prelude.{◌≡◌}
 use Rattle.std.specs.declared.cmp.Ordering.{Ordering}
-use Rattle.smt_arithmetic.specs.Extensions.{PlainExtension, DecimalOf, DatetimeOf, DurationOf, extension_literal_cmp}
+use Rattle.law_numbers.specs.Extensions.{PlainExtension, DecimalOf, DatetimeOf, DurationOf, extension_literal_cmp}
 use Rattle.smt_ext.specs.declared.ext.Ext.{Ext}
 use Rattle.smt_ext.specs.declared.ext.Ext.TheVariants.{Decimal, Ipaddr, Datetime, Duration}
-use Rattle.smt_ip.specs.IpOrder.{plain_range}
-use Rattle.smt_ip.specs.IpView.{range_of}
+use Rattle.smt_ext.specs.IpOrder.{plain_range}
+use Rattle.smt_ext.specs.IpView.{range_of}
 use Rattle.smt_ext.specs.Milliseconds.{datetime_value, duration_value}
 
 -- the number or the range that a value stands for, as literals of terms have it

@@ -5,8 +5,8 @@ use Rattle.smt_ext.specs.DatetimeText.{IsDatetimeText}
 use Rattle.smt_ext.specs.Decimal.{IsDecimalRefusal, IsDecimalText}
 use Rattle.smt_ext.specs.DurationRefusal.{IsDurationRefusal}
 use Rattle.smt_ext.specs.DurationText.{IsDurationText}
-use Rattle.smt_ip.specs.IpText.{WritesRange}
-use Rattle.smt_ip.specs.IpView.{range_of, RefusesText}
+use Rattle.smt_ext.specs.IpText.{WritesRange}
+use Rattle.smt_ext.specs.IpView.{range_of, RefusesText}
 use Rattle.smt_ext.specs.Milliseconds.{datetime_value, duration_value}
 use Rattle.smt_ext.specs.declared.datetime.error.DatetimeError.{DatetimeError}
 use Rattle.smt_ext.specs.declared.datetime.error.DatetimeError.TheVariants as moments
@@ -16,8 +16,8 @@ use Rattle.smt_ext.specs.declared.ext.Ext.{Ext}
 use Rattle.smt_ext.specs.declared.ext.Ext.TheVariants.{Decimal, Ipaddr, Datetime, Duration}
 use Rattle.smt_ext.specs.declared.ext.ExtParseError.{ExtParseError}
 use Rattle.smt_ext.specs.declared.ext.ExtParseError.TheVariants as refusals
-use Rattle.smt_ip.specs.declared.error.IPError.{IPError}
-use Rattle.smt_ip.specs.declared.error.IPError.TheVariants as ranges
+use Rattle.smt_ext.specs.declared.error.IPError.{IPError}
+use Rattle.smt_ext.specs.declared.error.IPError.TheVariants as ranges
 
 -- ---- values
 

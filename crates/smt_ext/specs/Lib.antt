@@ -7,5 +7,13 @@ pub mod DurationText
 pub mod Examples
 pub mod ExtOrder
 pub mod Extensions
+pub mod IpExamples
+pub mod IpOrder
+pub mod IpPrefixBits
+pub mod IpPrinted
+pub mod IpRanges
+pub mod IpReader
+pub mod IpText
+pub mod IpView
 pub mod Milliseconds
 pub mod Printed

@@ -1,7 +1,7 @@
 -- The printed form of a decimal.
 use Rattle.std.specs.Prelude.{ℕ, ◌/◌, ◌%◌, Bool, true, false, ℤ, pos, negsuc, unsigned_abs, codes, List, ◌++◌}
 use Rattle.std.specs.Fmt.{decimal}
-use Rattle.smt_characters.specs.Digits.{padded, minus_if}
+use Rattle.law_texts.specs.Digits.{padded, minus_if}
 
 -- whether a minus stands first
 abbrev pub is_below_zero : ℤ → Bool

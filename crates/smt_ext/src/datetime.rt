@@ -2,7 +2,7 @@
 ghost use Rattle.std.specs.Prelude.{◌≡◌, ◌↔◌, ℤ, pos, ◌+ℤ◌, ◌-ℤ◌, ◌≤ℤ◌, ◌<ℤ◌, IsSome, IfSome, IsSomeAnd, IfOk, IfErr, IsOkAnd};
 ghost use Rattle.smt_ext.specs.DatetimeRefusal.{HoldsText, IsDatetimeRefusal};
 ghost use Rattle.smt_ext.specs.DatetimeText.{IsDatetimeText};
-ghost use Rattle.smt_arithmetic.specs.Longs.{IsLong};
+ghost use Rattle.law_numbers.specs.Longs.{IsLong};
 ghost use Rattle.smt_ext.specs.DurationRefusal.{IsDurationRefusal};
 ghost use Rattle.smt_ext.specs.DurationText.{IsDurationText};
 

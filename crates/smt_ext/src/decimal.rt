@@ -1,9 +1,9 @@
 //! Decimal numbers with four digits behind the point.
 ghost use Rattle.std.specs.Prelude.{◌≡◌, ℕ, ℤ, ◌-◌, ◌^◌, ◌<◌, ◌≤◌, Bool, List, length, IsTrue, Some, IfOk, IfErr, IsOkAnd, IfSome, IfNone};
 ghost use Rattle.std.specs.Option.{SomeIff};
-ghost use Rattle.smt_characters.specs.Digits.{is_numeral};
+ghost use Rattle.law_texts.specs.Digits.{is_numeral};
 ghost use Rattle.smt_ext.specs.Decimal.{HasDecimalParts, ten_thousandths, IsDecimalText, IsNoDecimal, HoldsDecimalText, IsDecimalRefusal};
-ghost use Rattle.smt_arithmetic.specs.Longs.{IsLong};
+ghost use Rattle.law_numbers.specs.Longs.{IsLong};
 ghost use Rattle.smt_ext.specs.Printed.{decimal_text};
 
 use smt_text::{Text, digits};

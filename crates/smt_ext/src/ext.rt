@@ -4,12 +4,12 @@ ghost use Rattle.smt_ext.specs.DatetimeText.{IsDatetimeText};
 ghost use Rattle.smt_ext.specs.Decimal.{IsDecimalText};
 ghost use Rattle.smt_ext.specs.DurationText.{IsDurationText};
 ghost use Rattle.smt_ext.specs.Extensions.{IsDatetime, IsDecimal, IsDuration, IsRangeText, RefusesDatetime, RefusesDecimal, RefusesDuration, RefusesRange, WritesDatetime, WritesDecimal, WritesDuration};
-ghost use Rattle.smt_ip.specs.IpText.{WritesRange};
-ghost use Rattle.smt_ip.specs.IpView.{range_of};
+ghost use Rattle.smt_ext.specs.IpText.{WritesRange};
+ghost use Rattle.smt_ext.specs.IpView.{range_of};
 
 use crate::datetime::{Datetime, DatetimeError, Duration};
 use crate::decimal::{Decimal, DecimalError};
-use smt_ip::{IPError, IPNet};
+use crate::{IPError, IPNet};
 use std::alloc::Global;
 use thiserror::Error;
 
@@ -89,6 +89,16 @@ impl From<IPError> for ExtParseError {
 
 impl Ext {
     /// Reads a decimal, as [`Decimal::parse`]. Its `Memory` becomes `ExtParseError::Memory`.
+    ///
+    /// # Examples
+    ///
+    /// ```
+    /// use kembura::{Ext, Term};
+    ///
+    /// let limit = Term::from(Ext::parse_decimal(alloc, "100.50")?);
+    /// assert!(rt; limit.is_literal());
+    /// assert!(rt; Ext::parse_decimal(alloc, "100").is_err());
+    /// ```
     pub fn parse_decimal(alloc: Global, s: &str) -> Result<Ext, ExtParseError>
         ensures value { IfOk result (WritesDecimal s.now) }
         ensures accepts { (v : ℤ) → IsDecimalText s.now v → IsOkAnd result (IsDecimal v) }
@@ -100,6 +110,16 @@ impl Ext {
     }
 
     /// Reads a datetime, as [`Datetime::parse`]. Its `Memory` becomes `ExtParseError::Memory`.
+    ///
+    /// # Examples
+    ///
+    /// ```
+    /// use kembura::Ext;
+    ///
+    /// let day = Ext::parse_datetime(alloc, "2024-10-15")?;
+    /// let noon = Ext::parse_datetime(alloc, "2024-10-15T12:00:00Z")?;
+    /// assert!(rt; day < noon);
+    /// ```
     pub fn parse_datetime(alloc: Global, s: &str) -> Result<Ext, ExtParseError>
         ensures value { IfOk result (WritesDatetime s.now) }
         ensures accepts { (v : ℤ) → IsDatetimeText s.now v → IsOkAnd result (IsDatetime v) }
@@ -122,6 +142,16 @@ impl Ext {
     }
 
     /// Reads an IP range, as [`IPNet::parse`]. Its `Memory` becomes `ExtParseError::Memory`.
+    ///
+    /// # Examples
+    ///
+    /// ```
+    /// use kembura::{Ext, Term};
+    ///
+    /// let office = Term::from(Ext::parse_ip(alloc, "10.0.0.0/8")?);
+    /// assert!(rt; office.is_literal());
+    /// assert!(rt; Ext::parse_ip(alloc, "10.0.0").is_err());
+    /// ```
     pub fn parse_ip(alloc: Global, s: &str) -> Result<Ext, ExtParseError>
         ensures value { IfOk result (IsRangeText s.now) }
         ensures accepts { (net : _) → WritesRange s.now (range_of net) → result ≡ Ok (Ext.Ipaddr net) }

@@ -4,7 +4,7 @@ ghost use Rattle.std.specs.Ordering.{int_cmp};
 ghost use Rattle.smt_ext.specs.DatetimeRefusal.{IsMisshapen, IsUnreal};
 ghost use Rattle.smt_ext.specs.DatetimeText.{IsDatetimeText};
 ghost use Rattle.smt_ext.specs.Decimal.{IsDecimalText};
-ghost use Rattle.smt_arithmetic.specs.Longs.{IsLong};
+ghost use Rattle.law_numbers.specs.Longs.{IsLong};
 ghost use Rattle.smt_ext.specs.DurationRefusal.{HasFault};
 ghost use Rattle.smt_ext.specs.DurationText.{IsDurationText};
 ghost use Rattle.smt_ext.specs.Examples.{WorkedTexts};
@@ -19,9 +19,8 @@ ghost use Rattle.smt_ext.specs.declared.ext.Ext.{Ext as Value};
 
 use crate::{Datetime, Decimal, Duration, Ext};
 
+pub mod ip;
 pub mod orders;
-
-pub use smt_ip::laws as ip;
 
 /// Texts at the limits, and their values.
 pub fn worked_texts()

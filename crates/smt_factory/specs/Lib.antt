@@ -1,3 +1,6 @@
-pub use Rattle.smt_bit_terms.specs.FoldBy
-pub use Rattle.smt_connectives.specs.AnyOf
-pub use Rattle.smt_connectives.specs.AnyRows
+pub use Rattle.smt_factory_bits.specs.FoldBy
+pub use Rattle.smt_factory_core.specs.AnyOf
+pub use Rattle.smt_factory_core.specs.AnyRows
+pub mod Closures
+pub mod Days
+pub mod Pairs

@@ -1,8 +1,8 @@
 -- The variables and the functions of a job, as they are declared one after the other.
 use Rattle.std.proofs.Common.{◌≡◌, List}
-use Rattle.smt_meaning.specs.Plain.{PlainFunction, PlainType}
+use Rattle.law_terms.specs.Plain.{PlainFunction, PlainType}
 use Rattle.smt_sexpr.specs.declared.expression.SExpr.{SExpr}
-use Rattle.smt_job_grammar.specs.Declarations.{Declarations, function_of, variable_of}
+use Rattle.law_jobs.specs.Declarations.{Declarations, function_of, variable_of}
 use Rattle.smt_job_declarations.specs.DeclarationView.{HasFunctions, HasVariables, declarations, functions}
 use Rattle.smt_job_declarations.specs.declared.declaration.Functions.{Functions}
 use Rattle.smt_job_declarations.specs.declared.declaration.Variables.{Variables}

@@ -7,12 +7,13 @@ use Rattle.std.specs.declared.rc.RcStr.{RcStr}
 use Rattle.std.proofs.lemmas.Bool.{cases_Bool, false≢true}
 use Rattle.std.proofs.lemmas.List.{at_drop_more, at_drop_all}
 use Rattle.std.proofs.lemmas.Slice.Eq.{bytes_eq-Decides}
-use Rattle.smt_lines.proofs.Making.{lookup_new, lookup_other}
-use Rattle.smt_lexicon.specs.Reading.{Expression, Cons}
+use Rattle.law_lines.proofs.Making.{lookup_new, lookup_other}
+use Rattle.law_texts.specs.Reading.{Expression, Cons}
 use Rattle.smt_sexpr.specs.View.{plain}
 use Rattle.smt_sexpr.specs.declared.expression.SExpr.{SExpr}
-use Rattle.smt_job_grammar.specs.Outcomes.{Outcome, ◌>>=◌}
-use Rattle.smt_job_grammar.specs.Declarations.{Declarations, declared, declared_by}
+use Rattle.law_jobs.specs.Outcomes.{Outcome}
+use Rattle.law_texts.specs.Outcomes.{◌>>=◌}
+use Rattle.law_jobs.specs.Declarations.{Declarations, declared, declared_by}
 use Rattle.smt_job_declarations.specs.DeclarationView.{DeclaresNext}
 use Rattle.smt_job_declarations.specs.ReadAs.{IsFaultIn, IsReadAs, plain_list}
 use Rattle.smt_job_declarations.specs.declared.error.JobError.{JobError}

@@ -10,20 +10,21 @@ use Rattle.std.specs.declared.rc.RcStr.{RcStr}
 use Rattle.std.proofs.lemmas.Cmp.{nat_list_cmp_total}
 use Rattle.std.proofs.lemmas.List.{at_drop_more, at_drop_all, map-append}
 use Rattle.std.proofs.lemmas.Slice.Eq.{bytes_eq-Decides}
-use Rattle.smt_lines.proofs.Making.{lookup_new, lookup_other}
-use Rattle.smt_meaning.specs.TypeValues.{Enums, members_of}
-use Rattle.smt_meaning.specs.ValueOrder.{sorted, text_cmp}
-use Rattle.smt_meaning.proofs.ValueOrder.{text_same}
-use Rattle.smt_leaves.specs.Enums.{enums_of}
-use Rattle.smt_leaves.specs.declared.enums.EnumTable.{EnumTable}
-use Rattle.smt_leaves.proofs.SortedPairs.{sorted-push}
-use Rattle.smt_lexicon.specs.Reading.{Cons}
+use Rattle.law_lines.proofs.Making.{lookup_new, lookup_other}
+use Rattle.law_terms.specs.TypeValues.{Enums, members_of}
+use Rattle.law_terms.specs.ValueOrder.{sorted, text_cmp}
+use Rattle.law_terms.proofs.ValueOrder.{text_same}
+use Rattle.smt_types.specs.Enums.{enums_of}
+use Rattle.smt_types.specs.declared.enums.EnumTable.{EnumTable}
+use Rattle.smt_types.proofs.SortedPairs.{sorted-push}
+use Rattle.law_texts.specs.Reading.{Cons}
 use Rattle.smt_sexpr.specs.View.{plain}
 use Rattle.smt_sexpr.specs.declared.expression.SExpr.{SExpr}
-use Rattle.smt_job_grammar.specs.Outcomes.{JobFault, Outcome, ◌>>=◌, demanded, followed, DuplicateFault, FormFault}
-use Rattle.smt_job_grammar.specs.Parts.{text_in}
-use Rattle.smt_job_grammar.specs.Declarations.{Declarations, declared, declared_by, unless_declared}
-use Rattle.smt_job_grammar.specs.Enums.{enum_of, enums_in, new_enum, texts_in}
+use Rattle.law_jobs.specs.Outcomes.{JobFault, Outcome, followed, DuplicateFault, FormFault}
+use Rattle.law_texts.specs.Outcomes.{◌>>=◌, demanded}
+use Rattle.law_jobs.specs.Parts.{text_in}
+use Rattle.law_jobs.specs.Declarations.{Declarations, declared, declared_by, unless_declared}
+use Rattle.law_jobs.specs.Enums.{enum_of, enums_in, new_enum, texts_in}
 use Rattle.smt_job_declarations.specs.EnumView.{HasEnums}
 use Rattle.smt_job_declarations.specs.DeclarationView.{DeclaresNext}
 use Rattle.smt_job_declarations.specs.ReadAs.{IsFault, IsFaultIn, IsReadAs, plain_list}

@@ -1,7 +1,7 @@
 -- What reading a part gives, and what the whole gives.
 use Rattle.std.proofs.Common.{◌≡◌, List, [], ◌∷◌, ◌++◌, Ok, Err, Result, refl, sym, ap, subst, append_assoc}
 use Rattle.std.specs.Prelude.{IsErrAnd}
-use Rattle.smt_job_grammar.specs.Outcomes.{JobFault, Outcome, followed, mapped}
+use Rattle.law_jobs.specs.Outcomes.{JobFault, Outcome, followed, mapped}
 use Rattle.smt_job_declarations.specs.ReadAs.{IsFaultIn, IsReadAs}
 use Rattle.smt_job_declarations.specs.declared.error.JobError.{JobError}
 use Rattle.smt_job_declarations.specs.declared.error.JobError.TheVariants.{TooLarge, Parse, TooDeep, BadForm, UnknownName, DuplicateName, BadType, BadWidth, BadLiteral, IllTyped, NotBool, Memory}

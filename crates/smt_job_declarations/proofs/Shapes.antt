@@ -12,12 +12,12 @@ use Rattle.std.specs.declared.alloc.Global.{Global}
 use Rattle.std.specs.declared.rc.RcStr.{RcStr}
 use Rattle.smt_bits.specs.BitVec.{number_of, width_of}
 use Rattle.smt_bits.specs.declared.bitvec.BitVec.{BitVec as BitVector}
-use Rattle.smt_lexicon.specs.Lexicon.{Atom, Bits, Name, Number, Text}
-use Rattle.smt_lexicon.specs.Reading.{Expression, Leaf, Node, Nil, Cons}
+use Rattle.law_texts.specs.Lexicon.{Atom, Bits, Name, Number, Text}
+use Rattle.law_texts.specs.Reading.{Expression, Leaf, Node, Nil, Cons}
 use Rattle.smt_sexpr.specs.View.{items_of, plain, plain-App, plain-BitVec, plain-Numeral, plain-String, plain-Symbol}
 use Rattle.smt_sexpr.specs.declared.expression.SExpr.{SExpr, App, BitVec, Numeral, String, Symbol}
 use Rattle.smt_sexpr.specs.declared.expression.SExprs.{SExprs}
-use Rattle.smt_job_grammar.specs.Parts.{both, sole, text_in, three}
+use Rattle.law_jobs.specs.Parts.{both, sole, text_in, three}
 use Rattle.smt_job_declarations.specs.ReadAs.{plain_list}
 
 -- what is another text is not equal to it

@@ -8,12 +8,13 @@ use Rattle.std.specs.declared.rc.RcStr.{RcStr}
 use Rattle.std.proofs.lemmas.List.{at_drop_more, at_drop_all, map-append}
 use Rattle.smt_term.specs.View.{plain_attribute, plain_type}
 use Rattle.smt_types.specs.declared.types.TermType.{TermType}
-use Rattle.smt_lexicon.specs.Reading.{Expression, Node, Expressions, Nil, Cons}
+use Rattle.law_texts.specs.Reading.{Expression, Node, Expressions, Nil, Cons}
 use Rattle.smt_sexpr.specs.View.{plain}
 use Rattle.smt_sexpr.specs.declared.expression.SExpr.{SExpr}
-use Rattle.smt_job_grammar.specs.Outcomes.{JobFault, ◌>>=◌, demanded, followed, TypeFault}
-use Rattle.smt_job_grammar.specs.Parts.{name_in}
-use Rattle.smt_job_grammar.specs.Types.{attributes_of, headed_type, new_attribute, sole_type, type_of_expression}
+use Rattle.law_jobs.specs.Outcomes.{JobFault, followed, TypeFault}
+use Rattle.law_texts.specs.Outcomes.{◌>>=◌, demanded}
+use Rattle.law_jobs.specs.Parts.{name_in}
+use Rattle.law_jobs.specs.Types.{attributes_of, headed_type, new_attribute, sole_type, type_of_expression}
 use Rattle.smt_job_declarations.specs.ReadAs.{plain_list}
 use Rattle.smt_job_declarations.proofs.Reading.{behind, fault_behind, nothing_behind, one_behind}
 

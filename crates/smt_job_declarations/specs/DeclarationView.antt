@@ -7,13 +7,13 @@ use Rattle.std.specs.Ordering.{nat_cmp}
 use Rattle.std.specs.declared.cmp.Ordering.{Ordering}
 use Rattle.std.specs.declared.alloc.Global.{Global}
 use Rattle.std.specs.declared.rc.RcStr.{RcStr}
-use Rattle.smt_leaves.specs.Enums.{enums_of}
-use Rattle.smt_meaning.specs.Plain.{PlainFunction, PlainType}
+use Rattle.smt_types.specs.Enums.{enums_of}
+use Rattle.law_terms.specs.Plain.{PlainFunction, PlainType}
 use Rattle.smt_term.specs.View.{plain_function, plain_type}
 use Rattle.smt_term.specs.declared.function.Uuf.{Uuf}
 use Rattle.smt_term.specs.declared.term.TermVar.{TermVar}
-use Rattle.smt_job_grammar.specs.Declarations.{Declarations, declared, Declared as Stated}
-use Rattle.smt_job_grammar.specs.Outcomes.{Outcome}
+use Rattle.law_jobs.specs.Declarations.{Declarations, declared, Declared as Stated}
+use Rattle.law_jobs.specs.Outcomes.{Outcome}
 use Rattle.smt_job_declarations.specs.ReadAs.{IsFaultIn}
 use Rattle.smt_job_declarations.specs.declared.declaration.Declared.{Declared}
 use Rattle.smt_job_declarations.specs.declared.declaration.Functions.{Functions}

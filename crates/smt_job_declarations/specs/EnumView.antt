@@ -1,10 +1,10 @@
 -- What tables of enum types have of what a job states.
 use Rattle.std.specs.Prelude.{◌≡◌, ℕ, List}
-use Rattle.smt_leaves.specs.Enums.{enums_of}
-use Rattle.smt_leaves.specs.declared.enums.EnumTable.{EnumTable}
-use Rattle.smt_meaning.specs.TypeValues.{members_of}
-use Rattle.smt_meaning.specs.ValueOrder.{sorted, text_cmp}
-use Rattle.smt_job_grammar.specs.Declarations.{Declarations, declared}
+use Rattle.smt_types.specs.Enums.{enums_of}
+use Rattle.smt_types.specs.declared.enums.EnumTable.{EnumTable}
+use Rattle.law_terms.specs.TypeValues.{members_of}
+use Rattle.law_terms.specs.ValueOrder.{sorted, text_cmp}
+use Rattle.law_jobs.specs.Declarations.{Declarations, declared}
 
 -- The table has these enum types, in the order of their names, and finds each by its name.
 pub record HasEnums (table : EnumTable) (enums : Declarations (List (List ℕ))) : Type 0 where

@@ -1,10 +1,10 @@
 -- What reading an expression of a job gives.
 use Rattle.std.specs.Prelude.{◌≡◌, ⊤, ℕ, List, map, Option, Some, None, Ok, Err, Result}
 use Rattle.std.specs.Rc.{rc_str_bytes}
-use Rattle.smt_lexicon.specs.Reading.{Expressions, expressions}
+use Rattle.law_texts.specs.Reading.{Expressions, expressions}
 use Rattle.smt_sexpr.specs.View.{plain}
 use Rattle.smt_sexpr.specs.declared.expression.SExpr.{SExpr}
-use Rattle.smt_job_grammar.specs.Outcomes.{Outcome, DuplicateFault, FormFault, JobFault, LiteralFault, TruthFault, TypeFault, TypingFault, UnknownFault, WidthFault}
+use Rattle.law_jobs.specs.Outcomes.{Outcome, DuplicateFault, FormFault, JobFault, LiteralFault, TruthFault, TypeFault, TypingFault, UnknownFault, WidthFault}
 use Rattle.smt_job_declarations.specs.declared.error.JobError.{JobError}
 use Rattle.smt_job_declarations.specs.declared.error.JobError.TheVariants.{TooLarge, Parse, TooDeep, BadForm, UnknownName, DuplicateName, BadType, BadWidth, BadLiteral, IllTyped, NotBool, Memory}
 

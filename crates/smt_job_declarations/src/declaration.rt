@@ -1,11 +1,11 @@
 // Declarations of variables and of functions.
 ghost use Rattle.std.specs.Prelude.{◌≡◌, ◌++◌, ◌∷◌, [], None, IfOk, OnOk, IsOkUnless, option_map};
 ghost use Rattle.std.specs.Rc.{rc_str_bytes};
-ghost use Rattle.smt_meaning.specs.Plain.{PlainFunction, PlainType};
+ghost use Rattle.law_terms.specs.Plain.{PlainFunction, PlainType};
 ghost use Rattle.smt_sexpr.specs.View.{plain};
 ghost use Rattle.smt_term.specs.View.{plain_function, plain_type};
-ghost use Rattle.smt_job_grammar.specs.Declarations as stated;
-ghost use Rattle.smt_job_grammar.specs.Declarations.{Declarations, declared};
+ghost use Rattle.law_jobs.specs.Declarations as stated;
+ghost use Rattle.law_jobs.specs.Declarations.{Declarations, declared};
 ghost use Rattle.smt_job_declarations.specs.DeclarationView as view;
 ghost use Rattle.smt_job_declarations.specs.DeclarationView.{DeclaresNext, HasFunctions, HasVariables};
 ghost use Rattle.smt_job_declarations.specs.ReadAs.{IsReadAs, plain_list};

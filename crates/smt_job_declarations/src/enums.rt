@@ -2,11 +2,11 @@
 ghost use Rattle.std.specs.Prelude.{◌≡◌, ℕ, List, map, option_map};
 ghost use Rattle.std.specs.Option.{option_and_then};
 ghost use Rattle.std.specs.Rc.{rc_str_bytes};
-ghost use Rattle.smt_leaves.specs.Enums.{enums_of};
+ghost use Rattle.smt_types.specs.Enums.{enums_of};
 ghost use Rattle.smt_sexpr.specs.View.{plain};
-ghost use Rattle.smt_job_grammar.specs.Declarations.{Declarations};
-ghost use Rattle.smt_job_grammar.specs.Enums as stated;
-ghost use Rattle.smt_job_grammar.specs.Parts as parts;
+ghost use Rattle.law_jobs.specs.Declarations.{Declarations};
+ghost use Rattle.law_jobs.specs.Enums as stated;
+ghost use Rattle.law_jobs.specs.Parts as parts;
 ghost use Rattle.smt_job_declarations.specs.EnumView.{HasEnums};
 ghost use Rattle.smt_job_declarations.specs.DeclarationView.{DeclaresNext};
 ghost use Rattle.smt_job_declarations.specs.ReadAs.{IsReadAs, plain_list};

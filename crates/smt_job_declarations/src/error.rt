@@ -1,6 +1,6 @@
 // Why bytes are no job.
 ghost use Rattle.std.specs.Rc.{rc_str_bytes};
-ghost use Rattle.smt_job_grammar.specs.Outcomes.{DuplicateFault, LiteralFault, UnknownFault};
+ghost use Rattle.law_jobs.specs.Outcomes.{DuplicateFault, LiteralFault, UnknownFault};
 ghost use Rattle.smt_job_declarations.specs.ReadAs.{IsFault};
 
 use smt_sexpr::SExprParseError;
@@ -119,7 +119,7 @@ impl From<TermError> for JobError {
 impl From<SExprParseError> for JobError {
     ghost use Rattle.std.specs.Prelude.{◌≡◌};
     ghost use Rattle.smt_sexpr.specs.declared.error.SExprParseError.TheVariants.{Memory as NoMemory};
-    ghost use Rattle.smt_job_grammar.specs.Outcomes.{FormFault};
+    ghost use Rattle.law_jobs.specs.Outcomes.{FormFault};
     ghost use Rattle.smt_job_declarations.specs.ReadAs.{IsFault};
     ghost use Rattle.smt_job_declarations.specs.declared.error.JobError.TheVariants.{Memory};
 

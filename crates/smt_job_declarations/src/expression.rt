@@ -3,7 +3,7 @@ ghost use Rattle.std.specs.Prelude.{◌≡◌, option_map};
 ghost use Rattle.std.specs.Rc.{rc_str_bytes};
 ghost use Rattle.smt_bits.specs.Width.{bits_in};
 ghost use Rattle.smt_sexpr.specs.View.{plain};
-ghost use Rattle.smt_job_grammar.specs.Parts as parts;
+ghost use Rattle.law_jobs.specs.Parts as parts;
 ghost use Rattle.smt_job_declarations.specs.ReadAs.{plain_list};
 
 use smt_bits::Width;

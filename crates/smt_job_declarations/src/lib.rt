@@ -1,7 +1,8 @@
 //! What jobs declare: enum types, variables and functions, as expressions state them.
 //!
 //! Each function here reads one part of a job from its expression. What it has to find there, and what the first fault of
-//! another expression is, stands in `smt_job_grammar`. The terms of a job are read by `smt_job_terms`, and the bytes by `smt_jobs`.
+//! another expression is, stands in `law_jobs`; read `specs/ReadAs.antt` first, which says what reading gives by that. The
+//! terms of a job, and the bytes of a whole one, are read by `smt_jobs`.
 #![tactic(auto, using(smt_term::specs::View::views, smt_sexpr::specs::View::views))]
 
 mod declaration;

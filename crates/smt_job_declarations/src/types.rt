@@ -4,7 +4,7 @@ ghost use Rattle.std.specs.List.{list_any};
 ghost use Rattle.std.specs.Rc.{rc_str_bytes};
 ghost use Rattle.smt_term.specs.View.{plain_attribute, plain_type};
 ghost use Rattle.smt_sexpr.specs.View.{plain};
-ghost use Rattle.smt_job_grammar.specs.Types as stated;
+ghost use Rattle.law_jobs.specs.Types as stated;
 ghost use Rattle.smt_job_declarations.specs.ReadAs.{IsReadAs, plain_list};
 
 use crate::error::{JobError, duplicate};

@@ -1,2 +1,9 @@
+pub mod ExtensionNames
+pub mod ExtensionsRead
+pub mod FormsRead
 pub mod NumberedLemmas
+pub mod Operators
+pub mod PatternsRead
+pub mod TermsRead
 pub mod Walking
+pub mod WholeTerms

@@ -2,14 +2,14 @@
 use Rattle.std.proofs.Common.{◌≡◌, List, [], ◌∷◌, ◌++◌, map, Bool, true, false, Option, Some, None, refl, sym, ap, ◌∙◌}
 use Rattle.std.specs.Prelude.{if◌then◌else◌, is_some, option_and_then, unwrap_or}
 use Rattle.std.proofs.lemmas.List.{map-append}
-use Rattle.smt_graph.specs.Meanings.{all_found, meanings, terms_in}
-use Rattle.smt_graph.specs.Nodes.{Meaning, TypeMeaning, FunctionMeaning, TermMeaning}
-use Rattle.smt_graph.proofs.Places.{map_back}
+use Rattle.law_terms.specs.Meanings.{all_found, meanings, terms_in}
+use Rattle.law_terms.specs.Nodes.{Meaning, TypeMeaning, FunctionMeaning, TermMeaning}
+use Rattle.law_terms.proofs.Places.{map_back}
 use Rattle.std.proofs.lemmas.Bool.{false≢true}
-use Rattle.smt_meaning.specs.Plain.{PlainTerm}
+use Rattle.law_terms.specs.Plain.{PlainTerm}
 use Rattle.smt_nodes.specs.Interned.{meaning_in, nodes_of, KeepsMeanings, StandFor}
-use Rattle.smt_node_tables.specs.View.{place_of, places_of}
-use Rattle.smt_node_tables.specs.declared.id.NodeId.{NodeId}
+use Rattle.smt_nodes.specs.View.{place_of, places_of}
+use Rattle.smt_nodes.specs.declared.id.NodeId.{NodeId}
 use Rattle.smt_nodes.specs.declared.interner.Interner.{Interner}
 use Rattle.smt_nodes.proofs.Interning.{all_kept, are_terms_in, more_found}
 use Rattle.smt_jobs.specs.Numbers.{all_stand, terms_of}

@@ -7,24 +7,25 @@ use Rattle.std.specs.Option.{option_and_then}
 use Rattle.std.proofs.lemmas.Slice.Eq.{bytes_eq-Decides}
 use Rattle.std.proofs.lemmas.List.{map-append}
 use Rattle.std.proofs.lemmas.List.Concat.{flat_map-append}
-use Rattle.smt_folding.specs.Built.{built}
-use Rattle.smt_meaning.specs.Plain.{PlainFunction, PlainTerm, PlainType}
-use Rattle.smt_meaning.specs.TypeValues.{Enums}
-use Rattle.smt_lexicon.specs.Lexicon.{Atom, Name, Number, Text, Bits, Token, Begin, End, Word}
-use Rattle.smt_lexicon.specs.Reading.{Expression, Leaf, Node, Expressions, Nil, Cons, brackets, deepest, expressions, followed_by, inside, nesting}
-use Rattle.smt_lexicon.specs.Tokens.{HasTokens, IsReadWithin, Spans}
-use Rattle.smt_lexicon.proofs.Spans.{goes_on, has_tokens, joined, no_span, none_before_end, one_first, one_token, read_from}
-use Rattle.smt_lexicon.proofs.Trees.{end_begins}
+use Rattle.law_folding.specs.Built.{built}
+use Rattle.law_terms.specs.Plain.{PlainFunction, PlainTerm, PlainType}
+use Rattle.law_terms.specs.TypeValues.{Enums}
+use Rattle.law_texts.specs.Lexicon.{Atom, Name, Number, Text, Bits, Token, Begin, End, Word}
+use Rattle.law_texts.specs.Reading.{Expression, Leaf, Node, Expressions, Nil, Cons, brackets, deepest, expressions, followed_by, inside, nesting}
+use Rattle.law_texts.specs.Tokens.{HasTokens, IsReadWithin, Spans}
+use Rattle.law_texts.proofs.Spans.{goes_on, has_tokens, joined, no_span, none_before_end, one_first, one_token, read_from}
+use Rattle.law_texts.proofs.Trees.{end_begins}
 use Rattle.smt_sexpr.specs.Refusals.{IsRefused}
 use Rattle.smt_sexpr.specs.declared.error.SExprParseError.{SExprParseError}
 use Rattle.smt_sexpr.specs.declared.error.SExprParseError.TheVariants.{UnexpectedEnd, Utf8Error, StringParseError, ParseIntError, UnclosedSExpr, TrailingTokens, IntegerOverflow, ZeroWidthBitVec, TooDeep as TextTooDeep, Memory as NoMemory}
 use Rattle.smt_sexpr.proofs.TokenLists.{deepest_push, inside_is}
-use Rattle.smt_job_grammar.specs.Outcomes.{JobFault, Outcome, ◌>>=◌, FormFault, demanded, followed, mapped}
-use Rattle.smt_job_grammar.specs.Parts.{name_in, section}
-use Rattle.smt_job_grammar.specs.Declarations.{Declarations, Declared as Stated, functions_of, variables_of}
-use Rattle.smt_job_grammar.specs.Enums.{enums_in}
-use Rattle.smt_job_grammar.specs.Jobs.{IsTooLong, PlainJob, declared_first, declared_in_sections, greatest_length, job_of, nothing_more, section_of, terms_last}
-use Rattle.smt_job_grammar.specs.Terms.{condition_of, conditions_of}
+use Rattle.law_jobs.specs.Outcomes.{JobFault, Outcome, FormFault, followed, mapped}
+use Rattle.law_texts.specs.Outcomes.{◌>>=◌, demanded}
+use Rattle.law_jobs.specs.Parts.{name_in, section}
+use Rattle.law_jobs.specs.Declarations.{Declarations, Declared as Stated, functions_of, variables_of}
+use Rattle.law_jobs.specs.Enums.{enums_in}
+use Rattle.law_jobs.specs.Jobs.{IsTooLong, PlainJob, declared_first, declared_in_sections, greatest_length, job_of, nothing_more, section_of, terms_last}
+use Rattle.law_jobs.specs.Terms.{condition_of, conditions_of}
 use Rattle.smt_job_declarations.specs.DeclarationView.{declared_in}
 use Rattle.smt_job_declarations.specs.ReadAs.{IsFault, IsFaultIn}
 use Rattle.smt_jobs.specs.Refused.{IsFirstFault, IsRefusal, IsTextFault, IsUnreadable}

@@ -1,7 +1,7 @@
 -- What a job of the program says.
-use Rattle.smt_leaves.specs.Enums.{enums_of}
+use Rattle.smt_types.specs.Enums.{enums_of}
 use Rattle.smt_term.specs.View.{plain_items}
-use Rattle.smt_job_grammar.specs.Jobs.{PlainJob}
+use Rattle.law_jobs.specs.Jobs.{PlainJob}
 use Rattle.smt_job_declarations.specs.DeclarationView.{declarations, functions}
 use Rattle.smt_jobs.specs.declared.job.Job.{Job}
 

@@ -2,4 +2,5 @@ pub mod JobView
 pub mod Numbered
 pub mod Numbers
 pub mod Refused
+pub mod TermView
 pub mod Walk

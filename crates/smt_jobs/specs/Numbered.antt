@@ -1,8 +1,8 @@
 -- What a job says whose terms are numbered nodes.
 use Rattle.std.specs.Prelude.{List}
-use Rattle.smt_meaning.specs.Plain.{PlainTerm}
-use Rattle.smt_leaves.specs.Enums.{enums_of}
-use Rattle.smt_job_grammar.specs.Jobs.{PlainJob}
+use Rattle.law_terms.specs.Plain.{PlainTerm}
+use Rattle.smt_types.specs.Enums.{enums_of}
+use Rattle.law_jobs.specs.Jobs.{PlainJob}
 use Rattle.smt_job_declarations.specs.DeclarationView.{declarations, functions}
 use Rattle.smt_jobs.specs.Numbers.{terms_of}
 use Rattle.smt_jobs.specs.declared.numbered.NumberedJob.{NumberedJob}

@@ -1,11 +1,11 @@
 -- The terms for which numbers stand.
 use Rattle.std.specs.Prelude.{Bool, List, [], is_some, unwrap_or}
-use Rattle.smt_graph.specs.Meanings.{meanings}
-use Rattle.smt_meaning.specs.Plain.{PlainTerm}
+use Rattle.law_terms.specs.Meanings.{meanings}
+use Rattle.law_terms.specs.Plain.{PlainTerm}
 use Rattle.smt_nodes.specs.Interned.{nodes_of}
 use Rattle.smt_nodes.specs.Kinds.{terms_at}
-use Rattle.smt_node_tables.specs.View.{places_of}
-use Rattle.smt_node_tables.specs.declared.id.NodeId.{NodeId}
+use Rattle.smt_nodes.specs.View.{places_of}
+use Rattle.smt_nodes.specs.declared.id.NodeId.{NodeId}
 use Rattle.smt_nodes.specs.declared.interner.Interner.{Interner}
 
 -- the terms for which these numbers stand, in order; no terms at all where one of them stands for none

@@ -1,11 +1,11 @@
 -- Why bytes are refused as a job.
 use Rattle.std.specs.Prelude.{ℕ, ◌≡◌, ◌≤◌, ◌⊎◌, ⊤, IfSome, List, length}
-use Rattle.smt_lexicon.specs.Reading.{Expression}
-use Rattle.smt_lexicon.specs.Tokens.{IsReadWithin}
+use Rattle.law_texts.specs.Reading.{Expression}
+use Rattle.law_texts.specs.Tokens.{IsReadWithin}
 use Rattle.smt_sexpr.specs.Refusals.{IsRefused}
 use Rattle.smt_sexpr.specs.declared.error.SExprParseError.{SExprParseError}
 use Rattle.smt_sexpr.specs.declared.error.SExprParseError.TheVariants.{TooDeep as TextTooDeep, Memory as TextWant}
-use Rattle.smt_job_grammar.specs.Jobs.{HasFault, IsTooLong, greatest_length, greatest_nesting}
+use Rattle.law_jobs.specs.Jobs.{HasFault, IsTooLong, greatest_length, greatest_nesting}
 use Rattle.smt_job_declarations.specs.ReadAs.{fault_in}
 use Rattle.smt_job_declarations.specs.declared.error.JobError.{JobError}
 use Rattle.smt_job_declarations.specs.declared.error.JobError.TheVariants.{TooLarge, Parse, TooDeep, Memory}

@@ -1,14 +1,14 @@
 -- What the walk over the bytes of a job reads and gives, part by part.
 use Rattle.std.specs.Prelude.{ℕ, ◌≡◌, ◌≤◌, map, List, [], ◌∷◌, ◌++◌, Ok, Err, Result}
 use Rattle.std.specs.List.{flat_map}
-use Rattle.smt_folding.specs.Built.{built}
-use Rattle.smt_meaning.specs.Plain.{PlainTerm}
-use Rattle.smt_lexicon.specs.Lexicon.{Token, End}
-use Rattle.smt_lexicon.specs.Reading.{Expression, Expressions, Nil, Cons, brackets, deepest, expressions, inside, nesting}
-use Rattle.smt_lexicon.specs.Tokens.{HasTokens, Spans}
-use Rattle.smt_job_grammar.specs.Declarations.{Declared}
-use Rattle.smt_job_grammar.specs.Jobs.{IsJob, PlainJob}
-use Rattle.smt_job_grammar.specs.Outcomes.{Outcome, FormFault}
+use Rattle.law_folding.specs.Built.{built}
+use Rattle.law_terms.specs.Plain.{PlainTerm}
+use Rattle.law_texts.specs.Lexicon.{Token, End}
+use Rattle.law_texts.specs.Reading.{Expression, Expressions, Nil, Cons, brackets, deepest, expressions, inside, nesting}
+use Rattle.law_texts.specs.Tokens.{HasTokens, Spans}
+use Rattle.law_jobs.specs.Declarations.{Declared}
+use Rattle.law_jobs.specs.Jobs.{IsJob, PlainJob}
+use Rattle.law_jobs.specs.Outcomes.{Outcome, FormFault}
 use Rattle.smt_job_declarations.specs.ReadAs.{IsFaultIn}
 use Rattle.smt_job_declarations.specs.declared.error.JobError.{JobError}
 

@@ -1,7 +1,7 @@
 // Jobs: declarations and terms in one S-expression.
 ghost use Rattle.std.specs.Prelude.{◌≡◌, ◌↔◌, IfErr, IfOk, IsErrOf, map};
 ghost use Rattle.smt_term.specs.View.{plain_term};
-ghost use Rattle.smt_job_grammar.specs.Jobs.{IsBuiltFrom, IsTooLong};
+ghost use Rattle.law_jobs.specs.Jobs.{IsBuiltFrom, IsTooLong};
 ghost use Rattle.smt_jobs.specs.JobView.{plain_job};
 ghost use Rattle.smt_jobs.specs.Numbered.{numbered_job};
 ghost use Rattle.smt_jobs.specs.Refused.{IsRefusal};
@@ -49,6 +49,15 @@ impl TermSink for TermVec {
 
 /// Reads a job. Its terms are built as they are read: applications are folded, constants first. Of the terms' expressions
 /// one is held at a time, and let go once its term is built.
+///
+/// # Examples
+///
+/// ```
+/// use kembura::read_job;
+///
+/// let job = read_job(alloc, b"(job (enums) (vars) (funs) (terms true))")?;
+/// assert_eq!(rt; job.terms.len(), 1);
+/// ```
 ///
 /// # Errors
 ///

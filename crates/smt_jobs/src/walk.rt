@@ -1,27 +1,27 @@
 // The walk over the bytes of a job: its parts are read one behind the other, and each expression is let go once it is used.
 ghost use Rattle.std.specs.Prelude.{ℕ, List, ◌≡◌, ◌-◌, ◌<◌, ◌≤◌, ◌↔◌, ◌++◌, ◌∷◌, [], IfErr, IfOk, OnOk, IsErrOf, length, map};
-ghost use Rattle.smt_folding.specs.Built.{built};
-ghost use Rattle.smt_meaning.specs.Plain.{PlainTerm};
+ghost use Rattle.law_folding.specs.Built.{built};
+ghost use Rattle.law_terms.specs.Plain.{PlainTerm};
 ghost use Rattle.smt_term.specs.View.{plain_term};
-ghost use Rattle.smt_lexicon.specs.Lexicon.{Begin, End, Name, Token, Word};
-ghost use Rattle.smt_lexicon.specs.Reading.{Expression, Expressions, brackets, nesting};
-ghost use Rattle.smt_lexicon.specs.Tokens.{HasTokens, IsReadWithin, Spans};
+ghost use Rattle.law_texts.specs.Lexicon.{Begin, End, Name, Token, Word};
+ghost use Rattle.law_texts.specs.Reading.{Expression, Expressions, brackets, nesting};
+ghost use Rattle.law_texts.specs.Tokens.{HasTokens, IsReadWithin, Spans};
 ghost use Rattle.smt_sexpr.specs.View.{plain};
-ghost use Rattle.smt_job_grammar.specs.Declarations.{Declared as Stated};
-ghost use Rattle.smt_job_grammar.specs.Jobs as stated;
-ghost use Rattle.smt_job_grammar.specs.Jobs.{IsTooLong, PlainJob, greatest_nesting};
-ghost use Rattle.smt_job_grammar.specs.Outcomes.{FormFault};
-ghost use Rattle.smt_job_grammar.specs.Terms.{conditions_of};
+ghost use Rattle.law_jobs.specs.Declarations.{Declared as Stated};
+ghost use Rattle.law_jobs.specs.Jobs as stated;
+ghost use Rattle.law_jobs.specs.Jobs.{IsTooLong, PlainJob, greatest_nesting};
+ghost use Rattle.law_jobs.specs.Outcomes.{FormFault};
+ghost use Rattle.law_jobs.specs.Terms.{conditions_of};
 ghost use Rattle.smt_job_declarations.specs.DeclarationView.{HasDeclared, declared_in};
 ghost use Rattle.smt_job_declarations.specs.ReadAs.{IsFault, IsReadAs, plain_list};
 ghost use Rattle.smt_jobs.specs.Refused.{IsFirstFault, IsRefusal};
 ghost use Rattle.smt_jobs.specs.Walk.{Begins, BeginsInside, Gives, ReadsInside, ReadsSome, Takes, TakesJob, first_and_others};
 
 use crate::job::{GREATEST_JOB, GREATEST_NESTING};
+use crate::term::condition_from;
 use smt_job_declarations::{
     Declared, JobError, enums_from, functions_from, name_in, section, variables_from,
 };
-use smt_job_terms::condition_from;
 use smt_sexpr::{
     SExpr, SExprParseError, behind_close, behind_open, is_blank, parse_sexpr_within, read_next,
 };

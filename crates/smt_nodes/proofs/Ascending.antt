@@ -3,14 +3,14 @@ use Rattle.std.proofs.Common.{◌≡◌, Bool, true, false, List, ◌∷◌, ref
 use Rattle.std.specs.Ordering.{is_lt}
 use Rattle.std.specs.Prelude.{◌&&◌, IfSome, Option, Some, None, option_and_then, option_map}
 use Rattle.std.specs.declared.cmp.Ordering.{Ordering}
-use Rattle.smt_meaning.specs.Plain.{PlainTerm}
-use Rattle.smt_meaning.specs.TermOrder.{term_cmp}
-use Rattle.smt_meaning.specs.ValueOrder.{ascends, is_below}
-use Rattle.smt_graph.specs.Meanings.{all_found, found, terms_in}
-use Rattle.smt_graph.specs.Nodes.{Meaning, TermMeaning}
+use Rattle.law_terms.specs.Plain.{PlainTerm}
+use Rattle.law_terms.specs.TermOrder.{term_cmp}
+use Rattle.law_terms.specs.ValueOrder.{ascends, is_below}
+use Rattle.law_terms.specs.Meanings.{all_found, found, terms_in}
+use Rattle.law_terms.specs.Nodes.{Meaning, TermMeaning}
 use Rattle.smt_nodes.specs.Kinds.{terms_at}
-use Rattle.smt_node_tables.specs.View.{place_of, places_of}
-use Rattle.smt_node_tables.specs.declared.id.NodeId.{NodeId}
+use Rattle.smt_nodes.specs.View.{place_of, places_of}
+use Rattle.smt_nodes.specs.declared.id.NodeId.{NodeId}
 
 -- a term before terms
 below_terms : (t u : PlainTerm) (z : Option (List PlainTerm)) (r : Bool) → r ≡ is_lt (term_cmp t u) → IfSome (option_map (λ us. u ∷ us) z) (λ us. r ≡ is_below term_cmp t us)

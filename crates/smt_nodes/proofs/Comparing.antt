@@ -8,35 +8,35 @@ use Rattle.std.specs.Ordering.{is_eq, match_ordering, nat_cmp, ordering_then}
 use Rattle.std.specs.Prelude.{◌&&◌, IsTrue, Option, Some, eqb, option_and_then, option_map, slice_get}
 use Rattle.std.specs.declared.cmp.Ordering.{Ordering}
 use Rattle.std.specs.declared.cmp.Ordering.TheVariants.{Less, Equal, Greater}
-use Rattle.smt_meaning.specs.Plain.{ExtensionKind, PlainFunction, PlainType, OptionType, BitVecType, BoolType, EntityType, ExtensionType, StringType, RecordType, SetType, AttributeTypes, PlainLiteral, PlainOp, UufOp, PlainTerm, Application, NoneTerm, LiteralTerm, RecordTerm, SetTerm, SomeTerm, VariableTerm, PlainFields, terms}
-use Rattle.smt_meaning.specs.TermOrder.{function_cmp, literal_cmp, op_cmp, op_fields_cmp, op_place, term_cmp, terms_cmp}
-use Rattle.smt_meaning.specs.Types.{extension_kind_place, field_types, literal_type, type_cmp, type_of}
-use Rattle.smt_meaning.specs.ValueOrder.{ascends, text_cmp}
-use Rattle.smt_meaning.proofs.SameTerm.{function_same, literal_same, op_same, term_same}
-use Rattle.smt_meaning.proofs.TermTotal.{terms_decided, types_decided}
-use Rattle.smt_meaning.proofs.TypeOrder.{type_same}
-use Rattle.smt_graph.specs.Fits.{applies_no_function}
-use Rattle.smt_graph.specs.Graphs.{IsGraph}
-use Rattle.smt_graph.specs.Meanings.{all_found, attributes_in, fields_in, found, meaning_at, meanings, stands_for, term_made, terms_in, typed_as}
-use Rattle.smt_graph.specs.Nodes.{PlainLabel, OptionLabel, BitVecLabel, BoolLabel, EntityLabel, ExtensionLabel, StringLabel, RecordLabel, SetLabel, FunctionLabel, ApplicationLabel, CallLabel, NoneLabel, LiteralLabel, RecordOfLabel, SetOfLabel, SomeLabel, VariableLabel, PlainNode, Meaning, TypeMeaning, FunctionMeaning, TermMeaning}
-use Rattle.smt_graph.proofs.Distinct.{Stands, node_stands, places_differ}
-use Rattle.smt_graph.proofs.Places.{map_back, only_back, some_same, test_back, then_back}
-use Rattle.smt_graph.proofs.Whole.{terms_back, typed_back, whole}
-use Rattle.smt_graph.specs.Parts.{field_names, field_terms, names_in, types_in}
+use Rattle.law_terms.specs.Plain.{ExtensionKind, PlainFunction, PlainType, OptionType, BitVecType, BoolType, EntityType, ExtensionType, StringType, RecordType, SetType, AttributeTypes, PlainLiteral, PlainOp, UufOp, PlainTerm, Application, NoneTerm, LiteralTerm, RecordTerm, SetTerm, SomeTerm, VariableTerm, PlainFields, terms}
+use Rattle.law_terms.specs.TermOrder.{function_cmp, literal_cmp, op_cmp, op_fields_cmp, op_place, term_cmp, terms_cmp}
+use Rattle.law_terms.specs.Types.{extension_kind_place, field_types, literal_type, type_cmp, type_of}
+use Rattle.law_terms.specs.ValueOrder.{ascends, text_cmp}
+use Rattle.law_terms.proofs.SameTerm.{function_same, literal_same, op_same, term_same}
+use Rattle.law_terms.proofs.TermTotal.{terms_decided, types_decided}
+use Rattle.law_terms.proofs.TypeOrder.{type_same}
+use Rattle.law_terms.specs.Fits.{applies_no_function}
+use Rattle.law_terms.specs.Graphs.{IsGraph}
+use Rattle.law_terms.specs.Meanings.{all_found, attributes_in, fields_in, found, meaning_at, meanings, stands_for, term_made, terms_in, typed_as}
+use Rattle.law_terms.specs.Nodes.{PlainLabel, OptionLabel, BitVecLabel, BoolLabel, EntityLabel, ExtensionLabel, StringLabel, RecordLabel, SetLabel, FunctionLabel, ApplicationLabel, CallLabel, NoneLabel, LiteralLabel, RecordOfLabel, SetOfLabel, SomeLabel, VariableLabel, PlainNode, Meaning, TypeMeaning, FunctionMeaning, TermMeaning}
+use Rattle.law_terms.proofs.Distinct.{Stands, node_stands, places_differ}
+use Rattle.law_terms.proofs.Places.{map_back, only_back, some_same, test_back, then_back}
+use Rattle.law_terms.proofs.Whole.{terms_back, typed_back, whole}
+use Rattle.law_terms.specs.Parts.{field_names, field_terms, types_in, attribute_names}
 use Rattle.smt_term.specs.View.{plain_literal, plain_op}
-use Rattle.smt_characters.specs.SharedTexts.{texts}
+use Rattle.law_texts.specs.SharedTexts.{texts}
 use Rattle.smt_nodes.proofs.ComparingRecords.{alike_lists, attributes_cmp, fields_alike, fields_by_attributes, types_alike, types_by_attributes}
-use Rattle.smt_node_tables.proofs.Levels.{op_itself}
-use Rattle.smt_node_tables.specs.Attributes.{attributes_of}
-use Rattle.smt_node_tables.specs.Order.{attributes_apart, difference_of, first_cmp, function_place, or_else, parts_apart}
+use Rattle.smt_nodes.proofs.Levels.{op_itself}
+use Rattle.smt_nodes.specs.Attributes.{attributes_of}
+use Rattle.smt_nodes.specs.LabelOrder.{attributes_apart, difference_of, first_cmp, function_place, or_else, parts_apart}
 use Rattle.smt_nodes.specs.Order.{are_alike, meaning_cmp}
-use Rattle.smt_node_tables.specs.View.{ids_of, place_of, places_of, plain_label, plain_node}
-use Rattle.smt_node_tables.specs.declared.id.NodeId.{NodeId}
-use Rattle.smt_node_tables.specs.declared.node.Label.{Label}
-use Rattle.smt_node_tables.specs.declared.node.Label.TheVariants.{TOption, TBitvec, TBool, TEntity, TExt, TString, TRecord, TSet, Fun, App, Call, NoneOf, Prim, RecordOf, SetOf, SomeOf, Var}
-use Rattle.smt_node_tables.specs.declared.node.Node.{Node}
-use Rattle.smt_node_tables.specs.declared.order.Difference.{Difference}
-use Rattle.smt_node_tables.specs.declared.order.Difference.TheVariants.{Nowhere, At, Length}
+use Rattle.smt_nodes.specs.View.{ids_of, place_of, places_of, plain_label, plain_node}
+use Rattle.smt_nodes.specs.declared.id.NodeId.{NodeId}
+use Rattle.smt_nodes.specs.declared.node.Label.{Label}
+use Rattle.smt_nodes.specs.declared.node.Label.TheVariants.{TOption, TBitvec, TBool, TEntity, TExt, TString, TRecord, TSet, Fun, App, Call, NoneOf, Prim, RecordOf, SetOf, SomeOf, Var}
+use Rattle.smt_nodes.specs.declared.node.Node.{Node}
+use Rattle.smt_nodes.specs.declared.label_order.Difference.{Difference}
+use Rattle.smt_nodes.specs.declared.label_order.Difference.TheVariants.{Nowhere, At, Length}
 
 -- the labels of the program, what their parts stand for and what they stand for
 pub data Shape : PlainLabel → List Meaning → Meaning → Type 0 where
@@ -46,7 +46,7 @@ pub data Shape : PlainLabel → List Meaning → Meaning → Type 0 where
   extensions : (k : ExtensionKind) → Shape (ExtensionLabel k) [] (TypeMeaning (ExtensionType k))
   entities : (e : List ℕ) → Shape (EntityLabel e) [] (TypeMeaning (EntityType e))
   a_text : Shape StringLabel [] (TypeMeaning StringType)
-  a_record_type : (x : AttributeTypes) → Shape (RecordLabel (names_in x)) (types_in x) (TypeMeaning (RecordType x))
+  a_record_type : (x : AttributeTypes) → Shape (RecordLabel (attribute_names x)) (types_in x) (TypeMeaning (RecordType x))
   a_set : (t : PlainType) → Shape SetLabel (TypeMeaning t ∷ []) (TypeMeaning (SetType t))
   a_function : (id : List ℕ) (t u : PlainType) → Shape (FunctionLabel id) (TypeMeaning t ∷ TypeMeaning u ∷ []) (FunctionMeaning (record { id = id; argument = t; output = u }))
   applied : (o : PlainOp) → applies_no_function (ApplicationLabel o) ≡ true → (t : PlainType) (ts : List PlainTerm) → Shape (ApplicationLabel o) (TypeMeaning t ∷ map TermMeaning ts) (TermMeaning (Application o (terms ts) t))
@@ -110,7 +110,7 @@ record_type_shape names ms m h =
     let (x, e, d) = map_back (λ x. TypeMeaning (RecordType x)) (attributes_in names ms) m k in
     let (p, q) = whole (RecordLabel names) ms (TypeMeaning (RecordType x)) (h ∙ ap Some (sym d)) in
     let S : PlainLabel → List Meaning → Type 0 = λ l ms. Shape l ms (TypeMeaning (RecordType x)) in
-    subst (Shape (RecordLabel names) ms) d (subst (λ l. S l ms) (sym p) (subst (S (RecordLabel (names_in x))) (sym q) (a_record_type x)))
+    subst (Shape (RecordLabel names) ms) d (subst (λ l. S l ms) (sym p) (subst (S (RecordLabel (attribute_names x))) (sym q) (a_record_type x)))
 
 record_shape : (names : List (List ℕ)) (t : PlainType) (ms : List Meaning) (m : Meaning) → option_and_then (typed_as t) (term_made (RecordOfLabel names) t ms) ≡ Some m → Shape (RecordOfLabel names) (TypeMeaning t ∷ ms) m
 record_shape names t ms m h =
@@ -397,7 +397,7 @@ parts_outcome ns g _ _ _ _ _ _ a_truth a_truth h xs ys p q = outcome ns g xs ys 
 parts_outcome ns g _ _ _ _ _ _ (entities e) (entities f) h xs ys p q = outcome ns g xs ys _ _ p q refl
 parts_outcome ns g _ _ _ _ _ _ (extensions k) (extensions l) h xs ys p q = outcome ns g xs ys _ _ p q refl
 parts_outcome ns g _ _ _ _ _ _ a_text a_text h xs ys p q = outcome ns g xs ys _ _ p q refl
-parts_outcome ns g _ _ _ _ _ _ (a_record_type v) (a_record_type w) h xs ys p q = attributes_outcome ns g (names_in v) (names_in w) xs ys _ _ p q (types_alike v w)
+parts_outcome ns g _ _ _ _ _ _ (a_record_type v) (a_record_type w) h xs ys p q = attributes_outcome ns g (attribute_names v) (attribute_names w) xs ys _ _ p q (types_alike v w)
 parts_outcome ns g _ _ _ _ _ _ (a_set t) (a_set u) h xs ys p q = outcome ns g xs ys _ _ p q refl
 parts_outcome ns g _ _ _ _ _ _ (applied o a t ts) (applied r b u us) h xs ys p q = type_last ns g (ApplicationLabel o) (ApplicationLabel r) (λ xs ys t u. refl) xs ys _ _ _ _ p q refl (all_alike ts us)
 parts_outcome ns g _ _ _ _ _ _ (a_function a t u) (a_function b v w) h xs ys p q = outcome ns g xs ys _ _ p q refl

@@ -5,12 +5,12 @@ use Rattle.std.specs.Ordering.{ordering_then}
 use Rattle.std.specs.Prelude.{◌&&◌, Bool}
 use Rattle.std.specs.declared.cmp.Ordering.{Ordering}
 use Rattle.std.specs.declared.cmp.Ordering.TheVariants.{Less, Equal, Greater}
-use Rattle.smt_meaning.specs.Plain.{AttributeTypes, no_attributes, attribute, PlainFields, no_fields, one_field}
-use Rattle.smt_meaning.specs.TermOrder.{fields_cmp, term_cmp}
-use Rattle.smt_meaning.specs.Types.{attribute_types_cmp, type_cmp}
-use Rattle.smt_meaning.specs.ValueOrder.{text_cmp}
-use Rattle.smt_graph.specs.Nodes.{Meaning}
-use Rattle.smt_graph.specs.Parts.{field_names, field_terms, names_in, types_in}
+use Rattle.law_terms.specs.Plain.{AttributeTypes, no_attributes, attribute, PlainFields, no_fields, one_field}
+use Rattle.law_terms.specs.TermOrder.{fields_cmp, term_cmp}
+use Rattle.law_terms.specs.Types.{attribute_types_cmp, type_cmp}
+use Rattle.law_terms.specs.ValueOrder.{text_cmp}
+use Rattle.law_terms.specs.Nodes.{Meaning}
+use Rattle.law_terms.specs.Parts.{field_names, field_terms, types_in, attribute_names}
 use Rattle.smt_nodes.specs.Order.{are_alike, meaning_cmp}
 
 -- attributes with what stands for each, one behind the other: the attribute first
@@ -21,7 +21,7 @@ attributes_cmp (a ∷ as') [] ps qs = Greater
 attributes_cmp (a ∷ as') (b ∷ bs) (p ∷ ps) (q ∷ qs) = ordering_then (ordering_then (text_cmp a b) (meaning_cmp p q)) (attributes_cmp as' bs ps qs)
 attributes_cmp (a ∷ as') (b ∷ bs) ps qs = slice_cmp meaning_cmp ps qs
 
-pub types_by_attributes : (x y : AttributeTypes) → attribute_types_cmp x y ≡ attributes_cmp (names_in x) (names_in y) (types_in x) (types_in y)
+pub types_by_attributes : (x y : AttributeTypes) → attribute_types_cmp x y ≡ attributes_cmp (attribute_names x) (attribute_names y) (types_in x) (types_in y)
 types_by_attributes no_attributes no_attributes = refl
 types_by_attributes no_attributes (attribute b u y) = refl
 types_by_attributes (attribute a t x) no_attributes = refl

@@ -6,29 +6,29 @@ use Rattle.std.proofs.lemmas.List.{length-map}
 use Rattle.std.specs.Cmp.{unsigned_Decides}
 use Rattle.std.specs.declared.alloc.Global.{Global}
 use Rattle.std.specs.Prelude.{◌↔◌, IfSome, nat_eq, Option, Some, None, option_and_then, option_map, slice_get}
-use Rattle.smt_meaning.specs.Plain.{PlainType, OptionType, RecordType, SetType, AttributeTypes, PlainLiteral, PlainOp, UufOp, PlainTerm, Application, NoneTerm, LiteralTerm, RecordTerm, SetTerm, SomeTerm, VariableTerm, PlainTerms, no_terms, one_term, PlainFields, terms, list_of_terms}
-use Rattle.smt_meaning.specs.Types.{literal_type, type_of}
-use Rattle.smt_meaning.specs.ValueOrder.{ascends, text_cmp}
-use Rattle.smt_meaning.proofs.TermTotal.{types_decided}
-use Rattle.smt_graph.specs.Graphs.{IsGraph}
-use Rattle.smt_graph.specs.Meanings.{all_found, attributes_in, fields_in, found, meaning_at, meanings, only_if, stands_for, term_made, terms_in, typed_as}
-use Rattle.smt_graph.specs.Nodes.{PlainLabel, PlainNode, Meaning, TypeMeaning, FunctionMeaning, TermMeaning}
-use Rattle.smt_graph.specs.Parts.{field_names, field_terms, label_in, names_in, parts_in, term_label, term_parts, types_in}
-use Rattle.smt_graph.proofs.Distinct.{Stands, node_stands, nothing_past}
-use Rattle.smt_graph.proofs.Places.{map_back, only_back, some_same, test_back, then_back}
-use Rattle.smt_graph.proofs.Whole.{round, typed_back, whole}
+use Rattle.law_terms.specs.Plain.{PlainType, OptionType, RecordType, SetType, AttributeTypes, PlainLiteral, PlainOp, UufOp, PlainTerm, Application, NoneTerm, LiteralTerm, RecordTerm, SetTerm, SomeTerm, VariableTerm, PlainTerms, no_terms, one_term, PlainFields, terms, list_of_terms}
+use Rattle.law_terms.specs.Types.{literal_type, type_of}
+use Rattle.law_terms.specs.ValueOrder.{ascends, text_cmp}
+use Rattle.law_terms.proofs.TermTotal.{types_decided}
+use Rattle.law_terms.specs.Graphs.{IsGraph}
+use Rattle.law_terms.specs.Meanings.{all_found, attributes_in, fields_in, found, meaning_at, meanings, only_if, stands_for, term_made, terms_in, typed_as}
+use Rattle.law_terms.specs.Nodes.{PlainLabel, PlainNode, Meaning, TypeMeaning, FunctionMeaning, TermMeaning}
+use Rattle.law_terms.specs.Parts.{field_names, field_terms, label_in, parts_in, term_label, term_parts, types_in, attribute_names}
+use Rattle.law_terms.proofs.Distinct.{Stands, node_stands, nothing_past}
+use Rattle.law_terms.proofs.Places.{map_back, only_back, some_same, test_back, then_back}
+use Rattle.law_terms.proofs.Whole.{round, typed_back, whole}
 use Rattle.smt_term.specs.View.{plain_function, plain_op}
 use Rattle.std.specs.declared.rc.Rc.{Rc}
 use Rattle.smt_term.specs.declared.function.Uuf.{Uuf as Function}
 use Rattle.smt_term.specs.declared.op.Op.{Op}
 use Rattle.smt_term.specs.declared.op.Op.TheVariants.{And, Uuf}
-use Rattle.smt_node_tables.proofs.Matching.{IsNoFunction}
+use Rattle.smt_nodes.proofs.Matching.{IsNoFunction}
 use Rattle.smt_nodes.proofs.Comparing.{head_found}
 use Rattle.smt_nodes.proofs.Interning.{are_terms_in}
 use Rattle.smt_nodes.proofs.RecordParts.{Listing, attributes_round, fields_round}
 use Rattle.smt_nodes.specs.Kinds.{is_option_of_at, is_type_of_at}
-use Rattle.smt_node_tables.specs.View.{place_of, places_of}
-use Rattle.smt_node_tables.specs.declared.id.NodeId.{NodeId}
+use Rattle.smt_nodes.specs.View.{place_of, places_of}
+use Rattle.smt_nodes.specs.declared.id.NodeId.{NodeId}
 
 -- ---- a meaning is determined by its label and its parts
 -- lists of terms, there and back
@@ -70,9 +70,9 @@ typed_again u m h =
     let (v, e, s, k) = typed_back (term_label u) (type_of u) (term_parts u) m h in
     ap TermMeaning (term_again u v e) ∙ k
 
-attributes_again : (x : AttributeTypes) (m : Meaning) → only_if (ascends text_cmp (names_in x)) (option_map (λ x. TypeMeaning (RecordType x)) (attributes_in (names_in x) (types_in x))) ≡ Some m → TypeMeaning (RecordType x) ≡ m
+attributes_again : (x : AttributeTypes) (m : Meaning) → only_if (ascends text_cmp (attribute_names x)) (option_map (λ x. TypeMeaning (RecordType x)) (attributes_in (attribute_names x) (types_in x))) ≡ Some m → TypeMeaning (RecordType x) ≡ m
 attributes_again x m h =
-    let (b, k) = only_back (ascends text_cmp (names_in x)) (option_map (λ x. TypeMeaning (RecordType x)) (attributes_in (names_in x) (types_in x))) m h in
+    let (b, k) = only_back (ascends text_cmp (attribute_names x)) (option_map (λ x. TypeMeaning (RecordType x)) (attributes_in (attribute_names x) (types_in x))) m h in
     some_same (TypeMeaning (RecordType x)) m (sym (ap (option_map (λ x. TypeMeaning (RecordType x))) (attributes_round x)) ∙ k)
 
 -- what label and parts of a meaning stand for is that meaning

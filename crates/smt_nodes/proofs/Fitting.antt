@@ -4,24 +4,24 @@ use Rattle.std.specs.Bool.{one_answer}
 use Rattle.std.specs.Cmp.{unsigned_Decides}
 use Rattle.std.specs.List.{list_all}
 use Rattle.std.specs.Prelude.{◌&&◌, Decides, IfSome, Option, Some, None, eqb, is_some, option_and_then, option_map, unwrap_or}
-use Rattle.smt_meaning.specs.Plain.{OptionType, PlainLiteral, PlainOp, PlainTerm}
-use Rattle.smt_meaning.specs.TermOrder.{term_cmp}
-use Rattle.smt_meaning.specs.Types.{inner_type, is_set, literal_type, type_eq, type_of}
-use Rattle.smt_meaning.specs.ValueOrder.{ascends}
-use Rattle.smt_meaning.proofs.TermTotal.{types_decided}
-use Rattle.smt_graph.specs.Fits.{applies_no_function, fits, is_term}
-use Rattle.smt_graph.specs.Graphs.{IsGraph}
-use Rattle.smt_graph.specs.Meanings.{all_found, found, meaning_at, meanings, stands_for, terms_in}
-use Rattle.smt_graph.specs.Nodes.{PlainLabel, OptionLabel, BitVecLabel, BoolLabel, EntityLabel, ExtensionLabel, StringLabel, SetLabel, FunctionLabel, ApplicationLabel, CallLabel, NoneLabel, LiteralLabel, SetOfLabel, SomeLabel, VariableLabel, PlainNode, Meaning, TypeMeaning, FunctionMeaning, TermMeaning}
-use Rattle.smt_graph.specs.Parts.{parts_in, term_parts}
-use Rattle.smt_graph.proofs.Distinct.{places_differ}
-use Rattle.smt_graph.proofs.Fitting.{are_terms, fitting, parts_fit}
-use Rattle.smt_graph.proofs.Places.{map_back, then_back}
+use Rattle.law_terms.specs.Plain.{OptionType, PlainLiteral, PlainOp, PlainTerm}
+use Rattle.law_terms.specs.TermOrder.{term_cmp}
+use Rattle.law_terms.specs.Types.{inner_type, is_set, literal_type, type_eq, type_of}
+use Rattle.law_terms.specs.ValueOrder.{ascends}
+use Rattle.law_terms.proofs.TermTotal.{types_decided}
+use Rattle.law_terms.specs.Fits.{applies_no_function, fits, is_term}
+use Rattle.law_terms.specs.Graphs.{IsGraph}
+use Rattle.law_terms.specs.Meanings.{all_found, found, meaning_at, meanings, stands_for, terms_in}
+use Rattle.law_terms.specs.Nodes.{PlainLabel, OptionLabel, BitVecLabel, BoolLabel, EntityLabel, ExtensionLabel, StringLabel, SetLabel, FunctionLabel, ApplicationLabel, CallLabel, NoneLabel, LiteralLabel, SetOfLabel, SomeLabel, VariableLabel, PlainNode, Meaning, TypeMeaning, FunctionMeaning, TermMeaning}
+use Rattle.law_terms.specs.Parts.{parts_in, term_parts}
+use Rattle.law_terms.proofs.Distinct.{places_differ}
+use Rattle.law_terms.proofs.Fitting.{are_terms, fitting, parts_fit}
+use Rattle.law_terms.proofs.Places.{map_back, then_back}
 use Rattle.smt_nodes.specs.Kinds.{are_called_at, ascend_at, is_function_at, is_option_at, is_option_of_at, is_set_at, is_term_at, is_type_at, is_type_of_at, terms_at}
-use Rattle.smt_node_tables.specs.View.{ids_of, place_of, places_of, plain_label, plain_node}
-use Rattle.smt_node_tables.specs.declared.node.Label.{Label}
-use Rattle.smt_node_tables.specs.declared.node.Node.{Node}
-use Rattle.smt_node_tables.specs.declared.id.NodeId.{NodeId}
+use Rattle.smt_nodes.specs.View.{ids_of, place_of, places_of, plain_label, plain_node}
+use Rattle.smt_nodes.specs.declared.node.Label.{Label}
+use Rattle.smt_nodes.specs.declared.node.Node.{Node}
+use Rattle.smt_nodes.specs.declared.id.NodeId.{NodeId}
 
 -- ---- what is found first
 pub first_found : (ms : List (Option Meaning)) (xs : List NodeId) (d : NodeId) (m : Meaning) (ps : List Meaning) → all_found ms (places_of xs) ≡ Some (m ∷ ps) → found ms (place_of (get_or xs 0 d)) ≡ Some m

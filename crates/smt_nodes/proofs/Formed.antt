@@ -1,26 +1,26 @@
 -- What a node stands for is formed where its label is and what its parts stand for is.
-use Rattle.std.proofs.Common.{◌≡◌, ℕ, ◌≤◌, List, [], ◌∷◌, map, Some, refl, sym, ap, ◌∙◌, inl, inr, subst}
+use Rattle.std.proofs.Common.{◌≡◌, ℕ, ◌≤◌, List, [], ◌∷◌, map, Some, sym, ap, ◌∙◌, inl, inr, subst}
 use Rattle.std.specs.List.{AllByRecursion}
 use Rattle.std.specs.Prelude.{IsTrue, Option, option_map, ⊤}
-use Rattle.smt_meaning.specs.Formed.{IsFormedHere, IsFormedLiteral, IsFormedType, attribute_names}
-use Rattle.smt_meaning.specs.ValueOrder.{ascends, text_cmp}
-use Rattle.smt_meaning.specs.Plain.{PlainType, OptionType, BitVecType, RecordType, SetType, AttributeTypes, no_attributes, attribute, UufOp, PlainTerm, Application, NoneTerm, LiteralTerm, RecordTerm, SetTerm, SomeTerm, VariableTerm, PlainTerms, no_terms, one_term, PlainFields, no_fields, one_field, list_of_terms}
-use Rattle.smt_meaning.specs.Reached.{subterms, subterms_of_all, subterms_of_fields, types_within, types_within_attributes}
-use Rattle.smt_meaning.proofs.Defaults.{all-join}
-use Rattle.smt_meaning.proofs.Soundness.{all-front, all-last}
-use Rattle.smt_graph.specs.Graphs.{IsGraph}
-use Rattle.smt_graph.specs.Meanings.{all_found, attributes_in, found, meaning_at, meaning_of, meanings, stands_for}
-use Rattle.smt_graph.specs.Nodes.{PlainLabel, BitVecLabel, RecordLabel, LiteralLabel, PlainNode, Meaning, TypeMeaning, FunctionMeaning, TermMeaning}
-use Rattle.smt_graph.specs.Parts.{field_terms, label_in, names_in, parts_in, type_label, type_parts, types_in}
-use Rattle.smt_graph.proofs.Growth.{Graph, by_nodes, empty, grown}
-use Rattle.smt_graph.proofs.Places.{found_split, map_back, meanings_grow, only_back, some_same, then_back}
-use Rattle.smt_graph.proofs.Whole.{whole}
+use Rattle.law_terms.specs.Formed.{IsFormedHere, IsFormedLiteral, IsFormedType}
+use Rattle.law_terms.specs.ValueOrder.{ascends, text_cmp}
+use Rattle.law_terms.specs.Plain.{PlainType, OptionType, BitVecType, RecordType, SetType, AttributeTypes, no_attributes, attribute, UufOp, PlainTerm, Application, NoneTerm, LiteralTerm, RecordTerm, SetTerm, SomeTerm, VariableTerm, PlainTerms, no_terms, one_term, PlainFields, no_fields, one_field, list_of_terms}
+use Rattle.law_terms.specs.Reached.{subterms, subterms_of_all, subterms_of_fields, types_within, types_within_attributes}
+use Rattle.law_terms.proofs.Defaults.{all-join}
+use Rattle.law_terms.proofs.Soundness.{all-front, all-last}
+use Rattle.law_terms.specs.Graphs.{IsGraph}
+use Rattle.law_terms.specs.Meanings.{all_found, attributes_in, found, meaning_at, meaning_of, meanings, stands_for}
+use Rattle.law_terms.specs.Nodes.{PlainLabel, BitVecLabel, RecordLabel, LiteralLabel, PlainNode, Meaning, TypeMeaning, FunctionMeaning, TermMeaning}
+use Rattle.law_terms.specs.Parts.{field_terms, label_in, parts_in, type_label, type_parts, types_in, attribute_names}
+use Rattle.law_terms.proofs.Growth.{Graph, by_nodes, empty, grown}
+use Rattle.law_terms.proofs.Places.{found_split, map_back, meanings_grow, only_back, some_same, then_back}
+use Rattle.law_terms.proofs.Whole.{whole}
 use Rattle.smt_term.proofs.FormedTerms.{IsFormedBoth, formed_literal}
 use Rattle.smt_types.proofs.FormedTypes.{formed_option, formed_set}
-use Rattle.smt_node_tables.specs.View.{plain_label, plain_node}
-use Rattle.smt_node_tables.specs.declared.node.Label.{Label}
-use Rattle.smt_node_tables.specs.declared.node.Label.TheVariants.{TBitvec, Prim}
-use Rattle.smt_node_tables.specs.declared.node.Node.{Node}
+use Rattle.smt_nodes.specs.View.{plain_label, plain_node}
+use Rattle.smt_nodes.specs.declared.node.Label.{Label}
+use Rattle.smt_nodes.specs.declared.node.Label.TheVariants.{TBitvec, Prim}
+use Rattle.smt_nodes.specs.declared.node.Node.{Node}
 
 -- a label as the program has it
 abbrev IsFormedLabel : PlainLabel → Type 0
@@ -37,19 +37,14 @@ abbrev AreFormed : List Meaning → Type 0
 AreFormed ms = AllByRecursion IsFormedMeaning ms
 
 -- ---- one step, from the parts to the whole
-names_are : (x : AttributeTypes) → names_in x ≡ attribute_names x
-names_are no_attributes = refl
-names_are (attribute a t x) = ap (λ l. a ∷ l) (names_are x)
-
 attributes_step : (x : AttributeTypes) → AreFormed (types_in x) → AllByRecursion IsFormedHere (types_within_attributes x)
 attributes_step no_attributes h = tt
 attributes_step (attribute a t x) h = all-join IsFormedHere (types_within t) (types_within_attributes x) h.0 (attributes_step x h.1)
 
 -- the attributes of a record type that something stands for ascend
-attributes_ascend : (x : AttributeTypes) → stands_for (RecordLabel (names_in x)) (types_in x) ≡ Some (TypeMeaning (RecordType x)) → IsTrue (ascends text_cmp (attribute_names x))
+attributes_ascend : (x : AttributeTypes) → stands_for (RecordLabel (attribute_names x)) (types_in x) ≡ Some (TypeMeaning (RecordType x)) → IsTrue (ascends text_cmp (attribute_names x))
 attributes_ascend x h =
-    let P : List (List ℕ) → Type 0 = λ l. IsTrue (ascends text_cmp l) in
-    subst P (names_are x) (only_back (ascends text_cmp (names_in x)) (option_map (λ x. TypeMeaning (RecordType x)) (attributes_in (names_in x) (types_in x))) (TypeMeaning (RecordType x)) h).0
+    (only_back (ascends text_cmp (attribute_names x)) (option_map (λ x. TypeMeaning (RecordType x)) (attributes_in (attribute_names x) (types_in x))) (TypeMeaning (RecordType x)) h).0
 
 type_step : (t : PlainType) → stands_for (type_label t) (type_parts t) ≡ Some (TypeMeaning t) → IsFormedLabel (type_label t) → AreFormed (type_parts t) → IsFormedType t
 type_step (OptionType t) e l h = formed_option t h.0

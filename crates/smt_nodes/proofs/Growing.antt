@@ -3,18 +3,18 @@ use Rattle.std.proofs.Common.{◌≡◌, ℕ, ◌<◌, ◌≤◌, ◌^◌, List,
 use Rattle.std.proofs.lemmas.List.{length-map, map-append}
 use Rattle.std.specs.Prelude.{Contains, IfOk, IsTrue, OnErr, OnOk, Result, Ok, Err}
 use Rattle.std.specs.Option.{ForSome}
-use Rattle.smt_meaning.specs.Plain.{BoolType}
-use Rattle.smt_graph.specs.Nodes.{PlainNode, Meaning, TypeMeaning}
-use Rattle.smt_graph.specs.Fits.{fits}
-use Rattle.smt_graph.specs.Graphs.{IsGraph}
-use Rattle.smt_graph.specs.Meanings.{meaning_at, meaning_of, meanings}
-use Rattle.smt_graph.proofs.Distinct.{no_older}
-use Rattle.smt_graph.proofs.Growth.{grow}
-use Rattle.smt_graph.proofs.Places.{last_has, meaning_stays}
+use Rattle.law_terms.specs.Plain.{BoolType}
+use Rattle.law_terms.specs.Nodes.{PlainNode, Meaning, TypeMeaning}
+use Rattle.law_terms.specs.Fits.{fits}
+use Rattle.law_terms.specs.Graphs.{IsGraph}
+use Rattle.law_terms.specs.Meanings.{meaning_at, meaning_of, meanings}
+use Rattle.law_terms.proofs.Distinct.{no_older}
+use Rattle.law_terms.proofs.Growth.{grow}
+use Rattle.law_terms.proofs.Places.{last_has, meaning_stays}
 use Rattle.smt_nodes.specs.Kinds.{is_bool_at}
-use Rattle.smt_node_tables.specs.View.{place_of, plain_node}
-use Rattle.smt_node_tables.specs.declared.id.NodeId.{NodeId}
-use Rattle.smt_node_tables.specs.declared.node.Node.{Node}
+use Rattle.smt_nodes.specs.View.{place_of, plain_node}
+use Rattle.smt_nodes.specs.declared.id.NodeId.{NodeId}
+use Rattle.smt_nodes.specs.declared.node.Node.{Node}
 
 grown_nodes : (nodes more : List Node) (node : Node) → more ≡ nodes ++ node ∷ [] → map plain_node more ≡ map plain_node nodes ++ plain_node node ∷ []
 grown_nodes nodes more node e = ap (map plain_node) e ∙ map-append plain_node nodes (node ∷ [])

@@ -2,12 +2,12 @@
 use Rattle.std.proofs.Common.{◌≡◌, ℕ, ◌+◌, ◌<◌, List, [], ◌∷◌, ◌++◌, Some, add-one, get_or, length, map, take, sym, ap, ◌∙◌}
 use Rattle.std.proofs.Math.Seq.{take-suc}
 use Rattle.std.proofs.lemmas.List.{map-append}
-use Rattle.smt_graph.specs.Meanings.{all_found, meaning_at, meanings}
-use Rattle.smt_graph.specs.Nodes.{PlainNode, TermMeaning}
+use Rattle.law_terms.specs.Meanings.{all_found, meaning_at, meanings}
+use Rattle.law_terms.specs.Nodes.{PlainNode, TermMeaning}
 use Rattle.smt_term.specs.View.{plain_term}
 use Rattle.smt_term.specs.declared.term.Term.{Term}
-use Rattle.smt_node_tables.specs.View.{place_of, places_of}
-use Rattle.smt_node_tables.specs.declared.id.NodeId.{NodeId}
+use Rattle.smt_nodes.specs.View.{place_of, places_of}
+use Rattle.smt_nodes.specs.declared.id.NodeId.{NodeId}
 use Rattle.smt_nodes.proofs.Interning.{more_found}
 
 -- one number more, for the next term

@@ -3,16 +3,16 @@ use Rattle.std.proofs.Common.{◌≡◌, ℕ, ◌+◌, ◌<◌, List, [], ◌∷
 use Rattle.std.proofs.lemmas.List.{append_assoc, map-append}
 use Rattle.std.specs.Bool.{then_some}
 use Rattle.std.specs.Prelude.{Result, Ok, Err, IfOk, Option, Some, option_and_then, option_map}
-use Rattle.smt_meaning.specs.Plain.{PlainFunction, PlainType, OptionType, RecordType, SetType, AttributeTypes, PlainFields, PlainLiteral, PlainTerm, Application, NoneTerm, LiteralTerm, RecordTerm, SetTerm, SomeTerm, UufOp, VariableTerm, terms}
-use Rattle.smt_meaning.specs.TermOrder.{term_cmp}
-use Rattle.smt_meaning.specs.Types.{field_types, literal_type, type_eq, type_of}
-use Rattle.smt_meaning.specs.ValueOrder.{ascends, text_cmp}
-use Rattle.smt_meaning.proofs.TermTotal.{types_decided}
-use Rattle.smt_graph.specs.Meanings.{all_found, attributes_in, fields_in, found, meaning_at, meanings, only_if, stands_for, terms_in, typed_as}
-use Rattle.smt_graph.specs.Parts.{field_names, field_terms, names_in, types_in}
-use Rattle.smt_graph.specs.Nodes.{RecordLabel, CallLabel, NoneLabel, LiteralLabel, RecordOfLabel, SetOfLabel, SomeLabel, VariableLabel, PlainNode, Meaning, TypeMeaning, FunctionMeaning, TermMeaning}
-use Rattle.smt_graph.proofs.Places.{map_back, some_same, test_back, then_back}
-use Rattle.smt_graph.proofs.Whole.{typed_back}
+use Rattle.law_terms.specs.Plain.{PlainFunction, PlainType, OptionType, RecordType, SetType, AttributeTypes, PlainFields, PlainLiteral, PlainTerm, Application, NoneTerm, LiteralTerm, RecordTerm, SetTerm, SomeTerm, UufOp, VariableTerm, terms}
+use Rattle.law_terms.specs.TermOrder.{term_cmp}
+use Rattle.law_terms.specs.Types.{field_types, literal_type, type_eq, type_of}
+use Rattle.law_terms.specs.ValueOrder.{ascends, text_cmp}
+use Rattle.law_terms.proofs.TermTotal.{types_decided}
+use Rattle.law_terms.specs.Meanings.{all_found, attributes_in, fields_in, found, meaning_at, meanings, only_if, stands_for, terms_in, typed_as}
+use Rattle.law_terms.specs.Parts.{field_names, field_terms, types_in, attribute_names}
+use Rattle.law_terms.specs.Nodes.{RecordLabel, CallLabel, NoneLabel, LiteralLabel, RecordOfLabel, SetOfLabel, SomeLabel, VariableLabel, PlainNode, Meaning, TypeMeaning, FunctionMeaning, TermMeaning}
+use Rattle.law_terms.proofs.Places.{map_back, some_same, test_back, then_back}
+use Rattle.law_terms.proofs.Whole.{typed_back}
 use Rattle.smt_term.specs.View.{plain_op}
 use Rattle.std.specs.declared.alloc.Global.{Global}
 use Rattle.std.specs.declared.rc.Rc.{Rc}
@@ -20,9 +20,9 @@ use Rattle.smt_term.specs.declared.function.Uuf.{Uuf as Function}
 use Rattle.smt_term.specs.declared.op.Op.{Op}
 use Rattle.smt_term.specs.declared.op.Op.TheVariants.{And, Uuf}
 use Rattle.smt_nodes.proofs.RecordParts.{Listing, attributes_round, fields_round, listed-take}
-use Rattle.smt_node_tables.specs.View.{place_of, places_of, plain_label}
-use Rattle.smt_node_tables.specs.declared.id.NodeId.{NodeId}
-use Rattle.smt_node_tables.specs.declared.node.Label.TheVariants.{App}
+use Rattle.smt_nodes.specs.View.{place_of, places_of, plain_label}
+use Rattle.smt_nodes.specs.declared.id.NodeId.{NodeId}
+use Rattle.smt_nodes.specs.declared.node.Label.TheVariants.{App}
 
 -- ---- what is found stays so
 abbrev Keeps : List PlainNode → List PlainNode → Type 0
@@ -96,9 +96,9 @@ set_means t ts m h =
     let (b, c) = test_back (ascends term_cmp ts) (SetTerm t (terms ts)) u made in
     ap (λ u. Some (TermMeaning u)) c ∙ ap Some k
 
-pub record_type_means : (x : AttributeTypes) → ascends text_cmp (names_in x) ≡ true → stands_for (RecordLabel (names_in x)) (types_in x) ≡ Some (TypeMeaning (RecordType x))
+pub record_type_means : (x : AttributeTypes) → ascends text_cmp (attribute_names x) ≡ true → stands_for (RecordLabel (attribute_names x)) (types_in x) ≡ Some (TypeMeaning (RecordType x))
 record_type_means x h =
-    ap (λ b. only_if b (option_map (λ x. TypeMeaning (RecordType x)) (attributes_in (names_in x) (types_in x)))) h ∙ ap (option_map (λ x. TypeMeaning (RecordType x))) (attributes_round x)
+    ap (λ b. only_if b (option_map (λ x. TypeMeaning (RecordType x)) (attributes_in (attribute_names x) (types_in x)))) h ∙ ap (option_map (λ x. TypeMeaning (RecordType x))) (attributes_round x)
 
 pub record_means : (x : PlainFields) → ascends text_cmp (field_names x) ≡ true → stands_for (RecordOfLabel (field_names x)) (TypeMeaning (RecordType (field_types x)) ∷ field_terms x) ≡ Some (TermMeaning (RecordTerm x))
 record_means x h =

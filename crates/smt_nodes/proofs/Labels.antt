@@ -3,16 +3,16 @@ use Rattle.std.proofs.Common.{◌≡◌, ℕ, zero, suc, ◌+◌, ◌<◌, List,
 use Rattle.std.proofs.lemmas.Option.{slice_get-get_or, slice_get-map, slice_get_within}
 use Rattle.std.specs.List.{AllByRecursion}
 use Rattle.std.specs.Prelude.{Contains, IfSome, option_and_then, option_map, slice_get}
-use Rattle.smt_graph.specs.Graphs.{IsGraph}
-use Rattle.smt_graph.specs.Meanings.{all_found, meaning_at, meaning_of, meanings, stands_for}
-use Rattle.smt_graph.specs.Nodes.{PlainNode, Meaning}
-use Rattle.smt_graph.specs.Parts.{label_in, parts_in}
-use Rattle.smt_graph.proofs.Distinct.{Stands, node_stands, nothing_past}
-use Rattle.smt_graph.proofs.Growth.{place_in}
-use Rattle.smt_graph.proofs.Places.{some_same}
-use Rattle.smt_graph.proofs.Whole.{whole}
-use Rattle.smt_node_tables.specs.View.{place_of, places_of}
-use Rattle.smt_node_tables.specs.declared.id.NodeId.{NodeId}
+use Rattle.law_terms.specs.Graphs.{IsGraph}
+use Rattle.law_terms.specs.Meanings.{all_found, meaning_at, meaning_of, meanings, stands_for}
+use Rattle.law_terms.specs.Nodes.{PlainNode, Meaning}
+use Rattle.law_terms.specs.Parts.{label_in, parts_in}
+use Rattle.law_terms.proofs.Distinct.{Stands, node_stands, nothing_past}
+use Rattle.law_terms.proofs.Growth.{place_in}
+use Rattle.law_terms.proofs.Places.{some_same}
+use Rattle.law_terms.proofs.Whole.{whole}
+use Rattle.smt_nodes.specs.View.{place_of, places_of}
+use Rattle.smt_nodes.specs.declared.id.NodeId.{NodeId}
 
 pub label_is : (ns : List PlainNode) → IsGraph ns → (i : ℕ) (n : PlainNode) → slice_get ns i ≡ Some n → Some n.label ≡ option_map label_in (meaning_at ns i)
 label_is ns g i n h =

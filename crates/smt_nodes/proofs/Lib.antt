@@ -8,6 +8,10 @@ pub mod Growing
 pub mod InternedTerms
 pub mod Interning
 pub mod Labels
+pub mod Levels
+pub mod MapNames
+pub mod Matching
 pub mod Rebuilding
 pub mod RecordFitting
 pub mod RecordParts
+pub mod Tables

@@ -4,8 +4,8 @@ use Rattle.std.proofs.Math.Seq.{take-suc}
 use Rattle.std.specs.Rc.{rc_str_bytes}
 use Rattle.std.specs.declared.alloc.Global.{Global}
 use Rattle.std.specs.declared.rc.RcStr.{RcStr}
-use Rattle.smt_characters.specs.SharedTexts.{texts}
-use Rattle.smt_leaves.specs.Pairs.{attributes_in as attributes_beside}
+use Rattle.law_texts.specs.SharedTexts.{texts}
+use Rattle.smt_types.specs.Pairs.{attributes_in as attributes_beside}
 use Rattle.smt_term.specs.View.{plain_type}
 use Rattle.smt_types.specs.declared.types.TermType.{TermType}
 use Rattle.smt_nodes.proofs.Interning.{more_found}
@@ -13,15 +13,15 @@ use Rattle.smt_nodes.proofs.RecordParts.{listed-append, types_listing, types_mea
 use Rattle.std.proofs.lemmas.List.{length-map, map-append}
 use Rattle.std.specs.List.{AllByRecursion}
 use Rattle.std.specs.Prelude.{IfSome, Option, option_map}
-use Rattle.smt_meaning.specs.Plain.{ExtensionKind, PlainType, BitVecType, BoolType, EntityType, ExtensionType, StringType, RecordType, AttributeTypes, no_attributes, attribute}
-use Rattle.smt_graph.specs.Meanings.{all_found, found}
-use Rattle.smt_graph.specs.Nodes.{PlainLabel, BitVecLabel, BoolLabel, EntityLabel, ExtensionLabel, StringLabel, RecordLabel, Meaning, TypeMeaning}
-use Rattle.smt_graph.specs.Parts.{label_in, names_in, parts_in, type_label, type_parts, types_in}
+use Rattle.law_terms.specs.Plain.{ExtensionKind, PlainType, BitVecType, BoolType, EntityType, ExtensionType, StringType, RecordType, AttributeTypes, no_attributes, attribute}
+use Rattle.law_terms.specs.Meanings.{all_found, found}
+use Rattle.law_terms.specs.Nodes.{PlainLabel, BitVecLabel, BoolLabel, EntityLabel, ExtensionLabel, StringLabel, RecordLabel, Meaning, TypeMeaning}
+use Rattle.law_terms.specs.Parts.{label_in, parts_in, type_label, type_parts, types_in, attribute_names}
 use Rattle.smt_nodes.proofs.Comparing.{head_found}
 use Rattle.smt_nodes.proofs.Finding.{as_many_found}
 use Rattle.smt_nodes.specs.Kinds.{is_type_at}
-use Rattle.smt_node_tables.specs.View.{place_of, places_of}
-use Rattle.smt_node_tables.specs.declared.id.NodeId.{NodeId}
+use Rattle.smt_nodes.specs.View.{place_of, places_of}
+use Rattle.smt_nodes.specs.declared.id.NodeId.{NodeId}
 
 pub a_type : (o : Option Meaning) → is_type_at o ≡ true → (t : PlainType) × (o ≡ Some (TypeMeaning t))
 a_type (Some (TypeMeaning t)) h = (t, refl)
@@ -55,7 +55,7 @@ of_text StringType h = refl
 of_text BoolType h = absurd (cc)
 of_text t h = absurd (cc)
 
-pub of_record : (t : PlainType) (names : List (List ℕ)) → RecordLabel names ≡ type_label t → (x : AttributeTypes) × (t ≡ RecordType x) × (names ≡ names_in x)
+pub of_record : (t : PlainType) (names : List (List ℕ)) → RecordLabel names ≡ type_label t → (x : AttributeTypes) × (t ≡ RecordType x) × (names ≡ attribute_names x)
 of_record (RecordType x) names h = (x, refl, cc)
 of_record BoolType names h = absurd (cc)
 of_record t names h = absurd (cc)
@@ -67,11 +67,11 @@ found_parts ms o t u xs e d f =
     subst P e f ∙ ap (λ t. Some (type_parts t)) d
 
 -- ---- the parts of a record type
-types_count : (x : AttributeTypes) → length (types_in x) ≡ length (names_in x)
+types_count : (x : AttributeTypes) → length (types_in x) ≡ length (attribute_names x)
 types_count no_attributes = refl
 types_count (attribute a t x) = ap suc (types_count x)
 
-pub as_many_types : (ms : List (Option Meaning)) (xs : List NodeId) (names : List (RcStr Global)) (x : AttributeTypes) → texts names ≡ names_in x → all_found ms (places_of xs) ≡ Some (types_in x) → length xs ≡ length names
+pub as_many_types : (ms : List (Option Meaning)) (xs : List NodeId) (names : List (RcStr Global)) (x : AttributeTypes) → texts names ≡ attribute_names x → all_found ms (places_of xs) ≡ Some (types_in x) → length xs ≡ length names
 as_many_types ms xs names x e h = sym (length-map xs place_of) ∙ (as_many_found ms (places_of xs) (types_in x) h ∙ (types_count x ∙ (ap length (sym e) ∙ length-map names rc_str_bytes)))
 
 pub type_of_part : (ms : List (Option Meaning)) (xs : List NodeId) (x : AttributeTypes) (i : ℕ) (d : NodeId) → all_found ms (places_of xs) ≡ Some (types_in x) → i < length xs → is_type_at (found ms (place_of (get_or xs i d))) ≡ true
@@ -92,7 +92,7 @@ holds_at P (id ∷ ids) zero d h b = h.0
 holds_at P (id ∷ ids) (suc i) d h b = holds_at P ids i d h.1 (omega (arith, b))
 
 -- a record type is known by its attributes and by their types
-pub by_names : (x y : AttributeTypes) → names_in x ≡ names_in y → types_in x ≡ types_in y → x ≡ y
+pub by_names : (x y : AttributeTypes) → attribute_names x ≡ attribute_names y → types_in x ≡ types_in y → x ≡ y
 by_names no_attributes no_attributes e d = refl
 by_names no_attributes (attribute b u y) e d = absurd (cc)
 by_names (attribute a t x) no_attributes e d = absurd (cc)

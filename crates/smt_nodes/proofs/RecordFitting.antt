@@ -13,30 +13,30 @@ use Rattle.std.specs.Rc.{rc_str_bytes}
 use Rattle.std.specs.declared.alloc.Global.{Global}
 use Rattle.std.specs.declared.rc.RcStr.{RcStr}
 use Rattle.std.proofs.lemmas.Slice.Eq.{bytes_eq-Decides, slice_eq-Decides}
-use Rattle.smt_characters.specs.SharedTexts.{texts}
+use Rattle.law_texts.specs.SharedTexts.{texts}
 use Rattle.std.specs.declared.cmp.Ordering.{Ordering}
 use Rattle.std.specs.declared.cmp.Ordering.TheVariants.{Less, Equal, Greater}
-use Rattle.smt_meaning.specs.Plain.{PlainType, RecordType, AttributeTypes, no_attributes, attribute, PlainTerm, Application, RecordTerm, UufOp, PlainFields, one_field}
-use Rattle.smt_meaning.specs.Types.{field_types, type_cmp, type_eq, type_of}
-use Rattle.smt_meaning.specs.ValueOrder.{ascends, text_cmp}
-use Rattle.smt_meaning.proofs.TermTotal.{types_decided}
-use Rattle.smt_meaning.proofs.ValueOrder.{text_itself}
-use Rattle.smt_graph.specs.Fits.{is_type, same_length}
-use Rattle.smt_graph.specs.Graphs.{IsGraph}
-use Rattle.smt_graph.specs.Meanings.{all_found, attributes_in, fields_in, found, meaning_at, meanings, only_if, stands_for, typed_as}
-use Rattle.smt_graph.specs.Nodes.{RecordLabel, RecordOfLabel, PlainNode, Meaning, TypeMeaning, FunctionMeaning, TermMeaning}
-use Rattle.smt_graph.specs.Parts.{field_names, field_terms, label_in, names_in, parts_in, term_label, term_parts, types_in}
-use Rattle.smt_graph.proofs.Distinct.{places_differ}
-use Rattle.smt_graph.proofs.Fitting.{parts_fit}
-use Rattle.smt_graph.proofs.Places.{map_back, only_back, some_same, then_back}
-use Rattle.smt_graph.proofs.Whole.{fields_back, typed_back}
+use Rattle.law_terms.specs.Plain.{PlainType, RecordType, AttributeTypes, no_attributes, attribute, PlainTerm, Application, RecordTerm, UufOp, PlainFields, one_field}
+use Rattle.law_terms.specs.Types.{field_types, type_cmp, type_eq, type_of}
+use Rattle.law_terms.specs.ValueOrder.{ascends, text_cmp}
+use Rattle.law_terms.proofs.TermTotal.{types_decided}
+use Rattle.law_terms.proofs.ValueOrder.{text_itself}
+use Rattle.law_terms.specs.Fits.{is_type, same_length}
+use Rattle.law_terms.specs.Graphs.{IsGraph}
+use Rattle.law_terms.specs.Meanings.{all_found, attributes_in, fields_in, found, meaning_at, meanings, only_if, stands_for, typed_as}
+use Rattle.law_terms.specs.Nodes.{RecordLabel, RecordOfLabel, PlainNode, Meaning, TypeMeaning, FunctionMeaning, TermMeaning}
+use Rattle.law_terms.specs.Parts.{field_names, field_terms, label_in, parts_in, term_label, term_parts, types_in, attribute_names}
+use Rattle.law_terms.proofs.Distinct.{places_differ}
+use Rattle.law_terms.proofs.Fitting.{parts_fit}
+use Rattle.law_terms.proofs.Places.{map_back, only_back, some_same, then_back}
+use Rattle.law_terms.proofs.Whole.{fields_back, typed_back}
 use Rattle.smt_nodes.proofs.Comparing.{head_found}
 use Rattle.smt_nodes.proofs.Finding.{as_many_found, made_so}
 use Rattle.smt_nodes.proofs.Fitting.{first_found, Fits}
 use Rattle.smt_nodes.proofs.RecordParts.{field_names-typed, fields_round, types_in-listed, types_listed}
 use Rattle.smt_nodes.specs.Kinds.{are_typed, are_typed_at, is_term_at, is_type_at, is_typed_at, IsRecordAt}
-use Rattle.smt_node_tables.specs.View.{place_of, places_of}
-use Rattle.smt_node_tables.specs.declared.id.NodeId.{NodeId}
+use Rattle.smt_nodes.specs.View.{place_of, places_of}
+use Rattle.smt_nodes.specs.declared.id.NodeId.{NodeId}
 
 and-false : (b : Bool) → (b && false) ≡ false
 and-false true = refl
@@ -207,11 +207,11 @@ one_more a t u x None = and-false (type_eq (type_of t) u)
 one_more a t u x (Some fs) =
     sym (ap (λ o. is_eq (ordering_then (ordering_then o (type_cmp (type_of t) u)) (type_cmp (RecordType (field_types fs)) (RecordType x)))) (text_itself a) ∙ eq-then (type_cmp (type_of t) u) (type_cmp (RecordType (field_types fs)) (RecordType x)))
 
-record_typed : (x : AttributeTypes) (ms : List Meaning) → are_typed (types_listed x) ms ≡ record_test x (fields_in (names_in x) ms)
+record_typed : (x : AttributeTypes) (ms : List Meaning) → are_typed (types_listed x) ms ≡ record_test x (fields_in (attribute_names x) ms)
 record_typed no_attributes [] = sym ((types_decided (RecordType no_attributes) (RecordType no_attributes)).1 refl)
 record_typed no_attributes (m ∷ ms) = refl
 record_typed (attribute a u x) [] = refl
-record_typed (attribute a u x) (TermMeaning t ∷ ms) = ap (λ b. type_eq (type_of t) u && b) (record_typed x ms) ∙ one_more a t u x (fields_in (names_in x) ms)
+record_typed (attribute a u x) (TermMeaning t ∷ ms) = ap (λ b. type_eq (type_of t) u && b) (record_typed x ms) ∙ one_more a t u x (fields_in (attribute_names x) ms)
 record_typed (attribute a u x) (TypeMeaning t ∷ ms) = refl
 record_typed (attribute a u x) (FunctionMeaning f ∷ ms) = refl
 
@@ -223,13 +223,13 @@ only_test x (Some fs) = tested (type_eq (RecordType (field_types fs)) (RecordTyp
     tested true m = refl
     tested false m = refl
 
-pub record_ascends : (ns : List PlainNode) → IsGraph ns → (i : ℕ) (x : AttributeTypes) → meaning_at ns i ≡ Some (TypeMeaning (RecordType x)) → ascends text_cmp (names_in x) ≡ true
-record_ascends ns g i x h = (only_back (ascends text_cmp (names_in x)) (option_map (λ x. TypeMeaning (RecordType x)) (attributes_in (names_in x) (types_in x))) _ (made_so ns g i (TypeMeaning (RecordType x)) h)).0
+pub record_ascends : (ns : List PlainNode) → IsGraph ns → (i : ℕ) (x : AttributeTypes) → meaning_at ns i ≡ Some (TypeMeaning (RecordType x)) → ascends text_cmp (attribute_names x) ≡ true
+record_ascends ns g i x h = (only_back (ascends text_cmp (attribute_names x)) (option_map (λ x. TypeMeaning (RecordType x)) (attributes_in (attribute_names x) (types_in x))) _ (made_so ns g i (TypeMeaning (RecordType x)) h)).0
 
-record_parts : (x : AttributeTypes) → ascends text_cmp (names_in x) ≡ true → (y : Option (List Meaning)) → are_typed_at (types_listed x) y ≡ is_some (option_and_then (stands_for (RecordOfLabel (names_in x))) (option_map (λ rest. TypeMeaning (RecordType x) ∷ rest) y))
+record_parts : (x : AttributeTypes) → ascends text_cmp (attribute_names x) ≡ true → (y : Option (List Meaning)) → are_typed_at (types_listed x) y ≡ is_some (option_and_then (stands_for (RecordOfLabel (attribute_names x))) (option_map (λ rest. TypeMeaning (RecordType x) ∷ rest) y))
 record_parts x a None = refl
 record_parts x a (Some ms) =
-    record_typed x ms ∙ (only_test x (fields_in (names_in x) ms) ∙ ap (λ b. is_some (option_and_then (typed_as (RecordType x)) (only_if b (option_map RecordTerm (fields_in (names_in x) ms))))) (sym a))
+    record_typed x ms ∙ (only_test x (fields_in (attribute_names x) ms) ∙ ap (λ b. is_some (option_and_then (typed_as (RecordType x)) (only_if b (option_map RecordTerm (fields_in (attribute_names x) ms))))) (sym a))
 
 -- where the first number stands for a type of records of the attributes
 pub record_fits_then : (ns : List PlainNode) → IsGraph ns → (names : List (List ℕ)) (ty : NodeId) (rest ids types : List NodeId) (r : Bool) → IsRecordAt names (meaning_at ns (place_of ty)) → ids ≡ ty ∷ rest → IfSome (meaning_at ns (place_of ty)) (λ m. all_found (meanings ns) (places_of types) ≡ Some (parts_in m))
@@ -239,7 +239,7 @@ record_fits_then ns g names ty rest ids types r (x, at, same) e f h =
     let parts : all_found (meanings ns) (places_of types) ≡ Some (map TypeMeaning (types_listed x)) = subst P at f ∙ ap Some (types_in-listed x) in
     h (types_listed x) parts
     ∙ (record_parts x (record_ascends ns g (place_of ty) x at) (all_found (meanings ns) (places_of rest))
-    ∙ (ap (λ o. is_some (option_and_then (stands_for (RecordOfLabel (names_in x))) (option_and_then (λ m. option_map (λ rest. m ∷ rest) (all_found (meanings ns) (places_of rest))) o))) (sym at)
+    ∙ (ap (λ o. is_some (option_and_then (stands_for (RecordOfLabel (attribute_names x))) (option_and_then (λ m. option_map (λ rest. m ∷ rest) (all_found (meanings ns) (places_of rest))) o))) (sym at)
     ∙ (ap (λ l. is_some (option_and_then (stands_for (RecordOfLabel l)) (all_found (meanings ns) (places_of (ty ∷ rest))))) (sym same)
     ∙ ap (Fits (RecordOfLabel names) (meanings ns)) (sym e))))
 
@@ -286,7 +286,7 @@ pub same_names : (o : Option Meaning) (names own : List (List ℕ)) → IsRecord
 same_names o names own (x, at, same) (y, at', same') =
     let both : RecordType x ≡ RecordType y = cc in
     let types : x ≡ y = cc in
-    same ∙ (ap names_in types ∙ sym same')
+    same ∙ (ap attribute_names types ∙ sym same')
 
 -- ---- lists of attributes
 pub texts_count : (names : List (RcStr Global)) → length (texts names) ≡ length names
@@ -314,7 +314,7 @@ is_record_at m own names r e h =
     )
 
 -- ---- the type of a record
-tested_fields : (x : AttributeTypes) (fs : PlainFields) → names_in x ≡ field_names fs → are_typed (types_listed x) (field_terms fs) ≡ type_eq (RecordType (field_types fs)) (RecordType x)
+tested_fields : (x : AttributeTypes) (fs : PlainFields) → attribute_names x ≡ field_names fs → are_typed (types_listed x) (field_terms fs) ≡ type_eq (RecordType (field_types fs)) (RecordType x)
 tested_fields x fs e =
     record_typed x (field_terms fs) ∙ (ap (λ l. record_test x (fields_in l (field_terms fs))) e ∙ ap (record_test x) (fields_round fs))
 
@@ -341,4 +341,4 @@ other_attributes m own fs a h d n = (
 )
 
 pub no_record_type : (m : Option Meaning) (fs : PlainFields) → ((names : List (List ℕ)) → option_map label_in m ≡ Some (RecordLabel names) → ⊥) → (false ≡ true) ↔ (m ≡ Some (TypeMeaning (RecordType (field_types fs))))
-no_record_type m fs n = (λ t. absurd (false≢true t), λ e. absurd (n (names_in (field_types fs)) (ap (option_map label_in) e)))
+no_record_type m fs n = (λ t. absurd (false≢true t), λ e. absurd (n (attribute_names (field_types fs)) (ap (option_map label_in) e)))

@@ -4,21 +4,21 @@ use Rattle.std.proofs.Math.Seq.{take-suc}
 use Rattle.std.specs.Prelude.{IsTrue, option_map}
 use Rattle.std.specs.declared.alloc.Global.{Global}
 use Rattle.std.specs.declared.rc.RcStr.{RcStr}
-use Rattle.smt_meaning.specs.Plain.{PlainType, AttributeTypes, no_attributes, attribute, PlainFields, no_fields, one_field}
-use Rattle.smt_meaning.specs.Types.{field_types}
-use Rattle.smt_meaning.specs.ValueOrder.{ascends, text_cmp}
-use Rattle.smt_graph.specs.Meanings.{attributes_in, fields_in}
-use Rattle.smt_graph.specs.Nodes.{Meaning, TypeMeaning, TermMeaning}
-use Rattle.smt_graph.specs.Parts.{field_names, field_terms, names_in, types_in}
-use Rattle.smt_term.specs.View.{attribute_types, fields_of, plain_attribute, plain_attributes, plain_field, plain_fields, plain_term, plain_type, record_fields}
+use Rattle.law_terms.specs.Plain.{PlainType, AttributeTypes, no_attributes, attribute, PlainFields, no_fields, one_field, attribute_types, record_fields}
+use Rattle.law_terms.specs.Types.{field_types}
+use Rattle.law_terms.specs.ValueOrder.{ascends, text_cmp}
+use Rattle.law_terms.specs.Meanings.{attributes_in, fields_in}
+use Rattle.law_terms.specs.Nodes.{Meaning, TypeMeaning, TermMeaning}
+use Rattle.law_terms.specs.Parts.{field_names, field_terms, types_in, attribute_names}
+use Rattle.smt_term.specs.View.{fields_of, plain_attribute, plain_attributes, plain_field, plain_fields, plain_term, plain_type}
 use Rattle.smt_term.specs.declared.maps.TermMap.{TermMap}
 use Rattle.smt_types.specs.declared.maps.TypeMap.{TypeMap}
 use Rattle.smt_term.specs.declared.term.Term.{Term}
 use Rattle.smt_types.specs.declared.types.TermType.{TermType}
-use Rattle.smt_node_tables.proofs.MapNames.{term_names, type_names}
+use Rattle.smt_nodes.proofs.MapNames.{term_names, type_names}
 
 -- ---- there and back
-pub attributes_round : (x : AttributeTypes) → attributes_in (names_in x) (types_in x) ≡ Some x
+pub attributes_round : (x : AttributeTypes) → attributes_in (attribute_names x) (types_in x) ≡ Some x
 attributes_round no_attributes = refl
 attributes_round (attribute a t x) = ap (option_map (attribute a t)) (attributes_round x)
 
@@ -35,7 +35,7 @@ pub types_in-listed : (x : AttributeTypes) → types_in x ≡ map TypeMeaning (t
 types_in-listed no_attributes = refl
 types_in-listed (attribute a t x) = ap (λ l. TypeMeaning t ∷ l) (types_in-listed x)
 
-pub field_names-typed : (x : PlainFields) → names_in (field_types x) ≡ field_names x
+pub field_names-typed : (x : PlainFields) → attribute_names (field_types x) ≡ field_names x
 field_names-typed no_fields = refl
 field_names-typed (one_field a t x) = ap (λ l. a ∷ l) (field_names-typed x)
 
@@ -89,7 +89,7 @@ module _ {X : Type 0} {f : X → Meaning} {g : List X → List Meaning} (w : Lis
 abbrev Ascends : List (List ℕ) → Type 0
 Ascends l = IsTrue (ascends text_cmp l)
 
-pub types_ascend : (m : TypeMap) → IsTrue (ascends text_cmp (names_in (attribute_types (plain_attributes m))))
+pub types_ascend : (m : TypeMap) → IsTrue (ascends text_cmp (attribute_names (attribute_types (plain_attributes m))))
 types_ascend m = subst Ascends (type_names m.pairs.items.value.items) m.pairs.ascending
 
 pub fields_ascend : (m : TermMap) → IsTrue (ascends text_cmp (field_names (record_fields (plain_fields m))))

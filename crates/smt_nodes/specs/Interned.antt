@@ -1,10 +1,10 @@
 -- What the nodes of an interner stand for.
 use Rattle.std.specs.Prelude.{◌≡◌, ◌⊎◌, ◌++◌, List, [], ◌∷◌, map, Option, Some}
-use Rattle.smt_meaning.specs.Plain.{PlainTerm}
-use Rattle.smt_graph.specs.Meanings.{all_found, meaning_at, meaning_of, meanings}
-use Rattle.smt_graph.specs.Nodes.{Meaning, PlainNode, TermMeaning}
-use Rattle.smt_node_tables.specs.View.{place_of, places_of, plain_node}
-use Rattle.smt_node_tables.specs.declared.id.NodeId.{NodeId}
+use Rattle.law_terms.specs.Plain.{PlainTerm}
+use Rattle.law_terms.specs.Meanings.{all_found, meaning_at, meaning_of, meanings}
+use Rattle.law_terms.specs.Nodes.{Meaning, PlainNode, TermMeaning}
+use Rattle.smt_nodes.specs.View.{place_of, places_of, plain_node}
+use Rattle.smt_nodes.specs.declared.id.NodeId.{NodeId}
 use Rattle.smt_nodes.specs.declared.interner.Interner.{Interner}
 
 -- the nodes of an interner, in the order of their numbers

@@ -1,14 +1,14 @@
 -- What stands at a place, by its kind and its type.
 use Rattle.std.specs.List.{list_all}
 use Rattle.std.specs.Prelude.{◌≡◌, ℕ, Bool, true, false, ◌&&◌, List, [], ◌∷◌, Option, Some, None, is_some, option_and_then}
-use Rattle.smt_meaning.specs.Plain.{PlainType, BoolType, OptionType, RecordType, AttributeTypes, PlainLiteral, PlainTerm}
-use Rattle.smt_meaning.specs.TermOrder.{term_cmp}
-use Rattle.smt_meaning.specs.ValueOrder.{ascends}
-use Rattle.smt_meaning.specs.Types.{inner_type, is_set, literal_type, type_eq, type_of}
-use Rattle.smt_graph.specs.Meanings.{all_found, terms_in}
-use Rattle.smt_graph.specs.Fits.{is_term}
-use Rattle.smt_graph.specs.Parts.{names_in}
-use Rattle.smt_graph.specs.Nodes.{Meaning, TypeMeaning, FunctionMeaning, TermMeaning}
+use Rattle.law_terms.specs.Plain.{PlainType, BoolType, OptionType, RecordType, AttributeTypes, PlainLiteral, PlainTerm}
+use Rattle.law_terms.specs.TermOrder.{term_cmp}
+use Rattle.law_terms.specs.ValueOrder.{ascends}
+use Rattle.law_terms.specs.Types.{inner_type, is_set, literal_type, type_eq, type_of}
+use Rattle.law_terms.specs.Meanings.{all_found, terms_in}
+use Rattle.law_terms.specs.Fits.{is_term}
+use Rattle.law_terms.specs.Parts.{attribute_names}
+use Rattle.law_terms.specs.Nodes.{Meaning, TypeMeaning, FunctionMeaning, TermMeaning}
 
 -- a type stands there
 abbrev pub is_type_at : Option Meaning → Bool
@@ -52,7 +52,7 @@ is_option_of_at m n = false
 
 -- the type of records of these attributes stands there
 abbrev pub IsRecordAt : List (List ℕ) → Option Meaning → Type 0
-IsRecordAt names m = (x : AttributeTypes) × (m ≡ Some (TypeMeaning (RecordType x))) × (names ≡ names_in x)
+IsRecordAt names m = (x : AttributeTypes) × (m ≡ Some (TypeMeaning (RecordType x))) × (names ≡ attribute_names x)
 
 -- a term of this type stands there
 abbrev pub is_typed_at : PlainType → Option Meaning → Bool

@@ -1,11 +1,11 @@
 -- Laws of interners: each of their numbers stands for something, no two for the same, and a term that one stands for is formed.
 use Rattle.std.specs.Prelude.{◌≡◌, ◌<◌, Some, length}
-use Rattle.smt_meaning.specs.Formed.{IsFormed}
-use Rattle.smt_meaning.specs.Plain.{PlainTerm}
-use Rattle.smt_graph.specs.Nodes.{Meaning, TermMeaning}
+use Rattle.law_terms.specs.Formed.{IsFormed}
+use Rattle.law_terms.specs.Plain.{PlainTerm}
+use Rattle.law_terms.specs.Nodes.{Meaning, TermMeaning}
 use Rattle.smt_nodes.specs.Interned.{meaning_in, nodes_of}
-use Rattle.smt_node_tables.specs.View.{place_of}
-use Rattle.smt_node_tables.specs.declared.id.NodeId.{NodeId}
+use Rattle.smt_nodes.specs.View.{place_of}
+use Rattle.smt_nodes.specs.declared.id.NodeId.{NodeId}
 use Rattle.smt_nodes.specs.declared.interner.Interner.{Interner}
 
 -- two numbers that stand for one thing are one number

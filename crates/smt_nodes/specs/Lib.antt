@@ -1,4 +1,10 @@
+pub mod Attributes
+pub mod Index
 pub mod Interned
 pub mod Kinds
+pub mod LabelKinds
+pub mod LabelOrder
 pub mod Laws
 pub mod Order
+pub mod Subject
+pub mod View

@@ -2,9 +2,9 @@
 use Rattle.std.specs.Prelude.{Bool, true, false}
 use Rattle.std.specs.declared.cmp.Ordering.{Ordering}
 use Rattle.std.specs.declared.cmp.Ordering.TheVariants.{Equal}
-use Rattle.smt_meaning.specs.TermOrder.{function_cmp, term_cmp}
-use Rattle.smt_meaning.specs.Types.{type_cmp}
-use Rattle.smt_graph.specs.Nodes.{Meaning, TypeMeaning, FunctionMeaning, TermMeaning}
+use Rattle.law_terms.specs.TermOrder.{function_cmp, term_cmp}
+use Rattle.law_terms.specs.Types.{type_cmp}
+use Rattle.law_terms.specs.Nodes.{Meaning, TypeMeaning, FunctionMeaning, TermMeaning}
 
 -- the order of two types, of two functions or of two terms; what is of two kinds is not compared
 abbrev pub meaning_cmp : Meaning → Meaning → Ordering

@@ -1,20 +1,21 @@
 // The number of a term, a type or a function, found by a look at one node after the other.
 ghost use Rattle.std.specs.Prelude.{◌≡◌, ◌∷◌, ◌↔◌, [], IfNone, IfSome, IsTrue, Some, map};
-ghost use Rattle.smt_graph.specs.Meanings.{all_found, meanings};
-ghost use Rattle.smt_graph.specs.Nodes.{FunctionMeaning, TermMeaning, TypeMeaning};
-ghost use Rattle.smt_graph.specs.Parts.{field_terms, parts_in, term_parts, type_parts, types_in};
-ghost use Rattle.smt_meaning.specs.Plain.{Application, OptionType, PlainType, RecordType, SetType, terms};
-ghost use Rattle.smt_meaning.specs.Types.{field_types};
-ghost use Rattle.smt_node_tables.specs.View.{places_of};
-ghost use Rattle.smt_term.specs.View.{attribute_types, plain_attributes, plain_fields, plain_function, plain_op, plain_term, plain_type, record_fields};
+ghost use Rattle.law_terms.specs.Meanings.{all_found, meanings};
+ghost use Rattle.law_terms.specs.Nodes.{FunctionMeaning, TermMeaning, TypeMeaning};
+ghost use Rattle.law_terms.specs.Parts.{field_terms, parts_in, term_parts, type_parts, types_in};
+ghost use Rattle.law_terms.specs.Plain.{Application, OptionType, PlainType, RecordType, SetType, terms, attribute_types, record_fields};
+ghost use Rattle.law_terms.specs.Types.{field_types};
+ghost use Rattle.smt_nodes.specs.View.{places_of};
+ghost use Rattle.smt_term.specs.View.{plain_attributes, plain_fields, plain_function, plain_op, plain_term, plain_type};
 
+use crate::attributes::are_attributes_of;
 use crate::interner::Interner;
-use smt_node_tables::{Label, NodeId, Subject, are_attributes_of};
+use crate::{Label, NodeId, Subject};
 use smt_term::{Op, Term, TermMap, TermType, TypeMap, Uuf};
 
 impl Interner {
     ghost use Rattle.smt_nodes.specs.Interned.{meaning_in, nodes_of};
-    ghost use Rattle.smt_node_tables.specs.Subject.{meaning_of};
+    ghost use Rattle.smt_nodes.specs.Subject.{meaning_of};
 
     /// The number that stands for a term, None exactly where none does. Takes no memory; it compares the term with one node
     /// after the other.

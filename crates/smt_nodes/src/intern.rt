@@ -1,20 +1,20 @@
 // Terms, functions and types of the program, entered as nodes.
 ghost use Rattle.std.specs.Prelude.{◌≡◌, ◌++◌, ◌∷◌, IfOk, List, Some, map};
-ghost use Rattle.smt_graph.specs.Meanings.{all_found, meanings, stands_for};
-ghost use Rattle.smt_graph.specs.Nodes.{FunctionMeaning, Meaning, TermMeaning, TypeMeaning};
-ghost use Rattle.smt_meaning.specs.Plain.{Application, BoolType, PlainType, terms};
-ghost use Rattle.smt_meaning.specs.Types.{type_of};
-ghost use Rattle.smt_node_tables.specs.View.{places_of, plain_label};
-ghost use Rattle.smt_graph.specs.Parts.{field_terms, types_in};
-ghost use Rattle.smt_term.specs.View.{attribute_types, plain_attributes, plain_fields, plain_function, plain_op, plain_term, plain_type, record_fields};
+ghost use Rattle.law_terms.specs.Meanings.{all_found, meanings, stands_for};
+ghost use Rattle.law_terms.specs.Nodes.{FunctionMeaning, Meaning, TermMeaning, TypeMeaning};
+ghost use Rattle.law_terms.specs.Plain.{Application, BoolType, PlainType, terms, attribute_types, record_fields};
+ghost use Rattle.law_terms.specs.Types.{type_of};
+ghost use Rattle.smt_nodes.specs.View.{places_of, plain_label};
+ghost use Rattle.law_terms.specs.Parts.{field_terms, types_in};
+ghost use Rattle.smt_term.specs.View.{plain_attributes, plain_fields, plain_function, plain_op, plain_term, plain_type};
 
 use crate::interner::Interner;
-use smt_node_tables::{AttrList, IdList, Label, Node, NodeId, Subject};
+use crate::{AttrList, IdList, Label, Node, NodeId, Subject};
 use smt_term::{Op, Term, TermError, TermMap, TermType, TypeMap, Uuf};
 
 impl Interner {
     ghost use Rattle.smt_nodes.specs.Interned.{meaning_in, nodes_of, IsMeant, KeepsMeanings, StandFor};
-    ghost use Rattle.smt_node_tables.specs.Subject.{meaning_of};
+    ghost use Rattle.smt_nodes.specs.Subject.{meaning_of};
 
     /// The number that stands for a term, a type or a function. What is inside it gets numbers before it.
     ///

@@ -2,19 +2,20 @@
 ghost use Rattle.std.specs.Prelude.{ℕ, List, ◌≡◌, ◌↔◌, ◌+◌, ◌<◌, ◌≤◌, ◌^◌, [], Contains, IfNone, IfOk, IfSome, IsTrue, OnOk, Some, is_some, length, map, option_and_then, option_map, slice_get};
 ghost use Rattle.std.specs.Option.{ForSome};
 ghost use Rattle.std.specs.List.{AllByRecursion, list_all};
-ghost use Rattle.smt_graph.specs.Fits.{applies_no_function, fits};
-ghost use Rattle.smt_graph.specs.Nodes.{ApplicationLabel, BitVecLabel, BoolLabel, CallLabel, EntityLabel, ExtensionLabel, FunctionLabel, LiteralLabel, NoneLabel, OptionLabel, RecordLabel, RecordOfLabel, SetLabel, SetOfLabel, SomeLabel, StringLabel, TypeMeaning, VariableLabel};
-ghost use Rattle.smt_characters.specs.SharedTexts.{texts};
-ghost use Rattle.smt_meaning.specs.Plain.{ExtensionKind, PlainOp, PlainType};
-ghost use Rattle.smt_graph.specs.Graphs.{IsGraph};
-ghost use Rattle.smt_graph.specs.Meanings.{all_found, meaning_at, meanings, stands_for};
-ghost use Rattle.smt_graph.specs.Parts.{label_in, parts_in};
-ghost use Rattle.smt_node_tables.specs.Index.{IsIndex, IsKey};
+ghost use Rattle.law_terms.specs.Fits.{applies_no_function, fits};
+ghost use Rattle.law_terms.specs.Nodes.{ApplicationLabel, BitVecLabel, BoolLabel, CallLabel, EntityLabel, ExtensionLabel, FunctionLabel, LiteralLabel, NoneLabel, OptionLabel, RecordLabel, RecordOfLabel, SetLabel, SetOfLabel, SomeLabel, StringLabel, TypeMeaning, VariableLabel};
+ghost use Rattle.law_texts.specs.SharedTexts.{texts};
+ghost use Rattle.law_terms.specs.Plain.{ExtensionKind, PlainOp, PlainType};
+ghost use Rattle.law_terms.specs.Graphs.{IsGraph};
+ghost use Rattle.law_terms.specs.Meanings.{all_found, meaning_at, meanings, stands_for};
+ghost use Rattle.law_terms.specs.Parts.{label_in, parts_in};
+ghost use Rattle.smt_nodes.specs.Index.{IsIndex, IsKey};
 ghost use Rattle.smt_nodes.specs.Kinds.{are_called_at, are_typed_at, ascend_at, is_bool_at, is_function_at, is_option_at, is_option_of_at, is_set_at, is_term_at, is_type_at, is_type_of_at, is_typed_at, terms_at, IsRecordAt};
-ghost use Rattle.smt_node_tables.specs.View.{place_of, places_of, plain_label, plain_node};
+ghost use Rattle.smt_nodes.specs.View.{place_of, places_of, plain_label, plain_node};
 ghost use Rattle.smt_term.specs.View.{plain_literal, plain_op};
 
-use smt_node_tables::{Key, Label, Node, NodeId, Table, are_in_order};
+use crate::attributes::are_in_order;
+use crate::{Key, Label, Node, NodeId, Table};
 use smt_term::{Attr, Op, TermError, TermPrim};
 use std::alloc::Global;
 

@@ -1,16 +1,17 @@
 // The order of types, of functions and of terms, by their nodes.
 ghost use Rattle.std.specs.Prelude.{◌≡◌, IfSome, IsTrue, Some};
-ghost use Rattle.smt_graph.specs.Meanings.{meanings};
-ghost use Rattle.smt_graph.specs.Nodes.{Meaning, TermMeaning};
-ghost use Rattle.smt_meaning.specs.Plain.{PlainTerm};
-ghost use Rattle.smt_meaning.specs.TermOrder.{term_cmp};
-ghost use Rattle.smt_meaning.specs.ValueOrder.{ascends, is_below};
-ghost use Rattle.smt_node_tables.specs.View.{places_of};
+ghost use Rattle.law_terms.specs.Meanings.{meanings};
+ghost use Rattle.law_terms.specs.Nodes.{Meaning, TermMeaning};
+ghost use Rattle.law_terms.specs.Plain.{PlainTerm};
+ghost use Rattle.law_terms.specs.TermOrder.{term_cmp};
+ghost use Rattle.law_terms.specs.ValueOrder.{ascends, is_below};
+ghost use Rattle.smt_nodes.specs.View.{places_of};
 ghost use Rattle.smt_nodes.specs.Kinds.{terms_at};
 ghost use Rattle.smt_nodes.specs.Order.{are_alike, meaning_cmp};
 
+use crate::NodeId;
 use crate::interner::Interner;
-use smt_node_tables::{Difference, NodeId, compare_labels, parts_difference};
+use crate::label_order::{Difference, compare_labels, parts_difference};
 use std::cmp::Ordering;
 
 impl Interner {

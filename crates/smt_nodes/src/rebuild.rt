@@ -1,18 +1,18 @@
 // Types of the program, made again of their nodes.
 ghost use Rattle.std.specs.Prelude.{◌≡◌, ◌<◌, IfOk, IsTrue, Some};
-ghost use Rattle.smt_characters.specs.SharedTexts.{texts};
-ghost use Rattle.smt_graph.specs.Meanings.{all_found, meanings};
-ghost use Rattle.smt_graph.specs.Nodes.{TypeMeaning};
-ghost use Rattle.smt_graph.specs.Parts.{names_in, types_in};
-ghost use Rattle.smt_meaning.specs.Plain.{AttributeTypes, RecordType};
-ghost use Rattle.smt_meaning.specs.ValueOrder.{ascends, text_cmp};
+ghost use Rattle.law_texts.specs.SharedTexts.{texts};
+ghost use Rattle.law_terms.specs.Meanings.{all_found, meanings};
+ghost use Rattle.law_terms.specs.Nodes.{TypeMeaning};
+ghost use Rattle.law_terms.specs.Parts.{types_in, attribute_names};
+ghost use Rattle.law_terms.specs.Plain.{AttributeTypes, RecordType};
+ghost use Rattle.law_terms.specs.ValueOrder.{ascends, text_cmp};
 ghost use Rattle.smt_nodes.specs.Kinds.{is_type_at};
-ghost use Rattle.smt_node_tables.specs.View.{place_of, places_of};
+ghost use Rattle.smt_nodes.specs.View.{place_of, places_of};
 ghost use Rattle.std.specs.List.{AllByRecursion};
 ghost use Rattle.smt_term.specs.View.{plain_type};
 
 use crate::interner::Interner;
-use smt_node_tables::{Label, NodeId};
+use crate::{Label, NodeId};
 use smt_term::{Attr, TermError, TermType, TypeMap};
 use smt_text::share_text;
 
@@ -53,8 +53,8 @@ impl Interner {
     ) -> Result<TermType, TermError>
         requires earlier { AllByRecursion (λ part. part < place_of id) (places_of parts.now) }
         requires ascending { IsTrue (ascends text_cmp (texts names.now)) }
-        requires types { (x : AttributeTypes) × (texts names.now ≡ names_in x) × (all_found (meanings (nodes_of self.now)) (places_of parts.now) ≡ Some (types_in x)) }
-        ensures { (x : AttributeTypes) → texts names.now ≡ names_in x → all_found (meanings (nodes_of self.now)) (places_of parts.now) ≡ Some (types_in x) →
+        requires types { (x : AttributeTypes) × (texts names.now ≡ attribute_names x) × (all_found (meanings (nodes_of self.now)) (places_of parts.now) ≡ Some (types_in x)) }
+        ensures { (x : AttributeTypes) → texts names.now ≡ attribute_names x → all_found (meanings (nodes_of self.now)) (places_of parts.now) ≡ Some (types_in x) →
             IfOk result (λ ty. plain_type ty ≡ RecordType x) }
     {
         let mut pairs = Vec::with_capacity(self.alloc, names.len())?;

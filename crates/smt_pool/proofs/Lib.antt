@@ -1,1 +1,3 @@
+pub mod Asking
+mod InHand
 pub mod Starting

@@ -4,7 +4,7 @@ use Rattle.smt_solve.specs.declared.error.SolverError.TheVariants.{Memory as Sol
 use Rattle.smt_pool.specs.declared.error.SolverPoolError.{SolverPoolError}
 use Rattle.smt_pool.specs.declared.error.SolverPoolError.TheVariants.{Solver, Memory}
 
--- Want of memory is the pool's own, and any other error is a session's.
+-- An error of a session as one of a pool: want of memory is the pool's own, and any other is a session's.
 abbrev pub pool_error : SolverError → SolverPoolError
 pool_error SolverWant = Memory
 pool_error error = Solver error

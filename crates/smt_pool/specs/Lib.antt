@@ -1,3 +1,4 @@
+pub mod Checks
 pub mod Config
 pub mod Errors
 pub mod Lends

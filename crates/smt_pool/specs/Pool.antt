@@ -17,7 +17,7 @@ use Rattle.smt_pool.specs.declared.error.SolverPoolError.TheVariants.{SemaphoreC
 use Rattle.smt_pool.specs.declared.pool.SolverPool.{SolverPool}
 use Rattle.smt_pool.specs.declared.pooled.PooledSolver.{PooledSolver}
 
--- What a pool has whose links are of type `L`.
+-- What a pool of sessions has, whose links are of type `L`.
 pub record PoolState (L : Type 0) : Type 0 where
   -- the sessions that are idle, from first to last
   pub idle : List (LocalSolver L)
@@ -27,17 +27,18 @@ pub record PoolState (L : Type 0) : Type 0 where
   pub out : ℕ
   -- how many sessions may be out at one time
   pub max : ℕ
+  -- the number of the pool, which its sessions tell
   pub number : ℕ
   -- the command that starts its sessions
   pub command : Command
   -- what its starter tells
   pub starter : StarterState L
 
--- the starter of a pool
+-- the starter by which a pool starts its sessions
 abbrev pub pool_starter : {P L : Type 0} {B C : _} → SolverPool P L B C → P
 pool_starter pool = pool.starter
 
--- what a pool has, whose starter tells `state`
+-- what a pool has, where `state` is what its starter tells
 abbrev pub pool_state : {P L : Type 0} {B C : _} → (P → StarterState L) → SolverPool P L B C → PoolState L
 pool_state state pool = record {
   idle = pool.idle.items;
@@ -49,7 +50,7 @@ pool_state state pool = record {
   starter = state (pool_starter pool);
 }
 
--- It is the same pool: nothing but its sessions, its permits and what its starter tells has changed.
+-- It is the same pool: its greatest number of sessions, its own number and its command have not changed.
 pub record IsSamePool {L : Type 0} (old new : PoolState L) : Type 0 where
   pub same_max : new.max ≡ old.max
   pub same_number : new.number ≡ old.number
@@ -75,7 +76,7 @@ pub record GivesAllBack {L : Type 0} (state : L → LinkState) (old new : Starte
   pub returned : new.returned ≡ add_all old.returned (map session_link sessions)
   pub rose : Rose old.failed_starts new.failed_starts
 
--- why a pool was not opened
+-- why a pool was not opened: a solver did not start, and all links came back, or there was no memory
 abbrev pub WhyNotOpened : {L : Type 0} → (L → LinkState) → (old new : StarterState L) → SolverPoolConfig → Command → SolverError → Type 0
 WhyNotOpened state old new config command Io = GivesAllBack state old new command config
 WhyNotOpened state old new config command (SolverSays message) = ⊥
@@ -84,37 +85,37 @@ WhyNotOpened state old new config command SolverMarkedFailed = ⊥
 WhyNotOpened state old new config command AnswerTooLong = ⊥
 WhyNotOpened state old new config command SolverWant = ⊤
 
--- The last idle session is taken.
+-- A session that is handed out was the last idle one of the pool.
 pub record TakesLast {L : Type 0} (old new : PoolState L) (s : LocalSolver L) : Type 0 where
   pub last : old.idle ≡ new.idle ++ s ∷ []
   pub same_starter : new.starter ≡ old.starter
 
--- No session is idle, so that one is started.
+-- A session that is handed out was just started, since none was idle.
 pub record StartsOne {L : Type 0} (state : L → LinkState) (old new : PoolState L) (s : LocalSolver L) : Type 0 where
   pub none_idle : old.idle ≡ []
   pub still_none : new.idle ≡ []
   pub started : IsStarted state s
   pub asked : IsAsked old.starter new.starter old.command 1
 
--- A session is handed out, and takes a permit.
+-- A pool hands a session out, which takes a permit and has not failed.
 pub record HandsOut {L : Type 0} (state : L → LinkState) (old new : PoolState L) (s : PooledSolver L) : Type 0 where
   pub taken : TakesLast old new (pooled_session s) ⊎ StartsOne state old new (pooled_session s)
   pub permit : new.permits + 1 ≡ old.permits
   pub out : new.out ≡ old.out + 1
   pub unfailed : pooled_failed s ≡ false
-  -- it was sent nothing, or last `(reset)` with its LF
+  -- the solver was sent nothing, or `(reset)` with its LF last
   pub clean : IfSome (pooled_state state s).sent IsClean
   pub number : pooled_number s ≡ old.number
   pub same_pool : IsSamePool old new
 
--- Why no session was handed out by a pool in this state.
+-- Why no session was handed out by a pool that was in this state.
 abbrev pub CauseNotAcquired : {L : Type 0} → (old new : PoolState L) → SolverPoolError → Type 0
 CauseNotAcquired old new SemaphoreClosed = ⊥
 CauseNotAcquired old new AcquireTimeout = (old.permits ≡ 0) × (new.starter ≡ old.starter)
 CauseNotAcquired old new (Solver error) = (error ≡ Io) × (old.idle ≡ []) × IsAsked old.starter new.starter old.command 1 × Rose old.starter.failed_starts new.starter.failed_starts
 CauseNotAcquired old new Memory = old.idle ≡ []
 
--- No session is handed out: the sessions and permits are as before.
+-- No session is handed out, for the cause of this error. The sessions and permits are as before.
 pub record WhyNotAcquired {L : Type 0} (old new : PoolState L) (error : SolverPoolError) : Type 0 where
   pub cause : CauseNotAcquired old new error
   pub same_idle : new.idle ≡ old.idle
@@ -122,7 +123,8 @@ pub record WhyNotAcquired {L : Type 0} (old new : PoolState L) (error : SolverPo
   pub same_out : new.out ≡ old.out
   pub same_pool : IsSamePool old new
 
--- A session that had not failed is sent `(reset)` with its LF, and becomes the last idle one.
+-- A pool keeps a session that came back and had not failed: it is sent `(reset)` (SMT-LIB 2.7, chapter 4) with its LF, and
+-- becomes the last idle one.
 pub record Keeps {L : Type 0} (state : L → LinkState) (allows : L → List ℕ → List ℕ → List ℕ → Type 0) (old new : PoolState L) (s : PooledSolver L) : Type 0 where
   pub unfailed : pooled_failed s ≡ false
   pub session : LocalSolver L
@@ -134,14 +136,14 @@ pub record Keeps {L : Type 0} (state : L → LinkState) (allows : L → List ℕ
   pub same_allows : AllowsTheSame (allows (pooled_link s)) (allows (session_link session))
   pub same_starter : new.starter ≡ old.starter
 
--- The link of a session failed while `(reset)` was sent, and was not killed.
+-- The link of a session failed while `(reset)` was sent, and the solver was not killed.
 pub record FailsToReset {L : Type 0} (state : L → LinkState) (s : PooledSolver L) (link : L) : Type 0 where
   pub sent : BeginsExchange (pooled_state state s) (state link) reset_text
   pub rose : Rose (pooled_state state s).faults (state link).faults
   pub spared : Spares (pooled_state state s) (state link)
 
--- A session is not kept, and its link comes back to the starter: it had failed before, and is sent nothing, or its link fails now.
--- Where the link has failed at any time, the starter shows it.
+-- A pool does not keep a session that came back, and the link goes back to the starter: the session had failed before, and is
+-- sent nothing, or its link fails now. Where the link has failed at any time, the starter shows it.
 pub record GivesUp {L : Type 0} (state : L → LinkState) (old new : PoolState L) (s : PooledSolver L) : Type 0 where
   pub link : L
   pub why : (IsTrue (pooled_failed s) × (link ≡ pooled_link s)) ⊎ FailsToReset state s link
@@ -149,7 +151,7 @@ pub record GivesUp {L : Type 0} (state : L → LinkState) (old new : PoolState L
   pub returned : new.starter.returned ≡ add_told old.starter.returned link
   pub same_idle : new.idle ≡ old.idle
 
--- A session is taken back, and its permit, whatever the answer is.
+-- A pool takes a session and its permit back, whatever the answer is.
 pub record TakesBack {L : Type 0} (old new : PoolState L) (result : Result Bool SolverPoolError) : Type 0 where
   pub permit : new.permits ≡ old.permits + 1
   pub out : new.out + 1 ≡ old.out
@@ -159,7 +161,7 @@ pub record TakesBack {L : Type 0} (old new : PoolState L) (result : Result Bool 
   pub same_failed_starts : new.starter.failed_starts ≡ old.starter.failed_starts
   pub same_pool : IsSamePool old new
 
--- A pool is closed: the links of its idle sessions came back, first to last.
+-- A pool is closed: the links of its idle sessions went back to its starter, from first to last.
 pub record Closes {L : Type 0} (old : PoolState L) (new : StarterState L) : Type 0 where
   pub returned : new.returned ≡ add_all old.starter.returned (map session_link old.idle)
   pub same_commands : new.commands ≡ old.starter.commands

@@ -18,20 +18,21 @@ use Rattle.smt_solve.specs.declared.starter.StartError.TheVariants.{Memory as St
 use Rattle.smt_pool.specs.declared.error.SolverPoolError.{SolverPoolError}
 use Rattle.smt_pool.specs.declared.error.SolverPoolError.TheVariants.{SemaphoreClosed, AcquireTimeout, Solver, Memory as PoolMemory}
 
--- The second list stands at the end of the first.
+-- The bytes `last` stand at the end of the text.
 abbrev pub EndsWith : List ℕ → List ℕ → Type 0
 EndsWith text last = drop (length text - length last) text ≡ last
 
--- Nothing was sent, or `(reset)` with its LF was sent last.
+-- Nothing was sent, or `(reset)` with its LF was sent last (SMT-LIB 2.7, chapter 4), so that the solver is as at its start.
 abbrev pub IsClean : List ℕ → Type 0
 IsClean text = text ≢ [] → EndsWith text reset_text
 
--- A session may be handed out: it has not failed, and the solver behind its link knows nothing of what earlier holders sent, by
--- what the link tells.
+-- A session may be handed out: it has not failed, and by what the link tells the solver knows nothing of what earlier holders
+-- sent.
 pub record IsReady {L : Type 0} (state : L → LinkState) (s : LocalSolver L) : Type 0 where
   pub unfailed : session_failed s ≡ false
   pub clean : IfSome (state_by state s).sent IsClean
 
+-- All of these sessions may be handed out.
 abbrev pub AreReady : {L : Type 0} → (L → LinkState) → List (LocalSolver L) → Type 0
 AreReady state sessions = All (IsReady state) sessions
 
@@ -40,14 +41,15 @@ pub record IsStarted {L : Type 0} (state : L → LinkState) (s : LocalSolver L) 
   pub unfailed : session_failed s ≡ false
   pub unused : IsUnused (state_by state s)
 
+-- All of these sessions were just started.
 abbrev pub AreUnused : {L : Type 0} → (L → LinkState) → List (LocalSolver L) → Type 0
 AreUnused state sessions = All (IsStarted state) sessions
 
--- The links of these sessions allow only what is allowed here.
+-- The links of these sessions allow only lines that `allowed` allows.
 abbrev pub AreHonest : {L : Type 0} → (L → List ℕ → List ℕ → List ℕ → Type 0) → (List ℕ → List ℕ → List ℕ → Type 0) → List (LocalSolver L) → Type 0
 AreHonest allows allowed sessions = All (λ s. AllowsOnly (allows (session_link s)) allowed) sessions
 
--- a list that is told, with these behind it
+-- a list that is told, with these members more at its end
 abbrev pub add_all : {X : Type 0} → Option (List X) → List X → Option (List X)
 add_all told xs = option_map (λ ys. ys ++ xs) told
 
@@ -74,14 +76,14 @@ pub record StartsMany {L T : Type 0} (old new : StarterState L) (command : Comma
   pub same_returned : new.returned ≡ old.returned
   pub later : old.failed_starts ≤ new.failed_starts
 
--- These links are given back, one after the other.
+-- A starter is given these links back, one after the other.
 pub record FinishesAll {L T : Type 0} (old new : StarterState L) (links : List L) (result : Result T StartError) : Type 0 where
   pub ok : OnOk result (new.returned ≡ add_all old.returned links)
   pub refusal : IsOkUnless result StartMemory
   pub same_commands : new.commands ≡ old.commands
   pub same_failed_starts : new.failed_starts ≡ old.failed_starts
 
--- The link of a session that is not kept is given back, which has failed `faults` times.
+-- A starter is given back the link of a session that is not kept, which has failed `faults` times.
 pub record FinishesOne {L : Type 0} (old new : StarterState L) (link : L) (faults : ℕ) (result : Result Bool SolverPoolError) : Type 0 where
   pub not_kept : IfOk result (λ kept. kept ≡ false)
   pub ok : OnOk result (new.returned ≡ add_told old.returned link)
@@ -90,7 +92,7 @@ pub record FinishesOne {L : Type 0} (old new : StarterState L) (link : L) (fault
   pub same_failed_starts : new.failed_starts ≡ old.failed_starts
   pub faulty : 0 < faults → new.link_faults ≡ counted old.link_faults
 
--- `(reset)` with its LF is sent to a session that had not failed.
+-- A step sends `(reset)` with its LF to a session that had not failed.
 pub record Resets {L T : Type 0} (state : L → LinkState) (old new : LocalSolver L) (result : Result T LinkError) : Type 0 where
   pub ready : OnOk result (IsReady state new)
   pub sent : OnOk result (Exchanges (state_by state old) (state_by state new) reset_text [])

@@ -129,6 +129,17 @@ impl<P: Starter> SolverPool<P> {
 
     /// Hands out the session that was idle last, or starts one where none is idle.
     ///
+    /// # Examples
+    ///
+    /// ```
+    /// use kembura::{Decision, Solver};
+    ///
+    /// let mut session = pool.acquire()?;
+    /// let decision = session.check_sat();
+    /// pool.release(session)?;
+    /// assert_eq!(rt; decision, Ok(Decision::Sat));
+    /// ```
+    ///
     /// # Errors
     ///
     /// `AcquireTimeout` comes exactly where no permit is free; the pool waits for none. `Solver` with `Io` comes where the solver of

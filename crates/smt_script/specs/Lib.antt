@@ -1,6 +1,9 @@
 pub mod Bytes
 pub mod CommandTexts
 pub mod Count
+pub mod Input
 pub mod Memory
+pub mod MemorySource
 pub mod Sink
+pub mod Source
 pub mod Writer

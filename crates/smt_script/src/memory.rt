@@ -90,6 +90,16 @@ impl ListSink {
     ghost use Rattle.smt_script.specs.Memory.{list_bytes};
 
     /// An empty sink.
+    ///
+    /// # Examples
+    ///
+    /// ```
+    /// use kembura::{ListSink, Sink};
+    ///
+    /// let mut script = ListSink::new(alloc);
+    /// script.put(b"(check-sat)\n")?;
+    /// assert_eq!(rt; script.bytes().len(), 12);
+    /// ```
     pub fn new(alloc: Global) -> ListSink
         ensures { list_bytes result ≡ [] }
     {

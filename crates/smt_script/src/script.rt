@@ -3,8 +3,8 @@ ghost use Rattle.std.specs.Prelude.{◌≡◌, ◌↔◌, [], map, IsTrue};
 ghost use Rattle.std.specs.List.{join_by};
 ghost use Rattle.smt_script.specs.CommandTexts.{check_sat_text, exit_text, get_model_text, reset_text, set_logic_text, set_option_text};
 ghost use Rattle.smt_script.specs.Sink.{Puts};
-ghost use Rattle.smt_characters.specs.LineTexts.{in_comment, spaced, sorted_names, datatype_body, constructor_lines, comment_text, assert_text, define_fun_text, declare_const_text, declare_fun_text, declare_datatype_text};
-ghost use Rattle.smt_characters.specs.SharedTexts.{joined, texts, text_pairs};
+ghost use Rattle.law_texts.specs.LineTexts.{in_comment, spaced, sorted_names, datatype_body, constructor_lines, comment_text, assert_text, define_fun_text, declare_const_text, declare_fun_text, declare_datatype_text};
+ghost use Rattle.law_texts.specs.SharedTexts.{joined, texts, text_pairs};
 
 use crate::sink::{Sink, SinkError};
 use smt_text::{Text, line_end};
@@ -107,6 +107,18 @@ fn put_datatype<S: Sink>(
 /// rose in this call, or stands at its last value; `Memory` only where the sink answered it. What
 /// is handed in is written as it stands, so that a line is a command only where the parts are
 /// symbols, sorts, terms and values as SMT-LIB 2.7 spells them (chapter 3).
+///
+/// # Examples
+///
+/// ```
+/// use kembura::{ListSink, SmtLibScript};
+///
+/// let mut script = ListSink::new(alloc);
+/// script.set_logic("ALL")?;
+/// script.declare_const("x", "Bool")?;
+/// script.assert("x")?;
+/// script.check_sat()?;
+/// ```
 pub trait SmtLibScript: Sink {
     /// `(set-logic LOGIC)`.
     fn set_logic(&mut self, logic: &str) -> Result<(), SinkError>

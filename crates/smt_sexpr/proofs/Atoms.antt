@@ -8,15 +8,15 @@ use Rattle.std.proofs.Math.Utf8.{scalars}
 use Rattle.std.proofs.lemmas.Str.{is_utf8-from_IsUtf8, IsUtf8-from_is_utf8}
 use Rattle.std.proofs.lemmas.Bool.{and_parts, and_from, cases_Bool, false≢true, not_from_false}
 use Rattle.std.proofs.lemmas.Bool.Decides.{nat_tests}
-use Rattle.smt_characters.specs.Front.{begins_without, IsRun}
-use Rattle.smt_characters.proofs.Runs.{head_is}
+use Rattle.law_texts.specs.Front.{begins_without, IsRun}
+use Rattle.law_texts.proofs.Runs.{head_is}
 use Rattle.smt_bits.specs.BitVec.{width_of, number_of}
 use Rattle.smt_bits.specs.declared.bitvec.BitVec.{BitVec}
-use Rattle.smt_lexicon.specs.Front.{IsQuoted, begins_number}
-use Rattle.smt_lexicon.specs.Lexicon.{Piece, Space, Comment, Open, Close, Quoted, Binary, Hexadecimal, Numeral, Symbol, Bits, Number, Text, Name, Begin, End, Word, some_all, is_symbol, goes_on, stops, quote_twice, is_digit, is_binary, is_hexadecimal, is_line_end, is_symbol_byte, is_space, number_in, decoded}
-use Rattle.smt_lexicon.proofs.Runs.{digits_some}
+use Rattle.law_texts.specs.Reads.{IsQuoted, begins_number}
+use Rattle.law_texts.specs.Lexicon.{Piece, Space, Comment, Open, Close, Quoted, Binary, Hexadecimal, Numeral, Symbol, Bits, Number, Text, Name, Begin, End, Word, some_all, is_symbol, goes_on, stops, quote_twice, is_digit, is_binary, is_hexadecimal, is_line_end, is_symbol_byte, is_space, number_in, decoded}
+use Rattle.law_texts.proofs.Blanks.{digits_some}
 use Rattle.smt_sexpr.specs.Literals.{IsLiteral, IsLiteralFault}
-use Rattle.smt_lexicon.specs.Tokens.{StandsFirst}
+use Rattle.law_texts.specs.Tokens.{StandsFirst}
 use Rattle.smt_sexpr.specs.Pieces.{StandsFor, begins_atom, begins_symbol}
 use Rattle.smt_sexpr.specs.Refusals.{IsTokenFault, IsRawString}
 use Rattle.smt_sexpr.specs.declared.error.IntFault.TheVariants.{Empty, PosOverflow}

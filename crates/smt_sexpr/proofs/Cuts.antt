@@ -4,9 +4,9 @@ use Rattle.std.specs.List.{list_all}
 use Rattle.std.proofs.lemmas.Bool.{false≢true}
 use Rattle.std.proofs.lemmas.List.{append-nil}
 use Rattle.std.proofs.lemmas.List.Concat.{flat_map-append}
-use Rattle.smt_lexicon.specs.Lexicon.{Piece, Space, Comment, Open, Close, Quoted, Binary, Hexadecimal, Numeral, Symbol, spelling, is_piece, Token, token, tokens}
-use Rattle.smt_lexicon.specs.Tokens.{StandsFirst, IsCut, AreHeld, is_held}
-use Rattle.smt_lexicon.proofs.Spans.{cut_join, held_join, tokens_join}
+use Rattle.law_texts.specs.Lexicon.{Piece, Space, Comment, Open, Close, Quoted, Binary, Hexadecimal, Numeral, Symbol, spelling, is_piece, Token, token, tokens}
+use Rattle.law_texts.specs.Tokens.{StandsFirst, IsCut, AreHeld, is_held}
+use Rattle.law_texts.proofs.Spans.{cut_join, held_join, tokens_join}
 use Rattle.smt_sexpr.specs.OpenLists.{IsScanned}
 use Rattle.smt_sexpr.specs.Pieces.{StandsFor}
 use Rattle.smt_sexpr.specs.Refusals.{HasTokenFault, IsTokenFault}

@@ -6,7 +6,7 @@ use Rattle.std.proofs.Math.Utf8.{scalar, scalars}
 use Rattle.std.proofs.lemmas.Bool.{and_from, cases_Bool}
 use Rattle.std.proofs.lemmas.List.{append-nil}
 use Rattle.std.proofs.lemmas.Str.{chars-encodes, encodes-append}
-use Rattle.smt_characters.specs.Escapes.{Escape, escape, decoded}
+use Rattle.law_texts.specs.Escapes.{Escape, escape, decoded}
 
 decoded_skip : (n : ℕ) (bs : List ℕ) → decoded n bs ≡ decoded 0 (drop n bs)
 decoded_skip zero bs = refl

@@ -8,9 +8,9 @@ use Rattle.std.proofs.lemmas.Nat.{pow-add}
 use Rattle.std.proofs.Math.Numerals.{add-one}
 use Rattle.std.proofs.lemmas.Bool.{and_parts, and_from}
 use Rattle.std.proofs.lemmas.Bool.Decides.{nat_tests}
-use Rattle.smt_characters.specs.Characters.{is_hexadecimal}
-use Rattle.smt_characters.specs.Digits.{digit_value, number_in}
-use Rattle.smt_lexicon.specs.Lexicon.{is_binary}
+use Rattle.law_texts.specs.Characters.{is_hexadecimal}
+use Rattle.law_texts.specs.Digits.{digit_value, number_in}
+use Rattle.law_texts.specs.Lexicon.{is_binary}
 use Rattle.smt_sexpr.specs.Literals.{AreDigits}
 
 -- digits behind a number that is read already

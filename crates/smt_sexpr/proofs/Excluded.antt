@@ -8,15 +8,15 @@ use Rattle.std.proofs.Math.Utf8.{scalars}
 use Rattle.std.proofs.lemmas.Bool.{and_parts, cases_Bool, false≢true, leb-true, not-true, cond-true, cond-false}
 use Rattle.std.proofs.lemmas.Bool.Decides.{nat_tests}
 use Rattle.std.proofs.lemmas.List.{append-nil}
-use Rattle.smt_characters.specs.Front.{begins_without}
-use Rattle.smt_characters.proofs.Runs.{head_is, one_run}
-use Rattle.smt_lexicon.specs.Front.{IsQuoted}
-use Rattle.smt_lexicon.specs.Lexicon.{Piece, Space, Comment, Open, Close, Quoted, Binary, Hexadecimal, Numeral, Symbol, Bits, Number, Text, Name, Token, Begin, End, Word, token, tokens, spelling, some_all, is_symbol, is_piece, goes_on, stops, quote_twice, is_digit, is_binary, is_hexadecimal, is_symbol_byte, number_in, decoded}
-use Rattle.smt_lexicon.specs.Reading.{Expression, Leaf, Node, Expressions, Nil, Cons, brackets, deepest, inside, nesting, Reads}
-use Rattle.smt_lexicon.specs.Tokens.{StandsFirst, IsCut, AreHeld, is_held, IsReadWithin}
-use Rattle.smt_lexicon.proofs.Spans.{cut_into, held_parts, into_cut}
-use Rattle.smt_lexicon.proofs.Trees.{end_begins, one_expr, token_is}
-use Rattle.smt_lexicon.proofs.Unique.{begins, first_one, kind, kind_is, number, one_cut, second}
+use Rattle.law_texts.specs.Front.{begins_without}
+use Rattle.law_texts.proofs.Runs.{head_is, one_run}
+use Rattle.law_texts.specs.Reads.{IsQuoted}
+use Rattle.law_texts.specs.Lexicon.{Piece, Space, Comment, Open, Close, Quoted, Binary, Hexadecimal, Numeral, Symbol, Bits, Number, Text, Name, Token, Begin, End, Word, token, tokens, spelling, some_all, is_symbol, is_piece, stops, quote_twice, is_digit, is_binary, is_hexadecimal, is_symbol_byte, number_in, decoded}
+use Rattle.law_texts.specs.Reading.{Expression, Leaf, Node, Expressions, Nil, Cons, brackets, deepest, inside, nesting, Reads}
+use Rattle.law_texts.specs.Tokens.{StandsFirst, IsCut, AreHeld, is_held, IsReadWithin}
+use Rattle.law_texts.proofs.Spans.{cut_into, held_parts, into_cut}
+use Rattle.law_texts.proofs.Trees.{end_begins, one_expr, token_is}
+use Rattle.law_texts.proofs.Unique.{begins, first_one, kind, kind_is, number, one_cut, second, all_of_symbol, run_ends}
 use Rattle.smt_sexpr.specs.Refusals.{IsBracketFault, IsRefused, IsTokenFault, number_of_token, open_list, open_lists}
 use Rattle.smt_sexpr.specs.declared.error.IntFault.TheVariants.{Empty, PosOverflow}
 use Rattle.smt_sexpr.specs.declared.error.SExprParseError.{SExprParseError}
@@ -143,18 +143,10 @@ name_kind (c ∷ cs) r h =
     let p = and_parts (not (is_digit c)) (some_all is_symbol_byte (c ∷ cs)) h in
     cond-false (is_digit c) 7 _ (not-true (is_digit c) p.0) ∙ cond-true (is_symbol_byte c) 8 _ (and_parts (is_symbol_byte c) (list_all is_symbol_byte cs) p.1).0
 
-symbol_bytes : (bs : List ℕ) → is_symbol bs ≡ true → list_all is_symbol_byte bs ≡ true
-symbol_bytes [] h = refl
-symbol_bytes (b ∷ bs) h = (and_parts (not (is_digit b)) (some_all is_symbol_byte (b ∷ bs)) h).1
-
-run_ends : (x : Piece) (r : List ℕ) → stops x r ≡ true → begins_without (goes_on x) r ≡ true
-run_ends x [] h = refl
-run_ends x (b ∷ r) h = h
-
 no_text : (name r : List ℕ) → begins_without is_symbol_byte r ≡ true → is_symbol name ≡ true → is_utf8 name ≡ false → (x : Piece) (s : List ℕ) → is_piece x ≡ true → stops x s ≡ true → name ++ r ≡ spelling x ++ s → ⊥
 no_text name r ends h u (Symbol other) s k t e =
     let p = and_parts (is_symbol other) (is_utf8 other) k in
-    let o = one_run is_symbol_byte name other r s (symbol_bytes name h) (symbol_bytes other p.0) ends (run_ends (Symbol other) s t) e in
+    let o = one_run is_symbol_byte name other r s (all_of_symbol name h) (all_of_symbol other p.0) ends (run_ends (Symbol other) s t) e in
     false≢true (sym u ∙ ap is_utf8 o.0 ∙ p.1)
 no_text name r ends h u x s k t e = let n : 8 ≡ number x = sym (name_kind name r h) ∙ ap kind e ∙ kind_is x s k in absurd (omega arith)
 

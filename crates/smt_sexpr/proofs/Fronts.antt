@@ -3,11 +3,11 @@ use Rattle.std.proofs.Common.{inl, inr, ◌≡◌, ℕ, true, false, eqb, List, 
 use Rattle.std.specs.Prelude.{IfNone}
 use Rattle.std.proofs.lemmas.Bool.{cases_Bool, eqb-true, false≢true}
 use Rattle.std.proofs.lemmas.List.{append-nil}
-use Rattle.smt_characters.proofs.Runs.{head_is}
-use Rattle.smt_lexicon.specs.Lexicon.{Piece, Space, Comment, Open, Close, Quoted, Binary, Hexadecimal, Numeral, Symbol, Token, Begin, End, is_space, stops, spelling, token, tokens}
-use Rattle.smt_lexicon.specs.Front.{skip_space}
-use Rattle.smt_lexicon.specs.Tokens.{StandsFirst, IsCut, Spans, HasTokens}
-use Rattle.smt_lexicon.proofs.Spans.{goes_on, joined, no_span}
+use Rattle.law_texts.proofs.Runs.{head_is}
+use Rattle.law_texts.specs.Lexicon.{Piece, Space, Comment, Open, Close, Quoted, Binary, Hexadecimal, Numeral, Symbol, Token, Begin, End, is_space, stops, spelling, token, tokens}
+use Rattle.law_texts.specs.Reads.{skip_space}
+use Rattle.law_texts.specs.Tokens.{StandsFirst, IsCut, Spans, HasTokens}
+use Rattle.law_texts.proofs.Spans.{goes_on, joined, no_span}
 use Rattle.smt_sexpr.specs.Pieces.{StandsFor, begins_blank}
 
 -- ---- white space and comments

@@ -1,7 +1,7 @@
 -- What is printed of expressions, taken one at a time.
 use Rattle.std.proofs.Common.{ℕ, ◌≡◌, ◌≤◌, List, [], ◌∷◌, ◌++◌, ◌∙◌, ap, sym, refl, append-nil, append_assoc, map, drop, length}
 use Rattle.std.proofs.lemmas.List.{drop_all}
-use Rattle.smt_lexicon.specs.Reading.{expressions}
+use Rattle.law_texts.specs.Reading.{expressions}
 use Rattle.smt_sexpr.specs.Printed.{expression_text, expression_texts}
 use Rattle.smt_sexpr.specs.View.{plain}
 use Rattle.smt_sexpr.specs.declared.expression.SExpr.{SExpr}

@@ -3,13 +3,13 @@ use Rattle.std.proofs.Common.{◌≡◌, ℕ, true, List, [], ◌∷◌, refl, s
 use Rattle.std.specs.List.{list_all}
 use Rattle.std.proofs.Math.Utf8.{scalars}
 use Rattle.std.proofs.lemmas.Bool.{and_from}
-use Rattle.smt_characters.specs.Characters.{is_code_point}
-use Rattle.smt_characters.specs.Quoting.{quoted}
-use Rattle.smt_lexicon.specs.Lexicon.{Text}
-use Rattle.smt_lexicon.specs.Reading.{Expression, Leaf, Reads}
-use Rattle.smt_lexicon.specs.Tokens.{IsRead}
-use Rattle.smt_lexicon.proofs.Quotes.{quoted_texts_are_read}
-use Rattle.smt_lexicon.proofs.Trees.{one_reading}
+use Rattle.law_texts.specs.Characters.{is_code_point}
+use Rattle.law_texts.specs.Quoting.{quoted}
+use Rattle.law_texts.specs.Lexicon.{Text}
+use Rattle.law_texts.specs.Reading.{Expression, Leaf, Reads}
+use Rattle.law_texts.specs.Tokens.{IsRead}
+use Rattle.law_texts.proofs.QuotedTexts.{quoted_texts_are_read}
+use Rattle.law_texts.proofs.Trees.{one_reading}
 
 pub quoted_read : (cs bytes : List ℕ) → bytes ≡ quoted cs → true ≡ list_all is_code_point cs → scalars cs ≡ true → IsRead bytes (Leaf (Text cs))
 quoted_read cs bytes e h s = record {

@@ -8,8 +8,8 @@ use Rattle.std.specs.declared.rc.RcStr.{RcStr}
 use Rattle.std.proofs.lemmas.Bool.{and_parts, and_from, eqb-true, eq-eqb, false≢true}
 use Rattle.std.proofs.lemmas.Str.{IsUtf8-string_bytes, encodes-chars}
 use Rattle.smt_bits.specs.BitVec.{width_of, number_of}
-use Rattle.smt_lexicon.specs.Lexicon.{Bits, Number, Text, Name}
-use Rattle.smt_lexicon.specs.Reading.{Expression, Leaf, Node, Expressions, Cons}
+use Rattle.law_texts.specs.Lexicon.{Bits, Number, Text, Name}
+use Rattle.law_texts.specs.Reading.{Expression, Leaf, Node, Expressions, Cons}
 use Rattle.smt_sexpr.specs.View.{plain, plain_row}
 use Rattle.smt_sexpr.specs.declared.expression.SExpr.{SExpr, BitVec, Numeral, String, Symbol, App', Row_of-SExpr, end_of-SExpr, more_of-SExpr, items-the_row-SExpr}
 use Rattle.smt_sexpr.specs.declared.expression.SExprs.{SExprs, items_shown-the_row-SExpr-0}

@@ -2,11 +2,11 @@
 use Rattle.std.proofs.Common.{inl, inr, ◌⊎◌, ◌≡◌, ℕ, ◌≤◌, Bool, true, false, List, [], ◌∷◌, ◌++◌, refl, sym, ap, ◌∙◌, subst, arith, None}
 use Rattle.std.specs.List.{list_all}
 use Rattle.std.proofs.lemmas.List.{append-nil}
-use Rattle.smt_lexicon.specs.Lexicon.{Piece, Token, tokens}
-use Rattle.smt_lexicon.specs.Reading.{Expression, brackets, nesting}
-use Rattle.smt_lexicon.specs.Tokens.{IsCut, AreHeld, is_held, HasTokens, IsReadWithin, Spans}
-use Rattle.smt_lexicon.proofs.Spans.{cut_join, cut_into, goes_on, held_join, tokens_join}
-use Rattle.smt_lexicon.proofs.Unique.{one_cut}
+use Rattle.law_texts.specs.Lexicon.{Piece, Token, tokens}
+use Rattle.law_texts.specs.Reading.{Expression, brackets, nesting}
+use Rattle.law_texts.specs.Tokens.{IsCut, AreHeld, is_held, HasTokens, IsReadWithin, Spans}
+use Rattle.law_texts.proofs.Spans.{cut_join, cut_into, goes_on, held_join, tokens_join}
+use Rattle.law_texts.proofs.Unique.{one_cut}
 use Rattle.smt_sexpr.specs.OpenLists.{IsNext, IsOpenAt, IsScanned, IsStepFault}
 use Rattle.smt_sexpr.specs.Pieces.{StandsFor}
 use Rattle.smt_sexpr.specs.Refusals.{HasTokenFault, IsBracketFault, IsRefused, IsTokenFault, open_lists}

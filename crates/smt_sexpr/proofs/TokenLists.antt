@@ -4,8 +4,8 @@ use Rattle.std.specs.Prelude.{max}
 use Rattle.std.specs.List.{flat_map}
 use Rattle.std.proofs.lemmas.List.{append-nil}
 use Rattle.std.proofs.lemmas.List.Concat.{flat_map-append}
-use Rattle.smt_lexicon.specs.Lexicon.{Name, Piece, Space, Comment, Open, Close, Quoted, Binary, Hexadecimal, Numeral, Symbol, Token, Begin, End, Word, token}
-use Rattle.smt_lexicon.specs.Reading.{Expression, Leaf, Node, Expressions, Nil, Cons, expressions, brackets, deepest, inside, nesting}
+use Rattle.law_texts.specs.Lexicon.{Name, Piece, Space, Comment, Open, Close, Quoted, Binary, Hexadecimal, Numeral, Symbol, Token, Begin, End, Word, token}
+use Rattle.law_texts.specs.Reading.{Expression, Leaf, Node, Expressions, Nil, Cons, expressions, brackets, deepest, inside, nesting}
 use Rattle.smt_sexpr.specs.OpenLists.{Adds, IsNext, IsStepFault, levels}
 use Rattle.smt_sexpr.specs.Pieces.{StandsFor}
 use Rattle.smt_sexpr.specs.Refusals.{open_list, open_lists}

@@ -1,7 +1,7 @@
 -- The digits of literals in base 2 and 16, and why they give no bitvector (SMT-LIB 2.7, chapter 3, Lexicon).
 use Rattle.std.specs.Prelude.{◌≡◌, ℕ, ◌*◌, ◌^◌, ◌<◌, ◌≤◌, nat_lt, IsTrue, length, List, []}
 use Rattle.std.specs.List.{list_all}
-use Rattle.smt_lexicon.specs.Lexicon.{digit_value, number_in}
+use Rattle.law_texts.specs.Lexicon.{digit_value, number_in}
 use Rattle.smt_bits.specs.BitVec.{width_of, number_of}
 use Rattle.smt_bits.specs.declared.bitvec.BitVec.{BitVec}
 use Rattle.smt_sexpr.specs.declared.error.IntFault.TheVariants.{Empty, PosOverflow}

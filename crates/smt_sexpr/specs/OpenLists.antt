@@ -1,8 +1,8 @@
 -- Lists that are open while a text is read, and what a token makes of them (SMT-LIB 2.7, chapter 3, S-expressions).
 use Rattle.std.specs.Prelude.{◌≡◌, ℕ, ◌+◌, ◌≤◌, max, Bool, true, false, Option, Some, None, List, [], ◌∷◌, ◌++◌}
-use Rattle.smt_lexicon.specs.Lexicon.{Piece, Token, tokens}
-use Rattle.smt_lexicon.specs.Reading.{Expression, brackets, deepest, expressions, nesting}
-use Rattle.smt_lexicon.specs.Tokens.{IsCut, AreHeld}
+use Rattle.law_texts.specs.Lexicon.{Piece, Token, tokens}
+use Rattle.law_texts.specs.Reading.{Expression, brackets, deepest, expressions, nesting}
+use Rattle.law_texts.specs.Tokens.{IsCut, AreHeld}
 use Rattle.smt_sexpr.specs.Refusals.{IsBracketFault, open_lists}
 use Rattle.smt_sexpr.specs.View.{plain}
 use Rattle.smt_sexpr.specs.declared.error.SExprParseError.{SExprParseError}

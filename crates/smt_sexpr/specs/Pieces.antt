@@ -1,7 +1,7 @@
 -- The pieces at the front of a text (SMT-LIB 2.7, chapter 3, Lexicon).
 use Rattle.std.specs.Prelude.{◌≡◌, ℕ, Bool, false, not, ◌&&◌, ◌||◌, ◌==◌, List, [], ◌∷◌}
-use Rattle.smt_lexicon.specs.Lexicon.{Piece, Token, token, is_space, is_digit, is_symbol_byte}
-use Rattle.smt_lexicon.specs.Tokens.{StandsFirst, AreHeld}
+use Rattle.law_texts.specs.Lexicon.{Piece, Token, token, is_space, is_digit, is_symbol_byte}
+use Rattle.law_texts.specs.Tokens.{StandsFirst, AreHeld}
 
 -- A piece with these tokens stands at the front, and they are held.
 pub record StandsFor (ts : List Token) (bytes rest : List ℕ) : Type 0 where

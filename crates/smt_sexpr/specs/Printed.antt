@@ -1,13 +1,13 @@
 -- The printed texts of expressions.
 use Rattle.std.specs.Prelude.{ℕ, List, [], ◌∷◌, ◌++◌, codes, encode_utf8_all}
 use Rattle.std.specs.Fmt.{decimal}
-use Rattle.std.specs.List.{join_by}
-use Rattle.smt_lexicon.specs.Lexicon.{Atom, Bits, Number, Text, Name}
-use Rattle.smt_lexicon.specs.Reading.{Expression, Leaf, Node, Expressions, Nil, Cons}
+use Rattle.law_texts.specs.Lexicon.{Atom, Bits, Number, Text, Name}
+use Rattle.law_texts.specs.Reading.{Expression, Leaf, Node, Expressions, Nil, Cons}
+use Rattle.law_texts.specs.LineTexts.{spaced}
 
 -- the text of a bitvector literal: `BitVec { width: 2, v: 1 }`
-abbrev pub literal_text : (width number : ℕ) → List ℕ
-literal_text width number = codes "BitVec { width: " ++ (decimal width ++ (codes ", v: " ++ (decimal number ++ codes " }")))
+abbrev pub bitvector_text : (width number : ℕ) → List ℕ
+bitvector_text width number = codes "BitVec { width: " ++ (decimal width ++ (codes ", v: " ++ (decimal number ++ codes " }")))
 
 -- the characters of these code points between quotes, as they are
 abbrev pub string_text : (points : List ℕ) → List ℕ
@@ -15,14 +15,10 @@ string_text points = codes "\"" ++ (encode_utf8_all points ++ codes "\"")
 
 -- a literal, a number in decimal, a string between quotes, or a name
 abbrev pub atom_text : Atom → List ℕ
-atom_text (Bits width n) = literal_text width n
+atom_text (Bits width n) = bitvector_text width n
 atom_text (Number n) = decimal n
 atom_text (Text points) = string_text points
 atom_text (Name name) = name
-
--- texts with a space between each two
-abbrev pub spaced : List (List ℕ) → List ℕ
-spaced texts = join_by (λ x. x) (codes " ") texts
 
 -- texts in brackets, with a space between each two: `(a b)`, or `()`
 abbrev pub list_text : List (List ℕ) → List ℕ

@@ -4,11 +4,11 @@ use Rattle.std.specs.Prelude.{◌≡◌, ℕ, ◌^◌, ◌<◌, ◌≤◌, ◌�
 use Rattle.std.specs.List.{flat_map}
 use Rattle.std.specs.Str.{is_utf8}
 use Rattle.std.proofs.Math.Utf8.{scalars}
-use Rattle.smt_characters.specs.Front.{begins_without, IsRun}
-use Rattle.smt_lexicon.specs.Front.{IsQuoted}
-use Rattle.smt_lexicon.specs.Lexicon.{Piece, Quoted, is_symbol, is_symbol_byte, is_binary, is_hexadecimal, Bits, Number, Token, Begin, End, Word, tokens, token, quote_twice, decoded}
-use Rattle.smt_lexicon.specs.Reading.{Expression, brackets, nesting}
-use Rattle.smt_lexicon.specs.Tokens.{StandsFirst, IsCut, AreHeld}
+use Rattle.law_texts.specs.Front.{begins_without, IsRun}
+use Rattle.law_texts.specs.Reads.{IsQuoted}
+use Rattle.law_texts.specs.Lexicon.{Piece, Quoted, is_symbol, is_symbol_byte, is_binary, is_hexadecimal, Bits, Number, Token, Begin, End, Word, tokens, token, quote_twice, decoded}
+use Rattle.law_texts.specs.Reading.{Expression, brackets, nesting}
+use Rattle.law_texts.specs.Tokens.{StandsFirst, IsCut, AreHeld}
 use Rattle.smt_script.specs.Bytes.{bytes_in}
 use Rattle.smt_sexpr.specs.declared.error.IntFault.TheVariants.{Empty, PosOverflow}
 use Rattle.smt_sexpr.specs.declared.error.SExprParseError.{SExprParseError}

@@ -7,8 +7,8 @@ use Rattle.std.specs.declared.alloc.Global.{Global}
 use Rattle.std.specs.declared.rc.RcStr.{RcStr}
 use Rattle.smt_bits.specs.BitVec.{width_of, number_of}
 use Rattle.smt_bits.specs.declared.bitvec.BitVec.{BitVec as Bitvector}
-use Rattle.smt_lexicon.specs.Lexicon.{Bits, Number, Text, Name, Token, Begin, End}
-use Rattle.smt_lexicon.specs.Reading.{Expression, Leaf, Node, Expressions, Nil, Cons, expressions, brackets, nesting}
+use Rattle.law_texts.specs.Lexicon.{Bits, Number, Text, Name, Token, Begin, End}
+use Rattle.law_texts.specs.Reading.{Expression, Leaf, Node, Expressions, Nil, Cons, expressions, brackets, nesting}
 use Rattle.smt_sexpr.specs.declared.expression.SExpr.{SExpr, BitVec, Numeral, String, Symbol, App, App', Row_of-SExpr, end_of-SExpr, more_of-SExpr, items-the_row-SExpr, items_hidden-the_row-SExpr-0}
 use Rattle.smt_sexpr.specs.declared.expression.SExpr.TheBlock.{hidden-the_row-SExpr-0}
 use Rattle.smt_sexpr.specs.declared.expression.SExprs.{SExprs}

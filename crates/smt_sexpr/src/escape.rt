@@ -6,16 +6,14 @@ ghost use Rattle.std.specs.List.{list_all};
 ghost use Rattle.std.specs.Str.{chars};
 ghost use Rattle.std.specs.String.{string_bytes};
 ghost use Rattle.std.proofs.Math.Utf8.{scalars};
-ghost use Rattle.smt_characters.specs.Characters.{is_hexadecimal};
-ghost use Rattle.smt_characters.specs.Escapes.{short_escape, braced_escape, escape, decoded};
-ghost use Rattle.smt_characters.specs.Front.{ReadsTo};
-ghost use Rattle.smt_characters.specs.Digits.{number_in};
+ghost use Rattle.law_texts.specs.Characters.{is_hexadecimal};
+ghost use Rattle.law_texts.specs.Escapes.{short_escape, braced_escape, escape, decoded};
+ghost use Rattle.law_texts.specs.Front.{ReadsTo};
+ghost use Rattle.law_texts.specs.Digits.{number_in};
 
 use crate::number::number_of_digits;
+use smt_text::SMT_LIB_MAX_CODE_POINT;
 use std::alloc::{AllocError, Global};
-
-// The greatest code point of the theory UnicodeStrings.
-const GREATEST: u32 = 0x2ffff;
 
 pub fn is_base_16(byte: u8) -> bool
     ensures { result ≡ is_hexadecimal byte }
@@ -76,7 +74,11 @@ fn braced_point(k: usize, bytes: &[u8]) -> Option<u32>
     let end = first(without(bytes, 3 + k), 1);
     if first(bytes, 3) == b"\\u{".as_slice() && end == b"}".as_slice() && are_base_16(digits) {
         let point = point_of(digits);
-        if point <= GREATEST { Some(point) } else { None }
+        if point <= SMT_LIB_MAX_CODE_POINT {
+            Some(point)
+        } else {
+            None
+        }
     } else {
         None
     }

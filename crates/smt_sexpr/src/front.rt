@@ -3,8 +3,8 @@
 #![tactic(auto)]
 
 ghost use Rattle.std.specs.Prelude.{◌≡◌, ℕ, ◌<◌, ◌≤◌, ◌↔◌, [], ◌∷◌, false, length, IsTrue, IfSome, IfNone, List};
-ghost use Rattle.smt_lexicon.specs.Lexicon.{Token, Begin, End};
-ghost use Rattle.smt_lexicon.specs.Tokens.{HasTokens, Spans};
+ghost use Rattle.law_texts.specs.Lexicon.{Token, Begin, End};
+ghost use Rattle.law_texts.specs.Tokens.{HasTokens, Spans};
 ghost use Rattle.smt_sexpr.specs.Pieces.{begins_blank};
 
 use crate::lexeme::{comment_len, without_space};

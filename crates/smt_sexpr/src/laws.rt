@@ -1,9 +1,9 @@
 ghost use Rattle.std.specs.Prelude.{◌≡◌, ◌↔◌, IsTrue, IfOk, IfErr, IfSome, is_some};
 ghost use Rattle.std.specs.List.{list_all};
 ghost use Rattle.std.specs.Str.{chars};
-ghost use Rattle.smt_characters.specs.Characters.{is_code_point};
-ghost use Rattle.smt_lexicon.specs.Lexicon.{Text};
-ghost use Rattle.smt_lexicon.specs.Reading.{Leaf};
+ghost use Rattle.law_texts.specs.Characters.{is_code_point};
+ghost use Rattle.law_texts.specs.Lexicon.{Text};
+ghost use Rattle.law_texts.specs.Reading.{Leaf};
 ghost use Rattle.smt_sexpr.specs.View.{plain};
 ghost use Rattle.smt_sexpr.specs.declared.error.SExprParseError.TheVariants.{Memory};
 

@@ -3,8 +3,8 @@
 
 ghost use Rattle.std.specs.Prelude.{◌≡◌, length, not, ◌==◌};
 ghost use Rattle.std.specs.List.{take_while};
-ghost use Rattle.smt_lexicon.specs.Front.{skip_space};
-ghost use Rattle.smt_lexicon.specs.Lexicon.{is_line_end, is_space, is_symbol_byte};
+ghost use Rattle.law_texts.specs.Reads.{skip_space};
+ghost use Rattle.law_texts.specs.Lexicon.{is_line_end, is_space, is_symbol_byte};
 
 pub fn is_white_space(byte: u8) -> bool
     ensures { result ≡ is_space byte }

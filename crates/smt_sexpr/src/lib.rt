@@ -1,4 +1,8 @@
 //! S-expressions of SMT-LIB: their values, a reader of texts that hold one, and texts between quotes.
+//!
+//! Which bytes are which expression is said by `Lexicon` and `Reading` of `law_texts` (SMT-LIB 2.7, chapter 3, Lexicon and
+//! S-expressions). Read `specs/View.antt` first, which says what an expression of the program says, then `Refusals`, which says
+//! why a text is refused.
 #![tactic(auto)]
 
 pub mod error;

@@ -4,7 +4,7 @@
 ghost use Rattle.std.specs.Prelude.{◌≡◌, ◌*◌, ◌^◌, ◌<◌, ◌≤◌, length, IfOk, IfErr, IfSome, IfNone};
 ghost use Rattle.std.specs.Option.{SomeIff};
 ghost use Rattle.smt_bits.specs.Width.{bits_in};
-ghost use Rattle.smt_lexicon.specs.Lexicon.{digit_value, number_in};
+ghost use Rattle.law_texts.specs.Lexicon.{digit_value, number_in};
 ghost use Rattle.smt_sexpr.specs.Literals.{AreDigits, IsLiteral, IsLiteralFault};
 
 use crate::error::{IntFault, SExprParseError};

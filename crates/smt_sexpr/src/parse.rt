@@ -2,9 +2,9 @@
 #![tactic(auto, using(crate::specs::View::views))]
 
 ghost use Rattle.std.specs.Prelude.{◌≡◌, ◌≢◌, ◌+◌, ◌<◌, ◌≤◌, ◌&&◌, ◌⊎◌, Bool, true, false, [], ◌∷◌, ◌++◌, List, length, IfOk, IfErr, IfSome, IfNone};
-ghost use Rattle.smt_lexicon.specs.Lexicon.{Token, Begin, End};
-ghost use Rattle.smt_lexicon.specs.Reading.{Expression, brackets, nesting};
-ghost use Rattle.smt_lexicon.specs.Tokens.{HasTokens, IsReadWithin, IsRead, Spans};
+ghost use Rattle.law_texts.specs.Lexicon.{Token, Begin, End};
+ghost use Rattle.law_texts.specs.Reading.{Expression, brackets, nesting};
+ghost use Rattle.law_texts.specs.Tokens.{HasTokens, IsReadWithin, IsRead, Spans};
 ghost use Rattle.smt_sexpr.specs.OpenLists.{Adds, IsNext, IsScanned, IsStepFault, levels};
 ghost use Rattle.smt_sexpr.specs.Refusals.{HasTokenFault, IsRefused, open_lists};
 ghost use Rattle.smt_sexpr.specs.View.{plain, lexeme_nesting, lexeme_tokens, lists_in};
@@ -243,6 +243,17 @@ pub fn parse_sexpr_within(
 }
 
 /// As [`parse_sexpr_within`], however many brackets are open. No text opens more than it has bytes.
+///
+/// # Examples
+///
+/// ```
+/// use kembura::expressions::{SExpr, parse_sexpr};
+///
+/// let read = parse_sexpr(alloc, b"(assert true)")?;
+/// if let SExpr::App(items) = &read {
+///     assert_eq!(rt; items.len(), 2);
+/// }
+/// ```
 ///
 /// # Errors
 ///

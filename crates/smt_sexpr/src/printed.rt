@@ -5,8 +5,9 @@ ghost use Rattle.std.specs.Prelude.{Some, map};
 ghost use Rattle.std.specs.Fmt.{WritesOnOk};
 ghost use Rattle.std.specs.Str.{chars};
 ghost use Rattle.smt_bits.specs.BitVec.{number_of, width_of};
-ghost use Rattle.smt_lexicon.specs.Reading.{expressions};
-ghost use Rattle.smt_sexpr.specs.Printed.{expression_text, expression_texts, list_text, literal_text, spaced, string_text};
+ghost use Rattle.law_texts.specs.Reading.{expressions};
+ghost use Rattle.smt_sexpr.specs.Printed.{expression_text, expression_texts, list_text, string_text, bitvector_text};
+ghost use Rattle.law_texts.specs.LineTexts.{spaced};
 ghost use Rattle.smt_sexpr.specs.View.{plain};
 
 use crate::expression::SExpr;
@@ -30,7 +31,7 @@ impl fmt::Display for SExpr {
 
 // `BitVec { width: 2, v: 1 }`.
 fn put_literal<W: fmt::Write>(literal: BitVec, f: &mut fmt::Formatter<W>) -> fmt::Result
-    ensures { WritesOnOk W.write_str_gives f.old result (literal_text (width_of literal) (number_of literal)) f.new }
+    ensures { WritesOnOk W.write_str_gives f.old result (bitvector_text (width_of literal) (number_of literal)) f.new }
 {
     let width = literal.width().get();
     let number = literal.to_nat();

@@ -5,8 +5,8 @@ ghost use Rattle.std.specs.Prelude.{◌≡◌, IfOk, IfErr, IfSome, is_some};
 ghost use Rattle.std.specs.List.{list_all};
 ghost use Rattle.std.specs.Rc.{rc_str_bytes};
 ghost use Rattle.std.specs.Str.{chars};
-ghost use Rattle.smt_characters.specs.Characters.{is_code_point};
-ghost use Rattle.smt_characters.specs.Quoting.{quoted};
+ghost use Rattle.law_texts.specs.Characters.{is_code_point};
+ghost use Rattle.law_texts.specs.Quoting.{quoted};
 
 use crate::error::SExprParseError;
 use smt_text::Text;

@@ -3,9 +3,9 @@
 
 ghost use Rattle.std.specs.Prelude.{◌≡◌, ℕ, ◌<◌, [], ◌∷◌, List, length, IfOk, IfErr, true};
 ghost use Rattle.std.specs.List.{flat_map, take_while};
-ghost use Rattle.smt_lexicon.specs.Front.{IfRead, IfUnread, IsQuoted, begins_number};
-ghost use Rattle.smt_lexicon.specs.Lexicon.{is_binary, is_hexadecimal, quote_twice};
-ghost use Rattle.smt_lexicon.specs.Reading.{brackets};
+ghost use Rattle.law_texts.specs.Reads.{IfRead, IfUnread, IsQuoted, begins_number};
+ghost use Rattle.law_texts.specs.Lexicon.{is_binary, is_hexadecimal, quote_twice};
+ghost use Rattle.law_texts.specs.Reading.{brackets};
 ghost use Rattle.smt_script.specs.Bytes.{bytes_in};
 ghost use Rattle.smt_sexpr.specs.Pieces.{StandsFor, begins_atom, begins_symbol};
 ghost use Rattle.smt_sexpr.specs.Refusals.{IsTokenFault, IsRawString};

@@ -1,4 +1,6 @@
 pub mod AnswerLemmas
+pub mod ChildLemmas
+pub mod LineLemmas
 pub mod LinkLemmas
 pub mod MemoryLemmas
 pub mod ModelLemmas

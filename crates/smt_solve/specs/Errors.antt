@@ -4,7 +4,8 @@ use Rattle.smt_script.specs.declared.sink.SinkError.TheVariants.{Fault, Memory a
 use Rattle.smt_solve.specs.declared.error.SolverError.{SolverError}
 use Rattle.smt_solve.specs.declared.error.SolverError.TheVariants.{Io, Memory}
 
--- A fault is one of what leads to the solver, and want of memory stays so.
+-- An error of a sink as one of a solver: a fault is `Io`, a failure of what leads to the solver, and want of memory stays want
+-- of memory.
 abbrev pub solver_error : SinkError → SolverError
 solver_error Fault = Io
 solver_error SinkWant = Memory

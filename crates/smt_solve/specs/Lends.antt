@@ -6,5 +6,7 @@ use Rattle.smt_solve.specs.declared.input.SessionInput.{SessionInput}
 use Rattle.smt_solve.specs.declared.session.LocalSolver.{LocalSolver}
 
 module _ (L : RattleType) (s : MutBor (LocalSolver L.Denot)) where
+  -- A session lends its input as `r`: when the loan is over, the session has what `r` then is for its input, and is as before
+  -- otherwise.
   abbrev pub LendsInput : MutBor (SessionInput L.Denot) → Fml
   LendsInput r = Lends (the_row L) (input_row L) s r (λ w. record { input = w; alloc = s.now.alloc })

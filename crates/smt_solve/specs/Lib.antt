@@ -1,9 +1,11 @@
 pub mod Answers
+pub mod Children
 pub mod Cvc5
 pub mod Errors
 pub mod FailedWriter
 pub mod Lends
 pub mod LendsWriter
+pub mod Line
 pub mod Link
 pub mod LinkList
 pub mod MemoryLink
@@ -12,4 +14,5 @@ pub mod Model
 pub mod Question
 pub mod Session
 pub mod Starter
+pub mod Starters
 pub mod WriterSolver

@@ -10,7 +10,7 @@ use Rattle.smt_solve.specs.declared.link.LineEnd.TheVariants.{Line, End, TooLong
 use Rattle.smt_solve.specs.declared.link.LinkError.{LinkError}
 use Rattle.smt_solve.specs.declared.link.LinkError.TheVariants.{Fault}
 
--- What a link tells. What is `None` is not told.
+-- What a link to a solver tells of itself. What is `None` is not told.
 pub record LinkState : Type 0 where
   -- the bytes that were sent
   pub sent : Option (List ℕ)
@@ -18,30 +18,31 @@ pub record LinkState : Type 0 where
   pub was_read : Option (List ℕ)
   -- the bytes that are still to come
   pub to_come : Option (List ℕ)
-  -- whether it has ended, and with which code; `Killed` is an end without a code
+  -- whether the solver has ended, and with which code; `Killed` is an end without a code
   pub ended : Option Ended
-  -- whether it was killed
+  -- whether the solver was killed
   pub killed : Option Bool
-  -- how often it failed; the count stands still at 2^64 - 1
+  -- how often the link failed; the count stands still at 2^64 - 1
   pub faults : ℕ
 
--- No call was made.
+-- No call was made on a link: by what it tells nothing was sent, read or killed, and it has never failed.
 pub record IsUnused (s : LinkState) : Type 0 where
   pub sent : IfSome s.sent (λ text. text ≡ [])
   pub was_read : IfSome s.was_read (λ text. text ≡ [])
   pub killed : IfSome s.killed (λ k. k ≡ false)
   pub faults : s.faults ≡ 0
 
--- The first allows only what the second allows: which line may follow a text that was sent and the lines that were read.
+-- The first relation allows only what the second allows. Such a relation says which line may follow a text that was sent and
+-- the lines that were read.
 abbrev pub AllowsOnly : (List ℕ → List ℕ → List ℕ → Type 0) → (List ℕ → List ℕ → List ℕ → Type 0) → Type 0
 AllowsOnly first second = (text earlier line : List ℕ) → first text earlier line → second text earlier line
 
--- Both allow the same.
+-- Two relations allow the same lines.
 pub record AllowsTheSame (first second : List ℕ → List ℕ → List ℕ → Type 0) : Type 0 where
   pub there : AllowsOnly first second
   pub back : AllowsOnly second first
 
--- The line may follow what was sent and read, where that is told.
+-- The line may follow what was sent and read, where both are told.
 abbrev pub IsAllowed : (List ℕ → List ℕ → List ℕ → Type 0) → (sent was_read : Option (List ℕ)) → List ℕ → Type 0
 IsAllowed allows sent was_read line = IfSome sent (λ text. IfSome was_read (λ earlier. allows text earlier line))
 
@@ -53,19 +54,20 @@ HasNoLineFeed bytes = All (λ b. b ≢ 10) bytes
 abbrev pub IsLine : List ℕ → Type 0
 IsLine bytes = (body : List ℕ) × HasNoLineFeed body × (bytes ≡ body ++ 10 ∷ [])
 
--- How a read of at most `limit` bytes ended that gave `piece` and left `to_come`.
+-- How a read of at most `limit` bytes ended that gave `piece` and left `to_come`: with a whole line, at the end of the answers
+-- inside a line or before one, or with as many bytes as are read at most and no line feed.
 abbrev pub EndsAs : LineEnd → (piece : List ℕ) → (limit : ℕ) → (to_come : Option (List ℕ)) → Type 0
 EndsAs Line piece limit to_come = IsLine piece × (length piece ≤ limit)
 EndsAs End piece limit to_come = HasNoLineFeed piece × (length piece < limit) × IfSome to_come (λ left. left ≡ [])
 EndsAs TooLong piece limit to_come = HasNoLineFeed piece × (length piece ≡ limit)
 
--- A read that ended so gave this line. What came before the end of the answers is a line like any other, unless it has no byte.
+-- A read that ended so gave a line. What came before the end of the answers is a line like any other, unless it has no byte.
 abbrev pub GivesLine : LineEnd → (piece : List ℕ) → Type 0
 GivesLine Line piece = ⊤
 GivesLine End piece = piece ≢ []
 GivesLine TooLong piece = ⊥
 
--- What has ended stays as it ended, and what is not told stays so.
+-- A solver that has ended stays as it ended, and a link that does not tell the end does not tell it later.
 abbrev pub KeepsEnd : (old new : Option Ended) → Type 0
 KeepsEnd None new = new ≡ None
 KeepsEnd (Some Running) new = is_some new ≡ true
@@ -76,20 +78,20 @@ KeepsEnd (Some Killed) new = new ≡ Some Killed
 abbrev pub EndsInside : List ℕ → Type 0
 EndsInside bytes = (front : List ℕ) × (last : ℕ) × (bytes ≡ front ++ last ∷ []) × (last ≢ 10)
 
--- It is told that the answers have ended, and that they did so inside a line.
+-- A link tells that its answers have ended, and that they did so inside a line.
 pub record IsOver (s : LinkState) : Type 0 where
   pub to_come : s.to_come ≡ Some []
   pub answers : List ℕ
   pub was_read : s.was_read ≡ Some answers
   pub inside : EndsInside answers
 
--- The count of faults never falls, it stands still with Ok, and a fault comes only where it rose.
+-- A link's count of faults never falls, it stands still with Ok, and a fault comes only where it rose.
 pub record Counts {T : Type 0} (old new : LinkState) (result : Result T LinkError) : Type 0 where
   pub later : old.faults ≤ new.faults
   pub no_fault : OnOk result (new.faults ≡ old.faults)
   pub cause : IsErrOf result Fault → Rose old.faults new.faults
 
--- These bytes are sent.
+-- A call sends these bytes to the solver. They may be held back until a flush.
 pub record Sends {T : Type 0} (old new : LinkState) (bytes : List ℕ) (result : Result T LinkError) : Type 0 where
   -- Ok sent all of them
   pub ok : OnOk result (new.sent ≡ append_known old.sent bytes)
@@ -106,7 +108,7 @@ pub record Sends {T : Type 0} (old new : LinkState) (bytes : List ℕ) (result :
   pub end : KeepsEnd old.ended new.ended
   pub counts : Counts old new result
 
--- What is held back is handed on.
+-- A flush hands on to the solver what a link held back. Nothing more is sent or read.
 pub record HandsOn {T : Type 0} (old new : LinkState) (result : Result T LinkError) : Type 0 where
   pub same_sent : new.sent ≡ old.sent
   pub same_read : new.was_read ≡ old.was_read
@@ -115,7 +117,7 @@ pub record HandsOn {T : Type 0} (old new : LinkState) (result : Result T LinkErr
   pub end : KeepsEnd old.ended new.ended
   pub counts : Counts old new result
 
--- A line of at most `limit` bytes is read behind the bytes `before`, which become `after`.
+-- A call reads a line of at most `limit` bytes, and appends it to the bytes `before`, which become `after`.
 pub record ReadsLine (allows : List ℕ → List ℕ → List ℕ → Type 0) (old new : LinkState) (before after : List ℕ) (limit : ℕ) (result : Result LineEnd LinkError) : Type 0 where
   pub piece : List ℕ
   pub appended : after ≡ before ++ piece
@@ -130,7 +132,7 @@ pub record ReadsLine (allows : List ℕ → List ℕ → List ℕ → Type 0) (o
   pub end : KeepsEnd old.ended new.ended
   pub counts : Counts old new result
 
--- Whether it has ended is asked.
+-- A call asks a link whether its solver has ended, and how. Nothing changes but the count of faults.
 pub record AsksEnd (old new : LinkState) (result : Result Ended LinkError) : Type 0 where
   pub ok : IfOk result (λ answer. IfSome old.ended (λ told. answer ≡ told))
   pub same_sent : new.sent ≡ old.sent
@@ -140,17 +142,17 @@ pub record AsksEnd (old new : LinkState) (result : Result Ended LinkError) : Typ
   pub same_killed : new.killed ≡ old.killed
   pub counts : Counts old new result
 
--- It is killed, and so has ended without a code.
+-- The solver of a link was killed, and so has ended without a code, where the link tells these.
 pub record IsKilled (old new : LinkState) : Type 0 where
   pub killed : new.killed ≡ option_map (λ _. true) old.killed
   pub ended : new.ended ≡ option_map (λ _. Killed) old.ended
 
--- It is neither killed nor ended by this.
+-- A call neither killed the solver of a link nor changed how it ended.
 pub record IsSpared (old new : LinkState) : Type 0 where
   pub same_killed : new.killed ≡ old.killed
   pub same_ended : new.ended ≡ old.ended
 
--- A kill, after which it is killed with Ok always, and with an error maybe.
+-- A call kills the solver of a link: with Ok it is killed always, and with an error maybe.
 pub record Kills {T : Type 0} (old new : LinkState) (result : Result T LinkError) : Type 0 where
   pub ok : OnOk result (IsKilled old new)
   pub err : OnErr result (IsKilled old new ⊎ IsSpared old new)

@@ -17,24 +17,26 @@ use Rattle.smt_solve.specs.declared.link.Ended.TheVariants.{Killed}
 use Rattle.smt_solve.specs.declared.error.SolverError.{SolverError}
 use Rattle.smt_solve.specs.declared.error.SolverError.TheVariants.{Io, Solver, UnrecognizedSolverOutput, SolverMarkedFailed, AnswerTooLong, Memory}
 
--- The bytes are a line that is not `)`, blanks at its ends aside.
+-- The bytes are a line inside a model: there are some, and without the blanks at its ends the line is not `)`.
 abbrev pub IsInner : List ℕ → Type 0
 IsInner line = (line ≢ []) × (said : List ℕ) × StripsTo line said × (said ≢ closing)
 
--- So are all of these.
+-- All of these are lines inside a model.
 abbrev pub AreInner : List (List ℕ) → Type 0
 AreInner lines = AllByRecursion IsInner lines
 
--- The link allows these bytes there. They are a line with its line feed, or what came before the end, and are not too long.
+-- The link allows these bytes behind what was sent and read. They are a line with its line feed, or what came before the end of
+-- the answers, and are not too long.
 abbrev pub IsPieceAt : (allows : List ℕ → List ℕ → List ℕ → Type 0) → (sent was_read : Option (List ℕ)) → List ℕ → Type 0
 IsPieceAt allows sent was_read line = IsAllowed allows sent was_read line × (length line ≤ line_limit) × (IsLine line ⊎ (HasNoLineFeed line × (length line < line_limit)))
 
--- So are these, one behind another.
+-- Each of these lines is one that the link allows behind what was sent, what was read, and the lines before it.
 abbrev pub ArePieces : (allows : List ℕ → List ℕ → List ℕ → Type 0) → (sent was_read : Option (List ℕ)) → List (List ℕ) → Type 0
 ArePieces allows sent was_read [] = ⊤
 ArePieces allows sent was_read (line ∷ lines) = IsPieceAt allows sent was_read line × ArePieces allows sent (append_known was_read line) lines
 
--- The bytes are the line `(`, lines none of which is `)`, and the line `)`, each of which the link allows where it is read.
+-- The bytes are a model, in the lines by which cvc5 answers `(get-model)` (SMT-LIB 2.7, chapter 4): the line `(`, lines none of
+-- which is `)`, and the line `)`, each of which the link allows where it is read.
 pub record IsModel (allows : List ℕ → List ℕ → List ℕ → Type 0) (sent was_read : Option (List ℕ)) (bytes : List ℕ) : Type 0 where
   pub first : List ℕ
   pub inner : List (List ℕ)
@@ -50,11 +52,11 @@ pub record IsModel (allows : List ℕ → List ℕ → List ℕ → Type 0) (sen
 abbrev pub BeginsModel : List ℕ → Type 0
 BeginsModel bytes = (bytes ≡ []) ⊎ ((first : List ℕ) × (inner : List (List ℕ)) × (bytes ≡ first ++ concat inner) × StripsTo first opening × AreInner inner)
 
--- This command was sent, and these bytes were read last, behind how a model begins.
+-- `(get-model)` was sent, and these bytes were read last, behind how a model begins.
 abbrev pub ReadsInModel : (old new : LinkState) → List ℕ → Type 0
 ReadsInModel old new line = (before : List ℕ) × BeginsModel before × Exchanges old new get_model_text (before ++ line)
 
--- The bytes that were read are too many for a model.
+-- The error is that the bytes which were read, from the first line of the model, are more than a model has at most.
 abbrev pub IsPastModel : (old new : LinkState) → SolverError → Type 0
 IsPastModel old new e = (e ≡ AnswerTooLong) × (before : List ℕ) × (line : List ℕ) × BeginsModel before × Exchanges old new get_model_text (before ++ line) × (model_limit < length (before ++ line)) × Spares old new
 
@@ -62,51 +64,51 @@ IsPastModel old new e = (e ≡ AnswerTooLong) × (before : List ℕ) × (line : 
 abbrev pub IsNotOpening : List ℕ → Type 0
 IsNotOpening text = text ≢ opening
 
--- Why there is no model.
+-- Why there is no model: a line was refused, or the model is too long.
 abbrev pub RefusesModel : (old new : LinkState) → SolverError → Type 0
 RefusesModel old new e = Refuses (ReadsInModel old new) (Exchanges old new get_model_text) IsNotOpening old new e ⊎ IsPastModel old new e
 
--- The model is asked for and read, and no other byte is sent or read.
+-- `(get-model)` is sent and this model is read. No other byte is sent or read, and the solver is not killed.
 pub record GivesModel (allows : List ℕ → List ℕ → List ℕ → Type 0) (old new : LinkState) (model : List ℕ) : Type 0 where
   pub exchanged : Exchanges old new get_model_text model
   pub is_model : IsModel allows new.sent old.was_read model
   pub spared : Spares old new
 
--- The model is asked for and read.
+-- A call asks for the model of a solver: Ok gives it, and an error says why there is none.
 pub record AsksModel {T : Type 0} (allows : List ℕ → List ℕ → List ℕ → Type 0) (old new : LinkState) (model : T → List ℕ) (result : Result T SolverError) : Type 0 where
   pub ok : IfOk result (λ x. GivesModel allows old new (model x))
   pub err : IfErr result (RefusesModel old new)
   pub begun : BeginsExchange old new get_model_text
   pub kills : KillsOnly BeginsModel old new get_model_text
 
--- The answer is that of the question for a decision, which is not `sat`.
+-- The answer with a model is that of the question for a decision, which is not `sat`.
 abbrev pub IsDecidedAs : Result Decision SolverError → Result DecisionWithModel SolverError → Type 0
 IsDecidedAs (Ok Sat) result = ⊥
 IsDecidedAs (Ok Unsat) result = result ≡ Ok UnsatWith
 IsDecidedAs (Ok Unknown) result = result ≡ Ok UnknownWith
 IsDecidedAs (Err e) result = result ≡ Err e
 
--- The model is given, or there is none.
+-- The answer has the model that was asked for behind `sat`, or is the error that says why there is none.
 abbrev pub IsModelOf : (allows : List ℕ → List ℕ → List ℕ → Type 0) → (old new : LinkState) → Result DecisionWithModel SolverError → Type 0
 IsModelOf allows old new (Ok (SatWith model)) = GivesModel allows old new (rc_str_bytes model)
 IsModelOf allows old new (Ok UnsatWith) = ⊥
 IsModelOf allows old new (Ok UnknownWith) = ⊥
 IsModelOf allows old new (Err e) = RefusesModel old new e
 
--- The model is asked for, behind `sat`.
+-- The model is asked for behind `sat`.
 pub record GoesForModel (allows : List ℕ → List ℕ → List ℕ → Type 0) (old new : LinkState) (result : Result DecisionWithModel SolverError) : Type 0 where
   pub gives : IsModelOf allows old new result
   pub begun : BeginsExchange old new get_model_text
   pub kills : KillsOnly BeginsModel old new get_model_text
 
--- The question for a decision is asked, and behind `sat` the model is asked for.
+-- A call asks for a decision, and behind `sat` for the model too.
 abbrev pub AsksWithModel : (allows : List ℕ → List ℕ → List ℕ → Type 0) → (old new : LinkState) → Result DecisionWithModel SolverError → Type 0
 AsksWithModel allows old new result = ((decided : Result Decision SolverError) × AsksDecision allows old new decided × IsDecidedAs decided result)
     ⊎ ((between : LinkState) × AsksDecision allows old between (Ok Sat) × GoesForModel allows between new result)
 
--- The steps of the question.
+-- ---- the steps of the question for a model
 
--- Why a line is not appended to a model, which would have these bytes after it.
+-- Why a line is not appended to a model, which would have the bytes `after` with it.
 abbrev pub RefusesPush : (line after : List ℕ) → SolverError → Type 0
 RefusesPush line after Io = IsUtf8 line → ⊥
 RefusesPush line after (Solver message) = ⊥
@@ -115,19 +117,19 @@ RefusesPush line after SolverMarkedFailed = ⊥
 RefusesPush line after AnswerTooLong = model_limit < length after
 RefusesPush line after Memory = ⊤
 
--- A line is appended to a model, or it is not.
+-- A step appends a line to a model, or refuses it.
 pub record PushesLine {T : Type 0} (before after line : List ℕ) (result : Result T SolverError) : Type 0 where
   pub ok : OnOk result ((after ≡ before ++ line) × (length after ≤ model_limit))
   pub err : IfErr result (RefusesPush line (before ++ line))
 
--- The first line is read, which is `(`.
+-- A step reads the first line of a model, which is `(`.
 pub record ReadsOpening {T : Type 0} (allows : List ℕ → List ℕ → List ℕ → Type 0) (old new : LinkState) (after : List ℕ) (result : Result T SolverError) : Type 0 where
   pub ok : OnOk result (Exchanges old new [] after × StripsTo after opening × IsPieceAt allows new.sent old.was_read after × Spares old new)
   pub err : IfErr result (Refuses (Exchanges old new []) (Exchanges old new []) IsNotOpening old new)
   pub begun : BeginsExchange old new []
   pub kills : KillsOnly IsNothing old new []
 
--- This line was read behind these bytes, and whether it is `)`.
+-- A further line of a model was read behind the bytes `before`, and `closes` says whether it is `)`.
 pub record IsNextLine (allows : List ℕ → List ℕ → List ℕ → Type 0) (old new : LinkState) (before after : List ℕ) (closes : Bool) : Type 0 where
   pub line : List ℕ
   pub exchanged : Exchanges old new [] line
@@ -137,22 +139,22 @@ pub record IsNextLine (allows : List ℕ → List ℕ → List ℕ → Type 0) (
   pub says : MatchBool closes (StripsTo line closing) (IsInner line)
   pub spared : Spares old new
 
--- It is killed only where all of this text was sent and the answers ended behind such bytes.
+-- The solver is killed only where all of this text was sent, and the answers ended behind bytes of which `begins` holds.
 abbrev pub KillsAtEnd : (begins : List ℕ → Type 0) → (old new : LinkState) → (text : List ℕ) → Type 0
 KillsAtEnd begins old new text = Spares old new ⊎ ((bytes : List ℕ) × Exchanges old new text bytes × begins bytes × AnswersEnded new × IsKilled old new)
 
--- The line that was read last makes the model too long.
+-- The error is that the line which was read last makes the model too long.
 abbrev pub IsPastLine : (old new : LinkState) → (before : List ℕ) → SolverError → Type 0
 IsPastLine old new before e = (e ≡ AnswerTooLong) × (line : List ℕ) × Exchanges old new [] line × (model_limit < length (before ++ line)) × Spares old new
 
--- A further line is read.
+-- A step reads a further line of a model: Ok says whether it is `)`.
 pub record ReadsNextLine (allows : List ℕ → List ℕ → List ℕ → Type 0) (old new : LinkState) (before after : List ℕ) (result : Result Bool SolverError) : Type 0 where
   pub ok : IfOk result (IsNextLine allows old new before after)
   pub err : IfErr result (λ e. Refuses (Exchanges old new []) IsNever IsNever old new e ⊎ IsPastLine old new before e)
   pub begun : BeginsExchange old new []
   pub kills : KillsAtEnd IsNothing old new []
 
--- The bytes were read behind these bytes, up to the line `)`.
+-- The rest of a model was read behind the bytes `before`, up to its line `)`.
 pub record IsRest (allows : List ℕ → List ℕ → List ℕ → Type 0) (old new : LinkState) (before after : List ℕ) : Type 0 where
   pub inner : List (List ℕ)
   pub last : List ℕ
@@ -164,42 +166,42 @@ pub record IsRest (allows : List ℕ → List ℕ → List ℕ → Type 0) (old 
   pub pieces : ArePieces allows new.sent old.was_read (inner ++ last ∷ [])
   pub spared : Spares old new
 
--- The bytes are lines none of which is `)`.
+-- The bytes are how the rest of a model begins: lines none of which is `)`.
 abbrev pub BeginsRest : List ℕ → Type 0
 BeginsRest bytes = (inner : List (List ℕ)) × (bytes ≡ concat inner) × AreInner inner
 
--- These bytes were read last, behind lines none of which is `)`.
+-- These bytes were read last, behind how the rest of a model begins.
 abbrev pub ReadsInRest : (old new : LinkState) → List ℕ → Type 0
 ReadsInRest old new line = (inner : List ℕ) × BeginsRest inner × Exchanges old new [] (inner ++ line)
 
--- The line that was read last makes the model too long.
+-- The error is that the line which was read last makes the model too long, behind how its rest begins.
 abbrev pub IsPastRest : (old new : LinkState) → (before : List ℕ) → SolverError → Type 0
 IsPastRest old new before e = (e ≡ AnswerTooLong) × (inner : List ℕ) × (line : List ℕ) × BeginsRest inner × Exchanges old new [] (inner ++ line) × (model_limit < length (before ++ (inner ++ line))) × Spares old new
 
--- All further lines are read.
+-- A step reads all further lines of a model, up to its line `)`.
 pub record ReadsRest {T : Type 0} (allows : List ℕ → List ℕ → List ℕ → Type 0) (old new : LinkState) (before after : List ℕ) (result : Result T SolverError) : Type 0 where
   pub ok : OnOk result (IsRest allows old new before after)
   pub err : IfErr result (λ e. Refuses (ReadsInRest old new) IsNever IsNever old new e ⊎ IsPastRest old new before e)
   pub begun : BeginsExchange old new []
   pub kills : KillsAtEnd BeginsRest old new []
 
--- The model is asked for and read into these bytes.
+-- A step asks for the model of a solver and reads it into these bytes.
 pub record ReadsModel {T : Type 0} (allows : List ℕ → List ℕ → List ℕ → Type 0) (old new : LinkState) (after : List ℕ) (result : Result T SolverError) : Type 0 where
   pub ok : OnOk result (GivesModel allows old new after)
   pub err : IfErr result (RefusesModel old new)
   pub begun : BeginsExchange old new get_model_text
   pub kills : KillsOnly BeginsModel old new get_model_text
 
--- The line makes the model too long.
+-- The error is that this line makes the model too long. Nothing more was sent or read, and the solver is not killed.
 abbrev pub GivesPast : (line before : List ℕ) → (old new : LinkState) → SolverError → Type 0
 GivesPast line before old new e = (e ≡ AnswerTooLong) × (model_limit < length (before ++ line)) × Spares old new × Leaves old new
 
--- The first line is taken, which is `(`.
+-- A step takes a line that was read as the first line of a model, which is `(`.
 pub record TakesOpening {T : Type 0} (line : List ℕ) (old new : LinkState) (after : List ℕ) (result : Result T SolverError) : Type 0 where
   pub ok : OnOk result ((after ≡ line) × StripsTo line opening × Spares old new × Leaves old new)
   pub err : IfErr result (λ e. GivesRefusal IsNotOpening line old new e ⊎ GivesPast line [] old new e)
 
--- Why a further line is not taken.
+-- Why a line that was read is not taken as a further line of a model.
 abbrev pub RefusesNext : (line before : List ℕ) → (old new : LinkState) → SolverError → Type 0
 RefusesNext line before old new Io = Rose old.faults new.faults ⊎ ((IsUtf8 line → ⊥) × Spares old new)
 RefusesNext line before old new (Solver message) = (line ≡ []) × (rc_str_bytes message ≡ end_message Killed) × IsKilled old new
@@ -208,13 +210,14 @@ RefusesNext line before old new SolverMarkedFailed = ⊥
 RefusesNext line before old new AnswerTooLong = (model_limit < length (before ++ line)) × Spares old new
 RefusesNext line before old new Memory = ⊤
 
--- The error by which a further line is not taken.
+-- The error by which a line that was read is not taken as a further line of a model. The solver is killed only where there was
+-- no line.
 pub record GivesNextRefusal (line before : List ℕ) (old new : LinkState) (e : SolverError) : Type 0 where
   pub why : RefusesNext line before old new e
   pub left : Leaves old new
   pub kills : Spares old new ⊎ ((line ≡ []) × IsKilled old new)
 
--- A further line is taken.
+-- A step takes a line that was read as a further line of a model: Ok says whether it is `)`.
 pub record TakesLine (line : List ℕ) (old new : LinkState) (before after : List ℕ) (result : Result Bool SolverError) : Type 0 where
   pub ok : IfOk result (λ closes. (after ≡ before ++ line) × (length after ≤ model_limit) × (line ≢ []) × MatchBool closes (StripsTo line closing) (IsInner line) × Spares old new × Leaves old new)
   pub err : IfErr result (GivesNextRefusal line before old new)

@@ -12,33 +12,34 @@ use Rattle.smt_solve.specs.declared.link.LinkError.TheVariants.{Fault as LinkFau
 use Rattle.smt_solve.specs.declared.session.LocalSolver.{LocalSolver}
 use Rattle.smt_solve.specs.declared.input.SessionInput.{SessionInput}
 
--- the link of an input
+-- the link that the input of a session leads to
 abbrev pub input_link : {L : Type 0} → SessionInput L → L
 input_link s = s.link
 
--- whether its session has failed
+-- whether the session of an input has failed
 abbrev pub input_failed : {L : Type 0} → SessionInput L → Bool
 input_failed s = s.failed
 
--- how many puts and flushes it refused since its session had failed; the count stands still at 2^64 - 1
+-- how many puts and flushes an input refused since its session had failed; the count stands still at 2^64 - 1
 abbrev pub input_refused : {L : Type 0} → SessionInput L → ℕ
 input_refused s = s.refused
 
--- what its link sent, where the link tells it
+-- the bytes that were sent to the link of an input, where the link tells them
 abbrev pub sent_by : {L : Type 0} → (L → LinkState) → SessionInput L → Option (List ℕ)
 sent_by state s = (state (input_link s)).sent
 
--- the faults of its link and its own refusals together, at most 2^64 - 1
+-- the faults of an input's link and the input's own refusals together, at most 2^64 - 1
 abbrev pub faults_by : {L : Type 0} → (L → LinkState) → SessionInput L → ℕ
 faults_by state s = min ((state (input_link s)).faults + input_refused s) (2 ^ 64 - 1)
 
--- what a link answered where a sink over it answers this
+-- the answer of a link where the sink that leads to it answers this
 abbrev pub link_answer : {T : Type 0} → Result T SinkError → Result T LinkError
 link_answer (Ok x) = Ok x
 link_answer (Err Fault) = Err LinkFault
 link_answer (Err SinkWant) = Err LinkWant
 
--- A session that has failed does nothing. Any other does what its link does, with the link's answer, and an error is its end.
+-- A call on the input of a session. Where the session has failed it does nothing and answers a fault. Else it does what the
+-- link does, with the link's answer, and an error makes the session one that has failed.
 pub record OnlySends {L T : Type 0} (state : L → LinkState) (allows : L → List ℕ → List ℕ → List ℕ → Type 0) (does : LinkState → LinkState → Result T LinkError → Type 0) (old new : SessionInput L) (result : Result T SinkError) : Type 0 where
   pub refused : IsTrue (input_failed old) → IsErrOf result Fault × (input_link new ≡ input_link old)
   pub reaches : input_failed old ≡ false → does (state (input_link old)) (state (input_link new)) (link_answer result)
@@ -53,25 +54,26 @@ pub record OnlySends {L T : Type 0} (state : L → LinkState) (allows : L → Li
 abbrev pub session_link : {L : Type 0} → LocalSolver L → L
 session_link s = input_link s.input
 
--- whether it has failed
+-- whether a session has failed
 abbrev pub session_failed : {L : Type 0} → LocalSolver L → Bool
 session_failed s = input_failed s.input
 
--- what its link tells
+-- what the link of a session tells
 abbrev pub state_by : {L : Type 0} → (L → LinkState) → LocalSolver L → LinkState
 state_by state s = state (session_link s)
 
--- A session that has failed does nothing, and says so. After this call it has failed exactly where there is an error.
+-- A call on a session that has failed does nothing, and answers `SolverMarkedFailed`. After a call a session has failed exactly
+-- where the answer is an error.
 pub record Guards {L T : Type 0} (allows : L → List ℕ → List ℕ → List ℕ → Type 0) (old new : LocalSolver L) (result : Result T SolverError) : Type 0 where
   pub marked : IsTrue (session_failed old) → IsErrOf result SolverMarkedFailed × (session_link new ≡ session_link old)
   pub failed : session_failed new ≡ is_err result
   pub same_allows : AllowsTheSame (allows (session_link old)) (allows (session_link new))
 
--- the option by which a solver keeps its models
+-- the line that makes a solver keep its models: the option `:produce-models` (SMT-LIB 2.7, chapter 4)
 abbrev pub enable_models_text : List ℕ
 enable_models_text = codes "(set-option :produce-models true)\n"
 
--- A session is started by this command.
+-- A starter is asked to start a solver by this command, for a session with it.
 pub record StartsSession {L T : Type 0} (old new : StarterState L) (command : Command) (result : Result T SolverError) : Type 0 where
   pub ok : OnOk result (new.commands ≡ add_told old.commands command)
   pub io : IsErrOf result Io → (new.commands ≡ add_told old.commands command) × Rose old.failed_starts new.failed_starts

@@ -6,12 +6,12 @@ use Rattle.smt_solve.specs.declared.error.SolverError.{SolverError}
 use Rattle.smt_solve.specs.declared.error.SolverError.TheVariants.{Io, Memory}
 use Rattle.smt_solve.specs.declared.writer_solver.WriterSolver.{WriterSolver}
 
--- what takes its lines
+-- what takes the lines of a solver that only writes
 abbrev pub writer_in : {W : Type 0} → WriterSolver W → W
 writer_in s = s.w
 
--- This line, and no other byte, is put, where a sink holds `contents`, has failed `faults` times, certainly takes `has_room`
--- and stands at `place`.
+-- A step puts this line, and no other byte, into a sink, of which `contents` says what it holds, `faults` how often it has
+-- failed, `has_room` how many bytes it certainly takes, and `place` which references lead to it.
 pub record PutsLine {W T : Type 0} (contents : W → Option (List ℕ)) (faults : W → ℕ) (has_room : W → ℕ → Type 0) (place : W → List ℕ) (old new : W) (line : List ℕ) (result : Result T SolverError) : Type 0 where
   -- Ok appended all of it
   pub ok : OnOk result (contents new ≡ append_known (contents old) line)

@@ -1,7 +1,7 @@
 // Commands that start a solver.
 ghost use Rattle.std.specs.Prelude.{◌≡◌, ◌++◌, ◌∷◌, [], codes, length, IfOk, IsOkUnless, OnErr, OnOk};
 ghost use Rattle.std.specs.Rc.{rc_str_bytes};
-ghost use Rattle.smt_characters.specs.SharedTexts.{texts};
+ghost use Rattle.law_texts.specs.SharedTexts.{texts};
 ghost use Rattle.smt_solve.specs.Cvc5.{cvc5_command};
 ghost use Rattle.smt_solve.specs.Starter.{command_of, texts_in};
 
@@ -94,6 +94,16 @@ impl Drop for SolverCommand {
 
 impl SolverCommand {
     /// A command of this program with these arguments. Its only error is `Memory`.
+    ///
+    /// # Examples
+    ///
+    /// ```
+    /// use kembura::{SolverCommand, Text};
+    ///
+    /// let option = Text::from_str(alloc, "-in")?;
+    /// let command = SolverCommand::new(alloc, "z3", &[option])?;
+    /// assert_eq!(rt; command.args.len(), 1);
+    /// ```
     pub fn new(alloc: Global, program: &str, args: &[Text]) -> Result<SolverCommand, SolverError>
         ensures ok { IfOk result
             (λ cmd. command_of cmd ≡ record { program = program.now; args = texts args.now }) }
@@ -110,6 +120,17 @@ impl SolverCommand {
 
     /// A command that starts cvc5: the program of `setting`, or `cvc5` where there is none, with the arguments `--lang` and
     /// `smt`, and these behind them. Its only error is `Memory`.
+    ///
+    /// # Examples
+    ///
+    /// ```
+    /// use kembura::{SolverCommand, Text};
+    ///
+    /// let limit = Text::from_str(alloc, "--tlimit=60000")?;
+    /// let command = SolverCommand::cvc5(alloc, None, &[limit])?;
+    /// assert_eq!(rt; command.program.as_str(), "cvc5");
+    /// assert_eq!(rt; command.args.len(), 3);
+    /// ```
     pub fn cvc5(
         alloc: Global,
         setting: Option<&str>,

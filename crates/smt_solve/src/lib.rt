@@ -1,7 +1,19 @@
-//! Links to a solver, those who start them, sessions over them, and solvers that only write their script.
+//! Links to solvers of SMT-LIB scripts, the starters that make them, sessions over them that ask for decisions and models, and
+//! solvers that only write their script.
+//!
+//! Read `link.rt`, `starter.rt` and `session.rt` first, and then `question.rt` and `model.rt`. A [`ChildStarter`] starts a
+//! program as a process with its three streams piped, and gives a [`ChildLink`] to it. What the process does is outside of what
+//! is proved: its link tells nothing of what was sent and read, and counts what failed. A link in memory tells all.
+//!
+//! What a link tells and what its calls do is defined in `specs/Link.antt`, the same of starters in `specs/Starter.antt`, of
+//! sessions in `specs/Session.antt`, of the question for a decision in `specs/Question.antt` and of that for a model in
+//! `specs/Model.antt`. The lines by which a solver answers are defined in `specs/Answers.antt`.
 #![tactic(auto)]
 
 mod answer;
+mod child_line;
+mod child_link;
+mod child_starter;
 mod command;
 mod error;
 mod failed_writer;
@@ -18,6 +30,8 @@ mod starter;
 mod writer_solver;
 
 pub use answer::{Decision, DecisionWithModel};
+pub use child_link::ChildLink;
+pub use child_starter::ChildStarter;
 pub use command::{SolverCommand, TextList};
 pub use error::SolverError;
 pub use failed_writer::FailedWriter;

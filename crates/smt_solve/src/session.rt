@@ -1,7 +1,7 @@
 // A session with a solver, over a link.
 ghost use Rattle.std.specs.Prelude.{◌≡◌, ◌||◌, [], ◌∷◌, IfOk, IsErr, true, false, is_err};
 ghost use Rattle.std.specs.Borrow.{sem};
-ghost use Rattle.smt_characters.specs.SharedTexts.{texts};
+ghost use Rattle.law_texts.specs.SharedTexts.{texts};
 ghost use Rattle.smt_solve.specs.Cvc5.{cvc5_command, cvc5_limit};
 ghost use Rattle.smt_solve.specs.Lends.{LendsInput};
 ghost use Rattle.smt_solve.specs.Link.{AllowsOnly, AllowsTheSame, IsOver, IsUnused};
@@ -255,6 +255,19 @@ impl<L: Link> Solver for LocalSolver<L> {
     ///
     /// Spaces, tabs, LF and CR at the ends of the line aside, it is `sat`, `unsat` or `unknown`. The end of the answers counts
     /// as the LF of a line that has bytes. Behind such a line nothing more comes: no later check is `Ok`.
+    ///
+    /// # Examples
+    ///
+    /// ```
+    /// use kembura::{ChildStarter, Decision, LocalSolver, Solver, Starter};
+    ///
+    /// let mut starter = ChildStarter::new(rt.clone()?);
+    /// let mut session = LocalSolver::cvc5(alloc, &mut starter, None)?;
+    /// session.send_lines(b"(set-logic ALL)\n(assert false)\n")?;
+    /// let decision = session.check_sat();
+    /// starter.finish(session.into_link())?;
+    /// assert_eq!(rt; decision, Ok(Decision::Unsat));
+    /// ```
     ///
     /// # Errors
     ///

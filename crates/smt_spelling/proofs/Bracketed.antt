@@ -2,9 +2,9 @@
 use Rattle.std.proofs.Common.{◌≡◌, ℕ, List, [], ◌∷◌, ◌++◌, map, refl, sym, ap, ◌∙◌, append_assoc}
 use Rattle.std.specs.Prelude.{codes}
 use Rattle.std.specs.List.{flat_map, join_by}
-use Rattle.smt_lexicon.specs.Reading.{Expression, expressions}
-use Rattle.smt_semantics.specs.Script.{group}
-use Rattle.smt_lines.specs.Spelling.{spelled, spelled_others, spelled_operands}
+use Rattle.law_texts.specs.Reading.{Expression, expressions}
+use Rattle.law_scripts.specs.Script.{group}
+use Rattle.law_lines.specs.Spelling.{spelled, spelled_others, spelled_operands}
 
 others_spelled : (es : List Expression) → flat_map (λ x. codes " " ++ x) (map spelled es) ≡ spelled_others (expressions es)
 others_spelled [] = refl

@@ -1,10 +1,10 @@
 -- The bytes of entries.
 use Rattle.std.proofs.Common.{◌≡◌, ℕ, List, [], ◌++◌, refl, sym, ap, ◌∙◌, append-nil}
-use Rattle.smt_lexicon.specs.Reading.{Expression}
-use Rattle.smt_lines.specs.Line.{DefineFun, DeclareConst, Comment, spelled_line, spelled_lines}
-use Rattle.smt_characters.specs.Quoting.{quoted_id}
-use Rattle.smt_lines.specs.Spelling.{spelled}
-use Rattle.smt_characters.specs.LineTexts.{comment_text, declare_const_text, define_fun_text}
+use Rattle.law_texts.specs.Reading.{Expression}
+use Rattle.law_lines.specs.Line.{DefineFun, DeclareConst, Comment, spelled_line, spelled_lines}
+use Rattle.law_texts.specs.Quoting.{quoted_id}
+use Rattle.law_lines.specs.Spelling.{spelled}
+use Rattle.law_texts.specs.LineTexts.{comment_text, declare_const_text, define_fun_text}
 use Rattle.smt_spelling.specs.Entries.{entry_bytes, entry_lines, PlainEntry, ByBody, ByConstant, ByName, SaysEntry}
 use Rattle.smt_spelling.specs.declared.entry.Entry.{Entry}
 use Rattle.smt_spelling.specs.declared.entry.Entry.TheVariants.{Body, Constant, Name}

@@ -1,11 +1,11 @@
 -- The texts of the constructors of an entity type.
 use Rattle.std.proofs.Common.{◌≡◌, ℕ, zero, suc, ◌+◌, ◌<◌, ◌≤◌, ◌^◌, List, [], ◌∷◌, ◌++◌, length, drop, add-one, refl, sym, ap, ◌∙◌, append_assoc, append-nil, arith}
 use Rattle.std.specs.Prelude.{codes, decimal}
-use Rattle.smt_lines.specs.EntryNames.{id_name, member_name}
-use Rattle.smt_lines.specs.Line.{spelled_constructor, Bare, Fielded}
-use Rattle.smt_lines.specs.LineForms.{member_constructors}
-use Rattle.smt_semantics.specs.Sorts.{string_sort}
-use Rattle.smt_semantics.proofs.Numerals.{numerals_are_printed}
+use Rattle.law_lines.specs.EntryNames.{id_name, member_name}
+use Rattle.law_lines.specs.Line.{spelled_constructor, Bare, Fielded}
+use Rattle.law_lines.specs.LineForms.{member_constructors}
+use Rattle.law_scripts.specs.Sorts.{string_sort}
+use Rattle.law_scripts.proofs.Numerals.{numerals_are_printed}
 
 -- the name of a member's constructor, as it is printed
 pub member_printed : (name : List ℕ) (place : ℕ) → place < 10 ^ 64 → name ++ (codes "_m" ++ decimal place) ≡ member_name name place

@@ -2,13 +2,13 @@
 use Rattle.std.proofs.Common.{◌≡◌, ℕ, ◌^◌, ◌<◌, ◌≤◌, List, ◌++◌, [], length, refl, sym, ap, ◌∙◌, append_assoc, append-nil, arith}
 use Rattle.std.proofs.Math.Pow.{pow_mono}
 use Rattle.std.specs.Prelude.{codes, decimal}
-use Rattle.smt_meaning.specs.Plain.{ZeroExtendOp}
-use Rattle.smt_semantics.specs.Sorts.{bit_sort}
-use Rattle.smt_lines.specs.LineForms.{operator_head}
-use Rattle.smt_lines.specs.Lines.{bits, next_entity, next_function, next_record, next_term}
-use Rattle.smt_lines.specs.NameTables.{Tables}
-use Rattle.smt_lines.specs.Spelling.{numeral, spelled}
-use Rattle.smt_semantics.proofs.Numerals.{numerals_are_printed}
+use Rattle.law_terms.specs.Plain.{ZeroExtendOp}
+use Rattle.law_scripts.specs.Sorts.{bit_sort}
+use Rattle.law_lines.specs.LineForms.{operator_head}
+use Rattle.law_lines.specs.Lines.{bits, next_entity, next_function, next_record, next_term}
+use Rattle.law_lines.specs.NameTables.{Tables}
+use Rattle.law_lines.specs.Spelling.{numeral, spelled}
+use Rattle.law_scripts.proofs.Numerals.{numerals_are_printed}
 
 last : (n k : ℕ) → n ≡ k → n < 10 ^ 64 → decimal n ++ codes ")" ≡ (numeral k ++ []) ++ codes ")"
 last n k e small = ap (λ d. d ++ codes ")") (sym (numerals_are_printed n small) ∙ ap numeral e ∙ sym (append-nil (numeral k)))

@@ -8,14 +8,14 @@ use Rattle.std.specs.Rc.{rc_str_bytes}
 use Rattle.std.specs.declared.alloc.Global.{Global}
 use Rattle.std.specs.declared.rc.RcStr.{RcStr}
 use Rattle.std.proofs.lemmas.List.{map-append}
-use Rattle.smt_meaning.specs.Plain.{PatternPart}
-use Rattle.smt_meaning.specs.TypeValues.{is_code_point}
-use Rattle.smt_lexicon.specs.Reading.{Expression}
-use Rattle.smt_semantics.specs.WrittenStrings.{part_expr, pattern_expr}
-use Rattle.smt_semantics.specs.Script.{name}
-use Rattle.smt_lines.specs.LineForms.{empty_set, set_body}
-use Rattle.smt_lines.specs.Spelling.{spelled}
-use Rattle.smt_characters.specs.SharedTexts.{texts}
+use Rattle.law_terms.specs.Plain.{PatternPart}
+use Rattle.law_terms.specs.TypeValues.{is_code_point}
+use Rattle.law_texts.specs.Reading.{Expression}
+use Rattle.law_scripts.specs.WrittenStrings.{part_expr, pattern_expr}
+use Rattle.law_scripts.specs.Script.{name}
+use Rattle.law_lines.specs.LineForms.{empty_set, set_body}
+use Rattle.law_lines.specs.Spelling.{spelled}
+use Rattle.law_texts.specs.SharedTexts.{texts}
 use Rattle.smt_spelling.specs.Spelled.{AreSpelled}
 use Rattle.smt_spelling.proofs.Bracketed.{bracketed}
 

@@ -2,7 +2,7 @@
 use Rattle.std.proofs.Common.{◌≡◌, ℕ, suc, ◌+◌, Bool, true, false, ◌||◌, List, ◌∷◌, refl, sym, ap, ◌∙◌, arith}
 use Rattle.std.specs.Prelude.{bytes_eq, if◌then◌else◌}
 use Rattle.std.specs.List.{list_any}
-use Rattle.smt_lines.specs.EntryNames.{place_of}
+use Rattle.law_lines.specs.EntryNames.{place_of}
 
 -- The places of a text in a list, and among what is left of the list behind so many that differ.
 pub record Left (text : List ℕ) (i : ℕ) (all left : List (List ℕ)) : Type 0 where

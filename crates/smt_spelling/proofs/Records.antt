@@ -6,14 +6,14 @@ use Rattle.std.proofs.lemmas.List.Folds.{flat_map-map}
 use Rattle.std.specs.Rc.{rc_str_bytes}
 use Rattle.std.specs.declared.alloc.Global.{Global}
 use Rattle.std.specs.declared.rc.RcStr.{RcStr}
-use Rattle.smt_characters.specs.LineTexts.{sorted_name}
-use Rattle.smt_characters.specs.SharedTexts.{texts}
-use Rattle.smt_lexicon.specs.Reading.{Expression}
-use Rattle.smt_lines.specs.EntryNames.{attribute_name}
-use Rattle.smt_lines.specs.Line.{spelled_constructor, spelled_selector, Fielded}
-use Rattle.smt_lines.specs.LineForms.{attribute_selectors, record_body}
-use Rattle.smt_lines.specs.Spelling.{spelled}
-use Rattle.smt_semantics.proofs.Numerals.{numerals_are_printed}
+use Rattle.law_texts.specs.LineTexts.{sorted_name}
+use Rattle.law_texts.specs.SharedTexts.{texts}
+use Rattle.law_texts.specs.Reading.{Expression}
+use Rattle.law_lines.specs.EntryNames.{attribute_name}
+use Rattle.law_lines.specs.Line.{spelled_constructor, spelled_selector, Fielded}
+use Rattle.law_lines.specs.LineForms.{attribute_selectors, record_body}
+use Rattle.law_lines.specs.Spelling.{spelled}
+use Rattle.law_scripts.proofs.Numerals.{numerals_are_printed}
 use Rattle.smt_spelling.specs.Spelled.{AreSpelled}
 use Rattle.smt_spelling.proofs.Bracketed.{bracketed}
 

@@ -4,18 +4,16 @@ use Rattle.std.specs.Rc.{rc_str_bytes}
 use Rattle.std.specs.String.{string_bytes}
 use Rattle.std.specs.declared.alloc.Global.{Global}
 use Rattle.std.specs.declared.rc.RcStr.{RcStr}
-use Rattle.smt_characters.specs.LineTexts.{comment_text, declare_const_text, declare_datatype_text, define_fun_text}
-use Rattle.smt_characters.specs.Quoting.{quoted_id}
-use Rattle.smt_characters.specs.SharedTexts.{texts}
-use Rattle.smt_lexicon.specs.Reading.{Expression}
-use Rattle.smt_meaning.specs.Faults.{Fault, EncodeStringFailed, fault_unless, is_string}
-use Rattle.smt_meaning.specs.Plain.{PlainLiteral, BitVecLiteral, BoolLiteral, StringLiteral}
-use Rattle.smt_lines.specs.EntryNames.{enum_member}
-use Rattle.smt_lines.specs.Line.{Line, DefineFun}
-use Rattle.smt_lines.specs.LineForms.{entity_body, variable_lines}
-use Rattle.smt_lines.specs.Lines.{bits}
-use Rattle.smt_lines.specs.Spelling.{spelled}
-use Rattle.smt_lines.specs.TermTexts.{bool_text, string_text}
+use Rattle.law_texts.specs.LineTexts.{comment_text, declare_const_text, declare_datatype_text, define_fun_text}
+use Rattle.law_texts.specs.Quoting.{quoted_id}
+use Rattle.law_texts.specs.SharedTexts.{texts}
+use Rattle.law_texts.specs.Reading.{Expression}
+use Rattle.law_terms.specs.Faults.{Fault, EncodeStringFailed, fault_unless, is_string}
+use Rattle.law_terms.specs.Plain.{PlainLiteral, StringLiteral}
+use Rattle.law_lines.specs.EntryNames.{enum_member}
+use Rattle.law_lines.specs.Line.{Line, DefineFun}
+use Rattle.law_lines.specs.LineForms.{entity_body, variable_lines}
+use Rattle.law_lines.specs.Spelling.{spelled}
 use Rattle.smt_spelling.specs.declared.datatype.Datatype.{Datatype}
 use Rattle.smt_spelling.specs.declared.entry.Entry.{Entry}
 use Rattle.smt_spelling.specs.declared.entry.Entry.TheVariants.{Body, Constant, Name}
@@ -36,13 +34,6 @@ entry_lines (ByName name) n sort = []
 abbrev pub entity_entry : (members : Option (List (List ℕ))) → (id sort : List ℕ) → PlainEntry
 entity_entry (Some members) id sort = ByName (enum_member members sort id)
 entity_entry None id sort = ByBody (entity_body sort id)
-
--- the text of a literal that has no entry
-abbrev pub literal_text : PlainLiteral → Option Expression
-literal_text (BitVecLiteral width number) = Some (bits width number)
-literal_text (BoolLiteral b) = Some (bool_text b)
-literal_text (StringLiteral text) = Some (string_text text)
-literal_text l = None
 
 -- the fault of a literal that has no entry: a string with a character that no string can have
 abbrev pub string_fault : PlainLiteral → Option Fault

@@ -1,3 +1,13 @@
 pub mod Entries
+pub mod LookUpRows
+pub mod LookUps
+pub mod Names
+pub mod NodeEntries
+pub mod NodeLines
+pub mod NodeTexts
+pub mod Renderings
+pub mod Selections
+pub mod SelectorFaults
 pub mod Spelled
 pub mod TextFaults
+pub mod Texts

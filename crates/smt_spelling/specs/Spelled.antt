@@ -3,8 +3,8 @@ use Rattle.std.specs.Prelude.{◌≡◌, List, map}
 use Rattle.std.specs.Rc.{rc_str_bytes}
 use Rattle.std.specs.declared.alloc.Global.{Global}
 use Rattle.std.specs.declared.rc.RcStr.{RcStr}
-use Rattle.smt_lexicon.specs.Reading.{Expression}
-use Rattle.smt_lines.specs.Spelling.{spelled}
+use Rattle.law_texts.specs.Reading.{Expression}
+use Rattle.law_lines.specs.Spelling.{spelled}
 
 -- a text is the spelling of an expression
 abbrev pub IsSpelled : Expression → RcStr Global → Type 0

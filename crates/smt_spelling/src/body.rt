@@ -5,12 +5,12 @@ ghost use Rattle.std.specs.String.{string_bytes};
 ghost use Rattle.smt_bits.specs.Width.{bits_in};
 ghost use Rattle.smt_spelling.specs.Spelled.{AreSpelled};
 ghost use Rattle.smt_spelling.specs.TextFaults.{pattern_fault, text_fault, Finds};
-ghost use Rattle.smt_lines.specs.LineForms as forms;
-ghost use Rattle.smt_lines.specs.LineForms.{application_body, least_body, operator_head, with_pattern};
-ghost use Rattle.smt_lines.specs.Spelling.{spelled};
-ghost use Rattle.smt_lexicon.specs.Reading.{Expression};
-ghost use Rattle.smt_semantics.specs.WrittenStrings.{pattern_expr};
-ghost use Rattle.smt_meaning.specs.Plain.{PatternPart};
+ghost use Rattle.law_lines.specs.LineForms as forms;
+ghost use Rattle.law_lines.specs.LineForms.{application_body, least_body, operator_head, with_pattern};
+ghost use Rattle.law_lines.specs.Spelling.{spelled};
+ghost use Rattle.law_texts.specs.Reading.{Expression};
+ghost use Rattle.law_scripts.specs.WrittenStrings.{pattern_expr};
+ghost use Rattle.law_terms.specs.Plain.{PatternPart};
 ghost use Rattle.smt_term.specs.View.{plain_op};
 
 use crate::error::TextError;
@@ -36,7 +36,7 @@ pub fn application_body(alloc: Global, op: &Op, operands: Vec<Text>) -> Result<S
 ///
 /// # Errors
 /// `PatternFailed` exactly where the operator's pattern has a character above `SMT_LIB_MAX_CODE_POINT`.
-pub fn headed_body(
+pub(crate) fn headed_body(
     alloc: Global,
     head: &str,
     op: &Op,
@@ -50,7 +50,7 @@ pub fn headed_body(
 }
 
 /// The equality of an operand with the least number of a width, by the texts of the operands.
-pub fn least_body(
+pub(crate) fn least_body(
     alloc: Global,
     width: Width,
     mut operands: Vec<Text>,

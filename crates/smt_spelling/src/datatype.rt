@@ -1,8 +1,8 @@
 // The datatypes by which types are declared.
 ghost use Rattle.std.specs.Prelude.{◌≡◌, ◌++◌, OnOk};
 ghost use Rattle.std.specs.String.{string_bytes};
-ghost use Rattle.smt_characters.specs.SharedTexts.{texts};
-ghost use Rattle.smt_lines.specs.LineForms.{comma_separated};
+ghost use Rattle.law_texts.specs.SharedTexts.{texts};
+ghost use Rattle.law_texts.specs.LineTexts.{comma_separated};
 ghost use Rattle.smt_script.specs.Sink.{Puts};
 ghost use Rattle.smt_spelling.specs.Entries.{datatype_bytes};
 

@@ -4,9 +4,6 @@ ghost use Rattle.std.specs.Prelude.{◌≡◌};
 use smt_term::{EntityType, EntityUID, OrdPattern, TermError, Text};
 use std::alloc::AllocError;
 
-/// The greatest code point of a character in a string of SMT-LIB 2.7 (theory UnicodeStrings).
-pub const SMT_LIB_MAX_CODE_POINT: u32 = 196607;
-
 /// Why there is no text of a type, a literal or an application.
 #[derive(Debug, Drop)]
 pub enum TextError {

@@ -2,21 +2,21 @@
 ghost use Rattle.std.specs.Prelude.{◌≡◌, ◌∷◌, [], IfOk, IfSome, map, option_map};
 ghost use Rattle.std.specs.Rc.{rc_str_bytes};
 ghost use Rattle.std.specs.String.{string_bytes};
-ghost use Rattle.smt_arithmetic.specs.BitVectors.{bits_of};
+ghost use Rattle.law_numbers.specs.BitVectors.{bits_of};
 ghost use Rattle.smt_bits.specs.BitVec.{number_of, width_of};
 ghost use Rattle.smt_bits.specs.Width.{bits_in};
-ghost use Rattle.smt_characters.specs.SharedTexts.{texts};
+ghost use Rattle.law_texts.specs.SharedTexts.{texts};
 ghost use Rattle.smt_ext.specs.ExtOrder.{plain_value};
-ghost use Rattle.smt_ip.specs.IpOrder.{plain_range};
-ghost use Rattle.smt_ip.specs.IpView.{range_of};
-ghost use Rattle.smt_leaves.specs.ExtensionView.{plain_extension_op, plain_kind};
-ghost use Rattle.smt_lines.specs.EntryNames.{kind_name};
-ghost use Rattle.smt_lines.specs.Line.{spelled_constructor};
-ghost use Rattle.smt_lines.specs.LineForms as forms;
-ghost use Rattle.smt_lines.specs.LineForms.{extension_body, extension_op_head, kind_constructors};
-ghost use Rattle.smt_lines.specs.Lines as lines;
-ghost use Rattle.smt_lines.specs.Spelling.{spelled};
-ghost use Rattle.smt_semantics.specs.Script.{group, name};
+ghost use Rattle.smt_ext.specs.IpOrder.{plain_range};
+ghost use Rattle.smt_ext.specs.IpView.{range_of};
+ghost use Rattle.smt_types.specs.ExtensionView.{plain_extension_op, plain_kind};
+ghost use Rattle.law_lines.specs.EntryNames.{kind_name};
+ghost use Rattle.law_lines.specs.Line.{spelled_constructor};
+ghost use Rattle.law_lines.specs.LineForms as forms;
+ghost use Rattle.law_lines.specs.LineForms.{extension_body, extension_op_head, kind_constructors};
+ghost use Rattle.law_lines.specs.Lines as lines;
+ghost use Rattle.law_lines.specs.Spelling.{spelled};
+ghost use Rattle.law_scripts.specs.Script.{group, name};
 
 use crate::spell::{application_text, as_text, bits_literal, bits_sort, option_sort, some_text};
 use smt_bits::{BitVec, FIVE, SEVEN, SIXTY_FOUR, Width};
@@ -84,7 +84,7 @@ pub fn extension_head(op: ExtOp) -> &'static str
 }
 
 /// `(Decimal B)`, `(V4 B P)` and so on: the constructor of a value at its numbers.
-pub fn extension_text(alloc: Global, value: &Ext) -> Result<String, AllocError>
+pub(crate) fn extension_text(alloc: Global, value: &Ext) -> Result<String, AllocError>
     ensures { IfOk result (λ body. string_bytes body ≡ spelled (extension_body (plain_value value.now))) }
 {
     match value {

@@ -1,6 +1,7 @@
 // The texts of literals.
 ghost use Rattle.std.specs.Prelude.{◌≡◌, IfOk, is_some};
-ghost use Rattle.smt_spelling.specs.Entries.{literal_text as stated_text, string_fault, SaysInline};
+ghost use Rattle.smt_spelling.specs.Entries.{string_fault, SaysInline};
+ghost use Rattle.law_lines.specs.TermTexts.{inline_text};
 ghost use Rattle.smt_spelling.specs.TextFaults.{text_fault, Finds};
 ghost use Rattle.smt_term.specs.View.{plain_literal};
 
@@ -11,8 +12,8 @@ use std::alloc::Global;
 
 /// The text of a literal, which stands wherever it is used, or its refusal. None of an entity and of
 /// an extension value, which get a name.
-pub fn literal_text(alloc: Global, literal: &TermPrim) -> Result<Option<Text>, TextError>
-    ensures text { IfOk result (SaysInline (stated_text (plain_literal literal.now))) }
+pub(crate) fn literal_text(alloc: Global, literal: &TermPrim) -> Result<Option<Text>, TextError>
+    ensures text { IfOk result (SaysInline (inline_text (plain_literal literal.now))) }
     ensures fault { Finds text_fault (string_fault (plain_literal literal.now)) result }
 {
     match literal {

@@ -3,13 +3,13 @@ ghost use Rattle.std.specs.Prelude.{◌≡◌, List, [], ◌∷◌, codes, IfOk,
 ghost use Rattle.std.specs.Rc.{rc_str_bytes};
 ghost use Rattle.smt_spelling.specs.Spelled.{AreSpelled};
 ghost use Rattle.smt_spelling.specs.TextFaults.{text_fault, Finds};
-ghost use Rattle.smt_lines.specs.Spelling.{spelled};
-ghost use Rattle.smt_semantics.specs.WrittenStrings.{part_expr, pattern_expr};
-ghost use Rattle.smt_semantics.specs.Script.{group, name};
-ghost use Rattle.smt_lexicon.specs.Reading.{Expression};
-ghost use Rattle.smt_meaning.specs.Faults.{EncodePatternFailed, fault_unless, is_pattern_part};
-ghost use Rattle.smt_leaves.specs.PatternView.{plain_ord_pattern, plain_part};
-ghost use Rattle.smt_meaning.specs.Plain.{Character, PatternPart};
+ghost use Rattle.law_lines.specs.Spelling.{spelled};
+ghost use Rattle.law_scripts.specs.WrittenStrings.{part_expr, pattern_expr};
+ghost use Rattle.law_scripts.specs.Script.{group, name};
+ghost use Rattle.law_texts.specs.Reading.{Expression};
+ghost use Rattle.law_terms.specs.Faults.{EncodePatternFailed, fault_unless, is_pattern_part};
+ghost use Rattle.smt_types.specs.PatternView.{plain_ord_pattern, plain_part};
+ghost use Rattle.law_terms.specs.Plain.{Character, PatternPart};
 ghost use Rattle.std.specs.List.{list_all};
 
 use crate::error::TextError;
@@ -19,7 +19,7 @@ use smt_text::quote_string;
 use std::alloc::{AllocError, Global};
 
 /// The regular expression of a pattern, or its refusal where a character is above `SMT_LIB_MAX_CODE_POINT`.
-pub fn pattern_text(alloc: Global, pattern: &OrdPattern) -> Result<Text, TextError>
+pub(crate) fn pattern_text(alloc: Global, pattern: &OrdPattern) -> Result<Text, TextError>
     ensures text { IfOk result (λ text. rc_str_bytes text ≡ spelled (pattern_expr (plain_ord_pattern pattern.now))) }
     ensures fault { Finds text_fault (fault_unless (list_all is_pattern_part (plain_ord_pattern pattern.now)) (EncodePatternFailed (plain_ord_pattern pattern.now))) result }
 {

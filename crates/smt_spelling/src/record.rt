@@ -3,13 +3,13 @@ ghost use Rattle.std.specs.Prelude.{◌≡◌, ◌++◌, List, IfOk, IfSome, byt
 ghost use Rattle.std.specs.List.{list_any};
 ghost use Rattle.std.specs.Rc.{rc_str_bytes};
 ghost use Rattle.std.specs.String.{string_bytes};
-ghost use Rattle.smt_characters.specs.LineTexts.{sorted_name};
-ghost use Rattle.smt_characters.specs.SharedTexts.{texts};
-ghost use Rattle.smt_lexicon.specs.Reading.{Expression};
-ghost use Rattle.smt_lines.specs.Line.{spelled_constructor, spelled_lines, spelled_selector, Fielded};
-ghost use Rattle.smt_lines.specs.LineForms.{attribute_selectors, comma_separated, record_body, record_lines};
-ghost use Rattle.smt_lines.specs.EntryNames.{attribute_name, place_of};
-ghost use Rattle.smt_lines.specs.Spelling.{spelled};
+ghost use Rattle.law_texts.specs.LineTexts.{sorted_name, comma_separated};
+ghost use Rattle.law_texts.specs.SharedTexts.{texts};
+ghost use Rattle.law_texts.specs.Reading.{Expression};
+ghost use Rattle.law_lines.specs.Line.{spelled_constructor, spelled_lines, spelled_selector, Fielded};
+ghost use Rattle.law_lines.specs.LineForms.{attribute_selectors, record_body, record_lines};
+ghost use Rattle.law_lines.specs.EntryNames.{attribute_name, place_of};
+ghost use Rattle.law_lines.specs.Spelling.{spelled};
 ghost use Rattle.smt_spelling.specs.Entries.{datatype_bytes};
 ghost use Rattle.smt_spelling.specs.Spelled.{AreSpelled};
 
@@ -78,14 +78,14 @@ fn selector_text(alloc: Global, name: &str, place: usize, sort: &str) -> Result<
 }
 
 /// `R0_ai`, the name of the selector of the attribute at a place.
-pub fn attribute_name(alloc: Global, sort: &str, place: usize) -> Result<Text, AllocError>
+pub(crate) fn attribute_name(alloc: Global, sort: &str, place: usize) -> Result<Text, AllocError>
     ensures { IfOk result (λ name. rc_str_bytes name ≡ attribute_name sort.now place) }
 {
     Text::from_string(format!(in alloc; "{sort}_a{place}")?)
 }
 
 /// The place of the first attribute that is the same, None where there is none.
-pub fn attribute_place(attributes: &[Attr], attribute: &Attr) -> Option<usize>
+pub(crate) fn attribute_place(attributes: &[Attr], attribute: &Attr) -> Option<usize>
     ensures place { IfSome result (λ place. place ≡ place_of (rc_str_bytes attribute.now) (texts attributes.now)) }
     ensures some { is_some result ≡ list_any (bytes_eq (rc_str_bytes attribute.now)) (texts attributes.now) }
 {
@@ -100,7 +100,7 @@ pub fn attribute_place(attributes: &[Attr], attribute: &Attr) -> Option<usize>
 }
 
 /// `(R0 x y)`: a record of this sort by its fields, `R0` where there is none.
-pub fn record_text(alloc: Global, sort: &str, fields: &[Text]) -> Result<String, AllocError>
+pub(crate) fn record_text(alloc: Global, sort: &str, fields: &[Text]) -> Result<String, AllocError>
     ensures { (e : Expression) (es : List Expression) → sort.now ≡ spelled e → AreSpelled es fields.now → IfOk result (λ text. string_bytes text ≡ spelled (record_body e es)) }
 {
     if fields.is_empty() {

@@ -7,19 +7,19 @@ ghost use Rattle.smt_bits.specs.BitVec.{number_of, width_of};
 ghost use Rattle.smt_bits.specs.Width.{bits_in};
 ghost use Rattle.smt_spelling.specs.Spelled.{AreSpelled};
 ghost use Rattle.smt_spelling.specs.TextFaults.{text_fault, Finds};
-ghost use Rattle.smt_semantics.specs.Meanings.{as_sort};
-ghost use Rattle.smt_semantics.specs.Script.{group, name};
-ghost use Rattle.smt_semantics.specs.Sorts as sorts;
-ghost use Rattle.smt_lexicon.specs.Reading.{Expression};
-ghost use Rattle.smt_meaning.specs.Faults.{EncodeStringFailed, fault_unless, is_string};
-ghost use Rattle.smt_lines.specs.Lines as lines;
-ghost use Rattle.smt_lines.specs.LineForms.{operator_head, set_body};
-ghost use Rattle.smt_lines.specs.TermTexts.{string_text};
-ghost use Rattle.smt_lines.specs.Spelling.{spelled};
-ghost use Rattle.smt_semantics.specs.Sorts.{bit_sort};
-ghost use Rattle.smt_meaning.specs.Plain.{ZeroExtendOp};
+ghost use Rattle.law_scripts.specs.Meanings.{as_sort};
+ghost use Rattle.law_scripts.specs.Script.{group, name};
+ghost use Rattle.law_scripts.specs.Sorts as sorts;
+ghost use Rattle.law_texts.specs.Reading.{Expression};
+ghost use Rattle.law_terms.specs.Faults.{EncodeStringFailed, fault_unless, is_string};
+ghost use Rattle.law_lines.specs.Lines as lines;
+ghost use Rattle.law_lines.specs.LineForms.{operator_head, set_body};
+ghost use Rattle.law_lines.specs.TermTexts.{string_text};
+ghost use Rattle.law_lines.specs.Spelling.{spelled};
+ghost use Rattle.law_scripts.specs.Sorts.{bit_sort};
+ghost use Rattle.law_terms.specs.Plain.{ZeroExtendOp};
 ghost use Rattle.smt_term.specs.View.{plain_op};
-ghost use Rattle.smt_characters.specs.SharedTexts.{texts};
+ghost use Rattle.law_texts.specs.SharedTexts.{texts};
 
 use crate::error::TextError;
 use crate::extension::extension_head;
@@ -29,35 +29,35 @@ use smt_text::{push_spaced, quote_string};
 use std::alloc::{AllocError, Global};
 
 /// `tm`, the name of the entry at place `place` of the table of terms.
-pub fn term_name(alloc: Global, place: usize) -> Result<Text, AllocError>
+pub(crate) fn term_name(alloc: Global, place: usize) -> Result<Text, AllocError>
     ensures { IfOk result (λ name. rc_str_bytes name ≡ codes "t" ++ decimal place) }
 {
     Text::from_string(format!(in alloc; "t{place}")?)
 }
 
 /// `Ek`, the name of the datatype of an entity type, where k named sorts are there already.
-pub fn entity_name(alloc: Global, place: usize) -> Result<Text, AllocError>
+pub(crate) fn entity_name(alloc: Global, place: usize) -> Result<Text, AllocError>
     ensures { IfOk result (λ name. rc_str_bytes name ≡ codes "E" ++ decimal place) }
 {
     Text::from_string(format!(in alloc; "E{place}")?)
 }
 
 /// `Rk`, the name of the datatype of a record type, where k named sorts are there already.
-pub fn record_name(alloc: Global, place: usize) -> Result<Text, AllocError>
+pub(crate) fn record_name(alloc: Global, place: usize) -> Result<Text, AllocError>
     ensures { IfOk result (λ name. rc_str_bytes name ≡ codes "R" ++ decimal place) }
 {
     Text::from_string(format!(in alloc; "R{place}")?)
 }
 
 /// `fj`, the name of a function, where j functions are there already.
-pub fn function_name(alloc: Global, place: usize) -> Result<Text, AllocError>
+pub(crate) fn function_name(alloc: Global, place: usize) -> Result<Text, AllocError>
     ensures { IfOk result (λ name. rc_str_bytes name ≡ codes "f" ++ decimal place) }
 {
     Text::from_string(format!(in alloc; "f{place}")?)
 }
 
 /// `(_ BitVec n)`, the sort of bitvectors of a width (FixedSizeBitVectors).
-pub fn bits_sort(alloc: Global, width: Width) -> Result<Text, AllocError>
+pub(crate) fn bits_sort(alloc: Global, width: Width) -> Result<Text, AllocError>
     ensures { IfOk result (λ sort. rc_str_bytes sort ≡ spelled (bit_sort (bits_in width))) }
 {
     let width = width.get();
@@ -65,7 +65,7 @@ pub fn bits_sort(alloc: Global, width: Width) -> Result<Text, AllocError>
 }
 
 /// `(_ bvN n)`, the literal of the number N of width n (the abbreviation of the logic QF_BV).
-pub fn bits_literal(alloc: Global, bits: &BitVec) -> Result<Text, AllocError>
+pub(crate) fn bits_literal(alloc: Global, bits: &BitVec) -> Result<Text, AllocError>
     ensures { IfOk result (λ literal. rc_str_bytes literal ≡ spelled (lines.bits (width_of bits.now) (number_of bits.now))) }
 {
     let number = bits.to_nat();
@@ -74,21 +74,21 @@ pub fn bits_literal(alloc: Global, bits: &BitVec) -> Result<Text, AllocError>
 }
 
 /// `(Option S)`, the sort of options of a sort.
-pub fn option_sort(alloc: Global, inner: Text) -> Result<Text, AllocError>
+pub(crate) fn option_sort(alloc: Global, inner: Text) -> Result<Text, AllocError>
     ensures { (e : Expression) → rc_str_bytes inner ≡ spelled e → IfOk result (λ sort. rc_str_bytes sort ≡ spelled (sorts.option_sort e)) }
 {
     Text::from_string(application_text(alloc, "Option", &[inner])?)
 }
 
 /// `(Set S)`, the sort of sets of a sort.
-pub fn set_sort(alloc: Global, inner: Text) -> Result<Text, AllocError>
+pub(crate) fn set_sort(alloc: Global, inner: Text) -> Result<Text, AllocError>
     ensures { (e : Expression) → rc_str_bytes inner ≡ spelled e → IfOk result (λ sort. rc_str_bytes sort ≡ spelled (sorts.set_sort e)) }
 {
     Text::from_string(application_text(alloc, "Set", &[inner])?)
 }
 
 /// A string between quotes (UnicodeStrings), or its refusal where a character is above `SMT_LIB_MAX_CODE_POINT`.
-pub fn string_literal(alloc: Global, text: &Text) -> Result<Text, TextError>
+pub(crate) fn string_literal(alloc: Global, text: &Text) -> Result<Text, TextError>
     ensures text { IfOk result (λ literal. rc_str_bytes literal ≡ spelled (string_text (rc_str_bytes text.now))) }
     ensures fault { Finds text_fault (fault_unless (is_string (rc_str_bytes text.now)) (EncodeStringFailed (rc_str_bytes text.now))) result }
 {
@@ -99,7 +99,7 @@ pub fn string_literal(alloc: Global, text: &Text) -> Result<Text, TextError>
 }
 
 /// `(as WORD S)`: the constant of this name that has this sort.
-pub fn as_text(alloc: Global, word: &str, sort: &str) -> Result<String, AllocError>
+pub(crate) fn as_text(alloc: Global, word: &str, sort: &str) -> Result<String, AllocError>
     ensures { (e : Expression) → sort.now ≡ spelled e → IfOk result (λ text. string_bytes text ≡ spelled (as_sort word.now e)) }
 {
     let word = Text::from_str(alloc, word)?;
@@ -108,7 +108,7 @@ pub fn as_text(alloc: Global, word: &str, sort: &str) -> Result<String, AllocErr
 }
 
 /// `(some x)`.
-pub fn some_text(alloc: Global, operands: &[Text]) -> Result<String, AllocError>
+pub(crate) fn some_text(alloc: Global, operands: &[Text]) -> Result<String, AllocError>
     ensures { (es : List Expression) → AreSpelled es operands.now → IfOk result (λ text. string_bytes text ≡ spelled (group (name (codes "some") ∷ es))) }
 {
     application_text(alloc, "some", operands)
@@ -134,7 +134,7 @@ pub fn set_text(alloc: Global, sort: &str, mut elements: Vec<Text>) -> Result<St
 }
 
 /// What stands before the operands of an application.
-pub fn head_text(alloc: Global, op: &Op) -> Result<Text, AllocError>
+pub(crate) fn head_text(alloc: Global, op: &Op) -> Result<Text, AllocError>
     ensures { IfOk result (λ head. rc_str_bytes head ≡ spelled (operator_head (plain_op op.now))) }
 {
     match op {
@@ -156,7 +156,11 @@ fn zero_extension(alloc: Global, bits: u32) -> Result<Text, AllocError>
 
 /// `(HEAD x y)`: the operands behind the head, with a space between each two. The space behind the head stays
 /// where there is no operand.
-pub fn application_text(alloc: Global, head: &str, operands: &[Text]) -> Result<String, AllocError>
+pub(crate) fn application_text(
+    alloc: Global,
+    head: &str,
+    operands: &[Text],
+) -> Result<String, AllocError>
     ensures { IfOk result (λ text. string_bytes text ≡ codes "(" ++ (head.now ++ (codes " " ++ (join_by (λ x. x) (codes " ") (texts operands.now) ++ codes ")")))) }
 {
     let mut text = String::from_str(alloc, "(")?;

@@ -1,3 +1,10 @@
+mod ActionTables
+mod Entered
 mod Given
+mod KnownPairs
 mod SameDefaults
 mod Saying
+mod SharedTypes
+mod SortedTypes
+mod StoredTypes
+mod Walked

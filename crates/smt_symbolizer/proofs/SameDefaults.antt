@@ -1,8 +1,8 @@
 -- The defaults of types are read off look-ups of enum types alone.
 use Rattle.std.proofs.Common.{◌≡◌, ℕ, List, ◌∷◌, refl, ap}
-use Rattle.smt_folding.specs.FoldRecords.{record_of_pairs}
-use Rattle.smt_meaning.specs.Plain.{PlainType, OptionType, BitVecType, BoolType, EntityType, ExtensionType, StringType, RecordType, SetType, AttributeTypes, no_attributes, attribute, EntityLiteral, LiteralTerm}
-use Rattle.smt_meaning.specs.TypeValues.{Enums, members_of}
+use Rattle.law_folding.specs.FoldRecords.{record_of_pairs}
+use Rattle.law_terms.specs.Plain.{PlainType, OptionType, BitVecType, BoolType, EntityType, ExtensionType, StringType, RecordType, SetType, AttributeTypes, no_attributes, attribute, EntityLiteral, LiteralTerm}
+use Rattle.law_terms.specs.TypeValues.{Enums, members_of}
 use Rattle.smt_values.specs.DefaultTerm.{default_fields, default_id, default_term}
 
 module _ (own other : Enums) (same : (e : List ℕ) → members_of own e ≡ members_of other e) where

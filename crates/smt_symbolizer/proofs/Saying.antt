@@ -1,13 +1,13 @@
 -- The program's symbolic environments say what is stored.
 use Rattle.std.proofs.Common.{◌≡◌, IfOk, Ok, Err, Result}
-use Rattle.smt_cedar_stores.specs.Plain.{PlainRequestEnv}
-use Rattle.smt_cedar_stores.specs.View.{plain_env, plain_schema}
-use Rattle.smt_cedar_stores.specs.declared.request.Env.{Env}
-use Rattle.smt_cedar_stores.specs.declared.schema.Schema.{Schema}
-use Rattle.smt_symbolic_environments.proofs.Program.{program_schemas, program_stores}
-use Rattle.smt_symbolic_environments.proofs.Whole.{tables_say}
-use Rattle.smt_symbolic_environments.specs.Laws.{IsSymbolicOf}
-use Rattle.smt_symbolic_environments.specs.Symbolized.{symbolized}
+use Rattle.smt_values.specs.Plain.{PlainRequestEnv}
+use Rattle.smt_values.specs.View.{plain_env, plain_schema}
+use Rattle.smt_values.specs.declared.request.Env.{Env}
+use Rattle.smt_values.specs.declared.schema.Schema.{Schema}
+use Rattle.law_cedar.proofs.Program.{program_schemas, program_stores}
+use Rattle.law_cedar.proofs.Whole.{tables_say}
+use Rattle.law_cedar.specs.Laws.{IsSymbolicOf}
+use Rattle.law_cedar.specs.Symbolized.{symbolized}
 use Rattle.smt_symbolizer.specs.View.{plain_environment}
 use Rattle.smt_symbolizer.specs.declared.environment.SymEnv.{SymEnv}
 use Rattle.smt_values.specs.declared.error.SymbolizeError.{SymbolizeError}

@@ -1,27 +1,26 @@
 // Symbolic environments.
 ghost use Rattle.std.specs.Prelude.{◌≡◌, ℕ, List, IfErr, IfOk, Ok, map};
-ghost use Rattle.smt_cedar_stores.specs.View.{plain_env, plain_request_env, plain_schema, plain_stored};
-ghost use Rattle.smt_leaves.specs.Enums.{enums_of};
-ghost use Rattle.smt_leaves.specs.TextSets.{texts_of};
-ghost use Rattle.smt_meaning.specs.TypeValues.{members_of};
-ghost use Rattle.smt_symbolic_environments.specs.Laws.{IsSymbolicOf};
-ghost use Rattle.smt_symbolic_environments.specs.Symbolized.{entities_of, environment_with, symbolized};
+ghost use Rattle.smt_values.specs.View.{plain_env, plain_request_env, plain_schema, plain_stored};
+ghost use Rattle.smt_types.specs.Enums.{enums_of};
+ghost use Rattle.smt_types.specs.TextSets.{texts_of};
+ghost use Rattle.law_terms.specs.TypeValues.{members_of};
+ghost use Rattle.law_cedar.specs.Laws.{IsSymbolicOf};
+ghost use Rattle.law_cedar.specs.Symbolized.{entities_of, environment_with, symbolized};
 ghost use Rattle.smt_symbolizer.specs.Listed.{listed_in};
-ghost use Rattle.smt_entity_tables.specs.Named.{said};
+ghost use Rattle.smt_symbolizer.specs.Named.{said};
 ghost use Rattle.smt_symbolizer.specs.Requests.{with_request};
 ghost use Rattle.smt_symbolizer.specs.View.{plain_environment, plain_request};
-ghost use Rattle.smt_entity_tables.specs.View.{plain_data, plain_entities};
+ghost use Rattle.smt_symbolizer.specs.EntityView.{plain_data, plain_entities};
 ghost use Rattle.smt_values.specs.DefaultTerm.{default_term};
 ghost use Rattle.smt_values.specs.Refused.{IsGiven, IsRefusal};
 
+use crate::entities::entities_of;
 use crate::request::{asked_action, request_of};
-use smt_cedar_stores::{Entity, Env, RequestEnv, Schema};
-use smt_entity_tables::{
-    SymEntities, SymEntityData, entities_of, listed, listed_types, table_of_members,
-};
-use smt_leaves::{EntityType, EnumTable, TermError, TextSet};
+use crate::schema_types::{listed_types, table_of_members};
+use crate::{SymEntities, SymEntityData, listed};
 use smt_term::Term;
-use smt_values::SymbolizeError;
+use smt_types::{EntityType, EnumTable, TermError, TextSet};
+use smt_values::{Entity, Env, RequestEnv, Schema, SymbolizeError};
 use std::alloc::Global;
 
 /// The terms of a request.
@@ -78,6 +77,18 @@ impl SymEnv {
     /// ancestors, whatever the schema says of it beside that, and an enum type its members.
     ///
     /// So the functions fold at a stored entity of a type that no action has, and at an action, to what is stored of it.
+    ///
+    /// # Examples
+    ///
+    /// ```
+    /// use kembura::SymEnv;
+    /// use kembura::factory::eq;
+    ///
+    /// let made = SymEnv::from_concrete_env(alloc, &req_env, &schema, &env)?;
+    /// let enums = made.enum_table(alloc)?;
+    /// let (who, what) = (&made.request.principal, &made.request.resource);
+    /// let is_self = eq(alloc, who.share()?, what.share()?)?;
+    /// ```
     ///
     /// # Errors
     /// The first of these:

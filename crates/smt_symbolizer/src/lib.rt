@@ -1,30 +1,36 @@
-//! The step from a schema, a request and a store to a symbolic environment: terms for the request, and for each entity type
-//! functions that say what is stored of its entities, which `smt_entity_tables` makes.
+//! The step from a schema, a request and a store of entities to a symbolic environment: terms for the request, and for each
+//! entity type functions whose tables have what is stored of the type's entities, or what the schema says of its actions.
 //!
-//! Contracts speak of symbolic environments by their plain form, which `specs/View.antt` gives. What a schema, a request
-//! and a store are symbolized to, and the first fault of others, stands in the crate `smt_symbolic_environments`.
+//! Read `environment.rt` first, which has the step, and then `entity_data.rt` and `entities.rt`, which have the functions. The
+//! crate passes on Cedar's types, values and stores, and the terms of values, so that its user names one crate.
 //!
-//! It passes on what stands below it of Cedar's types, values and stores, and the terms of values, so that a user of these
-//! names one crate.
-#![tactic(auto, using(smt_cedar_types::specs::View::cedar_views, smt_cedar_values::specs::View::value_views, smt_term::specs::View::views))]
+//! Contracts speak of symbolic environments by their plain forms, which `specs/View.antt` and `specs/EntityView.antt` give. The
+//! symbolic environment of a schema, a request and a store, or the first fault, is defined in `specs/Symbolized.antt` and
+//! `specs/Tables.antt` of the crate `law_cedar`.
+#![tactic(auto, using(smt_cedar::specs::TypeView::cedar_views, smt_cedar::specs::ValueView::value_views, smt_term::specs::View::views))]
 
+mod by_type;
+mod entities;
+mod entity_data;
+mod entries;
 mod environment;
 mod names;
 mod request;
+mod schema_types;
+mod tables;
+mod values;
 
+pub use by_type::ByType;
+pub use entity_data::{AncestorMap, SymEntities, SymEntityData, SymTags};
 pub use environment::{SymEnv, SymRequest};
 pub use names::{core_entity_type_into_entity_type, core_uid_into_uid};
-pub use smt_cedar_stores::{
-    ActionEntry, ActionList, Entities, Entity, EntityEntry, EntryMap, Env, Request, RequestEnv,
-    Schema, UidList,
-};
-pub use smt_cedar_types::{
+pub use schema_types::listed;
+pub use smt_cedar::{
     AttributeType, Attributes, BoolType, CedarType, CompileError, EntityKind, EntityTypeList,
-    OfType, OpenTag, of_record_type,
+    ExprList, ExtError, ExtFromCedar, Literal, OfType, OpenTag, PartialMap, PartialValue,
+    RestrictedExpr, Value, ValueList, ValueMap, of_record_type, value_of_ext,
 };
-pub use smt_cedar_values::{
-    ExprList, ExtError, ExtFromCedar, Literal, PartialMap, PartialValue, RestrictedExpr, Value,
-    ValueList, ValueMap, value_of_ext,
+pub use smt_values::{
+    ActionEntry, ActionList, Entities, Entity, EntityEntry, EntryMap, Env, FromCedar, Request,
+    RequestEnv, Schema, SymbolizeError, UidList, default_literal, from_record,
 };
-pub use smt_entity_tables::{AncestorMap, ByType, SymEntities, SymEntityData, SymTags};
-pub use smt_values::{FromCedar, SymbolizeError, default_literal, from_record};

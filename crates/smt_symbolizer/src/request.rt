@@ -1,23 +1,21 @@
 // The terms of a request.
 ghost use Rattle.std.specs.Prelude.{◌≡◌, IfOk, option_map};
-ghost use Rattle.smt_cedar_stores.specs.View.{plain_action, plain_request as request_said, plain_request_env, plain_schema};
-ghost use Rattle.smt_cedar_types.specs.View.{plain_cedar_attributes};
-ghost use Rattle.smt_cedar_values.specs.View.{named_fields};
-ghost use Rattle.smt_leaves.specs.Entities.{texts_of_entity};
-ghost use Rattle.smt_symbolic_environments.specs.Symbolized as stated;
+ghost use Rattle.smt_values.specs.View.{plain_action, plain_request as request_said, plain_request_env, plain_schema};
+ghost use Rattle.smt_cedar.specs.TypeView.{plain_cedar_attributes};
+ghost use Rattle.smt_cedar.specs.ValueView.{named_fields};
+ghost use Rattle.smt_types.specs.Entities.{texts_of_entity};
+ghost use Rattle.law_cedar.specs.Symbolized as stated;
 ghost use Rattle.smt_symbolizer.specs.Requests.{request_with};
 ghost use Rattle.smt_symbolizer.specs.View.{plain_request};
 ghost use Rattle.smt_term.specs.View.{plain_term};
 ghost use Rattle.smt_values.specs.Refused.{IsGiven};
 
+use crate::entries::entity_term;
 use crate::environment::SymRequest;
-use smt_cedar_stores::{ActionEntry, Request, RequestEnv, Schema};
-use smt_cedar_types::Attributes;
-use smt_cedar_values::ValueMap;
-use smt_entity_tables::entity_term;
-use smt_leaves::{EntityUID, TermError};
+use smt_cedar::{Attributes, ValueMap};
 use smt_term::Term;
-use smt_values::{SymbolizeError, from_record};
+use smt_types::{EntityUID, TermError};
+use smt_values::{ActionEntry, Request, RequestEnv, Schema, SymbolizeError, from_record};
 use std::alloc::Global;
 
 /// The action of a request environment of the schema: its last entry.

@@ -8,7 +8,7 @@ use Rattle.std.specs.declared.cmp.Ordering.{Ordering}
 use Rattle.std.specs.declared.cmp.Ordering.TheVariants.{Equal}
 use Rattle.std.proofs.lemmas.Cmp.{tied_itself}
 use Rattle.smt_term.specs.Program.{EqualFunctionsSayTheSame, EqualListsSayTheSame, EqualLiteralsSayTheSame, EqualOperatorsSayTheSame, EqualSetsSayTheSame, EqualVariablesSayTheSame}
-use Rattle.smt_meaning.specs.TermOrder.{function_cmp, op_cmp, literal_cmp, term_cmp}
+use Rattle.law_terms.specs.TermOrder.{function_cmp, op_cmp, literal_cmp, term_cmp}
 use Rattle.smt_term.specs.View.{plain_elements, plain_function, plain_items, plain_literal, plain_op, plain_term, plain_variable}
 use Rattle.smt_term.specs.declared.term.Term.{Term}
 use Rattle.smt_term.specs.contracts.function.UufOrd.TheImpl as function_order
@@ -32,7 +32,7 @@ use Rattle.smt_term.specs.contracts.term.TermListOrd.TheImpl.Laws as list_laws
 use Rattle.smt_term.specs.contracts.term.TermSetOrd.TheImpl.Laws as set_laws
 use Rattle.smt_term.specs.contracts.term.TermOrd.TheImpl.Laws as term_laws
 use Rattle.smt_term.proofs.DerivedOrder.{derived_term_cmp, function_cmp-is, list_cmp-is, literal_cmp-is, op_cmp-is, set_cmp-is, term_cmp-is, variable_cmp-is}
-use Rattle.smt_meaning.proofs.SameTerm.{function_same, literal_same, op_same, term_same}
+use Rattle.law_terms.proofs.SameTerm.{function_same, literal_same, op_same, term_same}
 
 -- the order holds a term of the program equal to itself
 pub term_itself : (a : Term) → term_cmp (plain_term a) (plain_term a) ≡ Equal

@@ -4,20 +4,21 @@ use Rattle.std.specs.Cmp.{first_so, second_so}
 use Rattle.std.specs.Cmp.Derive.{both_true}
 use Rattle.std.specs.List.{AllByRecursion}
 use Rattle.std.proofs.lemmas.Str.{IsUtf8-string_bytes}
-use Rattle.smt_meaning.specs.Formed.{attribute_names, IsFormed, IsFormedHere, IsFormedLiteral, IsFormedNode, IsFormedType}
-use Rattle.smt_meaning.specs.Plain.{PlainTerm, Application, NoneTerm, LiteralTerm, RecordTerm, SetTerm, SomeTerm, VariableTerm}
+use Rattle.law_terms.specs.Formed.{IsFormed, IsFormedHere, IsFormedLiteral, IsFormedNode, IsFormedType}
+use Rattle.law_terms.specs.Parts.{attribute_names}
+use Rattle.law_terms.specs.Plain.{PlainTerm, Application, NoneTerm, LiteralTerm, RecordTerm, SetTerm, SomeTerm, VariableTerm}
 use Rattle.smt_term.specs.Program.{TermsAreFormed}
-use Rattle.smt_meaning.specs.Reached.{subterms, subterms_of_all, subterms_of_fields, types_within, types_within_attributes}
-use Rattle.smt_meaning.specs.Types.{field_types, literal_type, type_of}
-use Rattle.smt_meaning.specs.ValueOrder.{ascends, is_below, text_cmp}
+use Rattle.law_terms.specs.Reached.{subterms, subterms_of_all, subterms_of_fields, types_within, types_within_attributes}
+use Rattle.law_terms.specs.Types.{field_types, literal_type, type_of}
+use Rattle.law_terms.specs.ValueOrder.{ascends, is_below, text_cmp}
 use Rattle.smt_term.specs.View.{attributes_of, plain_literal, plain_named, plain_row, plain_term, plain_type}
 use Rattle.smt_term.specs.declared.term.Term.{Term, App', None, Prim, Record', Set', Some', Var, Row_of-Term, end_of-Term, more_of-Term}
 use Rattle.smt_term.specs.declared.term.TermPrim.{TermPrim}
 use Rattle.smt_term.specs.declared.term.TermPrim.TheVariants.{Bitvec as BitsLiteral, Bool as TruthLiteral, Entity as EntityOf, Ext as ValueOf, String as TextLiteral}
 use Rattle.smt_term.proofs.ExtensionValues.{formed_value}
 use Rattle.smt_types.proofs.FormedTypes.{formed_option, formed_set, formed_type}
-use Rattle.smt_meaning.proofs.Defaults.{all-join}
-use Rattle.smt_meaning.proofs.Soundness.{all-last}
+use Rattle.law_terms.proofs.Defaults.{all-join}
+use Rattle.law_terms.proofs.Soundness.{all-last}
 
 -- a term by itself and its type are formed
 abbrev pub IsFormedBoth : PlainTerm → Type 0

@@ -5,12 +5,12 @@ use Rattle.std.specs.BTreeSet.{insert_key}
 use Rattle.std.specs.Ordering.{match_ordering}
 use Rattle.std.specs.declared.cmp.Ordering.{Ordering}
 use Rattle.std.specs.declared.cmp.Ordering.TheVariants.{Less, Equal, Greater}
-use Rattle.smt_meaning.specs.Plain.{PlainTerm}
-use Rattle.smt_meaning.specs.TermOrder.{term_cmp}
+use Rattle.law_terms.specs.Plain.{PlainTerm}
+use Rattle.law_terms.specs.TermOrder.{term_cmp}
 use Rattle.smt_term.specs.View.{plain_term}
 use Rattle.smt_term.specs.declared.term.Term.{Term}
 use Rattle.smt_term.proofs.DerivedOrder.{derived_term_cmp, term_cmp-is}
-use Rattle.smt_meaning.proofs.SortedSets.{put_all}
+use Rattle.law_terms.proofs.SortedSets.{put_all}
 
 placed : (o : Ordering) (a b c : List Term) → map plain_term (match_ordering o a b c) ≡ match_ordering o (map plain_term a) (map plain_term b) (map plain_term c)
 placed Less a b c = refl

@@ -1,8 +1,8 @@
 -- Whether the elements of a set are literals, one after another.
 use Rattle.std.proofs.Common.{◌≡◌, ℕ, ◌+◌, ◌<◌, ◌≤◌, Bool, true, ◌&&◌, List, length, get_or, map, drop, sym, ap, ◌∙◌}
 use Rattle.std.proofs.lemmas.List.{at_drop_more, at_drop_all}
-use Rattle.smt_meaning.specs.Literals.{are_literals, is_literal}
-use Rattle.smt_meaning.specs.Plain.{SetTerm, terms}
+use Rattle.law_terms.specs.Literals.{are_literals, is_literal}
+use Rattle.law_terms.specs.Plain.{SetTerm, terms}
 use Rattle.smt_term.specs.View.{plain_elements, plain_term, plain_term-Set, plain_type}
 use Rattle.smt_term.specs.declared.term.Term.{Term, Set}
 use Rattle.smt_term.specs.declared.term.TermSet.{TermSet}

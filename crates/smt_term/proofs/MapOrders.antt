@@ -3,12 +3,12 @@ use Rattle.std.proofs.Common.{ap, ◌∙◌}
 use Rattle.std.specs.FinMap.{slice_cmp-IsAntisymmetric}
 use Rattle.std.specs.Ordering.{ordering_then}
 use Rattle.std.specs.Rc.{rc_str_bytes}
-use Rattle.smt_meaning.specs.TermOrder.{term_cmp}
-use Rattle.smt_meaning.specs.ValueOrder.{text_cmp}
-use Rattle.smt_meaning.proofs.SameTerm.{term_same}
-use Rattle.smt_meaning.proofs.ValueOrder.{text_same}
-use Rattle.smt_leaves.specs.Orders.{pair_cmp}
-use Rattle.smt_leaves.proofs.Orders.{are_ordered, lists_by_said, pairs_same}
+use Rattle.law_terms.specs.TermOrder.{term_cmp}
+use Rattle.law_terms.specs.ValueOrder.{text_cmp}
+use Rattle.law_terms.proofs.SameTerm.{term_same}
+use Rattle.law_terms.proofs.ValueOrder.{text_same}
+use Rattle.smt_types.specs.Orders.{pair_cmp}
+use Rattle.smt_types.proofs.Orders.{are_ordered, lists_by_said, pairs_same}
 use Rattle.smt_types.proofs.NamedPairs.{by_pairs}
 use Rattle.smt_term.specs.Program.{TermMapsAreOrdered}
 use Rattle.smt_term.specs.View.{plain_field, plain_fields}

@@ -7,10 +7,11 @@ use Rattle.std.specs.Prelude.{codes}
 use Rattle.std.specs.Rc.{rc_str_bytes}
 use Rattle.std.specs.declared.rc.RcStr.{RcStr}
 use Rattle.std.specs.declared.alloc.Global.{Global}
-use Rattle.smt_characters.proofs.Ids.{plain_character}
-use Rattle.smt_meaning.specs.Plain.{PlainTerm, terms}
-use Rattle.smt_term.specs.Printed.{character_text, comma_separated, field_text, field_texts, record_text, term_text, term_texts}
-use Rattle.smt_term.specs.View.{plain_field, plain_term, record_fields}
+use Rattle.law_texts.proofs.Ids.{plain_character}
+use Rattle.law_terms.specs.Plain.{PlainTerm, terms, record_fields}
+use Rattle.smt_term.specs.Printed.{character_text, field_text, field_texts, record_text, term_text, term_texts}
+use Rattle.law_texts.specs.LineTexts.{comma_separated}
+use Rattle.smt_term.specs.View.{plain_field, plain_term}
 use Rattle.smt_term.specs.declared.term.Term.{Term}
 
 -- a character that is neither a control of ASCII nor a quote, an apostrophe or a backslash is written as it is

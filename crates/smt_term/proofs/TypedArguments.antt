@@ -4,14 +4,14 @@ use Rattle.std.proofs.lemmas.List.{at_drop_more, at_drop_all}
 use Rattle.std.specs.Prelude.{◌≢◌, IsTrue, is_some}
 use Rattle.std.specs.Bool.{then_some}
 use Rattle.std.proofs.lemmas.Bool.{and_from, false≢true}
-use Rattle.smt_meaning.specs.Plain.{PlainType, BoolType, PlainOp, BitsOp, TestOp, OverflowOp, NotOp, PlainTerm, Application, SetTerm, terms}
-use Rattle.smt_meaning.specs.Types.{is_type, result_type, type_eq, type_of, types_of}
-use Rattle.smt_meaning.specs.TermOrder.{term_cmp}
-use Rattle.smt_meaning.specs.Typing.{typed, typed_all}
-use Rattle.smt_meaning.specs.ValueOrder.{ascends, is_below}
+use Rattle.law_terms.specs.Plain.{PlainType, BoolType, PlainOp, BitsOp, TestOp, OverflowOp, NotOp, PlainTerm, Application, SetTerm, terms}
+use Rattle.law_terms.specs.Types.{is_type, result_type, type_eq, type_of, types_of}
+use Rattle.law_terms.specs.TermOrder.{term_cmp}
+use Rattle.law_terms.specs.Typing.{typed, typed_all}
+use Rattle.law_terms.specs.ValueOrder.{ascends, is_below}
 use Rattle.std.specs.Ordering.{is_lt}
 use Rattle.std.specs.List.{list_all}
-use Rattle.smt_meaning.proofs.Listed.{listed}
+use Rattle.law_terms.proofs.Listed.{listed}
 use Rattle.smt_term.specs.View.{plain_elements, plain_items, plain_op, plain_term, plain_term-App, plain_term-Set, plain_type}
 use Rattle.smt_term.specs.declared.op.Op.{Op}
 use Rattle.smt_term.specs.OpClass.{class_of}

@@ -1,8 +1,8 @@
 -- What maps of attributes say: their pairs in order.
 use Rattle.std.specs.Prelude.{ℕ, List, bytes_eq}
-use Rattle.smt_meaning.specs.Plain.{PlainTerm}
-use Rattle.smt_meaning.specs.ValueOrder.{text_cmp}
-use Rattle.smt_leaves.specs.SortedPairs.{AreLastPairs, sorted_pairs}
+use Rattle.law_terms.specs.Plain.{PlainTerm}
+use Rattle.law_terms.specs.ValueOrder.{text_cmp}
+use Rattle.smt_types.specs.SortedPairs.{AreLastPairs, sorted_pairs}
 pub use Rattle.smt_term.specs.View.{plain_attribute, plain_attributes, plain_field, plain_fields}
 pub use Rattle.smt_types.specs.Maps.{TypePairsAreSorted}
 

@@ -2,12 +2,24 @@
 ghost use Rattle.std.specs.Prelude.{◌≡◌, IfOk};
 ghost use Rattle.smt_term.specs.View.{plain_function};
 
-use smt_leaves::TermError;
 use smt_text::{Text, share_text};
-use smt_types::TermType;
+use smt_types::{TermError, TermType};
 
 /// An uninterpreted function: its id and its types. Two functions of one id and different types are different. Functions order
 /// by their fields as declared.
+///
+/// # Examples
+///
+/// ```
+/// use kembura::{Encoder, EnumTable, ListSink, TermType, Text, Uuf};
+///
+/// let id = Text::from_str(alloc, "is_open")?;
+/// let is_open = Uuf { id, arg: TermType::String, out: TermType::Bool };
+/// let enums = EnumTable::new(alloc);
+/// let mut encoder = Encoder::new(alloc, &enums, ListSink::new(alloc));
+/// let name = encoder.encode_uuf(&is_open)?;
+/// assert_eq!(rt; name.as_str(), "f0");
+/// ```
 #[derive(Debug, PartialEq, Eq, PartialOrd, Ord, Drop)]
 pub struct Uuf {
     /// The name by which it is known.

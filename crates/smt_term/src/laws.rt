@@ -1,6 +1,11 @@
-//! Laws of the program's terms: they compare as what they say, proved with no code.
+//! Laws of the program's terms, which compare as what they say, of tables of terms and of functions of one argument, proved
+//! with no code.
+#![tactic(auto, using(crate::specs::View::views))]
+
 ghost use Rattle.smt_term.specs.Maps.{FieldPairsAreSorted, TypePairsAreSorted};
 ghost use Rattle.smt_term.specs.Program.{EqualFunctionsSayTheSame, EqualListsSayTheSame, EqualLiteralsSayTheSame, EqualOperatorsSayTheSame, EqualSetsSayTheSame, EqualTermsSayTheSame, EqualTypesSayTheSame, EqualVariablesSayTheSame, FunctionsCompareAsPlain, ListsCompareAsPlain, LiteralsCompareAsPlain, OperatorsCompareAsPlain, SetsCompareAsPlain, TermMapsAreOrdered, TermsAreFormed, TermsCompareAsPlain, TypesCompareAsPlain, VariablesCompareAsPlain};
+ghost use Rattle.smt_term.specs.Orders.{DefinitionsAreOrdered, FunctionsAreOrdered, TermTablesAreOrdered};
+ghost use Rattle.smt_term.specs.Tables.{TermPairsAreSorted, TermTablesAscend};
 
 /// What the program's terms and types keep.
 pub fn program_terms()
@@ -36,4 +41,18 @@ pub fn program_maps()
 /// The order of maps of terms is total, and holds two level exactly where they are equal, which is exactly where they say the same.
 pub fn term_maps_are_ordered()
     ensures { TermMapsAreOrdered }
+{}
+
+/// Tables of terms ascend, and have of each key the value of its last pair.
+pub fn program_tables()
+    ensures tables { TermTablesAscend }
+    ensures pairs { TermPairsAreSorted }
+{}
+
+/// The orders of tables of terms, of functions that a table defines, and of functions of one argument are total, and hold two level
+/// exactly where they are equal, which is exactly where they say the same.
+pub fn functions_are_ordered()
+    ensures tables { TermTablesAreOrdered }
+    ensures definitions { DefinitionsAreOrdered }
+    ensures functions { FunctionsAreOrdered }
 {}

@@ -2,14 +2,14 @@
 ghost use Rattle.std.specs.Prelude.{◌≡◌, ◌↔◌, [], IfOk, IsTrue, bytes_eq, length, map, option_map};
 ghost use Rattle.std.specs.Map.{lookup};
 ghost use Rattle.std.specs.Rc.{rc_str_bytes};
-ghost use Rattle.smt_meaning.specs.ValueOrder.{text_cmp};
+ghost use Rattle.law_terms.specs.ValueOrder.{text_cmp};
 ghost use Rattle.smt_term.specs.Maps.{plain_field, plain_fields};
-ghost use Rattle.smt_leaves.specs.SortedPairs.{sorted_pairs};
+ghost use Rattle.smt_types.specs.SortedPairs.{sorted_pairs};
 ghost use Rattle.smt_term.specs.View.{fields_of, plain_term};
 
 use crate::term::Term;
-use smt_leaves::{Attr, AttributePairs, TermError};
 use smt_text::share_text;
+use smt_types::{Attr, AttributePairs, TermError};
 use std::alloc::Global;
 use std::collections::BTreeMap;
 

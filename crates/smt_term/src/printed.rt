@@ -6,18 +6,19 @@ ghost use Rattle.std.specs.Fmt.{WritesOnOk};
 ghost use Rattle.std.specs.List.{flat_map};
 ghost use Rattle.std.specs.Str.{chars};
 ghost use Rattle.smt_ext.specs.ExtOrder.{plain_value};
-ghost use Rattle.smt_leaves.specs.Entities.{bytes_of_id, bytes_of_type};
-ghost use Rattle.smt_leaves.specs.PatternView.{plain_part};
-ghost use Rattle.smt_meaning.specs.Plain.{terms};
+ghost use Rattle.smt_types.specs.Entities.{bytes_of_id, bytes_of_type};
+ghost use Rattle.smt_types.specs.PatternView.{plain_part};
+ghost use Rattle.law_terms.specs.Plain.{terms, record_fields};
 ghost use Rattle.smt_term.specs.Maps.{plain_fields};
-ghost use Rattle.smt_term.specs.Printed.{application_text, character_text, comma_separated, entity_text, extension_text, field_texts, literal_text, part_text, printed_name, record_text, term_text, term_texts};
-ghost use Rattle.smt_term.specs.View.{plain_literal, plain_op, plain_term, record_fields};
+ghost use Rattle.smt_term.specs.Printed.{application_text, character_text, entity_text, extension_text, field_texts, literal_text, part_text, printed_name, record_text, term_text, term_texts};
+ghost use Rattle.law_texts.specs.LineTexts.{comma_separated};
+ghost use Rattle.smt_term.specs.View.{plain_literal, plain_op, plain_term};
 
 use crate::maps::TermMap;
 use crate::op::Op;
 use crate::term::{Term, TermPrim};
 use smt_ext::Ext;
-use smt_leaves::{EntityUID, PatternElem};
+use smt_types::{EntityUID, PatternElem};
 use std::fmt;
 
 /// A truth value as `true` or `false`, a bitvector as `(bv64 12)`, an entity as `T::"id"`, a string between quotes, and a

@@ -1,20 +1,30 @@
 // Terms and lists of terms.
 ghost use Rattle.std.specs.Prelude.{◌≡◌, ◌↔◌, [], IfOk, IsTrue, length, map};
-ghost use Rattle.smt_meaning.specs.TermSets.{sorted_terms};
+ghost use Rattle.law_terms.specs.TermSets.{sorted_terms};
 ghost use Rattle.smt_term.specs.View.{elements_of, items_of, plain_elements, plain_items, plain_literal, plain_term, plain_variable};
 
 use crate::maps::TermMap;
 use crate::op::Op;
 use smt_bits::{BitVec, SIXTY_FOUR};
 use smt_ext::Ext;
-use smt_leaves::{EntityUID, TermError};
 use smt_text::{Text, share_text};
-use smt_types::TermType;
+use smt_types::{EntityUID, TermError, TermType};
 use std::alloc::Global;
 use std::collections::BTreeSet;
 use std::rc::Rc;
 
 /// A variable: its id and its type. Two variables of one id and different types are different.
+///
+/// # Examples
+///
+/// ```
+/// use kembura::bits::SIXTY_FOUR;
+/// use kembura::{Term, TermType, TermVar, Text};
+///
+/// let id = Text::from_str(alloc, "context.hour")?;
+/// let ty = TermType::Bitvec { n: SIXTY_FOUR };
+/// let hour = Term::from(TermVar { id, ty });
+/// ```
 #[derive(Debug, PartialEq, Eq, PartialOrd, Ord, Drop)]
 pub struct TermVar {
     /// The name by which it is known.
@@ -272,6 +282,17 @@ impl TermVar {
 impl Term {
     /// An equal term that shares its parts.
     ///
+    /// # Examples
+    ///
+    /// ```
+    /// use kembura::Term;
+    /// use kembura::factory::eq;
+    ///
+    /// let seven = Term::from(7i64);
+    /// let same = eq(alloc, seven.share()?, seven)?;
+    /// assert_eq!(rt; same, Term::from(true));
+    /// ```
+    ///
     /// # Errors
     /// `Memory`, where there is none for the term.
     #[tactic(auto, using(crate::specs::View::views))]
@@ -299,7 +320,7 @@ impl Term {
 
 impl From<bool> for Term {
     ghost use Rattle.std.specs.Prelude.{◌≡◌};
-    ghost use Rattle.smt_meaning.specs.Plain.{BoolLiteral, LiteralTerm};
+    ghost use Rattle.law_terms.specs.Plain.{BoolLiteral, LiteralTerm};
     ghost use Rattle.smt_term.specs.View.{plain_term};
 
     ghost from_gives = { λ truth term. plain_term term ≡ LiteralTerm (BoolLiteral truth) };
@@ -311,8 +332,8 @@ impl From<bool> for Term {
 
 impl From<i64> for Term {
     ghost use Rattle.std.specs.Prelude.{◌≡◌};
-    ghost use Rattle.smt_arithmetic.specs.BitVectors.{bits_of};
-    ghost use Rattle.smt_meaning.specs.Plain.{BitVecLiteral, LiteralTerm};
+    ghost use Rattle.law_numbers.specs.BitVectors.{bits_of};
+    ghost use Rattle.law_terms.specs.Plain.{BitVecLiteral, LiteralTerm};
     ghost use Rattle.smt_term.specs.View.{plain_term};
 
     ghost from_gives = { λ number term. plain_term term ≡ LiteralTerm (BitVecLiteral 64 (bits_of 64 number)) };
@@ -325,7 +346,7 @@ impl From<i64> for Term {
 impl From<BitVec> for Term {
     ghost use Rattle.std.specs.Prelude.{◌≡◌};
     ghost use Rattle.smt_bits.specs.BitVec.{number_of, width_of};
-    ghost use Rattle.smt_meaning.specs.Plain.{BitVecLiteral, LiteralTerm};
+    ghost use Rattle.law_terms.specs.Plain.{BitVecLiteral, LiteralTerm};
     ghost use Rattle.smt_term.specs.View.{plain_term};
 
     ghost from_gives = { λ bits term. plain_term term ≡ LiteralTerm (BitVecLiteral (width_of bits) (number_of bits)) };
@@ -337,8 +358,8 @@ impl From<BitVec> for Term {
 
 impl From<EntityUID> for Term {
     ghost use Rattle.std.specs.Prelude.{◌≡◌};
-    ghost use Rattle.smt_meaning.specs.Plain.{EntityLiteral, LiteralTerm};
-    ghost use Rattle.smt_leaves.specs.Entities.{bytes_of_id, bytes_of_type};
+    ghost use Rattle.law_terms.specs.Plain.{EntityLiteral, LiteralTerm};
+    ghost use Rattle.smt_types.specs.Entities.{bytes_of_id, bytes_of_type};
     ghost use Rattle.smt_term.specs.View.{plain_term};
 
     ghost from_gives = { λ entity term. plain_term term ≡ LiteralTerm (EntityLiteral (bytes_of_type entity.ety) (bytes_of_id entity.id)) };
@@ -351,7 +372,7 @@ impl From<EntityUID> for Term {
 impl From<Ext> for Term {
     ghost use Rattle.std.specs.Prelude.{◌≡◌};
     ghost use Rattle.smt_ext.specs.ExtOrder.{plain_value};
-    ghost use Rattle.smt_meaning.specs.Plain.{ExtensionLiteral, LiteralTerm};
+    ghost use Rattle.law_terms.specs.Plain.{ExtensionLiteral, LiteralTerm};
     ghost use Rattle.smt_term.specs.View.{plain_term};
 
     ghost from_gives = { λ value term. plain_term term ≡ LiteralTerm (ExtensionLiteral (plain_value value)) };
@@ -364,7 +385,7 @@ impl From<Ext> for Term {
 impl From<Text> for Term {
     ghost use Rattle.std.specs.Prelude.{◌≡◌};
     ghost use Rattle.std.specs.Rc.{rc_str_bytes};
-    ghost use Rattle.smt_meaning.specs.Plain.{LiteralTerm, StringLiteral};
+    ghost use Rattle.law_terms.specs.Plain.{LiteralTerm, StringLiteral};
     ghost use Rattle.smt_term.specs.View.{plain_term};
 
     ghost from_gives = { λ text term. plain_term term ≡ LiteralTerm (StringLiteral (rc_str_bytes text)) };

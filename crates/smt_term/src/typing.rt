@@ -3,23 +3,22 @@ ghost use Rattle.std.specs.Prelude.{◌≡◌, ◌↔◌, ◌∷◌, [], IfOk, I
 ghost use Rattle.std.specs.List.{list_all};
 ghost use Rattle.std.specs.Rc.{rc_str_bytes};
 ghost use Rattle.smt_bits.specs.Width.{bits_in};
-ghost use Rattle.smt_meaning.specs.Literals.{is_literal};
-ghost use Rattle.smt_meaning.specs.Plain.{EntityType as EntityTypeOf, OptionType, RecordType, SetType};
-ghost use Rattle.smt_meaning.specs.TermOrder.{term_cmp};
-ghost use Rattle.smt_meaning.specs.Types.{attribute_type, extended_type, extension_signature, field_types, inner_type, is_set, is_type, literal_type, result_type, type_eq, type_of, width_in};
-ghost use Rattle.smt_meaning.specs.Typing.{Typed, typed};
-ghost use Rattle.smt_meaning.specs.ValueOrder.{ascends, is_below};
-ghost use Rattle.smt_leaves.specs.Entities.{bytes_of_type};
-ghost use Rattle.smt_leaves.specs.ExtensionView.{plain_extension_op};
-ghost use Rattle.smt_term.specs.View.{attribute_types, plain_attributes, plain_fields, plain_literal, plain_op, plain_term, plain_type, record_fields};
+ghost use Rattle.law_terms.specs.Literals.{is_literal};
+ghost use Rattle.law_terms.specs.Plain.{EntityType as EntityTypeOf, OptionType, RecordType, SetType, attribute_types, record_fields};
+ghost use Rattle.law_terms.specs.TermOrder.{term_cmp};
+ghost use Rattle.law_terms.specs.Types.{attribute_type, extended_type, extension_signature, field_types, inner_type, is_set, is_type, literal_type, result_type, type_eq, type_of, width_in};
+ghost use Rattle.law_terms.specs.Typing.{Typed, typed};
+ghost use Rattle.law_terms.specs.ValueOrder.{ascends, is_below};
+ghost use Rattle.smt_types.specs.Entities.{bytes_of_type};
+ghost use Rattle.smt_types.specs.ExtensionView.{plain_extension_op};
+ghost use Rattle.smt_term.specs.View.{plain_attributes, plain_fields, plain_literal, plain_op, plain_term, plain_type};
 
 use crate::maps::TermMap;
 use crate::op::{Op, OpClass};
 use crate::term::{Term, TermPrim};
 use smt_bits::{FIVE, HUNDRED_TWENTY_EIGHT, SEVEN, SIXTY_FOUR, THIRTY_TWO, Width};
-use smt_leaves::{Attr, EntityType, ExtOp, ExtType, TermError};
 use smt_text::share_text;
-use smt_types::{TermType, TypeMap};
+use smt_types::{Attr, EntityType, ExtOp, ExtType, TermError, TermType, TypeMap};
 use std::alloc::Global;
 
 impl TermPrim {
@@ -87,6 +86,15 @@ impl Term {
     /// The type of the term: of an application the one that it claims, of none and of a set by the type that they name, and
     /// of some and of a record by the terms that they hold.
     ///
+    /// # Examples
+    ///
+    /// ```
+    /// use kembura::{Term, TermType};
+    ///
+    /// let ty = Term::from(true).type_of(alloc)?;
+    /// assert_eq!(rt; ty, TermType::Bool);
+    /// ```
+    ///
     /// # Errors
     /// `Memory`, where there is none for the type.
     pub fn type_of(&self, alloc: Global) -> Result<TermType, TermError>
@@ -142,6 +150,17 @@ impl Term {
 
     /// Whether each application in it has the argument types of its operator and its result type, and each set elements of
     /// its type, in order. Takes no memory.
+    ///
+    /// # Examples
+    ///
+    /// ```
+    /// use kembura::{Op, Term, TermList, TermType};
+    ///
+    /// let args = TermList::new(alloc, &[Term::from(7i64)])?;
+    /// let (op, ret_ty) = (Op::Not, TermType::Bool);
+    /// let no_negation = Term::App { op, args, ret_ty };
+    /// assert!(rt; !no_negation.well_typed());
+    /// ```
     pub fn well_typed(&self) -> bool
         ensures { result ≡ typed (plain_term self.now) }
     {

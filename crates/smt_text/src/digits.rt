@@ -3,9 +3,9 @@ ghost use Rattle.std.specs.Prelude.{◌≡◌, ◌^◌, ◌<◌, ◌∷◌, ℕ,
 ghost use Rattle.std.specs.Int.{w64};
 ghost use Rattle.std.specs.List.{list_all, take_while};
 ghost use Rattle.std.specs.Option.{SomeIff};
-ghost use Rattle.smt_characters.specs.Characters.{is_digit};
-ghost use Rattle.smt_characters.specs.Digits.{is_numeral, decimal_number, signed_number};
-ghost use Rattle.smt_characters.specs.Front.{ReadsTo, IsRun, IsRunAtEnd, IsSigned, byte_at};
+ghost use Rattle.law_texts.specs.Characters.{is_digit};
+ghost use Rattle.law_texts.specs.Digits.{is_numeral, decimal_number, signed_number};
+ghost use Rattle.law_texts.specs.Front.{ReadsTo, IsRun, IsRunAtEnd, IsSigned, byte_at};
 
 // Whether the byte is a decimal digit.
 fn is_decimal(byte: u8) -> bool
@@ -92,7 +92,7 @@ pub fn wide_number(digits: &[u8]) -> Option<u128>
 }
 
 /// What follows the byte, where the text begins with it.
-#[tactic(auto, unfolding(smt_characters::specs::Front::byte_at))]
+#[tactic(auto, unfolding(law_texts::specs::Front::byte_at))]
 pub fn behind(text: &[u8], byte: u8) -> Option<&[u8]>
     ensures found { IfSome result (λ rest. text.now ≡ byte ∷ rest.now) }
     ensures none { IfNone result ((rest : List ℕ) → text.now ≡ byte ∷ rest → ⊥) }

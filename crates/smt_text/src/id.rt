@@ -2,7 +2,7 @@
 ghost use Rattle.std.specs.Prelude.{◌≡◌, ◌++◌, IfOk, OnOk, encode_utf8};
 ghost use Rattle.std.specs.List.{flat_map};
 ghost use Rattle.std.specs.String.{string_bytes};
-ghost use Rattle.smt_characters.specs.Quoting.{quoted_id, quoted_id_byte};
+ghost use Rattle.law_texts.specs.Quoting.{quoted_id, quoted_id_byte};
 
 use std::alloc::{AllocError, Global};
 

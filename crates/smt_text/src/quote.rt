@@ -4,20 +4,20 @@ ghost use Rattle.std.specs.List.{list_all};
 ghost use Rattle.std.specs.Rc.{rc_str_bytes};
 ghost use Rattle.std.specs.Str.{chars};
 ghost use Rattle.std.specs.String.{string_bytes};
-ghost use Rattle.smt_characters.specs.Characters.{is_code_point};
-ghost use Rattle.smt_characters.specs.Quoting.{quoted, quoted_character};
+ghost use Rattle.law_texts.specs.Characters.{is_code_point};
+ghost use Rattle.law_texts.specs.Quoting.{quoted, quoted_character};
 
 use crate::text::Text;
 use std::alloc::{AllocError, Global};
 
-// The greatest code point of the theory UnicodeStrings.
-const GREATEST: char = '\u{2ffff}';
+/// The greatest code point of a character in a string of SMT-LIB 2.7 (theory UnicodeStrings).
+pub const SMT_LIB_MAX_CODE_POINT: u32 = 0x2ffff;
 
 /// Whether a string of SMT-LIB may hold each character.
 fn is_string(s: &str) -> bool
     ensures { result ≡ list_all is_code_point (chars s.now) }
 {
-    s.chars().all(|c| c <= GREATEST)
+    s.chars().all(|c| u32::from(c) <= SMT_LIB_MAX_CODE_POINT)
 }
 
 /// Appends a character as it stands between quotes.

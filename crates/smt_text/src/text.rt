@@ -2,16 +2,36 @@
 ghost use Rattle.std.specs.Prelude.{◌≡◌, ◌++◌, IfOk, OnOk};
 ghost use Rattle.std.specs.Rc.{rc_str_bytes};
 ghost use Rattle.std.specs.String.{string_bytes};
-ghost use Rattle.smt_characters.specs.LineTexts.{spaced};
-ghost use Rattle.smt_characters.specs.SharedTexts.{texts};
+ghost use Rattle.law_texts.specs.LineTexts.{spaced};
+ghost use Rattle.law_texts.specs.SharedTexts.{texts};
 
 use std::alloc::AllocError;
 use std::rc::RcStr;
 
 /// A text in UTF-8 that its holders share.
+///
+/// # Examples
+///
+/// ```
+/// use kembura::Text;
+///
+/// let id = Text::from_str(alloc, "context.hour")?;
+/// assert_eq!(rt; id.as_str(), "context.hour");
+/// ```
 pub type Text = RcStr;
 
 /// A text that shares the bytes of `text`.
+///
+/// # Examples
+///
+/// ```
+/// use kembura::Text;
+/// use kembura::texts::share_text;
+///
+/// let id = Text::from_str(alloc, "context.hour")?;
+/// let shared = share_text(&id)?;
+/// assert_eq!(rt; shared, id);
+/// ```
 pub fn share_text(text: &Text) -> Result<Text, AllocError>
     ensures { IfOk result (λ shared. rc_str_bytes shared ≡ rc_str_bytes text.now) }
 {

@@ -9,12 +9,12 @@ use denote.Hole.Carrier
 use denote.Hole.Carrier.{shown}
 use denote.Hole.Compared
 use mathlib.Core.Former
-use Rattle.smt_meaning.specs.Types.{attribute_types_cmp, type_cmp}
-use Rattle.smt_meaning.specs.ValueOrder.{text_cmp}
-use Rattle.smt_leaves.proofs.ExtensionOrder.{kind_cmp-is}
-use Rattle.smt_leaves.specs.Pairs.{attributes_in, pairs_of}
-use Rattle.smt_leaves.specs.formers.pairs.AttributePairs as pairs
-use Rattle.smt_leaves.specs.formers.pairs.AttributePairs.{attributes-got}
+use Rattle.law_terms.specs.Types.{attribute_types_cmp, type_cmp}
+use Rattle.law_terms.specs.ValueOrder.{text_cmp}
+use Rattle.smt_types.proofs.ExtensionOrder.{kind_cmp-is}
+use Rattle.smt_types.specs.Pairs.{attributes_in, pairs_of}
+use Rattle.smt_types.specs.formers.pairs.AttributePairs as pairs
+use Rattle.smt_types.specs.NamedVecs.{attributes-got}
 use Rattle.smt_types.proofs.NamedPairs.{by_names, by_pairs, pairs-zipped, values}
 use Rattle.smt_types.specs.View.{attributes_of, plain_type, plain_types}
 use Rattle.smt_types.specs.declared.maps.TypeMap.{TypeMap}

@@ -3,11 +3,12 @@ use Rattle.std.proofs.Common.{ℕ, List, [], ◌∷◌, IsTrue, refl}
 use Rattle.std.specs.Cmp.{first_so, second_so}
 use Rattle.std.specs.Cmp.Derive.{both_true}
 use Rattle.std.specs.List.{AllByRecursion}
-use Rattle.smt_meaning.specs.Formed.{attribute_names, IsFormedHere, IsFormedType}
-use Rattle.smt_meaning.specs.Plain.{PlainType, OptionType, SetType}
-use Rattle.smt_meaning.specs.Reached.{types_within, types_within_attributes}
-use Rattle.smt_meaning.specs.ValueOrder.{ascends, is_below, text_cmp}
-use Rattle.smt_meaning.proofs.Defaults.{all-join}
+use Rattle.law_terms.specs.Formed.{IsFormedHere, IsFormedType}
+use Rattle.law_terms.specs.Parts.{attribute_names}
+use Rattle.law_terms.specs.Plain.{PlainType, OptionType, SetType}
+use Rattle.law_terms.specs.Reached.{types_within, types_within_attributes}
+use Rattle.law_terms.specs.ValueOrder.{ascends, is_below, text_cmp}
+use Rattle.law_terms.proofs.Defaults.{all-join}
 use Rattle.smt_types.specs.View.{attributes_of, plain_type, plain_types}
 use Rattle.smt_types.specs.declared.types.TermType.{TermType, Option', Bitvec, Bool, Entity, Ext, String, Record' as RecordOf', Set' as SetOf', Row_of-TermType, end_of-TermType, more_of-TermType}
 

@@ -7,8 +7,8 @@ use Rattle.std.specs.Cmp.Lexicographic.{slice_cmp}
 use Rattle.std.specs.declared.alloc.Global.{Global}
 use Rattle.std.specs.declared.rc.RcStr.{RcStr}
 use Rattle.std.specs.declared.cmp.Ordering.{Ordering}
-use Rattle.smt_meaning.specs.ValueOrder.{text_cmp}
-use Rattle.smt_leaves.specs.Pairs.{attributes_in}
+use Rattle.law_terms.specs.ValueOrder.{text_cmp}
+use Rattle.smt_types.specs.Pairs.{attributes_in}
 
 -- pairs by their attributes, and of one attribute by their values
 abbrev pub by_pairs : {X : Type 0} → (X → X → Ordering) → RcStr Global × X → RcStr Global × X → Ordering

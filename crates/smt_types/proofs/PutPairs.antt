@@ -5,11 +5,11 @@ use Rattle.std.specs.BTreeMap.{insert_entry}
 use Rattle.std.specs.Rc.{rc_str_bytes}
 use Rattle.std.specs.declared.alloc.Global.{Global}
 use Rattle.std.specs.declared.rc.RcStr.{RcStr}
-use Rattle.smt_meaning.proofs.ValueOrder.{text_same}
-use Rattle.smt_meaning.specs.ValueOrder.{text_cmp}
-use Rattle.smt_leaves.specs.SortedPairs.{sorted_pairs}
-use Rattle.smt_leaves.proofs.PutTexts.{by_bytes}
-use Rattle.smt_leaves.proofs.SortedPairs.{pair_put}
+use Rattle.law_terms.proofs.ValueOrder.{text_same}
+use Rattle.law_terms.specs.ValueOrder.{text_cmp}
+use Rattle.smt_types.specs.SortedPairs.{sorted_pairs}
+use Rattle.smt_types.proofs.PutTexts.{by_bytes}
+use Rattle.smt_types.proofs.SortedPairs.{pair_put}
 use Rattle.smt_types.specs.View.{plain_attribute, plain_type}
 use Rattle.smt_types.specs.declared.types.TermType.{TermType}
 

@@ -2,9 +2,9 @@
 use Rattle.std.proofs.Common.{◌≡◌, ℕ, Bool, true, false, cond, List, [], ◌∷◌, Option, Some, None, option_map, refl, ap, ◌∙◌}
 use Rattle.std.specs.Map.{lookup}
 use Rattle.std.specs.Prelude.{bytes_eq, is_some}
-use Rattle.smt_meaning.specs.Plain.{PlainType}
-use Rattle.smt_meaning.specs.Types.{attribute_in, attribute_type}
-use Rattle.smt_types.specs.View.{attribute_types, plain_attributes, plain_type, plain_type-Record}
+use Rattle.law_terms.specs.Plain.{PlainType, attribute_types}
+use Rattle.law_terms.specs.Types.{attribute_in, attribute_type}
+use Rattle.smt_types.specs.View.{plain_attributes, plain_type, plain_type-Record}
 use Rattle.smt_types.specs.declared.maps.TypeMap.{TypeMap}
 use Rattle.smt_types.specs.declared.types.TermType.{TermType, Record}
 

@@ -4,19 +4,19 @@ use Rattle.std.specs.Cmp.{Equal-is}
 use Rattle.std.specs.Ordering.{is_eq, ordering_reverse}
 use Rattle.std.specs.declared.cmp.Ordering.{Ordering}
 use Rattle.std.specs.declared.cmp.Ordering.TheVariants.{Less, Equal, Greater}
-use Rattle.smt_meaning.specs.Plain.{PlainType, EntityType}
-use Rattle.smt_meaning.specs.Types.{type_cmp, type_eq}
-use Rattle.smt_leaves.specs.Entities.{bytes_of_type}
-use Rattle.smt_leaves.specs.declared.entity.EntityType.{EntityType as EntityName}
-use Rattle.smt_leaves.specs.contracts.entity.EntityTypePartialEq.TheImpl as entity_equality
-use Rattle.smt_leaves.specs.contracts.entity.EntityTypeOrd.TheImpl.Laws as entity_laws
+use Rattle.law_terms.specs.Plain.{PlainType, EntityType}
+use Rattle.law_terms.specs.Types.{type_cmp, type_eq}
+use Rattle.smt_types.specs.Entities.{bytes_of_type}
+use Rattle.smt_types.specs.declared.entity.EntityType.{EntityType as EntityName}
+use Rattle.smt_types.specs.contracts.entity.EntityTypePartialEq.TheImpl as entity_equality
+use Rattle.smt_types.specs.contracts.entity.EntityTypeOrd.TheImpl.Laws as entity_laws
 use Rattle.smt_types.specs.View.{plain_type}
 use Rattle.smt_types.specs.declared.types.TermType.{TermType}
 use Rattle.smt_types.specs.contracts.types.TermTypePartialEq.TheImpl as type_equality
 use Rattle.smt_types.specs.contracts.types.TermTypeOrd.TheImpl.Laws as type_laws
 use Rattle.smt_types.proofs.DerivedOrder.{type_cmp-is}
-use Rattle.smt_meaning.proofs.TermTotal.{types_total}
-use Rattle.smt_meaning.proofs.TypeOrder.{type_same, type_itself}
+use Rattle.law_terms.proofs.TermTotal.{types_total}
+use Rattle.law_terms.proofs.TypeOrder.{type_same, type_itself}
 
 -- the derived test is the test on what they say
 pub type_eq-is : (a b : TermType) → type_equality.ghosts.eq a b ≡ type_eq (plain_type a) (plain_type b)

@@ -1,4 +1,16 @@
+pub mod Entities
+pub mod Enums
+pub mod ExtensionView
 pub mod Maps
+pub mod NamedVecs
+pub mod Orders
+pub mod Pairs
+pub mod PatternOrder
+pub mod PatternSearch
+pub mod PatternView
 pub mod Program
+pub mod SortedPairs
+pub mod TextSets
 pub mod TypeKinds
 pub mod View
+pub mod formers

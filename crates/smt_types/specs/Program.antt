@@ -1,9 +1,9 @@
 -- Laws of the program's types: what their code keeps, said of their plain form.
 use Rattle.std.specs.Prelude.{◌≡◌, ◌↔◌, IsTrue}
 use Rattle.std.specs.Cmp.Lexicographic.{slice_cmp}
-use Rattle.smt_meaning.specs.Types.{type_cmp}
-use Rattle.smt_meaning.specs.ValueOrder.{text_cmp}
-use Rattle.smt_leaves.specs.Orders.{AreOrdered, pair_cmp}
+use Rattle.law_terms.specs.Types.{type_cmp}
+use Rattle.law_terms.specs.ValueOrder.{text_cmp}
+use Rattle.smt_types.specs.Orders.{AreOrdered, pair_cmp}
 use Rattle.smt_types.specs.View.{plain_attributes, plain_type}
 use Rattle.smt_types.specs.contracts.maps.TypeMapOrd.TheImpl as map_order
 use Rattle.smt_types.specs.contracts.maps.TypeMapPartialEq.TheImpl as map_equality

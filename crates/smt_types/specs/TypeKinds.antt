@@ -1,8 +1,8 @@
 -- The kinds of types.
 use Rattle.std.specs.Prelude.{ℕ, Bool, true, false, List, codes}
-use Rattle.smt_meaning.specs.Plain.{PlainType, BitVecType, BoolType, EntityType, ExtensionType, OptionType, RecordType, StringType, no_attributes, attribute}
+use Rattle.law_terms.specs.Plain.{PlainType, BitVecType, BoolType, EntityType, ExtensionType, OptionType, RecordType, StringType, no_attributes, attribute}
 
--- the type of literals
+-- whether a type is that of literals
 abbrev pub is_primitive : PlainType → Bool
 is_primitive (BitVecType n) = true
 is_primitive BoolType = true
@@ -11,15 +11,17 @@ is_primitive (ExtensionType k) = true
 is_primitive StringType = true
 is_primitive t = false
 
+-- whether a type is one of entities
 abbrev pub is_entity : PlainType → Bool
 is_entity (EntityType e) = true
 is_entity t = false
 
+-- whether a type is a record type
 abbrev pub is_record : PlainType → Bool
 is_record (RecordType x) = true
 is_record t = false
 
--- options of entities
+-- whether a type is one of options of entities
 abbrev pub is_entity_option : PlainType → Bool
 is_entity_option (OptionType t) = is_entity t
 is_entity_option t = false

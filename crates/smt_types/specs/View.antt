@@ -8,14 +8,14 @@ use Rattle.std.specs.declared.rc.Rc.{Rc}
 use Rattle.std.specs.declared.rc.RcStr.{RcStr}
 use Rattle.smt_bits.specs.Width.{bits_in}
 use Rattle.smt_bits.specs.declared.width.Width.{Width}
-use Rattle.smt_meaning.specs.Plain.{PlainType, OptionType, BitVecType, BoolType, EntityType, ExtensionType, StringType, RecordType, SetType, AttributeTypes, no_attributes, attribute}
-use Rattle.smt_leaves.specs.Entities.{bytes_of_type}
-use Rattle.smt_leaves.specs.ExtensionView.{plain_kind}
-use Rattle.smt_leaves.specs.Pairs.{attributes_in, pairs_of}
-use Rattle.smt_leaves.specs.declared.entity.EntityType.{EntityType as EntityName}
-use Rattle.smt_leaves.specs.declared.extension.ExtType.{ExtType}
-use Rattle.smt_leaves.specs.declared.pairs.AttributePairs.{AttributePairs}
-use Rattle.smt_leaves.specs.formers.pairs.AttributePairs.{attributes-over}
+use Rattle.law_terms.specs.Plain.{PlainType, OptionType, BitVecType, BoolType, EntityType, ExtensionType, StringType, RecordType, SetType, AttributeTypes, no_attributes, attribute, attribute_types}
+use Rattle.smt_types.specs.Entities.{bytes_of_type}
+use Rattle.smt_types.specs.ExtensionView.{plain_kind}
+use Rattle.smt_types.specs.Pairs.{attributes_in, pairs_of}
+use Rattle.smt_types.specs.declared.entity.EntityType.{EntityType as EntityName}
+use Rattle.smt_types.specs.declared.extension.ExtType.{ExtType}
+use Rattle.smt_types.specs.declared.pairs.AttributePairs.{AttributePairs}
+use Rattle.smt_types.specs.NamedVecs.{attributes-over}
 use Rattle.smt_types.specs.declared.maps.TypeMap.{TypeMap}
 use Rattle.smt_types.specs.declared.types.TermType.TheBlock.{hidden-the_row-TermType-0, shape-the_row-TermType-0}
 use Rattle.smt_types.specs.declared.types.TermType.{TermType, Row_of-TermType, end_of-TermType, more_of-TermType, items-the_row-TermType, items_hidden-the_row-TermType-0, Option as OptionOf, Option', Bitvec, Bool, Entity, Ext, String, Record as RecordOf, Record' as RecordOf', Set as SetOf, Set' as SetOf'}
@@ -25,6 +25,7 @@ abbrev pub attributes_of : {X : Type 0} → AttributePairs X → List (List ℕ)
 attributes_of ps = attributes_in (pairs_of ps)
 
 unfoldable mutual
+  -- what a type says
   pub plain_type : TermType → PlainType
   plain_type (Option' p t) = OptionType (plain_type t)
   plain_type (Bitvec n) = BitVecType (bits_in n)
@@ -35,6 +36,7 @@ unfoldable mutual
   plain_type (RecordOf' shape row) = RecordType (plain_types (attributes_of shape) row)
   plain_type (SetOf' p t) = SetType (plain_type t)
 
+  -- the attributes of a record type, by these names and by the types of a row in the same order
   pub plain_types : {m : _} → List (List ℕ) → Row_of-TermType m → AttributeTypes
   plain_types [] row = no_attributes
   plain_types (name ∷ others) end_of-TermType = no_attributes
@@ -52,32 +54,33 @@ plain_attribute p = (rc_str_bytes p.0, plain_type p.1)
 abbrev pub plain_attributes : TypeMap → List (List ℕ × PlainType)
 plain_attributes m = map plain_attribute (attributes_held m)
 
--- attributes and their types as the attributes of a record type
-abbrev pub attribute_types : List (List ℕ × PlainType) → AttributeTypes
-attribute_types [] = no_attributes
-attribute_types (p ∷ ps) = attribute p.0 p.1 (attribute_types ps)
-
--- The equations of the views, by which a proof reads them.
+-- ---- the equations of the view, by which proofs read it
+-- an option type says the option of what its inner type says
 pub plain_type-Option : (t : Rc TermType Global) → plain_type (OptionOf t) ≡ OptionType (plain_type t.value)
 unfolding plain_type
 plain_type-Option t = refl
 
+-- a bitvector type says its number of bits
 pub plain_type-Bitvec : (n : Width) → plain_type (Bitvec n) ≡ BitVecType (bits_in n)
 unfolding plain_type
 plain_type-Bitvec n = refl
 
+-- the type of truth values says itself
 pub plain_type-Bool : plain_type Bool ≡ BoolType
 unfolding plain_type
 plain_type-Bool = refl
 
+-- an entity type says its name
 pub plain_type-Entity : (e : EntityName) → plain_type (Entity e) ≡ EntityType (bytes_of_type e)
 unfolding plain_type
 plain_type-Entity e = refl
 
+-- an extension type says which one it is
 pub plain_type-Ext : (k : ExtType) → plain_type (Ext k) ≡ ExtensionType (plain_kind k)
 unfolding plain_type
 plain_type-Ext k = refl
 
+-- the type of strings says itself
 pub plain_type-String : plain_type String ≡ StringType
 unfolding plain_type
 plain_type-String = refl
@@ -92,6 +95,7 @@ zipped : (ps : List (RcStr Global × TermType)) → zip (attributes_in ps) (map 
 zipped [] = refl
 zipped (p ∷ ps) = ap (λ l. plain_attribute p ∷ l) (zipped ps)
 
+-- a record type says its attributes in order, each with what its type says
 pub plain_type-Record : (m : TypeMap) → plain_type (RecordOf m) ≡ RecordType (attribute_types (plain_attributes m))
 unfolding plain_type shape-the_row-TermType-0
 plain_type-Record m =
@@ -100,8 +104,10 @@ plain_type-Record m =
     ∙ ap (λ ns. attribute_types (zip ns (map plain_type (map (λ p. p.1) m.pairs.items.value.items)))) (attributes-over (λ _. tt) m.pairs.items.value.items)
     ∙ ap attribute_types (zipped m.pairs.items.value.items))
 
+-- a set type says the set of what its element type says
 pub plain_type-Set : (t : Rc TermType Global) → plain_type (SetOf t) ≡ SetType (plain_type t.value)
 unfolding plain_type
 plain_type-Set t = refl
 
+-- these equations together, for proofs that rewrite with them
 pub ruleset views = (plain_type-Option, plain_type-Bitvec, plain_type-Bool, plain_type-Entity, plain_type-Ext, plain_type-String, plain_type-Record, plain_type-Set)

@@ -1,14 +1,16 @@
 // Maps of attributes and their types.
+#![tactic(auto, using(crate::specs::View::views), unfolding(crate::specs::View::plain_type))]
+
 ghost use Rattle.std.specs.Prelude.{◌≡◌, ◌↔◌, [], IfOk, IsTrue, bytes_eq, length, map, option_map};
 ghost use Rattle.std.specs.Map.{lookup};
 ghost use Rattle.std.specs.Rc.{rc_str_bytes};
-ghost use Rattle.smt_meaning.specs.ValueOrder.{ascends, text_cmp};
-ghost use Rattle.smt_leaves.specs.Pairs.{attributes_in};
-ghost use Rattle.smt_leaves.specs.SortedPairs.{sorted_pairs};
+ghost use Rattle.law_terms.specs.ValueOrder.{ascends, text_cmp};
+ghost use Rattle.smt_types.specs.Pairs.{attributes_in};
+ghost use Rattle.smt_types.specs.SortedPairs.{sorted_pairs};
 ghost use Rattle.smt_types.specs.View.{attributes_held, plain_attribute, plain_attributes, plain_type};
 
 use crate::types::TermType;
-use smt_leaves::{Attr, AttributePairs, TermError};
+use crate::{Attr, AttributePairs, TermError};
 use smt_text::share_text;
 use std::alloc::Global;
 use std::collections::BTreeMap;

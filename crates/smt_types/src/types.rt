@@ -1,16 +1,18 @@
 // The types of terms.
+#![tactic(auto, using(crate::specs::View::views), unfolding(crate::specs::View::plain_type))]
+
 ghost use Rattle.std.specs.Prelude.{◌≡◌, IfOk, is_some, option_map};
 ghost use Rattle.std.specs.Rc.{rc_str_bytes};
 ghost use Rattle.smt_bits.specs.Width.{bits_in};
-ghost use Rattle.smt_meaning.specs.Plain.{EntityType as EntityTypeOf, OptionType, SetType};
-ghost use Rattle.smt_meaning.specs.Types.{attribute_type, inner_type, is_set, is_type, type_eq, width_in};
-ghost use Rattle.smt_leaves.specs.Entities.{bytes_of_type};
+ghost use Rattle.law_terms.specs.Plain.{EntityType as EntityTypeOf, OptionType, SetType};
+ghost use Rattle.law_terms.specs.Types.{attribute_type, inner_type, is_set, is_type, type_eq, width_in};
+ghost use Rattle.smt_types.specs.Entities.{bytes_of_type};
 ghost use Rattle.smt_types.specs.TypeKinds.{is_entity, is_entity_option, is_primitive, is_record, tag_type};
 ghost use Rattle.smt_types.specs.View.{plain_type};
 
 use crate::maps::TypeMap;
+use crate::{Attr, EntityType, ExtType, TermError};
 use smt_bits::Width;
-use smt_leaves::{Attr, EntityType, ExtType, TermError};
 use smt_text::Text;
 use std::alloc::Global;
 use std::rc::Rc;

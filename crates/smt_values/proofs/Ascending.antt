@@ -7,8 +7,8 @@ use Rattle.std.specs.Map.{keys_of}
 use Rattle.std.specs.Ordering.{is_lt, match_ordering}
 use Rattle.std.specs.declared.cmp.Ordering.{Ordering}
 use Rattle.std.specs.declared.cmp.Ordering.TheVariants.{Less, Equal, Greater}
-use Rattle.smt_leaves.specs.SortedPairs.{sorted_pairs}
-use Rattle.smt_meaning.specs.ValueOrder.{ascends, is_below, sorted}
+use Rattle.smt_types.specs.SortedPairs.{sorted_pairs}
+use Rattle.law_terms.specs.ValueOrder.{ascends, is_below, sorted}
 
 module _ {K : Type 0} (cmp : K → K → Ordering) where
   chosen : (k x : K) (xs rest : List K) (r : Ordering) → is_lt r ≡ true → match_ordering r (k ∷ x ∷ xs) (x ∷ xs) (x ∷ rest) ≡ k ∷ x ∷ xs

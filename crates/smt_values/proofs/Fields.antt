@@ -4,14 +4,14 @@ use Rattle.std.proofs.lemmas.List.{at_drop_more, at_drop_all}
 use Rattle.std.specs.Rc.{rc_str_bytes}
 use Rattle.std.specs.declared.alloc.Global.{Global}
 use Rattle.std.specs.declared.rc.RcStr.{RcStr}
-use Rattle.smt_cedar_values.specs.Plain.{PlainValue, record_fields}
-use Rattle.smt_cedar_values.specs.View.{named_field, plain_value_of}
-use Rattle.smt_cedar_values.specs.declared.value.Value.{Value}
+use Rattle.smt_cedar.specs.Plain.{PlainValue, value_fields}
+use Rattle.smt_cedar.specs.ValueView.{named_field, plain_value_of}
+use Rattle.smt_cedar.specs.declared.value.Value.{Value}
 use Rattle.smt_values.specs.TermOfValue.{field_named}
 
 -- the value of an attribute in pairs
 abbrev pub found : List ℕ → List (RcStr Global × Value) → Option PlainValue
-found name pairs = field_named name (record_fields (map named_field pairs))
+found name pairs = field_named name (value_fields (map named_field pairs))
 
 module _ (name : List ℕ) (all : List (RcStr Global × Value)) (i : ℕ) (so_far : found name (drop i all) ≡ found name all) where
   pub nothing_found : length all ≤ i → None ≡ found name all

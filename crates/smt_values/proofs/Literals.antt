@@ -2,18 +2,18 @@
 use Rattle.std.proofs.Common.{◌≡◌, ℕ, Bool, true, false, List, [], ◌∷◌, Option, Some, None, Ok, Err, refl, subst}
 use Rattle.std.specs.Prelude.{◌&&◌}
 use Rattle.std.specs.List.{AllByRecursion}
-use Rattle.smt_arithmetic.specs.Extensions.{PlainExtension}
-use Rattle.smt_folding.specs.FoldRecords.{fields, record_of_pairs, sorted_fields}
-use Rattle.smt_meaning.specs.Literals.{are_literal_fields, are_literals, is_literal}
-use Rattle.smt_meaning.specs.Plain.{PlainType, PlainTerm, NoneTerm, terms}
-use Rattle.smt_meaning.specs.TermSets.{set_term, sorted_terms}
-use Rattle.smt_meaning.specs.ValueOrder.{text_cmp}
-use Rattle.smt_meaning.proofs.Sorted.{all-sorted}
-use Rattle.smt_meaning.proofs.SortedSets.{all-terms}
-use Rattle.smt_cedar_types.specs.Cedar.{PlainCedar, SetType, ClosedRecordType, CedarAttributes, no_attributes, attribute}
-use Rattle.smt_cedar_types.specs.TypeOfCedar.{type_of_cedar}
-use Rattle.smt_cedar_values.specs.Constructors.{value_of_value}
-use Rattle.smt_cedar_values.specs.Plain.{CedarLiteral, TruthOf, LongOf, TextOf, EntityOf, PlainValue, LiteralValue, SetValue, RecordValue, ExtensionValue, PlainValues, no_values, one_value, PlainFields}
+use Rattle.law_numbers.specs.Extensions.{PlainExtension}
+use Rattle.law_folding.specs.FoldRecords.{record_of_pairs, sorted_fields}
+use Rattle.law_terms.specs.Literals.{are_literal_fields, are_literals, is_literal}
+use Rattle.law_terms.specs.Plain.{PlainType, PlainTerm, NoneTerm, terms, record_fields}
+use Rattle.law_terms.specs.TermSets.{set_term, sorted_terms}
+use Rattle.law_terms.specs.ValueOrder.{text_cmp}
+use Rattle.law_terms.proofs.Sorted.{all-sorted}
+use Rattle.law_terms.proofs.SortedSets.{all-terms}
+use Rattle.smt_cedar.specs.Cedar.{PlainCedar, SetType, ClosedRecordType, CedarAttributes, no_attributes, attribute}
+use Rattle.smt_cedar.specs.TypeOfCedar.{type_of_cedar}
+use Rattle.smt_cedar.specs.Constructors.{value_of_value}
+use Rattle.smt_cedar.specs.Plain.{CedarLiteral, TruthOf, LongOf, TextOf, EntityOf, PlainValue, LiteralValue, SetValue, RecordValue, ExtensionValue, PlainValues, no_values, one_value, PlainFields}
 use Rattle.smt_values.specs.Literals.{TermsAreLiterals}
 use Rattle.smt_values.specs.Outcomes.{Outcome, ◌>>=◌, converted}
 use Rattle.smt_values.specs.TermOfValue.{extension_term, field_named, literal_term, term_at_any_type, term_held, term_lacked, term_of_attribute, term_of_value, terms_of_attributes, terms_of_elements}
@@ -99,9 +99,9 @@ pair_given name (Ok t) (Ok ts) h g = (h, g)
 pair_given name (Ok t) (Err fault) h g = tt
 pair_given name (Err fault) os h g = tt
 
-all_fields : (ps : List (List ℕ × PlainTerm)) → AllByRecursion IsPair ps → are_literal_fields (fields ps) ≡ true
+all_fields : (ps : List (List ℕ × PlainTerm)) → AllByRecursion IsPair ps → are_literal_fields (record_fields ps) ≡ true
 all_fields [] h = refl
-all_fields (p ∷ ps) h = let first : is_literal p.1 ≡ true = h.0 in let rest : are_literal_fields (fields ps) ≡ true = all_fields ps h.1 in λ i. first i && rest i
+all_fields (p ∷ ps) h = let first : is_literal p.1 ≡ true = h.0 in let rest : are_literal_fields (record_fields ps) ≡ true = all_fields ps h.1 in λ i. first i && rest i
 
 record_given : (os : Outcome (List (List ℕ × PlainTerm))) → GivesPairs os → Gives (os >>= λ ps. Ok (record_of_pairs ps))
 record_given (Ok ps) h = all_fields (sorted_fields ps) (all-sorted (λ p q. text_cmp p.0 q.0) IsPair ps h)

@@ -1,31 +1,34 @@
 -- Values at types, each with its term or with its first fault.
 use Rattle.std.specs.Prelude.{◌≡◌, ℕ, true, false, pos, negsuc, codes, List, [], ◌∷◌, Ok, Err}
-use Rattle.smt_arithmetic.specs.Extensions.{DecimalOf}
-use Rattle.smt_meaning.specs.Plain.{BitVecLiteral, BoolLiteral, EntityLiteral, ExtensionLiteral, PlainTerm, LiteralTerm, NoneTerm, RecordTerm, SetTerm, SomeTerm, BitVecType, BoolType, no_terms, one_term, no_fields as no_term_fields, one_field as term_field}
-use Rattle.smt_cedar_types.specs.Cedar.{PlainCedar, NeverType, AnyBoolType, OneBoolType, LongType, TextType, SetType, EmptySetType, ClosedRecordType, OpenRecordType, CedarAttributes, no_attributes, attribute}
-use Rattle.smt_cedar_values.specs.Constructed.{call_with}
-use Rattle.smt_cedar_values.specs.Plain.{TruthOf, LongOf, EntityOf, PlainValue, LiteralValue, SetValue, ExtensionValue, RecordValue, no_fields, one_field, no_values, values}
+use Rattle.law_numbers.specs.Extensions.{DecimalOf}
+use Rattle.law_terms.specs.Plain.{BitVecLiteral, BoolLiteral, EntityLiteral, ExtensionLiteral, PlainTerm, LiteralTerm, NoneTerm, RecordTerm, SetTerm, SomeTerm, BitVecType, BoolType, no_terms, one_term, no_fields as no_term_fields, one_field as term_field}
+use Rattle.smt_cedar.specs.Cedar.{PlainCedar, NeverType, AnyBoolType, OneBoolType, LongType, TextType, SetType, EmptySetType, ClosedRecordType, OpenRecordType, CedarAttributes, no_attributes, attribute}
+use Rattle.smt_cedar.specs.Constructed.{call_with}
+use Rattle.smt_cedar.specs.Plain.{TruthOf, LongOf, EntityOf, PlainValue, LiteralValue, SetValue, ExtensionValue, RecordValue, no_fields, one_field, no_values, values}
 use Rattle.smt_values.specs.Outcomes.{NoTerm, NoExtension, Unsupported}
 use Rattle.smt_values.specs.TermOfValue.{term_of_value}
 
--- numbers as values and as terms
+-- a number as a Cedar value
 abbrev pub long : ℕ → PlainValue
 long n = LiteralValue (LongOf (pos n))
 
+-- a number as a term: a literal of 64 bits
 abbrev pub bits : ℕ → PlainTerm
 bits n = LiteralTerm (BitVecLiteral 64 n)
 
--- `decimal("1.0")`, and a call that says nothing
+-- `decimal("1.0")`, which says a decimal value
 abbrev pub one : PlainValue
 one = ExtensionValue (call_with (codes "decimal") (codes "1.0"))
 
+-- `decimal("1")`, which says no value, since its text has no point
 abbrev pub bad : PlainValue
 bad = ExtensionValue (call_with (codes "decimal") (codes "1"))
 
+-- the text that refuses the type of no values
 abbrev pub no_type : List ℕ
 no_type = codes "never type is not supported"
 
--- Values with no parts, at types that are not theirs.
+-- Values that are neither sets nor records, which have one term even at types that are not theirs.
 pub record PartExamples : Type 0 where
   pub truth : term_of_value NeverType (LiteralValue (TruthOf true)) ≡ Ok (LiteralTerm (BoolLiteral true))
   pub below_zero : term_of_value TextType (LiteralValue (LongOf (negsuc 0))) ≡ Ok (bits 18446744073709551615)
@@ -33,7 +36,7 @@ pub record PartExamples : Type 0 where
   pub extension : term_of_value LongType one ≡ Ok (LiteralTerm (ExtensionLiteral (DecimalOf (pos 10000))))
   pub no_extension : term_of_value LongType bad ≡ Err (NoExtension bad)
 
--- Sets.
+-- Sets at types, each with its term or with its first fault.
 pub record SetExamples : Type 0 where
   pub sorted : term_of_value (SetType LongType) (SetValue (values (long 2 ∷ long 1 ∷ long 2 ∷ []))) ≡ Ok (SetTerm (BitVecType 64) (one_term (bits 1) (one_term (bits 2) no_terms)))
   pub empty : term_of_value (SetType AnyBoolType) (SetValue no_values) ≡ Ok (SetTerm BoolType no_terms)
@@ -47,11 +50,11 @@ pub record SetExamples : Type 0 where
   pub no_element_type : term_of_value EmptySetType (SetValue no_values) ≡ Err (NoTerm (SetValue no_values))
   pub no_set_type : term_of_value LongType (SetValue (values (bad ∷ []))) ≡ Err (NoTerm (SetValue (values (bad ∷ []))))
 
--- records of `a`, which they need not have, and of `b`, which they need to
+-- the attributes of a record type: `a`, which a record need not have, and `b`, which it has to have, of these types
 abbrev pub both : (a b : PlainCedar) → CedarAttributes
 both a b = attribute (codes "a") a false (attribute (codes "b") b true no_attributes)
 
--- Records.
+-- Records at types, each with its term or with its first fault.
 pub record RecordExamples : Type 0 where
   pub there : term_of_value (ClosedRecordType (both LongType LongType)) (RecordValue (one_field (codes "a") (long 1) (one_field (codes "b") (long 2) no_fields)))
       ≡ Ok (RecordTerm (term_field (codes "a") (SomeTerm (bits 1)) (term_field (codes "b") (bits 2) no_term_fields)))

@@ -1,6 +1,13 @@
 pub mod DefaultTerm
+pub mod Entries
 pub mod Examples
 pub mod Literals
 pub mod Outcomes
+pub mod Plain
 pub mod Refused
+pub mod StoreExamples
+pub mod StoreLaws
+pub mod Stores
 pub mod TermOfValue
+pub mod Uids
+pub mod View

@@ -1,9 +1,9 @@
 -- What terms of values are.
 use Rattle.std.specs.Prelude.{◌≡◌, IsTrue, Ok}
-use Rattle.smt_meaning.specs.Literals.{is_literal}
-use Rattle.smt_meaning.specs.Plain.{PlainTerm}
-use Rattle.smt_cedar_types.specs.Cedar.{PlainCedar}
-use Rattle.smt_cedar_values.specs.Plain.{PlainValue}
+use Rattle.law_terms.specs.Literals.{is_literal}
+use Rattle.law_terms.specs.Plain.{PlainTerm}
+use Rattle.smt_cedar.specs.Cedar.{PlainCedar}
+use Rattle.smt_cedar.specs.Plain.{PlainValue}
 use Rattle.smt_values.specs.TermOfValue.{term_of_value}
 
 -- every term of a value, at every type, is a literal: it has no variable and no application in it

@@ -1,30 +1,32 @@
 -- The term that stands for a Cedar value at a Cedar type, or the first fault from the left.
 use Rattle.std.specs.Prelude.{ℕ, Bool, true, false, bytes_eq, List, [], ◌∷◌, Option, Some, None, Ok, Err, if◌then◌else◌}
-use Rattle.smt_arithmetic.specs.BitVectors.{bits_of}
-use Rattle.smt_arithmetic.specs.Extensions.{PlainExtension}
-use Rattle.smt_folding.specs.FoldRecords.{record_of_pairs}
-use Rattle.smt_meaning.specs.Plain.{BitVecLiteral, BoolLiteral, EntityLiteral, ExtensionLiteral, StringLiteral, PlainTerm, LiteralTerm, NoneTerm, SomeTerm}
-use Rattle.smt_meaning.specs.TermSets.{set_term}
-use Rattle.smt_cedar_types.specs.Cedar.{PlainCedar, SetType, ClosedRecordType, CedarAttributes, no_attributes, attribute}
-use Rattle.smt_cedar_types.specs.TypeOfCedar.{type_of_cedar}
-use Rattle.smt_cedar_values.specs.Constructors.{value_of_value}
-use Rattle.smt_cedar_values.specs.Plain.{CedarLiteral, TruthOf, LongOf, TextOf, EntityOf, PlainValue, LiteralValue, SetValue, RecordValue, ExtensionValue, PlainValues, no_values, one_value, PlainFields, no_fields, one_field}
+use Rattle.law_numbers.specs.BitVectors.{bits_of}
+use Rattle.law_numbers.specs.Extensions.{PlainExtension}
+use Rattle.law_folding.specs.FoldRecords.{record_of_pairs}
+use Rattle.law_terms.specs.Plain.{BitVecLiteral, BoolLiteral, EntityLiteral, ExtensionLiteral, StringLiteral, PlainTerm, LiteralTerm, NoneTerm, SomeTerm}
+use Rattle.law_terms.specs.TermSets.{set_term}
+use Rattle.smt_cedar.specs.Cedar.{PlainCedar, SetType, ClosedRecordType, CedarAttributes, no_attributes, attribute}
+use Rattle.smt_cedar.specs.TypeOfCedar.{type_of_cedar}
+use Rattle.smt_cedar.specs.Constructors.{value_of_value}
+use Rattle.smt_cedar.specs.Plain.{CedarLiteral, TruthOf, LongOf, TextOf, EntityOf, PlainValue, LiteralValue, SetValue, RecordValue, ExtensionValue, PlainValues, no_values, one_value, PlainFields, no_fields, one_field}
 use Rattle.smt_values.specs.Outcomes.{Outcome, ◌>>=◌, converted, NoTerm, NoExtension}
 
 -- ---- values that have one term at every type
 
--- a Long is a bitvector of 64 bits
+-- the term that stands for a literal of Cedar; a Long is the bitvector of its 64 bits in two's complement (theory
+-- FixedSizeBitVectors)
 abbrev pub literal_term : CedarLiteral → PlainTerm
 literal_term (TruthOf b) = LiteralTerm (BoolLiteral b)
 literal_term (LongOf n) = LiteralTerm (BitVecLiteral 64 (bits_of 64 n))
 literal_term (TextOf text) = LiteralTerm (StringLiteral text)
 literal_term (EntityOf type id) = LiteralTerm (EntityLiteral type id)
 
+-- the literal of the value of an extension type that a Cedar value is, or the fault that it is none
 abbrev pub extension_term : PlainValue → Option PlainExtension → Outcome PlainTerm
 extension_term v (Some x) = Ok (LiteralTerm (ExtensionLiteral x))
 extension_term v None = Err (NoExtension v)
 
--- a literal and a value of an extension type; a set and a record have none
+-- the term that a value has at any type: a literal and a value of an extension type have one, a set and a record have none
 abbrev pub term_at_any_type : PlainValue → Outcome PlainTerm
 term_at_any_type (LiteralValue literal) = Ok (literal_term literal)
 term_at_any_type (ExtensionValue e) = extension_term (ExtensionValue e) (value_of_value (ExtensionValue e))
@@ -33,7 +35,7 @@ term_at_any_type (RecordValue held) = Err (NoTerm (RecordValue held))
 
 -- ---- the elements of sets, and the attributes of records
 
--- the terms of the elements, in order
+-- the terms of the elements of a set, in order, or the first fault among them, by what `term_of` states of each
 abbrev pub terms_of_elements : (term_of : PlainValue → Outcome PlainTerm) → PlainValues → Outcome (List PlainTerm)
 terms_of_elements term_of no_values = Ok []
 terms_of_elements term_of (one_value v vs) = term_of v >>= λ t. terms_of_elements term_of vs >>= λ ts. Ok (t ∷ ts)
@@ -53,6 +55,8 @@ abbrev pub term_lacked : (required : Bool) → PlainCedar → PlainFields → Ou
 term_lacked true type held = Err (NoTerm (RecordValue held))
 term_lacked false type held = converted (type_of_cedar type) >>= λ own. Ok (NoneTerm own)
 
+-- the term of an attribute in a record of these fields, by the type of the attribute, whether it is required, and its value in
+-- the record, where the record has it
 abbrev pub term_of_attribute : (term_of : PlainValue → Outcome PlainTerm) → PlainCedar → (required : Bool) → PlainFields → Option PlainValue → Outcome PlainTerm
 term_of_attribute term_of type required held (Some v) = term_of v >>= λ t. Ok (term_held required t)
 term_of_attribute term_of type required held None = term_lacked required type held
@@ -60,6 +64,9 @@ term_of_attribute term_of type required held None = term_lacked required type he
 -- ---- all values
 
 abbrev mutual
+  -- The term that stands for a Cedar value at a Cedar type, or the first fault from the left: of a set at a set type the set of
+  -- its elements' terms, of a record at a closed record type the record of the terms of the type's attributes, and of any other
+  -- value its term at any type.
   pub term_of_value : PlainCedar → PlainValue → Outcome PlainTerm
   term_of_value (SetType element) (SetValue vs) = terms_of_elements (term_of_value element) vs >>= λ ts. converted (type_of_cedar element) >>= λ own. Ok (set_term own ts)
   term_of_value (ClosedRecordType named) (RecordValue held) = terms_of_attributes named held >>= λ ps. Ok (record_of_pairs ps)

@@ -1,25 +1,27 @@
 // The defaults of types.
+#![tactic(auto, using(smt_cedar::specs::TypeView::cedar_views, smt_cedar::specs::ValueView::value_views, smt_term::specs::View::views))]
+
 ghost use Rattle.std.specs.Prelude.{◌≡◌, IfOk, map};
 ghost use Rattle.std.specs.Rc.{rc_str_bytes};
 ghost use Rattle.smt_ext.specs.ExtOrder.{plain_value};
-ghost use Rattle.smt_leaves.specs.Entities.{bytes_of_id, bytes_of_type};
-ghost use Rattle.smt_leaves.specs.Enums.{enums_of};
-ghost use Rattle.smt_folding.specs.FoldRecords.{record_of_pairs};
-ghost use Rattle.smt_leaves.specs.ExtensionView.{plain_kind};
-ghost use Rattle.smt_meaning.specs.Defaults.{default_extension};
-ghost use Rattle.smt_meaning.specs.TypeValues.{members_of};
-ghost use Rattle.smt_term.specs.View.{attribute_types, plain_attributes, plain_field, plain_term, plain_type};
+ghost use Rattle.smt_types.specs.Entities.{bytes_of_id, bytes_of_type};
+ghost use Rattle.smt_types.specs.Enums.{enums_of};
+ghost use Rattle.law_folding.specs.FoldRecords.{record_of_pairs};
+ghost use Rattle.smt_types.specs.ExtensionView.{plain_kind};
+ghost use Rattle.law_terms.specs.Defaults.{default_extension};
+ghost use Rattle.law_terms.specs.TypeValues.{members_of};
+ghost use Rattle.smt_term.specs.View.{plain_attributes, plain_field, plain_term, plain_type};
+ghost use Rattle.law_terms.specs.Plain.{attribute_types};
 ghost use Rattle.smt_values.specs.DefaultTerm as stated;
 ghost use Rattle.smt_values.specs.DefaultTerm.{default_term};
 
 use smt_bits::BitVec;
-use smt_collection_terms::set_of;
 use smt_ext::{Datetime, Decimal, Duration, Ext, IPNet};
-use smt_leaves::{Attr, EntityID, EntityType, EntityUID, EnumTable, ExtType, TermError, Text};
-use smt_parts::none_of;
-use smt_record_terms::record_of;
+use smt_factory_bits::none_of;
+use smt_factory_core::{record_of, set_of};
 use smt_term::{Term, TermType, TypeMap};
 use smt_text::share_text;
+use smt_types::{Attr, EntityID, EntityType, EntityUID, EnumTable, ExtType, TermError, Text};
 use std::alloc::{AllocError, Global};
 
 /// The default of a type: false, 0, the empty text, the entity of the empty id or of an enum type's first member, none, the

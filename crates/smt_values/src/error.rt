@@ -1,7 +1,8 @@
 // Why a value has no term.
-use smt_cedar_types::CompileError;
-use smt_cedar_values::{ExtError, Value};
-use smt_leaves::TermError;
+#![tactic(auto, using(smt_cedar::specs::TypeView::cedar_views, smt_cedar::specs::ValueView::value_views, smt_term::specs::View::views))]
+
+use smt_cedar::{CompileError, ExtError, Value};
+use smt_types::TermError;
 use std::alloc::{AllocError, AllocFailed};
 use thiserror::Error;
 

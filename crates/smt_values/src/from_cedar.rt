@@ -1,26 +1,29 @@
 // The terms that stand for Cedar's values.
+#![tactic(auto, using(smt_cedar::specs::TypeView::cedar_views, smt_cedar::specs::ValueView::value_views, smt_term::specs::View::views))]
+
 ghost use Rattle.std.specs.Prelude.{◌≡◌, IfErr, IfOk, Ok, map, option_map};
 ghost use Rattle.std.specs.Rc.{rc_str_bytes};
 ghost use Rattle.smt_term.specs.View.{plain_field, plain_term};
-ghost use Rattle.smt_cedar_types.specs.Cedar.{ClosedRecordType};
-ghost use Rattle.smt_cedar_types.specs.View.{plain_cedar, plain_cedar_attributes, record_with, set_with};
-ghost use Rattle.smt_cedar_values.specs.Constructors.{value_of_value};
-ghost use Rattle.smt_cedar_values.specs.Plain.{RecordValue, SetValue, record_fields, values};
-ghost use Rattle.smt_cedar_values.specs.View.{named_fields, plain_literal, plain_value_of, values_held};
+ghost use Rattle.smt_cedar.specs.Cedar.{ClosedRecordType};
+ghost use Rattle.smt_cedar.specs.TypeView.{plain_cedar, plain_cedar_attributes, record_with, set_with};
+ghost use Rattle.smt_cedar.specs.Constructors.{value_of_value};
+ghost use Rattle.smt_cedar.specs.Plain.{RecordValue, SetValue, values, value_fields};
+ghost use Rattle.smt_cedar.specs.ValueView.{named_fields, plain_literal, plain_value_of, values_held};
 ghost use Rattle.smt_values.specs.Refused.{IsGiven, IsNoTerm, IsRefusal};
 ghost use Rattle.smt_values.specs.TermOfValue as stated;
 ghost use Rattle.smt_values.specs.TermOfValue.{literal_term, term_of_value};
 
 use crate::error::SymbolizeError;
-use smt_cedar_types::{AttributeType, Attributes, CedarType, OfType, OpenTag};
-use smt_cedar_values::{ExtFromCedar, Literal, Value, ValueList, ValueMap};
-use smt_collection_terms::set_of;
+use smt_cedar::{
+    AttributeType, Attributes, CedarType, ExtFromCedar, Literal, OfType, OpenTag, Value, ValueList,
+    ValueMap,
+};
 use smt_ext::Ext;
-use smt_leaves::{Attr, TermError};
-use smt_parts::{none_of, some_of};
-use smt_record_terms::record_of;
+use smt_factory_bits::{none_of, some_of};
+use smt_factory_core::{record_of, set_of};
 use smt_term::{Term, TermType};
 use smt_text::share_text;
+use smt_types::{Attr, TermError};
 use std::alloc::Global;
 use std::rc::Rc;
 
@@ -39,6 +42,18 @@ pub trait FromCedar {
     /// at a set type with an element type. A record has, at a closed record type, the record of the terms of the type's
     /// attributes: where the type does not require the attribute, some of its term, or none where the record lacks it.
     /// Attributes that the type lacks are dropped.
+    ///
+    /// # Examples
+    ///
+    /// ```
+    /// use kembura::Term;
+    /// use kembura::cedar::{CedarType, Literal, Value};
+    /// use kembura::values::FromCedar;
+    ///
+    /// let ten = Value::Lit(Literal::Long(10));
+    /// let term = Term::from_value(alloc, &ten, &CedarType::Long)?;
+    /// assert_eq!(rt; term, Term::from(10i64));
+    /// ```
     ///
     /// # Errors
     /// The first of these from the left, the elements of a set before its element type:
@@ -69,7 +84,7 @@ impl FromCedar for Term {
 
 /// The value of an attribute, where the record has it.
 fn field_named<'a>(fields: &'a ValueMap, name: &Attr) -> Option<&'a Value>
-    ensures { option_map (λ v. plain_value_of v.now) result ≡ stated.field_named (rc_str_bytes name.now) (record_fields (named_fields fields.now)) }
+    ensures { option_map (λ v. plain_value_of v.now) result ≡ stated.field_named (rc_str_bytes name.now) (value_fields (named_fields fields.now)) }
 {
     for (other, value) in fields.items() {
         if name == other {
@@ -91,7 +106,7 @@ fn no_set(elements: &ValueList) -> SymbolizeError
 
 /// The refusal of a record.
 fn no_record(fields: &ValueMap) -> SymbolizeError
-    ensures { IsNoTerm result (RecordValue (record_fields (named_fields fields.now))) }
+    ensures { IsNoTerm result (RecordValue (value_fields (named_fields fields.now))) }
 {
     match fields.share() {
         Ok(given) => SymbolizeError::UnableToSymbolizeValue(Value::Record(given)),
@@ -154,7 +169,7 @@ fn held(alloc: Global, is_required: bool, term: Term) -> Result<Term, TermError>
 
 /// The term of an attribute that a record lacks: none, where the type does not require it.
 fn lacked(alloc: Global, ty: &AttributeType, fields: &ValueMap) -> Result<Term, SymbolizeError>
-    ensures { IsGiven plain_term result (stated.term_lacked ty.now.is_required (plain_cedar ty.now.attr_type) (record_fields (named_fields fields.now))) }
+    ensures { IsGiven plain_term result (stated.term_lacked ty.now.is_required (plain_cedar ty.now.attr_type) (value_fields (named_fields fields.now))) }
 {
     if ty.is_required {
         Err(no_record(fields))
@@ -171,7 +186,7 @@ fn attribute_term(
     name: &Attr,
     fields: &ValueMap,
 ) -> Result<Term, SymbolizeError>
-    ensures { IsGiven plain_term result (stated.term_of_attribute (term_of_value (plain_cedar ty.now.attr_type)) (plain_cedar ty.now.attr_type) ty.now.is_required (record_fields (named_fields fields.now)) (stated.field_named (rc_str_bytes name.now) (record_fields (named_fields fields.now)))) }
+    ensures { IsGiven plain_term result (stated.term_of_attribute (term_of_value (plain_cedar ty.now.attr_type)) (plain_cedar ty.now.attr_type) ty.now.is_required (value_fields (named_fields fields.now)) (stated.field_named (rc_str_bytes name.now) (value_fields (named_fields fields.now)))) }
 {
     match field_named(fields, name) {
         Some(v) => {
@@ -189,7 +204,7 @@ fn attribute_terms(
     attrs: &Attributes,
     fields: &ValueMap,
 ) -> Result<Vec<(Attr, Term)>, SymbolizeError>
-    ensures { IsGiven (λ pairs. map plain_field pairs.items) result (stated.terms_of_attributes (plain_cedar_attributes attrs.now) (record_fields (named_fields fields.now))) }
+    ensures { IsGiven (λ pairs. map plain_field pairs.items) result (stated.terms_of_attributes (plain_cedar_attributes attrs.now) (value_fields (named_fields fields.now))) }
 {
     let mut pairs: Vec<(Attr, Term)> = Vec::new(alloc);
     for (name, ty) in attrs.items() {
@@ -207,7 +222,7 @@ fn record_term(
     open_attributes: OpenTag,
     fields: &ValueMap,
 ) -> Result<Term, SymbolizeError>
-    ensures { IsGiven plain_term result (term_of_value (record_with open_attributes (plain_cedar_attributes attrs.now)) (RecordValue (record_fields (named_fields fields.now)))) }
+    ensures { IsGiven plain_term result (term_of_value (record_with open_attributes (plain_cedar_attributes attrs.now)) (RecordValue (value_fields (named_fields fields.now)))) }
 {
     match open_attributes {
         OpenTag::OpenAttributes => Err(no_record(fields)),
@@ -238,7 +253,7 @@ fn term_of_set(alloc: Global, ty: &CedarType, elements: &ValueList) -> Result<Te
 /// The term of a record at a type.
 #[cycle(term_of)]
 fn term_of_record(alloc: Global, ty: &CedarType, fields: &ValueMap) -> Result<Term, SymbolizeError>
-    ensures { IsGiven plain_term result (term_of_value (plain_cedar ty.now) (RecordValue (record_fields (named_fields fields.now)))) }
+    ensures { IsGiven plain_term result (term_of_value (plain_cedar ty.now) (RecordValue (value_fields (named_fields fields.now)))) }
 {
     match ty {
         CedarType::Record {
@@ -277,7 +292,7 @@ pub fn from_record(
     fields: &ValueMap,
     attrs: &Attributes,
 ) -> Result<Term, SymbolizeError>
-    ensures { IsGiven plain_term result (term_of_value (ClosedRecordType (plain_cedar_attributes attrs.now)) (RecordValue (record_fields (named_fields fields.now)))) }
+    ensures { IsGiven plain_term result (term_of_value (ClosedRecordType (plain_cedar_attributes attrs.now)) (RecordValue (value_fields (named_fields fields.now)))) }
 {
     record_term(alloc, attrs, OpenTag::ClosedAttributes, fields)
 }

@@ -1,9 +1,9 @@
 //! `smtcli`: the script of a job, a solver's verdict on it, or why there is none.
 #![tactic(auto)]
 
-use smt_children::ChildStarter;
 use smt_cli::{ReadSource, Refusal, run};
 use smt_script::{BufferedSink, WriteSink};
+use smt_solve::ChildStarter;
 use smt_term::Text;
 use std::alloc::Global;
 use std::env;

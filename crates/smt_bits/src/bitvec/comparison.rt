@@ -1,7 +1,7 @@
 //! The comparisons of the theory FixedSizeBitVectors and of the logic QF_BV.
 ghost use Rattle.std.specs.Prelude.{◌≡◌, IfOk, IfErr, OnOk};
 ghost use Rattle.smt_bits.specs.BitVec.{width_of, number_of, IsMismatch};
-ghost use Rattle.smt_arithmetic.specs.BitVectors.{bvult, bvule, bvslt, bvsle};
+ghost use Rattle.law_numbers.specs.BitVectors.{bvult, bvule, bvslt, bvsle};
 
 use super::BitVec;
 use crate::error::{BitVecError, BvCall};

@@ -1,8 +1,8 @@
 //! Operators that move bits to other places: shifts, extraction, concatenation and extension.
 ghost use Rattle.std.specs.Prelude.{◌≡◌, ◌+◌, ◌-◌, ◌≤◌, ◌<◌, ◌⊎◌, IfOk, IfErr, OnOk};
 ghost use Rattle.smt_bits.specs.BitVec.{width_of, number_of, RefusesShift};
-ghost use Rattle.smt_arithmetic.specs.Shifts.{greatest_shift};
-ghost use Rattle.smt_arithmetic.specs.BitVectors.{bvshl, bvlshr, concat, extract, resize};
+ghost use Rattle.law_numbers.specs.Shifts.{greatest_shift};
+ghost use Rattle.law_numbers.specs.BitVectors.{bvshl, bvlshr, concat, extract, resize};
 ghost use Rattle.smt_bits.specs.Width.{bits_in};
 
 use super::BitVec;

@@ -1,6 +1,6 @@
 //! The moment that the numbers of a datetime's text name.
 ghost use Rattle.std.specs.Prelude.{◌≡◌, ◌<◌, ℤ, pos, neg_ℤ, ◌≤ℤ◌, IfSome, IfNone};
-ghost use Rattle.smt_arithmetic.specs.Longs.{IsLong};
+ghost use Rattle.law_numbers.specs.Longs.{IsLong};
 ghost use Rattle.smt_ext.specs.DatetimeText.{DayFits, ZoneFits, ClockFits, is_far, is_barred, is_time, IsRealDay, IsReal, IsDayNumber, zone_offset, clock_value, IsStampValue};
 
 use super::MILLISECONDS_PER_DAY;

@@ -2,9 +2,9 @@
 ghost use Rattle.std.specs.Prelude.{◌≡◌, ℕ, ◌+◌, ◌*◌, ◌<◌, ◌∷◌, List, IsTrue, IfOk, IfErr, IfSome, IfNone};
 ghost use Rattle.std.specs.List.{list_all};
 ghost use Rattle.std.specs.Option.{SomeIff};
-ghost use Rattle.smt_characters.specs.Characters.{is_digit};
-ghost use Rattle.smt_characters.specs.Digits.{decimal_number, signed_number};
-ghost use Rattle.smt_arithmetic.specs.Longs.{IsLong};
+ghost use Rattle.law_texts.specs.Characters.{is_digit};
+ghost use Rattle.law_texts.specs.Digits.{decimal_number, signed_number};
+ghost use Rattle.law_numbers.specs.Longs.{IsLong};
 ghost use Rattle.smt_ext.specs.DurationRefusal.{unit_name, unit_milliseconds, EndsInPart, HasNoPart, ends_past_ascii, IsSoundPart, IsPartFault, IsFirstFault, HasSum, all_units, HasFault};
 ghost use Rattle.smt_ext.specs.DurationText.{IsDurationText};
 

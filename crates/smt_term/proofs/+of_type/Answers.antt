@@ -1,7 +1,7 @@
 use Rattle.std.proofs.Common.{sym, ◌∙◌, arith}
-use Rattle.smt_meaning.specs.Plain.{RecordType}
-use Rattle.smt_meaning.specs.Types.{field_types, type_of}
-use Rattle.smt_term.specs.View.{attribute_types, plain_attributes, plain_fields, plain_term, plain_type, record_fields}
+use Rattle.law_terms.specs.Plain.{RecordType, attribute_types, record_fields}
+use Rattle.law_terms.specs.Types.{field_types, type_of}
+use Rattle.smt_term.specs.View.{plain_attributes, plain_fields, plain_term, plain_type}
 use Rattle.smt_term.proofs.RecordFields.{alike_next, alike_none, alike_types-are, other_name, other_type, unequal}
 use Rattle.smt_types.proofs.SameType.{type_eq-turned}
 use Rattle.smt_term.proofs.+of_type.Goals as goal

@@ -1,5 +1,5 @@
 use Rattle.std.proofs.Common.{sym, ◌∙◌, arith}
-use Rattle.smt_meaning.specs.Types.{type_of}
+use Rattle.law_terms.specs.Types.{type_of}
 use Rattle.smt_term.specs.View.{plain_term}
 use Rattle.smt_term.proofs.RecordFields.{alike_next, alike_none, alike_terms-are, other_name, other_type, unequal}
 use Rattle.smt_term.proofs.+typed_as.Goals as goal

@@ -1,7 +1,7 @@
 use Rattle.std.proofs.Common.{arith, sym, ap, ◌∙◌}
-use Rattle.smt_meaning.specs.Faults.{first_fault}
-use Rattle.smt_meaning.specs.TypeValues.{Enums}
-use Rattle.smt_lines.specs.Text.{names, text}
+use Rattle.law_terms.specs.Faults.{first_fault}
+use Rattle.law_terms.specs.TypeValues.{Enums}
+use Rattle.law_lines.specs.Text.{names, text}
 use Rattle.smt_script.specs.Count.{count_bytes}
 use Rattle.smt_jobs.specs.Numbered.{numbered_job, numbered_terms}
 use Rattle.smt_jobs.proofs.NumberedLemmas.{stood_by}

@@ -1,5 +1,5 @@
 use Rattle.std.proofs.Common.{sym, ◌∙◌}
-use Rattle.smt_graph.specs.Nodes.{TermMeaning}
+use Rattle.law_terms.specs.Nodes.{TermMeaning}
 use Rattle.smt_term.specs.View.{plain_term}
 use Rattle.smt_encode.specs.Encoded.{nodes_in, texts_in}
 use Rattle.smt_cli.proofs.Summarizing.{found_alike, mapped_alike}

@@ -1,9 +1,9 @@
 use Rattle.std.proofs.Common.{◌≡◌, None, subst, rules}
 use Rattle.std.specs.Prelude.{OnOk}
-use Rattle.smt_meaning.specs.Faults.{first_fault}
-use Rattle.smt_meaning.specs.TypeValues.{Enums}
-use Rattle.smt_headline.specs.Headline.{Headline}
-use Rattle.smt_lines.specs.Text.{names, text}
+use Rattle.law_terms.specs.Faults.{first_fault}
+use Rattle.law_terms.specs.TypeValues.{Enums}
+use Rattle.law_theorem.specs.Headline.{Headline}
+use Rattle.law_lines.specs.Text.{names, text}
 use Rattle.smt_jobs.specs.Numbered.{numbered_terms}
 use Rattle.smt_jobs.proofs.NumberedLemmas.{stood_by}
 use Rattle.smt_cli.proofs.Encoding.{text_of}

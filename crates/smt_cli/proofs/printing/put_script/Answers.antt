@@ -2,8 +2,8 @@ use Rattle.std.proofs.Common.{◌≡◌, Err, rules}
 use Rattle.smt_encode.specs.declared.error.EncodeError.TheVariants.{EmptyEnum, EncodePatternFailed, EnumMissingMember, ExpectRecord, MissingTypeEncoding, RecordMissingAttr}
 use Rattle.std.specs.Rc.{rc_str_bytes}
 use Rattle.smt_term.specs.View.{plain_type}
-use Rattle.smt_leaves.specs.Entities.{bytes_of_id, bytes_of_type}
-use Rattle.smt_leaves.specs.PatternView.{plain_ord_pattern}
+use Rattle.smt_types.specs.Entities.{bytes_of_id, bytes_of_type}
+use Rattle.smt_types.specs.PatternView.{plain_ord_pattern}
 use Rattle.smt_cli.proofs.printing.put_script.Goals as goal
 
 pub returns-in-Err-EncodePatternFailed-clause-refused : goal.returns-in-Err-EncodePatternFailed-clause-refused

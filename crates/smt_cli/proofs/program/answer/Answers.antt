@@ -1,5 +1,5 @@
 use Rattle.std.proofs.Common.{arith, List, Option, ℕ, sym, subst}
-use Rattle.smt_characters.specs.SharedTexts.{texts}
+use Rattle.law_texts.specs.SharedTexts.{texts}
 use Rattle.smt_cli.specs.Causes.{HasCause, LeavesOutput, around}
 use Rattle.smt_cli.specs.Words.{commanded, generation_named, solver_named}
 use Rattle.smt_cli.proofs.Flushing.{cause_stays, done_stays, flush_leaves, flush_refused, refusal_stays}

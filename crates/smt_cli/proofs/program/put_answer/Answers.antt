@@ -1,5 +1,5 @@
 use Rattle.std.proofs.Common.{◌≡◌, Option, Some, subst}
-use Rattle.smt_characters.specs.SharedTexts.{texts}
+use Rattle.law_texts.specs.SharedTexts.{texts}
 use Rattle.smt_jobs.specs.Numbered.{numbered_job}
 use Rattle.smt_cli.specs.Causes.{around}
 use Rattle.smt_cli.specs.Run.{IsDone}

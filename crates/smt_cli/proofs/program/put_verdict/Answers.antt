@@ -1,5 +1,5 @@
 use Rattle.std.proofs.Common.{◌∙◌}
-use Rattle.smt_characters.specs.SharedTexts.{texts}
+use Rattle.law_texts.specs.SharedTexts.{texts}
 use Rattle.smt_cli.specs.Causes.{standing}
 use Rattle.smt_cli.specs.Run.{verdict_line}
 use Rattle.smt_cli.specs.Words.{solver_named}

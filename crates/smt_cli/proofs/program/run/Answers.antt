@@ -1,5 +1,5 @@
 use Rattle.std.proofs.Common.{ℕ, refl, sym, subst}
-use Rattle.smt_characters.specs.SharedTexts.{texts}
+use Rattle.law_texts.specs.SharedTexts.{texts}
 use Rattle.smt_cli.specs.Causes.{around}
 use Rattle.smt_cli.specs.Run.{IsComplete}
 use Rattle.smt_cli.specs.Words.{commanded, generation_named, solver_named}

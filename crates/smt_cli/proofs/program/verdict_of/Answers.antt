@@ -1,6 +1,6 @@
 use Rattle.std.proofs.Common.{◌∙◌, subst}
-use Rattle.smt_characters.specs.SharedTexts.{texts}
-use Rattle.smt_checks.specs.Checks.{Decides, WhyUnchecked}
+use Rattle.law_texts.specs.SharedTexts.{texts}
+use Rattle.smt_pool.specs.Checks.{Decides, WhyUnchecked}
 use Rattle.smt_jobs.specs.Numbered.{numbered_job}
 use Rattle.smt_solve.specs.Starter.{Command as SolverCall}
 use Rattle.smt_cli.specs.Causes.{HasCheckCause, standing}

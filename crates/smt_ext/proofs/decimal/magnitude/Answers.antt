@@ -1,6 +1,6 @@
 use Rattle.std.proofs.Common.{arith, length, ◌-◌}
-use Rattle.smt_characters.specs.Digits.{decimal_number}
-use Rattle.smt_characters.proofs.Fields.{at_least_itself}
+use Rattle.law_texts.specs.Digits.{decimal_number}
+use Rattle.law_texts.proofs.Fields.{at_least_itself}
 use Rattle.smt_ext.proofs.decimal.magnitude.Goals as goal
 
 -- The digits behind the point alone are not above the number of ten-thousandths.

@@ -1,8 +1,8 @@
 use Rattle.std.proofs.Common.{◌≡◌, ap, sym, ◌∙◌, arith, length}
 use Rattle.std.proofs.lemmas.Bool.{false≢true}
-use Rattle.smt_characters.specs.Digits.{is_numeral}
+use Rattle.law_texts.specs.Digits.{is_numeral}
 use Rattle.smt_ext.proofs.Decimals.{parts_are}
-use Rattle.smt_characters.proofs.Runs.{head_is}
+use Rattle.law_texts.proofs.Runs.{head_is}
 use Rattle.smt_ext.proofs.decimal.split_parts.Goals as goal
 use Rattle.smt_ext.proofs.decimal.split_parts.Goals.{else-are_digits-via-then-are_digits+then-are_digits-2+else-fraction-le4, else-are_digits-via-then-are_digits+else-are_digits-2, else-are_digits-via-else-are_digits}
 

@@ -1,4 +1,4 @@
-use Rattle.smt_job_grammar.specs.Declarations.{function_of}
+use Rattle.law_jobs.specs.Declarations.{function_of}
 use Rattle.smt_job_declarations.specs.DeclarationView.{HasFunctions}
 use Rattle.smt_job_declarations.proofs.DeclaredLists.{functions_in, functions_listed}
 use Rattle.smt_job_declarations.proofs.Declaring.{next_declared}

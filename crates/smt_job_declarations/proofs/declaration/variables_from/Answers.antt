@@ -1,4 +1,4 @@
-use Rattle.smt_job_grammar.specs.Declarations.{variable_of}
+use Rattle.law_jobs.specs.Declarations.{variable_of}
 use Rattle.smt_job_declarations.specs.DeclarationView.{HasVariables}
 use Rattle.smt_job_declarations.proofs.DeclaredLists.{variables_in, variables_listed}
 use Rattle.smt_job_declarations.proofs.Declaring.{next_declared}

@@ -1,7 +1,7 @@
 use Rattle.std.proofs.Common.{map, ap, sym, ◌∙◌, subst}
 use Rattle.std.specs.Rc.{rc_str_bytes}
-use Rattle.smt_job_grammar.specs.Enums.{new_enum}
-use Rattle.smt_job_grammar.specs.Outcomes.{◌>>=◌}
+use Rattle.law_jobs.specs.Enums.{new_enum}
+use Rattle.law_texts.specs.Outcomes.{◌>>=◌}
 use Rattle.smt_job_declarations.specs.EnumView.{HasEnums}
 use Rattle.smt_job_declarations.specs.DeclarationView.{DeclaresNext}
 use Rattle.smt_job_declarations.proofs.enums.declare.Goals as goal

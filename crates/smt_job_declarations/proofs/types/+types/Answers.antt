@@ -4,13 +4,13 @@ use Rattle.std.specs.Rc.{rc_str_bytes}
 use Rattle.std.specs.declared.alloc.Global.{Global}
 use Rattle.std.specs.declared.rc.RcStr.{RcStr}
 use Rattle.std.proofs.Common.{Bor, [], option_map, refl}
-use Rattle.smt_lexicon.specs.Reading.{Node}
+use Rattle.law_texts.specs.Reading.{Node}
 use Rattle.smt_job_declarations.proofs.Reading.{passes_on, read_of}
 use Rattle.smt_job_declarations.proofs.Shapes.{bracketed, first_and_rest, is_atom, others, nothing_listed, two_listed}
 use Rattle.smt_job_declarations.proofs.TypesRead.{attribute_fault, few_parts, many_parts, name_fault, names_of, one_more, sole_few, sole_many, sole_one, type_headed, unformed}
 use Rattle.smt_sexpr.specs.View.{plain}
 use Rattle.smt_job_declarations.specs.ReadAs.{plain_list}
-use Rattle.smt_job_grammar.specs.Types.{attributes_of, headed_type, new_attribute, sole_type, type_of_expression}
+use Rattle.law_jobs.specs.Types.{attributes_of, headed_type, new_attribute, sole_type, type_of_expression}
 use Rattle.smt_job_declarations.proofs.types.+types.Goals as goal
 use Rattle.smt_job_declarations.proofs.types.+types.Goals.{attributes_from-in_default-via-then-parts-lt2, attributes_from-in_default-via-else-parts-lt2+else-parts-lt3, sole_type-in_default-via-then-operands-lt1, sole_type-in_default-via-else-operands-lt1+else-operands-lt2}
 

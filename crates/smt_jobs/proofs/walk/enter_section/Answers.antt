@@ -2,13 +2,14 @@ use Rattle.std.proofs.Common.{Bor, List, ℕ, [], ◌∷◌, ◌-◌, bytes_eq, 
 use Rattle.std.specs.Bool.{then_some}
 use Rattle.std.specs.Option.{option_and_then}
 use Rattle.std.specs.Rc.{rc_str_bytes}
-use Rattle.smt_lexicon.specs.Lexicon.{Begin}
-use Rattle.smt_lexicon.specs.Reading.{Expressions}
-use Rattle.smt_lexicon.specs.Tokens.{Spans}
-use Rattle.smt_lexicon.proofs.Spans.{joined}
+use Rattle.law_texts.specs.Lexicon.{Begin}
+use Rattle.law_texts.specs.Reading.{Expressions}
+use Rattle.law_texts.specs.Tokens.{Spans}
+use Rattle.law_texts.proofs.Spans.{joined}
 use Rattle.smt_sexpr.specs.View.{plain}
-use Rattle.smt_job_grammar.specs.Jobs.{section_of}
-use Rattle.smt_job_grammar.specs.Outcomes.{FormFault, demanded}
+use Rattle.law_jobs.specs.Jobs.{section_of}
+use Rattle.law_jobs.specs.Outcomes.{FormFault}
+use Rattle.law_texts.specs.Outcomes.{demanded}
 use Rattle.smt_jobs.specs.Walk.{BeginsInside, first_and_others}
 use Rattle.smt_jobs.proofs.Walking.{gives_passes, headed_token, no_head, opened, section_is, unopened}
 use Rattle.smt_jobs.proofs.walk.enter_section.Goals as goal

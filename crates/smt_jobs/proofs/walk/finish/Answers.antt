@@ -1,7 +1,7 @@
 use Rattle.std.proofs.Common.{[], ◌∷◌, refl}
 use Rattle.std.proofs.lemmas.Bool.{false≢true}
-use Rattle.smt_lexicon.specs.Lexicon.{End}
-use Rattle.smt_lexicon.proofs.Spans.{joined}
+use Rattle.law_texts.specs.Lexicon.{End}
+use Rattle.law_texts.proofs.Spans.{joined}
 use Rattle.smt_jobs.proofs.Walking.{closes, does_not_close}
 use Rattle.smt_jobs.proofs.walk.finish.Goals as goal
 

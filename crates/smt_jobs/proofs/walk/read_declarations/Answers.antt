@@ -1,8 +1,8 @@
 use Rattle.std.proofs.Common.{Bor, List, ℕ, ◌≡◌, refl}
-use Rattle.smt_lexicon.specs.Reading.{Expressions}
+use Rattle.law_texts.specs.Reading.{Expressions}
 use Rattle.smt_sexpr.specs.View.{plain}
-use Rattle.smt_job_grammar.specs.Declarations.{Declared as Stated}
-use Rattle.smt_job_grammar.specs.Jobs.{declared_in_sections}
+use Rattle.law_jobs.specs.Declarations.{Declared as Stated}
+use Rattle.law_jobs.specs.Jobs.{declared_in_sections}
 use Rattle.smt_job_declarations.specs.DeclarationView.{declared_in}
 use Rattle.smt_jobs.specs.Walk.{BeginsInside}
 use Rattle.smt_job_declarations.specs.declared.declaration.Declared.{Declared}

@@ -1,10 +1,10 @@
 use Rattle.std.proofs.Common.{Bor, List, ℕ, ◌≡◌, ◌++◌, map, ap, ◌∙◌}
-use Rattle.smt_folding.specs.Built.{built}
-use Rattle.smt_meaning.specs.Plain.{PlainTerm}
-use Rattle.smt_lexicon.specs.Tokens.{HasTokens}
+use Rattle.law_folding.specs.Built.{built}
+use Rattle.law_terms.specs.Plain.{PlainTerm}
+use Rattle.law_texts.specs.Tokens.{HasTokens}
 use Rattle.smt_sexpr.specs.View.{plain}
-use Rattle.smt_job_grammar.specs.Outcomes.{mapped}
-use Rattle.smt_job_grammar.specs.Terms.{condition_of, conditions_of}
+use Rattle.law_jobs.specs.Outcomes.{mapped}
+use Rattle.law_jobs.specs.Terms.{condition_of, conditions_of}
 use Rattle.smt_jobs.specs.Walk.{first_and_others}
 use Rattle.smt_job_declarations.proofs.Reading.{mapped_fault}
 use Rattle.smt_jobs.proofs.Walking.{all_taken, gives_passes, not_taken, nothing_more_there, read_more, read_none, taken_more, taking_none}

@@ -1,7 +1,7 @@
 use Rattle.std.proofs.Common.{List, length}
-use Rattle.smt_lexicon.specs.Lexicon.{Token}
-use Rattle.smt_lexicon.specs.Reading.{Expressions}
-use Rattle.smt_job_grammar.specs.Declarations.{Declared}
+use Rattle.law_texts.specs.Lexicon.{Token}
+use Rattle.law_texts.specs.Reading.{Expressions}
+use Rattle.law_jobs.specs.Declarations.{Declared}
 use Rattle.smt_job_declarations.specs.DeclarationView.{HasDeclared}
 use Rattle.smt_jobs.specs.Walk.{BeginsInside, ReadsSome}
 use Rattle.smt_jobs.proofs.Walking.{Taking}

@@ -1,6 +1,6 @@
 use Rattle.std.proofs.Common.{◌≡◌, ◌≤◌, Err, length, rules}
 use Rattle.std.specs.Prelude.{IsErrOf}
-use Rattle.smt_job_grammar.specs.Jobs.{greatest_length}
+use Rattle.law_jobs.specs.Jobs.{greatest_length}
 use Rattle.smt_job_declarations.specs.declared.declaration.Declared.{Declared}
 use Rattle.smt_job_declarations.specs.declared.error.JobError.{JobError}
 use Rattle.smt_job_declarations.specs.declared.error.JobError.TheVariants.{TooLarge}

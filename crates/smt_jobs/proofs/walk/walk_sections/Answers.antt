@@ -1,8 +1,8 @@
 use Rattle.std.proofs.Common.{[], ◌∷◌, ◌++◌, codes, refl}
-use Rattle.smt_lexicon.specs.Lexicon.{End}
-use Rattle.smt_lexicon.specs.Reading.{inside}
-use Rattle.smt_job_grammar.specs.Jobs.{PlainJob, declared_first, job_of, nothing_more, section_of, terms_last}
-use Rattle.smt_job_grammar.specs.Terms.{conditions_of}
+use Rattle.law_texts.specs.Lexicon.{End}
+use Rattle.law_texts.specs.Reading.{inside}
+use Rattle.law_jobs.specs.Jobs.{PlainJob, declared_first, job_of, nothing_more, section_of, terms_last}
+use Rattle.law_jobs.specs.Terms.{conditions_of}
 use Rattle.smt_job_declarations.specs.DeclarationView.{declared_in}
 use Rattle.smt_jobs.specs.Walk.{Takes}
 use Rattle.smt_job_declarations.specs.declared.declaration.Declared.{Declared}

@@ -1,6 +1,6 @@
-use Rattle.smt_graph.specs.Nodes.{TermMeaning}
+use Rattle.law_terms.specs.Nodes.{TermMeaning}
 use Rattle.smt_term.proofs.FormedTerms.{both_formed}
-use Rattle.smt_node_tables.specs.View.{place_of}
+use Rattle.smt_nodes.specs.View.{place_of}
 use Rattle.smt_nodes.proofs.Formed.{nodes_formed}
 use Rattle.smt_nodes.proofs.laws.nodes_are_formed.Goals as goal
 

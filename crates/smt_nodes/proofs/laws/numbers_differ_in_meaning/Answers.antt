@@ -1,6 +1,6 @@
-use Rattle.smt_graph.proofs.Distinct.{places_differ, places_mean}
+use Rattle.law_terms.proofs.Distinct.{places_differ, places_mean}
 use Rattle.smt_nodes.specs.Interned.{nodes_of}
-use Rattle.smt_node_tables.specs.View.{place_of}
+use Rattle.smt_nodes.specs.View.{place_of}
 use Rattle.smt_nodes.proofs.laws.numbers_differ_in_meaning.Goals as goal
 
 pub returns : goal.returns

@@ -1,6 +1,6 @@
 use Rattle.std.proofs.lemmas.List.{length-map}
-use Rattle.smt_characters.specs.SharedTexts.{texts}
-use Rattle.smt_characters.proofs.LineTexts.{spaced-two}
+use Rattle.law_texts.specs.SharedTexts.{texts}
+use Rattle.law_texts.proofs.LineTexts.{spaced-two}
 use Rattle.smt_script.proofs.script.is_blank.Goals as goal
 
 pub returns-in-len2-up : goal.returns-in-len2-up

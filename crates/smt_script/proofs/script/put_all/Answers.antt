@@ -1,4 +1,4 @@
-use Rattle.smt_characters.proofs.Joined.{joined-drop}
+use Rattle.law_texts.proofs.Joined.{joined-drop}
 use Rattle.smt_script.proofs.PutsLemmas.{exits, goes_on, goes_wrong}
 use Rattle.smt_script.proofs.script.put_all.Goals as goal
 

@@ -1,5 +1,5 @@
 use Rattle.std.proofs.Common.{drop}
-use Rattle.smt_characters.specs.SharedTexts.{joined}
+use Rattle.law_texts.specs.SharedTexts.{joined}
 use Rattle.smt_script.proofs.PutsLemmas.{Going}
 use Rattle.smt_script.proofs.script.put_all.Given as goal
 

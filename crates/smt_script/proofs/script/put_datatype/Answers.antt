@@ -1,7 +1,7 @@
 -- Parameters that are not blank stand before the constructors.
-use Rattle.smt_characters.specs.LineTexts.{constructor_lines}
-use Rattle.smt_characters.specs.SharedTexts.{texts}
-use Rattle.smt_characters.proofs.LineTexts.{datatype_body-parts}
+use Rattle.law_texts.specs.LineTexts.{constructor_lines}
+use Rattle.law_texts.specs.SharedTexts.{texts}
+use Rattle.law_texts.proofs.LineTexts.{datatype_body-parts}
 use Rattle.smt_script.proofs.PutsLemmas.{exits, along, then, stops}
 use Rattle.smt_script.proofs.script.put_datatype.Goals as goal
 

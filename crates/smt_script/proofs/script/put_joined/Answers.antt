@@ -1,5 +1,5 @@
-use Rattle.smt_characters.specs.SharedTexts.{texts}
-use Rattle.smt_characters.proofs.Joined.{joined_from-start, texts-drop}
+use Rattle.law_texts.specs.SharedTexts.{texts}
+use Rattle.law_texts.proofs.Joined.{joined_from-start, texts-drop}
 use Rattle.smt_script.proofs.PutsLemmas.{exits, along, goes_on, goes_wrong}
 use Rattle.smt_script.proofs.script.put_joined.Goals as goal
 

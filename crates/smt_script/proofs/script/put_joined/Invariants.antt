@@ -1,8 +1,8 @@
 use denote.Text.{Utf8}
 use denote.Shadow.{shadow}
 use Rattle.std.proofs.Common.{drop, []}
-use Rattle.smt_characters.specs.SharedTexts.{texts}
-use Rattle.smt_characters.proofs.Joined.{joined_from}
+use Rattle.law_texts.specs.SharedTexts.{texts}
+use Rattle.law_texts.proofs.Joined.{joined_from}
 use Rattle.smt_script.proofs.PutsLemmas.{Going}
 use Rattle.smt_script.proofs.script.put_joined.Given as goal
 

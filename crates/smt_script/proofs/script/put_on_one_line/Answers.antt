@@ -1,6 +1,6 @@
 use Rattle.std.proofs.Common.{◌∙◌, ap, map, refl, sym}
-use Rattle.smt_characters.specs.LineTexts.{in_comment}
-use Rattle.smt_characters.proofs.LineTexts.{line_end-Some, line_end-None, drop_to_end}
+use Rattle.law_texts.specs.LineTexts.{in_comment}
+use Rattle.law_texts.proofs.LineTexts.{line_end-Some, line_end-None, drop_to_end}
 use Rattle.smt_script.proofs.PutsLemmas.{exits, goes_on, goes_wrong, goes_last, leaves}
 use Rattle.smt_script.proofs.script.put_on_one_line.Goals as goal
 

@@ -1,5 +1,5 @@
 use Rattle.std.proofs.Common.{map, length}
-use Rattle.smt_characters.specs.LineTexts.{in_comment}
+use Rattle.law_texts.specs.LineTexts.{in_comment}
 use Rattle.smt_script.proofs.PutsLemmas.{Going}
 use Rattle.smt_script.proofs.script.put_on_one_line.Given as goal
 

@@ -1,8 +1,8 @@
 use Rattle.std.proofs.Common.{codes, rules}
-use Rattle.smt_characters.specs.LineTexts.{sorted_name}
-use Rattle.smt_characters.specs.SharedTexts.{text_pairs}
-use Rattle.smt_characters.proofs.Joined.{joined_from-start}
-use Rattle.smt_characters.proofs.LineTexts.{sorted_names-drop}
+use Rattle.law_texts.specs.LineTexts.{sorted_name}
+use Rattle.law_texts.specs.SharedTexts.{text_pairs}
+use Rattle.law_texts.proofs.Joined.{joined_from-start}
+use Rattle.law_texts.proofs.LineTexts.{sorted_names-drop}
 use Rattle.smt_script.proofs.PutsLemmas.{exits, along, goes_on, goes_wrong}
 use Rattle.smt_script.proofs.script.put_variables.Goals as goal
 

@@ -1,9 +1,9 @@
 use denote.Text.{Utf8}
 use denote.Shadow.{shadow}
 use Rattle.std.proofs.Common.{drop, codes, []}
-use Rattle.smt_characters.specs.LineTexts.{sorted_name}
-use Rattle.smt_characters.specs.SharedTexts.{text_pairs}
-use Rattle.smt_characters.proofs.Joined.{joined_from}
+use Rattle.law_texts.specs.LineTexts.{sorted_name}
+use Rattle.law_texts.specs.SharedTexts.{text_pairs}
+use Rattle.law_texts.proofs.Joined.{joined_from}
 use Rattle.smt_script.proofs.PutsLemmas.{Going}
 use Rattle.smt_script.proofs.script.put_variables.Given as goal
 

@@ -2,7 +2,7 @@ use Rattle.std.proofs.Common.{◌≡◌, ◌++◌, List, ℕ, length, true}
 use Rattle.std.specs.Prelude.{encode_utf8_all}
 use Rattle.std.specs.String.{string_bytes}
 use Rattle.std.proofs.Math.Utf8.{scalars}
-use Rattle.smt_characters.specs.Escapes.{decoded}
+use Rattle.law_texts.specs.Escapes.{decoded}
 use Rattle.smt_sexpr.proofs.escape.decode.Given as goal
 
 abbrev pub invariant-loop-point : goal.invariant-loop-point

@@ -1,7 +1,7 @@
 use Rattle.std.proofs.Common.{[], ◌∷◌}
 use Rattle.std.proofs.lemmas.Option.{IfSome_then}
-use Rattle.smt_lexicon.specs.Lexicon.{End}
-use Rattle.smt_lexicon.proofs.Spans.{joined}
+use Rattle.law_texts.specs.Lexicon.{End}
+use Rattle.law_texts.proofs.Spans.{joined}
 use Rattle.smt_sexpr.proofs.Fronts.{close_span, no_close, where_none}
 use Rattle.smt_sexpr.proofs.front.behind_close.Goals as goal
 

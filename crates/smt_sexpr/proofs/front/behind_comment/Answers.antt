@@ -1,6 +1,6 @@
 use Rattle.std.proofs.Common.{not}
-use Rattle.smt_characters.proofs.Runs.{run_at}
-use Rattle.smt_lexicon.specs.Lexicon.{is_line_end}
+use Rattle.law_texts.proofs.Runs.{run_at}
+use Rattle.law_texts.specs.Lexicon.{is_line_end}
 use Rattle.smt_sexpr.proofs.Atoms.{comment_stands}
 use Rattle.smt_sexpr.proofs.Fronts.{one_span}
 use Rattle.smt_sexpr.proofs.front.behind_comment.Goals as goal

@@ -1,7 +1,7 @@
 use Rattle.std.proofs.Common.{[], ◌∷◌}
 use Rattle.std.proofs.lemmas.Option.{IfSome_then}
-use Rattle.smt_lexicon.specs.Lexicon.{Begin}
-use Rattle.smt_lexicon.proofs.Spans.{joined}
+use Rattle.law_texts.specs.Lexicon.{Begin}
+use Rattle.law_texts.proofs.Spans.{joined}
 use Rattle.smt_sexpr.proofs.Fronts.{open_span, no_open, where_none}
 use Rattle.smt_sexpr.proofs.front.behind_open.Goals as goal
 

@@ -1,5 +1,5 @@
 use Rattle.std.proofs.Common.{◌∙◌, ap, length, nat_eq, sym}
-use Rattle.smt_lexicon.proofs.Runs.{empty_from}
+use Rattle.law_texts.proofs.Blanks.{empty_from}
 use Rattle.smt_sexpr.proofs.Fronts.{blank_from, blank_text}
 use Rattle.smt_sexpr.proofs.front.is_blank.Goals as goal
 

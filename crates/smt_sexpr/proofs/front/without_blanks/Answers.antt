@@ -1,6 +1,6 @@
 use Rattle.std.proofs.Common.{◌≤◌, ◌<◌, ap, arith, length, subst, sym}
-use Rattle.smt_lexicon.specs.Tokens.{Spans}
-use Rattle.smt_lexicon.proofs.Runs.{length-skip_space}
+use Rattle.law_texts.specs.Tokens.{Spans}
+use Rattle.law_texts.proofs.Blanks.{length-skip_space}
 use Rattle.smt_sexpr.proofs.Fronts.{blank_more, no_blank, skipped}
 use Rattle.smt_sexpr.proofs.front.without_blanks.Goals as goal
 

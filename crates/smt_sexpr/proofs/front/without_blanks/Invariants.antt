@@ -1,6 +1,6 @@
 use Rattle.std.proofs.Common.{◌≡◌, ℕ, ◌≤◌, [], length, List}
-use Rattle.smt_lexicon.specs.Front.{skip_space}
-use Rattle.smt_lexicon.specs.Tokens.{Spans}
+use Rattle.law_texts.specs.Reads.{skip_space}
+use Rattle.law_texts.specs.Tokens.{Spans}
 use Rattle.smt_sexpr.proofs.front.without_blanks.Given as goal
 
 abbrev pub invariant-loop-after : goal.invariant-loop-after

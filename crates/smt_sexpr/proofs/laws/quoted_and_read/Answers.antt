@@ -1,8 +1,8 @@
 use Rattle.std.proofs.Common.{◌∙◌}
 use Rattle.std.specs.Str.{chars}
 use Rattle.std.proofs.lemmas.Str.{scalars-chars}
-use Rattle.smt_lexicon.specs.Lexicon.{Text}
-use Rattle.smt_lexicon.specs.Reading.{Leaf}
+use Rattle.law_texts.specs.Lexicon.{Text}
+use Rattle.law_texts.specs.Reading.{Leaf}
 use Rattle.smt_sexpr.specs.View.{plain}
 use Rattle.smt_sexpr.proofs.QuotedTexts.{quoted_read, quoted_same}
 use Rattle.smt_sexpr.proofs.laws.quoted_and_read.Goals as goal

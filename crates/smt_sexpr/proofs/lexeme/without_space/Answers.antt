@@ -1,5 +1,5 @@
 use Rattle.std.proofs.Common.{sym, ap, ◌∙◌, drop}
-use Rattle.smt_lexicon.proofs.Runs.{skip_space_is}
+use Rattle.law_texts.proofs.Blanks.{skip_space_is}
 use Rattle.smt_sexpr.proofs.lexeme.without_space.Goals as goal
 
 pub returns : goal.returns

@@ -1,5 +1,5 @@
 use Rattle.std.proofs.Common.{◌∙◌, sym}
-use Rattle.smt_lexicon.proofs.Runs.{some_from}
+use Rattle.law_texts.proofs.Blanks.{some_from}
 use Rattle.std.proofs.Math.Nat.{mod-eq_of_lt}
 use Rattle.smt_sexpr.proofs.Digits.{literal_below}
 use Rattle.smt_sexpr.proofs.number.literal.Goals as goal

@@ -1,5 +1,5 @@
 use Rattle.std.proofs.Common.{arith}
-use Rattle.smt_characters.specs.Digits.{number_in}
+use Rattle.law_texts.specs.Digits.{number_in}
 use Rattle.smt_sexpr.proofs.Digits.{at_least}
 use Rattle.smt_sexpr.proofs.number.number_of_digits.Goals as goal
 

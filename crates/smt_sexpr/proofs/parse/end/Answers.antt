@@ -1,5 +1,5 @@
 use Rattle.std.proofs.Common.{◌∙◌, ◌++◌, ap, sym, refl}
-use Rattle.smt_lexicon.specs.Reading.{brackets}
+use Rattle.law_texts.specs.Reading.{brackets}
 use Rattle.smt_sexpr.specs.Refusals.{open_lists}
 use Rattle.smt_sexpr.specs.View.{lists_in, plain-App, plains}
 use Rattle.smt_sexpr.proofs.TokenLists.{ended, lists_more, lists_none, next_from, unclosed}

@@ -1,6 +1,6 @@
 use Rattle.std.proofs.Common.{sym, arith}
-use Rattle.smt_lexicon.specs.Reading.{brackets}
-use Rattle.smt_lexicon.proofs.Runs.{empty_from}
+use Rattle.law_texts.specs.Reading.{brackets}
+use Rattle.law_texts.proofs.Blanks.{empty_from}
 use Rattle.smt_sexpr.specs.View.{lexeme_tokens, lists_in, plain}
 use Rattle.smt_sexpr.proofs.Cuts.{no_longer, shorter}
 use Rattle.smt_sexpr.proofs.Texts.{bracket_refused, no_token_at, not_unended, one_piece, only_memory, opened_more, spanned, unended}

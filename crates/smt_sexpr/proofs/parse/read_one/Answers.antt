@@ -1,6 +1,6 @@
 use Rattle.std.proofs.Common.{refl, sym, subst}
 use Rattle.std.proofs.lemmas.Result.{IfOk-weaker, MatchResult-weaker}
-use Rattle.smt_lexicon.specs.Tokens.{IsReadWithin}
+use Rattle.law_texts.specs.Tokens.{IsReadWithin}
 use Rattle.smt_sexpr.specs.View.{plain}
 use Rattle.smt_sexpr.proofs.Texts.{reached, trailing, whole_read}
 use Rattle.smt_sexpr.proofs.parse.read_one.Goals as goal

@@ -1,5 +1,5 @@
 use Rattle.std.proofs.Common.{◌≡◌, ◌∙◌, ap, sym, arith}
-use Rattle.smt_lexicon.specs.Reading.{nesting}
+use Rattle.law_texts.specs.Reading.{nesting}
 use Rattle.smt_sexpr.specs.View.{lexeme_nesting, lists_in, plain}
 use Rattle.smt_sexpr.proofs.TokenLists.{length_levels}
 use Rattle.smt_sexpr.proofs.parse.step.Goals as goal

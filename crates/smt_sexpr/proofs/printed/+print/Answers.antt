@@ -1,8 +1,8 @@
 use Rattle.std.proofs.Common.{[], ◌++◌, ◌∙◌, ap, arith, map, refl, rules}
 use Rattle.std.proofs.Output.{has_written_append, has_written_of_eq, writes_in_calls_nil}
 use Rattle.std.specs.Prelude.{codes}
-use Rattle.smt_characters.proofs.Joined.{joined_from, joined_from-drop, joined_from-start}
-use Rattle.smt_sexpr.specs.Printed.{spaced}
+use Rattle.law_texts.proofs.Joined.{joined_from, joined_from-drop, joined_from-start}
+use Rattle.law_texts.specs.LineTexts.{spaced}
 use Rattle.smt_sexpr.proofs.PrintedTexts.{next_text, no_text, printed_expression, texts_of_expressions}
 use Rattle.smt_sexpr.proofs.printed.+print.Goals as goal
 

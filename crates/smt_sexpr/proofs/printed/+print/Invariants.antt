@@ -3,8 +3,8 @@ use denote.Shadow.{shadow}
 use Rattle.std.proofs.Common.{ℕ, ◌≡◌, ◌++◌, List, map, drop}
 use Rattle.std.specs.Prelude.{codes}
 use Rattle.std.specs.Fmt.{HasWritten, IsPlainFormatter}
-use Rattle.smt_characters.proofs.Joined.{joined_from}
-use Rattle.smt_sexpr.specs.Printed.{spaced}
+use Rattle.law_texts.proofs.Joined.{joined_from}
+use Rattle.law_texts.specs.LineTexts.{spaced}
 use Rattle.smt_sexpr.proofs.PrintedTexts.{printed_expression}
 use Rattle.smt_sexpr.proofs.printed.+print.Given as goal
 

@@ -1,5 +1,5 @@
-use Rattle.smt_characters.proofs.Runs.{run_at}
-use Rattle.smt_lexicon.specs.Lexicon.{is_hexadecimal}
+use Rattle.law_texts.proofs.Runs.{run_at}
+use Rattle.law_texts.specs.Lexicon.{is_hexadecimal}
 use Rattle.smt_sexpr.specs.View.{plain-BitVec}
 use Rattle.smt_sexpr.proofs.Atoms.{hexadecimal_fault, hexadecimal_stands}
 use Rattle.smt_sexpr.proofs.Digits.{hexadecimal_digits}

@@ -1,6 +1,6 @@
 use Rattle.std.proofs.Common.{◌∷◌, ℕ, ◌∙◌, ap, sym, not}
-use Rattle.smt_characters.proofs.Runs.{run_at}
-use Rattle.smt_lexicon.specs.Lexicon.{is_line_end}
+use Rattle.law_texts.proofs.Runs.{run_at}
+use Rattle.law_texts.specs.Lexicon.{is_line_end}
 use Rattle.smt_sexpr.proofs.Atoms.{blank_stands, close_stands, comment_stands, open_stands}
 use Rattle.smt_sexpr.proofs.token.split_lexeme.Goals as goal
 

@@ -1,7 +1,7 @@
 use Rattle.std.proofs.Common.{◌∙◌}
 use Rattle.std.specs.Rc.{rc_str_bytes}
-use Rattle.smt_characters.proofs.Runs.{run_at}
-use Rattle.smt_lexicon.specs.Lexicon.{is_symbol_byte}
+use Rattle.law_texts.proofs.Runs.{run_at}
+use Rattle.law_texts.specs.Lexicon.{is_symbol_byte}
 use Rattle.smt_sexpr.specs.View.{plain-Symbol}
 use Rattle.smt_sexpr.proofs.Atoms.{name_fault, name_stands}
 use Rattle.smt_sexpr.proofs.token.split_name.Goals as goal

@@ -1,5 +1,5 @@
-use Rattle.smt_characters.proofs.Runs.{run_at}
-use Rattle.smt_lexicon.proofs.Strings.{is_no_quote, quoted_none, quoted_ends, quoted_more}
+use Rattle.law_texts.proofs.Runs.{run_at}
+use Rattle.law_texts.proofs.Strings.{is_no_quote, quoted_none, quoted_ends, quoted_more}
 use Rattle.smt_sexpr.proofs.token.split_quoted.Goals as goal
 
 pub returns-in_default-clause-none : goal.returns-in_default-clause-none

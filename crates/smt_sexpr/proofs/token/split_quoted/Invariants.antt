@@ -1,6 +1,6 @@
 use Rattle.std.proofs.Common.{◌≡◌, ◌++◌, length}
 use Rattle.std.specs.List.{flat_map}
-use Rattle.smt_lexicon.specs.Lexicon.{quote_twice}
+use Rattle.law_texts.specs.Lexicon.{quote_twice}
 use Rattle.smt_sexpr.proofs.token.split_quoted.Given as goal
 
 abbrev pub invariant-loop-text : goal.invariant-loop-text

@@ -2,7 +2,7 @@ use Rattle.std.proofs.Common.{◌∙◌, ap}
 use Rattle.std.proofs.Math.Utf8.{scalars}
 use Rattle.std.specs.Rc.{rc_str_bytes}
 use Rattle.std.specs.Str.{chars}
-use Rattle.smt_lexicon.specs.Lexicon.{decoded}
+use Rattle.law_texts.specs.Lexicon.{decoded}
 use Rattle.smt_sexpr.specs.View.{plain-String}
 use Rattle.smt_sexpr.proofs.Atoms.{string_stands}
 use Rattle.smt_sexpr.proofs.token.split_string.Goals as goal

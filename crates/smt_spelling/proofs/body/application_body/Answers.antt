@@ -1,6 +1,6 @@
 use Rattle.std.proofs.Common.{◌∙◌}
 use Rattle.smt_term.specs.View.{plain_op}
-use Rattle.smt_lines.specs.LineForms.{operator_head}
+use Rattle.law_lines.specs.LineForms.{operator_head}
 use Rattle.smt_spelling.proofs.body.application_body.Goals as goal
 
 pub returns-clause-text : goal.returns-clause-text

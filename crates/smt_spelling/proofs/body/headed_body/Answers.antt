@@ -1,8 +1,8 @@
 use Rattle.std.proofs.Common.{ap, map, ◌∙◌}
 use Rattle.std.specs.Rc.{rc_str_bytes}
 use Rattle.smt_term.specs.View.{plain_op}
-use Rattle.smt_lines.specs.LineForms.{operands}
-use Rattle.smt_characters.specs.SharedTexts.{texts}
+use Rattle.law_lines.specs.LineForms.{operands}
+use Rattle.law_texts.specs.SharedTexts.{texts}
 use Rattle.smt_spelling.proofs.Bracketed.{bracketed}
 use Rattle.smt_spelling.proofs.body.headed_body.Goals as goal
 

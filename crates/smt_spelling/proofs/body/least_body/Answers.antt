@@ -1,10 +1,10 @@
 use Rattle.std.proofs.Common.{◌-◌, ◌^◌, [], ◌∷◌, ◌++◌, refl, ◌∙◌}
 use Rattle.std.proofs.lemmas.Result.{IfOk-weaker}
 use Rattle.std.specs.Prelude.{codes}
-use Rattle.smt_semantics.specs.Script.{name}
-use Rattle.smt_lines.specs.Lines.{bits}
-use Rattle.smt_lines.specs.Spelling.{spelled}
-use Rattle.smt_characters.specs.SharedTexts.{texts}
+use Rattle.law_scripts.specs.Script.{name}
+use Rattle.law_lines.specs.Lines.{bits}
+use Rattle.law_lines.specs.Spelling.{spelled}
+use Rattle.law_texts.specs.SharedTexts.{texts}
 use Rattle.smt_bits.specs.Width.{bits_in}
 use Rattle.smt_spelling.proofs.Bracketed.{bracketed}
 use Rattle.smt_spelling.proofs.Patterned.{spelled_more}

@@ -1,6 +1,6 @@
 use Rattle.std.proofs.Common.{ℕ, ◌≡◌, ◌++◌, ◌∙◌, List, ap, sym, append_assoc, rules}
 use Rattle.std.specs.Prelude.{codes}
-use Rattle.smt_characters.proofs.Joined.{texts-drop}
+use Rattle.law_texts.proofs.Joined.{texts-drop}
 use Rattle.smt_spelling.proofs.datatype.push_commas.Goals as goal
 
 -- one operand more is written

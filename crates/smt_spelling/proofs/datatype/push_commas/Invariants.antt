@@ -3,8 +3,8 @@ use denote.Shadow.{shadow}
 use Rattle.std.proofs.Common.{◌≡◌, ◌++◌, drop, []}
 use Rattle.std.specs.Prelude.{codes}
 use Rattle.std.specs.String.{string_bytes}
-use Rattle.smt_characters.specs.SharedTexts.{texts}
-use Rattle.smt_characters.proofs.Joined.{joined_from}
+use Rattle.law_texts.specs.SharedTexts.{texts}
+use Rattle.law_texts.proofs.Joined.{joined_from}
 use Rattle.smt_spelling.proofs.datatype.push_commas.Given as goal
 
 -- what is written so far and what is left are all

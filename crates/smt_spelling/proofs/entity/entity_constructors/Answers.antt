@@ -1,6 +1,6 @@
 use Rattle.std.proofs.Common.{◌∷◌, ◌++◌, [], map, ap, ◌∙◌}
 use Rattle.std.specs.Rc.{rc_str_bytes}
-use Rattle.smt_characters.specs.SharedTexts.{texts}
+use Rattle.law_texts.specs.SharedTexts.{texts}
 use Rattle.smt_spelling.proofs.Members.{entity_bracketed}
 use Rattle.smt_spelling.proofs.entity.entity_constructors.Goals as goal
 

@@ -1,10 +1,10 @@
 use Rattle.std.proofs.Common.{◌+◌, ◌<◌, ◌∷◌, ◌++◌, [], drop, length, map, sym, ap, ◌∙◌, append_assoc, append-nil, arith}
 use Rattle.std.specs.Rc.{rc_str_bytes}
 use Rattle.std.proofs.lemmas.List.{map-append}
-use Rattle.smt_characters.specs.SharedTexts.{texts}
-use Rattle.smt_leaves.specs.TextSets.{texts_of}
-use Rattle.smt_lines.specs.Line.{spelled_constructor}
-use Rattle.smt_lines.specs.LineForms.{member_constructors}
+use Rattle.law_texts.specs.SharedTexts.{texts}
+use Rattle.smt_types.specs.TextSets.{texts_of}
+use Rattle.law_lines.specs.Line.{spelled_constructor}
+use Rattle.law_lines.specs.LineForms.{member_constructors}
 use Rattle.smt_spelling.proofs.Members.{constructors_from, none_from}
 use Rattle.smt_spelling.proofs.entity.member_constructors.Goals as goal
 

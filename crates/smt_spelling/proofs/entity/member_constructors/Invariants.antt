@@ -1,8 +1,8 @@
 use Rattle.std.proofs.Common.{◌≡◌, ◌++◌, drop, map}
-use Rattle.smt_characters.specs.SharedTexts.{texts}
-use Rattle.smt_leaves.specs.TextSets.{texts_of}
-use Rattle.smt_lines.specs.Line.{spelled_constructor}
-use Rattle.smt_lines.specs.LineForms.{member_constructors}
+use Rattle.law_texts.specs.SharedTexts.{texts}
+use Rattle.smt_types.specs.TextSets.{texts_of}
+use Rattle.law_lines.specs.Line.{spelled_constructor}
+use Rattle.law_lines.specs.LineForms.{member_constructors}
 use Rattle.smt_spelling.proofs.entity.member_constructors.Given as goal
 
 -- what is made so far and what is left are all

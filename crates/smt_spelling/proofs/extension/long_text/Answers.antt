@@ -4,10 +4,10 @@ use Rattle.std.proofs.lemmas.Int.{ints, to_z-of_z}
 use mir.Val.{of_z, to_z}
 use Rattle.std.specs.Rc.{rc_str_bytes}
 use Rattle.std.proofs.lemmas.Result.{IfOk-weaker}
-use Rattle.smt_arithmetic.specs.BitVectors.{bits_of}
-use Rattle.smt_semantics.specs.Script.{name}
-use Rattle.smt_lines.specs.Lines.{bits}
-use Rattle.smt_lines.specs.Spelling.{spelled}
+use Rattle.law_numbers.specs.BitVectors.{bits_of}
+use Rattle.law_scripts.specs.Script.{name}
+use Rattle.law_lines.specs.Lines.{bits}
+use Rattle.law_lines.specs.Spelling.{spelled}
 use Rattle.smt_spelling.proofs.Bracketed.{bracketed}
 use Rattle.smt_spelling.proofs.extension.long_text.Goals as goal
 

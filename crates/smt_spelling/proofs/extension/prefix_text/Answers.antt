@@ -6,10 +6,10 @@ use Rattle.std.proofs.lemmas.Result.{IfOk-weaker}
 use Rattle.smt_bits.specs.BitVec.{number_of, width_of}
 use Rattle.smt_bits.specs.Width.{bits_in}
 use Rattle.smt_bits.specs.declared.bitvec.BitVec.{BitVec}
-use Rattle.smt_semantics.specs.Sorts.{bit_sort, option_sort}
-use Rattle.smt_lines.specs.LineForms.{prefix_body}
-use Rattle.smt_lines.specs.Lines.{bits}
-use Rattle.smt_lines.specs.Spelling.{spelled}
+use Rattle.law_scripts.specs.Sorts.{bit_sort, option_sort}
+use Rattle.law_lines.specs.LineForms.{prefix_body}
+use Rattle.law_lines.specs.Lines.{bits}
+use Rattle.law_lines.specs.Spelling.{spelled}
 use Rattle.smt_spelling.proofs.extension.prefix_text.Goals as goal
 
 pub returns-in_ok-some_text-in-Some : goal.returns-in_ok-some_text-in-Some

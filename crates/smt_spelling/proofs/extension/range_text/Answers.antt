@@ -5,14 +5,14 @@ use Rattle.std.specs.Rc.{rc_str_bytes}
 use Rattle.std.proofs.lemmas.Result.{IfOk-weaker}
 use Rattle.smt_bits.specs.BitVec.{number_of}
 use Rattle.smt_bits.specs.declared.bitvec.BitVec.{BitVec}
-use Rattle.smt_ip.specs.IpOrder.{plain_range}
-use Rattle.smt_ip.specs.IpView.{range_of, v4_bits, v4_prefix, v6_bits, v6_prefix}
-use Rattle.smt_ip.specs.declared.net.IPNet.{IPNet}
-use Rattle.smt_semantics.specs.Script.{name}
-use Rattle.smt_lines.specs.EntryNames.{v4_name, v6_name}
-use Rattle.smt_lines.specs.LineForms.{extension_body, prefix_body}
-use Rattle.smt_lines.specs.Lines.{bits}
-use Rattle.smt_lines.specs.Spelling.{spelled}
+use Rattle.smt_ext.specs.IpOrder.{plain_range}
+use Rattle.smt_ext.specs.IpView.{range_of, v4_bits, v4_prefix, v6_bits, v6_prefix}
+use Rattle.smt_ext.specs.declared.net.IPNet.{IPNet}
+use Rattle.law_scripts.specs.Script.{name}
+use Rattle.law_lines.specs.EntryNames.{v4_name, v6_name}
+use Rattle.law_lines.specs.LineForms.{extension_body, prefix_body}
+use Rattle.law_lines.specs.Lines.{bits}
+use Rattle.law_lines.specs.Spelling.{spelled}
 use Rattle.smt_spelling.proofs.Bracketed.{bracketed}
 use Rattle.smt_spelling.proofs.extension.range_text.Goals as goal
 

@@ -1,8 +1,8 @@
 use Rattle.std.proofs.Common.{◌++◌, [], ◌∷◌, sym, ap, ◌∙◌}
 use Rattle.std.specs.Prelude.{encode_utf8, is_some}
-use Rattle.smt_lexicon.specs.Lexicon.{Text}
-use Rattle.smt_lexicon.specs.Reading.{Leaf}
-use Rattle.smt_lexicon.specs.Quoting.{quoted}
+use Rattle.law_texts.specs.Lexicon.{Text}
+use Rattle.law_texts.specs.Reading.{Leaf}
+use Rattle.law_texts.specs.QuotedTexts.{quoted}
 use Rattle.smt_spelling.proofs.Patterned.{allowed_alone, chars_alone}
 use Rattle.smt_spelling.proofs.pattern.character_text.Goals as goal
 

@@ -1,10 +1,10 @@
 use Rattle.std.proofs.Common.{◌≡◌, ◌++◌, drop, map}
 use Rattle.std.specs.List.{list_all}
 use Rattle.std.specs.Rc.{rc_str_bytes}
-use Rattle.smt_semantics.specs.WrittenStrings.{part_expr}
-use Rattle.smt_lines.specs.Spelling.{spelled}
-use Rattle.smt_meaning.specs.Faults.{is_pattern_part}
-use Rattle.smt_leaves.specs.PatternView.{plain_part}
+use Rattle.law_scripts.specs.WrittenStrings.{part_expr}
+use Rattle.law_lines.specs.Spelling.{spelled}
+use Rattle.law_terms.specs.Faults.{is_pattern_part}
+use Rattle.smt_types.specs.PatternView.{plain_part}
 use Rattle.smt_spelling.proofs.pattern.part_texts.Given as goal
 
 -- what is written so far and what is left are all, and no character so far is refused

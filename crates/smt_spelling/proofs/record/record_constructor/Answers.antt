@@ -1,6 +1,6 @@
 use Rattle.std.proofs.Common.{ap, ◌∙◌}
 use Rattle.std.proofs.lemmas.Result.{IfOk-weaker}
-use Rattle.smt_characters.specs.SharedTexts.{texts}
+use Rattle.law_texts.specs.SharedTexts.{texts}
 use Rattle.smt_spelling.proofs.Records.{constructor_bracketed}
 use Rattle.smt_spelling.proofs.record.record_constructor.Goals as goal
 

@@ -1,6 +1,6 @@
 use Rattle.std.proofs.Common.{◌≡◌, ◌++◌, drop, List}
-use Rattle.smt_characters.specs.SharedTexts.{texts}
-use Rattle.smt_lexicon.specs.Reading.{Expression}
+use Rattle.law_texts.specs.SharedTexts.{texts}
+use Rattle.law_texts.specs.Reading.{Expression}
 use Rattle.smt_spelling.specs.Spelled.{AreSpelled}
 use Rattle.smt_spelling.proofs.Records.{selectors}
 use Rattle.smt_spelling.proofs.record.selector_texts.Given as goal

@@ -1,8 +1,8 @@
 use Rattle.std.proofs.Common.{refl, ◌∙◌}
 use Rattle.std.specs.Prelude.{codes}
 use Rattle.std.proofs.lemmas.Result.{IfOk-weaker}
-use Rattle.smt_semantics.specs.Script.{name}
-use Rattle.smt_characters.specs.SharedTexts.{texts}
+use Rattle.law_scripts.specs.Script.{name}
+use Rattle.law_texts.specs.SharedTexts.{texts}
 use Rattle.smt_spelling.proofs.Bracketed.{bracketed}
 use Rattle.smt_spelling.proofs.spell.some_text.Goals as goal
 

@@ -1,8 +1,8 @@
 use Rattle.std.proofs.Common.{◌≡◌, ◌++◌, drop, map}
-use Rattle.smt_leaves.specs.TextSets.{texts_of}
+use Rattle.smt_types.specs.TextSets.{texts_of}
 use Rattle.smt_symbolizer.specs.Listed.{listed_in}
-use Rattle.smt_entity_tables.specs.Named.{said}
-use Rattle.smt_entity_tables.specs.View.{plain_data}
+use Rattle.smt_symbolizer.specs.Named.{said}
+use Rattle.smt_symbolizer.specs.EntityView.{plain_data}
 use Rattle.smt_symbolizer.proofs.environment.listed_entries.Given as goal
 
 -- what is made and what there is of those that are left is what there is of all

@@ -1,10 +1,10 @@
 use Rattle.std.proofs.lemmas.Cmp.{nat_list_cmp_total}
 use Rattle.std.proofs.lemmas.Map.Text.{is_eq-slice_cmp}
 use Rattle.std.proofs.Common.{sym}
-use Rattle.smt_meaning.specs.ValueOrder.{text_cmp}
-use Rattle.smt_meaning.proofs.ValueOrder.{text_same}
+use Rattle.law_terms.specs.ValueOrder.{text_cmp}
+use Rattle.law_terms.proofs.ValueOrder.{text_same}
 use Rattle.std.specs.Prelude.{bytes_eq}
-use Rattle.smt_leaves.proofs.LastPairs.{last_pairs}
+use Rattle.smt_types.proofs.LastPairs.{last_pairs}
 use Rattle.smt_term.proofs.laws.program_maps.Goals as goal
 
 pub returns : goal.returns

@@ -2,9 +2,11 @@ use Rattle.std.proofs.Common.{[], ◌++◌, ◌∙◌, ap, arith, map, refl, rul
 use Rattle.std.proofs.lemmas.Bool.{false≢true}
 use Rattle.std.proofs.Output.{has_written_append, has_written_of_eq, writes_in_calls_nil}
 use Rattle.std.specs.Prelude.{codes}
-use Rattle.smt_characters.proofs.Joined.{joined_from, joined_from-drop, joined_from-start}
-use Rattle.smt_term.specs.Printed.{comma_separated, field_text, field_texts}
-use Rattle.smt_term.specs.View.{plain_fields, record_fields}
+use Rattle.law_texts.proofs.Joined.{joined_from, joined_from-drop, joined_from-start}
+use Rattle.smt_term.specs.Printed.{field_text, field_texts}
+use Rattle.law_texts.specs.LineTexts.{comma_separated}
+use Rattle.smt_term.specs.View.{plain_fields}
+use Rattle.law_terms.specs.Plain.{record_fields}
 use Rattle.smt_term.proofs.PrintedTexts.{next_text, no_item, printed_field, printed_term, some_fields, texts_of_fields, texts_of_terms}
 use Rattle.smt_term.proofs.printed.+print.Goals as goal
 

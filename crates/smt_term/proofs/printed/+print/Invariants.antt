@@ -3,8 +3,8 @@ use denote.Shadow.{shadow}
 use Rattle.std.proofs.Common.{ℕ, ◌≡◌, ◌++◌, List, map, drop}
 use Rattle.std.specs.Prelude.{codes}
 use Rattle.std.specs.Fmt.{HasWritten, IsPlainFormatter}
-use Rattle.smt_characters.proofs.Joined.{joined_from}
-use Rattle.smt_term.specs.Printed.{comma_separated}
+use Rattle.law_texts.proofs.Joined.{joined_from}
+use Rattle.law_texts.specs.LineTexts.{comma_separated}
 use Rattle.smt_term.proofs.PrintedTexts.{printed_field, printed_term}
 use Rattle.smt_term.proofs.printed.+print.Given as goal
 

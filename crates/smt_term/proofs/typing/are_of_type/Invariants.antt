@@ -1,6 +1,6 @@
 use Rattle.std.proofs.Common.{◌≡◌, drop, map}
 use Rattle.std.specs.List.{list_all}
-use Rattle.smt_meaning.specs.Types.{type_eq, type_of}
+use Rattle.law_terms.specs.Types.{type_eq, type_of}
 use Rattle.smt_term.specs.View.{plain_term, plain_type}
 use Rattle.smt_term.proofs.typing.are_of_type.Given as goal
 

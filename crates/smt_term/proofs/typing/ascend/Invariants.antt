@@ -1,6 +1,6 @@
 use Rattle.std.proofs.Common.{◌≡◌, length, map}
-use Rattle.smt_meaning.specs.TermOrder.{term_cmp}
-use Rattle.smt_meaning.specs.ValueOrder.{ascends}
+use Rattle.law_terms.specs.TermOrder.{term_cmp}
+use Rattle.law_terms.specs.ValueOrder.{ascends}
 use Rattle.smt_term.specs.View.{plain_term}
 use Rattle.smt_term.proofs.typing.ascend.Given as goal
 

@@ -1,6 +1,6 @@
 use Rattle.std.proofs.Common.{arith, get_or}
-use Rattle.smt_characters.specs.Digits.{decimal_number}
-use Rattle.smt_characters.proofs.Numbers.{at_least, digit_at, digit_range}
+use Rattle.law_texts.specs.Digits.{decimal_number}
+use Rattle.law_texts.proofs.Numbers.{at_least, digit_at, digit_range}
 use Rattle.smt_text.proofs.digits.number.Goals as goal
 
 pub returns-in_err-checked_mul : goal.returns-in_err-checked_mul

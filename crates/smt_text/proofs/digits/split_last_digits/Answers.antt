@@ -1,5 +1,5 @@
-use Rattle.smt_characters.specs.Characters.{is_digit}
-use Rattle.smt_characters.proofs.Runs.{run_at_end}
+use Rattle.law_texts.specs.Characters.{is_digit}
+use Rattle.law_texts.proofs.Runs.{run_at_end}
 use Rattle.smt_text.proofs.digits.split_last_digits.Goals as goal
 
 pub returns : goal.returns

@@ -1,6 +1,6 @@
 use Rattle.std.proofs.Common.{◌≡◌, ◌^◌, ◌<◌, drop}
-use Rattle.smt_characters.specs.Digits.{decimal_number}
-use Rattle.smt_characters.proofs.Numbers.{from_digits}
+use Rattle.law_texts.specs.Digits.{decimal_number}
+use Rattle.law_texts.proofs.Numbers.{from_digits}
 use Rattle.smt_text.proofs.digits.wide_number.Given as goal
 
 abbrev pub invariant-loop-digit : goal.invariant-loop-digit

@@ -1,6 +1,6 @@
 use Rattle.std.proofs.Common.{arith, ◌≢◌}
 use Rattle.std.proofs.lemmas.Grind.{common_steps}
-use Rattle.smt_characters.proofs.Ids.{plain_character}
+use Rattle.law_texts.proofs.Ids.{plain_character}
 use Rattle.smt_text.proofs.id.push_escaped.Goals as goal
 
 pub returns-else-is_ascii_control : goal.returns-else-is_ascii_control

@@ -8,9 +8,9 @@ use Rattle.std.proofs.lemmas.Str.{encodes-chars}
 use Rattle.std.specs.Prelude.{codes, encode_utf8_all}
 use Rattle.std.specs.Str.{chars}
 use Rattle.std.specs.List.{flat_map}
-use Rattle.smt_characters.specs.Quoting.{quoted_id_byte}
-use Rattle.smt_characters.proofs.Ids.{one_more}
-use Rattle.smt_characters.proofs.Quotes.{next_character, closed}
+use Rattle.law_texts.specs.Quoting.{quoted_id_byte}
+use Rattle.law_texts.proofs.Ids.{one_more}
+use Rattle.law_texts.proofs.Quotes.{next_character, closed}
 use Rattle.smt_text.proofs.id.quote_id.Goals as goal
 
 -- what is written of the characters of an id

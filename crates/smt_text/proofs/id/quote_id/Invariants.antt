@@ -3,7 +3,7 @@ use Rattle.std.specs.Prelude.{codes, encode_utf8_all}
 use Rattle.std.specs.Str.{chars}
 use Rattle.std.specs.List.{flat_map}
 use Rattle.std.specs.String.{string_bytes}
-use Rattle.smt_characters.specs.Quoting.{quoted_id_byte}
+use Rattle.law_texts.specs.Quoting.{quoted_id_byte}
 use Rattle.smt_text.proofs.id.quote_id.Given as goal
 
 -- what is written so far and what is left are the quoted characters

@@ -2,7 +2,7 @@ use Rattle.std.proofs.Common.{rules}
 use borrow.Author.Tests.{tests}
 use Rattle.std.proofs.lemmas.Iterator.{YieldsList-from_chars}
 use Rattle.std.proofs.lemmas.Iterator.Search.{all_from_yields_List}
-use Rattle.smt_characters.specs.Characters.{is_code_point}
+use Rattle.law_texts.specs.Characters.{is_code_point}
 use Rattle.smt_text.proofs.quote.is_string.Goals as goal
 
 pub returns : goal.returns

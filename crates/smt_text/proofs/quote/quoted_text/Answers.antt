@@ -5,8 +5,8 @@ use Rattle.std.specs.String.{string_bytes}
 use Rattle.std.proofs.lemmas.Iterator.{YieldsList-from_chars}
 use Rattle.std.proofs.lemmas.Iterator.Consumers.{YieldsList-turn, YieldsList-end}
 use Rattle.std.proofs.lemmas.List.{length_push}
-use Rattle.smt_characters.specs.Quoting.{quoted_character}
-use Rattle.smt_characters.proofs.Quotes.{next_character, closed}
+use Rattle.law_texts.specs.Quoting.{quoted_character}
+use Rattle.law_texts.proofs.Quotes.{next_character, closed}
 use Rattle.smt_text.proofs.quote.quoted_text.Goals as goal
 
 pub loop-c-preserved : goal.loop-c-preserved

@@ -3,7 +3,7 @@ use Rattle.std.specs.Prelude.{codes}
 use Rattle.std.specs.Str.{chars}
 use Rattle.std.specs.List.{flat_map}
 use Rattle.std.specs.String.{string_bytes}
-use Rattle.smt_characters.specs.Quoting.{quoted_character}
+use Rattle.law_texts.specs.Quoting.{quoted_character}
 use Rattle.smt_text.proofs.quote.quoted_text.Given as goal
 
 -- what is written so far and what is left are the characters that quoting gives

@@ -1,12 +1,12 @@
 use Rattle.std.proofs.Common.{List, ◌∙◌, ap, map, sym}
 use Rattle.smt_term.specs.View.{plain_field, plain_term, plain_type}
 use Rattle.smt_term.specs.declared.term.Term.{Term}
-use Rattle.smt_meaning.specs.TermSets.{set_term}
-use Rattle.smt_cedar_types.specs.TypeOfCedar.{type_of_cedar}
-use Rattle.smt_cedar_types.specs.View.{plain_cedar}
-use Rattle.smt_cedar_types.specs.declared.cedar_type.CedarType.{CedarType}
-use Rattle.smt_cedar_values.specs.Plain.{record_fields}
-use Rattle.smt_cedar_values.specs.View.{named_fields, values_held}
+use Rattle.law_terms.specs.TermSets.{set_term}
+use Rattle.smt_cedar.specs.TypeOfCedar.{type_of_cedar}
+use Rattle.smt_cedar.specs.TypeView.{plain_cedar}
+use Rattle.smt_cedar.specs.declared.cedar_type.CedarType.{CedarType}
+use Rattle.smt_cedar.specs.Plain.{value_fields}
+use Rattle.smt_cedar.specs.ValueView.{named_fields, values_held}
 use Rattle.smt_values.proofs.Faults.{passes_on}
 use Rattle.smt_values.proofs.Parts.{each_attribute, each_element, element_refused, pair_in, pair_refused, set_given, term_of_element}
 use Rattle.smt_values.proofs.Walks.{all_done, one_refused}
@@ -14,14 +14,14 @@ use Rattle.smt_values.proofs.from_cedar.+term_of.Goals as goal
 
 pub attribute_terms-returns-in_err-term : goal.attribute_terms-returns-in_err-term
 attribute_terms-returns-in_err-term t c =
-    let held = record_fields (named_fields c.args.fields.now) in
+    let held = value_fields (named_fields c.args.fields.now) in
     passes_on _ c.from_residual.result c.in_err-term.field-0.0 _ _ c.from_residual.ensures.1 c.in_err-term.ensures
     (λ fault h. each_attribute held c.args.attrs.now c.items-name-items.result.now c.items-name-items.ensures.same
     ∙ one_refused (pair_in held) (map plain_field c.loop-name.pairs.items) c.items-name-items.result.now c.loop-name.name-index c.loop-name-item.result c.loop-name.invariant c.loop-name-test.true c.loop-name-item.is fault (pair_refused held c.loop-name-item.result fault h))
 
 pub attribute_terms-returns : goal.attribute_terms-returns
 attribute_terms-returns t c =
-    let held = record_fields (named_fields c.args.fields.now) in
+    let held = value_fields (named_fields c.args.fields.now) in
     each_attribute held c.args.attrs.now c.items-name-items.result.now c.items-name-items.ensures.same
     ∙ all_done (pair_in held) (map plain_field c.loop-name.pairs.items) c.items-name-items.result.now c.loop-name.name-index c.loop-name-test.false c.loop-name.invariant
 

@@ -1,5 +1,5 @@
 use Rattle.std.proofs.Common.{◌≡◌, ◌+◌, ◌<◌, ◌≤◌, ◌^◌, sym, arith, subst, ℕ}
-use Rattle.smt_arithmetic.proofs.Moved.{joined, joined_below}
+use Rattle.law_numbers.proofs.Moved.{joined, joined_below}
 use Rattle.smt_bits.proofs.bitvec.BitVec.concat.Goals as goal
 
 pub invariant_of-result : goal.invariant_of-result

@@ -1,5 +1,5 @@
 use Rattle.std.proofs.Common.{ℕ, ◌<◌, ◌^◌, sym, subst, ◌∙◌}
-use Rattle.smt_arithmetic.proofs.Masks.{cut_difference}
+use Rattle.law_numbers.proofs.Masks.{cut_difference}
 use Rattle.smt_bits.proofs.bitvec.BitVec.difference.Goals as goal
 
 pub returns-clause-value : goal.returns-clause-value

@@ -1,5 +1,5 @@
 use Rattle.std.proofs.Common.{◌<◌, arith}
-use Rattle.smt_arithmetic.proofs.Moved.{right_near}
+use Rattle.law_numbers.proofs.Moved.{right_near}
 use Rattle.smt_bits.proofs.bitvec.BitVec.lshr.Goals as goal
 
 pub returns-clause-value : goal.returns-clause-value

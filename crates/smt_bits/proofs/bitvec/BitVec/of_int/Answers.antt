@@ -1,7 +1,7 @@
 use Rattle.std.proofs.Common.{◌%◌, ◌^◌, ap, ◌∙◌}
 use Rattle.std.specs.Int.{w128, cast_unsigned}
 use Rattle.std.proofs.lemmas.Int.{to_z-of_z}
-use Rattle.smt_arithmetic.proofs.SignedRange.{bits_cut}
+use Rattle.law_numbers.proofs.SignedRange.{bits_cut}
 use Rattle.smt_bits.proofs.bitvec.BitVec.of_int.Goals as goal
 
 pub returns-clause-value : goal.returns-clause-value

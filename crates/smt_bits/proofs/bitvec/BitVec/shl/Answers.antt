@@ -1,5 +1,5 @@
 use Rattle.std.proofs.Common.{◌<◌, arith}
-use Rattle.smt_arithmetic.proofs.Moved.{left_near}
+use Rattle.law_numbers.proofs.Moved.{left_near}
 use Rattle.smt_bits.proofs.bitvec.BitVec.shl.Goals as goal
 
 pub returns-clause-value : goal.returns-clause-value

@@ -1,4 +1,4 @@
-use Rattle.smt_arithmetic.proofs.SignedRange.{half_fits, greatest}
+use Rattle.law_numbers.proofs.SignedRange.{half_fits, greatest}
 use Rattle.smt_bits.proofs.bitvec.BitVec.signed_max.Goals as goal
 
 pub overflow_cast-result : goal.overflow_cast-result

@@ -1,6 +1,6 @@
 use Rattle.std.proofs.Common.{◌<◌, ◌^◌, arith}
 use Rattle.std.proofs.Math.Pow.{pow_pos}
-use Rattle.smt_arithmetic.proofs.SignedRange.{half_fits, least}
+use Rattle.law_numbers.proofs.SignedRange.{half_fits, least}
 use Rattle.smt_bits.proofs.bitvec.BitVec.signed_min.Goals as goal
 
 pub overflow_cast-result : goal.overflow_cast-result

@@ -1,5 +1,5 @@
 use Rattle.std.proofs.Common.{◌+◌, ◌∙◌}
-use Rattle.smt_arithmetic.proofs.Masks.{cut}
+use Rattle.law_numbers.proofs.Masks.{cut}
 use Rattle.smt_bits.proofs.bitvec.BitVec.sum.Goals as goal
 
 pub returns-clause-value : goal.returns-clause-value

@@ -1,5 +1,5 @@
 use Rattle.std.proofs.Common.{sym, ◌∙◌}
-use Rattle.smt_arithmetic.proofs.SignedRange.{small, not_negative}
+use Rattle.law_numbers.proofs.SignedRange.{small, not_negative}
 use Rattle.smt_bits.proofs.bitvec.BitVec.to_int.Goals as goal
 
 pub overflow_cast-result-else-is_negative : goal.overflow_cast-result-else-is_negative

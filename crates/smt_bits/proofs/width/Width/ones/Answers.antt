@@ -1,4 +1,4 @@
-use Rattle.smt_arithmetic.proofs.Masks.{ones_of}
+use Rattle.law_numbers.proofs.Masks.{ones_of}
 use Rattle.smt_bits.proofs.width.Width.ones.Goals as goal
 
 pub returns : goal.returns

@@ -1,4 +1,4 @@
-use Rattle.smt_arithmetic.proofs.Masks.{masked}
+use Rattle.law_numbers.proofs.Masks.{masked}
 use Rattle.smt_bits.proofs.width.Width.reduce.Goals as goal
 
 pub returns-clause-value : goal.returns-clause-value

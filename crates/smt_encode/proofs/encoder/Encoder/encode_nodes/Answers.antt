@@ -1,14 +1,14 @@
 use Rattle.std.proofs.Common.{◌+◌}
-use Rattle.smt_meaning.specs.Faults.{first_fault}
-use Rattle.smt_lines.specs.NameTables.{no_names}
-use Rattle.smt_lines.specs.Text.{names, text}
-use Rattle.smt_headline.specs.Headline.{Headline}
-use Rattle.smt_sorted.specs.WellWritten.{IsWellWritten, most_for_terms}
+use Rattle.law_terms.specs.Faults.{first_fault}
+use Rattle.law_lines.specs.NameTables.{no_names}
+use Rattle.law_lines.specs.Text.{names, text}
+use Rattle.law_theorem.specs.Headline.{Headline}
+use Rattle.law_theorem.specs.WellWritten.{IsWellWritten, most_for_terms}
 use Rattle.smt_encode.specs.Encoded.{enums_in, nodes_in, texts_in}
 use Rattle.smt_encode.proofs.Completing.{none_whole}
 use Rattle.smt_encode.proofs.Conditions.{node_headline, node_well_written, received}
 use Rattle.smt_encode.proofs.Faulted.{at_ok, has_cause, is_complete, ok_without_fault}
-use Rattle.smt_node_texts.proofs.Named.{names_alone, no_tables}
+use Rattle.smt_spelling.proofs.Named.{names_alone, no_tables}
 use Rattle.smt_encode.proofs.Scripted.{text_written}
 use Rattle.smt_encode.proofs.Writing.{are_texts}
 use Rattle.smt_encode.proofs.encoder.Encoder.encode_nodes.Goals as goal

@@ -1,36 +1,36 @@
 use Rattle.std.proofs.Common.{◌≡◌, ◌⊎◌, ◌<◌, ◌+◌, ◌∷◌, [], IsTrue, List, suc, drop, get_or, length, length-append, map, Some, ap, arith, rules, sym, subst, refl, ◌∙◌, Ok}
-use Rattle.smt_graph.specs.Meanings.{all_found, meanings}
-use Rattle.smt_graph.specs.Parts.{parts_in}
+use Rattle.law_terms.specs.Meanings.{all_found, meanings}
+use Rattle.law_terms.specs.Parts.{parts_in}
 use Rattle.smt_nodes.specs.declared.interner.Interner.{Interner}
 use Rattle.std.specs.Io.KnownBytes.{append_known}
-use Rattle.smt_graph.specs.Parts.{label_in}
-use Rattle.smt_lines.specs.Line.{spelled_lines}
-use Rattle.smt_lexicon.specs.Reading.{Expression}
-use Rattle.smt_lines.specs.NameTables.{Tables}
-use Rattle.smt_lines.specs.Lines.{Written, ◌>>=◌}
-use Rattle.smt_node_texts.specs.Entries.{NodeRendering, heading, own_lines, rendering_in, second_last, written_parts}
-use Rattle.smt_node_texts.specs.Renderings.{plain_rendering}
+use Rattle.law_terms.specs.Parts.{label_in}
+use Rattle.law_lines.specs.Line.{spelled_lines}
+use Rattle.law_texts.specs.Reading.{Expression}
+use Rattle.law_lines.specs.NameTables.{Tables}
+use Rattle.law_lines.specs.Lines.{Written, ◌>>=◌}
+use Rattle.smt_spelling.specs.NodeEntries.{NodeRendering, heading, own_lines, rendering_in, second_last, written_parts}
+use Rattle.smt_spelling.specs.Renderings.{plain_rendering}
 use Rattle.smt_encode.specs.Complete.{is_typed, is_written}
-use Rattle.smt_node_texts.specs.LookUps.{selections, IsClosed}
-use Rattle.smt_lines.specs.Lines.{Enums}
+use Rattle.smt_spelling.specs.LookUps.{selections, IsClosed}
+use Rattle.law_lines.specs.Lines.{Enums}
 use Rattle.smt_encode.specs.Steps.{look_ups_in, WritesHere}
 use Rattle.smt_spelling.specs.Spelled.{IsSpelled}
 use Rattle.smt_nodes.specs.Interned.{meaning_in, nodes_of}
-use Rattle.smt_node_tables.specs.View.{ids_of, place_of, places_of, plain_label, plain_node}
-use Rattle.smt_node_texts.specs.Names.{enums_under, nodes_under, texts_under}
+use Rattle.smt_nodes.specs.View.{ids_of, place_of, places_of, plain_label, plain_node}
+use Rattle.smt_spelling.specs.Names.{enums_under, nodes_under, texts_under}
 use Rattle.std.specs.Option.{option_or}
 use Rattle.std.specs.Prelude.{is_some, slice_get}
 use Rattle.std.specs.Rc.{rc_str_bytes}
-use Rattle.smt_node_texts.specs.NodeLines.{encode_meanings, meaning_fault, meanings_fault}
-use Rattle.smt_node_texts.specs.NodeTexts.{text_at, IsNodeOf}
+use Rattle.smt_spelling.specs.NodeLines.{encode_meanings, meaning_fault, meanings_fault}
+use Rattle.smt_spelling.specs.NodeTexts.{text_at, IsNodeOf}
 use Rattle.smt_encode.proofs.Completing.{have_texts, node_completed, typed_at}
 use Rattle.smt_encode.proofs.Counted.{node_counted}
 use Rattle.smt_encode.proofs.Handed.{handed_over}
-use Rattle.smt_node_texts.proofs.Faulting.{none_is, parts_first}
+use Rattle.smt_spelling.proofs.Faulting.{none_is, parts_first}
 use Rattle.smt_encode.proofs.Going.{at_found, ends, goes_on, none_left, one_passed, same_enums, starts}
 use Rattle.smt_encode.proofs.Walking.{all_parts, behind_written, both_written, earlier_at, holds_at, kept_more, parts_count, parts_earlier, parts_fewer, parts_found, parts_hold, room_stays, walks_then, written_all}
-use Rattle.smt_node_texts.proofs.Built.{built_meaning}
-use Rattle.smt_node_texts.proofs.Stated.{all_stated}
+use Rattle.smt_spelling.proofs.Built.{built_meaning}
+use Rattle.smt_spelling.proofs.Stated.{all_stated}
 use Rattle.smt_encode.proofs.Typed.{all_written, parts_typed}
 use Rattle.smt_encode.proofs.Writing.{kept_texts, kept_written, unnamed}
 use Rattle.smt_encode.proofs.writer.Writer.+walk.Goals as goal

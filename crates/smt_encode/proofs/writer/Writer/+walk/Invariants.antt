@@ -1,17 +1,17 @@
 use Rattle.std.proofs.Common.{◌≡◌, ◌+◌, ◌*◌, ◌≤◌, ℕ, Bool, IsTrue, List, Ok, Some, drop, length, map, take}
 use Rattle.std.specs.List.{AllByRecursion}
 use Rattle.std.specs.Rc.{rc_str_bytes}
-use Rattle.smt_graph.specs.Meanings.{all_found, meanings}
-use Rattle.smt_graph.specs.Nodes.{Meaning}
+use Rattle.law_terms.specs.Meanings.{all_found, meanings}
+use Rattle.law_terms.specs.Nodes.{Meaning}
 use Rattle.smt_nodes.specs.Interned.{nodes_of}
-use Rattle.smt_node_tables.specs.View.{place_of, places_of}
-use Rattle.smt_lines.specs.NameTables.{Tables}
+use Rattle.smt_nodes.specs.View.{place_of, places_of}
+use Rattle.law_lines.specs.NameTables.{Tables}
 use Rattle.smt_script.specs.declared.sink.SinkError.TheVariants.{Fault}
-use Rattle.smt_node_texts.specs.Names.{enums_under, nodes_under, texts_under}
-use Rattle.smt_node_texts.specs.NodeLines.{meanings_fault}
-use Rattle.smt_node_texts.specs.NodeTexts.{text_at}
+use Rattle.smt_spelling.specs.Names.{enums_under, nodes_under, texts_under}
+use Rattle.smt_spelling.specs.NodeLines.{meanings_fault}
+use Rattle.smt_spelling.specs.NodeTexts.{text_at}
 use Rattle.smt_encode.specs.Complete.{AreTypedMeanings, HaveWrittenParts}
-use Rattle.smt_node_texts.specs.LookUps.{IsClosed}
+use Rattle.smt_spelling.specs.LookUps.{IsClosed}
 use Rattle.smt_encode.specs.Steps.{look_ups_in, HasTables, Walks}
 use Rattle.smt_encode.specs.declared.error.WriteError.TheVariants.{Sink}
 use Rattle.smt_encode.proofs.Going.{Going}

@@ -1,12 +1,12 @@
 use Rattle.std.proofs.Common.{ℕ, List, ap, refl, subst, sym, ◌∙◌}
-use Rattle.smt_graph.specs.Nodes.{TypeMeaning}
-use Rattle.smt_leaves.specs.Entities.{bytes_of_type}
-use Rattle.smt_meaning.specs.Plain.{EntityType}
+use Rattle.law_terms.specs.Nodes.{TypeMeaning}
+use Rattle.smt_types.specs.Entities.{bytes_of_type}
+use Rattle.law_terms.specs.Plain.{EntityType}
 use Rattle.smt_nodes.specs.Interned.{meaning_in}
-use Rattle.smt_node_texts.specs.Names.{nodes_under, KeepTables}
-use Rattle.smt_node_texts.specs.NodeLines.{with_name}
-use Rattle.smt_node_texts.specs.declared.names.Names.{Names}
-use Rattle.smt_node_texts.proofs.Named.{names_alone}
+use Rattle.smt_spelling.specs.Names.{nodes_under, KeepTables}
+use Rattle.smt_spelling.specs.NodeLines.{with_name}
+use Rattle.smt_spelling.specs.declared.names.Names.{Names}
+use Rattle.smt_spelling.proofs.Named.{names_alone}
 use Rattle.smt_encode.proofs.writer.Writer.declare.Goals as goal
 
 pub enter_type-requires-clause-meant : goal.enter_type-requires-clause-meant

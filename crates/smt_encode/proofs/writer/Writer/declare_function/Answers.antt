@@ -1,16 +1,16 @@
 use Rattle.std.proofs.Common.{ℕ, List, ap, subst, sym, ◌∙◌}
 use Rattle.std.specs.Io.KnownBytes.{append_known}
 use Rattle.std.specs.Rc.{rc_str_bytes}
-use Rattle.smt_lexicon.specs.Reading.{Expression}
-use Rattle.smt_lines.specs.Lines.{next_function}
-use Rattle.smt_graph.specs.Nodes.{FunctionMeaning}
+use Rattle.law_texts.specs.Reading.{Expression}
+use Rattle.law_lines.specs.Lines.{next_function}
+use Rattle.law_terms.specs.Nodes.{FunctionMeaning}
 use Rattle.smt_spelling.specs.Spelled.{IsSpelled}
-use Rattle.smt_node_texts.specs.Entries.{declare_function}
-use Rattle.smt_node_texts.specs.Names.{KeepTables}
-use Rattle.smt_node_texts.specs.NodeLines.{with_name}
+use Rattle.smt_spelling.specs.NodeEntries.{declare_function}
+use Rattle.smt_spelling.specs.Names.{KeepTables}
+use Rattle.smt_spelling.specs.NodeLines.{with_name}
 use Rattle.smt_encode.specs.Steps.{Wrote}
 use Rattle.smt_encode.proofs.Declared.{declaration_spelled, two_spelled}
-use Rattle.smt_node_texts.proofs.Named.{names_alone}
+use Rattle.smt_spelling.proofs.Named.{names_alone}
 use Rattle.smt_encode.proofs.writer.Writer.declare_function.Goals as goal
 
 pub returns-clause-lines : goal.returns-clause-lines

@@ -1,16 +1,16 @@
 use Rattle.std.proofs.Common.{ℕ, List, ap, refl, subst, sym, ◌∙◌}
 use Rattle.std.specs.Io.KnownBytes.{append_known}
-use Rattle.smt_characters.specs.SharedTexts.{texts}
-use Rattle.smt_graph.specs.Nodes.{TypeMeaning}
-use Rattle.smt_lines.specs.Line.{spelled_lines}
-use Rattle.smt_lines.specs.LineForms.{record_lines}
-use Rattle.smt_lines.specs.Lines.{next_record}
-use Rattle.smt_meaning.specs.Plain.{RecordType}
+use Rattle.law_texts.specs.SharedTexts.{texts}
+use Rattle.law_terms.specs.Nodes.{TypeMeaning}
+use Rattle.law_lines.specs.Line.{spelled_lines}
+use Rattle.law_lines.specs.LineForms.{record_lines}
+use Rattle.law_lines.specs.Lines.{next_record}
+use Rattle.law_terms.specs.Plain.{RecordType}
 use Rattle.smt_nodes.specs.Interned.{meaning_in}
-use Rattle.smt_node_texts.specs.Names.{nodes_under, KeepTables}
-use Rattle.smt_node_texts.specs.NodeLines.{with_name}
-use Rattle.smt_node_texts.specs.declared.names.Names.{Names}
-use Rattle.smt_node_texts.proofs.Named.{names_alone}
+use Rattle.smt_spelling.specs.Names.{nodes_under, KeepTables}
+use Rattle.smt_spelling.specs.NodeLines.{with_name}
+use Rattle.smt_spelling.specs.declared.names.Names.{Names}
+use Rattle.smt_spelling.proofs.Named.{names_alone}
 use Rattle.smt_encode.proofs.writer.Writer.declare_record.Goals as goal
 
 pub enter_type-requires-clause-meant : goal.enter_type-requires-clause-meant

@@ -1,13 +1,13 @@
 use Rattle.std.proofs.Common.{ℕ, List, ap, refl, subst, sym, ◌∙◌}
 use Rattle.std.specs.Io.KnownBytes.{append_known}
-use Rattle.smt_node_texts.specs.Entries.{entry_name}
-use Rattle.smt_graph.specs.Nodes.{TermMeaning}
+use Rattle.smt_spelling.specs.NodeEntries.{entry_name}
+use Rattle.law_terms.specs.Nodes.{TermMeaning}
 use Rattle.smt_nodes.specs.Interned.{meaning_in}
-use Rattle.smt_node_texts.specs.Names.{nodes_under, KeepTables}
-use Rattle.smt_node_texts.specs.NodeLines.{with_name}
-use Rattle.smt_node_texts.specs.declared.names.Names.{Names}
+use Rattle.smt_spelling.specs.Names.{nodes_under, KeepTables}
+use Rattle.smt_spelling.specs.NodeLines.{with_name}
+use Rattle.smt_spelling.specs.declared.names.Names.{Names}
 use Rattle.smt_spelling.proofs.Entered.{entry_spelled}
-use Rattle.smt_node_texts.proofs.Named.{names_alone}
+use Rattle.smt_spelling.proofs.Named.{names_alone}
 use Rattle.smt_encode.proofs.writer.Writer.enter.Goals as goal
 
 pub returns-clause-lines : goal.returns-clause-lines

@@ -1,21 +1,21 @@
 use Rattle.std.proofs.Common.{◌≡◌, ℕ, true, List, Option, Some, None, length, map, ap, sym, subst, ◌∙◌}
 use Rattle.std.specs.Prelude.{is_some}
-use Rattle.smt_graph.specs.Nodes.{PlainLabel}
-use Rattle.smt_graph.specs.Parts.{label_in}
-use Rattle.smt_node_tables.specs.View.{plain_label}
-use Rattle.smt_node_texts.specs.Names.{enums_under, nodes_under, KeepTables}
-use Rattle.smt_node_texts.specs.Entries.{entry_fault, has_inline, inline_by, inline_fault, rendering_in}
+use Rattle.law_terms.specs.Nodes.{PlainLabel}
+use Rattle.law_terms.specs.Parts.{label_in}
+use Rattle.smt_nodes.specs.View.{plain_label}
+use Rattle.smt_spelling.specs.Names.{enums_under, nodes_under, KeepTables}
+use Rattle.smt_spelling.specs.NodeEntries.{entry_fault, has_inline, inline_by, inline_fault, rendering_in}
 use Rattle.smt_spelling.specs.Entries.{SaysInline}
-use Rattle.smt_node_texts.specs.NodeTexts.{IsText}
+use Rattle.smt_spelling.specs.NodeTexts.{IsText}
 use Rattle.smt_spelling.specs.Spelled.{AreSpelled}
-use Rattle.smt_lexicon.specs.Reading.{Expression}
+use Rattle.law_texts.specs.Reading.{Expression}
 use Rattle.smt_script.proofs.PutsLemmas.{appends_nothing}
 use Rattle.std.specs.Rc.{rc_str_bytes}
 use Rattle.std.specs.declared.alloc.Global.{Global}
 use Rattle.std.specs.declared.rc.RcStr.{RcStr}
-use Rattle.smt_node_texts.proofs.Built.{built_meaning, no_entry, no_entry_fault, no_selection}
+use Rattle.smt_spelling.proofs.Built.{built_meaning, no_entry, no_entry_fault, no_selection}
 use Rattle.smt_encode.proofs.Handed.{handed_on}
-use Rattle.smt_node_texts.proofs.Faulting.{entry_last, inline_first}
+use Rattle.smt_spelling.proofs.Faulting.{entry_last, inline_first}
 use Rattle.smt_encode.proofs.Finishing.{inline_lines, inline_stated, says_none, says_some}
 use Rattle.smt_encode.proofs.Writing.{unnamed}
 use Rattle.smt_encode.proofs.writer.Writer.finish.Goals as goal

@@ -1,29 +1,29 @@
 use Rattle.std.proofs.Common.{◌≡◌, ℕ, List, false, ◌∷◌, Some, None, Option, length, map, ap, sym, subst, arith, ◌∙◌}
 use Rattle.std.specs.Rc.{rc_str_bytes}
-use Rattle.smt_characters.specs.SharedTexts.{texts}
-use Rattle.smt_graph.specs.Nodes.{Meaning, PlainLabel, RecordLabel, TypeMeaning}
-use Rattle.smt_node_tables.specs.Attributes.{attributes_of}
-use Rattle.smt_graph.specs.Parts.{label_in, parts_in}
-use Rattle.smt_leaves.specs.Entities.{bytes_of_type}
-use Rattle.smt_leaves.specs.Enums.{enums_of}
-use Rattle.smt_leaves.specs.ExtensionView.{plain_kind}
-use Rattle.smt_lines.specs.Lines.{Enums}
-use Rattle.smt_meaning.specs.Faults.{Fault}
-use Rattle.smt_meaning.specs.Plain.{EntityType, ExtensionType, RecordType}
-use Rattle.smt_node_tables.specs.View.{plain_label}
+use Rattle.law_texts.specs.SharedTexts.{texts}
+use Rattle.law_terms.specs.Nodes.{Meaning, PlainLabel, RecordLabel, TypeMeaning}
+use Rattle.smt_nodes.specs.Attributes.{attributes_of}
+use Rattle.law_terms.specs.Parts.{label_in, parts_in}
+use Rattle.smt_types.specs.Entities.{bytes_of_type}
+use Rattle.smt_types.specs.Enums.{enums_of}
+use Rattle.smt_types.specs.ExtensionView.{plain_kind}
+use Rattle.law_lines.specs.Lines.{Enums}
+use Rattle.law_terms.specs.Faults.{Fault}
+use Rattle.law_terms.specs.Plain.{EntityType, ExtensionType, RecordType}
+use Rattle.smt_nodes.specs.View.{plain_label}
 use Rattle.smt_spelling.specs.Entries.{SaysEntry}
 use Rattle.smt_spelling.specs.Spelled.{AreSpelled, IsSpelled}
 use Rattle.smt_spelling.specs.TextFaults.{Finds}
-use Rattle.smt_node_texts.specs.Entries.{NodeRendering, declare_by, entry_by, entry_fault, has_inline, head_in, inline_fault, is_declared, is_entered, own_lines, rendering_in, selection_fault, written_parts}
-use Rattle.smt_node_texts.specs.Names.{enums_under, nodes_under}
-use Rattle.smt_node_texts.specs.NodeLines.{meaning_fault}
+use Rattle.smt_spelling.specs.NodeEntries.{NodeRendering, declare_by, entry_by, entry_fault, has_inline, head_in, inline_fault, is_declared, is_entered, own_lines, rendering_in, selection_fault, written_parts}
+use Rattle.smt_spelling.specs.Names.{enums_under, nodes_under}
+use Rattle.smt_spelling.specs.NodeLines.{meaning_fault}
 use Rattle.smt_encode.specs.Refusals.{write_fault}
-use Rattle.smt_node_texts.specs.Renderings.{plain_rendering}
+use Rattle.smt_spelling.specs.Renderings.{plain_rendering}
 use Rattle.smt_encode.specs.Steps.{WritesHere}
-use Rattle.smt_node_texts.proofs.Built.{built_meaning, call_parts, entered_has_entry, enters, entity_meant, extension_meant, function_meant, record_meant, undeclared}
-use Rattle.smt_node_texts.proofs.Named.{names_alone}
+use Rattle.smt_spelling.proofs.Built.{built_meaning, call_parts, entered_has_entry, enters, entity_meant, extension_meant, function_meant, record_meant, undeclared}
+use Rattle.smt_spelling.proofs.Named.{names_alone}
 use Rattle.smt_encode.proofs.Handed.{handed_from, handed_on}
-use Rattle.smt_node_texts.proofs.Faulting.{entry_last, selection_second}
+use Rattle.smt_spelling.proofs.Faulting.{entry_last, selection_second}
 use Rattle.smt_encode.proofs.Finishing.{entry_written, taken_off}
 use Rattle.smt_encode.proofs.writer.Writer.name.Goals as goal
 

@@ -1,17 +1,17 @@
 use Rattle.std.proofs.Common.{Option, ap, map, subst, sym, ◌∙◌}
 use Rattle.std.specs.Prelude.{is_some, IfOk}
-use Rattle.smt_characters.specs.SharedTexts.{texts}
-use Rattle.smt_lexicon.specs.Reading.{Expression}
-use Rattle.smt_lines.specs.LineForms.{operator_head}
-use Rattle.smt_lines.specs.Lines.{Written}
-use Rattle.smt_meaning.specs.Faults.{Fault}
+use Rattle.law_texts.specs.SharedTexts.{texts}
+use Rattle.law_texts.specs.Reading.{Expression}
+use Rattle.law_lines.specs.LineForms.{operator_head}
+use Rattle.law_lines.specs.Lines.{Written}
+use Rattle.law_terms.specs.Faults.{Fault}
 use Rattle.smt_spelling.specs.TextFaults.{Finds}
 use Rattle.smt_term.specs.View.{plain_op, plain_term}
 use Rattle.smt_encode.specs.Applied.{WroteApplied}
-use Rattle.smt_node_texts.specs.Names.{enums_under}
+use Rattle.smt_spelling.specs.Names.{enums_under}
 use Rattle.smt_encode.specs.Refusals.{write_fault}
 use Rattle.smt_encode.proofs.Applying.{applied_alone, own_text}
-use Rattle.smt_node_texts.proofs.Named.{names_alone}
+use Rattle.smt_spelling.proofs.Named.{names_alone}
 use Rattle.smt_encode.proofs.writer.Writer.put_application.Goals as goal
 
 pub returns-in_default : goal.returns-in_default

@@ -1,7 +1,7 @@
 use Rattle.std.proofs.Common.{rules, sym, ap, append-nil, ◌∙◌}
 use Rattle.std.specs.Io.KnownBytes.{append_known}
-use Rattle.smt_lines.specs.Line.{Assert, spelled_line}
-use Rattle.smt_characters.specs.LineTexts.{assert_text}
+use Rattle.law_lines.specs.Line.{Assert, spelled_line}
+use Rattle.law_texts.specs.LineTexts.{assert_text}
 use Rattle.smt_encode.proofs.Scripted.{asserted, spelled_at}
 use Rattle.smt_encode.proofs.writer.Writer.put_assertions.Goals as goal
 

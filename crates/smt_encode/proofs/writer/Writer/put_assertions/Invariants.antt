@@ -1,7 +1,7 @@
 use Rattle.std.proofs.Common.{◌≡◌, Ok, List, map, take}
-use Rattle.smt_lexicon.specs.Reading.{Expression}
-use Rattle.smt_lines.specs.Line.{Assert}
-use Rattle.smt_lines.specs.NameTables.{Tables}
+use Rattle.law_texts.specs.Reading.{Expression}
+use Rattle.law_lines.specs.Line.{Assert}
+use Rattle.law_lines.specs.NameTables.{Tables}
 use Rattle.smt_encode.specs.Steps.{FaultCounted, HasTables, Wrote}
 use Rattle.smt_spelling.specs.Spelled.{AreSpelled}
 use Rattle.smt_script.specs.declared.sink.SinkError.TheVariants.{Fault}

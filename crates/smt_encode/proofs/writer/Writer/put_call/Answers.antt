@@ -1,13 +1,13 @@
-use Rattle.smt_characters.specs.SharedTexts.{texts}
-use Rattle.smt_lines.specs.Lines.{encode_function}
-use Rattle.smt_meaning.specs.Plain.{UufOp}
-use Rattle.smt_semantics.specs.Script.{name}
+use Rattle.law_texts.specs.SharedTexts.{texts}
+use Rattle.law_lines.specs.Lines.{encode_function}
+use Rattle.law_terms.specs.Plain.{UufOp}
+use Rattle.law_scripts.specs.Script.{name}
 use Rattle.smt_term.specs.View.{plain_function}
 use Rattle.std.proofs.Common.{map, ◌∙◌}
-use Rattle.smt_node_texts.specs.Names.{enums_under}
+use Rattle.smt_spelling.specs.Names.{enums_under}
 use Rattle.smt_encode.proofs.Applying.{applied}
 use Rattle.smt_encode.proofs.Bodies.{as_they_stand}
-use Rattle.smt_node_texts.proofs.Named.{names_alone}
+use Rattle.smt_spelling.proofs.Named.{names_alone}
 use Rattle.smt_encode.proofs.writer.Writer.put_call.Goals as goal
 
 pub returns-clause-lines : goal.returns-clause-lines

@@ -1,11 +1,11 @@
 use Rattle.std.proofs.Common.{ℕ, List, Option, ap, subst, ◌∙◌}
 use Rattle.std.specs.Prelude.{IfOk}
-use Rattle.smt_leaves.specs.Entities.{bytes_of_id, bytes_of_type}
-use Rattle.smt_lines.specs.Lines.{members_of}
+use Rattle.smt_types.specs.Entities.{bytes_of_id, bytes_of_type}
+use Rattle.law_lines.specs.Lines.{members_of}
 use Rattle.smt_spelling.specs.Entries.{entity_entry, entry_bytes, SaysEntry}
 use Rattle.smt_encode.specs.Alone.{name_of_entity, PutUnder}
-use Rattle.smt_node_texts.specs.Entries.{entry_name}
-use Rattle.smt_node_texts.specs.Names.{enums_under}
+use Rattle.smt_spelling.specs.NodeEntries.{entry_name}
+use Rattle.smt_spelling.specs.Names.{enums_under}
 use Rattle.smt_encode.proofs.Bodies.{entity_named, entity_spelled}
 use Rattle.smt_encode.proofs.writer.Writer.put_entity.Goals as goal
 

@@ -1,11 +1,11 @@
 use Rattle.std.proofs.Common.{◌≡◌, ap, sym, ◌∙◌}
 use Rattle.std.specs.Io.KnownBytes.{append_known}
-use Rattle.smt_leaves.specs.Entities.{bytes_of_type}
-use Rattle.smt_lines.specs.Line.{spelled_lines}
-use Rattle.smt_lines.specs.LineForms.{entity_lines}
-use Rattle.smt_lines.specs.Lines.{members_of, next_entity}
+use Rattle.smt_types.specs.Entities.{bytes_of_type}
+use Rattle.law_lines.specs.Line.{spelled_lines}
+use Rattle.law_lines.specs.LineForms.{entity_lines}
+use Rattle.law_lines.specs.Lines.{members_of, next_entity}
 use Rattle.smt_spelling.specs.Entries.{datatype_bytes}
-use Rattle.smt_node_texts.specs.Names.{enums_under}
+use Rattle.smt_spelling.specs.Names.{enums_under}
 use Rattle.smt_encode.proofs.writer.Writer.put_entity_type.Goals as goal
 
 pub returns-clause-lines : goal.returns-clause-lines

@@ -1,12 +1,12 @@
 use Rattle.std.proofs.Common.{◌≡◌, ap, sym, ◌∙◌, append-nil, []}
 use Rattle.std.proofs.lemmas.Result.{IfOk-weaker}
 use Rattle.std.specs.Io.KnownBytes.{append_known}
-use Rattle.smt_characters.specs.LineTexts.{declare_datatype_text}
-use Rattle.smt_characters.specs.SharedTexts.{texts}
-use Rattle.smt_leaves.specs.ExtensionView.{plain_kind}
-use Rattle.smt_lines.specs.EntryNames.{kind_name}
-use Rattle.smt_lines.specs.Line.{spelled_lines}
-use Rattle.smt_lines.specs.LineForms.{kind_lines}
+use Rattle.law_texts.specs.LineTexts.{declare_datatype_text}
+use Rattle.law_texts.specs.SharedTexts.{texts}
+use Rattle.smt_types.specs.ExtensionView.{plain_kind}
+use Rattle.law_lines.specs.EntryNames.{kind_name}
+use Rattle.law_lines.specs.Line.{spelled_lines}
+use Rattle.law_lines.specs.LineForms.{kind_lines}
 use Rattle.smt_encode.proofs.writer.Writer.put_ext_type.Goals as goal
 
 pub returns-clause-lines : goal.returns-clause-lines

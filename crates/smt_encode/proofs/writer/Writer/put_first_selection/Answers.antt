@@ -1,14 +1,14 @@
 use Rattle.std.proofs.Common.{subst, sym, ◌∙◌}
 use Rattle.std.specs.Prelude.{IfOk}
 use Rattle.std.specs.Rc.{rc_str_bytes}
-use Rattle.smt_characters.specs.SharedTexts.{texts}
-use Rattle.smt_lines.specs.Lines.{made_of}
-use Rattle.smt_meaning.specs.Plain.{RecordGetOp, PlainType}
+use Rattle.law_texts.specs.SharedTexts.{texts}
+use Rattle.law_lines.specs.Lines.{made_of}
+use Rattle.law_terms.specs.Plain.{RecordGetOp, PlainType}
 use Rattle.smt_term.specs.View.{plain_type}
 use Rattle.smt_encode.specs.Applied.{WroteApplied}
-use Rattle.smt_node_texts.specs.Entries.{selector}
+use Rattle.smt_spelling.specs.NodeEntries.{selector}
 use Rattle.smt_encode.proofs.Applying.{applied_alone, first_typed}
-use Rattle.smt_node_texts.proofs.Named.{names_alone}
+use Rattle.smt_spelling.proofs.Named.{names_alone}
 use Rattle.smt_encode.proofs.writer.Writer.put_first_selection.Goals as goal
 
 pub returns-in_ok-ty-in-len1-up-clause-lines : goal.returns-in_ok-ty-in-len1-up-clause-lines

@@ -1,26 +1,26 @@
 use Rattle.std.proofs.Common.{◌≡◌, ◌∷◌, [], List, arith, length, map, refl, ap, sym, subst, ◌∙◌}
 use Rattle.std.specs.Rc.{rc_str_bytes}
-use Rattle.smt_graph.specs.Meanings.{all_found, meanings}
-use Rattle.smt_graph.specs.Nodes.{TermMeaning}
+use Rattle.law_terms.specs.Meanings.{all_found, meanings}
+use Rattle.law_terms.specs.Nodes.{TermMeaning}
 use Rattle.smt_nodes.specs.Interned.{nodes_of}
 use Rattle.smt_nodes.specs.declared.interner.Interner.{Interner}
-use Rattle.smt_node_tables.specs.View.{places_of}
-use Rattle.smt_meaning.specs.Plain.{terms}
-use Rattle.smt_lines.specs.Lines.{Enums, Written, encode_terms, option_line}
-use Rattle.smt_lexicon.specs.Reading.{Expression}
+use Rattle.smt_nodes.specs.View.{places_of}
+use Rattle.law_terms.specs.Plain.{terms}
+use Rattle.law_lines.specs.Lines.{Enums, Written, encode_terms, option_line}
+use Rattle.law_texts.specs.Reading.{Expression}
 use Rattle.smt_encode.specs.Complete.{AreWritten}
-use Rattle.smt_node_texts.specs.NodeTexts.{text_at}
-use Rattle.smt_node_texts.specs.Names.{enums_under, nodes_under, texts_under}
-use Rattle.smt_node_texts.specs.LookUps.{look_ups, IsClosed}
-use Rattle.smt_node_texts.specs.NodeLines.{encode_meanings, meanings_fault}
-use Rattle.smt_node_texts.specs.declared.names.Names.{Names}
+use Rattle.smt_spelling.specs.NodeTexts.{text_at}
+use Rattle.smt_spelling.specs.Names.{enums_under, nodes_under, texts_under}
+use Rattle.smt_spelling.specs.LookUps.{look_ups, IsClosed}
+use Rattle.smt_spelling.specs.NodeLines.{encode_meanings, meanings_fault}
+use Rattle.smt_spelling.specs.declared.names.Names.{Names}
 use Rattle.smt_encode.specs.Steps.{Wrote}
 use Rattle.smt_spelling.specs.Spelled.{AreSpelled}
 use Rattle.smt_encode.proofs.Completing.{have_texts, same_whole, terms_are_typed}
 use Rattle.smt_encode.proofs.Counted.{left_within}
 use Rattle.smt_encode.proofs.Handed.{handed_over}
 use Rattle.smt_encode.proofs.Lines.{put}
-use Rattle.smt_node_texts.proofs.Listing.{all_within, terms_fault_is, terms_stated}
+use Rattle.smt_spelling.proofs.Listing.{all_within, terms_fault_is, terms_stated}
 use Rattle.smt_encode.proofs.Scripted.{scripted}
 use Rattle.smt_encode.proofs.writer.Writer.put_nodes.Goals as goal
 

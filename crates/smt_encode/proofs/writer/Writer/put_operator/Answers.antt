@@ -1,11 +1,11 @@
 use Rattle.std.proofs.Common.{◌≡◌, ℕ, List, [], map, ap, subst, ◌∙◌}
 use Rattle.std.specs.Prelude.{IfOk}
-use Rattle.smt_characters.specs.LineTexts.{define_fun_text}
-use Rattle.smt_characters.specs.SharedTexts.{texts}
-use Rattle.smt_lines.specs.LineForms.{application_body, operator_head}
-use Rattle.smt_lines.specs.Lines.{next_term}
-use Rattle.smt_lines.specs.Spelling.{spelled}
-use Rattle.smt_semantics.specs.Script.{name}
+use Rattle.law_texts.specs.LineTexts.{define_fun_text}
+use Rattle.law_texts.specs.SharedTexts.{texts}
+use Rattle.law_lines.specs.LineForms.{application_body, operator_head}
+use Rattle.law_lines.specs.Lines.{next_term}
+use Rattle.law_lines.specs.Spelling.{spelled}
+use Rattle.law_scripts.specs.Script.{name}
 use Rattle.smt_term.specs.View.{plain_op}
 use Rattle.smt_encode.specs.Alone.{PutUnder}
 use Rattle.smt_encode.proofs.Bodies.{as_they_stand, clones_say}

@@ -1,8 +1,8 @@
 use Rattle.std.proofs.Common.{◌≡◌, ℕ, List, [], ap, subst, ◌∙◌}
 use Rattle.std.specs.Prelude.{IfOk}
-use Rattle.smt_characters.specs.LineTexts.{define_fun_text}
-use Rattle.smt_characters.specs.SharedTexts.{texts}
-use Rattle.smt_lines.specs.Lines.{next_term}
+use Rattle.law_texts.specs.LineTexts.{define_fun_text}
+use Rattle.law_texts.specs.SharedTexts.{texts}
+use Rattle.law_lines.specs.Lines.{next_term}
 use Rattle.smt_encode.specs.Alone.{record_body_text, PutUnder}
 use Rattle.smt_encode.proofs.writer.Writer.put_record.Goals as goal
 

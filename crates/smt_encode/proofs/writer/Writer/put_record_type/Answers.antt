@@ -1,9 +1,9 @@
 use Rattle.std.proofs.Common.{◌≡◌, ap, sym, ◌∙◌}
 use Rattle.std.specs.Io.KnownBytes.{append_known}
-use Rattle.smt_characters.specs.SharedTexts.{texts}
-use Rattle.smt_lines.specs.Line.{spelled_lines}
-use Rattle.smt_lines.specs.LineForms.{record_lines}
-use Rattle.smt_lines.specs.Lines.{next_record}
+use Rattle.law_texts.specs.SharedTexts.{texts}
+use Rattle.law_lines.specs.Line.{spelled_lines}
+use Rattle.law_lines.specs.LineForms.{record_lines}
+use Rattle.law_lines.specs.Lines.{next_record}
 use Rattle.smt_spelling.specs.Entries.{datatype_bytes}
 use Rattle.smt_encode.proofs.writer.Writer.put_record_type.Goals as goal
 

@@ -1,10 +1,10 @@
 use Rattle.std.proofs.Common.{◌≡◌, ℕ, List, ap, subst, ◌∙◌}
 use Rattle.std.specs.Prelude.{IfOk}
-use Rattle.smt_characters.specs.SharedTexts.{texts}
-use Rattle.smt_leaves.specs.Pairs.{attributes_in}
-use Rattle.smt_lines.specs.Line.{spelled_lines}
-use Rattle.smt_lines.specs.LineForms.{record_lines}
-use Rattle.smt_lines.specs.Lines.{next_record}
+use Rattle.law_texts.specs.SharedTexts.{texts}
+use Rattle.smt_types.specs.Pairs.{attributes_in}
+use Rattle.law_lines.specs.Line.{spelled_lines}
+use Rattle.law_lines.specs.LineForms.{record_lines}
+use Rattle.law_lines.specs.Lines.{next_record}
 use Rattle.smt_spelling.specs.Spelled.{AreSpelled}
 use Rattle.smt_encode.specs.Alone.{sorts_given, PutUnder}
 use Rattle.smt_encode.proofs.writer.Writer.put_record_type_of_pairs.Goals as goal

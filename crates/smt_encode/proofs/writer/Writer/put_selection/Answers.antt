@@ -1,15 +1,15 @@
 use Rattle.std.proofs.Common.{◌≡◌, ℕ, List, [], map, ap, arith, refl, subst, ◌∙◌}
 use Rattle.std.specs.Prelude.{IfOk}
 use Rattle.std.specs.Rc.{rc_str_bytes}
-use Rattle.smt_characters.specs.LineTexts.{define_fun_text}
-use Rattle.smt_characters.specs.SharedTexts.{texts}
-use Rattle.smt_lines.specs.Lines.{next_term}
-use Rattle.smt_semantics.specs.Script.{name}
+use Rattle.law_texts.specs.LineTexts.{define_fun_text}
+use Rattle.law_texts.specs.SharedTexts.{texts}
+use Rattle.law_lines.specs.Lines.{next_term}
+use Rattle.law_scripts.specs.Script.{name}
 use Rattle.smt_term.specs.View.{plain_type}
 use Rattle.smt_encode.specs.Alone.{PutUnder}
 use Rattle.smt_encode.specs.Applied.{selection_text}
-use Rattle.smt_node_texts.specs.SelectorFaults.{fault_of_selection}
-use Rattle.smt_node_texts.specs.Entries.{selector}
+use Rattle.smt_spelling.specs.SelectorFaults.{fault_of_selection}
+use Rattle.smt_spelling.specs.NodeEntries.{selector}
 use Rattle.smt_encode.proofs.Applying.{no_failure}
 use Rattle.smt_encode.proofs.Bodies.{as_they_stand}
 use Rattle.smt_encode.proofs.Handed.{handed_from}

@@ -1,9 +1,9 @@
 use Rattle.std.proofs.Common.{◌≡◌, ℕ, List, [], map, ap, refl, subst, ◌∙◌}
 use Rattle.std.specs.Prelude.{IfOk}
-use Rattle.smt_characters.specs.LineTexts.{define_fun_text}
-use Rattle.smt_characters.specs.SharedTexts.{texts}
-use Rattle.smt_lines.specs.Lines.{next_term}
-use Rattle.smt_semantics.specs.Script.{name}
+use Rattle.law_texts.specs.LineTexts.{define_fun_text}
+use Rattle.law_texts.specs.SharedTexts.{texts}
+use Rattle.law_lines.specs.Lines.{next_term}
+use Rattle.law_scripts.specs.Script.{name}
 use Rattle.smt_encode.specs.Alone.{set_body_text, PutUnder}
 use Rattle.smt_encode.proofs.Bodies.{as_they_stand, clones_say, set_spelled}
 use Rattle.smt_encode.proofs.writer.Writer.put_set.Goals as goal

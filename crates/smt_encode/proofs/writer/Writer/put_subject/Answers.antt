@@ -1,11 +1,11 @@
 use Rattle.std.proofs.Common.{◌≡◌, ap, refl, subst, ◌∙◌}
-use Rattle.smt_lines.specs.Lines.{Enums}
+use Rattle.law_lines.specs.Lines.{Enums}
 use Rattle.smt_nodes.specs.Interned.{meaning_in}
-use Rattle.smt_node_tables.specs.Subject.{meaning_of}
+use Rattle.smt_nodes.specs.Subject.{meaning_of}
 use Rattle.smt_spelling.specs.Spelled.{IsSpelled}
 use Rattle.smt_spelling.specs.TextFaults.{Finds}
-use Rattle.smt_node_texts.specs.Names.{enums_under}
-use Rattle.smt_node_texts.specs.NodeLines.{encode_meaning, meaning_fault}
+use Rattle.smt_spelling.specs.Names.{enums_under}
+use Rattle.smt_spelling.specs.NodeLines.{encode_meaning, meaning_fault}
 use Rattle.smt_encode.specs.Refusals.{write_fault}
 use Rattle.smt_encode.specs.Steps.{WritesHere}
 use Rattle.smt_encode.proofs.Lines.{written_here}

@@ -1,16 +1,16 @@
 use Rattle.std.proofs.Common.{List, map, ap, refl, subst, sym, ◌∙◌}
 use Rattle.std.specs.Prelude.{OnOk}
-use Rattle.smt_graph.specs.Meanings.{all_found, meanings}
-use Rattle.smt_graph.specs.Nodes.{TermMeaning}
-use Rattle.smt_node_tables.specs.declared.id.NodeId.{NodeId}
+use Rattle.law_terms.specs.Meanings.{all_found, meanings}
+use Rattle.law_terms.specs.Nodes.{TermMeaning}
+use Rattle.smt_nodes.specs.declared.id.NodeId.{NodeId}
 use Rattle.smt_nodes.specs.declared.interner.Interner.{Interner}
 use Rattle.smt_nodes.specs.Interned.{nodes_of}
-use Rattle.smt_node_tables.specs.View.{places_of}
+use Rattle.smt_nodes.specs.View.{places_of}
 use Rattle.smt_term.specs.View.{plain_term}
 use Rattle.smt_encode.specs.Complete.{AreWritten}
-use Rattle.smt_node_texts.specs.Names.{nodes_under, texts_under}
-use Rattle.smt_node_texts.specs.NodeTexts.{HasNoTexts, StandFor}
-use Rattle.smt_node_texts.specs.declared.node_names.NodeNames.{NodeNames}
+use Rattle.smt_spelling.specs.Names.{nodes_under, texts_under}
+use Rattle.smt_spelling.specs.NodeTexts.{HasNoTexts, StandFor}
+use Rattle.smt_spelling.specs.declared.node_names.NodeNames.{NodeNames}
 use Rattle.smt_encode.proofs.Completing.{none_whole, same_numbers}
 use Rattle.smt_encode.proofs.Scripted.{wrote_here}
 use Rattle.smt_encode.proofs.writer.Writer.put_terms.Goals as goal

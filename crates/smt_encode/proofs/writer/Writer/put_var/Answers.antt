@@ -2,9 +2,9 @@ use Rattle.std.proofs.Common.{◌≡◌, ℕ, List, ◌++◌, ap, subst, ◌∙�
 use Rattle.std.specs.Prelude.{IfOk}
 use Rattle.std.specs.Rc.{rc_str_bytes}
 use Rattle.std.specs.String.{string_bytes}
-use Rattle.smt_characters.specs.LineTexts.{comment_text, declare_const_text}
-use Rattle.smt_characters.specs.Quoting.{quoted_id}
-use Rattle.smt_lines.specs.Lines.{next_term}
+use Rattle.law_texts.specs.LineTexts.{comment_text, declare_const_text}
+use Rattle.law_texts.specs.Quoting.{quoted_id}
+use Rattle.law_lines.specs.Lines.{next_term}
 use Rattle.smt_spelling.specs.Entries.{ByConstant}
 use Rattle.smt_encode.specs.Alone.{PutUnder}
 use Rattle.smt_encode.proofs.writer.Writer.put_var.Goals as goal

@@ -1,7 +1,8 @@
 use Rattle.std.proofs.Common.{ℕ, sym, subst, zero-add}
 use Rattle.smt_ext.specs.declared.datetime.span.Fault.TheVariants.{Form}
 use Rattle.smt_ext.specs.DurationRefusal.{HasSum, all_units}
-use Rattle.smt_ext.proofs.Durations.{none_left, sum_at_end, fault_at_end, empty_from}
+use Rattle.smt_ext.proofs.Durations.{none_left, sum_at_end, fault_at_end}
+use Rattle.law_texts.proofs.Blanks.{empty_from}
 use Rattle.smt_ext.proofs.datetime.span.sum_of_parts.Goals as goal
 
 pub returns-then-is_empty-clause-sum : goal.returns-then-is_empty-clause-sum

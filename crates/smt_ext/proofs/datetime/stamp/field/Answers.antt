@@ -1,5 +1,5 @@
 use Rattle.std.proofs.Common.{arith, sym}
-use Rattle.smt_characters.proofs.Fields.{short_number}
+use Rattle.law_texts.proofs.Fields.{short_number}
 use Rattle.smt_ext.proofs.datetime.stamp.field.Goals as goal
 
 -- Four digits at most always give a number.

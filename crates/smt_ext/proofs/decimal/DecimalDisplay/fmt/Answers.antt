@@ -2,7 +2,7 @@ use Rattle.std.proofs.Common.{Bor, ℤ, pos, w64, FitsSigned, ◌≡◌, ℕ, �
 use Rattle.std.specs.Prelude.{unsigned_abs, int_lt}
 use Rattle.std.proofs.lemmas.Int.{to_z-of_z}
 use Rattle.std.specs.Fmt.{decimal, styled_decimal, HasWritten}
-use Rattle.smt_characters.specs.Digits.{minus_if, padded}
+use Rattle.law_texts.specs.Digits.{minus_if, padded}
 use Rattle.smt_ext.specs.Printed.{is_below_zero}
 use Rattle.smt_ext.proofs.PrintedDecimals.{padded_of_styled, below_zero, not_below_zero}
 use Rattle.smt_ext.proofs.decimal.DecimalDisplay.fmt.Goals as goal

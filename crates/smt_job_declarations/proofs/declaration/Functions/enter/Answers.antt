@@ -3,7 +3,7 @@ use Rattle.std.proofs.lemmas.Map.Text.{is_eq-slice_cmp}
 use Rattle.std.specs.Rc.{rc_str_bytes}
 use Rattle.std.specs.declared.rc.Rc.{Rc}
 use Rattle.std.specs.declared.alloc.Global.{Global}
-use Rattle.smt_meaning.specs.Plain.{PlainFunction}
+use Rattle.law_terms.specs.Plain.{PlainFunction}
 use Rattle.smt_term.specs.View.{plain_function}
 use Rattle.smt_term.specs.declared.function.Uuf.{Uuf}
 use Rattle.smt_job_declarations.proofs.Declaring.{declared_after}

@@ -1,8 +1,8 @@
 use Rattle.std.proofs.Common.{sym, ap, ◌∙◌}
-use Rattle.smt_graph.specs.Meanings.{all_found, meanings}
+use Rattle.law_terms.specs.Meanings.{all_found, meanings}
 use Rattle.smt_nodes.proofs.RecordFitting.{typed_else, typed_longer, typed_none, typed_then, types_split}
 use Rattle.smt_nodes.specs.Interned.{nodes_of}
-use Rattle.smt_node_tables.specs.View.{place_of, places_of}
+use Rattle.smt_nodes.specs.View.{place_of, places_of}
 use Rattle.smt_nodes.proofs.interner.Interner.+are_typed.Goals as goal
 
 pub returns-then-is_typed : goal.returns-then-is_typed

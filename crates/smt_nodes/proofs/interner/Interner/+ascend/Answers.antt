@@ -1,5 +1,5 @@
 use Rattle.std.proofs.Common.{◌∙◌, sym}
-use Rattle.smt_graph.specs.Meanings.{meanings}
+use Rattle.law_terms.specs.Meanings.{meanings}
 use Rattle.smt_nodes.specs.Interned.{nodes_of}
 use Rattle.std.proofs.lemmas.Bool.{false≢true}
 use Rattle.smt_nodes.proofs.Ascending.{front}

@@ -1,16 +1,16 @@
 use Rattle.std.proofs.Common.{◌≡◌, ◌<◌, List, None, Some, refl, sym, ◌∙◌, arith, rules}
-use Rattle.smt_graph.specs.Nodes.{Meaning, PlainLabel}
-use Rattle.smt_graph.specs.Meanings.{meanings}
-use Rattle.smt_graph.proofs.Distinct.{nothing_past}
+use Rattle.law_terms.specs.Nodes.{Meaning, PlainLabel}
+use Rattle.law_terms.specs.Meanings.{meanings}
+use Rattle.law_terms.proofs.Distinct.{nothing_past}
 use Rattle.smt_nodes.proofs.Comparing.{at_length, at_nowhere, at_pair, compared, parts_earlier, Compared}
 use Rattle.smt_nodes.proofs.Labels.{parts_before}
 use Rattle.std.specs.declared.cmp.Ordering.TheVariants.{Equal}
 use Rattle.smt_nodes.specs.Interned.{nodes_of}
-use Rattle.smt_node_tables.specs.Order.{first_cmp, parts_apart}
+use Rattle.smt_nodes.specs.LabelOrder.{first_cmp, parts_apart}
 use Rattle.smt_nodes.specs.Order.{meaning_cmp}
-use Rattle.smt_node_tables.specs.View.{ids_of, place_of, plain_label, plain_node}
-use Rattle.smt_node_tables.specs.declared.id.NodeId.{NodeId}
-use Rattle.smt_node_tables.specs.declared.order.Difference.{Difference}
+use Rattle.smt_nodes.specs.View.{ids_of, place_of, plain_label, plain_node}
+use Rattle.smt_nodes.specs.declared.id.NodeId.{NodeId}
+use Rattle.smt_nodes.specs.declared.label_order.Difference.{Difference}
 use Rattle.smt_nodes.proofs.interner.Interner.+compare.Goals as goal
 
 none_some : (m : Meaning) → None ≡ Some m → ⊥

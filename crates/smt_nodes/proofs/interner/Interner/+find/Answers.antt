@@ -3,17 +3,17 @@ use Rattle.std.proofs.lemmas.Iterator.{empty_from_Zip}
 use Rattle.std.proofs.lemmas.List.{length-map}
 use Rattle.std.specs.Iterator.Adapters.{zip_first, zip_second}
 use Rattle.std.specs.Slice.Iter.{iter_rest}
-use Rattle.smt_graph.specs.Meanings.{all_found, meanings}
-use Rattle.smt_graph.specs.Nodes.{FunctionMeaning, TermMeaning, TypeMeaning}
-use Rattle.smt_graph.proofs.Whole.{round}
-use Rattle.smt_graph.specs.Parts.{field_terms, parts_in, term_parts}
-use Rattle.smt_meaning.specs.Plain.{SetType, PlainTerm, Application, NoneTerm, LiteralTerm, RecordTerm, SetTerm, SomeTerm, VariableTerm, terms}
+use Rattle.law_terms.specs.Meanings.{all_found, meanings}
+use Rattle.law_terms.specs.Nodes.{FunctionMeaning, TermMeaning, TypeMeaning}
+use Rattle.law_terms.proofs.Whole.{round}
+use Rattle.law_terms.specs.Parts.{field_terms, parts_in, term_parts}
+use Rattle.law_terms.specs.Plain.{SetType, PlainTerm, Application, NoneTerm, LiteralTerm, RecordTerm, SetTerm, SomeTerm, VariableTerm, terms, record_fields}
 use Rattle.std.specs.Rc.{rc_str_bytes}
-use Rattle.smt_term.specs.View.{plain_elements, plain_fields, plain_function, plain_items, plain_literal, plain_op, plain_term, plain_type, plain_term-App, plain_term-None, plain_term-Prim, plain_term-Record, plain_term-Set, plain_term-Some, plain_term-Var, record_fields}
+use Rattle.smt_term.specs.View.{plain_elements, plain_fields, plain_function, plain_items, plain_literal, plain_op, plain_term, plain_type, plain_term-App, plain_term-None, plain_term-Prim, plain_term-Record, plain_term-Set, plain_term-Some, plain_term-Var}
 use Rattle.smt_nodes.proofs.Finding.{all_right, app_parts, at_parts, call_parts, decided_by_parts, first_behind, first_right, first_wrong, literal_typed, next_right, next_wrong, none_left, other_count, others_wrong, parts_applied, some_count, some_right, some_wrong}
 use Rattle.smt_nodes.proofs.RecordParts.{fields_listed, fields_meant, listed-length, terms_listed}
 use Rattle.smt_nodes.specs.Interned.{meaning_in, nodes_of}
-use Rattle.smt_node_tables.specs.View.{place_of, places_of, plain_label}
+use Rattle.smt_nodes.specs.View.{place_of, places_of, plain_label}
 use Rattle.smt_nodes.proofs.interner.Interner.+find.Goals as goal
 
 pub are_parts_of_term-returns-then-stands_for_type : goal.are_parts_of_term-returns-then-stands_for_type

@@ -1,13 +1,14 @@
 use Rattle.std.proofs.Common.{◌≡◌, ◌↔◌, Some, length, map}
 use Rattle.std.specs.Iterator.Adapters.{zip_first, zip_second}
 use Rattle.std.specs.Slice.Iter.{iter_rest}
-use Rattle.smt_graph.specs.Meanings.{all_found, meanings}
-use Rattle.smt_graph.specs.Nodes.{TermMeaning}
-use Rattle.smt_graph.specs.Parts.{field_terms}
+use Rattle.law_terms.specs.Meanings.{all_found, meanings}
+use Rattle.law_terms.specs.Nodes.{TermMeaning}
+use Rattle.law_terms.specs.Parts.{field_terms}
 use Rattle.smt_nodes.proofs.RecordParts.{fields_meant}
-use Rattle.smt_term.specs.View.{plain_fields, plain_term, record_fields}
+use Rattle.smt_term.specs.View.{plain_fields, plain_term}
+use Rattle.law_terms.specs.Plain.{record_fields}
 use Rattle.smt_nodes.specs.Interned.{nodes_of}
-use Rattle.smt_node_tables.specs.View.{places_of}
+use Rattle.smt_nodes.specs.View.{places_of}
 use Rattle.smt_nodes.proofs.interner.Interner.+find.Given as goal
 
 -- as many numbers as terms are left, and whether they stand for these decides it of all

@@ -1,21 +1,21 @@
 use Rattle.std.proofs.Common.{◌≡◌, ◌∷◌, ◌++◌, [], Some, map, sym, ap, ◌∙◌, arith}
 use Rattle.std.proofs.lemmas.List.{take_all}
-use Rattle.smt_characters.specs.SharedTexts.{texts}
-use Rattle.smt_graph.specs.Parts.{field_names, field_terms}
-use Rattle.smt_leaves.specs.Pairs.{attributes_in}
-use Rattle.smt_node_tables.specs.Attributes.{attributes_of}
+use Rattle.law_texts.specs.SharedTexts.{texts}
+use Rattle.law_terms.specs.Parts.{field_names, field_terms}
+use Rattle.smt_types.specs.Pairs.{attributes_in}
+use Rattle.smt_nodes.specs.Attributes.{attributes_of}
 use Rattle.std.proofs.lemmas.Result.{IfOk-weaker}
 use Rattle.std.specs.Rc.{rc_str_bytes}
-use Rattle.smt_meaning.specs.Plain.{OptionType, RecordType, SetType, PlainTerm, Application, NoneTerm, LiteralTerm, RecordTerm, SetTerm, SomeTerm, UufOp, VariableTerm, terms}
-use Rattle.smt_meaning.specs.Types.{field_types, literal_type, type_of}
-use Rattle.smt_graph.specs.Meanings.{all_found, meanings, stands_for}
-use Rattle.smt_graph.specs.Nodes.{ApplicationLabel, LiteralLabel, NoneLabel, RecordOfLabel, SetOfLabel, SomeLabel, VariableLabel, FunctionMeaning, TermMeaning, TypeMeaning}
-use Rattle.smt_term.specs.View.{fields_of, plain_fields, plain_function, plain_literal, plain_op, plain_term, plain_type, plain_term-App, plain_term-None, plain_term-Prim, plain_term-Record, plain_term-Set, plain_term-Some, plain_term-Var, record_fields}
+use Rattle.law_terms.specs.Plain.{OptionType, RecordType, SetType, PlainTerm, Application, NoneTerm, LiteralTerm, RecordTerm, SetTerm, SomeTerm, UufOp, VariableTerm, terms, record_fields}
+use Rattle.law_terms.specs.Types.{field_types, literal_type, type_of}
+use Rattle.law_terms.specs.Meanings.{all_found, meanings, stands_for}
+use Rattle.law_terms.specs.Nodes.{ApplicationLabel, LiteralLabel, NoneLabel, RecordOfLabel, SetOfLabel, SomeLabel, VariableLabel, FunctionMeaning, TermMeaning, TypeMeaning}
+use Rattle.smt_term.specs.View.{fields_of, plain_fields, plain_function, plain_literal, plain_op, plain_term, plain_type, plain_term-App, plain_term-None, plain_term-Prim, plain_term-Record, plain_term-Set, plain_term-Some, plain_term-Var}
 use Rattle.smt_nodes.proofs.Interning.{app_means, both_ok, call_means, literal_means, none_means, one_found, pushed, all_kept, record_means, set_means, some_means, two_found, variable_means}
-use Rattle.smt_node_tables.proofs.MapNames.{term_names}
+use Rattle.smt_nodes.proofs.MapNames.{term_names}
 use Rattle.smt_nodes.proofs.RecordParts.{fields_ascend, fields_listed, fields_meant, terms_listed}
 use Rattle.smt_nodes.specs.Interned.{nodes_of, IsMeant}
-use Rattle.smt_node_tables.specs.View.{places_of}
+use Rattle.smt_nodes.specs.View.{places_of}
 use Rattle.smt_nodes.proofs.interner.Interner.+intern.Goals as goal
 
 pub intern-returns-in-App-clause-meaning : goal.intern-returns-in-App-clause-meaning

@@ -1,10 +1,10 @@
 use Rattle.std.proofs.Common.{◌≡◌, ◌++◌, ◌∷◌, [], List, Some, map, take}
-use Rattle.smt_graph.specs.Meanings.{all_found, meanings}
-use Rattle.smt_graph.specs.Nodes.{Meaning, TermMeaning}
+use Rattle.law_terms.specs.Meanings.{all_found, meanings}
+use Rattle.law_terms.specs.Nodes.{Meaning, TermMeaning}
 use Rattle.smt_term.specs.View.{plain_term}
 use Rattle.smt_nodes.proofs.RecordParts.{fields_meant}
 use Rattle.smt_nodes.specs.Interned.{meaning_in, nodes_of, KeepsMeanings}
-use Rattle.smt_node_tables.specs.View.{places_of}
+use Rattle.smt_nodes.specs.View.{places_of}
 use Rattle.smt_nodes.proofs.interner.Interner.+intern.Given as goal
 
 -- what was there means what it meant, and the parts so far are found

@@ -1,18 +1,18 @@
 use Rattle.std.proofs.Common.{◌≡◌, ◌∷◌, [], Some, refl, sym, ap, ◌∙◌, arith}
 use Rattle.std.proofs.lemmas.List.{take_all}
-use Rattle.smt_characters.specs.SharedTexts.{texts}
-use Rattle.smt_graph.specs.Meanings.{all_found, meanings, stands_for}
-use Rattle.smt_graph.specs.Parts.{names_in, types_in}
-use Rattle.smt_leaves.specs.Pairs.{attributes_in}
-use Rattle.smt_node_tables.proofs.MapNames.{type_names}
+use Rattle.law_texts.specs.SharedTexts.{texts}
+use Rattle.law_terms.specs.Meanings.{all_found, meanings, stands_for}
+use Rattle.law_terms.specs.Parts.{types_in, attribute_names}
+use Rattle.smt_types.specs.Pairs.{attributes_in}
+use Rattle.smt_nodes.proofs.MapNames.{type_names}
 use Rattle.smt_nodes.proofs.RecordParts.{types_ascend, types_listing, types_meant}
-use Rattle.smt_node_tables.specs.Attributes.{attributes_of}
-use Rattle.smt_node_tables.specs.View.{places_of}
+use Rattle.smt_nodes.specs.Attributes.{attributes_of}
+use Rattle.smt_nodes.specs.View.{places_of}
 use Rattle.std.proofs.lemmas.Result.{IfOk-weaker}
-use Rattle.smt_meaning.specs.Plain.{EntityType, OptionType, RecordType, SetType}
-use Rattle.smt_graph.specs.Nodes.{RecordLabel, TypeMeaning}
-use Rattle.smt_leaves.specs.Entities.{bytes_of_type}
-use Rattle.smt_term.specs.View.{attribute_types, attributes_held, plain_attributes, plain_type, plain_type-Record, plain_type-Option, plain_type-Bitvec, plain_type-Bool, plain_type-Entity, plain_type-Ext, plain_type-String, plain_type-Set}
+use Rattle.law_terms.specs.Plain.{EntityType, OptionType, RecordType, SetType, attribute_types}
+use Rattle.law_terms.specs.Nodes.{RecordLabel, TypeMeaning}
+use Rattle.smt_types.specs.Entities.{bytes_of_type}
+use Rattle.smt_term.specs.View.{attributes_held, plain_attributes, plain_type, plain_type-Record, plain_type-Option, plain_type-Bitvec, plain_type-Bool, plain_type-Entity, plain_type-Ext, plain_type-String, plain_type-Set}
 use Rattle.smt_nodes.proofs.Interning.{all_kept, one_found, pushed, record_type_means}
 use Rattle.smt_nodes.specs.Interned.{nodes_of}
 use Rattle.smt_nodes.proofs.interner.Interner.+intern_types.Goals as goal
@@ -64,6 +64,6 @@ intern_type-returns-in_ok-parts-in-Record-clause-meaning t c =
     let m = c.in-Record.rty in
     let x = attribute_types (plain_attributes m) in
     let same : plain_type c.args.ty.now ≡ RecordType x = ap plain_type c.in-Record.is ∙ plain_type-Record m in
-    let names : texts (attributes_of c.in_ok-names-in-Record.names) ≡ names_in x = c.in_ok-names-in-Record.ensures ∙ (ap attributes_in c.items.ensures.same ∙ type_names (attributes_held m)) in
+    let names : texts (attributes_of c.in_ok-names-in-Record.names) ≡ attribute_names x = c.in_ok-names-in-Record.ensures ∙ (ap attributes_in c.items.ensures.same ∙ type_names (attributes_held m)) in
     IfOk-weaker c.enter-in-Record.result _ _ (λ id h. h ∙ (ap (λ l. stands_for (RecordLabel l) (types_in x)) names ∙ (record_type_means x (types_ascend m) ∙ ap (λ t. Some (TypeMeaning t)) (sym same))))
     (c.enter-in-Record.ensures.meaning (types_in x) (ap (λ l. all_found (meanings (nodes_of c.intern_types.new.self)) (places_of l)) c.as_slice.ensures.value ∙ c.in_ok-parts-in-Record.ensures.meanings))

@@ -1,8 +1,8 @@
 use Rattle.std.proofs.Common.{◌≡◌, Some, take}
-use Rattle.smt_graph.specs.Meanings.{all_found, meanings}
+use Rattle.law_terms.specs.Meanings.{all_found, meanings}
 use Rattle.smt_nodes.proofs.RecordParts.{types_meant}
 use Rattle.smt_nodes.specs.Interned.{nodes_of, KeepsMeanings}
-use Rattle.smt_node_tables.specs.View.{places_of}
+use Rattle.smt_nodes.specs.View.{places_of}
 use Rattle.smt_nodes.proofs.interner.Interner.+intern_types.Given as goal
 
 -- what was there means what it meant, and the types so far are found

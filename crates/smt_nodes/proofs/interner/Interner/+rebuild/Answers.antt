@@ -1,24 +1,24 @@
 use Rattle.std.proofs.Common.{◌≡◌, ℕ, List, ◌<◌, Some, length, map, sym, ap, subst, ◌∙◌, arith}
 use Rattle.std.proofs.lemmas.List.{take_all}
 use Rattle.std.specs.Prelude.{IsTrue}
-use Rattle.smt_characters.specs.SharedTexts.{texts}
-use Rattle.smt_graph.specs.Meanings.{all_found, meanings}
-use Rattle.smt_graph.specs.Nodes.{TypeMeaning}
-use Rattle.smt_graph.specs.Parts.{names_in, types_in}
-use Rattle.smt_graph.proofs.Places.{some_same}
-use Rattle.smt_leaves.specs.Entities.{bytes_of_type}
-use Rattle.smt_leaves.specs.ExtensionView.{plain_kind}
-use Rattle.smt_meaning.specs.Plain.{EntityType, RecordType}
-use Rattle.smt_meaning.specs.ValueOrder.{ascends, text_cmp}
+use Rattle.law_texts.specs.SharedTexts.{texts}
+use Rattle.law_terms.specs.Meanings.{all_found, meanings}
+use Rattle.law_terms.specs.Nodes.{TypeMeaning}
+use Rattle.law_terms.specs.Parts.{types_in, attribute_names}
+use Rattle.law_terms.proofs.Places.{some_same}
+use Rattle.smt_types.specs.Entities.{bytes_of_type}
+use Rattle.smt_types.specs.ExtensionView.{plain_kind}
+use Rattle.law_terms.specs.Plain.{EntityType, RecordType, attribute_types}
+use Rattle.law_terms.specs.ValueOrder.{ascends, text_cmp}
 use Rattle.smt_bits.specs.Width.{bits_in}
-use Rattle.smt_term.specs.View.{attribute_types, plain_attribute, plain_type-Bitvec, plain_type-Bool, plain_type-Entity, plain_type-Ext, plain_type-Record, plain_type-String}
+use Rattle.smt_term.specs.View.{plain_attribute, plain_type-Bitvec, plain_type-Bool, plain_type-Entity, plain_type-Ext, plain_type-Record, plain_type-String}
 use Rattle.smt_nodes.proofs.Rebuilding.{a_type, as_many_types, by_names, found_parts, holds_at, labelled, of_bits, of_entity, of_extension, of_record, of_text, of_truth, pushed_names, pushed_types, type_of_part}
 use Rattle.smt_nodes.proofs.RecordFitting.{record_ascends}
-use Rattle.smt_node_tables.proofs.MapNames.{type_names}
+use Rattle.smt_nodes.proofs.MapNames.{type_names}
 use Rattle.smt_nodes.proofs.RecordParts.{types_meant}
-use Rattle.smt_node_tables.specs.Attributes.{attributes_of}
+use Rattle.smt_nodes.specs.Attributes.{attributes_of}
 use Rattle.smt_nodes.specs.Interned.{meaning_in, nodes_of}
-use Rattle.smt_node_tables.specs.View.{place_of, places_of, plain_label}
+use Rattle.smt_nodes.specs.View.{place_of, places_of, plain_label}
 use Rattle.smt_nodes.proofs.interner.Interner.+rebuild.Goals as goal
 
 -- ---- a record type
@@ -53,7 +53,7 @@ record_type_at-returns t c x e h =
     let ms = meanings (nodes_of c.args.self.now) in
     let n = as_many_types ms c.args.parts.now c.args.names.now x e h in
     let ps = c.loop-i.pairs.items in
-    let names : names_in (attribute_types (map plain_attribute ps)) ≡ names_in x =
+    let names : attribute_names (attribute_types (map plain_attribute ps)) ≡ attribute_names x =
     sym (type_names ps) ∙ (c.loop-i.invariant.0 ∙ (ap texts (take_all c.loop-i.i c.args.names.now (omega (arith, c.loop-i-test.false))) ∙ e)) in
     let types : types_meant ps ≡ types_in x =
     some_same (types_meant ps) (types_in x) (sym c.loop-i.invariant.1 ∙ (ap (λ l. all_found ms (places_of l)) (take_all c.loop-i.i c.args.parts.now (omega (arith, n, c.loop-i-test.false))) ∙ h)) in
@@ -68,7 +68,7 @@ type_at-record_type_at-requires t c =
     let own = attributes_of c.in-Some-TRecord.names in
     let (u, is) = a_type o c.requires in
     let (x, e, names) = of_record u (texts own) (labelled o u _ is (ap (λ l. Some (plain_label l)) (sym c.in-Some-TRecord.field-0-is) ∙ c.in-Some-TRecord.ensures)) in
-    let held : texts c.items.result.now ≡ names_in x = ap texts c.items.ensures ∙ names in
+    let held : texts c.items.result.now ≡ attribute_names x = ap texts c.items.ensures ∙ names in
     let P = λ (l : List (List ℕ)). IsTrue (ascends text_cmp l) in
     (omega (arith, c.decreases), (c.parts-parts.ensures.earlier, (subst P (sym held) (record_ascends (nodes_of s) s.graph (place_of c.args.id) x (is ∙ ap (λ t. Some (TypeMeaning t)) e)), (x, held, found_parts (meanings (nodes_of s)) o u (RecordType x) c.parts-parts.result.now is e c.parts-parts.ensures.found))))
 

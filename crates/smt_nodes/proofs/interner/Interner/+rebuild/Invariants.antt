@@ -1,10 +1,10 @@
 use Rattle.std.proofs.Common.{◌≡◌, ◌+◌, ◌*◌, Some, take}
-use Rattle.smt_characters.specs.SharedTexts.{texts}
-use Rattle.smt_graph.specs.Meanings.{all_found, meanings}
-use Rattle.smt_leaves.specs.Pairs.{attributes_in}
+use Rattle.law_texts.specs.SharedTexts.{texts}
+use Rattle.law_terms.specs.Meanings.{all_found, meanings}
+use Rattle.smt_types.specs.Pairs.{attributes_in}
 use Rattle.smt_nodes.proofs.RecordParts.{types_meant}
 use Rattle.smt_nodes.specs.Interned.{nodes_of}
-use Rattle.smt_node_tables.specs.View.{place_of, places_of}
+use Rattle.smt_nodes.specs.View.{place_of, places_of}
 use Rattle.smt_nodes.proofs.interner.Interner.+rebuild.Given as goal
 
 abbrev pub decreases-type_at : goal.decreases-type_at

@@ -2,14 +2,15 @@ use Rattle.std.proofs.Common.{◌≡◌, ◌↔◌, ◌∷◌, [], Some, length,
 use Rattle.std.specs.Iterator.Adapters.{zip_first, zip_second}
 use Rattle.std.specs.Slice.Iter.{iter_rest}
 use Rattle.std.proofs.lemmas.Iterator.{empty_from_Zip}
-use Rattle.smt_graph.specs.Meanings.{all_found, meanings}
-use Rattle.smt_graph.specs.Nodes.{TypeMeaning}
-use Rattle.smt_graph.specs.Parts.{type_parts, types_in}
-use Rattle.smt_term.specs.View.{attribute_types, plain_type, plain_type-Record, plain_type-Option, plain_type-Bitvec, plain_type-Bool, plain_type-Entity, plain_type-Ext, plain_type-String, plain_type-Set}
+use Rattle.law_terms.specs.Meanings.{all_found, meanings}
+use Rattle.law_terms.specs.Nodes.{TypeMeaning}
+use Rattle.law_terms.specs.Parts.{type_parts, types_in}
+use Rattle.smt_term.specs.View.{plain_type, plain_type-Record, plain_type-Option, plain_type-Bitvec, plain_type-Bool, plain_type-Entity, plain_type-Ext, plain_type-String, plain_type-Set}
+use Rattle.law_terms.specs.Plain.{attribute_types}
 use Rattle.smt_nodes.proofs.Finding.{all_right, at_parts, decided_by_parts, next_right, next_wrong, none_left, other_count}
 use Rattle.smt_nodes.proofs.RecordParts.{listed-length, types_listing, types_meant}
 use Rattle.smt_nodes.specs.Interned.{nodes_of}
-use Rattle.smt_node_tables.specs.View.{place_of, places_of, plain_label}
+use Rattle.smt_nodes.specs.View.{place_of, places_of, plain_label}
 use Rattle.smt_nodes.proofs.interner.Interner.+types.Goals as goal
 
 pub are_parts_of_type-returns-in-Option : goal.are_parts_of_type-returns-in-Option

@@ -1,12 +1,13 @@
 use Rattle.std.proofs.Common.{◌≡◌, ◌↔◌, Some, length}
 use Rattle.std.specs.Iterator.Adapters.{zip_first, zip_second}
 use Rattle.std.specs.Slice.Iter.{iter_rest}
-use Rattle.smt_graph.specs.Meanings.{all_found, meanings}
-use Rattle.smt_graph.specs.Parts.{types_in}
-use Rattle.smt_term.specs.View.{attribute_types, plain_attributes}
+use Rattle.law_terms.specs.Meanings.{all_found, meanings}
+use Rattle.law_terms.specs.Parts.{types_in}
+use Rattle.smt_term.specs.View.{plain_attributes}
+use Rattle.law_terms.specs.Plain.{attribute_types}
 use Rattle.smt_nodes.proofs.RecordParts.{types_meant}
 use Rattle.smt_nodes.specs.Interned.{nodes_of}
-use Rattle.smt_node_tables.specs.View.{places_of}
+use Rattle.smt_nodes.specs.View.{places_of}
 use Rattle.smt_nodes.proofs.interner.Interner.+types.Given as goal
 
 -- as many numbers as attributes are left, and whether they stand for the types of these decides it of all

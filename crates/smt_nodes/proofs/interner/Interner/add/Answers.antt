@@ -1,10 +1,10 @@
 use Rattle.std.proofs.Common.{inr, sym, ap, ◌∙◌, subst}
 use Rattle.std.specs.Prelude.{OnOk}
-use Rattle.smt_graph.specs.Meanings.{meaning_at, meaning_of, meanings}
+use Rattle.law_terms.specs.Meanings.{meaning_at, meaning_of, meanings}
 use Rattle.smt_nodes.proofs.Labels.{means_so}
 use Rattle.smt_nodes.proofs.Growing.{Grows}
 use Rattle.smt_nodes.specs.Interned.{nodes_of}
-use Rattle.smt_node_tables.specs.View.{place_of, plain_node}
+use Rattle.smt_nodes.specs.View.{place_of, plain_node}
 use Rattle.smt_nodes.proofs.interner.Interner.add.Goals as goal
 
 pub returns-in-Some-clause-meaning : goal.returns-in-Some-clause-meaning

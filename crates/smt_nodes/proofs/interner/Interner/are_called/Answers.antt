@@ -1,8 +1,8 @@
 use Rattle.std.proofs.Common.{◌∙◌, ap, sym}
-use Rattle.smt_graph.specs.Meanings.{all_found, meanings}
+use Rattle.law_terms.specs.Meanings.{all_found, meanings}
 use Rattle.smt_nodes.specs.Interned.{nodes_of}
 use Rattle.smt_nodes.specs.Kinds.{are_called_at}
-use Rattle.smt_node_tables.specs.View.{place_of, places_of}
+use Rattle.smt_nodes.specs.View.{place_of, places_of}
 use Rattle.smt_nodes.proofs.Fitting.{called_fits, rest_decides}
 use Rattle.smt_nodes.proofs.interner.Interner.are_called.Goals as goal
 

@@ -1,7 +1,7 @@
 use Rattle.std.proofs.Common.{◌∙◌, sym}
-use Rattle.smt_graph.specs.Meanings.{meanings}
+use Rattle.law_terms.specs.Meanings.{meanings}
 use Rattle.smt_nodes.specs.Interned.{nodes_of}
-use Rattle.smt_node_tables.specs.View.{places_of}
+use Rattle.smt_nodes.specs.View.{places_of}
 use Rattle.smt_nodes.proofs.Fitting.{elements_else, elements_then}
 use Rattle.smt_nodes.proofs.interner.Interner.are_elements.Goals as goal
 

@@ -1,9 +1,9 @@
 use Rattle.std.proofs.Common.{◌≡◌, drop}
 use Rattle.std.specs.List.{list_all}
-use Rattle.smt_graph.specs.Meanings.{meaning_at}
+use Rattle.law_terms.specs.Meanings.{meaning_at}
 use Rattle.smt_nodes.specs.Interned.{nodes_of}
 use Rattle.smt_nodes.specs.Kinds.{is_term_at}
-use Rattle.smt_node_tables.specs.View.{places_of}
+use Rattle.smt_nodes.specs.View.{places_of}
 use Rattle.smt_nodes.proofs.interner.Interner.are_terms.Given as goal
 
 -- whether what is left are terms decides it of all

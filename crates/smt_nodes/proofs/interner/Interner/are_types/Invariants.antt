@@ -1,9 +1,9 @@
 use Rattle.std.proofs.Common.{◌≡◌, drop}
 use Rattle.std.specs.List.{list_all}
-use Rattle.smt_graph.specs.Meanings.{meaning_at}
+use Rattle.law_terms.specs.Meanings.{meaning_at}
 use Rattle.smt_nodes.specs.Interned.{nodes_of}
 use Rattle.smt_nodes.specs.Kinds.{is_type_at}
-use Rattle.smt_node_tables.specs.View.{places_of}
+use Rattle.smt_nodes.specs.View.{places_of}
 use Rattle.smt_nodes.proofs.interner.Interner.are_types.Given as goal
 
 -- whether what is left are types decides it of all

@@ -1,11 +1,11 @@
 use Rattle.std.proofs.Common.{sym, ap, ◌∙◌}
 use Rattle.std.proofs.lemmas.Result.{IfOk-weaker}
 use Rattle.std.specs.Prelude.{option_and_then}
-use Rattle.smt_graph.specs.Meanings.{all_found, meanings, stands_for}
-use Rattle.smt_graph.proofs.Distinct.{fit_has}
+use Rattle.law_terms.specs.Meanings.{all_found, meanings, stands_for}
+use Rattle.law_terms.proofs.Distinct.{fit_has}
 use Rattle.smt_nodes.proofs.Labels.{means_so}
 use Rattle.smt_nodes.specs.Interned.{nodes_of}
-use Rattle.smt_node_tables.specs.View.{ids_of, places_of, plain_label}
+use Rattle.smt_nodes.specs.View.{ids_of, places_of, plain_label}
 use Rattle.smt_nodes.proofs.interner.Interner.enter.Goals as goal
 
 pub enter_new-requires-clause-missing : goal.enter_new-requires-clause-missing

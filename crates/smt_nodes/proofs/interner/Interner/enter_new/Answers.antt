@@ -1,5 +1,5 @@
 use Rattle.smt_nodes.proofs.Growing.{few_after, graph_after, grown_after, kept_after, meaning_after, truths_after}
-use Rattle.smt_node_tables.specs.View.{place_of}
+use Rattle.smt_nodes.specs.View.{place_of}
 use Rattle.smt_nodes.proofs.interner.Interner.enter_new.Goals as goal
 
 pub invariant_of-self : goal.invariant_of-self

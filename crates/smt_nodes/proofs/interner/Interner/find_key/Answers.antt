@@ -1,6 +1,6 @@
 use Rattle.std.proofs.Common.{refl, ◌∙◌, arith}
-use Rattle.smt_node_tables.proofs.Tables.{finds_some}
-use Rattle.smt_node_tables.specs.View.{ids_of, plain_node}
+use Rattle.smt_nodes.proofs.Tables.{finds_some}
+use Rattle.smt_nodes.specs.View.{ids_of, plain_node}
 use Rattle.smt_nodes.proofs.Labels.{none_behind_newest}
 use Rattle.smt_nodes.specs.Interned.{nodes_of}
 use Rattle.smt_nodes.proofs.interner.Interner.find_key.Goals as goal

@@ -1,11 +1,11 @@
 use Rattle.std.proofs.Common.{◌≡◌, ◌<◌, length, sym, ◌∙◌, arith}
 use Rattle.std.proofs.lemmas.Bool.{false≢true}
-use Rattle.smt_graph.specs.Meanings.{meanings}
-use Rattle.smt_graph.proofs.Places.{as_many, found_within}
+use Rattle.law_terms.specs.Meanings.{meanings}
+use Rattle.law_terms.proofs.Places.{as_many, found_within}
 use Rattle.smt_nodes.proofs.Finding.{none_before}
 use Rattle.smt_nodes.specs.Interned.{nodes_of}
-use Rattle.smt_node_tables.specs.Subject.{meaning_of}
-use Rattle.smt_node_tables.specs.View.{place_of}
+use Rattle.smt_nodes.specs.Subject.{meaning_of}
+use Rattle.smt_nodes.specs.View.{place_of}
 use Rattle.smt_nodes.proofs.interner.Interner.find_subject.Goals as goal
 
 pub loop-place-init : goal.loop-place-init

@@ -1,8 +1,8 @@
 use Rattle.std.proofs.Common.{◌≡◌, ◌<◌, Some}
 use Rattle.smt_nodes.specs.Interned.{meaning_in}
-use Rattle.smt_node_tables.specs.Subject.{meaning_of}
-use Rattle.smt_node_tables.specs.View.{place_of}
-use Rattle.smt_node_tables.specs.declared.id.NodeId.{NodeId}
+use Rattle.smt_nodes.specs.Subject.{meaning_of}
+use Rattle.smt_nodes.specs.View.{place_of}
+use Rattle.smt_nodes.specs.declared.id.NodeId.{NodeId}
 use Rattle.smt_nodes.proofs.interner.Interner.find_subject.Given as goal
 
 -- no number before stands for the subject

@@ -1,12 +1,12 @@
 use Rattle.smt_nodes.specs.Interned.{nodes_of}
 use Rattle.smt_bits.specs.Width.{bits_in}
-use Rattle.smt_leaves.specs.Entities.{bytes_of_type}
-use Rattle.smt_leaves.specs.ExtensionView.{plain_kind}
+use Rattle.smt_types.specs.Entities.{bytes_of_type}
+use Rattle.smt_types.specs.ExtensionView.{plain_kind}
 use Rattle.std.specs.Rc.{rc_str_bytes}
 use Rattle.std.proofs.Common.{ap, ◌∙◌}
-use Rattle.smt_characters.specs.SharedTexts.{texts}
-use Rattle.smt_graph.specs.Meanings.{meanings}
-use Rattle.smt_graph.specs.Nodes.{RecordLabel, RecordOfLabel}
+use Rattle.law_texts.specs.SharedTexts.{texts}
+use Rattle.law_terms.specs.Meanings.{meanings}
+use Rattle.law_terms.specs.Nodes.{RecordLabel, RecordOfLabel}
 use Rattle.smt_nodes.proofs.Fitting.{fits_by, Fits}
 use Rattle.smt_nodes.proofs.interner.Interner.fits.Goals as goal
 

@@ -1,8 +1,8 @@
 use Rattle.std.proofs.Common.{refl}
-use Rattle.smt_graph.specs.Meanings.{meanings}
+use Rattle.law_terms.specs.Meanings.{meanings}
 use Rattle.smt_nodes.specs.Interned.{nodes_of}
 use Rattle.smt_nodes.proofs.Fitting.{alone_of_more, alone_of_none}
-use Rattle.smt_graph.specs.Nodes.{BitVecLabel, BoolLabel, EntityLabel, ExtensionLabel, StringLabel}
+use Rattle.law_terms.specs.Nodes.{BitVecLabel, BoolLabel, EntityLabel, ExtensionLabel, StringLabel}
 use Rattle.smt_nodes.proofs.interner.Interner.fits_alone.Goals as goal
 
 pub returns-in-empty : goal.returns-in-empty

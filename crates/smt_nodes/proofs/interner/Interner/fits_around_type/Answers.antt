@@ -1,5 +1,5 @@
 use Rattle.std.proofs.Common.{◌∙◌}
-use Rattle.smt_graph.specs.Meanings.{meanings}
+use Rattle.law_terms.specs.Meanings.{meanings}
 use Rattle.smt_nodes.specs.Interned.{nodes_of}
 use Rattle.smt_nodes.proofs.Fitting.{option_of_more, option_of_one, set_of_more, set_of_one}
 use Rattle.smt_nodes.proofs.interner.Interner.fits_around_type.Goals as goal

@@ -1,8 +1,8 @@
 use Rattle.std.proofs.Common.{◌∙◌, ap, sym}
-use Rattle.smt_graph.specs.Meanings.{meanings}
-use Rattle.smt_graph.specs.Nodes.{CallLabel}
+use Rattle.law_terms.specs.Meanings.{meanings}
+use Rattle.law_terms.specs.Nodes.{CallLabel}
 use Rattle.smt_nodes.specs.Interned.{nodes_of}
-use Rattle.smt_node_tables.specs.View.{place_of, places_of}
+use Rattle.smt_nodes.specs.View.{place_of, places_of}
 use Rattle.smt_nodes.proofs.Fitting.{call_fits, rest_decides, Fits}
 use Rattle.smt_nodes.proofs.interner.Interner.fits_call.Goals as goal
 

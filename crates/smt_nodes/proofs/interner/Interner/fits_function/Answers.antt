@@ -1,4 +1,4 @@
-use Rattle.smt_graph.specs.Meanings.{meanings}
+use Rattle.law_terms.specs.Meanings.{meanings}
 use Rattle.smt_nodes.specs.Interned.{nodes_of}
 use Rattle.smt_nodes.proofs.Fitting.{function_of_more, function_of_one}
 use Rattle.smt_nodes.proofs.interner.Interner.fits_function.Goals as goal

@@ -1,5 +1,5 @@
 use Rattle.std.proofs.Common.{◌∙◌}
-use Rattle.smt_graph.specs.Meanings.{meanings}
+use Rattle.law_terms.specs.Meanings.{meanings}
 use Rattle.smt_term.specs.View.{plain_literal}
 use Rattle.smt_nodes.specs.Interned.{nodes_of}
 use Rattle.smt_nodes.proofs.Fitting.{literal_of_more, literal_of_one}

@@ -1,6 +1,6 @@
 use Rattle.std.proofs.Common.{sym, ◌∙◌}
-use Rattle.smt_characters.specs.SharedTexts.{texts}
-use Rattle.smt_graph.specs.Meanings.{meanings}
+use Rattle.law_texts.specs.SharedTexts.{texts}
+use Rattle.law_terms.specs.Meanings.{meanings}
 use Rattle.smt_nodes.specs.Interned.{nodes_of}
 use Rattle.smt_nodes.proofs.RecordFitting.{record_type_then, record_type_uneven, record_type_unordered, texts_count}
 use Rattle.smt_nodes.proofs.interner.Interner.fits_record_type.Goals as goal

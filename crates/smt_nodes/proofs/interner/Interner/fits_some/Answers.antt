@@ -1,5 +1,5 @@
 use Rattle.std.proofs.Common.{◌∙◌}
-use Rattle.smt_graph.specs.Meanings.{meanings}
+use Rattle.law_terms.specs.Meanings.{meanings}
 use Rattle.smt_nodes.specs.Interned.{nodes_of}
 use Rattle.smt_nodes.proofs.Fitting.{some_of_more, some_of_one, some_of_two}
 use Rattle.smt_nodes.proofs.interner.Interner.fits_some.Goals as goal

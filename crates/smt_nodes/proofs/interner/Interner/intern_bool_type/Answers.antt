@@ -1,11 +1,11 @@
 use Rattle.std.proofs.Common.{[], refl, ap, subst}
 use Rattle.std.specs.Prelude.{IsTrue}
-use Rattle.smt_graph.specs.Meanings.{meaning_at}
-use Rattle.smt_graph.proofs.Places.{some_same}
+use Rattle.law_terms.specs.Meanings.{meaning_at}
+use Rattle.law_terms.proofs.Places.{some_same}
 use Rattle.smt_nodes.proofs.Growing.{bool_there}
 use Rattle.smt_nodes.specs.Interned.{nodes_of}
 use Rattle.smt_nodes.specs.Kinds.{is_bool_at}
-use Rattle.smt_node_tables.specs.View.{place_of}
+use Rattle.smt_nodes.specs.View.{place_of}
 use Rattle.smt_nodes.proofs.interner.Interner.intern_bool_type.Goals as goal
 
 pub returns-in-Some-clause-meaning : goal.returns-in-Some-clause-meaning

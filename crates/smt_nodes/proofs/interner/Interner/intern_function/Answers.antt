@@ -1,7 +1,7 @@
 use Rattle.std.proofs.Common.{◌≡◌, ◌∷◌, [], Some, ap, ◌∙◌}
 use Rattle.std.proofs.lemmas.Result.{IfOk-weaker}
 use Rattle.std.specs.Rc.{rc_str_bytes}
-use Rattle.smt_graph.specs.Nodes.{FunctionMeaning, TypeMeaning}
+use Rattle.law_terms.specs.Nodes.{FunctionMeaning, TypeMeaning}
 use Rattle.smt_term.specs.View.{plain_type}
 use Rattle.smt_nodes.proofs.Interning.{two_found}
 use Rattle.smt_nodes.specs.Interned.{nodes_of}

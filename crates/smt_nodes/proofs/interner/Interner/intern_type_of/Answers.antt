@@ -1,8 +1,8 @@
 use Rattle.std.proofs.Common.{◌≡◌, ◌∷◌, [], Some, sym, ap, ◌∙◌}
 use Rattle.std.proofs.lemmas.Result.{IfOk-weaker}
-use Rattle.smt_graph.specs.Nodes.{TypeMeaning}
-use Rattle.smt_meaning.specs.Plain.{OptionType, SetType}
-use Rattle.smt_meaning.specs.Types.{literal_type, type_of}
+use Rattle.law_terms.specs.Nodes.{TypeMeaning}
+use Rattle.law_terms.specs.Plain.{OptionType, SetType}
+use Rattle.law_terms.specs.Types.{literal_type, type_of}
 use Rattle.smt_term.specs.View.{plain_literal, plain_term, plain_type, plain_term-App, plain_term-None, plain_term-Prim, plain_term-Set, plain_term-Var}
 use Rattle.smt_nodes.proofs.Interning.{one_found}
 use Rattle.smt_nodes.specs.Interned.{nodes_of}

@@ -1,7 +1,7 @@
 use Rattle.std.proofs.Common.{refl}
-use Rattle.smt_graph.specs.Meanings.{meanings}
+use Rattle.law_terms.specs.Meanings.{meanings}
 use Rattle.smt_nodes.specs.Interned.{nodes_of}
-use Rattle.smt_graph.specs.Nodes.{TermMeaning}
+use Rattle.law_terms.specs.Nodes.{TermMeaning}
 use Rattle.smt_nodes.proofs.Ascending.{below}
 use Rattle.smt_nodes.proofs.interner.Interner.is_below.Goals as goal
 

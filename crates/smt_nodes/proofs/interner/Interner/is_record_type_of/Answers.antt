@@ -1,10 +1,10 @@
 use Rattle.std.proofs.Common.{◌∙◌, sym, ap}
 use Rattle.std.specs.Prelude.{Some}
-use Rattle.smt_characters.specs.SharedTexts.{texts}
+use Rattle.law_texts.specs.SharedTexts.{texts}
 use Rattle.smt_nodes.proofs.RecordFitting.{is_record_at, record_at, same_attributes}
-use Rattle.smt_node_tables.specs.Attributes.{attributes_of}
+use Rattle.smt_nodes.specs.Attributes.{attributes_of}
 use Rattle.smt_nodes.specs.Interned.{meaning_in}
-use Rattle.smt_node_tables.specs.View.{plain_label}
+use Rattle.smt_nodes.specs.View.{plain_label}
 use Rattle.smt_nodes.proofs.interner.Interner.is_record_type_of.Goals as goal
 
 pub returns-in-Some-TRecord : goal.returns-in-Some-TRecord

@@ -1,16 +1,17 @@
 use Rattle.std.proofs.Common.{◌≡◌, ◌↔◌, true, ◌∙◌, sym, ap}
 use Rattle.std.specs.Prelude.{Some}
-use Rattle.smt_characters.specs.SharedTexts.{texts}
-use Rattle.smt_graph.specs.Meanings.{meanings}
-use Rattle.smt_graph.specs.Parts.{field_names}
-use Rattle.smt_leaves.specs.Pairs.{attributes_in}
-use Rattle.smt_term.specs.View.{fields_of, plain_fields, record_fields}
+use Rattle.law_texts.specs.SharedTexts.{texts}
+use Rattle.law_terms.specs.Meanings.{meanings}
+use Rattle.law_terms.specs.Parts.{field_names}
+use Rattle.smt_types.specs.Pairs.{attributes_in}
+use Rattle.smt_term.specs.View.{fields_of, plain_fields}
+use Rattle.law_terms.specs.Plain.{record_fields}
 use Rattle.smt_nodes.proofs.RecordFitting.{other_attributes, record_at, type_of_fields}
-use Rattle.smt_node_tables.proofs.MapNames.{term_names}
-use Rattle.smt_node_tables.specs.Attributes.{attributes_of}
+use Rattle.smt_nodes.proofs.MapNames.{term_names}
+use Rattle.smt_nodes.specs.Attributes.{attributes_of}
 use Rattle.smt_nodes.specs.Interned.{meaning_in, nodes_of}
 use Rattle.smt_nodes.specs.Kinds.{IsRecordAt}
-use Rattle.smt_node_tables.specs.View.{plain_label}
+use Rattle.smt_nodes.specs.View.{plain_label}
 use Rattle.smt_nodes.proofs.interner.Interner.is_type_of_record.Goals as goal
 
 pub returns-then-are_attributes_of : goal.returns-then-are_attributes_of

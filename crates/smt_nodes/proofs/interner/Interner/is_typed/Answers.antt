@@ -1,7 +1,7 @@
 use Rattle.std.proofs.Common.{◌∙◌, rules}
 use Rattle.smt_nodes.proofs.RecordFitting.{typed_held}
 use Rattle.smt_nodes.specs.Interned.{meaning_in, nodes_of}
-use Rattle.smt_node_tables.specs.View.{place_of}
+use Rattle.smt_nodes.specs.View.{place_of}
 use Rattle.smt_nodes.proofs.interner.Interner.is_typed.Goals as goal
 
 pub returns-in-len1-up : goal.returns-in-len1-up

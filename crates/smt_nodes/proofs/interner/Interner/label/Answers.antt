@@ -1,6 +1,6 @@
 use Rattle.std.proofs.Common.{sym}
 use Rattle.smt_nodes.proofs.Labels.{label_is, no_label}
-use Rattle.smt_node_tables.specs.View.{place_of}
+use Rattle.smt_nodes.specs.View.{place_of}
 use Rattle.smt_nodes.specs.Interned.{nodes_of}
 use Rattle.smt_nodes.proofs.interner.Interner.label.Goals as goal
 

@@ -1,12 +1,12 @@
 use Rattle.std.proofs.Common.{◌≡◌, ◌<◌, List, Some, subst, sym}
 use Rattle.std.specs.List.{AllByRecursion}
 use Rattle.std.specs.Prelude.{IfSome}
-use Rattle.smt_graph.specs.Meanings.{all_found, meanings}
-use Rattle.smt_graph.specs.Parts.{parts_in}
+use Rattle.law_terms.specs.Meanings.{all_found, meanings}
+use Rattle.law_terms.specs.Parts.{parts_in}
 use Rattle.smt_nodes.proofs.Labels.{no_parts, parts_are, parts_before}
 use Rattle.smt_nodes.specs.Interned.{meaning_in, nodes_of}
-use Rattle.smt_node_tables.specs.View.{place_of, places_of, plain_node}
-use Rattle.smt_node_tables.specs.declared.id.NodeId.{NodeId}
+use Rattle.smt_nodes.specs.View.{place_of, places_of, plain_node}
+use Rattle.smt_nodes.specs.declared.id.NodeId.{NodeId}
 use Rattle.smt_nodes.proofs.interner.Interner.parts.Goals as goal
 
 pub returns-in-Some-clause-found : goal.returns-in-Some-clause-found

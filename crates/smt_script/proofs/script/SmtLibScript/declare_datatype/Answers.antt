@@ -1,7 +1,7 @@
 -- The line is its head, the datatype and its end.
-use Rattle.smt_characters.specs.LineTexts.{spaced, constructor_lines, datatype_body}
-use Rattle.smt_characters.specs.SharedTexts.{texts}
-use Rattle.smt_characters.proofs.LineTexts.{declare_datatype_text-parts}
+use Rattle.law_texts.specs.LineTexts.{spaced, constructor_lines, datatype_body}
+use Rattle.law_texts.specs.SharedTexts.{texts}
+use Rattle.law_texts.proofs.LineTexts.{declare_datatype_text-parts}
 use Rattle.smt_script.proofs.PutsLemmas.{exits, along, then, stops}
 use Rattle.smt_script.proofs.script.SmtLibScript.declare_datatype.Goals as goal
 

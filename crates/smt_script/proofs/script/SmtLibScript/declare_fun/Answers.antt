@@ -1,7 +1,7 @@
 -- The line is its head, the sorts of the arguments, and the sort of the values.
-use Rattle.smt_characters.specs.LineTexts.{spaced}
-use Rattle.smt_characters.specs.SharedTexts.{texts}
-use Rattle.smt_characters.proofs.LineTexts.{declare_fun_text-parts}
+use Rattle.law_texts.specs.LineTexts.{spaced}
+use Rattle.law_texts.specs.SharedTexts.{texts}
+use Rattle.law_texts.proofs.LineTexts.{declare_fun_text-parts}
 use Rattle.smt_script.proofs.PutsLemmas.{exits, along, then, stops}
 use Rattle.smt_script.proofs.script.SmtLibScript.declare_fun.Goals as goal
 

@@ -1,7 +1,7 @@
 -- The line is its head, the arguments, and their sort and value.
-use Rattle.smt_characters.specs.LineTexts.{sorted_names}
-use Rattle.smt_characters.specs.SharedTexts.{text_pairs}
-use Rattle.smt_characters.proofs.LineTexts.{define_fun_text-parts}
+use Rattle.law_texts.specs.LineTexts.{sorted_names}
+use Rattle.law_texts.specs.SharedTexts.{text_pairs}
+use Rattle.law_texts.proofs.LineTexts.{define_fun_text-parts}
 use Rattle.smt_script.proofs.PutsLemmas.{exits, along, then, stops}
 use Rattle.smt_script.proofs.script.SmtLibScript.define_fun.Goals as goal
 

@@ -1,7 +1,7 @@
 use Rattle.std.proofs.Common.{[], ◌++◌, ap, ◌∙◌}
 use Rattle.std.specs.String.{string_bytes}
-use Rattle.smt_characters.specs.LineTexts.{comment_text, declare_datatype_text}
-use Rattle.smt_characters.specs.SharedTexts.{texts}
+use Rattle.law_texts.specs.LineTexts.{comment_text, declare_datatype_text}
+use Rattle.law_texts.specs.SharedTexts.{texts}
 use Rattle.smt_script.proofs.PutsLemmas.{along, exits, stops, then}
 use Rattle.smt_spelling.proofs.datatype.Datatype.put.Goals as goal
 

@@ -1,5 +1,5 @@
 use Rattle.std.proofs.Common.{◌++◌, [], sym, ap, ◌∙◌}
-use Rattle.smt_characters.specs.LineTexts.{comment_text, declare_const_text, define_fun_text}
+use Rattle.law_texts.specs.LineTexts.{comment_text, declare_const_text, define_fun_text}
 use Rattle.smt_script.proofs.PutsLemmas.{along, exits, stops, then}
 use Rattle.smt_spelling.specs.Entries.{entry_bytes}
 use Rattle.smt_spelling.specs.declared.entry.Entry.{Entry}

@@ -1,5 +1,5 @@
 use Rattle.std.proofs.Common.{◌∙◌, sym}
-use Rattle.smt_meaning.specs.Types.{type_of}
+use Rattle.law_terms.specs.Types.{type_of}
 use Rattle.smt_term.specs.View.{plain_op, plain_term, plain_type}
 use Rattle.smt_term.proofs.TypedArguments.{bits_given, test_given, truth_given}
 use Rattle.smt_term.proofs.op.Op.gives_two.Goals as goal

@@ -1,7 +1,7 @@
 use Rattle.std.proofs.Common.{◌+◌, ◌&&◌, refl, sym, ap, ◌∙◌, arith, drop, map}
-use Rattle.smt_meaning.specs.Types.{is_type, result_type, type_of}
-use Rattle.smt_meaning.specs.TermOrder.{term_cmp}
-use Rattle.smt_meaning.specs.ValueOrder.{ascends}
+use Rattle.law_terms.specs.Types.{is_type, result_type, type_of}
+use Rattle.law_terms.specs.TermOrder.{term_cmp}
+use Rattle.law_terms.specs.ValueOrder.{ascends}
 use Rattle.smt_term.specs.View.{plain_op, plain_term, plain_type}
 use Rattle.smt_term.proofs.RecordFields.{are_typed_fields, record_typed, typed_field_more, typed_field_none}
 use Rattle.smt_term.proofs.TypedArguments.{application_typed, are_all, not_given, set_typed, typed_list, typed_more, typed_none}

@@ -1,7 +1,7 @@
 use Rattle.std.proofs.Common.{ap, sym, ◌∙◌}
 use Rattle.std.specs.Prelude.{is_some}
 use Rattle.std.specs.Rc.{rc_str_bytes}
-use Rattle.smt_meaning.specs.Types.{type_of}
+use Rattle.law_terms.specs.Types.{type_of}
 use Rattle.smt_term.specs.View.{plain_term}
 use Rattle.smt_term.proofs.RecordFields.{field_found}
 use Rattle.smt_types.proofs.RecordTypes.{is_some-mapped}

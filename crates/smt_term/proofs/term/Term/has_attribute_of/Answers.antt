@@ -1,6 +1,6 @@
 use Rattle.std.proofs.Common.{option_map, ap, sym, ◌∙◌}
 use Rattle.std.specs.Rc.{rc_str_bytes}
-use Rattle.smt_meaning.specs.Types.{is_type, type_of}
+use Rattle.law_terms.specs.Types.{is_type, type_of}
 use Rattle.smt_term.specs.View.{plain_term, plain_type}
 use Rattle.smt_term.proofs.RecordFields.{field_found}
 use Rattle.smt_term.proofs.term.Term.has_attribute_of.Goals as goal

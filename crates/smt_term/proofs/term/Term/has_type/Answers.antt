@@ -1,8 +1,8 @@
 use Rattle.std.proofs.Common.{sym, ap, ◌∙◌}
 use Rattle.std.specs.Ordering.{is_eq}
-use Rattle.smt_meaning.specs.Types.{type_eq}
+use Rattle.law_terms.specs.Types.{type_eq}
 use Rattle.smt_term.specs.View.{plain_type}
-use Rattle.smt_meaning.proofs.TypeOrder.{eq_same, type_itself}
+use Rattle.law_terms.proofs.TypeOrder.{eq_same, type_itself}
 use Rattle.smt_term.proofs.term.Term.has_type.Goals as goal
 
 pub returns-then-well_typed : goal.returns-then-well_typed

@@ -1,7 +1,7 @@
 use Rattle.std.proofs.Common.{ap, sym, ◌∙◌}
-use Rattle.smt_meaning.specs.Plain.{EntityType}
-use Rattle.smt_meaning.specs.Types.{literal_type, type_eq}
-use Rattle.smt_leaves.specs.Entities.{bytes_of_type}
+use Rattle.law_terms.specs.Plain.{EntityType}
+use Rattle.law_terms.specs.Types.{literal_type, type_eq}
+use Rattle.smt_types.specs.Entities.{bytes_of_type}
 use Rattle.smt_term.specs.View.{plain_literal}
 use Rattle.smt_types.proofs.SameType.{entity_eq-is}
 use Rattle.smt_term.proofs.term.TermPrim.is_entity_of.Goals as goal

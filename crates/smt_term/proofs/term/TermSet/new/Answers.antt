@@ -1,7 +1,7 @@
 use Rattle.std.proofs.Common.{ap, ◌∙◌, map}
 use Rattle.smt_term.specs.View.{plain_term}
 use Rattle.smt_term.proofs.InsertedTerms.{put_step}
-use Rattle.smt_meaning.proofs.SortedSets.{put_all, put-sorted}
+use Rattle.law_terms.proofs.SortedSets.{put_all, put-sorted}
 use Rattle.smt_term.proofs.term.TermSet.new.Goals as goal
 
 pub loop-item-init : goal.loop-item-init

@@ -1,7 +1,7 @@
 use Rattle.std.proofs.Common.{◌≡◌, map, drop}
-use Rattle.smt_meaning.specs.TermSets.{sorted_terms}
+use Rattle.law_terms.specs.TermSets.{sorted_terms}
 use Rattle.smt_term.specs.View.{plain_term}
-use Rattle.smt_meaning.proofs.SortedSets.{put_all}
+use Rattle.law_terms.proofs.SortedSets.{put_all}
 use Rattle.smt_term.proofs.term.TermSet.new.Given as goal
 
 -- what is found, with what is left put in its place, is the whole in order

@@ -1,7 +1,7 @@
 use Rattle.std.proofs.Common.{◌≡◌, map, take}
-use Rattle.smt_meaning.specs.ValueOrder.{text_cmp}
+use Rattle.law_terms.specs.ValueOrder.{text_cmp}
 use Rattle.smt_types.specs.View.{plain_attribute}
-use Rattle.smt_leaves.specs.SortedPairs.{sorted_pairs}
+use Rattle.smt_types.specs.SortedPairs.{sorted_pairs}
 use Rattle.smt_types.proofs.maps.TypeMap.in_order.Given as goal
 
 -- what is found is the pairs so far in order

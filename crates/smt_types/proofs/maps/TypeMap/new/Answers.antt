@@ -1,5 +1,5 @@
 use Rattle.std.proofs.Common.{map}
-use Rattle.smt_leaves.proofs.AscendingPairs.{pairs_ascend}
+use Rattle.smt_types.proofs.AscendingPairs.{pairs_ascend}
 use Rattle.smt_types.specs.View.{plain_attribute, plain_type}
 use Rattle.smt_types.proofs.maps.TypeMap.new.Goals as goal
 

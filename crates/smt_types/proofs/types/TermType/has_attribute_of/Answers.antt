@@ -1,6 +1,6 @@
 use Rattle.std.proofs.Common.{option_map, ap, sym, ◌∙◌}
 use Rattle.std.specs.Rc.{rc_str_bytes}
-use Rattle.smt_meaning.specs.Types.{is_type}
+use Rattle.law_terms.specs.Types.{is_type}
 use Rattle.smt_types.specs.View.{plain_type}
 use Rattle.smt_types.proofs.RecordTypes.{attribute_found}
 use Rattle.smt_types.proofs.types.TermType.has_attribute_of.Goals as goal

@@ -1,7 +1,7 @@
 use Rattle.std.proofs.Common.{ap, sym, ◌∙◌}
-use Rattle.smt_meaning.specs.Plain.{EntityType}
-use Rattle.smt_meaning.specs.Types.{type_eq}
-use Rattle.smt_leaves.specs.Entities.{bytes_of_type}
+use Rattle.law_terms.specs.Plain.{EntityType}
+use Rattle.law_terms.specs.Types.{type_eq}
+use Rattle.smt_types.specs.Entities.{bytes_of_type}
 use Rattle.smt_types.specs.View.{plain_type, plain_type-Entity}
 use Rattle.smt_types.proofs.SameType.{entity_eq-is, type_eq-turned}
 use Rattle.smt_types.proofs.types.TermType.is_of_entities.Goals as goal

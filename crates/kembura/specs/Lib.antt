@@ -1,0 +1,306 @@
+pub use Rattle.law_assignments.specs.Covered
+pub use Rattle.law_assignments.specs.InputLaws
+pub use Rattle.law_assignments.specs.InputRows
+pub use Rattle.law_assignments.specs.Laws as AssignmentsLaws
+pub use Rattle.law_assignments.specs.Models
+pub use Rattle.law_assignments.specs.Rows as AssignmentsRows
+pub use Rattle.law_blasting.specs.CircuitLaws
+pub use Rattle.law_blasting.specs.Examples as BlastingExamples
+pub use Rattle.law_blasting.specs.Laws as BlastingLaws
+pub use Rattle.law_blasting.specs.NewTerms
+pub use Rattle.law_blasting.specs.Numbering
+pub use Rattle.law_blasting.specs.Sizes
+pub use Rattle.law_blasting.specs.Theorem
+pub use Rattle.law_cedar.specs.Examples as EnvironmentExamples
+pub use Rattle.law_cedar.specs.Laws as EnvironmentLaws
+pub use Rattle.law_cedar.specs.Symbolized
+pub use Rattle.law_cedar.specs.ValueExamples
+pub use Rattle.law_cedar.specs.ValueLaws
+pub use Rattle.law_extensions.specs.Answers
+pub use Rattle.law_extensions.specs.Examples as ExtensionsExamples
+pub use Rattle.law_extensions.specs.ExtensionFunctions
+pub use Rattle.law_extensions.specs.Laws as ExtensionsLaws
+pub use Rattle.law_extensions.specs.Readings
+pub use Rattle.law_extensions.specs.Rows as ExtensionsRows
+pub use Rattle.law_extensions.specs.Rules
+pub use Rattle.law_extensions.specs.TextExamples
+pub use Rattle.law_extensions.specs.Values as ExtensionsValues
+pub use Rattle.law_folding.specs.AppOf
+pub use Rattle.law_folding.specs.Applications
+pub use Rattle.law_folding.specs.Builder
+pub use Rattle.law_folding.specs.Built
+pub use Rattle.law_folding.specs.Composites
+pub use Rattle.law_folding.specs.Congruence
+pub use Rattle.law_folding.specs.FoldBits
+pub use Rattle.law_folding.specs.FoldConnectives
+pub use Rattle.law_folding.specs.FoldEquality
+pub use Rattle.law_folding.specs.FoldExtensions
+pub use Rattle.law_folding.specs.FoldFunctions
+pub use Rattle.law_folding.specs.FoldOptions
+pub use Rattle.law_folding.specs.FoldRecords
+pub use Rattle.law_folding.specs.FoldRows
+pub use Rattle.law_folding.specs.FoldSets
+pub use Rattle.law_folding.specs.FoldStrings
+pub use Rattle.law_folding.specs.Laws as FoldingLaws
+pub use Rattle.law_folding.specs.Parts as FoldingParts
+pub use Rattle.law_folding.specs.RecordOf
+pub use Rattle.law_folding.specs.Refinement
+pub use Rattle.law_folding.specs.SetOf
+pub use Rattle.law_jobs.specs.Declarations
+pub use Rattle.law_jobs.specs.Enums as JobsEnums
+pub use Rattle.law_jobs.specs.Jobs
+pub use Rattle.law_jobs.specs.Laws as JobsLaws
+pub use Rattle.law_jobs.specs.Outcomes
+pub use Rattle.law_jobs.specs.Parts as JobsParts
+pub use Rattle.law_jobs.specs.Types as JobsTypes
+pub use Rattle.law_lines.specs.EntryNames
+pub use Rattle.law_lines.specs.Every
+pub use Rattle.law_lines.specs.Hostile
+pub use Rattle.law_lines.specs.Joins
+pub use Rattle.law_lines.specs.Line
+pub use Rattle.law_lines.specs.LineForms
+pub use Rattle.law_lines.specs.Lines
+pub use Rattle.law_lines.specs.Made
+pub use Rattle.law_lines.specs.NameTables
+pub use Rattle.law_lines.specs.Rows as LinesRows
+pub use Rattle.law_lines.specs.Scripts
+pub use Rattle.law_lines.specs.Spelling
+pub use Rattle.law_lines.specs.TableGrowth
+pub use Rattle.law_lines.specs.Text
+pub use Rattle.law_numbers.specs.BitOperators
+pub use Rattle.law_numbers.specs.BitVectors
+pub use Rattle.law_numbers.specs.Examples as NumbersExamples
+pub use Rattle.law_numbers.specs.Laws as NumbersLaws
+pub use Rattle.law_numbers.specs.Longs
+pub use Rattle.law_numbers.specs.Shifts
+pub use Rattle.law_scripts.specs.CommandLines
+pub use Rattle.law_scripts.specs.DeclarationLines
+pub use Rattle.law_scripts.specs.LongSample
+pub use Rattle.law_scripts.specs.Meanings as ScriptsMeanings
+pub use Rattle.law_scripts.specs.NoScripts
+pub use Rattle.law_scripts.specs.Numerals
+pub use Rattle.law_scripts.specs.Samples as ScriptsSamples
+pub use Rattle.law_scripts.specs.Script
+pub use Rattle.law_scripts.specs.ScriptOrder
+pub use Rattle.law_scripts.specs.ScriptValues
+pub use Rattle.law_scripts.specs.SelectorSamples
+pub use Rattle.law_scripts.specs.Sorts
+pub use Rattle.law_scripts.specs.Value
+pub use Rattle.law_scripts.specs.Written
+pub use Rattle.law_scripts.specs.WrittenStrings
+pub use Rattle.law_terms.specs.Defaults
+pub use Rattle.law_terms.specs.Examples
+pub use Rattle.law_terms.specs.Faults
+pub use Rattle.law_terms.specs.Fits
+pub use Rattle.law_terms.specs.Formed
+pub use Rattle.law_terms.specs.Functions
+pub use Rattle.law_terms.specs.Interpretations
+pub use Rattle.law_terms.specs.Laws
+pub use Rattle.law_terms.specs.Literals
+pub use Rattle.law_terms.specs.Meaning
+pub use Rattle.law_terms.specs.Meanings
+pub use Rattle.law_terms.specs.Names
+pub use Rattle.law_terms.specs.NodeExamples
+pub use Rattle.law_terms.specs.NodeLaws
+pub use Rattle.law_terms.specs.Nodes
+pub use Rattle.law_terms.specs.Operators
+pub use Rattle.law_terms.specs.Parts
+pub use Rattle.law_terms.specs.Patterns
+pub use Rattle.law_terms.specs.Plain
+pub use Rattle.law_terms.specs.Reached
+pub use Rattle.law_terms.specs.Shapes
+pub use Rattle.law_terms.specs.Tables
+pub use Rattle.law_terms.specs.TermOrder
+pub use Rattle.law_terms.specs.TermSets
+pub use Rattle.law_terms.specs.TypeValues
+pub use Rattle.law_terms.specs.Types
+pub use Rattle.law_terms.specs.Typing
+pub use Rattle.law_terms.specs.ValueOrder
+pub use Rattle.law_terms.specs.Values
+pub use Rattle.law_texts.specs.Characters
+pub use Rattle.law_texts.specs.Digits
+pub use Rattle.law_texts.specs.Escapes
+pub use Rattle.law_texts.specs.Front
+pub use Rattle.law_texts.specs.Lexicon
+pub use Rattle.law_texts.specs.LineTexts
+pub use Rattle.law_texts.specs.QuotedTexts
+pub use Rattle.law_texts.specs.Quoting
+pub use Rattle.law_texts.specs.Reading
+pub use Rattle.law_texts.specs.Reads
+pub use Rattle.law_texts.specs.SharedTexts
+pub use Rattle.law_texts.specs.Tokens
+pub use Rattle.law_theorem.specs.CarriedInterpretations
+pub use Rattle.law_theorem.specs.CarriedOperators
+pub use Rattle.law_theorem.specs.CarriedOrder
+pub use Rattle.law_theorem.specs.CarriedSorts
+pub use Rattle.law_theorem.specs.CarryRows
+pub use Rattle.law_theorem.specs.Conditions
+pub use Rattle.law_theorem.specs.DeclaredDatatypes
+pub use Rattle.law_theorem.specs.Example
+pub use Rattle.law_theorem.specs.Fits as TheoremFits
+pub use Rattle.law_theorem.specs.FittingStates
+pub use Rattle.law_theorem.specs.FlatScripts
+pub use Rattle.law_theorem.specs.Headline
+pub use Rattle.law_theorem.specs.Open
+pub use Rattle.law_theorem.specs.Selections as TheoremSelections
+pub use Rattle.law_theorem.specs.SortedExample
+pub use Rattle.law_theorem.specs.SortedScripts
+pub use Rattle.law_theorem.specs.Stated
+pub use Rattle.law_theorem.specs.TextValues
+pub use Rattle.law_theorem.specs.WellWritten
+pub use Rattle.law_verdicts.specs.Broken
+pub use Rattle.law_verdicts.specs.Chunks
+pub use Rattle.law_verdicts.specs.FirstModel
+pub use Rattle.law_verdicts.specs.Fragment
+pub use Rattle.law_verdicts.specs.HandedOut
+pub use Rattle.law_verdicts.specs.Honest
+pub use Rattle.law_verdicts.specs.Honesty
+pub use Rattle.law_verdicts.specs.InHand
+pub use Rattle.law_verdicts.specs.Joined
+pub use Rattle.law_verdicts.specs.Machine
+pub use Rattle.law_verdicts.specs.Rows as VerdictsRows
+pub use Rattle.law_verdicts.specs.Samples as VerdictsSamples
+pub use Rattle.law_verdicts.specs.Scan
+pub use Rattle.law_verdicts.specs.Truths
+pub use Rattle.law_verdicts.specs.Verdicts
+pub use Rattle.smt_bits.specs.BitVec
+pub use Rattle.smt_bits.specs.Fin
+pub use Rattle.smt_bits.specs.Printed as BitsPrinted
+pub use Rattle.smt_bits.specs.Width
+pub use Rattle.smt_cedar.specs.AttributeMaps
+pub use Rattle.smt_cedar.specs.Cedar
+pub use Rattle.smt_cedar.specs.Constructed
+pub use Rattle.smt_cedar.specs.Constructors
+pub use Rattle.smt_cedar.specs.EntityTypes
+pub use Rattle.smt_cedar.specs.Examples as CedarExamples
+pub use Rattle.smt_cedar.specs.Named as CedarNamed
+pub use Rattle.smt_cedar.specs.Plain as CedarPlain
+pub use Rattle.smt_cedar.specs.RefusedTypes
+pub use Rattle.smt_cedar.specs.RefusedValues
+pub use Rattle.smt_cedar.specs.TypeOfCedar
+pub use Rattle.smt_cedar.specs.TypeView
+pub use Rattle.smt_cedar.specs.ValueView
+pub use Rattle.smt_cli.specs.Causes
+pub use Rattle.smt_cli.specs.Generated
+pub use Rattle.smt_cli.specs.Refusal
+pub use Rattle.smt_cli.specs.Rows as CliRows
+pub use Rattle.smt_cli.specs.Run
+pub use Rattle.smt_cli.specs.SummaryRows
+pub use Rattle.smt_cli.specs.Words
+pub use Rattle.smt_encode.specs.Alone
+pub use Rattle.smt_encode.specs.Applied
+pub use Rattle.smt_encode.specs.Complete
+pub use Rattle.smt_encode.specs.Encoded
+pub use Rattle.smt_encode.specs.Errors as EncodeErrors
+pub use Rattle.smt_encode.specs.Refusals as EncodeRefusals
+pub use Rattle.smt_ext.specs.DatetimeReading
+pub use Rattle.smt_ext.specs.DatetimeRefusal
+pub use Rattle.smt_ext.specs.DatetimeText
+pub use Rattle.smt_ext.specs.Decimal
+pub use Rattle.smt_ext.specs.DurationRefusal
+pub use Rattle.smt_ext.specs.DurationText
+pub use Rattle.smt_ext.specs.Examples as ExtExamples
+pub use Rattle.smt_ext.specs.ExtOrder
+pub use Rattle.smt_ext.specs.Extensions
+pub use Rattle.smt_ext.specs.IpExamples
+pub use Rattle.smt_ext.specs.IpOrder
+pub use Rattle.smt_ext.specs.IpPrinted
+pub use Rattle.smt_ext.specs.IpRanges
+pub use Rattle.smt_ext.specs.IpText
+pub use Rattle.smt_ext.specs.IpView
+pub use Rattle.smt_ext.specs.Milliseconds
+pub use Rattle.smt_ext.specs.Printed as ExtPrinted
+pub use Rattle.smt_factory.specs.Closures
+pub use Rattle.smt_factory.specs.Pairs as FactoryPairs
+pub use Rattle.smt_factory_bits.specs.FoldBy
+pub use Rattle.smt_factory_core.specs.AnyOf
+pub use Rattle.smt_factory_core.specs.AnyRows
+pub use Rattle.smt_job_declarations.specs.DeclarationView
+pub use Rattle.smt_job_declarations.specs.ReadAs
+pub use Rattle.smt_jobs.specs.JobView
+pub use Rattle.smt_jobs.specs.Numbered
+pub use Rattle.smt_jobs.specs.Refused as JobsRefused
+pub use Rattle.smt_nodes.specs.Attributes
+pub use Rattle.smt_nodes.specs.Index
+pub use Rattle.smt_nodes.specs.Interned
+pub use Rattle.smt_nodes.specs.Kinds
+pub use Rattle.smt_nodes.specs.LabelKinds
+pub use Rattle.smt_nodes.specs.Laws as NodesLaws
+pub use Rattle.smt_nodes.specs.Subject
+pub use Rattle.smt_nodes.specs.View as NodesView
+pub use Rattle.smt_pool.specs.Checks
+pub use Rattle.smt_pool.specs.Config
+pub use Rattle.smt_pool.specs.Errors as PoolErrors
+pub use Rattle.smt_pool.specs.Pool
+pub use Rattle.smt_pool.specs.Pooled
+pub use Rattle.smt_pool.specs.Sessions
+pub use Rattle.smt_script.specs.Bytes
+pub use Rattle.smt_script.specs.Count
+pub use Rattle.smt_script.specs.Input
+pub use Rattle.smt_script.specs.Memory
+pub use Rattle.smt_script.specs.MemorySource
+pub use Rattle.smt_script.specs.Sink
+pub use Rattle.smt_script.specs.Source
+pub use Rattle.smt_script.specs.Writer
+pub use Rattle.smt_sexpr.specs.Literals as SexprLiterals
+pub use Rattle.smt_sexpr.specs.Pieces
+pub use Rattle.smt_sexpr.specs.Printed as SexprPrinted
+pub use Rattle.smt_sexpr.specs.Refusals as SexprRefusals
+pub use Rattle.smt_sexpr.specs.View as SexprView
+pub use Rattle.smt_solve.specs.Children
+pub use Rattle.smt_solve.specs.Cvc5
+pub use Rattle.smt_solve.specs.Errors as SolveErrors
+pub use Rattle.smt_solve.specs.FailedWriter
+pub use Rattle.smt_solve.specs.Link
+pub use Rattle.smt_solve.specs.MemoryLink
+pub use Rattle.smt_solve.specs.MemoryStarter
+pub use Rattle.smt_solve.specs.Question
+pub use Rattle.smt_solve.specs.Session
+pub use Rattle.smt_solve.specs.Starter
+pub use Rattle.smt_solve.specs.Starters
+pub use Rattle.smt_spelling.specs.Entries
+pub use Rattle.smt_spelling.specs.LookUpRows
+pub use Rattle.smt_spelling.specs.LookUps
+pub use Rattle.smt_spelling.specs.Names as SpellingNames
+pub use Rattle.smt_spelling.specs.NodeEntries
+pub use Rattle.smt_spelling.specs.NodeLines
+pub use Rattle.smt_spelling.specs.NodeTexts
+pub use Rattle.smt_spelling.specs.Renderings
+pub use Rattle.smt_spelling.specs.Selections as SpellingSelections
+pub use Rattle.smt_spelling.specs.SelectorFaults
+pub use Rattle.smt_spelling.specs.Spelled
+pub use Rattle.smt_spelling.specs.TextFaults
+pub use Rattle.smt_spelling.specs.Texts
+pub use Rattle.smt_symbolizer.specs.ByType
+pub use Rattle.smt_symbolizer.specs.EntityView
+pub use Rattle.smt_symbolizer.specs.Listed
+pub use Rattle.smt_symbolizer.specs.Named as SymbolizerNamed
+pub use Rattle.smt_symbolizer.specs.View as SymbolizerView
+pub use Rattle.smt_term.specs.Functions as TermFunctions
+pub use Rattle.smt_term.specs.Maps as TermMaps
+pub use Rattle.smt_term.specs.Orders
+pub use Rattle.smt_term.specs.Printed as TermPrinted
+pub use Rattle.smt_term.specs.Program as TermProgram
+pub use Rattle.smt_term.specs.Tables as TermTables
+pub use Rattle.smt_term.specs.View as TermView
+pub use Rattle.smt_types.specs.Entities
+pub use Rattle.smt_types.specs.Enums as TypesEnums
+pub use Rattle.smt_types.specs.ExtensionView
+pub use Rattle.smt_types.specs.Maps as TypesMaps
+pub use Rattle.smt_types.specs.Pairs as TypesPairs
+pub use Rattle.smt_types.specs.PatternOrder
+pub use Rattle.smt_types.specs.PatternView
+pub use Rattle.smt_types.specs.Program as TypesProgram
+pub use Rattle.smt_types.specs.SortedPairs
+pub use Rattle.smt_types.specs.TextSets
+pub use Rattle.smt_types.specs.TypeKinds
+pub use Rattle.smt_types.specs.View as TypesView
+pub use Rattle.smt_values.specs.DefaultTerm
+pub use Rattle.smt_values.specs.Examples as ValuesExamples
+pub use Rattle.smt_values.specs.Literals as ValuesLiterals
+pub use Rattle.smt_values.specs.Refused as ValuesRefused
+pub use Rattle.smt_values.specs.StoreExamples
+pub use Rattle.smt_values.specs.StoreLaws
+pub use Rattle.smt_values.specs.Stores
+pub use Rattle.smt_values.specs.TermOfValue
+pub use Rattle.smt_values.specs.View as ValuesView

@@ -1,0 +1,49 @@
+//! Kembura under one name: a crate that names `kembura` reaches every public call, and by `Rattle.kembura.specs` each word of
+//! their contracts.
+//!
+//! | Name | What it has |
+//! |---|---|
+//! | `terms`, `types`, `texts`, `bits`, `extensions` | terms and their types, texts, bitvectors, values of the extension types |
+//! | `factory` | the calls that build terms and fold constants |
+//! | `encode`, `script`, `expressions`, `nodes` | the encoder to SMT-LIB 2.7, sinks and lines of scripts, the reader of S-expressions, numbered nodes |
+//! | `solve`, `pool` | links to solvers, sessions, processes; pools of sessions, and the check of a script |
+//! | `jobs`, `program` | the reader of jobs, and the run of `smtcli` |
+//! | `cedar`, `values`, `symbolizer` | Cedar's types and values, their terms, and the tables of a schema, a request and a store |
+//! | `laws` | the laws of the definitions, by subject |
+//!
+//! The main types stand here too. Where two definitions' files have one name, the later one's name here begins with its crate's,
+//! as `TermView`, the plain form of terms, does (`specs/Lib.antt`).
+#![tactic(auto)]
+
+pub mod laws;
+
+pub use smt_bits as bits;
+pub use smt_bits::{BitVec, Width};
+pub use smt_cedar as cedar;
+pub use smt_cli as program;
+pub use smt_cli::run;
+pub use smt_encode as encode;
+pub use smt_encode::{EncodeError, Encoder};
+pub use smt_ext as extensions;
+pub use smt_ext::{Datetime, Decimal, Duration, Ext, IPNet};
+pub use smt_factory as factory;
+pub use smt_jobs as jobs;
+pub use smt_jobs::{Job, read_job};
+pub use smt_nodes as nodes;
+pub use smt_pool as pool;
+pub use smt_pool::{SolverPool, check_script};
+pub use smt_script as script;
+pub use smt_script::{ListSink, Sink, SinkError, SmtLibScript};
+pub use smt_sexpr as expressions;
+pub use smt_solve as solve;
+pub use smt_solve::{ChildStarter, Decision, Link, LocalSolver, Solver, SolverCommand, Starter};
+pub use smt_symbolizer as symbolizer;
+pub use smt_symbolizer::SymEnv;
+pub use smt_term as terms;
+pub use smt_term::{
+    EntityID, EntityType, EntityUID, EnumTable, Op, Term, TermError, TermList, TermMap, TermPrim,
+    TermSet, TermType, TermVar, Text, TypeMap, UnaryFunction, Uuf,
+};
+pub use smt_text as texts;
+pub use smt_types as types;
+pub use smt_values as values;

@@ -1,0 +1,12 @@
+pub mod Answering
+pub mod Applying
+pub mod Covering
+pub mod Entries
+pub mod Evaluating
+pub mod FoldedLiterals
+pub mod Given
+pub mod Holding
+pub mod Inputs
+pub mod Literals
+pub mod Models
+pub mod Steps

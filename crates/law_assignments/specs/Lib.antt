@@ -1,0 +1,13 @@
+pub mod Assignments
+pub mod Covered
+pub mod Entries
+pub mod Evaluated
+pub mod InputLaws
+pub mod InputRows
+pub mod Inputs
+pub mod Laws
+pub mod Models
+pub mod Outcomes
+pub mod Rows
+pub mod Sound
+pub mod Written

@@ -1,0 +1,16 @@
+pub mod Answers
+pub mod Bounds
+pub mod DatetimeTexts
+pub mod DecimalTexts
+pub mod DurationTexts
+pub mod Examples
+pub mod ExtensionFunctions
+pub mod Laws
+pub mod Literals
+pub mod RangeTexts
+pub mod Readings
+pub mod Rows
+pub mod Rules
+pub mod Signs
+pub mod TextExamples
+pub mod Values

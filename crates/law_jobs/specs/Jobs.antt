@@ -1,0 +1,102 @@
+-- Jobs. A job is one S-expression,
+-- (job (enums ("T" "member" ..) ..) (vars ("id" TYPE) ..) (funs ("id" TYPE TYPE) ..) (terms t ..)),
+-- of at most 16777216 bytes in which at most 512 brackets are open at a place. The names of enum types are distinct, and so are
+-- the ids of variables and those of functions. Each term is a Boolean.
+use Rattle.std.specs.Prelude.{ℕ, ◌<◌, ◌≤◌, ◌≡◌, ⊤, codes, length, map, List, Option, Ok, Err}
+use Rattle.law_folding.specs.Built.{built}
+use Rattle.law_terms.specs.Faults.{Fault, first_fault}
+use Rattle.law_terms.specs.Plain.{PlainFunction, PlainTerm, PlainType}
+use Rattle.law_terms.specs.TypeValues.{Enums}
+use Rattle.law_texts.specs.Reading.{Expression, Expressions, Nil, Cons}
+use Rattle.law_texts.specs.Tokens.{IsReadWithin}
+use Rattle.law_jobs.specs.Outcomes.{JobFault, Outcome, FormFault}
+use Rattle.law_texts.specs.Outcomes.{◌>>=◌, demanded}
+use Rattle.law_jobs.specs.Parts.{section}
+use Rattle.law_jobs.specs.Declarations.{Declarations, Declared, functions_of, variables_of}
+use Rattle.law_jobs.specs.Enums.{enums_in}
+use Rattle.law_jobs.specs.Terms.{conditions_of}
+
+-- a job without where it lies in memory: its enum types, the declared variables and functions, and its terms as written
+pub record PlainJob : Type 0 where
+  pub enums : Enums
+  pub variables : Declarations PlainType
+  pub functions : Declarations PlainFunction
+  pub terms : List PlainTerm
+
+-- what stands behind a head in brackets, or the fault that it is no such section
+abbrev pub section_of : List ℕ → Expression → Outcome Expressions
+section_of head e = demanded FormFault (section head e)
+
+-- the enum types, the variables and the functions that three sections declare
+abbrev pub declared_in_sections : (enums variables functions : Expression) → Outcome Declared
+declared_in_sections enums variables functions =
+    section_of (codes "enums") enums >>= enums_in >>= λ types. section_of (codes "vars") variables >>= variables_of >>= λ vs.
+    section_of (codes "funs") functions >>= functions_of >>= λ fs. Ok (record { enums = types; variables = vs; functions = fs })
+
+-- what the first three sections declare, and the expressions behind them
+abbrev pub declared_first : Expressions → Outcome (Declared × Expressions)
+declared_first (Cons enums (Cons variables (Cons functions others))) = declared_in_sections enums variables functions >>= λ ds. Ok (ds, others)
+declared_first es = Err FormFault
+
+-- no expression follows, or else the fault that one does
+abbrev pub nothing_more : Expressions → Outcome ⊤
+nothing_more Nil = Ok tt
+nothing_more (Cons e es) = Err FormFault
+
+-- the terms of the last section, behind which nothing stands
+abbrev pub terms_last : Declared → Expressions → Outcome (List PlainTerm)
+terms_last ds (Cons conditions others) = section_of (codes "terms") conditions >>= conditions_of ds >>= λ ts. nothing_more others >>= λ u. Ok ts
+terms_last ds Nil = Err FormFault
+
+-- the job of four sections: enum types, variables, functions and terms, in this order and each of them there
+abbrev pub job_of_sections : Expressions → Outcome PlainJob
+job_of_sections es = declared_first es >>= λ p. terms_last p.0 p.1 >>= λ ts. Ok (record { enums = p.0.enums; variables = p.0.variables; functions = p.0.functions; terms = ts })
+
+-- the job that an expression states, `(job ..)`, or its first fault
+abbrev pub job_of : Expression → Outcome PlainJob
+job_of e = section_of (codes "job") e >>= job_of_sections
+
+-- the longest job, in bytes
+abbrev pub greatest_length : ℕ
+greatest_length = 16777216
+
+-- the most brackets that are open at a place of a job
+abbrev pub greatest_nesting : ℕ
+greatest_nesting = 512
+
+-- The bytes are this job: at most 16777216 of them, read as one expression within the limits of a reader, with at most 512
+-- brackets open at a place, and the expression states the job.
+pub record IsJob (bytes : List ℕ) (job : PlainJob) : Type 0 where
+  pub short : length bytes ≤ greatest_length
+  pub expression : Expression
+  pub read : IsReadWithin bytes greatest_nesting expression
+  pub stated : job_of expression ≡ Ok job
+
+-- The bytes are an expression that is no job, by this first fault.
+pub record IsFaultyJob (bytes : List ℕ) (fault : JobFault) : Type 0 where
+  pub expression : Expression
+  pub read : IsReadWithin bytes greatest_nesting expression
+  pub stated : job_of expression ≡ Err fault
+
+-- there are more bytes than a job may have
+abbrev pub IsTooLong : List ℕ → Type 0
+IsTooLong bytes = greatest_length < length bytes
+
+-- The bytes have this first fault: they are not too many, and an expression within the limits that is no job by it. Bytes that are no
+-- expression have no such fault, but one as a text.
+abbrev pub HasFault : List ℕ → JobFault → Type 0
+HasFault bytes fault = (length bytes ≤ greatest_length) × IsFaultyJob bytes fault
+
+-- the job with its terms as they are built: each application is folded, its operands first. All else is as the job has it.
+abbrev pub built_job : PlainJob → PlainJob
+built_job job = record { enums = job.enums; variables = job.variables; functions = job.functions; terms = map built job.terms }
+
+-- The bytes are a job, of which this is built.
+pub record IsBuiltFrom (bytes : List ℕ) (job : PlainJob) : Type 0 where
+  pub written : PlainJob
+  pub is_job : IsJob bytes written
+  pub is_built : job ≡ built_job written
+
+-- the first fault of the terms that are built of a job, with its enum types: why they have no script
+abbrev pub fault_of : PlainJob → Option Fault
+fault_of job = first_fault job.enums (map built job.terms)

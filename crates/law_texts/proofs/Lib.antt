@@ -1,0 +1,13 @@
+pub mod Blanks
+pub mod Fields
+pub mod Ids
+pub mod Joined
+pub mod LineTexts
+pub mod Numbers
+pub mod QuotedTexts
+pub mod Quotes
+pub mod Runs
+pub mod Spans
+pub mod Strings
+pub mod Trees
+pub mod Unique

@@ -1,0 +1,14 @@
+pub mod Characters
+pub mod Digits
+pub mod Escapes
+pub mod Front
+pub mod Lexicon
+pub mod LineTexts
+pub mod Options
+pub mod Outcomes
+pub mod QuotedTexts
+pub mod Quoting
+pub mod Reading
+pub mod Reads
+pub mod SharedTexts
+pub mod Tokens

@@ -1,0 +1,5 @@
+use Rattle.law_theorem.proofs.Standing as laws
+use Rattle.law_theorem.proofs.datatypes.colors_are_declared.Goals as goal
+
+pub returns : goal.returns
+returns c = laws.colors_are_declared

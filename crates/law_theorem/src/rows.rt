@@ -1,0 +1,12 @@
+ghost use Rattle.law_theorem.specs.CarryRows.{MemberCarries, MemberComesBack, NegationCarries, NegationComesBack, RecordCarries, RecordComesBack, SortsComeBack};
+
+/// What values and interpretations are carried to, and back.
+pub fn carried_rows()
+    ensures negation { NegationCarries }
+    ensures negation_back { NegationComesBack }
+    ensures record_carries { RecordCarries }
+    ensures record_back { RecordComesBack }
+    ensures member { MemberCarries }
+    ensures member_back { MemberComesBack }
+    ensures sorts { SortsComeBack }
+{}

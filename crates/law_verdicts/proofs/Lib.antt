@@ -1,0 +1,20 @@
+pub mod Asking
+pub mod Believing
+pub mod Broken
+mod Bytes
+mod Chunks
+mod Commands
+mod Formulas
+mod Found
+pub mod HandedOut
+mod Honest
+pub mod InHand
+mod Known
+mod ModelLines
+mod Rows
+mod Sampled
+mod Scan
+mod Search
+mod Small
+mod Truths
+mod Turns

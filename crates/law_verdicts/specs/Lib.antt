@@ -1,0 +1,15 @@
+pub mod Broken
+pub mod Chunks
+pub mod FirstModel
+pub mod Fragment
+pub mod HandedOut
+pub mod Honest
+pub mod Honesty
+pub mod InHand
+pub mod Joined
+pub mod Machine
+pub mod Rows
+pub mod Samples
+pub mod Scan
+pub mod Truths
+pub mod Verdicts

@@ -1,0 +1,19 @@
+//! Tests of sessions with solvers over links in memory, of pools of them, and of sessions with shells in place of solvers. They
+//! stand outside the crates that they call: a crate with tests is proved twice, with them and without, and here they are proved
+//! alone.
+#![tactic(auto)]
+
+#[cfg(test)]
+mod expected;
+#[cfg(test)]
+mod in_hand;
+#[cfg(test)]
+mod pools;
+#[cfg(test)]
+mod sessions;
+#[cfg(test)]
+mod shells;
+
+/// Why a test stops where a call gives nothing.
+#[cfg(test)]
+pub(crate) const AMPLE: &str = "there is memory for the test";

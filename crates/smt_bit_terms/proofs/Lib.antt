@@ -1,4 +1,0 @@
-pub mod Answers
-pub mod Folding
-pub mod OutOfRange
-pub mod Values

@@ -1,5 +1,0 @@
-use Rattle.smt_carrying.proofs.Selectors.{extension_selected}
-use Rattle.smt_carrying.proofs.commuting.extensions_are_selected.Goals as goal
-
-pub returns : goal.returns
-returns c enums s I j o sort v good p h r e = extension_selected enums s good I j o sort v p h r e

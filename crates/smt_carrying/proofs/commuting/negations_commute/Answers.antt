@@ -1,5 +1,0 @@
-use Rattle.smt_carrying.proofs.Negations.{negated}
-use Rattle.smt_carrying.proofs.commuting.negations_commute.Goals as goal
-
-pub returns : goal.returns
-returns c enums s I n v good g h = negated enums s good I n v g h

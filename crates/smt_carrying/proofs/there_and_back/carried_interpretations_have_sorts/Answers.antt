@@ -1,5 +1,0 @@
-use Rattle.smt_carrying.proofs.Interpretations.{carried}
-use Rattle.smt_carrying.proofs.there_and_back.carried_interpretations_have_sorts.Goals as goal
-
-pub returns : goal.returns
-returns c enums s here ts I x h = carried enums s here ts x I h

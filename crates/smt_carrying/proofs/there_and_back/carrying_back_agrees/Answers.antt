@@ -1,5 +1,0 @@
-use Rattle.smt_carrying.proofs.Interpretations.{agrees}
-use Rattle.smt_carrying.proofs.there_and_back.carrying_back_agrees.Goals as goal
-
-pub returns : goal.returns
-returns c enums s here ts J x h = agrees enums s here ts x J h

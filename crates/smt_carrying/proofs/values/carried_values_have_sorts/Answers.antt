@@ -1,5 +1,0 @@
-use Rattle.smt_carrying.proofs.Sorted.{sorted_value}
-use Rattle.smt_carrying.proofs.values.carried_values_have_sorts.Goals as goal
-
-pub returns : goal.returns
-returns c enums s here ty v good always d h = sorted_value here always enums s good ty v d h

@@ -1,5 +1,0 @@
-use Rattle.smt_carrying.proofs.Ordered.{one_to_one}
-use Rattle.smt_carrying.proofs.values.carrying_is_one_to_one.Goals as goal
-
-pub returns : goal.returns
-returns c enums s ty v w good h k = one_to_one enums s good ty v w h k

@@ -1,5 +1,0 @@
-use Rattle.smt_carrying.proofs.Onto.{onto}
-use Rattle.smt_carrying.proofs.values.carrying_is_onto.Goals as goal
-
-pub returns : goal.returns
-returns c enums s here ty x good always d h = onto here always enums s good ty x d h

@@ -1,5 +1,0 @@
-use Rattle.smt_carrying.proofs.Ordered.{stays_sorted}
-use Rattle.smt_carrying.proofs.values.sets_stay_sorted.Goals as goal
-
-pub returns : goal.returns
-returns c enums s ty vs good h = stays_sorted enums s good ty vs h.0 h.1

@@ -1,0 +1,15 @@
+pub mod AttributeMaps
+pub mod Cedar
+pub mod Constructed
+pub mod Constructors
+pub mod EntityTypes
+pub mod Examples
+pub mod Named
+pub mod Places
+pub mod Plain
+pub mod RefusedTypes
+pub mod RefusedValues
+pub mod TypeOfCedar
+pub mod TypeView
+pub mod ValueView
+pub mod formers

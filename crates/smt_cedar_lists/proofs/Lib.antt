@@ -1,3 +1,0 @@
-pub mod Places
-pub mod PutPairs
-pub mod Said

@@ -1,4 +1,0 @@
-pub mod AttributeMaps
-pub mod Named
-pub mod Places
-pub mod formers

@@ -1,5 +1,0 @@
-mod Examples
-mod LastAction
-mod PutEntity
-mod PutEntry
-mod Shared

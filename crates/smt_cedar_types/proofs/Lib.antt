@@ -1,3 +1,0 @@
-mod LastName
-mod Pairs
-mod TypesGiven

@@ -1,4 +1,0 @@
-mod Examples
-mod Pairs
-mod ReadBack
-mod ReadTexts

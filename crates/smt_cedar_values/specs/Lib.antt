@@ -1,6 +1,0 @@
-pub mod Constructed
-pub mod Constructors
-pub mod Examples
-pub mod Plain
-pub mod Refused
-pub mod View

@@ -1,2 +1,0 @@
-pub mod ChildLemmas
-pub mod LineLemmas

@@ -1,5 +1,0 @@
-use Rattle.smt_children.proofs.LineLemmas.{appends_none}
-use Rattle.smt_children.proofs.line.append_step.Goals as goal
-
-pub returns-in-Err : goal.returns-in-Err
-returns-in-Err g c = appends_none _ _ _ _ c.requires c.fill_buf.follows.holds-at-none.0

@@ -1,2 +1,0 @@
-pub mod FoldingSets
-pub mod FoldingStrings

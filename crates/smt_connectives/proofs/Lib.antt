@@ -1,4 +1,0 @@
-pub mod AnyAnswers
-pub mod AnyRows
-pub mod AnyTruth
-pub mod Folding

@@ -1,7 +1,0 @@
-use Rattle.std.proofs.lemmas.Result.{IfOk-weaker}
-use Rattle.smt_connectives.proofs.Folding.{stands_for_or}
-use Rattle.smt_connectives.proofs.connectives.or.Goals as goal
-use Rattle.smt_term.specs.View.{plain_term}
-
-pub returns-clause-refines : goal.returns-clause-refines
-returns-clause-refines c = IfOk-weaker c.folded_or.result _ _ (λ r h. stands_for_or (plain_term r) (plain_term c.args.t1) (plain_term c.args.t2) h) c.folded_or.ensures

@@ -1,6 +1,0 @@
-mod ActionTables
-mod Entered
-mod KnownPairs
-mod SortedTypes
-mod StoredTypes
-mod Walked

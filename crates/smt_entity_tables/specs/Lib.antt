@@ -1,4 +1,0 @@
-pub mod ByType
-pub mod Named
-pub mod Stored
-pub mod View

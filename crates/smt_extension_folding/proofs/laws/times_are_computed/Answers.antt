@@ -1,7 +1,0 @@
-use Rattle.smt_extension_folding.proofs.Days.{datetimes_are_split}
-use Rattle.smt_extension_folding.proofs.Durations.{durations_are_measured}
-use Rattle.smt_extension_folding.proofs.Moments.{datetimes_are_moved}
-use Rattle.smt_extension_folding.proofs.laws.times_are_computed.Goals as goal
-
-pub returns : goal.returns
-returns c = record { units = durations_are_measured; moved = datetimes_are_moved; split = datetimes_are_split }

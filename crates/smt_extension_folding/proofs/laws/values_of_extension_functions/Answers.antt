@@ -1,5 +1,0 @@
-use Rattle.smt_extension_folding.proofs.Examples.{containment_examples, rule_examples, time_examples}
-use Rattle.smt_extension_folding.proofs.laws.values_of_extension_functions.Goals as goal
-
-pub returns : goal.returns
-returns c = record { containment = containment_examples; rules = rule_examples; times = time_examples }

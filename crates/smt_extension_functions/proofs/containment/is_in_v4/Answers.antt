@@ -1,8 +1,0 @@
-use Rattle.std.proofs.Common.{rules}
-use Rattle.smt_extension_folding.specs.ExtensionFunctions.{is_ipv4, range_v4}
-use Rattle.smt_extension_folding.proofs.RuleTells.{rules_are_kept}
-use Rattle.smt_extension_functions.proofs.containment.is_in_v4.Goals as goal
-use Rattle.smt_folding.specs.Builder.{applied}
-
-pub new-requires-clause-rule : goal.new-requires-clause-rule
-new-requires-clause-rule c = record { test = is_ipv4 applied; bounds = range_v4 applied; stands_test = search rules; stands_bounds = search rules; rule = rules_are_kept.v4 }

@@ -1,5 +1,0 @@
-use Rattle.smt_extension_texts.proofs.Examples as examples
-use Rattle.smt_extension_texts.proofs.laws.texts_by_example.Goals as goal
-
-pub returns : goal.returns
-returns c = record { decimals = examples.decimal_examples; durations = examples.duration_examples; ranges = examples.range_examples; datetimes = examples.datetime_examples }

@@ -1,7 +1,0 @@
-pub mod Datetimes
-pub mod Decimals
-pub mod Durations
-pub mod Examples
-pub mod Ranges
-pub mod Readings
-pub mod Signs

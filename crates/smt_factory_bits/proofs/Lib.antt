@@ -1,0 +1,5 @@
+pub mod Answers
+pub mod Folding
+pub mod Matching
+pub mod OutOfRange
+pub mod Values

@@ -1,0 +1,13 @@
+pub mod AnyAnswers
+pub mod AnyRows
+pub mod AnyTruth
+pub mod FoldingConnectives
+pub mod FoldingEquality
+pub mod FoldingExtensions
+pub mod FoldingFunctions
+pub mod FoldingGuarded
+pub mod FoldingInside
+pub mod FoldingPresence
+pub mod FoldingRecords
+pub mod FoldingSets
+pub mod FoldingStrings

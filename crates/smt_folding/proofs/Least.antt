@@ -1,2 +1,0 @@
--- A negation overflows exactly at the least value.
-pub use Rattle.smt_arithmetic.proofs.Least.{overflow_is}

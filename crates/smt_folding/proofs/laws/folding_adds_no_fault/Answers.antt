@@ -1,5 +1,0 @@
-use Rattle.smt_folding.proofs.BuiltFaults.{built_faultless}
-use Rattle.smt_folding.proofs.laws.folding_adds_no_fault.Goals as goal
-
-pub returns : goal.returns
-returns c = built_faultless

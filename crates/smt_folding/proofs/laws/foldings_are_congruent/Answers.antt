@@ -1,5 +1,0 @@
-use Rattle.smt_folding.proofs.FoldingsKeep.{related}
-use Rattle.smt_folding.proofs.laws.foldings_are_congruent.Goals as goal
-
-pub returns : goal.returns
-returns c = related

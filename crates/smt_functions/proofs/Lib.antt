@@ -1,3 +1,0 @@
-mod FunctionOrders
-mod PutPairs
-mod TermTables

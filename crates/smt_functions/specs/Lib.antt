@@ -1,3 +1,0 @@
-pub mod Functions
-pub mod Orders
-pub mod Tables

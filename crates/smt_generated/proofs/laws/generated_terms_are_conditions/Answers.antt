@@ -1,5 +1,0 @@
-use Rattle.smt_generated.proofs.Conditions.{generated_conditions}
-use Rattle.smt_generated.proofs.laws.generated_terms_are_conditions.Goals as goal
-
-pub returns : goal.returns
-returns c = generated_conditions

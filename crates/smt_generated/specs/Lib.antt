@@ -1,3 +1,0 @@
-pub mod Generated
-pub mod Jobs
-pub mod Rows

@@ -1,5 +1,0 @@
-use Rattle.smt_headline.proofs.FitKept as laws
-use Rattle.smt_headline.proofs.fitting.idle_lines_keep_fit.Goals as goal
-
-pub returns : goal.returns
-returns c = record { commands = laws.idle_lines_keep_fit; these = laws.these_are_idle; comments = laws.comments_keep_fit }

@@ -1,5 +1,0 @@
-use Rattle.smt_ip.proofs.IpSame.{same_net}
-use Rattle.smt_ip.proofs.laws.ranges_are_ordered.Goals as goal
-
-pub returns-clause-one : goal.returns-clause-one
-returns-clause-one c = same_net

@@ -1,5 +1,0 @@
-use Rattle.smt_job_grammar.proofs.OperatorNames.{found_by_name}
-use Rattle.smt_job_grammar.proofs.laws.operators_are_found_by_name.Goals as goal
-
-pub returns : goal.returns
-returns c = found_by_name

@@ -1,8 +1,0 @@
-use Rattle.std.specs.Prelude.{refl}
-use Rattle.std.specs.Str.{chars}
-use Rattle.std.specs.Fmt.{digits}
-use Rattle.smt_lines.proofs.rows.a_condition.Goals as goal
-
-pub returns : goal.returns
-unfolding digits chars
-returns c = refl

@@ -1,5 +1,0 @@
-use Rattle.smt_lines.proofs.Stays as laws
-use Rattle.smt_lines.proofs.texts.texts_and_sorts_stay.Goals as goal
-
-pub returns : goal.returns
-returns c = record { lists = laws.term_lists_are_made; texts = laws.texts_stay; sorts = laws.sorts_stay; written = laws.sorts_stand }

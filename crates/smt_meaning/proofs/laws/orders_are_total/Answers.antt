@@ -1,5 +1,0 @@
-use Rattle.smt_meaning.proofs.TermTotal.{types_total, parts_total, patterns_total, ops_total, terms_total}
-use Rattle.smt_meaning.proofs.laws.orders_are_total.Goals as goal
-
-pub returns : goal.returns
-returns c = record { types = types_total; parts = parts_total; patterns = patterns_total; operators = ops_total; terms = terms_total }

@@ -1,5 +1,0 @@
-use Rattle.smt_meaning.proofs.Utf8Order.{utf8_order}
-use Rattle.smt_meaning.proofs.laws.texts_keep_order.Goals as goal
-
-pub returns : goal.returns
-returns c s t u v = utf8_order s t u v

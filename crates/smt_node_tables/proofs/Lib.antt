@@ -1,4 +1,0 @@
-pub mod Levels
-pub mod Matching
-pub mod MapNames
-pub mod Tables

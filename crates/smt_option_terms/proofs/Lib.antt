@@ -1,3 +1,0 @@
-pub mod FoldingGuarded
-pub mod FoldingInside
-pub mod FoldingPresence

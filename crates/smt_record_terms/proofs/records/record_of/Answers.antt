@@ -1,5 +1,0 @@
-use Rattle.smt_record_terms.proofs.FoldingRecords.{record-has}
-use Rattle.smt_record_terms.proofs.records.record_of.Goals as goal
-
-pub returns-clause-record : goal.returns-clause-record
-returns-clause-record c typed = record-has c.in_ok-fields.fields c.args.ats.now c.in_ok-fields.ensures typed

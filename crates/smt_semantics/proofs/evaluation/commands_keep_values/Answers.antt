@@ -1,6 +1,0 @@
-use Rattle.smt_semantics.proofs.Keeps as laws
-use Rattle.smt_semantics.proofs.Free as free
-use Rattle.smt_semantics.proofs.evaluation.commands_keep_values.Goals as goal
-
-pub returns : goal.returns
-returns c = record { kept = laws.steps_keep_values; named = laws.names_have_values; free = free.free_names_decide }

@@ -1,5 +1,0 @@
-use Rattle.smt_semantics.proofs.Datatypes as laws
-use Rattle.smt_semantics.proofs.evaluation.datatypes_and_levels_leave.Goals as goal
-
-pub returns : goal.returns
-returns c = record { datatypes = laws.datatypes_leave; levels = laws.pops_give_back; within = laws.steps_keep_levels }

@@ -1,5 +1,0 @@
-use Rattle.smt_semantics.proofs.Spelled as laws
-use Rattle.smt_semantics.proofs.evaluation.operators_are_found_by_spelling.Goals as goal
-
-pub returns : goal.returns
-returns c = laws.operators_are_found_by_spelling

@@ -1,5 +1,0 @@
-use Rattle.smt_semantics.proofs.NoScripted as laws
-use Rattle.smt_semantics.proofs.samples.no_scripts.Goals as goal
-
-pub returns : goal.returns
-returns c = record { texts = laws.no_scripts; commands = laws.no_commands; whole = laws.whole_texts }

@@ -1,6 +1,0 @@
-use Rattle.smt_semantics.proofs.Numbers.{numbered_names}
-use Rattle.smt_semantics.proofs.Numerals as laws
-use Rattle.smt_semantics.proofs.scripts.numbered_names_differ.Goals as goal
-
-pub returns : goal.returns
-returns c = record { numerals = laws.numerals_differ; printed = laws.numerals_are_printed; names = numbered_names }

@@ -1,4 +1,0 @@
-use Rattle.smt_shared_sum.proofs.main.Given as goal
-
-abbrev pub ghosts-script_of : goal.ghosts-script_of
-ghosts-script_of a = record { name = a.blank.name; parts = a.blank.parts }

@@ -1,4 +1,0 @@
-pub mod Example
-pub mod FlatScripts
-pub mod SortedScripts
-pub mod WellWritten

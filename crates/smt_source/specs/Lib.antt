@@ -1,3 +1,0 @@
-pub mod Input
-pub mod MemorySource
-pub mod Source

@@ -1,8 +1,0 @@
-use Rattle.smt_symbolic_environments.proofs.Examples.{faults, tables}
-use Rattle.smt_symbolic_environments.proofs.laws.environments_by_example.Goals as goal
-
-pub returns-clause-tables : goal.returns-clause-tables
-returns-clause-tables c = tables
-
-pub returns-clause-faults : goal.returns-clause-faults
-returns-clause-faults c = faults

@@ -1,8 +1,0 @@
-use Rattle.smt_symbolic_environments.proofs.Program.{program_schemas, program_stores}
-use Rattle.smt_symbolic_environments.proofs.laws.program_data_is_in_order.Goals as goal
-
-pub returns-clause-stores : goal.returns-clause-stores
-returns-clause-stores c = program_stores
-
-pub returns-clause-schemas : goal.returns-clause-schemas
-returns-clause-schemas c = program_schemas

@@ -1,0 +1,10 @@
+use Rattle.std.proofs.Common.{◌≡◌, drop, map}
+use Rattle.std.specs.Map.{lookup}
+use Rattle.std.specs.Prelude.{bytes_eq}
+use Rattle.smt_types.specs.Entities.{bytes_of_type}
+use Rattle.smt_symbolizer.specs.Named.{named}
+use Rattle.smt_symbolizer.proofs.by_type.ByType.get.Given as goal
+
+-- what is found in the pairs that are left is found in all of them
+abbrev pub invariant-loop-name : goal.invariant-loop-name
+invariant-loop-name g l = lookup (bytes_eq (bytes_of_type l.ety)) (map named (drop l.name-index l.name-items)) ≡ lookup (bytes_eq (bytes_of_type l.ety)) (map named l.name-items)

@@ -1,5 +1,0 @@
-pub mod Answers
-mod Examples
-pub mod Meanings
-pub mod ProgramTypes
-mod Types

@@ -1,5 +1,0 @@
-use Rattle.smt_value_meaning.proofs.ProgramTypes.{program_types_are_in_order}
-use Rattle.smt_value_meaning.proofs.laws.program_types_are_in_order.Goals as goal
-
-pub returns : goal.returns
-returns c = program_types_are_in_order

@@ -1,4 +1,0 @@
-pub mod CedarMeaning
-pub mod CedarTyping
-pub mod Examples
-pub mod Laws

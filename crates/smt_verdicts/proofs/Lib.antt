@@ -1,4 +1,0 @@
-pub mod Asking
-pub mod Believing
-pub mod Broken
-pub mod HandedOut

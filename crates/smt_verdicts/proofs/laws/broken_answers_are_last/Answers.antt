@@ -1,5 +1,0 @@
-use Rattle.smt_verdicts.proofs.Broken as laws
-use Rattle.smt_verdicts.proofs.laws.broken_answers_are_last.Goals as goal
-
-pub returns : goal.returns
-returns c = laws.broken_answers_are_last

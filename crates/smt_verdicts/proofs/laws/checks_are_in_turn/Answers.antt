@@ -1,5 +1,0 @@
-use Rattle.smt_verdicts.proofs.Asking as laws
-use Rattle.smt_verdicts.proofs.laws.checks_are_in_turn.Goals as goal
-
-pub returns : goal.returns
-returns c = laws.checks_are_in_turn
