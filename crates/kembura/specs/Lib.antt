@@ -143,6 +143,7 @@ pub use Rattle.law_theorem.specs.FlatScripts
 pub use Rattle.law_theorem.specs.Headline
 pub use Rattle.law_theorem.specs.Open
 pub use Rattle.law_theorem.specs.Selections as TheoremSelections
+pub use Rattle.law_theorem.specs.Sessions as SessionSteps
 pub use Rattle.law_theorem.specs.SortedExample
 pub use Rattle.law_theorem.specs.SortedScripts
 pub use Rattle.law_theorem.specs.Stated
@@ -192,6 +193,7 @@ pub use Rattle.smt_encode.specs.Applied
 pub use Rattle.smt_encode.specs.Complete
 pub use Rattle.smt_encode.specs.Encoded
 pub use Rattle.smt_encode.specs.Errors as EncodeErrors
+pub use Rattle.smt_encode.specs.Interrupted
 pub use Rattle.smt_encode.specs.Refusals as EncodeRefusals
 pub use Rattle.smt_ext.specs.DatetimeReading
 pub use Rattle.smt_ext.specs.DatetimeRefusal
@@ -271,6 +273,7 @@ pub use Rattle.smt_spelling.specs.SelectorFaults
 pub use Rattle.smt_spelling.specs.Spelled
 pub use Rattle.smt_spelling.specs.TextFaults
 pub use Rattle.smt_spelling.specs.Texts
+pub use Rattle.smt_spelling.specs.Whole
 pub use Rattle.smt_symbolizer.specs.ByType
 pub use Rattle.smt_symbolizer.specs.EntityView
 pub use Rattle.smt_symbolizer.specs.Listed

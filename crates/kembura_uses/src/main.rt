@@ -1,8 +1,11 @@
-//! Callers of Kembura. With no word the script of the question of `conditions`; with a number that of a sum of this depth.
+//! Callers of Kembura. With no word the script of the question of `conditions`; with a number that of a sum of this depth; with
+//! `pool` whether the session of a pool is kept.
 #![tactic(auto)]
 
 mod conditions;
 mod decide;
+mod levels;
+mod pool;
 mod shared_sum;
 
 use anyhow::{Context, Result};
@@ -29,12 +32,26 @@ fn deep_sum(alloc: Global, depth: &str) -> Result<ListSink> {
     shared_sum::script_of::<Brand>(alloc, nodes, id, Blank::new(1))
 }
 
+/// Whether the session of a pool is kept.
+fn kept(alloc: Global) -> Result<&'static str> {
+    if pool::used_twice(alloc)? {
+        Ok("kept\n")
+    } else {
+        Ok("not kept\n")
+    }
+}
+
 fn main(rt: HostRuntime) -> Result<()> {
     let alloc = rt.alloc();
-    let script = match env::args(&rt)?.nth(1) {
-        Some(depth) => deep_sum(alloc, depth.as_str())?,
-        None => question(alloc)?,
-    };
-    rt.stdout().write_all(script.bytes())?;
+    match env::args(&rt)?.nth(1) {
+        Some(word) if word.as_str() == "pool" => {
+            rt.stdout().write_all(kept(alloc)?.as_bytes())?;
+        }
+        Some(depth) => {
+            rt.stdout()
+                .write_all(deep_sum(alloc, depth.as_str())?.bytes())?;
+        }
+        None => rt.stdout().write_all(question(alloc)?.bytes())?,
+    }
     Ok(())
 }

@@ -13,7 +13,7 @@ use Rattle.law_jobs.specs.Outcomes.{JobFault, Outcome, TruthFault}
 use Rattle.law_texts.specs.Outcomes.{◌>>=◌}
 use Rattle.law_jobs.specs.Declarations.{Declared, functions_of, variables_of}
 use Rattle.law_jobs.specs.Enums.{enums_in}
-use Rattle.law_jobs.specs.Jobs.{HasFault, IsJob, IsTooLong, PlainJob, declared_first, declared_in_sections, job_of, job_of_sections, nothing_more, section_of, terms_last}
+use Rattle.law_jobs.specs.Jobs.{HasFault, IsJob, IsTooLong, PlainJob, declared_first, job_of, job_of_sections, nothing_more, section_first, section_of, terms_last}
 use Rattle.law_jobs.specs.Laws.{AreInOrder, IsCondition}
 use Rattle.law_jobs.specs.Terms.{condition_of, conditions_of, term_of}
 use Rattle.law_jobs.proofs.Outcomes.{bound, if_demanded, if_followed, if_some, onward, whichever}
@@ -34,19 +34,18 @@ conditions_sound ds f (Cons e es) =
     bound (AllByRecursion IsCondition) (condition_of ds e) _ (onward (condition_of ds e) (condition_sound ds f e) (λ t c.
     if_followed (AllByRecursion IsCondition) t (conditions_of ds es) (onward (conditions_of ds es) (conditions_sound ds f es) (λ ts r. (c, r)))))
 
-sections_formed : (enums variables functions : Expression) → IfOk (declared_in_sections enums variables functions) AreDeclaredFormed
-sections_formed enums variables functions =
-    bound _ (section_of (codes "enums") enums >>= enums_in) _ (whichever _ (section_of (codes "enums") enums >>= enums_in) (λ types.
-    bound _ (section_of (codes "vars") variables >>= variables_of) _ (onward (section_of (codes "vars") variables >>= variables_of) (bound _ (section_of (codes "vars") variables) variables_of (whichever _ (section_of (codes "vars") variables) variables_formed)) (λ vs f.
-    bound _ (section_of (codes "funs") functions >>= functions_of) _ (onward (section_of (codes "funs") functions >>= functions_of) (bound _ (section_of (codes "funs") functions) functions_of (whichever _ (section_of (codes "funs") functions) functions_formed)) (λ fs g.
-    record { variables = f; functions = g }))))))
+-- what holds of all that a section may state holds of what the first expression states as this section
+first_section : {A : Type 0} (P : A → Type 0) (head : List ℕ) (reads : Expressions → Outcome A) → ((es : Expressions) → IfOk (reads es) P) → (es : Expressions) → IfOk (section_first head reads es) (λ p. P p.0)
+first_section P head reads all Nil = tt
+first_section P head reads all (Cons e es) =
+    bound (λ p. P p.0) (section_of head e >>= reads) _ (onward (section_of head e >>= reads) (bound P (section_of head e) reads (whichever _ (section_of head e) all)) (λ a h. h))
 
 pub declared_sound : (es : Expressions) → IfOk (declared_first es) (λ p. AreDeclaredFormed p.0)
-declared_sound Nil = tt
-declared_sound (Cons a Nil) = tt
-declared_sound (Cons a (Cons b Nil)) = tt
-declared_sound (Cons enums (Cons variables (Cons functions others))) =
-    bound _ (declared_in_sections enums variables functions) _ (onward (declared_in_sections enums variables functions) (sections_formed enums variables functions) (λ ds f. f))
+declared_sound es =
+    bound _ (section_first (codes "enums") enums_in es) _ (whichever _ (section_first (codes "enums") enums_in es) (λ types.
+    bound _ (section_first (codes "vars") variables_of types.1) _ (onward (section_first (codes "vars") variables_of types.1) (first_section _ (codes "vars") variables_of variables_formed types.1) (λ vs f.
+    bound _ (section_first (codes "funs") functions_of vs.1) _ (onward (section_first (codes "funs") functions_of vs.1) (first_section _ (codes "funs") functions_of functions_formed vs.1) (λ fs g.
+    record { variables = f; functions = g }))))))
 
 last_sound : (ds : Declared) → AreDeclaredFormed ds → (es : Expressions) → IfOk (terms_last ds es) (AllByRecursion IsCondition)
 last_sound ds f Nil = tt
@@ -65,18 +64,11 @@ job_conditions bytes job is =
 
 -- ---- the enum types are in order
 
-listed_in_order : (enums variables functions : Expression) → IfOk (declared_in_sections enums variables functions) (λ ds. AreInOrder ds.enums)
-listed_in_order enums variables functions =
-    bound _ (section_of (codes "enums") enums >>= enums_in) _ (onward (section_of (codes "enums") enums >>= enums_in) (bound _ (section_of (codes "enums") enums) enums_in (whichever _ (section_of (codes "enums") enums) enums_in_order)) (λ types o.
-    bound _ (section_of (codes "vars") variables >>= variables_of) _ (whichever _ (section_of (codes "vars") variables >>= variables_of) (λ vs.
-    bound _ (section_of (codes "funs") functions >>= functions_of) _ (whichever _ (section_of (codes "funs") functions >>= functions_of) (λ fs. o))))))
-
 declared_in_order : (es : Expressions) → IfOk (declared_first es) (λ p. AreInOrder p.0.enums)
-declared_in_order Nil = tt
-declared_in_order (Cons a Nil) = tt
-declared_in_order (Cons a (Cons b Nil)) = tt
-declared_in_order (Cons enums (Cons variables (Cons functions others))) =
-    bound _ (declared_in_sections enums variables functions) _ (onward (declared_in_sections enums variables functions) (listed_in_order enums variables functions) (λ ds o. o))
+declared_in_order es =
+    bound _ (section_first (codes "enums") enums_in es) _ (onward (section_first (codes "enums") enums_in es) (first_section AreInOrder (codes "enums") enums_in enums_in_order es) (λ types o.
+    bound _ (section_first (codes "vars") variables_of types.1) _ (whichever _ (section_first (codes "vars") variables_of types.1) (λ vs.
+    bound _ (section_first (codes "funs") functions_of vs.1) _ (whichever _ (section_first (codes "funs") functions_of vs.1) (λ fs. o))))))
 
 sections_in_order : (es : Expressions) → IfOk (job_of_sections es) (λ job. AreInOrder job.enums)
 sections_in_order es =

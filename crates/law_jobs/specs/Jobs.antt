@@ -27,16 +27,16 @@ pub record PlainJob : Type 0 where
 abbrev pub section_of : List ℕ → Expression → Outcome Expressions
 section_of head e = demanded FormFault (section head e)
 
--- the enum types, the variables and the functions that three sections declare
-abbrev pub declared_in_sections : (enums variables functions : Expression) → Outcome Declared
-declared_in_sections enums variables functions =
-    section_of (codes "enums") enums >>= enums_in >>= λ types. section_of (codes "vars") variables >>= variables_of >>= λ vs.
-    section_of (codes "funs") functions >>= functions_of >>= λ fs. Ok (record { enums = types; variables = vs; functions = fs })
+-- what the first expression states as the section of this head, and the expressions behind it
+abbrev pub section_first : {A : Type 0} → List ℕ → (Expressions → Outcome A) → Expressions → Outcome (A × Expressions)
+section_first head reads Nil = Err FormFault
+section_first head reads (Cons e es) = section_of head e >>= reads >>= λ a. Ok (a, es)
 
--- what the first three sections declare, and the expressions behind them
+-- what the first three sections declare, and the expressions behind them: the enum types, the variables and the functions
 abbrev pub declared_first : Expressions → Outcome (Declared × Expressions)
-declared_first (Cons enums (Cons variables (Cons functions others))) = declared_in_sections enums variables functions >>= λ ds. Ok (ds, others)
-declared_first es = Err FormFault
+declared_first es =
+    section_first (codes "enums") enums_in es >>= λ types. section_first (codes "vars") variables_of types.1 >>= λ vs.
+    section_first (codes "funs") functions_of vs.1 >>= λ fs. Ok (record { enums = types.0; variables = vs.0; functions = fs.0 }, fs.1)
 
 -- no expression follows, or else the fault that one does
 abbrev pub nothing_more : Expressions → Outcome ⊤

@@ -45,6 +45,7 @@ pub mod SelectionsParts
 pub mod SelectionsPlain
 pub mod SelectionsText
 pub mod Selectors
+pub mod Sessions
 pub mod Sets
 pub mod Sorted
 pub mod SortedExample

@@ -13,6 +13,7 @@ pub mod FlatScripts
 pub mod Headline
 pub mod Open
 pub mod Selections
+pub mod Sessions
 pub mod SortedExample
 pub mod SortedScripts
 pub mod Stated

@@ -1,4 +1,5 @@
 ghost use Rattle.law_theorem.specs.Fits.{CallListsKeepFit, CallsKeepFit, CommentsKeepFit, DrawnNamesDiffer, EmptyTextFits, FittingTextsRepresent, IdleLinesKeepFit, KeysAreSound, TheseAreIdle};
+ghost use Rattle.law_theorem.specs.Sessions.{FittingTextsAreScripts, SessionsKeepFit};
 ghost use Rattle.law_theorem.specs.FittingStates.{OptionIsDeclared, AssertionsSelectNothing, FittingStagesDeclare, InterpretationsGiveNames, NamesAreOpen, ReachedIsDeclared, ReachedAreOpen, TermsAreNamed, NamedTypesAreDeclared};
 
 /// The law behind the main theorem: wherever a script, the terms that are encoded in it and their names fit, its state
@@ -19,6 +20,16 @@ pub fn idle_lines_keep_fit()
     ensures commands { IdleLinesKeepFit }
     ensures these { TheseAreIdle }
     ensures comments { CommentsKeepFit }
+{}
+
+/// What goes to a solver in one session keeps it: calls, and between them lines that change nothing.
+pub fn sessions_keep_fit()
+    ensures { SessionsKeepFit }
+{}
+
+/// Wherever a text fits, the main theorem holds of it, for the names that live and the terms of all levels.
+pub fn fitting_texts_are_scripts()
+    ensures { FittingTextsAreScripts }
 {}
 
 /// What has an entry is typed and has no fault.

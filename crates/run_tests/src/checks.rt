@@ -118,7 +118,8 @@ const CHECKS: &[Check] = &[
         answers: b"\xff\n",
         ..SAYS_IO
     },
-    // The logic, the script and the question are sent, the question is handed on, and its answer is read.
+    // The logic and the script are sent, the solver is asked whether it runs, the question is sent and handed on, and its answer
+    // is read.
     Check {
         link_fails: 1,
         sent: Some(b""),
@@ -136,10 +137,15 @@ const CHECKS: &[Check] = &[
     },
     Check {
         link_fails: 4,
+        sent: Some(BEFORE),
         ..SAYS_IO
     },
     Check {
         link_fails: 5,
+        ..SAYS_IO
+    },
+    Check {
+        link_fails: 6,
         ..SAYS_IO
     },
     Check {

@@ -67,6 +67,9 @@ const ENDS: &[Row] = &[
     ("script", NOT_B, 0, 1, 200, SCRIPT, 6, "sink fault\n"),
     ("script", NOT_B, 0, 2, 200, SCRIPT, 6, "sink fault\n"),
     ("script", NOT_B, 0, 7, 200, SCRIPT, 6, "sink fault\n"),
+    ("gen", "", 0, 0, 200, FIRST, 0, ""),
+    ("gen", "", 0, 1, 200, FIRST, 6, "sink fault\n"),
+    ("gen", "", 0, 0, 60, FIRST, 6, "sink fault\n"),
     ("--help", "", 0, 0, 70, USAGE, 6, "sink fault\n"),
     ("--version", "", 0, 0, 5, VERSION, 6, "sink fault\n"),
 ];
@@ -88,7 +91,11 @@ pub fn texts(rt: &impl Abort, alloc: Global, items: &[&str]) -> Vec<Text> {
 
 /// The status of a row's run, with what it put to `out` and said on diag. The numbers are those of the puts to diag that fail.
 fn end_of(rt: &impl Abort, alloc: Global, row: &Row, fails: &[u64]) -> (u8, Vec<u8>, Vec<u8>) {
-    let words = texts(rt, alloc, &[row.0]);
+    // A generated job has the seed 0 and a single term.
+    let words = match row.0 {
+        "gen" => texts(rt, alloc, &["gen", "0", "1"]),
+        word => texts(rt, alloc, &[word]),
+    };
     let mut source = MemorySource::new(alloc, row.1.as_bytes(), &[row.2]).expect(rt, AMPLE);
     let mut out = MemorySink::new(alloc, &[row.3], row.4).expect(rt, AMPLE);
     let mut diag = MemorySink::new(alloc, fails, 100).expect(rt, AMPLE);

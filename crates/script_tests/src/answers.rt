@@ -42,6 +42,7 @@ fn cause_of(alloc: Global, error: &EncodeError) -> Result<String> {
         EncodeError::MissingTypeEncoding(ty) => with(alloc, "MissingTypeEncoding", type_name(ty)),
         EncodeError::MalformedRecordGet => alone(alloc, "MalformedRecordGet"),
         EncodeError::Spent => alone(alloc, "Spent"),
+        EncodeError::NoScope => alone(alloc, "NoScope"),
         _ => alone(alloc, "another cause"),
     }
 }

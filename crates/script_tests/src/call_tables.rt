@@ -282,7 +282,7 @@ refused: Spent: the encoder is spent
 > encode var:b:bool app:not:1:bool
 written
 > encode var:b:bool app:not:1:bool
-refused: Spent: the encoder is spent
+written
 > name_of_term var:b:bool
 t0
 > name_of_term var:b:bool app:not:1:bool
@@ -296,6 +296,108 @@ no name
 (declare-const t0 Bool)
 (define-fun t1 () Bool (not t0))
 (assert t1)
+(assert t1)
+> encoder
+> encode var:b:bool
+written
+> push
+level 1
+> encode var:b:bool app:not:1:bool
+written
+> pop
+level 0
+> encode var:c:bool
+written
+> pop
+refused: NoScope: no level of the script is open
+> push
+refused: Spent: the encoder is spent
+> name_of_term var:b:bool
+t0
+> name_of_term var:b:bool app:not:1:bool
+no name
+> name_of_term var:c:bool
+t1
+> term_count
+2
+(declare-datatype Option (par (X) (
+  (none)
+  (some (val X)))))
+; "b"
+(declare-const t0 Bool)
+(assert t0)
+(push 1)
+(define-fun t1 () Bool (not t0))
+(assert t1)
+(pop 1)
+; "c"
+(declare-const t1 Bool)
+(assert t1)
+> encoder Color:b:a
+> push
+level 1
+> encode var:x:@Color var:x:@Color app:eq:2:bool
+written
+> encode_uuf:f:@Color:bool
+f0
+> push
+level 2
+> encode var:x:string text:a app:eq:2:bool
+written
+> name_of_term var:x:string
+t2
+> pop
+level 1
+> name_of_type:@Color
+E0
+> name_of_term var:x:string
+no name
+> pop
+level 0
+> term_count
+0
+> name_of_type:@Color
+no name
+> name_of_uuf:f:@Color:bool
+no name
+> encode var:x:@User true call:f:bool:@User app:eq:2:bool
+written
+(declare-datatype Option (par (X) (
+  (none)
+  (some (val X)))))
+(push 1)
+; Color::[a, b]
+(declare-datatype E0 (
+  (E0_m0)
+  (E0_m1)))
+; "x"
+(declare-const t0 E0)
+(define-fun t1 () Bool (= t0 t0))
+(assert t1)
+; f
+(declare-fun f0 (E0) Bool)
+(push 1)
+; "x"
+(declare-const t2 String)
+(define-fun t3 () Bool (= t2 "a"))
+(assert t3)
+(pop 1)
+(pop 1)
+; User
+(declare-datatype E0 (
+  (E0 (E0_eid String))))
+; "x"
+(declare-const t0 E0)
+; f
+(declare-fun f0 (Bool) E0)
+(define-fun t1 () E0 (f0 true))
+(define-fun t2 () Bool (= t0 t1))
+(assert t2)
+> encoder
+> pop
+refused: NoScope: no level of the script is open
+> encode true
+refused: Spent: the encoder is spent
 > encoder
 > declare_ext_type:decimal
 Decimal

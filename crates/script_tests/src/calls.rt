@@ -32,6 +32,8 @@ fn answer(
 ) -> Result<String> {
     match name {
         "encode" => encode(alloc, encoder, terms),
+        "push" => opened(alloc, encoder),
+        "pop" => closed(alloc, encoder),
         "encode_term" => encode_term(alloc, encoder, terms),
         "encode_type" => encode_type(alloc, encoder, held),
         "encode_uuf" => encode_uuf(alloc, encoder, held),
@@ -90,6 +92,28 @@ fn encode(alloc: Global, encoder: &mut Encoder<'_, ListSink>, terms: &[Term]) ->
         Ok(()) => Ok(String::from_str(alloc, "written")?),
         Err(error) => refused(alloc, &error),
     }
+}
+
+/// How many levels are open behind a push.
+fn opened(alloc: Global, encoder: &mut Encoder<'_, ListSink>) -> Result<String> {
+    match encoder.push() {
+        Ok(()) => level(alloc, encoder),
+        Err(error) => refused(alloc, &error),
+    }
+}
+
+/// How many levels are open behind a pop.
+fn closed(alloc: Global, encoder: &mut Encoder<'_, ListSink>) -> Result<String> {
+    match encoder.pop() {
+        Ok(()) => level(alloc, encoder),
+        Err(error) => refused(alloc, &error),
+    }
+}
+
+/// The level at which an encoder writes.
+fn level(alloc: Global, encoder: &Encoder<'_, ListSink>) -> Result<String> {
+    let levels = encoder.levels();
+    Ok(format!(in alloc; "level {levels}")?)
 }
 
 /// What an encoder has: a name, or how many terms have names.

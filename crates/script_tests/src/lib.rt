@@ -7,8 +7,9 @@
 //!
 //! A row stands behind a `>`, and below it the script that `Encoder::encode` gives for its terms, byte for byte. Where it
 //! refuses, that is what the sink has then, and a line such as `refused: EnumMissingMember Color::"z"`. `Encoder::encode_nodes`
-//! is to answer the same for numbers that stand for the terms; where it does not, its answer is printed too. Each encoder is to
-//! be spent then, and to write nothing more; where one is not, this is printed too.
+//! is to answer the same for numbers that stand for the terms; where it does not, its answer is printed too. Each encoder is then
+//! to answer a call of no terms, and to write nothing more: by Ok, and where it refused by `Spent`; where one does not, this is
+//! printed too.
 //!
 //! A row is words with a space between two. They enter enum types, and leave terms that claim to be Boolean on a stack, of
 //! which the first one is asserted first.
@@ -42,6 +43,7 @@
 //! | `define_app:SORT:OPERATOR:TEXTS TERMS` | `define_app` |
 //! | `encode_type:TYPE`, `encode_uuf:FUNCTION`, `encode_term TERMS` | `encode_type`, `encode_uuf`, and `encode_term` of the last term |
 //! | `encode TERMS` | `encode`, which is answered by `written` |
+//! | `push`, `pop` | `push` and `pop`, which are answered by the level that is then the last one |
 //! | `name_of_type:TYPE`, `name_of_uuf:FUNCTION`, `name_of_term TERMS` | the name that the encoder has, or `no name` |
 //! | `term_count` | how many terms have names |
 //!
@@ -60,7 +62,11 @@ mod calls;
 #[cfg(test)]
 mod expected;
 #[cfg(test)]
+mod faults;
+#[cfg(test)]
 mod hostile;
+#[cfg(test)]
+mod levels;
 #[cfg(test)]
 mod lines;
 #[cfg(test)]

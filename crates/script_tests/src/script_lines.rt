@@ -25,6 +25,8 @@ const LINES: &str = "\
 (define-fun f ((x Int) (y Bool)) Int x)
 (declare-datatype D (\n  (c)))
 (declare-datatype D (par ( ) (\n  (c))))
+(push 1)
+(pop 1)
 (set-logic ALL)
 (set-option :produce-models true)
 (check-sat)
@@ -90,6 +92,8 @@ fn put_negation<S: Sink>(rt: &impl Abort, sink: &mut S) {
 
 /// The lines by which a script speaks to a solver.
 fn put_questions<S: Sink>(rt: &impl Abort, sink: &mut S) {
+    sink.push().expect(rt, TAKEN);
+    sink.pop().expect(rt, TAKEN);
     sink.set_logic("ALL").expect(rt, TAKEN);
     sink.set_option("produce-models", "true").expect(rt, TAKEN);
     sink.check_sat().expect(rt, TAKEN);

@@ -18,19 +18,27 @@ use test_terms::spelling_of;
 #[derive(Drop)]
 struct Script {
     outcome: Result<(), EncodeError>,
-    /// Whether it answers a second call that it is spent.
-    spent: bool,
+    /// Whether it answers a second call, of no terms, that it is spent where it refused, and else by Ok.
+    stays: bool,
     sink: ListSink,
+}
+
+/// Whether a further call, of no terms, is answered as it should be behind this outcome.
+fn stays(answer: Result<(), EncodeError>, outcome: &Result<(), EncodeError>) -> bool {
+    match outcome {
+        Ok(()) => answer == Ok(()),
+        Err(_) => answer == Err(EncodeError::Spent),
+    }
 }
 
 /// The script of a row's terms.
 fn by_terms(alloc: Global, row: &Row) -> Script {
     let mut encoder = Encoder::new(alloc, &row.enums, ListSink::new(alloc));
     let outcome = encoder.encode(row.terms.as_slice());
-    let spent = encoder.encode(&[]) == Err(EncodeError::Spent);
+    let stays = stays(encoder.encode(&[]), &outcome);
     Script {
         outcome,
-        spent,
+        stays,
         sink: encoder.into_script(),
     }
 }
@@ -50,10 +58,10 @@ fn by_numbers<L: Ledger>(alloc: Global, row: &Row, blank: Blank) -> Result<Scrip
     let mut encoder = Encoder::with_nodes(alloc, &row.enums, nodes, ListSink::new(alloc));
     let mut steps = Steps::<L>::new(blank);
     let outcome = encoder.encode_nodes(ids.as_slice(), &mut steps);
-    let spent = encoder.encode(&[]) == Err(EncodeError::Spent);
+    let stays = stays(encoder.encode(&[]), &outcome);
     Ok(Script {
         outcome,
-        spent,
+        stays,
         sink: encoder.into_script(),
     })
 }
@@ -90,15 +98,15 @@ fn refusal(alloc: Global, error: &EncodeError) -> Result<String> {
     })
 }
 
-/// Prints the bytes of a script, behind them why it has no more, and whether the encoder would still encode.
+/// Prints the bytes of a script, behind them why it has no more, and whether the encoder answers a further call otherwise.
 fn print(alloc: Global, printer: &mut (impl Write + Drop), script: &Script) -> Result<()> {
     printer.write_all(script.sink.bytes())?;
     if let Err(error) = &script.outcome {
         let refusal = refusal(alloc, error)?;
         writeln!(printer, "refused: {refusal}")?;
     }
-    if !script.spent {
-        writeln!(printer, "but not spent")?;
+    if !script.stays {
+        writeln!(printer, "but a further call is answered otherwise")?;
     }
     Ok(())
 }

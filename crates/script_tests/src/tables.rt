@@ -3,7 +3,7 @@
 mod bitvectors;
 mod booleans;
 mod characters;
-mod conditions;
+pub(crate) mod conditions;
 mod entities;
 mod enums;
 mod extensions;

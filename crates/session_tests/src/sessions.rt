@@ -224,6 +224,13 @@ fn long_lines(rt: HostRuntime) {
     let alloc = rt.alloc();
     let mut solver = session_with_blanks(&rt, alloc, LINE_LIMIT - 4, b"sat\n");
     expect_decision(&rt, "the longest", solver.check_sat(), Decision::Sat);
+    let mut solver = session_with_blanks(&rt, alloc, LINE_LIMIT - 2, b"a\n");
+    expect_told(
+        &rt,
+        "the longest that is none",
+        solver.check_sat(),
+        ("unrecognized", "a"),
+    );
     let mut solver = session_with_blanks(&rt, alloc, LINE_LIMIT - 3, b"sat\n");
     expect_told(&rt, "one that is longer", solver.check_sat(), TOO_LONG);
     expect(&rt, solver.is_failed(), "its session has failed");
@@ -313,8 +320,37 @@ fn no_models(rt: HostRuntime) {
     for &(answers, wanted, killed) in NO_MODELS {
         expect_no_model(&rt, session(&rt, rt.alloc(), answers, &[]), wanted, killed);
     }
-    let solver = session(&rt, rt.alloc(), b"sat\n(\n)\n", &[6]);
-    expect_no_model(&rt, solver, IO, false);
+}
+
+/// Answers of a solver, and the number of the first call that a check with a model doesn't make of its link then.
+const CALLS: &[(&[u8], u64)] = &[
+    (b"sat\n(\n)\n", 9),
+    (b"unsat\n", 5),
+    (b"", 6),
+    (b"(error \"Parse Error: x\")\n", 6),
+    (b"sat\n(\n", 10),
+];
+
+/// Whether a check with a model is refused over a link whose call of this number fails, and the session has failed then and asks
+/// nothing more.
+fn failed_check(rt: &impl Abort, alloc: Global, answers: &[u8], call: u64) -> bool {
+    let mut solver = session(rt, alloc, answers, &[call]);
+    let is_fault = is_told(solver.check_sat_with_model(), IO);
+    let is_over = is_told(solver.check_sat(), FAILED_BEFORE);
+    is_fault && is_over && solver.is_failed()
+}
+
+#[test]
+fn each_call_of_a_link_fails_once(rt: HostRuntime) {
+    let alloc = rt.alloc();
+    for &(answers, behind) in CALLS {
+        for call in 1..behind {
+            let is_failed = failed_check(&rt, alloc, answers, call);
+            assert!(rt; is_failed, "{answers:?}: {call}");
+        }
+        let is_failed = failed_check(&rt, alloc, answers, behind);
+        assert!(rt; !is_failed, "{answers:?}: {behind}");
+    }
 }
 
 /// What is sent of the script.
@@ -322,7 +358,7 @@ const SCRIPT: &[u8] = b"(set-option :produce-models true)\n(assert true)\n(check
 
 #[test]
 fn scripts(rt: HostRuntime) {
-    let mut solver = session(&rt, rt.alloc(), b"sat\n", &[9]);
+    let mut solver = session(&rt, rt.alloc(), b"sat\n", &[10]);
     solver.enable_models().expect(&rt, TAKEN);
     solver.smtlib_input().assert("true").expect(&rt, TAKEN);
     solver.smtlib_input().flush().expect(&rt, TAKEN);
@@ -391,7 +427,7 @@ fn expect_read(
 #[test]
 fn links(rt: HostRuntime) {
     let alloc = rt.alloc();
-    let mut link = MemoryLink::new(alloc, b"ab\ncd", &[2], Some(3)).expect(&rt, AMPLE);
+    let mut link = MemoryLink::new(alloc, b"ab\ncd", &[3], Some(3)).expect(&rt, AMPLE);
     expect_end(&rt, "from the start", &mut link, Ended::Code(3));
     let mut line = Bytes::new(alloc);
     for &(limit, wanted) in READS {

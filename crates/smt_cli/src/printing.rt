@@ -86,6 +86,8 @@ pub(crate) fn put_script<W: Sink>(
         Err(EncodeError::Memory) => Err(PrintRefusal::Memory),
         // The encoder was a new one.
         Err(EncodeError::Spent) => unreachable!(),
+        // Only `pop` gives this.
+        Err(EncodeError::NoScope) => unreachable!(),
         // No call of an encoder gives this.
         Err(EncodeError::BitVecError(_)) => unreachable!(),
     }

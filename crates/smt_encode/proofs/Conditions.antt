@@ -39,7 +39,7 @@ all_formed [] = tt
 all_formed (t ∷ ts) = (terms_are_formed t, all_formed ts)
 
 -- The terms that were handed in are conditions.
-conditions : (table : EnumTable) (ts : List Term) → AreBoolean (map plain_term ts) → first_fault (enums_of table) (map plain_term ts) ≡ None → AreConditions (enums_of table) (map plain_term ts)
+pub conditions : (table : EnumTable) (ts : List Term) → AreBoolean (map plain_term ts) → first_fault (enums_of table) (map plain_term ts) ≡ None → AreConditions (enums_of table) (map plain_term ts)
 conditions table ts typed none = record { are_typed = typed; are_formed = all_formed ts; have_no_fault = none }
 
 pub headline : (table : EnumTable) (ts : List Term) → AreBoolean (map plain_term ts) → first_fault (enums_of table) (map plain_term ts) ≡ None → Headline (enums_of table) (names (enums_of table) (map plain_term ts)) (map plain_term ts) (text (enums_of table) (map plain_term ts))
@@ -50,7 +50,7 @@ pub well_written : (table : EnumTable) (ts : List Term) → AreBoolean (map plai
 well_written table ts typed none = texts_are_well_written (enums_of table) (map plain_term ts) (members_ascend table) (conditions table ts typed none)
 
 -- the same of the terms for which numbers stand
-stand_formed : (i : Interner) (ids : List NodeId) (ts : List PlainTerm) → StandFor i ids ts → AllByRecursion IsFormed ts
+pub stand_formed : (i : Interner) (ids : List NodeId) (ts : List PlainTerm) → StandFor i ids ts → AllByRecursion IsFormed ts
 stand_formed i ids [] h = tt
 stand_formed i [] (t ∷ ts) h = absurd (cc)
 stand_formed i (id ∷ ids) (t ∷ ts) h =
@@ -60,7 +60,7 @@ stand_formed i (id ∷ ids) (t ∷ ts) h =
     let others : more ≡ map TermMeaning ts = cc in
     (both_formed t (nodes_formed i.table.nodes.items i.graph (place_of id) (TermMeaning t) (e ∙ ap Some first)), stand_formed i ids ts (f ∙ ap Some others))
 
-node_conditions : (table : EnumTable) (i : Interner) (ids : List NodeId) (ts : List PlainTerm) → StandFor i ids ts → AreBoolean ts → first_fault (enums_of table) ts ≡ None → AreConditions (enums_of table) ts
+pub node_conditions : (table : EnumTable) (i : Interner) (ids : List NodeId) (ts : List PlainTerm) → StandFor i ids ts → AreBoolean ts → first_fault (enums_of table) ts ≡ None → AreConditions (enums_of table) ts
 node_conditions table i ids ts stand typed none = record { are_typed = typed; are_formed = stand_formed i ids ts stand; have_no_fault = none }
 
 pub node_headline : (table : EnumTable) (i : Interner) (ids : List NodeId) (ts : List PlainTerm) → StandFor i ids ts → AreBoolean ts → first_fault (enums_of table) ts ≡ None → Headline (enums_of table) (names (enums_of table) ts) ts (text (enums_of table) ts)

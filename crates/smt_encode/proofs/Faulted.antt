@@ -13,7 +13,7 @@ use Rattle.smt_encode.specs.Refusals.{write_fault, HasCause, IsComplete}
 use Rattle.smt_spelling.specs.TextFaults.{Finds}
 use Rattle.smt_bits.specs.declared.error.BitVecError.{BitVecError}
 use Rattle.smt_encode.specs.declared.error.EncodeError.{EncodeError}
-use Rattle.smt_encode.specs.declared.error.EncodeError.TheVariants.{Io, Spent, Memory, EmptyEnum as EnumRefused, EncodeStringFailed as StringRefused, EncodePatternFailed as PatternRefused, EnumMissingMember as EntityRefused, ExpectRecord as NoRecordRefused, MalformedRecordGet as NoOperandRefused, MissingTypeEncoding as TypeRefused, RecordMissingAttr as AttributeRefused, BitVecError as BitsRefused}
+use Rattle.smt_encode.specs.declared.error.EncodeError.TheVariants.{Io, Spent, Memory, NoScope, EmptyEnum as EnumRefused, EncodeStringFailed as StringRefused, EncodePatternFailed as PatternRefused, EnumMissingMember as EntityRefused, ExpectRecord as NoRecordRefused, MalformedRecordGet as NoOperandRefused, MissingTypeEncoding as TypeRefused, RecordMissingAttr as AttributeRefused, BitVecError as BitsRefused}
 use Rattle.smt_spelling.specs.declared.error.TextError.TheVariants.{MissingMember, StringFailed, PatternFailed, EmptyEnum as NoMembers, Memory as NoMemory}
 use Rattle.smt_encode.specs.declared.error.WriteError.{WriteError}
 use Rattle.smt_encode.specs.declared.error.WriteError.TheVariants.{Selector, Sink, Text}
@@ -98,6 +98,21 @@ no_bits (Selector (NoRecord y)) x is = cc
 no_bits (Selector (Lacks y)) x is = cc
 no_bits (Selector NoSpace) x is = cc
 
+-- nor one of a level
+no_scope : (e : WriteError) → encode_error e ≡ NoScope → ⊥
+no_scope (Sink Failed) is = cc
+no_scope (Sink NoRoom) is = cc
+no_scope (Text (StringFailed s)) is = cc
+no_scope (Text (PatternFailed p)) is = cc
+no_scope (Text (MissingMember y)) is = cc
+no_scope (Text (NoMembers y)) is = cc
+no_scope (Text NoMemory) is = cc
+no_scope (Selector NoOperand) is = cc
+no_scope (Selector (Unnamed y)) is = cc
+no_scope (Selector (NoRecord y)) is = cc
+no_scope (Selector (Lacks y)) is = cc
+no_scope (Selector NoSpace) is = cc
+
 module _ (fault : Option Fault) where
   -- ---- answers of a whole walk
 
@@ -145,6 +160,7 @@ module _ (fault : Option Fault) where
       no_record = λ ty i. is_first e (NoRecordRefused ty) _ refl (names_first walk e is walked) (sym same ∙ cc);
       attribute = λ name i. is_first e (AttributeRefused name) _ refl (names_first walk e is walked) (sym same ∙ cc);
       bits = λ x i. no_bits e x (sym same ∙ cc);
+      scope = λ i. no_scope e (sym same ∙ cc);
     }
 
     pub is_complete : {spent : Bool} (result : Result U EncodeError) → IsErrAnd result (λ y. y ≡ encode_error e) → IsComplete spent before after fault result

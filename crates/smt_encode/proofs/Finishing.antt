@@ -14,7 +14,7 @@ use Rattle.smt_spelling.specs.NodeEntries.{enter_by, entered_by, entry_by, head_
 use Rattle.smt_spelling.specs.Entries.{SaysInline}
 use Rattle.smt_spelling.specs.NodeLines.{encode_meanings, name_in}
 use Rattle.smt_spelling.specs.NodeTexts.{IsText}
-use Rattle.smt_encode.specs.Steps.{WritesHere}
+use Rattle.smt_encode.specs.Stopped.{WritesOwn}
 use Rattle.smt_spelling.specs.Spelled.{AreSpelled, IsSpelled}
 use Rattle.smt_encode.specs.declared.writer.Writer.{Writer}
 use Rattle.smt_spelling.proofs.Built.{inline_headless}
@@ -65,8 +65,8 @@ taken_off (y ∷ xs) others x h is rest = sym (λ i. is i ∷ rest i)
 -- a term is written by its entry
 pub entry_written : {S E : Type 0} (contents : S → Option (List ℕ)) (old new : Writer S) (enums : Enums) (m : Meaning) (t : PlainTerm) (es : List Expression) (s : Tables) (first : RcStr Global) (others : List (RcStr Global)) (result : Result (RcStr Global) E)
     → m ≡ TermMeaning t → AreSpelled es (first ∷ others) → inline_by (label_in m) es ≡ None
-    → ((e : Expression) (rest : List Expression) → rc_str_bytes first ≡ spelled e → AreSpelled rest others → WritesHere contents old new (enter_by (entry_by enums (label_in m) (rendering_in m) (head_in t s) e rest) t e s) IsSpelled result)
-    → WritesHere contents old new (own_lines enums m es s) IsSpelled result
+    → ((e : Expression) (rest : List Expression) → rc_str_bytes first ≡ spelled e → AreSpelled rest others → WritesOwn contents None old new (enter_by (entry_by enums (label_in m) (rendering_in m) (head_in t s) e rest) t e s) IsSpelled result)
+    → WritesOwn contents None old new (own_lines enums m es s) IsSpelled result
 entry_written contents old new enums m t es s first others result is shown none writes =
     let p = split es first others shown in
     let whole : own_lines enums m es s ≡ enter_by (entry_by enums (label_in m) (rendering_in m) (head_in t s) p.sort p.rest) t p.sort s =
@@ -74,4 +74,4 @@ entry_written contents old new enums m t es s first others result is shown none 
     ∙ ap (λ k. own_lines enums k (p.sort ∷ p.rest) s) is
     ∙ entry_lines_are enums t s p.sort p.rest (ap (λ k. inline_by (label_in k) (p.sort ∷ p.rest)) (sym is) ∙ ap (inline_by (label_in m)) (sym p.whole) ∙ none)
     ∙ ap (λ k. enter_by (entry_by enums (label_in k) (rendering_in k) (head_in t s) p.sort p.rest) t p.sort s) (sym is) in
-    subst (λ (w : Written Expression). WritesHere contents old new w IsSpelled result) (sym whole) (writes p.sort p.rest p.sort_spelled p.rest_spelled)
+    subst (λ (w : Written Expression). WritesOwn contents None old new w IsSpelled result) (sym whole) (writes p.sort p.rest p.sort_spelled p.rest_spelled)

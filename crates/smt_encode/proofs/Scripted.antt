@@ -1,5 +1,5 @@
 -- A whole script: the declaration of `Option`, the terms' lines, and an assertion for each term.
-use Rattle.std.proofs.Common.{◌≡◌, ℕ, zero, suc, ◌+◌, ◌<◌, List, [], ◌∷◌, ◌++◌, length, take, get_or, map, refl, sym, ap, ◌∙◌, subst, append-nil, add-one, arith, Option, Result, Ok, Err}
+use Rattle.std.proofs.Common.{◌≡◌, ℕ, Bool, false, zero, suc, ◌+◌, ◌<◌, List, [], ◌∷◌, ◌++◌, length, take, get_or, map, refl, sym, ap, ◌∙◌, subst, append-nil, add-one, arith, Option, Result, Ok, Err}
 use Rattle.std.specs.Prelude.{OnOk}
 use Rattle.std.specs.Io.KnownBytes.{append_known}
 use Rattle.std.specs.Rc.{rc_str_bytes}
@@ -9,7 +9,7 @@ use Rattle.std.proofs.lemmas.List.{map-append}
 use Rattle.law_terms.specs.Plain.{PlainTerm, terms}
 use Rattle.law_texts.specs.Reading.{Expression}
 use Rattle.law_lines.specs.Line.{Line, Assert, spelled_lines}
-use Rattle.law_lines.specs.Lines.{Enums, encode, encode_terms, option_line}
+use Rattle.law_lines.specs.Lines.{Enums, beginning, encode, encode_terms, option_line}
 use Rattle.law_lines.specs.NameTables.{Tables, no_names}
 use Rattle.law_lines.specs.Spelling.{spelled}
 use Rattle.law_lines.specs.Text.{text}
@@ -44,27 +44,28 @@ module _ {S : Type 0} {contents : S → Option (List ℕ)} where
       subst (λ (ls : List Line). Wrote contents old new ls s) (sym (ap (map Assert) behind ∙ map-append Assert (take i es) (e ∷ []))) (wrote_then p q)
 
   -- the three parts of a script
-  pub scripted : {old opened mid : Writer S} (new : Writer S) (enums : Enums) (ts : List PlainTerm) (s : Tables) → Wrote contents old opened (option_line ∷ []) s
+  pub scripted : {old opened mid : Writer S} (new : Writer S) (begun : Bool) (enums : Enums) (ts : List PlainTerm) (s : Tables) → Wrote contents old opened (beginning begun) s
       → Wrote contents opened mid (encode_terms enums (terms ts) s).lines (encode_terms enums (terms ts) s).tables
       → Wrote contents mid new (map Assert (encode_terms enums (terms ts) s).made) (encode_terms enums (terms ts) s).tables
-      → Wrote contents old new (option_line ∷ (encode enums ts s).lines) (encode enums ts s).tables
-  scripted new enums ts s head lines p = wrote_then head (wrote_then lines p)
+      → Wrote contents old new (beginning begun ++ (encode enums ts s).lines) (encode enums ts s).tables
+  scripted new begun enums ts s head lines p = wrote_then head (wrote_then lines p)
 
 -- the lines of a whole script are its text
 text_is : (enums : Enums) (ts : List PlainTerm) → spelled_lines (option_line ∷ (encode enums ts no_names).lines) ≡ text enums ts
 text_is enums ts = ap spelled_lines (sym (append-nil (option_line ∷ (encode enums ts no_names).lines)))
 
 -- where the lines of a whole script were written, its text was
-pub text_written : {S : Type 0} {contents : S → Option (List ℕ)} {old new : Writer S} {s : Tables} (enums : Enums) (ts : List PlainTerm) → Wrote contents old new (option_line ∷ (encode enums ts no_names).lines) s
+pub text_written : {S : Type 0} {contents : S → Option (List ℕ)} {old new : Writer S} {s : Tables} (begun : Bool) (enums : Enums) (ts : List PlainTerm) → begun ≡ false → Wrote contents old new (beginning begun ++ (encode enums ts no_names).lines) s
     → contents new.script ≡ append_known (contents old.script) (text enums ts)
-text_written {contents = contents} {old} enums ts w = w.contents_are ∙ ap (append_known (contents old.script)) (text_is enums ts)
+text_written {contents = contents} {old} begun enums ts fresh w =
+    w.contents_are ∙ ap (λ (b : Bool). append_known (contents old.script) (spelled_lines (beginning b ++ (encode enums ts no_names).lines))) fresh ∙ ap (append_known (contents old.script)) (text_is enums ts)
 
 -- the lines of a whole script over these tables, with the names behind it
-abbrev script_of : {S : Type 0} → (S → Option (List ℕ)) → Writer S → Writer S → Enums → List PlainTerm → Tables → Type 0
-script_of contents old new enums ts s = Wrote contents old new (option_line ∷ (encode enums ts s).lines) (encode enums ts s).tables
+abbrev script_of : {S : Type 0} → (S → Option (List ℕ)) → Writer S → Writer S → Bool → Enums → List PlainTerm → Tables → Type 0
+script_of contents old new begun enums ts s = Wrote contents old new (beginning begun ++ (encode enums ts s).lines) (encode enums ts s).tables
 
 -- what was written by a writer that has the same sink and the same enum types
-pub wrote_here : {S T E : Type 0} (contents : S → Option (List ℕ)) (old mid new : Writer S) (ts : List PlainTerm) (s : Tables) (result : Result T E) → old.script ≡ mid.script → enums_under mid.names ≡ enums_under old.names → OnOk result (script_of contents mid new (enums_under mid.names) ts s) → OnOk result (script_of contents old new (enums_under old.names) ts s)
-wrote_here contents old mid new ts s (Ok x) same enums w =
-    subst (λ (e : Enums). script_of contents old new e ts s) enums (record { names = w.names; contents_are = w.contents_are ∙ ap (λ k. append_known (contents k) (spelled_lines (option_line ∷ (encode (enums_under mid.names) ts s).lines))) (sym same) })
-wrote_here contents old mid new ts s (Err e) same enums w = tt
+pub wrote_here : {S T E : Type 0} (contents : S → Option (List ℕ)) (old mid new : Writer S) (begun : Bool) (ts : List PlainTerm) (s : Tables) (result : Result T E) → old.script ≡ mid.script → enums_under mid.names ≡ enums_under old.names → OnOk result (script_of contents mid new begun (enums_under mid.names) ts s) → OnOk result (script_of contents old new begun (enums_under old.names) ts s)
+wrote_here contents old mid new begun ts s (Ok x) same enums w =
+    subst (λ (e : Enums). script_of contents old new begun e ts s) enums (record { names = w.names; contents_are = w.contents_are ∙ ap (λ k. append_known (contents k) (spelled_lines (beginning begun ++ (encode (enums_under mid.names) ts s).lines))) (sym same) })
+wrote_here contents old mid new begun ts s (Err e) same enums w = tt

@@ -6,7 +6,8 @@ use Rattle.law_terms.specs.Typing.{are_elements, typed, typed_all, typed_fields}
 use Rattle.law_terms.specs.Nodes.{Meaning, TypeMeaning, FunctionMeaning, TermMeaning}
 use Rattle.law_terms.specs.Parts.{field_terms, parts_in, term_parts, types_in}
 use Rattle.law_lines.specs.Lines.{least_rendering}
-use Rattle.smt_encode.specs.Complete.{is_typed, AreTypedMeanings}
+use Rattle.smt_encode.specs.Complete.{AreTypedMeanings}
+use Rattle.smt_spelling.specs.Whole.{is_typed}
 use Rattle.smt_spelling.specs.NodeEntries.{Rendered, op_rendering, rendering_in, second_last, written_parts}
 
 and_first : (a b : Bool) → IsTrue (a && b) → IsTrue a

@@ -1,6 +1,6 @@
 -- What writing one node after the other leaves.
-use Rattle.std.proofs.Common.{◌≡◌, ◌⊎◌, inl, inr, ◌<◌, ◌≤◌, ◌+◌, ℕ, zero, suc, List, [], ◌∷◌, ◌++◌, add-one, length, length-append, get_or, map, take, refl, sym, ap, subst, ◌∙◌, arith, Option, Some, Result, Ok, Err}
-use Rattle.std.specs.Prelude.{option_and_then, option_map}
+use Rattle.std.proofs.Common.{◌≡◌, ◌⊎◌, inl, inr, ◌<◌, ◌≤◌, ◌+◌, ℕ, zero, suc, List, [], ◌∷◌, ◌++◌, add-one, length, length-append, get_or, map, take, refl, sym, ap, subst, ◌∙◌, arith, Option, Some, Result}
+use Rattle.std.specs.Prelude.{is_some, option_and_then, option_map}
 use Rattle.std.proofs.Math.Seq.{take-suc}
 use Rattle.std.proofs.lemmas.List.{length-map, map-append}
 use Rattle.std.specs.List.{AllByRecursion}
@@ -8,25 +8,23 @@ use Rattle.std.specs.Rc.{rc_str_bytes}
 use Rattle.std.specs.declared.alloc.Global.{Global}
 use Rattle.std.specs.declared.rc.RcStr.{RcStr}
 use Rattle.law_terms.specs.Meanings.{all_found, found, meanings}
-use Rattle.law_terms.specs.Nodes.{Meaning}
+use Rattle.law_terms.specs.Nodes.{Meaning, TermMeaning}
+use Rattle.law_terms.specs.Plain.{PlainTerm}
 use Rattle.law_terms.specs.Parts.{parts_in}
 use Rattle.law_terms.proofs.Places.{map_back, some_same, then_back}
 use Rattle.smt_nodes.specs.Interned.{meaning_in, nodes_of}
 use Rattle.smt_nodes.specs.declared.interner.Interner.{Interner}
 use Rattle.smt_nodes.specs.declared.node.Node.{Node}
-use Rattle.std.specs.Io.KnownBytes.{append_known}
-use Rattle.smt_script.proofs.PutsLemmas.{appends_then}
-use Rattle.law_lines.specs.Line.{Line, spelled_lines}
-use Rattle.law_lines.specs.Lines.{AsApplication, AsEqualsIntMin, AsFalse, Written, behind, ◌>>=◌}
-use Rattle.law_lines.specs.NameTables.{Tables}
+use Rattle.law_lines.specs.Lines.{AsApplication, AsEqualsIntMin, AsFalse}
 use Rattle.smt_spelling.specs.NodeEntries.{NodeRendering, AsCall, Rendered, rendering_in, second_last, written_parts}
-use Rattle.smt_encode.proofs.Lines.{binds, lines_append}
 use Rattle.smt_spelling.proofs.Rendered.{found_length}
 use Rattle.smt_nodes.specs.View.{ids_of, place_of, places_of, plain_node}
 use Rattle.smt_nodes.specs.declared.id.NodeId.{NodeId}
-use Rattle.smt_spelling.specs.Names.{texts_under, HasRoom, StandsOn}
-use Rattle.smt_spelling.specs.NodeTexts.{text_at, IsNodeOf}
-use Rattle.smt_encode.specs.Steps.{FaultCounted, Walks, WritesHere, Wrote}
+use Rattle.smt_spelling.specs.Names.{texts_under, StandsOn}
+use Rattle.smt_spelling.specs.NodeTexts.{kept_now, text_at, IsNodeOf}
+use Rattle.smt_spelling.specs.Whole.{IsWritten}
+use Rattle.smt_spelling.specs.declared.node_names.NodeNames.{NodeNames}
+use Rattle.smt_encode.specs.Steps.{FaultCounted, Walks}
 use Rattle.smt_encode.specs.declared.writer.Writer.{Writer}
 use Rattle.smt_spelling.specs.declared.names.Names.{Names}
 
@@ -41,10 +39,7 @@ pub earlier_at : (before : ℕ) (ids : List NodeId) (i : ℕ) (d : NodeId) → A
 earlier_at before = holds_at (λ place. place < before)
 
 pub stands_then : {a b c : Names} → StandsOn a b → StandsOn b c → StandsOn a c
-stands_then p q = record { enums = q.enums ∙ p.enums; nodes = q.nodes ∙ p.nodes; room = q.room ∙ p.room }
-
-pub room_stays : {a b : Names} → StandsOn a b → HasRoom a → HasRoom b
-room_stays {a} {b} p h = p.room ∙ h ∙ ap (λ i. length (nodes_of i)) (sym p.nodes)
+stands_then p q = record { enums = q.enums ∙ p.enums; nodes = q.nodes ∙ p.nodes; room = record { places = q.room.places ∙ p.room.places; order = omega (arith, p.room.order, q.room.order) }; levels = q.levels ∙ p.levels }
 
 -- one walk behind the other
 pub walks_then : {S T U E : Type 0} {faults : S → ℕ} {place : S → List ℕ} {fault : E} {first mid new : Writer S} {one : Result T E} {two : Result U E} {V : Type 0} (before behind : ℕ) (result : Result V E) → behind ≤ before
@@ -186,24 +181,22 @@ module _ (i : Interner) (id : NodeId) (node : Node) (is : IsNodeOf i id node) (m
   parts_count = sym (length-map written place_of) ∙ sym (found_length (meanings (nodes_of i)) (places_of written) (written_parts (rendering_in m) (parts_in m)) parts_found)
 
 -- where all parts are written, in whatever order, what holds of those that are written holds of all
-pub all_parts : (P : ℕ → Type 0) (how : NodeRendering) (ids written : List NodeId) → written ≡ written_parts how ids → (written_parts how ids ≡ ids) ⊎ (written_parts how ids ≡ second_last ids) → AllByRecursion P (places_of written) → AllByRecursion P (places_of ids)
-all_parts P how ids written taken (inl same) h = subst (λ (l : List NodeId). AllByRecursion P (places_of l)) (taken ∙ same) h
-all_parts P how ids written taken (inr same) h =
-    to_places P ids (ordered_all (λ id. P (place_of id)) ids (of_places P (second_last ids) (subst (λ (l : List NodeId). AllByRecursion P (places_of l)) (taken ∙ same) h)))
+pub parts_back : {A : Type 0} (P : A → Type 0) (how : NodeRendering) (xs : List A) → (written_parts how xs ≡ xs) ⊎ (written_parts how xs ≡ second_last xs) → AllByRecursion P (written_parts how xs) → AllByRecursion P xs
+parts_back {A} P how xs (inl same) h = subst (λ (l : List A). AllByRecursion P l) same h
+parts_back {A} P how xs (inr same) h = ordered_all P xs (subst (λ (l : List A). AllByRecursion P l) same h)
 
--- what is stated behind lines that were put
-pub behind_written : {S A T E : Type 0} (contents : S → Option (List ℕ)) (old mid new : Writer S) (ls : List Line) (w : Written A) (Shows : A → T → Type 0) (result : Result T E)
-    → contents mid.script ≡ append_known (contents old.script) (spelled_lines ls) → WritesHere contents mid new w Shows result → WritesHere contents old new (behind ls w) Shows result
-behind_written contents old mid new ls w Shows (Ok x) put q = (
-  record {
-    names = q.0.names;
-    contents_are = appends_then (contents old.script) (contents mid.script) (contents new.script) (spelled_lines ls) (spelled_lines w.lines) put q.0.contents_are ∙ ap (append_known (contents old.script)) (sym (lines_append ls w.lines));
-  },
-  q.1,
-)
-behind_written contents old mid new ls w Shows (Err e) put q = tt
+-- what holds of what terms mean holds of the terms
+pub of_terms : (P : Meaning → Type 0) (ts : List PlainTerm) → AllByRecursion P (map TermMeaning ts) → AllByRecursion (λ t. P (TermMeaning t)) ts
+of_terms P [] h = tt
+of_terms P (t ∷ ts) h = (h.0, of_terms P ts h.1)
 
--- what is stated in two steps is written in two steps
-pub both_written : {S A B T E : Type 0} (contents : S → Option (List ℕ)) (old mid new : Writer S) (w : Written A) (f : A → Tables → Written B) (Shows : B → T → Type 0) (result : Result T E) → Wrote contents old mid w.lines w.tables → WritesHere contents mid new (f w.made w.tables) Shows result → WritesHere contents old new (w >>= f) Shows result
-both_written contents old mid new w f Shows (Ok x) p q = (binds w f p q.0, q.1)
-both_written contents old mid new w f Shows (Err e) p q = tt
+-- what numbers stand for that have these texts is written
+pub found_written : (i : Interner) (names : NodeNames) (ids : List NodeId) (ms : List Meaning) (texts : List (RcStr Global)) → all_found (meanings (nodes_of i)) (places_of ids) ≡ Some ms
+    → map (text_at names) ids ≡ map (λ text. Some (rc_str_bytes text)) texts → AllByRecursion (IsWritten i (kept_now names).texts) ms
+found_written i names [] ms texts h kept = subst (AllByRecursion (IsWritten i (kept_now names).texts)) (some_same [] ms h) tt
+found_written i names (id ∷ ids) ms [] h kept = absurd (cc)
+found_written i names (id ∷ ids) ms (text ∷ texts) h kept =
+    let f = first_of (meanings (nodes_of i)) (place_of id) (places_of ids) ms h in
+    let e : text_at names id ≡ Some (rc_str_bytes text) = cc in
+    let rest = found_written i names ids f.others texts f.there (cc) in
+    subst (AllByRecursion (IsWritten i (kept_now names).texts)) (sym f.both) ((id, f.here, ap is_some e), rest)

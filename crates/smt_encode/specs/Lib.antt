@@ -3,5 +3,7 @@ pub mod Applied
 pub mod Complete
 pub mod Encoded
 pub mod Errors
+pub mod Interrupted
 pub mod Refusals
 pub mod Steps
+pub mod Stopped

@@ -13,7 +13,7 @@ use Rattle.smt_types.specs.declared.pattern.OrdPattern.{OrdPattern}
 use Rattle.smt_spelling.specs.TextFaults.{text_fault}
 use Rattle.smt_bits.specs.declared.error.BitVecError.{BitVecError}
 use Rattle.smt_encode.specs.declared.error.EncodeError.{EncodeError}
-use Rattle.smt_encode.specs.declared.error.EncodeError.TheVariants.{Io, Memory, EmptyEnum as EnumRefused, EncodeStringFailed as StringRefused, EncodePatternFailed as PatternRefused, EnumMissingMember as EntityRefused, ExpectRecord as NoRecordRefused, MalformedRecordGet as NoOperandRefused, MissingTypeEncoding as TypeRefused, RecordMissingAttr as AttributeRefused, BitVecError as BitsRefused}
+use Rattle.smt_encode.specs.declared.error.EncodeError.TheVariants.{Io, Memory, NoScope, EmptyEnum as EnumRefused, EncodeStringFailed as StringRefused, EncodePatternFailed as PatternRefused, EnumMissingMember as EntityRefused, ExpectRecord as NoRecordRefused, MalformedRecordGet as NoOperandRefused, MissingTypeEncoding as TypeRefused, RecordMissingAttr as AttributeRefused, BitVecError as BitsRefused}
 use Rattle.smt_spelling.specs.SelectorFaults.{selector_fault}
 use Rattle.smt_encode.specs.declared.error.WriteError.{WriteError}
 use Rattle.smt_encode.specs.declared.error.WriteError.TheVariants.{Selector, Sink, Text}
@@ -26,7 +26,7 @@ write_fault (Sink e) = None
 write_fault (Text e) = text_fault e
 write_fault (Selector e) = selector_fault e
 
--- The cause of each refusal: `Io` comes only where the sink's count of faults rose, and one of a term only where this is the first fault of the terms; a refusal of bitvectors never comes.
+-- The cause of each refusal: `Io` comes only where the sink's count of faults rose, and one of a term only where this is the first fault of the terms; a refusal of bitvectors never comes, nor one of a level.
 pub record HasCause {T : Type 0} (before after : ℕ) (fault : Option Fault) (result : Result T EncodeError) : Type 0 where
   pub io : IsErrOf result Io → Rose before after
   pub string : (text : RcStr Global) → IsErrOf result (StringRefused text) → fault ≡ Some (EncodeStringFailed (rc_str_bytes text))
@@ -38,6 +38,15 @@ pub record HasCause {T : Type 0} (before after : ℕ) (fault : Option Fault) (re
   pub no_record : (ty : TermType) → IsErrOf result (NoRecordRefused ty) → fault ≡ Some (ExpectRecord (plain_type ty))
   pub attribute : (name : RcStr Global) → IsErrOf result (AttributeRefused name) → fault ≡ Some (RecordMissingAttr (rc_str_bytes name))
   pub bits : (e : BitVecError) → IsErrOf result (BitsRefused e) → ⊥
+  pub scope : IsErrOf result NoScope → ⊥
+
+-- The four faults on records do not come: no attribute is taken of no term, of a type without a name, of a type that is no record type, or
+-- of a record that has it not.
+pub record TakesAttributes {T : Type 0} (result : Result T EncodeError) : Type 0 where
+  pub no_operand : IsErrOf result NoOperandRefused → ⊥
+  pub type : (ty : TermType) → IsErrOf result (TypeRefused ty) → ⊥
+  pub no_record : (ty : TermType) → IsErrOf result (NoRecordRefused ty) → ⊥
+  pub attribute : (name : RcStr Global) → IsErrOf result (AttributeRefused name) → ⊥
 
 -- Ok comes only where the terms have no fault. There an encoder that was not spent answers Ok or `Memory`, if the sink's count of faults did not rise.
 pub record IsComplete {T : Type 0} (spent : Bool) (before after : ℕ) (fault : Option Fault) (result : Result T EncodeError) : Type 0 where

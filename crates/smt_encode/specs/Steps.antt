@@ -1,9 +1,9 @@
 -- What the calls of a writer leave: lines that the sink got, and the names afterwards.
-use Rattle.std.specs.Prelude.{ℕ, ◌≡◌, ◌≤◌, Bool, List, ◌∷◌, Option, Some, Result, IfOk, OnOk, IsErrOf}
+use Rattle.std.specs.Prelude.{ℕ, ◌≡◌, ◌≤◌, Bool, List, ◌++◌, Option, Some, Result, IfOk, OnOk, IsErrOf}
 use Rattle.std.specs.Io.KnownBytes.{append_known}
 use Rattle.law_terms.specs.Plain.{PlainTerm}
 use Rattle.law_lines.specs.Line.{Line, spelled_lines}
-use Rattle.law_lines.specs.Lines.{Enums, Written, encode, option_line}
+use Rattle.law_lines.specs.Lines.{Enums, Written, beginning, encode}
 use Rattle.law_lines.specs.NameTables.{Tables}
 use Rattle.smt_script.specs.Sink.{Rose}
 use Rattle.smt_nodes.specs.View.{place_of}
@@ -35,9 +35,9 @@ WritesHere contents old new w Shows result = IfOk result (λ x. Wrote contents o
 abbrev pub WritesStated : {S A T E : Type 0} → (S → Option (List ℕ)) → Writer S → Writer S → (Tables → Written A) → (A → T → Type 0) → Result T E → Type 0
 WritesStated contents old new stated Shows result = (s : Tables) → HasTables old s → WritesHere contents old new (stated s) Shows result
 
--- Where a call on a writer answered Ok, it wrote the declaration of `Option` and the lines of these terms over the tables before the call, whichever tables are the writer's names.
-abbrev pub WritesScript : {S T E : Type 0} → (S → Option (List ℕ)) → Writer S → Writer S → Enums → List PlainTerm → Result T E → Type 0
-WritesScript contents old new enums ts result = (s : Tables) → HasTables old s → OnOk result (Wrote contents old new (option_line ∷ (encode enums ts s).lines) (encode enums ts s).tables)
+-- Where a call on a writer answered Ok, it wrote the declaration of `Option`, unless the script was begun, and the lines of these terms over the tables before the call, whichever tables are the writer's names.
+abbrev pub WritesScript : {S T E : Type 0} → (S → Option (List ℕ)) → Writer S → Writer S → (begun : Bool) → Enums → List PlainTerm → Result T E → Type 0
+WritesScript contents old new begun enums ts result = (s : Tables) → HasTables old s → OnOk result (Wrote contents old new (beginning begun ++ (encode enums ts s).lines) (encode enums ts s).tables)
 
 -- The writer holds the same sink, whose count of faults did not fall, and its nodes have their texts over the same enum types.
 pub record HoldsSink {S : Type 0} (faults : S → ℕ) (place : S → List ℕ) (old new : Writer S) : Type 0 where

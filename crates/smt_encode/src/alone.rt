@@ -1,5 +1,5 @@
 // The lines of one name alone: they are put, and the names stay as they are.
-ghost use Rattle.std.specs.Prelude.{◌≡◌, ◌++◌, ◌||◌, List, [], IfOk, None};
+ghost use Rattle.std.specs.Prelude.{◌≡◌, ◌++◌, ◌||◌, List, [], IfOk, None, OnErr};
 ghost use Rattle.std.specs.Rc.{rc_str_bytes};
 ghost use Rattle.std.specs.Result.{is_err};
 ghost use Rattle.std.specs.String.{string_bytes};
@@ -18,6 +18,7 @@ ghost use Rattle.law_lines.specs.LineForms.{entity_lines, kind_lines, record_lin
 ghost use Rattle.law_lines.specs.Lines.{members_of, next_entity, next_record, next_term};
 ghost use Rattle.law_lines.specs.NameTables.{Tables};
 ghost use Rattle.smt_spelling.specs.Entries.{entry_bytes, PlainEntry, SaysEntry};
+ghost use Rattle.smt_script.specs.Sink.{AppendsPart};
 ghost use Rattle.smt_spelling.specs.Spelled.{AreSpelled};
 
 use crate::error::{EncodeError, WriteError};
@@ -84,6 +85,7 @@ impl<S: Sink> Writer<'_, S> {
     /// Puts the datatype of these constructors.
     pub(crate) fn put_type(&mut self, id: &str, mks: &[Text]) -> Result<Text, WriteError>
         ensures lines { IfOk result (PutUnder S.contents self.old.script self.new.script id.now (declare_datatype_text id.now [] (texts mks.now))) }
+        ensures part { OnErr result (AppendsPart (S.contents self.old.script) (S.contents self.new.script) (declare_datatype_text id.now [] (texts mks.now))) }
         ensures alone { PutsAlone S.faults S.place None self.old self.new result }
     {
         let name = Text::from_str(self.alloc, id)?;
@@ -95,6 +97,7 @@ impl<S: Sink> Writer<'_, S> {
     pub(crate) fn put_entity_type(&mut self, ety: &EntityType) -> Result<Text, WriteError>
         ensures lines { (s : Tables) → AreTables self.old.names s → let members = members_of (enums_under self.old.names) (bytes_of_type ety.now) in
             IfOk result (PutUnder S.contents self.old.script self.new.script (next_entity s) (spelled_lines (entity_lines members (bytes_of_type ety.now) (next_entity s)))) }
+        ensures part { (s : Tables) → AreTables self.old.names s → OnErr result (AppendsPart (S.contents self.old.script) (S.contents self.new.script) (spelled_lines (entity_lines (members_of (enums_under self.old.names) (bytes_of_type ety.now)) (bytes_of_type ety.now) (next_entity s)))) }
         ensures alone { PutsAlone S.faults S.place (fault_of_type (enums_under self.old.names) ety.now) self.old self.new result }
     {
         let name = self.names.next_entity()?;
@@ -107,6 +110,7 @@ impl<S: Sink> Writer<'_, S> {
     /// Puts the datatype of an extension type under its own name.
     pub(crate) fn put_ext_type(&mut self, xty: ExtType) -> Result<Text, WriteError>
         ensures lines { IfOk result (PutUnder S.contents self.old.script self.new.script (kind_name (plain_kind xty)) (spelled_lines (kind_lines (plain_kind xty) (kind_name (plain_kind xty))))) }
+        ensures part { OnErr result (AppendsPart (S.contents self.old.script) (S.contents self.new.script) (spelled_lines (kind_lines (plain_kind xty) (kind_name (plain_kind xty))))) }
         ensures alone { PutsAlone S.faults S.place None self.old self.new result }
     {
         let constructors = extension_constructors(self.alloc, xty)?;
@@ -121,6 +125,7 @@ impl<S: Sink> Writer<'_, S> {
     ) -> Result<Text, WriteError>
         ensures lines { (s : Tables) (es : List Expression) → AreTables self.old.names s → AreSpelled es sorts.now →
             IfOk result (PutUnder S.contents self.old.script self.new.script (next_record s) (spelled_lines (record_lines (texts attributes.now) (next_record s) es))) }
+        ensures part { (s : Tables) (es : List Expression) → AreTables self.old.names s → AreSpelled es sorts.now → OnErr result (AppendsPart (S.contents self.old.script) (S.contents self.new.script) (spelled_lines (record_lines (texts attributes.now) (next_record s) es))) }
         ensures alone { PutsAlone S.faults S.place None self.old self.new result }
     {
         let name = self.names.next_record()?;
@@ -204,6 +209,7 @@ impl<S: Sink> Writer<'_, S> {
     pub(crate) fn put_entry(&mut self, sort: &str, entry: &Entry) -> Result<Text, WriteError>
         ensures lines { (s : Tables) (p : PlainEntry) → AreTables self.old.names s → SaysEntry p entry.now →
             IfOk result (PutUnder S.contents self.old.script self.new.script (entry_name p s) (entry_bytes entry.now (entry_name p s) sort.now)) }
+        ensures part { (s : Tables) (p : PlainEntry) → AreTables self.old.names s → SaysEntry p entry.now → OnErr result (AppendsPart (S.contents self.old.script) (S.contents self.new.script) (entry_bytes entry.now (entry_name p s) sort.now)) }
         ensures alone { PutsAlone S.faults S.place None self.old self.new result }
     {
         let name = self.name_for(entry)?;

@@ -1,5 +1,5 @@
 // The line of one application, by the texts of its operands as they stand.
-ghost use Rattle.std.specs.Prelude.{◌≡◌, ◌∷◌, [], IfOk, IsTrue, false, is_some, map};
+ghost use Rattle.std.specs.Prelude.{◌≡◌, List, ◌∷◌, [], IfOk, IsTrue, false, is_some, map};
 ghost use Rattle.std.specs.Rc.{rc_str_bytes};
 ghost use Rattle.law_texts.specs.LineTexts.{define_fun_text};
 ghost use Rattle.law_texts.specs.SharedTexts.{texts};
@@ -8,6 +8,7 @@ ghost use Rattle.smt_spelling.specs.SelectorFaults.{fault_of_selection};
 ghost use Rattle.smt_spelling.specs.NodeLines.{meaning_fault};
 ghost use Rattle.smt_encode.specs.Refusals.{write_fault};
 ghost use Rattle.law_terms.specs.Nodes.{FunctionMeaning};
+ghost use Rattle.smt_nodes.specs.Interned.{KeepsMeanings};
 ghost use Rattle.law_lines.specs.LineForms.{operator_head};
 ghost use Rattle.law_lines.specs.Lines.{encode_function, encode_head, next_term};
 ghost use Rattle.law_lines.specs.NameTables.{Tables};
@@ -27,7 +28,7 @@ use std::sync::ledger::Blank;
 impl<S: Sink> Writer<'_, S> {
     ghost use Rattle.smt_encode.specs.Alone.{PutsAlone, PutUnder};
     ghost use Rattle.smt_encode.specs.Applied.{WroteApplied};
-    ghost use Rattle.smt_spelling.specs.Names.{enums_under, AreTables};
+    ghost use Rattle.smt_spelling.specs.Names.{enums_under, nodes_under, AreTables, KeepLevels};
     ghost use Rattle.smt_encode.specs.Steps.{FaultCounted, HasTables};
 
     /// Puts the definition of an attribute of a value of this type, by the value's text, under the name that is next.
@@ -60,6 +61,8 @@ impl<S: Sink> Writer<'_, S> {
         ensures counted { FaultCounted S.faults S.place (WriteError.Sink SinkError.Fault) self.old self.new result }
         ensures finds { (s : Tables) → HasTables self.old s → Finds write_fault (fault_of_application (enums_under self.old.names) s (plain_op op.now) (map plain_term ts.now)) result }
         ensures unput { (s : Tables) → HasTables self.old s → begins_with_function (plain_op op.now) ≡ false → IsTrue (is_some (fault_of_application (enums_under self.old.names) s (plain_op op.now) (map plain_term ts.now))) → self.new.script ≡ self.old.script }
+        ensures numbers { KeepsMeanings (nodes_under self.old.names) (nodes_under self.new.names) }
+        ensures levels { (below : List Tables) → KeepLevels self.old.names below → KeepLevels self.new.names below }
     {
         match op {
             Op::RecordGet(attribute) => self.put_first_selection(ty_enc, attribute, t_encs, ts),
@@ -102,6 +105,7 @@ impl<S: Sink> Writer<'_, S> {
         ensures counted { FaultCounted S.faults S.place (WriteError.Sink SinkError.Fault) self.old self.new result }
         ensures finds { (s : Tables) → HasTables self.old s → Finds write_fault (fault_of_application (enums_under self.old.names) s (RecordGetOp (rc_str_bytes attribute.now)) (map plain_term ts.now)) result }
         ensures unput { (s : Tables) → HasTables self.old s → IsTrue (is_some (fault_of_application (enums_under self.old.names) s (RecordGetOp (rc_str_bytes attribute.now)) (map plain_term ts.now))) → self.new.script ≡ self.old.script }
+        ensures names { self.new.names ≡ self.old.names }
     {
         match ts {
             [first, ..] => {
@@ -123,6 +127,8 @@ impl<S: Sink> Writer<'_, S> {
             IfOk result (WroteApplied S.contents self.old self.new (encode_function (enums_under self.old.names) (plain_function function.now) s) (UufOp (plain_function function.now)) ty_enc.now (texts t_encs.now)) }
         ensures counted { FaultCounted S.faults S.place (WriteError.Sink SinkError.Fault) self.old self.new result }
         ensures finds { Finds write_fault (meaning_fault (enums_under self.old.names) (FunctionMeaning (plain_function function.now))) result }
+        ensures numbers { KeepsMeanings (nodes_under self.old.names) (nodes_under self.new.names) }
+        ensures levels { (below : List Tables) → KeepLevels self.old.names below → KeepLevels self.new.names below }
     {
         let name = self.put_subject(Subject::Function(function))?;
         let body = call_text(self.alloc, name.as_str(), t_encs)?;

@@ -1,5 +1,5 @@
 // The encoder, from terms to the lines of a script.
-ghost use Rattle.std.specs.Prelude.{ℕ, List, ◌≡◌, ◌≤◌, ◌+◌, ◌++◌, ◌||◌, ◌∷◌, Bool, IsTrue, [], false, length, IfOk, None, OnOk, is_some, map, option_map};
+ghost use Rattle.std.specs.Prelude.{ℕ, List, ◌≡◌, ◌≤◌, ◌+◌, ◌*◌, ◌++◌, ◌||◌, ◌∷◌, Bool, IsTrue, [], false, length, IfOk, None, OnOk, is_some, map, option_map};
 ghost use Rattle.std.specs.Rc.{rc_str_bytes};
 ghost use Rattle.law_texts.specs.LineTexts.{comment_text, declare_const_text, declare_datatype_text, define_fun_text};
 ghost use Rattle.law_texts.specs.Quoting.{quoted_id};
@@ -17,21 +17,22 @@ ghost use Rattle.law_lines.specs.Line.{spelled_lines};
 ghost use Rattle.law_lines.specs.EntryNames.{kind_name};
 ghost use Rattle.law_lines.specs.LineForms.{entity_lines, kind_lines, record_lines};
 ghost use Rattle.law_lines.specs.Lines as lines;
-ghost use Rattle.law_lines.specs.Lines.{encode_head, members_of, next_entity, next_record, next_term};
+ghost use Rattle.law_lines.specs.Lines.{encode_head, fresh, members_of, next_entity, next_record, next_term, EncodeCall, Encoding};
 ghost use Rattle.law_lines.specs.NameTables.{Tables, no_names};
 ghost use Rattle.law_lines.specs.Text.{names, text};
+ghost use Rattle.law_theorem.specs.Fits.{new_stages};
 ghost use Rattle.law_theorem.specs.Headline.{Headline};
 ghost use Rattle.law_theorem.specs.WellWritten.{IsWellWritten, most_for_terms};
 ghost use Rattle.smt_encode.specs.Complete.{AreWritten};
-ghost use Rattle.smt_spelling.specs.LookUps.{look_ups, IsClosed};
+ghost use Rattle.smt_spelling.specs.LookUps.{edges, look_ups, IsClosed};
 ghost use Rattle.smt_spelling.specs.NodeTexts.{HasNoTexts, StandFor};
 ghost use Rattle.smt_spelling.specs.NodeLines.{encode_meaning, meaning_fault};
-ghost use Rattle.smt_nodes.specs.Interned.{nodes_of};
+ghost use Rattle.smt_nodes.specs.Interned.{nodes_of, KeepsMeanings};
 ghost use Rattle.smt_nodes.specs.Subject.{meaning_of};
 ghost use Rattle.smt_nodes.specs.View.{places_of};
 ghost use Rattle.std.specs.List.{AllByRecursion};
 ghost use Rattle.smt_spelling.specs.SelectorFaults.{fault_of_selection};
-ghost use Rattle.smt_encode.specs.Refusals.{HasCause, IsComplete};
+ghost use Rattle.smt_encode.specs.Refusals.{HasCause, IsComplete, TakesAttributes};
 
 use crate::alone::settle;
 use crate::error::EncodeError;
@@ -49,24 +50,25 @@ use std::sync::ledger::{Blank, Ledger};
 /// Writes terms as lines of a script, and keeps the names under which it wrote them.
 ///
 /// Each term that has no inline text gets one name, under which it is declared or defined once, and so does each entity type,
-/// each record type and each function. An encoder encodes one list of terms by `encode` or `encode_nodes`; after that, and
-/// after an error, it is spent. `into_script` gives its sink back.
+/// each record type and each function. `encode` and `encode_nodes` assert terms, as often as they are called, and `push` and
+/// `pop` open and close levels: what a level got, its names too, goes with it (SMT-LIB 2.7, chapter 4, The Assertion Stack).
+/// After an error an encoder is spent. `into_script` gives its sink back.
 ///
 /// `encode_type`, `encode_uuf` and `encode_term` write the lines of one type, function or term behind what was written, and
 /// enter their names. The calls from `declare_type` to `define_app` write the lines of one name alone. They answer the name and
 /// enter none, but for those that a function needs in `define_app`, so that two of them may give one name twice. All of these
-/// may come before the terms are encoded or after that.
+/// may come before terms are asserted or after that.
 #[derive(Drop)]
 pub struct Encoder<'a, S> {
-    writer: Writer<'a, S>,
-    begun: bool,
-    failed: bool,
+    pub(crate) writer: Writer<'a, S>,
+    pub(crate) begun: bool,
+    pub(crate) failed: bool,
 }
 
 impl<'a, S> Encoder<'a, S> {
-    ghost use Rattle.smt_encode.specs.Encoded.{enums_in, is_spent, nodes_in, sink_of, texts_in, HasNames, HasTexts, IsNameOf};
+    ghost use Rattle.smt_encode.specs.Encoded.{enums_in, is_spent, nodes_in, sink_of, texts_in, FitsEncoder, HasEncoding, HasNames, HasTexts, IsFresh, IsNameOf};
 
-    /// An encoder without names over this sink, which has not encoded yet. Takes no memory, and puts nothing.
+    /// An encoder without names over this sink, which has written nothing yet. Takes no memory, and puts nothing.
     ///
     /// # Examples
     ///
@@ -80,7 +82,9 @@ impl<'a, S> Encoder<'a, S> {
     pub fn new(alloc: Global, enums: &'a EnumTable, script: S) -> Encoder<'a, S>
         ensures no_names { HasNames result no_names }
         ensures no_texts { HasTexts result no_names }
-        ensures unwritten { HasNoTexts (texts_in result) }
+        ensures fresh { IsFresh result }
+        ensures stands { HasEncoding result fresh }
+        ensures fits { FitsEncoder result [] new_stages }
         ensures unspent { is_spent result ≡ false }
         ensures sink { sink_of result ≡ script }
         ensures enums { enums_in result ≡ enums_of enums.now }
@@ -97,7 +101,9 @@ impl<'a, S> Encoder<'a, S> {
     ) -> Encoder<'a, S>
         ensures no_names { HasNames result no_names }
         ensures no_texts { HasTexts result no_names }
-        ensures unwritten { HasNoTexts (texts_in result) }
+        ensures fresh { IsFresh result }
+        ensures stands { HasEncoding result fresh }
+        ensures fits { FitsEncoder result [] new_stages }
         ensures nodes { nodes_in result ≡ nodes }
         ensures unspent { is_spent result ≡ false }
         ensures sink { sink_of result ≡ script }
@@ -157,7 +163,7 @@ impl<'a, S> Encoder<'a, S> {
         self.writer.names.texts()
     }
 
-    /// How many terms have names. Takes no memory.
+    /// How many terms have names, of those that live. Takes no memory.
     pub fn term_count(&self) -> usize
         ensures { (s : Tables) → HasNames self.now s → result ≡ length s.terms }
     {
@@ -185,7 +191,7 @@ impl<'a, S> Encoder<'a, S> {
 }
 
 impl<'a, S: Drop> Encoder<'a, S> {
-    ghost use Rattle.smt_encode.specs.Encoded.{enums_in, is_spent, nodes_in, texts_in, HasNames, HasTexts};
+    ghost use Rattle.smt_encode.specs.Encoded.{enums_in, is_spent, nodes_in, texts_in, HasEncoding, HasNames, HasTexts};
 
     /// The same encoder without its sink, for its names alone. Takes no memory.
     pub fn finalize(self) -> Encoder<'a, ()>
@@ -194,38 +200,23 @@ impl<'a, S: Drop> Encoder<'a, S> {
         ensures nodes { nodes_in result ≡ nodes_in self.entry }
         ensures texts { texts_in result ≡ texts_in self.entry }
         ensures enums { enums_in result ≡ enums_in self.entry }
+        ensures stands { (x : Encoding) → HasEncoding self.entry x → HasEncoding result x }
         ensures spent { is_spent result ≡ is_spent self.entry }
     {
-        let Encoder {
-            writer,
-            begun,
-            failed,
-        } = self;
-        let Writer {
-            alloc,
-            names,
-            script,
-        } = writer;
+        let (encoder, script) = self.detach();
         drop(script);
-        Encoder {
-            writer: Writer {
-                alloc,
-                names,
-                script: (),
-            },
-            begun,
-            failed,
-        }
+        encoder
     }
 }
 
 impl<S: Sink> Encoder<'_, S> {
     ghost use Rattle.smt_encode.specs.Alone.{fault_of_entity, fault_of_type, line_of_entity, name_of_entity, record_body_text, set_body_text, sorts_given, NamesStay, PutUnder};
     ghost use Rattle.smt_encode.specs.Applied.{begins_with_function, fault_of_application, selection_text, PutApplied};
-    ghost use Rattle.smt_encode.specs.Encoded.{enums_in, has_failed, is_spent, nodes_in, sink_of, texts_in, HasNames, HasTexts, Keeps, OfNames, OfReceived, PutScript, PutStated, Spends, SpendsOnError, WroteText};
+    ghost use Rattle.smt_encode.specs.Interrupted.{IsInterrupted};
+    ghost use Rattle.smt_encode.specs.Encoded.{enums_in, is_spent, nodes_in, sink_of, texts_in, CallKeepsFit, CallKeepsWellWritten, HasNames, HasTexts, IsFresh, Keeps, LevelsStay, OfNames, OfReceived, PutScript, PutStated, PutsCall, Spends, SpendsOnError, WroteText};
 
-    /// Writes the script of these terms: the declaration of the datatype `Option`, what the terms need, and an
-    /// assertion for each term, in order (commands of SMT-LIB 2.7, chapter 3, Scripts).
+    /// Asserts these terms: writes the declaration of the datatype `Option`, if no `push`, `encode` or `encode_nodes` has
+    /// written it, what the terms need, and an assertion for each term, in order (commands of SMT-LIB 2.7, chapter 3, Scripts).
     ///
     /// What a term needs are the lines of its type, those of its parts and then its own: `; "id"` and
     /// `(declare-const t0 S)` for a variable, `(define-fun t0 () S BODY)` for another term that has no inline text, where
@@ -237,16 +228,22 @@ impl<S: Sink> Encoder<'_, S> {
     ///
     /// After Ok it has put exactly the lines that are stated over the names that it had, and has the names that are stated
     /// then, and each node that it wrote has its stated text: the name of a term, of an entity or record type or of a
-    /// function, or what stands inline for another type or a literal (`put`). Of an encoder none of whose nodes has a text,
-    /// as `new` gives it, this is the stated text with its names (`stated`). Of such an encoder, for Boolean terms,
-    /// `headline` says what the bytes mean that the sink got in this call, by the names that the encoder has then: they are a
-    /// script by the grammar of SMT-LIB 2.7, each name is declared once and before its use, the assertions are the terms'
-    /// texts in order, and the models are exactly the interpretations that make all terms true. `models` says the same of the
-    /// stated text and its names. Of such an encoder and such terms, `well_written` says that each definition's body has the
-    /// definition's sort and each assertion the sort Bool (SMT-LIB 2.7, chapter 3, Terms and Formulas), by the declarations
-    /// before it; that each term is defined at most once, by a body in which its parts stand by name or as an inline literal;
-    /// and that there are at most as many commands as assertions, distinct named sorts, functions and subterms that the terms
-    /// reach, and one for `Option`. By `written` each node of terms that are typed has its text then.
+    /// function, or what stands inline for another type or a literal (`put`). Of a fresh encoder, as `new` gives it, this is
+    /// the stated text with its names (`stated`). Of such an encoder, for Boolean terms, `headline` says what the bytes mean
+    /// that the sink got in this call, by the names that the encoder has then: they are a script by the grammar of SMT-LIB
+    /// 2.7, each name is declared once and before its use, the assertions are the terms' texts in order, and the models are
+    /// exactly the interpretations that make all terms true. `models` says the same of the stated text and its names. Of such
+    /// an encoder and such terms, `well_written` says that each definition's body has the definition's sort and each assertion
+    /// the sort Bool (SMT-LIB 2.7, chapter 3, Terms and Formulas), by the declarations before it; that each term is defined at
+    /// most once, by a body in which its parts stand by name or as an inline literal; and that there are at most as many
+    /// commands as assertions, distinct named sorts, functions and subterms that the terms reach, and one for `Option`. By
+    /// `written` each node of terms that are typed has its text then.
+    ///
+    /// After any list of calls of `push`, `pop`, `encode` and `encode_nodes` the same holds of all that the sink got, with the
+    /// names that live and the terms of all open levels in order. Each call is a step of it: it puts the lines that are stated
+    /// for it (`called`), and where a text and these terms fitted the encoder, they do so with the new bytes and terms (`fits`,
+    /// `keeps_well_written`); a fresh encoder fits the empty text. What a text that fits is worth says the law
+    /// `fitting_texts_are_scripts` of `law_theorem`.
     ///
     /// # Examples
     ///
@@ -256,34 +253,45 @@ impl<S: Sink> Encoder<'_, S> {
     /// let enums = EnumTable::new(alloc);
     /// let mut encoder = Encoder::new(alloc, &enums, ListSink::new(alloc));
     /// encoder.encode(&[Term::from(true)])?;
-    /// assert!(rt; encoder.encode(&[]).is_err());
+    /// encoder.encode(&[Term::from(false)])?;
+    /// assert!(rt; encoder.into_script().bytes().ends_with(b"(assert true)\n(assert false)\n"));
     /// ```
     ///
     /// # Errors
     ///
-    /// `Spent` comes exactly from an encoder that has encoded before or refused before, and leaves it as it is. `Io` comes
+    /// `Spent` comes exactly from an encoder of which an earlier call answered an error, and leaves it as it is. `Io` comes
     /// only where the sink's count of faults rose in this call, or stands at its last value. `EmptyEnum`,
     /// `EnumMissingMember`, `EncodeStringFailed`, `EncodePatternFailed`, `MalformedRecordGet`, `MissingTypeEncoding`,
     /// `ExpectRecord` and `RecordMissingAttr` come only where this is the first fault of the terms, from left to right, a
     /// term's type before its parts and these before the term; where the terms have a fault, the answer is never Ok. The last
-    /// four never come of typed terms. `Memory` may come from any encoder that is not spent, where there is no memory left.
-    /// Each of these spends the encoder and says nothing of what the sink got.
+    /// four never come of typed terms (`takes`). `Memory` may come from any encoder that is not spent, where there is no memory
+    /// left. Each of these spends the encoder. For typed terms, wherever a text fitted the encoder, the sink has got a first
+    /// part of the first of the stated lines then, with which the text is a script still: whole comments and commands, and only
+    /// after `Io` and `Memory` at most one more that is cut (`stopped`). The names are those of some tables, so that
+    /// `term_count` counts them (`names`).
     pub fn encode(&mut self, terms: &[Term]) -> Result<(), EncodeError>
         ensures put { (s : Tables) → HasTexts self.old s → OnOk result (PutScript S.contents self.old self.new (lines.encode (enums_in self.old) (map plain_term terms.now) s)) }
-        ensures stated { HasNoTexts (texts_in self.old) → OnOk result (WroteText S.contents self.old self.new (map plain_term terms.now)) }
-        ensures headline { HasNoTexts (texts_in self.old) → AreBoolean (map plain_term terms.now) → OnOk result (OfReceived (S.contents (sink_of self.old)) (S.contents (sink_of self.new)) (λ bytes. OfNames self.new (λ names. Headline (enums_in self.old) names (map plain_term terms.now) bytes))) }
-        ensures well_written { HasNoTexts (texts_in self.old) → AreBoolean (map plain_term terms.now) → OnOk result (OfReceived (S.contents (sink_of self.old)) (S.contents (sink_of self.new)) (λ bytes. OfNames self.new (λ names. IsWellWritten (enums_in self.old) bytes (map plain_term terms.now) names (1 + most_for_terms (map plain_term terms.now))))) }
+        ensures stated { IsFresh self.old → OnOk result (WroteText S.contents self.old self.new (map plain_term terms.now)) }
+        ensures headline { IsFresh self.old → AreBoolean (map plain_term terms.now) → OnOk result (OfReceived (S.contents (sink_of self.old)) (S.contents (sink_of self.new)) (λ bytes. OfNames self.new (λ names. Headline (enums_in self.old) names (map plain_term terms.now) bytes))) }
+        ensures well_written { IsFresh self.old → AreBoolean (map plain_term terms.now) → OnOk result (OfReceived (S.contents (sink_of self.old)) (S.contents (sink_of self.new)) (λ bytes. OfNames self.new (λ names. IsWellWritten (enums_in self.old) bytes (map plain_term terms.now) names (1 + most_for_terms (map plain_term terms.now))))) }
         ensures models { AreBoolean (map plain_term terms.now) → OnOk result (Headline (enums_in self.old) (names (enums_in self.old) (map plain_term terms.now)) (map plain_term terms.now) (text (enums_in self.old) (map plain_term terms.now))) }
+        ensures called { PutsCall S.contents self.old self.new (EncodeCall (map plain_term terms.now)) result }
+        ensures fits { AreBoolean (map plain_term terms.now) → CallKeepsFit S.contents self.old self.new (EncodeCall (map plain_term terms.now)) result }
+        ensures keeps_well_written { AreBoolean (map plain_term terms.now) → CallKeepsWellWritten S.contents self.old self.new (EncodeCall (map plain_term terms.now)) result }
         ensures spent { Spends self.old self.new result }
         ensures refused { HasCause (S.faults (sink_of self.old)) (S.faults (sink_of self.new)) (first_fault (enums_in self.old) (map plain_term terms.now)) result }
+        ensures takes { AreTyped (map plain_term terms.now) → TakesAttributes result }
         ensures complete { IsComplete (is_spent self.old) (S.faults (sink_of self.old)) (S.faults (sink_of self.new)) (first_fault (enums_in self.old) (map plain_term terms.now)) result }
-        ensures written { (ids : List NodeId) → HasNoTexts (texts_in self.old) → AreTyped (map plain_term terms.now) → StandFor (nodes_in self.new) ids (map plain_term terms.now) → OnOk result (AreWritten (nodes_in self.new) (texts_in self.new) ids) }
+        ensures stopped { AreTyped (map plain_term terms.now) → IsInterrupted S.contents self.old self.new (EncodeCall (map plain_term terms.now)) result }
+        ensures names { (s : Tables) → HasTexts self.old s → (t : Tables) × HasTexts self.new t }
+        ensures numbers { KeepsMeanings (nodes_in self.old) (nodes_in self.new) }
+        ensures written { OnOk result (AreWritten (nodes_in self.new) (texts_in self.new) (map plain_term terms.now)) }
         ensures kept { Keeps S.faults S.place self.old self.new }
     {
-        if self.begun || self.failed {
+        if self.failed {
             return Err(EncodeError::Spent);
         }
-        let outcome = self.writer.put_terms(terms);
+        let outcome = self.writer.put_terms(terms, self.begun);
         self.begun = true;
         self.failed = outcome.is_err();
         Ok(outcome?)
@@ -294,7 +302,7 @@ impl<S: Sink> Encoder<'_, S> {
     ///
     /// After Ok there are at most as many look-ups as numbers that were given, parts of nodes and attributes that are taken
     /// together, of the nodes to which these numbers lead (`steps`, of any set of nodes that has these and the parts of its
-    /// own).
+    /// own), and so at most twice as many as assertions and edges (`by_edges`).
     ///
     /// # Errors
     ///
@@ -306,21 +314,29 @@ impl<S: Sink> Encoder<'_, S> {
     ) -> Result<(), EncodeError>
         requires stand { (ts : List PlainTerm) × StandFor (nodes_in self.old) ids.now ts }
         ensures put { (ts : List PlainTerm) (s : Tables) → StandFor (nodes_in self.old) ids.now ts → HasTexts self.old s → OnOk result (PutScript S.contents self.old self.new (lines.encode (enums_in self.old) ts s)) }
-        ensures stated { (ts : List PlainTerm) → StandFor (nodes_in self.old) ids.now ts → HasNoTexts (texts_in self.old) → OnOk result (WroteText S.contents self.old self.new ts) }
-        ensures headline { (ts : List PlainTerm) → StandFor (nodes_in self.old) ids.now ts → HasNoTexts (texts_in self.old) → AreBoolean ts → OnOk result (OfReceived (S.contents (sink_of self.old)) (S.contents (sink_of self.new)) (λ bytes. OfNames self.new (λ names. Headline (enums_in self.old) names ts bytes))) }
-        ensures well_written { (ts : List PlainTerm) → StandFor (nodes_in self.old) ids.now ts → HasNoTexts (texts_in self.old) → AreBoolean ts → OnOk result (OfReceived (S.contents (sink_of self.old)) (S.contents (sink_of self.new)) (λ bytes. OfNames self.new (λ names. IsWellWritten (enums_in self.old) bytes ts names (1 + most_for_terms ts)))) }
+        ensures stated { (ts : List PlainTerm) → StandFor (nodes_in self.old) ids.now ts → IsFresh self.old → OnOk result (WroteText S.contents self.old self.new ts) }
+        ensures headline { (ts : List PlainTerm) → StandFor (nodes_in self.old) ids.now ts → IsFresh self.old → AreBoolean ts → OnOk result (OfReceived (S.contents (sink_of self.old)) (S.contents (sink_of self.new)) (λ bytes. OfNames self.new (λ names. Headline (enums_in self.old) names ts bytes))) }
+        ensures well_written { (ts : List PlainTerm) → StandFor (nodes_in self.old) ids.now ts → IsFresh self.old → AreBoolean ts → OnOk result (OfReceived (S.contents (sink_of self.old)) (S.contents (sink_of self.new)) (λ bytes. OfNames self.new (λ names. IsWellWritten (enums_in self.old) bytes ts names (1 + most_for_terms ts)))) }
         ensures models { (ts : List PlainTerm) → StandFor (nodes_in self.old) ids.now ts → AreBoolean ts → OnOk result (Headline (enums_in self.old) (names (enums_in self.old) ts) ts (text (enums_in self.old) ts)) }
+        ensures called { (ts : List PlainTerm) → StandFor (nodes_in self.old) ids.now ts → PutsCall S.contents self.old self.new (EncodeCall ts) result }
+        ensures fits { (ts : List PlainTerm) → StandFor (nodes_in self.old) ids.now ts → AreBoolean ts → CallKeepsFit S.contents self.old self.new (EncodeCall ts) result }
+        ensures keeps_well_written { (ts : List PlainTerm) → StandFor (nodes_in self.old) ids.now ts → AreBoolean ts → CallKeepsWellWritten S.contents self.old self.new (EncodeCall ts) result }
         ensures spent { Spends self.old self.new result }
+        ensures takes { (ts : List PlainTerm) → StandFor (nodes_in self.old) ids.now ts → AreTyped ts → TakesAttributes result }
         ensures refused { (ts : List PlainTerm) → StandFor (nodes_in self.old) ids.now ts → HasCause (S.faults (sink_of self.old)) (S.faults (sink_of self.new)) (first_fault (enums_in self.old) ts) result }
         ensures complete { (ts : List PlainTerm) → StandFor (nodes_in self.old) ids.now ts → IsComplete (is_spent self.old) (S.faults (sink_of self.old)) (S.faults (sink_of self.new)) (first_fault (enums_in self.old) ts) result }
-        ensures written { (ts : List PlainTerm) → StandFor (nodes_in self.old) ids.now ts → HasNoTexts (texts_in self.old) → AreTyped ts → OnOk result (AreWritten (nodes_in self.new) (texts_in self.new) ids.now) }
+        ensures stopped { (ts : List PlainTerm) → StandFor (nodes_in self.old) ids.now ts → AreTyped ts → IsInterrupted S.contents self.old self.new (EncodeCall ts) result }
+        ensures names { (s : Tables) → HasTexts self.old s → (t : Tables) × HasTexts self.new t }
+        ensures written { (ts : List PlainTerm) → StandFor (nodes_in self.old) ids.now ts → OnOk result (AreWritten (nodes_in self.new) (texts_in self.new) ts) }
         ensures steps { (has : ℕ → Bool) → IsClosed (nodes_of (nodes_in self.old)) has → AllByRecursion (λ place. IsTrue (has place)) (places_of ids.now) → OnOk result (steps.new ≤ steps.old + length ids.now + look_ups has (nodes_of (nodes_in self.old))) }
+        ensures by_edges { (has : ℕ → Bool) → IsClosed (nodes_of (nodes_in self.old)) has → AllByRecursion (λ place. IsTrue (has place)) (places_of ids.now) → OnOk result (steps.new ≤ steps.old + 2 * (length ids.now + edges has (nodes_of (nodes_in self.old)))) }
+        ensures numbers { nodes_in self.new ≡ nodes_in self.old }
         ensures kept { Keeps S.faults S.place self.old self.new }
     {
-        if self.begun || self.failed {
+        if self.failed {
             return Err(EncodeError::Spent);
         }
-        let outcome = self.writer.put_nodes(ids, steps);
+        let outcome = self.writer.put_nodes(ids, self.begun, steps);
         self.begun = true;
         self.failed = outcome.is_err();
         Ok(outcome?)
@@ -329,20 +345,23 @@ impl<S: Sink> Encoder<'_, S> {
     /// Writes the lines that a type needs, as `encode` does, and answers its sort: its name, or what stands inline for it.
     ///
     /// What has a name already is not written again. The names that are new are entered, so that no later call writes these
-    /// lines again. Whether the encoder has encoded its terms does not matter.
+    /// lines again.
     ///
     /// # Errors
     ///
-    /// `Spent` comes exactly from an encoder that has refused before, and leaves it as it is. `Io` comes only where the
-    /// sink's count of faults rose in this call, or stands at its last value. `EmptyEnum` comes only where this is the first
-    /// fault of the type, and where the type has a fault, the answer is never Ok. `Memory` comes where there is no memory
-    /// left. After an error the encoder refuses all that it is to write.
+    /// `Spent` comes exactly from an encoder of which an earlier call answered an error, and leaves it as it is. `Io` comes
+    /// only where the sink's count of faults rose in this call, or stands at its last value. `EmptyEnum` comes only where this
+    /// is the first fault of the type, and where the type has a fault, the answer is never Ok. `Memory` comes where there is
+    /// no memory left. After an error the encoder refuses all that it is to write.
     pub fn encode_type(&mut self, ty: &TermType) -> Result<Text, EncodeError>
         ensures put { (s : Tables) → HasTexts self.old s → IfOk result (PutStated S.contents self.old self.new (lines.encode_type (enums_in self.old) (plain_type ty.now) s)) }
         ensures refused { HasCause (S.faults (sink_of self.old)) (S.faults (sink_of self.new)) (type_fault (enums_in self.old) (plain_type ty.now)) result }
-        ensures complete { IsComplete (has_failed self.old) (S.faults (sink_of self.old)) (S.faults (sink_of self.new)) (type_fault (enums_in self.old) (plain_type ty.now)) result }
+        ensures complete { IsComplete (is_spent self.old) (S.faults (sink_of self.old)) (S.faults (sink_of self.new)) (type_fault (enums_in self.old) (plain_type ty.now)) result }
         ensures spent { SpendsOnError self.old self.new result }
         ensures kept { Keeps S.faults S.place self.old self.new }
+        ensures names { (s : Tables) → HasTexts self.old s → (t : Tables) × HasTexts self.new t }
+        ensures numbers { KeepsMeanings (nodes_in self.old) (nodes_in self.new) }
+        ensures levels { LevelsStay self.old self.new }
     {
         self.encode_subject(Subject::Type(ty))
     }
@@ -359,9 +378,12 @@ impl<S: Sink> Encoder<'_, S> {
     pub fn encode_uuf(&mut self, uuf: &Uuf) -> Result<Text, EncodeError>
         ensures put { (s : Tables) → HasTexts self.old s → IfOk result (PutStated S.contents self.old self.new (lines.encode_function (enums_in self.old) (plain_function uuf.now) s)) }
         ensures refused { HasCause (S.faults (sink_of self.old)) (S.faults (sink_of self.new)) (meaning_fault (enums_in self.old) (FunctionMeaning (plain_function uuf.now))) result }
-        ensures complete { IsComplete (has_failed self.old) (S.faults (sink_of self.old)) (S.faults (sink_of self.new)) (meaning_fault (enums_in self.old) (FunctionMeaning (plain_function uuf.now))) result }
+        ensures complete { IsComplete (is_spent self.old) (S.faults (sink_of self.old)) (S.faults (sink_of self.new)) (meaning_fault (enums_in self.old) (FunctionMeaning (plain_function uuf.now))) result }
         ensures spent { SpendsOnError self.old self.new result }
         ensures kept { Keeps S.faults S.place self.old self.new }
+        ensures names { (s : Tables) → HasTexts self.old s → (t : Tables) × HasTexts self.new t }
+        ensures numbers { KeepsMeanings (nodes_in self.old) (nodes_in self.new) }
+        ensures levels { LevelsStay self.old self.new }
     {
         self.encode_subject(Subject::Function(uuf))
     }
@@ -373,13 +395,16 @@ impl<S: Sink> Encoder<'_, S> {
     ///
     /// # Errors
     ///
-    /// Those of `encode` for this term; `Spent` comes exactly from an encoder that has refused before.
+    /// Those of `encode` for this term; `Spent` comes as there.
     pub fn encode_term(&mut self, t: &Term) -> Result<Text, EncodeError>
         ensures put { (s : Tables) → HasTexts self.old s → IfOk result (PutStated S.contents self.old self.new (lines.encode_term (enums_in self.old) (plain_term t.now) s)) }
         ensures refused { HasCause (S.faults (sink_of self.old)) (S.faults (sink_of self.new)) (term_fault (enums_in self.old) (plain_term t.now)) result }
-        ensures complete { IsComplete (has_failed self.old) (S.faults (sink_of self.old)) (S.faults (sink_of self.new)) (term_fault (enums_in self.old) (plain_term t.now)) result }
+        ensures complete { IsComplete (is_spent self.old) (S.faults (sink_of self.old)) (S.faults (sink_of self.new)) (term_fault (enums_in self.old) (plain_term t.now)) result }
         ensures spent { SpendsOnError self.old self.new result }
         ensures kept { Keeps S.faults S.place self.old self.new }
+        ensures names { (s : Tables) → HasTexts self.old s → (t : Tables) × HasTexts self.new t }
+        ensures numbers { KeepsMeanings (nodes_in self.old) (nodes_in self.new) }
+        ensures levels { LevelsStay self.old self.new }
     {
         self.encode_subject(Subject::Term(t))
     }
@@ -388,9 +413,12 @@ impl<S: Sink> Encoder<'_, S> {
     fn encode_subject(&mut self, subject: Subject<'_>) -> Result<Text, EncodeError>
         ensures put { (s : Tables) → HasTexts self.old s → IfOk result (PutStated S.contents self.old self.new (encode_meaning (enums_in self.old) (meaning_of subject.entry) s)) }
         ensures refused { HasCause (S.faults (sink_of self.old)) (S.faults (sink_of self.new)) (meaning_fault (enums_in self.old) (meaning_of subject.entry)) result }
-        ensures complete { IsComplete (has_failed self.old) (S.faults (sink_of self.old)) (S.faults (sink_of self.new)) (meaning_fault (enums_in self.old) (meaning_of subject.entry)) result }
+        ensures complete { IsComplete (is_spent self.old) (S.faults (sink_of self.old)) (S.faults (sink_of self.new)) (meaning_fault (enums_in self.old) (meaning_of subject.entry)) result }
         ensures spent { SpendsOnError self.old self.new result }
         ensures kept { Keeps S.faults S.place self.old self.new }
+        ensures names { (s : Tables) → HasTexts self.old s → (t : Tables) × HasTexts self.new t }
+        ensures numbers { KeepsMeanings (nodes_in self.old) (nodes_in self.new) }
+        ensures levels { LevelsStay self.old self.new }
     {
         if self.failed {
             return Err(EncodeError::Spent);
@@ -403,17 +431,17 @@ impl<S: Sink> Encoder<'_, S> {
     /// of its own, and answers the id.
     ///
     /// What is handed in is written as it stands. The names that the encoder has stay as they are: the id is not entered
-    /// among them. Whether the encoder has encoded its terms does not matter.
+    /// among them.
     ///
     /// # Errors
     ///
-    /// `Spent` comes exactly from an encoder that has refused before, and leaves it as it is. `Io` comes only where the
-    /// sink's count of faults rose in this call, or stands at its last value; `Memory` where there is no memory left. After
-    /// an error the encoder refuses all that it is to write.
+    /// `Spent` comes exactly from an encoder of which an earlier call answered an error, and leaves it as it is. `Io` comes
+    /// only where the sink's count of faults rose in this call, or stands at its last value; `Memory` where there is no memory
+    /// left. After an error the encoder refuses all that it is to write.
     pub fn declare_type(&mut self, id: &str, mks: &[Text]) -> Result<Text, EncodeError>
         ensures put { IfOk result (PutUnder S.contents (sink_of self.old) (sink_of self.new) id.now (declare_datatype_text id.now [] (texts mks.now))) }
         ensures refused { HasCause (S.faults (sink_of self.old)) (S.faults (sink_of self.new)) None result }
-        ensures complete { IsComplete (has_failed self.old) (S.faults (sink_of self.old)) (S.faults (sink_of self.new)) None result }
+        ensures complete { IsComplete (is_spent self.old) (S.faults (sink_of self.old)) (S.faults (sink_of self.new)) None result }
         ensures spent { SpendsOnError self.old self.new result }
         ensures kept { NamesStay S.faults S.place None self.old self.new }
     {
@@ -438,7 +466,7 @@ impl<S: Sink> Encoder<'_, S> {
         ensures put { (s : Tables) → HasNames self.old s → let members = members_of (enums_in self.old) (bytes_of_type ety.now) in
             IfOk result (PutUnder S.contents (sink_of self.old) (sink_of self.new) (next_entity s) (spelled_lines (entity_lines members (bytes_of_type ety.now) (next_entity s)))) }
         ensures refused { HasCause (S.faults (sink_of self.old)) (S.faults (sink_of self.new)) (fault_of_type (enums_in self.old) ety.now) result }
-        ensures complete { IsComplete (has_failed self.old) (S.faults (sink_of self.old)) (S.faults (sink_of self.new)) (fault_of_type (enums_in self.old) ety.now) result }
+        ensures complete { IsComplete (is_spent self.old) (S.faults (sink_of self.old)) (S.faults (sink_of self.new)) (fault_of_type (enums_in self.old) ety.now) result }
         ensures spent { SpendsOnError self.old self.new result }
         ensures kept { NamesStay S.faults S.place (fault_of_type (enums_in self.old) ety.now) self.old self.new }
     {
@@ -462,7 +490,7 @@ impl<S: Sink> Encoder<'_, S> {
     pub fn declare_ext_type(&mut self, ext_ty: ExtType) -> Result<Text, EncodeError>
         ensures put { IfOk result (PutUnder S.contents (sink_of self.old) (sink_of self.new) (kind_name (plain_kind ext_ty)) (spelled_lines (kind_lines (plain_kind ext_ty) (kind_name (plain_kind ext_ty))))) }
         ensures refused { HasCause (S.faults (sink_of self.old)) (S.faults (sink_of self.new)) None result }
-        ensures complete { IsComplete (has_failed self.old) (S.faults (sink_of self.old)) (S.faults (sink_of self.new)) None result }
+        ensures complete { IsComplete (is_spent self.old) (S.faults (sink_of self.old)) (S.faults (sink_of self.new)) None result }
         ensures spent { SpendsOnError self.old self.new result }
         ensures kept { NamesStay S.faults S.place None self.old self.new }
     {
@@ -488,7 +516,7 @@ impl<S: Sink> Encoder<'_, S> {
         ensures put { (s : Tables) → HasNames self.old s →
             IfOk result (PutUnder S.contents (sink_of self.old) (sink_of self.new) (next_record s) (spelled_lines (record_lines (attributes_in rty.now) (next_record s) (sorts_given rty.now)))) }
         ensures refused { HasCause (S.faults (sink_of self.old)) (S.faults (sink_of self.new)) None result }
-        ensures complete { IsComplete (has_failed self.old) (S.faults (sink_of self.old)) (S.faults (sink_of self.new)) None result }
+        ensures complete { IsComplete (is_spent self.old) (S.faults (sink_of self.old)) (S.faults (sink_of self.new)) None result }
         ensures spent { SpendsOnError self.old self.new result }
         ensures kept { NamesStay S.faults S.place None self.old self.new }
     {
@@ -512,7 +540,7 @@ impl<S: Sink> Encoder<'_, S> {
         ensures put { (s : Tables) → HasNames self.old s →
             IfOk result (PutUnder S.contents (sink_of self.old) (sink_of self.new) (next_term s) (comment_text (quoted_id (rc_str_bytes v.now.id)) ++ declare_const_text (next_term s) ty_enc.now)) }
         ensures refused { HasCause (S.faults (sink_of self.old)) (S.faults (sink_of self.new)) None result }
-        ensures complete { IsComplete (has_failed self.old) (S.faults (sink_of self.old)) (S.faults (sink_of self.new)) None result }
+        ensures complete { IsComplete (is_spent self.old) (S.faults (sink_of self.old)) (S.faults (sink_of self.new)) None result }
         ensures spent { SpendsOnError self.old self.new result }
         ensures kept { NamesStay S.faults S.place None self.old self.new }
     {
@@ -536,7 +564,7 @@ impl<S: Sink> Encoder<'_, S> {
         ensures put { (s : Tables) → HasNames self.old s →
             IfOk result (PutUnder S.contents (sink_of self.old) (sink_of self.new) (next_term s) (define_fun_text (next_term s) [] ty_enc.now t_enc.now)) }
         ensures refused { HasCause (S.faults (sink_of self.old)) (S.faults (sink_of self.new)) None result }
-        ensures complete { IsComplete (has_failed self.old) (S.faults (sink_of self.old)) (S.faults (sink_of self.new)) None result }
+        ensures complete { IsComplete (is_spent self.old) (S.faults (sink_of self.old)) (S.faults (sink_of self.new)) None result }
         ensures spent { SpendsOnError self.old self.new result }
         ensures kept { NamesStay S.faults S.place None self.old self.new }
     {
@@ -559,7 +587,7 @@ impl<S: Sink> Encoder<'_, S> {
         ensures put { (s : Tables) → HasNames self.old s →
             IfOk result (PutUnder S.contents (sink_of self.old) (sink_of self.new) (next_term s) (define_fun_text (next_term s) [] ty_enc.now (set_body_text ty_enc.now (texts t_encs.now)))) }
         ensures refused { HasCause (S.faults (sink_of self.old)) (S.faults (sink_of self.new)) None result }
-        ensures complete { IsComplete (has_failed self.old) (S.faults (sink_of self.old)) (S.faults (sink_of self.new)) None result }
+        ensures complete { IsComplete (is_spent self.old) (S.faults (sink_of self.old)) (S.faults (sink_of self.new)) None result }
         ensures spent { SpendsOnError self.old self.new result }
         ensures kept { NamesStay S.faults S.place None self.old self.new }
     {
@@ -582,7 +610,7 @@ impl<S: Sink> Encoder<'_, S> {
         ensures put { (s : Tables) → HasNames self.old s →
             IfOk result (PutUnder S.contents (sink_of self.old) (sink_of self.new) (next_term s) (define_fun_text (next_term s) [] ty_enc.now (record_body_text ty_enc.now (texts t_encs.now)))) }
         ensures refused { HasCause (S.faults (sink_of self.old)) (S.faults (sink_of self.new)) None result }
-        ensures complete { IsComplete (has_failed self.old) (S.faults (sink_of self.old)) (S.faults (sink_of self.new)) None result }
+        ensures complete { IsComplete (is_spent self.old) (S.faults (sink_of self.old)) (S.faults (sink_of self.new)) None result }
         ensures spent { SpendsOnError self.old self.new result }
         ensures kept { NamesStay S.faults S.place None self.old self.new }
     {
@@ -608,7 +636,7 @@ impl<S: Sink> Encoder<'_, S> {
         ensures put { (s : Tables) → HasNames self.old s → let members = members_of (enums_in self.old) (bytes_of_type entity.now.ety) in
             IfOk result (PutUnder S.contents (sink_of self.old) (sink_of self.new) (name_of_entity members (bytes_of_id entity.now.id) ty_enc.now s) (line_of_entity members (bytes_of_id entity.now.id) ty_enc.now s)) }
         ensures refused { HasCause (S.faults (sink_of self.old)) (S.faults (sink_of self.new)) (fault_of_entity (enums_in self.old) entity.now) result }
-        ensures complete { IsComplete (has_failed self.old) (S.faults (sink_of self.old)) (S.faults (sink_of self.new)) (fault_of_entity (enums_in self.old) entity.now) result }
+        ensures complete { IsComplete (is_spent self.old) (S.faults (sink_of self.old)) (S.faults (sink_of self.new)) (fault_of_entity (enums_in self.old) entity.now) result }
         ensures spent { SpendsOnError self.old self.new result }
         ensures kept { NamesStay S.faults S.place (fault_of_entity (enums_in self.old) entity.now) self.old self.new }
     {
@@ -639,7 +667,7 @@ impl<S: Sink> Encoder<'_, S> {
         ensures put { (s : Tables) → HasNames self.old s →
             IfOk result (PutUnder S.contents (sink_of self.old) (sink_of self.new) (next_term s) (define_fun_text (next_term s) [] ty_enc.now (selection_text (rc_str_bytes a.now) (plain_type ty.now) (t_enc.now ∷ []) s))) }
         ensures refused { (s : Tables) → HasNames self.old s → HasCause (S.faults (sink_of self.old)) (S.faults (sink_of self.new)) (fault_of_selection s (rc_str_bytes a.now) (plain_type ty.now)) result }
-        ensures complete { (s : Tables) → HasNames self.old s → IsComplete (has_failed self.old) (S.faults (sink_of self.old)) (S.faults (sink_of self.new)) (fault_of_selection s (rc_str_bytes a.now) (plain_type ty.now)) result }
+        ensures complete { (s : Tables) → HasNames self.old s → IsComplete (is_spent self.old) (S.faults (sink_of self.old)) (S.faults (sink_of self.new)) (fault_of_selection s (rc_str_bytes a.now) (plain_type ty.now)) result }
         ensures spent { SpendsOnError self.old self.new result }
         ensures kept { (s : Tables) → HasNames self.old s → NamesStay S.faults S.place (fault_of_selection s (rc_str_bytes a.now) (plain_type ty.now)) self.old self.new }
     {
@@ -673,9 +701,11 @@ impl<S: Sink> Encoder<'_, S> {
         ensures put { (s : Tables) → HasTexts self.old s →
             IfOk result (PutApplied S.contents self.old self.new (encode_head (enums_in self.old) (plain_op op.now) (terms (map plain_term ts.now)) s) (plain_op op.now) ty_enc.now (texts t_encs.now)) }
         ensures refused { (s : Tables) → HasTexts self.old s → HasCause (S.faults (sink_of self.old)) (S.faults (sink_of self.new)) (fault_of_application (enums_in self.old) s (plain_op op.now) (map plain_term ts.now)) result }
-        ensures complete { (s : Tables) → HasTexts self.old s → IsComplete (has_failed self.old) (S.faults (sink_of self.old)) (S.faults (sink_of self.new)) (fault_of_application (enums_in self.old) s (plain_op op.now) (map plain_term ts.now)) result }
+        ensures complete { (s : Tables) → HasTexts self.old s → IsComplete (is_spent self.old) (S.faults (sink_of self.old)) (S.faults (sink_of self.new)) (fault_of_application (enums_in self.old) s (plain_op op.now) (map plain_term ts.now)) result }
         ensures spent { SpendsOnError self.old self.new result }
         ensures kept { Keeps S.faults S.place self.old self.new }
+        ensures numbers { KeepsMeanings (nodes_in self.old) (nodes_in self.new) }
+        ensures levels { LevelsStay self.old self.new }
         ensures unput { (s : Tables) → HasTexts self.old s → begins_with_function (plain_op op.now) ≡ false → IsTrue (is_some (fault_of_application (enums_in self.old) s (plain_op op.now) (map plain_term ts.now))) → sink_of self.new ≡ sink_of self.old }
     {
         if self.failed {

@@ -38,9 +38,12 @@ pub enum EncodeError {
     /// This enum type has no members, so its terms have no values.
     #[error("an enum type has no members")]
     EmptyEnum(EntityType),
-    /// An earlier call of this encoder refused, or it has encoded its terms already.
+    /// An earlier call of this encoder answered an error.
     #[error("the encoder is spent")]
     Spent,
+    /// No level is open that could be closed.
+    #[error("no level of the script is open")]
+    NoScope,
     /// A call on bitvectors was refused. No call of an encoder gives this; it is for callers that build terms and encode them
     /// under one error.
     #[error("a call on bitvectors was refused")]

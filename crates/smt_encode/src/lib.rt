@@ -42,8 +42,10 @@
 
 mod alone;
 mod application;
+mod attach;
 mod encoder;
 mod error;
+mod levels;
 mod subject;
 mod walk;
 mod writer;

@@ -22,9 +22,10 @@ ghost use Rattle.law_lines.specs.Spelling.{spelled};
 ghost use Rattle.smt_spelling.specs.NodeLines.{encode_meaning, encode_meanings, has_entry, meaning_fault, meanings_fault};
 ghost use Rattle.smt_spelling.specs.NodeEntries.{declare_by, declare_function, enter_by, has_inline, heading, inline_by, inline_fault, own_lines, rendering_in, written_parts};
 ghost use Rattle.smt_spelling.specs.Entries.{PlainEntry, SaysEntry};
-ghost use Rattle.smt_encode.specs.Complete.{is_typed, AreTypedMeanings, HaveWrittenParts};
+ghost use Rattle.smt_encode.specs.Complete.{AreTypedMeanings};
+ghost use Rattle.smt_spelling.specs.Whole.{is_typed, HasWrittenParts};
 ghost use Rattle.smt_spelling.specs.LookUps.{selections, IsClosed};
-ghost use Rattle.smt_spelling.specs.NodeTexts.{text_at, IsNodeOf};
+ghost use Rattle.smt_spelling.specs.NodeTexts.{kept_now, text_at, IsNodeOf};
 ghost use Rattle.smt_encode.specs.Refusals.{write_fault};
 ghost use Rattle.smt_spelling.specs.TextFaults.{Finds};
 ghost use Rattle.smt_spelling.specs.Texts.{kept_at};
@@ -50,7 +51,8 @@ fn put_heading<S: Sink>(script: &mut S, label: &Label) -> Result<(), SinkError>
 
 impl<S: Sink> Writer<'_, S> {
     ghost use Rattle.smt_spelling.specs.Names.{enums_under, nodes_under, texts_under, HasRoom};
-    ghost use Rattle.smt_encode.specs.Steps.{look_ups_in, HasTables, Walks, WritesHere, WritesStated};
+    ghost use Rattle.smt_encode.specs.Steps.{look_ups_in, HasTables, Walks};
+    ghost use Rattle.smt_encode.specs.Stopped.{WritesOrStops, WritesOwn};
     ghost use Rattle.smt_spelling.specs.Spelled.{AreSpelled, IsSpelled};
 
     /// The text of a node: the one that it has, or else a new one, behind the lines that it needs.
@@ -62,11 +64,10 @@ impl<S: Sink> Writer<'_, S> {
     ) -> Result<Text, WriteError>
         requires meant { IsMeant (nodes_under self.old.names) id }
         requires room { HasRoom self.old.names }
-        ensures lines { (m : Meaning) → meaning_in (nodes_under self.old.names) id ≡ Some m → WritesStated S.contents self.old self.new (encode_meaning (enums_under self.old.names) m) IsSpelled result }
+        ensures lines { (m : Meaning) → meaning_in (nodes_under self.old.names) id ≡ Some m → WritesOrStops S.contents (enums_under self.old.names) (IsTrue (is_typed m)) self.old self.new (encode_meaning (enums_under self.old.names) m) IsSpelled result }
         ensures fault { (m : Meaning) → meaning_in (nodes_under self.old.names) id ≡ Some m → Finds write_fault (meaning_fault (enums_under self.old.names) m) result }
         ensures walks { Walks S.faults S.place (WriteError.Sink SinkError.Fault) (suc (place_of id)) self.old self.new result }
         ensures kept { IfOk result (λ text. text_at (texts_under self.new.names) id ≡ Some (rc_str_bytes text)) }
-        ensures whole { (m : Meaning) → meaning_in (nodes_under self.old.names) id ≡ Some m → IsTrue (is_typed m) → HaveWrittenParts (nodes_under self.old.names) (texts_under self.old.names) → OnOk result (HaveWrittenParts (nodes_under self.new.names) (texts_under self.new.names)) }
         ensures steps { (has : ℕ → Bool) → IsClosed (nodes_of (nodes_under self.old.names)) has → IsTrue (has (place_of id)) → OnOk result (steps.new + look_ups_in has self.new ≤ suc steps.old + look_ups_in has self.old) }
     {
         match self.names.text(id, steps) {
@@ -85,11 +86,10 @@ impl<S: Sink> Writer<'_, S> {
         requires meant { IsMeant (nodes_under self.old.names) id }
         requires room { HasRoom self.old.names }
         requires unkept { text_at (texts_under self.old.names) id ≡ None }
-        ensures lines { (m : Meaning) → meaning_in (nodes_under self.old.names) id ≡ Some m → WritesStated S.contents self.old self.new (encode_meaning (enums_under self.old.names) m) IsSpelled result }
+        ensures lines { (m : Meaning) → meaning_in (nodes_under self.old.names) id ≡ Some m → WritesOrStops S.contents (enums_under self.old.names) (IsTrue (is_typed m)) self.old self.new (encode_meaning (enums_under self.old.names) m) IsSpelled result }
         ensures fault { (m : Meaning) → meaning_in (nodes_under self.old.names) id ≡ Some m → Finds write_fault (meaning_fault (enums_under self.old.names) m) result }
         ensures walks { Walks S.faults S.place (WriteError.Sink SinkError.Fault) (suc (place_of id)) self.old self.new result }
         ensures kept { IfOk result (λ text. text_at (texts_under self.new.names) id ≡ Some (rc_str_bytes text)) }
-        ensures whole { (m : Meaning) → meaning_in (nodes_under self.old.names) id ≡ Some m → IsTrue (is_typed m) → HaveWrittenParts (nodes_under self.old.names) (texts_under self.old.names) → OnOk result (HaveWrittenParts (nodes_under self.new.names) (texts_under self.new.names)) }
         ensures steps { (has : ℕ → Bool) → IsClosed (nodes_of (nodes_under self.old.names)) has → IsTrue (has (place_of id)) → OnOk result (steps.new + look_ups_in has self.new ≤ steps.old + look_ups_in has self.old) }
     {
         let node = self.names.node(id)?;
@@ -111,12 +111,11 @@ impl<S: Sink> Writer<'_, S> {
         requires earlier { AllByRecursion (λ place. place < before) (places_of ids.now) }
         requires meant { (ms : List Meaning) × (all_found (meanings (nodes_of (nodes_under self.old.names))) (places_of ids.now) ≡ Some ms) }
         requires room { HasRoom self.old.names }
-        ensures lines { (ms : List Meaning) → all_found (meanings (nodes_of (nodes_under self.old.names))) (places_of ids.now) ≡ Some ms → WritesStated S.contents self.old self.new (encode_meanings (enums_under self.old.names) ms) (λ es texts. AreSpelled es texts.items) result }
+        ensures lines { (ms : List Meaning) → all_found (meanings (nodes_of (nodes_under self.old.names))) (places_of ids.now) ≡ Some ms → WritesOrStops S.contents (enums_under self.old.names) (AreTypedMeanings ms) self.old self.new (encode_meanings (enums_under self.old.names) ms) (λ es texts. AreSpelled es texts.items) result }
         ensures fault { (ms : List Meaning) → all_found (meanings (nodes_of (nodes_under self.old.names))) (places_of ids.now) ≡ Some ms → Finds write_fault (meanings_fault (enums_under self.old.names) ms) result }
         ensures walks { Walks S.faults S.place (WriteError.Sink SinkError.Fault) before self.old self.new result }
         ensures count { IfOk result (λ texts. length texts.items ≡ length ids.now) }
         ensures kept { IfOk result (λ texts. map (text_at (texts_under self.new.names)) ids.now ≡ map (λ text. Some (rc_str_bytes text)) texts.items) }
-        ensures whole { (ms : List Meaning) → all_found (meanings (nodes_of (nodes_under self.old.names))) (places_of ids.now) ≡ Some ms → AreTypedMeanings ms → HaveWrittenParts (nodes_under self.old.names) (texts_under self.old.names) → OnOk result (HaveWrittenParts (nodes_under self.new.names) (texts_under self.new.names)) }
         ensures steps { (has : ℕ → Bool) → IsClosed (nodes_of (nodes_under self.old.names)) has → AllByRecursion (λ place. IsTrue (has place)) (places_of ids.now) → OnOk result (steps.new + look_ups_in has self.new ≤ steps.old + length ids.now + look_ups_in has self.old) }
     {
         let mut texts = Vec::with_capacity(self.alloc, ids.len())?;
@@ -138,13 +137,14 @@ impl<S: Sink> Writer<'_, S> {
         requires meant { IsMeant (nodes_under self.old.names) id }
         requires room { HasRoom self.old.names }
         requires unkept { text_at (texts_under self.old.names) id ≡ None }
+        requires parts { HasWrittenParts (nodes_under self.old.names) (kept_now (texts_under self.old.names)).texts id }
         requires is_node { IsNodeOf (nodes_under self.old.names) id node.now }
         requires rendered { (m : Meaning) → meaning_in (nodes_under self.old.names) id ≡ Some m → plain_rendering rendering ≡ rendering_in m }
         requires count { (m : Meaning) → meaning_in (nodes_under self.old.names) id ≡ Some m → length texts.items ≡ length (written_parts (rendering_in m) (parts_in m)) }
         requires sound { (m : Meaning) → meaning_in (nodes_under self.old.names) id ≡ Some m → meanings_fault (enums_under self.old.names) (written_parts (rendering_in m) (parts_in m)) ≡ None }
         requires written { (m : Meaning) (s : Tables) → meaning_in (nodes_under self.old.names) id ≡ Some m → HasTables self.old s →
             (es : List Expression) × AreSpelled es texts.items × (encode_meanings (enums_under self.old.names) (written_parts (rendering_in m) (parts_in m)) s ≡ made_of es s) }
-        ensures lines { (m : Meaning) (es : List Expression) (s : Tables) → meaning_in (nodes_under self.old.names) id ≡ Some m → AreSpelled es texts.items → HasTables self.old s → WritesHere S.contents self.old self.new (own_lines (enums_under self.old.names) m es s) IsSpelled result }
+        ensures lines { (m : Meaning) (es : List Expression) (s : Tables) → meaning_in (nodes_under self.old.names) id ≡ Some m → AreSpelled es texts.items → HasTables self.old s → WritesOwn S.contents (meaning_fault (enums_under self.old.names) m) self.old self.new (own_lines (enums_under self.old.names) m es s) IsSpelled result }
         ensures fault { (m : Meaning) → meaning_in (nodes_under self.old.names) id ≡ Some m → Finds write_fault (meaning_fault (enums_under self.old.names) m) result }
         ensures walks { Walks S.faults S.place (WriteError.Sink SinkError.Fault) (suc (place_of id)) self.old self.new result }
         ensures kept { IfOk result (λ text. text_at (texts_under self.new.names) id ≡ Some (rc_str_bytes text)) }
@@ -172,13 +172,14 @@ impl<S: Sink> Writer<'_, S> {
         requires meant { IsMeant (nodes_under self.old.names) id }
         requires room { HasRoom self.old.names }
         requires unkept { text_at (texts_under self.old.names) id ≡ None }
+        requires parts { HasWrittenParts (nodes_under self.old.names) (kept_now (texts_under self.old.names)).texts id }
         requires is_node { IsNodeOf (nodes_under self.old.names) id node.now }
         requires rendered { (m : Meaning) → meaning_in (nodes_under self.old.names) id ≡ Some m → plain_rendering rendering ≡ rendering_in m }
         requires count { (m : Meaning) → meaning_in (nodes_under self.old.names) id ≡ Some m → length texts.items ≡ length (written_parts (rendering_in m) (parts_in m)) }
         requires sound { (m : Meaning) → meaning_in (nodes_under self.old.names) id ≡ Some m → meanings_fault (enums_under self.old.names) (written_parts (rendering_in m) (parts_in m)) ≡ None }
         requires plain { has_inline (plain_label node.now.label) (length texts.items) ≡ false }
         requires faultless { inline_fault (plain_label node.now.label) ≡ None }
-        ensures lines { (m : Meaning) (es : List Expression) (s : Tables) → meaning_in (nodes_under self.old.names) id ≡ Some m → AreSpelled es texts.items → HasTables self.old s → inline_by (label_in m) es ≡ None → WritesHere S.contents self.old self.new (own_lines (enums_under self.old.names) m es s) IsSpelled result }
+        ensures lines { (m : Meaning) (es : List Expression) (s : Tables) → meaning_in (nodes_under self.old.names) id ≡ Some m → AreSpelled es texts.items → HasTables self.old s → inline_by (label_in m) es ≡ None → WritesOwn S.contents (meaning_fault (enums_under self.old.names) m) self.old self.new (own_lines (enums_under self.old.names) m es s) IsSpelled result }
         ensures fault { (m : Meaning) → meaning_in (nodes_under self.old.names) id ≡ Some m → Finds write_fault (meaning_fault (enums_under self.old.names) m) result }
         ensures walks { Walks S.faults S.place (WriteError.Sink SinkError.Fault) (suc (place_of id)) self.old self.new result }
         ensures kept { IfOk result (λ text. text_at (texts_under self.new.names) id ≡ Some (rc_str_bytes text)) }
@@ -210,10 +211,11 @@ impl<S: Sink> Writer<'_, S> {
         requires meant { IsMeant (nodes_under self.old.names) id }
         requires room { HasRoom self.old.names }
         requires unkept { text_at (texts_under self.old.names) id ≡ None }
+        requires parts { HasWrittenParts (nodes_under self.old.names) (kept_now (texts_under self.old.names)).texts id }
         requires two { length sorts.now ≡ 2 }
         requires sound { (m : Meaning) → meaning_in (nodes_under self.old.names) id ≡ Some m → meaning_fault (enums_under self.old.names) m ≡ None }
         ensures lines { (f : PlainFunction) (es : List Expression) (s : Tables) → meaning_in (nodes_under self.old.names) id ≡ Some (FunctionMeaning f) → AreSpelled es sorts.now → HasTables self.old s →
-            WritesHere S.contents self.old self.new (declare_function f es s) IsSpelled result }
+            WritesOwn S.contents None self.old self.new (declare_function f es s) IsSpelled result }
         ensures fault { Finds write_fault None result }
         ensures walks { Walks S.faults S.place (WriteError.Sink SinkError.Fault) (suc (place_of id)) self.old self.new result }
         ensures kept { IfOk result (λ text. text_at (texts_under self.new.names) id ≡ Some (rc_str_bytes text)) }
@@ -231,7 +233,8 @@ impl<S: Sink> Writer<'_, S> {
         requires meant { meaning_in (nodes_under self.old.names) id ≡ Some (TypeMeaning (EntityTypeOf (bytes_of_type ety.now))) }
         requires room { HasRoom self.old.names }
         requires unkept { text_at (texts_under self.old.names) id ≡ None }
-        ensures lines { (s : Tables) → HasTables self.old s → WritesHere S.contents self.old self.new (declare_by (enums_under self.old.names) (EntityLabel (bytes_of_type ety.now)) (EntityTypeOf (bytes_of_type ety.now)) [] s) IsSpelled result }
+        requires parts { HasWrittenParts (nodes_under self.old.names) (kept_now (texts_under self.old.names)).texts id }
+        ensures lines { (s : Tables) → HasTables self.old s → WritesOwn S.contents (entity_type_fault (bytes_of_type ety.now) (members_of (enums_under self.old.names) (bytes_of_type ety.now))) self.old self.new (declare_by (enums_under self.old.names) (EntityLabel (bytes_of_type ety.now)) (EntityTypeOf (bytes_of_type ety.now)) [] s) IsSpelled result }
         ensures fault { Finds write_fault (entity_type_fault (bytes_of_type ety.now) (members_of (enums_under self.old.names) (bytes_of_type ety.now))) result }
         ensures walks { Walks S.faults S.place (WriteError.Sink SinkError.Fault) (suc (place_of id)) self.old self.new result }
         ensures kept { IfOk result (λ text. text_at (texts_under self.new.names) id ≡ Some (rc_str_bytes text)) }
@@ -247,7 +250,8 @@ impl<S: Sink> Writer<'_, S> {
         requires meant { meaning_in (nodes_under self.old.names) id ≡ Some (TypeMeaning (ExtensionType (plain_kind xty))) }
         requires room { HasRoom self.old.names }
         requires unkept { text_at (texts_under self.old.names) id ≡ None }
-        ensures lines { (s : Tables) → HasTables self.old s → WritesHere S.contents self.old self.new (declare_by (enums_under self.old.names) (ExtensionLabel (plain_kind xty)) (ExtensionType (plain_kind xty)) [] s) IsSpelled result }
+        requires parts { HasWrittenParts (nodes_under self.old.names) (kept_now (texts_under self.old.names)).texts id }
+        ensures lines { (s : Tables) → HasTables self.old s → WritesOwn S.contents None self.old self.new (declare_by (enums_under self.old.names) (ExtensionLabel (plain_kind xty)) (ExtensionType (plain_kind xty)) [] s) IsSpelled result }
         ensures fault { Finds write_fault None result }
         ensures walks { Walks S.faults S.place (WriteError.Sink SinkError.Fault) (suc (place_of id)) self.old self.new result }
         ensures kept { IfOk result (λ text. text_at (texts_under self.new.names) id ≡ Some (rc_str_bytes text)) }
@@ -268,9 +272,10 @@ impl<S: Sink> Writer<'_, S> {
         requires meant { IsMeant (nodes_under self.old.names) id }
         requires room { HasRoom self.old.names }
         requires unkept { text_at (texts_under self.old.names) id ≡ None }
+        requires parts { HasWrittenParts (nodes_under self.old.names) (kept_now (texts_under self.old.names)).texts id }
         requires sound { (m : Meaning) → meaning_in (nodes_under self.old.names) id ≡ Some m → meaning_fault (enums_under self.old.names) m ≡ None }
         ensures lines { (x : AttributeTypes) (es : List Expression) (s : Tables) → meaning_in (nodes_under self.old.names) id ≡ Some (TypeMeaning (RecordType x)) → AreSpelled es sorts.now → HasTables self.old s →
-            WritesHere S.contents self.old self.new (declare_by (enums_under self.old.names) (RecordLabel (texts (attributes_of names.now))) (RecordType x) es s) IsSpelled result }
+            WritesOwn S.contents None self.old self.new (declare_by (enums_under self.old.names) (RecordLabel (texts (attributes_of names.now))) (RecordType x) es s) IsSpelled result }
         ensures fault { Finds write_fault None result }
         ensures walks { Walks S.faults S.place (WriteError.Sink SinkError.Fault) (suc (place_of id)) self.old self.new result }
         ensures kept { IfOk result (λ text. text_at (texts_under self.new.names) id ≡ Some (rc_str_bytes text)) }
@@ -286,9 +291,10 @@ impl<S: Sink> Writer<'_, S> {
         requires meant { IsMeant (nodes_under self.old.names) id }
         requires room { HasRoom self.old.names }
         requires unkept { text_at (texts_under self.old.names) id ≡ None }
+        requires parts { HasWrittenParts (nodes_under self.old.names) (kept_now (texts_under self.old.names)).texts id }
         requires sound { (m : Meaning) → meaning_in (nodes_under self.old.names) id ≡ Some m → meaning_fault (enums_under self.old.names) m ≡ None }
         ensures lines { (t : PlainTerm) (s : Tables) (e : Expression) (p : PlainEntry) → meaning_in (nodes_under self.old.names) id ≡ Some (TermMeaning t) → IsTrue (has_entry (TermMeaning t)) → HasTables self.old s → sort.now ≡ spelled e → SaysEntry p entry.now →
-            WritesHere S.contents self.old self.new (enter_by p t e s) IsSpelled result }
+            WritesOwn S.contents None self.old self.new (enter_by p t e s) IsSpelled result }
         ensures fault { Finds write_fault None result }
         ensures walks { Walks S.faults S.place (WriteError.Sink SinkError.Fault) (suc (place_of id)) self.old self.new result }
         ensures kept { IfOk result (λ text. text_at (texts_under self.new.names) id ≡ Some (rc_str_bytes text)) }

@@ -24,12 +24,12 @@ use Rattle.law_texts.specs.Outcomes.{◌>>=◌, demanded}
 use Rattle.law_jobs.specs.Parts.{name_in, section}
 use Rattle.law_jobs.specs.Declarations.{Declarations, Declared as Stated, functions_of, variables_of}
 use Rattle.law_jobs.specs.Enums.{enums_in}
-use Rattle.law_jobs.specs.Jobs.{IsTooLong, PlainJob, declared_first, declared_in_sections, greatest_length, job_of, nothing_more, section_of, terms_last}
+use Rattle.law_jobs.specs.Jobs.{IsTooLong, PlainJob, declared_first, greatest_length, job_of, nothing_more, section_first, section_of, terms_last}
 use Rattle.law_jobs.specs.Terms.{condition_of, conditions_of}
 use Rattle.smt_job_declarations.specs.DeclarationView.{declared_in}
 use Rattle.smt_job_declarations.specs.ReadAs.{IsFault, IsFaultIn}
 use Rattle.smt_jobs.specs.Refused.{IsFirstFault, IsRefusal, IsTextFault, IsUnreadable}
-use Rattle.smt_jobs.specs.Walk.{Begins, BeginsInside, Gives, ReadsSome, Takes, TakesJob, first_and_others}
+use Rattle.smt_jobs.specs.Walk.{Begins, BeginsInside, Gives, ReadsOne, ReadsSome, Takes, TakesJob, first_and_others}
 use Rattle.smt_job_declarations.specs.declared.declaration.Declared.{Declared}
 use Rattle.smt_job_declarations.specs.declared.error.JobError.{JobError}
 use Rattle.smt_job_declarations.specs.declared.error.JobError.TheVariants.{TooLarge, Parse, TooDeep, BadForm, UnknownName, DuplicateName, BadType, BadWidth, BadLiteral, IllTyped, NotBool, Memory}
@@ -213,65 +213,72 @@ read_more src between rest depth e r s n =
       shallow = omega arith;
     }
 
+-- one expression more, which was read behind those
+pub read_one_more : (src between rest : List ℕ) (depth : ℕ) → ReadsSome src depth between → ReadsOne between depth rest → ReadsSome src depth rest
+read_one_more src between rest depth r one = read_more src between rest depth one.0 r one.1 one.2
+
+-- ---- what a section at the front states
+
+module _ {B : Type 0} (head : List ℕ) (reads : Expressions → Outcome B) (es : Expressions) where
+  pub no_section : (f : JobFault) → first_and_others es ≡ Err f → section_first head reads es ≡ Err f
+  no_section f h = (let n = nil_from es f h in ap (section_first head reads) n.0 ∙ ap Err n.1)
+
+  module _ (p : Expression × Expressions) (first : first_and_others es ≡ Ok p) (e : Expression) (a : p.0 ≡ e) where
+    abbrev first_by : Outcome Expressions → Outcome (B × Expressions)
+    first_by o = o >>= reads >>= λ b. Ok (b, p.1)
+
+    section_at : section_first head reads es ≡ first_by (section_of head e)
+    section_at = ap (section_first head reads) (cons_from es p first ∙ ap (λ (x : Expression). Cons x p.1) a)
+
+    -- it has not this head
+    pub not_headed : (f : JobFault) → section_of head e ≡ Err f → section_first head reads es ≡ Err f
+    not_headed f h = section_at ∙ ap first_by h
+
+    module _ (inner : Expressions) (headed_so : section_of head e ≡ Ok inner) where
+      section_inside : section_first head reads es ≡ (reads inner >>= λ b. Ok (b, p.1))
+      section_inside = section_at ∙ ap first_by headed_so
+
+      pub not_stated : (f : JobFault) → reads inner ≡ Err f → section_first head reads es ≡ Err f
+      not_stated f h = section_inside ∙ ap (λ o. o >>= λ b. Ok (b, p.1)) h
+
+      pub stated_there : (b : B) → reads inner ≡ Ok b → section_first head reads es ≡ Ok (b, p.1)
+      stated_there b h = section_inside ∙ ap (λ o. o >>= λ b. Ok (b, p.1)) h
+
 -- ---- what the first three sections declare
 
-module _ (es : Expressions) where
-  pub no_first : (f : JobFault) → first_and_others es ≡ Err f → declared_first es ≡ Err f
-  no_first f h = (let n = nil_from es f h in ap declared_first n.0 ∙ ap Err n.1)
-
-  module _ (p : Expression × Expressions) (first : first_and_others es ≡ Ok p) where
-    pub no_second : (f : JobFault) → first_and_others p.1 ≡ Err f → declared_first es ≡ Err f
-    no_second f h = (let n = nil_from p.1 f h in ap declared_first (cons_from es p first ∙ ap (Cons p.0) n.0) ∙ ap Err n.1)
-
-    module _ (q : Expression × Expressions) (second : first_and_others p.1 ≡ Ok q) where
-      pub no_third : (f : JobFault) → first_and_others q.1 ≡ Err f → declared_first es ≡ Err f
-      no_third f h = (let n = nil_from q.1 f h in ap declared_first (cons_from es p first ∙ ap (Cons p.0) (cons_from p.1 q second ∙ ap (Cons q.0) n.0)) ∙ ap Err n.1)
-
-      module _ (r : Expression × Expressions) (third : first_and_others q.1 ≡ Ok r) (enums variables functions : Expression) (a : p.0 ≡ enums) (b : q.0 ≡ variables) (c : r.0 ≡ functions) where
-        pub sections : declared_first es ≡ (declared_in_sections enums variables functions >>= λ ds. Ok (ds, r.1))
-        sections =
-            ap declared_first (cons_from es p first ∙ (λ i. Cons (a i) ((cons_from p.1 q second ∙ (λ j. Cons (b j) ((cons_from q.1 r third ∙ ap (λ x. Cons x r.1) c) j))) i)))
-
-        pub not_declared_there : (f : JobFault) → declared_in_sections enums variables functions ≡ Err f → declared_first es ≡ Err f
-        not_declared_there f h = sections ∙ ap (λ o. o >>= λ ds. Ok (ds, r.1)) h
-
-        pub declared_there : (ds : Stated) → declared_in_sections enums variables functions ≡ Ok ds → declared_first es ≡ Ok (ds, r.1)
-        declared_there ds h = sections ∙ ap (λ o. o >>= λ x. Ok (x, r.1)) h
-
 -- of three outcomes one behind the other
-abbrev declared_by : Outcome Enums → Outcome (Declarations PlainType) → Outcome (Declarations PlainFunction) → Outcome Stated
-declared_by enums variables functions = enums >>= λ types. variables >>= λ vs. functions >>= λ fs. Ok (record { enums = types; variables = vs; functions = fs })
+abbrev declared_by : Outcome (Enums × Expressions) → (Expressions → Outcome (Declarations PlainType × Expressions)) → (Expressions → Outcome (Declarations PlainFunction × Expressions)) → Outcome (Stated × Expressions)
+declared_by enums variables functions = enums >>= λ types. variables types.1 >>= λ vs. functions vs.1 >>= λ fs. Ok (record { enums = types.0; variables = vs.0; functions = fs.0 }, fs.1)
 
-module _ (enums variables functions : Expression) where
-  abbrev enums_there : Outcome Enums
-  enums_there = section_of (codes "enums") enums >>= enums_in
+module _ (es : Expressions) where
+  abbrev enums_first : Outcome (Enums × Expressions)
+  enums_first = section_first (codes "enums") enums_in es
 
-  abbrev variables_there : Outcome (Declarations PlainType)
-  variables_there = section_of (codes "vars") variables >>= variables_of
+  abbrev variables_first : Expressions → Outcome (Declarations PlainType × Expressions)
+  variables_first = section_first (codes "vars") variables_of
 
-  abbrev functions_there : Outcome (Declarations PlainFunction)
-  functions_there = section_of (codes "funs") functions >>= functions_of
+  abbrev functions_first : Expressions → Outcome (Declarations PlainFunction × Expressions)
+  functions_first = section_first (codes "funs") functions_of
 
-  pub enums_refused : (f : JobFault) → enums_there ≡ Err f → declared_in_sections enums variables functions ≡ Err f
-  enums_refused f h = ap (λ o. declared_by o variables_there functions_there) h
+  pub enums_refused : (f : JobFault) → enums_first ≡ Err f → declared_first es ≡ Err f
+  enums_refused f h = ap (λ o. declared_by o variables_first functions_first) h
 
-  module _ (types : Enums) (listed : enums_there ≡ Ok types) where
-    pub variables_refused : (f : JobFault) → variables_there ≡ Err f → declared_in_sections enums variables functions ≡ Err f
-    variables_refused f h = (λ i. declared_by (listed i) (h i) functions_there)
+  module _ (types : Enums × Expressions) (listed : enums_first ≡ Ok types) where
+    by_types : declared_first es ≡ declared_by (Ok types) variables_first functions_first
+    by_types = ap (λ o. declared_by o variables_first functions_first) listed
 
-    module _ (vs : Declarations PlainType) (declared : variables_there ≡ Ok vs) where
-      pub functions_refused : (f : JobFault) → functions_there ≡ Err f → declared_in_sections enums variables functions ≡ Err f
-      functions_refused f h = (λ i. declared_by (listed i) (declared i) (h i))
+    pub variables_refused : (f : JobFault) → variables_first types.1 ≡ Err f → declared_first es ≡ Err f
+    variables_refused f h = by_types ∙ ap (λ o. declared_by (Ok types) (λ x. o) functions_first) h
 
-      pub all_declared : (fs : Declarations PlainFunction) → functions_there ≡ Ok fs → declared_in_sections enums variables functions ≡ Ok (record { enums = types; variables = vs; functions = fs })
-      all_declared fs h = (λ i. declared_by (listed i) (declared i) (h i))
+    module _ (vs : Declarations PlainType × Expressions) (declared : variables_first types.1 ≡ Ok vs) where
+      by_variables : declared_first es ≡ declared_by (Ok types) (λ x. Ok vs) functions_first
+      by_variables = by_types ∙ ap (λ o. declared_by (Ok types) (λ x. o) functions_first) declared
 
--- what a section states, where its expressions are these
-pub of_section : {B : Type 0} (of : Expressions → Outcome B) (head : List ℕ) (e : Expression) (es : Expressions) → section_of head e ≡ Ok es → (section_of head e >>= of) ≡ of es
-of_section of head e es h = ap (λ o. o >>= of) h
+      pub functions_refused : (f : JobFault) → functions_first vs.1 ≡ Err f → declared_first es ≡ Err f
+      functions_refused f h = by_variables ∙ ap (λ o. declared_by (Ok types) (λ x. Ok vs) (λ x. o)) h
 
-pub not_of_section : {B : Type 0} (of : Expressions → Outcome B) (head : List ℕ) (e : Expression) (f : JobFault) → section_of head e ≡ Err f → (section_of head e >>= of) ≡ Err f
-not_of_section of head e f h = ap (λ o. o >>= of) h
+      pub all_declared : (fs : Declarations PlainFunction × Expressions) → functions_first vs.1 ≡ Ok fs → declared_first es ≡ Ok (record { enums = types.0; variables = vs.0; functions = fs.0 }, fs.1)
+      all_declared fs h = by_variables ∙ ap (λ o. declared_by (Ok types) (λ x. Ok vs) (λ x. o)) h
 
 -- ---- the section of the terms
 

@@ -1,5 +1,6 @@
 -- What the walk over the bytes of a job reads and gives, part by part.
-use Rattle.std.specs.Prelude.{ℕ, ◌≡◌, ◌≤◌, map, List, [], ◌∷◌, ◌++◌, Ok, Err, Result}
+use Rattle.std.specs.Prelude.{ℕ, ◌≡◌, ◌-◌, ◌≤◌, map, List, [], ◌∷◌, ◌++◌, Ok, Err, Result}
+use Rattle.std.specs.Borrow.{Bor}
 use Rattle.std.specs.List.{flat_map}
 use Rattle.law_folding.specs.Built.{built}
 use Rattle.law_terms.specs.Plain.{PlainTerm}
@@ -7,7 +8,7 @@ use Rattle.law_texts.specs.Lexicon.{Token, End}
 use Rattle.law_texts.specs.Reading.{Expression, Expressions, Nil, Cons, brackets, deepest, expressions, inside, nesting}
 use Rattle.law_texts.specs.Tokens.{HasTokens, Spans}
 use Rattle.law_jobs.specs.Declarations.{Declared}
-use Rattle.law_jobs.specs.Jobs.{IsJob, PlainJob}
+use Rattle.law_jobs.specs.Jobs.{IsJob, PlainJob, greatest_nesting}
 use Rattle.law_jobs.specs.Outcomes.{Outcome, FormFault}
 use Rattle.smt_job_declarations.specs.ReadAs.{IsFaultIn}
 use Rattle.smt_job_declarations.specs.declared.error.JobError.{JobError}
@@ -30,6 +31,10 @@ pub record ReadsSome (bytes : List ℕ) (depth : ℕ) (rest : List ℕ) : Type 0
   pub span : Spans bytes (flat_map brackets read) rest
   pub shallow : deepest (expressions read) ≤ depth
 
+-- The bytes before the rest are one expression within the depth.
+abbrev pub ReadsOne : List ℕ → ℕ → List ℕ → Type 0
+ReadsOne bytes depth rest = (e : Expression) × Spans bytes (brackets e) rest × (nesting e ≤ depth)
+
 -- The bytes before the rest are some expressions within the depth, and a bracket that closes.
 abbrev pub ReadsInside : List ℕ → ℕ → List ℕ → Type 0
 ReadsInside bytes depth rest = (closing : List ℕ) × ReadsSome bytes depth closing × Spans closing (End ∷ []) rest
@@ -40,6 +45,16 @@ ReadsInside bytes depth rest = (closing : List ℕ) × ReadsSome bytes depth clo
 abbrev pub Gives : {A B : Type 0} → (A → B → Type 0) → Result A JobError → Outcome B → Type 0
 Gives {B = B} P (Ok x) stated = (b : B) × (stated ≡ Ok b) × P x b
 Gives P (Err e) stated = IsFaultIn e stated
+
+-- What was found at the front of a text is, by this view, what is stated, and behind it stand the other expressions inside the
+-- brackets of a job, and then these tokens.
+abbrev pub StandsFirst : {A B : Type 0} → (A → B) → List Token → A × Bor (List ℕ) → B × Expressions → Type 0
+StandsFirst view end found stated = (view found.0 ≡ stated.0) × BeginsInside (greatest_nesting - 1) stated.1 found.1.now end
+
+-- Where the text is inside the brackets of a job, what was found at its front is what is stated of the expressions there, and an
+-- error is the fault that is stated.
+abbrev pub GivesFirst : {A B : Type 0} → (A → B) → List ℕ → Result (A × Bor (List ℕ)) JobError → (Expressions → Outcome (B × Expressions)) → Type 0
+GivesFirst view bytes found stated = (es : Expressions) (end : List Token) → BeginsInside (greatest_nesting - 1) es bytes end → Gives (StandsFirst view end) found (stated es)
 
 -- the first of some expressions, and the others
 abbrev pub first_and_others : Expressions → Outcome (Expression × Expressions)

@@ -1,31 +1,35 @@
 // The walk over the bytes of a job: its parts are read one behind the other, and each expression is let go once it is used.
-ghost use Rattle.std.specs.Prelude.{ℕ, List, ◌≡◌, ◌-◌, ◌<◌, ◌≤◌, ◌↔◌, ◌++◌, ◌∷◌, [], IfErr, IfOk, OnOk, IsErrOf, length, map};
+ghost use Rattle.std.specs.Prelude.{ℕ, List, ◌≡◌, ◌-◌, ◌<◌, ◌≤◌, ◌↔◌, ◌++◌, ◌∷◌, [], IfErr, IfOk, OnOk, IsErrOf, codes, length, map};
 ghost use Rattle.law_folding.specs.Built.{built};
 ghost use Rattle.law_terms.specs.Plain.{PlainTerm};
+ghost use Rattle.smt_types.specs.Enums.{enums_of};
 ghost use Rattle.smt_term.specs.View.{plain_term};
 ghost use Rattle.law_texts.specs.Lexicon.{Begin, End, Name, Token, Word};
 ghost use Rattle.law_texts.specs.Reading.{Expression, Expressions, brackets, nesting};
 ghost use Rattle.law_texts.specs.Tokens.{HasTokens, IsReadWithin, Spans};
 ghost use Rattle.smt_sexpr.specs.View.{plain};
-ghost use Rattle.law_jobs.specs.Declarations.{Declared as Stated};
+ghost use Rattle.law_jobs.specs.Declarations.{Declared as Stated, functions_of, variables_of};
+ghost use Rattle.law_jobs.specs.Enums.{enums_in};
 ghost use Rattle.law_jobs.specs.Jobs as stated;
 ghost use Rattle.law_jobs.specs.Jobs.{IsTooLong, PlainJob, greatest_nesting};
 ghost use Rattle.law_jobs.specs.Outcomes.{FormFault};
 ghost use Rattle.law_jobs.specs.Terms.{conditions_of};
-ghost use Rattle.smt_job_declarations.specs.DeclarationView.{HasDeclared, declared_in};
+ghost use Rattle.smt_job_declarations.specs.DeclarationView as view;
+ghost use Rattle.smt_job_declarations.specs.DeclarationView.{HasDeclared, HasFunctions, HasVariables, declared_in};
 ghost use Rattle.smt_job_declarations.specs.ReadAs.{IsFault, IsReadAs, plain_list};
 ghost use Rattle.smt_jobs.specs.Refused.{IsFirstFault, IsRefusal};
-ghost use Rattle.smt_jobs.specs.Walk.{Begins, BeginsInside, Gives, ReadsInside, ReadsSome, Takes, TakesJob, first_and_others};
+ghost use Rattle.smt_jobs.specs.Walk.{Begins, BeginsInside, Gives, GivesFirst, ReadsInside, ReadsOne, ReadsSome, Takes, TakesJob, first_and_others};
 
 use crate::job::{GREATEST_JOB, GREATEST_NESTING};
 use crate::term::condition_from;
 use smt_job_declarations::{
-    Declared, JobError, enums_from, functions_from, name_in, section, variables_from,
+    Declared, Functions, JobError, Variables, enums_from, functions_from, name_in, section,
+    variables_from,
 };
 use smt_sexpr::{
     SExpr, SExprParseError, behind_close, behind_open, is_blank, parse_sexpr_within, read_next,
 };
-use smt_term::{Term, TermError};
+use smt_term::{EnumTable, Term, TermError};
 use std::alloc::Global;
 
 /// How many brackets may be open inside those of the job.
@@ -91,38 +95,56 @@ fn section_of<'e>(head: &str, expression: &'e SExpr) -> Result<&'e [SExpr], JobE
     section(head, expression).ok_or(JobError::BadForm)
 }
 
-/// What three sections declare.
-fn declared_from(
-    alloc: Global,
-    enums: &SExpr,
-    vars: &SExpr,
-    funs: &SExpr,
-) -> Result<Declared, JobError>
-    ensures stated { IsReadAs declared_in result (stated.declared_in_sections (plain enums.now) (plain vars.now) (plain funs.now)) }
-    ensures declares { IfOk result (λ declared. HasDeclared declared (declared_in declared)) }
+/// The enum types that the section at the front declares, and what stands behind it.
+fn read_enums(alloc: Global, src: &[u8]) -> Result<(EnumTable, &[u8]), JobError>
+    ensures read { IfOk result (λ x. ReadsOne src.now (greatest_nesting - 1) x.1.now) }
+    ensures stated { GivesFirst enums_of src.now result (stated.section_first (codes "enums") enums_in) }
 {
-    let enums = enums_from(alloc, section_of("enums", enums)?)?;
-    let variables = variables_from(alloc, section_of("vars", vars)?)?;
-    let functions = functions_from(alloc, section_of("funs", funs)?)?;
-    Ok(Declared {
-        enums,
-        variables,
-        functions,
-    })
+    let (section, rest) = next_expression(alloc, src, NESTING_IN_JOB)?;
+    let enums = enums_from(alloc, section_of("enums", &section)?)?;
+    Ok((enums, rest))
 }
 
-/// The enum types, variables and functions that a job declares, and what stands behind the declarations.
+/// The variables that the section at the front declares, and what stands behind it.
+fn read_variables(alloc: Global, src: &[u8]) -> Result<(Variables, &[u8]), JobError>
+    ensures read { IfOk result (λ x. ReadsOne src.now (greatest_nesting - 1) x.1.now) }
+    ensures stated { GivesFirst (λ v. view.declarations v.vars) src.now result (stated.section_first (codes "vars") variables_of) }
+    ensures declares { IfOk result (λ x. HasVariables x.0 (view.declarations x.0.vars)) }
+{
+    let (section, rest) = next_expression(alloc, src, NESTING_IN_JOB)?;
+    let variables = variables_from(alloc, section_of("vars", &section)?)?;
+    Ok((variables, rest))
+}
+
+/// The functions that the section at the front declares, and what stands behind it.
+fn read_functions(alloc: Global, src: &[u8]) -> Result<(Functions, &[u8]), JobError>
+    ensures read { IfOk result (λ x. ReadsOne src.now (greatest_nesting - 1) x.1.now) }
+    ensures stated { GivesFirst (λ f. view.functions f.funs) src.now result (stated.section_first (codes "funs") functions_of) }
+    ensures declares { IfOk result (λ x. HasFunctions x.0 (view.functions x.0.funs)) }
+{
+    let (section, rest) = next_expression(alloc, src, NESTING_IN_JOB)?;
+    let functions = functions_from(alloc, section_of("funs", &section)?)?;
+    Ok((functions, rest))
+}
+
+/// The enum types, variables and functions that a job declares, and what stands behind the declarations. Each section is read
+/// before the next, so the first fault from the left is told, also where a section is missing behind it.
 fn read_declarations(alloc: Global, src: &[u8]) -> Result<(Declared, &[u8]), JobError>
     ensures read { IfOk result (λ x. ReadsSome src.now (greatest_nesting - 1) x.1.now) }
-    ensures stated { (es : Expressions) (end : List Token) → BeginsInside (greatest_nesting - 1) es src.now end →
-        Gives (λ x p. (declared_in x.0 ≡ p.0) × BeginsInside (greatest_nesting - 1) p.1 x.1.now end) result (stated.declared_first es) }
+    ensures stated { GivesFirst declared_in src.now result stated.declared_first }
     ensures declares { IfOk result (λ x. HasDeclared x.0 (declared_in x.0)) }
 {
-    let (enums, rest) = next_expression(alloc, src, NESTING_IN_JOB)?;
-    let (vars, rest) = next_expression(alloc, rest, NESTING_IN_JOB)?;
-    let (funs, rest) = next_expression(alloc, rest, NESTING_IN_JOB)?;
-    let declared = declared_from(alloc, &enums, &vars, &funs)?;
-    Ok((declared, rest))
+    let (enums, rest) = read_enums(alloc, src)?;
+    let (variables, rest) = read_variables(alloc, rest)?;
+    let (functions, rest) = read_functions(alloc, rest)?;
+    Ok((
+        Declared {
+            enums,
+            variables,
+            functions,
+        },
+        rest,
+    ))
 }
 
 /// Gives the Boolean terms up to the closing bracket to `out`, each as it is built, and answers what stands behind it.

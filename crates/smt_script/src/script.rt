@@ -3,7 +3,7 @@ ghost use Rattle.std.specs.Prelude.{◌≡◌, ◌↔◌, [], map, IsTrue};
 ghost use Rattle.std.specs.List.{join_by};
 ghost use Rattle.smt_script.specs.CommandTexts.{check_sat_text, exit_text, get_model_text, reset_text, set_logic_text, set_option_text};
 ghost use Rattle.smt_script.specs.Sink.{Puts};
-ghost use Rattle.law_texts.specs.LineTexts.{in_comment, spaced, sorted_names, datatype_body, constructor_lines, comment_text, assert_text, define_fun_text, declare_const_text, declare_fun_text, declare_datatype_text};
+ghost use Rattle.law_texts.specs.LineTexts.{in_comment, spaced, sorted_names, datatype_body, constructor_lines, comment_text, assert_text, define_fun_text, declare_const_text, declare_fun_text, declare_datatype_text, push_text, pop_text};
 ghost use Rattle.law_texts.specs.SharedTexts.{joined, texts, text_pairs};
 
 use crate::sink::{Sink, SinkError};
@@ -204,6 +204,23 @@ pub trait SmtLibScript: Sink {
         put_all(self, &["(declare-datatype ", id, " "])?;
         put_datatype(self, params, constructors)?;
         self.put(b")\n")
+    }
+
+    /// `(push 1)`, which opens a level: what is declared and asserted behind it goes with the matching `(pop 1)` (SMT-LIB
+    /// 2.7, chapter 4, The Assertion Stack).
+    fn push(&mut self) -> Result<(), SinkError>
+        ensures { Puts Self.contents Self.faults Self.has_room Self.place self.old self.new
+            push_text result }
+    {
+        self.put(b"(push 1)\n")
+    }
+
+    /// `(pop 1)`, which takes the last level out, with all that was declared and asserted in it.
+    fn pop(&mut self) -> Result<(), SinkError>
+        ensures { Puts Self.contents Self.faults Self.has_room Self.place self.old self.new
+            pop_text result }
+    {
+        self.put(b"(pop 1)\n")
     }
 
     /// `(check-sat)`, which asks whether the assertions have a model.

@@ -35,7 +35,7 @@ memory_allows s text earlier line = ⊤
 abbrev pub memory_fails : MemoryLink → List ℕ
 memory_fails s = s.fails.items
 
--- how many calls of `send`, `flush` and `read_line` were made on a link in memory; the count stands still at 2^64 - 1
+-- how many calls of `send`, `flush`, `read_line`, `ended` and `kill` were made on a link in memory; the count stands still at 2^64 - 1
 abbrev pub memory_calls : MemoryLink → ℕ
 memory_calls s = s.calls
 
@@ -67,11 +67,13 @@ IsToFail s = Contains (memory_fails s) (counted (memory_calls s))
 abbrev pub counts_call : MemoryLink → Bool → MemoryLink
 counts_call s fails = record s { calls = counted s.calls; faults = cond fails (counted s.faults) s.faults }
 
--- A call of a link in memory is a fault exactly where it is to fail. The call is counted, and the end and the calls that are to
--- fail stay.
+-- A call of a link in memory is a fault exactly where it is to fail. The call is counted, and the calls that are to fail stay.
 pub record FailsAsTold {T : Type 0} (old new : MemoryLink) (result : Result T LinkError) : Type 0 where
   pub to_fail : IsToFail old → IsErrOf result Fault
   pub only : IsErrOf result Fault → IsToFail old
   pub calls : memory_calls new ≡ counted (memory_calls old)
   pub same_fails : memory_fails new ≡ memory_fails old
-  pub same_end : (memory_state new).ended ≡ (memory_state old).ended
+
+-- The end of a link in memory stays.
+abbrev pub EndStays : (old new : MemoryLink) → Type 0
+EndStays old new = (memory_state new).ended ≡ (memory_state old).ended

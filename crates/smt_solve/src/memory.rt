@@ -42,8 +42,8 @@ impl MemoryLink {
 
     /// A link whose solver answers with the bytes of `answers`, whatever it is sent.
     ///
-    /// The calls of `send`, `flush` and `read_line` whose numbers, counted together from 1, are in `fails` are to fail. Where
-    /// `ends` gives a code, the solver has ended with it from the start. The call's only error is `Memory`.
+    /// The calls of `send`, `flush`, `read_line`, `ended` and `kill` whose numbers, counted together from 1, are in `fails` are
+    /// to fail. Where `ends` gives a code, the solver has ended with it from the start. The call's only error is `Memory`.
     pub fn new(
         alloc: Global,
         answers: &[u8],
@@ -116,7 +116,7 @@ impl Link for MemoryLink {
     ghost use Rattle.std.specs.Prelude.{◌≡◌};
     ghost use Rattle.smt_script.specs.Bytes.{bytes_in};
     ghost use Rattle.smt_solve.specs.Link.{AllowsTheSame, AsksEnd, HandsOn, Kills, ReadsLine, Sends};
-    ghost use Rattle.smt_solve.specs.MemoryLink.{FailsAsTold, memory_allows, memory_state};
+    ghost use Rattle.smt_solve.specs.MemoryLink.{EndStays, FailsAsTold, memory_allows, memory_state};
 
     ghost state = { memory_state };
 
@@ -127,6 +127,7 @@ impl Link for MemoryLink {
         ensures sends { Sends (memory_state self.old) (memory_state self.new) bytes.now result }
         ensures allows { AllowsTheSame (memory_allows self.old) (memory_allows self.new) }
         ensures fails { FailsAsTold self.old self.new result }
+        ensures end { EndStays self.old self.new }
     {
         if self.is_to_fail() {
             return Err(LinkError::Fault);
@@ -142,6 +143,7 @@ impl Link for MemoryLink {
         ensures hands_on { HandsOn (memory_state self.old) (memory_state self.new) result }
         ensures allows { AllowsTheSame (memory_allows self.old) (memory_allows self.new) }
         ensures fails { FailsAsTold self.old self.new result }
+        ensures end { EndStays self.old self.new }
     {
         if self.is_to_fail() {
             return Err(LinkError::Fault);
@@ -155,6 +157,7 @@ impl Link for MemoryLink {
             (memory_state self.new) (bytes_in line.old) (bytes_in line.new) limit result }
         ensures allows { AllowsTheSame (memory_allows self.old) (memory_allows self.new) }
         ensures fails { FailsAsTold self.old self.new result }
+        ensures end { EndStays self.old self.new }
     {
         if self.is_to_fail() {
             return Err(LinkError::Fault);
@@ -170,19 +173,28 @@ impl Link for MemoryLink {
         }
     }
 
+    /// The end that it has.
     fn ended(&mut self) -> Result<Ended, LinkError>
         ensures asks { AsksEnd (memory_state self.old) (memory_state self.new) result }
         ensures allows { AllowsTheSame (memory_allows self.old) (memory_allows self.new) }
-        ensures answers { result ≡ Ok self.old.end }
+        ensures fails { FailsAsTold self.old self.new result }
+        ensures end { EndStays self.old self.new }
     {
+        if self.is_to_fail() {
+            return Err(LinkError::Fault);
+        }
         Ok(self.end)
     }
 
+    /// Is killed, unless the call is to fail.
     fn kill(&mut self) -> Result<(), LinkError>
         ensures kills { Kills (memory_state self.old) (memory_state self.new) result }
         ensures allows { AllowsTheSame (memory_allows self.old) (memory_allows self.new) }
-        ensures done { result ≡ Ok tt }
+        ensures fails { FailsAsTold self.old self.new result }
     {
+        if self.is_to_fail() {
+            return Err(LinkError::Fault);
+        }
         self.killed = true;
         self.end = Ended::Killed;
         Ok(())

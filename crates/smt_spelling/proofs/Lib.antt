@@ -1,11 +1,15 @@
 pub mod Bracketed
 pub mod Built
 pub mod Calls
+pub mod Edges
 pub mod Entered
 pub mod Faulting
 pub mod Inline
 pub mod Kept
+pub mod LevelTables
+pub mod Levels
 pub mod Listing
+pub mod Marks
 pub mod Members
 pub mod Named
 pub mod NodeOf
@@ -16,3 +20,4 @@ pub mod Records
 pub mod Rendered
 pub mod Selecting
 pub mod Stated
+pub mod Whole

@@ -1,6 +1,7 @@
 -- The texts of nodes, and the tables of names that they are.
 use Rattle.std.proofs.Common.{◌≡◌, ℕ, zero, suc, ◌+◌, ◌<◌, ◌≤◌, Bool, true, false, List, [], ◌∷◌, length, Option, Some, None, refl, sym, ap, ◌∙◌, subst, inl, inr, ◌⊎◌, arith, length-append}
 use Rattle.std.specs.Prelude.{is_none, is_some, IsTrue}
+use Rattle.std.specs.List.{AllByRecursion, AllZip}
 use Rattle.std.proofs.lemmas.Bool.{false≢true}
 use Rattle.law_terms.specs.Interpretations.{function_eq}
 use Rattle.law_terms.specs.Plain.{PlainFunction, PlainTerm, PlainType}
@@ -19,14 +20,15 @@ use Rattle.law_lines.specs.NameTables.{Tables, name_of_function, name_of_term, n
 use Rattle.law_lines.proofs.Making.{lookup_new, lookup_other}
 use Rattle.law_terms.specs.TypeValues.{Enums}
 use Rattle.smt_spelling.specs.NodeLines.{has_entry, meaning_fault, name_in, with_name}
-use Rattle.smt_spelling.specs.NodeTexts.{text_at, AreSound, HasName, HasNoTexts, IsText}
-use Rattle.smt_spelling.specs.Names.{enums_under, AreTables, KeepTables}
-use Rattle.smt_spelling.specs.Texts.{kept_at, IsKept}
+use Rattle.smt_spelling.specs.NodeTexts.{kept_now, text_at, AreSound, HasName, HasNameBy, HasNoTexts, IsText, Kept}
+use Rattle.smt_spelling.specs.Names.{enums_under, AreKept, AreTables, KeepTables}
+use Rattle.smt_spelling.specs.Texts.{kept_at, kept_count, IsKept}
 use Rattle.smt_spelling.specs.declared.names.Names.{Names}
 use Rattle.smt_spelling.specs.declared.node_names.NodeNames.{NodeNames}
 use Rattle.std.proofs.Math.Dec.{eqb}
 use Rattle.std.proofs.lemmas.Bool.Decides.{eqb_tells}
 use Rattle.smt_spelling.proofs.Kept as kept
+use Rattle.smt_spelling.proofs.Levels.{IsStillKept}
 use Rattle.smt_spelling.proofs.Inline.{names_stay, text_stays}
 
 -- ---- numbers that stand for things
@@ -34,7 +36,7 @@ use Rattle.smt_spelling.proofs.Inline.{names_stay, text_stays}
 pub one_id : (i : Interner) (a b : NodeId) (m : Meaning) → meaning_in i a ≡ Some m → meaning_in i b ≡ Some m → a ≡ b
 one_id i a b m e f = let same = places_differ (nodes_of i) i.graph (place_of a) (place_of b) m e f in λ k. record { place = same k }
 
-at_one_place : (i : Interner) (a b : NodeId) (m n : Meaning) → place_of a ≡ place_of b → meaning_in i a ≡ Some m → meaning_in i b ≡ Some n → m ≡ n
+pub at_one_place : (i : Interner) (a b : NodeId) (m n : Meaning) → place_of a ≡ place_of b → meaning_in i a ≡ Some m → meaning_in i b ≡ Some n → m ≡ n
 at_one_place i a b m n same e f =
     let h : meaning_in i b ≡ Some m = subst (λ (p : ℕ). meaning_at_place p ≡ Some m) same e in
     cc
@@ -47,12 +49,16 @@ pub meant_within : (i : Interner) (id : NodeId) (m : Meaning) → meaning_in i i
 meant_within i id m h = let b = found_within (meanings (nodes_of i)) (place_of id) m h in omega (arith, b, as_many (nodes_of i))
 
 -- what stands for something in a larger list stood for it before, where its place was there
-meant_before : (i j : Interner) → KeepsMeanings i j → (id : NodeId) (m : Meaning) → place_of id < length (nodes_of i) → meaning_in j id ≡ Some m → meaning_in i id ≡ Some m
+pub meant_before : (i j : Interner) → KeepsMeanings i j → (id : NodeId) (m : Meaning) → place_of id < length (nodes_of i) → meaning_in j id ≡ Some m → meaning_in i id ≡ Some m
 meant_before i j keeps id m within h =
     let (n, e) = places_mean (nodes_of i) i.graph (place_of id) within in
     let f : meaning_in j id ≡ Some n = keeps id n e in
     let same : n ≡ m = cc in
     e ∙ ap Some same
+
+-- there are no more names than texts
+pub counted : (names : NodeNames) → names.terms + names.types + names.functions ≤ kept_count names.texts.items
+counted names = omega (arith, names.named, names.ordered)
 
 -- ---- names
 
@@ -81,25 +87,31 @@ kept_before i j names keeps fits id m x there h =
 
 -- ---- more nodes, of which none has a text
 
-grown : (i j : Interner) (names : NodeNames) → KeepsMeanings i j → length names.texts.items ≤ length (nodes_of i) → (m : Meaning) (o : Option (List ℕ)) → HasName i names m o → HasName j names m o
-grown i j names keeps fits m (Some x) (id, h, entry, there) = (id, keeps id m h, entry, there)
-grown i j names keeps fits m None none = λ id h entry. go id h entry (text_at names id) refl
-  where
-    go : (id : NodeId) → meaning_in j id ≡ Some m → IsTrue (has_entry m) → (o : Option (List ℕ)) → text_at names id ≡ o → text_at names id ≡ None
-    go id h entry None is = is
-    go id h entry (Some x) is = none id (kept_before i j names keeps fits id m x is h) entry
+module _ (i j : Interner) (names : NodeNames) (keeps : KeepsMeanings i j) (fits : length names.texts.items ≤ length (nodes_of i)) where
+  name_grows : (k : Kept) (m : Meaning) (o : Option (List ℕ)) → IsStillKept (kept_at names.texts.items) k → HasNameBy i k.texts m o → HasNameBy j k.texts m o
+  name_grows k m (Some x) still (id, h, entry, there) = (id, keeps id m h, entry, there)
+  name_grows k m None still none = λ id h entry. go id h entry (k.texts (place_of id)) refl
+    where
+      go : (id : NodeId) → meaning_in j id ≡ Some m → IsTrue (has_entry m) → (o : Option (List ℕ)) → k.texts (place_of id) ≡ o → k.texts (place_of id) ≡ None
+      go id h entry None is = is
+      go id h entry (Some x) is = none id (kept_before i j names keeps fits id m x (still (place_of id) x is) h) entry
 
-pub tables_grow : (n : Names) (j : Interner) (s : Tables) → KeepsMeanings n.nodes j → AreSound (enums_under n) n.nodes n.texts → KeepTables n s → (new : Names) → new.nodes ≡ j → new.texts ≡ n.texts → enums_under new ≡ enums_under n → KeepTables new s
-tables_grow n j s keeps sound are new nodes texts enums = record {
-  names = λ m. subst (λ (k : Interner). HasName k new.texts m (name_in s m)) (sym nodes) (subst (λ (x : NodeNames). HasName j x m (name_in s m)) (sym texts) (grown n.nodes j n.texts keeps sound.within m (name_in s m) (are.names m)));
-  inline = λ id m x h none there.
-      let k : meaning_in j id ≡ Some m = ap (λ (k : Interner). meaning_in k id) (sym nodes) ∙ h in
-      let y : text_at n.texts id ≡ Some x = ap (λ (x : NodeNames). text_at x id) (sym texts) ∙ there in
-      subst (λ (e : Enums). IsText e s m x) (sym enums) (are.inline id m x (kept_before n.nodes j n.texts keeps sound.within id m x y k) none y);
-  terms = ap (λ (x : NodeNames). x.terms) texts ∙ are.terms;
-  types = ap (λ (x : NodeNames). x.types) texts ∙ are.types;
-  functions = ap (λ (x : NodeNames). x.functions) texts ∙ are.functions;
-}
+  -- what was kept at a level are the same tables
+  pub kept_grows : (enums : Enums) (k : Kept) (s : Tables) → IsStillKept (kept_at names.texts.items) k → AreKept enums i k s → AreKept enums j k s
+  kept_grows enums k s still are = record {
+    names = λ m. name_grows k m (name_in s m) still (are.names m);
+    inline = λ id m x h none there. are.inline id m x (kept_before i j names keeps fits id m x (still (place_of id) x there) h) none there;
+    terms = are.terms;
+    types = are.types;
+    functions = are.functions;
+  }
+
+  -- and so are those at each level
+  pub all_grow : (enums : Enums) (ks : List Kept) (below : List Tables) → AllByRecursion (IsStillKept (kept_at names.texts.items)) ks → AllZip (AreKept enums i) ks below → AllZip (AreKept enums j) ks below
+  all_grow enums [] [] still are = tt
+  all_grow enums [] (s ∷ below) still are = absurd are
+  all_grow enums (k ∷ ks) [] still are = absurd are
+  all_grow enums (k ∷ ks) (s ∷ below) still are = (kept_grows enums k s still.0 are.0, all_grow enums ks below still.1 are.1)
 
 -- and what has a text has no fault still
 pub sound_grows : (enums : Enums) (i j : Interner) (names : NodeNames) → KeepsMeanings i j → length (nodes_of i) ≤ length (nodes_of j) → AreSound enums i names → AreSound enums j names
@@ -185,16 +197,14 @@ pub record Counts (names : NodeNames) (s : Tables) : Type 0 where
   pub functions : names.functions ≡ length s.functions
 
 -- a name more
-pub tables_entered : (n new : Names) (id : NodeId) (m : Meaning) (x : List ℕ) (s : Tables) → IsKept n.texts.texts.items new.texts.texts.items (place_of id) x
-    → meaning_in n.nodes id ≡ Some m → text_at n.texts id ≡ None → IsTrue (has_entry m) → Counts new.texts (with_name s m x) → new.nodes ≡ n.nodes → enums_under new ≡ enums_under n
-    → KeepTables n s → KeepTables new (with_name s m x)
-tables_entered n new id m x s is meant unkept entry counts nodes enums are = record {
-  names = λ k. subst (λ (i : Interner). HasName i new.texts k (name_in (with_name s m x) k)) (sym nodes) (go k (found_then s m x absent k));
-  inline = λ other k y h none there.
-      let here : meaning_in n.nodes other ≡ Some k = ap (λ (i : Interner). meaning_in i other) (sym nodes) ∙ h in
+pub tables_entered : (n : Names) (new : NodeNames) (id : NodeId) (m : Meaning) (x : List ℕ) (s : Tables) → IsKept n.texts.texts.items new.texts.items (place_of id) x
+    → meaning_in n.nodes id ≡ Some m → text_at n.texts id ≡ None → IsTrue (has_entry m) → Counts new (with_name s m x) → KeepTables n s → AreKept (enums_under n) n.nodes (kept_now new) (with_name s m x)
+tables_entered n new id m x s is meant unkept entry counts are = record {
+  names = λ k. go k (found_then s m x absent k);
+  inline = λ other k y here none there.
       let apart : ¬ (k ≡ m) = λ e. false≢true (sym none ∙ ap has_entry e ∙ entry) in
-      let stays : text_at new.texts other ≡ text_at n.texts other = other_stays n id m x new.texts is meant unkept other k here apart in
-      subst (λ (e : Enums). IsText e (with_name s m x) k y) (sym enums) (text_stays (enums_under n) s (with_name s m x) k y none (names_stay s m x) (are.inline other k y here none (sym stays ∙ there)));
+      let stays : text_at new other ≡ text_at n.texts other = other_stays n id m x new is meant unkept other k here apart in
+      text_stays (enums_under n) s (with_name s m x) k y none (names_stay s m x) (are.inline other k y here none (sym stays ∙ there));
   terms = counts.terms;
   types = counts.types;
   functions = counts.functions;
@@ -203,11 +213,10 @@ tables_entered n new id m x s is meant unkept entry counts nodes enums are = rec
     absent : name_in s m ≡ None
     absent = sym (named_at n.nodes n.texts m (name_in s m) id (are.names m) meant entry) ∙ unkept
 
-    go : (k : Meaning) → FoundIn s m x k → HasName n.nodes new.texts k (name_in (with_name s m x) k)
+    go : (k : Meaning) → FoundIn s m x k → HasName n.nodes new k (name_in (with_name s m x) k)
     go k (inl (same, found)) =
-        subst (λ (o : Option (List ℕ)). HasName n.nodes new.texts k o) (sym found) (id, meant ∙ ap (λ q. Some q) (sym same), subst (λ (q : Meaning). IsTrue (has_entry q)) (sym same) entry, is.here)
-    go k (inr (apart, found)) =
-        subst (λ (o : Option (List ℕ)). HasName n.nodes new.texts k o) (sym found) (name_stays n id m x new.texts is meant unkept k (name_in s k) apart (are.names k))
+        subst (λ (o : Option (List ℕ)). HasName n.nodes new k o) (sym found) (id, meant ∙ ap (λ q. Some q) (sym same), subst (λ (q : Meaning). IsTrue (has_entry q)) (sym same) entry, is.here)
+    go k (inr (apart, found)) = subst (λ (o : Option (List ℕ)). HasName n.nodes new k o) (sym found) (name_stays n id m x new is meant unkept k (name_in s k) apart (are.names k))
 
 -- one term more, one type more, and one function more
 pub term_counted : (n : Names) (new : NodeNames) (t : PlainTerm) (x : List ℕ) (s : Tables) → new.terms ≡ n.texts.terms + 1 → new.types ≡ n.texts.types → new.functions ≡ n.texts.functions → KeepTables n s → Counts new (with_name s (TermMeaning t) x)
@@ -232,31 +241,30 @@ function_counted n new f x s terms types one are = record {
 }
 
 -- the text of what has no entry
-pub tables_kept : (n new : Names) (id : NodeId) (m : Meaning) (x : List ℕ) (s : Tables) → IsKept n.texts.texts.items new.texts.texts.items (place_of id) x
-    → meaning_in n.nodes id ≡ Some m → text_at n.texts id ≡ None → has_entry m ≡ false → IsText (enums_under n) s m x → new.texts.terms ≡ n.texts.terms → new.texts.types ≡ n.texts.types → new.texts.functions ≡ n.texts.functions → new.nodes ≡ n.nodes → enums_under new ≡ enums_under n
-    → KeepTables n s → KeepTables new s
-tables_kept n new id m x s is meant unkept none text terms types functions nodes enums are = record {
-  names = λ q. subst (λ (k : Interner). HasName k new.texts q (name_in s q)) (sym nodes) (go q (has_entry q) refl (name_in s q) (are.names q));
-  inline = λ other k y h plain there. inlined other k y (ap (λ (k : Interner). meaning_in k other) (sym nodes) ∙ h) plain there (eqb_tells (place_of other) (place_of id));
+pub tables_kept : (n : Names) (new : NodeNames) (id : NodeId) (m : Meaning) (x : List ℕ) (s : Tables) → IsKept n.texts.texts.items new.texts.items (place_of id) x
+    → meaning_in n.nodes id ≡ Some m → text_at n.texts id ≡ None → has_entry m ≡ false → IsText (enums_under n) s m x → new.terms ≡ n.texts.terms → new.types ≡ n.texts.types → new.functions ≡ n.texts.functions
+    → KeepTables n s → AreKept (enums_under n) n.nodes (kept_now new) s
+tables_kept n new id m x s is meant unkept none text terms types functions are = record {
+  names = λ q. go q (has_entry q) refl (name_in s q) (are.names q);
+  inline = λ other k y h plain there. inlined other k y h plain there (eqb_tells (place_of other) (place_of id));
   terms = terms ∙ are.terms;
   types = types ∙ are.types;
   functions = functions ∙ are.functions;
 }
   where
-    go : (q : Meaning) (b : Bool) → has_entry q ≡ b → (o : Option (List ℕ)) → HasName n.nodes n.texts q o → HasName n.nodes new.texts q o
-    go q true e o h = name_stays n id m x new.texts is meant unkept q o (λ f. false≢true (sym none ∙ ap has_entry (sym f) ∙ e)) h
+    go : (q : Meaning) (b : Bool) → has_entry q ≡ b → (o : Option (List ℕ)) → HasName n.nodes n.texts q o → HasName n.nodes new q o
+    go q true e o h = name_stays n id m x new is meant unkept q o (λ f. false≢true (sym none ∙ ap has_entry (sym f) ∙ e)) h
     go q false e (Some y) (other, h, entry, there) = absurd (false≢true (sym e ∙ entry))
     go q false e None h = λ other k entry. absurd (false≢true (sym e ∙ entry))
 
-    inlined : (other : NodeId) (k : Meaning) (y : List ℕ) → meaning_in n.nodes other ≡ Some k → has_entry k ≡ false → text_at new.texts other ≡ Some y
-        → ((eqb (place_of other) (place_of id) ≡ true) × (place_of other ≡ place_of id)) ⊎ ((eqb (place_of other) (place_of id) ≡ false) × ¬ (place_of other ≡ place_of id)) → IsText (enums_under new) s k y
+    inlined : (other : NodeId) (k : Meaning) (y : List ℕ) → meaning_in n.nodes other ≡ Some k → has_entry k ≡ false → text_at new other ≡ Some y
+        → ((eqb (place_of other) (place_of id) ≡ true) × (place_of other ≡ place_of id)) ⊎ ((eqb (place_of other) (place_of id) ≡ false) × ¬ (place_of other ≡ place_of id)) → IsText (enums_under n) s k y
     inlined other k y h plain there (inl at) =
         let one : k ≡ m = at_one_place n.nodes other id k m at.1 h meant in
-        let here : kept_at new.texts.texts.items (place_of other) ≡ Some x = ap (kept_at new.texts.texts.items) at.1 ∙ is.here in
+        let here : kept_at new.texts.items (place_of other) ≡ Some x = ap (kept_at new.texts.items) at.1 ∙ is.here in
         let known : x ≡ y = cc in
-        subst (λ (e : Enums). IsText e s k y) (sym enums) (subst (λ (z : List ℕ). IsText (enums_under n) s k z) known (subst (λ (j : Meaning). IsText (enums_under n) s j x) (sym one) text))
-    inlined other k y h plain there (inr apart) =
-        subst (λ (e : Enums). IsText e s k y) (sym enums) (are.inline other k y h plain (sym (is.others (place_of other) apart.1) ∙ there))
+        subst (λ (z : List ℕ). IsText (enums_under n) s k z) known (subst (λ (j : Meaning). IsText (enums_under n) s j x) (sym one) text)
+    inlined other k y h plain there (inr apart) = are.inline other k y h plain (sym (is.others (place_of other) apart.1) ∙ there)
 
 -- the name of what a number stands for, and of what none stands for
 pub name_found : (i : Interner) (names : NodeNames) (m : Meaning) (id : NodeId) (o : Option (List ℕ)) → meaning_in i id ≡ Some m → IsTrue (has_entry m) → text_at names id ≡ o → HasName i names m o
@@ -281,23 +289,27 @@ none_at names none id = go (text_at names id) (none id)
     go None h = refl
     go (Some x) h = absurd (false≢true h)
 
-pub no_tables : (n : Names) → HasNoTexts n.texts → KeepTables n no_names
-no_tables n unwritten =
-    let at = none_at n.texts unwritten in
-    let none = kept.none_kept n.texts.texts.items (λ i. at (record { place = i })) in
+pub no_tables_kept : (enums : Enums) (nodes : Interner) (names : NodeNames) → HasNoTexts names → AreKept enums nodes (kept_now names) no_names
+no_tables_kept enums nodes names unwritten =
+    let at = none_at names unwritten in
+    let none = kept.none_kept names.texts.items (λ i. at (record { place = i })) in
+    let few = counted names in
     record {
       names = λ m. nothing m (λ id h entry. at id);
       inline = λ id m text h e there. absurd (no_text (sym (at id) ∙ there));
-      terms = omega (arith, none, n.texts.counted);
-      types = omega (arith, none, n.texts.counted);
-      functions = omega (arith, none, n.texts.counted);
+      terms = omega (arith, none, few);
+      types = omega (arith, none, few);
+      functions = omega (arith, none, few);
     }
   where
     -- the empty tables have no name
-    nothing : (m : Meaning) → HasName n.nodes n.texts m None → HasName n.nodes n.texts m (name_in no_names m)
+    nothing : (m : Meaning) → HasName nodes names m None → HasName nodes names m (name_in no_names m)
     nothing (TypeMeaning t) h = h
     nothing (FunctionMeaning f) h = h
     nothing (TermMeaning t) h = h
 
     no_text : {A : Type 0} {x : A} → ◌≡◌ {A = Option A} None (Some x) → ⊥
     no_text e = cc
+
+pub no_tables : (n : Names) → HasNoTexts n.texts → KeepTables n no_names
+no_tables n = no_tables_kept (enums_under n) n.nodes n.texts

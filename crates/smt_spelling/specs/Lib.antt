@@ -1,6 +1,7 @@
 pub mod Entries
 pub mod LookUpRows
 pub mod LookUps
+pub mod Marks
 pub mod Names
 pub mod NodeEntries
 pub mod NodeLines
@@ -11,3 +12,4 @@ pub mod SelectorFaults
 pub mod Spelled
 pub mod TextFaults
 pub mod Texts
+pub mod Whole

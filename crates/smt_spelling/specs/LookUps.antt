@@ -1,5 +1,5 @@
 -- How many look-ups of nodes writing takes: as many as the graph that is written has edges, and one for each `record.get`.
-use Rattle.std.specs.Prelude.{ℕ, suc, ◌≡◌, ◌+◌, ◌&&◌, Bool, true, false, IsTrue, List, [], ◌∷◌, Some, is_none, length, slice_get}
+use Rattle.std.specs.Prelude.{ℕ, suc, ◌≡◌, ◌≤◌, ◌+◌, ◌*◌, ◌&&◌, Bool, true, false, IsTrue, List, [], ◌∷◌, Some, is_none, length, slice_get}
 use Rattle.std.specs.List.{AllByRecursion}
 use Rattle.law_terms.specs.Plain.{RecordGetOp}
 use Rattle.law_terms.specs.Nodes.{PlainLabel, ApplicationLabel, PlainNode}
@@ -34,6 +34,24 @@ look_ups_from has place (node ∷ nodes) = look_ups_at (has place) node + look_u
 -- how many look-ups the nodes of a set take together
 abbrev pub look_ups : (ℕ → Bool) → List PlainNode → ℕ
 look_ups has nodes = look_ups_from has 0 nodes
+
+-- how many edges a node that is of a set has, one to each of its parts; and else none
+abbrev pub edges_at : (is_there : Bool) → PlainNode → ℕ
+edges_at true node = length node.parts
+edges_at false node = 0
+
+-- how many the nodes of a set have together; the first node of the list stands at this place
+abbrev pub edges_from : (ℕ → Bool) → (place : ℕ) → List PlainNode → ℕ
+edges_from has place [] = 0
+edges_from has place (node ∷ nodes) = edges_at (has place) node + edges_from has (suc place) nodes
+
+-- how many edges the nodes of a set have together
+abbrev pub edges : (ℕ → Bool) → List PlainNode → ℕ
+edges has nodes = edges_from has 0 nodes
+
+-- Writing takes at most two look-ups for each edge: of the nodes of an interner each `record.get` has a part, its type, at least.
+abbrev pub LookUpsByEdges : Type 0
+LookUpsByEdges = (i : Interner) (has : ℕ → Bool) → look_ups has (nodes_of i) ≤ 2 * edges has (nodes_of i)
 
 -- how many look-ups the nodes of a set take together that have no text yet
 abbrev pub look_ups_left : (ℕ → Bool) → Interner → NodeNames → ℕ

@@ -1,5 +1,6 @@
 -- Texts that are kept at places of a list.
-use Rattle.std.specs.Prelude.{ℕ, suc, ◌≡◌, List, [], ◌∷◌, Option, Some, None, length, option_and_then, option_map, slice_get}
+use Rattle.std.specs.Prelude.{ℕ, suc, ◌≡◌, ◌==◌, if◌then◌else◌, Bool, List, [], ◌∷◌, Option, Some, None, drop, length, option_and_then, option_map, slice_get}
+use Rattle.std.specs.List.{list_any}
 use Rattle.std.specs.Rc.{rc_str_bytes}
 use Rattle.std.specs.declared.alloc.Global.{Global}
 use Rattle.std.specs.declared.rc.RcStr.{RcStr}
@@ -20,3 +21,12 @@ pub record IsKept (old new : List (Option (RcStr Global))) (place : ℕ) (text :
   pub others : (other : ℕ) → ¬ (other ≡ place) → kept_at new other ≡ kept_at old other
   pub as_many : length new ≡ length old
   pub one_more : kept_count new ≡ suc (kept_count old)
+
+-- whether a place is among these
+abbrev pub is_among : ℕ → List ℕ → Bool
+is_among place = list_any (λ other. place == other)
+
+-- The texts that were kept then: the order has the places in the order in which they got texts, and then it had this length. What is
+-- kept now was kept then, without what was kept since.
+abbrev pub kept_then : (now : ℕ → Option (List ℕ)) → (order : List ℕ) → (kept : ℕ) → ℕ → Option (List ℕ)
+kept_then now order kept place = if is_among place (drop kept order) then None else now place

@@ -5,9 +5,10 @@
 //! the encoder, which stands above, puts the lines.
 //!
 //! `Names` has the nodes that stand for terms, and keeps for each node that was written the text that stands for it, its name
-//! or what stands inline. Over these `selector_of` finds the selector with which an attribute of a record is taken. How a node
-//! is written is its `Rendering`; `inline_text` makes the text of what gets no name, and `entry_from` what is entered under a
-//! name. Read `specs/Names.antt` and `specs/NodeTexts.antt` first.
+//! or what stands inline. A push opens a level, and the matching pop forgets the texts that came since. Over these
+//! `selector_of` finds the selector with which an attribute of a record is taken. How a node is written is its `Rendering`;
+//! `inline_text` makes the text of what gets no name, and `entry_from` what is entered under a name. Read `specs/Names.antt`
+//! and `specs/NodeTexts.antt` first.
 #![tactic(auto)]
 
 mod body;

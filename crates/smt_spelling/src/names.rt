@@ -1,7 +1,7 @@
 // The nodes of terms, and the texts that stand for them.
 #![tactic(auto, using(smt_term::specs::View::views))]
 
-ghost use Rattle.std.specs.Prelude.{◌≡◌, ◌<◌, ◌++◌, ◌∷◌, ◌+◌, [], false, IfOk, IsTrue, None, OnOk, Some, length, map, not, option_map};
+ghost use Rattle.std.specs.Prelude.{◌≡◌, ◌<◌, ◌++◌, ◌∷◌, ◌+◌, List, [], false, IfOk, IsTrue, None, OnErr, OnOk, Some, length, map, not, option_map};
 ghost use Rattle.std.specs.Rc.{rc_str_bytes};
 ghost use Rattle.law_terms.specs.Plain.{PlainFunction, PlainTerm, PlainType};
 ghost use Rattle.law_terms.specs.Meanings.{all_found, meanings};
@@ -14,8 +14,9 @@ ghost use Rattle.smt_term.specs.View.{plain_term, plain_type};
 ghost use Rattle.law_lines.specs.Lines.{next_entity, next_function, next_record, next_term};
 ghost use Rattle.law_lines.specs.NameTables.{Tables, no_names};
 ghost use Rattle.smt_spelling.specs.NodeLines.{has_entry, meaning_fault, with_name};
-ghost use Rattle.smt_spelling.specs.NodeTexts.{text_at, AreSound, HasName, HasNoTexts, IsNodeOf, IsText};
+ghost use Rattle.smt_spelling.specs.NodeTexts.{kept_below, kept_now, text_at, AreSound, HasName, HasNoTexts, IsNodeOf, IsText, Kept, KeepsRoom};
 ghost use Rattle.smt_spelling.specs.Texts.{IsKept};
+ghost use Rattle.smt_spelling.specs.Whole.{AreWhole, HasWrittenParts};
 
 use crate::node_names::NodeNames;
 use crate::spell::{entity_name, function_name, record_name, term_name};
@@ -70,13 +71,15 @@ fn is_inline_term(term: &Term) -> bool
 
 /// The nodes that stand for terms, and the text of each node that was written, over the enum types of the terms.
 ///
-/// What has a text has no fault, so that a node whose text is found needs no second look.
+/// What has a text has no fault, so that a node whose text is found needs no second look; and where it is typed, its parts have
+/// texts too.
 pub struct Names<'a> {
     pub(crate) alloc: Global,
     enums: &'a EnumTable,
     nodes: Interner,
     pub(crate) texts: NodeNames,
     ghost sound: { AreSound (enums_of enums.now) nodes texts },
+    ghost whole: { ∥ AreWhole nodes texts ∥₁ },
 }
 
 // By hand, since a derived one is written out in each function that lets names go.
@@ -92,11 +95,13 @@ impl Drop for Names<'_> {
 }
 
 impl<'a> Names<'a> {
-    ghost use Rattle.smt_spelling.specs.Names.{enums_under, nodes_under, texts_under, AreTables, KeepTables, HasRoom, StandsOn};
+    ghost use Rattle.smt_spelling.specs.Names.{enums_under, levels_under, nodes_under, texts_under, AreTables, KeepLevels, KeepTables, HasRoom, StandsOn};
 
-    /// There are no names yet, for these nodes and enum types. It takes no memory.
+    /// There are no names yet, for these nodes and enum types, and no push is open. It takes no memory.
     pub fn new(alloc: Global, enums: &'a EnumTable, nodes: Interner) -> Names<'a>
         ensures none { KeepTables result no_names }
+        ensures levels { KeepLevels result [] }
+        ensures bottom { levels_under result ≡ 0 }
         ensures unwritten { HasNoTexts (texts_under result) }
         ensures enums { enums_under result ≡ enums_of enums.now }
         ensures nodes { nodes_under result ≡ nodes }
@@ -182,6 +187,8 @@ impl<'a> Names<'a> {
         ensures kept { KeepsMeanings (nodes_under self.old) (nodes_under self.new) }
         ensures texts { texts_under self.new ≡ texts_under self.old }
         ensures tables { (s : Tables) → KeepTables self.old s → KeepTables self.new s }
+        ensures levels { (below : List Tables) → KeepLevels self.old below → KeepLevels self.new below }
+        ensures below { kept_below (texts_under self.new) ≡ kept_below (texts_under self.old) }
         ensures enums { enums_under self.new ≡ enums_under self.old }
     {
         self.nodes.intern_terms(terms)
@@ -194,7 +201,10 @@ impl<'a> Names<'a> {
     /// Only that there is no memory.
     pub fn intern_subject(&mut self, subject: Subject<'_>) -> Result<NodeId, TermError>
         ensures meaning { IfOk result (λ id. meaning_in (nodes_under self.new) id ≡ Some (meaning_of subject.entry)) }
+        ensures kept { KeepsMeanings (nodes_under self.old) (nodes_under self.new) }
         ensures tables { (s : Tables) → KeepTables self.old s → KeepTables self.new s }
+        ensures levels { (below : List Tables) → KeepLevels self.old below → KeepLevels self.new below }
+        ensures below { kept_below (texts_under self.new) ≡ kept_below (texts_under self.old) }
         ensures enums { enums_under self.new ≡ enums_under self.old }
     {
         self.nodes.intern_subject(subject)
@@ -210,9 +220,53 @@ impl<'a> Names<'a> {
         ensures nodes { nodes_under self.new ≡ nodes_under self.old }
         ensures texts { (id : NodeId) → text_at (texts_under self.new) id ≡ text_at (texts_under self.old) id }
         ensures tables { (s : Tables) → KeepTables self.old s → KeepTables self.new s }
+        ensures levels { (below : List Tables) → KeepLevels self.old below → KeepLevels self.new below }
+        ensures below { kept_below (texts_under self.new) ≡ kept_below (texts_under self.old) }
         ensures enums { enums_under self.new ≡ enums_under self.old }
     {
         self.texts.make_room(self.nodes.len())
+    }
+
+    /// It counts the pushes that are open. It takes no memory.
+    pub fn level_count(&self) -> usize
+        ensures { result ≡ levels_under self.now }
+    {
+        self.texts.level_count()
+    }
+
+    /// It opens a level, at whose end `pop_level` forgets what got a name or a text since. What is kept stays, also where it
+    /// fails, and then no level is opened.
+    ///
+    /// # Errors
+    ///
+    /// Only that there is no memory.
+    pub fn push_level(&mut self) -> Result<(), AllocError>
+        ensures nodes { nodes_under self.new ≡ nodes_under self.old }
+        ensures enums { enums_under self.new ≡ enums_under self.old }
+        ensures now { kept_now (texts_under self.new) ≡ kept_now (texts_under self.old) }
+        ensures room { KeepsRoom (texts_under self.old) (texts_under self.new) }
+        ensures opened { OnOk result (kept_below (texts_under self.new) ≡ kept_now (texts_under self.old) ∷ kept_below (texts_under self.old)) }
+        ensures unopened { OnErr result (kept_below (texts_under self.new) ≡ kept_below (texts_under self.old)) }
+        ensures tables { (s : Tables) → KeepTables self.old s → KeepTables self.new s }
+        ensures levels { (s : Tables) (below : List Tables) → KeepTables self.old s → KeepLevels self.old below → OnOk result (KeepLevels self.new (s ∷ below)) }
+        ensures unlevelled { (below : List Tables) → KeepLevels self.old below → OnErr result (KeepLevels self.new below) }
+        ensures count { OnOk result (levels_under self.new ≡ levels_under self.old + 1) }
+    {
+        self.texts.push_level()
+    }
+
+    /// It closes the level that was opened last: what got a name or a text since has none again, and the names are counted as
+    /// they were then. The nodes stay, and so does the room for texts. It takes no memory, and time in what it forgets.
+    pub fn pop_level(&mut self)
+        requires { 0 < levels_under self.old }
+        ensures nodes { nodes_under self.new ≡ nodes_under self.old }
+        ensures enums { enums_under self.new ≡ enums_under self.old }
+        ensures room { KeepsRoom (texts_under self.old) (texts_under self.new) }
+        ensures levels { (k : Kept) (ks : List Kept) → kept_below (texts_under self.old) ≡ k ∷ ks → (kept_now (texts_under self.new) ≡ k) × (kept_below (texts_under self.new) ≡ ks) }
+        ensures tables { (s : Tables) (below : List Tables) → KeepLevels self.old (s ∷ below) → KeepTables self.new s × KeepLevels self.new below }
+        ensures count { levels_under self.old ≡ levels_under self.new + 1 }
+    {
+        self.texts.pop_level();
     }
 
     /// These are the enum types of the terms. It takes no memory.
@@ -266,12 +320,14 @@ impl<'a> Names<'a> {
         function_name(self.alloc, self.texts.functions)
     }
 
-    /// It keeps the inline text of a node that has no text yet, and neither an entry nor a fault. There has to be room for it.
+    /// It keeps the inline text of a node that has no text yet, and neither an entry nor a fault. There has to be room for it, and where what
+    /// the number stands for is typed, its parts have to have texts.
     pub fn keep(&mut self, id: NodeId, text: Text)
         requires room { HasRoom self.old }
         requires unkept { text_at (texts_under self.old) id ≡ None }
         requires meant { IsMeant (nodes_under self.old) id }
         requires sound { (m : Meaning) → meaning_in (nodes_under self.old) id ≡ Some m → meaning_fault (enums_under self.old) m ≡ None }
+        requires parts { HasWrittenParts (nodes_under self.old) (kept_now (texts_under self.old)).texts id }
         ensures tables { (s : Tables) (m : Meaning) → KeepTables self.old s → meaning_in (nodes_under self.old) id ≡ Some m → has_entry m ≡ false → IsText (enums_under self.old) s m (rc_str_bytes text) → KeepTables self.new s }
         ensures stands { StandsOn self.old self.new }
         ensures kept { IsKept (texts_under self.old).texts.items (texts_under self.new).texts.items (place_of id) (rc_str_bytes text) }
@@ -279,12 +335,14 @@ impl<'a> Names<'a> {
         self.texts.keep(id, text);
     }
 
-    /// It enters a term's name under its node, which has no text yet, and no fault. There has to be room for it.
+    /// It enters a term's name under its node, which has no text yet, and no fault. There has to be room for it, and where what
+    /// the number stands for is typed, its parts have to have texts.
     pub fn enter_term(&mut self, id: NodeId, name: Text)
         requires room { HasRoom self.old }
         requires unkept { text_at (texts_under self.old) id ≡ None }
         requires meant { IsMeant (nodes_under self.old) id }
         requires sound { (m : Meaning) → meaning_in (nodes_under self.old) id ≡ Some m → meaning_fault (enums_under self.old) m ≡ None }
+        requires parts { HasWrittenParts (nodes_under self.old) (kept_now (texts_under self.old)).texts id }
         ensures tables { (s : Tables) (t : PlainTerm) → KeepTables self.old s → meaning_in (nodes_under self.old) id ≡ Some (TermMeaning t) → IsTrue (has_entry (TermMeaning t)) →
             KeepTables self.new (with_name s (TermMeaning t) (rc_str_bytes name)) }
         ensures stands { StandsOn self.old self.new }
@@ -293,12 +351,14 @@ impl<'a> Names<'a> {
         self.texts.enter_term(id, name);
     }
 
-    /// It enters a type's name under its node, which has no text yet, and no fault. There has to be room for it.
+    /// It enters a type's name under its node, which has no text yet, and no fault. There has to be room for it, and where what
+    /// the number stands for is typed, its parts have to have texts.
     pub fn enter_type(&mut self, id: NodeId, name: Text)
         requires room { HasRoom self.old }
         requires unkept { text_at (texts_under self.old) id ≡ None }
         requires meant { IsMeant (nodes_under self.old) id }
         requires sound { (m : Meaning) → meaning_in (nodes_under self.old) id ≡ Some m → meaning_fault (enums_under self.old) m ≡ None }
+        requires parts { HasWrittenParts (nodes_under self.old) (kept_now (texts_under self.old)).texts id }
         ensures tables { (s : Tables) (t : PlainType) → KeepTables self.old s → meaning_in (nodes_under self.old) id ≡ Some (TypeMeaning t) → IsTrue (has_entry (TypeMeaning t)) →
             KeepTables self.new (with_name s (TypeMeaning t) (rc_str_bytes name)) }
         ensures stands { StandsOn self.old self.new }
@@ -307,12 +367,14 @@ impl<'a> Names<'a> {
         self.texts.enter_type(id, name);
     }
 
-    /// It enters a function's name under its node, which has no text yet, and no fault. There has to be room for it.
+    /// It enters a function's name under its node, which has no text yet, and no fault. There has to be room for it, and where what
+    /// the number stands for is typed, its parts have to have texts.
     pub fn enter_function(&mut self, id: NodeId, name: Text)
         requires room { HasRoom self.old }
         requires unkept { text_at (texts_under self.old) id ≡ None }
         requires meant { IsMeant (nodes_under self.old) id }
         requires sound { (m : Meaning) → meaning_in (nodes_under self.old) id ≡ Some m → meaning_fault (enums_under self.old) m ≡ None }
+        requires parts { HasWrittenParts (nodes_under self.old) (kept_now (texts_under self.old)).texts id }
         ensures tables { (s : Tables) (f : PlainFunction) → KeepTables self.old s → meaning_in (nodes_under self.old) id ≡ Some (FunctionMeaning f) →
             KeepTables self.new (with_name s (FunctionMeaning f) (rc_str_bytes name)) }
         ensures stands { StandsOn self.old self.new }

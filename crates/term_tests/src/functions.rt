@@ -1,7 +1,11 @@
 //! Words for the functions on values of the extension types.
 
-ghost use Rattle.std.specs.Prelude.{◌≤◌};
+ghost use Rattle.std.specs.Prelude.{◌≤◌, IfOk};
+ghost use Rattle.law_extensions.specs.Laws.{BothRefine};
 ghost use Rattle.smt_bits.specs.Width.{bits_in};
+ghost use Rattle.smt_factory.specs.Pairs.{plain_pair};
+ghost use Rattle.smt_term.specs.View.{plain_term};
+ghost use Rattle.term_tests.specs.Groups.{address_twice};
 
 use crate::folded::built;
 use anyhow::{Context, Result, bail};
@@ -54,6 +58,7 @@ pub(crate) fn term(
     match head {
         "range_v4" | "range_v6" => range(alloc, terms, head),
         "is_in_range" => in_any_range(alloc, terms, held),
+        "in_groups" => in_any_group(alloc, terms, held),
         "subnet_width_v4" => free_bits(alloc, terms, FIVE),
         "subnet_width_v6" => free_bits(alloc, terms, SEVEN),
         "in_range_lit" => in_literal(alloc, terms, held),
@@ -117,6 +122,24 @@ fn in_literal(alloc: Global, terms: &mut Vec<Term>, held: &str) -> Result<Option
     let (v4, v6) = held.split_once(',').context("two ranges")?;
     let (v4, v6) = (IPNet::parse(alloc, v4)?, IPNet::parse(alloc, v6)?);
     found(in_range_lit(alloc, one(terms)?, v4, v6))
+}
+
+/// The address of version 4, as the lowest and as the highest one.
+fn address_twice(alloc: Global, t: Term) -> Result<(Term, Term), TermError>
+    ensures { IfOk result (λ r. BothRefine (plain_pair r) (address_twice (plain_term t))) }
+{
+    let address = ext_ipaddr_addr_v4(alloc, t)?;
+    Ok((address.share()?, address))
+}
+
+/// By a rule of its own: a range is of the family where it lies in those of multicast, and is its address of version 4 alone.
+fn in_any_group(alloc: Global, terms: &mut Vec<Term>, count: &str) -> Result<Option<Term>> {
+    let ranges = taken(terms, count.parse()?)?;
+    let last = one(terms)?;
+    let is_group = |t: Term| is_multicast(alloc, t);
+    let address = |t: Term| address_twice(alloc, t);
+    let rule = RangeRule::new(is_group, address);
+    found(in_range_v(alloc, &rule, last, ranges.as_slice()))
 }
 
 /// The number of free bits by the last term, which is refused where it is no option of bitvectors of the width.

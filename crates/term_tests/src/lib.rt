@@ -43,6 +43,7 @@
 //! | `range_v4`, `range_v6` | the call of this name, which leaves the lowest and the highest address of the last term |
 //! | `in_range_v4` | `in_range` by `range_v4`, at the last two terms |
 //! | `subnet_width_v4`, `subnet_width_v6` | `subnet_width` of the last term, a prefix of 5 and of 7 bits |
+//! | `in_groups:COUNT` | `in_range_v` of the term before so many last terms, at these, by the rule of `is_multicast` and of the address of version 4, which is both the lowest and the highest |
 //! | `is_in_range:COUNT` | `is_in_range` of the term before so many last terms, at these |
 //! | `in_range_lit:RANGE,RANGE` | `in_range_lit` of the last term, at these two ranges |
 //!

@@ -170,6 +170,33 @@ job refused: BadForm
 > (job (enums) (vars) (terms))
 status 3, 21 bytes on diag, 0 on out
 job refused: BadForm
+> (job (enums ("T" "a") ("T" "b")))
+status 3, 27 bytes on diag, 0 on out
+job refused: DuplicateName
+> (job (enums ("T" "a")))
+status 3, 21 bytes on diag, 0 on out
+job refused: BadForm
+> (job (vars ("x" (BitVec 0))))
+status 3, 21 bytes on diag, 0 on out
+job refused: BadForm
+> (job (enums) (vars ("x" (BitVec 0))))
+status 3, 22 bytes on diag, 0 on out
+job refused: BadWidth
+> (job (enums) (vars ("x" (BitVec 8))))
+status 3, 21 bytes on diag, 0 on out
+job refused: BadForm
+> (job (enums (T)) (vars ("x" (BitVec 0))))
+status 3, 21 bytes on diag, 0 on out
+job refused: BadForm
+> (job (enums) (vars ("x" Foo)) (terms))
+status 3, 21 bytes on diag, 0 on out
+job refused: BadType
+> (job (enums) (vars) (funs ("f" Bool (BitVec 129))))
+status 3, 22 bytes on diag, 0 on out
+job refused: BadWidth
+> (job (enums) (vars ("x" Foo)) (funs (f Bool Bool)))
+status 3, 21 bytes on diag, 0 on out
+job refused: BadType
 > (job (enums) (vars) (funs) (terms)) (job (enums) (vars) (funs) (terms))
 status 3, 19 bytes on diag, 0 on out
 job refused: Parse

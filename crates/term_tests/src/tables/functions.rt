@@ -41,6 +41,17 @@ bits:7:127 some_of subnet_width_v6 = (bits 128 1)
 none_of:7 subnet_width_v6 = (bits 128 0)
 var:p:?5 subnet_width_v4 var:p:?5 none:5 app:eq:2:bool bits:32:0 bits:32:32 var:p:?5 app:option.get:1:5 app:zero_extend=27:1:32 app:bvsub:2:32 app:ite:3:32 same = true
 var:p:?7 subnet_width_v6 var:p:?7 none:7 app:eq:2:bool bits:128:0 bits:128:128 var:p:?7 app:option.get:1:7 app:zero_extend=121:1:128 app:bvsub:2:128 app:ite:3:128 same = true
+ip:224.0.0.1 ip:224.0.0.1 in_groups:1 = true
+ip:224.0.0.1 ip:224.0.0.1/3 in_groups:1 = false
+ip:224.0.0.1 ip:224.0.0.1/4 in_groups:1 = true
+ip:224.0.0.1 ip:224.0.0.0/4 in_groups:1 = false
+ip:224.0.0.1 ip:224.0.0.2 ip:224.0.0.1 in_groups:2 = true
+ip:224.0.0.1/4 ip:224.0.0.1 in_groups:1 = true
+ip:10.0.0.1 ip:10.0.0.1 in_groups:1 = false
+ip:224.0.0.1 in_groups:0 = false
+var:i:ip ip:10.0.0.1 in_groups:1 = false
+var:i:ip ip:224.0.0.1 in_groups:1 var:i:ip is_multicast var:i:ip ext_ipaddr_addr_v4 bits:32:3758096385 app:bvule:2:bool bits:32:3758096385 var:i:ip ext_ipaddr_addr_v4 app:bvule:2:bool app:and:2:bool app:and:2:bool same = true
+ip:224.0.0.1 var:i:ip in_groups:1 var:i:ip is_multicast bits:32:3758096385 var:i:ip ext_ipaddr_addr_v4 app:bvule:2:bool var:i:ip ext_ipaddr_addr_v4 bits:32:3758096385 app:bvule:2:bool app:and:2:bool app:and:2:bool same = true
 ip:10.1.2.3 ip:10.0.0.0/8 is_in_range:1 = true
 ip:10.1.2.3 ip:10.1.2.3 is_in_range:1 = true
 ip:10.1.2.3 ip:0.0.0.0/0 is_in_range:1 = true

@@ -23,7 +23,7 @@ pub returns : goal.returns
 returns g c =
     let ts = map plain_term c.args.conditions.now in
     let fresh = c.new-encoder.result in
-    let wrote = c.in_ok-encode.ensures.stated c.new-encoder.ensures.unwritten in
+    let wrote = c.in_ok-encode.ensures.stated c.new-encoder.ensures.fresh in
     let empty : list_bytes (sink_of fresh) ≡ [] = ap list_bytes c.new-encoder.ensures.sink ∙ c.new.ensures in
     let got : list_bytes (sink_of c.encode.new.self) ≡ list_bytes (sink_of fresh) ++ text (enums_in fresh) ts = known_alike wrote.text in
     let same : c.bytes.result.now ≡ text (enums_of c.args.enums.now) ts =

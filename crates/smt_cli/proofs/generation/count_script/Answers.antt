@@ -26,7 +26,7 @@ returns-clause-summary g c =
     let encoder = c.with_nodes-encoder.result in
     let enums = c.with_nodes-encoder.ensures.enums in
     let stand = stood_by c.args.job.terms.nodes encoder.writer.names.nodes c.args.job.terms.ids.items c.as_slice.result.now c.args.job.terms.stand c.with_nodes-encoder.ensures.nodes c.as_slice.ensures.value in
-    let wrote = c.in_ok-encode_nodes.ensures.stated ts stand c.with_nodes-encoder.ensures.unwritten in
+    let wrote = c.in_ok-encode_nodes.ensures.stated ts stand c.with_nodes-encoder.ensures.fresh in
     let script = sink_of c.encode_nodes.new.self in
     summed_up (numbered_job c.args.job) c.in_ok-summarized.field-0 (count_bytes script) (names (enums_in encoder) ts) c.len.result (c.in_ok-summarized.ensures (names (enums_in encoder) ts) wrote.names)
     (all_counted (sink_of encoder) script (text (enums_in encoder) ts) (ap count_bytes c.with_nodes-encoder.ensures.sink ∙ c.new.ensures) wrote.text ∙ ap (λ (e : Enums). text e ts) enums)

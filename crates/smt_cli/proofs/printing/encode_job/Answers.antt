@@ -15,7 +15,7 @@ encode_nodes-outcome-requires g c = record { stand = (numbered_terms c.args.job.
 pub returns-clause-text : goal.returns-clause-text
 returns-clause-text g c =
     let stand = stood_by c.args.job.terms.nodes c.with_nodes-encoder.result.writer.names.nodes c.args.job.terms.ids.items c.as_slice.result.now c.args.job.terms.stand c.with_nodes-encoder.ensures.nodes c.as_slice.ensures.value in
-    let stated = c.encode_nodes-outcome.ensures.stated (numbered_terms c.args.job.terms) stand c.with_nodes-encoder.ensures.unwritten in
+    let stated = c.encode_nodes-outcome.ensures.stated (numbered_terms c.args.job.terms) stand c.with_nodes-encoder.ensures.fresh in
     text_of _ c.with_nodes-encoder.result c.encode_nodes-outcome.new.self (numbered_terms c.args.job.terms) _ _ _ c.encode_nodes-outcome.result c.with_nodes-encoder.ensures.enums (search rules) (search rules) stated
 
 pub returns-clause-headline : goal.returns-clause-headline

@@ -1,36 +1,38 @@
-use Rattle.std.proofs.Common.{Bor, List, ℕ, ◌≡◌, refl}
-use Rattle.law_texts.specs.Reading.{Expressions}
-use Rattle.smt_sexpr.specs.View.{plain}
-use Rattle.law_jobs.specs.Declarations.{Declared as Stated}
-use Rattle.law_jobs.specs.Jobs.{declared_in_sections}
+use Rattle.law_jobs.specs.Jobs.{declared_first}
 use Rattle.smt_job_declarations.specs.DeclarationView.{declared_in}
-use Rattle.smt_jobs.specs.Walk.{BeginsInside}
-use Rattle.smt_job_declarations.specs.declared.declaration.Declared.{Declared}
-use Rattle.smt_jobs.proofs.Walking.{declared_there, gives_passes, not_declared_there, read_more, read_none}
+use Rattle.smt_jobs.specs.Walk.{StandsFirst}
+use Rattle.smt_jobs.proofs.Walking.{all_declared, enums_refused, functions_refused, gives_passes, read_none, read_one_more, variables_refused}
 use Rattle.smt_jobs.proofs.walk.read_declarations.Goals as goal
 
 pub returns-clause-read : goal.returns-clause-read
 returns-clause-read c =
-    let one = read_more c.args.src.now c.args.src.now c.in_ok-enums.rest.now 511 (plain c.in_ok-enums.enums) (read_none c.args.src.now 511) c.in_ok-enums.ensures.read c.in_ok-enums.ensures.shallow in
-    let two = read_more c.args.src.now c.in_ok-enums.rest.now c.in_ok-vars.rest.now 511 (plain c.in_ok-vars.vars) one c.in_ok-vars.ensures.read c.in_ok-vars.ensures.shallow in
-    read_more c.args.src.now c.in_ok-vars.rest.now c.in_ok-funs.rest.now 511 (plain c.in_ok-funs.funs) two c.in_ok-funs.ensures.read c.in_ok-funs.ensures.shallow
+    let one = read_one_more c.args.src.now c.args.src.now c.in_ok-enums.rest.now 511 (read_none c.args.src.now 511) c.in_ok-enums.ensures.read in
+    let two = read_one_more c.args.src.now c.in_ok-enums.rest.now c.in_ok-variables.rest.now 511 one c.in_ok-variables.ensures.read in
+    read_one_more c.args.src.now c.in_ok-variables.rest.now c.in_ok-functions.rest.now 511 two c.in_ok-functions.ensures.read
+
+pub returns-in_err-enums-clause-stated : goal.returns-in_err-enums-clause-stated
+returns-in_err-enums-clause-stated c es end begins =
+    gives_passes (StandsFirst declared_in end) c.from_residual.result c.in_err-enums.field-0.0 (declared_first es) _ c.from_residual.ensures.1 (c.in_err-enums.ensures.stated es end begins) (enums_refused es)
+
+pub returns-in_err-variables-clause-stated : goal.returns-in_err-variables-clause-stated
+returns-in_err-variables-clause-stated c es end begins =
+    let enums = c.in_ok-enums.ensures.stated es end begins in
+    gives_passes (StandsFirst declared_in end) c.from_residual-in_err-variables.result c.in_err-variables.field-0.0 (declared_first es) _ c.from_residual-in_err-variables.ensures.1 (c.in_err-variables.ensures.stated enums.0.1 end enums.2.1)
+    (variables_refused es enums.0 enums.1)
+
+pub returns-in_err-functions-clause-stated : goal.returns-in_err-functions-clause-stated
+returns-in_err-functions-clause-stated c es end begins =
+    let enums = c.in_ok-enums.ensures.stated es end begins in
+    let variables = c.in_ok-variables.ensures.stated enums.0.1 end enums.2.1 in
+    gives_passes (StandsFirst declared_in end) c.from_residual-in_err-functions.result c.in_err-functions.field-0.0 (declared_first es) _ c.from_residual-in_err-functions.ensures.1 (c.in_err-functions.ensures.stated variables.0.1 end variables.2.1)
+    (functions_refused es enums.0 enums.1 variables.0 variables.1)
 
 pub returns-clause-stated : goal.returns-clause-stated
 returns-clause-stated c es end begins =
     let enums = c.in_ok-enums.ensures.stated es end begins in
-    let vars = c.in_ok-vars.ensures.stated enums.0.1 end enums.2.1 in
-    let funs = c.in_ok-funs.ensures.stated vars.0.1 end vars.2.1 in
-    let ds = declared_in c.in_ok-declared.declared in (
-      (ds, funs.0.1),
-      declared_there es enums.0 enums.1 vars.0 vars.1 funs.0 funs.1 (plain c.in_ok-enums.enums) (plain c.in_ok-vars.vars) (plain c.in_ok-funs.funs) enums.2.0 vars.2.0 funs.2.0 ds c.in_ok-declared.ensures.stated,
-      (refl, funs.2.1),
+    let variables = c.in_ok-variables.ensures.stated enums.0.1 end enums.2.1 in
+    let functions = c.in_ok-functions.ensures.stated variables.0.1 end variables.2.1 in (
+      (record { enums = enums.0.0; variables = variables.0.0; functions = functions.0.0 }, functions.0.1),
+      all_declared es enums.0 enums.1 variables.0 variables.1 functions.0 functions.1,
+      ((λ i. record { enums = enums.2.0 i; variables = variables.2.0 i; functions = functions.2.0 i }), functions.2.1),
     )
-
-pub returns-in_err-declared-clause-stated : goal.returns-in_err-declared-clause-stated
-returns-in_err-declared-clause-stated c es end begins =
-    let enums = c.in_ok-enums.ensures.stated es end begins in
-    let vars = c.in_ok-vars.ensures.stated enums.0.1 end enums.2.1 in
-    let funs = c.in_ok-funs.ensures.stated vars.0.1 end vars.2.1 in
-    gives_passes (λ (x : Declared × Bor (List ℕ)) (p : Stated × Expressions). (declared_in x.0 ≡ p.0) × BeginsInside 511 p.1 x.1.now end)
-    c.from_residual-in_err-declared.result c.in_err-declared.field-0.0 _ (declared_in_sections (plain c.in_ok-enums.enums) (plain c.in_ok-vars.vars) (plain c.in_ok-funs.funs)) c.from_residual-in_err-declared.ensures.1 c.in_err-declared.ensures.stated
-    (not_declared_there es enums.0 enums.1 vars.0 vars.1 funs.0 funs.1 (plain c.in_ok-enums.enums) (plain c.in_ok-vars.vars) (plain c.in_ok-funs.funs) enums.2.0 vars.2.0 funs.2.0)

@@ -1,6 +1,6 @@
-use Rattle.smt_encode.specs.Encoded.{has_failed}
+use Rattle.smt_encode.specs.Encoded.{is_spent}
 use Rattle.smt_encode.proofs.Answered.{complete}
 use Rattle.smt_encode.proofs.encoder.Encoder.define_record.Goals as goal
 
 pub returns-clause-complete : goal.returns-clause-complete
-returns-clause-complete g c = complete c.put_record-outcome.ensures.alone c.settle.ensures.answer (has_failed c.args.self.now)
+returns-clause-complete g c = complete c.put_record-outcome.ensures.alone c.settle.ensures.answer (is_spent c.args.self.now)

@@ -1,13 +1,21 @@
-use Rattle.std.proofs.Common.{◌+◌, map}
+use Rattle.std.proofs.Common.{◌+◌, map, refl}
 use Rattle.smt_term.specs.View.{plain_term}
 use Rattle.law_terms.specs.Faults.{first_fault}
+use Rattle.law_lines.specs.Lines.{EncodeCall, encode, lines_of_call}
 use Rattle.law_lines.specs.NameTables.{no_names}
 use Rattle.law_lines.specs.Text.{names, text}
+use Rattle.law_theorem.specs.Fits.{encoding_of}
 use Rattle.law_theorem.specs.Headline.{Headline}
 use Rattle.law_theorem.specs.WellWritten.{IsWellWritten, most_for_terms}
 use Rattle.smt_encode.specs.Encoded.{enums_in}
-use Rattle.smt_encode.proofs.Conditions.{headline, received, well_written}
+use Rattle.smt_encode.specs.Errors.{encode_error}
+use Rattle.smt_encode.specs.Interrupted.{Interrupted}
+use Rattle.smt_encode.specs.declared.error.EncodeError.TheVariants.{Spent}
+use Rattle.smt_encode.proofs.Cut.{err_of, interrupted}
+use Rattle.smt_encode.proofs.Attributes.{first_is_other, takes}
+use Rattle.smt_encode.proofs.Conditions.{conditions, headline, received, well_written}
 use Rattle.smt_encode.proofs.Faulted.{at_ok, has_cause, is_complete, ok_without_fault}
+use Rattle.smt_encode.proofs.OneCall.{begun_wrote, if_err_is, keeps_fit, keeps_well_written, not_put}
 use Rattle.smt_spelling.proofs.Named.{names_alone, no_tables}
 use Rattle.smt_encode.proofs.Scripted.{text_written}
 use Rattle.smt_encode.proofs.Writing.{are_texts}
@@ -19,33 +27,58 @@ returns-clause-put g c s has =
     record { got = wrote.contents_are; names = wrote.names; texts = are_texts c.put_terms-outcome.new.self.names _ (enums_in c.args.self.now) c.put_terms-outcome.ensures.cause.held.enums wrote.names }
 
 pub returns-clause-stated : goal.returns-clause-stated
-returns-clause-stated g c unwritten =
-    let wrote = at_ok c.put_terms-outcome.result c.in_ok-outcome.field-0 c.in_ok-outcome.was (c.put_terms-outcome.ensures.lines no_names (no_tables c.args.self.now.writer.names unwritten)) in
-    record { text = text_written (enums_in c.args.self.now) (map plain_term c.args.terms.now) wrote; names = names_alone c.put_terms-outcome.new.self.names _ wrote.names; texts = are_texts c.put_terms-outcome.new.self.names _ (enums_in c.args.self.now) c.put_terms-outcome.ensures.cause.held.enums wrote.names }
+returns-clause-stated g c new =
+    let wrote = at_ok c.put_terms-outcome.result c.in_ok-outcome.field-0 c.in_ok-outcome.was (c.put_terms-outcome.ensures.lines no_names (no_tables c.args.self.now.writer.names new.unwritten)) in
+    record { text = text_written c.args.self.now.begun (enums_in c.args.self.now) (map plain_term c.args.terms.now) new.unbegun wrote; names = names_alone c.put_terms-outcome.new.self.names _ wrote.names; texts = are_texts c.put_terms-outcome.new.self.names _ (enums_in c.args.self.now) c.put_terms-outcome.ensures.cause.held.enums wrote.names }
 
 pub returns-clause-headline : goal.returns-clause-headline
-returns-clause-headline g c unwritten typed =
+returns-clause-headline g c new typed =
     let enums = enums_in c.args.self.now in
     let ts = map plain_term c.args.terms.now in
     let none = ok_without_fault (first_fault enums ts) c.put_terms-outcome.result c.in_ok-outcome.field-0 c.in_ok-outcome.was c.put_terms-outcome.ensures.fault in
-    let wrote = at_ok c.put_terms-outcome.result c.in_ok-outcome.field-0 c.in_ok-outcome.was (c.put_terms-outcome.ensures.lines no_names (no_tables c.args.self.now.writer.names unwritten)) in
-    received (λ s bytes. Headline enums s ts bytes) c.put_terms-outcome.new.self.names (names enums ts) (text enums ts) _ _ (text_written enums ts wrote) (names_alone c.put_terms-outcome.new.self.names _ wrote.names) (headline c.args.self.now.writer.names.enums.now c.args.terms.now typed none)
+    let wrote = at_ok c.put_terms-outcome.result c.in_ok-outcome.field-0 c.in_ok-outcome.was (c.put_terms-outcome.ensures.lines no_names (no_tables c.args.self.now.writer.names new.unwritten)) in
+    received (λ s bytes. Headline enums s ts bytes) c.put_terms-outcome.new.self.names (names enums ts) (text enums ts) _ _ (text_written c.args.self.now.begun enums ts new.unbegun wrote) (names_alone c.put_terms-outcome.new.self.names _ wrote.names) (headline c.args.self.now.writer.names.enums.now c.args.terms.now typed none)
 
 pub returns-clause-well_written : goal.returns-clause-well_written
-returns-clause-well_written g c unwritten typed =
+returns-clause-well_written g c new typed =
     let enums = enums_in c.args.self.now in
     let ts = map plain_term c.args.terms.now in
     let none = ok_without_fault (first_fault enums ts) c.put_terms-outcome.result c.in_ok-outcome.field-0 c.in_ok-outcome.was c.put_terms-outcome.ensures.fault in
-    let wrote = at_ok c.put_terms-outcome.result c.in_ok-outcome.field-0 c.in_ok-outcome.was (c.put_terms-outcome.ensures.lines no_names (no_tables c.args.self.now.writer.names unwritten)) in
-    received (λ s bytes. IsWellWritten enums bytes ts s (1 + most_for_terms ts)) c.put_terms-outcome.new.self.names (names enums ts) (text enums ts) _ _ (text_written enums ts wrote) (names_alone c.put_terms-outcome.new.self.names _ wrote.names) (well_written c.args.self.now.writer.names.enums.now c.args.terms.now typed none)
+    let wrote = at_ok c.put_terms-outcome.result c.in_ok-outcome.field-0 c.in_ok-outcome.was (c.put_terms-outcome.ensures.lines no_names (no_tables c.args.self.now.writer.names new.unwritten)) in
+    received (λ s bytes. IsWellWritten enums bytes ts s (1 + most_for_terms ts)) c.put_terms-outcome.new.self.names (names enums ts) (text enums ts) _ _ (text_written c.args.self.now.begun enums ts new.unbegun wrote) (names_alone c.put_terms-outcome.new.self.names _ wrote.names) (well_written c.args.self.now.writer.names.enums.now c.args.terms.now typed none)
 
 pub returns-clause-models : goal.returns-clause-models
 returns-clause-models g c typed =
     headline c.args.self.now.writer.names.enums.now c.args.terms.now typed
     (ok_without_fault (first_fault (enums_in c.args.self.now) (map plain_term c.args.terms.now)) c.put_terms-outcome.result c.in_ok-outcome.field-0 c.in_ok-outcome.was c.put_terms-outcome.ensures.fault)
 
+-- what the call put, wherever the encoder stood
+pub returns-clause-called : goal.returns-clause-called
+returns-clause-called g c x has =
+    let enums = enums_in c.args.self.now in
+    let ts = map plain_term c.args.terms.now in
+    let wrote = at_ok c.put_terms-outcome.result c.in_ok-outcome.field-0 c.in_ok-outcome.was (c.put_terms-outcome.ensures.lines x.tables has.tables) in
+    record {
+      got = (begun_wrote c.args.self.now.begun x.begun (encode enums ts x.tables).lines has.begun wrote).contents_are;
+      stands = record { tables = wrote.names; below = c.put_terms-outcome.ensures.levels x.below has.below; begun = refl };
+    }
+
+pub returns-clause-fits : goal.returns-clause-fits
+returns-clause-fits g c typed text x f =
+    let enums = enums_in c.args.self.now in
+    let ts = map plain_term c.args.terms.now in
+    let none = ok_without_fault (first_fault enums ts) c.put_terms-outcome.result c.in_ok-outcome.field-0 c.in_ok-outcome.was c.put_terms-outcome.ensures.fault in
+    keeps_fit g.S.Sink.contents c.args.self.now _ (EncodeCall ts) c.put_terms-outcome.ensures.cause.held.enums text x f (conditions c.args.self.now.writer.names.enums.now c.args.terms.now typed none) (returns-clause-called g c (encoding_of x) f.stands)
+
+pub returns-clause-keeps_well_written : goal.returns-clause-keeps_well_written
+returns-clause-keeps_well_written g c typed text x most f =
+    let enums = enums_in c.args.self.now in
+    let ts = map plain_term c.args.terms.now in
+    let none = ok_without_fault (first_fault enums ts) c.put_terms-outcome.result c.in_ok-outcome.field-0 c.in_ok-outcome.was c.put_terms-outcome.ensures.fault in
+    keeps_well_written g.S.Sink.contents c.args.self.now _ (EncodeCall ts) c.put_terms-outcome.ensures.cause.held.enums text x f (conditions c.args.self.now.writer.names.enums.now c.args.terms.now typed none) (returns-clause-called g c (encoding_of x) f.stands) most
+
 pub returns-clause-written : goal.returns-clause-written
-returns-clause-written g c ids unwritten typed stand = at_ok c.put_terms-outcome.result c.in_ok-outcome.field-0 c.in_ok-outcome.was (c.put_terms-outcome.ensures.written ids unwritten typed stand)
+returns-clause-written g c = at_ok c.put_terms-outcome.result c.in_ok-outcome.field-0 c.in_ok-outcome.was c.put_terms-outcome.ensures.written
 
 pub returns-clause-complete : goal.returns-clause-complete
 returns-clause-complete g c = record {
@@ -60,3 +93,16 @@ returns-in_err-outcome-clause-refused g c =
 pub returns-in_err-outcome-clause-complete : goal.returns-in_err-outcome-clause-complete
 returns-in_err-outcome-clause-complete g c =
     is_complete (first_fault (enums_in c.args.self.now) (map plain_term c.args.terms.now)) c.put_terms-outcome.result c.in_err-outcome.field-0.0 c.in_err-outcome.was c.put_terms-outcome.ensures.fault c.put_terms-outcome.ensures.cause.cause c.from_residual.result c.from_residual.ensures.1
+
+pub returns-in_err-outcome-clause-takes : goal.returns-in_err-outcome-clause-takes
+returns-in_err-outcome-clause-takes g c typed =
+    takes (first_fault (enums_in c.args.self.now) (map plain_term c.args.terms.now)) c.from_residual.result (first_is_other (enums_in c.args.self.now) (map plain_term c.args.terms.now) typed) (returns-in_err-outcome-clause-refused g c)
+
+pub returns-then-self-clause-stopped : goal.returns-then-self-clause-stopped
+returns-then-self-clause-stopped g c typed text x f = not_put g.S.Sink.contents c.args.self.now c.args.self.now text x _ Spent f refl
+
+pub returns-in_err-outcome-clause-stopped : goal.returns-in_err-outcome-clause-stopped
+returns-in_err-outcome-clause-stopped g c typed text x f =
+    if_err_is (Interrupted g.S.Sink.contents c.args.self.now _ text (lines_of_call (enums_in c.args.self.now) (EncodeCall (map plain_term c.args.terms.now)) (encoding_of x))) c.from_residual.result (encode_error c.in_err-outcome.field-0.0) c.from_residual.ensures.1
+    (interrupted g.S.Sink.contents c.args.self.now _ (map plain_term c.args.terms.now) c.in_err-outcome.field-0.0 (encode_error c.in_err-outcome.field-0.0) text x f typed refl
+    (err_of _ c.put_terms-outcome.result c.in_err-outcome.field-0.0 c.in_err-outcome.was (c.put_terms-outcome.ensures.stopped x.now.tables f.stands.tables)))

@@ -10,7 +10,6 @@ use Rattle.smt_script.specs.declared.sink.SinkError.TheVariants.{Fault}
 use Rattle.smt_spelling.specs.Names.{enums_under, nodes_under, texts_under}
 use Rattle.smt_spelling.specs.NodeLines.{meanings_fault}
 use Rattle.smt_spelling.specs.NodeTexts.{text_at}
-use Rattle.smt_encode.specs.Complete.{AreTypedMeanings, HaveWrittenParts}
 use Rattle.smt_spelling.specs.LookUps.{IsClosed}
 use Rattle.smt_encode.specs.Steps.{look_ups_in, HasTables, Walks}
 use Rattle.smt_encode.specs.declared.error.WriteError.TheVariants.{Sink}
@@ -34,6 +33,5 @@ invariant-encode_all-loop-id g l = record {
   fault : (ms : List Meaning) → all_found (meanings (nodes_of (nodes_under l.fn.self.names))) (places_of l.ids) ≡ Some ms → meanings_fault (enums_under l.fn.self.names) ms ≡ meanings_fault (enums_under l.fn.self.names) (drop l.id-index ms);
   kept : map (text_at (texts_under l.self.names)) (take l.id-index l.ids) ≡ map (λ text. Some (rc_str_bytes text)) l.texts.items;
   count : length l.texts.items ≡ l.id-index;
-  whole : (ms : List Meaning) → all_found (meanings (nodes_of (nodes_under l.fn.self.names))) (places_of l.ids) ≡ Some ms → AreTypedMeanings ms → HaveWrittenParts (nodes_under l.fn.self.names) (texts_under l.fn.self.names) → HaveWrittenParts (nodes_under l.self.names) (texts_under l.self.names);
   steps : (has : ℕ → Bool) → IsClosed (nodes_of (nodes_under l.fn.self.names)) has → AllByRecursion (λ place. IsTrue (has place)) (places_of l.ids) → l.steps + look_ups_in has l.self ≤ l.fn.steps + l.id-index + look_ups_in has l.fn.self;
 }

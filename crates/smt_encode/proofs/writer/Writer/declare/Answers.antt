@@ -1,12 +1,15 @@
-use Rattle.std.proofs.Common.{ℕ, List, ap, refl, subst, sym, ◌∙◌}
-use Rattle.law_terms.specs.Nodes.{TypeMeaning}
+use Rattle.std.proofs.Common.{ℕ, List, [], ap, refl, subst, sym, ◌∙◌}
+use Rattle.law_terms.specs.Nodes.{EntityLabel, TypeMeaning}
 use Rattle.smt_types.specs.Entities.{bytes_of_type}
 use Rattle.law_terms.specs.Plain.{EntityType}
 use Rattle.smt_nodes.specs.Interned.{meaning_in}
-use Rattle.smt_spelling.specs.Names.{nodes_under, KeepTables}
+use Rattle.smt_spelling.specs.Names.{enums_under, nodes_under, KeepTables}
+use Rattle.smt_spelling.specs.NodeEntries.{declare_by}
+use Rattle.smt_spelling.specs.Spelled.{IsSpelled}
 use Rattle.smt_spelling.specs.NodeLines.{with_name}
 use Rattle.smt_spelling.specs.declared.names.Names.{Names}
 use Rattle.smt_spelling.proofs.Named.{names_alone}
+use Rattle.smt_encode.proofs.Stopping.{all_of_it, own_stops}
 use Rattle.smt_encode.proofs.writer.Writer.declare.Goals as goal
 
 pub enter_type-requires-clause-meant : goal.enter_type-requires-clause-meant
@@ -21,3 +24,23 @@ returns-clause-lines g c s has =
     let meant = ap (λ n. meaning_in (nodes_under n) c.args.id) same ∙ c.requires.meant in
     let names = subst (λ (n : List ℕ). KeepTables c.enter_type.new.self (with_name s (TypeMeaning (EntityType e)) n)) (c.in_ok-clone.ensures.cases ∙ put.named) (c.enter_type.ensures.tables s (EntityType e) keeps meant refl) in
     (record { names = names; contents_are = put.got }, put.named)
+
+pub returns-in_err-name-clause-lines : goal.returns-in_err-name-clause-lines
+returns-in_err-name-clause-lines g c s has =
+    let alone = c.in_err-name.ensures.alone in
+    own_stops (declare_by (enums_under c.args.self.now.names) (EntityLabel (bytes_of_type c.args.ety.now)) (EntityType (bytes_of_type c.args.ety.now)) [] s) IsSpelled _ c.from_residual.result c.from_residual.ensures.1 (record {
+      part = c.in_err-name.ensures.part s (names_alone c.args.self.now.names s has);
+      nothing_put = alone.nothing_put;
+      named = s;
+      names = subst (λ (n : Names). KeepTables n s) (sym alone.names) has;
+    })
+
+pub returns-in_err-clone-clause-lines : goal.returns-in_err-clone-clause-lines
+returns-in_err-clone-clause-lines g c s has =
+    let alone = c.in_ok-name.ensures.alone in
+    own_stops (declare_by (enums_under c.args.self.now.names) (EntityLabel (bytes_of_type c.args.ety.now)) (EntityType (bytes_of_type c.args.ety.now)) [] s) IsSpelled _ c.from_residual-in_err-clone.result c.from_residual-in_err-clone.ensures.1 (record {
+      part = all_of_it _ _ _ (c.in_ok-name.ensures.lines s (names_alone c.args.self.now.names s has)).got;
+      nothing_put = alone.nothing_put;
+      named = s;
+      names = subst (λ (n : Names). KeepTables n s) (sym alone.names) has;
+    })

@@ -1,13 +1,13 @@
-use Rattle.std.proofs.Common.{◌≡◌, ℕ, true, List, Option, Some, None, length, map, ap, sym, subst, ◌∙◌}
+use Rattle.std.proofs.Common.{◌≡◌, ℕ, true, List, Option, Some, None, length, map, ap, refl, sym, subst, ◌∙◌}
 use Rattle.std.specs.Prelude.{is_some}
 use Rattle.law_terms.specs.Nodes.{PlainLabel}
 use Rattle.law_terms.specs.Parts.{label_in}
 use Rattle.smt_nodes.specs.View.{plain_label}
 use Rattle.smt_spelling.specs.Names.{enums_under, nodes_under, KeepTables}
-use Rattle.smt_spelling.specs.NodeEntries.{entry_fault, has_inline, inline_by, inline_fault, rendering_in}
+use Rattle.smt_spelling.specs.NodeEntries.{entry_fault, has_inline, inline_by, inline_fault, own_lines, rendering_in}
 use Rattle.smt_spelling.specs.Entries.{SaysInline}
 use Rattle.smt_spelling.specs.NodeTexts.{IsText}
-use Rattle.smt_spelling.specs.Spelled.{AreSpelled}
+use Rattle.smt_spelling.specs.Spelled.{AreSpelled, IsSpelled}
 use Rattle.law_texts.specs.Reading.{Expression}
 use Rattle.smt_script.proofs.PutsLemmas.{appends_nothing}
 use Rattle.std.specs.Rc.{rc_str_bytes}
@@ -17,6 +17,7 @@ use Rattle.smt_spelling.proofs.Built.{built_meaning, no_entry, no_entry_fault, n
 use Rattle.smt_encode.proofs.Handed.{handed_on}
 use Rattle.smt_spelling.proofs.Faulting.{entry_last, inline_first}
 use Rattle.smt_encode.proofs.Finishing.{inline_lines, inline_stated, says_none, says_some}
+use Rattle.smt_encode.proofs.Stopping.{own_stops, own_unput}
 use Rattle.smt_encode.proofs.Writing.{unnamed}
 use Rattle.smt_encode.proofs.writer.Writer.finish.Goals as goal
 
@@ -25,6 +26,12 @@ returns-in_err-text-clause-fault g c m meant =
     let built = built_meaning (nodes_under c.args.self.now.names) c.args.id m meant in
     handed_on _ c.in_err-text.field-0.0 c.from_residual.result c.from_residual.ensures.1
     (λ f h. inline_first (enums_under c.args.self.now.names) m built (c.requires.sound m meant) f (ap inline_fault (sym (c.requires.is_node.label m meant)) ∙ c.in_err-text.ensures.fault f h))
+
+pub returns-in_err-text-clause-lines : goal.returns-in_err-text-clause-lines
+returns-in_err-text-clause-lines g c m es s meant shown has = own_stops (own_lines (enums_under c.args.self.now.names) m es s) IsSpelled _ c.from_residual.result c.from_residual.ensures.1 (own_unput c.args.self.now c.args.self.now _ s refl has)
+
+pub returns-in_err-clone-in-Some-clause-lines : goal.returns-in_err-clone-in-Some-clause-lines
+returns-in_err-clone-in-Some-clause-lines g c m es s meant shown has = own_stops (own_lines (enums_under c.args.self.now.names) m es s) IsSpelled _ c.from_residual-in_err-clone-in-Some.result c.from_residual-in_err-clone-in-Some.ensures.1 (own_unput c.args.self.now c.args.self.now _ s refl has)
 
 pub keep-requires-clause-sound : goal.keep-requires-clause-sound
 keep-requires-clause-sound g c m meant =

@@ -8,7 +8,9 @@ use Rattle.law_terms.specs.Faults.{Fault}
 use Rattle.smt_spelling.specs.TextFaults.{Finds}
 use Rattle.smt_term.specs.View.{plain_op, plain_term}
 use Rattle.smt_encode.specs.Applied.{WroteApplied}
-use Rattle.smt_spelling.specs.Names.{enums_under}
+use Rattle.smt_nodes.specs.Interned.{KeepsMeanings}
+use Rattle.smt_spelling.specs.Names.{enums_under, KeepLevels}
+use Rattle.smt_spelling.specs.declared.names.Names.{Names}
 use Rattle.smt_encode.specs.Refusals.{write_fault}
 use Rattle.smt_encode.proofs.Applying.{applied_alone, own_text}
 use Rattle.smt_spelling.proofs.Named.{names_alone}
@@ -29,4 +31,6 @@ returns-in_default g c =
       counted = alone.counted;
       finds = λ s has. subst (λ (f : Option Fault). Finds write_fault f c.put_operator.result) (sym (own.fault enums s ts)) alone.finds;
       unput = λ s has no some. alone.nothing_put (ap is_some (sym (own.fault enums s ts)) ∙ some);
+      numbers = subst (λ (n : Names). KeepsMeanings c.args.self.now.names.nodes n.nodes) (sym alone.names) (λ id m h. h);
+      levels = λ below keep. subst (λ (n : Names). KeepLevels n below) (sym alone.names) keep;
     }

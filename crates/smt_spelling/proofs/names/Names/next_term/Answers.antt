@@ -1,6 +1,7 @@
 use Rattle.std.proofs.Common.{arith}
 use Rattle.std.proofs.lemmas.Result.{IfOk-weaker}
 use Rattle.smt_spelling.proofs.Kept.{at_most}
+use Rattle.smt_spelling.proofs.Named.{counted}
 use Rattle.smt_spelling.proofs.Numbered.{drawn}
 use Rattle.smt_spelling.proofs.names.Names.next_term.Goals as goal
 
@@ -8,4 +9,4 @@ pub returns : goal.returns
 returns c s are =
     let texts = c.args.self.now.texts in
     let most = at_most texts.texts.items in
-    IfOk-weaker c.term_name.result _ _ (λ name named. drawn _ _ s (omega (arith, most, texts.counted, texts.texts.small, texts.texts.ok)) are.terms named) c.term_name.ensures
+    IfOk-weaker c.term_name.result _ _ (λ name named. drawn _ _ s (omega (arith, most, counted texts, texts.texts.small, texts.texts.ok)) are.terms named) c.term_name.ensures
