@@ -1,7 +1,7 @@
 #!/usr/bin/env python3
 """Verdicts of `smtcli check` beside the solver's own on the script that `smtcli script` prints.
 
-Each job of `examples/` and many random jobs are checked twice: once by `smtcli check SOLVER ARGS..`, and once by the solver
+Each job of `examples/` that has one check, and many random jobs, are checked twice: once by `smtcli check SOLVER ARGS..`, and once by the solver
 alone, which is given `(set-logic ALL)`, the printed script and `(check-sat)`. The two have to say the same. The random jobs
 are the same in every run. The status is 1 where two verdicts differ or a program fails, and 0 else. A solver that gives up says
 `unknown`, and where its limit is one of time, the two may then differ.
@@ -89,6 +89,7 @@ def main():
     args = parser.parse_args()
     draw = random.Random(SEED)
     jobs = [(path.name, path.read_text()) for path in sorted((TOP / "examples").glob("*.job"))]
+    jobs = [(name, job) for name, job in jobs if "(steps" not in job]  # those are asked by steps.py
     examples = len(jobs)
     jobs += [(f"random job {place}", random_job(draw)) for place in range(args.jobs)]
     counts = collections.Counter()

@@ -46,12 +46,16 @@ pub use Rattle.law_folding.specs.Parts as FoldingParts
 pub use Rattle.law_folding.specs.RecordOf
 pub use Rattle.law_folding.specs.Refinement
 pub use Rattle.law_folding.specs.SetOf
+pub use Rattle.law_job_scripts.specs.Asked
+pub use Rattle.law_job_scripts.specs.JobTexts
+pub use Rattle.law_job_scripts.specs.Meaning as JobScriptsMeaning
 pub use Rattle.law_jobs.specs.Declarations
 pub use Rattle.law_jobs.specs.Enums as JobsEnums
 pub use Rattle.law_jobs.specs.Jobs
 pub use Rattle.law_jobs.specs.Laws as JobsLaws
 pub use Rattle.law_jobs.specs.Outcomes
 pub use Rattle.law_jobs.specs.Parts as JobsParts
+pub use Rattle.law_jobs.specs.Steps as JobSteps
 pub use Rattle.law_jobs.specs.Types as JobsTypes
 pub use Rattle.law_lines.specs.EntryNames
 pub use Rattle.law_lines.specs.Every
@@ -151,6 +155,7 @@ pub use Rattle.law_theorem.specs.TextValues
 pub use Rattle.law_theorem.specs.WellWritten
 pub use Rattle.law_verdicts.specs.Broken
 pub use Rattle.law_verdicts.specs.Chunks
+pub use Rattle.law_verdicts.specs.Dialogues
 pub use Rattle.law_verdicts.specs.FirstModel
 pub use Rattle.law_verdicts.specs.Fragment
 pub use Rattle.law_verdicts.specs.HandedOut
@@ -221,7 +226,9 @@ pub use Rattle.smt_job_declarations.specs.DeclarationView
 pub use Rattle.smt_job_declarations.specs.ReadAs
 pub use Rattle.smt_jobs.specs.JobView
 pub use Rattle.smt_jobs.specs.Numbered
+pub use Rattle.smt_jobs.specs.Numbers as JobNumbers
 pub use Rattle.smt_jobs.specs.Refused as JobsRefused
+pub use Rattle.smt_jobs.specs.StepView
 pub use Rattle.smt_nodes.specs.Attributes
 pub use Rattle.smt_nodes.specs.Index
 pub use Rattle.smt_nodes.specs.Interned
@@ -232,10 +239,15 @@ pub use Rattle.smt_nodes.specs.Subject
 pub use Rattle.smt_nodes.specs.View as NodesView
 pub use Rattle.smt_pool.specs.Checks
 pub use Rattle.smt_pool.specs.Config
+pub use Rattle.smt_pool.specs.Dialogue
 pub use Rattle.smt_pool.specs.Errors as PoolErrors
 pub use Rattle.smt_pool.specs.Pool
 pub use Rattle.smt_pool.specs.Pooled
 pub use Rattle.smt_pool.specs.Sessions
+pub use Rattle.smt_runs.specs.Asking
+pub use Rattle.smt_runs.specs.Jobs as RunsJobs
+pub use Rattle.smt_runs.specs.Pieces as RunsPieces
+pub use Rattle.smt_runs.specs.Refusal as RunsRefusal
 pub use Rattle.smt_script.specs.Bytes
 pub use Rattle.smt_script.specs.Count
 pub use Rattle.smt_script.specs.Input

@@ -5,6 +5,7 @@ pub use law_blasting as blasting;
 pub use law_cedar as cedar;
 pub use law_extensions as extensions;
 pub use law_folding as folding;
+pub use law_job_scripts as job_scripts;
 pub use law_jobs as jobs;
 pub use law_lines as lines;
 pub use law_numbers as numbers;

@@ -7,7 +7,7 @@
 //! | `factory` | the calls that build terms and fold constants |
 //! | `encode`, `script`, `expressions`, `nodes` | the encoder to SMT-LIB 2.7, sinks and lines of scripts, the reader of S-expressions, numbered nodes |
 //! | `solve`, `pool` | links to solvers, sessions, processes; pools of sessions, and the check of a script |
-//! | `jobs`, `program` | the reader of jobs, and the run of `smtcli` |
+//! | `jobs`, `runs`, `program` | the reader of jobs; scripts and checks of a job's steps; the run of `smtcli` |
 //! | `cedar`, `values`, `symbolizer` | Cedar's types and values, their terms, and the tables of a schema, a request and a store |
 //! | `laws` | the laws of the definitions, by subject |
 //!
@@ -28,10 +28,11 @@ pub use smt_ext as extensions;
 pub use smt_ext::{Datetime, Decimal, Duration, Ext, IPNet};
 pub use smt_factory as factory;
 pub use smt_jobs as jobs;
-pub use smt_jobs::{Job, read_job};
+pub use smt_jobs::{Job, Section, Step, StepList, read_job};
 pub use smt_nodes as nodes;
 pub use smt_pool as pool;
 pub use smt_pool::{SolverPool, check_script};
+pub use smt_runs as runs;
 pub use smt_script as script;
 pub use smt_script::{ListSink, Sink, SinkError, SmtLibScript};
 pub use smt_sexpr as expressions;

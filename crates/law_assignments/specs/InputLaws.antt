@@ -5,19 +5,20 @@ use Rattle.law_assignments.specs.Assignments.{PlainAssignment}
 use Rattle.law_assignments.specs.Covered.{Covers}
 use Rattle.law_assignments.specs.Sound.{IsSound}
 use Rattle.law_jobs.specs.Jobs.{PlainJob}
+use Rattle.law_jobs.specs.Steps.{current}
 use Rattle.law_terms.specs.Formed.{IsFormed}
 use Rattle.law_terms.specs.Typing.{AreBoolean}
 use Rattle.law_assignments.specs.Inputs.{IsFaultyInput, IsInput, IsInputBuilt}
 use Rattle.law_assignments.specs.Outcomes.{InputFault}
 
--- The terms of a job are Booleans, and an assignment is sound and gives all that they reach.
+-- The terms that are current at the end of a job are Booleans, and an assignment is sound and gives all that they reach.
 pub record IsEvaluable (job : PlainJob) (a : PlainAssignment) : Type 0 where
   pub sound : IsSound job.enums a
-  pub covered : Covers a job.terms
-  pub boolean : AreBoolean job.terms
-  pub formed : AllByRecursion IsFormed job.terms
+  pub covered : Covers a (current job.steps)
+  pub boolean : AreBoolean (current job.steps)
+  pub formed : AllByRecursion IsFormed (current job.steps)
 
--- What is built of an input is evaluable, so that each of its terms evaluates to a truth.
+-- What is built of an input is evaluable, so that each term that is current at its end evaluates to a truth.
 abbrev pub InputsAreEvaluable : Type 0
 InputsAreEvaluable = (bytes : List ℕ) (job : PlainJob) (a : PlainAssignment) → IsInputBuilt bytes job a → IsEvaluable job a
 

@@ -8,6 +8,7 @@ use Rattle.law_texts.specs.Lexicon.{Name, Number, Text}
 use Rattle.law_texts.specs.Reading.{Expression, Leaf}
 use Rattle.law_jobs.specs.Jobs.{PlainJob}
 use Rattle.law_jobs.specs.Outcomes.{TruthFault}
+use Rattle.law_jobs.specs.Steps.{AssertStep}
 use Rattle.law_terms.specs.Plain.{BoolType, EntityType, PlainFunction, VariableTerm}
 use Rattle.law_assignments.specs.Inputs.{input_of}
 use Rattle.law_assignments.specs.Outcomes.{InputFault, FormlessInput, RefusedJob, UnknownEntry, DuplicateEntry, NoValue, MissingEntry}
@@ -112,7 +113,7 @@ read_job = record {
   enums = (codes "Color", codes "red" ∷ []) ∷ [];
   variables = (codes "b", BoolType) ∷ (codes "c", EntityType (codes "Color")) ∷ [];
   functions = (codes "f", f_function) ∷ [];
-  terms = not_of (VariableTerm (codes "b") BoolType) ∷ uuf_of f_function (VariableTerm (codes "b") BoolType) ∷ [];
+  steps = AssertStep (not_of (VariableTerm (codes "b") BoolType) ∷ uuf_of f_function (VariableTerm (codes "b") BoolType) ∷ []) ∷ [];
 }
 
 -- the assignment that is read in the first of the rows

@@ -8,6 +8,7 @@ use Rattle.law_texts.specs.Reading.{Expression}
 use Rattle.law_texts.specs.Tokens.{IsReadWithin}
 use Rattle.law_jobs.specs.Declarations.{Declared}
 use Rattle.law_jobs.specs.Jobs.{PlainJob, built_job, greatest_length, job_of}
+use Rattle.law_jobs.specs.Steps.{current}
 use Rattle.law_assignments.specs.Entries.{assignment_of}
 use Rattle.law_assignments.specs.Outcomes.{InputFault, InputOutcome, of_job, FormlessInput, MissingEntry}
 use Rattle.law_texts.specs.Outcomes.{◌>>=◌, demanded}
@@ -22,9 +23,10 @@ abbrev pub unless_missing : Option (List ℕ) → InputOutcome ⊤
 unless_missing (Some name) = Err (MissingEntry name)
 unless_missing None = Ok tt
 
--- the job and the assignment of an input as it is written, which has to give all that the job's built terms reach
+-- the job and the assignment of an input as it is written, which has to give all that the job's built terms reach that are current at its
+-- end
 abbrev pub input_inside : WrittenInput → InputOutcome (PlainJob × PlainAssignment)
-input_inside w = of_job (job_of w.job) >>= λ job. assignment_of (declared_in job) w >>= λ a. unless_missing (first_missing a (map built job.terms)) >>= λ u. Ok (job, a)
+input_inside w = of_job (job_of w.job) >>= λ x. assignment_of (declared_in x.1) w >>= λ a. unless_missing (first_missing a (map built (current x.1.steps))) >>= λ u. Ok (x.1, a)
 
 -- The job and the assignment that an expression states, or its first fault: the form of the whole first, then the job, then the
 -- entries from the left, and then whether they give all that is reached.

@@ -1,38 +1,21 @@
--- The terms of a job are typed and formed, and they are Booleans; its enum types are in order; and bytes that are a job have no fault.
+-- The terms of a job are typed and formed, and they are Booleans; its steps are balanced; its enum types are in order; and bytes that are a job have no fault.
 use Rattle.std.proofs.Common.{◌≡◌, ℕ, List, [], ◌∷◌, Ok, Err, codes, ap, ◌∙◌, subst, arith}
-use Rattle.std.specs.Prelude.{IfOk, IfSome}
-use Rattle.std.specs.Bool.{then_some}
+use Rattle.std.specs.Prelude.{IfOk}
 use Rattle.std.specs.List.{AllByRecursion}
-use Rattle.law_terms.specs.Plain.{BoolType, PlainTerm}
-use Rattle.law_terms.specs.Types.{type_eq, type_of}
-use Rattle.law_terms.proofs.TypeOrder.{eq_same}
 use Rattle.law_texts.specs.Reading.{Expression, Expressions, Nil, Cons}
 use Rattle.law_texts.specs.Tokens.{IsReadWithin}
 use Rattle.law_texts.proofs.Trees.{one_reading}
-use Rattle.law_jobs.specs.Outcomes.{JobFault, Outcome, TruthFault}
+use Rattle.law_jobs.specs.Outcomes.{JobFault, Outcome}
 use Rattle.law_texts.specs.Outcomes.{◌>>=◌}
 use Rattle.law_jobs.specs.Declarations.{Declared, functions_of, variables_of}
 use Rattle.law_jobs.specs.Enums.{enums_in}
-use Rattle.law_jobs.specs.Jobs.{HasFault, IsJob, IsTooLong, PlainJob, declared_first, job_of, job_of_sections, nothing_more, section_first, section_of, terms_last}
-use Rattle.law_jobs.specs.Laws.{AreInOrder, IsCondition}
-use Rattle.law_jobs.specs.Terms.{condition_of, conditions_of, term_of}
-use Rattle.law_jobs.proofs.Outcomes.{bound, if_demanded, if_followed, if_some, onward, whichever}
+use Rattle.law_jobs.specs.Jobs.{HasFault, IsJob, IsTooLong, PlainJob, declared_first, job_of, job_of_sections, section_first, section_of, steps_last}
+use Rattle.law_jobs.specs.Laws.{AreInOrder, IsCondition, JobsHaveConditions}
+use Rattle.law_jobs.specs.Steps.{AreBalanced, PlainStep, Section, asserted, headed, nothing_more, section_named}
+use Rattle.law_jobs.proofs.Outcomes.{bound, onward, whichever}
 use Rattle.law_jobs.proofs.EnumsInOrder.{enums_in_order}
 use Rattle.law_jobs.proofs.FormedTypes.{AreDeclaredFormed, functions_formed, variables_formed}
-use Rattle.law_jobs.proofs.SoundTerms.{IsSound, term_sound}
-
-chosen_condition : (t : PlainTerm) → IsSound t → IfSome (then_some (type_eq (type_of t) BoolType) t) IsCondition
-chosen_condition t s = if_some IsCondition (type_eq (type_of t) BoolType) t (λ e. record { boolean = record { parts = s.is_typed; type = eq_same (type_of t) BoolType e }; formed = s.formed })
-
-condition_sound : (ds : Declared) → AreDeclaredFormed ds → (e : Expression) → IfOk (condition_of ds e) IsCondition
-condition_sound ds f e =
-    bound IsCondition (term_of ds e) _ (onward (term_of ds e) (term_sound ds f e) (λ t s. if_demanded IsCondition TruthFault (then_some (type_eq (type_of t) BoolType) t) (chosen_condition t s)))
-
-conditions_sound : (ds : Declared) → AreDeclaredFormed ds → (es : Expressions) → IfOk (conditions_of ds es) (AllByRecursion IsCondition)
-conditions_sound ds f Nil = tt
-conditions_sound ds f (Cons e es) =
-    bound (AllByRecursion IsCondition) (condition_of ds e) _ (onward (condition_of ds e) (condition_sound ds f e) (λ t c.
-    if_followed (AllByRecursion IsCondition) t (conditions_of ds es) (onward (conditions_of ds es) (conditions_sound ds f es) (λ ts r. (c, r)))))
+use Rattle.law_jobs.proofs.Steps.{AreSound, current_before, section_sound}
 
 -- what holds of all that a section may state holds of what the first expression states as this section
 first_section : {A : Type 0} (P : A → Type 0) (head : List ℕ) (reads : Expressions → Outcome A) → ((es : Expressions) → IfOk (reads es) P) → (es : Expressions) → IfOk (section_first head reads es) (λ p. P p.0)
@@ -47,20 +30,37 @@ declared_sound es =
     bound _ (section_first (codes "funs") functions_of vs.1) _ (onward (section_first (codes "funs") functions_of vs.1) (first_section _ (codes "funs") functions_of functions_formed vs.1) (λ fs g.
     record { variables = f; functions = g }))))))
 
-last_sound : (ds : Declared) → AreDeclaredFormed ds → (es : Expressions) → IfOk (terms_last ds es) (AllByRecursion IsCondition)
+last_sound : (ds : Declared) → AreDeclaredFormed ds → (es : Expressions) → IfOk (steps_last ds es) (λ x. AreSound 0 x.1)
 last_sound ds f Nil = tt
-last_sound ds f (Cons conditions others) =
-    bound _ (section_of (codes "terms") conditions >>= conditions_of ds) _ (onward (section_of (codes "terms") conditions >>= conditions_of ds) (bound _ (section_of (codes "terms") conditions) (conditions_of ds) (whichever _ (section_of (codes "terms") conditions) (conditions_sound ds f))) (λ ts c.
-    bound _ (nothing_more others) _ (whichever _ (nothing_more others) (λ u. c))))
+last_sound ds f (Cons last others) =
+    bound (λ x. AreSound 0 x.1) (headed last) _ (whichever _ (headed last) (λ p.
+    bound (λ x. AreSound 0 x.1) (section_named ds p.0 p.1) _ (onward (section_named ds p.0 p.1) (section_sound ds f p.0 p.1) (λ x h.
+    bound (λ x. AreSound 0 x.1) (nothing_more others) _ (whichever _ (nothing_more others) (λ u. h))))))
 
-pub sections_sound : (es : Expressions) → IfOk (job_of_sections es) (λ job. AllByRecursion IsCondition job.terms)
+pub sections_sound : (es : Expressions) → IfOk (job_of_sections es) (λ x. AreSound 0 x.1.steps)
 sections_sound es =
-    bound _ (declared_first es) _ (onward (declared_first es) (declared_sound es) (λ p f.
-    bound _ (terms_last p.0 p.1) _ (onward (terms_last p.0 p.1) (last_sound p.0 f p.1) (λ ts c. c))))
+    bound (λ x. AreSound 0 x.1.steps) (declared_first es) _ (onward (declared_first es) (declared_sound es) (λ p f.
+    bound (λ x. AreSound 0 x.1.steps) (steps_last p.0 p.1) _ (onward (steps_last p.0 p.1) (last_sound p.0 f p.1) (λ x h. h))))
 
-pub job_conditions : (bytes : List ℕ) (job : PlainJob) → IsJob bytes job → AllByRecursion IsCondition job.terms
-job_conditions bytes job is =
-    subst (λ (o : Outcome PlainJob). IfOk o (λ j. AllByRecursion IsCondition j.terms)) is.stated (bound _ (section_of (codes "job") is.expression) job_of_sections (whichever _ (section_of (codes "job") is.expression) sections_sound))
+-- what holds of what the sections of a job state holds of the job
+of_job : (P : PlainJob → Type 0) → ((es : Expressions) → IfOk (job_of_sections es) (λ x. P x.1)) → (bytes : List ℕ) (job : PlainJob) → IsJob bytes job → P job
+of_job P all bytes job is =
+    subst (λ (o : Outcome (Section × PlainJob)). IfOk o (λ x. P x.1)) is.stated (bound (λ x. P x.1) (section_of (codes "job") is.expression) job_of_sections (whichever _ (section_of (codes "job") is.expression) all))
+
+sound_steps : (bytes : List ℕ) (job : PlainJob) → IsJob bytes job → AreSound 0 job.steps
+sound_steps bytes job is = of_job (λ j. AreSound 0 j.steps) sections_sound bytes job is
+
+pub job_conditions : (bytes : List ℕ) (job : PlainJob) → IsJob bytes job → AllByRecursion IsCondition (asserted job.steps)
+job_conditions bytes job is = (sound_steps bytes job is).0
+
+pub job_is_balanced : (bytes : List ℕ) (job : PlainJob) → IsJob bytes job → AreBalanced 0 job.steps
+job_is_balanced bytes job is = (sound_steps bytes job is).1
+
+pub jobs_have_conditions : JobsHaveConditions
+jobs_have_conditions = record {
+  asserted = job_conditions;
+  current = λ bytes job before behind is cut. current_before IsCondition before behind (subst (λ (steps : List PlainStep). AllByRecursion IsCondition (asserted steps)) cut (job_conditions bytes job is));
+}
 
 -- ---- the enum types are in order
 
@@ -70,14 +70,13 @@ declared_in_order es =
     bound _ (section_first (codes "vars") variables_of types.1) _ (whichever _ (section_first (codes "vars") variables_of types.1) (λ vs.
     bound _ (section_first (codes "funs") functions_of vs.1) _ (whichever _ (section_first (codes "funs") functions_of vs.1) (λ fs. o))))))
 
-sections_in_order : (es : Expressions) → IfOk (job_of_sections es) (λ job. AreInOrder job.enums)
+sections_in_order : (es : Expressions) → IfOk (job_of_sections es) (λ x. AreInOrder x.1.enums)
 sections_in_order es =
     bound _ (declared_first es) _ (onward (declared_first es) (declared_in_order es) (λ p o.
-    bound _ (terms_last p.0 p.1) _ (whichever _ (terms_last p.0 p.1) (λ ts. o))))
+    bound _ (steps_last p.0 p.1) _ (whichever _ (steps_last p.0 p.1) (λ x. o))))
 
 pub job_enums_in_order : (bytes : List ℕ) (job : PlainJob) → IsJob bytes job → AreInOrder job.enums
-job_enums_in_order bytes job is =
-    subst (λ (o : Outcome PlainJob). IfOk o (λ j. AreInOrder j.enums)) is.stated (bound _ (section_of (codes "job") is.expression) job_of_sections (whichever _ (section_of (codes "job") is.expression) sections_in_order))
+job_enums_in_order bytes job is = of_job (λ j. AreInOrder j.enums) sections_in_order bytes job is
 
 -- ---- bytes are one job at most, and a job has no fault
 
@@ -88,18 +87,22 @@ one_expression bytes most e f r s = one_of e f (one_reading bytes (f ∷ []) (e 
     one_of : (x y : Expression) → y ∷ [] ≡ x ∷ [] → y ≡ x
     one_of x y h = cc
 
-same_outcome : (o : Outcome PlainJob) (j k : PlainJob) → o ≡ Ok j → o ≡ Ok k → j ≡ k
-same_outcome o j k h i = cc
+same_outcome : (o : Outcome (Section × PlainJob)) (x y : Section × PlainJob) → o ≡ Ok x → o ≡ Ok y → x ≡ y
+same_outcome o x y h i = cc
+
+-- the same bytes are the same job, by the same section
+pub one_stated : (bytes : List ℕ) (j k : PlainJob) (is : IsJob bytes j) (too : IsJob bytes k) → ◌≡◌ {A = Section × PlainJob} (is.section, j) (too.section, k)
+one_stated bytes j k is too = same_outcome (job_of is.expression) (is.section, j) (too.section, k) is.stated (ap job_of (one_expression bytes 512 too.expression is.expression too.read is.read) ∙ too.stated)
 
 pub one_job : (bytes : List ℕ) (j k : PlainJob) → IsJob bytes j → IsJob bytes k → j ≡ k
-one_job bytes j k is too = same_outcome (job_of is.expression) j k is.stated (ap job_of (one_expression bytes 512 too.expression is.expression too.read is.read) ∙ too.stated)
+one_job bytes j k is too = ap (λ (x : Section × PlainJob). x.1) (one_stated bytes j k is too)
 
-both : (o : Outcome PlainJob) (job : PlainJob) (fault : JobFault) → o ≡ Ok job → o ≡ Err fault → ⊥
-both o job fault h k = cc
+both : (o : Outcome (Section × PlainJob)) (x : Section × PlainJob) (fault : JobFault) → o ≡ Ok x → o ≡ Err fault → ⊥
+both o x fault h k = cc
 
 pub job_has_no_fault : (bytes : List ℕ) (job : PlainJob) (fault : JobFault) → IsJob bytes job → HasFault bytes fault → ⊥
 job_has_no_fault bytes job fault is faulty =
-    both (job_of is.expression) job fault is.stated (ap job_of (one_expression bytes 512 faulty.1.expression is.expression faulty.1.read is.read) ∙ faulty.1.stated)
+    both (job_of is.expression) (is.section, job) fault is.stated (ap job_of (one_expression bytes 512 faulty.1.expression is.expression faulty.1.read is.read) ∙ faulty.1.stated)
 
 pub job_is_short : (bytes : List ℕ) (job : PlainJob) → IsJob bytes job → IsTooLong bytes → ⊥
 job_is_short bytes job is long = (let short = is.short in omega (arith, short, long))

@@ -1,4 +1,5 @@
 pub mod BuiltConditions
+pub mod Conditions
 pub mod EnumsInOrder
 pub mod FormedTypes
 pub mod Jobs
@@ -6,3 +7,4 @@ pub mod OperatorNames
 pub mod Outcomes
 pub mod SortedLists
 pub mod SoundTerms
+pub mod Steps

@@ -1,6 +1,7 @@
 -- What is known of jobs.
-use Rattle.std.specs.Prelude.{ℕ, ◌≡◌, IfSome, IsTrue, List, Some}
+use Rattle.std.specs.Prelude.{ℕ, ◌≡◌, IfSome, IsTrue, map, List, ◌++◌, Some}
 use Rattle.std.specs.List.{AllByRecursion}
+use Rattle.law_folding.specs.Built.{built}
 use Rattle.law_terms.specs.Formed.{IsFormed}
 use Rattle.law_terms.specs.Names.{extension_op_name, op_name}
 use Rattle.law_terms.specs.Plain.{BoolType, PlainOp, ExtOp, PlainTerm}
@@ -9,6 +10,7 @@ use Rattle.law_terms.specs.Typing.{Typed}
 use Rattle.law_terms.specs.ValueOrder.{ascends, text_cmp}
 use Rattle.law_jobs.specs.Jobs.{HasFault, IsJob, IsTooLong, PlainJob}
 use Rattle.law_jobs.specs.Outcomes.{JobFault}
+use Rattle.law_jobs.specs.Steps.{PlainStep, AreBalanced, asserted, built_steps, current}
 use Rattle.law_jobs.specs.Terms.{extension_operators, named_operators, operator_named}
 
 -- a term that is typed with the type Bool, and formed: what the theorem asks of each term
@@ -16,9 +18,20 @@ pub record IsCondition (t : PlainTerm) : Type 0 where
   pub boolean : Typed t BoolType
   pub formed : IsFormed t
 
--- Each term of a job is typed with the type Bool, and formed: it is a condition.
-abbrev pub JobsHaveConditions : Type 0
-JobsHaveConditions = (bytes : List ℕ) (job : PlainJob) → IsJob bytes job → AllByRecursion IsCondition job.terms
+-- Each term that a job asserts is typed with the type Bool, and formed: it is a condition. So is each that is current anywhere in it.
+pub record JobsHaveConditions : Type 0 where
+  pub asserted : (bytes : List ℕ) (job : PlainJob) → IsJob bytes job → AllByRecursion IsCondition (asserted job.steps)
+  pub current : (bytes : List ℕ) (job : PlainJob) (before behind : List PlainStep) → IsJob bytes job → job.steps ≡ before ++ behind → AllByRecursion IsCondition (current before)
+
+-- No step of a job closes a level where none is open.
+abbrev pub JobsAreBalanced : Type 0
+JobsAreBalanced = (bytes : List ℕ) (job : PlainJob) → IsJob bytes job → AreBalanced 0 job.steps
+
+-- What is built of the steps asserts and has as current what is built of the terms, and is balanced where they are.
+pub record StepsAreBuilt : Type 0 where
+  pub asserted : (steps : List PlainStep) → asserted (built_steps steps) ≡ map built (asserted steps)
+  pub current : (steps : List PlainStep) → current (built_steps steps) ≡ map built (current steps)
+  pub balanced : (levels : ℕ) (steps : List PlainStep) → AreBalanced levels steps → AreBalanced levels (built_steps steps)
 
 -- The enum types stand in the order of their names, each name once, and so do the members of each, which are texts in UTF-8.
 pub record AreInOrder (enums : Enums) : Type 0 where

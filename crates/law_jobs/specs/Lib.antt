@@ -4,5 +4,6 @@ pub mod Jobs
 pub mod Laws
 pub mod Outcomes
 pub mod Parts
+pub mod Steps
 pub mod Terms
 pub mod Types

@@ -3,7 +3,7 @@ use Rattle.std.specs.Prelude.{ℕ, List, ◌∷◌, Ok, Err, Result}
 
 -- why an expression is no job: the reasons that a reader of jobs tells apart, with the name or text where there is one
 pub data JobFault : Type 0 where
-  -- a section, a declaration or a term has no form
+  -- a section, a declaration, a step or a term has no form
   FormFault : JobFault
   -- no variable, function or form of terms has this name
   UnknownFault : (name : List ℕ) → JobFault
@@ -19,6 +19,8 @@ pub data JobFault : Type 0 where
   TypingFault : JobFault
   -- a whole term is no Boolean
   TruthFault : JobFault
+  -- a step closes a level where none is open
+  UnbalancedFault : JobFault
 
 -- what is stated of an expression: the thing that it states, or the first fault in it
 abbrev pub Outcome : Type 0 → Type 0

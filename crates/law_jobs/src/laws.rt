@@ -1,9 +1,19 @@
 // The laws of jobs and of the names of operators in them.
-ghost use Rattle.law_jobs.specs.Laws.{JobsAreNotRefused, JobsHaveConditions, JobsHaveEnumsInOrder, OperatorsAreFoundByName};
+ghost use Rattle.law_jobs.specs.Laws.{JobsAreBalanced, JobsAreNotRefused, JobsHaveConditions, JobsHaveEnumsInOrder, OperatorsAreFoundByName, StepsAreBuilt};
 
-/// Each term of a job is typed as a Boolean, and formed.
+/// Each term that a job asserts is typed as a Boolean, and formed, and so is each that is current anywhere in it.
 pub fn jobs_have_conditions()
     ensures { JobsHaveConditions }
+{}
+
+/// No step of a job closes a level where none is open.
+pub fn jobs_are_balanced()
+    ensures { JobsAreBalanced }
+{}
+
+/// What is built of steps asserts and has as current what is built of their terms.
+pub fn steps_are_built()
+    ensures { StepsAreBuilt }
 {}
 
 /// The enum types of a job stand in the order of their names, and so do the members of each.

@@ -26,11 +26,10 @@ use Rattle.smt_solve.specs.Question.{Answers, AsksDecision, Exchanges}
 use Rattle.smt_solve.specs.Session.{enable_models_text}
 use Rattle.smt_solve.specs.declared.answer.Decision.{Decision}
 use Rattle.smt_solve.specs.declared.answer.Decision.TheVariants.{Sat, Unsat, Unknown}
-use Rattle.smt_solve.specs.declared.answer.DecisionWithModel.{DecisionWithModel}
 use Rattle.smt_solve.specs.declared.answer.DecisionWithModel.TheVariants.{Unsat as UnsatWith}
 use Rattle.smt_solve.specs.declared.error.SolverError.{SolverError}
 use Rattle.law_verdicts.specs.Honesty.{AreAnswersTo, IsHonest, IsInTurn, IsTrueOf}
-use Rattle.law_verdicts.specs.InHand.{AreNeverTrue, AskedLinksAreBlankAgain, HonestyIsHandedOn, IsBlankLink, IsPreamble, PreamblesKeepBlank, SessionsAreBelieved, SessionsWithModelsAreBelieved, Takes, TheseArePreambles, UnusedLinksAreBlank}
+use Rattle.law_verdicts.specs.InHand.{AreNeverTrue, AskedLinksAreBlankAgain, HonestyIsHandedOn, IsBlankLink, PreamblesKeepBlank, SessionsAreBelieved, SessionsWithModelsAreBelieved, Takes, TheseArePreambles, UnusedLinksAreBlank}
 use Rattle.law_verdicts.specs.Verdicts.{IsBlankScript, logic_text}
 use Rattle.law_verdicts.proofs.Asking.{lines_for, lines_held, none_asked, text_is}
 use Rattle.law_verdicts.proofs.Believing.{check_runs, logic_is_blank, unsat_is_believed}
@@ -38,7 +37,7 @@ use Rattle.law_verdicts.proofs.Broken.{broken_answers_are_last, told_none}
 use Rattle.law_verdicts.proofs.HandedOut.{reset_empties}
 
 -- The answers to commands and to those behind them follow one another.
-answers_go_on : (cs ds : List Command) (bytes more : List ℕ) → AreAnswersTo cs bytes → AreAnswersTo ds more → AreAnswersTo (cs ++ ds) (bytes ++ more)
+pub answers_go_on : (cs ds : List Command) (bytes more : List ℕ) → AreAnswersTo cs bytes → AreAnswersTo ds more → AreAnswersTo (cs ++ ds) (bytes ++ more)
 answers_go_on [] ds bytes more a b = subst (λ (x : List ℕ). AreAnswersTo ds (x ++ more)) (sym a) b
 answers_go_on (CheckSat ∷ cs) ds bytes more a b = (a.0, a.1 ++ more, ap (λ (x : List ℕ). x ++ more) a.2 ∙ append_assoc a.0 a.1 more, a.3, answers_go_on cs ds a.1 more a.4 b)
 answers_go_on (GetModel ∷ cs) ds bytes more a b = (a.0, a.1 ++ more, ap (λ (x : List ℕ). x ++ more) a.2 ∙ append_assoc a.0 a.1 more, a.3, answers_go_on cs ds a.1 more a.4 b)

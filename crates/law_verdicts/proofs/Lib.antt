@@ -3,15 +3,16 @@ pub mod Believing
 pub mod Broken
 mod Bytes
 mod Chunks
-mod Commands
-mod Formulas
+pub mod Commands
+pub mod Dialogues
+pub mod Formulas
 mod Found
 pub mod HandedOut
 mod Honest
 pub mod InHand
 mod Known
 mod ModelLines
-mod Rows
+pub mod Rows
 mod Sampled
 mod Scan
 mod Search

@@ -1,5 +1,6 @@
 pub mod Broken
 pub mod Chunks
+pub mod Dialogues
 pub mod FirstModel
 pub mod Fragment
 pub mod HandedOut

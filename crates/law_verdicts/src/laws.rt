@@ -1,5 +1,6 @@
 //! Laws of verdicts and of scripts of Boolean constants, proved with no code.
 ghost use Rattle.law_verdicts.specs.Broken.{BrokenAnswersAreLast};
+ghost use Rattle.law_verdicts.specs.Dialogues.{DialogueChecksAreInTurn, DialoguesAreBelieved};
 ghost use Rattle.law_verdicts.specs.HandedOut.{BlankScriptsAreEmpty, ExitStays, HandOutsAreBlank, HoldersStandAlone, ResetLeavesNothing};
 ghost use Rattle.law_verdicts.specs.InHand.{AskedLinksAreBlankAgain, HonestyIsHandedOn, PreamblesKeepBlank, SessionsAreBelieved, SessionsWithModelsAreBelieved, TheseArePreambles, UnusedLinksAreBlank};
 ghost use Rattle.law_verdicts.specs.Joined.{ScriptsJoin, TextsJoin};
@@ -32,6 +33,18 @@ pub fn checks_are_in_turn()
 pub fn unsat_is_believed()
     ensures logic { LogicIsBlank }
     ensures believed { UnsatIsBelieved }
+{}
+
+/// In a dialogue each check is in turn: a script grows by the lines of an encoder's calls, with `(check-sat)` between them, and each
+/// check before this one was answered by one line.
+pub fn dialogue_checks_are_in_turn()
+    ensures { DialogueChecksAreInTurn }
+{}
+
+/// Where a line that tells the truth says `unsat` to a check of a dialogue, no interpretation makes all the terms true that are
+/// encoded at the levels open then.
+pub fn dialogues_are_believed()
+    ensures { DialoguesAreBelieved }
 {}
 
 /// A link is blank where it tells what it was sent and what was read, where that left nothing declared or asserted, and where each

@@ -12,7 +12,7 @@ use std::process::Abort;
 const TRUE: &str = "(job (enums) (vars) (funs) (terms true))";
 
 /// What a solver is sent before its question about that job.
-const BEFORE: &[u8] = b"\
+pub(crate) const BEFORE: &[u8] = b"\
 (set-logic ALL)
 (declare-datatype Option (par (X) (
   (none)
@@ -32,26 +32,26 @@ const ASKED: &[u8] = b"\
 
 /// A run of `check`, and how it ends.
 #[derive(Drop)]
-struct Check {
-    job: &'static str,
+pub(crate) struct Check {
+    pub(crate) job: &'static str,
     /// The bytes that the solver answers.
-    answers: &'static [u8],
+    pub(crate) answers: &'static [u8],
     /// Which call of the link is to fail, which start, which read of the source and which put to `out`, 0 for none.
-    link_fails: u64,
-    start_fails: u64,
-    source_fails: u64,
-    out_fails: u64,
+    pub(crate) link_fails: u64,
+    pub(crate) start_fails: u64,
+    pub(crate) source_fails: u64,
+    pub(crate) out_fails: u64,
     /// The code with which the solver has ended from the start.
-    ended: Option<i32>,
-    status: u8,
-    put: &'static str,
-    said: &'static str,
+    pub(crate) ended: Option<i32>,
+    pub(crate) status: u8,
+    pub(crate) put: &'static str,
+    pub(crate) said: &'static str,
     /// What the link was sent that came back, None where none did.
-    sent: Option<&'static [u8]>,
+    pub(crate) sent: Option<&'static [u8]>,
 }
 
 /// A run on that job in which nothing fails, and the solver answers `unsat`.
-const UNSAT: Check = Check {
+pub(crate) const UNSAT: Check = Check {
     job: TRUE,
     answers: b"unsat\n",
     link_fails: 0,
@@ -179,7 +179,7 @@ const CHECKS: &[Check] = &[
         sent: None,
         ..UNSAT
     },
-    // The job is read before the solver is started.
+    // The job is read before the solver is started, and so is its first assertion written.
     Check {
         job: "(job)",
         start_fails: 1,
@@ -189,10 +189,24 @@ const CHECKS: &[Check] = &[
         sent: None,
         ..UNSAT
     },
+    Check {
+        job: "(job (enums (\"T\")) (vars (\"x\" (Entity \"T\"))) (funs) (terms (not (eq (var \"x\") (entity \"T\" \"a\")))))",
+        start_fails: 1,
+        status: 4,
+        put: "",
+        said: "encode refused: EmptyEnum\n",
+        sent: None,
+        ..UNSAT
+    },
 ];
 
 /// A starter of one link to a solver that answers with these bytes.
-fn starter_of(rt: &impl Abort, alloc: Global, row: &Check, answers: &[u8]) -> MemoryStarter {
+pub(crate) fn starter_of(
+    rt: &impl Abort,
+    alloc: Global,
+    row: &Check,
+    answers: &[u8],
+) -> MemoryStarter {
     let link = MemoryLink::new(alloc, answers, &[row.link_fails], row.ended);
     let mut links = LinkList::new(alloc);
     links.push(link.expect(rt, AMPLE)).expect(rt, AMPLE);
@@ -201,25 +215,29 @@ fn starter_of(rt: &impl Abort, alloc: Global, row: &Check, answers: &[u8]) -> Me
 
 /// How a run ended: its status, what was put and said, and the starter with the links that came back.
 #[derive(Drop)]
-struct End {
-    status: u8,
-    out: MemorySink,
+pub(crate) struct End {
+    pub(crate) status: u8,
+    pub(crate) out: MemorySink,
     diag: MemorySink,
-    starter: MemoryStarter,
+    pub(crate) starter: MemoryStarter,
 }
 
 /// Runs a row.
-fn end_of(rt: &impl Abort, alloc: Global, row: &Check) -> End {
-    end_with(rt, alloc, row, row.answers)
+pub(crate) fn end_of(rt: &impl Abort, alloc: Global, row: &Check) -> End {
+    end_with(rt, alloc, row, row.job.as_bytes(), row.answers)
 }
 
-/// Runs a row with a solver that answers with these bytes.
-fn end_with(rt: &impl Abort, alloc: Global, row: &Check, answers: &[u8]) -> End {
+/// Runs a row on these bytes, with a solver that answers with these.
+pub(crate) fn end_with(
+    rt: &impl Abort,
+    alloc: Global,
+    row: &Check,
+    job: &[u8],
+    answers: &[u8],
+) -> End {
     let words = texts(rt, alloc, &["check", "cvc5", "--lang", "smt"]);
-    let mut source = MemorySource::new(alloc, row.job.as_bytes(), &[row.source_fails]).expect(
-        rt, AMPLE,
-    );
-    let mut out = MemorySink::new(alloc, &[row.out_fails], 100).expect(rt, AMPLE);
+    let mut source = MemorySource::new(alloc, job, &[row.source_fails]).expect(rt, AMPLE);
+    let mut out = MemorySink::new(alloc, &[row.out_fails], 1000).expect(rt, AMPLE);
     let mut diag = MemorySink::new(alloc, &[], 100).expect(rt, AMPLE);
     let mut starter = starter_of(rt, alloc, row, answers);
     let status = run(
@@ -239,7 +257,7 @@ fn end_with(rt: &impl Abort, alloc: Global, row: &Check, answers: &[u8]) -> End 
 }
 
 /// What the link was sent that came back, None where none or several did.
-fn sent_by(starter: &MemoryStarter) -> Option<&[u8]> {
+pub(crate) fn sent_by(starter: &MemoryStarter) -> Option<&[u8]> {
     match starter.returned() {
         [link] => Some(link.sent()),
         _ => None,
@@ -247,7 +265,7 @@ fn sent_by(starter: &MemoryStarter) -> Option<&[u8]> {
 }
 
 /// Stops the test where a run did not end as its row says, and names what differs, with the row's status and what it says.
-fn expect_row(rt: &impl Abort, end: &End, row: &Check) {
+pub(crate) fn expect_row(rt: &impl Abort, end: &End, row: &Check) {
     let (status, said, put) = (row.status, row.said, row.put);
     expect_status(rt, said, end.status, status);
     let is_put = end.out.bytes() == put.as_bytes();
@@ -281,17 +299,11 @@ fn an_answer_has_a_greatest_length(rt: HostRuntime) {
     blanks.resize(LINE_LIMIT - 6, b' ').expect(&rt, AMPLE);
     let mut longest = blanks.as_slice().to_vec(alloc).expect(&rt, AMPLE);
     longest.extend_from_slice(b"unsat\n").expect(&rt, AMPLE);
-    expect_row(
-        &rt,
-        &end_with(&rt, alloc, &UNSAT, longest.as_slice()),
-        &UNSAT,
-    );
+    let end = end_with(&rt, alloc, &UNSAT, TRUE.as_bytes(), longest.as_slice());
+    expect_row(&rt, &end, &UNSAT);
     blanks.extend_from_slice(b" unsat\n").expect(&rt, AMPLE);
-    expect_row(
-        &rt,
-        &end_with(&rt, alloc, &TOO_LONG, blanks.as_slice()),
-        &TOO_LONG,
-    );
+    let end = end_with(&rt, alloc, &TOO_LONG, TRUE.as_bytes(), blanks.as_slice());
+    expect_row(&rt, &end, &TOO_LONG);
 }
 
 /// Whether a solver was started as it is named, with its arguments.

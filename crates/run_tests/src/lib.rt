@@ -17,6 +17,8 @@ mod runs;
 #[cfg(test)]
 mod sources;
 #[cfg(test)]
+mod steps;
+#[cfg(test)]
 mod tables;
 
 /// Why a test stops where a call gives nothing.

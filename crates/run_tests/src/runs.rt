@@ -23,6 +23,25 @@ pub const SCRIPT: &str = "\
 (assert t1)
 ";
 
+/// A job of steps.
+const STEPS: &str =
+    "(job (enums) (vars (\"b\" Bool)) (funs) (steps (assert (var \"b\")) (check) (push) (assert (not (var \"b\"))) (pop)))";
+
+/// Its script.
+const STEPS_SCRIPT: &str = "\
+(declare-datatype Option (par (X) (
+  (none)
+  (some (val X)))))
+; \"b\"
+(declare-const t0 Bool)
+(assert t0)
+(check-sat)
+(push 1)
+(define-fun t1 () Bool (not t0))
+(assert t1)
+(pop 1)
+";
+
 const USAGE: &str = "usage: smtcli script or check PATH ARGS.. or gen SEED N\n";
 
 const VERSION: &str = "smtcli 0.1.0\n";
@@ -67,6 +86,11 @@ const ENDS: &[Row] = &[
     ("script", NOT_B, 0, 1, 200, SCRIPT, 6, "sink fault\n"),
     ("script", NOT_B, 0, 2, 200, SCRIPT, 6, "sink fault\n"),
     ("script", NOT_B, 0, 7, 200, SCRIPT, 6, "sink fault\n"),
+    // The sink fails inside the line of a check, and inside those of a level's beginning and end.
+    ("script", STEPS, 0, 0, 200, STEPS_SCRIPT, 0, ""),
+    ("script", STEPS, 0, 0, 110, STEPS_SCRIPT, 6, "sink fault\n"),
+    ("script", STEPS, 0, 0, 122, STEPS_SCRIPT, 6, "sink fault\n"),
+    ("script", STEPS, 0, 0, 175, STEPS_SCRIPT, 6, "sink fault\n"),
     ("gen", "", 0, 0, 200, FIRST, 0, ""),
     ("gen", "", 0, 1, 200, FIRST, 6, "sink fault\n"),
     ("gen", "", 0, 0, 60, FIRST, 6, "sink fault\n"),
@@ -156,8 +180,8 @@ fn a_failing_diag_changes_no_status(rt: HostRuntime) {
 
 /// Takes all bytes, and fails at each flush.
 #[derive(Drop)]
-struct StuckWriter {
-    bytes: Vec<u8>,
+pub(crate) struct StuckWriter {
+    pub(crate) bytes: Vec<u8>,
 }
 
 impl Write for StuckWriter {
@@ -172,14 +196,15 @@ impl Write for StuckWriter {
 }
 
 /// The status of a run whose `out` holds bytes back for this writer, and what it said on diag.
-fn run_held(
+pub(crate) fn run_held(
     rt: &impl Abort,
     alloc: Global,
-    word: &str,
+    words: &[&str],
     bytes: &str,
     writer: &mut StuckWriter,
+    starter: &mut MemoryStarter,
 ) -> (u8, Vec<u8>) {
-    let words = texts(rt, alloc, &[word]);
+    let words = texts(rt, alloc, words);
     let mut source = MemorySource::new(alloc, bytes.as_bytes(), &[]).expect(rt, AMPLE);
     let held = BufWriter::with_capacity(alloc, 4096, writer).expect(rt, AMPLE);
     let mut out = BufferedSink::new(held);
@@ -190,7 +215,7 @@ fn run_held(
         &mut source,
         &mut out,
         &mut diag,
-        &mut no_solver(rt, alloc),
+        starter,
     );
     (status, diag.bytes().to_vec(alloc).expect(rt, AMPLE))
 }
@@ -213,7 +238,8 @@ fn expect_held(
     let mut writer = StuckWriter {
         bytes: Vec::new(alloc),
     };
-    let (ended, said) = run_held(rt, alloc, word, bytes, &mut writer);
+    let mut starter = no_solver(rt, alloc);
+    let (ended, said) = run_held(rt, alloc, &[word], bytes, &mut writer, &mut starter);
     let is_said = ended == status && said.as_slice() == line.as_bytes();
     assert!(rt; is_said, "{word} {line} is not how it ends");
     let is_put = writer.bytes.as_slice() == put.as_bytes();

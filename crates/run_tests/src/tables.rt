@@ -8,6 +8,7 @@ mod enums;
 mod extensions;
 mod names;
 mod refused;
+mod steps;
 mod strings;
 mod terms;
 
@@ -22,4 +23,5 @@ pub(crate) const TABLES: &[&str] = &[
     extensions::ROWS,
     depth::ROWS,
     refused::ROWS,
+    steps::ROWS,
 ];

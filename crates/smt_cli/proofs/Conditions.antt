@@ -1,12 +1,15 @@
 -- That generated terms are conditions.
-use Rattle.std.proofs.Common.{◌≡◌, ℕ, zero, suc, ◌<◌, ◌^◌, List, [], ◌∷◌, map, refl, ap, ◌∙◌, arith, None}
+use Rattle.std.proofs.Common.{sym, append-nil, ◌≡◌, ℕ, zero, suc, ◌<◌, ◌^◌, List, [], ◌∷◌, map, refl, ap, ◌∙◌, arith, None}
 use Rattle.std.specs.List.{AllByRecursion}
-use Rattle.law_terms.specs.Faults.{term_fault}
+use Rattle.law_terms.specs.Faults.{first_fault, term_fault}
 use Rattle.law_terms.specs.Formed.{IsFormed, IsFormedType}
-use Rattle.law_terms.specs.Plain.{BoolType, PlainTerm}
+use Rattle.law_terms.specs.Plain.{BoolType, PlainTerm, PlainType}
 use Rattle.law_terms.specs.Typing.{Typed}
 use Rattle.law_terms.proofs.Defaults.{all-join}
 use Rattle.law_folding.specs.Built.{built}
+use Rattle.law_jobs.specs.Jobs.{PlainJob}
+use Rattle.law_jobs.specs.Steps.{asserted}
+use Rattle.smt_cli.specs.Jobs.{job_generated, job_of_terms}
 use Rattle.smt_cli.specs.Generated.{AreBuiltConditions, GeneratedTermsAreConditions, comparison, long_type, generated_terms, next_number, number_after}
 
 -- a number behind another has 64 bits
@@ -53,3 +56,8 @@ together (t ∷ ts) h =
 
 pub generated_conditions : GeneratedTermsAreConditions
 generated_conditions seed count = together (generated_terms seed count) (all_conditions seed count)
+
+-- the terms of a generated job have no fault
+pub terms_faultless : (variables : List (List ℕ × PlainType)) (ts : List PlainTerm) (seed count : ℕ) → job_of_terms variables ts ≡ job_generated seed count → first_fault [] ts ≡ None
+terms_faultless variables ts seed count e =
+    ap (first_fault []) (sym (append-nil ts)) ∙ ap (λ (j : PlainJob). first_fault j.enums (asserted j.steps)) e ∙ ap (first_fault []) (append-nil (generated_terms seed count)) ∙ (generated_conditions seed count).conditions.have_no_fault

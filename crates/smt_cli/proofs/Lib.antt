@@ -1,9 +1,9 @@
-pub mod AsWritten
+pub mod Asking
 pub mod Believing
 pub mod Conditions
-pub mod Encoding
+pub mod FirstSteps
 pub mod Flushing
 pub mod Running
 pub mod Statuses
+pub mod Stopped
 pub mod Summarizing
-pub mod Verdicts

@@ -1,9 +1,10 @@
 -- What the script of a job has, by what its encoder has.
-use Rattle.std.proofs.Common.{◌≡◌, ℕ, List, [], length, map, Option, Some, None, Ok, Err, Result, refl, sym, ap, ◌∙◌}
+use Rattle.std.proofs.Common.{◌≡◌, ℕ, List, [], ◌∷◌, ◌++◌, append-nil, length, map, Option, Some, None, Ok, Err, Result, refl, sym, ap, ◌∙◌}
 use Rattle.std.specs.Io.KnownBytes.{append_known}
 use Rattle.std.specs.Prelude.{IsErrAnd, IsOkUnless, is_some, option_map}
 use Rattle.std.proofs.lemmas.List.{length-map}
-use Rattle.law_terms.specs.Plain.{PlainTerm}
+use Rattle.law_terms.specs.Plain.{PlainTerm, PlainType}
+use Rattle.law_terms.specs.TypeValues.{Enums}
 use Rattle.law_terms.specs.Meanings.{meanings}
 use Rattle.law_terms.specs.Nodes.{Meaning, TermMeaning}
 use Rattle.smt_nodes.specs.Interned.{nodes_of, StandFor}
@@ -15,12 +16,15 @@ use Rattle.law_lines.specs.NameTables.{Tables}
 use Rattle.law_lines.specs.Text.{names, text}
 use Rattle.smt_script.specs.Count.{count_bytes, count_contents}
 use Rattle.smt_script.specs.declared.count.CountSink.{CountSink}
-use Rattle.law_jobs.specs.Jobs.{PlainJob}
+use Rattle.law_lines.specs.Line.{spelled_lines}
+use Rattle.law_lines.specs.Lines.{EncodeCall, fresh, lines_of_call}
+use Rattle.law_jobs.specs.Steps.{AssertStep}
+use Rattle.law_job_scripts.specs.JobTexts.{names_of_job, text_of_job}
 use Rattle.smt_spelling.specs.NodeTexts.{HasName}
 use Rattle.smt_encode.specs.declared.error.EncodeError.{EncodeError}
 use Rattle.smt_encode.specs.declared.error.EncodeError.TheVariants.{Memory}
 use Rattle.smt_spelling.specs.declared.node_names.NodeNames.{NodeNames}
-use Rattle.smt_cli.specs.Jobs.{job_generated}
+use Rattle.smt_cli.specs.Jobs.{job_generated, job_of_terms}
 use Rattle.smt_cli.specs.Generation.{summary_by, summary_lines, summary_of, summary_text}
 use Rattle.smt_cli.specs.declared.summary.Summary.{Summary}
 
@@ -51,11 +55,22 @@ all_counted sink sink' script none put =
     let whole : count_contents sink' ≡ append_known (Some []) script = put ∙ ap (λ (held : List ℕ). append_known (Some held) script) none in
     cc
 
+-- the text and the names of a job that asserts these terms
+one_text : (enums : Enums) (ts : List PlainTerm) → text enums ts ≡ text_of_job enums (AssertStep ts ∷ [])
+one_text enums ts = ap spelled_lines (append-nil (lines_of_call enums (EncodeCall ts) fresh)) ∙ sym (append-nil (spelled_lines (lines_of_call enums (EncodeCall ts) fresh)))
+
+one_names : (enums : Enums) (ts : List PlainTerm) → names enums ts ≡ names_of_job enums (AssertStep ts ∷ [])
+one_names enums ts = refl
+
 -- what was found of a script is its summary
-pub summed_up : (job : PlainJob) (summary : Summary) (script : List ℕ) (s : Tables) (terms : ℕ) → summary ≡ summary_by script s job.variables terms → script ≡ text job.enums job.terms → s ≡ names job.enums job.terms → terms ≡ length job.terms
-    → summary ≡ summary_of job
+pub summed_up : (variables : List (List ℕ × PlainType)) (ts : List PlainTerm) (summary : Summary) (script : List ℕ) (s : Tables) (terms : ℕ) → summary ≡ summary_by script s variables terms → script ≡ text [] ts → s ≡ names [] ts → terms ≡ length ts
+    → summary ≡ summary_of (job_of_terms variables ts)
 unfolding summary_of
-summed_up job summary script s terms e same named many = e ∙ (λ i. summary_by (same i) (named i) job.variables (many i))
+summed_up variables ts summary script s terms e same named many =
+    let written : script ≡ text_of_job [] (AssertStep ts ∷ []) = same ∙ one_text [] ts in
+    let known : s ≡ names_of_job [] (AssertStep ts ∷ []) = named ∙ one_names [] ts in
+    let all : terms ≡ length (ts ++ []) = many ∙ ap length (sym (append-nil ts)) in
+    e ∙ (λ i. summary_by (written i) (known i) variables (all i))
 
 -- the text of the summary of a generated job
 pub says_summary : (bytes : List ℕ) (summary : Summary) (seed count : ℕ) → bytes ≡ summary_lines summary → summary ≡ summary_of (job_generated seed count) → bytes ≡ summary_text seed count

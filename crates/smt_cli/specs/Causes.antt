@@ -1,31 +1,19 @@
 -- Why a run is refused.
-use Rattle.std.specs.Prelude.{ℕ, ◌≡◌, ◌≤◌, ⊤, is_some, length, map, IfSome, IsTrue, List, Option, Some, None}
-use Rattle.law_terms.specs.Faults.{Fault, EmptyEnum as EnumFault, EncodeStringFailed as StringFault, EncodePatternFailed as PatternFault, EnumMissingMember as MemberFault, ExpectRecord as NoRecordFault, MalformedRecordGet as NoOperandFault, MissingTypeEncoding as TypeFault, RecordMissingAttr as AttributeFault}
-use Rattle.law_terms.specs.Plain.{PatternPart, PlainType}
+use Rattle.std.specs.Prelude.{ℕ, ◌≡◌, ⊤, is_some, map, IfSome, IsTrue, List, [], ◌∷◌, Option, Some, None}
+use Rattle.law_terms.specs.Faults.{first_fault}
 use Rattle.law_folding.specs.Built.{built}
-use Rattle.law_lines.specs.Text.{text}
+use Rattle.law_jobs.specs.Jobs.{IsJob, PlainJob}
+use Rattle.law_jobs.specs.Steps.{PlainStep, AssertStep, CheckStep, PopStep, PushStep, asserted, built_steps, checked_steps}
+use Rattle.law_verdicts.specs.Dialogues.{AnsweredCheck}
 use Rattle.smt_script.specs.Sink.{Rose}
-use Rattle.smt_sexpr.specs.Refusals.{IsRefused}
-use Rattle.smt_sexpr.specs.declared.error.SExprParseError.{SExprParseError}
-use Rattle.smt_sexpr.specs.declared.error.SExprParseError.TheVariants.{TooDeep as TextTooDeep}
-use Rattle.law_jobs.specs.Jobs.{HasFault, IsJob, IsTooLong, PlainJob, fault_of, greatest_length, greatest_nesting}
-use Rattle.law_jobs.specs.Outcomes.{JobFault, DuplicateFault, FormFault, LiteralFault, TruthFault, TypeFault as NoTypeFault, TypingFault, UnknownFault, WidthFault}
-use Rattle.smt_jobs.specs.Refused.{IsTextFault}
 use Rattle.smt_solve.specs.Link.{LinkState}
 use Rattle.smt_solve.specs.Starter.{Command as SolverCall, StarterState}
-use Rattle.smt_pool.specs.Checks.{IsUnkilled, Returns, WhyUnchecked}
+use Rattle.smt_runs.specs.Asking.{PutsWords, WhyNotAsked}
+use Rattle.smt_runs.specs.Jobs.{HasFaultOf, IsAJob, IsRefusedAs}
+use Rattle.smt_runs.specs.declared.refusal.CheckRefusal.{CheckRefusal}
+use Rattle.smt_runs.specs.declared.refusal.CheckRefusal.TheVariants as check
 use Rattle.smt_cli.specs.declared.command.Command.{Command}
 use Rattle.smt_cli.specs.declared.command.Command.TheVariants.{Script, Check, Generate, Help, Version}
-use Rattle.smt_pool.specs.declared.check_error.CheckError.TheVariants.{Session as CheckSession}
-use Rattle.smt_pool.specs.declared.check_error.SessionFault.{SessionFault}
-use Rattle.smt_cli.specs.declared.refusal.EncodeRefusal.{EncodeRefusal}
-use Rattle.smt_cli.specs.declared.refusal.EncodeRefusal.TheVariants.{EmptyEnum, EncodeStringFailed, EncodePatternFailed, EnumMissingMember, ExpectRecord, MalformedRecordGet, MissingTypeEncoding, RecordMissingAttr}
-use Rattle.smt_cli.specs.declared.refusal.JobRefusal.{JobRefusal}
-use Rattle.smt_cli.specs.declared.refusal.JobRefusal.TheVariants.{TooLarge, Parse, TooDeep, BadForm, UnknownName, DuplicateName, BadType, BadWidth, BadLiteral, IllTyped, NotBool}
-use Rattle.smt_cli.specs.declared.refusal.PrintRefusal.{PrintRefusal}
-use Rattle.smt_cli.specs.declared.refusal.PrintRefusal.TheVariants.{Encode as PrintEncode, Sink as PrintSink, Memory as PrintWant}
-use Rattle.smt_cli.specs.declared.refusal.ReadRefusal.{ReadRefusal}
-use Rattle.smt_cli.specs.declared.refusal.ReadRefusal.TheVariants.{Job as ReadJob, Source as ReadSource, Memory as ReadWant}
 use Rattle.smt_cli.specs.declared.refusal.Refusal.{Refusal}
 use Rattle.smt_cli.specs.declared.refusal.Refusal.TheVariants.{Usage, Job, Encode, Source, Sink, Start, Session, Memory}
 
@@ -48,84 +36,19 @@ around remaining source_faults contents sink_faults state source out starter = r
   starter = state starter;
 }
 
--- what a run stands on that has a source and a starter, and a sink that holds nothing
-abbrev pub standing : {R P L : Type 0} → (R → Option (List ℕ)) → (R → ℕ) → (P → StarterState L) → R → P → Around L
-standing remaining source_faults state source starter = record {
-  left = remaining source;
-  source_faults = source_faults source;
-  held = None;
-  sink_faults = 0;
-  starter = state starter;
-}
+-- the steps before the first check, or all steps where there is none
+abbrev pub before_check : List PlainStep → List PlainStep
+before_check [] = []
+before_check (CheckStep ∷ steps) = []
+before_check (AssertStep ts ∷ steps) = AssertStep ts ∷ before_check steps
+before_check (PushStep ∷ steps) = PushStep ∷ before_check steps
+before_check (PopStep ∷ steps) = PopStep ∷ before_check steps
 
--- ---- jobs
+-- a job has these bytes, and what is built of its steps before the first check has a fault
+abbrev pub IsFaultyAtFirst : List ℕ → Type 0
+IsFaultyAtFirst bytes = (job : PlainJob) × IsJob bytes job × IsTrue (is_some (first_fault job.enums (map built (asserted (before_check job.steps)))))
 
--- some job has these bytes
-abbrev pub IsAJob : List ℕ → Type 0
-IsAJob bytes = (job : PlainJob) × IsJob bytes job
-
--- no job has these bytes
-abbrev pub IsNoJob : List ℕ → Type 0
-IsNoJob bytes = (job : PlainJob) → IsJob bytes job → ⊥
-
--- there is a fault, and it is of this kind
-abbrev pub IsFaultOf : EncodeRefusal → Option Fault → Type 0
-IsFaultOf EnumMissingMember fault = (type : List ℕ) × (id : List ℕ) × (fault ≡ Some (MemberFault type id))
-IsFaultOf EncodeStringFailed fault = (text : List ℕ) × (fault ≡ Some (StringFault text))
-IsFaultOf EncodePatternFailed fault = (pattern : List PatternPart) × (fault ≡ Some (PatternFault pattern))
-IsFaultOf EmptyEnum fault = (type : List ℕ) × (fault ≡ Some (EnumFault type))
-IsFaultOf MalformedRecordGet fault = fault ≡ Some NoOperandFault
-IsFaultOf MissingTypeEncoding fault = (type : PlainType) × (fault ≡ Some (TypeFault type))
-IsFaultOf ExpectRecord fault = (type : PlainType) × (fault ≡ Some (NoRecordFault type))
-IsFaultOf RecordMissingAttr fault = (attribute : List ℕ) × (fault ≡ Some (AttributeFault attribute))
-
--- a job has these bytes, and the first fault of what is built of it is of this kind
-abbrev pub HasFaultOf : EncodeRefusal → List ℕ → Type 0
-HasFaultOf kind bytes = (job : PlainJob) × IsJob bytes job × IsFaultOf kind (fault_of job)
-
--- a job has these bytes, and what is built of it has no fault
-abbrev pub IsFaultlessJob : List ℕ → Type 0
-IsFaultlessJob bytes = (job : PlainJob) × IsJob bytes job × (fault_of job ≡ None)
-
--- a job has these bytes, and what is built of it has a fault
-abbrev pub IsFaultyScript : List ℕ → Type 0
-IsFaultyScript bytes = (job : PlainJob) × IsJob bytes job × IsTrue (is_some (fault_of job))
-
--- the kind of a fault of a job, as the program names it
-abbrev pub kind_of : JobFault → JobRefusal
-kind_of FormFault = BadForm
-kind_of (UnknownFault name) = UnknownName
-kind_of (DuplicateFault name) = DuplicateName
-kind_of NoTypeFault = BadType
-kind_of WidthFault = BadWidth
-kind_of (LiteralFault text) = BadLiteral
-kind_of TypingFault = IllTyped
-kind_of TruthFault = NotBool
-
--- The bytes are no job: there are too many, or they are no expression, or their first fault is of this kind.
-abbrev pub IsRefusedAs : JobRefusal → List ℕ → Type 0
-IsRefusedAs TooLarge bytes = IsTooLong bytes
-IsRefusedAs Parse bytes = (length bytes ≤ greatest_length) × ((fault : SExprParseError) × IsTextFault fault bytes)
-IsRefusedAs TooDeep bytes = (length bytes ≤ greatest_length) × IsRefused TextTooDeep greatest_nesting bytes
-IsRefusedAs kind bytes = (fault : JobFault) × (kind_of fault ≡ kind) × HasFault bytes fault
-
--- the script of what is built of a job
-abbrev pub script_of_job : PlainJob → List ℕ
-script_of_job job = text job.enums (map built job.terms)
-
--- ---- steps: `failed` is the fact that a count of faults rose
-
--- why no job was read
-abbrev pub HasReadCause : (left : Option (List ℕ)) → (failed : Type 0) → ReadRefusal → Type 0
-HasReadCause left failed (ReadJob kind) = IfSome left (IsRefusedAs kind)
-HasReadCause left failed ReadSource = failed
-HasReadCause left failed ReadWant = ⊤
-
--- why no script was put of terms with this first fault
-abbrev pub HasPrintCause : Option Fault → (failed : Type 0) → PrintRefusal → Type 0
-HasPrintCause fault failed (PrintEncode kind) = IsFaultOf kind fault
-HasPrintCause fault failed PrintSink = failed
-HasPrintCause fault failed PrintWant = ⊤
+-- ---- puts: `failed` is the fact that a count of faults rose
 
 -- why a text was not put
 abbrev pub HasPutCause : (failed : Type 0) → Refusal → Type 0
@@ -159,35 +82,40 @@ module _ {L : Type 0} where
   HasScriptCause before after (Session kind) = ⊥
   HasScriptCause before after Memory = ⊤
 
-  -- why there is no verdict on the job of these bytes
-  abbrev pub IsUnchecked : (state : L → LinkState) → SolverCall → (before after : Around L) → SessionFault → List ℕ → Type 0
-  IsUnchecked state call before after kind bytes = (job : PlainJob) × IsJob bytes job × (fault_of job ≡ None) × WhyUnchecked state before.starter after.starter call (script_of_job job) (CheckSession kind)
+  -- A job has these bytes, and this is why a solver was not asked by all its steps, as they are built. A job with a section `terms` has
+  -- one check, behind its terms.
+  abbrev pub IsStopped : (state : L → LinkState) → (allows : List ℕ → List ℕ → List ℕ → Type 0) → SolverCall → (before after : Around L) → CheckRefusal → List ℕ → Type 0
+  IsStopped state allows call before after why bytes =
+      (job : PlainJob) × (is : IsJob bytes job) × WhyNotAsked state allows before.starter after.starter call job.enums (built_steps (checked_steps is.section job.steps)) before.held after.held (SinkFailed before after) why
 
-  -- why `check` was refused; where the verdict was not put, the link had come back, and was not killed
-  abbrev pub HasCheckCause : (state : L → LinkState) → SolverCall → (before after : Around L) → Refusal → Type 0
-  HasCheckCause state call before after Usage = ⊥
-  HasCheckCause state call before after (Job kind) = IfSome before.left (IsRefusedAs kind)
-  HasCheckCause state call before after (Encode kind) = IfSome before.left (HasFaultOf kind)
-  HasCheckCause state call before after Source = SourceFailed before after
-  HasCheckCause state call before after Sink = SinkFailed before after × IfSome before.left IsFaultlessJob × IfSome before.left (λ bytes. Returns (λ link. IsUnkilled (state link)) before.starter after.starter call)
-  HasCheckCause state call before after Start = StartFailed before after × IfSome before.left IsFaultlessJob
-  HasCheckCause state call before after (Session kind) = IfSome before.left (IsUnchecked state call before after kind)
-  HasCheckCause state call before after Memory = ⊤
+  -- The words of some checks were put, of the last perhaps only a first part.
+  abbrev pub PutsSomeWords : (before after : Around L) → Type 0
+  PutsSomeWords before after = (checks : List AnsweredCheck) × PutsWords before.held after.held checks
+
+  -- why `check` was refused
+  abbrev pub HasCheckCause : (state : L → LinkState) → (allows : List ℕ → List ℕ → List ℕ → Type 0) → SolverCall → (before after : Around L) → Refusal → Type 0
+  HasCheckCause state allows call before after Usage = ⊥
+  HasCheckCause state allows call before after (Job kind) = IfSome before.left (IsRefusedAs kind)
+  HasCheckCause state allows call before after (Encode kind) = IfSome before.left (IsStopped state allows call before after (check.Encode kind))
+  HasCheckCause state allows call before after Source = SourceFailed before after
+  HasCheckCause state allows call before after Sink = SinkFailed before after × IfSome before.left (IsStopped state allows call before after check.Sink)
+  HasCheckCause state allows call before after Start = StartFailed before after × IfSome before.left (IsStopped state allows call before after check.Start)
+  HasCheckCause state allows call before after (Session kind) = IfSome before.left (IsStopped state allows call before after (check.Session kind))
+  HasCheckCause state allows call before after Memory = IfSome before.left (λ bytes. PutsSomeWords before after)
 
   -- why what was asked for was refused
-  abbrev pub HasCause : (state : L → LinkState) → Option Command → SolverCall → (before after : Around L) → Refusal → Type 0
-  HasCause state (Some Script) call before after refusal = HasScriptCause before after refusal
-  HasCause state (Some Check) call before after refusal = HasCheckCause state call before after refusal
-  HasCause state (Some Generate) call before after refusal = HasPutCause (SinkFailed before after) refusal
-  HasCause state (Some Help) call before after refusal = HasPutCause (SinkFailed before after) refusal
-  HasCause state (Some Version) call before after refusal = HasPutCause (SinkFailed before after) refusal
-  HasCause state None call before after refusal = refusal ≡ Usage
+  abbrev pub HasCause : (state : L → LinkState) → (allows : List ℕ → List ℕ → List ℕ → Type 0) → Option Command → SolverCall → (before after : Around L) → Refusal → Type 0
+  HasCause state allows (Some Script) call before after refusal = HasScriptCause before after refusal
+  HasCause state allows (Some Check) call before after refusal = HasCheckCause state allows call before after refusal
+  HasCause state allows (Some Generate) call before after refusal = HasPutCause (SinkFailed before after) refusal
+  HasCause state allows (Some Help) call before after refusal = HasPutCause (SinkFailed before after) refusal
+  HasCause state allows (Some Version) call before after refusal = HasPutCause (SinkFailed before after) refusal
+  HasCause state allows None call before after refusal = refusal ≡ Usage
 
--- What a sink holds behind a refusal: what it held, where the words, the source or the job were refused, or no verdict came.
+-- What a sink holds behind a refusal: what it held, where the words, the source or the job were refused, or no solver started.
 abbrev pub LeavesOutput : (old new : Option (List ℕ)) → Refusal → Type 0
 LeavesOutput old new Usage = new ≡ old
 LeavesOutput old new (Job why) = new ≡ old
 LeavesOutput old new Source = new ≡ old
 LeavesOutput old new Start = new ≡ old
-LeavesOutput old new (Session kind) = new ≡ old
 LeavesOutput old new refusal = ⊤

@@ -3,8 +3,9 @@ use Rattle.std.specs.Prelude.{ℕ, ◌-◌, ◌^◌, ◌%◌, ◌≡◌, Bool, c
 use Rattle.std.specs.Io.KnownBytes.{append_known}
 use Rattle.law_terms.specs.Plain.{PlainType, VariableTerm}
 use Rattle.law_lines.specs.NameTables.{Tables, name_of_term}
-use Rattle.law_lines.specs.Text.{names, text}
 use Rattle.law_jobs.specs.Jobs.{PlainJob}
+use Rattle.law_jobs.specs.Steps.{asserted}
+use Rattle.law_job_scripts.specs.JobTexts.{names_of_job, text_of_job}
 use Rattle.smt_cli.specs.Jobs.{job_generated}
 use Rattle.smt_cli.specs.declared.summary.Summary.{Summary}
 
@@ -30,7 +31,7 @@ summary_by script s variables terms = record {
 
 -- what the script of a job has
 unfoldable pub summary_of : PlainJob → Summary
-summary_of job = summary_by (text job.enums job.terms) (names job.enums job.terms) job.variables (length job.terms)
+summary_of job = summary_by (text_of_job job.enums job.steps) (names_of_job job.enums job.steps) job.variables (length (asserted job.steps))
 
 -- a line of a word and a number
 abbrev pub number_line : List ℕ → ℕ → List ℕ

@@ -1,26 +1,20 @@
 -- What a run does, and what it says.
-use Rattle.std.specs.Prelude.{ℕ, ◌+◌, ◌≡◌, ◌↔◌, ◌⊎◌, map, option_map, codes, IfSome, IsTrue, is_some, List, [], ◌++◌, Option, Some, None, Result}
+use Rattle.std.specs.Prelude.{ℕ, ◌≡◌, ◌⊎◌, option_map, IfSome, List, [], ◌++◌, Option, Some, None, Result}
 use Rattle.std.specs.Io.KnownBytes.{append_known}
-use Rattle.law_terms.specs.Interpretations.{IsInterpretation, restrict}
-use Rattle.law_terms.specs.Tables.{Interpretation}
-use Rattle.law_folding.specs.Built.{built}
-use Rattle.law_scripts.specs.Value.{IsModel}
-use Rattle.law_theorem.specs.CarriedInterpretations.{carry_interpretation}
-use Rattle.law_theorem.specs.Headline.{Headline}
-use Rattle.law_theorem.specs.WellWritten.{IsWellWritten, most_for_terms}
-use Rattle.law_terms.specs.Meaning.{AreTrue}
-use Rattle.law_lines.specs.Text.{names, text}
 use Rattle.smt_script.specs.Sink.{Puts}
 use Rattle.smt_script.specs.declared.sink.SinkError.{SinkError}
-use Rattle.smt_solve.specs.Answers.{decision_word}
 use Rattle.smt_solve.specs.Link.{LinkState}
 use Rattle.smt_solve.specs.Starter.{Command as SolverCall}
-use Rattle.smt_solve.specs.declared.answer.Decision.{Decision}
-use Rattle.smt_solve.specs.declared.answer.Decision.TheVariants.{Unsat}
+use Rattle.law_verdicts.specs.Dialogues.{sent_for}
 use Rattle.law_verdicts.specs.Honesty.{IsHonest}
 use Rattle.law_jobs.specs.Jobs.{IsJob, PlainJob, fault_of}
-use Rattle.smt_cli.specs.Causes.{Around, IsFaultlessJob, IsFaultyScript, IsNoJob, LeavesOutput, SinkFailed, SourceFailed, StartFailed, script_of_job}
-use Rattle.smt_pool.specs.Checks.{Decides}
+use Rattle.law_jobs.specs.Steps.{PlainStep, built_steps, checked_steps}
+use Rattle.law_job_scripts.specs.Asked.{AreBelieved, IsTold}
+use Rattle.law_job_scripts.specs.JobTexts.{text_of_job}
+use Rattle.law_job_scripts.specs.Meaning.{MeansSteps}
+use Rattle.smt_runs.specs.Asking.{AsksSolver}
+use Rattle.smt_runs.specs.Jobs.{IsFaultlessJob, IsFaultyScript, IsNoJob}
+use Rattle.smt_cli.specs.Causes.{Around, IsFaultyAtFirst, LeavesOutput, SinkFailed, SourceFailed, StartFailed}
 use Rattle.smt_cli.specs.Generation.{Summarizes}
 use Rattle.smt_cli.specs.Refusal.{line_of, status_of}
 use Rattle.smt_cli.specs.Words.{help_text, version_text}
@@ -30,18 +24,16 @@ use Rattle.smt_cli.specs.declared.refusal.Refusal.{Refusal}
 
 -- ---- `script`
 
--- The bytes are a job, and the script of what is built of its terms was put. That is a script whose models are exactly the
--- interpretations that make the built terms true, and an interpretation of the terms as they are written makes them true
--- exactly where what the built terms reach of it is carried to a model. The script is well sorted, defines each
--- built term once from the names and the inline literals of its parts, and has no more commands than what they reach asks for.
+-- The bytes are a job, and the script of what is built of its steps was put, with a line `(check-sat)` for each check. What that says of
+-- the terms as they are written which are current at its end is said by `MeansSteps`: the script's models are exactly the
+-- interpretations that make the built ones true, and an interpretation of these terms as they are written makes them true exactly
+-- where what the built ones reach of it is carried to a model. A job with a section `terms` has all its terms current at its end.
 pub record Prints (old new : Option (List ℕ)) (bytes : List ℕ) : Type 0 where
   pub job : PlainJob
   pub is_job : IsJob bytes job
   pub faultless : fault_of job ≡ None
-  pub printed : new ≡ append_known old (text job.enums (map built job.terms))
-  pub means : Headline job.enums (names job.enums (map built job.terms)) (map built job.terms) (text job.enums (map built job.terms))
-  pub well_written : IsWellWritten job.enums (text job.enums (map built job.terms)) (map built job.terms) (names job.enums (map built job.terms)) (1 + most_for_terms (map built job.terms))
-  pub true_as_written : (I : Interpretation) → IsInterpretation job.enums job.terms I → AreTrue I job.terms ↔ IsModel (carry_interpretation job.enums (names job.enums (map built job.terms)) (restrict I (map built job.terms))) means.state
+  pub printed : new ≡ append_known old (text_of_job job.enums (built_steps job.steps))
+  pub means : MeansSteps job.enums job.steps
 
 -- The source is read to its end, and what it had left, where it told that, is as said.
 pub record Reads (P : List ℕ → Type 0) (remaining left : Option (List ℕ)) : Type 0 where
@@ -50,30 +42,22 @@ pub record Reads (P : List ℕ → Type 0) (remaining left : Option (List ℕ)) 
 
 -- ---- `check`
 
--- the word of a decision, with its line feed
-abbrev pub verdict_line : Decision → List ℕ
-verdict_line d = decision_word d ++ codes "\n"
-
--- It tells what was sent and read.
-abbrev pub IsTold : LinkState → Type 0
-IsTold s = IsTrue (is_some s.sent) × IsTrue (is_some s.was_read)
+-- the steps of a job by which a solver is asked: a job with a section `terms` has one check, behind its terms
+abbrev pub steps_to_check : (bytes : List ℕ) (job : PlainJob) → IsJob bytes job → List PlainStep
+steps_to_check bytes job is = checked_steps is.section job.steps
 
 module _ {L : Type 0} (state : L → LinkState) (allows : List ℕ → List ℕ → List ℕ → Type 0) (call : SolverCall) (before after : Around L) where
-  -- The bytes are a job. A solver was started by the command; it was sent the job's script, between `(set-logic ALL)` and
-  -- `(check-sat)`; its link came back, and the one line that it gave says the decision. Where the starter is honest and that is
-  -- `unsat`, no interpretation of the terms as they are written makes them all true.
-  pub record IsChecked (decision : Decision) (bytes : List ℕ) : Type 0 where
+  -- The bytes are a job. A solver was started by the command and asked by the steps of the job, as they are built: it was sent
+  -- `(set-logic ALL)` and the text of these steps, its link came back, and for each check the word of the one line that it gave was put,
+  -- in order. Where the starter is honest, each `unsat` says that no interpretation makes all terms true, as they are written, that are
+  -- current at its check.
+  pub record Checks (bytes : List ℕ) : Type 0 where
     pub job : PlainJob
     pub is_job : IsJob bytes job
     pub faultless : fault_of job ≡ None
-    pub decides : Decides state allows before.starter after.starter call (script_of_job job) decision
-    pub believed : IsTold (state decides.link) → IsHonest allows → decision ≡ Unsat → (I : Interpretation) → IsInterpretation job.enums job.terms I → AreTrue I job.terms → ⊥
-
-  -- The bytes are a job that was checked, and the word of the decision was put.
-  pub record Checks (bytes : List ℕ) : Type 0 where
-    pub decision : Decision
-    pub checked : IsChecked decision bytes
-    pub printed : after.held ≡ append_known before.held (verdict_line decision)
+    pub asks : AsksSolver state allows before.starter after.starter call job.enums (built_steps (steps_to_check bytes job is_job)) before.held after.held
+    pub sent : sent_for asks.checks ++ asks.rest ≡ text_of_job job.enums (built_steps (steps_to_check bytes job is_job))
+    pub believed : IsTold (state asks.returns.link) → IsHonest allows → AreBelieved job.enums (steps_to_check bytes job is_job) asks.checks
 
   -- What was asked for is done, where `gen` names this generated job.
   abbrev pub IsDone : (generation : Option (ℕ × ℕ)) → Option Command → Type 0
@@ -87,12 +71,15 @@ module _ {L : Type 0} (state : L → LinkState) (allows : List ℕ → List ℕ 
 -- ---- what a status says
 
 -- But for want of memory, and where nothing failed, the script of a job without fault is printed, such a job is checked or its
--- session fails, a job with a fault is refused by the encoder, what is no job is refused as such, the summary of a generated job
--- is printed, and so is the text of another word.
+-- session fails, a job with a fault is refused by the encoder, though not where its session fails at a check before that, what is no
+-- job is refused as such, the summary of a generated job is printed, and so is the text of another word. A fault before the first
+-- check comes before the solver starts.
 pub record IsComplete {L : Type 0} (command : Option Command) (before after : Around L) (status : ℕ) : Type 0 where
   pub accepted : command ≡ Some Script → ¬ SourceFailed before after → ¬ SinkFailed before after → IfSome before.left (λ bytes. IsFaultlessJob bytes → (status ≡ 0) ⊎ (status ≡ 7))
   pub checked : command ≡ Some Check → ¬ SourceFailed before after → ¬ SinkFailed before after → ¬ StartFailed before after → IfSome before.left (λ bytes. IsFaultlessJob bytes → (status ≡ 0) ⊎ ((status ≡ 7) ⊎ (status ≡ 8)))
-  pub unwritten : (command ≡ Some Script) ⊎ (command ≡ Some Check) → ¬ SourceFailed before after → ¬ SinkFailed before after → IfSome before.left (λ bytes. IsFaultyScript bytes → (status ≡ 4) ⊎ (status ≡ 7))
+  pub unwritten : command ≡ Some Script → ¬ SourceFailed before after → ¬ SinkFailed before after → IfSome before.left (λ bytes. IsFaultyScript bytes → (status ≡ 4) ⊎ (status ≡ 7))
+  pub unanswered : command ≡ Some Check → ¬ SourceFailed before after → ¬ SinkFailed before after → ¬ StartFailed before after → IfSome before.left (λ bytes. IsFaultyScript bytes → (status ≡ 4) ⊎ ((status ≡ 7) ⊎ (status ≡ 8)))
+  pub unasked : command ≡ Some Check → ¬ SourceFailed before after → ¬ SinkFailed before after → IfSome before.left (λ bytes. IsFaultyAtFirst bytes → (status ≡ 4) ⊎ (status ≡ 7))
   pub rejected : (command ≡ Some Script) ⊎ (command ≡ Some Check) → ¬ SourceFailed before after → IfSome before.left (λ bytes. IsNoJob bytes → (status ≡ 3) ⊎ (status ≡ 7))
   pub summarized : command ≡ Some Generate → ¬ SinkFailed before after → (status ≡ 0) ⊎ (status ≡ 7)
   pub printed : (command ≡ Some Help) ⊎ (command ≡ Some Version) → ¬ SinkFailed before after → (status ≡ 0) ⊎ (status ≡ 7)

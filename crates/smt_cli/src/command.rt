@@ -15,13 +15,14 @@ pub(crate) const HELP: &str = "\
 usage: smtcli script or check PATH ARGS.. or gen SEED N
 
 script  reads a job from standard input and prints its script in SMT-LIB 2.7
-check   reads a job from standard input, asks the solver PATH with these ARGS whether all its terms can be true together, and
-        prints sat, unsat or unknown; for example: smtcli check cvc5 --lang smt < FILE
+check   reads a job from standard input, asks the solver PATH with these ARGS whether its terms can be true together, and
+        prints sat, unsat or unknown for each check; for example: smtcli check cvc5 --lang smt --incremental < FILE
 gen     makes a job of N terms from the number SEED, N from 1 to 100000 and SEED below 2^64, and prints six lines: how many
         terms it has, how many variables, definitions, assertions and bytes its script has, and the sum of these bytes
 
-job:  (job (enums (\"T\" \"member\" ..) ..) (vars (\"id\" TYPE) ..) (funs (\"id\" TYPE TYPE) ..) (terms t ..)), where ; begins
-      a comment, and \\u{e9} in a string is the character of this code point
+job:  (job (enums (\"T\" \"member\" ..) ..) (vars (\"id\" TYPE) ..) (funs (\"id\" TYPE TYPE) ..) (terms t ..)), or (steps S ..) for
+      the terms; ; begins a comment, and \\u{e9} in a string is the character of this code point
+S:    (assert t ..), (push), (pop) or (check); with terms, one check stands behind them
 TYPE: Bool, (BitVec N), String, (Entity \"T\"), (Option TYPE), (Set TYPE), (Record (\"a\" TYPE) ..), Decimal, IpAddr, Datetime
       or Duration
 t:    true, false, \"text\", #b01, #x2a, (bv N NUMBER), (long \"-5\"), (entity \"T\" \"id\"), (decimal \"-1.5\"),

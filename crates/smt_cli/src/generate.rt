@@ -1,16 +1,24 @@
 // Jobs by their seeds.
 ghost use Rattle.std.specs.Prelude.{◌≡◌, IfOk};
 ghost use Rattle.smt_job_declarations.specs.DeclarationView.{declarations};
-ghost use Rattle.smt_jobs.specs.Numbered.{numbered_job, numbered_terms};
+ghost use Rattle.smt_jobs.specs.Numbered.{terms_begun};
 ghost use Rattle.smt_cli.specs.Generated.{generated_terms, generated_variables};
-ghost use Rattle.smt_cli.specs.Jobs.{job_generated};
+ghost use Rattle.smt_cli.specs.Jobs.{job_generated, job_of_terms};
 
 use crate::terms::{VARIABLES, comparison, next_number, variable};
-use smt_job_declarations::{UufList, VarList};
-use smt_jobs::{NumberedJob, NumberedTerms, TermSink};
-use smt_nodes::Interner;
-use smt_term::{EnumTable, TermError};
+use smt_job_declarations::VarList;
+use smt_jobs::{NumberedSteps, StepSink};
+use smt_term::TermError;
 use std::alloc::Global;
+
+/// A generated job. It declares no enum types and no functions.
+#[derive(Drop)]
+pub(crate) struct GeneratedJob {
+    /// Its variables.
+    pub(crate) vars: VarList,
+    /// The terms of its one assertion, by their numbers.
+    pub(crate) terms: NumberedSteps,
+}
 
 /// The variables of each generated job.
 fn variables(alloc: Global) -> Result<VarList, TermError>
@@ -24,13 +32,10 @@ fn variables(alloc: Global) -> Result<VarList, TermError>
 }
 
 /// The terms of a generated job, by their numbers. Each is let go once it has its number.
-fn numbered(alloc: Global, seed: u64, count: u32) -> Result<NumberedTerms, TermError>
-    ensures { IfOk result (λ terms. numbered_terms terms ≡ generated_terms seed count) }
+fn numbered(alloc: Global, seed: u64, count: u32) -> Result<NumberedSteps, TermError>
+    ensures { IfOk result (λ terms. terms_begun terms ≡ generated_terms seed count) }
 {
-    let mut terms = NumberedTerms {
-        nodes: Interner::new(alloc),
-        ids: Vec::new(alloc),
-    };
+    let mut terms = NumberedSteps::new(alloc);
     let mut number = seed;
     for place in 0..count {
         number = next_number(number);
@@ -46,14 +51,12 @@ fn numbered(alloc: Global, seed: u64, count: u32) -> Result<NumberedTerms, TermE
 ///
 /// # Errors
 /// `Memory`, where there is none for the job.
-pub(crate) fn generated_job(alloc: Global, seed: u64, count: u32) -> Result<NumberedJob, TermError>
-    ensures { IfOk result (λ job. numbered_job job ≡ job_generated seed count) }
+pub(crate) fn generated_job(alloc: Global, seed: u64, count: u32) -> Result<GeneratedJob, TermError>
+    ensures { IfOk result (λ job. job_of_terms (declarations job.vars) (terms_begun job.terms) ≡ job_generated seed count) }
 {
     let vars = variables(alloc)?;
-    Ok(NumberedJob {
-        enums: EnumTable::new(alloc),
+    Ok(GeneratedJob {
         vars,
-        funs: UufList::new(alloc),
         terms: numbered(alloc, seed, count)?,
     })
 }

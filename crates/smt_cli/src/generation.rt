@@ -1,28 +1,27 @@
 // What the scripts of generated jobs have.
-ghost use Rattle.std.specs.Prelude.{◌≡◌, ◌<◌, ◌≤◌, IfErr, IfOk, IsOkUnless, None, OnOk, is_some};
+ghost use Rattle.std.specs.Prelude.{[], ◌≡◌, ◌<◌, ◌≤◌, IfErr, IfOk, IsOkUnless, None, OnOk, is_some};
 ghost use Rattle.std.specs.Io.KnownBytes.{append_known};
-ghost use Rattle.smt_types.specs.Enums.{enums_of};
 ghost use Rattle.law_terms.specs.Faults.{first_fault};
 ghost use Rattle.smt_term.specs.View.{plain_term};
 ghost use Rattle.law_lines.specs.NameTables.{Tables, name_of_term};
 ghost use Rattle.smt_script.specs.Count.{count_bytes};
 ghost use Rattle.smt_script.specs.Sink.{Rose};
 ghost use Rattle.smt_job_declarations.specs.DeclarationView.{declarations, plain_declaration};
-ghost use Rattle.smt_jobs.specs.Numbered.{numbered_job, numbered_terms};
+ghost use Rattle.smt_jobs.specs.Numbered.{terms_begun};
 ghost use Rattle.smt_encode.specs.Encoded.{sink_of, HasNames};
-ghost use Rattle.smt_cli.specs.Jobs.{job_generated};
+ghost use Rattle.smt_cli.specs.Jobs.{job_generated, job_of_terms};
 ghost use Rattle.smt_cli.specs.Causes.{HasPutCause};
 ghost use Rattle.smt_cli.specs.Generation as generation;
 ghost use Rattle.smt_cli.specs.Generation.{declared_among, summary_by, summary_of, summary_text};
 
-use crate::generate::generated_job;
+use crate::generate::{GeneratedJob, generated_job};
 use crate::refusal::Refusal;
 use crate::summary::Summary;
 use smt_encode::{EncodeError, Encoder, Steps};
 use smt_job_declarations::VarList;
-use smt_jobs::{NumberedJob, NumberedTerms};
+use smt_jobs::NumberedSteps;
 use smt_script::{CountSink, Sink};
-use smt_term::{Term, TermError, TermVar};
+use smt_term::{EnumTable, Term, TermError, TermVar};
 use std::alloc::Global;
 use std::marker::Brand;
 use std::sync::ledger::{Blank, Ledger};
@@ -79,26 +78,22 @@ fn summarized(
 /// Encodes the terms of a job onto a sink that counts, and counts the look-ups by a ledger of its own.
 fn count_script<L: Ledger>(
     alloc: Global,
-    job: NumberedJob,
+    job: GeneratedJob,
     blank: Blank,
 ) -> Result<Summary, EncodeError>
     requires name { blank.name ≡ L.name }
     requires parts { blank.parts ≡ L.parts }
     requires some { 0 < blank.parts }
-    ensures summary { IfOk result (λ summary. summary ≡ summary_of (numbered_job job)) }
-    ensures refused { first_fault (enums_of job.enums) (numbered_terms job.terms) ≡ None → IsOkUnless result EncodeError.Memory }
+    ensures summary { IfOk result (λ summary. summary ≡ summary_of (job_of_terms (declarations job.vars) (terms_begun job.terms))) }
+    ensures refused { first_fault [] (terms_begun job.terms) ≡ None → IsOkUnless result EncodeError.Memory }
 {
-    let NumberedJob {
-        enums,
-        vars,
-        terms,
-        ..
-    } = job;
-    let NumberedTerms { nodes, ids } = terms;
-    let mut steps = Steps::<L>::new(blank);
+    let GeneratedJob { vars, terms } = job;
+    let NumberedSteps { nodes, begun, .. } = terms;
+    let enums = EnumTable::new(alloc);
+    let mut look_ups = Steps::<L>::new(blank);
     let mut encoder = Encoder::with_nodes(alloc, &enums, nodes, CountSink::new());
-    encoder.encode_nodes(ids.as_slice(), &mut steps)?;
-    Ok(summarized(encoder, &vars, ids.len())?)
+    encoder.encode_nodes(begun.as_slice(), &mut look_ups)?;
+    Ok(summarized(encoder, &vars, begun.len())?)
 }
 
 /// Want of memory, as calls that make terms say it.

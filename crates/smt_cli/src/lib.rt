@@ -1,4 +1,4 @@
-//! The program's run: a job read from a source, and its script put to a sink, or the verdict of a solver on it; or the summary
+//! The program's run: a job read from a source, and its script put to a sink, or the verdicts of a solver on it; or the summary
 //! of a job that is made from a number.
 //!
 //! Read `specs/Run.antt` first, which says what a run does, then `Causes`, which says why one is refused, `Refusal`, which has
@@ -8,6 +8,7 @@
 //! encoder does with many terms, and needs no bytes that are read. `specs/Generation.antt` has its summary.
 #![tactic(auto, using(smt_term::specs::View::views))]
 
+mod checking;
 mod command;
 mod generate;
 mod generation;
@@ -21,10 +22,11 @@ mod terms;
 
 pub use command::Command;
 pub use program::run;
-pub use refusal::{EncodeRefusal, JobRefusal, Refusal};
+pub use refusal::Refusal;
 pub use smt_job_declarations::{JobError, UufList, VarList};
-pub use smt_jobs::{Job, TermSink, read_job};
+pub use smt_jobs::{Job, Section, Step, StepList, StepSink, read_job};
 pub use smt_pool::SessionFault;
+pub use smt_runs::{EncodeRefusal, JobRefusal};
 pub use smt_script::{
     InputError, MemorySource, ReadSource, Source, SourceError, SourceFault, read_input,
 };

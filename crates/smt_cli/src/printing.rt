@@ -1,26 +1,23 @@
 // The script of a job.
-ghost use Rattle.std.specs.Prelude.{◌≡◌, ◌<◌, ◌≤◌, IfErr, IfOk, IsErrOf, None, OnOk, Some};
-ghost use Rattle.std.specs.Io.KnownBytes.{append_known};
+ghost use Rattle.std.specs.Prelude.{◌≡◌, ◌<◌, ◌≤◌, IfErr, IsErrOf, OnOk};
 ghost use Rattle.smt_types.specs.Enums.{enums_of};
 ghost use Rattle.law_terms.specs.Faults.{first_fault};
-ghost use Rattle.law_terms.specs.Typing.{AreBoolean};
-ghost use Rattle.law_theorem.specs.Headline.{Headline};
-ghost use Rattle.law_lines.specs.Text.{names, text};
-ghost use Rattle.smt_script.specs.Memory.{list_bytes};
+ghost use Rattle.law_jobs.specs.Steps.{AreBalanced, asserted};
 ghost use Rattle.smt_script.specs.Sink.{Rose};
-ghost use Rattle.smt_jobs.specs.Numbered.{numbered_terms};
+ghost use Rattle.smt_jobs.specs.Numbered.{numbered_steps};
 ghost use Rattle.smt_encode.specs.Refusals.{HasCause as CausedBy};
-ghost use Rattle.smt_cli.specs.Causes.{HasPrintCause};
+ghost use Rattle.smt_runs.specs.Jobs.{HasPrintCause};
+ghost use Rattle.smt_runs.specs.Pieces.{PutsSteps};
 
-use crate::refusal::{EncodeRefusal, PrintRefusal};
-use smt_encode::{EncodeError, Encoder, Steps};
-use smt_jobs::{NumberedJob, NumberedTerms};
-use smt_script::{ListSink, Sink};
+use smt_encode::{EncodeError, Steps};
+use smt_jobs::{NumberedJob, NumberedSteps};
+use smt_runs::{PrintRefusal, put_steps};
+use smt_script::Sink;
 use std::alloc::Global;
 use std::marker::Brand;
 use std::sync::ledger::{Blank, Ledger};
 
-/// Encodes the terms of a job, and counts the look-ups by a ledger of its own.
+/// Encodes the steps of a job, and counts the look-ups by a ledger of its own.
 fn encode_job<L: Ledger, W: Sink>(
     alloc: Global,
     job: NumberedJob,
@@ -30,77 +27,31 @@ fn encode_job<L: Ledger, W: Sink>(
     requires name { blank.name ≡ L.name }
     requires parts { blank.parts ≡ L.parts }
     requires some { 0 < blank.parts }
-    ensures text { OnOk result (W.contents out.new ≡ append_known (W.contents out.old) (text (enums_of job.enums) (numbered_terms job.terms))) }
-    ensures headline { AreBoolean (numbered_terms job.terms) → OnOk result (Headline (enums_of job.enums) (names (enums_of job.enums) (numbered_terms job.terms)) (numbered_terms job.terms) (text (enums_of job.enums) (numbered_terms job.terms))) }
-    ensures refused { CausedBy (W.faults out.old) (W.faults out.new) (first_fault (enums_of job.enums) (numbered_terms job.terms)) result }
-    ensures faultless { OnOk result (first_fault (enums_of job.enums) (numbered_terms job.terms) ≡ None) }
+    requires balanced { AreBalanced 0 (numbered_steps job.steps) }
+    ensures puts { OnOk result (PutsSteps (enums_of job.enums) (W.contents out.old) (W.contents out.new) (numbered_steps job.steps)) }
+    ensures refused { CausedBy (W.faults out.old) (W.faults out.new) (first_fault (enums_of job.enums) (asserted (numbered_steps job.steps))) result }
     ensures fresh { IsErrOf result EncodeError.Spent → ⊥ }
     ensures later { W.faults out.old ≤ W.faults out.new }
 {
-    let NumberedJob { enums, terms, .. } = job;
-    let NumberedTerms { nodes, ids } = terms;
-    let mut steps = Steps::<L>::new(blank);
-    let mut encoder = Encoder::with_nodes(alloc, &enums, nodes, out);
-    let outcome = encoder.encode_nodes(ids.as_slice(), &mut steps);
-    let _ = encoder.into_script();
-    outcome
+    let NumberedJob { enums, steps, .. } = job;
+    let NumberedSteps { nodes, steps, .. } = steps;
+    let mut look_ups = Steps::<L>::new(blank);
+    put_steps(alloc, &enums, nodes, steps.as_slice(), out, &mut look_ups)
 }
 
-/// Puts the script of a job.
+/// Puts the script of a job, with a line `(check-sat)` for each check.
 pub(crate) fn put_script<W: Sink>(
     alloc: Global,
     job: NumberedJob,
     out: &mut W,
 ) -> Result<(), PrintRefusal>
-    ensures text { OnOk result (W.contents out.new ≡ append_known (W.contents out.old) (text (enums_of job.enums) (numbered_terms job.terms))) }
-    ensures headline { AreBoolean (numbered_terms job.terms) → OnOk result (Headline (enums_of job.enums) (names (enums_of job.enums) (numbered_terms job.terms)) (numbered_terms job.terms) (text (enums_of job.enums) (numbered_terms job.terms))) }
-    ensures faultless { OnOk result (first_fault (enums_of job.enums) (numbered_terms job.terms) ≡ None) }
-    ensures refused { IfErr result (HasPrintCause (first_fault (enums_of job.enums) (numbered_terms job.terms)) (Rose (W.faults out.old) (W.faults out.new))) }
+    requires balanced { AreBalanced 0 (numbered_steps job.steps) }
+    ensures puts { OnOk result (PutsSteps (enums_of job.enums) (W.contents out.old) (W.contents out.new) (numbered_steps job.steps)) }
+    ensures refused { IfErr result (HasPrintCause (first_fault (enums_of job.enums) (asserted (numbered_steps job.steps))) (Rose (W.faults out.old) (W.faults out.new))) }
     ensures later { W.faults out.old ≤ W.faults out.new }
 {
     match encode_job::<Brand, W>(alloc, job, out, Blank::new(1)) {
         Ok(()) => Ok(()),
-        Err(EncodeError::Io) => Err(PrintRefusal::Sink),
-        Err(EncodeError::EnumMissingMember(_)) => {
-            Err(PrintRefusal::Encode(EncodeRefusal::EnumMissingMember))
-        }
-        Err(EncodeError::EncodeStringFailed(_)) => {
-            Err(PrintRefusal::Encode(EncodeRefusal::EncodeStringFailed))
-        }
-        Err(EncodeError::EncodePatternFailed(_)) => {
-            Err(PrintRefusal::Encode(EncodeRefusal::EncodePatternFailed))
-        }
-        Err(EncodeError::EmptyEnum(_)) => Err(PrintRefusal::Encode(EncodeRefusal::EmptyEnum)),
-        Err(EncodeError::MalformedRecordGet) => {
-            Err(PrintRefusal::Encode(EncodeRefusal::MalformedRecordGet))
-        }
-        Err(EncodeError::MissingTypeEncoding(_)) => {
-            Err(PrintRefusal::Encode(EncodeRefusal::MissingTypeEncoding))
-        }
-        Err(EncodeError::ExpectRecord(_)) => {
-            Err(PrintRefusal::Encode(EncodeRefusal::ExpectRecord))
-        }
-        Err(EncodeError::RecordMissingAttr(_)) => {
-            Err(PrintRefusal::Encode(EncodeRefusal::RecordMissingAttr))
-        }
-        Err(EncodeError::Memory) => Err(PrintRefusal::Memory),
-        // The encoder was a new one.
-        Err(EncodeError::Spent) => unreachable!(),
-        // Only `pop` gives this.
-        Err(EncodeError::NoScope) => unreachable!(),
-        // No call of an encoder gives this.
-        Err(EncodeError::BitVecError(_)) => unreachable!(),
+        Err(error) => Err(PrintRefusal::of(error)),
     }
-}
-
-/// The script of a job, in memory.
-pub(crate) fn script_of(alloc: Global, job: NumberedJob) -> Result<ListSink, PrintRefusal>
-    ensures text { IfOk result (λ script. list_bytes script ≡ text (enums_of job.enums) (numbered_terms job.terms)) }
-    ensures headline { AreBoolean (numbered_terms job.terms) → OnOk result (Headline (enums_of job.enums) (names (enums_of job.enums) (numbered_terms job.terms)) (numbered_terms job.terms) (text (enums_of job.enums) (numbered_terms job.terms))) }
-    ensures faultless { OnOk result (first_fault (enums_of job.enums) (numbered_terms job.terms) ≡ None) }
-    ensures refused { IfErr result (HasPrintCause (first_fault (enums_of job.enums) (numbered_terms job.terms)) ⊥) }
-{
-    let mut script = ListSink::new(alloc);
-    put_script(alloc, job, &mut script)?;
-    Ok(script)
 }

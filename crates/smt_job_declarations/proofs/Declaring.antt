@@ -17,7 +17,7 @@ use Rattle.law_jobs.specs.Declarations.{Declarations, declared, declared_by}
 use Rattle.smt_job_declarations.specs.DeclarationView.{DeclaresNext}
 use Rattle.smt_job_declarations.specs.ReadAs.{IsFaultIn, IsReadAs, plain_list}
 use Rattle.smt_job_declarations.specs.declared.error.JobError.{JobError}
-use Rattle.smt_job_declarations.specs.declared.error.JobError.TheVariants.{TooLarge, Parse, TooDeep, BadForm, UnknownName, DuplicateName, BadType, BadWidth, BadLiteral, IllTyped, NotBool, Memory}
+use Rattle.smt_job_declarations.specs.declared.error.JobError.TheVariants.{TooLarge, Parse, TooDeep, BadForm, UnknownName, DuplicateName, BadType, BadWidth, BadLiteral, IllTyped, NotBool, Unbalanced, Memory}
 use Rattle.smt_job_declarations.proofs.Reading.{passes_on}
 
 other_bytes : (xs ys : List ℕ) → bytes_eq xs ys ≡ false → bytes_eq ys xs ≡ false
@@ -53,6 +53,7 @@ declares_next has ds d stated (Err BadWidth) p q r = absurd (cc)
 declares_next has ds d stated (Err (BadLiteral n)) p q r = absurd (cc)
 declares_next has ds d stated (Err IllTyped) p q r = absurd (cc)
 declares_next has ds d stated (Err NotBool) p q r = absurd (cc)
+declares_next has ds d stated (Err Unbalanced) p q r = absurd (cc)
 
 -- ---- one after the other
 

@@ -4,7 +4,7 @@ use Rattle.std.specs.Prelude.{IsErrAnd}
 use Rattle.law_jobs.specs.Outcomes.{JobFault, Outcome, followed, mapped}
 use Rattle.smt_job_declarations.specs.ReadAs.{IsFaultIn, IsReadAs}
 use Rattle.smt_job_declarations.specs.declared.error.JobError.{JobError}
-use Rattle.smt_job_declarations.specs.declared.error.JobError.TheVariants.{TooLarge, Parse, TooDeep, BadForm, UnknownName, DuplicateName, BadType, BadWidth, BadLiteral, IllTyped, NotBool, Memory}
+use Rattle.smt_job_declarations.specs.declared.error.JobError.TheVariants.{TooLarge, Parse, TooDeep, BadForm, UnknownName, DuplicateName, BadType, BadWidth, BadLiteral, IllTyped, NotBool, Unbalanced, Memory}
 
 -- ---- errors that are passed on
 
@@ -21,6 +21,7 @@ fault_passes BadWidth whole part h p = p _ h
 fault_passes (BadLiteral n) whole part h p = p _ h
 fault_passes IllTyped whole part h p = p _ h
 fault_passes NotBool whole part h p = p _ h
+fault_passes Unbalanced whole part h p = p _ h
 fault_passes Memory whole part h p = tt
 
 -- an error of a part is one of the whole

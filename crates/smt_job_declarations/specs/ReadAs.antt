@@ -4,9 +4,9 @@ use Rattle.std.specs.Rc.{rc_str_bytes}
 use Rattle.law_texts.specs.Reading.{Expressions, expressions}
 use Rattle.smt_sexpr.specs.View.{plain}
 use Rattle.smt_sexpr.specs.declared.expression.SExpr.{SExpr}
-use Rattle.law_jobs.specs.Outcomes.{Outcome, DuplicateFault, FormFault, JobFault, LiteralFault, TruthFault, TypeFault, TypingFault, UnknownFault, WidthFault}
+use Rattle.law_jobs.specs.Outcomes.{Outcome, DuplicateFault, FormFault, JobFault, LiteralFault, TruthFault, TypeFault, TypingFault, UnbalancedFault, UnknownFault, WidthFault}
 use Rattle.smt_job_declarations.specs.declared.error.JobError.{JobError}
-use Rattle.smt_job_declarations.specs.declared.error.JobError.TheVariants.{TooLarge, Parse, TooDeep, BadForm, UnknownName, DuplicateName, BadType, BadWidth, BadLiteral, IllTyped, NotBool, Memory}
+use Rattle.smt_job_declarations.specs.declared.error.JobError.TheVariants.{TooLarge, Parse, TooDeep, BadForm, UnknownName, DuplicateName, BadType, BadWidth, BadLiteral, IllTyped, NotBool, Unbalanced, Memory}
 
 -- what expressions of the program say, one behind the other
 abbrev pub plain_list : List SExpr → Expressions
@@ -25,6 +25,7 @@ IsFaultIn BadWidth stated = stated ≡ Err WidthFault
 IsFaultIn (BadLiteral text) stated = stated ≡ Err (LiteralFault (rc_str_bytes text))
 IsFaultIn IllTyped stated = stated ≡ Err TypingFault
 IsFaultIn NotBool stated = stated ≡ Err TruthFault
+IsFaultIn Unbalanced stated = stated ≡ Err UnbalancedFault
 IsFaultIn Memory stated = ⊤
 
 -- The error is this fault.
@@ -44,6 +45,7 @@ fault_in BadWidth = Some WidthFault
 fault_in (BadLiteral text) = Some (LiteralFault (rc_str_bytes text))
 fault_in IllTyped = Some TypingFault
 fault_in NotBool = Some TruthFault
+fault_in Unbalanced = Some UnbalancedFault
 fault_in Memory = None
 
 -- What was read, seen by view, is what is stated, and an error is the fault that is stated.

@@ -9,8 +9,8 @@ use std::alloc::{AllocError, AllocFailed};
 use thiserror::Error;
 
 /// Why the bytes are no job. Of several faults it is the first: that of the length, then that of the text as one expression,
-/// and then the first from the left. Within a term its form comes first, then its own names, types and literals, then its parts
-/// in order, then whether it takes them.
+/// and then the first from the left. A step's own faults come before `Unbalanced`. Within a term its form comes first, then its
+/// own names, types and literals, then its parts in order, then whether it takes them.
 #[derive(Debug, PartialEq, Eq, Drop, Error)]
 pub enum JobError {
     /// There are more than 16777216 bytes.
@@ -22,8 +22,8 @@ pub enum JobError {
     /// More than 512 brackets are open at a place.
     #[error("more than 512 brackets are open")]
     TooDeep,
-    /// A section, a declaration or a term has no form.
-    #[error("the job has not the form (job (enums ..) (vars ..) (funs ..) (terms ..))")]
+    /// A section, a declaration, a step or a term has no form.
+    #[error("the job has not the form (job (enums ..) (vars ..) (funs ..) (terms ..)) or (job .. (steps ..))")]
     BadForm,
     /// No variable, function or form of terms has this name.
     #[error("unknown name {0}")]
@@ -46,6 +46,9 @@ pub enum JobError {
     /// A whole term is no Boolean.
     #[error("a term is no Boolean")]
     NotBool,
+    /// A step closes a level where none is open.
+    #[error("a step closes a level where none is open")]
+    Unbalanced,
     /// There was no memory for the job.
     #[error("out of memory for the job")]
     Memory,

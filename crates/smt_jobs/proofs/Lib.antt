@@ -1,6 +1,7 @@
 pub mod ExtensionNames
 pub mod ExtensionsRead
 pub mod FormsRead
+pub mod Levels
 pub mod NumberedLemmas
 pub mod Operators
 pub mod PatternsRead

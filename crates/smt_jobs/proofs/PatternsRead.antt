@@ -20,7 +20,7 @@ use Rattle.law_jobs.specs.Terms.{pattern_part, pattern_parts}
 use Rattle.smt_job_declarations.specs.ReadAs.{plain_list}
 use Rattle.smt_jobs.specs.TermView.{AppendsParts}
 use Rattle.smt_job_declarations.specs.declared.error.JobError.{JobError}
-use Rattle.smt_job_declarations.specs.declared.error.JobError.TheVariants.{TooLarge, Parse, TooDeep, BadForm, UnknownName, DuplicateName, BadType, BadWidth, BadLiteral, IllTyped, NotBool, Memory}
+use Rattle.smt_job_declarations.specs.declared.error.JobError.TheVariants.{TooLarge, Parse, TooDeep, BadForm, UnknownName, DuplicateName, BadType, BadWidth, BadLiteral, IllTyped, NotBool, Unbalanced, Memory}
 
 -- what was appended is what is stated
 pub appended : (old new : Vec PatternElem Global) (parts : List PatternPart) (stated : Option (List PatternPart)) (r : Result (Unit {0}) JobError) → stated ≡ Some parts
@@ -38,6 +38,7 @@ appended old new parts stated (Err BadWidth) is h g = absurd (cc)
 appended old new parts stated (Err (BadLiteral n)) is h g = absurd (cc)
 appended old new parts stated (Err IllTyped) is h g = absurd (cc)
 appended old new parts stated (Err NotBool) is h g = absurd (cc)
+appended old new parts stated (Err Unbalanced) is h g = absurd (cc)
 
 pub string_parts : (e : SExpr) (s : RcStr Global) → e ≡ String s → pattern_part (plain e) ≡ Some (map Character (chars (rc_str_bytes s)))
 string_parts e s is =

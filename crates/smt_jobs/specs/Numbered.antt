@@ -3,15 +3,20 @@ use Rattle.std.specs.Prelude.{List}
 use Rattle.law_terms.specs.Plain.{PlainTerm}
 use Rattle.smt_types.specs.Enums.{enums_of}
 use Rattle.law_jobs.specs.Jobs.{PlainJob}
+use Rattle.law_jobs.specs.Steps.{PlainStep}
 use Rattle.smt_job_declarations.specs.DeclarationView.{declarations, functions}
-use Rattle.smt_jobs.specs.Numbers.{terms_of}
+use Rattle.smt_jobs.specs.Numbers.{steps_by, terms_of}
 use Rattle.smt_jobs.specs.declared.numbered.NumberedJob.{NumberedJob}
-use Rattle.smt_jobs.specs.declared.numbered.NumberedTerms.{NumberedTerms}
+use Rattle.smt_jobs.specs.declared.numbered.NumberedSteps.{NumberedSteps}
 
--- the terms for which the numbers of a job stand, in order
-abbrev pub numbered_terms : NumberedTerms → List PlainTerm
-numbered_terms terms = terms_of terms.nodes terms.ids.items
+-- the steps that are complete, with the terms for which their numbers stand, in order
+abbrev pub numbered_steps : NumberedSteps → List PlainStep
+numbered_steps steps = steps_by steps.nodes steps.steps.items
 
--- the job that numbered nodes say, with these terms
+-- the terms of the assertion that is not yet ended, in order
+abbrev pub terms_begun : NumberedSteps → List PlainTerm
+terms_begun steps = terms_of steps.nodes steps.begun.items
+
+-- the job that numbered nodes say, with these steps
 abbrev pub numbered_job : NumberedJob → PlainJob
-numbered_job job = record { enums = enums_of job.enums; variables = declarations job.vars; functions = functions job.funs; terms = numbered_terms job.terms }
+numbered_job job = record { enums = enums_of job.enums; variables = declarations job.vars; functions = functions job.funs; steps = numbered_steps job.steps }

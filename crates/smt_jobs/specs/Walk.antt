@@ -1,15 +1,15 @@
 -- What the walk over the bytes of a job reads and gives, part by part.
-use Rattle.std.specs.Prelude.{ℕ, ◌≡◌, ◌-◌, ◌≤◌, map, List, [], ◌∷◌, ◌++◌, Ok, Err, Result}
+use Rattle.std.specs.Prelude.{ℕ, ◌≡◌, ◌-◌, ◌≤◌, List, [], ◌∷◌, ◌++◌, Ok, Err, Result}
 use Rattle.std.specs.Borrow.{Bor}
 use Rattle.std.specs.List.{flat_map}
-use Rattle.law_folding.specs.Built.{built}
-use Rattle.law_terms.specs.Plain.{PlainTerm}
 use Rattle.law_texts.specs.Lexicon.{Token, End}
 use Rattle.law_texts.specs.Reading.{Expression, Expressions, Nil, Cons, brackets, deepest, expressions, inside, nesting}
 use Rattle.law_texts.specs.Tokens.{HasTokens, Spans}
 use Rattle.law_jobs.specs.Declarations.{Declared}
 use Rattle.law_jobs.specs.Jobs.{IsJob, PlainJob, greatest_nesting}
 use Rattle.law_jobs.specs.Outcomes.{Outcome, FormFault}
+use Rattle.law_jobs.specs.Steps.{PlainStep, Section, built_steps, headed, levels_behind, nothing_more, section_named, step_named, step_of}
+use Rattle.law_texts.specs.Outcomes.{◌>>=◌}
 use Rattle.smt_job_declarations.specs.ReadAs.{IsFaultIn}
 use Rattle.smt_job_declarations.specs.declared.error.JobError.{JobError}
 
@@ -61,15 +61,41 @@ abbrev pub first_and_others : Expressions → Outcome (Expression × Expressions
 first_and_others Nil = Err FormFault
 first_and_others (Cons e es) = Ok (e, es)
 
--- The job has these declarations, and its terms as they are built were taken, behind those that were there.
-pub record Takes (declared : Declared) (old new : List PlainTerm) (job : PlainJob) : Type 0 where
-  pub enums : declared.enums ≡ job.enums
-  pub variables : declared.variables ≡ job.variables
-  pub functions : declared.functions ≡ job.functions
-  pub takes : new ≡ old ++ map built job.terms
+-- what the first of some expressions states, by this reading, and the expressions behind it
+abbrev pub first_by : {A : Type 0} → (Expression → Outcome A) → Expressions → Outcome (A × Expressions)
+first_by reads Nil = Err FormFault
+first_by reads (Cons e es) = reads e >>= λ a. Ok (a, es)
 
--- The bytes are a job that was taken so.
-pub record TakesJob (bytes : List ℕ) (declared : Declared) (old new : List PlainTerm) : Type 0 where
+-- this step, where no expression follows
+abbrev pub alone : PlainStep → Expressions → Outcome PlainStep
+alone s es = nothing_more es >>= λ u. Ok s
+
+-- a step where so many levels are open, and how many are open behind it
+abbrev pub with_levels : (levels : ℕ) → PlainStep → Outcome (PlainStep × ℕ)
+with_levels k s = levels_behind k s >>= λ m. Ok (s, m)
+
+-- the step of a name and of what stands behind it, and how many levels are open behind the step
+abbrev pub named_in : Declared → (levels : ℕ) → List ℕ → Expressions → Outcome (PlainStep × ℕ)
+named_in ds k n es = step_named ds n es >>= with_levels k
+
+-- the step that an expression states, and how many levels are open behind it
+abbrev pub step_in : Declared → (levels : ℕ) → Expression → Outcome (PlainStep × ℕ)
+step_in ds k e = step_of ds e >>= with_levels k
+
+-- the section of steps that an expression states
+abbrev pub section_in : Declared → Expression → Outcome (Section × List PlainStep)
+section_in ds e = headed e >>= λ p. section_named ds p.0 p.1
+
+-- The job has these declarations, by this section, and its steps as they are built were taken, behind those that were there.
+pub record Takes (declared : Declared) (section : Section) (old new : List PlainStep) (job : Section × PlainJob) : Type 0 where
+  pub enums : declared.enums ≡ job.1.enums
+  pub variables : declared.variables ≡ job.1.variables
+  pub functions : declared.functions ≡ job.1.functions
+  pub by_section : section ≡ job.0
+  pub takes : new ≡ old ++ built_steps job.1.steps
+
+-- The bytes are a job, by this section, that was taken so.
+pub record TakesJob (bytes : List ℕ) (declared : Declared) (section : Section) (old new : List PlainStep) : Type 0 where
   pub written : PlainJob
   pub is_job : IsJob bytes written
-  pub is_taken : Takes declared old new written
+  pub is_taken : Takes declared section old new (is_job.section, written)

@@ -1,15 +1,18 @@
-// Jobs: declarations and terms in one S-expression.
-ghost use Rattle.std.specs.Prelude.{◌≡◌, ◌↔◌, IfErr, IfOk, IsErrOf, map};
-ghost use Rattle.smt_term.specs.View.{plain_term};
+// Jobs: declarations and steps in one S-expression.
+ghost use Rattle.std.specs.Prelude.{◌≡◌, ◌↔◌, IfErr, IfOk, IsErrOf, IsOkUnless, map};
+ghost use Rattle.smt_term.specs.View.{plain_items, plain_term};
 ghost use Rattle.law_jobs.specs.Jobs.{IsBuiltFrom, IsTooLong};
+ghost use Rattle.law_jobs.specs.Steps as stated;
+ghost use Rattle.law_jobs.specs.Steps.{Section as StatedSection};
 ghost use Rattle.smt_jobs.specs.JobView.{plain_job};
 ghost use Rattle.smt_jobs.specs.Numbered.{numbered_job};
 ghost use Rattle.smt_jobs.specs.Refused.{IsRefusal};
+ghost use Rattle.smt_jobs.specs.StepView.{plain_section, plain_steps};
 
-use crate::numbered::{NumberedJob, NumberedTerms};
-use crate::walk::{TermSink, walk_job};
+use crate::numbered::{NumberedJob, NumberedSteps};
+use crate::steps::{BareStep, Step, StepList, current_behind};
+use crate::walk::{StepSink, walk_job};
 use smt_job_declarations::{Declared, JobError, UufList, VarList};
-use smt_nodes::Interner;
 use smt_term::{EnumTable, Term, TermError, TermList};
 use std::alloc::Global;
 
@@ -19,7 +22,7 @@ pub const GREATEST_JOB: usize = 16_777_216;
 /// How many brackets of a job may be open at a place.
 pub(crate) const GREATEST_NESTING: usize = 512;
 
-/// A job: its enum types, its variables, its functions and its terms.
+/// A job: its enum types, its variables, its functions and its steps.
 #[derive(Debug, Drop)]
 pub struct Job {
     /// The enum types that the terms may name, in the order of their names.
@@ -28,22 +31,49 @@ pub struct Job {
     pub vars: VarList,
     /// The declared functions, in order.
     pub funs: UufList,
-    /// The terms, in order, as they are built.
-    pub terms: TermList,
+    /// The steps, in order, their terms as they are built.
+    pub steps: StepList,
 }
 
-/// The terms that were read so far.
+impl Job {
+    /// The terms that are current behind all steps: what was asserted, but for what was asserted in levels that are closed.
+    ///
+    /// # Errors
+    ///
+    /// `Memory`, where there is none for the list.
+    pub fn current(&self, alloc: Global) -> Result<TermList, JobError>
+        ensures current { IfOk result (λ terms. plain_items terms ≡ stated.current (plain_steps self.now.steps)) }
+        ensures refusal { IsOkUnless result JobError.Memory }
+    {
+        current_behind(alloc, self.steps.items())
+    }
+}
+
+/// The steps that were read so far, and the terms of the assertion that is not yet ended.
 #[derive(Drop)]
-struct TermVec {
-    items: Vec<Term>,
+struct ReadSteps {
+    steps: StepList,
+    begun: Vec<Term>,
 }
 
-impl TermSink for TermVec {
-    ghost taken = { λ terms. map plain_term terms.items.items };
+impl StepSink for ReadSteps {
+    ghost taken = { λ read. plain_steps read.steps };
+
+    ghost begun = { λ read. map plain_term read.begun.items };
 
     fn take(&mut self, term: Term) -> Result<(), TermError> {
-        self.items.push(term)?;
+        self.begun.push(term)?;
         Ok(())
+    }
+
+    fn end_assertion(&mut self) -> Result<(), TermError> {
+        let terms = TermList::new(*self.begun.allocator(), self.begun.as_slice())?;
+        self.begun.clear();
+        self.steps.push(Step::Assert(terms))
+    }
+
+    fn take_bare(&mut self, step: BareStep) -> Result<(), TermError> {
+        self.steps.push(Step::from(step))
     }
 }
 
@@ -56,7 +86,8 @@ impl TermSink for TermVec {
 /// use kembura::read_job;
 ///
 /// let job = read_job(alloc, b"(job (enums) (vars) (funs) (terms true))")?;
-/// assert_eq!(rt; job.terms.len(), 1);
+/// assert_eq!(rt; job.steps.len(), 1);
+/// assert_eq!(rt; job.current(alloc)?.len(), 1);
 /// ```
 ///
 /// # Errors
@@ -64,23 +95,26 @@ impl TermSink for TermVec {
 /// `TooLarge` comes exactly where there are more than 16777216 bytes. Each other refusal but `Memory` is the first fault of bytes
 /// that are no job, as [`JobError`] orders them: `Parse` and `TooDeep` that of bytes that are no expression. `Memory` comes where there is no memory for the job.
 pub fn read_job(alloc: Global, bytes: &[u8]) -> Result<Job, JobError>
-    ensures job { IfOk result (λ job. IsBuiltFrom bytes.now (plain_job job)) }
+    ensures job { IfOk result (λ job. (section : StatedSection) × IsBuiltFrom bytes.now section (plain_job job)) }
     ensures too_large { IsErrOf result JobError.TooLarge ↔ IsTooLong bytes.now }
     ensures refused { IfErr result (λ error. IsRefusal error bytes.now) }
 {
-    let mut terms = TermVec {
-        items: Vec::new(alloc),
+    let mut read = ReadSteps {
+        steps: StepList::new(alloc),
+        begun: Vec::new(alloc),
     };
+    let (declared, _) = walk_job(alloc, bytes, &mut read)?;
     let Declared {
         enums,
         variables,
         functions,
-    } = walk_job(alloc, bytes, &mut terms)?;
+    } = declared;
+    let ReadSteps { steps, .. } = read;
     Ok(Job {
         enums,
         vars: variables.vars,
         funs: functions.funs,
-        terms: TermList::new(alloc, terms.items.as_slice())?,
+        steps,
     })
 }
 
@@ -90,23 +124,22 @@ pub fn read_job(alloc: Global, bytes: &[u8]) -> Result<Job, JobError>
 ///
 /// As of `read_job`.
 pub fn read_numbered(alloc: Global, bytes: &[u8]) -> Result<NumberedJob, JobError>
-    ensures job { IfOk result (λ job. IsBuiltFrom bytes.now (numbered_job job)) }
+    ensures job { IfOk result (λ job. IsBuiltFrom bytes.now (plain_section job.section) (numbered_job job)) }
     ensures too_large { IsErrOf result JobError.TooLarge ↔ IsTooLong bytes.now }
     ensures refused { IfErr result (λ error. IsRefusal error bytes.now) }
 {
-    let mut terms = NumberedTerms {
-        nodes: Interner::new(alloc),
-        ids: Vec::new(alloc),
-    };
+    let mut steps = NumberedSteps::new(alloc);
+    let (declared, section) = walk_job(alloc, bytes, &mut steps)?;
     let Declared {
         enums,
         variables,
         functions,
-    } = walk_job(alloc, bytes, &mut terms)?;
+    } = declared;
     Ok(NumberedJob {
         enums,
         vars: variables.vars,
         funs: functions.funs,
-        terms,
+        steps,
+        section,
     })
 }

@@ -1,23 +1,42 @@
 // A job whose terms are numbered nodes, so that no term is kept.
 ghost use Rattle.std.specs.Prelude.{IsTrue};
-ghost use Rattle.smt_jobs.specs.Numbers.{all_stand};
+ghost use Rattle.smt_jobs.specs.Numbers.{all_stand, all_steps_stand};
 
-use crate::walk::TermSink;
+use crate::steps::{BareStep, Section};
+use crate::walk::StepSink;
 use smt_job_declarations::{UufList, VarList};
 use smt_nodes::{Interner, NodeId};
 use smt_term::{EnumTable, Term, TermError};
+use std::alloc::Global;
+use std::mem;
 
-/// Terms by their numbers, in order, with the nodes of which these are. A term is let go once it has its number.
+/// One step of a job, its terms by their numbers.
 #[derive(Drop)]
-pub struct NumberedTerms {
-    /// The nodes.
-    pub nodes: Interner,
-    /// The number of each term.
-    pub ids: Vec<NodeId>,
-    ghost stand: { IsTrue (all_stand nodes ids.items) },
+pub enum NumberedStep {
+    /// `(assert t ..)`: the terms of these numbers are asserted, at the level that is open.
+    Assert(Vec<NodeId>),
+    /// `(push)`: a level is opened.
+    Push,
+    /// `(pop)`: the level that was opened last is closed, and what was asserted in it is no longer current.
+    Pop,
+    /// `(check)`: it is asked whether all terms that are current here can be true together.
+    Check,
 }
 
-/// A job: its enum types, its variables, its functions and its terms, by their numbers.
+/// Steps with their terms by their numbers, in order, and the nodes of which these are. A term is let go once it has its number.
+#[derive(Drop)]
+pub struct NumberedSteps {
+    /// The nodes.
+    pub nodes: Interner,
+    /// The steps that are complete.
+    pub steps: Vec<NumberedStep>,
+    /// The number of each term of the assertion that is not yet ended.
+    pub begun: Vec<NodeId>,
+    ghost stand: { IsTrue (all_steps_stand nodes steps.items) },
+    ghost begun_stand: { IsTrue (all_stand nodes begun.items) },
+}
+
+/// A job: its enum types, its variables, its functions and its steps, by the numbers of their terms.
 #[derive(Drop)]
 pub struct NumberedJob {
     /// The enum types that the terms may name, in the order of their names.
@@ -26,17 +45,53 @@ pub struct NumberedJob {
     pub vars: VarList,
     /// The declared functions, in order.
     pub funs: UufList,
-    /// The terms, in order, as they are built.
-    pub terms: NumberedTerms,
+    /// The steps, in order, their terms as they are built.
+    pub steps: NumberedSteps,
+    /// The section by which the job gives its steps.
+    pub section: Section,
 }
 
-impl TermSink for NumberedTerms {
-    ghost use Rattle.smt_jobs.specs.Numbered.{numbered_terms};
+impl NumberedSteps {
+    ghost use Rattle.std.specs.Prelude.{◌≡◌, []};
+    ghost use Rattle.smt_jobs.specs.Numbered.{numbered_steps, terms_begun};
 
-    ghost taken = { numbered_terms };
+    /// No steps, over an interner without nodes. Takes no memory.
+    pub fn new(alloc: Global) -> NumberedSteps
+        ensures steps { numbered_steps result ≡ [] }
+        ensures begun { terms_begun result ≡ [] }
+    {
+        NumberedSteps {
+            nodes: Interner::new(alloc),
+            steps: Vec::new(alloc),
+            begun: Vec::new(alloc),
+        }
+    }
+}
+
+impl StepSink for NumberedSteps {
+    ghost use Rattle.smt_jobs.specs.Numbered.{numbered_steps, terms_begun};
+
+    ghost taken = { numbered_steps };
+
+    ghost begun = { terms_begun };
 
     fn take(&mut self, term: Term) -> Result<(), TermError> {
         let id = self.nodes.intern(&term)?;
-        Ok(self.ids.push(id)?)
+        Ok(self.begun.push(id)?)
+    }
+
+    fn end_assertion(&mut self) -> Result<(), TermError> {
+        let none = Vec::new(*self.begun.allocator());
+        let ids = mem::replace(&mut self.begun, none);
+        Ok(self.steps.push(NumberedStep::Assert(ids))?)
+    }
+
+    fn take_bare(&mut self, step: BareStep) -> Result<(), TermError> {
+        let step = match step {
+            BareStep::Push => NumberedStep::Push,
+            BareStep::Pop => NumberedStep::Pop,
+            BareStep::Check => NumberedStep::Check,
+        };
+        Ok(self.steps.push(step)?)
     }
 }

@@ -22,17 +22,17 @@ use Rattle.smt_pool.specs.declared.check_error.SessionFault.TheVariants.{Io, Sol
 -- ---- what is told
 
 -- bytes behind what is told
-behind : (old new : Option (List ℕ)) (bytes told : List ℕ) → new ≡ append_known old bytes → IfSome old (λ x. x ≡ told) → IfSome new (λ x. x ≡ told ++ bytes)
+pub behind : (old new : Option (List ℕ)) (bytes told : List ℕ) → new ≡ append_known old bytes → IfSome old (λ x. x ≡ told) → IfSome new (λ x. x ≡ told ++ bytes)
 behind None new bytes told e h = subst (λ (o : Option (List ℕ)). IfSome o (λ x. x ≡ told ++ bytes)) (sym e) tt
 behind (Some x) new bytes told e h = subst (λ (o : Option (List ℕ)). IfSome o (λ y. y ≡ told ++ bytes)) (sym e) (ap (λ (y : List ℕ). y ++ bytes) h)
 
-told_as : (o : Option (List ℕ)) (x y : List ℕ) → x ≡ y → IfSome o (λ t. t ≡ x) → IfSome o (λ t. t ≡ y)
+pub told_as : (o : Option (List ℕ)) (x y : List ℕ) → x ≡ y → IfSome o (λ t. t ≡ x) → IfSome o (λ t. t ≡ y)
 told_as None x y e h = tt
 told_as (Some t) x y e h = h ∙ e
 
 -- ---- sending
 
-still_unkilled : (old new : LinkState) → new.killed ≡ old.killed → IsUnkilled old → IsUnkilled new
+pub still_unkilled : (old new : LinkState) → new.killed ≡ old.killed → IsUnkilled old → IsUnkilled new
 still_unkilled old new same h = subst (λ (k : Option Bool). IfSome k (λ killed. killed ≡ false)) (sym same) h
 
 pub lengthened : (old new : LinkState) (lines : List ℕ) → Exchanges old new lines [] → new.killed ≡ old.killed → Lengthens old new lines

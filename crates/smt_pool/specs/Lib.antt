@@ -1,5 +1,6 @@
 pub mod Checks
 pub mod Config
+pub mod Dialogue
 pub mod Errors
 pub mod Lends
 pub mod Pool

@@ -1,6 +1,7 @@
 // The question to a solver whether a script has a model.
-ghost use Rattle.std.specs.Prelude.{◌≡◌, ◌≢◌, ◌≤◌, false, IfErr, IfOk, OnOk};
+ghost use Rattle.std.specs.Prelude.{◌≡◌, ◌≢◌, ◌≤◌, false, is_err, IfErr, IfOk, OnOk, Ok};
 ghost use Rattle.smt_solve.specs.Link.{AllowsTheSame, IsUnused};
+ghost use Rattle.smt_solve.specs.Question.{SendsCommand};
 ghost use Rattle.smt_solve.specs.Session.{session_failed, session_link, state_by};
 ghost use Rattle.smt_solve.specs.Starter.{command_of};
 ghost use Rattle.law_verdicts.specs.Verdicts.{question_of};
@@ -11,7 +12,7 @@ use smt_solve::{Decision, Link, LocalSolver, Solver, SolverCommand, SolverError,
 use std::alloc::Global;
 
 /// What an error of a session becomes that had not failed before.
-fn error_of(error: SolverError) -> CheckError
+pub(crate) fn error_of(error: SolverError) -> CheckError
     requires { error ≢ SolverError.SolverMarkedFailed }
     ensures { result ≡ session_error error }
 {
@@ -28,11 +29,13 @@ fn error_of(error: SolverError) -> CheckError
     }
 }
 
-/// Sends lines to a session on which nothing was asked.
-fn send<L: Link>(session: &mut LocalSolver<L>, lines: &[u8]) -> Result<(), CheckError>
+/// Sends lines to a session.
+pub(crate) fn send<L: Link>(session: &mut LocalSolver<L>, lines: &[u8]) -> Result<(), CheckError>
     requires { session_failed session.old ≡ false }
     ensures sent { OnOk result (Lengthens (state_by L.state session.old) (state_by L.state session.new) lines.now) }
+    ensures exchanged { OnOk result (SendsCommand {T = Unit} (state_by L.state session.old) (state_by L.state session.new) lines.now (Ok tt)) }
     ensures unfailed { OnOk result (session_failed session.new ≡ false) }
+    ensures failed { session_failed session.new ≡ is_err result }
     ensures refused { IfErr result (CannotSend (state_by L.state session.old) (state_by L.state session.new)) }
     ensures later { (state_by L.state session.old).faults ≤ (state_by L.state session.new).faults }
     ensures allows { AllowsTheSame (L.allows (session_link session.old)) (L.allows (session_link session.new)) }

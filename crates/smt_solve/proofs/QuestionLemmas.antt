@@ -1,6 +1,6 @@
 -- Steps of a question one after another, and what its refusals say.
 use Rattle.std.proofs.Common.{◌≡◌, ◌≢◌, ℕ, ◌<◌, ◌≤◌, Bool, true, false, IsTrue, List, [], ◌∷◌, ◌++◌, length, drop, Result, Ok, Err, Option, None, Some, IsErrAnd, refl, sym, ap, ◌∙◌, append-nil, length-append, subst, arith, inl, inr}
-use Rattle.std.specs.Prelude.{codes, ◌⊎◌, IfSome, MatchBool, MatchOption, ◌==◌}
+use Rattle.std.specs.Prelude.{codes, ◌⊎◌, IfSome, MatchBool, MatchOption, is_some, ◌==◌}
 use Rattle.std.specs.Borrow.{Bor}
 use Rattle.std.specs.Option.{option_map}
 use Rattle.std.specs.Io.KnownBytes.{append_known, prepend_known}
@@ -10,7 +10,7 @@ use Rattle.smt_script.specs.CommandTexts.{check_sat_text}
 use Rattle.smt_script.specs.Sink.{Rose}
 use Rattle.smt_solve.specs.Answers.{IsNoDecision, IsNoError, StripsTo, decision_word, error_line, is_parse_error}
 use Rattle.smt_solve.specs.Link.{AllowsOnly, HandsOn, IsAllowed, IsKilled, IsLine, IsOver, KeepsEnd, LinkState, ReadsLine, Sends}
-use Rattle.smt_solve.specs.Question.{AnswersEnded, AsksDecision, AsksRunner, AsksRunning, BeginsExchange, CallsForKill, Exchanges, FailsToSend, GivesRefusal, IsNever, IsNotAsked, IsNotLong, IsNothing, IsPiece, IsReply, JudgesLine, KillsFor, KillsForLine, KillsOnly, Leaves, ReadsReply, Refuses, RefusesLine, RefusesText, Spares, TellsMessage, TellsMessageAs, TellsText}
+use Rattle.smt_solve.specs.Question.{AnswersEnded, AsksDecision, AsksRunner, AsksRunning, BeginsExchange, CallsForKill, Exchanges, FailsToSend, GivesRefusal, IsNever, IsNotAsked, IsNotLong, IsNothing, IsPiece, IsReply, JudgesLine, KillsFor, KillsForLine, KillsOnly, Leaves, ReadsReply, Refuses, RefusesLine, RefusesText, Spares, TellsMessage, TellsMessageAs, TellsText, TellsToComeAlike}
 use Rattle.smt_solve.proofs.Utf8Lemmas.{message_utf8, stripped_utf8}
 use Rattle.smt_solve.specs.declared.answer.Decision.{Decision}
 use Rattle.smt_solve.specs.declared.answer.Decision.TheVariants as decisions
@@ -97,6 +97,14 @@ pub over_read : {a b : LinkState} {allows : List ℕ → List ℕ → List ℕ �
 over_read {a} {b} {before = before} {after} p o =
     let none = none_more p.piece b.to_come (sym o.to_come ∙ p.came) in
     (p.appended ∙ (ap (λ t. before ++ t) none.0 ∙ append-nil before), stays_over a b none.1 (p.was_read ∙ (ap (λ t. append_known a.was_read t) none.0 ∙ sym (appends_nothing a.was_read))) o)
+
+-- What is told of what is to come.
+
+pub told_then : (a b c : LinkState) → TellsToComeAlike a b → TellsToComeAlike b c → TellsToComeAlike a c
+told_then a b c p q = q ∙ p
+
+pub told_left : {a b : LinkState} → Leaves a b → TellsToComeAlike a b
+told_left {a} {b} p = ap (λ (t : Option (List ℕ)). is_some t) p.same_to_come
 
 -- Exchanges one after another.
 
@@ -360,8 +368,8 @@ line_judged {line = line} {text} {b} {c} {e} good other s n o h = record {
 -- The answers of a solver that runs.
 
 pub runner_judged : {a b c : LinkState} {line given : List ℕ} (allows : List ℕ → List ℕ → List ℕ → Type 0) (r : Result Decision SolverError) → IsReply allows a b check_sat_text line → Spares a b
-    → line ≡ given → (IsOver a → (given ≡ []) × IsOver b) → JudgesLine (λ d. StripsTo line (decision_word d)) IsNoDecision line b c r → AsksRunner allows a c r
-runner_judged {a} {b} {c} {line} allows (Ok d) p s g h q =
+    → TellsToComeAlike a b → line ≡ given → (IsOver a → (given ≡ []) × IsOver b) → JudgesLine (λ d. StripsTo line (decision_word d)) IsNoDecision line b c r → AsksRunner allows a c r
+runner_judged {a} {b} {c} {line} allows (Ok d) p s t g h q =
     let reply : IsReply allows a c check_sat_text line = reply_left allows p q.ok.2 in
     let spared : Spares a c = spares_then s q.ok.1 in
     record {
@@ -369,13 +377,15 @@ runner_judged {a} {b} {c} {line} allows (Ok d) p s g h q =
       err = tt;
       begun = all_begun reply.exchanged;
       kills = inl spared;
+      told = told_then a b c t (told_left q.ok.2);
       over = λ o. absurd (says_bytes line (decision_word d) (word_bytes d) q.ok.0 (g ∙ (h o).0));
     }
-runner_judged {a} {b} {c} {line} allows (Err e) p s g h q = record {
+runner_judged {a} {b} {c} {line} allows (Err e) p s t g h q = record {
   ok = tt;
   err = line_refuses allows IsNoDecision e p s q.err;
   begun = all_begun (exchanged_left p.exchanged q.err.left);
   kills = line_kills allows IsNoDecision e p s q.err;
+  told = tt;
   over = λ o. (refl, over_left q.err.left (h o).1);
 }
 
@@ -387,6 +397,7 @@ runner_unread {a = a} {b} {c} line e p s h q = record {
       (λ y h. sent_and_read y p h) (λ y h. absurd h) (λ y h. absurd h) q.err;
   begun = begun_after p q.begun;
   kills = inl (spares_then s q.spared);
+  told = tt;
   over = λ o. (refl, (q.over (h o)).1);
 }
 
@@ -408,6 +419,7 @@ runner_asked {a = a} {b} {c} x (Ok d) f p q = record {
   ended = runs_on a.ended (λ how. IsNotAsked a c how (Ok d)) p.ok;
   begun = left_begun p.left q.begun;
   kills = kills_later a b c IsNothing IsNothing check_sat_text check_sat_text p.spared (λ bytes y h. (bytes, left_exchanged p.left y, h)) q.kills;
+  told = told_then a b c (told_left p.left) q.told;
   over = λ o. q.over (over_left p.left o);
 }
 runner_asked {a = a} {b} {c} x (Err e) f p q = record {
@@ -417,5 +429,6 @@ runner_asked {a = a} {b} {c} x (Err e) f p q = record {
   ended = runs_on a.ended (λ how. IsNotAsked {T = Decision} a c how (Err e)) p.ok;
   begun = left_begun p.left q.begun;
   kills = kills_later a b c IsNothing IsNothing check_sat_text check_sat_text p.spared (λ bytes y h. (bytes, left_exchanged p.left y, h)) q.kills;
+  told = tt;
   over = λ o. q.over (over_left p.left o);
 }

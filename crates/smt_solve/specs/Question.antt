@@ -1,5 +1,5 @@
 -- What is asked of the solver of a link, and what comes of it.
-use Rattle.std.specs.Prelude.{ℕ, ◌<◌, ◌≤◌, ◌≡◌, ◌≢◌, ◌⊎◌, ⊤, IsTrue, List, [], length, MatchBool, MatchResult, IfOk, IfSome, IfErr, IsErr, OnOk, Result}
+use Rattle.std.specs.Prelude.{ℕ, ◌<◌, ◌≤◌, ◌≡◌, ◌≢◌, ◌⊎◌, ⊤, IsTrue, List, [], length, MatchBool, MatchResult, IfOk, IfSome, IfErr, IsErr, OnOk, is_some, Result}
 use Rattle.std.specs.Io.KnownBytes.{append_known}
 use Rattle.std.specs.Rc.{rc_str_bytes}
 use Rattle.std.specs.Str.{IsUtf8}
@@ -37,6 +37,10 @@ pub record Leaves (old new : LinkState) : Type 0 where
 pub record Spares (old new : LinkState) : Type 0 where
   pub same_killed : new.killed ≡ old.killed
   pub end : KeepsEnd old.ended new.ended
+
+-- What is to come is told after a call exactly where it was told before.
+abbrev pub TellsToComeAlike : (old new : LinkState) → Type 0
+TellsToComeAlike old new = is_some new.to_come ≡ is_some old.to_come
 
 -- No answer is to come any more, where that is told.
 abbrev pub AnswersEnded : LinkState → Type 0
@@ -155,6 +159,8 @@ pub record AsksDecision (allows : List ℕ → List ℕ → List ℕ → Type 0)
   pub ended : IfSome old.ended (λ how. how ≢ Running → IsNotAsked old new how result)
   pub begun : BeginsExchange old new check_sat_text
   pub kills : KillsOnly IsNothing old new check_sat_text
+  -- what is to come is told after an answer exactly where it was told before
+  pub told : IfOk result (λ decision. TellsToComeAlike old new)
   -- a link whose answers ended inside a line answers nothing more
   pub over : IsOver old → IsErr result × IsOver new
 
@@ -174,6 +180,7 @@ pub record AsksRunner (allows : List ℕ → List ℕ → List ℕ → Type 0) (
   pub err : IfErr result (Refuses (Exchanges old new check_sat_text) (Exchanges old new check_sat_text) IsNoDecision old new)
   pub begun : BeginsExchange old new check_sat_text
   pub kills : KillsOnly IsNothing old new check_sat_text
+  pub told : IfOk result (λ decision. TellsToComeAlike old new)
   pub over : IsOver old → IsErr result × IsOver new
 
 -- The error is one that only the link gives: it failed, or there was no memory.
@@ -191,6 +198,8 @@ pub record SendsCommand {T : Type 0} (old new : LinkState) (text : List ℕ) (re
   pub err : IfErr result (FailsToSend old new)
   pub begun : BeginsExchange old new text
   pub spared : Spares old new
+  -- what is to come may change, and is told where it was
+  pub told : TellsToComeAlike old new
   -- nothing more is to come where the answers ended inside a line
   pub over : IsOver old → IsOver new
 
@@ -206,6 +215,7 @@ pub record ReadsReply {T : Type 0} (allows : List ℕ → List ℕ → List ℕ 
   pub err : IfErr result (Refuses (Exchanges old new []) IsNever IsNever old new)
   pub begun : BeginsExchange old new []
   pub spared : Spares old new
+  pub told : TellsToComeAlike old new
   pub over : IsOver old → IfOk result (λ x. line x ≡ []) × IsOver new
 
 -- Why a line that was read is refused, where `other` says of a text that it is not expected.

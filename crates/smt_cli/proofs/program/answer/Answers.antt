@@ -20,8 +20,9 @@ returns-in_err-outcome-clause-refused g c =
     let before = around g.R.Source.remaining g.R.Source.faults g.W.Sink.contents g.W.Sink.faults g.P.Starter.state c.args.source.now c.args.out.now c.args.starter.now in
     let after = around g.R.Source.remaining g.R.Source.faults g.W.Sink.contents g.W.Sink.faults g.P.Starter.state c.put_answer-outcome.new.source c.put_answer-outcome.new.out c.put_answer-outcome.new.starter in
     let now = around g.R.Source.remaining g.R.Source.faults g.W.Sink.contents g.W.Sink.faults g.P.Starter.state c.put_answer-outcome.new.source c.flush-flushed.new.self c.put_answer-outcome.new.starter in
-    refusal_stays (HasCause state asked call before after) (HasCause state asked call before now) c.put_answer-outcome.result c.from_residual.result c.in_err-outcome.field-0.0 c.in_err-outcome.was c.from_residual.ensures.1
-    (cause_stays state call before after (g.W.Sink.contents c.flush-flushed.new.self) (g.W.Sink.faults c.flush-flushed.new.self) (λ rose. omega (arith, rose, c.flush-flushed.ensures.later)) asked) c.put_answer-outcome.ensures.refused
+    let allows = g.P.Starter.allows c.args.starter.now in
+    refusal_stays (HasCause state allows asked call before after) (HasCause state allows asked call before now) c.put_answer-outcome.result c.from_residual.result c.in_err-outcome.field-0.0 c.in_err-outcome.was c.from_residual.ensures.1
+    (cause_stays state allows call before after (g.W.Sink.faults c.flush-flushed.new.self) (λ rose. omega (arith, rose, c.flush-flushed.ensures.later)) (g.W.Sink.contents c.flush-flushed.new.self) c.flush-flushed.ensures.same_contents asked) c.put_answer-outcome.ensures.refused
 
 pub returns-in_err-outcome-clause-untouched : goal.returns-in_err-outcome-clause-untouched
 returns-in_err-outcome-clause-untouched g c =

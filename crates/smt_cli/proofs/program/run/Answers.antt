@@ -17,4 +17,4 @@ returns-in-Err-clause-complete g c =
     let asked = commanded (texts c.args.words.now) in
     let before = around g.R.Source.remaining g.R.Source.faults g.W.Sink.contents g.W.Sink.faults g.P.Starter.state c.args.source.now c.args.out.now c.args.starter.now in
     let after = around g.R.Source.remaining g.R.Source.faults g.W.Sink.contents g.W.Sink.faults g.P.Starter.state c.answer.new.source c.answer.new.out c.answer.new.starter in
-    subst (λ (n : ℕ). IsComplete asked before after n) (sym c.status.ensures) (refused_complete g.P.L.Link.state (solver_named (texts c.args.words.now)) before after asked c.in-Err.refusal c.in-Err.ensures.refused)
+    subst (λ (n : ℕ). IsComplete asked before after n) (sym c.status.ensures) (refused_complete g.P.L.Link.state (g.P.Starter.allows c.args.starter.now) (solver_named (texts c.args.words.now)) before after asked c.in-Err.refusal c.in-Err.ensures.refused)

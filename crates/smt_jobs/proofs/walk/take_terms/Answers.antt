@@ -1,4 +1,4 @@
-use Rattle.std.proofs.Common.{Bor, List, ℕ, ◌≡◌, ◌++◌, map, ap, ◌∙◌}
+use Rattle.std.proofs.Common.{Bor, List, ℕ, ◌≡◌, ◌++◌, map, refl, ap, ◌∙◌, arith}
 use Rattle.law_folding.specs.Built.{built}
 use Rattle.law_terms.specs.Plain.{PlainTerm}
 use Rattle.law_texts.specs.Tokens.{HasTokens}
@@ -11,38 +11,45 @@ use Rattle.smt_jobs.proofs.Walking.{all_taken, gives_passes, not_taken, nothing_
 use Rattle.smt_jobs.proofs.walk.take_terms.Goals as goal
 
 pub loop-after-init : goal.loop-after-init
-loop-after-init g c = (read_none c.args.src.now 510, λ ds has es end i. taking_none ds es c.args.src.now end _ i)
+loop-after-init g c = record {
+  read = read_none c.args.src.now c.args.depth;
+  stated = λ ds has es end i. taking_none c.args.depth ds es c.args.src.now end _ i;
+  taken = refl;
+  shorter = omega arith;
+}
 
 pub returns-in-Some-clause-read : goal.returns-in-Some-clause-read
-returns-in-Some-clause-read g c = (c.loop-after.rest.now, c.loop-after.invariant.0, c.in-Some.ensures.found)
+returns-in-Some-clause-read g c = (c.loop-after.rest.now, c.loop-after.invariant.read, c.in-Some.ensures.found)
 
 pub returns-in-Some-clause-stated : goal.returns-in-Some-clause-stated
 returns-in-Some-clause-stated g c ds has es end i =
-    let t = c.loop-after.invariant.1 ds has es end i in
-    let all = all_taken ds es end _ _ _ t c.in-Some.after.now c.in-Some.ensures.found in
+    let t = c.loop-after.invariant.stated ds has es end i in
+    let all = all_taken c.args.depth ds es end _ _ _ t c.in-Some.after.now c.in-Some.ensures.found in
     (all.0, all.1, (all.2, all.3))
 
 pub returns-in_err-expression-clause-stated : goal.returns-in_err-expression-clause-stated
 returns-in_err-expression-clause-stated g c ds has es end i =
-    let t = c.loop-after.invariant.1 ds has es end i in
-    gives_passes (λ (rest : Bor (List ℕ)) (written : List PlainTerm). HasTokens rest.now end × (g.T.TermSink.taken c.loop-after.out ≡ g.T.TermSink.taken c.args.out.now ++ map built written))
+    let t = c.loop-after.invariant.stated ds has es end i in
+    gives_passes (λ (rest : Bor (List ℕ)) (written : List PlainTerm). HasTokens rest.now end × (g.T.StepSink.begun c.loop-after.out ≡ g.T.StepSink.begun c.args.out.now ++ map built written))
     c.from_residual.result c.in_err-expression.field-0.0 (conditions_of ds es) (first_and_others t.left) c.from_residual.ensures.1 (c.in_err-expression.ensures.stated t.left end t.begins)
-    (λ f none. absurd (nothing_more_there ds es end _ _ _ t f none c.in_default.ensures.none))
+    (λ f none. absurd (nothing_more_there c.args.depth ds es end _ _ _ t f none c.in_default.ensures.none))
 
 pub returns-in_err-condition_from-clause-stated : goal.returns-in_err-condition_from-clause-stated
 returns-in_err-condition_from-clause-stated g c ds has es end i =
-    let t = c.loop-after.invariant.1 ds has es end i in
+    let t = c.loop-after.invariant.stated ds has es end i in
     let first = c.in_ok-expression.ensures.stated t.left end t.begins in
-    gives_passes (λ (rest : Bor (List ℕ)) (written : List PlainTerm). HasTokens rest.now end × (g.T.TermSink.taken c.loop-after.out ≡ g.T.TermSink.taken c.args.out.now ++ map built written))
+    gives_passes (λ (rest : Bor (List ℕ)) (written : List PlainTerm). HasTokens rest.now end × (g.T.StepSink.begun c.loop-after.out ≡ g.T.StepSink.begun c.args.out.now ++ map built written))
     c.from_residual-in_err-condition_from.result c.in_err-condition_from.field-0.0 (conditions_of ds es) _ c.from_residual-in_err-condition_from.ensures.1 (c.in_err-condition_from.ensures ds has)
-    (λ f none. not_taken ds es end _ _ _ t first.0 first.1 f (ap (condition_of ds) first.2.0 ∙ mapped_fault built _ f none))
+    (λ f none. not_taken c.args.depth ds es end _ _ _ t first.0 first.1 f (ap (condition_of ds) first.2.0 ∙ mapped_fault built _ f none))
 
 pub loop-after-preserved : goal.loop-after-preserved
-loop-after-preserved g c = (
-  read_more c.args.src.now c.loop-after.rest.now c.in_ok-expression.after.now 510 (plain c.in_ok-expression.expression) c.loop-after.invariant.0 c.in_ok-expression.ensures.read c.in_ok-expression.ensures.shallow,
-  λ ds has es end i. (
-      let t = c.loop-after.invariant.1 ds has es end i in
+loop-after-preserved g c = (let before = c.loop-after.invariant.shorter in let less = c.in_ok-expression.ensures.shorter in record {
+  read = read_more c.args.src.now c.loop-after.rest.now c.in_ok-expression.after.now c.args.depth (plain c.in_ok-expression.expression) c.loop-after.invariant.read c.in_ok-expression.ensures.read c.in_ok-expression.ensures.shallow;
+  stated = λ ds has es end i. (
+      let t = c.loop-after.invariant.stated ds has es end i in
       let first = c.in_ok-expression.ensures.stated t.left end t.begins in
-      taken_more ds es end _ _ _ t first.0 first.1 c.in_ok-expression.after.now _ _ first.2.1 (ap (λ e. mapped built (condition_of ds e)) first.2.0 ∙ c.in_ok-condition_from.ensures ds has) c.in_ok-take.ensures
-      ),
-)
+      taken_more c.args.depth ds es end _ _ _ t first.0 first.1 c.in_ok-expression.after.now _ _ first.2.1 (ap (λ e. mapped built (condition_of ds e)) first.2.0 ∙ c.in_ok-condition_from.ensures ds has) c.in_ok-take.ensures.begun
+      );
+  taken = c.in_ok-take.ensures.taken ∙ c.loop-after.invariant.taken;
+  shorter = omega arith;
+})

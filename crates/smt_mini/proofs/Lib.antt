@@ -1,0 +1,11 @@
+mod Building
+mod Checking
+mod Fitting
+mod Formulas
+mod Gates
+mod Leveled
+mod RowBits
+mod Searching
+mod Shapes
+mod TablesCut
+mod Turning

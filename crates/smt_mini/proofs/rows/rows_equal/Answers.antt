@@ -1,0 +1,6 @@
+use Rattle.law_verdicts.proofs.Rows.{rows_stand_alone}
+use Rattle.smt_mini.specs.Search.{plain_rows}
+use Rattle.smt_mini.proofs.rows.rows_equal.Goals as goal
+
+pub returns : goal.returns
+returns c r = rows_stand_alone.equality r (plain_rows c.args.a) (plain_rows c.args.b)

@@ -1,0 +1,11 @@
+pub mod Building
+pub mod Commands
+pub mod Gates
+pub mod Levels
+pub mod OptionLine
+pub mod Parts
+pub mod Replies
+pub mod Search
+pub mod Stands
+pub mod Tables
+pub mod Turns

@@ -1,0 +1,110 @@
+-- A solver that is asked by the steps of a job: what comes of it, and why it stops.
+use Rattle.std.specs.Prelude.{ℕ, ◌<◌, ◌≤◌, ◌≡◌, ◌⊎◌, codes, length, List, [], ◌∷◌, ◌++◌, Option, None}
+use Rattle.std.specs.Io.KnownBytes.{append_known}
+use Rattle.law_terms.specs.Faults.{first_fault}
+use Rattle.law_terms.specs.TypeValues.{Enums}
+use Rattle.law_theorem.specs.Fits.{new_stages}
+use Rattle.law_jobs.specs.Steps.{PlainStep, asserted}
+use Rattle.smt_script.specs.Sink.{AppendsPart, Rose}
+use Rattle.smt_solve.specs.Answers.{decision_word}
+use Rattle.smt_solve.specs.Link.{LinkState}
+use Rattle.smt_solve.specs.Starter.{Command as SolverCall, StarterState}
+use Rattle.smt_solve.specs.declared.answer.Decision.{Decision}
+use Rattle.law_verdicts.specs.Dialogues.{AnsweredCheck, GaveAllowed, HasAnswered}
+use Rattle.law_job_scripts.specs.Asked.{AreAsked}
+use Rattle.smt_pool.specs.Checks.{FailsToSendLines, Returns}
+use Rattle.smt_pool.specs.Dialogue.{FailsBehind}
+use Rattle.smt_pool.specs.declared.check_error.SessionFault.{SessionFault}
+use Rattle.smt_runs.specs.Jobs.{IsFaultOf}
+use Rattle.smt_runs.specs.Pieces.{StopsAt}
+use Rattle.smt_runs.specs.declared.refusal.CheckRefusal.{CheckRefusal}
+use Rattle.smt_runs.specs.declared.refusal.CheckRefusal.TheVariants.{Encode, Sink, Start, Session, Memory}
+
+-- ---- words
+
+-- the word of a decision, with its line feed
+abbrev pub verdict_line : Decision → List ℕ
+verdict_line d = decision_word d ++ codes "\n"
+
+-- the words of answered checks, in order
+abbrev pub words_of : List AnsweredCheck → List ℕ
+words_of [] = []
+words_of (c ∷ cs) = verdict_line c.decision ++ words_of cs
+
+-- The words of these checks were put, of the last perhaps only a first part.
+pub record PutsWords (held now : Option (List ℕ)) (checks : List AnsweredCheck) : Type 0 where
+  pub earlier : List AnsweredCheck
+  pub later : List AnsweredCheck
+  pub cut : checks ≡ earlier ++ later
+  pub one : length later ≤ 1
+  pub part : AppendsPart (append_known held (words_of earlier)) now (words_of later)
+
+-- A link has answered these checks, and the word of each was put.
+pub record Spoke (s : LinkState) (held now : Option (List ℕ)) : Type 0 where
+  pub checks : List AnsweredCheck
+  pub rest : List ℕ
+  pub answered : HasAnswered s checks rest
+  pub put : now ≡ append_known held (words_of checks)
+
+-- A link has answered these checks, and their words were put, of the last perhaps only a first part.
+pub record SpokeInPart (s : LinkState) (held now : Option (List ℕ)) : Type 0 where
+  pub checks : List AnsweredCheck
+  pub rest : List ℕ
+  pub answered : HasAnswered s checks rest
+  pub put : PutsWords held now checks
+
+-- ---- how far steps were asked
+
+-- So far steps were asked: those up to a check or the end, which have no fault. These are their checks, and these lines stand behind
+-- the last of them.
+pub record AskedSoFar (enums : Enums) (steps : List PlainStep) (checks : List AnsweredCheck) (lines : List ℕ) : Type 0 where
+  pub done : List PlainStep
+  pub left : List PlainStep
+  pub cut : steps ≡ done ++ left
+  pub stops : StopsAt left
+  pub faultless : first_fault enums (asserted done) ≡ None
+  pub asked : AreAsked enums done new_stages [] checks lines
+
+-- The session failed by an error of this kind at the check behind these, or where lines were to be sent, on a link that tells this now; the
+-- words of the checks before were put.
+pub record StopsSession (enums : Enums) (steps : List PlainStep) (held now : Option (List ℕ)) (kind : SessionFault) (s : LinkState) : Type 0 where
+  pub checks : List AnsweredCheck
+  pub lines : List ℕ
+  pub so_far : AskedSoFar enums steps checks lines
+  pub why : FailsBehind s checks lines kind ⊎ FailsToSendLines s kind
+  pub put : now ≡ append_known held (words_of checks)
+
+-- Why a solver was not asked by all steps, on a link that tells this now: a term has no script, the sink failed, the session failed, or there
+-- was no memory.
+abbrev pub StopsAsking : Enums → List PlainStep → (held now : Option (List ℕ)) → (failed : Type 0) → LinkState → CheckRefusal → Type 0
+StopsAsking enums steps held now failed s (Encode kind) = IsFaultOf kind (first_fault enums (asserted steps)) × Spoke s held now
+StopsAsking enums steps held now failed s Sink = failed × SpokeInPart s held now
+StopsAsking enums steps held now failed s Start = ⊥
+StopsAsking enums steps held now failed s (Session kind) = StopsSession enums steps held now kind s
+StopsAsking enums steps held now failed s Memory = (checks : List AnsweredCheck) × PutsWords held now checks
+
+-- A link was asked by all steps, which have no fault, and the words of its answers were put.
+pub record AsksAll (enums : Enums) (steps : List PlainStep) (held now : Option (List ℕ)) (allows : List ℕ → List ℕ → List ℕ → Type 0) (s : LinkState) (checks : List AnsweredCheck) (rest : List ℕ) : Type 0 where
+  pub faultless : first_fault enums (asserted steps) ≡ None
+  pub asked : AreAsked enums steps new_stages [] checks rest
+  pub answered : HasAnswered s checks rest
+  pub gave : GaveAllowed allows s checks
+  pub put : now ≡ append_known held (words_of checks)
+
+-- ---- with a starter
+
+module _ {L : Type 0} (state : L → LinkState) (allows : List ℕ → List ℕ → List ℕ → Type 0) (old new : StarterState L) (command : SolverCall) (enums : Enums) (steps : List PlainStep) (held now : Option (List ℕ)) where
+  -- A solver was started by the command and asked by all steps, and its link came back.
+  pub record AsksSolver : Type 0 where
+    pub checks : List AnsweredCheck
+    pub rest : List ℕ
+    pub returns : Returns (λ link. AsksAll enums steps held now allows (state link) checks rest) old new command
+
+  -- Why a solver was not asked by all steps. Where one was started its link came back, unless there was no memory; where that had
+  -- failed, the starter's count of link faults shows it.
+  abbrev pub WhyNotAsked : (failed : Type 0) → CheckRefusal → Type 0
+  WhyNotAsked failed (Encode kind) = IsFaultOf kind (first_fault enums (asserted steps)) × (((new ≡ old) × (now ≡ held)) ⊎ Returns (λ link. Spoke (state link) held now) old new command)
+  WhyNotAsked failed Sink = failed × Returns (λ link. SpokeInPart (state link) held now) old new command
+  WhyNotAsked failed Start = Rose old.failed_starts new.failed_starts × ((lines : List ℕ) × AskedSoFar enums steps [] lines) × (now ≡ held)
+  WhyNotAsked failed (Session kind) = Returns (λ link. StopsSession enums steps held now kind (state link) × (0 < (state link).faults → Rose old.link_faults new.link_faults)) old new command
+  WhyNotAsked failed Memory = (checks : List AnsweredCheck) × PutsWords held now checks

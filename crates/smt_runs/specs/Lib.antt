@@ -1,0 +1,6 @@
+pub mod Asking
+pub mod Jobs
+pub mod Pieces
+pub mod Progress
+pub mod Refusal
+pub mod Speaking
