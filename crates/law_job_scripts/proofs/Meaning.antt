@@ -138,14 +138,14 @@ writable_steps_mean enums steps w =
 -- ---- jobs
 
 -- a check behind steps asserts nothing more
-with_check : (steps : List PlainStep) → asserted (steps ++ CheckStep ∷ []) ≡ asserted steps
+pub with_check : (steps : List PlainStep) → asserted (steps ++ CheckStep ∷ []) ≡ asserted steps
 with_check [] = refl
 with_check (AssertStep ts ∷ steps) = ap (λ (us : List PlainTerm). ts ++ us) (with_check steps)
 with_check (PushStep ∷ steps) = with_check steps
 with_check (PopStep ∷ steps) = with_check steps
 with_check (CheckStep ∷ steps) = with_check steps
 
-balanced_with_check : (k : ℕ) (steps : List PlainStep) → AreBalanced k steps → AreBalanced k (steps ++ CheckStep ∷ [])
+pub balanced_with_check : (k : ℕ) (steps : List PlainStep) → AreBalanced k steps → AreBalanced k (steps ++ CheckStep ∷ [])
 balanced_with_check zero [] b = tt
 balanced_with_check (suc k) [] b = tt
 balanced_with_check zero (AssertStep ts ∷ steps) b = balanced_with_check zero steps b

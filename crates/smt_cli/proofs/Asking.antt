@@ -1,5 +1,5 @@
 -- The steps by which a solver is asked about a job, by what was read of it.
-use Rattle.std.proofs.Common.{◌≡◌, ℕ, zero, suc, List, [], ◌∷◌, ◌++◌, map, refl, sym, ap, ◌∙◌, subst, append-nil, Option, None}
+use Rattle.std.proofs.Common.{◌≡◌, ℕ, List, [], ◌∷◌, map, refl, sym, ap, ◌∙◌, subst, Option, None}
 use Rattle.std.proofs.lemmas.List.{map-append}
 use Rattle.std.specs.Prelude.{IsTrue}
 use Rattle.law_terms.specs.Faults.{Fault, first_fault}
@@ -7,9 +7,9 @@ use Rattle.law_terms.specs.Plain.{PlainTerm}
 use Rattle.law_terms.specs.TypeValues.{Enums}
 use Rattle.law_folding.specs.Built.{built}
 use Rattle.law_jobs.specs.Jobs.{IsBuiltFrom, PlainJob, built_job, fault_of}
-use Rattle.law_jobs.specs.Steps.{PlainStep, AreBalanced, AssertStep, CheckStep, PopStep, PushStep, Section, TermsSection, StepsSection, asserted, built_step, built_steps, checked_steps}
+use Rattle.law_jobs.specs.Steps.{PlainStep, AreBalanced, CheckStep, Section, TermsSection, StepsSection, asserted, built_step, built_steps, checked_steps}
 use Rattle.law_jobs.proofs.Steps.{asserted_built}
-use Rattle.law_job_scripts.proofs.Behind.{asserted_before}
+use Rattle.law_job_scripts.proofs.Meaning.{balanced_with_check, with_check}
 use Rattle.smt_nodes.specs.declared.interner.Interner.{Interner}
 use Rattle.smt_jobs.specs.Numbers.{all_steps_stand, steps_by}
 use Rattle.smt_jobs.specs.declared.numbered.NumberedStep.{NumberedStep}
@@ -30,9 +30,9 @@ of_steps bytes section job is A a =
     subst (λ (steps : List PlainStep). A is.written.enums steps) (steps_of section is.is_job.section job is.written is.by_section is.is_built)
     (subst (λ (j : PlainJob). A j.enums (checked_steps section job.steps)) is.is_built a)
 
--- a check behind steps asserts nothing more
+-- the steps by which a solver is asked assert what those of the job do
 asserted_checked : (section : Section) (steps : List PlainStep) → asserted (checked_steps section steps) ≡ asserted steps
-asserted_checked TermsSection steps = asserted_before steps (CheckStep ∷ []) ∙ append-nil (asserted steps)
+asserted_checked TermsSection steps = with_check steps
 asserted_checked StepsSection steps = refl
 
 -- the fault of what was asked is that of the job
@@ -50,18 +50,6 @@ faultless_read job written is none =
     subst (λ (ts : List PlainTerm). first_fault written.enums ts ≡ None) (asserted_built written.steps) (subst (λ (j : PlainJob). first_fault j.enums (asserted j.steps) ≡ None) is none)
 
 -- ---- by numbers
-
-balanced_with_check : (k : ℕ) (steps : List PlainStep) → AreBalanced k steps → AreBalanced k (steps ++ CheckStep ∷ [])
-balanced_with_check zero [] b = tt
-balanced_with_check (suc k) [] b = tt
-balanced_with_check zero (AssertStep ts ∷ steps) b = balanced_with_check zero steps b
-balanced_with_check (suc k) (AssertStep ts ∷ steps) b = balanced_with_check (suc k) steps b
-balanced_with_check zero (PushStep ∷ steps) b = balanced_with_check 1 steps b
-balanced_with_check (suc k) (PushStep ∷ steps) b = balanced_with_check (suc (suc k)) steps b
-balanced_with_check zero (PopStep ∷ steps) b = b
-balanced_with_check (suc k) (PopStep ∷ steps) b = balanced_with_check k steps b
-balanced_with_check zero (CheckStep ∷ steps) b = balanced_with_check zero steps b
-balanced_with_check (suc k) (CheckStep ∷ steps) b = balanced_with_check (suc k) steps b
 
 balanced_checked : (section : Section) (steps : List PlainStep) → AreBalanced 0 steps → AreBalanced 0 (checked_steps section steps)
 balanced_checked TermsSection steps b = balanced_with_check 0 steps b
