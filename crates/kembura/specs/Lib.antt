@@ -229,6 +229,11 @@ pub use Rattle.smt_jobs.specs.Numbered
 pub use Rattle.smt_jobs.specs.Numbers as JobNumbers
 pub use Rattle.smt_jobs.specs.Refused as JobsRefused
 pub use Rattle.smt_jobs.specs.StepView
+pub use Rattle.smt_mini.specs.Commands as MiniCommands
+pub use Rattle.smt_mini.specs.Levels as MiniLevels
+pub use Rattle.smt_mini.specs.Replies as MiniReplies
+pub use Rattle.smt_mini.specs.Stands as MiniStands
+pub use Rattle.smt_mini.specs.Turns as MiniTurns
 pub use Rattle.smt_nodes.specs.Attributes
 pub use Rattle.smt_nodes.specs.Index
 pub use Rattle.smt_nodes.specs.Interned
@@ -244,6 +249,8 @@ pub use Rattle.smt_pool.specs.Errors as PoolErrors
 pub use Rattle.smt_pool.specs.Pool
 pub use Rattle.smt_pool.specs.Pooled
 pub use Rattle.smt_pool.specs.Sessions
+pub use Rattle.smt_review.specs.Differences
+pub use Rattle.smt_review.specs.Rows as ReviewRows
 pub use Rattle.smt_runs.specs.Asking
 pub use Rattle.smt_runs.specs.Jobs as RunsJobs
 pub use Rattle.smt_runs.specs.Pieces as RunsPieces

@@ -6,8 +6,9 @@
 //! | `terms`, `types`, `texts`, `bits`, `extensions` | terms and their types, texts, bitvectors, values of the extension types |
 //! | `factory` | the calls that build terms and fold constants |
 //! | `encode`, `script`, `expressions`, `nodes` | the encoder to SMT-LIB 2.7, sinks and lines of scripts, the reader of S-expressions, numbered nodes |
-//! | `solve`, `pool` | links to solvers, sessions, processes; pools of sessions, and the check of a script |
+//! | `solve`, `pool`, `mini` | links to solvers, sessions, processes; pools of sessions, and the check of a script; a small solver |
 //! | `jobs`, `runs`, `program` | the reader of jobs; scripts and checks of a job's steps; the run of `smtcli` |
+//! | `review` | the term that says where two conditions differ |
 //! | `cedar`, `values`, `symbolizer` | Cedar's types and values, their terms, and the tables of a schema, a request and a store |
 //! | `laws` | the laws of the definitions, by subject |
 //!
@@ -29,9 +30,11 @@ pub use smt_ext::{Datetime, Decimal, Duration, Ext, IPNet};
 pub use smt_factory as factory;
 pub use smt_jobs as jobs;
 pub use smt_jobs::{Job, Section, Step, StepList, read_job};
+pub use smt_mini as mini;
 pub use smt_nodes as nodes;
 pub use smt_pool as pool;
 pub use smt_pool::{SolverPool, check_script};
+pub use smt_review as review;
 pub use smt_runs as runs;
 pub use smt_script as script;
 pub use smt_script::{ListSink, Sink, SinkError, SmtLibScript};
