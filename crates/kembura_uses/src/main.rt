@@ -2,6 +2,7 @@
 //! `pool` whether the session of a pool is kept.
 #![tactic(auto)]
 
+mod compare;
 mod conditions;
 mod decide;
 mod levels;

@@ -21,7 +21,7 @@ use Rattle.law_folding.proofs.ConnectivesStand.{boolean}
 use Rattle.law_folding.proofs.FoldingsKeep.{related as foldings_keep}
 use Rattle.law_folding.proofs.Reaching.{interpreted}
 use Rattle.law_folding.proofs.Standing.{itself}
-use Rattle.smt_review.specs.Differences.{DifferencesTell, difference_by, related, truth_in}
+use Rattle.smt_review.specs.Differences.{AreRelated, DifferencesTell, difference_by, related, truth_in}
 use Rattle.smt_review.specs.declared.relation.Relation.{Relation}
 use Rattle.smt_review.specs.declared.relation.Relation.TheVariants.{Equivalent, Implies, Disjoint}
 
@@ -127,9 +127,16 @@ module _ (enums : Enums) (I : Interpretation) (r : Relation) (t u : PlainTerm) (
       let s = stands r t u in
       (s.value BoolType enums I (formed_difference r t u ft fu) typed_so (all-join (IsGiven enums I) (subterms (difference_by applied r t u)) [] given tt) ∙ true_difference e, tt)
 
-pub differences_tell : DifferencesTell
-differences_tell enums r t u ht hu ft fu never I given =
+told : (enums : Enums) (r : Relation) (t u : PlainTerm) → Typed t BoolType → Typed u BoolType → IsFormed t → IsFormed u
+    → ((I : Interpretation) → IsInterpretation enums (difference_by folding r t u ∷ []) I → AreTrue I (difference_by folding r t u ∷ []) → ⊥) → AreRelated enums r t u
+told enums r t u ht hu ft fu never I given =
     let P = IsGiven enums I in
     let gt = all-front P (subterms t) (subterms u ++ []) given in
     let gu = all-front P (subterms u) [] (all-back P (subterms t) (subterms u ++ []) given) in
     not_false (related r (truth_in I t) (truth_in I u)) (λ e. never I (in_folded enums I r t u ht hu ft fu gt gu) (true_folded enums I r t u ht hu ft fu gt gu e))
+
+boolean_folded : (r : Relation) (t u : PlainTerm) → Typed t BoolType → Typed u BoolType → Typed (difference_by folding r t u) BoolType
+boolean_folded r t u ht hu = (stands r t u).type BoolType (record { parts = typed_difference r t u ht.parts hu.parts ht.type hu.type; type = boolean_difference r t u })
+
+pub differences_tell : DifferencesTell
+differences_tell = record { boolean = boolean_folded; told = told }
