@@ -1,15 +1,17 @@
 -- What a flush behind the puts changes: the sink's count of faults may rise, and an error of its own may come.
-use Rattle.std.proofs.Common.{◌≡◌, ◌∙◌, ℕ, List, Option, Some, None, Ok, Err, Result, ap, refl, subst, sym}
+use Rattle.std.proofs.Common.{◌≡◌, ◌∙◌, ℕ, List, Option, Some, None, Ok, Err, Result, ap, inl, inr, refl, subst, sym}
 use Rattle.std.specs.Prelude.{IfErr, IfSome, IsErrAnd, IsErrOf, OnOk}
 use Rattle.smt_script.specs.Sink.{Rose}
 use Rattle.smt_script.specs.declared.sink.SinkError.{SinkError}
 use Rattle.smt_script.specs.declared.sink.SinkError.TheVariants.{Fault as SinkFault, Memory as SinkWant}
 use Rattle.smt_solve.specs.Link.{LinkState}
 use Rattle.smt_solve.specs.Starter.{Command as SolverCall}
+use Rattle.smt_runs.specs.Asking.{BreaksOff}
 use Rattle.smt_runs.specs.Jobs.{IsAJob}
 use Rattle.smt_runs.specs.declared.refusal.CheckRefusal.TheVariants.{Encode as CheckEncode, Sink as CheckSink, Start as CheckStart, Session as CheckSession}
+use Rattle.smt_runs.proofs.AtLeast.{at_least_now}
 use Rattle.smt_runs.proofs.Talking.{all_words}
-use Rattle.smt_cli.specs.Causes.{Around, HasCause, HasCheckCause, HasPutCause, HasScriptCause, IsStopped, LeavesOutput, PutsSomeWords, SinkFailed}
+use Rattle.smt_cli.specs.Causes.{Around, HasCause, HasCheckCause, HasPutCause, HasScriptCause, IsStopped, LeavesOutput, SinkFailed}
 use Rattle.smt_cli.specs.Refusal.{sink_refusal}
 use Rattle.smt_cli.specs.Run.{Checks, IsDone, Prints}
 use Rattle.smt_cli.proofs.Stopped.{of_told}
@@ -74,10 +76,21 @@ module _ {L : Type 0} (state : L → LinkState) (allows : List ℕ → List ℕ 
             link = r.link;
             started = r.started;
             returned = r.returned;
-            of_link = record { checks = k.asks.checks; rest = k.asks.rest; answered = r.of_link.answered; put = all_words before.held after.held k.asks.checks r.of_link.put };
+            of_link = record { checks = k.asks.checks; rest = k.asks.rest; answered = r.of_link.answered; gave = r.of_link.gave; put = all_words before.held after.held k.asks.checks r.of_link.put };
           },
         ),
       )
+
+  -- so they were where there was no memory for the flush
+  broke_off : (bytes : List ℕ) → Checks state allows call before after bytes → BreaksOff state allows before.starter after.starter call before.held after.held
+  broke_off bytes k =
+      let r = k.asks.returns in
+      inr (inl (record {
+        link = r.link;
+        started = r.started;
+        returned = r.returned;
+        of_link = record { checks = k.asks.checks; answered = at_least_now allows (state r.link) k.asks.checks k.asks.rest r.of_link.answered r.of_link.gave; put = all_words before.held after.held k.asks.checks r.of_link.put };
+      }))
 
   -- an error of the flush has its cause, where what was asked for was put
   flush_cause : (generation : Option (ℕ × ℕ)) (c : Option Command) (error : SinkError) → IsDone state allows call before after generation c → (error ≡ SinkFault → SinkFailed before after) → HasCause state allows c call before after (sink_refusal error)
@@ -87,7 +100,7 @@ module _ {L : Type 0} (state : L → LinkState) (allows : List ℕ → List ℕ 
   flush_cause generation (Some Help) SinkFault done failed = failed refl
   flush_cause generation (Some Version) SinkFault done failed = failed refl
   flush_cause generation (Some Script) SinkWant done failed = tt
-  flush_cause generation (Some Check) SinkWant done failed = of_told (Checks state allows call before after) (λ bytes. PutsSomeWords before after) before.left (λ bytes k. (k.asks.checks, all_words before.held after.held k.asks.checks k.asks.returns.of_link.put)) done.holds
+  flush_cause generation (Some Check) SinkWant done failed = of_told (Checks state allows call before after) (λ bytes. BreaksOff state allows before.starter after.starter call before.held after.held) before.left broke_off done.holds
   flush_cause generation (Some Generate) SinkWant done failed = tt
   flush_cause generation (Some Help) SinkWant done failed = tt
   flush_cause generation (Some Version) SinkWant done failed = tt

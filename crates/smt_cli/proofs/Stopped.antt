@@ -1,20 +1,21 @@
 -- Why a job was not checked.
-use Rattle.std.proofs.Common.{◌≡◌, ℕ, List, [], Option, Some, None, refl, sym, subst}
+use Rattle.std.proofs.Common.{◌≡◌, ℕ, List, Option, Some, None, inl, refl}
 use Rattle.std.specs.Prelude.{IfSome}
 use Rattle.law_terms.specs.TypeValues.{Enums}
 use Rattle.law_jobs.specs.Jobs.{IsBuiltFrom, PlainJob}
 use Rattle.law_jobs.specs.Steps.{PlainStep, Section, checked_steps}
 use Rattle.smt_solve.specs.Link.{LinkState}
 use Rattle.smt_solve.specs.Starter.{Command as SolverCall}
-use Rattle.smt_runs.specs.Asking.{PutsWords, WhyNotAsked}
+use Rattle.smt_runs.specs.Asking.{BreaksOff, WhyNotAsked}
 use Rattle.smt_runs.specs.Jobs.{HasReadCause}
 use Rattle.smt_runs.specs.declared.refusal.CheckRefusal.{CheckRefusal}
 use Rattle.smt_runs.specs.declared.refusal.CheckRefusal.TheVariants.{Encode as CheckEncode, Sink as CheckSink, Start as CheckStart, Session as CheckSession, Memory as CheckWant}
 use Rattle.smt_runs.specs.declared.refusal.ReadRefusal.{ReadRefusal}
 use Rattle.smt_runs.specs.declared.refusal.ReadRefusal.TheVariants.{Job as ReadJob, Source as ReadSource, Memory as ReadWant}
-use Rattle.smt_runs.proofs.Starting.{nothing_put}
-use Rattle.smt_cli.specs.Causes.{Around, HasCheckCause, IsStopped, LeavesOutput, PutsSomeWords, SinkFailed, SourceFailed}
+use Rattle.smt_runs.proofs.Starting.{stopped_before}
+use Rattle.smt_cli.specs.Causes.{Around, HasCheckCause, IsStopped, LeavesOutput, SinkFailed, SourceFailed}
 use Rattle.smt_cli.specs.Refusal.{check_refusal, read_refusal}
+use Rattle.smt_cli.specs.declared.refusal.Refusal.TheVariants.{Memory}
 use Rattle.smt_cli.proofs.Asking.{of_steps}
 
 -- what follows for the bytes that were read
@@ -40,7 +41,7 @@ module _ {L : Type 0} (state : L → LinkState) (allows : List ℕ → List ℕ 
   stop_cause section job CheckSink is h = (h.0, stopped before.left section job CheckSink is h)
   stop_cause section job CheckStart is h = (h.0, stopped before.left section job CheckStart is h)
   stop_cause section job (CheckSession kind) is h = stopped before.left section job (CheckSession kind) is h
-  stop_cause section job CheckWant is h = always (λ bytes. PutsSomeWords before after) before.left (λ bytes. h)
+  stop_cause section job CheckWant is h = always (λ bytes. BreaksOff state allows before.starter after.starter call before.held after.held) before.left (λ bytes. h)
 
   pub stop_leaves : (enums : Enums) (steps : List PlainStep) (why : CheckRefusal) → Why why enums steps → LeavesOutput before.held after.held (check_refusal why)
   stop_leaves enums steps (CheckEncode kind) h = tt
@@ -49,14 +50,15 @@ module _ {L : Type 0} (state : L → LinkState) (allows : List ℕ → List ℕ 
   stop_leaves enums steps (CheckSession kind) h = tt
   stop_leaves enums steps CheckWant h = tt
 
-  -- nothing was put
-  pub no_words : after.held ≡ before.held → IfSome before.left (λ bytes. PutsSomeWords before after)
-  no_words same = always (λ bytes. PutsSomeWords before after) before.left (λ bytes. ([], subst (λ (now : Option (List ℕ)). PutsWords before.held now []) (sym same) (nothing_put before.held)))
+  -- no solver was started, and nothing was put
+  pub stopped_early : after.starter ≡ before.starter → after.held ≡ before.held → HasCheckCause state allows call before after Memory
+  stopped_early unstarted unput =
+      always (λ bytes. BreaksOff state allows before.starter after.starter call before.held after.held) before.left (λ bytes. inl (stopped_before before.starter after.starter call before.held after.held unstarted unput))
 
-  pub read_cause : after.held ≡ before.held → (why : ReadRefusal) → HasReadCause before.left (SourceFailed before after) why → HasCheckCause state allows call before after (read_refusal why)
-  read_cause same (ReadJob kind) h = h
-  read_cause same ReadSource h = h
-  read_cause same ReadWant h = no_words same
+  pub read_cause : after.starter ≡ before.starter → after.held ≡ before.held → (why : ReadRefusal) → HasReadCause before.left (SourceFailed before after) why → HasCheckCause state allows call before after (read_refusal why)
+  read_cause unstarted unput (ReadJob kind) h = h
+  read_cause unstarted unput ReadSource h = h
+  read_cause unstarted unput ReadWant h = stopped_early unstarted unput
 
 -- no put was made
 pub unread_leaves : (held : Option (List ℕ)) (why : ReadRefusal) → LeavesOutput held held (read_refusal why)

@@ -4,11 +4,10 @@ use Rattle.law_terms.specs.Faults.{first_fault}
 use Rattle.law_folding.specs.Built.{built}
 use Rattle.law_jobs.specs.Jobs.{IsJob, PlainJob}
 use Rattle.law_jobs.specs.Steps.{PlainStep, AssertStep, CheckStep, PopStep, PushStep, asserted, built_steps, checked_steps}
-use Rattle.law_verdicts.specs.Dialogues.{AnsweredCheck}
 use Rattle.smt_script.specs.Sink.{Rose}
 use Rattle.smt_solve.specs.Link.{LinkState}
 use Rattle.smt_solve.specs.Starter.{Command as SolverCall, StarterState}
-use Rattle.smt_runs.specs.Asking.{PutsWords, WhyNotAsked}
+use Rattle.smt_runs.specs.Asking.{BreaksOff, WhyNotAsked}
 use Rattle.smt_runs.specs.Jobs.{HasFaultOf, IsAJob, IsRefusedAs}
 use Rattle.smt_runs.specs.declared.refusal.CheckRefusal.{CheckRefusal}
 use Rattle.smt_runs.specs.declared.refusal.CheckRefusal.TheVariants as check
@@ -88,10 +87,6 @@ module _ {L : Type 0} where
   IsStopped state allows call before after why bytes =
       (job : PlainJob) × (is : IsJob bytes job) × WhyNotAsked state allows before.starter after.starter call job.enums (built_steps (checked_steps is.section job.steps)) before.held after.held (SinkFailed before after) why
 
-  -- The words of some checks were put, of the last perhaps only a first part.
-  abbrev pub PutsSomeWords : (before after : Around L) → Type 0
-  PutsSomeWords before after = (checks : List AnsweredCheck) × PutsWords before.held after.held checks
-
   -- why `check` was refused
   abbrev pub HasCheckCause : (state : L → LinkState) → (allows : List ℕ → List ℕ → List ℕ → Type 0) → SolverCall → (before after : Around L) → Refusal → Type 0
   HasCheckCause state allows call before after Usage = ⊥
@@ -101,7 +96,7 @@ module _ {L : Type 0} where
   HasCheckCause state allows call before after Sink = SinkFailed before after × IfSome before.left (IsStopped state allows call before after check.Sink)
   HasCheckCause state allows call before after Start = StartFailed before after × IfSome before.left (IsStopped state allows call before after check.Start)
   HasCheckCause state allows call before after (Session kind) = IfSome before.left (IsStopped state allows call before after (check.Session kind))
-  HasCheckCause state allows call before after Memory = IfSome before.left (λ bytes. PutsSomeWords before after)
+  HasCheckCause state allows call before after Memory = IfSome before.left (λ bytes. BreaksOff state allows before.starter after.starter call before.held after.held)
 
   -- why what was asked for was refused
   abbrev pub HasCause : (state : L → LinkState) → (allows : List ℕ → List ℕ → List ℕ → Type 0) → Option Command → SolverCall → (before after : Around L) → Refusal → Type 0

@@ -108,9 +108,10 @@ fn answer<R: Source, W: Sink, P: Starter>(
 /// each check it sends `(check-sat)`, reads one line, and puts its word to `out`: `sat`, `unsat` or `unknown`. `out` is flushed before
 /// the next lines are made. A job with a section `terms` has one check, behind its terms. Where the solver is honest, so that it says
 /// `unsat` only of scripts without a model, `unsat` means that no interpretation makes all terms of the job true that are current at
-/// this check. A link to a solver that was started goes back to the starter before the run ends, unless there was no memory. With 0, 4
-/// and 6 the solver was not killed, with 8 only for what it answered. With 4, 6, 7 and 8 `out` has the words of the checks that were
-/// answered before, and with 6 and 7 perhaps a first part of one more. What lines the starter's links may give stays as it was.
+/// this check. A link to a solver that was started goes back to the starter before the run ends, unless there was no memory to take it
+/// back, with 7. With 0, 4 and 6 the solver was not killed, with 8 only for what it answered. With 4, 6, 7 and 8 `out` has the words of
+/// the checks that the solver answered before, and no other, with 6 and 7 perhaps a first part of one more. What lines the starter's
+/// links may give stays as it was.
 ///
 /// `gen SEED N` makes a job of N terms from the number SEED, encodes it onto a sink that counts, and puts six lines: how many
 /// terms the job has, how many of its variables the script declares, how many other names of terms it has, how many assertions,

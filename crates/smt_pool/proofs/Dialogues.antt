@@ -7,7 +7,7 @@ use Rattle.std.specs.List.{AllByRecursion}
 use Rattle.std.specs.Prelude.{IfErr, IfSome, is_some}
 use Rattle.smt_script.specs.CommandTexts.{check_sat_text}
 use Rattle.smt_solve.specs.Link.{AllowsOnly, IsAllowed, IsOver, IsUnused, LinkState}
-use Rattle.smt_solve.specs.Question.{AsksDecision, SendsCommand}
+use Rattle.smt_solve.specs.Question.{AsksDecision, BeginsExchange, Exchanges, SendsCommand}
 use Rattle.smt_solve.specs.declared.answer.Decision.{Decision}
 use Rattle.smt_solve.specs.declared.error.SolverError.{SolverError}
 use Rattle.smt_solve.specs.declared.error.SolverError.TheVariants.{Io as IoError, Solver as SolverSays, UnrecognizedSolverOutput as OtherOutput, SolverMarkedFailed, AnswerTooLong as TooLongAnswer, Memory as SolverWant}
@@ -107,6 +107,35 @@ unsent old new Memory u h = tt
 pub all_unsent : {T : Type 0} (old new : LinkState) (r : Result T CheckError) → IsUnkilled old → IfErr r (CannotSend old new) → IfErr r (WhyUnsent new)
 all_unsent old new (Ok x) u h = tt
 all_unsent old new (Err e) u h = unsent old new e u h
+
+-- ---- first parts of what is sent
+
+-- where a text was begun, a longer one was
+pub begun_longer : (old new : LinkState) (text more : List ℕ) → BeginsExchange old new text → BeginsExchange old new (text ++ more)
+begun_longer old new text more b = record {
+  sent = record { part = b.sent.part; rest = b.sent.rest ++ more; whole = sym (append_assoc b.sent.part b.sent.rest more) ∙ ap (λ (t : List ℕ). t ++ more) b.sent.whole; appended = b.sent.appended };
+  bytes = b.bytes;
+  was_read = b.was_read;
+  later = b.later;
+}
+
+known_twice : (o : Option (List ℕ)) (a b : List ℕ) → append_known (append_known o a) b ≡ append_known o (a ++ b)
+known_twice None a b = refl
+known_twice (Some t) a b = ap (λ (l : List ℕ). Some l) (append_assoc t a b)
+
+-- a text was sent, and another was begun behind it
+pub begun_behind : (old between new : LinkState) (text more : List ℕ) → Exchanges old between text [] → BeginsExchange between new more → BeginsExchange old new (text ++ more)
+begun_behind old between new text more x b = record {
+  sent = record {
+    part = text ++ b.sent.part;
+    rest = b.sent.rest;
+    whole = append_assoc text b.sent.part b.sent.rest ∙ ap (λ (t : List ℕ). text ++ t) b.sent.whole;
+    appended = b.sent.appended ∙ ap (λ (o : Option (List ℕ)). append_known o b.sent.part) x.sent ∙ known_twice old.sent text b.sent.part;
+  };
+  bytes = [] ++ b.bytes;
+  was_read = b.was_read ∙ ap (λ (o : Option (List ℕ)). append_known o b.bytes) x.was_read ∙ known_twice old.was_read [] b.bytes;
+  later = let first = x.later in let second = b.later in omega (arith, first, second);
+}
 
 -- ---- asking
 

@@ -1,7 +1,7 @@
 // The question to a solver whether a script has a model.
 ghost use Rattle.std.specs.Prelude.{◌≡◌, ◌≢◌, ◌≤◌, false, is_err, IfErr, IfOk, OnOk, Ok};
 ghost use Rattle.smt_solve.specs.Link.{AllowsTheSame, IsUnused};
-ghost use Rattle.smt_solve.specs.Question.{SendsCommand};
+ghost use Rattle.smt_solve.specs.Question.{BeginsExchange, SendsCommand};
 ghost use Rattle.smt_solve.specs.Session.{session_failed, session_link, state_by};
 ghost use Rattle.smt_solve.specs.Starter.{command_of};
 ghost use Rattle.law_verdicts.specs.Verdicts.{question_of};
@@ -34,6 +34,7 @@ pub(crate) fn send<L: Link>(session: &mut LocalSolver<L>, lines: &[u8]) -> Resul
     requires { session_failed session.old ≡ false }
     ensures sent { OnOk result (Lengthens (state_by L.state session.old) (state_by L.state session.new) lines.now) }
     ensures exchanged { OnOk result (SendsCommand {T = Unit} (state_by L.state session.old) (state_by L.state session.new) lines.now (Ok tt)) }
+    ensures first_part { BeginsExchange (state_by L.state session.old) (state_by L.state session.new) lines.now }
     ensures unfailed { OnOk result (session_failed session.new ≡ false) }
     ensures failed { session_failed session.new ≡ is_err result }
     ensures refused { IfErr result (CannotSend (state_by L.state session.old) (state_by L.state session.new)) }

@@ -1,8 +1,11 @@
 // A dialogue with a solver: one session, in which a script grows and is asked about several times.
-ghost use Rattle.std.specs.Prelude.{◌≡◌, ◌≤◌, ℕ, List, [], false, is_err, IfErr, IfOk, OnOk};
+ghost use Rattle.std.specs.Prelude.{◌≡◌, ◌≤◌, ◌++◌, ℕ, List, [], false, is_err, IfErr, IfOk, OnOk};
+ghost use Rattle.smt_script.specs.CommandTexts.{check_sat_text};
 ghost use Rattle.smt_solve.specs.Link.{AllowsTheSame, IsUnused};
+ghost use Rattle.smt_solve.specs.Question.{BeginsExchange};
 ghost use Rattle.smt_solve.specs.Session.{session_failed, session_link, state_by};
 ghost use Rattle.law_verdicts.specs.Dialogues.{AnsweredCheck, GaveAllowed, HasAnswered};
+ghost use Rattle.law_verdicts.specs.Verdicts.{logic_text};
 ghost use Rattle.smt_pool.specs.Checks.{CannotSend};
 ghost use Rattle.smt_pool.specs.Dialogue.{AnswersNext, RefusesNext, StaysAllowed, TakesMore, WhyUnsent};
 
@@ -33,7 +36,7 @@ use smt_solve::{Decision, Link, LocalSolver, Solver};
 /// # Errors
 ///
 /// `Session` of the kind `Io` comes where the link failed, which its count of faults shows, and `Memory` where the link has no
-/// memory. The session has failed after either, and the solver is not killed.
+/// memory. The session has failed after either, and the solver is not killed. A first part of the line was sent.
 pub fn begin_dialogue<L: Link>(session: &mut LocalSolver<L>) -> Result<(), CheckError>
     requires unfailed { session_failed session.old ≡ false }
     requires unused { IsUnused (state_by L.state session.old) }
@@ -41,6 +44,7 @@ pub fn begin_dialogue<L: Link>(session: &mut LocalSolver<L>) -> Result<(), Check
     ensures allowed { OnOk result (GaveAllowed (L.allows (session_link session.old)) (state_by L.state session.new) []) }
     ensures refused { IfErr result (CannotSend (state_by L.state session.old) (state_by L.state session.new)) }
     ensures unsent { IfErr result (WhyUnsent (state_by L.state session.new)) }
+    ensures first_part { BeginsExchange (state_by L.state session.old) (state_by L.state session.new) logic_text }
     ensures failed { session_failed session.new ≡ is_err result }
     ensures later { (state_by L.state session.old).faults ≤ (state_by L.state session.new).faults }
     ensures allows { AllowsTheSame (L.allows (session_link session.old)) (L.allows (session_link session.new)) }
@@ -65,13 +69,14 @@ pub fn begin_dialogue<L: Link>(session: &mut LocalSolver<L>) -> Result<(), Check
 ///
 /// # Errors
 ///
-/// As those of `begin_dialogue`.
+/// As those of `begin_dialogue`, where a first part of these lines was sent.
 pub fn send_more<L: Link>(session: &mut LocalSolver<L>, lines: &[u8]) -> Result<(), CheckError>
     requires unfailed { session_failed session.old ≡ false }
     ensures sent { OnOk result (TakesMore (state_by L.state session.old) (state_by L.state session.new) lines.now) }
     ensures allowed { OnOk result (StaysAllowed (L.allows (session_link session.old)) (state_by L.state session.old) (state_by L.state session.new)) }
     ensures refused { IfErr result (CannotSend (state_by L.state session.old) (state_by L.state session.new)) }
     ensures unsent { (checks : List AnsweredCheck) (rest : List ℕ) → HasAnswered (state_by L.state session.old) checks rest → IfErr result (WhyUnsent (state_by L.state session.new)) }
+    ensures first_part { BeginsExchange (state_by L.state session.old) (state_by L.state session.new) lines.now }
     ensures failed { session_failed session.new ≡ is_err result }
     ensures later { (state_by L.state session.old).faults ≤ (state_by L.state session.new).faults }
     ensures allows { AllowsTheSame (L.allows (session_link session.old)) (L.allows (session_link session.new)) }
@@ -103,7 +108,8 @@ pub fn send_more<L: Link>(session: &mut LocalSolver<L>, lines: &[u8]) -> Result<
 ///
 /// `Session` comes where the session failed, by the cause of its kind: the link failed, the answer is no UTF-8, the solver had
 /// ended, its answers ended, or its line tells of an error, says something else or is too long. The solver is killed only for what
-/// it answered. `Memory` comes where there is no memory. The session has failed after either.
+/// it answered. `Memory` comes where there is no memory. The session has failed after either. A first part of the lines and of
+/// `(check-sat)` was sent, perhaps nothing or all of it, and nothing else.
 pub fn ask_behind<L: Link>(
     session: &mut LocalSolver<L>,
     lines: &[u8],
@@ -111,6 +117,7 @@ pub fn ask_behind<L: Link>(
     requires unfailed { session_failed session.old ≡ false }
     ensures answered { IfOk result (AnswersNext (L.allows (session_link session.old)) (state_by L.state session.old) (state_by L.state session.new) lines.now) }
     ensures refused { IfErr result (RefusesNext (state_by L.state session.old) (state_by L.state session.new) lines.now) }
+    ensures first_part { BeginsExchange (state_by L.state session.old) (state_by L.state session.new) (lines.now ++ check_sat_text) }
     ensures failed { session_failed session.new ≡ is_err result }
     ensures later { (state_by L.state session.old).faults ≤ (state_by L.state session.new).faults }
     ensures allows { AllowsTheSame (L.allows (session_link session.old)) (L.allows (session_link session.new)) }

@@ -1,3 +1,4 @@
+pub mod AtLeast
 pub mod Between
 pub mod Loop
 pub mod Printing

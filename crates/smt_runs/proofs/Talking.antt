@@ -5,6 +5,7 @@ use Rattle.std.proofs.lemmas.List.{length-append, length-map}
 use Rattle.std.specs.Borrow.{Bor}
 use Rattle.std.specs.Io.KnownBytes.{append_known}
 use Rattle.std.specs.Prelude.{IfErr, IfOk}
+use Rattle.smt_script.specs.CommandTexts.{check_sat_text}
 use Rattle.smt_script.specs.Memory.{list_bytes}
 use Rattle.smt_script.specs.declared.memory.ListSink.{ListSink}
 use Rattle.law_texts.proofs.Blanks.{empty_from}
@@ -18,9 +19,9 @@ use Rattle.law_job_scripts.proofs.Asking.{asked_nothing, asked_then}
 use Rattle.law_job_scripts.proofs.Behind.{balanced_behind, fault_within, faultless_joined, stages_then}
 use Rattle.smt_script.specs.Sink.{AppendsPart, Rose}
 use Rattle.smt_solve.specs.Link.{AllowsOnly, AllowsTheSame, LinkState}
+use Rattle.smt_solve.specs.Question.{BeginsExchange}
 use Rattle.smt_solve.specs.declared.answer.Decision.{Decision}
-use Rattle.law_verdicts.specs.Dialogues.{AnsweredCheck, AreAllowed, GaveAllowed, HasAnswered}
-use Rattle.law_verdicts.specs.Verdicts.{logic_text}
+use Rattle.law_verdicts.specs.Dialogues.{AnsweredCheck, GaveAllowed, HasAnswered}
 use Rattle.smt_solve.specs.Session.{session_failed, session_link, state_by}
 use Rattle.smt_solve.specs.declared.session.LocalSolver.{LocalSolver}
 use Rattle.smt_encode.specs.Encoded.{enums_in, is_spent, nodes_in, HasEncoding}
@@ -31,18 +32,19 @@ use Rattle.smt_encode.specs.declared.encoder.Encoder.{Encoder}
 use Rattle.smt_pool.specs.Dialogue.{StaysAllowed, TakesMore, WhyUnsent, with_check}
 use Rattle.smt_pool.specs.declared.check_error.CheckError.{CheckError}
 use Rattle.smt_pool.specs.declared.check_error.CheckError.TheVariants.{Start as NoStart, Session as NoSession, Memory as CheckWant}
-use Rattle.smt_runs.specs.Asking.{AskedSoFar, AsksAll, PutsWords, StopsAsking, verdict_line, words_of}
+use Rattle.smt_runs.specs.Asking.{AskedSoFar, AsksAll, HasAtLeastAnswered, PutsWords, SpokeInPart, StopsAsking, verdict_line, words_of}
 use Rattle.smt_runs.specs.Jobs.{HasPrintCause, IsFaultOf}
 use Rattle.smt_runs.specs.Pieces.{PutsPiece, StopsAt}
 use Rattle.smt_runs.specs.Progress.{AtPiece}
 use Rattle.smt_runs.specs.Refusal.{check_refusal, unprinted_refusal}
-use Rattle.smt_runs.specs.Speaking.{SpeaksNext, StopsSpeaking}
+use Rattle.smt_runs.specs.Speaking.{SpeaksInPart, SpeaksNext, StopsSpeaking}
 use Rattle.smt_runs.specs.declared.refusal.CheckRefusal.{CheckRefusal}
 use Rattle.smt_runs.specs.declared.refusal.CheckRefusal.TheVariants.{Encode, Sink, Start, Session, Memory}
 use Rattle.smt_runs.specs.declared.refusal.EncodeRefusal.{EncodeRefusal}
 use Rattle.smt_runs.specs.declared.refusal.EncodeRefusal.TheVariants.{EmptyEnum, EncodeStringFailed, EncodePatternFailed, EnumMissingMember, ExpectRecord, MalformedRecordGet, MissingTypeEncoding, RecordMissingAttr}
 use Rattle.smt_runs.specs.declared.refusal.PrintRefusal.{PrintRefusal}
 use Rattle.smt_runs.specs.declared.refusal.PrintRefusal.TheVariants.{Encode as PrintEncode, Sink as PrintSink, Memory as PrintWant}
+use Rattle.smt_runs.proofs.AtLeast.{at_least_behind, at_least_now, at_least_too, gave_too}
 use Rattle.smt_runs.proofs.Loop.{known_nothing, known_twice}
 
 -- ---- words
@@ -77,14 +79,18 @@ last_word held now next checks lines answer d was p = record {
   part = record { part = p.part; rest = p.rest; whole = p.whole ∙ sym (append-nil (verdict_line d)); appended = p.appended ∙ ap (λ (o : Option (List ℕ)). append_known o p.part) was };
 }
 
--- ---- what a link allows
+-- ---- what is said by what a link allows
 
-allowed_too : (first second : List ℕ → List ℕ → List ℕ → Type 0) → AllowsOnly first second → (sent was_read : List ℕ) (cs : List AnsweredCheck) → AreAllowed first sent was_read cs → AreAllowed second sent was_read cs
-allowed_too first second only sent was_read [] h = tt
-allowed_too first second only sent was_read (c ∷ cs) h = (only _ _ _ h.0, allowed_too first second only _ _ cs h.1)
-
-pub gave_too : (first second : List ℕ → List ℕ → List ℕ → Type 0) → AllowsOnly first second → (s : LinkState) (cs : List AnsweredCheck) → GaveAllowed first s cs → GaveAllowed second s cs
-gave_too first second only s cs h k m = allowed_too first second only logic_text [] cs (h k m)
+-- why a solver was not asked, by what another relation allows too
+pub stops_too : (enums : Enums) (steps : List PlainStep) (held now : Option (List ℕ)) (failed : Type 0) (first second : List ℕ → List ℕ → List ℕ → Type 0) (only : AllowsOnly first second) (s : LinkState) (r : CheckRefusal) → StopsAsking enums steps held now failed first s r → StopsAsking enums steps held now failed second s r
+stops_too enums steps held now failed first second only s (Encode kind) h =
+    (h.0, record { checks = h.1.checks; rest = h.1.rest; answered = h.1.answered; gave = gave_too first second only s h.1.checks h.1.gave; put = h.1.put })
+stops_too enums steps held now failed first second only s Sink h =
+    (h.0, record { checks = h.1.checks; rest = h.1.rest; answered = h.1.answered; gave = gave_too first second only s h.1.checks h.1.gave; put = h.1.put })
+stops_too enums steps held now failed first second only s Start h = absurd h
+stops_too enums steps held now failed first second only s (Session kind) h =
+    record { checks = h.checks; lines = h.lines; so_far = h.so_far; answered = at_least_too first second only s h.checks h.answered; why = h.why; put = h.put }
+stops_too enums steps held now failed first second only s Memory h = record { checks = h.checks; answered = at_least_too first second only s h.checks h.answered; put = h.put }
 
 -- ---- faults of a kind
 
@@ -165,29 +171,41 @@ module _ (enums : Enums) (steps : List PlainStep) where
         text_is e = cc
 
   module _ (encoder : Encoder (Unit {0})) (left : List PlainStep) (lines : List ℕ) (allows : List ℕ → List ℕ → List ℕ → Type 0) (held : Option (List ℕ)) where
+    -- a first part of a check's word was put
+    stops_in_word : (old new : LinkState) (now next : Option (List ℕ)) (t : IsTalking enums encoder steps left lines allows old held now) → SpeaksInPart allows old new now next lines → SpokeInPart allows new held next
+    stops_in_word old new now next t h =
+        let w = h t.checks [] t.answered t.gave in
+        record { checks = with_check t.checks lines w.0 w.1; rest = []; answered = w.2; gave = w.3; put = last_word held now next t.checks lines w.0 w.1 t.put w.4 }
+
     -- a check's word was not put
     pub stops_at_word : (old new : LinkState) (now next : Option (List ℕ)) (part whole : Type 0) (r : CheckRefusal) (t : IsTalking enums encoder steps left lines allows old held now) → (part → whole)
-        → StopsSpeaking old new now next part lines (GaveAllowed allows old) r → StopsAsking enums steps held next whole new r
+        → StopsSpeaking allows old new now next part lines r → StopsAsking enums steps held next whole allows new r
     stops_at_word old new now next part whole (Encode kind) t rose h = absurd h
-    stops_at_word old new now next part whole Sink t rose h =
-        let w = h.1 t.checks [] t.answered t.gave in
-        (rose h.0, record { checks = with_check t.checks lines w.0 w.1; rest = []; answered = w.2; put = last_word held now next t.checks lines w.0 w.1 t.put w.3 })
+    stops_at_word old new now next part whole Sink t rose h = (rose h.0, stops_in_word old new now next t h.1)
     stops_at_word old new now next part whole Start t rose h = absurd (h t.checks [] t.answered)
     stops_at_word old new now next part whole (Session kind) t rose h = record {
       checks = t.checks;
       lines = lines;
       so_far = so_far encoder left t.checks lines t.at;
+      answered = at_least_behind allows old new (lines ++ check_sat_text) t.checks [] h.1 t.answered t.gave;
       why = h.0 t.checks [] t.answered;
-      put = h.1 ∙ t.put;
+      put = h.2 ∙ t.put;
     }
-    stops_at_word old new now next part whole Memory t rose (inl same) = (t.checks, all_words held next t.checks (same ∙ t.put))
-    stops_at_word old new now next part whole Memory t rose (inr p) = (with_check t.checks lines [] p.0, last_word held now next t.checks lines [] p.0 t.put p.1)
+    stops_at_word old new now next part whole Memory t rose (inl h) = record {
+      checks = t.checks;
+      answered = at_least_behind allows old new (lines ++ check_sat_text) t.checks [] h.0 t.answered t.gave;
+      put = all_words held next t.checks (h.1 ∙ t.put);
+    }
+    stops_at_word old new now next part whole Memory t rose (inr h) =
+        let s = stops_in_word old new now next t h in
+        record { checks = s.checks; answered = at_least_now allows new s.checks s.rest s.answered s.gave; put = s.put }
 
     -- lines were not sent
-    pub stops_sending : (s : LinkState) (now : Option (List ℕ)) (failed : Type 0) (checks : List AnsweredCheck) (at : AtPiece enums encoder steps left checks lines) (e : CheckError) → now ≡ append_known held (words_of checks) → WhyUnsent s e → StopsAsking enums steps held now failed s (check_refusal e)
-    stops_sending s now failed checks at NoStart put h = absurd h
-    stops_sending s now failed checks at (NoSession kind) put h = record { checks = checks; lines = lines; so_far = so_far encoder left checks lines at; why = inr h; put = put }
-    stops_sending s now failed checks at CheckWant put h = (checks, all_words held now checks put)
+    pub stops_sending : (s : LinkState) (now : Option (List ℕ)) (failed : Type 0) (checks : List AnsweredCheck) (at : AtPiece enums encoder steps left checks lines) (e : CheckError) → HasAtLeastAnswered allows s checks → now ≡ append_known held (words_of checks) → WhyUnsent s e
+        → StopsAsking enums steps held now failed allows s (check_refusal e)
+    stops_sending s now failed checks at NoStart answered put h = absurd h
+    stops_sending s now failed checks at (NoSession kind) answered put h = record { checks = checks; lines = lines; so_far = so_far encoder left checks lines at; answered = answered; why = inr h; put = put }
+    stops_sending s now failed checks at CheckWant answered put h = record { checks = checks; answered = answered; put = all_words held now checks put }
 
     -- all steps were asked, and nothing stands behind the last check
     pub asked_all : (s : LinkState) (now : Option (List ℕ)) (checks : List AnsweredCheck) (at : AtPiece enums encoder steps left checks lines) → left ≡ [] → HasAnswered s checks lines → GaveAllowed allows s checks → now ≡ append_known held (words_of checks) → AsksAll enums steps held now allows s checks lines
@@ -202,11 +220,11 @@ module _ (enums : Enums) (steps : List PlainStep) where
         }
 
   -- the next lines were not made
-  pub stops_writing : (held now : Option (List ℕ)) (failed : Type 0) (s : LinkState) (checks : List AnsweredCheck) (fault : Option Fault) (why : PrintRefusal) → ((f : Fault) → fault ≡ Some f → first_fault enums (asserted steps) ≡ Some f) → HasAnswered s checks [] → now ≡ append_known held (words_of checks)
-      → HasPrintCause fault ⊥ why → StopsAsking enums steps held now failed s (unprinted_refusal why)
-  stops_writing held now failed s checks fault (PrintEncode kind) more answered put h = (kind_moved kind fault (first_fault enums (asserted steps)) more h, record { checks = checks; rest = []; answered = answered; put = put })
-  stops_writing held now failed s checks fault PrintSink more answered put h = absurd h
-  stops_writing held now failed s checks fault PrintWant more answered put h = (checks, all_words held now checks put)
+  pub stops_writing : (held now : Option (List ℕ)) (failed : Type 0) (allows : List ℕ → List ℕ → List ℕ → Type 0) (s : LinkState) (checks : List AnsweredCheck) (fault : Option Fault) (why : PrintRefusal) → ((f : Fault) → fault ≡ Some f → first_fault enums (asserted steps) ≡ Some f) → HasAnswered s checks [] → GaveAllowed allows s checks
+      → now ≡ append_known held (words_of checks) → HasPrintCause fault ⊥ why → StopsAsking enums steps held now failed allows s (unprinted_refusal why)
+  stops_writing held now failed allows s checks fault (PrintEncode kind) more answered gave put h = (kind_moved kind fault (first_fault enums (asserted steps)) more h, record { checks = checks; rest = []; answered = answered; gave = gave; put = put })
+  stops_writing held now failed allows s checks fault PrintSink more answered gave put h = absurd h
+  stops_writing held now failed allows s checks fault PrintWant more answered gave put h = record { checks = checks; answered = at_least_now allows s checks [] answered gave; put = all_words held now checks put }
 
 -- ---- the loop
 
@@ -234,11 +252,12 @@ module _ {S K : Type 0} (state : K → LinkState) (allows : K → List ℕ → L
         record { checks = t.checks; at = t.at; answered = t.answered; gave = gave_too (allows (session_link session0)) (allows (session_link session)) u.same_allows.there (state_by state session) t.checks t.gave; put = t.put }
 
     pub word_refused : (steps : List PlainStep) → StartsAt steps → (new : LinkState) (next : Option (List ℕ)) (after : ℕ) (bytes : List ℕ) (r : CheckRefusal) → bytes ≡ lines
-        → StopsSpeaking (state_by state session) new (contents out) next (Rose (faults out) after) bytes (GaveAllowed (allows (session_link session)) (state_by state session)) r → StopsAsking (enums_in first) steps (contents out0) next (Rose (faults out0) after) new r
+        → StopsSpeaking (allows (session_link session)) (state_by state session) new (contents out) next (Rose (faults out) after) bytes r → StopsAsking (enums_in first) steps (contents out0) next (Rose (faults out0) after) (allows (session_link session0)) new r
     word_refused steps start new next after bytes r same h =
-        stops_at_word (enums_in first) steps encoder (steps_by (nodes_in first) left) lines (allows (session_link session)) (contents out0) (state_by state session) new (contents out) next (Rose (faults out) after) (Rose (faults out0) after) r (talks_here steps start)
+        stops_too (enums_in first) steps (contents out0) next (Rose (faults out0) after) (allows (session_link session)) (allows (session_link session0)) u.same_allows.back new r
+        (stops_at_word (enums_in first) steps encoder (steps_by (nodes_in first) left) lines (allows (session_link session)) (contents out0) (state_by state session) new (contents out) next (Rose (faults out) after) (Rose (faults out0) after) r (talks_here steps start)
         (λ rose. (let later = u.later in omega (arith, rose, later)))
-        (subst (λ (l : List ℕ). StopsSpeaking (state_by state session) new (contents out) next (Rose (faults out) after) l (GaveAllowed (allows (session_link session)) (state_by state session)) r) same h)
+        (subst (λ (l : List ℕ). StopsSpeaking (allows (session_link session)) (state_by state session) new (contents out) next (Rose (faults out) after) l r) same h))
 
     module _ (step : NumberedStep) (behind : List NumberedStep) (is : left ≡ step ∷ behind) where
       abbrev here : PlainStep
@@ -273,15 +292,15 @@ module _ {S K : Type 0} (state : K → LinkState) (allows : K → List ℕ → L
             let t = talks_here steps start in
             subst (λ (l : List ℕ). SpeaksNext (allows (session_link session)) (state_by state session) (state_by state session1) (contents out) (contents out1) l) same spoke t.checks [] t.answered t.gave
 
-        pub piece_refused : (steps : List PlainStep) → StartsAt steps → (failed : Type 0) (why : PrintRefusal) → HasPrintCause (first_fault (enums_in encoder) (asserted (steps_by (nodes_in encoder) behind))) ⊥ why → StopsAsking (enums_in first) steps (contents out0) (contents out1) failed (state_by state session1) (unprinted_refusal why)
+        pub piece_refused : (steps : List PlainStep) → StartsAt steps → (failed : Type 0) (why : PrintRefusal) → HasPrintCause (first_fault (enums_in encoder) (asserted (steps_by (nodes_in encoder) behind))) ⊥ why → StopsAsking (enums_in first) steps (contents out0) (contents out1) failed (allows (session_link session0)) (state_by state session1) (unprinted_refusal why)
         piece_refused steps start failed why h =
             let at = at_check steps start in
             let checks = (u.talks steps start).checks in
             let w = said steps start in
-            stops_writing (enums_in first) steps (contents out0) (contents out1) failed (state_by state session1) (with_check checks lines w.0 w.1) (first_fault (enums_in encoder) (asserted (steps_by (nodes_in encoder) behind))) why
+            stops_writing (enums_in first) steps (contents out0) (contents out1) failed (allows (session_link session0)) (state_by state session1) (with_check checks lines w.0 w.1) (first_fault (enums_in encoder) (asserted (steps_by (nodes_in encoder) behind))) why
             (λ f e. fault_behind_check (enums_in first) steps encoder here rest_of_steps checks lines at f
             (ap (λ (n : Enums). first_fault n (asserted rest_of_steps)) (sym u.same_enums) ∙ ap (λ (n : Interner). first_fault (enums_in encoder) (asserted (steps_by n behind))) (sym u.same_nodes) ∙ e))
-            w.2 (one_word (contents out0) (contents out) (contents out1) checks lines w.0 w.1 (u.talks steps start).put w.4) h
+            w.2 (gave_too (allows (session_link session)) (allows (session_link session0)) u.same_allows.back (state_by state session1) (with_check checks lines w.0 w.1) w.3) (one_word (contents out0) (contents out) (contents out1) checks lines w.0 w.1 (u.talks steps start).put w.4) h
 
         module _ (next : Encoder (Unit {0})) (later : List NumberedStep) (more : List ℕ) where
           abbrev PieceIs : Stages → Type 0
@@ -338,10 +357,10 @@ module _ {S K : Type 0} (state : K → LinkState) (allows : K → List ℕ → L
         subst (λ (l : List ℕ). AsksAll (enums_in first) steps (contents out0) (contents out) (allows (session_link session0)) (state_by state session) t.checks l) empty
         (asked_all (enums_in first) steps encoder (steps_by (nodes_in first) left) lines (allows (session_link session0)) (contents out0) (state_by state session) (contents out) t.checks t.at (ap (steps_by (nodes_in first)) none) (subst (HasAnswered (state_by state session) t.checks) (sym empty) t.answered) t.gave t.put)
 
-    pub rest_refused : (steps : List PlainStep) (start : StartsAt steps) → (new : LinkState) (failed : Type 0) (e : CheckError) → ((checks : List AnsweredCheck) (rest : List ℕ) → HasAnswered (state_by state session) checks rest → WhyUnsent new e) → StopsAsking (enums_in first) steps (contents out0) (contents out) failed new (check_refusal e)
-    rest_refused steps start new failed e h =
+    pub rest_refused : (steps : List PlainStep) (start : StartsAt steps) → (new : LinkState) (failed : Type 0) (bytes : List ℕ) (e : CheckError) → BeginsExchange (state_by state session) new bytes → ((checks : List AnsweredCheck) (rest : List ℕ) → HasAnswered (state_by state session) checks rest → WhyUnsent new e) → StopsAsking (enums_in first) steps (contents out0) (contents out) failed (allows (session_link session0)) new (check_refusal e)
+    rest_refused steps start new failed bytes e begun h =
         let t = u.talks steps start in
-        stops_sending (enums_in first) steps encoder (steps_by (nodes_in first) left) lines (allows (session_link session0)) (contents out0) new (contents out) failed t.checks t.at e t.put (h t.checks [] t.answered)
+        stops_sending (enums_in first) steps encoder (steps_by (nodes_in first) left) lines (allows (session_link session0)) (contents out0) new (contents out) failed t.checks t.at e (at_least_behind (allows (session_link session0)) (state_by state session) new bytes t.checks [] begun t.answered t.gave) t.put (h t.checks [] t.answered)
 
     pub rest_sent : (steps : List PlainStep) (start : StartsAt steps) → left ≡ [] → (new : LinkState) (bytes : List ℕ) → bytes ≡ lines → TakesMore (state_by state session) new bytes → StaysAllowed (allows (session_link session)) (state_by state session) new
         → AsksAll (enums_in first) steps (contents out0) (contents out) (allows (session_link session0)) new (u.talks steps start).checks lines

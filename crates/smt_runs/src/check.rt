@@ -29,9 +29,9 @@ use std::sync::ledger::Ledger;
 ///
 /// `Encode` comes with the kind of the first fault of the terms, where no check before it failed; `Sink` where `out` failed, which its
 /// count of faults shows; `Start` where the solver did not start, and `Session` where its session failed, by the cause of its kind;
-/// `Memory` where there is no memory. `out` has got the words of the checks that were answered before, and with `Sink` and `Memory`
-/// perhaps a first part of one more. A solver that was started comes back to the starter, unless there is no memory, and was not
-/// killed but for what it answered.
+/// `Memory` where there is no memory. `out` has got the words of the checks that the solver answered before, and no other, with `Sink`
+/// and `Memory` perhaps a first part of one more. A solver that was started comes back to the starter, unless there is no memory to
+/// take it back, and was not killed but for what it answered.
 pub fn check_steps<L: Ledger, W: Sink, P: Starter>(
     alloc: Global,
     enums: &EnumTable,

@@ -16,7 +16,7 @@ ghost use Rattle.smt_runs.specs.Jobs.{HasPrintCause};
 ghost use Rattle.smt_runs.specs.Pieces.{PutsPiece};
 ghost use Rattle.smt_runs.specs.Progress.{AtPiece};
 ghost use Rattle.smt_runs.specs.Speaking.{SpeaksNext, StopsSpeaking};
-ghost use Rattle.law_verdicts.specs.Dialogues.{AnsweredCheck, GaveAllowed, HasAnswered};
+ghost use Rattle.law_verdicts.specs.Dialogues.{AnsweredCheck};
 
 use crate::pieces::put_piece;
 use crate::refusal::{CheckRefusal, PrintRefusal};
@@ -76,7 +76,7 @@ fn put_verdict<K: Link, W: Sink>(
 ) -> Result<(), CheckRefusal>
     requires { session_failed session.old ≡ false }
     ensures asked { OnOk result (SpeaksNext (K.allows (session_link session.old)) (state_by K.state session.old) (state_by K.state session.new) (W.contents out.old) (W.contents out.new) lines.now) }
-    ensures refused { IfErr result (StopsSpeaking (state_by K.state session.old) (state_by K.state session.new) (W.contents out.old) (W.contents out.new) (Rose (W.faults out.old) (W.faults out.new)) lines.now (GaveAllowed (K.allows (session_link session.old)) (state_by K.state session.old))) }
+    ensures refused { IfErr result (StopsSpeaking (K.allows (session_link session.old)) (state_by K.state session.old) (state_by K.state session.new) (W.contents out.old) (W.contents out.new) (Rose (W.faults out.old) (W.faults out.new)) lines.now) }
     ensures unfailed { OnOk result (session_failed session.new ≡ false) }
     ensures later { W.faults out.old ≤ W.faults out.new }
     ensures allows { AllowsTheSame (K.allows (session_link session.old)) (K.allows (session_link session.new)) }
@@ -105,7 +105,7 @@ pub(crate) fn converse<'a, L: Ledger, K: Link, W: Sink>(
     ensures asked { (steps : List PlainStep) → AtPiece (enums_in encoder.entry) encoder.entry steps (steps_by (nodes_in encoder.entry) left.now) [] (list_bytes lines) →
         OnOk result ((checks : List AnsweredCheck) × (rest : List ℕ) × AsksAll (enums_in encoder.entry) steps (W.contents out.old) (W.contents out.new) (K.allows (session_link session.old)) (state_by K.state session.new) checks rest) }
     ensures refused { (steps : List PlainStep) → AtPiece (enums_in encoder.entry) encoder.entry steps (steps_by (nodes_in encoder.entry) left.now) [] (list_bytes lines) →
-        IfErr result (StopsAsking (enums_in encoder.entry) steps (W.contents out.old) (W.contents out.new) (Rose (W.faults out.old) (W.faults out.new)) (state_by K.state session.new)) }
+        IfErr result (StopsAsking (enums_in encoder.entry) steps (W.contents out.old) (W.contents out.new) (Rose (W.faults out.old) (W.faults out.new)) (K.allows (session_link session.old)) (state_by K.state session.new)) }
     ensures later { W.faults out.old ≤ W.faults out.new }
 {
     begin_dialogue(session)?;

@@ -10,7 +10,7 @@ use Rattle.smt_cli.specs.Causes.{HasCheckCause, SinkFailed, around}
 use Rattle.smt_cli.specs.Refusal.{check_refusal, read_refusal}
 use Rattle.smt_cli.specs.Words.{solver_named}
 use Rattle.smt_cli.proofs.Believing.{checked}
-use Rattle.smt_cli.proofs.Stopped.{no_words, read_cause, stop_cause}
+use Rattle.smt_cli.proofs.Stopped.{read_cause, stop_cause, stopped_early}
 use Rattle.smt_cli.proofs.program.check.Goals as goal
 
 pub returns-in_err-job-clause-refused : goal.returns-in_err-job-clause-refused
@@ -20,13 +20,13 @@ returns-in_err-job-clause-refused g c =
     let call = solver_named (texts c.args.words.now) in
     let before = around g.R.Source.remaining g.R.Source.faults g.W.Sink.contents g.W.Sink.faults g.P.Starter.state c.args.source.now c.args.out.now c.args.starter.now in
     let after = around g.R.Source.remaining g.R.Source.faults g.W.Sink.contents g.W.Sink.faults g.P.Starter.state c.read_source.new.source c.args.out.now c.args.starter.now in
-    by_refusal (HasCheckCause state allows call before after) c.from_residual.result (read_refusal c.in_err-job.field-0.0) c.from_residual.ensures.1 (read_cause state allows call before after refl c.in_err-job.field-0.0 c.in_err-job.ensures.refused)
+    by_refusal (HasCheckCause state allows call before after) c.from_residual.result (read_refusal c.in_err-job.field-0.0) c.from_residual.ensures.1 (read_cause state allows call before after refl refl c.in_err-job.field-0.0 c.in_err-job.ensures.refused)
 
 pub returns-in_default-clause-refused : goal.returns-in_default-clause-refused
 returns-in_default-clause-refused g c =
     let before = around g.R.Source.remaining g.R.Source.faults g.W.Sink.contents g.W.Sink.faults g.P.Starter.state c.args.source.now c.args.out.now c.args.starter.now in
     let after = around g.R.Source.remaining g.R.Source.faults g.W.Sink.contents g.W.Sink.faults g.P.Starter.state c.read_source.new.source c.args.out.now c.args.starter.now in
-    no_words g.P.L.Link.state (g.P.Starter.allows c.args.starter.now) (solver_named (texts c.args.words.now)) before after refl
+    stopped_early g.P.L.Link.state (g.P.Starter.allows c.args.starter.now) (solver_named (texts c.args.words.now)) before after refl refl
 
 pub returns-in_err-put_verdicts-clause-refused : goal.returns-in_err-put_verdicts-clause-refused
 returns-in_err-put_verdicts-clause-refused g c =

@@ -1,8 +1,9 @@
 use Rattle.std.proofs.Common.{sym, subst}
+use Rattle.smt_script.specs.CommandTexts.{check_sat_text}
 use Rattle.smt_solve.specs.Session.{session_link, state_by}
 use Rattle.smt_pool.specs.Dialogue.{RefusesNext}
 use Rattle.smt_pool.specs.declared.check_error.CheckError.{CheckError}
-use Rattle.smt_pool.proofs.Dialogues.{answers_next, exits_next, refuses_next, unsent_next}
+use Rattle.smt_pool.proofs.Dialogues.{answers_next, begun_behind, begun_longer, exits_next, refuses_next, unsent_next}
 use Rattle.smt_pool.proofs.dialogue.ask_behind.Goals as goal
 
 pub returns-in-Ok-clause-answered : goal.returns-in-Ok-clause-answered
@@ -23,3 +24,18 @@ returns-in_err-send-clause-refused g c =
     let state = state_by g.L.Link.state in
     exits_next (state c.args.session.now) (state c.send.new.session) c.args.lines.now c.from_residual.result c.in_err-send.field-0.0 c.from_residual.ensures.1
     (unsent_next (state c.args.session.now) (state c.send.new.session) c.args.lines.now c.in_err-send.field-0.0 c.in_err-send.ensures.refused)
+
+pub returns-in-Ok-clause-first_part : goal.returns-in-Ok-clause-first_part
+returns-in-Ok-clause-first_part g c =
+    let state = state_by g.L.Link.state in
+    begun_behind (state c.args.session.now) (state c.send.new.session) (state c.check_sat.new.self) c.args.lines.now check_sat_text c.in_ok-send.ensures.exchanged.ok (c.in-Ok.ensures.asks c.in_ok-send.ensures.unfailed).begun
+
+pub returns-in-Err-clause-first_part : goal.returns-in-Err-clause-first_part
+returns-in-Err-clause-first_part g c =
+    let state = state_by g.L.Link.state in
+    begun_behind (state c.args.session.now) (state c.send.new.session) (state c.check_sat.new.self) c.args.lines.now check_sat_text c.in_ok-send.ensures.exchanged.ok (c.in-Err.ensures.asks c.in_ok-send.ensures.unfailed).begun
+
+pub returns-in_err-send-clause-first_part : goal.returns-in_err-send-clause-first_part
+returns-in_err-send-clause-first_part g c =
+    let state = state_by g.L.Link.state in
+    begun_longer (state c.args.session.now) (state c.send.new.session) c.args.lines.now check_sat_text c.in_err-send.ensures.first_part

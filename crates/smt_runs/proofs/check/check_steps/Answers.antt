@@ -1,15 +1,16 @@
-use Rattle.std.proofs.Common.{◌≡◌, ◌∙◌, Err, ap, refl, sym, arith}
+use Rattle.std.proofs.Common.{◌≡◌, ◌∙◌, Err, ap, inl, refl, subst, sym, arith}
 use Rattle.law_theorem.specs.Fits.{new_stages}
 use Rattle.smt_types.specs.Enums.{enums_of}
 use Rattle.smt_script.specs.Memory.{list_bytes}
 use Rattle.smt_script.specs.Sink.{Rose}
+use Rattle.smt_solve.specs.Link.{LinkState}
 use Rattle.smt_solve.specs.Session.{session_link}
 use Rattle.smt_solve.specs.Starter.{command_of}
 use Rattle.smt_encode.specs.Encoded.{enums_in, nodes_in}
 use Rattle.smt_jobs.specs.Numbers.{steps_by}
-use Rattle.smt_runs.specs.Asking.{WhyNotAsked}
+use Rattle.smt_runs.specs.Asking.{SpokeAtLeast, WhyNotAsked}
 use Rattle.smt_runs.specs.Refusal.{unprinted_refusal}
-use Rattle.smt_runs.proofs.Starting.{asked_anyway, at_there, begun_at, first_balanced, handed_err, handed_ok, nothing_put, not_started, print_cause_there, refused_anyway, so_far_at, words_anyway}
+use Rattle.smt_runs.proofs.Starting.{asked_anyway, at_there, begun_at, first_balanced, handed_err, handed_ok, lost, not_started, print_cause_there, refused_anyway, so_far_at, spoke_anyway, spoke_too, stopped_at_start}
 use Rattle.smt_runs.proofs.Verdicts.{by_refusal}
 use Rattle.smt_runs.proofs.check.check_steps.Goals as goal
 
@@ -43,7 +44,12 @@ returns-in-Err-Io-clause-refused g c = (
 )
 
 pub returns-in-Err : goal.returns-in-Err
-returns-in-Err g c = record { asked = tt; refused = (_, nothing_put (g.W.Sink.contents c.args.out.now)); later = omega arith; allows = c.from_command.ensures.allows }
+returns-in-Err g c = record {
+  asked = tt;
+  refused = inl (stopped_at_start (g.P.Starter.state c.args.starter.now) (g.P.Starter.state c.from_command.new.starter) (command_of c.args.solver.now) (g.W.Sink.contents c.args.out.now) c.from_command.result c.in-Err.field-0 c.in-Err.is c.from_command.ensures.starts);
+  later = omega arith;
+  allows = c.from_command.ensures.allows;
+}
 
 pub returns-in-Ok-finish-clause-asked : goal.returns-in-Ok-finish-clause-asked
 returns-in-Ok-finish-clause-asked g c =
@@ -66,13 +72,19 @@ returns-in-Ok-finish-clause-refused g c =
     (begun_at (enums_in c.with_nodes-encoder.result) (enums_of c.args.enums.now) (nodes_in c.with_nodes-encoder.result) c.args.nodes c.next_piece-encoder.result.0 c.args.steps.now c.next_piece-encoder.result.1 (c.in_ok-lines.lines, c.in_ok-lines.left) c.with_nodes-encoder.ensures.enums c.with_nodes-encoder.ensures.nodes c.in_ok-lines.was (c.next_piece-encoder.ensures.puts new_stages c.with_nodes-encoder.ensures.stands) c.requires.balanced) in
     let same : enums_in c.next_piece-encoder.result.0 ≡ enums = c.next_piece-encoder.ensures.enums ∙ c.with_nodes-encoder.ensures.enums in
     refused_anyway g.P.L.Link.state (g.P.Starter.allows c.args.starter.now) (g.P.Starter.state c.args.starter.now) (g.P.Starter.state c.finish.new.self) (command_of c.args.solver.now) enums steps (g.W.Sink.contents c.args.out.now) (g.W.Sink.contents c.converse-answer.new.out)
-    (g.P.Starter.state c.from_command.new.starter) c.into_link.result c.in-Ok.session c.in-Ok.ensures.starts c.in-Ok-finish.ensures.finishes (Rose (g.W.Sink.faults c.args.out.now) (g.W.Sink.faults c.converse-answer.new.out)) c.converse-answer.result
-    (handed_err (enums_in c.next_piece-encoder.result.0) enums (g.P.L.Link.state (session_link c.converse-answer.new.session)) (g.P.L.Link.state c.into_link.result) steps (g.W.Sink.contents c.args.out.now) (g.W.Sink.contents c.converse-answer.new.out) c.converse-answer.result same (ap g.P.L.Link.state (sym c.into_link.ensures)) (Rose (g.W.Sink.faults c.args.out.now) (g.W.Sink.faults c.converse-answer.new.out)) (c.converse-answer.ensures.refused steps at))
+    (g.P.Starter.state c.from_command.new.starter) c.into_link.result c.in-Ok.session c.in-Ok.ensures.starts c.in-Ok-finish.ensures.finishes (g.P.L.Link.allows (session_link c.in-Ok.session)) (Rose (g.W.Sink.faults c.args.out.now) (g.W.Sink.faults c.converse-answer.new.out)) c.converse-answer.result c.in-Ok.ensures.honest
+    (handed_err (enums_in c.next_piece-encoder.result.0) enums (g.P.L.Link.state (session_link c.converse-answer.new.session)) (g.P.L.Link.state c.into_link.result) steps (g.W.Sink.contents c.args.out.now) (g.W.Sink.contents c.converse-answer.new.out) c.converse-answer.result same (ap g.P.L.Link.state (sym c.into_link.ensures)) (Rose (g.W.Sink.faults c.args.out.now) (g.W.Sink.faults c.converse-answer.new.out)) (g.P.L.Link.allows (session_link c.in-Ok.session)) (c.converse-answer.ensures.refused steps at))
 
 pub returns-in-Err-finish-clause-refused : goal.returns-in-Err-finish-clause-refused
 returns-in-Err-finish-clause-refused g c =
     let at = at_there (enums_of c.args.enums.now) (enums_in c.next_piece-encoder.result.0) c.args.nodes (nodes_in c.next_piece-encoder.result.0) c.next_piece-encoder.result.0 (steps_by c.args.nodes c.args.steps.now) c.in_ok-lines.left.now (list_bytes c.in_ok-lines.lines)
     (sym (c.next_piece-encoder.ensures.enums ∙ c.with_nodes-encoder.ensures.enums)) (sym (c.next_piece-encoder.ensures.numbers ∙ c.with_nodes-encoder.ensures.nodes))
     (begun_at (enums_in c.with_nodes-encoder.result) (enums_of c.args.enums.now) (nodes_in c.with_nodes-encoder.result) c.args.nodes c.next_piece-encoder.result.0 c.args.steps.now c.next_piece-encoder.result.1 (c.in_ok-lines.lines, c.in_ok-lines.left) c.with_nodes-encoder.ensures.enums c.with_nodes-encoder.ensures.nodes c.in_ok-lines.was (c.next_piece-encoder.ensures.puts new_stages c.with_nodes-encoder.ensures.stands) c.requires.balanced) in
-    words_anyway (enums_in c.next_piece-encoder.result.0) (steps_by c.args.nodes c.args.steps.now) (g.W.Sink.contents c.args.out.now) (g.W.Sink.contents c.converse-answer.new.out) (Rose (g.W.Sink.faults c.args.out.now) (g.W.Sink.faults c.converse-answer.new.out)) (g.P.L.Link.allows (session_link c.in-Ok.session)) (g.P.L.Link.state (session_link c.converse-answer.new.session)) c.converse-answer.result
-    (c.converse-answer.ensures.asked (steps_by c.args.nodes c.args.steps.now) at) (c.converse-answer.ensures.refused (steps_by c.args.nodes c.args.steps.now) at)
+    let held = g.W.Sink.contents c.args.out.now in
+    let now = g.W.Sink.contents c.converse-answer.new.out in
+    let allows = g.P.L.Link.allows (session_link c.in-Ok.session) in
+    let spoke = spoke_anyway (enums_in c.next_piece-encoder.result.0) (steps_by c.args.nodes c.args.steps.now) held now (Rose (g.W.Sink.faults c.args.out.now) (g.W.Sink.faults c.converse-answer.new.out)) allows (g.P.L.Link.state (session_link c.converse-answer.new.session)) c.converse-answer.result
+    (c.converse-answer.ensures.asked (steps_by c.args.nodes c.args.steps.now) at) (c.converse-answer.ensures.refused (steps_by c.args.nodes c.args.steps.now) at) in
+    lost g.P.L.Link.state (g.P.Starter.allows c.args.starter.now) (g.P.Starter.state c.args.starter.now) (g.P.Starter.state c.finish.new.self) (command_of c.args.solver.now) (enums_of c.args.enums.now) (steps_by c.args.nodes c.args.steps.now) held now
+    (g.P.Starter.state c.from_command.new.starter) c.into_link.result c.in-Ok.session c.in-Err-finish.field-0 c.in-Ok.ensures.starts c.in-Err-finish.ensures.finishes
+    (spoke_too allows (g.P.Starter.allows c.args.starter.now) c.in-Ok.ensures.honest (g.P.L.Link.state c.into_link.result) held now (subst (λ (s : LinkState). SpokeAtLeast allows s held now) (ap g.P.L.Link.state (sym c.into_link.ensures)) spoke))

@@ -2,7 +2,6 @@ use Rattle.std.proofs.Common.{◌≡◌, ◌∙◌, ap, arith}
 use Rattle.std.specs.Io.KnownBytes.{append_known}
 use Rattle.smt_script.specs.Sink.{Rose}
 use Rattle.smt_solve.specs.Session.{session_link}
-use Rattle.law_verdicts.specs.Dialogues.{GaveAllowed}
 use Rattle.smt_runs.specs.Asking.{verdict_line}
 use Rattle.smt_runs.specs.Refusal.{check_refusal, unput_refusal}
 use Rattle.smt_runs.specs.Speaking.{StopsSpeaking}
@@ -15,9 +14,9 @@ returns-in_err-decision-clause-refused g c =
     let new = g.K.Link.state (session_link c.ask_behind.new.session) in
     let held = g.W.Sink.contents c.args.out.now in
     let failed = Rose (g.W.Sink.faults c.args.out.now) (g.W.Sink.faults c.args.out.now) in
-    let gave = GaveAllowed (g.K.Link.allows (session_link c.args.session.now)) old in
-    by_refusal (StopsSpeaking old new held held failed c.args.lines.now gave) c.from_residual.result (check_refusal c.in_err-decision.field-0.0) c.from_residual.ensures.1
-    (not_answered old new held failed c.args.lines.now gave c.in_err-decision.field-0.0 c.in_err-decision.ensures.refused)
+    let allows = g.K.Link.allows (session_link c.args.session.now) in
+    by_refusal (StopsSpeaking allows old new held held failed c.args.lines.now) c.from_residual.result (check_refusal c.in_err-decision.field-0.0) c.from_residual.ensures.1
+    (not_answered allows old new held failed c.args.lines.now c.in_err-decision.ensures.first_part c.in_err-decision.field-0.0 c.in_err-decision.ensures.refused)
 
 pub returns-in_err-put-clause-refused : goal.returns-in_err-put-clause-refused
 returns-in_err-put-clause-refused g c =
@@ -29,7 +28,7 @@ returns-in_err-put-clause-refused g c =
     let after = g.W.Sink.faults c.put.new.self in
     let allows = g.K.Link.allows (session_link c.args.session.now) in
     let d = c.in_ok-decision.decision in
-    by_refusal (StopsSpeaking old new held now (Rose before after) c.args.lines.now (GaveAllowed allows old)) c.from_residual-in_err-put.result (unput_refusal c.in_err-put.field-0.0) c.from_residual-in_err-put.ensures.1
+    by_refusal (StopsSpeaking allows old new held now (Rose before after) c.args.lines.now) c.from_residual-in_err-put.result (unput_refusal c.in_err-put.field-0.0) c.from_residual-in_err-put.ensures.1
     (not_put old new allows c.args.lines.now d c.in_ok-decision.ensures.answered held now before after c.in_err-put.field-0.0 (λ is. c.put.ensures.cause (fault_is c.put.result c.in_err-put.field-0.0 c.in_err-put.was is))
     (part_put held now (verdict_line d) c.as_bytes.result.now c.put.result c.in_err-put.field-0.0 c.in_err-put.was (c.as_bytes.ensures.value ∙ c.line_of.ensures) c.put.ensures.err))
 
@@ -44,7 +43,7 @@ returns-in_err-flush-clause-refused g c =
     let allows = g.K.Link.allows (session_link c.args.session.now) in
     let d = c.in_ok-decision.decision in
     let put : now ≡ append_known held (verdict_line d) = c.flush.ensures.same_contents ∙ c.in_ok-put.ensures.ok ∙ ap (append_known held) (c.as_bytes.ensures.value ∙ c.line_of.ensures) in
-    by_refusal (StopsSpeaking old new held now (Rose before after) c.args.lines.now (GaveAllowed allows old)) c.from_residual-in_err-flush.result (unput_refusal c.in_err-flush.field-0.0) c.from_residual-in_err-flush.ensures.1
+    by_refusal (StopsSpeaking allows old new held now (Rose before after) c.args.lines.now) c.from_residual-in_err-flush.result (unput_refusal c.in_err-flush.field-0.0) c.from_residual-in_err-flush.ensures.1
     (not_put old new allows c.args.lines.now d c.in_ok-decision.ensures.answered held now before after c.in_err-flush.field-0.0
     (λ is. (let rose = c.flush.ensures.cause (fault_is c.flush.result c.in_err-flush.field-0.0 c.in_err-flush.was is) in let later = c.put.ensures.later in omega (arith, rose, later)))
     (whole_part held now (verdict_line d) put))
