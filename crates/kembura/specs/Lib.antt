@@ -161,18 +161,22 @@ pub use Rattle.law_verdicts.specs.Fragment
 pub use Rattle.law_verdicts.specs.HandedOut
 pub use Rattle.law_verdicts.specs.Honest
 pub use Rattle.law_verdicts.specs.Honesty
+pub use Rattle.law_verdicts.specs.Idle
 pub use Rattle.law_verdicts.specs.InHand
 pub use Rattle.law_verdicts.specs.Joined
 pub use Rattle.law_verdicts.specs.Machine
 pub use Rattle.law_verdicts.specs.Rows as VerdictsRows
 pub use Rattle.law_verdicts.specs.Samples as VerdictsSamples
 pub use Rattle.law_verdicts.specs.Scan
+pub use Rattle.law_verdicts.specs.Streams
 pub use Rattle.law_verdicts.specs.Truths
 pub use Rattle.law_verdicts.specs.Verdicts
 pub use Rattle.smt_bits.specs.BitVec
 pub use Rattle.smt_bits.specs.Fin
 pub use Rattle.smt_bits.specs.Printed as BitsPrinted
 pub use Rattle.smt_bits.specs.Width
+pub use Rattle.smt_blast.specs.Answers as BlastAnswers
+pub use Rattle.smt_blast.specs.View as BlastView
 pub use Rattle.smt_cedar.specs.AttributeMaps
 pub use Rattle.smt_cedar.specs.Cedar
 pub use Rattle.smt_cedar.specs.Constructed
@@ -191,6 +195,7 @@ pub use Rattle.smt_cli.specs.Generated
 pub use Rattle.smt_cli.specs.Refusal
 pub use Rattle.smt_cli.specs.Rows as CliRows
 pub use Rattle.smt_cli.specs.Run
+pub use Rattle.smt_cli.specs.SmallVerdicts
 pub use Rattle.smt_cli.specs.SummaryRows
 pub use Rattle.smt_cli.specs.Words
 pub use Rattle.smt_encode.specs.Alone
@@ -200,6 +205,8 @@ pub use Rattle.smt_encode.specs.Encoded
 pub use Rattle.smt_encode.specs.Errors as EncodeErrors
 pub use Rattle.smt_encode.specs.Interrupted
 pub use Rattle.smt_encode.specs.Refusals as EncodeRefusals
+pub use Rattle.smt_eval.specs.AssignmentView
+pub use Rattle.smt_eval.specs.Evaluable
 pub use Rattle.smt_ext.specs.DatetimeReading
 pub use Rattle.smt_ext.specs.DatetimeRefusal
 pub use Rattle.smt_ext.specs.DatetimeText
@@ -250,7 +257,10 @@ pub use Rattle.smt_pool.specs.Pool
 pub use Rattle.smt_pool.specs.Pooled
 pub use Rattle.smt_pool.specs.Sessions
 pub use Rattle.smt_review.specs.Differences
+pub use Rattle.smt_review.specs.Errors as ReviewErrors
+pub use Rattle.smt_review.specs.Reviews
 pub use Rattle.smt_review.specs.Rows as ReviewRows
+pub use Rattle.smt_review.specs.Sessions as ReviewSessions
 pub use Rattle.smt_runs.specs.Asking
 pub use Rattle.smt_runs.specs.Jobs as RunsJobs
 pub use Rattle.smt_runs.specs.Pieces as RunsPieces
@@ -293,6 +303,11 @@ pub use Rattle.smt_spelling.specs.Spelled
 pub use Rattle.smt_spelling.specs.TextFaults
 pub use Rattle.smt_spelling.specs.Texts
 pub use Rattle.smt_spelling.specs.Whole
+pub use Rattle.smt_stream.specs.Led
+pub use Rattle.smt_stream.specs.Links as StreamLinks
+pub use Rattle.smt_stream.specs.Runs as StreamRuns
+pub use Rattle.smt_stream.specs.Starters as StreamStarters
+pub use Rattle.smt_stream.specs.Words as StreamWords
 pub use Rattle.smt_symbolizer.specs.ByType
 pub use Rattle.smt_symbolizer.specs.EntityView
 pub use Rattle.smt_symbolizer.specs.Listed

@@ -6,9 +6,12 @@
 //! | `terms`, `types`, `texts`, `bits`, `extensions` | terms and their types, texts, bitvectors, values of the extension types |
 //! | `factory` | the calls that build terms and fold constants |
 //! | `encode`, `script`, `expressions`, `nodes` | the encoder to SMT-LIB 2.7, sinks and lines of scripts, the reader of S-expressions, numbered nodes |
-//! | `solve`, `pool`, `mini` | links to solvers, sessions, processes; pools of sessions, and the check of a script; a small solver |
+//! | `solve`, `pool` | links to solvers, sessions, processes; pools of sessions, and the check of a script |
+//! | `mini`, `stream` | a small solver; the run of `smtmini`, and links to small solvers in memory |
 //! | `jobs`, `runs`, `program` | the reader of jobs; scripts and checks of a job's steps; the run of `smtcli` |
-//! | `review` | the term that says where two conditions differ |
+//! | `blast` | terms over bitvectors as Boolean terms over their bits |
+//! | `eval` | what terms are worth in an assignment that is given |
+//! | `review` | the question whether two conditions are equivalent, one implies the other, or both never hold |
 //! | `cedar`, `values`, `symbolizer` | Cedar's types and values, their terms, and the tables of a schema, a request and a store |
 //! | `laws` | the laws of the definitions, by subject |
 //!
@@ -20,11 +23,13 @@ pub mod laws;
 
 pub use smt_bits as bits;
 pub use smt_bits::{BitVec, Width};
+pub use smt_blast as blast;
 pub use smt_cedar as cedar;
 pub use smt_cli as program;
 pub use smt_cli::run;
 pub use smt_encode as encode;
 pub use smt_encode::{EncodeError, Encoder};
+pub use smt_eval as eval;
 pub use smt_ext as extensions;
 pub use smt_ext::{Datetime, Decimal, Duration, Ext, IPNet};
 pub use smt_factory as factory;
@@ -35,12 +40,15 @@ pub use smt_nodes as nodes;
 pub use smt_pool as pool;
 pub use smt_pool::{SolverPool, check_script};
 pub use smt_review as review;
+pub use smt_review::{Finding, Relation, ReviewError};
 pub use smt_runs as runs;
 pub use smt_script as script;
 pub use smt_script::{ListSink, Sink, SinkError, SmtLibScript};
 pub use smt_sexpr as expressions;
 pub use smt_solve as solve;
 pub use smt_solve::{ChildStarter, Decision, Link, LocalSolver, Solver, SolverCommand, Starter};
+pub use smt_stream as stream;
+pub use smt_stream::{MiniLink, MiniStarter, mini_run};
 pub use smt_symbolizer as symbolizer;
 pub use smt_symbolizer::SymEnv;
 pub use smt_term as terms;

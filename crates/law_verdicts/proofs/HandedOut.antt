@@ -22,13 +22,13 @@ reset_empties s e = rw e refl
 reset_is_not_obeyed : (s : State) → s.ended ≡ true → run (Reset ∷ []) s ≡ Some s
 reset_is_not_obeyed s e = rw e refl
 
-blank_append : (a b : List ℕ) → IsBlankScript a → IsBlankScript b → IsBlankScript (a ++ b)
+pub blank_append : (a b : List ℕ) → IsBlankScript a → IsBlankScript b → IsBlankScript (a ++ b)
 blank_append a b p q = record {
   whole = whole_append a b p.whole q.whole;
   script = script_append a b start q.script.commands start p.whole p.script q.script.holds q.script.runs;
 }
 
-nothing_sent : IsBlankScript []
+pub nothing_sent : IsBlankScript []
 nothing_sent = record { whole = tt; script = record { commands = []; holds = (lines_hold [] refl).0; runs = refl } }
 
 pub reset_leaves_nothing : ResetLeavesNothing

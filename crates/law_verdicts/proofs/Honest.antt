@@ -291,7 +291,7 @@ heard (c ∷ cs) m was_read out small clear put h =
 
 -- ---- honesty
 
-asks : Holds check_sat_text (CheckSat ∷ [])
+pub asks : Holds check_sat_text (CheckSat ∷ [])
 asks = plain_lines.0.holds
 
 pub machines_are_honest : MachinesAreHonest

@@ -114,7 +114,7 @@ honesty_is_handed_on first second only honest sent was_read line allowed = hones
 -- ---- `unsat`
 
 -- The question behind the text of conditions is in turn, whatever was asked before what leaves nothing.
-in_turn : (enums : Enums) (ts : List PlainTerm) (sent answers : List ℕ) (blank : IsBlankScript sent) → AreConditions enums ts → AreAnswersTo blank.script.commands answers → IsInTurn (sent ++ (text enums ts ++ check_sat_text)) answers
+pub in_turn : (enums : Enums) (ts : List PlainTerm) (sent answers : List ℕ) (blank : IsBlankScript sent) → AreConditions enums ts → AreAnswersTo blank.script.commands answers → IsInTurn (sent ++ (text enums ts ++ check_sat_text)) answers
 in_turn enums ts sent answers blank c a =
     let ls = lines_for enums ts in
     let held = lines_held enums ts c in
@@ -132,7 +132,7 @@ told_line : (allows : List ℕ → List ℕ → List ℕ → Type 0) (sent was_r
 told_line allows sent was_read bytes answers line e f h =
     subst (λ (o : Option (List ℕ)). IsAllowed allows (Some bytes) o line) f (subst (λ (o : Option (List ℕ)). IsAllowed allows o was_read line) e h)
 
-answer_believed : (enums : Enums) (ts : List PlainTerm) (allows : List ℕ → List ℕ → List ℕ → Type 0) (before asked after : LinkState) → AreEnums enums → AreConditions enums ts
+pub answer_believed : (enums : Enums) (ts : List PlainTerm) (allows : List ℕ → List ℕ → List ℕ → Type 0) (before asked after : LinkState) → AreEnums enums → AreConditions enums ts
     → IsHonest allows → IsBlankLink before → Takes before asked (text enums ts) → Answers allows asked after check_sat_text (decision_word Unsat) → AreNeverTrue enums ts
 answer_believed enums ts allows before asked after good c honest b t a =
     let script = text enums ts in
@@ -163,7 +163,7 @@ sessions_with_models_are_believed allows enums ts before asked after good c hone
 
 -- ---- the next holder
 
-blank_again : (enums : Enums) (ts : List PlainTerm) (after idle : LinkState) (sent answers line : List ℕ) (blank : IsBlankScript sent) → AreEnums enums → AreConditions enums ts → AreAnswersTo blank.script.commands answers → IsWholeLine line
+pub blank_again : (enums : Enums) (ts : List PlainTerm) (after idle : LinkState) (sent answers line : List ℕ) (blank : IsBlankScript sent) → AreEnums enums → AreConditions enums ts → AreAnswersTo blank.script.commands answers → IsWholeLine line
     → after.sent ≡ Some ((sent ++ text enums ts) ++ check_sat_text) → after.was_read ≡ Some (answers ++ line) → Exchanges after idle reset_text [] → IsBlankLink idle
 blank_again enums ts after idle sent answers line blank good c a is_line e f x =
     let script = text enums ts in

@@ -9,6 +9,7 @@ pub mod Formulas
 mod Found
 pub mod HandedOut
 mod Honest
+pub mod Idle
 pub mod InHand
 mod Known
 mod ModelLines
@@ -17,5 +18,10 @@ mod Sampled
 mod Scan
 mod Search
 mod Small
+pub mod StreamHonest
+pub mod StreamPieces
+pub mod StreamReplies
+pub mod StreamRequests
+pub mod Streams
 mod Truths
 mod Turns

@@ -21,11 +21,11 @@ front_front a b (Some p) = ap (λ t. Some (t, p.1)) (sym (append_assoc a b p.0))
 front_front a b None = refl
 
 -- one byte that ends no command
-one_byte : (s : Scan) (b : ℕ) (bs : List ℕ) → ends_command s b ≡ false → first_command s (b ∷ bs) ≡ in_front (b ∷ []) (first_command (scanned s b) bs)
+pub one_byte : (s : Scan) (b : ℕ) (bs : List ℕ) → ends_command s b ≡ false → first_command s (b ∷ bs) ≡ in_front (b ∷ []) (first_command (scanned s b) bs)
 one_byte s b bs h = cond-false (ends_command s b) (Some (b ∷ [], bs)) (in_front (b ∷ []) (first_command (scanned s b) bs)) h
 
 -- The bytes end no command from one scan to the other, whatever is behind.
-abbrev Passes : Scan → List ℕ → Scan → Type 0
+abbrev pub Passes : Scan → List ℕ → Scan → Type 0
 Passes s bytes t = (more : List ℕ) → first_command s (bytes ++ more) ≡ in_front bytes (first_command t more)
 
 passes_none : (s : Scan) → Passes s [] s
@@ -40,11 +40,11 @@ passes_byte s b bytes t h p more = one_byte s b (bytes ++ more) h ∙ ap (in_fro
 
 -- ---- bytes that change nothing
 
-abbrev is_special : ℕ → Bool
+abbrev pub is_special : ℕ → Bool
 is_special b = eqb b 34 || (eqb b 59 || (eqb b 40 || eqb b 41))
 
 -- a test that no special byte passes
-not_special : (test : ℕ → Bool) → test 34 ≡ false → test 59 ≡ false → test 40 ≡ false → test 41 ≡ false → (b : ℕ) → test b ≡ true → is_special b ≡ false
+pub not_special : (test : ℕ → Bool) → test 34 ≡ false → test 59 ≡ false → test 40 ≡ false → test 41 ≡ false → (b : ℕ) → test b ≡ true → is_special b ≡ false
 not_special test q s o c b h = four (eqb b 34) (eqb b 59) (eqb b 40) (eqb b 41) (other 34 q) (other 59 s) (other 40 o) (other 41 c)
   where
     other : (n : ℕ) → test n ≡ false → eqb b n ≡ false
@@ -53,11 +53,11 @@ not_special test q s o c b h = four (eqb b 34) (eqb b 59) (eqb b 40) (eqb b 41) 
     four : (x y z w : Bool) → x ≡ false → y ≡ false → z ≡ false → w ≡ false → (x || (y || (z || w))) ≡ false
     four x y z w e f g k = rw (e, f, g, k) refl
 
-or_none : (x y : Bool) → (x || y) ≡ false → (x ≡ false) × (y ≡ false)
+pub or_none : (x y : Bool) → (x || y) ≡ false → (x ≡ false) × (y ≡ false)
 or_none true y h = absurd (false≢true (sym h))
 or_none false y h = (refl, h)
 
-plain_byte : (d b : ℕ) → is_special b ≡ false → (ends_command (at_depth d Between) b ≡ false) × (scanned (at_depth d Between) b ≡ at_depth d Between)
+pub plain_byte : (d b : ℕ) → is_special b ≡ false → (ends_command (at_depth d Between) b ≡ false) × (scanned (at_depth d Between) b ≡ at_depth d Between)
 plain_byte d b h =
     let p = or_none (eqb b 34) (eqb b 59 || (eqb b 40 || eqb b 41)) h in
     let q = or_none (eqb b 59) (eqb b 40 || eqb b 41) p.1 in
@@ -79,7 +79,7 @@ some_run test f d [] h = absurd (false≢true h)
 some_run test f d (b ∷ bs) h = plain_run test f d (b ∷ bs) h
 
 -- in a comment
-not_last : (s : Scan) (b : ℕ) → (is_between s.place ≡ false) → ends_command s b ≡ false
+pub not_last : (s : Scan) (b : ℕ) → (is_between s.place ≡ false) → ends_command s b ≡ false
 not_last s b h = by (eqb b 41) (is_between s.place) h
   where
     by : (x y : Bool) → y ≡ false → (x && (y && eqb s.depth 1)) ≡ false
@@ -114,7 +114,7 @@ is_quiet Open = false
 is_quiet Close = false
 is_quiet x = true
 
-quiet_piece : (x : Piece) (d : ℕ) → is_quiet x ≡ true → is_piece x ≡ true → Passes (at_depth d Between) (spelling x) (at_depth d Between)
+pub quiet_piece : (x : Piece) (d : ℕ) → is_quiet x ≡ true → is_piece x ≡ true → Passes (at_depth d Between) (spelling x) (at_depth d Between)
 quiet_piece (Space b) d q h = plain_first d b [] (at_depth d Between) (not_special is_space refl refl refl refl b h) (passes_none (at_depth d Between))
 quiet_piece (Comment text) d q h = absurd (false≢true q)
 quiet_piece Open d q h = absurd (false≢true q)
@@ -127,11 +127,11 @@ quiet_piece (Symbol []) d q h = absurd (false≢true h)
 quiet_piece (Symbol (c ∷ cs)) d q h =
     some_run is_symbol_byte (not_special is_symbol_byte refl refl refl refl) d (c ∷ cs) (and_parts (not (is_digit c)) (some_all is_symbol_byte (c ∷ cs)) (and_parts (is_symbol (c ∷ cs)) (is_utf8 (c ∷ cs)) h).0).1
 
-comment_piece : (text : List ℕ) (d : ℕ) → is_piece (Comment text) ≡ true → Passes (at_depth d Between) (spelling (Comment text)) (at_depth d InComment)
+pub comment_piece : (text : List ℕ) (d : ℕ) → is_piece (Comment text) ≡ true → Passes (at_depth d Between) (spelling (Comment text)) (at_depth d InComment)
 comment_piece text d h = passes_byte (at_depth d Between) 59 text (at_depth d InComment) refl (comment_run d text h)
 
 -- behind a comment a line ends
-behind_comment : (text : List ℕ) (d : ℕ) (bytes rest : List ℕ) → (bytes ≡ [] → ⊥) → stops (Comment text) bytes ≡ true → first_command (at_depth d InComment) (bytes ++ rest) ≡ first_command (at_depth d Between) (bytes ++ rest)
+pub behind_comment : (text : List ℕ) (d : ℕ) (bytes rest : List ℕ) → (bytes ≡ [] → ⊥) → stops (Comment text) bytes ≡ true → first_command (at_depth d InComment) (bytes ++ rest) ≡ first_command (at_depth d Between) (bytes ++ rest)
 behind_comment text d [] rest some h = absurd (some refl)
 behind_comment text d (b ∷ bytes) rest some h =
     let line : is_line_end b ≡ true = twice (is_line_end b) h in
@@ -146,7 +146,7 @@ behind_comment text d (b ∷ bytes) rest some h =
 
 -- ---- brackets
 
-abbrev is_empty : List Token → Bool
+abbrev pub is_empty : List Token → Bool
 is_empty [] = true
 is_empty (t ∷ ts) = false
 
@@ -157,7 +157,7 @@ is_deep (suc zero) = false
 is_deep (suc (suc d)) = true
 
 -- The last token closes the last bracket, and none before it does.
-abbrev ends_last : ℕ → List Token → Bool
+abbrev pub ends_last : ℕ → List Token → Bool
 ends_last d [] = false
 ends_last d (Begin ∷ ts) = ends_last (suc d) ts
 ends_last d (Word a ∷ ts) = ends_last d ts
@@ -180,7 +180,7 @@ mutual
   all_balanced (Cons e es) k us h =
       ap (ends_last (suc k)) (append_assoc (brackets e) (inside es) us) ∙ balanced e k (inside es ++ us) (some_behind (inside es) us h) ∙ all_balanced es k us h
 
-command_ends_last : (es : Expressions) → ends_last 0 (brackets (Node es) ++ []) ≡ true
+pub command_ends_last : (es : Expressions) → ends_last 0 (brackets (Node es) ++ []) ≡ true
 command_ends_last es = ap (ends_last 1) (append_assoc (inside es) (End ∷ []) []) ∙ all_balanced es 0 (End ∷ []) refl
 
 -- ---- the walk
@@ -191,14 +191,14 @@ Found s bytes rest = first_command s (bytes ++ rest) ≡ Some (bytes, rest)
 piece_then : (s t : Scan) (front bytes rest : List ℕ) → Passes s front t → Found t bytes rest → Found s (front ++ bytes) rest
 piece_then s t front bytes rest p h = ap (first_command s) (append_assoc front bytes rest) ∙ p (bytes ++ rest) ∙ ap (in_front front) h
 
-not_nothing : (front : List Piece) → spell (closed front) ≡ [] → ⊥
+pub not_nothing : (front : List Piece) → spell (closed front) ≡ [] → ⊥
 not_nothing front e = absent (spell front) (sym (flat_map-append spelling front (Close ∷ [])) ∙ e)
   where
     absent : (bytes : List ℕ) → bytes ++ codes ")" ≡ [] → ⊥
     absent [] k = cc
     absent (b ∷ bytes) k = cc
 
-closes : (front : List Piece) → is_empty (tokens (closed front)) ≡ false
+pub closes : (front : List Piece) → is_empty (tokens (closed front)) ≡ false
 closes front = ap is_empty (flat_map-append token front (Close ∷ [])) ∙ some_behind (tokens front) (End ∷ []) refl
 
 not_one : (d : ℕ) → eqb (suc (suc d)) 1 ≡ false
@@ -212,7 +212,7 @@ deeply zero h = absurd (false≢true h)
 deeply (suc zero) h = absurd (false≢true h)
 deeply (suc (suc d)) h = passes_byte (at_depth (suc (suc d)) Between) 41 [] (at_depth (suc d) Between) (not_one d) (passes_none (at_depth (suc d) Between))
 
-walk : (front : List Piece) (d : ℕ) (rest : List ℕ) → each_longest (closed front) ≡ true → ends_last d (tokens (closed front)) ≡ true → Found (at_depth d Between) (spell (closed front)) rest
+pub walk : (front : List Piece) (d : ℕ) (rest : List ℕ) → each_longest (closed front) ≡ true → ends_last d (tokens (closed front)) ≡ true → Found (at_depth d Between) (spell (closed front)) rest
 walk [] d rest h k = subst (λ n. Found (at_depth n Between) (codes ")") rest) (sym (eqb-true d 1 k)) refl
 walk (x ∷ front) d rest h k = by x (and_parts (is_piece x) (stops x (spell (closed front)) && each_longest (closed front)) h) k (λ n. walk front n rest)
   where
@@ -243,14 +243,14 @@ chunks_are_scanned chunk rest c h =
 
 -- ---- what the scan cuts off
 
-pair : (x y : List ℕ × List ℕ) → Some x ≡ Some y → x ≡ y
+pub pair : (x y : List ℕ × List ℕ) → Some x ≡ Some y → x ≡ y
 pair x y h = cc
 
-front_of : (b : ℕ) (o : Cut) (p : List ℕ × List ℕ) → in_front (b ∷ []) o ≡ Some p → (q : List ℕ × List ℕ) × (o ≡ Some q) × ((b ∷ q.0, q.1) ≡ p)
+pub front_of : (b : ℕ) (o : Cut) (p : List ℕ × List ℕ) → in_front (b ∷ []) o ≡ Some p → (q : List ℕ × List ℕ) × (o ≡ Some q) × ((b ∷ q.0, q.1) ≡ p)
 front_of b None p h = absurd cc
 front_of b (Some q) p h = (q, refl, pair (b ∷ q.0, q.1) p h)
 
-joins : (s : Scan) (bytes : List ℕ) (p : List ℕ × List ℕ) → first_command s bytes ≡ Some p → bytes ≡ p.0 ++ p.1
+pub joins : (s : Scan) (bytes : List ℕ) (p : List ℕ × List ℕ) → first_command s bytes ≡ Some p → bytes ≡ p.0 ++ p.1
 joins s [] p h = absurd cc
 joins s (b ∷ bytes) p h = elim (cases_Bool (ends_command s b)) [
   | inl e ↦ ap (λ (x : List ℕ × List ℕ). x.0 ++ x.1) (pair (b ∷ [], bytes) p (sym (cond-true (ends_command s b) (Some (b ∷ [], bytes)) (in_front (b ∷ []) (first_command (scanned s b) bytes)) e) ∙ h))
@@ -293,7 +293,7 @@ stops_before : (x : Piece) (bytes more : List ℕ) → (bytes ≡ [] → ⊥) �
 stops_before x [] more some h = absurd (some refl)
 stops_before x (b ∷ bytes) more some h = h
 
-first_part : (front back : List Piece) → each_longest (closed front ++ back) ≡ true → each_longest (closed front) ≡ true
+pub first_part : (front back : List Piece) → each_longest (closed front ++ back) ≡ true → each_longest (closed front) ≡ true
 first_part [] back h = refl
 first_part (x ∷ front) back h =
     let p = and_parts (is_piece x) (stops x (spell (closed front ++ back)) && each_longest (closed front ++ back)) h in
@@ -301,7 +301,7 @@ first_part (x ∷ front) back h =
     and_from (is_piece x) (stops x (spell (closed front)) && each_longest (closed front)) p.0
     (and_from (stops x (spell (closed front))) (each_longest (closed front)) (stops_before x (spell (closed front)) (spell back) (not_nothing front) (ap (stops x) (sym (flat_map-append spelling (closed front) back)) ∙ q.0)) (first_part front back q.1))
 
-last_part : (front back : List Piece) → each_longest (closed front ++ back) ≡ true → each_longest back ≡ true
+pub last_part : (front back : List Piece) → each_longest (closed front ++ back) ≡ true → each_longest back ≡ true
 last_part [] back h = (and_parts (stops Close (spell back)) (each_longest back) h).1
 last_part (x ∷ front) back h = last_part front back (and_parts (stops x (spell (closed front ++ back))) (each_longest (closed front ++ back)) (and_parts (is_piece x) (stops x (spell (closed front ++ back)) && each_longest (closed front ++ back)) h).1).1
 

@@ -6,11 +6,13 @@ pub mod Fragment
 pub mod HandedOut
 pub mod Honest
 pub mod Honesty
+pub mod Idle
 pub mod InHand
 pub mod Joined
 pub mod Machine
 pub mod Rows
 pub mod Samples
 pub mod Scan
+pub mod Streams
 pub mod Truths
 pub mod Verdicts

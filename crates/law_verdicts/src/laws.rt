@@ -2,8 +2,10 @@
 ghost use Rattle.law_verdicts.specs.Broken.{BrokenAnswersAreLast};
 ghost use Rattle.law_verdicts.specs.Dialogues.{DialogueChecksAreInTurn, DialoguesAreBelieved};
 ghost use Rattle.law_verdicts.specs.HandedOut.{BlankScriptsAreEmpty, ExitStays, HandOutsAreBlank, HoldersStandAlone, ResetLeavesNothing};
+ghost use Rattle.law_verdicts.specs.Idle.{AskedLinksAreIdleAgain, IdleChecksAreInTurn, IdleLinksAreBelieved, UnusedLinksAreIdle};
 ghost use Rattle.law_verdicts.specs.InHand.{AskedLinksAreBlankAgain, HonestyIsHandedOn, PreamblesKeepBlank, SessionsAreBelieved, SessionsWithModelsAreBelieved, TheseArePreambles, UnusedLinksAreBlank};
 ghost use Rattle.law_verdicts.specs.Joined.{ScriptsJoin, TextsJoin};
+ghost use Rattle.law_verdicts.specs.Streams.{StreamsReply};
 ghost use Rattle.law_verdicts.specs.Verdicts.{AnyLineIsNotHonest, ChecksAreInTurn, LogicIsBlank, SilenceIsHonest, UnsatIsBelieved};
 ghost use Rattle.law_verdicts.specs.Chunks.{ChunksAreCommands};
 ghost use Rattle.law_verdicts.specs.FirstModel.{ModelsAreFound};
@@ -63,6 +65,22 @@ pub fn sessions_are_believed<L: Link>(link: &L)
     ensures decision { SessionsAreBelieved (L.allows link.now) }
     ensures with_model { SessionsWithModelsAreBelieved (L.allows link.now) }
     ensures again { AskedLinksAreBlankAgain (L.allows link.now) }
+{
+    let _ = link;
+}
+
+/// A link is idle where what it was sent leaves nothing declared or asserted and each question in it was answered. One on which no
+/// call was made is idle, and the question about conditions is in turn on an idle link.
+pub fn links_are_idle()
+    ensures unused { UnusedLinksAreIdle }
+    ensures turn { IdleChecksAreInTurn }
+{}
+
+/// An idle link that is honest may be believed, and behind its answer and `(reset)`, by which a pool takes a session back, it is idle
+/// again.
+pub fn idle_links_are_believed<L: Link>(link: &L)
+    ensures believed { IdleLinksAreBelieved (L.allows link.now) }
+    ensures again { AskedLinksAreIdleAgain (L.allows link.now) }
 {
     let _ = link;
 }
@@ -149,4 +167,10 @@ pub fn small_samples()
 pub fn machines_are_honest()
     ensures put { MachinesMayPut }
     ensures honest { MachinesAreHonest }
+{}
+
+/// What is put for a stream of bytes that are commands is what the machine replies to them, up to where it stops, in whole lines. A
+/// link that gives nothing else is honest.
+pub fn streams_reply()
+    ensures { StreamsReply }
 {}

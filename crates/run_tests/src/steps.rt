@@ -2,8 +2,11 @@
 use crate::AMPLE;
 use crate::checks::{BEFORE, Check, UNSAT, end_of, end_with, expect_row, sent_by, starter_of};
 use crate::expected::{expect, expect_bytes, expect_status};
-use crate::runs::{StuckWriter, run_held};
+use crate::runs::{StuckWriter, run_held, texts};
+use smt_cli::{MemorySource, run};
+use smt_script::ListSink;
 use smt_solve::MemoryStarter;
+use smt_stream::MiniStarter;
 use std::alloc::Global;
 use std::process::Abort;
 
@@ -397,4 +400,30 @@ fn a_hundred_checks_are_answered(rt: HostRuntime) {
     expect_bytes(&rt, "their words", end.out.bytes(), words.as_slice());
     let is_sent = sent_by(&end.starter) == Some(sent.as_slice());
     expect(&rt, is_sent, "their lines");
+}
+
+/// A small solver in memory answers the same job, and its verdicts are its own.
+#[test]
+fn a_small_solver_checks_levels(rt: HostRuntime) {
+    let alloc = rt.alloc();
+    let words = texts(&rt, alloc, &["check", "any solver"]);
+    let mut source = MemorySource::new(alloc, LEVELS.as_bytes(), &[]).expect(&rt, AMPLE);
+    let mut out = ListSink::new(alloc);
+    let mut diag = ListSink::new(alloc);
+    let mut starter = MiniStarter::new(alloc);
+    let status = run(
+        alloc,
+        words.as_slice(),
+        &mut source,
+        &mut out,
+        &mut diag,
+        &mut starter,
+    );
+    expect_status(&rt, "small", status, 0);
+    expect_bytes(&rt, "small", out.bytes(), b"sat\nunsat\n");
+    for link in starter.returned() {
+        expect_bytes(&rt, "small", link.sent(), CLOSED);
+        expect_bytes(&rt, "small", link.answers(), b"sat\nunsat\n");
+    }
+    expect(&rt, starter.returned().len() == 1, "small");
 }

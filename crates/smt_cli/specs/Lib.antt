@@ -5,5 +5,6 @@ pub mod Jobs
 pub mod Refusal
 pub mod Rows
 pub mod Run
+pub mod SmallVerdicts
 pub mod SummaryRows
 pub mod Words

@@ -1,6 +1,7 @@
 -- Ids that are declared one behind the other.
-use Rattle.std.proofs.Common.{◌≡◌, ℕ, ◌+◌, ◌<◌, ◌≤◌, Bool, true, false, cond, List, [], ◌∷◌, ◌++◌, Option, Some, None, bytes_eq, drop, get_or, length, option_map, sym, ap, ◌∙◌, subst, inl, inr, Ok, Err, Result}
-use Rattle.std.specs.Prelude.{IsErrAnd, IsOkUnless, OnOk}
+use Rattle.std.proofs.Common.{◌≡◌, ℕ, ◌+◌, ◌<◌, ◌≤◌, Bool, true, false, cond, List, [], ◌∷◌, ◌++◌, Option, Some, None, bytes_eq, drop, get_or, length, option_map, refl, sym, ap, ◌∙◌, subst, inl, inr, Ok, Err, Result}
+use Rattle.std.specs.Map.{lookup}
+use Rattle.std.specs.Prelude.{IsErrAnd, IsOkUnless, OnOk, is_none}
 use Rattle.std.specs.Rc.{rc_str_bytes}
 use Rattle.std.specs.declared.alloc.Global.{Global}
 use Rattle.std.specs.declared.rc.RcStr.{RcStr}
@@ -85,3 +86,25 @@ module _ {S B : Type 0} (has : S → Declarations B → Type 0) (listed : S → 
     pub not_declared : {A : Type 0} (error : JobError) (r : Result A JobError) (view : A → Declarations B) → IsFaultIn error (of (listed s) (plain e)) → IsErrAnd r (λ y. y ≡ error) → IsReadAs view r (declared_by of [] (plain_list all))
     not_declared error r view p h =
         passes_on view r error _ (of (listed s) (plain e)) h p (λ f fault. this_one ∙ ap (λ o. o >>= λ d. declared_by of (listed s ++ d ∷ []) (plain_list (drop (i + 1) all))) fault)
+
+-- ---- ids that may stand twice
+
+-- what is found stays found, whatever stands behind
+lookup_kept : {K X : Type 0} (test : K → Bool) (es : List (K × X)) (d : K × X) → is_none (lookup test es) ≡ false → lookup test (es ++ d ∷ []) ≡ lookup test es
+lookup_kept test [] d h = absurd (cc)
+lookup_kept {X = X} test (e ∷ es) d h = go (test e.0) (lookup_kept test es d) h
+  where
+    go : (b : Bool) → (is_none (lookup test es) ≡ false → lookup test (es ++ d ∷ []) ≡ lookup test es) → is_none (cond b (Some e.1) (lookup test es)) ≡ false → cond b (Some e.1) (lookup test (es ++ d ∷ [])) ≡ cond b (Some e.1) (lookup test es)
+    go true again h = refl
+    go false again h = again h
+
+none_as_seen : {A B : Type 0} (view : A → B) (o : Option A) → is_none (option_map view o) ≡ is_none o
+none_as_seen view (Some a) = refl
+none_as_seen view None = refl
+
+-- of declarations with one id the first counts
+pub declared_again : {A B : Type 0} (view : A → B) (o : Option A) (ds : Declarations B) (k : List ℕ) (y : B) → option_map view o ≡ declared ds k → is_none o ≡ false → (q : List ℕ) → declared (ds ++ (k, y) ∷ []) q ≡ declared ds q
+declared_again view o ds k y found some q = elim (cases_Bool (bytes_eq q k)) [
+  | inl same ↦ lookup_kept (bytes_eq q) ds (k, y) (ap (λ x. is_none (declared ds x)) ((bytes_eq-Decides q k).0 same) ∙ ap is_none (sym found) ∙ none_as_seen view o ∙ some)
+  | inr other ↦ lookup_other (bytes_eq q) ds k y other
+]

@@ -60,6 +60,39 @@ impl Variables {
         Ok(())
     }
 
+    /// Declares an id behind those that are there, of which one may have it already: then that one counts.
+    fn list(&mut self, id: &Text, ty: TermType) -> Result<(), JobError>
+        ensures listed { (vs : Declarations PlainType) → HasVariables self.old vs → OnOk result (HasVariables self.new (vs ++ (rc_str_bytes id.now, plain_type ty) ∷ [])) }
+        ensures refusal { IsOkUnless result JobError.Memory }
+    {
+        if self.type_of(id).is_none() {
+            self.enter(id, ty)
+        } else {
+            Ok(
+                self.vars.push(TermVar {
+                    id: id.clone()?,
+                    ty,
+                })?,
+            )
+        }
+    }
+
+    /// The variables of a list, of which several may have one id: of these the first counts.
+    ///
+    /// # Errors
+    ///
+    /// `Memory`, where there is none for the variables.
+    pub fn of(alloc: Global, vars: &VarList) -> Result<Variables, JobError>
+        ensures has { IfOk result (λ variables. HasVariables variables (view.declarations vars.now)) }
+        ensures refusal { IsOkUnless result JobError.Memory }
+    {
+        let mut variables = Variables::new(alloc);
+        for var in vars.items() {
+            variables.list(&var.id, var.ty.share()?)?;
+        }
+        Ok(variables)
+    }
+
     /// An id that is not declared yet.
     fn new_id<'e>(&self, expression: &'e SExpr) -> Result<&'e Text, JobError>
         ensures stated { (vs : Declarations PlainType) → HasVariables self.now vs → IsReadAs (λ id. rc_str_bytes id.now) result (stated.new_id vs (plain expression.now)) }
@@ -131,6 +164,34 @@ impl Functions {
         self.found
             .insert(function.id.clone()?, Rc::new(alloc, function.share()?)?)?;
         Ok(self.funs.push(function)?)
+    }
+
+    /// Declares a function behind those that are there, of which one may have its id already: then that one counts.
+    fn list(&mut self, alloc: Global, function: Uuf) -> Result<(), JobError>
+        ensures listed { (fs : Declarations PlainFunction) → HasFunctions self.old fs → OnOk result (HasFunctions self.new (fs ++ (rc_str_bytes function.id, plain_function function) ∷ [])) }
+        ensures refusal { IsOkUnless result JobError.Memory }
+    {
+        if self.function_of(&function.id).is_none() {
+            self.enter(alloc, function)
+        } else {
+            Ok(self.funs.push(function)?)
+        }
+    }
+
+    /// The functions of a list, of which several may have one id: of these the first counts.
+    ///
+    /// # Errors
+    ///
+    /// `Memory`, where there is none for the functions.
+    pub fn of(alloc: Global, funs: &UufList) -> Result<Functions, JobError>
+        ensures has { IfOk result (λ functions. HasFunctions functions (view.functions funs.now)) }
+        ensures refusal { IsOkUnless result JobError.Memory }
+    {
+        let mut functions = Functions::new(alloc);
+        for function in funs.items() {
+            functions.list(alloc, function.share()?)?;
+        }
+        Ok(functions)
     }
 
     /// An id that is not declared yet.

@@ -1,3 +1,4 @@
+pub mod ExpressedJobs
 pub mod ExtensionNames
 pub mod ExtensionsRead
 pub mod FormsRead
@@ -5,6 +6,7 @@ pub mod Levels
 pub mod NumberedLemmas
 pub mod Operators
 pub mod PatternsRead
+pub mod TermFaults
 pub mod TermsRead
 pub mod Walking
 pub mod WholeTerms

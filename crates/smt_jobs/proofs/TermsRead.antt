@@ -43,7 +43,7 @@ built_terms ds es = mapped (map built) (terms_of ds es)
 abbrev pub built_seconds : Declared → Expressions → Outcome (List PlainTerm)
 built_seconds ds es = mapped (map built) (second_terms ds es)
 
-built_followed : (o : Outcome PlainTerm) (rest : Outcome (List PlainTerm)) → mapped (map built) (o >>= λ t. followed t rest) ≡ (mapped built o >>= λ b. followed b (mapped (map built) rest))
+pub built_followed : (o : Outcome PlainTerm) (rest : Outcome (List PlainTerm)) → mapped (map built) (o >>= λ t. followed t rest) ≡ (mapped built o >>= λ b. followed b (mapped (map built) rest))
 built_followed (Ok t) (Ok ts) = refl
 built_followed (Ok t) (Err f) = refl
 built_followed (Err f) rest = refl

@@ -4,7 +4,8 @@ ghost use Rattle.smt_term.specs.View.{plain_items, plain_term};
 ghost use Rattle.law_jobs.specs.Jobs.{IsBuiltFrom, IsTooLong};
 ghost use Rattle.law_jobs.specs.Steps as stated;
 ghost use Rattle.law_jobs.specs.Steps.{Section as StatedSection};
-ghost use Rattle.smt_jobs.specs.JobView.{plain_job};
+ghost use Rattle.smt_job_declarations.specs.DeclarationView.{HasDeclared};
+ghost use Rattle.smt_jobs.specs.JobView.{declared_by, plain_job};
 ghost use Rattle.smt_jobs.specs.Numbered.{numbered_job};
 ghost use Rattle.smt_jobs.specs.Refused.{IsRefusal};
 ghost use Rattle.smt_jobs.specs.StepView.{plain_section, plain_steps};
@@ -12,7 +13,7 @@ ghost use Rattle.smt_jobs.specs.StepView.{plain_section, plain_steps};
 use crate::numbered::{NumberedJob, NumberedSteps};
 use crate::steps::{BareStep, Step, StepList, current_behind};
 use crate::walk::{StepSink, walk_job};
-use smt_job_declarations::{Declared, JobError, UufList, VarList};
+use smt_job_declarations::{Declared, Functions, JobError, UufList, VarList, Variables};
 use smt_term::{EnumTable, Term, TermError, TermList};
 use std::alloc::Global;
 
@@ -46,6 +47,23 @@ impl Job {
         ensures refusal { IsOkUnless result JobError.Memory }
     {
         current_behind(alloc, self.steps.items())
+    }
+
+    /// What the job declares, where terms find it by its name: of declarations with one id the first. The enum types are left out,
+    /// since terms are read without them.
+    ///
+    /// # Errors
+    ///
+    /// `Memory`, where there is none for the declarations.
+    pub fn declared(&self, alloc: Global) -> Result<Declared, JobError>
+        ensures declares { IfOk result (λ declared. HasDeclared declared (declared_by (plain_job self.now))) }
+        ensures refusal { IsOkUnless result JobError.Memory }
+    {
+        Ok(Declared {
+            enums: EnumTable::new(alloc),
+            variables: Variables::of(alloc, &self.vars)?,
+            functions: Functions::of(alloc, &self.funs)?,
+        })
     }
 }
 

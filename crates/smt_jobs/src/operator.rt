@@ -68,11 +68,11 @@ pub(crate) fn operator_named(name: &str) -> Option<Op>
 }
 
 /// What the factory builds for an operator at these operands, None where it does not take them.
-pub(crate) fn built_from(
-    alloc: Global,
-    op: &Op,
-    operands: &[Term],
-) -> Result<Option<Term>, TermError>
+///
+/// # Errors
+///
+/// `Memory`, where there is none for the term.
+pub fn built_from(alloc: Global, op: &Op, operands: &[Term]) -> Result<Option<Term>, TermError>
     ensures { IfOk result (λ found. option_map plain_term found ≡ option_map (folded (plain_op op.now) (map plain_term operands.now)) (result_type (plain_op op.now) (map type_of (map plain_term operands.now)))) }
 {
     if !op.takes(operands) {

@@ -168,8 +168,12 @@ fn parts_from(
 }
 
 /// The term that an expression states, as it is built.
+///
+/// # Errors
+///
+/// The first fault from the left, as [`JobError`] orders those of a term. `Memory`, where there is none for the term.
 #[cycle(terms)]
-fn term_from(alloc: Global, declared: &Declared, expression: &SExpr) -> Result<Term, JobError>
+pub fn term_from(alloc: Global, declared: &Declared, expression: &SExpr) -> Result<Term, JobError>
     ensures { (ds : Stated) → HasDeclared declared.now ds → IsReadAs plain_term result (mapped built (stated.term_of ds (plain expression.now))) }
 {
     let items = match expression {

@@ -118,7 +118,7 @@ fn enter_job(alloc: Global, src: &[u8]) -> Result<&[u8], JobError>
 }
 
 /// What stands behind this head in brackets.
-fn section_of<'e>(head: &str, expression: &'e SExpr) -> Result<&'e [SExpr], JobError>
+pub(crate) fn section_of<'e>(head: &str, expression: &'e SExpr) -> Result<&'e [SExpr], JobError>
     ensures { IsReadAs (λ items. plain_list items.now) result (stated.section_of head.now (plain expression.now)) }
 {
     section(head, expression).ok_or(JobError::BadForm)
@@ -222,7 +222,7 @@ fn take_assertion<'t, T: StepSink>(
 }
 
 /// The step without terms of this name.
-fn bare_named(name: &str) -> Option<BareStep>
+pub(crate) fn bare_named(name: &str) -> Option<BareStep>
     ensures found { IfSome result (λ step. (ds : Stated) (es : Expressions) → step_named ds name.now es ≡ alone (plain_bare_step step) es) }
     ensures none { IfNone result ((ds : Stated) (es : Expressions) → (name.now ≡ codes "assert" → ⊥) → step_named ds name.now es ≡ Err FormFault) }
 {

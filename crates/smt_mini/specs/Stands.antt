@@ -31,10 +31,6 @@ Stands mini m = StandsIn mini.phase mini m
 abbrev pub IsSpent : Mini → Type 0
 IsSpent mini = mini.phase ≡ Spent
 
--- the machine behind a command outside that is not read; behind `exit` it stays as it is
-abbrev pub marked_outside : Machine → Machine
-marked_outside m = if m.state.ended then m else blind m.state
-
 -- the machine behind a check of this state
 abbrev pub behind_check : State → Machine
 behind_check s = record { state = s; outside = false; shown = shows s }

@@ -10,7 +10,8 @@ ghost use Rattle.smt_mini.specs.Commands.{plain_command};
 ghost use Rattle.smt_sexpr.specs.View.{plain};
 ghost use Rattle.smt_mini.specs.Replies.{plain_reply};
 ghost use Rattle.smt_mini.specs.Levels.{StandFor};
-ghost use Rattle.smt_mini.specs.Stands.{IsShown, IsSpent, Stands, behind_check, marked_outside, model_or_none};
+ghost use Rattle.smt_mini.specs.Stands.{IsShown, IsSpent, Stands, behind_check, model_or_none};
+ghost use Rattle.law_verdicts.specs.Streams.{marked_outside};
 ghost use Rattle.smt_mini.specs.Turns.{Refuses, Replies, Turns};
 
 use crate::command::{Command, command_of};

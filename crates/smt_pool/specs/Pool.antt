@@ -3,7 +3,7 @@ use Rattle.std.specs.Prelude.{ℕ, ◌+◌, ◌<◌, ◌≡◌, ◌⊎◌, ⊤, 
 use Rattle.smt_script.specs.CommandTexts.{reset_text}
 use Rattle.smt_script.specs.Sink.{Rose}
 use Rattle.smt_solve.specs.Link.{AllowsTheSame, IsOver, LinkState}
-use Rattle.smt_solve.specs.Question.{BeginsExchange, Exchanges, Spares}
+use Rattle.smt_solve.specs.Question.{BeginsExchange, Exchanges, Spares, TellsToComeAlike}
 use Rattle.smt_solve.specs.Session.{session_link, state_by}
 use Rattle.smt_solve.specs.Starter.{Command, StarterState, add_told, command_of}
 use Rattle.smt_solve.specs.declared.error.SolverError.{SolverError}
@@ -131,13 +131,16 @@ pub record Keeps {L : Type 0} (state : L → LinkState) (allows : L → List ℕ
   pub last : new.idle ≡ old.idle ++ session ∷ []
   pub reset : Exchanges (pooled_state state s) (state_by state session) reset_text []
   pub spared : Spares (pooled_state state s) (state_by state session)
+  -- what is to come may change, and is told where it was
+  pub told : TellsToComeAlike (pooled_state state s) (state_by state session)
   -- where its answers ended inside a line, no later holder gets an answer, and the first who asks makes it one that is not kept
   pub over : IsOver (pooled_state state s) → IsOver (state_by state session)
   pub same_allows : AllowsTheSame (allows (pooled_link s)) (allows (session_link session))
   pub same_starter : new.starter ≡ old.starter
 
--- The link of a session failed while `(reset)` was sent, and the solver was not killed.
+-- The link of a session that had not failed before failed while `(reset)` was sent, and the solver was not killed.
 pub record FailsToReset {L : Type 0} (state : L → LinkState) (s : PooledSolver L) (link : L) : Type 0 where
+  pub unfailed : pooled_failed s ≡ false
   pub sent : BeginsExchange (pooled_state state s) (state link) reset_text
   pub rose : Rose (pooled_state state s).faults (state link).faults
   pub spared : Spares (pooled_state state s) (state link)

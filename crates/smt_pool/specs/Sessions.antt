@@ -5,7 +5,7 @@ use Rattle.smt_script.specs.CommandTexts.{reset_text}
 use Rattle.smt_script.specs.Memory.{counted}
 use Rattle.smt_script.specs.Sink.{Rose}
 use Rattle.smt_solve.specs.Link.{AllowsOnly, IsOver, IsUnused, LinkState}
-use Rattle.smt_solve.specs.Question.{BeginsExchange, Exchanges, Spares}
+use Rattle.smt_solve.specs.Question.{BeginsExchange, Exchanges, Spares, TellsToComeAlike}
 use Rattle.smt_solve.specs.Session.{session_failed, session_link, state_by}
 use Rattle.smt_solve.specs.Starter.{Command, StarterState, add_told}
 use Rattle.smt_solve.specs.declared.error.SolverError.{SolverError}
@@ -99,4 +99,5 @@ pub record Resets {L T : Type 0} (state : L → LinkState) (old new : LocalSolve
   pub spared : Spares (state_by state old) (state_by state new)
   pub rose : IsErrOf result Fault → Rose (state_by state old).faults (state_by state new).faults
   pub begun : BeginsExchange (state_by state old) (state_by state new) reset_text
+  pub told : TellsToComeAlike (state_by state old) (state_by state new)
   pub over : IsOver (state_by state old) → IsOver (state_by state new)

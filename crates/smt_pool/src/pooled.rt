@@ -38,6 +38,33 @@ impl<L: Link> PooledSolver<L> {
         self.session.mark_failed();
     }
 
+    /// Sends these lines of a script as they stand, as `LocalSolver::send_lines` does. They may be held back until the next
+    /// question.
+    ///
+    /// # Examples
+    ///
+    /// ```
+    /// use kembura::{Decision, Solver};
+    ///
+    /// let mut session = pool.acquire()?;
+    /// session.send_lines(b"(set-logic ALL)\n(assert false)\n")?;
+    /// let decision = session.check_sat();
+    /// pool.release(session)?;
+    /// assert_eq!(rt; decision, Ok(Decision::Unsat));
+    /// ```
+    ///
+    /// # Errors
+    ///
+    /// `SolverMarkedFailed` comes where the session has failed before or is marked, `Io` where the link failed, and `Memory`
+    /// where the link has no memory. The session has failed after any of them.
+    pub fn send_lines(&mut self, lines: &[u8]) -> Result<(), SolverError>
+        ensures guards { Guards L.allows self.old self.new result }
+        ensures sends { pooled_failed self.old ≡ false →
+            SendsCommand (pooled_state L.state self.old) (pooled_state L.state self.new) lines.now result }
+    {
+        self.session.send_lines(lines)
+    }
+
     /// The link.
     pub fn link(&self) -> &L
         ensures { result.now ≡ pooled_link self.now }

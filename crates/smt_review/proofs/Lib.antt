@@ -1,1 +1,4 @@
+pub mod Asking
+pub mod Reviewing
 pub mod Telling
+pub mod Writing

@@ -1,2 +1,5 @@
 pub mod Differences
+pub mod Errors
+pub mod Reviews
 pub mod Rows
+pub mod Sessions

@@ -4,33 +4,12 @@
 use smt_cli::{ReadSource, Refusal, run};
 use smt_script::{BufferedSink, WriteSink};
 use smt_solve::ChildStarter;
-use smt_term::Text;
-use std::alloc::Global;
-use std::env;
-use std::io::{BufWriter, ErrorKind};
+use smt_words::command_words;
+use std::io::BufWriter;
 use std::process::ExitCode;
 
 /// How many bytes of standard output are held back at most, to be written at once.
 const PIECE: usize = 65_536;
-
-/// The words behind the program's name, None where there is no memory for them.
-///
-/// No word is answered where one is not UTF-8, since such words are no command and no words are none either.
-fn words(rt: &HostRuntime, alloc: Global) -> Option<Vec<Text>> {
-    let mut words = Vec::new(alloc);
-    let args = match env::args(rt) {
-        Ok(args) => args,
-        Err(error) => match error.kind() {
-            // Some word is not UTF-8.
-            ErrorKind::InvalidData => return Some(words),
-            _ => return None,
-        },
-    };
-    for arg in args.skip(1) {
-        words.push(Text::from_string(arg).ok()?).ok()?;
-    }
-    Some(words)
-}
 
 /// How the program ends where it finds no memory for its words or its streams.
 fn no_memory() -> ExitCode {
@@ -39,7 +18,7 @@ fn no_memory() -> ExitCode {
 
 fn main(rt: HostRuntime) -> ExitCode {
     let alloc = rt.alloc();
-    let Some(words) = words(&rt, alloc) else {
+    let Some(words) = command_words(&rt) else {
         return no_memory();
     };
     let mut source = ReadSource::new(rt.stdin());

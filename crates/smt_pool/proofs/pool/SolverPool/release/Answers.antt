@@ -8,6 +8,7 @@ returns-in-Ok-clause-kept g c = λ _. record {
   last = c.push_back_reserved.ensures.items;
   reset = c.in-Ok.ensures.resets.sent;
   spared = c.in-Ok.ensures.resets.spared;
+  told = c.in-Ok.ensures.resets.told;
   over = c.in-Ok.ensures.resets.over;
   same_allows = c.in-Ok.ensures.allows;
   same_starter = refl;

@@ -1,0 +1,11 @@
+pub mod Adding
+pub mod Choosing
+pub mod Comparing
+pub mod Entries
+pub mod Gating
+pub mod Listing
+pub mod Nodes
+pub mod Operating
+pub mod Standing
+pub mod Tabling
+pub mod Visiting

@@ -1,0 +1,12 @@
+use Rattle.std.proofs.Common.{◌<◌, ◌^◌, ◌∙◌, ap, arith, sym}
+use Rattle.std.specs.Prelude.{codes}
+use Rattle.law_scripts.proofs.Numerals.{numerals_are_printed}
+use Rattle.std.proofs.lemmas.Result.{IfOk-weaker}
+use Rattle.std.proofs.Common.{◌++◌}
+use Rattle.smt_blast.proofs.names.variable_name.Goals as goal
+
+pub returns : goal.returns
+returns c =
+    let k = c.args.number in
+    let few : k < 10 ^ 64 = omega (arith, c.ranges.number.fits) in
+    IfOk-weaker c.from_string.result _ _ (λ name e. e ∙ c.in_ok-format.ensures.ok ∙ sym (ap (λ n. codes "v" ++ n) (numerals_are_printed k few))) c.from_string.ensures.ok

@@ -1,0 +1,9 @@
+pub mod Answers
+pub mod Chains
+pub mod CircuitView
+pub mod Marks
+pub mod Sorts
+pub mod Standing
+pub mod Tables
+pub mod View
+pub mod Walks

@@ -1,0 +1,4 @@
+pub mod Answered
+pub mod Ascending
+pub mod Entries
+pub mod Valued

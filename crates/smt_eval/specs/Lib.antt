@@ -1,0 +1,2 @@
+pub mod AssignmentView
+pub mod Evaluable

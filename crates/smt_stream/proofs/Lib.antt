@@ -1,0 +1,4 @@
+pub mod Leading
+pub mod Linked
+pub mod Saying
+pub mod Talking
