@@ -10,6 +10,8 @@ mod in_hand;
 #[cfg(test)]
 mod pools;
 #[cfg(test)]
+mod review_runs;
+#[cfg(test)]
 mod reviews;
 #[cfg(test)]
 mod sessions;

@@ -1,5 +1,11 @@
 pub mod Differences
 pub mod Errors
+pub mod Once
+pub mod Pairs
+pub mod Refusal
 pub mod Reviews
 pub mod Rows
+pub mod Runs
 pub mod Sessions
+pub mod SmallFindings
+pub mod Words

@@ -23,7 +23,7 @@ use smt_term::{EnumTable, Term};
 use std::alloc::Global;
 
 /// Writes the script of the difference of two conditions in memory.
-fn script_of(
+pub(crate) fn script_of(
     alloc: Global,
     enums: &EnumTable,
     relation: Relation,

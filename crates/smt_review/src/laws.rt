@@ -1,7 +1,8 @@
-// What a difference tells, which pools may be asked, and worked examples, proved with no code.
+// What a difference tells, which pools may be asked, what findings of small solvers are worth, and worked examples, proved with no code.
 ghost use Rattle.smt_review.specs.Differences.{DifferencesTell};
 ghost use Rattle.smt_review.specs.Rows.{RelationRows};
 ghost use Rattle.smt_review.specs.Sessions.{UnusedSessionsAreIdle};
+ghost use Rattle.smt_review.specs.SmallFindings.{SmallFindingsAreBelieved};
 ghost use Rattle.smt_pool.specs.Pool.{pool_starter, pool_state};
 
 use smt_pool::SolverPool;
@@ -22,4 +23,10 @@ pub fn opened_pools_may_be_asked<P: Starter>(pool: &SolverPool<P>)
 /// Relations of truth values, and differences of chosen terms.
 pub fn relation_rows()
     ensures { RelationRows }
+{}
+
+/// Where a run over a starter of small solvers found that a relation holds of the two terms of a job, it holds of them, as they are
+/// written, in every interpretation. No solver is trusted for it.
+pub fn small_findings_are_believed()
+    ensures { SmallFindingsAreBelieved }
 {}

@@ -1,0 +1,272 @@
+//! Whole runs of reviews, over a starter in memory and over small solvers.
+
+use crate::AMPLE;
+use crate::expected::{expect, expect_bytes, expect_count};
+use smt_review::review_run;
+use smt_script::{ListSink, MemorySource};
+use smt_solve::{LinkList, MemoryLink, MemoryStarter, Starter};
+use smt_stream::MiniStarter;
+use smt_text::Text;
+use std::alloc::Global;
+use std::process::Abort;
+
+/// A run, and how it ends.
+struct Row {
+    relation: &'static str,
+    job: &'static str,
+    /// The bytes that the solver answers.
+    answers: &'static [u8],
+    /// Which start is to fail, 0 for none.
+    start_fails: u64,
+    status: u8,
+    put: &'static str,
+    said: &'static str,
+    /// What the link was sent that came back, where one did.
+    sent: Option<&'static [u8]>,
+}
+
+/// A condition, and what De Morgan makes of it.
+const DE_MORGAN: &str =
+    "(job (enums) (vars (\"a\" Bool) (\"b\" Bool)) (funs) (terms (not (and (var \"a\") (var \"b\"))) (or (not (var \"a\")) (not (var \"b\")))))";
+
+/// Two conditions that have nothing to do with one another.
+const TWO: &str =
+    "(job (enums) (vars (\"a\" Bool) (\"b\" Bool)) (funs) (terms (var \"a\") (var \"b\")))";
+
+/// A review of them that finds nothing and was not begun.
+const NOTHING: Row = Row {
+    relation: "equivalent",
+    job: TWO,
+    answers: b"",
+    start_fails: 0,
+    status: 0,
+    put: "",
+    said: "",
+    sent: None,
+};
+
+/// Runs, with what SMT-LIB and the words say of them.
+const ROWS: &[Row] = &[
+    Row {
+        job: DE_MORGAN,
+        answers: b"unsat\n",
+        put: "holds\n",
+        sent: Some(
+            b"\
+(set-logic ALL)
+(declare-datatype Option (par (X) (
+  (none)
+  (some (val X)))))
+; \"a\"
+(declare-const t0 Bool)
+; \"b\"
+(declare-const t1 Bool)
+(define-fun t2 () Bool (and t0 t1))
+(define-fun t3 () Bool (not t2))
+(define-fun t4 () Bool (not t0))
+(define-fun t5 () Bool (not t1))
+(define-fun t6 () Bool (or t4 t5))
+(define-fun t7 () Bool (= t3 t6))
+(define-fun t8 () Bool (not t7))
+(assert t8)
+(check-sat)
+(reset)
+",
+        ),
+        ..NOTHING
+    },
+    // What implies itself has no difference.
+    Row {
+        relation: "implies",
+        job: "(job (enums) (vars (\"a\" Bool)) (funs) (steps (assert (var \"a\") (var \"a\"))))",
+        answers: b"unknown\n",
+        put: "unknown\n",
+        sent: Some(
+            b"\
+(set-logic ALL)
+(declare-datatype Option (par (X) (
+  (none)
+  (some (val X)))))
+(assert false)
+(check-sat)
+(reset)
+",
+        ),
+        ..NOTHING
+    },
+    // Where the first is true and the second is not, the first does not imply it.
+    Row {
+        relation: "implies",
+        answers: b"sat\n",
+        put: "fails\n",
+        sent: Some(
+            b"\
+(set-logic ALL)
+(declare-datatype Option (par (X) (
+  (none)
+  (some (val X)))))
+; \"a\"
+(declare-const t0 Bool)
+; \"b\"
+(declare-const t1 Bool)
+(define-fun t2 () Bool (not t1))
+(define-fun t3 () Bool (and t0 t2))
+(assert t3)
+(check-sat)
+(reset)
+",
+        ),
+        ..NOTHING
+    },
+    Row {
+        relation: "disjoint",
+        answers: b"sat\n",
+        put: "fails\n",
+        sent: Some(
+            b"\
+(set-logic ALL)
+(declare-datatype Option (par (X) (
+  (none)
+  (some (val X)))))
+; \"a\"
+(declare-const t0 Bool)
+; \"b\"
+(declare-const t1 Bool)
+(define-fun t2 () Bool (and t0 t1))
+(assert t2)
+(check-sat)
+(reset)
+",
+        ),
+        ..NOTHING
+    },
+    // A job of one term, and one that checks.
+    Row {
+        job: "(job (enums) (vars) (funs) (terms true))",
+        status: 3,
+        said: "job refused: NotTwo\n",
+        ..NOTHING
+    },
+    Row {
+        job: "(job (enums) (vars) (funs) (steps (assert true true) (check)))",
+        status: 3,
+        said: "job refused: NotTwo\n",
+        ..NOTHING
+    },
+    Row {
+        job: "(job",
+        status: 3,
+        said: "job refused: Parse\n",
+        ..NOTHING
+    },
+    // The difference speaks of an enum type without members.
+    Row {
+        relation: "disjoint",
+        job: "(job (enums (\"Empty\")) (vars (\"e\" (Entity \"Empty\")) (\"f\" (Entity \"Empty\"))) (funs) (terms (eq (var \"e\") (var \"f\")) true))",
+        status: 4,
+        said: "encode refused: EmptyEnum\n",
+        sent: Some(b"(set-logic ALL)\n"),
+        ..NOTHING
+    },
+    Row {
+        start_fails: 1,
+        status: 9,
+        said: "no start\n",
+        ..NOTHING
+    },
+    Row {
+        job: "(job (enums) (vars) (funs) (terms true true))",
+        answers: b"maybe\n",
+        status: 8,
+        said: "session fault: UnrecognizedSolverOutput\n",
+        sent: Some(
+            b"\
+(set-logic ALL)
+(declare-datatype Option (par (X) (
+  (none)
+  (some (val X)))))
+(assert false)
+(check-sat)
+",
+        ),
+        ..NOTHING
+    },
+    Row {
+        relation: "similar",
+        status: 2,
+        said: "usage: smtreview equivalent or implies or disjoint PATH ARGS..\n",
+        ..NOTHING
+    },
+];
+
+/// How a run ended: its status, and what was put and said.
+#[derive(Drop)]
+struct End {
+    status: u8,
+    out: ListSink,
+    diag: ListSink,
+}
+
+/// Runs a review over a starter.
+fn end_of<P: Starter>(
+    rt: &impl Abort,
+    alloc: Global,
+    relation: &str,
+    job: &str,
+    starter: &mut P,
+) -> End {
+    let words = [
+        Text::from_str(alloc, relation).expect(rt, AMPLE),
+        Text::from_str(alloc, "cvc5").expect(rt, AMPLE),
+    ];
+    let mut source = MemorySource::new(alloc, job.as_bytes(), &[]).expect(rt, AMPLE);
+    let mut out = ListSink::new(alloc);
+    let mut diag = ListSink::new(alloc);
+    let status = review_run(alloc, &words, &mut source, &mut out, &mut diag, starter);
+    End { status, out, diag }
+}
+
+/// A starter of one link to a solver that answers as the row says.
+fn starter_of(rt: &impl Abort, alloc: Global, row: &Row) -> MemoryStarter {
+    let mut links = LinkList::new(alloc);
+    let link = MemoryLink::new(alloc, row.answers, &[], None).expect(rt, AMPLE);
+    links.push(link).expect(rt, AMPLE);
+    MemoryStarter::new(alloc, links, &[row.start_fails]).expect(rt, AMPLE)
+}
+
+/// What the link was sent that came back.
+fn sent_by(starter: &MemoryStarter) -> Option<&[u8]> {
+    match starter.returned() {
+        [link] => Some(link.sent()),
+        _ => None,
+    }
+}
+
+#[test]
+fn reviews_end_as_they_should(rt: HostRuntime) {
+    let alloc = rt.alloc();
+    for row in ROWS {
+        let mut starter = starter_of(&rt, alloc, row);
+        let end = end_of(&rt, alloc, row.relation, row.job, &mut starter);
+        expect_count(
+            &rt,
+            row.job,
+            usize::from(end.status),
+            usize::from(row.status),
+        );
+        expect_bytes(&rt, row.job, end.out.bytes(), row.put.as_bytes());
+        expect_bytes(&rt, row.job, end.diag.bytes(), row.said.as_bytes());
+        expect(&rt, sent_by(&starter) == row.sent, row.job);
+    }
+}
+
+/// A small solver finds that both forms of De Morgan's law are one.
+#[test]
+fn a_small_solver_reviews_a_job(rt: HostRuntime) {
+    let alloc = rt.alloc();
+    let mut starter = MiniStarter::new(alloc);
+    let end = end_of(&rt, alloc, "equivalent", DE_MORGAN, &mut starter);
+    expect_bytes(&rt, "small", end.out.bytes(), b"holds\n");
+    let end = end_of(&rt, alloc, "disjoint", DE_MORGAN, &mut starter);
+    expect_bytes(&rt, "small", end.out.bytes(), b"fails\n");
+}

@@ -1,0 +1,102 @@
+// What the words of a command line ask for.
+ghost use Rattle.std.specs.Prelude.{◌≡◌, true, IfOk, IsOkUnless};
+ghost use Rattle.std.specs.Rc.{rc_str_bytes};
+ghost use Rattle.law_texts.specs.SharedTexts.{texts};
+ghost use Rattle.smt_solve.specs.Starter.{command_of as solver_call};
+ghost use Rattle.smt_review.specs.Words.{commanded, is_review, relation_named, review_by, solver_named, word_asks};
+
+use crate::relation::Relation;
+use smt_solve::{SolverCommand, SolverError};
+use smt_text::Text;
+use std::alloc::Global;
+
+/// What `smtreview --help` prints.
+pub(crate) const HELP: &str = "\
+usage: smtreview equivalent or implies or disjoint PATH ARGS..
+
+Reads a job of two Boolean terms from standard input, asks the solver PATH with these ARGS where they differ, and prints one word.
+
+equivalent  are both terms true in the same interpretations?
+implies     is the second term true wherever the first is?
+disjoint    are the terms nowhere true together?
+
+The job has one assertion of two terms, before and after a change, as smtcli --help says what jobs are. For example, the job
+  (job (enums) (vars (\"a\" Bool) (\"b\" Bool)) (funs) (terms (not (and (var \"a\") (var \"b\"))) (or (not (var \"a\")) (not (var \"b\")))))
+in a file FILE and the command
+  smtreview equivalent cvc5 --lang smt --incremental < FILE
+print holds.
+
+holds    the solver found no interpretation in which the terms differ so: the relation holds in all, if the solver is right
+fails    the solver says that there is an interpretation in which it fails
+unknown  the solver does not say
+
+status: 0 done, 2 no such command, 3 job refused, 4 no script for the difference, 5 source fault, 6 sink fault, 7 out of memory,
+        8 session fault, 9 the solver did not start
+";
+
+/// What `smtreview --version` prints.
+pub(crate) const VERSION: &str = "smtreview 0.1.0\n";
+
+/// What the words of a command line ask for.
+#[derive(Clone, Copy, Debug, PartialEq, Eq, Drop)]
+pub enum Command {
+    /// `equivalent PATH ARGS..`, `implies PATH ARGS..` or `disjoint PATH ARGS..`: whether the relation holds of the job's two terms.
+    Review(Relation),
+    /// `--help`.
+    Help,
+    /// `--version`.
+    Version,
+}
+
+/// What one word asks for, None where it is no command.
+fn word_command(word: &Text) -> Option<Command>
+    ensures { result ≡ word_asks (rc_str_bytes word.now) }
+{
+    match word.as_str() {
+        "--help" => Some(Command::Help),
+        "--version" => Some(Command::Version),
+        _ => None,
+    }
+}
+
+/// The relation of this name.
+fn relation_of(word: &Text) -> Option<Relation>
+    ensures { result ≡ relation_named (rc_str_bytes word.now) }
+{
+    match word.as_str() {
+        "equivalent" => Some(Relation::Equivalent),
+        "implies" => Some(Relation::Implies),
+        "disjoint" => Some(Relation::Disjoint),
+        _ => None,
+    }
+}
+
+/// The review by a relation that was named.
+fn review_of(relation: Option<Relation>) -> Option<Command>
+    ensures { result ≡ review_by relation }
+{
+    match relation {
+        Some(relation) => Some(Command::Review(relation)),
+        None => None,
+    }
+}
+
+/// What the words ask for, None where they are no command.
+pub(crate) fn command_of(words: &[Text]) -> Option<Command>
+    ensures { result ≡ commanded (texts words.now) }
+{
+    match words {
+        [] => None,
+        [word] => word_command(word),
+        [word, _, ..] => review_of(relation_of(word)),
+    }
+}
+
+/// The solver that stands behind the first word, with its arguments.
+pub(crate) fn solver_of(alloc: Global, words: &[Text]) -> Result<SolverCommand, SolverError>
+    requires { is_review (commanded (texts words.now)) ≡ true }
+    ensures named { IfOk result (λ solver. solver_call solver ≡ solver_named (texts words.now)) }
+    ensures refusal { IsOkUnless result SolverError.Memory }
+{
+    SolverCommand::new(alloc, words[1].as_str(), &words[2..])
+}
