@@ -258,9 +258,15 @@ pub use Rattle.smt_pool.specs.Pooled
 pub use Rattle.smt_pool.specs.Sessions
 pub use Rattle.smt_review.specs.Differences
 pub use Rattle.smt_review.specs.Errors as ReviewErrors
+pub use Rattle.smt_review.specs.Once as ReviewOnce
+pub use Rattle.smt_review.specs.Pairs as ReviewPairs
+pub use Rattle.smt_review.specs.Refusal as ReviewRefusal
 pub use Rattle.smt_review.specs.Reviews
 pub use Rattle.smt_review.specs.Rows as ReviewRows
+pub use Rattle.smt_review.specs.Runs as ReviewRuns
 pub use Rattle.smt_review.specs.Sessions as ReviewSessions
+pub use Rattle.smt_review.specs.SmallFindings
+pub use Rattle.smt_review.specs.Words as ReviewWords
 pub use Rattle.smt_runs.specs.Asking
 pub use Rattle.smt_runs.specs.Jobs as RunsJobs
 pub use Rattle.smt_runs.specs.Pieces as RunsPieces

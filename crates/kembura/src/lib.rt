@@ -11,7 +11,7 @@
 //! | `jobs`, `runs`, `program` | the reader of jobs; scripts and checks of a job's steps; the run of `smtcli` |
 //! | `blast` | terms over bitvectors as Boolean terms over their bits |
 //! | `eval` | what terms are worth in an assignment that is given |
-//! | `review` | the question whether two conditions are equivalent, one implies the other, or both never hold |
+//! | `review` | the question whether two conditions are equivalent, one implies the other, or both never hold; the run of `smtreview` |
 //! | `cedar`, `values`, `symbolizer` | Cedar's types and values, their terms, and the tables of a schema, a request and a store |
 //! | `laws` | the laws of the definitions, by subject |
 //!
@@ -40,7 +40,7 @@ pub use smt_nodes as nodes;
 pub use smt_pool as pool;
 pub use smt_pool::{SolverPool, check_script};
 pub use smt_review as review;
-pub use smt_review::{Finding, Relation, ReviewError};
+pub use smt_review::{Finding, Relation, ReviewError, review_run};
 pub use smt_runs as runs;
 pub use smt_script as script;
 pub use smt_script::{ListSink, Sink, SinkError, SmtLibScript};
