@@ -260,13 +260,42 @@ fn reviews_end_as_they_should(rt: HostRuntime) {
     }
 }
 
-/// A small solver finds that both forms of De Morgan's law are one.
+/// Each relation of two terms over `a` and `b`, and what a small solver finds.
+const FINDINGS: &[(&str, &str, &str)] = &[
+    (
+        "equivalent",
+        "(not (and (var \"a\") (var \"b\"))) (or (not (var \"a\")) (not (var \"b\")))",
+        "holds\n",
+    ),
+    ("equivalent", "(var \"a\") (var \"b\")", "fails\n"),
+    (
+        "implies",
+        "(and (var \"a\") (var \"b\")) (var \"a\")",
+        "holds\n",
+    ),
+    (
+        "implies",
+        "(var \"a\") (and (var \"a\") (var \"b\"))",
+        "fails\n",
+    ),
+    (
+        "disjoint",
+        "(var \"a\") (and (var \"b\") (not (var \"a\")))",
+        "holds\n",
+    ),
+    ("disjoint", "(var \"a\") (var \"b\")", "fails\n"),
+];
+
 #[test]
-fn a_small_solver_reviews_a_job(rt: HostRuntime) {
+fn small_solvers_review_jobs(rt: HostRuntime) {
     let alloc = rt.alloc();
-    let mut starter = MiniStarter::new(alloc);
-    let end = end_of(&rt, alloc, "equivalent", DE_MORGAN, &mut starter);
-    expect_bytes(&rt, "small", end.out.bytes(), b"holds\n");
-    let end = end_of(&rt, alloc, "disjoint", DE_MORGAN, &mut starter);
-    expect_bytes(&rt, "small", end.out.bytes(), b"fails\n");
+    for (relation, terms, finding) in FINDINGS {
+        let job = format!(in alloc;
+            "(job (enums) (vars (\"a\" Bool) (\"b\" Bool)) (funs) (terms {terms}))"
+        ).expect(&rt, AMPLE);
+        let mut starter = MiniStarter::new(alloc);
+        let end = end_of(&rt, alloc, relation, job.as_str(), &mut starter);
+        expect_bytes(&rt, terms, end.out.bytes(), finding.as_bytes());
+        expect_count(&rt, terms, starter.returned().len(), 1);
+    }
 }
