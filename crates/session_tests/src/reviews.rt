@@ -23,6 +23,7 @@ use std::alloc::Global;
 use std::process::Abort;
 
 /// A Boolean variable.
+#[tactic(auto, using(smt_term::specs::View::views))]
 fn variable(rt: &impl Abort, alloc: Global, id: &str) -> Term
     ensures { Typed (plain_term result) BoolType }
 {
