@@ -177,6 +177,11 @@ pub use Rattle.smt_bits.specs.Printed as BitsPrinted
 pub use Rattle.smt_bits.specs.Width
 pub use Rattle.smt_blast.specs.Answers as BlastAnswers
 pub use Rattle.smt_blast.specs.View as BlastView
+pub use Rattle.smt_blast_run.specs.Causes as BlastCauses
+pub use Rattle.smt_blast_run.specs.Meaning as BlastMeaning
+pub use Rattle.smt_blast_run.specs.Refusal as BlastRefusal
+pub use Rattle.smt_blast_run.specs.Run as BlastRun
+pub use Rattle.smt_blast_run.specs.Words as BlastWords
 pub use Rattle.smt_cedar.specs.AttributeMaps
 pub use Rattle.smt_cedar.specs.Cedar
 pub use Rattle.smt_cedar.specs.Constructed

@@ -9,7 +9,7 @@
 //! | `solve`, `pool` | links to solvers, sessions, processes; pools of sessions, and the check of a script |
 //! | `mini`, `stream` | a small solver; the run of `smtmini`, and links to small solvers in memory |
 //! | `jobs`, `runs`, `program` | the reader of jobs; scripts and checks of a job's steps; the run of `smtcli` |
-//! | `blast` | terms over bitvectors as Boolean terms over their bits |
+//! | `blast`, `blast_run` | terms over bitvectors as Boolean terms over their bits; the run of `smtblast` |
 //! | `eval` | what terms are worth in an assignment that is given |
 //! | `review` | the question whether two conditions are equivalent, one implies the other, or both never hold; the run of `smtreview` |
 //! | `cedar`, `values`, `symbolizer` | Cedar's types and values, their terms, and the tables of a schema, a request and a store |
@@ -24,6 +24,7 @@ pub mod laws;
 pub use smt_bits as bits;
 pub use smt_bits::{BitVec, Width};
 pub use smt_blast as blast;
+pub use smt_blast_run::blast_run;
 pub use smt_cedar as cedar;
 pub use smt_cli as program;
 pub use smt_cli::run;
