@@ -1,4 +1,4 @@
 pub mod Asking
 pub mod Dialogues
-mod InHand
+pub mod InHand
 pub mod Starting

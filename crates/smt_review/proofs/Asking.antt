@@ -14,7 +14,8 @@ use Rattle.smt_solve.specs.declared.error.SolverError.TheVariants.{Io as IoError
 use Rattle.law_verdicts.specs.Idle.{AnswersQuestion}
 use Rattle.law_verdicts.specs.Verdicts.{logic_text}
 use Rattle.smt_review.specs.Errors.{solver_refusal}
-use Rattle.smt_review.specs.Reviews.{FailsAtCheck, WhyNothingFound, text_for}
+use Rattle.smt_pool.proofs.InHand.{fails_at_check}
+use Rattle.smt_review.specs.Reviews.{WhyNothingFound, text_for}
 use Rattle.smt_review.specs.declared.error.ReviewError.{ReviewError}
 use Rattle.smt_review.specs.declared.relation.Relation.{Relation}
 
@@ -67,18 +68,14 @@ answered_as first last a b c d bytes held script z x only same text is p q asks 
 -- ---- no answer
 
 module _ (enums : Enums) (r : Relation) (t u : PlainTerm) where
-  fails : (allows : List ℕ → List ℕ → List ℕ → Type 0) (a b c d : LinkState) (e : SolverError) → SendsCommand {T = Unit {0}} a b logic_text (Ok tt) → SendsCommand {T = Unit {0}} b c (text_for enums r t u) (Ok tt)
-      → AsksDecision allows c d (Err e) → FailsAtCheck a d (text_for enums r t u) e
-  fails allows a b c d e p q h = record { asked = c; sent = exchanges_then (text_for enums r t u) [] p.ok q.ok; spared = spares_then p.spared q.spared; why = h.err; kills = h.kills }
-
   -- the check failed
   unanswered : (allows : List ℕ → List ℕ → List ℕ → Type 0) (a b c d : LinkState) (e : SolverError) → SendsCommand {T = Unit {0}} a b logic_text (Ok tt) → SendsCommand {T = Unit {0}} b c (text_for enums r t u) (Ok tt)
       → AsksDecision allows c d (Err e) → WhyNothingFound enums r t u (solver_refusal e) a d
-  unanswered allows a b c d IoError p q h = inr (fails allows a b c d IoError p q h)
-  unanswered allows a b c d (SolverSays message) p q h = inr (fails allows a b c d (SolverSays message) p q h)
-  unanswered allows a b c d (OtherOutput text) p q h = inr (fails allows a b c d (OtherOutput text) p q h)
-  unanswered allows a b c d SolverMarkedFailed p q h = inr (fails allows a b c d SolverMarkedFailed p q h)
-  unanswered allows a b c d TooLongAnswer p q h = inr (fails allows a b c d TooLongAnswer p q h)
+  unanswered allows a b c d IoError p q h = inr (fails_at_check allows a b c d (text_for enums r t u) IoError p q h)
+  unanswered allows a b c d (SolverSays message) p q h = inr (fails_at_check allows a b c d (text_for enums r t u) (SolverSays message) p q h)
+  unanswered allows a b c d (OtherOutput text) p q h = inr (fails_at_check allows a b c d (text_for enums r t u) (OtherOutput text) p q h)
+  unanswered allows a b c d SolverMarkedFailed p q h = inr (fails_at_check allows a b c d (text_for enums r t u) SolverMarkedFailed p q h)
+  unanswered allows a b c d TooLongAnswer p q h = inr (fails_at_check allows a b c d (text_for enums r t u) TooLongAnswer p q h)
   unanswered allows a b c d SolverWant p q h = tt
 
   -- where this text was sent as the script

@@ -7,15 +7,13 @@ use Rattle.law_terms.specs.TypeValues.{Enums}
 use Rattle.law_folding.specs.Builder.{folding}
 use Rattle.law_lines.specs.Text.{text}
 use Rattle.law_theorem.specs.Conditions.{AreConditions}
-use Rattle.smt_script.specs.CommandTexts.{check_sat_text}
 use Rattle.smt_script.specs.Sink.{Rose}
 use Rattle.smt_types.specs.Entities.{bytes_of_id, bytes_of_type}
 use Rattle.smt_types.specs.PatternView.{plain_ord_pattern}
 use Rattle.smt_encode.specs.declared.error.EncodeError.{EncodeError}
 use Rattle.smt_encode.specs.declared.error.EncodeError.TheVariants.{EmptyEnum as EnumRefused, EncodeStringFailed as StringRefused, EncodePatternFailed as PatternRefused, EnumMissingMember as EntityRefused}
-use Rattle.smt_solve.specs.Answers.{IsNoDecision}
 use Rattle.smt_solve.specs.Link.{LinkState}
-use Rattle.smt_solve.specs.Question.{Exchanges, FailsToSend, IsNothing, KillsOnly, Refuses, RefusesEnded, Spares}
+use Rattle.smt_solve.specs.Question.{Exchanges, Spares}
 use Rattle.smt_solve.specs.Starter.{add_told}
 use Rattle.smt_solve.specs.declared.answer.Decision.{Decision}
 use Rattle.smt_solve.specs.declared.answer.Decision.TheVariants as decided
@@ -24,6 +22,7 @@ use Rattle.smt_solve.specs.declared.error.SolverError.TheVariants.{Memory as Sol
 use Rattle.law_verdicts.specs.Honesty.{IsHonest}
 use Rattle.law_verdicts.specs.Idle.{AnswersQuestion, TellsAll}
 use Rattle.law_verdicts.specs.Verdicts.{logic_text}
+use Rattle.smt_pool.specs.Asked.{FailsAtCheck, FailsBeforeCheck}
 use Rattle.smt_pool.specs.Pool.{PoolState, GivesUp, HandsOut, Keeps, WhyNotAcquired}
 use Rattle.smt_pool.specs.Pooled.{pooled_link, pooled_state}
 use Rattle.smt_pool.specs.declared.error.SolverPoolError.TheVariants.{Memory as PoolWant}
@@ -72,19 +71,6 @@ WhyUnwritten fault (Solver e) = ⊥
 WhyUnwritten fault Memory = ⊤
 
 -- ---- why a session does not answer
-
--- Lines before the check could not be sent, and the solver was not killed.
-pub record FailsBeforeCheck (before now : LinkState) (e : SolverError) : Type 0 where
-  pub failed : FailsToSend before now e
-  pub spared : Spares before now
-
--- A link was sent the logic and this script, and then the check failed. The solver was killed only for what it answered.
-pub record FailsAtCheck (before now : LinkState) (script : List ℕ) (e : SolverError) : Type 0 where
-  pub asked : LinkState
-  pub sent : Exchanges before asked (logic_text ++ script) []
-  pub spared : Spares before asked
-  pub why : RefusesEnded asked now e ⊎ Refuses (Exchanges asked now check_sat_text) (Exchanges asked now check_sat_text) IsNoDecision asked now e
-  pub kills : KillsOnly IsNothing asked now check_sat_text
 
 -- Why a session failed, by what its link told before and tells now: lines could not be sent, or the check failed. Want of memory is an
 -- error of its own.
