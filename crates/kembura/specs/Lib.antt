@@ -254,7 +254,7 @@ pub use Rattle.smt_nodes.specs.LabelKinds
 pub use Rattle.smt_nodes.specs.Laws as NodesLaws
 pub use Rattle.smt_nodes.specs.Subject
 pub use Rattle.smt_nodes.specs.View as NodesView
-pub use Rattle.smt_pool.specs.Asked
+pub use Rattle.smt_pool.specs.Asked as AskedInHand
 pub use Rattle.smt_pool.specs.Checks
 pub use Rattle.smt_pool.specs.Config
 pub use Rattle.smt_pool.specs.Dialogue
