@@ -1,5 +1,5 @@
 -- What the text of a job's steps means.
-use Rattle.std.proofs.Common.{◌≡◌, ◌⊎◌, ℕ, ◌+◌, ◌≤◌, zero, suc, Bool, true, List, [], ◌∷◌, ◌++◌, map, length, None, refl, sym, ap, ◌∙◌, subst, inl, inr, append_assoc, append-nil, arith}
+use Rattle.std.proofs.Common.{◌≡◌, ◌⊎◌, ℕ, ◌+◌, ◌≤◌, zero, suc, Bool, true, List, [], ◌∷◌, ◌++◌, map, length, None, Ok, refl, sym, ap, ◌∙◌, subst, inl, inr, append_assoc, append-nil, arith}
 use Rattle.std.specs.List.{AllByRecursion}
 use Rattle.law_terms.specs.Faults.{first_fault}
 use Rattle.law_terms.specs.Plain.{PlainTerm}
@@ -20,10 +20,11 @@ use Rattle.law_theorem.specs.WellWritten.{IsWellWritten, most_for_call}
 use Rattle.law_theorem.proofs.FitKept.{calls_keep_fit, empty_text_fits, these_are_idle}
 use Rattle.law_theorem.proofs.Sessions.{fitting_texts_are_scripts, sessions_keep_fit}
 use Rattle.law_theorem.proofs.Calls.{calls_are_well_written, calls_keep_well_written, idle_lines_keep_well_written}
-use Rattle.law_jobs.specs.Jobs.{IsJob, PlainJob, fault_of}
+use Rattle.law_texts.specs.Reading.{Expression}
+use Rattle.law_jobs.specs.Jobs.{PlainJob, fault_of, job_of}
 use Rattle.law_jobs.specs.Laws.{IsCondition}
 use Rattle.law_jobs.specs.Steps.{PlainStep, AreBalanced, AssertStep, CheckStep, PopStep, PushStep, Section, StepsSection, TermsSection, asserted, built_steps, checked_steps, current}
-use Rattle.law_jobs.proofs.Jobs.{job_conditions, job_enums_in_order, job_is_balanced}
+use Rattle.law_jobs.proofs.Jobs.{stated_enums_in_order, stated_steps_sound}
 use Rattle.law_jobs.proofs.Steps.{current_before}
 use Rattle.smt_script.specs.CommandTexts.{check_sat_text}
 use Rattle.law_job_scripts.specs.JobTexts.{most_for_steps, names_of_job, session_steps, stages_behind, text_behind, text_of_job}
@@ -166,16 +167,17 @@ writable_checked enums TermsSection steps w = record {
 }
 writable_checked enums StepsSection steps w = w
 
-job_is_writable : (bytes : List ℕ) (job : PlainJob) → IsJob bytes job → fault_of job ≡ None → AreWritable job.enums job.steps
-job_is_writable bytes job is none = record {
-  enum_types = (job_enums_in_order bytes job is).members;
-  conditions = job_conditions bytes job is;
+stated_is_writable : (e : Expression) (x : Section × PlainJob) → job_of e ≡ Ok x → fault_of x.1 ≡ None → AreWritable x.1.enums x.1.steps
+stated_is_writable e x is none = record {
+  enum_types = (stated_enums_in_order e x is).members;
+  conditions = (stated_steps_sound e x is).0;
   faultless = none;
-  balanced = job_is_balanced bytes job is;
+  balanced = (stated_steps_sound e x is).1;
 }
 
 pub jobs_are_writable : JobsAreWritable
 jobs_are_writable = record {
-  of_job = job_is_writable;
-  checked = λ bytes job section is none. writable_checked job.enums section job.steps (job_is_writable bytes job is none);
+  stated = λ e section job. stated_is_writable e (section, job);
+  of_job = λ bytes job is. stated_is_writable is.expression (is.section, job) is.stated;
+  checked = λ bytes job section is none. writable_checked job.enums section job.steps (stated_is_writable is.expression (is.section, job) is.stated none);
 }

@@ -1,5 +1,5 @@
 -- What the text of a job's steps says of its terms as they are written.
-use Rattle.std.specs.Prelude.{ℕ, ◌+◌, ◌≡◌, ◌↔◌, map, List, None}
+use Rattle.std.specs.Prelude.{ℕ, ◌+◌, ◌≡◌, ◌↔◌, map, List, None, Ok}
 use Rattle.std.specs.List.{AllByRecursion}
 use Rattle.law_terms.specs.Faults.{first_fault}
 use Rattle.law_terms.specs.Interpretations.{IsInterpretation, restrict}
@@ -11,7 +11,8 @@ use Rattle.law_scripts.specs.Value.{IsModel}
 use Rattle.law_theorem.specs.CarriedInterpretations.{carry_interpretation}
 use Rattle.law_theorem.specs.Headline.{Headline}
 use Rattle.law_theorem.specs.WellWritten.{IsWellWritten}
-use Rattle.law_jobs.specs.Jobs.{IsJob, PlainJob, fault_of}
+use Rattle.law_texts.specs.Reading.{Expression}
+use Rattle.law_jobs.specs.Jobs.{IsJob, PlainJob, fault_of, job_of}
 use Rattle.law_jobs.specs.Laws.{IsCondition}
 use Rattle.law_jobs.specs.Steps.{PlainStep, AreBalanced, Section, asserted, built_steps, checked_steps, current}
 use Rattle.law_job_scripts.specs.JobTexts.{most_for_steps, names_of_job, text_of_job}
@@ -37,7 +38,9 @@ pub record MeansSteps (enums : Enums) (steps : List PlainStep) : Type 0 where
 abbrev pub WritableStepsMean : Type 0
 WritableStepsMean = (enums : Enums) (steps : List PlainStep) → AreWritable enums steps → MeansSteps enums steps
 
--- The steps of a job whose built terms have no fault are writable, and so are those by which a solver is asked about it.
+-- The steps of a job whose built terms have no fault are writable, whether an expression states it or bytes, and so are those by which a
+-- solver is asked about it.
 pub record JobsAreWritable : Type 0 where
+  pub stated : (e : Expression) (section : Section) (job : PlainJob) → job_of e ≡ Ok (section, job) → fault_of job ≡ None → AreWritable job.enums job.steps
   pub of_job : (bytes : List ℕ) (job : PlainJob) → IsJob bytes job → fault_of job ≡ None → AreWritable job.enums job.steps
   pub checked : (bytes : List ℕ) (job : PlainJob) (section : Section) → IsJob bytes job → fault_of job ≡ None → AreWritable job.enums (checked_steps section job.steps)

@@ -43,12 +43,15 @@ sections_sound es =
     bound (λ x. AreSound 0 x.1.steps) (steps_last p.0 p.1) _ (onward (steps_last p.0 p.1) (last_sound p.0 f p.1) (λ x h. h))))
 
 -- what holds of what the sections of a job state holds of the job
-of_job : (P : PlainJob → Type 0) → ((es : Expressions) → IfOk (job_of_sections es) (λ x. P x.1)) → (bytes : List ℕ) (job : PlainJob) → IsJob bytes job → P job
-of_job P all bytes job is =
-    subst (λ (o : Outcome (Section × PlainJob)). IfOk o (λ x. P x.1)) is.stated (bound (λ x. P x.1) (section_of (codes "job") is.expression) job_of_sections (whichever _ (section_of (codes "job") is.expression) all))
+of_stated : (P : PlainJob → Type 0) → ((es : Expressions) → IfOk (job_of_sections es) (λ x. P x.1)) → (e : Expression) (x : Section × PlainJob) → job_of e ≡ Ok x → P x.1
+of_stated P all e x is = subst (λ (o : Outcome (Section × PlainJob)). IfOk o (λ x. P x.1)) is (bound (λ x. P x.1) (section_of (codes "job") e) job_of_sections (whichever _ (section_of (codes "job") e) all))
+
+-- the steps of a job that an expression states
+pub stated_steps_sound : (e : Expression) (x : Section × PlainJob) → job_of e ≡ Ok x → AreSound 0 x.1.steps
+stated_steps_sound e x is = of_stated (λ j. AreSound 0 j.steps) sections_sound e x is
 
 sound_steps : (bytes : List ℕ) (job : PlainJob) → IsJob bytes job → AreSound 0 job.steps
-sound_steps bytes job is = of_job (λ j. AreSound 0 j.steps) sections_sound bytes job is
+sound_steps bytes job is = stated_steps_sound is.expression (is.section, job) is.stated
 
 pub job_conditions : (bytes : List ℕ) (job : PlainJob) → IsJob bytes job → AllByRecursion IsCondition (asserted job.steps)
 job_conditions bytes job is = (sound_steps bytes job is).0
@@ -75,8 +78,12 @@ sections_in_order es =
     bound _ (declared_first es) _ (onward (declared_first es) (declared_in_order es) (λ p o.
     bound _ (steps_last p.0 p.1) _ (whichever _ (steps_last p.0 p.1) (λ x. o))))
 
+-- the enum types of a job that an expression states
+pub stated_enums_in_order : (e : Expression) (x : Section × PlainJob) → job_of e ≡ Ok x → AreInOrder x.1.enums
+stated_enums_in_order e x is = of_stated (λ j. AreInOrder j.enums) sections_in_order e x is
+
 pub job_enums_in_order : (bytes : List ℕ) (job : PlainJob) → IsJob bytes job → AreInOrder job.enums
-job_enums_in_order bytes job is = of_job (λ j. AreInOrder j.enums) sections_in_order bytes job is
+job_enums_in_order bytes job is = stated_enums_in_order is.expression (is.section, job) is.stated
 
 -- ---- bytes are one job at most, and a job has no fault
 

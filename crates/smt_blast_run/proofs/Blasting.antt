@@ -1,5 +1,5 @@
 -- The current terms of a job that was read, and their blasted terms.
-use Rattle.std.proofs.Common.{◌≡◌, ◌∙◌, ℕ, List, [], Option, Some, None, Ok, Err, Result, ap, append-nil, subst, sym}
+use Rattle.std.proofs.Common.{◌≡◌, ◌∙◌, ℕ, List, [], Option, None, Ok, Err, Result, ap, append-nil, subst, sym}
 use Rattle.std.specs.List.{AllByRecursion}
 use Rattle.std.specs.Prelude.{IfErr, IfSome, IsErrAnd, IsTrue}
 use Rattle.law_terms.specs.Plain.{PlainTerm}
@@ -23,15 +23,12 @@ use Rattle.smt_jobs.specs.Numbers.{all_steps_stand, steps_by}
 use Rattle.smt_jobs.specs.declared.numbered.NumberedStep.{NumberedStep}
 use Rattle.smt_jobs.specs.declared.numbered.NumberedJob.{NumberedJob}
 use Rattle.smt_term.specs.View.{plain_op, plain_type}
+use Rattle.smt_runs.proofs.Flushing.{of_told}
 use Rattle.smt_blast_run.specs.Causes.{HasReadingCause, current_terms, refusal_in}
 use Rattle.smt_blast_run.specs.Refusal.{unblasted_refusal}
-use Rattle.smt_blast_run.specs.Run.{IsBlastedOf, IsReadOf}
+use Rattle.smt_runs.specs.Jobs.{IsReadOf}
+use Rattle.smt_blast_run.specs.Run.{IsBlastedOf}
 use Rattle.smt_blast_run.specs.declared.refusal.Refusal.{Refusal}
-
--- what holds of all that is told
-pub of_told : (P Q : List ℕ → Type 0) (left : Option (List ℕ)) → ((bytes : List ℕ) → P bytes → Q bytes) → IfSome left P → IfSome left Q
-of_told P Q None so h = tt
-of_told P Q (Some bytes) so h = so bytes h
 
 module _ (bytes : List ℕ) (job : PlainJob) (is : IsJob bytes job) where
   -- the current terms of a job, as they are written, are conditions

@@ -4,10 +4,11 @@ use Rattle.std.specs.Prelude.{IfErr, IsErrAnd, IsErrOf, OnOk}
 use Rattle.smt_script.specs.Sink.{Rose}
 use Rattle.smt_script.specs.declared.sink.SinkError.{SinkError}
 use Rattle.smt_script.specs.declared.sink.SinkError.TheVariants.{Fault as SinkFault, Memory as SinkWant}
-use Rattle.smt_blast_run.specs.Causes.{Around, HasBlastCause, HasCause, HasPutCause, IsTakenJob, LeavesOutput, SinkFailed}
+use Rattle.smt_runs.specs.Runs.{Around, SinkFailed}
+use Rattle.smt_runs.proofs.Flushing.{of_told}
+use Rattle.smt_blast_run.specs.Causes.{HasBlastCause, HasCause, HasPutCause, IsTakenJob, LeavesOutput}
 use Rattle.smt_blast_run.specs.Refusal.{sink_refusal}
 use Rattle.smt_blast_run.specs.Run.{IsDone, Prints}
-use Rattle.smt_blast_run.proofs.Blasting.{of_told}
 use Rattle.smt_blast_run.specs.declared.command.Command.{Command}
 use Rattle.smt_blast_run.specs.declared.command.Command.TheVariants.{Blast as BlastWords, Help, Version}
 use Rattle.smt_blast_run.specs.declared.refusal.Refusal.{Refusal}
@@ -76,14 +77,6 @@ module _ (before after : Around) (faults : ℕ) where
 flush_output : (old new : Option (List ℕ)) (error : SinkError) → LeavesOutput old new (sink_refusal error)
 flush_output old new SinkFault = tt
 flush_output old new SinkWant = tt
-
--- What holds of the refusal of a put holds of the run's, as far as the flush left it.
-pub refusal_stays : {T U : Type 0} (P Q : Refusal → Type 0) (outcome : Result T Refusal) (result : Result U Refusal) (r : Refusal) → outcome ≡ Err r → IsErrAnd result (λ x. x ≡ r) → ((x : Refusal) → P x → Q x) → IfErr outcome P → IfErr result Q
-refusal_stays P Q outcome (Ok y) r was e stays h = tt
-refusal_stays P Q (Ok y) (Err x) r was e stays h = absurd (cc)
-refusal_stays P Q (Err z) (Err x) r was e stays h =
-    let same : z ≡ x = cc in
-    stays x (subst P same h)
 
 pub flush_leaves : {U : Type 0} (result : Result U Refusal) (error : SinkError) (old new : Option (List ℕ)) → IsErrAnd result (λ x. x ≡ sink_refusal error) → IfErr result (LeavesOutput old new)
 flush_leaves (Ok y) error old new e = tt

@@ -1,4 +1,3 @@
-pub mod AsWritten
 pub mod Blasting
 pub mod Flushing
 pub mod Meaning

@@ -1,5 +1,5 @@
 -- What a run does.
-use Rattle.std.proofs.Common.{◌≡◌, ◌∙◌, ℕ, List, Option, ap}
+use Rattle.std.proofs.Common.{◌≡◌, ℕ, List, Option}
 use Rattle.std.specs.Io.KnownBytes.{append_known}
 use Rattle.std.specs.Prelude.{◌↔◌, IfSome}
 use Rattle.law_terms.specs.Interpretations.{IsInterpretation}
@@ -12,8 +12,9 @@ use Rattle.smt_blast.specs.declared.blasted.Blasted.{Blasted}
 use Rattle.smt_blast_run.specs.Causes.{current_terms}
 use Rattle.smt_blast_run.specs.Meaning.{MeansBlasted, blasted_text, carried_bits}
 use Rattle.smt_blast_run.specs.Run.{IsBlastedOf, Prints}
-use Rattle.smt_blast_run.proofs.AsWritten.{as_built}
-use Rattle.smt_blast_run.proofs.Blasting.{current_conditions, of_told}
+use Rattle.law_jobs.proofs.BuiltConditions.{as_built}
+use Rattle.smt_runs.proofs.Flushing.{of_told}
+use Rattle.smt_blast_run.proofs.Blasting.{current_conditions}
 use Rattle.smt_blast_run.proofs.Meaning.{means_blasted}
 
 -- the script of a job means its terms as they are written
@@ -29,7 +30,3 @@ pub prints : (left : Option (List ℕ)) (blasted : Blasted) (b : IsBlastedOf lef
 prints left blasted b old new put =
     let means = means_blasted b.job.enums (current_terms b.job) b.faithful in
     of_told (λ bytes. IsJob bytes b.job) (Prints old new) left (λ bytes is. record { job = b.job; is_job = is; taken = b.taken; printed = put; means = means; true_as_written = as_written bytes b.job is means }) b.is_job
-
--- what a text was put as
-pub text_put : (old new : Option (List ℕ)) (bytes text : List ℕ) → new ≡ append_known old bytes → bytes ≡ text → new ≡ append_known old text
-text_put old new bytes text put same = put ∙ ap (append_known old) same

@@ -6,10 +6,11 @@ use Rattle.law_blasting.specs.Refusals.{Refusal as TermRefusal}
 use Rattle.law_jobs.proofs.Jobs.{one_job}
 use Rattle.smt_runs.specs.Jobs.{IsNoJob}
 use Rattle.smt_runs.proofs.Reading.{not_refused}
-use Rattle.smt_blast_run.specs.Causes.{Around, HasBlastCause, HasCause, HasPutCause, HasRefusalOf, IsRefusalOf, IsTakenJob, IsUntakenJob, SinkFailed, SourceFailed, refusal_in}
+use Rattle.smt_runs.specs.Runs.{Around, SinkFailed, SourceFailed}
+use Rattle.smt_runs.proofs.Flushing.{of_told}
+use Rattle.smt_blast_run.specs.Causes.{HasBlastCause, HasCause, HasPutCause, HasRefusalOf, IsRefusalOf, IsTakenJob, IsUntakenJob, refusal_in}
 use Rattle.smt_blast_run.specs.Refusal.{status_of}
 use Rattle.smt_blast_run.specs.Run.{IsComplete, IsDone, Prints}
-use Rattle.smt_blast_run.proofs.Blasting.{of_told}
 use Rattle.smt_blast_run.specs.declared.command.Command.{Command}
 use Rattle.smt_blast_run.specs.declared.command.Command.TheVariants.{Blast as BlastWords, Help, Version}
 use Rattle.smt_blast_run.specs.declared.refusal.BlastRefusal.{BlastRefusal}

@@ -5,10 +5,10 @@ use Rattle.law_terms.specs.Plain.{PlainOp, PlainTerm, PlainType}
 use Rattle.law_blasting.specs.Refusals.{Refusal as TermRefusal, UnsupportedOperator, UnsupportedType as TypeRefusal, first_refusal}
 use Rattle.law_jobs.specs.Jobs.{IsJob, PlainJob}
 use Rattle.law_jobs.specs.Steps.{current}
-use Rattle.smt_script.specs.Sink.{Rose}
 use Rattle.smt_encode.specs.declared.error.EncodeError.{EncodeError}
 use Rattle.smt_encode.specs.declared.error.EncodeError.TheVariants.{Io, Memory as EncodeWant}
 use Rattle.smt_runs.specs.Jobs.{IsRefusedAs}
+use Rattle.smt_runs.specs.Runs.{Around, SinkFailed, SourceFailed}
 use Rattle.smt_blast_run.specs.declared.command.Command.{Command}
 use Rattle.smt_blast_run.specs.declared.command.Command.TheVariants.{Blast as BlastWords, Help, Version}
 use Rattle.smt_blast_run.specs.declared.refusal.BlastRefusal.{BlastRefusal}
@@ -42,32 +42,6 @@ IsTakenJob bytes = (job : PlainJob) × IsJob bytes job × (refusal_in job ≡ No
 -- a job has these bytes, and its current terms have a refusal
 abbrev pub IsUntakenJob : List ℕ → Type 0
 IsUntakenJob bytes = (job : PlainJob) × IsJob bytes job × IsTrue (is_some (refusal_in job))
-
--- ---- what a run stands on
-
--- What a run stands on at a moment: what the source has left and how often it failed, and what the sink holds and how often it failed.
-pub record Around : Type 0 where
-  pub left : Option (List ℕ)
-  pub source_faults : ℕ
-  pub held : Option (List ℕ)
-  pub sink_faults : ℕ
-
--- what a run stands on, by what is said of its source and its sink
-abbrev pub around : {R W : Type 0} → (R → Option (List ℕ)) → (R → ℕ) → (W → Option (List ℕ)) → (W → ℕ) → R → W → Around
-around remaining source_faults contents sink_faults source out = record {
-  left = remaining source;
-  source_faults = source_faults source;
-  held = contents out;
-  sink_faults = sink_faults out;
-}
-
--- the source's count of faults rose, or stands at its last value
-abbrev pub SourceFailed : (before after : Around) → Type 0
-SourceFailed before after = Rose before.source_faults after.source_faults
-
--- the sink's count of faults rose, or stands at its last value
-abbrev pub SinkFailed : (before after : Around) → Type 0
-SinkFailed before after = Rose before.sink_faults after.sink_faults
 
 -- ---- causes: `failed` is the fact that a count of faults rose
 

@@ -1,8 +1,10 @@
 // The run of the program, from its words to its status.
 ghost use Rattle.std.specs.Prelude.{◌≡◌, ◌≢◌, ◌↔◌, ◌≤◌, None, Some, IfErr, OnOk};
 ghost use Rattle.law_texts.specs.SharedTexts.{texts};
-ghost use Rattle.smt_blast_run.specs.Causes.{HasCause, LeavesOutput, around};
-ghost use Rattle.smt_blast_run.specs.Run.{IsComplete, IsDone, Reports};
+ghost use Rattle.smt_runs.specs.Runs.{Reports, around};
+ghost use Rattle.smt_blast_run.specs.Causes.{HasCause, LeavesOutput};
+ghost use Rattle.smt_blast_run.specs.Refusal.{line_of, status_of};
+ghost use Rattle.smt_blast_run.specs.Run.{IsComplete, IsDone};
 ghost use Rattle.smt_blast_run.specs.Words.{commanded};
 
 use crate::command::{Command, HELP, VERSION, command_of};
@@ -95,7 +97,7 @@ pub fn blast_run<R: Source, W: Sink, D: Sink>(
     ensures usage { result ≡ 2 ↔ (commanded (texts words.now) ≡ None) }
     ensures complete { IsComplete (commanded (texts words.now)) (around R.remaining R.faults W.contents W.faults source.old out.old) (around R.remaining R.faults W.contents W.faults source.new out.new) result }
     ensures unread { commanded (texts words.now) ≢ Some Command.Blast → source.new ≡ source.old }
-    ensures report { Reports (HasCause (around R.remaining R.faults W.contents W.faults source.old out.old) (around R.remaining R.faults W.contents W.faults source.new out.new) (commanded (texts words.now))) (W.contents out.old) (W.contents out.new) D.contents D.faults D.has_room D.place diag.old diag.new result }
+    ensures report { Reports status_of line_of (HasCause (around R.remaining R.faults W.contents W.faults source.old out.old) (around R.remaining R.faults W.contents W.faults source.new out.new) (commanded (texts words.now))) (LeavesOutput (W.contents out.old) (W.contents out.new)) D.contents D.faults D.has_room D.place diag.old diag.new result }
 {
     match answer(alloc, words, source, out) {
         Ok(()) => 0,

@@ -14,7 +14,7 @@ use Rattle.smt_runs.proofs.Talking.{all_words}
 use Rattle.smt_cli.specs.Causes.{Around, HasCause, HasCheckCause, HasPutCause, HasScriptCause, IsStopped, LeavesOutput, SinkFailed}
 use Rattle.smt_cli.specs.Refusal.{sink_refusal}
 use Rattle.smt_cli.specs.Run.{Checks, IsDone, Prints}
-use Rattle.smt_cli.proofs.Stopped.{of_told}
+use Rattle.smt_runs.proofs.Flushing.{of_told}
 use Rattle.smt_cli.specs.declared.command.Command.{Command}
 use Rattle.smt_cli.specs.declared.command.Command.TheVariants.{Script, Check, Generate, Help, Version}
 use Rattle.smt_cli.specs.declared.refusal.Refusal.{Refusal}
@@ -146,14 +146,6 @@ module _ {L : Type 0} (state : L → LinkState) (allows : List ℕ → List ℕ 
 flush_output : (old new : Option (List ℕ)) (error : SinkError) → LeavesOutput old new (sink_refusal error)
 flush_output old new SinkFault = tt
 flush_output old new SinkWant = tt
-
--- What holds of the refusal of a put holds of the run's, as far as the flush left it.
-pub refusal_stays : {T U : Type 0} (P Q : Refusal → Type 0) (outcome : Result T Refusal) (result : Result U Refusal) (r : Refusal) → outcome ≡ Err r → IsErrAnd result (λ x. x ≡ r) → ((x : Refusal) → P x → Q x) → IfErr outcome P → IfErr result Q
-refusal_stays P Q outcome (Ok y) r was e stays h = tt
-refusal_stays P Q (Ok y) (Err x) r was e stays h = absurd (cc)
-refusal_stays P Q (Err z) (Err x) r was e stays h =
-    let same : z ≡ x = cc in
-    stays x (subst P same h)
 
 pub flush_leaves : {U : Type 0} (result : Result U Refusal) (error : SinkError) (old new : Option (List ℕ)) → IsErrAnd result (λ x. x ≡ sink_refusal error) → IfErr result (LeavesOutput old new)
 flush_leaves (Ok y) error old new e = tt

@@ -79,7 +79,3 @@ pub script_cause : {L : Type 0} (before after : Around L) (section : Section) (j
 script_cause before after section job (PrintEncode kind) is h = fault_in before.left section job kind is h
 script_cause before after section job PrintSink is h = (h, some_job before.left section job is)
 script_cause before after section job PrintWant is h = tt
-
--- what a text was put as
-pub text_put : (old new : Option (List ℕ)) (bytes text : List ℕ) → new ≡ append_known old bytes → bytes ≡ text → new ≡ append_known old text
-text_put old new bytes text put same = put ∙ ap (append_known old) same

@@ -23,7 +23,7 @@ use Rattle.smt_cli.specs.declared.refusal.Refusal.TheVariants.{Usage, Job, Encod
 use Rattle.law_jobs.specs.Steps.{asserted}
 use Rattle.smt_cli.proofs.Asking.{fault_asked}
 use Rattle.smt_cli.proofs.FirstSteps.{first_faultless, part_at_first}
-use Rattle.smt_cli.proofs.Stopped.{of_told}
+use Rattle.smt_runs.proofs.Flushing.{of_told}
 
 -- the steps before the first check have a fault or not
 none_at_first : (bytes : List ℕ) → IsFaultyAtFirst bytes → (job : PlainJob) (is : IsJob bytes job) → first_fault job.enums (map built (asserted (before_check job.steps))) ≡ None → ⊥

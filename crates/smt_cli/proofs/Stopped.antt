@@ -18,11 +18,6 @@ use Rattle.smt_cli.specs.Refusal.{check_refusal, read_refusal}
 use Rattle.smt_cli.specs.declared.refusal.Refusal.TheVariants.{Memory}
 use Rattle.smt_cli.proofs.Asking.{of_steps}
 
--- what follows for the bytes that were read
-pub of_told : (P Q : List ℕ → Type 0) (left : Option (List ℕ)) → ((bytes : List ℕ) → P bytes → Q bytes) → IfSome left P → IfSome left Q
-of_told P Q (Some bytes) follows p = follows bytes p
-of_told P Q None follows p = tt
-
 always : (P : List ℕ → Type 0) (left : Option (List ℕ)) → ((bytes : List ℕ) → P bytes) → IfSome left P
 always P (Some bytes) p = p bytes
 always P None p = tt

@@ -1,8 +1,6 @@
 -- What a run does, and what it says.
-use Rattle.std.specs.Prelude.{ℕ, ◌≡◌, ◌⊎◌, option_map, IfSome, List, [], ◌++◌, Option, Some, None, Result}
+use Rattle.std.specs.Prelude.{ℕ, ◌≡◌, ◌⊎◌, IfSome, List, ◌++◌, Option, Some, None}
 use Rattle.std.specs.Io.KnownBytes.{append_known}
-use Rattle.smt_script.specs.Sink.{Puts}
-use Rattle.smt_script.specs.declared.sink.SinkError.{SinkError}
 use Rattle.smt_solve.specs.Link.{LinkState}
 use Rattle.smt_solve.specs.Starter.{Command as SolverCall}
 use Rattle.law_verdicts.specs.Dialogues.{sent_for}
@@ -14,13 +12,12 @@ use Rattle.law_job_scripts.specs.JobTexts.{text_of_job}
 use Rattle.law_job_scripts.specs.Meaning.{MeansSteps}
 use Rattle.smt_runs.specs.Asking.{AsksSolver}
 use Rattle.smt_runs.specs.Jobs.{IsFaultlessJob, IsFaultyScript, IsNoJob}
-use Rattle.smt_cli.specs.Causes.{Around, IsFaultyAtFirst, LeavesOutput, SinkFailed, SourceFailed, StartFailed}
+use Rattle.smt_runs.specs.Runs.{Reads}
+use Rattle.smt_cli.specs.Causes.{Around, IsFaultyAtFirst, SinkFailed, SourceFailed, StartFailed}
 use Rattle.smt_cli.specs.Generation.{Summarizes}
-use Rattle.smt_cli.specs.Refusal.{line_of, status_of}
 use Rattle.smt_cli.specs.Words.{help_text, version_text}
 use Rattle.smt_cli.specs.declared.command.Command.{Command}
 use Rattle.smt_cli.specs.declared.command.Command.TheVariants.{Script, Check, Generate, Help, Version}
-use Rattle.smt_cli.specs.declared.refusal.Refusal.{Refusal}
 
 -- ---- `script`
 
@@ -34,11 +31,6 @@ pub record Prints (old new : Option (List ℕ)) (bytes : List ℕ) : Type 0 wher
   pub faultless : fault_of job ≡ None
   pub printed : new ≡ append_known old (text_of_job job.enums (built_steps job.steps))
   pub means : MeansSteps job.enums job.steps
-
--- The source is read to its end, and what it had left, where it told that, is as said.
-pub record Reads (P : List ℕ → Type 0) (remaining left : Option (List ℕ)) : Type 0 where
-  pub holds : IfSome remaining P
-  pub ended : left ≡ option_map (λ _. []) remaining
 
 -- ---- `check`
 
@@ -83,17 +75,3 @@ pub record IsComplete {L : Type 0} (command : Option Command) (before after : Ar
   pub rejected : (command ≡ Some Script) ⊎ (command ≡ Some Check) → ¬ SourceFailed before after → IfSome before.left (λ bytes. IsNoJob bytes → (status ≡ 3) ⊎ (status ≡ 7))
   pub summarized : command ≡ Some Generate → ¬ SinkFailed before after → (status ≡ 0) ⊎ (status ≡ 7)
   pub printed : (command ≡ Some Help) ⊎ (command ≡ Some Version) → ¬ SinkFailed before after → (status ≡ 0) ⊎ (status ≡ 7)
-
--- A status, and what was said: the line of a refusal of this status, which has its cause, was put, as far as that went. With
--- most refusals nothing else was put.
-pub record Says {S : Type 0} (has_cause : Refusal → Type 0) (held now : Option (List ℕ)) (contents : S → Option (List ℕ)) (faults : S → ℕ) (has_room : S → ℕ → Type 0) (place : S → List ℕ) (old new : S) (status : ℕ) : Type 0 where
-  pub refusal : Refusal
-  pub status_is : status ≡ status_of refusal
-  pub cause : has_cause refusal
-  pub output : LeavesOutput held now refusal
-  pub outcome : Result (Unit {0}) SinkError
-  pub put : Puts contents faults has_room place old new (line_of refusal) outcome
-
--- Nothing is said with 0.
-abbrev pub Reports : {S : Type 0} → (has_cause : Refusal → Type 0) → (held now : Option (List ℕ)) → (S → Option (List ℕ)) → (S → ℕ) → (S → ℕ → Type 0) → (S → List ℕ) → S → S → ℕ → Type 0
-Reports has_cause held now contents faults has_room place old new status = ((status ≡ 0) × (new ≡ old)) ⊎ Says has_cause held now contents faults has_room place old new status

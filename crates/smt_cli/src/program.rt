@@ -3,7 +3,9 @@ ghost use Rattle.std.specs.Prelude.{◌≡◌, ◌≢◌, ◌↔◌, ◌≤◌, 
 ghost use Rattle.law_texts.specs.SharedTexts.{texts};
 ghost use Rattle.smt_solve.specs.Link.{AllowsTheSame};
 ghost use Rattle.smt_cli.specs.Causes.{HasCause, HasCheckCause, LeavesOutput, around};
-ghost use Rattle.smt_cli.specs.Run.{IsComplete, IsDone, Reports};
+ghost use Rattle.smt_cli.specs.Refusal.{line_of, status_of};
+ghost use Rattle.smt_cli.specs.Run.{IsComplete, IsDone};
+ghost use Rattle.smt_runs.specs.Runs.{Reports};
 ghost use Rattle.smt_cli.specs.Words.{commanded, generation_named, solver_named};
 
 use crate::checking::put_verdicts;
@@ -153,7 +155,7 @@ pub fn run<R: Source, W: Sink, D: Sink, P: Starter>(
     ensures complete { IsComplete (commanded (texts words.now)) (around R.remaining R.faults W.contents W.faults P.state source.old out.old starter.old) (around R.remaining R.faults W.contents W.faults P.state source.new out.new starter.new) result }
     ensures unread { commanded (texts words.now) ≢ Some Command.Script → commanded (texts words.now) ≢ Some Command.Check → source.new ≡ source.old }
     ensures unstarted { commanded (texts words.now) ≢ Some Command.Check → starter.new ≡ starter.old }
-    ensures report { Reports (HasCause P.L.state (P.allows starter.old) (commanded (texts words.now)) (solver_named (texts words.now)) (around R.remaining R.faults W.contents W.faults P.state source.old out.old starter.old) (around R.remaining R.faults W.contents W.faults P.state source.new out.new starter.new)) (W.contents out.old) (W.contents out.new) D.contents D.faults D.has_room D.place diag.old diag.new result }
+    ensures report { Reports status_of line_of (HasCause P.L.state (P.allows starter.old) (commanded (texts words.now)) (solver_named (texts words.now)) (around R.remaining R.faults W.contents W.faults P.state source.old out.old starter.old) (around R.remaining R.faults W.contents W.faults P.state source.new out.new starter.new)) (LeavesOutput (W.contents out.old) (W.contents out.new)) D.contents D.faults D.has_room D.place diag.old diag.new result }
     ensures allows { AllowsTheSame (P.allows starter.old) (P.allows starter.new) }
 {
     match answer(alloc, words, source, out, starter) {

@@ -1,5 +1,5 @@
 -- What a run does with a job of two terms, and why it does not.
-use Rattle.std.proofs.Common.{◌≡◌, ℕ, List, Option, Some, None, Ok, Err, Result, subst}
+use Rattle.std.proofs.Common.{◌≡◌, ℕ, List, Some, None, Ok, Err, Result, subst}
 use Rattle.std.specs.Io.KnownBytes.{append_known}
 use Rattle.std.specs.Prelude.{IfErr, IfSome, OnOk}
 use Rattle.law_terms.specs.Plain.{PlainTerm}
@@ -15,6 +15,7 @@ use Rattle.smt_solve.specs.Starter.{Command as SolverCall}
 use Rattle.smt_runs.specs.Jobs.{HasReadCause}
 use Rattle.smt_runs.specs.declared.refusal.ReadRefusal.{ReadRefusal}
 use Rattle.smt_runs.specs.declared.refusal.ReadRefusal.TheVariants.{Job as ReadJob, Source as ReadSource, Memory as ReadWant}
+use Rattle.smt_runs.proofs.Flushing.{of_told}
 use Rattle.smt_review.specs.Once.{ReviewsOnce, WhyNotReviewedOnce}
 use Rattle.smt_review.specs.Pairs.{IsNoPair, IsPair, pair_of}
 use Rattle.smt_review.specs.Refusal.{read_refusal}
@@ -25,11 +26,6 @@ use Rattle.smt_review.specs.declared.refusal.Refusal.TheVariants.{Usage, Job, No
 use Rattle.smt_review.specs.declared.relation.Relation.{Relation}
 use Rattle.smt_review.proofs.Once.{once_believed}
 use Rattle.smt_review.proofs.Pairing.{WrittenPair, no_pair, pair_conditions, related_as_written, written_pair}
-
--- what follows of bytes that were told
-pub of_told : (P Q : List ℕ → Type 0) (o : Option (List ℕ)) → ((bytes : List ℕ) → P bytes → Q bytes) → IfSome o P → IfSome o Q
-of_told P Q None f h = tt
-of_told P Q (Some bytes) f h = f bytes h
 
 -- what follows where a call was done
 pub on_ok : {T E : Type 0} (P Q : Type 0) (result : Result T E) → (P → Q) → OnOk result P → OnOk result Q

@@ -1,5 +1,5 @@
 -- What a review of two conditions finds, and why it finds nothing.
-use Rattle.std.specs.Prelude.{◌≡◌, ◌⊎◌, ◌<◌, ℕ, ⊤, List, [], ◌∷◌, ◌++◌, Option, Some}
+use Rattle.std.specs.Prelude.{◌≡◌, ◌⊎◌, ◌<◌, ℕ, ⊤, List, [], ◌∷◌, Option, Some}
 use Rattle.std.specs.Rc.{rc_str_bytes}
 use Rattle.law_terms.specs.Faults.{Fault, EmptyEnum, EncodePatternFailed, EncodeStringFailed, EnumMissingMember, first_fault}
 use Rattle.law_terms.specs.Plain.{PlainTerm}

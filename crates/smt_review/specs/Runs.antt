@@ -1,18 +1,17 @@
 -- What a run does, why it is refused, and what it says.
-use Rattle.std.specs.Prelude.{ℕ, ◌≡◌, ◌⊎◌, ⊤, codes, option_map, IfSome, List, [], Option, Some, None, Result}
+use Rattle.std.specs.Prelude.{ℕ, ◌≡◌, ◌⊎◌, ⊤, codes, IfSome, List, Option, Some, None}
 use Rattle.std.specs.Io.KnownBytes.{append_known}
 use Rattle.law_folding.specs.Built.{built}
-use Rattle.smt_script.specs.Sink.{Puts, Rose}
-use Rattle.smt_script.specs.declared.sink.SinkError.{SinkError}
+use Rattle.smt_script.specs.Sink.{Rose}
 use Rattle.smt_solve.specs.Link.{LinkState}
 use Rattle.smt_solve.specs.Starter.{Command as SolverCall, StarterState}
 use Rattle.law_verdicts.specs.Honesty.{IsHonest}
 use Rattle.law_verdicts.specs.Idle.{TellsAll}
 use Rattle.smt_runs.specs.Jobs.{IsNoJob, IsRefusedAs}
+use Rattle.smt_runs.specs.Runs.{Reads}
 use Rattle.smt_review.specs.Differences.{AreRelated}
 use Rattle.smt_review.specs.Once.{ReviewsOnce, WhyNotReviewedOnce}
 use Rattle.smt_review.specs.Pairs.{IsFaultlessPair, IsFaultyPair, IsNoPair, IsPair}
-use Rattle.smt_review.specs.Refusal.{line_of, status_of}
 use Rattle.smt_review.specs.Words.{help_text, version_text}
 use Rattle.smt_review.specs.declared.command.Command.{Command}
 use Rattle.smt_review.specs.declared.command.Command.TheVariants.{Review, Help, Version}
@@ -46,11 +45,6 @@ around remaining source_faults contents sink_faults state source out starter = r
   sink_faults = sink_faults out;
   starter = state starter;
 }
-
--- The source is read to its end, and what it had left, where it told that, is as said.
-pub record Reads (P : List ℕ → Type 0) (remaining left : Option (List ℕ)) : Type 0 where
-  pub holds : IfSome remaining P
-  pub ended : left ≡ option_map (λ _. []) remaining
 
 -- why a text was not put, where `failed` is the fact that a count of faults rose
 abbrev pub HasPutCause : (failed : Type 0) → Refusal → Type 0
@@ -133,17 +127,3 @@ pub record IsComplete {L : Type 0} (command : Option Command) (before after : Ar
   pub not_two : (relation : Relation) → command ≡ Some (Review relation) → ¬ SourceFailed before after → IfSome before.left (λ bytes. IsNoPair bytes → (status ≡ 3) ⊎ (status ≡ 7))
   pub rejected : (relation : Relation) → command ≡ Some (Review relation) → ¬ SourceFailed before after → IfSome before.left (λ bytes. IsNoJob bytes → (status ≡ 3) ⊎ (status ≡ 7))
   pub printed : (command ≡ Some Help) ⊎ (command ≡ Some Version) → ¬ SinkFailed before after → (status ≡ 0) ⊎ (status ≡ 7)
-
--- A status, and what was said: the line of a refusal of this status, which has its cause, was put, as far as that went. With
--- most refusals nothing else was put.
-pub record Says {S : Type 0} (has_cause : Refusal → Type 0) (held now : Option (List ℕ)) (contents : S → Option (List ℕ)) (faults : S → ℕ) (has_room : S → ℕ → Type 0) (place : S → List ℕ) (old new : S) (status : ℕ) : Type 0 where
-  pub refusal : Refusal
-  pub status_is : status ≡ status_of refusal
-  pub cause : has_cause refusal
-  pub output : LeavesOutput held now refusal
-  pub outcome : Result (Unit {0}) SinkError
-  pub put : Puts contents faults has_room place old new (line_of refusal) outcome
-
--- Nothing is said with 0.
-abbrev pub Reports : {S : Type 0} → (has_cause : Refusal → Type 0) → (held now : Option (List ℕ)) → (S → Option (List ℕ)) → (S → ℕ) → (S → ℕ → Type 0) → (S → List ℕ) → S → S → ℕ → Type 0
-Reports has_cause held now contents faults has_room place old new status = ((status ≡ 0) × (new ≡ old)) ⊎ Says has_cause held now contents faults has_room place old new status

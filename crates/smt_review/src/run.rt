@@ -4,7 +4,9 @@ ghost use Rattle.std.specs.Io.KnownBytes.{append_known};
 ghost use Rattle.law_texts.specs.SharedTexts.{texts};
 ghost use Rattle.smt_script.specs.Sink.{Rose};
 ghost use Rattle.smt_solve.specs.Link.{AllowsTheSame};
-ghost use Rattle.smt_review.specs.Runs.{HasCause, HasPutCause, HasReviewCause, IsComplete, IsDone, LeavesOutput, Reads, Reports, ReviewsPair, around, finding_line};
+ghost use Rattle.smt_runs.specs.Runs.{Reads, Reports};
+ghost use Rattle.smt_review.specs.Refusal.{line_of, status_of};
+ghost use Rattle.smt_review.specs.Runs.{HasCause, HasPutCause, HasReviewCause, IsComplete, IsDone, LeavesOutput, ReviewsPair, around, finding_line};
 ghost use Rattle.smt_review.specs.Words.{commanded, is_review, solver_named};
 
 use crate::command::{Command, HELP, VERSION, command_of, solver_of};
@@ -136,7 +138,7 @@ pub fn review_run<R: Source, W: Sink, D: Sink, P: Starter>(
     ensures complete { IsComplete (commanded (texts words.now)) (around R.remaining R.faults W.contents W.faults P.state source.old out.old starter.old) (around R.remaining R.faults W.contents W.faults P.state source.new out.new starter.new) result }
     ensures unread { is_review (commanded (texts words.now)) ≡ false → source.new ≡ source.old }
     ensures unstarted { is_review (commanded (texts words.now)) ≡ false → starter.new ≡ starter.old }
-    ensures report { Reports (HasCause P.L.state (commanded (texts words.now)) (solver_named (texts words.now)) (around R.remaining R.faults W.contents W.faults P.state source.old out.old starter.old) (around R.remaining R.faults W.contents W.faults P.state source.new out.new starter.new)) (W.contents out.old) (W.contents out.new) D.contents D.faults D.has_room D.place diag.old diag.new result }
+    ensures report { Reports status_of line_of (HasCause P.L.state (commanded (texts words.now)) (solver_named (texts words.now)) (around R.remaining R.faults W.contents W.faults P.state source.old out.old starter.old) (around R.remaining R.faults W.contents W.faults P.state source.new out.new starter.new)) (LeavesOutput (W.contents out.old) (W.contents out.new)) D.contents D.faults D.has_room D.place diag.old diag.new result }
     ensures allows { AllowsTheSame (P.allows starter.old) (P.allows starter.new) }
 {
     match answer(alloc, words, source, out, starter) {

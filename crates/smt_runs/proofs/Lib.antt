@@ -1,5 +1,6 @@
 pub mod AtLeast
 pub mod Between
+pub mod Flushing
 pub mod Loop
 pub mod Printing
 pub mod Reading

@@ -11,9 +11,12 @@ use Rattle.smt_sexpr.proofs.Excluded.{excluded}
 use Rattle.smt_sexpr.specs.Refusals.{IsRefused}
 use Rattle.smt_sexpr.specs.declared.error.SExprParseError.{SExprParseError}
 use Rattle.smt_sexpr.specs.declared.error.SExprParseError.TheVariants.{UnexpectedEnd, Utf8Error, StringParseError, ParseIntError, UnclosedSExpr, TrailingTokens, IntegerOverflow, ZeroWidthBitVec, TooDeep as TextTooDeep, Memory as TextWant}
+use Rattle.smt_jobs.specs.Numbered.{numbered_job}
 use Rattle.smt_jobs.specs.Refused.{IsRefusal, IsTextFault}
+use Rattle.smt_jobs.specs.StepView.{plain_section}
+use Rattle.smt_jobs.specs.declared.numbered.NumberedJob.{NumberedJob}
 use Rattle.smt_runs.specs.Refusal.{job_refusal}
-use Rattle.smt_runs.specs.Jobs.{HasFaultOf, HasReadCause, IsAJob, IsFaultOf, IsFaultlessJob, IsFaultyScript, IsRefusedAs}
+use Rattle.smt_runs.specs.Jobs.{HasFaultOf, HasReadCause, IsReadOf, IsAJob, IsFaultOf, IsFaultlessJob, IsFaultyScript, IsRefusedAs}
 use Rattle.smt_job_declarations.specs.declared.error.JobError.{JobError}
 use Rattle.smt_job_declarations.specs.declared.error.JobError.TheVariants.{TooLarge as JobTooLarge, Parse as JobParse, TooDeep as JobTooDeep, BadForm as JobBadForm, UnknownName as JobUnknownName, DuplicateName as JobDuplicateName, BadType as JobBadType, BadWidth as JobBadWidth, BadLiteral as JobBadLiteral, IllTyped as JobIllTyped, NotBool as JobNotBool, Unbalanced as JobUnbalanced, Memory as JobWant}
 use Rattle.smt_runs.specs.declared.refusal.EncodeRefusal.{EncodeRefusal}
@@ -65,6 +68,11 @@ job_unread (Ok job) error remaining source_failed all bytes e whole same short r
 job_unread (Err r) error remaining source_failed all bytes e whole same short refused =
     subst (λ (x : ReadRefusal). HasReadCause remaining source_failed x) (sym e)
     (cause_read remaining source_failed all (job_refusal error) whole (subst (λ (b : List ℕ). WhyRefused b (job_refusal error)) same (why_refused bytes short error refused)))
+
+-- what was read of bytes is built of what the source told
+pub told_built : (remaining : Option (List ℕ)) (job : NumberedJob) → IsReadOf remaining job → IfSome remaining (λ bytes. IsBuiltFrom bytes (plain_section job.section) (numbered_job job))
+told_built None job read = tt
+told_built (Some told) job read = subst (λ (b : List ℕ). IsBuiltFrom b (plain_section job.section) (numbered_job job)) (sym read.told) read.is_built
 
 -- ---- jobs and refusals
 

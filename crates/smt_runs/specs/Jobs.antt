@@ -5,9 +5,12 @@ use Rattle.law_terms.specs.Plain.{PatternPart, PlainType}
 use Rattle.smt_sexpr.specs.Refusals.{IsRefused}
 use Rattle.smt_sexpr.specs.declared.error.SExprParseError.{SExprParseError}
 use Rattle.smt_sexpr.specs.declared.error.SExprParseError.TheVariants.{TooDeep as TextTooDeep}
-use Rattle.law_jobs.specs.Jobs.{HasFault, IsJob, IsTooLong, PlainJob, fault_of, greatest_length, greatest_nesting}
+use Rattle.law_jobs.specs.Jobs.{HasFault, IsBuiltFrom, IsJob, IsTooLong, PlainJob, fault_of, greatest_length, greatest_nesting}
 use Rattle.law_jobs.specs.Outcomes.{JobFault, DuplicateFault, FormFault, LiteralFault, TruthFault, TypeFault as NoTypeFault, TypingFault, UnbalancedFault, UnknownFault, WidthFault}
+use Rattle.smt_jobs.specs.Numbered.{numbered_job}
 use Rattle.smt_jobs.specs.Refused.{IsTextFault}
+use Rattle.smt_jobs.specs.StepView.{plain_section}
+use Rattle.smt_jobs.specs.declared.numbered.NumberedJob.{NumberedJob}
 use Rattle.smt_runs.specs.declared.refusal.EncodeRefusal.{EncodeRefusal}
 use Rattle.smt_runs.specs.declared.refusal.EncodeRefusal.TheVariants.{EmptyEnum, EncodeStringFailed, EncodePatternFailed, EnumMissingMember, ExpectRecord, MalformedRecordGet, MissingTypeEncoding, RecordMissingAttr}
 use Rattle.smt_runs.specs.declared.refusal.JobRefusal.{JobRefusal}
@@ -68,6 +71,12 @@ IsRefusedAs TooDeep bytes = (length bytes ≤ greatest_length) × IsRefused Text
 IsRefusedAs kind bytes = (fault : JobFault) × (kind_of fault ≡ kind) × HasFault bytes fault
 
 -- ---- reading and printing: `failed` is the fact that a count of faults rose
+
+-- A job was read of bytes, which are what the source had left, where it told that.
+pub record IsReadOf (remaining : Option (List ℕ)) (job : NumberedJob) : Type 0 where
+  pub bytes : List ℕ
+  pub told : IfSome remaining (λ told. told ≡ bytes)
+  pub is_built : IsBuiltFrom bytes (plain_section job.section) (numbered_job job)
 
 -- why no job was read
 abbrev pub HasReadCause : (left : Option (List ℕ)) → (failed : Type 0) → ReadRefusal → Type 0

@@ -3,4 +3,5 @@ pub mod Jobs
 pub mod Pieces
 pub mod Progress
 pub mod Refusal
+pub mod Runs
 pub mod Speaking

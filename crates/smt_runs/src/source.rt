@@ -1,11 +1,9 @@
 // A job, read from a source.
-ghost use Rattle.std.specs.Prelude.{◌≡◌, [], IfErr, IfOk, IfSome, OnOk, option_map};
-ghost use Rattle.law_jobs.specs.Jobs.{IsBuiltFrom};
+ghost use Rattle.std.specs.Prelude.{◌≡◌, [], IfErr, IfOk, OnOk, option_map};
 ghost use Rattle.law_jobs.specs.Steps.{AreBalanced};
-ghost use Rattle.smt_jobs.specs.Numbered.{numbered_job, numbered_steps};
-ghost use Rattle.smt_jobs.specs.StepView.{plain_section};
+ghost use Rattle.smt_jobs.specs.Numbered.{numbered_steps};
 ghost use Rattle.smt_script.specs.Sink.{Rose};
-ghost use Rattle.smt_runs.specs.Jobs.{HasReadCause};
+ghost use Rattle.smt_runs.specs.Jobs.{HasReadCause, IsReadOf};
 
 use crate::refusal::ReadRefusal;
 use smt_jobs::{GREATEST_JOB, NumberedJob, read_numbered};
@@ -19,7 +17,7 @@ use std::alloc::Global;
 /// `Job` comes exactly where the bytes are no job, with the kind of their first fault, `Source` where the source failed, which its
 /// count of faults shows, and `Memory` where there is no memory for the bytes or the job.
 pub fn read_source<R: Source>(alloc: Global, source: &mut R) -> Result<NumberedJob, ReadRefusal>
-    ensures job { IfOk result (λ job. IfSome (R.remaining source.old) (λ bytes. IsBuiltFrom bytes (plain_section job.section) (numbered_job job))) }
+    ensures job { IfOk result (IsReadOf (R.remaining source.old)) }
     ensures balanced { IfOk result (λ job. AreBalanced 0 (numbered_steps job.steps)) }
     ensures ended { OnOk result (R.remaining source.new ≡ option_map (λ _. []) (R.remaining source.old)) }
     ensures refused { IfErr result (HasReadCause (R.remaining source.old) (Rose (R.faults source.old) (R.faults source.new))) }

@@ -1,8 +1,10 @@
 use Rattle.std.proofs.Common.{arith, List, Option, ℕ, sym, subst}
 use Rattle.law_texts.specs.SharedTexts.{texts}
-use Rattle.smt_blast_run.specs.Causes.{HasCause, LeavesOutput, around}
+use Rattle.smt_runs.specs.Runs.{around}
+use Rattle.smt_runs.proofs.Flushing.{refusal_stays}
+use Rattle.smt_blast_run.specs.Causes.{HasCause, LeavesOutput}
 use Rattle.smt_blast_run.specs.Words.{commanded}
-use Rattle.smt_blast_run.proofs.Flushing.{cause_stays, done_stays, flush_leaves, flush_refused, refusal_stays}
+use Rattle.smt_blast_run.proofs.Flushing.{cause_stays, done_stays, flush_leaves, flush_refused}
 use Rattle.smt_blast_run.proofs.program.answer.Goals as goal
 
 pub returns-clause-done : goal.returns-clause-done

@@ -1,6 +1,6 @@
 use Rattle.std.proofs.Common.{ℕ, refl, sym, subst}
 use Rattle.law_texts.specs.SharedTexts.{texts}
-use Rattle.smt_blast_run.specs.Causes.{around}
+use Rattle.smt_runs.specs.Runs.{around}
 use Rattle.smt_blast_run.specs.Run.{IsComplete}
 use Rattle.smt_blast_run.specs.Words.{commanded}
 use Rattle.smt_blast_run.proofs.Statuses.{done_complete, refused_complete}

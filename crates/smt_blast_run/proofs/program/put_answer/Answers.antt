@@ -1,11 +1,12 @@
 use Rattle.std.proofs.Common.{◌≡◌, Option, Some, subst}
 use Rattle.law_texts.specs.SharedTexts.{texts}
-use Rattle.smt_blast_run.specs.Causes.{around}
+use Rattle.smt_runs.specs.Runs.{around}
 use Rattle.smt_blast_run.specs.Run.{IsDone}
 use Rattle.smt_blast_run.specs.Words.{commanded, help_text, version_text}
 use Rattle.smt_blast_run.specs.declared.command.Command.{Command}
 use Rattle.smt_blast_run.specs.declared.command.Command.TheVariants.{Blast, Help, Version}
-use Rattle.smt_blast_run.proofs.Running.{prints, text_put}
+use Rattle.smt_runs.proofs.Flushing.{text_put}
+use Rattle.smt_blast_run.proofs.Running.{prints}
 use Rattle.smt_blast_run.proofs.program.put_answer.Goals as goal
 
 pub returns-in_ok-put_blasted-in-Some-Blast-clause-done : goal.returns-in_ok-put_blasted-in-Some-Blast-clause-done

@@ -17,7 +17,7 @@ returns-in_err-blast-clause-refused g c =
     let read = c.in_ok-job.ensures.job in
     let ts = current_terms (written remaining job read) in
     let stand = numbers_stand remaining job read c.as_slice.result.now c.in_ok-ids.ids.items c.as_slice-2.result.now c.as_slice.ensures.value c.as_slice-2.ensures.value (c.in_ok-ids.ensures job.steps.nodes) in
-    unblasted remaining job read (Rose (g.R.Source.faults c.args.source.now) (g.R.Source.faults c.read_job.new.source)) c.from_residual-in_err-blast.result c.in_err-blast.field-0.0 c.from_residual-in_err-blast.ensures.1
+    unblasted remaining job read (Rose (g.R.Source.faults c.args.source.now) (g.R.Source.faults c.read_source.new.source)) c.from_residual-in_err-blast.result c.in_err-blast.field-0.0 c.from_residual-in_err-blast.ensures.1
     (c.in_err-blast.ensures.refused ts stand (read_booleans remaining job read))
 
 pub returns-clause-blasted : goal.returns-clause-blasted

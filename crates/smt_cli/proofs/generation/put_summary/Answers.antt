@@ -1,6 +1,6 @@
 use Rattle.std.proofs.Common.{◌∙◌}
 use Rattle.smt_cli.specs.Generation.{summary_text}
-use Rattle.smt_cli.proofs.Running.{text_put}
+use Rattle.smt_runs.proofs.Flushing.{text_put}
 use Rattle.smt_cli.proofs.Summarizing.{says_summary}
 use Rattle.smt_cli.proofs.generation.put_summary.Goals as goal
 

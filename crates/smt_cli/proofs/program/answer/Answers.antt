@@ -2,7 +2,8 @@ use Rattle.std.proofs.Common.{arith, List, Option, ℕ, sym, subst}
 use Rattle.law_texts.specs.SharedTexts.{texts}
 use Rattle.smt_cli.specs.Causes.{HasCause, LeavesOutput, around}
 use Rattle.smt_cli.specs.Words.{commanded, generation_named, solver_named}
-use Rattle.smt_cli.proofs.Flushing.{cause_stays, done_stays, flush_leaves, flush_refused, refusal_stays}
+use Rattle.smt_runs.proofs.Flushing.{refusal_stays}
+use Rattle.smt_cli.proofs.Flushing.{cause_stays, done_stays, flush_leaves, flush_refused}
 use Rattle.smt_cli.proofs.program.answer.Goals as goal
 
 pub returns-clause-done : goal.returns-clause-done

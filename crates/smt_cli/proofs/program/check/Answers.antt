@@ -6,6 +6,7 @@ use Rattle.law_jobs.specs.Steps.{checked_steps}
 use Rattle.smt_solve.specs.Starter.{Command as SolverCall}
 use Rattle.smt_runs.specs.Asking.{AsksSolver, WhyNotAsked}
 use Rattle.smt_runs.proofs.Verdicts.{by_refusal}
+use Rattle.smt_runs.proofs.Reading.{told_built}
 use Rattle.smt_cli.specs.Causes.{HasCheckCause, SinkFailed, around}
 use Rattle.smt_cli.specs.Refusal.{check_refusal, read_refusal}
 use Rattle.smt_cli.specs.Words.{solver_named}
@@ -39,7 +40,7 @@ returns-in_err-put_verdicts-clause-refused g c =
     let job = numbered_job c.in_ok-job.job in
     let section = plain_section c.in_ok-job.job.section in
     let why = subst (λ (k : SolverCall). WhyNotAsked state allows before.starter after.starter k job.enums (checked_steps section job.steps) before.held after.held (SinkFailed before after) error) c.in-Ok.ensures.named c.in_err-put_verdicts.ensures.refused in
-    by_refusal (HasCheckCause state allows call before after) c.from_residual-in_err-put_verdicts.result (check_refusal error) c.from_residual-in_err-put_verdicts.ensures.1 (stop_cause state allows call before after section job error c.in_ok-job.ensures.job why)
+    by_refusal (HasCheckCause state allows call before after) c.from_residual-in_err-put_verdicts.result (check_refusal error) c.from_residual-in_err-put_verdicts.ensures.1 (stop_cause state allows call before after section job error (told_built before.left c.in_ok-job.job c.in_ok-job.ensures.job) why)
 
 pub returns-clause-done : goal.returns-clause-done
 returns-clause-done g c =
@@ -51,4 +52,4 @@ returns-clause-done g c =
     let job = numbered_job c.in_ok-job.job in
     let section = plain_section c.in_ok-job.job.section in
     let asks = subst (λ (k : SolverCall). AsksSolver state allows before.starter after.starter k job.enums (checked_steps section job.steps) before.held after.held) c.in-Ok.ensures.named c.in_ok-put_verdicts.ensures.asked in
-    record { holds = checked state allows call before after before.left section job c.in_ok-job.ensures.job asks; ended = c.in_ok-job.ensures.ended }
+    record { holds = checked state allows call before after before.left section job (told_built before.left c.in_ok-job.job c.in_ok-job.ensures.job) asks; ended = c.in_ok-job.ensures.ended }

@@ -8,7 +8,8 @@ use Rattle.smt_term.specs.View.{plain_term}
 use Rattle.smt_runs.proofs.Verdicts.{by_refusal}
 use Rattle.smt_review.specs.Once.{ReviewsOnce, WhyNotReviewedOnce}
 use Rattle.smt_review.specs.Pairs.{pair_of}
-use Rattle.smt_review.specs.Runs.{HasReviewCause, Reads, ReviewsPair, around}
+use Rattle.smt_runs.specs.Runs.{Reads}
+use Rattle.smt_review.specs.Runs.{HasReviewCause, ReviewsPair, around}
 use Rattle.smt_review.specs.Words.{solver_named}
 use Rattle.smt_review.proofs.Running.{all_put_cause, on_ok, other_steps, reviews_pair, stop_cause}
 use Rattle.smt_review.proofs.run.review_job.Goals as goal
