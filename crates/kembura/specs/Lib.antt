@@ -212,6 +212,15 @@ pub use Rattle.smt_encode.specs.Interrupted
 pub use Rattle.smt_encode.specs.Refusals as EncodeRefusals
 pub use Rattle.smt_eval.specs.AssignmentView
 pub use Rattle.smt_eval.specs.Evaluable
+pub use Rattle.smt_eval.specs.InputRefused
+pub use Rattle.smt_eval.specs.Places as AssignmentPlaces
+pub use Rattle.smt_eval.specs.ReaderView
+pub use Rattle.smt_eval.specs.WrittenView
+pub use Rattle.smt_eval_run.specs.Answers as EvalAnswers
+pub use Rattle.smt_eval_run.specs.Causes as EvalCauses
+pub use Rattle.smt_eval_run.specs.Refusal as EvalRefusal
+pub use Rattle.smt_eval_run.specs.Run as EvalRun
+pub use Rattle.smt_eval_run.specs.Words as EvalWords
 pub use Rattle.smt_ext.specs.DatetimeReading
 pub use Rattle.smt_ext.specs.DatetimeRefusal
 pub use Rattle.smt_ext.specs.DatetimeText
@@ -277,6 +286,7 @@ pub use Rattle.smt_runs.specs.Asking
 pub use Rattle.smt_runs.specs.Jobs as RunsJobs
 pub use Rattle.smt_runs.specs.Pieces as RunsPieces
 pub use Rattle.smt_runs.specs.Refusal as RunsRefusal
+pub use Rattle.smt_runs.specs.Runs as ProgramRuns
 pub use Rattle.smt_script.specs.Bytes
 pub use Rattle.smt_script.specs.Count
 pub use Rattle.smt_script.specs.Input

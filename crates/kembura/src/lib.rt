@@ -10,7 +10,7 @@
 //! | `mini`, `stream` | a small solver; the run of `smtmini`, and links to small solvers in memory |
 //! | `jobs`, `runs`, `program` | the reader of jobs; scripts and checks of a job's steps; the run of `smtcli` |
 //! | `blast`, `blast_run` | terms over bitvectors as Boolean terms over their bits; the run of `smtblast` |
-//! | `eval` | what terms are worth in an assignment that is given |
+//! | `eval`, `eval_run` | what terms are worth in an assignment that is given; the run of `smteval` |
 //! | `review` | the question whether two conditions are equivalent, one implies the other, or both never hold; the run of `smtreview` |
 //! | `cedar`, `values`, `symbolizer` | Cedar's types and values, their terms, and the tables of a schema, a request and a store |
 //! | `laws` | the laws of the definitions, by subject |
@@ -31,6 +31,8 @@ pub use smt_cli::run;
 pub use smt_encode as encode;
 pub use smt_encode::{EncodeError, Encoder};
 pub use smt_eval as eval;
+pub use smt_eval::{Assignment, EvalError, EvalInput, read_eval};
+pub use smt_eval_run::eval_run;
 pub use smt_ext as extensions;
 pub use smt_ext::{Datetime, Decimal, Duration, Ext, IPNet};
 pub use smt_factory as factory;

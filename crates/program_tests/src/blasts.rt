@@ -1,11 +1,11 @@
 //! Whole runs of the program that blasts: the scripts that it prints, and why it prints none.
 
 use crate::AMPLE;
+use crate::ends::{End, expect_bytes, expect_end, words_of};
 use smt_blast_run::blast_run;
 use smt_script::{ListSink, MemorySource};
 use smt_solve::Link;
 use smt_stream::MiniLink;
-use smt_text::Text;
 use std::alloc::Global;
 use std::process::Abort;
 
@@ -100,34 +100,6 @@ const ROWS: &[Row] = &[
     },
 ];
 
-/// Stops the test where this does not hold, and names it.
-fn expect(rt: &impl Abort, holds: bool, label: &str) {
-    assert!(rt; holds, "{label}");
-}
-
-/// Stops the test where these bytes are others, and names them.
-fn expect_bytes(rt: &impl Abort, label: &str, bytes: &[u8], wanted: &[u8]) {
-    assert!(rt; bytes == wanted, "{label}: {bytes:?}, not {wanted:?}");
-}
-
-/// The words of a command line.
-fn words_of(rt: &impl Abort, alloc: Global, items: &[&str]) -> Vec<Text> {
-    let mut words = Vec::new(alloc);
-    for item in items {
-        let word = Text::from_str(alloc, item).expect(rt, AMPLE);
-        words.push(word).expect(rt, AMPLE);
-    }
-    words
-}
-
-/// How a run ended: its status, and what was put and said.
-#[derive(Drop)]
-struct End {
-    status: u8,
-    out: ListSink,
-    diag: ListSink,
-}
-
 /// Runs the program on a job.
 fn end_of(rt: &impl Abort, alloc: Global, words: &[&str], job: &str) -> End {
     let words = words_of(rt, alloc, words);
@@ -143,9 +115,7 @@ fn runs_end_as_they_should(rt: HostRuntime) {
     let alloc = rt.alloc();
     for row in ROWS {
         let end = end_of(&rt, alloc, row.words, row.job);
-        expect(&rt, end.status == row.status, row.job);
-        expect_bytes(&rt, row.job, end.out.bytes(), row.put.as_bytes());
-        expect_bytes(&rt, row.job, end.diag.bytes(), row.said.as_bytes());
+        expect_end(&rt, row.job, &end, row.status, row.put, row.said);
     }
 }
 

@@ -4,6 +4,10 @@
 #[cfg(test)]
 mod blasts;
 #[cfg(test)]
+mod ends;
+#[cfg(test)]
+mod evaluations;
+#[cfg(test)]
 mod operators;
 
 /// Why a test stops where a call gives nothing.

@@ -1,15 +1,20 @@
--- A look-up in entries tests the first of them.
-use Rattle.std.proofs.Common.{◌≡◌, ℕ, ◌+◌, ◌<◌, cond, List, Some, drop, get_or, length, map, sym, ap, ◌∙◌}
-use Rattle.std.proofs.lemmas.List.{at_drop_more}
+-- What a look-up in entries finds, by what the entries say.
+use Rattle.std.proofs.Common.{◌≡◌, Bool, true, false, cond, List, [], ◌∷◌, Option, Some, None, Bor, map, option_map, refl, ap, ◌∙◌}
 use Rattle.std.specs.Map.{lookup}
-use Rattle.law_terms.specs.Types.{type_eq}
-use Rattle.smt_term.specs.View.{plain_term, plain_type}
-use Rattle.smt_term.specs.declared.term.Term.{Term}
-use Rattle.smt_types.specs.declared.types.TermType.{TermType}
-use Rattle.smt_eval.specs.AssignmentView.{plain_get}
 
-pub get_next : (ty : TermType) (items : List (TermType × Term)) (i : ℕ) (x : TermType × Term) → i < length items → x ≡ get_or items i x
-    → lookup (type_eq (plain_type ty)) (map plain_get (drop i items)) ≡ cond (type_eq (plain_type ty) (plain_type x.0)) (Some (plain_term x.1)) (lookup (type_eq (plain_type ty)) (map plain_get (drop (i + 1) items)))
-get_next ty items i x l at =
-    at_drop_more (λ ps. lookup (type_eq (plain_type ty)) (map plain_get ps)) items i x l
-    ∙ ap (λ (y : TermType × Term). cond (type_eq (plain_type ty) (plain_type y.0)) (Some (plain_term y.1)) (lookup (type_eq (plain_type ty)) (map plain_get (drop (i + 1) items)))) (sym at)
+shown : {V B : Type 0} (value : V → B) (found : Option (Bor V)) → option_map (λ v. value v.now) found ≡ option_map value (option_map (λ v. v.now) found)
+shown value None = refl
+shown value (Some v) = refl
+
+said : {V B : Type 0} (value : V → B) (b : Bool) (v : V) (o : Option V) → option_map value (cond b (Some v) o) ≡ cond b (Some (value v)) (option_map value o)
+said value true v o = refl
+said value false v o = refl
+
+module _ {K V C B : Type 0} (key : K → C) (value : V → B) (test : K → Bool) (seen : C → Bool) (same : (k : K) → test k ≡ seen (key k)) where
+  look_up-said : (es : List (K × V)) → option_map value (lookup test es) ≡ lookup seen (map (λ e. (key e.0, value e.1)) es)
+  look_up-said [] = refl
+  look_up-said (e ∷ es) = said value (test e.0) e.1 (lookup test es) ∙ (λ i. cond (same e.0 i) (Some (value e.1)) (look_up-said es i))
+
+  -- a test of the keys that is one of what they say finds what the value says
+  pub finds_said : (es : List (K × V)) (found : Option (Bor V)) → option_map (λ v. v.now) found ≡ lookup test es → option_map (λ v. value v.now) found ≡ lookup seen (map (λ e. (key e.0, value e.1)) es)
+  finds_said es found h = shown value found ∙ ap (option_map value) h ∙ look_up-said es

@@ -1,4 +1,13 @@
 pub mod Answered
 pub mod Ascending
+pub mod Entered
 pub mod Entries
+pub mod FirstPlaces
+pub mod InputReading
+pub mod InputWhole
+pub mod Parts
+pub mod ReadValues
+pub mod ReadWhole
+pub mod Refused
 pub mod Valued
+pub mod WrittenShapes

@@ -31,12 +31,12 @@ plain_get e = (plain_type e.0, plain_term e.1)
 abbrev pub plain_selector : ExtOp × Udf → ExtensionOp × PlainDefinition
 plain_selector e = (plain_extension_op e.0, plain_definition e.1)
 
--- an assignment of the program: its entries, in the order in which they were given
+-- an assignment of the program: its entries, in the order in which they were given. The places by which they are found say no more.
 abbrev pub plain_assignment : Assignment → PlainAssignment
 plain_assignment a = record {
-  variables = map plain_value a.variables.items;
-  functions = map plain_table a.functions.items;
-  gets = map plain_get a.gets.items;
+  variables = map plain_value a.variables.items.items;
+  functions = map plain_table a.functions.items.items;
+  gets = map plain_get a.gets.items.items;
   selectors = map plain_selector a.selectors.items;
 }
 

@@ -111,7 +111,7 @@ fn range_in(value: &Term) -> Option<&IPNet>
 }
 
 /// Whether a term is an IP range of the family to which the selector does not belong.
-fn is_of_other_family(op: ExtOp, value: &Term) -> bool
+pub(crate) fn is_of_other_family(op: ExtOp, value: &Term) -> bool
     ensures { result ≡ is_of_other_family (plain_extension_op op) (plain_term value.now) }
 {
     let Some(range) = range_in(value) else {

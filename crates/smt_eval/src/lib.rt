@@ -11,7 +11,13 @@
 mod assignment;
 mod error;
 mod evaluation;
+mod input;
+mod missing;
+mod sections;
+mod values;
+mod written;
 
 pub use assignment::Assignment;
 pub use error::EvalError;
 pub use evaluation::eval;
+pub use input::{EvalInput, read_eval};

@@ -1,0 +1,10 @@
+use Rattle.std.proofs.Common.{bytes_eq}
+use Rattle.std.proofs.lemmas.Map.Text.{is_eq-slice_cmp}
+use Rattle.std.specs.Rc.{rc_str_bytes}
+use Rattle.smt_term.specs.Functions.{plain_definition}
+use Rattle.smt_eval.proofs.Entries.{finds_said}
+use Rattle.smt_eval.proofs.assignment.Assignment.function.Goals as goal
+
+pub returns : goal.returns
+returns c =
+    finds_said rc_str_bytes plain_definition _ (bytes_eq (rc_str_bytes c.args.id.now)) (λ id. is_eq-slice_cmp (rc_str_bytes c.args.id.now) (rc_str_bytes id)) c.args.self.now.functions.items.items c.find.result c.find.ensures

@@ -1,0 +1,14 @@
+use Rattle.std.proofs.Common.{◌≡◌, drop}
+use Rattle.law_assignments.specs.Entries.{selector_of}
+use Rattle.law_jobs.specs.Declarations.{Declared}
+use Rattle.smt_eval.specs.AssignmentView.{plain_assignment}
+use Rattle.smt_eval.specs.ReaderView.{ReadsFor}
+use Rattle.smt_eval.specs.WrittenView.{plain_written_table}
+use Rattle.smt_eval.proofs.InputReading.{Giving}
+use Rattle.smt_eval.proofs.values.Reader.enter_selectors.Given as goal
+
+abbrev pub invariant-loop-written : goal.invariant-loop-written
+invariant-loop-written l = record {
+  same : plain_assignment l.given ≡ record (plain_assignment l.initial.given) { selectors = (plain_assignment l.given).selectors };
+  given : (ds : Declared) → ReadsFor l.self ds → Giving (selector_of ds) plain_written_table (plain_assignment l.initial.given).selectors (plain_assignment l.given).selectors (drop l.written-index l.entries) l.entries;
+}

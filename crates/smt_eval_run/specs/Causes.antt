@@ -1,0 +1,78 @@
+-- Why a run is refused.
+use Rattle.std.specs.Prelude.{ℕ, ◌≡◌, ◌≤◌, ⊤, length, IfSome, List, Option, Some, None}
+use Rattle.law_assignments.specs.Assignments.{PlainAssignment}
+use Rattle.law_assignments.specs.Inputs.{IsFaultyInput, IsInput, greatest_input_nesting}
+use Rattle.law_assignments.specs.Outcomes.{InputFault, FormlessInput, RefusedJob, UnknownEntry, DuplicateEntry, NoValue, MissingEntry}
+use Rattle.law_jobs.specs.Jobs.{IsTooLong, PlainJob, greatest_length}
+use Rattle.smt_sexpr.specs.Refusals.{IsRefused}
+use Rattle.smt_sexpr.specs.declared.error.SExprParseError.{SExprParseError}
+use Rattle.smt_sexpr.specs.declared.error.SExprParseError.TheVariants.{TooDeep as TextTooDeep}
+use Rattle.smt_eval.specs.InputRefused.{IsInputTextFault}
+use Rattle.smt_runs.specs.Runs.{Around, SinkFailed, SourceFailed}
+use Rattle.smt_eval_run.specs.declared.command.Command.{Command}
+use Rattle.smt_eval_run.specs.declared.command.Command.TheVariants.{Evaluate, Help, Version}
+use Rattle.smt_eval_run.specs.declared.refusal.InputRefusal.{InputRefusal}
+use Rattle.smt_eval_run.specs.declared.refusal.InputRefusal.TheVariants.{TooLarge, Parse, TooDeep, BadForm, Job, UnknownName, DuplicateName, NotValue, Missing}
+use Rattle.smt_eval_run.specs.declared.refusal.Refusal.{Refusal}
+use Rattle.smt_eval_run.specs.declared.refusal.Refusal.TheVariants.{Usage, Input, Source, Sink, Memory}
+
+-- ---- inputs
+
+-- some job with an assignment has these bytes
+abbrev pub IsAnInput : List ℕ → Type 0
+IsAnInput bytes = (job : PlainJob) × (a : PlainAssignment) × IsInput bytes job a
+
+-- no job with an assignment has these bytes
+abbrev pub IsNoInput : List ℕ → Type 0
+IsNoInput bytes = (job : PlainJob) (a : PlainAssignment) → IsInput bytes job a → ⊥
+
+-- the kind of a fault of an input, as the program names it
+abbrev pub kind_of : InputFault → InputRefusal
+kind_of FormlessInput = BadForm
+kind_of (RefusedJob fault) = Job
+kind_of (UnknownEntry name) = UnknownName
+kind_of (DuplicateEntry name) = DuplicateName
+kind_of (NoValue name) = NotValue
+kind_of (MissingEntry name) = Missing
+
+-- The bytes are no input: there are too many, or they are no expression, or their first fault is of this kind.
+abbrev pub IsRefusedAs : InputRefusal → List ℕ → Type 0
+IsRefusedAs TooLarge bytes = IsTooLong bytes
+IsRefusedAs Parse bytes = (length bytes ≤ greatest_length) × ((fault : SExprParseError) × IsInputTextFault fault bytes)
+IsRefusedAs TooDeep bytes = (length bytes ≤ greatest_length) × IsRefused TextTooDeep greatest_input_nesting bytes
+IsRefusedAs kind bytes = (fault : InputFault) × (kind_of fault ≡ kind) × IsFaultyInput bytes fault
+
+-- ---- causes: `failed` is the fact that a count of faults rose
+
+-- why no input was read of a source
+abbrev pub HasReadingCause : (left : Option (List ℕ)) → (failed : Type 0) → Refusal → Type 0
+HasReadingCause left failed Usage = ⊥
+HasReadingCause left failed (Input kind) = IfSome left (IsRefusedAs kind)
+HasReadingCause left failed Source = failed
+HasReadingCause left failed Sink = ⊥
+HasReadingCause left failed Memory = ⊤
+
+-- why a text was not put
+abbrev pub HasPutCause : (failed : Type 0) → Refusal → Type 0
+HasPutCause failed Sink = failed
+HasPutCause failed Memory = ⊤
+HasPutCause failed refusal = ⊥
+
+-- why the truths of terms were not put; they are put only of an input
+abbrev pub HasEvalCause : (before after : Around) → Refusal → Type 0
+HasEvalCause before after Sink = SinkFailed before after × IfSome before.left IsAnInput
+HasEvalCause before after refusal = HasReadingCause before.left (SourceFailed before after) refusal
+
+-- why what was asked for was refused
+abbrev pub HasCause : (before after : Around) → Option Command → Refusal → Type 0
+HasCause before after (Some Evaluate) refusal = HasEvalCause before after refusal
+HasCause before after (Some Help) refusal = HasPutCause (SinkFailed before after) refusal
+HasCause before after (Some Version) refusal = HasPutCause (SinkFailed before after) refusal
+HasCause before after None refusal = refusal ≡ Usage
+
+-- What a sink holds behind a refusal: what it held, where the words, the source or the input were refused.
+abbrev pub LeavesOutput : (old new : Option (List ℕ)) → Refusal → Type 0
+LeavesOutput old new Usage = new ≡ old
+LeavesOutput old new (Input why) = new ≡ old
+LeavesOutput old new Source = new ≡ old
+LeavesOutput old new refusal = ⊤

@@ -1,0 +1,5 @@
+pub mod Answers
+pub mod Causes
+pub mod Refusal
+pub mod Run
+pub mod Words

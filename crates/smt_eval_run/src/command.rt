@@ -1,0 +1,66 @@
+// What the words of a command line ask for.
+ghost use Rattle.std.specs.Prelude.{◌≡◌};
+ghost use Rattle.law_texts.specs.SharedTexts.{texts};
+ghost use Rattle.std.specs.Rc.{rc_str_bytes};
+ghost use Rattle.smt_eval_run.specs.Words.{commanded, word_asks};
+
+use smt_text::Text;
+
+/// What `smteval --help` prints.
+pub(crate) const HELP: &str = "\
+usage: smteval < INPUT
+
+Reads a job with an assignment from standard input, and prints a line for each term of the job that is current at its end: true or
+false, as it is in the assignment. Then it prints holds where all of them are true, and fails where one is not. No solver is asked.
+
+input:    (eval JOB (vars (\"ID\" V) ..) (funs (\"F\" V (V V) ..) ..) (gets (TYPE V) ..) (selectors (\"NAME\" V (V V) ..) ..))
+          JOB is a job as smtcli reads it, and each V a term that is built to a literal. A function or a selector has its value
+          elsewhere first, and then pairs of an argument and a value. A get says what option.get of none is at a type, and a
+          selector what it is at IP ranges of the other family. What the terms do not reach may be left out.
+
+example:  echo '(eval (job (enums) (vars (\"b\" Bool)) (funs) (terms (not (var \"b\")))) (vars (\"b\" false)) (funs) (gets) (selectors))' > input
+          smteval < input
+prints    true
+          holds
+
+worth:    holds says that the assignment makes all terms true, as they are written, and that what it gives to them is a model of the
+          script that smtcli prints for the job. Both are proved.
+
+status: 0 done; 2 there are words; 3 the input is refused; 5 source fault; 6 sink fault; 7 out of memory
+";
+
+/// What `smteval --version` prints.
+pub(crate) const VERSION: &str = "smteval 0.1.0\n";
+
+/// What the words of a command line ask for.
+#[derive(Clone, Copy, Debug, PartialEq, Eq, Drop)]
+pub enum Command {
+    /// Without words: the truths of the terms of a job in an assignment.
+    Evaluate,
+    /// `--help`.
+    Help,
+    /// `--version`.
+    Version,
+}
+
+/// What one word asks for, None where it is no command.
+fn word_command(word: &Text) -> Option<Command>
+    ensures { result ≡ word_asks (rc_str_bytes word.now) }
+{
+    match word.as_str() {
+        "--help" => Some(Command::Help),
+        "--version" => Some(Command::Version),
+        _ => None,
+    }
+}
+
+/// What the words ask for, None where they are no command.
+pub(crate) fn command_of(words: &[Text]) -> Option<Command>
+    ensures { result ≡ commanded (texts words.now) }
+{
+    match words {
+        [] => Some(Command::Evaluate),
+        [word] => word_command(word),
+        [_, _, ..] => None,
+    }
+}
