@@ -9,6 +9,8 @@ mod ends;
 mod evaluations;
 #[cfg(test)]
 mod operators;
+#[cfg(test)]
+mod sharing;
 
 /// Why a test stops where a call gives nothing.
 #[cfg(test)]
