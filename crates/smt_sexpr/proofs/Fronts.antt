@@ -20,6 +20,10 @@ one_span bytes rest ts s = record {
   held = s.held;
 }
 
+-- one piece behind blanks
+pub behind_blanks : (bytes text rest : List ℕ) (ts : List Token) → Spans bytes [] text → StandsFor ts text rest → Spans bytes ts rest
+behind_blanks bytes text rest ts s f = joined bytes text rest [] ts s (one_span text rest ts f)
+
 never_longer : (b : ℕ) (rest : List ℕ) → stops (Space b) rest ≡ true
 never_longer b [] = refl
 never_longer b (c ∷ cs) = refl

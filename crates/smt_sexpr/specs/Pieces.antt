@@ -1,5 +1,5 @@
 -- The pieces at the front of a text (SMT-LIB 2.7, chapter 3, Lexicon).
-use Rattle.std.specs.Prelude.{◌≡◌, ℕ, Bool, false, not, ◌&&◌, ◌||◌, ◌==◌, List, [], ◌∷◌}
+use Rattle.std.specs.Prelude.{◌≡◌, ℕ, Bool, false, not, ◌&&◌, ◌||◌, ◌==◌, nat_lt, List, [], ◌∷◌}
 use Rattle.law_texts.specs.Lexicon.{Piece, Token, token, is_space, is_digit, is_symbol_byte}
 use Rattle.law_texts.specs.Tokens.{StandsFirst, AreHeld}
 
@@ -24,3 +24,7 @@ begins_atom (b ∷ bs) = not (is_space b || (b == 40) || (b == 41) || (b == 59))
 abbrev pub begins_symbol : List ℕ → Bool
 begins_symbol [] = false
 begins_symbol (b ∷ bs) = not (is_digit b) && is_symbol_byte b
+
+-- a character of ASCII that stands as itself between the quotes of a string: neither a quote nor a backslash
+abbrev pub stands_as_itself : ℕ → Bool
+stands_as_itself b = nat_lt b 128 && (not (b == 34) && not (b == 92))

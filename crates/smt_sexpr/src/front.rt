@@ -20,8 +20,8 @@ fn behind_comment(src: &[u8]) -> Option<&[u8]>
     Some(text.split_at(comment_len(text)).1)
 }
 
-// The text from the first byte on that is neither white space nor in a comment.
-fn without_blanks(src: &[u8]) -> &[u8]
+/// The text from the first byte on that is neither white space nor in a comment.
+pub(crate) fn without_blanks(src: &[u8]) -> &[u8]
     ensures blank { Spans src.now [] result.now }
     ensures first { begins_blank result.now ≡ false }
     ensures shorter { length result.now ≤ length src.now }

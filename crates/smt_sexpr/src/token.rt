@@ -14,13 +14,13 @@ ghost use Rattle.smt_sexpr.specs.View.{plain, lexeme_tokens};
 use crate::error::{IntFault, SExprParseError};
 use crate::escape::{decode, is_base_16};
 use crate::expression::SExpr;
-use crate::lexeme::{comment_len, is_white_space, run_len, symbol_len};
+use crate::front_atoms::{numeral, symbol};
+use crate::lexeme::{comment_len, is_white_space, run_len};
 use crate::number::literal;
 use smt_script::Bytes;
 use smt_text::Text;
-use smt_text::digits::{behind, split_digits, wide_number};
+use smt_text::digits::behind;
 use std::alloc::{AllocError, Global};
-use std::str;
 
 /// A piece of a text.
 #[derive(Drop)]
@@ -100,9 +100,8 @@ fn split_number(src: &[u8]) -> Result<(SExpr, &[u8]), SExprParseError>
     ensures found { IfOk result (λ x. StandsFor (brackets (plain x.0)) src.now x.1.now) }
     ensures fault { IfErr result (λ e. IsTokenFault e src.now) }
 {
-    let (digits, rest) = split_digits(src);
-    match wide_number(digits) {
-        Some(value) => Ok((SExpr::Numeral(value), rest)),
+    match numeral(src) {
+        Some((value, rest)) => Ok((SExpr::Numeral(value), rest)),
         None => Err(SExprParseError::ParseIntError(IntFault::PosOverflow)),
     }
 }
@@ -113,8 +112,7 @@ fn split_name(alloc: Global, src: &[u8]) -> Result<(SExpr, &[u8]), SExprParseErr
     ensures found { IfOk result (λ x. StandsFor (brackets (plain x.0)) src.now x.1.now) }
     ensures fault { IfErr result (λ e. IsTokenFault e src.now) }
 {
-    let (name, rest) = src.split_at(symbol_len(src));
-    let Ok(name) = str::from_utf8(name) else {
+    let Some((name, rest)) = symbol(src) else {
         return Err(SExprParseError::Utf8Error);
     };
     let text = Text::from_str(alloc, name)?;

@@ -1,12 +1,5 @@
-use Rattle.std.proofs.Common.{sym}
 use Rattle.smt_sexpr.specs.View.{plain-Numeral}
-use Rattle.smt_sexpr.proofs.Atoms.{numeral_fault, numeral_stands}
 use Rattle.smt_sexpr.proofs.token.split_number.Goals as goal
 
 pub returns-in-Some-clause-found : goal.returns-in-Some-clause-found
-returns-in-Some-clause-found c =
-    rw plain-Numeral (numeral_stands c.args.src.now c.split_digits.result.0.now c.split_digits.result.1.now c.in-Some.value c.split_digits.ensures c.requires c.in-Some.ensures.0 (sym c.in-Some.ensures.1))
-
-pub returns-in-None-clause-fault : goal.returns-in-None-clause-fault
-returns-in-None-clause-fault c =
-    numeral_fault c.args.src.now c.split_digits.result.0.now c.split_digits.result.1.now c.split_digits.ensures c.requires c.in-None.ensures
+returns-in-Some-clause-found c = rw plain-Numeral c.in-Some.ensures.found
