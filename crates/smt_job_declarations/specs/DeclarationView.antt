@@ -1,8 +1,9 @@
 -- What is declared in the program, and what declaring one more gives.
-use Rattle.std.specs.Prelude.{◌≡◌, ℕ, List, [], ◌∷◌, ◌++◌, map, option_map, Ok, Err, Result}
+use Rattle.std.specs.Prelude.{◌≡◌, ℕ, List, [], ◌∷◌, ◌++◌, Option, bytes_eq, map, option_map, Ok, Err, Result}
 use Rattle.std.specs.Rc.{rc_str_bytes}
-use Rattle.std.specs.BTreeMap.{get}
+use Rattle.std.specs.BTreeMap.{get, get_by}
 use Rattle.std.specs.Cmp.Lexicographic.{slice_cmp}
+use Rattle.std.specs.List.{position}
 use Rattle.std.specs.Ordering.{nat_cmp}
 use Rattle.std.specs.declared.cmp.Ordering.{Ordering}
 use Rattle.std.specs.declared.alloc.Global.{Global}
@@ -38,14 +39,22 @@ plain_declared_function f = (rc_str_bytes f.id, plain_function f)
 abbrev pub functions : UufList → Declarations PlainFunction
 functions funs = map plain_declared_function funs.items.items
 
+-- how the bytes of an id compare to those of a text
+abbrev pub bytes_order : List ℕ → RcStr Global → Ordering
+bytes_order id text = slice_cmp nat_cmp id (rc_str_bytes text)
+
 -- ids stand in the order of their bytes
 abbrev pub text_order : RcStr Global → RcStr Global → Ordering
-text_order a b = slice_cmp nat_cmp (rc_str_bytes a) (rc_str_bytes b)
+text_order a = bytes_order (rc_str_bytes a)
 
--- The variables are these, in order, and their types are found by their ids.
+-- the place of the first declaration of an id, which is the one that counts
+abbrev pub place_of : {A : Type 0} → Declarations A → List ℕ → Option ℕ
+place_of ds id = position (λ d. bytes_eq id d.0) ds
+
+-- The variables are these, in order, and the place of each is found by its id.
 pub record HasVariables (v : Variables) (vs : Declarations PlainType) : Type 0 where
   pub listed : declarations v.vars ≡ vs
-  pub found : (id : RcStr Global) → option_map plain_type (get text_order v.types id) ≡ declared vs (rc_str_bytes id)
+  pub placed : (id : List ℕ) → get_by (bytes_order id) v.places ≡ place_of vs id
 
 -- The functions are these, in order, and they are found by their ids.
 pub record HasFunctions (f : Functions) (fs : Declarations PlainFunction) : Type 0 where

@@ -1,5 +1,5 @@
 // Declarations of variables and of functions.
-ghost use Rattle.std.specs.Prelude.{◌≡◌, ◌++◌, ◌∷◌, [], None, IfOk, OnOk, IsOkUnless, option_map};
+ghost use Rattle.std.specs.Prelude.{◌≡◌, ◌++◌, ◌∷◌, ◌<◌, [], None, Some, IfOk, IfSome, OnOk, IsOkUnless, length, option_map, slice_get};
 ghost use Rattle.std.specs.Rc.{rc_str_bytes};
 ghost use Rattle.law_terms.specs.Plain.{PlainFunction, PlainType};
 ghost use Rattle.smt_sexpr.specs.View.{plain};
@@ -25,7 +25,8 @@ use std::rc::Rc;
 pub struct Variables {
     /// The variables, in order.
     pub vars: VarList,
-    types: BTreeMap<Text, TermType>,
+    // The place of the first variable of each id, which is the one that counts.
+    places: BTreeMap<Text, usize>,
 }
 
 impl Variables {
@@ -35,15 +36,28 @@ impl Variables {
     {
         Variables {
             vars: VarList::new(alloc),
-            types: BTreeMap::new(alloc),
+            places: BTreeMap::new(alloc),
         }
+    }
+
+    /// The variable of an id, with its place among the declared ones, None exactly where the id is not declared. One look-up; takes no memory.
+    pub fn find(&self, id: &str) -> Option<(usize, &TermVar)>
+        ensures found { (vs : Declarations PlainType) → HasVariables self.now vs → option_map (λ x. plain_type x.1.now.ty) result ≡ declared vs id.now }
+        ensures id { (vs : Declarations PlainType) → HasVariables self.now vs → IfSome result (λ x. rc_str_bytes x.1.now.id ≡ id.now) }
+        ensures place { (vs : Declarations PlainType) → HasVariables self.now vs → option_map (λ x. x.0) result ≡ view.place_of vs id.now }
+        ensures there { IfSome result (λ x. slice_get (view.declarations self.now.vars) x.0 ≡ Some (view.plain_declaration x.1.now)) }
+        ensures within { IfSome result (λ x. x.0 < length (view.declarations self.now.vars)) }
+    {
+        let place = *self.places.get(id)?;
+        Some((place, self.vars.items().get(place)?))
     }
 
     /// The type of an id, None exactly where it is not declared.
     pub fn type_of(&self, id: &Text) -> Option<&TermType>
         ensures { (vs : Declarations PlainType) → HasVariables self.now vs → option_map (λ ty. plain_type ty.now) result ≡ declared vs (rc_str_bytes id.now) }
     {
-        self.types.get(id)
+        let (_, var) = self.find(id.as_str())?;
+        Some(&var.ty)
     }
 
     /// Declares an id that is not declared yet.
@@ -52,7 +66,7 @@ impl Variables {
             OnOk result (HasVariables self.new (vs ++ (rc_str_bytes id.now, plain_type ty) ∷ [])) }
         ensures refusal { IsOkUnless result JobError.Memory }
     {
-        self.types.insert(id.clone()?, ty.share()?)?;
+        self.places.insert(id.clone()?, self.vars.len())?;
         self.vars.push(TermVar {
             id: id.clone()?,
             ty,
