@@ -41,6 +41,11 @@ meaning_from ns n ps m f l = ap (option_and_then (stands_for n.label)) f ∙ l
 pub means_so : (ns : List PlainNode) → IsGraph ns → (i : ℕ) (n : PlainNode) → slice_get ns i ≡ Some n → (m : Meaning) × (meaning_at ns i ≡ Some m) × (meaning_of (meanings ns) n ≡ Some m)
 means_so ns g i n h = let s : Stands ns i n = node_stands ns g i n h in (s.meaning, s.here, meaning_from ns n s.parts s.meaning s.found_parts s.label)
 
+-- the same of a node that was found
+pub found_means : (ns : List PlainNode) → IsGraph ns → (n : PlainNode) (o : Option NodeId) (id : NodeId) → o ≡ Some id → IfSome o (λ id. slice_get ns (place_of id) ≡ Some n)
+    → (m : Meaning) × (meaning_at ns (place_of id) ≡ Some m) × (meaning_of (meanings ns) n ≡ Some m)
+found_means ns g n o id e h = let P : Option NodeId → Type 0 = λ o. IfSome o (λ id. slice_get ns (place_of id) ≡ Some n) in means_so ns g (place_of id) n (subst P e h)
+
 -- ---- a node stands behind its parts, so none has the newest one for a part
 all_at : (P : ℕ → Type 0) (xs : List ℕ) (i x : ℕ) → AllByRecursion P xs → slice_get xs i ≡ Some x → P x
 all_at P [] i x a h = absurd (cc)

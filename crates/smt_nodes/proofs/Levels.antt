@@ -1,4 +1,4 @@
--- Labels, nodes and keys that the derived order holds equal say the same, and the other way round.
+-- Labels and keys that the derived order holds equal say the same, and the other way round.
 use Rattle.std.proofs.Common.{◌≡◌, ◌⊎◌, inl, inr, ℕ, List, [], ◌∷◌, true, false, refl, sym, ap, ◌∙◌}
 use Rattle.std.proofs.lemmas.Bool.{false≢true}
 use Rattle.std.specs.Cmp.{Equal-is, nat_cmp_is}
@@ -26,18 +26,16 @@ use Rattle.law_terms.specs.Types.{extension_kind_place}
 use Rattle.smt_term.specs.declared.op.Op.{Op}
 use Rattle.smt_term.proofs.DerivedOrder.{literal_cmp-is, op_cmp-is}
 use Rattle.smt_term.specs.View.{plain_literal, plain_op}
-use Rattle.law_terms.specs.Nodes.{BitVecLabel, EntityLabel, ExtensionLabel, RecordLabel, FunctionLabel, ApplicationLabel, LiteralLabel, RecordOfLabel, VariableLabel, PlainNode}
+use Rattle.law_terms.specs.Nodes.{BitVecLabel, EntityLabel, ExtensionLabel, RecordLabel, FunctionLabel, ApplicationLabel, LiteralLabel, RecordOfLabel, VariableLabel}
 use Rattle.smt_nodes.specs.Attributes.{attributes_of}
 use Rattle.smt_nodes.specs.LabelOrder.{first_cmp, label_cmp}
-use Rattle.smt_nodes.specs.View.{ids_of, place_of, places_of, plain_label, plain_node}
+use Rattle.smt_nodes.specs.View.{ids_of, place_of, places_of, plain_label}
 use Rattle.smt_nodes.specs.contracts.node.LabelOrd.TheImpl as label_order
 use Rattle.smt_nodes.specs.contracts.id.NodeIdOrd.TheImpl as id_order
-use Rattle.smt_nodes.specs.contracts.node.NodeOrd.TheImpl as node_order
 use Rattle.smt_nodes.specs.contracts.table.KeyOrd.TheImpl as key_order
 use Rattle.smt_nodes.specs.declared.id.NodeId.{NodeId}
 use Rattle.smt_nodes.specs.declared.node.Label.{Label}
 use Rattle.smt_nodes.specs.declared.node.Label.TheVariants.{TOption, TBitvec, TBool, TEntity, TExt, TString, TRecord, TSet, Fun, App, Call, NoneOf, Prim, RecordOf, SetOf, SomeOf, Var}
-use Rattle.smt_nodes.specs.declared.node.Node.{Node}
 use Rattle.smt_nodes.specs.declared.table.Key.{Key}
 
 -- lists of texts compare by their bytes
@@ -125,33 +123,11 @@ label_itself (RecordOf a) = texts_itself (texts (attributes_of a))
 label_itself (Var a) = text_itself (rc_str_bytes a)
 label_itself l = refl
 
--- ---- nodes
-abbrev node_cmp : PlainNode → PlainNode → Ordering
-node_cmp a b = ordering_then (label_cmp a.label b.label) (text_cmp a.parts b.parts)
-
 ids_cmp-is : (xs ys : List NodeId) → slice_cmp id_order.ghosts.cmp xs ys ≡ text_cmp (places_of xs) (places_of ys)
 ids_cmp-is [] [] = refl
 ids_cmp-is [] (y ∷ ys) = refl
 ids_cmp-is (x ∷ xs) [] = refl
 ids_cmp-is (x ∷ xs) (y ∷ ys) = ap (ordering_then (nat_cmp (place_of x) (place_of y))) (ids_cmp-is xs ys)
-
-node_cmp-is : (a b : Node) → node_order.ghosts.cmp a b ≡ node_cmp (plain_node a) (plain_node b)
-node_cmp-is a b =
-    ap (λ o. ordering_then o (slice_cmp id_order.ghosts.cmp (ids_of a.parts) (ids_of b.parts))) (label_cmp-is a.label b.label) ∙ ap (ordering_then (label_cmp (plain_label a.label) (plain_label b.label))) (ids_cmp-is (ids_of a.parts) (ids_of b.parts))
-
-pub node_same : (a b : Node) → is_eq (node_order.ghosts.cmp a b) ≡ true → plain_node a ≡ plain_node b
-node_same a b h =
-    let e : node_cmp (plain_node a) (plain_node b) ≡ Equal = sym (node_cmp-is a b) ∙ (Equal-is (node_order.ghosts.cmp a b)).0 h in
-    let p = then_equal (label_cmp (plain_label a.label) (plain_label b.label)) (text_cmp (places_of (ids_of a.parts)) (places_of (ids_of b.parts))) e in
-    let l : plain_label a.label ≡ plain_label b.label = label_same a.label b.label p.0 in
-    let q : places_of (ids_of a.parts) ≡ places_of (ids_of b.parts) = text_same (places_of (ids_of a.parts)) (places_of (ids_of b.parts)) p.1 in
-    λ i. record { label = l i; parts = q i }
-
-pub node_equal : (a b : Node) → plain_node a ≡ plain_node b → is_eq (node_order.ghosts.cmp a b) ≡ true
-node_equal a b h =
-    let own : node_cmp (plain_node a) (plain_node a) ≡ Equal =
-    ap (λ o. ordering_then o (text_cmp (places_of (ids_of a.parts)) (places_of (ids_of a.parts)))) (label_itself a.label) ∙ text_itself (places_of (ids_of a.parts)) in
-    ap is_eq (node_cmp-is a b ∙ (sym (ap (node_cmp (plain_node a)) h) ∙ own))
 
 -- ---- labels and keys
 pub label_kept : (l m : Label) → is_eq (label_order.ghosts.cmp l m) ≡ true → plain_label l ≡ plain_label m
@@ -161,19 +137,19 @@ pub label_equal : (l m : Label) → plain_label l ≡ plain_label m → is_eq (l
 label_equal l m h = ap is_eq (label_cmp-is l m ∙ (sym (ap (label_cmp (plain_label l)) h) ∙ label_itself l))
 
 abbrev key_cmp : Key → Key → Ordering
-key_cmp a b = ordering_then (nat_cmp a.label b.label) (text_cmp (places_of (ids_of a.parts)) (places_of (ids_of b.parts)))
+key_cmp a b = ordering_then (nat_cmp (place_of a.first) (place_of b.first)) (text_cmp (places_of (ids_of a.parts)) (places_of (ids_of b.parts)))
 
 key_cmp-is : (a b : Key) → key_order.ghosts.cmp a b ≡ key_cmp a b
-key_cmp-is a b = ap (ordering_then (nat_cmp a.label b.label)) (ids_cmp-is (ids_of a.parts) (ids_of b.parts))
+key_cmp-is a b = ap (ordering_then (nat_cmp (place_of a.first) (place_of b.first))) (ids_cmp-is (ids_of a.parts) (ids_of b.parts))
 
-pub key_same : (a b : Key) → is_eq (key_order.ghosts.cmp a b) ≡ true → (a.label ≡ b.label) × (places_of (ids_of a.parts) ≡ places_of (ids_of b.parts))
+pub key_same : (a b : Key) → is_eq (key_order.ghosts.cmp a b) ≡ true → (place_of a.first ≡ place_of b.first) × (places_of (ids_of a.parts) ≡ places_of (ids_of b.parts))
 key_same a b h =
     let e : key_cmp a b ≡ Equal = sym (key_cmp-is a b) ∙ (Equal-is (key_order.ghosts.cmp a b)).0 h in
-    let p = then_equal (nat_cmp a.label b.label) (text_cmp (places_of (ids_of a.parts)) (places_of (ids_of b.parts))) e in
-    (nat_cmp-IsAntisymmetric a.label b.label p.0, text_same (places_of (ids_of a.parts)) (places_of (ids_of b.parts)) p.1)
+    let p = then_equal (nat_cmp (place_of a.first) (place_of b.first)) (text_cmp (places_of (ids_of a.parts)) (places_of (ids_of b.parts))) e in
+    (nat_cmp-IsAntisymmetric (place_of a.first) (place_of b.first) p.0, text_same (places_of (ids_of a.parts)) (places_of (ids_of b.parts)) p.1)
 
-pub key_equal : (a b : Key) → a.label ≡ b.label → places_of (ids_of a.parts) ≡ places_of (ids_of b.parts) → is_eq (key_order.ghosts.cmp a b) ≡ true
-key_equal a b l p =
+pub key_equal : (a b : Key) → place_of a.first ≡ place_of b.first → places_of (ids_of a.parts) ≡ places_of (ids_of b.parts) → is_eq (key_order.ghosts.cmp a b) ≡ true
+key_equal a b f p =
     let parts : text_cmp (places_of (ids_of a.parts)) (places_of (ids_of b.parts)) ≡ Equal = sym (ap (text_cmp (places_of (ids_of a.parts))) p) ∙ text_itself (places_of (ids_of a.parts)) in
-    let label : nat_cmp a.label b.label ≡ Equal = sym (ap (nat_cmp a.label) l) ∙ nat_itself a.label in
-    ap is_eq (key_cmp-is a b ∙ (ap (λ o. ordering_then o (text_cmp (places_of (ids_of a.parts)) (places_of (ids_of b.parts)))) label ∙ parts))
+    let first : nat_cmp (place_of a.first) (place_of b.first) ≡ Equal = sym (ap (nat_cmp (place_of a.first)) f) ∙ nat_itself (place_of a.first) in
+    ap is_eq (key_cmp-is a b ∙ (ap (λ o. ordering_then o (text_cmp (places_of (ids_of a.parts)) (places_of (ids_of b.parts)))) first ∙ parts))

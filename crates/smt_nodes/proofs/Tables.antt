@@ -1,27 +1,42 @@
--- The table of nodes: what it finds, and what it finds after one label or one node more.
-use Rattle.std.proofs.Common.{◌≡◌, ℕ, ◌+◌, ◌<◌, Bool, true, false, cond, List, [], ◌∷◌, ◌++◌, length, map, get_or, Option, Some, None, refl, sym, ap, ◌∙◌, subst, ◌⊎◌, inl, inr, arith}
+-- The table of nodes: what it finds, and what it finds after one node more.
+use Rattle.std.proofs.Common.{◌≡◌, ℕ, ◌<◌, Bool, true, false, ◌&&◌, cond, nat_eq, List, [], ◌∷◌, ◌++◌, length, map, Option, Some, None, refl, sym, ap, ◌∙◌, subst, ◌⊎◌, inl, inr}
 use Rattle.std.proofs.lemmas.Bool.{false≢true}
-use Rattle.std.proofs.lemmas.List.{length-map, map-append}
-use Rattle.std.proofs.lemmas.Option.{slice_get-get_or, slice_get-map, slice_get_within}
-use Rattle.std.specs.BTreeMap.{BTreeMap, btree_map_len, get_by, is_at, Updates}
-use Rattle.std.specs.Map.{lookup}
+use Rattle.std.proofs.lemmas.List.{map-append}
+use Rattle.std.proofs.lemmas.Option.{slice_get-map, slice_get_within}
+use Rattle.std.specs.BTreeMap.{get, get_by}
+use Rattle.std.specs.Cmp.Lexicographic.{bytes_decides, pointwise}
+use Rattle.std.specs.Option.{option_map_or}
 use Rattle.std.specs.Ordering.{is_eq}
-use Rattle.std.specs.Prelude.{Contains, IfSome, if◌then◌else◌, is_some, option_map, slice_get}
-use Rattle.law_terms.specs.Nodes.{PlainNode}
+use Rattle.std.specs.Prelude.{bytes_eq, Contains, IfNone, IfSome, IsTrue, option_map, slice_get}
+use Rattle.smt_bits.proofs.SameValue.{same_bits}
+use Rattle.smt_bits.specs.BitVec.{number_of, width_of}
+use Rattle.smt_bits.specs.contracts.bitvec.BitVecOrd.TheImpl as bits_order
+use Rattle.smt_bits.specs.declared.bitvec.BitVec.{BitVec}
+use Rattle.law_terms.specs.Nodes.{LiteralLabel, PlainLabel, PlainNode}
+use Rattle.law_terms.specs.Plain.{BitVecLiteral}
 use Rattle.law_terms.proofs.Growth.{contains_at, place_in}
 use Rattle.law_terms.proofs.Places.{get_last, get_split, get_stays, some_same}
-use Rattle.smt_nodes.specs.Index.{id_at, number_of, IsIndex, IsKey}
+use Rattle.smt_term.specs.declared.term.TermPrim.TheVariants.{Bitvec}
+use Rattle.smt_nodes.specs.Index.{bits_of, first_at, first_by, has_label, has_label_of, has_parts, id_at, node_at, node_of, FindsByKey, FindsByLabel, FindsSame, IsIndex}
 use Rattle.smt_nodes.specs.LabelOrder.{label_cmp}
 use Rattle.smt_nodes.specs.View.{ids_of, place_of, places_of, plain_label, plain_node}
+use Rattle.smt_nodes.specs.contracts.id.NodeIdPartialEq.TheImpl as id_equality
 use Rattle.smt_nodes.specs.contracts.node.LabelOrd.TheImpl as label_order
-use Rattle.smt_nodes.specs.contracts.node.NodeOrd.TheImpl as node_order
 use Rattle.smt_nodes.specs.contracts.table.KeyOrd.TheImpl as key_order
 use Rattle.smt_nodes.specs.declared.id.NodeId.{NodeId}
 use Rattle.smt_nodes.specs.declared.node.Label.{Label}
+use Rattle.smt_nodes.specs.declared.node.Label.TheVariants.{Prim}
 use Rattle.smt_nodes.specs.declared.node.Node.{Node}
 use Rattle.smt_nodes.specs.declared.table.Key.{Key}
 use Rattle.smt_nodes.specs.declared.table.Table.{Table}
-use Rattle.smt_nodes.proofs.Levels.{key_equal, key_same, label_cmp-is, label_equal, label_kept, node_equal, node_same}
+use Rattle.smt_nodes.proofs.Levels.{key_equal, key_same, label_cmp-is, label_equal, label_kept}
+
+none_some : {X : Type 0} {x : X} {o : Option X} → o ≡ None → o ≡ Some x → ⊥
+none_some {x = x} e h = let f : None ≡ Some x = sym e ∙ h in cc
+
+not_true : (b : Bool) → (b ≡ true → ⊥) → b ≡ false
+not_true true n = absurd (n refl)
+not_true false n = refl
 
 -- what a map finds after one entry more, by whether it is that entry
 look : {X : Type 0} (b : Bool) (new x : X) (o : Option X) → cond b (Some new) o ≡ Some x → ((b ≡ true) × (new ≡ x)) ⊎ ((b ≡ false) × (o ≡ Some x))
@@ -32,155 +47,216 @@ lack : {X : Type 0} (b : Bool) (new : X) (o : Option X) → cond b (Some new) o 
 lack true new o h = absurd (cc)
 lack false new o h = (refl, h)
 
--- ---- what the table finds, said of plain nodes
-at_place : (nodes : List Node) (i : ℕ) → i < length nodes → (n : Node) × (slice_get nodes i ≡ Some n)
-at_place [] i h = absurd (omega arith)
-at_place (n ∷ nodes) i h = (get_or (n ∷ nodes) i n, slice_get-get_or (n ∷ nodes) i n h)
+-- ---- the bits of labels
+abbrev said : BitVec → ℕ × ℕ
+said b = (width_of b, number_of b)
 
-abbrev StandsAt : Table → NodeId → Node → Type 0
-StandsAt t id n = slice_get (map plain_node t.nodes.items) (place_of id) ≡ Some (plain_node n)
+abbrev bits_said : PlainLabel → Option (ℕ × ℕ)
+bits_said (LiteralLabel (BitVecLiteral n a)) = Some (n, a)
+bits_said l = None
 
-pub finds_node : (t : Table) → IsIndex t → (n : Node) (k : Key) (id : NodeId) → IsKey t n k → id_at t k ≡ Some id → StandsAt t id n
-finds_node t x n k id a h =
-    let (m, e) = at_place t.nodes.items (place_of id) (x.within n k id a h) in
-    slice_get-map plain_node t.nodes.items (place_of id) ∙ (ap (option_map plain_node) e ∙ ap Some (sym (node_same n m (x.found n k id a h m e))))
+bits_plain : (l : Label) → option_map said (bits_of l) ≡ bits_said (plain_label l)
+bits_plain (Prim (Bitvec b)) = refl
+bits_plain l = refl
 
-pub finds_some : (t : Table) → IsIndex t → (n : Node) (k : Key) (o : Option NodeId) → o ≡ id_at t k → IsKey t n k → IfSome o (λ id. StandsAt t id n)
-finds_some t x n k None e a = tt
-finds_some t x n k (Some id) e a = finds_node t x n k id a (sym e)
+one_bits : (o p : Option BitVec) → option_map said o ≡ option_map said p → o ≡ p
+one_bits None None h = refl
+one_bits None (Some b) h = absurd (cc)
+one_bits (Some a) None h = absurd (cc)
+one_bits (Some a) (Some b) h = let e : said a ≡ said b = some_same (said a) (said b) h in ap Some (same_bits a b (ap (λ p. p.0) e) (ap (λ p. p.1) e))
 
-stands_within : (t : Table) (id : NodeId) (n : Node) → StandsAt t id n → place_of id < length t.nodes.items
-stands_within t id n h = let b = slice_get_within (map plain_node t.nodes.items) (place_of id) (plain_node n) h in omega (arith, length-map t.nodes.items plain_node)
+same_bits_of : (l m : Label) → plain_label l ≡ plain_label m → bits_of l ≡ bits_of m
+same_bits_of l m h = one_bits (bits_of l) (bits_of m) (bits_plain l ∙ (ap bits_said h ∙ sym (bits_plain m)))
 
-stands_equal : (t : Table) (id : NodeId) (n : Node) → StandsAt t id n → (m : Node) → slice_get t.nodes.items (place_of id) ≡ Some m → is_eq (node_order.ghosts.cmp n m) ≡ true
-stands_equal t id n h m e =
-    node_equal n m (some_same (plain_node n) (plain_node m) (sym h ∙ (slice_get-map plain_node t.nodes.items (place_of id) ∙ ap (option_map plain_node) e)))
+-- a literal of bits is not level with another label
+bits_apart : (l m : Label) (a : BitVec) → bits_of l ≡ None → bits_of m ≡ Some a → is_eq (label_order.ghosts.cmp l m) ≡ false
+bits_apart l m a h k = not_true (is_eq (label_order.ghosts.cmp l m)) (λ e. none_some h (same_bits_of l m (label_kept l m e) ∙ k))
 
--- ---- the numbers of labels
--- labels that say the same have one number
-pub same_number : (t : Table) (l m : Label) → plain_label l ≡ plain_label m → number_of t l ≡ number_of t m
-same_number t l m h =
-    let same : (k : Label) → label_order.ghosts.cmp l k ≡ label_order.ghosts.cmp m k = λ (k : Label). label_cmp-is l k ∙ (ap (λ p. label_cmp p (plain_label k)) h ∙ sym (label_cmp-is m k)) in
-    λ i. get_by (λ (k : Label). same k i) t.labels
+same_cmp : (l m k : Label) → plain_label l ≡ plain_label m → label_order.ghosts.cmp l k ≡ label_order.ghosts.cmp m k
+same_cmp l m k h = label_cmp-is l k ∙ (ap (λ p. label_cmp p (plain_label k)) h ∙ sym (label_cmp-is m k))
 
-pub more_by_one : (old : Option ℕ) (n m : ℕ) → old ≡ None → m ≡ n + (if is_some old then 0 else 1) → m ≡ n + 1
-more_by_one None n m e h = h
-more_by_one (Some i) n m e h = absurd (cc)
+-- labels that say the same find the same
+same_by : (t : Table) (l m : Label) (o : Option BitVec) → plain_label l ≡ plain_label m → first_by t.bits t.firsts l o ≡ first_by t.bits t.firsts m o
+same_by t l m (Some b) h = refl
+same_by t l m None h = λ i. get_by (λ (k : Label). same_cmp l m k h i) t.firsts
 
--- the same labels
-pub unchanged : (t u : Table) → IsIndex t → u.nodes.items ≡ t.nodes.items → u.ids ≡ t.ids → u.labels.entries ≡ t.labels.entries → IsIndex u
-unchanged t u x nodes ids labels =
-    let id_is : (k : Key) → id_at u k ≡ id_at t k = λ (k : Key). ap (get_by (key_order.ghosts.cmp k)) ids in
-    let number_is : (l : Label) → number_of u l ≡ number_of t l = λ (l : Label). ap (lookup (is_at (label_order.ghosts.cmp l))) labels in
-    let count : btree_map_len u.labels ≡ btree_map_len t.labels = ap length labels in
-    let older : (n : Node) (k : Key) → IsKey u n k → IsKey t n k = λ (n : Node) (k : Key) (a : IsKey u n k). record { label = sym (number_is n.label) ∙ a.label; parts = a.parts } in
-    let has : (n : Node) → Contains (map plain_node u.nodes.items) (plain_node n) → Contains (map plain_node t.nodes.items) (plain_node n) =
-    λ (n : Node) (c : Contains (map plain_node u.nodes.items) (plain_node n)). subst (λ ns. Contains (map plain_node ns) (plain_node n)) nodes c in
-    let finds : (n : Node) (k : Key) (id : NodeId) → IsKey u n k → id_at u k ≡ Some id → StandsAt u id n =
-    λ (n : Node) (k : Key) (id : NodeId) (a : IsKey u n k) (h : id_at u k ≡ Some id). ap (λ ns. slice_get (map plain_node ns) (place_of id)) nodes ∙ finds_node t x n k id (older n k a) (sym (id_is k) ∙ h) in
+same_first : (t : Table) (l m : Label) → plain_label l ≡ plain_label m → first_at t l ≡ first_at t m
+same_first t l m h = ap (first_by t.bits t.firsts l) (same_bits_of l m h) ∙ same_by t l m (bits_of m) h
+
+-- ---- one number more in the map of labels
+more_by_label : (t u : Table) (l own : Label) (id : NodeId) → bits_of l ≡ None → plain_label own ≡ plain_label l → u.bits ≡ t.bits
+    → ((m : Label) → get label_order.ghosts.cmp u.firsts m ≡ cond (is_eq (label_order.ghosts.cmp own m)) (Some id) (get label_order.ghosts.cmp t.firsts m))
+    → (m : Label) (o : Option BitVec) → bits_of m ≡ o → first_by u.bits u.firsts m o ≡ cond (is_eq (label_order.ghosts.cmp l m)) (Some id) (first_by t.bits t.firsts m o)
+more_by_label t u l own id h s same up m (Some c) k =
+    ap (get_by (bits_order.ghosts.cmp c)) same ∙ ap (λ e. cond e (Some id) (get bits_order.ghosts.cmp t.bits c)) (sym (bits_apart l m c h k))
+more_by_label t u l own id h s same up m None k = up m ∙ ap (λ o. cond (is_eq o) (Some id) (get label_order.ghosts.cmp t.firsts m)) (same_cmp own l m s)
+
+pub more_labels : (t u : Table) (l own : Label) (id : NodeId) → bits_of l ≡ None → plain_label own ≡ plain_label l → u.bits ≡ t.bits
+    → ((m : Label) → get label_order.ghosts.cmp u.firsts m ≡ cond (is_eq (label_order.ghosts.cmp own m)) (Some id) (get label_order.ghosts.cmp t.firsts m))
+    → (m : Label) → first_at u m ≡ cond (is_eq (label_order.ghosts.cmp l m)) (Some id) (first_at t m)
+more_labels t u l own id h s same up m = more_by_label t u l own id h s same up m (bits_of m) refl
+
+-- ---- what the table finds
+abbrev passes : {X : Type 0} → (X → Bool) → Option X → Bool
+passes f o = option_map_or f o false
+
+passes_back : {X : Type 0} (f : X → Bool) (o : Option X) → passes f o ≡ true → (x : X) × (o ≡ Some x) × (f x ≡ true)
+passes_back f None h = absurd (cc)
+passes_back f (Some x) h = (x, refl, h)
+
+pub first_within : (t : Table) → IsIndex t → (l : Label) (o : Option NodeId) → o ≡ first_at t l → IfSome o (λ id. place_of id < length t.nodes.items)
+first_within t x l None e = tt
+first_within t x l (Some id) e =
+    let (n, h, k) = passes_back (λ (n : Node). is_eq (label_order.ghosts.cmp n.label l)) (slice_get t.nodes.items (place_of id)) (x.firsts l id (sym e)) in
+    slice_get_within t.nodes.items (place_of id) n h
+
+one_node : (o : Option Node) (l : Label) (parts : List NodeId) → passes (λ n. is_eq (label_order.ghosts.cmp n.label l)) o ≡ true → passes (λ n. bytes_eq (places_of (ids_of n.parts)) (places_of parts)) o ≡ true → option_map plain_node o ≡ Some (node_of l parts)
+one_node None l parts a b = absurd (cc)
+one_node (Some n) l parts a b =
+    let label : plain_label n.label ≡ plain_label l = label_kept n.label l a in
+    let places : places_of (ids_of n.parts) ≡ places_of parts = (bytes_decides (places_of (ids_of n.parts)) (places_of parts)).0 b in
+    λ i. Some (record { label = label i; parts = places i })
+
+stands : (t : Table) (id : NodeId) (l : Label) (parts : List NodeId) → has_label t id l ≡ true → has_parts t id parts ≡ true → node_at t id ≡ Some (node_of l parts)
+stands t id l parts a b = slice_get-map plain_node t.nodes.items (place_of id) ∙ one_node (slice_get t.nodes.items (place_of id)) l parts a b
+
+pub finds_first : (t : Table) → IsIndex t → (l : Label) (f : NodeId) (parts : List NodeId) → first_at t l ≡ Some f → has_parts t f parts ≡ true → node_at t f ≡ Some (node_of l parts)
+finds_first t x l f parts h p = stands t f l parts (x.firsts l f h) p
+
+-- the node that a key finds has the label that finds the node that the key names
+finds_other : (t : Table) → IsIndex t → (l : Label) (k : Key) (id : NodeId) → first_at t l ≡ Some k.first → id_at t k ≡ Some id → node_at t id ≡ Some (node_of l (ids_of k.parts))
+finds_other t x l k id f h =
+    let both = x.others k id h in
+    let (m, a, b) = passes_back (λ (n : Node). has_label t id n.label) (slice_get t.nodes.items (place_of k.first)) both.0 in
+    let level : is_eq (label_order.ghosts.cmp m.label l) ≡ true = sym (ap (passes (λ (n : Node). is_eq (label_order.ghosts.cmp n.label l))) a) ∙ x.firsts l k.first f in
+    stands t id m.label (ids_of k.parts) b both.1 ∙ ap (λ (p : PlainLabel). Some (record { label = p; parts = places_of (ids_of k.parts) })) (label_kept m.label l level)
+
+pub finds_some : (t : Table) → IsIndex t → (l : Label) (k : Key) (parts : List NodeId) (o : Option NodeId) → first_at t l ≡ Some k.first → ids_of k.parts ≡ parts → o ≡ id_at t k → IfSome o (λ id. node_at t id ≡ Some (node_of l parts))
+finds_some t x l k parts None f p e = tt
+finds_some t x l k parts (Some id) f p e = finds_other t x l k id f (sym e) ∙ ap (λ ps. Some (node_of l ps)) p
+
+pub finds_none : (t : Table) → IsIndex t → (l : Label) (k : Key) (parts : List NodeId) (o : Option NodeId) → first_at t l ≡ Some k.first → ids_of k.parts ≡ parts → has_parts t k.first parts ≡ false → o ≡ id_at t k → IfNone o (¬ Contains (map plain_node t.nodes.items) (node_of l parts))
+finds_none t x l k parts (Some id) f p other e = tt
+finds_none t x l k parts None f p other e = subst (λ ps. ¬ Contains (map plain_node t.nodes.items) (node_of l ps)) p (x.missing l k f (ap (has_parts t k.first) p ∙ other) (sym e))
+
+-- ---- whether a node has these parts
+same_places : (xs ys : List NodeId) → pointwise id_equality.ghosts.eq xs ys ≡ bytes_eq (places_of xs) (places_of ys)
+same_places [] [] = refl
+same_places [] (y ∷ ys) = refl
+same_places (x ∷ xs) [] = refl
+same_places (x ∷ xs) (y ∷ ys) = ap (λ b. nat_eq (place_of x) (place_of y) && b) (same_places xs ys)
+
+pub has_these : (t : Table) (id : NodeId) (n : Node) (parts : List NodeId) → slice_get t.nodes.items (place_of id) ≡ Some n → pointwise id_equality.ghosts.eq (ids_of n.parts) parts ≡ has_parts t id parts
+has_these t id n parts h = same_places (ids_of n.parts) parts ∙ sym (ap (passes (λ (n : Node). bytes_eq (places_of (ids_of n.parts)) (places_of parts))) h)
+
+-- ---- the same nodes, found as before
+pub unchanged : (t u : Table) → IsIndex t → u.nodes.items ≡ t.nodes.items → FindsSame t u → IsIndex u
+unchanged t u x e same =
     record {
-      within = λ n k id a h. stands_within u id n (finds n k id a h);
-      found = λ n k id a h. stands_equal u id n (finds n k id a h);
-      missing = λ n k a h c. x.missing n k (older n k a) (sym (id_is k) ∙ h) (has n c);
-      unlabelled = λ n h c. x.unlabelled n (sym (number_is n.label) ∙ h) (has n c);
-      apart = λ l m i a b. x.apart l m i (sym (number_is l) ∙ a) (sym (number_is m) ∙ b);
-      counted = λ l i h. (let c : i < btree_map_len t.labels = x.counted l i (sym (number_is l) ∙ h) in omega arith);
-      numbered = λ k id h. (let c : k.label < btree_map_len t.labels = x.numbered k id (sym (id_is k) ∙ h) in omega arith);
-    }
-
--- one label more, with the count of the labels before it for its number
-pub labelled : (t u : Table) (l : Label) (number : ℕ) → IsIndex t → number_of t l ≡ None → u.nodes.items ≡ t.nodes.items → u.ids ≡ t.ids
-    → Updates label_order.ghosts.cmp t.labels u.labels l (Some number) → number ≡ btree_map_len t.labels → btree_map_len u.labels ≡ btree_map_len t.labels + 1 → IsIndex u
-labelled t u l number x new nodes ids up last more =
-    let id_is : (k : Key) → id_at u k ≡ id_at t k = λ (k : Key). ap (get_by (key_order.ghosts.cmp k)) ids in
-    let has : (n : Node) → Contains (map plain_node u.nodes.items) (plain_node n) → Contains (map plain_node t.nodes.items) (plain_node n) =
-    λ (n : Node) (c : Contains (map plain_node u.nodes.items) (plain_node n)). subst (λ ns. Contains (map plain_node ns) (plain_node n)) nodes c in
-    let at : (m : Label) (i : ℕ) → number_of u m ≡ Some i → ((is_eq (label_order.ghosts.cmp l m) ≡ true) × (number ≡ i)) ⊎ ((is_eq (label_order.ghosts.cmp l m) ≡ false) × (number_of t m ≡ Some i)) =
-    λ (m : Label) (i : ℕ) (h : number_of u m ≡ Some i). look (is_eq (label_order.ghosts.cmp l m)) number i (number_of t m) (sym (up.0 m) ∙ h) in
-    let finds : (n : Node) (k : Key) (id : NodeId) → IsKey u n k → id_at u k ≡ Some id → StandsAt u id n =
-    λ (n : Node) (k : Key) (id : NodeId) (a : IsKey u n k) (h : id_at u k ≡ Some id). elim (at n.label k.label a.label) [
-      | inl e ↦ (let b : k.label < btree_map_len t.labels = x.numbered k id (sym (id_is k) ∙ h) in let here : number ≡ k.label = e.1 in absurd (omega arith))
-      | inr e ↦ ap (λ ns. slice_get (map plain_node ns) (place_of id)) nodes ∙ finds_node t x n k id (record { label = e.1; parts = a.parts }) (sym (id_is k) ∙ h)
-    ] in
-    record {
-      within = λ n k id a h. stands_within u id n (finds n k id a h);
-      found = λ n k id a h. stands_equal u id n (finds n k id a h);
-      missing = λ n k a h c. elim (at n.label k.label a.label) [
-        | inl e ↦ x.unlabelled n (sym (same_number t l n.label (label_kept l n.label e.0)) ∙ new) (has n c)
-        | inr e ↦ x.missing n k (record { label = e.1; parts = a.parts }) (sym (id_is k) ∙ h) (has n c)
-      ];
-      unlabelled = λ n h c. (let e = lack (is_eq (label_order.ghosts.cmp l n.label)) number (number_of t n.label) (sym (up.0 n.label) ∙ h) in x.unlabelled n e.1 (has n c));
-      apart = λ m k i a b. elim (at m i a) [
-        | inl e ↦ elim (at k i b) [
-          | inl f ↦ label_equal m k (sym (label_kept l m e.0) ∙ label_kept l k f.0)
-          | inr f ↦ (let c : i < btree_map_len t.labels = x.counted k i f.1 in let here : number ≡ i = e.1 in absurd (omega arith))
-        ]
-        | inr e ↦ elim (at k i b) [
-          | inl f ↦ (let c : i < btree_map_len t.labels = x.counted m i e.1 in let here : number ≡ i = f.1 in absurd (omega arith))
-          | inr f ↦ x.apart m k i e.1 f.1
-        ]
-      ];
-      counted = λ m i h. elim (at m i h) [
-        | inl e ↦ (let here : number ≡ i = e.1 in omega arith)
-        | inr e ↦ (let c : i < btree_map_len t.labels = x.counted m i e.1 in omega arith)
-      ];
-      numbered = λ k id h. (let b : k.label < btree_map_len t.labels = x.numbered k id (sym (id_is k) ∙ h) in omega arith);
+      firsts = λ l i h. ap (λ ns. passes (λ (n : Node). is_eq (label_order.ghosts.cmp n.label l)) (slice_get ns (place_of i))) e ∙ x.firsts l i (sym (same.0 l) ∙ h);
+      others = λ k i h. (
+          let both = x.others k i (sym (same.1 k) ∙ h) in (
+            ap (λ ns. passes (λ (m : Node). passes (λ (n : Node). is_eq (label_order.ghosts.cmp n.label m.label)) (slice_get ns (place_of i))) (slice_get ns (place_of k.first))) e ∙ both.0,
+            ap (λ ns. passes (λ (n : Node). bytes_eq (places_of (ids_of n.parts)) (places_of (ids_of k.parts))) (slice_get ns (place_of i))) e ∙ both.1,
+          ));
+      unlabelled = λ l parts h c. x.unlabelled l parts (sym (same.0 l) ∙ h) (subst (λ ns. Contains (map plain_node ns) (node_of l parts)) e c);
+      missing = λ l k h p q c. x.missing l k (sym (same.0 l) ∙ h) (sym (ap (λ ns. passes (λ (n : Node). bytes_eq (places_of (ids_of n.parts)) (places_of (ids_of k.parts))) (slice_get ns (place_of k.first))) e) ∙ p) (sym (same.1 k) ∙ q) (subst (λ ns. Contains (map plain_node ns) (node_of l (ids_of k.parts))) e c);
     }
 
 -- ---- one node more
-none_some : {X : Type 0} {x : X} → None ≡ Some x → ⊥
-none_some h = cc
+in_more : (t u : Table) (node : Node) → u.nodes.items ≡ t.nodes.items ++ node ∷ [] → (n : PlainNode) → Contains (map plain_node u.nodes.items) n → (Contains (map plain_node t.nodes.items) n) ⊎ (plain_node node ≡ n)
+in_more t u node e n c =
+    let ns = map plain_node t.nodes.items in
+    let (j, a) = place_in (ns ++ plain_node node ∷ []) n (subst (λ ms. Contains ms n) (ap (map plain_node) e ∙ map-append plain_node t.nodes.items (node ∷ [])) c) in
+    elim (get_split ns (plain_node node) j n a) [ inl b ↦ inl (contains_at ns j n b) | inr b ↦ inr b.1 ]
 
-in_more : (ns : List PlainNode) (n m : PlainNode) → Contains (ns ++ n ∷ []) m → (Contains ns m) ⊎ (n ≡ m)
-in_more ns n m c =
-    let (j, a) = place_in (ns ++ n ∷ []) m c in
-    elim (get_split ns n j m a) [ inl b ↦ inl (contains_at ns j m b) | inr b ↦ inr b.1 ]
+-- what was true of a node still is
+stays : (t u : Table) (node : Node) → u.nodes.items ≡ t.nodes.items ++ node ∷ [] → (f : Node → Bool) (i : ℕ) → passes f (slice_get t.nodes.items i) ≡ true → passes f (slice_get u.nodes.items i) ≡ true
+stays t u node e f i h =
+    let (n, a, b) = passes_back f (slice_get t.nodes.items i) h in
+    ap (passes f) (ap (λ ns. slice_get ns i) e ∙ get_stays t.nodes.items (node ∷ []) i n a) ∙ b
 
--- nodes of one key say the same
-one_key : (t : Table) (n o : Node) (k : Key) → IsIndex t → IsKey t n k → (l : Key) → IsKey t o l → k.label ≡ l.label → places_of (ids_of k.parts) ≡ places_of (ids_of l.parts) → plain_node n ≡ plain_node o
-one_key t n o k x a l b e p =
-    let label : plain_label n.label ≡ plain_label o.label = label_kept n.label o.label (x.apart n.label o.label l.label (a.label ∙ ap Some e) b.label) in
-    let parts : places_of (ids_of n.parts) ≡ places_of (ids_of o.parts) = sym (ap places_of a.parts) ∙ (p ∙ ap places_of b.parts) in
-    λ i. record { label = label i; parts = parts i }
+last_is : (t u : Table) (node : Node) → u.nodes.items ≡ t.nodes.items ++ node ∷ [] → (id : NodeId) → place_of id ≡ length t.nodes.items → (f : Node → Bool) → passes f (slice_get u.nodes.items (place_of id)) ≡ f node
+last_is t u node e id h f = ap (passes f) (ap (λ ns. slice_get ns (place_of id)) e ∙ (ap (slice_get (t.nodes.items ++ node ∷ [])) h ∙ get_last t.nodes.items node))
 
--- and equal nodes have equal keys
-equal_keys : (t : Table) (n o : Node) (k l : Key) → IsKey t n k → IsKey t o l → plain_node n ≡ plain_node o → is_eq (key_order.ghosts.cmp k l) ≡ true
-equal_keys t n o k l a b h =
-    key_equal k l (some_same k.label l.label (sym a.label ∙ (same_number t n.label o.label (ap (λ p. p.label) h) ∙ b.label))) (ap places_of a.parts ∙ (ap (λ p. p.parts) h ∙ sym (ap places_of b.parts)))
+others_stay : (t u : Table) (node : Node) → u.nodes.items ≡ t.nodes.items ++ node ∷ [] → (k : Key) (id : NodeId) → IsTrue (has_label_of t id k.first) × IsTrue (has_parts t id (ids_of k.parts)) → IsTrue (has_label_of u id k.first) × IsTrue (has_parts u id (ids_of k.parts))
+others_stay t u node e k id h =
+    let (m, a, b) = passes_back (λ (n : Node). has_label t id n.label) (slice_get t.nodes.items (place_of k.first)) h.0 in
+    let there : slice_get u.nodes.items (place_of k.first) ≡ Some m = ap (λ ns. slice_get ns (place_of k.first)) e ∙ get_stays t.nodes.items (node ∷ []) (place_of k.first) m a in (
+      ap (passes (λ (n : Node). has_label u id n.label)) there ∙ stays t u node e (λ n. is_eq (label_order.ghosts.cmp n.label m.label)) (place_of id) b,
+      stays t u node e (λ n. bytes_eq (places_of (ids_of n.parts)) (places_of (ids_of k.parts))) (place_of id) h.1,
+    )
 
-pub entered : (t u : Table) (key : Key) (node : Node) (id : NodeId) → IsIndex t → IsKey t node key → u.labels ≡ t.labels → u.nodes.items ≡ t.nodes.items ++ node ∷ []
-    → Updates key_order.ghosts.cmp t.ids u.ids key (Some id) → place_of id ≡ length t.nodes.items → IsIndex u
-entered t u key node id x own labels nodes up last =
-    let number_is : (l : Label) → number_of u l ≡ number_of t l = λ (l : Label). ap (get_by (label_order.ghosts.cmp l)) labels in
-    let plain : map plain_node u.nodes.items ≡ map plain_node t.nodes.items ++ plain_node node ∷ [] = ap (map plain_node) nodes ∙ map-append plain_node t.nodes.items (node ∷ []) in
-    let older : (n : Node) (k : Key) → IsKey u n k → IsKey t n k = λ (n : Node) (k : Key) (a : IsKey u n k). record { label = sym (number_is n.label) ∙ a.label; parts = a.parts } in
-    let split : (n : Node) → Contains (map plain_node u.nodes.items) (plain_node n) → (Contains (map plain_node t.nodes.items) (plain_node n)) ⊎ (plain_node node ≡ plain_node n) =
-    λ (n : Node) (c : Contains (map plain_node u.nodes.items) (plain_node n)). in_more (map plain_node t.nodes.items) (plain_node node) (plain_node n) (subst (λ ns. Contains ns (plain_node n)) plain c) in
-    let at : (k : Key) (i : NodeId) → id_at u k ≡ Some i → ((is_eq (key_order.ghosts.cmp key k) ≡ true) × (id ≡ i)) ⊎ ((is_eq (key_order.ghosts.cmp key k) ≡ false) × (id_at t k ≡ Some i)) =
-    λ (k : Key) (i : NodeId) (h : id_at u k ≡ Some i). look (is_eq (key_order.ghosts.cmp key k)) id i (id_at t k) (sym (up.0 k) ∙ h) in
-    let finds : (n : Node) (k : Key) (i : NodeId) → IsKey u n k → id_at u k ≡ Some i → StandsAt u i n =
-    λ (n : Node) (k : Key) (i : NodeId) (a : IsKey u n k) (h : id_at u k ≡ Some i). elim (at k i h) [
-      | inl e ↦ (let s = key_same key k e.0 in
-          let here : place_of i ≡ length (map plain_node t.nodes.items) = sym (ap place_of e.1) ∙ (last ∙ sym (length-map t.nodes.items plain_node)) in
-          ap (λ ns. slice_get ns (place_of i)) plain ∙ (ap (slice_get (map plain_node t.nodes.items ++ plain_node node ∷ [])) here ∙ (get_last (map plain_node t.nodes.items) (plain_node node) ∙ ap Some (one_key t node n key x own k (older n k a) s.0 s.1))))
-      | inr e ↦ ap (λ ns. slice_get ns (place_of i)) plain ∙ get_stays (map plain_node t.nodes.items) (plain_node node ∷ []) (place_of i) (plain_node n) (finds_node t x n k i (older n k a) e.1)
-    ] in
+-- a node that has other parts had other parts
+differed : (t u : Table) (node : Node) → u.nodes.items ≡ t.nodes.items ++ node ∷ [] → (id : NodeId) (parts : List NodeId) → has_parts u id parts ≡ false → has_parts t id parts ≡ false
+differed t u node e id parts h = not_true (has_parts t id parts) (λ b. false≢true (sym h ∙ stays t u node e (λ n. bytes_eq (places_of (ids_of n.parts)) (places_of parts)) (place_of id) b))
+
+last_has_parts : (t u : Table) (node : Node) → u.nodes.items ≡ t.nodes.items ++ node ∷ [] → (id : NodeId) → place_of id ≡ length t.nodes.items → (parts : List NodeId) → places_of (ids_of node.parts) ≡ places_of parts → has_parts u id parts ≡ true
+last_has_parts t u node e id h parts p = last_is t u node e id h (λ n. bytes_eq (places_of (ids_of n.parts)) (places_of parts)) ∙ (bytes_decides (places_of (ids_of node.parts)) (places_of parts)).1 p
+
+entered_first : (t u : Table) (node : Node) (id : NodeId) → IsIndex t → first_at t node.label ≡ None → u.nodes.items ≡ t.nodes.items ++ node ∷ [] → FindsByLabel t u node id → place_of id ≡ length t.nodes.items → IsIndex u
+entered_first t u node id x new e more last =
     record {
-      within = λ n k i a h. stands_within u i n (finds n k i a h);
-      found = λ n k i a h. stands_equal u i n (finds n k i a h);
-      missing = λ n k a h c. (let e = lack (is_eq (key_order.ghosts.cmp key k)) id (id_at t k) (sym (up.0 k) ∙ h) in
-          elim (split n c) [
-            | inl b ↦ x.missing n k (older n k a) e.1 b
-            | inr b ↦ false≢true (sym e.0 ∙ equal_keys t node n key k own (older n k a) b)
-          ]);
-      unlabelled = λ n h c. elim (split n c) [
-        | inl b ↦ x.unlabelled n (sym (number_is n.label) ∙ h) b
-        | inr b ↦ (let f : number_of t node.label ≡ None = same_number t node.label n.label (ap (λ p. p.label) b) ∙ (sym (number_is n.label) ∙ h) in let g : number_of t node.label ≡ Some key.label = own.label in absurd (none_some (sym f ∙ g)))
+      firsts = λ l i h. elim (look (is_eq (label_order.ghosts.cmp node.label l)) id i (first_at t l) (sym (more.0 l) ∙ h)) [
+        | inl a ↦ ap (λ i. has_label u i l) (sym a.1) ∙ (last_is t u node e id last (λ n. is_eq (label_order.ghosts.cmp n.label l)) ∙ a.0)
+        | inr a ↦ stays t u node e (λ n. is_eq (label_order.ghosts.cmp n.label l)) (place_of i) (x.firsts l i a.1)
       ];
-      apart = λ l m i a b. x.apart l m i (sym (number_is l) ∙ a) (sym (number_is m) ∙ b);
-      counted = λ l i h. (let c : i < btree_map_len t.labels = x.counted l i (sym (number_is l) ∙ h) in subst (λ (m : BTreeMap Label ℕ). i < btree_map_len m) (sym labels) c);
-      numbered = λ k i h. elim (at k i h) [
-        | inl e ↦ (let s = key_same key k e.0 in let c : key.label < btree_map_len t.labels = x.counted node.label key.label own.label in subst (λ (m : BTreeMap Label ℕ). k.label < btree_map_len m) (sym labels) (subst (λ (n : ℕ). n < btree_map_len t.labels) s.0 c))
-        | inr e ↦ subst (λ (m : BTreeMap Label ℕ). k.label < btree_map_len m) (sym labels) (x.numbered k i e.1)
+      others = λ k i h. others_stay t u node e k i (x.others k i (sym (more.1 k) ∙ h));
+      unlabelled = λ l parts h c. (
+          let a = lack (is_eq (label_order.ghosts.cmp node.label l)) id (first_at t l) (sym (more.0 l) ∙ h) in
+          elim (in_more t u node e (node_of l parts) c) [
+            | inl b ↦ x.unlabelled l parts a.1 b
+            | inr b ↦ false≢true (sym a.0 ∙ label_equal node.label l (ap (λ n. n.label) b))
+          ]);
+      missing = λ l k h p q c. elim (look (is_eq (label_order.ghosts.cmp node.label l)) id k.first (first_at t l) (sym (more.0 l) ∙ h)) [
+        | inl a ↦ elim (in_more t u node e (node_of l (ids_of k.parts)) c) [
+          | inl b ↦ x.unlabelled l (ids_of k.parts) (sym (same_first t node.label l (label_kept node.label l a.0)) ∙ new) b
+          | inr b ↦ false≢true (sym p ∙ (ap (λ i. has_parts u i (ids_of k.parts)) (sym a.1) ∙ last_has_parts t u node e id last (ids_of k.parts) (ap (λ n. n.parts) b)))
+        ]
+        | inr a ↦ elim (in_more t u node e (node_of l (ids_of k.parts)) c) [
+          | inl b ↦ x.missing l k a.1 (differed t u node e k.first (ids_of k.parts) p) (sym (more.1 k) ∙ q) b
+          | inr b ↦ false≢true (sym a.0 ∙ label_equal node.label l (ap (λ n. n.label) b))
+        ]
       ];
     }
+
+entered_other : (t u : Table) (f : NodeId) (node : Node) (id : NodeId) → IsIndex t → first_at t node.label ≡ Some f → u.nodes.items ≡ t.nodes.items ++ node ∷ [] → FindsByKey t u f node id → place_of id ≡ length t.nodes.items → IsIndex u
+entered_other t u f node id x first e more last =
+    let own : Key = more.1 in
+    let named : own.first ≡ f = more.2 in
+    let held : ids_of own.parts ≡ ids_of node.parts = more.3 in
+    record {
+      firsts = λ l i h. stays t u node e (λ n. is_eq (label_order.ghosts.cmp n.label l)) (place_of i) (x.firsts l i (sym (more.0 l) ∙ h));
+      others = λ k i h. elim (look (is_eq (key_order.ghosts.cmp own k)) id i (id_at t k) (sym (more.4 k) ∙ h)) [
+        | inl a ↦ (
+            let s = key_same own k a.0 in
+            let there : place_of k.first ≡ place_of f = sym s.0 ∙ ap place_of named in
+            let (m, b, d) = passes_back (λ (n : Node). is_eq (label_order.ghosts.cmp n.label node.label)) (slice_get t.nodes.items (place_of f)) (x.firsts node.label f first) in
+            let stands : slice_get u.nodes.items (place_of k.first) ≡ Some m = ap (slice_get u.nodes.items) there ∙ (ap (λ ns. slice_get ns (place_of f)) e ∙ get_stays t.nodes.items (node ∷ []) (place_of f) m b) in
+            let labels : has_label u id m.label ≡ true = last_is t u node e id last (λ n. is_eq (label_order.ghosts.cmp n.label m.label)) ∙ label_equal node.label m.label (sym (label_kept m.label node.label d)) in (
+              ap (passes (λ (n : Node). has_label u i n.label)) stands ∙ (ap (λ i. has_label u i m.label) (sym a.1) ∙ labels),
+              ap (λ i. has_parts u i (ids_of k.parts)) (sym a.1) ∙ last_has_parts t u node e id last (ids_of k.parts) (sym (ap places_of held) ∙ s.1),
+            ))
+        | inr a ↦ others_stay t u node e k i (x.others k i a.1)
+      ];
+      unlabelled = λ l parts h c. (
+          let none : first_at t l ≡ None = sym (more.0 l) ∙ h in
+          elim (in_more t u node e (node_of l parts) c) [
+            | inl b ↦ x.unlabelled l parts none b
+            | inr b ↦ none_some (same_first t node.label l (ap (λ n. n.label) b) ∙ none) first
+          ]);
+      missing = λ l k h p q c. (
+          let a = lack (is_eq (key_order.ghosts.cmp own k)) id (id_at t k) (sym (more.4 k) ∙ q) in
+          let found : first_at t l ≡ Some k.first = sym (more.0 l) ∙ h in
+          elim (in_more t u node e (node_of l (ids_of k.parts)) c) [
+            | inl b ↦ x.missing l k found (differed t u node e k.first (ids_of k.parts) p) a.1 b
+            | inr b ↦ (
+                let same : f ≡ k.first = some_same f k.first (sym first ∙ (same_first t node.label l (ap (λ n. n.label) b) ∙ found)) in
+                false≢true (sym a.0 ∙ key_equal own k (ap place_of (named ∙ same)) (ap places_of held ∙ ap (λ n. n.parts) b)))
+          ]);
+    }
+
+pub entered : (t u : Table) (first : Option NodeId) (node : Node) (id : NodeId) → IsIndex t → first ≡ first_at t node.label → u.nodes.items ≡ t.nodes.items ++ node ∷ []
+    → (first ≡ None → FindsByLabel t u node id) → ((f : NodeId) → first ≡ Some f → FindsByKey t u f node id) → place_of id ≡ length t.nodes.items → IsIndex u
+entered t u None node id x first e label key last = entered_first t u node id x (sym first) e (label refl) last
+entered t u (Some f) node id x first e label key last = entered_other t u f node id x (sym first) e (key f refl) last

@@ -232,15 +232,17 @@ impl Interner {
         ensures meant { IfOk result (IsMeant self.new) }
         ensures kept { KeepsMeanings self.old self.new }
     {
+        let first = self.table.first_of(&label);
+        if let Some(id) = self.find_node(first, parts)? {
+            return Ok(id);
+        }
         let node = Node {
             label,
             parts: IdList::new(self.alloc, parts)?,
         };
-        let key = self.key(&node)?;
-        match self.find_key(&key) {
-            Some(id) => Ok(id),
-            None if self.fits(&node) => self.enter_new(key, node),
-            None => Err(TermError::Memory),
+        if !self.fits(&node) {
+            return Err(TermError::Memory);
         }
+        self.enter_new(first, node)
     }
 }

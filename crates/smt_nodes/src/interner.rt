@@ -9,20 +9,21 @@ ghost use Rattle.law_terms.specs.Plain.{ExtensionKind, PlainOp, PlainType};
 ghost use Rattle.law_terms.specs.Graphs.{IsGraph};
 ghost use Rattle.law_terms.specs.Meanings.{all_found, meaning_at, meanings, stands_for};
 ghost use Rattle.law_terms.specs.Parts.{label_in, parts_in};
-ghost use Rattle.smt_nodes.specs.Index.{IsIndex, IsKey};
+ghost use Rattle.smt_nodes.specs.Index.{first_at, node_of, IsIndex};
 ghost use Rattle.smt_nodes.specs.Kinds.{are_called_at, are_typed_at, ascend_at, is_bool_at, is_function_at, is_option_at, is_option_of_at, is_set_at, is_term_at, is_type_at, is_type_of_at, is_typed_at, terms_at, IsRecordAt};
 ghost use Rattle.smt_nodes.specs.View.{place_of, places_of, plain_label, plain_node};
 ghost use Rattle.smt_term.specs.View.{plain_literal, plain_op};
 
 use crate::attributes::are_in_order;
-use crate::{Key, Label, Node, NodeId, Table};
+use crate::table::Table;
+use crate::{Label, Node, NodeId};
 use smt_term::{Attr, Op, TermError, TermPrim};
 use std::alloc::Global;
 
 /// A list of nodes that each fit the nodes before it, and that each stand for something else.
 pub struct Interner {
     pub(crate) alloc: Global,
-    table: Table,
+    pub(crate) table: Table,
     // The number of the type of truth values, once it is known. Most terms have this type.
     pub(crate) bool_type: Option<NodeId>,
     ghost graph: { IsGraph (map plain_node table.nodes.items) },
@@ -87,30 +88,30 @@ impl Interner {
         ensures kept { KeepsMeanings self.old self.new }
         ensures grown { OnOk result (GrowsFor self.old self.new (plain_node node)) }
     {
-        let key = self.key(&node)?;
-        match self.find_key(&key) {
+        let first = self.table.first_of(&node.label);
+        match self.find_node(first, node.parts.items())? {
             Some(id) => Ok(id),
-            None => self.enter_new(key, node),
+            None => self.enter_new(first, node),
         }
     }
 
-    // The key by which the table finds a node.
-    pub(crate) fn key(&mut self, node: &Node) -> Result<Key, TermError>
-        ensures key { IfOk result (IsKey self.new.table node.now) }
-        ensures nodes { nodes_of self.new ≡ nodes_of self.old }
+    // The number of the node that has a label and these parts, by the first node of the label.
+    pub(crate) fn find_node(
+        &self,
+        first: Option<NodeId>,
+        parts: &[NodeId],
+    ) -> Result<Option<NodeId>, TermError>
+        requires { IfSome first (λ id. place_of id < length self.now.table.nodes.items) }
+        ensures found { (label : Label) → first ≡ first_at self.now.table label → IfOk result (λ found. IfSome found (λ id. slice_get (nodes_of self.now) (place_of id) ≡ Some (node_of label parts.now))) }
+        ensures missing { (label : Label) → first ≡ first_at self.now.table label → IfOk result (λ found. IfNone found (¬ Contains (nodes_of self.now) (node_of label parts.now))) }
     {
-        self.table.key(node)
-    }
-
-    // The number of the nodes that have the key. Takes no memory.
-    pub(crate) fn find_key(&self, key: &Key) -> Option<NodeId>
-        ensures found { (node : Node) → IsKey self.now.table node key.now → IfSome result (λ id. slice_get (nodes_of self.now) (place_of id) ≡ Some (plain_node node)) }
-        ensures missing { (node : Node) → IsKey self.now.table node key.now → IfNone result (¬ Contains (nodes_of self.now) (plain_node node)) }
-    {
-        match key.parts() {
+        let Some(first) = first else {
+            return Ok(None);
+        };
+        match parts {
             // A node stands behind its parts, so none has the newest one for a part.
-            [.., last] if self.is_newest(*last) => None,
-            _ => self.table.find(key),
+            [.., last] if self.is_newest(*last) => Ok(None),
+            _ => self.table.find(self.alloc, first, parts),
         }
     }
 
@@ -121,16 +122,20 @@ impl Interner {
         id.place() < self.len() && self.len() - id.place() == 1
     }
 
-    // Enters a node that fits and that the interner does not have.
-    pub(crate) fn enter_new(&mut self, key: Key, node: Node) -> Result<NodeId, TermError>
+    // Enters a node that fits and that the interner does not have, by the first node of its label.
+    pub(crate) fn enter_new(
+        &mut self,
+        first: Option<NodeId>,
+        node: Node,
+    ) -> Result<NodeId, TermError>
         requires fits { IsTrue (fits (nodes_of self.old) (plain_node node)) }
-        requires key { IsKey self.old.table node key }
+        requires first { first ≡ first_at self.old.table node.label }
         requires missing { ¬ Contains (nodes_of self.old) (plain_node node) }
         ensures meaning { IfOk result (λ id. meaning_in self.new id ≡ meaning_for self.old (plain_node node)) }
         ensures kept { KeepsMeanings self.old self.new }
         ensures grown { OnOk result (GrowsFor self.old self.new (plain_node node)) }
     {
-        self.table.enter(key, node)
+        self.table.enter(first, node)
     }
 
     /// Whether the node fits: its parts stand for things of the number and kinds that its label wants, and the first part

@@ -1,7 +1,8 @@
 //! Terms, their types and their functions as numbered nodes: one number for each.
 //!
-//! A node says by its label what it is, and by numbers of earlier nodes what its parts are. So a node is found by a key of
-//! numbers, the label's and those of its parts, and terms that share their parts share their nodes.
+//! A node says by its label what it is, and by numbers of earlier nodes what its parts are. So a node is found by its label, or
+//! else by numbers, that of the first node of its label and those of its parts, and terms that share their parts share their
+//! nodes.
 //!
 //! What a node stands for is `law_terms`'s to say (`Nodes`, `Meanings` and `Fits`), and an interner keeps its nodes by it. Read
 //! `specs/View.antt` first, which gives the plain form of nodes, then `Interned`, which says what the nodes of an interner
@@ -26,4 +27,3 @@ pub use id::{IdList, NodeId};
 pub use interner::Interner;
 pub use node::{Label, Node};
 pub use subject::Subject;
-pub use table::{Key, Table};

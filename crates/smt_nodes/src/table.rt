@@ -1,36 +1,33 @@
 // Nodes in their order, and a table that finds them.
-ghost use Rattle.std.specs.Prelude.{◌≡◌, ◌<◌, ◌^◌, ◌++◌, ◌∷◌, [], IfOk, OnErr, OnOk, Some, length};
-ghost use Rattle.smt_nodes.specs.Index.{id_at, number_of, IsIndex, IsKey};
-ghost use Rattle.smt_nodes.specs.View.{ids_of, place_of};
+ghost use Rattle.std.specs.Prelude.{◌≡◌, ◌<◌, ◌^◌, ◌++◌, ◌∷◌, [], Contains, IfNone, IfOk, IfSome, None, OnErr, OnOk, Some, length, map};
+ghost use Rattle.smt_nodes.specs.Index.{bits_of, first_at, has_parts, node_at, node_of, FindsByKey, FindsByLabel, FindsSame, IsIndex};
+ghost use Rattle.smt_nodes.specs.View.{place_of, plain_node};
 
 use crate::id::{IdList, NodeId};
 use crate::node::{Label, Node};
-use smt_term::TermError;
+use smt_bits::BitVec;
+use smt_term::{TermError, TermPrim};
 use std::alloc::Global;
 use std::collections::BTreeMap;
 
-/// A node, as the table finds it: by the number of its label and by its parts. So to compare two keys is to compare numbers,
-/// and most keys have those numbers in them.
+// A node that is not the first one of its label, as the table finds it: by the number of the first one and by its parts. So to
+// compare two keys is to compare numbers, and most keys have those numbers in them.
 #[derive(PartialEq, Eq, PartialOrd, Ord, Drop)]
-pub struct Key {
-    label: usize,
+struct Key {
+    first: NodeId,
     parts: IdList,
 }
 
-impl Key {
-    /// The parts of the node.
-    pub fn parts(&self) -> &[NodeId]
-        ensures { result.now ≡ ids_of self.now.parts }
-    {
-        self.parts.items()
-    }
-}
-
-/// Nodes in the order in which they were entered. Each label has a number, and each key of a node has the node's place.
-pub struct Table {
+/// Nodes in the order in which they were entered. The node that was entered first of those with a label is found by the label,
+/// and the others with the label by the number of the first one and by their parts. Most labels of literals, of variables, of
+/// functions and of types have one node alone, which has no key.
+pub(crate) struct Table {
     /// The nodes, in the order in which they were entered.
-    pub nodes: Vec<Node>,
-    labels: BTreeMap<Label, usize>,
+    pub(crate) nodes: Vec<Node>,
+    // The first nodes of labels. A job has many literals of bits, so these have a map of their own, which holds no labels.
+    firsts: BTreeMap<Label, NodeId>,
+    bits: BTreeMap<BitVec, NodeId>,
+    // The other nodes.
     ids: BTreeMap<Key, NodeId>,
 }
 
@@ -39,69 +36,92 @@ impl Drop for Table {
     fn drop(self) {
         let Table {
             nodes: _,
-            labels: _,
+            firsts: _,
+            bits: _,
             ids: _,
         } = self;
     }
 }
 
+// The bits of which the label is a literal, None where it is no literal of bits.
+fn bits_of(label: &Label) -> Option<BitVec>
+    ensures { result ≡ bits_of label.now }
+{
+    match label {
+        Label::Prim(literal) => match literal {
+            TermPrim::Bitvec(bits) => Some(*bits),
+            _ => None,
+        },
+        _ => None,
+    }
+}
+
 impl Table {
     /// A table without nodes. Takes no memory.
-    pub fn new(alloc: Global) -> Table
+    pub(crate) fn new(alloc: Global) -> Table
         ensures nodes { result.nodes.items ≡ [] }
         ensures index { IsIndex result }
     {
         Table {
             nodes: Vec::new(alloc),
-            labels: BTreeMap::new(alloc),
+            firsts: BTreeMap::new(alloc),
+            bits: BTreeMap::new(alloc),
             ids: BTreeMap::new(alloc),
         }
     }
 
-    /// The key of a node. Where the node's label has no number, it gets one.
-    ///
-    /// # Errors
-    /// `Memory`, where there is none for the label or for the key.
-    pub fn key(&mut self, node: &Node) -> Result<Key, TermError>
-        requires { IsIndex self.old }
-        ensures key { IfOk result (IsKey self.new node.now) }
-        ensures index { IsIndex self.new }
-        ensures nodes { self.new.nodes.items ≡ self.old.nodes.items }
+    /// The number of the node that was entered first of those with the label, None where no node has it. Takes no memory.
+    pub(crate) fn first_of(&self, label: &Label) -> Option<NodeId>
+        requires { IsIndex self.now }
+        ensures first { result ≡ first_at self.now label.now }
+        ensures within { IfSome result (λ id. place_of id < length self.now.nodes.items) }
     {
-        let label = self.number(&node.label)?;
-        let parts = node.parts.share()?;
-        Ok(Key { label, parts })
-    }
-
-    // The number of a label. A new label gets the count of those before it.
-    fn number(&mut self, label: &Label) -> Result<usize, TermError>
-        requires { IsIndex self.old }
-        ensures number { IfOk result (λ number. number_of self.new label.now ≡ Some number) }
-        ensures index { IsIndex self.new }
-        ensures nodes { self.new.nodes.items ≡ self.old.nodes.items }
-    {
-        if let Some(number) = self.labels.get(label) {
-            return Ok(*number);
+        match bits_of(label) {
+            Some(bits) => self.bits.get(&bits).copied(),
+            None => self.firsts.get(label).copied(),
         }
-        let number = self.labels.len();
-        self.labels.insert(label.share()?, number)?;
-        Ok(number)
     }
 
-    /// The number that the table has at a key. Takes no memory.
-    pub fn find(&self, key: &Key) -> Option<NodeId>
-        ensures { result ≡ id_at self.now key.now }
-    {
-        self.ids.get(key).copied()
-    }
-
-    /// Enters a node by its key, and leaves the nodes as they were where there is no memory.
+    /// The number of a node that has these parts and the label of a first node, None where there is none.
     ///
     /// # Errors
-    /// `Memory`, where there is none for the node or for the key, or where no number is left.
-    pub fn enter(&mut self, key: Key, node: Node) -> Result<NodeId, TermError>
+    /// `Memory`, where there is none for the key.
+    pub(crate) fn find(
+        &self,
+        alloc: Global,
+        first: NodeId,
+        parts: &[NodeId],
+    ) -> Result<Option<NodeId>, TermError>
+        requires index { IsIndex self.now }
+        requires within { place_of first < length self.now.nodes.items }
+        ensures found { (label : Label) → first_at self.now label ≡ Some first → IfOk result (λ found. IfSome found (λ id. node_at self.now id ≡ Some (node_of label parts.now))) }
+        ensures missing { (label : Label) → first_at self.now label ≡ Some first → IfOk result (λ found. IfNone found (¬ Contains (map plain_node self.now.nodes.items) (node_of label parts.now))) }
+    {
+        if self.has_parts(first, parts) {
+            return Ok(Some(first));
+        }
+        let key = Key {
+            first,
+            parts: IdList::new(alloc, parts)?,
+        };
+        Ok(self.ids.get(&key).copied())
+    }
+
+    // Whether these are the parts of the number's node.
+    fn has_parts(&self, id: NodeId, parts: &[NodeId]) -> bool
+        requires { place_of id < length self.now.nodes.items }
+        ensures { result ≡ has_parts self.now id parts.now }
+    {
+        self.nodes[id.place()].parts.items() == parts
+    }
+
+    /// Enters a node by the first node of its label, and leaves the nodes as they were where there is no memory.
+    ///
+    /// # Errors
+    /// `Memory`, where there is none for the node or for what finds it, or where no number is left.
+    pub(crate) fn enter(&mut self, first: Option<NodeId>, node: Node) -> Result<NodeId, TermError>
         requires index { IsIndex self.old }
-        requires key { IsKey self.old node key }
+        requires first { first ≡ first_at self.old node.label }
         ensures place { IfOk result (λ id. place_of id ≡ length self.old.nodes.items) }
         ensures few { OnOk result (length self.old.nodes.items < 2 ^ 32) }
         ensures nodes { OnOk result (self.new.nodes.items ≡ self.old.nodes.items ++ node ∷ []) }
@@ -113,8 +133,32 @@ impl Table {
         };
         let id = NodeId { place };
         self.nodes.reserve(1)?;
-        self.ids.insert(key, id)?;
+        self.enter_id(first, &node, id)?;
         self.nodes.push(node)?;
         Ok(id)
+    }
+
+    // Lets the table find the number for the node: as the first one of its label where there is none, and else by its key.
+    fn enter_id(&mut self, first: Option<NodeId>, node: &Node, id: NodeId) -> Result<(), TermError>
+        ensures nodes { self.new.nodes ≡ self.old.nodes }
+        ensures label { first ≡ None → OnOk result (FindsByLabel self.old self.new node.now id) }
+        ensures key { (own : NodeId) → first ≡ Some own → OnOk result (FindsByKey self.old self.new own node.now id) }
+        ensures same { OnErr result (FindsSame self.old self.new) }
+    {
+        match first {
+            Some(first) => {
+                let parts = node.parts.share()?;
+                self.ids.insert(Key { first, parts }, id)?;
+            }
+            None => match bits_of(&node.label) {
+                Some(bits) => {
+                    self.bits.insert(bits, id)?;
+                }
+                None => {
+                    self.firsts.insert(node.label.share()?, id)?;
+                }
+            },
+        }
+        Ok(())
     }
 }
