@@ -19,8 +19,10 @@ ghost use Rattle.smt_spelling.specs.TextFaults.{text_fault, Finds};
 use crate::datatype::{Datatype, push_commas};
 use crate::entry::Entry;
 use crate::error::TextError;
+use crate::pieces::concat;
 use crate::record::attribute_place;
 use crate::spell::{application_text, string_literal};
+use itoa::Buffer;
 use smt_term::{EntityType, EntityUID, Text, TextSet};
 use std::alloc::{AllocError, Global};
 
@@ -59,7 +61,8 @@ pub fn entity_datatype(
 fn entity_constructors(alloc: Global, name: &str) -> Result<Vec<Text>, AllocError>
     ensures { IfOk result (λ made. texts made.items ≡ map spelled_constructor (entity_constructors None name.now)) }
 {
-    let constructor = Text::from_string(format!(in alloc; "({name} ({name}_eid String))")?)?;
+    let text = concat(alloc, &["(", name, " (", name, "_eid String))"])?;
+    let constructor = Text::from_string(text)?;
     let mut constructors = Vec::with_capacity(alloc, 1)?;
     constructors.push(constructor)?;
     Ok(constructors)
@@ -96,7 +99,8 @@ fn member_constructors(
 fn member_constructor(alloc: Global, name: &str, place: usize) -> Result<Text, AllocError>
     ensures { IfOk result (λ constructor. rc_str_bytes constructor ≡ spelled_constructor (Bare (member_name name.now place))) }
 {
-    Text::from_string(format!(in alloc; "({name}_m{place})")?)
+    let mut digits = Buffer::new();
+    Text::from_string(concat(alloc, &["(", name, "_m", digits.format(place), ")"])?)
 }
 
 /// How an entity is entered, by the members of its type, where this is an enum type, and by the sort: a member by the name
@@ -136,7 +140,8 @@ fn entity_body(alloc: Global, entity: &EntityUID, sort: &str) -> Result<String, 
 fn member_name(alloc: Global, sort: &str, place: usize) -> Result<Text, AllocError>
     ensures { IfOk result (λ name. rc_str_bytes name ≡ member_name sort.now place) }
 {
-    Text::from_string(format!(in alloc; "{sort}_m{place}")?)
+    let mut digits = Buffer::new();
+    Text::from_string(concat(alloc, &[sort, "_m", digits.format(place)])?)
 }
 
 /// The place of a text in a set, None where it is not there.

@@ -23,6 +23,7 @@ mod names;
 mod node_entry;
 mod node_names;
 mod pattern;
+mod pieces;
 mod record;
 mod rendering;
 mod selection;

@@ -14,7 +14,9 @@ ghost use Rattle.smt_spelling.specs.Entries.{datatype_bytes};
 ghost use Rattle.smt_spelling.specs.Spelled.{AreSpelled};
 
 use crate::datatype::{Datatype, push_commas};
+use crate::pieces::concat;
 use crate::spell::application_text;
+use itoa::Buffer;
 use smt_term::{Attr, Text};
 use std::alloc::{AllocError, Global};
 
@@ -74,14 +76,17 @@ fn selector_texts(alloc: Global, sorts: &[Text], name: &str) -> Result<Vec<Text>
 fn selector_text(alloc: Global, name: &str, place: usize, sort: &str) -> Result<Text, AllocError>
     ensures { IfOk result (λ selector. rc_str_bytes selector ≡ sorted_name (attribute_name name.now place, sort.now)) }
 {
-    Text::from_string(format!(in alloc; "({name}_a{place} {sort})")?)
+    let mut digits = Buffer::new();
+    let place = digits.format(place);
+    Text::from_string(concat(alloc, &["(", name, "_a", place, " ", sort, ")"])?)
 }
 
 /// `R0_ai`, the name of the selector of the attribute at a place.
 pub(crate) fn attribute_name(alloc: Global, sort: &str, place: usize) -> Result<Text, AllocError>
     ensures { IfOk result (λ name. rc_str_bytes name ≡ attribute_name sort.now place) }
 {
-    Text::from_string(format!(in alloc; "{sort}_a{place}")?)
+    let mut digits = Buffer::new();
+    Text::from_string(concat(alloc, &[sort, "_a", digits.format(place)])?)
 }
 
 /// The place of the first attribute that is the same, None where there is none.

@@ -1,6 +1,7 @@
 // The texts of names, sorts, literals, ids and applications.
 ghost use Rattle.std.specs.Prelude.{◌≡◌, ◌++◌, ◌∷◌, List, IfOk, codes, decimal};
 ghost use Rattle.std.specs.List.{join_by};
+ghost use Rattle.std.specs.Cow.{cow_str_bytes};
 ghost use Rattle.std.specs.Rc.{rc_str_bytes};
 ghost use Rattle.std.specs.String.{string_bytes};
 ghost use Rattle.smt_bits.specs.BitVec.{number_of, width_of};
@@ -23,54 +24,72 @@ ghost use Rattle.law_texts.specs.SharedTexts.{texts};
 
 use crate::error::TextError;
 use crate::extension::extension_head;
+use crate::pieces::{concat, spaced_len};
+use itoa::Buffer;
 use smt_bits::{BitVec, Width};
 use smt_term::{Op, Text};
 use smt_text::{push_spaced, quote_string};
 use std::alloc::{AllocError, Global};
+use std::borrow::CowStr;
 
 /// `tm`, the name of the entry at place `place` of the table of terms.
 pub(crate) fn term_name(alloc: Global, place: usize) -> Result<Text, AllocError>
     ensures { IfOk result (λ name. rc_str_bytes name ≡ codes "t" ++ decimal place) }
 {
-    Text::from_string(format!(in alloc; "t{place}")?)
+    numbered_name(alloc, "t", place)
 }
 
 /// `Ek`, the name of the datatype of an entity type, where k named sorts are there already.
 pub(crate) fn entity_name(alloc: Global, place: usize) -> Result<Text, AllocError>
     ensures { IfOk result (λ name. rc_str_bytes name ≡ codes "E" ++ decimal place) }
 {
-    Text::from_string(format!(in alloc; "E{place}")?)
+    numbered_name(alloc, "E", place)
 }
 
 /// `Rk`, the name of the datatype of a record type, where k named sorts are there already.
 pub(crate) fn record_name(alloc: Global, place: usize) -> Result<Text, AllocError>
     ensures { IfOk result (λ name. rc_str_bytes name ≡ codes "R" ++ decimal place) }
 {
-    Text::from_string(format!(in alloc; "R{place}")?)
+    numbered_name(alloc, "R", place)
 }
 
 /// `fj`, the name of a function, where j functions are there already.
 pub(crate) fn function_name(alloc: Global, place: usize) -> Result<Text, AllocError>
     ensures { IfOk result (λ name. rc_str_bytes name ≡ codes "f" ++ decimal place) }
 {
-    Text::from_string(format!(in alloc; "f{place}")?)
+    numbered_name(alloc, "f", place)
+}
+
+/// A word and a number behind it.
+fn numbered_name(alloc: Global, word: &str, number: usize) -> Result<Text, AllocError>
+    ensures { IfOk result (λ name. rc_str_bytes name ≡ word.now ++ decimal number) }
+{
+    let mut buffer = Buffer::new();
+    let digits = buffer.format(number);
+    let mut name = String::with_capacity(alloc, word.len().saturating_add(digits.len()))?;
+    name.push_str(word)?;
+    name.push_str(digits)?;
+    Text::from_string(name)
 }
 
 /// `(_ BitVec n)`, the sort of bitvectors of a width (FixedSizeBitVectors).
 pub(crate) fn bits_sort(alloc: Global, width: Width) -> Result<Text, AllocError>
     ensures { IfOk result (λ sort. rc_str_bytes sort ≡ spelled (bit_sort (bits_in width))) }
 {
-    let width = width.get();
-    Text::from_string(format!(in alloc; "(_ BitVec {width})")?)
+    let mut digits = Buffer::new();
+    let width = digits.format(width.get());
+    Text::from_string(concat(alloc, &["(_ BitVec ", width, ")"])?)
 }
 
 /// `(_ bvN n)`, the literal of the number N of width n (the abbreviation of the logic QF_BV).
 pub(crate) fn bits_literal(alloc: Global, bits: &BitVec) -> Result<Text, AllocError>
     ensures { IfOk result (λ literal. rc_str_bytes literal ≡ spelled (lines.bits (width_of bits.now) (number_of bits.now))) }
 {
-    let number = bits.to_nat();
-    let width = bits.width().get();
-    Text::from_string(format!(in alloc; "(_ bv{number} {width})")?)
+    let mut number_digits = Buffer::new();
+    let number = number_digits.format(bits.to_nat());
+    let mut width_digits = Buffer::new();
+    let width = width_digits.format(bits.width().get());
+    Text::from_string(concat(alloc, &["(_ bv", number, " ", width, ")"])?)
 }
 
 /// `(Option S)`, the sort of options of a sort.
@@ -102,9 +121,7 @@ pub(crate) fn string_literal(alloc: Global, text: &Text) -> Result<Text, TextErr
 pub(crate) fn as_text(alloc: Global, word: &str, sort: &str) -> Result<String, AllocError>
     ensures { (e : Expression) → sort.now ≡ spelled e → IfOk result (λ text. string_bytes text ≡ spelled (as_sort word.now e)) }
 {
-    let word = Text::from_str(alloc, word)?;
-    let sort = Text::from_str(alloc, sort)?;
-    application_text(alloc, "as", &[word, sort])
+    concat(alloc, &["(as ", word, " ", sort, ")"])
 }
 
 /// `(some x)`.
@@ -134,24 +151,25 @@ pub fn set_text(alloc: Global, sort: &str, mut elements: Vec<Text>) -> Result<St
 }
 
 /// What stands before the operands of an application.
-pub(crate) fn head_text(alloc: Global, op: &Op) -> Result<Text, AllocError>
-    ensures { IfOk result (λ head. rc_str_bytes head ≡ spelled (operator_head (plain_op op.now))) }
+pub(crate) fn head_text(alloc: Global, op: &Op) -> Result<CowStr<'static>, AllocError>
+    ensures { IfOk result (λ head. cow_str_bytes head ≡ spelled (operator_head (plain_op op.now))) }
 {
     match op {
-        Op::Eq => Text::from_str(alloc, "="),
-        Op::Ext(op) => Text::from_str(alloc, extension_head(*op)),
-        Op::OptionGet => Text::from_str(alloc, "val"),
-        Op::StringLike(_) => Text::from_str(alloc, "str.in_re"),
-        Op::ZeroExtend(bits) => zero_extension(alloc, *bits),
-        _ => Text::from_str(alloc, op.mk_name()),
+        Op::Eq => Ok(CowStr::Borrowed("=")),
+        Op::Ext(op) => Ok(CowStr::Borrowed(extension_head(*op))),
+        Op::OptionGet => Ok(CowStr::Borrowed("val")),
+        Op::StringLike(_) => Ok(CowStr::Borrowed("str.in_re")),
+        Op::ZeroExtend(bits) => Ok(CowStr::Owned(zero_extension(alloc, *bits)?)),
+        _ => Ok(CowStr::Borrowed(op.mk_name())),
     }
 }
 
 /// `(_ zero_extend k)` (QF_BV).
-fn zero_extension(alloc: Global, bits: u32) -> Result<Text, AllocError>
-    ensures { IfOk result (λ head. rc_str_bytes head ≡ spelled (operator_head (ZeroExtendOp bits))) }
+fn zero_extension(alloc: Global, bits: u32) -> Result<String, AllocError>
+    ensures { IfOk result (λ head. string_bytes head ≡ spelled (operator_head (ZeroExtendOp bits))) }
 {
-    Text::from_string(format!(in alloc; "(_ zero_extend {bits})")?)
+    let mut digits = Buffer::new();
+    concat(alloc, &["(_ zero_extend ", digits.format(bits), ")"])
 }
 
 /// `(HEAD x y)`: the operands behind the head, with a space between each two. The space behind the head stays
@@ -163,7 +181,9 @@ pub(crate) fn application_text(
 ) -> Result<String, AllocError>
     ensures { IfOk result (λ text. string_bytes text ≡ codes "(" ++ (head.now ++ (codes " " ++ (join_by (λ x. x) (codes " ") (texts operands.now) ++ codes ")")))) }
 {
-    let mut text = String::from_str(alloc, "(")?;
+    let inner = head.len().saturating_add(spaced_len(operands));
+    let mut text = String::with_capacity(alloc, inner.saturating_add("( )".len()))?;
+    text.push('(')?;
     text.push_str(head)?;
     text.push(' ')?;
     push_spaced(&mut text, operands)?;

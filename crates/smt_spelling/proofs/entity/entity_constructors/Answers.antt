@@ -6,7 +6,7 @@ use Rattle.smt_spelling.proofs.entity.entity_constructors.Goals as goal
 
 pub returns : goal.returns
 returns c =
-    let made = c.in_ok-constructor.ensures.ok ∙ c.in_ok-format.ensures.ok ∙ entity_bracketed c.args.name.now in
+    let made = c.in_ok-constructor.ensures.ok ∙ c.in_ok-text.ensures ∙ entity_bracketed c.args.name.now in
     ap texts c.in_ok-push.ensures.items
     ∙ ap (λ l. map rc_str_bytes (l ++ c.in_ok-constructor.constructor ∷ [])) c.in_ok-constructors.ensures.items
     ∙ ap (λ t. t ∷ []) made

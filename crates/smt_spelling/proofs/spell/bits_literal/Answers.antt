@@ -1,9 +1,12 @@
-use Rattle.std.proofs.Common.{◌∙◌, arith}
+use Rattle.std.proofs.Common.{◌++◌, ap, ◌∙◌, arith}
 use Rattle.std.proofs.lemmas.Result.{IfOk-weaker}
+use Rattle.std.specs.Prelude.{codes, decimal}
 use Rattle.smt_spelling.proofs.Numbered.{bits_spelled, short_enough}
 use Rattle.smt_spelling.proofs.spell.bits_literal.Goals as goal
 
 pub returns : goal.returns
 returns c =
-    let same = bits_spelled c.to_nat-number.result c.get-width.result _ _ c.to_nat-number.ensures.value (c.get-width.ensures.value ∙ c.width.ensures) (short_enough _ _ c.to_nat-number.ensures.below c.args.bits.now.width.at_most_128) (omega (arith, c.get-width.ensures.most)) in
-    IfOk-weaker c.from_string.result _ _ (λ t e. e ∙ c.in_ok-format.ensures.ok ∙ same) c.from_string.ensures.ok
+    let number = ap (λ d. codes "(_ bv" ++ (d ++ (codes " " ++ (c.format-width.result.now ++ codes ")")))) c.format-number.ensures.text in
+    let width = ap (λ d. codes "(_ bv" ++ (decimal c.to_nat.result ++ (codes " " ++ (d ++ codes ")")))) c.format-width.ensures.text in
+    let same = bits_spelled c.to_nat.result c.get.result _ _ c.to_nat.ensures.value (c.get.ensures.value ∙ c.width.ensures) (short_enough _ _ c.to_nat.ensures.below c.args.bits.now.width.at_most_128) (omega (arith, c.get.ensures.most)) in
+    IfOk-weaker c.from_string.result _ _ (λ t e. e ∙ c.in_ok-concat.ensures ∙ number ∙ width ∙ same) c.from_string.ensures.ok
