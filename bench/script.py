@@ -15,6 +15,9 @@ Both programs are called as `PROGRAM gen 7 N`. They keep no script, and print si
 Time is processor time, of the program and of the system for it, and memory is the peak of what was resident. Of several
 runs the least of each counts. The programs take turns, so that other work on the machine falls on both. Their outputs
 are compared by their SHA-256. The status is 1 where these differ or a program fails.
+
+Where valgrind is there, one more run of each program counts its instructions in user space, by callgrind, at one size of a
+family: no other work changes that count. `--no-instructions` leaves these runs out.
 """
 
 import argparse
@@ -25,6 +28,8 @@ import itertools
 import os
 import pathlib
 import random
+import re
+import shutil
 import signal
 import subprocess
 import sys
@@ -34,6 +39,8 @@ TOP = pathlib.Path(__file__).resolve().parent.parent
 SIZES = [1_000_000, 4_000_000, 16_000_000]
 DEPTHS = [10, 20, 40]
 COUNTS = [1_000, 10_000, 100_000]
+# The size of each family at which instructions are counted, which takes fifty times as long as a run.
+COUNTED = {"1 MB", "100000 terms", "depth 40"}
 VARIABLES = 1000
 SEED = 1
 
@@ -143,6 +150,17 @@ def run(command, source, printed, limit):
     return Run(usage.ru_utime + usage.ru_stime, usage.ru_maxrss * 1024 / 1e6, digest)
 
 
+def instructions(command, source, options):
+    """How many million instructions a command takes on the file `source`, or None where they are not counted."""
+    if not options.instructions or command is None:
+        return None
+    counter = ["valgrind", "--tool=callgrind", "--callgrind-out-file=/dev/null", *command]
+    with open(source, "rb") as read:
+        counted = subprocess.run(counter, stdin=read, stdout=subprocess.DEVNULL, stderr=subprocess.PIPE, check=False)
+    found = re.search(rb"Collected : (\d+)", counted.stderr)
+    return int(found[1]) / 1e6 if found and counted.returncode == 0 else None
+
+
 def take_turns(commands, source, folder, options):
     """The least of the runs of each command. A command that had a fault is not run again, and None is not run."""
     found = [Run(fault="not run")] * len(commands)
@@ -174,14 +192,16 @@ def generated_cases():
         yield f"{count} terms", ["gen", "7", str(count)], os.devnull
 
 
-def row(found):
+def row(found, counts):
     """The cells of a row: what each program took, and both beside each other where there are two without fault."""
     cells = []
-    for one in found:
+    for one, count in zip(found, counts):
         cells += [one.fault, "-"] if one.fault else [f"{one.seconds:.3f}", f"{one.megabytes:.1f}"]
+        cells += ["-" if count is None else f"{count:.0f}"]
     if len(found) == 2 and not any(one.fault for one in found):
         ours, public = found
         cells += [ratio(ours.seconds, public.seconds), ratio(ours.megabytes, public.megabytes)]
+        cells += ["-" if None in counts else ratio(*counts)]
         cells += ["equal" if ours.digest == public.digest else "DIFFERENT"]
     return cells
 
@@ -224,8 +244,10 @@ def measure(family, programs, cases, folder, columns, options):
         before = rows[-1][1] if rows else [Run()] * len(programs)
         commands = [None if one.fault else [program, *words] for one, program in zip(before, programs)]
         found = take_turns(commands, source, folder, options)
+        counted = [command if size in COUNTED and not one.fault else None for one, command in zip(found, commands)]
+        counts = [instructions(command, source, options) for command in counted]
         rows.append((size, found))
-        cells = [family, size, *row(found)]
+        cells = [family, size, *row(found, counts)]
         put(cells + ["-"] * (columns - len(cells)))
     return rows
 
@@ -262,6 +284,13 @@ def arguments():
     parser.add_argument(
         "--limit", metavar="SECONDS", type=positive, default=600, help="the time at which a run is stopped (600)"
     )
+    parser.add_argument(
+        "--no-instructions",
+        dest="instructions",
+        action="store_false",
+        default=shutil.which("valgrind") is not None,
+        help="count no instructions, also where valgrind is there",
+    )
     return parser.parse_args()
 
 
@@ -269,9 +298,10 @@ def main():
     options = arguments()
     if ctypes.CDLL(None).prctl(PR_SET_CHILD_SUBREAPER, 1) != 0:
         sys.exit("this system does not hand on the children of a process that has ended")
-    heads = ["Family", "Size", "Ours, s", "Ours, MB"]
+    heads = ["Family", "Size", "Ours, s", "Ours, MB", "Ours, million instructions"]
     if options.public or options.public_shared:
-        heads += ["Public, s", "Public, MB", "Time, ours by public", "Memory, ours by public", "Outputs"]
+        heads += ["Public, s", "Public, MB", "Public, million instructions"]
+        heads += ["Time, ours by public", "Memory, ours by public", "Instructions, ours by public", "Outputs"]
     put(heads)
     put(["---"] * len(heads))
 

@@ -171,6 +171,8 @@ pub use Rattle.law_verdicts.specs.Scan
 pub use Rattle.law_verdicts.specs.Streams
 pub use Rattle.law_verdicts.specs.Truths
 pub use Rattle.law_verdicts.specs.Verdicts
+pub use Rattle.smt_apply.specs.Applied as NodeApplications
+pub use Rattle.smt_apply.specs.Labels as NodeApplicationLabels
 pub use Rattle.smt_bits.specs.BitVec
 pub use Rattle.smt_bits.specs.Fin
 pub use Rattle.smt_bits.specs.Printed as BitsPrinted
@@ -245,6 +247,7 @@ pub use Rattle.smt_factory_core.specs.AnyOf
 pub use Rattle.smt_factory_core.specs.AnyRows
 pub use Rattle.smt_job_declarations.specs.DeclarationView
 pub use Rattle.smt_job_declarations.specs.ReadAs
+pub use Rattle.smt_jobs.specs.Direct as DirectReading
 pub use Rattle.smt_jobs.specs.JobView
 pub use Rattle.smt_jobs.specs.Numbered
 pub use Rattle.smt_jobs.specs.Numbers as JobNumbers

@@ -5,7 +5,7 @@
 //! |---|---|
 //! | `terms`, `types`, `texts`, `bits`, `extensions` | terms and their types, texts, bitvectors, values of the extension types |
 //! | `factory` | the calls that build terms and fold constants |
-//! | `encode`, `script`, `expressions`, `nodes` | the encoder to SMT-LIB 2.7, sinks and lines of scripts, the reader of S-expressions, numbered nodes |
+//! | `encode`, `script`, `expressions`, `nodes`, `applications` | the encoder to SMT-LIB 2.7, sinks and lines of scripts, the reader of S-expressions, numbered nodes, operators at these |
 //! | `solve`, `pool` | links to solvers, sessions, processes; pools of sessions, and the check of a script |
 //! | `mini`, `stream` | a small solver; the run of `smtmini`, and links to small solvers in memory |
 //! | `jobs`, `runs`, `program` | the reader of jobs; scripts and checks of a job's steps; the run of `smtcli` |
@@ -21,6 +21,7 @@
 
 pub mod laws;
 
+pub use smt_apply as applications;
 pub use smt_bits as bits;
 pub use smt_bits::{BitVec, Width};
 pub use smt_blast as blast;

@@ -1,3 +1,6 @@
+pub mod Atomic
+pub mod DirectLaws
+pub mod DirectReads
 pub mod ExpressedJobs
 pub mod ExtensionNames
 pub mod ExtensionsRead

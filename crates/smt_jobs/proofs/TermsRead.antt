@@ -127,11 +127,11 @@ module _ (ds : Declared) where
 
 -- ---- operands that are built
 
-types_stay : (ts : List PlainTerm) → AreTyped ts → map type_of (map built ts) ≡ map type_of ts
+pub types_stay : (ts : List PlainTerm) → AreTyped ts → map type_of (map built ts) ≡ map type_of ts
 types_stay [] h = refl
 types_stay (t ∷ ts) h = (λ i. (same_type (built t) t (built_stands t h.0) h.0).1 i ∷ types_stay ts h.1 i)
 
-all_as_built : (ts : List PlainTerm) → built_all (terms ts) ≡ map built ts
+pub all_as_built : (ts : List PlainTerm) → built_all (terms ts) ≡ map built ts
 all_as_built [] = refl
 all_as_built (t ∷ ts) = ap (λ us. built t ∷ us) (all_as_built ts)
 

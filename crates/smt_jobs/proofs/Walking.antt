@@ -84,6 +84,28 @@ pub nil_from : (es : Expressions) (f : JobFault) → first_and_others es ≡ Err
 nil_from Nil f h = (refl, (let e : FormFault ≡ f = cc in e))
 nil_from (Cons e es) f h = absurd (cc)
 
+first_fails : {A : Type 0} (o : Outcome A) (es : Expressions) (f : JobFault) → ◌>>=◌ {B = A × Expressions} o (λ a. Ok (a, es)) ≡ Err f → o ≡ Err f
+first_fails (Ok a) es f h = absurd (cc)
+first_fails (Err e) es f h = (let d : e ≡ f = cc in ap Err d)
+
+first_so : {A : Type 0} (o : Outcome A) (es : Expressions) (p : A × Expressions) → ◌>>=◌ {B = A × Expressions} o (λ a. Ok (a, es)) ≡ Ok p → (o ≡ Ok p.0) × (es ≡ p.1)
+first_so (Ok a) es p h = (let d : (a, es) ≡ p = cc in (ap (λ (x : _ × Expressions). Ok x.0) d, ap (λ (x : _ × Expressions). x.1) d))
+first_so (Err e) es p h = absurd (cc)
+
+-- what is found by the first of some expressions
+pub first_found : {A : Type 0} (reads : Expression → Outcome A) (es : Expressions) (p : A × Expressions) → first_by reads es ≡ Ok p → (e : Expression) × (es ≡ Cons e p.1) × (reads e ≡ Ok p.0)
+first_found reads Nil p h = absurd (cc)
+first_found reads (Cons e es) p h = (let d = first_so (reads e) es p h in (e, ap (Cons e) d.1, d.0))
+
+pub found_first : {A : Type 0} (reads : Expression → Outcome A) (es others : Expressions) (e : Expression) (a : A) → es ≡ Cons e others → reads e ≡ Ok a → first_by reads es ≡ Ok (a, others)
+found_first reads es others e a whole h = ap (first_by reads) whole ∙ ap (λ o. o >>= λ a. Ok (a, others)) h
+
+pub fault_first : {A : Type 0} (reads : Expression → Outcome A) (es others : Expressions) (e : Expression) (f : JobFault) → es ≡ Cons e others → reads e ≡ Err f → first_by reads es ≡ Err f
+fault_first reads es others e f whole h = ap (first_by reads) whole ∙ ap (λ o. o >>= λ a. Ok (a, others)) h
+
+pub none_first : {A : Type 0} (reads : Expression → Outcome A) (es : Expressions) (f : JobFault) → first_and_others es ≡ Err f → first_by reads es ≡ Err f
+none_first reads es f h = (let n = nil_from es f h in ap (first_by reads) n.0 ∙ ap Err n.1)
+
 -- ---- brackets and their heads
 
 pub record IsOpened (depth : ℕ) (e : Expression) (inner : List ℕ) (end : List Token) : Type 0 where
@@ -207,6 +229,19 @@ module _ (depth : ℕ) (ds : Stated) (es : Expressions) (end : List Token) (rest
   pub nothing_more_there : (f : JobFault) → first_and_others t.left ≡ Err f → ((ts : List Token) → HasTokens rest (End ∷ ts) → ⊥) → ⊥
   nothing_more_there f none unclosed = unclosed end (subst (λ x. HasTokens rest (inside x ++ (End ∷ end))) (nil_from t.left f none).0 t.begins.has)
 
+  -- a fault at the front is that of all, where the bracket does not close there
+  pub not_taken_there : (f : JobFault) → first_by (condition_of ds) t.left ≡ Err f → ((ts : List Token) → HasTokens rest (End ∷ ts) → ⊥) → conditions_of ds es ≡ Err f
+  not_taken_there f none unclosed = go t.left refl none
+    where
+      go : (left : Expressions) → t.left ≡ left → first_by (condition_of ds) left ≡ Err f → conditions_of ds es ≡ Err f
+      go Nil e h = absurd (nothing_more_there FormFault (ap first_and_others e) unclosed)
+      go (Cons x xs) e h = not_taken (x, xs) (ap first_and_others e) f (first_fails (condition_of ds x) xs f h)
+
+  pub one_more_taken : (p : PlainTerm × Expressions) (more : List ℕ) (new : List PlainTerm) → first_by (condition_of ds) t.left ≡ Ok p → BeginsInside depth p.1 more end → new ≡ now ++ built p.0 ∷ [] → Taking depth ds es end more old new
+  one_more_taken p more new found i n =
+      let (e, whole, reads) = first_found (condition_of ds) t.left p found in
+      taken_more (e, p.1) (ap first_and_others whole) more (built p.0) new i (ap (mapped built) reads) n
+
 -- ---- expressions that are read so far
 
 pub read_none : (src : List ℕ) (depth : ℕ) → ReadsSome src depth src
@@ -223,6 +258,10 @@ read_more src between rest depth e r s n =
           (joined src between rest (flat_map brackets r.read) (brackets e) r.span s);
       shallow = omega arith;
     }
+
+pub read_more_is : (src between rest : List ℕ) (depth : ℕ) (e : Expression) (r : ReadsSome src depth between) (s : Spans between (brackets e) rest) (n : nesting e ≤ depth) → (read_more src between rest depth e r s n).read ≡ r.read ++ e ∷ []
+unfolding read_more
+read_more_is src between rest depth e r s n = refl
 
 -- one expression more, which was read behind those
 pub read_one_more : (src between rest : List ℕ) (depth : ℕ) → ReadsSome src depth between → ReadsOne between depth rest → ReadsSome src depth rest

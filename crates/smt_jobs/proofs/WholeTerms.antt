@@ -57,10 +57,10 @@ declared_formed d ds has = record {
 
 -- ---- what holds of what is stated
 
-holds_of : {A : Type 0} (P : A → Type 0) (o : Outcome A) (a : A) → IfOk o P → o ≡ Ok a → P a
+pub holds_of : {A : Type 0} (P : A → Type 0) (o : Outcome A) (a : A) → IfOk o P → o ≡ Ok a → P a
 holds_of P o a h e = subst (λ (p : Outcome _). IfOk p P) e h
 
-sound_typed : (ts : List PlainTerm) → AreSound ts → AreTyped ts
+pub sound_typed : (ts : List PlainTerm) → AreSound ts → AreTyped ts
 sound_typed [] h = tt
 sound_typed (t ∷ ts) h = (h.0.is_typed, sound_typed ts h.1)
 

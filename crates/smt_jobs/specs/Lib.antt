@@ -1,3 +1,4 @@
+pub mod Direct
 pub mod JobView
 pub mod Numbered
 pub mod Numbers

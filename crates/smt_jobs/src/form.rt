@@ -81,7 +81,7 @@ fn variable_form(declared: &Declared, operands: &[SExpr]) -> Result<Form, JobErr
 }
 
 /// The literal of a width and a number, where the number is one of that width.
-fn bits_literal(width: Width, number: u128) -> Option<Term>
+pub(crate) fn bits_literal(width: Width, number: u128) -> Option<Term>
     ensures { option_map plain_term result ≡ stated.bits_literal (bits_in width) number }
 {
     let bits = BitVec::of_nat(width, number);

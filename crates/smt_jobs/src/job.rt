@@ -84,6 +84,16 @@ impl StepSink for ReadSteps {
         Ok(())
     }
 
+    fn take_next<'t>(
+        &mut self,
+        _: Global,
+        _: &Declared,
+        _: &'t [u8],
+        _: usize,
+    ) -> Result<Option<&'t [u8]>, TermError> {
+        Ok(None)
+    }
+
     fn end_assertion(&mut self) -> Result<(), TermError> {
         let terms = TermList::new(*self.begun.allocator(), self.begun.as_slice())?;
         self.begun.clear();

@@ -11,6 +11,7 @@
 //! are refused as a job.
 #![tactic(auto, using(smt_term::specs::View::views, smt_sexpr::specs::View::views))]
 
+mod direct;
 mod expressed;
 mod extension;
 mod form;

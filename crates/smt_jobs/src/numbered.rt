@@ -2,9 +2,10 @@
 ghost use Rattle.std.specs.Prelude.{IsTrue};
 ghost use Rattle.smt_jobs.specs.Numbers.{all_stand, all_steps_stand};
 
+use crate::direct::{Known, condition_at};
 use crate::steps::{BareStep, Section};
 use crate::walk::StepSink;
-use smt_job_declarations::{UufList, VarList};
+use smt_job_declarations::{Declared, UufList, VarList};
 use smt_nodes::{Interner, NodeId};
 use smt_term::{EnumTable, Term, TermError};
 use std::alloc::Global;
@@ -32,6 +33,8 @@ pub struct NumberedSteps {
     pub steps: Vec<NumberedStep>,
     /// The number of each term of the assertion that is not yet ended.
     pub begun: Vec<NodeId>,
+    // What numbers the variables have, as far as they were met.
+    known: Known,
     ghost stand: { IsTrue (all_steps_stand nodes steps.items) },
     ghost begun_stand: { IsTrue (all_stand nodes begun.items) },
 }
@@ -64,6 +67,7 @@ impl NumberedSteps {
             nodes: Interner::new(alloc),
             steps: Vec::new(alloc),
             begun: Vec::new(alloc),
+            known: Vec::new(alloc),
         }
     }
 }
@@ -78,6 +82,23 @@ impl StepSink for NumberedSteps {
     fn take(&mut self, term: Term) -> Result<(), TermError> {
         let id = self.nodes.intern(&term)?;
         Ok(self.begun.push(id)?)
+    }
+
+    fn take_next<'t>(
+        &mut self,
+        alloc: Global,
+        declared: &Declared,
+        src: &'t [u8],
+        depth: usize,
+    ) -> Result<Option<&'t [u8]>, TermError> {
+        let known = &mut self.known;
+        match condition_at(alloc, declared, &mut self.nodes, known, src, depth)? {
+            Some((id, rest)) => {
+                self.begun.push(id)?;
+                Ok(Some(rest))
+            }
+            None => Ok(None),
+        }
     }
 
     fn end_assertion(&mut self) -> Result<(), TermError> {

@@ -5,6 +5,7 @@ ghost use Rattle.law_folding.specs.Built.{built};
 ghost use Rattle.law_terms.specs.Plain.{PlainTerm};
 ghost use Rattle.smt_types.specs.Enums.{enums_of};
 ghost use Rattle.smt_term.specs.View.{plain_term};
+ghost use Rattle.law_texts.specs.Reads.{IfRead, IfUnread};
 ghost use Rattle.law_texts.specs.Lexicon.{Begin, End, Name, Token, Word};
 ghost use Rattle.law_texts.specs.Reading.{Expression, Expressions, brackets, nesting};
 ghost use Rattle.law_texts.specs.Tokens.{HasTokens, IsReadWithin, Spans};
@@ -16,10 +17,11 @@ ghost use Rattle.law_jobs.specs.Jobs.{IsTooLong, greatest_nesting};
 ghost use Rattle.law_jobs.specs.Outcomes.{FormFault};
 ghost use Rattle.law_jobs.specs.Steps as steps;
 ghost use Rattle.law_jobs.specs.Steps.{AssertStep, PlainStep, built_step, built_steps, headed, nothing_more, step_named, steps_of};
-ghost use Rattle.law_jobs.specs.Terms.{conditions_of};
+ghost use Rattle.law_jobs.specs.Terms.{condition_of, conditions_of};
 ghost use Rattle.smt_job_declarations.specs.DeclarationView as view;
 ghost use Rattle.smt_job_declarations.specs.DeclarationView.{HasDeclared, HasFunctions, HasVariables, declared_in};
 ghost use Rattle.smt_job_declarations.specs.ReadAs.{IsFault, IsReadAs, plain_list};
+ghost use Rattle.smt_jobs.specs.Direct.{IsTakenCondition, ReadsOf};
 ghost use Rattle.smt_jobs.specs.Refused.{IsFirstFault, IsRefusal};
 ghost use Rattle.smt_jobs.specs.StepView.{plain_bare_step, plain_section};
 ghost use Rattle.smt_jobs.specs.Walk.{Begins, BeginsInside, Gives, GivesFirst, ReadsInside, ReadsOne, ReadsSome, Takes, TakesJob, alone, first_and_others, first_by, named_in, section_in, step_in};
@@ -59,6 +61,20 @@ pub trait StepSink {
     fn take(&mut self, term: Term) -> Result<(), TermError>
         ensures begun { OnOk result (begun self.new ≡ begun self.old ++ plain_term term ∷ []) }
         ensures taken { OnOk result (taken self.new ≡ taken self.old) };
+
+    /// Reads the Boolean term at the front and takes it, where it knows a shorter way to it than by its expression. Answers what
+    /// stands behind the term, or `None` where it knows none, and then it took nothing.
+    fn take_next<'t>(
+        &mut self,
+        alloc: Global,
+        declared: &Declared,
+        src: &'t [u8],
+        depth: usize,
+    ) -> Result<Option<&'t [u8]>, TermError>
+        ensures read { IfRead result (λ rest. ReadsOf (IsTakenCondition declared.now (begun self.old) (begun self.new)) src.now depth rest.now) }
+        ensures unread { IfUnread result (begun self.new ≡ begun self.old) }
+        ensures taken { OnOk result (taken self.new ≡ taken self.old) }
+        ensures shorter { IfRead result (λ rest. length rest.now < length src.now) };
 
     /// Takes the step that asserts the terms that were taken since the last assertion.
     fn end_assertion(&mut self) -> Result<(), TermError>
@@ -176,6 +192,28 @@ fn read_declarations(alloc: Global, src: &[u8]) -> Result<(Declared, &[u8]), Job
     ))
 }
 
+/// Gives the Boolean term at the front to `out`, as it is built, and answers what stands behind it.
+fn take_term<'t, T: StepSink>(
+    alloc: Global,
+    declared: &Declared,
+    src: &'t [u8],
+    depth: usize,
+    out: &mut T,
+) -> Result<&'t [u8], JobError>
+    ensures read { IfOk result (λ rest. (e : Expression) × Spans src.now (brackets e) rest.now × (nesting e ≤ depth)) }
+    ensures stated { (ds : Stated) → HasDeclared declared.now ds → (es : Expressions) (end : List Token) → BeginsInside depth es src.now end →
+        Gives (λ rest p. (T.begun out.new ≡ T.begun out.old ++ built p.0 ∷ []) × BeginsInside depth p.1 rest.now end) result (first_by (condition_of ds) es) }
+    ensures taken { OnOk result (T.taken out.new ≡ T.taken out.old) }
+    ensures shorter { IfOk result (λ rest. length rest.now < length src.now) }
+{
+    if let Some(rest) = out.take_next(alloc, declared, src, depth)? {
+        return Ok(rest);
+    }
+    let (expression, rest) = next_expression(alloc, src, depth)?;
+    out.take(condition_from(alloc, declared, &expression)?)?;
+    Ok(rest)
+}
+
 /// Gives the Boolean terms up to the closing bracket to `out`, each as it is built, and answers what stands behind it.
 fn take_terms<'t, T: StepSink>(
     alloc: Global,
@@ -195,8 +233,7 @@ fn take_terms<'t, T: StepSink>(
         if let Some(after) = behind_close(rest) {
             return Ok(after);
         }
-        let (expression, after) = next_expression(alloc, rest, depth)?;
-        out.take(condition_from(alloc, declared, &expression)?)?;
+        let after = take_term(alloc, declared, rest, depth, out)?;
         rest = after;
     }
 }

@@ -2,12 +2,9 @@ use Rattle.std.proofs.Common.{Bor, List, ℕ, ◌≡◌, ◌++◌, map, refl, ap
 use Rattle.law_folding.specs.Built.{built}
 use Rattle.law_terms.specs.Plain.{PlainTerm}
 use Rattle.law_texts.specs.Tokens.{HasTokens}
-use Rattle.smt_sexpr.specs.View.{plain}
-use Rattle.law_jobs.specs.Outcomes.{mapped}
 use Rattle.law_jobs.specs.Terms.{condition_of, conditions_of}
-use Rattle.smt_jobs.specs.Walk.{first_and_others}
-use Rattle.smt_job_declarations.proofs.Reading.{mapped_fault}
-use Rattle.smt_jobs.proofs.Walking.{all_taken, gives_passes, not_taken, nothing_more_there, read_more, read_none, taken_more, taking_none}
+use Rattle.smt_jobs.specs.Walk.{first_by}
+use Rattle.smt_jobs.proofs.Walking.{all_taken, gives_passes, not_taken_there, one_more_taken, read_one_more, read_none, taking_none}
 use Rattle.smt_jobs.proofs.walk.take_terms.Goals as goal
 
 pub loop-after-init : goal.loop-after-init
@@ -27,29 +24,21 @@ returns-in-Some-clause-stated g c ds has es end i =
     let all = all_taken c.args.depth ds es end _ _ _ t c.in-Some.after.now c.in-Some.ensures.found in
     (all.0, all.1, (all.2, all.3))
 
-pub returns-in_err-expression-clause-stated : goal.returns-in_err-expression-clause-stated
-returns-in_err-expression-clause-stated g c ds has es end i =
+pub returns-in_err-after-clause-stated : goal.returns-in_err-after-clause-stated
+returns-in_err-after-clause-stated g c ds has es end i =
     let t = c.loop-after.invariant.stated ds has es end i in
-    gives_passes (λ (rest : Bor (List ℕ)) (written : List PlainTerm). HasTokens rest.now end × (g.T.StepSink.begun c.loop-after.out ≡ g.T.StepSink.begun c.args.out.now ++ map built written))
-    c.from_residual.result c.in_err-expression.field-0.0 (conditions_of ds es) (first_and_others t.left) c.from_residual.ensures.1 (c.in_err-expression.ensures.stated t.left end t.begins)
-    (λ f none. absurd (nothing_more_there c.args.depth ds es end _ _ _ t f none c.in_default.ensures.none))
-
-pub returns-in_err-condition_from-clause-stated : goal.returns-in_err-condition_from-clause-stated
-returns-in_err-condition_from-clause-stated g c ds has es end i =
-    let t = c.loop-after.invariant.stated ds has es end i in
-    let first = c.in_ok-expression.ensures.stated t.left end t.begins in
-    gives_passes (λ (rest : Bor (List ℕ)) (written : List PlainTerm). HasTokens rest.now end × (g.T.StepSink.begun c.loop-after.out ≡ g.T.StepSink.begun c.args.out.now ++ map built written))
-    c.from_residual-in_err-condition_from.result c.in_err-condition_from.field-0.0 (conditions_of ds es) _ c.from_residual-in_err-condition_from.ensures.1 (c.in_err-condition_from.ensures ds has)
-    (λ f none. not_taken c.args.depth ds es end _ _ _ t first.0 first.1 f (ap (condition_of ds) first.2.0 ∙ mapped_fault built _ f none))
+    gives_passes (λ (rest : Bor (List ℕ)) (written : List PlainTerm). HasTokens rest.now end × (g.T.StepSink.begun c.take_term.new.out ≡ g.T.StepSink.begun c.args.out.now ++ map built written))
+    c.from_residual.result c.in_err-after.field-0.0 (conditions_of ds es) (first_by (condition_of ds) t.left) c.from_residual.ensures.1 (c.in_err-after.ensures.stated ds has t.left end t.begins)
+    (λ f none. not_taken_there c.args.depth ds es end _ _ _ t f none c.in_default.ensures.none)
 
 pub loop-after-preserved : goal.loop-after-preserved
-loop-after-preserved g c = (let before = c.loop-after.invariant.shorter in let less = c.in_ok-expression.ensures.shorter in record {
-  read = read_more c.args.src.now c.loop-after.rest.now c.in_ok-expression.after.now c.args.depth (plain c.in_ok-expression.expression) c.loop-after.invariant.read c.in_ok-expression.ensures.read c.in_ok-expression.ensures.shallow;
+loop-after-preserved g c = (let before = c.loop-after.invariant.shorter in let less = c.in_ok-after.ensures.shorter in record {
+  read = read_one_more c.args.src.now c.loop-after.rest.now c.in_ok-after.after.now c.args.depth c.loop-after.invariant.read c.in_ok-after.ensures.read;
   stated = λ ds has es end i. (
       let t = c.loop-after.invariant.stated ds has es end i in
-      let first = c.in_ok-expression.ensures.stated t.left end t.begins in
-      taken_more c.args.depth ds es end _ _ _ t first.0 first.1 c.in_ok-expression.after.now _ _ first.2.1 (ap (λ e. mapped built (condition_of ds e)) first.2.0 ∙ c.in_ok-condition_from.ensures ds has) c.in_ok-take.ensures.begun
+      let first = c.in_ok-after.ensures.stated ds has t.left end t.begins in
+      one_more_taken c.args.depth ds es end _ _ _ t first.0 c.in_ok-after.after.now _ first.1 first.2.1 first.2.0
       );
-  taken = c.in_ok-take.ensures.taken ∙ c.loop-after.invariant.taken;
+  taken = c.in_ok-after.ensures.taken ∙ c.loop-after.invariant.taken;
   shorter = omega arith;
 })

@@ -1,0 +1,4 @@
+pub mod Applying
+pub mod Folding
+pub mod Giving
+pub mod Looking
