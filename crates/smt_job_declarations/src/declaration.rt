@@ -40,7 +40,8 @@ impl Variables {
         }
     }
 
-    /// The variable of an id, with its place among the declared ones, None exactly where the id is not declared. One look-up; takes no memory.
+    /// The variable of an id, with its place among the declared ones, None exactly where the id is not declared. One look-up;
+    /// takes no memory.
     pub fn find(&self, id: &str) -> Option<(usize, &TermVar)>
         ensures found { (vs : Declarations PlainType) → HasVariables self.now vs → option_map (λ x. plain_type x.1.now.ty) result ≡ declared vs id.now }
         ensures id { (vs : Declarations PlainType) → HasVariables self.now vs → IfSome result (λ x. rc_str_bytes x.1.now.id ≡ id.now) }
