@@ -64,41 +64,41 @@ no_blank bytes (b ∷ bs) e none = elim (cases_Bool (eqb b 59)) [
 
 -- ---- the first token
 
-comment_begins : (text after : List ℕ) → begins_blank (59 ∷ (text ++ after)) ≡ true
+pub comment_begins : (text after : List ℕ) → begins_blank (59 ∷ (text ++ after)) ≡ true
 comment_begins text after = refl
 
-space_begins : (b : ℕ) (after : List ℕ) → is_space b ≡ true → begins_blank (b ∷ after) ≡ true
+pub space_begins : (b : ℕ) (after : List ℕ) → is_space b ≡ true → begins_blank (b ∷ after) ≡ true
 space_begins b after h = rw h refl
 
 first_of : (s t : Token) (ss ts : List Token) → s ∷ ss ≡ t ∷ ts → s ∷ [] ≡ t ∷ []
 first_of s t ss ts e = cc
 
 -- The piece of a token that stands at the front.
-record IsFirst (bytes : List ℕ) (t : Token) : Type 0 where
+pub record IsFirst (bytes : List ℕ) (t : Token) : Type 0 where
   pub piece : Piece
   pub rest : List ℕ
   pub stands : StandsFirst bytes piece rest
   pub token_is : token piece ≡ t ∷ []
 
-here : (x : Piece) (ps : List Piece) (bytes : List ℕ) (s t : Token) (ts : List Token) → token x ≡ s ∷ [] → IsCut (x ∷ ps) bytes [] → tokens (x ∷ ps) ≡ t ∷ ts → IsFirst bytes t
-here x ps bytes s t ts k c e = record {
+here : (x : Piece) (ps : List Piece) (bytes end : List ℕ) (s t : Token) (ts : List Token) → token x ≡ s ∷ [] → IsCut (x ∷ ps) bytes end → tokens (x ∷ ps) ≡ t ∷ ts → IsFirst bytes t
+here x ps bytes end s t ts k c e = record {
   piece = x;
   rest = c.0;
   stands = c.1;
   token_is = k ∙ first_of s t (tokens ps) ts (ap (λ v. v ++ tokens ps) (sym k) ∙ e);
 }
 
-first_piece : (ps : List Piece) (bytes : List ℕ) (t : Token) (ts : List Token) → IsCut ps bytes [] → begins_blank bytes ≡ false → tokens ps ≡ t ∷ ts → IsFirst bytes t
-first_piece [] bytes t ts c n e = absurd (cc)
-first_piece (Space b ∷ ps) bytes t ts c n e = absurd (false≢true (sym n ∙ ap begins_blank c.1.spelled ∙ space_begins b c.0 c.1.is_one))
-first_piece (Comment text ∷ ps) bytes t ts c n e = absurd (false≢true (sym n ∙ ap begins_blank c.1.spelled ∙ comment_begins text c.0))
-first_piece (Open ∷ ps) bytes t ts c n e = here Open ps bytes _ t ts refl c e
-first_piece (Close ∷ ps) bytes t ts c n e = here Close ps bytes _ t ts refl c e
-first_piece (Quoted text ∷ ps) bytes t ts c n e = here (Quoted text) ps bytes _ t ts refl c e
-first_piece (Binary digits ∷ ps) bytes t ts c n e = here (Binary digits) ps bytes _ t ts refl c e
-first_piece (Hexadecimal digits ∷ ps) bytes t ts c n e = here (Hexadecimal digits) ps bytes _ t ts refl c e
-first_piece (Numeral digits ∷ ps) bytes t ts c n e = here (Numeral digits) ps bytes _ t ts refl c e
-first_piece (Symbol name ∷ ps) bytes t ts c n e = here (Symbol name) ps bytes _ t ts refl c e
+pub first_piece : (ps : List Piece) (bytes end : List ℕ) (t : Token) (ts : List Token) → IsCut ps bytes end → begins_blank bytes ≡ false → tokens ps ≡ t ∷ ts → IsFirst bytes t
+first_piece [] bytes end t ts c n e = absurd (cc)
+first_piece (Space b ∷ ps) bytes end t ts c n e = absurd (false≢true (sym n ∙ ap begins_blank c.1.spelled ∙ space_begins b c.0 c.1.is_one))
+first_piece (Comment text ∷ ps) bytes end t ts c n e = absurd (false≢true (sym n ∙ ap begins_blank c.1.spelled ∙ comment_begins text c.0))
+first_piece (Open ∷ ps) bytes end t ts c n e = here Open ps bytes end _ t ts refl c e
+first_piece (Close ∷ ps) bytes end t ts c n e = here Close ps bytes end _ t ts refl c e
+first_piece (Quoted text ∷ ps) bytes end t ts c n e = here (Quoted text) ps bytes end _ t ts refl c e
+first_piece (Binary digits ∷ ps) bytes end t ts c n e = here (Binary digits) ps bytes end _ t ts refl c e
+first_piece (Hexadecimal digits ∷ ps) bytes end t ts c n e = here (Hexadecimal digits) ps bytes end _ t ts refl c e
+first_piece (Numeral digits ∷ ps) bytes end t ts c n e = here (Numeral digits) ps bytes end _ t ts refl c e
+first_piece (Symbol name ∷ ps) bytes end t ts c n e = here (Symbol name) ps bytes end _ t ts refl c e
 
 open_is : (x : Piece) → token x ≡ Begin ∷ [] → spelling x ≡ 40 ∷ []
 open_is Open e = refl
@@ -112,13 +112,13 @@ close_is x e = absurd (cc)
 pub no_open : (bytes rest : List ℕ) (ts : List Token) → Spans bytes [] rest → begins_blank rest ≡ false → ((inside : List ℕ) → rest ≡ 40 ∷ inside → ⊥) → HasTokens bytes (Begin ∷ ts) → ⊥
 no_open bytes rest ts s n none h =
     let g = goes_on bytes rest (Begin ∷ ts) [] h s in
-    let f = first_piece g.has.pieces rest Begin ts g.has.cut n (g.has.tokens_are ∙ sym g.whole) in
+    let f = first_piece g.has.pieces rest [] Begin ts g.has.cut n (g.has.tokens_are ∙ sym g.whole) in
     none f.rest (f.stands.spelled ∙ ap (λ v. v ++ f.rest) (open_is f.piece f.token_is))
 
 pub no_close : (bytes rest : List ℕ) (ts : List Token) → Spans bytes [] rest → begins_blank rest ≡ false → ((inside : List ℕ) → rest ≡ 41 ∷ inside → ⊥) → HasTokens bytes (End ∷ ts) → ⊥
 no_close bytes rest ts s n none h =
     let g = goes_on bytes rest (End ∷ ts) [] h s in
-    let f = first_piece g.has.pieces rest End ts g.has.cut n (g.has.tokens_are ∙ sym g.whole) in
+    let f = first_piece g.has.pieces rest [] End ts g.has.cut n (g.has.tokens_are ∙ sym g.whole) in
     none f.rest (f.stands.spelled ∙ ap (λ v. v ++ f.rest) (close_is f.piece f.token_is))
 
 -- the pieces of brackets
@@ -140,6 +140,11 @@ close_span bytes rest e = record { pieces = Close ∷ []; cut = (rest, record { 
 pub where_none : {X : Type 0} (r : Option X) {P Q : Type 0} → IfNone r P → (P → Q) → IfNone r Q
 where_none None p f = f p
 where_none (Some x) p f = tt
+
+-- what holds anyway
+pub where_any : {X : Type 0} (r : Option X) {P : Type 0} → P → IfNone r P
+where_any None p = p
+where_any (Some x) p = tt
 
 -- ---- texts without tokens
 

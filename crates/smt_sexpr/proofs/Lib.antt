@@ -4,6 +4,7 @@ pub mod Decoding
 pub mod Digits
 pub mod Excluded
 pub mod Fronts
+pub mod Missing
 pub mod PlainTexts
 pub mod PrintedTexts
 pub mod QuotedTexts

@@ -37,7 +37,7 @@ plain_ascii (b ∷ bs) h =
     let p = and_parts (stands_as_itself b) (list_all stands_as_itself bs) h in
     IsAscii-cons b bs (plain_byte b p.0).ascii (plain_ascii bs p.1)
 
-no_quotes : (text : List ℕ) → list_all stands_as_itself text ≡ true → list_all is_no_quote text ≡ true
+pub no_quotes : (text : List ℕ) → list_all stands_as_itself text ≡ true → list_all is_no_quote text ≡ true
 no_quotes [] h = refl
 no_quotes (b ∷ bs) h =
     let p = and_parts (stands_as_itself b) (list_all stands_as_itself bs) h in

@@ -1,17 +1,15 @@
 //! Atoms at the front of a text, read where they stand, so that no memory is taken: symbols, strings whose characters stand as
 //! themselves, and numerals (SMT-LIB 2.7, chapter 3, Lexicon).
-//!
-//! The readers behind white space and comments, whose names end in `_at`, may answer `None` for an atom that they don't cover:
-//! only `Some` says what stands at the front.
 #![tactic(auto)]
 
-ghost use Rattle.std.specs.Prelude.{◌≡◌, ◌<◌, [], ◌∷◌, length, encode_utf8_all, true, IfSome, IfNone};
+ghost use Rattle.std.specs.Prelude.{◌≡◌, ◌<◌, ℕ, List, [], ◌∷◌, length, encode_utf8_all, true, IfSome, IfNone, IsTrue};
+ghost use Rattle.std.specs.List.{list_all};
 ghost use Rattle.std.specs.Str.{IsAscii};
 ghost use Rattle.std.proofs.Math.Utf8.{scalars};
-ghost use Rattle.law_texts.specs.Lexicon.{Word, Name, Number, Text};
+ghost use Rattle.law_texts.specs.Lexicon.{Quoted, Word, Name, Number, Text};
 ghost use Rattle.law_texts.specs.Reads.{begins_number};
-ghost use Rattle.law_texts.specs.Tokens.{Spans};
-ghost use Rattle.smt_sexpr.specs.Pieces.{StandsFor, begins_symbol};
+ghost use Rattle.law_texts.specs.Tokens.{Spans, StandsFirst};
+ghost use Rattle.smt_sexpr.specs.Pieces.{HasPlainText, StandsFor, begins_symbol, stands_as_itself};
 ghost use Rattle.smt_sexpr.specs.Refusals.{IsTokenFault};
 ghost use Rattle.smt_sexpr.specs.declared.error.IntFault.TheVariants.{PosOverflow};
 ghost use Rattle.smt_sexpr.specs.declared.error.SExprParseError.TheVariants.{Utf8Error, ParseIntError};
@@ -70,6 +68,7 @@ pub(crate) fn numeral(src: &[u8]) -> Option<(u128, &[u8])>
 fn plain_text(src: &[u8]) -> Option<(&str, &[u8])>
     ensures found { IfSome result (λ x. StandsFor (Word (Text x.0.now) ∷ []) (34 ∷ src.now) x.1.now) }
     ensures ascii { IfSome result (λ x. IsAscii x.0.now) }
+    ensures none { IfNone result ((text rest : List ℕ) → StandsFirst (34 ∷ src.now) (Quoted text) rest → IsTrue (list_all stands_as_itself text) → ⊥) }
 {
     let (bytes, end) = src.split_at(plain_len(src));
     let rest = behind(end, b'"')?;
@@ -84,9 +83,10 @@ fn plain_text(src: &[u8]) -> Option<(&str, &[u8])>
 }
 
 /// The symbol at the front of a text, and what follows it, or `None` where none stands there or its bytes are not UTF-8. White
-/// space and comments may stand before it. Takes no memory. Of `None` nothing is claimed.
+/// space and comments may stand before it. Takes no memory.
 pub fn name_at(src: &[u8]) -> Option<(&str, &[u8])>
     ensures found { IfSome result (λ x. Spans src.now (Word (Name x.0.now) ∷ []) x.1.now) }
+    ensures none { IfNone result ((name rest : List ℕ) → Spans src.now (Word (Name name) ∷ []) rest → ⊥) }
     ensures shorter { IfSome result (λ x. length x.1.now < length src.now) }
 {
     let text = without_blanks(src);
@@ -99,20 +99,22 @@ pub fn name_at(src: &[u8]) -> Option<(&str, &[u8])>
 
 /// The string at the front of a text, each of whose characters is ASCII and stands as itself, so that neither a quote nor a
 /// backslash is inside, and what follows it, or `None` where none stands there, as where the string has other characters. White
-/// space and comments may stand before it. Takes no memory. Of `None` nothing is claimed.
+/// space and comments may stand before it. Takes no memory.
 pub fn plain_text_at(src: &[u8]) -> Option<(&str, &[u8])>
     ensures found { IfSome result (λ x. Spans src.now (Word (Text x.0.now) ∷ []) x.1.now) }
     ensures characters { IfSome result (λ x. scalars x.0.now ≡ true) }
     ensures encoded { IfSome result (λ x. encode_utf8_all x.0.now ≡ x.0.now) }
+    ensures none { IfNone result ((text rest : List ℕ) → HasPlainText src.now text rest → ⊥) }
     ensures shorter { IfSome result (λ x. length x.1.now < length src.now) }
 {
     plain_text(behind(without_blanks(src), b'"')?)
 }
 
 /// The numeral at the front of a text, below 2 to the 128, and what follows it, or `None` where none stands there. White space
-/// and comments may stand before it. Takes no memory. Of `None` nothing is claimed.
+/// and comments may stand before it. Takes no memory.
 pub fn number_at(src: &[u8]) -> Option<(u128, &[u8])>
     ensures found { IfSome result (λ x. Spans src.now (Word (Number x.0) ∷ []) x.1.now) }
+    ensures none { IfNone result ((number : ℕ) (rest : List ℕ) → Spans src.now (Word (Number number) ∷ []) rest → ⊥) }
     ensures shorter { IfSome result (λ x. length x.1.now < length src.now) }
 {
     let text = without_blanks(src);

@@ -2,8 +2,12 @@
 
 use crate::AMPLE;
 use crate::expected::{expect, expect_count};
-use smt_sexpr::{SExpr, SExprParseError, SExprs, behind_close, behind_open, is_blank, read_next};
+use smt_sexpr::{
+    SExpr, SExprParseError, SExprs, behind_close, behind_open, is_blank, name_at, number_at,
+    plain_text_at, read_next,
+};
 use std::alloc::Global;
+use std::fmt::Debug;
 use std::process::Abort;
 
 // A text, the depth that is allowed, and the expression at its front and what follows it, as `{:?}` prints them, or why there
@@ -56,6 +60,47 @@ const FRONTS: &[(&str, &str, &str, bool)] = &[
     ("", "None", "None", true),
     (" \x0c\n", "None", "None", true),
     ("; )", "None", "None", true),
+];
+
+// A text, and what `name_at`, `plain_text_at` and `number_at` find at its front with what follows, as `{:?}` prints it.
+const ATOMS: &[(&str, &str, &str, &str)] = &[
+    (
+        "set.member (a",
+        "Some((\"set.member\", \" (a\"))",
+        "None",
+        "None",
+    ),
+    (" ; \"x\"\n:a)b", "Some((\":a\", \")b\"))", "None", "None"),
+    ("a1\"b\"", "Some((\"a1\", \"\\\"b\\\"\"))", "None", "None"),
+    ("\u{3bb}x;", "Some((\"\u{3bb}x\", \";\"))", "None", "None"),
+    ("12ab", "None", "None", "Some((12, \"ab\"))"),
+    ("\t; 1\n007(", "None", "None", "Some((7, \"(\"))"),
+    // The greatest numeral that is held, and the next one.
+    (
+        "340282366920938463463374607431768211455 ",
+        "None",
+        "None",
+        "Some((340282366920938463463374607431768211455, \" \"))",
+    ),
+    (
+        "340282366920938463463374607431768211456",
+        "None",
+        "None",
+        "None",
+    ),
+    (" \"a;(\"b", "None", "Some((\"a;(\", \"b\"))", "None"),
+    ("\"\"", "None", "Some((\"\", \"\"))", "None"),
+    // Strings in which a character does not stand as itself, or that do not end.
+    ("\"a\"\"b\"", "None", "None", "None"),
+    ("\"\"\"\"", "None", "None", "None"),
+    ("\"a\\u{62}\"", "None", "None", "None"),
+    ("\"\u{e9}\"", "None", "None", "None"),
+    ("\"a", "None", "None", "None"),
+    ("(a", "None", "None", "None"),
+    (") 1", "None", "None", "None"),
+    ("#b1", "None", "None", "None"),
+    ("; a", "None", "None", "None"),
+    ("", "None", "None", "None"),
 ];
 
 /// An expression and what follows it, as `{:?}` prints them.
@@ -119,6 +164,39 @@ fn finds_brackets_behind_blanks(rt: HostRuntime) {
         expect_rest(&rt, alloc, ")", src, behind_close(bytes), close);
         expect(&rt, is_blank(bytes) == blank, src);
     }
+}
+
+/// Stops the test where a reader finds something else at the front of a text, and names the reader and the text.
+fn expect_atom<T: Debug + Drop>(
+    rt: &impl Abort,
+    alloc: Global,
+    reader: &str,
+    src: &str,
+    found: Option<(T, &[u8])>,
+    want: &str,
+) {
+    let text = match found {
+        Some((atom, rest)) => {
+            let rest = str::from_utf8(rest).unwrap_or("");
+            format!(in alloc; "Some(({atom:?}, {rest:?}))")
+        }
+        None => format!(in alloc; "None"),
+    };
+    let text = text.expect(rt, AMPLE);
+    assert!(rt; text.as_str() == want, "{reader} of {src}: {text}");
+}
+
+#[test]
+fn finds_atoms_behind_blanks(rt: HostRuntime) {
+    let alloc = rt.alloc();
+    for &(src, name, text, number) in ATOMS {
+        let bytes = src.as_bytes();
+        expect_atom(&rt, alloc, "name_at", src, name_at(bytes), name);
+        expect_atom(&rt, alloc, "plain_text_at", src, plain_text_at(bytes), text);
+        expect_atom(&rt, alloc, "number_at", src, number_at(bytes), number);
+    }
+    let wrong = name_at(b"a\xff ");
+    expect(&rt, wrong == None, "a name that is no UTF-8");
 }
 
 #[test]
