@@ -1,5 +1,5 @@
 -- Operators at numbered terms: the nodes that are entered, and operands by their count.
-use Rattle.std.proofs.Common.{◌≡◌, ℕ, ◌<◌, ◌≤◌, List, [], ◌∷◌, Option, Some, None, Ok, Err, Result, length, map, slice_index_or, refl, sym, ap, ◌∙◌, subst, arith}
+use Rattle.std.proofs.Common.{◌≡◌, ℕ, ◌<◌, ◌≤◌, false, List, [], ◌∷◌, Option, Some, None, Ok, Err, Result, length, map, slice_index_or, refl, sym, ap, ◌∙◌, subst, arith}
 use Rattle.std.specs.Bool.{then_some}
 use Rattle.std.specs.Prelude.{IfOk, IfSome, IsTrue, is_some, option_and_then, option_map}
 use Rattle.law_terms.specs.Fits.{applies_no_function, fits}
@@ -11,7 +11,7 @@ use Rattle.law_terms.proofs.Fitting.{fitting}
 use Rattle.law_terms.proofs.Places.{map_back, then_back}
 use Rattle.law_terms.proofs.TermTotal.{types_decided}
 use Rattle.std.proofs.lemmas.Bool.{false≢true}
-use Rattle.smt_apply.specs.Applied.{ArePartsOf, IsBuilt, StandForTerms, Stays}
+use Rattle.smt_apply.specs.Applied.{ArePartsOf, IsBuilt, StandForTerms, Stays, is_plainly_applied}
 use Rattle.smt_nodes.specs.Interned.{meaning_in, nodes_of, KeepsMeanings, StandFor}
 use Rattle.smt_nodes.specs.View.{place_of, places_of}
 use Rattle.smt_nodes.specs.declared.id.NodeId.{NodeId}
@@ -78,6 +78,19 @@ split i a ids ts h =
 nothing : (i : Interner) (ts : List PlainTerm) → StandFor i [] ts → [] ≡ ts
 nothing i [] h = refl
 nothing i (t ∷ ts) h = absurd (cc)
+
+-- of more than three operands none is listed
+pub many_left : (i : Interner) (ids : List NodeId) (ts : List PlainTerm) → StandFor i ids ts → 4 ≤ length ids → (o : PlainOp) → is_plainly_applied o ts ≡ false
+many_left i [] ts s l o = absurd (omega (arith, l))
+many_left i (a ∷ []) ts s l o = absurd (omega (arith, l))
+many_left i (a ∷ b ∷ []) ts s l o = absurd (omega (arith, l))
+many_left i (a ∷ b ∷ x ∷ []) ts s l o = absurd (omega (arith, l))
+many_left i (a ∷ b ∷ x ∷ y ∷ ids) ts s l o =
+    let c = split i a (b ∷ x ∷ y ∷ ids) ts s in
+    let e = split i b (x ∷ y ∷ ids) c.1 c.4 in
+    let f = split i x (y ∷ ids) e.1 e.4 in
+    let g = split i y ids f.1 f.4 in
+    subst (λ us. is_plainly_applied o us ≡ false) (ap (λ us. c.0 ∷ e.0 ∷ f.0 ∷ us) g.2 ∙ ap (λ us. c.0 ∷ e.0 ∷ us) f.2 ∙ ap (λ us. c.0 ∷ us) e.2 ∙ c.2) refl
 
 module _ (i j : Interner) (keeps : KeepsMeanings i j) (d : NodeId) where
   abbrev IsTerm : List NodeId → ℕ → PlainTerm → Type 0

@@ -14,7 +14,7 @@ use Rattle.law_terms.specs.TermOrder.{term_eq}
 use Rattle.law_terms.proofs.Places.{test_back}
 use Rattle.law_terms.proofs.TermTotal.{terms_decided}
 use Rattle.smt_apply.specs.Applied.{AreApart, Stays}
-use Rattle.smt_apply.specs.Labels.{is_bits_operator, is_bits_test, is_choice, is_connective, is_equality, is_open, is_truth}
+use Rattle.smt_apply.specs.Labels.{is_bits_negation, is_bits_operator, is_bits_test, is_choice, is_connective, is_equality, is_negation, is_open, is_truth}
 
 -- ---- what is open is no literal, and what is no truth value is neither true nor false
 
@@ -52,16 +52,24 @@ not_stands (LiteralTerm l) h n = refl
 not_stands (Application o ts ty) h n = rw (n) refl
 not_stands t h n = refl
 
-pub stays_not : (t : PlainTerm) → is_truth t ≡ false → negated t ≡ None → Stays NotOp (t ∷ [])
-stays_not t h n ty r = not_stands t h n ∙ ap (Application NotOp (terms (t ∷ []))) (test_back _ _ _ r).1
+unnegated : (t : PlainTerm) → is_negation t ≡ false → negated t ≡ None
+unnegated (Application NotOp ts ty) h = absurd (false≢true (sym h))
+unnegated t h = refl
+
+pub stays_not : (t : PlainTerm) → is_truth t ≡ false → is_negation t ≡ false → Stays NotOp (t ∷ [])
+stays_not t h n ty r = not_stands t h (unnegated t n) ∙ ap (Application NotOp (terms (t ∷ []))) (test_back _ _ _ r).1
 
 bvneg_stands : (t : PlainTerm) → is_open t ≡ true → negated_bits t ≡ None → folded_bvneg t ≡ bvneg_of t
 bvneg_stands (Application o ts ty) h n = rw (n) refl
 bvneg_stands (VariableTerm id ty) h n = refl
 bvneg_stands t h n = absurd (false≢true h)
 
-pub stays_bvneg : (t : PlainTerm) → is_open t ≡ true → negated_bits t ≡ None → Stays BvnegOp (t ∷ [])
-stays_bvneg t h n ty r = bvneg_stands t h n ∙ ap (Application BvnegOp (terms (t ∷ []))) (test_back _ _ _ r).1
+unnegated_bits : (t : PlainTerm) → is_bits_negation t ≡ false → negated_bits t ≡ None
+unnegated_bits (Application BvnegOp ts ty) h = absurd (false≢true (sym h))
+unnegated_bits t h = refl
+
+pub stays_bvneg : (t : PlainTerm) → is_open t ≡ true → is_bits_negation t ≡ false → Stays BvnegOp (t ∷ [])
+stays_bvneg t h n ty r = bvneg_stands t h (unnegated_bits t n) ∙ ap (Application BvnegOp (terms (t ∷ []))) (test_back _ _ _ r).1
 
 bvnego_stands : (t : PlainTerm) → is_open t ≡ true → folded_bvnego t ≡ bvnego_of t
 bvnego_stands (Application o ts ty) h = refl

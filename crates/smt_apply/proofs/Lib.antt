@@ -2,3 +2,4 @@ pub mod Applying
 pub mod Folding
 pub mod Giving
 pub mod Looking
+pub mod Plainly

@@ -12,12 +12,13 @@ use Rattle.law_terms.specs.TermOrder.{term_eq}
 use Rattle.law_terms.proofs.Distinct.{places_differ}
 use Rattle.law_terms.proofs.Places.{map_back, then_back}
 use Rattle.law_terms.proofs.TermTotal.{terms_decided}
+use Rattle.smt_apply.specs.Labels.{is_negation as is_any_negation}
 use Rattle.smt_nodes.specs.Interned.{meaning_in, nodes_of}
 use Rattle.smt_nodes.specs.View.{place_of, places_of}
 use Rattle.smt_nodes.specs.declared.id.NodeId.{NodeId}
 use Rattle.smt_nodes.specs.declared.interner.Interner.{Interner}
 
-false_by : (b : Bool) → (b ≡ true → ⊥) → b ≡ false
+pub false_by : (b : Bool) → (b ≡ true → ⊥) → b ≡ false
 false_by true h = absurd (h refl)
 false_by false h = refl
 
@@ -28,7 +29,7 @@ terms_differ i a b t u apart h k = false_by (term_eq t u) (λ e. (
     false≢true (sym apart ∙ (unsigned_Decides (place_of a) (place_of b)).1 same)
     ))
 
-turned : (m n : ℕ) (b : Bool) → nat_eq m n ≡ b → b ≡ false → nat_eq n m ≡ false
+pub turned : (m n : ℕ) (b : Bool) → nat_eq m n ≡ b → b ≡ false → nat_eq n m ≡ false
 turned m n b e h = false_by (nat_eq n m) (λ k. false≢true (sym (e ∙ h) ∙ (unsigned_Decides m n).1 (sym ((unsigned_Decides n m).0 k))))
 
 -- the second of two parts
@@ -53,6 +54,11 @@ not_negated i a b ids d r l e parts t (Application NotOp (one_term v no_terms) t
 not_negated i a b ids d r l e parts t (Application NotOp no_terms ty) h k off = refl
 not_negated i a b ids d r l e parts t (Application NotOp (one_term v (one_term w vs)) ty) h k off = refl
 not_negated i a b ids d r l e parts t u h k off = refl
+
+-- where no negation is seen
+pub no_negation : (t u : PlainTerm) → is_any_negation u ≡ false → is_negation t u ≡ false
+no_negation t (Application NotOp ts ty) n = absurd (false≢true (sym n))
+no_negation t u n = refl
 
 pub by_not : (b : Bool) → not b ≡ true → b ≡ false
 by_not true h = absurd (false≢true h)

@@ -1,7 +1,7 @@
 -- What terms and their labels tell of foldings.
-use Rattle.std.specs.Prelude.{Bool, true, false}
+use Rattle.std.specs.Prelude.{Bool, true, false, not, ◌&&◌, ◌||◌}
 use Rattle.law_terms.specs.Nodes.{PlainLabel, ApplicationLabel, BitVecLabel, CallLabel, LiteralLabel, VariableLabel}
-use Rattle.law_terms.specs.Plain.{PlainOp, AndOp, BvnegOp, EqOp, IteOp, NotOp, OrOp, BitsOp, OverflowOp, TestOp, BoolLiteral, PlainTerm, Application, LiteralTerm, VariableTerm}
+use Rattle.law_terms.specs.Plain.{PlainOp, AndOp, BvnegOp, BvnegoOp, EqOp, IteOp, NotOp, OrOp, BitsOp, OverflowOp, TestOp, BoolLiteral, PlainTerm, Application, LiteralTerm, VariableTerm}
 
 -- a variable or an application, of which no folding knows the value
 abbrev pub is_open : PlainTerm → Bool
@@ -13,6 +13,20 @@ is_open t = false
 abbrev pub is_truth : PlainTerm → Bool
 is_truth (LiteralTerm (BoolLiteral b)) = true
 is_truth t = false
+
+-- a negation of truth values
+abbrev pub is_negation : PlainTerm → Bool
+is_negation (Application NotOp ts t) = true
+is_negation t = false
+
+-- a negation of bitvectors
+abbrev pub is_bits_negation : PlainTerm → Bool
+is_bits_negation (Application BvnegOp ts t) = true
+is_bits_negation t = false
+
+-- a variable, or an application that is no negation
+abbrev pub is_plain : PlainTerm → Bool
+is_plain t = is_open t && not (is_negation t || is_bits_negation t)
 
 -- the label of a variable or of an application
 abbrev pub is_open_label : PlainLabel → Bool
@@ -58,6 +72,13 @@ is_bits_test (TestOp o) = true
 is_bits_test (OverflowOp o) = true
 is_bits_test o = false
 
+-- an operator of one operand that is applied without the factory
+abbrev pub is_unary : PlainOp → Bool
+is_unary NotOp = true
+is_unary BvnegOp = true
+is_unary BvnegoOp = true
+is_unary o = false
+
 -- `eq`
 abbrev pub is_equality : PlainOp → Bool
 is_equality EqOp = true
@@ -67,3 +88,7 @@ is_equality o = false
 abbrev pub is_choice : PlainOp → Bool
 is_choice IteOp = true
 is_choice o = false
+
+-- an operator of two operands that is applied without the factory
+abbrev pub is_binary : PlainOp → Bool
+is_binary o = is_connective o || (is_equality o || (is_bits_operator o || is_bits_test o))

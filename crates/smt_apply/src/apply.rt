@@ -1,10 +1,10 @@
 // Operators at numbered terms.
-ghost use Rattle.std.specs.Prelude.{◌≡◌, ◌∷◌, [], IfOk, IfSome, IsTrue, List, Some, map};
+ghost use Rattle.std.specs.Prelude.{◌≡◌, ◌∷◌, [], IfNone, IfOk, IfSome, IsTrue, List, Some, false, map};
 ghost use Rattle.law_terms.specs.Fits.{applies_no_function};
 ghost use Rattle.law_terms.specs.Meanings.{all_found, meanings};
 ghost use Rattle.law_terms.specs.Nodes.{ApplicationLabel, TermMeaning, TypeMeaning};
 ghost use Rattle.law_terms.specs.Plain.{Application, BoolType, PlainTerm, PlainType, terms};
-ghost use Rattle.smt_apply.specs.Applied.{ArePartsOf, IsBuilt, StandForTerms};
+ghost use Rattle.smt_apply.specs.Applied.{ArePartsOf, IsBuilt, StandForTerms, is_plainly_applied};
 ghost use Rattle.smt_nodes.specs.Interned.{meaning_in, nodes_of, KeepsMeanings, StandFor};
 ghost use Rattle.smt_nodes.specs.View.{places_of};
 ghost use Rattle.smt_term.specs.View.{plain_op};
@@ -26,6 +26,7 @@ fn enter(
     requires parts { (ty : PlainType) × (ts : List PlainTerm) × ArePartsOf nodes.old parts.now ty ts }
     ensures meaning { (ty : PlainType) (ts : List PlainTerm) → ArePartsOf nodes.old parts.now ty ts →
         IfOk result (λ found. IfSome found (λ id. meaning_in nodes.new id ≡ Some (TermMeaning (Application (plain_op op.now) (terms ts) ty)))) }
+    ensures some { IfOk result (λ found. IfNone found ⊥) }
     ensures kept { KeepsMeanings nodes.old nodes.new }
 {
     let node = Node {
@@ -46,6 +47,7 @@ fn applied_to_one(
     requires truth { meaning_in nodes.old truth ≡ Some (TypeMeaning BoolType) }
     requires a { (t : PlainTerm) × (meaning_in nodes.old a ≡ Some (TermMeaning t)) }
     ensures built { (t : PlainTerm) → meaning_in nodes.old a ≡ Some (TermMeaning t) → IfOk result (λ found. IfSome found (IsBuilt nodes.new (plain_op op.now) (t ∷ []))) }
+    ensures none { (t : PlainTerm) → meaning_in nodes.old a ≡ Some (TermMeaning t) → IfOk result (λ found. IfNone found (is_plainly_applied (plain_op op.now) (t ∷ []) ≡ false)) }
     ensures kept { KeepsMeanings nodes.old nodes.new }
 {
     let Some(ty) = given_to_one(nodes, op, truth, a) else {
@@ -72,6 +74,8 @@ fn applied_to_two(
     requires b { (t : PlainTerm) × (meaning_in nodes.old b ≡ Some (TermMeaning t)) }
     ensures built { (t u : PlainTerm) → meaning_in nodes.old a ≡ Some (TermMeaning t) → meaning_in nodes.old b ≡ Some (TermMeaning u) →
         IfOk result (λ found. IfSome found (IsBuilt nodes.new (plain_op op.now) (t ∷ u ∷ []))) }
+    ensures none { (t u : PlainTerm) → meaning_in nodes.old a ≡ Some (TermMeaning t) → meaning_in nodes.old b ≡ Some (TermMeaning u) →
+        IfOk result (λ found. IfNone found (is_plainly_applied (plain_op op.now) (t ∷ u ∷ []) ≡ false)) }
     ensures kept { KeepsMeanings nodes.old nodes.new }
 {
     let Some(ty) = given_to_two(nodes, op, truth, a, b) else {
@@ -100,6 +104,8 @@ fn applied_to_three(
     requires c { (t : PlainTerm) × (meaning_in nodes.old c ≡ Some (TermMeaning t)) }
     ensures built { (g t u : PlainTerm) → meaning_in nodes.old a ≡ Some (TermMeaning g) → meaning_in nodes.old b ≡ Some (TermMeaning t) → meaning_in nodes.old c ≡ Some (TermMeaning u) →
         IfOk result (λ found. IfSome found (IsBuilt nodes.new (plain_op op.now) (g ∷ t ∷ u ∷ []))) }
+    ensures none { (g t u : PlainTerm) → meaning_in nodes.old a ≡ Some (TermMeaning g) → meaning_in nodes.old b ≡ Some (TermMeaning t) → meaning_in nodes.old c ≡ Some (TermMeaning u) →
+        IfOk result (λ found. IfNone found (is_plainly_applied (plain_op op.now) (g ∷ t ∷ u ∷ []) ≡ false)) }
     ensures kept { KeepsMeanings nodes.old nodes.new }
 {
     let Some(ty) = given_to_three(nodes, op, truth, a, b, c) else {
@@ -115,7 +121,8 @@ fn applied_to_three(
 /// The number of what the factory builds for an operator at the terms of these numbers, where the operator takes them and it is
 /// seen at their nodes that nothing is folded, so that it is the application itself. It is `None` where it is not typed, where
 /// something may be folded, and for the operators that are none of `not`, `and`, `or`, `eq`, `ite` and those from bitvectors to
-/// bitvectors or truth values, but for `zero_extend`: then the factory is asked.
+/// bitvectors or truth values, but for `zero_extend`: then the factory is asked. It is never `None` where one of these operators
+/// takes the terms, and they are different variables and applications without negations.
 ///
 /// # Errors
 ///
@@ -128,6 +135,7 @@ pub fn applied(
 ) -> Result<Option<NodeId>, TermError>
     requires operands { StandForTerms nodes.old operands.now }
     ensures built { (ts : List PlainTerm) → StandFor nodes.old operands.now ts → IfOk result (λ found. IfSome found (IsBuilt nodes.new (plain_op op.now) ts)) }
+    ensures none { (ts : List PlainTerm) → StandFor nodes.old operands.now ts → IfOk result (λ found. IfNone found (is_plainly_applied (plain_op op.now) ts ≡ false)) }
     ensures kept { KeepsMeanings nodes.old nodes.new }
 {
     let truth = nodes.intern_subject(Subject::Type(&TermType::Bool))?;

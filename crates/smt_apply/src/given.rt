@@ -1,9 +1,9 @@
 // The types that operators give to numbered terms.
-ghost use Rattle.std.specs.Prelude.{◌≡◌, ◌∷◌, [], IfSome, IsTrue, Some};
+ghost use Rattle.std.specs.Prelude.{◌≡◌, ◌∷◌, [], IfNone, IfSome, IsTrue, Some, false};
 ghost use Rattle.law_terms.specs.Fits.{applies_no_function};
 ghost use Rattle.law_terms.specs.Nodes.{ApplicationLabel, TermMeaning, TypeMeaning};
 ghost use Rattle.law_terms.specs.Plain.{BoolType, PlainTerm};
-ghost use Rattle.smt_apply.specs.Applied.{IsGiven};
+ghost use Rattle.smt_apply.specs.Applied.{IsGiven, takes};
 ghost use Rattle.smt_nodes.specs.Interned.{meaning_in};
 ghost use Rattle.smt_term.specs.View.{plain_op};
 
@@ -16,6 +16,8 @@ use smt_term::Op;
 pub(crate) fn given_to_one(nodes: &Interner, op: &Op, truth: NodeId, a: NodeId) -> Option<NodeId>
     ensures given { (t : PlainTerm) → meaning_in nodes.now truth ≡ Some (TypeMeaning BoolType) → meaning_in nodes.now a ≡ Some (TermMeaning t) →
         IfSome result (IsGiven nodes.now (plain_op op.now) (t ∷ [])) }
+    ensures none { (t : PlainTerm) → meaning_in nodes.now truth ≡ Some (TypeMeaning BoolType) → meaning_in nodes.now a ≡ Some (TermMeaning t) →
+        IfNone result (takes (plain_op op.now) (t ∷ []) ≡ false) }
     ensures no_function { IfSome result (λ ty. IsTrue (applies_no_function (ApplicationLabel (plain_op op.now)))) }
 {
     let own = type_at(nodes, a)?;
@@ -37,6 +39,8 @@ pub(crate) fn given_to_two(
 ) -> Option<NodeId>
     ensures given { (t u : PlainTerm) → meaning_in nodes.now truth ≡ Some (TypeMeaning BoolType) → meaning_in nodes.now a ≡ Some (TermMeaning t) → meaning_in nodes.now b ≡ Some (TermMeaning u) →
         IfSome result (IsGiven nodes.now (plain_op op.now) (t ∷ u ∷ [])) }
+    ensures none { (t u : PlainTerm) → meaning_in nodes.now truth ≡ Some (TypeMeaning BoolType) → meaning_in nodes.now a ≡ Some (TermMeaning t) → meaning_in nodes.now b ≡ Some (TermMeaning u) →
+        IfNone result (takes (plain_op op.now) (t ∷ u ∷ []) ≡ false) }
     ensures no_function { IfSome result (λ ty. IsTrue (applies_no_function (ApplicationLabel (plain_op op.now)))) }
 {
     let own = type_at(nodes, a)?;
@@ -67,6 +71,8 @@ pub(crate) fn given_to_three(
 ) -> Option<NodeId>
     ensures given { (g t u : PlainTerm) → meaning_in nodes.now truth ≡ Some (TypeMeaning BoolType) → meaning_in nodes.now a ≡ Some (TermMeaning g) → meaning_in nodes.now b ≡ Some (TermMeaning t) → meaning_in nodes.now c ≡ Some (TermMeaning u) →
         IfSome result (IsGiven nodes.now (plain_op op.now) (g ∷ t ∷ u ∷ [])) }
+    ensures none { (g t u : PlainTerm) → meaning_in nodes.now truth ≡ Some (TypeMeaning BoolType) → meaning_in nodes.now a ≡ Some (TermMeaning g) → meaning_in nodes.now b ≡ Some (TermMeaning t) → meaning_in nodes.now c ≡ Some (TermMeaning u) →
+        IfNone result (takes (plain_op op.now) (g ∷ t ∷ u ∷ []) ≡ false) }
     ensures no_function { IfSome result (λ ty. IsTrue (applies_no_function (ApplicationLabel (plain_op op.now)))) }
 {
     let own = type_at(nodes, b)?;

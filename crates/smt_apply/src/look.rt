@@ -1,11 +1,10 @@
 // What numbered terms tell of foldings.
-ghost use Rattle.std.specs.Prelude.{◌≡◌, IfSome, None, Some, false};
+ghost use Rattle.std.specs.Prelude.{◌≡◌, IfNone, IfSome, Some, false};
 ghost use Rattle.law_folding.specs.FoldConnectives.{are_opposites, is_negation as is_negation_of};
-ghost use Rattle.law_folding.specs.Parts.{negated, negated_bits};
 ghost use Rattle.law_terms.specs.Nodes.{TermMeaning, TypeMeaning};
 ghost use Rattle.law_terms.specs.Plain.{PlainTerm, PlainType};
 ghost use Rattle.law_terms.specs.Types.{is_bits, type_of};
-ghost use Rattle.smt_apply.specs.Labels.{is_open, is_truth};
+ghost use Rattle.smt_apply.specs.Labels.{is_bits_negation, is_negation, is_open, is_truth};
 ghost use Rattle.smt_nodes.specs.Interned.{meaning_in};
 
 use crate::label::{
@@ -15,7 +14,8 @@ use smt_nodes::{Interner, NodeId};
 
 /// The number of a term's type.
 pub(crate) fn type_at(nodes: &Interner, id: NodeId) -> Option<NodeId>
-    ensures { (t : PlainTerm) → meaning_in nodes.now id ≡ Some (TermMeaning t) → IfSome result (λ ty. meaning_in nodes.now ty ≡ Some (TypeMeaning (type_of t))) }
+    ensures found { (t : PlainTerm) → meaning_in nodes.now id ≡ Some (TermMeaning t) → IfSome result (λ ty. meaning_in nodes.now ty ≡ Some (TypeMeaning (type_of t))) }
+    ensures none { (t : PlainTerm) → meaning_in nodes.now id ≡ Some (TermMeaning t) → IfNone result ⊥ }
 {
     nodes.parts(id).first().copied()
 }
@@ -52,7 +52,7 @@ pub(crate) fn is_truth(nodes: &Interner, id: NodeId) -> bool
 
 /// Whether a term is a negation of truth values.
 pub(crate) fn is_negation(nodes: &Interner, id: NodeId) -> bool
-    ensures { (t : PlainTerm) → meaning_in nodes.now id ≡ Some (TermMeaning t) → result ≡ false → negated t ≡ None }
+    ensures { (t : PlainTerm) → meaning_in nodes.now id ≡ Some (TermMeaning t) → result ≡ is_negation t }
 {
     match nodes.label(id) {
         Some(label) => is_negation_label(label),
@@ -62,7 +62,7 @@ pub(crate) fn is_negation(nodes: &Interner, id: NodeId) -> bool
 
 /// Whether a term is a negation of bitvectors.
 pub(crate) fn is_bits_negation(nodes: &Interner, id: NodeId) -> bool
-    ensures { (t : PlainTerm) → meaning_in nodes.now id ≡ Some (TermMeaning t) → result ≡ false → negated_bits t ≡ None }
+    ensures { (t : PlainTerm) → meaning_in nodes.now id ≡ Some (TermMeaning t) → result ≡ is_bits_negation t }
 {
     match nodes.label(id) {
         Some(label) => is_bits_negation_label(label),
@@ -72,7 +72,8 @@ pub(crate) fn is_bits_negation(nodes: &Interner, id: NodeId) -> bool
 
 /// Whether the second term is the negation of the first.
 fn negates(nodes: &Interner, a: NodeId, b: NodeId) -> bool
-    ensures { (t u : PlainTerm) → meaning_in nodes.now a ≡ Some (TermMeaning t) → meaning_in nodes.now b ≡ Some (TermMeaning u) → result ≡ false → is_negation_of t u ≡ false }
+    ensures none { (t u : PlainTerm) → meaning_in nodes.now a ≡ Some (TermMeaning t) → meaning_in nodes.now b ≡ Some (TermMeaning u) → result ≡ false → is_negation_of t u ≡ false }
+    ensures plain { (u : PlainTerm) → meaning_in nodes.now b ≡ Some (TermMeaning u) → is_negation u ≡ false → result ≡ false }
 {
     if !is_negation(nodes, b) {
         return false;
@@ -85,7 +86,8 @@ fn negates(nodes: &Interner, a: NodeId, b: NodeId) -> bool
 
 /// Whether one of the two terms is the negation of the other.
 pub(crate) fn are_opposites(nodes: &Interner, a: NodeId, b: NodeId) -> bool
-    ensures { (t u : PlainTerm) → meaning_in nodes.now a ≡ Some (TermMeaning t) → meaning_in nodes.now b ≡ Some (TermMeaning u) → result ≡ false → are_opposites t u ≡ false }
+    ensures none { (t u : PlainTerm) → meaning_in nodes.now a ≡ Some (TermMeaning t) → meaning_in nodes.now b ≡ Some (TermMeaning u) → result ≡ false → are_opposites t u ≡ false }
+    ensures plain { (t u : PlainTerm) → meaning_in nodes.now a ≡ Some (TermMeaning t) → meaning_in nodes.now b ≡ Some (TermMeaning u) → is_negation t ≡ false → is_negation u ≡ false → result ≡ false }
 {
     negates(nodes, a, b) || negates(nodes, b, a)
 }

@@ -1,7 +1,8 @@
 // Where nothing is folded: what the factory builds is the application itself.
-ghost use Rattle.std.specs.Prelude.{◌≡◌, ◌∷◌, ◌||◌, [], IsTrue, Some};
+ghost use Rattle.std.specs.Prelude.{◌≡◌, ◌∷◌, ◌||◌, [], IsTrue, Some, false};
 ghost use Rattle.law_terms.specs.Nodes.{TermMeaning};
 ghost use Rattle.law_terms.specs.Plain.{PlainTerm};
+ghost use Rattle.law_terms.specs.TermOrder.{term_eq};
 ghost use Rattle.smt_apply.specs.Applied.{AreApart, Stays};
 ghost use Rattle.smt_apply.specs.Labels as kinds;
 ghost use Rattle.smt_nodes.specs.Interned.{meaning_in};
@@ -63,7 +64,8 @@ fn is_on_bits(op: &Op) -> bool
 
 /// Whether the operator stays at one operand.
 pub(crate) fn stays_at_one(nodes: &Interner, op: &Op, a: NodeId) -> bool
-    ensures { (t : PlainTerm) → meaning_in nodes.now a ≡ Some (TermMeaning t) → IsTrue result → Stays (plain_op op.now) (t ∷ []) }
+    ensures stays { (t : PlainTerm) → meaning_in nodes.now a ≡ Some (TermMeaning t) → IsTrue result → Stays (plain_op op.now) (t ∷ []) }
+    ensures plain { (t : PlainTerm) → meaning_in nodes.now a ≡ Some (TermMeaning t) → IsTrue (kinds.is_unary (plain_op op.now)) → IsTrue (kinds.is_plain t) → IsTrue result }
 {
     match op {
         Op::Not => !is_truth(nodes, a) && !is_negation(nodes, a),
@@ -75,7 +77,8 @@ pub(crate) fn stays_at_one(nodes: &Interner, op: &Op, a: NodeId) -> bool
 
 /// Whether these differ, and none of them is `true` or `false`.
 fn are_apart(nodes: &Interner, a: NodeId, b: NodeId) -> bool
-    ensures { (t u : PlainTerm) → meaning_in nodes.now a ≡ Some (TermMeaning t) → meaning_in nodes.now b ≡ Some (TermMeaning u) → IsTrue result → AreApart t u }
+    ensures apart { (t u : PlainTerm) → meaning_in nodes.now a ≡ Some (TermMeaning t) → meaning_in nodes.now b ≡ Some (TermMeaning u) → IsTrue result → AreApart t u }
+    ensures plain { (t u : PlainTerm) → meaning_in nodes.now a ≡ Some (TermMeaning t) → meaning_in nodes.now b ≡ Some (TermMeaning u) → AreApart t u → IsTrue result }
 {
     if a == b {
         return false;
@@ -95,7 +98,9 @@ fn is_one_open(nodes: &Interner, a: NodeId, b: NodeId) -> bool
 
 /// Whether the operator stays at two operands.
 pub(crate) fn stays_at_two(nodes: &Interner, op: &Op, a: NodeId, b: NodeId) -> bool
-    ensures { (t u : PlainTerm) → meaning_in nodes.now a ≡ Some (TermMeaning t) → meaning_in nodes.now b ≡ Some (TermMeaning u) → IsTrue result → Stays (plain_op op.now) (t ∷ u ∷ []) }
+    ensures stays { (t u : PlainTerm) → meaning_in nodes.now a ≡ Some (TermMeaning t) → meaning_in nodes.now b ≡ Some (TermMeaning u) → IsTrue result → Stays (plain_op op.now) (t ∷ u ∷ []) }
+    ensures plain { (t u : PlainTerm) → meaning_in nodes.now a ≡ Some (TermMeaning t) → meaning_in nodes.now b ≡ Some (TermMeaning u) →
+        IsTrue (kinds.is_binary (plain_op op.now)) → IsTrue (kinds.is_plain t) → IsTrue (kinds.is_plain u) → term_eq t u ≡ false → IsTrue result }
 {
     if is_connective(op) {
         are_apart(nodes, a, b) && !are_opposites(nodes, a, b)
@@ -108,8 +113,10 @@ pub(crate) fn stays_at_two(nodes: &Interner, op: &Op, a: NodeId, b: NodeId) -> b
 
 /// Whether the operator stays at three operands.
 pub(crate) fn stays_at_three(nodes: &Interner, op: &Op, a: NodeId, b: NodeId, c: NodeId) -> bool
-    ensures { (g t u : PlainTerm) → meaning_in nodes.now a ≡ Some (TermMeaning g) → meaning_in nodes.now b ≡ Some (TermMeaning t) → meaning_in nodes.now c ≡ Some (TermMeaning u) →
+    ensures stays { (g t u : PlainTerm) → meaning_in nodes.now a ≡ Some (TermMeaning g) → meaning_in nodes.now b ≡ Some (TermMeaning t) → meaning_in nodes.now c ≡ Some (TermMeaning u) →
         IsTrue result → Stays (plain_op op.now) (g ∷ t ∷ u ∷ []) }
+    ensures plain { (g t u : PlainTerm) → meaning_in nodes.now a ≡ Some (TermMeaning g) → meaning_in nodes.now b ≡ Some (TermMeaning t) → meaning_in nodes.now c ≡ Some (TermMeaning u) →
+        IsTrue (kinds.is_choice (plain_op op.now)) → IsTrue (kinds.is_plain g) → IsTrue (kinds.is_plain t) → IsTrue (kinds.is_plain u) → term_eq t u ≡ false → IsTrue result }
 {
     if !is_choice(op) {
         return false;

@@ -18,5 +18,5 @@ enter-requires-clause-parts c =
 pub returns-then-stays_at_one-clause-built : goal.returns-then-stays_at_one-clause-built
 returns-then-stays_at_one-clause-built c t h =
     let given = c.in-Some.ensures.given t c.requires.truth h in
-    built_so c.enter.result c.enter.new.nodes (plain_op c.args.op.now) (t ∷ []) given.0 given.1 (c.if-stays_at_one.ensures t h refl)
+    built_so c.enter.result c.enter.new.nodes (plain_op c.args.op.now) (t ∷ []) given.0 given.1 (c.if-stays_at_one.ensures.stays t h refl)
     (c.enter.ensures.meaning given.0 (t ∷ []) (two_found (nodes_of c.args.nodes.now) c.in-Some.ty c.args.a (TypeMeaning given.0) (TermMeaning t) given.2 h))

@@ -1,10 +1,15 @@
 use Rattle.std.proofs.Common.{sym, ◌∙◌}
+use Rattle.std.proofs.lemmas.Bool.{false≢true}
 use Rattle.smt_apply.proofs.Looking.{by_not, terms_differ}
+use Rattle.smt_apply.proofs.Plainly.{terms_same}
 use Rattle.smt_apply.proofs.stays.are_apart.Goals as goal
 
-pub returns : goal.returns
-returns c t u h k r = record {
+pub returns-clause-apart : goal.returns-clause-apart
+returns-clause-apart c t u h k r = record {
   differ = terms_differ c.args.nodes.now c.args.a c.args.b t u (sym c.if-eq.ensures) h k;
   first = sym (c.if-is_truth.ensures t h);
   second = sym (c.is_truth-2.ensures u k) ∙ by_not _ r;
 }
+
+pub returns-then-eq-clause-plain : goal.returns-then-eq-clause-plain
+returns-then-eq-clause-plain c t u h k a = absurd (false≢true (sym a.differ ∙ terms_same c.args.nodes.now c.args.a c.args.b t u (sym c.if-eq.ensures) h k))
