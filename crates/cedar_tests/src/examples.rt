@@ -1,5 +1,6 @@
 // Worked examples: types and their terms, values and their terms, and the environment of a store of one user.
 use crate::AMPLE;
+use crate::expected::expect_text;
 use crate::worlds::{Kind, Part, Plain, World, symbolized, text, type_named, uid};
 use smt_cedar::{
     AttributeType, Attributes, CedarType, EntityKind, ExprList, ExtFromCedar, Literal, OfType,
@@ -13,11 +14,6 @@ use smt_values::{FromCedar, SymbolizeError};
 use std::alloc::Global;
 use std::process::Abort;
 
-/// Compares what was answered with what is to be answered.
-fn compare(rt: &impl Abort, answered: &String, wanted: &str, label: &str) {
-    assert_eq!(rt; answered.as_str(), wanted, "{label}");
-}
-
 /// The type of the terms of a Cedar type, as a text.
 fn type_said(rt: &impl Abort, alloc: Global, ty: &CedarType) -> String {
     format!(in alloc; "{:?}", TermType::of_type(alloc, ty)).expect(rt, AMPLE)
@@ -27,18 +23,14 @@ fn type_said(rt: &impl Abort, alloc: Global, ty: &CedarType) -> String {
 fn types_have_terms(rt: HostRuntime) {
     let alloc = rt.alloc();
     let long = type_said(&rt, alloc, &CedarType::Long);
-    compare(
-        &rt,
-        &long,
-        "Ok(Bitvec { n: Width { bits: 64 } })",
-        "numbers",
-    );
+    let wanted = "Ok(Bitvec { n: Width { bits: 64 } })";
+    expect_text(&rt, "numbers", long.as_str(), wanted);
     let any = type_said(&rt, alloc, &CedarType::Entity(EntityKind::AnyEntity));
     let refused = "Err(UnsupportedFeature(\"AnyEntity is not supported\"))";
-    compare(&rt, &any, refused, "entities of any type");
+    expect_text(&rt, "entities of any type", any.as_str(), refused);
     let types = of_record_type(alloc, &Attributes::new(alloc)).expect(&rt, AMPLE);
     let count = format!(in alloc; "{}", types.len()).expect(&rt, AMPLE);
-    compare(&rt, &count, "0", "no attributes");
+    expect_text(&rt, "no attributes", count.as_str(), "0");
 }
 
 /// A number that an attribute is of, and whether each record has it.
@@ -87,11 +79,13 @@ fn values_have_terms(rt: HostRuntime) {
     let alloc = rt.alloc();
     let seven = Term::from_literal(&Literal::Long(7)).expect(&rt, AMPLE);
     let said = format!(in alloc; "{seven}").expect(&rt, AMPLE);
-    compare(&rt, &said, "(bv64 7)", "a literal");
+    expect_text(&rt, "a literal", said.as_str(), "(bv64 7)");
     let missing = "no term, and the value is given back: true";
-    compare(&rt, &term_said(&rt, alloc, true), missing, "b is missing");
+    let said = term_said(&rt, alloc, true);
+    expect_text(&rt, "b is missing", said.as_str(), missing);
     let some = "{ a: Some((bv64 10)) }";
-    compare(&rt, &term_said(&rt, alloc, false), some, "a alone");
+    let said = term_said(&rt, alloc, false);
+    expect_text(&rt, "a alone", said.as_str(), some);
 }
 
 /// The call of `decimal` with this text.
@@ -111,15 +105,26 @@ fn calls_have_values(rt: HostRuntime) {
     let call = decimal_call(&rt, alloc, "1.0");
     let x = Ext::try_from_restricted(alloc, &call).expect(&rt, AMPLE);
     let said = format!(in alloc; "{}", Term::from(x)).expect(&rt, AMPLE);
-    compare(&rt, &said, "decimal(\"1.0000\")", "a call of decimal");
+    expect_text(
+        &rt,
+        "a call of decimal",
+        said.as_str(),
+        "decimal(\"1.0000\")",
+    );
     let made = value_of_ext(alloc, &x).expect(&rt, AMPLE);
     let again = Ext::try_from_value(alloc, &made).expect(&rt, AMPLE);
     let same = format!(in alloc; "{}", again == x).expect(&rt, AMPLE);
-    compare(&rt, &same, "true", "the call that is made of a value");
+    expect_text(
+        &rt,
+        "the call that is made of a value",
+        same.as_str(),
+        "true",
+    );
     let truth = Value::Lit(Literal::Bool(true));
-    let refused = format!(in alloc; "{:?}", Ext::try_from_value(alloc, &truth));
+    let refused = Ext::try_from_value(alloc, &truth);
+    let refused = format!(in alloc; "{refused:?}").expect(&rt, AMPLE);
     let wanted = "Err(FromValue(Lit(Bool(true))))";
-    compare(&rt, &refused.expect(&rt, AMPLE), wanted, "a truth value");
+    expect_text(&rt, "a truth value", refused.as_str(), wanted);
 }
 
 /// A user of 3 years, who is in a group and has a tag. A user may view a user.
@@ -162,18 +167,23 @@ fn tag_of_a(rt: &impl Abort, alloc: Global, values: &UnaryFunction) -> String {
 /// Compares what there is to say of users.
 fn compare_users(rt: &impl Abort, alloc: Global, users: &SymEntityData) {
     let age = at_user(rt, alloc, &users.attrs, "a");
-    compare(rt, &age, "{ age: (bv64 3) }", "attributes");
+    expect_text(rt, "attributes", age.as_str(), "{ age: (bv64 3) }");
     let other = at_user(rt, alloc, &users.attrs, "z");
-    compare(rt, &other, "{ age: (bv64 0) }", "a user who is not stored");
+    expect_text(
+        rt,
+        "a user who is not stored",
+        other.as_str(),
+        "{ age: (bv64 0) }",
+    );
     let group = type_named(rt, alloc, "Group");
     let groups = users.ancestors.get(&group).expect(rt, "there are groups");
     let held = at_user(rt, alloc, groups, "a");
-    compare(rt, &held, "[Group::\"g\"]", "ancestors");
+    expect_text(rt, "ancestors", held.as_str(), "[Group::\"g\"]");
     if let Some(tags) = &users.tags {
         let keys = at_user(rt, alloc, &tags.keys, "a");
-        compare(rt, &keys, "[\"k\"]", "keys of tags");
+        expect_text(rt, "keys of tags", keys.as_str(), "[\"k\"]");
         let tag = tag_of_a(rt, alloc, &tags.vals);
-        compare(rt, &tag, "\"v\"", "a tag");
+        expect_text(rt, "a tag", tag.as_str(), "\"v\"");
     } else {
         panic!(rt; "users have tags");
     }
@@ -198,16 +208,17 @@ fn a_user_is_stored(rt: HostRuntime) {
         .expect(&rt, "the schema has users");
     compare_users(&rt, alloc, users);
     let colors = members(&rt, alloc, &env, "Color");
-    compare(&rt, &colors, "[\"blue\", \"red\"]", "an enum type");
+    expect_text(&rt, "an enum type", colors.as_str(), "[\"blue\", \"red\"]");
     let actions = members(&rt, alloc, &env, "Action");
-    compare(&rt, &actions, "[\"view\"]", "a type of actions");
+    expect_text(&rt, "a type of actions", actions.as_str(), "[\"view\"]");
     let others = members(&rt, alloc, &env, "User");
-    compare(&rt, &others, "not listed", "a type with attributes");
+    expect_text(&rt, "a type with attributes", others.as_str(), "not listed");
     let unknown = &World {
         context: None,
         ..*ONE_USER
     };
-    let refused = format!(in alloc; "{:?}", symbolized(&rt, alloc, unknown).err());
+    let refused = symbolized(&rt, alloc, unknown).err();
+    let refused = format!(in alloc; "{refused:?}").expect(&rt, AMPLE);
     let wanted = "Some(PartialRequest)";
-    compare(&rt, &refused.expect(&rt, AMPLE), wanted, "no context");
+    expect_text(&rt, "no context", refused.as_str(), wanted);
 }

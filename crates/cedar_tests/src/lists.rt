@@ -1,6 +1,7 @@
 // Lists that grow: what is pushed stands at the end, or in its place where the items are in order, and of equal keys the last
 // pair stays. An equal list comes of sharing.
 use crate::AMPLE;
+use crate::expected::{expect, expect_text};
 use crate::worlds::{text, type_named, uid};
 use smt_cedar::{
     AttributeType, Attributes, CedarType, EntityTypeList, ExprList, Literal, PartialMap,
@@ -18,11 +19,6 @@ use std::rc::Rc;
 /// How many items there are, whether the shared list is equal, and the items, as a text.
 fn said<T: Debug>(rt: &impl Abort, alloc: Global, len: usize, items: &[T], same: bool) -> String {
     format!(in alloc; "{len} {same} {items:?}").expect(rt, AMPLE)
-}
-
-/// Compares what was answered with what is to be answered.
-fn check(rt: &impl Abort, answered: &String, wanted: &str, label: &str) {
-    assert_eq!(rt; answered.as_str(), wanted, "{label}");
 }
 
 /// A number as a value.
@@ -74,21 +70,18 @@ fn two_names(rt: &impl Abort, alloc: Global) -> String {
 fn lists_grow(rt: HostRuntime) {
     let alloc = rt.alloc();
     let values = two_values(&rt, alloc);
-    check(
-        &rt,
-        &values,
-        "2 true [Lit(Long(2)), Lit(Long(1))]",
-        "values",
-    );
+    let wanted = "2 true [Lit(Long(2)), Lit(Long(1))]";
+    expect_text(&rt, "values", values.as_str(), wanted);
     let expressions = two_expressions(&rt, alloc);
-    check(&rt, &expressions, "2 true [Other, Lit(Long(1))]", "calls");
+    let wanted = "2 true [Other, Lit(Long(1))]";
+    expect_text(&rt, "calls", expressions.as_str(), wanted);
     let types = two_types(&rt, alloc);
     let wanted = "2 true [EntityType(\"B\"), EntityType(\"A\")]";
-    check(&rt, &types, wanted, "types");
+    expect_text(&rt, "types", types.as_str(), wanted);
     let names = two_names(&rt, alloc);
     let wanted =
         "2 true [EntityUID { ety: EntityType(\"T\"), id: EntityID(\"b\") }, EntityUID { ety: EntityType(\"T\"), id: EntityID(\"a\") }]";
-    check(&rt, &names, wanted, "names");
+    expect_text(&rt, "names", names.as_str(), wanted);
 }
 
 /// Values by attributes.
@@ -136,15 +129,15 @@ fn attributes_are_put_in_place(rt: HostRuntime) {
     let alloc = rt.alloc();
     let values = fields(&rt, alloc);
     let wanted = "3 true [(\"\", Lit(Long(4))), (\"a\", Lit(Long(2))), (\"b\", Lit(Long(3)))]";
-    check(&rt, &values, wanted, "values");
+    expect_text(&rt, "values", values.as_str(), wanted);
     let known = parts(&rt, alloc);
     let wanted =
         "3 true [(\"\", Value(Lit(Long(4)))), (\"a\", Value(Lit(Long(2)))), (\"b\", Residual)]";
-    check(&rt, &known, wanted, "what is known of values");
+    expect_text(&rt, "what is known of values", known.as_str(), wanted);
     let types = attributes(&rt, alloc);
     let wanted =
         "3 true [(\"\", AttributeType { attr_type: Long, is_required: true }), (\"a\", AttributeType { attr_type: Long, is_required: true }), (\"b\", AttributeType { attr_type: Long, is_required: false })]";
-    check(&rt, &types, wanted, "types");
+    expect_text(&rt, "types", types.as_str(), wanted);
 }
 
 /// A function of the interpretation, by its name.
@@ -180,20 +173,14 @@ fn types_are_put_in_place(rt: HostRuntime) {
         ancestors.push(pair).expect(&rt, AMPLE);
     }
     let said = functions_held(&rt, alloc, &ancestors);
-    check(&rt, &said, "\"A\" g \"B\" h ", "types of ancestors");
+    expect_text(&rt, "types of ancestors", said.as_str(), "\"A\" g \"B\" h ");
     let same = ancestors.share().expect(&rt, AMPLE) == ancestors;
-    check_shared(&rt, alloc, ancestors.len(), same, "2 true");
+    expect(&rt, same && ancestors.len() == 2, "two types and the same");
     let mut entities = SymEntities::new(alloc);
     let pair = (type_named(&rt, alloc, "T"), data_of(&rt, alloc, ancestors));
     entities.push(pair).expect(&rt, AMPLE);
     let same = entities.share().expect(&rt, AMPLE) == entities;
-    check_shared(&rt, alloc, entities.len(), same, "1 true");
-}
-
-/// Compares how many types there are, and whether the shared map is equal, with what is to be answered.
-fn check_shared(rt: &impl Abort, alloc: Global, len: usize, same: bool, wanted: &str) {
-    let answered = format!(in alloc; "{len} {same}").expect(rt, AMPLE);
-    check(rt, &answered, wanted, "types and shared types");
+    expect(&rt, same && entities.len() == 1, "one type and the same");
 }
 
 /// A type with these ancestors, with a member and with tags.
@@ -260,5 +247,10 @@ fn shared_alike(rt: &impl Abort, alloc: Global) -> String {
 fn schemas_and_stores_are_shared(rt: HostRuntime) {
     let alloc = rt.alloc();
     let said = shared_alike(&rt, alloc);
-    check(&rt, &said, "true true true (1, 2, 1)", "schemas and stores");
+    expect_text(
+        &rt,
+        "schemas and stores",
+        said.as_str(),
+        "true true true (1, 2, 1)",
+    );
 }

@@ -372,22 +372,6 @@ fn none_of_its_type(rt: HostRuntime) {
     );
 }
 
-/// The type of entities of this name.
-fn entities(rt: &impl Abort, alloc: Global, name: &str) -> TermType {
-    TermType::Entity {
-        ety: type_named(rt, alloc, name),
-    }
-}
-
-/// The type of records of a text `b` and a truth value `a`.
-fn two_attributes(rt: &impl Abort, alloc: Global) -> TermType {
-    let b = (text(rt, alloc, "b"), TermType::String);
-    let a = (text(rt, alloc, "a"), TermType::Bool);
-    TermType::Record {
-        rty: TypeMap::new(alloc, &[b, a]).expect(rt, AMPLE),
-    }
-}
-
 /// The enum types `Color`, of `red` and `blue`, and `Nothing`, of none.
 fn enum_types(rt: &impl Abort, alloc: Global) -> EnumTable {
     let mut enums = EnumTable::new(alloc);
@@ -419,8 +403,16 @@ fn spelled(rt: &impl Abort, alloc: Global, spelling: &str) -> TermType {
         "duration" => TermType::Ext {
             xty: ExtType::Duration,
         },
-        "two attributes" => two_attributes(rt, alloc),
-        name => entities(rt, alloc, name),
+        "two attributes" => {
+            let b = (text(rt, alloc, "b"), TermType::String);
+            let a = (text(rt, alloc, "a"), TermType::Bool);
+            TermType::Record {
+                rty: TypeMap::new(alloc, &[b, a]).expect(rt, AMPLE),
+            }
+        }
+        name => TermType::Entity {
+            ety: type_named(rt, alloc, name),
+        },
     }
 }
 

@@ -110,17 +110,12 @@ fn decisions(rt: HostRuntime) {
     expect(&rt, is_unknown, "unknown");
 }
 
-/// Whether the input of a session takes an assertion.
-fn takes_assertion(solver: &mut LocalSolver<ChildLink<HostRuntime>>) -> bool {
-    solver.smtlib_input().assert("true").is_ok()
-}
-
 #[test]
 fn assertions(rt: HostRuntime) {
     let lines = "read a && read b && test \"$a\" = '(assert true)' && echo sat";
     let mut session = open(&rt, &rt, lines);
-    let is_taken = takes_assertion(&mut session.solver);
-    expect(&rt, is_taken, "the assertion is taken");
+    let put = session.solver.smtlib_input().assert("true");
+    expect(&rt, put.is_ok(), "the assertion is taken");
     let is_sat = session.solver.check_sat() == Ok(Decision::Sat);
     expect(&rt, is_sat, "the decision");
     finish(&rt, close(session));
@@ -197,13 +192,6 @@ fn tells(solver: &mut LocalSolver<ChildLink<HostRuntime>>, expected: &str) -> bo
     }
 }
 
-/// Opens a session over the link of a shell.
-fn resume(alloc: Global, shell: Shell) -> Session {
-    let Shell { starter, link } = shell;
-    let solver = LocalSolver::new(alloc, link);
-    Session { starter, solver }
-}
-
 /// Stops the test where the answers of a child do not come to their end.
 fn expect_end_of_output(rt: &impl Abort, alloc: Global, link: &mut ChildLink<HostRuntime>) {
     let is_at_end = reads_to_end(link, &mut Bytes::new(alloc));
@@ -213,13 +201,6 @@ fn expect_end_of_output(rt: &impl Abort, alloc: Global, link: &mut ChildLink<Hos
 /// Stops the test where a child has ended otherwise.
 fn expect_end(rt: &impl Abort, link: &mut ChildLink<HostRuntime>, wanted: Ended) {
     assert!(rt; link.ended() == Ok(wanted), "the child: not {wanted:?}");
-}
-
-/// Stops the test where a session does not tell that its child ended with 3, or is not cleaned up behind it.
-fn expect_end_with_three(rt: &impl Abort, solver: &mut LocalSolver<ChildLink<HostRuntime>>) {
-    let message = "Solver process terminated unexpectedly with status: Some(3)";
-    expect(rt, tells(solver, message), "the code of the child");
-    expect(rt, solver.clean_up() == Ok(()), "the session is cleaned up");
 }
 
 /// Stops the test where a link does not do what it is asked, and names it.
@@ -237,9 +218,13 @@ fn ends(rt: HostRuntime) {
     let mut shell = start(&rt, &rt, "exit 3");
     expect_end_of_output(&rt, rt.alloc(), &mut shell.link);
     wait(&rt, &mut shell.link);
-    let mut session = resume(rt.alloc(), shell);
-    expect_end_with_three(&rt, &mut session.solver);
-    let mut shell = close(session);
+    let Shell { starter, link } = shell;
+    let mut solver = LocalSolver::new(rt.alloc(), link);
+    let message = "Solver process terminated unexpectedly with status: Some(3)";
+    expect(&rt, tells(&mut solver, message), "the code of the child");
+    let cleaned = solver.clean_up();
+    expect(&rt, cleaned == Ok(()), "the session is cleaned up");
+    let mut shell = close(Session { starter, solver });
     expect_end(&rt, &mut shell.link, Ended::Code(3));
     finish(&rt, shell);
 }
