@@ -44,7 +44,7 @@ const STEPS_SCRIPT: &str = "\
 
 const USAGE: &str = "usage: smtcli script or check PATH ARGS.. or gen SEED N\n";
 
-const VERSION: &str = "smtcli 0.1.0\n";
+const VERSION: &str = "smtcli 0.1.0 (rattle-kit-13f logic dac8208d650f15bf)\n";
 
 /// A run and how it ends: its word, the bytes of its source, which read of it and which put to `out` are to fail (0: none), the
 /// room of `out`, what `out` gets where nothing fails, or a first part of that, the status, and what is said on diag.
@@ -63,7 +63,7 @@ type Row = (
 
 const ENDS: &[Row] = &[
     ("script", NOT_B, 0, 0, 200, SCRIPT, 0, ""),
-    ("--help", "", 0, 0, 2000, USAGE, 0, ""),
+    ("--help", "", 0, 0, 4000, USAGE, 0, ""),
     ("--version", "", 0, 0, 200, VERSION, 0, ""),
     ("--version", NOT_B, 1, 0, 200, VERSION, 0, ""),
     ("scripts", NOT_B, 0, 0, 200, "", 2, USAGE),

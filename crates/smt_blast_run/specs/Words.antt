@@ -15,8 +15,8 @@ commanded (w ∷ v ∷ words) = None
 
 -- what `--help` prints: which terms a job may have, an example, and the statuses
 abbrev pub help_text : List ℕ
-help_text = codes "usage: smtblast < JOB\n\nReads a job from standard input, and prints a script in SMT-LIB 2.7 over Booleans alone that has a model exactly where the terms\nof the job that are current at its end can be true together. Each Boolean variable of the job becomes one constant, and each\nbitvector variable one for each bit: v0 and v1_0, v1_1 and so on, from the lowest, by the order in which the terms name the\nvariables. These names stand in the comments of the script.\n\nterms:    literals and variables of type Bool and of bitvectors, not, and, or, eq and ite on these, bvneg, bvadd, bvsub, bvshl,\n          bvlshr, bvslt, bvsle, bvult, bvule, bvnego, bvsaddo, bvssubo and zero_extend\n\nexample:  echo '(job (enums) (vars (\"b\" Bool)) (funs) (terms (not (var \"b\"))))' > job; smtblast < job\nprints    (declare-datatype Option (par (X) (\n            (none)\n            (some (val X)))))\n          ; \"v0\"\n          (declare-const t0 Bool)\n          (define-fun t1 () Bool (not t0))\n          (assert t1)\n\npipe:     (smtblast < job; echo \"(check-sat)\") | smtmini\n\nstatus: 0 done; 2 there are words; 3 the job is refused; 5 source fault; 6 sink fault; 7 out of memory; 10 a term is not blasted,\n        for an operator without a circuit (Unsupported) or a type that is neither Bool nor bitvectors (UnsupportedType)\n"
+help_text = codes "usage: smtblast < JOB\n\nReads a job from standard input, and prints a script in SMT-LIB 2.7 over Booleans alone that has a model exactly where the terms\nof the job that are current at its end can be true together. Each Boolean variable of the job becomes one constant, and each\nbitvector variable one for each bit: v0 and v1_0, v1_1 and so on, from the lowest, by the order in which the terms first name the\nvariables once they are folded. These names stand in the comments of the script.\n\nterms:    literals and variables of type Bool and of bitvectors, not, and, or, eq and ite on these, bvneg, bvadd, bvsub, bvshl,\n          bvlshr, bvslt, bvsle, bvult, bvule, bvnego, bvsaddo, bvssubo and zero_extend\n\nexample:  echo '(job (enums) (vars (\"b\" Bool)) (funs) (terms (not (var \"b\"))))' > job; smtblast < job\nprints    (declare-datatype Option (par (X) (\n            (none)\n            (some (val X)))))\n          ; \"v0\"\n          (declare-const t0 Bool)\n          (define-fun t1 () Bool (not t0))\n          (assert t1)\n\npipe:     (smtblast < job; echo \"(check-sat)\") | smtmini\n\nstatus: 0 done; 2 there are words; 3 the job is refused; 5 source fault; 6 sink fault; 7 out of memory; 10 a term is not blasted,\n        for an operator without a circuit (Unsupported) or a type that is neither Bool nor bitvectors (UnsupportedType)\n"
 
 -- what `--version` prints
 abbrev pub version_text : List ℕ
-version_text = codes "smtblast 0.1.0\n"
+version_text = codes "smtblast 0.1.0 (rattle-kit-13f logic dac8208d650f15bf)\n"

@@ -12,8 +12,8 @@ usage: smtblast < JOB
 
 Reads a job from standard input, and prints a script in SMT-LIB 2.7 over Booleans alone that has a model exactly where the terms
 of the job that are current at its end can be true together. Each Boolean variable of the job becomes one constant, and each
-bitvector variable one for each bit: v0 and v1_0, v1_1 and so on, from the lowest, by the order in which the terms name the
-variables. These names stand in the comments of the script.
+bitvector variable one for each bit: v0 and v1_0, v1_1 and so on, from the lowest, by the order in which the terms first name the
+variables once they are folded. These names stand in the comments of the script.
 
 terms:    literals and variables of type Bool and of bitvectors, not, and, or, eq and ite on these, bvneg, bvadd, bvsub, bvshl,
           bvlshr, bvslt, bvsle, bvult, bvule, bvnego, bvsaddo, bvssubo and zero_extend
@@ -34,7 +34,7 @@ status: 0 done; 2 there are words; 3 the job is refused; 5 source fault; 6 sink 
 ";
 
 /// What `smtblast --version` prints.
-pub(crate) const VERSION: &str = "smtblast 0.1.0\n";
+pub(crate) const VERSION: &str = "smtblast 0.1.0 (rattle-kit-13f logic dac8208d650f15bf)\n";
 
 /// What the words of a command line ask for.
 #[derive(Clone, Copy, Debug, PartialEq, Eq, Drop)]

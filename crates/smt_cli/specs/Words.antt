@@ -51,8 +51,8 @@ solver_named words = record { program = []; args = [] }
 
 -- what `--help` prints: the commands, the form of a job, and the statuses
 abbrev pub help_text : List ℕ
-help_text = codes "usage: smtcli script or check PATH ARGS.. or gen SEED N\n\nscript  reads a job from standard input and prints its script in SMT-LIB 2.7\ncheck   reads a job from standard input, asks the solver PATH with these ARGS whether its terms can be true together, and\n        prints sat, unsat or unknown for each check; for example: smtcli check cvc5 --lang smt --incremental < FILE\ngen     makes a job of N terms from the number SEED, N from 1 to 100000 and SEED below 2^64, and prints six lines: how many\n        terms it has, how many variables, definitions, assertions and bytes its script has, and the sum of these bytes\n\njob:  (job (enums (\"T\" \"member\" ..) ..) (vars (\"id\" TYPE) ..) (funs (\"id\" TYPE TYPE) ..) (terms t ..)), or (steps S ..) for\n      the terms; ; begins a comment, and \\u{e9} in a string is the character of this code point\nS:    (assert t ..), (push), (pop) or (check); with terms, one check stands behind them\nTYPE: Bool, (BitVec N), String, (Entity \"T\"), (Option TYPE), (Set TYPE), (Record (\"a\" TYPE) ..), Decimal, IpAddr, Datetime\n      or Duration\nt:    true, false, \"text\", #b01, #x2a, (bv N NUMBER), (long \"-5\"), (entity \"T\" \"id\"), (decimal \"-1.5\"),\n      (ip \"10.0.0.0/8\"), (datetime \"2024-10-15\"), (duration \"1d2h\"), (none TYPE), (some t), (set TYPE t ..),\n      (record (\"a\" t) ..), (var \"id\"), (uuf \"id\" t), (record.get \"a\" t), (string.like (\"text\" * ..) t),\n      (zero_extend N t) or (name t ..)\nname: not and or eq ite option.get set.member set.subset set.inter bvneg bvadd bvsub bvmul bvudiv bvurem bvsdiv bvsrem bvsmod\n      bvshl bvlshr bvult bvule bvslt bvsle bvnego bvsaddo bvssubo bvsmulo decimal.val ipaddr.isV4 ipaddr.addrV4 ipaddr.addrV6\n      ipaddr.prefixV4 ipaddr.prefixV6 datetime.val datetime.ofBitVec duration.val duration.ofBitVec\n\nstatus: 0 done, 2 no such command, 3 job refused, 4 no script for a term, 5 source fault, 6 sink fault, 7 out of memory,\n        8 session fault, 9 the solver did not start\n"
+help_text = codes "usage: smtcli script or check PATH ARGS.. or gen SEED N\n\nscript  reads a job from standard input and prints its script in SMT-LIB 2.7\ncheck   reads a job from standard input, asks the solver PATH with these ARGS whether its terms can be true together, and\n        prints sat, unsat or unknown for each check; it waits as long as the solver takes, so put a limit in front:\n        smtcli check timeout 60 cvc5 --lang smt --incremental --strings-exp < FILE\ngen     makes a job of N terms from the number SEED, N from 1 to 100000 and SEED below 2^64, and prints six lines: how many\n        terms it has, how many variables, definitions, assertions and bytes its script has, and the sum of these bytes\n\njob:  (job (enums (\"T\" \"member\" ..) ..) (vars (\"id\" TYPE) ..) (funs (\"id\" TYPE TYPE) ..) (terms t ..)), or (steps S ..) for\n      the terms; ; begins a comment, and \\u{e9} in a string is the character of this code point\nS:    (assert t ..), (push), (pop) or (check); with terms, one check stands behind them\nTYPE: Bool, (BitVec N), String, (Entity \"T\"), (Option TYPE), (Set TYPE), (Record (\"a\" TYPE) ..), Decimal, IpAddr, Datetime\n      or Duration\nt:    true, false, \"text\", #b01, #x2a, (bv N NUMBER), (long \"-5\"), (entity \"T\" \"id\"), (decimal \"-1.5\"),\n      (ip \"10.0.0.0/8\"), (datetime \"2024-10-15\"), (duration \"1d2h\"), (none TYPE), (some t), (set TYPE t ..),\n      (record (\"a\" t) ..), (var \"id\"), (uuf \"id\" t), (record.get \"a\" t), (string.like (\"text\" * ..) t),\n      (zero_extend N t) or (name t ..)\nname: not and or eq ite option.get set.member set.subset set.inter bvneg bvadd bvsub bvmul bvudiv bvurem bvsdiv bvsrem bvsmod\n      bvshl bvlshr bvult bvule bvslt bvsle bvnego bvsaddo bvssubo bvsmulo decimal.val ipaddr.isV4 ipaddr.addrV4 ipaddr.addrV6\n      ipaddr.prefixV4 ipaddr.prefixV6 datetime.val datetime.ofBitVec duration.val duration.ofBitVec\n\nstatus: 0 done, 2 no such command, 3 job refused, 4 no script for a term, 5 source fault, 6 sink fault, 7 out of memory,\n        8 session fault, 9 the solver did not start; what a solver says on its standard error is shown as it comes\n"
 
 -- what `--version` prints
 abbrev pub version_text : List ℕ
-version_text = codes "smtcli 0.1.0\n"
+version_text = codes "smtcli 0.1.0 (rattle-kit-13f logic dac8208d650f15bf)\n"

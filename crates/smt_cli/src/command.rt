@@ -16,7 +16,8 @@ usage: smtcli script or check PATH ARGS.. or gen SEED N
 
 script  reads a job from standard input and prints its script in SMT-LIB 2.7
 check   reads a job from standard input, asks the solver PATH with these ARGS whether its terms can be true together, and
-        prints sat, unsat or unknown for each check; for example: smtcli check cvc5 --lang smt --incremental < FILE
+        prints sat, unsat or unknown for each check; it waits as long as the solver takes, so put a limit in front:
+        smtcli check timeout 60 cvc5 --lang smt --incremental --strings-exp < FILE
 gen     makes a job of N terms from the number SEED, N from 1 to 100000 and SEED below 2^64, and prints six lines: how many
         terms it has, how many variables, definitions, assertions and bytes its script has, and the sum of these bytes
 
@@ -34,11 +35,11 @@ name: not and or eq ite option.get set.member set.subset set.inter bvneg bvadd b
       ipaddr.prefixV4 ipaddr.prefixV6 datetime.val datetime.ofBitVec duration.val duration.ofBitVec
 
 status: 0 done, 2 no such command, 3 job refused, 4 no script for a term, 5 source fault, 6 sink fault, 7 out of memory,
-        8 session fault, 9 the solver did not start
+        8 session fault, 9 the solver did not start; what a solver says on its standard error is shown as it comes
 ";
 
 /// What `smtcli --version` prints.
-pub(crate) const VERSION: &str = "smtcli 0.1.0\n";
+pub(crate) const VERSION: &str = "smtcli 0.1.0 (rattle-kit-13f logic dac8208d650f15bf)\n";
 
 /// What the words of a command line ask for.
 #[derive(Clone, Copy, Debug, PartialEq, Eq, Drop)]

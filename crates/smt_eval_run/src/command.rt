@@ -23,14 +23,14 @@ example:  echo '(eval (job (enums) (vars (\"b\" Bool)) (funs) (terms (not (var \
 prints    true
           holds
 
-worth:    holds says that the assignment makes all terms true, as they are written, and that what it gives to them is a model of the
-          script that smtcli prints for the job. Both are proved.
+worth:    holds says that the assignment makes all terms true, as they are written, and, where smtcli prints a script for the job,
+          that what it gives to them is a model of this script. Both are proved.
 
 status: 0 done; 2 there are words; 3 the input is refused; 5 source fault; 6 sink fault; 7 out of memory
 ";
 
 /// What `smteval --version` prints.
-pub(crate) const VERSION: &str = "smteval 0.1.0\n";
+pub(crate) const VERSION: &str = "smteval 0.1.0 (rattle-kit-13f logic dac8208d650f15bf)\n";
 
 /// What the words of a command line ask for.
 #[derive(Clone, Copy, Debug, PartialEq, Eq, Drop)]

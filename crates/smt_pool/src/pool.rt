@@ -16,8 +16,9 @@ use std::collections::VecDeque;
 
 /// A pool of sessions with solvers that one command starts.
 ///
-/// It hands sessions out, takes them back, and keeps those that did not fail for the next caller. A session that is out holds a
-/// permit, so that the permits that are free and the sessions that are out are always `max_solvers` together. It is ended by
+/// It hands sessions out, takes them back, and keeps those that did not fail for the next caller. So its solvers live long: the
+/// command gets a limit on each question, as cvc5's `--tlimit-per`, and none on the life of the process, as cvc5's `--tlimit`. A
+/// session that is out holds a permit, so that the permits that are free and the sessions that are out are always `max_solvers` together. It is ended by
 /// `close`, which gives its starter back.
 #[derive(Debug, Drop)]
 pub struct SolverPool<P: Starter> {

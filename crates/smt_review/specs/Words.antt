@@ -41,8 +41,8 @@ solver_named words = record { program = []; args = [] }
 
 -- what `--help` prints: what is asked, an example, what each answer is worth, and the statuses
 abbrev pub help_text : List ℕ
-help_text = codes "usage: smtreview equivalent or implies or disjoint PATH ARGS..\n\nReads a job of two Boolean terms from standard input, asks the solver PATH with these ARGS where they differ, and prints one word.\n\nequivalent  are both terms true in the same interpretations?\nimplies     is the second term true wherever the first is?\ndisjoint    are the terms nowhere true together?\n\nThe job has one assertion of two terms, before and after a change, as smtcli --help says what jobs are. For example, the job\n  (job (enums) (vars (\"a\" Bool) (\"b\" Bool)) (funs) (terms (not (and (var \"a\") (var \"b\"))) (or (not (var \"a\")) (not (var \"b\")))))\nin a file FILE and the command\n  smtreview equivalent cvc5 --lang smt --incremental < FILE\nprint holds.\n\nholds    the solver found no interpretation in which the terms differ so: the relation holds in all, if the solver is right\nfails    the solver says that there is an interpretation in which it fails\nunknown  the solver does not say\n\nstatus: 0 done, 2 no such command, 3 job refused, 4 no script for the difference, 5 source fault, 6 sink fault, 7 out of memory,\n        8 session fault, 9 the solver did not start\n"
+help_text = codes "usage: smtreview equivalent or implies or disjoint PATH ARGS..\n\nReads a job of two Boolean terms from standard input, asks the solver PATH with these ARGS where they differ, and prints one word.\n\nequivalent  are both terms true in the same interpretations?\nimplies     is the second term true wherever the first is?\ndisjoint    are the terms nowhere true together?\n\nThe job has one assertion of two terms, before and after a change, as smtcli --help says what jobs are. For example, the job\n  (job (enums) (vars (\"a\" Bool) (\"b\" Bool)) (funs) (terms (not (and (var \"a\") (var \"b\"))) (or (not (var \"a\")) (not (var \"b\")))))\nin a file FILE and the command\n  smtreview equivalent timeout 60 cvc5 --lang smt --incremental --strings-exp < FILE\nprint holds. It waits as long as the solver takes, here for a minute at most.\n\nholds    the solver found no interpretation in which the terms differ so: the relation holds in all, if the solver is right\nfails    the solver says that there is an interpretation in which it fails\nunknown  the solver does not say\n\nstatus: 0 done, 2 no such command, 3 job refused, 4 no script for the difference, 5 source fault, 6 sink fault, 7 out of memory,\n        8 session fault, 9 the solver did not start\n"
 
 -- what `--version` prints
 abbrev pub version_text : List ℕ
-version_text = codes "smtreview 0.1.0\n"
+version_text = codes "smtreview 0.1.0 (rattle-kit-13f logic dac8208d650f15bf)\n"

@@ -23,8 +23,8 @@ disjoint    are the terms nowhere true together?
 The job has one assertion of two terms, before and after a change, as smtcli --help says what jobs are. For example, the job
   (job (enums) (vars (\"a\" Bool) (\"b\" Bool)) (funs) (terms (not (and (var \"a\") (var \"b\"))) (or (not (var \"a\")) (not (var \"b\")))))
 in a file FILE and the command
-  smtreview equivalent cvc5 --lang smt --incremental < FILE
-print holds.
+  smtreview equivalent timeout 60 cvc5 --lang smt --incremental --strings-exp < FILE
+print holds. It waits as long as the solver takes, here for a minute at most.
 
 holds    the solver found no interpretation in which the terms differ so: the relation holds in all, if the solver is right
 fails    the solver says that there is an interpretation in which it fails
@@ -35,7 +35,7 @@ status: 0 done, 2 no such command, 3 job refused, 4 no script for the difference
 ";
 
 /// What `smtreview --version` prints.
-pub(crate) const VERSION: &str = "smtreview 0.1.0\n";
+pub(crate) const VERSION: &str = "smtreview 0.1.0 (rattle-kit-13f logic dac8208d650f15bf)\n";
 
 /// What the words of a command line ask for.
 #[derive(Clone, Copy, Debug, PartialEq, Eq, Drop)]

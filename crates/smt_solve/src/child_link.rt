@@ -51,9 +51,9 @@ fn take_streams<P: OpenProcess>(alloc: Global, child: &mut Child<P>) -> io::Resu
 /// What is sent is held, up to 65536 bytes, and reaches the child by `flush`, or where the buffer is full. What is held when
 /// the child is killed is let go.
 ///
-/// The standard error of the child is a pipe that nobody reads. A child that writes more to it than the pipe holds, which is
-/// 65536 bytes on Linux, waits forever, and a call that reads its answer waits with it. The same goes for a child that writes
-/// answers nobody reads yet while it is sent more than it takes.
+/// Nothing limits how long a call waits. A child that never answers makes the call that reads its answer wait forever. So does a
+/// child that writes answers while it is sent more than it takes: nobody reads them yet, its pipe fills up, which holds 65536
+/// bytes on Linux, and both wait. A command that begins with `timeout SECONDS` ends such a child, and the call then fails.
 pub struct ChildLink<R: Processes> {
     child: Child<R::Started>,
     // None once the child was killed.
@@ -63,7 +63,7 @@ pub struct ChildLink<R: Processes> {
 }
 
 impl<R: Processes> ChildLink<R> {
-    /// A link to a child whose three streams are pipes. Where there is no memory for it, the child is ended.
+    /// A link to a child whose standard input and standard output are pipes. Where there is no memory for it, the child is ended.
     pub(crate) fn new(alloc: Global, mut child: Child<R::Started>) -> io::Result<ChildLink<R>>
         ensures fresh { IfOk result (λ link. child_faults link ≡ 0) }
     {

@@ -23,11 +23,12 @@ fn system_command(alloc: Global, cmd: &SolverCommand) -> Result<Command, AllocEr
     Ok(command)
 }
 
-/// Asks for a pipe at each of the three streams.
-fn pipe_streams(command: &mut Command) {
+/// Asks for a pipe at the standard input and at the standard output, and hands the caller's standard error on: a pipe there would
+/// fill up, since nobody reads it, and so a solver's complaints are seen.
+fn set_streams(command: &mut Command) {
     command.stdin(Stdio::piped());
     command.stdout(Stdio::piped());
-    command.stderr(Stdio::piped());
+    command.stderr(Stdio::inherit());
 }
 
 /// Starts children by a runtime, one for each link.
@@ -65,12 +66,12 @@ impl<R: Processes> ChildStarter<R> {
         }
     }
 
-    /// Starts a child with its three streams piped.
+    /// Starts a child with pipes at its standard input and its standard output.
     fn spawn(&self, alloc: Global, cmd: &SolverCommand) -> io::Result<ChildLink<R>>
         ensures { IfOk result (λ link. child_faults link ≡ 0) }
     {
         let mut command = system_command(alloc, cmd)?;
-        pipe_streams(&mut command);
+        set_streams(&mut command);
         ChildLink::new(alloc, command.spawn(&self.rt)?)
     }
 }
@@ -82,7 +83,8 @@ impl<R: Processes> Starter for ChildStarter<R> {
 
     ghost allows = { child_starter_allows };
 
-    /// Starts the program of the command as a child. A name with no slash is looked for where the variable `PATH` says.
+    /// Starts the program of the command as a child. A name with no slash is looked for where the variable `PATH` says. What the
+    /// child writes to its standard error goes where the caller's own goes.
     ///
     /// # Errors
     ///

@@ -99,10 +99,12 @@ impl<L: Link> LocalSolver<L> {
         }
     }
 
-    /// Starts cvc5 with a limit of a minute on each question, and opens a session with it.
+    /// Starts cvc5 with a limit of a minute on its whole life, and opens a session with it.
     ///
     /// The program is that of `setting`, or `cvc5` where there is none, and the arguments are `--lang`, `smt` and
-    /// `--tlimit=60000`.
+    /// `--tlimit=60000`. cvc5 counts this minute from its start, also while it waits for commands, and ends when it is over: so a
+    /// session that is kept longer fails. For a limit on each question pass `--tlimit-per=60000` to `cvc5_with_args`, or begin a
+    /// command of `from_command` with `timeout`.
     ///
     /// # Errors
     ///

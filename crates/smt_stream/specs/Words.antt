@@ -19,4 +19,4 @@ help_text = codes "usage: smtmini < FILE\n\nReads a script in SMT-LIB 2.7 from s
 
 -- what `--version` prints
 abbrev pub version_text : List ℕ
-version_text = codes "smtmini 0.1.0\n"
+version_text = codes "smtmini 0.1.0 (rattle-kit-13f logic dac8208d650f15bf)\n"

@@ -27,7 +27,7 @@ status: 0 the end of the script, or exit; 2 there are words; 3 the script broke 
 ";
 
 /// What `smtmini --version` prints.
-pub(crate) const VERSION: &str = "smtmini 0.1.0\n";
+pub(crate) const VERSION: &str = "smtmini 0.1.0 (rattle-kit-13f logic dac8208d650f15bf)\n";
 
 /// What the words of a command line ask for.
 #[derive(Clone, Copy, Debug, PartialEq, Eq, Drop)]
