@@ -16,6 +16,9 @@ pub use Rattle.law_cedar.specs.Laws as EnvironmentLaws
 pub use Rattle.law_cedar.specs.Symbolized
 pub use Rattle.law_cedar.specs.ValueExamples
 pub use Rattle.law_cedar.specs.ValueLaws
+pub use Rattle.law_clauses.specs.Clauses
+pub use Rattle.law_clauses.specs.Gates
+pub use Rattle.law_clauses.specs.Rows as ClausesRows
 pub use Rattle.law_extensions.specs.Answers
 pub use Rattle.law_extensions.specs.Examples as ExtensionsExamples
 pub use Rattle.law_extensions.specs.ExtensionFunctions
@@ -197,6 +200,14 @@ pub use Rattle.smt_cedar.specs.RefusedValues
 pub use Rattle.smt_cedar.specs.TypeOfCedar
 pub use Rattle.smt_cedar.specs.TypeView
 pub use Rattle.smt_cedar.specs.ValueView
+pub use Rattle.smt_clauses.specs.Assumed
+pub use Rattle.smt_clauses.specs.Loops
+pub use Rattle.smt_clauses.specs.Marked
+pub use Rattle.smt_clauses.specs.Outcomes as ClausesOutcomes
+pub use Rattle.smt_clauses.specs.ProofView
+pub use Rattle.smt_clauses.specs.Settled
+pub use Rattle.smt_clauses.specs.Variables
+pub use Rattle.smt_clauses.specs.View as ClausesView
 pub use Rattle.smt_cli.specs.Causes
 pub use Rattle.smt_cli.specs.Generated
 pub use Rattle.smt_cli.specs.Refusal
@@ -205,6 +216,11 @@ pub use Rattle.smt_cli.specs.Run
 pub use Rattle.smt_cli.specs.SmallVerdicts
 pub use Rattle.smt_cli.specs.SummaryRows
 pub use Rattle.smt_cli.specs.Words
+pub use Rattle.smt_dimacs.specs.Entries as DimacsEntries
+pub use Rattle.smt_dimacs.specs.Faults as DimacsFaults
+pub use Rattle.smt_dimacs.specs.Formulas
+pub use Rattle.smt_dimacs.specs.Rows as DimacsRows
+pub use Rattle.smt_dimacs.specs.Words as DimacsWords
 pub use Rattle.smt_encode.specs.Alone
 pub use Rattle.smt_encode.specs.Applied
 pub use Rattle.smt_encode.specs.Complete
@@ -290,6 +306,13 @@ pub use Rattle.smt_runs.specs.Jobs as RunsJobs
 pub use Rattle.smt_runs.specs.Pieces as RunsPieces
 pub use Rattle.smt_runs.specs.Refusal as RunsRefusal
 pub use Rattle.smt_runs.specs.Runs as ProgramRuns
+pub use Rattle.smt_sat_run.specs.Answers as SatRunAnswers
+pub use Rattle.smt_sat_run.specs.Around
+pub use Rattle.smt_sat_run.specs.Causes as SatRunCauses
+pub use Rattle.smt_sat_run.specs.Refusal as SatRunRefusal
+pub use Rattle.smt_sat_run.specs.Run as SatRunRun
+pub use Rattle.smt_sat_run.specs.Values as SatRunValues
+pub use Rattle.smt_sat_run.specs.Words as SatRunWords
 pub use Rattle.smt_script.specs.Bytes
 pub use Rattle.smt_script.specs.Count
 pub use Rattle.smt_script.specs.Input
@@ -298,6 +321,9 @@ pub use Rattle.smt_script.specs.MemorySource
 pub use Rattle.smt_script.specs.Sink
 pub use Rattle.smt_script.specs.Source
 pub use Rattle.smt_script.specs.Writer
+pub use Rattle.smt_search.specs.Answers as SearchAnswers
+pub use Rattle.smt_search.specs.Given
+pub use Rattle.smt_search.specs.Limits
 pub use Rattle.smt_sexpr.specs.Literals as SexprLiterals
 pub use Rattle.smt_sexpr.specs.Pieces
 pub use Rattle.smt_sexpr.specs.Printed as SexprPrinted

@@ -3,6 +3,7 @@
 pub use law_assignments as assignments;
 pub use law_blasting as blasting;
 pub use law_cedar as cedar;
+pub use law_clauses as clauses;
 pub use law_extensions as extensions;
 pub use law_folding as folding;
 pub use law_job_scripts as job_scripts;

@@ -11,6 +11,7 @@
 //! | `jobs`, `runs`, `program` | the reader of jobs; scripts and checks of a job's steps; the run of `smtcli` |
 //! | `blast`, `blast_run` | terms over bitvectors as Boolean terms over their bits; the run of `smtblast` |
 //! | `eval`, `eval_run` | what terms are worth in an assignment that is given; the run of `smteval` |
+//! | `clauses`, `search`, `dimacs` | clauses and a checker of proofs, a search for truths that make them true, their texts |
 //! | `review` | the question whether two conditions are equivalent, one implies the other, or both never hold; the run of `smtreview` |
 //! | `cedar`, `values`, `symbolizer` | Cedar's types and values, their terms, and the tables of a schema, a request and a store |
 //! | `laws` | the laws of the definitions, by subject |
@@ -27,8 +28,11 @@ pub use smt_bits::{BitVec, Width};
 pub use smt_blast as blast;
 pub use smt_blast_run::blast_run;
 pub use smt_cedar as cedar;
+pub use smt_clauses as clauses;
+pub use smt_clauses::{ClauseList, Proof, refutes};
 pub use smt_cli as program;
 pub use smt_cli::run;
+pub use smt_dimacs as dimacs;
 pub use smt_encode as encode;
 pub use smt_encode::{EncodeError, Encoder};
 pub use smt_eval as eval;
@@ -46,8 +50,11 @@ pub use smt_pool::{SolverPool, check_script};
 pub use smt_review as review;
 pub use smt_review::{Finding, Relation, ReviewError, review_run};
 pub use smt_runs as runs;
+pub use smt_sat_run::sat_run;
 pub use smt_script as script;
 pub use smt_script::{ListSink, Sink, SinkError, SmtLibScript};
+pub use smt_search as search;
+pub use smt_search::solve as solve_clauses;
 pub use smt_sexpr as expressions;
 pub use smt_solve as solve;
 pub use smt_solve::{ChildStarter, Decision, Link, LocalSolver, Solver, SolverCommand, Starter};

@@ -1,0 +1,3 @@
+pub mod Gated
+pub mod Literals
+pub mod NoSolution

@@ -1,0 +1,12 @@
+pub mod Allowed
+pub mod Assumed
+pub mod Loops
+pub mod Marked
+pub mod Outcomes
+pub mod ProofView
+pub mod Settled
+pub mod Spans
+pub mod Stamps
+pub mod Variables
+pub mod View
+pub mod Visits

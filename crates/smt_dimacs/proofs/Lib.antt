@@ -1,0 +1,4 @@
+pub mod Complete
+pub mod Entries
+pub mod Lines
+pub mod Reading

@@ -1,0 +1,9 @@
+pub mod Answers
+pub mod Around
+pub mod Causes
+pub mod Lines
+pub mod Refusal
+pub mod Run
+pub mod Spelled
+pub mod Values
+pub mod Words
