@@ -156,6 +156,29 @@ pub use Rattle.law_theorem.specs.SortedScripts
 pub use Rattle.law_theorem.specs.Stated
 pub use Rattle.law_theorem.specs.TextValues
 pub use Rattle.law_theorem.specs.WellWritten
+pub use Rattle.law_valid_clauses.specs.Applications as ValidClausesApplications
+pub use Rattle.law_valid_clauses.specs.Bits
+pub use Rattle.law_valid_clauses.specs.Entities as ValidClausesEntities
+pub use Rattle.law_valid_clauses.specs.Equality
+pub use Rattle.law_valid_clauses.specs.Example as ValidClausesExample
+pub use Rattle.law_valid_clauses.specs.Extensions as ValidClausesExtensions
+pub use Rattle.law_valid_clauses.specs.Gates as ValidClausesGates
+pub use Rattle.law_valid_clauses.specs.Known
+pub use Rattle.law_valid_clauses.specs.Options
+pub use Rattle.law_valid_clauses.specs.Parts as ValidClausesParts
+pub use Rattle.law_valid_clauses.specs.PatternTests
+pub use Rattle.law_valid_clauses.specs.ProductOverflows
+pub use Rattle.law_valid_clauses.specs.Products
+pub use Rattle.law_valid_clauses.specs.Quotients
+pub use Rattle.law_valid_clauses.specs.Records
+pub use Rattle.law_valid_clauses.specs.Rows as ValidClausesRows
+pub use Rattle.law_valid_clauses.specs.Sequents
+pub use Rattle.law_valid_clauses.specs.Sets
+pub use Rattle.law_valid_clauses.specs.Shapes as ValidClausesShapes
+pub use Rattle.law_valid_clauses.specs.SignedQuotients
+pub use Rattle.law_valid_clauses.specs.Statements
+pub use Rattle.law_valid_clauses.specs.Strings
+pub use Rattle.law_valid_clauses.specs.Structure
 pub use Rattle.law_verdicts.specs.Broken
 pub use Rattle.law_verdicts.specs.Chunks
 pub use Rattle.law_verdicts.specs.Dialogues

@@ -14,4 +14,5 @@ pub use law_scripts as scripts;
 pub use law_terms as terms;
 pub use law_texts as texts;
 pub use law_theorem as theorem;
+pub use law_valid_clauses as valid_clauses;
 pub use law_verdicts as verdicts;
