@@ -88,7 +88,7 @@ def main():
     parser.add_argument("--blast", default=str(check.TOP / "crates/smtblast/out/smtblast"), help="the built smtblast")
     parser.add_argument("--jobs", type=int, default=2000, help="how many random jobs")
     parser.add_argument("--size", type=int, default=1_000_000, help="how many bytes the large job has")
-    parser.add_argument("solver", nargs="*", default=["cvc5", "--lang", "smt", "--rlimit-per=100000"], help="the solver and its arguments")
+    parser.add_argument("solver", nargs="*", default=["cvc5", "--lang", "smt", "--strings-exp", "--rlimit-per=100000"], help="the solver and its arguments")
     args = parser.parse_args()
     draw, counts, failed = random.Random(check.SEED), collections.Counter(), 0
     for place in range(args.jobs):

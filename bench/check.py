@@ -85,7 +85,7 @@ def main():
     parser = argparse.ArgumentParser(description=__doc__, formatter_class=argparse.RawDescriptionHelpFormatter)
     parser.add_argument("--program", default=str(TOP / "crates/smtcli/out/smtcli"), help="the built smtcli")
     parser.add_argument("--jobs", type=int, default=1000, help="how many random jobs")
-    parser.add_argument("solver", nargs="*", default=["cvc5", "--lang", "smt", "--rlimit-per=100000"], help="the solver and its arguments; by default cvc5 with a limit on its steps, which does not depend on the machine")
+    parser.add_argument("solver", nargs="*", default=["cvc5", "--lang", "smt", "--strings-exp", "--rlimit-per=100000"], help="the solver and its arguments; by default cvc5 with a limit on its steps, which does not depend on the machine")
     args = parser.parse_args()
     draw = random.Random(SEED)
     jobs = [(path.name, path.read_text()) for path in sorted((TOP / "examples").glob("*.job"))]

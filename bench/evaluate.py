@@ -140,7 +140,7 @@ def main():
     parser.add_argument("--evaluate", default=str(check.TOP / "crates/smteval/out/smteval"), help="the built smteval")
     parser.add_argument("--jobs", type=int, default=2000, help="how many random jobs")
     parser.add_argument("--size", type=int, default=16_700_000, help="how many bytes the greatest input has")
-    parser.add_argument("solver", nargs="*", default=["cvc5", "--lang", "smt", "--incremental", "--rlimit-per=100000"], help="the solver and its arguments")
+    parser.add_argument("solver", nargs="*", default=["cvc5", "--lang", "smt", "--incremental", "--strings-exp", "--rlimit-per=100000"], help="the solver and its arguments")
     args = parser.parse_args()
     draw, counts, failed = random.Random(check.SEED), collections.Counter(), 0
     for place in range(args.jobs):

@@ -33,7 +33,7 @@ def literal(text):
 def verdict(ours, solver, job):
     """What the solver says of a job's script."""
     script = subprocess.run([ours, "script"], input=job.encode(), stdout=subprocess.PIPE, check=True).stdout
-    asked = subprocess.run([solver, "--lang", "smt"], input=b"(set-logic ALL)\n" + script + b"(check-sat)\n", stdout=subprocess.PIPE, stderr=subprocess.STDOUT)
+    asked = subprocess.run([solver, "--lang", "smt", "--strings-exp"], input=b"(set-logic ALL)\n" + script + b"(check-sat)\n", stdout=subprocess.PIPE, stderr=subprocess.STDOUT)
     return asked.stdout.decode(errors="replace").strip()
 
 

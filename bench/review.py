@@ -34,7 +34,7 @@ def main():
     parser.add_argument("--program", default=str(check.TOP / "crates/smtcli/out/smtcli"), help="the built smtcli")
     parser.add_argument("--review", default=str(check.TOP / "crates/smtreview/out/smtreview"), help="the built smtreview")
     parser.add_argument("--pairs", type=int, default=1000, help="how many pairs")
-    parser.add_argument("solver", nargs="*", default=["cvc5", "--lang", "smt", "--incremental", "--rlimit-per=100000"], help="the solver and its arguments")
+    parser.add_argument("solver", nargs="*", default=["cvc5", "--lang", "smt", "--incremental", "--strings-exp", "--rlimit-per=100000"], help="the solver and its arguments")
     args = parser.parse_args()
     draw, counts, failed = random.Random(check.SEED), collections.Counter(), 0
     declared = check.random_job(draw).partition("(terms")[0]

@@ -64,7 +64,7 @@ def verdicts(rng, small, cvc5, count):
     for number in range(count):
         text, checks = script(rng)
         _, put = run([small], text.encode())
-        _, other = run([cvc5, "--lang", "smt", "--incremental"], ("(set-logic ALL)\n" + text.replace("(reset)", "(reset)\n(set-logic ALL)")).encode())
+        _, other = run([cvc5, "--lang", "smt", "--incremental", "--strings-exp"], ("(set-logic ALL)\n" + text.replace("(reset)", "(reset)\n(set-logic ALL)")).encode())
         mine, theirs = put.split(), other.split()
         for verdict in mine:
             seen[verdict] = seen.get(verdict, 0) + 1

@@ -168,7 +168,7 @@ def main():
     parser.add_argument("--checks", type=int, default=1000, help="how many checks stand behind them (1000)")
     parser.add_argument("--runs", type=int, default=3, help="how many runs of the large job (3)")
     parser.add_argument("--limit", type=int, default=600, help="the seconds at which such a run is stopped (600)")
-    parser.add_argument("solver", nargs="*", default=["cvc5", "--lang", "smt", "--incremental", "--rlimit-per=100000"], help="the solver and its arguments; by default cvc5 with a limit on its steps, which does not depend on the machine")
+    parser.add_argument("solver", nargs="*", default=["cvc5", "--lang", "smt", "--incremental", "--strings-exp", "--rlimit-per=100000"], help="the solver and its arguments; by default cvc5 with a limit on its steps, which does not depend on the machine")
     options = parser.parse_args()
     failed = compare(options.program, options.solver, options.jobs)
     failed += measure(options.program, options) if options.size else 0
